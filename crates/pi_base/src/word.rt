@@ -1,0 +1,48 @@
+// The statuses that boot services answer.
+ghost use Rattle.std.specs.Prelude.{◌≡◌, ◌<◌, ◌↔◌, IfSome, IsNone};
+ghost use Rattle.pi_base.specs.Word.{word_number};
+
+/// What a boot service or a module answers: the `EFI_STATUS` values that occur here (PI 1.8, volume 1). In a script a word is written by its number, from 0 in this order (own).
+#[derive(Clone, Copy, Debug, PartialEq, Eq)]
+pub enum Word {
+    /// The service did what was asked.
+    Success,
+    /// An argument is of the wrong kind or out of range.
+    InvalidParameter,
+    /// What was asked for is not there.
+    NotFound,
+    /// The heap has too little room.
+    OutOfResources,
+    /// The service needs permanent memory.
+    NotAvailableYet,
+    /// It was done before.
+    AlreadyStarted,
+    /// No service answers it; a module may.
+    AccessDenied,
+}
+
+impl Word {
+    /// The number that stands for the word in a script.
+    pub fn number(self) -> u8
+        ensures { result ≡ word_number self }
+    {
+        self as u8
+    }
+
+    /// The word that a number stands for in a script.
+    pub fn from_number(number: u8) -> Option<Word>
+        ensures found { IfSome result (λ word. word_number word ≡ number) }
+        ensures none { IsNone result ↔ (6 < number) }
+    {
+        match number {
+            0 => Some(Word::Success),
+            1 => Some(Word::InvalidParameter),
+            2 => Some(Word::NotFound),
+            3 => Some(Word::OutOfResources),
+            4 => Some(Word::NotAvailableYet),
+            5 => Some(Word::AlreadyStarted),
+            6 => Some(Word::AccessDenied),
+            _ => None,
+        }
+    }
+}
