@@ -1,7 +1,7 @@
 -- The words that boot services answer, and the numbers that stand for them in a script (own).
 use Rattle.std.specs.Prelude.{ℕ}
-pub use Rattle.pi_base.specs.declared.word.Word.{Word}
-pub use Rattle.pi_base.specs.declared.word.Word.TheVariants.{Success, InvalidParameter, NotFound, OutOfResources, NotAvailableYet, AlreadyStarted, AccessDenied}
+use Rattle.pi_base.specs.declared.word.Word.{Word}
+use Rattle.pi_base.specs.declared.word.Word.TheVariants.{Success, InvalidParameter, NotFound, OutOfResources, NotAvailableYet, AlreadyStarted, AccessDenied}
 
 -- the number of a word
 abbrev pub word_number : Word → ℕ
