@@ -1,11 +1,11 @@
 -- Told files lead to one status.
-use Rattle.std.proofs.Common.{◌≡◌, ◌⊎◌, ◌<◌, ◌≤◌, ℕ, List, [], ◌∷◌, ◌++◌, length, Option, Some, None, IsSome, refl, sym, ap, ◌∙◌, arith, subst, inl, inr, true≢false}
+use Rattle.std.proofs.Common.{◌≡◌, ◌⊎◌, ℕ, List, [], ◌∷◌, ◌++◌, length, Option, Some, None, IsSome, sym, ap, ◌∙◌, arith, subst, inl, inr, true≢false}
 use Rattle.std.proofs.lemmas.List.{append_cancel_left, append_cancel_right}
 use Rattle.boot_io.specs.Files.{IsTold}
 use Rattle.boot_core.specs.declared.status.Status.{Status}
 use Rattle.boot_core.specs.FixedText.{plan_front}
 use Rattle.boot_core.specs.Plan.{IsBootWords, IsPlan}
-use Rattle.boot_core.specs.Outcome.{Outcome, PlanOutcome, VolumeOutcome, ImageOutcome, Names, Trail, Kind, OfFiles, OfSink, OfMemory, OfAnswer, Ends, EndsBy, Answered, kind_of, IsRead, IsLong, words_usage, words_boot, plan_long, plan_not_built, plan_volume, volume_long, volume_read, image_not_built, image_runs}
+use Rattle.boot_core.specs.Outcome.{Outcome, PlanOutcome, VolumeOutcome, ImageOutcome, Trail, Kind, OfFiles, OfSink, OfMemory, OfAnswer, Ends, EndsBy, Answered, kind_of, IsRead, IsLong, words_usage, words_boot, plan_long, plan_not_built, plan_volume, volume_long, volume_read, image_not_built, image_runs}
 use Rattle.boot_core.specs.Causes.{AreTold, LeadsTo, IsStopped, ComesExactly}
 
 -- a told content is one

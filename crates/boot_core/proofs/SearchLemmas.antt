@@ -1,5 +1,5 @@
 -- What follows of a search.
-use Rattle.std.proofs.Common.{◌≡◌, ℕ, List, [], ◌∷◌, ◌++◌, refl, sym, ap, ◌∙◌, arith, subst, take, drop, append_assoc, Option}
+use Rattle.std.proofs.Common.{◌≡◌, ℕ, List, [], ◌∷◌, ◌++◌, refl, sym, ap, ◌∙◌, arith, subst, take, drop, append_assoc}
 use Rattle.boot_core.specs.declared.plain_file.PlainFile.{PlainFile}
 use Rattle.boot_core.specs.PlainFile.{IsFile, header_at}
 use Rattle.boot_core.specs.PlainSearch.{EndsAt, IsSearch, after}
