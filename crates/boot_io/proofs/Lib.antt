@@ -1,1 +1,2 @@
+mod PieceLaws
 pub mod PutsLaws

@@ -5,6 +5,7 @@ use Rattle.std.specs.Io.KnownBytes.{Appends}
 use Rattle.std.proofs.lemmas.Grind.{flat_map-append}
 use Rattle.boot_io.specs.declared.sink.SinkFault.{SinkFault}
 use Rattle.boot_io.specs.Sink.{Puts, AppendsPart}
+use Rattle.boot_io.specs.Pieces.{Gathers}
 
 -- one text, and then another
 pub appends_then : (old mid new : Option (List ℕ)) (a b : List ℕ) → Appends old mid a → Appends mid new b → Appends old new (a ++ b)
@@ -52,3 +53,9 @@ lines_more line xs i x old mid new within is f g =
     let whole : flat_map line (take (i + 1) xs) ≡ flat_map line (take i xs) ++ line x = ap (flat_map line) more ∙ sym (flat_map_more line [] (take i xs) x) in
     let P : List ℕ → Type 0 = λ t. Appends old new t in
     subst P (sym whole) (appends_then old mid new (flat_map line (take i xs)) (line x) f g)
+
+-- a line, and then a call for a piece: the line is empty
+pub gathers_both : (r : Result (Unit {0}) SinkFault) (old mid new : Option (List ℕ)) (line left piece : List ℕ) → left ≡ [] → Appends old mid line → Puts r mid new piece → Gathers r old new line left piece
+gathers_both (Ok u) old mid new line left piece none f p =
+    (line ++ piece, appends_then old mid new line piece f p, ap (λ t. (line ++ piece) ++ t) none ∙ append-nil (line ++ piece))
+gathers_both (Err e) old mid new line left piece none f p = part_then old mid new line piece f p
