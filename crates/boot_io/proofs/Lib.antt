@@ -1,2 +1,2 @@
-mod PieceLaws
+mod LineLemmas
 pub mod PutsLaws

@@ -5,7 +5,7 @@ use Rattle.std.specs.Io.KnownBytes.{Appends}
 use Rattle.std.proofs.lemmas.Grind.{flat_map-append}
 use Rattle.boot_io.specs.declared.sink.SinkFault.{SinkFault}
 use Rattle.boot_io.specs.Sink.{Puts, AppendsPart}
-use Rattle.boot_io.specs.Pieces.{Gathers}
+use Rattle.boot_io.specs.Line.{Gathers}
 
 -- one text, and then another
 pub appends_then : (old mid new : Option (List ℕ)) (a b : List ℕ) → Appends old mid a → Appends mid new b → Appends old new (a ++ b)
@@ -59,3 +59,28 @@ pub gathers_both : (r : Result (Unit {0}) SinkFault) (old mid new : Option (List
 gathers_both (Ok u) old mid new line left piece none f p =
     (line ++ piece, appends_then old mid new line piece f p, ap (λ t. (line ++ piece) ++ t) none ∙ append-nil (line ++ piece))
 gathers_both (Err e) old mid new line left piece none f p = part_then old mid new line piece f p
+
+-- a piece, and then another
+pub gathers_then : (r : Result (Unit {0}) SinkFault) (old mid new : Option (List ℕ)) (line left last a b : List ℕ)
+    → ((part : List ℕ) × Appends old mid part × (part ++ left ≡ line ++ a)) → Gathers r mid new left last b → Gathers r old new line last (a ++ b)
+gathers_then (Ok u) old mid new line left last a b g h =
+    let text : (g.0 ++ h.0) ++ last ≡ line ++ (a ++ b) =
+    append_assoc g.0 h.0 last ∙ ap (λ t. g.0 ++ t) h.2 ∙ sym (append_assoc g.0 left b) ∙ ap (λ t. t ++ b) g.2 ∙ append_assoc line a b in
+    (g.0 ++ h.0, appends_then old mid new g.0 h.0 g.1 h.1, text)
+gathers_then (Err e) old mid new line left last a b g h =
+    let P : List ℕ → Type 0 = λ text. AppendsPart old new text in
+    let text : g.0 ++ (left ++ b) ≡ line ++ (a ++ b) = sym (append_assoc g.0 left b) ∙ ap (λ t. t ++ b) g.2 ∙ append_assoc line a b in
+    subst P text (part_then old mid new g.0 (left ++ b) g.1 h)
+
+-- a failure in a piece is one in it and what follows
+pub gathers_fails : (old new : Option (List ℕ)) (line a b : List ℕ) → AppendsPart old new (line ++ a) → AppendsPart old new (line ++ (a ++ b))
+gathers_fails old new line a b p =
+    let P : List ℕ → Type 0 = λ text. AppendsPart old new text in
+    subst P (append_assoc line a b) (part_of_more old new (line ++ a) b p)
+
+-- pieces behind an empty line, and then the line
+pub gathers_puts : (r : Result (Unit {0}) SinkFault) (old mid new : Option (List ℕ)) (line left a : List ℕ) → line ≡ []
+    → ((part : List ℕ) × Appends old mid part × (part ++ left ≡ line ++ a)) → Puts r mid new left → Puts r old new a
+gathers_puts r old mid new line left a none g p =
+    let P : List ℕ → Type 0 = λ text. Puts r old new text in
+    subst P (g.2 ∙ ap (λ t. t ++ a) none) (puts_then r old mid new g.0 left g.1 p)

@@ -1,6 +1,6 @@
 use Rattle.std.proofs.Common.{ap, ◌∙◌}
 use Rattle.boot_io.proofs.PutsLaws.{gathers_both}
-use Rattle.boot_io.proofs.pieces.gather.Goals as goal
+use Rattle.boot_io.proofs.line.gather.Goals as goal
 
 pub returns-clause-text : goal.returns-clause-text
 returns-clause-text g c =
