@@ -1,0 +1,10 @@
+pub mod Actions
+pub mod Blocks
+pub mod Checks
+pub mod Codes
+pub mod Fields
+pub mod Formats
+pub mod Lists
+pub mod Many
+pub mod Scripts
+pub mod Writable

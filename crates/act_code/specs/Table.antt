@@ -1,0 +1,190 @@
+-- The table of actions (own): each one's code, its phases and its operands.
+use Rattle.std.specs.Prelude.{ℕ, Bool, true, false, Option, Some, None, ◌==◌, if◌then◌else◌}
+use Rattle.pi_base.specs.declared.phase.Phase.{Phase}
+use Rattle.pi_base.specs.declared.phase.Phase.TheVariants.{Pei, Dxe}
+use Rattle.act_code.specs.declared.code.Code.{Code}
+use Rattle.act_code.specs.declared.code.Code.TheVariants as code
+use Rattle.act_code.specs.declared.action.Action.{Action}
+use Rattle.act_code.specs.declared.action.Action.TheVariants as action
+use Rattle.act_code.specs.Format.{Format, Value, Nothing, Byte, Within, RegisterNumber, BlockNumber, Little, GuidBytes, WordNumber, Counted, Text, Registers, Descriptor, HobBody, Pair}
+
+-- the phases whose scripts have an action
+pub data Owner : Type 0 where
+  both : Owner
+  pei : Owner
+  dxe : Owner
+
+abbrev pub is_owned : Phase → Owner → Bool
+is_owned phase both = true
+is_owned Pei pei = true
+is_owned Pei dxe = false
+is_owned Dxe pei = false
+is_owned Dxe dxe = true
+
+pub record Row : Type 0 where
+  pub number : ℕ
+  pub owner : Owner
+  pub format : Format
+
+abbrev row : ℕ → Owner → Format → Row
+row n o f = record { number = n; owner = o; format = f }
+
+abbrev pub row_of : Code → Row
+row_of code.Set = row 0x01 both (Pair RegisterNumber (Little 8))
+row_of code.Add = row 0x02 both (Pair RegisterNumber (Little 8))
+row_of code.Pool = row 0x03 pei (Pair RegisterNumber (Little 4))
+row_of code.Store = row 0x04 pei (Pair RegisterNumber (Pair (Little 4) Counted))
+row_of code.Addr = row 0x06 pei (Pair RegisterNumber (Pair RegisterNumber (Little 4)))
+row_of code.Peek = row 0x07 both (Pair RegisterNumber (Within 1 64))
+row_of code.Desc = row 0x08 pei (Pair RegisterNumber Descriptor)
+row_of code.Install = row 0x09 pei Registers
+row_of code.Reinstall = row 0x0a pei (Pair RegisterNumber RegisterNumber)
+row_of code.Notify = row 0x0b pei Registers
+row_of code.Locate = row 0x0c pei (Pair RegisterNumber (Pair RegisterNumber (Pair GuidBytes (Little 2))))
+row_of code.Hob = row 0x0d pei HobBody
+row_of code.Memory = row 0x0e pei (Pair RegisterNumber RegisterNumber)
+row_of code.Pages = row 0x0f pei (Pair RegisterNumber (Pair Byte (Little 4)))
+row_of code.BootMode = row 0x10 pei (Pair (Within 0 1) RegisterNumber)
+row_of code.Log = row 0x11 both Text
+row_of code.SkipIf = row 0x12 both (Pair (Within 0 1) (Within 1 255))
+row_of code.Ret = row 0x13 both WordNumber
+row_of code.Shadow = row 0x14 pei Nothing
+row_of code.DxeInstall = row 0x20 dxe (Pair (Within 0 1) (Pair RegisterNumber (Pair GuidBytes RegisterNumber)))
+row_of code.DxeReinstall = row 0x21 dxe (Pair RegisterNumber (Pair GuidBytes (Pair RegisterNumber RegisterNumber)))
+row_of code.DxeUninstall = row 0x22 dxe (Pair RegisterNumber (Pair GuidBytes RegisterNumber))
+row_of code.DxeLocate = row 0x23 dxe (Pair RegisterNumber (Pair RegisterNumber GuidBytes))
+row_of code.DxeNotify = row 0x24 dxe (Pair GuidBytes BlockNumber)
+row_of code.Schedule = row 0x25 dxe GuidBytes
+row_of code.Process = row 0x26 dxe RegisterNumber
+row_of code.Dispatch = row 0x27 dxe Nothing
+
+abbrev pub number_of : Code → ℕ
+number_of c = (row_of c).number
+
+abbrev pub is_code_of : Phase → Code → Bool
+is_code_of phase c = is_owned phase (row_of c).owner
+
+abbrev pub format_of : Code → Format
+format_of c = (row_of c).format
+
+-- an action of a code and operands
+abbrev pub made : (c : Code) → Value (format_of c) → Action
+made code.Set x = action.Set x.0 x.1
+made code.Add x = action.Add x.0 x.1
+made code.Pool x = action.Pool x.0 x.1
+made code.Store x = action.Store x.0 x.1.0 x.1.1
+made code.Addr x = action.Addr x.0 x.1.0 x.1.1
+made code.Peek x = action.Peek x.0 x.1
+made code.Desc x = action.Desc x.0 x.1.0 x.1.1 x.1.2
+made code.Install x = action.Install x
+made code.Reinstall x = action.Reinstall x.0 x.1
+made code.Notify x = action.Notify x
+made code.Locate x = action.Locate x.0 x.1.0 x.1.1.0 x.1.1.1
+made code.Hob x = action.Hob x.0 x.1
+made code.Memory x = action.Memory x.0 x.1
+made code.Pages x = action.Pages x.0 x.1.0 x.1.1
+made code.BootMode x = action.BootMode x.0 x.1
+made code.Log x = action.Log x
+made code.SkipIf x = action.SkipIf x.0 x.1
+made code.Ret x = action.Ret x
+made code.Shadow x = action.Shadow
+made code.DxeInstall x = action.DxeInstall x.0 x.1.0 x.1.1.0 x.1.1.1
+made code.DxeReinstall x = action.DxeReinstall x.0 x.1.0 x.1.1.0 x.1.1.1
+made code.DxeUninstall x = action.DxeUninstall x.0 x.1.0 x.1.1
+made code.DxeLocate x = action.DxeLocate x.0 x.1.0 x.1.1
+made code.DxeNotify x = action.DxeNotify x.0 x.1
+made code.Schedule x = action.Schedule x
+made code.Process x = action.Process x
+made code.Dispatch x = action.Dispatch
+
+-- the code of an action
+abbrev pub code_of_action : Action → Code
+code_of_action (action.Set r n) = code.Set
+code_of_action (action.Add r n) = code.Add
+code_of_action (action.Pool r size) = code.Pool
+code_of_action (action.Store p offset bytes) = code.Store
+code_of_action (action.Addr v x offset) = code.Addr
+code_of_action (action.Peek v n) = code.Peek
+code_of_action (action.Desc d kind guid arg) = code.Desc
+code_of_action (action.Install list) = code.Install
+code_of_action (action.Reinstall old new) = code.Reinstall
+code_of_action (action.Notify list) = code.Notify
+code_of_action (action.Locate d v guid instance) = code.Locate
+code_of_action (action.Hob kind body) = code.Hob
+code_of_action (action.Memory begin length) = code.Memory
+code_of_action (action.Pages r memory_type count) = code.Pages
+code_of_action (action.BootMode form r) = code.BootMode
+code_of_action (action.Log text) = code.Log
+code_of_action (action.SkipIf condition n) = code.SkipIf
+code_of_action (action.Ret status) = code.Ret
+code_of_action action.Shadow = code.Shadow
+code_of_action (action.DxeInstall form h guid v) = code.DxeInstall
+code_of_action (action.DxeReinstall h guid old new) = code.DxeReinstall
+code_of_action (action.DxeUninstall h guid v) = code.DxeUninstall
+code_of_action (action.DxeLocate h v guid) = code.DxeLocate
+code_of_action (action.DxeNotify guid block) = code.DxeNotify
+code_of_action (action.Schedule guid) = code.Schedule
+code_of_action (action.Process v) = code.Process
+code_of_action action.Dispatch = code.Dispatch
+
+-- its operands, in order
+abbrev pub operands : (a : Action) → Value (format_of (code_of_action a))
+operands (action.Set r n) = (r, n)
+operands (action.Add r n) = (r, n)
+operands (action.Pool r size) = (r, size)
+operands (action.Store p offset bytes) = (p, (offset, bytes))
+operands (action.Addr v x offset) = (v, (x, offset))
+operands (action.Peek v n) = (v, n)
+operands (action.Desc d kind guid arg) = (d, (kind, guid, arg))
+operands (action.Install list) = list
+operands (action.Reinstall old new) = (old, new)
+operands (action.Notify list) = list
+operands (action.Locate d v guid instance) = (d, (v, (guid, instance)))
+operands (action.Hob kind body) = (kind, body)
+operands (action.Memory begin length) = (begin, length)
+operands (action.Pages r memory_type count) = (r, (memory_type, count))
+operands (action.BootMode form r) = (form, r)
+operands (action.Log text) = text
+operands (action.SkipIf condition n) = (condition, n)
+operands (action.Ret status) = status
+operands action.Shadow = tt
+operands (action.DxeInstall form h guid v) = (form, (h, (guid, v)))
+operands (action.DxeReinstall h guid old new) = (h, (guid, (old, new)))
+operands (action.DxeUninstall h guid v) = (h, (guid, v))
+operands (action.DxeLocate h v guid) = (h, (v, guid))
+operands (action.DxeNotify guid block) = (guid, block)
+operands (action.Schedule guid) = guid
+operands (action.Process v) = v
+operands action.Dispatch = tt
+
+-- the code that a byte is
+abbrev pub code_of : ℕ → Option Code
+code_of n =
+    if n == 0x01 then Some code.Set
+    else if n == 0x02 then Some code.Add
+    else if n == 0x03 then Some code.Pool
+    else if n == 0x04 then Some code.Store
+    else if n == 0x06 then Some code.Addr
+    else if n == 0x07 then Some code.Peek
+    else if n == 0x08 then Some code.Desc
+    else if n == 0x09 then Some code.Install
+    else if n == 0x0a then Some code.Reinstall
+    else if n == 0x0b then Some code.Notify
+    else if n == 0x0c then Some code.Locate
+    else if n == 0x0d then Some code.Hob
+    else if n == 0x0e then Some code.Memory
+    else if n == 0x0f then Some code.Pages
+    else if n == 0x10 then Some code.BootMode
+    else if n == 0x11 then Some code.Log
+    else if n == 0x12 then Some code.SkipIf
+    else if n == 0x13 then Some code.Ret
+    else if n == 0x14 then Some code.Shadow
+    else if n == 0x20 then Some code.DxeInstall
+    else if n == 0x21 then Some code.DxeReinstall
+    else if n == 0x22 then Some code.DxeUninstall
+    else if n == 0x23 then Some code.DxeLocate
+    else if n == 0x24 then Some code.DxeNotify
+    else if n == 0x25 then Some code.Schedule
+    else if n == 0x26 then Some code.Process
+    else if n == 0x27 then Some code.Dispatch
+    else None

@@ -1,0 +1,184 @@
+// Writing actions: the one spelling of each.
+ghost use Rattle.std.specs.Prelude.{◌≡◌, ◌<◌, ◌≤◌, ◌++◌, ◌∷◌, [], length, OnOk, true};
+ghost use Rattle.pi_base.specs.Field.{little_bytes};
+ghost use Rattle.act_code.specs.Format.{spelled, is_within, is_hob, Counted, HobBody, Pair, RegisterNumber, Descriptor};
+ghost use Rattle.act_code.specs.Table.{code_of_action};
+ghost use Rattle.act_code.specs.Script.{action_bytes, operand_bytes, IsWritable};
+
+use crate::action::{Action, GuidArg};
+use crate::code::Code;
+use crate::operand::{GUID_FOLLOWS, REGISTER_FOLLOWS};
+use pi_base::{Guid, OutOfMemory, Seq, put_u16, put_u32, put_u64};
+
+/// The two bytes of a number.
+pub fn bytes_2(n: u16) -> [u8; 2]
+    ensures { result ≡ little_bytes 2 n }
+{
+    let mut field = [0; 2];
+    put_u16(&mut field, 0, n);
+    field
+}
+
+fn bytes_4(n: u32) -> [u8; 4]
+    ensures { result ≡ little_bytes 4 n }
+{
+    let mut field = [0; 4];
+    put_u32(&mut field, 0, n);
+    field
+}
+
+fn bytes_8(n: u64) -> [u8; 8]
+    ensures { result ≡ little_bytes 8 n }
+{
+    let mut field = [0; 8];
+    put_u64(&mut field, 0, n);
+    field
+}
+
+// Adds some bytes, and others.
+fn put(out: &mut Seq<u8>, front: &[u8], field: &[u8]) -> Result<(), OutOfMemory>
+    ensures { OnOk result (out.new ≡ out.old ++ (front.now ++ field.now)) }
+{
+    out.append(front)?;
+    out.append(field)
+}
+
+// Adds some bytes, a GUID, and others.
+fn put_guid(out: &mut Seq<u8>, front: &[u8], guid: &Guid, behind: &[u8]) -> Result<(), OutOfMemory>
+    ensures { OnOk result (out.new ≡ out.old ++ (front.now ++ (guid.now.0 ++ behind.now))) }
+{
+    out.append(front)?;
+    out.append(&guid.0)?;
+    out.append(behind)
+}
+
+// Adds a list behind its length.
+fn put_list(out: &mut Seq<u8>, list: &Seq<u8>) -> Result<(), OutOfMemory>
+    requires { length list.now ≤ 64 }
+    ensures { OnOk result (out.new ≡ out.old ++ (length list.now ∷ list.now)) }
+{
+    put(out, &[list.len() as u8], list.as_slice())
+}
+
+// Adds the operands of `store`.
+fn put_store(out: &mut Seq<u8>, p: u8, offset: u32, bytes: &Seq<u8>) -> Result<(), OutOfMemory>
+    requires { length bytes.now ≤ 64 }
+    ensures { OnOk result (out.new ≡ out.old ++ (p ∷ (little_bytes 4 offset ++ (length bytes.now ∷ bytes.now)))) }
+{
+    put(out, &[p], &bytes_4(offset))?;
+    put_list(out, bytes)
+}
+
+// Adds the operands of `desc`.
+fn put_descriptor(
+    out: &mut Seq<u8>,
+    d: u8,
+    kind: u8,
+    guid: &GuidArg,
+    arg: u8,
+) -> Result<(), OutOfMemory>
+    ensures { OnOk result (out.new ≡ out.old ++ spelled (Pair RegisterNumber Descriptor) (d, (kind, guid.now, arg))) }
+{
+    match guid {
+        GuidArg::Inline(guid) => put_guid(out, &[d, kind, GUID_FOLLOWS], guid, &[arg]),
+        GuidArg::Register(v) => put(out, &[d, kind], &[REGISTER_FOLLOWS, *v, arg]),
+    }
+}
+
+// Adds a HOB's type, and its body behind its length.
+fn put_hob(out: &mut Seq<u8>, kind: u8, body: &Seq<u8>) -> Result<(), OutOfMemory>
+    requires { length body.now < 65536 }
+    ensures { OnOk result (out.new ≡ out.old ++ spelled HobBody (kind, body.now)) }
+{
+    put(out, &[kind], &bytes_2(body.len() as u16))?;
+    out.append(body.as_slice())
+}
+
+// The code of an action.
+fn code_of(action: &Action) -> Code
+    ensures { result ≡ code_of_action action.now }
+{
+    match action {
+        Action::Set { .. } => Code::Set,
+        Action::Add { .. } => Code::Add,
+        Action::Pool { .. } => Code::Pool,
+        Action::Store { .. } => Code::Store,
+        Action::Addr { .. } => Code::Addr,
+        Action::Peek { .. } => Code::Peek,
+        Action::Desc { .. } => Code::Desc,
+        Action::Install { .. } => Code::Install,
+        Action::Reinstall { .. } => Code::Reinstall,
+        Action::Notify { .. } => Code::Notify,
+        Action::Locate { .. } => Code::Locate,
+        Action::Hob { .. } => Code::Hob,
+        Action::Memory { .. } => Code::Memory,
+        Action::Pages { .. } => Code::Pages,
+        Action::BootMode { .. } => Code::BootMode,
+        Action::Log { .. } => Code::Log,
+        Action::SkipIf { .. } => Code::SkipIf,
+        Action::Ret { .. } => Code::Ret,
+        Action::Shadow => Code::Shadow,
+        Action::DxeInstall { .. } => Code::DxeInstall,
+        Action::DxeReinstall { .. } => Code::DxeReinstall,
+        Action::DxeUninstall { .. } => Code::DxeUninstall,
+        Action::DxeLocate { .. } => Code::DxeLocate,
+        Action::DxeNotify { .. } => Code::DxeNotify,
+        Action::Schedule { .. } => Code::Schedule,
+        Action::Process { .. } => Code::Process,
+        Action::Dispatch => Code::Dispatch,
+    }
+}
+
+// Adds the operands of an action.
+fn put_operands(out: &mut Seq<u8>, action: &Action) -> Result<(), OutOfMemory>
+    requires { IsWritable action.now }
+    ensures { OnOk result (out.new ≡ out.old ++ operand_bytes action.now) }
+{
+    match action {
+        Action::Set { r, n } => put(out, &[*r], &bytes_8(*n)),
+        Action::Add { r, n } => put(out, &[*r], &bytes_8(*n)),
+        Action::Pool { r, size } => put(out, &[*r], &bytes_4(*size)),
+        Action::Store { p, offset, bytes } => put_store(out, *p, *offset, bytes),
+        Action::Addr { v, x, offset } => put(out, &[*v, *x], &bytes_4(*offset)),
+        Action::Peek { v, n } => put(out, &[], &[*v, *n]),
+        Action::Desc { d, kind, guid, arg } => put_descriptor(out, *d, *kind, guid, *arg),
+        Action::Install { list } => put_list(out, list),
+        Action::Reinstall { old, new } => put(out, &[], &[*old, *new]),
+        Action::Notify { list } => put_list(out, list),
+        Action::Locate {
+            d,
+            v,
+            guid,
+            instance,
+        } => put_guid(out, &[*d, *v], guid, &bytes_2(*instance)),
+        Action::Hob { kind, body } => put_hob(out, *kind, body),
+        Action::Memory { begin, length } => put(out, &[], &[*begin, *length]),
+        Action::Pages {
+            r,
+            memory_type,
+            count,
+        } => put(out, &[*r, *memory_type], &bytes_4(*count)),
+        Action::BootMode { form, r } => put(out, &[], &[*form, *r]),
+        Action::Log { text } => put_list(out, text),
+        Action::SkipIf { condition, n } => put(out, &[], &[*condition, *n]),
+        Action::Ret { status } => put(out, &[], &[status.number()]),
+        Action::Shadow => put(out, &[], &[]),
+        Action::DxeInstall { form, h, guid, v } => put_guid(out, &[*form, *h], guid, &[*v]),
+        Action::DxeReinstall { h, guid, old, new } => put_guid(out, &[*h], guid, &[*old, *new]),
+        Action::DxeUninstall { h, guid, v } => put_guid(out, &[*h], guid, &[*v]),
+        Action::DxeLocate { h, v, guid } => put(out, &[*h, *v], &guid.0),
+        Action::DxeNotify { guid, block } => put_guid(out, &[], guid, &[*block]),
+        Action::Schedule { guid } => put(out, &[], &guid.0),
+        Action::Process { v } => put(out, &[], &[*v]),
+        Action::Dispatch => put(out, &[], &[]),
+    }
+}
+
+/// Adds the bytes of an action.
+pub fn put_action(out: &mut Seq<u8>, action: &Action) -> Result<(), OutOfMemory>
+    requires { IsWritable action.now }
+    ensures { OnOk result (out.new ≡ out.old ++ action_bytes action.now) }
+{
+    out.push(code_of(action).number())?;
+    put_operands(out, action)
+}

@@ -1,0 +1,101 @@
+// The header of a script.
+ghost use Rattle.std.specs.Prelude.{◌≡◌, ◌≤◌, length};
+ghost use Rattle.act_code.specs.Header.{header_at, fields_of, phase_of};
+
+use crate::fault::{ActCause, ActFault};
+use pi_base::Phase;
+
+/// What a script's header says, and how long the script is.
+#[derive(Clone, Copy, Debug, PartialEq, Eq)]
+pub struct Header {
+    /// The length of the whole script.
+    pub size: usize,
+    pub phase: Phase,
+    /// The number of blocks.
+    pub blocks: u8,
+}
+
+/// The bytes of the header.
+pub const HEADER_LEN: usize = 8;
+
+/// The most bytes of a script.
+pub const MOST_SCRIPT: usize = 65536;
+
+/// The most blocks of a script.
+pub const MOST_BLOCKS: u8 = 64;
+
+/// The version of the format.
+pub const VERSION: u8 = 1;
+
+/// The byte of PEI.
+pub const PEI: u8 = 1;
+
+/// The byte of DXE.
+pub const DXE: u8 = 2;
+
+const VERSION_AT: u32 = 4;
+
+const PHASE_AT: u32 = 5;
+
+const BLOCKS_AT: u32 = 6;
+
+const ZERO_AT: u32 = 7;
+
+// A fault of the header.
+fn fault(at: u32, cause: ActCause) -> ActFault
+    ensures { result ≡ record { at = at; cause = cause } }
+{
+    ActFault { at, cause }
+}
+
+// The phase of a byte.
+fn phase_of(byte: u8) -> Option<Phase>
+    ensures { result ≡ phase_of byte }
+{
+    match byte {
+        PEI => Some(Phase::Pei),
+        DXE => Some(Phase::Dxe),
+        _ => None,
+    }
+}
+
+// What the fields behind the magic say.
+fn fields(size: usize, version: u8, phase: u8, blocks: u8, zero: u8) -> Result<Header, ActFault>
+    ensures { result ≡ fields_of size version phase blocks zero }
+{
+    if version != VERSION {
+        return Err(fault(VERSION_AT, ActCause::Version));
+    }
+    match phase_of(phase) {
+        None => Err(fault(PHASE_AT, ActCause::Phase)),
+        Some(phase) => {
+            if blocks < 1 || MOST_BLOCKS < blocks || MOST_SCRIPT < size {
+                Err(fault(BLOCKS_AT, ActCause::Count))
+            } else if zero != 0 {
+                Err(fault(ZERO_AT, ActCause::Count))
+            } else {
+                Ok(Header {
+                    size,
+                    phase,
+                    blocks,
+                })
+            }
+        }
+    }
+}
+
+/// The header of a script, or its first fault.
+pub fn read_header(bytes: &[u8]) -> Result<Header, ActFault>
+    ensures { result ≡ header_at bytes.now }
+{
+    match bytes {
+        [b'P', b'I', b'A', b'S', version, phase, blocks, zero, ..] => fields(
+            bytes.len(),
+            *version,
+            *phase,
+            *blocks,
+            *zero,
+        ),
+        _ => Err(fault(0, ActCause::Magic)),
+    }
+}

@@ -1,0 +1,104 @@
+// The registers and blocks that actions name, and the actions that they skip.
+ghost use Rattle.std.specs.Prelude.{◌≡◌, ◌&&◌, nat_lt};
+ghost use Rattle.std.specs.List.{list_all};
+ghost use Rattle.act_code.specs.Index.{are_indexed, is_indexed, has_room, is_ret};
+ghost use Rattle.act_code.specs.Format.{registers_in, blocks_in, Descriptor, RegisterNumber, Pair};
+
+use crate::action::{Action, GuidArg};
+
+/// The registers of a frame.
+const REGISTERS: u8 = 16;
+
+/// The kind of a descriptor of a PPI.
+const PPI: u8 = 0;
+
+// Whether all numbers are below a limit.
+fn are_below(numbers: &[u8], limit: u8) -> bool
+    ensures { result ≡ list_all (λ n. nat_lt n limit) numbers.now }
+{
+    numbers.iter().all(|n| *n < limit)
+}
+
+// Whether registers and blocks are there, where a script has so many blocks.
+fn are_indexed(registers: &[u8], blocks: &[u8], count: u8) -> bool
+    ensures { result ≡ are_indexed registers.now blocks.now count }
+{
+    are_below(registers, REGISTERS) && are_below(blocks, count)
+}
+
+// The same for a descriptor's operands.
+fn is_descriptor_indexed(d: u8, kind: u8, guid: &GuidArg, arg: u8, count: u8) -> bool
+    ensures { result ≡ are_indexed (registers_in (Pair RegisterNumber Descriptor) (d, (kind, guid.now, arg))) (blocks_in (Pair RegisterNumber Descriptor) (d, (kind, guid.now, arg))) count }
+{
+    match guid {
+        GuidArg::Inline(_) => {
+            if kind == PPI {
+                are_indexed(&[d, arg], &[], count)
+            } else {
+                are_indexed(&[d], &[arg], count)
+            }
+        }
+        GuidArg::Register(v) => {
+            if kind == PPI {
+                are_indexed(&[d, *v, arg], &[], count)
+            } else {
+                are_indexed(&[d, *v], &[arg], count)
+            }
+        }
+    }
+}
+
+/// Whether the registers and blocks that an action names are there, in a script of so many blocks.
+pub fn is_indexed(action: &Action, count: u8) -> bool
+    ensures { result ≡ is_indexed count action.now }
+{
+    match action {
+        Action::Set { r, .. } => are_indexed(&[*r], &[], count),
+        Action::Add { r, .. } => are_indexed(&[*r], &[], count),
+        Action::Pool { r, .. } => are_indexed(&[*r], &[], count),
+        Action::Store { p, .. } => are_indexed(&[*p], &[], count),
+        Action::Addr { v, x, .. } => are_indexed(&[*v, *x], &[], count),
+        Action::Peek { v, .. } => are_indexed(&[*v], &[], count),
+        Action::Desc { d, kind, guid, arg } => is_descriptor_indexed(*d, *kind, guid, *arg, count),
+        Action::Install { list } => are_indexed(list.as_slice(), &[], count),
+        Action::Reinstall { old, new } => are_indexed(&[*old, *new], &[], count),
+        Action::Notify { list } => are_indexed(list.as_slice(), &[], count),
+        Action::Locate { d, v, .. } => are_indexed(&[*d, *v], &[], count),
+        Action::Hob { .. } => true,
+        Action::Memory { begin, length } => are_indexed(&[*begin, *length], &[], count),
+        Action::Pages { r, .. } => are_indexed(&[*r], &[], count),
+        Action::BootMode { r, .. } => are_indexed(&[*r], &[], count),
+        Action::Log { .. } => true,
+        Action::SkipIf { .. } => true,
+        Action::Ret { .. } => true,
+        Action::Shadow => true,
+        Action::DxeInstall { h, v, .. } => are_indexed(&[*h, *v], &[], count),
+        Action::DxeReinstall { h, old, new, .. } => are_indexed(&[*h, *old, *new], &[], count),
+        Action::DxeUninstall { h, v, .. } => are_indexed(&[*h, *v], &[], count),
+        Action::DxeLocate { h, v, .. } => are_indexed(&[*h, *v], &[], count),
+        Action::DxeNotify { block, .. } => are_indexed(&[], &[*block], count),
+        Action::Schedule { .. } => true,
+        Action::Process { v } => are_indexed(&[*v], &[], count),
+        Action::Dispatch => true,
+    }
+}
+
+/// Whether the actions that an action skips are there and one more, where so many are left with itself.
+pub fn has_room(action: &Action, left: u16) -> bool
+    ensures { result ≡ has_room left action.now }
+{
+    match action {
+        Action::SkipIf { n, .. } => u16::from(*n) + 2 <= left,
+        _ => true,
+    }
+}
+
+/// Whether an action ends its frame.
+pub fn is_ret(action: &Action) -> bool
+    ensures { result ≡ is_ret action.now }
+{
+    match action {
+        Action::Ret { .. } => true,
+        _ => false,
+    }
+}

@@ -1,0 +1,14 @@
+// The law of scripts.
+ghost use Rattle.std.specs.Prelude.{◌≡◌, ◌⊎◌, ℕ, List};
+ghost use Rattle.pi_base.specs.Field.{AreBytes};
+ghost use Rattle.act_code.specs.Script.{IsScript, IsFault};
+ghost use Rattle.act_code.specs.declared.script.Script.{Script};
+ghost use Rattle.act_code.specs.declared.fault.ActFault.{ActFault};
+
+/// Bytes have exactly one outcome: they are one script, or they have one first fault. So what `write_script` writes is read again as the script that was written.
+pub fn one_outcome()
+    ensures script { (bytes : List ℕ) (s t : Script) → IsScript bytes s → IsScript bytes t → s ≡ t }
+    ensures fault { (bytes : List ℕ) (f g : ActFault) → AreBytes bytes → IsFault bytes f → IsFault bytes g → f ≡ g }
+    ensures apart { (bytes : List ℕ) (s : Script) (f : ActFault) → AreBytes bytes → IsScript bytes s → IsFault bytes f → ⊥ }
+    ensures one { (bytes : List ℕ) → AreBytes bytes → ((s : Script) × IsScript bytes s) ⊎ ((f : ActFault) × IsFault bytes f) }
+{}

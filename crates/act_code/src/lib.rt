@@ -1,0 +1,29 @@
+//! Action scripts: their bytes, read and written (own).
+#![tactic(auto)]
+
+mod action;
+mod action_reading;
+mod action_writing;
+mod block;
+mod code;
+mod common_operands;
+mod dxe_operands;
+mod fault;
+mod header;
+mod index;
+mod laws;
+mod operand;
+mod pei_operands;
+mod reading;
+mod script;
+mod writing;
+
+pub use action::{Action, GuidArg};
+pub use fault::{ActCause, ActFault, WriteFault};
+pub use laws::one_outcome;
+pub use reading::read_script;
+pub use script::Script;
+pub use writing::write_script;
+
+#[cfg(test)]
+mod tests;

@@ -1,0 +1,81 @@
+// Writing a script.
+ghost use Rattle.std.specs.Prelude.{◌≡◌, ◌<◌, ◌≤◌, ◌++◌, length, OnOk, IfOk, IfErr, All};
+ghost use Rattle.std.specs.List.{flat_map};
+ghost use Rattle.act_code.specs.Header.{phase_byte, header_bytes};
+ghost use Rattle.act_code.specs.Script.{block_bytes, script_bytes, IsWritable, IsWritableBlock, IsInGrammar, IsScript};
+ghost use Rattle.act_code.specs.declared.fault.WriteFault.TheVariants as write_fault;
+
+use crate::action::Action;
+use crate::action_writing::{bytes_2, put_action};
+use crate::fault::WriteFault;
+use crate::header::{DXE, MOST_SCRIPT, PEI, VERSION};
+use crate::script::Script;
+use pi_base::{OutOfMemory, Phase, Seq};
+use std::alloc::Global;
+
+// The byte of a phase.
+fn phase_byte(phase: Phase) -> u8
+    ensures { result ≡ phase_byte phase }
+{
+    match phase {
+        Phase::Pei => PEI,
+        Phase::Dxe => DXE,
+    }
+}
+
+// The header of a script of so many blocks.
+fn header_bytes(phase: Phase, blocks: u8) -> [u8; 8]
+    ensures { result ≡ header_bytes phase blocks }
+{
+    [
+        b'P',
+        b'I',
+        b'A',
+        b'S',
+        VERSION,
+        phase_byte(phase),
+        blocks,
+        0,
+    ]
+}
+
+// Adds the bytes of a block.
+fn put_block(out: &mut Seq<u8>, actions: &[Action]) -> Result<(), OutOfMemory>
+    requires few { length actions.now < 65536 }
+    requires writable { All IsWritable actions.now }
+    ensures { OnOk result (out.new ≡ out.old ++ block_bytes actions.now) }
+{
+    out.append(&bytes_2(actions.len() as u16))?;
+    for action in actions {
+        put_action(out, action)?;
+    }
+    Ok(())
+}
+
+// Adds the bytes of blocks.
+fn put_blocks(out: &mut Seq<u8>, blocks: &[Seq<Action>]) -> Result<(), OutOfMemory>
+    requires { All IsWritableBlock blocks.now }
+    ensures { OnOk result (out.new ≡ out.old ++ flat_map block_bytes blocks.now) }
+{
+    for actions in blocks {
+        put_block(out, actions.as_slice())?;
+    }
+    Ok(())
+}
+
+/// The one spelling of a script, which `read_script` reads as the script again. TooLong exactly where it passes 65,536 bytes.
+pub fn write_script(alloc: Global, script: &Script) -> Result<Seq<u8>, WriteFault>
+    requires { IsInGrammar script.now }
+    ensures written { IfOk result (λ text. text ≡ script_bytes script.now) }
+    ensures script { IfOk result (λ text. IsScript text script.now) }
+    ensures too_long { IfErr result (λ fault. fault ≡ write_fault.TooLong → 65536 < length (script_bytes script.now)) }
+{
+    let mut out = Seq::new(alloc);
+    out.append(&header_bytes(script.phase, script.blocks.len() as u8))?;
+    put_blocks(&mut out, script.blocks.as_slice())?;
+    if out.len() > MOST_SCRIPT {
+        Err(WriteFault::TooLong)
+    } else {
+        Ok(out)
+    }
+}

@@ -1,0 +1,12 @@
+pub mod APriori
+pub mod Catalogue
+pub mod FileType
+pub mod ImageCause
+pub mod ImageFault
+pub mod Lists
+pub mod ModuleEntry
+pub mod ReadFile
+pub mod Text
+pub mod Totals
+pub mod VolumeTree
+pub mod WellFormed

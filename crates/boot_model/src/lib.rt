@@ -1,0 +1,20 @@
+//! What every later crate speaks of: the catalogue of the volumes and modules of a boot, and its first fault.
+#![tactic(auto)]
+
+mod catalog;
+mod file_type;
+mod image_fault;
+mod licence;
+mod limits;
+mod line;
+
+pub use catalog::{Catalog, Module, Part, PartExpr, VolumeEntry};
+pub use file_type::{
+    DXE_APRIORI, FILE_COMBINED_MM_DXE, FILE_COMBINED_PEIM_DRIVER, FILE_DRIVER, FILE_FREEFORM,
+    FILE_PEIM, FILE_VOLUME_IMAGE, PEI_APRIORI, SECTION_DXE_DEPEX, SECTION_PEI_DEPEX, SECTION_RAW,
+    SECTION_VOLUME_IMAGE,
+};
+pub use image_fault::{ImageCause, ImageFault};
+pub use licence::Licence;
+pub use limits::{MOST_DEPTH, MOST_END, MOST_MODULES, MOST_SCRIPT_BYTES, MOST_VOLUMES};
+pub use line::{CORE, CallName, ExpressionWord, Extra, Line, Reason, RunEnd, SHOWN_LEN};

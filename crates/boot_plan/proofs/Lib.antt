@@ -1,0 +1,10 @@
+pub mod LineLemmas
+pub mod WordLemmas
+pub mod FormLemmas
+pub mod Values
+pub mod Drafts
+pub mod Names
+pub mod Adding
+pub mod Finishing
+pub mod Reading
+pub mod OneReading

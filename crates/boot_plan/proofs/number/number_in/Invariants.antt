@@ -1,0 +1,12 @@
+use Rattle.std.proofs.Common.{◌≡◌, ◌<◌, ◌^◌, take, true}
+use Rattle.std.specs.List.{list_all}
+use Rattle.std.specs.Char.{is_digit}
+use Rattle.boot_plan.specs.Number.{value_in}
+use Rattle.boot_plan.proofs.number.number_in.Given as goal
+
+abbrev pub invariant-digits : goal.invariant-digits
+invariant-digits l = record {
+  value : l.number ≡ value_in l.base (take l.byte-index l.digits);
+  fits : l.number < 2 ^ 64;
+  valid : list_all (λ digit. is_digit digit l.base) (take l.byte-index l.digits) ≡ true;
+}

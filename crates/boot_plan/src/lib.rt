@@ -1,0 +1,21 @@
+//! The text of a boot plan (own format): the memory, the volumes, the fuel and the early pages of a boot, or the first fault of the text with its line.
+#![tactic(auto)]
+
+mod draft;
+mod entry;
+mod fault;
+mod finish;
+mod form;
+mod limits;
+mod line;
+mod number;
+mod plan;
+mod read;
+mod words;
+
+pub use fault::{PlanCause, PlanFault};
+pub use plan::{Plan, PlanVolume};
+pub use read::{one_reading, read_plan};
+
+#[cfg(test)]
+mod tests;

@@ -1,0 +1,58 @@
+// The lines of a text.
+ghost use Rattle.std.specs.Prelude.{◌≡◌, ◌≤◌, ◌<◌, ◌+◌, ◌∷◌, length};
+ghost use Rattle.std.specs.List.{position_or_len};
+ghost use Rattle.std.specs.Prelude.{◌==◌};
+ghost use Rattle.std.specs.Str.Lines.{strip_carriage_return};
+ghost use Rattle.boot_plan.specs.Line.{lines, is_passed_over};
+
+const LINE_FEED: u8 = b'\n';
+
+const CARRIAGE_RETURN: u8 = b'\r';
+
+const COMMENT: u8 = b'#';
+
+// The place of the first such byte, or the length.
+pub(crate) fn place_of(bytes: &[u8], sought: u8) -> usize
+    ensures first { result ≡ position_or_len (λ b. b == sought) bytes.now }
+    ensures within { result ≤ length bytes.now }
+{
+    'search: for (place, byte) in bytes.iter().enumerate() {
+        if *byte == sought {
+            return place;
+        }
+    }
+    bytes.len()
+}
+
+// A line that a line feed ended, without a carriage return before it.
+fn without_return(line: &[u8]) -> &[u8]
+    ensures { result.now ≡ strip_carriage_return line.now }
+{
+    match line {
+        [front @ .., last] if *last == CARRIAGE_RETURN => front,
+        whole => whole,
+    }
+}
+
+// The first line of a text, and what follows it.
+pub(crate) fn first_line(text: &[u8]) -> (&[u8], &[u8])
+    requires { 0 < length text.now }
+    ensures lines { lines text.now ≡ result.0.now ∷ lines result.1.now }
+    ensures shorter { length result.1.now < length text.now }
+{
+    let (line, rest) = text.split_at(place_of(text, LINE_FEED));
+    match rest {
+        [_, after @ ..] => (without_return(line), after),
+        [] => (line, rest),
+    }
+}
+
+// Whether a line is empty or a comment.
+pub(crate) fn is_passed_over(line: &[u8]) -> bool
+    ensures { result ≡ is_passed_over line.now }
+{
+    match line {
+        [] => true,
+        [first, ..] => *first == COMMENT,
+    }
+}

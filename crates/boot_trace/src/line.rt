@@ -1,0 +1,179 @@
+//! A line of any form.
+ghost use Rattle.std.specs.Prelude.{◌≡◌};
+ghost use Rattle.boot_io.specs.Sink.{Puts, SinkFaultsAfter};
+ghost use Rattle.boot_model.specs.Text.{line_text, text_of, log_text, hob_text, refused_file_text, refused_long_text};
+
+use crate::audit_line::{Parts, put_image_refusal, put_module, put_plan_refusal, put_volume};
+use crate::call_line::put_call;
+use crate::fixed_word::{keyword, licence_word, reason_word, run_end_word, word_word};
+use crate::hob_line::put_hob;
+use crate::number_word::{by_word, decimal_word};
+use crate::trace_line::{
+    put_address, put_addresses, put_bare, put_named, put_note, put_number, put_value, put_word,
+};
+use boot_io::{Sink, SinkFault};
+use boot_model::Line;
+
+// A line of the trace up to a stop.
+pub(crate) fn put<S: Sink>(sink: &mut S, line: &Line) -> Result<(), SinkFault>
+    ensures text { Puts result (S.text sink.old) (S.text sink.new) (line_text line.now) }
+    ensures cause { SinkFaultsAfter result (S.faults sink.old) (S.faults sink.new) }
+{
+    let key = keyword(line);
+    match line {
+        Line::Report { volume } => put_number(sink, key, *volume),
+        Line::PeiStart {
+            volume,
+            name,
+            licence,
+        } => put_named(sink, key, *volume, *name, licence_word(*licence)),
+        Line::DxeStart {
+            volume,
+            name,
+            licence,
+        } => put_named(sink, key, *volume, *name, licence_word(*licence)),
+        Line::Call {
+            name,
+            status,
+            extra,
+        } => put_call(sink, key, *name, *status, extra),
+        Line::Log { text } => put_word(sink, key, text.as_slice()),
+        Line::NotifyCallback {
+            volume,
+            name,
+            fired,
+        } => put_named(sink, key, *volume, *name, &fired.to_text()),
+        Line::NotifyDispatch {
+            volume,
+            name,
+            fired,
+        } => put_named(sink, key, *volume, *name, &fired.to_text()),
+        Line::NotifyProtocol {
+            volume,
+            name,
+            fired,
+        } => put_named(sink, key, *volume, *name, &fired.to_text()),
+        Line::End { status } => put_word(sink, key, word_word(*status)),
+        Line::Migrate { from, to } => put_addresses(sink, key, *from, *to),
+        Line::CoreInstall { status } => put_word(sink, key, word_word(*status)),
+        Line::PeiStop => put_bare(sink, key),
+        Line::DxeStop => put_bare(sink, key),
+        Line::Waiting {
+            volume,
+            name,
+            reason,
+        } => put_named(sink, key, *volume, *name, reason_word(*reason)),
+        Line::Handoff { address } => put_address(sink, key, *address),
+        Line::DxeVolume { volume } => put_number(sink, key, *volume),
+        Line::Ppis { count } => put_number(sink, key, *count),
+        Line::Ppi { by, guid, value } => put_value(
+            sink,
+            key,
+            by_word(*by).as_slice(),
+            *guid,
+            *value,
+        ),
+        Line::Callbacks { count } => put_number(sink, key, *count),
+        Line::Callback { guid, by, block } => put_note(sink, key, *guid, *by, *block),
+        Line::Dispatches { count } => put_number(sink, key, *count),
+        Line::Dispatch { guid, by, block } => put_note(sink, key, *guid, *by, *block),
+        Line::Pendings { count } => put_number(sink, key, *count),
+        Line::Pending { guid, by, block } => put_note(sink, key, *guid, *by, *block),
+        Line::Hobs { count } => put_number(sink, key, *count),
+        Line::Hob { kind, body } => put_hob(sink, key, *kind, body.as_slice()),
+        Line::Handles { count } => put_number(sink, key, *count),
+        Line::Handle {
+            handle,
+            guid,
+            value,
+        } => put_value(
+            sink,
+            key,
+            decimal_word(u64::from(*handle)).as_slice(),
+            *guid,
+            *value,
+        ),
+        Line::Result { outcome } => put_word(sink, key, run_end_word(*outcome)),
+        Line::Volume {
+            volume,
+            base,
+            len,
+            name,
+        } => put_volume(sink, key, *volume, *base, *len, *name),
+        Line::Module {
+            by,
+            volume,
+            name,
+            kind,
+            pei_rank,
+            dxe_rank,
+            pei,
+            dxe,
+        } => {
+            let parts = Parts {
+                pei_rank: *pei_rank,
+                dxe_rank: *dxe_rank,
+                pei: *pei,
+                dxe: *dxe,
+            };
+            put_module(sink, key, *by, *volume, *name, *kind, parts)
+        }
+        Line::RefusedUsage => put_bare(sink, key),
+        Line::RefusedFile { name } => put_word(sink, key, name.as_slice()),
+        Line::RefusedLong { name } => put_word(sink, key, name.as_slice()),
+        Line::RefusedPlan { line, cause } => put_plan_refusal(sink, key, *line, *cause),
+        Line::RefusedImage { volume, at, cause } => put_image_refusal(
+            sink, key, *volume, *at, *cause,
+        ),
+    }
+}
+
+// Lines, one after the other.
+pub(crate) fn put_all<S: Sink>(sink: &mut S, lines: &[Line]) -> Result<(), SinkFault>
+    ensures text { Puts result (S.text sink.old) (S.text sink.new) (text_of lines.now) }
+    ensures cause { SinkFaultsAfter result (S.faults sink.old) (S.faults sink.new) }
+{
+    for line in lines {
+        match put(sink, line) {
+            Ok(()) => {}
+            Err(SinkFault) => return Err(SinkFault),
+        }
+    }
+    Ok(())
+}
+
+// A logged text, from where it stands.
+#[tactic(auto, unfolding(boot_model::specs::Text::keyword))]
+pub(crate) fn put_log<S: Sink>(sink: &mut S, text: &[u8]) -> Result<(), SinkFault>
+    ensures text { Puts result (S.text sink.old) (S.text sink.new) (log_text text.now) }
+    ensures cause { SinkFaultsAfter result (S.faults sink.old) (S.faults sink.new) }
+{
+    put_word(sink, b"log", text)
+}
+
+// The name of a file that could not be read.
+#[tactic(auto, unfolding(boot_model::specs::Text::keyword))]
+pub(crate) fn put_refused_file<S: Sink>(sink: &mut S, name: &[u8]) -> Result<(), SinkFault>
+    ensures text { Puts result (S.text sink.old) (S.text sink.new) (refused_file_text name.now) }
+    ensures cause { SinkFaultsAfter result (S.faults sink.old) (S.faults sink.new) }
+{
+    put_word(sink, b"refused file", name)
+}
+
+// The name of a file that is too long.
+#[tactic(auto, unfolding(boot_model::specs::Text::keyword))]
+pub(crate) fn put_refused_long<S: Sink>(sink: &mut S, name: &[u8]) -> Result<(), SinkFault>
+    ensures text { Puts result (S.text sink.old) (S.text sink.new) (refused_long_text name.now) }
+    ensures cause { SinkFaultsAfter result (S.faults sink.old) (S.faults sink.new) }
+{
+    put_word(sink, b"refused long", name)
+}
+
+// A HOB, from its type and where its bytes behind the header stand.
+#[tactic(auto, unfolding(boot_model::specs::Text::keyword))]
+pub(crate) fn put_hob_line<S: Sink>(sink: &mut S, kind: u16, body: &[u8]) -> Result<(), SinkFault>
+    ensures text { Puts result (S.text sink.old) (S.text sink.new) (hob_text kind body.now) }
+    ensures cause { SinkFaultsAfter result (S.faults sink.old) (S.faults sink.new) }
+{
+    put_hob(sink, b"hob", kind, body)
+}

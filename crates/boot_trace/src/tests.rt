@@ -1,0 +1,274 @@
+use super::*;
+use arrayvec::ArrayVec;
+use boot_io::MemSink;
+use boot_model::{
+    CORE, CallName, ExpressionWord, Extra, ImageCause, Licence, Line, Reason, RunEnd,
+};
+use boot_plan::PlanCause;
+use pi_base::{Guid, Seq, Word};
+use std::alloc::Global;
+use std::process::Abort;
+use std::test::Fail;
+
+const A: Guid = Guid([0, 0, 0, 0, 0, 0, 0, 0, 0, 0, 0, 0, 0, 0, 0, 0x0a]);
+
+const MEMORY: Guid = Guid([
+    0x3d, 0x64, 0x94, 0xf8, 0x49, 0xc4, 0xd1, 0x42, 0x8e, 0xa8, 0x85, 0xbd, 0xd8, 0xc6, 0x5b, 0xde,
+]);
+
+// Puts a line and compares all that was put.
+fn shows(rt: &impl Abort, alloc: Global, line: Line, want: &[u8]) -> Result<(), Fail> {
+    let Ok(mut sink) = MemSink::new(alloc, 512, Seq::new(alloc)) else {
+        return Err(Fail::new("ample memory"));
+    };
+    let answer = Out { sink: &mut sink }.line(&line);
+    assert_eq!(rt; answer, Ok(()));
+    assert_eq!(rt; sink.text(), want);
+    Ok(())
+}
+
+fn bytes(rt: &impl Abort, alloc: Global, list: &[u8]) -> Seq<u8> {
+    let mut bytes = Seq::new(alloc);
+    assert_eq!(rt; bytes.append(list), Ok(()));
+    bytes
+}
+
+#[test]
+fn lines_of_the_trace(rt: HostRuntime) -> Result<(), Fail> {
+    let alloc = rt.alloc();
+    let mut text = ArrayVec::new();
+    text.push(b'a');
+    let mut read = ArrayVec::new();
+    read.push(0x23);
+    read.push(0x0a);
+    shows(&rt, alloc, Line::Report { volume: 0 }, b"report 0\n")?;
+    shows(
+        &rt,
+        alloc,
+        Line::PeiStart {
+            volume: 0,
+            name: A,
+            licence: Licence::Absent,
+        },
+        b"pei start 0 00000000-0000-0000-0000-00000000000a absent\n",
+    )?;
+    shows(
+        &rt,
+        alloc,
+        Line::DxeStart {
+            volume: 2,
+            name: A,
+            licence: Licence::Before,
+        },
+        b"dxe start 2 00000000-0000-0000-0000-00000000000a before\n",
+    )?;
+    shows(
+        &rt,
+        alloc,
+        Line::Call {
+            name: CallName::Desc,
+            status: Word::Success,
+            extra: Extra::Number(0x80000040),
+        },
+        b"call desc Success 0x80000040\n",
+    )?;
+    shows(
+        &rt,
+        alloc,
+        Line::Call {
+            name: CallName::BootMode,
+            status: Word::InvalidParameter,
+            extra: Extra::Nothing,
+        },
+        b"call boot_mode InvalidParameter\n",
+    )?;
+    shows(
+        &rt,
+        alloc,
+        Line::Call {
+            name: CallName::Peek,
+            status: Word::Success,
+            extra: Extra::Bytes(read),
+        },
+        b"call peek Success 230a\n",
+    )?;
+    shows(&rt, alloc, Line::Log { text }, b"log a\n")?;
+    shows(
+        &rt,
+        alloc,
+        Line::NotifyDispatch {
+            volume: 0,
+            name: A,
+            fired: MEMORY,
+        },
+        b"notify dispatch 0 00000000-0000-0000-0000-00000000000a f894643d-c449-42d1-8ea8-85bdd8c65bde\n",
+    )?;
+    shows(
+        &rt,
+        alloc,
+        Line::End {
+            status: Word::OutOfResources,
+        },
+        b"end OutOfResources\n",
+    )?;
+    shows(
+        &rt,
+        alloc,
+        Line::Migrate {
+            from: 0x80000000,
+            to: 0x40000000,
+        },
+        b"migrate 0x80000000 0x40000000\n",
+    )?;
+    shows(
+        &rt,
+        alloc,
+        Line::CoreInstall {
+            status: Word::Success,
+        },
+        b"core install Success\n",
+    )?;
+    shows(&rt, alloc, Line::PeiStop, b"pei stop\n")?;
+    shows(
+        &rt,
+        alloc,
+        Line::Waiting {
+            volume: 0,
+            name: A,
+            reason: Reason::Malformed,
+        },
+        b"waiting 0 00000000-0000-0000-0000-00000000000a malformed\n",
+    )?;
+    shows(
+        &rt,
+        alloc,
+        Line::Handoff {
+            address: 0x40000000,
+        },
+        b"handoff 0x40000000\n",
+    )?;
+    shows(&rt, alloc, Line::DxeVolume { volume: 1 }, b"dxe volume 1\n")
+}
+
+#[test]
+fn lines_of_the_lists(rt: HostRuntime) -> Result<(), Fail> {
+    let alloc = rt.alloc();
+    shows(&rt, alloc, Line::Ppis { count: 1 }, b"ppis 1\n")?;
+    shows(
+        &rt,
+        alloc,
+        Line::Ppi {
+            by: CORE,
+            guid: MEMORY,
+            value: 0,
+        },
+        b"ppi core f894643d-c449-42d1-8ea8-85bdd8c65bde 0x0\n",
+    )?;
+    shows(
+        &rt,
+        alloc,
+        Line::Callback {
+            guid: A,
+            by: 1,
+            block: 63,
+        },
+        b"callback 00000000-0000-0000-0000-00000000000a 1 63\n",
+    )?;
+    shows(&rt, alloc, Line::Hobs { count: 2 }, b"hobs 2\n")?;
+    shows(
+        &rt,
+        alloc,
+        Line::Hob {
+            kind: 6,
+            body: bytes(&rt, alloc, &[0x30, 0x10, 0, 0, 0, 0, 0, 0]),
+        },
+        b"hob 6 3010000000000000\n",
+    )?;
+    shows(
+        &rt,
+        alloc,
+        Line::Hob {
+            kind: 7,
+            body: bytes(&rt, alloc, &[]),
+        },
+        b"hob 7 -\n",
+    )?;
+    shows(
+        &rt,
+        alloc,
+        Line::Handle {
+            handle: 1,
+            guid: A,
+            value: 6,
+        },
+        b"handle 1 00000000-0000-0000-0000-00000000000a 0x6\n",
+    )?;
+    shows(
+        &rt,
+        alloc,
+        Line::Result {
+            outcome: RunEnd::NoIpl,
+        },
+        b"result NoIpl\n",
+    )
+}
+
+#[test]
+fn lines_of_audits_and_refusals(rt: HostRuntime) -> Result<(), Fail> {
+    let alloc = rt.alloc();
+    let part = Line::Module {
+        by: 2,
+        volume: 0,
+        name: A,
+        kind: 0x0c,
+        pei_rank: None,
+        dxe_rank: Some(3),
+        pei: ExpressionWord::NoPart,
+        dxe: ExpressionWord::Malformed(2),
+    };
+    shows(
+        &rt,
+        alloc,
+        Line::Volume {
+            volume: 0,
+            base: 0xfff00000,
+            len: 4096,
+            name: None,
+        },
+        b"volume 0 0xfff00000 4096 -\n",
+    )?;
+    shows(
+        &rt,
+        alloc,
+        part,
+        b"module 2 0 00000000-0000-0000-0000-00000000000a 0c - 3 - malformed@2\n",
+    )?;
+    shows(&rt, alloc, Line::RefusedUsage, b"refused usage\n")?;
+    shows(
+        &rt,
+        alloc,
+        Line::RefusedFile {
+            name: bytes(&rt, alloc, b"a.fv"),
+        },
+        b"refused file a.fv\n",
+    )?;
+    shows(
+        &rt,
+        alloc,
+        Line::RefusedPlan {
+            line: 2,
+            cause: PlanCause::Overlap,
+        },
+        b"refused plan 2 Overlap\n",
+    )?;
+    shows(
+        &rt,
+        alloc,
+        Line::RefusedImage {
+            volume: 0,
+            at: 50,
+            cause: ImageCause::HeaderSum,
+        },
+        b"refused image 0 50 HeaderSum\n",
+    )
+}

@@ -1,0 +1,6 @@
+pub mod Depth
+pub mod Expression
+pub mod Instruction
+pub mod Reading
+pub mod Tree
+pub mod TreeCode

@@ -1,0 +1,78 @@
+// The opcodes of dependency expressions, read from bytes.
+ghost use Rattle.std.specs.Prelude.{◌≡◌, option_map};
+ghost use Rattle.depex_code.specs.Reading.{guid_at, instruction_at};
+
+use crate::opcode::Opcode;
+use pi_base::Guid;
+
+/// An opcode of a dependency expression (PI 1.8, volume 1, "Dependency Expression Instruction Set"; volume 2 has `EFI_DEP_BEFORE`, `EFI_DEP_AFTER` and `EFI_DEP_SOR`).
+#[derive(Clone, Copy, Debug, PartialEq, Eq)]
+pub enum Instruction {
+    /// Directly before the driver of a file name.
+    Before(Guid),
+    /// Directly after the driver of a file name.
+    After(Guid),
+    /// An opcode of a tree.
+    Of(Opcode),
+    /// The end of the expression.
+    End,
+    /// The driver waits until it is requested.
+    Sor,
+}
+
+const BEFORE: u8 = 0x00;
+
+const AFTER: u8 = 0x01;
+
+const PUSH: u8 = 0x02;
+
+const AND: u8 = 0x03;
+
+const OR: u8 = 0x04;
+
+const NOT: u8 = 0x05;
+
+const TRUE: u8 = 0x06;
+
+const FALSE: u8 = 0x07;
+
+const END: u8 = 0x08;
+
+const SOR: u8 = 0x09;
+
+/// The bytes of a GUID.
+const GUID_LEN: usize = 16;
+
+// The GUID at the front of the bytes, and the bytes behind it.
+fn guid_at(bytes: &[u8]) -> Option<(Guid, &[u8])>
+    ensures { option_map (λ x. (x.0, x.1.now)) result ≡ guid_at bytes.now }
+{
+    if bytes.len() < GUID_LEN {
+        return None;
+    }
+    let (front, rest) = bytes.split_at(GUID_LEN);
+    let mut stored = [0; GUID_LEN];
+    stored.copy_from_slice(front);
+    Some((Guid(stored), rest))
+}
+
+/// The opcode at the front of the bytes, and the bytes behind it. None where no opcode stands there whole.
+#[tactic(auto, unfolding(crate::specs::Reading::instruction_at))]
+pub fn instruction_at(bytes: &[u8]) -> Option<(Instruction, &[u8])>
+    ensures { option_map (λ x. (x.0, x.1.now)) result ≡ instruction_at bytes.now }
+{
+    let (code, rest) = bytes.split_first()?;
+    match *code {
+        BEFORE => guid_at(rest).map(|(guid, rest)| (Instruction::Before(guid), rest)),
+        AFTER => guid_at(rest).map(|(guid, rest)| (Instruction::After(guid), rest)),
+        PUSH => guid_at(rest).map(|(guid, rest)| (Instruction::Of(Opcode::Push(guid)), rest)),
+        AND => Some((Instruction::Of(Opcode::And), rest)),
+        OR => Some((Instruction::Of(Opcode::Or), rest)),
+        NOT => Some((Instruction::Of(Opcode::Not), rest)),
+        TRUE => Some((Instruction::Of(Opcode::True), rest)),
+        FALSE => Some((Instruction::Of(Opcode::False), rest)),
+        END => Some((Instruction::End, rest)),
+        SOR => Some((Instruction::Sor, rest)),
+        _ => None,
+    }
+}

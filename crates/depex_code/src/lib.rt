@@ -1,0 +1,27 @@
+//! Dependency expressions: their bytes, their trees, and whether they hold (PI 1.8, volume 1, "Dependency Expressions").
+#![tactic(auto)]
+
+mod depex;
+mod depth;
+mod fault;
+mod instruction;
+mod laws;
+mod opcode;
+mod reading;
+mod set;
+mod steps;
+mod tree;
+mod truth;
+mod values;
+
+pub use depex::Depex;
+pub use fault::DepexFault;
+pub use laws::{one_reading, one_tree};
+pub use opcode::Opcode;
+pub use reading::read_depex;
+pub use set::GuidSet;
+pub use steps::Steps;
+pub use tree::Tree;
+
+#[cfg(test)]
+mod tests;

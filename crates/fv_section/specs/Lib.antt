@@ -1,0 +1,2 @@
+pub mod SectionHeader
+pub mod Stream

@@ -1,0 +1,13 @@
+//! What follows from the definitions alone.
+ghost use Rattle.std.specs.Prelude.{◌≡◌, ◌⊎◌, List, ℕ};
+ghost use Rattle.fv_section.specs.Stream.{AreSections, IsFirstFault};
+ghost use Rattle.fv_section.specs.declared.section.Section.{Section};
+ghost use Rattle.fv_section.specs.declared.fault.SecFault.{SecFault};
+
+/// All bytes are sections or have a first fault, never both, and one list of sections or one fault.
+pub fn one_reading()
+    ensures sections { (bytes : List ℕ) (a b : List Section) → AreSections bytes a → AreSections bytes b → a ≡ b }
+    ensures faults { (bytes : List ℕ) (a b : SecFault) → IsFirstFault bytes a → IsFirstFault bytes b → a ≡ b }
+    ensures apart { (bytes : List ℕ) (a : List Section) (b : SecFault) → AreSections bytes a → IsFirstFault bytes b → ⊥ }
+    ensures some { (bytes : List ℕ) → ((a : List Section) × AreSections bytes a) ⊎ ((b : SecFault) × IsFirstFault bytes b) }
+{}

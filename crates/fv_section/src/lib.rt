@@ -1,0 +1,16 @@
+//! Sections of a firmware file: what stands in a stream of them, or the first thing that is wrong.
+#![tactic(auto)]
+
+mod fault;
+mod law;
+mod section;
+mod section_header;
+mod stream;
+
+pub use fault::{SecCause, SecFault};
+pub use law::one_reading;
+pub use section::Section;
+pub use stream::{MOST_SECTIONS, read_sections};
+
+#[cfg(test)]
+mod tests;

@@ -1,0 +1,162 @@
+use super::*;
+use std::alloc::Global;
+use std::test::*;
+
+/// The script of the one-PEIM volume in a raw section of 19 bytes.
+const RAW: [u8; 19] = [
+    0x13, 0x00, 0x00, 0x19, 0x50, 0x49, 0x41, 0x53, 0x01, 0x01, 0x01, 0x00, 0x02, 0x00, 0x11, 0x01,
+    0x61, 0x13, 0x00,
+];
+
+/// The same script in an extended section of 23 bytes.
+const EXTENDED_RAW: [u8; 23] = [
+    0xff, 0xff, 0xff, 0x19, 0x17, 0x00, 0x00, 0x00, 0x50, 0x49, 0x41, 0x53, 0x01, 0x01, 0x01, 0x00,
+    0x02, 0x00, 0x11, 0x01, 0x61, 0x13, 0x00,
+];
+
+const PE32: u8 = 0x10;
+
+const RAW_TYPE: u8 = 0x19;
+
+const fn section(kind: u8, body_at: u64, body_len: u64) -> Section {
+    Section {
+        kind,
+        body_at,
+        body_len,
+    }
+}
+
+// Whether the bytes are read as these sections.
+fn reads(alloc: Global, bytes: &[u8], sections: &[Section]) -> bool {
+    match read_sections(alloc, bytes) {
+        Ok(found) => found.as_slice() == sections,
+        Err(_) => false,
+    }
+}
+
+// Whether the bytes have this fault.
+fn fails(alloc: Global, bytes: &[u8], at: u64, cause: SecCause) -> bool {
+    match read_sections(alloc, bytes) {
+        Ok(_) => false,
+        Err(fault) => fault == SecFault { at, cause },
+    }
+}
+
+#[test]
+fn sound_streams(rt: HostRuntime) {
+    // No bytes; a whole section; an extended one, and one of the least size.
+    assert!(rt; reads(rt.alloc(), &[], &[]));
+    assert!(rt; reads(rt.alloc(), &RAW, &[section(RAW_TYPE, 4, 15)]));
+    assert!(rt; reads(rt.alloc(), &EXTENDED_RAW, &[section(RAW_TYPE, 8, 15)]));
+    assert!(rt;
+        reads(
+            rt.alloc(),
+            &[0xff, 0xff, 0xff, 0x10, 8, 0, 0, 0],
+            &[section(PE32, 8, 0)]
+        )
+    );
+    // The second section begins at the next multiple of four; three bytes may be left at the end.
+    let two = [
+        5, 0, 0, 0x10, 0xaa, 1, 2, 3, 4, 0, 0, 0x19, 0xff, 0xff, 0xff,
+    ];
+    assert!(rt;
+        reads(
+            rt.alloc(),
+            &two,
+            &[section(PE32, 4, 1), section(RAW_TYPE, 12, 0)]
+        )
+    );
+    // The rounded place may lie behind the end.
+    assert!(rt; reads(rt.alloc(), &two[..5], &[section(PE32, 4, 1)]));
+}
+
+#[test]
+fn cut_streams(rt: HostRuntime) {
+    // Fewer than four bytes are an end, and any longer part of a section is none.
+    for cut in 0..4 {
+        assert!(rt; reads(rt.alloc(), &RAW[..cut], &[]), "cut to {cut}");
+        assert!(rt;
+            reads(rt.alloc(), &EXTENDED_RAW[..cut], &[]),
+            "extended, cut to {cut}"
+        );
+    }
+    for cut in 4..19 {
+        assert!(rt;
+            fails(rt.alloc(), &RAW[..cut], 0, SecCause::Size),
+            "cut to {cut}"
+        );
+    }
+    for cut in 4..23 {
+        assert!(rt;
+            fails(rt.alloc(), &EXTENDED_RAW[..cut], 0, SecCause::Size),
+            "extended, cut to {cut}"
+        );
+    }
+}
+
+#[test]
+fn faults(rt: HostRuntime) {
+    let table: [(&[u8], u64, SecCause); 7] = [
+        // A size below its header's length.
+        (&[3, 0, 0, 0x19], 0, SecCause::Size),
+        (&[0xff, 0xff, 0xff, 0x19, 7, 0, 0, 0], 0, SecCause::Size),
+        // The top of both size fields.
+        (&[0xfe, 0xff, 0xff, 0x19, 0, 0, 0, 0], 0, SecCause::Size),
+        (
+            &[0xff, 0xff, 0xff, 0x19, 0xff, 0xff, 0xff, 0xff],
+            0,
+            SecCause::Size,
+        ),
+        // Sections that are not opened, behind a sound one; a wrong size comes before the type.
+        (&[4, 0, 0, 0x19, 4, 0, 0, 1], 4, SecCause::Compressed),
+        (&[4, 0, 0, 0x19, 4, 0, 0, 2], 4, SecCause::GuidDefined),
+        (&[4, 0, 0, 0x19, 5, 0, 0, 1], 4, SecCause::Size),
+    ];
+    for (bytes, at, cause) in table {
+        assert!(rt; fails(rt.alloc(), bytes, at, cause));
+    }
+}
+
+// 257 sections without bodies.
+fn many() -> [u8; 1028] {
+    let mut bytes = [0u8; 1028];
+    for i in 0..257usize {
+        bytes[4 * i] = 4;
+        bytes[4 * i + 3] = RAW_TYPE;
+    }
+    bytes
+}
+
+// The first bytes, all where there are fewer.
+fn front(bytes: &[u8], len: usize) -> &[u8] {
+    match bytes.get(..len) {
+        Some(front) => front,
+        None => bytes,
+    }
+}
+
+#[test]
+fn most_sections(rt: HostRuntime) {
+    let mut bytes = many();
+    // 256 sections are read, and the next one is too many, also where it has another fault.
+    let len = match read_sections(rt.alloc(), front(&bytes, 1024)) {
+        Ok(sections) => sections.len(),
+        Err(_) => 0,
+    };
+    assert_eq!(rt; len, 256);
+    assert!(rt; fails(rt.alloc(), &bytes, 1024, SecCause::TooMany));
+    bytes[1024] = 0;
+    assert!(rt; fails(rt.alloc(), &bytes, 1024, SecCause::TooMany));
+}
+
+#[test]
+fn numbers(rt: HostRuntime) {
+    one_reading();
+    let numbers = [
+        SecCause::Size as u8,
+        SecCause::Compressed as u8,
+        SecCause::GuidDefined as u8,
+        SecCause::TooMany as u8,
+    ];
+    assert_eq!(rt; numbers, [20, 21, 22, 23]);
+}

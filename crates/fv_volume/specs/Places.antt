@@ -1,0 +1,11 @@
+-- Where the files of a volume stand.
+use Rattle.std.specs.Prelude.{ℕ, ◌+◌, ◌<◌, ◌≤◌, List, length, All, AllPairs}
+use Rattle.fv_volume.specs.declared.file.FfsFile.{FfsFile}
+
+-- each file's body lies behind its header in the bytes
+abbrev pub AreInside : List ℕ → List FfsFile → Type 0
+AreInside bytes files = All (λ file. (file.at < file.body_at) × (file.body_at + file.body_len ≤ length bytes)) files
+
+-- each file stands behind those before it
+abbrev pub AreInOrder : List FfsFile → Type 0
+AreInOrder files = AllPairs (λ a b. (a.at < b.at) × (a.body_at + a.body_len ≤ b.at)) files

@@ -1,0 +1,21 @@
+//! What follows from the definitions alone.
+ghost use Rattle.std.specs.Prelude.{◌≡◌, ◌≤◌, ◌⊎◌, length, List, ℕ};
+ghost use Rattle.fv_volume.specs.Volume.{IsVolume, IsFirstFault};
+ghost use Rattle.fv_volume.specs.Places.{AreInside, AreInOrder};
+ghost use Rattle.fv_volume.specs.declared.volume.Volume.{Volume};
+ghost use Rattle.fv_volume.specs.declared.fault.VolFault.{VolFault};
+
+/// All bytes are a volume or have a first fault, never both, and one volume or one fault.
+pub fn one_reading()
+    ensures volumes { (bytes : List ℕ) (a b : Volume) → IsVolume bytes a → IsVolume bytes b → a ≡ b }
+    ensures faults { (bytes : List ℕ) (a b : VolFault) → IsFirstFault bytes a → IsFirstFault bytes b → a ≡ b }
+    ensures apart { (bytes : List ℕ) (a : Volume) (b : VolFault) → IsVolume bytes a → IsFirstFault bytes b → ⊥ }
+    ensures some { (bytes : List ℕ) → ((a : Volume) × IsVolume bytes a) ⊎ ((b : VolFault) × IsFirstFault bytes b) }
+{}
+
+/// The files of a volume stand in it one behind the other.
+pub fn places()
+    ensures len { (bytes : List ℕ) (volume : Volume) → IsVolume bytes volume → volume.len ≤ length bytes }
+    ensures inside { (bytes : List ℕ) (volume : Volume) → IsVolume bytes volume → AreInside bytes volume.files }
+    ensures in_order { (bytes : List ℕ) (volume : Volume) → IsVolume bytes volume → AreInOrder volume.files }
+{}

@@ -1,0 +1,34 @@
+// What is wrong with HOB bytes.
+ghost use Rattle.std.specs.Prelude.{◌≡◌};
+ghost use Rattle.hob_codec.specs.declared.fault.HobFault.TheVariants.{Memory};
+
+use pi_base::OutOfMemory;
+use thiserror::Error;
+
+/// What is wrong with the bytes of a HOB or of a HOB list.
+#[derive(Clone, Copy, Debug, PartialEq, Eq, Error)]
+pub enum HobFault {
+    /// Fewer than 8 bytes are left for a header.
+    #[error("Short")]
+    Short,
+    /// HobLength is below 8, no multiple of 8, or more than is left.
+    #[error("Length")]
+    Length,
+    /// A known type has a wrong length, a hand-off has another Version than 9, or a list begins with no hand-off.
+    #[error("Form")]
+    Form,
+    /// A list has no end HOB.
+    #[error("NoEnd")]
+    NoEnd,
+    /// Want of memory.
+    #[error("Memory")]
+    Memory,
+}
+
+impl From<OutOfMemory> for HobFault {
+    ghost from_gives = { λ _ fault. fault ≡ Memory };
+
+    fn from(_want: OutOfMemory) -> HobFault {
+        HobFault::Memory
+    }
+}

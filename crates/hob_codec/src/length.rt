@@ -1,0 +1,55 @@
+// The length of an encoded HOB.
+ghost use Rattle.std.specs.Prelude.{◌≡◌, ◌≤◌, ◌+◌, ◌%◌, length, nat_le, if◌then◌else◌};
+ghost use Rattle.hob_codec.specs.HobBytes.{hob_len, length_of, padded_len};
+ghost use Rattle.hob_codec.specs.HobView.{hob_value};
+
+use crate::hob::Hob;
+
+/// The length of a header: type, length and 4 reserved bytes. PI 1.8, volume 3, `EFI_HOB_GENERIC_HEADER`.
+pub const HEADER_LEN: usize = 8;
+
+/// The greatest length of a HOB, a multiple of 8.
+pub const MOST_LEN: usize = 65_528;
+
+const HANDOFF_LEN: u16 = 56;
+
+const ALLOCATION_LEN: u16 = 48;
+
+const RESOURCE_LEN: u16 = 48;
+
+/// The length of a HOB with a name and no data.
+pub const NAMED_LEN: usize = 24;
+
+const VOLUME_LEN: u16 = 24;
+
+const CPU_LEN: u16 = 16;
+
+const VOLUME2_LEN: u16 = 56;
+
+// The length with a padded body behind the fields.
+fn with_body(before: usize, body: &[u8]) -> Option<u16>
+    requires short { before ≤ 24 }
+    requires aligned { before % 8 ≡ 0 }
+    ensures { result ≡ (if nat_le (before + padded_len (length body.now)) 65528 then Some (before + padded_len (length body.now)) else None) }
+{
+    if body.len() > MOST_LEN - before {
+        return None;
+    }
+    Some((before + (body.len() + 7) / 8 * 8) as u16)
+}
+
+/// The length of the HOB with its header, or none where that would pass 65,528.
+pub fn hob_len(hob: &Hob<'_>) -> Option<u16>
+    ensures { result ≡ hob_len (hob_value hob.now) }
+{
+    match hob {
+        Hob::Handoff(_) => Some(HANDOFF_LEN),
+        Hob::Allocation { .. } => Some(ALLOCATION_LEN),
+        Hob::Resource { .. } => Some(RESOURCE_LEN),
+        Hob::Named { body, .. } => with_body(NAMED_LEN, body),
+        Hob::Volume { .. } => Some(VOLUME_LEN),
+        Hob::Cpu { .. } => Some(CPU_LEN),
+        Hob::Volume2 { .. } => Some(VOLUME2_LEN),
+        Hob::Pool { body } | Hob::Other { body, .. } => with_body(HEADER_LEN, body),
+    }
+}

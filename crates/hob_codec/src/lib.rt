@@ -1,0 +1,22 @@
+//! Hand-off blocks as bytes: one HOB written and read, and the places of a HOB list. PI 1.8, volume 3, hand-off blocks.
+#![tactic(auto)]
+
+mod body;
+mod encode;
+mod fault;
+mod field;
+mod hob;
+mod kind;
+mod length;
+mod list;
+mod read;
+
+pub use encode::encode_into;
+pub use fault::HobFault;
+pub use hob::{Handoff, Hob};
+pub use length::hob_len;
+pub use list::{HobPlace, one_walk, walk};
+pub use read::{read_at, round_trip};
+
+#[cfg(test)]
+mod tests;

@@ -1,0 +1,198 @@
+// Physical memory.
+ghost use Rattle.std.specs.Prelude.{◌≡◌, ◌++◌, ◌∷◌, ◌+◌, ◌<◌, ◌^◌, ◌&&◌, [], List, ℕ, map, length, option_map, IfOk, true, replicate};
+ghost use Rattle.phys_mem.specs.Region.{is_inside};
+ghost use Rattle.phys_mem.specs.Regions.{rom_region, ram_region, bytes_at, share, copy_of, Becomes};
+ghost use Rattle.std.specs.Option.{option_to_list};
+
+use crate::bank::{Bank, is_inside, part_of};
+use crate::rom::Rom;
+use pi_base::{OutOfMemory, Seq, Span};
+use std::alloc::Global;
+
+/// Temporary RAM while it is mapped, RAM, and the volumes.
+#[derive(Drop)]
+pub struct PhysMem {
+    temp: Option<Bank>,
+    ram: Bank,
+    roms: Seq<Rom>,
+}
+
+impl PhysMem {
+    ghost use Rattle.phys_mem.specs.Region.{Region};
+    ghost use Rattle.phys_mem.specs.Regions.{regions, temps, ram_region, rom_region, bytes_at, written, share, copy_of, copied, Becomes};
+
+    /// Memory whose temporary RAM and RAM are zero.
+    pub fn new(alloc: Global, temp: Span, ram: Span, roms: Seq<Rom>) -> Result<PhysMem, OutOfMemory>
+        ensures { IfOk result (λ memory. regions memory ≡ record { base = temp.base; bytes = replicate temp.len 0; writable = true } ∷ record { base = ram.base; bytes = replicate ram.len 0; writable = true } ∷ map rom_region roms) }
+    {
+        let temp = Bank::new(alloc, temp)?;
+        let ram = Bank::new(alloc, ram)?;
+        Ok(PhysMem {
+            temp: Some(temp),
+            ram,
+            roms,
+        })
+    }
+
+    /// The allocator that the memory keeps.
+    pub fn alloc(&self) -> Global {
+        self.roms.alloc()
+    }
+
+    /// The `n` bytes at an address, if all of them lie in one mapped region.
+    pub fn read(&self, at: u64, n: usize) -> Option<&[u8]>
+        ensures { option_map (λ bytes. bytes.now) result ≡ bytes_at (regions self.now) at n }
+    {
+        if let Some(temp) = &self.temp {
+            if let Some(bytes) = part_of(temp.base, temp.bytes.as_slice(), at, n) {
+                return Some(bytes);
+            }
+        }
+        match part_of(self.ram.base, self.ram.bytes.as_slice(), at, n) {
+            Some(bytes) => Some(bytes),
+            None => read_roms(self.roms.as_slice(), at, n),
+        }
+    }
+
+    // Writes the bytes into temporary RAM, if they all lie there.
+    fn put_temp(&mut self, at: u64, bytes: &[u8]) -> bool
+        ensures put { Becomes (written (temps self.old) at bytes.now) (temps self.old) result (temps self.new) }
+        ensures ram { self.new.ram ≡ self.old.ram }
+        ensures roms { self.new.roms ≡ self.old.roms }
+    {
+        match &mut self.temp {
+            Some(temp) => temp.put(at, bytes),
+            None => false,
+        }
+    }
+
+    /// Writes the bytes at an address. False where they do not all lie in one writable region; then nothing has changed.
+    pub fn write(&mut self, at: u64, bytes: &[u8]) -> bool
+        ensures { Becomes (written (regions self.old) at bytes.now) (regions self.old) result (regions self.new) }
+    {
+        if self.put_temp(at, bytes) {
+            true
+        } else {
+            self.ram.put(at, bytes)
+        }
+    }
+
+    // Whether one region has both ranges.
+    fn shares(&self, from: u64, to: u64, n: usize) -> bool
+        ensures { result ≡ share (regions self.now) from to n }
+    {
+        if let Some(temp) = &self.temp {
+            if has_both(temp.base, temp.bytes.len(), from, to, n) {
+                return true;
+            }
+        }
+        has_both(self.ram.base, self.ram.bytes.len(), from, to, n)
+            || roms_share(self.roms.as_slice(), from, to, n)
+    }
+
+    // Copies into temporary RAM from outside it.
+    fn copy_to_temp(&mut self, from: u64, to: u64, n: usize) -> bool
+        ensures copied { Becomes (copy_of (temps self.old) to (bytes_at (ram_region self.old.ram ∷ map rom_region self.old.roms) from n)) (temps self.old) result (temps self.new) }
+        ensures ram { self.new.ram ≡ self.old.ram }
+        ensures roms { self.new.roms ≡ self.old.roms }
+    {
+        match &mut self.temp {
+            Some(temp) => {
+                let source = read_fixed(&self.ram, self.roms.as_slice(), from, n);
+                copy_into(temp, to, source)
+            }
+            None => false,
+        }
+    }
+
+    // Copies into RAM from outside it.
+    fn copy_to_ram(&mut self, from: u64, to: u64, n: usize) -> bool
+        ensures copied { Becomes (copy_of (ram_region self.old.ram ∷ []) to (bytes_at (temps self.old ++ map rom_region self.old.roms) from n)) (ram_region self.old.ram ∷ []) result (ram_region self.new.ram ∷ []) }
+        ensures temp { self.new.temp ≡ self.old.temp }
+        ensures roms { self.new.roms ≡ self.old.roms }
+    {
+        let source = read_movable(&self.temp, self.roms.as_slice(), from, n);
+        copy_into(&mut self.ram, to, source)
+    }
+
+    /// Copies the `n` bytes at an address to another. False where they are not all in one region, or the other range is not in one writable region, or one region has both; then nothing has changed.
+    pub fn copy(&mut self, from: u64, to: u64, n: usize) -> bool
+        ensures { Becomes (copied (regions self.old) from to n) (regions self.old) result (regions self.new) }
+    {
+        if self.shares(from, to, n) {
+            false
+        } else if self.copy_to_temp(from, to, n) {
+            true
+        } else {
+            self.copy_to_ram(from, to, n)
+        }
+    }
+
+    /// Temporary RAM is no region from then on.
+    pub fn unmap_temp(&mut self)
+        ensures temp { regions self.new ≡ ram_region self.old.ram ∷ map rom_region self.old.roms }
+    {
+        self.temp = None;
+    }
+}
+
+// The `n` bytes at an address, if all of them lie in one volume.
+fn read_roms(roms: &[Rom], at: u64, n: usize) -> Option<&[u8]>
+    ensures { option_map (λ bytes. bytes.now) result ≡ bytes_at (map rom_region roms.now) at n }
+{
+    'volumes: for rom in roms {
+        if let Some(bytes) = part_of(rom.base, rom.bytes.as_slice(), at, n) {
+            return Some(bytes);
+        }
+    }
+    None
+}
+
+// Whether both ranges lie among these addresses.
+fn has_both(base: u64, len: usize, from: u64, to: u64, n: usize) -> bool
+    ensures { result ≡ (is_inside base len from n && is_inside base len to n) }
+{
+    is_inside(base, len, from, n) && is_inside(base, len, to, n)
+}
+
+// Whether one volume has both ranges.
+fn roms_share(roms: &[Rom], from: u64, to: u64, n: usize) -> bool
+    ensures { result ≡ share (map rom_region roms.now) from to n }
+{
+    'volumes: for rom in roms {
+        if has_both(rom.base, rom.bytes.len(), from, to, n) {
+            return true;
+        }
+    }
+    false
+}
+
+// The `n` bytes at an address, if all of them lie in RAM or in one volume.
+fn read_fixed<'a>(ram: &'a Bank, roms: &'a [Rom], at: u64, n: usize) -> Option<&'a [u8]>
+    ensures { option_map (λ bytes. bytes.now) result ≡ bytes_at (ram_region ram.now ∷ map rom_region roms.now) at n }
+{
+    match part_of(ram.base, ram.bytes.as_slice(), at, n) {
+        Some(bytes) => Some(bytes),
+        None => read_roms(roms, at, n),
+    }
+}
+
+// The `n` bytes at an address, if all of them lie in temporary RAM or in one volume.
+fn read_movable<'a>(temp: &'a Option<Bank>, roms: &'a [Rom], at: u64, n: usize) -> Option<&'a [u8]>
+    ensures { option_map (λ bytes. bytes.now) result ≡ bytes_at (option_to_list (option_map ram_region temp.now) ++ map rom_region roms.now) at n }
+{
+    match temp {
+        Some(temp) => read_fixed(temp, roms, at, n),
+        None => read_roms(roms, at, n),
+    }
+}
+
+// Writes what was read, if anything, at an address.
+fn copy_into(bank: &mut Bank, to: u64, source: Option<&[u8]>) -> bool
+    ensures { Becomes (copy_of (ram_region bank.old ∷ []) to (option_map (λ bytes. bytes.now) source.entry)) (ram_region bank.old ∷ []) result (ram_region bank.new ∷ []) }
+{
+    match source {
+        Some(bytes) => bank.put(to, bytes),
+        None => false,
+    }
+}
