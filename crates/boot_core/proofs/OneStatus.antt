@@ -1,11 +1,14 @@
 -- Told files lead to one status.
-use Rattle.std.proofs.Common.{◌≡◌, ◌⊎◌, ℕ, List, [], ◌∷◌, ◌++◌, length, Option, Some, None, IsSome, sym, ap, ◌∙◌, arith, subst, inl, inr, true≢false}
-use Rattle.std.proofs.lemmas.List.{append_cancel_left, append_cancel_right}
+use Rattle.std.proofs.Common.{◌≡◌, ◌⊎◌, ℕ, List, [], ◌∷◌, length, Option, Some, None, IsSome, sym, ap, ◌∙◌, arith, subst, inl, inr, true≢false}
 use Rattle.boot_io.specs.Files.{IsTold}
 use Rattle.boot_core.specs.declared.status.Status.{Status}
-use Rattle.boot_core.specs.FixedText.{plan_front}
-use Rattle.boot_core.specs.Plan.{IsBootWords, IsPlan}
-use Rattle.boot_core.specs.Outcome.{Outcome, PlanOutcome, VolumeOutcome, ImageOutcome, Trail, Kind, OfFiles, OfSink, OfMemory, OfAnswer, Ends, EndsBy, Answered, kind_of, IsRead, IsLong, words_usage, words_boot, plan_long, plan_not_built, plan_volume, volume_long, volume_read, image_not_built, image_runs}
+use Rattle.boot_plan.specs.declared.plan.Plan.{Plan}
+use Rattle.boot_plan.specs.declared.plan.PlanVolume.{PlanVolume}
+use Rattle.boot_plan.specs.declared.fault.PlanFault.{PlanFault}
+use Rattle.boot_plan.specs.PlanText.{IsPlan, IsPlanFault}
+use Rattle.boot_core.specs.CommandLine.{IsBootWords}
+use Rattle.boot_core.specs.BuiltPlan.{IsBuilt}
+use Rattle.boot_core.specs.Outcome.{Outcome, PlanOutcome, VolumeOutcome, ImageOutcome, Trail, Kind, OfFiles, OfSink, OfMemory, OfAnswer, Ends, EndsBy, Answered, kind_of, IsRead, IsLong, words_usage, words_boot, plan_long, plan_read, plan_refused, plan_not_built, plan_volume, TextOutcome, TextNames, volume_long, volume_read, image_not_built, image_runs}
 use Rattle.boot_core.specs.Causes.{AreTold, LeadsTo, IsStopped, ComesExactly}
 
 -- a told content is one
@@ -33,34 +36,55 @@ status_of_volume told name some a b s t (volume_read c read o) (volume_read d ag
     let P : List ℕ → Type 0 = λ image. ImageOutcome image b t in
     status_of_image c a b s t o (subst P (one_content told some d c again.as_told read.as_told) u)
 
+-- the laws of plans: a text has one, and never a fault beside it
+pub record PlanLaws : Type 0 where
+  pub plans : (text : List ℕ) (a b : Plan) → IsPlan text a → IsPlan text b → a ≡ b
+  pub apart : (text : List ℕ) (plan : Plan) (fault : PlanFault) → IsPlan text plan → IsPlanFault text fault → ⊥
+
+abbrev name_of : List PlanVolume → List ℕ
+name_of [] = []
+name_of (volume ∷ volumes) = volume.name
+
 -- a plan names one volume
-one_name : (content name other : List ℕ) → IsPlan content name → IsPlan content other → other ≡ name
-one_name content name other p q =
-    append_cancel_left plan_front other name (append_cancel_right (plan_front ++ other) (plan_front ++ name) (10 ∷ []) (sym q.1 ∙ p.1))
+one_name : (plan : Plan) (name other : List ℕ) → IsBuilt plan name → IsBuilt plan other → other ≡ name
+one_name plan name other p q = ap name_of (sym q.volume ∙ p.volume)
 
--- a volume's file that a told plan names is told
+-- a volume's file that a text names is told
 abbrev VolumesTold : (List ℕ → Option (List ℕ)) → List ℕ → Type 0
-VolumesTold told plan = (content name : List ℕ) → IsTold (told plan) content → IsPlan content name → IsSome (told name)
+VolumesTold told content = (name : List ℕ) → TextNames content name → IsSome (told name)
 
-status_of_plan : (told : List ℕ → Option (List ℕ)) (plan : List ℕ) → IsSome (told plan) → VolumesTold told plan
-    → (a b : Status) (s t : List ℕ) → PlanOutcome told plan a s → PlanOutcome told plan b t → a ≡ b
-status_of_plan told plan some volumes a b s t (plan_long c long p x) (plan_long d again q y) = p ∙ sym q
-status_of_plan told plan some volumes a b s t (plan_long c long p x) (plan_not_built d read n q y) = absurd (within_or_over (told plan) 0x10000 some c d long read)
-status_of_plan told plan some volumes a b s t (plan_long c long p x) (plan_volume d read name is o) = absurd (within_or_over (told plan) 0x10000 some c d long read)
-status_of_plan told plan some volumes a b s t (plan_not_built c read n p x) (plan_long d long q y) = absurd (within_or_over (told plan) 0x10000 some d c long read)
-status_of_plan told plan some volumes a b s t (plan_not_built c read n p x) (plan_not_built d again m q y) = p ∙ sym q
-status_of_plan told plan some volumes a b s t (plan_not_built c read n p x) (plan_volume d again name is o) =
-    let P : List ℕ → Type 0 = λ content. IsPlan content name in
-    absurd (n name (subst P (one_content (told plan) some d c again.as_told read.as_told) is))
-status_of_plan told plan some volumes a b s t (plan_volume c read name is o) (plan_long d long q y) = absurd (within_or_over (told plan) 0x10000 some d c long read)
-status_of_plan told plan some volumes a b s t (plan_volume c read name is o) (plan_not_built d again n q y) =
-    let P : List ℕ → Type 0 = λ content. IsPlan content name in
-    absurd (n name (subst P (one_content (told plan) some c d read.as_told again.as_told) is))
-status_of_plan told plan some volumes a b s t (plan_volume c read name is o) (plan_volume d again other also u) =
-    let P : List ℕ → Type 0 = λ content. IsPlan content other in
+status_of_text : PlanLaws → (told : List ℕ → Option (List ℕ)) (content : List ℕ) → VolumesTold told content
+    → (a b : Status) (s t : List ℕ) → TextOutcome told content a s → TextOutcome told content b t → a ≡ b
+status_of_text laws told content volumes a b s t (plan_refused f is p x) (plan_refused g also q y) = p ∙ sym q
+status_of_text laws told content volumes a b s t (plan_refused f is p x) (plan_not_built plan read n q y) = absurd (laws.apart content plan f read is)
+status_of_text laws told content volumes a b s t (plan_refused f is p x) (plan_volume plan read name built o) = absurd (laws.apart content plan f read is)
+status_of_text laws told content volumes a b s t (plan_not_built plan read n p x) (plan_refused f is q y) = absurd (laws.apart content plan f read is)
+status_of_text laws told content volumes a b s t (plan_not_built plan read n p x) (plan_not_built other again m q y) = p ∙ sym q
+status_of_text laws told content volumes a b s t (plan_not_built plan read n p x) (plan_volume other again name built o) =
+    let P : Plan → Type 0 = λ x. IsBuilt x name in
+    absurd (n name (subst P (laws.plans content other plan again read) built))
+status_of_text laws told content volumes a b s t (plan_volume plan read name built o) (plan_refused f is q y) = absurd (laws.apart content plan f read is)
+status_of_text laws told content volumes a b s t (plan_volume plan read name built o) (plan_not_built other again n q y) =
+    let P : Plan → Type 0 = λ x. IsBuilt x name in
+    absurd (n name (subst P (laws.plans content plan other read again) built))
+status_of_text laws told content volumes a b s t (plan_volume plan read name built o) (plan_volume other again name' built' u) =
+    let P : Plan → Type 0 = λ x. IsBuilt x name' in
     let Q : List ℕ → Type 0 = λ n. VolumeOutcome (told n) n b t in
-    let same : other ≡ name = one_name c name other is (subst P (one_content (told plan) some d c again.as_told read.as_told) also) in
-    status_of_volume (told name) name (volumes c name read.as_told is) a b s t o (subst Q same u)
+    let same : name' ≡ name = one_name plan name name' built (subst P (laws.plans content other plan again read) built') in
+    status_of_volume (told name) name (volumes name (plan, read, built)) a b s t o (subst Q same u)
+
+-- the files that a told plan's text names are told
+abbrev PlansVolumesTold : (List ℕ → Option (List ℕ)) → List ℕ → Type 0
+PlansVolumesTold told plan = (content name : List ℕ) → IsTold (told plan) content → TextNames content name → IsSome (told name)
+
+status_of_plan : PlanLaws → (told : List ℕ → Option (List ℕ)) (plan : List ℕ) → IsSome (told plan) → PlansVolumesTold told plan
+    → (a b : Status) (s t : List ℕ) → PlanOutcome told plan a s → PlanOutcome told plan b t → a ≡ b
+status_of_plan laws told plan some volumes a b s t (plan_long c long p x) (plan_long d again q y) = p ∙ sym q
+status_of_plan laws told plan some volumes a b s t (plan_long c long p x) (plan_read d read o) = absurd (within_or_over (told plan) 0x10000 some c d long read)
+status_of_plan laws told plan some volumes a b s t (plan_read c read o) (plan_long d long q y) = absurd (within_or_over (told plan) 0x10000 some d c long read)
+status_of_plan laws told plan some volumes a b s t (plan_read c read o) (plan_read d again u) =
+    let P : List ℕ → Type 0 = λ content. TextOutcome told content b t in
+    status_of_text laws told c (λ name names. volumes c name read.as_told names) a b s t o (subst P (one_content (told plan) some d c again.as_told read.as_told) u)
 
 abbrev second : List (List ℕ) → List ℕ
 second (x ∷ y ∷ rest) = y
@@ -71,38 +95,38 @@ one_plan : (words : List (List ℕ)) (plan other : List ℕ) → IsBootWords wor
 one_plan words plan other p q = ap second (sym q.0 ∙ p.0)
 
 -- the files of a plan that the words name are told
-volumes_told : (told : List ℕ → Option (List ℕ)) (words : List (List ℕ)) (plan : List ℕ) → AreTold told words → IsBootWords words plan → VolumesTold told plan
+volumes_told : (told : List ℕ → Option (List ℕ)) (words : List (List ℕ)) (plan : List ℕ) → AreTold told words → IsBootWords words plan → PlansVolumesTold told plan
 volumes_told told words plan all is content name as_told names = told_with (told plan) (all.plan_file plan is) content as_told (λ e. all.volume_file plan content name is e names)
   where
     told_with : {P : Type 0} → (known : Option (List ℕ)) → IsSome known → (content : List ℕ) → IsTold known content → (known ≡ Some content → P) → P
     told_with None some content as_told f = absurd (true≢false (sym some))
     told_with (Some x) some content as_told f = f (ap Some as_told)
 
-pub one_status : (told : List ℕ → Option (List ℕ)) (words : List (List ℕ)) → AreTold told words
+pub one_status : PlanLaws → (told : List ℕ → Option (List ℕ)) (words : List (List ℕ)) → AreTold told words
     → (a b : Status) (s t : List ℕ) → Outcome told words a s → Outcome told words b t → a ≡ b
-one_status told words all a b s t (words_usage n p x) (words_usage m q y) = p ∙ sym q
-one_status told words all a b s t (words_usage n p x) (words_boot plan is o) = absurd (n plan is)
-one_status told words all a b s t (words_boot plan is o) (words_usage n q y) = absurd (n plan is)
-one_status told words all a b s t (words_boot plan is o) (words_boot other also u) =
+one_status laws told words all a b s t (words_usage n p x) (words_usage m q y) = p ∙ sym q
+one_status laws told words all a b s t (words_usage n p x) (words_boot plan is o) = absurd (n plan is)
+one_status laws told words all a b s t (words_boot plan is o) (words_usage n q y) = absurd (n plan is)
+one_status laws told words all a b s t (words_boot plan is o) (words_boot other also u) =
     let Q : List ℕ → Type 0 = λ p. PlanOutcome told p b t in
-    status_of_plan told plan (all.plan_file plan is) (volumes_told told words plan all is) a b s t o (subst Q (one_plan words plan other is also) u)
+    status_of_plan laws told plan (all.plan_file plan is) (volumes_told told words plan all is) a b s t o (subst Q (one_plan words plan other is also) u)
 
 -- an answer is the one that is due
-due : (k : Kind) (told : List ℕ → Option (List ℕ)) (words : List (List ℕ)) (Named : List ℕ → Type 0) (status wanted : Status) (t : Trail)
+due : PlanLaws → (k : Kind) (told : List ℕ → Option (List ℕ)) (words : List (List ℕ)) (Named : List ℕ → Type 0) (status wanted : Status) (t : Trail)
     → EndsBy k (Outcome told words) Named status t → AreTold told words → LeadsTo told words wanted → (status ≡ wanted) ⊎ IsStopped k
-due OfAnswer told words Named status wanted t e all leads = inl (one_status told words all status wanted e.text leads.0 e.outcome leads.1)
-due OfFiles told words Named status wanted t e all leads = inr tt
-due OfSink told words Named status wanted t e all leads = inr tt
-due OfMemory told words Named status wanted t e all leads = inr tt
+due laws OfAnswer told words Named status wanted t e all leads = inl (one_status laws told words all status wanted e.text leads.0 e.outcome leads.1)
+due laws OfFiles told words Named status wanted t e all leads = inr tt
+due laws OfSink told words Named status wanted t e all leads = inr tt
+due laws OfMemory told words Named status wanted t e all leads = inr tt
 
 -- how a call ends says when each answer comes
-pub comes_exactly : (told : List ℕ → Option (List ℕ)) (words : List (List ℕ)) (Named : List ℕ → Type 0) (status wanted : Status) (t : Trail)
+pub comes_exactly : PlanLaws → (told : List ℕ → Option (List ℕ)) (words : List (List ℕ)) (Named : List ℕ → Type 0) (status wanted : Status) (t : Trail)
     → kind_of wanted ≡ OfAnswer → Ends (Outcome told words) Named status t → ComesExactly told words wanted status
-comes_exactly told words Named status wanted t kind e = record {
+comes_exactly laws told words Named status wanted t kind e = record {
   only = λ same.
       let P : Status → Type 0 = λ s. Ends (Outcome told words) Named s t in
       let Q : Kind → Type 0 = λ k. EndsBy k (Outcome told words) Named wanted t in
       let answered : Answered (Outcome told words) wanted t = subst Q kind (subst P same e) in
       (answered.text, answered.outcome);
-  whenever = λ all leads. due (kind_of status) told words Named status wanted t e all leads;
+  whenever = λ all leads. due laws (kind_of status) told words Named status wanted t e all leads;
 }

@@ -1,5 +1,5 @@
 -- The catalogue of a plan and its images: all volumes and modules, in the order of their numbers, where nothing is at fault.
-use Rattle.std.specs.Prelude.{◌≡◌, ℕ, ◌+◌, ◌≤◌, Bool, true, ◌&&◌, ◌||◌, nat_le, List, [], ◌∷◌, ◌++◌, length, map, filter, Option, None, is_none}
+use Rattle.std.specs.Prelude.{◌≡◌, ℕ, ◌+◌, Bool, true, ◌&&◌, ◌||◌, nat_le, List, [], ◌∷◌, length, filter, None, is_none}
 use Rattle.std.specs.List.{list_all}
 use Rattle.boot_plan.specs.declared.plan.Plan.{Plan}
 use Rattle.boot_plan.specs.declared.plan.PlanVolume.{PlanVolume}
