@@ -17,9 +17,13 @@ rom_region rom = record { base = rom.base; bytes = rom.bytes; writable = false }
 abbrev pub temps : PhysMem → List Region
 temps memory = option_to_list (option_map ram_region memory.temp)
 
--- temporary RAM while it is mapped, RAM, and the volumes in their order
+-- RAM, and the volumes in their order: what is always mapped
+abbrev pub fixed_regions : PhysMem → List Region
+fixed_regions memory = ram_region memory.ram ∷ map rom_region memory.roms
+
+-- temporary RAM while it is mapped, and what is always mapped
 abbrev pub regions : PhysMem → List Region
-regions memory = temps memory ++ (ram_region memory.ram ∷ map rom_region memory.roms)
+regions memory = temps memory ++ fixed_regions memory
 
 -- the first, or else the second
 abbrev pub or_else : Option (List ℕ) → Option (List ℕ) → Option (List ℕ)

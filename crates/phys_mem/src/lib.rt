@@ -1,4 +1,4 @@
-//! Physical memory as regions of bytes: temporary RAM, RAM, and volumes that are read only. One region never overlaps another.
+//! Physical memory as regions of bytes: temporary RAM, RAM, and volumes that are read only. Where two regions overlap, the first of them serves.
 #![tactic(auto)]
 
 mod bank;

@@ -19,7 +19,7 @@ pub struct PhysMem {
 
 impl PhysMem {
     ghost use Rattle.phys_mem.specs.Region.{Region};
-    ghost use Rattle.phys_mem.specs.Regions.{regions, temps, ram_region, rom_region, bytes_at, written, share, copy_of, copied, Becomes};
+    ghost use Rattle.phys_mem.specs.Regions.{regions, fixed_regions, temps, ram_region, rom_region, bytes_at, written, share, copy_of, copied, Becomes};
 
     /// Memory whose temporary RAM and RAM are zero.
     pub fn new(alloc: Global, temp: Span, ram: Span, roms: Seq<Rom>) -> Result<PhysMem, OutOfMemory>
@@ -130,7 +130,8 @@ impl PhysMem {
 
     /// Temporary RAM is no region from then on.
     pub fn unmap_temp(&mut self)
-        ensures temp { regions self.new ≡ ram_region self.old.ram ∷ map rom_region self.old.roms }
+        ensures unmapped { regions self.new ≡ fixed_regions self.old }
+        ensures others { fixed_regions self.new ≡ fixed_regions self.old }
     {
         self.temp = None;
     }
