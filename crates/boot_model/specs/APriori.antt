@@ -1,5 +1,5 @@
 -- The a priori list of a phase, and the ranks that it gives (PI 1.8, volume 1, "A Priori File", and volume 2; own where a name is unknown or comes again).
-use Rattle.std.specs.Prelude.{ℕ, ◌*◌, ◌/◌, Bool, if◌then◌else◌, ◌&&◌, List, [], length, map, filter, find, position, Option, Some, None, is_some, option_map, unwrap_or}
+use Rattle.std.specs.Prelude.{ℕ, ◌*◌, ◌/◌, if◌then◌else◌, ◌&&◌, List, [], length, map, filter, find, position, Option, None, is_some, option_map, unwrap_or}
 use Rattle.std.specs.Option.{option_and_then}
 use Rattle.pi_base.specs.declared.guid.Guid.{Guid}
 use Rattle.pi_base.specs.declared.phase.Phase.{Phase}

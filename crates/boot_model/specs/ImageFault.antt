@@ -1,5 +1,5 @@
 -- The first fault of a plan's images. The plan's volumes are examined in order: a volume with all its files, then its place, then its read files in order of place. Of a file come first whether it is one module too many, then its sections, then each script or nested volume in order. A nested volume is examined whole before what follows it.
-use Rattle.std.specs.Prelude.{◌≡◌, ◌⊎◌, ℕ, zero, suc, ◌+◌, ◌<◌, ◌≤◌, Bool, true, false, List, [], ◌∷◌, ◌++◌, length, map, filter}
+use Rattle.std.specs.Prelude.{◌≡◌, ◌⊎◌, ℕ, zero, suc, ◌+◌, ◌<◌, ◌≤◌, true, false, List, ◌∷◌, ◌++◌, length, map, filter}
 use Rattle.fv_volume.specs.declared.file.FfsFile.{FfsFile}
 use Rattle.fv_volume.specs.declared.volume.Volume.{Volume}
 use Rattle.fv_volume.specs.declared.fault.VolFault.{VolFault}

@@ -1,5 +1,5 @@
 -- The module of a file: what it has for PEI and for DXE.
-use Rattle.std.specs.Prelude.{◌≡◌, ℕ, Bool, true, false, ◌==◌, List, [], map, find, Option, Some, None, unwrap_or, ⊤}
+use Rattle.std.specs.Prelude.{◌≡◌, ℕ, Bool, true, false, List, [], find, Option, Some, None, unwrap_or, ⊤}
 use Rattle.pi_base.specs.declared.phase.Phase.{Phase}
 use Rattle.pi_base.specs.declared.phase.Phase.TheVariants.{Pei, Dxe}
 use Rattle.fv_volume.specs.declared.file.FfsFile.{FfsFile}

@@ -1,7 +1,6 @@
 -- The files of a volume whose sections are read, each with its sections: those that have a module, those that hold a volume, and the two a priori files.
-use Rattle.std.specs.Prelude.{◌≡◌, ℕ, ◌+◌, Bool, true, false, ◌&&◌, ◌||◌, ◌==◌, List, [], ◌∷◌, length, take, drop, map, filter, find, Option, Some, None, option_map, nat_eq}
-use Rattle.std.specs.List.{flat_map, starts_with}
-use Rattle.pi_base.specs.declared.guid.Guid.{Guid}
+use Rattle.std.specs.Prelude.{◌≡◌, ℕ, ◌+◌, Bool, false, ◌&&◌, ◌||◌, ◌==◌, List, [], ◌∷◌, take, drop, map, filter, find, Option, Some, None, option_map, nat_eq}
+use Rattle.std.specs.List.{starts_with}
 use Rattle.pi_base.specs.declared.phase.Phase.{Phase}
 use Rattle.pi_base.specs.declared.phase.Phase.TheVariants.{Pei, Dxe}
 use Rattle.fv_volume.specs.declared.file.FfsFile.{FfsFile}

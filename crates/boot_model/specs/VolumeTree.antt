@@ -1,5 +1,5 @@
 -- What a volume holds with all volumes nested in it: a volume, then each nested one by place, followed by its own nested ones (PI 1.8, volume 3; the numbers are own).
-use Rattle.std.specs.Prelude.{◌≡◌, ℕ, zero, suc, ◌+◌, List, [], ◌∷◌, ◌++◌, length, take, drop, Option, Some, Bool, true, flat_map}
+use Rattle.std.specs.Prelude.{◌≡◌, ℕ, zero, suc, ◌+◌, List, [], ◌∷◌, ◌++◌, length, take, drop, Option, Some, flat_map}
 use Rattle.fv_volume.specs.declared.volume.Volume.{Volume}
 use Rattle.fv_volume.specs.Volume.{IsVolume}
 use Rattle.boot_model.specs.declared.catalog.Module.{Module}
