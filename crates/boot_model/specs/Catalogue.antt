@@ -23,6 +23,11 @@ has_place plan before base len =
 abbrev pub plan_image : PlanVolume → List ℕ → ℕ → Image
 plan_image volume bytes number = record { bytes = bytes; base = volume.base; parent = None; number = number }
 
+-- the first of these volumes, which the others are nested in, has its place
+abbrev pub IsPlaced : Plan → List VolumeEntry → List VolumeEntry → Type 0
+IsPlaced plan before [] = ⊥
+IsPlaced plan before (entry ∷ nested) = has_place plan before entry.base entry.len ≡ true
+
 -- what the plan's volumes hold, behind what was held before them
 abbrev pub PlanHolds : Plan → Holding → List PlanVolume → List (List ℕ) → Holding → Type 0
 PlanHolds plan before [] [] holding = holding ≡ before
@@ -32,11 +37,6 @@ PlanHolds plan before (volume ∷ volumes) (bytes ∷ images) holding =
     (first : Holding) × Holds MOST_DEPTH (plan_image volume bytes (length before.volumes)) first
     × IsPlaced plan before.volumes first.volumes
     × PlanHolds plan (joined before first) volumes images holding
-  where
-    -- the first of these volumes, which the others are nested in, has its place
-    IsPlaced : Plan → List VolumeEntry → List VolumeEntry → Type 0
-    IsPlaced plan before [] = ⊥
-    IsPlaced plan before (entry ∷ nested) = has_place plan before entry.base entry.len ≡ true
 
 abbrev pub no_totals : Totals
 no_totals = record { volumes = 0; modules = 0; script_bytes = 0 }

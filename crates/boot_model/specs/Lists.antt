@@ -13,6 +13,11 @@ abbrev pub Each : {A : Type 0} → (A → Type 0) → List A → Type 0
 Each P [] = ⊤
 Each P (a ∷ rest) = P a × Each P rest
 
+-- the fact holds of each item with each one behind it
+abbrev pub Ordered : {A : Type 0} → (A → A → Type 0) → List A → Type 0
+Ordered R [] = ⊤
+Ordered R (a ∷ rest) = Each (R a) rest × Ordered R rest
+
 -- so many numbers from one on
 abbrev pub numbers : ℕ → ℕ → List ℕ
 numbers from zero = []

@@ -1,5 +1,5 @@
 -- What every catalogue keeps, for the calls that take one.
-use Rattle.std.specs.Prelude.{◌≡◌, ◌≢◌, ◌⊎◌, ℕ, ◌+◌, ◌<◌, ◌≤◌, List, [], ◌∷◌, length, Option, Some, None, IfSome, AllPairs, ⊤}
+use Rattle.std.specs.Prelude.{◌≡◌, ◌≢◌, ◌⊎◌, ℕ, ◌+◌, ◌<◌, ◌≤◌, List, [], ◌∷◌, length, Option, Some, None, IfSome, ⊤}
 use Rattle.pi_base.specs.declared.phase.Phase.{Phase}
 use Rattle.pi_base.specs.declared.phase.Phase.TheVariants.{Pei, Dxe}
 use Rattle.depex_code.specs.Expression.{IsOfPhase}
@@ -11,7 +11,7 @@ use Rattle.boot_model.specs.declared.catalog.Module.{Module}
 use Rattle.boot_model.specs.declared.catalog.Part.{Part}
 use Rattle.boot_model.specs.declared.catalog.PartExpr.{PartExpr}
 use Rattle.boot_model.specs.declared.catalog.PartExpr.TheVariants.{Absent, Malformed, Held}
-use Rattle.boot_model.specs.Lists.{Each}
+use Rattle.boot_model.specs.Lists.{Each, Ordered}
 
 -- each volume's parent comes before it; the first of these volumes has this number
 abbrev pub AreNumbered : ℕ → List VolumeEntry → Type 0
@@ -48,10 +48,10 @@ pub record IsPartOf (phase : Phase) (part : Part) : Type 0 where
 
 pub record IsWellFormed (catalog : Catalog) : Type 0 where
   pub in_range : Each (λ m. m.volume < length catalog.volumes) catalog.modules
-  pub in_order : AllPairs Precedes catalog.modules
+  pub in_order : Ordered Precedes catalog.modules
   pub parents : AreNumbered 0 catalog.volumes
-  pub bases : AllPairs (λ a b. a.base ≢ b.base) catalog.volumes
-  pub ranks : AllPairs RanksDiffer catalog.modules
+  pub bases : Ordered (λ a b. a.base ≢ b.base) catalog.volumes
+  pub ranks : Ordered RanksDiffer catalog.modules
   pub pei_parts : Each (λ m. IfSome m.pei (IsPartOf Pei)) catalog.modules
   pub dxe_parts : Each (λ m. IfSome m.dxe (IsPartOf Dxe)) catalog.modules
   pub few_volumes : length catalog.volumes ≤ MOST_VOLUMES

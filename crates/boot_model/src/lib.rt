@@ -4,6 +4,7 @@
 mod catalog;
 mod file_type;
 mod image_fault;
+mod laws;
 mod licence;
 mod limits;
 mod line;
@@ -15,6 +16,7 @@ pub use file_type::{
     SECTION_VOLUME_IMAGE,
 };
 pub use image_fault::{ImageCause, ImageFault};
+pub use laws::catalogues_are_well_formed;
 pub use licence::Licence;
 pub use limits::{MOST_DEPTH, MOST_END, MOST_MODULES, MOST_SCRIPT_BYTES, MOST_VOLUMES};
 pub use line::{CORE, CallName, ExpressionWord, Extra, Line, Reason, RunEnd, SHOWN_LEN};

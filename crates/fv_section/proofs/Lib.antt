@@ -1,2 +1,3 @@
 pub mod Sections
 pub mod OneReading
+pub mod Standing

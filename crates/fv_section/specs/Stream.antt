@@ -1,5 +1,5 @@
 -- A stream of sections: what stands in it, or the first fault. (PI 1.8, volume 3, firmware file sections.)
-use Rattle.std.specs.Prelude.{◌≡◌, ℕ, ◌+◌, ◌-◌, ◌*◌, ◌/◌, ◌<◌, ◌≤◌, List, [], ◌∷◌, length, Result, Ok, Err, All, if◌then◌else◌, nat_le}
+use Rattle.std.specs.Prelude.{◌≡◌, ℕ, ◌+◌, ◌-◌, ◌*◌, ◌/◌, ◌<◌, ◌≤◌, List, [], ◌∷◌, length, Result, Ok, Err, All, AllPairs, if◌then◌else◌, nat_le}
 use Rattle.fv_section.specs.declared.section_header.TheConstants.{HEADER_LEN}
 use Rattle.fv_section.specs.declared.stream.TheConstants.{MOST_SECTIONS, ALIGNMENT}
 use Rattle.fv_section.specs.declared.section.Section.{Section}
@@ -42,3 +42,7 @@ IsFirstFault bytes fault =
 -- each section's body lies in the bytes
 abbrev pub AreInside : List ℕ → List Section → Type 0
 AreInside bytes sections = All (λ section. section.body_at + section.body_len ≤ length bytes) sections
+
+-- each section's body stands behind those before it
+abbrev pub AreInOrder : List Section → Type 0
+AreInOrder sections = AllPairs (λ a b. a.body_at + a.body_len ≤ b.body_at) sections

@@ -1,6 +1,6 @@
 //! What follows from the definitions alone.
 ghost use Rattle.std.specs.Prelude.{◌≡◌, ◌⊎◌, List, ℕ};
-ghost use Rattle.fv_section.specs.Stream.{AreSections, IsFirstFault};
+ghost use Rattle.fv_section.specs.Stream.{AreSections, AreInOrder, AreInside, IsFirstFault};
 ghost use Rattle.fv_section.specs.declared.section.Section.{Section};
 ghost use Rattle.fv_section.specs.declared.fault.SecFault.{SecFault};
 
@@ -10,4 +10,10 @@ pub fn one_reading()
     ensures faults { (bytes : List ℕ) (a b : SecFault) → IsFirstFault bytes a → IsFirstFault bytes b → a ≡ b }
     ensures apart { (bytes : List ℕ) (a : List Section) (b : SecFault) → AreSections bytes a → IsFirstFault bytes b → ⊥ }
     ensures some { (bytes : List ℕ) → ((a : List Section) × AreSections bytes a) ⊎ ((b : SecFault) × IsFirstFault bytes b) }
+{}
+
+/// The bodies of sections stand in their stream one behind the other.
+pub fn places()
+    ensures inside { (bytes : List ℕ) (sections : List Section) → AreSections bytes sections → AreInside bytes sections }
+    ensures in_order { (bytes : List ℕ) (sections : List Section) → AreSections bytes sections → AreInOrder sections }
 {}

@@ -8,7 +8,7 @@ mod section_header;
 mod stream;
 
 pub use fault::{SecCause, SecFault};
-pub use law::one_reading;
+pub use law::{one_reading, places};
 pub use section::Section;
 pub use stream::{MOST_SECTIONS, read_sections};
 

@@ -20,7 +20,7 @@ use Rattle.fv_volume.specs.Frame.{aligned, frame_with, frame_or_fault, frame_of}
 use Rattle.fv_volume.specs.Item.{listed_of}
 use Rattle.fv_volume.specs.Search.{Leads, files_of}
 use Rattle.fv_volume.specs.Volume.{image_of, IsVolume}
-use Rattle.fv_volume.specs.Places.{AreInside, AreInOrder}
+use Rattle.fv_volume.specs.Places.{AreInside, AreWithin, AreInOrder}
 use Rattle.fv_volume.proofs.Items.{FileLies, item_lies}
 
 -- files that stand from a place on up to an end
@@ -71,6 +71,9 @@ frame_len header None (Ok (Some extended)) frame e = (refl, sym (ap (λ f. f.len
 header_len : (bytes : List ℕ) (header : VolumeHeader) → header_fault bytes header ≡ None → header.len ≤ length bytes
 header_len bytes header e = grind (arith, nat_tests)
 
+header_some : (bytes : List ℕ) (header : VolumeHeader) → header_fault bytes header ≡ None → 0 < header.len
+header_some bytes header e = grind (arith, nat_tests)
+
 kept : (short : Bool) (fault : VolFault) (other : Result Frame VolFault) (frame : Frame) → cond short (Err fault) other ≡ Ok frame → other ≡ Ok frame
 kept true fault other frame e = absurd cc
 kept false fault other frame e = e
@@ -82,18 +85,28 @@ volume_len bytes frame e =
     let f = frame_len header (header_fault bytes header) (extended_header bytes header) frame there in
     omega (arith, header_len bytes header f.0, f.1)
 
-image_len : (bytes : List ℕ) (frame : Frame) → length (image_of bytes frame) ≤ length bytes
-image_len bytes frame = omega (arith, length-take frame.len bytes)
+pub volume_some : (bytes : List ℕ) (frame : Frame) → frame_of bytes ≡ Ok frame → 0 < frame.len
+volume_some bytes frame e =
+    let header = volume_header bytes in
+    let there = kept _ _ (frame_or_fault header (header_fault bytes header) (extended_header bytes header)) frame e in
+    let f = frame_len header (header_fault bytes header) (extended_header bytes header) frame there in
+    omega (arith, header_some bytes header f.0, f.1)
 
-volume_stands : (bytes : List ℕ) (volume : Volume) → IsVolume bytes volume → (from : ℕ) × (to : ℕ) × (to ≤ length bytes) × Stand from to volume.files
+image_len : (bytes : List ℕ) (frame : Frame) → (length (image_of bytes frame) ≤ length bytes) × (length (image_of bytes frame) ≤ frame.len)
+image_len bytes frame = (omega (arith, length-take frame.len bytes), omega (arith, length-take frame.len bytes))
+
+volume_stands : (bytes : List ℕ) (volume : Volume) → IsVolume bytes volume → (from : ℕ) × (to : ℕ) × ((to ≤ length bytes) × (to ≤ volume.len)) × Stand from to volume.files
 volume_stands bytes volume v =
     let frame = v.0 in
     let image = image_of bytes frame in
     let s = files_stand image frame.format frame.start v.4.0 v.4.1 v.4.2 in
-    (frame.start, length image, image_len bytes frame, subst (λ files. Stand frame.start (length image) files) (sym v.4.4) s)
+    (frame.start, length image, ((image_len bytes frame).0, omega (arith, (image_len bytes frame).1, v.2)), subst (λ files. Stand frame.start (length image) files) (sym v.4.4) s)
 
 pub volume_inside : (bytes : List ℕ) (volume : Volume) → IsVolume bytes volume → AreInside bytes volume.files
-volume_inside bytes volume v = let s = volume_stands bytes volume v in λ k d within. let f = s.3.each k d within in (f.1, omega (arith, f.2, s.2))
+volume_inside bytes volume v = let s = volume_stands bytes volume v in λ k d within. let f = s.3.each k d within in (f.1, omega (arith, f.2, s.2.0))
+
+pub volume_within : (bytes : List ℕ) (volume : Volume) → IsVolume bytes volume → AreWithin volume.len volume.files
+volume_within bytes volume v = let s = volume_stands bytes volume v in λ k d within. let f = s.3.each k d within in omega (arith, f.2, s.2.1)
 
 pub volume_in_order : (bytes : List ℕ) (volume : Volume) → IsVolume bytes volume → AreInOrder volume.files
 volume_in_order bytes volume v = (volume_stands bytes volume v).3.order

@@ -1,7 +1,7 @@
 //! What follows from the definitions alone.
-ghost use Rattle.std.specs.Prelude.{◌≡◌, ◌≤◌, ◌⊎◌, length, List, ℕ};
+ghost use Rattle.std.specs.Prelude.{◌≡◌, ◌<◌, ◌≤◌, ◌⊎◌, length, List, ℕ};
 ghost use Rattle.fv_volume.specs.Volume.{IsVolume, IsFirstFault};
-ghost use Rattle.fv_volume.specs.Places.{AreInside, AreInOrder};
+ghost use Rattle.fv_volume.specs.Places.{AreInside, AreWithin, AreInOrder};
 ghost use Rattle.fv_volume.specs.declared.volume.Volume.{Volume};
 ghost use Rattle.fv_volume.specs.declared.fault.VolFault.{VolFault};
 
@@ -13,8 +13,10 @@ pub fn one_reading()
     ensures some { (bytes : List ℕ) → ((a : Volume) × IsVolume bytes a) ⊎ ((b : VolFault) × IsFirstFault bytes b) }
 {}
 
-/// The files of a volume stand in it one behind the other.
+/// The files of a volume stand in it one behind the other, and it has some bytes.
 pub fn places()
+    ensures some { (bytes : List ℕ) (volume : Volume) → IsVolume bytes volume → 0 < volume.len }
+    ensures within { (bytes : List ℕ) (volume : Volume) → IsVolume bytes volume → AreWithin volume.len volume.files }
     ensures len { (bytes : List ℕ) (volume : Volume) → IsVolume bytes volume → volume.len ≤ length bytes }
     ensures inside { (bytes : List ℕ) (volume : Volume) → IsVolume bytes volume → AreInside bytes volume.files }
     ensures in_order { (bytes : List ℕ) (volume : Volume) → IsVolume bytes volume → AreInOrder volume.files }
