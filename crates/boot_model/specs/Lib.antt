@@ -1,4 +1,5 @@
 pub mod APriori
+pub mod Audit
 pub mod Catalogue
 pub mod FileType
 pub mod ImageCause
