@@ -1,11 +1,16 @@
 pub mod APriori
 pub mod Catalogue
 pub mod FileType
+pub mod HeapImage
 pub mod ImageCause
 pub mod ImageFault
 pub mod Lists
+pub mod MemoryReading
+pub mod Migration
 pub mod ModuleEntry
 pub mod ReadFile
+pub mod Service
+pub mod StoreState
 pub mod Text
 pub mod Totals
 pub mod VolumeTree

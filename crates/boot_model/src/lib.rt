@@ -3,10 +3,14 @@
 
 mod catalog;
 mod file_type;
+mod frame;
 mod image_fault;
+mod known_guid;
 mod licence;
 mod limits;
 mod line;
+mod state;
+mod store_handle;
 
 pub use catalog::{Catalog, Module, Part, PartExpr, VolumeEntry};
 pub use file_type::{
@@ -14,7 +18,11 @@ pub use file_type::{
     FILE_PEIM, FILE_VOLUME_IMAGE, PEI_APRIORI, SECTION_DXE_DEPEX, SECTION_PEI_DEPEX, SECTION_RAW,
     SECTION_VOLUME_IMAGE,
 };
+pub use frame::{BLOCKS, DriverFrame, Frame, MOST_FRAMES, ProtocolSweep, REGISTERS, Register};
 pub use image_fault::{ImageCause, ImageFault};
+pub use known_guid::{ARCHITECTURAL, DXE_IPL_PPI, FILE_SYSTEM2, FILE_SYSTEM3, MEMORY_PPI, VOLUME_INFO_PPI};
 pub use licence::Licence;
 pub use limits::{MOST_DEPTH, MOST_END, MOST_MODULES, MOST_SCRIPT_BYTES, MOST_VOLUMES};
 pub use line::{CORE, CallName, ExpressionWord, Extra, Line, Reason, RunEnd, SHOWN_LEN};
+pub use state::{AllocationBody, Body, DescriptorBody, Entry, HobEntry, Pending};
+pub use store_handle::{Desc, DescKind, Firing, GuidFrom, HobSpan, Pool, StoreFault, Sweep};
