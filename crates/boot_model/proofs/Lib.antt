@@ -1,0 +1,2 @@
+mod PeiRows
+mod WorkedBoots

@@ -1,7 +1,15 @@
 pub mod APriori
+pub mod BootRun
 pub mod Catalogue
+pub mod Discovery
+pub mod DxeAction
+pub mod DxeChoice
+pub mod DxeMachine
+pub mod DxeRun
+pub mod DxeStep
 pub mod Eligible
 pub mod FileType
+pub mod HandleState
 pub mod HeapImage
 pub mod ImageCause
 pub mod ImageFault

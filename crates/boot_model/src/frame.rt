@@ -1,6 +1,6 @@
 //! A script that runs.
 use crate::store_handle::{Desc, Pool, Sweep};
-use pi_base::{Guid, Word};
+use pi_base::Word;
 
 /// How many frames stand at most.
 pub const MOST_FRAMES: usize = 64;
@@ -35,31 +35,4 @@ pub struct Frame {
     pub last: Word,
     /// The pairs that its last call has still to visit.
     pub sweep: Option<Sweep>,
-}
-
-/// The notifications of a protocol that a call has still to visit, with the interface and the handle of the call.
-#[derive(Clone, Copy, Debug, PartialEq, Eq)]
-pub struct ProtocolSweep {
-    pub guid: Guid,
-    pub interface: u64,
-    pub handle: u32,
-    /// The next notification's place.
-    pub note_at: u32,
-    /// The place behind the last one registered before the call.
-    pub note_to: u32,
-}
-
-/// A script of DXE that runs.
-#[derive(Clone, Copy, Debug, PartialEq, Eq)]
-pub struct DriverFrame {
-    /// The number of the module.
-    pub module_number: u32,
-    pub block: u8,
-    /// The number of the next action in the block.
-    pub position: u16,
-    pub registers: [Register; REGISTERS],
-    /// The status of its last call.
-    pub last: Word,
-    /// The notifications that its last call has still to visit.
-    pub sweep: Option<ProtocolSweep>,
 }

@@ -2,6 +2,7 @@
 #![tactic(auto)]
 
 mod catalog;
+mod driver;
 mod file_type;
 mod frame;
 mod image_fault;
@@ -13,12 +14,13 @@ mod state;
 mod store_handle;
 
 pub use catalog::{Catalog, Module, Part, PartExpr, VolumeEntry};
+pub use driver::{DriverFrame, Interface, ProtocolNote, ProtocolSweep, Scheduled};
 pub use file_type::{
     DXE_APRIORI, FILE_COMBINED_MM_DXE, FILE_COMBINED_PEIM_DRIVER, FILE_DRIVER, FILE_FREEFORM,
     FILE_PEIM, FILE_VOLUME_IMAGE, PEI_APRIORI, SECTION_DXE_DEPEX, SECTION_PEI_DEPEX, SECTION_RAW,
     SECTION_VOLUME_IMAGE,
 };
-pub use frame::{BLOCKS, DriverFrame, Frame, MOST_FRAMES, ProtocolSweep, REGISTERS, Register};
+pub use frame::{BLOCKS, Frame, MOST_FRAMES, REGISTERS, Register};
 pub use image_fault::{ImageCause, ImageFault};
 pub use known_guid::{ARCHITECTURAL, DXE_IPL_PPI, FILE_SYSTEM2, FILE_SYSTEM3, MEMORY_PPI, VOLUME_INFO_PPI};
 pub use licence::Licence;
