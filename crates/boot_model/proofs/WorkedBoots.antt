@@ -15,7 +15,9 @@ use Rattle.boot_model.specs.declared.catalog.VolumeEntry.{VolumeEntry}
 use Rattle.boot_model.specs.declared.catalog.Module.{Module}
 use Rattle.boot_model.specs.declared.catalog.PartExpr.{PartExpr}
 use Rattle.boot_model.specs.declared.catalog.PartExpr.TheVariants.{Held}
-use Rattle.boot_model.specs.StoreState.{Board, Rom}
+use Rattle.boot_model.specs.StoreState.{Board}
+use Rattle.boot_model.specs.Text.{text_of}
+use Rattle.boot_model.specs.BootRun.{boot_lines}
 
 -- the GUID that ends in a byte and is zero before it
 abbrev pub guid : ℕ → Guid
@@ -67,3 +69,10 @@ memory_at begin length = A.Set begin 0x40000000 ∷ A.Set length 0x100000 ∷ A.
 -- a descriptor of a PPI with the value of a register
 abbrev pub ppi_desc : ℕ → Guid → ℕ → Action
 ppi_desc d name arg = A.Desc d 0 (G.Inline name) arg
+
+abbrev pub fuel : ℕ
+fuel = 1000000
+
+-- the text of a boot of modules in one volume
+abbrev pub boot_text : Board → List Module → List ℕ
+boot_text on modules = text_of (boot_lines on (one_volume modules) fuel)
