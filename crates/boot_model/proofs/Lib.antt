@@ -1,2 +1,4 @@
+mod BoundRows
+mod DxeRows
 mod PeiRows
 mod WorkedBoots
