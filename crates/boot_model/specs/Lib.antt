@@ -29,6 +29,7 @@ pub mod Registers
 pub mod Reporting
 pub mod Service
 pub mod StateFacts
+pub mod StoreCall
 pub mod StoreState
 pub mod Text
 pub mod Totals

@@ -1,14 +1,15 @@
 -- What holds of every state of a store: each entry names a node of its own and a descriptor of its list's kind, and all of it has room.
 -- Own; the state that stands for linked nodes in byte memory.
-use Rattle.std.specs.Prelude.{◌≡◌, ◌≢◌, ◌⊎◌, ℕ, ◌+◌, ◌<◌, ◌≤◌, Bool, true, false, List, [], ◌∷◌, ◌++◌, length, map, Option, Some, None, AllPairs, ⊤}
+use Rattle.std.specs.Prelude.{◌≡◌, ◌≢◌, ◌⊎◌, ℕ, ◌+◌, ◌<◌, ◌≤◌, Bool, true, false, List, [], ◌∷◌, ◌++◌, length, map, Option, Some, None, AllPairs, IfSome, ⊤}
 use Rattle.hob_codec.specs.declared.kind.TheConstants.{POOL, ALLOCATION}
 use Rattle.boot_model.specs.declared.store_handle.DescKind.{DescKind}
 use Rattle.boot_model.specs.declared.store_handle.DescKind.TheVariants.{Ppi, Callback, Dispatch}
 use Rattle.boot_model.specs.declared.store_handle.Desc.{Desc}
 use Rattle.boot_model.specs.declared.store_handle.Pool.{Pool}
 use Rattle.boot_model.specs.declared.store_handle.Sweep.{Sweep}
+use Rattle.boot_model.specs.declared.limits.TheConstants.{MOST_END}
 use Rattle.boot_model.specs.Lists.{Each}
-use Rattle.boot_model.specs.StoreState.{StoreState, Entry, Pending, DescriptorBody, Body, Bytes, Descriptor, Node, Allocation, HobEntry, body_at, end_place, header_len, page_bytes}
+use Rattle.boot_model.specs.StoreState.{StoreState, Board, Range, Entry, Pending, DescriptorBody, Body, Bytes, Descriptor, Node, Allocation, HobEntry, body_at, end_place, header_len, handoff_len, page_bytes}
 use Rattle.boot_model.specs.MemoryReading.{rom_bytes}
 
 abbrev pub IsNodeAt : StoreState → ℕ → Type 0
@@ -50,6 +51,21 @@ abbrev pub ArePages : StoreState → Bool → Type 0
 ArePages s true = ⊤
 ArePages s false = s.taken ≤ s.board.pages
 
+-- temporary RAM and RAM end where a plan lets them, and the page region leaves room for an empty heap
+pub record IsBoard (board : Board) : Type 0 where
+  pub temp_end : board.temp.base + board.temp.len ≤ MOST_END
+  pub ram_end : board.ram.base + board.ram.len ≤ MOST_END
+  pub pages : board.pages + handoff_len + header_len ≤ board.temp.len
+
+-- permanent memory lies in RAM, and temporary RAM fits into it
+abbrev pub IsPlanned : Board → Range → Type 0
+IsPlanned board to = (board.ram.base ≤ to.base) × (to.base + to.len ≤ board.ram.base + board.ram.len) × (board.temp.len ≤ to.len)
+
+-- the heap and the end of pages: temporary RAM without its page region, then all of permanent memory
+abbrev pub IsHeap : StoreState → Bool → Type 0
+IsHeap s false = (s.base ≡ s.board.temp.base) × (s.len + s.board.pages ≡ s.board.temp.len) × (s.page_end ≡ s.board.temp.base + s.board.temp.len)
+IsHeap s true = (s.planned ≡ Some (record { base = s.base; len = s.len })) × (s.page_end ≡ s.base + s.len)
+
 pub record IsStoreState (s : StoreState) : Type 0 where
   pub ppis : Each (IsEntry s Ppi) s.ppis
   pub callbacks : Each (IsEntry s Callback) s.callbacks
@@ -59,6 +75,9 @@ pub record IsStoreState (s : StoreState) : Type 0 where
   pub bodies : Each (λ hob. IsBodyOf s hob.kind hob.body) s.hobs
   pub room : end_place s + header_len + page_bytes s.moved s.taken ≤ s.len
   pub pages : ArePages s s.moved
+  pub board : IsBoard s.board
+  pub planned : IfSome s.planned (IsPlanned s.board)
+  pub heap : IsHeap s s.moved
 
 -- a descriptor that a caller may hand in, and one of any kind
 abbrev pub IsDescOf : StoreState → DescKind → Desc → Type 0

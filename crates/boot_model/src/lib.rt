@@ -11,6 +11,7 @@ mod licence;
 mod limits;
 mod line;
 mod state;
+mod store;
 mod store_handle;
 
 pub use catalog::{Catalog, Module, Part, PartExpr, VolumeEntry};
@@ -27,4 +28,5 @@ pub use licence::Licence;
 pub use limits::{MOST_DEPTH, MOST_END, MOST_MODULES, MOST_SCRIPT_BYTES, MOST_VOLUMES};
 pub use line::{CORE, CallName, ExpressionWord, Extra, Line, Reason, RunEnd, SHOWN_LEN};
 pub use state::{AllocationBody, Body, DescriptorBody, Entry, HobEntry, Pending};
+pub use store::PeiStore;
 pub use store_handle::{Desc, DescKind, Firing, GuidFrom, HobSpan, Pool, StoreFault, Sweep};
