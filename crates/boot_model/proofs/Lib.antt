@@ -1,4 +1,5 @@
 mod BoundRows
 mod DxeRows
 mod PeiRows
+mod PeiStarts
 mod WorkedBoots

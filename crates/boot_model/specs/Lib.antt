@@ -8,11 +8,14 @@ pub mod DxeMachine
 pub mod DxeRun
 pub mod DxeStep
 pub mod Eligible
+pub mod EvaluationBound
 pub mod FileType
+pub mod FreeRun
 pub mod HandleState
 pub mod HeapImage
 pub mod ImageCause
 pub mod ImageFault
+pub mod Licence
 pub mod Listing
 pub mod Lists
 pub mod MemoryReading
