@@ -4,3 +4,8 @@ pub mod Stretches
 pub mod Bases
 pub mod Numbering
 pub mod PlanVolumes
+mod BoundRows
+mod DxeRows
+mod PeiRows
+mod PeiStarts
+mod WorkedBoots

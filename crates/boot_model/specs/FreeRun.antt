@@ -1,0 +1,58 @@
+-- A run in which the dispatchers choose freely: any eligible PEIM may start in the place of the first, and any eligible driver, with its group, in the place of the first.
+-- Every other step is that of the machine.
+-- PI 1.8, volumes 1 and 2, leave the order to the dispatchers.
+use Rattle.std.specs.Prelude.{◌≡◌, ℕ, Bool, true, List, [], ◌∷◌, Option, Some, None, is_some, ⊤}
+use Rattle.pi_base.specs.declared.phase.Phase.TheVariants.{Dxe}
+use Rattle.boot_model.specs.declared.catalog.Catalog.{Catalog}
+use Rattle.boot_model.specs.Parts.{has_number, part_at}
+use Rattle.boot_model.specs.Eligible.{is_eligible}
+use Rattle.boot_model.specs.PeiMachine.{PeiMachine}
+use Rattle.boot_model.specs.PeiChoice.{pei_order}
+use Rattle.boot_model.specs.PeiStep.{PeiCase, Fires, Acts, Moves, Pops, Starts, Stops, case_of, in_case, started}
+use Rattle.boot_model.specs.DxeMachine.{DxeMachine, Scheduled}
+use Rattle.boot_model.specs.DxeChoice.{is_eligible_driver, waiting, group_scheduled}
+use Rattle.boot_model.specs.DxeStep.{DxeCase, DxeFires, DxeActs, DxeStarts, DxeStops, dxe_case_of, in_dxe_case, driver_started}
+
+-- the part is one of a reported volume and may start
+abbrev pub MayStart : Catalog → PeiMachine → ℕ → Type 0
+MayStart catalog m number = (has_number (pei_order catalog m.reported) number ≡ true) × (is_eligible catalog m number ≡ true)
+
+abbrev pub IsFreeIn : Catalog → ℕ → PeiMachine → PeiCase → PeiMachine → Type 0
+IsFreeIn catalog fuel m (Fires firing sweep) later = later ≡ in_case catalog fuel m (Fires firing sweep)
+IsFreeIn catalog fuel m (Acts frame below) later = later ≡ in_case catalog fuel m (Acts frame below)
+IsFreeIn catalog fuel m (Moves new) later = later ≡ in_case catalog fuel m (Moves new)
+IsFreeIn catalog fuel m (Pops firing new) later = later ≡ in_case catalog fuel m (Pops firing new)
+IsFreeIn catalog fuel m (Starts first) later = (number : ℕ) × MayStart catalog m number × (later ≡ started catalog m number)
+IsFreeIn catalog fuel m Stops later = later ≡ in_case catalog fuel m Stops
+
+abbrev pub IsFreePeiStep : Catalog → ℕ → PeiMachine → PeiMachine → Type 0
+IsFreePeiStep catalog fuel m later = IsFreeIn catalog fuel m (case_of catalog m) later
+
+-- these are the later machines of a free run of PEI
+abbrev pub IsFreePeiRun : Catalog → ℕ → PeiMachine → List PeiMachine → Type 0
+IsFreePeiRun catalog fuel m [] = is_some m.ended ≡ true
+IsFreePeiRun catalog fuel m (later ∷ rest) = (m.ended ≡ None) × IsFreePeiStep catalog fuel m later × IsFreePeiRun catalog fuel later rest
+
+-- a driver that waits and may start
+abbrev pub MaySchedule : Catalog → DxeMachine → ℕ → Type 0
+MaySchedule catalog m number = (has_number (waiting catalog m) number ≡ true) × (is_eligible_driver catalog m number ≡ true)
+
+abbrev pub IsStarted : Catalog → DxeMachine → List Scheduled → DxeMachine → Type 0
+IsStarted catalog m [] later = ⊥
+IsStarted catalog m (next ∷ queue) later = later ≡ driver_started catalog m next queue (part_at Dxe catalog next.module_number)
+
+-- the first of what is scheduled starts, or else of the group of any driver that may
+abbrev pub IsFreeStart : Catalog → DxeMachine → List Scheduled → DxeMachine → Type 0
+IsFreeStart catalog m [] later = (number : ℕ) × MaySchedule catalog m number × IsStarted catalog m (group_scheduled catalog m (Some number)) later
+IsFreeStart catalog m (next ∷ queue) later = IsStarted catalog m (next ∷ queue) later
+
+abbrev pub IsFreeInDxe : Catalog → ℕ → DxeMachine → DxeCase → DxeMachine → Type 0
+IsFreeInDxe catalog fuel m (DxeFires note sweep frame below) later = later ≡ in_dxe_case catalog fuel m (DxeFires note sweep frame below)
+IsFreeInDxe catalog fuel m (DxeActs frame below) later = later ≡ in_dxe_case catalog fuel m (DxeActs frame below)
+IsFreeInDxe catalog fuel m (DxeStarts next queue) later = IsFreeStart catalog m m.scheduled later
+IsFreeInDxe catalog fuel m DxeStops later = later ≡ in_dxe_case catalog fuel m DxeStops
+
+-- these are the later machines of a free run of DXE
+abbrev pub IsFreeDxeRun : Catalog → ℕ → DxeMachine → List DxeMachine → Type 0
+IsFreeDxeRun catalog fuel m [] = is_some m.ended ≡ true
+IsFreeDxeRun catalog fuel m (later ∷ rest) = (m.ended ≡ None) × IsFreeInDxe catalog fuel m (dxe_case_of catalog m) later × IsFreeDxeRun catalog fuel later rest

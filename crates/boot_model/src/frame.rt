@@ -1,0 +1,38 @@
+//! A script that runs.
+use crate::store_handle::{Desc, Pool, Sweep};
+use pi_base::Word;
+
+/// How many frames stand at most.
+pub const MOST_FRAMES: usize = 64;
+
+/// How many registers a frame has.
+pub const REGISTERS: usize = 16;
+
+/// How many blocks an entry counts for one module.
+pub const BLOCKS: u32 = 64;
+
+/// What a register holds.
+#[derive(Clone, Copy, Debug, PartialEq, Eq)]
+pub enum Register {
+    Empty,
+    Number(u64),
+    PoolIn(Pool),
+    DescriptorIn(Desc),
+    /// A handle, by its number.
+    HandleIn(u32),
+}
+
+/// A script of PEI that runs: where it stands, and what it holds.
+#[derive(Clone, Copy, Debug, PartialEq, Eq)]
+pub struct Frame {
+    /// The number of the module.
+    pub module_number: u32,
+    pub block: u8,
+    /// The number of the next action in the block.
+    pub position: u16,
+    pub registers: [Register; REGISTERS],
+    /// The status of its last call.
+    pub last: Word,
+    /// The pairs that its last call has still to visit.
+    pub sweep: Option<Sweep>,
+}

@@ -1,0 +1,83 @@
+//! What a store hands out. An offset counts from the heap's base.
+use pi_base::Guid;
+
+/// A pool: the offset of its body, and the bytes that were asked for.
+#[derive(Clone, Copy, Debug, PartialEq, Eq)]
+pub struct Pool {
+    pub offset: u64,
+    pub size: u32,
+}
+
+/// A descriptor: the offset of its body.
+#[derive(Clone, Copy, Debug, PartialEq, Eq)]
+pub struct Desc {
+    pub offset: u64,
+}
+
+/// What a descriptor is for (PI 1.8, volume 1, the flags of `EFI_PEI_PPI_DESCRIPTOR` and `EFI_PEI_NOTIFY_DESCRIPTOR`).
+#[derive(Clone, Copy, Debug, PartialEq, Eq)]
+pub enum DescKind {
+    /// A PPI.
+    Ppi,
+    /// A notification that runs inside the call that matches it.
+    Callback,
+    /// A notification that is queued and runs after the PEIM has returned.
+    Dispatch,
+}
+
+/// The GUID of a descriptor that is made.
+#[derive(Clone, Copy, Debug, PartialEq, Eq)]
+pub enum GuidFrom {
+    /// It stands behind the descriptor.
+    Inline(Guid),
+    /// It stands at this address, in a volume.
+    At(u64),
+}
+
+/// What a call that installs, reinstalls or notifies has still to visit: pairs of a PPI and a callback, in order of PPI and then of registration.
+#[derive(Clone, Copy, Debug, PartialEq, Eq)]
+pub struct Sweep {
+    /// The place behind the last PPI.
+    pub ppi_to: u32,
+    /// The first callback's place.
+    pub note_from: u32,
+    /// The place behind the last callback.
+    pub note_to: u32,
+    /// The PPI's place of the next pair.
+    pub ppi_at: u32,
+    /// The callback's place of the next pair.
+    pub note_at: u32,
+}
+
+/// What a notification is told: its entry, and the PPI for which it runs with its GUID and value.
+#[derive(Clone, Copy, Debug, PartialEq, Eq)]
+pub struct Firing {
+    pub entry: u32,
+    pub ppi: Desc,
+    pub guid: Guid,
+    pub value: u64,
+}
+
+/// A HOB's type and length, and the offset of the one behind it.
+#[derive(Clone, Copy, Debug, PartialEq, Eq)]
+pub struct HobSpan {
+    pub kind: u16,
+    /// In bytes, with the header.
+    pub length: u16,
+    pub next: u64,
+}
+
+/// Why a store refused. The state is then as it was.
+#[derive(Clone, Copy, Debug, PartialEq, Eq)]
+pub enum StoreFault {
+    /// What the call needs is more than is free.
+    Full,
+    /// An argument is of the wrong kind or out of range.
+    Bad,
+    /// No PPI names the descriptor.
+    Missing,
+    /// There are no pages before the move.
+    NotYet,
+    /// Want of memory.
+    Memory,
+}
