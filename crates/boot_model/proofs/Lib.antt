@@ -1,5 +1,6 @@
 mod BoundRows
 mod DxeRows
+mod PeiOnce
 mod PeiRows
 mod PeiStarts
 mod WorkedBoots

@@ -68,7 +68,7 @@ first_start m number part None (E.Malformed at) r e h = cc
 first_start m number part None (E.Held expression) r e h = (expression, e, h)
 
 -- all three of a second start
-second_start : (a b c : Bool) → (a && not b && c) ≡ true → (a ≡ true) × (b ≡ false) × (c ≡ true)
+pub second_start : (a b c : Bool) → (a && not b && c) ≡ true → (a ≡ true) × (b ≡ false) × (c ≡ true)
 second_start true false c h = (refl, refl, h)
 second_start true true c h = cc
 second_start false b c h = cc
@@ -104,7 +104,7 @@ neither : (a b c : Bool) → a ≡ false → (b || c) ≡ false → ((a || b) ||
 neither true b c e h = cc
 neither false b c e h = h
 
-any_of_both : {A : Type 0} (p : A → Bool) (xs ys : List A) → list_any p (xs ++ ys) ≡ (list_any p xs || list_any p ys)
+pub any_of_both : {A : Type 0} (p : A → Bool) (xs ys : List A) → list_any p (xs ++ ys) ≡ (list_any p xs || list_any p ys)
 any_of_both p [] ys = refl
 any_of_both p (x ∷ xs) ys = let rest = any_of_both p xs ys in elim (p x) as (λ b. (b || list_any p (xs ++ ys)) ≡ ((b || list_any p xs) || list_any p ys)) [ true ↦ refl | false ↦ rest ]
 

@@ -10,6 +10,7 @@ mod known_guid;
 mod licence;
 mod limits;
 mod line;
+mod machine_laws;
 mod state;
 mod store;
 mod store_handle;
@@ -27,6 +28,7 @@ pub use known_guid::{ARCHITECTURAL, DXE_IPL_PPI, FILE_SYSTEM2, FILE_SYSTEM3, MEM
 pub use licence::Licence;
 pub use limits::{MOST_DEPTH, MOST_END, MOST_MODULES, MOST_SCRIPT_BYTES, MOST_VOLUMES};
 pub use line::{CORE, CallName, ExpressionWord, Extra, Line, Reason, RunEnd, SHOWN_LEN};
+pub use machine_laws::{licensed_run, starts_at_most_once};
 pub use state::{AllocationBody, Body, DescriptorBody, Entry, HobEntry, Pending};
 pub use store::PeiStore;
 pub use store_handle::{Desc, DescKind, Firing, GuidFrom, HobSpan, Pool, StoreFault, Sweep};
