@@ -6,6 +6,7 @@ pub mod Numbering
 pub mod PlanVolumes
 mod BoundRows
 mod DxeRows
+mod PeiOnce
 mod PeiRows
 mod PeiStarts
 mod WorkedBoots

@@ -1,5 +1,5 @@
 -- Runs of PEI: no part starts twice but by its shadow, each start has its licence, the move keeps the lists, and PEI stops only where none may start.
-use Rattle.std.proofs.Common.{◌≡◌, ℕ, zero, suc, ◌+◌, Bool, true, false, not, ◌&&◌, ◌||◌, cond, List, [], ◌∷◌, ◌++◌, Option, Some, None, refl, sym, ap, subst, ◌∙◌, option_map, is_some, drop, take}
+use Rattle.std.proofs.Common.{take-append-drop, ◌≡◌, ℕ, zero, suc, ◌+◌, Bool, true, false, not, ◌&&◌, ◌||◌, cond, List, [], ◌∷◌, ◌++◌, Option, Some, None, refl, sym, ap, subst, ◌∙◌, option_map, is_some, drop, take}
 use Rattle.std.specs.Prelude.{find, map}
 use Rattle.std.specs.List.{list_any}
 use Rattle.pi_base.specs.declared.phase.Phase.TheVariants.{Pei}
@@ -68,7 +68,7 @@ first_start m number part None (E.Malformed at) r e h = cc
 first_start m number part None (E.Held expression) r e h = (expression, e, h)
 
 -- all three of a second start
-second_start : (a b c : Bool) → (a && not b && c) ≡ true → (a ≡ true) × (b ≡ false) × (c ≡ true)
+pub second_start : (a b c : Bool) → (a && not b && c) ≡ true → (a ≡ true) × (b ≡ false) × (c ≡ true)
 second_start true false c h = (refl, refl, h)
 second_start true true c h = cc
 second_start false b c h = cc
@@ -104,6 +104,49 @@ neither : (a b c : Bool) → a ≡ false → (b || c) ≡ false → ((a || b) ||
 neither true b c e h = cc
 neither false b c e h = h
 
-any_of_both : {A : Type 0} (p : A → Bool) (xs ys : List A) → list_any p (xs ++ ys) ≡ (list_any p xs || list_any p ys)
+pub any_of_both : {A : Type 0} (p : A → Bool) (xs ys : List A) → list_any p (xs ++ ys) ≡ (list_any p xs || list_any p ys)
 any_of_both p [] ys = refl
 any_of_both p (x ∷ xs) ys = let rest = any_of_both p xs ys in elim (p x) as (λ b. (b || list_any p (xs ++ ys)) ≡ ((b || list_any p xs) || list_any p ys)) [ true ↦ refl | false ↦ rest ]
+
+neither_of : (a b : Bool) → a ≡ false → b ≡ false → (a || b) ≡ false
+neither_of a b e h = cc
+
+-- a list that is rotated has what the list has
+none_rotated : (p : ℕ → Bool) (cursor : ℕ) (order : List ℕ) → list_any p (rotated cursor order) ≡ false → list_any p order ≡ false
+none_rotated p cursor order h =
+    let parts = or_false (list_any p (drop cursor order)) (list_any p (take cursor order)) (sym (any_of_both p (drop cursor order) (take cursor order)) ∙ h) in
+    let both : (list_any p (take cursor order) || list_any p (drop cursor order)) ≡ false = neither_of _ _ parts.1 parts.0 in
+    subst (λ xs. list_any p xs ≡ false) (take-append-drop cursor order) (any_of_both p (take cursor order) (drop cursor order) ∙ both)
+
+stops_idle : (catalog : Catalog) (m : PeiMachine) → StopsIdle catalog m
+stops_idle catalog m stops =
+    let none : next_peim catalog m ≡ None = stops_from _ m.frames _ _ (next_peim catalog m) stops in
+    none_rotated (is_eligible catalog m) m.cursor (pei_order catalog m.reported) (none_found (is_eligible catalog m) (rotated m.cursor (pei_order catalog m.reported)) none)
+
+kinds_stay : (s : StoreState) (to : Range) (at : ℕ) (hobs : List HobEntry) → map (λ hob. hob.kind) (moved_hobs s to at hobs) ≡ map (λ hob. hob.kind) hobs
+kinds_stay s to at [] = refl
+kinds_stay s to at (hob ∷ hobs) = ap (λ kinds. hob.kind ∷ kinds) (kinds_stay s to (at + hob_len hob) hobs)
+
+unchanged : (s : StoreState) (to : Range) → IsUnchanged s (migrated_to s to)
+unchanged s to = record { ppis = refl; callbacks = refl; dispatches = refl; pendings = refl; kinds = kinds_stay s to handoff_len s.hobs; taken = refl; boot_mode = refl }
+
+moved_one : (s new : StoreState) (moved : Bool) (planned : Option Range) → cond moved None (option_map (migrated_to s) planned) ≡ Some new → IsUnchanged s new
+moved_one s new true planned h = cc
+moved_one s new false None h = cc
+moved_one s new false (Some to) h = let same : migrated_to s to ≡ new = cc in subst (IsUnchanged s) same (unchanged s to)
+
+moves_unchanged : (catalog : Catalog) (m : PeiMachine) → MovesUnchanged catalog m
+moves_unchanged catalog m new moves = moved_one m.store new m.store.moved m.store.planned (moves_from _ m.frames (migration m.store) _ (next_peim catalog m) new moves)
+
+licensed_step : (catalog : Catalog) (m : PeiMachine) → IsLicensedStep catalog m
+licensed_step catalog m = record { starts = starts_licensed catalog m; moves = moves_unchanged catalog m; stops = stops_idle catalog m }
+
+-- what holds of every machine holds along a run
+pub along : (catalog : Catalog) (fuel : ℕ) (P : PeiMachine → Type 0) → ((m : PeiMachine) → P m) → (n : ℕ) (m : PeiMachine) → AlongRun catalog fuel P n m
+along catalog fuel P h zero m = tt
+along catalog fuel P h (suc n) m =
+    elim m.ended as (λ o. elim o as (λ _. Type 0) [ Some end ↦ Unit {0} | None ↦ P m × AlongRun catalog fuel P n (pei_step catalog fuel m) ])
+    [ Some end ↦ tt | None ↦ (h m, along catalog fuel P h n (pei_step catalog fuel m)) ]
+
+pub licensed_run : IsLicensedRun
+licensed_run catalog fuel n board = along catalog fuel (IsLicensedStep catalog) (licensed_step catalog) n (pei_opening board catalog)

@@ -32,10 +32,13 @@ AllDiffer [] = ⊤
 AllDiffer (first ∷ rest) = (has_number rest first ≡ false) × AllDiffer rest
 
 -- no part has started twice, but those that registered for shadow, and they at most twice
-pub record StartedOnce (m : PeiMachine) : Type 0 where
-  pub first : AllDiffer m.started
-  pub second : AllDiffer m.again
-  pub shadowed : Each (λ number. has_number m.shadows number ≡ true) m.again
+pub record AreStartedOnce (started again shadows : List ℕ) : Type 0 where
+  pub first : AllDiffer started
+  pub second : AllDiffer again
+  pub shadowed : Each (λ number. has_number shadows number ≡ true) again
+
+abbrev pub StartedOnce : PeiMachine → Type 0
+StartedOnce m = AreStartedOnce m.started m.again m.shadows
 
 -- the licence of a PEIM's start from a machine
 abbrev pub IsLicensed : PeiMachine → ℕ → Part → Licence → Type 0
