@@ -1,7 +1,7 @@
 -- Worked boots that reach DXE: what is printed, whole, by the definitions.
-use Rattle.std.proofs.Common.{◌≡◌, ℕ, Bool, List, [], ◌∷◌, ◌++◌, Option, Some, None, refl}
+use Rattle.std.proofs.Common.{◌≡◌, ℕ, Bool, List, [], ◌∷◌, ◌++◌, Some, None, refl}
 use Rattle.std.specs.Prelude.{map}
-use Rattle.std.specs.Prelude.{codes, replicate}
+use Rattle.std.specs.Prelude.{codes}
 use Rattle.std.specs.Fmt.{digits}
 use Rattle.hex.specs.Hex.{encode_with}
 use Rattle.uuid.specs.Text.{by_index}
@@ -12,7 +12,6 @@ use Rattle.depex_code.specs.Tree as T
 use Rattle.depex_code.specs.declared.depex.Depex.TheVariants as D
 use Rattle.act_code.specs.declared.action.Action.{Action}
 use Rattle.act_code.specs.declared.action.Action.TheVariants as A
-use Rattle.act_code.specs.declared.action.GuidArg.TheVariants as G
 use Rattle.boot_model.specs.declared.catalog.Catalog.{Catalog}
 use Rattle.boot_model.specs.declared.catalog.Module.{Module}
 use Rattle.boot_model.specs.declared.catalog.PartExpr.{PartExpr}
@@ -77,9 +76,9 @@ abbrev handles : List Module
 handles =
     opener
     ∷ driver 1 None (held T.True) (
-      (A.Set 0 5 ∷ A.Set 1 6 ∷ A.DxeInstall 0 2 (guid 0x21) 0 ∷ A.DxeInstall 1 2 (guid 0x21) 1 ∷ A.DxeUninstall 2 (guid 0x22) 0
-      ∷ A.DxeNotify (guid 0x21) 1 ∷ A.DxeReinstall 2 (guid 0x21) 0 1 ∷ A.Set 3 0x1000 ∷ A.Process 3 ∷ A.Set 3 0xfff00000 ∷ A.Process 3 ∷ A.Dispatch ∷ A.Ret Success ∷ [])
-      ∷ (A.Ret Success ∷ []) ∷ [])
+    (A.Set 0 5 ∷ A.Set 1 6 ∷ A.DxeInstall 0 2 (guid 0x21) 0 ∷ A.DxeInstall 1 2 (guid 0x21) 1 ∷ A.DxeUninstall 2 (guid 0x22) 0
+    ∷ A.DxeNotify (guid 0x21) 1 ∷ A.DxeReinstall 2 (guid 0x21) 0 1 ∷ A.Set 3 0x1000 ∷ A.Process 3 ∷ A.Set 3 0xfff00000 ∷ A.Process 3 ∷ A.Dispatch ∷ A.Ret Success ∷ [])
+    ∷ (A.Ret Success ∷ []) ∷ [])
     ∷ []
 
 handles_text : boot_text board handles ≡ codes "report 0\npei start 0 00000000-0000-0000-0000-00000000000f absent\ncall memory Success\ncall desc Success 0x80000040\ncall install Success\ncall hob Success 0x80000090\nend Success\nmigrate 0x80000000 0x40000000\ncore install Success\npei stop\nhandoff 0x40000000\ndxe volume 0\ndxe start 0 00000000-0000-0000-0000-000000000001 true\ncall install Success 0x1\ncall install InvalidParameter\ncall uninstall NotFound\ncall notify Success\ncall reinstall Success\nnotify protocol 0 00000000-0000-0000-0000-000000000001 00000000-0000-0000-0000-000000000021\nend Success\ncall process NotFound\ncall process AlreadyStarted\ncall dispatch AlreadyStarted\nend Success\ndxe stop\nppis 2\nppi 0 0ae8ce5d-e448-4437-a8d7-ebf5f194f731 0x0\nppi core f894643d-c449-42d1-8ea8-85bdd8c65bde 0x0\ncallbacks 0\ndispatches 0\npendings 0\nhobs 6\nhob 1 090000000000000000001040000000000000004000000000000010400000000008010040000000000001004000000000\nhob 7 1000008000000000580000400000000000000000000000005dcee80a48e43744a8d7ebf5f194f731\nhob 7 e000004000000000400000400000000000000000000000000000000000000000\nhob 5 0000f0ff000000000010000000000000\nhob 7 1000008000000000c80000400000000000000000000000003d6494f849c4d1428ea885bdd8c65bde\nhob 7 0000000000000000b0000040000000000000000000000000ffffffff00000000\nhandles 1\nhandle 1 00000000-0000-0000-0000-000000000021 0x6\nresult Done\n"
@@ -105,12 +104,12 @@ abbrev realistic : Catalog
 realistic = record {
   volumes = volume 0xff800000 None ∷ volume 0xff000000 None ∷ volume 0xff000100 (Some 1) ∷ [];
   modules =
-    first_peim
-    ∷ driver 1 None Absent []
-    ∷ in_volume 1 (peim 0x0c None (held (T.Push MEMORY_PPI)) (script (A.Log (codes "second") ∷ [])))
-    ∷ in_volume 1 (driver 2 None (held (T.Push (guid 0x21))) (script (A.Set 0 0 ∷ on_one_handle ARCHITECTURAL)))
-    ∷ in_volume 2 (driver 3 None (held T.True) (script (A.Set 0 0 ∷ A.DxeInstall 0 1 (guid 0x21) 0 ∷ [])))
-    ∷ [];
+      first_peim
+      ∷ driver 1 None Absent []
+      ∷ in_volume 1 (peim 0x0c None (held (T.Push MEMORY_PPI)) (script (A.Log (codes "second") ∷ [])))
+      ∷ in_volume 1 (driver 2 None (held (T.Push (guid 0x21))) (script (A.Set 0 0 ∷ on_one_handle ARCHITECTURAL)))
+      ∷ in_volume 2 (driver 3 None (held T.True) (script (A.Set 0 0 ∷ A.DxeInstall 0 1 (guid 0x21) 0 ∷ [])))
+      ∷ [];
 }
 
 realistic_text : text_of (boot_lines board realistic fuel) ≡ codes "report 0\npei start 0 00000000-0000-0000-0000-00000000000a absent\ncall pool Success 0x80000040\ncall store Success\ncall store Success\ncall store Success\ncall desc Success 0x80000078\ncall install Success\nreport 1\nreport 2\ncall hob Success 0x800000c8\ncall hob Success 0x800000e0\ncall desc Success 0x80000100\ncall install Success\ncall memory Success\nend Success\nmigrate 0x80000000 0x40000000\ncore install Success\npei start 1 00000000-0000-0000-0000-00000000000c true\nlog second\nend Success\npei stop\nhandoff 0x40000000\ndxe volume 0\ndxe volume 1\ndxe volume 2\ndxe start 2 00000000-0000-0000-0000-000000000003 true\ncall install Success 0x1\nend Success\ndxe start 1 00000000-0000-0000-0000-000000000002 true\ncall install Success 0x2\ncall install Success\ncall install Success\ncall install Success\ncall install Success\ncall install Success\ncall install Success\ncall install Success\ncall install Success\ncall install Success\ncall install Success\ncall install Success\ncall install Success\nend Success\ndxe start 0 00000000-0000-0000-0000-000000000001 absent\nend Success\ndxe stop\nppis 3\nppi 0 49edb1c1-bf21-4761-bb12-eb0031aabb39 0x40000040\nppi 0 0ae8ce5d-e448-4437-a8d7-ebf5f194f731 0x0\nppi core f894643d-c449-42d1-8ea8-85bdd8c65bde 0x0\ncallbacks 0\ndispatches 0\npendings 0\nhobs 10\nhob 1 0900000000000000000000420000000000000040000000000000004200000000b001004000000000a801004000000000\nhob 7 78e58c8c3d8a1c4f9935896185c32dd3000000ff00000000000010000000000000000000000000000000000000000000\nhob 7 100000800000000090000040000000004000004000000000c1b1ed4921bf6147bb12eb0031aabb39\nhob 7 3001004000000000780000400000000000000000000000000000000000000000\nhob 5 000080ff000000000000800000000000\nhob 5 000000ff000000000000100000000000\nhob 7 1000008000000000180100400000000000000000000000005dcee80a48e43744a8d7ebf5f194f731\nhob 7 8801004000000000000100400000000000000000000000000000000000000000\nhob 7 1000008000000000700100400000000000000000000000003d6494f849c4d1428ea885bdd8c65bde\nhob 7 000000000000000058010040000000000000000000000000ffffffff00000000\nhandles 14\nhandle 1 00000000-0000-0000-0000-000000000021 0x0\nhandle 2 a46423e3-4617-49f1-b9ff-d1bfa9115839 0x0\nhandle 2 26baccb1-6f42-11d4-bce7-0080c73c8881 0x0\nhandle 2 26baccb2-6f42-11d4-bce7-0080c73c8881 0x0\nhandle 2 26baccb3-6f42-11d4-bce7-0080c73c8881 0x0\nhandle 2 665e3ff6-46cc-11d4-9a38-0090273fc14d 0x0\nhandle 2 665e3ff5-46cc-11d4-9a38-0090273fc14d 0x0\nhandle 2 b7dfb4e1-052f-449f-87be-9818fc91b733 0x0\nhandle 2 1e5668e2-8481-11d4-bcf1-0080c73c8881 0x0\nhandle 2 6441f818-6362-4e44-b570-7dba31dd2453 0x0\nhandle 2 5053697e-2cbc-4819-90d9-0580deee5754 0x0\nhandle 2 1da97072-bddc-4b30-99f1-72a0b56fff2a 0x0\nhandle 2 27cfac88-46cc-11d4-9a38-0090273fc14d 0x0\nhandle 2 27cfac87-46cc-11d4-9a38-0090273fc14d 0x0\nresult Done\n"

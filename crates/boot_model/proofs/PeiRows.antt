@@ -1,5 +1,5 @@
 -- Worked boots that end in PEI: what is printed, whole, by the definitions.
-use Rattle.std.proofs.Common.{◌≡◌, ℕ, List, [], ◌∷◌, ◌++◌, Option, Some, None, refl}
+use Rattle.std.proofs.Common.{◌≡◌, List, [], ◌∷◌, ◌++◌, Some, None, refl}
 use Rattle.std.specs.Prelude.{codes, replicate}
 use Rattle.std.specs.Fmt.{digits}
 use Rattle.hex.specs.Hex.{encode_with}
@@ -43,10 +43,10 @@ a_priori_text = refl
 abbrev shared : List Module
 shared =
     peim 0x0a None Absent (script (
-      A.Set 0 0x1234 ∷ ppi_desc 1 (guid 1) 0 ∷ A.Install (1 ∷ []) ∷ A.Install (1 ∷ [])
-      ∷ A.Set 2 0xfff00010 ∷ A.Desc 3 0 (G.Register 2) 0 ∷ A.Install (3 ∷ []) ∷ memory_at 4 5))
+    A.Set 0 0x1234 ∷ ppi_desc 1 (guid 1) 0 ∷ A.Install (1 ∷ []) ∷ A.Install (1 ∷ [])
+    ∷ A.Set 2 0xfff00010 ∷ A.Desc 3 0 (G.Register 2) 0 ∷ A.Install (3 ∷ []) ∷ memory_at 4 5))
     ∷ peim 0x0b None Absent (script (
-      A.Set 0 0x40000040 ∷ A.Peek 0 40 ∷ A.Set 0 0x40000070 ∷ A.Peek 0 32 ∷ A.Set 0 0x400000c0 ∷ A.Peek 0 24 ∷ []))
+    A.Set 0 0x40000040 ∷ A.Peek 0 40 ∷ A.Set 0 0x40000070 ∷ A.Peek 0 32 ∷ A.Set 0 0x400000c0 ∷ A.Peek 0 24 ∷ []))
     ∷ []
 
 -- the first bytes of a volume: sixteen zeros and the file system's GUID
@@ -61,8 +61,8 @@ shared_text = refl
 abbrev queued : List Module
 queued =
     peim 0x0a None Absent (
-      (A.Set 0 7 ∷ A.Desc 1 2 (G.Inline (guid 1)) 1 ∷ A.Notify (1 ∷ []) ∷ ppi_desc 2 (guid 1) 0 ∷ A.Install (2 ∷ []) ∷ memory_at 4 5 ++ A.Ret Success ∷ [])
-      ∷ (A.Log (codes "n") ∷ A.Ret Success ∷ []) ∷ [])
+    (A.Set 0 7 ∷ A.Desc 1 2 (G.Inline (guid 1)) 1 ∷ A.Notify (1 ∷ []) ∷ ppi_desc 2 (guid 1) 0 ∷ A.Install (2 ∷ []) ∷ memory_at 4 5 ++ A.Ret Success ∷ [])
+    ∷ (A.Log (codes "n") ∷ A.Ret Success ∷ []) ∷ [])
     ∷ []
 
 queued_text : boot_text board queued ≡ codes "report 0\npei start 0 00000000-0000-0000-0000-00000000000a absent\ncall desc Success 0x80000040\ncall notify Success\ncall desc Success 0x80000098\ncall install Success\ncall memory Success\nend Success\nmigrate 0x80000000 0x40000000\ncore install Success\nnotify dispatch 0 00000000-0000-0000-0000-00000000000a 00000000-0000-0000-0000-000000000001\nlog n\nend Success\npei stop\nppis 2\nppi 0 00000000-0000-0000-0000-000000000001 0x7\nppi core f894643d-c449-42d1-8ea8-85bdd8c65bde 0x0\ncallbacks 0\ndispatches 1\ndispatch 00000000-0000-0000-0000-000000000001 0 1\npendings 0\nhobs 8\nhob 1 090000000000000000001040000000000000004000000000000010400000000070010040000000006801004000000000\nhob 7 40000080000000005800004000000000010000000000000000000000000000000000000000000001\nhob 7 0000000000000000400000400000000000000000000000000000000000000000\nhob 7 1000008000000000b000004000000000070000000000000000000000000000000000000000000001\nhob 7 4801004000000000980000400000000000000000000000000000000000000000\nhob 7 0000000000000000000000000000000000000000000000000000000000000000\nhob 7 1000008000000000300100400000000000000000000000003d6494f849c4d1428ea885bdd8c65bde\nhob 7 000000000000000018010040000000000000000000000000ffffffff00000000\nhandles 0\nresult NoIpl\n"
@@ -73,7 +73,7 @@ queued_text = refl
 abbrev like_pointers : List Module
 like_pointers =
     peim 0x0a None Absent (script (
-      A.Set 0 0x80000123 ∷ ppi_desc 1 (guid 1) 0 ∷ A.Pool 2 8 ∷ A.Store 2 0 (0x23 ∷ 0x01 ∷ 0 ∷ 0x80 ∷ 0 ∷ 0 ∷ 0 ∷ 0 ∷ []) ∷ A.Install (1 ∷ []) ∷ memory_at 4 5))
+    A.Set 0 0x80000123 ∷ ppi_desc 1 (guid 1) 0 ∷ A.Pool 2 8 ∷ A.Store 2 0 (0x23 ∷ 0x01 ∷ 0 ∷ 0x80 ∷ 0 ∷ 0 ∷ 0 ∷ 0 ∷ []) ∷ A.Install (1 ∷ []) ∷ memory_at 4 5))
     ∷ peim 0x0b None Absent (script (A.Set 0 0x40000050 ∷ A.Peek 0 8 ∷ A.Set 0 0x40000070 ∷ A.Peek 0 8 ∷ []))
     ∷ []
 

@@ -1,19 +1,16 @@
 -- How many evaluations of expressions a phase may take: one for each part of a volume that is reported or discovered, and, for each GUID of which an event may have changed whether it is installed, one for each waiting part whose expression pushes that GUID.
 -- The events are a successful install or reinstall, the core's install, and in DXE a successful install or uninstall.
 -- Own.
-use Rattle.std.specs.Prelude.{ℕ, zero, suc, ◌+◌, Bool, true, false, ◌&&◌, ◌||◌, not, if◌then◌else◌, nat_le, List, [], ◌∷◌, ◌++◌, length, map, filter, sum_by, Option, Some, None, Result, Ok, Err, unwrap_or, option_map}
+use Rattle.std.specs.Prelude.{ℕ, zero, suc, ◌+◌, Bool, false, ◌&&◌, ◌||◌, not, if◌then◌else◌, nat_le, List, [], ◌∷◌, ◌++◌, length, map, filter, sum_by, Some, None, Ok, Err, unwrap_or, option_map}
 use Rattle.std.specs.Option.{option_to_list}
-use Rattle.std.specs.Prelude.{flat_map}
 use Rattle.pi_base.specs.declared.guid.Guid.{Guid}
 use Rattle.pi_base.specs.declared.phase.Phase.{Phase}
 use Rattle.pi_base.specs.declared.phase.Phase.TheVariants.{Pei, Dxe}
 use Rattle.depex_code.specs.Tree.{DepexTree, True, False, Push, Not, And, Or}
-use Rattle.depex_code.specs.declared.depex.Depex.{Depex}
 use Rattle.depex_code.specs.declared.depex.Depex.TheVariants as D
 use Rattle.act_code.specs.declared.action.Action.{Action}
 use Rattle.act_code.specs.declared.action.Action.TheVariants as A
 use Rattle.boot_model.specs.declared.catalog.Catalog.{Catalog}
-use Rattle.boot_model.specs.declared.catalog.Part.{Part}
 use Rattle.boot_model.specs.declared.catalog.PartExpr.{PartExpr}
 use Rattle.boot_model.specs.declared.catalog.PartExpr.TheVariants as E
 use Rattle.boot_model.specs.declared.known_guid.TheConstants.{MEMORY_PPI}
@@ -99,8 +96,9 @@ pei_asked catalog m guid = length (filter (λ number. not (has_number m.started 
 abbrev pub pei_changes : Catalog → ℕ → ℕ → PeiMachine → ℕ
 pei_changes catalog fuel zero m = 0
 pei_changes catalog fuel (suc n) m = elim m.ended [
-  Some end ↦ 0
-  | None ↦ sum_by (pei_asked catalog (pei_step catalog fuel m)) (pei_guids catalog fuel m) + pei_changes catalog fuel n (pei_step catalog fuel m) ]
+  | Some end ↦ 0
+  | None ↦ sum_by (pei_asked catalog (pei_step catalog fuel m)) (pei_guids catalog fuel m) + pei_changes catalog fuel n (pei_step catalog fuel m)
+]
 
 -- the bound of a run of PEI from one machine to its last
 abbrev pub pei_evaluations : Catalog → ℕ → ℕ → PeiMachine → PeiMachine → ℕ
@@ -137,8 +135,9 @@ dxe_asked catalog m guid = length (filter (λ number. not (has_number m.started 
 abbrev pub dxe_changes : Catalog → ℕ → ℕ → DxeMachine → ℕ
 dxe_changes catalog fuel zero m = 0
 dxe_changes catalog fuel (suc n) m = elim m.ended [
-  Some end ↦ 0
-  | None ↦ sum_by (dxe_asked catalog (dxe_step catalog fuel m)) (dxe_guids catalog fuel m) + dxe_changes catalog fuel n (dxe_step catalog fuel m) ]
+  | Some end ↦ 0
+  | None ↦ sum_by (dxe_asked catalog (dxe_step catalog fuel m)) (dxe_guids catalog fuel m) + dxe_changes catalog fuel n (dxe_step catalog fuel m)
+]
 
 -- the bound of a run of DXE
 abbrev pub dxe_evaluations : Catalog → ℕ → ℕ → DxeMachine → DxeMachine → ℕ

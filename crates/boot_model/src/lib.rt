@@ -24,7 +24,9 @@ pub use file_type::{
 };
 pub use frame::{BLOCKS, Frame, MOST_FRAMES, REGISTERS, Register};
 pub use image_fault::{ImageCause, ImageFault};
-pub use known_guid::{ARCHITECTURAL, DXE_IPL_PPI, FILE_SYSTEM2, FILE_SYSTEM3, MEMORY_PPI, VOLUME_INFO_PPI};
+pub use known_guid::{
+    ARCHITECTURAL, DXE_IPL_PPI, FILE_SYSTEM2, FILE_SYSTEM3, MEMORY_PPI, VOLUME_INFO_PPI,
+};
 pub use licence::Licence;
 pub use limits::{MOST_DEPTH, MOST_END, MOST_MODULES, MOST_SCRIPT_BYTES, MOST_VOLUMES};
 pub use line::{CORE, CallName, ExpressionWord, Extra, Line, Reason, RunEnd, SHOWN_LEN};

@@ -1,6 +1,6 @@
 -- The pairs that a sweep has still to visit, and the first that fires: the GUID of the descriptor that now stands in the PPI's place is the callback's.
 -- PI 1.8, volume 1, `NotifyPpi()`; the order, PPI by PPI and then by registration, is own.
-use Rattle.std.specs.Prelude.{ℕ, ◌+◌, ◌-◌, Bool, true, false, if◌then◌else◌, nat_le, List, [], ◌∷◌, ◌++◌, map, Option, Some, None, option_map, flat_map, slice_get}
+use Rattle.std.specs.Prelude.{ℕ, ◌+◌, ◌-◌, Bool, false, if◌then◌else◌, nat_le, List, [], ◌∷◌, ◌++◌, map, Option, Some, None, option_map, flat_map, slice_get}
 use Rattle.std.specs.Option.{option_and_then}
 use Rattle.boot_model.specs.declared.store_handle.Sweep.{Sweep}
 use Rattle.boot_model.specs.declared.store_handle.Firing.{Firing}
@@ -22,7 +22,7 @@ abbrev pub pairs_left : Sweep → List (ℕ × ℕ)
 pairs_left sweep =
     if nat_le sweep.ppi_to sweep.ppi_at then []
     else pairs_with sweep sweep.note_at sweep.ppi_at
-      ++ flat_map (pairs_with sweep sweep.note_from) (numbers (sweep.ppi_at + 1) (sweep.ppi_to - sweep.ppi_at - 1))
+    ++ flat_map (pairs_with sweep sweep.note_from) (numbers (sweep.ppi_at + 1) (sweep.ppi_to - sweep.ppi_at - 1))
 
 -- the places of the descriptors that now stand there
 abbrev pub places_at : StoreState → (ℕ × ℕ) → Option (ℕ × ℕ)
