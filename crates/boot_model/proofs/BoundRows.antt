@@ -1,11 +1,10 @@
 -- Worked boots at their bounds: the fuel, the frames, the heap's room and the page region's.
-use Rattle.std.proofs.Common.{◌≡◌, ℕ, Bool, true, false, List, [], ◌∷◌, ◌++◌, Option, Some, None, refl, take}
-use Rattle.std.specs.Prelude.{codes, count_by, drop, length}
+use Rattle.std.proofs.Common.{◌≡◌, ℕ, Bool, true, false, List, [], ◌∷◌, Some, None, refl, take}
+use Rattle.std.specs.Prelude.{codes, count_by, drop}
 use Rattle.std.specs.Fmt.{digits}
 use Rattle.hex.specs.Hex.{encode_with}
 use Rattle.uuid.specs.Text.{by_index}
 use Rattle.pi_base.specs.declared.word.Word.TheVariants.{Success, OutOfResources}
-use Rattle.depex_code.specs.Tree as T
 use Rattle.act_code.specs.declared.action.Action.TheVariants as A
 use Rattle.act_code.specs.declared.action.GuidArg.TheVariants as G
 use Rattle.boot_model.specs.declared.catalog.Module.{Module}

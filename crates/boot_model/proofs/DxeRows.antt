@@ -1,7 +1,7 @@
 -- Worked boots that reach DXE: what is printed, whole, by the definitions.
-use Rattle.std.proofs.Common.{◌≡◌, ℕ, Bool, List, [], ◌∷◌, ◌++◌, Option, Some, None, refl}
+use Rattle.std.proofs.Common.{◌≡◌, ℕ, Bool, List, [], ◌∷◌, ◌++◌, Some, None, refl}
 use Rattle.std.specs.Prelude.{map}
-use Rattle.std.specs.Prelude.{codes, replicate}
+use Rattle.std.specs.Prelude.{codes}
 use Rattle.std.specs.Fmt.{digits}
 use Rattle.hex.specs.Hex.{encode_with}
 use Rattle.uuid.specs.Text.{by_index}
@@ -12,7 +12,6 @@ use Rattle.depex_code.specs.Tree as T
 use Rattle.depex_code.specs.declared.depex.Depex.TheVariants as D
 use Rattle.act_code.specs.declared.action.Action.{Action}
 use Rattle.act_code.specs.declared.action.Action.TheVariants as A
-use Rattle.act_code.specs.declared.action.GuidArg.TheVariants as G
 use Rattle.boot_model.specs.declared.catalog.Catalog.{Catalog}
 use Rattle.boot_model.specs.declared.catalog.Module.{Module}
 use Rattle.boot_model.specs.declared.catalog.PartExpr.{PartExpr}

@@ -1,6 +1,5 @@
 -- No part of PEI starts twice, but one that registered for shadow.
-use Rattle.std.proofs.Common.{◌≡◌, ℕ, zero, suc, ◌+◌, ◌==◌, Bool, true, false, not, ◌&&◌, ◌||◌, cond, List, [], ◌∷◌, ◌++◌, Option, Some, None, refl, sym, ap, ◌∙◌, nat_le, length, Ok, Err}
-use Rattle.std.specs.List.{list_any}
+use Rattle.std.proofs.Common.{◌≡◌, ℕ, zero, suc, ◌+◌, ◌==◌, Bool, true, false, ◌||◌, cond, List, [], ◌∷◌, ◌++◌, Option, Some, None, refl, ◌∙◌, nat_le, length, Ok, Err}
 use Rattle.pi_base.specs.declared.phase.Phase.TheVariants.{Pei}
 use Rattle.boot_model.specs.declared.catalog.Catalog.{Catalog}
 use Rattle.boot_model.specs.declared.catalog.Part.{Part}
@@ -8,17 +7,16 @@ use Rattle.boot_model.specs.declared.line.Line.TheVariants as L
 use Rattle.boot_model.specs.declared.store_handle.Firing.{Firing}
 use Rattle.boot_model.specs.declared.store_handle.Sweep.{Sweep}
 use Rattle.boot_model.specs.Lists.{Each}
-use Rattle.boot_model.specs.StoreState.{StoreState}
 use Rattle.boot_model.specs.Service.{Service}
 use Rattle.boot_model.specs.Service.Install.{core_install}
 use Rattle.boot_model.specs.PeiMachine.{PeiMachine, Spent, Deep, Frame, printed}
 use Rattle.boot_model.specs.Parts.{has_number, part_at}
-use Rattle.boot_model.specs.Eligible.{is_eligible, may_start, may_start_again, licence_at}
+use Rattle.boot_model.specs.Eligible.{is_eligible, may_start, may_start_again}
 use Rattle.boot_model.specs.PeiChoice.{pei_order, rotated, next_peim}
 use Rattle.boot_model.specs.PeiAction.{Effect, Wrote, Called, Shadowed, Logged, Skipped, Returned, effect}
-use Rattle.boot_model.specs.PeiStep.{PeiCase, Fires, Acts, Moves, Pops, Starts, Stops, case_of, in_case, pei_step, fired, callback_begun, acted, action_at, after_effect, shadowed, core_called, started_part}
+use Rattle.boot_model.specs.PeiStep.{PeiCase, Fires, Acts, Moves, Pops, Starts, Stops, case_of, in_case, pei_step, callback_begun, action_at, after_effect, core_called, started_part}
 use Rattle.boot_model.specs.PeiRun.{pei_run, pei_opening}
-use Rattle.boot_model.specs.Licence.{AllDiffer, AreStartedOnce, StartedOnce, StartsAtMostOnce}
+use Rattle.boot_model.specs.Licence.{AreStartedOnce, StartedOnce, StartsAtMostOnce}
 use Rattle.boot_model.proofs.PeiStarts.{found_passes, starts_from, second_start, any_of_both}
 
 fired_keeps : (catalog : Catalog) (m : PeiMachine) (firing : Firing) (sweep : Sweep) (deep : Bool) → StartedOnce m → StartedOnce (cond deep (record m { ended = Some Deep }) (callback_begun catalog m firing sweep))

@@ -2,7 +2,6 @@
 use Rattle.std.proofs.Common.{take-append-drop, ◌≡◌, ℕ, zero, suc, ◌+◌, Bool, true, false, not, ◌&&◌, ◌||◌, cond, List, [], ◌∷◌, ◌++◌, Option, Some, None, refl, sym, ap, subst, ◌∙◌, option_map, is_some, drop, take}
 use Rattle.std.specs.Prelude.{find, map}
 use Rattle.std.specs.List.{list_any}
-use Rattle.pi_base.specs.declared.phase.Phase.TheVariants.{Pei}
 use Rattle.boot_model.specs.declared.catalog.Catalog.{Catalog}
 use Rattle.boot_model.specs.declared.catalog.Part.{Part}
 use Rattle.boot_model.specs.declared.catalog.PartExpr.{PartExpr}
@@ -10,13 +9,13 @@ use Rattle.boot_model.specs.declared.catalog.PartExpr.TheVariants as E
 use Rattle.boot_model.specs.declared.licence.Licence.TheVariants as G
 use Rattle.boot_model.specs.declared.store_handle.Firing.{Firing}
 use Rattle.boot_model.specs.declared.store_handle.Sweep.{Sweep}
-use Rattle.boot_model.specs.StoreState.{StoreState, Range, HobEntry, hob_len, header_len, handoff_len}
+use Rattle.boot_model.specs.StoreState.{StoreState, Range, HobEntry, hob_len, handoff_len}
 use Rattle.boot_model.specs.Migration.{migration, migrated_to, moved_hobs}
 use Rattle.boot_model.specs.PeiMachine.{PeiMachine, Frame}
-use Rattle.boot_model.specs.Parts.{has_number, part_at}
-use Rattle.boot_model.specs.Eligible.{is_eligible, may_start, may_start_again, lets_start, licence_at, licence_by}
+use Rattle.boot_model.specs.Parts.{has_number}
+use Rattle.boot_model.specs.Eligible.{is_eligible, may_start, may_start_again, lets_start, licence_by}
 use Rattle.boot_model.specs.PeiChoice.{pei_order, rotated, next_peim}
-use Rattle.boot_model.specs.PeiStep.{PeiCase, Fires, Acts, Moves, Pops, Starts, Stops, case_of, first_that_applies, acts, pei_step}
+use Rattle.boot_model.specs.PeiStep.{Fires, Moves, Pops, Starts, Stops, first_that_applies, acts, pei_step}
 use Rattle.boot_model.specs.PeiRun.{pei_opening}
 use Rattle.boot_model.specs.Licence.{IsLicensed, StartsLicensed, IsUnchanged, MovesUnchanged, StopsIdle, IsLicensedStep, AlongRun, IsLicensedRun}
 

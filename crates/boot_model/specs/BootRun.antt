@@ -1,6 +1,6 @@
 -- A whole boot: PEI to its end, and DXE where PEI handed off. Its lines are those of both, the lists of the last store, the handles, and the result.
 -- Own.
-use Rattle.std.specs.Prelude.{ℕ, List, [], ◌∷◌, ◌++◌, length, map, Option, Some, None, option_map, unwrap_or}
+use Rattle.std.specs.Prelude.{ℕ, List, [], ◌∷◌, ◌++◌, length, map, Option, Some, None}
 use Rattle.boot_model.specs.declared.catalog.Catalog.{Catalog}
 use Rattle.boot_model.specs.declared.line.Line.{Line}
 use Rattle.boot_model.specs.declared.line.Line.TheVariants as L

@@ -1,7 +1,6 @@
 -- What an action of a DXE script does: it writes registers, calls a service, logs, skips or returns. A refusal changes nothing but the last status.
 -- PI 1.8, volume 2, "Protocol Handler Services" and "DXE Services"; the actions and their operands are own.
-use Rattle.std.specs.Prelude.{ℕ, zero, suc, ◌+◌, ◌%◌, ◌^◌, Bool, ◌&&◌, if◌then◌else◌, List, [], ◌∷◌, ◌++◌, length, Option, Some, None, option_map, find, slice_set, Ok, Err}
-use Rattle.std.specs.Option.{option_and_then}
+use Rattle.std.specs.Prelude.{ℕ, zero, suc, ◌+◌, ◌%◌, ◌^◌, ◌&&◌, if◌then◌else◌, List, [], ◌∷◌, ◌++◌, length, Option, Some, None, option_map, find, slice_set, Ok, Err}
 use Rattle.pi_base.specs.declared.guid.Guid.{Guid}
 use Rattle.pi_base.specs.declared.word.Word.{Word}
 use Rattle.pi_base.specs.declared.word.Word.TheVariants.{Success, InvalidParameter, NotFound, AlreadyStarted}
@@ -16,7 +15,7 @@ use Rattle.boot_model.specs.FileType.{same_guid}
 use Rattle.boot_model.specs.MemoryReading.{bytes_at}
 use Rattle.boot_model.specs.HandleState.{HandleState, HandleService, install_interface, reinstall_interface, uninstall_interface, locate_handle}
 use Rattle.boot_model.specs.PeiMachine.{Register, Number, HandleIn}
-use Rattle.boot_model.specs.DxeMachine.{DxeMachine, DriverFrame, ProtocolSweep, ProtocolNote}
+use Rattle.boot_model.specs.DxeMachine.{DxeMachine, DriverFrame, ProtocolSweep}
 use Rattle.boot_model.specs.DxeChoice.{waiting, is_unrequested, a_priori_drivers}
 use Rattle.boot_model.specs.Parts.{has_number, module_name, volume_at}
 use Rattle.boot_model.specs.Reporting.{newcomers}

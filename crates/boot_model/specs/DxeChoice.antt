@@ -1,7 +1,7 @@
 -- The next driver: the head of the scheduled queue; where it is empty, the first of the group of the first eligible driver in discovered order.
 -- A driver whose BEFORE or AFTER names another is its companion: it is never eligible by itself, and comes with the group of the driver that it names.
 -- PI 1.8, volume 2, "DXE Dispatcher", "Dependency Expressions" and "A Priori File"; the order of companions is own.
-use Rattle.std.specs.Prelude.{ℕ, zero, suc, Bool, true, false, ◌==◌, ◌&&◌, not, List, [], ◌∷◌, ◌++◌, length, map, Option, Some, None, option_map, filter, find, flat_map}
+use Rattle.std.specs.Prelude.{ℕ, zero, suc, Bool, false, ◌==◌, ◌&&◌, not, List, [], ◌∷◌, ◌++◌, length, map, Option, Some, None, filter, find, flat_map}
 use Rattle.std.specs.Option.{option_and_then}
 use Rattle.std.specs.List.{list_any, list_all}
 use Rattle.pi_base.specs.declared.guid.Guid.{Guid}

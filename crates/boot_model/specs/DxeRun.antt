@@ -1,7 +1,7 @@
 -- A run of DXE: the machines from the hand-off on, each the step of the one before it, up to the one that has ended.
 -- At the opening the volumes of the FV HOBs have just been discovered, and the actions of PEI are counted.
 -- Own; PI 1.8, volume 2, leaves the run to the dispatcher.
-use Rattle.std.specs.Prelude.{◌≡◌, ℕ, zero, suc, ◌+◌, ◌*◌, true, List, [], ◌∷◌, length, Option, Some, None, is_some}
+use Rattle.std.specs.Prelude.{◌≡◌, ℕ, zero, suc, ◌+◌, ◌*◌, true, List, [], ◌∷◌, length, Some, None, is_some}
 use Rattle.boot_model.specs.declared.catalog.Catalog.{Catalog}
 use Rattle.boot_model.specs.declared.frame.TheConstants.{MOST_FRAMES}
 use Rattle.boot_model.specs.StoreState.{StoreState}

@@ -1,7 +1,7 @@
 -- One step of the boot machine in DXE: the first of its cases that applies. A notification of the top frame's sweep begins; else the top frame takes its next action.
 -- Where no script runs, the next driver starts; else DXE stops.
 -- PI 1.8, volume 2, "DXE Dispatcher"; the frames and their bounds are own.
-use Rattle.std.specs.Prelude.{ℕ, ◌+◌, ◌-◌, Bool, true, false, if◌then◌else◌, List, [], ◌∷◌, ◌++◌, Option, Some, None, option_map, slice_get, unwrap_or, length, nat_le, map, filter, find, flat_map}
+use Rattle.std.specs.Prelude.{ℕ, ◌+◌, ◌-◌, Bool, false, if◌then◌else◌, List, [], ◌∷◌, Option, Some, None, option_map, slice_get, unwrap_or, length, nat_le, map, find}
 use Rattle.std.specs.Option.{option_and_then}
 use Rattle.pi_base.specs.declared.phase.Phase.TheVariants.{Dxe}
 use Rattle.pi_base.specs.declared.word.Word.TheVariants.{Success}
@@ -22,7 +22,7 @@ use Rattle.boot_model.specs.FileType.{same_guid}
 use Rattle.boot_model.specs.Lists.{numbers}
 use Rattle.boot_model.specs.PeiMachine.{no_registers}
 use Rattle.boot_model.specs.PeiStep.{start_lines}
-use Rattle.boot_model.specs.DxeMachine.{DxeMachine, DxeOutcome, Stopped, DxeSpent, DxeDeep, DriverFrame, ProtocolSweep, ProtocolNote, Scheduled, driver_frame, protocol_frame, dxe_printed}
+use Rattle.boot_model.specs.DxeMachine.{DxeMachine, Stopped, DxeSpent, DxeDeep, DriverFrame, ProtocolSweep, ProtocolNote, Scheduled, driver_frame, protocol_frame, dxe_printed}
 use Rattle.boot_model.specs.DxeChoice.{next_driver, waiting, is_unrequested}
 use Rattle.boot_model.specs.DxeAction.{DxeReply, DxeEffect, DxeWrote, DxeCalled, DxeLogged, DxeSkipped, DxeReturned, dxe_effect}
 use Rattle.boot_model.specs.Discovery.{discovery_lines}

@@ -1,19 +1,16 @@
 -- How many evaluations of expressions a phase may take: one for each part of a volume that is reported or discovered, and, for each GUID of which an event may have changed whether it is installed, one for each waiting part whose expression pushes that GUID.
 -- The events are a successful install or reinstall, the core's install, and in DXE a successful install or uninstall.
 -- Own.
-use Rattle.std.specs.Prelude.{ℕ, zero, suc, ◌+◌, Bool, true, false, ◌&&◌, ◌||◌, not, if◌then◌else◌, nat_le, List, [], ◌∷◌, ◌++◌, length, map, filter, sum_by, Option, Some, None, Result, Ok, Err, unwrap_or, option_map}
+use Rattle.std.specs.Prelude.{ℕ, zero, suc, ◌+◌, Bool, false, ◌&&◌, ◌||◌, not, if◌then◌else◌, nat_le, List, [], ◌∷◌, ◌++◌, length, map, filter, sum_by, Some, None, Ok, Err, unwrap_or, option_map}
 use Rattle.std.specs.Option.{option_to_list}
-use Rattle.std.specs.Prelude.{flat_map}
 use Rattle.pi_base.specs.declared.guid.Guid.{Guid}
 use Rattle.pi_base.specs.declared.phase.Phase.{Phase}
 use Rattle.pi_base.specs.declared.phase.Phase.TheVariants.{Pei, Dxe}
 use Rattle.depex_code.specs.Tree.{DepexTree, True, False, Push, Not, And, Or}
-use Rattle.depex_code.specs.declared.depex.Depex.{Depex}
 use Rattle.depex_code.specs.declared.depex.Depex.TheVariants as D
 use Rattle.act_code.specs.declared.action.Action.{Action}
 use Rattle.act_code.specs.declared.action.Action.TheVariants as A
 use Rattle.boot_model.specs.declared.catalog.Catalog.{Catalog}
-use Rattle.boot_model.specs.declared.catalog.Part.{Part}
 use Rattle.boot_model.specs.declared.catalog.PartExpr.{PartExpr}
 use Rattle.boot_model.specs.declared.catalog.PartExpr.TheVariants as E
 use Rattle.boot_model.specs.declared.known_guid.TheConstants.{MEMORY_PPI}

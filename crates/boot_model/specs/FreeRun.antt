@@ -1,7 +1,7 @@
 -- A run in which the dispatchers choose freely: any eligible PEIM may start in the place of the first, and any eligible driver, with its group, in the place of the first.
 -- Every other step is that of the machine.
 -- PI 1.8, volumes 1 and 2, leave the order to the dispatchers.
-use Rattle.std.specs.Prelude.{◌≡◌, ℕ, Bool, true, List, [], ◌∷◌, Option, Some, None, is_some, ⊤}
+use Rattle.std.specs.Prelude.{◌≡◌, ℕ, true, List, [], ◌∷◌, Some, None, is_some}
 use Rattle.pi_base.specs.declared.phase.Phase.TheVariants.{Dxe}
 use Rattle.boot_model.specs.declared.catalog.Catalog.{Catalog}
 use Rattle.boot_model.specs.Parts.{has_number, part_at}

@@ -1,7 +1,7 @@
 -- The bytes of the heap: the hand-off HOB, each HOB with its nodes, descriptors and pages spelled at the heap's base, the end HOB, and zeros.
 -- A node is four numbers: the address of the next node of its list or 0, that of its descriptor, that of the PPI's descriptor in a queued pair or 0, and the number of the module.
 -- PI 1.8, volume 3 (`EFI_HOB_GENERIC_HEADER` and its HOBs) and volume 1 (`EFI_PEI_PPI_DESCRIPTOR`); the nodes are own.
-use Rattle.std.specs.Prelude.{◌≡◌, ℕ, ◌+◌, ◌-◌, ◌==◌, if◌then◌else◌, List, [], ◌∷◌, ◌++◌, length, replicate, Option, Some, None}
+use Rattle.std.specs.Prelude.{ℕ, ◌+◌, ◌-◌, ◌==◌, if◌then◌else◌, List, [], ◌∷◌, ◌++◌, length, replicate, Option, Some, None}
 use Rattle.pi_base.specs.Field.{little_bytes}
 use Rattle.hob_codec.specs.declared.kind.TheConstants.{HANDOFF, END}
 use Rattle.hob_codec.specs.declared.hob.Handoff.{Handoff}

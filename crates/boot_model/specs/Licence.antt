@@ -1,7 +1,7 @@
 -- What holds of every run: no part starts twice but a PEIM that registered for shadow; each start has its licence; the move changes no list; PEI and DXE stop only where no part may start.
 -- A PEIM's licence is one in the machine before its start, a driver's in the machine in which it was scheduled.
 -- PI 1.8, volumes 1 and 2, "PEI Dispatcher" and "DXE Dispatcher".
-use Rattle.std.specs.Prelude.{◌≡◌, ◌≢◌, ◌⊎◌, ℕ, ◌==◌, zero, suc, Bool, true, false, List, [], ◌∷◌, map, Option, Some, None, is_some, ⊤}
+use Rattle.std.specs.Prelude.{◌≡◌, ℕ, ◌==◌, zero, suc, true, false, List, [], ◌∷◌, map, Option, Some, None, is_some, ⊤}
 use Rattle.std.specs.List.{list_any, list_all}
 use Rattle.pi_base.specs.declared.guid.Guid.{Guid}
 use Rattle.pi_base.specs.declared.phase.Phase.TheVariants.{Pei, Dxe}
@@ -13,7 +13,7 @@ use Rattle.boot_model.specs.declared.known_guid.TheConstants.{ARCHITECTURAL}
 use Rattle.boot_model.specs.declared.licence.Licence.{Licence}
 use Rattle.boot_model.specs.declared.licence.Licence.TheVariants as G
 use Rattle.boot_model.specs.Lists.{Each}
-use Rattle.boot_model.specs.StoreState.{StoreState, Board, hob_len}
+use Rattle.boot_model.specs.StoreState.{StoreState, Board}
 use Rattle.boot_model.specs.Service.Install.{has_ppi}
 use Rattle.boot_model.specs.HandleState.{has_protocol}
 use Rattle.boot_model.specs.Parts.{has_number, part_at}
@@ -53,7 +53,7 @@ IsLicensed m number part G.After = ⊥
 abbrev pub StartsLicensed : Catalog → PeiMachine → Type 0
 StartsLicensed catalog m = (number : ℕ) (part : Part) → case_of catalog m ≡ Starts number → part_at Pei catalog number ≡ Some part → IsLicensed m number part (licence_at m number part)
 
--- what a move leaves: the lists, the types and lengths of the HOBs in order, and every other number but the spans
+-- what a move leaves: the lists, the types of the HOBs in order, and every other number but the spans
 pub record IsUnchanged (old new : StoreState) : Type 0 where
   pub ppis : new.ppis ≡ old.ppis
   pub callbacks : new.callbacks ≡ old.callbacks

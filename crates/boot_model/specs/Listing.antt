@@ -1,11 +1,10 @@
 -- The lists that are printed after a run, each after its count: PPIs, callbacks, dispatch notifications, queued pairs and HOBs of the last state.
 -- Own.
-use Rattle.std.specs.Prelude.{ℕ, ◌+◌, ◌/◌, ◌%◌, List, [], ◌∷◌, ◌++◌, length, map, Option, Some, None}
+use Rattle.std.specs.Prelude.{ℕ, ◌+◌, ◌/◌, ◌%◌, List, [], ◌∷◌, ◌++◌, length, map}
 use Rattle.hob_codec.specs.declared.kind.TheConstants.{HANDOFF}
 use Rattle.boot_model.specs.declared.frame.TheConstants.{BLOCKS}
 use Rattle.boot_model.specs.declared.line.Line.{Line}
 use Rattle.boot_model.specs.declared.line.Line.TheVariants as L
-use Rattle.boot_model.specs.declared.line.RunEnd.{RunEnd}
 use Rattle.boot_model.specs.StoreState.{StoreState, Entry, Pending, HobEntry, hob_len, header_len, handoff_len}
 use Rattle.boot_model.specs.HeapImage.{handoff_body, body_bytes}
 use Rattle.boot_model.specs.Service.Descriptor.{guid_at, number_at}

@@ -1,7 +1,7 @@
 -- What memory reads: a volume's bytes; temporary RAM before the move, which is the heap and then zeros in the page region; RAM, which is the heap after the move and zeros elsewhere.
 -- Bytes are read only where all of them lie in one of these.
 -- Own; the modelled memory is no part of PI.
-use Rattle.std.specs.Prelude.{ℕ, ◌-◌, if◌then◌else◌, List, [], ◌∷◌, length, map, Option, Some, None, unwrap_or, slice_get}
+use Rattle.std.specs.Prelude.{ℕ, ◌-◌, if◌then◌else◌, List, [], ◌∷◌, map, Option, Some, None, unwrap_or, slice_get}
 use Rattle.phys_mem.specs.Region.{is_inside, part_of}
 use Rattle.boot_model.specs.Lists.{numbers}
 use Rattle.boot_model.specs.StoreState.{Range, Rom, StoreState}

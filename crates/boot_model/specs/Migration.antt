@@ -1,7 +1,7 @@
 -- The move to permanent memory: the heap is at another base, and the early pages at the new heap's end. What names a place of the old heap or the page region names the same place of the new.
 -- A descriptor that nothing names is forgotten: its pool keeps the bytes that it had. No list, order, GUID or entry changes.
 -- PI 1.8, volume 1, "Installing PEI Memory" and `EFI_PEI_TEMPORARY_RAM_SUPPORT_PPI`; which numbers are shifted is own.
-use Rattle.std.specs.Prelude.{ℕ, ◌+◌, ◌-◌, true, false, if◌then◌else◌, nat_le, nat_lt, ◌&&◌, List, [], ◌∷◌, Option, Some, None, option_map}
+use Rattle.std.specs.Prelude.{ℕ, ◌+◌, ◌-◌, true, if◌then◌else◌, nat_le, nat_lt, ◌&&◌, List, [], ◌∷◌, Option, None, option_map}
 use Rattle.boot_model.specs.declared.store_handle.DescKind.{DescKind}
 use Rattle.boot_model.specs.declared.store_handle.DescKind.TheVariants.{Ppi, Callback, Dispatch}
 use Rattle.boot_model.specs.StoreState.{Range, DescriptorBody, Body, Bytes, Descriptor, Node, Allocation, HobEntry, StoreState, hob_len, header_len, handoff_len}

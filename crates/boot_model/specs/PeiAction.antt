@@ -2,7 +2,6 @@
 -- PI 1.8, volume 1, "PEI Services"; the actions and their operands are own.
 use Rattle.std.specs.Prelude.{ℕ, zero, suc, ◌+◌, ◌*◌, ◌%◌, ◌^◌, Bool, ◌==◌, ◌||◌, ◌&&◌, not, if◌then◌else◌, nat_le, nat_lt, List, [], ◌∷◌, Option, Some, None, option_map, slice_set, Ok, Err}
 use Rattle.std.specs.Option.{option_and_then}
-use Rattle.pi_base.specs.declared.guid.Guid.{Guid}
 use Rattle.pi_base.specs.declared.word.Word.{Word}
 use Rattle.pi_base.specs.declared.word.Word.TheVariants.{Success, InvalidParameter, NotFound, OutOfResources, NotAvailableYet}
 use Rattle.hob_codec.specs.HobValue.{HobValue}
@@ -19,7 +18,6 @@ use Rattle.boot_model.specs.declared.line.Extra.TheVariants as X
 use Rattle.boot_model.specs.declared.store_handle.DescKind.{DescKind}
 use Rattle.boot_model.specs.declared.store_handle.DescKind.TheVariants.{Ppi, Callback, Dispatch}
 use Rattle.boot_model.specs.declared.store_handle.Desc.{Desc}
-use Rattle.boot_model.specs.declared.store_handle.Pool.{Pool}
 use Rattle.boot_model.specs.declared.store_handle.Sweep.{Sweep}
 use Rattle.boot_model.specs.declared.store_handle.GuidFrom.{GuidFrom}
 use Rattle.boot_model.specs.declared.store_handle.GuidFrom.TheVariants.{Inline, At}

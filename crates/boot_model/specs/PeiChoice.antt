@@ -1,7 +1,7 @@
 -- The next PEIM: the first eligible part of the PEI order, read from the cursor to the end and then from the front to the cursor. The cursor stands behind the PEIM started last.
 -- The order is the volumes as they were reported; in a volume the a priori files in list order, then the others by place.
 -- PI 1.8, volume 1, "PEI Dispatcher" and "A Priori File"; the rotation is own.
-use Rattle.std.specs.Prelude.{ℕ, ◌+◌, Bool, true, false, ◌==◌, if◌then◌else◌, List, [], ◌∷◌, ◌++◌, Option, Some, None, is_none, filter, find, take, drop, length, flat_map}
+use Rattle.std.specs.Prelude.{ℕ, ◌+◌, Bool, false, ◌==◌, if◌then◌else◌, List, [], ◌∷◌, ◌++◌, Option, Some, None, is_none, filter, find, take, drop, length, flat_map}
 use Rattle.pi_base.specs.declared.phase.Phase.TheVariants.{Pei}
 use Rattle.boot_model.specs.declared.catalog.Catalog.{Catalog}
 use Rattle.boot_model.specs.Lists.{numbers}

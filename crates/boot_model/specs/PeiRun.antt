@@ -1,7 +1,7 @@
 -- A run of PEI: the machines from the opening on, each the step of the one before it, up to the one that has ended.
 -- At the opening volume 0 and the volumes nested in it have just been reported, and the heap holds the hand-off HOB alone.
 -- Own; PI 1.8, volume 1, leaves the run to the dispatcher.
-use Rattle.std.specs.Prelude.{◌≡◌, ℕ, zero, suc, ◌+◌, ◌*◌, true, List, [], ◌∷◌, length, Option, Some, None, is_some}
+use Rattle.std.specs.Prelude.{◌≡◌, ℕ, zero, suc, ◌+◌, ◌*◌, true, List, [], ◌∷◌, length, Some, None, is_some}
 use Rattle.boot_model.specs.declared.catalog.Catalog.{Catalog}
 use Rattle.boot_model.specs.declared.frame.TheConstants.{MOST_FRAMES}
 use Rattle.boot_model.specs.StoreState.{Board, empty_store}

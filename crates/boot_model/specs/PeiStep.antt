@@ -1,10 +1,9 @@
 -- One step of the boot machine in PEI: the first of its cases that applies. A pair of the open sweep that fires begins a callback; else the top frame takes its next action.
 -- Where no script runs and no sweep is open, memory moves if it is due; else the first queued pair leaves the queue and runs; else the next PEIM starts; else PEI stops.
 -- PI 1.8, volume 1, "PEI Dispatcher", `NotifyPpi()`, "Installing PEI Memory"; the frames and their bounds are own.
-use Rattle.std.specs.Prelude.{ℕ, ◌+◌, ◌/◌, ◌%◌, Bool, true, false, ◌&&◌, not, if◌then◌else◌, List, [], ◌∷◌, ◌++◌, Option, Some, None, option_map, slice_get, unwrap_or, Ok, Err, length, nat_le, map}
+use Rattle.std.specs.Prelude.{ℕ, ◌+◌, ◌/◌, ◌%◌, ◌&&◌, not, if◌then◌else◌, List, [], ◌∷◌, ◌++◌, Option, Some, None, option_map, slice_get, unwrap_or, Ok, Err, length, nat_le, map}
 use Rattle.std.specs.Option.{option_and_then, option_to_list}
 use Rattle.std.specs.Prelude.{flat_map}
-use Rattle.pi_base.specs.declared.guid.Guid.{Guid}
 use Rattle.pi_base.specs.declared.phase.Phase.TheVariants.{Pei}
 use Rattle.pi_base.specs.declared.word.Word.TheVariants.{Success, AlreadyStarted}
 use Rattle.act_code.specs.declared.action.Action.{Action}

@@ -1,7 +1,6 @@
 -- What registers hold, and what an action asks of them. A register of the wrong kind is no answer.
 -- Own; the profile of the action scripts.
 use Rattle.std.specs.Prelude.{ℕ, ◌==◌, Bool, true, false, if◌then◌else◌, List, [], ◌∷◌, Option, Some, None, option_map, slice_get, unwrap_or}
-use Rattle.std.specs.Option.{option_and_then}
 use Rattle.pi_base.specs.declared.word.Word.{Word}
 use Rattle.pi_base.specs.declared.word.Word.TheVariants.{Success, InvalidParameter, NotFound, OutOfResources, NotAvailableYet, AlreadyStarted, AccessDenied}
 use Rattle.boot_model.specs.declared.store_handle.Desc.{Desc}

@@ -1,6 +1,6 @@
 -- What holds of every state of a store: each entry names a node of its own and a descriptor of its list's kind, and all of it has room.
 -- Own; the state that stands for linked nodes in byte memory.
-use Rattle.std.specs.Prelude.{◌≡◌, ◌≢◌, ◌⊎◌, ℕ, ◌+◌, ◌<◌, ◌≤◌, Bool, true, false, List, [], ◌∷◌, ◌++◌, length, map, Option, Some, None, AllPairs, IfSome, ⊤}
+use Rattle.std.specs.Prelude.{◌≡◌, ◌≢◌, ℕ, ◌+◌, ◌<◌, ◌≤◌, Bool, true, false, List, ◌++◌, length, map, Option, Some, None, AllPairs, IfSome, ⊤}
 use Rattle.hob_codec.specs.declared.kind.TheConstants.{POOL, ALLOCATION}
 use Rattle.boot_model.specs.declared.store_handle.DescKind.{DescKind}
 use Rattle.boot_model.specs.declared.store_handle.DescKind.TheVariants.{Ppi, Callback, Dispatch}
@@ -9,7 +9,7 @@ use Rattle.boot_model.specs.declared.store_handle.Pool.{Pool}
 use Rattle.boot_model.specs.declared.store_handle.Sweep.{Sweep}
 use Rattle.boot_model.specs.declared.limits.TheConstants.{MOST_END}
 use Rattle.boot_model.specs.Lists.{Each}
-use Rattle.boot_model.specs.StoreState.{StoreState, Board, Range, Entry, Pending, DescriptorBody, Body, Bytes, Descriptor, Node, Allocation, HobEntry, body_at, end_place, header_len, handoff_len, page_bytes}
+use Rattle.boot_model.specs.StoreState.{StoreState, Board, Range, Entry, Pending, DescriptorBody, Body, Bytes, Descriptor, Node, Allocation, body_at, end_place, header_len, handoff_len, page_bytes}
 use Rattle.boot_model.specs.MemoryReading.{rom_bytes}
 
 abbrev pub IsNodeAt : StoreState → ℕ → Type 0

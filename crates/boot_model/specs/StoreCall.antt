@@ -1,6 +1,6 @@
 -- What the calls of a store need of its state, and what those say that answer by more than a value.
 -- Own.
-use Rattle.std.specs.Prelude.{◌≡◌, ◌⊎◌, ℕ, ◌≤◌, Bool, true, false, List, length, Option, Some, None, is_some, Result, Ok, Err, ⊤}
+use Rattle.std.specs.Prelude.{◌≡◌, ◌⊎◌, ℕ, ◌≤◌, Bool, true, false, List, length, Option, Some, None, is_some, ⊤}
 use Rattle.hob_codec.specs.HobValue.{HobValue, HandoffHob, AllocationHob, ResourceHob, NamedHob, VolumeHob, CpuHob, PoolHob, Volume2Hob, OtherHob}
 use Rattle.hob_codec.specs.HobBytes.{length_of}
 use Rattle.boot_model.specs.declared.store_handle.Firing.{Firing}

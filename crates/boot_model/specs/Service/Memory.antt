@@ -5,7 +5,7 @@ use Rattle.std.specs.Prelude.{ℕ, ◌+◌, ◌-◌, ◌*◌, ◌%◌, Bool, ◌
 use Rattle.hob_codec.specs.declared.kind.TheConstants.{ALLOCATION}
 use Rattle.phys_mem.specs.Region.{is_inside}
 use Rattle.boot_model.specs.declared.store_handle.StoreFault.TheVariants.{Full, NotYet}
-use Rattle.boot_model.specs.StoreState.{HobEntry, Allocation, StoreState, appended, free}
+use Rattle.boot_model.specs.StoreState.{HobEntry, Allocation, StoreState, appended}
 use Rattle.boot_model.specs.Service.{Service, in_room, unless_bad}
 
 -- the bytes of a page, and of an allocation HOB

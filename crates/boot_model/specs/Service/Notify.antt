@@ -1,6 +1,6 @@
 -- Registering notifications. Each takes a node; so does each pair of a PPI and a new dispatch notification of its GUID, which is queued.
 -- PI 1.8, volume 1, `NotifyPpi()`.
-use Rattle.std.specs.Prelude.{ℕ, ◌+◌, ◌-◌, not, List, [], ◌∷◌, ◌++◌, length, Ok, filter, fold}
+use Rattle.std.specs.Prelude.{ℕ, ◌+◌, not, List, [], ◌∷◌, ◌++◌, length, Ok, filter, fold}
 use Rattle.std.specs.List.{list_any}
 use Rattle.boot_model.specs.declared.store_handle.DescKind.{DescKind}
 use Rattle.boot_model.specs.declared.store_handle.DescKind.TheVariants.{Ppi, Callback, Dispatch}
