@@ -29,8 +29,8 @@ expression_word Absent = V.Absent
 expression_word (Malformed at) = V.Malformed at
 expression_word (Held (Before name)) = V.Before name
 expression_word (Held (After name)) = V.After name
-expression_word (Held (Expr true tree)) = V.Sor
-expression_word (Held (Expr false tree)) = V.Tree
+expression_word (Held (Expr true _)) = V.Sor
+expression_word (Held (Expr false _)) = V.Tree
 
 -- and a part
 abbrev pub part_word : Option Part → ExpressionWord
