@@ -15,14 +15,16 @@ use Rattle.boot_core.specs.declared.command_line.Command.TheVariants.{Boot, Audi
 use Rattle.boot_core.specs.CommandLine.{AskFor, AskForNothing, verb_of}
 use Rattle.boot_core.specs.FileReading.{IsRead, IsLong, LongOutcome, LongVolume, AreImages, IsVolumeName}
 use Rattle.boot_core.specs.Outcome.{Outcome, PlanOutcome, TextOutcome, TextNames, VolumesOutcome, ImagesOutcome, CatalogOutcome, Trail, Kind, OfFiles, OfSink, OfMemory, OfAnswer, Ends, EndsBy, Answered, kind_of, words_usage, words_ask, plan_long, plan_file, plan_refused, plan_read, volume_long, volumes_read, image_refused, images_sound, audited, booted, not_built}
-use Rattle.boot_core.specs.Causes.{AreTold, LeadsTo, IsStopped, ComesExactly}
+use Rattle.boot_core.specs.Causes.{AreTold, IsToldAsBytes, LeadsTo, IsStopped, ComesExactly}
+use Rattle.boot_model.specs.Lists.{Each}
+use Rattle.pi_base.specs.Field.{AreBytes}
 
 -- the laws of plans and images: a text has one plan, and never a fault beside it; images have one catalogue, and never a fault beside it
 pub record Laws : Type 0 where
   pub plans : (text : List ℕ) (a b : Plan) → IsPlan text a → IsPlan text b → a ≡ b
   pub plan_or_fault : (text : List ℕ) (plan : Plan) (fault : PlanFault) → IsPlan text plan → IsPlanFault text fault → ⊥
   pub catalogues : (plan : Plan) (images : List (List ℕ)) (a b : Catalog) → IsCatalogue plan images a → IsCatalogue plan images b → a ≡ b
-  pub catalogue_or_fault : (plan : Plan) (images : List (List ℕ)) (catalog : Catalog) (fault : ImageFault) → IsCatalogue plan images catalog → IsImageFault plan images fault → ⊥
+  pub catalogue_or_fault : (plan : Plan) (images : List (List ℕ)) (catalog : Catalog) (fault : ImageFault) → Each AreBytes images → IsCatalogue plan images catalog → IsImageFault plan images fault → ⊥
 
 -- a told content is one
 one_content : (told : Option (List ℕ)) → IsSome told → (c d : List ℕ) → IsTold told c → IsTold told d → c ≡ d
@@ -37,13 +39,29 @@ within_or_over told limit some c d long read =
 
 -- the files of some volumes are told
 abbrev VolumesTold : (List ℕ → Option (List ℕ)) → List PlanVolume → Type 0
-VolumesTold told volumes = (name : List ℕ) → IsVolumeName volumes name → IsSome (told name)
+VolumesTold told volumes = (name : List ℕ) → IsVolumeName volumes name → IsToldAsBytes (told name)
 
 name_behind : (volume : PlanVolume) (volumes : List PlanVolume) (name : List ℕ) → IsVolumeName volumes name → IsVolumeName (volume ∷ volumes) name
 name_behind volume volumes name o = record { before = volume ∷ o.before; volume = o.volume; behind = o.behind; these = ap (λ vs. volume ∷ vs) o.these; is = o.is }
 
-first_told : (told : List ℕ → Option (List ℕ)) (volume : PlanVolume) (volumes : List PlanVolume) → VolumesTold told (volume ∷ volumes) → IsSome (told volume.name)
+first_told : (told : List ℕ → Option (List ℕ)) (volume : PlanVolume) (volumes : List PlanVolume) → VolumesTold told (volume ∷ volumes) → IsToldAsBytes (told volume.name)
 first_told told volume volumes all = all volume.name (record { before = []; volume = volume; behind = volumes; these = refl; is = refl })
+
+some_told : (told : Option (List ℕ)) → IsToldAsBytes told → IsSome told
+some_told None none = absurd none
+some_told (Some content) are = refl
+
+told_bytes : (told : Option (List ℕ)) → IsToldAsBytes told → (content : List ℕ) → IsTold told content → AreBytes content
+told_bytes None none content is = absurd none
+told_bytes (Some told) are content is = subst AreBytes is are
+
+-- told images are of bytes
+images_bytes : (told : List ℕ → Option (List ℕ)) (volumes : List PlanVolume) → VolumesTold told volumes → (images : List (List ℕ)) → AreImages told volumes images → Each AreBytes images
+images_bytes told [] all [] read = tt
+images_bytes told [] all (image ∷ images) read = absurd read
+images_bytes told (volume ∷ volumes) all [] read = absurd read
+images_bytes told (volume ∷ volumes) all (image ∷ images) read =
+    (told_bytes (told volume.name) (first_told told volume volumes all) image read.0.as_told, images_bytes told volumes (λ n o. all n (name_behind volume volumes n o)) images read.1)
 
 -- told files have one list of images
 one_images : (told : List ℕ → Option (List ℕ)) (volumes : List PlanVolume) → VolumesTold told volumes → (a b : List (List ℕ)) → AreImages told volumes a → AreImages told volumes b → a ≡ b
@@ -53,7 +71,7 @@ one_images told [] all (x ∷ a) b p q = absurd p
 one_images told (volume ∷ volumes) all [] b p q = absurd p
 one_images told (volume ∷ volumes) all (x ∷ a) [] p q = absurd q
 one_images told (volume ∷ volumes) all (x ∷ a) (y ∷ b) p q =
-    let first : x ≡ y = one_content (told volume.name) (first_told told volume volumes all) x y p.0.as_told q.0.as_told in
+    let first : x ≡ y = one_content (told volume.name) (some_told (told volume.name) (first_told told volume volumes all)) x y p.0.as_told q.0.as_told in
     let rest : a ≡ b = one_images told volumes (λ n o. all n (name_behind volume volumes n o)) a b p.1 q.1 in
     ap (λ z. z ∷ a) first ∙ ap (λ zs. y ∷ zs) rest
 
@@ -86,17 +104,17 @@ status_of_catalog command plan catalog a b s t (not_built c built p x) (audited 
 status_of_catalog command plan catalog a b s t (not_built c built p x) (booted d other q y) = absurd (true≢false (sym other ∙ built))
 status_of_catalog command plan catalog a b s t (not_built c built p x) (not_built d again q y) = p ∙ sym q
 
-status_of_images : Laws → (command : Command) (plan : Plan) (images : List (List ℕ)) (a b : Status) (s t : List ℕ) → ImagesOutcome command plan images a s → ImagesOutcome command plan images b t → a ≡ b
-status_of_images laws command plan images a b s t (image_refused f is p x) (image_refused g also q y) = p ∙ sym q
-status_of_images laws command plan images a b s t (image_refused f is p x) (images_sound c sound o) = absurd (laws.catalogue_or_fault plan images c f sound is)
-status_of_images laws command plan images a b s t (images_sound c sound o) (image_refused f is q y) = absurd (laws.catalogue_or_fault plan images c f sound is)
-status_of_images laws command plan images a b s t (images_sound c sound o) (images_sound d also u) =
+status_of_images : Laws → (command : Command) (plan : Plan) (images : List (List ℕ)) → Each AreBytes images → (a b : Status) (s t : List ℕ) → ImagesOutcome command plan images a s → ImagesOutcome command plan images b t → a ≡ b
+status_of_images laws command plan images are a b s t (image_refused f is p x) (image_refused g also q y) = p ∙ sym q
+status_of_images laws command plan images are a b s t (image_refused f is p x) (images_sound c sound o) = absurd (laws.catalogue_or_fault plan images c f are sound is)
+status_of_images laws command plan images are a b s t (images_sound c sound o) (image_refused f is q y) = absurd (laws.catalogue_or_fault plan images c f are sound is)
+status_of_images laws command plan images are a b s t (images_sound c sound o) (images_sound d also u) =
     let P : Catalog → Type 0 = λ x. CatalogOutcome command plan x b t in
     status_of_catalog command plan c a b s t o (subst P (laws.catalogues plan images d c also sound) u)
 
 long_told : (told : List ℕ → Option (List ℕ)) (volumes : List PlanVolume) (status : Status) (text : List ℕ) → VolumesTold told volumes → LongVolume told volumes status text → (images : List (List ℕ)) → AreImages told volumes images → ⊥
 long_told told volumes status text all o images read =
-    let some = all o.volume.name (record { before = o.before; volume = o.volume; behind = o.behind; these = o.these; is = refl }) in
+    let some = some_told (told o.volume.name) (all o.volume.name (record { before = o.before; volume = o.volume; behind = o.behind; these = o.these; is = refl })) in
     let P : List PlanVolume → Type 0 = λ vs. AreImages told vs images in
     images_or_long told o.before o.volume o.behind some o.long.content o.long.long images (subst P o.these read)
 
@@ -107,11 +125,11 @@ status_of_volumes laws told command plan all a b s t (volume_long o) (volumes_re
 status_of_volumes laws told command plan all a b s t (volumes_read images read o) (volume_long u) = absurd (long_told told plan.volumes b t all u images read)
 status_of_volumes laws told command plan all a b s t (volumes_read images read o) (volumes_read others again u) =
     let P : List (List ℕ) → Type 0 = λ x. ImagesOutcome command plan x b t in
-    status_of_images laws command plan images a b s t o (subst P (one_images told plan.volumes all others images again read) u)
+    status_of_images laws command plan images (images_bytes told plan.volumes all images read) a b s t o (subst P (one_images told plan.volumes all others images again read) u)
 
 -- the files that a text names are told
 abbrev TextTold : (List ℕ → Option (List ℕ)) → List ℕ → Type 0
-TextTold told content = (name : List ℕ) → TextNames content name → IsSome (told name)
+TextTold told content = (name : List ℕ) → TextNames content name → IsToldAsBytes (told name)
 
 status_of_text : Laws → (told : List ℕ → Option (List ℕ)) (command : Command) (content : List ℕ) → TextTold told content
     → (a b : Status) (s t : List ℕ) → TextOutcome told command content a s → TextOutcome told command content b t → a ≡ b
@@ -124,7 +142,7 @@ status_of_text laws told command content all a b s t (plan_read plan read o) (pl
 
 -- the files that a told plan's text names are told
 abbrev PlanTold : (List ℕ → Option (List ℕ)) → List ℕ → Type 0
-PlanTold told plan = (content name : List ℕ) → IsTold (told plan) content → TextNames content name → IsSome (told name)
+PlanTold told plan = (content name : List ℕ) → IsTold (told plan) content → TextNames content name → IsToldAsBytes (told name)
 
 status_of_plan : Laws → (told : List ℕ → Option (List ℕ)) (command : Command) (plan : List ℕ) → IsSome (told plan) → PlanTold told plan
     → (a b : Status) (s t : List ℕ) → PlanOutcome told command plan a s → PlanOutcome told command plan b t → a ≡ b
@@ -148,7 +166,7 @@ one_plan : (words : List (List ℕ)) (command another : Command) (plan other : L
 one_plan words command another plan other p q = ap second (sym q.0 ∙ p.0)
 
 -- the two verbs differ in their length
-verb_len : Command → ℕ
+abbrev verb_len : Command → ℕ
 verb_len command = length (verb_of command)
 
 one_command : (command another : Command) → verb_len command ≡ verb_len another → another ≡ command

@@ -1,10 +1,15 @@
 //! The catalogue of a plan's images: what is in them, or the first fault of them all.
 #![tactic(auto)]
+
+mod law;
+
 ghost use Rattle.std.specs.Prelude.{◌≡◌, ◌≢◌, ◌≤◌, length, IfOk, IfErr, All};
 ghost use Rattle.boot_plan.specs.Range.{IsPlanInRange};
 ghost use Rattle.boot_model.specs.Catalogue.{IsCatalogue};
 ghost use Rattle.boot_model.specs.ImageFault.{IsImageFault};
 ghost use Rattle.boot_model.specs.declared.image_fault.ImageCause.TheVariants.{Memory};
+
+pub use law::one_catalogue;
 
 use boot_model::{Catalog, ImageCause, ImageFault};
 use boot_plan::Plan;

@@ -1,0 +1,3 @@
+mod OneCatalogue
+mod NestedParts
+mod CatalogueOrFault
