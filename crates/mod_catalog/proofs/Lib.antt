@@ -1,3 +1,0 @@
-mod OneCatalogue
-mod NestedParts
-mod CatalogueOrFault
