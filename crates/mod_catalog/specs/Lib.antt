@@ -1,0 +1,2 @@
+pub mod FileRead
+pub mod Refusal

@@ -1,0 +1,1 @@
+//! Where a plan's volume may be mapped.
