@@ -1,2 +1,6 @@
+pub mod Examined
 pub mod FileRead
+pub mod Files
 pub mod Refusal
+pub mod Stretches
+pub mod Values

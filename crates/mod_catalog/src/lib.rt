@@ -2,9 +2,25 @@
 #![tactic(auto)]
 
 mod a_priori;
+
+mod cause;
+mod contents;
+mod counts;
+mod examined;
 mod file_read;
+mod file_type;
+mod images;
+mod location;
 mod member;
+mod module_file;
+mod names;
+mod own_volume;
 mod place;
 mod refusal;
 mod scripts;
 mod sections;
+mod stretch;
+mod tree;
+mod whole;
+
+pub use images::{MOST_IMAGE_LEN, catalog};
