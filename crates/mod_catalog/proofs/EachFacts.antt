@@ -40,18 +40,17 @@ left_out true x e = absurd cc
 left_out false x e = refl
 
 -- one item more of those that pass a test
-pub filter_takes : {A : Type 0} (p : A → Bool) (xs : List A) (i : ℕ) (x : A) → i < length xs → x ≡ get_or xs i x → p x ≡ true → filter p (take (i + 1) xs) ≡ filter p (take i xs) ++ x ∷ []
-filter_takes p xs i x within is passes =
-    filter_more p xs i x within ∙ ap (λ rest. filter p (take i xs) ++ rest) (rw (sym is) (kept (p x) x passes))
+pub filter_takes : {A : Type 0} (p : A → Bool) (xs : List A) (i : ℕ) (d : A) → i < length xs → p (get_or xs i d) ≡ true → filter p (take (i + 1) xs) ≡ filter p (take i xs) ++ get_or xs i d ∷ []
+filter_takes p xs i d within passes = filter_more p xs i d within ∙ ap (λ rest. filter p (take i xs) ++ rest) (kept (p (get_or xs i d)) (get_or xs i d) passes)
 
-pub filter_keeps : {A : Type 0} (p : A → Bool) (xs : List A) (i : ℕ) (x : A) → i < length xs → x ≡ get_or xs i x → p x ≡ false → filter p (take (i + 1) xs) ≡ filter p (take i xs)
-filter_keeps p xs i x within is fails =
-    filter_more p xs i x within ∙ ap (λ rest. filter p (take i xs) ++ rest) (rw (sym is) (left_out (p x) x fails)) ∙ append-nil (filter p (take i xs))
+pub filter_keeps : {A : Type 0} (p : A → Bool) (xs : List A) (i : ℕ) (d : A) → i < length xs → p (get_or xs i d) ≡ false → filter p (take (i + 1) xs) ≡ filter p (take i xs)
+filter_keeps p xs i d within fails =
+    filter_more p xs i d within ∙ ap (λ rest. filter p (take i xs) ++ rest) (left_out (p (get_or xs i d)) (get_or xs i d) fails) ∙ append-nil (filter p (take i xs))
 
 -- an item that passes stands between those that pass before it and behind it
-pub filter_split : {A : Type 0} (p : A → Bool) (xs : List A) (i : ℕ) (x : A) → i < length xs → x ≡ get_or xs i x → p x ≡ true
-    → filter p xs ≡ filter p (take i xs) ++ x ∷ filter p (drop (i + 1) xs)
-filter_split p xs i x within is passes =
+pub filter_split : {A : Type 0} (p : A → Bool) (xs : List A) (i : ℕ) (d : A) → i < length xs → p (get_or xs i d) ≡ true
+    → filter p xs ≡ filter p (take i xs) ++ get_or xs i d ∷ filter p (drop (i + 1) xs)
+filter_split p xs i d within passes =
     ap (filter p) (sym (take-append-drop (i + 1) xs)) ∙ filter-append p (take (i + 1) xs) (drop (i + 1) xs)
-    ∙ ap (λ front. front ++ filter p (drop (i + 1) xs)) (filter_takes p xs i x within is passes)
-    ∙ append_assoc (filter p (take i xs)) (x ∷ []) (filter p (drop (i + 1) xs))
+    ∙ ap (λ front. front ++ filter p (drop (i + 1) xs)) (filter_takes p xs i d within passes)
+    ∙ append_assoc (filter p (take i xs)) (get_or xs i d ∷ []) (filter p (drop (i + 1) xs))

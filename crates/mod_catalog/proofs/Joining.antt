@@ -7,7 +7,7 @@ use Rattle.boot_model.specs.declared.limits.TheConstants.{MOST_DEPTH}
 use Rattle.boot_model.specs.declared.catalog.Module.{Module}
 use Rattle.boot_model.specs.declared.catalog.VolumeEntry.{VolumeEntry}
 use Rattle.boot_model.specs.ReadFile.{Stretch}
-use Rattle.boot_model.specs.Totals.{Holding}
+use Rattle.boot_model.specs.Totals.{Totals, Holding, AreWithin, totals_with}
 use Rattle.boot_model.specs.VolumeTree.{Image, Holds, AreNested, nested_image, joined, nothing}
 use Rattle.boot_model.specs.Catalogue.{IsPlaced, PlanHolds, plan_image}
 
@@ -69,3 +69,15 @@ plan_more plan before [] (i ∷ images) volume bytes held first p holds placed =
 plan_more plan before (v ∷ volumes) [] volume bytes held first p holds placed = absurd p
 plan_more plan before (v ∷ volumes) (i ∷ images) volume bytes held first p holds placed =
     (p.0, p.1, p.2, plan_more plan (joined before p.0) volumes images volume bytes held first p.3 holds placed)
+
+-- the limits kept by one part and then another
+pub within_joined : (totals : Totals) (held first all : Holding) → all ≡ joined held first → AreWithin (totals_with (totals_with totals held) first) → AreWithin (totals_with totals all)
+within_joined totals held first all is within =
+    let volumes : length all.volumes ≡ length held.volumes + length first.volumes = ap (λ (h : Holding). length h.volumes) is ∙ length-append held.volumes first.volumes in
+    let modules : length all.modules ≡ length held.modules + length first.modules = ap (λ (h : Holding). length h.modules) is ∙ length-append held.modules first.modules in
+    let bytes : all.script_bytes ≡ held.script_bytes + first.script_bytes = ap (λ (h : Holding). h.script_bytes) is in
+    record {
+      volumes = omega (arith, volumes, within.volumes);
+      modules = omega (arith, modules, within.modules);
+      script_bytes = omega (arith, bytes, within.script_bytes);
+    }

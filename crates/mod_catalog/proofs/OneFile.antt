@@ -1,8 +1,7 @@
 -- What one file of a volume has: a module or nested volumes, and never both.
-use Rattle.std.proofs.Common.{◌≡◌, ◌≢◌, ℕ, ◌+◌, ◌<◌, ◌≤◌, Bool, true, false, cond, List, [], ◌∷◌, ◌++◌, length, take, get_or, map, refl, sym, ap, ◌∙◌, arith, subst}
+use Rattle.std.proofs.Common.{◌≡◌, ◌≢◌, ℕ, ◌+◌, ◌<◌, ◌≤◌, Bool, true, false, cond, List, [], ◌∷◌, length, map, refl, sym, ap, ◌∙◌, arith, subst}
 use Rattle.std.specs.Prelude.{filter, ◌&&◌, ◌==◌}
 use Rattle.std.proofs.lemmas.Bool.{eqb-true}
-use Rattle.std.proofs.lemmas.List.{map_push}
 use Rattle.std.proofs.lemmas.List.Sums.{sum_by-cons}
 use Rattle.fv_volume.specs.declared.file.FfsFile.{FfsFile}
 use Rattle.fv_section.specs.declared.section.Section.{Section}
@@ -24,7 +23,6 @@ use Rattle.mod_catalog.specs.FileRead.{HoldsScripts}
 use Rattle.mod_catalog.specs.Examined.{files_with_module, IsExamined}
 use Rattle.mod_catalog.specs.Stretches.{IsStretchFault}
 use Rattle.mod_catalog.specs.Values.{holding_of}
-use Rattle.mod_catalog.proofs.EachFacts.{filter_takes, filter_keeps}
 
 none_pass : (b : Bool) (p : Section → Bool) (xs : List Section) → b ≡ false → filter (λ s. b && p s) xs ≡ []
 none_pass true p xs e = absurd cc
@@ -122,20 +120,3 @@ pub nested_fault : (Refused : Image → ℕ → Totals → FaultAt → Type 0) (
     → IsStretchFault Refused Held image at totals stretches fault → IsFileFault Refused Held image at totals file fault
 nested_fault Refused Held image at totals file sections stretches fault are is f =
     in_nested sections are f.before f.stretch f.behind (sym is ∙ f.these) f.inner f.nested f.within f.first
-
--- one section more, which holds a volume or none
-pub parts_more : (file : FfsFile) (sections : List Section) (i : ℕ) (section : Section) → i < length sections → section ≡ get_or sections i section
-    → (file.kind == FILE_VOLUME_IMAGE) && (section.kind == SECTION_VOLUME_IMAGE) ≡ true
-    → nested_in (record { file = file; sections = take (i + 1) sections }) ≡ nested_in (record { file = file; sections = take i sections }) ++ record { at = file.body_at + section.body_at; len = section.body_len } ∷ []
-parts_more file sections i section within is passes =
-    let p : Section → Bool = λ s. (file.kind == FILE_VOLUME_IMAGE) && (s.kind == SECTION_VOLUME_IMAGE) in
-    let f : Section → Stretch = λ s. record { at = file.body_at + s.body_at; len = s.body_len } in
-    ap (map f) (filter_takes p sections i section within is passes) ∙ map_push f (filter p (take i sections)) section
-
-pub parts_same : (file : FfsFile) (sections : List Section) (i : ℕ) (section : Section) → i < length sections → section ≡ get_or sections i section
-    → (file.kind == FILE_VOLUME_IMAGE) && (section.kind == SECTION_VOLUME_IMAGE) ≡ false
-    → nested_in (record { file = file; sections = take (i + 1) sections }) ≡ nested_in (record { file = file; sections = take i sections })
-parts_same file sections i section within is fails =
-    let p : Section → Bool = λ s. (file.kind == FILE_VOLUME_IMAGE) && (s.kind == SECTION_VOLUME_IMAGE) in
-    let f : Section → Stretch = λ s. record { at = file.body_at + s.body_at; len = s.body_len } in
-    ap (map f) (filter_keeps p sections i section within is fails)
