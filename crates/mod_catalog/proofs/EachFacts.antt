@@ -54,3 +54,10 @@ filter_split p xs i d within passes =
     ap (filter p) (sym (take-append-drop (i + 1) xs)) ∙ filter-append p (take (i + 1) xs) (drop (i + 1) xs)
     ∙ ap (λ front. front ++ filter p (drop (i + 1) xs)) (filter_takes p xs i d within passes)
     ∙ append_assoc (filter p (take i xs)) (get_or xs i d ∷ []) (filter p (drop (i + 1) xs))
+
+-- the item at a place, by its name
+pub took : {A : Type 0} (xs : List A) (i : ℕ) (x : A) → i < length xs → x ≡ get_or xs i x → take (i + 1) xs ≡ take i xs ++ x ∷ []
+took xs i x within is = take_more xs i x within ∙ ap (λ y. take i xs ++ y ∷ []) (sym is)
+
+pub parted : {A : Type 0} (xs : List A) (i : ℕ) (x : A) → i < length xs → x ≡ get_or xs i x → xs ≡ take i xs ++ x ∷ drop (i + 1) xs
+parted xs i x within is = split_at xs i x within ∙ ap (λ y. take i xs ++ y ∷ drop (i + 1) xs) (sym is)

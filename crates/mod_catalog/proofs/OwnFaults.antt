@@ -1,14 +1,15 @@
 -- Where the first fault of a volume stands.
 use Rattle.std.proofs.Common.{◌≡◌, ℕ, ◌+◌, ◌<◌, ◌≤◌, Bool, true, false, cond, List, length, take, refl, arith, subst, inl, inr, length-take}
-use Rattle.std.specs.Prelude.{Option, Some, None, Result, Ok, Err, IfSome, IfErr, ◌==◌}
+use Rattle.std.specs.Prelude.{◌%◌, Option, Some, None, Result, Ok, Err, IfSome, IfErr, not, ◌==◌, nat_lt, sum}
 use Rattle.std.proofs.lemmas.Result.{IfErr-at_err}
 use Rattle.std.proofs.lemmas.Bool.{ltb-false}
 use Rattle.fv_volume.specs.declared.fault.VolFault.{VolFault}
 use Rattle.fv_volume.specs.declared.fault.VolCause.{VolCause}
-use Rattle.fv_volume.specs.VolumeHeader.{volume_header, header_fault}
+use Rattle.fv_volume.specs.VolumeHeader.{volume_header, header_fault, is_unknown}
 use Rattle.fv_volume.specs.ExtendedHeader.{extended_header, extended_with}
 use Rattle.fv_volume.specs.Frame.{frame_or_fault, frame_of}
 use Rattle.fv_volume.specs.Volume.{IsFirstFault}
+use Rattle.pi_base.specs.Field.{words_of}
 
 -- a fault stands among the headers, if there is one
 record IsLow (found : Option VolFault) : Type 0 where
@@ -29,13 +30,17 @@ low_error_if b at cause rest low is = either IsLowError b _ rest (record { low =
 
 low_header : (bytes : List ℕ) (header : _) → IsLow (header_fault bytes header)
 low_header bytes header =
-    low_if _ 40 _ _ (omega arith) (low_if _ 55 _ _ (omega arith) (low_if _ 16 _ _ (omega arith) (low_if _ 32 _ _ (omega arith)
-    (low_if _ 48 _ _ (omega arith) (low_if _ 48 _ _ (omega arith) (low_if _ 48 _ _ (omega arith) (low_if _ 50 _ _ (omega arith) (record { low = tt }))))))))
+    low_if (not (header.signature == 0x4856465f)) 40 _ _ (omega arith) (low_if (not (header.revision == 2)) 55 _ _ (omega arith)
+    (low_if (is_unknown header.file_system) 16 _ _ (omega arith) (low_if (nat_lt (length bytes) header.len) 32 _ _ (omega arith)
+    (low_if (not (header.header_len % 2 == 0)) 48 _ _ (omega arith) (low_if (nat_lt header.header_len 64) 48 _ _ (omega arith)
+    (low_if (nat_lt header.len header.header_len) 48 _ _ (omega arith) (low_if (not (sum (words_of (take header.header_len bytes)) % 65536 == 0)) 50 _ _ (omega arith)
+    (record { low = tt }))))))))
 
 low_extended : (bytes : List ℕ) (header : _) (at size : ℕ) → IsLowError (extended_with bytes header at size)
 low_extended bytes header at size =
-    either IsLowError (at == 0) _ _ (record { low = tt }) (low_error_if _ 52 _ _ (omega arith) (low_error_if _ 52 _ _ (omega arith)
-    (low_error_if _ 52 _ _ (omega arith) (low_error_if _ 52 _ _ (omega arith) (record { low = tt })))))
+    either IsLowError (at == 0) (Ok None) _ (record { low = tt }) (low_error_if (nat_lt at header.header_len) 52 _ _ (omega arith)
+    (low_error_if (nat_lt header.len (at + 20)) 52 _ _ (omega arith) (low_error_if (nat_lt size 20) 52 _ _ (omega arith)
+    (low_error_if (nat_lt header.len (at + size)) 52 _ _ (omega arith) (record { low = tt })))))
 
 low_both : (header : _) (o : Option VolFault) (r : _) → IsLow o → IsLowError r → IsLowError (frame_or_fault header o r)
 low_both header (Some fault) r p q = record { low = p.low }
@@ -45,7 +50,7 @@ low_both header None (Ok found) p q = record { low = tt }
 low_frame : (bytes : List ℕ) → IsLowError (frame_of bytes)
 low_frame bytes =
     let header = volume_header bytes in
-    low_error_if _ 0 _ _ (omega arith) (low_both header (header_fault bytes header) (extended_header bytes header) (low_header bytes header) (low_extended bytes header header.ext_header_at _))
+    low_error_if (nat_lt (length bytes) 64) 0 _ _ (omega arith) (low_both header (header_fault bytes header) (extended_header bytes header) (low_header bytes header) (low_extended bytes header header.ext_header_at _))
 
 first_is_false : (b c : Bool) → cond b true c ≡ false → b ≡ false
 first_is_false true c e = absurd cc
