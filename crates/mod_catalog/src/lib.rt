@@ -14,12 +14,13 @@ mod location;
 mod member;
 mod module_file;
 mod names;
+mod nested;
 mod own_volume;
 mod place;
 mod refusal;
 mod scripts;
 mod sections;
-mod stretch;
+
 mod tree;
 mod whole;
 

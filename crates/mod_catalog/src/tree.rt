@@ -24,7 +24,8 @@ use crate::module_file::module_file;
 use crate::own_volume::own_volume;
 use crate::refusal::Refusal;
 use crate::sections::sections_of;
-use crate::stretch::{Part, nested_parts};
+use crate::stretch::bytes_at;
+use crate::nested::{Part, nested_parts};
 use crate::whole::whole_volume;
 use boot_model::{FILE_VOLUME_IMAGE, ImageCause};
 use fv_volume::{FfsFile, Volume};
@@ -199,7 +200,7 @@ fn nested_volumes(
     let mut inner = Contents::nothing(alloc);
     'parts: for part in parts.iter() {
         let reached = counts.with(&inner);
-        match nested_volume(alloc, part.of(bytes), location.nested(*part, reached.volumes), deep, reached) {
+        match nested_volume(alloc, bytes_at(bytes, part.at, part.len), location.nested(*part, reached.volumes), deep, reached) {
             Ok(contents) => inner = inner.joined(contents)?,
             Err(refusal) => return Err(refusal),
         }

@@ -8,7 +8,7 @@ use Rattle.boot_model.specs.ReadFile.{Stretch, is_read, nested_in}
 use Rattle.boot_model.specs.Totals.{Totals, Holding, AreWithin, totals_with, with_volume}
 use Rattle.boot_model.specs.VolumeTree.{Image, Holds, AreNested, nested_image}
 use Rattle.boot_model.specs.ImageFault.{FaultAt, IsRefused, IsFileFault, IsFilesFault, in_sections}
-use Rattle.mod_catalog.specs.declared.stretch.Part.{Part}
+use Rattle.mod_catalog.specs.declared.nested.Part.{Part}
 use Rattle.mod_catalog.specs.Examined.{IsExamined, AreExamined}
 use Rattle.mod_catalog.specs.Refusal.{IsRefusal}
 use Rattle.mod_catalog.specs.Values.{holding_of, totals_of, image_of, stretch_of, stretches_of}
@@ -144,7 +144,7 @@ nested_volumes-parts-preserved t c =
     let first = holding_of c.parts.inner in
     let last = holding_of c.in-Ok.contents in
     let number = ap (λ (n : Totals). n.volumes) c.with-reached.ensures in
-    let is = nested_is c.args.bytes.now c.of.result.now c.args.location c.nested.result part (next + length c.parts.inner.volumes) c.of.ensures.here
+    let is = nested_is c.args.bytes.now c.bytes_at.result.now c.args.location c.nested.result part (next + length c.parts.inner.volumes) c.bytes_at.ensures.here
     c.nested.ensures.base c.nested.ensures.parent (c.nested.ensures.number ∙ number) in
     let I : Image → Type 0 = λ inner. Holds deep inner last in
     let S : List Stretch → Type 0 = λ stretches. AreNested (Holds deep) image next stretches (holding_of c.in_ok-inner-in-Ok.inner) in
@@ -168,7 +168,7 @@ nested_volumes-returns-in-Err-clause-refused t c = λ other.
     let at = c.args.location.at in
     let fault : FaultAt = record { at = c.in-Err.refusal.at; cause = c.in-Err.refusal.cause } in
     let number = ap (λ (n : Totals). n.volumes) c.with-reached.ensures in
-    let is = nested_is c.args.bytes.now c.of.result.now c.args.location c.nested.result part (next + length c.parts.inner.volumes) c.of.ensures.here
+    let is = nested_is c.args.bytes.now c.bytes_at.result.now c.args.location c.nested.result part (next + length c.parts.inner.volumes) c.bytes_at.ensures.here
     c.nested.ensures.base c.nested.ensures.parent (c.nested.ensures.number ∙ number) in
     let I : Image → Type 0 = λ inner. IsRefused deep inner c.nested.result.at (totals_of c.with-reached.result) fault in
     let A : ℕ → Type 0 = λ place. IsRefused deep (nested_image image (next + length c.parts.inner.volumes) (stretch_of part)) place (totals_of c.with-reached.result) fault in

@@ -1,5 +1,5 @@
 //! The parts of a volume in which other volumes are nested.
-ghost use Rattle.std.specs.Prelude.{◌≡◌, ◌≤◌, ◌<◌, ◌+◌, ◌==◌, ◌&&◌, length, take, drop, IfOk};
+ghost use Rattle.std.specs.Prelude.{◌≡◌, ◌≤◌, ◌<◌, ◌+◌, ◌==◌, ◌&&◌, length, IfOk};
 ghost use Rattle.boot_model.specs.declared.file_type.TheConstants.{FILE_VOLUME_IMAGE, SECTION_VOLUME_IMAGE};
 ghost use Rattle.fv_section.specs.Stream.{AreInside as SectionsInside};
 ghost use Rattle.boot_model.specs.ReadFile.{file_body, nested_in};
@@ -17,17 +17,6 @@ use std::alloc::Global;
 pub(crate) struct Part {
     pub(crate) at: u64,
     pub(crate) len: u64,
-}
-
-impl Part {
-    /// The bytes of the part.
-    pub(crate) fn of(self, bytes: &[u8]) -> &[u8]
-        requires { self.at + self.len ≤ length bytes.now }
-        ensures here { result.now ≡ take self.len (drop self.at bytes.now) }
-        ensures long { length result.now ≡ self.len }
-    {
-        &bytes[self.at as usize..(self.at + self.len) as usize]
-    }
 }
 
 // Whether a section of a file holds a volume.
