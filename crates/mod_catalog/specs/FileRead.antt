@@ -26,7 +26,7 @@ pub record HoldsScripts (bytes : List ℕ) (file : FfsFile) (sections : List Sec
 
 -- all files of a volume that are read, each with its scripts
 pub record AreWhole (bytes : List ℕ) (files : List FfsFile) (reads : List FileRead) : Type 0 where
-  pub reads : AreRead bytes files (reads_of reads)
+  pub are_read : AreRead bytes files (reads_of reads)
   pub scripts : Each (λ read. AreScripts bytes (read_of read) read.scripts) reads
 
 -- the modules of these files

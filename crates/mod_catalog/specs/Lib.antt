@@ -1,2 +1,3 @@
 pub mod FileRead
+pub mod Files
 pub mod Refusal

@@ -2,8 +2,11 @@
 #![tactic(auto)]
 
 mod a_priori;
+mod cause;
 mod file_read;
+mod file_type;
 mod member;
+mod names;
 mod place;
 mod refusal;
 mod scripts;
