@@ -11,3 +11,4 @@ mod place;
 mod refusal;
 mod scripts;
 mod sections;
+mod stretch;

@@ -1,0 +1,2 @@
+mod HeldScripts
+mod Kept
