@@ -1,2 +1,3 @@
 mod HeldScripts
 mod Kept
+pub mod VolumeFaults
