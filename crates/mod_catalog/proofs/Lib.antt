@@ -1,3 +1,4 @@
 mod HeldScripts
 mod Kept
+mod NumberMaps
 pub mod VolumeFaults

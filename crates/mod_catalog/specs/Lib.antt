@@ -1,3 +1,4 @@
 pub mod FileRead
 pub mod Files
+pub mod Names
 pub mod Refusal
