@@ -1,7 +1,7 @@
 -- What a loop over a list keeps of it: the items that pass a test, and what was made of each.
-use Rattle.std.proofs.Common.{◌≡◌, ℕ, ◌+◌, ◌<◌, Bool, true, false, cond, List, [], ◌∷◌, ◌++◌, length, take, drop, filter, get_or, refl, sym, ap, ◌∙◌, append_assoc}
+use Rattle.std.proofs.Common.{◌≡◌, ℕ, ◌+◌, ◌-◌, ◌<◌, ◌≤◌, Bool, true, false, cond, List, [], ◌∷◌, ◌++◌, length, take, drop, filter, get_or, refl, sym, ap, ◌∙◌, append_assoc, arith}
 use Rattle.std.proofs.lemmas.List.Elements.{filter_more, filter-append}
-use Rattle.std.proofs.lemmas.List.{append-nil, take-append-drop}
+use Rattle.std.proofs.lemmas.List.{append-nil, take-append-drop, drop_more}
 use Rattle.boot_model.specs.Lists.{Each, EachPair}
 
 module _ {A : Type 0} (test : A → Bool) (xs : List A) (i : ℕ) (d : A) (within : i < length xs) where
@@ -33,3 +33,9 @@ left_each R P [] [] f pairs = tt
 left_each R P [] (b ∷ ys) f pairs = absurd pairs
 left_each R P (a ∷ xs) [] f pairs = absurd pairs
 left_each R P (a ∷ xs) (b ∷ ys) f pairs = (f a b pairs.0, left_each R P xs ys f pairs.1)
+
+-- the items behind a place, with the one before it
+pub drop_before : {A : Type 0} (xs : List A) (n : ℕ) (d : A) → 0 < n → n ≤ length xs → get_or xs (n - 1) d ∷ drop n xs ≡ drop (n - 1) xs
+drop_before xs n d some within =
+    let here : n ≡ n - 1 + 1 = omega (arith, some) in
+    ap (λ m. get_or xs (n - 1) d ∷ drop m xs) here ∙ sym (drop_more xs (n - 1) d (omega (arith, some, within)))

@@ -1,4 +1,5 @@
 mod HeldScripts
 mod Kept
+mod KeptNames
 mod NumberMaps
 pub mod VolumeFaults

@@ -1,4 +1,5 @@
 pub mod FileRead
 pub mod Files
 pub mod Names
+pub mod Ranks
 pub mod Refusal

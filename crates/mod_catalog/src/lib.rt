@@ -8,6 +8,7 @@ mod file_type;
 mod member;
 mod names;
 mod place;
+mod rank;
 mod refusal;
 mod scripts;
 mod sections;
