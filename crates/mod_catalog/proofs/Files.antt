@@ -20,7 +20,8 @@ use Rattle.mod_catalog.specs.declared.file_read.FileRead.{FileRead}
 use Rattle.mod_catalog.specs.FileRead.{read_of, reads_of, AreWhole}
 use Rattle.mod_catalog.specs.Values.{holding_of}
 use Rattle.mod_catalog.specs.Examined.{with_file, with_files, IsExamined, AreExamined}
-use Rattle.mod_catalog.proofs.EachFacts.{each_more, each_append, left_each}
+use Rattle.mod_catalog.proofs.EachFacts.{each_append}
+use Rattle.mod_catalog.proofs.Kept.{left_each}
 use Rattle.mod_catalog.proofs.Joining.{nested_join}
 
 -- what is there once a file is put behind others

@@ -1,6 +1,11 @@
 mod EachFacts
 mod Files
+mod HeldScripts
 mod Joining
+mod Kept
+mod KeptNames
+mod NumberMaps
 mod OneFile
 mod Values
+mod VolumeFaults
 mod WholeVolume

@@ -2,7 +2,6 @@
 #![tactic(auto)]
 
 mod a_priori;
-
 mod cause;
 mod contents;
 mod counts;
@@ -17,10 +16,11 @@ mod names;
 mod nested;
 mod own_volume;
 mod place;
+mod rank;
 mod refusal;
 mod scripts;
 mod sections;
-
+mod stretch;
 mod tree;
 mod whole;
 
