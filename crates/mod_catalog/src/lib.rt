@@ -2,7 +2,10 @@
 #![tactic(auto)]
 
 mod a_priori;
+mod body;
 mod cause;
+mod choice;
+mod expression;
 mod file_read;
 mod file_type;
 mod member;
