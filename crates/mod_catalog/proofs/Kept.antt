@@ -1,5 +1,5 @@
 -- What a loop over a list keeps of it: the items that pass a test, and what was made of each.
-use Rattle.std.proofs.Common.{◌≡◌, ℕ, ◌+◌, ◌-◌, ◌<◌, ◌≤◌, Bool, true, false, cond, List, [], ◌∷◌, ◌++◌, length, take, drop, filter, get_or, refl, sym, ap, ◌∙◌, append_assoc, arith}
+use Rattle.std.proofs.Common.{◌≡◌, ℕ, suc, ◌+◌, ◌-◌, ◌<◌, ◌≤◌, Bool, true, false, cond, List, [], ◌∷◌, ◌++◌, length, take, drop, filter, find, All, Option, Some, get_or, refl, sym, ap, subst, ◌∙◌, append_assoc, arith}
 use Rattle.std.proofs.lemmas.List.Elements.{filter_more, filter-append}
 use Rattle.std.proofs.lemmas.List.{append-nil, take-append-drop, drop_more}
 use Rattle.boot_model.specs.Lists.{Each, EachPair}
@@ -39,3 +39,14 @@ pub drop_before : {A : Type 0} (xs : List A) (n : ℕ) (d : A) → 0 < n → n �
 drop_before xs n d some within =
     let here : n ≡ n - 1 + 1 = omega (arith, some) in
     ap (λ m. get_or xs (n - 1) d ∷ drop m xs) here ∙ sym (drop_more xs (n - 1) d (omega (arith, some, within)))
+
+-- what holds of each item holds of the one that is found
+pub found_holds : {A : Type 0} (P : A → Type 0) (test : A → Bool) (xs : List A) (x : A) → All P xs → find test xs ≡ Some x → P x
+found_holds P test [] x all e = absurd cc
+found_holds P test (y ∷ ys) x all e = by (test y) (all 0 y (omega arith)) (found_holds P test ys x (λ k d within. all (suc k) d (omega arith))) e
+  where
+    by : (b : Bool) → P y → (find test ys ≡ Some x → P x) → cond b (Some y) (find test ys) ≡ Some x → P x
+    by true here later e =
+        let same : y ≡ x = cc in
+        subst P same here
+    by false here later e = later e

@@ -2,10 +2,13 @@
 #![tactic(auto)]
 
 mod a_priori;
+mod body;
 mod cause;
+mod choice;
 mod contents;
 mod counts;
 mod examined;
+mod expression;
 mod file_read;
 mod file_type;
 mod images;
@@ -25,3 +28,6 @@ mod tree;
 mod whole;
 
 pub use images::{MOST_IMAGE_LEN, catalog};
+
+#[cfg(test)]
+mod tests;
