@@ -32,7 +32,12 @@ fn refusal_of(fault: VolFault, at: u64) -> Refusal
 }
 
 /// The volume in some bytes, behind so many others; `at` is its offset in the file of its plan volume.
-pub(crate) fn own_volume(alloc: Global, bytes: &[u8], at: u64, counts: Counts) -> Result<Volume, Refusal>
+pub(crate) fn own_volume(
+    alloc: Global,
+    bytes: &[u8],
+    at: u64,
+    counts: Counts,
+) -> Result<Volume, Refusal>
     requires low { at + length bytes.now < 0x8000000000000000 }
     ensures few { OnOk result (counts.volumes < MOST_VOLUMES) }
     ensures found { IfOk result (IsVolume bytes.now) }
@@ -41,7 +46,10 @@ pub(crate) fn own_volume(alloc: Global, bytes: &[u8], at: u64, counts: Counts) -
     ensures refused { IfErr result (IsRefusal (IsOwnFault bytes.now at (totals_of counts))) }
 {
     if counts.volumes >= MOST_VOLUMES {
-        return Err(Refusal { at, cause: ImageCause::TooManyVolumes });
+        return Err(Refusal {
+            at,
+            cause: ImageCause::TooManyVolumes,
+        });
     }
     match read_volume(alloc, bytes) {
         Ok(volume) => Ok(volume),

@@ -29,8 +29,13 @@ const OTHER_VERSION: [u8; 12] = [0x50, 0x49, 0x41, 0x53, 2, 1, 1, 0, 1, 0, 0x13,
 
 /// One volume, and two volumes that stand one behind the other where the first has 320 bytes.
 const ONE: &[u8] = b"temp 0x80000000 0x10000\nram 0x40000000 0x4000000\nvolume 0x100000 a\n";
-const TWO: &[u8] = b"temp 0x80000000 0x10000\nram 0x40000000 0x4000000\nvolume 0x100000 a\nvolume 0x100140 b\n";
-const OVERLAPPING: &[u8] = b"temp 0x80000000 0x10000\nram 0x40000000 0x4000000\nvolume 0x100000 a\nvolume 0x100138 b\n";
+
+const TWO: &[u8] =
+    b"temp 0x80000000 0x10000\nram 0x40000000 0x4000000\nvolume 0x100000 a\nvolume 0x100140 b\n";
+
+const OVERLAPPING: &[u8] =
+    b"temp 0x80000000 0x10000\nram 0x40000000 0x4000000\nvolume 0x100000 a\nvolume 0x100138 b\n";
+
 const IN_RAM: &[u8] = b"temp 0x80000000 0x10000\nram 0x40000000 0x4000000\nvolume 0x3fffffc0 a\n";
 
 const PEIM: u8 = 0x06;
@@ -121,7 +126,11 @@ fn catalog_of(
 ) -> Result<Catalog, ImageFault> {
     let Ok(plan) = read_plan(alloc, text) else {
         assert!(rt; false, "a plan");
-        return Err(ImageFault { volume: 0, at: 0, cause: ImageCause::Memory });
+        return Err(ImageFault {
+            volume: 0,
+            at: 0,
+            cause: ImageCause::Memory,
+        });
     };
     assert!(rt; images.len() == plan.volumes.len());
     assert!(rt; are_short(images));
@@ -129,7 +138,12 @@ fn catalog_of(
 }
 
 // The fault of one image, none where it has a catalogue.
-fn fault_of(rt: &impl Abort, alloc: Global, text: &[u8], image: Vec<u8>) -> Result<Option<ImageFault>, AllocError> {
+fn fault_of(
+    rt: &impl Abort,
+    alloc: Global,
+    text: &[u8],
+    image: Vec<u8>,
+) -> Result<Option<ImageFault>, AllocError> {
     let mut images = Vec::new(alloc);
     images.push(Seq::from_vec(image))?;
     match catalog_of(rt, alloc, text, &images) {
@@ -170,11 +184,25 @@ fn a_catalogue(rt: HostRuntime) -> Result<(), Fail> {
     let mut images = Vec::new(rt.alloc());
     images.push(Seq::from_vec(boot_volume(rt.alloc())?))?;
     images.push(Seq::from_vec(one_driver(rt.alloc())?))?;
-    let found = catalog_of(&rt, rt.alloc(), TWO, &images).ok().ok_or("a catalogue")?;
-    let volumes = [(0x10_0000, 320, None), (0x10_00c4, 96, Some(0)), (0x10_0140, 96, None)];
+    let found = catalog_of(&rt, rt.alloc(), TWO, &images)
+        .ok()
+        .ok_or("a catalogue")?;
+    let volumes = [
+        (0x10_0000, 320, None),
+        (0x10_00c4, 96, Some(0)),
+        (0x10_0140, 96, None),
+    ];
     assert_eq!(rt; found.volumes.len(), 3);
     for (entry, (base, len, parent)) in found.volumes.as_slice().iter().zip(volumes) {
-        assert_eq!(rt; *entry, VolumeEntry { base, len, name: None, parent });
+        assert_eq!(rt;
+            *entry,
+            VolumeEntry {
+                base,
+                len,
+                name: None,
+                parent
+            }
+        );
     }
     // The volume, the place, how many blocks the PEI part's script has, its rank, and whether there is a DXE part.
     let modules = [
@@ -205,7 +233,10 @@ fn places(rt: HostRuntime) -> Result<(), Fail> {
         assert_eq!(rt; catalog_of(&rt, rt.alloc(), text, &images).err(), want);
     }
     let driver = one_driver(rt.alloc())?;
-    assert_eq!(rt; fault_of(&rt, rt.alloc(), IN_RAM, driver)?, fault(0, 0, ImageCause::Place));
+    assert_eq!(rt;
+        fault_of(&rt, rt.alloc(), IN_RAM, driver)?,
+        fault(0, 0, ImageCause::Place)
+    );
     Ok(())
 }
 
@@ -214,10 +245,20 @@ fn faults_of_files(rt: HostRuntime) -> Result<(), Fail> {
     let rows: [(u8, u8, &[u8], Option<ImageFault>); 5] = [
         (PEIM, RAW, &SCRIPT, None),
         (PEIM, 0x01, &SCRIPT, fault(0, 96, ImageCause::Compressed)),
-        (PEIM, RAW, &OTHER_VERSION, fault(0, 104, ImageCause::Version)),
+        (
+            PEIM,
+            RAW,
+            &OTHER_VERSION,
+            fault(0, 104, ImageCause::Version),
+        ),
         // A file without a module may hold any raw bytes.
         (VOLUME_IMAGE, RAW, &OTHER_VERSION, None),
-        (VOLUME_IMAGE, NESTED, &HEADER, fault(0, 148, ImageCause::HeaderLength)),
+        (
+            VOLUME_IMAGE,
+            NESTED,
+            &HEADER,
+            fault(0, 148, ImageCause::HeaderLength),
+        ),
     ];
     for (file, section, body, want) in rows {
         let image = volume_of(rt.alloc(), file, section, body)?;
@@ -235,7 +276,10 @@ fn depth(rt: HostRuntime) -> Result<(), Fail> {
     }
     let deeper = volume_of(rt.alloc(), VOLUME_IMAGE, NESTED, &image)?;
     assert_eq!(rt; fault_of(&rt, rt.alloc(), ONE, image)?, None);
-    assert_eq!(rt; fault_of(&rt, rt.alloc(), ONE, deeper)?, fault(0, 400, ImageCause::Nesting));
+    assert_eq!(rt;
+        fault_of(&rt, rt.alloc(), ONE, deeper)?,
+        fault(0, 400, ImageCause::Nesting)
+    );
     Ok(())
 }
 
@@ -250,13 +294,19 @@ fn too_many(rt: HostRuntime) -> Result<(), Fail> {
     let mut files = Vec::new(rt.alloc());
     add_file(&mut files, VOLUME_IMAGE, guid(0x0f), &sections)?;
     let image = volume(rt.alloc(), &files)?;
-    assert_eq!(rt; fault_of(&rt, rt.alloc(), ONE, image)?, fault(0, 19_480, ImageCause::TooManyVolumes));
+    assert_eq!(rt;
+        fault_of(&rt, rt.alloc(), ONE, image)?,
+        fault(0, 19_480, ImageCause::TooManyVolumes)
+    );
     // The 4,097th module's header.
     let mut drivers = Vec::new(rt.alloc());
     for _ in 0..=MOST_MODULES {
         add_file(&mut drivers, DRIVER, guid(0x0d), &[])?;
     }
     let many = volume(rt.alloc(), &drivers)?;
-    assert_eq!(rt; fault_of(&rt, rt.alloc(), ONE, many)?, fault(0, 98_376, ImageCause::TooManyModules));
+    assert_eq!(rt;
+        fault_of(&rt, rt.alloc(), ONE, many)?,
+        fault(0, 98_376, ImageCause::TooManyModules)
+    );
     Ok(())
 }

@@ -21,11 +21,11 @@ use crate::examined::{ExaminedFile, ExaminedFiles};
 use crate::file_read::FileRead;
 use crate::location::Location;
 use crate::module_file::module_file;
+use crate::nested::{Part, nested_parts};
 use crate::own_volume::own_volume;
 use crate::refusal::Refusal;
 use crate::sections::sections_of;
 use crate::stretch::bytes_at;
-use crate::nested::{Part, nested_parts};
 use crate::whole::whole_volume;
 use boot_model::{FILE_VOLUME_IMAGE, ImageCause};
 use fv_volume::{FfsFile, Volume};
@@ -34,7 +34,13 @@ use std::alloc::Global;
 
 /// What a volume holds, with volumes nested at most so deep.
 #[cycle(tree)]
-fn nested_volume(alloc: Global, bytes: &[u8], location: Location, deep: usize, counts: Counts) -> Result<Contents, Refusal>
+fn nested_volume(
+    alloc: Global,
+    bytes: &[u8],
+    location: Location,
+    deep: usize,
+    counts: Counts,
+) -> Result<Contents, Refusal>
     requires base { location.base + length bytes.now < 0x8000000000000000 }
     requires low { location.at + length bytes.now < 0x8000000000000000 }
     requires number { location.number ≡ counts.volumes }
@@ -78,7 +84,14 @@ pub(crate) fn volume_with_files(
     ensures first { IfOk result (λ contents. IsFirstEntry (entry_of (image_of bytes.now location) volume.now) contents.volumes) }
     ensures refused { IfErr result (IsRefusal (IsFilesFault (IsRefused deep) (Holds deep) (image_of bytes.now location) location.at (with_volume (totals_of counts)) volume.now.files)) }
 {
-    match examined_files(alloc, bytes, location, volume.files.as_slice(), deep, counts.with_volume()) {
+    match examined_files(
+        alloc,
+        bytes,
+        location,
+        volume.files.as_slice(),
+        deep,
+        counts.with_volume(),
+    ) {
         Ok(files) => Ok(whole_volume(alloc, bytes, location, volume, files)?),
         Err(refusal) => Err(refusal),
     }
@@ -200,7 +213,13 @@ fn nested_volumes(
     let mut inner = Contents::nothing(alloc);
     'parts: for part in parts.iter() {
         let reached = counts.with(&inner);
-        match nested_volume(alloc, bytes_at(bytes, part.at, part.len), location.nested(*part, reached.volumes), deep, reached) {
+        match nested_volume(
+            alloc,
+            bytes_at(bytes, part.at, part.len),
+            location.nested(*part, reached.volumes),
+            deep,
+            reached,
+        ) {
             Ok(contents) => inner = inner.joined(contents)?,
             Err(refusal) => return Err(refusal),
         }

@@ -56,7 +56,13 @@ pub(crate) fn whole_volume(
     };
     let script_bytes = files.script_bytes;
     let inner = files.inner;
-    let modules = modules_of(alloc, bytes, volume.files.as_slice(), files.reads, location.number)?;
+    let modules = modules_of(
+        alloc,
+        bytes,
+        volume.files.as_slice(),
+        files.reads,
+        location.number,
+    )?;
     let own = Contents {
         volumes: one(alloc, entry)?,
         modules,

@@ -1,11 +1,4 @@
-use Rattle.std.proofs.Common.{◌≡◌, ℕ, suc, ◌+◌}
-use Rattle.std.specs.Prelude.{filter}
 use Rattle.std.proofs.lemmas.Result.{IfOk-weaker}
-use Rattle.boot_model.specs.ReadFile.{is_read}
-use Rattle.boot_model.specs.Totals.{Totals, AreWithin, totals_with, with_volume}
-use Rattle.boot_model.specs.VolumeTree.{Holds, joined}
-use Rattle.mod_catalog.specs.declared.contents.Contents.{Contents}
-use Rattle.mod_catalog.specs.Examined.{AreExamined}
 use Rattle.mod_catalog.specs.Values.{holding_of, image_of}
 use Rattle.mod_catalog.proofs.WholeVolume.{whole_holds, whole_within}
 use Rattle.mod_catalog.proofs.whole.whole_volume.Goals as goal
