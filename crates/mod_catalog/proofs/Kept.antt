@@ -1,6 +1,6 @@
 -- What a loop over a list keeps of it: the items that pass a test, and what was made of each.
-use Rattle.std.proofs.Common.{◌≡◌, ℕ, suc, ◌+◌, ◌-◌, ◌<◌, ◌≤◌, Bool, true, false, cond, List, [], ◌∷◌, ◌++◌, length, take, drop, filter, find, All, Option, Some, get_or, refl, sym, ap, subst, ◌∙◌, append_assoc, arith}
-use Rattle.std.proofs.lemmas.List.Elements.{filter_more, filter-append}
+use Rattle.std.proofs.Common.{◌≡◌, ℕ, suc, ◌+◌, ◌-◌, ◌<◌, ◌≤◌, Bool, true, false, cond, List, [], ◌∷◌, ◌++◌, length, take, drop, filter, find, All, Some, get_or, sym, ap, subst, ◌∙◌, append_assoc, arith}
+use Rattle.std.proofs.lemmas.List.Elements.{filter_more, filter-append, All-nil, All-cons}
 use Rattle.std.proofs.lemmas.List.{append-nil, take-append-drop, drop_more}
 use Rattle.boot_model.specs.Lists.{Each, EachPair}
 
@@ -50,3 +50,29 @@ found_holds P test (y ∷ ys) x all e = by (test y) (all 0 y (omega arith)) (fou
         let same : y ≡ x = cc in
         subst P same here
     by false here later e = later e
+
+-- the last item is kept
+pub kept_last : {A : Type 0} (test : A → Bool) (xs : List A) (x : A) → test x ≡ true → filter test (xs ++ x ∷ []) ≡ filter test xs ++ x ∷ []
+kept_last test xs x e = filter-append test xs (x ∷ []) ∙ ap (λ b. filter test xs ++ cond b (x ∷ []) []) e
+
+-- what holds of each item, by place and one after the other
+pub each_of_all : {A : Type 0} (P : A → Type 0) (xs : List A) → All P xs → Each P xs
+each_of_all P [] all = tt
+each_of_all P (x ∷ xs) all = (all 0 x (omega arith), each_of_all P xs (λ k d within. all (suc k) d (omega arith)))
+
+pub all_of_each : {A : Type 0} (P : A → Type 0) (xs : List A) → Each P xs → All P xs
+all_of_each P [] each = All-nil P
+all_of_each P (x ∷ xs) each = All-cons P x xs each.0 (all_of_each P xs each.1)
+
+pub each_kept : {A : Type 0} (P : A → Type 0) (test : A → Bool) (xs : List A) → Each P xs → Each P (filter test xs)
+each_kept P test [] each = tt
+each_kept P test (x ∷ xs) each = by (test x) (each_kept P test xs each.1)
+  where
+    by : (b : Bool) → Each P (filter test xs) → Each P (cond b (x ∷ filter test xs) (filter test xs))
+    by true rest = (each.0, rest)
+    by false rest = rest
+
+-- what holds of the item between others
+pub each_middle : {A : Type 0} (P : A → Type 0) (xs : List A) (x : A) (ys : List A) → Each P (xs ++ x ∷ ys) → P x
+each_middle P [] x ys each = each.0
+each_middle P (a ∷ xs) x ys each = each_middle P xs x ys each.1

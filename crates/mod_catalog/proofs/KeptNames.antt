@@ -64,10 +64,13 @@ firsts_push (a ∷ xs) name =
   where
     rest : List Guid
     rest = firsts same_guid xs
+
     others : List Guid → List Guid
     others names = filter (λ b. not (same_guid a b)) names
+
     turned : same_guid name a ≡ same_guid a name
     turned = nat_list_eq_equiv.symm name.0 a.0
+
     alone : (s t : Bool) → same_guid a name ≡ s → others (cond t [] (name ∷ [])) ≡ cond (s || t) [] (name ∷ [])
     alone s true e = by_s s
       where
@@ -76,6 +79,7 @@ firsts_push (a ∷ xs) name =
         by_s false = refl
     alone true false e = ap (λ t. cond (not t) (name ∷ []) []) e
     alone false false e = ap (λ t. cond (not t) (name ∷ []) []) e
+
     by : (s : Bool) → same_guid a name ≡ s → others (firsts same_guid (xs ++ name ∷ [])) ≡ others rest ++ others (cond (list_any (same_guid name) rest) [] (name ∷ []))
         → a ∷ others (firsts same_guid (xs ++ name ∷ [])) ≡ a ∷ (others rest ++ cond (same_guid name a || list_any (same_guid name) (others rest)) [] (name ∷ []))
     by true e grown =
@@ -120,11 +124,14 @@ module _ (known : Guid → Bool) (list : List Guid) (name : Guid) (is : known na
       none_of : {A : Type 0} (found : Option A) → is_some found ≡ false → found ≡ None
       none_of None e = refl
       none_of (Some x) e = absurd cc
+
       or_none : {A : Type 0} (found : Option A) → option_or found None ≡ found
       or_none None = refl
       or_none (Some x) = refl
+
       length_push : (names : List Guid) (name : Guid) → length (names ++ name ∷ []) ≡ length names + 1
       length_push names name = length-append names (name ∷ [])
+
       place_of : (names : List Guid) (count : ℕ) (other : Guid) (b : Bool) → same_guid name other ≡ b → (found : Option ℕ) → found ≡ position (same_guid other) names
           → is_some (position (same_guid name) names) ≡ false → count ≡ length names
           → cond b (Some count) found ≡ option_or (position (same_guid other) names) (cond (same_guid other name) (Some (length names)) None)

@@ -2,4 +2,5 @@ mod HeldScripts
 mod Kept
 mod KeptNames
 mod NumberMaps
+mod PartFacts
 pub mod VolumeFaults

@@ -1,5 +1,5 @@
 -- A map that is ordered by names is asked by the same names.
-use Rattle.std.proofs.Common.{◌≡◌, ℕ, Bool, cond, Option, Some, None, sym, ap, ◌∙◌}
+use Rattle.std.proofs.Common.{◌≡◌, ℕ, Bool, cond, Some, sym, ◌∙◌}
 use Rattle.std.proofs.lemmas.Map.Text.{is_eq-slice_cmp}
 use Rattle.std.specs.BTreeMap.{BTreeMap}
 use Rattle.std.specs.Map.{lookup}

@@ -2,6 +2,7 @@
 #![tactic(auto)]
 
 mod a_priori;
+mod a_priori_list;
 mod body;
 mod cause;
 mod choice;
@@ -10,6 +11,7 @@ mod file_read;
 mod file_type;
 mod member;
 mod names;
+mod part;
 mod place;
 mod rank;
 mod refusal;
