@@ -6,11 +6,19 @@ mod a_priori_list;
 mod body;
 mod cause;
 mod choice;
+mod contents;
+mod counts;
+mod examined;
 mod expression;
 mod file_read;
 mod file_type;
+mod images;
+mod location;
 mod member;
+mod module_file;
 mod names;
+mod nested;
+mod own_volume;
 mod part;
 mod place;
 mod rank;
@@ -18,3 +26,10 @@ mod refusal;
 mod scripts;
 mod sections;
 mod stretch;
+mod tree;
+mod whole;
+
+pub use images::{MOST_IMAGE_LEN, catalog};
+
+#[cfg(test)]
+mod tests;
