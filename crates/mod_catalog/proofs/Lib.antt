@@ -6,6 +6,7 @@ mod Kept
 mod KeptNames
 mod NumberMaps
 mod OneFile
+mod PartFacts
 mod Values
 mod VolumeFaults
 mod WholeVolume

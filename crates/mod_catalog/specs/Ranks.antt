@@ -1,5 +1,5 @@
 -- The files that names stand for, and the names of an a priori list that are kept, as they are looked up.
-use Rattle.std.specs.Prelude.{◌≡◌, ℕ, Bool, false, ◌==◌, List, length, filter, position, Option, Some, None, is_some, option_map}
+use Rattle.std.specs.Prelude.{◌≡◌, ℕ, Bool, false, ◌==◌, List, length, filter, position, is_some, option_map}
 use Rattle.std.specs.Option.{option_map_or}
 use Rattle.std.specs.BTreeMap.{BTreeMap}
 use Rattle.pi_base.specs.declared.guid.Guid.{Guid}

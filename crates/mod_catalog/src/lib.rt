@@ -2,6 +2,7 @@
 #![tactic(auto)]
 
 mod a_priori;
+mod a_priori_list;
 mod body;
 mod cause;
 mod choice;
@@ -18,6 +19,7 @@ mod module_file;
 mod names;
 mod nested;
 mod own_volume;
+mod part;
 mod place;
 mod rank;
 mod refusal;

@@ -12,6 +12,6 @@ names-preserved c =
     let before : List Guid = map name (numbers 0 c.names.place) in
     record {
       kept = subst (λ list. AreKept (known c.args.bearers.now) list c.keep.new.kept)
-      (ap (λ guid. before ++ guid ∷ []) c.guid_at.ensures ∙ sym (next_number name c.names.place)) (c.in_ok-keep.ensures.kept before c.names.invariant.kept);
+          (ap (λ guid. before ++ guid ∷ []) c.guid_at.ensures ∙ sym (next_number name c.names.place)) (c.in_ok-keep.ensures.kept before c.names.invariant.kept);
       few = omega (arith, c.in_ok-keep.ensures.count, c.names.invariant.few);
     }
