@@ -1,0 +1,12 @@
+mod EachFacts
+mod Files
+mod HeldScripts
+mod Joining
+mod Kept
+mod KeptNames
+mod NumberMaps
+mod OneFile
+mod PartFacts
+mod Values
+mod VolumeFaults
+mod WholeVolume
