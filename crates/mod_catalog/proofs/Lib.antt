@@ -1,10 +1,13 @@
+mod CatalogueOrFault
 mod EachFacts
 mod Files
 mod HeldScripts
 mod Joining
 mod Kept
 mod KeptNames
+mod NestedParts
 mod NumberMaps
+mod OneCatalogue
 mod OneFile
 mod PartFacts
 mod Values
