@@ -29,5 +29,5 @@ audit_is catalog =
     let lines = volume_lines (numbered 0 catalog.modules) in
     flat_map-append line_text (flat_map lines (numbered 0 catalog.volumes)) (L.Result Done ∷ [])
     ∙ ap (λ t. t ++ flat_map line_text (L.Result Done ∷ []))
-        (flat_of_flat line_text lines (numbered 0 catalog.volumes) ∙ flat_same (λ v. text_of (lines v)) (entry_text catalog.modules) (numbered 0 catalog.volumes) (entry_is catalog.modules))
+    (flat_of_flat line_text lines (numbered 0 catalog.volumes) ∙ flat_same (λ v. text_of (lines v)) (entry_text catalog.modules) (numbered 0 catalog.volumes) (entry_is catalog.modules))
     ∙ ap (λ t. entries_text catalog.modules 0 catalog.volumes ++ t) (append-nil (line_text (L.Result Done)))

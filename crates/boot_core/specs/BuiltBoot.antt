@@ -10,7 +10,13 @@ use Rattle.boot_model.specs.declared.catalog.Module.{Module}
 use Rattle.boot_model.specs.declared.catalog.Part.{Part}
 use Rattle.boot_model.specs.declared.catalog.PartExpr.{PartExpr}
 use Rattle.boot_model.specs.declared.catalog.PartExpr.TheVariants.{Absent}
-use Rattle.boot_core.specs.declared.built_boot.TheConstants.{ENOUGH_FUEL, MOST_PEIMS}
+
+-- how many PEIMs the boot volume may have, and how many actions their scripts take at most
+abbrev pub most_peims : ℕ
+most_peims = 16
+
+abbrev pub enough_fuel : ℕ
+enough_fuel = 16384
 
 -- the PEIMs of the boot volume, by place
 abbrev pub is_peim : Module → Bool
@@ -60,5 +66,5 @@ is_elsewhere entry = is_parent_other entry.parent
 
 abbrev pub is_built : Plan → Catalog → Bool
 is_built plan catalog =
-    nat_le ENOUGH_FUEL plan.fuel && (list_all is_elsewhere catalog.volumes
-    && (nat_le (length (peims catalog.modules)) MOST_PEIMS && list_all is_plain (peims catalog.modules)))
+    nat_le enough_fuel plan.fuel && (list_all is_elsewhere catalog.volumes
+    && (nat_le (length (peims catalog.modules)) most_peims && list_all is_plain (peims catalog.modules)))

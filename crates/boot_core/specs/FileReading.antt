@@ -3,10 +3,16 @@ use Rattle.std.specs.Prelude.{◌≡◌, ℕ, ◌<◌, ◌≤◌, List, ◌∷�
 use Rattle.boot_io.specs.Files.{IsTold}
 use Rattle.boot_plan.specs.declared.plan.PlanVolume.{PlanVolume}
 use Rattle.boot_model.specs.Lists.{EachPair}
-use Rattle.boot_core.specs.declared.read.TheConstants.{VOLUME_LIMIT}
 use Rattle.boot_core.specs.declared.status.Status.{Status}
 use Rattle.boot_core.specs.declared.status.Status.TheVariants.{TooLong}
 use Rattle.boot_core.specs.Lines.{long_line}
+
+-- how many bytes a plan, and a volume's file, may have
+abbrev pub plan_limit : ℕ
+plan_limit = 0x10000
+
+abbrev pub volume_limit : ℕ
+volume_limit = 0x4000000
 
 -- a content is as it is told, and within a limit
 pub record IsRead (told : Option (List ℕ)) (limit : ℕ) (content : List ℕ) : Type 0 where
@@ -27,7 +33,7 @@ pub record LongOutcome (told : Option (List ℕ)) (limit : ℕ) (name : List ℕ
 
 -- the images of some volumes, each as its file is told
 abbrev pub AreImages : (List ℕ → Option (List ℕ)) → List PlanVolume → List (List ℕ) → Type 0
-AreImages told volumes images = EachPair (λ volume image. IsRead (told volume.name) VOLUME_LIMIT image) volumes images
+AreImages told volumes images = EachPair (λ volume image. IsRead (told volume.name) volume_limit image) volumes images
 
 -- the first of some volumes whose file is too long is refused
 pub record LongVolume (told : List ℕ → Option (List ℕ)) (volumes : List PlanVolume) (status : Status) (text : List ℕ) : Type 0 where
@@ -37,7 +43,7 @@ pub record LongVolume (told : List ℕ → Option (List ℕ)) (volumes : List Pl
   pub images : List (List ℕ)
   pub these : volumes ≡ before ++ volume ∷ behind
   pub read : AreImages told before images
-  pub long : LongOutcome (told volume.name) VOLUME_LIMIT volume.name status text
+  pub long : LongOutcome (told volume.name) volume_limit volume.name status text
 
 -- a name of the file of one of some volumes
 pub record IsVolumeName (volumes : List PlanVolume) (name : List ℕ) : Type 0 where

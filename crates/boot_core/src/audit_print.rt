@@ -81,7 +81,12 @@ fn put_module<S: Sink>(sink: &mut S, number: u32, member: &Module) -> Result<(),
 }
 
 // The line of a module where it is in a volume.
-fn put_module_in<S: Sink>(sink: &mut S, volume: u32, number: u32, member: &Module) -> Result<(), SinkFault>
+fn put_module_in<S: Sink>(
+    sink: &mut S,
+    volume: u32,
+    number: u32,
+    member: &Module,
+) -> Result<(), SinkFault>
     ensures text { Puts result (S.text sink.old) (S.text sink.new) (text_in volume (record { number = number; item = member.now })) }
     ensures cause { SinkFaultsAfter result (S.faults sink.old) (S.faults sink.new) }
 {
@@ -110,7 +115,12 @@ fn put_members<S: Sink>(sink: &mut S, volume: u32, modules: &[Module]) -> Result
 }
 
 // The lines of a volume and its modules.
-fn put_entry<S: Sink>(sink: &mut S, number: u32, entry: &VolumeEntry, modules: &[Module]) -> Result<(), SinkFault>
+fn put_entry<S: Sink>(
+    sink: &mut S,
+    number: u32,
+    entry: &VolumeEntry,
+    modules: &[Module],
+) -> Result<(), SinkFault>
     requires { length modules.now ≤ MOST_MODULES }
     ensures text { Puts result (S.text sink.old) (S.text sink.new) (entry_text modules.now (record { number = number; item = entry.now })) }
     ensures cause { SinkFaultsAfter result (S.faults sink.old) (S.faults sink.new) }
@@ -122,7 +132,11 @@ fn put_entry<S: Sink>(sink: &mut S, number: u32, entry: &VolumeEntry, modules: &
 }
 
 // The lines of all volumes.
-fn put_entries<S: Sink>(sink: &mut S, entries: &[VolumeEntry], modules: &[Module]) -> Result<(), SinkFault>
+fn put_entries<S: Sink>(
+    sink: &mut S,
+    entries: &[VolumeEntry],
+    modules: &[Module],
+) -> Result<(), SinkFault>
     requires volumes { length entries.now ≤ MOST_VOLUMES }
     requires modules { length modules.now ≤ MOST_MODULES }
     ensures text { Puts result (S.text sink.old) (S.text sink.new) (entries_text modules.now 0 entries.now) }

@@ -104,7 +104,13 @@ pub(crate) fn read_volumes<F: Files, S: Sink>(
 {
     let mut images = Seq::new(alloc);
     'volumes: for volume in volumes {
-        match read_file(alloc, text_of(volume.name.as_slice()), VOLUME_LIMIT, files, sink) {
+        match read_file(
+            alloc,
+            text_of(volume.name.as_slice()),
+            VOLUME_LIMIT,
+            files,
+            sink,
+        ) {
             Ok(image) => match images.push(image) {
                 Ok(()) => {}
                 Err(OutOfMemory) => return Err(Status::Memory),

@@ -222,7 +222,11 @@ fn put_tail<S: Sink>(sink: &mut S, plan: &Plan) -> Result<(), SinkFault>
 }
 
 /// The text of a run.
-pub(crate) fn put_run<S: Sink>(sink: &mut S, plan: &Plan, catalog: &Catalog) -> Result<(), SinkFault>
+pub(crate) fn put_run<S: Sink>(
+    sink: &mut S,
+    plan: &Plan,
+    catalog: &Catalog,
+) -> Result<(), SinkFault>
     requires { IsPlanInRange plan.now }
     ensures text { Puts result (S.text sink.old) (S.text sink.new) (run_text plan.now catalog.now) }
     ensures cause { SinkFaultsAfter result (S.faults sink.old) (S.faults sink.new) }

@@ -14,4 +14,4 @@ returns-in-Audit g c =
     let catalog = c.args.catalog.now in
     let Out = CatalogOutcome c.args.command c.args.plan.now catalog in
     answer_ends c.put_audit-put.result Out (λ _. ⊥) Done c.answer.result (audit_text catalog) (T c.args.sink.now) (T c.put_audit-put.new.sink) (N c.args.sink.now) (N c.put_audit-put.new.sink) 0 0 None c.answer.ensures refl
-        (audited c.in-Audit.is refl refl) refl c.put_audit-put.ensures.text c.put_audit-put.ensures.cause
+    (audited c.in-Audit.is refl refl) refl c.put_audit-put.ensures.text c.put_audit-put.ensures.cause

@@ -26,4 +26,4 @@ returns-else-eq g c =
     let Out = ImagesOutcome c.args.command c.args.plan.now c.args.images.now in
     let real : fault.cause ≢ Memory = λ e. true≢false (sym (rw e at c.if-eq.ensures)) in
     answer_ends c.put_image_refusal-put.result Out (λ _. ⊥) ImageRefused c.answer.result (image_line fault) (T c.args.sink.now) (T c.put_image_refusal-put.new.sink) (N c.args.sink.now) (N c.put_image_refusal-put.new.sink) 0 0 None c.answer.ensures refl
-        (image_refused fault (c.in-Err.ensures.refused real) refl refl) refl c.put_image_refusal-put.ensures.text c.put_image_refusal-put.ensures.cause
+    (image_refused fault (c.in-Err.ensures.refused real) refl refl) refl c.put_image_refusal-put.ensures.text c.put_image_refusal-put.ensures.cause

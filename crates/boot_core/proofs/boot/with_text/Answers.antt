@@ -29,5 +29,5 @@ returns-else-eq g c =
     let Out = TextOutcome (g.F.Files.told c.args.files.now) c.args.command text in
     let real : fault.cause ≢ Memory = λ e. true≢false (sym (rw e at c.if-eq.ensures)) in
     answer_ends c.put_plan_refusal-put.result Out (TextNames text) PlanRefused c.answer.result (plan_line fault) (T c.args.sink.now) (T c.put_plan_refusal-put.new.sink) (N c.args.sink.now) (N c.put_plan_refusal-put.new.sink)
-        (F c.args.files.now) (F c.args.files.now) (g.F.Files.missed c.args.files.now) c.answer.ensures refl
-        (plan_refused fault (c.in-Err.ensures.fault real) refl refl) refl c.put_plan_refusal-put.ensures.text c.put_plan_refusal-put.ensures.cause
+    (F c.args.files.now) (F c.args.files.now) (g.F.Files.missed c.args.files.now) c.answer.ensures refl
+    (plan_refused fault (c.in-Err.ensures.fault real) refl refl) refl c.put_plan_refusal-put.ensures.text c.put_plan_refusal-put.ensures.cause

@@ -27,5 +27,5 @@ returns-in-None g c =
     let words = words_of c.args.words.now in
     let told = g.F.Files.told c.args.files.now in
     answer_ends c.put_usage-put.result (Outcome told words) (Names told words) Usage c.answer.result usage_line (T c.args.sink.now) (T c.put_usage-put.new.sink) (N c.args.sink.now) (N c.put_usage-put.new.sink)
-        (F c.args.files.now) (F c.args.files.now) (g.F.Files.missed c.args.files.now) c.answer.ensures refl
-        (words_usage c.in-None.ensures.none refl refl) refl c.put_usage-put.ensures.text c.put_usage-put.ensures.cause
+    (F c.args.files.now) (F c.args.files.now) (g.F.Files.missed c.args.files.now) c.answer.ensures refl
+    (words_usage c.in-None.ensures.none refl refl) refl c.put_usage-put.ensures.text c.put_usage-put.ensures.cause
