@@ -1,7 +1,8 @@
 //! The modules of a volume.
-ghost use Rattle.std.specs.Prelude.{◌≡◌, ◌++◌, ◌∷◌, [], List, IfOk, OnOk};
+ghost use Rattle.std.specs.Prelude.{◌≤◌, ◌++◌, ◌∷◌, [], List, length, IfOk, OnOk};
 ghost use Rattle.pi_base.specs.declared.phase.Phase.TheVariants.{Pei, Dxe};
 ghost use Rattle.fv_volume.specs.declared.file.FfsFile.{FfsFile as File};
+ghost use Rattle.fv_volume.specs.declared.search.TheConstants.{MOST_FILES};
 ghost use Rattle.fv_volume.specs.Places.{AreInside, AreInOrder};
 ghost use Rattle.boot_model.specs.ReadFile.{ReadFile};
 ghost use Rattle.boot_model.specs.APriori.{a_priori_list};
@@ -37,7 +38,8 @@ fn volume_ranks(
     files: &[FfsFile],
     reads: &[FileRead],
 ) -> Result<VolumeRanks, OutOfMemory>
-    requires { ArePlaced bytes.now reads.now }
+    requires few { length files.now ≤ MOST_FILES }
+    requires placed { ArePlaced bytes.now reads.now }
     ensures { IfOk result (RanksHold bytes.now files.now (reads_of reads.now)) }
 {
     let pei = a_priori_body(bytes, files, reads, Phase::Pei);
@@ -130,6 +132,7 @@ pub(crate) fn modules_of(
 ) -> Result<Seq<Module>, OutOfMemory>
     requires inside { AreInside bytes.now files.now }
     requires in_order { AreInOrder files.now }
+    requires few { length files.now ≤ MOST_FILES }
     requires whole { AreWhole bytes.now files.now reads }
     ensures { IfOk result (AreModules bytes.now files.now reads number) }
 {
