@@ -124,6 +124,7 @@ fn catalog_of(
     text: &[u8],
     images: &[Seq<u8>],
 ) -> Result<Catalog, ImageFault> {
+    assert!(rt; text.len() < 10_000);
     let Ok(plan) = read_plan(alloc, text) else {
         assert!(rt; false, "a plan");
         return Err(ImageFault {
