@@ -1,10 +1,11 @@
 mod EachFacts
+mod FewNames
 mod Files
 mod HeldScripts
 mod Joining
 mod Kept
 mod KeptNames
-mod NumberMaps
+mod NameMaps
 mod OneFile
 mod PartFacts
 mod Values
