@@ -1,12 +1,13 @@
 mod CatalogueOrFault
 mod EachFacts
+mod FewNames
 mod Files
 mod HeldScripts
 mod Joining
 mod Kept
 mod KeptNames
+mod NameMaps
 mod NestedParts
-mod NumberMaps
 mod OneCatalogue
 mod OneFile
 mod PartFacts

@@ -1,10 +1,11 @@
 -- The files that names stand for, and the names of an a priori list that are kept, as they are looked up.
-use Rattle.std.specs.Prelude.{◌≡◌, ℕ, Bool, false, ◌==◌, List, length, filter, position, is_some, option_map}
+use Rattle.std.specs.Prelude.{◌≡◌, ℕ, ◌≤◌, Bool, false, ◌==◌, List, length, filter, position, is_some, option_map}
 use Rattle.std.specs.Option.{option_map_or}
 use Rattle.std.specs.BTreeMap.{BTreeMap}
 use Rattle.pi_base.specs.declared.guid.Guid.{Guid}
 use Rattle.pi_base.specs.declared.phase.Phase.{Phase}
 use Rattle.fv_volume.specs.declared.file.FfsFile.{FfsFile}
+use Rattle.fv_volume.specs.declared.search.TheConstants.{MOST_FILES}
 use Rattle.boot_model.specs.FileType.{same_guid}
 use Rattle.boot_model.specs.APriori.{bearer, kept_names}
 use Rattle.boot_model.specs.Lists.{firsts}
@@ -15,6 +16,10 @@ use Rattle.mod_catalog.specs.declared.rank.Kept.{Kept}
 -- each name has the offset of the file that it stands for
 abbrev pub AreBearers : Phase → List FfsFile → BTreeMap Guid ℕ → Type 0
 AreBearers phase files bearers = (name : Guid) → value_of bearers name ≡ option_map (λ file. file.at) (bearer phase files name)
+
+-- they are the names of no more files than a volume has
+abbrev pub AreFew : BTreeMap Guid ℕ → Type 0
+AreFew bearers = (phase : Phase) × (files : List FfsFile) × AreBearers phase files bearers × (length files ≤ MOST_FILES)
 
 -- whether a name stands for a file
 abbrev pub known : BTreeMap Guid ℕ → Guid → Bool

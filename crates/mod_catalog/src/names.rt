@@ -1,4 +1,4 @@
-//! Names of files, and numbers that are kept for them.
+//! Names of files, and values that are kept for them.
 ghost use Rattle.std.specs.Prelude.{◌≡◌, ◌≤◌, ◌+◌, length, is_some, OnOk, Some};
 ghost use Rattle.pi_base.specs.declared.guid.Guid.{Guid as Name};
 ghost use Rattle.boot_model.specs.FileType.{same_guid, guid_at};
@@ -12,8 +12,8 @@ use std::collections::BTreeMap;
 /// The length of a GUID.
 pub(crate) const GUID_LEN: usize = 16;
 
-/// Numbers by name.
-pub(crate) type Numbers = BTreeMap<Guid, u64, Global>;
+/// Values by name.
+pub(crate) type ByName<V> = BTreeMap<Guid, V, Global>;
 
 /// Whether two GUIDs are the same.
 pub(crate) fn same_guid(a: &Guid, b: &Guid) -> bool
@@ -32,35 +32,35 @@ pub(crate) fn guid_at(bytes: &[u8], at: usize) -> Guid
     Guid(guid)
 }
 
-/// No numbers.
-pub(crate) fn no_numbers(alloc: Global) -> Numbers
+/// No values.
+pub(crate) fn no_values<V: Copy>(alloc: Global) -> ByName<V>
     ensures { HasNone result }
 {
     BTreeMap::new(alloc)
 }
 
-/// The number of a name.
-pub(crate) fn value_of(numbers: &Numbers, name: &Guid) -> Option<u64>
-    ensures { result ≡ value_of numbers.now name.now }
+/// The value of a name.
+pub(crate) fn value_of<V: Copy>(values: &ByName<V>, name: &Guid) -> Option<V>
+    ensures { result ≡ value_of values.now name.now }
 {
-    match numbers.get(name) {
-        Some(number) => Some(*number),
+    match values.get(name) {
+        Some(value) => Some(*value),
         None => None,
     }
 }
 
-/// Whether a name has a number.
-pub(crate) fn has_value(numbers: &Numbers, name: &Guid) -> bool
-    ensures { result ≡ is_some (value_of numbers.now name.now) }
+/// Whether a name has a value.
+pub(crate) fn has_value<V: Copy>(values: &ByName<V>, name: &Guid) -> bool
+    ensures { result ≡ is_some (value_of values.now name.now) }
 {
-    value_of(numbers, name).is_some()
+    value_of(values, name).is_some()
 }
 
-/// Gives a name this number.
-pub(crate) fn put(numbers: &mut Numbers, name: Guid, number: u64) -> Result<(), OutOfMemory>
-    ensures { OnOk result (IsPut numbers.old name number numbers.new) }
+/// Gives a name this value.
+pub(crate) fn put<V: Copy>(values: &mut ByName<V>, name: Guid, value: V) -> Result<(), OutOfMemory>
+    ensures { OnOk result (IsPut values.old name value values.new) }
 {
-    match numbers.insert(name, number) {
+    match values.insert(name, value) {
         Ok(_) => Ok(()),
         Err(_) => Err(OutOfMemory),
     }

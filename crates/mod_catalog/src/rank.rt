@@ -1,13 +1,14 @@
 //! The ranks of a volume's files, which an a priori list gives them.
-ghost use Rattle.std.specs.Prelude.{◌≡◌, ◌≤◌, ◌<◌, ◌+◌, ◌++◌, ◌∷◌, [], List, Some, IfOk, OnOk};
+ghost use Rattle.std.specs.Prelude.{◌≡◌, ◌≤◌, ◌<◌, ◌++◌, ◌∷◌, [], List, length, IfOk, OnOk};
 ghost use Rattle.pi_base.specs.declared.guid.Guid.{Guid as Name};
 ghost use Rattle.pi_base.specs.declared.phase.Phase.{Phase as OfPhase};
 ghost use Rattle.fv_volume.specs.declared.file.FfsFile.{FfsFile as File};
+ghost use Rattle.fv_volume.specs.declared.search.TheConstants.{MOST_FILES};
 ghost use Rattle.boot_model.specs.APriori.{guids_in, rank_of};
-ghost use Rattle.mod_catalog.specs.Ranks.{AreBearers, ArePlaces, AreKept, HoldRanks, known, bears};
+ghost use Rattle.mod_catalog.specs.Ranks.{AreBearers, AreFew, ArePlaces, AreKept, HoldRanks, known, bears};
 
 use crate::file_type::has_part;
-use crate::names::{GUID_LEN, Numbers, guid_at, has_value, no_numbers, put, value_of};
+use crate::names::{ByName, GUID_LEN, guid_at, has_value, no_values, put, value_of};
 use fv_volume::FfsFile;
 use pi_base::{Guid, OutOfMemory, Phase};
 use std::alloc::Global;
@@ -16,20 +17,20 @@ use std::alloc::Global;
 #[derive(Drop)]
 pub(crate) struct Ranks {
     /// Of each name, the offset of the file that it stands for.
-    pub(crate) bearers: Numbers,
+    pub(crate) bearers: ByName<u64>,
     /// Of each name that is kept, its place among them.
-    pub(crate) places: Numbers,
+    pub(crate) places: ByName<u32>,
 }
 
 /// The names of a list that are kept so far.
 #[derive(Drop)]
 pub(crate) struct Kept {
-    pub(crate) places: Numbers,
-    pub(crate) count: u64,
+    pub(crate) places: ByName<u32>,
+    pub(crate) count: u32,
 }
 
 // A file before others: its name stands for it, where it has a part.
-fn add_bearer(bearers: &mut Numbers, file: &FfsFile, phase: Phase) -> Result<(), OutOfMemory>
+fn add_bearer(bearers: &mut ByName<u64>, file: &FfsFile, phase: Phase) -> Result<(), OutOfMemory>
     ensures { OnOk result ((files : List File) → AreBearers phase files bearers.old → AreBearers phase (file.now ∷ files) bearers.new) }
 {
     if has_part(phase, file.kind) {
@@ -40,10 +41,10 @@ fn add_bearer(bearers: &mut Numbers, file: &FfsFile, phase: Phase) -> Result<(),
 }
 
 // The files that names stand for.
-fn bearers_of(alloc: Global, files: &[FfsFile], phase: Phase) -> Result<Numbers, OutOfMemory>
+fn bearers_of(alloc: Global, files: &[FfsFile], phase: Phase) -> Result<ByName<u64>, OutOfMemory>
     ensures { IfOk result (AreBearers phase files.now) }
 {
-    let mut bearers = no_numbers(alloc);
+    let mut bearers = no_values(alloc);
     let mut place = files.len();
     'files: while place > 0 {
         place -= 1;
@@ -53,10 +54,9 @@ fn bearers_of(alloc: Global, files: &[FfsFile], phase: Phase) -> Result<Numbers,
 }
 
 // One name of a list more: it is kept where it stands for a file, for the first time.
-fn keep(kept: &mut Kept, bearers: &Numbers, name: Guid) -> Result<(), OutOfMemory>
-    requires { kept.old.count < 0x8000000000000000 }
-    ensures kept { OnOk result ((list : List Name) → AreKept (known bearers.now) list kept.old → AreKept (known bearers.now) (list ++ name ∷ []) kept.new) }
-    ensures count { OnOk result (kept.new.count ≤ kept.old.count + 1) }
+fn keep(kept: &mut Kept, bearers: &ByName<u64>, name: Guid) -> Result<(), OutOfMemory>
+    requires { kept.old.count < u32.MAX }
+    ensures { OnOk result ((list : List Name) → AreKept (known bearers.now) list kept.old → AreKept (known bearers.now) (list ++ name ∷ []) kept.new) }
 {
     if !has_value(bearers, &name) {
         return Ok(());
@@ -70,11 +70,12 @@ fn keep(kept: &mut Kept, bearers: &Numbers, name: Guid) -> Result<(), OutOfMemor
 }
 
 // The places of the names that a list keeps.
-fn places_of(alloc: Global, bearers: &Numbers, list: &[u8]) -> Result<Numbers, OutOfMemory>
+fn places_of(alloc: Global, bearers: &ByName<u64>, list: &[u8]) -> Result<ByName<u32>, OutOfMemory>
+    requires { AreFew bearers.now }
     ensures { IfOk result (ArePlaces (known bearers.now) (guids_in list.now)) }
 {
     let mut kept = Kept {
-        places: no_numbers(alloc),
+        places: no_values(alloc),
         count: 0,
     };
     'names: for place in 0..list.len() / GUID_LEN {
@@ -90,21 +91,12 @@ pub(crate) fn ranks_of(
     list: &[u8],
     phase: Phase,
 ) -> Result<Ranks, OutOfMemory>
+    requires { length files.now ≤ MOST_FILES }
     ensures { IfOk result (HoldRanks phase files.now (guids_in list.now)) }
 {
     let bearers = bearers_of(alloc, files, phase)?;
     let places = places_of(alloc, &bearers, list)?;
     Ok(Ranks { bearers, places })
-}
-
-// A place as a rank. As many names as a rank can't count are not held in memory.
-fn as_rank(place: u64) -> Result<Option<u32>, OutOfMemory>
-    ensures { IfOk result (λ rank. rank ≡ Some place) }
-{
-    match u32::try_from(place) {
-        Ok(rank) => Ok(Some(rank)),
-        Err(_) => Err(OutOfMemory),
-    }
 }
 
 impl Ranks {
@@ -119,15 +111,13 @@ impl Ranks {
     }
 
     /// The rank of a file of the volume.
-    pub(crate) fn rank_of(&self, file: &FfsFile) -> Result<Option<u32>, OutOfMemory>
-        ensures { (phase : OfPhase) (files : List File) (list : List Name) → HoldRanks phase files list self.now → IfOk result (λ rank. rank ≡ rank_of phase files list file.now) }
+    pub(crate) fn rank_of(&self, file: &FfsFile) -> Option<u32>
+        ensures { (phase : OfPhase) (files : List File) (list : List Name) → HoldRanks phase files list self.now → result ≡ rank_of phase files list file.now }
     {
-        if !self.bears(file) {
-            return Ok(None);
-        }
-        match value_of(&self.places, &file.name) {
-            Some(place) => as_rank(place),
-            None => Ok(None),
+        if self.bears(file) {
+            value_of(&self.places, &file.name)
+        } else {
+            None
         }
     }
 }

@@ -2,6 +2,8 @@
 ghost use Rattle.std.specs.Prelude.{◌≤◌, length, All, IsTrue};
 ghost use Rattle.mod_catalog.specs.declared.images.TheConstants.{MOST_IMAGE_LEN};
 
+mod leaves;
+
 use super::*;
 use boot_model::{Catalog, ImageCause, ImageFault, MOST_MODULES, PEI_APRIORI, VolumeEntry};
 use boot_plan::read_plan;
