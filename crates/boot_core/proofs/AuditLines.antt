@@ -1,5 +1,5 @@
 -- An audit's text, as it is put: entry by entry, and in each the modules one by one.
-use Rattle.std.proofs.Common.{◌≡◌, ◌<◌, ℕ, ◌+◌, ◌==◌, List, [], ◌∷◌, ◌++◌, length, refl, sym, ap, ◌∙◌, flat_map, map, filter, drop, get_or}
+use Rattle.std.proofs.Common.{◌≡◌, ◌<◌, ℕ, ◌+◌, ◌==◌, List, [], ◌∷◌, ◌++◌, length, sym, ap, ◌∙◌, flat_map, filter, drop, get_or}
 use Rattle.std.proofs.lemmas.List.{append-nil, drop_more}
 use Rattle.std.proofs.lemmas.Grind.{flat_map-append}
 use Rattle.boot_model.specs.declared.catalog.Catalog.{Catalog}
@@ -8,8 +8,8 @@ use Rattle.boot_model.specs.declared.catalog.Module.{Module}
 use Rattle.boot_model.specs.declared.line.Line.TheVariants as L
 use Rattle.boot_model.specs.declared.line.RunEnd.TheVariants.{Done}
 use Rattle.boot_model.specs.Text.{line_text, text_of}
-use Rattle.boot_model.specs.Audit.{Numbered, numbered, volume_line, module_line, volume_lines, audit_lines}
-use Rattle.boot_core.specs.AuditText.{audit_text, volume_text, module_text, text_in, members_text, entry_text, entries_text, done_line}
+use Rattle.boot_model.specs.Audit.{Numbered, numbered, volume_line, module_line, volume_lines}
+use Rattle.boot_core.specs.AuditText.{audit_text, volume_text, module_text, entry_text, entries_text, done_line}
 use Rattle.boot_core.proofs.FlatMaps.{flat_of_flat, flat_of_map, flat_of_filter, flat_same}
 
 -- the item at a place and those behind it

@@ -1,5 +1,5 @@
 -- Told files lead to one status.
-use Rattle.std.proofs.Common.{◌≡◌, ◌⊎◌, ℕ, Bool, true, false, List, [], ◌∷◌, ◌++◌, length, Option, Some, None, IsSome, refl, sym, ap, ◌∙◌, arith, subst, inl, inr, true≢false}
+use Rattle.std.proofs.Common.{◌≡◌, ◌⊎◌, ℕ, List, [], ◌∷◌, ◌++◌, length, Option, Some, None, IsSome, refl, sym, ap, ◌∙◌, arith, subst, inl, inr, true≢false}
 use Rattle.boot_io.specs.Files.{IsTold}
 use Rattle.boot_plan.specs.declared.plan.Plan.{Plan}
 use Rattle.boot_plan.specs.declared.plan.PlanVolume.{PlanVolume}
@@ -12,8 +12,8 @@ use Rattle.boot_model.specs.ImageFault.{IsImageFault}
 use Rattle.boot_core.specs.declared.status.Status.{Status}
 use Rattle.boot_core.specs.declared.command_line.Command.{Command}
 use Rattle.boot_core.specs.declared.command_line.Command.TheVariants.{Boot, Audit}
-use Rattle.boot_core.specs.CommandLine.{AskFor, AskForNothing, verb_of}
-use Rattle.boot_core.specs.FileReading.{IsRead, IsLong, LongOutcome, LongVolume, AreImages, IsVolumeName}
+use Rattle.boot_core.specs.CommandLine.{AskFor, verb_of}
+use Rattle.boot_core.specs.FileReading.{IsRead, IsLong, LongVolume, AreImages, IsVolumeName}
 use Rattle.boot_core.specs.Outcome.{Outcome, PlanOutcome, TextOutcome, TextNames, VolumesOutcome, ImagesOutcome, CatalogOutcome, Trail, Kind, OfFiles, OfSink, OfMemory, OfAnswer, Ends, EndsBy, Answered, kind_of, words_usage, words_ask, plan_long, plan_file, plan_refused, plan_read, volume_long, volumes_read, image_refused, images_sound, audited, booted, not_built}
 use Rattle.boot_core.specs.Causes.{AreTold, IsToldAsBytes, LeadsTo, IsStopped, ComesExactly}
 use Rattle.boot_model.specs.Lists.{Each}

@@ -2,7 +2,7 @@
 use Rattle.std.proofs.Common.{◌≡◌, ◌++◌, sym, ap, flat_map}
 use Rattle.boot_plan.specs.declared.plan.Plan.{Plan}
 use Rattle.boot_model.specs.declared.catalog.Catalog.{Catalog}
-use Rattle.boot_core.specs.BuiltBoot.{is_peim, peims}
+use Rattle.boot_core.specs.BuiltBoot.{is_peim}
 use Rattle.boot_core.specs.RunText.{report_line, member_text, peim_text, tail_text, run_text}
 use Rattle.boot_core.proofs.FlatMaps.{flat_of_filter}
 

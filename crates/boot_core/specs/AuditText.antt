@@ -1,12 +1,12 @@
 -- The text of an audit.
-use Rattle.std.specs.Prelude.{ℕ, ◌==◌, List, [], ◌∷◌, ◌++◌, flat_map, if◌then◌else◌}
+use Rattle.std.specs.Prelude.{ℕ, ◌==◌, List, [], ◌++◌, flat_map, if◌then◌else◌}
 use Rattle.boot_model.specs.declared.catalog.Catalog.{Catalog}
 use Rattle.boot_model.specs.declared.catalog.VolumeEntry.{VolumeEntry}
 use Rattle.boot_model.specs.declared.catalog.Module.{Module}
 use Rattle.boot_model.specs.declared.line.Line.TheVariants as L
 use Rattle.boot_model.specs.declared.line.RunEnd.TheVariants.{Done}
 use Rattle.boot_model.specs.Text.{line_text, text_of}
-use Rattle.boot_model.specs.Audit.{Numbered, numbered, volume_line, module_line, volume_lines, audit_lines}
+use Rattle.boot_model.specs.Audit.{Numbered, numbered, volume_line, module_line, audit_lines}
 
 unfoldable pub audit_text : Catalog → List ℕ
 audit_text catalog = text_of (audit_lines catalog)

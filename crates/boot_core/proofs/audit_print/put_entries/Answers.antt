@@ -1,4 +1,4 @@
-use Rattle.std.proofs.Common.{◌≡◌, ◌+◌, ◌++◌, ◌∷◌, drop, get_or, None, ap, ◌∙◌, arith}
+use Rattle.std.proofs.Common.{◌+◌, drop, get_or, None, ap, ◌∙◌, arith}
 use Rattle.boot_core.specs.AuditText.{entries_text, entry_text}
 use Rattle.boot_core.proofs.Rest.{leaves_less, leaves_part}
 use Rattle.std.proofs.lemmas.List.{drop_more}

@@ -1,4 +1,4 @@
-use Rattle.boot_core.specs.AuditText.{volume_text, members_text}
+use Rattle.boot_core.specs.AuditText.{members_text}
 use Rattle.boot_io.proofs.PutsLaws.{part_of_more, puts_then}
 use Rattle.boot_core.proofs.audit_print.put_entry.Goals as goal
 

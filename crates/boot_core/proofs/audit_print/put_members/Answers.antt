@@ -1,4 +1,4 @@
-use Rattle.std.proofs.Common.{◌≡◌, ◌+◌, ◌++◌, ◌∷◌, drop, ap, ◌∙◌, arith}
+use Rattle.std.proofs.Common.{◌+◌, drop, ap, ◌∙◌, arith}
 use Rattle.boot_core.specs.AuditText.{members_text, text_in}
 use Rattle.boot_core.proofs.Rest.{leaves_less, leaves_part}
 use Rattle.boot_core.proofs.AuditLines.{next_item}

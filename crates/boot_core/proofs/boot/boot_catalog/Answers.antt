@@ -1,10 +1,9 @@
-use Rattle.std.proofs.Common.{List, ℕ, None, refl, subst, sym, ◌∙◌}
+use Rattle.std.proofs.Common.{None, refl, sym, ◌∙◌}
 use Rattle.boot_core.specs.declared.command_line.Command.TheVariants.{Boot}
-use Rattle.boot_core.specs.declared.status.Status.{Status}
 use Rattle.boot_core.specs.declared.status.Status.TheVariants.{NoHandoff, ImageRefused}
 use Rattle.boot_core.specs.Lines.{not_built_line}
 use Rattle.boot_core.specs.RunText.{run_text}
-use Rattle.boot_core.specs.Outcome.{Ends, CatalogOutcome, booted, not_built}
+use Rattle.boot_core.specs.Outcome.{CatalogOutcome, booted, not_built}
 use Rattle.boot_core.proofs.Ending.{answer_ends}
 use Rattle.boot_core.proofs.boot.boot_catalog.Goals as goal
 

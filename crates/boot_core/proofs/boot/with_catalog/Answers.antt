@@ -1,9 +1,7 @@
-use Rattle.std.proofs.Common.{List, ℕ, None, refl, subst, sym}
-use Rattle.boot_core.specs.declared.command_line.Command.TheVariants.{Audit}
-use Rattle.boot_core.specs.declared.status.Status.{Status}
+use Rattle.std.proofs.Common.{None, refl}
 use Rattle.boot_core.specs.declared.status.Status.TheVariants.{Done}
 use Rattle.boot_core.specs.AuditText.{audit_text}
-use Rattle.boot_core.specs.Outcome.{Ends, CatalogOutcome, audited}
+use Rattle.boot_core.specs.Outcome.{CatalogOutcome, audited}
 use Rattle.boot_core.proofs.Ending.{answer_ends}
 use Rattle.boot_core.proofs.boot.with_catalog.Goals as goal
 

@@ -1,9 +1,8 @@
-use Rattle.std.proofs.Common.{◌≢◌, List, ℕ, None, refl, subst, sym, true≢false}
+use Rattle.std.proofs.Common.{◌≢◌, None, refl, sym, true≢false}
 use Rattle.boot_model.specs.declared.image_fault.ImageCause.TheVariants.{Memory}
-use Rattle.boot_core.specs.declared.status.Status.{Status}
 use Rattle.boot_core.specs.declared.status.Status.TheVariants.{ImageRefused}
 use Rattle.boot_core.specs.Lines.{image_line}
-use Rattle.boot_core.specs.Outcome.{Ends, CatalogOutcome, ImagesOutcome, kind_of, image_refused, images_sound}
+use Rattle.boot_core.specs.Outcome.{CatalogOutcome, ImagesOutcome, kind_of, image_refused, images_sound}
 use Rattle.boot_core.proofs.Ending.{answer_ends, ends_after}
 use Rattle.boot_core.proofs.boot.with_images.Goals as goal
 

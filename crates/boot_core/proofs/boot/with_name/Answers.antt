@@ -1,5 +1,4 @@
-use Rattle.std.proofs.Common.{◌≡◌, List, ℕ, refl, subst, sym}
-use Rattle.boot_core.specs.declared.status.Status.{Status}
+use Rattle.std.proofs.Common.{◌≡◌, refl, subst, sym}
 use Rattle.boot_core.specs.FileReading.{IsRead, LongOutcome}
 use Rattle.boot_core.specs.Outcome.{TextOutcome, TextNames, PlanOutcome, PlanNames, kind_of, plan_long, plan_file, of_plan, of_volume}
 use Rattle.boot_core.proofs.Ending.{ends_after}

@@ -1,4 +1,4 @@
-use Rattle.std.proofs.Common.{◌≢◌, List, ℕ, refl, sym, true≢false}
+use Rattle.std.proofs.Common.{◌≢◌, refl, sym, true≢false}
 use Rattle.boot_plan.specs.declared.fault.PlanCause.TheVariants.{Memory}
 use Rattle.boot_core.specs.declared.status.Status.TheVariants.{PlanRefused}
 use Rattle.boot_core.specs.Lines.{plan_line}

@@ -1,4 +1,4 @@
-use Rattle.std.proofs.Common.{List, ℕ, refl}
+use Rattle.std.proofs.Common.{refl}
 use Rattle.boot_core.specs.declared.status.Status.TheVariants.{Usage}
 use Rattle.boot_core.specs.CommandLine.{words_of}
 use Rattle.boot_core.specs.Lines.{usage_line}

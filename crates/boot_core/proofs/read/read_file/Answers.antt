@@ -1,9 +1,7 @@
-use Rattle.std.proofs.Common.{◌≡◌, List, ℕ, refl, subst, sym}
-use Rattle.boot_core.specs.declared.status.Status.{Status}
-use Rattle.boot_core.specs.declared.status.Status.TheVariants.{TooLong, FileFault}
+use Rattle.std.proofs.Common.{◌≡◌, refl}
+use Rattle.boot_core.specs.declared.status.Status.TheVariants.{TooLong}
 use Rattle.boot_core.specs.Lines.{long_line}
 use Rattle.boot_core.specs.FileReading.{LongOutcome}
-use Rattle.boot_core.specs.Outcome.{Ends}
 use Rattle.boot_core.proofs.Ending.{answer_ends, file_fault_ends, long_content, missed_is}
 use Rattle.boot_core.proofs.read.read_file.Goals as goal
 

@@ -1,4 +1,4 @@
-use Rattle.std.proofs.Common.{◌≡◌, ◌+◌, List, ℕ, Option, refl, sym, ap, ◌∙◌, take, drop, subst}
+use Rattle.std.proofs.Common.{◌≡◌, ◌+◌, List, ℕ, Option, ◌∙◌, take, drop, subst}
 use Rattle.boot_core.specs.declared.status.Status.{Status}
 use Rattle.boot_core.specs.FileReading.{IsRead, LongOutcome, LongVolume, IsVolumeName}
 use Rattle.boot_core.specs.Outcome.{kind_of}

@@ -1,4 +1,4 @@
-use Rattle.boot_core.specs.RunText.{start_line, part_text}
+use Rattle.boot_core.specs.RunText.{part_text}
 use Rattle.boot_io.proofs.PutsLaws.{part_of_more, puts_then}
 use Rattle.boot_core.proofs.run_print.put_member.Goals as goal
 
