@@ -1,0 +1,9 @@
+-- Every run ends, within as many steps as the definitions of the runs count. Own; PI 1.8, volumes 1 and 2, leave it to the dispatchers.
+use Rattle.std.specs.Prelude.{◌≡◌, ℕ, true, is_some}
+use Rattle.boot_model.specs.declared.catalog.Catalog.{Catalog}
+use Rattle.boot_model.specs.StoreState.{Board}
+use Rattle.boot_model.specs.PeiRun.{pei_end}
+
+-- whatever the board and the catalogue, well-formed or not
+abbrev pub PeiRunsEnd : Type 0
+PeiRunsEnd = (board : Board) (catalog : Catalog) (fuel : ℕ) → is_some (pei_end board catalog fuel).ended ≡ true

@@ -1,0 +1,7 @@
+//! Laws of the machine of PEI, each on a function without a body.
+ghost use Rattle.boot_laws.specs.RunsEnd.{PeiRunsEnd};
+
+/// A run of PEI has ended within the steps that its catalogue and its fuel let it take.
+pub fn pei_runs_end()
+    ensures { PeiRunsEnd }
+{}
