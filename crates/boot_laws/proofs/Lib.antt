@@ -4,4 +4,7 @@ pub mod StoreMoved
 pub mod ActionMoved
 pub mod PeiCases
 pub mod PeiSteps
+pub mod Distinct
+pub mod PartLists
+pub mod Volumes
 mod PeiEnds
