@@ -7,4 +7,7 @@ pub mod PeiSteps
 pub mod Distinct
 pub mod PartLists
 pub mod Volumes
+pub mod Chains
+pub mod Groups
+pub mod Queue
 mod PeiEnds

@@ -47,11 +47,11 @@ found_one : {A : Type 0} (P : A → Type 0) (y x : A) (later : Option A) (b : Bo
 found_one P y x later true p down h = let same : y ≡ x = cc in subst P same p
 found_one P y x later false p down h = down h
 
-has_later : (a b : Bool) → b ≡ true → (a || b) ≡ true
+pub has_later : (a b : Bool) → b ≡ true → (a || b) ≡ true
 has_later true b h = refl
 has_later false b h = h
 
-has_here : (a b : Bool) → a ≡ true → (a || b) ≡ true
+pub has_here : (a b : Bool) → a ≡ true → (a || b) ≡ true
 has_here a b h = cc
 
 has_first : (x : ℕ) (xs : List ℕ) → has_number (x ∷ xs) x ≡ true

@@ -24,11 +24,11 @@ IsPartIn phase volume o = (is_some (option_and_then (part_of phase) o) ≡ true)
 abbrev pub IsPartOfVolume : Phase → Catalog → ℕ → ℕ → Type 0
 IsPartOfVolume phase catalog volume number = (is_some (part_at phase catalog number) ≡ true) × (module_volume catalog number ≡ volume)
 
-both_of : (a b : Bool) → (a && b) ≡ true → (a ≡ true) × (b ≡ true)
+pub both_of : (a b : Bool) → (a && b) ≡ true → (a ≡ true) × (b ≡ true)
 both_of true b h = (refl, h)
 both_of false b h = cc
 
-is_equal : (a b : ℕ) → (a == b) ≡ true → a ≡ b
+pub is_equal : (a b : ℕ) → (a == b) ≡ true → a ≡ b
 is_equal a b h = grind (arith, nat_tests)
 
 part_here : (phase : Phase) (volume : ℕ) (o : Option Module) (m : Module) → o ≡ Some m → is_part_in phase volume m ≡ true → IsPartIn phase volume o
@@ -82,7 +82,7 @@ rank_is (Some other) rank h = ap Some (is_equal other rank h)
 same_rank : (rank other : ℕ) → Some rank ≡ Some other → rank ≡ other
 same_rank rank other h = cc
 
-each_of : (P : ℕ → Type 0) → ((n : ℕ) → P n) → (xs : List ℕ) → Each P xs
+pub each_of : (P : ℕ → Type 0) → ((n : ℕ) → P n) → (xs : List ℕ) → Each P xs
 each_of P h [] = tt
 each_of P h (x ∷ xs) = (h x, each_of P h xs)
 
@@ -90,7 +90,7 @@ kept_one : (P : ℕ → Type 0) (b : Bool) (x : ℕ) (xs : List ℕ) → (b ≡ 
 kept_one P true x xs p e = (p refl, e)
 kept_one P false x xs p e = e
 
-passed : (P : ℕ → Type 0) (test : ℕ → Bool) (xs : List ℕ) → ((n : ℕ) → test n ≡ true → P n) → Each P (filter test xs)
+pub passed : (P : ℕ → Type 0) (test : ℕ → Bool) (xs : List ℕ) → ((n : ℕ) → test n ≡ true → P n) → Each P (filter test xs)
 passed P test [] h = tt
 passed P test (x ∷ xs) h = kept_one P (test x) x (filter test xs) (h x) (passed P test xs h)
 
@@ -127,7 +127,7 @@ distinct_of catalog f of volumes d =
     distinct_flat (IsPartOfVolume Dxe catalog) f (λ volume other n h k. sym h.1 ∙ k.1) volumes d (each_of (λ v. Distinct (f v)) (λ v. (of v).0) volumes)
     (each_of (λ v. Each (IsPartOfVolume Dxe catalog v) (f v)) (λ v. (of v).1) volumes)
 
-known_in : (catalog : Catalog) (volumes : List ℕ) (volume n : ℕ) → has_number volumes volume ≡ true → IsPartOfVolume Dxe catalog volume n → IsKnown catalog volumes n
+pub known_in : (catalog : Catalog) (volumes : List ℕ) (volume n : ℕ) → has_number volumes volume ≡ true → IsPartOfVolume Dxe catalog volume n → IsKnown catalog volumes n
 known_in catalog volumes volume n has is = (is.0, subst (λ v. has_number volumes v ≡ true) (sym is.1) has)
 
 pub known_of : (catalog : Catalog) (f : ℕ → List ℕ) → OfVolumes catalog f → (volumes : List ℕ) → Each (IsKnown catalog volumes) (flat_map f volumes)

@@ -58,7 +58,7 @@ distinct_family catalog volume numbered = family_differ volume 0 (volume ∷ [])
 abbrev pub IsNew : List ℕ → ℕ → Type 0
 IsNew known volume = has_number known volume ≡ false
 
-not_true : (b : Bool) → not b ≡ true → b ≡ false
+pub not_true : (b : Bool) → not b ≡ true → b ≡ false
 not_true true h = cc
 not_true false h = refl
 
