@@ -11,3 +11,6 @@ pub mod Chains
 pub mod Groups
 pub mod Queue
 mod PeiEnds
+pub mod DriverActions
+pub mod DxeCases
+pub mod DxeOnce

@@ -1,1 +1,2 @@
 pub mod RunsEnd
+pub mod DriverStarts

@@ -1,6 +1,8 @@
-//! Laws of the boot machine: what holds of every run, on every catalogue, whatever the scripts do.
+//! Laws of the boot machine: what holds of every run, whatever the scripts do.
 #![tactic(auto)]
 
+mod dxe;
 mod pei;
 
+pub use dxe::drivers_start_once;
 pub use pei::pei_runs_end;
