@@ -52,13 +52,13 @@ target_is None x h = cc
 target_is (Some number) x h = ap Some (is_equal number x h)
 
 -- those BEFORE a driver, and those AFTER it
-abbrev IsBefore : Catalog → DxeMachine → ℕ → ℕ → Type 0
+abbrev pub IsBefore : Catalog → DxeMachine → ℕ → ℕ → Type 0
 IsBefore catalog m x y = named_by before_of catalog m y ≡ Some x
 
-abbrev IsAfter : Catalog → DxeMachine → ℕ → ℕ → Type 0
+abbrev pub IsAfter : Catalog → DxeMachine → ℕ → ℕ → Type 0
 IsAfter catalog m x y = (named_by after_of catalog m y ≡ Some x) × (named_by before_of catalog m y ≡ None)
 
-are_before : (catalog : Catalog) (m : DxeMachine) (x : ℕ) → Each (IsBefore catalog m x) (befores catalog m x)
+pub are_before : (catalog : Catalog) (m : DxeMachine) (x : ℕ) → Each (IsBefore catalog m x) (befores catalog m x)
 are_before catalog m x = passed (IsBefore catalog m x) (λ number. targets catalog m x (name_by before_of catalog number)) (waiting catalog m) (λ n h. target_is (named_by before_of catalog m n) x h)
 
 after_is : (catalog : Catalog) (m : DxeMachine) (x n : ℕ) → targets catalog m x (name_by after_of catalog n) ≡ true → IsAfter catalog m x n
@@ -67,7 +67,7 @@ after_is catalog m x n h =
     let none : name_by before_of catalog n ≡ None = before_or_after (part_at Dxe catalog n) (named_some (driver_named catalog m) (name_by after_of catalog n) x e) in
     (e, ap (option_and_then (driver_named catalog m)) none)
 
-are_after : (catalog : Catalog) (m : DxeMachine) (x : ℕ) → Each (IsAfter catalog m x) (afters catalog m x)
+pub are_after : (catalog : Catalog) (m : DxeMachine) (x : ℕ) → Each (IsAfter catalog m x) (afters catalog m x)
 are_after catalog m x = passed (IsAfter catalog m x) (λ number. targets catalog m x (name_by after_of catalog number)) (waiting catalog m) (after_is catalog m x)
 
 before_names : (catalog : Catalog) (m : DxeMachine) (x y : ℕ) → IsBefore catalog m x y → target_of catalog m y ≡ Some x

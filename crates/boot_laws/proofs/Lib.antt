@@ -14,3 +14,8 @@ mod PeiEnds
 pub mod DriverActions
 pub mod DxeCases
 pub mod DxeOnce
+pub mod DxeSteps
+mod DxeEnds
+pub mod GroupLicences
+pub mod DxeStopsIdle
+mod DxeLicences

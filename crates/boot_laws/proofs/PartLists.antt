@@ -145,3 +145,8 @@ ranked_in catalog volume = ranked (rank_at Dxe catalog) (parts_in Dxe catalog vo
 pub ranked_are : (catalog : Catalog) → OfVolumes catalog (ranked_in catalog)
 ranked_are catalog volume =
     (distinct_ranked (rank_at Dxe catalog) (parts_in Dxe catalog volume) (distinct_parts Dxe catalog volume), each_ranked (IsPartOfVolume Dxe catalog volume) (rank_at Dxe catalog) (parts_in Dxe catalog volume) (parts_are Dxe catalog volume))
+
+-- the drivers that volumes schedule have a rank
+pub each_flat_ranked : (catalog : Catalog) (volumes : List ℕ) → Each (λ n. is_some (rank_at Dxe catalog n) ≡ true) (flat_map (ranked_in catalog) volumes)
+each_flat_ranked catalog volumes =
+    each_flat (λ n. is_some (rank_at Dxe catalog n) ≡ true) (λ v. Unit {0}) (ranked_in catalog) volumes (λ v _. have_rank (rank_at Dxe catalog) (parts_in Dxe catalog v)) (each_of (λ v. Unit {0}) (λ v. tt) volumes)

@@ -33,11 +33,11 @@ more_on : (here later more : Bool) → (later ≡ true → more ≡ true) → (h
 more_on true later more f h = refl
 more_on false later more f h = f h
 
-has_more : (xs ys : List ℕ) (v : ℕ) → has_number xs v ≡ true → has_number (xs ++ ys) v ≡ true
+pub has_more : (xs ys : List ℕ) (v : ℕ) → has_number xs v ≡ true → has_number (xs ++ ys) v ≡ true
 has_more [] ys v h = cc
 has_more (x ∷ xs) ys v h = more_on _ (has_number xs v) (has_number (xs ++ ys) v) (has_more xs ys v) h
 
-has_behind : (xs ys : List ℕ) (v : ℕ) → has_number ys v ≡ true → has_number (xs ++ ys) v ≡ true
+pub has_behind : (xs ys : List ℕ) (v : ℕ) → has_number ys v ≡ true → has_number (xs ++ ys) v ≡ true
 has_behind [] ys v h = h
 has_behind (x ∷ xs) ys v h = has_later _ (has_number (xs ++ ys) v) (has_behind xs ys v h)
 

@@ -1,2 +1,3 @@
 pub mod RunsEnd
 pub mod DriverStarts
+pub mod DriverLicences

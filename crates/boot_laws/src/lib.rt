@@ -4,5 +4,5 @@
 mod dxe;
 mod pei;
 
-pub use dxe::drivers_start_once;
+pub use dxe::{drivers_start_licensed, drivers_start_once, dxe_runs_end};
 pub use pei::pei_runs_end;
