@@ -19,3 +19,5 @@ mod DxeEnds
 pub mod GroupLicences
 pub mod DxeStopsIdle
 mod DxeLicences
+pub mod MovedHobs
+mod NestedInItself

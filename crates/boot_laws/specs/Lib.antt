@@ -1,3 +1,4 @@
 pub mod RunsEnd
 pub mod DriverStarts
 pub mod DriverLicences
+pub mod MoveKeepsHobs

@@ -5,4 +5,4 @@ mod dxe;
 mod pei;
 
 pub use dxe::{drivers_start_licensed, drivers_start_once, dxe_runs_end};
-pub use pei::pei_runs_end;
+pub use pei::{move_keeps_hobs, pei_runs_end};
