@@ -147,6 +147,7 @@ licensed_step : (catalog : Catalog) (past : List DxeMachine) (m : DxeMachine) �
 licensed_step catalog past m h = record {
   schedules = schedules_licensed catalog m;
   queue = h;
+  heads = λ next queue e. (starts_from catalog m m.frames next queue e).1;
   starts = λ next queue e. (starts_was catalog past m next queue e h).0;
   stops = stops_idle catalog m;
 }

@@ -21,3 +21,4 @@ pub mod DxeStopsIdle
 mod DxeLicences
 pub mod MovedHobs
 mod NestedInItself
+mod BootEnds

@@ -11,7 +11,7 @@ use Rattle.boot_model.specs.Lists.{Each}
 use Rattle.boot_model.specs.StoreState.{StoreState}
 use Rattle.boot_model.specs.Parts.{has_number, part_at, module_volume}
 use Rattle.boot_model.specs.DxeMachine.{DxeMachine}
-use Rattle.boot_model.specs.DxeChoice.{group_scheduled, first_eligible}
+use Rattle.boot_model.specs.DxeChoice.{driver_queue, group_scheduled, first_eligible}
 use Rattle.boot_model.specs.DxeStep.{dxe_case_of, dxe_step, DxeStarts}
 use Rattle.boot_model.specs.DxeRun.{dxe_opening}
 use Rattle.boot_model.specs.Licence.{IsMember, SchedulesLicensed, DxeStopsIdle}
@@ -44,10 +44,11 @@ pub record IsScheduledFrom (catalog : Catalog) (next : Scheduled) (m : DxeMachin
 abbrev pub WasLicensed : Catalog → List DxeMachine → List ℕ → Scheduled → Type 0
 WasLicensed catalog past discovered next = IsApriori catalog discovered next ⊎ OneOf (IsScheduledFrom catalog next) past
 
--- a machine of a run, with the machines before it: what it schedules and has scheduled is licensed, so what starts is, and if DXE stops from it no driver may start
+-- a machine of a run, with the machines before it: what it schedules and has scheduled is licensed, so what starts at the head of the queue is, and if DXE stops from it no driver may start
 pub record IsLicensedDxeStep (catalog : Catalog) (past : List DxeMachine) (m : DxeMachine) : Type 0 where
   pub schedules : SchedulesLicensed catalog m
   pub queue : Each (WasLicensed catalog past m.discovered) m.scheduled
+  pub heads : (next : Scheduled) (queue : List Scheduled) → dxe_case_of catalog m ≡ DxeStarts next queue → driver_queue catalog m ≡ next ∷ queue
   pub starts : (next : Scheduled) (queue : List Scheduled) → dxe_case_of catalog m ≡ DxeStarts next queue → WasLicensed catalog (m ∷ past) m.discovered next
   pub stops : DxeStopsIdle catalog m
 
