@@ -2,6 +2,7 @@
 use Rattle.std.proofs.Common.{◌≡◌, ℕ, zero, suc, ◌+◌, ◌*◌, ◌≤◌, ◌<◌, Bool, true, false, cond, List, [], ◌∷◌, Option, Some, None, refl, ap, subst, Ok, Err, nat_le, length, arith, is_some}
 use Rattle.std.specs.Option.{option_and_then}
 use Rattle.pi_base.specs.declared.phase.Phase.TheVariants.{Pei}
+use Rattle.act_code.specs.declared.action.Action.{Action}
 use Rattle.boot_model.specs.declared.catalog.Catalog.{Catalog}
 use Rattle.boot_model.specs.declared.catalog.Part.{Part}
 use Rattle.boot_model.specs.declared.frame.Frame.{Frame}
@@ -55,7 +56,7 @@ core_way : (catalog : Catalog) (m : PeiMachine) (service : Service Sweep) → Is
 core_way catalog m (Ok pair) h = record { sweeps = h.sweeps; parts = h.parts }
 core_way catalog m (Err fault) h = record { sweeps = h.sweeps; parts = h.parts }
 
-frames_later : (number : ℕ) (blocks : List (List _)) → SweepsAreLater (start_frames number blocks)
+frames_later : (number : ℕ) (blocks : List (List Action)) → SweepsAreLater (start_frames number blocks)
 frames_later number [] = tt
 frames_later number (block ∷ blocks) = ((λ _. refl), tt)
 
