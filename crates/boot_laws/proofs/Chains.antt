@@ -1,6 +1,5 @@
 -- Chains of targets: each number has at most one target, so a number stands at one height over one that has none, and the chains that lead to it never cross.
 use Rattle.std.proofs.Common.{◌≡◌, ℕ, zero, suc, ◌+◌, Option, Some, None, refl, sym, ap, subst, ◌∙◌, arith}
-use Rattle.std.specs.Prelude.{◌≢◌}
 
 -- k targets after the other lead from z to x
 abbrev pub Leads : (ℕ → Option ℕ) → ℕ → ℕ → ℕ → Type 0

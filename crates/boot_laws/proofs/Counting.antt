@@ -20,9 +20,9 @@ In x (y ∷ ys) = (x ≡ y) ⊎ In x ys
 -- the first, or one behind it
 low_or_later : (x from : ℕ) → from ≤ x → (x ≡ from) ⊎ (from + 1 ≤ x)
 low_or_later x from low = elim (x == from) as (λ b. (x == from) ≡ b → (x ≡ from) ⊎ (from + 1 ≤ x)) [
-    | true ↦ λ e. inl (grind (arith, nat_tests))
-    | false ↦ λ e. inr (grind (arith, nat_tests))
-  ] refl
+  | true ↦ λ e. inl (grind (arith, nat_tests))
+  | false ↦ λ e. inr (grind (arith, nat_tests))
+] refl
 
 pub in_numbers : (x from count : ℕ) → from ≤ x → x < from + count → In x (numbers from count)
 in_numbers x from zero low high = absurd (omega (arith, low, high))

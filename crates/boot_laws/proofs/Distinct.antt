@@ -1,11 +1,11 @@
 -- Lists in which no number stands twice.
-use Rattle.std.proofs.Common.{◌≡◌, ℕ, zero, suc, ◌+◌, ◌≤◌, ◌==◌, Bool, true, false, ◌||◌, cond, List, [], ◌∷◌, ◌++◌, refl, sym, subst, arith}
+use Rattle.std.proofs.Common.{◌≡◌, ℕ, zero, suc, ◌+◌, ◌≤◌, ◌==◌, Bool, true, false, ◌||◌, List, [], ◌∷◌, ◌++◌, refl, subst, arith}
 use Rattle.std.specs.Prelude.{◌≢◌, filter, flat_map}
 use Rattle.std.proofs.lemmas.Bool.Decides.{nat_tests}
 use Rattle.boot_model.specs.Lists.{Each, Ordered, numbers}
 use Rattle.boot_model.specs.Parts.{has_number}
 use Rattle.boot_model.specs.Licence.{AllDiffer}
-use Rattle.boot_laws.proofs.ListFacts.{each_more, each_append, each_filter, each_flat, each_both, each_cross, ordered_filter, ordered_append}
+use Rattle.boot_laws.proofs.ListFacts.{each_more, each_flat, each_both, each_cross, ordered_filter, ordered_append}
 
 -- the number is none of these, and none of those is one of these
 abbrev pub Apart : ℕ → List ℕ → Type 0

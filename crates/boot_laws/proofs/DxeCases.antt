@@ -1,5 +1,5 @@
 -- What each case of a step of DXE tells of the machine.
-use Rattle.std.proofs.Common.{◌≡◌, Bool, true, List, [], ◌∷◌, Option, Some, None, refl, is_some, ap}
+use Rattle.std.proofs.Common.{◌≡◌, true, List, [], ◌∷◌, Option, Some, None, refl, is_some, ap}
 use Rattle.std.specs.Option.{option_and_then}
 use Rattle.boot_model.specs.declared.catalog.Catalog.{Catalog}
 use Rattle.boot_model.specs.declared.driver.DriverFrame.{DriverFrame}

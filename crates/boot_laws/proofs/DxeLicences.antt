@@ -1,8 +1,7 @@
 -- Along a run of DXE each driver that is scheduled has had its licence.
-use Rattle.std.proofs.Common.{◌≡◌, ℕ, zero, suc, ◌+◌, Bool, true, false, ◌||◌, cond, List, [], ◌∷◌, ◌++◌, Option, Some, None, refl, sym, subst, ap, ◌∙◌, inl, inr, ◌⊎◌, is_some, nat_le, length, map}
-use Rattle.std.specs.Prelude.{find, flat_map}
+use Rattle.std.proofs.Common.{◌≡◌, ℕ, zero, suc, Bool, true, false, cond, List, [], ◌∷◌, ◌++◌, Option, Some, None, refl, sym, subst, inl, inr, is_some, nat_le, length}
+use Rattle.std.specs.Prelude.{flat_map}
 use Rattle.std.specs.Option.{option_and_then}
-use Rattle.std.specs.List.{list_any}
 use Rattle.pi_base.specs.declared.phase.Phase.TheVariants.{Dxe}
 use Rattle.boot_model.specs.declared.catalog.Catalog.{Catalog}
 use Rattle.boot_model.specs.declared.catalog.Part.{Part}
@@ -10,23 +9,22 @@ use Rattle.boot_model.specs.declared.driver.DriverFrame.{DriverFrame}
 use Rattle.boot_model.specs.declared.driver.Scheduled.{Scheduled}
 use Rattle.boot_model.specs.declared.licence.Licence.TheVariants as G
 use Rattle.boot_model.specs.Lists.{Each}
-use Rattle.boot_model.specs.StoreState.{StoreState}
 use Rattle.boot_model.specs.Service.Reading.{fv_bases}
-use Rattle.boot_model.specs.Parts.{has_number, part_at, rank_at, parts_in, module_volume}
+use Rattle.boot_model.specs.Parts.{part_at, rank_at, module_volume}
 use Rattle.boot_model.specs.Reporting.{newcomers}
 use Rattle.boot_model.specs.Discovery.{discoveries}
 use Rattle.boot_model.specs.DxeMachine.{DxeMachine, DxeSpent, DxeDeep}
-use Rattle.boot_model.specs.DxeChoice.{driver_queue, queue_from, a_priori_drivers, waiting, group_within, befores, afters, companion_group, schedule_of, group_scheduled, first_eligible, is_eligible_driver}
+use Rattle.boot_model.specs.DxeChoice.{driver_queue, queue_from, a_priori_drivers}
 use Rattle.boot_model.specs.DxeAction.{DxeEffect, DxeWrote, DxeCalled, DxeLogged, DxeSkipped, DxeReturned, dxe_effect, with_volumes}
 use Rattle.boot_model.specs.DxeStep.{DxeCase, DxeFires, DxeActs, DxeStarts, DxeStops, dxe_case_of, in_dxe_case, dxe_step, protocol_begun, after_dxe_effect, with_action, dxe_action_at, driver_started}
 use Rattle.boot_model.specs.DxeRun.{dxe_opening}
-use Rattle.boot_model.specs.Licence.{IsMember, DxeStopsIdle}
+use Rattle.boot_model.specs.Licence.{IsMember}
 use Rattle.boot_laws.specs.DriverLicences.{OneOf, IsApriori, group_of, IsScheduledFrom, WasLicensed, IsLicensedDxeStep, AlongDxeRun, DriversStartLicensed}
 use Rattle.boot_laws.proofs.ListFacts.{each_more, each_append, each_both}
-use Rattle.boot_laws.proofs.PartLists.{IsKnown, known_of, ranked_in, ranked_are, have_rank, each_flat_ranked}
+use Rattle.boot_laws.proofs.PartLists.{IsKnown, known_of, ranked_in, ranked_are, each_flat_ranked}
 use Rattle.boot_laws.proofs.Queue.{has_more, has_behind}
-use Rattle.boot_laws.proofs.DriverActions.{HasQueueOf, Discovers, Follows, EffectFollows, effect_follows}
-use Rattle.boot_laws.proofs.DxeCases.{starts_from, stops_from}
+use Rattle.boot_laws.proofs.DriverActions.{Follows, EffectFollows, effect_follows}
+use Rattle.boot_laws.proofs.DxeCases.{starts_from}
 use Rattle.boot_laws.proofs.GroupLicences.{each_of_map, schedules_licensed}
 use Rattle.boot_laws.proofs.DxeStopsIdle.{stops_idle}
 

@@ -1,5 +1,5 @@
 -- No driver starts twice: each machine of a run keeps its queue without one.
-use Rattle.std.proofs.Common.{◌≡◌, ℕ, zero, suc, ◌+◌, Bool, true, false, cond, List, [], ◌∷◌, ◌++◌, Option, Some, None, refl, sym, subst, ap, ◌∙◌, inl, inr, nat_le, length}
+use Rattle.std.proofs.Common.{◌≡◌, ℕ, zero, suc, Bool, true, false, cond, List, [], ◌∷◌, ◌++◌, Option, Some, None, refl, sym, subst, ap, ◌∙◌, inl, inr, nat_le, length}
 use Rattle.std.specs.Prelude.{flat_map}
 use Rattle.boot_model.specs.declared.catalog.Catalog.{Catalog}
 use Rattle.boot_model.specs.declared.catalog.Part.{Part}
@@ -14,16 +14,16 @@ use Rattle.boot_model.specs.Parts.{part_at}
 use Rattle.boot_model.specs.Reporting.{newcomers}
 use Rattle.boot_model.specs.Discovery.{discoveries}
 use Rattle.boot_model.specs.DxeMachine.{DxeMachine, DxeSpent, DxeDeep}
-use Rattle.boot_model.specs.DxeChoice.{driver_queue, a_priori_drivers}
+use Rattle.boot_model.specs.DxeChoice.{a_priori_drivers}
 use Rattle.boot_model.specs.DxeAction.{DxeEffect, DxeWrote, DxeCalled, DxeLogged, DxeSkipped, DxeReturned, dxe_effect, with_volumes}
 use Rattle.boot_model.specs.DxeStep.{DxeCase, DxeFires, DxeActs, DxeStarts, DxeStops, dxe_case_of, in_dxe_case, dxe_step, protocol_begun, after_dxe_effect, with_action, dxe_action_at, driver_started}
-use Rattle.boot_model.specs.DxeRun.{dxe_run, dxe_opening, dxe_opening_of}
+use Rattle.boot_model.specs.DxeRun.{dxe_run, dxe_opening}
 use Rattle.boot_laws.specs.DriverStarts.{DriversStartOnce}
 use Rattle.boot_laws.proofs.Distinct.{Distinct, all_differ}
 use Rattle.boot_laws.proofs.PartLists.{ranked_in}
 use Rattle.boot_laws.proofs.Volumes.{IsNew, newcomers_new, newcomers_differ, discoveries_differ}
 use Rattle.boot_laws.proofs.Queue.{numbers_of, AreQueued, IsQueued, discovered_more, head_dropped, head_started, next_queued, numbers_of_map, numbers_of_append}
-use Rattle.boot_laws.proofs.DriverActions.{HasQueueOf, Discovers, Follows, EffectFollows, effect_follows}
+use Rattle.boot_laws.proofs.DriverActions.{Follows, EffectFollows, effect_follows}
 use Rattle.boot_laws.proofs.DxeCases.{starts_from}
 
 -- the numbers of the drivers that volumes schedule

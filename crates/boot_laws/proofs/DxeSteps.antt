@@ -8,7 +8,7 @@ use Rattle.boot_model.specs.declared.catalog.Catalog.{Catalog}
 use Rattle.boot_model.specs.declared.catalog.Part.{Part}
 use Rattle.boot_model.specs.declared.driver.DriverFrame.{DriverFrame}
 use Rattle.boot_model.specs.declared.driver.Scheduled.{Scheduled}
-use Rattle.boot_model.specs.Lists.{Each, numbers}
+use Rattle.boot_model.specs.Lists.{numbers}
 use Rattle.boot_model.specs.WellFormed.{part_of}
 use Rattle.boot_model.specs.Parts.{has_number, part_at}
 use Rattle.boot_model.specs.DxeMachine.{DxeMachine, DxeSpent, DxeDeep}
@@ -16,8 +16,8 @@ use Rattle.boot_model.specs.DxeAction.{DxeEffect, DxeWrote, DxeCalled, DxeLogged
 use Rattle.boot_model.specs.DxeStep.{DxeCase, DxeFires, DxeActs, DxeStarts, DxeStops, dxe_case_of, in_dxe_case, dxe_step, next_note, protocol_begun, after_dxe_effect, with_action, dxe_action_at, driver_started, dxe_start_frames}
 use Rattle.boot_laws.proofs.Counting.{missing, In, in_numbers, fewer}
 use Rattle.boot_laws.proofs.ListFacts.{within}
-use Rattle.boot_laws.proofs.Distinct.{Apart, is_absent}
-use Rattle.boot_laws.proofs.Queue.{numbers_of, AreQueued, IsQueued}
+use Rattle.boot_laws.proofs.Distinct.{is_absent}
+use Rattle.boot_laws.proofs.Queue.{IsQueued}
 use Rattle.boot_laws.proofs.DriverActions.{Follows, EffectFollows, effect_follows}
 use Rattle.boot_laws.proofs.DxeCases.{fires_from, starts_from}
 use Rattle.boot_laws.proofs.DxeOnce.{queue_is}

@@ -1,11 +1,11 @@
 -- DXE stops only where nothing is scheduled and no driver that waits may start.
-use Rattle.std.proofs.Common.{◌≡◌, ℕ, zero, suc, Bool, true, false, ◌||◌, cond, List, [], ◌∷◌, ◌++◌, Option, Some, None, refl, length, map}
+use Rattle.std.proofs.Common.{◌≡◌, ℕ, zero, suc, Bool, true, false, ◌||◌, cond, List, [], ◌∷◌, ◌++◌, Option, Some, None, refl, length}
 use Rattle.std.specs.Prelude.{find, flat_map}
 use Rattle.std.specs.List.{list_any}
 use Rattle.boot_model.specs.declared.catalog.Catalog.{Catalog}
 use Rattle.boot_model.specs.declared.driver.Scheduled.{Scheduled}
 use Rattle.boot_model.specs.DxeMachine.{DxeMachine}
-use Rattle.boot_model.specs.DxeChoice.{queue_from, waiting, group_within, befores, afters, companion_group, schedule_of, group_scheduled, first_eligible, is_eligible_driver}
+use Rattle.boot_model.specs.DxeChoice.{queue_from, waiting, group_within, befores, afters, schedule_of, group_scheduled, first_eligible, is_eligible_driver}
 use Rattle.boot_model.specs.Licence.{DxeStopsIdle}
 use Rattle.boot_laws.proofs.DxeCases.{stops_from}
 

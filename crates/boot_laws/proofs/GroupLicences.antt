@@ -1,6 +1,6 @@
 -- Each driver of a group has its licence: the eligible one over the handles, each companion beside the one that it names.
-use Rattle.std.proofs.Common.{◌≡◌, ℕ, zero, suc, ◌==◌, Bool, true, false, not, ◌&&◌, ◌||◌, List, [], ◌∷◌, ◌++◌, Option, Some, None, refl, sym, subst, ap, ◌∙◌, length, map}
-use Rattle.std.specs.Prelude.{flat_map, find}
+use Rattle.std.proofs.Common.{◌≡◌, ℕ, zero, suc, ◌==◌, true, not, ◌||◌, List, [], ◌∷◌, ◌++◌, Option, Some, None, refl, ap, ◌∙◌, length, map}
+use Rattle.std.specs.Prelude.{flat_map}
 use Rattle.std.specs.Option.{option_and_then}
 use Rattle.std.specs.List.{list_any}
 use Rattle.pi_base.specs.declared.phase.Phase.TheVariants.{Dxe}
@@ -90,9 +90,11 @@ members catalog m queue (suc deep) x h e =
     let after = each_both (IsAfter catalog m x) (λ y. Each (InQueue queue) (group y)) (afters catalog m x) (are_after catalog m x) (each_list (InQueue queue) group (afters catalog m x) parts.1.1) in
     each_append (IsMemberNumber catalog m queue) left (x ∷ right)
     (each_flat (IsMemberNumber catalog m queue) (λ y. IsBefore catalog m x y × Each (InQueue queue) (group y)) group (befores catalog m x)
-    (λ y k. members catalog m queue deep y (before_member catalog m queue (part_at Dxe catalog y) x k.0 parts.1.0) k.1) before)
-    (h, each_flat (IsMemberNumber catalog m queue) (λ y. IsAfter catalog m x y × Each (InQueue queue) (group y)) group (afters catalog m x)
-    (λ y k. members catalog m queue deep y (after_member catalog m queue (part_at Dxe catalog y) x k.0.0 parts.1.0) k.1) after)
+    (λ y k. members catalog m queue deep y (before_member catalog m queue (part_at Dxe catalog y) x k.0 parts.1.0) k.1) before) (
+      h,
+      each_flat (IsMemberNumber catalog m queue) (λ y. IsAfter catalog m x y × Each (InQueue queue) (group y)) group (afters catalog m x)
+          (λ y k. members catalog m queue deep y (after_member catalog m queue (part_at Dxe catalog y) x k.0.0 parts.1.0) k.1) after,
+    )
 
 pub each_of_map : {A B : Type 0} (P : B → Type 0) (f : A → B) (xs : List A) → Each (λ x. P (f x)) xs → Each P (map f xs)
 each_of_map P f [] e = tt

@@ -1,6 +1,6 @@
 -- In the group of an eligible driver no driver stands twice: each companion names one driver, and the eligible one names none.
-use Rattle.std.proofs.Common.{◌≡◌, ℕ, zero, suc, ◌==◌, Bool, true, false, not, ◌&&◌, cond, List, [], ◌∷◌, ◌++◌, Option, Some, None, refl, sym, subst, ap, ◌∙◌, is_some, length}
-use Rattle.std.specs.Prelude.{◌≢◌, filter, flat_map}
+use Rattle.std.proofs.Common.{◌≡◌, ℕ, zero, suc, ◌==◌, Bool, true, false, not, List, ◌∷◌, ◌++◌, Option, Some, None, refl, sym, subst, ap, ◌∙◌, is_some}
+use Rattle.std.specs.Prelude.{◌≢◌, flat_map}
 use Rattle.std.specs.Option.{option_and_then}
 use Rattle.pi_base.specs.declared.guid.Guid.{Guid}
 use Rattle.pi_base.specs.declared.phase.Phase.TheVariants.{Dxe}
@@ -14,7 +14,7 @@ use Rattle.boot_model.specs.HandleState.{HandleState}
 use Rattle.boot_model.specs.DxeMachine.{DxeMachine}
 use Rattle.boot_model.specs.Parts.{part_at}
 use Rattle.boot_model.specs.DxeChoice.{waiting, driver_named, before_of, after_of, name_by, targets, befores, afters, group_within, lets_driver_start, driver_may_start, is_eligible_driver, is_unrequested}
-use Rattle.boot_laws.proofs.ListFacts.{each_more, each_append, each_filter, each_flat, each_both, each_cross, ordered_append}
+use Rattle.boot_laws.proofs.ListFacts.{each_more, each_append, each_filter, each_flat, each_both, each_cross}
 use Rattle.boot_laws.proofs.Distinct.{Apart, AllApart, Distinct, distinct_append, distinct_filter, distinct_flat}
 use Rattle.boot_laws.proofs.PartLists.{both_of, is_equal, passed}
 use Rattle.boot_laws.proofs.Chains.{Leads, leads_on, Over, one_below, not_over}

@@ -12,9 +12,9 @@ use Rattle.boot_model.specs.declared.state.HobEntry.{HobEntry}
 use Rattle.boot_model.specs.Lists.{Each}
 use Rattle.boot_model.specs.StoreState.{StoreState, Range, hob_len, body_len, header_len, handoff_len, body_from, descriptor_len}
 use Rattle.boot_model.specs.HeapImage.{descriptor_bytes, kind_flags, guid_address, guid_behind}
-use Rattle.boot_model.specs.Migration.{migrated_to, moved_hobs, moved_body, moved_descriptor, moved_value}
+use Rattle.boot_model.specs.Migration.{moved_hobs, moved_body, moved_descriptor, moved_value}
 use Rattle.boot_model.specs.Service.Descriptor.{is_named}
-use Rattle.boot_laws.specs.MoveKeepsHobs.{KeepsDescriptor, KeepsBody, KeepsPlace, KeepsHobs, HasWholeGuid, MoveKeepsHobs}
+use Rattle.boot_laws.specs.MoveKeepsHobs.{KeepsDescriptor, KeepsBody, KeepsPlace, HasWholeGuid, MoveKeepsHobs}
 use Rattle.boot_laws.proofs.PartLists.{is_equal}
 
 -- a notification's entry is not shifted
@@ -50,7 +50,7 @@ spelled_long a b c tail =
       length-append (little_bytes 8 c) tail,
       length-little_bytes 8 a,
       length-little_bytes 8 b,
-      length-little_bytes 8 c
+      length-little_bytes 8 c,
     )
 
 descriptor_long : (base place : ℕ) (d : DescriptorBody) → length d.guid.0 ≡ 16 → length (descriptor_bytes base place d) ≡ descriptor_len d.stands

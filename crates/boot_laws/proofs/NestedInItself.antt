@@ -1,5 +1,5 @@
 -- Why each volume's parent must come before it: a catalogue whose one volume is nested in itself discovers it twice, and its a priori driver starts twice.
-use Rattle.std.proofs.Common.{◌≡◌, ℕ, List, [], ◌∷◌, ◌++◌, Some, None, refl}
+use Rattle.std.proofs.Common.{◌≡◌, ℕ, [], ◌∷◌, Some, None, refl}
 use Rattle.std.specs.Prelude.{replicate}
 use Rattle.pi_base.specs.declared.phase.Phase.TheVariants.{Dxe}
 use Rattle.hob_codec.specs.declared.kind.TheConstants.{VOLUME}

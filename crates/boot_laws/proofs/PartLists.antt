@@ -1,5 +1,5 @@
 -- The drivers of a volume, by place and by rank: none stands twice, and each is a part of the volume.
-use Rattle.std.proofs.Common.{◌≡◌, ℕ, zero, suc, ◌+◌, ◌≤◌, ◌==◌, Bool, true, false, ◌&&◌, cond, List, [], ◌∷◌, ◌++◌, Option, Some, None, refl, sym, subst, ap, ◌∙◌, arith, is_some, option_map, length, map}
+use Rattle.std.proofs.Common.{◌≡◌, ℕ, suc, ◌+◌, ◌≤◌, ◌==◌, Bool, true, false, ◌&&◌, cond, List, [], ◌∷◌, ◌++◌, Option, Some, None, refl, sym, subst, ap, ◌∙◌, arith, is_some, option_map, length}
 use Rattle.std.specs.Prelude.{◌≢◌, filter, flat_map, slice_get, unwrap_or}
 use Rattle.std.specs.Option.{option_and_then}
 use Rattle.std.proofs.lemmas.Bool.Decides.{nat_tests}
@@ -7,14 +7,12 @@ use Rattle.pi_base.specs.declared.phase.Phase.{Phase}
 use Rattle.pi_base.specs.declared.phase.Phase.TheVariants.{Dxe}
 use Rattle.boot_model.specs.declared.catalog.Catalog.{Catalog}
 use Rattle.boot_model.specs.declared.catalog.Module.{Module}
-use Rattle.boot_model.specs.declared.driver.Scheduled.{Scheduled}
 use Rattle.boot_model.specs.Lists.{Each, numbers}
 use Rattle.boot_model.specs.WellFormed.{part_of}
 use Rattle.boot_model.specs.Parts.{has_number, part_at, rank_at, module_volume, is_part_in, parts_from, parts_in}
 use Rattle.boot_model.specs.PeiChoice.{is_rank, ranked}
-use Rattle.boot_model.specs.DxeChoice.{drivers_of}
-use Rattle.boot_laws.proofs.ListFacts.{each_more, each_append, each_filter, each_flat, each_has}
-use Rattle.boot_laws.proofs.Distinct.{Apart, Distinct, distinct_append, distinct_filter, distinct_flat, distinct_numbers}
+use Rattle.boot_laws.proofs.ListFacts.{each_more, each_filter, each_flat, each_has}
+use Rattle.boot_laws.proofs.Distinct.{Distinct, distinct_filter, distinct_flat, distinct_numbers}
 
 -- the module of a number, if there is one, has a part and is in the volume
 abbrev pub IsPartIn : Phase → ℕ → Option Module → Type 0

@@ -8,7 +8,7 @@ use Rattle.boot_model.specs.declared.state.Pending.{Pending}
 use Rattle.boot_model.specs.StoreState.{StoreState, Range}
 use Rattle.boot_model.specs.Migration.{migration, migrated_to}
 use Rattle.boot_model.specs.Service.Queue.{queue_pop, popped}
-use Rattle.boot_model.specs.PeiStep.{PeiCase, Fires, Acts, Moves, Pops, Starts, Stops, first_that_applies, acts}
+use Rattle.boot_model.specs.PeiStep.{PeiCase, Fires, Acts, Moves, Pops, Starts, first_that_applies, acts}
 
 -- the first that applies of these
 abbrev pub cases : Option (Firing × Sweep) → List Frame → Option StoreState → Option (Firing × StoreState) → Option ℕ → PeiCase

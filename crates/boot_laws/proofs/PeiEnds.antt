@@ -1,5 +1,5 @@
 -- A run of PEI ends.
-use Rattle.std.proofs.Common.{◌≡◌, ℕ, zero, suc, ◌+◌, ◌*◌, ◌≤◌, ◌<◌, Bool, true, false, cond, List, [], ◌∷◌, Option, Some, None, refl, ap, subst, Ok, Err, nat_le, length, arith, is_some}
+use Rattle.std.proofs.Common.{◌≡◌, ℕ, zero, suc, ◌+◌, ◌≤◌, ◌<◌, Bool, true, false, cond, List, [], ◌∷◌, Option, Some, None, refl, ap, Ok, Err, nat_le, length, arith, is_some}
 use Rattle.std.specs.Option.{option_and_then}
 use Rattle.pi_base.specs.declared.phase.Phase.TheVariants.{Pei}
 use Rattle.act_code.specs.declared.action.Action.{Action}
@@ -7,10 +7,8 @@ use Rattle.boot_model.specs.declared.catalog.Catalog.{Catalog}
 use Rattle.boot_model.specs.declared.catalog.Part.{Part}
 use Rattle.boot_model.specs.declared.frame.Frame.{Frame}
 use Rattle.boot_model.specs.declared.line.Line.TheVariants as L
-use Rattle.boot_model.specs.declared.store_handle.Firing.{Firing}
 use Rattle.boot_model.specs.declared.store_handle.Sweep.{Sweep}
-use Rattle.boot_model.specs.Lists.{Each, numbers}
-use Rattle.boot_model.specs.StoreState.{StoreState}
+use Rattle.boot_model.specs.Lists.{Each}
 use Rattle.boot_model.specs.Service.{Service}
 use Rattle.boot_model.specs.Service.Sweep.{next_match}
 use Rattle.boot_model.specs.Service.Queue.{queue_pop}
@@ -23,7 +21,7 @@ use Rattle.boot_model.specs.PeiAction.{Effect, Wrote, Called, Shadowed, Logged, 
 use Rattle.boot_model.specs.PeiStep.{PeiCase, Fires, Acts, Moves, Pops, Starts, Stops, case_of, in_case, pei_step, callback_begun, action_at, after_effect, core_called, started_part, start_frames, open_sweep, swept}
 use Rattle.boot_model.specs.PeiRun.{pei_run, pei_opening, pei_bound}
 use Rattle.boot_laws.specs.RunsEnd.{PeiRunsEnd}
-use Rattle.boot_laws.proofs.Counting.{missing, missing_most}
+use Rattle.boot_laws.proofs.Counting.{missing_most}
 use Rattle.boot_laws.proofs.PeiCases.{fires_from, acts_from, starts_from}
 use Rattle.boot_laws.proofs.PeiSteps.{SweepsAreLater, HasPart, IsUnderWay, steps_left, steps_run_out, next_has}
 

@@ -1,5 +1,5 @@
 -- The volumes that a report or a discovery adds are none of those before, and none comes twice.
-use Rattle.std.proofs.Common.{◌≡◌, ℕ, zero, suc, ◌+◌, ◌≤◌, ◌<◌, ◌==◌, ◌⊎◌, inl, inr, Bool, true, false, not, ◌||◌, cond, List, [], ◌∷◌, ◌++◌, Option, Some, None, refl, sym, subst, arith}
+use Rattle.std.proofs.Common.{◌≡◌, ℕ, ◌+◌, ◌<◌, ◌==◌, ◌⊎◌, inl, inr, Bool, true, false, not, ◌||◌, cond, List, [], ◌∷◌, ◌++◌, Option, Some, None, refl, sym, arith}
 use Rattle.std.specs.Prelude.{◌≢◌, filter, IfSome}
 use Rattle.boot_model.specs.declared.catalog.Catalog.{Catalog}
 use Rattle.boot_model.specs.declared.catalog.VolumeEntry.{VolumeEntry}
@@ -8,8 +8,8 @@ use Rattle.boot_model.specs.WellFormed.{AreNumbered}
 use Rattle.boot_model.specs.Parts.{has_number, is_nested_in, family_from, family, volume_at}
 use Rattle.boot_model.specs.Reporting.{newcomers}
 use Rattle.boot_model.specs.Discovery.{discoveries}
-use Rattle.boot_laws.proofs.ListFacts.{each_more, each_append, each_filter, each_at, each_both, each_cross, ordered_append}
-use Rattle.boot_laws.proofs.Distinct.{Apart, AllApart, Distinct, absent, is_absent, distinct_append, distinct_filter}
+use Rattle.boot_laws.proofs.ListFacts.{each_more, each_append, each_at}
+use Rattle.boot_laws.proofs.Distinct.{Apart, AllApart, Distinct, absent, distinct_append, distinct_filter}
 
 -- the volume itself, or one behind it and before a number
 abbrev IsOf : ℕ → ℕ → ℕ → Type 0

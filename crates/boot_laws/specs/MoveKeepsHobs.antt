@@ -1,7 +1,7 @@
 -- The move changes no HOB but descriptors: each HOB keeps its type, its length and so its place, and bodies that are bytes, nodes or pages stay as they are.
 -- A descriptor keeps its kind, its GUID and a notification's entry; one that nothing names becomes the bytes that it spelled before.
 -- PI 1.8, volume 1, "Installing PEI Memory"; which numbers are shifted is own.
-use Rattle.std.specs.Prelude.{◌≡◌, ◌≢◌, ℕ, List, length, map, Option, Some, None, ⊤}
+use Rattle.std.specs.Prelude.{◌≡◌, ◌≢◌, ℕ, length, map, Option, Some, None, ⊤}
 use Rattle.boot_model.specs.declared.store_handle.DescKind.TheVariants.{Ppi}
 use Rattle.boot_model.specs.declared.state.Body.{Body}
 use Rattle.boot_model.specs.declared.state.Body.TheVariants.{Bytes, Descriptor, Node, Allocation}
