@@ -1,0 +1,2 @@
+pub mod PlainBody
+pub mod PlainState

@@ -1,0 +1,22 @@
+-- What a body of a plain store stands for: its bytes, wherever they lie, or a descriptor, a node or pages.
+-- Own.
+use Rattle.std.specs.Prelude.{⊤}
+use Rattle.boot_model.specs.declared.state.Body.{Body}
+use Rattle.boot_model.specs.declared.state.Body.TheVariants as S
+use Rattle.store_plain.specs.declared.plain_hob.PlainBody.{PlainBody}
+use Rattle.store_plain.specs.declared.plain_hob.PlainBody.TheVariants.{Bytes, NodeBytes, ShortBytes, LongBytes, Descriptor, Node, Allocation}
+
+abbrev pub body_of : PlainBody → Body
+body_of (Bytes bytes) = S.Bytes bytes.items
+body_of (NodeBytes bytes) = S.Bytes bytes
+body_of (ShortBytes bytes) = S.Bytes bytes
+body_of (LongBytes bytes) = S.Bytes bytes
+body_of (Descriptor d) = S.Descriptor d
+body_of Node = S.Node
+body_of (Allocation a) = S.Allocation a
+
+abbrev pub IsBytes : Body → Type 0
+IsBytes (S.Bytes bytes) = ⊤
+IsBytes (S.Descriptor d) = ⊥
+IsBytes S.Node = ⊥
+IsBytes (S.Allocation a) = ⊥

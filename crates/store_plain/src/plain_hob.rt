@@ -1,0 +1,118 @@
+// A HOB whose contracts see it as the definitions do.
+ghost use Rattle.std.specs.Prelude.{◌≡◌, ◌≤◌, ◌+◌, ◌++◌, length, take, drop};
+ghost use Rattle.boot_model.specs.StoreState.{hob_len, body_len};
+ghost use Rattle.boot_model.specs.Service.Pool.{written};
+ghost use Rattle.store_plain.specs.PlainBody.{body_of, IsBytes};
+ghost use Rattle.boot_model.specs.Service.Descriptor.{descriptor_of};
+
+use crate::length::{ALLOCATION_LEN, HEADER_LEN, NODE_LEN, descriptor_len};
+use boot_model::{AllocationBody, DescriptorBody};
+use std::marker::Model;
+
+/// A body. The bytes of a node that left its list, and of a descriptor that was forgotten, lie in arrays, since the calls that leave them there take no memory.
+#[derive(Drop)]
+pub(crate) enum PlainBody {
+    Bytes(Vec<u8>),
+    /// Of a node.
+    NodeBytes([u8; 32]),
+    /// Of a descriptor whose GUID stands in a volume.
+    ShortBytes([u8; 24]),
+    /// Of a descriptor whose GUID stands behind it.
+    LongBytes([u8; 40]),
+    Descriptor(DescriptorBody),
+    Node,
+    Allocation(AllocationBody),
+}
+
+#[derive(Drop)]
+pub(crate) struct PlainHob {
+    kind: u16,
+    body: PlainBody,
+}
+
+impl Model for PlainHob {
+    ghost use Rattle.boot_model.specs.declared.state.HobEntry.{HobEntry};
+    ghost use Rattle.boot_model.specs.StoreState.{body_len};
+    ghost use Rattle.std.specs.Prelude.{◌≤◌};
+    ghost use Rattle.store_plain.specs.PlainBody.{body_of};
+
+    ghost Value = { HobEntry };
+
+    ghost view = { λ h. record { kind = h.kind; body = body_of h.body } };
+
+    ghost invariant = { λ h. body_len (body_of h.body) ≤ 65520 };
+}
+
+impl PlainHob {
+    // A HOB of this type and body.
+    pub(crate) fn new(kind: u16, body: PlainBody) -> PlainHob
+        requires { body_len (body_of body) ≤ 65520 }
+        ensures { result ≡ record { kind = kind; body = body_of body } }
+    {
+        PlainHob { kind, body }
+    }
+
+    pub(crate) fn kind(&self) -> u16
+        ensures { result ≡ self.now.kind }
+    {
+        self.kind
+    }
+
+    // The length, with the header.
+    pub(crate) fn len(&self) -> u16
+        ensures len { result ≡ hob_len self.now }
+        ensures most { result ≤ 65528 }
+    {
+        HEADER_LEN as u16
+            + match &self.body {
+                PlainBody::Bytes(bytes) => bytes.len() as u16,
+                PlainBody::NodeBytes(bytes) => bytes.as_slice().len() as u16,
+                PlainBody::ShortBytes(bytes) => bytes.as_slice().len() as u16,
+                PlainBody::LongBytes(bytes) => bytes.as_slice().len() as u16,
+                PlainBody::Descriptor(d) => descriptor_len(d.stands) as u16,
+                PlainBody::Node => NODE_LEN as u16,
+                PlainBody::Allocation(_) => ALLOCATION_LEN as u16,
+            }
+    }
+
+    // The descriptor that stands here.
+    pub(crate) fn descriptor(&self) -> Option<DescriptorBody>
+        ensures { result ≡ descriptor_of self.now.body }
+    {
+        match &self.body {
+            PlainBody::Bytes(_) => None,
+            PlainBody::NodeBytes(_) => None,
+            PlainBody::ShortBytes(_) => None,
+            PlainBody::LongBytes(_) => None,
+            PlainBody::Descriptor(d) => Some(*d),
+            PlainBody::Node => None,
+            PlainBody::Allocation(_) => None,
+        }
+    }
+
+    // Writes bytes over a part of its bytes.
+    pub(crate) fn write(&mut self, at: usize, bytes: &[u8])
+        requires bytes { IsBytes self.old.body }
+        requires room { at + length bytes.now ≤ body_len self.old.body }
+        ensures written { self.new ≡ record self.old { body = written at bytes.now self.old.body } }
+        ensures len { hob_len self.new ≡ hob_len self.old }
+    {
+        match &mut self.body {
+            PlainBody::Bytes(old) => write_over(old.as_mut_slice(), at, bytes),
+            PlainBody::NodeBytes(old) => write_over(old.as_mut_slice(), at, bytes),
+            PlainBody::ShortBytes(old) => write_over(old.as_mut_slice(), at, bytes),
+            PlainBody::LongBytes(old) => write_over(old.as_mut_slice(), at, bytes),
+            PlainBody::Descriptor(_) => {}
+            PlainBody::Node => {}
+            PlainBody::Allocation(_) => {}
+        }
+    }
+}
+
+// Writes bytes over a part of others.
+fn write_over(out: &mut [u8], at: usize, bytes: &[u8])
+    requires { at + length bytes.now ≤ length out.old }
+    ensures { out.new ≡ take at out.old ++ bytes.now ++ drop (at + length bytes.now) out.old }
+{
+    out[at..at + bytes.len()].copy_from_slice(bytes);
+}

@@ -1,0 +1,108 @@
+// What a store tells of its lists and of its HOBs.
+ghost use Rattle.std.specs.Prelude.{◌≡◌, true, IfOk, IfSome, slice_get, slice_index, filter, length, ◌<◌, ◌+◌, ◌^◌, is_some};
+ghost use Rattle.pi_base.specs.Field.{little_number};
+ghost use Rattle.boot_model.specs.Lists.{Each};
+ghost use Rattle.boot_model.specs.StateFacts.{IsStoreState};
+ghost use Rattle.boot_model.specs.Service.Descriptor.{descriptor_at};
+ghost use Rattle.boot_model.specs.Service.Install.{has_ppi};
+ghost use Rattle.boot_model.specs.Service.Reading.{nth_ppi, ppi_at, note_at, pending_at, hob_at, fv_bases, memory_due};
+ghost use Rattle.boot_model.specs.StoreState.{hob_len};
+
+use crate::kind::HANDOFF;
+use crate::length::HANDOFF_LEN;
+use crate::store::PlainStore;
+use boot_model::{Desc, DescKind, Entry, HobSpan, Pending};
+use pi_base::Guid;
+
+impl PlainStore {
+    ghost use Rattle.store_plain.specs.PlainState.{state_of};
+
+    // The n-th PPI of a GUID, and its value.
+    pub(crate) fn find_ppi(&self, guid: &Guid, n: u16) -> Option<(Desc, u64)>
+        ensures { result ≡ nth_ppi (state_of self.now) guid.now n }
+    {
+        let mut left = n;
+        'ppis: for entry in self.ppis.as_slice() {
+            if self.has_guid_at(entry.descriptor, guid) {
+                if left == 0 {
+                    let offset = entry.descriptor;
+                    return Some((Desc { offset }, self.number_at(offset)));
+                }
+                left -= 1;
+            }
+        }
+        None
+    }
+
+    // Whether a PPI of the GUID is installed.
+    pub(crate) fn has_ppi(&self, guid: &Guid) -> bool
+        ensures { result ≡ has_ppi (state_of self.now) guid.now }
+    {
+        'ppis: for entry in self.ppis.as_slice() {
+            if self.has_guid_at(entry.descriptor, guid) {
+                return true;
+            }
+        }
+        false
+    }
+
+    // The PPI in a place.
+    fn ppi_in(&self, place: u32) -> Option<Entry>
+        ensures { result ≡ slice_get self.now.ppis.items place }
+    {
+        self.ppis.as_slice().get(place as usize).copied()
+    }
+
+    // GUID, value and maker of the PPI in a place.
+    pub(crate) fn tell_ppi(&self, place: u32) -> Option<(Guid, u64, u32)>
+        requires { IsStoreState (state_of self.now) }
+        ensures { result ≡ ppi_at (state_of self.now) place }
+    {
+        match self.ppi_in(place) {
+            Some(entry) => Some((
+                self.guid_at(entry.descriptor),
+                self.number_at(entry.descriptor),
+                entry.by,
+            )),
+            None => None,
+        }
+    }
+
+    // The queued pair in a place.
+    fn pending_in(&self, place: u32) -> Option<Pending>
+        ensures { result ≡ slice_get self.now.pendings.items place }
+    {
+        self.pendings.as_slice().get(place as usize).copied()
+    }
+
+    pub(crate) fn is_due(&self) -> bool
+        ensures { result ≡ memory_due (state_of self.now) }
+    {
+        self.planned.is_some() && !self.moved
+    }
+
+    // The HOB at an offset of the heap.
+    #[tactic(auto, using(crate::proofs::Rest::part_of_rest))]
+    pub(crate) fn span_at(&self, offset: u64) -> Option<HobSpan>
+        ensures { result ≡ hob_at (state_of self.now) offset }
+    {
+        if offset == 0 {
+            return Some(HobSpan {
+                kind: HANDOFF,
+                length: HANDOFF_LEN as u16,
+                next: HANDOFF_LEN,
+            });
+        }
+        let mut at = HANDOFF_LEN;
+        'hobs: for hob in self.hobs.as_slice() {
+            let length = hob.len();
+            let next = at + length as u64;
+            if at == offset {
+                let kind = hob.kind();
+                return Some(HobSpan { kind, length, next });
+            }
+            at = next;
+        }
+        None
+    }
+}
