@@ -4,6 +4,14 @@ pub(crate) const HANDOFF: u16 = 1;
 
 pub(crate) const ALLOCATION: u16 = 2;
 
+pub(crate) const RESOURCE: u16 = 3;
+
+pub(crate) const NAMED: u16 = 4;
+
 pub(crate) const VOLUME: u16 = 5;
 
+pub(crate) const CPU: u16 = 6;
+
 pub(crate) const POOL: u16 = 7;
+
+pub(crate) const VOLUME2: u16 = 9;

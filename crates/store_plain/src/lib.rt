@@ -2,13 +2,16 @@
 #![tactic(auto)]
 
 mod descriptor;
+mod hob;
 mod kind;
 mod length;
 mod memory;
 mod plain_hob;
 mod pool;
+mod queue;
 mod reading;
 mod room;
 mod store;
+mod sweep;
 
 pub use store::PlainStore;

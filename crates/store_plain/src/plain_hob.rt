@@ -2,6 +2,8 @@
 ghost use Rattle.std.specs.Prelude.{◌≡◌, ◌≤◌, ◌+◌, ◌++◌, length, take, drop};
 ghost use Rattle.boot_model.specs.StoreState.{hob_len, body_len};
 ghost use Rattle.boot_model.specs.Service.Pool.{written};
+ghost use Rattle.boot_model.specs.Service.Queue.{zeroed};
+ghost use Rattle.boot_model.specs.declared.state.Body.TheVariants.{Node};
 ghost use Rattle.store_plain.specs.PlainBody.{body_of, IsBytes};
 ghost use Rattle.boot_model.specs.Service.Descriptor.{descriptor_of};
 
@@ -88,6 +90,15 @@ impl PlainHob {
             PlainBody::Node => None,
             PlainBody::Allocation(_) => None,
         }
+    }
+
+    // A node becomes zeros.
+    pub(crate) fn zero(&mut self)
+        requires { self.old.body ≡ Node }
+        ensures zeroed { self.new ≡ record self.old { body = zeroed self.old.body } }
+        ensures len { hob_len self.new ≡ hob_len self.old }
+    {
+        self.body = PlainBody::NodeBytes([0; 32]);
     }
 
     // Writes bytes over a part of its bytes.

@@ -3,15 +3,16 @@ ghost use Rattle.std.specs.Prelude.{◌≡◌, true, IfOk, IfSome, slice_get, sl
 ghost use Rattle.pi_base.specs.Field.{little_number};
 ghost use Rattle.boot_model.specs.Lists.{Each};
 ghost use Rattle.boot_model.specs.StateFacts.{IsStoreState};
-ghost use Rattle.boot_model.specs.Service.Descriptor.{descriptor_at};
+ghost use Rattle.boot_model.specs.Service.Descriptor.{descriptor_at, number_at};
 ghost use Rattle.boot_model.specs.Service.Install.{has_ppi};
-ghost use Rattle.boot_model.specs.Service.Reading.{nth_ppi, ppi_at, note_at, pending_at, hob_at, fv_bases, memory_due};
+ghost use Rattle.boot_model.specs.Service.Reading.{nth_ppi, ppi_at, note_at, pending_at, hob_at, fv_bases, memory_due, notes_of};
+ghost use Rattle.boot_model.specs.Service.Sweep.{firing_of};
 ghost use Rattle.boot_model.specs.StoreState.{hob_len};
 
 use crate::kind::HANDOFF;
 use crate::length::HANDOFF_LEN;
 use crate::store::PlainStore;
-use boot_model::{Desc, DescKind, Entry, HobSpan, Pending};
+use boot_model::{Desc, DescKind, Entry, Firing, HobSpan, Pending};
 use pi_base::Guid;
 
 impl PlainStore {
@@ -69,12 +70,76 @@ impl PlainStore {
     }
 
     // The queued pair in a place.
-    fn pending_in(&self, place: u32) -> Option<Pending>
+    pub(crate) fn pending_in(&self, place: u32) -> Option<Pending>
         ensures { result ≡ slice_get self.now.pendings.items place }
     {
         self.pendings.as_slice().get(place as usize).copied()
     }
 
+    // The notification in a place of its kind's list.
+    fn note_in(&self, kind: DescKind, place: u32) -> Option<Entry>
+        ensures { result ≡ slice_get (notes_of (state_of self.now) kind) place }
+    {
+        match kind {
+            DescKind::Ppi => None,
+            DescKind::Callback => self.callbacks.as_slice().get(place as usize).copied(),
+            DescKind::Dispatch => self.dispatches.as_slice().get(place as usize).copied(),
+        }
+    }
+
+    // The entry of a notification.
+    pub(crate) fn entry_at(&self, place: u64) -> u32
+        requires { number_at (state_of self.now) place < 0x40000 }
+        ensures { result ≡ number_at (state_of self.now) place }
+    {
+        self.number_at(place) as u32
+    }
+
+    // GUID and entry of the notification in a place.
+    #[tactic(auto, using(crate::proofs::Named::note_is_named, crate::proofs::Named::note_is_entry))]
+    pub(crate) fn tell_note(&self, kind: DescKind, place: u32) -> Option<(Guid, u32)>
+        requires { IsStoreState (state_of self.now) }
+        ensures { result ≡ note_at (state_of self.now) kind place }
+    {
+        match self.note_in(kind, place) {
+            Some(entry) => Some((
+                self.guid_at(entry.descriptor),
+                self.entry_at(entry.descriptor),
+            )),
+            None => None,
+        }
+    }
+
+    // The PPI's GUID, and the notification's entry, of the queued pair in a place.
+    #[tactic(auto, using(crate::proofs::Named::pending_is_named, crate::proofs::Named::pending_is_entry))]
+    pub(crate) fn tell_pending(&self, place: u32) -> Option<(Guid, u32)>
+        requires { IsStoreState (state_of self.now) }
+        ensures { result ≡ pending_at (state_of self.now) place }
+    {
+        match self.pending_in(place) {
+            Some(pending) => Some((
+                self.guid_at(pending.ppi),
+                self.entry_at(pending.descriptor),
+            )),
+            None => None,
+        }
+    }
+
+    // What a notification is told.
+    pub(crate) fn firing(&self, ppi: u64, note: u64) -> Firing
+        requires named { is_some (descriptor_at (state_of self.now) ppi) ≡ true }
+        requires entry { number_at (state_of self.now) note < 0x40000 }
+        ensures { result ≡ firing_of (state_of self.now) ppi note }
+    {
+        Firing {
+            entry: self.entry_at(note),
+            ppi: Desc { offset: ppi },
+            guid: self.guid_at(ppi),
+            value: self.number_at(ppi),
+        }
+    }
+
+    // Whether memory was planned and not yet moved to.
     pub(crate) fn is_due(&self) -> bool
         ensures { result ≡ memory_due (state_of self.now) }
     {
