@@ -5,3 +5,5 @@ pub mod Facts
 pub mod Named
 pub mod Encoded
 pub mod Sweeps
+pub mod Folds
+pub mod Renamed

@@ -1,2 +1,3 @@
 pub mod PlainBody
 pub mod PlainState
+pub mod Nodes

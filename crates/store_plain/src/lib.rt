@@ -3,9 +3,12 @@
 
 mod descriptor;
 mod hob;
+mod install;
 mod kind;
 mod length;
 mod memory;
+mod nodes;
+mod pairs;
 mod plain_hob;
 mod pool;
 mod queue;
