@@ -8,6 +8,7 @@ mod kind;
 mod length;
 mod memory;
 mod nodes;
+mod notify;
 mod pairs;
 mod plain_hob;
 mod pool;
