@@ -7,3 +7,4 @@ pub mod Encoded
 pub mod Sweeps
 pub mod Folds
 pub mod Renamed
+pub mod WordLists

@@ -1,3 +1,4 @@
 pub mod PlainBody
 pub mod PlainState
 pub mod Nodes
+pub mod Words

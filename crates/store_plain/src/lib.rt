@@ -17,5 +17,6 @@ mod reading;
 mod room;
 mod store;
 mod sweep;
+mod word_bytes;
 
 pub use store::PlainStore;
