@@ -8,3 +8,4 @@ pub mod Sweeps
 pub mod Folds
 pub mod Renamed
 pub mod WordLists
+pub mod Moves

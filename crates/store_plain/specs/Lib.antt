@@ -2,3 +2,4 @@ pub mod PlainBody
 pub mod PlainState
 pub mod Nodes
 pub mod Words
+pub mod Moves

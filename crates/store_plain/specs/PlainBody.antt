@@ -1,6 +1,7 @@
 -- What a body of a plain store stands for: its bytes, wherever they lie, or a descriptor, a node or pages.
 -- Own.
-use Rattle.std.specs.Prelude.{⊤}
+use Rattle.std.specs.Prelude.{ℕ, ⊤}
+use Rattle.boot_model.specs.HeapImage.{descriptor_bytes}
 use Rattle.boot_model.specs.declared.state.Body.{Body}
 use Rattle.boot_model.specs.declared.state.Body.TheVariants as S
 use Rattle.store_plain.specs.declared.plain_hob.PlainBody.{PlainBody}
@@ -20,3 +21,17 @@ IsBytes (S.Bytes bytes) = ⊤
 IsBytes (S.Descriptor d) = ⊥
 IsBytes S.Node = ⊥
 IsBytes (S.Allocation a) = ⊥
+
+-- a descriptor as its bytes at a place of a heap
+abbrev pub forgotten : ℕ → ℕ → Body → Body
+forgotten base place (S.Bytes bytes) = S.Bytes bytes
+forgotten base place (S.Descriptor d) = S.Bytes (descriptor_bytes base place d)
+forgotten base place S.Node = S.Node
+forgotten base place (S.Allocation a) = S.Allocation a
+
+-- a descriptor with another number
+abbrev pub renumbered : ℕ → Body → Body
+renumbered number (S.Bytes bytes) = S.Bytes bytes
+renumbered number (S.Descriptor d) = S.Descriptor (record d { number = number })
+renumbered number S.Node = S.Node
+renumbered number (S.Allocation a) = S.Allocation a

@@ -7,6 +7,7 @@ mod install;
 mod kind;
 mod length;
 mod memory;
+mod migration;
 mod nodes;
 mod notify;
 mod pairs;

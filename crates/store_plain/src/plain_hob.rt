@@ -1,13 +1,14 @@
 // A HOB whose contracts see it as the definitions do.
-ghost use Rattle.std.specs.Prelude.{◌≡◌, ◌≤◌, ◌+◌, ◌++◌, length, take, drop};
+ghost use Rattle.std.specs.Prelude.{◌≡◌, ◌≤◌, ◌<◌, ◌+◌, ◌++◌, ◌^◌, length, take, drop, is_some, true};
 ghost use Rattle.boot_model.specs.StoreState.{hob_len, body_len};
 ghost use Rattle.boot_model.specs.Service.Pool.{written};
 ghost use Rattle.boot_model.specs.Service.Queue.{zeroed};
 ghost use Rattle.boot_model.specs.declared.state.Body.TheVariants.{Node};
-ghost use Rattle.store_plain.specs.PlainBody.{body_of, IsBytes};
+ghost use Rattle.store_plain.specs.PlainBody.{body_of, IsBytes, forgotten, renumbered};
 ghost use Rattle.boot_model.specs.Service.Descriptor.{descriptor_of};
 
 use crate::length::{ALLOCATION_LEN, HEADER_LEN, NODE_LEN, descriptor_len};
+use crate::word_bytes::{descriptor_words, long_bytes, short_bytes};
 use boot_model::{AllocationBody, DescriptorBody};
 use std::marker::Model;
 
@@ -99,6 +100,40 @@ impl PlainHob {
         ensures len { hob_len self.new ≡ hob_len self.old }
     {
         self.body = PlainBody::NodeBytes([0; 32]);
+    }
+
+    // A descriptor becomes the bytes that it has at a place of a heap.
+    pub(crate) fn forget(&mut self, base: u64, place: u64)
+        requires fits { base + place + 24 < 2 ^ 64 }
+        requires descriptor { is_some (descriptor_of self.old.body) ≡ true }
+        ensures bytes { self.new ≡ record self.old { body = forgotten base place self.old.body } }
+        ensures len { hob_len self.new ≡ hob_len self.old }
+    {
+        let d = match self.descriptor() {
+            Some(d) => d,
+            None => unreachable!(),
+        };
+        let words = descriptor_words(base, place, &d);
+        self.body = match d.stands {
+            None => PlainBody::LongBytes(long_bytes(&words, &d.guid.0)),
+            Some(_) => PlainBody::ShortBytes(short_bytes(&words)),
+        };
+    }
+
+    // A descriptor has another number.
+    pub(crate) fn renumber(&mut self, number: u64)
+        ensures number { self.new ≡ record self.old { body = renumbered number self.old.body } }
+        ensures len { hob_len self.new ≡ hob_len self.old }
+    {
+        match &mut self.body {
+            PlainBody::Descriptor(d) => d.number = number,
+            PlainBody::Bytes(_) => {}
+            PlainBody::NodeBytes(_) => {}
+            PlainBody::ShortBytes(_) => {}
+            PlainBody::LongBytes(_) => {}
+            PlainBody::Node => {}
+            PlainBody::Allocation(_) => {}
+        }
     }
 
     // Writes bytes over a part of its bytes.
