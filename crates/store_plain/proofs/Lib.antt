@@ -9,3 +9,4 @@ pub mod Folds
 pub mod Renamed
 pub mod WordLists
 pub mod Moves
+pub mod Heap

@@ -3,3 +3,4 @@ pub mod PlainState
 pub mod Nodes
 pub mod Words
 pub mod Moves
+pub mod Peeking

@@ -1,10 +1,12 @@
 -- What a body of a plain store stands for: its bytes, wherever they lie, or a descriptor, a node or pages.
 -- Own.
-use Rattle.std.specs.Prelude.{ℕ, ⊤}
+use Rattle.std.specs.Prelude.{◌≡◌, ℕ, length, ⊤}
 use Rattle.boot_model.specs.HeapImage.{descriptor_bytes}
 use Rattle.boot_model.specs.declared.state.Body.{Body}
 use Rattle.boot_model.specs.declared.state.Body.TheVariants as S
 use Rattle.store_plain.specs.declared.plain_hob.PlainBody.{PlainBody}
+use Rattle.store_plain.specs.declared.plain_hob.Role.{Role}
+use Rattle.store_plain.specs.declared.plain_hob.Role.TheVariants as R
 use Rattle.store_plain.specs.declared.plain_hob.PlainBody.TheVariants.{Bytes, NodeBytes, ShortBytes, LongBytes, Descriptor, Node, Allocation}
 
 abbrev pub body_of : PlainBody → Body
@@ -35,3 +37,16 @@ renumbered number (S.Bytes bytes) = S.Bytes bytes
 renumbered number (S.Descriptor d) = S.Descriptor (record d { number = number })
 renumbered number S.Node = S.Node
 renumbered number (S.Allocation a) = S.Allocation a
+
+abbrev pub role_body : Role → Body
+role_body (R.Bytes bytes) = S.Bytes bytes.now
+role_body (R.Descriptor d) = S.Descriptor d
+role_body R.Node = S.Node
+role_body (R.Allocation a) = S.Allocation a
+
+-- a GUID has sixteen bytes
+abbrev pub IsSized : Body → Type 0
+IsSized (S.Bytes bytes) = ⊤
+IsSized (S.Descriptor d) = length d.guid.0 ≡ 16
+IsSized S.Node = ⊤
+IsSized (S.Allocation a) = ⊤

@@ -15,3 +15,5 @@ pub(crate) const CPU: u16 = 6;
 pub(crate) const POOL: u16 = 7;
 
 pub(crate) const VOLUME2: u16 = 9;
+
+pub(crate) const END: u16 = 0xffff;

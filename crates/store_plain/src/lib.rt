@@ -2,6 +2,7 @@
 #![tactic(auto)]
 
 mod descriptor;
+mod heap_byte;
 mod hob;
 mod install;
 mod kind;
@@ -11,6 +12,7 @@ mod migration;
 mod nodes;
 mod notify;
 mod pairs;
+mod peek;
 mod plain_hob;
 mod pool;
 mod queue;

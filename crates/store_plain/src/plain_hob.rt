@@ -4,7 +4,7 @@ ghost use Rattle.boot_model.specs.StoreState.{hob_len, body_len};
 ghost use Rattle.boot_model.specs.Service.Pool.{written};
 ghost use Rattle.boot_model.specs.Service.Queue.{zeroed};
 ghost use Rattle.boot_model.specs.declared.state.Body.TheVariants.{Node};
-ghost use Rattle.store_plain.specs.PlainBody.{body_of, IsBytes, forgotten, renumbered};
+ghost use Rattle.store_plain.specs.PlainBody.{body_of, role_body, IsBytes, IsSized, forgotten, renumbered};
 ghost use Rattle.boot_model.specs.Service.Descriptor.{descriptor_of};
 
 use crate::length::{ALLOCATION_LEN, HEADER_LEN, NODE_LEN, descriptor_len};
@@ -22,6 +22,14 @@ pub(crate) enum PlainBody {
     ShortBytes([u8; 24]),
     /// Of a descriptor whose GUID stands behind it.
     LongBytes([u8; 40]),
+    Descriptor(DescriptorBody),
+    Node,
+    Allocation(AllocationBody),
+}
+
+/// What a HOB has behind its header.
+pub(crate) enum Role<'a> {
+    Bytes(&'a [u8]),
     Descriptor(DescriptorBody),
     Node,
     Allocation(AllocationBody),
@@ -65,17 +73,24 @@ impl PlainHob {
     pub(crate) fn len(&self) -> u16
         ensures len { result ≡ hob_len self.now }
         ensures most { result ≤ 65528 }
+        ensures sized { IsSized self.now.body }
     {
-        HEADER_LEN as u16
-            + match &self.body {
-                PlainBody::Bytes(bytes) => bytes.len() as u16,
-                PlainBody::NodeBytes(bytes) => bytes.as_slice().len() as u16,
-                PlainBody::ShortBytes(bytes) => bytes.as_slice().len() as u16,
-                PlainBody::LongBytes(bytes) => bytes.as_slice().len() as u16,
-                PlainBody::Descriptor(d) => descriptor_len(d.stands) as u16,
-                PlainBody::Node => NODE_LEN as u16,
-                PlainBody::Allocation(_) => ALLOCATION_LEN as u16,
-            }
+        HEADER_LEN as u16 + body_len(&self.body)
+    }
+
+    // What it has behind its header.
+    pub(crate) fn role(&self) -> Role<'_>
+        ensures { role_body result ≡ self.now.body }
+    {
+        match &self.body {
+            PlainBody::Bytes(bytes) => Role::Bytes(bytes.as_slice()),
+            PlainBody::NodeBytes(bytes) => Role::Bytes(bytes.as_slice()),
+            PlainBody::ShortBytes(bytes) => Role::Bytes(bytes.as_slice()),
+            PlainBody::LongBytes(bytes) => Role::Bytes(bytes.as_slice()),
+            PlainBody::Descriptor(d) => Role::Descriptor(*d),
+            PlainBody::Node => Role::Node,
+            PlainBody::Allocation(allocation) => Role::Allocation(*allocation),
+        }
     }
 
     // The descriptor that stands here.
@@ -152,6 +167,33 @@ impl PlainHob {
             PlainBody::Node => {}
             PlainBody::Allocation(_) => {}
         }
+    }
+}
+
+// The law of a GUID's length.
+fn has_sixteen(guid: &[u8; 16])
+    ensures { length guid.now ≡ 16 }
+{
+    let _bytes = *guid;
+}
+
+// The length of a body.
+fn body_len(body: &PlainBody) -> u16
+    requires { body_len (body_of body.now) ≤ 65520 }
+    ensures len { result ≡ body_len (body_of body.now) }
+    ensures sized { IsSized (body_of body.now) }
+{
+    match body {
+        PlainBody::Bytes(bytes) => bytes.len() as u16,
+        PlainBody::NodeBytes(bytes) => bytes.as_slice().len() as u16,
+        PlainBody::ShortBytes(bytes) => bytes.as_slice().len() as u16,
+        PlainBody::LongBytes(bytes) => bytes.as_slice().len() as u16,
+        PlainBody::Descriptor(d) => {
+            has_sixteen(&d.guid.0);
+            descriptor_len(d.stands) as u16
+        }
+        PlainBody::Node => NODE_LEN as u16,
+        PlainBody::Allocation(_) => ALLOCATION_LEN as u16,
     }
 }
 

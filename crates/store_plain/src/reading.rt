@@ -1,7 +1,8 @@
 // What a store tells of its lists and of its HOBs.
 ghost use Rattle.std.specs.Prelude.{◌≡◌, true, IfOk, IfSome, slice_get, slice_index, filter, length, ◌<◌, ◌+◌, ◌^◌, is_some};
 ghost use Rattle.pi_base.specs.Field.{little_number};
-ghost use Rattle.boot_model.specs.Lists.{Each};
+ghost use Rattle.boot_model.specs.HeapImage.{body_bytes};
+ghost use Rattle.store_plain.specs.PlainBody.{IsBytes};
 ghost use Rattle.boot_model.specs.StateFacts.{IsStoreState};
 ghost use Rattle.boot_model.specs.Service.Descriptor.{descriptor_at, number_at};
 ghost use Rattle.boot_model.specs.Service.Install.{has_ppi};
@@ -9,11 +10,12 @@ ghost use Rattle.boot_model.specs.Service.Reading.{nth_ppi, ppi_at, note_at, pen
 ghost use Rattle.boot_model.specs.Service.Sweep.{firing_of};
 ghost use Rattle.boot_model.specs.StoreState.{hob_len};
 
-use crate::kind::HANDOFF;
+use crate::kind::{HANDOFF, VOLUME};
 use crate::length::HANDOFF_LEN;
+use crate::plain_hob::{PlainHob, Role};
 use crate::store::PlainStore;
 use boot_model::{Desc, DescKind, Entry, Firing, HobSpan, Pending};
-use pi_base::Guid;
+use pi_base::{Guid, OutOfMemory, Seq, u64_at};
 
 impl PlainStore {
     ghost use Rattle.store_plain.specs.PlainState.{state_of};
@@ -170,4 +172,58 @@ impl PlainStore {
         }
         None
     }
+
+    // The base of the volume that a HOB tells of.
+    fn volume_base(&self, hob: &PlainHob) -> u64
+        requires { IsBytes hob.now.body }
+        ensures { result ≡ little_number 8 (body_bytes (state_of self.now) 0 hob.now.body) }
+    {
+        match hob.role() {
+            Role::Bytes(bytes) => first_number(bytes),
+            Role::Descriptor(_) => unreachable!(),
+            Role::Node => unreachable!(),
+            Role::Allocation(_) => unreachable!(),
+        }
+    }
+
+    // The bases of the volumes that HOBs tell of.
+    pub(crate) fn volume_bases(&self) -> Result<Seq<u64>, OutOfMemory>
+        requires { IsStoreState (state_of self.now) }
+        ensures { IfOk result (λ bases. bases ≡ fv_bases (state_of self.now)) }
+    {
+        let mut bases = Seq::new(*self.hobs.allocator());
+        'hobs: for hob in self.hobs.as_slice() {
+            if hob.kind() == VOLUME {
+                match bases.push(self.volume_base(hob)) {
+                    Ok(()) => {}
+                    Err(OutOfMemory) => return Err(OutOfMemory),
+                }
+            }
+        }
+        Ok(bases)
+    }
+}
+
+// The byte in a place, and 0 past the last.
+fn byte_or_zero(bytes: &[u8], place: usize) -> u8
+    ensures { result ≡ slice_index bytes.now place }
+{
+    if place < bytes.len() { bytes[place] } else { 0 }
+}
+
+// The number in the first eight bytes, and zeros behind them.
+fn first_number(bytes: &[u8]) -> u64
+    ensures { result ≡ little_number 8 bytes.now }
+{
+    let word = [
+        byte_or_zero(bytes, 0),
+        byte_or_zero(bytes, 1),
+        byte_or_zero(bytes, 2),
+        byte_or_zero(bytes, 3),
+        byte_or_zero(bytes, 4),
+        byte_or_zero(bytes, 5),
+        byte_or_zero(bytes, 6),
+        byte_or_zero(bytes, 7),
+    ];
+    u64_at(word.as_slice(), 0)
 }
