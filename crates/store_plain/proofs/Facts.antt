@@ -101,34 +101,6 @@ pub pages_kept : (s t : StoreState) → s.taken ≡ t.taken → s.board ≡ t.bo
 pages_kept s t e b true h = tt
 pages_kept s t e b false h = subst (λ n. n ≤ t.board.pages) e (subst (λ (x : Board). s.taken ≤ x.pages) b h)
 
-pub end_more : (s : StoreState) (hob : HobEntry) → end_place (appended s hob) ≡ end_place s + hob_len hob
-end_more s hob = let e : sum_by hob_len (s.hobs ++ hob ∷ []) ≡ sum_by hob_len s.hobs + hob_len hob = sum_by_push hob_len s.hobs hob in omega (arith, e)
-
-room_more : (len end' end more pages : ℕ) → end' ≡ end + more → end + 8 + pages ≤ len → more ≤ len - 8 - end - pages → end' + 8 + pages ≤ len
-room_more len end' end more pages e h room = omega arith
-
-pub free_less : (s : StoreState) (hob : HobEntry) → free (appended s hob) ≡ free s - hob_len hob
-free_less s hob = let e = end_more s hob in omega (arith, e)
-
--- a HOB more
-pub appended_keeps : (s : StoreState) (hob : HobEntry) → IsStoreState s → IsBodyOf s hob.kind hob.body → hob_len hob ≤ free s → IsStoreState (appended s hob)
-appended_keeps s hob h is room =
-    let t = appended s hob in
-    let grown : Grown s t = grown_by s hob in
-    record {
-      ppis = each_more (IsEntry s Ppi) (IsEntry t Ppi) s.ppis (entry_grows s t Ppi grown) h.ppis;
-      callbacks = each_more (IsEntry s Callback) (IsEntry t Callback) s.callbacks (entry_grows s t Callback grown) h.callbacks;
-      dispatches = each_more (IsEntry s Dispatch) (IsEntry t Dispatch) s.dispatches (entry_grows s t Dispatch grown) h.dispatches;
-      pendings = each_more (IsPending s) (IsPending t) s.pendings (pending_grows s t grown) h.pendings;
-      nodes = h.nodes;
-      bodies = bodies_kept s t refl (s.hobs ++ hob ∷ []) (each_push (λ x. IsBodyOf s x.kind x.body) s.hobs hob h.bodies is);
-      room = room_more s.len (end_place t) (end_place s) (hob_len hob) (page_bytes s.moved s.taken) (end_more s hob) h.room room;
-      pages = pages_kept s t refl refl s.moved h.pages;
-      board = h.board;
-      planned = h.planned;
-      heap = heap_kept s t (record { board = refl; base = refl; len = refl; page_end = refl; planned = refl }) s.moved h.heap;
-    }
-
 -- the nodes in four lists, one after the other
 abbrev pub four : List Entry → List Entry → List Entry → List Pending → List ℕ
 four ppis callbacks dispatches pendings =

@@ -10,3 +10,4 @@ pub mod Renamed
 pub mod WordLists
 pub mod Moves
 pub mod Heap
+pub mod Sound
