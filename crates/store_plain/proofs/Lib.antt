@@ -11,3 +11,5 @@ pub mod WordLists
 pub mod Moves
 pub mod Heap
 pub mod Sound
+pub mod Added
+pub mod Again
