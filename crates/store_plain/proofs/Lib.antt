@@ -13,3 +13,4 @@ pub mod Heap
 pub mod Sound
 pub mod Added
 pub mod Again
+pub mod Changed

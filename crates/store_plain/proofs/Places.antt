@@ -26,7 +26,7 @@ body_here (hob ∷ hobs) at place (suc i) d le e =
     rw t (body_here hobs (at + hob_len hob) place i d (omega arith) (omega arith))
 
 -- nothing is changed at a place before the HOBs
-past : (change : Body → Body) (hobs : List HobEntry) (at place : ℕ) → place < at + 8 → with_body change at hobs place ≡ hobs
+pub past : (change : Body → Body) (hobs : List HobEntry) (at place : ℕ) → place < at + 8 → with_body change at hobs place ≡ hobs
 past change [] at place le = refl
 past change (hob ∷ hobs) at place le =
     let t : (at + 8 == place) ≡ false = apart_behind (at + 8) place (omega arith) in
