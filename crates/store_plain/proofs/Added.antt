@@ -145,7 +145,7 @@ desc_is s d h = (h.0, h.1, rw h.1 refl)
 pub ppi_desc : (s : StoreState) (d : Desc) → IsDesc s d → is_ppi (kind_at s d.offset) ≡ true → IsPpiDesc s d
 ppi_desc s d h e = subst (λ k. IsDescriptorAt s k d.offset) (ppi_only (kind_at s d.offset) e) (desc_is s d h)
 
-both_true : (a b : Bool) → (a && b) ≡ true → (a ≡ true) × (b ≡ true)
+pub both_true : (a b : Bool) → (a && b) ≡ true → (a ≡ true) × (b ≡ true)
 both_true true true e = (refl, refl)
 both_true true false e = cc
 both_true false b e = cc

@@ -67,7 +67,7 @@ pub pending_grows : (s t : StoreState) → Grown s t → (pending : Pending) →
 pending_grows s t grown pending h = (grown pending.node Node h.0, descriptor_grows s t Dispatch grown pending.descriptor h.1, descriptor_grows s t Ppi grown pending.ppi h.2)
 
 -- facts that rest on the board and on numbers alone
-guid_stays : (s t : StoreState) → s.board ≡ t.board → (d : DescriptorBody) (stands : Option ℕ) → IsGuidOf s d stands → IsGuidOf t d stands
+pub guid_stays : (s t : StoreState) → s.board ≡ t.board → (d : DescriptorBody) (stands : Option ℕ) → IsGuidOf s d stands → IsGuidOf t d stands
 guid_stays s t e d None h = tt
 guid_stays s t e d (Some address) h = subst (λ (board : Board). IsGuidOf (record s { board = board }) d (Some address)) e h
 

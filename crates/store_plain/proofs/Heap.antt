@@ -30,7 +30,7 @@ byte_right [] ys i j e = let same : i ≡ j = omega (arith, e) in ap (byte_of ys
 byte_right (x ∷ xs) ys zero j e = absurd (omega (arith, e))
 byte_right (x ∷ xs) ys (suc i) j e = byte_right xs ys i j (omega (arith, e))
 
-guid_len : (d : DescriptorBody) (stands : Option ℕ) → length d.guid.0 ≡ 16 → length (guid_behind d stands) + 24 ≡ descriptor_len stands
+pub guid_len : (d : DescriptorBody) (stands : Option ℕ) → length d.guid.0 ≡ 16 → length (guid_behind d stands) + 24 ≡ descriptor_len stands
 guid_len d None e = omega (arith, e)
 guid_len d (Some address) e = refl
 

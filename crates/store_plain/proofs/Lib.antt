@@ -14,3 +14,5 @@ pub mod Sound
 pub mod Added
 pub mod Again
 pub mod Changed
+pub mod Keeps
+pub mod Migrated

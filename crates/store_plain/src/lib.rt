@@ -6,6 +6,7 @@ mod heap_byte;
 mod hob;
 mod install;
 mod kind;
+mod laws;
 mod length;
 mod memory;
 mod migration;

@@ -1,0 +1,5 @@
+// test
+ghost use Rattle.store_plain.specs.Laws.{ModeLaw};
+pub fn mode_law()
+    ensures { ModeLaw }
+{}
