@@ -16,3 +16,4 @@ pub mod Again
 pub mod Changed
 pub mod Keeps
 pub mod Migrated
+pub mod Rows

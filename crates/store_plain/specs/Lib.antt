@@ -4,4 +4,3 @@ pub mod Nodes
 pub mod Words
 pub mod Moves
 pub mod Peeking
-pub mod Laws

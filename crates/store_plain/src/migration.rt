@@ -2,6 +2,8 @@
 ghost use Rattle.std.specs.Prelude.{◌≡◌, ◌≤◌, ◌<◌, ◌+◌, ◌^◌, ◌==◌, ◌||◌, true, false, length, get_or, slice_set};
 ghost use Rattle.boot_model.specs.declared.state.HobEntry.{HobEntry};
 ghost use Rattle.std.specs.List.{list_any};
+ghost use Rattle.boot_model.specs.Lists.{Each};
+ghost use Rattle.store_plain.specs.PlainBody.{IsSized};
 ghost use Rattle.boot_model.specs.StateFacts.{IsStoreState};
 ghost use Rattle.boot_model.specs.StoreCall.{Migrates, IsDue};
 ghost use Rattle.boot_model.specs.Service.Descriptor.{is_named, descriptors, descriptor_of};
@@ -108,6 +110,15 @@ impl PlainStore {
             let place = at + HEADER_LEN;
             at += self.hobs[index].len() as u64;
             self.move_hob(index, place, to);
+        }
+    }
+
+    // The law that each GUID has sixteen bytes.
+    pub(crate) fn are_sized(&self)
+        ensures { Each (λ hob. IsSized hob.body) self.now.hobs.items }
+    {
+        'hobs: for hob in self.hobs.as_slice() {
+            hob.len();
         }
     }
 

@@ -1,5 +1,0 @@
-// test
-ghost use Rattle.store_plain.specs.Laws.{ModeLaw};
-pub fn mode_law()
-    ensures { ModeLaw }
-{}
