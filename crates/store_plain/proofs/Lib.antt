@@ -17,3 +17,4 @@ pub mod Changed
 pub mod Keeps
 pub mod Migrated
 pub mod Rows
+pub mod Opening

@@ -1,7 +1,7 @@
 // A store over lists.
 ghost use Rattle.std.specs.Prelude.{◌≡◌, ◌+◌, ◌≤◌, sum_by, if◌then◌else◌};
 ghost use Rattle.boot_model.specs.StoreState.{hob_len, page_bytes};
-ghost use Rattle.boot_model.specs.StateFacts.{IsBoard};
+ghost use Rattle.boot_model.specs.StateFacts.{IsBoard, IsStoreState};
 ghost use Rattle.boot_model.specs.StoreState.{empty_store};
 
 use crate::length::{HANDOFF_LEN, HEADER_LEN};
@@ -41,12 +41,13 @@ pub struct PlainStore {
 }
 
 impl PlainStore {
-    ghost use Rattle.store_plain.specs.PlainState.{state_of, range_of};
+    ghost use Rattle.store_plain.specs.PlainState.{range_of, state_of};
 
     /// The store at the start of a boot: the heap in temporary RAM, without the last `pages` bytes, from which early pages are taken.
     pub fn new(alloc: Global, temp: Span, pages: u64, ram: Span, roms: Seq<Rom>) -> PlainStore
         requires { IsBoard (record { temp = range_of temp; pages = pages; ram = range_of ram; roms = roms }) }
-        ensures { state_of result ≡ empty_store (record { temp = range_of temp; pages = pages; ram = range_of ram; roms = roms }) }
+        ensures state { state_of result ≡ empty_store (record { temp = range_of temp; pages = pages; ram = range_of ram; roms = roms }) }
+        ensures facts { IsStoreState (empty_store (record { temp = range_of temp; pages = pages; ram = range_of ram; roms = roms })) }
     {
         PlainStore {
             temp,
