@@ -1,21 +1,18 @@
 -- The facts of a state are kept where entries and queued pairs are added, one after the other.
-use Rattle.std.proofs.Common.{◌≡◌, ◌≢◌, ℕ, ◌+◌, ◌≤◌, ◌<◌, Bool, true, false, List, [], ◌∷◌, ◌++◌, length, arith, sym, refl, ap, subst, ◌∙◌, Option, Some, None}
-use Rattle.std.specs.Prelude.{map, filter, fold, not, flat_map, if◌then◌else◌, ◌&&◌, ◌||◌}
+use Rattle.std.proofs.Common.{◌≡◌, ◌≢◌, ℕ, Bool, true, false, List, [], ◌∷◌, sym, refl, ap, subst, ◌∙◌}
+use Rattle.std.specs.Prelude.{map, fold, not, if◌then◌else◌, ◌&&◌, ◌||◌}
 use Rattle.std.specs.List.{list_all, list_any}
 use Rattle.boot_model.specs.declared.store_handle.DescKind.{DescKind}
 use Rattle.boot_model.specs.declared.store_handle.DescKind.TheVariants.{Ppi, Callback, Dispatch}
 use Rattle.boot_model.specs.declared.store_handle.Desc.{Desc}
 use Rattle.boot_model.specs.declared.state.Entry.{Entry}
-use Rattle.boot_model.specs.declared.state.Pending.{Pending}
-use Rattle.boot_model.specs.declared.state.DescriptorBody.{DescriptorBody}
-use Rattle.boot_model.specs.declared.state.Body.{Body}
-use Rattle.boot_model.specs.declared.state.Body.TheVariants.{Node, Descriptor}
+use Rattle.boot_model.specs.declared.state.Body.TheVariants.{Node}
 use Rattle.boot_model.specs.FileType.{same_guid}
 use Rattle.boot_model.specs.Lists.{Each}
-use Rattle.boot_model.specs.StoreState.{StoreState, next_body, pool_of, appended, body_at}
-use Rattle.boot_model.specs.StateFacts.{IsNodeAt, IsDescriptorAt, IsEntry, IsPending, IsDesc}
+use Rattle.boot_model.specs.StoreState.{StoreState, next_body, pool_of}
+use Rattle.boot_model.specs.StateFacts.{IsNodeAt, IsDescriptorAt, IsEntry, IsDesc}
 use Rattle.boot_model.specs.Service.Descriptor.{kind_at, guid_at, is_ppi, is_callback, descriptors, offsets}
-use Rattle.boot_model.specs.Service.Install.{with_node, with_ppi, with_pending, pairs_of, install_pairs, installed, renamed, reinstalled, reinstall_pairs}
+use Rattle.boot_model.specs.Service.Install.{with_node, with_ppi, with_pending, pairs_of, install_pairs, installed}
 use Rattle.boot_model.specs.Service.Notify.{with_note, with_note_of, note_entry, notified, notify_pairs, new_dispatches}
 use Rattle.store_plain.proofs.Ordered.{each_more, each_append, each_filter}
 use Rattle.store_plain.proofs.Facts.{Grown, grown_by, new_body, descriptor_grows}
@@ -123,9 +120,9 @@ dispatches_each : (s : StoreState) (list : List Desc) → Each (IsNote s) list �
 dispatches_each s [] h = tt
 dispatches_each s (d ∷ ds) h =
     kept_dispatch s d.offset (new_dispatches s ds) (is_callback (kind_at s d.offset))
-        (λ e. let kind : is_callback h.0.0 ≡ false = sym (ap is_callback (kind_is s h.0.0 d.offset h.0.2)) ∙ e in
-            subst (λ k. IsDescriptorAt s k d.offset) (not_callback h.0.0 h.0.1 kind) h.0.2)
-        (dispatches_each s ds h.1)
+    (λ e. let kind : is_callback h.0.0 ≡ false = sym (ap is_callback (kind_is s h.0.0 d.offset h.0.2)) ∙ e in
+    subst (λ k. IsDescriptorAt s k d.offset) (not_callback h.0.0 h.0.1 kind) h.0.2)
+    (dispatches_each s ds h.1)
 
 pub notified_sound : (s : StoreState) (list : List Desc) (by : ℕ) → IsSound s → Each (IsNote s) list → IsSound (notified s list by)
 notified_sound s list by h each =

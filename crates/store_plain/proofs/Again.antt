@@ -1,6 +1,6 @@
 -- The facts of a state are kept where a PPI is put in the place of another.
-use Rattle.std.proofs.Common.{◌≡◌, ℕ, Bool, true, false, cond, List, [], ◌∷◌, ◌++◌, sym, refl, ap, subst, ◌∙◌, ◌==◌}
-use Rattle.std.specs.Prelude.{map, fold}
+use Rattle.std.proofs.Common.{◌≡◌, ℕ, Bool, true, false, cond, List, [], ◌∷◌, ◌++◌, sym, refl, ap, subst, ◌==◌}
+use Rattle.std.specs.Prelude.{map}
 use Rattle.boot_model.specs.declared.store_handle.DescKind.TheVariants.{Ppi, Dispatch}
 use Rattle.boot_model.specs.declared.store_handle.Desc.{Desc}
 use Rattle.boot_model.specs.declared.state.Entry.{Entry}
@@ -9,8 +9,8 @@ use Rattle.boot_model.specs.Lists.{Each}
 use Rattle.boot_model.specs.StoreState.{StoreState}
 use Rattle.boot_model.specs.StateFacts.{IsDescriptorAt, IsEntry}
 use Rattle.boot_model.specs.Service.Descriptor.{descriptors}
-use Rattle.boot_model.specs.Service.Install.{with_pending, renamed, reinstalled, reinstall_pairs}
-use Rattle.store_plain.proofs.Facts.{bodies_kept, heap_kept, pages_kept, four}
+use Rattle.boot_model.specs.Service.Install.{renamed, reinstalled, reinstall_pairs}
+use Rattle.store_plain.proofs.Facts.{bodies_kept, heap_kept, pages_kept}
 use Rattle.store_plain.proofs.Sound.{IsSound, AreApart}
 use Rattle.store_plain.proofs.Added.{pairs_each, entries_each, pendings_sound}
 

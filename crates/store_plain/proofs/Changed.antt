@@ -1,5 +1,5 @@
 -- The facts of a state are kept where one body changes that no descriptor and no node of a list is.
-use Rattle.std.proofs.Common.{◌≡◌, ◌≢◌, ℕ, ◌+◌, ◌-◌, ◌≤◌, ◌<◌, Bool, true, false, cond, List, [], ◌∷◌, ◌++◌, length, take, drop, replicate, arith, sym, refl, ap, subst, ◌∙◌, Option, Some, None, ◌==◌, nat_lt, append_assoc, length-append, length-take, length-drop}
+use Rattle.std.proofs.Common.{◌≡◌, ◌≢◌, ℕ, ◌+◌, ◌≤◌, Bool, true, false, cond, List, [], ◌∷◌, ◌++◌, length, take, drop, arith, sym, refl, ap, subst, ◌∙◌, Some, ◌==◌, append_assoc, length-append, length-take, length-drop}
 use Rattle.std.specs.Prelude.{map}
 use Rattle.std.proofs.lemmas.Bool.Decides.{nat_tests}
 use Rattle.hob_codec.specs.declared.kind.TheConstants.{POOL, ALLOCATION}
@@ -9,15 +9,15 @@ use Rattle.boot_model.specs.declared.store_handle.Pool.{Pool}
 use Rattle.boot_model.specs.declared.state.Entry.{Entry}
 use Rattle.boot_model.specs.declared.state.Pending.{Pending}
 use Rattle.boot_model.specs.declared.state.Body.{Body}
-use Rattle.boot_model.specs.declared.state.Body.TheVariants.{Bytes, Descriptor, Node, Allocation}
+use Rattle.boot_model.specs.declared.state.Body.TheVariants.{Bytes, Descriptor, Node}
 use Rattle.boot_model.specs.declared.state.HobEntry.{HobEntry}
-use Rattle.boot_model.specs.Lists.{Each, Ordered}
+use Rattle.boot_model.specs.Lists.{Each}
 use Rattle.boot_model.specs.StoreState.{StoreState, hob_len, body_len, body_at, body_from, with_body}
 use Rattle.boot_model.specs.StateFacts.{IsNodeAt, IsDescriptorAt, IsEntry, IsPending, IsBodyOf, IsPool}
 use Rattle.boot_model.specs.Service.Pool.{written}
 use Rattle.boot_model.specs.Service.Queue.{zeroed}
-use Rattle.store_plain.proofs.Ordered.{each_more, each_both, each_of_map, each_left, each_right, ordered_drop, differ_from, each_drop}
-use Rattle.store_plain.proofs.Places.{apart, past}
+use Rattle.store_plain.proofs.Ordered.{each_more, each_both, each_of_map, each_left, each_right, ordered_drop, differ_from}
+use Rattle.store_plain.proofs.Places.{past}
 use Rattle.store_plain.proofs.Facts.{bodies_kept, heap_kept, pages_kept, four}
 use Rattle.store_plain.proofs.Sound.{IsSound, AreApart}
 
@@ -99,9 +99,9 @@ written_sound s to at bytes h is fits =
     let len : body_len (written at bytes (Bytes old)) ≡ length old = written_len at bytes old (omega (arith, fits, is.2)) in
     let node : (place : ℕ) → IsNodeAt s place → IsNodeAt t place = λ place n. node_stays (written at bytes) s to.offset (Bytes old) found len place (node_at_bytes s to.offset place old found n) n in
     let descriptor : (kind : DescKind) (place : ℕ) → IsDescriptorAt s kind place → IsDescriptorAt t kind place =
-        λ kind place d. descriptor_stays (written at bytes) s to.offset (Bytes old) found len kind place (descriptor_at_bytes s kind to.offset place old found d) d in
+    λ kind place d. descriptor_stays (written at bytes) s to.offset (Bytes old) found len kind place (descriptor_at_bytes s kind to.offset place old found d) d in
     let entries : (kind : DescKind) (xs : List Entry) → Each (IsEntry s kind) xs → Each (IsEntry t kind) xs =
-        λ kind xs each. each_more (IsEntry s kind) (IsEntry t kind) xs (λ entry e. (node entry.node e.0, descriptor kind entry.descriptor e.1)) each in
+    λ kind xs each. each_more (IsEntry s kind) (IsEntry t kind) xs (λ entry e. (node entry.node e.0, descriptor kind entry.descriptor e.1)) each in
     record {
       ppis = entries Ppi s.ppis h.ppis;
       callbacks = entries Callback s.callbacks h.callbacks;
@@ -110,7 +110,7 @@ written_sound s to at bytes h is fits =
       nodes = h.nodes;
       bodies = bodies_kept s t refl (with_body (written at bytes) 56 s.hobs to.offset)
           (each_changed (λ hob. IsBodyOf s hob.kind hob.body) (written at bytes) s.hobs 56 to.offset (Bytes old) found
-              (λ x e p. let q : IsBodyOf s x.kind (Bytes old) = subst (λ b. IsBodyOf s x.kind b) e p in subst (λ b. IsBodyOf s x.kind (written at bytes b)) (sym e) q) h.bodies);
+          (λ x e p. let q : IsBodyOf s x.kind (Bytes old) = subst (λ b. IsBodyOf s x.kind b) e p in subst (λ b. IsBodyOf s x.kind (written at bytes b)) (sym e) q) h.bodies);
       pages = pages_kept s t refl refl s.moved h.pages;
       board = h.board;
       planned = h.planned;
@@ -150,21 +150,24 @@ popped_sound s first rest h e =
     let here : Each (λ m. m ≢ p) front = each_left (λ m. m ≢ p) front (map pending_node rest) others in
     let firsts : Each (λ m. m ≢ p) (map node_of s.ppis ++ map node_of s.callbacks) = each_left (λ m. m ≢ p) (map node_of s.ppis ++ map node_of s.callbacks) (map node_of s.dispatches) here in
     let entries : (kind : DescKind) (xs : List Entry) → Each (λ m. m ≢ p) (map node_of xs) → Each (IsEntry s kind) xs → Each (IsEntry t kind) xs =
-        λ kind xs apart each. each_more (λ entry. (IsEntry s kind entry × (entry.node ≢ p))) (IsEntry t kind) xs
-            (λ entry x. (node_stays zeroed s p Node found refl entry.node x.1 x.0.0, descriptor_stays zeroed s p Node found refl kind entry.descriptor (descriptor_at_node s kind p entry.descriptor found x.0.1) x.0.1))
-            (each_both (IsEntry s kind) (λ (entry : Entry). entry.node ≢ p) xs each (each_of_map node_of (λ m. m ≢ p) xs apart)) in
+    λ kind xs apart each. each_more (λ entry. (IsEntry s kind entry × (entry.node ≢ p))) (IsEntry t kind) xs
+    (λ entry x. (node_stays zeroed s p Node found refl entry.node x.1 x.0.0, descriptor_stays zeroed s p Node found refl kind entry.descriptor (descriptor_at_node s kind p entry.descriptor found x.0.1) x.0.1))
+    (each_both (IsEntry s kind) (λ (entry : Entry). entry.node ≢ p) xs each (each_of_map node_of (λ m. m ≢ p) xs apart)) in
     record {
       ppis = entries Ppi s.ppis (each_left (λ m. m ≢ p) (map node_of s.ppis) (map node_of s.callbacks) firsts) h.ppis;
       callbacks = entries Callback s.callbacks (each_right (λ m. m ≢ p) (map node_of s.ppis) (map node_of s.callbacks) firsts) h.callbacks;
       dispatches = entries Dispatch s.dispatches (each_right (λ m. m ≢ p) (map node_of s.ppis ++ map node_of s.callbacks) (map node_of s.dispatches) here) h.dispatches;
       pendings = each_more (λ pending. (IsPending s pending × (pending.node ≢ p))) (IsPending t) rest
-          (λ pending x. (node_stays zeroed s p Node found refl pending.node x.1 x.0.0, descriptor_stays zeroed s p Node found refl Dispatch pending.descriptor (descriptor_at_node s Dispatch p pending.descriptor found x.0.1) x.0.1,
-              descriptor_stays zeroed s p Node found refl Ppi pending.ppi (descriptor_at_node s Ppi p pending.ppi found x.0.2) x.0.2))
+          (λ pending x. (
+            node_stays zeroed s p Node found refl pending.node x.1 x.0.0,
+            descriptor_stays zeroed s p Node found refl Dispatch pending.descriptor (descriptor_at_node s Dispatch p pending.descriptor found x.0.1) x.0.1,
+            descriptor_stays zeroed s p Node found refl Ppi pending.ppi (descriptor_at_node s Ppi p pending.ppi found x.0.2) x.0.2,
+          ))
           (each_both (IsPending s) (λ (pending : Pending). pending.node ≢ p) rest queued.1 (each_of_map pending_node (λ m. m ≢ p) rest (each_right (λ m. m ≢ p) front (map pending_node rest) others)));
       nodes = subst AreApart (joined s.ppis s.callbacks s.dispatches rest) (ordered_drop (λ a b. a ≢ b) front (map pending_node rest) p nodes);
       bodies = bodies_kept s t refl (with_body zeroed 56 s.hobs p)
           (each_changed (λ hob. IsBodyOf s hob.kind hob.body) zeroed s.hobs 56 p Node found
-              (λ x is b. let pool : x.kind ≡ POOL = subst (λ y. IsBodyOf s x.kind y) is b in λ kind. pool_is_none x.kind pool kind) h.bodies);
+          (λ x is b. let pool : x.kind ≡ POOL = subst (λ y. IsBodyOf s x.kind y) is b in λ kind. pool_is_none x.kind pool kind) h.bodies);
       pages = pages_kept s t refl refl s.moved h.pages;
       board = h.board;
       planned = h.planned;

@@ -1,5 +1,5 @@
 -- A HOB's fields stand behind its header.
-use Rattle.std.proofs.Common.{◌≡◌, ℕ, List, ◌++◌, drop, refl}
+use Rattle.std.proofs.Common.{◌≡◌, drop, refl}
 use Rattle.hob_codec.specs.HobValue.{HobValue}
 use Rattle.hob_codec.specs.HobBytes.{hob_bytes, fields_of, joined}
 

@@ -1,22 +1,21 @@
 -- What holds of every state still holds where a HOB, an entry or a queued pair is added.
-use Rattle.std.proofs.Common.{◌≡◌, ◌≢◌, ℕ, zero, suc, ◌+◌, ◌-◌, ◌≤◌, ◌<◌, Bool, true, false, cond, List, [], ◌∷◌, ◌++◌, length, arith, sym, refl, ap, subst, ◌∙◌, append_assoc, Option, Some, None, ◌==◌, sum_by}
-use Rattle.std.specs.Prelude.{map, AllPairs, IfSome, ⊤}
+use Rattle.std.proofs.Common.{◌≡◌, ℕ, ◌+◌, ◌≤◌, ◌<◌, Bool, true, false, cond, List, [], ◌∷◌, ◌++◌, arith, sym, refl, ap, subst, ◌∙◌, append_assoc, Option, Some, None, ◌==◌, sum_by}
+use Rattle.std.specs.Prelude.{map}
 use Rattle.std.proofs.lemmas.List.{map-append}
-use Rattle.std.proofs.lemmas.List.Sums.{sum_by_push, sum_by-cons}
+use Rattle.std.proofs.lemmas.List.Sums.{sum_by-cons}
 use Rattle.std.proofs.lemmas.Bool.Decides.{nat_tests}
-use Rattle.hob_codec.specs.declared.kind.TheConstants.{POOL, ALLOCATION}
 use Rattle.boot_model.specs.declared.store_handle.DescKind.{DescKind}
-use Rattle.boot_model.specs.declared.store_handle.DescKind.TheVariants.{Ppi, Callback, Dispatch}
+use Rattle.boot_model.specs.declared.store_handle.DescKind.TheVariants.{Ppi, Dispatch}
 use Rattle.boot_model.specs.declared.state.Entry.{Entry}
 use Rattle.boot_model.specs.declared.state.Pending.{Pending}
 use Rattle.boot_model.specs.declared.state.DescriptorBody.{DescriptorBody}
 use Rattle.boot_model.specs.declared.state.Body.{Body}
 use Rattle.boot_model.specs.declared.state.Body.TheVariants.{Bytes, Descriptor, Node, Allocation}
 use Rattle.boot_model.specs.declared.state.HobEntry.{HobEntry}
-use Rattle.boot_model.specs.Lists.{Each, Ordered}
-use Rattle.boot_model.specs.StoreState.{StoreState, Board, Range, hob_len, body_at, body_from, end_place, next_body, page_bytes, free, appended, pool_of}
-use Rattle.boot_model.specs.StateFacts.{IsNodeAt, IsDescriptorAt, IsEntry, IsPending, nodes, IsGuidOf, IsBodyOf, ArePages, IsHeap, IsStoreState, IsPlanned, IsBoard}
-use Rattle.store_plain.proofs.Ordered.{each_more, each_append, each_push, each_left, each_right, each_of_map, each_to_map, ordered_of, pairs_of_ordered, differ_put}
+use Rattle.boot_model.specs.Lists.{Each}
+use Rattle.boot_model.specs.StoreState.{StoreState, Board, hob_len, body_at, body_from, appended}
+use Rattle.boot_model.specs.StateFacts.{IsDescriptorAt, IsEntry, IsPending, nodes, IsGuidOf, IsBodyOf, ArePages, IsHeap}
+use Rattle.store_plain.proofs.Ordered.{each_more}
 use Rattle.store_plain.proofs.Places.{apart}
 
 -- a HOB more changes no body that was there
@@ -54,8 +53,8 @@ body_before [] at place body h = cc
 body_before (first ∷ hobs) at place body h =
     let c : sum_by hob_len (first ∷ hobs) ≡ hob_len first + sum_by hob_len hobs = sum_by-cons hob_len first hobs in
     before_on (at + 8 == place) first.body (body_from (at + hob_len first) hobs place) body place (at + sum_by hob_len (first ∷ hobs) + 1)
-        (λ t. let e : at + 8 ≡ place = grind (arith, nat_tests, t) in omega (arith, e, c))
-        (λ later. let le : place < at + hob_len first + sum_by hob_len hobs + 1 = body_before hobs (at + hob_len first) place body later in omega (arith, le, c)) h
+    (λ t. let e : at + 8 ≡ place = grind (arith, nat_tests, t) in omega (arith, e, c))
+    (λ later. let le : place < at + hob_len first + sum_by hob_len hobs + 1 = body_before hobs (at + hob_len first) place body later in omega (arith, le, c)) h
 
 pub descriptor_grows : (s t : StoreState) (kind : DescKind) → Grown s t → (place : ℕ) → IsDescriptorAt s kind place → IsDescriptorAt t kind place
 descriptor_grows s t kind grown place h = (h.0, grown place (Descriptor h.0) h.1, h.2)
@@ -92,10 +91,11 @@ pub heap_kept : (s t : StoreState) → Placed s t → (moved : Bool) → IsHeap 
 heap_kept s t p true h =
     let a : t.planned ≡ Some (record { base = t.base; len = t.len }) = sym p.planned ∙ h.0 ∙ ap (λ b. Some (record { base = b; len = s.len })) p.base ∙ ap (λ l. Some (record { base = t.base; len = l })) p.len in
     (a, sym p.page_end ∙ h.1 ∙ ap (λ b. b + s.len) p.base ∙ ap (λ l. t.base + l) p.len)
-heap_kept s t p false h =
-    (sym p.base ∙ h.0 ∙ ap (λ (b : Board). b.temp.base) p.board,
-    ap (λ l. l + t.board.pages) (sym p.len) ∙ ap (λ (b : Board). s.len + b.pages) (sym p.board) ∙ h.1 ∙ ap (λ (b : Board). b.temp.len) p.board,
-    sym p.page_end ∙ h.2 ∙ ap (λ (b : Board). b.temp.base + b.temp.len) p.board)
+heap_kept s t p false h = (
+  sym p.base ∙ h.0 ∙ ap (λ (b : Board). b.temp.base) p.board,
+  ap (λ l. l + t.board.pages) (sym p.len) ∙ ap (λ (b : Board). s.len + b.pages) (sym p.board) ∙ h.1 ∙ ap (λ (b : Board). b.temp.len) p.board,
+  sym p.page_end ∙ h.2 ∙ ap (λ (b : Board). b.temp.base + b.temp.len) p.board,
+)
 
 pub pages_kept : (s t : StoreState) → s.taken ≡ t.taken → s.board ≡ t.board → (moved : Bool) → ArePages s moved → ArePages t moved
 pages_kept s t e b true h = tt

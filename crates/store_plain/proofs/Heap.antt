@@ -1,5 +1,5 @@
 -- A byte of two lists, and the lengths of what stands in the heap.
-use Rattle.std.proofs.Common.{◌≡◌, ℕ, zero, suc, ◌+◌, ◌-◌, ◌≤◌, ◌<◌, List, [], ◌∷◌, ◌++◌, length, take, drop, get_or, arith, ap, refl, sym, ◌∙◌, Option, Some, None, append_assoc, length-append}
+use Rattle.std.proofs.Common.{◌≡◌, ℕ, zero, suc, ◌+◌, ◌≤◌, ◌<◌, List, [], ◌∷◌, ◌++◌, length, take, drop, get_or, arith, ap, refl, sym, ◌∙◌, Option, Some, None, append_assoc}
 use Rattle.std.specs.Prelude.{map, sum_by, slice_set}
 use Rattle.std.proofs.lemmas.List.{map-append}
 use Rattle.store_plain.specs.Words.{words_bytes, descriptor_words}
@@ -13,7 +13,7 @@ use Rattle.boot_model.specs.declared.state.Body.TheVariants.{Bytes, Descriptor, 
 use Rattle.boot_model.specs.declared.state.HobEntry.{HobEntry}
 use Rattle.boot_model.specs.Lists.{Each, numbers}
 use Rattle.boot_model.specs.StoreState.{StoreState, hob_len, body_len, descriptor_len, end_place, body_at}
-use Rattle.boot_model.specs.StateFacts.{IsEntry, IsPending, IsNodeAt, IsDescriptorAt}
+use Rattle.boot_model.specs.StateFacts.{IsEntry, IsPending}
 use Rattle.boot_model.specs.HeapImage.{Links, header_bytes, body_bytes, hobs_bytes, guid_behind, links_bytes, descriptor_bytes}
 use Rattle.store_plain.specs.PlainBody.{IsSized}
 use Rattle.store_plain.specs.Peeking.{byte_of, IsNear, IsPendingNear}

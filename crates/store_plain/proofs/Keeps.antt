@@ -1,6 +1,6 @@
 -- Each service keeps what holds of every state, and a row over one state is a row over all that a store stands for.
-use Rattle.std.proofs.Common.{◌≡◌, ◌≢◌, ℕ, ◌+◌, ◌-◌, ◌*◌, ◌%◌, ◌≤◌, ◌<◌, Bool, true, false, List, [], ◌∷◌, ◌++◌, length, replicate, arith, sym, refl, ap, subst, ◌∙◌, Option, Some, None, Result, Ok, Err, nat_lt, nat_le, ◌==◌}
-use Rattle.std.specs.Prelude.{if◌then◌else◌, not, ◌&&◌, is_none, IfSome, option_map, ⊤}
+use Rattle.std.proofs.Common.{◌≡◌, ◌≢◌, ℕ, ◌+◌, ◌-◌, ◌*◌, ◌≤◌, Bool, true, false, List, [], ◌∷◌, length, replicate, arith, sym, refl, subst, ◌∙◌, Option, Some, None, Result, Ok, Err, nat_lt, nat_le, ◌==◌}
+use Rattle.std.specs.Prelude.{if◌then◌else◌, not, ◌&&◌, is_none, option_map, ⊤}
 use Rattle.std.specs.List.{list_all, list_any}
 use Rattle.std.proofs.lemmas.Bool.Decides.{nat_tests}
 use Rattle.pi_base.specs.declared.guid.Guid.{Guid}
@@ -16,22 +16,21 @@ use Rattle.boot_model.specs.declared.store_handle.Desc.{Desc}
 use Rattle.boot_model.specs.declared.store_handle.Sweep.{Sweep}
 use Rattle.boot_model.specs.declared.store_handle.GuidFrom.{GuidFrom}
 use Rattle.boot_model.specs.declared.store_handle.GuidFrom.TheVariants.{Inline, At}
-use Rattle.boot_model.specs.declared.state.DescriptorBody.{DescriptorBody}
 use Rattle.boot_model.specs.declared.state.Body.TheVariants.{Bytes, Descriptor}
 use Rattle.boot_model.specs.declared.known_guid.TheConstants.{MEMORY_PPI}
 use Rattle.boot_model.specs.declared.line.TheConstants.{CORE}
 use Rattle.boot_model.specs.Lists.{Each}
 use Rattle.boot_model.specs.MemoryReading.{rom_bytes}
-use Rattle.boot_model.specs.StoreState.{StoreState, Range, free, appended, pool_of, next_body, rounded, descriptor_len, body_at}
-use Rattle.boot_model.specs.StateFacts.{IsStoreState, IsDesc, IsGuidOf, IsNumberOf, IsHeap, ArePages, IsDescriptorAt, IsPlanned}
+use Rattle.boot_model.specs.StoreState.{StoreState, Range, free, appended, pool_of, next_body, rounded}
+use Rattle.boot_model.specs.StateFacts.{IsStoreState, IsDesc, IsNumberOf, IsHeap, ArePages, IsPlanned}
 use Rattle.boot_model.specs.StoreCall.{IsScriptHob}
-use Rattle.boot_model.specs.Service.{Service, Answers, AfterEach, And, in_room, unless_bad}
+use Rattle.boot_model.specs.Service.{Service, Answers, AfterEach, And}
 use Rattle.boot_model.specs.Service.Pool.{pool, most_pool}
-use Rattle.boot_model.specs.Service.Descriptor.{desc, desc_of, guid_from, is_ppi, kind_at}
-use Rattle.boot_model.specs.Service.Install.{install, reinstall, core_install, core_of, both_or_full, installed, install_sweep, install_pairs, reinstalled, reinstall_sweep, is_installed, reinstall_pairs, node_need}
-use Rattle.boot_model.specs.Service.Notify.{notify, notified, notify_sweep, notify_pairs}
+use Rattle.boot_model.specs.Service.Descriptor.{desc, desc_of, is_ppi, kind_at}
+use Rattle.boot_model.specs.Service.Install.{install, reinstall, core_install, core_of, both_or_full, install_pairs, is_installed, reinstall_pairs, node_need}
+use Rattle.boot_model.specs.Service.Notify.{notify, notify_pairs}
 use Rattle.boot_model.specs.Service.Hob.{create_hob, hob_entry}
-use Rattle.boot_model.specs.Service.Memory.{set_memory, is_memory, pages, pages_taken, early_pages, with_pages, allocation_hob, page_len, allocation_len, with_boot_mode}
+use Rattle.boot_model.specs.Service.Memory.{set_memory, is_memory, pages, with_pages, allocation_hob, page_len, allocation_len, with_boot_mode}
 use Rattle.store_plain.specs.declared.store.PlainStore.{PlainStore}
 use Rattle.store_plain.specs.PlainState.{state_of, stands_for}
 use Rattle.store_plain.proofs.Facts.{bodies_kept, heap_kept, pages_kept, new_body}
@@ -82,7 +81,7 @@ pool_is_none e = absurd (let same : 7 ≡ 2 = e in omega (arith, same))
 pub keeps_pool : (size : ℕ) (s : StoreState) → IsStoreState s → KeepsFacts (pool s size)
 keeps_pool size s h =
     kept_if (nat_lt most_pool size) _ _ (λ e. tt) (λ e. kept_if (nat_lt (free s) (rounded size + 8)) _ _ (λ f. tt)
-        (λ f room. facts_of _ (appended_sound s (pool_of (Bytes (replicate (rounded size) 0))) (sound_of s h) pool_is_none) room))
+    (λ f room. facts_of _ (appended_sound s (pool_of (Bytes (replicate (rounded size) 0))) (sound_of s h) pool_is_none) room))
 
 -- a descriptor
 abbrev guid_at_address : ℕ → Option (List ℕ) → Option (Guid × Option ℕ)
@@ -93,12 +92,12 @@ address_kept : (s : StoreState) (kind : DescKind) (number address : ℕ) → IsS
 address_kept s kind number address h is None e = tt
 address_kept s kind number address h is (Some bytes) e =
     kept_if (nat_lt (free s) (24 + 8)) _ _ (λ f. tt)
-        (λ f room. facts_of _ (appended_sound s (pool_of (Descriptor (record { kind = kind; guid = record { 0 = bytes }; stands = Some address; number = number }))) (sound_of s h) (refl, e, is)) room)
+    (λ f room. facts_of _ (appended_sound s (pool_of (Descriptor (record { kind = kind; guid = record { 0 = bytes }; stands = Some address; number = number }))) (sound_of s h) (refl, e, is)) room)
 
 pub keeps_desc : (kind : DescKind) (guid : GuidFrom) (number : ℕ) → IsNumberOf kind number → (s : StoreState) → IsStoreState s → KeepsFacts (desc s kind guid number)
 keeps_desc kind (Inline guid) number is s h =
     kept_if (nat_lt (free s) (40 + 8)) _ _ (λ e. tt)
-        (λ e room. facts_of _ (appended_sound s (pool_of (Descriptor (record { kind = kind; guid = guid; stands = None; number = number }))) (sound_of s h) (refl, tt, is)) room)
+    (λ e room. facts_of _ (appended_sound s (pool_of (Descriptor (record { kind = kind; guid = guid; stands = None; number = number }))) (sound_of s h) (refl, tt, is)) room)
 keeps_desc kind (At address) number is s h = address_kept s kind number address h is (rom_bytes s.board.roms address 16) refl
 
 script_kind : (hob : HobValue) → IsScriptHob hob → V.kind_of hob ≢ ALLOCATION
@@ -118,17 +117,17 @@ keeps_hob hob is s h = kept_if (nat_lt (free s) (length_of hob)) _ _ (λ e. tt) 
 pub keeps_install : (list : List Desc) (by : ℕ) (s : StoreState) → IsStoreState s → Each (IsDesc s) list → KeepsFacts (install s list by)
 keeps_install list by s h each =
     kept_not (list_all (λ d. is_ppi (kind_at s d.offset)) list) _ _ (λ e. tt) (λ e. kept_if (nat_lt (free s) (node_need (length list) + node_need (length (install_pairs s list)))) _ _ (λ f. tt)
-        (λ f room. facts_of _ (installed_sound s list by (sound_of s h) (ppi_descs s list each e)) room))
+    (λ f room. facts_of _ (installed_sound s list by (sound_of s h) (ppi_descs s list each e)) room))
 
 pub keeps_notify : (list : List Desc) (by : ℕ) (s : StoreState) → IsStoreState s → Each (IsDesc s) list → KeepsFacts (notify s list by)
 keeps_notify list by s h each =
     kept_if (list_any (λ d. is_ppi (kind_at s d.offset)) list) _ _ (λ e. tt) (λ e. kept_if (nat_lt (free s) (node_need (length list) + node_need (length (notify_pairs s list)))) _ _ (λ f. tt)
-        (λ f room. facts_of _ (notified_sound s list by (sound_of s h) (note_descs s list each e)) room))
+    (λ f room. facts_of _ (notified_sound s list by (sound_of s h) (note_descs s list each e)) room))
 
 pub keeps_reinstall : (old new : Desc) (by : ℕ) (s : StoreState) → IsStoreState s → IsDesc s old × IsDesc s new → KeepsFacts (reinstall s old new by)
 keeps_reinstall old new by s h is =
     kept_not (is_ppi (kind_at s new.offset)) _ _ (λ e. tt) (λ e. kept_not (is_installed s old) _ _ (λ f. tt) (λ f. kept_if (nat_lt (free s) (node_need (length (reinstall_pairs s new)))) _ _ (λ g. tt)
-        (λ g room. facts_of _ (reinstalled_sound s old new by (sound_of s h) (ppi_desc s new is.1 e)) room)))
+    (λ g room. facts_of _ (reinstalled_sound s old new by (sound_of s h) (ppi_desc s new is.1 e)) room)))
 
 -- the core's call: the PPIs are installed in a state that need not have room
 both_kept : (service : Service Sweep) → KeepsFacts service → KeepsFacts (both_or_full service)
@@ -145,8 +144,8 @@ core_kept s h =
     let sound : IsSound t = appended_sound s (pool_of (Descriptor (record { kind = Ppi; guid = MEMORY_PPI; stands = None; number = 0 }))) (sound_of s h) (refl, tt, tt) in
     let is : IsDesc t d = (record { kind = Ppi; guid = MEMORY_PPI; stands = None; number = 0 }, new_body s.hobs (pool_of (Descriptor (record { kind = Ppi; guid = MEMORY_PPI; stands = None; number = 0 }))) 56 (next_body s) refl) in
     both_kept (install t (d ∷ []) CORE)
-        (kept_not (list_all (λ x. is_ppi (kind_at t x.offset)) (d ∷ [])) _ _ (λ e. tt) (λ e. kept_if (nat_lt (free t) (node_need (length (d ∷ [])) + node_need (length (install_pairs t (d ∷ []))))) _ _ (λ f. tt)
-            (λ f room. facts_of _ (installed_sound t (d ∷ []) CORE sound (ppi_descs t (d ∷ []) (is, tt) e)) room)))
+    (kept_not (list_all (λ x. is_ppi (kind_at t x.offset)) (d ∷ [])) _ _ (λ e. tt) (λ e. kept_if (nat_lt (free t) (node_need (length (d ∷ [])) + node_need (length (install_pairs t (d ∷ []))))) _ _ (λ f. tt)
+    (λ f room. facts_of _ (installed_sound t (d ∷ []) CORE sound (ppi_descs t (d ∷ []) (is, tt) e)) room)))
 
 core_on : (b : Bool) (s : StoreState) → IsStoreState s → KeepsFacts (core_of (if b then Err F.Full else Ok (record { offset = next_body s }, made_desc s)))
 core_on true s h = tt
@@ -177,21 +176,21 @@ planned_facts s begin len e =
 pub keeps_set_memory : (begin len : ℕ) (s : StoreState) → IsStoreState s → KeepsFacts (set_memory s begin len)
 keeps_set_memory begin len s h =
     kept_not (is_memory s begin len) _ _ (λ e. tt)
-        (λ e room. let told = planned_facts s begin len e in
-            let t = record s { planned = Some (record { base = begin; len = len }) } in
-            let sound = sound_of s h in
-            facts_of t (record {
-              ppis = sound.ppis;
-              callbacks = sound.callbacks;
-              dispatches = sound.dispatches;
-              pendings = sound.pendings;
-              nodes = sound.nodes;
-              bodies = bodies_kept s t refl s.hobs sound.bodies;
-              pages = pages_kept s t refl refl s.moved sound.pages;
-              board = sound.board;
-              planned = told.0;
-              heap = planned_heap s (record { base = begin; len = len }) told.1 s.moved sound.heap;
-            }) room)
+    (λ e room. let told = planned_facts s begin len e in
+    let t = record s { planned = Some (record { base = begin; len = len }) } in
+    let sound = sound_of s h in
+    facts_of t (record {
+      ppis = sound.ppis;
+      callbacks = sound.callbacks;
+      dispatches = sound.dispatches;
+      pendings = sound.pendings;
+      nodes = sound.nodes;
+      bodies = bodies_kept s t refl s.hobs sound.bodies;
+      pages = pages_kept s t refl refl s.moved sound.pages;
+      board = sound.board;
+      planned = told.0;
+      heap = planned_heap s (record { base = begin; len = len }) told.1 s.moved sound.heap;
+    }) room)
 
 -- pages
 taken_sound : (s : StoreState) (memory_type len : ℕ) → IsSound s → ArePages (with_pages s memory_type len) s.moved → IsSound (with_pages s memory_type len)
@@ -224,11 +223,11 @@ pub keeps_pages : (memory_type count : ℕ) (s : StoreState) → IsStoreState s 
 keeps_pages memory_type count s h =
     let len = page_len * count in
     kept_if s.moved _ _
-        (λ m. kept_if (nat_lt (free s) (allocation_len + len)) _ _ (λ e. tt) (λ e room. facts_of _ (taken_sound s memory_type len (sound_of s h) (are_pages s memory_type len s.moved (λ n. absurd (false_is_true (sym n ∙ m))))) room))
-        (λ m. kept_if (s.board.pages == 0) _ _ (λ e. tt) (λ e. kept_if (nat_lt (s.board.pages - s.taken) len) _ _ (λ f. tt) (λ f. kept_if (nat_lt (free s) allocation_len) _ _ (λ g. tt)
-            (λ g room. let early = early_of s s.moved m h.pages in
-                let fits : s.taken + len ≤ s.board.pages = grind (arith, nat_tests, f, early) in
-                facts_of _ (taken_sound s memory_type len (sound_of s h) (are_pages s memory_type len s.moved (λ n. fits))) room))))
+    (λ m. kept_if (nat_lt (free s) (allocation_len + len)) _ _ (λ e. tt) (λ e room. facts_of _ (taken_sound s memory_type len (sound_of s h) (are_pages s memory_type len s.moved (λ n. absurd (false_is_true (sym n ∙ m))))) room))
+    (λ m. kept_if (s.board.pages == 0) _ _ (λ e. tt) (λ e. kept_if (nat_lt (s.board.pages - s.taken) len) _ _ (λ f. tt) (λ f. kept_if (nat_lt (free s) allocation_len) _ _ (λ g. tt)
+    (λ g room. let early = early_of s s.moved m h.pages in
+    let fits : s.taken + len ≤ s.board.pages = grind (arith, nat_tests, f, early) in
+    facts_of _ (taken_sound s memory_type len (sound_of s h) (are_pages s memory_type len s.moved (λ n. fits))) room))))
 
 -- the boot mode
 pub mode_facts : (s : StoreState) (mode : ℕ) → IsStoreState s → IsStoreState (with_boot_mode s mode)

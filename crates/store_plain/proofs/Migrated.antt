@@ -1,6 +1,6 @@
 -- The move keeps what holds of every state.
-use Rattle.std.proofs.Common.{◌≡◌, ◌≢◌, ℕ, ◌+◌, ◌-◌, ◌≤◌, ◌<◌, Bool, true, false, cond, List, [], ◌∷◌, ◌++◌, length, arith, sym, refl, ap, subst, ◌∙◌, Option, Some, None, ◌==◌}
-use Rattle.std.specs.Prelude.{map, option_map, ◌||◌, if◌then◌else◌}
+use Rattle.std.proofs.Common.{◌≡◌, ℕ, ◌+◌, Bool, true, false, cond, List, [], ◌∷◌, ◌++◌, length, arith, sym, refl, ap, ◌∙◌, Option, Some, None, ◌==◌}
+use Rattle.std.specs.Prelude.{option_map, ◌||◌, if◌then◌else◌}
 use Rattle.std.specs.List.{list_any}
 use Rattle.std.proofs.lemmas.Bool.Decides.{nat_tests}
 use Rattle.hob_codec.specs.declared.kind.TheConstants.{POOL, ALLOCATION}
@@ -14,16 +14,16 @@ use Rattle.boot_model.specs.declared.state.Body.TheVariants.{Bytes, Descriptor, 
 use Rattle.boot_model.specs.declared.state.HobEntry.{HobEntry}
 use Rattle.pi_base.specs.declared.guid.Guid.{Guid}
 use Rattle.boot_model.specs.Lists.{Each}
-use Rattle.boot_model.specs.HeapImage.{descriptor_bytes, guid_behind}
-use Rattle.boot_model.specs.StoreState.{StoreState, Range, hob_len, body_len, body_at, body_from}
+use Rattle.boot_model.specs.HeapImage.{descriptor_bytes}
+use Rattle.boot_model.specs.StoreState.{StoreState, Range, hob_len, body_len, body_from}
 use Rattle.boot_model.specs.StateFacts.{IsNodeAt, IsDescriptorAt, IsEntry, IsPending, IsBodyOf, IsNumberOf, IsGuidOf}
 use Rattle.boot_model.specs.Service.Descriptor.{is_named, descriptors}
-use Rattle.boot_model.specs.Migration.{moved_body, moved_hobs, moved_descriptor, moved_value, migrated_to, migration}
+use Rattle.boot_model.specs.Migration.{moved_body, moved_hobs, moved_descriptor, moved_value, migrated_to}
 use Rattle.store_plain.specs.PlainBody.{IsSized}
 use Rattle.store_plain.proofs.Ordered.{each_more, each_both}
 use Rattle.store_plain.proofs.Heap.{guid_len}
 use Rattle.store_plain.proofs.Facts.{guid_stays}
-use Rattle.store_plain.proofs.Sound.{IsSound, HasRoom, sound_of, facts_of}
+use Rattle.store_plain.proofs.Sound.{IsSound}
 
 forgotten_len : (base place : ℕ) (d : DescriptorBody) → length d.guid.0 ≡ 16 → length (descriptor_bytes base place d) ≡ body_len (Descriptor d)
 forgotten_len base place d e = let len = guid_len d d.stands e in omega (arith, len)
@@ -87,17 +87,20 @@ itself n = grind (arith, nat_tests)
 
 each_names : (xs : List Entry) → Each (λ (entry : Entry). list_any (λ named. named == entry.descriptor) (descriptors xs) ≡ true) xs
 each_names [] = tt
-each_names (x ∷ xs) = (or_left (x.descriptor == x.descriptor) _ (itself x.descriptor),
-    each_more (λ (entry : Entry). list_any (λ named. named == entry.descriptor) (descriptors xs) ≡ true) (λ (entry : Entry). list_any (λ named. named == entry.descriptor) (descriptors (x ∷ xs)) ≡ true) xs
-        (λ entry h. or_right (x.descriptor == entry.descriptor) _ h) (each_names xs))
+each_names (x ∷ xs) = (
+  or_left (x.descriptor == x.descriptor) _ (itself x.descriptor),
+  each_more (λ (entry : Entry). list_any (λ named. named == entry.descriptor) (descriptors xs) ≡ true) (λ (entry : Entry). list_any (λ named. named == entry.descriptor) (descriptors (x ∷ xs)) ≡ true) xs
+      (λ entry h. or_right (x.descriptor == entry.descriptor) _ h) (each_names xs),
+)
 
 pending_names : (xs : List Pending) → Each (λ (pending : Pending). (list_any (λ q. q.descriptor == pending.descriptor || q.ppi == pending.descriptor) xs ≡ true) × (list_any (λ q. q.descriptor == pending.ppi || q.ppi == pending.ppi) xs ≡ true)) xs
 pending_names [] = tt
-pending_names (x ∷ xs) =
-    ((or_left _ _ (or_left (x.descriptor == x.descriptor) (x.ppi == x.descriptor) (itself x.descriptor)), or_left _ _ (or_right (x.descriptor == x.ppi) (x.ppi == x.ppi) (itself x.ppi))),
-    each_more (λ (pending : Pending). (list_any (λ q. q.descriptor == pending.descriptor || q.ppi == pending.descriptor) xs ≡ true) × (list_any (λ q. q.descriptor == pending.ppi || q.ppi == pending.ppi) xs ≡ true))
-        (λ (pending : Pending). (list_any (λ q. q.descriptor == pending.descriptor || q.ppi == pending.descriptor) (x ∷ xs) ≡ true) × (list_any (λ q. q.descriptor == pending.ppi || q.ppi == pending.ppi) (x ∷ xs) ≡ true)) xs
-        (λ pending h. (or_right (x.descriptor == pending.descriptor || x.ppi == pending.descriptor) _ h.0, or_right (x.descriptor == pending.ppi || x.ppi == pending.ppi) _ h.1)) (pending_names xs))
+pending_names (x ∷ xs) = (
+  (or_left _ _ (or_left (x.descriptor == x.descriptor) (x.ppi == x.descriptor) (itself x.descriptor)), or_left _ _ (or_right (x.descriptor == x.ppi) (x.ppi == x.ppi) (itself x.ppi))),
+  each_more (λ (pending : Pending). (list_any (λ q. q.descriptor == pending.descriptor || q.ppi == pending.descriptor) xs ≡ true) × (list_any (λ q. q.descriptor == pending.ppi || q.ppi == pending.ppi) xs ≡ true))
+      (λ (pending : Pending). (list_any (λ q. q.descriptor == pending.descriptor || q.ppi == pending.descriptor) (x ∷ xs) ≡ true) × (list_any (λ q. q.descriptor == pending.ppi || q.ppi == pending.ppi) (x ∷ xs) ≡ true)) xs
+      (λ pending h. (or_right (x.descriptor == pending.descriptor || x.ppi == pending.descriptor) _ h.0, or_right (x.descriptor == pending.ppi || x.ppi == pending.ppi) _ h.1)) (pending_names xs),
+)
 
 abbrev AllNamed : StoreState → List Entry → Type 0
 AllNamed s entries = Each (λ (entry : Entry). is_named s entry.descriptor ≡ true) entries
@@ -117,8 +120,10 @@ dispatches_named s = each_more (λ (entry : Entry). list_any (λ named. named ==
 pendings_named : (s : StoreState) → Each (λ (pending : Pending). (is_named s pending.descriptor ≡ true) × (is_named s pending.ppi ≡ true)) s.pendings
 pendings_named s = each_more (λ (pending : Pending). (list_any (λ q. q.descriptor == pending.descriptor || q.ppi == pending.descriptor) s.pendings ≡ true) × (list_any (λ q. q.descriptor == pending.ppi || q.ppi == pending.ppi) s.pendings ≡ true))
     (λ (pending : Pending). (is_named s pending.descriptor ≡ true) × (is_named s pending.ppi ≡ true)) s.pendings
-    (λ pending h. (or_right (list_any (λ named. named == pending.descriptor) (descriptors (s.ppis ++ s.callbacks ++ s.dispatches))) _ h.0,
-        or_right (list_any (λ named. named == pending.ppi) (descriptors (s.ppis ++ s.callbacks ++ s.dispatches))) _ h.1)) (pending_names s.pendings)
+    (λ pending h. (
+      or_right (list_any (λ named. named == pending.descriptor) (descriptors (s.ppis ++ s.callbacks ++ s.dispatches))) _ h.0,
+      or_right (list_any (λ named. named == pending.ppi) (descriptors (s.ppis ++ s.callbacks ++ s.dispatches))) _ h.1,
+    )) (pending_names s.pendings)
 
 -- the bodies
 number_moves : (s : StoreState) (to : Range) (kind : DescKind) (number : ℕ) → IsNumberOf kind number → IsNumberOf kind (moved_value s to kind number)
@@ -153,9 +158,9 @@ pub migrated_sound : (s : StoreState) (to : Range) → IsSound s → s.planned �
 migrated_sound s to h planned sized =
     let t = migrated_to s to in
     let entries : (kind : DescKind) (xs : List Entry) → Each (IsEntry s kind) xs → AllNamed s xs → Each (IsEntry t kind) xs =
-        λ kind xs each named. each_more (λ entry. (IsEntry s kind entry × (is_named s entry.descriptor ≡ true))) (IsEntry t kind) xs
-            (λ entry x. (node_moves s to sized entry.node x.0.0, named_moves s to sized kind entry.descriptor x.0.1 x.1))
-            (each_both (IsEntry s kind) (λ (entry : Entry). is_named s entry.descriptor ≡ true) xs each named) in
+    λ kind xs each named. each_more (λ entry. (IsEntry s kind entry × (is_named s entry.descriptor ≡ true))) (IsEntry t kind) xs
+    (λ entry x. (node_moves s to sized entry.node x.0.0, named_moves s to sized kind entry.descriptor x.0.1 x.1))
+    (each_both (IsEntry s kind) (λ (entry : Entry). is_named s entry.descriptor ≡ true) xs each named) in
     record {
       ppis = entries Ppi s.ppis h.ppis (ppis_named s);
       callbacks = entries Callback s.callbacks h.callbacks (callbacks_named s);

@@ -1,5 +1,5 @@
 -- What an entry or a queued pair names is a descriptor, and a notification's number is an entry.
-use Rattle.std.proofs.Common.{◌≡◌, ◌≢◌, ℕ, zero, suc, ◌+◌, ◌≤◌, ◌<◌, Bool, true, false, cond, List, [], ◌∷◌, length, arith, sym, refl, ap, subst, Option, Some, None, ◌==◌}
+use Rattle.std.proofs.Common.{◌≡◌, ◌≢◌, ℕ, ◌+◌, ◌<◌, Bool, true, false, cond, List, [], ◌∷◌, refl, subst, Option, Some, ◌==◌}
 use Rattle.std.specs.Prelude.{slice_get, is_some}
 use Rattle.boot_model.specs.declared.store_handle.DescKind.{DescKind}
 use Rattle.boot_model.specs.declared.store_handle.DescKind.TheVariants.{Ppi, Callback, Dispatch}
@@ -10,7 +10,7 @@ use Rattle.boot_model.specs.declared.state.Body.{Body}
 use Rattle.boot_model.specs.declared.state.Body.TheVariants.{Descriptor}
 use Rattle.boot_model.specs.declared.state.HobEntry.{HobEntry}
 use Rattle.boot_model.specs.Lists.{Each}
-use Rattle.boot_model.specs.StoreState.{StoreState, hob_len, body_at, body_from}
+use Rattle.boot_model.specs.StoreState.{StoreState, hob_len, body_from}
 use Rattle.boot_model.specs.StateFacts.{IsDescriptorAt, IsEntry, IsPending, IsBodyOf, IsNumberOf, IsStoreState}
 use Rattle.boot_model.specs.Service.Descriptor.{descriptor_at, number_at}
 use Rattle.boot_model.specs.Service.Reading.{notes_of}

@@ -1,8 +1,8 @@
 -- What holds of every state holds of the first.
-use Rattle.std.proofs.Common.{◌≡◌, ◌-◌, ◌+◌, ◌≤◌, ℕ, arith, refl}
-use Rattle.boot_model.specs.StoreState.{Board, StoreState, empty_store}
+use Rattle.std.proofs.Common.{arith, refl}
+use Rattle.boot_model.specs.StoreState.{Board, empty_store}
 use Rattle.boot_model.specs.StateFacts.{IsBoard, IsStoreState}
-use Rattle.store_plain.proofs.Sound.{IsSound, facts_of}
+use Rattle.store_plain.proofs.Sound.{facts_of}
 
 pub opening_facts : (board : Board) → IsBoard board → IsStoreState (empty_store board)
 opening_facts board h =

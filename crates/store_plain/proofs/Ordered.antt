@@ -1,6 +1,6 @@
 -- Words on lists: a fact of each item, of each pair in order, and an item put between others.
-use Rattle.std.proofs.Common.{◌≡◌, ◌≢◌, ℕ, zero, suc, ◌+◌, ◌≤◌, ◌<◌, Bool, true, false, cond, List, [], ◌∷◌, ◌++◌, length, arith, sym, refl, ap, subst, Option, Some}
-use Rattle.std.specs.Prelude.{AllPairs, slice_index_or, slice_get, filter, map, ⊤}
+use Rattle.std.proofs.Common.{◌≡◌, ◌≢◌, ℕ, zero, suc, ◌<◌, Bool, true, false, cond, List, [], ◌∷◌, ◌++◌, length, arith, sym, subst, Some}
+use Rattle.std.specs.Prelude.{AllPairs, slice_index_or, slice_get, filter, map}
 use Rattle.boot_model.specs.Lists.{Each, Ordered}
 
 pub each_more : {A : Type 0} (P Q : A → Type 0) (xs : List A) → ((x : A) → P x → Q x) → Each P xs → Each Q xs

@@ -1,6 +1,6 @@
 -- The first entry that names a descriptor is the one in its place.
-use Rattle.std.proofs.Common.{◌≡◌, ℕ, zero, suc, ◌+◌, ◌≤◌, ◌<◌, Bool, true, false, cond, List, [], ◌∷◌, length, arith, ap, refl, ◌==◌, sym, ◌∙◌, subst}
-use Rattle.std.specs.Prelude.{slice_set, slice_index_or, drop}
+use Rattle.std.proofs.Common.{◌≡◌, ℕ, suc, ◌+◌, ◌<◌, Bool, true, false, cond, List, [], ◌∷◌, length, arith, ap, refl, ◌==◌, sym, ◌∙◌, subst}
+use Rattle.std.specs.Prelude.{slice_set, slice_index_or}
 use Rattle.boot_model.specs.declared.state.Entry.{Entry}
 use Rattle.boot_model.specs.Service.Install.{renamed, place_of}
 

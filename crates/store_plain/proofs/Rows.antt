@@ -8,8 +8,8 @@ use Rattle.boot_model.specs.declared.state.Pending.{Pending}
 use Rattle.boot_model.specs.Lists.{Each}
 use Rattle.boot_model.specs.StoreState.{StoreState, Range}
 use Rattle.boot_model.specs.StateFacts.{IsStoreState, IsPool}
-use Rattle.boot_model.specs.StoreCall.{Anything, IsDue, Migrates}
-use Rattle.boot_model.specs.Migration.{migration, migrated_to}
+use Rattle.boot_model.specs.StoreCall.{IsDue, Migrates}
+use Rattle.boot_model.specs.Migration.{migrated_to}
 use Rattle.boot_model.specs.Service.{AfterEach, And, OfEach, Present, Takes, Stores}
 use Rattle.boot_model.specs.Service.Pool.{store, written}
 use Rattle.boot_model.specs.Service.Sweep.{firing_of}

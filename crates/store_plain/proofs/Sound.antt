@@ -1,5 +1,5 @@
 -- What holds of every state but its room, and how it is kept where a HOB, an entry or a queued pair is added.
-use Rattle.std.proofs.Common.{◌≡◌, ◌≢◌, ℕ, ◌+◌, ◌≤◌, ◌<◌, Bool, true, false, List, [], ◌∷◌, ◌++◌, length, arith, sym, refl, ap, subst, ◌∙◌, append_assoc, Option, Some, None, sum_by}
+use Rattle.std.proofs.Common.{◌≡◌, ◌≢◌, ℕ, ◌+◌, ◌≤◌, List, [], ◌∷◌, ◌++◌, arith, sym, refl, subst, append_assoc}
 use Rattle.std.specs.Prelude.{map, IfSome, AllPairs}
 use Rattle.std.proofs.lemmas.List.{map-append, append-nil}
 use Rattle.boot_model.specs.declared.store_handle.DescKind.{DescKind}
@@ -9,10 +9,10 @@ use Rattle.boot_model.specs.declared.state.Pending.{Pending}
 use Rattle.boot_model.specs.declared.state.Body.TheVariants.{Node}
 use Rattle.boot_model.specs.declared.state.HobEntry.{HobEntry}
 use Rattle.boot_model.specs.Lists.{Each, Ordered}
-use Rattle.boot_model.specs.StoreState.{StoreState, hob_len, end_place, next_body, page_bytes, appended, pool_of}
-use Rattle.boot_model.specs.StateFacts.{IsNodeAt, IsDescriptorAt, IsEntry, IsPending, nodes, IsBodyOf, ArePages, IsHeap, IsStoreState, IsPlanned, IsBoard}
+use Rattle.boot_model.specs.StoreState.{StoreState, end_place, next_body, page_bytes, appended}
+use Rattle.boot_model.specs.StateFacts.{IsNodeAt, IsEntry, IsPending, IsBodyOf, ArePages, IsHeap, IsStoreState, IsPlanned, IsBoard}
 use Rattle.store_plain.proofs.Ordered.{each_more, each_push, each_to_map, each_append, ordered_of, pairs_of_ordered, differ_put}
-use Rattle.store_plain.proofs.Facts.{Grown, grown_by, new_body, body_before, descriptor_grows, entry_grows, pending_grows, bodies_kept, heap_kept, pages_kept, four, nodes_are}
+use Rattle.store_plain.proofs.Facts.{Grown, grown_by, body_before, entry_grows, pending_grows, bodies_kept, heap_kept, pages_kept, four, nodes_are}
 
 abbrev pub AreApart : List ℕ → Type 0
 AreApart xs = Ordered (λ a b. a ≢ b) xs
@@ -93,9 +93,9 @@ pub all_new : (s : StoreState) → IsSound s → Each (λ m. m ≢ next_body s) 
 all_new s h =
     let P : ℕ → Type 0 = λ m. m ≢ next_body s in
     let of : (kind : DescKind) (entries : List Entry) → Each (IsEntry s kind) entries → Each P (map (λ (entry : Entry). entry.node) entries) =
-        λ kind entries each. each_to_map node_of P entries (each_more (IsEntry s kind) (λ entry. P entry.node) entries (λ entry is. is_new s entry.node is.0) each) in
+    λ kind entries each. each_to_map node_of P entries (each_more (IsEntry s kind) (λ entry. P entry.node) entries (λ entry is. is_new s entry.node is.0) each) in
     let queued : Each P (map (λ (pending : Pending). pending.node) s.pendings) =
-        each_to_map pending_node P s.pendings (each_more (IsPending s) (λ pending. P pending.node) s.pendings (λ pending is. is_new s pending.node is.0) h.pendings) in
+    each_to_map pending_node P s.pendings (each_more (IsPending s) (λ pending. P pending.node) s.pendings (λ pending is. is_new s pending.node is.0) h.pendings) in
     each_append P _ _ (of Ppi s.ppis h.ppis) (each_append P _ _ (of Callback s.callbacks h.callbacks) (each_append P _ _ (of Dispatch s.dispatches h.dispatches) queued))
 
 -- the nodes with one more in a list

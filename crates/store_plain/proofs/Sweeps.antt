@@ -1,7 +1,6 @@
 -- The first pair of two lists that fires, and how the pairs that are left go on.
-use Rattle.std.proofs.Common.{◌≡◌, ℕ, zero, suc, ◌+◌, ◌-◌, ◌≤◌, ◌<◌, Bool, true, false, cond, List, [], ◌∷◌, ◌++◌, length, arith, sym, refl, ap, subst, ◌∙◌, Option, Some, None, nat_le}
+use Rattle.std.proofs.Common.{◌≡◌, ℕ, zero, suc, ◌+◌, ◌-◌, ◌≤◌, ◌<◌, Bool, true, false, cond, List, [], ◌∷◌, ◌++◌, length, arith, sym, refl, ap, ◌∙◌, Option, Some, None, nat_le}
 use Rattle.std.specs.Prelude.{map, flat_map, slice_get, slice_index_or, is_some}
-use Rattle.std.specs.Option.{option_and_then}
 use Rattle.std.proofs.lemmas.Bool.Decides.{nat_tests}
 use Rattle.boot_model.specs.declared.store_handle.Sweep.{Sweep}
 use Rattle.boot_model.specs.declared.store_handle.Firing.{Firing}

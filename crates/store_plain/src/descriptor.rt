@@ -73,7 +73,12 @@ impl PlainStore {
     }
 
     // A descriptor that nothing names yet.
-    pub(crate) fn make_desc(&mut self, kind: DescKind, guid: GuidFrom, number: u64) -> Result<Desc, StoreFault>
+    pub(crate) fn make_desc(
+        &mut self,
+        kind: DescKind,
+        guid: GuidFrom,
+        number: u64,
+    ) -> Result<Desc, StoreFault>
         ensures { Answers true (desc (state_of self.old) kind guid number) (state_of self.old) result (state_of self.new) }
     {
         let (guid, stands) = match self.guid_from(guid) {

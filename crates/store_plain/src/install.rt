@@ -57,7 +57,12 @@ impl PlainStore {
     }
 
     // Adds PPIs and the pairs, for which there is room. Where memory is wanting nothing changes.
-    fn put_ppis(&mut self, list: &[Desc], pairs: &[(u64, u64)], by: u32) -> Result<Sweep, OutOfMemory>
+    fn put_ppis(
+        &mut self,
+        list: &[Desc],
+        pairs: &[(u64, u64)],
+        by: u32,
+    ) -> Result<Sweep, OutOfMemory>
         requires few { AreFew list.now }
         requires pairs { pairs.now ≡ install_pairs (state_of self.old) list.now }
         requires room { node_need (length list.now) + node_need (length pairs.now) ≤ free (state_of self.old) }
@@ -127,7 +132,14 @@ impl PlainStore {
     }
 
     // Puts a PPI in the place of another, and adds the pairs, for which there is room. Where memory is wanting nothing changes.
-    fn put_again(&mut self, place: usize, old: Desc, new: Desc, pairs: &[(u64, u64)], by: u32) -> Result<Sweep, OutOfMemory>
+    fn put_again(
+        &mut self,
+        place: usize,
+        old: Desc,
+        new: Desc,
+        pairs: &[(u64, u64)],
+        by: u32,
+    ) -> Result<Sweep, OutOfMemory>
         requires place { place ≡ place_of self.old.ppis.items old.offset }
         requires inside { place < length self.old.ppis.items }
         requires pairs { pairs.now ≡ reinstall_pairs (state_of self.old) new }
@@ -150,7 +162,12 @@ impl PlainStore {
     }
 
     // Puts a PPI in the place of another.
-    pub(crate) fn reinstall_ppi(&mut self, old: Desc, new: Desc, by: u32) -> Result<Sweep, StoreFault>
+    pub(crate) fn reinstall_ppi(
+        &mut self,
+        old: Desc,
+        new: Desc,
+        by: u32,
+    ) -> Result<Sweep, StoreFault>
         ensures { Answers true (reinstall (state_of self.old) old new by) (state_of self.old) result (state_of self.new) }
     {
         if !self.is_ppi(new.offset) {

@@ -17,7 +17,12 @@ const NODE_NEED: u64 = NODE_LEN + HEADER_LEN;
 const MOST_PLACES: usize = u32::MAX as usize;
 
 // A sweep from the first of its pairs on. None where a place is past what it can name.
-pub(crate) fn sweep_from(ppi_at: usize, ppi_to: usize, note_from: usize, note_to: usize) -> Result<Sweep, OutOfMemory>
+pub(crate) fn sweep_from(
+    ppi_at: usize,
+    ppi_to: usize,
+    note_from: usize,
+    note_to: usize,
+) -> Result<Sweep, OutOfMemory>
     requires ppis { ppi_at ≤ ppi_to }
     requires notes { note_from ≤ note_to }
     ensures { IfOk result (λ sweep. sweep ≡ record { ppi_to = ppi_to; note_from = note_from; note_to = note_to; ppi_at = ppi_at; note_at = note_from }) }

@@ -100,7 +100,12 @@ impl PlainStore {
     }
 
     // Adds notifications and the pairs, for which there is room. Where memory is wanting nothing changes.
-    fn put_notes(&mut self, list: &[Desc], pairs: &[(u64, u64)], by: u32) -> Result<Sweep, OutOfMemory>
+    fn put_notes(
+        &mut self,
+        list: &[Desc],
+        pairs: &[(u64, u64)],
+        by: u32,
+    ) -> Result<Sweep, OutOfMemory>
         requires few { AreFew list.now }
         requires pairs { pairs.now ≡ notify_pairs (state_of self.old) list.now }
         requires room { node_need (length list.now) + node_need (length pairs.now) ≤ free (state_of self.old) }

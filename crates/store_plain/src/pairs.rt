@@ -58,7 +58,12 @@ impl PlainStore {
     }
 
     // Adds the pairs of one PPI.
-    fn add_row(&self, ppi: u64, notes: &[u64], pairs: &mut Vec<(u64, u64)>) -> Result<(), OutOfMemory>
+    fn add_row(
+        &self,
+        ppi: u64,
+        notes: &[u64],
+        pairs: &mut Vec<(u64, u64)>,
+    ) -> Result<(), OutOfMemory>
         ensures { OnOk result (pairs.new.items ≡ pairs.old.items ++ row_of (state_of self.now) ppi notes.now) }
     {
         'notes: for note in notes {
@@ -73,7 +78,11 @@ impl PlainStore {
     }
 
     // The pairs, in order of PPI and then of notification.
-    pub(crate) fn pairs_of(&self, ppis: &[u64], notes: &[u64]) -> Result<Vec<(u64, u64)>, OutOfMemory>
+    pub(crate) fn pairs_of(
+        &self,
+        ppis: &[u64],
+        notes: &[u64],
+    ) -> Result<Vec<(u64, u64)>, OutOfMemory>
         ensures { IfOk result (λ pairs. pairs.items ≡ pairs_of (state_of self.now) ppis.now notes.now) }
     {
         let mut pairs = Vec::new(*self.hobs.allocator());

@@ -2,9 +2,7 @@
 ghost use Rattle.std.specs.Prelude.{true, ⊤};
 
 use crate::store::PlainStore;
-use boot_model::{
-    Desc, DescKind, Firing, GuidFrom, HobSpan, PeiStore, Pool, StoreFault, Sweep,
-};
+use boot_model::{Desc, DescKind, Firing, GuidFrom, HobSpan, PeiStore, Pool, StoreFault, Sweep};
 use depex_code::GuidSet;
 use hob_codec::Hob;
 use pi_base::{Guid, OutOfMemory, Seq};

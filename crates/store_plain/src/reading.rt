@@ -119,10 +119,7 @@ impl PlainStore {
         ensures { result ≡ pending_at (state_of self.now) place }
     {
         match self.pending_in(place) {
-            Some(pending) => Some((
-                self.guid_at(pending.ppi),
-                self.entry_at(pending.descriptor),
-            )),
+            Some(pending) => Some((self.guid_at(pending.ppi), self.entry_at(pending.descriptor))),
             None => None,
         }
     }

@@ -1,4 +1,4 @@
-use Rattle.std.proofs.Common.{◌≡◌, ◌+◌, ◌-◌, ◌≤◌, drop, length}
+use Rattle.std.proofs.Common.{◌≡◌, ◌+◌, ◌≤◌, drop, length}
 use Rattle.std.specs.Prelude.{fold, vec_len, vec_capacity}
 use Rattle.boot_model.specs.Service.Install.{with_pending}
 use Rattle.store_plain.specs.PlainState.{state_of}

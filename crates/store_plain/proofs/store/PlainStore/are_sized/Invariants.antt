@@ -1,4 +1,4 @@
-use Rattle.std.proofs.Common.{◌≡◌, take}
+use Rattle.std.proofs.Common.{take}
 use Rattle.boot_model.specs.Lists.{Each}
 use Rattle.store_plain.specs.PlainBody.{IsSized}
 use Rattle.store_plain.proofs.store.PlainStore.are_sized.Given as goal

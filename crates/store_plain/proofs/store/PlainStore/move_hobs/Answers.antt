@@ -1,4 +1,4 @@
-use Rattle.std.proofs.Common.{◌≡◌, ◌+◌, ◌++◌, take, drop, length, get_or, ap, sym, ◌∙◌, arith, length-set}
+use Rattle.std.proofs.Common.{◌≡◌, ◌+◌, ◌++◌, take, drop, length, get_or, ap, ◌∙◌, arith, length-set}
 use Rattle.std.specs.Prelude.{slice_set, sum_by}
 use Rattle.boot_model.specs.StoreState.{hob_len}
 use Rattle.boot_model.specs.Migration.{moved_body, moved_hobs}
