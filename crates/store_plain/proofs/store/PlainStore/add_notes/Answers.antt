@@ -1,0 +1,25 @@
+use Rattle.std.proofs.Common.{◌≡◌, ◌+◌, drop, length, subst, ◌∙◌, arith}
+use Rattle.boot_model.specs.Service.Notify.{with_note}
+use Rattle.store_plain.specs.PlainState.{state_of}
+use Rattle.store_plain.specs.Nodes.{HasNodes, HasEntries}
+use Rattle.store_plain.proofs.Folds.{fold_on, one_less, none_less}
+use Rattle.store_plain.proofs.store.PlainStore.add_notes.Goals as goal
+
+pub descs-preserved : goal.descs-preserved
+descs-preserved c =
+    let xs = c.args.list.now in
+    let i = c.descs.d-index in
+    let left = one_less i xs c.descs-test.true in
+    record {
+      state = fold_on (with_note c.args.by) (state_of c.descs.self) (state_of c.push_note.new.self) xs i _ c.descs-test.true c.push_note.ensures.state ∙ c.descs.invariant.state;
+      nodes = c.push_note.ensures.nodes (length (drop (i + 1) xs)) (subst (HasNodes c.descs.self) left c.descs.invariant.nodes);
+      later = λ n h. let more : length (drop i xs) + n ≡ length (drop (i + 1) xs) + n + 1 = omega (arith, left) in
+          c.push_note.ensures.nodes (length (drop (i + 1) xs) + n) (subst (HasNodes c.descs.self) more (c.descs.invariant.later n h));
+      memory = c.push_note.ensures.entries (length (drop (i + 1) xs)) (subst (HasEntries c.descs.self) left c.descs.invariant.memory);
+      pendings = c.push_note.ensures.pendings ∙ c.descs.invariant.pendings;
+    }
+
+pub returns-clause-nodes : goal.returns-clause-nodes
+returns-clause-nodes c = λ n h.
+    let none : length (drop c.descs.d-index c.args.list.now) + n ≡ n = omega (arith, none_less c.descs.d-index c.args.list.now c.descs-test.false) in
+    subst (HasNodes c.descs.self) none (c.descs.invariant.later n h)

@@ -1,0 +1,12 @@
+use Rattle.std.proofs.Common.{◌≡◌, ◌+◌, drop}
+use Rattle.std.specs.List.{list_any}
+use Rattle.std.specs.Prelude.{◌==◌}
+use Rattle.boot_model.specs.Service.Descriptor.{descriptors}
+use Rattle.boot_model.specs.Service.Install.{place_of}
+use Rattle.store_plain.proofs.store.PlainStore.place_of.Given as goal
+
+abbrev pub invariant-ppis : goal.invariant-ppis
+invariant-ppis l = record {
+  place : l.place + place_of (drop l.place l.self.ppis.items) l.descriptor ≡ place_of l.self.ppis.items l.descriptor;
+  there : list_any (λ named. named == l.descriptor) (descriptors (drop l.place l.self.ppis.items)) ≡ list_any (λ named. named == l.descriptor) (descriptors l.self.ppis.items);
+}

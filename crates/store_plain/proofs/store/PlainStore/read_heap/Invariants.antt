@@ -1,0 +1,12 @@
+use Rattle.std.proofs.Common.{◌≡◌, take, length}
+use Rattle.std.specs.Prelude.{map}
+use Rattle.boot_model.specs.Lists.{numbers}
+use Rattle.boot_model.specs.MemoryReading.{heap_byte}
+use Rattle.store_plain.specs.PlainState.{state_of}
+use Rattle.store_plain.proofs.store.PlainStore.read_heap.Given as goal
+
+abbrev pub invariant-bytes : goal.invariant-bytes
+invariant-bytes l = record {
+  len : length l.into ≡ length l.fn.into;
+  read : take l.i l.into ≡ map (heap_byte (state_of l.self)) (numbers l.at l.i);
+}

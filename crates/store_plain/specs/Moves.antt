@@ -1,0 +1,21 @@
+-- What the move needs of the place to which it goes, and what it leaves as it was.
+-- Own.
+use Rattle.std.specs.Prelude.{◌≡◌, ◌+◌, ◌≤◌, []}
+use Rattle.pi_base.specs.declared.span.Span.{Span}
+use Rattle.store_plain.specs.declared.store.PlainStore.{PlainStore}
+use Rattle.store_plain.specs.PlainState.{state_of}
+
+-- the heap and the page region fit into it, and it ends where a plan lets it
+abbrev pub FitsInto : PlainStore → Span → Type 0
+FitsInto p to = (p.len + p.region ≤ to.len) × (to.base + to.len ≤ 0x10000000000)
+
+-- all but the HOBs
+pub record SameLists (p q : PlainStore) : Type 0 where
+  pub state : record (state_of q) { hobs = [] } ≡ record (state_of p) { hobs = [] }
+  pub region : q.region ≡ p.region
+  pub base : q.base ≡ p.base
+  pub len : q.len ≡ p.len
+  pub taken : q.taken ≡ p.taken
+  pub planned : q.planned ≡ p.planned
+  pub moved : q.moved ≡ p.moved
+  pub end : q.end ≡ p.end

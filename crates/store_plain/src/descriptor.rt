@@ -1,0 +1,183 @@
+// Descriptors are made and looked up.
+ghost use Rattle.std.specs.Prelude.{◌≡◌, ◌+◌, ◌<◌, true, take, sum_by, length, option_map, IfSome, IfNone, is_some, unwrap_or, None};
+ghost use Rattle.boot_model.specs.StoreState.{body_at, hob_len};
+ghost use Rattle.boot_model.specs.FileType.{same_guid};
+ghost use Rattle.boot_model.specs.MemoryReading.{rom_bytes};
+ghost use Rattle.boot_model.specs.Service.{Answers};
+ghost use Rattle.boot_model.specs.Service.Descriptor.{desc, guid_from, descriptor_at, guid_at, number_at, kind_at, no_guid};
+ghost use Rattle.phys_mem.specs.Region.{part_of};
+
+use crate::kind::POOL;
+use crate::length::{HANDOFF_LEN, HEADER_LEN, descriptor_len};
+use crate::plain_hob::{PlainBody, PlainHob};
+use crate::store::PlainStore;
+use boot_model::{Desc, DescKind, DescriptorBody, GuidFrom, StoreFault};
+use phys_mem::Rom;
+use pi_base::{Guid, OutOfMemory};
+
+// The bytes of a descriptor's GUID, or none.
+fn guid_bytes(found: &Option<DescriptorBody>) -> &[u8]
+    ensures { result.now ≡ (unwrap_or (option_map (λ d. d.guid) found.now) no_guid).0 }
+{
+    match found {
+        Some(d) => d.guid.0.as_slice(),
+        None => &[],
+    }
+}
+
+// The bytes at an address, if they all lie here.
+fn part_of(base: u64, bytes: &[u8], at: u64, n: usize) -> Option<&[u8]>
+    ensures part { option_map (λ part. part.now) result ≡ part_of base bytes.now at n }
+    ensures len { IfSome result (λ part. length part.now ≡ n) }
+{
+    let len = bytes.len() as u64;
+    if at < base || at - base > len || n as u64 > len - (at - base) {
+        return None;
+    }
+    let start = (at - base) as usize;
+    Some(&bytes[start..start + n])
+}
+
+// The `n` bytes at an address, if all of them lie in one volume.
+pub(crate) fn rom_bytes(roms: &[Rom], at: u64, n: usize) -> Option<&[u8]>
+    ensures bytes { option_map (λ bytes. bytes.now) result ≡ rom_bytes roms.now at n }
+    ensures len { IfSome result (λ bytes. length bytes.now ≡ n) }
+{
+    'volumes: for rom in roms {
+        if let Some(bytes) = part_of(rom.base, rom.bytes.as_slice(), at, n) {
+            return Some(bytes);
+        }
+    }
+    None
+}
+
+impl PlainStore {
+    ghost use Rattle.store_plain.specs.PlainState.{state_of};
+
+    // The GUID, and its address where it stands in a volume.
+    fn guid_from(&self, guid: GuidFrom) -> Option<(Guid, Option<u64>)>
+        ensures { result ≡ guid_from (state_of self.now) guid }
+    {
+        let address = match guid {
+            GuidFrom::Inline(guid) => return Some((guid, None)),
+            GuidFrom::At(address) => address,
+        };
+        match rom_bytes(self.roms.as_slice(), address, 16) {
+            Some(bytes) => {
+                let mut guid = [0u8; 16];
+                guid.copy_from_slice(bytes);
+                Some((Guid(guid), Some(address)))
+            }
+            None => None,
+        }
+    }
+
+    // A descriptor that nothing names yet.
+    pub(crate) fn make_desc(
+        &mut self,
+        kind: DescKind,
+        guid: GuidFrom,
+        number: u64,
+    ) -> Result<Desc, StoreFault>
+        ensures { Answers true (desc (state_of self.old) kind guid number) (state_of self.old) result (state_of self.new) }
+    {
+        let (guid, stands) = match self.guid_from(guid) {
+            Some(found) => found,
+            None => return Err(StoreFault::Bad),
+        };
+        if self.free() < descriptor_len(stands) + HEADER_LEN {
+            return Err(StoreFault::Full);
+        }
+        let offset = self.end + HEADER_LEN;
+        let body = DescriptorBody {
+            kind,
+            guid,
+            stands,
+            number,
+        };
+        match self.put_behind(PlainHob::new(POOL, PlainBody::Descriptor(body))) {
+            Ok(()) => Ok(Desc { offset }),
+            Err(OutOfMemory) => Err(StoreFault::Memory),
+        }
+    }
+
+    // The number of the HOB whose body stands at a place.
+    #[tactic(auto, using(crate::proofs::Rest::part_of_rest))]
+    pub(crate) fn index_of(&self, place: u64) -> Option<usize>
+        ensures inside { IfSome result (λ i. i < length self.now.hobs.items) }
+        ensures here { IfSome result (λ i. 56 + sum_by hob_len (take i self.now.hobs.items) + 8 ≡ place) }
+        ensures none { IfNone result (body_at (state_of self.now) place ≡ None) }
+    {
+        let mut at = HANDOFF_LEN;
+        'hobs: for i in 0..self.hobs.len() {
+            if at + HEADER_LEN == place {
+                return Some(i);
+            }
+            at += self.hobs[i].len() as u64;
+        }
+        None
+    }
+
+    // What the descriptor at a place says.
+    #[tactic(auto, using(crate::proofs::Rest::part_of_rest))]
+    pub(crate) fn descriptor_at(&self, place: u64) -> Option<DescriptorBody>
+        ensures { result ≡ descriptor_at (state_of self.now) place }
+    {
+        let mut at = HANDOFF_LEN;
+        'hobs: for hob in self.hobs.as_slice() {
+            if at + HEADER_LEN == place {
+                return hob.descriptor();
+            }
+            at += hob.len() as u64;
+        }
+        None
+    }
+
+    // Its GUID.
+    pub(crate) fn guid_at(&self, place: u64) -> Guid
+        requires { is_some (descriptor_at (state_of self.now) place) ≡ true }
+        ensures { result ≡ guid_at (state_of self.now) place }
+    {
+        match self.descriptor_at(place) {
+            Some(d) => d.guid,
+            None => unreachable!(),
+        }
+    }
+
+    // Its kind; that of a dispatch notification where there is none.
+    pub(crate) fn kind_at(&self, place: u64) -> DescKind
+        ensures { result ≡ kind_at (state_of self.now) place }
+    {
+        match self.descriptor_at(place) {
+            Some(d) => d.kind,
+            None => DescKind::Dispatch,
+        }
+    }
+
+    // Its number, or 0 where there is none.
+    pub(crate) fn number_at(&self, place: u64) -> u64
+        ensures { result ≡ number_at (state_of self.now) place }
+    {
+        match self.descriptor_at(place) {
+            Some(d) => d.number,
+            None => 0,
+        }
+    }
+
+    // Whether the descriptor at a place has the GUID.
+    pub(crate) fn has_guid_at(&self, place: u64, guid: &Guid) -> bool
+        ensures { result ≡ same_guid (guid_at (state_of self.now) place) guid.now }
+    {
+        let found = self.descriptor_at(place);
+        guid_bytes(&found) == guid.0.as_slice()
+    }
+
+    // Whether the descriptors at two places have one GUID.
+    pub(crate) fn have_one_guid(&self, a: u64, b: u64) -> bool
+        ensures { result ≡ same_guid (guid_at (state_of self.now) a) (guid_at (state_of self.now) b) }
+    {
+        let first = self.descriptor_at(a);
+        let second = self.descriptor_at(b);
+        guid_bytes(&first) == guid_bytes(&second)
+    }
+}

@@ -1,0 +1,26 @@
+//! The store of PEI services over plain lists: the slow, plain program beside the definitions.
+#![tactic(auto)]
+
+mod descriptor;
+mod heap_byte;
+mod hob;
+mod install;
+mod kind;
+mod length;
+mod memory;
+mod migration;
+mod nodes;
+mod notify;
+mod pairs;
+mod peek;
+mod pei_store;
+mod plain_hob;
+mod pool;
+mod queue;
+mod reading;
+mod room;
+mod store;
+mod sweep;
+mod word_bytes;
+
+pub use store::PlainStore;

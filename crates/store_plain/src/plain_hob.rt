@@ -1,0 +1,206 @@
+// A HOB whose contracts see it as the definitions do.
+ghost use Rattle.std.specs.Prelude.{◌≡◌, ◌≤◌, ◌<◌, ◌+◌, ◌++◌, ◌^◌, length, take, drop, is_some, true};
+ghost use Rattle.boot_model.specs.StoreState.{hob_len, body_len};
+ghost use Rattle.boot_model.specs.Service.Pool.{written};
+ghost use Rattle.boot_model.specs.Service.Queue.{zeroed};
+ghost use Rattle.boot_model.specs.declared.state.Body.TheVariants.{Node};
+ghost use Rattle.store_plain.specs.PlainBody.{body_of, role_body, IsBytes, IsSized, forgotten, renumbered};
+ghost use Rattle.boot_model.specs.Service.Descriptor.{descriptor_of};
+
+use crate::length::{ALLOCATION_LEN, HEADER_LEN, NODE_LEN, descriptor_len};
+use crate::word_bytes::{descriptor_words, long_bytes, short_bytes};
+use boot_model::{AllocationBody, DescriptorBody};
+use std::marker::Model;
+
+/// A body. The bytes of a node that left its list, and of a descriptor that was forgotten, lie in arrays, since the calls that leave them there take no memory.
+#[derive(Drop)]
+pub(crate) enum PlainBody {
+    Bytes(Vec<u8>),
+    /// Of a node.
+    NodeBytes([u8; 32]),
+    /// Of a descriptor whose GUID stands in a volume.
+    ShortBytes([u8; 24]),
+    /// Of a descriptor whose GUID stands behind it.
+    LongBytes([u8; 40]),
+    Descriptor(DescriptorBody),
+    Node,
+    Allocation(AllocationBody),
+}
+
+/// What a HOB has behind its header.
+pub(crate) enum Role<'a> {
+    Bytes(&'a [u8]),
+    Descriptor(DescriptorBody),
+    Node,
+    Allocation(AllocationBody),
+}
+
+#[derive(Drop)]
+pub(crate) struct PlainHob {
+    kind: u16,
+    body: PlainBody,
+}
+
+impl Model for PlainHob {
+    ghost use Rattle.boot_model.specs.declared.state.HobEntry.{HobEntry};
+    ghost use Rattle.boot_model.specs.StoreState.{body_len};
+    ghost use Rattle.std.specs.Prelude.{◌≤◌};
+    ghost use Rattle.store_plain.specs.PlainBody.{body_of};
+
+    ghost Value = { HobEntry };
+
+    ghost view = { λ h. record { kind = h.kind; body = body_of h.body } };
+
+    ghost invariant = { λ h. body_len (body_of h.body) ≤ 65520 };
+}
+
+impl PlainHob {
+    // A HOB of this type and body.
+    pub(crate) fn new(kind: u16, body: PlainBody) -> PlainHob
+        requires { body_len (body_of body) ≤ 65520 }
+        ensures { result ≡ record { kind = kind; body = body_of body } }
+    {
+        PlainHob { kind, body }
+    }
+
+    pub(crate) fn kind(&self) -> u16
+        ensures { result ≡ self.now.kind }
+    {
+        self.kind
+    }
+
+    // The length, with the header.
+    pub(crate) fn len(&self) -> u16
+        ensures len { result ≡ hob_len self.now }
+        ensures most { result ≤ 65528 }
+        ensures sized { IsSized self.now.body }
+    {
+        HEADER_LEN as u16 + body_len(&self.body)
+    }
+
+    // What it has behind its header.
+    pub(crate) fn role(&self) -> Role<'_>
+        ensures { role_body result ≡ self.now.body }
+    {
+        match &self.body {
+            PlainBody::Bytes(bytes) => Role::Bytes(bytes.as_slice()),
+            PlainBody::NodeBytes(bytes) => Role::Bytes(bytes.as_slice()),
+            PlainBody::ShortBytes(bytes) => Role::Bytes(bytes.as_slice()),
+            PlainBody::LongBytes(bytes) => Role::Bytes(bytes.as_slice()),
+            PlainBody::Descriptor(d) => Role::Descriptor(*d),
+            PlainBody::Node => Role::Node,
+            PlainBody::Allocation(allocation) => Role::Allocation(*allocation),
+        }
+    }
+
+    // The descriptor that stands here.
+    pub(crate) fn descriptor(&self) -> Option<DescriptorBody>
+        ensures { result ≡ descriptor_of self.now.body }
+    {
+        match &self.body {
+            PlainBody::Bytes(_) => None,
+            PlainBody::NodeBytes(_) => None,
+            PlainBody::ShortBytes(_) => None,
+            PlainBody::LongBytes(_) => None,
+            PlainBody::Descriptor(d) => Some(*d),
+            PlainBody::Node => None,
+            PlainBody::Allocation(_) => None,
+        }
+    }
+
+    // A node becomes zeros.
+    pub(crate) fn zero(&mut self)
+        requires { self.old.body ≡ Node }
+        ensures zeroed { self.new ≡ record self.old { body = zeroed self.old.body } }
+        ensures len { hob_len self.new ≡ hob_len self.old }
+    {
+        self.body = PlainBody::NodeBytes([0; 32]);
+    }
+
+    // A descriptor becomes the bytes that it has at a place of a heap.
+    pub(crate) fn forget(&mut self, base: u64, place: u64)
+        requires fits { base + place + 24 < 2 ^ 64 }
+        requires descriptor { is_some (descriptor_of self.old.body) ≡ true }
+        ensures bytes { self.new ≡ record self.old { body = forgotten base place self.old.body } }
+        ensures len { hob_len self.new ≡ hob_len self.old }
+    {
+        let d = match self.descriptor() {
+            Some(d) => d,
+            None => unreachable!(),
+        };
+        let words = descriptor_words(base, place, &d);
+        self.body = match d.stands {
+            None => PlainBody::LongBytes(long_bytes(&words, &d.guid.0)),
+            Some(_) => PlainBody::ShortBytes(short_bytes(&words)),
+        };
+    }
+
+    // A descriptor has another number.
+    pub(crate) fn renumber(&mut self, number: u64)
+        ensures number { self.new ≡ record self.old { body = renumbered number self.old.body } }
+        ensures len { hob_len self.new ≡ hob_len self.old }
+    {
+        match &mut self.body {
+            PlainBody::Descriptor(d) => d.number = number,
+            PlainBody::Bytes(_) => {}
+            PlainBody::NodeBytes(_) => {}
+            PlainBody::ShortBytes(_) => {}
+            PlainBody::LongBytes(_) => {}
+            PlainBody::Node => {}
+            PlainBody::Allocation(_) => {}
+        }
+    }
+
+    // Writes bytes over a part of its bytes.
+    pub(crate) fn write(&mut self, at: usize, bytes: &[u8])
+        requires bytes { IsBytes self.old.body }
+        requires room { at + length bytes.now ≤ body_len self.old.body }
+        ensures written { self.new ≡ record self.old { body = written at bytes.now self.old.body } }
+        ensures len { hob_len self.new ≡ hob_len self.old }
+    {
+        match &mut self.body {
+            PlainBody::Bytes(old) => write_over(old.as_mut_slice(), at, bytes),
+            PlainBody::NodeBytes(old) => write_over(old.as_mut_slice(), at, bytes),
+            PlainBody::ShortBytes(old) => write_over(old.as_mut_slice(), at, bytes),
+            PlainBody::LongBytes(old) => write_over(old.as_mut_slice(), at, bytes),
+            PlainBody::Descriptor(_) => {}
+            PlainBody::Node => {}
+            PlainBody::Allocation(_) => {}
+        }
+    }
+}
+
+// The law of a GUID's length.
+fn has_sixteen(guid: &[u8; 16])
+    ensures { length guid.now ≡ 16 }
+{
+    let _bytes = *guid;
+}
+
+// The length of a body.
+fn body_len(body: &PlainBody) -> u16
+    requires { body_len (body_of body.now) ≤ 65520 }
+    ensures len { result ≡ body_len (body_of body.now) }
+    ensures sized { IsSized (body_of body.now) }
+{
+    match body {
+        PlainBody::Bytes(bytes) => bytes.len() as u16,
+        PlainBody::NodeBytes(bytes) => bytes.as_slice().len() as u16,
+        PlainBody::ShortBytes(bytes) => bytes.as_slice().len() as u16,
+        PlainBody::LongBytes(bytes) => bytes.as_slice().len() as u16,
+        PlainBody::Descriptor(d) => {
+            has_sixteen(&d.guid.0);
+            descriptor_len(d.stands) as u16
+        }
+        PlainBody::Node => NODE_LEN as u16,
+        PlainBody::Allocation(_) => ALLOCATION_LEN as u16,
+    }
+}
+
+// Writes bytes over a part of others.
+fn write_over(out: &mut [u8], at: usize, bytes: &[u8])
+    requires { at + length bytes.now ≤ length out.old }
+    ensures { out.new ≡ take at out.old ++ bytes.now ++ drop (at + length bytes.now) out.old }
+{
+    out[at..at + bytes.len()].copy_from_slice(bytes);
+}

@@ -1,0 +1,72 @@
+// A store over lists.
+ghost use Rattle.std.specs.Prelude.{◌≡◌, ◌+◌, ◌≤◌, sum_by, if◌then◌else◌};
+ghost use Rattle.boot_model.specs.StoreState.{hob_len, page_bytes};
+ghost use Rattle.boot_model.specs.StateFacts.{IsBoard, IsStoreState};
+ghost use Rattle.boot_model.specs.StoreState.{empty_store};
+
+use crate::length::{HANDOFF_LEN, HEADER_LEN};
+use crate::plain_hob::PlainHob;
+use boot_model::{Entry, Pending};
+use phys_mem::Rom;
+use pi_base::{Seq, Span};
+use std::alloc::Global;
+
+/// A store of PEI services over plain lists.
+#[derive(Drop)]
+pub struct PlainStore {
+    pub(crate) temp: Span,
+    pub(crate) region: u64,
+    pub(crate) ram: Span,
+    pub(crate) roms: Seq<Rom>,
+    pub(crate) hobs: Vec<PlainHob>,
+    pub(crate) ppis: Vec<Entry>,
+    pub(crate) callbacks: Vec<Entry>,
+    pub(crate) dispatches: Vec<Entry>,
+    pub(crate) pendings: Vec<Pending>,
+    pub(crate) base: u64,
+    pub(crate) len: u64,
+    pub(crate) page_end: u64,
+    pub(crate) taken: u64,
+    pub(crate) boot_mode: u32,
+    pub(crate) planned: Option<Span>,
+    pub(crate) moved: bool,
+    // The place of the end HOB.
+    pub(crate) end: u64,
+    ghost ended: { end ≡ 56 + sum_by hob_len hobs.items },
+    ghost room: { end + 8 + page_bytes moved taken ≤ len },
+    ghost heap: { base + len ≤ page_end },
+    ghost region_end: { region ≤ page_end },
+    ghost early: { (if moved then 0 else taken) ≤ region },
+    ghost low: { page_end ≤ 0x10000000000 },
+}
+
+impl PlainStore {
+    ghost use Rattle.store_plain.specs.PlainState.{range_of, state_of};
+
+    /// The store at the start of a boot: the heap in temporary RAM, without the last `pages` bytes, from which early pages are taken.
+    pub fn new(alloc: Global, temp: Span, pages: u64, ram: Span, roms: Seq<Rom>) -> PlainStore
+        requires { IsBoard (record { temp = range_of temp; pages = pages; ram = range_of ram; roms = roms }) }
+        ensures state { state_of result ≡ empty_store (record { temp = range_of temp; pages = pages; ram = range_of ram; roms = roms }) }
+        ensures facts { IsStoreState (empty_store (record { temp = range_of temp; pages = pages; ram = range_of ram; roms = roms })) }
+    {
+        PlainStore {
+            temp,
+            region: pages,
+            ram,
+            roms,
+            hobs: Vec::new(alloc),
+            ppis: Vec::new(alloc),
+            callbacks: Vec::new(alloc),
+            dispatches: Vec::new(alloc),
+            pendings: Vec::new(alloc),
+            base: temp.base,
+            len: temp.len - pages,
+            page_end: temp.base + temp.len,
+            taken: 0,
+            boot_mode: 0,
+            planned: None,
+            moved: false,
+            end: HANDOFF_LEN,
+        }
+    }
+}
