@@ -18,3 +18,4 @@ pub mod Keeps
 pub mod Migrated
 pub mod Rows
 pub mod Opening
+pub mod Kept

@@ -24,3 +24,6 @@ mod sweep;
 mod word_bytes;
 
 pub use store::PlainStore;
+
+#[cfg(test)]
+mod tests;
