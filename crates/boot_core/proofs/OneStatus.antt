@@ -1,15 +1,30 @@
 -- Told files lead to one status.
-use Rattle.std.proofs.Common.{◌≡◌, ◌⊎◌, ℕ, List, [], ◌∷◌, length, Option, Some, None, IsSome, sym, ap, ◌∙◌, arith, subst, inl, inr, true≢false}
+use Rattle.std.proofs.Common.{◌≡◌, ◌⊎◌, ℕ, List, [], ◌∷◌, ◌++◌, length, Option, Some, None, IsSome, refl, sym, ap, ◌∙◌, arith, subst, inl, inr, true≢false}
 use Rattle.boot_io.specs.Files.{IsTold}
-use Rattle.boot_core.specs.declared.status.Status.{Status}
 use Rattle.boot_plan.specs.declared.plan.Plan.{Plan}
 use Rattle.boot_plan.specs.declared.plan.PlanVolume.{PlanVolume}
 use Rattle.boot_plan.specs.declared.fault.PlanFault.{PlanFault}
 use Rattle.boot_plan.specs.PlanText.{IsPlan, IsPlanFault}
-use Rattle.boot_core.specs.CommandLine.{IsBootWords}
-use Rattle.boot_core.specs.BuiltPlan.{IsBuilt}
-use Rattle.boot_core.specs.Outcome.{Outcome, PlanOutcome, VolumeOutcome, ImageOutcome, Trail, Kind, OfFiles, OfSink, OfMemory, OfAnswer, Ends, EndsBy, Answered, kind_of, IsRead, IsLong, words_usage, words_boot, plan_long, plan_read, plan_refused, plan_not_built, plan_volume, TextOutcome, TextNames, volume_long, volume_read, image_not_built, image_runs}
-use Rattle.boot_core.specs.Causes.{AreTold, LeadsTo, IsStopped, ComesExactly}
+use Rattle.boot_model.specs.declared.catalog.Catalog.{Catalog}
+use Rattle.boot_model.specs.declared.image_fault.ImageFault.{ImageFault}
+use Rattle.boot_model.specs.Catalogue.{IsCatalogue}
+use Rattle.boot_model.specs.ImageFault.{IsImageFault}
+use Rattle.boot_core.specs.declared.status.Status.{Status}
+use Rattle.boot_core.specs.declared.command_line.Command.{Command}
+use Rattle.boot_core.specs.declared.command_line.Command.TheVariants.{Boot, Audit}
+use Rattle.boot_core.specs.CommandLine.{AskFor, verb_of}
+use Rattle.boot_core.specs.FileReading.{IsRead, IsLong, LongVolume, AreImages, IsVolumeName}
+use Rattle.boot_core.specs.Outcome.{Outcome, PlanOutcome, TextOutcome, TextNames, VolumesOutcome, ImagesOutcome, CatalogOutcome, Trail, Kind, OfFiles, OfSink, OfMemory, OfAnswer, Ends, EndsBy, Answered, kind_of, words_usage, words_ask, plan_long, plan_file, plan_refused, plan_read, volume_long, volumes_read, image_refused, images_sound, audited, booted, not_built}
+use Rattle.boot_core.specs.Causes.{AreTold, IsToldAsBytes, LeadsTo, IsStopped, ComesExactly}
+use Rattle.boot_model.specs.Lists.{Each}
+use Rattle.pi_base.specs.Field.{AreBytes}
+
+-- the laws of plans and images: a text has one plan, and never a fault beside it; images have one catalogue, and never a fault beside it
+pub record Laws : Type 0 where
+  pub plans : (text : List ℕ) (a b : Plan) → IsPlan text a → IsPlan text b → a ≡ b
+  pub plan_or_fault : (text : List ℕ) (plan : Plan) (fault : PlanFault) → IsPlan text plan → IsPlanFault text fault → ⊥
+  pub catalogues : (plan : Plan) (images : List (List ℕ)) (a b : Catalog) → IsCatalogue plan images a → IsCatalogue plan images b → a ≡ b
+  pub catalogue_or_fault : (plan : Plan) (images : List (List ℕ)) (catalog : Catalog) (fault : ImageFault) → Each AreBytes images → IsCatalogue plan images catalog → IsImageFault plan images fault → ⊥
 
 -- a told content is one
 one_content : (told : Option (List ℕ)) → IsSome told → (c d : List ℕ) → IsTold told c → IsTold told d → c ≡ d
@@ -22,97 +37,169 @@ within_or_over told limit some c d long read =
     let same : length c ≡ length d = ap length (one_content told some c d long.as_told read.as_told) in
     omega (arith, same, long.over, read.within)
 
-status_of_image : (image : List ℕ) (a b : Status) (s t : List ℕ) → ImageOutcome image a s → ImageOutcome image b t → a ≡ b
-status_of_image image a b s t (image_not_built n p x) (image_not_built m q y) = p ∙ sym q
-status_of_image image a b s t (image_not_built n p x) (image_runs modules boots q y) = absurd (n modules boots)
-status_of_image image a b s t (image_runs modules boots p x) (image_not_built n q y) = absurd (n modules boots)
-status_of_image image a b s t (image_runs modules boots p x) (image_runs others again q y) = p ∙ sym q
+-- the files of some volumes are told
+abbrev VolumesTold : (List ℕ → Option (List ℕ)) → List PlanVolume → Type 0
+VolumesTold told volumes = (name : List ℕ) → IsVolumeName volumes name → IsToldAsBytes (told name)
 
-status_of_volume : (told : Option (List ℕ)) (name : List ℕ) → IsSome told → (a b : Status) (s t : List ℕ) → VolumeOutcome told name a s → VolumeOutcome told name b t → a ≡ b
-status_of_volume told name some a b s t (volume_long c long p x) (volume_long d again q y) = p ∙ sym q
-status_of_volume told name some a b s t (volume_long c long p x) (volume_read d read o) = absurd (within_or_over told 0x4000000 some c d long read)
-status_of_volume told name some a b s t (volume_read c read o) (volume_long d long q y) = absurd (within_or_over told 0x4000000 some d c long read)
-status_of_volume told name some a b s t (volume_read c read o) (volume_read d again u) =
-    let P : List ℕ → Type 0 = λ image. ImageOutcome image b t in
-    status_of_image c a b s t o (subst P (one_content told some d c again.as_told read.as_told) u)
+name_behind : (volume : PlanVolume) (volumes : List PlanVolume) (name : List ℕ) → IsVolumeName volumes name → IsVolumeName (volume ∷ volumes) name
+name_behind volume volumes name o = record { before = volume ∷ o.before; volume = o.volume; behind = o.behind; these = ap (λ vs. volume ∷ vs) o.these; is = o.is }
 
--- the laws of plans: a text has one, and never a fault beside it
-pub record PlanLaws : Type 0 where
-  pub plans : (text : List ℕ) (a b : Plan) → IsPlan text a → IsPlan text b → a ≡ b
-  pub apart : (text : List ℕ) (plan : Plan) (fault : PlanFault) → IsPlan text plan → IsPlanFault text fault → ⊥
+first_told : (told : List ℕ → Option (List ℕ)) (volume : PlanVolume) (volumes : List PlanVolume) → VolumesTold told (volume ∷ volumes) → IsToldAsBytes (told volume.name)
+first_told told volume volumes all = all volume.name (record { before = []; volume = volume; behind = volumes; these = refl; is = refl })
 
-abbrev name_of : List PlanVolume → List ℕ
-name_of [] = []
-name_of (volume ∷ volumes) = volume.name
+some_told : (told : Option (List ℕ)) → IsToldAsBytes told → IsSome told
+some_told None none = absurd none
+some_told (Some content) are = refl
 
--- a plan names one volume
-one_name : (plan : Plan) (name other : List ℕ) → IsBuilt plan name → IsBuilt plan other → other ≡ name
-one_name plan name other p q = ap name_of (sym q.volume ∙ p.volume)
+told_bytes : (told : Option (List ℕ)) → IsToldAsBytes told → (content : List ℕ) → IsTold told content → AreBytes content
+told_bytes None none content is = absurd none
+told_bytes (Some told) are content is = subst AreBytes is are
 
--- a volume's file that a text names is told
-abbrev VolumesTold : (List ℕ → Option (List ℕ)) → List ℕ → Type 0
-VolumesTold told content = (name : List ℕ) → TextNames content name → IsSome (told name)
+-- told images are of bytes
+images_bytes : (told : List ℕ → Option (List ℕ)) (volumes : List PlanVolume) → VolumesTold told volumes → (images : List (List ℕ)) → AreImages told volumes images → Each AreBytes images
+images_bytes told [] all [] read = tt
+images_bytes told [] all (image ∷ images) read = absurd read
+images_bytes told (volume ∷ volumes) all [] read = absurd read
+images_bytes told (volume ∷ volumes) all (image ∷ images) read =
+    (told_bytes (told volume.name) (first_told told volume volumes all) image read.0.as_told, images_bytes told volumes (λ n o. all n (name_behind volume volumes n o)) images read.1)
 
-status_of_text : PlanLaws → (told : List ℕ → Option (List ℕ)) (content : List ℕ) → VolumesTold told content
-    → (a b : Status) (s t : List ℕ) → TextOutcome told content a s → TextOutcome told content b t → a ≡ b
-status_of_text laws told content volumes a b s t (plan_refused f is p x) (plan_refused g also q y) = p ∙ sym q
-status_of_text laws told content volumes a b s t (plan_refused f is p x) (plan_not_built plan read n q y) = absurd (laws.apart content plan f read is)
-status_of_text laws told content volumes a b s t (plan_refused f is p x) (plan_volume plan read name built o) = absurd (laws.apart content plan f read is)
-status_of_text laws told content volumes a b s t (plan_not_built plan read n p x) (plan_refused f is q y) = absurd (laws.apart content plan f read is)
-status_of_text laws told content volumes a b s t (plan_not_built plan read n p x) (plan_not_built other again m q y) = p ∙ sym q
-status_of_text laws told content volumes a b s t (plan_not_built plan read n p x) (plan_volume other again name built o) =
-    let P : Plan → Type 0 = λ x. IsBuilt x name in
-    absurd (n name (subst P (laws.plans content other plan again read) built))
-status_of_text laws told content volumes a b s t (plan_volume plan read name built o) (plan_refused f is q y) = absurd (laws.apart content plan f read is)
-status_of_text laws told content volumes a b s t (plan_volume plan read name built o) (plan_not_built other again n q y) =
-    let P : Plan → Type 0 = λ x. IsBuilt x name in
-    absurd (n name (subst P (laws.plans content plan other read again) built))
-status_of_text laws told content volumes a b s t (plan_volume plan read name built o) (plan_volume other again name' built' u) =
-    let P : Plan → Type 0 = λ x. IsBuilt x name' in
-    let Q : List ℕ → Type 0 = λ n. VolumeOutcome (told n) n b t in
-    let same : name' ≡ name = one_name plan name name' built (subst P (laws.plans content other plan again read) built') in
-    status_of_volume (told name) name (volumes name (plan, read, built)) a b s t o (subst Q same u)
+-- told files have one list of images
+one_images : (told : List ℕ → Option (List ℕ)) (volumes : List PlanVolume) → VolumesTold told volumes → (a b : List (List ℕ)) → AreImages told volumes a → AreImages told volumes b → a ≡ b
+one_images told [] all [] [] p q = refl
+one_images told [] all [] (y ∷ b) p q = absurd q
+one_images told [] all (x ∷ a) b p q = absurd p
+one_images told (volume ∷ volumes) all [] b p q = absurd p
+one_images told (volume ∷ volumes) all (x ∷ a) [] p q = absurd q
+one_images told (volume ∷ volumes) all (x ∷ a) (y ∷ b) p q =
+    let first : x ≡ y = one_content (told volume.name) (some_told (told volume.name) (first_told told volume volumes all)) x y p.0.as_told q.0.as_told in
+    let rest : a ≡ b = one_images told volumes (λ n o. all n (name_behind volume volumes n o)) a b p.1 q.1 in
+    ap (λ z. z ∷ a) first ∙ ap (λ zs. y ∷ zs) rest
+
+-- and no file that is too long among them
+images_or_long : (told : List ℕ → Option (List ℕ)) (before : List PlanVolume) (volume : PlanVolume) (behind : List PlanVolume) → IsSome (told volume.name) → (content : List ℕ) → IsLong (told volume.name) 0x4000000 content
+    → (images : List (List ℕ)) → AreImages told (before ++ volume ∷ behind) images → ⊥
+images_or_long told [] volume behind some content long [] read = read
+images_or_long told [] volume behind some content long (image ∷ images) read = within_or_over (told volume.name) 0x4000000 some content image long read.0
+images_or_long told (first ∷ before) volume behind some content long [] read = read
+images_or_long told (first ∷ before) volume behind some content long (image ∷ images) read = images_or_long told before volume behind some content long images read.1
+
+boot_or_audit : (command : Command) → command ≡ Boot → command ≡ Audit → ⊥
+boot_or_audit Boot p q = absurd (no_boot q)
+  where
+    no_boot : Boot ≡ Audit → ⊥
+    no_boot e = let P : Command → Type 0 = λ c. elim c [ Boot ↦ Unit {0} | Audit ↦ ⊥ ] in subst P e tt
+boot_or_audit Audit p q = absurd (no_audit p)
+  where
+    no_audit : Audit ≡ Boot → ⊥
+    no_audit e = let P : Command → Type 0 = λ c. elim c [ Boot ↦ ⊥ | Audit ↦ Unit {0} ] in subst P e tt
+
+status_of_catalog : (command : Command) (plan : Plan) (catalog : Catalog) (a b : Status) (s t : List ℕ) → CatalogOutcome command plan catalog a s → CatalogOutcome command plan catalog b t → a ≡ b
+status_of_catalog command plan catalog a b s t (audited c p x) (audited d q y) = p ∙ sym q
+status_of_catalog command plan catalog a b s t (audited c p x) (booted d built q y) = absurd (boot_or_audit command d c)
+status_of_catalog command plan catalog a b s t (audited c p x) (not_built d built q y) = absurd (boot_or_audit command d c)
+status_of_catalog command plan catalog a b s t (booted c built p x) (audited d q y) = absurd (boot_or_audit command c d)
+status_of_catalog command plan catalog a b s t (booted c built p x) (booted d again q y) = p ∙ sym q
+status_of_catalog command plan catalog a b s t (booted c built p x) (not_built d other q y) = absurd (true≢false (sym built ∙ other))
+status_of_catalog command plan catalog a b s t (not_built c built p x) (audited d q y) = absurd (boot_or_audit command c d)
+status_of_catalog command plan catalog a b s t (not_built c built p x) (booted d other q y) = absurd (true≢false (sym other ∙ built))
+status_of_catalog command plan catalog a b s t (not_built c built p x) (not_built d again q y) = p ∙ sym q
+
+status_of_images : Laws → (command : Command) (plan : Plan) (images : List (List ℕ)) → Each AreBytes images → (a b : Status) (s t : List ℕ) → ImagesOutcome command plan images a s → ImagesOutcome command plan images b t → a ≡ b
+status_of_images laws command plan images are a b s t (image_refused f is p x) (image_refused g also q y) = p ∙ sym q
+status_of_images laws command plan images are a b s t (image_refused f is p x) (images_sound c sound o) = absurd (laws.catalogue_or_fault plan images c f are sound is)
+status_of_images laws command plan images are a b s t (images_sound c sound o) (image_refused f is q y) = absurd (laws.catalogue_or_fault plan images c f are sound is)
+status_of_images laws command plan images are a b s t (images_sound c sound o) (images_sound d also u) =
+    let P : Catalog → Type 0 = λ x. CatalogOutcome command plan x b t in
+    status_of_catalog command plan c a b s t o (subst P (laws.catalogues plan images d c also sound) u)
+
+long_told : (told : List ℕ → Option (List ℕ)) (volumes : List PlanVolume) (status : Status) (text : List ℕ) → VolumesTold told volumes → LongVolume told volumes status text → (images : List (List ℕ)) → AreImages told volumes images → ⊥
+long_told told volumes status text all o images read =
+    let some = some_told (told o.volume.name) (all o.volume.name (record { before = o.before; volume = o.volume; behind = o.behind; these = o.these; is = refl })) in
+    let P : List PlanVolume → Type 0 = λ vs. AreImages told vs images in
+    images_or_long told o.before o.volume o.behind some o.long.content o.long.long images (subst P o.these read)
+
+status_of_volumes : Laws → (told : List ℕ → Option (List ℕ)) (command : Command) (plan : Plan) → VolumesTold told plan.volumes → (a b : Status) (s t : List ℕ)
+    → VolumesOutcome told command plan a s → VolumesOutcome told command plan b t → a ≡ b
+status_of_volumes laws told command plan all a b s t (volume_long o) (volume_long u) = o.long.status_is ∙ sym u.long.status_is
+status_of_volumes laws told command plan all a b s t (volume_long o) (volumes_read images read u) = absurd (long_told told plan.volumes a s all o images read)
+status_of_volumes laws told command plan all a b s t (volumes_read images read o) (volume_long u) = absurd (long_told told plan.volumes b t all u images read)
+status_of_volumes laws told command plan all a b s t (volumes_read images read o) (volumes_read others again u) =
+    let P : List (List ℕ) → Type 0 = λ x. ImagesOutcome command plan x b t in
+    status_of_images laws command plan images (images_bytes told plan.volumes all images read) a b s t o (subst P (one_images told plan.volumes all others images again read) u)
+
+-- the files that a text names are told
+abbrev TextTold : (List ℕ → Option (List ℕ)) → List ℕ → Type 0
+TextTold told content = (name : List ℕ) → TextNames content name → IsToldAsBytes (told name)
+
+status_of_text : Laws → (told : List ℕ → Option (List ℕ)) (command : Command) (content : List ℕ) → TextTold told content
+    → (a b : Status) (s t : List ℕ) → TextOutcome told command content a s → TextOutcome told command content b t → a ≡ b
+status_of_text laws told command content all a b s t (plan_refused f is p x) (plan_refused g also q y) = p ∙ sym q
+status_of_text laws told command content all a b s t (plan_refused f is p x) (plan_read plan read o) = absurd (laws.plan_or_fault content plan f read is)
+status_of_text laws told command content all a b s t (plan_read plan read o) (plan_refused f is q y) = absurd (laws.plan_or_fault content plan f read is)
+status_of_text laws told command content all a b s t (plan_read plan read o) (plan_read other again u) =
+    let P : Plan → Type 0 = λ x. VolumesOutcome told command x b t in
+    status_of_volumes laws told command plan (λ n names. all n (plan, read, names)) a b s t o (subst P (laws.plans content other plan again read) u)
 
 -- the files that a told plan's text names are told
-abbrev PlansVolumesTold : (List ℕ → Option (List ℕ)) → List ℕ → Type 0
-PlansVolumesTold told plan = (content name : List ℕ) → IsTold (told plan) content → TextNames content name → IsSome (told name)
+abbrev PlanTold : (List ℕ → Option (List ℕ)) → List ℕ → Type 0
+PlanTold told plan = (content name : List ℕ) → IsTold (told plan) content → TextNames content name → IsToldAsBytes (told name)
 
-status_of_plan : PlanLaws → (told : List ℕ → Option (List ℕ)) (plan : List ℕ) → IsSome (told plan) → PlansVolumesTold told plan
-    → (a b : Status) (s t : List ℕ) → PlanOutcome told plan a s → PlanOutcome told plan b t → a ≡ b
-status_of_plan laws told plan some volumes a b s t (plan_long c long p x) (plan_long d again q y) = p ∙ sym q
-status_of_plan laws told plan some volumes a b s t (plan_long c long p x) (plan_read d read o) = absurd (within_or_over (told plan) 0x10000 some c d long read)
-status_of_plan laws told plan some volumes a b s t (plan_read c read o) (plan_long d long q y) = absurd (within_or_over (told plan) 0x10000 some d c long read)
-status_of_plan laws told plan some volumes a b s t (plan_read c read o) (plan_read d again u) =
-    let P : List ℕ → Type 0 = λ content. TextOutcome told content b t in
-    status_of_text laws told c (λ name names. volumes c name read.as_told names) a b s t o (subst P (one_content (told plan) some d c again.as_told read.as_told) u)
+status_of_plan : Laws → (told : List ℕ → Option (List ℕ)) (command : Command) (plan : List ℕ) → IsSome (told plan) → PlanTold told plan
+    → (a b : Status) (s t : List ℕ) → PlanOutcome told command plan a s → PlanOutcome told command plan b t → a ≡ b
+status_of_plan laws told command plan some all a b s t (plan_long o) (plan_long u) = o.status_is ∙ sym u.status_is
+status_of_plan laws told command plan some all a b s t (plan_long o) (plan_file d read u) = absurd (within_or_over (told plan) 0x10000 some o.content d o.long read)
+status_of_plan laws told command plan some all a b s t (plan_file c read o) (plan_long u) = absurd (within_or_over (told plan) 0x10000 some u.content c u.long read)
+status_of_plan laws told command plan some all a b s t (plan_file c read o) (plan_file d again u) =
+    let P : List ℕ → Type 0 = λ content. TextOutcome told command content b t in
+    status_of_text laws told command c (λ name names. all c name read.as_told names) a b s t o (subst P (one_content (told plan) some d c again.as_told read.as_told) u)
 
 abbrev second : List (List ℕ) → List ℕ
 second (x ∷ y ∷ rest) = y
 second rest = []
 
+abbrev first : List (List ℕ) → List ℕ
+first (x ∷ rest) = x
+first [] = []
+
 -- words name one plan
-one_plan : (words : List (List ℕ)) (plan other : List ℕ) → IsBootWords words plan → IsBootWords words other → other ≡ plan
-one_plan words plan other p q = ap second (sym q.0 ∙ p.0)
+one_plan : (words : List (List ℕ)) (command another : Command) (plan other : List ℕ) → AskFor words command plan → AskFor words another other → other ≡ plan
+one_plan words command another plan other p q = ap second (sym q.0 ∙ p.0)
+
+-- the two verbs differ in their length
+abbrev verb_len : Command → ℕ
+verb_len command = length (verb_of command)
+
+one_command : (command another : Command) → verb_len command ≡ verb_len another → another ≡ command
+one_command Boot Boot e = refl
+one_command Boot Audit e = absurd (omega (arith, e))
+one_command Audit Boot e = absurd (omega (arith, e))
+one_command Audit Audit e = refl
+
+-- and ask for one thing
+one_asked : (words : List (List ℕ)) (command another : Command) (plan other : List ℕ) → AskFor words command plan → AskFor words another other → another ≡ command
+one_asked words command another plan other p q = one_command command another (ap (λ ws. length (first ws)) (sym p.0 ∙ q.0))
 
 -- the files of a plan that the words name are told
-volumes_told : (told : List ℕ → Option (List ℕ)) (words : List (List ℕ)) (plan : List ℕ) → AreTold told words → IsBootWords words plan → PlansVolumesTold told plan
-volumes_told told words plan all is content name as_told names = told_with (told plan) (all.plan_file plan is) content as_told (λ e. all.volume_file plan content name is e names)
+plan_told : (told : List ℕ → Option (List ℕ)) (words : List (List ℕ)) (command : Command) (plan : List ℕ) → AreTold told words → AskFor words command plan → PlanTold told plan
+plan_told told words command plan all is content name as_told names = told_with (told plan) (all.plan_file command plan is) content as_told (λ e. all.volume_file command plan content name is e names)
   where
     told_with : {P : Type 0} → (known : Option (List ℕ)) → IsSome known → (content : List ℕ) → IsTold known content → (known ≡ Some content → P) → P
     told_with None some content as_told f = absurd (true≢false (sym some))
     told_with (Some x) some content as_told f = f (ap Some as_told)
 
-pub one_status : PlanLaws → (told : List ℕ → Option (List ℕ)) (words : List (List ℕ)) → AreTold told words
+pub one_status : Laws → (told : List ℕ → Option (List ℕ)) (words : List (List ℕ)) → AreTold told words
     → (a b : Status) (s t : List ℕ) → Outcome told words a s → Outcome told words b t → a ≡ b
 one_status laws told words all a b s t (words_usage n p x) (words_usage m q y) = p ∙ sym q
-one_status laws told words all a b s t (words_usage n p x) (words_boot plan is o) = absurd (n plan is)
-one_status laws told words all a b s t (words_boot plan is o) (words_usage n q y) = absurd (n plan is)
-one_status laws told words all a b s t (words_boot plan is o) (words_boot other also u) =
-    let Q : List ℕ → Type 0 = λ p. PlanOutcome told p b t in
-    status_of_plan laws told plan (all.plan_file plan is) (volumes_told told words plan all is) a b s t o (subst Q (one_plan words plan other is also) u)
+one_status laws told words all a b s t (words_usage n p x) (words_ask command plan is o) = absurd (n command plan is)
+one_status laws told words all a b s t (words_ask command plan is o) (words_usage n q y) = absurd (n command plan is)
+one_status laws told words all a b s t (words_ask command plan is o) (words_ask another other also u) =
+    let P : List ℕ → Type 0 = λ p. PlanOutcome told another p b t in
+    let Q : Command → Type 0 = λ c. PlanOutcome told c plan b t in
+    let here = subst Q (one_asked words command another plan other is also) (subst P (one_plan words command another plan other is also) u) in
+    status_of_plan laws told command plan (all.plan_file command plan is) (plan_told told words command plan all is) a b s t o here
 
 -- an answer is the one that is due
-due : PlanLaws → (k : Kind) (told : List ℕ → Option (List ℕ)) (words : List (List ℕ)) (Named : List ℕ → Type 0) (status wanted : Status) (t : Trail)
+due : Laws → (k : Kind) (told : List ℕ → Option (List ℕ)) (words : List (List ℕ)) (Named : List ℕ → Type 0) (status wanted : Status) (t : Trail)
     → EndsBy k (Outcome told words) Named status t → AreTold told words → LeadsTo told words wanted → (status ≡ wanted) ⊎ IsStopped k
 due laws OfAnswer told words Named status wanted t e all leads = inl (one_status laws told words all status wanted e.text leads.0 e.outcome leads.1)
 due laws OfFiles told words Named status wanted t e all leads = inr tt
@@ -120,7 +207,7 @@ due laws OfSink told words Named status wanted t e all leads = inr tt
 due laws OfMemory told words Named status wanted t e all leads = inr tt
 
 -- how a call ends says when each answer comes
-pub comes_exactly : PlanLaws → (told : List ℕ → Option (List ℕ)) (words : List (List ℕ)) (Named : List ℕ → Type 0) (status wanted : Status) (t : Trail)
+pub comes_exactly : Laws → (told : List ℕ → Option (List ℕ)) (words : List (List ℕ)) (Named : List ℕ → Type 0) (status wanted : Status) (t : Trail)
     → kind_of wanted ≡ OfAnswer → Ends (Outcome told words) Named status t → ComesExactly told words wanted status
 comes_exactly laws told words Named status wanted t kind e = record {
   only = λ same.

@@ -1,0 +1,31 @@
+use Rattle.std.proofs.Common.{refl}
+use Rattle.boot_core.specs.declared.status.Status.TheVariants.{Usage}
+use Rattle.boot_core.specs.CommandLine.{words_of}
+use Rattle.boot_core.specs.Lines.{usage_line}
+use Rattle.boot_core.specs.Outcome.{PlanOutcome, PlanNames, Outcome, Names, kind_of, words_usage, words_ask}
+use Rattle.boot_core.proofs.Ending.{answer_ends, ends_after}
+use Rattle.boot_core.proofs.boot.with_words.Goals as goal
+
+pub returns-in-Some : goal.returns-in-Some
+returns-in-Some g c =
+    let T = g.S.Sink.text in
+    let N = g.S.Sink.faults in
+    let F = g.F.Files.faults in
+    let command = c.in-Some.command in
+    let plan = c.in-Some.plan.now in
+    let words = words_of c.args.words.now in
+    let told = g.F.Files.told c.args.files.now in
+    ends_after (kind_of c.with_name.result) (PlanOutcome told command plan) (Outcome told words) (PlanNames told plan) (Names told words) c.with_name.result
+    (T c.args.sink.now) (T c.args.sink.now) (T c.with_name.new.sink) (N c.args.sink.now) (N c.args.sink.now) (N c.with_name.new.sink) (F c.args.files.now) (F c.args.files.now) (F c.with_name.new.files) (g.F.Files.missed c.with_name.new.files)
+    (λ s t o. words_ask command plan c.in-Some.ensures.found o) (λ n o. (command, plan, c.in-Some.ensures.found, o)) refl refl refl c.with_name.ensures
+
+pub returns-in-None : goal.returns-in-None
+returns-in-None g c =
+    let T = g.S.Sink.text in
+    let N = g.S.Sink.faults in
+    let F = g.F.Files.faults in
+    let words = words_of c.args.words.now in
+    let told = g.F.Files.told c.args.files.now in
+    answer_ends c.put_usage-put.result (Outcome told words) (Names told words) Usage c.answer.result usage_line (T c.args.sink.now) (T c.put_usage-put.new.sink) (N c.args.sink.now) (N c.put_usage-put.new.sink)
+    (F c.args.files.now) (F c.args.files.now) (g.F.Files.missed c.args.files.now) c.answer.ensures refl
+    (words_usage c.in-None.ensures.none refl refl) refl c.put_usage-put.ensures.text c.put_usage-put.ensures.cause
