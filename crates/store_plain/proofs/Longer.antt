@@ -1,6 +1,6 @@
 -- A service's new state has room: what is put behind the HOBs is no more than what was free.
-use Rattle.std.proofs.Common.{◌≡◌, ℕ, ◌+◌, ◌-◌, ◌*◌, ◌≤◌, Bool, true, false, cond, List, [], ◌∷◌, ◌++◌, length, take, drop, replicate, arith, sym, refl, ap, ◌∙◌, Option, Some, None, Ok, Err, nat_lt, ◌==◌, sum_by}
-use Rattle.std.specs.Prelude.{fold, if◌then◌else◌, not, ⊤}
+use Rattle.std.proofs.Common.{◌≡◌, ℕ, ◌+◌, ◌-◌, ◌*◌, ◌≤◌, Bool, true, false, cond, List, [], ◌∷◌, length, arith, sym, refl, ap, ◌∙◌, Some, nat_lt, ◌==◌, sum_by}
+use Rattle.std.specs.Prelude.{fold}
 use Rattle.std.proofs.lemmas.List.Sums.{sum_by-cons, sum_by_push}
 use Rattle.std.proofs.lemmas.Bool.Decides.{nat_tests}
 use Rattle.boot_model.specs.declared.store_handle.DescKind.{DescKind}
@@ -11,7 +11,6 @@ use Rattle.boot_model.specs.declared.state.Body.TheVariants.{Node}
 use Rattle.boot_model.specs.declared.state.HobEntry.{HobEntry}
 use Rattle.boot_model.specs.Lists.{Each}
 use Rattle.boot_model.specs.StoreState.{StoreState, Range, hob_len, body_len, body_from, with_body, end_place, page_bytes, free, appended, pool_of}
-use Rattle.boot_model.specs.Service.{Service}
 use Rattle.boot_model.specs.Service.Install.{with_node, with_ppi, with_pending, install_pairs, installed, reinstall_pairs, reinstalled, renamed}
 use Rattle.boot_model.specs.Service.Notify.{with_note, with_note_of, notify_pairs, notified}
 use Rattle.boot_model.specs.Service.Descriptor.{kind_at}

@@ -1,5 +1,5 @@
 -- Each service keeps what holds of every state, since its own test leaves room.
-use Rattle.std.proofs.Common.{◌≡◌, ℕ, ◌+◌, ◌-◌, ◌*◌, ◌≤◌, Bool, true, false, List, [], ◌∷◌, length, replicate, arith, sym, refl, ap, subst, ◌∙◌, Option, Some, None, Ok, Err, nat_lt, ◌==◌}
+use Rattle.std.proofs.Common.{◌≡◌, ℕ, ◌+◌, ◌-◌, ◌*◌, ◌≤◌, Bool, true, false, List, [], ◌∷◌, length, replicate, arith, refl, subst, Option, Some, None, Ok, Err, nat_lt, ◌==◌}
 use Rattle.std.specs.Prelude.{if◌then◌else◌, not, option_map, IfSome, ⊤}
 use Rattle.std.specs.List.{list_all, list_any}
 use Rattle.std.proofs.lemmas.List.{length-replicate}
@@ -14,26 +14,24 @@ use Rattle.boot_model.specs.declared.store_handle.DescKind.TheVariants.{Ppi}
 use Rattle.boot_model.specs.declared.store_handle.Desc.{Desc}
 use Rattle.boot_model.specs.declared.store_handle.Pool.{Pool}
 use Rattle.boot_model.specs.declared.store_handle.Sweep.{Sweep}
-use Rattle.boot_model.specs.declared.store_handle.GuidFrom.{GuidFrom}
-use Rattle.boot_model.specs.declared.store_handle.GuidFrom.TheVariants.{Inline, At}
+use Rattle.boot_model.specs.declared.store_handle.GuidFrom.TheVariants.{Inline}
 use Rattle.boot_model.specs.declared.state.Pending.{Pending}
 use Rattle.boot_model.specs.declared.state.Body.TheVariants.{Bytes, Descriptor, Node}
 use Rattle.boot_model.specs.declared.state.HobEntry.{HobEntry}
 use Rattle.boot_model.specs.declared.known_guid.TheConstants.{MEMORY_PPI}
 use Rattle.boot_model.specs.declared.line.TheConstants.{CORE}
 use Rattle.boot_model.specs.Lists.{Each}
-use Rattle.boot_model.specs.MemoryReading.{rom_bytes}
-use Rattle.boot_model.specs.StoreState.{StoreState, Range, free, page_bytes, end_place, appended, pool_of, next_body, rounded, descriptor_len}
+use Rattle.boot_model.specs.StoreState.{StoreState, Range, free, page_bytes, end_place, appended, pool_of, rounded, descriptor_len}
 use Rattle.boot_model.specs.StateFacts.{IsStoreState, IsHeap, ArePages, IsPlanned, IsPool, IsPending}
 use Rattle.boot_model.specs.Migration.{migrated_to}
 use Rattle.boot_model.specs.Service.{Service, in_room}
-use Rattle.boot_model.specs.Service.Pool.{pool, store, most_pool, written}
+use Rattle.boot_model.specs.Service.Pool.{pool, most_pool, written}
 use Rattle.boot_model.specs.Service.Descriptor.{desc, desc_of, is_ppi, kind_at}
 use Rattle.boot_model.specs.Service.Install.{install, reinstall, core_install, core_of, both_or_full, install_pairs, installed, install_sweep, is_installed, reinstall_pairs, reinstalled, reinstall_sweep, node_need}
 use Rattle.boot_model.specs.Service.Notify.{notify, notify_pairs, notified, notify_sweep}
-use Rattle.boot_model.specs.Service.Queue.{queue_pop, popped, zeroed}
+use Rattle.boot_model.specs.Service.Queue.{popped, zeroed}
 use Rattle.boot_model.specs.Service.Hob.{create_hob, hob_entry}
-use Rattle.boot_model.specs.Service.Memory.{set_memory, is_memory, pages, with_pages, allocation_hob, page_len, allocation_len, early_pages}
+use Rattle.boot_model.specs.Service.Memory.{set_memory, is_memory, pages, with_pages, allocation_hob, page_len, early_pages}
 use Rattle.store_plain.specs.PlainBody.{IsSized}
 use Rattle.store_plain.specs.Laws.{Keeps, KeepFacts}
 use Rattle.store_plain.proofs.Sound.{HasRoom, sound_of, facts_of}

@@ -1,6 +1,6 @@
 -- What all services keep: what holds of every state of a store holds of each state that a service answers.
 -- Own.
-use Rattle.std.specs.Prelude.{ℕ, List, Result, Ok, Err, IfSome, ⊤}
+use Rattle.std.specs.Prelude.{ℕ, List, Ok, Err, IfSome, ⊤}
 use Rattle.hob_codec.specs.HobValue.{HobValue, IsHob}
 use Rattle.boot_model.specs.declared.store_handle.Desc.{Desc}
 use Rattle.boot_model.specs.declared.store_handle.DescKind.{DescKind}
@@ -26,7 +26,7 @@ abbrev pub Keeps : {A : Type 0} → Service A → Type 0
 Keeps (Ok (answer, t)) = IsStoreState t
 Keeps (Err fault) = ⊤
 
--- a HOB's fields fit theirs, and at the move each GUID has its sixteen bytes
+-- for each service, with the needs of its call; the lengths of a new HOB's fields, and at the move those of GUIDs, are needs too, since here they are lists of any length
 pub record KeepFacts : Type 0 where
   pub pool : (s : StoreState) (size : ℕ) → IsStoreState s → Keeps (P.pool s size)
   pub store : (s : StoreState) (to : Pool) (at : ℕ) (bytes : List ℕ) → IsStoreState s → IsPool s to → IfSome (P.store s to at bytes) IsStoreState

@@ -4,5 +4,4 @@ ghost use Rattle.store_plain.specs.Laws.{KeepFacts};
 /// Each service keeps what holds of every state.
 pub fn services_keep_facts()
     ensures { KeepFacts }
-{
-}
+{}
