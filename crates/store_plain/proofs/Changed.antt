@@ -88,7 +88,7 @@ descriptor_at_bytes s kind p place bytes found is e = let same : body_at s p ≡
 descriptor_at_node : (s : StoreState) (kind : DescKind) (p place : ℕ) → IsNodeAt s p → IsDescriptorAt s kind place → place ≢ p
 descriptor_at_node s kind p place found is e = let same : body_at s p ≡ Some (Descriptor is.0) = subst (λ n. body_at s n ≡ Some (Descriptor is.0)) e is.1 in cc
 
-written_len : (at : ℕ) (bytes old : List ℕ) → at + length bytes ≤ length old → length (take at old ++ bytes ++ drop (at + length bytes) old) ≡ length old
+pub written_len : (at : ℕ) (bytes old : List ℕ) → at + length bytes ≤ length old → length (take at old ++ bytes ++ drop (at + length bytes) old) ≡ length old
 written_len at bytes old le = grind (arith, length-append, length-take, length-drop, le)
 
 pub written_sound : (s : StoreState) (to : Pool) (at : ℕ) (bytes : List ℕ) → IsSound s → IsPool s to → at + length bytes ≤ to.size → IsSound (changed (written at bytes) s to.offset)

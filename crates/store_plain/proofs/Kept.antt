@@ -1,5 +1,5 @@
 -- A store that stands for its own state still does after a call.
-use Rattle.std.proofs.Common.{◌≡◌, ℕ, ◌≤◌, refl, subst, arith}
+use Rattle.std.proofs.Common.{ℕ, ◌≤◌, refl, subst, arith}
 use Rattle.boot_model.specs.declared.store_handle.DescKind.{DescKind}
 use Rattle.boot_model.specs.declared.store_handle.DescKind.TheVariants.{Ppi, Callback, Dispatch}
 use Rattle.boot_model.specs.StoreState.{StoreState}

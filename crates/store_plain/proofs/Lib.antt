@@ -19,3 +19,5 @@ pub mod Migrated
 pub mod Rows
 pub mod Opening
 pub mod Kept
+pub mod Longer
+pub mod Services

@@ -33,7 +33,7 @@ descriptor_moves : (s : StoreState) (to : Range) (place : ℕ) (d : DescriptorBo
 descriptor_moves s to place d true e = refl
 descriptor_moves s to place d false e = forgotten_len s.base place d e
 
-moved_len : (s : StoreState) (to : Range) (place : ℕ) (body : Body) → IsSized body → body_len (moved_body s to place body) ≡ body_len body
+pub moved_len : (s : StoreState) (to : Range) (place : ℕ) (body : Body) → IsSized body → body_len (moved_body s to place body) ≡ body_len body
 moved_len s to place (Bytes bytes) h = refl
 moved_len s to place (Descriptor d) h = descriptor_moves s to place d (is_named s place) h
 moved_len s to place Node h = refl

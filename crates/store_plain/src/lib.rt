@@ -6,6 +6,7 @@ mod heap_byte;
 mod hob;
 mod install;
 mod kind;
+mod laws;
 mod length;
 mod memory;
 mod migration;
@@ -23,6 +24,7 @@ mod store;
 mod sweep;
 mod word_bytes;
 
+pub use laws::services_keep_facts;
 pub use store::PlainStore;
 
 #[cfg(test)]
