@@ -1,4 +1,6 @@
 -- What registers hold is there: it stands before the end HOB, and the descriptors of a list are descriptors.
+use Rattle.std.specs.Prelude.{length}
+use Rattle.std.specs.Option.{option_map}
 use Rattle.std.proofs.Common.{◌≡◌, ℕ, zero, suc, ◌+◌, ◌≤◌, ◌<◌, Bool, true, false, cond, List, [], ◌∷◌, arith, sym, refl, ap, subst, ◌∙◌, Option, Some, None, ◌==◌, sum_by}
 use Rattle.std.proofs.lemmas.List.Sums.{sum_by-cons}
 use Rattle.std.proofs.lemmas.Bool.Decides.{nat_tests}
@@ -13,7 +15,7 @@ use Rattle.boot_model.specs.declared.state.HobEntry.{HobEntry}
 use Rattle.boot_model.specs.Lists.{Each}
 use Rattle.boot_model.specs.StoreState.{StoreState, hob_len, body_from, end_place}
 use Rattle.boot_model.specs.StateFacts.{IsDesc, IsPool}
-use Rattle.boot_model.specs.Registers.{register, pool_of, descriptor_of, offset_of, pool_in, descriptor_in}
+use Rattle.boot_model.specs.Registers.{register, pool_of, descriptor_of, offset_of, pool_in, descriptor_in, descriptors_in, both}
 use Rattle.pei_action.specs.Needs.{IsHeld, HoldRegisters}
 
 -- a body that is there stands before the end
@@ -65,3 +67,25 @@ desc_is s (HandleIn handle) d is e = cc
 
 pub held_descriptor : (s : StoreState) (registers : List Register) (r : ℕ) (d : Desc) → HoldRegisters registers s → Some d ≡ descriptor_in registers r → IsDesc s d
 held_descriptor s registers r d each e = desc_is s (register registers r) d (is_held s registers r each) (sym e)
+
+-- the same of a list of registers
+found_on : (s : StoreState) (held : Option Desc) (more : Option (List Desc)) (found : List Desc) → ((d : Desc) → Some d ≡ held → IsDesc s d) → ((rest : List Desc) → Some rest ≡ more → Each (IsDesc s) rest)
+    → Some found ≡ option_map (λ pair. pair.0 ∷ pair.1) (both held more) → Each (IsDesc s) found
+found_on s None more found one others e = cc
+found_on s (Some d) None found one others e = cc
+found_on s (Some d) (Some rest) found one others e = let same : d ∷ rest ≡ found = cc in subst (λ xs. Each (IsDesc s) xs) same (one d refl, others rest refl)
+
+pub held_descriptors : (s : StoreState) (registers : List Register) (list : List ℕ) (found : List Desc) → HoldRegisters registers s → Some found ≡ descriptors_in registers list → Each (IsDesc s) found
+held_descriptors s registers [] found each e = let same : [] ≡ found = cc in subst (λ xs. Each (IsDesc s) xs) same tt
+held_descriptors s registers (r ∷ rs) found each e =
+    found_on s (descriptor_in registers r) (descriptors_in registers rs) found (λ d. held_descriptor s registers r d each) (λ rest. held_descriptors s registers rs rest each) e
+
+-- both of two
+two_on : (s : StoreState) (held more : Option Desc) (one other : Desc) → ((d : Desc) → Some d ≡ held → IsDesc s d) → ((d : Desc) → Some d ≡ more → IsDesc s d) → Some (one, other) ≡ both held more → IsDesc s one × IsDesc s other
+two_on s None more one other f g e = cc
+two_on s (Some d) None one other f g e = cc
+two_on s (Some d) (Some d') one other f g e =
+    let ours : Desc × Desc = (one, other) in let theirs : Desc × Desc = (d, d') in let same : ours ≡ theirs = cc in (f one (ap (λ p. Some p.0) same), g other (ap (λ p. Some p.1) same))
+
+pub held_two : (s : StoreState) (registers : List Register) (a b : ℕ) (one other : Desc) → HoldRegisters registers s → Some (one, other) ≡ both (descriptor_in registers a) (descriptor_in registers b) → IsDesc s one × IsDesc s other
+held_two s registers a b one other each e = two_on s (descriptor_in registers a) (descriptor_in registers b) one other (λ d. held_descriptor s registers a d each) (λ d. held_descriptor s registers b d each) e

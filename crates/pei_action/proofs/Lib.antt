@@ -1,3 +1,6 @@
+mod Collected
 mod Held
-mod Written
+mod Pages
 mod Refused
+mod ScriptHobs
+mod Written

@@ -3,8 +3,6 @@
 use Rattle.std.specs.Prelude.{◌≡◌, ℕ, ◌<◌, ◌≤◌, true, List, ⊤}
 use Rattle.pi_base.specs.declared.phase.Phase.TheVariants.{Pei}
 use Rattle.act_code.specs.declared.action.Action.{Action}
-use Rattle.act_code.specs.declared.action.GuidArg.{GuidArg}
-use Rattle.act_code.specs.declared.action.GuidArg.TheVariants as G
 use Rattle.act_code.specs.Index.{is_indexed}
 use Rattle.act_code.specs.Script.{IsAction}
 use Rattle.boot_model.specs.declared.frame.TheConstants.{BLOCKS}
@@ -35,12 +33,8 @@ IsScriptAction action = IsAction Pei action × (is_indexed BLOCKS action ≡ tru
 abbrev pub IsModuleNumber : ℕ → Type 0
 IsModuleNumber number = number < 4096
 
--- a GUID's register is there, and the last operand of a descriptor is the number of a register, or of a block
-abbrev pub IsGuidRegister : GuidArg → Type 0
-IsGuidRegister (G.Inline guid) = ⊤
-IsGuidRegister (G.Register v) = v < 16
-
+-- the last operand of a notification's descriptor is the number of a block
 abbrev pub IsArgument : DescKind → ℕ → Type 0
-IsArgument Ppi arg = arg < 16
+IsArgument Ppi arg = ⊤
 IsArgument Callback arg = arg < BLOCKS
 IsArgument Dispatch arg = arg < BLOCKS

@@ -1,6 +1,6 @@
 -- What a call that takes an action answers: what the action does by the definition, with the registers and the state after it. Want of memory leaves both as they were.
 -- Own.
-use Rattle.std.specs.Prelude.{◌≡◌, ℕ, Bool, true, List, [], None, Result, Ok, Err}
+use Rattle.std.specs.Prelude.{◌≡◌, ℕ, Bool, true, List, [], None, Some, Result, Ok, Err}
 use Rattle.pi_base.specs.declared.word.Word.{Word}
 use Rattle.pi_base.specs.declared.word.Word.TheVariants.{Success, InvalidParameter, NotFound, OutOfResources, NotAvailableYet}
 use Rattle.pi_base.specs.declared.memory.OutOfMemory.{OutOfMemory}
@@ -8,6 +8,8 @@ use Rattle.act_code.specs.declared.action.Action.{Action}
 use Rattle.boot_model.specs.declared.line.CallName.{CallName}
 use Rattle.boot_model.specs.declared.line.Extra.{Extra}
 use Rattle.boot_model.specs.declared.line.Extra.TheVariants.{Nothing}
+use Rattle.boot_model.specs.declared.store_handle.Desc.{Desc}
+use Rattle.boot_model.specs.declared.store_handle.Sweep.{Sweep}
 use Rattle.boot_model.specs.declared.store_handle.StoreFault.{StoreFault}
 use Rattle.boot_model.specs.declared.store_handle.StoreFault.TheVariants as F
 use Rattle.boot_model.specs.StoreState.{StoreState}
@@ -20,12 +22,15 @@ use Rattle.pei_action.specs.declared.taken.Taken.{Taken}
 use Rattle.pei_action.specs.declared.taken.Taken.TheVariants as T
 use Rattle.pei_action.specs.Needs.{HoldRegisters}
 
--- an answer of success, and a refusal
+-- an answer of success, a refusal, and an answer with callbacks to visit and PPIs that were installed
 abbrev pub told : CallName → Extra → Taken
 told name extra = T.Called (record { name = name; status = Success; extra = extra; sweep = None; installs = [] })
 
 abbrev pub refusal : CallName → Word → Taken
 refusal name status = T.Called (record { name = name; status = status; extra = Nothing; sweep = None; installs = [] })
+
+abbrev pub swept : CallName → Sweep → List Desc → Taken
+swept name sweep installs = T.Called (record { name = name; status = Success; extra = Nothing; sweep = Some sweep; installs = installs })
 
 -- what is told of a fault
 abbrev pub refused : CallName → StoreFault → Result Taken OutOfMemory
@@ -41,7 +46,7 @@ Does does old before (T.Wrote status) new after = (does ≡ Wrote after status) 
 Does does old before (T.Called reply) new after =
     does ≡ Called reply.name (record { status = reply.status; extra = reply.extra; store = new; registers = after; sweep = reply.sweep; installs = offsets reply.installs })
 Does does old before T.Shadowed new after = (does ≡ Shadowed) × (new ≡ old) × (after ≡ before)
-Does does old before T.Logged new after = ((text : List ℕ) × (does ≡ Logged text)) × (new ≡ old) × (after ≡ before)
+Does does old before (T.Logged text) new after = (does ≡ Logged text.items) × (new ≡ old) × (after ≡ before)
 Does does old before (T.Skipped n) new after = (does ≡ Skipped n) × (new ≡ old) × (after ≡ before)
 Does does old before (T.Returned status) new after = (does ≡ Returned status) × (new ≡ old) × (after ≡ before)
 

@@ -1,5 +1,5 @@
 // Actions on memory: permanent memory, pages and the boot mode.
-ghost use Rattle.std.specs.Prelude.{◌≡◌, ◌<◌};
+ghost use Rattle.std.specs.Prelude.{◌≡◌, ◌<◌, ◌≤◌, ◌==◌, ◌&&◌, not, IsTrue};
 ghost use Rattle.act_code.specs.declared.action.Action.TheVariants as A;
 ghost use Rattle.boot_model.specs.PeiAction as P;
 ghost use Rattle.boot_model.specs.Registers.{both};
@@ -15,8 +15,6 @@ use pi_base::{OutOfMemory, Word};
 
 // The numbers in two registers, where both hold one.
 fn numbers_in(registers: &[Register; REGISTERS], first: u8, second: u8) -> Option<(u64, u64)>
-    requires first { first < 16 }
-    requires second { second < 16 }
     ensures { result ≡ both (R.number_in registers.now first) (R.number_in registers.now second) }
 {
     match (number_in(registers, first), number_in(registers, second)) {
@@ -32,8 +30,6 @@ pub fn plan_memory<M: PeiStore>(
     begin: u8,
     length: u8,
 ) -> Result<Taken, OutOfMemory>
-    requires begin { begin < 16 }
-    requires length { length < 16 }
     requires state { Present (M.stands_for store.old) (HoldRegisters frame.now.registers) }
     ensures row { Acts M.TAKES_MEMORY (M.stands_for store.old) (M.stands_for store.new) (A.Memory begin length) frame.now result frame.now }
 {
@@ -53,6 +49,14 @@ fn is_memory_type(memory_type: u8) -> bool
     memory_type <= 6 || memory_type == 9 || memory_type == 10
 }
 
+// Whether so many pages of this type may be asked for.
+fn may_take(memory_type: u8, count: u32) -> bool
+    ensures may { result ≡ (P.is_memory_type memory_type && not (count == 0)) }
+    ensures some { IsTrue result → 1 ≤ count }
+{
+    is_memory_type(memory_type) && count != 0
+}
+
 /// The action `pages`.
 pub fn take_pages<M: PeiStore>(
     store: &mut M,
@@ -66,7 +70,7 @@ pub fn take_pages<M: PeiStore>(
     ensures row { Acts M.TAKES_MEMORY (M.stands_for store.old) (M.stands_for store.new) (A.Pages r memory_type count) frame.old result frame.new }
     ensures frame { Keeps frame.old frame.new }
 {
-    if !is_memory_type(memory_type) || count == 0 {
+    if !may_take(memory_type, count) {
         return Ok(refusal(CallName::Pages, Word::InvalidParameter));
     }
     match store.pages(memory_type as u32, count) {
@@ -78,8 +82,8 @@ pub fn take_pages<M: PeiStore>(
     }
 }
 
-/// The action `boot_mode` that gets.
-pub fn get_boot_mode<M: PeiStore>(store: &M, frame: &mut Frame, r: u8) -> Taken
+// The action `boot_mode` that gets.
+fn get_boot_mode<M: PeiStore>(store: &M, frame: &mut Frame, r: u8) -> Taken
     requires r { r < 16 }
     requires state { Present (M.stands_for store.now) (HoldRegisters frame.old.registers) }
     ensures row { Reads (M.stands_for store.now) (A.BootMode 0 r) frame.old result frame.new }
@@ -90,9 +94,8 @@ pub fn get_boot_mode<M: PeiStore>(store: &M, frame: &mut Frame, r: u8) -> Taken
     told(CallName::BootMode, Extra::Number(mode))
 }
 
-/// The action `boot_mode` that sets.
-pub fn set_boot_mode<M: PeiStore>(store: &mut M, frame: &Frame, r: u8) -> Taken
-    requires r { r < 16 }
+// The action `boot_mode` that sets.
+fn set_boot_mode<M: PeiStore>(store: &mut M, frame: &Frame, r: u8) -> Taken
     requires state { Present (M.stands_for store.old) (HoldRegisters frame.now.registers) }
     ensures row { ActsAlways (M.stands_for store.old) (M.stands_for store.new) (A.BootMode 1 r) frame.now result frame.now }
 {
@@ -102,5 +105,19 @@ pub fn set_boot_mode<M: PeiStore>(store: &mut M, frame: &Frame, r: u8) -> Taken
             told(CallName::BootMode, Extra::Nothing)
         }
         _ => refusal(CallName::BootMode, Word::InvalidParameter),
+    }
+}
+
+/// The action `boot_mode`.
+pub fn boot_mode<M: PeiStore>(store: &mut M, frame: &mut Frame, form: u8, r: u8) -> Taken
+    requires r { r < 16 }
+    requires state { Present (M.stands_for store.old) (HoldRegisters frame.old.registers) }
+    ensures row { ActsAlways (M.stands_for store.old) (M.stands_for store.new) (A.BootMode form r) frame.old result frame.new }
+    ensures frame { Keeps frame.old frame.new }
+{
+    if form == 0 {
+        get_boot_mode(store, frame, r)
+    } else {
+        set_boot_mode(store, frame, r)
     }
 }

@@ -5,7 +5,7 @@ ghost use Rattle.act_code.specs.Format.{guid_arg_registers};
 ghost use Rattle.boot_model.specs.PeiAction as P;
 ghost use Rattle.boot_model.specs.StateFacts.{IsNumberOf};
 ghost use Rattle.boot_model.specs.Service.{Present};
-ghost use Rattle.pei_action.specs.Needs.{HoldRegisters, IsModuleNumber, IsGuidRegister, IsArgument};
+ghost use Rattle.pei_action.specs.Needs.{HoldRegisters, IsModuleNumber, IsArgument};
 ghost use Rattle.pei_action.specs.Taken.{Acts, Keeps};
 
 use crate::address::address;
@@ -28,7 +28,6 @@ fn kind_of(number: u8) -> DescKind
 
 // Where the GUID stands.
 fn guid_from(registers: &[Register; REGISTERS], guid: &GuidArg) -> Option<GuidFrom>
-    requires { IsGuidRegister guid.now }
     ensures { result ≡ P.guid_arg registers.now guid.now }
 {
     match guid {
@@ -57,7 +56,6 @@ fn number_of(frame: &Frame, kind: DescKind, arg: u8) -> Option<u64>
 
 // What a descriptor is made of.
 fn argument(frame: &Frame, kind: DescKind, guid: &GuidArg, arg: u8) -> Option<(GuidFrom, u64)>
-    requires guid { IsGuidRegister guid.now }
     requires arg { IsArgument kind arg }
     requires number { IsModuleNumber frame.now.module_number }
     ensures argument { result ≡ P.desc_argument frame.now kind guid.now arg }
@@ -79,7 +77,6 @@ pub fn make_descriptor<M: PeiStore>(
     arg: u8,
 ) -> Result<Taken, OutOfMemory>
     requires d { d < 16 }
-    requires guid { IsGuidRegister guid.now }
     requires arg { IsArgument (P.kind_number kind) arg }
     requires number { IsModuleNumber frame.old.module_number }
     requires state { Present (M.stands_for store.old) (HoldRegisters frame.old.registers) }

@@ -41,7 +41,6 @@ pub fn add_number(frame: &mut Frame, r: u8, n: u64) -> Taken
 /// The action `addr`.
 pub fn write_address<M: PeiStore>(store: &M, frame: &mut Frame, v: u8, x: u8, offset: u32) -> Taken
     requires v { v < 16 }
-    requires x { x < 16 }
     requires state { Present (M.stands_for store.now) (HoldRegisters frame.old.registers) }
     ensures row { Reads (M.stands_for store.now) (A.Addr v x offset) frame.old result frame.new }
     ensures frame { Keeps frame.old frame.new }

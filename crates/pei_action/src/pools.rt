@@ -44,7 +44,6 @@ pub fn write_pool<M: PeiStore>(
     offset: u32,
     bytes: &[u8],
 ) -> Taken
-    requires p { p < 16 }
     requires state { Present (M.stands_for store.old) (HoldRegisters frame.now.registers) }
     ensures row { ActsAlways (M.stands_for store.old) (M.stands_for store.new) (A.Store p offset bytes.now) frame.now result frame.now }
 {
@@ -77,7 +76,6 @@ fn bytes_at<M: PeiStore>(store: &M, at: u64, n: u8) -> Option<ArrayVec<u8, SHOWN
 
 /// The action `peek`.
 pub fn read_memory<M: PeiStore>(store: &M, frame: &Frame, v: u8, n: u8) -> Taken
-    requires v { v < 16 }
     requires few { n ≤ 64 }
     requires state { Present (M.stands_for store.now) (HoldRegisters frame.now.registers) }
     ensures row { Reads (M.stands_for store.now) (A.Peek v n) frame.now result frame.now }

@@ -1,9 +1,10 @@
 // What an action of a script did.
 ghost use Rattle.std.specs.Prelude.{◌≡◌};
-ghost use Rattle.pei_action.specs.Taken.{told, refusal, refused};
+ghost use Rattle.pei_action.specs.Taken.{told, refusal, swept, refused};
 
 use crate::descriptors::Descriptors;
-use boot_model::{CallName, Extra, StoreFault, Sweep};
+use arrayvec::ArrayVec;
+use boot_model::{CallName, Extra, SHOWN_LEN, StoreFault, Sweep};
 use pi_base::{OutOfMemory, Word};
 
 /// What a service answered to a script.
@@ -28,8 +29,8 @@ pub enum Taken {
     Called(Reply),
     /// The module registers for shadow.
     Shadowed,
-    /// A text is logged, the action's own.
-    Logged,
+    /// A text is logged.
+    Logged(ArrayVec<u8, SHOWN_LEN>),
     /// So many of the next actions are skipped.
     Skipped(u8),
     /// The frame ends.
@@ -59,6 +60,19 @@ pub fn refusal(name: CallName, status: Word) -> Taken
         extra: Extra::Nothing,
         sweep: None,
         installs: Descriptors::new(),
+    })
+}
+
+/// The answer of a service that has callbacks to visit, and PPIs that it installed.
+pub fn swept(name: CallName, sweep: Sweep, installs: Descriptors) -> Taken
+    ensures { result ≡ swept name sweep installs }
+{
+    Taken::Called(Reply {
+        name,
+        status: Word::Success,
+        extra: Extra::Nothing,
+        sweep: Some(sweep),
+        installs,
     })
 }
 
