@@ -75,10 +75,13 @@ found_on s None more found one others e = cc
 found_on s (Some d) None found one others e = cc
 found_on s (Some d) (Some rest) found one others e = let same : d ∷ rest ≡ found = cc in subst (λ xs. Each (IsDesc s) xs) same (one d refl, others rest refl)
 
-pub held_descriptors : (s : StoreState) (registers : List Register) (list : List ℕ) (found : List Desc) → HoldRegisters registers s → Some found ≡ descriptors_in registers list → Each (IsDesc s) found
+held_descriptors : (s : StoreState) (registers : List Register) (list : List ℕ) (found : List Desc) → HoldRegisters registers s → Some found ≡ descriptors_in registers list → Each (IsDesc s) found
 held_descriptors s registers [] found each e = let same : [] ≡ found = cc in subst (λ xs. Each (IsDesc s) xs) same tt
 held_descriptors s registers (r ∷ rs) found each e =
     found_on s (descriptor_in registers r) (descriptors_in registers rs) found (λ d. held_descriptor s registers r d each) (λ rest. held_descriptors s registers rs rest each) e
+
+pub held_list : (s : StoreState) (registers : List Register) (list : List ℕ) (found shown : List Desc) → HoldRegisters registers s → Some found ≡ descriptors_in registers list → shown ≡ found → Each (IsDesc s) shown
+held_list s registers list found shown each e same = subst (λ xs. Each (IsDesc s) xs) (sym same) (held_descriptors s registers list found each e)
 
 -- both of two
 two_on : (s : StoreState) (held more : Option Desc) (one other : Desc) → ((d : Desc) → Some d ≡ held → IsDesc s d) → ((d : Desc) → Some d ≡ more → IsDesc s d) → Some (one, other) ≡ both held more → IsDesc s one × IsDesc s other

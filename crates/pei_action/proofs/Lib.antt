@@ -1,4 +1,6 @@
+mod Acting
 mod Collected
+mod Grammar
 mod Held
 mod Pages
 mod Refused

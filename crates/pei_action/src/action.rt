@@ -40,7 +40,6 @@ fn skipped(last: Word, condition: u8, n: u8) -> u8
 }
 
 /// Takes an action of a script, over any store: its registers change in the frame, and nothing else does.
-#[tactic(none)]
 pub fn take_action<M: PeiStore>(
     store: &mut M,
     frame: &mut Frame,
