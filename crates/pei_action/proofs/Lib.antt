@@ -2,6 +2,7 @@ mod Acting
 mod Collected
 mod Grammar
 mod Held
+mod Others
 mod Pages
 mod Refused
 mod ScriptHobs

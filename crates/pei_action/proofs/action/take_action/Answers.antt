@@ -6,6 +6,7 @@ use Rattle.boot_model.specs.PeiAction.{Logged, Skipped}
 use Rattle.pei_action.specs.declared.taken.Taken.TheVariants as T
 use Rattle.pei_action.specs.Needs.{IsScriptAction}
 use Rattle.pei_action.proofs.Grammar.{first, second, block, few_in, at_most}
+use Rattle.pei_action.proofs.Others.{IsOther, other_skips}
 use Rattle.pei_action.proofs.Acting.{acts_of, always_of, reads_of, does_of}
 use Rattle.pei_action.proofs.action.take_action.Goals as goal
 
@@ -112,4 +113,26 @@ pub returns-in-Shadow-clause-row : goal.returns-in-Shadow-clause-row
 returns-in-Shadow-clause-row g c = does_of g.M.PeiStore.TAKES_MEMORY (g.M.PeiStore.stands_for c.args.store.now) c.args.action.now A.Shadow c.args.frame.now c.args.frame.now T.Shadowed c.in-Shadow.is (λ s. (refl, refl, refl))
 
 pub returns-in_default-clause-row : goal.returns-in_default-clause-row
-returns-in_default-clause-row g c = let a : ⊥ = c.in_default.not-Set in let b : ⊥ = c.in_default.not-Shadow in ?
+returns-in_default-clause-row g c = λ old h.
+    let other : IsOther c.args.action.now = record {
+      set = c.in_default.not-Set;
+      add = c.in_default.not-Add;
+      pool = c.in_default.not-Pool;
+      store = c.in_default.not-Store;
+      addr = c.in_default.not-Addr;
+      peek = c.in_default.not-Peek;
+      desc = c.in_default.not-Desc;
+      install = c.in_default.not-Install;
+      reinstall = c.in_default.not-Reinstall;
+      notify = c.in_default.not-Notify;
+      locate = c.in_default.not-Locate;
+      hob = c.in_default.not-Hob;
+      memory = c.in_default.not-Memory;
+      pages = c.in_default.not-Pages;
+      boot_mode = c.in_default.not-BootMode;
+      log = c.in_default.not-Log;
+      skip_if = c.in_default.not-SkipIf;
+      ret = c.in_default.not-Ret;
+      shadow = c.in_default.not-Shadow;
+    } in
+    (old, (other_skips old c.args.frame.now c.args.action.now other, refl, refl), h.0)
