@@ -1,5 +1,5 @@
 -- An action over each state, from what the call for its kind says.
-use Rattle.std.proofs.Common.{◌≡◌, Bool, sym, subst, refl, Result, Ok}
+use Rattle.std.proofs.Common.{◌≡◌, Bool, sym, subst, Result, Ok}
 use Rattle.pi_base.specs.declared.memory.OutOfMemory.{OutOfMemory}
 use Rattle.act_code.specs.declared.action.Action.{Action}
 use Rattle.boot_model.specs.declared.frame.Frame.{Frame}

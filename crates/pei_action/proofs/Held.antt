@@ -1,14 +1,12 @@
 -- What registers hold is there: it stands before the end HOB, and the descriptors of a list are descriptors.
-use Rattle.std.specs.Prelude.{length}
 use Rattle.std.specs.Option.{option_map}
-use Rattle.std.proofs.Common.{◌≡◌, ℕ, zero, suc, ◌+◌, ◌≤◌, ◌<◌, Bool, true, false, cond, List, [], ◌∷◌, arith, sym, refl, ap, subst, ◌∙◌, Option, Some, None, ◌==◌, sum_by}
+use Rattle.std.proofs.Common.{◌≡◌, ℕ, zero, suc, ◌+◌, ◌≤◌, ◌<◌, Bool, true, false, cond, List, [], ◌∷◌, arith, sym, refl, ap, subst, Option, Some, None, ◌==◌, sum_by}
 use Rattle.std.proofs.lemmas.List.Sums.{sum_by-cons}
 use Rattle.std.proofs.lemmas.Bool.Decides.{nat_tests}
 use Rattle.boot_model.specs.declared.frame.Register.{Register}
 use Rattle.boot_model.specs.declared.frame.Register.TheVariants.{Empty, Number, PoolIn, DescriptorIn, HandleIn}
 use Rattle.boot_model.specs.declared.store_handle.Desc.{Desc}
 use Rattle.boot_model.specs.declared.store_handle.Pool.{Pool}
-use Rattle.boot_model.specs.declared.state.DescriptorBody.{DescriptorBody}
 use Rattle.boot_model.specs.declared.state.Body.{Body}
 use Rattle.boot_model.specs.declared.state.Body.TheVariants.{Bytes, Descriptor}
 use Rattle.boot_model.specs.declared.state.HobEntry.{HobEntry}

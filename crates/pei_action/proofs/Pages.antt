@@ -1,5 +1,5 @@
 -- A call for pages of a type that is known, and of some pages, is answered by the service.
-use Rattle.std.proofs.Common.{◌≡◌, ℕ, ◌==◌, ◌&&◌, Bool, true, ap}
+use Rattle.std.proofs.Common.{◌≡◌, ℕ, ◌==◌, ◌&&◌, true, ap}
 use Rattle.std.specs.Prelude.{not, if◌then◌else◌, slice_set}
 use Rattle.pi_base.specs.declared.word.Word.TheVariants.{InvalidParameter}
 use Rattle.boot_model.specs.declared.frame.Frame.{Frame}

@@ -1,5 +1,5 @@
 -- What a script is told of a service's answer is the reply of the service.
-use Rattle.std.proofs.Common.{◌≡◌, Bool, true, List, refl, ap, sym, subst, ◌∙◌, Option, Some, None, Result, Ok, Err}
+use Rattle.std.proofs.Common.{◌≡◌, Bool, List, refl, ap, sym, subst, ◌∙◌, Option, Some, Result, Err}
 use Rattle.pi_base.specs.declared.memory.OutOfMemory.{OutOfMemory}
 use Rattle.boot_model.specs.declared.frame.Frame.{Frame}
 use Rattle.boot_model.specs.declared.frame.Register.{Register}

@@ -1,11 +1,9 @@
 -- A HOB of a script's action is one that scripts make.
-use Rattle.std.proofs.Common.{◌≡◌, ℕ, ◌≤◌, ◌==◌, ◌-◌, Bool, true, false, cond, List, length, drop, arith, refl, sym, ap, subst, ◌∙◌, Option, Some, None}
-use Rattle.std.specs.Prelude.{nat_le}
+use Rattle.std.proofs.Common.{◌≡◌, ℕ, ◌≤◌, ◌==◌, ◌-◌, Bool, true, false, cond, List, length, drop, arith, refl, ap, subst, ◌∙◌, Some, None}
 use Rattle.std.proofs.lemmas.Bool.Decides.{nat_tests}
 use Rattle.std.proofs.lemmas.List.{length-drop}
 use Rattle.hob_codec.specs.HobValue.{HobValue, NamedHob}
-use Rattle.hob_codec.specs.HobReading.{hob_of, guid_at, resource_of, volume2_of}
-use Rattle.hob_codec.specs.HobBytes.{length_of}
+use Rattle.hob_codec.specs.HobReading.{hob_of, guid_at}
 use Rattle.act_code.specs.Format.{is_hob, is_within}
 use Rattle.boot_model.specs.StoreCall.{IsScriptHob}
 

@@ -1,5 +1,5 @@
 -- What is told of a write into a pool is the reply of the service.
-use Rattle.std.proofs.Common.{◌≡◌, ℕ, List, refl, ap, sym, subst, ◌∙◌, Option, Some, None}
+use Rattle.std.proofs.Common.{◌≡◌, ℕ, List, ap, sym, subst, ◌∙◌, Option, Some, None}
 use Rattle.std.specs.Option.{option_and_then}
 use Rattle.pi_base.specs.declared.word.Word.TheVariants.{InvalidParameter}
 use Rattle.boot_model.specs.declared.frame.Frame.{Frame}

@@ -1,6 +1,6 @@
 -- What an action of a script needs: its registers hold pools and descriptors that are there, it is an action of PEI whose registers and blocks are there, and its module's entries fit a descriptor.
 -- Own.
-use Rattle.std.specs.Prelude.{◌≡◌, ℕ, ◌<◌, ◌≤◌, true, List, ⊤}
+use Rattle.std.specs.Prelude.{◌≡◌, ℕ, ◌<◌, true, List, ⊤}
 use Rattle.pi_base.specs.declared.phase.Phase.TheVariants.{Pei}
 use Rattle.act_code.specs.declared.action.Action.{Action}
 use Rattle.act_code.specs.Index.{is_indexed}

@@ -1,6 +1,6 @@
 -- What a call that takes an action answers: what the action does by the definition, with the registers and the state after it. Want of memory leaves both as they were.
 -- Own.
-use Rattle.std.specs.Prelude.{◌≡◌, ℕ, Bool, true, List, [], None, Some, Result, Ok, Err}
+use Rattle.std.specs.Prelude.{◌≡◌, Bool, true, List, [], None, Some, Result, Ok, Err}
 use Rattle.pi_base.specs.declared.word.Word.{Word}
 use Rattle.pi_base.specs.declared.word.Word.TheVariants.{Success, InvalidParameter, NotFound, OutOfResources, NotAvailableYet}
 use Rattle.pi_base.specs.declared.memory.OutOfMemory.{OutOfMemory}
@@ -38,7 +38,7 @@ refused name F.Full = Ok (refusal name OutOfResources)
 refused name F.Bad = Ok (refusal name InvalidParameter)
 refused name F.Missing = Ok (refusal name NotFound)
 refused name F.NotYet = Ok (refusal name NotAvailableYet)
-refused name F.Memory = Err (record { })
+refused name F.Memory = Err (record {})
 
 -- what was taken is what the action does, with the state and the registers before and after it
 abbrev pub Does : Effect → StoreState → List Register → Taken → StoreState → List Register → Type 0

@@ -20,6 +20,7 @@ impl Model for Descriptors {
     ghost use Rattle.boot_model.specs.declared.store_handle.Desc.{Desc};
 
     ghost Value = { List Desc };
+
     ghost view = { λ d. take d.count d.items };
 }
 

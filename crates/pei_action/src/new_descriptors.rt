@@ -12,7 +12,9 @@ use crate::address::address;
 use crate::registers::{number_in, set};
 use crate::taken::{Taken, refusal, refused, told};
 use act_code::GuidArg;
-use boot_model::{BLOCKS, CallName, DescKind, Extra, Frame, GuidFrom, PeiStore, REGISTERS, Register};
+use boot_model::{
+    BLOCKS, CallName, DescKind, Extra, Frame, GuidFrom, PeiStore, REGISTERS, Register,
+};
 use pi_base::{OutOfMemory, Word};
 
 // The kind that a number is.
@@ -61,7 +63,10 @@ fn argument(frame: &Frame, kind: DescKind, guid: &GuidArg, arg: u8) -> Option<(G
     ensures argument { result ≡ P.desc_argument frame.now kind guid.now arg }
     ensures fits { IfSome result (λ argument. IsNumberOf kind argument.1) }
 {
-    match (guid_from(&frame.registers, guid), number_of(frame, kind, arg)) {
+    match (
+        guid_from(&frame.registers, guid),
+        number_of(frame, kind, arg),
+    ) {
         (Some(guid), Some(number)) => Some((guid, number)),
         _ => None,
     }

@@ -1,5 +1,4 @@
 use Rattle.std.proofs.Common.{◌≡◌, ◌≤◌, true, length, refl, subst, ap, sym, ◌∙◌}
-use Rattle.act_code.specs.declared.action.Action.{Action}
 use Rattle.act_code.specs.declared.action.Action.TheVariants as A
 use Rattle.act_code.specs.Format.{is_hob}
 use Rattle.boot_model.specs.PeiAction.{Logged, Skipped}

@@ -14,7 +14,8 @@ address-requires g c = record {
 pub returns-in-Some-clause-row : goal.returns-in-Some-clause-row
 returns-in-Some-clause-row g c = λ s h held.
     let at = c.address.ensures.row s h (held_place s c.args.frame.now.registers c.args.x c.in-Some.place held c.in-Some.ensures) in (
-    ap (λ o. number_written c.args.frame.now.registers c.args.v (option_map (λ place. s.base + place + c.args.offset) o)) (sym c.in-Some.ensures)
-    ∙ ap (λ n. Wrote (slice_set c.args.frame.now.registers c.args.v (Number (n + c.args.offset))) Success) (sym at)
-    ∙ ap (λ f. Wrote f.registers Success) (sym c.set.ensures),
-    refl)
+      ap (λ o. number_written c.args.frame.now.registers c.args.v (option_map (λ place. s.base + place + c.args.offset) o)) (sym c.in-Some.ensures)
+          ∙ ap (λ n. Wrote (slice_set c.args.frame.now.registers c.args.v (Number (n + c.args.offset))) Success) (sym at)
+          ∙ ap (λ f. Wrote f.registers Success) (sym c.set.ensures),
+      refl,
+    )
