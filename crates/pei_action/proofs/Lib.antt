@@ -1,4 +1,5 @@
 mod Acting
+mod Bodies
 mod Collected
 mod Grammar
 mod Held
@@ -6,4 +7,5 @@ mod Others
 mod Pages
 mod Refused
 mod ScriptHobs
+mod Staying
 mod Written

@@ -5,6 +5,7 @@ mod action;
 mod address;
 mod descriptors;
 mod hobs;
+mod laws;
 mod memory;
 mod new_descriptors;
 mod notifications;
@@ -16,4 +17,5 @@ mod taken;
 
 pub use action::take_action;
 pub use descriptors::{Descriptors, MOST_DESCRIPTORS};
+pub use laws::registers_stay;
 pub use taken::{Reply, Taken};
