@@ -69,10 +69,6 @@ fn reinstall(store: &mut PlainStore, old: Desc, new: Desc) -> Result<Sweep, Stor
     store.reinstall_ppi(old, new, 0)
 }
 
-fn has_bases(store: &PlainStore) -> bool {
-    store.volume_bases().is_ok()
-}
-
 // Calls that keep what holds of every state.
 fn desc(store: &mut PlainStore, kind: DescKind, number: u32) -> Result<Desc, StoreFault>
     requires facts { IsStoreState (state_of store.old) }
@@ -137,6 +133,29 @@ fn migrate(store: &mut PlainStore) -> Option<(u64, u64)>
         Some(store.move_to_memory())
     } else {
         None
+    }
+}
+
+fn volume_hob(store: &mut PlainStore, base: u64) -> Result<u64, StoreFault>
+    requires { IsStoreState (state_of store.old) }
+    ensures { IsStoreState (state_of store.new) }
+{
+    store.make_hob(&Hob::Volume {
+        base,
+        length: 0x1000,
+    })
+}
+
+// The base of the one volume that HOBs tell of.
+fn only_base(store: &PlainStore) -> Option<u64>
+    requires { IsStoreState (state_of store.now) }
+{
+    match store.volume_bases() {
+        Ok(bases) => match bases.as_slice() {
+            [base] => Some(*base),
+            _ => None,
+        },
+        Err(_) => None,
     }
 }
 
@@ -210,7 +229,6 @@ fn pages_come_from_the_end_of_memory(rt: HostRuntime) -> Result<(), Fail> {
     assert!(rt; core_install(&mut store).is_ok());
     assert_eq!(rt; pages(&mut store, 1), Ok(0x400f_f000));
     assert_eq!(rt; cpu_hob(&mut store), Ok(0x4000_00c0));
-    assert!(rt; has_bases(&store));
     Ok(())
 }
 
@@ -251,5 +269,14 @@ fn a_ppi_is_put_in_the_place_of_one_that_is_there(rt: HostRuntime) -> Result<(),
     assert_eq!(rt; reinstall(&mut store, ppi, note), Err(StoreFault::Bad));
     assert!(rt; reinstall(&mut store, ppi, other).is_ok());
     assert_eq!(rt; reinstall(&mut store, ppi, other), Err(StoreFault::Missing));
+    Ok(())
+}
+
+#[test]
+fn a_volume_hob_tells_of_its_base(rt: HostRuntime) -> Result<(), Fail> {
+    let mut store = usual(rt.alloc());
+    assert_eq!(rt; only_base(&store), None);
+    assert_eq!(rt; volume_hob(&mut store, 0xff80_0000), Ok(0x8000_0038));
+    assert_eq!(rt; only_base(&store), Some(0xff80_0000));
     Ok(())
 }
