@@ -11,7 +11,6 @@ mod length;
 mod list;
 mod read;
 
-pub use body::hob_of;
 pub use encode::encode_into;
 pub use fault::HobFault;
 pub use hob::{Handoff, Hob};

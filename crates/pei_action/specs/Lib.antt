@@ -1,3 +1,0 @@
-pub mod Needs
-pub mod Stay
-pub mod Taken
