@@ -1,1 +1,2 @@
 mod Rotation
+mod VolumeParts

@@ -3,8 +3,10 @@
 
 mod eligible;
 mod next;
+mod order;
 mod stage;
 
 pub use eligible::is_eligible;
 pub use next::{cursor_behind, next_peim};
-pub use stage::Stage;
+pub use order::PeiOrder;
+pub use stage::{Stage, stage_of};
