@@ -1,5 +1,5 @@
 -- What is found first in a list that is read from the cursor on.
-use Rattle.std.proofs.Common.{◌≡◌, ℕ, Bool, true, false, cond, Option, Some, None, List, [], ◌∷◌, ◌++◌, take, drop, sym, ap, ◌∙◌, refl}
+use Rattle.std.proofs.Common.{◌≡◌, ℕ, Bool, true, false, cond, Option, Some, None, List, [], ◌∷◌, ◌++◌, take, drop, sym, refl}
 use Rattle.std.specs.Prelude.{find}
 use Rattle.boot_model.specs.PeiChoice.{rotated}
 

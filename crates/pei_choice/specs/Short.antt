@@ -1,6 +1,6 @@
 -- The expressions of PEI parts are no longer than those that can be read, so that each can be evaluated.
 -- Own.
-use Rattle.std.specs.Prelude.{ℕ, ◌≤◌, length, IfSome, ⊤}
+use Rattle.std.specs.Prelude.{◌≤◌, length, IfSome, ⊤}
 use Rattle.depex_code.specs.declared.depex.Depex.{Depex}
 use Rattle.depex_code.specs.declared.depex.Depex.TheVariants as D
 use Rattle.depex_code.specs.Tree.{postfix}

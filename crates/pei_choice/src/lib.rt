@@ -10,3 +10,6 @@ pub use eligible::is_eligible;
 pub use next::{cursor_behind, next_peim};
 pub use order::PeiOrder;
 pub use stage::{Stage, stage_of};
+
+#[cfg(test)]
+mod tests;
