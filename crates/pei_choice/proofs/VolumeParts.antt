@@ -45,7 +45,7 @@ wanted_is catalog wanted volume k (m ∷ ms) h =
     let at_k : k + 0 ≡ k = omega arith in
     let here : Some m ≡ slice_get catalog.modules k = h 0 ∙ ap (λ n. slice_get catalog.modules n) at_k in
     let rank : is_ranked_as wanted (rank_at Pei catalog k) ≡ is_ranked_as wanted (option_and_then (λ p. p.rank) m.pei) =
-        ap (λ found. is_ranked_as wanted (option_and_then (λ p. p.rank) (option_and_then (λ x. x.pei) found))) (sym here) in
+    ap (λ found. is_ranked_as wanted (option_and_then (λ p. p.rank) (option_and_then (λ x. x.pei) found))) (sym here) in
     let rest = wanted_is catalog wanted volume (k + 1) ms (λ i. let e : k + suc i ≡ (k + 1) + i = omega arith in h (suc i) ∙ ap (λ n. slice_get catalog.modules n) e) in
     wanted_one (λ n. is_ranked_as wanted (rank_at Pei catalog n)) wanted k (m.volume == volume) m.pei (wanted_from wanted volume (k + 1) ms) (parts_from Pei volume (k + 1) ms) rank rest
 
@@ -62,7 +62,7 @@ volume_parts catalog volume count parts mid whole n ranked others =
     let by_rank : ℕ → List ℕ = λ rank. filter (λ number. is_ranked_as (Some rank) (rank_at Pei catalog number)) all in
     let listed : ℕ → List ℕ = λ rank. wanted_from (Some rank) volume 0 catalog.modules in
     let same : flat_map listed (numbers 0 count) ≡ flat_map by_rank (numbers 0 (length all)) =
-        flat_map_same listed by_rank (numbers 0 count) (λ rank. all_wanted catalog (Some rank) volume) ∙ ap (λ k. flat_map by_rank (numbers 0 k)) n in
+    flat_map_same listed by_rank (numbers 0 count) (λ rank. all_wanted catalog (Some rank) volume) ∙ ap (λ k. flat_map by_rank (numbers 0 k)) n in
     let unranked = wanted_from None volume 0 catalog.modules in
     others ∙ ap (λ xs. xs ++ unranked) (ranked ∙ ap (λ xs. parts ++ xs) same) ∙ append_assoc parts (flat_map by_rank (numbers 0 (length all))) unranked
     ∙ ap (λ xs. parts ++ (flat_map by_rank (numbers 0 (length all)) ++ xs)) (all_wanted catalog None volume)

@@ -28,7 +28,14 @@ fn first_eligible<G: GuidSet, L: Ledger>(
     ensures few_steps { steps.new ≤ steps.old + length numbers.now }
 {
     'parts: for number in numbers {
-        if is_eligible(catalog, *number, stage_of(stages, *number), moved, set, steps) {
+        if is_eligible(
+            catalog,
+            *number,
+            stage_of(stages, *number),
+            moved,
+            set,
+            steps,
+        ) {
             return Some(*number);
         }
     }

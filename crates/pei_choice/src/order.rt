@@ -31,11 +31,7 @@ fn is_wanted(module: &Module, volume: u32, wanted: Option<u32>) -> bool
 fn push_where(parts: &mut Seq<u32>, is_here: bool, number: u32) -> Result<(), OutOfMemory>
     ensures { OnOk result (parts.new ≡ (if is_here then parts.old ++ number ∷ [] else parts.old)) }
 {
-    if is_here {
-        parts.push(number)
-    } else {
-        Ok(())
-    }
+    if is_here { parts.push(number) } else { Ok(()) }
 }
 
 // Puts the parts of a volume that have this rank, or none, at the end.

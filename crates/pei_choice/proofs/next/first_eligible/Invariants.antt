@@ -10,4 +10,5 @@ invariant-parts g l = record {
   counted : l.fn.steps ≤ l.steps;
   few_steps : l.steps ≤ l.fn.steps + l.number-index;
   first : (m : PeiMachine) → AreStages m l.stages → m.store.moved ≡ l.moved → HasPpis (g.G.GuidSet.has_guid l.set) m.store
-    → find (E.is_eligible l.fn.catalog m) (drop l.number-index l.numbers) ≡ find (E.is_eligible l.fn.catalog m) l.numbers; }
+      → find (E.is_eligible l.fn.catalog m) (drop l.number-index l.numbers) ≡ find (E.is_eligible l.fn.catalog m) l.numbers;
+}

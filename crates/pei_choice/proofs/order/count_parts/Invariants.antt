@@ -7,4 +7,5 @@ use Rattle.pei_choice.proofs.order.count_parts.Given as goal
 abbrev pub invariant-modules : goal.invariant-modules
 invariant-modules l = record {
   few : l.count ≤ l.module-index;
-  parts : l.count + length (parts_from Pei l.volume l.module-index (drop l.module-index l.catalog.modules)) ≡ length (parts_from Pei l.volume 0 l.catalog.modules); }
+  parts : l.count + length (parts_from Pei l.volume l.module-index (drop l.module-index l.catalog.modules)) ≡ length (parts_from Pei l.volume 0 l.catalog.modules);
+}

@@ -8,4 +8,5 @@ use Rattle.pei_choice.proofs.order.push_ranked.Given as goal
 abbrev pub invariant-ranks : goal.invariant-ranks
 invariant-ranks l = record {
   parts : l.parts ++ flat_map (λ rank. wanted_from (Some rank) l.volume 0 l.catalog.modules) (numbers l.rank (l.count - l.rank))
-    ≡ l.fn.parts ++ flat_map (λ rank. wanted_from (Some rank) l.volume 0 l.catalog.modules) (numbers 0 l.count); }
+      ≡ l.fn.parts ++ flat_map (λ rank. wanted_from (Some rank) l.volume 0 l.catalog.modules) (numbers 0 l.count);
+}

@@ -6,4 +6,5 @@ use Rattle.pei_choice.proofs.order.push_wanted.Given as goal
 abbrev pub invariant-modules : goal.invariant-modules
 invariant-modules l = record {
   number : l.number ≡ l.module-index;
-  parts : l.parts ++ wanted_from l.wanted l.volume l.number (drop l.module-index l.catalog.modules) ≡ l.fn.parts ++ wanted_from l.wanted l.volume 0 l.catalog.modules; }
+  parts : l.parts ++ wanted_from l.wanted l.volume l.number (drop l.module-index l.catalog.modules) ≡ l.fn.parts ++ wanted_from l.wanted l.volume 0 l.catalog.modules;
+}
