@@ -1,0 +1,2 @@
+mod Rotation
+mod VolumeParts
