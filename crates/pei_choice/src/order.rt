@@ -18,11 +18,11 @@ pub struct PeiOrder {
 }
 
 // Whether a module has a PEI part in a volume, with this rank or with none.
-fn is_wanted(module: &Module, volume: u32, wanted: Option<u32>) -> bool
-    ensures { result ≡ is_wanted wanted volume module.now }
+fn is_wanted(member: &Module, volume: u32, wanted: Option<u32>) -> bool
+    ensures { result ≡ is_wanted wanted volume member.now }
 {
-    match &module.pei {
-        Some(part) => module.volume == volume && part.rank == wanted,
+    match &member.pei {
+        Some(part) => member.volume == volume && part.rank == wanted,
         None => false,
     }
 }
