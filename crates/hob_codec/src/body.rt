@@ -67,8 +67,8 @@ fn volume2_of(body: &[u8]) -> Hob<'_>
     }
 }
 
-// The HOB that a type and a body are, if that type may have that body.
-pub(crate) fn hob_of(kind: u16, body: &[u8]) -> Option<Hob<'_>>
+/// The HOB that a type and a body are, if that type may have that body.
+pub fn hob_of(kind: u16, body: &[u8]) -> Option<Hob<'_>>
     ensures { option_map hob_value result ≡ hob_of kind body.now }
 {
     match (kind, body.len()) {

@@ -11,6 +11,7 @@ mod length;
 mod list;
 mod read;
 
+pub use body::hob_of;
 pub use encode::encode_into;
 pub use fault::HobFault;
 pub use hob::{Handoff, Hob};

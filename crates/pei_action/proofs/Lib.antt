@@ -1,0 +1,11 @@
+mod Acting
+mod Bodies
+mod Collected
+mod Grammar
+mod Held
+mod Others
+mod Pages
+mod Refused
+mod ScriptHobs
+mod Staying
+mod Written

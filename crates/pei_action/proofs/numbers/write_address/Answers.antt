@@ -1,0 +1,21 @@
+use Rattle.std.proofs.Common.{◌+◌, slice_set, refl, ap, sym, ◌∙◌}
+use Rattle.std.specs.Option.{option_map}
+use Rattle.pi_base.specs.declared.word.Word.TheVariants.{Success}
+use Rattle.boot_model.specs.declared.frame.Register.TheVariants.{Number}
+use Rattle.boot_model.specs.PeiAction.{Wrote, number_written}
+use Rattle.pei_action.proofs.Held.{held_place}
+use Rattle.pei_action.proofs.numbers.write_address.Goals as goal
+
+pub address-requires : goal.address-requires
+address-requires g c = record {
+  state = let h = c.requires.state in (h.0, h.1, held_place h.0 c.args.frame.now.registers c.args.x c.in-Some.place h.2 c.in-Some.ensures);
+}
+
+pub returns-in-Some-clause-row : goal.returns-in-Some-clause-row
+returns-in-Some-clause-row g c = λ s h held.
+    let at = c.address.ensures.row s h (held_place s c.args.frame.now.registers c.args.x c.in-Some.place held c.in-Some.ensures) in (
+      ap (λ o. number_written c.args.frame.now.registers c.args.v (option_map (λ place. s.base + place + c.args.offset) o)) (sym c.in-Some.ensures)
+          ∙ ap (λ n. Wrote (slice_set c.args.frame.now.registers c.args.v (Number (n + c.args.offset))) Success) (sym at)
+          ∙ ap (λ f. Wrote f.registers Success) (sym c.set.ensures),
+      refl,
+    )

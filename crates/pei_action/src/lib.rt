@@ -1,0 +1,21 @@
+//! What an action of a PEI script does, over any store.
+#![tactic(auto)]
+
+mod action;
+mod address;
+mod descriptors;
+mod hobs;
+mod laws;
+mod memory;
+mod new_descriptors;
+mod notifications;
+mod numbers;
+mod pools;
+mod ppis;
+mod registers;
+mod taken;
+
+pub use action::take_action;
+pub use descriptors::{Descriptors, MOST_DESCRIPTORS};
+pub use laws::registers_stay;
+pub use taken::{Reply, Taken};

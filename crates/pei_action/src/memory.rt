@@ -1,0 +1,123 @@
+// Actions on memory: permanent memory, pages and the boot mode.
+ghost use Rattle.std.specs.Prelude.{◌≡◌, ◌<◌, ◌≤◌, ◌==◌, ◌&&◌, not, IsTrue};
+ghost use Rattle.act_code.specs.declared.action.Action.TheVariants as A;
+ghost use Rattle.boot_model.specs.PeiAction as P;
+ghost use Rattle.boot_model.specs.Registers.{both};
+ghost use Rattle.boot_model.specs.Registers as R;
+ghost use Rattle.boot_model.specs.Service.{Present};
+ghost use Rattle.pei_action.specs.Needs.{HoldRegisters};
+ghost use Rattle.pei_action.specs.Taken.{Acts, ActsAlways, Keeps, Reads};
+
+use crate::registers::{number_in, set};
+use crate::taken::{Taken, refusal, refused, told};
+use boot_model::{CallName, Extra, Frame, PeiStore, REGISTERS, Register};
+use pi_base::{OutOfMemory, Word};
+
+// The numbers in two registers, where both hold one.
+fn numbers_in(registers: &[Register; REGISTERS], first: u8, second: u8) -> Option<(u64, u64)>
+    ensures { result ≡ both (R.number_in registers.now first) (R.number_in registers.now second) }
+{
+    match (number_in(registers, first), number_in(registers, second)) {
+        (Some(one), Some(other)) => Some((one, other)),
+        _ => None,
+    }
+}
+
+/// The action `memory`.
+pub fn plan_memory<M: PeiStore>(
+    store: &mut M,
+    frame: &Frame,
+    begin: u8,
+    length: u8,
+) -> Result<Taken, OutOfMemory>
+    requires state { Present (M.stands_for store.old) (HoldRegisters frame.now.registers) }
+    ensures row { Acts M.TAKES_MEMORY (M.stands_for store.old) (M.stands_for store.new) (A.Memory begin length) frame.now result frame.now }
+{
+    match numbers_in(&frame.registers, begin, length) {
+        None => Ok(refusal(CallName::Memory, Word::InvalidParameter)),
+        Some((begin, length)) => match store.set_memory(begin, length) {
+            Ok(()) => Ok(told(CallName::Memory, Extra::Nothing)),
+            Err(fault) => refused(CallName::Memory, fault),
+        },
+    }
+}
+
+// Whether pages may be of this type of memory.
+fn is_memory_type(memory_type: u8) -> bool
+    ensures { result ≡ P.is_memory_type memory_type }
+{
+    memory_type <= 6 || memory_type == 9 || memory_type == 10
+}
+
+// Whether so many pages of this type may be asked for.
+fn may_take(memory_type: u8, count: u32) -> bool
+    ensures may { result ≡ (P.is_memory_type memory_type && not (count == 0)) }
+    ensures some { IsTrue result → 1 ≤ count }
+{
+    is_memory_type(memory_type) && count != 0
+}
+
+/// The action `pages`.
+pub fn take_pages<M: PeiStore>(
+    store: &mut M,
+    frame: &mut Frame,
+    r: u8,
+    memory_type: u8,
+    count: u32,
+) -> Result<Taken, OutOfMemory>
+    requires r { r < 16 }
+    requires state { Present (M.stands_for store.old) (HoldRegisters frame.old.registers) }
+    ensures row { Acts M.TAKES_MEMORY (M.stands_for store.old) (M.stands_for store.new) (A.Pages r memory_type count) frame.old result frame.new }
+    ensures frame { Keeps frame.old frame.new }
+{
+    if !may_take(memory_type, count) {
+        return Ok(refusal(CallName::Pages, Word::InvalidParameter));
+    }
+    match store.pages(memory_type as u32, count) {
+        Ok(address) => {
+            set(frame, r, Register::Number(address));
+            Ok(told(CallName::Pages, Extra::Number(address)))
+        }
+        Err(fault) => refused(CallName::Pages, fault),
+    }
+}
+
+// The action `boot_mode` that gets.
+fn get_boot_mode<M: PeiStore>(store: &M, frame: &mut Frame, r: u8) -> Taken
+    requires r { r < 16 }
+    requires state { Present (M.stands_for store.now) (HoldRegisters frame.old.registers) }
+    ensures row { Reads (M.stands_for store.now) (A.BootMode 0 r) frame.old result frame.new }
+    ensures frame { Keeps frame.old frame.new }
+{
+    let mode = store.boot_mode() as u64;
+    set(frame, r, Register::Number(mode));
+    told(CallName::BootMode, Extra::Number(mode))
+}
+
+// The action `boot_mode` that sets.
+fn set_boot_mode<M: PeiStore>(store: &mut M, frame: &Frame, r: u8) -> Taken
+    requires state { Present (M.stands_for store.old) (HoldRegisters frame.now.registers) }
+    ensures row { ActsAlways (M.stands_for store.old) (M.stands_for store.new) (A.BootMode 1 r) frame.now result frame.now }
+{
+    match number_in(&frame.registers, r) {
+        Some(mode) if mode <= u32::MAX as u64 => {
+            store.set_boot_mode(mode as u32);
+            told(CallName::BootMode, Extra::Nothing)
+        }
+        _ => refusal(CallName::BootMode, Word::InvalidParameter),
+    }
+}
+
+/// The action `boot_mode`.
+pub fn boot_mode<M: PeiStore>(store: &mut M, frame: &mut Frame, form: u8, r: u8) -> Taken
+    requires r { r < 16 }
+    requires state { Present (M.stands_for store.old) (HoldRegisters frame.old.registers) }
+    ensures row { ActsAlways (M.stands_for store.old) (M.stands_for store.new) (A.BootMode form r) frame.old result frame.new }
+    ensures frame { Keeps frame.old frame.new }
+{
+    if form == 0 {
+        get_boot_mode(store, frame, r)
+    } else {
+        set_boot_mode(store, frame, r)
+    }
+}
