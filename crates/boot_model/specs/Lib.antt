@@ -23,6 +23,7 @@ pub mod MemoryReading
 pub mod Migration
 pub mod ModuleEntry
 pub mod Parts
+pub mod PlanBoard
 pub mod PeiAction
 pub mod PeiChoice
 pub mod PeiMachine

@@ -2,6 +2,7 @@
 -- Own; the state that stands for linked nodes in byte memory.
 use Rattle.std.specs.Prelude.{◌≡◌, ◌≢◌, ℕ, ◌+◌, ◌<◌, ◌≤◌, Bool, true, false, List, ◌++◌, length, map, Option, Some, None, AllPairs, IfSome, ⊤}
 use Rattle.hob_codec.specs.declared.kind.TheConstants.{POOL, ALLOCATION}
+use Rattle.boot_plan.specs.declared.limits.TheConstants.{MOST_TEMP, MOST_RAM}
 use Rattle.boot_model.specs.declared.store_handle.DescKind.{DescKind}
 use Rattle.boot_model.specs.declared.store_handle.DescKind.TheVariants.{Ppi, Callback, Dispatch}
 use Rattle.boot_model.specs.declared.store_handle.Desc.{Desc}
@@ -51,8 +52,10 @@ abbrev pub ArePages : StoreState → Bool → Type 0
 ArePages s true = ⊤
 ArePages s false = s.taken ≤ s.board.pages
 
--- temporary RAM and RAM end where a plan lets them, and the page region leaves room for an empty heap
+-- temporary RAM and RAM are as long and end as high as a plan lets them, and the page region leaves room for an empty heap
 pub record IsBoard (board : Board) : Type 0 where
+  pub temp_len : board.temp.len ≤ MOST_TEMP
+  pub ram_len : board.ram.len ≤ MOST_RAM
   pub temp_end : board.temp.base + board.temp.len ≤ MOST_END
   pub ram_end : board.ram.base + board.ram.len ≤ MOST_END
   pub pages : board.pages + handoff_len + header_len ≤ board.temp.len
