@@ -1,6 +1,6 @@
 -- The modules of a catalogue by their numbers: their parts, blocks and volumes, and the volumes nested in a volume.
 -- PI 1.8, volume 3, "Firmware Files"; the numbers are own.
-use Rattle.std.specs.Prelude.{ℕ, ◌+◌, Bool, false, ◌==◌, ◌&&◌, if◌then◌else◌, List, [], ◌∷◌, ◌++◌, Option, Some, None, option_map, slice_get, unwrap_or, is_some}
+use Rattle.std.specs.Prelude.{ℕ, ◌+◌, Bool, false, ◌==◌, ◌&&◌, if◌then◌else◌, List, [], ◌∷◌, ◌++◌, Option, Some, None, option_map, slice_get, unwrap_or, is_some, replicate}
 use Rattle.std.specs.Option.{option_and_then}
 use Rattle.std.specs.List.{list_any}
 use Rattle.pi_base.specs.declared.guid.Guid.{Guid}
@@ -11,7 +11,6 @@ use Rattle.boot_model.specs.declared.catalog.Module.{Module}
 use Rattle.boot_model.specs.declared.catalog.VolumeEntry.{VolumeEntry}
 use Rattle.boot_model.specs.declared.catalog.Part.{Part}
 use Rattle.boot_model.specs.WellFormed.{part_of}
-use Rattle.boot_model.specs.Service.Descriptor.{no_guid}
 
 -- whether the number is among these
 abbrev pub has_number : List ℕ → ℕ → Bool
@@ -24,8 +23,12 @@ part_at phase catalog number = option_and_then (part_of phase) (slice_get catalo
 abbrev pub rank_at : Phase → Catalog → ℕ → Option ℕ
 rank_at phase catalog number = option_and_then (λ part. part.rank) (part_at phase catalog number)
 
+-- a number that is no module's is never asked for
+abbrev pub no_name : Guid
+no_name = record { 0 = replicate 16 0 }
+
 abbrev pub module_name : Catalog → ℕ → Guid
-module_name catalog number = unwrap_or (option_map (λ m. m.name) (slice_get catalog.modules number)) no_guid
+module_name catalog number = unwrap_or (option_map (λ m. m.name) (slice_get catalog.modules number)) no_name
 
 abbrev pub module_volume : Catalog → ℕ → ℕ
 module_volume catalog number = unwrap_or (option_map (λ m. m.volume) (slice_get catalog.modules number)) 0
