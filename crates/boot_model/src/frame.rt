@@ -36,3 +36,17 @@ pub struct Frame {
     /// The pairs that its last call has still to visit.
     pub sweep: Option<Sweep>,
 }
+
+// What stands in a place for a frame that is not used.
+impl Default for Frame {
+    fn default() -> Frame {
+        Frame {
+            module_number: 0,
+            block: 0,
+            position: 0,
+            registers: [Register::Empty; REGISTERS],
+            last: Word::Success,
+            sweep: None,
+        }
+    }
+}
