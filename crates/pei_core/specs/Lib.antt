@@ -1,0 +1,8 @@
+pub mod AfterTaken
+pub mod FrameStack
+pub mod Known
+pub mod Leaves
+pub mod Sound
+pub mod Stages
+pub mod Standing
+pub mod Steps

@@ -1,0 +1,97 @@
+// The next action of the top frame.
+ghost use Rattle.std.specs.Prelude.{◌≡◌, ◌<◌, ◌∷◌, ℕ, List, Some, IfSome, length, option_copied, unwrap_or};
+ghost use Rattle.act_code.specs.declared.action.Action.TheVariants.{Ret};
+ghost use Rattle.boot_model.specs.PeiMachine.{PeiMachine};
+ghost use Rattle.boot_model.specs.PeiAction as E;
+ghost use Rattle.boot_model.specs.PeiStep as P;
+ghost use Rattle.boot_model.specs.Service.{Present, And};
+ghost use Rattle.boot_model.specs.StateFacts.{IsStoreState};
+ghost use Rattle.boot_model.specs.WellFormed.{IsWellFormed};
+ghost use Rattle.boot_model.specs.declared.frame.Frame.{Frame as OfFrame};
+ghost use Rattle.pei_action.specs.Needs.{HoldRegisters, IsModuleNumber, IsScriptAction};
+ghost use Rattle.pei_core.specs.Known.{AreKnown};
+ghost use Rattle.pei_core.specs.Leaves.{Goes, Leaves, BrokenAfter, FaultsAfter};
+ghost use Rattle.pei_core.specs.Standing.{IsCoreOf, IsCoreFor};
+ghost use Rattle.pei_core.specs.declared.called.TheConstants.{MOST_ACTIONS};
+ghost use Rattle.pi_base.specs.declared.word.Word.TheVariants.{Success};
+
+use crate::broken::{Broken, answer};
+use crate::core_fault::CoreFault;
+use crate::core_state::Core;
+use crate::taken::{end_frame, finish};
+use act_code::Action;
+use boot_io::Sink;
+use boot_model::{Catalog, Frame, PeiStore};
+use pei_action::take_action;
+use pi_base::{OutOfMemory, Word};
+
+// The block in which a frame stands.
+fn block_of<'a>(catalog: &'a Catalog, frame: &Frame) -> Option<&'a [Action]>
+{
+    let module = catalog.modules.as_slice().get(frame.module_number as usize)?;
+    let part = module.pei.as_ref()?;
+    let block = part.script.blocks.as_slice().get(frame.block as usize)?;
+    Some(block.as_slice())
+}
+
+// The action at which a frame stands. None behind the end of its block, and where there is no such block.
+fn action_at<'a>(catalog: &'a Catalog, frame: &Frame) -> Option<&'a Action>
+    requires catalog { IsWellFormed catalog.now }
+    ensures action { unwrap_or (option_copied result) (Ret Success) ≡ P.action_at catalog.now frame.now }
+    ensures script { IfSome result (λ action. IsScriptAction action.now × (frame.now.position < MOST_ACTIONS) × (frame.now.module_number < length catalog.now.modules)) }
+{
+    block_of(catalog, frame)?.get(frame.position as usize)
+}
+
+// The top frame takes an action.
+fn take<M: PeiStore, S: Sink>(
+    store: &mut M,
+    core: &mut Core,
+    catalog: &Catalog,
+    frame: Frame,
+    action: &Action,
+    sink: &mut S,
+) -> Result<(), Broken>
+    requires catalog { IsWellFormed catalog.now }
+    requires action { IsScriptAction action.now }
+    requires known { AreKnown catalog.now core.old.reported }
+    requires number { IsModuleNumber frame.module_number }
+    requires here { frame.module_number < length core.old.stages }
+    requires position { frame.position < MOST_ACTIONS }
+    requires state { Present (M.stands_for store.old) (HoldRegisters frame.registers) }
+    ensures row { (m : PeiMachine) (below : List OfFrame) → IsCoreOf core.old m → m.frames ≡ frame ∷ below → M.stands_for store.old m.store → HoldRegisters frame.registers m.store → Goes M.TAKES_MEMORY (M.stands_for store.new) core.new m (P.after_effect catalog.now m frame below (E.effect m.store frame action.now)) (record { old = S.text sink.old; new = S.text sink.new }) result }
+    ensures faults { BrokenAfter result (S.faults sink.old) (S.faults sink.new) }
+    ensures core { (fuel : ℕ) → IsCoreFor catalog.now fuel core.old → IsCoreFor catalog.now fuel core.new }
+{
+    let mut acting = frame;
+    match take_action(store, &mut acting, action) {
+        Ok(taken) => finish(store, core, catalog, acting, taken, sink),
+        Err(OutOfMemory) => Err(Broken::Memory),
+    }
+}
+
+/// The top frame takes its next action, unless the fuel is spent.
+pub(crate) fn act<M: PeiStore, S: Sink>(
+    store: &mut M,
+    core: &mut Core,
+    catalog: &Catalog,
+    frame: Frame,
+    sink: &mut S,
+) -> Result<(), CoreFault>
+    requires catalog { IsWellFormed catalog.now }
+    requires core { IsCoreFor catalog.now core.old.fuel core.old }
+    requires number { IsModuleNumber frame.module_number }
+    requires state { Present (M.stands_for store.old) (HoldRegisters frame.registers) }
+    ensures row { (m : PeiMachine) (below : List OfFrame) → IsCoreOf core.old m → m.frames ≡ frame ∷ below → M.stands_for store.old m.store → HoldRegisters frame.registers m.store → Leaves M.TAKES_MEMORY (M.stands_for store.new) core.new m (P.acted catalog.now core.old.fuel m frame below) (record { old = S.text sink.old; new = S.text sink.new }) result }
+    ensures faults { FaultsAfter result (S.faults sink.old) (S.faults sink.new) }
+    ensures core { IsCoreFor catalog.now core.old.fuel core.new }
+{
+    if core.actions >= core.fuel {
+        return Err(CoreFault::Spent);
+    }
+    core.actions += 1;
+    match action_at(catalog, &frame) {
+        Some(action) => answer(take(store, core, catalog, frame, action, sink)),
+        None => answer(end_frame(core, Word::Success, sink)),
+    }
+}

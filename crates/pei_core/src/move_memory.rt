@@ -1,0 +1,82 @@
+// The move to permanent memory.
+ghost use Rattle.std.specs.Prelude.{◌≡◌, Some};
+ghost use Rattle.boot_model.specs.Migration.{migration};
+ghost use Rattle.boot_model.specs.PeiAction as A;
+ghost use Rattle.boot_model.specs.PeiMachine.{PeiMachine};
+ghost use Rattle.boot_model.specs.PeiStep as P;
+ghost use Rattle.boot_model.specs.Service.{Present};
+ghost use Rattle.boot_model.specs.Service.Install.{core_install};
+ghost use Rattle.boot_model.specs.StoreCall.{Anything, IsDue};
+ghost use Rattle.boot_model.specs.StoreState.{StoreState};
+ghost use Rattle.pei_core.specs.Leaves.{Goes, BrokenAfter};
+ghost use Rattle.pei_core.specs.Standing.{IsCoreOf};
+
+use crate::broken::{Broken, told};
+use crate::core_state::Core;
+use crate::print::put;
+use boot_io::Sink;
+use boot_model::{Line, PeiStore, StoreFault};
+use pi_base::Word;
+
+// What a script would be told of a fault.
+fn status_of(fault: StoreFault) -> Word
+    ensures { result ≡ A.status_of fault }
+{
+    match fault {
+        StoreFault::Full => Word::OutOfResources,
+        StoreFault::Bad => Word::InvalidParameter,
+        StoreFault::Missing => Word::NotFound,
+        StoreFault::NotYet => Word::NotAvailableYet,
+        StoreFault::Memory => Word::OutOfResources,
+    }
+}
+
+// The core installs the PPI of permanent memory, and its sweep is open.
+fn install_memory<M: PeiStore, S: Sink>(
+    store: &mut M,
+    core: &mut Core,
+    sink: &mut S,
+) -> Result<(), Broken>
+    requires state { Present (M.stands_for store.old) Anything }
+    ensures row { (m : PeiMachine) → M.stands_for store.old m.store → IsCoreOf core.old m → Goes M.TAKES_MEMORY (M.stands_for store.new) core.new m (P.core_called m (core_install m.store)) (record { old = S.text sink.old; new = S.text sink.new }) result }
+    ensures faults { BrokenAfter result (S.faults sink.old) (S.faults sink.new) }
+{
+    match store.core_install() {
+        Ok(sweep) => {
+            core.sweep = Some(sweep);
+            told(put(
+                sink,
+                &Line::CoreInstall {
+                    status: Word::Success,
+                },
+            ))
+        }
+        Err(StoreFault::Memory) => Err(Broken::Memory),
+        Err(fault) => {
+            core.sweep = None;
+            told(put(
+                sink,
+                &Line::CoreInstall {
+                    status: status_of(fault),
+                },
+            ))
+        }
+    }
+}
+
+/// The store moves, and the core installs the PPI of permanent memory.
+pub(crate) fn move_memory<M: PeiStore, S: Sink>(
+    store: &mut M,
+    core: &mut Core,
+    sink: &mut S,
+) -> Result<(), Broken>
+    requires state { Present (M.stands_for store.old) IsDue }
+    ensures row { (m : PeiMachine) (new : StoreState) → M.stands_for store.old m.store → IsDue m.store → migration m.store ≡ Some new → IsCoreOf core.old m → Goes M.TAKES_MEMORY (M.stands_for store.new) core.new m (P.moved_to m new) (record { old = S.text sink.old; new = S.text sink.new }) result }
+    ensures faults { BrokenAfter result (S.faults sink.old) (S.faults sink.new) }
+{
+    let (from, to) = store.migrate();
+    match put(sink, &Line::Migrate { from, to }) {
+        Ok(()) => install_memory(store, core, sink),
+        Err(_) => Err(Broken::Sink),
+    }
+}

@@ -1,0 +1,74 @@
+// The start of a module.
+ghost use Rattle.std.specs.Prelude.{◌≡◌, ◌<◌, [], ℕ, true, false, Some, length, is_some, ◌==◌, not};
+ghost use Rattle.boot_model.specs.Eligible.{licence_at};
+ghost use Rattle.boot_model.specs.Parts.{part_at};
+ghost use Rattle.boot_model.specs.PeiMachine.{PeiMachine};
+ghost use Rattle.boot_model.specs.PeiStep.{started};
+ghost use Rattle.boot_model.specs.declared.catalog.Part.{Part as OfPart};
+ghost use Rattle.pi_base.specs.declared.phase.Phase.TheVariants.{Pei};
+ghost use Rattle.pei_core.specs.Leaves.{Goes, BrokenAfter};
+ghost use Rattle.pei_core.specs.Standing.{IsCoreOf, IsCoreFor};
+
+use crate::broken::{Broken, told};
+use crate::core_state::Core;
+use crate::fire::frame_at;
+use crate::names::start_line;
+use crate::print::put;
+use crate::stages::start;
+use boot_io::Sink;
+use boot_model::{Catalog, Licence, Line, REGISTERS, Register};
+use pi_base::Word;
+
+// Whether the PEI part of a module has a block.
+fn has_block(catalog: &Catalog, number: u32) -> bool
+    requires { is_some (part_at Pei catalog.now number) ≡ true }
+    ensures { (part : OfPart) → part_at Pei catalog.now number ≡ Some part → result ≡ not (length part.script.blocks == 0) }
+{
+    match catalog.modules.as_slice().get(number as usize) {
+        Some(found) => match &found.pei {
+            Some(part) => !part.script.blocks.is_empty(),
+            None => false,
+        },
+        None => false,
+    }
+}
+
+// The lines of a start: a script without blocks ends at once.
+fn put_start<S: Sink>(sink: &mut S, line: &Line, runs: bool) -> Result<(), Broken>
+{
+    match put(sink, line) {
+        Ok(()) if !runs => told(put(
+            sink,
+            &Line::End {
+                status: Word::Success,
+            },
+        )),
+        put => told(put),
+    }
+}
+
+/// A module starts.
+pub(crate) fn start_module<S: Sink>(
+    core: &mut Core,
+    catalog: &Catalog,
+    number: u32,
+    licence: Licence,
+    sink: &mut S,
+) -> Result<(), Broken>
+    requires idle { core.old.frames ≡ [] }
+    requires here { number < length core.old.stages }
+    requires part { is_some (part_at Pei catalog.now number) ≡ true }
+    ensures row { (m : PeiMachine) → IsCoreOf core.old m → ((part : OfPart) → part_at Pei catalog.now number ≡ Some part → licence ≡ licence_at m number part) → Goes false (λ s. s ≡ m.store) core.new m (started catalog.now m number) (record { old = S.text sink.old; new = S.text sink.new }) result }
+    ensures faults { BrokenAfter result (S.faults sink.old) (S.faults sink.new) }
+    ensures core { (fuel : ℕ) → IsCoreFor catalog.now fuel core.old → IsCoreFor catalog.now fuel core.new }
+{
+    let runs = has_block(catalog, number);
+    start(&mut core.stages, number);
+    core.sweep = None;
+    core.starts = core.starts.saturating_add(1);
+    core.last_start = Some(number);
+    if runs {
+        core.frames.push(frame_at(number, 0, [Register::Empty; REGISTERS]));
+    }
+    put_start(sink, &start_line(catalog, number, licence), runs)
+}
