@@ -3,6 +3,5 @@ pub mod FrameStack
 pub mod Known
 pub mod Leaves
 pub mod Sound
-pub mod Stages
 pub mod Standing
 pub mod Steps

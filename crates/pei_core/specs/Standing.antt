@@ -4,7 +4,7 @@ use Rattle.std.specs.Prelude.{◌≡◌, ℕ, List, length, None}
 use Rattle.boot_model.specs.declared.catalog.Catalog.{Catalog}
 use Rattle.boot_model.specs.StoreState.{StoreState}
 use Rattle.boot_model.specs.PeiMachine.{PeiMachine}
-use Rattle.pei_core.specs.Stages.{AreStages}
+use Rattle.pei_choice.specs.Standing.{AreStages}
 use Rattle.pei_core.specs.Sound.{IsSound}
 use Rattle.pei_core.specs.Known.{AreKnown}
 use Rattle.pei_core.specs.declared.core_state.Core.{Core}

@@ -1,7 +1,7 @@
 //! What the core keeps beside the store.
 use crate::frames::Frames;
 use boot_model::Sweep;
-use crate::stage::Stage;
+use pei_choice::Stage;
 use pi_base::Seq;
 use crate::volumes::VolumeList;
 

@@ -13,7 +13,6 @@ mod names;
 mod pei;
 mod print;
 mod queue;
-mod stage;
 mod stages;
 mod start;
 mod step;

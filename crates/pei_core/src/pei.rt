@@ -8,17 +8,18 @@ ghost use Rattle.boot_model.specs.PeiRun.{pei_opening};
 ghost use Rattle.boot_model.specs.PeiStep.{pei_step, started};
 ghost use Rattle.boot_model.specs.StoreState.{Board, empty_store};
 ghost use Rattle.boot_model.specs.WellFormed.{IsWellFormed};
+ghost use Rattle.boot_model.specs.declared.catalog.Catalog.{Catalog as OfCatalog};
 ghost use Rattle.boot_model.specs.declared.catalog.Part.{Part as OfPart};
 ghost use Rattle.pi_base.specs.declared.phase.Phase.TheVariants.{Pei as InPei};
 ghost use Rattle.pei_core.specs.Leaves.{FaultsAfter};
 ghost use Rattle.pei_core.specs.Standing.{StandsFor, IsFor};
-ghost use Rattle.pei_core.specs.Stages.{AreStages};
+ghost use Rattle.pei_choice.specs.Standing.{AreStages};
 ghost use Rattle.pei_core.specs.Steps.{IsIdle, StepsTo, StartsTo};
 
 use crate::core_fault::CoreFault;
 use crate::core_state::Core;
 use crate::frames::Frames;
-use crate::stage::Stage;
+use pei_choice::Stage;
 use crate::stages;
 use crate::start::start_module;
 use crate::step::step;
@@ -39,12 +40,12 @@ pub enum Stepped {
 
 /// The PEI core over a store, and the machine of PEI that both stand for.
 #[derive(Drop)]
-pub struct Pei<M: PeiStore> {
+pub struct Pei<M: PeiStore + Drop> {
     pub(crate) store: M,
     pub(crate) core: Core,
 }
 
-impl<M: PeiStore> Pei<M> {
+impl<M: PeiStore + Drop> Pei<M> {
     /// The core at the opening, over a store that is as it was made: volume 0 and the volumes nested in it have just been reported. `fuel` is how many actions may be taken. All memory that the core needs is taken here.
     pub fn begin(
         alloc: Global,
@@ -148,6 +149,13 @@ impl<M: PeiStore> Pei<M> {
         ensures { (m : PeiMachine) → StandsFor M.stands_for self.now m → result ≡ m.actions }
     {
         self.core.actions
+    }
+
+    /// How many actions may be taken.
+    pub fn fuel(&self) -> u32
+        ensures { (catalog : OfCatalog) (fuel : ℕ) → IsFor catalog fuel self.now → result ≡ fuel }
+    {
+        self.core.fuel
     }
 
     /// The number of starts; it stays at the last u32.

@@ -1,9 +1,9 @@
 // How far each module has come.
 ghost use Rattle.std.specs.Prelude.{◌≡◌, ◌<◌, length, slice_set, replicate, ◌||◌, true, false, if◌then◌else◌, IfOk};
-ghost use Rattle.pei_core.specs.Stages.{stage_at};
+ghost use Rattle.pei_choice.specs.Standing.{stage_at};
 ghost use Rattle.pi_base.specs.declared.word.Word.TheVariants.{Success, AlreadyStarted};
 
-use crate::stage::{Stage, stage_of};
+use pei_choice::{Stage, stage_of};
 use pi_base::{OutOfMemory, Seq, Word};
 use std::alloc::Global;
 
