@@ -45,8 +45,8 @@ fn lets_start<G: GuidSet, L: Ledger>(expression: &PartExpr, set: &G, steps: &mut
     }
 }
 
-// The PEI part of a module.
-fn pei_part(catalog: &Catalog, number: u32) -> Option<&Part>
+/// The PEI part of a module. None where it has none, or there is no such module.
+pub fn pei_part(catalog: &Catalog, number: u32) -> Option<&Part>
     ensures { option_copied result ≡ part_at Pei catalog.now number }
 {
     match catalog.modules.as_slice().get(number as usize) {

@@ -7,7 +7,7 @@ mod next;
 mod order;
 mod stage;
 
-pub use eligible::is_eligible;
+pub use eligible::{is_eligible, pei_part};
 pub use laws::catalogues_are_short;
 pub use next::{cursor_behind, next_peim};
 pub use order::PeiOrder;

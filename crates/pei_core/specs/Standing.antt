@@ -25,6 +25,10 @@ pub record IsCoreFor (catalog : Catalog) (fuel : ℕ) (core : Core) : Type 0 whe
   pub known : AreKnown catalog core.reported
   pub fuelled : core.fuel ≡ fuel
 
+-- a store and a core have what the machine has
+abbrev pub Have : (StoreState → Type 0) → Core → PeiMachine → Type 0
+Have stands core m = stands m.store × IsCoreOf core m
+
 -- a store and a core stand for a machine that runs
 pub record StandFor (stands : StoreState → Type 0) (core : Core) (m : PeiMachine) : Type 0 where
   pub store : stands m.store

@@ -42,6 +42,11 @@ StepsTo memory Stands m later t (Err F.Deep) = (later ≡ record m { ended = Som
 StepsTo memory Stands m later t (Err F.SinkFault) = PrintedPart m later t
 StepsTo memory Stands m later t (Err F.Memory) = (memory ≡ true) × PrintedPart m later t
 
+-- the answer of a step, of whether it could be taken
+abbrev pub went_by : Result (Unit {0}) CoreFault → Result Stepped CoreFault
+went_by (Ok _) = Ok Went
+went_by (Err fault) = Err fault
+
 -- a start, by its answer
 abbrev pub StartsTo : (PeiMachine → Type 0) → PeiMachine → PeiMachine → Texts → Result (Unit {0}) SinkFault → Type 0
 StartsTo Stands m later t (Ok _) = HasStepped Stands m later t

@@ -1,19 +1,17 @@
 // The next action of the top frame.
-ghost use Rattle.std.specs.Prelude.{◌≡◌, ◌<◌, ◌∷◌, ℕ, List, Some, IfSome, length, option_copied, unwrap_or};
-ghost use Rattle.act_code.specs.declared.action.Action.TheVariants.{Ret};
+ghost use Rattle.std.specs.Prelude.{◌≡◌, ◌<◌, ◌∷◌, ℕ, List, length, option_copied};
 ghost use Rattle.boot_model.specs.PeiMachine.{PeiMachine};
 ghost use Rattle.boot_model.specs.PeiAction as E;
 ghost use Rattle.boot_model.specs.PeiStep as P;
-ghost use Rattle.boot_model.specs.Service.{Present, And};
-ghost use Rattle.boot_model.specs.StateFacts.{IsStoreState};
+ghost use Rattle.boot_model.specs.Service.{Present};
 ghost use Rattle.boot_model.specs.WellFormed.{IsWellFormed};
 ghost use Rattle.boot_model.specs.declared.frame.Frame.{Frame as OfFrame};
 ghost use Rattle.pei_action.specs.Needs.{HoldRegisters, IsModuleNumber, IsScriptAction};
+ghost use Rattle.pei_core.specs.FoundAction.{found_action, found_block};
 ghost use Rattle.pei_core.specs.Known.{AreKnown};
 ghost use Rattle.pei_core.specs.Leaves.{Goes, Leaves, BrokenAfter, FaultsAfter};
 ghost use Rattle.pei_core.specs.Standing.{IsCoreOf, IsCoreFor};
 ghost use Rattle.pei_core.specs.declared.called.TheConstants.{MOST_ACTIONS};
-ghost use Rattle.pi_base.specs.declared.word.Word.TheVariants.{Success};
 
 use crate::broken::{Broken, answer};
 use crate::core_fault::CoreFault;
@@ -23,24 +21,27 @@ use act_code::Action;
 use boot_io::Sink;
 use boot_model::{Catalog, Frame, PeiStore};
 use pei_action::take_action;
-use pi_base::{OutOfMemory, Word};
+use pei_choice::pei_part;
+use pi_base::{OutOfMemory, Seq, Word};
 
 // The block in which a frame stands.
-fn block_of<'a>(catalog: &'a Catalog, frame: &Frame) -> Option<&'a [Action]>
+fn block_of<'a>(catalog: &'a Catalog, frame: &Frame) -> Option<&'a Seq<Action>>
+    ensures { option_copied result ≡ found_block catalog.now frame.now }
 {
-    let module = catalog.modules.as_slice().get(frame.module_number as usize)?;
-    let part = module.pei.as_ref()?;
-    let block = part.script.blocks.as_slice().get(frame.block as usize)?;
-    Some(block.as_slice())
+    match pei_part(catalog, frame.module_number) {
+        Some(part) => part.script.blocks.as_slice().get(frame.block as usize),
+        None => None,
+    }
 }
 
 // The action at which a frame stands. None behind the end of its block, and where there is no such block.
 fn action_at<'a>(catalog: &'a Catalog, frame: &Frame) -> Option<&'a Action>
-    requires catalog { IsWellFormed catalog.now }
-    ensures action { unwrap_or (option_copied result) (Ret Success) ≡ P.action_at catalog.now frame.now }
-    ensures script { IfSome result (λ action. IsScriptAction action.now × (frame.now.position < MOST_ACTIONS) × (frame.now.module_number < length catalog.now.modules)) }
+    ensures { option_copied result ≡ found_action catalog.now frame.now }
 {
-    block_of(catalog, frame)?.get(frame.position as usize)
+    match block_of(catalog, frame) {
+        Some(block) => block.as_slice().get(frame.position as usize),
+        None => None,
+    }
 }
 
 // The top frame takes an action.

@@ -1,11 +1,11 @@
 // The open sweep, and the callbacks that it fires.
-ghost use Rattle.std.specs.Prelude.{◌≡◌, false};
+ghost use Rattle.std.specs.Prelude.{◌≡◌, ℕ, false};
 ghost use Rattle.std.specs.Option.{option_and_then};
 ghost use Rattle.boot_model.specs.PeiMachine.{PeiMachine, frame_at as at};
 ghost use Rattle.boot_model.specs.PeiStep as P;
 ghost use Rattle.boot_model.specs.Service.Sweep.{next_match};
 ghost use Rattle.pei_core.specs.Leaves.{Leaves, FaultsAfter};
-ghost use Rattle.pei_core.specs.Standing.{IsCoreOf, StandFor};
+ghost use Rattle.pei_core.specs.Standing.{IsCoreOf, IsCoreFor, StandFor};
 
 use crate::broken::{answer, told};
 use crate::core_fault::CoreFault;
@@ -91,6 +91,7 @@ pub(crate) fn begin_callback<S: Sink>(
 ) -> Result<(), CoreFault>
     ensures row { (m : PeiMachine) → IsCoreOf core.old m → Leaves false (λ s. s ≡ m.store) core.new m (P.fired catalog.now m firing sweep) (record { old = S.text sink.old; new = S.text sink.new }) result }
     ensures faults { FaultsAfter result (S.faults sink.old) (S.faults sink.new) }
+    ensures core { (fuel : ℕ) → IsCoreFor catalog.now fuel core.old → IsCoreFor catalog.now fuel core.new }
 {
     if core.frames.is_full() {
         return Err(CoreFault::Deep);

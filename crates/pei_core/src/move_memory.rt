@@ -1,5 +1,6 @@
 // The move to permanent memory.
-ghost use Rattle.std.specs.Prelude.{◌≡◌, Some};
+ghost use Rattle.std.specs.Prelude.{◌≡◌, ℕ, Some};
+ghost use Rattle.boot_model.specs.declared.catalog.Catalog.{Catalog as OfCatalog};
 ghost use Rattle.boot_model.specs.Migration.{migration};
 ghost use Rattle.boot_model.specs.PeiAction as A;
 ghost use Rattle.boot_model.specs.PeiMachine.{PeiMachine};
@@ -9,7 +10,7 @@ ghost use Rattle.boot_model.specs.Service.Install.{core_install};
 ghost use Rattle.boot_model.specs.StoreCall.{Anything, IsDue};
 ghost use Rattle.boot_model.specs.StoreState.{StoreState};
 ghost use Rattle.pei_core.specs.Leaves.{Goes, BrokenAfter};
-ghost use Rattle.pei_core.specs.Standing.{IsCoreOf};
+ghost use Rattle.pei_core.specs.Standing.{IsCoreOf, IsCoreFor};
 
 use crate::broken::{Broken, told};
 use crate::core_state::Core;
@@ -40,6 +41,7 @@ fn install_memory<M: PeiStore, S: Sink>(
     requires state { Present (M.stands_for store.old) Anything }
     ensures row { (m : PeiMachine) → M.stands_for store.old m.store → IsCoreOf core.old m → Goes M.TAKES_MEMORY (M.stands_for store.new) core.new m (P.core_called m (core_install m.store)) (record { old = S.text sink.old; new = S.text sink.new }) result }
     ensures faults { BrokenAfter result (S.faults sink.old) (S.faults sink.new) }
+    ensures core { (catalog : OfCatalog) (fuel : ℕ) → IsCoreFor catalog fuel core.old → IsCoreFor catalog fuel core.new }
 {
     match store.core_install() {
         Ok(sweep) => {
@@ -73,6 +75,7 @@ pub(crate) fn move_memory<M: PeiStore, S: Sink>(
     requires state { Present (M.stands_for store.old) IsDue }
     ensures row { (m : PeiMachine) (new : StoreState) → M.stands_for store.old m.store → IsDue m.store → migration m.store ≡ Some new → IsCoreOf core.old m → Goes M.TAKES_MEMORY (M.stands_for store.new) core.new m (P.moved_to m new) (record { old = S.text sink.old; new = S.text sink.new }) result }
     ensures faults { BrokenAfter result (S.faults sink.old) (S.faults sink.new) }
+    ensures core { (catalog : OfCatalog) (fuel : ℕ) → IsCoreFor catalog fuel core.old → IsCoreFor catalog fuel core.new }
 {
     let (from, to) = store.migrate();
     match put(sink, &Line::Migrate { from, to }) {

@@ -1,10 +1,10 @@
 // The queue of dispatch notifications.
-ghost use Rattle.std.specs.Prelude.{◌≡◌, [], false};
+ghost use Rattle.std.specs.Prelude.{◌≡◌, ℕ, [], false};
 ghost use Rattle.boot_model.specs.PeiMachine.{PeiMachine};
 ghost use Rattle.boot_model.specs.StoreState.{StoreState};
 ghost use Rattle.boot_model.specs.PeiStep.{popped_to};
 ghost use Rattle.pei_core.specs.Leaves.{Goes, BrokenAfter};
-ghost use Rattle.pei_core.specs.Standing.{IsCoreOf};
+ghost use Rattle.pei_core.specs.Standing.{IsCoreOf, IsCoreFor};
 
 use crate::broken::{Broken, told};
 use crate::core_state::Core;
@@ -24,6 +24,7 @@ pub(crate) fn begin_dispatch<S: Sink>(
     requires none { core.old.frames ≡ [] }
     ensures row { (m : PeiMachine) (new : StoreState) → IsCoreOf core.old m → Goes false (λ s. s ≡ new) core.new m (popped_to catalog.now m firing new) (record { old = S.text sink.old; new = S.text sink.new }) result }
     ensures faults { BrokenAfter result (S.faults sink.old) (S.faults sink.new) }
+    ensures core { (fuel : ℕ) → IsCoreFor catalog.now fuel core.old → IsCoreFor catalog.now fuel core.new }
 {
     core.sweep = None;
     core.frames.push(notification_frame(&firing));

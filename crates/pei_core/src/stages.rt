@@ -1,6 +1,6 @@
 // How far each module has come.
-ghost use Rattle.std.specs.Prelude.{◌≡◌, ◌<◌, length, slice_set, replicate, ◌||◌, true, false, if◌then◌else◌, IfOk};
-ghost use Rattle.pei_choice.specs.Standing.{stage_at};
+ghost use Rattle.std.specs.Prelude.{◌≡◌, ◌<◌, length, slice_set, replicate, ◌||◌, true, if◌then◌else◌, IfOk};
+ghost use Rattle.pei_choice.specs.Standing.{stage_at, waiting};
 ghost use Rattle.pi_base.specs.declared.word.Word.TheVariants.{Success, AlreadyStarted};
 
 use pei_choice::{Stage, stage_of};
@@ -14,12 +14,14 @@ pub(crate) fn register(stages: &mut Seq<Stage>, number: u32) -> Word
     ensures stages { stages.new ≡ slice_set stages.old number (record (stage_at stages.old number) { registered = true }) }
 {
     let mut stage = stage_of(stages.as_slice(), number);
-    if stage.registered {
-        return Word::AlreadyStarted;
-    }
+    let status = if stage.registered {
+        Word::AlreadyStarted
+    } else {
+        Word::Success
+    };
     stage.registered = true;
     stages.set(number as usize, stage);
-    Word::Success
+    status
 }
 
 /// A module starts, for the first or for the second time.
@@ -35,10 +37,10 @@ pub(crate) fn start(stages: &mut Seq<Stage>, number: u32)
 
 /// So many modules, of which none has started.
 pub(crate) fn waiting(alloc: Global, count: usize) -> Result<Seq<Stage>, OutOfMemory>
-    ensures { IfOk result (λ stages. stages ≡ replicate count (record { started = false; registered = false; again = false })) }
+    ensures { IfOk result (λ stages. stages ≡ replicate count waiting) }
 {
     let mut stages = Seq::new(alloc);
-    'modules: for _ in 0..count {
+    'modules: for _number in 0..count {
         match stages.push(Stage {
             started: false,
             registered: false,

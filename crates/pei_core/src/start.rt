@@ -1,5 +1,7 @@
 // The start of a module.
-ghost use Rattle.std.specs.Prelude.{◌≡◌, ◌<◌, [], ℕ, true, false, Some, length, is_some, ◌==◌, not};
+ghost use Rattle.std.specs.Prelude.{◌≡◌, ◌<◌, [], ℕ, true, false, Some, length, is_some};
+ghost use Rattle.boot_io.specs.Sink.{Puts, SinkFaultsAfter};
+ghost use Rattle.boot_model.specs.Text.{text_of};
 ghost use Rattle.boot_model.specs.Eligible.{licence_at};
 ghost use Rattle.boot_model.specs.Parts.{part_at};
 ghost use Rattle.boot_model.specs.PeiMachine.{PeiMachine};
@@ -7,6 +9,7 @@ ghost use Rattle.boot_model.specs.PeiStep.{started};
 ghost use Rattle.boot_model.specs.declared.catalog.Part.{Part as OfPart};
 ghost use Rattle.pi_base.specs.declared.phase.Phase.TheVariants.{Pei};
 ghost use Rattle.pei_core.specs.Leaves.{Goes, BrokenAfter};
+ghost use Rattle.pei_core.specs.Starting.{has_block, lines_of};
 ghost use Rattle.pei_core.specs.Standing.{IsCoreOf, IsCoreFor};
 
 use crate::broken::{Broken, told};
@@ -15,35 +18,37 @@ use crate::fire::frame_at;
 use crate::names::start_line;
 use crate::print::put;
 use crate::stages::start;
-use boot_io::Sink;
+use boot_io::{Sink, SinkFault};
 use boot_model::{Catalog, Licence, Line, REGISTERS, Register};
+use pei_choice::pei_part;
 use pi_base::Word;
 
 // Whether the PEI part of a module has a block.
 fn has_block(catalog: &Catalog, number: u32) -> bool
-    requires { is_some (part_at Pei catalog.now number) ≡ true }
-    ensures { (part : OfPart) → part_at Pei catalog.now number ≡ Some part → result ≡ not (length part.script.blocks == 0) }
+    ensures { result ≡ has_block (part_at Pei catalog.now number) }
 {
-    match catalog.modules.as_slice().get(number as usize) {
-        Some(found) => match &found.pei {
-            Some(part) => !part.script.blocks.is_empty(),
-            None => false,
-        },
+    match pei_part(catalog, number) {
+        Some(part) => !part.script.blocks.is_empty(),
         None => false,
     }
 }
 
 // The lines of a start: a script without blocks ends at once.
-fn put_start<S: Sink>(sink: &mut S, line: &Line, runs: bool) -> Result<(), Broken>
+fn put_start<S: Sink>(sink: &mut S, line: &Line, runs: bool) -> Result<(), SinkFault>
+    ensures text { Puts result (S.text sink.old) (S.text sink.new) (text_of (lines_of line.now runs)) }
+    ensures cause { SinkFaultsAfter result (S.faults sink.old) (S.faults sink.new) }
 {
+    if runs {
+        return put(sink, line);
+    }
     match put(sink, line) {
-        Ok(()) if !runs => told(put(
+        Ok(()) => put(
             sink,
             &Line::End {
                 status: Word::Success,
             },
-        )),
-        put => told(put),
+        ),
+        Err(SinkFault) => Err(SinkFault),
     }
 }
 
@@ -70,5 +75,5 @@ pub(crate) fn start_module<S: Sink>(
     if runs {
         core.frames.push(frame_at(number, 0, [Register::Empty; REGISTERS]));
     }
-    put_start(sink, &start_line(catalog, number, licence), runs)
+    told(put_start(sink, &start_line(catalog, number, licence), runs))
 }

@@ -1,11 +1,13 @@
 // One step of the machine.
-ghost use Rattle.std.specs.Prelude.{◌≡◌, [], ℕ};
+ghost use Rattle.std.specs.Prelude.{◌≡◌, [], ℕ, None};
+ghost use Rattle.std.specs.Option.{option_and_then};
+ghost use Rattle.boot_model.specs.Service.Sweep.{next_match};
 ghost use Rattle.boot_model.specs.PeiMachine.{PeiMachine};
-ghost use Rattle.boot_model.specs.PeiStep.{pei_step};
+ghost use Rattle.boot_model.specs.PeiStep.{pei_step, open_sweep};
 ghost use Rattle.boot_model.specs.WellFormed.{IsWellFormed};
 ghost use Rattle.pei_core.specs.Leaves.{FaultsAfter};
-ghost use Rattle.pei_core.specs.Standing.{IsCoreFor, StandFor};
-ghost use Rattle.pei_core.specs.Steps.{StepsTo};
+ghost use Rattle.pei_core.specs.Standing.{IsCoreFor, Have, StandFor};
+ghost use Rattle.pei_core.specs.Steps.{StepsTo, went_by};
 
 use crate::act::act;
 use crate::broken::answer;
@@ -20,6 +22,7 @@ use boot_model::{Catalog, PeiStore};
 
 // A step that was taken.
 fn went(done: Result<(), CoreFault>) -> Result<Stepped, CoreFault>
+    ensures { result ≡ went_by done }
 {
     match done {
         Ok(()) => Ok(Stepped::Went),
@@ -34,6 +37,11 @@ fn step_between<M: PeiStore, S: Sink>(
     catalog: &Catalog,
     sink: &mut S,
 ) -> Result<Stepped, CoreFault>
+    requires idle { core.old.frames ≡ [] }
+    requires state { (m : PeiMachine) × Have (M.stands_for store.old) core.old m }
+    ensures row { (m : PeiMachine) → Have (M.stands_for store.old) core.old m → option_and_then (next_match m.store) (open_sweep m m.frames) ≡ None → StepsTo M.TAKES_MEMORY (Have (M.stands_for store.new) core.new) m (pei_step catalog.now core.old.fuel m) (record { old = S.text sink.old; new = S.text sink.new }) result }
+    ensures faults { FaultsAfter result (S.faults sink.old) (S.faults sink.new) }
+    ensures core { (fuel : ℕ) → IsCoreFor catalog.now fuel core.old → IsCoreFor catalog.now fuel core.new }
 {
     if store.memory_due() {
         return went(answer(move_memory(store, core, sink)));
@@ -54,7 +62,7 @@ pub(crate) fn step<M: PeiStore, S: Sink>(
     requires catalog { IsWellFormed catalog.now }
     requires core { IsCoreFor catalog.now core.old.fuel core.old }
     requires state { (m : PeiMachine) × StandFor (M.stands_for store.old) core.old m }
-    ensures row { (m : PeiMachine) → StandFor (M.stands_for store.old) core.old m → StepsTo M.TAKES_MEMORY (StandFor (M.stands_for store.new) core.new) m (pei_step catalog.now core.old.fuel m) (record { old = S.text sink.old; new = S.text sink.new }) result }
+    ensures row { (m : PeiMachine) → StandFor (M.stands_for store.old) core.old m → StepsTo M.TAKES_MEMORY (Have (M.stands_for store.new) core.new) m (pei_step catalog.now core.old.fuel m) (record { old = S.text sink.old; new = S.text sink.new }) result }
     ensures faults { FaultsAfter result (S.faults sink.old) (S.faults sink.new) }
     ensures core { IsCoreFor catalog.now core.old.fuel core.new }
 {
