@@ -70,8 +70,3 @@ inside volume count x below (inr h) = omega (arith, h.1)
 pub family_in_catalog : (catalog : Catalog) (volume : ℕ) → IsWellFormed catalog → volume < length catalog.volumes → AreInCatalog catalog (family catalog volume)
 family_in_catalog catalog volume formed below =
     each_more (IsOf volume (0 + length catalog.volumes)) (λ x. x < length catalog.volumes) (family catalog volume) (λ x is. inside volume (length catalog.volumes) x below is) (whole catalog volume formed).of
-
--- what is nested in a family is not the first volume of all
-pub nested_late : (volumes : List ℕ) (parent : Option ℕ) (number : ℕ) → IfSome parent (λ p. p < number) → is_nested_in volumes parent ≡ true → 0 < number
-nested_late volumes None number below h = cc
-nested_late volumes (Some parent) number below h = omega (arith, below)

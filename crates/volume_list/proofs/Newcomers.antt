@@ -29,10 +29,6 @@ all_new known (n ∷ ns) d =
     let with_it = all_new (known ++ n ∷ []) ns d.1 ∙ ap (λ xs. (known ++ n ∷ []) ++ xs) (new_beside known n ns d.0) in
     by_first known ns (filter (λ x. not (has_number known x)) ns) n (not (has_number known n)) with_it (all_new known ns d.1)
 
--- new ones come behind the known ones, and those after them
-pub one_more : (later : List ℕ → List ℕ) (known new next whole : List ℕ) → next ≡ known ++ new → known ++ (new ++ later (known ++ new)) ≡ whole → next ++ later next ≡ whole
-one_more later known new next whole e h = rw e (append_assoc known new (later (known ++ new)) ∙ h)
-
 -- a family of which the first is new
 pub new_family : (known family added : List ℕ) (known_first : Bool) → known_first ≡ false → AllDiffer family → added ≡ with_new known family
     → added ≡ known ++ cond known_first [] (filter (λ x. not (has_number known x)) family)

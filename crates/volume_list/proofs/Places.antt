@@ -34,26 +34,20 @@ first_place catalog s (entry ∷ entries) known zero count = refl
 first_place catalog s (entry ∷ entries) known (suc place) count = rw add-one (rw add-one at (first_place catalog s entries known place count))
 
 -- one place more
-pub place_more : (catalog : Catalog) (s : StoreState) (entries : List Entry) (known next whole : List ℕ) (place to : ℕ) → place < to
-    → next ≡ known ++ newcomers catalog known (told_in catalog s entries place)
+pub place_more : (catalog : Catalog) (s : StoreState) (entries : List Entry) (known next whole : List ℕ) (told : Option ℕ) (place to : ℕ) → place < to
+    → told ≡ told_in catalog s entries place → next ≡ known ++ newcomers catalog known told
     → known ++ reported catalog s entries known place (to - place) ≡ whole
     → next ++ reported catalog s entries next (place + 1) (to - (place + 1)) ≡ whole
-place_more catalog s entries known next whole place to below e h =
+place_more catalog s entries known next whole told place to below is now h =
     let new = newcomers catalog known (told_in catalog s entries place) in
     let count = to - (place + 1) in
+    let later = reported catalog s entries (known ++ new) (place + 1) count in
     let one : to - place ≡ suc count = omega arith in
     let P : ℕ → Type 0 = λ n. known ++ reported catalog s entries known place n ≡ whole in
-    let later = reported catalog s entries (known ++ new) (place + 1) count in
     let step : known ++ (new ++ later) ≡ whole = sym (ap (λ xs. known ++ xs) (first_place catalog s entries known place count)) ∙ subst P one h in
     let Q : List ℕ → Type 0 = λ xs. xs ++ reported catalog s entries xs (place + 1) count ≡ whole in
-    subst Q (sym e) (append_assoc known new later ∙ step)
-
--- at the end nothing more is reported
-pub none_more : (catalog : Catalog) (s : StoreState) (entries : List Entry) (known whole : List ℕ) (place to : ℕ) → to ≤ place → known ++ reported catalog s entries known place (to - place) ≡ whole → known ≡ whole
-none_more catalog s entries known whole place to past h =
-    let none : to - place ≡ 0 = omega arith in
-    let P : ℕ → Type 0 = λ n. known ++ reported catalog s entries known place n ≡ whole in
-    sym (append-nil known) ∙ subst P none h
+    let R : Option ℕ → Type 0 = λ t. next ≡ known ++ newcomers catalog known t in
+    subst Q (sym (subst R is now)) (append_assoc known new later ∙ step)
 
 -- what a store says of the PPI in a place
 abbrev shown : StoreState → Entry → Guid × ℕ × ℕ
@@ -67,16 +61,3 @@ told_there catalog s (Some entry) guid address by told e same h =
     let there = option_and_then (told_by catalog) (bytes_at s (number_at s entry.descriptor) volume_info_len) in
     let info : same_guid (guid_at s entry.descriptor) VOLUME_INFO_PPI ≡ true = sym (ap (λ p. same_guid p.0 VOLUME_INFO_PPI) is) ∙ same in
     h ∙ ap (λ p. option_and_then (told_by catalog) (bytes_at s p.1 volume_info_len)) is ∙ sym (ap (λ b. cond b there None) info)
-
-pub other_there : (catalog : Catalog) (s : StoreState) (found : Option Entry) (guid : Guid) (address by : ℕ) → Some (guid, address, by) ≡ option_map (shown s) found
-    → same_guid guid VOLUME_INFO_PPI ≡ false → None ≡ option_and_then (λ entry. told_at catalog s entry.descriptor) found
-other_there catalog s None guid address by e other = cc
-other_there catalog s (Some entry) guid address by e other =
-    let is : ◌≡◌ {A = Guid × ℕ × ℕ} (guid, address, by) (shown s entry) = cc in
-    let there = option_and_then (told_by catalog) (bytes_at s (number_at s entry.descriptor) volume_info_len) in
-    let not_info : same_guid (guid_at s entry.descriptor) VOLUME_INFO_PPI ≡ false = sym (ap (λ p. same_guid p.0 VOLUME_INFO_PPI) is) ∙ other in
-    sym (ap (λ b. cond b there None) not_info)
-
-pub none_there : (catalog : Catalog) (s : StoreState) (found : Option Entry) → None ≡ option_map (shown s) found → None ≡ option_and_then (λ entry. told_at catalog s entry.descriptor) found
-none_there catalog s None e = refl
-none_there catalog s (Some entry) e = cc

@@ -8,3 +8,5 @@ mod report;
 
 pub use list::VolumeList;
 
+#[cfg(test)]
+mod tests;

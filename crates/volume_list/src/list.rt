@@ -1,6 +1,5 @@
 //! The volumes that are known, by their numbers.
 ghost use Rattle.std.specs.Prelude.{◌≡◌, ◌<◌, ◌++◌, ◌∷◌, [], length, if◌then◌else◌, IfSome, IsTrue};
-ghost use Rattle.boot_model.specs.Lists.{Each};
 ghost use Rattle.boot_model.specs.Parts.{has_number, is_nested_in};
 ghost use Rattle.boot_model.specs.Reporting.{newcomers};
 ghost use Rattle.boot_model.specs.Discovery.{discoveries};
@@ -107,7 +106,8 @@ impl VolumeList {
         ensures added { self.new ≡ self.old ++ newcomers catalog.now self.old (Some number) }
         ensures known { AreKnown catalog.now self.new }
     {
-        if !self.has(number) {
+        let is_new = !self.has(number);
+        if is_new {
             let family = family_of(catalog, number);
             self.add_each(catalog, family.as_slice());
         }

@@ -9,7 +9,7 @@ add_each-requires-clause-numbers c =
     subst (AreInCatalog c.args.catalog.now) (sym (c.as_slice.ensures ∙ c.family_of-family.ensures))
     (family_in_catalog c.args.catalog.now c.args.number c.requires.catalog c.requires.number)
 
-pub returns-then-not-has-clause-added : goal.returns-then-not-has-clause-added
-returns-then-not-has-clause-added c =
-    new_family c.args.self.now _ c.add_each.new.self _ (sym c.has.ensures ∙ c.if-not-has.true) (family_differs c.args.catalog.now c.args.number c.requires.catalog)
+pub returns-then-is_new-clause-added : goal.returns-then-is_new-clause-added
+returns-then-is_new-clause-added c =
+    new_family c.args.self.now _ c.add_each.new.self _ (sym c.has-is_new.ensures ∙ c.if-is_new.true) (family_differs c.args.catalog.now c.args.number c.requires.catalog)
     (c.add_each.ensures.added ∙ ap (with_new c.args.self.now) (c.as_slice.ensures ∙ c.family_of-family.ensures))
