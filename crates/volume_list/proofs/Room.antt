@@ -1,5 +1,5 @@
--- Known volumes are no more than the volumes of the catalogue, so there is room for each that is new.
-use Rattle.std.proofs.Common.{◌≡◌, ℕ, zero, suc, ◌+◌, ◌<◌, ◌≤◌, ◌==◌, Bool, true, false, not, ◌||◌, cond, List, [], ◌∷◌, ◌++◌, length, get_or, drop, refl, sym, ap, ◌∙◌, subst, arith, eqb}
+-- One number more of those that become known: there is room for it, since known volumes are no more than the volumes of the catalogue.
+use Rattle.std.proofs.Common.{◌≡◌, ℕ, ◌+◌, ◌<◌, ◌≤◌, ◌==◌, Bool, true, false, not, ◌||◌, List, [], ◌∷◌, ◌++◌, length, get_or, drop, refl, sym, ap, ◌∙◌, subst, arith, eqb}
 use Rattle.std.specs.Prelude.{if◌then◌else◌}
 use Rattle.std.specs.List.{list_any, AllByRecursion, IsDistinct}
 use Rattle.std.proofs.lemmas.Bool.Decides.{nat_tests}
@@ -7,11 +7,10 @@ use Rattle.std.proofs.lemmas.List.{length_push, at_drop_more}
 use Rattle.std.proofs.lemmas.Map.Steps.{length-le_from_distinct_below}
 use Rattle.boot_model.specs.declared.limits.TheConstants.{MOST_VOLUMES}
 use Rattle.boot_model.specs.declared.catalog.Catalog.{Catalog}
-use Rattle.boot_model.specs.Lists.{Each}
 use Rattle.boot_model.specs.Parts.{has_number}
 use Rattle.boot_model.specs.Licence.{AllDiffer}
 use Rattle.boot_model.specs.WellFormed.{IsWellFormed}
-use Rattle.volume_list.specs.Known.{AreInCatalog, AreKnown, with_new}
+use Rattle.volume_list.specs.Known.{AreKnown, with_new}
 use Rattle.volume_list.proofs.ListFacts.{each_push, each_at, neither, differ_pushed}
 
 -- a volume that is new comes to the known ones

@@ -1,6 +1,4 @@
-use Rattle.std.proofs.Common.{ℕ, List, ◌<◌, get_or, length, ap, not, sym, ◌∙◌}
-use Rattle.std.proofs.lemmas.List.{at_drop_more}
-use Rattle.volume_list.specs.Known.{with_new}
+use Rattle.std.proofs.Common.{ℕ, ◌<◌, length, ap, not}
 use Rattle.volume_list.proofs.ListFacts.{each_get}
 use Rattle.volume_list.proofs.Room.{known_more, room, added_more}
 use Rattle.volume_list.proofs.list.VolumeList.add_each.Goals as goal
