@@ -1,5 +1,5 @@
 -- Each expression that is read is short, so those of a catalogue are.
-use Rattle.std.proofs.Common.{◌≡◌, ℕ, zero, suc, ◌+◌, ◌≤◌, Bool, true, false, List, [], ◌∷◌, ◌++◌, length, map, Option, Some, None, sym, subst, arith, length-append}
+use Rattle.std.proofs.Common.{ℕ, zero, suc, ◌+◌, ◌≤◌, Bool, true, false, List, [], ◌∷◌, ◌++◌, length, map, Option, Some, None, sym, subst, arith, length-append}
 use Rattle.std.proofs.lemmas.List.{length-map}
 use Rattle.std.specs.Prelude.{IfSome}
 use Rattle.pi_base.specs.declared.phase.Phase.TheVariants.{Pei}
@@ -9,7 +9,7 @@ use Rattle.depex_code.specs.declared.depex.Depex.TheVariants as D
 use Rattle.depex_code.specs.declared.instruction.Instruction.{Instruction}
 use Rattle.depex_code.specs.declared.instruction.Instruction.TheVariants as instruction
 use Rattle.depex_code.specs.Tree.{DepexTree, postfix}
-use Rattle.depex_code.specs.Expression.{Reads, sor_front, instructions}
+use Rattle.depex_code.specs.Expression.{sor_front, instructions}
 use Rattle.boot_plan.specs.declared.plan.Plan.{Plan}
 use Rattle.boot_plan.specs.declared.plan.PlanVolume.{PlanVolume}
 use Rattle.boot_model.specs.declared.catalog.Catalog.{Catalog}

@@ -1,7 +1,6 @@
 pub mod AfterTaken
 pub mod FoundAction
 pub mod FrameStack
-pub mod Known
 pub mod Leaves
 pub mod Sound
 pub mod Standing

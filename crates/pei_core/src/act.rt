@@ -8,7 +8,7 @@ ghost use Rattle.boot_model.specs.WellFormed.{IsWellFormed};
 ghost use Rattle.boot_model.specs.declared.frame.Frame.{Frame as OfFrame};
 ghost use Rattle.pei_action.specs.Needs.{HoldRegisters, IsModuleNumber, IsScriptAction};
 ghost use Rattle.pei_core.specs.FoundAction.{found_action, found_block};
-ghost use Rattle.pei_core.specs.Known.{AreKnown};
+ghost use Rattle.volume_list.specs.Known.{AreKnown};
 ghost use Rattle.pei_core.specs.Leaves.{Goes, Leaves, BrokenAfter, FaultsAfter};
 ghost use Rattle.pei_core.specs.Standing.{IsCoreOf, IsCoreFor};
 ghost use Rattle.pei_core.specs.declared.called.TheConstants.{MOST_ACTIONS};

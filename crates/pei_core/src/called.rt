@@ -9,7 +9,7 @@ ghost use Rattle.boot_model.specs.StoreCall.{Anything};
 ghost use Rattle.boot_model.specs.StoreState.{StoreState};
 ghost use Rattle.boot_model.specs.WellFormed.{IsWellFormed};
 ghost use Rattle.boot_model.specs.declared.frame.Frame.{Frame as OfFrame};
-ghost use Rattle.pei_core.specs.Known.{AreKnown};
+ghost use Rattle.volume_list.specs.Known.{AreKnown};
 ghost use Rattle.pei_core.specs.AfterTaken.{after_reply, AreInstalled};
 ghost use Rattle.pei_core.specs.Leaves.{Goes, BrokenAfter};
 ghost use Rattle.pei_core.specs.Standing.{IsCoreOf, IsCoreFor};
@@ -20,7 +20,7 @@ use crate::print::{put, put_reports};
 use boot_io::Sink;
 use boot_model::{Catalog, Frame, Line, PeiStore, Sweep};
 use pei_action::{Descriptors, Reply};
-use crate::volumes::VolumeList;
+use volume_list::VolumeList;
 
 /// The longest block, in actions.
 const MOST_ACTIONS: u16 = 1024;

@@ -3,7 +3,7 @@ use crate::frames::Frames;
 use boot_model::Sweep;
 use pei_choice::Stage;
 use pi_base::Seq;
-use crate::volumes::VolumeList;
+use volume_list::VolumeList;
 
 /// What the core keeps beside the store.
 #[derive(Drop)]

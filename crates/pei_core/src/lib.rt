@@ -17,7 +17,6 @@ mod stages;
 mod start;
 mod step;
 mod taken;
-mod volumes;
 
 pub use core_fault::CoreFault;
 pub use pei::{Pei, Stepped};

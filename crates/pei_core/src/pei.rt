@@ -23,7 +23,7 @@ use pei_choice::Stage;
 use crate::stages;
 use crate::start::start_module;
 use crate::step::step;
-use crate::volumes::VolumeList;
+use volume_list::VolumeList;
 use boot_io::{Sink, SinkFault};
 use boot_model::{Catalog, Licence, PeiStore};
 use pi_base::OutOfMemory;

@@ -9,7 +9,7 @@ ghost use Rattle.boot_model.specs.StoreCall.{Anything};
 ghost use Rattle.boot_model.specs.StoreState.{StoreState};
 ghost use Rattle.boot_model.specs.WellFormed.{IsWellFormed};
 ghost use Rattle.boot_model.specs.declared.frame.Frame.{Frame as OfFrame};
-ghost use Rattle.pei_core.specs.Known.{AreKnown};
+ghost use Rattle.volume_list.specs.Known.{AreKnown};
 ghost use Rattle.pei_core.specs.AfterTaken.{after_taken, TellsInstalls};
 ghost use Rattle.pei_core.specs.Leaves.{Goes, BrokenAfter};
 ghost use Rattle.pei_core.specs.Standing.{IsCoreOf, IsCoreFor};

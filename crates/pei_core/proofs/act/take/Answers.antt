@@ -7,7 +7,7 @@ use Rattle.boot_model.specs.WellFormed.{IsWellFormed}
 use Rattle.boot_model.specs.declared.frame.Frame.{Frame as OfFrame}
 use Rattle.pei_action.specs.Needs.{HoldRegisters, IsModuleNumber, IsScriptAction}
 use Rattle.pei_core.specs.FoundAction.{found_action, found_block}
-use Rattle.pei_core.specs.Known.{AreKnown}
+use Rattle.volume_list.specs.Known.{AreKnown}
 use Rattle.pei_core.specs.Leaves.{Goes, Leaves, BrokenAfter, FaultsAfter}
 use Rattle.pei_core.specs.Standing.{IsCoreOf, IsCoreFor}
 use Rattle.pei_core.specs.declared.called.TheConstants.{MOST_ACTIONS}

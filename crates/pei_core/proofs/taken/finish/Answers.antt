@@ -8,7 +8,7 @@ use Rattle.boot_model.specs.StoreCall.{Anything}
 use Rattle.boot_model.specs.StoreState.{StoreState}
 use Rattle.boot_model.specs.WellFormed.{IsWellFormed}
 use Rattle.boot_model.specs.declared.frame.Frame.{Frame as OfFrame}
-use Rattle.pei_core.specs.Known.{AreKnown}
+use Rattle.volume_list.specs.Known.{AreKnown}
 use Rattle.pei_core.specs.AfterTaken.{after_taken, TellsInstalls}
 use Rattle.pei_core.specs.Leaves.{Goes, BrokenAfter}
 use Rattle.pei_core.specs.Standing.{IsCoreOf, IsCoreFor}
