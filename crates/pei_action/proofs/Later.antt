@@ -1,5 +1,5 @@
 -- A later state has the bodies of the one before it, and its lists are no shorter; a call that installs or registers makes the lists as long as its sweep says.
-use Rattle.std.proofs.Common.{◌≡◌, ℕ, ◌+◌, ◌-◌, ◌≤◌, ◌<◌, Bool, true, false, not, cond, List, [], ◌∷◌, ◌++◌, length, take, drop, arith, sym, refl, ap, subst, ◌∙◌, Option, Some, ◌==◌, length-append, append-nil, append_assoc, ◌||◌}
+use Rattle.std.proofs.Common.{◌≡◌, ℕ, suc, ◌+◌, ◌-◌, ◌≤◌, ◌<◌, Bool, true, false, not, cond, List, [], ◌∷◌, ◌++◌, length, take, drop, arith, sym, refl, ap, subst, ◌∙◌, Option, Some, ◌==◌, length-append, append-nil, append_assoc, ◌||◌}
 use Rattle.std.specs.Prelude.{fold, unwrap_or}
 use Rattle.std.specs.List.{list_any}
 use Rattle.std.specs.Option.{option_map}
@@ -52,7 +52,7 @@ ppis_added by [] s = ([], sym (append-nil s.ppis), refl, refl)
 ppis_added by (d ∷ list) s =
     let entry : Entry = record { node = next_body s; descriptor = d.offset; by = by } in
     let rest = ppis_added by list (with_ppi by s d) in
-    (entry ∷ rest.0, rest.1 ∙ append_assoc s.ppis (entry ∷ []) rest.0, ap (λ more. d.offset ∷ more) rest.2, ap (λ n. n + 1) rest.3)
+    (entry ∷ rest.0, rest.1 ∙ append_assoc s.ppis (entry ∷ []) rest.0, ap (λ more. d.offset ∷ more) rest.2, omega (arith, rest.3))
 
 -- what stands behind so many, as many as there are
 pub behind : (before added : List Entry) (n : ℕ) → length added ≡ n → take (length before + n - length before) (drop (length before) (before ++ added)) ≡ added
@@ -81,7 +81,10 @@ at_on : (b : Bool) (entry : Entry) (entries : List Entry) (old new : ℕ) → (b
     → (IsAmong entries old → StandsAt entries (renamed entries old new) (place_of entries old) new)
     → StandsAt (entry ∷ entries) (cond b (record entry { descriptor = new } ∷ entries) (entry ∷ renamed entries old new)) (cond b 0 (1 + place_of entries old)) new
 at_on true entry entries old new h rest = (omega arith, refl)
-at_on false entry entries old new h rest = let r = rest h in (omega (arith, r.0), r.1)
+at_on false entry entries old new h rest =
+    let r = rest h in
+    let next : 1 + place_of entries old ≡ suc (place_of entries old) = omega arith in
+    (omega (arith, r.0), ap (λ place. descriptors (take 1 (drop place (entry ∷ renamed entries old new)))) next ∙ r.1)
 
 pub renamed_at : (entries : List Entry) (old new : ℕ) → list_any (λ place. place == old) (descriptors entries) ≡ true
     → (place_of entries old < length entries) × (descriptors (take 1 (drop (place_of entries old) (renamed entries old new))) ≡ new ∷ [])
