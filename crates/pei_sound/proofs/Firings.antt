@@ -59,14 +59,14 @@ matched_or : (s : StoreState) (b : Bool) (one other : Option (Firing × Sweep)) 
 matched_or s true one other h k = h
 matched_or s false one other h k = k
 
-pair_matched : (s : StoreState) (sweep : Sweep) (pair : ℕ × ℕ) (ppi note : Option Entry) → IsStoreState s → IsSweepOf s sweep
-    → ((entry : Entry) → ppi ≡ Some entry → IsEntry s Ppi entry) → ((entry : Entry) → note ≡ Some entry → IsEntry s Callback entry)
-    → IsMatched s (option_map (λ places. (firing_of s places.0 places.1, record sweep { ppi_at = pair.0; note_at = pair.1 + 1 })) (option_and_then (λ found. option_map (λ other. (found.descriptor, other.descriptor)) note) ppi))
-pair_matched s sweep pair None note facts within f g = tt
+pair_matched : (s : StoreState) (sweep : Sweep) (pair : ℕ × ℕ) (ppi callback : Option Entry) → IsStoreState s → IsSweepOf s sweep
+    → ((entry : Entry) → ppi ≡ Some entry → IsEntry s Ppi entry) → ((entry : Entry) → callback ≡ Some entry → IsEntry s Callback entry)
+    → IsMatched s (option_map (λ (places : ℕ × ℕ). (firing_of s places.0 places.1, record sweep { ppi_at = pair.0; note_at = pair.1 + 1 })) (option_and_then (λ (found : Entry). option_map (λ (other : Entry). (found.descriptor, other.descriptor)) callback) ppi))
+pair_matched s sweep pair None callback facts within f g = tt
 pair_matched s sweep pair (Some ppi) None facts within f g = tt
-pair_matched s sweep pair (Some ppi) (Some note) facts within f g =
+pair_matched s sweep pair (Some ppi) (Some callback) facts within f g =
     let at = (f ppi refl).1 in
-    (record { ppi = (at.0, at.1); entry = number_of s Callback note.descriptor facts (g note refl).1 }, record { ppis = within.ppis; notes = within.notes })
+    (record { ppi = (at.0, at.1); entry = number_of s Callback callback.descriptor facts (g callback refl).1 }, record { ppis = within.ppis; notes = within.notes })
 
 first_matched : (s : StoreState) (sweep : Sweep) (pairs : List (ℕ × ℕ)) → IsStoreState s → IsSweepOf s sweep → IsMatched s (first_firing s sweep pairs)
 first_matched s sweep [] facts within = tt

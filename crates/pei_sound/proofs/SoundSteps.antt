@@ -11,7 +11,6 @@ use Rattle.boot_model.specs.declared.limits.TheConstants.{MOST_MODULES}
 use Rattle.boot_model.specs.declared.line.Line.TheVariants as L
 use Rattle.boot_model.specs.declared.store_handle.Firing.{Firing}
 use Rattle.boot_model.specs.declared.store_handle.Sweep.{Sweep}
-use Rattle.boot_model.specs.Lists.{Each}
 use Rattle.boot_model.specs.StoreState.{StoreState}
 use Rattle.boot_model.specs.StateFacts.{IsStoreState, IsSweepOf}
 use Rattle.boot_model.specs.Service.{Service}
@@ -23,12 +22,12 @@ use Rattle.boot_model.specs.WellFormed.{part_of}
 use Rattle.boot_model.specs.Parts.{has_number, part_at}
 use Rattle.boot_model.specs.PeiMachine.{PeiMachine, Spent, Deep, printed}
 use Rattle.boot_model.specs.PeiChoice.{next_peim}
-use Rattle.boot_model.specs.PeiAction.{Reply, Effect, Wrote, Called, Shadowed, Logged, Skipped, Returned, effect}
-use Rattle.boot_model.specs.PeiStep.{PeiCase, Fires, Acts, Moves, Pops, Starts, Stops, case_of, in_case, callback_begun, notification_frame, swept, core_swept, open_sweep, action_at, after_effect, core_called, started_part, start_frames}
+use Rattle.boot_model.specs.PeiAction.{Effect, Wrote, Called, Shadowed, Logged, Skipped, Returned, effect}
+use Rattle.boot_model.specs.PeiStep.{PeiCase, Fires, Acts, Moves, Pops, Starts, Stops, case_of, in_case, callback_begun, core_swept, open_sweep, action_at, after_effect, core_called, started_part, start_frames}
 use Rattle.boot_laws.proofs.ListFacts.{within}
 use Rattle.boot_laws.proofs.PeiCases.{cases}
 use Rattle.pei_action.specs.Needs.{IsModuleNumber}
-use Rattle.pei_action.specs.Stay.{IsReply, Visits}
+use Rattle.pei_action.specs.Stay.{Visits}
 use Rattle.pei_action.proofs.Staying.{HoldsAfter, action_holds}
 use Rattle.pei_sound.specs.Sound.{IsSound, IsFiring}
 use Rattle.pei_sound.specs.Laws.{StartsKeepSound, StepsKeepSound}

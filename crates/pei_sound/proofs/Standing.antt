@@ -1,6 +1,6 @@
 -- Frames over a state: a new one holds what is there, and those that stand keep what they have over a later state.
-use Rattle.std.proofs.Common.{◌≡◌, ℕ, zero, suc, ◌+◌, ◌≤◌, ◌<◌, ◌/◌, List, [], ◌∷◌, length, replicate, arith, refl, ap, subst, Option, Some, None}
-use Rattle.std.specs.Prelude.{IfSome}
+use Rattle.std.proofs.Common.{◌≡◌, ℕ, zero, suc, ◌≤◌, ◌<◌, List, [], ◌∷◌, length, replicate, arith, refl, subst, Option, Some, None}
+use Rattle.std.specs.Prelude.{IfSome, slice_set}
 use Rattle.boot_model.specs.declared.frame.Frame.{Frame}
 use Rattle.boot_model.specs.declared.frame.Register.TheVariants.{Empty, Number, DescriptorIn}
 use Rattle.boot_model.specs.declared.frame.TheConstants.{MOST_FRAMES}
@@ -17,6 +17,7 @@ use Rattle.pei_action.specs.Stay.{IsLater}
 use Rattle.pei_action.proofs.Bodies.{hold_on}
 use Rattle.pei_action.proofs.Staying.{set_held}
 use Rattle.pei_sound.specs.Sound.{IsSound, IsFiring}
+use Rattle.pei_sound.specs.Laws.{SweepsStay}
 
 abbrev pub Holds : StoreState → Frame → Type 0
 Holds s frame = HoldRegisters frame.registers s
@@ -42,9 +43,12 @@ pub of_parts : (m : PeiMachine) → AreSound m.store m.frames m.core_sweep → I
 of_parts m parts = record { held = parts.held; modules = parts.modules; sweeps = parts.sweeps; core_sweep = parts.core; few = parts.few }
 
 -- over a later state
+pub sweeps_stay : SweepsStay
+sweeps_stay s new sweep later is = record { ppis = omega (arith, later.ppis, is.ppis); notes = omega (arith, later.callbacks, is.notes) }
+
 pub sweep_later : (s t : StoreState) (sweep : Option Sweep) → IsLater s t → Sweeps s sweep → Sweeps t sweep
 sweep_later s t None later is = tt
-sweep_later s t (Some sweep) later is = record { ppis = omega (arith, later.ppis, is.ppis); notes = omega (arith, later.callbacks, is.notes) }
+sweep_later s t (Some sweep) later is = sweeps_stay s t sweep later is
 
 pub held_later : (s t : StoreState) (frames : List Frame) → IsLater s t → Each (Holds s) frames → Each (Holds t) frames
 held_later s t frames later each = each_more (Holds s) (Holds t) frames (λ frame h. hold_on s t frame.registers later.held h) each
@@ -61,7 +65,7 @@ pub fresh_held : (s : StoreState) → HoldRegisters no_registers s
 fresh_held s = empty_held s 16
 
 pub notified_held : (s : StoreState) (firing : Firing) → IsFiring s firing → Holds s (notification_frame firing)
-notified_held s firing is = set_held s _ 1 (DescriptorIn firing.ppi) is.ppi (set_held s no_registers 0 (Number firing.value) tt (fresh_held s))
+notified_held s firing is = set_held s (slice_set no_registers 0 (Number firing.value)) 1 (DescriptorIn firing.ppi) is.ppi (set_held s no_registers 0 (Number firing.value) tt (fresh_held s))
 
 pub notified_module : (s : StoreState) (firing : Firing) → IsFiring s firing → IsOfModule (notification_frame firing)
 notified_module s firing is = let lt : firing.entry < 0x40000 = is.entry in omega (arith, lt)

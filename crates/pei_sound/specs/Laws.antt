@@ -13,6 +13,7 @@ use Rattle.boot_model.specs.Service.Install.{core_install}
 use Rattle.boot_model.specs.PeiMachine.{PeiMachine}
 use Rattle.boot_model.specs.PeiStep.{pei_step, started}
 use Rattle.boot_model.specs.PeiRun.{pei_opening}
+use Rattle.pei_action.specs.Stay.{IsLater}
 use Rattle.pei_sound.specs.Sound.{IsSound, IsFiring}
 
 abbrev pub OpeningIsSound : Type 0
@@ -36,3 +37,7 @@ PopsAreSound = (s new : StoreState) (firing : Firing) → queue_pop s ≡ Some (
 -- the sweep of the core's own call
 abbrev pub CoreSweepsAreSound : Type 0
 CoreSweepsAreSound = (s new : StoreState) (sweep : Sweep) → core_install s ≡ Ok (sweep, new) → IsSweepOf new sweep
+
+-- what lies within the lists does so later too
+abbrev pub SweepsStay : Type 0
+SweepsStay = (s new : StoreState) (sweep : Sweep) → IsLater s new → IsSweepOf s sweep → IsSweepOf new sweep

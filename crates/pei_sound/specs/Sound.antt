@@ -1,6 +1,6 @@
 -- What a machine of PEI that runs keeps: registers hold pools and descriptors that are there, sweeps lie within the lists, and frames are few and of modules.
 -- Own.
-use Rattle.std.specs.Prelude.{ℕ, ◌≤◌, ◌<◌, length, IfSome}
+use Rattle.std.specs.Prelude.{◌≤◌, ◌<◌, length, IfSome}
 use Rattle.boot_model.specs.declared.frame.TheConstants.{MOST_FRAMES}
 use Rattle.boot_model.specs.declared.store_handle.Firing.{Firing}
 use Rattle.boot_model.specs.Lists.{Each}

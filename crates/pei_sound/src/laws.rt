@@ -1,5 +1,5 @@
 //! Laws of the machine of PEI, each on a function without a body.
-ghost use Rattle.pei_sound.specs.Laws.{OpeningIsSound, StepsKeepSound, StartsKeepSound, MatchesAreSound, PopsAreSound, CoreSweepsAreSound};
+ghost use Rattle.pei_sound.specs.Laws.{OpeningIsSound, StepsKeepSound, StartsKeepSound, MatchesAreSound, PopsAreSound, CoreSweepsAreSound, SweepsStay};
 
 /// The machine at the opening is sound.
 pub fn opening_is_sound()
@@ -29,4 +29,9 @@ pub fn pops_are_sound()
 /// The sweep of the core's own call lies within the lists.
 pub fn core_sweeps_are_sound()
     ensures { CoreSweepsAreSound }
+{}
+
+/// A sweep that lies within the lists lies within those of a later state.
+pub fn sweeps_stay()
+    ensures { SweepsStay }
 {}

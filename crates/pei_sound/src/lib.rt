@@ -5,5 +5,5 @@ mod laws;
 
 pub use laws::{
     core_sweeps_are_sound, matches_are_sound, opening_is_sound, pops_are_sound, starts_keep_sound,
-    steps_keep_sound,
+    steps_keep_sound, sweeps_stay,
 };
