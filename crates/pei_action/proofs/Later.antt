@@ -1,18 +1,16 @@
 -- A later state has the bodies of the one before it, and its lists are no shorter; a call that installs or registers makes the lists as long as its sweep says.
-use Rattle.std.proofs.Common.{◌≡◌, ℕ, suc, ◌+◌, ◌-◌, ◌≤◌, ◌<◌, Bool, true, false, not, cond, List, [], ◌∷◌, ◌++◌, length, take, drop, arith, sym, refl, ap, subst, ◌∙◌, Option, Some, ◌==◌, length-append, append-nil, append_assoc, ◌||◌}
+use Rattle.std.proofs.Common.{◌≡◌, ℕ, suc, ◌+◌, ◌-◌, ◌<◌, Bool, true, false, cond, List, [], ◌∷◌, ◌++◌, length, take, drop, arith, sym, refl, ap, subst, ◌∙◌, ◌==◌, length-append, append-nil, append_assoc, ◌||◌}
 use Rattle.std.specs.Prelude.{fold, unwrap_or}
 use Rattle.std.specs.List.{list_any}
 use Rattle.std.specs.Option.{option_map}
 use Rattle.std.proofs.lemmas.List.{take_at, drop_at}
 use Rattle.boot_model.specs.declared.state.Entry.{Entry}
-use Rattle.boot_model.specs.declared.state.HobEntry.{HobEntry}
-use Rattle.boot_model.specs.declared.state.DescriptorBody.{DescriptorBody}
 use Rattle.boot_model.specs.declared.state.Body.TheVariants.{Node, Descriptor}
 use Rattle.boot_model.specs.declared.store_handle.DescKind.{DescKind}
 use Rattle.boot_model.specs.declared.store_handle.DescKind.TheVariants.{Ppi, Callback, Dispatch}
 use Rattle.boot_model.specs.declared.store_handle.Desc.{Desc}
 use Rattle.boot_model.specs.Lists.{Each}
-use Rattle.boot_model.specs.StoreState.{StoreState, pool_of, body_at, next_body}
+use Rattle.boot_model.specs.StoreState.{StoreState, pool_of, next_body}
 use Rattle.boot_model.specs.StateFacts.{IsDesc}
 use Rattle.boot_model.specs.Service.Descriptor.{offsets, descriptors, kind_at, is_callback, descriptor_in}
 use Rattle.boot_model.specs.Service.Install.{with_ppi, with_pending, renamed, place_of}
@@ -126,5 +124,5 @@ callbacks_added by (d ∷ list) s u grown each =
     let rest : List ℕ = new_callbacks s list in
     let all : ℕ = length u.callbacks + length (new_callbacks s (d ∷ list)) in
     let one : length (with_note by u d).callbacks + length rest ≡ all =
-        subst (λ kind. length (with_note_of kind by u d).callbacks + length rest ≡ all) (sym (kind_stays s u d grown each.0)) (one_note (kind_at s d.offset) by u d rest) in
+    subst (λ kind. length (with_note_of kind by u d).callbacks + length rest ≡ all) (sym (kind_stays s u d grown each.0)) (one_note (kind_at s d.offset) by u d rest) in
     callbacks_added by list s (with_note by u d) (λ place body h. note_grows (kind_at u d.offset) by u d place body (grown place body h)) each.1 ∙ one

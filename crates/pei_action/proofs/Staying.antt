@@ -19,9 +19,9 @@ use Rattle.boot_model.specs.declared.frame.Register.TheVariants.{Number, PoolIn,
 use Rattle.boot_model.specs.declared.line.Extra.{Extra}
 use Rattle.boot_model.specs.declared.state.Entry.{Entry}
 use Rattle.boot_model.specs.declared.state.HobEntry.{HobEntry}
-use Rattle.boot_model.specs.declared.state.Body.TheVariants.{Bytes, Descriptor, Node}
+use Rattle.boot_model.specs.declared.state.Body.TheVariants.{Bytes, Descriptor}
 use Rattle.boot_model.specs.declared.store_handle.DescKind.{DescKind}
-use Rattle.boot_model.specs.declared.store_handle.DescKind.TheVariants.{Ppi, Callback, Dispatch}
+use Rattle.boot_model.specs.declared.store_handle.DescKind.TheVariants.{Ppi}
 use Rattle.boot_model.specs.declared.store_handle.Desc.{Desc}
 use Rattle.boot_model.specs.declared.store_handle.Pool.{Pool}
 use Rattle.boot_model.specs.declared.store_handle.Sweep.{Sweep}
@@ -143,9 +143,10 @@ installed_visits : (s : StoreState) (list : List Desc) (by : ℕ) → Visits (in
 installed_visits s list by =
     let added = ppis_added by list s in
     let all : (installed s list by).ppis ≡ s.ppis ++ added.0 = pendings_ppis by (install_pairs s list) (fold (with_ppi by) s list) ∙ added.1 in
-    let len : length (installed s list by).ppis ≡ length s.ppis + length added.0 = ap length all ∙ length-append s.ppis added.0 in
-    (record { ppis = omega (arith, len, added.3); notes = omega (arith, (installed_later s list by).callbacks) },
-    λ _. sym (ap (λ xs. descriptors (take (length s.ppis + length list - length s.ppis) (drop (length s.ppis) xs))) all ∙ (ap descriptors (behind s.ppis added.0 (length list) added.3) ∙ added.2)))
+    let len : length (installed s list by).ppis ≡ length s.ppis + length added.0 = ap length all ∙ length-append s.ppis added.0 in (
+      record { ppis = omega (arith, len, added.3); notes = omega (arith, (installed_later s list by).callbacks) },
+      λ _. sym (ap (λ xs. descriptors (take (length s.ppis + length list - length s.ppis) (drop (length s.ppis) xs))) all ∙ (ap descriptors (behind s.ppis added.0 (length list) added.3) ∙ added.2)),
+    )
 
 pub install_stays : (s : StoreState) (list : List Desc) (by : ℕ) (sweep : Sweep) (t : StoreState) → install s list by ≡ Ok (sweep, t) → IsLater s t × Visits t (Some sweep) (offsets list)
 install_stays s list by sweep t e =
@@ -184,9 +185,10 @@ reinstalled_visits s old new by is =
     let all : (reinstalled s old new by).ppis ≡ renamed s.ppis old.offset new.offset = pendings_ppis by (reinstall_pairs s new) (record s { ppis = renamed s.ppis old.offset new.offset }) in
     let at = renamed_at s.ppis old.offset new.offset is in
     let one : place + 1 - place ≡ 1 = omega arith in
-    let later = reinstalled_later s old new by in
-    (record { ppis = omega (arith, at.0, later.ppis); notes = omega (arith, later.callbacks) },
-    λ _. sym (ap (λ xs. descriptors (take (place + 1 - place) (drop place xs))) all ∙ (ap (λ n. descriptors (take n (drop place (renamed s.ppis old.offset new.offset)))) one ∙ at.1)))
+    let later = reinstalled_later s old new by in (
+      record { ppis = omega (arith, at.0, later.ppis); notes = omega (arith, later.callbacks) },
+      λ _. sym (ap (λ xs. descriptors (take (place + 1 - place) (drop place xs))) all ∙ (ap (λ n. descriptors (take n (drop place (renamed s.ppis old.offset new.offset)))) one ∙ at.1)),
+    )
 
 reinstall_on : (b : Bool) (s : StoreState) (old new : Desc) (by : ℕ) (sweep : Sweep) (t : StoreState) → is_installed s old ≡ b
     → cond (not b) (Err F.Missing) (in_room s (node_need (length (reinstall_pairs s new))) (Ok (reinstall_sweep s old, reinstalled s old new by))) ≡ Ok (sweep, t) → IsLater s t × Visits t (Some sweep) (new.offset ∷ [])
