@@ -1,6 +1,6 @@
 // Actions by their bytes over a store of plain lists: what each answers and what the registers hold after it, and each refusal.
 // A body of the heap stands 64 bytes behind its base at first, since the hand-off HOB has 56 and a HOB's header 8.
-ghost use Rattle.std.specs.Prelude.{IfSome, ◌≤◌, ◌+◌};
+ghost use Rattle.std.specs.Prelude.{IfOk, IfSome, ◌≤◌, ◌+◌};
 ghost use Rattle.act_code.specs.Script.{IsInGrammar};
 ghost use Rattle.boot_model.specs.StateFacts.{IsStoreState};
 ghost use Rattle.pei_action.specs.Needs.{HoldRegisters, IsModuleNumber, IsScriptAction};
@@ -98,9 +98,6 @@ fn first_action(script: &Script) -> Option<&Action>
 struct Bench {
     store: PlainStore,
     frame: Frame,
-    ghost facts: { IsStoreState (state_of store) },
-    ghost held: { HoldRegisters frame.registers (state_of store) },
-    ghost number: { IsModuleNumber frame.module_number },
 }
 
 impl Bench {
@@ -109,6 +106,7 @@ impl Bench {
         requires room { 0x1000 ≤ len }
         requires most { len ≤ 0x1_0000 }
         requires pages { pages + 64 ≤ len }
+        ensures { IfOk result (λ bench. IsStoreState (state_of bench.store) × HoldRegisters bench.frame.registers (state_of bench.store) × IsModuleNumber bench.frame.module_number) }
     {
         let mut bytes = Seq::new(alloc);
         bytes.append(&[0xaa; 16])?;
@@ -140,7 +138,13 @@ impl Bench {
 
     // One action.
     fn take(&mut self, action: &Action) -> Told
-        requires { IsScriptAction action.now }
+        requires action { IsScriptAction action.now }
+        requires facts { IsStoreState (state_of self.old.store) }
+        requires held { HoldRegisters self.old.frame.registers (state_of self.old.store) }
+        requires number { IsModuleNumber self.old.frame.module_number }
+        ensures facts { IsStoreState (state_of self.new.store) }
+        ensures held { HoldRegisters self.new.frame.registers (state_of self.new.store) }
+        ensures number { IsModuleNumber self.new.frame.module_number }
     {
         registers_stay();
         match take_action(&mut self.store, &mut self.frame, action) {
@@ -150,7 +154,14 @@ impl Bench {
     }
 
     // One action, by its bytes.
-    fn act(&mut self, alloc: Global, bytes: &[u8]) -> Told {
+    fn act(&mut self, alloc: Global, bytes: &[u8]) -> Told
+        requires facts { IsStoreState (state_of self.old.store) }
+        requires held { HoldRegisters self.old.frame.registers (state_of self.old.store) }
+        requires number { IsModuleNumber self.old.frame.module_number }
+        ensures facts { IsStoreState (state_of self.new.store) }
+        ensures held { HoldRegisters self.new.frame.registers (state_of self.new.store) }
+        ensures number { IsModuleNumber self.new.frame.module_number }
+    {
         let script = match script_of(alloc, bytes) {
             Ok(bytes) => read_script(alloc, bytes.as_slice()),
             Err(OutOfMemory) => return Told::NotTaken,
@@ -163,6 +174,37 @@ impl Bench {
             Some(action) => self.take(action),
             None => Told::NotTaken,
         }
+    }
+
+    // The same where the last call answered so.
+    fn act_after(&mut self, alloc: Global, last: Word, bytes: &[u8]) -> Told
+        requires facts { IsStoreState (state_of self.old.store) }
+        requires held { HoldRegisters self.old.frame.registers (state_of self.old.store) }
+        requires number { IsModuleNumber self.old.frame.module_number }
+        ensures facts { IsStoreState (state_of self.new.store) }
+        ensures held { HoldRegisters self.new.frame.registers (state_of self.new.store) }
+        ensures number { IsModuleNumber self.new.frame.module_number }
+    {
+        self.frame.last = last;
+        self.act(alloc, bytes)
+    }
+
+    // Each of these actions; the first that answers otherwise.
+    fn first_other(&mut self, alloc: Global, steps: &[(&[u8], Told)]) -> Option<usize>
+        requires facts { IsStoreState (state_of self.old.store) }
+        requires held { HoldRegisters self.old.frame.registers (state_of self.old.store) }
+        requires number { IsModuleNumber self.old.frame.module_number }
+        ensures facts { IsStoreState (state_of self.new.store) }
+        ensures held { HoldRegisters self.new.frame.registers (state_of self.new.store) }
+        ensures number { IsModuleNumber self.new.frame.module_number }
+    {
+        'steps: for at in 0..steps.len() {
+            let (bytes, answer) = steps[at];
+            if self.act(alloc, bytes) != answer {
+                return Some(at);
+            }
+        }
+        None
     }
 }
 
@@ -212,9 +254,7 @@ const POOLS: [(&[u8], Told); 20] = [
 #[test]
 fn numbers_and_pools(rt: HostRuntime) -> Result<(), Fail> {
     let mut bench = Bench::new(rt.alloc(), 0x1_0000, 0)?;
-    for (bytes, answer) in &POOLS {
-        assert_eq!(rt; bench.act(rt.alloc(), bytes), *answer, "{bytes:?}");
-    }
+    assert_eq!(rt; bench.first_other(rt.alloc(), &POOLS), None);
     let mut registers = [Register::Empty; REGISTERS];
     registers[1] = Register::Number(4);
     registers[3] = Register::PoolIn(Pool {
@@ -268,9 +308,7 @@ const PPIS: [(&[u8], Told); 20] = [
 #[test]
 fn ppis_and_notifications(rt: HostRuntime) -> Result<(), Fail> {
     let mut bench = Bench::new(rt.alloc(), 0x1_0000, 0)?;
-    for (bytes, answer) in &PPIS {
-        assert_eq!(rt; bench.act(rt.alloc(), bytes), *answer, "{bytes:?}");
-    }
+    assert_eq!(rt; bench.first_other(rt.alloc(), &PPIS), None);
     let mut registers = [Register::Empty; REGISTERS];
     registers[1] = Register::Number(5);
     registers[2] = Register::DescriptorIn(Desc { offset: 0x40 });
@@ -311,9 +349,7 @@ const FILLED: [(&[u8], Told); 15] = [
 #[test]
 fn a_heap_that_is_full(rt: HostRuntime) -> Result<(), Fail> {
     let mut bench = Bench::new(rt.alloc(), 0x1000, 0)?;
-    for (bytes, answer) in &FILLED {
-        assert_eq!(rt; bench.act(rt.alloc(), bytes), *answer, "{bytes:?}");
-    }
+    assert_eq!(rt; bench.first_other(rt.alloc(), &FILLED), None);
     assert_eq!(rt; bench.frame.registers[6], Register::Empty);
     Ok(())
 }
@@ -350,9 +386,7 @@ const MEMORY: [(&[u8], Told); 21] = [
 #[test]
 fn hobs_pages_and_modes(rt: HostRuntime) -> Result<(), Fail> {
     let mut bench = Bench::new(rt.alloc(), 0x1_0000, 0x2000)?;
-    for (bytes, answer) in &MEMORY {
-        assert_eq!(rt; bench.act(rt.alloc(), bytes), *answer, "{bytes:?}");
-    }
+    assert_eq!(rt; bench.first_other(rt.alloc(), &MEMORY), None);
     let mut registers = [Register::Empty; REGISTERS];
     registers[1] = Register::Number(0x8000_f000);
     registers[2] = Register::Number(0x4000_0000);
@@ -368,18 +402,23 @@ fn hobs_pages_and_modes(rt: HostRuntime) -> Result<(), Fail> {
 #[test]
 fn skips_and_ends(rt: HostRuntime) -> Result<(), Fail> {
     let mut bench = Bench::new(rt.alloc(), 0x1_0000, 0)?;
-    for (last, condition, skipped) in [
-        (Word::Success, 0, 1),
-        (Word::Success, 1, 0),
-        (Word::NotFound, 0, 0),
-        (Word::NotFound, 1, 1),
-    ] {
-        bench.frame.last = last;
-        assert_eq!(rt;
-            bench.act(rt.alloc(), &[0x12, condition, 1]),
-            Told::Skipped(skipped)
-        );
-    }
+    let alloc = rt.alloc();
+    assert_eq!(rt;
+        bench.act_after(alloc, Word::Success, b"\x12\0\x01"),
+        Told::Skipped(1)
+    );
+    assert_eq!(rt;
+        bench.act_after(alloc, Word::Success, b"\x12\x01\x01"),
+        Told::Skipped(0)
+    );
+    assert_eq!(rt;
+        bench.act_after(alloc, Word::NotFound, b"\x12\0\x01"),
+        Told::Skipped(0)
+    );
+    assert_eq!(rt;
+        bench.act_after(alloc, Word::NotFound, b"\x12\x01\x01"),
+        Told::Skipped(1)
+    );
     assert_eq!(rt;
         bench.act(rt.alloc(), b"\x13\x06"),
         Told::Returned(Word::AccessDenied)
