@@ -1,7 +1,11 @@
 pub mod Acting
-pub mod Between
+pub mod Calls
 pub mod Cases
+pub mod Fired
 pub mod Going
+pub mod Moving
+pub mod Reports
 pub mod Scripts
+pub mod Shadowed
 pub mod Staged
 pub mod Sweeps

@@ -8,7 +8,7 @@ use Rattle.boot_model.specs.StoreState.{StoreState}
 use Rattle.boot_model.specs.StateFacts.{IsSweepOf}
 use Rattle.boot_model.specs.PeiMachine.{PeiMachine}
 use Rattle.boot_model.specs.PeiStep.{open_sweep}
-use Rattle.pei_core.specs.Sound.{IsSound}
+use Rattle.pei_sound.specs.Sound.{IsSound}
 
 some_of : (P : Sweep → Type 0) (o : Option Sweep) (sweep : Sweep) → IfSome o P → o ≡ Some sweep → P sweep
 some_of P None sweep h e = cc

@@ -1,15 +1,15 @@
 -- The machine after an action that its top frame has taken, with the state of the store and the frame's registers as they are then.
 -- Own.
-use Rattle.std.specs.Prelude.{◌≡◌, ◌⊎◌, ℕ, ◌-◌, List, [], ◌∷◌, ◌++◌, Option, Some, None, take, drop, ⊤}
+use Rattle.std.specs.Prelude.{List, [], ◌∷◌, ◌++◌, ⊤}
 use Rattle.boot_model.specs.declared.catalog.Catalog.{Catalog}
 use Rattle.boot_model.specs.declared.line.Line.TheVariants as L
-use Rattle.boot_model.specs.declared.store_handle.Sweep.{Sweep}
 use Rattle.boot_model.specs.StoreState.{StoreState}
-use Rattle.boot_model.specs.Service.Descriptor.{descriptors, offsets}
+use Rattle.boot_model.specs.Service.Descriptor.{offsets}
 use Rattle.boot_model.specs.declared.frame.Frame.{Frame}
 use Rattle.boot_model.specs.PeiMachine.{PeiMachine, printed}
 use Rattle.boot_model.specs.PeiStep.{past, report_lines, shadowed}
 use Rattle.boot_model.specs.Reporting.{reports}
+use Rattle.pei_action.specs.Stay.{Visits}
 use Rattle.pei_action.specs.declared.taken.Reply.{Reply}
 use Rattle.pei_action.specs.declared.taken.Taken.{Taken}
 use Rattle.pei_action.specs.declared.taken.Taken.TheVariants as T
@@ -31,15 +31,11 @@ after_taken catalog m frame below (T.Logged text) new = record (printed m (L.Log
 after_taken catalog m frame below (T.Skipped n) new = record m { store = new; frames = past frame n ∷ below }
 after_taken catalog m frame below (T.Returned status) new = record (printed m (L.End status ∷ [])) { store = new; frames = below }
 
--- the PPIs that a call installed are those with which its sweep begins
-abbrev pub AreInstalled : Option Sweep → List ℕ → StoreState → Type 0
-AreInstalled None installs s = installs ≡ []
-AreInstalled (Some sweep) installs s = (installs ≡ []) ⊎ (installs ≡ descriptors (take (sweep.ppi_to - sweep.ppi_at) (drop sweep.ppi_at s.ppis)))
-
-abbrev pub TellsInstalls : Taken → StoreState → Type 0
-TellsInstalls (T.Called reply) s = AreInstalled reply.sweep (offsets reply.installs) s
-TellsInstalls (T.Wrote status) s = ⊤
-TellsInstalls T.Shadowed s = ⊤
-TellsInstalls (T.Logged text) s = ⊤
-TellsInstalls (T.Skipped n) s = ⊤
-TellsInstalls (T.Returned status) s = ⊤
+-- what a call that was answered visits, and installed
+abbrev pub TellsVisits : Taken → StoreState → Type 0
+TellsVisits (T.Called reply) s = Visits s reply.sweep (offsets reply.installs)
+TellsVisits (T.Wrote status) s = ⊤
+TellsVisits T.Shadowed s = ⊤
+TellsVisits (T.Logged text) s = ⊤
+TellsVisits (T.Skipped n) s = ⊤
+TellsVisits (T.Returned status) s = ⊤

@@ -5,7 +5,7 @@ use Rattle.boot_model.specs.declared.catalog.Catalog.{Catalog}
 use Rattle.boot_model.specs.StoreState.{StoreState}
 use Rattle.boot_model.specs.PeiMachine.{PeiMachine}
 use Rattle.pei_choice.specs.Standing.{AreStages}
-use Rattle.pei_core.specs.Sound.{IsSound}
+use Rattle.pei_sound.specs.Sound.{IsSound}
 use Rattle.volume_list.specs.Known.{AreKnown}
 use Rattle.pei_core.specs.declared.core_state.Core.{Core}
 use Rattle.pei_core.specs.declared.pei.Pei.{Pei}

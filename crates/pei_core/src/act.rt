@@ -20,7 +20,7 @@ use crate::taken::{end_frame, finish};
 use act_code::Action;
 use boot_io::Sink;
 use boot_model::{Catalog, Frame, PeiStore};
-use pei_action::take_action;
+use pei_action::{replies_are_sound, take_action};
 use pei_choice::pei_part;
 use pi_base::{OutOfMemory, Seq, Word};
 
@@ -64,6 +64,7 @@ fn take<M: PeiStore, S: Sink>(
     ensures faults { BrokenAfter result (S.faults sink.old) (S.faults sink.new) }
     ensures core { (fuel : ℕ) → IsCoreFor catalog.now fuel core.old → IsCoreFor catalog.now fuel core.new }
 {
+    replies_are_sound();
     let mut acting = frame;
     match take_action(store, &mut acting, action) {
         Ok(taken) => finish(store, core, catalog, acting, taken, sink),

@@ -1,5 +1,5 @@
 // The answer of a call: its line, the volumes that it reports, and its sweep.
-ghost use Rattle.std.specs.Prelude.{◌≡◌, ◌<◌, ◌++◌, ◌∷◌, ℕ, List, false};
+ghost use Rattle.std.specs.Prelude.{◌≡◌, ◌<◌, ◌≤◌, ◌++◌, ◌∷◌, ℕ, List, length, false};
 ghost use Rattle.boot_model.specs.PeiMachine.{PeiMachine};
 ghost use Rattle.boot_model.specs.PeiStep as P;
 ghost use Rattle.boot_model.specs.Reporting.{reports};
@@ -10,7 +10,8 @@ ghost use Rattle.boot_model.specs.StoreState.{StoreState};
 ghost use Rattle.boot_model.specs.WellFormed.{IsWellFormed};
 ghost use Rattle.boot_model.specs.declared.frame.Frame.{Frame as OfFrame};
 ghost use Rattle.volume_list.specs.Known.{AreKnown};
-ghost use Rattle.pei_core.specs.AfterTaken.{after_reply, AreInstalled};
+ghost use Rattle.pei_action.specs.Stay.{Visits};
+ghost use Rattle.pei_core.specs.AfterTaken.{after_reply};
 ghost use Rattle.pei_core.specs.Leaves.{Goes, BrokenAfter};
 ghost use Rattle.pei_core.specs.Standing.{IsCoreOf, IsCoreFor};
 
@@ -47,8 +48,9 @@ fn look_for_volumes<M: PeiStore>(
     requires catalog { IsWellFormed catalog.now }
     requires known { AreKnown catalog.now reported.old }
     requires state { Present (M.stands_for store.now) Anything }
-    ensures reported { (s : StoreState) → M.stands_for store.now s → AreInstalled sweep (offsets installs.now) s → reported.new ≡ reported.old ++ reports catalog.now s reported.old (offsets installs.now) }
+    ensures reported { (s : StoreState) → M.stands_for store.now s → Visits s sweep (offsets installs.now) → reported.new ≡ reported.old ++ reports catalog.now s reported.old (offsets installs.now) }
     ensures known { AreKnown catalog.now reported.new }
+    ensures longer { length reported.old ≤ length reported.new }
 {
     match sweep {
         Some(open) if !installs.as_slice().is_empty() => {
@@ -71,7 +73,7 @@ pub(crate) fn called<M: PeiStore, S: Sink>(
     requires known { AreKnown catalog.now core.old.reported }
     requires position { frame.position < MOST_ACTIONS }
     requires state { Present (M.stands_for store.now) Anything }
-    ensures row { (m : PeiMachine) (old : OfFrame) (below : List OfFrame) (new : StoreState) → IsCoreOf core.old m → m.frames ≡ old ∷ below → M.stands_for store.now new → AreInstalled reply.sweep (offsets reply.installs) new → Goes false (M.stands_for store.now) core.new m (after_reply catalog.now m frame below reply new) (record { old = S.text sink.old; new = S.text sink.new }) result }
+    ensures row { (m : PeiMachine) (old : OfFrame) (below : List OfFrame) (new : StoreState) → IsCoreOf core.old m → m.frames ≡ old ∷ below → M.stands_for store.now new → Visits new reply.sweep (offsets reply.installs) → Goes false (M.stands_for store.now) core.new m (after_reply catalog.now m frame below reply new) (record { old = S.text sink.old; new = S.text sink.new }) result }
     ensures faults { BrokenAfter result (S.faults sink.old) (S.faults sink.new) }
     ensures core { (fuel : ℕ) → IsCoreFor catalog.now fuel core.old → IsCoreFor catalog.now fuel core.new }
 {

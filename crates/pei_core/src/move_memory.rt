@@ -2,13 +2,13 @@
 ghost use Rattle.std.specs.Prelude.{◌≡◌, ℕ, Some};
 ghost use Rattle.boot_model.specs.declared.catalog.Catalog.{Catalog as OfCatalog};
 ghost use Rattle.boot_model.specs.Migration.{migration};
-ghost use Rattle.boot_model.specs.PeiAction as A;
 ghost use Rattle.boot_model.specs.PeiMachine.{PeiMachine};
 ghost use Rattle.boot_model.specs.PeiStep as P;
 ghost use Rattle.boot_model.specs.Service.{Present};
 ghost use Rattle.boot_model.specs.Service.Install.{core_install};
 ghost use Rattle.boot_model.specs.StoreCall.{Anything, IsDue};
 ghost use Rattle.boot_model.specs.StoreState.{StoreState};
+ghost use Rattle.pei_core.specs.Told.{told_as};
 ghost use Rattle.pei_core.specs.Leaves.{Goes, BrokenAfter};
 ghost use Rattle.pei_core.specs.Standing.{IsCoreOf, IsCoreFor};
 
@@ -19,16 +19,16 @@ use boot_io::Sink;
 use boot_model::{Line, PeiStore, StoreFault};
 use pi_base::Word;
 
-// What a script would be told of a fault.
-fn status_of(fault: StoreFault) -> Word
-    ensures { result ≡ A.status_of fault }
+// What a fault is told as. None for want of memory, which is told to nobody.
+fn told_as(fault: StoreFault) -> Option<Word>
+    ensures { result ≡ told_as fault }
 {
     match fault {
-        StoreFault::Full => Word::OutOfResources,
-        StoreFault::Bad => Word::InvalidParameter,
-        StoreFault::Missing => Word::NotFound,
-        StoreFault::NotYet => Word::NotAvailableYet,
-        StoreFault::Memory => Word::OutOfResources,
+        StoreFault::Full => Some(Word::OutOfResources),
+        StoreFault::Bad => Some(Word::InvalidParameter),
+        StoreFault::Missing => Some(Word::NotFound),
+        StoreFault::NotYet => Some(Word::NotAvailableYet),
+        StoreFault::Memory => None,
     }
 }
 
@@ -53,16 +53,13 @@ fn install_memory<M: PeiStore, S: Sink>(
                 },
             ))
         }
-        Err(StoreFault::Memory) => Err(Broken::Memory),
-        Err(fault) => {
-            core.sweep = None;
-            told(put(
-                sink,
-                &Line::CoreInstall {
-                    status: status_of(fault),
-                },
-            ))
-        }
+        Err(fault) => match told_as(fault) {
+            Some(status) => {
+                core.sweep = None;
+                told(put(sink, &Line::CoreInstall { status }))
+            }
+            None => Err(Broken::Memory),
+        },
     }
 }
 

@@ -20,6 +20,7 @@ use crate::core_fault::CoreFault;
 use crate::core_state::Core;
 use crate::frames::Frames;
 use pei_choice::Stage;
+use pei_sound::{opening_is_sound, starts_keep_sound, steps_keep_sound};
 use crate::stages;
 use crate::start::start_module;
 use crate::step::step;
@@ -58,6 +59,7 @@ impl<M: PeiStore + Drop> Pei<M> {
         ensures opening { IfOk result (λ pei. (board : Board) → M.stands_for store (empty_store board) → StandsFor M.stands_for pei (pei_opening board catalog.now)) }
         ensures made { IfOk result (IsFor catalog.now fuel) }
     {
+        opening_is_sound();
         let mut reported = VolumeList::new();
         reported.add(catalog, Some(0));
         match stages::waiting(alloc, catalog.modules.len()) {
@@ -91,6 +93,7 @@ impl<M: PeiStore + Drop> Pei<M> {
         ensures made { (fuel : ℕ) → IsFor catalog.now fuel self.old → IsFor catalog.now fuel self.new }
         ensures faults { FaultsAfter result (S.faults sink.old) (S.faults sink.new) }
     {
+        steps_keep_sound();
         step(&mut self.store, &mut self.core, catalog, sink)
     }
 
@@ -110,10 +113,8 @@ impl<M: PeiStore + Drop> Pei<M> {
         ensures made { (fuel : ℕ) → IsFor catalog.now fuel self.old → IsFor catalog.now fuel self.new }
         ensures faults { SinkFaultsAfter result (S.faults sink.old) (S.faults sink.new) }
     {
-        match start_module(&mut self.core, catalog, number, licence, sink) {
-            Ok(()) => Ok(()),
-            Err(_) => Err(SinkFault),
-        }
+        starts_keep_sound();
+        start_module(&mut self.core, catalog, number, licence, sink)
     }
 
     /// The store.

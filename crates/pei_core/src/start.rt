@@ -1,5 +1,5 @@
 // The start of a module.
-ghost use Rattle.std.specs.Prelude.{◌≡◌, ◌<◌, [], ℕ, true, false, Some, length, is_some};
+ghost use Rattle.std.specs.Prelude.{◌≡◌, ◌<◌, [], ℕ, true, Some, length, is_some};
 ghost use Rattle.boot_io.specs.Sink.{Puts, SinkFaultsAfter};
 ghost use Rattle.boot_model.specs.Text.{text_of};
 ghost use Rattle.boot_model.specs.Eligible.{licence_at};
@@ -8,13 +8,12 @@ ghost use Rattle.boot_model.specs.PeiMachine.{PeiMachine};
 ghost use Rattle.boot_model.specs.PeiStep.{started};
 ghost use Rattle.boot_model.specs.declared.catalog.Part.{Part as OfPart};
 ghost use Rattle.pi_base.specs.declared.phase.Phase.TheVariants.{Pei};
-ghost use Rattle.pei_core.specs.Leaves.{Goes, BrokenAfter};
-ghost use Rattle.pei_core.specs.Starting.{has_block, lines_of};
+ghost use Rattle.pei_core.specs.Starting.{Begins, first_frames, has_block, lines_of};
 ghost use Rattle.pei_core.specs.Standing.{IsCoreOf, IsCoreFor};
 
-use crate::broken::{Broken, told};
 use crate::core_state::Core;
 use crate::fire::frame_at;
+use crate::frames::Frames;
 use crate::names::start_line;
 use crate::print::put;
 use crate::stages::start;
@@ -52,6 +51,16 @@ fn put_start<S: Sink>(sink: &mut S, line: &Line, runs: bool) -> Result<(), SinkF
     }
 }
 
+// Its script begins, where it has one.
+fn begin_script(frames: &mut Frames, number: u32, runs: bool)
+    requires { frames.old ≡ [] }
+    ensures { frames.new ≡ first_frames number runs }
+{
+    if runs {
+        frames.push(frame_at(number, 0, [Register::Empty; REGISTERS]));
+    }
+}
+
 /// A module starts.
 pub(crate) fn start_module<S: Sink>(
     core: &mut Core,
@@ -59,12 +68,12 @@ pub(crate) fn start_module<S: Sink>(
     number: u32,
     licence: Licence,
     sink: &mut S,
-) -> Result<(), Broken>
+) -> Result<(), SinkFault>
     requires idle { core.old.frames ≡ [] }
     requires here { number < length core.old.stages }
     requires part { is_some (part_at Pei catalog.now number) ≡ true }
-    ensures row { (m : PeiMachine) → IsCoreOf core.old m → ((part : OfPart) → part_at Pei catalog.now number ≡ Some part → licence ≡ licence_at m number part) → Goes false (λ s. s ≡ m.store) core.new m (started catalog.now m number) (record { old = S.text sink.old; new = S.text sink.new }) result }
-    ensures faults { BrokenAfter result (S.faults sink.old) (S.faults sink.new) }
+    ensures row { (m : PeiMachine) → IsCoreOf core.old m → ((part : OfPart) → part_at Pei catalog.now number ≡ Some part → licence ≡ licence_at m number part) → Begins core.new m (started catalog.now m number) (record { old = S.text sink.old; new = S.text sink.new }) result }
+    ensures faults { SinkFaultsAfter result (S.faults sink.old) (S.faults sink.new) }
     ensures core { (fuel : ℕ) → IsCoreFor catalog.now fuel core.old → IsCoreFor catalog.now fuel core.new }
 {
     let runs = has_block(catalog, number);
@@ -72,8 +81,6 @@ pub(crate) fn start_module<S: Sink>(
     core.sweep = None;
     core.starts = core.starts.saturating_add(1);
     core.last_start = Some(number);
-    if runs {
-        core.frames.push(frame_at(number, 0, [Register::Empty; REGISTERS]));
-    }
-    told(put_start(sink, &start_line(catalog, number, licence), runs))
+    begin_script(&mut core.frames, number, runs);
+    put_start(sink, &start_line(catalog, number, licence), runs)
 }

@@ -52,6 +52,26 @@ fn step_between<M: PeiStore, S: Sink>(
     }
 }
 
+// A step where no pair of the open sweep fires.
+fn step_on<M: PeiStore, S: Sink>(
+    store: &mut M,
+    core: &mut Core,
+    catalog: &Catalog,
+    sink: &mut S,
+) -> Result<Stepped, CoreFault>
+    requires catalog { IsWellFormed catalog.now }
+    requires core { IsCoreFor catalog.now core.old.fuel core.old }
+    requires state { (m : PeiMachine) × StandFor (M.stands_for store.old) core.old m }
+    ensures row { (m : PeiMachine) → StandFor (M.stands_for store.old) core.old m → option_and_then (next_match m.store) (open_sweep m m.frames) ≡ None → StepsTo M.TAKES_MEMORY (Have (M.stands_for store.new) core.new) m (pei_step catalog.now core.old.fuel m) (record { old = S.text sink.old; new = S.text sink.new }) result }
+    ensures faults { FaultsAfter result (S.faults sink.old) (S.faults sink.new) }
+    ensures core { IsCoreFor catalog.now core.old.fuel core.new }
+{
+    match core.frames.top() {
+        Some(frame) => went(act(store, core, catalog, frame, sink)),
+        None => step_between(store, core, catalog, sink),
+    }
+}
+
 /// One step.
 pub(crate) fn step<M: PeiStore, S: Sink>(
     store: &mut M,
@@ -66,11 +86,8 @@ pub(crate) fn step<M: PeiStore, S: Sink>(
     ensures faults { FaultsAfter result (S.faults sink.old) (S.faults sink.new) }
     ensures core { IsCoreFor catalog.now core.old.fuel core.new }
 {
-    if let Some((firing, sweep)) = next_firing(store, core) {
-        return went(begin_callback(core, catalog, firing, sweep, sink));
-    }
-    match core.frames.top() {
-        Some(frame) => went(act(store, core, catalog, frame, sink)),
-        None => step_between(store, core, catalog, sink),
+    match next_firing(store, core) {
+        Some((firing, sweep)) => went(begin_callback(core, catalog, firing, sweep, sink)),
+        None => step_on(store, core, catalog, sink),
     }
 }

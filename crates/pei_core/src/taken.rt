@@ -10,7 +10,7 @@ ghost use Rattle.boot_model.specs.StoreState.{StoreState};
 ghost use Rattle.boot_model.specs.WellFormed.{IsWellFormed};
 ghost use Rattle.boot_model.specs.declared.frame.Frame.{Frame as OfFrame};
 ghost use Rattle.volume_list.specs.Known.{AreKnown};
-ghost use Rattle.pei_core.specs.AfterTaken.{after_taken, TellsInstalls};
+ghost use Rattle.pei_core.specs.AfterTaken.{after_taken, TellsVisits};
 ghost use Rattle.pei_core.specs.Leaves.{Goes, BrokenAfter};
 ghost use Rattle.pei_core.specs.Standing.{IsCoreOf, IsCoreFor};
 ghost use Rattle.pei_core.specs.declared.called.TheConstants.{MOST_ACTIONS};
@@ -75,7 +75,7 @@ pub(crate) fn finish<M: PeiStore, S: Sink>(
     requires here { frame.module_number < length core.old.stages }
     requires position { frame.position < MOST_ACTIONS }
     requires state { Present (M.stands_for store.now) Anything }
-    ensures row { (m : PeiMachine) (old : OfFrame) (below : List OfFrame) (new : StoreState) → IsCoreOf core.old m → m.frames ≡ old ∷ below → M.stands_for store.now new → TellsInstalls taken new → Goes false (M.stands_for store.now) core.new m (after_taken catalog.now m frame below taken new) (record { old = S.text sink.old; new = S.text sink.new }) result }
+    ensures row { (m : PeiMachine) (old : OfFrame) (below : List OfFrame) (new : StoreState) → IsCoreOf core.old m → m.frames ≡ old ∷ below → M.stands_for store.now new → TellsVisits taken new → Goes false (M.stands_for store.now) core.new m (after_taken catalog.now m frame below taken new) (record { old = S.text sink.old; new = S.text sink.new }) result }
     ensures faults { BrokenAfter result (S.faults sink.old) (S.faults sink.new) }
     ensures core { (fuel : ℕ) → IsCoreFor catalog.now fuel core.old → IsCoreFor catalog.now fuel core.new }
 {

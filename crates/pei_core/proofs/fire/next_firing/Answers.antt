@@ -1,13 +1,9 @@
-use Rattle.std.proofs.Common.{rules, ◌≡◌, ℕ, false, ◌+◌, ◌-◌, ◌*◌, ◌<◌, ◌≤◌, length, ◌/◌, ◌%◌, Bool, true, nat_eq, nat_lt, List, [], ◌∷◌, ◌++◌, slice_index_or, slice_set, bit_and, bit_or, Fits, w8, w32, w64, Bor, MutBor}
-use Rattle.std.specs.Option.{option_and_then}
-use Rattle.boot_model.specs.PeiMachine.{PeiMachine}
-use Rattle.boot_model.specs.PeiMachine.{frame_at as at}
-use Rattle.boot_model.specs.PeiStep as P
-use Rattle.boot_model.specs.Service.Sweep.{next_match}
-use Rattle.pei_core.specs.Leaves.{Leaves, FaultsAfter}
-use Rattle.pei_core.specs.Standing.{IsCoreOf, IsCoreFor, StandFor}
+use Rattle.std.proofs.Common.{sym, ◌∙◌}
+use Rattle.pei_core.proofs.Sweeps.{open_is}
 use Rattle.pei_core.proofs.fire.next_firing.Goals as goal
 
--- src/fire.rt:62:19
 pub next_match-requires : goal.next_match-requires
-next_match-requires g c = ?
+next_match-requires g c =
+    let m = c.requires.state.0 in
+    let h = c.requires.state.1 in
+    record { state = (m.store, h.store, open_is m c.in-Some.open h.sound (sym (c.open_sweep.ensures m h.fields) ∙ c.in-Some.is)) }

@@ -1,25 +1,20 @@
-use Rattle.std.proofs.Common.{rules, ◌≡◌, ℕ, Some, ◌+◌, ◌-◌, ◌*◌, ◌<◌, ◌≤◌, length, ◌/◌, ◌%◌, Bool, true, false, nat_eq, nat_lt, List, [], ◌∷◌, ◌++◌, slice_index_or, slice_set, bit_and, bit_or, Fits, w8, w32, w64, Bor, MutBor}
-use Rattle.boot_model.specs.declared.catalog.Catalog.{Catalog as OfCatalog}
-use Rattle.boot_model.specs.Migration.{migration}
-use Rattle.boot_model.specs.PeiAction as A
-use Rattle.boot_model.specs.PeiStep as P
-use Rattle.boot_model.specs.PeiMachine.{PeiMachine}
-use Rattle.boot_model.specs.Service.{Present}
+use Rattle.std.proofs.Common.{◌≡◌, ℕ, refl, sym, subst, Result, Ok, Err, ap, ◌∙◌}
+use Rattle.boot_model.specs.declared.store_handle.Sweep.{Sweep}
+use Rattle.boot_model.specs.declared.store_handle.StoreFault.{StoreFault}
+use Rattle.boot_model.specs.declared.store_handle.StoreFault.TheVariants as F
+use Rattle.boot_model.specs.Service.{Answers}
 use Rattle.boot_model.specs.Service.Install.{core_install}
-use Rattle.boot_model.specs.StoreCall.{Anything, IsDue}
-use Rattle.boot_model.specs.StoreState.{StoreState}
-use Rattle.pei_core.specs.Leaves.{Goes, BrokenAfter}
-use Rattle.pei_core.specs.Standing.{IsCoreOf, IsCoreFor}
+use Rattle.pei_core.proofs.Moving.{installed, refused, wanting}
 use Rattle.pei_core.proofs.move_memory.install_memory.Goals as goal
 
--- src/move_memory.rt:36:1
 pub returns-in-Ok-clause-row : goal.returns-in-Ok-clause-row
-returns-in-Ok-clause-row g c = ?
+returns-in-Ok-clause-row g c m stand of =
+    let T = g.S.Sink.text in
+    let a = c.in-Ok.ensures.row m.store (stand, tt) in
+    installed m (core_install m.store) a.0 c.in-Ok.sweep g.M.PeiStore.TAKES_MEMORY (g.M.PeiStore.stands_for c.core_install.new.self) c.args.core.now c.put.result c.told.result (T c.args.sink.now) (T c.put.new.sink) a.1 a.2 of c.told.ensures c.put.ensures.text
 
--- src/move_memory.rt:36:1
 pub returns-in-Err-Memory-clause-row : goal.returns-in-Err-Memory-clause-row
-returns-in-Err-Memory-clause-row g c = ?
+returns-in-Err-Memory-clause-row g c m stand of = ?
 
--- src/move_memory.rt:36:1
 pub returns-in-Err : goal.returns-in-Err
 returns-in-Err g c = ?

@@ -1,20 +1,10 @@
-use Rattle.std.proofs.Common.{rules, ◌≡◌, ◌<◌, [], ◌∷◌, ℕ, List, length, false, ◌+◌, ◌-◌, ◌*◌, ◌≤◌, ◌/◌, ◌%◌, Bool, true, nat_eq, nat_lt, ◌++◌, slice_index_or, slice_set, bit_and, bit_or, Fits, w8, w32, w64, Bor, MutBor}
-use Rattle.boot_model.specs.declared.catalog.Catalog.{Catalog as OfCatalog}
-use Rattle.boot_model.specs.declared.line.Line.TheVariants as L
-use Rattle.boot_model.specs.PeiMachine.{PeiMachine, printed}
-use Rattle.boot_model.specs.PeiStep as P
-use Rattle.boot_model.specs.Service.{Present}
-use Rattle.boot_model.specs.StoreCall.{Anything}
-use Rattle.boot_model.specs.StoreState.{StoreState}
-use Rattle.boot_model.specs.WellFormed.{IsWellFormed}
-use Rattle.boot_model.specs.declared.frame.Frame.{Frame as OfFrame}
-use Rattle.volume_list.specs.Known.{AreKnown}
-use Rattle.pei_core.specs.AfterTaken.{after_taken, TellsInstalls}
-use Rattle.pei_core.specs.Leaves.{Goes, BrokenAfter}
-use Rattle.pei_core.specs.Standing.{IsCoreOf, IsCoreFor}
-use Rattle.pei_core.specs.declared.called.TheConstants.{MOST_ACTIONS}
+use Rattle.std.proofs.Common.{◌≡◌, refl, sym, ap, ◌∙◌, List, [], ◌∷◌, false}
+use Rattle.pei_core.proofs.Shadowed.{shadowed_goes}
 use Rattle.pei_core.proofs.taken.shadowed.Goals as goal
 
--- src/taken.rt:29:1
 pub returns-clause-row : goal.returns-clause-row
-returns-clause-row g c = ?
+returns-clause-row g c m old below new of e =
+    let T = g.S.Sink.text in
+    let top = c.set_top.ensures old below (sym of.frames ∙ e) in
+    shadowed_goes m c.args.frame below new c.args.core.now c.past-behind.result c.set_top.new.self c.register-status.new.stages c.register-status.result c.put.result c.told.result (T c.args.sink.now) (T c.put.new.sink)
+    of c.requires.here c.past-behind.ensures top c.register-status.ensures.stages c.register-status.ensures.status c.told.ensures c.put.ensures.text
