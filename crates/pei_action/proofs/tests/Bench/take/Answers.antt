@@ -21,13 +21,13 @@ kept before after frame later action result stay acts facts held =
     (subst IsStoreState done.2.0 done.2.1, subst (λ s. HoldRegisters later.registers s) done.2.0 holds)
 
 pub returns-in-Ok-clause-facts : goal.returns-in-Ok-clause-facts
-returns-in-Ok-clause-facts c = (kept _ _ c.args.self.now.frame c.take_action.new.frame c.args.action.now c.take_action.result c.registers_stay.ensures c.take_action.ensures.row c.requires.facts c.requires.held).0
+returns-in-Ok-clause-facts c = (kept c.args.self.now.store c.take_action.new.store c.args.self.now.frame c.take_action.new.frame c.args.action.now c.take_action.result c.registers_stay.ensures c.take_action.ensures.row c.requires.facts c.requires.held).0
 
 pub returns-in-Ok-clause-held : goal.returns-in-Ok-clause-held
-returns-in-Ok-clause-held c = (kept _ _ c.args.self.now.frame c.take_action.new.frame c.args.action.now c.take_action.result c.registers_stay.ensures c.take_action.ensures.row c.requires.facts c.requires.held).1
+returns-in-Ok-clause-held c = (kept c.args.self.now.store c.take_action.new.store c.args.self.now.frame c.take_action.new.frame c.args.action.now c.take_action.result c.registers_stay.ensures c.take_action.ensures.row c.requires.facts c.requires.held).1
 
 pub returns-in-Err-clause-facts : goal.returns-in-Err-clause-facts
-returns-in-Err-clause-facts c = (kept _ _ c.args.self.now.frame c.take_action.new.frame c.args.action.now c.take_action.result c.registers_stay.ensures c.take_action.ensures.row c.requires.facts c.requires.held).0
+returns-in-Err-clause-facts c = (kept c.args.self.now.store c.take_action.new.store c.args.self.now.frame c.take_action.new.frame c.args.action.now c.take_action.result c.registers_stay.ensures c.take_action.ensures.row c.requires.facts c.requires.held).0
 
 pub returns-in-Err-clause-held : goal.returns-in-Err-clause-held
-returns-in-Err-clause-held c = (kept _ _ c.args.self.now.frame c.take_action.new.frame c.args.action.now c.take_action.result c.registers_stay.ensures c.take_action.ensures.row c.requires.facts c.requires.held).1
+returns-in-Err-clause-held c = (kept c.args.self.now.store c.take_action.new.store c.args.self.now.frame c.take_action.new.frame c.args.action.now c.take_action.result c.registers_stay.ensures c.take_action.ensures.row c.requires.facts c.requires.held).1
