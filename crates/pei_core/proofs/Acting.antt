@@ -1,11 +1,11 @@
 -- The machine after an action, from what was taken.
-use Rattle.std.proofs.Common.{◌≡◌, ℕ, Bool, true, false, cond, List, [], ◌∷◌, ◌++◌, refl, sym, ap, ◌∙◌, subst, Option, Some, None, nat_le, length}
+use Rattle.std.proofs.Common.{◌≡◌, ℕ, Bool, true, false, cond, List, [], ◌∷◌, ◌++◌, refl, sym, ap, ◌∙◌, subst, Option, Some, None, nat_le, length, arith, ◌+◌}
 use Rattle.std.specs.Prelude.{unwrap_or, slice_get, IfSome, ◌<◌}
 use Rattle.std.proofs.lemmas.Option.{slice_get_within}
 use Rattle.std.specs.Option.{option_and_then}
+use Rattle.std.proofs.lemmas.Bool.Decides.{nat_tests}
 use Rattle.std.proofs.lemmas.List.{append-nil}
 use Rattle.pi_base.specs.declared.phase.Phase.TheVariants.{Pei}
-use Rattle.pi_base.specs.declared.word.Word.{Word}
 use Rattle.pi_base.specs.declared.word.Word.TheVariants.{Success}
 use Rattle.act_code.specs.declared.action.Action.{Action}
 use Rattle.act_code.specs.declared.action.Action.TheVariants.{Ret}
@@ -20,14 +20,18 @@ use Rattle.boot_model.specs.StoreState.{StoreState}
 use Rattle.boot_model.specs.Service.Descriptor.{offsets}
 use Rattle.boot_model.specs.PeiMachine.{PeiMachine, printed}
 use Rattle.boot_model.specs.PeiAction.{Effect, Wrote, Called, Shadowed, Logged, Skipped, Returned, effect}
-use Rattle.boot_model.specs.PeiStep.{after_effect, past, shadowed, acted, action_at, report_lines}
-use Rattle.boot_model.specs.Parts.{part_at, block_of, has_number}
+use Rattle.boot_model.specs.PeiStep.{after_effect, past, shadowed, acted, action_at}
+use Rattle.boot_model.specs.Parts.{has_number}
 use Rattle.boot_model.specs.WellFormed.{IsWellFormed, part_of, IsPartOf}
 use Rattle.pei_action.specs.declared.taken.Taken.{Taken}
 use Rattle.pei_action.specs.declared.taken.Taken.TheVariants as T
-use Rattle.pei_action.specs.Needs.{IsScriptAction}
+use Rattle.pei_action.specs.Needs.{IsScriptAction, HoldRegisters}
 use Rattle.pei_action.specs.Taken.{Does, Keeps}
-use Rattle.pei_core.specs.AfterTaken.{after_taken}
+use Rattle.boot_model.specs.StateFacts.{IsStoreState}
+use Rattle.pei_action.specs.Stay.{RepliesAreSound}
+use Rattle.pei_core.specs.declared.core_state.Core.{Core}
+use Rattle.pei_core.specs.Standing.{IsCoreOf}
+use Rattle.pei_core.specs.AfterTaken.{after_taken, TellsVisits}
 use Rattle.pei_core.specs.FoundAction.{found_action, found_block}
 use Rattle.pei_core.proofs.Scripts.{part_action, each_at}
 
@@ -111,3 +115,24 @@ in_module catalog frame action (Some m) well e f =
 
 pub found_fits : (catalog : Catalog) (frame : Frame) (action : Action) → IsWellFormed catalog → found_action catalog frame ≡ Some action → Fits catalog frame action
 found_fits catalog frame action well e = in_module catalog frame action (slice_get catalog.modules frame.module_number) well refl e
+
+-- what a call visits, by the law on replies
+pub tells_visits : (law : RepliesAreSound) (s : StoreState) (frame : Frame) (action : Action) (taken : Taken) (new : StoreState) (after : List Register) → IsStoreState s → HoldRegisters frame.registers s
+    → Does (effect s frame action) s frame.registers taken new after → TellsVisits taken new
+tells_visits law s frame action (T.Called reply) new after facts held does =
+    (law s frame action reply.name (record { status = reply.status; extra = reply.extra; store = new; registers = after; sweep = reply.sweep; installs = offsets reply.installs }) facts held does).visits
+tells_visits law s frame action (T.Wrote status) new after facts held does = tt
+tells_visits law s frame action T.Shadowed new after facts held does = tt
+tells_visits law s frame action (T.Logged text) new after facts held does = tt
+tells_visits law s frame action (T.Skipped n) new after facts held does = tt
+tells_visits law s frame action (T.Returned status) new after facts held does = tt
+
+-- there is fuel left
+pub acted_is : (catalog : Catalog) (fuel : ℕ) (m : PeiMachine) (frame : Frame) (below : List Frame) (action : Action) (actions : ℕ) → m.actions ≡ actions → actions < fuel → action_at catalog frame ≡ action
+    → acted catalog fuel m frame below ≡ after_effect catalog (record m { actions = m.actions + 1 }) frame below (effect m.store frame action)
+acted_is catalog fuel m frame below action actions e less is =
+    let t : nat_le fuel m.actions ≡ false = grind (arith, nat_tests, e, less) in
+    rw t (ap (λ a. after_effect catalog (record m { actions = m.actions + 1 }) frame below (effect m.store frame a)) is)
+
+pub one_more : (m : PeiMachine) (core : Core) → IsCoreOf core m → IsCoreOf (record core { actions = core.actions + 1 }) (record m { actions = m.actions + 1 })
+one_more m core of = record { frames = of.frames; sweep = of.sweep; reported = of.reported; stages = of.stages; actions = ap (λ n. n + 1) of.actions; running = of.running }

@@ -1,5 +1,5 @@
 -- Which case of a step applies.
-use Rattle.std.proofs.Common.{◌≡◌, ℕ, List, [], ◌∷◌, Option, Some, None, ap, refl, ◌∙◌}
+use Rattle.std.proofs.Common.{◌≡◌, ℕ, List, [], ◌∷◌, Option, Some, None, ap, ◌∙◌}
 use Rattle.std.specs.Option.{option_map, option_and_then}
 use Rattle.boot_model.specs.declared.catalog.Catalog.{Catalog}
 use Rattle.boot_model.specs.declared.frame.Frame.{Frame}
@@ -10,7 +10,7 @@ use Rattle.boot_model.specs.Migration.{migration}
 use Rattle.boot_model.specs.Service.Queue.{queue_pop}
 use Rattle.boot_model.specs.Service.Sweep.{next_match}
 use Rattle.boot_model.specs.PeiMachine.{PeiMachine}
-use Rattle.boot_model.specs.PeiStep.{PeiCase, Fires, Acts, Moves, Pops, first_that_applies, fires, acts, moves, pops, starts, open_sweep, in_case, pei_step, fired, acted, moved_to, popped_to}
+use Rattle.boot_model.specs.PeiStep.{PeiCase, Fires, Moves, Pops, first_that_applies, acts, starts, open_sweep, in_case, pei_step, fired, acted, moved_to, popped_to}
 
 -- the first that applies, by what the store and the frames give
 abbrev by : Catalog → PeiMachine → Option (Firing × Sweep) → List Frame → Option StoreState → Option (Firing × StoreState) → PeiCase

@@ -1,5 +1,5 @@
 -- The core after a callback or a dispatch notification has begun.
-use Rattle.std.proofs.Common.{◌≡◌, ℕ, Bool, true, false, cond, List, [], ◌∷◌, Option, Some, None, refl, sym, ap, ◌∙◌, nat_le, length}
+use Rattle.std.proofs.Common.{◌≡◌, false, cond, List, [], ◌∷◌, Some, None, refl, sym, ap, ◌∙◌, nat_le, length}
 use Rattle.boot_model.specs.declared.catalog.Catalog.{Catalog}
 use Rattle.boot_model.specs.declared.frame.Frame.{Frame}
 use Rattle.boot_model.specs.declared.store_handle.Firing.{Firing}

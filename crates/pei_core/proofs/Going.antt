@@ -1,5 +1,5 @@
 -- What a part of a step leaves, from what its pieces leave.
-use Rattle.std.proofs.Common.{◌≡◌, ℕ, Bool, true, false, List, [], ◌∷◌, ◌++◌, refl, sym, ap, ◌∙◌, subst, append_assoc, Option, Some, None, Result, Ok, Err, flat_map}
+use Rattle.std.proofs.Common.{◌≡◌, ℕ, Bool, true, false, List, [], ◌∷◌, ◌++◌, refl, sym, ap, ◌∙◌, subst, append_assoc, Option, Result, Ok, Err}
 use Rattle.std.specs.Io.KnownBytes.{Appends}
 use Rattle.std.proofs.lemmas.List.{append-nil}
 use Rattle.std.proofs.lemmas.Grind.{flat_map-append}
@@ -17,11 +17,15 @@ use Rattle.pei_core.specs.declared.core_fault.CoreFault.TheVariants as F
 use Rattle.pei_core.specs.declared.core_state.Core.{Core}
 use Rattle.pei_core.specs.declared.pei.Stepped.{Stepped}
 use Rattle.pei_core.specs.Standing.{IsCoreOf, Have}
-use Rattle.pei_core.specs.Leaves.{Texts, Printed, PrintedPart, Became, Ended, Goes, Leaves, broken_by, fault_of}
+use Rattle.pei_core.specs.Leaves.{Texts, Printed, PrintedPart, Became, Goes, Leaves, broken_by, fault_of}
 use Rattle.pei_core.specs.Steps.{StepsTo, HasStepped, HasStayed, went_by}
 
 abbrev pub texts : Option (List ℕ) → Option (List ℕ) → Texts
 texts old new = record { old = old; new = new }
+
+-- the text of one line
+pub one_text : (line : Line) → text_of (line ∷ []) ≡ line_text line
+one_text line = append-nil (line_text line)
 
 -- lines were put, or not
 pub goes_puts : (put : Result (Unit {0}) SinkFault) (result : Result (Unit {0}) Broken) (memory : Bool) (stands : StoreState → Type 0) (core : Core) (m later : PeiMachine) (told : List Line) (old new : Option (List ℕ))

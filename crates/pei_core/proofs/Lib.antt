@@ -1,11 +1,15 @@
 pub mod Acting
+pub mod Between
 pub mod Calls
 pub mod Cases
 pub mod Fired
 pub mod Going
 pub mod Moving
+pub mod Opened
 pub mod Reports
 pub mod Scripts
 pub mod Shadowed
+pub mod Sounded
 pub mod Staged
+pub mod Started
 pub mod Sweeps

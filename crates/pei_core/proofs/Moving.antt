@@ -1,9 +1,10 @@
 -- The move, and the core's call behind it.
-use Rattle.std.proofs.Common.{◌≡◌, ℕ, Bool, true, false, List, [], ◌∷◌, ◌++◌, refl, sym, ap, ◌∙◌, subst, Option, Some, None, Result, Ok, Err}
+use Rattle.std.proofs.Common.{◌≡◌, ℕ, Bool, true, List, [], ◌∷◌, ◌++◌, refl, sym, ap, ◌∙◌, subst, append_assoc, Option, Some, None, Result, Ok, Err}
 use Rattle.boot_io.specs.declared.sink.SinkFault.{SinkFault}
-use Rattle.boot_io.specs.Sink.{Puts}
+use Rattle.boot_io.specs.Sink.{Puts, AppendsPart}
 use Rattle.pi_base.specs.declared.word.Word.{Word}
-use Rattle.pi_base.specs.declared.word.Word.TheVariants.{Success}
+use Rattle.pi_base.specs.declared.word.Word.TheVariants.{Success, InvalidParameter, NotFound, OutOfResources, NotAvailableYet}
+use Rattle.pei_core.specs.Told.{told_as}
 use Rattle.boot_model.specs.declared.line.Line.{Line}
 use Rattle.boot_model.specs.declared.line.Line.TheVariants as L
 use Rattle.boot_model.specs.declared.store_handle.Sweep.{Sweep}
@@ -20,7 +21,7 @@ use Rattle.pei_core.specs.declared.broken.Broken.{Broken}
 use Rattle.pei_core.specs.declared.core_state.Core.{Core}
 use Rattle.pei_core.specs.Leaves.{Goes, PrintedPart, broken_by}
 use Rattle.pei_core.specs.Standing.{IsCoreOf}
-use Rattle.pei_core.proofs.Going.{goes_puts, puts_one, none_put, texts}
+use Rattle.pei_core.proofs.Going.{goes_puts, puts_one, none_put, first_part, texts}
 
 abbrev called_line : Word → Line
 called_line status = L.CoreInstall status
@@ -48,23 +49,32 @@ installed m service new sweep memory stands core put result old now e stand of t
     (with_sweep core m later (Some sweep) of refl refl refl refl refl refl refl refl))
 
 -- the call was refused
-refused_by : (m : PeiMachine) (service : Service Sweep) (fault : StoreFault) (memory : Bool) (stands : StoreState → Type 0) (core : Core) (status : Word) (put : Result (Unit {0}) SinkFault) (result : Result (Unit {0}) Broken) (old now : Option (List ℕ))
-    → service ≡ Err fault → stands m.store → IsCoreOf core m → status ≡ status_of fault → result ≡ broken_by put → Puts put old now (line_text (called_line status))
+refused_by : (m : PeiMachine) (service : Service Sweep) (fault : StoreFault) (word : Word) (memory : Bool) (stands : StoreState → Type 0) (core : Core) (status : Word) (put : Result (Unit {0}) SinkFault) (result : Result (Unit {0}) Broken) (old now : Option (List ℕ))
+    → service ≡ Err fault → word ≡ status_of fault → Some word ≡ Some status → stands m.store → IsCoreOf core m → result ≡ broken_by put → Puts put old now (line_text (called_line status))
     → Goes memory stands (record core { sweep = None }) m (core_called m service) (texts old now) result
-refused_by m service fault memory stands core status put result old now e stand of is told puts =
+refused_by m service fault word memory stands core status put result old now e w s stand of told puts =
     let later : PeiMachine = record (printed m (called_line (status_of fault) ∷ [])) { core_sweep = None } in
     let same : core_called m service ≡ later = ap (core_called m) e in
+    let is : status ≡ status_of fault = cc in
     rw same (goes_puts put result memory stands (record core { sweep = None }) m later (called_line (status_of fault) ∷ []) old now told refl (puts_one put (called_line (status_of fault)) (called_line status) old now (ap called_line is) puts) stand
     (with_sweep core m later None of refl refl refl refl refl refl refl refl))
 
 pub refused : (m : PeiMachine) (service : Service Sweep) (new : StoreState) (fault : StoreFault) (takes memory : Bool) (stands : StoreState → Type 0) (core : Core) (status : Word) (put : Result (Unit {0}) SinkFault) (result : Result (Unit {0}) Broken) (old now : Option (List ℕ))
-    → Answers takes service m.store (Err fault) new → (fault ≡ F.Memory → ⊥) → stands new → IsCoreOf core m → status ≡ status_of fault → result ≡ broken_by put → Puts put old now (line_text (called_line status))
+    → Answers takes service m.store (Err fault) new → told_as fault ≡ Some status → stands new → IsCoreOf core m → result ≡ broken_by put → Puts put old now (line_text (called_line status))
     → Goes memory stands (record core { sweep = None }) m (core_called m service) (texts old now) result
-refused m service new F.Full takes memory stands core status put result old now a other stand of is told puts = refused_by m service F.Full memory stands core status put result old now a.0 (subst stands a.1 stand) of is told puts
-refused m service new F.Bad takes memory stands core status put result old now a other stand of is told puts = refused_by m service F.Bad memory stands core status put result old now a.0 (subst stands a.1 stand) of is told puts
-refused m service new F.Missing takes memory stands core status put result old now a other stand of is told puts = refused_by m service F.Missing memory stands core status put result old now a.0 (subst stands a.1 stand) of is told puts
-refused m service new F.NotYet takes memory stands core status put result old now a other stand of is told puts = refused_by m service F.NotYet memory stands core status put result old now a.0 (subst stands a.1 stand) of is told puts
-refused m service new F.Memory takes memory stands core status put result old now a other stand of is told puts = absurd (other refl)
+refused m service new F.Full takes memory stands core status put result old now a s stand of told puts = refused_by m service F.Full OutOfResources memory stands core status put result old now a.0 refl s (subst stands a.1 stand) of told puts
+refused m service new F.Bad takes memory stands core status put result old now a s stand of told puts = refused_by m service F.Bad InvalidParameter memory stands core status put result old now a.0 refl s (subst stands a.1 stand) of told puts
+refused m service new F.Missing takes memory stands core status put result old now a s stand of told puts = refused_by m service F.Missing NotFound memory stands core status put result old now a.0 refl s (subst stands a.1 stand) of told puts
+refused m service new F.NotYet takes memory stands core status put result old now a s stand of told puts = refused_by m service F.NotYet NotAvailableYet memory stands core status put result old now a.0 refl s (subst stands a.1 stand) of told puts
+refused m service new F.Memory takes memory stands core status put result old now a s stand of told puts = cc
+
+-- a fault that is told to nobody is want of memory
+pub takes_memory : (service : Service Sweep) (old new : StoreState) (fault : StoreFault) (takes : Bool) → Answers takes service old (Err fault) new → told_as fault ≡ None → takes ≡ true
+takes_memory service old new F.Full takes a e = cc
+takes_memory service old new F.Bad takes a e = cc
+takes_memory service old new F.Missing takes a e = cc
+takes_memory service old new F.NotYet takes a e = cc
+takes_memory service old new F.Memory takes a e = a.0
 
 -- memory was wanting before anything was put
 pub call_prints : (m : PeiMachine) (service : Service Sweep) → (told : List Line) × ((core_called m service).lines ≡ m.lines ++ told)
@@ -73,3 +83,20 @@ call_prints m (Err fault) = (_, refl)
 
 pub wanting : (m : PeiMachine) (service : Service Sweep) (old : Option (List ℕ)) → PrintedPart m (core_called m service) (texts old old)
 wanting m service old = let p = call_prints m service in none_put m (core_called m service) p.0 old p.1
+
+-- the move is printed, and then the call
+pub moved_part : (m : PeiMachine) (new : StoreState) (service : Service Sweep) (line : Line) (old now : Option (List ℕ)) → AppendsPart old now (line_text line) → PrintedPart m (core_called (record (printed m (line ∷ [])) { store = new }) service) (texts old now)
+moved_part m new service line old now part =
+    let mid : PeiMachine = record (printed m (line ∷ [])) { store = new } in
+    let p = call_prints mid service in
+    first_part m (core_called mid service) line line p.0 old now (p.1 ∙ append_assoc m.lines (line ∷ []) p.0) refl part
+
+pub moved_core : (m : PeiMachine) (new : StoreState) (line : Line) (core : Core) → IsCoreOf core m → IsCoreOf core (record (printed m (line ∷ [])) { store = new })
+moved_core m new line core of = record { frames = of.frames; sweep = of.sweep; reported = of.reported; stages = of.stages; actions = of.actions; running = of.running }
+
+-- one state is moved to, and its line
+pub same_new : (moved : Option StoreState) (one other : StoreState) → moved ≡ Some one → moved ≡ Some other → one ≡ other
+same_new moved one other e f = let both : Some one ≡ Some other = sym e ∙ f in cc
+
+pub migrate_line : (bases : ℕ × ℕ) (s one other : StoreState) → bases ≡ (s.base, one.base) → one ≡ other → L.Migrate bases.0 bases.1 ≡ L.Migrate s.base other.base
+migrate_line bases s one other e f = ap (λ (b : ℕ × ℕ). L.Migrate b.0 b.1) e ∙ ap (λ (t : StoreState). L.Migrate s.base t.base) f

@@ -1,5 +1,5 @@
 -- An action of a block of a script in the grammar.
-use Rattle.std.proofs.Common.{◌≡◌, ◌⊎◌, ℕ, zero, suc, ◌+◌, ◌-◌, ◌≤◌, ◌<◌, ◌&&◌, Bool, true, false, List, [], ◌∷◌, length, arith, refl, sym, subst, Option, Some, None, inl, inr}
+use Rattle.std.proofs.Common.{◌≡◌, ◌⊎◌, ℕ, zero, suc, ◌-◌, ◌≤◌, ◌<◌, ◌&&◌, Bool, true, false, List, [], ◌∷◌, length, arith, refl, subst, Some, inl, inr}
 use Rattle.std.specs.Prelude.{slice_get, nat_lt}
 use Rattle.std.specs.List.{list_all}
 use Rattle.std.proofs.lemmas.Bool.Decides.{nat_tests}
@@ -13,11 +13,9 @@ use Rattle.act_code.specs.Index.{is_indexed}
 use Rattle.act_code.specs.Script.{IsBlock, AreBlocks, AreSound, IsSound, IsInGrammar}
 use Rattle.act_code.specs.Script as S
 use Rattle.act_code.specs.Table.{format_of, code_of_action, operands}
-use Rattle.boot_model.specs.declared.catalog.Catalog.{Catalog}
-use Rattle.boot_model.specs.declared.catalog.Module.{Module}
 use Rattle.boot_model.specs.declared.catalog.Part.{Part}
 use Rattle.boot_model.specs.Lists.{Each}
-use Rattle.boot_model.specs.WellFormed.{IsWellFormed, IsPartOf}
+use Rattle.boot_model.specs.WellFormed.{IsPartOf}
 use Rattle.pei_action.specs.Needs.{IsScriptAction}
 
 more : (n m k : ℕ) → m ≤ k → nat_lt n m ≡ true → nat_lt n k ≡ true

@@ -1,12 +1,11 @@
 -- The stages of modules where one registers or starts.
-use Rattle.std.proofs.Common.{◌≡◌, ◌≢◌, ℕ, zero, suc, ◌<◌, ◌==◌, ◌||◌, Bool, true, false, cond, List, [], ◌∷◌, ◌++◌, length, Option, Some, None, refl, sym, ap, ◌∙◌, subst, arith}
-use Rattle.std.specs.Prelude.{slice_get, slice_set, unwrap_or}
-use Rattle.std.specs.List.{list_any}
+use Rattle.std.proofs.Common.{◌≡◌, ◌≢◌, ℕ, zero, suc, ◌<◌, ◌==◌, ◌||◌, Bool, true, false, List, [], ◌∷◌, ◌++◌, length, refl, sym, ap, ◌∙◌, subst, arith}
+use Rattle.std.specs.Prelude.{slice_set}
 use Rattle.std.proofs.lemmas.Bool.Decides.{nat_tests}
 use Rattle.boot_model.specs.Parts.{has_number}
 use Rattle.boot_model.specs.PeiMachine.{PeiMachine}
 use Rattle.pei_choice.specs.declared.stage.Stage.{Stage}
-use Rattle.pei_choice.specs.Standing.{AreStages, IsStage, stage_at, waiting}
+use Rattle.pei_choice.specs.Standing.{AreStages, IsStage, stage_at}
 
 -- a stage that was written, and another one
 here : (stages : List Stage) (n : ℕ) (stage : Stage) → n < length stages → stage_at (slice_set stages n stage) n ≡ stage

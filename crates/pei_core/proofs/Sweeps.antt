@@ -4,7 +4,6 @@ use Rattle.std.specs.Prelude.{IfSome}
 use Rattle.boot_model.specs.declared.frame.Frame.{Frame}
 use Rattle.boot_model.specs.declared.store_handle.Sweep.{Sweep}
 use Rattle.boot_model.specs.Lists.{Each}
-use Rattle.boot_model.specs.StoreState.{StoreState}
 use Rattle.boot_model.specs.StateFacts.{IsSweepOf}
 use Rattle.boot_model.specs.PeiMachine.{PeiMachine}
 use Rattle.boot_model.specs.PeiStep.{open_sweep}

@@ -1,6 +1,6 @@
 -- The machine that the core stands for, with any lines: what the core keeps is what the machine has.
 -- Own.
-use Rattle.std.specs.Prelude.{◌≡◌, ℕ, List, length, None}
+use Rattle.std.specs.Prelude.{◌≡◌, ℕ, length, None}
 use Rattle.boot_model.specs.declared.catalog.Catalog.{Catalog}
 use Rattle.boot_model.specs.StoreState.{StoreState}
 use Rattle.boot_model.specs.PeiMachine.{PeiMachine}

@@ -1,6 +1,6 @@
 -- What one step of the core answers and leaves.
 -- Own.
-use Rattle.std.specs.Prelude.{◌≡◌, ℕ, Bool, true, List, [], Some, None, Result, Ok, Err}
+use Rattle.std.specs.Prelude.{◌≡◌, Bool, true, [], Some, None, Result, Ok, Err}
 use Rattle.std.specs.Io.KnownBytes.{Appends}
 use Rattle.boot_io.specs.declared.sink.SinkFault.{SinkFault}
 use Rattle.boot_model.specs.Migration.{migration}

@@ -37,7 +37,11 @@ pub(crate) fn notification_frame(firing: &Firing) -> Frame
     let mut registers = [Register::Empty; REGISTERS];
     registers[0] = Register::Number(firing.value);
     registers[1] = Register::DescriptorIn(firing.ppi);
-    frame_at(firing.entry / BLOCKS, (firing.entry % BLOCKS) as u8, registers)
+    frame_at(
+        firing.entry / BLOCKS,
+        (firing.entry % BLOCKS) as u8,
+        registers,
+    )
 }
 
 // The sweep that is open: the top frame's, or without frames the core's.

@@ -19,16 +19,16 @@ ghost use Rattle.pei_core.specs.Steps.{IsIdle, StepsTo, StartsTo};
 use crate::core_fault::CoreFault;
 use crate::core_state::Core;
 use crate::frames::Frames;
-use pei_choice::Stage;
-use pei_sound::{opening_is_sound, starts_keep_sound, steps_keep_sound};
 use crate::stages;
 use crate::start::start_module;
 use crate::step::step;
-use volume_list::VolumeList;
 use boot_io::{Sink, SinkFault};
 use boot_model::{Catalog, Licence, PeiStore};
+use pei_choice::Stage;
+use pei_sound::{opening_is_sound, starts_keep_sound, steps_keep_sound};
 use pi_base::OutOfMemory;
 use std::alloc::Global;
+use volume_list::VolumeList;
 
 /// What a step did.
 #[derive(Clone, Copy, Debug, PartialEq, Eq)]
@@ -81,11 +81,7 @@ impl<M: PeiStore + Drop> Pei<M> {
     }
 
     /// One step of the machine, with its lines.
-    pub fn step<S: Sink>(
-        &mut self,
-        catalog: &Catalog,
-        sink: &mut S,
-    ) -> Result<Stepped, CoreFault>
+    pub fn step<S: Sink>(&mut self, catalog: &Catalog, sink: &mut S) -> Result<Stepped, CoreFault>
         requires catalog { IsWellFormed catalog.now }
         requires made { (fuel : ℕ) × IsFor catalog.now fuel self.old }
         requires state { (m : PeiMachine) × StandsFor M.stands_for self.old m }

@@ -48,11 +48,7 @@ fn shadowed<S: Sink>(core: &mut Core, frame: Frame, sink: &mut S) -> Result<(), 
 }
 
 /// The top frame ends.
-pub(crate) fn end_frame<S: Sink>(
-    core: &mut Core,
-    status: Word,
-    sink: &mut S,
-) -> Result<(), Broken>
+pub(crate) fn end_frame<S: Sink>(core: &mut Core, status: Word, sink: &mut S) -> Result<(), Broken>
     ensures row { (m : PeiMachine) (old : OfFrame) (below : List OfFrame) (new : StoreState) → IsCoreOf core.old m → m.frames ≡ old ∷ below → Goes false (λ s. s ≡ new) core.new m (record (printed m (L.End status ∷ [])) { store = new; frames = below }) (record { old = S.text sink.old; new = S.text sink.new }) result }
     ensures faults { BrokenAfter result (S.faults sink.old) (S.faults sink.new) }
     ensures core { (catalog : OfCatalog) (fuel : ℕ) → IsCoreFor catalog fuel core.old → IsCoreFor catalog fuel core.new }

@@ -1,9 +1,5 @@
-use Rattle.std.proofs.Common.{◌≡◌, refl, sym, ap, ◌∙◌, subst, Option, List, ℕ, [], ◌∷◌, false, cond, nat_le, length}
-use Rattle.boot_model.specs.PeiMachine.{PeiMachine, Deep}
+use Rattle.std.proofs.Common.{◌≡◌, refl, sym, ap, ◌∙◌, [], ◌∷◌, false}
 use Rattle.boot_model.specs.PeiStep as P
-use Rattle.boot_model.specs.StoreState.{StoreState}
-use Rattle.pei_core.specs.declared.core_state.Core.{Core}
-use Rattle.pei_core.specs.Standing.{IsCoreOf}
 use Rattle.pei_core.proofs.Going.{goes_puts, puts_one, leaves_of, texts}
 use Rattle.pei_core.proofs.Fired.{fired_core, fired_is}
 use Rattle.pei_core.proofs.fire.begin_callback.Goals as goal

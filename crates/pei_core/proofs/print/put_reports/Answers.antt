@@ -1,5 +1,3 @@
-use Rattle.boot_model.specs.Text.{line_text}
-use Rattle.boot_model.specs.PeiStep.{report_lines}
 use Rattle.pei_core.proofs.Reports.{part_of_reports}
 use Rattle.pei_core.proofs.print.put_reports.Goals as goal
 

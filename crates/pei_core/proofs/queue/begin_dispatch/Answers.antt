@@ -1,4 +1,4 @@
-use Rattle.std.proofs.Common.{◌≡◌, refl, ap, ◌∙◌, List, [], ◌∷◌, false}
+use Rattle.std.proofs.Common.{◌≡◌, refl, ap, ◌∙◌, [], ◌∷◌, false}
 use Rattle.boot_model.specs.PeiStep as P
 use Rattle.pei_core.proofs.Going.{goes_puts, puts_one}
 use Rattle.pei_core.proofs.Fired.{popped_core}

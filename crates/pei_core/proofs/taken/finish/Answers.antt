@@ -1,11 +1,8 @@
-use Rattle.std.proofs.Common.{◌≡◌, ℕ, List, [], ◌∷◌, refl, sym, ap, ◌∙◌, subst, false}
+use Rattle.std.proofs.Common.{◌≡◌, [], ◌∷◌, refl, sym, ap, ◌∙◌, subst, false}
 use Rattle.boot_model.specs.declared.line.Line.TheVariants as L
 use Rattle.boot_model.specs.PeiMachine.{PeiMachine, printed}
 use Rattle.boot_model.specs.PeiStep as P
-use Rattle.boot_model.specs.StoreState.{StoreState}
-use Rattle.pei_action.specs.declared.taken.Taken.{Taken}
-use Rattle.pei_action.specs.declared.taken.Taken.TheVariants as T
-use Rattle.pei_core.specs.AfterTaken.{after_taken, TellsVisits}
+use Rattle.pei_core.specs.AfterTaken.{TellsVisits}
 use Rattle.pei_core.proofs.Going.{goes_over, goes_puts, puts_one, texts}
 use Rattle.pei_core.proofs.taken.finish.Goals as goal
 

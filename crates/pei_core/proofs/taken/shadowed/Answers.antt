@@ -1,4 +1,4 @@
-use Rattle.std.proofs.Common.{◌≡◌, refl, sym, ap, ◌∙◌, List, [], ◌∷◌, false}
+use Rattle.std.proofs.Common.{sym, ◌∙◌}
 use Rattle.pei_core.proofs.Shadowed.{shadowed_goes}
 use Rattle.pei_core.proofs.taken.shadowed.Goals as goal
 
