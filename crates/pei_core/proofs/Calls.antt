@@ -54,6 +54,7 @@ called_goes m catalog frame past_frame below reply new stands core frames report
       reported = ap (λ xs. xs ++ told_by catalog new m.reported reply) of.reported ∙ ap (λ ys. core.reported ++ ys) t ∙ sym reported_is;
       stages = of.stages;
       actions = of.actions;
+      starts = of.starts;
       running = of.running;
     } in
     goes_puts put result false stands (record core { frames = frames; reported = reported }) m later lines old now told refl puts stand fields

@@ -24,6 +24,7 @@ fired_core catalog m firing sweep core kept frames of is on = record {
   reported = of.reported ∙ ap (λ k. k.reported) (sym is);
   stages = rw is of.stages;
   actions = of.actions ∙ ap (λ k. k.actions) (sym is);
+  starts = ap (λ k. k.starts) is ∙ of.starts;
   running = of.running;
 }
 
@@ -35,5 +36,6 @@ popped_core catalog m new firing core frames of on = record {
   reported = of.reported;
   stages = of.stages;
   actions = of.actions;
+  starts = of.starts;
   running = of.running;
 }

@@ -1,5 +1,6 @@
 -- The move, and the core's call behind it.
-use Rattle.std.proofs.Common.{◌≡◌, ℕ, Bool, true, List, [], ◌∷◌, ◌++◌, refl, sym, ap, ◌∙◌, subst, append_assoc, Option, Some, None, Result, Ok, Err}
+use Rattle.std.proofs.Common.{◌≡◌, ℕ, ◌+◌, ◌-◌, ◌^◌, length, Bool, true, List, [], ◌∷◌, ◌++◌, refl, sym, ap, ◌∙◌, subst, append_assoc, Option, Some, None, Result, Ok, Err}
+use Rattle.std.specs.Prelude.{min}
 use Rattle.boot_io.specs.declared.sink.SinkFault.{SinkFault}
 use Rattle.boot_io.specs.Sink.{Puts, AppendsPart}
 use Rattle.pi_base.specs.declared.word.Word.{Word}
@@ -35,6 +36,7 @@ with_sweep core m later sweep of frames reported started shadows again actions e
   reported = reported ∙ of.reported;
   stages = λ k. let old = of.stages k in (ap (λ xs. has_number xs k) started ∙ old.0, ap (λ xs. has_number xs k) shadows ∙ old.1, ap (λ xs. has_number xs k) again ∙ old.2);
   actions = actions ∙ of.actions;
+  starts = of.starts ∙ ap (λ n. min n (2 ^ 32 - 1)) (ap (λ xs. length xs + length m.again) (sym started) ∙ ap (λ ys. length later.started + length ys) (sym again));
   running = ended ∙ of.running;
 }
 
@@ -92,7 +94,7 @@ moved_part m new service line old now part =
     first_part m (core_called mid service) line line p.0 old now (p.1 ∙ append_assoc m.lines (line ∷ []) p.0) refl part
 
 pub moved_core : (m : PeiMachine) (new : StoreState) (line : Line) (core : Core) → IsCoreOf core m → IsCoreOf core (record (printed m (line ∷ [])) { store = new })
-moved_core m new line core of = record { frames = of.frames; sweep = of.sweep; reported = of.reported; stages = of.stages; actions = of.actions; running = of.running }
+moved_core m new line core of = record { frames = of.frames; sweep = of.sweep; reported = of.reported; stages = of.stages; actions = of.actions; starts = of.starts; running = of.running }
 
 -- one state is moved to, and its line
 pub same_new : (moved : Option StoreState) (one other : StoreState) → moved ≡ Some one → moved ≡ Some other → one ≡ other

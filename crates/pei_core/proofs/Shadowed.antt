@@ -23,7 +23,7 @@ use Rattle.pei_core.specs.declared.core_state.Core.{Core}
 use Rattle.pei_core.specs.Leaves.{Goes, broken_by}
 use Rattle.pei_core.specs.Standing.{IsCoreOf}
 use Rattle.pei_core.proofs.Going.{goes_puts, puts_one, texts}
-use Rattle.pei_core.proofs.Staged.{stages_kept, has_behind}
+use Rattle.pei_core.proofs.Staged.{stages_kept, has_behind, same_number, other_number}
 
 abbrev registered : List Stage → ℕ → Stage
 registered stages n = record (stage_at stages n) { registered = true }
@@ -38,15 +38,6 @@ or_true false = refl
 or_false : (b : Bool) → (b || false) ≡ b
 or_false true = refl
 or_false false = refl
-
-same_number : (n : ℕ) → (n == n) ≡ true
-same_number n = grind (arith, nat_tests)
-
-other_number : (n k : ℕ) → n ≢ k → (n == k) ≡ false
-other_number n k h = by_test (n == k) refl where
-  by_test : (b : Bool) → (n == k) ≡ b → b ≡ false
-  by_test true t = let e : n ≡ k = grind (arith, nat_tests, t) in absurd (h e)
-  by_test false t = refl
 
 -- one that had registered has the stage that is written
 again_stages : (m later : PeiMachine) (stages : List Stage) (n : ℕ) → n < length stages → AreStages m stages → has_number m.shadows n ≡ true
@@ -88,6 +79,7 @@ shadowed_goes m frame below new core behind frames stages status put result old 
         reported = of.reported;
         stages = subst (λ xs. AreStages later xs) (sym staged) (again_stages m later core.stages frame.module_number inside of.stages has refl refl refl);
         actions = of.actions;
+        starts = of.starts;
         running = of.running;
       } in
       let puts_line = puts_one put (shadow_line AlreadyStarted) (shadow_line status) old now (ap shadow_line status_is) puts in
@@ -102,6 +94,7 @@ shadowed_goes m frame below new core behind frames stages status put result old 
         reported = of.reported;
         stages = subst (λ xs. AreStages later xs) (sym staged) (first_stages m later core.stages frame.module_number inside of.stages refl refl refl);
         actions = of.actions;
+        starts = of.starts;
         running = of.running;
       } in
       let puts_line = puts_one put (shadow_line Success) (shadow_line status) old now (ap shadow_line status_is) puts in

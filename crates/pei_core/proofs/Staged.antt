@@ -26,6 +26,16 @@ differ n k t e = let yes : (n == k) ≡ true = grind (arith, nat_tests, e) in le
 same : (n k : ℕ) → (n == k) ≡ true → n ≡ k
 same n k t = grind (arith, nat_tests, t)
 
+-- a number is itself, and no other
+pub same_number : (n : ℕ) → (n == n) ≡ true
+same_number n = grind (arith, nat_tests)
+
+pub other_number : (n k : ℕ) → n ≢ k → (n == k) ≡ false
+other_number n k h = by_test (n == k) refl where
+  by_test : (b : Bool) → (n == k) ≡ b → b ≡ false
+  by_test true t = absurd (h (same n k t))
+  by_test false t = refl
+
 -- a number more in a list
 or_more : (a b : Bool) → (a || (b || false)) ≡ (b || a)
 or_more true true = refl

@@ -1,6 +1,6 @@
 -- The core after a start.
-use Rattle.std.proofs.Common.{◌≡◌, ◌≢◌, ℕ, ◌<◌, ◌==◌, ◌||◌, Bool, true, false, cond, List, [], ◌∷◌, ◌++◌, length, Option, Some, None, refl, sym, ap, ◌∙◌, subst, Result, Ok, Err, arith}
-use Rattle.std.specs.Prelude.{slice_set, is_some}
+use Rattle.std.proofs.Common.{◌≡◌, ◌≢◌, ℕ, ◌<◌, ◌==◌, ◌||◌, Bool, true, false, cond, List, [], ◌∷◌, ◌++◌, length, Option, Some, None, refl, sym, ap, ◌∙◌, subst, Result, Ok, Err, arith, ◌+◌, ◌-◌, ◌^◌}
+use Rattle.std.specs.Prelude.{slice_set, is_some, min}
 use Rattle.std.proofs.lemmas.Bool.Decides.{nat_tests}
 use Rattle.boot_io.specs.declared.sink.SinkFault.{SinkFault}
 use Rattle.boot_io.specs.Sink.{Puts}
@@ -23,7 +23,7 @@ use Rattle.pei_core.specs.Leaves.{Printed}
 use Rattle.pei_core.specs.Standing.{IsCoreOf}
 use Rattle.pei_core.specs.Starting.{Begins, first_frames, has_block, is_block_there, lines_of}
 use Rattle.pei_core.proofs.Going.{texts}
-use Rattle.pei_core.proofs.Staged.{stages_kept}
+use Rattle.pei_core.proofs.Staged.{stages_kept, same_number, other_number}
 
 abbrev pub begun : List Stage → ℕ → Stage
 begun stages n = record (stage_at stages n) { started = true; again = (stage_at stages n).started || (stage_at stages n).again }
@@ -35,15 +35,6 @@ lines_are line (block ∷ blocks) = refl
 frames_are : (number : ℕ) (blocks : List (List Action)) → start_frames number blocks ≡ first_frames number (is_block_there blocks)
 frames_are number [] = refl
 frames_are number (block ∷ blocks) = refl
-
-same_number : (n : ℕ) → (n == n) ≡ true
-same_number n = grind (arith, nat_tests)
-
-other_number : (n k : ℕ) → n ≢ k → (n == k) ≡ false
-other_number n k h = by_test (n == k) refl where
-  by_test : (b : Bool) → (n == k) ≡ b → b ≡ false
-  by_test true t = let e : n ≡ k = grind (arith, nat_tests, t) in absurd (h e)
-  by_test false t = refl
 
 -- the lists with a number more, or as they were
 abbrev pub also : Bool → ℕ → List ℕ → List ℕ
@@ -79,16 +70,29 @@ start_stages m later stages n inside are e f g =
     (λ k h. (ap (λ xs. has_number xs k) e ∙ unless_other b n k m.started h, ap (λ xs. has_number xs k) f, ap (λ xs. has_number xs k) g ∙ also_other b n k m.again h))
     (ap (λ xs. has_number xs n) e ∙ unless_own b n m.started refl, ap (λ xs. has_number xs n) f ∙ own.1, again)
 
+arith_suc : (a b : ℕ) → a + ℕ.suc b ≡ (a + b) + 1
+arith_suc a b = omega arith
+
+arith_suc_left : (a b : ℕ) → ℕ.suc a + b ≡ (a + b) + 1
+arith_suc_left a b = omega arith
+
+counted : (starts now n more : ℕ) → starts ≡ min n (2 ^ 32 - 1) → now ≡ min (starts + 1) (2 ^ 32 - 1) → more ≡ n + 1 → now ≡ min more (2 ^ 32 - 1)
+counted starts now n more e f g = grind (arith, e, f, g)
+
+one_more_start : (b : Bool) (n : ℕ) (xs ys : List ℕ) → length (unless b n xs) + length (also b n ys) ≡ (length xs + length ys) + 1
+one_more_start true n xs ys = arith_suc (length xs) (length ys)
+one_more_start false n xs ys = arith_suc_left (length xs) (length ys)
+
 by_put : (put : Result (Unit {0}) SinkFault) (core : Core) (m later : PeiMachine) (told : List Line) (old now : Option (List ℕ)) → later.lines ≡ m.lines ++ told → Puts put old now (text_of told) → later.store ≡ m.store → IsCoreOf core later → Begins core m later (texts old now) put
 by_put (Ok done) core m later told old now lines puts store fields = let printed : Printed m later (texts old now) = record { told = told; lines = lines; text = puts } in record { printed = printed; store = store; fields = fields }
 by_put (Err fault) core m later told old now lines puts store fields = record { told = told; lines = lines; text = puts }
 
 by_part : (catalog : Catalog) (m : PeiMachine) (number : ℕ) (o : Option Part) (licence : Licence) (core : Core) (stages : List Stage) (frames : List Frame) (line : Line) (runs : Bool) (starts : ℕ) (put : Result (Unit {0}) SinkFault) (old now : Option (List ℕ))
     → IsCoreOf core m → number < length core.stages → is_some o ≡ true → ((part : Part) → o ≡ Some part → licence ≡ licence_at m number part)
-    → stages ≡ slice_set core.stages number (begun core.stages number) → frames ≡ first_frames number runs → runs ≡ has_block o → line ≡ start_line catalog m number licence → Puts put old now (text_of (lines_of line runs))
+    → stages ≡ slice_set core.stages number (begun core.stages number) → frames ≡ first_frames number runs → runs ≡ has_block o → line ≡ start_line catalog m number licence → Puts put old now (text_of (lines_of line runs)) → starts ≡ min (core.starts + 1) (2 ^ 32 - 1)
     → Begins (record core { frames = frames; sweep = None; stages = stages; starts = starts; last_start = Some number }) m (started_part catalog m number o) (texts old now) put
-by_part catalog m number None licence core stages frames line runs starts put old now of inside some licensed staged framed runs_is line_is puts = cc
-by_part catalog m number (Some part) licence core stages frames line runs starts put old now of inside some licensed staged framed runs_is line_is puts =
+by_part catalog m number None licence core stages frames line runs starts put old now of inside some licensed staged framed runs_is line_is puts counts = cc
+by_part catalog m number (Some part) licence core stages frames line runs starts put old now of inside some licensed staged framed runs_is line_is puts counts =
     let later : PeiMachine = started_by catalog m number part (licence_at m number part) in
     let blocks = part.script.blocks in
     let lines : start_lines (start_line catalog m number (licence_at m number part)) blocks ≡ lines_of line runs =
@@ -99,12 +103,13 @@ by_part catalog m number (Some part) licence core stages frames line runs starts
       reported = of.reported;
       stages = subst (λ xs. AreStages later xs) (sym staged) (start_stages m later core.stages number inside of.stages refl refl refl);
       actions = of.actions;
+      starts = counted core.starts starts (length m.started + length m.again) (length (unless (has_number m.started number) number m.started) + length (also (has_number m.started number) number m.again)) of.starts counts (one_more_start (has_number m.started number) number m.started m.again);
       running = of.running;
     } in
     by_put put (record core { frames = frames; sweep = None; stages = stages; starts = starts; last_start = Some number }) m later (lines_of line runs) old now (ap (λ xs. m.lines ++ xs) lines) puts refl fields
 
 pub start_begins : (catalog : Catalog) (m : PeiMachine) (number : ℕ) (licence : Licence) (core : Core) (stages : List Stage) (frames : List Frame) (line : Line) (runs : Bool) (starts : ℕ) (put : Result (Unit {0}) SinkFault) (old now : Option (List ℕ))
     → IsCoreOf core m → number < length core.stages → is_some (part_at Pei catalog number) ≡ true → ((part : Part) → part_at Pei catalog number ≡ Some part → licence ≡ licence_at m number part)
-    → stages ≡ slice_set core.stages number (begun core.stages number) → frames ≡ first_frames number runs → runs ≡ has_block (part_at Pei catalog number) → line ≡ start_line catalog m number licence → Puts put old now (text_of (lines_of line runs))
+    → stages ≡ slice_set core.stages number (begun core.stages number) → frames ≡ first_frames number runs → runs ≡ has_block (part_at Pei catalog number) → line ≡ start_line catalog m number licence → Puts put old now (text_of (lines_of line runs)) → starts ≡ min (core.starts + 1) (2 ^ 32 - 1)
     → Begins (record core { frames = frames; sweep = None; stages = stages; starts = starts; last_start = Some number }) m (started catalog m number) (texts old now) put
 start_begins catalog m number = by_part catalog m number (part_at Pei catalog number)

@@ -1,6 +1,6 @@
 -- The machine that the core stands for, with any lines: what the core keeps is what the machine has.
 -- Own.
-use Rattle.std.specs.Prelude.{◌≡◌, ℕ, length, None}
+use Rattle.std.specs.Prelude.{◌≡◌, ℕ, length, Option, None, ◌+◌, ◌-◌, ◌^◌, min}
 use Rattle.boot_model.specs.declared.catalog.Catalog.{Catalog}
 use Rattle.boot_model.specs.StoreState.{StoreState}
 use Rattle.boot_model.specs.PeiMachine.{PeiMachine}
@@ -17,6 +17,7 @@ pub record IsCoreOf (core : Core) (m : PeiMachine) : Type 0 where
   pub reported : m.reported ≡ core.reported
   pub stages : AreStages m core.stages
   pub actions : m.actions ≡ core.actions
+  pub starts : core.starts ≡ min (length m.started + length m.again) (2 ^ 32 - 1)
   pub running : m.ended ≡ None
 
 -- what a core keeps for a catalogue and its fuel: a stage for each module, and volumes that differ
@@ -41,3 +42,7 @@ StandsFor stands pei m = StandFor (stands pei.store) pei.core m
 
 abbrev pub IsFor : {M : Type 0} → Catalog → ℕ → Pei M → Type 0
 IsFor catalog fuel pei = IsCoreFor catalog fuel pei.core
+
+-- the module that started last
+abbrev pub last_start : {M : Type 0} → Pei M → Option ℕ
+last_start pei = pei.core.last_start

@@ -63,6 +63,7 @@ fn take<M: PeiStore, S: Sink>(
     ensures row { (m : PeiMachine) (below : List OfFrame) → IsCoreOf core.old m → m.frames ≡ frame ∷ below → M.stands_for store.old m.store → HoldRegisters frame.registers m.store → Goes M.TAKES_MEMORY (M.stands_for store.new) core.new m (P.after_effect catalog.now m frame below (E.effect m.store frame action.now)) (record { old = S.text sink.old; new = S.text sink.new }) result }
     ensures faults { BrokenAfter result (S.faults sink.old) (S.faults sink.new) }
     ensures core { (fuel : ℕ) → IsCoreFor catalog.now fuel core.old → IsCoreFor catalog.now fuel core.new }
+    ensures last { core.new.last_start ≡ core.old.last_start }
 {
     replies_are_sound();
     let mut acting = frame;
@@ -87,6 +88,7 @@ pub(crate) fn act<M: PeiStore, S: Sink>(
     ensures row { (m : PeiMachine) (below : List OfFrame) → IsCoreOf core.old m → m.frames ≡ frame ∷ below → M.stands_for store.old m.store → HoldRegisters frame.registers m.store → Leaves M.TAKES_MEMORY (M.stands_for store.new) core.new m (P.acted catalog.now core.old.fuel m frame below) (record { old = S.text sink.old; new = S.text sink.new }) result }
     ensures faults { FaultsAfter result (S.faults sink.old) (S.faults sink.new) }
     ensures core { IsCoreFor catalog.now core.old.fuel core.new }
+    ensures last { core.new.last_start ≡ core.old.last_start }
 {
     if core.actions >= core.fuel {
         return Err(CoreFault::Spent);

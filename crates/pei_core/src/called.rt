@@ -76,6 +76,7 @@ pub(crate) fn called<M: PeiStore, S: Sink>(
     ensures row { (m : PeiMachine) (old : OfFrame) (below : List OfFrame) (new : StoreState) → IsCoreOf core.old m → m.frames ≡ old ∷ below → M.stands_for store.now new → Visits new reply.sweep (offsets reply.installs) → Goes false (M.stands_for store.now) core.new m (after_reply catalog.now m frame below reply new) (record { old = S.text sink.old; new = S.text sink.new }) result }
     ensures faults { BrokenAfter result (S.faults sink.old) (S.faults sink.new) }
     ensures core { (fuel : ℕ) → IsCoreFor catalog.now fuel core.old → IsCoreFor catalog.now fuel core.new }
+    ensures last { core.new.last_start ≡ core.old.last_start }
 {
     let Reply {
         name,

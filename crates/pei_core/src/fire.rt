@@ -96,6 +96,7 @@ pub(crate) fn begin_callback<S: Sink>(
     ensures row { (m : PeiMachine) → IsCoreOf core.old m → Leaves false (λ s. s ≡ m.store) core.new m (P.fired catalog.now m firing sweep) (record { old = S.text sink.old; new = S.text sink.new }) result }
     ensures faults { FaultsAfter result (S.faults sink.old) (S.faults sink.new) }
     ensures core { (fuel : ℕ) → IsCoreFor catalog.now fuel core.old → IsCoreFor catalog.now fuel core.new }
+    ensures last { core.new.last_start ≡ core.old.last_start }
 {
     if core.frames.is_full() {
         return Err(CoreFault::Deep);

@@ -42,6 +42,7 @@ fn install_memory<M: PeiStore, S: Sink>(
     ensures row { (m : PeiMachine) → M.stands_for store.old m.store → IsCoreOf core.old m → Goes M.TAKES_MEMORY (M.stands_for store.new) core.new m (P.core_called m (core_install m.store)) (record { old = S.text sink.old; new = S.text sink.new }) result }
     ensures faults { BrokenAfter result (S.faults sink.old) (S.faults sink.new) }
     ensures core { (catalog : OfCatalog) (fuel : ℕ) → IsCoreFor catalog fuel core.old → IsCoreFor catalog fuel core.new }
+    ensures last { core.new.last_start ≡ core.old.last_start }
 {
     match store.core_install() {
         Ok(sweep) => {
@@ -73,6 +74,7 @@ pub(crate) fn move_memory<M: PeiStore, S: Sink>(
     ensures row { (m : PeiMachine) (new : StoreState) → M.stands_for store.old m.store → IsDue m.store → migration m.store ≡ Some new → IsCoreOf core.old m → Goes M.TAKES_MEMORY (M.stands_for store.new) core.new m (P.moved_to m new) (record { old = S.text sink.old; new = S.text sink.new }) result }
     ensures faults { BrokenAfter result (S.faults sink.old) (S.faults sink.new) }
     ensures core { (catalog : OfCatalog) (fuel : ℕ) → IsCoreFor catalog fuel core.old → IsCoreFor catalog fuel core.new }
+    ensures last { core.new.last_start ≡ core.old.last_start }
 {
     let (from, to) = store.migrate();
     match put(sink, &Line::Migrate { from, to }) {

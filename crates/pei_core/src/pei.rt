@@ -1,5 +1,5 @@
 //! The core over a store.
-ghost use Rattle.std.specs.Prelude.{◌≡◌, ◌<◌, ◌≤◌, ℕ, Some, IfOk, length, is_some, true};
+ghost use Rattle.std.specs.Prelude.{◌≡◌, ◌≤◌, ◌+◌, ◌-◌, ◌^◌, min, ℕ, Some, None, IfOk, length, is_some, true};
 ghost use Rattle.boot_io.specs.Sink.{SinkFaultsAfter};
 ghost use Rattle.boot_model.specs.Eligible.{licence_at};
 ghost use Rattle.boot_model.specs.Parts.{part_at};
@@ -12,7 +12,7 @@ ghost use Rattle.boot_model.specs.declared.catalog.Catalog.{Catalog as OfCatalog
 ghost use Rattle.boot_model.specs.declared.catalog.Part.{Part as OfPart};
 ghost use Rattle.pi_base.specs.declared.phase.Phase.TheVariants.{Pei as InPei};
 ghost use Rattle.pei_core.specs.Leaves.{FaultsAfter};
-ghost use Rattle.pei_core.specs.Standing.{StandsFor, IsFor};
+ghost use Rattle.pei_core.specs.Standing.{StandsFor, IsFor, last_start};
 ghost use Rattle.pei_choice.specs.Standing.{AreStages};
 ghost use Rattle.pei_core.specs.Steps.{IsIdle, StepsTo, StartsTo};
 
@@ -58,6 +58,7 @@ impl<M: PeiStore + Drop> Pei<M> {
         requires some { 1 ≤ length catalog.now.volumes }
         ensures opening { IfOk result (λ pei. (board : Board) → M.stands_for store (empty_store board) → StandsFor M.stands_for pei (pei_opening board catalog.now)) }
         ensures made { IfOk result (IsFor catalog.now fuel) }
+        ensures last { IfOk result (λ pei. last_start pei ≡ None) }
     {
         opening_is_sound();
         let mut reported = VolumeList::new();
@@ -87,6 +88,7 @@ impl<M: PeiStore + Drop> Pei<M> {
         requires state { (m : PeiMachine) × StandsFor M.stands_for self.old m }
         ensures row { (m : PeiMachine) (fuel : ℕ) → IsFor catalog.now fuel self.old → StandsFor M.stands_for self.old m → StepsTo M.TAKES_MEMORY (StandsFor M.stands_for self.new) m (pei_step catalog.now fuel m) (record { old = S.text sink.old; new = S.text sink.new }) result }
         ensures made { (fuel : ℕ) → IsFor catalog.now fuel self.old → IsFor catalog.now fuel self.new }
+        ensures last { last_start self.new ≡ last_start self.old }
         ensures faults { FaultsAfter result (S.faults sink.old) (S.faults sink.new) }
     {
         steps_keep_sound();
@@ -107,6 +109,7 @@ impl<M: PeiStore + Drop> Pei<M> {
         requires part { is_some (part_at InPei catalog.now number) ≡ true }
         ensures row { (m : PeiMachine) → StandsFor M.stands_for self.old m → ((part : OfPart) → part_at InPei catalog.now number ≡ Some part → licence ≡ licence_at m number part) → StartsTo (StandsFor M.stands_for self.new) m (started catalog.now m number) (record { old = S.text sink.old; new = S.text sink.new }) result }
         ensures made { (fuel : ℕ) → IsFor catalog.now fuel self.old → IsFor catalog.now fuel self.new }
+        ensures last { last_start self.new ≡ Some number }
         ensures faults { SinkFaultsAfter result (S.faults sink.old) (S.faults sink.new) }
     {
         starts_keep_sound();
@@ -155,13 +158,17 @@ impl<M: PeiStore + Drop> Pei<M> {
         self.core.fuel
     }
 
-    /// The number of starts; it stays at the last u32.
-    pub fn starts(&self) -> u32 {
+    /// The number of starts, also of second ones; it stays at the last u32.
+    pub fn starts(&self) -> u32
+        ensures { (m : PeiMachine) → StandsFor M.stands_for self.now m → result ≡ min (length m.started + length m.again) (2 ^ 32 - 1) }
+    {
         self.core.starts
     }
 
     /// The module that started last. None before the first start.
-    pub fn last_start(&self) -> Option<u32> {
+    pub fn last_start(&self) -> Option<u32>
+        ensures { result ≡ last_start self.now }
+    {
         self.core.last_start
     }
 }

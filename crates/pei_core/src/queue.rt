@@ -25,6 +25,7 @@ pub(crate) fn begin_dispatch<S: Sink>(
     ensures row { (m : PeiMachine) (new : StoreState) → IsCoreOf core.old m → Goes false (λ s. s ≡ new) core.new m (popped_to catalog.now m firing new) (record { old = S.text sink.old; new = S.text sink.new }) result }
     ensures faults { BrokenAfter result (S.faults sink.old) (S.faults sink.new) }
     ensures core { (fuel : ℕ) → IsCoreFor catalog.now fuel core.old → IsCoreFor catalog.now fuel core.new }
+    ensures last { core.new.last_start ≡ core.old.last_start }
 {
     core.sweep = None;
     core.frames.push(notification_frame(&firing));

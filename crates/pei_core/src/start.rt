@@ -75,6 +75,7 @@ pub(crate) fn start_module<S: Sink>(
     ensures row { (m : PeiMachine) → IsCoreOf core.old m → ((part : OfPart) → part_at Pei catalog.now number ≡ Some part → licence ≡ licence_at m number part) → Begins core.new m (started catalog.now m number) (record { old = S.text sink.old; new = S.text sink.new }) result }
     ensures faults { SinkFaultsAfter result (S.faults sink.old) (S.faults sink.new) }
     ensures core { (fuel : ℕ) → IsCoreFor catalog.now fuel core.old → IsCoreFor catalog.now fuel core.new }
+    ensures last { core.new.last_start ≡ Some number }
 {
     let runs = has_block(catalog, number);
     start(&mut core.stages, number);

@@ -42,6 +42,7 @@ fn step_between<M: PeiStore, S: Sink>(
     ensures row { (m : PeiMachine) → Have (M.stands_for store.old) core.old m → option_and_then (next_match m.store) (open_sweep m m.frames) ≡ None → StepsTo M.TAKES_MEMORY (Have (M.stands_for store.new) core.new) m (pei_step catalog.now core.old.fuel m) (record { old = S.text sink.old; new = S.text sink.new }) result }
     ensures faults { FaultsAfter result (S.faults sink.old) (S.faults sink.new) }
     ensures core { (fuel : ℕ) → IsCoreFor catalog.now fuel core.old → IsCoreFor catalog.now fuel core.new }
+    ensures last { core.new.last_start ≡ core.old.last_start }
 {
     if store.memory_due() {
         return went(answer(move_memory(store, core, sink)));
@@ -65,6 +66,7 @@ fn step_on<M: PeiStore, S: Sink>(
     ensures row { (m : PeiMachine) → StandFor (M.stands_for store.old) core.old m → option_and_then (next_match m.store) (open_sweep m m.frames) ≡ None → StepsTo M.TAKES_MEMORY (Have (M.stands_for store.new) core.new) m (pei_step catalog.now core.old.fuel m) (record { old = S.text sink.old; new = S.text sink.new }) result }
     ensures faults { FaultsAfter result (S.faults sink.old) (S.faults sink.new) }
     ensures core { IsCoreFor catalog.now core.old.fuel core.new }
+    ensures last { core.new.last_start ≡ core.old.last_start }
 {
     match core.frames.top() {
         Some(frame) => went(act(store, core, catalog, frame, sink)),
@@ -85,6 +87,7 @@ pub(crate) fn step<M: PeiStore, S: Sink>(
     ensures row { (m : PeiMachine) → StandFor (M.stands_for store.old) core.old m → StepsTo M.TAKES_MEMORY (Have (M.stands_for store.new) core.new) m (pei_step catalog.now core.old.fuel m) (record { old = S.text sink.old; new = S.text sink.new }) result }
     ensures faults { FaultsAfter result (S.faults sink.old) (S.faults sink.new) }
     ensures core { IsCoreFor catalog.now core.old.fuel core.new }
+    ensures last { core.new.last_start ≡ core.old.last_start }
 {
     match next_firing(store, core) {
         Some((firing, sweep)) => went(begin_callback(core, catalog, firing, sweep, sink)),

@@ -32,6 +32,7 @@ fn shadowed<S: Sink>(core: &mut Core, frame: Frame, sink: &mut S) -> Result<(), 
     ensures row { (m : PeiMachine) (old : OfFrame) (below : List OfFrame) (new : StoreState) → IsCoreOf core.old m → m.frames ≡ old ∷ below → Goes false (λ s. s ≡ new) core.new m (P.shadowed (record m { store = new }) frame below) (record { old = S.text sink.old; new = S.text sink.new }) result }
     ensures faults { BrokenAfter result (S.faults sink.old) (S.faults sink.new) }
     ensures core { (catalog : OfCatalog) (fuel : ℕ) → IsCoreFor catalog fuel core.old → IsCoreFor catalog fuel core.new }
+    ensures last { core.new.last_start ≡ core.old.last_start }
 {
     let status = register(&mut core.stages, frame.module_number);
     let mut behind = past(frame, 0);
@@ -52,6 +53,7 @@ pub(crate) fn end_frame<S: Sink>(core: &mut Core, status: Word, sink: &mut S) ->
     ensures row { (m : PeiMachine) (old : OfFrame) (below : List OfFrame) (new : StoreState) → IsCoreOf core.old m → m.frames ≡ old ∷ below → Goes false (λ s. s ≡ new) core.new m (record (printed m (L.End status ∷ [])) { store = new; frames = below }) (record { old = S.text sink.old; new = S.text sink.new }) result }
     ensures faults { BrokenAfter result (S.faults sink.old) (S.faults sink.new) }
     ensures core { (catalog : OfCatalog) (fuel : ℕ) → IsCoreFor catalog fuel core.old → IsCoreFor catalog fuel core.new }
+    ensures last { core.new.last_start ≡ core.old.last_start }
 {
     core.frames.pop();
     told(put(sink, &Line::End { status }))
@@ -74,6 +76,7 @@ pub(crate) fn finish<M: PeiStore, S: Sink>(
     ensures row { (m : PeiMachine) (old : OfFrame) (below : List OfFrame) (new : StoreState) → IsCoreOf core.old m → m.frames ≡ old ∷ below → M.stands_for store.now new → TellsVisits taken new → Goes false (M.stands_for store.now) core.new m (after_taken catalog.now m frame below taken new) (record { old = S.text sink.old; new = S.text sink.new }) result }
     ensures faults { BrokenAfter result (S.faults sink.old) (S.faults sink.new) }
     ensures core { (fuel : ℕ) → IsCoreFor catalog.now fuel core.old → IsCoreFor catalog.now fuel core.new }
+    ensures last { core.new.last_start ≡ core.old.last_start }
 {
     match taken {
         Taken::Wrote(status) => {

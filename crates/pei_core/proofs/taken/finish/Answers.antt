@@ -32,6 +32,7 @@ returns-in-Logged-clause-row g c m old below new of e stand visits =
       reported = of.reported;
       stages = of.stages;
       actions = of.actions;
+      starts = of.starts;
       running = of.running;
     }) in
     rw c.in-Logged.is goes

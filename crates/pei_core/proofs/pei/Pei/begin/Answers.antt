@@ -11,6 +11,7 @@ returns-in-Ok-clause-opening g c board stand = record {
     reported = first_family c.args.catalog.now c.new-reported.result c.add.new.self c.new-reported.ensures c.add.ensures.added;
     stages = none_started board c.args.catalog.now c.in-Ok.stages c.len.result c.in-Ok.ensures;
     actions = refl;
+    starts = refl;
     running = refl;
   };
   sound = c.opening_is_sound.ensures board c.args.catalog.now;
