@@ -1,1 +1,2 @@
 mod NoDrivers
+mod Texts

@@ -1,6 +1,6 @@
 -- What is left of a run of DXE that stops, by the answer: its whole text, or a part of it.
 -- Own.
-use Rattle.std.specs.Prelude.{◌≡◌, ℕ, ◌≤◌, List, [], ◌∷◌, ◌++◌, flat_map, Option, Some, Result, Ok, Err}
+use Rattle.std.specs.Prelude.{◌≡◌, ℕ, ◌≤◌, List, ◌++◌, flat_map, Option, Some, Result, Ok, Err}
 use Rattle.std.specs.Io.KnownBytes.{Appends}
 use Rattle.boot_io.specs.Faults.{Rose}
 use Rattle.boot_io.specs.Sink.{AppendsPart}
