@@ -21,7 +21,7 @@ use volume_list::VolumeList;
 pub enum Broken {
     /// The sink failed at a line.
     SinkFault,
-    /// Memory was wanting for the bases that the HOBs tell. Nothing was put.
+    /// Memory was wanting for the bases that HOBs tell.
     Memory,
 }
 
