@@ -1,0 +1,2 @@
+mod NoDrivers
+mod Texts
