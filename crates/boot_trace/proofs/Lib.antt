@@ -1,1 +1,5 @@
+mod EntryBounds
 mod Hexadecimal
+mod HobPlaces
+mod ListPlaces
+mod PutLines

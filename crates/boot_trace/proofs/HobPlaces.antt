@@ -1,0 +1,92 @@
+-- Where the HOBs of a store stand, by their number.
+use Rattle.std.proofs.Common.{◌≡◌, ℕ, zero, suc, ◌+◌, ◌-◌, ◌*◌, ◌≤◌, ◌<◌, Bool, true, false, cond, List, [], ◌∷◌, ◌++◌, length, take, drop, arith, sym, refl, ap, subst, ◌∙◌, append_assoc, Option, Some, None, option_map, slice_get, ◌==◌, sum_by}
+use lib.Seq.{drop-append-add}
+use Rattle.std.proofs.lemmas.List.{take_at}
+use Rattle.std.proofs.lemmas.List.Sums.{sum_by-cons, sum_by_more, sum_by-take-le}
+use Rattle.std.proofs.lemmas.Bool.Decides.{nat_tests}
+use Rattle.hob_codec.specs.declared.kind.TheConstants.{HANDOFF, END}
+use Rattle.boot_model.specs.declared.store_handle.HobSpan.{HobSpan}
+use Rattle.boot_model.specs.declared.line.Line.{Line}
+use Rattle.boot_model.specs.declared.line.Line.TheVariants as L
+use Rattle.boot_model.specs.StoreState.{StoreState, hob_len, end_place}
+use Rattle.boot_model.specs.declared.state.HobEntry.{HobEntry}
+use Rattle.boot_model.specs.Listing.{hob_lines_from}
+use Rattle.boot_model.specs.HeapImage.{header_bytes, body_bytes, hobs_bytes, hob_list, handoff_body}
+use Rattle.boot_model.specs.Service.Reading.{span_from, hob_at}
+use Rattle.boot_trace.specs.HobLines.{handoff_hob, all_hobs, hob_line_from}
+
+-- how far the HOB of a number stands behind the first
+abbrev pub place_of : List HobEntry → ℕ → ℕ
+place_of hobs n = sum_by hob_len (take n hobs)
+
+abbrev pub span_of : ℕ → HobEntry → HobSpan
+span_of offset hob = record { kind = hob.kind; length = hob_len hob; next = offset + hob_len hob }
+
+abbrev pub line_of_hob : StoreState → ℕ → HobEntry → Line
+line_of_hob s offset hob = L.Hob hob.kind (body_bytes s (offset + 8) hob.body)
+
+place_more : (hob : HobEntry) (hobs : List HobEntry) (n : ℕ) → place_of (hob ∷ hobs) (suc n) ≡ hob_len hob + place_of hobs n
+place_more hob hobs n = sum_by-cons hob_len hob (take n hobs)
+
+apart : (a b : ℕ) → a < b → (a == b) ≡ false
+apart a b le = grind (arith, nat_tests)
+
+same : (a b : ℕ) → a ≡ b → (a == b) ≡ true
+same a b e = grind (arith, nat_tests)
+
+-- the HOB of a number is found at its place
+pub span_there : (hobs : List HobEntry) (at n to : ℕ) → to ≡ at + place_of hobs n → span_from at hobs to ≡ option_map (span_of to) (slice_get hobs n)
+span_there [] at n to e = refl
+span_there (hob ∷ hobs) at zero to e =
+    let here : at ≡ to = omega (arith, e) in
+    let t : (at == to) ≡ true = same at to here in
+    rw t (ap (λ from. Some (span_of from hob)) here)
+span_there (hob ∷ hobs) at (suc n) to e =
+    let t : (at == to) ≡ false = apart at to (omega (arith, e, place_more hob hobs n)) in
+    rw t (span_there hobs (at + hob_len hob) n to (omega (arith, e, place_more hob hobs n)))
+
+pub line_there : (s : StoreState) (hobs : List HobEntry) (at n to : ℕ) → to ≡ at + place_of hobs n → hob_line_from s at hobs to ≡ option_map (line_of_hob s to) (slice_get hobs n)
+line_there s [] at n to e = refl
+line_there s (hob ∷ hobs) at zero to e =
+    let here : at ≡ to = omega (arith, e) in
+    let t : (at == to) ≡ true = same at to here in
+    rw t (ap (λ from. Some (line_of_hob s from hob)) here)
+line_there s (hob ∷ hobs) at (suc n) to e =
+    let t : (at == to) ≡ false = apart at to (omega (arith, e, place_more hob hobs n)) in
+    rw t (line_there s hobs (at + hob_len hob) n to (omega (arith, e, place_more hob hobs n)))
+
+-- as its line stands among all lines
+pub line_among : (s : StoreState) (hobs : List HobEntry) (at n to : ℕ) → to ≡ at + place_of hobs n → slice_get (hob_lines_from s at hobs) n ≡ option_map (line_of_hob s to) (slice_get hobs n)
+line_among s [] at n to e = refl
+line_among s (hob ∷ hobs) at zero to e = let here : at ≡ to = omega (arith, e) in ap (λ from. Some (line_of_hob s from hob)) here
+line_among s (hob ∷ hobs) at (suc n) to e = line_among s hobs (at + hob_len hob) n to (omega (arith, e, place_more hob hobs n))
+
+pub lines_len : (s : StoreState) (hobs : List HobEntry) (at : ℕ) → length (hob_lines_from s at hobs) ≡ length hobs
+lines_len s [] at = refl
+lines_len s (hob ∷ hobs) at = ap suc (lines_len s hobs (at + hob_len hob))
+
+-- a HOB that is found has a number
+found_on : (b : Bool) (here span : HobSpan) (then : Option HobSpan) (P : Type 0) → (b ≡ true → P) → (then ≡ Some span → P) → cond b (Some here) then ≡ Some span → P
+found_on true here span then P f g h = f refl
+found_on false here span then P f g h = g h
+
+abbrev pub HasNumber : List HobEntry → ℕ → ℕ → Type 0
+HasNumber hobs at to = (n : ℕ) × (n < length hobs) × (to ≡ at + place_of hobs n)
+
+pub number_of : (hobs : List HobEntry) (at to : ℕ) (span : HobSpan) → span_from at hobs to ≡ Some span → HasNumber hobs at to
+number_of [] at to span h = cc
+number_of (hob ∷ hobs) at to span h =
+    found_on (at == to) (record { kind = hob.kind; length = hob_len hob; next = at + hob_len hob }) span (span_from (at + hob_len hob) hobs to) (HasNumber (hob ∷ hobs) at to)
+    (λ t. let e : at ≡ to = grind (arith, nat_tests, t) in (0, omega arith, omega (arith, e)))
+    (λ later. let rest = number_of hobs (at + hob_len hob) to span later in (suc rest.0, omega (arith, rest.1), omega (arith, rest.2, place_more hob hobs rest.0))) h
+
+-- the hand-off HOB is the first of all
+pub at_start : (s : StoreState) (offset : ℕ) → hob_at s offset ≡ span_from 0 (all_hobs s) offset
+at_start s zero = refl
+at_start s (suc offset) =
+    let t : (suc offset == 0) ≡ false = grind (arith, nat_tests) in
+    let u : (0 == suc offset) ≡ false = grind (arith, nat_tests) in
+    rw (t, u) refl
+
+pub end_is : (s : StoreState) → end_place s ≡ sum_by hob_len (all_hobs s)
+end_is s = let c : sum_by hob_len (all_hobs s) ≡ hob_len (handoff_hob s) + sum_by hob_len s.hobs = sum_by-cons hob_len (handoff_hob s) s.hobs in omega (arith, c)
