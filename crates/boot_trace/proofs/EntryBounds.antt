@@ -20,6 +20,8 @@ use Rattle.boot_model.specs.StateFacts.{IsStoreState, IsEntry, IsPending, IsNode
 use Rattle.boot_trace.specs.declared.entry_list.EntryList.{EntryList}
 use Rattle.boot_trace.specs.declared.entry_list.EntryList.TheVariants.{Ppis, Callbacks, Dispatches, Pendings}
 use Rattle.boot_trace.specs.EntryLines.{entry_lines}
+use Rattle.boot_trace.specs.HobLines.{all_hobs}
+use Rattle.boot_trace.proofs.HobPlaces.{end_is}
 
 -- a body stands before the end
 before_on : (b : Bool) (here : Body) (then : Option Body) (body : Body) (place last : ℕ) → (b ≡ true → place < last) → (then ≡ Some body → place < last) → cond b (Some here) then ≡ Some body → place < last
@@ -103,6 +105,20 @@ pub few_entries : (s : StoreState) (list : EntryList) → IsStoreState s → len
 few_entries s list h = omega (arith, lines_len s list, few_nodes s h, small_heap s h)
 
 -- and of HOBs
-pub hobs_len : (hobs : List HobEntry) → length hobs * 8 ≤ sum_by hob_len hobs
+hobs_len : (hobs : List HobEntry) → length hobs * 8 ≤ sum_by hob_len hobs
 hobs_len [] = omega arith
 hobs_len (hob ∷ hobs) = let c : sum_by hob_len (hob ∷ hobs) ≡ hob_len hob + sum_by hob_len hobs = sum_by-cons hob_len hob hobs in omega (arith, c, hobs_len hobs)
+
+pub few_hobs : (s : StoreState) → IsStoreState s → length (all_hobs s) < 0x10000000
+few_hobs s h = omega (arith, hobs_len (all_hobs s), end_is s, small_heap s h)
+
+-- addresses of the heap fit into 64 bits
+heap_end : (s : StoreState) (moved : Bool) → IsHeap s moved → IfSome s.planned (IsPlanned s.board) → IsBoard s.board → s.base + s.len ≤ 0x10000000000
+heap_end s false h p b = omega (arith, h.0, h.1, b.temp_end)
+heap_end s true h p b =
+    let P : Option Range → Type 0 = λ planned. IfSome planned (IsPlanned s.board) in
+    let q : IsPlanned s.board (record { base = s.base; len = s.len }) = subst P h.0 p in
+    omega (arith, q.1, b.ram_end)
+
+pub low_heap : (s : StoreState) → IsStoreState s → s.base + end_place s + 8 ≤ 0x10000000000
+low_heap s h = let end = heap_end s s.moved h.heap h.planned h.board in omega (arith, end, h.room)

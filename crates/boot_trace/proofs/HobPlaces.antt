@@ -1,8 +1,8 @@
 -- Where the HOBs of a store stand, by their number.
-use Rattle.std.proofs.Common.{◌≡◌, ℕ, zero, suc, ◌+◌, ◌-◌, ◌*◌, ◌≤◌, ◌<◌, Bool, true, false, cond, List, [], ◌∷◌, ◌++◌, length, take, drop, arith, sym, refl, ap, subst, ◌∙◌, append_assoc, Option, Some, None, option_map, slice_get, ◌==◌, sum_by}
-use lib.Seq.{drop-append-add}
-use Rattle.std.proofs.lemmas.List.{take_at}
+use Rattle.std.proofs.Common.{◌≡◌, ℕ, zero, suc, ◌+◌, ◌-◌, ◌*◌, ◌≤◌, ◌<◌, Bool, true, false, cond, List, [], ◌∷◌, ◌++◌, length, take, drop, arith, sym, refl, ap, subst, ◌∙◌, append_assoc, Option, Some, None, option_map, slice_get, is_some, get_or, ◌==◌, sum_by, ◌⊎◌}
+use Rattle.std.proofs.lemmas.List.{take_all}
 use Rattle.std.proofs.lemmas.List.Sums.{sum_by-cons, sum_by_more, sum_by-take-le}
+use Rattle.std.proofs.lemmas.Option.{same_Some, slice_get_within, get_or_from_slice_get}
 use Rattle.std.proofs.lemmas.Bool.Decides.{nat_tests}
 use Rattle.hob_codec.specs.declared.kind.TheConstants.{HANDOFF, END}
 use Rattle.boot_model.specs.declared.store_handle.HobSpan.{HobSpan}
@@ -13,7 +13,9 @@ use Rattle.boot_model.specs.declared.state.HobEntry.{HobEntry}
 use Rattle.boot_model.specs.Listing.{hob_lines_from}
 use Rattle.boot_model.specs.HeapImage.{header_bytes, body_bytes, hobs_bytes, hob_list, handoff_body}
 use Rattle.boot_model.specs.Service.Reading.{span_from, hob_at}
-use Rattle.boot_trace.specs.HobLines.{handoff_hob, all_hobs, hob_line_from}
+use Rattle.boot_model.specs.StoreCall.{IsHobPlace}
+use Rattle.boot_trace.specs.HobLines.{handoff_hob, all_hobs, hob_line_from, hob_line_at}
+use Rattle.boot_trace.proofs.ListPlaces.{past}
 
 -- how far the HOB of a number stands behind the first
 abbrev pub place_of : List HobEntry → ℕ → ℕ
@@ -25,7 +27,7 @@ span_of offset hob = record { kind = hob.kind; length = hob_len hob; next = offs
 abbrev pub line_of_hob : StoreState → ℕ → HobEntry → Line
 line_of_hob s offset hob = L.Hob hob.kind (body_bytes s (offset + 8) hob.body)
 
-place_more : (hob : HobEntry) (hobs : List HobEntry) (n : ℕ) → place_of (hob ∷ hobs) (suc n) ≡ hob_len hob + place_of hobs n
+pub place_more : (hob : HobEntry) (hobs : List HobEntry) (n : ℕ) → place_of (hob ∷ hobs) (suc n) ≡ hob_len hob + place_of hobs n
 place_more hob hobs n = sum_by-cons hob_len hob (take n hobs)
 
 apart : (a b : ℕ) → a < b → (a == b) ≡ false
@@ -90,3 +92,59 @@ at_start s (suc offset) =
 
 pub end_is : (s : StoreState) → end_place s ≡ sum_by hob_len (all_hobs s)
 end_is s = let c : sum_by hob_len (all_hobs s) ≡ hob_len (handoff_hob s) + sum_by hob_len s.hobs = sum_by-cons hob_len (handoff_hob s) s.hobs in omega (arith, c)
+
+-- what a place tells
+told_at : (s : StoreState) (n offset : ℕ) → offset ≡ place_of (all_hobs s) n → hob_at s offset ≡ option_map (span_of offset) (slice_get (all_hobs s) n)
+told_at s n offset e = at_start s offset ∙ span_there (all_hobs s) 0 n offset (omega (arith, e))
+
+some_told : {A B : Type 0} (f : A → B) (o : Option A) (b : B) → option_map f o ≡ Some b → (a : A) × (o ≡ Some a) × (f a ≡ b)
+some_told f None b e = cc
+some_told f (Some a) b e = (a, refl, same_Some (f a) b e)
+
+none_told : {A B : Type 0} (f : A → B) (o : Option A) → option_map f o ≡ None → o ≡ None
+none_told f None e = refl
+none_told f (Some a) e = cc
+
+-- the HOB that is told at the place of a number
+pub record Told (s : StoreState) (n offset : ℕ) (span : HobSpan) : Type 0 where
+  pub hob : HobEntry
+  pub is : slice_get (all_hobs s) n ≡ Some hob
+  pub span : span_of offset hob ≡ span
+  pub within : n < length (all_hobs s)
+  pub next : span.next ≡ place_of (all_hobs s) (n + 1)
+  pub low : span.next ≤ end_place s
+
+pub told : (s : StoreState) (n offset : ℕ) (span : HobSpan) → offset ≡ place_of (all_hobs s) n → Some span ≡ hob_at s offset → Told s n offset span
+told s n offset span e h =
+    let x = some_told (span_of offset) (slice_get (all_hobs s) n) span (sym (told_at s n offset e) ∙ sym h) in
+    let le = slice_get_within (all_hobs s) n x.0 x.1 in
+    let here : get_or (all_hobs s) n x.0 ≡ x.0 = get_or_from_slice_get (all_hobs s) n x.0 x.0 x.1 in
+    let more : place_of (all_hobs s) (n + 1) ≡ place_of (all_hobs s) n + hob_len x.0 = sum_by_more hob_len (all_hobs s) n x.0 le ∙ ap (λ (hob : HobEntry). place_of (all_hobs s) n + hob_len hob) here in
+    let after : offset + hob_len x.0 ≡ span.next = ap (λ (span : HobSpan). span.next) x.2 in
+    let next : span.next ≡ place_of (all_hobs s) (n + 1) = sym after ∙ ap (λ k. k + hob_len x.0) e ∙ sym more in
+    record { hob = x.0; is = x.1; span = x.2; within = le; next = next; low = omega (arith, next, sum_by-take-le hob_len (all_hobs s) (n + 1), end_is s) }
+
+-- no HOB is told behind the last
+pub none_left : (s : StoreState) (n offset : ℕ) → offset ≡ place_of (all_hobs s) n → None ≡ hob_at s offset → length (all_hobs s) ≤ n
+none_left s n offset e h = past (all_hobs s) n (none_told (span_of offset) (slice_get (all_hobs s) n) (sym (told_at s n offset e) ∙ sym h))
+
+-- each number has a place, and the one behind the last has the end HOB's
+place_on : (s : StoreState) (n offset : ℕ) (o : Option HobEntry) → slice_get (all_hobs s) n ≡ o → n ≤ length (all_hobs s) → offset ≡ place_of (all_hobs s) n → IsHobPlace offset s
+place_on s n offset None is le e = let high = past (all_hobs s) n is in inr (e ∙ ap (sum_by hob_len) (take_all n (all_hobs s) high) ∙ sym (end_is s))
+place_on s n offset (Some hob) is le e = inl (ap is_some (told_at s n offset e ∙ ap (option_map (span_of offset)) is))
+
+pub hob_place : (s : StoreState) (n offset : ℕ) → n ≤ length (all_hobs s) → offset ≡ place_of (all_hobs s) n → IsHobPlace offset s
+hob_place s n offset = place_on s n offset (slice_get (all_hobs s) n) refl
+
+-- a HOB that is found has a number
+pub numbered : (s : StoreState) (offset : ℕ) (span : HobSpan) → hob_at s offset ≡ Some span → (n : ℕ) × (offset ≡ place_of (all_hobs s) n)
+numbered s offset span h =
+    let n = number_of (all_hobs s) 0 offset span (sym (at_start s offset) ∙ h) in
+    (n.0, omega (arith, n.2))
+
+-- its line, by its offset and among all lines
+pub line_at : (s : StoreState) (n offset : ℕ) (hob : HobEntry) → offset ≡ place_of (all_hobs s) n → slice_get (all_hobs s) n ≡ Some hob → hob_line_at s offset ≡ Some (line_of_hob s offset hob)
+line_at s n offset hob e is = line_there s (all_hobs s) 0 n offset (omega (arith, e)) ∙ ap (option_map (line_of_hob s offset)) is
+
+pub line_in : (s : StoreState) (n offset : ℕ) (hob : HobEntry) → offset ≡ place_of (all_hobs s) n → slice_get (all_hobs s) n ≡ Some hob → Some (line_of_hob s offset hob) ≡ slice_get (hob_lines_from s 0 (all_hobs s)) n
+line_in s n offset hob e is = sym (line_among s (all_hobs s) 0 n offset (omega (arith, e)) ∙ ap (option_map (line_of_hob s offset)) is)
