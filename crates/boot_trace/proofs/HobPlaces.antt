@@ -1,5 +1,5 @@
 -- Where the HOBs of a store stand, by their number.
-use Rattle.std.proofs.Common.{◌≡◌, ℕ, zero, suc, ◌+◌, ◌-◌, ◌*◌, ◌≤◌, ◌<◌, Bool, true, false, cond, List, [], ◌∷◌, ◌++◌, length, take, drop, arith, sym, refl, ap, subst, ◌∙◌, append_assoc, Option, Some, None, option_map, slice_get, is_some, get_or, ◌==◌, sum_by, ◌⊎◌}
+use Rattle.std.proofs.Common.{◌≡◌, ℕ, zero, suc, ◌+◌, ◌-◌, ◌*◌, ◌≤◌, ◌<◌, Bool, true, false, cond, List, [], ◌∷◌, ◌++◌, length, take, drop, arith, sym, refl, ap, subst, ◌∙◌, append_assoc, Option, Some, None, option_map, slice_get, is_some, get_or, ◌==◌, sum_by, ◌⊎◌, inl, inr}
 use Rattle.std.proofs.lemmas.List.{take_all}
 use Rattle.std.proofs.lemmas.List.Sums.{sum_by-cons, sum_by_more, sum_by-take-le}
 use Rattle.std.proofs.lemmas.Option.{same_Some, slice_get_within, get_or_from_slice_get}
@@ -109,9 +109,10 @@ none_told f (Some a) e = cc
 pub record Told (s : StoreState) (n offset : ℕ) (span : HobSpan) : Type 0 where
   pub hob : HobEntry
   pub is : slice_get (all_hobs s) n ≡ Some hob
-  pub span : span_of offset hob ≡ span
+  pub told : span_of offset hob ≡ span
   pub within : n < length (all_hobs s)
   pub next : span.next ≡ place_of (all_hobs s) (n + 1)
+  pub more : offset < span.next
   pub low : span.next ≤ end_place s
 
 pub told : (s : StoreState) (n offset : ℕ) (span : HobSpan) → offset ≡ place_of (all_hobs s) n → Some span ≡ hob_at s offset → Told s n offset span
@@ -122,7 +123,7 @@ told s n offset span e h =
     let more : place_of (all_hobs s) (n + 1) ≡ place_of (all_hobs s) n + hob_len x.0 = sum_by_more hob_len (all_hobs s) n x.0 le ∙ ap (λ (hob : HobEntry). place_of (all_hobs s) n + hob_len hob) here in
     let after : offset + hob_len x.0 ≡ span.next = ap (λ (span : HobSpan). span.next) x.2 in
     let next : span.next ≡ place_of (all_hobs s) (n + 1) = sym after ∙ ap (λ k. k + hob_len x.0) e ∙ sym more in
-    record { hob = x.0; is = x.1; span = x.2; within = le; next = next; low = omega (arith, next, sum_by-take-le hob_len (all_hobs s) (n + 1), end_is s) }
+    record { hob = x.0; is = x.1; told = x.2; within = le; next = next; more = omega (arith, after); low = omega (arith, next, sum_by-take-le hob_len (all_hobs s) (n + 1), end_is s) }
 
 -- no HOB is told behind the last
 pub none_left : (s : StoreState) (n offset : ℕ) → offset ≡ place_of (all_hobs s) n → None ≡ hob_at s offset → length (all_hobs s) ≤ n

@@ -5,4 +5,5 @@ mod Hexadecimal
 mod HobPlaces
 mod ListPlaces
 mod PutLines
+mod SpanLines
 mod StoreTexts

@@ -4,7 +4,7 @@ ghost use Rattle.hex.specs.Hex.{encode_lower};
 ghost use Rattle.boot_io.specs.Line.{line_of};
 ghost use Rattle.boot_io.specs.Sink.{Puts, SinkFaultsAfter};
 ghost use Rattle.boot_model.specs.Service.{Present, OfEach};
-ghost use Rattle.boot_model.specs.Text.{bytes_text};
+ghost use Rattle.boot_model.specs.Text.{bytes_text, hob_text};
 ghost use Rattle.boot_trace.specs.HeapParts.{IsHeapPart, heap_part};
 
 use crate::hob_line::{PIECE_LEN, put_front, put_piece};
@@ -76,7 +76,7 @@ fn put_heap_back<S: Sink, M: PeiStore>(
 }
 
 // A keyword, a HOB's type, and bytes of the heap or a dash.
-pub(crate) fn put_heap_hob<S: Sink, M: PeiStore>(
+fn put_heap_hob<S: Sink, M: PeiStore>(
     sink: &mut S,
     store: &M,
     keyword: &[u8],
@@ -99,4 +99,20 @@ pub(crate) fn put_heap_hob<S: Sink, M: PeiStore>(
         Ok(()) => put_heap_back(sink, store, at, len),
         Err(SinkFault) => Err(SinkFault),
     }
+}
+
+// The line of a HOB whose bytes stand in the heap.
+#[tactic(auto, unfolding(boot_model::specs::Text::keyword))]
+pub(crate) fn put_heap_line<S: Sink, M: PeiStore>(
+    sink: &mut S,
+    store: &M,
+    kind: u16,
+    at: u64,
+    len: usize,
+) -> Result<(), SinkFault>
+    requires state { Present (M.stands_for store.now) (IsHeapPart at len) }
+    ensures text { OfEach (M.stands_for store.now) (IsHeapPart at len) (λ s. Puts result (S.text sink.old) (S.text sink.new) (hob_text kind (heap_part s at len))) }
+    ensures cause { SinkFaultsAfter result (S.faults sink.old) (S.faults sink.new) }
+{
+    put_heap_hob(sink, store, b"hob", kind, at, len)
 }

@@ -8,7 +8,7 @@ ghost use Rattle.boot_model.specs.Text.{line_text, text_of};
 ghost use Rattle.boot_model.specs.Listing.{hob_lines, hob_lines_from};
 ghost use Rattle.boot_trace.specs.HobLines.{all_hobs, hob_line_at};
 
-use crate::heap_bytes::put_heap_hob;
+use crate::heap_bytes::put_heap_line;
 use crate::line::put_own;
 use boot_io::{Sink, SinkFault};
 use boot_model::{HobSpan, Line, PeiStore};
@@ -17,7 +17,6 @@ use boot_model::{HobSpan, Line, PeiStore};
 const HEADER_LEN: u16 = 8;
 
 // A HOB whose type and length are known.
-#[tactic(auto, unfolding(boot_model::specs::Text::keyword))]
 fn put_span<S: Sink, M: PeiStore>(
     sink: &mut S,
     store: &M,
@@ -30,7 +29,7 @@ fn put_span<S: Sink, M: PeiStore>(
 {
     let at = store.base() + offset + u64::from(HEADER_LEN);
     let len = usize::from(span.length - HEADER_LEN);
-    put_heap_hob(sink, store, b"hob", span.kind, at, len)
+    put_heap_line(sink, store, span.kind, at, len)
 }
 
 // The HOB at an offset of the heap.
