@@ -1,11 +1,13 @@
 -- What is read of the heap: the bytes of the HOB list, and of one HOB in it.
 use lib.Seq.{take-append-add, drop-append-add}
-use Rattle.std.proofs.Common.{◌≡◌, ℕ, zero, suc, ◌+◌, ◌-◌, ◌≤◌, ◌<◌, Bool, true, false, ◌&&◌, nat_le, if◌then◌else◌, List, [], ◌∷◌, ◌++◌, length, take, drop, get_or, map, arith, sym, refl, ap, subst, ◌∙◌, append_assoc, Option, Some, None, IfSome, slice_get, sum_by}
-use Rattle.std.specs.Prelude.{⊤, unwrap_or}
+use Rattle.std.proofs.Common.{◌≡◌, ℕ, zero, suc, ◌+◌, ◌-◌, ◌≤◌, ◌<◌, Bool, true, false, ◌&&◌, nat_le, if◌then◌else◌, List, [], ◌∷◌, ◌++◌, length, take, drop, get_or, map, arith, sym, refl, ap, subst, ◌∙◌, append_assoc, Option, Some, None, IfSome, slice_get, sum_by, ◌⊎◌}
+use Rattle.std.specs.Prelude.{unwrap_or}
+use mathlib.Core.Logic.{⊎_elim}
 use Rattle.std.proofs.lemmas.List.{append-nil, drop_more, length-append}
 use Rattle.std.proofs.lemmas.List.Sums.{sum_by-cons}
 use Rattle.std.proofs.lemmas.Option.{same_Some, unwrap_or-slice_get}
 use Rattle.std.proofs.lemmas.Bool.Decides.{nat_tests}
+use Rattle.phys_mem.specs.declared.rom.Rom.{Rom}
 use Rattle.phys_mem.specs.Region.{is_inside}
 use Rattle.hob_codec.specs.declared.kind.TheConstants.{HANDOFF, END}
 use Rattle.boot_model.specs.declared.state.DescriptorBody.{DescriptorBody}
@@ -23,13 +25,38 @@ use Rattle.boot_trace.specs.HeapParts.{IsHeapPart, heap_part}
 use Rattle.boot_trace.proofs.HobPlaces.{place_of, place_more}
 
 -- a GUID that stands behind its descriptor has sixteen bytes
+guid_whole : (s : StoreState) (d : DescriptorBody) → IsGuidOf s d None → length d.guid.0 ≡ 16
+guid_whole s d h = ?
+
 guid_len : (s : StoreState) (d : DescriptorBody) (stands : Option ℕ) → IsGuidOf s d stands → length (guid_behind d stands) + 24 ≡ descriptor_len stands
-guid_len s d None h = ?
+guid_len s d None h = omega (arith, guid_whole s d h)
 guid_len s d (Some address) h = refl
 
--- no volume lies over the heap
+-- each volume lies below the heap or above it
+abbrev IsApart : StoreState → Rom → Type 0
+IsApart s rom = (rom.base + length rom.bytes ≤ s.base) ⊎ (s.base + s.len ≤ rom.base)
+
+volumes_apart : (s : StoreState) → IsStoreState s → Each (IsApart s) s.board.roms
+volumes_apart s h = ?
+
+-- so that no byte of the heap is a volume's
+outside_low : (base len at n : ℕ) → 1 ≤ n → base + len ≤ at → is_inside base len at n ≡ false
+outside_low base len at n some high =
+    let t : nat_le base at ≡ true = grind (arith, nat_tests) in
+    let u : nat_le (at + n) (base + len) ≡ false = grind (arith, nat_tests) in
+    rw (t, u) refl
+
+outside_high : (base len at n : ℕ) → 1 ≤ n → at + n ≤ base → is_inside base len at n ≡ false
+outside_high base len at n some low = let t : nat_le base at ≡ false = grind (arith, nat_tests) in rw t refl
+
+in_no_volume : (s : StoreState) (at n : ℕ) (roms : List Rom) → 1 ≤ n → s.base ≤ at → at + n ≤ s.base + s.len → Each (IsApart s) roms → rom_bytes roms at n ≡ None
+in_no_volume s at n [] some low high h = refl
+in_no_volume s at n (rom ∷ roms) some low high h =
+    let t : is_inside rom.base (length rom.bytes) at n ≡ false = ⊎_elim (λ below. outside_low rom.base (length rom.bytes) at n some (omega (arith, below, low))) (λ above. outside_high rom.base (length rom.bytes) at n some (omega (arith, above, high))) h.0 in
+    rw t (in_no_volume s at n roms some low high h.1)
+
 no_volume : (s : StoreState) (at n : ℕ) → IsStoreState s → 1 ≤ n → s.base ≤ at → at + n ≤ s.base + s.len → rom_bytes s.board.roms at n ≡ None
-no_volume s at n h some low high = ?
+no_volume s at n h some low high = in_no_volume s at n s.board.roms some low high (volumes_apart s h)
 
 -- the lengths of bodies
 node_len : (links : Option Links) → length (links_bytes links) ≡ 32
@@ -103,9 +130,9 @@ read_is f xs (suc n) at k le same =
     let place : k + 0 ≡ k = omega arith in
     let here : f at ≡ get_or xs k 0 = ap f first ∙ same 0 (omega arith) ∙ ap (λ i. get_or xs i 0) place in
     let rest = read_is f xs n (at + 1) (k + 1) (omega (arith, le)) (λ i lt.
-      let next : at + 1 + i ≡ at + suc i = omega arith in
-      let after : k + suc i ≡ k + 1 + i = omega arith in
-      ap f next ∙ same (suc i) (omega (arith, lt)) ∙ ap (λ j. get_or xs j 0) after) in
+    let next : at + 1 + i ≡ at + suc i = omega arith in
+    let after : k + suc i ≡ k + 1 + i = omega arith in
+    ap f next ∙ same (suc i) (omega (arith, lt)) ∙ ap (λ j. get_or xs j 0) after) in
     ap (λ x. x ∷ map f (numbers (at + 1) n)) here ∙ ap (λ ys. get_or xs k 0 ∷ ys) rest ∙ sym (ap (take (suc n)) (drop_more xs k 0 (omega (arith, le))))
 
 inside : (base len at n : ℕ) → base ≤ at → at + n ≤ base + len → is_inside base len at n ≡ true
@@ -144,7 +171,7 @@ heap_read s at n h some part =
     let end = list_length s h in
     let high : at + n ≤ s.base + s.len = omega (arith, part.1, h.room) in
     let read : map (heap_byte s) (numbers at n) ≡ heap_part s at n = read_is (heap_byte s) (hob_list s) n at (at - s.base) (omega (arith, part.0, part.1, end))
-      (λ i lt. heap_byte_is s (at + i) (at - s.base + i) (omega (arith, part.0)) (omega (arith, part.0, lt, high))) in
+    (λ i lt. heap_byte_is s (at + i) (at - s.base + i) (omega (arith, part.0)) (omega (arith, part.0, lt, high))) in
     ap (λ (o : Option (List ℕ)). or_else o (or_else (if s.moved then None else region_bytes s s.board.temp at n) (region_bytes s s.board.ram at n))) (no_volume s at n h some part.0 high)
     ∙ mapped s s.moved at n h.heap h.planned part.0 high ∙ ap Some read
 

@@ -52,10 +52,10 @@ fn hob_count<M: PeiStore>(store: &M) -> u32
     ensures row { OfEach (M.stands_for store.now) Anything (λ s. result ≡ length (all_hobs s)) }
 {
     let mut count = 0;
-    let mut offset = 0;
-    'hobs: while let Some(span) = store.hob_at(offset) {
+    let mut next = 0;
+    'hobs: while let Some(span) = store.hob_at(next) {
         count += 1;
-        offset = span.next;
+        next = span.next;
     }
     count
 }

@@ -42,11 +42,7 @@ fn put_entries<S: Sink, M: PeiStore>(
 }
 
 // A list, after its count.
-fn put_list<S: Sink, M: PeiStore>(
-    sink: &mut S,
-    store: &M,
-    list: EntryList,
-) -> Result<(), SinkFault>
+fn put_list<S: Sink, M: PeiStore>(sink: &mut S, store: &M, list: EntryList) -> Result<(), SinkFault>
     requires state { Present (M.stands_for store.now) Anything }
     ensures text { OfEach (M.stands_for store.now) Anything (λ s. Puts result (S.text sink.old) (S.text sink.new) (list_text s list)) }
     ensures cause { SinkFaultsAfter result (S.faults sink.old) (S.faults sink.new) }

@@ -1,4 +1,4 @@
-use Rattle.std.proofs.Common.{ℕ, ◌≤◌, ◌<◌, length, arith, sym, ◌∙◌}
+use Rattle.std.proofs.Common.{arith, sym, ◌∙◌}
 use Rattle.boot_trace.specs.EntryLines.{entry_lines}
 use Rattle.boot_trace.proofs.EntryBounds.{few_entries}
 use Rattle.boot_trace.proofs.ListPlaces.{within, past_none}
@@ -18,7 +18,7 @@ entries-preserved g c s stands =
 pub returns : goal.returns
 returns g c = record {
   row = λ s stands needs.
-    let low = c.entries.invariant s stands in
-    let high = past_none (entry_lines s c.args.list) c.entries.count c.entry_line.result (c.entry_line.ensures.row s stands tt) (sym c.is_some.ensures ∙ c.if-is_some.false) in
-    omega (arith, low, high);
+      let low = c.entries.invariant s stands in
+      let high = past_none (entry_lines s c.args.list) c.entries.count c.entry_line.result (c.entry_line.ensures.row s stands tt) (sym c.is_some.ensures ∙ c.if-is_some.false) in
+      omega (arith, low, high);
 }

@@ -31,10 +31,10 @@ pieces-preserved g c =
     let P : List ℕ → Type 0 = λ text. Appends (T c.args.sink.now) (T c.put_heap_piece.new.sink) text in
     record {
       text = λ s stands part.
-        let piece : IsHeapPart next 64 s = (omega (arith, part.0, low), omega (arith, part.1, end, long)) in
-        let len : next + 64 ≡ at + (next + 64 - at) = omega (arith, low) in
-        subst P (piece_more s at next 64 (next + 64 - at) part.0 low len)
-        (appends_then (T c.args.sink.now) (T c.pieces.sink) (T c.put_heap_piece.new.sink) (encode_lower (heap_part s at (next - at))) (encode_lower (heap_part s next 64)) (c.pieces.invariant.text s stands part) (c.in-Ok.ensures.text s stands piece));
+          let piece : IsHeapPart next 64 s = (omega (arith, part.0, low), omega (arith, part.1, end, long)) in
+          let len : next + 64 ≡ at + (next + 64 - at) = omega (arith, low) in
+          subst P (piece_more s at next 64 (next + 64 - at) part.0 low len)
+          (appends_then (T c.args.sink.now) (T c.pieces.sink) (T c.put_heap_piece.new.sink) (encode_lower (heap_part s at (next - at))) (encode_lower (heap_part s next 64)) (c.pieces.invariant.text s stands part) (c.in-Ok.ensures.text s stands piece));
       low = omega (arith, low);
       end = omega (arith, end, long);
       some = omega (arith, long);
@@ -55,7 +55,7 @@ returns-in-Err-clause-text g c s stands part =
     let after : at ≤ next + 64 = omega (arith, low) in
     let P : List ℕ → Type 0 = λ text. AppendsPart (T c.args.sink.now) (T c.put_heap_piece.new.sink) text in
     let so_far = subst P (piece_more s at next 64 (next + 64 - at) part.0 low len)
-      (part_then (T c.args.sink.now) (T c.pieces.sink) (T c.put_heap_piece.new.sink) (encode_lower (heap_part s at (next - at))) (encode_lower (heap_part s next 64)) (c.pieces.invariant.text s stands part) (c.in-Err.ensures.text s stands piece)) in
+    (part_then (T c.args.sink.now) (T c.pieces.sink) (T c.put_heap_piece.new.sink) (encode_lower (heap_part s at (next - at))) (encode_lower (heap_part s next 64)) (c.pieces.invariant.text s stands part) (c.in-Err.ensures.text s stands piece)) in
     subst P (piece_more s at (next + 64) (c.pieces.left - 64) c.args.len part.0 after later)
     (part_of_more (T c.args.sink.now) (T c.put_heap_piece.new.sink) (encode_lower (heap_part s at (next + 64 - at))) (encode_lower (heap_part s (next + 64) (c.pieces.left - 64))) so_far)
 

@@ -34,13 +34,13 @@ hobs-preserved g c =
     let T = g.S.Sink.text in
     record {
       text = λ s stands.
-        let i = c.hobs.invariant.text s stands in
-        let h = c.in-Some.ensures.row s stands (hob_place s i.0 c.hobs.offset i.1 i.2) in
-        let t = told s i.0 c.hobs.offset c.in-Some.span i.2 h in
-        let line = line_of_hob s c.hobs.offset t.hob in
-        let P : Option Line → Type 0 = λ o. IsSomeAnd o (λ line. Appends (T c.hobs.sink) (T c.put_span.new.sink) (line_text line)) in
-        let put : Appends (T c.hobs.sink) (T c.put_span.new.sink) (line_text line) = subst P (line_at s i.0 c.hobs.offset t.hob i.2 t.is) (c.in-Ok.ensures.text s stands (sym h)) in
-        (i.0 + 1, omega (arith, t.within), t.next, next_line line_text (hob_lines_from s 0 (all_hobs s)) i.0 line (T c.args.sink.now) (T c.hobs.sink) (T c.put_span.new.sink) (line_in s i.0 c.hobs.offset t.hob i.2 t.is) i.3 put);
+          let i = c.hobs.invariant.text s stands in
+          let h = c.in-Some.ensures.row s stands (hob_place s i.0 c.hobs.offset i.1 i.2) in
+          let t = told s i.0 c.hobs.offset c.in-Some.span i.2 h in
+          let line = line_of_hob s c.hobs.offset t.hob in
+          let P : Option Line → Type 0 = λ o. IsSomeAnd o (λ line. Appends (T c.hobs.sink) (T c.put_span.new.sink) (line_text line)) in
+          let put : Appends (T c.hobs.sink) (T c.put_span.new.sink) (line_text line) = subst P (line_at s i.0 c.hobs.offset t.hob i.2 t.is) (c.in-Ok.ensures.text s stands (sym h)) in
+          (i.0 + 1, omega (arith, t.within), t.next, next_line line_text (hob_lines_from s 0 (all_hobs s)) i.0 line (T c.args.sink.now) (T c.hobs.sink) (T c.put_span.new.sink) (line_in s i.0 c.hobs.offset t.hob i.2 t.is) i.3 put);
       count = c.in-Ok.ensures.cause ∙ c.hobs.invariant.count;
     }
 

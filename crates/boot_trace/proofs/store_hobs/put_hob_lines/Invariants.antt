@@ -11,7 +11,7 @@ use Rattle.boot_trace.proofs.store_hobs.put_hob_lines.Given as goal
 abbrev pub invariant-hobs : goal.invariant-hobs
 invariant-hobs g l = record {
   text : (s : StoreState) → g.M.PeiStore.stands_for l.store s
-  → (n : ℕ) × (n ≤ length (all_hobs s)) × (l.offset ≡ place_of (all_hobs s) n) × Appends (g.S.Sink.text l.fn.sink) (g.S.Sink.text l.sink) (text_of (take n (hob_lines_from s 0 (all_hobs s))));
+      → (n : ℕ) × (n ≤ length (all_hobs s)) × (l.offset ≡ place_of (all_hobs s) n) × Appends (g.S.Sink.text l.fn.sink) (g.S.Sink.text l.sink) (text_of (take n (hob_lines_from s 0 (all_hobs s))));
   count : g.S.Sink.faults l.sink ≡ g.S.Sink.faults l.fn.sink;
 }
 

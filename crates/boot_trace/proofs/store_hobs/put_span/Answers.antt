@@ -43,5 +43,5 @@ returns-clause-text g c s stands h =
     let part : IsHeapPart at c.from-len.result s = (omega (arith, place), omega (arith, place, c.from-len.ensures, body.part.1)) in
     let P : Option Line → Type 0 = λ o. IsSomeAnd o (λ line. Puts c.put_heap_line.result (T c.args.sink.now) (T c.put_heap_line.new.sink) (line_text line)) in
     let line = ap (λ k. Some (L.Hob kind (heap_part s k c.from-len.result))) place ∙ ap (λ n. Some (L.Hob kind (heap_part s (s.base + c.args.offset + 8) n))) c.from-len.ensures
-      ∙ span_line s c.args.offset c.args.span.now (g.met.M.PeiStore.facts c.args.store.now s stands) h in
+    ∙ span_line s c.args.offset c.args.span.now (g.met.M.PeiStore.facts c.args.store.now s stands) h in
     subst P line (c.put_heap_line.ensures.text s stands part)

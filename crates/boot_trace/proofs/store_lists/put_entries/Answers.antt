@@ -1,16 +1,15 @@
-use Rattle.std.proofs.Common.{ℕ, ◌≤◌, length, arith, sym, ◌∙◌}
-use Rattle.std.proofs.lemmas.Option.{slice_get_within}
+use Rattle.std.proofs.Common.{arith, sym, ◌∙◌}
 use Rattle.boot_model.specs.Text.{line_text}
 use Rattle.boot_trace.specs.EntryLines.{entry_lines}
 use Rattle.boot_trace.proofs.EntryBounds.{few_entries}
-use Rattle.boot_trace.proofs.ListPlaces.{past}
+use Rattle.boot_trace.proofs.ListPlaces.{past, told_within}
 use Rattle.boot_trace.proofs.PutLines.{next_line, next_part, all_lines}
 use Rattle.boot_trace.proofs.store_lists.put_entries.Goals as goal
 
 pub overflow_add-place : goal.overflow_add-place
 overflow_add-place g c =
     let s = c.requires.state in
-    let le = slice_get_within (entry_lines s.0 c.args.list) c.entries.place c.in-Some.line (sym (c.in-Some.ensures.row s.0 s.1 tt)) in
+    let le = told_within (entry_lines s.0 c.args.list) c.entries.place c.in-Some.line (c.in-Some.ensures.row s.0 s.1 tt) in
     omega (arith, le, few_entries s.0 c.args.list (g.met.M.PeiStore.facts c.args.store.now s.0 s.1))
 
 pub entries-preserved : goal.entries-preserved
@@ -18,8 +17,8 @@ entries-preserved g c =
     let T = g.S.Sink.text in
     record {
       text = λ s stands. next_line line_text (entry_lines s c.args.list) c.entries.place c.in-Some.line (T c.args.sink.now) (T c.entries.sink) (T c.put_own.new.sink) (c.in-Some.ensures.row s stands tt)
-      (c.entries.invariant.text s stands) c.in-Ok.ensures.text;
-      few = λ s stands. let le = slice_get_within (entry_lines s c.args.list) c.entries.place c.in-Some.line (sym (c.in-Some.ensures.row s stands tt)) in omega (arith, le);
+          (c.entries.invariant.text s stands) c.in-Ok.ensures.text;
+      few = λ s stands. let le = told_within (entry_lines s c.args.list) c.entries.place c.in-Some.line (c.in-Some.ensures.row s stands tt) in omega (arith, le);
       count = c.in-Ok.ensures.cause ∙ c.entries.invariant.count;
     }
 
