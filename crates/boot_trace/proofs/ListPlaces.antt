@@ -14,6 +14,9 @@ past [] n e = omega arith
 past (x ∷ xs) zero e = cc
 past (x ∷ xs) (suc n) e = omega (arith, past xs n e)
 
+pub none_past : {A : Type 0} (xs : List A) (n : ℕ) → None ≡ slice_get xs n → length xs ≤ n
+none_past xs n e = past xs n (sym e)
+
 pub past_none : {A : Type 0} (xs : List A) (n : ℕ) (o : Option A) → o ≡ slice_get xs n → is_some o ≡ false → length xs ≤ n
 past_none xs n None e h = past xs n (sym e)
 past_none xs n (Some x) e h = cc

@@ -9,10 +9,11 @@ use Rattle.boot_model.specs.declared.state.HobEntry.{HobEntry}
 use Rattle.boot_model.specs.StoreState.{StoreState, hob_len, header_len}
 use Rattle.boot_model.specs.HeapImage.{handoff_body, body_bytes}
 
--- all HOBs but the end HOB: the hand-off HOB, and the others behind it
+-- the hand-off HOB, as an entry
 abbrev pub handoff_hob : StoreState → HobEntry
 handoff_hob s = record { kind = HANDOFF; body = Bytes (handoff_body s) }
 
+-- all HOBs but the end HOB
 abbrev pub all_hobs : StoreState → List HobEntry
 all_hobs s = handoff_hob s ∷ s.hobs
 

@@ -27,6 +27,7 @@ fn put_heap_piece<S: Sink, M: PeiStore>(
 {
     let mut bytes = [0u8; PIECE_LEN];
     let (piece, _) = bytes.split_at_mut(len);
+    // These bytes are mapped, so they are always read.
     let _ = store.peek(at, piece);
     put_piece(sink, piece)
 }

@@ -1,8 +1,8 @@
-use Rattle.std.proofs.Common.{arith, sym, ◌∙◌}
+use Rattle.std.proofs.Common.{arith, ◌∙◌}
 use Rattle.boot_model.specs.Text.{line_text}
 use Rattle.boot_trace.specs.EntryLines.{entry_lines}
 use Rattle.boot_trace.proofs.EntryBounds.{few_entries}
-use Rattle.boot_trace.proofs.ListPlaces.{past, told_within}
+use Rattle.boot_trace.proofs.ListPlaces.{none_past, told_within}
 use Rattle.boot_trace.proofs.PutLines.{next_line, next_part, all_lines}
 use Rattle.boot_trace.proofs.store_lists.put_entries.Goals as goal
 
@@ -30,4 +30,4 @@ returns-in-Err-clause-text g c s stands needs =
 pub returns-clause-text : goal.returns-clause-text
 returns-clause-text g c s stands needs =
     let T = g.S.Sink.text in
-    all_lines line_text (entry_lines s c.args.list) c.entries.place (T c.args.sink.now) (T c.entries.sink) (past (entry_lines s c.args.list) c.entries.place (sym (c.in_default.ensures.row s stands tt))) (c.entries.invariant.text s stands)
+    all_lines line_text (entry_lines s c.args.list) c.entries.place (T c.args.sink.now) (T c.entries.sink) (none_past (entry_lines s c.args.list) c.entries.place (c.in_default.ensures.row s stands tt)) (c.entries.invariant.text s stands)
