@@ -1,5 +1,5 @@
 -- How many entries and HOBs a store has at most.
-use Rattle.std.proofs.Common.{◌≡◌, ℕ, ◌+◌, ◌*◌, ◌≤◌, ◌<◌, Bool, true, false, cond, ◌||◌, List, [], ◌∷◌, ◌++◌, length, map, arith, sym, refl, ap, subst, ◌∙◌, Option, Some, None, ◌==◌, eqb, sum_by, IfSome}
+use Rattle.std.proofs.Common.{◌≡◌, ℕ, ◌+◌, ◌*◌, ◌≤◌, ◌<◌, Bool, true, false, cond, ◌||◌, List, [], ◌∷◌, ◌++◌, length, map, arith, refl, subst, Option, Some, ◌==◌, eqb, sum_by, IfSome}
 use Rattle.std.specs.List.{list_any}
 use Rattle.std.proofs.lemmas.List.{length-map, length-append}
 use Rattle.std.proofs.lemmas.List.Sums.{sum_by-cons}
@@ -15,8 +15,8 @@ use Rattle.boot_model.specs.declared.state.Body.TheVariants.{Node}
 use Rattle.boot_model.specs.declared.state.HobEntry.{HobEntry}
 use Rattle.boot_model.specs.Listing.{ppi_line, callback_line, dispatch_line, pending_line}
 use Rattle.boot_model.specs.Lists.{Each}
-use Rattle.boot_model.specs.StoreState.{StoreState, Board, Range, hob_len, body_from, end_place}
-use Rattle.boot_model.specs.StateFacts.{IsStoreState, IsEntry, IsPending, IsNodeAt, IsBoard, IsHeap, IsPlanned, nodes}
+use Rattle.boot_model.specs.StoreState.{StoreState, Range, hob_len, body_from, end_place}
+use Rattle.boot_model.specs.StateFacts.{IsStoreState, IsEntry, IsPending, IsBoard, IsHeap, IsPlanned, nodes}
 use Rattle.boot_trace.specs.declared.entry_list.EntryList.{EntryList}
 use Rattle.boot_trace.specs.declared.entry_list.EntryList.TheVariants.{Ppis, Callbacks, Dispatches, Pendings}
 use Rattle.boot_trace.specs.EntryLines.{entry_lines}

@@ -1,21 +1,18 @@
 -- What is read of the heap: the bytes of the HOB list, and of one HOB in it.
 use lib.Seq.{take-append-add, drop-append-add}
-use Rattle.std.proofs.Common.{◌≡◌, ℕ, zero, suc, ◌+◌, ◌-◌, ◌≤◌, ◌<◌, Bool, true, false, ◌&&◌, nat_le, if◌then◌else◌, List, [], ◌∷◌, ◌++◌, length, take, drop, get_or, map, arith, sym, refl, ap, subst, ◌∙◌, append_assoc, Option, Some, None, IfSome, slice_get, sum_by, ◌⊎◌}
-use Rattle.std.specs.Prelude.{unwrap_or}
-use mathlib.Core.Logic.{⊎_elim}
+use Rattle.std.proofs.Common.{◌≡◌, ℕ, zero, suc, ◌+◌, ◌-◌, ◌≤◌, ◌<◌, Bool, true, false, nat_le, if◌then◌else◌, List, [], ◌∷◌, ◌++◌, length, take, drop, get_or, map, arith, sym, refl, ap, subst, ◌∙◌, append_assoc, Option, Some, None, IfSome, slice_get, sum_by}
 use Rattle.std.proofs.lemmas.List.{append-nil, drop_more, length-append}
 use Rattle.std.proofs.lemmas.List.Sums.{sum_by-cons}
 use Rattle.std.proofs.lemmas.Option.{same_Some, unwrap_or-slice_get}
 use Rattle.std.proofs.lemmas.Bool.Decides.{nat_tests}
-use Rattle.phys_mem.specs.declared.rom.Rom.{Rom}
 use Rattle.phys_mem.specs.Region.{is_inside}
-use Rattle.hob_codec.specs.declared.kind.TheConstants.{HANDOFF, END}
+use Rattle.hob_codec.specs.declared.kind.TheConstants.{END}
 use Rattle.boot_model.specs.declared.state.DescriptorBody.{DescriptorBody}
 use Rattle.boot_model.specs.declared.state.Body.{Body}
 use Rattle.boot_model.specs.declared.state.Body.TheVariants.{Bytes, Descriptor, Node, Allocation}
 use Rattle.boot_model.specs.declared.state.HobEntry.{HobEntry}
 use Rattle.boot_model.specs.Lists.{Each, numbers}
-use Rattle.boot_model.specs.StoreState.{StoreState, Board, Range, hob_len, body_len, descriptor_len, end_place}
+use Rattle.boot_model.specs.StoreState.{StoreState, Range, hob_len, body_len, descriptor_len, end_place}
 use Rattle.boot_model.specs.StateFacts.{IsStoreState, IsGuidOf, IsBodyOf, IsHeap, IsPlanned}
 use Rattle.boot_model.specs.HeapImage.{Links, links_bytes, guid_behind, header_bytes, body_bytes, hobs_bytes, hob_list, or_else}
 use Rattle.boot_model.specs.StoreCall.{Peeks}
@@ -25,38 +22,9 @@ use Rattle.boot_trace.specs.HeapParts.{IsHeapPart, heap_part}
 use Rattle.boot_trace.proofs.HobPlaces.{place_of, place_more}
 
 -- a GUID that stands behind its descriptor has sixteen bytes
-guid_whole : (s : StoreState) (d : DescriptorBody) → IsGuidOf s d None → length d.guid.0 ≡ 16
-guid_whole s d h = ?
-
 guid_len : (s : StoreState) (d : DescriptorBody) (stands : Option ℕ) → IsGuidOf s d stands → length (guid_behind d stands) + 24 ≡ descriptor_len stands
-guid_len s d None h = omega (arith, guid_whole s d h)
+guid_len s d None h = omega (arith, h)
 guid_len s d (Some address) h = refl
-
--- each volume lies below the heap or above it
-abbrev IsApart : StoreState → Rom → Type 0
-IsApart s rom = (rom.base + length rom.bytes ≤ s.base) ⊎ (s.base + s.len ≤ rom.base)
-
-volumes_apart : (s : StoreState) → IsStoreState s → Each (IsApart s) s.board.roms
-volumes_apart s h = ?
-
--- so that no byte of the heap is a volume's
-outside_low : (base len at n : ℕ) → 1 ≤ n → base + len ≤ at → is_inside base len at n ≡ false
-outside_low base len at n some high =
-    let t : nat_le base at ≡ true = grind (arith, nat_tests) in
-    let u : nat_le (at + n) (base + len) ≡ false = grind (arith, nat_tests) in
-    rw (t, u) refl
-
-outside_high : (base len at n : ℕ) → 1 ≤ n → at + n ≤ base → is_inside base len at n ≡ false
-outside_high base len at n some low = let t : nat_le base at ≡ false = grind (arith, nat_tests) in rw t refl
-
-in_no_volume : (s : StoreState) (at n : ℕ) (roms : List Rom) → 1 ≤ n → s.base ≤ at → at + n ≤ s.base + s.len → Each (IsApart s) roms → rom_bytes roms at n ≡ None
-in_no_volume s at n [] some low high h = refl
-in_no_volume s at n (rom ∷ roms) some low high h =
-    let t : is_inside rom.base (length rom.bytes) at n ≡ false = ⊎_elim (λ below. outside_low rom.base (length rom.bytes) at n some (omega (arith, below, low))) (λ above. outside_high rom.base (length rom.bytes) at n some (omega (arith, above, high))) h.0 in
-    rw t (in_no_volume s at n roms some low high h.1)
-
-no_volume : (s : StoreState) (at n : ℕ) → IsStoreState s → 1 ≤ n → s.base ≤ at → at + n ≤ s.base + s.len → rom_bytes s.board.roms at n ≡ None
-no_volume s at n h some low high = in_no_volume s at n s.board.roms some low high (volumes_apart s h)
 
 -- the lengths of bodies
 node_len : (links : Option Links) → length (links_bytes links) ≡ 32
@@ -151,13 +119,13 @@ region_is : (s : StoreState) (region : Range) (at n : ℕ) → region.base ≤ a
 region_is s region at n low high = let t = inside region.base region.len at n low high in rw t refl
 
 -- the heap lies in temporary RAM, and after the move in RAM
-mapped : (s : StoreState) (moved : Bool) (at n : ℕ) → IsHeap s moved → IfSome s.planned (IsPlanned s.board) → s.base ≤ at → at + n ≤ s.base + s.len
-    → or_else (if moved then None else region_bytes s s.board.temp at n) (region_bytes s s.board.ram at n) ≡ Some (map (heap_byte s) (numbers at n))
-mapped s false at n h p low high = ap (λ (o : Option (List ℕ)). or_else o (region_bytes s s.board.ram at n)) (region_is s s.board.temp at n (omega (arith, h.0, low)) (omega (arith, h.0, h.1, high)))
-mapped s true at n h p low high =
+mapped : (s : StoreState) (moved : Bool) (at n : ℕ) (other : Option (List ℕ)) → IsHeap s moved → IfSome s.planned (IsPlanned s.board) → s.base ≤ at → at + n ≤ s.base + s.len
+    → or_else (if moved then None else region_bytes s s.board.temp at n) (or_else (region_bytes s s.board.ram at n) other) ≡ Some (map (heap_byte s) (numbers at n))
+mapped s false at n other h p low high = ap (λ (o : Option (List ℕ)). or_else o (or_else (region_bytes s s.board.ram at n) other)) (region_is s s.board.temp at n (omega (arith, h.0, low)) (omega (arith, h.0, h.1, high)))
+mapped s true at n other h p low high =
     let P : Option Range → Type 0 = λ planned. IfSome planned (IsPlanned s.board) in
     let q : IsPlanned s.board (record { base = s.base; len = s.len }) = subst P h.0 p in
-    region_is s s.board.ram at n (omega (arith, q.0, low)) (omega (arith, q.1, high))
+    ap (λ (o : Option (List ℕ)). or_else o other) (region_is s s.board.ram at n (omega (arith, q.0, low)) (omega (arith, q.1, high)))
 
 pub list_length : (s : StoreState) → IsStoreState s → length (hob_list s) ≡ end_place s + 8
 list_length s h =
@@ -166,14 +134,13 @@ list_length s h =
     let both = length-append (hobs_bytes s 0 (all_hobs s)) (header_bytes END 8) in
     omega (arith, all, cons, both)
 
-pub heap_read : (s : StoreState) (at n : ℕ) → IsStoreState s → 1 ≤ n → IsHeapPart at n s → bytes_at s at n ≡ Some (heap_part s at n)
-heap_read s at n h some part =
+pub heap_read : (s : StoreState) (at n : ℕ) → IsStoreState s → IsHeapPart at n s → bytes_at s at n ≡ Some (heap_part s at n)
+heap_read s at n h part =
     let end = list_length s h in
     let high : at + n ≤ s.base + s.len = omega (arith, part.1, h.room) in
     let read : map (heap_byte s) (numbers at n) ≡ heap_part s at n = read_is (heap_byte s) (hob_list s) n at (at - s.base) (omega (arith, part.0, part.1, end))
     (λ i lt. heap_byte_is s (at + i) (at - s.base + i) (omega (arith, part.0)) (omega (arith, part.0, lt, high))) in
-    ap (λ (o : Option (List ℕ)). or_else o (or_else (if s.moved then None else region_bytes s s.board.temp at n) (region_bytes s s.board.ram at n))) (no_volume s at n h some part.0 high)
-    ∙ mapped s s.moved at n h.heap h.planned part.0 high ∙ ap Some read
+    mapped s s.moved at n (rom_bytes s.board.roms at n) h.heap h.planned part.0 high ∙ ap Some read
 
 -- the part of the heap that is a HOB's body
 pub body_part : (s : StoreState) (n offset : ℕ) (hob : HobEntry) → IsStoreState s → offset ≡ place_of (all_hobs s) n → slice_get (all_hobs s) n ≡ Some hob

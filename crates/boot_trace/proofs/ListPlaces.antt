@@ -1,5 +1,5 @@
 -- Whether a place is one of a list.
-use Rattle.std.proofs.Common.{◌≡◌, ℕ, zero, suc, ◌≤◌, ◌<◌, true, false, List, [], ◌∷◌, length, arith, sym, ◌∙◌, Option, Some, None, slice_get, is_some}
+use Rattle.std.proofs.Common.{◌≡◌, ℕ, zero, suc, ◌≤◌, ◌<◌, true, false, List, [], ◌∷◌, length, arith, sym, Option, Some, None, slice_get, is_some}
 use Rattle.std.proofs.lemmas.Option.{slice_get_within}
 
 pub told_within : {A : Type 0} (xs : List A) (n : ℕ) (x : A) → Some x ≡ slice_get xs n → n < length xs

@@ -1,5 +1,5 @@
 -- The text of all lists of a store, by its parts.
-use Rattle.std.proofs.Common.{◌≡◌, ℕ, List, [], ◌∷◌, ◌++◌, length, map, ap, sym, refl, ◌∙◌, append_assoc, flat_map}
+use Rattle.std.proofs.Common.{◌≡◌, List, [], ◌∷◌, ◌++◌, map, ap, sym, ◌∙◌, append_assoc, flat_map}
 use Rattle.std.proofs.lemmas.List.{length-map, append-nil}
 use Rattle.std.proofs.lemmas.Grind.{flat_map-append}
 use Rattle.boot_model.specs.declared.line.Line.{Line}
@@ -7,9 +7,8 @@ use Rattle.boot_model.specs.declared.line.Line.TheVariants as L
 use Rattle.boot_model.specs.StoreState.{StoreState}
 use Rattle.boot_model.specs.Listing.{store_lines, ppi_lines, callback_lines, dispatch_lines, pending_lines, hob_lines, ppi_line, callback_line, dispatch_line, pending_line}
 use Rattle.boot_model.specs.Text.{line_text, text_of}
-use Rattle.boot_trace.specs.declared.entry_list.EntryList.{EntryList}
 use Rattle.boot_trace.specs.declared.entry_list.EntryList.TheVariants.{Ppis, Callbacks, Dispatches, Pendings}
-use Rattle.boot_trace.specs.EntryLines.{count_line, entry_lines, list_text}
+use Rattle.boot_trace.specs.EntryLines.{list_text}
 
 -- the text of a list of entries
 ppi_text : (s : StoreState) → text_of (ppi_lines s) ≡ list_text s Ppis

@@ -1,7 +1,6 @@
 -- The lines of a store's lists of entries: PPIs, callbacks, dispatch notifications and queued pairs.
 -- Own.
 use Rattle.std.specs.Prelude.{ℕ, List, ◌∷◌, length, map}
-use Rattle.std.specs.List.{flat_map}
 use Rattle.boot_model.specs.declared.line.Line.{Line}
 use Rattle.boot_model.specs.declared.line.Line.TheVariants as L
 use Rattle.boot_model.specs.StoreState.{StoreState}

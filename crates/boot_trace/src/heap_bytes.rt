@@ -19,7 +19,6 @@ fn put_heap_piece<S: Sink, M: PeiStore>(
     at: u64,
     len: usize,
 ) -> Result<(), SinkFault>
-    requires some { 1 ≤ len }
     requires few { len ≤ PIECE_LEN }
     requires state { Present (M.stands_for store.now) (IsHeapPart at len) }
     ensures text { OfEach (M.stands_for store.now) (IsHeapPart at len) (λ s. Puts result (S.text sink.old) (S.text sink.new) (encode_lower (heap_part s at len))) }
@@ -39,7 +38,6 @@ fn put_heap_bytes<S: Sink, M: PeiStore>(
     at: u64,
     len: usize,
 ) -> Result<(), SinkFault>
-    requires some { 1 ≤ len }
     requires state { Present (M.stands_for store.now) (IsHeapPart at len) }
     ensures text { OfEach (M.stands_for store.now) (IsHeapPart at len) (λ s. Puts result (S.text sink.old) (S.text sink.new) (encode_lower (heap_part s at len))) }
     ensures cause { SinkFaultsAfter result (S.faults sink.old) (S.faults sink.new) }
@@ -65,7 +63,6 @@ fn put_heap_back<S: Sink, M: PeiStore>(
     at: u64,
     len: usize,
 ) -> Result<(), SinkFault>
-    requires some { 1 ≤ len }
     requires state { Present (M.stands_for store.now) (IsHeapPart at len) }
     ensures text { OfEach (M.stands_for store.now) (IsHeapPart at len) (λ s. Puts result (S.text sink.old) (S.text sink.new) (encode_lower (heap_part s at len) ++ 10 ∷ [])) }
     ensures cause { SinkFaultsAfter result (S.faults sink.old) (S.faults sink.new) }

@@ -1,4 +1,4 @@
-use Rattle.std.proofs.Common.{◌≡◌, ℕ, ◌+◌, ◌-◌, ◌≤◌, List, [], ◌++◌, arith, refl, sym, ap, ◌∙◌, subst}
+use Rattle.std.proofs.Common.{◌≡◌, ℕ, ◌+◌, ◌-◌, ◌≤◌, List, arith, refl, sym, ap, ◌∙◌, subst}
 use Rattle.std.specs.Io.KnownBytes.{Appends}
 use Rattle.hex.specs.Hex.{encode_lower}
 use Rattle.boot_io.specs.Sink.{AppendsPart, Puts}
@@ -16,7 +16,6 @@ pieces-init g c =
       text = λ s stands part. subst P (sym (ap encode_lower (no_piece s c.args.at) ∙ encode_lower-none)) (appends_none (T c.args.sink.now));
       low = omega arith;
       end = refl;
-      some = c.requires.some;
       count = refl;
     }
 
@@ -37,7 +36,6 @@ pieces-preserved g c =
           (appends_then (T c.args.sink.now) (T c.pieces.sink) (T c.put_heap_piece.new.sink) (encode_lower (heap_part s at (next - at))) (encode_lower (heap_part s next 64)) (c.pieces.invariant.text s stands part) (c.in-Ok.ensures.text s stands piece));
       low = omega (arith, low);
       end = omega (arith, end, long);
-      some = omega (arith, long);
       count = c.in-Ok.ensures.cause ∙ c.pieces.invariant.count;
     }
 

@@ -1,4 +1,4 @@
-use Rattle.std.proofs.Common.{◌≡◌, ℕ, ◌+◌, ◌-◌, ◌≤◌}
+use Rattle.std.proofs.Common.{◌≡◌, ◌+◌, ◌-◌, ◌≤◌}
 use Rattle.std.specs.Io.KnownBytes.{Appends}
 use Rattle.hex.specs.Hex.{encode_lower}
 use Rattle.boot_model.specs.StoreState.{StoreState}
@@ -11,7 +11,6 @@ invariant-pieces g l = record {
   text : (s : StoreState) → g.M.PeiStore.stands_for l.store s → IsHeapPart l.at l.len s → Appends (g.S.Sink.text l.fn.sink) (g.S.Sink.text l.sink) (encode_lower (heap_part s l.at (l.next - l.at)));
   low : l.at ≤ l.next;
   end : l.next + l.left ≡ l.at + l.len;
-  some : 1 ≤ l.left;
   count : g.S.Sink.faults l.sink ≡ g.S.Sink.faults l.fn.sink;
 }
 

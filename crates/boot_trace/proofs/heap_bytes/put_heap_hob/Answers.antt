@@ -1,4 +1,4 @@
-use Rattle.std.proofs.Common.{◌≡◌, ◌≤◌, ◌++◌, List, ℕ, [], ◌∷◌, arith, decimal, subst}
+use Rattle.std.proofs.Common.{◌≤◌, ◌++◌, List, ℕ, [], ◌∷◌, arith, decimal, subst}
 use Rattle.hex.specs.Hex.{encode_lower}
 use Rattle.boot_io.specs.Sink.{AppendsPart, Puts}
 use Rattle.boot_io.proofs.PutsLaws.{puts_then, part_of_more}

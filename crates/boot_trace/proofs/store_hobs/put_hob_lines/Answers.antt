@@ -1,4 +1,4 @@
-use Rattle.std.proofs.Common.{◌≡◌, ℕ, ◌+◌, ◌≤◌, Option, length, arith, sym, ◌∙◌, subst, IsSomeAnd}
+use Rattle.std.proofs.Common.{◌+◌, Option, arith, sym, ◌∙◌, subst, IsSomeAnd}
 use Rattle.std.specs.Io.KnownBytes.{Appends}
 use Rattle.boot_io.specs.Sink.{AppendsPart}
 use Rattle.boot_model.specs.declared.line.Line.{Line}

@@ -1,8 +1,7 @@
-use Rattle.std.proofs.Common.{◌≡◌, ℕ, ◌+◌, ◌-◌, ◌≤◌, Option, Some, arith, sym, ap, ◌∙◌, subst, IsSomeAnd}
+use Rattle.std.proofs.Common.{◌≡◌, ◌+◌, Option, Some, arith, ap, ◌∙◌, subst, IsSomeAnd}
 use Rattle.boot_io.specs.Sink.{Puts}
 use Rattle.boot_model.specs.declared.line.Line.{Line}
 use Rattle.boot_model.specs.declared.line.Line.TheVariants as L
-use Rattle.boot_model.specs.StoreState.{StoreState}
 use Rattle.boot_model.specs.Text.{line_text}
 use Rattle.boot_trace.specs.HeapParts.{IsHeapPart, heap_part}
 use Rattle.boot_trace.proofs.EntryBounds.{low_heap}
