@@ -1,4 +1,4 @@
--- What memory reads: a volume's bytes; temporary RAM before the move, which is the heap and then zeros in the page region; RAM, which is the heap after the move and zeros elsewhere.
+-- What memory reads: temporary RAM before the move, which is the heap and then zeros in the page region; RAM, which is the heap after the move and zeros elsewhere; a volume's bytes.
 -- Bytes are read only where all of them lie in one of these.
 -- Own; the modelled memory is no part of PI.
 use Rattle.std.specs.Prelude.{ℕ, ◌-◌, if◌then◌else◌, List, [], ◌∷◌, map, Option, Some, None, unwrap_or, slice_get}
@@ -23,4 +23,4 @@ region_bytes s region at n = if is_inside region.base region.len at n then Some 
 -- the n bytes at an address, where they lie in one mapped region
 abbrev pub bytes_at : StoreState → ℕ → ℕ → Option (List ℕ)
 bytes_at s at n =
-    or_else (rom_bytes s.board.roms at n) (or_else (if s.moved then None else region_bytes s s.board.temp at n) (region_bytes s s.board.ram at n))
+    or_else (if s.moved then None else region_bytes s s.board.temp at n) (or_else (region_bytes s s.board.ram at n) (rom_bytes s.board.roms at n))

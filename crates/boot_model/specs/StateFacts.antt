@@ -30,11 +30,12 @@ IsPending s pending = IsNodeAt s pending.node × IsDescriptorAt s Dispatch pendi
 abbrev pub nodes : StoreState → List ℕ
 nodes s = map (λ entry. entry.node) (s.ppis ++ s.callbacks ++ s.dispatches) ++ map (λ pending. pending.node) s.pendings
 
--- a GUID at an address is the volume's sixteen bytes there, and an entry is a block of a module
+-- a GUID that stands behind its descriptor has sixteen bytes, and one at an address is the volume's sixteen bytes there
 abbrev pub IsGuidOf : StoreState → DescriptorBody → Option ℕ → Type 0
-IsGuidOf s d None = ⊤
+IsGuidOf s d None = length d.guid.0 ≡ 16
 IsGuidOf s d (Some address) = rom_bytes s.board.roms address 16 ≡ Some d.guid.0
 
+-- the number of a notification is the block of a module
 abbrev pub IsNumberOf : DescKind → ℕ → Type 0
 IsNumberOf Ppi number = ⊤
 IsNumberOf Callback number = number < 0x40000

@@ -1,1 +1,9 @@
+mod EntryBounds
+mod HeapPieces
+mod HeapReads
 mod Hexadecimal
+mod HobPlaces
+mod ListPlaces
+mod PutLines
+mod SpanLines
+mod StoreTexts

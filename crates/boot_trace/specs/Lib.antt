@@ -1,0 +1,3 @@
+pub mod EntryLines
+pub mod HeapParts
+pub mod HobLines

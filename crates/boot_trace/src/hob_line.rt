@@ -9,10 +9,10 @@ use crate::number_word::decimal_word;
 use boot_io::{Sink, SinkFault, put_line};
 
 // How many bytes a piece shows.
-const PIECE_LEN: usize = 64;
+pub(crate) const PIECE_LEN: usize = 64;
 
 // A piece of the bytes, in hexadecimal.
-fn put_piece<S: Sink>(sink: &mut S, bytes: &[u8]) -> Result<(), SinkFault>
+pub(crate) fn put_piece<S: Sink>(sink: &mut S, bytes: &[u8]) -> Result<(), SinkFault>
     requires { length bytes.now ≤ PIECE_LEN }
     ensures text { Puts result (S.text sink.old) (S.text sink.new) (encode_lower bytes.now) }
     ensures cause { SinkFaultsAfter result (S.faults sink.old) (S.faults sink.new) }
@@ -51,7 +51,7 @@ fn put_both<S: Sink>(sink: &mut S, first: &[u8], second: &[u8]) -> Result<(), Si
 }
 
 // A keyword and a type, with a space behind each.
-fn put_front<S: Sink>(sink: &mut S, keyword: &[u8], kind: u16) -> Result<(), SinkFault>
+pub(crate) fn put_front<S: Sink>(sink: &mut S, keyword: &[u8], kind: u16) -> Result<(), SinkFault>
     ensures text { Puts result (S.text sink.old) (S.text sink.new) ((keyword.now ++ 32 ∷ []) ++ (decimal kind ++ 32 ∷ [])) }
     ensures cause { SinkFaultsAfter result (S.faults sink.old) (S.faults sink.new) }
 {

@@ -3,11 +3,15 @@
 
 mod audit_line;
 mod call_line;
+mod entry_list;
 mod fixed_word;
+mod heap_bytes;
 mod hob_line;
 mod line;
 mod number_word;
 mod out;
+mod store_hobs;
+mod store_lists;
 mod trace_line;
 
 pub use out::Out;

@@ -128,6 +128,14 @@ pub(crate) fn put<S: Sink>(sink: &mut S, line: &Line) -> Result<(), SinkFault>
     }
 }
 
+// A line that is not wanted any more.
+pub(crate) fn put_own<S: Sink>(sink: &mut S, line: Line) -> Result<(), SinkFault>
+    ensures text { Puts result (S.text sink.old) (S.text sink.new) (line_text line) }
+    ensures cause { SinkFaultsAfter result (S.faults sink.old) (S.faults sink.new) }
+{
+    put(sink, &line)
+}
+
 // Lines, one after the other.
 pub(crate) fn put_all<S: Sink>(sink: &mut S, lines: &[Line]) -> Result<(), SinkFault>
     ensures text { Puts result (S.text sink.old) (S.text sink.new) (text_of lines.now) }

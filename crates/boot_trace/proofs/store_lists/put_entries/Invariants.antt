@@ -1,0 +1,17 @@
+use Rattle.std.proofs.Common.{◌≡◌, ◌-◌, ◌≤◌, length, take}
+use Rattle.std.specs.Io.KnownBytes.{Appends}
+use Rattle.boot_model.specs.StoreState.{StoreState}
+use Rattle.boot_model.specs.Text.{text_of}
+use Rattle.boot_trace.specs.EntryLines.{entry_lines}
+use Rattle.boot_trace.proofs.store_lists.put_entries.Given as goal
+
+-- the lines so far, without a fault
+abbrev pub invariant-entries : goal.invariant-entries
+invariant-entries g l = record {
+  text : (s : StoreState) → g.M.PeiStore.stands_for l.store s → Appends (g.S.Sink.text l.fn.sink) (g.S.Sink.text l.sink) (text_of (take l.place (entry_lines s l.list)));
+  few : (s : StoreState) → g.M.PeiStore.stands_for l.store s → l.place ≤ length (entry_lines s l.list);
+  count : g.S.Sink.faults l.sink ≡ g.S.Sink.faults l.fn.sink;
+}
+
+abbrev pub decreases-entries : goal.decreases-entries
+decreases-entries g l = 0x100000000 - l.place

@@ -1,0 +1,90 @@
+//! The HOBs of a store, after their count.
+ghost use Rattle.std.specs.Prelude.{◌≡◌, true, length, Some, is_some, IsSomeAnd};
+ghost use Rattle.boot_io.specs.Sink.{Puts, SinkFaultsAfter};
+ghost use Rattle.boot_model.specs.Service.{Present, OfEach};
+ghost use Rattle.boot_model.specs.Service.Reading.{hob_at};
+ghost use Rattle.boot_model.specs.StoreCall.{Anything};
+ghost use Rattle.boot_model.specs.Text.{line_text, text_of};
+ghost use Rattle.boot_model.specs.Listing.{hob_lines, hob_lines_from};
+ghost use Rattle.boot_trace.specs.HobLines.{all_hobs, hob_line_at};
+
+use crate::heap_bytes::put_heap_line;
+use crate::line::put_own;
+use boot_io::{Sink, SinkFault};
+use boot_model::{HobSpan, Line, PeiStore};
+
+// The length of a HOB's header.
+const HEADER_LEN: u16 = 8;
+
+// A HOB whose type and length are known.
+fn put_span<S: Sink, M: PeiStore>(
+    sink: &mut S,
+    store: &M,
+    offset: u64,
+    span: &HobSpan,
+) -> Result<(), SinkFault>
+    requires state { Present (M.stands_for store.now) (λ s. hob_at s offset ≡ Some span.now) }
+    ensures text { OfEach (M.stands_for store.now) (λ s. hob_at s offset ≡ Some span.now) (λ s. IsSomeAnd (hob_line_at s offset) (λ line. Puts result (S.text sink.old) (S.text sink.new) (line_text line))) }
+    ensures cause { SinkFaultsAfter result (S.faults sink.old) (S.faults sink.new) }
+{
+    let at = store.base() + offset + u64::from(HEADER_LEN);
+    let len = usize::from(span.length - HEADER_LEN);
+    put_heap_line(sink, store, span.kind, at, len)
+}
+
+// The HOB at an offset of the heap.
+pub(crate) fn put_hob_at<S: Sink, M: PeiStore>(
+    sink: &mut S,
+    store: &M,
+    offset: u64,
+) -> Result<(), SinkFault>
+    requires state { Present (M.stands_for store.now) (λ s. is_some (hob_at s offset) ≡ true) }
+    ensures text { OfEach (M.stands_for store.now) (λ s. is_some (hob_at s offset) ≡ true) (λ s. IsSomeAnd (hob_line_at s offset) (λ line. Puts result (S.text sink.old) (S.text sink.new) (line_text line))) }
+    ensures cause { SinkFaultsAfter result (S.faults sink.old) (S.faults sink.new) }
+{
+    let span = store.hob_at(offset).unwrap();
+    put_span(sink, store, offset, &span)
+}
+
+// How many HOBs there are but the end HOB.
+fn hob_count<M: PeiStore>(store: &M) -> u32
+    requires state { Present (M.stands_for store.now) Anything }
+    ensures row { OfEach (M.stands_for store.now) Anything (λ s. result ≡ length (all_hobs s)) }
+{
+    let mut count = 0;
+    let mut next = 0;
+    'hobs: while let Some(span) = store.hob_at(next) {
+        count += 1;
+        next = span.next;
+    }
+    count
+}
+
+// The lines of the HOBs.
+fn put_hob_lines<S: Sink, M: PeiStore>(sink: &mut S, store: &M) -> Result<(), SinkFault>
+    requires state { Present (M.stands_for store.now) Anything }
+    ensures text { OfEach (M.stands_for store.now) Anything (λ s. Puts result (S.text sink.old) (S.text sink.new) (text_of (hob_lines_from s 0 (all_hobs s)))) }
+    ensures cause { SinkFaultsAfter result (S.faults sink.old) (S.faults sink.new) }
+{
+    let mut offset = 0;
+    'hobs: while let Some(span) = store.hob_at(offset) {
+        match put_span(sink, store, offset, &span) {
+            Ok(()) => offset = span.next,
+            Err(SinkFault) => return Err(SinkFault),
+        }
+    }
+    Ok(())
+}
+
+// The HOBs, after their count.
+pub(crate) fn put_hobs<S: Sink, M: PeiStore>(sink: &mut S, store: &M) -> Result<(), SinkFault>
+    requires state { Present (M.stands_for store.now) Anything }
+    ensures text { OfEach (M.stands_for store.now) Anything (λ s. Puts result (S.text sink.old) (S.text sink.new) (text_of (hob_lines s))) }
+    ensures cause { SinkFaultsAfter result (S.faults sink.old) (S.faults sink.new) }
+{
+    let count = hob_count(store);
+    match put_own(sink, Line::Hobs { count }) {
+        Ok(()) => put_hob_lines(sink, store),
+        Err(SinkFault) => Err(SinkFault),
+    }
+}

@@ -1,0 +1,85 @@
+//! The lists of a store, each after its count.
+ghost use Rattle.std.specs.Prelude.{◌≡◌, ◌∷◌, flat_map};
+ghost use Rattle.boot_io.specs.Sink.{Puts, SinkFaultsAfter};
+ghost use Rattle.boot_model.specs.Service.{Present, OfEach};
+ghost use Rattle.boot_model.specs.StoreCall.{Anything};
+ghost use Rattle.boot_model.specs.Text.{text_of};
+ghost use Rattle.boot_model.specs.Listing.{store_lines};
+ghost use Rattle.boot_trace.specs.EntryLines.{entry_lines, list_text};
+
+use crate::entry_list::{EntryList, count_line, entry_count, entry_line};
+use crate::line::put_own;
+use crate::store_hobs::put_hobs;
+use boot_io::{Sink, SinkFault};
+use boot_model::PeiStore;
+
+// The lists of entries, in the order of printing.
+const ENTRY_LISTS: [EntryList; 4] = [
+    EntryList::Ppis,
+    EntryList::Callbacks,
+    EntryList::Dispatches,
+    EntryList::Pendings,
+];
+
+// The entries of a list.
+fn put_entries<S: Sink, M: PeiStore>(
+    sink: &mut S,
+    store: &M,
+    list: EntryList,
+) -> Result<(), SinkFault>
+    requires state { Present (M.stands_for store.now) Anything }
+    ensures text { OfEach (M.stands_for store.now) Anything (λ s. Puts result (S.text sink.old) (S.text sink.new) (text_of (entry_lines s list))) }
+    ensures cause { SinkFaultsAfter result (S.faults sink.old) (S.faults sink.new) }
+{
+    let mut place = 0;
+    'entries: while let Some(line) = entry_line(store, list, place) {
+        match put_own(sink, line) {
+            Ok(()) => place += 1,
+            Err(SinkFault) => return Err(SinkFault),
+        }
+    }
+    Ok(())
+}
+
+// A list, after its count.
+fn put_list<S: Sink, M: PeiStore>(sink: &mut S, store: &M, list: EntryList) -> Result<(), SinkFault>
+    requires state { Present (M.stands_for store.now) Anything }
+    ensures text { OfEach (M.stands_for store.now) Anything (λ s. Puts result (S.text sink.old) (S.text sink.new) (list_text s list)) }
+    ensures cause { SinkFaultsAfter result (S.faults sink.old) (S.faults sink.new) }
+{
+    match put_own(sink, count_line(list, entry_count(store, list))) {
+        Ok(()) => put_entries(sink, store, list),
+        Err(SinkFault) => Err(SinkFault),
+    }
+}
+
+// Some of the lists of entries.
+fn put_lists<S: Sink, M: PeiStore>(
+    sink: &mut S,
+    store: &M,
+    lists: &[EntryList],
+) -> Result<(), SinkFault>
+    requires state { Present (M.stands_for store.now) Anything }
+    ensures text { OfEach (M.stands_for store.now) Anything (λ s. Puts result (S.text sink.old) (S.text sink.new) (flat_map (list_text s) lists.now)) }
+    ensures cause { SinkFaultsAfter result (S.faults sink.old) (S.faults sink.new) }
+{
+    for list in lists {
+        match put_list(sink, store, *list) {
+            Ok(()) => {}
+            Err(SinkFault) => return Err(SinkFault),
+        }
+    }
+    Ok(())
+}
+
+// All lists of a store.
+pub(crate) fn put_store<S: Sink, M: PeiStore>(sink: &mut S, store: &M) -> Result<(), SinkFault>
+    requires state { Present (M.stands_for store.now) Anything }
+    ensures text { OfEach (M.stands_for store.now) Anything (λ s. Puts result (S.text sink.old) (S.text sink.new) (text_of (store_lines s))) }
+    ensures cause { SinkFaultsAfter result (S.faults sink.old) (S.faults sink.new) }
+{
+    match put_lists(sink, store, &ENTRY_LISTS) {
+        Ok(()) => put_hobs(sink, store),
+        Err(SinkFault) => Err(SinkFault),
+    }
+}
