@@ -14,6 +14,7 @@ mod store_hobs;
 mod store_lists;
 mod trace_line;
 
+pub use line::{put, put_all};
 pub use out::Out;
 
 #[cfg(test)]

@@ -14,8 +14,8 @@ use crate::trace_line::{
 use boot_io::{Sink, SinkFault};
 use boot_model::Line;
 
-// A line of the trace up to a stop.
-pub(crate) fn put<S: Sink>(sink: &mut S, line: &Line) -> Result<(), SinkFault>
+/// Puts a line. Where the sink fails, a prefix of its text was put.
+pub fn put<S: Sink>(sink: &mut S, line: &Line) -> Result<(), SinkFault>
     ensures text { Puts result (S.text sink.old) (S.text sink.new) (line_text line.now) }
     ensures cause { SinkFaultsAfter result (S.faults sink.old) (S.faults sink.new) }
 {
@@ -136,8 +136,8 @@ pub(crate) fn put_own<S: Sink>(sink: &mut S, line: Line) -> Result<(), SinkFault
     put(sink, &line)
 }
 
-// Lines, one after the other.
-pub(crate) fn put_all<S: Sink>(sink: &mut S, lines: &[Line]) -> Result<(), SinkFault>
+/// Puts lines, one after the other.
+pub fn put_all<S: Sink>(sink: &mut S, lines: &[Line]) -> Result<(), SinkFault>
     ensures text { Puts result (S.text sink.old) (S.text sink.new) (text_of lines.now) }
     ensures cause { SinkFaultsAfter result (S.faults sink.old) (S.faults sink.new) }
 {

@@ -5,14 +5,13 @@ ghost use Rattle.boot_model.specs.Discovery.{discoveries};
 ghost use Rattle.boot_model.specs.DxeRun.{dxe_end};
 ghost use Rattle.boot_model.specs.Service.{Present, OfEach};
 ghost use Rattle.boot_model.specs.StoreCall.{Anything};
-ghost use Rattle.boot_model.specs.Text.{line_text};
 ghost use Rattle.boot_model.specs.WellFormed.{IsWellFormed};
 ghost use Rattle.dxe_stop.specs.Drivers.{has_drivers};
 ghost use Rattle.dxe_stop.specs.Stop.{StopsAt, CountAfter, stop_text, volume_line};
 
 use boot_io::{Sink, SinkFault};
 use boot_model::{Catalog, Line, PeiStore};
-use boot_trace::Out;
+use boot_trace::put;
 use pi_base::OutOfMemory;
 use volume_list::VolumeList;
 
@@ -23,15 +22,6 @@ pub enum Broken {
     SinkFault,
     /// Memory was wanting for the bases that HOBs tell.
     Memory,
-}
-
-// A line.
-fn put<S: Sink>(sink: &mut S, line: &Line) -> Result<(), SinkFault>
-    ensures text { Puts result (S.text sink.old) (S.text sink.new) (line_text line.now) }
-    ensures cause { SinkFaultsAfter result (S.faults sink.old) (S.faults sink.new) }
-{
-    let mut out = Out { sink };
-    out.line(line)
 }
 
 // A line for each volume.

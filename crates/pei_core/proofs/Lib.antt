@@ -6,7 +6,7 @@ pub mod Fired
 pub mod Going
 pub mod Moving
 pub mod Opened
-pub mod Reports
+pub mod Reported
 pub mod Scripts
 pub mod Shadowed
 pub mod Sounded

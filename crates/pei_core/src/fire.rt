@@ -11,7 +11,7 @@ use crate::broken::{answer, told};
 use crate::core_fault::CoreFault;
 use crate::core_state::Core;
 use crate::names::callback_line;
-use crate::print::put;
+use boot_trace::put;
 use boot_io::Sink;
 use boot_model::{BLOCKS, Catalog, Firing, Frame, PeiStore, REGISTERS, Register, Sweep};
 use pi_base::Word;

@@ -14,7 +14,7 @@ ghost use Rattle.pei_core.specs.Standing.{IsCoreOf, IsCoreFor};
 
 use crate::broken::{Broken, told};
 use crate::core_state::Core;
-use crate::print::put;
+use boot_trace::put;
 use boot_io::Sink;
 use boot_model::{Line, PeiStore, StoreFault};
 use pi_base::Word;

@@ -10,7 +10,7 @@ use crate::broken::{Broken, told};
 use crate::core_state::Core;
 use crate::fire::notification_frame;
 use crate::names::dispatch_line;
-use crate::print::put;
+use boot_trace::put;
 use boot_io::Sink;
 use boot_model::{Catalog, Firing};
 

@@ -15,7 +15,7 @@ use crate::core_state::Core;
 use crate::fire::frame_at;
 use crate::frames::Frames;
 use crate::names::start_line;
-use crate::print::put;
+use boot_trace::put;
 use crate::stages::start;
 use boot_io::{Sink, SinkFault};
 use boot_model::{Catalog, Licence, Line, REGISTERS, Register};

@@ -2,7 +2,7 @@ use Rattle.std.proofs.Common.{◌≡◌, take}
 use Rattle.std.specs.Io.KnownBytes.{Appends}
 use Rattle.boot_model.specs.Text.{text_of}
 use Rattle.boot_model.specs.PeiStep.{report_lines}
-use Rattle.pei_core.proofs.print.put_reports.Given as goal
+use Rattle.pei_core.proofs.reports.put_reports.Given as goal
 
 abbrev pub invariant-volumes : goal.invariant-volumes
 invariant-volumes g l = record {

@@ -1,20 +1,11 @@
-// Lines, put one by one.
-ghost use Rattle.boot_model.specs.Text.{line_text, text_of};
+// The lines of reports.
+ghost use Rattle.boot_model.specs.Text.{text_of};
 ghost use Rattle.boot_model.specs.PeiStep.{report_lines};
 ghost use Rattle.boot_io.specs.Sink.{Puts, SinkFaultsAfter};
 
 use boot_io::{Sink, SinkFault};
 use boot_model::Line;
-use boot_trace::Out;
-
-/// Puts a line.
-pub(crate) fn put<S: Sink>(sink: &mut S, line: &Line) -> Result<(), SinkFault>
-    ensures text { Puts result (S.text sink.old) (S.text sink.new) (line_text line.now) }
-    ensures cause { SinkFaultsAfter result (S.faults sink.old) (S.faults sink.new) }
-{
-    let mut out = Out { sink };
-    out.line(line)
-}
+use boot_trace::put;
 
 /// Puts a line for each volume that is reported.
 pub(crate) fn put_reports<S: Sink>(sink: &mut S, volumes: &[u32]) -> Result<(), SinkFault>

@@ -1,5 +1,5 @@
-use Rattle.pei_core.proofs.Reports.{part_of_reports}
-use Rattle.pei_core.proofs.print.put_reports.Goals as goal
+use Rattle.pei_core.proofs.Reported.{part_of_reports}
+use Rattle.pei_core.proofs.reports.put_reports.Goals as goal
 
 pub returns-in-Err-clause-text : goal.returns-in-Err-clause-text
 returns-in-Err-clause-text g c =
