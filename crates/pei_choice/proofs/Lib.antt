@@ -1,2 +1,3 @@
 mod Rotation
+mod ShortParts
 mod VolumeParts

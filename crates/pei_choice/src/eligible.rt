@@ -81,13 +81,11 @@ pub fn is_eligible<G: GuidSet, L: Ledger>(
     ensures counted { steps.old ≤ steps.new }
     ensures few_steps { steps.new ≤ steps.old + 1 }
 {
-    match stage {
-        Stage::Waiting => match pei_part(catalog, number) {
-            Some(part) => may_start(part, set, steps),
-            None => false,
-        },
-        Stage::Registered => moved,
-        Stage::Started => false,
-        Stage::Again => false,
+    if stage.started {
+        return stage.registered && !stage.again && moved;
+    }
+    match pei_part(catalog, number) {
+        Some(part) => may_start(part, set, steps),
+        None => false,
     }
 }

@@ -2,11 +2,13 @@
 #![tactic(auto)]
 
 mod eligible;
+mod laws;
 mod next;
 mod order;
 mod stage;
 
 pub use eligible::is_eligible;
+pub use laws::catalogues_are_short;
 pub use next::{cursor_behind, next_peim};
 pub use order::PeiOrder;
 pub use stage::{Stage, stage_of};

@@ -1,0 +1,5 @@
+mod ListFacts
+mod Room
+mod Families
+mod Newcomers
+mod Places

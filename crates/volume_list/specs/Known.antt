@@ -1,0 +1,20 @@
+-- The volumes that are known: each once, and each of the catalogue.
+-- Own.
+use Rattle.std.specs.Prelude.{ℕ, ◌<◌, not, if◌then◌else◌, List, [], ◌∷◌, ◌++◌, length}
+use Rattle.boot_model.specs.declared.catalog.Catalog.{Catalog}
+use Rattle.boot_model.specs.Lists.{Each}
+use Rattle.boot_model.specs.Parts.{has_number}
+use Rattle.boot_model.specs.Licence.{AllDiffer}
+
+-- each is the number of a volume of the catalogue
+abbrev pub AreInCatalog : Catalog → List ℕ → Type 0
+AreInCatalog catalog list = Each (λ volume. volume < length catalog.volumes) list
+
+pub record AreKnown (catalog : Catalog) (list : List ℕ) : Type 0 where
+  pub differ : AllDiffer list
+  pub in_catalog : AreInCatalog catalog list
+
+-- a list with each of these numbers that is new at its end, one after the other
+abbrev pub with_new : List ℕ → List ℕ → List ℕ
+with_new known [] = known
+with_new known (number ∷ numbers) = with_new (if not (has_number known number) then known ++ number ∷ [] else known) numbers
