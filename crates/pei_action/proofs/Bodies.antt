@@ -1,6 +1,5 @@
 -- A body that is there is still there where a HOB is added, and has its length where bytes are written into a pool.
 use Rattle.std.proofs.Common.{◌≡◌, ◌≢◌, ℕ, ◌+◌, ◌≤◌, ◌<◌, Bool, true, false, cond, List, [], ◌∷◌, ◌++◌, length, take, drop, arith, sym, refl, ap, subst, ◌∙◌, Option, Some, ◌==◌, sum_by, length-append, length-take, length-drop}
-use Rattle.std.specs.Prelude.{fold}
 use Rattle.std.specs.Option.{option_map}
 use Rattle.std.proofs.lemmas.List.Sums.{sum_by-cons}
 use Rattle.std.proofs.lemmas.Bool.Decides.{nat_tests}
@@ -23,7 +22,7 @@ pub hold_on : (s t : StoreState) (registers : List Register) → Stays s t → H
 hold_on s t [] stays each = tt
 hold_on s t (x ∷ xs) stays each = (stays x each.0, hold_on s t xs stays each.1)
 
-abbrev Grown : StoreState → StoreState → Type 0
+abbrev pub Grown : StoreState → StoreState → Type 0
 Grown s t = (place : ℕ) (body : Body) → body_at s place ≡ Some body → body_at t place ≡ Some body
 
 grown_stays : (s t : StoreState) → Grown s t → Stays s t
@@ -42,16 +41,14 @@ body_stays [] hob at place body h = cc
 body_stays (first ∷ hobs) hob at place body h =
     stays_on (at + 8 == place) first.body (body_from (at + hob_len first) hobs place) (body_from (at + hob_len first) (hobs ++ hob ∷ []) place) body (body_stays hobs hob (at + hob_len first) place body) h
 
+pub added_grows : (s t : StoreState) (hob : HobEntry) → t.hobs ≡ s.hobs ++ hob ∷ [] → Grown s t
+added_grows s t hob e = λ place body h. subst (λ hobs. body_from 56 hobs place ≡ Some body) (sym e) (body_stays s.hobs hob 56 place body h)
+
 pub added_stays : (s t : StoreState) (hob : HobEntry) → t.hobs ≡ s.hobs ++ hob ∷ [] → Stays s t
-added_stays s t hob e = grown_stays s t (λ place body h. subst (λ hobs. body_from 56 hobs place ≡ Some body) (sym e) (body_stays s.hobs hob 56 place body h))
+added_stays s t hob e = grown_stays s t (added_grows s t hob e)
 
 pub hobs_stay : (s t : StoreState) → s.hobs ≡ t.hobs → Stays s t
 hobs_stay s t e = grown_stays s t (λ place body h. subst (λ hobs. body_from 56 hobs place ≡ Some body) e h)
-
--- through each of a list
-pub fold_stays : {A : Type 0} (f : StoreState → A → StoreState) (s t : StoreState) (xs : List A) → ((u : StoreState) (a : A) → Stays u (f u a)) → Stays s t → Stays s (fold f t xs)
-fold_stays f s t [] each stays = stays
-fold_stays f s t (a ∷ xs) each stays = fold_stays f s (f t a) xs each (λ x held. each t a x (stays x held))
 
 apart : (a b : ℕ) → a < b → (a == b) ≡ false
 apart a b h = grind (arith, nat_tests)
@@ -102,7 +99,7 @@ elsewhere_on change hobs hob at p place body true e found len other rest =
 elsewhere_on change hobs hob at p place body false e found len other rest =
     ap (λ later. cond (at + 8 == place) (Some hob.body) later) (rest found)
 
-elsewhere : (change : Body → Body) (hobs : List HobEntry) (at p place : ℕ) (body : Body) → body_from at hobs p ≡ Some body → body_len (change body) ≡ body_len body → place ≢ p
+pub elsewhere : (change : Body → Body) (hobs : List HobEntry) (at p place : ℕ) (body : Body) → body_from at hobs p ≡ Some body → body_len (change body) ≡ body_len body → place ≢ p
     → body_from at (with_body change at hobs p) place ≡ body_from at hobs place
 elsewhere change [] at p place body found len other = refl
 elsewhere change (hob ∷ hobs) at p place body found len other =

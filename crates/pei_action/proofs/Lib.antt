@@ -1,11 +1,12 @@
 mod Acting
-mod Bodies
+pub mod Bodies
 mod Collected
 mod Grammar
 mod Held
+pub mod Later
 mod Others
 mod Pages
 mod Refused
 mod ScriptHobs
-mod Staying
+pub mod Staying
 mod Written

@@ -17,5 +17,8 @@ mod taken;
 
 pub use action::take_action;
 pub use descriptors::{Descriptors, MOST_DESCRIPTORS};
-pub use laws::registers_stay;
+pub use laws::{registers_stay, replies_are_sound, states_stay};
 pub use taken::{Reply, Taken};
+
+#[cfg(test)]
+mod tests;

@@ -1,0 +1,5 @@
+mod CoreSweeps
+mod Firings
+mod Openings
+mod SoundSteps
+mod Standing
