@@ -1,13 +1,13 @@
 -- The move changes no HOB but descriptors: each HOB keeps its type, its length and so its place, and bodies that are bytes, nodes or pages stay as they are.
 -- A descriptor keeps its kind, its GUID and a notification's entry; one that nothing names becomes the bytes that it spelled before.
 -- PI 1.8, volume 1, "Installing PEI Memory"; which numbers are shifted is own.
-use Rattle.std.specs.Prelude.{◌≡◌, ◌≢◌, ℕ, length, map, Option, Some, None, ⊤}
+use Rattle.std.specs.Prelude.{◌≡◌, ◌≢◌, ℕ, map, Option, Some, None}
 use Rattle.boot_model.specs.declared.store_handle.DescKind.TheVariants.{Ppi}
 use Rattle.boot_model.specs.declared.state.Body.{Body}
 use Rattle.boot_model.specs.declared.state.Body.TheVariants.{Bytes, Descriptor, Node, Allocation}
 use Rattle.boot_model.specs.declared.state.DescriptorBody.{DescriptorBody}
-use Rattle.boot_model.specs.Lists.{Each}
 use Rattle.boot_model.specs.StoreState.{StoreState, Range, hob_len, body_at}
+use Rattle.boot_model.specs.StateFacts.{IsStoreState}
 use Rattle.boot_model.specs.HeapImage.{descriptor_bytes}
 use Rattle.boot_model.specs.Migration.{migrated_to}
 
@@ -39,12 +39,5 @@ pub record KeepsHobs (old new : StoreState) : Type 0 where
   pub lengths : map hob_len new.hobs ≡ map hob_len old.hobs
   pub places : (place : ℕ) → KeepsPlace old.base place (body_at old place) (body_at new place)
 
--- a GUID has sixteen bytes
-abbrev pub HasWholeGuid : Body → Type 0
-HasWholeGuid (Descriptor d) = length d.guid.0 ≡ 16
-HasWholeGuid (Bytes bytes) = ⊤
-HasWholeGuid Node = ⊤
-HasWholeGuid (Allocation a) = ⊤
-
 abbrev pub MoveKeepsHobs : Type 0
-MoveKeepsHobs = (s : StoreState) (to : Range) → Each (λ hob. HasWholeGuid hob.body) s.hobs → KeepsHobs s (migrated_to s to)
+MoveKeepsHobs = (s : StoreState) (to : Range) → IsStoreState s → KeepsHobs s (migrated_to s to)

@@ -67,7 +67,7 @@ pending_grows s t grown pending h = (grown pending.node Node h.0, descriptor_gro
 
 -- facts that rest on the board and on numbers alone
 pub guid_stays : (s t : StoreState) → s.board ≡ t.board → (d : DescriptorBody) (stands : Option ℕ) → IsGuidOf s d stands → IsGuidOf t d stands
-guid_stays s t e d None h = tt
+guid_stays s t e d None h = h
 guid_stays s t e d (Some address) h = subst (λ (board : Board). IsGuidOf (record s { board = board }) d (Some address)) e h
 
 pub body_kept : (s t : StoreState) → s.board ≡ t.board → (kind : ℕ) (body : Body) → IsBodyOf s kind body → IsBodyOf t kind body

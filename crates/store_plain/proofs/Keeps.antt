@@ -33,6 +33,7 @@ use Rattle.boot_model.specs.Service.Hob.{create_hob, hob_entry}
 use Rattle.boot_model.specs.Service.Memory.{set_memory, is_memory, pages, with_pages, allocation_hob, page_len, allocation_len, with_boot_mode}
 use Rattle.store_plain.specs.declared.store.PlainStore.{PlainStore}
 use Rattle.store_plain.specs.PlainState.{state_of, stands_for}
+use Rattle.store_plain.specs.Laws.{IsWholeGuid}
 use Rattle.store_plain.proofs.Facts.{bodies_kept, heap_kept, pages_kept, new_body}
 use Rattle.store_plain.proofs.Sound.{IsSound, HasRoom, sound_of, facts_of, appended_sound}
 use Rattle.store_plain.proofs.Added.{installed_sound, notified_sound, ppi_descs, note_descs, ppi_desc, both_true}
@@ -94,11 +95,11 @@ address_kept s kind number address h is (Some bytes) e =
     kept_if (nat_lt (free s) (24 + 8)) _ _ (λ f. tt)
     (λ f room. facts_of _ (appended_sound s (pool_of (Descriptor (record { kind = kind; guid = record { 0 = bytes }; stands = Some address; number = number }))) (sound_of s h) (refl, e, is)) room)
 
-pub keeps_desc : (kind : DescKind) (guid : GuidFrom) (number : ℕ) → IsNumberOf kind number → (s : StoreState) → IsStoreState s → KeepsFacts (desc s kind guid number)
-keeps_desc kind (Inline guid) number is s h =
+pub keeps_desc : (kind : DescKind) (guid : GuidFrom) (number : ℕ) → IsWholeGuid guid → IsNumberOf kind number → (s : StoreState) → IsStoreState s → KeepsFacts (desc s kind guid number)
+keeps_desc kind (Inline guid) number whole is s h =
     kept_if (nat_lt (free s) (40 + 8)) _ _ (λ e. tt)
-    (λ e room. facts_of _ (appended_sound s (pool_of (Descriptor (record { kind = kind; guid = guid; stands = None; number = number }))) (sound_of s h) (refl, tt, is)) room)
-keeps_desc kind (At address) number is s h = address_kept s kind number address h is (rom_bytes s.board.roms address 16) refl
+    (λ e room. facts_of _ (appended_sound s (pool_of (Descriptor (record { kind = kind; guid = guid; stands = None; number = number }))) (sound_of s h) (refl, whole, is)) room)
+keeps_desc kind (At address) number whole is s h = address_kept s kind number address h is (rom_bytes s.board.roms address 16) refl
 
 script_kind : (hob : HobValue) → IsScriptHob hob → V.kind_of hob ≢ ALLOCATION
 script_kind (HandoffHob handoff) h e = absurd h
@@ -141,7 +142,7 @@ core_kept : (s : StoreState) → IsStoreState s → KeepsFacts (core_of (Ok (rec
 core_kept s h =
     let t = made_desc s in
     let d : Desc = record { offset = next_body s } in
-    let sound : IsSound t = appended_sound s (pool_of (Descriptor (record { kind = Ppi; guid = MEMORY_PPI; stands = None; number = 0 }))) (sound_of s h) (refl, tt, tt) in
+    let sound : IsSound t = appended_sound s (pool_of (Descriptor (record { kind = Ppi; guid = MEMORY_PPI; stands = None; number = 0 }))) (sound_of s h) (refl, refl, tt) in
     let is : IsDesc t d = (record { kind = Ppi; guid = MEMORY_PPI; stands = None; number = 0 }, new_body s.hobs (pool_of (Descriptor (record { kind = Ppi; guid = MEMORY_PPI; stands = None; number = 0 }))) 56 (next_body s) refl) in
     both_kept (install t (d ∷ []) CORE)
     (kept_not (list_all (λ x. is_ppi (kind_at t x.offset)) (d ∷ [])) _ _ (λ e. tt) (λ e. kept_if (nat_lt (free t) (node_need (length (d ∷ [])) + node_need (length (install_pairs t (d ∷ []))))) _ _ (λ f. tt)

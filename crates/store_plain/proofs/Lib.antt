@@ -20,4 +20,5 @@ pub mod Rows
 pub mod Opening
 pub mod Kept
 pub mod Longer
+pub mod Sized
 pub mod Services

@@ -136,7 +136,7 @@ pool_is_none kind pool allocation = absurd (omega (arith, pool, allocation))
 
 -- only the GUID of a descriptor matters to where it stands
 guid_moved : (s t : StoreState) (new old : DescriptorBody) → s.board ≡ t.board → new.guid ≡ old.guid → (stands : Option ℕ) → IsGuidOf s old stands → IsGuidOf t new stands
-guid_moved s t new old e same None h = tt
+guid_moved s t new old e same None h = ap (λ (g : Guid). length g.0) same ∙ h
 guid_moved s t new old e same (Some address) h = guid_stays s t e new (Some address) (h ∙ ap (λ (g : Guid). Some g.0) (sym same))
 
 descriptor_body : (s t : StoreState) (to : Range) (kind place : ℕ) (d : DescriptorBody) (b : Bool) → s.board ≡ t.board → IsBodyOf s kind (Descriptor d)

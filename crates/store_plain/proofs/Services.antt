@@ -34,6 +34,7 @@ use Rattle.boot_model.specs.Service.Hob.{create_hob, hob_entry}
 use Rattle.boot_model.specs.Service.Memory.{set_memory, is_memory, pages, with_pages, allocation_hob, page_len, early_pages}
 use Rattle.store_plain.specs.PlainBody.{IsSized}
 use Rattle.store_plain.specs.Laws.{Keeps, KeepFacts}
+use Rattle.store_plain.proofs.Sized.{all_sized}
 use Rattle.store_plain.proofs.Sound.{HasRoom, sound_of, facts_of}
 use Rattle.store_plain.proofs.Changed.{changed, without_first, written_len, written_sound, popped_sound}
 use Rattle.store_plain.proofs.Migrated.{migrated_sound}
@@ -174,7 +175,7 @@ pub all_keep : KeepFacts
 all_keep = record {
   pool = λ s size h. both (pool s size) (keeps_pool size s h) (pool_room size s h.room);
   store = λ s to at bytes h is. store_on s to at bytes (nat_lt to.size (at + length bytes)) refl h is;
-  desc = λ s kind guid number h is. both (desc s kind guid number) (keeps_desc kind guid number is s h) (found_room s kind number h.room _);
+  desc = λ s kind guid number h whole is. both (desc s kind guid number) (keeps_desc kind guid number whole is s h) (found_room s kind number h.room _);
   install = λ s list by h each. both (install s list by) (keeps_install list by s h each) (install_room list by s h.room);
   reinstall = λ s old new by h a b. both (reinstall s old new by) (keeps_reinstall old new by s h (a, b)) (reinstall_room old new by s h.room);
   core_install = λ s h. both (core_install s) (keeps_core s h) (core_room s h.room);
@@ -184,5 +185,5 @@ all_keep = record {
   set_memory = λ s begin len h. both (set_memory s begin len) (keeps_set_memory begin len s h) (memory_room begin len s h.room);
   pages = λ s memory_type count h. both (pages s memory_type count) (keeps_pages memory_type count s h) (pages_room memory_type count s h.room);
   boot_mode = λ s mode h. mode_facts s mode h;
-  move = λ s h sized. moved_on s s.moved s.planned refl refl h sized;
+  move = λ s h. moved_on s s.moved s.planned refl refl h (all_sized s s.hobs h.bodies);
 }

@@ -1,10 +1,11 @@
 -- What all services keep: what holds of every state of a store holds of each state that a service answers.
 -- Own.
-use Rattle.std.specs.Prelude.{ℕ, List, Ok, Err, IfSome, ⊤}
+use Rattle.std.specs.Prelude.{◌≡◌, ℕ, List, length, Ok, Err, IfSome, ⊤}
 use Rattle.hob_codec.specs.HobValue.{HobValue, IsHob}
 use Rattle.boot_model.specs.declared.store_handle.Desc.{Desc}
 use Rattle.boot_model.specs.declared.store_handle.DescKind.{DescKind}
 use Rattle.boot_model.specs.declared.store_handle.GuidFrom.{GuidFrom}
+use Rattle.boot_model.specs.declared.store_handle.GuidFrom.TheVariants.{Inline, At}
 use Rattle.boot_model.specs.declared.store_handle.Pool.{Pool}
 use Rattle.boot_model.specs.Lists.{Each}
 use Rattle.boot_model.specs.StoreState.{StoreState}
@@ -19,18 +20,22 @@ use Rattle.boot_model.specs.Service.Notify as N
 use Rattle.boot_model.specs.Service.Queue as Q
 use Rattle.boot_model.specs.Service.Hob as H
 use Rattle.boot_model.specs.Service.Memory as M
-use Rattle.store_plain.specs.PlainBody.{IsSized}
 
 -- the state after a call, where the call is not refused
 abbrev pub Keeps : {A : Type 0} → Service A → Type 0
 Keeps (Ok (answer, t)) = IsStoreState t
 Keeps (Err fault) = ⊤
 
--- for each service, with the needs of its call; the lengths of a new HOB's fields, and at the move those of GUIDs, are needs too, since here they are lists of any length
+-- a GUID that is handed in has sixteen bytes
+abbrev pub IsWholeGuid : GuidFrom → Type 0
+IsWholeGuid (Inline guid) = length guid.0 ≡ 16
+IsWholeGuid (At address) = ⊤
+
+-- for each service, with the needs of its call; the lengths of a new GUID and of a new HOB's fields are needs too, since here they are lists of any length
 pub record KeepFacts : Type 0 where
   pub pool : (s : StoreState) (size : ℕ) → IsStoreState s → Keeps (P.pool s size)
   pub store : (s : StoreState) (to : Pool) (at : ℕ) (bytes : List ℕ) → IsStoreState s → IsPool s to → IfSome (P.store s to at bytes) IsStoreState
-  pub desc : (s : StoreState) (kind : DescKind) (guid : GuidFrom) (number : ℕ) → IsStoreState s → IsNumberOf kind number → Keeps (D.desc s kind guid number)
+  pub desc : (s : StoreState) (kind : DescKind) (guid : GuidFrom) (number : ℕ) → IsStoreState s → IsWholeGuid guid → IsNumberOf kind number → Keeps (D.desc s kind guid number)
   pub install : (s : StoreState) (list : List Desc) (by : ℕ) → IsStoreState s → Each (IsDesc s) list → Keeps (I.install s list by)
   pub reinstall : (s : StoreState) (old new : Desc) (by : ℕ) → IsStoreState s → IsDesc s old → IsDesc s new → Keeps (I.reinstall s old new by)
   pub core_install : (s : StoreState) → IsStoreState s → Keeps (I.core_install s)
@@ -40,4 +45,4 @@ pub record KeepFacts : Type 0 where
   pub set_memory : (s : StoreState) (begin len : ℕ) → IsStoreState s → Keeps (M.set_memory s begin len)
   pub pages : (s : StoreState) (memory_type count : ℕ) → IsStoreState s → Keeps (M.pages s memory_type count)
   pub boot_mode : (s : StoreState) (mode : ℕ) → IsStoreState s → IsStoreState (M.with_boot_mode s mode)
-  pub move : (s : StoreState) → IsStoreState s → Each (λ hob. IsSized hob.body) s.hobs → IfSome (migration s) IsStoreState
+  pub move : (s : StoreState) → IsStoreState s → IfSome (migration s) IsStoreState

@@ -6,14 +6,24 @@ ghost use Rattle.boot_model.specs.MemoryReading.{rom_bytes};
 ghost use Rattle.boot_model.specs.Service.{Answers};
 ghost use Rattle.boot_model.specs.Service.Descriptor.{desc, guid_from, descriptor_at, guid_at, number_at, kind_at, no_guid};
 ghost use Rattle.phys_mem.specs.Region.{part_of};
+ghost use Rattle.store_plain.specs.Laws.{IsWholeGuid};
 
 use crate::kind::POOL;
 use crate::length::{HANDOFF_LEN, HEADER_LEN, descriptor_len};
-use crate::plain_hob::{PlainBody, PlainHob};
+use crate::plain_hob::{PlainBody, PlainHob, has_sixteen};
 use crate::store::PlainStore;
 use boot_model::{Desc, DescKind, DescriptorBody, GuidFrom, StoreFault};
 use phys_mem::Rom;
 use pi_base::{Guid, OutOfMemory};
+
+// The law that a GUID that is handed in has sixteen bytes.
+pub(crate) fn is_whole(guid: &GuidFrom)
+    ensures { IsWholeGuid guid.now }
+{
+    if let GuidFrom::Inline(guid) = guid {
+        has_sixteen(&guid.0);
+    }
+}
 
 // The bytes of a descriptor's GUID, or none.
 fn guid_bytes(found: &Option<DescriptorBody>) -> &[u8]

@@ -44,17 +44,16 @@ impl PlainStore {
         requires { IsStoreState (state_of self.now) }
         ensures { Peeks (bytes_at (state_of self.now) at (length into.old)) result into.old into.new }
     {
+        if self.is_in_ram(at, into.len()) {
+            self.read_heap(at, into);
+            return true;
+        }
         match rom_bytes(self.roms.as_slice(), at, into.len()) {
             Some(bytes) => {
                 into.copy_from_slice(bytes);
-                return true;
+                true
             }
-            None => {}
+            None => false,
         }
-        if !self.is_in_ram(at, into.len()) {
-            return false;
-        }
-        self.read_heap(at, into);
-        true
     }
 }

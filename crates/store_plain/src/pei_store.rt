@@ -1,6 +1,7 @@
 // The store's calls, over each state that it stands for.
 ghost use Rattle.std.specs.Prelude.{true, ⊤};
 
+use crate::descriptor::is_whole;
 use crate::store::PlainStore;
 use boot_model::{Desc, DescKind, Firing, GuidFrom, HobSpan, PeiStore, Pool, StoreFault, Sweep};
 use depex_code::GuidSet;
@@ -40,6 +41,7 @@ impl PeiStore for PlainStore {
     }
 
     fn desc(&mut self, kind: DescKind, guid: GuidFrom, arg: u64) -> Result<Desc, StoreFault> {
+        is_whole(&guid);
         self.make_desc(kind, guid, arg)
     }
 

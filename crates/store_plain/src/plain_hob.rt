@@ -171,7 +171,7 @@ impl PlainHob {
 }
 
 // The law of a GUID's length.
-fn has_sixteen(guid: &[u8; 16])
+pub(crate) fn has_sixteen(guid: &[u8; 16])
     ensures { length guid.now ≡ 16 }
 {
     let _bytes = *guid;
