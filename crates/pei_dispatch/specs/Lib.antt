@@ -1,0 +1,5 @@
+pub mod Ends
+pub mod Leaves
+pub mod Standing
+pub mod Steps
+pub mod Turns
