@@ -42,7 +42,12 @@ fn put_handoff<M: PeiStore, S: Sink>(store: &M, stop: Stop, sink: &mut S) -> Res
     ensures cause { SinkFaultsAfter result (S.faults sink.old) (S.faults sink.new) }
 {
     match stop {
-        Stop::Handoff => put(sink, &Line::Handoff { base: store.base() }),
+        Stop::Handoff => put(
+            sink,
+            &Line::Handoff {
+                address: store.base(),
+            },
+        ),
         _ => Ok(()),
     }
 }
