@@ -1,0 +1,4 @@
+mod Growing
+mod Idle
+mod Lines
+mod Runs

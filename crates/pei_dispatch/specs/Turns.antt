@@ -16,10 +16,10 @@ use Rattle.pei_dispatch.specs.Ends.{outcome_by, StandsAt}
 use Rattle.pei_dispatch.specs.Leaves.{Texts, Printed, PrintedPart}
 
 -- the order is that of the volumes that were reported, and the cursor is the machine's
-pub record IsPlaced (catalog : Catalog) (m : PeiMachine) (order : PeiOrder) (cursor : ℕ) : Type 0 where
-  pub order : IsPeiOrder catalog m.reported order
-  pub cursor : m.cursor ≡ cursor
-  pub within : cursor ≤ length (parts_of order)
+pub record IsPlaced (catalog : Catalog) (m : PeiMachine) (kept : PeiOrder) (place : ℕ) : Type 0 where
+  pub order : IsPeiOrder catalog m.reported kept
+  pub cursor : m.cursor ≡ place
+  pub within : place ≤ length (parts_of kept)
 
 -- the opening, by its answer
 abbrev pub OpensTo : Catalog → List ℕ → PeiOrder → Texts → Result (Unit {0}) Broken → Type 0

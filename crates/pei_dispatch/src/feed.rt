@@ -1,5 +1,5 @@
 // The order of the PEIMs grows with the volumes that are reported.
-ghost use Rattle.std.specs.Prelude.{◌≤◌, ◌++◌, ℕ, List, length, OnOk};
+ghost use Rattle.std.specs.Prelude.{◌≤◌, ◌++◌, ℕ, List, length, take, OnOk};
 ghost use Rattle.boot_model.specs.declared.limits.TheConstants.{MOST_MODULES};
 ghost use Rattle.pei_choice.specs.Order.{IsPeiOrder};
 
@@ -23,4 +23,19 @@ pub(crate) fn feed(
         }
     }
     Ok(())
+}
+
+/// The volumes behind those that are known come into the order.
+pub(crate) fn feed_new(
+    order: &mut PeiOrder,
+    catalog: &Catalog,
+    reported: &[u32],
+    known: usize,
+) -> Result<(), OutOfMemory>
+    requires few { length catalog.now.modules ≤ MOST_MODULES }
+    requires known { known ≤ length reported.now }
+    ensures { OnOk result (IsPeiOrder catalog.now (take known reported.now) order.old → IsPeiOrder catalog.now reported.now order.new) }
+{
+    let (_, new) = reported.split_at(known);
+    feed(order, catalog, new)
 }

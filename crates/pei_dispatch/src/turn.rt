@@ -11,7 +11,7 @@ ghost use Rattle.pei_dispatch.specs.Turns.{IsPlaced, TurnsTo};
 
 use crate::answer::{Broken, Stop};
 use crate::choose::choose;
-use crate::feed::feed;
+use crate::feed::feed_new;
 use crate::pei_stub::{CoreFault, Pei, Stepped};
 use crate::start::start;
 use crate::stop::stop;
@@ -48,20 +48,6 @@ fn start_or_stop<M: PeiStore + Drop, S: Sink, L: Ledger>(
     }
 }
 
-// The volumes that a step has reported come into the order.
-fn feed_new(
-    order: &mut PeiOrder,
-    catalog: &Catalog,
-    reported: &[u32],
-    known: usize,
-) -> Result<Option<Stop>, Broken> {
-    let (_, new) = reported.split_at(known);
-    match feed(order, catalog, new) {
-        Ok(()) => Ok(None),
-        Err(OutOfMemory) => Err(Broken::Memory),
-    }
-}
-
 /// The core takes a step; where it has none left the next PEIM starts, or PEI stops.
 pub(crate) fn turn<M: PeiStore + Drop, S: Sink, L: Ledger>(
     pei: &mut Pei<M>,
@@ -81,7 +67,10 @@ pub(crate) fn turn<M: PeiStore + Drop, S: Sink, L: Ledger>(
 {
     let known = pei.reported().len();
     match pei.step(catalog, sink) {
-        Ok(Stepped::Went) => feed_new(order, catalog, pei.reported(), known),
+        Ok(Stepped::Went) => match feed_new(order, catalog, pei.reported(), known) {
+            Ok(()) => Ok(None),
+            Err(OutOfMemory) => Err(Broken::Memory),
+        },
         Ok(Stepped::Idle) => start_or_stop(pei, order, cursor, catalog, sink, steps),
         Err(CoreFault::Spent) => Ok(Some(Stop::Spent)),
         Err(CoreFault::Deep) => Ok(Some(Stop::Deep)),

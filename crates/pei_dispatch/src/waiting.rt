@@ -39,7 +39,21 @@ fn reason_of(catalog: &Catalog, number: u32, stage: Stage) -> Option<Reason>
     None
 }
 
-// The line of a module, where its part waits.
+// The line of a module that has come so far, where its part waits.
+fn waiting_line(catalog: &Catalog, number: u32, stage: Stage) -> Option<Line>
+    ensures { (m : PeiMachine) → IsStage m number stage → result ≡ P.waiting_line catalog.now m number }
+{
+    match reason_of(catalog, number, stage) {
+        Some(reason) => Some(Line::Waiting {
+            volume: volume_of(catalog, number),
+            name: name_of(catalog, number),
+            reason,
+        }),
+        None => None,
+    }
+}
+
+// That line, where there is one.
 fn put_waiting<S: Sink>(
     catalog: &Catalog,
     number: u32,
@@ -49,15 +63,8 @@ fn put_waiting<S: Sink>(
     ensures text { (m : PeiMachine) → IsStage m number stage → Puts result (S.text sink.old) (S.text sink.new) (text_of (option_to_list (P.waiting_line catalog.now m number))) }
     ensures cause { SinkFaultsAfter result (S.faults sink.old) (S.faults sink.new) }
 {
-    match reason_of(catalog, number, stage) {
-        Some(reason) => put(
-            sink,
-            &Line::Waiting {
-                volume: volume_of(catalog, number),
-                name: name_of(catalog, number),
-                reason,
-            },
-        ),
+    match waiting_line(catalog, number, stage) {
+        Some(line) => put(sink, &line),
         None => Ok(()),
     }
 }
