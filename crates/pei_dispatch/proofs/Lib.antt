@@ -2,3 +2,6 @@ mod Growing
 mod Idle
 mod Lines
 mod Runs
+mod Starts
+mod Stops
+mod Turning
