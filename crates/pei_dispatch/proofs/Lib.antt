@@ -5,3 +5,4 @@ mod Runs
 mod Starts
 mod Stops
 mod Turning
+mod Ways
