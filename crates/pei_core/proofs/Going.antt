@@ -1,5 +1,5 @@
 -- What a part of a step leaves, from what its pieces leave.
-use Rattle.std.proofs.Common.{◌≡◌, ℕ, Bool, true, false, List, [], ◌∷◌, ◌++◌, refl, sym, ap, ◌∙◌, subst, append_assoc, Option, Result, Ok, Err}
+use Rattle.std.proofs.Common.{◌≡◌, ℕ, Bool, true, false, List, [], ◌∷◌, ◌++◌, refl, sym, ap, ◌∙◌, subst, append_assoc, Option, Result, Some, None, Ok, Err}
 use Rattle.std.specs.Io.KnownBytes.{Appends}
 use Rattle.std.proofs.lemmas.List.{append-nil}
 use Rattle.std.proofs.lemmas.Grind.{flat_map-append}
@@ -18,7 +18,7 @@ use Rattle.pei_core.specs.declared.core_state.Core.{Core}
 use Rattle.pei_core.specs.declared.pei.Stepped.{Stepped}
 use Rattle.pei_core.specs.Standing.{IsCoreOf, Have}
 use Rattle.pei_core.specs.Leaves.{Texts, Printed, PrintedPart, Became, Goes, Leaves, broken_by, fault_of}
-use Rattle.pei_core.specs.Steps.{StepsTo, HasStepped, HasStayed, went_by}
+use Rattle.pei_core.specs.Steps.{IsIdle, StepsTo, HasStepped, HasStayed, went_by}
 
 abbrev pub texts : Option (List ℕ) → Option (List ℕ) → Texts
 texts old new = record { old = old; new = new }
@@ -105,20 +105,29 @@ leaves_of (Ok done) result memory stands core m later t is goes = subst (λ x. L
 leaves_of (Err B.Sink) result memory stands core m later t is goes = subst (λ x. Leaves memory stands core m later t x) (sym is) goes
 leaves_of (Err B.Memory) result memory stands core m later t is goes = subst (λ x. Leaves memory stands core m later t x) (sym is) goes
 
+-- an option is not both
+pub some_none : {A : Type 0} (o : Option A) (a : A) → o ≡ Some a → o ≡ None → ⊥
+some_none (Some b) a some none = cc
+some_none None a some none = cc
+
+-- a list is not both
+pub cons_nil : {A : Type 0} (a : A) (rest : List A) → a ∷ rest ≡ [] → ⊥
+cons_nil a rest e = cc
+
 -- a step that was taken, or not
 pub steps_of : (r : Result (Unit {0}) CoreFault) (result : Result Stepped CoreFault) (memory : Bool) (stands : StoreState → Type 0) (core : Core) (m later : PeiMachine) (t : Texts)
-    → result ≡ went_by r → Leaves memory stands core m later t r → StepsTo memory (Have stands core) m later t result
-steps_of (Ok done) result memory stands core m later t is leaves =
+    → result ≡ went_by r → (IsIdle m → ⊥) → Leaves memory stands core m later t r → StepsTo memory (Have stands core) m later t result
+steps_of (Ok done) result memory stands core m later t is busy leaves =
     let stepped : HasStepped (Have stands core) m later t = record { printed = leaves.printed; machine = (leaves.store, leaves.fields) } in
-    subst (λ x. StepsTo memory (Have stands core) m later t x) (sym is) stepped
-steps_of (Err F.Spent) result memory stands core m later t is leaves =
+    subst (λ x. StepsTo memory (Have stands core) m later t x) (sym is) (busy, stepped)
+steps_of (Err F.Spent) result memory stands core m later t is busy leaves =
     let stayed : HasStayed (Have stands core) m t = record { text = leaves.text; machine = (leaves.store, leaves.fields) } in
     subst (λ x. StepsTo memory (Have stands core) m later t x) (sym is) (leaves.ended, stayed)
-steps_of (Err F.Deep) result memory stands core m later t is leaves =
+steps_of (Err F.Deep) result memory stands core m later t is busy leaves =
     let stayed : HasStayed (Have stands core) m t = record { text = leaves.text; machine = (leaves.store, leaves.fields) } in
     subst (λ x. StepsTo memory (Have stands core) m later t x) (sym is) (leaves.ended, stayed)
-steps_of (Err F.SinkFault) result memory stands core m later t is leaves = subst (λ x. StepsTo memory (Have stands core) m later t x) (sym is) leaves
-steps_of (Err F.Memory) result memory stands core m later t is leaves = subst (λ x. StepsTo memory (Have stands core) m later t x) (sym is) leaves
+steps_of (Err F.SinkFault) result memory stands core m later t is busy leaves = subst (λ x. StepsTo memory (Have stands core) m later t x) (sym is) leaves
+steps_of (Err F.Memory) result memory stands core m later t is busy leaves = subst (λ x. StepsTo memory (Have stands core) m later t x) (sym is) leaves
 
 -- over another store
 pub leaves_over : (r : Result (Unit {0}) CoreFault) (memory : Bool) (stands standing : StoreState → Type 0) (core : Core) (m later : PeiMachine) (t : Texts)

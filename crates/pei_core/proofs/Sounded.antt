@@ -24,7 +24,7 @@ stayed : (stands : StoreState → Type 0) (core : Core) (m : PeiMachine) (t : Te
 stayed stands core m t sound h = record { text = h.text; machine = sounded stands core m h.machine sound }
 
 pub steps_sound : (memory : Bool) (stands : StoreState → Type 0) (core : Core) (m later : PeiMachine) (t : Texts) (result : Result Stepped CoreFault) → IsSound m → IsSound later → StepsTo memory (Have stands core) m later t result → StepsTo memory (StandFor stands core) m later t result
-steps_sound memory stands core m later t (Ok Went) sound after h = stepped stands core m later t after h
+steps_sound memory stands core m later t (Ok Went) sound after h = (h.0, stepped stands core m later t after h.1)
 steps_sound memory stands core m later t (Ok Idle) sound after h = (h.0, stayed stands core m t sound h.1)
 steps_sound memory stands core m later t (Err F.Spent) sound after h = (h.0, stayed stands core m t sound h.1)
 steps_sound memory stands core m later t (Err F.Deep) sound after h = (h.0, stayed stands core m t sound h.1)

@@ -35,7 +35,7 @@ pub record HasStayed (Stands : PeiMachine → Type 0) (m : PeiMachine) (t : Text
 
 -- by the answer, where the step leads to a machine; memory is wanting only where the store takes it
 abbrev pub StepsTo : Bool → (PeiMachine → Type 0) → PeiMachine → PeiMachine → Texts → Result Stepped CoreFault → Type 0
-StepsTo memory Stands m later t (Ok Went) = HasStepped Stands m later t
+StepsTo memory Stands m later t (Ok Went) = (IsIdle m → ⊥) × HasStepped Stands m later t
 StepsTo memory Stands m later t (Ok Idle) = IsIdle m × HasStayed Stands m t
 StepsTo memory Stands m later t (Err F.Spent) = (later ≡ record m { ended = Some M.Spent }) × HasStayed Stands m t
 StepsTo memory Stands m later t (Err F.Deep) = (later ≡ record m { ended = Some M.Deep }) × HasStayed Stands m t

@@ -19,4 +19,6 @@ mod step;
 mod taken;
 
 pub use core_fault::CoreFault;
+pub use names::{name_of, volume_of};
 pub use pei::{Pei, Stepped};
+pub use reports::put_reports;

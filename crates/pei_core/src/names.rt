@@ -1,4 +1,4 @@
-// What lines say of modules.
+//! What lines say of modules.
 ghost use Rattle.std.specs.Prelude.{◌≡◌};
 ghost use Rattle.boot_model.specs.PeiMachine.{PeiMachine};
 ghost use Rattle.boot_model.specs.Parts.{module_name, module_volume};
@@ -7,8 +7,8 @@ ghost use Rattle.boot_model.specs.PeiStep.{callback_line, dispatch_line, start_l
 use boot_model::{BLOCKS, Catalog, Firing, Licence, Line};
 use pi_base::Guid;
 
-// The volume of a module.
-fn volume_of(catalog: &Catalog, number: u32) -> u32
+/// The number of a module's volume; 0 where there is no such module.
+pub fn volume_of(catalog: &Catalog, number: u32) -> u32
     ensures { result ≡ module_volume catalog.now number }
 {
     match catalog.modules.as_slice().get(number as usize) {
@@ -17,8 +17,8 @@ fn volume_of(catalog: &Catalog, number: u32) -> u32
     }
 }
 
-// The name of a module.
-fn name_of(catalog: &Catalog, number: u32) -> Guid
+/// The name of a module's file; zeros where there is no such module.
+pub fn name_of(catalog: &Catalog, number: u32) -> Guid
     ensures { result ≡ module_name catalog.now number }
 {
     match catalog.modules.as_slice().get(number as usize) {

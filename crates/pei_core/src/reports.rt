@@ -1,4 +1,4 @@
-// The lines of reports.
+//! The lines of reports.
 ghost use Rattle.boot_model.specs.Text.{text_of};
 ghost use Rattle.boot_model.specs.PeiStep.{report_lines};
 ghost use Rattle.boot_io.specs.Sink.{Puts, SinkFaultsAfter};
@@ -7,8 +7,8 @@ use boot_io::{Sink, SinkFault};
 use boot_model::Line;
 use boot_trace::put;
 
-/// Puts a line for each volume that is reported.
-pub(crate) fn put_reports<S: Sink>(sink: &mut S, volumes: &[u32]) -> Result<(), SinkFault>
+/// Puts a line for each volume that is reported. Where the sink fails, a prefix of the text was put.
+pub fn put_reports<S: Sink>(sink: &mut S, volumes: &[u32]) -> Result<(), SinkFault>
     ensures text { Puts result (S.text sink.old) (S.text sink.new) (text_of (report_lines volumes.now)) }
     ensures cause { SinkFaultsAfter result (S.faults sink.old) (S.faults sink.new) }
 {

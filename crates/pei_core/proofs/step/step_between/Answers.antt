@@ -1,10 +1,10 @@
 use Rattle.std.proofs.Common.{◌≡◌, [], sym, ◌∙◌, subst}
 use Rattle.boot_model.specs.PeiStep as P
 use Rattle.pei_core.specs.Standing.{Have}
-use Rattle.pei_core.specs.Steps.{StepsTo}
+use Rattle.pei_core.specs.Steps.{IsIdle, StepsTo}
 use Rattle.pei_core.proofs.Between.{no_move, a_move}
 use Rattle.pei_core.proofs.Cases.{step_moves, step_pops}
-use Rattle.pei_core.proofs.Going.{goes_over, leaves_of, steps_of, texts}
+use Rattle.pei_core.proofs.Going.{goes_over, leaves_of, some_none, steps_of, texts}
 use Rattle.pei_core.proofs.step.step_between.Goals as goal
 
 pub returns-then-memory_due-clause-row : goal.returns-then-memory_due-clause-row
@@ -20,7 +20,8 @@ returns-then-memory_due-clause-row g c m have none =
     let frames : m.frames ≡ [] = have.1.frames ∙ c.requires.idle in
     let is = step_moves c.args.catalog.now c.args.core.now.fuel m moves.0 none frames moves.1 in
     let leaves = leaves_of c.move_memory.result c.answer.result memory stands core m later t c.answer.ensures (c.move_memory.ensures.row m moves.0 have.0 due moves.1 have.1) in
-    let steps = steps_of c.answer.result c.went.result memory stands core m later t c.went.ensures leaves in
+    let busy = λ (idle : IsIdle m). some_none _ _ moves.1 idle.moves in
+    let steps = steps_of c.answer.result c.went.result memory stands core m later t c.went.ensures busy leaves in
     subst (λ l. StepsTo memory (Have stands core) m l t c.went.result) (sym is) steps
 
 pub returns-in-Some-clause-row : goal.returns-in-Some-clause-row
@@ -37,5 +38,6 @@ returns-in-Some-clause-row g c m have none =
     let is = step_pops c.args.catalog.now c.args.core.now.fuel m c.in-Some.firing a.0 none frames quiet a.1 in
     let goes = goes_over c.begin_dispatch.result memory (λ s. s ≡ a.0) stands core m later t (λ same. subst stands (sym same) a.2) (c.begin_dispatch.ensures.row m a.0 have.1) in
     let leaves = leaves_of c.begin_dispatch.result c.answer-in-Some.result memory stands core m later t c.answer-in-Some.ensures goes in
-    let steps = steps_of c.answer-in-Some.result c.went-in-Some.result memory stands core m later t c.went-in-Some.ensures leaves in
+    let busy = λ (idle : IsIdle m). some_none _ _ a.1 idle.pops in
+    let steps = steps_of c.answer-in-Some.result c.went-in-Some.result memory stands core m later t c.went-in-Some.ensures busy leaves in
     subst (λ l. StepsTo memory (Have stands core) m l t c.went-in-Some.result) (sym is) steps

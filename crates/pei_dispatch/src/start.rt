@@ -1,0 +1,74 @@
+// The start of the PEIM that comes next.
+ghost use Rattle.std.specs.Prelude.{◌≡◌, ◌≤◌, ℕ, option_copied, if◌then◌else◌, length};
+ghost use Rattle.boot_model.specs.Eligible.{licence_by};
+ghost use Rattle.boot_model.specs.Parts.{part_at};
+ghost use Rattle.boot_model.specs.PeiMachine.{PeiMachine};
+ghost use Rattle.boot_model.specs.PeiStep.{started};
+ghost use Rattle.boot_model.specs.WellFormed.{IsWellFormed};
+ghost use Rattle.boot_model.specs.declared.licence.Licence.TheVariants as G;
+ghost use Rattle.pi_base.specs.declared.phase.Phase.TheVariants.{Pei as InPei};
+ghost use Rattle.pei_dispatch.specs.Ends.{BrokenAfter};
+ghost use Rattle.pei_core.specs.Standing.{StandsFor, IsFor};
+ghost use Rattle.pei_core.specs.Steps.{IsIdle};
+ghost use Rattle.pei_dispatch.specs.Turns.{IsPlaced, TurnsTo};
+
+use crate::answer::{Broken, Stop};
+use boot_io::{Sink, SinkFault};
+use boot_model::{Catalog, Licence, Part, PartExpr, PeiStore};
+use pei_choice::{PeiOrder, Stage, cursor_behind, stage_of};
+use pei_core::Pei;
+
+/// The PEI part of a module.
+pub(crate) fn pei_part(catalog: &Catalog, number: u32) -> Option<&Part>
+    ensures { option_copied result ≡ part_at InPei catalog.now number }
+{
+    match catalog.modules.as_slice().get(number as usize) {
+        Some(module) => module.pei.as_ref(),
+        None => None,
+    }
+}
+
+// The licence by which a part starts that has come so far.
+fn licence_of(stage: Stage, part: &Part) -> Licence
+    ensures { result ≡ (if stage.started then G.Shadow else licence_by part.now.rank part.now.expr) }
+{
+    if stage.started {
+        return Licence::Shadow;
+    }
+    if part.rank.is_some() {
+        return Licence::Apriori;
+    }
+    match part.expr {
+        PartExpr::Absent => Licence::Absent,
+        _ => Licence::True,
+    }
+}
+
+/// A module starts, and the cursor then stands behind it. One without a PEI part has nothing to start.
+pub(crate) fn start<M: PeiStore + Drop, S: Sink>(
+    pei: &mut Pei<M>,
+    order: &PeiOrder,
+    cursor: &mut usize,
+    catalog: &Catalog,
+    number: u32,
+    sink: &mut S,
+) -> Result<Option<Stop>, Broken>
+    requires catalog { IsWellFormed catalog.now }
+    requires made { (fuel : ℕ) × IsFor catalog.now fuel pei.old }
+    requires state { (m : PeiMachine) × StandsFor M.stands_for pei.old m × IsIdle m }
+    ensures row { (m : PeiMachine) → StandsFor M.stands_for pei.old m → IsPlaced catalog.now m order.now cursor.old → TurnsTo (StandsFor M.stands_for pei.new) catalog.now m (started catalog.now m number) order.now cursor.new (record { old = S.text sink.old; new = S.text sink.new }) result }
+    ensures made { (fuel : ℕ) → IsFor catalog.now fuel pei.old → IsFor catalog.now fuel pei.new }
+    ensures faults { BrokenAfter result (S.faults sink.old) (S.faults sink.new) }
+{
+    let Some(part) = pei_part(catalog, number) else {
+        return Ok(None);
+    };
+    let licence = licence_of(stage_of(pei.stages(), number), part);
+    match pei.start(catalog, number, licence, sink) {
+        Ok(()) => {
+            *cursor = cursor_behind(order.as_slice(), number);
+            Ok(None)
+        }
+        Err(SinkFault) => Err(Broken::SinkFault),
+    }
+}
