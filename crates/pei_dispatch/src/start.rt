@@ -15,18 +15,8 @@ ghost use Rattle.pei_dispatch.specs.Turns.{IsPlaced, TurnsTo};
 use crate::answer::{Broken, Stop};
 use boot_io::{Sink, SinkFault};
 use boot_model::{Catalog, Licence, Part, PartExpr, PeiStore};
-use pei_choice::{PeiOrder, Stage, cursor_behind, stage_of};
+use pei_choice::{PeiOrder, Stage, cursor_behind, pei_part, stage_of};
 use pei_core::Pei;
-
-/// The PEI part of a module.
-pub(crate) fn pei_part(catalog: &Catalog, number: u32) -> Option<&Part>
-    ensures { option_copied result ≡ part_at InPei catalog.now number }
-{
-    match catalog.modules.as_slice().get(number as usize) {
-        Some(module) => module.pei.as_ref(),
-        None => None,
-    }
-}
 
 // The licence by which a part starts that has come so far.
 fn licence_of(stage: Stage, part: &Part) -> Licence

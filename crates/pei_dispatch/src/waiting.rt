@@ -7,11 +7,10 @@ ghost use Rattle.boot_model.specs.PeiStep as P;
 ghost use Rattle.boot_model.specs.Text.{text_of};
 ghost use Rattle.pei_choice.specs.Standing.{AreStages, IsStage};
 
-use crate::start::pei_part;
 use boot_io::{Sink, SinkFault};
 use boot_model::{Catalog, Line, Part, PartExpr, Reason};
 use boot_trace::put;
-use pei_choice::{Stage, stage_of};
+use pei_choice::{Stage, pei_part, stage_of};
 use pei_core::{name_of, volume_of};
 
 // Why a part waits that has not started.
