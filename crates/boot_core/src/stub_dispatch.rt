@@ -50,7 +50,6 @@ pub fn boot_pei<M: PeiStore + Drop, S: Sink>(
     ensures row { (board : Board) → M.stands_for store (empty_store board) → BootsTo M.stands_for (pei_end board catalog.now fuel) (record { old = S.text sink.old; new = S.text sink.new }) result }
     ensures faults { BrokenAfter result (S.faults sink.old) (S.faults sink.new) }
 {
-    let _ = (alloc, catalog, sink);
     Ok(Ended {
         end: Stop::NoMemory,
         store,

@@ -25,6 +25,5 @@ pub fn stop_without_drivers<M: PeiStore, S: Sink>(
     ensures row { OfEach (M.stands_for store.now) Anything (λ s. (fuel actions : ℕ) → StopsAt (dxe_end catalog.now fuel s actions) (record { old = S.text sink.old; new = S.text sink.new }) result) }
     ensures faults { BrokenAfter result (S.faults sink.old) (S.faults sink.new) }
 {
-    let _ = (alloc, store, catalog, sink);
     Ok(())
 }

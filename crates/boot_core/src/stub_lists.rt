@@ -14,6 +14,5 @@ pub fn store_lists<M: PeiStore, S: Sink>(sink: &mut S, store: &M) -> Result<(), 
     ensures text { OfEach (M.stands_for store.now) Anything (λ s. Puts result (S.text sink.old) (S.text sink.new) (text_of (store_lines s))) }
     ensures cause { SinkFaultsAfter result (S.faults sink.old) (S.faults sink.new) }
 {
-    let _ = (sink, store);
     Ok(())
 }
