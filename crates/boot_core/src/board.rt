@@ -2,7 +2,7 @@
 ghost use Rattle.std.specs.Prelude.{◌≡◌, take, IfOk};
 ghost use Rattle.boot_model.specs.PlanBoard.{roms_of};
 
-use boot_model::{Catalog, VolumeEntry};
+use boot_model::VolumeEntry;
 use phys_mem::Rom;
 use pi_base::{OutOfMemory, Seq};
 use std::alloc::Global;
@@ -20,17 +20,17 @@ fn rom(entry: &VolumeEntry, image: Seq<u8>) -> Rom
     }
 }
 
-/// The images as they are mapped, each cut to its volume's FvLength. No image is copied.
+/// The images of volumes as they are mapped, each cut to its FvLength. No image is copied.
 pub(crate) fn roms(
     alloc: Global,
-    catalog: &Catalog,
+    entries: &[VolumeEntry],
     images: Seq<Seq<u8>>,
 ) -> Result<Seq<Rom>, OutOfMemory>
-    ensures { IfOk result (λ roms. roms ≡ roms_of catalog.now.volumes images) }
+    ensures { IfOk result (λ roms. roms ≡ roms_of entries.now images) }
 {
     let mut roms = Seq::new(alloc);
     let mut left = images.into_vec().into_iter();
-    'entries: for entry in catalog.volumes.as_slice() {
+    'entries: for entry in entries {
         if entry.parent.is_none() {
             match left.next() {
                 Some(image) => match roms.push(rom(entry, image)) {

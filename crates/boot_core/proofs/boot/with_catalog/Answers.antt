@@ -1,4 +1,5 @@
-use Rattle.std.proofs.Common.{◌≡◌, None, refl, ⊤}
+use Rattle.std.proofs.Common.{◌≡◌, None, refl}
+use Rattle.std.specs.Prelude.{⊤}
 use Rattle.boot_core.specs.declared.command_line.Command.TheVariants.{Boot}
 use Rattle.boot_core.specs.declared.status.Status.TheVariants.{Done}
 use Rattle.boot_core.specs.AuditText.{audit_text}

@@ -7,7 +7,11 @@ use Rattle.boot_core.specs.declared.status.Status.TheVariants.{ImageRefused}
 use Rattle.boot_core.specs.Lines.{image_line}
 use Rattle.boot_core.specs.Outcome.{CatalogOutcome, ImagesOutcome, kind_of, image_refused, images_sound}
 use Rattle.boot_core.proofs.Ending.{answer_ends, ends_after}
+use Rattle.boot_core.proofs.SomeVolume.{some_volume}
 use Rattle.boot_core.proofs.boot.with_images.Goals as goal
+
+pub with_catalog-requires-clause-some : goal.with_catalog-requires-clause-some
+with_catalog-requires-clause-some g c = some_volume c.args.plan.now c.as_slice.result.now c.in-Ok.catalog c.in-Ok.ensures.found c.requires.in_range.some_volume
 
 pub returns-in-Ok : goal.returns-in-Ok
 returns-in-Ok g c =
