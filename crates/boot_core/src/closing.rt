@@ -25,11 +25,7 @@ fn put_result<S: Sink>(sink: &mut S, end: RunEnd) -> Result<(), SinkFault>
 }
 
 // The last lines.
-fn put_closing<M: PeiStore, S: Sink>(
-    sink: &mut S,
-    store: &M,
-    end: RunEnd,
-) -> Result<(), SinkFault>
+fn put_closing<M: PeiStore, S: Sink>(sink: &mut S, store: &M, end: RunEnd) -> Result<(), SinkFault>
     requires state { Present (M.stands_for store.now) Anything }
     ensures text { OfEach (M.stands_for store.now) Anything (λ s. Puts result (S.text sink.old) (S.text sink.new) (closing_text s end)) }
     ensures cause { SinkFaultsAfter result (S.faults sink.old) (S.faults sink.new) }
