@@ -6,9 +6,8 @@ ghost use Rattle.boot_model.specs.StoreCall.{Anything};
 ghost use Rattle.boot_core.specs.Running.{Tells, result_text, closing_text};
 ghost use Rattle.boot_core.specs.StubDispatch.{BrokenAfter};
 
-use crate::print::put_all;
+use crate::print::{put_all, put_store_lists};
 use crate::stub_dispatch::Broken;
-use crate::stub_lists::store_lists;
 use boot_io::{Sink, SinkFault};
 use boot_model::{Line, PeiStore, RunEnd};
 
@@ -30,7 +29,7 @@ fn put_closing<M: PeiStore, S: Sink>(sink: &mut S, store: &M, end: RunEnd) -> Re
     ensures text { OfEach (M.stands_for store.now) Anything (λ s. Puts result (S.text sink.old) (S.text sink.new) (closing_text s end)) }
     ensures cause { SinkFaultsAfter result (S.faults sink.old) (S.faults sink.new) }
 {
-    match store_lists(sink, store) {
+    match put_store_lists(sink, store) {
         Ok(()) => put_result(sink, end),
         Err(SinkFault) => Err(SinkFault),
     }
