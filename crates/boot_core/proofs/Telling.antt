@@ -4,8 +4,14 @@ use Rattle.std.specs.Io.KnownBytes.{Appends}
 use Rattle.boot_io.specs.Sink.{AppendsPart}
 use Rattle.boot_io.proofs.PutsLaws.{appends_then, part_then, part_of_more}
 use Rattle.boot_core.specs.declared.stub_dispatch.Broken.{Broken}
-use Rattle.boot_core.specs.StubDispatch.{Texts}
-use Rattle.boot_core.specs.Running.{Tells}
+use Rattle.boot_core.specs.declared.stub_dxe.Broken.{Broken as DxeBroken}
+use Rattle.boot_core.specs.declared.stub_dxe.Broken.TheVariants as X
+use Rattle.boot_core.specs.StubDispatch.{Texts, BrokenAfter}
+use Rattle.boot_core.specs.StubDxe.{StopsAt, CountAfter}
+use Rattle.boot_model.specs.declared.line.RunEnd.{RunEnd}
+use Rattle.boot_model.specs.DxeMachine.{DxeMachine}
+use Rattle.boot_model.specs.Text.{text_of}
+use Rattle.boot_core.specs.Running.{Tells, broken_in_dxe}
 
 -- the same text, and what the answer says
 pub tells_same : {A : Type 0} (ran : Result A Broken) (Is Then : A → Type 0) (a whole : List ℕ) (t : Texts) → a ≡ whole → ((answer : A) → Is answer → Then answer) → Tells Is a t ran → Tells Then whole t ran
@@ -31,3 +37,17 @@ pub part_in : (old new : Option (List ℕ)) (a b whole : List ℕ) → whole ≡
 part_in old new a b whole same part =
     let P : List ℕ → Type 0 = λ text. AppendsPart old new text in
     subst P (sym same) (part_of_more old new a b part)
+
+-- where DXE did not come to its end, a part of its text was put
+pub dxe_part : (broken : DxeBroken) (dxe : DxeMachine) (old new : Option (List ℕ)) → StopsAt dxe old new (Err broken) → AppendsPart old new (text_of dxe.lines)
+dxe_part X.SinkFault dxe old new part = part
+dxe_part X.Memory dxe old new part = part
+
+-- and faults were counted as they are in PEI
+pub dxe_counted : (broken : DxeBroken) (before now : ℕ) (answer : Broken) → answer ≡ broken_in_dxe broken → CountAfter (Err broken) before now → BrokenAfter {A = RunEnd} (Err answer) before now
+dxe_counted X.SinkFault before now answer is counted =
+    let P : Broken → Type 0 = λ b. BrokenAfter {A = RunEnd} (Err b) before now in
+    subst P (sym is) counted
+dxe_counted X.Memory before now answer is counted =
+    let P : Broken → Type 0 = λ b. BrokenAfter {A = RunEnd} (Err b) before now in
+    subst P (sym is) counted

@@ -18,6 +18,8 @@ use Rattle.boot_model.specs.StoreState.{StoreState, Board}
 use Rattle.boot_model.specs.Text.{text_of}
 use Rattle.boot_core.specs.declared.stub_dispatch.Broken.{Broken}
 use Rattle.boot_core.specs.declared.stub_dispatch.Broken.TheVariants as B
+use Rattle.boot_core.specs.declared.stub_dxe.Broken.{Broken as DxeBroken}
+use Rattle.boot_core.specs.declared.stub_dxe.Broken.TheVariants as X
 use Rattle.boot_core.specs.declared.status.Status.{Status}
 use Rattle.boot_core.specs.declared.status.Status.TheVariants as V
 use Rattle.boot_core.specs.BootEnd.{end_after, end_of, boot_text, status_of}
@@ -56,6 +58,11 @@ behind catalog fuel pei (Some Deep) = closing pei.store no_handles E.Deep
 -- DXE that stopped is done
 abbrev pub IsDone : DxeMachine → RunEnd → Type 0
 IsDone dxe end = (dxe.ended ≡ Some Stopped) × (end ≡ E.Done)
+
+-- why DXE did not come to its end
+abbrev pub broken_in_dxe : DxeBroken → Broken
+broken_in_dxe X.SinkFault = B.SinkFault
+broken_in_dxe X.Memory = B.Memory
 
 -- a DXE from the hand-off to the last line
 unfoldable pub dxe_text : StoreState → DxeMachine → List ℕ

@@ -8,20 +8,29 @@ ghost use Rattle.boot_model.specs.StoreState.{Board, empty_store};
 ghost use Rattle.boot_model.specs.WellFormed.{IsWellFormed};
 ghost use Rattle.pei_choice.specs.Short.{AreShort};
 ghost use Rattle.boot_core.specs.BootEnd.{end_after};
-ghost use Rattle.boot_core.specs.Running.{Tells, RunsTo, IsDone, dxe_text, text_behind};
+ghost use Rattle.boot_core.specs.Running.{Tells, RunsTo, IsDone, broken_in_dxe, dxe_text, text_behind};
 ghost use Rattle.boot_core.specs.StubDispatch.{BrokenAfter, outcome_by};
 ghost use Rattle.boot_core.specs.StubDxe.{has_drivers};
 
 use crate::closing::close;
 use crate::stub_dispatch::{Broken, Ended, Stop, boot_pei};
-use crate::stub_dxe::stop_without_drivers;
+use crate::stub_dxe::{Broken as DxeBroken, stop_without_drivers};
 use boot_io::Sink;
 use boot_model::{Catalog, PeiStore, RunEnd};
 use std::alloc::Global;
 
+// Why DXE did not come to its end.
+fn broken_in_dxe(broken: DxeBroken) -> Broken
+    ensures { result ≡ broken_in_dxe broken }
+{
+    match broken {
+        DxeBroken::SinkFault => Broken::SinkFault,
+        DxeBroken::Memory => Broken::Memory,
+    }
+}
+
 // DXE behind the hand-off, to the last line.
 fn boot_dxe<M: PeiStore, S: Sink>(
-    alloc: Global,
     store: &M,
     catalog: &Catalog,
     sink: &mut S,
@@ -32,15 +41,14 @@ fn boot_dxe<M: PeiStore, S: Sink>(
     ensures row { OfEach (M.stands_for store.now) Anything (λ s. (fuel actions : ℕ) → Tells (IsDone (dxe_end catalog.now fuel s actions)) (dxe_text s (dxe_end catalog.now fuel s actions)) (record { old = S.text sink.old; new = S.text sink.new }) result) }
     ensures faults { BrokenAfter result (S.faults sink.old) (S.faults sink.new) }
 {
-    match stop_without_drivers(alloc, store, catalog, sink) {
+    match stop_without_drivers(store, catalog, sink) {
         Ok(()) => close(store, RunEnd::Done, sink),
-        Err(broken) => Err(broken),
+        Err(broken) => Err(broken_in_dxe(broken)),
     }
 }
 
 // What follows PEI, to the last line.
 fn boot_behind<M: PeiStore + Drop, S: Sink>(
-    alloc: Global,
     pei: &Ended<M>,
     catalog: &Catalog,
     sink: &mut S,
@@ -52,7 +60,7 @@ fn boot_behind<M: PeiStore + Drop, S: Sink>(
     ensures faults { BrokenAfter result (S.faults sink.old) (S.faults sink.new) }
 {
     match pei.end {
-        Stop::Handoff => boot_dxe(alloc, &pei.store, catalog, sink),
+        Stop::Handoff => boot_dxe(&pei.store, catalog, sink),
         Stop::NoMemory => close(&pei.store, RunEnd::NoMemory, sink),
         Stop::NoIpl => close(&pei.store, RunEnd::NoIpl, sink),
         Stop::Spent => close(&pei.store, RunEnd::Spent, sink),
@@ -77,7 +85,7 @@ pub(crate) fn boot_store<M: PeiStore + Drop, S: Sink>(
     ensures faults { BrokenAfter result (S.faults sink.old) (S.faults sink.new) }
 {
     match boot_pei(alloc, store, catalog, fuel, sink) {
-        Ok(pei) => boot_behind(alloc, &pei, catalog, sink),
+        Ok(pei) => boot_behind(&pei, catalog, sink),
         Err(broken) => Err(broken),
     }
 }
