@@ -9,12 +9,15 @@ use Rattle.boot_model.specs.declared.catalog.Catalog.{Catalog}
 use Rattle.boot_model.specs.declared.image_fault.ImageFault.{ImageFault}
 use Rattle.boot_model.specs.Catalogue.{IsCatalogue}
 use Rattle.boot_model.specs.ImageFault.{IsImageFault}
+use Rattle.boot_model.specs.PlanBoard.{board_of}
+use Rattle.boot_model.specs.declared.line.RunEnd.{RunEnd}
 use Rattle.boot_core.specs.declared.status.Status.{Status}
 use Rattle.boot_core.specs.declared.command_line.Command.{Command}
 use Rattle.boot_core.specs.declared.command_line.Command.TheVariants.{Boot, Audit}
 use Rattle.boot_core.specs.CommandLine.{AskFor, verb_of}
 use Rattle.boot_core.specs.FileReading.{IsRead, IsLong, LongVolume, AreImages, IsVolumeName}
-use Rattle.boot_core.specs.Outcome.{Outcome, PlanOutcome, TextOutcome, TextNames, VolumesOutcome, ImagesOutcome, CatalogOutcome, Trail, Kind, OfFiles, OfSink, OfMemory, OfAnswer, Ends, EndsBy, Answered, kind_of, words_usage, words_ask, plan_long, plan_file, plan_refused, plan_read, volume_long, volumes_read, image_refused, images_sound, audited, booted, not_built}
+use Rattle.boot_core.specs.Outcome.{Outcome, PlanOutcome, TextOutcome, TextNames, VolumesOutcome, ImagesOutcome, CatalogOutcome, Trail, Kind, OfFiles, OfSink, OfMemory, OfAnswer, Ends, EndsBy, Answered, kind_of, words_usage, words_ask, plan_long, plan_file, plan_refused, plan_read, volume_long, volumes_read, image_refused, images_sound, audited, to_boot, booted, not_built, BootOutcome}
+use Rattle.boot_core.specs.BootEnd.{end_of, status_of}
 use Rattle.boot_core.specs.Causes.{AreTold, IsToldAsBytes, LeadsTo, IsStopped, ComesExactly}
 use Rattle.boot_model.specs.Lists.{Each}
 use Rattle.pi_base.specs.Field.{AreBytes}
@@ -93,24 +96,34 @@ boot_or_audit Audit p q = absurd (no_audit p)
     no_audit : Audit ≡ Boot → ⊥
     no_audit e = let P : Command → Type 0 = λ c. elim c [ Boot ↦ ⊥ | Audit ↦ Unit {0} ] in subst P e tt
 
-status_of_catalog : (command : Command) (plan : Plan) (catalog : Catalog) (a b : Status) (s t : List ℕ) → CatalogOutcome command plan catalog a s → CatalogOutcome command plan catalog b t → a ≡ b
-status_of_catalog command plan catalog a b s t (audited c p x) (audited d q y) = p ∙ sym q
-status_of_catalog command plan catalog a b s t (audited c p x) (booted d built q y) = absurd (boot_or_audit command d c)
-status_of_catalog command plan catalog a b s t (audited c p x) (not_built d built q y) = absurd (boot_or_audit command d c)
-status_of_catalog command plan catalog a b s t (booted c built p x) (audited d q y) = absurd (boot_or_audit command c d)
-status_of_catalog command plan catalog a b s t (booted c built p x) (booted d again q y) = p ∙ sym q
-status_of_catalog command plan catalog a b s t (booted c built p x) (not_built d other q y) = absurd (true≢false (sym built ∙ other))
-status_of_catalog command plan catalog a b s t (not_built c built p x) (audited d q y) = absurd (boot_or_audit command c d)
-status_of_catalog command plan catalog a b s t (not_built c built p x) (booted d other q y) = absurd (true≢false (sym other ∙ built))
-status_of_catalog command plan catalog a b s t (not_built c built p x) (not_built d again q y) = p ∙ sym q
+-- a boot has one result
+one_end : (found : Option RunEnd) (a b : RunEnd) → found ≡ Some a → found ≡ Some b → a ≡ b
+one_end found a b p q = ap (end_in a) (sym p ∙ q)
+  where
+    end_in : RunEnd → Option RunEnd → RunEnd
+    end_in other None = other
+    end_in other (Some end) = end
+
+status_of_boot : (plan : Plan) (catalog : Catalog) (images : List (List ℕ)) (a b : Status) (s t : List ℕ) → BootOutcome plan catalog images a s → BootOutcome plan catalog images b t → a ≡ b
+status_of_boot plan catalog images a b s t (booted c built p is x) (booted d again q also y) =
+    is ∙ ap status_of (one_end (end_of (board_of plan catalog images) catalog plan.fuel) c d p q) ∙ sym also
+status_of_boot plan catalog images a b s t (booted c built p is x) (not_built drivers q y) = absurd (true≢false (sym drivers ∙ built))
+status_of_boot plan catalog images a b s t (not_built drivers p x) (booted d built q also y) = absurd (true≢false (sym drivers ∙ built))
+status_of_boot plan catalog images a b s t (not_built drivers p x) (not_built again q y) = p ∙ sym q
+
+status_of_catalog : (command : Command) (plan : Plan) (catalog : Catalog) (images : List (List ℕ)) (a b : Status) (s t : List ℕ) → CatalogOutcome command plan catalog images a s → CatalogOutcome command plan catalog images b t → a ≡ b
+status_of_catalog command plan catalog images a b s t (audited c p x) (audited d q y) = p ∙ sym q
+status_of_catalog command plan catalog images a b s t (audited c p x) (to_boot d o) = absurd (boot_or_audit command d c)
+status_of_catalog command plan catalog images a b s t (to_boot c o) (audited d q y) = absurd (boot_or_audit command c d)
+status_of_catalog command plan catalog images a b s t (to_boot c o) (to_boot d u) = status_of_boot plan catalog images a b s t o u
 
 status_of_images : Laws → (command : Command) (plan : Plan) (images : List (List ℕ)) → Each AreBytes images → (a b : Status) (s t : List ℕ) → ImagesOutcome command plan images a s → ImagesOutcome command plan images b t → a ≡ b
 status_of_images laws command plan images are a b s t (image_refused f is p x) (image_refused g also q y) = p ∙ sym q
 status_of_images laws command plan images are a b s t (image_refused f is p x) (images_sound c sound o) = absurd (laws.catalogue_or_fault plan images c f are sound is)
 status_of_images laws command plan images are a b s t (images_sound c sound o) (image_refused f is q y) = absurd (laws.catalogue_or_fault plan images c f are sound is)
 status_of_images laws command plan images are a b s t (images_sound c sound o) (images_sound d also u) =
-    let P : Catalog → Type 0 = λ x. CatalogOutcome command plan x b t in
-    status_of_catalog command plan c a b s t o (subst P (laws.catalogues plan images d c also sound) u)
+    let P : Catalog → Type 0 = λ x. CatalogOutcome command plan x images b t in
+    status_of_catalog command plan c images a b s t o (subst P (laws.catalogues plan images d c also sound) u)
 
 long_told : (told : List ℕ → Option (List ℕ)) (volumes : List PlanVolume) (status : Status) (text : List ℕ) → VolumesTold told volumes → LongVolume told volumes status text → (images : List (List ℕ)) → AreImages told volumes images → ⊥
 long_told told volumes status text all o images read =
@@ -199,21 +212,21 @@ one_status laws told words all a b s t (words_ask command plan is o) (words_ask 
     status_of_plan laws told command plan (all.plan_file command plan is) (plan_told told words command plan all is) a b s t o here
 
 -- an answer is the one that is due
-due : Laws → (k : Kind) (told : List ℕ → Option (List ℕ)) (words : List (List ℕ)) (Named : List ℕ → Type 0) (status wanted : Status) (t : Trail)
-    → EndsBy k (Outcome told words) Named status t → AreTold told words → LeadsTo told words wanted → (status ≡ wanted) ⊎ IsStopped k
-due laws OfAnswer told words Named status wanted t e all leads = inl (one_status laws told words all status wanted e.text leads.0 e.outcome leads.1)
-due laws OfFiles told words Named status wanted t e all leads = inr tt
-due laws OfSink told words Named status wanted t e all leads = inr tt
-due laws OfMemory told words Named status wanted t e all leads = inr tt
+due : Laws → (k : Kind) (told : List ℕ → Option (List ℕ)) (words : List (List ℕ)) (Named : List ℕ → Type 0) (Boots : Type 0) (status wanted : Status) (t : Trail)
+    → EndsBy k (Outcome told words) Named Boots status t → AreTold told words → LeadsTo told words wanted → (status ≡ wanted) ⊎ IsStopped k
+due laws OfAnswer told words Named Boots status wanted t e all leads = inl (one_status laws told words all status wanted e.text leads.0 e.outcome leads.1)
+due laws OfFiles told words Named Boots status wanted t e all leads = inr tt
+due laws OfSink told words Named Boots status wanted t e all leads = inr tt
+due laws OfMemory told words Named Boots status wanted t e all leads = inr tt
 
 -- how a call ends says when each answer comes
-pub comes_exactly : Laws → (told : List ℕ → Option (List ℕ)) (words : List (List ℕ)) (Named : List ℕ → Type 0) (status wanted : Status) (t : Trail)
-    → kind_of wanted ≡ OfAnswer → Ends (Outcome told words) Named status t → ComesExactly told words wanted status
-comes_exactly laws told words Named status wanted t kind e = record {
+pub comes_exactly : Laws → (told : List ℕ → Option (List ℕ)) (words : List (List ℕ)) (Named : List ℕ → Type 0) (Boots : Type 0) (status wanted : Status) (t : Trail)
+    → kind_of wanted ≡ OfAnswer → Ends (Outcome told words) Named Boots status t → ComesExactly told words wanted status
+comes_exactly laws told words Named Boots status wanted t kind e = record {
   only = λ same.
-      let P : Status → Type 0 = λ s. Ends (Outcome told words) Named s t in
-      let Q : Kind → Type 0 = λ k. EndsBy k (Outcome told words) Named wanted t in
+      let P : Status → Type 0 = λ s. Ends (Outcome told words) Named Boots s t in
+      let Q : Kind → Type 0 = λ k. EndsBy k (Outcome told words) Named Boots wanted t in
       let answered : Answered (Outcome told words) wanted t = subst Q kind (subst P same e) in
       (answered.text, answered.outcome);
-  whenever = λ all leads. due laws (kind_of status) told words Named status wanted t e all leads;
+  whenever = λ all leads. due laws (kind_of status) told words Named Boots status wanted t e all leads;
 }

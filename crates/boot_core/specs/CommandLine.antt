@@ -20,3 +20,7 @@ AskFor words command plan = (words ≡ verb_of command ∷ plan ∷ []) × (plan
 -- they ask for nothing that there is
 abbrev pub AskForNothing : List (List ℕ) → Type 0
 AskForNothing words = (command : Command) (plan : List ℕ) → AskFor words command plan → ⊥
+
+-- they ask for a boot
+abbrev pub AskForBoot : List (List ℕ) → Type 0
+AskForBoot words = (plan : List ℕ) × AskFor words Boot plan

@@ -5,9 +5,9 @@ ghost use Rattle.boot_model.specs.declared.limits.TheConstants.{MOST_MODULES, MO
 ghost use Rattle.boot_model.specs.Audit.{expression_word, part_word, part_rank};
 ghost use Rattle.boot_core.specs.AuditText.{audit_text, volume_text, module_text, text_in, members_text, entry_text, entries_text, done_line};
 
-use crate::print::put;
 use boot_io::{Sink, SinkFault};
 use boot_model::{Catalog, ExpressionWord, Line, Module, Part, PartExpr, RunEnd, VolumeEntry};
+use boot_trace::put;
 use depex_code::Depex;
 
 // How an expression is shown.

@@ -1,5 +1,6 @@
-use Rattle.std.proofs.Common.{List, ℕ, ◌∙◌, ap, length, refl, subst, sym}
+use Rattle.std.proofs.Common.{◌≡◌, List, ℕ, ◌∙◌, ap, length, refl, subst, sym}
 use Rattle.boot_plan.specs.declared.plan.PlanVolume.{PlanVolume}
+use Rattle.boot_core.specs.declared.command_line.Command.TheVariants.{Boot}
 use Rattle.boot_core.specs.declared.status.Status.{Status}
 use Rattle.boot_core.specs.FileReading.{AreImages, LongVolume, IsVolumeName}
 use Rattle.boot_core.specs.Outcome.{ImagesOutcome, VolumesOutcome, kind_of, volume_long, volumes_read}
@@ -10,12 +11,12 @@ use Rattle.boot_core.proofs.boot.with_plan.Goals as goal
 pub with_images-requires-clause-as_many : goal.with_images-requires-clause-as_many
 with_images-requires-clause-as_many g c =
     let told = g.F.Files.told c.args.files.now in
-    rw (c.as_slice-in-Ok.ensures) (images_len told c.as_slice.result.now c.in-Ok.images c.in-Ok.ensures.read ∙ ap length c.as_slice.ensures)
+    (images_len told c.as_slice.result.now c.in-Ok.images c.in-Ok.ensures.read ∙ ap length c.as_slice.ensures)
 
 pub with_images-requires-clause-short : goal.with_images-requires-clause-short
 with_images-requires-clause-short g c =
     let told = g.F.Files.told c.args.files.now in
-    rw (c.as_slice-in-Ok.ensures) (images_short told c.as_slice.result.now c.in-Ok.images c.in-Ok.ensures.read)
+    (images_short told c.as_slice.result.now c.in-Ok.images c.in-Ok.ensures.read)
 
 pub returns-in-Ok : goal.returns-in-Ok
 returns-in-Ok g c =
@@ -23,14 +24,13 @@ returns-in-Ok g c =
     let N = g.S.Sink.faults in
     let F = g.F.Files.faults in
     let plan = c.args.plan.now in
-    let images = c.as_slice-in-Ok.result.now in
+    let images = c.in-Ok.images in
     let told = g.F.Files.told c.args.files.now in
     let P : List PlanVolume → List (List ℕ) → Type 0 = AreImages told in
-    let first = subst (λ volumes. P volumes c.in-Ok.images) c.as_slice.ensures c.in-Ok.ensures.read in
-    let read = subst (λ images. P plan.volumes images) (sym c.as_slice-in-Ok.ensures) first in
-    ends_without_files (kind_of c.with_images.result) (ImagesOutcome c.args.command plan images) (VolumesOutcome told c.args.command plan) (IsVolumeName plan.volumes) c.with_images.result
+    let read = subst (λ volumes. P volumes c.in-Ok.images) c.as_slice.ensures c.in-Ok.ensures.read in
+    ends_without_files (kind_of c.with_images.result) (ImagesOutcome c.args.command plan images) (VolumesOutcome told c.args.command plan) (IsVolumeName plan.volumes) (c.args.command ≡ Boot) (c.args.command ≡ Boot) c.with_images.result
     (T c.read_volumes.new.sink) (T c.args.sink.now) (T c.with_images.new.sink) (N c.read_volumes.new.sink) (N c.args.sink.now) (N c.with_images.new.sink) (F c.args.files.now) (F c.read_volumes.new.files) (g.F.Files.missed c.read_volumes.new.files)
-    (λ s t o. volumes_read images read o) c.in-Ok.ensures.untouched.text c.in-Ok.ensures.untouched.sink c.in-Ok.ensures.untouched.files c.with_images.ensures
+    (λ s t o. volumes_read images read o) (λ b. b) c.in-Ok.ensures.untouched.text c.in-Ok.ensures.untouched.sink c.in-Ok.ensures.untouched.files c.with_images.ensures
 
 pub returns-in-Err : goal.returns-in-Err
 returns-in-Err g c =
@@ -44,6 +44,6 @@ returns-in-Err g c =
     volume_long (subst (λ vs. LongVolume told vs s t) c.as_slice.ensures o) in
     let names : (n : List ℕ) → IsVolumeName volumes n → IsVolumeName plan.volumes n = λ n o.
     subst (λ vs. IsVolumeName vs n) c.as_slice.ensures o in
-    ends_after (kind_of c.in-Err.status) (LongVolume told volumes) (VolumesOutcome told c.args.command plan) (IsVolumeName volumes) (IsVolumeName plan.volumes) c.in-Err.status
+    ends_after (kind_of c.in-Err.status) (LongVolume told volumes) (VolumesOutcome told c.args.command plan) (IsVolumeName volumes) (IsVolumeName plan.volumes) ⊥ (c.args.command ≡ Boot) c.in-Err.status
     (T c.args.sink.now) (T c.args.sink.now) (T c.read_volumes.new.sink) (N c.args.sink.now) (N c.args.sink.now) (N c.read_volumes.new.sink) (F c.args.files.now) (F c.args.files.now) (F c.read_volumes.new.files) (g.F.Files.missed c.read_volumes.new.files)
-    up names refl refl refl c.in-Err.ensures.refused
+    up names (λ b. absurd b) refl refl refl c.in-Err.ensures.refused

@@ -1,6 +1,8 @@
-use Rattle.std.proofs.Common.{refl}
+use Rattle.std.proofs.Common.{◌≡◌, refl, subst}
+use Rattle.boot_core.specs.declared.command_line.Command.TheVariants.{Boot}
+use Rattle.boot_core.specs.declared.command_line.Command.{Command}
 use Rattle.boot_core.specs.declared.status.Status.TheVariants.{Usage}
-use Rattle.boot_core.specs.CommandLine.{words_of}
+use Rattle.boot_core.specs.CommandLine.{words_of, AskFor, AskForBoot}
 use Rattle.boot_core.specs.Lines.{usage_line}
 use Rattle.boot_core.specs.Outcome.{PlanOutcome, PlanNames, Outcome, Names, kind_of, words_usage, words_ask}
 use Rattle.boot_core.proofs.Ending.{answer_ends, ends_after}
@@ -15,9 +17,10 @@ returns-in-Some g c =
     let plan = c.in-Some.plan.now in
     let words = words_of c.args.words.now in
     let told = g.F.Files.told c.args.files.now in
-    ends_after (kind_of c.with_name.result) (PlanOutcome told command plan) (Outcome told words) (PlanNames told plan) (Names told words) c.with_name.result
+    let P : Command → Type 0 = λ asked. AskFor words asked plan in
+    ends_after (kind_of c.with_name.result) (PlanOutcome told command plan) (Outcome told words) (PlanNames told plan) (Names told words) (command ≡ Boot) (AskForBoot words) c.with_name.result
     (T c.args.sink.now) (T c.args.sink.now) (T c.with_name.new.sink) (N c.args.sink.now) (N c.args.sink.now) (N c.with_name.new.sink) (F c.args.files.now) (F c.args.files.now) (F c.with_name.new.files) (g.F.Files.missed c.with_name.new.files)
-    (λ s t o. words_ask command plan c.in-Some.ensures.found o) (λ n o. (command, plan, c.in-Some.ensures.found, o)) refl refl refl c.with_name.ensures
+    (λ s t o. words_ask command plan c.in-Some.ensures.found o) (λ n o. (command, plan, c.in-Some.ensures.found, o)) (λ b. (plan, subst P b c.in-Some.ensures.found)) refl refl refl c.with_name.ensures
 
 pub returns-in-None : goal.returns-in-None
 returns-in-None g c =
@@ -26,6 +29,6 @@ returns-in-None g c =
     let F = g.F.Files.faults in
     let words = words_of c.args.words.now in
     let told = g.F.Files.told c.args.files.now in
-    answer_ends c.put_usage-put.result (Outcome told words) (Names told words) Usage c.answer.result usage_line (T c.args.sink.now) (T c.put_usage-put.new.sink) (N c.args.sink.now) (N c.put_usage-put.new.sink)
+    answer_ends c.put_usage-put.result (Outcome told words) (Names told words) (AskForBoot words) Usage c.answer.result usage_line (T c.args.sink.now) (T c.put_usage-put.new.sink) (N c.args.sink.now) (N c.put_usage-put.new.sink)
     (F c.args.files.now) (F c.args.files.now) (g.F.Files.missed c.args.files.now) c.answer.ensures refl
     (words_usage c.in-None.ensures.none refl refl) refl c.put_usage-put.ensures.text c.put_usage-put.ensures.cause

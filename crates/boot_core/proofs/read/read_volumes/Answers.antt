@@ -33,9 +33,9 @@ returns-in-Err-clause-refused g c =
     } in
     let names : (n : List ℕ) → n ≡ name → IsVolumeName volumes n = λ n e.
     record { before = take i volumes; volume = volume; behind = drop (i + 1) volumes; these = these; is = e ∙ named } in
-    ends_after (kind_of c.in-Err.status) (LongOutcome (mid name) 0x4000000 name) (LongVolume told volumes) (λ n. n ≡ name) (IsVolumeName volumes) c.in-Err.status
+    ends_after (kind_of c.in-Err.status) (LongOutcome (mid name) 0x4000000 name) (LongVolume told volumes) (λ n. n ≡ name) (IsVolumeName volumes) ⊥ ⊥ c.in-Err.status
     (T c.volumes.sink) (T c.args.sink.now) (T c.read_file.new.sink) (N c.volumes.sink) (N c.args.sink.now) (N c.read_file.new.sink) (F c.volumes.files) (F c.args.files.now) (F c.read_file.new.files) (g.F.Files.missed c.read_file.new.files)
-    up names c.volumes.invariant.text c.volumes.invariant.sink c.volumes.invariant.count c.in-Err.ensures.refused
+    up names (λ b. b) c.volumes.invariant.text c.volumes.invariant.sink c.volumes.invariant.count c.in-Err.ensures.refused
 
 pub volumes-preserved : goal.volumes-preserved
 volumes-preserved g c =

@@ -1,0 +1,90 @@
+-- How a boot that ran is answered.
+use Rattle.std.proofs.Common.{◌≡◌, ◌≤◌, ℕ, Bool, true, false, List, [], Option, Some, None, Result, Ok, Err, is_some, option_map, refl, sym, ◌∙◌, inl, inr, subst, true≢false}
+use Rattle.std.specs.Prelude.{⊤}
+use Rattle.boot_io.specs.Sink.{AppendsPart}
+use Rattle.boot_plan.specs.declared.plan.Plan.{Plan}
+use Rattle.boot_model.specs.declared.catalog.Catalog.{Catalog}
+use Rattle.boot_model.specs.declared.line.RunEnd.{RunEnd}
+use Rattle.boot_model.specs.declared.line.RunEnd.TheVariants as E
+use Rattle.boot_model.specs.BootRun.{dxe_result}
+use Rattle.boot_model.specs.DxeMachine.{DxeOutcome}
+use Rattle.boot_model.specs.DxeRun.{dxe_end}
+use Rattle.boot_model.specs.PeiMachine.{PeiMachine, PeiOutcome, HandsOff, NoMemory, NoIpl, Spent, Deep}
+use Rattle.boot_model.specs.PeiRun.{pei_end}
+use Rattle.boot_model.specs.PlanBoard.{board_of}
+use Rattle.boot_model.specs.StoreState.{Board}
+use Rattle.boot_model.specs.WellFormed.{AreNumbered}
+use Rattle.boot_laws.specs.RunsEnd.{PeiRunsEnd, DxeRunsEnd}
+use Rattle.boot_core.specs.declared.status.Status.{Status}
+use Rattle.boot_core.specs.declared.status.Status.TheVariants as V
+use Rattle.pei_dispatch.specs.declared.answer.Broken.{Broken}
+use Rattle.pei_dispatch.specs.declared.answer.Broken.TheVariants as B
+use Rattle.boot_core.specs.BootEnd.{end_after, end_of, boot_text, status_of}
+use Rattle.boot_core.specs.Outcome.{Kind, OfAnswer, EndsBy, Ends, Answered, SinkFailed, Begun, BootOutcome, Trail, booted, kind_of}
+use Rattle.boot_core.specs.Outcome as O
+use Rattle.boot_core.specs.Running.{RunsTo, status_after_run}
+use Rattle.pei_dispatch.specs.Ends.{BrokenAfter}
+use Rattle.dxe_stop.specs.Drivers.{has_drivers}
+
+-- each boot has a result
+mapped_end : (ended : Option DxeOutcome) → is_some ended ≡ true → (end : RunEnd) × (option_map dxe_result ended ≡ Some end)
+mapped_end None some = absurd (true≢false (sym some))
+mapped_end (Some end) some = (dxe_result end, refl)
+
+some_end : (catalog : Catalog) (fuel : ℕ) (m : PeiMachine) (ended : Option PeiOutcome) → is_some ended ≡ true → is_some (dxe_end catalog fuel m.store m.actions).ended ≡ true → (end : RunEnd) × (end_after catalog fuel m ended ≡ Some end)
+some_end catalog fuel m None some dxe = absurd (true≢false (sym some))
+some_end catalog fuel m (Some HandsOff) some dxe = mapped_end (dxe_end catalog fuel m.store m.actions).ended dxe
+some_end catalog fuel m (Some NoMemory) some dxe = (E.NoMemory, refl)
+some_end catalog fuel m (Some NoIpl) some dxe = (E.NoIpl, refl)
+some_end catalog fuel m (Some Spent) some dxe = (E.Spent, refl)
+some_end catalog fuel m (Some Deep) some dxe = (E.Deep, refl)
+
+boot_ends : PeiRunsEnd → DxeRunsEnd → (board : Board) (catalog : Catalog) (fuel : ℕ) → AreNumbered 0 catalog.volumes → (end : RunEnd) × (end_of board catalog fuel ≡ Some end)
+unfolding end_of
+boot_ends pei dxe board catalog fuel numbered =
+    let m = pei_end board catalog fuel in
+    some_end catalog fuel m m.ended (pei board catalog fuel) (dxe catalog numbered fuel m.store m.actions)
+
+-- a result is answered, and is no fault
+answer_of : (end : RunEnd) → kind_of (status_of end) ≡ OfAnswer
+answer_of E.Done = refl
+answer_of E.NoMemory = refl
+answer_of E.NoIpl = refl
+answer_of E.Spent = refl
+answer_of E.Deep = refl
+
+-- what a call left that has no files
+abbrev left_by : Option (List ℕ) → Option (List ℕ) → ℕ → ℕ → Trail
+left_by old new sb sn = record { old = old; new = new; sink_before = sb; sink_now = sn; files_before = 0; files_now = 0; missed = None }
+
+pub run_ends : PeiRunsEnd → DxeRunsEnd → (ran : Result RunEnd Broken) (plan : Plan) (catalog : Catalog) (images : List (List ℕ)) (result : Status) (old new : Option (List ℕ)) (sb sn : ℕ) → AreNumbered 0 catalog.volumes
+    → result ≡ status_after_run ran → has_drivers catalog ≡ false → RunsTo (board_of plan catalog images) catalog plan.fuel (record { old = old; new = new }) ran → BrokenAfter ran sb sn
+    → Ends (BootOutcome plan catalog images) (λ _. ⊥) ⊤ result (record { old = old; new = new; sink_before = sb; sink_now = sn; files_before = 0; files_now = 0; missed = None })
+run_ends pei dxe (Ok end) plan catalog images result old new sb sn numbered is none told counted =
+    let board = board_of plan catalog images in
+    let t : Trail = left_by old new sb sn in
+    let Out : Status → List ℕ → Type 0 = BootOutcome plan catalog images in
+    let P : Kind → Type 0 = λ k. EndsBy k Out (λ _. ⊥) ⊤ (status_of end) t in
+    let Q : Status → Type 0 = λ s. Ends Out (λ _. ⊥) ⊤ s t in
+    let outcome : Out (status_of end) (boot_text board catalog plan.fuel) = booted end none told.0 refl refl in
+    let answered : Answered Out (status_of end) t = record { sink = counted; files = refl; text = boot_text board catalog plan.fuel; outcome = outcome; whole = told.1 } in
+    subst Q (sym is) (subst P (sym (answer_of end)) answered)
+run_ends pei dxe (Err B.SinkFault) plan catalog images result old new sb sn numbered is none told counted =
+    let board = board_of plan catalog images in
+    let t : Trail = left_by old new sb sn in
+    let Out : Status → List ℕ → Type 0 = BootOutcome plan catalog images in
+    let Q : Status → Type 0 = λ s. Ends Out (λ _. ⊥) ⊤ s t in
+    let ends = boot_ends pei dxe board catalog plan.fuel numbered in
+    let outcome : Out (status_of ends.0) (boot_text board catalog plan.fuel) = booted ends.0 none ends.1 refl refl in
+    let failed : SinkFailed Out (λ _. ⊥) t = record { sink = counted.1; text = boot_text board catalog plan.fuel; cause = inl (status_of ends.0, outcome); part = told } in
+    subst Q (sym is) failed
+run_ends pei dxe (Err B.Memory) plan catalog images result old new sb sn numbered is none told counted =
+    let board = board_of plan catalog images in
+    let t : Trail = left_by old new sb sn in
+    let Out : Status → List ℕ → Type 0 = BootOutcome plan catalog images in
+    let Q : Status → Type 0 = λ s. Ends Out (λ _. ⊥) ⊤ s t in
+    let ends = boot_ends pei dxe board catalog plan.fuel numbered in
+    let outcome : Out (status_of ends.0) (boot_text board catalog plan.fuel) = booted ends.0 none ends.1 refl refl in
+    let begun : Begun Out ⊤ old new = record { boots = tt; status = status_of ends.0; text = boot_text board catalog plan.fuel; outcome = outcome; part = told } in
+    let wanting : O.NoMemory Out ⊤ t = record { sink = counted; files = refl; kept = inr begun } in
+    subst Q (sym is) wanting
