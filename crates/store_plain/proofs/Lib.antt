@@ -21,3 +21,4 @@ pub mod Opening
 pub mod Kept
 pub mod Longer
 pub mod Services
+mod NewPool
