@@ -22,3 +22,4 @@ pub mod Kept
 pub mod Longer
 pub mod Sized
 pub mod Services
+mod NewPool

@@ -1,0 +1,93 @@
+// What a store tells, as bytes: two stores that tell the same bytes are in one state, as far as a caller sees.
+ghost use Rattle.boot_model.specs.StateFacts.{IsStoreState};
+ghost use Rattle.store_plain.specs.PlainState.{state_of};
+
+use super::*;
+
+// More places than a scene fills in any list.
+const PLACES: u32 = 8;
+
+// More HOBs than a scene has.
+const HOBS: u32 = 32;
+
+fn add(to: &mut Vec<u8>, number: u64) -> Result<(), AllocError> {
+    to.extend_from_slice(&number.to_le_bytes())
+}
+
+fn add_ppi(to: &mut Vec<u8>, found: Option<(Guid, u64, u32)>) -> Result<(), AllocError> {
+    match found {
+        Some((guid, value, by)) => {
+            to.extend_from_slice(&guid.0)?;
+            add(to, value)?;
+            add(to, u64::from(by))
+        }
+        None => add(to, u64::MAX),
+    }
+}
+
+fn add_note(to: &mut Vec<u8>, found: Option<(Guid, u32)>) -> Result<(), AllocError> {
+    match found {
+        Some((guid, entry)) => {
+            to.extend_from_slice(&guid.0)?;
+            add(to, u64::from(entry))
+        }
+        None => add(to, u64::MAX),
+    }
+}
+
+// What stands in a place of each list.
+fn add_place(to: &mut Vec<u8>, store: &PlainStore, place: u32) -> Result<(), AllocError>
+    requires { IsStoreState (state_of store.now) }
+{
+    add_ppi(to, store.ppi_at(place))?;
+    add_note(to, store.note_at(DescKind::Callback, place))?;
+    add_note(to, store.note_at(DescKind::Dispatch, place))?;
+    add_note(to, store.pending_at(place))
+}
+
+fn add_lists(to: &mut Vec<u8>, store: &PlainStore) -> Result<(), AllocError>
+    requires { IsStoreState (state_of store.now) }
+{
+    'places: for place in 0..PLACES {
+        add_place(to, store, place)?;
+    }
+    Ok(())
+}
+
+fn add_hobs(to: &mut Vec<u8>, store: &PlainStore) -> Result<(), AllocError> {
+    let mut at = 0;
+    'hobs: for _ in 0..HOBS {
+        match store.span_at(at) {
+            Some(span) => {
+                add(to, u64::from(span.kind))?;
+                add(to, u64::from(span.length))?;
+                at = span.next;
+            }
+            None => return Ok(()),
+        }
+    }
+    Ok(())
+}
+
+fn add_heap(alloc: Global, to: &mut Vec<u8>, store: &PlainStore) -> Result<(), AllocError>
+    requires { IsStoreState (state_of store.now) }
+{
+    let mut bytes = vec![in alloc; 0u8; store.len as usize]?;
+    add(to, u64::from(store.peek(store.base, bytes.as_mut_slice())))?;
+    to.extend_from_slice(bytes.as_slice())
+}
+
+// All of it.
+pub(crate) fn told(alloc: Global, store: &PlainStore) -> Result<Vec<u8>, AllocError>
+    requires { IsStoreState (state_of store.now) }
+{
+    let mut told = Vec::new(alloc);
+    add(&mut told, store.base())?;
+    add(&mut told, u64::from(store.boot_mode()))?;
+    add(&mut told, u64::from(store.moved()))?;
+    add(&mut told, u64::from(store.memory_due()))?;
+    add_lists(&mut told, store)?;
+    add_hobs(&mut told, store)?;
+    add_heap(alloc, &mut told, store)?;
+    Ok(told)
+}
