@@ -1,5 +1,5 @@
 -- A pool that was just made may be handed in.
-use Rattle.std.proofs.Common.{◌≡◌, ℕ, ◌+◌, ◌≤◌, Bool, true, false, cond, List, Ok, Err, refl, subst, arith, length}
+use Rattle.std.proofs.Common.{◌≡◌, ℕ, ◌+◌, Bool, true, false, cond, List, Ok, Err, refl, subst, arith, length}
 use Rattle.std.specs.Prelude.{nat_lt, replicate}
 use Rattle.std.proofs.lemmas.List.{length-replicate}
 use Rattle.boot_model.specs.declared.store_handle.Pool.{Pool}
