@@ -1,8 +1,9 @@
 -- A pool that was just made may be handed in.
-use Rattle.std.proofs.Common.{◌≡◌, ℕ, ◌+◌, ◌≤◌, Bool, true, false, cond, List, Ok, Err, refl, subst, arith, length}
-use Rattle.std.specs.Prelude.{nat_lt, replicate}
+use Rattle.std.proofs.Common.{◌≡◌, ℕ, ◌+◌, Bool, true, false, cond, List, Result, Ok, Err, refl, subst, arith, length}
+use Rattle.std.specs.Prelude.{nat_lt, replicate, IfOk}
 use Rattle.std.proofs.lemmas.List.{length-replicate}
 use Rattle.boot_model.specs.declared.store_handle.Pool.{Pool}
+use Rattle.boot_model.specs.declared.store_handle.StoreFault.{StoreFault}
 use Rattle.boot_model.specs.declared.store_handle.StoreFault.TheVariants.{Full}
 use Rattle.boot_model.specs.declared.state.Body.TheVariants.{Bytes}
 use Rattle.boot_model.specs.StoreState.{StoreState, appended, pool_of, rounded, next_body, free}
@@ -33,9 +34,10 @@ there s size =
     let long : length (zeros size) ≡ rounded size = let zero : ℕ = 0 in length-replicate (rounded size) zero in
     (zeros size, new_body s.hobs (pool_of (Bytes (zeros size))) 56 (next_body s) refl, omega (arith, long))
 
-pub is_new_pool : (old new : PlainStore) (size : ℕ) (p : Pool) → IsStoreState (state_of old) → AfterEach (stands_for old) (stands_for new) (λ a b. Answers true (pool a size) a (Ok p) b)
-    → IsPool (state_of new) p
-is_new_pool old new size p facts row =
+pub is_new_pool : (old new : PlainStore) (size : ℕ) (result : Result Pool StoreFault) → IsStoreState (state_of old)
+    → AfterEach (stands_for old) (stands_for new) (λ a b. Answers true (pool a size) a result b) → IfOk result (IsPool (state_of new))
+is_new_pool old new size (Err fault) facts row = tt
+is_new_pool old new size (Ok p) facts row =
     let x = row (state_of old) (refl, facts) in
     let s : StoreState = state_of old in
     let got : Pool × StoreState = (p, x.0) in

@@ -1,6 +1,6 @@
 // A store of one scene: what it refuses, what it tells, and worked calls. Each helper keeps what holds of every state, so that the next call may be made.
-ghost use Rattle.std.specs.Prelude.{◌≤◌, ◌+◌, IsTrue};
-ghost use Rattle.boot_model.specs.StateFacts.{IsStoreState, IsDesc};
+ghost use Rattle.std.specs.Prelude.{◌≤◌, ◌+◌, IsTrue, IfOk};
+ghost use Rattle.boot_model.specs.StateFacts.{IsStoreState, IsDesc, IsPool};
 ghost use Rattle.store_plain.specs.PlainState.{state_of};
 
 mod readings;
@@ -64,7 +64,8 @@ fn with_pages(alloc: Global, pages: u64) -> PlainStore
 
 fn pool(store: &mut PlainStore, size: u32) -> Result<Pool, StoreFault>
     requires { IsStoreState (state_of store.old) }
-    ensures { IsStoreState (state_of store.new) }
+    ensures facts { IsStoreState (state_of store.new) }
+    ensures pool { IfOk result (IsPool (state_of store.new)) }
 {
     store.pool(size)
 }

@@ -1,9 +1,10 @@
 // Each call that reads, over the scene, and the calls that write a pool and the boot mode.
-ghost use Rattle.std.specs.Prelude.{IsTrue, IfOk};
-ghost use Rattle.boot_model.specs.StateFacts.{IsStoreState, IsSweepOf};
+ghost use Rattle.std.specs.Prelude.{IsTrue};
+ghost use Rattle.boot_model.specs.StateFacts.{IsStoreState, IsSweepOf, IsPool};
 ghost use Rattle.store_plain.specs.PlainState.{state_of};
 
 use super::scene::{END, INSTALLED, OTHER, ROM, scene};
+use super::told::told;
 use super::*;
 use boot_model::{HobSpan, MEMORY_PPI};
 
@@ -47,15 +48,12 @@ fn next(store: &PlainStore, sweep: &mut Sweep) -> Option<Firing>
     }
 }
 
-// Makes a pool and writes bytes into it.
-fn write(store: &mut PlainStore, size: u32, at: u32, bytes: &[u8]) -> Option<bool>
-    requires { IsStoreState (state_of store.old) }
+fn write(store: &mut PlainStore, pool: Pool, at: u32, bytes: &[u8]) -> bool
+    requires facts { IsStoreState (state_of store.old) }
+    requires pool { IsPool (state_of store.old) pool }
     ensures { IsStoreState (state_of store.new) }
 {
-    match store.pool(size) {
-        Ok(pool) => Some(store.store(pool, at, bytes)),
-        Err(_) => None,
-    }
+    store.store(pool, at, bytes)
 }
 
 fn set_boot_mode(store: &mut PlainStore, mode: u32)
@@ -126,16 +124,28 @@ fn hobs_are_told_one_behind_the_other(rt: HostRuntime) -> Result<(), Fail> {
     Ok(())
 }
 
+// Makes a pool of nine bytes and writes two bytes into it: whether they are written, and whether the store then tells what it told before.
+fn write_two(alloc: Global, store: &mut PlainStore, at: u32) -> Result<(bool, bool), AllocError>
+    requires { IsStoreState (state_of store.old) }
+    ensures { IsStoreState (state_of store.new) }
+{
+    let Ok(pool) = pool(store, 9) else {
+        return Err(AllocError);
+    };
+    let before = told(alloc, store)?;
+    let is_written = write(store, pool, at, b"ab");
+    let after = told(alloc, store)?;
+    Ok((is_written, before.as_slice() == after.as_slice()))
+}
+
 #[test]
 fn a_pool_is_written_within_its_size(rt: HostRuntime) -> Result<(), Fail> {
     let mut store = scene(rt.alloc(), 0)?;
     let mut bytes = [0xff; 4];
-    assert_eq!(rt; write(&mut store, 9, 7, b"ab"), Some(true));
+    assert_eq!(rt; write_two(rt.alloc(), &mut store, 7)?, (true, false));
     assert!(rt; peek(&store, 0x8000_0000 + END + 8 + 6, &mut bytes));
     assert_eq!(rt; bytes, *b"\0ab\0");
-    assert_eq!(rt; write(&mut store, 9, 8, b"ab"), Some(false));
-    assert!(rt; peek(&store, 0x8000_0000 + END + 24 + 8 + 7, &mut bytes));
-    assert_eq!(rt; bytes, [0; 4]);
+    assert_eq!(rt; write_two(rt.alloc(), &mut store, 8)?, (false, true));
     Ok(())
 }
 

@@ -237,19 +237,26 @@ fn refusals_come_in_their_order_and_change_nothing(rt: HostRuntime) -> Result<()
     Ok(())
 }
 
-// Of use where each allocation fails in turn: a call that wants memory leaves nothing behind.
-#[test]
-fn want_of_memory_changes_nothing(rt: HostRuntime) {
-    for (left, call, fault) in LAID.iter() {
-        let row = (Stage::Laid, *left, *call, *fault);
-        match outcome(rt.alloc(), &row) {
-            Ok((Some(StoreFault::Memory), is_same)) => assert!(rt; is_same, "{row:?}"),
-            _ => {}
-        }
+// Where the call wants memory, nothing is left of it.
+fn try_want(rt: &impl Abort, alloc: Global, row: &Row) {
+    match outcome(alloc, row) {
+        Ok((Some(StoreFault::Memory), is_same)) => assert!(rt; is_same, "{row:?}"),
+        _ => {}
     }
 }
 
-// The most bytes of a pool, where there is room for more.
+// Of use where one allocation after the other fails.
+#[test]
+fn want_of_memory_changes_nothing(rt: HostRuntime) {
+    for (left, call, fault) in LAID.iter() {
+        try_want(&rt, rt.alloc(), &(Stage::Laid, *left, *call, *fault));
+    }
+    for row in LATER.iter() {
+        try_want(&rt, rt.alloc(), row);
+    }
+}
+
+// There is room for more.
 #[test]
 fn a_pool_has_at_most_65520_bytes(rt: HostRuntime) {
     let mut store = store_over(rt.alloc(), 0x2_0000, 0, Seq::new(rt.alloc()));
