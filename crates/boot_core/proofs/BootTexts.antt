@@ -1,5 +1,5 @@
 -- The text of a boot, part by part.
-use Rattle.std.proofs.Common.{◌≡◌, ℕ, List, [], ◌∷◌, ◌++◌, Option, Some, None, option_map, refl, append_assoc, sym, ap, ◌∙◌}
+use Rattle.std.proofs.Common.{◌≡◌, ℕ, List, [], ◌∷◌, ◌++◌, Option, Some, None, option_map, append_assoc, sym, ap, ◌∙◌}
 use Rattle.std.proofs.lemmas.List.{append-nil}
 use Rattle.std.proofs.lemmas.Grind.{flat_map-append}
 use Rattle.boot_model.specs.declared.catalog.Catalog.{Catalog}
@@ -9,7 +9,7 @@ use Rattle.boot_model.specs.declared.line.RunEnd.TheVariants as E
 use Rattle.boot_model.specs.BootRun.{handle_lines, lines_after, both_lines, dxe_result}
 use Rattle.boot_model.specs.DxeMachine.{DxeMachine, DxeOutcome, Stopped}
 use Rattle.boot_model.specs.DxeRun.{dxe_end}
-use Rattle.boot_model.specs.HandleState.{HandleState, no_handles}
+use Rattle.boot_model.specs.HandleState.{no_handles}
 use Rattle.boot_model.specs.Listing.{store_lines}
 use Rattle.boot_model.specs.PeiMachine.{PeiMachine, PeiOutcome, HandsOff, NoMemory, NoIpl, Spent, Deep}
 use Rattle.boot_model.specs.PeiRun.{pei_end}

@@ -1,7 +1,6 @@
 -- How a boot that ran is answered.
-use Rattle.std.proofs.Common.{◌≡◌, ◌≤◌, ℕ, Bool, true, false, List, [], Option, Some, None, Result, Ok, Err, is_some, option_map, refl, sym, ◌∙◌, inl, inr, subst, true≢false}
+use Rattle.std.proofs.Common.{◌≡◌, ℕ, true, false, List, Option, Some, None, Result, Ok, Err, is_some, option_map, refl, sym, inl, inr, subst, true≢false}
 use Rattle.std.specs.Prelude.{⊤}
-use Rattle.boot_io.specs.Sink.{AppendsPart}
 use Rattle.boot_plan.specs.declared.plan.Plan.{Plan}
 use Rattle.boot_model.specs.declared.catalog.Catalog.{Catalog}
 use Rattle.boot_model.specs.declared.line.RunEnd.{RunEnd}
@@ -16,7 +15,6 @@ use Rattle.boot_model.specs.StoreState.{Board}
 use Rattle.boot_model.specs.WellFormed.{AreNumbered}
 use Rattle.boot_laws.specs.RunsEnd.{PeiRunsEnd, DxeRunsEnd}
 use Rattle.boot_core.specs.declared.status.Status.{Status}
-use Rattle.boot_core.specs.declared.status.Status.TheVariants as V
 use Rattle.pei_dispatch.specs.declared.answer.Broken.{Broken}
 use Rattle.pei_dispatch.specs.declared.answer.Broken.TheVariants as B
 use Rattle.boot_core.specs.BootEnd.{end_after, end_of, boot_text, status_of}

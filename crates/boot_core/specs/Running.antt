@@ -22,7 +22,7 @@ use Rattle.dxe_stop.specs.declared.stop.Broken.{Broken as DxeBroken}
 use Rattle.dxe_stop.specs.declared.stop.Broken.TheVariants as X
 use Rattle.boot_core.specs.declared.status.Status.{Status}
 use Rattle.boot_core.specs.declared.status.Status.TheVariants as V
-use Rattle.boot_core.specs.BootEnd.{end_after, end_of, boot_text, status_of}
+use Rattle.boot_core.specs.BootEnd.{end_of, boot_text, status_of}
 use Rattle.pei_core.specs.Leaves.{Texts}
 
 -- by the answer: a value that is as it should be with the whole text, or a part of the text

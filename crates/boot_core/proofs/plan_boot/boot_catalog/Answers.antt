@@ -5,7 +5,7 @@ use Rattle.boot_core.specs.Lines.{not_built_line}
 use Rattle.boot_core.specs.Outcome.{BootOutcome, not_built}
 use Rattle.boot_core.proofs.Ending.{answer_ends}
 use Rattle.boot_core.proofs.RunEnds.{run_ends}
-use Rattle.boot_core.proofs.boot.boot_catalog.Goals as goal
+use Rattle.boot_core.proofs.plan_boot.boot_catalog.Goals as goal
 
 pub returns-then-has_drivers : goal.returns-then-has_drivers
 returns-then-has_drivers g c =
