@@ -1,7 +1,6 @@
 -- The core after a start.
-use Rattle.std.proofs.Common.{◌≡◌, ◌≢◌, ℕ, ◌<◌, ◌==◌, ◌||◌, Bool, true, false, cond, List, [], ◌∷◌, ◌++◌, length, Option, Some, None, refl, sym, ap, ◌∙◌, subst, Result, Ok, Err, arith, ◌+◌, ◌-◌, ◌^◌}
+use Rattle.std.proofs.Common.{◌≡◌, ◌≢◌, ℕ, ◌<◌, ◌||◌, Bool, true, false, cond, List, [], ◌∷◌, ◌++◌, length, Option, Some, None, refl, sym, ap, ◌∙◌, subst, Result, Ok, Err, arith, ◌+◌, ◌-◌, ◌^◌}
 use Rattle.std.specs.Prelude.{slice_set, is_some, min}
-use Rattle.std.proofs.lemmas.Bool.Decides.{nat_tests}
 use Rattle.boot_io.specs.declared.sink.SinkFault.{SinkFault}
 use Rattle.boot_io.specs.Sink.{Puts}
 use Rattle.pi_base.specs.declared.phase.Phase.TheVariants.{Pei}

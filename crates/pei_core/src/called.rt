@@ -18,9 +18,9 @@ ghost use Rattle.pei_core.specs.Standing.{IsCoreOf, IsCoreFor};
 use crate::broken::{Broken, told};
 use crate::core_state::Core;
 use crate::reports::put_reports;
-use boot_trace::put;
 use boot_io::Sink;
 use boot_model::{Catalog, Frame, Line, PeiStore, Sweep};
+use boot_trace::put;
 use pei_action::{Descriptors, Reply};
 use volume_list::VolumeList;
 

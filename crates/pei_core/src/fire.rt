@@ -11,9 +11,9 @@ use crate::broken::{answer, told};
 use crate::core_fault::CoreFault;
 use crate::core_state::Core;
 use crate::names::callback_line;
-use boot_trace::put;
 use boot_io::Sink;
 use boot_model::{BLOCKS, Catalog, Firing, Frame, PeiStore, REGISTERS, Register, Sweep};
+use boot_trace::put;
 use pi_base::Word;
 
 /// A frame at the first action of a block.

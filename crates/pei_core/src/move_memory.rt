@@ -14,9 +14,9 @@ ghost use Rattle.pei_core.specs.Standing.{IsCoreOf, IsCoreFor};
 
 use crate::broken::{Broken, told};
 use crate::core_state::Core;
-use boot_trace::put;
 use boot_io::Sink;
 use boot_model::{Line, PeiStore, StoreFault};
+use boot_trace::put;
 use pi_base::Word;
 
 // What a fault is told as. None for want of memory, which is told to nobody.

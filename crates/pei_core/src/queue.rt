@@ -10,9 +10,9 @@ use crate::broken::{Broken, told};
 use crate::core_state::Core;
 use crate::fire::notification_frame;
 use crate::names::dispatch_line;
-use boot_trace::put;
 use boot_io::Sink;
 use boot_model::{Catalog, Firing};
+use boot_trace::put;
 
 /// A dispatch notification that has left the queue begins.
 pub(crate) fn begin_dispatch<S: Sink>(

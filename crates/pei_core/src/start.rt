@@ -15,10 +15,10 @@ use crate::core_state::Core;
 use crate::fire::frame_at;
 use crate::frames::Frames;
 use crate::names::start_line;
-use boot_trace::put;
 use crate::stages::start;
 use boot_io::{Sink, SinkFault};
 use boot_model::{Catalog, Licence, Line, REGISTERS, Register};
+use boot_trace::put;
 use pei_choice::pei_part;
 use pi_base::Word;
 

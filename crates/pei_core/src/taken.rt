@@ -18,10 +18,10 @@ ghost use Rattle.pei_core.specs.declared.called.TheConstants.{MOST_ACTIONS};
 use crate::broken::{Broken, told};
 use crate::called::{called, past};
 use crate::core_state::Core;
-use boot_trace::put;
 use crate::stages::register;
 use boot_io::Sink;
 use boot_model::{CallName, Catalog, Extra, Frame, Line, PeiStore};
+use boot_trace::put;
 use pei_action::Taken;
 use pi_base::Word;
 

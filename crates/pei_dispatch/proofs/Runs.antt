@@ -1,12 +1,12 @@
 -- A run of PEI, a step at a time.
-use Rattle.std.proofs.Common.{◌≡◌, ℕ, zero, suc, ◌+◌, List, [], ◌∷◌, ◌++◌, Option, Some, None, refl, sym, ap, ◌∙◌, append_assoc}
+use Rattle.std.proofs.Common.{◌≡◌, ℕ, zero, suc, List, [], ◌++◌, Option, Some, None, refl, sym, ap, ◌∙◌, append_assoc}
 use Rattle.std.proofs.lemmas.List.{append-nil}
 use Rattle.boot_model.specs.declared.catalog.Catalog.{Catalog}
 use Rattle.boot_model.specs.declared.line.Line.{Line}
 use Rattle.boot_model.specs.PeiMachine.{PeiMachine, PeiOutcome}
 use Rattle.boot_model.specs.PeiRun.{pei_run}
 use Rattle.boot_model.specs.PeiStep.{pei_step}
-use Rattle.pei_dispatch.proofs.Growing.{Grew, step_grew}
+use Rattle.pei_dispatch.proofs.Growing.{step_grew}
 
 -- the run of a machine by how it has ended
 abbrev run_by : Catalog → ℕ → ℕ → PeiMachine → Option PeiOutcome → PeiMachine

@@ -1,5 +1,5 @@
 -- What a start leaves: the licence that it needs, and where the cursor then stands.
-use Rattle.std.proofs.Common.{◌≡◌, ◌≤◌, ℕ, ◌+◌, Bool, true, false, cond, List, [], ◌∷◌, Option, Some, None, refl, sym, ap, ◌∙◌, subst, length, nat_eq, arith}
+use Rattle.std.proofs.Common.{◌≡◌, ◌≤◌, ℕ, ◌+◌, Bool, true, false, cond, List, [], ◌∷◌, Option, Some, None, sym, ap, ◌∙◌, subst, length, arith}
 use Rattle.std.specs.Prelude.{if◌then◌else◌, ◌==◌}
 use Rattle.pi_base.specs.declared.phase.Phase.TheVariants.{Pei}
 use Rattle.boot_model.specs.declared.catalog.Catalog.{Catalog}
@@ -8,7 +8,7 @@ use Rattle.boot_model.specs.declared.licence.Licence.{Licence}
 use Rattle.boot_model.specs.declared.licence.Licence.TheVariants as G
 use Rattle.boot_model.specs.Eligible.{licence_at, licence_by}
 use Rattle.boot_model.specs.Parts.{part_at, has_number}
-use Rattle.boot_model.specs.PeiChoice.{pei_order, cursor_behind}
+use Rattle.boot_model.specs.PeiChoice.{cursor_behind}
 use Rattle.boot_model.specs.PeiMachine.{PeiMachine}
 use Rattle.boot_model.specs.PeiStep.{started, started_part}
 use Rattle.pei_choice.specs.declared.order.PeiOrder.{PeiOrder}

@@ -1,8 +1,8 @@
 -- The lines of the stop, by how far they were put.
-use Rattle.std.proofs.Common.{◌≡◌, ℕ, List, ◌∷◌, ◌++◌, Option, sym, ap, subst, flat_map, Result}
+use Rattle.std.proofs.Common.{◌≡◌, ℕ, List, ◌∷◌, ◌++◌, Option, subst, flat_map, Result}
 use Rattle.std.specs.Io.KnownBytes.{Appends}
 use Rattle.std.specs.Option.{option_to_list}
-use Rattle.boot_io.proofs.PutsLaws.{part_of_more, part_then, appends_then}
+use Rattle.boot_io.proofs.PutsLaws.{part_of_more, part_then}
 use Rattle.boot_io.specs.declared.sink.SinkFault.{SinkFault}
 use Rattle.boot_io.specs.Sink.{Puts, AppendsPart}
 use Rattle.boot_model.specs.declared.catalog.Catalog.{Catalog}

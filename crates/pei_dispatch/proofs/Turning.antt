@@ -1,5 +1,5 @@
 -- A turn, from what its parts leave.
-use Rattle.std.proofs.Common.{◌≡◌, ◌≤◌, ℕ, ◌+◌, List, [], ◌∷◌, ◌++◌, Option, Some, None, Ok, Err, Result, refl, sym, ap, ◌∙◌, subst, length, flat_map, take, arith}
+use Rattle.std.proofs.Common.{◌≡◌, ◌≤◌, ℕ, ◌+◌, List, [], ◌∷◌, ◌++◌, Option, Some, None, Ok, Err, Result, refl, sym, ap, ◌∙◌, subst, length, take, arith}
 use Rattle.std.proofs.lemmas.List.{append-nil, length-append, take_at}
 use Rattle.std.proofs.lemmas.Grind.{flat_map-append}
 use Rattle.std.specs.Io.KnownBytes.{Appends}
@@ -15,11 +15,11 @@ use Rattle.pei_choice.specs.declared.order.PeiOrder.{PeiOrder}
 use Rattle.pei_choice.specs.Order.{IsPeiOrder, parts_of}
 use Rattle.pei_dispatch.specs.declared.answer.Broken.{Broken}
 use Rattle.pei_dispatch.specs.declared.answer.Stop.{Stop}
-use Rattle.pei_dispatch.specs.Ends.{outcome_by, StandsAt}
+use Rattle.pei_dispatch.specs.Ends.{outcome_by}
 use Rattle.pei_core.specs.Leaves.{Texts, Printed, PrintedPart}
-use Rattle.pei_core.specs.Steps.{IsIdle, HasStepped}
-use Rattle.pei_dispatch.specs.Turns.{IsPlaced, HasTurned, IsOver, TurnsTo, StopsTo}
-use Rattle.pei_dispatch.proofs.Growing.{Grew, step_grew}
+use Rattle.pei_core.specs.Steps.{IsIdle}
+use Rattle.pei_dispatch.specs.Turns.{IsPlaced, IsOver, TurnsTo}
+use Rattle.pei_dispatch.proofs.Growing.{step_grew}
 use Rattle.pei_dispatch.proofs.Idle.{cursor_stays}
 use Rattle.pei_dispatch.proofs.Lines.{part_whole}
 

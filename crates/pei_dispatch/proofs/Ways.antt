@@ -1,5 +1,5 @@
 -- The run so far, and what is left of it.
-use Rattle.std.proofs.Common.{◌≡◌, ◌<◌, ◌≤◌, ℕ, suc, ◌+◌, ◌-◌, arith, Bool, true, false, List, ◌∷◌, ◌++◌, Option, Some, None, Ok, Err, Result, refl, sym, ap, ◌∙◌, subst, append_assoc, is_some}
+use Rattle.std.proofs.Common.{◌≡◌, ◌<◌, ◌≤◌, ℕ, suc, ◌+◌, ◌-◌, arith, true, false, List, ◌++◌, Option, None, sym, ap, ◌∙◌, subst, append_assoc, is_some}
 use Rattle.std.specs.Io.KnownBytes.{Appends}
 use Rattle.boot_io.proofs.PutsLaws.{appends_then, part_then}
 use Rattle.boot_io.specs.Sink.{AppendsPart}
@@ -14,7 +14,7 @@ use Rattle.boot_model.specs.Text.{text_of}
 use Rattle.pei_choice.specs.declared.order.PeiOrder.{PeiOrder}
 use Rattle.pei_dispatch.specs.declared.answer.Stop.{Stop}
 use Rattle.pei_dispatch.specs.Ends.{outcome_by, HasEnded, StandsAt}
-use Rattle.pei_core.specs.Leaves.{Texts, Printed, PrintedPart}
+use Rattle.pei_core.specs.Leaves.{Texts, PrintedPart}
 use Rattle.pei_dispatch.specs.Turns.{IsPlaced, HasTurned, IsOver}
 use Rattle.pei_dispatch.proofs.Lines.{text_of-append, part_of_longer}
 use Rattle.pei_dispatch.proofs.Runs.{goes, stays, run_tells}

@@ -1,6 +1,5 @@
-use Rattle.std.proofs.Common.{◌≡◌, ◌-◌, ◌+◌, suc, ℕ, List, refl, ap, ◌∙◌, sym, subst, arith}
+use Rattle.std.proofs.Common.{◌≡◌, ◌-◌, ◌+◌, ℕ, List, refl, ap, ◌∙◌, subst, arith}
 use Rattle.boot_io.specs.Sink.{AppendsPart}
-use Rattle.boot_model.specs.PeiMachine.{PeiMachine}
 use Rattle.boot_model.specs.PeiRun.{pei_opening, pei_bound, pei_end}
 use Rattle.boot_model.specs.PeiStep.{report_lines}
 use Rattle.boot_model.specs.Text.{text_of}

@@ -1,9 +1,7 @@
-use Rattle.std.proofs.Common.{◌≡◌, ◌≤◌, sym, ap, ◌∙◌, subst, List, ℕ, length, take, Ok, Err}
-use Rattle.boot_model.specs.PeiMachine.{PeiMachine}
+use Rattle.std.proofs.Common.{◌≡◌, sym, subst, List, ℕ, length, take}
 use Rattle.boot_model.specs.PeiStep.{pei_step}
 use Rattle.pei_choice.specs.Order.{IsPeiOrder}
 use Rattle.pei_dispatch.specs.declared.answer.Stop.TheVariants as S
-use Rattle.pei_core.specs.Leaves.{Texts}
 use Rattle.pei_core.specs.Standing.{StandsFor}
 use Rattle.pei_dispatch.proofs.Turning.{step_placed, step_knows, step_known, printed_whole, ends_so, turns_after}
 use Rattle.pei_dispatch.proofs.turn.turn.Goals as goal

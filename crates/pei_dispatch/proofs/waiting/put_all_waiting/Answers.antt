@@ -1,7 +1,5 @@
-use Rattle.std.proofs.Common.{ℕ, List, sym, ◌∙◌, subst, get_or, arith}
+use Rattle.std.proofs.Common.{sym, ◌∙◌, subst, get_or, arith}
 use Rattle.std.specs.Option.{option_to_list}
-use Rattle.boot_model.specs.declared.line.Line.{Line}
-use Rattle.boot_model.specs.PeiMachine.{PeiMachine}
 use Rattle.boot_model.specs.PeiStep as P
 use Rattle.pei_choice.specs.declared.stage.Stage.{Stage}
 use Rattle.pei_choice.specs.Standing.{IsStage}
