@@ -1,4 +1,4 @@
-// A store of one scene: what it refuses, what it tells, and worked calls. Each helper keeps what holds of every state, so that the next call may be made.
+// A store of one scene: what it refuses, what it tells, and worked calls. Each call that the tests make keeps what holds of every state, so that the next may follow.
 ghost use Rattle.std.specs.Prelude.{◌≤◌, ◌+◌, IsTrue, IfOk};
 ghost use Rattle.boot_model.specs.StateFacts.{IsStoreState, IsDesc, IsPool};
 ghost use Rattle.store_plain.specs.PlainState.{state_of};
