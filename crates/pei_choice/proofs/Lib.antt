@@ -1,3 +1,4 @@
+mod Room
 mod Rotation
 mod ShortParts
 mod VolumeParts

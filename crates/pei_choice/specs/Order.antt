@@ -26,7 +26,7 @@ wanted_from wanted volume number [] = []
 wanted_from wanted volume number (m ∷ ms) = if is_wanted wanted volume m then number ∷ wanted_from wanted volume (number + 1) ms else wanted_from wanted volume (number + 1) ms
 
 abbrev pub parts_of : PeiOrder → List ℕ
-parts_of order = order.parts
+parts_of order = order.parts.items
 
 -- the PEI order of these volumes
 abbrev pub IsPeiOrder : Catalog → List ℕ → PeiOrder → Type 0
