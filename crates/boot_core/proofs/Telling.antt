@@ -1,5 +1,5 @@
 -- Texts of the parts of a boot, one after the other, and where a part of one was put.
-use Rattle.std.proofs.Common.{◌≡◌, ℕ, List, ◌++◌, Option, Result, Ok, Err, sym, subst}
+use Rattle.std.proofs.Common.{◌≡◌, ℕ, Bool, List, ◌++◌, Option, Result, Ok, Err, sym, subst}
 use Rattle.std.specs.Io.KnownBytes.{Appends}
 use Rattle.boot_io.specs.Sink.{AppendsPart}
 use Rattle.boot_io.proofs.PutsLaws.{appends_then, part_then, part_of_more}
@@ -7,10 +7,13 @@ use Rattle.pei_dispatch.specs.declared.answer.Broken.{Broken}
 use Rattle.dxe_stop.specs.declared.stop.Broken.{Broken as DxeBroken}
 use Rattle.dxe_stop.specs.declared.stop.Broken.TheVariants as X
 use Rattle.pei_core.specs.Leaves.{Texts}
-use Rattle.pei_dispatch.specs.Ends.{BrokenAfter}
+use Rattle.pei_dispatch.specs.declared.answer.Broken.TheVariants as B
+use Rattle.pei_dispatch.specs.Ends.{BootsTo, BrokenAfter}
 use Rattle.dxe_stop.specs.Stop.{StopsAt, CountAfter}
 use Rattle.boot_model.specs.declared.line.RunEnd.{RunEnd}
 use Rattle.boot_model.specs.DxeMachine.{DxeMachine}
+use Rattle.boot_model.specs.PeiMachine.{PeiMachine}
+use Rattle.boot_model.specs.StoreState.{StoreState}
 use Rattle.boot_model.specs.Text.{text_of}
 use Rattle.boot_core.specs.Running.{Tells, broken_in_dxe}
 
@@ -34,6 +37,11 @@ tells_then (Err broken) Is Then a b whole old mid new same up put told =
     subst P same (part_then old mid new a b put told)
 
 -- a part of a text that begins the whole
+-- PEI breaks behind a part of its lines
+pub pei_part_of : {M : Type 0} (memory : Bool) (stands : M → StoreState → Type 0) (end : PeiMachine) (t : Texts) (broken : Broken) → BootsTo memory stands end t (Err broken) → AppendsPart t.old t.new (text_of end.lines)
+pei_part_of memory stands end t B.SinkFault part = part
+pei_part_of memory stands end t B.Memory wanting = wanting.0
+
 pub part_in : (old new : Option (List ℕ)) (a b whole : List ℕ) → whole ≡ a ++ b → AppendsPart old new a → AppendsPart old new whole
 part_in old new a b whole same part =
     let P : List ℕ → Type 0 = λ text. AppendsPart old new text in

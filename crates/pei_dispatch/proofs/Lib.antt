@@ -1,3 +1,4 @@
+mod Feeding
 mod Growing
 mod Idle
 mod Lines

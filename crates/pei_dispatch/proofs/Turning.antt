@@ -1,9 +1,10 @@
 -- A turn, from what its parts leave.
-use Rattle.std.proofs.Common.{◌≡◌, ◌≤◌, ℕ, ◌+◌, List, [], ◌∷◌, ◌++◌, Option, Some, None, Ok, Err, Result, refl, sym, ap, ◌∙◌, subst, length, take, arith}
+use Rattle.std.proofs.Common.{◌≡◌, ◌≤◌, ℕ, ◌+◌, Bool, false, List, [], ◌∷◌, ◌++◌, Option, Some, None, Ok, Err, Result, refl, sym, ap, ◌∙◌, subst, length, take, arith}
 use Rattle.std.proofs.lemmas.List.{append-nil, length-append, take_at}
 use Rattle.std.proofs.lemmas.Grind.{flat_map-append}
 use Rattle.std.specs.Io.KnownBytes.{Appends}
 use Rattle.boot_io.proofs.PutsLaws.{appends_then, part_then}
+use Rattle.boot_io.specs.declared.sink.SinkFault.{SinkFault}
 use Rattle.boot_io.specs.Sink.{AppendsPart}
 use Rattle.boot_model.specs.declared.catalog.Catalog.{Catalog}
 use Rattle.boot_model.specs.PeiChoice.{pei_order, volume_order}
@@ -13,9 +14,8 @@ use Rattle.boot_model.specs.declared.line.Line.TheVariants as L
 use Rattle.boot_model.specs.Text.{text_of}
 use Rattle.pei_choice.specs.declared.order.PeiOrder.{PeiOrder}
 use Rattle.pei_choice.specs.Order.{IsPeiOrder, parts_of}
-use Rattle.pei_dispatch.specs.declared.answer.Broken.{Broken}
 use Rattle.pei_dispatch.specs.declared.answer.Stop.{Stop}
-use Rattle.pei_dispatch.specs.Ends.{outcome_by}
+use Rattle.pei_dispatch.specs.Ends.{broken_by, outcome_by}
 use Rattle.pei_core.specs.Leaves.{Texts, Printed, PrintedPart}
 use Rattle.pei_core.specs.Steps.{IsIdle}
 use Rattle.pei_dispatch.specs.Turns.{IsPlaced, IsOver, TurnsTo}
@@ -69,20 +69,20 @@ ends_so Stands m later stop t is text stands =
     } in
     subst P (sym is) over
 
--- nothing was put before the turn
-pub turns_after : (Stands : PeiMachine → Type 0) (catalog : Catalog) (m later : PeiMachine) (kept : PeiOrder) (place : ℕ) (old mid new : Option (List ℕ)) (r : Result (Option Stop) Broken)
-    → Appends old mid [] → TurnsTo Stands catalog m later kept place (record { old = mid; new = new }) r → TurnsTo Stands catalog m later kept place (record { old = old; new = new }) r
-turns_after Stands catalog m later kept place old mid new (Ok None) f turned = record {
+-- nothing was put before a start or the stop
+pub turns_after : (memory : Bool) (Stands : PeiMachine → Type 0) (catalog : Catalog) (m later : PeiMachine) (kept : PeiOrder) (place : ℕ) (old mid new : Option (List ℕ)) (r : Result (Option Stop) SinkFault)
+    → Appends old mid [] → TurnsTo false Stands catalog m later kept place (record { old = mid; new = new }) (broken_by r) → TurnsTo memory Stands catalog m later kept place (record { old = old; new = new }) (broken_by r)
+turns_after memory Stands catalog m later kept place old mid new (Ok None) f turned = record {
   printed = record { told = turned.printed.told; lines = turned.printed.lines; text = appends_then old mid new [] (text_of turned.printed.told) f turned.printed.text };
   machine = turned.machine;
   placed = turned.placed;
 }
-turns_after Stands catalog m later kept place old mid new (Ok (Some stop)) f over = record {
+turns_after memory Stands catalog m later kept place old mid new (Ok (Some stop)) f over = record {
   ended = over.ended;
   printed = record { told = over.printed.told; lines = over.printed.lines; text = appends_then old mid new [] (text_of over.printed.told) f over.printed.text };
   machine = over.machine;
 }
-turns_after Stands catalog m later kept place old mid new (Err broken) f part = record { told = part.told; lines = part.lines; text = part_then old mid new [] (text_of part.told) f part.text }
+turns_after memory Stands catalog m later kept place old mid new (Err fault) f part = record { told = part.told; lines = part.lines; text = part_then old mid new [] (text_of part.told) f part.text }
 
 -- the stop ends the machine
 pub stops_so : (Stands : PeiMachine → Type 0) (catalog : Catalog) (m : PeiMachine) (stop : Stop) (t : Texts) → Stands m → outcome_of m.store ≡ outcome_by stop

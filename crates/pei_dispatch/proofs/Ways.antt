@@ -1,5 +1,5 @@
 -- The run so far, and what is left of it.
-use Rattle.std.proofs.Common.{◌≡◌, ◌<◌, ◌≤◌, ℕ, suc, ◌+◌, ◌-◌, arith, true, false, List, ◌++◌, Option, None, sym, ap, ◌∙◌, subst, append_assoc, is_some}
+use Rattle.std.proofs.Common.{◌≡◌, ◌<◌, ◌≤◌, ℕ, suc, ◌+◌, ◌-◌, arith, Bool, true, false, List, ◌++◌, Option, None, Err, sym, ap, ◌∙◌, subst, append_assoc, is_some}
 use Rattle.std.specs.Io.KnownBytes.{Appends}
 use Rattle.boot_io.proofs.PutsLaws.{appends_then, part_then}
 use Rattle.boot_io.specs.Sink.{AppendsPart}
@@ -8,14 +8,17 @@ use Rattle.boot_model.specs.declared.line.Line.{Line}
 use Rattle.boot_model.specs.PeiMachine.{PeiMachine}
 use Rattle.boot_model.specs.PeiRun.{pei_run}
 use Rattle.boot_model.specs.PeiChoice.{pei_order}
+use Rattle.boot_model.specs.StoreState.{StoreState}
 use Rattle.boot_model.specs.PeiStep.{pei_step, report_lines}
 use Rattle.pei_choice.specs.Order.{IsPeiOrder}
 use Rattle.boot_model.specs.Text.{text_of}
 use Rattle.pei_choice.specs.declared.order.PeiOrder.{PeiOrder}
 use Rattle.pei_dispatch.specs.declared.answer.Stop.{Stop}
-use Rattle.pei_dispatch.specs.Ends.{outcome_by, HasEnded, StandsAt}
+use Rattle.pei_dispatch.specs.declared.answer.Broken.{Broken}
+use Rattle.pei_dispatch.specs.declared.answer.Broken.TheVariants as B
+use Rattle.pei_dispatch.specs.Ends.{outcome_by, HasEnded, StandsAt, RunsTo, BootsTo}
 use Rattle.pei_core.specs.Leaves.{Texts, PrintedPart}
-use Rattle.pei_dispatch.specs.Turns.{IsPlaced, HasTurned, IsOver}
+use Rattle.pei_dispatch.specs.Turns.{IsPlaced, HasTurned, IsOver, TurnsTo}
 use Rattle.pei_dispatch.proofs.Lines.{text_of-append, part_of_longer}
 use Rattle.pei_dispatch.proofs.Runs.{goes, stays, run_tells}
 
@@ -65,12 +68,11 @@ way_over Stands New catalog fuel left less end old mid new kept place stop one w
     let both : P later = (ended, over.machine) in
     subst P last both
 
--- the turn that breaks
-pub way_broken : (Stands : PeiMachine → Type 0) (catalog : Catalog) (fuel left less : ℕ) (end : PeiMachine) (old mid new : Option (List ℕ)) (kept : PeiOrder) (place : ℕ) → left ≡ suc less
+broken_part : (Stands : PeiMachine → Type 0) (catalog : Catalog) (fuel left less : ℕ) (end : PeiMachine) (old mid new : Option (List ℕ)) (kept : PeiOrder) (place : ℕ) → left ≡ suc less
     → (way : IsOnTheWay Stands catalog fuel left end (record { old = old; new = mid }) kept place) → way.now.ended ≡ None
     → PrintedPart way.now (pei_step catalog fuel way.now) (record { old = mid; new = new })
     → AppendsPart old new (text_of end.lines)
-way_broken Stands catalog fuel left less end old mid new kept place one way running part =
+broken_part Stands catalog fuel left less end old mid new kept place one way running part =
     let later = pei_step catalog fuel way.now in
     let rest = run_tells catalog fuel less later in
     let lines : end.lines ≡ way.now.lines ++ (part.told ++ rest.0) =
@@ -78,6 +80,15 @@ way_broken Stands catalog fuel left less end old mid new kept place one way runn
     let P : List ℕ → Type 0 = λ text. AppendsPart old new text in
     subst P (sym (ap text_of lines ∙ text_of-append way.now.lines (part.told ++ rest.0)))
     (part_then old mid new (text_of way.now.lines) (text_of (part.told ++ rest.0)) way.text (part_of_longer mid new part.told rest.0 part.text))
+
+-- the turn that breaks
+pub way_broken : (memory : Bool) (Stands New : PeiMachine → Type 0) (fed : PeiOrder) (next : ℕ) (broken : Broken) (catalog : Catalog) (fuel left less : ℕ) (end : PeiMachine) (old mid new : Option (List ℕ)) (kept : PeiOrder) (place : ℕ)
+    → left ≡ suc less → (way : IsOnTheWay Stands catalog fuel left end (record { old = old; new = mid }) kept place) → way.now.ended ≡ None
+    → TurnsTo memory New catalog way.now (pei_step catalog fuel way.now) fed next (record { old = mid; new = new }) (Err broken)
+    → RunsTo memory New end (record { old = old; new = new }) (Err broken)
+way_broken memory Stands New fed next B.SinkFault catalog fuel left less end old mid new kept place one way running part = broken_part Stands catalog fuel left less end old mid new kept place one way running part
+way_broken memory Stands New fed next B.Memory catalog fuel left less end old mid new kept place one way running wanting =
+    (wanting.0, broken_part Stands catalog fuel left less end old mid new kept place one way running wanting.1)
 
 -- the lines of the opening break
 pub opening_broken : (catalog : Catalog) (fuel bound : ℕ) (m : PeiMachine) (old new : Option (List ℕ)) → AppendsPart old new (text_of m.lines) → AppendsPart old new (text_of (pei_run catalog fuel bound m).lines)
@@ -113,3 +124,9 @@ one_left counter bound all below is = omega (arith, below, is)
 
 pub none_left : (counter bound all : ℕ) → all ≤ counter → all ≡ bound → bound - counter ≡ 0
 none_left counter bound all above is = omega (arith, above, is)
+
+-- a whole run breaks where its run of turns does
+pub boot_broken : {M : Type 0} (memory : Bool) (Stands : PeiMachine → Type 0) (stands : M → StoreState → Type 0) (end : PeiMachine) (t : Texts) (broken : Broken) → RunsTo memory Stands end t (Err broken)
+    → BootsTo memory stands end t (Err broken)
+boot_broken memory Stands stands end t B.SinkFault part = part
+boot_broken memory Stands stands end t B.Memory wanting = (wanting.1, λ none. absurd (cc))

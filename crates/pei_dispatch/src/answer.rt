@@ -20,6 +20,6 @@ pub enum Stop {
 pub enum Broken {
     /// A line could not be put.
     SinkFault,
-    /// Want of memory: for the core or the order of the PEIMs, or in a store that takes memory.
+    /// Want of memory: for the core, before anything was put, or in a store that takes memory.
     Memory,
 }

@@ -45,17 +45,14 @@ fn boot_counted<M: PeiStore + Drop, S: Sink, L: Ledger>(
     requires name { blank.name ≡ L.name }
     requires parts { blank.parts ≡ L.parts }
     requires counts { 0 < L.parts }
-    ensures row { (board : Board) → M.stands_for store (empty_store board) → BootsTo M.stands_for (pei_end board catalog.now fuel) (record { old = S.text sink.old; new = S.text sink.new }) result }
+    ensures row { (board : Board) → M.stands_for store (empty_store board) → BootsTo M.TAKES_MEMORY M.stands_for (pei_end board catalog.now fuel) (record { old = S.text sink.old; new = S.text sink.new }) result }
     ensures faults { BrokenAfter result (S.faults sink.old) (S.faults sink.new) }
 {
     let mut pei = match Pei::begin(alloc, store, catalog, fuel) {
         Ok(pei) => pei,
         Err(OutOfMemory) => return Err(Broken::Memory),
     };
-    let mut order = match PeiOrder::new(alloc, catalog) {
-        Ok(order) => order,
-        Err(OutOfMemory) => return Err(Broken::Memory),
-    };
+    let mut order = PeiOrder::new();
     let mut steps = Steps::<L>::new(blank);
     match run_pei(&mut pei, &mut order, catalog, sink, &mut steps) {
         Ok(end) => Ok(Ended {
@@ -67,7 +64,7 @@ fn boot_counted<M: PeiStore + Drop, S: Sink, L: Ledger>(
     }
 }
 
-/// The whole of PEI over a store that is as it was made. `fuel` is how many actions may be taken.
+/// The whole of PEI over a store that is as it was made. `fuel` is how many actions may be taken. Where the store takes no memory, want of memory is answered before anything is put.
 pub fn boot_pei<M: PeiStore + Drop, S: Sink>(
     alloc: Global,
     store: M,
@@ -79,7 +76,7 @@ pub fn boot_pei<M: PeiStore + Drop, S: Sink>(
     requires short { AreShort catalog.now }
     requires some { 1 ≤ length catalog.now.volumes }
     requires opening { (board : Board) × M.stands_for store (empty_store board) }
-    ensures row { (board : Board) → M.stands_for store (empty_store board) → BootsTo M.stands_for (pei_end board catalog.now fuel) (record { old = S.text sink.old; new = S.text sink.new }) result }
+    ensures row { (board : Board) → M.stands_for store (empty_store board) → BootsTo M.TAKES_MEMORY M.stands_for (pei_end board catalog.now fuel) (record { old = S.text sink.old; new = S.text sink.new }) result }
     ensures faults { BrokenAfter result (S.faults sink.old) (S.faults sink.new) }
 {
     boot_counted::<M, S, Brand>(alloc, store, catalog, fuel, sink, Blank::new(1))

@@ -5,7 +5,6 @@ mod answer;
 mod boot;
 mod choose;
 mod feed;
-mod open;
 mod run;
 mod start;
 mod stop;

@@ -10,14 +10,14 @@ ghost use Rattle.pei_dispatch.specs.Ends.{RunsTo, BrokenAfter};
 ghost use Rattle.pei_core.specs.Standing.{StandsFor, IsFor};
 
 use crate::answer::{Broken, Stop};
-use crate::open::open;
+use crate::feed::feed;
 use crate::turn::turn;
-use boot_io::Sink;
+use boot_io::{Sink, SinkFault};
 use boot_laws::pei_runs_end;
 use boot_model::{Catalog, MOST_FRAMES, PeiStore};
 use depex_code::Steps;
 use pei_choice::PeiOrder;
-use pei_core::Pei;
+use pei_core::{Pei, put_reports};
 use std::sync::ledger::Ledger;
 
 // How many steps a run has at most.
@@ -29,7 +29,7 @@ fn bound(catalog: &Catalog, fuel: u32) -> u64
 }
 
 /// PEI from the opening to its end: the lines of the opening, then a step of the machine at a time, up to the stop. `order` is the order in which no volume is reported.
-/// At most one expression is evaluated in a turn for each part of the order.
+/// At most one expression is evaluated in a turn for each part of the order. Want of memory is answered only where the store takes it.
 pub fn run_pei<M: PeiStore + Drop, S: Sink, L: Ledger>(
     pei: &mut Pei<M>,
     order: &mut PeiOrder,
@@ -42,12 +42,13 @@ pub fn run_pei<M: PeiStore + Drop, S: Sink, L: Ledger>(
     requires made { (fuel : ℕ) × IsFor catalog.now fuel pei.old }
     requires order { IsPeiOrder catalog.now [] order.old }
     requires opening { (board : Board) × StandsFor M.stands_for pei.old (pei_opening board catalog.now) }
-    ensures row { (board : Board) (fuel : ℕ) → IsFor catalog.now fuel pei.old → StandsFor M.stands_for pei.old (pei_opening board catalog.now) → RunsTo (StandsFor M.stands_for pei.new) (pei_end board catalog.now fuel) (record { old = S.text sink.old; new = S.text sink.new }) result }
+    ensures row { (board : Board) (fuel : ℕ) → IsFor catalog.now fuel pei.old → StandsFor M.stands_for pei.old (pei_opening board catalog.now) → RunsTo M.TAKES_MEMORY (StandsFor M.stands_for pei.new) (pei_end board catalog.now fuel) (record { old = S.text sink.old; new = S.text sink.new }) result }
     ensures faults { BrokenAfter result (S.faults sink.old) (S.faults sink.new) }
 {
-    match open(order, catalog, pei.reported(), sink) {
+    feed(order, catalog, pei.reported());
+    match put_reports(sink, pei.reported()) {
         Ok(()) => {}
-        Err(broken) => return Err(broken),
+        Err(SinkFault) => return Err(Broken::SinkFault),
     }
     let mut cursor = 0;
     'turns: for _ in 0..bound(catalog, pei.fuel()) {

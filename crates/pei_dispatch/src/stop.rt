@@ -8,11 +8,11 @@ ghost use Rattle.boot_model.specs.StoreCall.{Anything};
 ghost use Rattle.boot_model.specs.Text.{text_of};
 ghost use Rattle.boot_model.specs.declared.line.Line.TheVariants as L;
 ghost use Rattle.pei_choice.specs.Order.{IsPeiOrder};
-ghost use Rattle.pei_dispatch.specs.Ends.{BrokenAfter, outcome_by};
+ghost use Rattle.pei_dispatch.specs.Ends.{BrokenAfter, broken_by, outcome_by};
 ghost use Rattle.pei_core.specs.Standing.{StandsFor};
 ghost use Rattle.pei_dispatch.specs.Turns.{StopsTo};
 
-use crate::answer::{Broken, Stop};
+use crate::answer::Stop;
 use crate::waiting::put_all_waiting;
 use boot_io::{Sink, SinkFault};
 use boot_model::{Catalog, DXE_IPL_PPI, Line, PeiStore};
@@ -58,22 +58,22 @@ pub(crate) fn stop<M: PeiStore + Drop, S: Sink>(
     order: &PeiOrder,
     catalog: &Catalog,
     sink: &mut S,
-) -> Result<Stop, Broken>
+) -> Result<Stop, SinkFault>
     requires state { (m : PeiMachine) × StandsFor M.stands_for pei.now m }
     ensures row { (m : PeiMachine) → StandsFor M.stands_for pei.now m → IsPeiOrder catalog.now m.reported order.now → StopsTo m (L.PeiStop ∷ (P.waiting_lines catalog.now m ++ P.handoff_lines m.store (P.outcome_of m.store))) (record { old = S.text sink.old; new = S.text sink.new }) result }
-    ensures faults { BrokenAfter result (S.faults sink.old) (S.faults sink.new) }
+    ensures faults { BrokenAfter (broken_by result) (S.faults sink.old) (S.faults sink.new) }
 {
     match put(sink, &Line::PeiStop) {
         Ok(()) => {}
-        Err(SinkFault) => return Err(Broken::SinkFault),
+        Err(SinkFault) => return Err(SinkFault),
     }
     match put_all_waiting(catalog, order.as_slice(), pei.stages(), sink) {
         Ok(()) => {}
-        Err(SinkFault) => return Err(Broken::SinkFault),
+        Err(SinkFault) => return Err(SinkFault),
     }
     let stop = stop_over(pei.store());
     match put_handoff(pei.store(), stop, sink) {
         Ok(()) => Ok(stop),
-        Err(SinkFault) => Err(Broken::SinkFault),
+        Err(SinkFault) => Err(SinkFault),
     }
 }

@@ -4,7 +4,7 @@ use Rattle.boot_model.specs.Text.{text_of}
 use Rattle.boot_core.specs.BootEnd.{end_after, end_of, boot_text}
 use Rattle.boot_core.specs.Running.{text_behind}
 use Rattle.boot_core.proofs.BootTexts.{boot_is, end_is}
-use Rattle.boot_core.proofs.Telling.{tells_then, part_in}
+use Rattle.boot_core.proofs.Telling.{tells_then, part_in, pei_part_of}
 use Rattle.boot_core.proofs.boot_run.boot_store.Goals as goal
 
 pub returns-in-Ok-clause-row : goal.returns-in-Ok-clause-row
@@ -24,4 +24,5 @@ returns-in-Err-clause-row g c = λ board stands.
     let catalog = c.args.catalog.now in
     let fuel = c.args.fuel in
     let m = pei_end board catalog fuel in
-    part_in (T c.args.sink.now) (T c.boot_pei.new.sink) (text_of m.lines) (text_behind catalog fuel m) (boot_text board catalog fuel) (boot_is board catalog fuel) (c.in-Err.ensures.row board stands)
+    part_in (T c.args.sink.now) (T c.boot_pei.new.sink) (text_of m.lines) (text_behind catalog fuel m) (boot_text board catalog fuel) (boot_is board catalog fuel)
+    (pei_part_of g.M.PeiStore.TAKES_MEMORY g.M.PeiStore.stands_for m _ c.in-Err.broken (c.in-Err.ensures.row board stands))
