@@ -135,4 +135,4 @@ acted_is catalog fuel m frame below action actions e less is =
     rw t (ap (λ a. after_effect catalog (record m { actions = m.actions + 1 }) frame below (effect m.store frame a)) is)
 
 pub one_more : (m : PeiMachine) (core : Core) → IsCoreOf core m → IsCoreOf (record core { actions = core.actions + 1 }) (record m { actions = m.actions + 1 })
-one_more m core of = record { frames = of.frames; sweep = of.sweep; reported = of.reported; stages = of.stages; actions = ap (λ n. n + 1) of.actions; starts = of.starts; running = of.running }
+one_more m core of = record { frames = of.frames; sweep = of.sweep; reported = of.reported; stages = of.stages; shadows = of.shadows; actions = ap (λ n. n + 1) of.actions; starts = of.starts; running = of.running }

@@ -53,6 +53,7 @@ called_goes m catalog frame past_frame below reply new stands core frames report
       sweep = of.sweep;
       reported = ap (λ xs. xs ++ told_by catalog new m.reported reply) of.reported ∙ ap (λ ys. core.reported ++ ys) t ∙ sym reported_is;
       stages = of.stages;
+      shadows = of.shadows;
       actions = of.actions;
       starts = of.starts;
       running = of.running;

@@ -1,10 +1,12 @@
 pub mod Acting
+pub mod Awaited
 pub mod Between
 pub mod Calls
 pub mod Cases
 pub mod Fired
 pub mod Going
 pub mod Moving
+pub mod Numbers
 pub mod Opened
 pub mod Reported
 pub mod Scripts

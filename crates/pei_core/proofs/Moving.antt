@@ -22,6 +22,7 @@ use Rattle.pei_core.specs.declared.broken.Broken.{Broken}
 use Rattle.pei_core.specs.declared.core_state.Core.{Core}
 use Rattle.pei_core.specs.Leaves.{Goes, PrintedPart, broken_by}
 use Rattle.pei_core.specs.Standing.{IsCoreOf}
+use Rattle.pei_core.proofs.Awaited.{awaits}
 use Rattle.pei_core.proofs.Going.{goes_puts, puts_one, none_put, first_part, texts}
 
 abbrev called_line : Word → Line
@@ -35,6 +36,7 @@ with_sweep core m later sweep of frames reported started shadows again actions e
   sweep = swept;
   reported = reported ∙ of.reported;
   stages = λ k. let old = of.stages k in (ap (λ xs. has_number xs k) started ∙ old.0, ap (λ xs. has_number xs k) shadows ∙ old.1, ap (λ xs. has_number xs k) again ∙ old.2);
+  shadows = ap (λ xs. awaits xs later.shadows) again ∙ ap (awaits m.again) shadows ∙ of.shadows;
   actions = actions ∙ of.actions;
   starts = of.starts ∙ ap (λ n. min n (2 ^ 32 - 1)) (ap (λ xs. length xs + length m.again) (sym started) ∙ ap (λ ys. length later.started + length ys) (sym again));
   running = ended ∙ of.running;
@@ -94,7 +96,7 @@ moved_part m new service line old now part =
     first_part m (core_called mid service) line line p.0 old now (p.1 ∙ append_assoc m.lines (line ∷ []) p.0) refl part
 
 pub moved_core : (m : PeiMachine) (new : StoreState) (line : Line) (core : Core) → IsCoreOf core m → IsCoreOf core (record (printed m (line ∷ [])) { store = new })
-moved_core m new line core of = record { frames = of.frames; sweep = of.sweep; reported = of.reported; stages = of.stages; actions = of.actions; starts = of.starts; running = of.running }
+moved_core m new line core of = record { frames = of.frames; sweep = of.sweep; reported = of.reported; stages = of.stages; shadows = of.shadows; actions = of.actions; starts = of.starts; running = of.running }
 
 -- one state is moved to, and its line
 pub same_new : (moved : Option StoreState) (one other : StoreState) → moved ≡ Some one → moved ≡ Some other → one ≡ other

@@ -8,22 +8,22 @@ use Rattle.pei_choice.specs.declared.stage.Stage.{Stage}
 use Rattle.pei_choice.specs.Standing.{AreStages, IsStage, stage_at}
 
 -- a stage that was written, and another one
-here : (stages : List Stage) (n : ℕ) (stage : Stage) → n < length stages → stage_at (slice_set stages n stage) n ≡ stage
+pub here : (stages : List Stage) (n : ℕ) (stage : Stage) → n < length stages → stage_at (slice_set stages n stage) n ≡ stage
 here [] n stage h = absurd (omega (arith, h))
 here (first ∷ rest) zero stage h = refl
 here (first ∷ rest) (suc n) stage h = here rest n stage (omega (arith, h))
 
-elsewhere : (stages : List Stage) (n k : ℕ) (stage : Stage) → n ≢ k → stage_at (slice_set stages n stage) k ≡ stage_at stages k
+pub elsewhere : (stages : List Stage) (n k : ℕ) (stage : Stage) → n ≢ k → stage_at (slice_set stages n stage) k ≡ stage_at stages k
 elsewhere [] n k stage h = refl
 elsewhere (first ∷ rest) zero zero stage h = absurd (h refl)
 elsewhere (first ∷ rest) zero (suc k) stage h = refl
 elsewhere (first ∷ rest) (suc n) zero stage h = refl
 elsewhere (first ∷ rest) (suc n) (suc k) stage h = elsewhere rest n k stage (λ e. h (ap suc e))
 
-differ : (n k : ℕ) → (n == k) ≡ false → n ≢ k
+pub differ : (n k : ℕ) → (n == k) ≡ false → n ≢ k
 differ n k t e = let yes : (n == k) ≡ true = grind (arith, nat_tests, e) in let no : true ≡ false = sym yes ∙ t in cc
 
-same : (n k : ℕ) → (n == k) ≡ true → n ≡ k
+pub same : (n k : ℕ) → (n == k) ≡ true → n ≡ k
 same n k t = grind (arith, nat_tests, t)
 
 -- a number is itself, and no other

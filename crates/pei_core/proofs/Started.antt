@@ -18,9 +18,11 @@ use Rattle.boot_model.specs.Text.{text_of}
 use Rattle.pei_choice.specs.declared.stage.Stage.{Stage}
 use Rattle.pei_choice.specs.Standing.{AreStages, stage_at}
 use Rattle.pei_core.specs.declared.core_state.Core.{Core}
+use Rattle.pei_core.specs.Awaiting.{after_starting}
 use Rattle.pei_core.specs.Leaves.{Printed}
 use Rattle.pei_core.specs.Standing.{IsCoreOf}
 use Rattle.pei_core.specs.Starting.{Begins, first_frames, has_block, is_block_there, lines_of}
+use Rattle.pei_core.proofs.Awaited.{one_starts}
 use Rattle.pei_core.proofs.Going.{texts}
 use Rattle.pei_core.proofs.Staged.{stages_kept, same_number, other_number}
 
@@ -86,29 +88,30 @@ by_put : (put : Result (Unit {0}) SinkFault) (core : Core) (m later : PeiMachine
 by_put (Ok done) core m later told old now lines puts store fields = let printed : Printed m later (texts old now) = record { told = told; lines = lines; text = puts } in record { printed = printed; store = store; fields = fields }
 by_put (Err fault) core m later told old now lines puts store fields = record { told = told; lines = lines; text = puts }
 
-by_part : (catalog : Catalog) (m : PeiMachine) (number : ℕ) (o : Option Part) (licence : Licence) (core : Core) (stages : List Stage) (frames : List Frame) (line : Line) (runs : Bool) (starts : ℕ) (put : Result (Unit {0}) SinkFault) (old now : Option (List ℕ))
+by_part : (catalog : Catalog) (m : PeiMachine) (number : ℕ) (o : Option Part) (licence : Licence) (core : Core) (stages : List Stage) (numbers : List ℕ) (frames : List Frame) (line : Line) (runs : Bool) (starts : ℕ) (put : Result (Unit {0}) SinkFault) (old now : Option (List ℕ))
     → IsCoreOf core m → number < length core.stages → is_some o ≡ true → ((part : Part) → o ≡ Some part → licence ≡ licence_at m number part)
-    → stages ≡ slice_set core.stages number (begun core.stages number) → frames ≡ first_frames number runs → runs ≡ has_block o → line ≡ start_line catalog m number licence → Puts put old now (text_of (lines_of line runs)) → starts ≡ min (core.starts + 1) (2 ^ 32 - 1)
-    → Begins (record core { frames = frames; sweep = None; stages = stages; starts = starts; last_start = Some number }) m (started_part catalog m number o) (texts old now) put
-by_part catalog m number None licence core stages frames line runs starts put old now of inside some licensed staged framed runs_is line_is puts counts = cc
-by_part catalog m number (Some part) licence core stages frames line runs starts put old now of inside some licensed staged framed runs_is line_is puts counts =
+    → stages ≡ slice_set core.stages number (begun core.stages number) → numbers ≡ after_starting (stage_at core.stages number) number core.shadows → frames ≡ first_frames number runs → runs ≡ has_block o → line ≡ start_line catalog m number licence → Puts put old now (text_of (lines_of line runs)) → starts ≡ min (core.starts + 1) (2 ^ 32 - 1)
+    → Begins (record core { frames = frames; sweep = None; stages = stages; shadows = numbers; starts = starts; last_start = Some number }) m (started_part catalog m number o) (texts old now) put
+by_part catalog m number None licence core stages numbers frames line runs starts put old now of inside some licensed staged listed framed runs_is line_is puts counts = cc
+by_part catalog m number (Some part) licence core stages numbers frames line runs starts put old now of inside some licensed staged listed framed runs_is line_is puts counts =
     let later : PeiMachine = started_by catalog m number part (licence_at m number part) in
     let blocks = part.script.blocks in
     let lines : start_lines (start_line catalog m number (licence_at m number part)) blocks ≡ lines_of line runs =
     lines_are _ blocks ∙ ap (λ l. lines_of (start_line catalog m number l) (is_block_there blocks)) (sym (licensed part refl)) ∙ ap (λ l. lines_of l (is_block_there blocks)) (sym line_is) ∙ ap (λ b. lines_of line b) (sym runs_is) in
-    let fields : IsCoreOf (record core { frames = frames; sweep = None; stages = stages; starts = starts; last_start = Some number }) later = record {
+    let fields : IsCoreOf (record core { frames = frames; sweep = None; stages = stages; shadows = numbers; starts = starts; last_start = Some number }) later = record {
       frames = frames_are number blocks ∙ ap (first_frames number) (sym runs_is) ∙ sym framed;
       sweep = refl;
       reported = of.reported;
       stages = subst (λ xs. AreStages later xs) (sym staged) (start_stages m later core.stages number inside of.stages refl refl refl);
+      shadows = one_starts (has_number m.started number) m.again m.shadows number (stage_at core.stages number) (of.stages number).0 ∙ ap (after_starting (stage_at core.stages number) number) of.shadows ∙ sym listed;
       actions = of.actions;
       starts = counted core.starts starts (length m.started + length m.again) (length (unless (has_number m.started number) number m.started) + length (also (has_number m.started number) number m.again)) of.starts counts (one_more_start (has_number m.started number) number m.started m.again);
       running = of.running;
     } in
-    by_put put (record core { frames = frames; sweep = None; stages = stages; starts = starts; last_start = Some number }) m later (lines_of line runs) old now (ap (λ xs. m.lines ++ xs) lines) puts refl fields
+    by_put put (record core { frames = frames; sweep = None; stages = stages; shadows = numbers; starts = starts; last_start = Some number }) m later (lines_of line runs) old now (ap (λ xs. m.lines ++ xs) lines) puts refl fields
 
-pub start_begins : (catalog : Catalog) (m : PeiMachine) (number : ℕ) (licence : Licence) (core : Core) (stages : List Stage) (frames : List Frame) (line : Line) (runs : Bool) (starts : ℕ) (put : Result (Unit {0}) SinkFault) (old now : Option (List ℕ))
+pub start_begins : (catalog : Catalog) (m : PeiMachine) (number : ℕ) (licence : Licence) (core : Core) (stages : List Stage) (numbers : List ℕ) (frames : List Frame) (line : Line) (runs : Bool) (starts : ℕ) (put : Result (Unit {0}) SinkFault) (old now : Option (List ℕ))
     → IsCoreOf core m → number < length core.stages → is_some (part_at Pei catalog number) ≡ true → ((part : Part) → part_at Pei catalog number ≡ Some part → licence ≡ licence_at m number part)
-    → stages ≡ slice_set core.stages number (begun core.stages number) → frames ≡ first_frames number runs → runs ≡ has_block (part_at Pei catalog number) → line ≡ start_line catalog m number licence → Puts put old now (text_of (lines_of line runs)) → starts ≡ min (core.starts + 1) (2 ^ 32 - 1)
-    → Begins (record core { frames = frames; sweep = None; stages = stages; starts = starts; last_start = Some number }) m (started catalog m number) (texts old now) put
+    → stages ≡ slice_set core.stages number (begun core.stages number) → numbers ≡ after_starting (stage_at core.stages number) number core.shadows → frames ≡ first_frames number runs → runs ≡ has_block (part_at Pei catalog number) → line ≡ start_line catalog m number licence → Puts put old now (text_of (lines_of line runs)) → starts ≡ min (core.starts + 1) (2 ^ 32 - 1)
+    → Begins (record core { frames = frames; sweep = None; stages = stages; shadows = numbers; starts = starts; last_start = Some number }) m (started catalog m number) (texts old now) put
 start_begins catalog m number = by_part catalog m number (part_at Pei catalog number)

@@ -1,4 +1,5 @@
 pub mod AfterTaken
+pub mod Awaiting
 pub mod FoundAction
 pub mod FrameStack
 pub mod Leaves

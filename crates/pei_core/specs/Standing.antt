@@ -8,6 +8,7 @@ use Rattle.pei_choice.specs.Standing.{AreStages}
 use Rattle.pei_sound.specs.Sound.{IsSound}
 use Rattle.volume_list.specs.Known.{AreKnown}
 use Rattle.pei_core.specs.declared.core_state.Core.{Core}
+use Rattle.pei_core.specs.Awaiting.{awaiting, AreShadows}
 use Rattle.pei_core.specs.declared.pei.Pei.{Pei}
 
 -- the fields
@@ -16,14 +17,16 @@ pub record IsCoreOf (core : Core) (m : PeiMachine) : Type 0 where
   pub sweep : m.core_sweep ≡ core.sweep
   pub reported : m.reported ≡ core.reported
   pub stages : AreStages m core.stages
+  pub shadows : awaiting m ≡ core.shadows
   pub actions : m.actions ≡ core.actions
   pub starts : core.starts ≡ min (length m.started + length m.again) (2 ^ 32 - 1)
   pub running : m.ended ≡ None
 
--- what a core keeps for a catalogue and its fuel: a stage for each module, and volumes that differ
+-- what a core keeps for a catalogue and its fuel: a stage for each module, volumes that differ, and modules that registered
 pub record IsCoreFor (catalog : Catalog) (fuel : ℕ) (core : Core) : Type 0 where
   pub stages : length core.stages ≡ length catalog.modules
   pub known : AreKnown catalog core.reported
+  pub shadows : AreShadows core.stages core.shadows
   pub fuelled : core.fuel ≡ fuel
 
 -- a store and a core have what the machine has

@@ -7,6 +7,7 @@ ghost use Rattle.boot_model.specs.Service.{Present};
 ghost use Rattle.boot_model.specs.WellFormed.{IsWellFormed};
 ghost use Rattle.boot_model.specs.declared.frame.Frame.{Frame as OfFrame};
 ghost use Rattle.pei_action.specs.Needs.{HoldRegisters, IsModuleNumber, IsScriptAction};
+ghost use Rattle.pei_core.specs.Awaiting.{AreShadows};
 ghost use Rattle.pei_core.specs.FoundAction.{found_action, found_block};
 ghost use Rattle.volume_list.specs.Known.{AreKnown};
 ghost use Rattle.pei_core.specs.Leaves.{Goes, Leaves, BrokenAfter, FaultsAfter};
@@ -58,6 +59,7 @@ fn take<M: PeiStore, S: Sink>(
     requires known { AreKnown catalog.now core.old.reported }
     requires number { IsModuleNumber frame.module_number }
     requires here { frame.module_number < length core.old.stages }
+    requires shadows { AreShadows core.old.stages core.old.shadows }
     requires position { frame.position < MOST_ACTIONS }
     requires state { Present (M.stands_for store.old) (HoldRegisters frame.registers) }
     ensures row { (m : PeiMachine) (below : List OfFrame) → IsCoreOf core.old m → m.frames ≡ frame ∷ below → M.stands_for store.old m.store → HoldRegisters frame.registers m.store → Goes M.TAKES_MEMORY (M.stands_for store.new) core.new m (P.after_effect catalog.now m frame below (E.effect m.store frame action.now)) (record { old = S.text sink.old; new = S.text sink.new }) result }

@@ -1,5 +1,6 @@
 //! What the core keeps beside the store.
 use crate::frames::Frames;
+use crate::shadows::Shadows;
 use boot_model::Sweep;
 use pei_choice::Stage;
 use pi_base::Seq;
@@ -16,6 +17,8 @@ pub struct Core {
     pub(crate) reported: VolumeList,
     /// How far each module has come.
     pub(crate) stages: Seq<Stage>,
+    /// The modules that await their second start.
+    pub(crate) shadows: Shadows,
     /// The actions that were taken, and how many may be.
     pub(crate) actions: u32,
     pub(crate) fuel: u32,

@@ -13,6 +13,7 @@ mod names;
 mod pei;
 mod queue;
 mod reports;
+mod shadows;
 mod stages;
 mod start;
 mod step;

@@ -11,6 +11,7 @@ ghost use Rattle.boot_model.specs.WellFormed.{IsWellFormed};
 ghost use Rattle.boot_model.specs.declared.catalog.Catalog.{Catalog as OfCatalog};
 ghost use Rattle.boot_model.specs.declared.catalog.Part.{Part as OfPart};
 ghost use Rattle.pi_base.specs.declared.phase.Phase.TheVariants.{Pei as InPei};
+ghost use Rattle.pei_core.specs.Awaiting.{awaiting};
 ghost use Rattle.pei_core.specs.Leaves.{FaultsAfter};
 ghost use Rattle.pei_core.specs.Standing.{StandsFor, IsFor, last_start};
 ghost use Rattle.pei_choice.specs.Standing.{AreStages};
@@ -19,6 +20,7 @@ ghost use Rattle.pei_core.specs.Steps.{IsIdle, StepsTo, StartsTo};
 use crate::core_fault::CoreFault;
 use crate::core_state::Core;
 use crate::frames::Frames;
+use crate::shadows::Shadows;
 use crate::stages;
 use crate::start::start_module;
 use crate::step::step;
@@ -71,6 +73,7 @@ impl<M: PeiStore + Drop> Pei<M> {
                     sweep: None,
                     reported,
                     stages,
+                    shadows: Shadows::new(),
                     actions: 0,
                     fuel,
                     starts: 0,
@@ -142,6 +145,13 @@ impl<M: PeiStore + Drop> Pei<M> {
         ensures { (m : PeiMachine) → StandsFor M.stands_for self.now m → AreStages m result.now }
     {
         self.core.stages.as_slice()
+    }
+
+    /// The modules that registered for shadow and have not started again, in the order in which they registered.
+    pub fn shadows(&self) -> &[u32]
+        ensures { (m : PeiMachine) → StandsFor M.stands_for self.now m → result.now ≡ awaiting m }
+    {
+        self.core.shadows.as_slice()
     }
 
     /// The actions that were taken.

@@ -78,7 +78,7 @@ pub(crate) fn start_module<S: Sink>(
     ensures last { core.new.last_start ≡ Some number }
 {
     let runs = has_block(catalog, number);
-    start(&mut core.stages, number);
+    start(&mut core.stages, &mut core.shadows, number);
     core.sweep = None;
     core.starts = core.starts.saturating_add(1);
     core.last_start = Some(number);

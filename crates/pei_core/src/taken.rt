@@ -11,6 +11,7 @@ ghost use Rattle.boot_model.specs.WellFormed.{IsWellFormed};
 ghost use Rattle.boot_model.specs.declared.frame.Frame.{Frame as OfFrame};
 ghost use Rattle.volume_list.specs.Known.{AreKnown};
 ghost use Rattle.pei_core.specs.AfterTaken.{after_taken, TellsVisits};
+ghost use Rattle.pei_core.specs.Awaiting.{AreShadows};
 ghost use Rattle.pei_core.specs.Leaves.{Goes, BrokenAfter};
 ghost use Rattle.pei_core.specs.Standing.{IsCoreOf, IsCoreFor};
 ghost use Rattle.pei_core.specs.declared.called.TheConstants.{MOST_ACTIONS};
@@ -28,13 +29,14 @@ use pi_base::Word;
 // The top frame's module registers for shadow.
 fn shadowed<S: Sink>(core: &mut Core, frame: Frame, sink: &mut S) -> Result<(), Broken>
     requires here { frame.module_number < length core.old.stages }
+    requires shadows { AreShadows core.old.stages core.old.shadows }
     requires position { frame.position < MOST_ACTIONS }
     ensures row { (m : PeiMachine) (old : OfFrame) (below : List OfFrame) (new : StoreState) → IsCoreOf core.old m → m.frames ≡ old ∷ below → Goes false (λ s. s ≡ new) core.new m (P.shadowed (record m { store = new }) frame below) (record { old = S.text sink.old; new = S.text sink.new }) result }
     ensures faults { BrokenAfter result (S.faults sink.old) (S.faults sink.new) }
     ensures core { (catalog : OfCatalog) (fuel : ℕ) → IsCoreFor catalog fuel core.old → IsCoreFor catalog fuel core.new }
     ensures last { core.new.last_start ≡ core.old.last_start }
 {
-    let status = register(&mut core.stages, frame.module_number);
+    let status = register(&mut core.stages, &mut core.shadows, frame.module_number);
     let mut behind = past(frame, 0);
     behind.last = status;
     core.frames.set_top(behind);
@@ -71,6 +73,7 @@ pub(crate) fn finish<M: PeiStore, S: Sink>(
     requires catalog { IsWellFormed catalog.now }
     requires known { AreKnown catalog.now core.old.reported }
     requires here { frame.module_number < length core.old.stages }
+    requires shadows { AreShadows core.old.stages core.old.shadows }
     requires position { frame.position < MOST_ACTIONS }
     requires state { Present (M.stands_for store.now) Anything }
     ensures row { (m : PeiMachine) (old : OfFrame) (below : List OfFrame) (new : StoreState) → IsCoreOf core.old m → m.frames ≡ old ∷ below → M.stands_for store.now new → TellsVisits taken new → Goes false (M.stands_for store.now) core.new m (after_taken catalog.now m frame below taken new) (record { old = S.text sink.old; new = S.text sink.new }) result }

@@ -31,6 +31,7 @@ returns-in-Logged-clause-row g c m old below new of e stand visits =
       sweep = of.sweep;
       reported = of.reported;
       stages = of.stages;
+      shadows = of.shadows;
       actions = of.actions;
       starts = of.starts;
       running = of.running;

@@ -10,6 +10,7 @@ returns-in-Ok-clause-opening g c board stand = record {
     sweep = refl;
     reported = first_family c.args.catalog.now c.new-reported.result c.add.new.self c.new-reported.ensures c.add.ensures.added;
     stages = none_started board c.args.catalog.now c.in-Ok.stages c.len.result c.in-Ok.ensures;
+    shadows = sym c.new-in-Ok.ensures;
     actions = refl;
     starts = refl;
     running = refl;
