@@ -1,12 +1,10 @@
 -- The modules that await their second start, where one registers for shadow or starts.
 use Rattle.std.proofs.Common.{◌≡◌, ℕ, zero, suc, ◌<◌, ◌≤◌, ◌==◌, ◌&&◌, ◌||◌, Bool, true, false, cond, not, List, [], ◌∷◌, ◌++◌, filter, length, refl, sym, ap, ◌∙◌, subst, arith}
 use Rattle.std.specs.Prelude.{slice_set}
-use Rattle.std.proofs.lemmas.Bool.Decides.{nat_tests}
 use Rattle.std.proofs.lemmas.List.{append-nil, length-set, length_push}
 use Rattle.std.proofs.lemmas.List.Elements.{filter-append}
 use Rattle.std.proofs.lemmas.Map.Steps.{length-le_from_distinct_below}
 use Rattle.boot_model.specs.declared.limits.TheConstants.{MOST_MODULES}
-use Rattle.boot_model.specs.Licence.{AllDiffer}
 use Rattle.boot_model.specs.Lists.{Each}
 use Rattle.boot_model.specs.Parts.{has_number}
 use Rattle.pei_choice.specs.declared.stage.Stage.{Stage}
@@ -102,6 +100,7 @@ registers_kept : (stages : List Stage) (n : ℕ) (numbers : List ℕ) → n < le
 registers_kept stages n numbers inside are = by_tests (stage_at stages n).registered (not (stage_at stages n).again) refl where
   old : AreShadows (with_registered stages n) numbers
   old = all_kept stages n (record (stage_at stages n) { registered = true }) numbers inside (λ has. refl) are
+
   by_tests : (b wants : Bool) → (stage_at stages n).registered ≡ b → AreShadows (with_registered stages n) (cond (not b && wants) (numbers ++ n ∷ []) numbers)
   by_tests true wants e = old
   by_tests false false e = old
@@ -123,6 +122,7 @@ starts_kept : (stages : List Stage) (n : ℕ) (stage : Stage) (numbers : List �
 starts_kept stages n stage numbers inside is are = by_test (stage_at stages n).started where
   old : AreShadows (slice_set stages n stage) numbers
   old = all_kept stages n stage numbers inside (λ has. is ∙ has) are
+
   by_test : (b : Bool) → AreShadows (slice_set stages n stage) (cond b (filter (λ other. not (other == n)) numbers) numbers)
   by_test true = without (slice_set stages n stage) (λ other. not (other == n)) numbers old
   by_test false = old

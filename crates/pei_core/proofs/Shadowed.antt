@@ -99,8 +99,8 @@ shadowed_goes m frame below new core behind frames stages numbers status put res
         reported = of.reported;
         stages = subst (λ xs. AreStages later xs) (sym staged) (first_stages m later core.stages frame.module_number inside of.stages refl refl refl);
         shadows =
-        one_registers m.again m.shadows frame.module_number own (sym (of.stages frame.module_number).1 ∙ has) (of.stages frame.module_number).2
-        ∙ ap (after_registering own frame.module_number) of.shadows ∙ sym listed;
+            one_registers m.again m.shadows frame.module_number own (sym (of.stages frame.module_number).1 ∙ has) (of.stages frame.module_number).2
+            ∙ ap (after_registering own frame.module_number) of.shadows ∙ sym listed;
         actions = of.actions;
         starts = of.starts;
         running = of.running;

@@ -17,11 +17,11 @@ awaiting m = filter (λ number. not (has_number m.again number)) m.shadows
 abbrev pub after_registering : Stage → ℕ → List ℕ → List ℕ
 after_registering stage number numbers = if not stage.registered && not stage.again then numbers ++ number ∷ [] else numbers
 
--- a module that has started and starts again awaits no other start
+-- a module that has started and starts again awaits no more
 abbrev pub after_starting : Stage → ℕ → List ℕ → List ℕ
 after_starting stage number numbers = if stage.started then filter (λ other. not (other == number)) numbers else numbers
 
--- each of these modules registered and stands there once, and there are no more modules than may be
+-- each of these modules registered and is there once; and there are no more modules than may be
 pub record AreShadows (stages : List Stage) (numbers : List ℕ) : Type 0 where
   pub few : length stages ≤ MOST_MODULES
   pub differ : AllDiffer numbers

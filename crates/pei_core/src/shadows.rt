@@ -39,7 +39,7 @@ impl Shadows {
         self.numbers.as_slice()
     }
 
-    /// A module of this stage registers for shadow.
+    /// A module of this stage registers for shadow. The first time it is put at the end, unless it has had its second start.
     pub fn register(&mut self, stage: Stage, number: u32)
         requires room { stage.registered ≡ false → length self.old < MOST_MODULES }
         ensures { self.new ≡ after_registering stage number self.old }
@@ -49,7 +49,7 @@ impl Shadows {
         }
     }
 
-    /// A module of this stage starts.
+    /// A module of this stage starts. A second start takes it out.
     pub fn start(&mut self, stage: Stage, number: u32)
         ensures { self.new ≡ after_starting stage number self.old }
     {
