@@ -1,11 +1,13 @@
 -- Lists in which no number stands twice.
-use Rattle.std.proofs.Common.{◌≡◌, ℕ, zero, suc, ◌+◌, ◌≤◌, ◌==◌, Bool, true, false, ◌||◌, List, [], ◌∷◌, ◌++◌, refl, subst, arith}
+use Rattle.std.proofs.Common.{◌≡◌, ℕ, zero, suc, ◌+◌, ◌<◌, ◌≤◌, ◌==◌, Bool, true, false, ◌||◌, List, [], ◌∷◌, ◌++◌, length, refl, sym, ap, ◌∙◌, subst, arith, eqb}
 use Rattle.std.specs.Prelude.{◌≢◌, filter, flat_map}
+use Rattle.std.specs.List.{list_any, AllByRecursion, IsDistinct}
 use Rattle.std.proofs.lemmas.Bool.Decides.{nat_tests}
+use Rattle.std.proofs.lemmas.Map.Steps.{length-le_from_distinct_below}
 use Rattle.boot_model.specs.Lists.{Each, Ordered, numbers}
 use Rattle.boot_model.specs.Parts.{has_number}
 use Rattle.boot_model.specs.Licence.{AllDiffer}
-use Rattle.boot_laws.proofs.ListFacts.{each_more, each_flat, each_both, each_cross, ordered_filter, ordered_append}
+use Rattle.boot_laws.proofs.ListFacts.{each_more, each_flat, each_both, each_cross, each_at, ordered_filter, ordered_append}
 
 -- the number is none of these, and none of those is one of these
 abbrev pub Apart : ℕ → List ℕ → Type 0
@@ -17,7 +19,7 @@ AllApart xs ys = Each (λ x. Apart x ys) xs
 abbrev pub Distinct : List ℕ → Type 0
 Distinct xs = Ordered (λ a b. a ≢ b) xs
 
-neither : (a b : Bool) → (a || b) ≡ false → (a ≡ false) × (b ≡ false)
+pub neither : (a b : Bool) → (a || b) ≡ false → (a ≡ false) × (b ≡ false)
 neither true b h = cc
 neither false b h = (refl, h)
 
@@ -39,6 +41,10 @@ is_absent (x ∷ xs) n h = not_that x n (x == n) (has_number xs n) refl h.0 (is_
 pub all_differ : (xs : List ℕ) → Distinct xs → AllDiffer xs
 all_differ [] h = tt
 all_differ (x ∷ xs) h = (is_absent xs x h.0, all_differ xs h.1)
+
+pub all_distinct : (xs : List ℕ) → AllDiffer xs → Distinct xs
+all_distinct [] h = tt
+all_distinct (x ∷ xs) h = (absent xs x h.0, all_distinct xs h.1)
 
 pub distinct_append : (xs ys : List ℕ) → Distinct xs → Distinct ys → AllApart xs ys → Distinct (xs ++ ys)
 distinct_append xs ys d e f = ordered_append (λ a b. a ≢ b) xs ys d e f
@@ -76,3 +82,32 @@ pub distinct_numbers : (from count : ℕ) → Distinct (numbers from count)
 distinct_numbers from zero = tt
 distinct_numbers from (suc count) =
     (each_more (λ n. from + 1 ≤ n) (λ n. from ≢ n) (numbers (from + 1) count) (λ n h e. omega (arith, h, e)) (from_on (from + 1) count), distinct_numbers (from + 1) count)
+
+-- a number that is new at the end
+pub differ_pushed : (xs : List ℕ) (n : ℕ) → has_number xs n ≡ false → AllDiffer xs → AllDiffer (xs ++ n ∷ [])
+differ_pushed xs n new d =
+    all_differ (xs ++ n ∷ []) (distinct_append xs (n ∷ []) (all_distinct xs d) (tt, tt) (each_more (λ x. n ≢ x) (λ x. Apart x (n ∷ [])) xs (λ x h. ((λ e. h (sym e)), tt)) (absent xs n new)))
+
+pub differ_filter : (test : ℕ → Bool) (xs : List ℕ) → AllDiffer xs → AllDiffer (filter test xs)
+differ_filter test xs d = all_differ (filter test xs) (distinct_filter test xs (all_distinct xs d))
+
+-- the same as std says it
+pub turned : (x y : ℕ) → (x == y) ≡ (y == x)
+turned x y = grind (arith, nat_tests)
+
+any_turned : (xs : List ℕ) (n : ℕ) → list_any (eqb n) xs ≡ has_number xs n
+any_turned [] n = refl
+any_turned (x ∷ xs) n = ap (λ b. b || list_any (eqb n) xs) (turned n x) ∙ ap (λ b. (x == n) || b) (any_turned xs n)
+
+apart : (xs : List ℕ) (n : ℕ) → has_number xs n ≡ false → AllByRecursion (λ x. eqb n x ≡ false) xs
+apart [] n h = tt
+apart (x ∷ xs) n h = let both = neither (x == n) (has_number xs n) h in (turned n x ∙ both.0, apart xs n both.1)
+
+distinct : (xs : List ℕ) → AllDiffer xs → IsDistinct eqb xs
+unfolding IsDistinct
+distinct [] d = tt
+distinct (x ∷ xs) d = (apart xs x d.0, distinct xs d.1)
+
+-- numbers that differ and lie below a bound are no more than the bound
+pub few_below : (xs : List ℕ) (bound : ℕ) → AllDiffer xs → Each (λ x. x < bound) xs → length xs ≤ bound
+few_below xs bound d below = length-le_from_distinct_below xs bound (distinct xs d) (λ n has. each_at (λ x. x < bound) xs n below (sym (any_turned xs n) ∙ has))

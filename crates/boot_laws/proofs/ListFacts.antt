@@ -23,6 +23,9 @@ pub each_cross : {A B : Type 0} (P : A → Type 0) (Q : B → Type 0) (R : A →
 each_cross P Q R [] ys f e g = tt
 each_cross P Q R (x ∷ xs) ys f e g = (each_more Q (R x) ys (λ y q. f x y e.0 q) g, each_cross P Q R xs ys f e.1 g)
 
+pub each_push : {A : Type 0} (P : A → Type 0) (xs : List A) (x : A) → Each P xs → P x → Each P (xs ++ x ∷ [])
+each_push P xs x e p = each_append P xs (x ∷ []) e (p, tt)
+
 each_kept : {A : Type 0} (P : A → Type 0) (b : Bool) (x : A) (xs : List A) → P x → Each P xs → Each P (cond b (x ∷ xs) xs)
 each_kept P true x xs p e = (p, e)
 each_kept P false x xs p e = e

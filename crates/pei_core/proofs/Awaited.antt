@@ -3,14 +3,14 @@ use Rattle.std.proofs.Common.{◌≡◌, ℕ, zero, suc, ◌<◌, ◌≤◌, ◌
 use Rattle.std.specs.Prelude.{slice_set}
 use Rattle.std.proofs.lemmas.List.{append-nil, length-set, length_push}
 use Rattle.std.proofs.lemmas.List.Elements.{filter-append}
-use Rattle.std.proofs.lemmas.Map.Steps.{length-le_from_distinct_below}
 use Rattle.boot_model.specs.declared.limits.TheConstants.{MOST_MODULES}
 use Rattle.boot_model.specs.Lists.{Each}
 use Rattle.boot_model.specs.Parts.{has_number}
 use Rattle.pei_choice.specs.declared.stage.Stage.{Stage}
 use Rattle.pei_choice.specs.Standing.{stage_at}
 use Rattle.pei_core.specs.Awaiting.{AreShadows, after_registering, after_starting}
-use Rattle.pei_core.proofs.Numbers.{each_more, each_push, each_filter, each_at, differ_pushed, differ_filter, turned, any_turned, distinct}
+use Rattle.boot_laws.proofs.ListFacts.{each_more, each_push, each_filter, each_at}
+use Rattle.boot_laws.proofs.Distinct.{differ_pushed, differ_filter, turned, few_below}
 use Rattle.pei_core.proofs.Staged.{here, elsewhere, same, differ}
 
 abbrev pub awaits : List ℕ → List ℕ → List ℕ
@@ -69,9 +69,7 @@ absent stages numbers n each new = by_has (has_number numbers n) refl where
 pub room : (stages : List Stage) (numbers : List ℕ) (n : ℕ) → AreShadows stages numbers → n < length stages → (stage_at stages n).registered ≡ false → length numbers < MOST_MODULES
 room stages numbers n are inside new =
     let below = each_push (λ k. k < length stages) numbers n (each_more (λ number. (stage_at stages number).registered ≡ true) (λ k. k < length stages) numbers (within stages) are.registered) inside in
-    let longer = numbers ++ n ∷ [] in
-    let no_more = length-le_from_distinct_below longer (length stages) (distinct longer (differ_pushed numbers n (absent stages numbers n are.registered new) are.differ))
-    (λ q has. each_at (λ k. k < length stages) longer q below (sym (any_turned longer q) ∙ has)) in
+    let no_more = few_below (numbers ++ n ∷ []) (length stages) (differ_pushed numbers n (absent stages numbers n are.registered new) are.differ) below in
     let len = length_push numbers n in
     let few = are.few in
     omega (arith, few, len, no_more)

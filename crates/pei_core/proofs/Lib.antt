@@ -6,7 +6,6 @@ pub mod Cases
 pub mod Fired
 pub mod Going
 pub mod Moving
-pub mod Numbers
 pub mod Opened
 pub mod Reported
 pub mod Scripts

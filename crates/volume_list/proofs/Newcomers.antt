@@ -5,7 +5,8 @@ use Rattle.std.specs.Prelude.{filter}
 use Rattle.boot_model.specs.Parts.{has_number}
 use Rattle.boot_model.specs.Licence.{AllDiffer}
 use Rattle.volume_list.specs.Known.{with_new}
-use Rattle.volume_list.proofs.ListFacts.{neither, has_pushed, turned}
+use Rattle.boot_laws.proofs.Distinct.{neither}
+use Rattle.volume_list.proofs.ListFacts.{has_pushed, turned}
 
 -- the numbers that are new stay so beside one that is none of them
 new_beside : (known : List ℕ) (n : ℕ) (xs : List ℕ) → has_number xs n ≡ false

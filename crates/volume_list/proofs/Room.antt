@@ -1,17 +1,15 @@
 -- One number more of those that become known: there is room for it, since known volumes are no more than the volumes of the catalogue.
 use Rattle.std.proofs.Common.{◌≡◌, ℕ, ◌+◌, ◌<◌, ◌≤◌, ◌==◌, Bool, true, false, not, ◌||◌, List, [], ◌∷◌, ◌++◌, length, get_or, drop, refl, sym, ap, ◌∙◌, subst, arith, eqb}
 use Rattle.std.specs.Prelude.{if◌then◌else◌}
-use Rattle.std.specs.List.{list_any, AllByRecursion, IsDistinct}
-use Rattle.std.proofs.lemmas.Bool.Decides.{nat_tests}
 use Rattle.std.proofs.lemmas.List.{length_push, at_drop_more}
-use Rattle.std.proofs.lemmas.Map.Steps.{length-le_from_distinct_below}
 use Rattle.boot_model.specs.declared.limits.TheConstants.{MOST_VOLUMES}
 use Rattle.boot_model.specs.declared.catalog.Catalog.{Catalog}
 use Rattle.boot_model.specs.Parts.{has_number}
 use Rattle.boot_model.specs.Licence.{AllDiffer}
 use Rattle.boot_model.specs.WellFormed.{IsWellFormed}
 use Rattle.volume_list.specs.Known.{AreKnown, with_new}
-use Rattle.volume_list.proofs.ListFacts.{each_push, each_at, neither, differ_pushed}
+use Rattle.boot_laws.proofs.ListFacts.{each_push}
+use Rattle.boot_laws.proofs.Distinct.{differ_pushed, few_below}
 
 -- a volume that is new comes to the known ones
 known_if : (catalog : Catalog) (known : List ℕ) (number : ℕ) (b : Bool) → not (has_number known number) ≡ b → AreKnown catalog known → number < length catalog.volumes
@@ -32,27 +30,9 @@ pub known_more : (catalog : Catalog) (known next : List ℕ) (number : ℕ) (b :
     → number < length catalog.volumes → AreKnown catalog next
 known_more catalog known next number b e now are below = subst (AreKnown catalog) (sym now) (known_if catalog known number b (sym e) are below)
 
-turned : (x y : ℕ) → (x == y) ≡ (y == x)
-turned x y = grind (arith, nat_tests)
-
-any_turned : (xs : List ℕ) (n : ℕ) → list_any (eqb n) xs ≡ has_number xs n
-any_turned [] n = refl
-any_turned (x ∷ xs) n = ap (λ b. b || list_any (eqb n) xs) (turned n x) ∙ ap (λ b. (x == n) || b) (any_turned xs n)
-
-apart : (xs : List ℕ) (n : ℕ) → has_number xs n ≡ false → AllByRecursion (λ x. eqb n x ≡ false) xs
-apart [] n h = tt
-apart (x ∷ xs) n h = let parts = neither (x == n) (has_number xs n) h in (turned n x ∙ parts.0, apart xs n parts.1)
-
-distinct : (xs : List ℕ) → AllDiffer xs → IsDistinct eqb xs
-unfolding IsDistinct
-distinct [] d = tt
-distinct (x ∷ xs) d = (apart xs x d.0, distinct xs d.1)
-
 -- known volumes are no more than all volumes
 no_more : (catalog : Catalog) (known : List ℕ) → AreKnown catalog known → length known ≤ length catalog.volumes
-no_more catalog known are =
-    length-le_from_distinct_below known (length catalog.volumes) (distinct known are.differ)
-    (λ q h. each_at (λ volume. volume < length catalog.volumes) known q are.in_catalog (sym (any_turned known q) ∙ h))
+no_more catalog known are = few_below known (length catalog.volumes) are.differ are.in_catalog
 
 -- so there is room for one that is new
 pub room : (catalog : Catalog) (known : List ℕ) (number : ℕ) (b : Bool) → b ≡ not (has_number known number) → IsWellFormed catalog → AreKnown catalog known → number < length catalog.volumes
