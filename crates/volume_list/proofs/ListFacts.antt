@@ -1,10 +1,9 @@
 -- What holds of each item of a list, and which numbers a list has.
-use Rattle.std.proofs.Common.{◌≡◌, ℕ, zero, suc, ◌<◌, ◌==◌, Bool, true, false, ◌||◌, List, [], ◌∷◌, ◌++◌, length, get_or, refl, ap, ◌∙◌, subst, arith}
+use Rattle.std.proofs.Common.{◌≡◌, ℕ, zero, suc, ◌<◌, ◌==◌, Bool, true, false, ◌||◌, List, [], ◌∷◌, ◌++◌, length, get_or, refl, ap, arith}
 use Rattle.std.specs.Prelude.{◌≢◌}
 use Rattle.std.proofs.lemmas.Bool.Decides.{nat_tests}
 use Rattle.boot_model.specs.Lists.{Each}
 use Rattle.boot_model.specs.Parts.{has_number}
-use Rattle.boot_model.specs.Licence.{AllDiffer}
 
 pub both_not : (a b : Bool) → a ≡ false → b ≡ false → (a || b) ≡ false
 both_not true b h k = cc

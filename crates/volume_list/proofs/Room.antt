@@ -1,11 +1,10 @@
 -- One number more of those that become known: there is room for it, since known volumes are no more than the volumes of the catalogue.
-use Rattle.std.proofs.Common.{◌≡◌, ℕ, ◌+◌, ◌<◌, ◌≤◌, ◌==◌, Bool, true, false, not, ◌||◌, List, [], ◌∷◌, ◌++◌, length, get_or, drop, refl, sym, ap, ◌∙◌, subst, arith, eqb}
+use Rattle.std.proofs.Common.{◌≡◌, ℕ, ◌+◌, ◌<◌, ◌≤◌, Bool, true, false, not, List, [], ◌∷◌, ◌++◌, length, get_or, drop, refl, sym, ap, ◌∙◌, subst, arith}
 use Rattle.std.specs.Prelude.{if◌then◌else◌}
 use Rattle.std.proofs.lemmas.List.{length_push, at_drop_more}
 use Rattle.boot_model.specs.declared.limits.TheConstants.{MOST_VOLUMES}
 use Rattle.boot_model.specs.declared.catalog.Catalog.{Catalog}
 use Rattle.boot_model.specs.Parts.{has_number}
-use Rattle.boot_model.specs.Licence.{AllDiffer}
 use Rattle.boot_model.specs.WellFormed.{IsWellFormed}
 use Rattle.volume_list.specs.Known.{AreKnown, with_new}
 use Rattle.boot_laws.proofs.ListFacts.{each_push}

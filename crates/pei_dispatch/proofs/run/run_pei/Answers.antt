@@ -1,4 +1,4 @@
-use Rattle.std.proofs.Common.{◌≡◌, ◌-◌, ◌+◌, ℕ, List, [], Err, refl, sym, ap, ◌∙◌, subst, arith}
+use Rattle.std.proofs.Common.{◌≡◌, ◌-◌, ◌+◌, ℕ, List, [], refl, sym, ap, ◌∙◌, subst, arith}
 use Rattle.boot_io.specs.Sink.{AppendsPart}
 use Rattle.boot_model.specs.Licence.{AllDiffer}
 use Rattle.boot_model.specs.PeiChoice.{pei_order}
