@@ -206,21 +206,21 @@ fn runs(
 }
 
 // An empty sink.
-fn sink(alloc: Global) -> Result<MemSink, OutOfMemory> {
+fn empty_sink(alloc: Global) -> Result<MemSink, OutOfMemory> {
     MemSink::new(alloc, 1024, Seq::new(alloc))
 }
 
-/// What is put up to the first module's end, and the move behind it.
+/// The first module's start up to its end, and the move behind it; volume 0 was reported before.
 const FIRST_START: &[u8] =
     b"report 0\npei start 0 00000000-0000-0000-0000-00000000000a absent\ncall shadow Success\ncall memory Success\nend Success\nmigrate 0x80000000 0x40000000\ncore install Success\n";
 
-/// And up to the end of its second start: it has registered, and memory is planned once.
+/// Its second start: it has registered, and memory is planned once.
 const SECOND_START: &[u8] =
-    b"report 0\npei start 0 00000000-0000-0000-0000-00000000000a absent\ncall shadow Success\ncall memory Success\nend Success\nmigrate 0x80000000 0x40000000\ncore install Success\npei start 0 00000000-0000-0000-0000-00000000000a shadow\ncall shadow AlreadyStarted\ncall memory InvalidParameter\nend Success\n";
+    b"pei start 0 00000000-0000-0000-0000-00000000000a shadow\ncall shadow AlreadyStarted\ncall memory InvalidParameter\nend Success\n";
 
-/// What is put up to the end of the first action, without the reports.
+/// The second module, which has no action to take, and the first one's first action.
 const ONE_ACTION: &[u8] =
-    b"pei start 0 00000000-0000-0000-0000-00000000000a absent\ncall shadow Success\n";
+    b"pei start 0 00000000-0000-0000-0000-00000000000b absent\nend Success\npei start 0 00000000-0000-0000-0000-00000000000a absent\ncall shadow Success\n";
 
 /// Registered for shadow, and started once.
 const REGISTERED: Stage = Stage {
@@ -236,6 +236,12 @@ const AGAIN: Stage = Stage {
     again: true,
 };
 
+const STARTED: Stage = Stage {
+    started: true,
+    registered: false,
+    again: false,
+};
+
 const WAITING: Stage = Stage {
     started: false,
     registered: false,
@@ -245,7 +251,7 @@ const WAITING: Stage = Stage {
 #[test]
 fn awaited_until_the_second_start(rt: HostRuntime) -> Result<(), Fail> {
     let catalog = catalogue(rt.alloc())?;
-    let mut sink = sink(rt.alloc())?;
+    let mut sink = empty_sink(rt.alloc())?;
     let mut pei = opening(rt.alloc(), &catalog, 100)?;
     assert_eq!(rt; pei.reported(), [0].as_slice());
     assert_eq!(rt;
@@ -265,8 +271,9 @@ fn awaited_until_the_second_start(rt: HostRuntime) -> Result<(), Fail> {
         (5, 1, Some(0))
     );
     assert!(rt; pei.store().moved());
-    runs(&mut pei, &catalog, 0, &mut sink)?;
-    assert_eq!(rt; sink.text(), SECOND_START);
+    let mut later = empty_sink(rt.alloc())?;
+    runs(&mut pei, &catalog, 0, &mut later)?;
+    assert_eq!(rt; later.text(), SECOND_START);
     assert!(rt; pei.shadows().is_empty());
     assert_eq!(rt; pei.stages(), [AGAIN, WAITING].as_slice());
     assert_eq!(rt;
@@ -280,9 +287,10 @@ fn awaited_until_the_second_start(rt: HostRuntime) -> Result<(), Fail> {
 #[test]
 fn fuel_that_is_used_up(rt: HostRuntime) -> Result<(), Fail> {
     let catalog = catalogue(rt.alloc())?;
-    let mut sink = sink(rt.alloc())?;
+    let mut sink = empty_sink(rt.alloc())?;
     let mut pei = opening(rt.alloc(), &catalog, 1)?;
     settles(&mut pei, &catalog, &mut sink)?;
+    runs(&mut pei, &catalog, 1, &mut sink)?;
     starts(&mut pei, &catalog, 0, &mut sink)?;
     goes(&mut pei, &catalog, &mut sink)?;
     assert!(rt; pei.step(&catalog, &mut sink) == Err(CoreFault::Spent));
@@ -290,7 +298,7 @@ fn fuel_that_is_used_up(rt: HostRuntime) -> Result<(), Fail> {
     assert_eq!(rt; sink.text(), ONE_ACTION);
     assert_eq!(rt; pei.actions(), 1);
     assert_eq!(rt; pei.shadows(), [0].as_slice());
-    assert_eq!(rt; pei.stages(), [REGISTERED, WAITING].as_slice());
+    assert_eq!(rt; pei.stages(), [REGISTERED, STARTED].as_slice());
     Ok(())
 }
 
