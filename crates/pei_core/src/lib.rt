@@ -23,3 +23,6 @@ pub use core_fault::CoreFault;
 pub use names::{name_of, volume_of};
 pub use pei::{Pei, Stepped};
 pub use reports::put_reports;
+
+#[cfg(test)]
+mod tests;

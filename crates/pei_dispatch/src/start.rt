@@ -1,37 +1,19 @@
 // The start of the PEIM that comes next.
-ghost use Rattle.std.specs.Prelude.{◌≡◌, ◌≤◌, ℕ, option_copied, if◌then◌else◌, length};
+ghost use Rattle.std.specs.Prelude.{◌≡◌, ◌≤◌, ℕ, option_copied, length};
 ghost use Rattle.boot_io.specs.Sink.{SinkFaultsAfter};
-ghost use Rattle.boot_model.specs.Eligible.{licence_by};
 ghost use Rattle.boot_model.specs.Parts.{part_at};
 ghost use Rattle.boot_model.specs.PeiMachine.{PeiMachine};
 ghost use Rattle.boot_model.specs.PeiStep.{started};
 ghost use Rattle.boot_model.specs.WellFormed.{IsWellFormed};
-ghost use Rattle.boot_model.specs.declared.licence.Licence.TheVariants as G;
 ghost use Rattle.pi_base.specs.declared.phase.Phase.TheVariants.{Pei as InPei};
 ghost use Rattle.pei_core.specs.Standing.{StandsFor, IsFor};
 ghost use Rattle.pei_core.specs.Steps.{IsIdle};
 ghost use Rattle.pei_dispatch.specs.Turns.{IsPlaced, StartsTo};
 
 use boot_io::{Sink, SinkFault};
-use boot_model::{Catalog, Licence, Part, PartExpr, PeiStore};
-use pei_choice::{PeiOrder, Stage, cursor_behind, pei_part, stage_of};
+use boot_model::{Catalog, PeiStore};
+use pei_choice::{PeiOrder, cursor_behind, licence_of, pei_part, stage_of};
 use pei_core::Pei;
-
-// The licence by which a part starts that has come so far.
-fn licence_of(stage: Stage, part: &Part) -> Licence
-    ensures { result ≡ (if stage.started then G.Shadow else licence_by part.now.rank part.now.expr) }
-{
-    if stage.started {
-        return Licence::Shadow;
-    }
-    if part.rank.is_some() {
-        return Licence::Apriori;
-    }
-    match part.expr {
-        PartExpr::Absent => Licence::Absent,
-        _ => Licence::True,
-    }
-}
 
 /// A module starts, and the cursor then stands behind it. One without a PEI part has nothing to start.
 pub(crate) fn start<M: PeiStore + Drop, S: Sink>(
