@@ -14,7 +14,7 @@ use Rattle.pi_base.specs.declared.guid.Guid.{Guid}
 use Rattle.act_code.specs.declared.action.GuidArg.{GuidArg}
 use Rattle.act_code.specs.declared.action.GuidArg.TheVariants.{Inline, Register}
 use Rattle.act_code.specs.Format.{Format, Value, spelled, IsInRange, IsGuidArg, guid_arg_bytes, is_within, is_hob, Nothing, Byte, Within, RegisterNumber, BlockNumber, Little, GuidBytes, WordNumber, Counted, Text, Registers, Descriptor, HobBody, Pair}
-use Rattle.act_code.specs.Reading.{◌>>=◌, only_if, byte_at, within_at, little_at, guid_at, word_of, word_at, bytes_at, counted_at, text_at, guid_arg_at, descriptor_at, hob_at, read}
+use Rattle.act_code.specs.Reading.{◌>>=◌, only_if, byte_at, within_at, little_at, guid_front, word_of, word_at, bytes_at, counted_at, text_at, guid_arg_at, descriptor_at, hob_at, read}
 use Rattle.act_code.proofs.Fields.{little_reads, little_back, little_bounded, length-little}
 
 -- the value of a step that gave one
@@ -67,8 +67,8 @@ little_takes width bytes n rest all e =
     let front : bytes ≡ little_bytes width (little_number width bytes) ++ drop width bytes = sym (take-append-drop width bytes) ∙ ap (λ t. t ++ drop width bytes) (sym (little_back width bytes all long)) in
     subst (λ (p : ℕ × List ℕ). Takes bytes (little_bytes width p.0) p.1 × (p.0 < 256 ^ width)) p.1 (record { parts = front; left = AreBytes-drop width bytes all }, little_bounded width bytes all)
 
-guid_takes : (bytes : List ℕ) (g : Guid) (rest : List ℕ) → AreBytes bytes → guid_at bytes ≡ Some (g, rest) → Takes bytes g.0 rest × (length g.0 ≡ 16)
-unfolding guid_at
+guid_takes : (bytes : List ℕ) (g : Guid) (rest : List ℕ) → AreBytes bytes → guid_front bytes ≡ Some (g, rest) → Takes bytes g.0 rest × (length g.0 ≡ 16)
+unfolding guid_front
 guid_takes bytes g rest all e =
     let x : Guid × List ℕ = (record { 0 = take 16 bytes }, drop 16 bytes) in
     let p = passed (nat_le 16 (length bytes)) x (g, rest) e in
@@ -138,11 +138,11 @@ is_one n in_range not_zero = grind (arith, nat_tests)
 guid_arg_takes : (bytes : List ℕ) (g : GuidArg) (rest : List ℕ) → AreBytes bytes → guid_arg_at bytes ≡ Some (g, rest) → Takes bytes (guid_arg_bytes g) rest × IsGuidArg g
 unfolding guid_arg_at
 guid_arg_takes bytes g rest all e =
-    let f = bind_some (within_at 0 1 bytes) (λ form. if form.0 == 0 then guid_at form.1 >>= (λ guid. Some (Inline guid.0, guid.1)) else byte_at form.1 >>= (λ v. Some (Register v.0, v.1))) (g, rest) e in
+    let f = bind_some (within_at 0 1 bytes) (λ form. if form.0 == 0 then guid_front form.1 >>= (λ guid. Some (Inline guid.0, guid.1)) else byte_at form.1 >>= (λ v. Some (Register v.0, v.1))) (g, rest) e in
     let t = within_takes 0 1 bytes f.0.0 f.0.1 all f.1 in
-    elim (chosen (f.0.0 == 0) (guid_at f.0.1 >>= (λ guid. Some (Inline guid.0, guid.1))) (byte_at f.0.1 >>= (λ v. Some (Register v.0, v.1))) (Some (g, rest)) f.2) [
+    elim (chosen (f.0.0 == 0) (guid_front f.0.1 >>= (λ guid. Some (Inline guid.0, guid.1))) (byte_at f.0.1 >>= (λ v. Some (Register v.0, v.1))) (Some (g, rest)) f.2) [
       | inl (zero_is, taken) ↦
-          let x = bind_some (guid_at f.0.1) (λ guid. Some (Inline guid.0, guid.1)) (g, rest) taken in
+          let x = bind_some (guid_front f.0.1) (λ guid. Some (Inline guid.0, guid.1)) (g, rest) taken in
           let u = guid_takes f.0.1 x.0.0 x.0.1 t.0.left x.1 in
           let form : f.0.0 ≡ 0 = eqb-true f.0.0 0 zero_is in
           subst (λ (p : GuidArg × List ℕ). Takes bytes (guid_arg_bytes p.0) p.1 × IsGuidArg p.0) (same_Some (Inline x.0.0, x.0.1) (g, rest) x.2)
@@ -222,8 +222,8 @@ little_again width n rest fits =
     let long : nat_le width (length (little_bytes width n ++ rest)) ≡ true = long_tested width _ (omega (arith, length-append (little_bytes width n) rest, length-little width n)) in
     rw (long, little_reads width n rest fits, drop_at (little_bytes width n) rest width (length-little width n)) refl
 
-guid_again : (g : Guid) (rest : List ℕ) → length g.0 ≡ 16 → guid_at (g.0 ++ rest) ≡ Some (g, rest)
-unfolding guid_at
+guid_again : (g : Guid) (rest : List ℕ) → length g.0 ≡ 16 → guid_front (g.0 ++ rest) ≡ Some (g, rest)
+unfolding guid_front
 guid_again g rest whole =
     let long : nat_le 16 (length (g.0 ++ rest)) ≡ true = long_tested 16 _ (omega (arith, length-append g.0 rest)) in
     rw (long, take_at g.0 rest 16 whole, drop_at g.0 rest 16 whole) refl

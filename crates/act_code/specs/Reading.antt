@@ -5,6 +5,7 @@ use Rattle.pi_base.specs.Field.{little_number}
 use Rattle.pi_base.specs.declared.word.Word.{Word}
 use Rattle.pi_base.specs.declared.word.Word.TheVariants.{Success, InvalidParameter, NotFound, OutOfResources, NotAvailableYet, AlreadyStarted, AccessDenied}
 use Rattle.pi_base.specs.declared.guid.Guid.{Guid}
+use Rattle.pi_base.specs.Guids.{guid_at}
 use Rattle.pi_base.specs.declared.phase.Phase.{Phase}
 use Rattle.act_code.specs.declared.action.GuidArg.{GuidArg}
 use Rattle.act_code.specs.declared.action.GuidArg.TheVariants.{Inline, Register}
@@ -44,8 +45,8 @@ within_at low high bytes = do
 unfoldable pub little_at : ℕ → List ℕ → Option (ℕ × List ℕ)
 little_at width bytes = only_if (nat_le width (length bytes)) (little_number width bytes, drop width bytes)
 
-unfoldable pub guid_at : List ℕ → Option (Guid × List ℕ)
-guid_at bytes = only_if (nat_le 16 (length bytes)) (record { 0 = take 16 bytes }, drop 16 bytes)
+unfoldable pub guid_front : List ℕ → Option (Guid × List ℕ)
+guid_front bytes = only_if (nat_le 16 (length bytes)) (guid_at bytes 0, drop 16 bytes)
 
 -- the word of a number
 abbrev pub word_of : ℕ → Option Word
@@ -83,7 +84,7 @@ text_at bytes = do
 unfoldable pub guid_arg_at : List ℕ → Option (GuidArg × List ℕ)
 guid_arg_at bytes = do
   form ← within_at 0 1 bytes
-  if form.0 == 0 then guid_at form.1 >>= (λ guid. Some (Inline guid.0, guid.1)) else byte_at form.1 >>= (λ v. Some (Register v.0, v.1))
+  if form.0 == 0 then guid_front form.1 >>= (λ guid. Some (Inline guid.0, guid.1)) else byte_at form.1 >>= (λ v. Some (Register v.0, v.1))
 
 unfoldable pub descriptor_at : List ℕ → Option ((ℕ × GuidArg × ℕ) × List ℕ)
 descriptor_at bytes = do
@@ -107,7 +108,7 @@ read (Within low high) bytes = within_at low high bytes
 read RegisterNumber bytes = byte_at bytes
 read BlockNumber bytes = byte_at bytes
 read (Little width) bytes = little_at width bytes
-read GuidBytes bytes = guid_at bytes
+read GuidBytes bytes = guid_front bytes
 read WordNumber bytes = word_at bytes
 read Counted bytes = counted_at 64 bytes
 read Text bytes = text_at bytes

@@ -20,6 +20,14 @@ pub enum Stop {
     Memory,
 }
 
+impl From<ActFault> for Stop {
+    ghost from_gives = { λ fault e. e ≡ stop.Fault fault };
+
+    fn from(fault: ActFault) -> Stop {
+        Stop::Fault(fault)
+    }
+}
+
 impl From<OutOfMemory> for Stop {
     ghost from_gives = { λ _ e. e ≡ stop.Memory };
 

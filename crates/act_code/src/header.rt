@@ -1,6 +1,6 @@
 // The header of a script.
 ghost use Rattle.std.specs.Prelude.{◌≡◌, ◌≤◌, length};
-ghost use Rattle.act_code.specs.Header.{header_at, fields_of, phase_of};
+ghost use Rattle.act_code.specs.Header.{header_at, fields_of, phase_of, is_magic};
 
 use crate::fault::{ActCause, ActFault};
 use pi_base::Phase;
@@ -10,15 +10,19 @@ use pi_base::Phase;
 pub struct Header {
     /// The length of the whole script.
     pub size: usize,
+    /// The phase whose actions it has.
     pub phase: Phase,
     /// The number of blocks.
     pub blocks: u8,
 }
 
-/// The bytes of the header.
+/// The first bytes of a script.
+pub const MAGIC: [u8; 4] = *b"PIAS";
+
+/// The length of the header, in bytes.
 pub const HEADER_LEN: usize = 8;
 
-/// The most bytes of a script.
+/// The greatest length of a script, in bytes.
 pub const MOST_SCRIPT: usize = 65536;
 
 /// The most blocks of a script.
@@ -84,18 +88,21 @@ fn fields(size: usize, version: u8, phase: u8, blocks: u8, zero: u8) -> Result<H
     }
 }
 
+// Whether these bytes are the first ones of a script.
+fn is_magic(a: u8, b: u8, c: u8, d: u8) -> bool
+    ensures { result ≡ is_magic a b c d }
+{
+    a == MAGIC[0] && b == MAGIC[1] && c == MAGIC[2] && d == MAGIC[3]
+}
+
 /// The header of a script, or its first fault.
 pub fn read_header(bytes: &[u8]) -> Result<Header, ActFault>
     ensures { result ≡ header_at bytes.now }
 {
     match bytes {
-        [b'P', b'I', b'A', b'S', version, phase, blocks, zero, ..] => fields(
-            bytes.len(),
-            *version,
-            *phase,
-            *blocks,
-            *zero,
-        ),
+        [a, b, c, d, version, phase, blocks, zero, ..] if is_magic(*a, *b, *c, *d) => {
+            fields(bytes.len(), *version, *phase, *blocks, *zero)
+        }
         _ => Err(fault(0, ActCause::Magic)),
     }
 }

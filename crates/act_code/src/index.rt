@@ -6,8 +6,8 @@ ghost use Rattle.act_code.specs.Format.{registers_in, blocks_in, Descriptor, Reg
 
 use crate::action::{Action, GuidArg};
 
-/// The registers of a frame.
-const REGISTERS: u8 = 16;
+/// How many registers a frame has.
+pub const REGISTERS: u8 = 16;
 
 /// The kind of a descriptor of a PPI.
 const PPI: u8 = 0;

@@ -20,6 +20,8 @@ mod writing;
 
 pub use action::{Action, GuidArg};
 pub use fault::{ActCause, ActFault, WriteFault};
+pub use header::{MAGIC, MOST_BLOCKS, MOST_SCRIPT};
+pub use index::REGISTERS;
 pub use laws::one_outcome;
 pub use reading::read_script;
 pub use script::Script;

@@ -2,11 +2,11 @@
 ghost use Rattle.std.specs.Prelude.{◌≡◌, ◌<◌};
 ghost use Rattle.std.specs.List.{list_all};
 ghost use Rattle.act_code.specs.Format.{is_within, is_hob};
-ghost use Rattle.act_code.specs.Reading.{Gives, byte_at, within_at, little_at, guid_at, word_at, bytes_at, counted_at, text_at, guid_arg_at, hob_at};
+ghost use Rattle.act_code.specs.Reading.{Gives, byte_at, within_at, little_at, guid_front, word_at, bytes_at, counted_at, text_at, guid_arg_at, hob_at};
 ghost use Rattle.act_code.specs.declared.operand.Unread.TheVariants as unread;
 
 use crate::action::GuidArg;
-use pi_base::{Guid, OutOfMemory, Seq, Word, u16_at, u32_at, u64_at};
+use pi_base::{GUID_LEN, Guid, OutOfMemory, Seq, Word, u16_at, u32_at, u64_at};
 use std::alloc::Global;
 
 /// Why an action was not read.
@@ -36,9 +36,6 @@ pub const GUID_FOLLOWS: u8 = 0;
 
 /// The form of a GUID operand that is the number of a register.
 pub const REGISTER_FOLLOWS: u8 = 1;
-
-/// The bytes of a GUID.
-const GUID_LEN: usize = 16;
 
 /// A byte.
 #[tactic(auto, unfolding(crate::specs::Reading::byte_at))]
@@ -98,17 +95,14 @@ pub fn number_8(bytes: &[u8]) -> Result<(u64, &[u8]), Unread>
 }
 
 /// A GUID.
-#[tactic(auto, unfolding(crate::specs::Reading::guid_at))]
+#[tactic(auto, unfolding(crate::specs::Reading::guid_front))]
 pub fn guid(bytes: &[u8]) -> Result<(Guid, &[u8]), Unread>
-    ensures { Gives (λ x. (x.0, x.1.now)) result (guid_at bytes.now) }
+    ensures { Gives (λ x. (x.0, x.1.now)) result (guid_front bytes.now) }
 {
     if bytes.len() < GUID_LEN {
         return Err(Unread::Malformed);
     }
-    let (front, rest) = bytes.split_at(GUID_LEN);
-    let mut stored = [0; GUID_LEN];
-    stored.copy_from_slice(front);
-    Ok((Guid(stored), rest))
+    Ok((Guid::at(bytes, 0), &bytes[GUID_LEN..]))
 }
 
 // So many bytes.

@@ -32,13 +32,13 @@ fn body(alloc: Global, header: Header, bytes: &[u8]) -> Result<Script, Stop>
 fn read_all(alloc: Global, bytes: &[u8]) -> Result<Script, Stop>
     ensures { Gives (λ s. s) result (script_at bytes.now) }
 {
-    match read_header(bytes) {
-        Ok(header) => body(alloc, header, &bytes[HEADER_LEN..]),
-        Err(fault) => Err(Stop::Fault(fault)),
-    }
+    let header = read_header(bytes)?;
+    body(alloc, header, &bytes[HEADER_LEN..])
 }
 
 /// The script that the bytes are, all of them.
+///
+/// The fault is the first in reading order. At one action `Action` comes first, then `Index`, then `Jump`; a block whose last action is no `ret` is found behind that action.
 pub fn read_script(alloc: Global, bytes: &[u8]) -> Result<Script, ActFault>
     // What is read is spelled so.
     ensures read { IfOk result (IsScript bytes.now) }

@@ -8,7 +8,7 @@ ghost use Rattle.act_code.specs.declared.fault.WriteFault.TheVariants as write_f
 use crate::action::Action;
 use crate::action_writing::{bytes_2, put_action};
 use crate::fault::WriteFault;
-use crate::header::{DXE, MOST_SCRIPT, PEI, VERSION};
+use crate::header::{DXE, HEADER_LEN, MAGIC, MOST_SCRIPT, PEI, VERSION};
 use crate::script::Script;
 use pi_base::{OutOfMemory, Phase, Seq};
 use std::alloc::Global;
@@ -24,14 +24,14 @@ fn phase_byte(phase: Phase) -> u8
 }
 
 // The header of a script of so many blocks.
-fn header_bytes(phase: Phase, blocks: u8) -> [u8; 8]
+fn header_bytes(phase: Phase, blocks: u8) -> [u8; HEADER_LEN]
     ensures { result ≡ header_bytes phase blocks }
 {
     [
-        b'P',
-        b'I',
-        b'A',
-        b'S',
+        MAGIC[0],
+        MAGIC[1],
+        MAGIC[2],
+        MAGIC[3],
         VERSION,
         phase_byte(phase),
         blocks,

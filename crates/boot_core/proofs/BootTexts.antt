@@ -2,21 +2,24 @@
 use Rattle.std.proofs.Common.{◌≡◌, ℕ, List, [], ◌∷◌, ◌++◌, Option, Some, None, option_map, append_assoc, sym, ap, ◌∙◌}
 use Rattle.std.proofs.lemmas.List.{append-nil}
 use Rattle.std.proofs.lemmas.Grind.{flat_map-append}
-use Rattle.boot_model.specs.declared.catalog.Catalog.{Catalog}
+use Rattle.catalog_model.specs.declared.catalog.Catalog.{Catalog}
 use Rattle.boot_model.specs.declared.line.Line.TheVariants as L
 use Rattle.boot_model.specs.declared.line.RunEnd.{RunEnd}
 use Rattle.boot_model.specs.declared.line.RunEnd.TheVariants as E
 use Rattle.boot_model.specs.BootRun.{handle_lines, lines_after, both_lines, dxe_result}
-use Rattle.boot_model.specs.DxeMachine.{DxeMachine, DxeOutcome, Stopped}
+use Rattle.boot_model.specs.DxeMachine.{DxeMachine}
+use Rattle.boot_model.specs.declared.phase_end.DxeEnd.{DxeEnd}
 use Rattle.boot_model.specs.DxeRun.{dxe_end}
-use Rattle.boot_model.specs.HandleState.{no_handles}
+use Rattle.store_model.specs.HandleState.{no_handles}
 use Rattle.boot_model.specs.Listing.{store_lines}
-use Rattle.boot_model.specs.PeiMachine.{PeiMachine, PeiOutcome, HandsOff, NoMemory, NoIpl, Spent, Deep}
+use Rattle.boot_model.specs.PeiMachine.{PeiMachine}
+use Rattle.boot_model.specs.declared.phase_end.PeiEnd.{PeiEnd}
+use Rattle.boot_model.specs.declared.phase_end.PeiEnd.TheVariants.{Handoff, NoMemory, NoIpl, Spent, Deep}
 use Rattle.boot_model.specs.PeiRun.{pei_end}
-use Rattle.boot_model.specs.StoreState.{StoreState, Board}
+use Rattle.store_model.specs.StoreState.{StoreState, Board}
 use Rattle.boot_model.specs.Text.{line_text, text_of}
 use Rattle.boot_core.specs.BootEnd.{boot_text, end_of, end_after}
-use Rattle.boot_core.specs.Running.{closing, closing_text, result_text, dxe_behind, behind, dxe_text, text_behind, IsDone}
+use Rattle.boot_core.specs.Running.{closing, closing_text, result_text, dxe_behind, behind, dxe_text, text_behind, IsResult}
 
 -- the last lines where there is no handle
 closing_is : (s : StoreState) (end : RunEnd) → text_of (closing s no_handles end) ≡ closing_text s end
@@ -24,14 +27,16 @@ unfolding result_text
 closing_is s end =
     ap text_of (append_assoc (store_lines s) (handle_lines no_handles) (L.Result end ∷ [])) ∙ flat_map-append line_text (store_lines s) (L.Handles 0 ∷ L.Result end ∷ [])
 
--- a DXE that stopped, and one that has any end
-pub dxe_stopped : (s : StoreState) (dxe : DxeMachine) → dxe.ended ≡ Some Stopped → dxe.handles ≡ no_handles → text_of dxe.lines ++ closing_text s E.Done ≡ dxe_text s dxe
+-- a DXE that ended so without handles, and one that has any end
+pub dxe_stopped : (s : StoreState) (dxe : DxeMachine) (how : DxeEnd) → dxe.ended ≡ Some how → dxe.handles ≡ no_handles
+    → text_of dxe.lines ++ closing_text s (dxe_result how) ≡ dxe_text s dxe
 unfolding dxe_text
-dxe_stopped s dxe ended handles =
-    ap (λ t. text_of dxe.lines ++ t) (sym (closing_is s E.Done)) ∙ sym (flat_map-append line_text dxe.lines (closing s no_handles E.Done))
-    ∙ sym (ap (λ h. text_of (dxe.lines ++ closing s h E.Done)) handles) ∙ sym (ap (λ e. text_of (dxe_behind s dxe e)) ended)
+dxe_stopped s dxe how ended handles =
+    let end : RunEnd = dxe_result how in
+    ap (λ t. text_of dxe.lines ++ t) (sym (closing_is s end)) ∙ sym (flat_map-append line_text dxe.lines (closing s no_handles end))
+    ∙ sym (ap (λ h. text_of (dxe.lines ++ closing s h end)) handles) ∙ sym (ap (λ e. text_of (dxe_behind s dxe e)) ended)
 
-begins_by : (s : StoreState) (dxe : DxeMachine) (ended : Option DxeOutcome) → (rest : List ℕ) × (text_of (dxe_behind s dxe ended) ≡ text_of dxe.lines ++ rest)
+begins_by : (s : StoreState) (dxe : DxeMachine) (ended : Option DxeEnd) → (rest : List ℕ) × (text_of (dxe_behind s dxe ended) ≡ text_of dxe.lines ++ rest)
 begins_by s dxe None = ([], sym (append-nil (text_of dxe.lines)))
 begins_by s dxe (Some end) = (text_of (closing s dxe.handles (dxe_result end)), flat_map-append line_text dxe.lines (closing s dxe.handles (dxe_result end)))
 
@@ -40,13 +45,13 @@ unfolding dxe_text
 dxe_begins s dxe = begins_by s dxe dxe.ended
 
 -- what follows a hand-off, and its result
-pub handed_off : (catalog : Catalog) (fuel : ℕ) (m : PeiMachine) → m.ended ≡ Some HandsOff → dxe_text m.store (dxe_end catalog fuel m.store m.actions) ≡ text_behind catalog fuel m
+pub handed_off : (catalog : Catalog) (fuel : ℕ) (m : PeiMachine) → m.ended ≡ Some Handoff → dxe_text m.store (dxe_end catalog fuel m.store m.actions) ≡ text_behind catalog fuel m
 unfolding dxe_text text_behind
 handed_off catalog fuel m ended = sym (ap (λ e. text_of (behind catalog fuel m e)) ended)
 
-pub done_after : (catalog : Catalog) (fuel : ℕ) (m : PeiMachine) → m.ended ≡ Some HandsOff → (answer : RunEnd) → IsDone (dxe_end catalog fuel m.store m.actions) answer → end_after catalog fuel m m.ended ≡ Some answer
+pub done_after : (catalog : Catalog) (fuel : ℕ) (m : PeiMachine) → m.ended ≡ Some Handoff → (answer : RunEnd) → IsResult (dxe_end catalog fuel m.store m.actions) answer → end_after catalog fuel m m.ended ≡ Some answer
 done_after catalog fuel m ended answer done =
-    ap (end_after catalog fuel m) ended ∙ ap (option_map dxe_result) done.0 ∙ sym (ap Some done.1)
+    ap (end_after catalog fuel m) ended ∙ done
 
 -- what follows any other end of PEI
 pub ended_text : (catalog : Catalog) (fuel : ℕ) (m : PeiMachine) (end : RunEnd) → behind catalog fuel m m.ended ≡ closing m.store no_handles end → closing_text m.store end ≡ text_behind catalog fuel m
@@ -54,15 +59,15 @@ unfolding text_behind
 ended_text catalog fuel m end is = sym (closing_is m.store end) ∙ sym (ap text_of is)
 
 -- a boot is PEI and what follows it
-both_split : (m : PeiMachine) (dxe : DxeMachine) (ended : Option DxeOutcome) → text_of (both_lines m dxe ended) ≡ text_of m.lines ++ text_of (dxe_behind m.store dxe ended)
+both_split : (m : PeiMachine) (dxe : DxeMachine) (ended : Option DxeEnd) → text_of (both_lines m dxe ended) ≡ text_of m.lines ++ text_of (dxe_behind m.store dxe ended)
 both_split m dxe None = flat_map-append line_text m.lines dxe.lines
 both_split m dxe (Some end) =
     ap text_of (append_assoc m.lines dxe.lines (closing m.store dxe.handles (dxe_result end)))
     ∙ flat_map-append line_text m.lines (dxe.lines ++ closing m.store dxe.handles (dxe_result end))
 
-lines_split : (catalog : Catalog) (fuel : ℕ) (m : PeiMachine) (ended : Option PeiOutcome) → text_of (lines_after catalog fuel m ended) ≡ text_of m.lines ++ text_of (behind catalog fuel m ended)
+lines_split : (catalog : Catalog) (fuel : ℕ) (m : PeiMachine) (ended : Option PeiEnd) → text_of (lines_after catalog fuel m ended) ≡ text_of m.lines ++ text_of (behind catalog fuel m ended)
 lines_split catalog fuel m None = sym (append-nil (text_of m.lines))
-lines_split catalog fuel m (Some HandsOff) = both_split m (dxe_end catalog fuel m.store m.actions) (dxe_end catalog fuel m.store m.actions).ended
+lines_split catalog fuel m (Some Handoff) = both_split m (dxe_end catalog fuel m.store m.actions) (dxe_end catalog fuel m.store m.actions).ended
 lines_split catalog fuel m (Some NoMemory) = flat_map-append line_text m.lines (closing m.store no_handles E.NoMemory)
 lines_split catalog fuel m (Some NoIpl) = flat_map-append line_text m.lines (closing m.store no_handles E.NoIpl)
 lines_split catalog fuel m (Some Spent) = flat_map-append line_text m.lines (closing m.store no_handles E.Spent)

@@ -5,10 +5,10 @@ use Rattle.boot_plan.specs.declared.plan.Plan.{Plan}
 use Rattle.boot_plan.specs.declared.plan.PlanVolume.{PlanVolume}
 use Rattle.boot_plan.specs.declared.fault.PlanFault.{PlanFault}
 use Rattle.boot_plan.specs.PlanText.{IsPlan, IsPlanFault}
-use Rattle.boot_model.specs.declared.catalog.Catalog.{Catalog}
-use Rattle.boot_model.specs.declared.image_fault.ImageFault.{ImageFault}
-use Rattle.boot_model.specs.Catalogue.{IsCatalogue}
-use Rattle.boot_model.specs.ImageFault.{IsImageFault}
+use Rattle.catalog_model.specs.declared.catalog.Catalog.{Catalog}
+use Rattle.catalog_model.specs.declared.image_fault.ImageFault.{ImageFault}
+use Rattle.catalog_model.specs.Catalogue.{IsCatalogue}
+use Rattle.catalog_model.specs.ImageFault.{IsImageFault}
 use Rattle.boot_model.specs.PlanBoard.{board_of}
 use Rattle.boot_model.specs.declared.line.RunEnd.{RunEnd}
 use Rattle.boot_core.specs.declared.status.Status.{Status}
@@ -19,7 +19,7 @@ use Rattle.boot_core.specs.FileReading.{IsRead, IsLong, LongVolume, AreImages, I
 use Rattle.boot_core.specs.Outcome.{Outcome, PlanOutcome, TextOutcome, TextNames, VolumesOutcome, ImagesOutcome, CatalogOutcome, Trail, Kind, OfFiles, OfSink, OfMemory, OfAnswer, Ends, EndsBy, Answered, kind_of, words_usage, words_ask, plan_long, plan_file, plan_refused, plan_read, volume_long, volumes_read, image_refused, images_sound, audited, to_boot, booted, not_built, BootOutcome}
 use Rattle.boot_core.specs.BootEnd.{end_of, status_of}
 use Rattle.boot_core.specs.Causes.{AreTold, IsToldAsBytes, LeadsTo, IsStopped, ComesExactly}
-use Rattle.boot_model.specs.Lists.{Each}
+use Rattle.pi_base.specs.Lists.{Each}
 use Rattle.pi_base.specs.Field.{AreBytes}
 
 -- the laws of plans and images: a text has one plan, and never a fault beside it; images have one catalogue, and never a fault beside it

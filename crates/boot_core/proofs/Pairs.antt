@@ -4,7 +4,7 @@ use Rattle.std.specs.Prelude.{All}
 use Rattle.std.proofs.lemmas.List.{take_more, drop_more, take-append-drop}
 use Rattle.std.proofs.lemmas.List.Elements.{All-nil, All-cons}
 use Rattle.boot_plan.specs.declared.plan.PlanVolume.{PlanVolume}
-use Rattle.boot_model.specs.Lists.{EachPair}
+use Rattle.pi_base.specs.Lists.{EachPair}
 use Rattle.boot_core.specs.FileReading.{IsRead, AreImages}
 
 -- a pair more

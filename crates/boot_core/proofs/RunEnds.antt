@@ -2,36 +2,38 @@
 use Rattle.std.proofs.Common.{◌≡◌, ℕ, true, false, List, Option, Some, None, Result, Ok, Err, is_some, option_map, refl, sym, inl, inr, subst, true≢false}
 use Rattle.std.specs.Prelude.{⊤}
 use Rattle.boot_plan.specs.declared.plan.Plan.{Plan}
-use Rattle.boot_model.specs.declared.catalog.Catalog.{Catalog}
+use Rattle.catalog_model.specs.declared.catalog.Catalog.{Catalog}
 use Rattle.boot_model.specs.declared.line.RunEnd.{RunEnd}
 use Rattle.boot_model.specs.declared.line.RunEnd.TheVariants as E
 use Rattle.boot_model.specs.BootRun.{dxe_result}
-use Rattle.boot_model.specs.DxeMachine.{DxeOutcome}
+use Rattle.boot_model.specs.declared.phase_end.DxeEnd.{DxeEnd}
 use Rattle.boot_model.specs.DxeRun.{dxe_end}
-use Rattle.boot_model.specs.PeiMachine.{PeiMachine, PeiOutcome, HandsOff, NoMemory, NoIpl, Spent, Deep}
+use Rattle.boot_model.specs.PeiMachine.{PeiMachine}
+use Rattle.boot_model.specs.declared.phase_end.PeiEnd.{PeiEnd}
+use Rattle.boot_model.specs.declared.phase_end.PeiEnd.TheVariants.{Handoff, NoMemory, NoIpl, Spent, Deep}
 use Rattle.boot_model.specs.PeiRun.{pei_end}
 use Rattle.boot_model.specs.PlanBoard.{board_of}
-use Rattle.boot_model.specs.StoreState.{Board}
-use Rattle.boot_model.specs.WellFormed.{AreNumbered}
+use Rattle.store_model.specs.StoreState.{Board}
+use Rattle.catalog_model.specs.WellFormed.{AreNumbered}
 use Rattle.boot_laws.specs.RunsEnd.{PeiRunsEnd, DxeRunsEnd}
 use Rattle.boot_core.specs.declared.status.Status.{Status}
-use Rattle.pei_dispatch.specs.declared.answer.Broken.{Broken}
-use Rattle.pei_dispatch.specs.declared.answer.Broken.TheVariants as B
+use Rattle.boot_io.specs.declared.halt.Halt.{Halt}
+use Rattle.boot_io.specs.declared.halt.Halt.TheVariants as H
 use Rattle.boot_core.specs.BootEnd.{end_after, end_of, boot_text, status_of}
-use Rattle.boot_core.specs.Outcome.{Kind, OfAnswer, EndsBy, Ends, Answered, SinkFailed, Begun, BootOutcome, Trail, booted, kind_of}
+use Rattle.boot_core.specs.Outcome.{Kind, OfAnswer, EndsBy, Ends, Answered, SinkFailed, Begun, BootOutcome, Trail, IsOfRun, booted, kind_of}
 use Rattle.boot_core.specs.Outcome as O
 use Rattle.boot_core.specs.Running.{RunsTo, status_after_run}
-use Rattle.pei_dispatch.specs.Ends.{BrokenAfter}
+use Rattle.boot_io.specs.Halted.{HaltsAfter}
 use Rattle.dxe_stop.specs.Drivers.{has_drivers}
 
 -- each boot has a result
-mapped_end : (ended : Option DxeOutcome) → is_some ended ≡ true → (end : RunEnd) × (option_map dxe_result ended ≡ Some end)
+mapped_end : (ended : Option DxeEnd) → is_some ended ≡ true → (end : RunEnd) × (option_map dxe_result ended ≡ Some end)
 mapped_end None some = absurd (true≢false (sym some))
 mapped_end (Some end) some = (dxe_result end, refl)
 
-some_end : (catalog : Catalog) (fuel : ℕ) (m : PeiMachine) (ended : Option PeiOutcome) → is_some ended ≡ true → is_some (dxe_end catalog fuel m.store m.actions).ended ≡ true → (end : RunEnd) × (end_after catalog fuel m ended ≡ Some end)
+some_end : (catalog : Catalog) (fuel : ℕ) (m : PeiMachine) (ended : Option PeiEnd) → is_some ended ≡ true → is_some (dxe_end catalog fuel m.store m.actions).ended ≡ true → (end : RunEnd) × (end_after catalog fuel m ended ≡ Some end)
 some_end catalog fuel m None some dxe = absurd (true≢false (sym some))
-some_end catalog fuel m (Some HandsOff) some dxe = mapped_end (dxe_end catalog fuel m.store m.actions).ended dxe
+some_end catalog fuel m (Some Handoff) some dxe = mapped_end (dxe_end catalog fuel m.store m.actions).ended dxe
 some_end catalog fuel m (Some NoMemory) some dxe = (E.NoMemory, refl)
 some_end catalog fuel m (Some NoIpl) some dxe = (E.NoIpl, refl)
 some_end catalog fuel m (Some Spent) some dxe = (E.Spent, refl)
@@ -51,12 +53,20 @@ answer_of E.NoIpl = refl
 answer_of E.Spent = refl
 answer_of E.Deep = refl
 
+-- and is a run's
+ran_of : (end : RunEnd) → IsOfRun (status_of end)
+ran_of E.Done = tt
+ran_of E.NoMemory = tt
+ran_of E.NoIpl = tt
+ran_of E.Spent = tt
+ran_of E.Deep = tt
+
 -- what a call left that has no files
 abbrev left_by : Option (List ℕ) → Option (List ℕ) → ℕ → ℕ → Trail
 left_by old new sb sn = record { old = old; new = new; sink_before = sb; sink_now = sn; files_before = 0; files_now = 0; missed = None }
 
-pub run_ends : PeiRunsEnd → DxeRunsEnd → (ran : Result RunEnd Broken) (plan : Plan) (catalog : Catalog) (images : List (List ℕ)) (result : Status) (old new : Option (List ℕ)) (sb sn : ℕ) → AreNumbered 0 catalog.volumes
-    → result ≡ status_after_run ran → has_drivers catalog ≡ false → RunsTo (board_of plan catalog images) catalog plan.fuel (record { old = old; new = new }) ran → BrokenAfter ran sb sn
+pub run_ends : PeiRunsEnd → DxeRunsEnd → (ran : Result RunEnd Halt) (plan : Plan) (catalog : Catalog) (images : List (List ℕ)) (result : Status) (old new : Option (List ℕ)) (sb sn : ℕ) → AreNumbered 0 catalog.volumes
+    → result ≡ status_after_run ran → has_drivers catalog ≡ false → RunsTo (board_of plan catalog images) catalog plan.fuel (record { old = old; new = new }) ran → HaltsAfter ran sb sn
     → Ends (BootOutcome plan catalog images) (λ _. ⊥) ⊤ result (record { old = old; new = new; sink_before = sb; sink_now = sn; files_before = 0; files_now = 0; missed = None })
 run_ends pei dxe (Ok end) plan catalog images result old new sb sn numbered is none told counted =
     let board = board_of plan catalog images in
@@ -67,7 +77,7 @@ run_ends pei dxe (Ok end) plan catalog images result old new sb sn numbered is n
     let outcome : Out (status_of end) (boot_text board catalog plan.fuel) = booted end none told.0 refl refl in
     let answered : Answered Out (status_of end) t = record { sink = counted; files = refl; text = boot_text board catalog plan.fuel; outcome = outcome; whole = told.1 } in
     subst Q (sym is) (subst P (sym (answer_of end)) answered)
-run_ends pei dxe (Err B.SinkFault) plan catalog images result old new sb sn numbered is none told counted =
+run_ends pei dxe (Err H.Sink) plan catalog images result old new sb sn numbered is none told counted =
     let board = board_of plan catalog images in
     let t : Trail = left_by old new sb sn in
     let Out : Status → List ℕ → Type 0 = BootOutcome plan catalog images in
@@ -76,13 +86,13 @@ run_ends pei dxe (Err B.SinkFault) plan catalog images result old new sb sn numb
     let outcome : Out (status_of ends.0) (boot_text board catalog plan.fuel) = booted ends.0 none ends.1 refl refl in
     let failed : SinkFailed Out (λ _. ⊥) t = record { sink = counted.1; text = boot_text board catalog plan.fuel; cause = inl (status_of ends.0, outcome); part = told } in
     subst Q (sym is) failed
-run_ends pei dxe (Err B.Memory) plan catalog images result old new sb sn numbered is none told counted =
+run_ends pei dxe (Err H.Memory) plan catalog images result old new sb sn numbered is none told counted =
     let board = board_of plan catalog images in
     let t : Trail = left_by old new sb sn in
     let Out : Status → List ℕ → Type 0 = BootOutcome plan catalog images in
     let Q : Status → Type 0 = λ s. Ends Out (λ _. ⊥) ⊤ s t in
     let ends = boot_ends pei dxe board catalog plan.fuel numbered in
     let outcome : Out (status_of ends.0) (boot_text board catalog plan.fuel) = booted ends.0 none ends.1 refl refl in
-    let begun : Begun Out ⊤ old new = record { boots = tt; status = status_of ends.0; text = boot_text board catalog plan.fuel; outcome = outcome; part = told } in
+    let begun : Begun Out ⊤ old new = record { boots = tt; status = status_of ends.0; ran = ran_of ends.0; text = boot_text board catalog plan.fuel; outcome = outcome; part = told } in
     let wanting : O.NoMemory Out ⊤ t = record { sink = counted; files = refl; kept = inr begun } in
     subst Q (sym is) wanting

@@ -3,11 +3,11 @@ use Rattle.std.proofs.Common.{◌≡◌, ◌≤◌, ◌+◌, ℕ, List, [], ◌�
 use Rattle.std.proofs.lemmas.List.{length-append}
 use Rattle.boot_plan.specs.declared.plan.Plan.{Plan}
 use Rattle.boot_plan.specs.declared.plan.PlanVolume.{PlanVolume}
-use Rattle.boot_model.specs.declared.catalog.Catalog.{Catalog}
-use Rattle.boot_model.specs.declared.catalog.VolumeEntry.{VolumeEntry}
-use Rattle.boot_model.specs.Catalogue.{IsCatalogue, IsPlaced, PlanHolds}
-use Rattle.boot_model.specs.Totals.{Holding}
-use Rattle.boot_model.specs.VolumeTree.{joined, nothing}
+use Rattle.catalog_model.specs.declared.catalog.Catalog.{Catalog}
+use Rattle.catalog_model.specs.declared.catalog.VolumeEntry.{VolumeEntry}
+use Rattle.catalog_model.specs.Catalogue.{IsCatalogue, IsPlaced, PlanHolds}
+use Rattle.catalog_model.specs.declared.holding.Holding.{Holding}
+use Rattle.catalog_model.specs.Holding.{joined, nothing}
 
 -- what was held before stays
 held_more : (plan : Plan) (before holding : Holding) (volumes : List PlanVolume) (images : List (List ℕ)) → PlanHolds plan before volumes images holding → length before.volumes ≤ length holding.volumes

@@ -2,7 +2,7 @@
 use Rattle.std.specs.Prelude.{◌≡◌, ℕ, ◌<◌, ◌≤◌, List, ◌∷◌, ◌++◌, length, Option}
 use Rattle.boot_io.specs.Files.{IsTold}
 use Rattle.boot_plan.specs.declared.plan.PlanVolume.{PlanVolume}
-use Rattle.boot_model.specs.Lists.{EachPair}
+use Rattle.pi_base.specs.Lists.{EachPair}
 use Rattle.boot_core.specs.declared.status.Status.{Status}
 use Rattle.boot_core.specs.declared.status.Status.TheVariants.{TooLong}
 use Rattle.boot_core.specs.Lines.{long_line}
@@ -44,6 +44,16 @@ pub record LongVolume (told : List ℕ → Option (List ℕ)) (volumes : List Pl
   pub these : volumes ≡ before ++ volume ∷ behind
   pub read : AreImages told before images
   pub long : LongOutcome (told volume.name) volume_limit volume.name status text
+
+-- a name of the file of one of some volumes, where each file before it is read within its limit: the files are read in order
+pub record IsReached (told : List ℕ → Option (List ℕ)) (volumes : List PlanVolume) (name : List ℕ) : Type 0 where
+  pub before : List PlanVolume
+  pub volume : PlanVolume
+  pub behind : List PlanVolume
+  pub images : List (List ℕ)
+  pub these : volumes ≡ before ++ volume ∷ behind
+  pub read : AreImages told before images
+  pub is : name ≡ volume.name
 
 -- a name of the file of one of some volumes
 pub record IsVolumeName (volumes : List PlanVolume) (name : List ℕ) : Type 0 where

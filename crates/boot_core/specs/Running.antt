@@ -1,34 +1,39 @@
 -- What the parts of a boot leave, by their answers: their whole text, or a part of it where the sink fails or memory is wanting.
 -- Own.
-use Rattle.std.specs.Prelude.{◌≡◌, ℕ, List, [], ◌∷◌, ◌++◌, Option, Some, None, Result, Ok, Err}
+use Rattle.std.specs.Prelude.{◌≡◌, ℕ, List, [], ◌∷◌, ◌++◌, Option, Some, None, option_map, Result, Ok, Err}
 use Rattle.std.specs.Io.KnownBytes.{Appends}
 use Rattle.boot_io.specs.Sink.{AppendsPart}
-use Rattle.boot_model.specs.declared.catalog.Catalog.{Catalog}
+use Rattle.catalog_model.specs.declared.catalog.Catalog.{Catalog}
 use Rattle.boot_model.specs.declared.line.Line.{Line}
 use Rattle.boot_model.specs.declared.line.Line.TheVariants as L
 use Rattle.boot_model.specs.declared.line.RunEnd.{RunEnd}
 use Rattle.boot_model.specs.declared.line.RunEnd.TheVariants as E
 use Rattle.boot_model.specs.BootRun.{handle_lines, dxe_result}
-use Rattle.boot_model.specs.DxeMachine.{DxeMachine, DxeOutcome, Stopped}
+use Rattle.boot_model.specs.DxeMachine.{DxeMachine}
+use Rattle.boot_model.specs.declared.phase_end.DxeEnd.{DxeEnd}
 use Rattle.boot_model.specs.DxeRun.{dxe_end}
-use Rattle.boot_model.specs.HandleState.{HandleState, no_handles}
+use Rattle.store_model.specs.HandleState.{HandleState, no_handles}
 use Rattle.boot_model.specs.Listing.{store_lines}
-use Rattle.boot_model.specs.PeiMachine.{PeiMachine, PeiOutcome, HandsOff, NoMemory, NoIpl, Spent, Deep}
-use Rattle.boot_model.specs.StoreState.{StoreState, Board}
+use Rattle.boot_model.specs.PeiMachine.{PeiMachine}
+use Rattle.boot_model.specs.declared.phase_end.PeiEnd.{PeiEnd}
+use Rattle.boot_model.specs.declared.phase_end.PeiEnd.TheVariants.{Handoff, NoMemory, NoIpl, Spent, Deep}
+use Rattle.store_model.specs.StoreState.{StoreState, Board}
 use Rattle.boot_model.specs.Text.{text_of}
-use Rattle.pei_dispatch.specs.declared.answer.Broken.{Broken}
-use Rattle.pei_dispatch.specs.declared.answer.Broken.TheVariants as B
-use Rattle.dxe_stop.specs.declared.stop.Broken.{Broken as DxeBroken}
-use Rattle.dxe_stop.specs.declared.stop.Broken.TheVariants as X
+use Rattle.boot_io.specs.declared.halt.Halt.{Halt}
+use Rattle.boot_io.specs.declared.halt.Halt.TheVariants as H
 use Rattle.boot_core.specs.declared.status.Status.{Status}
 use Rattle.boot_core.specs.declared.status.Status.TheVariants as V
 use Rattle.boot_core.specs.BootEnd.{end_of, boot_text, status_of}
-use Rattle.pei_core.specs.Leaves.{Texts}
+
+-- a sink's text before and after
+pub record Texts : Type 0 where
+  pub old : Option (List ℕ)
+  pub new : Option (List ℕ)
 
 -- by the answer: a value that is as it should be with the whole text, or a part of the text
-abbrev pub Tells : {A : Type 0} → (A → Type 0) → List ℕ → Texts → Result A Broken → Type 0
+abbrev pub Tells : {A : Type 0} → (A → Type 0) → List ℕ → Texts → Result A Halt → Type 0
 Tells Is text t (Ok answer) = Is answer × Appends t.old t.new text
-Tells Is text t (Err broken) = AppendsPart t.old t.new text
+Tells Is text t (Err halt) = AppendsPart t.old t.new text
 
 -- the last lines over a store
 abbrev pub closing : StoreState → HandleState → RunEnd → List Line
@@ -42,27 +47,22 @@ abbrev pub closing_text : StoreState → RunEnd → List ℕ
 closing_text s end = text_of (store_lines s) ++ result_text end
 
 -- the lines behind the hand-off
-abbrev pub dxe_behind : StoreState → DxeMachine → Option DxeOutcome → List Line
+abbrev pub dxe_behind : StoreState → DxeMachine → Option DxeEnd → List Line
 dxe_behind s dxe None = dxe.lines
 dxe_behind s dxe (Some end) = dxe.lines ++ closing s dxe.handles (dxe_result end)
 
 -- the lines behind a PEI that has ended so
-abbrev pub behind : Catalog → ℕ → PeiMachine → Option PeiOutcome → List Line
+abbrev pub behind : Catalog → ℕ → PeiMachine → Option PeiEnd → List Line
 behind catalog fuel pei None = []
-behind catalog fuel pei (Some HandsOff) = dxe_behind pei.store (dxe_end catalog fuel pei.store pei.actions) (dxe_end catalog fuel pei.store pei.actions).ended
+behind catalog fuel pei (Some Handoff) = dxe_behind pei.store (dxe_end catalog fuel pei.store pei.actions) (dxe_end catalog fuel pei.store pei.actions).ended
 behind catalog fuel pei (Some NoMemory) = closing pei.store no_handles E.NoMemory
 behind catalog fuel pei (Some NoIpl) = closing pei.store no_handles E.NoIpl
 behind catalog fuel pei (Some Spent) = closing pei.store no_handles E.Spent
 behind catalog fuel pei (Some Deep) = closing pei.store no_handles E.Deep
 
--- DXE that stopped is done
-abbrev pub IsDone : DxeMachine → RunEnd → Type 0
-IsDone dxe end = (dxe.ended ≡ Some Stopped) × (end ≡ E.Done)
-
--- why DXE did not come to its end
-abbrev pub broken_in_dxe : DxeBroken → Broken
-broken_in_dxe X.SinkFault = B.SinkFault
-broken_in_dxe X.Memory = B.Memory
+-- the result of DXE
+abbrev pub IsResult : DxeMachine → RunEnd → Type 0
+IsResult dxe end = option_map dxe_result dxe.ended ≡ Some end
 
 -- a DXE from the hand-off to the last line
 unfoldable pub dxe_text : StoreState → DxeMachine → List ℕ
@@ -73,11 +73,11 @@ unfoldable pub text_behind : Catalog → ℕ → PeiMachine → List ℕ
 text_behind catalog fuel pei = text_of (behind catalog fuel pei pei.ended)
 
 -- a boot, from its first line to its last
-abbrev pub RunsTo : Board → Catalog → ℕ → Texts → Result RunEnd Broken → Type 0
+abbrev pub RunsTo : Board → Catalog → ℕ → Texts → Result RunEnd Halt → Type 0
 RunsTo board catalog fuel t ran = Tells (λ end. end_of board catalog fuel ≡ Some end) (boot_text board catalog fuel) t ran
 
 -- the status of a boot that ran, or of why it did not come to its end
-abbrev pub status_after_run : Result RunEnd Broken → Status
+abbrev pub status_after_run : Result RunEnd Halt → Status
 status_after_run (Ok end) = status_of end
-status_after_run (Err B.SinkFault) = V.SinkFault
-status_after_run (Err B.Memory) = V.Memory
+status_after_run (Err H.Sink) = V.SinkFault
+status_after_run (Err H.Memory) = V.Memory

@@ -2,7 +2,7 @@
 ghost use Rattle.std.specs.Prelude.{◌≡◌, take, IfOk};
 ghost use Rattle.boot_model.specs.PlanBoard.{roms_of};
 
-use boot_model::VolumeEntry;
+use catalog_model::VolumeEntry;
 use phys_mem::Rom;
 use pi_base::{OutOfMemory, Seq};
 use std::alloc::Global;
@@ -33,10 +33,7 @@ pub(crate) fn roms(
     'entries: for entry in entries {
         if entry.parent.is_none() {
             match left.next() {
-                Some(image) => match roms.push(rom(entry, image)) {
-                    Ok(()) => {}
-                    Err(OutOfMemory) => return Err(OutOfMemory),
-                },
+                Some(image) => roms.push(rom(entry, image))?,
                 None => {}
             }
         }

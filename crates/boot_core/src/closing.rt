@@ -1,16 +1,16 @@
 // The last lines of a boot: the lists of its last store, the handles, and the result.
 ghost use Rattle.std.specs.Prelude.{◌≡◌};
 ghost use Rattle.boot_io.specs.Sink.{Puts, SinkFaultsAfter};
-ghost use Rattle.boot_model.specs.Service.{Present, OfEach};
-ghost use Rattle.boot_model.specs.StoreCall.{Anything};
+ghost use Rattle.store_model.specs.Service.{Present, OfEach};
+ghost use Rattle.store_model.specs.StoreCall.{Anything};
 ghost use Rattle.boot_core.specs.Running.{Tells, result_text, closing_text};
-ghost use Rattle.pei_dispatch.specs.Ends.{BrokenAfter};
+ghost use Rattle.boot_io.specs.Halted.{HaltsAfter};
 
 use crate::print::put_store_lists;
-use boot_io::{Sink, SinkFault};
-use boot_model::{Line, PeiStore, RunEnd};
+use boot_io::{Halt, Sink, SinkFault};
+use boot_model::{Line, RunEnd};
 use boot_trace::put_all;
-use pei_dispatch::Broken;
+use store_model::PeiStore;
 
 // The handles, of which there are none, and the result.
 #[tactic(auto, unfolding(crate::specs::Running::result_text))]
@@ -41,13 +41,11 @@ pub(crate) fn close<M: PeiStore, S: Sink>(
     store: &M,
     end: RunEnd,
     sink: &mut S,
-) -> Result<RunEnd, Broken>
+) -> Result<RunEnd, Halt>
     requires state { Present (M.stands_for store.now) Anything }
     ensures row { OfEach (M.stands_for store.now) Anything (λ s. Tells (λ answer. answer ≡ end) (closing_text s end) (record { old = S.text sink.old; new = S.text sink.new }) result) }
-    ensures faults { BrokenAfter result (S.faults sink.old) (S.faults sink.new) }
+    ensures faults { HaltsAfter result (S.faults sink.old) (S.faults sink.new) }
 {
-    match put_closing(sink, store, end) {
-        Ok(()) => Ok(end),
-        Err(SinkFault) => Err(Broken::SinkFault),
-    }
+    put_closing(sink, store, end)?;
+    Ok(end)
 }

@@ -1,13 +1,12 @@
 // The boot of a plan whose images have a catalogue.
 ghost use Rattle.std.specs.Prelude.{◌≡◌, ◌≤◌, [], None, false, length, ⊤};
-ghost use Rattle.boot_plan.specs.Range.{IsPlanInRange};
+ghost use Rattle.store_model.specs.StateFacts.{IsBoard};
 ghost use Rattle.boot_model.specs.PlanBoard.{board_of};
-ghost use Rattle.boot_model.specs.WellFormed.{IsWellFormed};
-ghost use Rattle.pei_choice.specs.Short.{AreShort};
+ghost use Rattle.catalog_model.specs.WellFormed.{IsWellFormed};
 ghost use Rattle.boot_core.specs.BootEnd.{status_of};
 ghost use Rattle.boot_core.specs.Outcome.{Ends, BootOutcome};
 ghost use Rattle.boot_core.specs.Running.{RunsTo, status_after_run};
-ghost use Rattle.pei_dispatch.specs.Ends.{BrokenAfter};
+ghost use Rattle.boot_io.specs.Halted.{HaltsAfter};
 ghost use Rattle.dxe_stop.specs.Drivers.{has_drivers};
 
 use crate::answer::answer;
@@ -15,14 +14,14 @@ use crate::board::roms;
 use crate::boot_run::boot_store;
 use crate::refusal_print::put_not_built;
 use crate::status::Status;
-use boot_io::Sink;
+use boot_io::{Halt, Sink};
 use boot_laws::{dxe_runs_end, pei_runs_end};
-use boot_model::{Catalog, RunEnd};
+use boot_model::RunEnd;
 use boot_plan::Plan;
+use catalog_model::Catalog;
 use dxe_stop::has_drivers;
-use pei_dispatch::Broken;
 use phys_mem::Rom;
-use pi_base::{OutOfMemory, Seq};
+use pi_base::Seq;
 use std::alloc::Global;
 use store_plain::PlainStore;
 
@@ -40,15 +39,13 @@ fn status_of(end: RunEnd) -> Status
 }
 
 // The status of a boot that ran, or of why it did not come to its end.
-fn answer_run(ran: Result<RunEnd, Broken>) -> Status
+fn answer_run(ran: Result<RunEnd, Halt>) -> Status
     ensures { result ≡ status_after_run ran }
 {
     match ran {
         Ok(end) => status_of(end),
-        Err(broken) => match broken {
-            Broken::SinkFault => Status::SinkFault,
-            Broken::Memory => Status::Memory,
-        },
+        Err(Halt::Sink) => Status::SinkFault,
+        Err(Halt::Memory) => Status::Memory,
     }
 }
 
@@ -59,14 +56,13 @@ fn boot_board<S: Sink>(
     catalog: &Catalog,
     roms: Seq<Rom>,
     sink: &mut S,
-) -> Result<RunEnd, Broken>
-    requires plan { IsPlanInRange plan.now }
+) -> Result<RunEnd, Halt>
+    requires board { IsBoard (record (board_of plan.now catalog.now []) { roms = roms }) }
     requires catalog { IsWellFormed catalog.now }
-    requires short { AreShort catalog.now }
     requires some { 1 ≤ length catalog.now.volumes }
     requires none { has_drivers catalog.now ≡ false }
     ensures row { RunsTo (record (board_of plan.now catalog.now []) { roms = roms }) catalog.now plan.now.fuel (record { old = S.text sink.old; new = S.text sink.new }) result }
-    ensures faults { BrokenAfter result (S.faults sink.old) (S.faults sink.new) }
+    ensures faults { HaltsAfter result (S.faults sink.old) (S.faults sink.new) }
 {
     let store = PlainStore::new(alloc, plan.temp, plan.pages, plan.ram, roms);
     boot_store(alloc, store, catalog, plan.fuel, sink)
@@ -79,19 +75,16 @@ fn boot_images<S: Sink>(
     catalog: &Catalog,
     images: Seq<Seq<u8>>,
     sink: &mut S,
-) -> Result<RunEnd, Broken>
-    requires plan { IsPlanInRange plan.now }
+) -> Result<RunEnd, Halt>
+    requires board { IsBoard (board_of plan.now catalog.now images) }
     requires catalog { IsWellFormed catalog.now }
-    requires short { AreShort catalog.now }
     requires some { 1 ≤ length catalog.now.volumes }
     requires none { has_drivers catalog.now ≡ false }
     ensures row { RunsTo (board_of plan.now catalog.now images) catalog.now plan.now.fuel (record { old = S.text sink.old; new = S.text sink.new }) result }
-    ensures faults { BrokenAfter result (S.faults sink.old) (S.faults sink.new) }
+    ensures faults { HaltsAfter result (S.faults sink.old) (S.faults sink.new) }
 {
-    match roms(alloc, catalog.volumes.as_slice(), images) {
-        Ok(roms) => boot_board(alloc, plan, catalog, roms, sink),
-        Err(OutOfMemory) => Err(Broken::Memory),
-    }
+    let roms = roms(alloc, catalog.volumes.as_slice(), images)?;
+    boot_board(alloc, plan, catalog, roms, sink)
 }
 
 /// Boots a plan, unless a module for DXE is among its images.
@@ -102,9 +95,8 @@ pub(crate) fn boot_catalog<S: Sink>(
     images: Seq<Seq<u8>>,
     sink: &mut S,
 ) -> Status
-    requires plan { IsPlanInRange plan.now }
+    requires board { IsBoard (board_of plan.now catalog.now images) }
     requires catalog { IsWellFormed catalog.now }
-    requires short { AreShort catalog.now }
     requires some { 1 ≤ length catalog.now.volumes }
     ensures { Ends (BootOutcome plan.now catalog.now images) (λ _. ⊥) ⊤ result (record {
       old = S.text sink.old;

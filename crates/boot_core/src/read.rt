@@ -2,7 +2,7 @@
 ghost use Rattle.std.specs.Prelude.{◌≡◌, ℕ, List, All, IfOk, IfErr};
 ghost use Rattle.boot_plan.specs.Range.{IsVolumeInRange, IsName};
 ghost use Rattle.boot_core.specs.Outcome.{Ends, IsUntouched};
-ghost use Rattle.boot_core.specs.FileReading.{IsRead, LongOutcome, LongVolume, AreImages, IsVolumeName};
+ghost use Rattle.boot_core.specs.FileReading.{IsRead, LongOutcome, LongVolume, AreImages, IsReached};
 
 use crate::answer::answer;
 use crate::refusal_print::{put_file, put_long};
@@ -92,7 +92,7 @@ pub(crate) fn read_volumes<F: Files, S: Sink>(
       files_now = F.faults files.new;
       missed = F.missed files.new;
     })) }
-    ensures refused { IfErr result (λ status. Ends (LongVolume (F.told files.old) volumes.now) (IsVolumeName volumes.now) ⊥ status (record {
+    ensures refused { IfErr result (λ status. Ends (LongVolume (F.told files.old) volumes.now) (IsReached (F.told files.old) volumes.now) ⊥ status (record {
       old = S.text sink.old;
       new = S.text sink.new;
       sink_before = S.faults sink.old;

@@ -3,9 +3,10 @@ ghost use Rattle.boot_io.specs.Sink.{Puts, SinkFaultsAfter};
 ghost use Rattle.boot_core.specs.Lines.{usage_line, file_line, long_line, plan_line, image_line, not_built_line};
 
 use boot_io::{Sink, SinkFault};
-use boot_model::{ImageCause, ImageFault, Line};
+use boot_model::Line;
 use boot_plan::PlanFault;
 use boot_trace::{Out, put};
+use catalog_model::{ImageCause, ImageFault};
 
 /// The refusal of the words.
 #[tactic(auto, unfolding(crate::specs::Lines::usage_line))]

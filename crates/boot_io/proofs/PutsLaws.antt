@@ -1,5 +1,5 @@
 -- Texts that are put one after another, which callers cite: what is told of a sink after several puts.
-use Rattle.std.proofs.Common.{◌≡◌, ◌<◌, ℕ, ◌+◌, List, [], ◌∷◌, ◌++◌, length, sym, ap, ◌∙◌, take, drop, get_or, append_assoc, flat_map, Option, Some, None, Result, Ok, Err, subst}
+use Rattle.std.proofs.Common.{◌≡◌, ◌<◌, ℕ, ◌+◌, List, [], ◌∷◌, ◌++◌, length, sym, ap, ◌∙◌, take, drop, get_or, append_assoc, flat_map, Option, Some, None, Result, Ok, Err, IsErr, true≢false, subst}
 use Rattle.std.proofs.lemmas.List.{flat_map_more, take_more, drop_more, take-append-drop, append-nil}
 use Rattle.std.specs.Io.KnownBytes.{Appends}
 use Rattle.std.proofs.lemmas.Grind.{flat_map-append}
@@ -84,3 +84,13 @@ pub gathers_puts : (r : Result (Unit {0}) SinkFault) (old mid new : Option (List
 gathers_puts r old mid new line left a none g p =
     let P : List ℕ → Type 0 = λ text. Puts r old new text in
     subst P (g.2 ∙ ap (λ t. t ++ a) none) (puts_then r old mid new g.0 left g.1 p)
+
+-- a call that fails with a prefix
+pub puts_err : (r : Result (Unit {0}) SinkFault) (old new : Option (List ℕ)) (text : List ℕ) → IsErr r → AppendsPart old new text → Puts r old new text
+puts_err (Ok u) old new text err p = absurd (true≢false (sym err))
+puts_err (Err e) old new text err p = p
+
+-- a failure in a line and a piece
+pub gathers_err : (r : Result (Unit {0}) SinkFault) (old new : Option (List ℕ)) (line left piece : List ℕ) → IsErr r → AppendsPart old new (line ++ piece) → Gathers r old new line left piece
+gathers_err (Ok u) old new line left piece err p = absurd (true≢false (sym err))
+gathers_err (Err e) old new line left piece err p = p

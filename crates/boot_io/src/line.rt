@@ -21,10 +21,8 @@ fn gather<S: Sink>(sink: &mut S, line: &mut Gathered, piece: &[u8]) -> Result<()
         Ok(()) => return Ok(()),
         Err(_) => {}
     }
-    match sink.put(line.as_slice()) {
-        Ok(()) => line.clear(),
-        Err(SinkFault) => return Err(SinkFault),
-    }
+    sink.put(line.as_slice())?;
+    line.clear();
     sink.put(piece)
 }
 
@@ -33,10 +31,8 @@ fn gather_word<S: Sink>(sink: &mut S, line: &mut Gathered, word: &[u8]) -> Resul
     ensures text { Gathers result (S.text sink.old) (S.text sink.new) line.old.items line.new.items (spaced word.now) }
     ensures cause { SinkFaultsAfter result (S.faults sink.old) (S.faults sink.new) }
 {
-    match gather(sink, line, b" ") {
-        Ok(()) => gather(sink, line, word),
-        Err(SinkFault) => Err(SinkFault),
-    }
+    gather(sink, line, b" ")?;
+    gather(sink, line, word)
 }
 
 // Takes words, each after a space.
@@ -49,10 +45,7 @@ fn gather_words<S: Sink>(
     ensures cause { SinkFaultsAfter result (S.faults sink.old) (S.faults sink.new) }
 {
     for word in words {
-        match gather_word(sink, line, word) {
-            Ok(()) => {}
-            Err(SinkFault) => return Err(SinkFault),
-        }
+        gather_word(sink, line, word)?;
     }
     Ok(())
 }
@@ -63,16 +56,8 @@ pub fn put_line<S: Sink>(sink: &mut S, keyword: &[u8], words: &[&[u8]]) -> Resul
     ensures cause { SinkFaultsAfter result (S.faults sink.old) (S.faults sink.new) }
 {
     let mut line = ArrayVec::new();
-    match gather(sink, &mut line, keyword) {
-        Ok(()) => {}
-        Err(SinkFault) => return Err(SinkFault),
-    }
-    match gather_words(sink, &mut line, words) {
-        Ok(()) => {}
-        Err(SinkFault) => return Err(SinkFault),
-    }
-    match gather(sink, &mut line, b"\n") {
-        Ok(()) => sink.put(line.as_slice()),
-        Err(SinkFault) => Err(SinkFault),
-    }
+    gather(sink, &mut line, keyword)?;
+    gather_words(sink, &mut line, words)?;
+    gather(sink, &mut line, b"\n")?;
+    sink.put(line.as_slice())
 }

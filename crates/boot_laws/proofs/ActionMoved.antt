@@ -7,29 +7,29 @@ use Rattle.pi_base.specs.declared.word.Word.TheVariants.{InvalidParameter, NotFo
 use Rattle.hob_codec.specs.HobReading.{hob_of}
 use Rattle.boot_model.specs.declared.line.Extra.TheVariants as X
 use Rattle.boot_model.specs.declared.frame.Register.TheVariants.{Number}
-use Rattle.boot_model.specs.MemoryReading.{bytes_at}
-use Rattle.boot_model.specs.Service.Reading.{nth_ppi}
-use Rattle.boot_model.specs.Service.Memory.{pages, with_boot_mode}
+use Rattle.store_model.specs.MemoryReading.{bytes_at}
+use Rattle.store_model.specs.Service.Reading.{nth_ppi}
+use Rattle.store_model.specs.Service.Memory.{pages, with_boot_mode}
 use Rattle.boot_model.specs.Registers.{number_in, pool_in, descriptor_in, offset_of, register, both, descriptors_in}
 use Rattle.pi_base.specs.declared.word.Word.{Word}
 use Rattle.act_code.specs.declared.action.Action.{Action}
 use Rattle.act_code.specs.declared.action.Action.TheVariants as A
 use Rattle.boot_model.specs.declared.line.Extra.{Extra}
-use Rattle.boot_model.specs.declared.store_handle.Pool.{Pool}
-use Rattle.boot_model.specs.declared.store_handle.Sweep.{Sweep}
-use Rattle.boot_model.specs.StoreState.{StoreState}
-use Rattle.boot_model.specs.Service.{Service}
-use Rattle.boot_model.specs.Service.Pool.{store}
+use Rattle.store_model.specs.declared.store_handle.Pool.{Pool}
+use Rattle.store_model.specs.declared.store_handle.Sweep.{Sweep}
+use Rattle.store_model.specs.StoreState.{StoreState}
+use Rattle.store_model.specs.Service.{Service}
+use Rattle.store_model.specs.Service.Pool.{store}
 use Rattle.boot_model.specs.declared.frame.Register.{Register}
-use Rattle.boot_model.specs.declared.frame.Frame.{Frame}
-use Rattle.boot_model.specs.PeiAction.{Reply, Effect, Wrote, Called, Shadowed, Logged, Skipped, Returned, effect, answer_reply, sweep_reply, reply_where, store_reply, peek_reply, desc_argument, kind_number, desc_reply, install_reply, reinstall_reply, notify_reply, locate_reply, hob_reply, memory_reply, pages_reply, is_memory_type, set_mode_reply, mode_reply, number_written, told, refusal}
+use Rattle.boot_model.specs.PeiMachine.{Frame}
+use Rattle.boot_model.specs.PeiAction.{Reply, Effect, Wrote, Called, Own, Shadowed, Logged, Skipped, Returned, effect, answer_reply, sweep_reply, reply_where, store_reply, peek_reply, desc_argument, kind_number, desc_reply, install_reply, reinstall_reply, notify_reply, locate_reply, hob_reply, memory_reply, pages_reply, is_memory_type, set_mode_reply, mode_reply, number_written, told, refusal}
 use Rattle.boot_laws.proofs.StoreMoved.{KeepsMoved, OptionMoved, pool_moved, desc_moved, install_moved, notify_moved, reinstall_moved, hob_moved, memory_moved, pages_moved, store_moved}
 
 -- an effect leaves the store moved exactly where it was
 abbrev pub EffectKeeps : StoreState → Effect → Type 0
 EffectKeeps s (Called name reply) = reply.store.moved ≡ s.moved
 EffectKeeps s (Wrote registers status) = ⊤
-EffectKeeps s Shadowed = ⊤
+EffectKeeps s (Own Shadowed) = ⊤
 EffectKeeps s (Logged text) = ⊤
 EffectKeeps s (Skipped n) = ⊤
 EffectKeeps s (Returned status) = ⊤

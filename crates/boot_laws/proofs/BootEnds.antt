@@ -1,16 +1,19 @@
 -- The lines of a boot end with its result, since PEI ends, and DXE where PEI hands off.
 use Rattle.std.proofs.Common.{◌≡◌, ℕ, true, List, [], ◌∷◌, ◌++◌, Option, Some, None, refl, sym, subst, is_some, append_assoc}
-use Rattle.boot_model.specs.declared.catalog.Catalog.{Catalog}
+use Rattle.catalog_model.specs.declared.catalog.Catalog.{Catalog}
 use Rattle.boot_model.specs.declared.line.Line.{Line}
 use Rattle.boot_model.specs.declared.line.Line.TheVariants as L
 use Rattle.boot_model.specs.declared.line.RunEnd.{RunEnd}
 use Rattle.boot_model.specs.declared.line.RunEnd.TheVariants as E
-use Rattle.boot_model.specs.WellFormed.{AreNumbered}
-use Rattle.boot_model.specs.HandleState.{HandleState, no_handles}
+use Rattle.catalog_model.specs.WellFormed.{AreNumbered}
+use Rattle.store_model.specs.HandleState.{HandleState, no_handles}
 use Rattle.boot_model.specs.Listing.{store_lines}
-use Rattle.boot_model.specs.PeiMachine.{PeiMachine, PeiOutcome, HandsOff, NoMemory, NoIpl, Spent, Deep}
+use Rattle.boot_model.specs.PeiMachine.{PeiMachine}
+use Rattle.boot_model.specs.declared.phase_end.PeiEnd.{PeiEnd}
+use Rattle.boot_model.specs.declared.phase_end.PeiEnd.TheVariants.{Handoff, NoMemory, NoIpl, Spent, Deep}
 use Rattle.boot_model.specs.PeiRun.{pei_end}
-use Rattle.boot_model.specs.DxeMachine.{DxeMachine, DxeOutcome}
+use Rattle.boot_model.specs.DxeMachine.{DxeMachine}
+use Rattle.boot_model.specs.declared.phase_end.DxeEnd.{DxeEnd}
 use Rattle.boot_model.specs.DxeRun.{dxe_end}
 use Rattle.boot_model.specs.BootRun.{handle_lines, dxe_result, closing_lines, pei_lines, both_lines, lines_after}
 use Rattle.boot_laws.specs.BootEnds.{EndsWithResult, BootsEnd}
@@ -26,13 +29,13 @@ closing_ends pei handles end = (store_lines pei.store ++ handle_lines handles, e
 pei_ends : (pei : PeiMachine) (end : RunEnd) → EndsWithResult (pei_lines pei end)
 pei_ends pei end = behind pei.lines (closing_lines pei no_handles end) (closing_ends pei no_handles end)
 
-both_end : (pei : PeiMachine) (dxe : DxeMachine) (end : Option DxeOutcome) → is_some end ≡ true → EndsWithResult (both_lines pei dxe end)
+both_end : (pei : PeiMachine) (dxe : DxeMachine) (end : Option DxeEnd) → is_some end ≡ true → EndsWithResult (both_lines pei dxe end)
 both_end pei dxe None h = cc
 both_end pei dxe (Some end) h = behind (pei.lines ++ dxe.lines) (closing_lines pei dxe.handles (dxe_result end)) (closing_ends pei dxe.handles (dxe_result end))
 
-after_pei : (catalog : Catalog) (fuel : ℕ) (pei : PeiMachine) (end : Option PeiOutcome) → AreNumbered 0 catalog.volumes → is_some end ≡ true → EndsWithResult (lines_after catalog fuel pei end)
+after_pei : (catalog : Catalog) (fuel : ℕ) (pei : PeiMachine) (end : Option PeiEnd) → AreNumbered 0 catalog.volumes → is_some end ≡ true → EndsWithResult (lines_after catalog fuel pei end)
 after_pei catalog fuel pei None numbered h = cc
-after_pei catalog fuel pei (Some HandsOff) numbered h =
+after_pei catalog fuel pei (Some Handoff) numbered h =
     both_end pei (dxe_end catalog fuel pei.store pei.actions) (dxe_end catalog fuel pei.store pei.actions).ended (D.runs_end catalog numbered fuel pei.store pei.actions)
 after_pei catalog fuel pei (Some NoMemory) numbered h = pei_ends pei E.NoMemory
 after_pei catalog fuel pei (Some NoIpl) numbered h = pei_ends pei E.NoIpl

@@ -1,10 +1,6 @@
 -- Chains of targets: each number has at most one target, so a number stands at one height over one that has none, and the chains that lead to it never cross.
 use Rattle.std.proofs.Common.{◌≡◌, ℕ, zero, suc, ◌+◌, Option, Some, None, refl, sym, ap, subst, ◌∙◌, arith}
-
--- k targets after the other lead from z to x
-abbrev pub Leads : (ℕ → Option ℕ) → ℕ → ℕ → ℕ → Type 0
-Leads target x z zero = z ≡ x
-Leads target x z (suc k) = (y : ℕ) × (target z ≡ Some y) × Leads target x y k
+use Rattle.boot_model.specs.DriverLicence.{Leads}
 
 abbrev pub plus : ℕ → ℕ → ℕ
 plus zero j = j

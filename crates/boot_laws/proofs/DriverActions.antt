@@ -7,18 +7,18 @@ use Rattle.pi_base.specs.declared.word.Word.{Word}
 use Rattle.pi_base.specs.declared.word.Word.TheVariants.{InvalidParameter, NotFound, AlreadyStarted}
 use Rattle.act_code.specs.declared.action.Action.{Action}
 use Rattle.act_code.specs.declared.action.Action.TheVariants as A
-use Rattle.boot_model.specs.declared.catalog.Catalog.{Catalog}
-use Rattle.boot_model.specs.declared.driver.DriverFrame.{DriverFrame}
+use Rattle.catalog_model.specs.declared.catalog.Catalog.{Catalog}
+use Rattle.boot_model.specs.DxeMachine.{DriverFrame}
 use Rattle.boot_model.specs.declared.driver.ProtocolSweep.{ProtocolSweep}
 use Rattle.boot_model.specs.declared.frame.Register.{Register}
 use Rattle.boot_model.specs.declared.line.Extra.TheVariants as X
-use Rattle.boot_model.specs.MemoryReading.{bytes_at}
-use Rattle.boot_model.specs.HandleState.{HandleState, HandleService, install_interface, reinstall_interface, uninstall_interface, locate_handle}
-use Rattle.boot_model.specs.Parts.{has_number, volume_at}
+use Rattle.store_model.specs.MemoryReading.{bytes_at}
+use Rattle.store_model.specs.HandleState.{HandleState, HandleService, install_interface, reinstall_interface, uninstall_interface, locate_handle}
+use Rattle.catalog_model.specs.Parts.{has_number, volume_at}
 use Rattle.boot_model.specs.Reporting.{newcomers}
 use Rattle.boot_model.specs.DxeMachine.{DxeMachine}
 use Rattle.boot_model.specs.Registers.{number_in, handle_in, both}
-use Rattle.boot_model.specs.DxeAction.{DxeReply, DxeEffect, DxeWrote, DxeCalled, DxeLogged, DxeSkipped, DxeReturned, dxe_effect, dxe_told, dxe_where, dxe_refusal, with_volumes, processed, process_volume, process_reply, peek_reply, dxe_number_written, install_answer, installed_on, install_target, install_reply, reinstall_answer, reinstall_reply, protocol_sweep, uninstall_answer, uninstall_reply, locate_reply, unrequested_named, schedule_reply}
+use Rattle.boot_model.specs.DxeAction.{DxeReply, DxeEffect, Wrote, Called, Logged, Skipped, Returned, Own, dxe_effect, dxe_told, dxe_where, dxe_refusal, with_volumes, processed, process_volume, process_reply, peek_reply, number_written, install_answer, installed_on, install_target, install_reply, reinstall_answer, reinstall_reply, protocol_sweep, uninstall_answer, uninstall_reply, locate_reply, unrequested_named, schedule_reply}
 
 -- the queue and what it is made from stay
 pub record HasQueueOf (old new : DxeMachine) : Type 0 where
@@ -35,11 +35,12 @@ abbrev pub Follows : Catalog → DxeMachine → DxeMachine → Type 0
 Follows catalog old new = HasQueueOf old new ⊎ Discovers catalog old new
 
 abbrev pub EffectFollows : Catalog → DxeMachine → DxeEffect → Type 0
-EffectFollows catalog m (DxeCalled name reply) = Follows catalog m reply.machine
-EffectFollows catalog m (DxeWrote registers status) = ⊤
-EffectFollows catalog m (DxeLogged text) = ⊤
-EffectFollows catalog m (DxeSkipped n) = ⊤
-EffectFollows catalog m (DxeReturned status) = ⊤
+EffectFollows catalog m (Called name reply) = Follows catalog m reply.machine
+EffectFollows catalog m (Wrote registers status) = ⊤
+EffectFollows catalog m (Logged text) = ⊤
+EffectFollows catalog m (Skipped n) = ⊤
+EffectFollows catalog m (Returned status) = ⊤
+EffectFollows catalog m (Own own) = absurd own
 
 abbrev ReplyFollows : Catalog → DxeMachine → DxeReply → Type 0
 ReplyFollows catalog m reply = Follows catalog m reply.machine
@@ -56,7 +57,7 @@ call_follows : {A : Type 0} (catalog : Catalog) (m : DxeMachine) (frame : Driver
     → ((a : A) → ReplyFollows catalog m (reply a)) → ReplyFollows catalog m (dxe_where argument reply m frame InvalidParameter)
 call_follows catalog m frame argument reply h = where_follows catalog m frame argument reply InvalidParameter h
 
-written_follows : (catalog : Catalog) (m : DxeMachine) (registers : List Register) (r : ℕ) (n : Option ℕ) → EffectFollows catalog m (dxe_number_written registers r n)
+written_follows : (catalog : Catalog) (m : DxeMachine) (registers : List Register) (r : ℕ) (n : Option ℕ) → EffectFollows catalog m (number_written registers r n)
 written_follows catalog m registers r None = tt
 written_follows catalog m registers r (Some n) = tt
 

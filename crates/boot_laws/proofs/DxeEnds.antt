@@ -3,15 +3,16 @@ use Rattle.std.proofs.Common.{◌≡◌, ℕ, zero, suc, ◌+◌, ◌≤◌, ◌
 use Rattle.std.specs.Option.{option_and_then}
 use Rattle.pi_base.specs.declared.phase.Phase.TheVariants.{Dxe}
 use Rattle.act_code.specs.declared.action.Action.{Action}
-use Rattle.boot_model.specs.declared.catalog.Catalog.{Catalog}
-use Rattle.boot_model.specs.declared.catalog.Part.{Part}
-use Rattle.boot_model.specs.declared.driver.DriverFrame.{DriverFrame}
+use Rattle.catalog_model.specs.declared.catalog.Catalog.{Catalog}
+use Rattle.catalog_model.specs.declared.catalog.Part.{Part}
+use Rattle.boot_model.specs.DxeMachine.{DriverFrame}
 use Rattle.boot_model.specs.declared.driver.Scheduled.{Scheduled}
-use Rattle.boot_model.specs.WellFormed.{AreNumbered}
-use Rattle.boot_model.specs.Parts.{part_at}
-use Rattle.boot_model.specs.DxeMachine.{DxeMachine, DxeSpent, DxeDeep}
-use Rattle.boot_model.specs.DxeAction.{DxeEffect, DxeWrote, DxeCalled, DxeLogged, DxeSkipped, DxeReturned, dxe_effect}
-use Rattle.boot_model.specs.DxeStep.{DxeCase, DxeFires, DxeActs, DxeStarts, DxeStops, dxe_case_of, in_dxe_case, dxe_step, next_note, protocol_begun, after_dxe_effect, with_action, dxe_action_at, driver_started, dxe_start_frames}
+use Rattle.catalog_model.specs.WellFormed.{AreNumbered}
+use Rattle.catalog_model.specs.Parts.{part_at}
+use Rattle.boot_model.specs.DxeMachine.{DxeMachine}
+use Rattle.boot_model.specs.declared.phase_end.DxeEnd.TheVariants as DxeEnds
+use Rattle.boot_model.specs.DxeAction.{DxeEffect, Wrote, Called, Logged, Skipped, Returned, Own, dxe_effect}
+use Rattle.boot_model.specs.DxeStep.{DxeCase, DxeFires, DxeActs, DxeStarts, DxeStops, dxe_case_of, in_dxe_case, dxe_step, next_note, protocol_begun, after_dxe_effect, with_action, dxe_action_at, driver_started, start_frames}
 use Rattle.boot_model.specs.DxeRun.{dxe_run, dxe_opening, dxe_bound}
 use Rattle.boot_laws.specs.RunsEnd.{DxeRunsEnd}
 use Rattle.boot_laws.proofs.Counting.{missing_most}
@@ -31,13 +32,14 @@ either_later true one other h k = h
 either_later false one other h k = k
 
 effect_later : (m : DxeMachine) (frame : DriverFrame) (below : List DriverFrame) (e : DxeEffect) → SweepsAreLater below → SweepsAreLater (after_dxe_effect m frame below e).frames
-effect_later m frame below (DxeWrote registers status) h = (not_zero frame.position 0, h)
-effect_later m frame below (DxeCalled name reply) h = (not_zero frame.position 0, h)
-effect_later m frame below (DxeLogged text) h = (not_zero frame.position 0, h)
-effect_later m frame below (DxeSkipped n) h = (not_zero frame.position n, h)
-effect_later m frame below (DxeReturned status) h = h
+effect_later m frame below (Wrote registers status) h = (not_zero frame.position 0, h)
+effect_later m frame below (Called name reply) h = (not_zero frame.position 0, h)
+effect_later m frame below (Logged text) h = (not_zero frame.position 0, h)
+effect_later m frame below (Skipped n) h = (not_zero frame.position n, h)
+effect_later m frame below (Returned status) h = h
+effect_later m frame below (Own own) h = absurd own
 
-frames_later : (number : ℕ) (blocks : List (List Action)) → SweepsAreLater (dxe_start_frames number blocks)
+frames_later : (number : ℕ) (blocks : List (List Action)) → SweepsAreLater (start_frames number blocks)
 frames_later number [] = tt
 frames_later number (block ∷ blocks) = ((λ _. refl), tt)
 
@@ -49,12 +51,12 @@ case_later : (catalog : Catalog) (fuel : ℕ) (m : DxeMachine) (case : DxeCase) 
 case_later catalog fuel m (DxeFires note sweep frame below) e h =
     let k = fires_from catalog m m.frames note sweep frame below e in
     let later : SweepsAreLater (frame ∷ below) = subst SweepsAreLater k.0 h in
-    either_later (nat_le 64 (length m.frames)) (record m { ended = Some DxeDeep }) (protocol_begun catalog m note sweep frame below) h
+    either_later (nat_le 64 (length m.frames)) (record m { ended = Some DxeEnds.Deep }) (protocol_begun catalog m note sweep frame below) h
     ((λ _. refl), ((λ z. absurd (not_begun (next_note m) frame.position frame.sweep later.0 k.1 z)), later.1))
 case_later catalog fuel m (DxeActs frame below) e h =
     let later : SweepsAreLater (frame ∷ below) = subst SweepsAreLater (acts_from catalog m m.frames frame below e) h in
     let does : DxeEffect = dxe_effect catalog (with_action m) frame (dxe_action_at catalog frame) in
-    either_later (nat_le fuel m.actions) (record m { ended = Some DxeSpent }) (after_dxe_effect (with_action m) frame below does) h (effect_later (with_action m) frame below does later.1)
+    either_later (nat_le fuel m.actions) (record m { ended = Some DxeEnds.Spent }) (after_dxe_effect (with_action m) frame below does) h (effect_later (with_action m) frame below does later.1)
 case_later catalog fuel m (DxeStarts next queue) e h = start_later catalog m next queue (part_at Dxe catalog next.module_number) h
 case_later catalog fuel m DxeStops e h = h
 

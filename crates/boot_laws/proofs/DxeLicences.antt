@@ -3,22 +3,23 @@ use Rattle.std.proofs.Common.{◌≡◌, ℕ, zero, suc, Bool, true, false, cond
 use Rattle.std.specs.Prelude.{flat_map}
 use Rattle.std.specs.Option.{option_and_then}
 use Rattle.pi_base.specs.declared.phase.Phase.TheVariants.{Dxe}
-use Rattle.boot_model.specs.declared.catalog.Catalog.{Catalog}
-use Rattle.boot_model.specs.declared.catalog.Part.{Part}
-use Rattle.boot_model.specs.declared.driver.DriverFrame.{DriverFrame}
+use Rattle.catalog_model.specs.declared.catalog.Catalog.{Catalog}
+use Rattle.catalog_model.specs.declared.catalog.Part.{Part}
+use Rattle.boot_model.specs.DxeMachine.{DriverFrame}
 use Rattle.boot_model.specs.declared.driver.Scheduled.{Scheduled}
 use Rattle.boot_model.specs.declared.licence.Licence.TheVariants as G
-use Rattle.boot_model.specs.Lists.{Each}
-use Rattle.boot_model.specs.Service.Reading.{fv_bases}
-use Rattle.boot_model.specs.Parts.{part_at, rank_at, module_volume}
+use Rattle.pi_base.specs.Lists.{Each}
+use Rattle.store_model.specs.Service.Reading.{fv_bases}
+use Rattle.catalog_model.specs.Parts.{part_at, rank_at, module_volume}
 use Rattle.boot_model.specs.Reporting.{newcomers}
 use Rattle.boot_model.specs.Discovery.{discoveries}
-use Rattle.boot_model.specs.DxeMachine.{DxeMachine, DxeSpent, DxeDeep}
+use Rattle.boot_model.specs.DxeMachine.{DxeMachine}
+use Rattle.boot_model.specs.declared.phase_end.DxeEnd.TheVariants as DxeEnds
 use Rattle.boot_model.specs.DxeChoice.{driver_queue, queue_from, a_priori_drivers}
-use Rattle.boot_model.specs.DxeAction.{DxeEffect, DxeWrote, DxeCalled, DxeLogged, DxeSkipped, DxeReturned, dxe_effect, with_volumes}
+use Rattle.boot_model.specs.DxeAction.{DxeEffect, Wrote, Called, Logged, Skipped, Returned, Own, dxe_effect, with_volumes}
 use Rattle.boot_model.specs.DxeStep.{DxeCase, DxeFires, DxeActs, DxeStarts, DxeStops, dxe_case_of, in_dxe_case, dxe_step, protocol_begun, after_dxe_effect, with_action, dxe_action_at, driver_started}
 use Rattle.boot_model.specs.DxeRun.{dxe_opening}
-use Rattle.boot_model.specs.Licence.{IsMember}
+use Rattle.boot_model.specs.DriverLicence.{IsMember}
 use Rattle.boot_laws.specs.DriverLicences.{OneOf, IsApriori, group_of, IsScheduledFrom, WasLicensed, IsLicensedDxeStep, AlongDxeRun, DriversStartLicensed}
 use Rattle.boot_laws.proofs.ListFacts.{each_more, each_append, each_both}
 use Rattle.boot_laws.proofs.PartLists.{IsKnown, known_of, ranked_in, ranked_are, each_flat_ranked}
@@ -82,11 +83,12 @@ follows_was catalog past old new (inr k) h = subst (QueueWas catalog past) (sym 
 
 effect_was : (catalog : Catalog) (past : List DxeMachine) (m : DxeMachine) (frame : DriverFrame) (below : List DriverFrame) (e : DxeEffect) → EffectFollows catalog m e → QueueWas catalog past m
     → QueueWas catalog past (after_dxe_effect m frame below e)
-effect_was catalog past m frame below (DxeWrote registers status) f h = h
-effect_was catalog past m frame below (DxeCalled name reply) f h = follows_was catalog past m reply.machine f h
-effect_was catalog past m frame below (DxeLogged text) f h = h
-effect_was catalog past m frame below (DxeSkipped n) f h = h
-effect_was catalog past m frame below (DxeReturned status) f h = h
+effect_was catalog past m frame below (Wrote registers status) f h = h
+effect_was catalog past m frame below (Called name reply) f h = follows_was catalog past m reply.machine f h
+effect_was catalog past m frame below (Logged text) f h = h
+effect_was catalog past m frame below (Skipped n) f h = h
+effect_was catalog past m frame below (Returned status) f h = h
+effect_was catalog past m frame below (Own own) f h = absurd own
 
 either_was : (catalog : Catalog) (past : List DxeMachine) (b : Bool) (one other : DxeMachine) → QueueWas catalog past one → QueueWas catalog past other → QueueWas catalog past (cond b one other)
 either_was catalog past true one other h k = h
@@ -132,11 +134,11 @@ starts_was catalog past m next queue e h =
 case_was : (catalog : Catalog) (fuel : ℕ) (past : List DxeMachine) (m : DxeMachine) (case : DxeCase) → dxe_case_of catalog m ≡ case → QueueWas catalog past m → QueueWas catalog (m ∷ past) (in_dxe_case catalog fuel m case)
 case_was catalog fuel past m (DxeFires note sweep frame below) e h =
     let on = each_more _ (WasLicensed catalog (m ∷ past) m.discovered) m.scheduled (later_licensed catalog past m m.discovered) h in
-    either_was catalog (m ∷ past) (nat_le 64 (length m.frames)) (record m { ended = Some DxeDeep }) (protocol_begun catalog m note sweep frame below) on on
+    either_was catalog (m ∷ past) (nat_le 64 (length m.frames)) (record m { ended = Some DxeEnds.Deep }) (protocol_begun catalog m note sweep frame below) on on
 case_was catalog fuel past m (DxeActs frame below) e h =
     let on = each_more _ (WasLicensed catalog (m ∷ past) m.discovered) m.scheduled (later_licensed catalog past m m.discovered) h in
     let does : DxeEffect = dxe_effect catalog (with_action m) frame (dxe_action_at catalog frame) in
-    either_was catalog (m ∷ past) (nat_le fuel m.actions) (record m { ended = Some DxeSpent }) (after_dxe_effect (with_action m) frame below does) on
+    either_was catalog (m ∷ past) (nat_le fuel m.actions) (record m { ended = Some DxeEnds.Spent }) (after_dxe_effect (with_action m) frame below does) on
     (effect_was catalog (m ∷ past) (with_action m) frame below does (effect_follows catalog (with_action m) frame (dxe_action_at catalog frame)) on)
 case_was catalog fuel past m (DxeStarts next queue) e h = start_was catalog (m ∷ past) m next queue (part_at Dxe catalog next.module_number) (starts_was catalog past m next queue e h).1
 case_was catalog fuel past m DxeStops e h = each_more _ (WasLicensed catalog (m ∷ past) m.discovered) m.scheduled (later_licensed catalog past m m.discovered) h

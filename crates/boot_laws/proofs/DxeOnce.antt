@@ -1,33 +1,37 @@
 -- No driver starts twice: each machine of a run keeps its queue without one.
 use Rattle.std.proofs.Common.{◌≡◌, ℕ, zero, suc, Bool, true, false, cond, List, [], ◌∷◌, ◌++◌, Option, Some, None, refl, sym, subst, ap, ◌∙◌, inl, inr, nat_le, length}
 use Rattle.std.specs.Prelude.{flat_map}
-use Rattle.boot_model.specs.declared.catalog.Catalog.{Catalog}
-use Rattle.boot_model.specs.declared.catalog.Part.{Part}
-use Rattle.boot_model.specs.declared.driver.DriverFrame.{DriverFrame}
+use Rattle.catalog_model.specs.declared.catalog.Catalog.{Catalog}
+use Rattle.catalog_model.specs.declared.catalog.Part.{Part}
+use Rattle.boot_model.specs.DxeMachine.{DriverFrame}
 use Rattle.boot_model.specs.declared.driver.Scheduled.{Scheduled}
 use Rattle.pi_base.specs.declared.phase.Phase.TheVariants.{Dxe}
-use Rattle.boot_model.specs.StoreState.{StoreState}
-use Rattle.boot_model.specs.Service.Reading.{fv_bases}
-use Rattle.boot_model.specs.Lists.{Each}
-use Rattle.boot_model.specs.WellFormed.{AreNumbered}
-use Rattle.boot_model.specs.Parts.{part_at}
+use Rattle.store_model.specs.StoreState.{StoreState}
+use Rattle.store_model.specs.Service.Reading.{fv_bases}
+use Rattle.pi_base.specs.Lists.{Each}
+use Rattle.catalog_model.specs.WellFormed.{AreNumbered}
+use Rattle.catalog_model.specs.Parts.{part_at}
 use Rattle.boot_model.specs.Reporting.{newcomers}
 use Rattle.boot_model.specs.Discovery.{discoveries}
-use Rattle.boot_model.specs.DxeMachine.{DxeMachine, DxeSpent, DxeDeep}
+use Rattle.boot_model.specs.DxeMachine.{DxeMachine}
+use Rattle.boot_model.specs.declared.phase_end.DxeEnd.TheVariants as DxeEnds
 use Rattle.boot_model.specs.DxeChoice.{a_priori_drivers}
-use Rattle.boot_model.specs.DxeAction.{DxeEffect, DxeWrote, DxeCalled, DxeLogged, DxeSkipped, DxeReturned, dxe_effect, with_volumes}
+use Rattle.boot_model.specs.DxeAction.{DxeEffect, Wrote, Called, Logged, Skipped, Returned, Own, dxe_effect, with_volumes}
 use Rattle.boot_model.specs.DxeStep.{DxeCase, DxeFires, DxeActs, DxeStarts, DxeStops, dxe_case_of, in_dxe_case, dxe_step, protocol_begun, after_dxe_effect, with_action, dxe_action_at, driver_started}
 use Rattle.boot_model.specs.DxeRun.{dxe_run, dxe_opening}
 use Rattle.boot_laws.specs.DriverStarts.{DriversStartOnce}
+use Rattle.boot_laws.specs.DiscoveredOrder.{DiscoveredOrderHasEachOnce}
+use Rattle.boot_laws.proofs.EachDriver.{has_each_once}
 use Rattle.boot_laws.proofs.Distinct.{Distinct, all_differ}
 use Rattle.boot_laws.proofs.PartLists.{ranked_in}
 use Rattle.boot_laws.proofs.Volumes.{IsNew, newcomers_new, newcomers_differ, discoveries_differ}
-use Rattle.boot_laws.proofs.Queue.{numbers_of, AreQueued, IsQueued, discovered_more, head_dropped, head_started, next_queued, numbers_of_map, numbers_of_append}
+use Rattle.boot_model.specs.DriverLicence.{numbers_of}
+use Rattle.boot_laws.proofs.Queue.{AreQueued, IsQueued, discovered_more, head_dropped, head_started, next_queued, numbers_of_map, numbers_of_append}
 use Rattle.boot_laws.proofs.DriverActions.{Follows, EffectFollows, effect_follows}
 use Rattle.boot_laws.proofs.DxeCases.{starts_from}
 
 -- the numbers of the drivers that volumes schedule
-priori_numbers : (catalog : Catalog) (volumes : List ℕ) → numbers_of (a_priori_drivers catalog volumes) ≡ flat_map (ranked_in catalog) volumes
+pub priori_numbers : (catalog : Catalog) (volumes : List ℕ) → numbers_of (a_priori_drivers catalog volumes) ≡ flat_map (ranked_in catalog) volumes
 priori_numbers catalog volumes = numbers_of_map _ (λ n. refl) (flat_map (ranked_in catalog) volumes)
 
 with_priori : (catalog : Catalog) (queue : List Scheduled) (volumes : List ℕ) → numbers_of (queue ++ a_priori_drivers catalog volumes) ≡ numbers_of queue ++ flat_map (ranked_in catalog) volumes
@@ -49,11 +53,12 @@ follows_queued catalog old new numbered (inr h) q = subst (IsQueued catalog) (sy
 
 effect_queued : (catalog : Catalog) (m : DxeMachine) (frame : DriverFrame) (below : List DriverFrame) (e : DxeEffect) → AreNumbered 0 catalog.volumes → EffectFollows catalog m e → IsQueued catalog m
     → IsQueued catalog (after_dxe_effect m frame below e)
-effect_queued catalog m frame below (DxeWrote registers status) numbered f q = q
-effect_queued catalog m frame below (DxeCalled name reply) numbered f q = follows_queued catalog m reply.machine numbered f q
-effect_queued catalog m frame below (DxeLogged text) numbered f q = q
-effect_queued catalog m frame below (DxeSkipped n) numbered f q = q
-effect_queued catalog m frame below (DxeReturned status) numbered f q = q
+effect_queued catalog m frame below (Wrote registers status) numbered f q = q
+effect_queued catalog m frame below (Called name reply) numbered f q = follows_queued catalog m reply.machine numbered f q
+effect_queued catalog m frame below (Logged text) numbered f q = q
+effect_queued catalog m frame below (Skipped n) numbered f q = q
+effect_queued catalog m frame below (Returned status) numbered f q = q
+effect_queued catalog m frame below (Own own) numbered f q = absurd own
 
 either_queued : (catalog : Catalog) (b : Bool) (one other : DxeMachine) → IsQueued catalog one → IsQueued catalog other → IsQueued catalog (cond b one other)
 either_queued catalog true one other h k = h
@@ -71,15 +76,15 @@ queue_is catalog m next queue e q =
 
 pub case_queued : (catalog : Catalog) (fuel : ℕ) (m : DxeMachine) (case : DxeCase) → AreNumbered 0 catalog.volumes → dxe_case_of catalog m ≡ case → IsQueued catalog m → IsQueued catalog (in_dxe_case catalog fuel m case)
 case_queued catalog fuel m (DxeFires note sweep frame below) numbered e q =
-    either_queued catalog (nat_le 64 (length m.frames)) (record m { ended = Some DxeDeep }) (protocol_begun catalog m note sweep frame below) q q
+    either_queued catalog (nat_le 64 (length m.frames)) (record m { ended = Some DxeEnds.Deep }) (protocol_begun catalog m note sweep frame below) q q
 case_queued catalog fuel m (DxeActs frame below) numbered e q =
     let does : DxeEffect = dxe_effect catalog (with_action m) frame (dxe_action_at catalog frame) in
-    either_queued catalog (nat_le fuel m.actions) (record m { ended = Some DxeSpent }) (after_dxe_effect (with_action m) frame below does) q
+    either_queued catalog (nat_le fuel m.actions) (record m { ended = Some DxeEnds.Spent }) (after_dxe_effect (with_action m) frame below does) q
     (effect_queued catalog (with_action m) frame below does numbered (effect_follows catalog (with_action m) frame (dxe_action_at catalog frame)) q)
 case_queued catalog fuel m (DxeStarts next queue) numbered e q = start_queued catalog m next queue (part_at Dxe catalog next.module_number) (queue_is catalog m next queue e q)
 case_queued catalog fuel m DxeStops numbered e q = q
 
-run_queued : (catalog : Catalog) (fuel n : ℕ) (m : DxeMachine) → AreNumbered 0 catalog.volumes → IsQueued catalog m → IsQueued catalog (dxe_run catalog fuel n m)
+pub run_queued : (catalog : Catalog) (fuel n : ℕ) (m : DxeMachine) → AreNumbered 0 catalog.volumes → IsQueued catalog m → IsQueued catalog (dxe_run catalog fuel n m)
 run_queued catalog fuel zero m numbered q = q
 run_queued catalog fuel (suc n) m numbered q =
     elim m.ended as (λ o. IsQueued catalog (elim o as (λ _. DxeMachine) [ Some end ↦ m | None ↦ dxe_run catalog fuel n (dxe_step catalog fuel m) ]))
@@ -101,3 +106,9 @@ pub start_once : DriversStartOnce
 start_once catalog numbered fuel n s actions =
     let q : IsQueued catalog (dxe_run catalog fuel n (dxe_opening catalog s actions)) = run_queued catalog fuel n (dxe_opening catalog s actions) numbered (opens_queued catalog s actions numbered) in
     all_differ _ q.started_differ
+
+pub order_has_each_once : DiscoveredOrderHasEachOnce
+order_has_each_once catalog numbered fuel n s actions =
+    let m = dxe_run catalog fuel n (dxe_opening catalog s actions) in
+    let q : IsQueued catalog m = run_queued catalog fuel n (dxe_opening catalog s actions) numbered (opens_queued catalog s actions numbered) in
+    has_each_once catalog m q.volumes_differ

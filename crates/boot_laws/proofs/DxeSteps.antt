@@ -4,16 +4,17 @@ use Rattle.std.proofs.Common.{◌≡◌, ℕ, zero, suc, ◌+◌, ◌-◌, ◌*�
 use Rattle.std.specs.Option.{option_and_then}
 use Rattle.std.proofs.lemmas.Bool.Decides.{nat_tests}
 use Rattle.pi_base.specs.declared.phase.Phase.TheVariants.{Dxe}
-use Rattle.boot_model.specs.declared.catalog.Catalog.{Catalog}
-use Rattle.boot_model.specs.declared.catalog.Part.{Part}
-use Rattle.boot_model.specs.declared.driver.DriverFrame.{DriverFrame}
+use Rattle.catalog_model.specs.declared.catalog.Catalog.{Catalog}
+use Rattle.catalog_model.specs.declared.catalog.Part.{Part}
+use Rattle.boot_model.specs.DxeMachine.{DriverFrame}
 use Rattle.boot_model.specs.declared.driver.Scheduled.{Scheduled}
-use Rattle.boot_model.specs.Lists.{numbers}
-use Rattle.boot_model.specs.WellFormed.{part_of}
-use Rattle.boot_model.specs.Parts.{has_number, part_at}
-use Rattle.boot_model.specs.DxeMachine.{DxeMachine, DxeSpent, DxeDeep}
-use Rattle.boot_model.specs.DxeAction.{DxeEffect, DxeWrote, DxeCalled, DxeLogged, DxeSkipped, DxeReturned, dxe_effect}
-use Rattle.boot_model.specs.DxeStep.{DxeCase, DxeFires, DxeActs, DxeStarts, DxeStops, dxe_case_of, in_dxe_case, dxe_step, next_note, protocol_begun, after_dxe_effect, with_action, dxe_action_at, driver_started, dxe_start_frames}
+use Rattle.pi_base.specs.Lists.{numbers}
+use Rattle.catalog_model.specs.WellFormed.{part_of}
+use Rattle.catalog_model.specs.Parts.{has_number, part_at}
+use Rattle.boot_model.specs.DxeMachine.{DxeMachine}
+use Rattle.boot_model.specs.declared.phase_end.DxeEnd.TheVariants as DxeEnds
+use Rattle.boot_model.specs.DxeAction.{DxeEffect, Wrote, Called, Logged, Skipped, Returned, Own, dxe_effect}
+use Rattle.boot_model.specs.DxeStep.{DxeCase, DxeFires, DxeActs, DxeStarts, DxeStops, dxe_case_of, in_dxe_case, dxe_step, next_note, protocol_begun, after_dxe_effect, with_action, dxe_action_at, driver_started, start_frames}
 use Rattle.boot_laws.proofs.Counting.{missing, In, in_numbers, fewer}
 use Rattle.boot_laws.proofs.ListFacts.{within}
 use Rattle.boot_laws.proofs.Distinct.{is_absent}
@@ -74,13 +75,14 @@ rest_same catalog fuel old new (inr h) = ap (rest catalog fuel) h.1
 
 effect_left : (catalog : Catalog) (fuel : ℕ) (m : DxeMachine) (frame : DriverFrame) (below : List DriverFrame) (e : DxeEffect) → EffectFollows catalog m e
     → left catalog fuel (after_dxe_effect m frame below e) ≤ rest catalog fuel m
-effect_left catalog fuel m frame below (DxeWrote registers status) k = let b = between_le (after_dxe_effect m frame below (DxeWrote registers status)).frames in omega (arith, b)
-effect_left catalog fuel m frame below (DxeCalled name reply) k =
-    let b = between_le (after_dxe_effect m frame below (DxeCalled name reply)).frames in
+effect_left catalog fuel m frame below (Wrote registers status) k = let b = between_le (after_dxe_effect m frame below (Wrote registers status)).frames in omega (arith, b)
+effect_left catalog fuel m frame below (Called name reply) k =
+    let b = between_le (after_dxe_effect m frame below (Called name reply)).frames in
     let same = rest_same catalog fuel m reply.machine k in omega (arith, b, same)
-effect_left catalog fuel m frame below (DxeLogged text) k = let b = between_le (after_dxe_effect m frame below (DxeLogged text)).frames in omega (arith, b)
-effect_left catalog fuel m frame below (DxeSkipped n) k = let b = between_le (after_dxe_effect m frame below (DxeSkipped n)).frames in omega (arith, b)
-effect_left catalog fuel m frame below (DxeReturned status) k = let b = between_le below in omega (arith, b)
+effect_left catalog fuel m frame below (Logged text) k = let b = between_le (after_dxe_effect m frame below (Logged text)).frames in omega (arith, b)
+effect_left catalog fuel m frame below (Skipped n) k = let b = between_le (after_dxe_effect m frame below (Skipped n)).frames in omega (arith, b)
+effect_left catalog fuel m frame below (Returned status) k = let b = between_le below in omega (arith, b)
+effect_left catalog fuel m frame below (Own own) k = absurd own
 
 later_on : {A B : Type 0} (f : A → Option B) (n : ℕ) (o : Option A) → (n ≡ 0 → o ≡ None) → is_some (option_and_then f o) ≡ true → (elim n as (λ _. ℕ) [ zero ↦ 0 | suc k ↦ 1 ]) ≡ 1
 later_on f zero None h k = cc
@@ -99,7 +101,7 @@ ended_or catalog fuel n false one other h k = k refl
 start_left : (catalog : Catalog) (fuel : ℕ) (m : DxeMachine) (next : Scheduled) (queue : List Scheduled) (part : Option Part) → is_some part ≡ true → between_actions m.frames ≡ 1
     → starts_left catalog (next.module_number ∷ m.started) < starts_left catalog m.started → left catalog fuel (driver_started catalog m next queue part) < left catalog fuel m
 start_left catalog fuel m next queue None some empty less = cc
-start_left catalog fuel m next queue (Some part) some empty less = let b = between_le (dxe_start_frames next.module_number part.script.blocks) in omega (arith, empty, less, b)
+start_left catalog fuel m next queue (Some part) some empty less = let b = between_le (start_frames next.module_number part.script.blocks) in omega (arith, empty, less, b)
 
 case_runs_out : (catalog : Catalog) (fuel : ℕ) (m : DxeMachine) (case : DxeCase) → dxe_case_of catalog m ≡ case → IsUnderWay catalog m → steps_left catalog fuel (in_dxe_case catalog fuel m case) < left catalog fuel m
 case_runs_out catalog fuel m (DxeFires note sweep frame below) e way =
@@ -108,13 +110,13 @@ case_runs_out catalog fuel m (DxeFires note sweep frame below) e way =
     let one : between_actions m.frames ≡ 1 = ap between_actions k.0 ∙ fires_later m frame below later k.1 in
     let next : DxeMachine = protocol_begun catalog m note sweep frame below in
     let most : steps_left catalog fuel next ≤ left catalog fuel next = at_most catalog fuel next in
-    ended_or catalog fuel (left catalog fuel m) (nat_le 64 (length m.frames)) (record m { ended = Some DxeDeep }) next (omega arith) (λ _. omega (arith, most, one))
+    ended_or catalog fuel (left catalog fuel m) (nat_le 64 (length m.frames)) (record m { ended = Some DxeEnds.Deep }) next (omega arith) (λ _. omega (arith, most, one))
 case_runs_out catalog fuel m (DxeActs frame below) e way =
     let does : DxeEffect = dxe_effect catalog (with_action m) frame (dxe_action_at catalog frame) in
     let next : DxeMachine = after_dxe_effect (with_action m) frame below does in
     let most : steps_left catalog fuel next ≤ left catalog fuel next = at_most catalog fuel next in
     let less = effect_left catalog fuel (with_action m) frame below does (effect_follows catalog (with_action m) frame (dxe_action_at catalog frame)) in
-    ended_or catalog fuel (left catalog fuel m) (nat_le fuel m.actions) (record m { ended = Some DxeSpent }) next (omega arith)
+    ended_or catalog fuel (left catalog fuel m) (nat_le fuel m.actions) (record m { ended = Some DxeEnds.Spent }) next (omega arith)
     (λ h. let room : m.actions < fuel = has_fuel fuel m.actions h in omega (arith, most, less, room))
 case_runs_out catalog fuel m (DxeStarts next queue) e way =
     let k = starts_from catalog m m.frames next queue e in

@@ -1,13 +1,19 @@
--- DXE stops only where nothing is scheduled and no driver that waits may start.
-use Rattle.std.proofs.Common.{◌≡◌, ℕ, zero, suc, Bool, true, false, ◌||◌, cond, List, [], ◌∷◌, ◌++◌, Option, Some, None, refl, length}
-use Rattle.std.specs.Prelude.{find, flat_map}
+-- DXE stops only where nothing is scheduled and no driver of a discovered volume that has not started may start.
+use Rattle.std.proofs.Common.{◌≡◌, ℕ, zero, suc, ◌==◌, Bool, true, false, not, ◌&&◌, ◌||◌, cond, List, [], ◌∷◌, ◌++◌, Option, Some, None, refl, sym, subst, ap, ◌∙◌, length}
+use Rattle.std.specs.Prelude.{filter, find, flat_map}
 use Rattle.std.specs.List.{list_any}
-use Rattle.boot_model.specs.declared.catalog.Catalog.{Catalog}
+use Rattle.pi_base.specs.Lists.{Each}
+use Rattle.catalog_model.specs.declared.catalog.Catalog.{Catalog}
+use Rattle.catalog_model.specs.Parts.{has_number}
 use Rattle.boot_model.specs.declared.driver.Scheduled.{Scheduled}
 use Rattle.boot_model.specs.DxeMachine.{DxeMachine}
-use Rattle.boot_model.specs.DxeChoice.{queue_from, waiting, group_within, befores, afters, schedule_of, group_scheduled, first_eligible, is_eligible_driver}
-use Rattle.boot_model.specs.Licence.{DxeStopsIdle}
+use Rattle.boot_model.specs.DxeChoice.{discovered_order, is_scheduled, is_waiting, queue_from, waiting, group_within, befores, afters, schedule_of, group_scheduled, first_eligible, is_eligible_driver}
+use Rattle.boot_model.specs.DriverLicence.{DxeStopsIdle}
+use Rattle.boot_laws.proofs.ListFacts.{each_at}
+use Rattle.boot_laws.proofs.Distinct.{neither}
+use Rattle.boot_laws.proofs.PeiOrders.{has_filtered}
 use Rattle.boot_laws.proofs.DxeCases.{stops_from}
+use Rattle.boot_laws.proofs.EachDriver.{order_has}
 
 no_queue : (queue group : List Scheduled) → queue_from queue group ≡ [] → (queue ≡ []) × (group ≡ [])
 no_queue [] group h = (refl, h)
@@ -35,7 +41,24 @@ none_found : (p : ℕ → Bool) (xs : List ℕ) → find p xs ≡ None → list_
 none_found p [] h = refl
 none_found p (x ∷ xs) h = none_on (p x) (list_any p xs) x (find p xs) (none_found p xs) h
 
+-- what no item passes each item fails
+none_passes : (p : ℕ → Bool) (xs : List ℕ) → list_any p xs ≡ false → Each (λ x. p x ≡ false) xs
+none_passes p [] h = tt
+none_passes p (x ∷ xs) h = let both = neither (p x) (list_any p xs) h in (both.0, none_passes p xs both.1)
+
+-- where nothing is scheduled, what has not started waits
+waits : (m : DxeMachine) (number : ℕ) → m.scheduled ≡ [] → has_number m.started number ≡ false → is_waiting m number ≡ true
+waits m number empty new =
+    let none : is_scheduled m number ≡ false = ap (λ queue. list_any (λ next. next.module_number == number) queue) empty in
+    ap (λ b. not b && not (has_number m.started number)) none ∙ ap not new
+
 pub stops_idle : (catalog : Catalog) (m : DxeMachine) → DxeStopsIdle catalog m
 stops_idle catalog m stops =
     let both = no_queue m.scheduled (group_scheduled catalog m (first_eligible catalog m)) (stops_from catalog m m.frames stops) in
-    (both.0, none_found (is_eligible_driver catalog m) (waiting catalog m) (no_eligible catalog m (first_eligible catalog m) both.1))
+    let none = none_found (is_eligible_driver catalog m) (waiting catalog m) (no_eligible catalog m (first_eligible catalog m) both.1) in
+    record {
+      scheduled = both.0;
+      waits = λ number is new.
+          each_at (λ n. is_eligible_driver catalog m n ≡ false) (waiting catalog m) number (none_passes (is_eligible_driver catalog m) (waiting catalog m) none)
+          (has_filtered (is_waiting m) (discovered_order catalog m) number (waits m number both.0 new) (order_has catalog m number is));
+    }

@@ -1,119 +1,94 @@
 -- Each driver of a group has its licence: the eligible one over the handles, each companion beside the one that it names.
-use Rattle.std.proofs.Common.{◌≡◌, ℕ, zero, suc, ◌==◌, true, not, ◌||◌, List, [], ◌∷◌, ◌++◌, Option, Some, None, refl, ap, ◌∙◌, length, map}
-use Rattle.std.specs.Prelude.{flat_map}
+use Rattle.std.proofs.Common.{◌≡◌, ℕ, true, false, not, inl, inr, List, [], ◌∷◌, Option, Some, None, refl, sym, subst, ap, length, map}
 use Rattle.std.specs.Option.{option_and_then}
-use Rattle.std.specs.List.{list_any}
+use Rattle.pi_base.specs.declared.guid.Guid.{Guid}
 use Rattle.pi_base.specs.declared.phase.Phase.TheVariants.{Dxe}
+use Rattle.pi_base.specs.Lists.{Each}
 use Rattle.depex_code.specs.declared.depex.Depex.TheVariants as D
-use Rattle.boot_model.specs.declared.catalog.Catalog.{Catalog}
-use Rattle.boot_model.specs.declared.catalog.Part.{Part}
-use Rattle.boot_model.specs.declared.catalog.PartExpr.{PartExpr}
-use Rattle.boot_model.specs.declared.catalog.PartExpr.TheVariants as E
-use Rattle.boot_model.specs.declared.driver.Scheduled.{Scheduled}
-use Rattle.boot_model.specs.Lists.{Each}
-use Rattle.boot_model.specs.Parts.{has_number, part_at}
+use Rattle.catalog_model.specs.declared.catalog.Catalog.{Catalog}
+use Rattle.catalog_model.specs.declared.catalog.Part.{Part}
+use Rattle.catalog_model.specs.declared.catalog.PartExpr.{PartExpr}
+use Rattle.catalog_model.specs.declared.catalog.PartExpr.TheVariants as E
+use Rattle.catalog_model.specs.Parts.{part_at}
+use Rattle.boot_model.specs.declared.licence.Licence.{Licence}
+use Rattle.boot_model.specs.declared.licence.Licence.TheVariants as G
 use Rattle.boot_model.specs.DxeMachine.{DxeMachine}
-use Rattle.boot_model.specs.DxeChoice.{waiting, driver_named, before_of, after_of, befores, afters, group_within, companion_group, lets_driver_start, driver_may_start, is_eligible_driver, is_unrequested, licence_in_group, driver_licence, schedule_of, group_scheduled, first_eligible}
-use Rattle.boot_model.specs.Licence.{IsDriverLicensed, IsMember, SchedulesLicensed}
-use Rattle.boot_laws.proofs.ListFacts.{each_more, each_append, each_flat, each_both, each_has, found_passes}
+use Rattle.boot_model.specs.DxeChoice.{waiting, driver_named, before_of, after_of, companion_group, lets_driver_start, driver_may_start, is_eligible_driver, is_unrequested, licence_in_group, driver_licence, schedule_of, group_scheduled, first_eligible}
+use Rattle.boot_model.specs.DriverLicence.{IsDriverLicensed, IsMember, SchedulesLicensed, numbers_of}
+use Rattle.boot_laws.proofs.ListFacts.{each_more, found_passes}
 use Rattle.boot_laws.proofs.PartLists.{both_of}
-use Rattle.boot_laws.proofs.Groups.{IsBefore, IsAfter, are_before, are_after}
+use Rattle.boot_laws.proofs.Volumes.{not_true}
+use Rattle.boot_laws.proofs.Beside.{IsRootOrPlaced, all_placed}
 
--- a driver of this number stands in the queue
-abbrev InQueue : List Scheduled → ℕ → Type 0
-InQueue queue n = list_any (λ next. next.module_number == n) queue ≡ true
+-- a part with the licence that it has in a group
+abbrev HasLicence : Option Part → Licence → Type 0
+HasLicence o licence = (part : Part) × (o ≡ Some part) × (driver_licence o ≡ licence)
+
+licence_before : (f : Guid → Option ℕ) (expr : PartExpr) (x : ℕ) → option_and_then f (before_of expr) ≡ Some x → licence_in_group expr ≡ G.Before
+licence_before f E.Absent x h = cc
+licence_before f (E.Malformed at) x h = cc
+licence_before f (E.Held (D.Before name)) x h = refl
+licence_before f (E.Held (D.After name)) x h = cc
+licence_before f (E.Held (D.Expr sor node)) x h = cc
+
+before_has : (f : Guid → Option ℕ) (o : Option Part) (x : ℕ) → option_and_then f (option_and_then (λ part. before_of part.expr) o) ≡ Some x → HasLicence o G.Before
+before_has f None x h = cc
+before_has f (Some part) x h = (part, refl, licence_before f part.expr x h)
+
+licence_after : (f : Guid → Option ℕ) (expr : PartExpr) (x : ℕ) → option_and_then f (after_of expr) ≡ Some x → licence_in_group expr ≡ G.After
+licence_after f E.Absent x h = cc
+licence_after f (E.Malformed at) x h = cc
+licence_after f (E.Held (D.Before name)) x h = cc
+licence_after f (E.Held (D.After name)) x h = refl
+licence_after f (E.Held (D.Expr sor node)) x h = cc
+
+after_has : (f : Guid → Option ℕ) (o : Option Part) (x : ℕ) → option_and_then f (option_and_then (λ part. after_of part.expr) o) ≡ Some x → HasLicence o G.After
+after_has f None x h = cc
+after_has f (Some part) x h = (part, refl, licence_after f part.expr x h)
 
 -- the part is there, and has the licence of a group's driver
-abbrev MemberOf : Catalog → DxeMachine → List Scheduled → Option Part → Type 0
-MemberOf catalog m queue o = (part : Part) × (o ≡ Some part) × IsDriverLicensed catalog m queue part (driver_licence o)
+abbrev MemberOf : Catalog → DxeMachine → List ℕ → ℕ → Option Part → Type 0
+MemberOf catalog m queue number o = (part : Part) × (o ≡ Some part) × IsDriverLicensed catalog m queue number part (driver_licence o)
 
-before_licensed : (catalog : Catalog) (m : DxeMachine) (queue : List Scheduled) (part : Part) (expr : PartExpr) (x : ℕ) → part.expr ≡ expr → option_and_then (driver_named catalog m) (before_of expr) ≡ Some x
-    → InQueue queue x → IsDriverLicensed catalog m queue part (licence_in_group expr)
-before_licensed catalog m queue part E.Absent x e h q = cc
-before_licensed catalog m queue part (E.Malformed at) x e h q = cc
-before_licensed catalog m queue part (E.Held (D.Before name)) x e h q = (name, x, ap before_of e, h, q)
-before_licensed catalog m queue part (E.Held (D.After name)) x e h q = cc
-before_licensed catalog m queue part (E.Held (D.Expr sor node)) x e h q = cc
+eligible_licensed : (catalog : Catalog) (m : DxeMachine) (queue : List ℕ) (number : ℕ) (part : Part) (expr : PartExpr) → part.expr ≡ expr → is_unrequested catalog m number ≡ false → lets_driver_start m.handles expr ≡ true
+    → IsDriverLicensed catalog m queue number part (licence_in_group expr)
+eligible_licensed catalog m queue number part E.Absent e r h = (e, h)
+eligible_licensed catalog m queue number part (E.Malformed at) e r h = cc
+eligible_licensed catalog m queue number part (E.Held (D.Before name)) e r h = cc
+eligible_licensed catalog m queue number part (E.Held (D.After name)) e r h = cc
+eligible_licensed catalog m queue number part (E.Held (D.Expr sor node)) e r h = (D.Expr sor node, e, r, h)
 
-before_member : (catalog : Catalog) (m : DxeMachine) (queue : List Scheduled) (o : Option Part) (x : ℕ) → option_and_then (driver_named catalog m) (option_and_then (λ part. before_of part.expr) o) ≡ Some x
-    → InQueue queue x → MemberOf catalog m queue o
-before_member catalog m queue None x h q = cc
-before_member catalog m queue (Some part) x h q = (part, refl, before_licensed catalog m queue part part.expr x refl h q)
+eligible_member : (catalog : Catalog) (m : DxeMachine) (queue : List ℕ) (number : ℕ) (o : Option Part) → is_unrequested catalog m number ≡ false → driver_may_start m.handles o ≡ true → MemberOf catalog m queue number o
+eligible_member catalog m queue number None r h = cc
+eligible_member catalog m queue number (Some part) r h = (part, refl, eligible_licensed catalog m queue number part part.expr refl r h)
 
-after_licensed : (catalog : Catalog) (m : DxeMachine) (queue : List Scheduled) (part : Part) (expr : PartExpr) (x : ℕ) → part.expr ≡ expr → option_and_then (driver_named catalog m) (after_of expr) ≡ Some x
-    → InQueue queue x → IsDriverLicensed catalog m queue part (licence_in_group expr)
-after_licensed catalog m queue part E.Absent x e h q = cc
-after_licensed catalog m queue part (E.Malformed at) x e h q = cc
-after_licensed catalog m queue part (E.Held (D.Before name)) x e h q = cc
-after_licensed catalog m queue part (E.Held (D.After name)) x e h q = (name, x, ap after_of e, h, q)
-after_licensed catalog m queue part (E.Held (D.Expr sor node)) x e h q = cc
+abbrev IsMemberNumber : Catalog → DxeMachine → List ℕ → ℕ → Type 0
+IsMemberNumber catalog m queue n = MemberOf catalog m queue n (part_at Dxe catalog n)
 
-after_member : (catalog : Catalog) (m : DxeMachine) (queue : List Scheduled) (o : Option Part) (x : ℕ) → option_and_then (driver_named catalog m) (option_and_then (λ part. after_of part.expr) o) ≡ Some x
-    → InQueue queue x → MemberOf catalog m queue o
-after_member catalog m queue None x h q = cc
-after_member catalog m queue (Some part) x h q = (part, refl, after_licensed catalog m queue part part.expr x refl h q)
+with_licence : (catalog : Catalog) (m : DxeMachine) (queue : List ℕ) (number : ℕ) (o : Option Part) (licence : Licence) → ((part : Part) → IsDriverLicensed catalog m queue number part licence) → HasLicence o licence
+    → MemberOf catalog m queue number o
+with_licence catalog m queue number o licence licensed h = (h.0, h.1, subst (IsDriverLicensed catalog m queue number h.0) (sym h.2) (licensed h.0))
 
-eligible_licensed : (catalog : Catalog) (m : DxeMachine) (queue : List Scheduled) (part : Part) (expr : PartExpr) → part.expr ≡ expr → lets_driver_start m.handles expr ≡ true
-    → IsDriverLicensed catalog m queue part (licence_in_group expr)
-eligible_licensed catalog m queue part E.Absent e h = (e, h)
-eligible_licensed catalog m queue part (E.Malformed at) e h = cc
-eligible_licensed catalog m queue part (E.Held (D.Before name)) e h = cc
-eligible_licensed catalog m queue part (E.Held (D.After name)) e h = cc
-eligible_licensed catalog m queue part (E.Held (D.Expr sor node)) e h = (D.Expr sor node, e, h)
-
-eligible_member : (catalog : Catalog) (m : DxeMachine) (queue : List Scheduled) (o : Option Part) → driver_may_start m.handles o ≡ true → MemberOf catalog m queue o
-eligible_member catalog m queue None h = cc
-eligible_member catalog m queue (Some part) h = (part, refl, eligible_licensed catalog m queue part part.expr refl h)
-
--- a list in two parts, and the lists of a flat one
-both_parts : {A : Type 0} (P : A → Type 0) (xs ys : List A) → Each P (xs ++ ys) → Each P xs × Each P ys
-both_parts P [] ys e = (tt, e)
-both_parts P (x ∷ xs) ys e = let later = both_parts P xs ys e.1 in ((e.0, later.0), later.1)
-
-each_list : {A : Type 0} (P : A → Type 0) (f : A → List A) (xs : List A) → Each P (flat_map f xs) → Each (λ x. Each P (f x)) xs
-each_list P f [] e = tt
-each_list P f (x ∷ xs) e = let both = both_parts P (f x) (flat_map f xs) e in (both.0, each_list P f xs both.1)
-
-abbrev IsMemberNumber : Catalog → DxeMachine → List Scheduled → ℕ → Type 0
-IsMemberNumber catalog m queue n = MemberOf catalog m queue (part_at Dxe catalog n)
-
--- each of a group whose drivers all stand in the queue
-members : (catalog : Catalog) (m : DxeMachine) (queue : List Scheduled) (deep x : ℕ) → IsMemberNumber catalog m queue x → Each (InQueue queue) (group_within catalog m deep x)
-    → Each (IsMemberNumber catalog m queue) (group_within catalog m deep x)
-members catalog m queue zero x h e = (h, tt)
-members catalog m queue (suc deep) x h e =
-    let group = group_within catalog m deep in
-    let left = flat_map group (befores catalog m x) in
-    let right = flat_map group (afters catalog m x) in
-    let parts = both_parts (InQueue queue) left (x ∷ right) e in
-    let before = each_both (IsBefore catalog m x) (λ y. Each (InQueue queue) (group y)) (befores catalog m x) (are_before catalog m x) (each_list (InQueue queue) group (befores catalog m x) parts.0) in
-    let after = each_both (IsAfter catalog m x) (λ y. Each (InQueue queue) (group y)) (afters catalog m x) (are_after catalog m x) (each_list (InQueue queue) group (afters catalog m x) parts.1.1) in
-    each_append (IsMemberNumber catalog m queue) left (x ∷ right)
-    (each_flat (IsMemberNumber catalog m queue) (λ y. IsBefore catalog m x y × Each (InQueue queue) (group y)) group (befores catalog m x)
-    (λ y k. members catalog m queue deep y (before_member catalog m queue (part_at Dxe catalog y) x k.0 parts.1.0) k.1) before) (
-      h,
-      each_flat (IsMemberNumber catalog m queue) (λ y. IsAfter catalog m x y × Each (InQueue queue) (group y)) group (afters catalog m x)
-          (λ y k. members catalog m queue deep y (after_member catalog m queue (part_at Dxe catalog y) x k.0.0 parts.1.0) k.1) after,
-    )
+member : (catalog : Catalog) (m : DxeMachine) (queue : List ℕ) (root z : ℕ) → IsMemberNumber catalog m queue root → IsRootOrPlaced catalog m queue root z → IsMemberNumber catalog m queue z
+member catalog m queue root z is (inl same) = subst (IsMemberNumber catalog m queue) (sym same) is
+member catalog m queue root z is (inr (inl h)) = with_licence catalog m queue z (part_at Dxe catalog z) G.Before (λ part. h) (before_has (driver_named catalog m) (part_at Dxe catalog z) h.0 h.1)
+member catalog m queue root z is (inr (inr h)) = with_licence catalog m queue z (part_at Dxe catalog z) G.After (λ part. h) (after_has (driver_named catalog m) (part_at Dxe catalog z) h.0 h.1)
 
 pub each_of_map : {A B : Type 0} (P : B → Type 0) (f : A → B) (xs : List A) → Each (λ x. P (f x)) xs → Each P (map f xs)
 each_of_map P f [] e = tt
 each_of_map P f (x ∷ xs) e = (e.0, each_of_map P f xs e.1)
 
-any_scheduled : (catalog : Catalog) (n : ℕ) (xs : List ℕ) → list_any (λ next. next.module_number == n) (schedule_of catalog xs) ≡ has_number xs n
-any_scheduled catalog n [] = refl
-any_scheduled catalog n (x ∷ xs) = ap (λ b. (x == n) || b) (any_scheduled catalog n xs)
-
-all_scheduled : (catalog : Catalog) (xs : List ℕ) → Each (InQueue (schedule_of catalog xs)) xs
-all_scheduled catalog xs = each_more (λ n. has_number xs n ≡ true) (InQueue (schedule_of catalog xs)) xs (λ n h. any_scheduled catalog n xs ∙ h) (each_has xs)
+scheduled_numbers : (catalog : Catalog) (xs : List ℕ) → numbers_of (schedule_of catalog xs) ≡ xs
+scheduled_numbers catalog [] = refl
+scheduled_numbers catalog (x ∷ xs) = ap (λ l. x ∷ l) (scheduled_numbers catalog xs)
 
 group_licensed : (catalog : Catalog) (m : DxeMachine) (number : ℕ) → is_eligible_driver catalog m number ≡ true → Each (IsMember catalog m (schedule_of catalog (companion_group catalog m number))) (schedule_of catalog (companion_group catalog m number))
 group_licensed catalog m number eligible =
     let group = companion_group catalog m number in
-    let queue = schedule_of catalog group in
     let may = both_of (not (is_unrequested catalog m number)) (driver_may_start m.handles (part_at Dxe catalog number)) eligible in
-    let root : IsMemberNumber catalog m queue number = eligible_member catalog m queue (part_at Dxe catalog number) may.1 in
-    each_of_map (IsMember catalog m queue) _ group (members catalog m queue (length (waiting catalog m)) number root (all_scheduled catalog group))
+    let root : IsMemberNumber catalog m group number = eligible_member catalog m group number (part_at Dxe catalog number) (not_true (is_unrequested catalog m number) may.0) may.1 in
+    let each = each_more (IsRootOrPlaced catalog m group number) (IsMemberNumber catalog m group) group (λ z h. member catalog m group number z root h) (all_placed catalog m (length (waiting catalog m)) number) in
+    each_of_map (IsMember catalog m (schedule_of catalog group)) _ group (subst (λ queue. Each (IsMemberNumber catalog m queue) group) (sym (scheduled_numbers catalog group)) each)
 
 found_licensed : (catalog : Catalog) (m : DxeMachine) (found : Option ℕ) → first_eligible catalog m ≡ found → Each (IsMember catalog m (group_scheduled catalog m found)) (group_scheduled catalog m found)
 found_licensed catalog m None e = tt

@@ -5,31 +5,20 @@ use Rattle.std.specs.Option.{option_and_then}
 use Rattle.pi_base.specs.declared.guid.Guid.{Guid}
 use Rattle.pi_base.specs.declared.phase.Phase.TheVariants.{Dxe}
 use Rattle.depex_code.specs.declared.depex.Depex.TheVariants as D
-use Rattle.boot_model.specs.declared.catalog.Catalog.{Catalog}
-use Rattle.boot_model.specs.declared.catalog.Part.{Part}
-use Rattle.boot_model.specs.declared.catalog.PartExpr.{PartExpr}
-use Rattle.boot_model.specs.declared.catalog.PartExpr.TheVariants as E
-use Rattle.boot_model.specs.Lists.{Each}
-use Rattle.boot_model.specs.HandleState.{HandleState}
+use Rattle.catalog_model.specs.declared.catalog.Catalog.{Catalog}
+use Rattle.catalog_model.specs.declared.catalog.Part.{Part}
+use Rattle.catalog_model.specs.declared.catalog.PartExpr.{PartExpr}
+use Rattle.catalog_model.specs.declared.catalog.PartExpr.TheVariants as E
+use Rattle.pi_base.specs.Lists.{Each}
+use Rattle.store_model.specs.HandleState.{HandleState}
 use Rattle.boot_model.specs.DxeMachine.{DxeMachine}
-use Rattle.boot_model.specs.Parts.{part_at}
+use Rattle.catalog_model.specs.Parts.{part_at}
 use Rattle.boot_model.specs.DxeChoice.{waiting, driver_named, before_of, after_of, name_by, targets, befores, afters, group_within, lets_driver_start, driver_may_start, is_eligible_driver, is_unrequested}
+use Rattle.boot_model.specs.DriverLicence.{named_by, first_of, target_of, Leads}
 use Rattle.boot_laws.proofs.ListFacts.{each_more, each_append, each_filter, each_flat, each_both, each_cross}
 use Rattle.boot_laws.proofs.Distinct.{Apart, AllApart, Distinct, distinct_append, distinct_filter, distinct_flat}
 use Rattle.boot_laws.proofs.PartLists.{both_of, is_equal, passed}
-use Rattle.boot_laws.proofs.Chains.{Leads, leads_on, Over, one_below, not_over}
-
--- the driver that an expression names by a form
-abbrev pub named_by : (PartExpr → Option Guid) → Catalog → DxeMachine → ℕ → Option ℕ
-named_by form catalog m number = option_and_then (driver_named catalog m) (name_by form catalog number)
-
-abbrev pub first_of : Option ℕ → Option ℕ → Option ℕ
-first_of (Some a) other = Some a
-first_of None other = other
-
--- the driver that a companion names
-abbrev pub target_of : Catalog → DxeMachine → ℕ → Option ℕ
-target_of catalog m number = first_of (named_by before_of catalog m number) (named_by after_of catalog m number)
+use Rattle.boot_laws.proofs.Chains.{leads_on, Over, one_below, not_over}
 
 -- no expression names by both forms
 by_expression : (expr : PartExpr) → is_some (after_of expr) ≡ true → before_of expr ≡ None
@@ -70,10 +59,10 @@ after_is catalog m x n h =
 pub are_after : (catalog : Catalog) (m : DxeMachine) (x : ℕ) → Each (IsAfter catalog m x) (afters catalog m x)
 are_after catalog m x = passed (IsAfter catalog m x) (λ number. targets catalog m x (name_by after_of catalog number)) (waiting catalog m) (after_is catalog m x)
 
-before_names : (catalog : Catalog) (m : DxeMachine) (x y : ℕ) → IsBefore catalog m x y → target_of catalog m y ≡ Some x
+pub before_names : (catalog : Catalog) (m : DxeMachine) (x y : ℕ) → IsBefore catalog m x y → target_of catalog m y ≡ Some x
 before_names catalog m x y h = ap (λ o. first_of o (named_by after_of catalog m y)) h
 
-after_names : (catalog : Catalog) (m : DxeMachine) (x y : ℕ) → IsAfter catalog m x y → target_of catalog m y ≡ Some x
+pub after_names : (catalog : Catalog) (m : DxeMachine) (x y : ℕ) → IsAfter catalog m x y → target_of catalog m y ≡ Some x
 after_names catalog m x y h = ap (λ o. first_of o (named_by after_of catalog m y)) h.1 ∙ h.0
 
 not_both : (catalog : Catalog) (m : DxeMachine) (x y z : ℕ) → IsBefore catalog m x y → IsAfter catalog m x z → y ≢ z

@@ -10,6 +10,8 @@ pub mod Volumes
 pub mod Chains
 pub mod Groups
 pub mod Queue
+pub mod Beside
+pub mod EachDriver
 mod PeiEnds
 pub mod DriverActions
 pub mod DxeCases
@@ -17,8 +19,41 @@ pub mod DxeOnce
 pub mod DxeSteps
 mod DxeEnds
 pub mod GroupLicences
+pub mod GroupUnfolds
 pub mod DxeStopsIdle
+pub mod DriverCalls
+pub mod DriverGrowth
+mod Unrequested
 mod DxeLicences
 pub mod MovedHobs
+mod Unmoved
 mod NestedInItself
 mod BootEnds
+mod TurnedGroup
+pub mod Bodies
+pub mod Later
+pub mod Staying
+mod CoreSweeps
+mod Firings
+mod Openings
+mod Standing
+mod SoundSteps
+mod PeiStarts
+mod PeiOnce
+pub mod PeiOrders
+mod ReportedVolumes
+mod LastingGuids
+mod QuietServices
+mod GuidLists
+mod InstalledGuids
+mod ActionGuids
+mod MovedGuids
+mod EventGuids
+mod StepGuids
+mod Scripts
+mod StoreLaws
+mod ScriptHobs
+mod EffectFacts
+mod RunFacts
+mod PeiLicences
+mod PlanBoards

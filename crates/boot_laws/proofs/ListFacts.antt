@@ -1,50 +1,14 @@
 -- What holds of each item of a list, and where a list of numbers has one.
 use Rattle.std.proofs.Common.{◌≡◌, ℕ, zero, suc, ◌<◌, ◌==◌, Bool, true, false, ◌||◌, cond, List, [], ◌∷◌, ◌++◌, Option, Some, refl, subst, length, arith, is_some}
-use Rattle.std.specs.Prelude.{slice_get, find, filter, flat_map}
+use Rattle.std.specs.Prelude.{slice_get, find, flat_map}
 use Rattle.std.specs.Option.{option_and_then}
 use Rattle.std.proofs.lemmas.Bool.Decides.{nat_tests}
-use Rattle.boot_model.specs.Lists.{Each, Ordered}
-use Rattle.boot_model.specs.Parts.{has_number}
-
-pub each_more : {A : Type 0} (P Q : A → Type 0) (xs : List A) → ((x : A) → P x → Q x) → Each P xs → Each Q xs
-each_more P Q [] f e = tt
-each_more P Q (x ∷ xs) f e = (f x e.0, each_more P Q xs f e.1)
-
-pub each_append : {A : Type 0} (P : A → Type 0) (xs ys : List A) → Each P xs → Each P ys → Each P (xs ++ ys)
-each_append P [] ys e f = f
-each_append P (x ∷ xs) ys e f = (e.0, each_append P xs ys e.1 f)
-
-pub each_both : {A : Type 0} (P Q : A → Type 0) (xs : List A) → Each P xs → Each Q xs → Each (λ x. P x × Q x) xs
-each_both P Q [] e f = tt
-each_both P Q (x ∷ xs) e f = ((e.0, f.0), each_both P Q xs e.1 f.1)
-
-pub each_cross : {A B : Type 0} (P : A → Type 0) (Q : B → Type 0) (R : A → B → Type 0) (xs : List A) (ys : List B) → ((x : A) (y : B) → P x → Q y → R x y)
-    → Each P xs → Each Q ys → Each (λ x. Each (R x) ys) xs
-each_cross P Q R [] ys f e g = tt
-each_cross P Q R (x ∷ xs) ys f e g = (each_more Q (R x) ys (λ y q. f x y e.0 q) g, each_cross P Q R xs ys f e.1 g)
+use Rattle.pi_base.specs.Lists.{Each}
+use Rattle.catalog_model.specs.Parts.{has_number}
+pub use Rattle.pi_base.proofs.ListFacts.{each_more, each_append, each_both, each_cross, each_filter, ordered_filter, ordered_append}
 
 pub each_push : {A : Type 0} (P : A → Type 0) (xs : List A) (x : A) → Each P xs → P x → Each P (xs ++ x ∷ [])
 each_push P xs x e p = each_append P xs (x ∷ []) e (p, tt)
-
-each_kept : {A : Type 0} (P : A → Type 0) (b : Bool) (x : A) (xs : List A) → P x → Each P xs → Each P (cond b (x ∷ xs) xs)
-each_kept P true x xs p e = (p, e)
-each_kept P false x xs p e = e
-
-pub each_filter : {A : Type 0} (P : A → Type 0) (test : A → Bool) (xs : List A) → Each P xs → Each P (filter test xs)
-each_filter P test [] e = tt
-each_filter P test (x ∷ xs) e = each_kept P (test x) x (filter test xs) e.0 (each_filter P test xs e.1)
-
-ordered_kept : {A : Type 0} (R : A → A → Type 0) (b : Bool) (x : A) (xs : List A) → Each (R x) xs → Ordered R xs → Ordered R (cond b (x ∷ xs) xs)
-ordered_kept R true x xs p e = (p, e)
-ordered_kept R false x xs p e = e
-
-pub ordered_filter : {A : Type 0} (R : A → A → Type 0) (test : A → Bool) (xs : List A) → Ordered R xs → Ordered R (filter test xs)
-ordered_filter R test [] e = tt
-ordered_filter R test (x ∷ xs) e = ordered_kept R (test x) x (filter test xs) (each_filter (R x) test xs e.0) (ordered_filter R test xs e.1)
-
-pub ordered_append : {A : Type 0} (R : A → A → Type 0) (xs ys : List A) → Ordered R xs → Ordered R ys → Each (λ x. Each (R x) ys) xs → Ordered R (xs ++ ys)
-ordered_append R [] ys e f g = f
-ordered_append R (x ∷ xs) ys e f g = (each_append (R x) xs ys e.0 g.0, ordered_append R xs ys e.1 f g.1)
 
 found_one : {A : Type 0} (P : A → Type 0) (y x : A) (later : Option A) (b : Bool) → P y → (later ≡ Some x → P x) → cond b (Some y) later ≡ Some x → P x
 found_one P y x later true p down h = let same : y ≡ x = cc in subst P same p
@@ -57,7 +21,7 @@ has_later false b h = h
 pub has_here : (a b : Bool) → a ≡ true → (a || b) ≡ true
 has_here a b h = cc
 
-has_first : (x : ℕ) (xs : List ℕ) → has_number (x ∷ xs) x ≡ true
+pub has_first : (x : ℕ) (xs : List ℕ) → has_number (x ∷ xs) x ≡ true
 has_first x xs = let e : (x == x) ≡ true = grind (arith, nat_tests) in has_here (x == x) (has_number xs x) e
 
 pub each_flat : {A : Type 0} (P Q : A → Type 0) (f : A → List A) (xs : List A) → ((x : A) → Q x → Each P (f x)) → Each Q xs → Each P (flat_map f xs)

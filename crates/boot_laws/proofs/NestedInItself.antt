@@ -3,12 +3,12 @@ use Rattle.std.proofs.Common.{◌≡◌, ℕ, [], ◌∷◌, Some, None, refl}
 use Rattle.std.specs.Prelude.{replicate}
 use Rattle.pi_base.specs.declared.phase.Phase.TheVariants.{Dxe}
 use Rattle.hob_codec.specs.declared.kind.TheConstants.{VOLUME}
-use Rattle.boot_model.specs.declared.file_type.TheConstants.{FILE_DRIVER}
-use Rattle.boot_model.specs.declared.catalog.Catalog.{Catalog}
-use Rattle.boot_model.specs.declared.catalog.Module.{Module}
-use Rattle.boot_model.specs.declared.catalog.PartExpr.TheVariants.{Absent}
-use Rattle.boot_model.specs.declared.state.Body.TheVariants.{Bytes}
-use Rattle.boot_model.specs.StoreState.{Board, StoreState, empty_store}
+use Rattle.catalog_model.specs.FileType.{DRIVER as FILE_DRIVER}
+use Rattle.catalog_model.specs.declared.catalog.Catalog.{Catalog}
+use Rattle.catalog_model.specs.declared.catalog.Module.{Module}
+use Rattle.catalog_model.specs.declared.catalog.PartExpr.TheVariants.{Absent}
+use Rattle.store_model.specs.declared.state.Body.TheVariants.{Bytes}
+use Rattle.store_model.specs.StoreState.{Board, StoreState, empty_store}
 use Rattle.boot_model.specs.DxeRun.{dxe_run, dxe_opening, dxe_end}
 
 -- a driver of rank 0 that does nothing

@@ -3,21 +3,22 @@ use Rattle.std.proofs.Common.{◌≡◌, ℕ, zero, suc, ◌+◌, ◌≤◌, ◌
 use Rattle.std.specs.Option.{option_and_then}
 use Rattle.pi_base.specs.declared.phase.Phase.TheVariants.{Pei}
 use Rattle.act_code.specs.declared.action.Action.{Action}
-use Rattle.boot_model.specs.declared.catalog.Catalog.{Catalog}
-use Rattle.boot_model.specs.declared.catalog.Part.{Part}
-use Rattle.boot_model.specs.declared.frame.Frame.{Frame}
+use Rattle.catalog_model.specs.declared.catalog.Catalog.{Catalog}
+use Rattle.catalog_model.specs.declared.catalog.Part.{Part}
+use Rattle.boot_model.specs.PeiMachine.{Frame}
 use Rattle.boot_model.specs.declared.line.Line.TheVariants as L
-use Rattle.boot_model.specs.declared.store_handle.Sweep.{Sweep}
-use Rattle.boot_model.specs.Lists.{Each}
-use Rattle.boot_model.specs.Service.{Service}
-use Rattle.boot_model.specs.Service.Sweep.{next_match}
-use Rattle.boot_model.specs.Service.Queue.{queue_pop}
-use Rattle.boot_model.specs.Service.Install.{core_install}
-use Rattle.boot_model.specs.Migration.{migration}
-use Rattle.boot_model.specs.PeiMachine.{PeiMachine, Spent, Deep, printed}
-use Rattle.boot_model.specs.Parts.{has_number, part_at}
+use Rattle.store_model.specs.declared.store_handle.Sweep.{Sweep}
+use Rattle.pi_base.specs.Lists.{Each}
+use Rattle.store_model.specs.Service.{Service}
+use Rattle.store_model.specs.Service.Sweep.{next_match}
+use Rattle.store_model.specs.Service.Queue.{queue_pop}
+use Rattle.store_model.specs.Service.Install.{core_install}
+use Rattle.store_model.specs.Migration.{migration}
+use Rattle.boot_model.specs.PeiMachine.{PeiMachine, printed}
+use Rattle.boot_model.specs.declared.phase_end.PeiEnd.TheVariants.{Spent, Deep}
+use Rattle.catalog_model.specs.Parts.{has_number, part_at}
 use Rattle.boot_model.specs.PeiChoice.{next_peim}
-use Rattle.boot_model.specs.PeiAction.{Effect, Wrote, Called, Shadowed, Logged, Skipped, Returned, effect}
+use Rattle.boot_model.specs.PeiAction.{Effect, Wrote, Called, Own, Shadowed, Logged, Skipped, Returned, effect}
 use Rattle.boot_model.specs.PeiStep.{PeiCase, Fires, Acts, Moves, Pops, Starts, Stops, case_of, in_case, pei_step, callback_begun, action_at, after_effect, core_called, started_part, start_frames, open_sweep, swept}
 use Rattle.boot_model.specs.PeiRun.{pei_run, pei_opening, pei_bound}
 use Rattle.boot_laws.specs.RunsEnd.{PeiRunsEnd}
@@ -44,7 +45,7 @@ either_way catalog false one other h k = k
 effect_way : (catalog : Catalog) (m : PeiMachine) (frame : Frame) (below : List Frame) (e : Effect) → SweepsAreLater below → Each (HasPart Pei catalog) m.started → IsUnderWay catalog (after_effect catalog m frame below e)
 effect_way catalog m frame below (Wrote registers status) h parts = record { sweeps = (not_zero frame.position 0, h); parts = parts }
 effect_way catalog m frame below (Called name reply) h parts = record { sweeps = (not_zero frame.position 0, h); parts = parts }
-effect_way catalog m frame below Shadowed h parts =
+effect_way catalog m frame below (Own Shadowed) h parts =
     either_way catalog (has_number m.shadows frame.module_number) _ _ (record { sweeps = (not_zero frame.position 0, h); parts = parts }) (record { sweeps = (not_zero frame.position 0, h); parts = parts })
 effect_way catalog m frame below (Logged text) h parts = record { sweeps = (not_zero frame.position 0, h); parts = parts }
 effect_way catalog m frame below (Skipped n) h parts = record { sweeps = (not_zero frame.position n, h); parts = parts }

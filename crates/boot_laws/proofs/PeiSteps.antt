@@ -5,24 +5,25 @@ use Rattle.std.specs.Option.{option_and_then}
 use Rattle.std.proofs.lemmas.Bool.Decides.{nat_tests}
 use Rattle.pi_base.specs.declared.phase.Phase.{Phase}
 use Rattle.pi_base.specs.declared.phase.Phase.TheVariants.{Pei}
-use Rattle.boot_model.specs.declared.catalog.Catalog.{Catalog}
-use Rattle.boot_model.specs.declared.catalog.Part.{Part}
-use Rattle.boot_model.specs.declared.frame.Frame.{Frame}
+use Rattle.catalog_model.specs.declared.catalog.Catalog.{Catalog}
+use Rattle.catalog_model.specs.declared.catalog.Part.{Part}
+use Rattle.boot_model.specs.PeiMachine.{Frame}
 use Rattle.boot_model.specs.declared.line.Line.TheVariants as L
-use Rattle.boot_model.specs.declared.store_handle.Sweep.{Sweep}
-use Rattle.boot_model.specs.Lists.{Each, numbers}
-use Rattle.boot_model.specs.StoreState.{StoreState}
-use Rattle.boot_model.specs.Service.{Service}
-use Rattle.boot_model.specs.Service.Sweep.{next_match}
-use Rattle.boot_model.specs.Service.Queue.{queue_pop}
-use Rattle.boot_model.specs.Service.Install.{core_install}
-use Rattle.boot_model.specs.Migration.{migration}
-use Rattle.boot_model.specs.PeiMachine.{PeiMachine, Spent, Deep, printed}
-use Rattle.boot_model.specs.Parts.{has_number, part_at}
-use Rattle.boot_model.specs.WellFormed.{part_of}
+use Rattle.store_model.specs.declared.store_handle.Sweep.{Sweep}
+use Rattle.pi_base.specs.Lists.{Each, numbers}
+use Rattle.store_model.specs.StoreState.{StoreState}
+use Rattle.store_model.specs.Service.{Service}
+use Rattle.store_model.specs.Service.Sweep.{next_match}
+use Rattle.store_model.specs.Service.Queue.{queue_pop}
+use Rattle.store_model.specs.Service.Install.{core_install}
+use Rattle.store_model.specs.Migration.{migration}
+use Rattle.boot_model.specs.PeiMachine.{PeiMachine, printed}
+use Rattle.boot_model.specs.declared.phase_end.PeiEnd.TheVariants.{Spent, Deep}
+use Rattle.catalog_model.specs.Parts.{has_number, part_at}
+use Rattle.catalog_model.specs.WellFormed.{part_of}
 use Rattle.boot_model.specs.Eligible.{is_eligible, may_start, may_start_again}
 use Rattle.boot_model.specs.PeiChoice.{pei_order, rotated, next_peim}
-use Rattle.boot_model.specs.PeiAction.{Effect, Wrote, Called, Shadowed, Logged, Skipped, Returned, effect}
+use Rattle.boot_model.specs.PeiAction.{Effect, Wrote, Called, Own, Shadowed, Logged, Skipped, Returned, effect}
 use Rattle.boot_model.specs.PeiStep.{PeiCase, Fires, Acts, Moves, Pops, Starts, Stops, case_of, in_case, pei_step, callback_begun, action_at, after_effect, core_called, popped_to, started_part, start_frames, open_sweep, past}
 use Rattle.boot_laws.proofs.Counting.{one_if, missing, In, in_numbers, fewer}
 use Rattle.boot_laws.proofs.ListFacts.{each_at, within, found_passes}
@@ -89,7 +90,7 @@ effect_left catalog fuel m frame below (Wrote registers status) k = let b = betw
 effect_left catalog fuel m frame below (Called name reply) k =
     let b = between_le (after_effect catalog m frame below (Called name reply)).frames in
     let same : one_if (not reply.store.moved) ≡ one_if (not m.store.moved) = ap (λ x. one_if (not x)) k in omega arith
-effect_left catalog fuel m frame below Shadowed k =
+effect_left catalog fuel m frame below (Own Shadowed) k =
     let b = between_le (past frame 0 ∷ below) in
     either_left catalog fuel (rest catalog fuel m) (has_number m.shadows frame.module_number) _ _ (omega (arith, b)) (omega (arith, b))
 effect_left catalog fuel m frame below (Logged text) k = let b = between_le (after_effect catalog m frame below (Logged text)).frames in omega arith

@@ -2,20 +2,18 @@
 use Rattle.std.proofs.Common.{◌≡◌, ℕ, Bool, true, false, not, ◌||◌, List, [], ◌∷◌, ◌++◌, Option, Some, None, refl, sym, subst, ap, ◌∙◌, map, length}
 use Rattle.std.specs.Prelude.{◌≢◌, flat_map}
 use Rattle.pi_base.specs.declared.phase.Phase.TheVariants.{Dxe}
-use Rattle.boot_model.specs.declared.catalog.Catalog.{Catalog}
+use Rattle.catalog_model.specs.declared.catalog.Catalog.{Catalog}
 use Rattle.boot_model.specs.declared.driver.Scheduled.{Scheduled}
-use Rattle.boot_model.specs.Lists.{Each}
-use Rattle.boot_model.specs.Parts.{has_number, parts_in, module_volume}
+use Rattle.pi_base.specs.Lists.{Each}
+use Rattle.catalog_model.specs.Parts.{has_number, parts_in, module_volume}
 use Rattle.boot_model.specs.DxeMachine.{DxeMachine}
 use Rattle.boot_model.specs.DxeChoice.{discovered_order, is_waiting, is_scheduled, waiting, is_eligible_driver, companion_group, queue_from, first_eligible, group_scheduled, driver_queue}
+use Rattle.boot_model.specs.DriverLicence.{numbers_of}
 use Rattle.boot_laws.proofs.ListFacts.{each_more, each_append, each_filter, each_both, each_cross, each_at, each_found, found_passes, has_later}
 use Rattle.boot_laws.proofs.Distinct.{Apart, AllApart, Distinct, absent, distinct_append, distinct_filter}
 use Rattle.boot_laws.proofs.PartLists.{IsKnown, both_of, passed, distinct_of, known_of, drivers_are, ranked_in, ranked_are}
 use Rattle.boot_laws.proofs.Volumes.{IsNew, new_apart, not_true}
 use Rattle.boot_laws.proofs.Groups.{distinct_group, each_of_group}
-
-abbrev pub numbers_of : List Scheduled → List ℕ
-numbers_of queue = map (λ next. next.module_number) queue
 
 -- the volumes that were discovered, the drivers that are scheduled, and those that have started
 pub record AreQueued (catalog : Catalog) (volumes queue started : List ℕ) : Type 0 where

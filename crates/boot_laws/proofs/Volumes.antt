@@ -1,11 +1,11 @@
 -- The volumes that a report or a discovery adds are none of those before, and none comes twice.
 use Rattle.std.proofs.Common.{◌≡◌, ℕ, ◌+◌, ◌<◌, ◌==◌, ◌⊎◌, inl, inr, Bool, true, false, not, ◌||◌, cond, List, [], ◌∷◌, ◌++◌, Option, Some, None, refl, sym, arith}
 use Rattle.std.specs.Prelude.{◌≢◌, filter, IfSome}
-use Rattle.boot_model.specs.declared.catalog.Catalog.{Catalog}
-use Rattle.boot_model.specs.declared.catalog.VolumeEntry.{VolumeEntry}
-use Rattle.boot_model.specs.Lists.{Each}
-use Rattle.boot_model.specs.WellFormed.{AreNumbered}
-use Rattle.boot_model.specs.Parts.{has_number, is_nested_in, family_from, family, volume_at}
+use Rattle.catalog_model.specs.declared.catalog.Catalog.{Catalog}
+use Rattle.catalog_model.specs.declared.catalog.VolumeEntry.{VolumeEntry}
+use Rattle.pi_base.specs.Lists.{Each}
+use Rattle.catalog_model.specs.WellFormed.{AreNumbered}
+use Rattle.catalog_model.specs.Parts.{has_number, is_nested_in, family_from, family, volume_at}
 use Rattle.boot_model.specs.Reporting.{newcomers}
 use Rattle.boot_model.specs.Discovery.{discoveries}
 use Rattle.boot_laws.proofs.ListFacts.{each_more, each_append, each_at}
@@ -91,7 +91,7 @@ parted_on : (here later more both : Bool) → (both ≡ false → (later ≡ fal
 parted_on true later more both f h = cc
 parted_on false later more both f h = f h
 
-parted : (known more : List ℕ) (v : ℕ) → IsNew (known ++ more) v → IsNew known v × IsNew more v
+pub parted : (known more : List ℕ) (v : ℕ) → IsNew (known ++ more) v → IsNew known v × IsNew more v
 parted [] more v h = (refl, h)
 parted (x ∷ xs) more v h = parted_on (x == v) (has_number xs v) (has_number more v) (has_number (xs ++ more) v) (λ k. parted xs more v k) h
 

@@ -1,5 +1,15 @@
 pub mod RunsEnd
 pub mod DriverStarts
 pub mod DriverLicences
-pub mod MoveKeepsHobs
 pub mod BootEnds
+pub mod DiscoveredOrder
+pub mod GroupUnfolds
+pub mod Stay
+pub mod SoundRuns
+pub mod PeiOrder
+pub mod Moves
+pub mod ChangedGuids
+pub mod RunFacts
+pub mod Boards
+pub mod DriverSteps
+pub mod UnrequestedDrivers

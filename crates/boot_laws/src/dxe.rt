@@ -1,7 +1,11 @@
 //! Laws of the machine of DXE, each on a function without a body.
+ghost use Rattle.boot_laws.specs.DiscoveredOrder.{DiscoveredOrderHasEachOnce};
 ghost use Rattle.boot_laws.specs.DriverLicences.{DriversStartLicensed};
 ghost use Rattle.boot_laws.specs.DriverStarts.{DriversStartOnce};
+ghost use Rattle.boot_laws.specs.DriverSteps.{DriverStepsGrow, DriversAreFew, RefusedCallsChangeNothing};
+ghost use Rattle.boot_laws.specs.GroupUnfolds.{GroupsAreSmall, GroupsUnfold};
 ghost use Rattle.boot_laws.specs.RunsEnd.{DxeRunsEnd};
+ghost use Rattle.boot_laws.specs.UnrequestedDrivers.{UnrequestedDriversWait};
 
 /// A run of DXE has ended within the steps that its catalogue and its fuel let it take.
 pub fn dxe_runs_end()
@@ -16,4 +20,39 @@ pub fn drivers_start_once()
 /// In a run of DXE each start has its licence, and the stop comes only where no driver may start.
 pub fn drivers_start_licensed()
     ensures { DriversStartLicensed }
+{}
+
+/// In a run of DXE the discovered order has each driver of a discovered volume once, and nothing else.
+pub fn discovered_order_has_each_once()
+    ensures { DiscoveredOrderHasEachOnce }
+{}
+
+/// The group of a driver over an eligible one is made without a depth.
+pub fn groups_unfold()
+    ensures { GroupsUnfold }
+{}
+
+/// The group of an eligible driver has no more drivers than wait, each once.
+pub fn groups_are_small()
+    ensures { GroupsAreSmall }
+{}
+
+/// A step of DXE keeps the store, and adds volumes and requests behind those that there were, so that the driver of a name stays.
+pub fn driver_steps_grow()
+    ensures { DriverStepsGrow }
+{}
+
+/// A call of DXE that is refused changes nothing but the last status.
+pub fn refused_calls_change_nothing()
+    ensures { RefusedCallsChangeNothing }
+{}
+
+/// In a run of DXE the discovered order, and the drivers that are scheduled or have started, are no more than the modules.
+pub fn drivers_are_few()
+    ensures { DriversAreFew }
+{}
+
+/// In a run of DXE a driver with SOR that nobody requested waits, unless it has a place in its volume's a priori list.
+pub fn unrequested_drivers_wait()
+    ensures { UnrequestedDriversWait }
 {}

@@ -1,10 +1,31 @@
 //! Laws of the boot machine: what holds of every run, whatever the scripts do.
 #![tactic(auto)]
 
+mod boards;
 mod dxe;
+mod guids;
+mod order;
 mod pei;
+mod sound;
 mod whole_boot;
 
-pub use dxe::{drivers_start_licensed, drivers_start_once, dxe_runs_end};
-pub use pei::{move_keeps_hobs, pei_runs_end};
+pub use boards::{boards_are_sound, boots_are_licensed, boots_have_facts};
+pub use dxe::{
+    discovered_order_has_each_once, driver_steps_grow, drivers_are_few, drivers_start_licensed,
+    drivers_start_once, dxe_runs_end, groups_are_small, groups_unfold,
+    refused_calls_change_nothing, unrequested_drivers_wait,
+};
+pub use guids::{guids_are_there, guids_are_these, guids_change};
+pub use order::{
+    order_has_each_part_once, order_is_of_modules, orders_of_runs_are_whole,
+    reported_volumes_differ,
+};
+pub use pei::{
+    licensed_run, moves_change_nothing, opening_has_facts, pei_runs_end, run_has_facts,
+    starts_at_most_once, step_has_facts,
+};
+pub use sound::{
+    actions_are_sound, core_sweeps_are_sound, matches_are_sound, opening_is_sound, pops_are_sound,
+    replies_are_sound, starts_keep_sound, steps_keep_sound, sweeps_stay,
+};
 pub use whole_boot::boots_end;

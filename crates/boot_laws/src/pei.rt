@@ -1,13 +1,58 @@
 //! Laws of the machine of PEI, each on a function without a body.
-ghost use Rattle.boot_laws.specs.MoveKeepsHobs.{MoveKeepsHobs};
+ghost use Rattle.boot_laws.specs.Moves.{MovesChangeNothing};
+ghost use Rattle.boot_laws.specs.RunFacts.{OpeningHasFacts, StepHasFacts, RunHasFacts};
 ghost use Rattle.boot_laws.specs.RunsEnd.{PeiRunsEnd};
+ghost use Rattle.boot_model.specs.Licence.{IsLicensedRun, StartsAtMostOnce};
+
+use store_laws::{services_keep_facts, states_fit, steps_keep_facts};
 
 /// A run of PEI has ended within the steps that its catalogue and its fuel let it take.
 pub fn pei_runs_end()
     ensures { PeiRunsEnd }
 {}
 
-/// The move keeps each HOB's type, length and place, and each body that is no descriptor.
-pub fn move_keeps_hobs()
-    ensures { MoveKeepsHobs }
+/// The move changes no PPI, notification or other HOB.
+pub fn moves_change_nothing()
+    ensures { MovesChangeNothing }
+{}
+
+/// Over a well-formed catalogue and a board with its facts, every machine of a run of PEI has its facts: what its store says fits, and what its registers hold is there.
+pub fn run_has_facts()
+    ensures { RunHasFacts }
+{
+    services_keep_facts();
+    steps_keep_facts();
+    states_fit();
+}
+
+/// So has the opening.
+pub fn opening_has_facts()
+    ensures { OpeningHasFacts }
+{
+    services_keep_facts();
+    steps_keep_facts();
+    states_fit();
+}
+
+/// And each step keeps them.
+pub fn step_has_facts()
+    ensures { StepHasFacts }
+{
+    services_keep_facts();
+    steps_keep_facts();
+    states_fit();
+}
+
+/// In a run of PEI each start has its licence, the move changes no PPI, notification or other HOB, and the stop comes only where no part of a reported volume may start.
+pub fn licensed_run()
+    ensures { IsLicensedRun }
+{
+    services_keep_facts();
+    steps_keep_facts();
+    states_fit();
+}
+
+/// In a run of PEI no part starts twice, but one that registered for shadow, and that one after the move.
+pub fn starts_at_most_once()
+    ensures { StartsAtMostOnce }
 {}

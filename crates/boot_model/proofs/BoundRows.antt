@@ -7,16 +7,17 @@ use Rattle.uuid.specs.Text.{by_index}
 use Rattle.pi_base.specs.declared.word.Word.TheVariants.{Success, OutOfResources}
 use Rattle.act_code.specs.declared.action.Action.TheVariants as A
 use Rattle.act_code.specs.declared.action.GuidArg.TheVariants as G
-use Rattle.boot_model.specs.declared.catalog.Module.{Module}
-use Rattle.boot_model.specs.declared.catalog.PartExpr.TheVariants.{Absent}
+use Rattle.catalog_model.specs.declared.catalog.Module.{Module}
+use Rattle.catalog_model.specs.declared.catalog.PartExpr.TheVariants.{Absent}
 use Rattle.boot_model.specs.declared.line.Line.{Line}
 use Rattle.boot_model.specs.declared.line.Line.TheVariants as L
 use Rattle.boot_model.specs.declared.line.CallName.TheVariants as C
 use Rattle.boot_model.specs.declared.line.Extra.TheVariants as X
 use Rattle.boot_model.specs.Text.{text_of, keyword, word_text, licence_text, call_text, reason_text, end_text}
-use Rattle.boot_model.specs.StoreState.{Board}
+use Rattle.store_model.specs.StoreState.{Board}
 use Rattle.boot_model.specs.BootRun.{boot_lines}
-use Rattle.boot_model.specs.PeiMachine.{PeiMachine, Spent, Deep}
+use Rattle.boot_model.specs.PeiMachine.{PeiMachine}
+use Rattle.boot_model.specs.declared.phase_end.PeiEnd.TheVariants.{Spent, Deep}
 use Rattle.boot_model.specs.PeiRun.{pei_end}
 use Rattle.boot_model.proofs.WorkedBoots.{guid, board, one_volume, peim, ppi_desc, fuel}
 

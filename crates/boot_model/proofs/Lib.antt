@@ -1,12 +1,11 @@
-pub mod ListFacts
-pub mod OwnModules
-pub mod Stretches
-pub mod Bases
-pub mod Numbering
-pub mod PlanVolumes
 mod BoundRows
-mod DxeRows
-mod PeiOnce
+mod ArchitecturalRows
+mod CompanionRows
+mod DiscoveryRows
+mod DxeBoundRows
+mod HandleRows
+mod PeekRows
+mod RequestRows
+pub mod Held
 mod PeiRows
-mod PeiStarts
 mod WorkedBoots

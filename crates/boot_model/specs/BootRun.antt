@@ -1,27 +1,31 @@
 -- A whole boot: PEI to its end, and DXE where PEI handed off. Its lines are those of both, the lists of the last store, the handles, and the result.
 -- Own.
 use Rattle.std.specs.Prelude.{ℕ, List, [], ◌∷◌, ◌++◌, length, map, Option, Some, None}
-use Rattle.boot_model.specs.declared.catalog.Catalog.{Catalog}
+use Rattle.catalog_model.specs.declared.catalog.Catalog.{Catalog}
 use Rattle.boot_model.specs.declared.line.Line.{Line}
 use Rattle.boot_model.specs.declared.line.Line.TheVariants as L
 use Rattle.boot_model.specs.declared.line.RunEnd.{RunEnd}
 use Rattle.boot_model.specs.declared.line.RunEnd.TheVariants as E
-use Rattle.boot_model.specs.StoreState.{Board}
+use Rattle.store_model.specs.StoreState.{Board}
 use Rattle.boot_model.specs.Listing.{store_lines}
-use Rattle.boot_model.specs.HandleState.{HandleState, no_handles}
-use Rattle.boot_model.specs.PeiMachine.{PeiMachine, PeiOutcome, HandsOff, NoMemory, NoIpl, Spent, Deep}
+use Rattle.store_model.specs.HandleState.{HandleState, no_handles}
+use Rattle.boot_model.specs.PeiMachine.{PeiMachine}
+use Rattle.boot_model.specs.declared.phase_end.PeiEnd.{PeiEnd}
+use Rattle.boot_model.specs.declared.phase_end.PeiEnd.TheVariants.{Handoff, NoMemory, NoIpl, Spent, Deep}
 use Rattle.boot_model.specs.PeiRun.{pei_end}
-use Rattle.boot_model.specs.DxeMachine.{DxeMachine, DxeOutcome, Stopped, DxeSpent, DxeDeep}
+use Rattle.boot_model.specs.DxeMachine.{DxeMachine}
+use Rattle.boot_model.specs.declared.phase_end.DxeEnd.{DxeEnd}
+use Rattle.boot_model.specs.declared.phase_end.DxeEnd.TheVariants as DxeEnds
 use Rattle.boot_model.specs.DxeRun.{dxe_end}
 
 -- the handles, after the number of interfaces
 abbrev pub handle_lines : HandleState → List Line
 handle_lines h = L.Handles (length h.interfaces) ∷ map (λ i. L.Handle i.handle i.guid i.value) h.interfaces
 
-abbrev pub dxe_result : DxeOutcome → RunEnd
-dxe_result Stopped = E.Done
-dxe_result DxeSpent = E.Spent
-dxe_result DxeDeep = E.Deep
+abbrev pub dxe_result : DxeEnd → RunEnd
+dxe_result DxeEnds.Done = E.Done
+dxe_result DxeEnds.Spent = E.Spent
+dxe_result DxeEnds.Deep = E.Deep
 
 -- the last lines: the lists, the handles and the result
 abbrev pub closing_lines : PeiMachine → HandleState → RunEnd → List Line
@@ -31,14 +35,14 @@ closing_lines pei handles end = store_lines pei.store ++ handle_lines handles ++
 abbrev pub pei_lines : PeiMachine → RunEnd → List Line
 pei_lines pei end = pei.lines ++ closing_lines pei no_handles end
 
-abbrev pub both_lines : PeiMachine → DxeMachine → Option DxeOutcome → List Line
+abbrev pub both_lines : PeiMachine → DxeMachine → Option DxeEnd → List Line
 both_lines pei dxe None = pei.lines ++ dxe.lines
 both_lines pei dxe (Some end) = pei.lines ++ dxe.lines ++ closing_lines pei dxe.handles (dxe_result end)
 
 -- all lines behind a PEI that has ended so
-abbrev pub lines_after : Catalog → ℕ → PeiMachine → Option PeiOutcome → List Line
+abbrev pub lines_after : Catalog → ℕ → PeiMachine → Option PeiEnd → List Line
 lines_after catalog fuel pei None = pei.lines
-lines_after catalog fuel pei (Some HandsOff) = both_lines pei (dxe_end catalog fuel pei.store pei.actions) (dxe_end catalog fuel pei.store pei.actions).ended
+lines_after catalog fuel pei (Some Handoff) = both_lines pei (dxe_end catalog fuel pei.store pei.actions) (dxe_end catalog fuel pei.store pei.actions).ended
 lines_after catalog fuel pei (Some NoMemory) = pei_lines pei E.NoMemory
 lines_after catalog fuel pei (Some NoIpl) = pei_lines pei E.NoIpl
 lines_after catalog fuel pei (Some Spent) = pei_lines pei E.Spent

@@ -1,25 +1,27 @@
 -- What an action of a DXE script does: it writes registers, calls a service, logs, skips or returns. A refusal changes nothing but the last status.
 -- PI 1.8, volume 2, "Protocol Handler Services" and "DXE Services"; the actions and their operands are own.
-use Rattle.std.specs.Prelude.{ℕ, zero, suc, ◌+◌, ◌%◌, ◌^◌, ◌&&◌, if◌then◌else◌, List, [], ◌∷◌, ◌++◌, length, Option, Some, None, option_map, find, slice_set, Ok, Err}
+use Rattle.std.specs.Prelude.{ℕ, zero, suc, ◌&&◌, if◌then◌else◌, List, [], ◌∷◌, ◌++◌, length, Option, Some, None, option_map, find, slice_set, Ok, Err}
 use Rattle.pi_base.specs.declared.guid.Guid.{Guid}
 use Rattle.pi_base.specs.declared.word.Word.{Word}
 use Rattle.pi_base.specs.declared.word.Word.TheVariants.{Success, InvalidParameter, NotFound, AlreadyStarted}
 use Rattle.act_code.specs.declared.action.Action.{Action}
 use Rattle.act_code.specs.declared.action.Action.TheVariants as A
-use Rattle.boot_model.specs.declared.catalog.Catalog.{Catalog}
+use Rattle.catalog_model.specs.declared.catalog.Catalog.{Catalog}
 use Rattle.boot_model.specs.declared.line.CallName.{CallName}
 use Rattle.boot_model.specs.declared.line.CallName.TheVariants as C
 use Rattle.boot_model.specs.declared.line.Extra.{Extra}
 use Rattle.boot_model.specs.declared.line.Extra.TheVariants as X
-use Rattle.boot_model.specs.FileType.{same_guid}
-use Rattle.boot_model.specs.MemoryReading.{bytes_at}
-use Rattle.boot_model.specs.HandleState.{HandleState, HandleService, install_interface, reinstall_interface, uninstall_interface, locate_handle}
+use Rattle.pi_base.specs.Guids.{same_guid}
+use Rattle.store_model.specs.MemoryReading.{bytes_at}
+use Rattle.store_model.specs.HandleState.{HandleState, HandleService, install_interface, reinstall_interface, uninstall_interface, locate_handle}
+use Rattle.boot_model.specs.Effect.{Effect as OfEach, effect_by}
+pub use Rattle.boot_model.specs.Effect.{Wrote, Called, Logged, Skipped, Returned, Own, number_written}
 use Rattle.boot_model.specs.PeiMachine.{Register, Number, HandleIn}
 use Rattle.boot_model.specs.DxeMachine.{DxeMachine, DriverFrame, ProtocolSweep}
 use Rattle.boot_model.specs.DxeChoice.{waiting, is_unrequested, a_priori_drivers}
-use Rattle.boot_model.specs.Parts.{has_number, module_name, volume_at}
+use Rattle.catalog_model.specs.Parts.{has_number, module_name, volume_at}
 use Rattle.boot_model.specs.Reporting.{newcomers}
-use Rattle.boot_model.specs.Registers.{number_in, handle_in, both, skipped}
+use Rattle.boot_model.specs.Registers.{number_in, handle_in, both}
 
 -- what a service answered a script: its status, what its line shows, the machine and the registers after it, the notifications to visit, and the volumes that it discovered
 pub record DxeReply : Type 0 where
@@ -30,13 +32,9 @@ pub record DxeReply : Type 0 where
   pub sweep : Option ProtocolSweep
   pub volumes : List ℕ
 
--- what an action does
-pub data DxeEffect : Type 0 where
-  DxeWrote : (registers : List Register) (status : Word) → DxeEffect
-  DxeCalled : (name : CallName) (reply : DxeReply) → DxeEffect
-  DxeLogged : (text : List ℕ) → DxeEffect
-  DxeSkipped : (n : ℕ) → DxeEffect
-  DxeReturned : (status : Word) → DxeEffect
+-- what an action of DXE does; there is none of its own that is no call
+abbrev pub DxeEffect : Type 0
+DxeEffect = OfEach DxeReply ⊥
 
 -- an answer without a change, and a refusal
 abbrev pub dxe_told : DxeMachine → List Register → Extra → DxeReply
@@ -122,29 +120,23 @@ process_reply catalog m frame base = dxe_where (volume_at catalog base) (process
 abbrev pub peek_reply : DxeMachine → DriverFrame → ℕ → ℕ → DxeReply
 peek_reply m frame n at = dxe_where (bytes_at m.store at n) (λ bytes. dxe_told m frame.registers (X.Bytes (record { items = bytes }))) m frame NotFound
 
-abbrev pub dxe_number_written : List Register → ℕ → Option ℕ → DxeEffect
-dxe_number_written registers r None = DxeWrote registers InvalidParameter
-dxe_number_written registers r (Some n) = DxeWrote (slice_set registers r (Number n)) Success
-
 -- a call whose arguments stand in registers
 abbrev pub dxe_call_where : {A : Type 0} → CallName → Option A → (A → DxeReply) → DxeMachine → DriverFrame → DxeEffect
-dxe_call_where name argument reply m frame = DxeCalled name (dxe_where argument reply m frame InvalidParameter)
+dxe_call_where name argument reply m frame = Called name (dxe_where argument reply m frame InvalidParameter)
 
 -- what an action does in a frame; an action of PEI is none of a DXE script
-abbrev pub dxe_effect : Catalog → DxeMachine → DriverFrame → Action → DxeEffect
-dxe_effect catalog m frame (A.Set r n) = DxeWrote (slice_set frame.registers r (Number n)) Success
-dxe_effect catalog m frame (A.Add r n) = dxe_number_written frame.registers r (option_map (λ old. (old + n) % 2 ^ 64) (number_in frame.registers r))
-dxe_effect catalog m frame (A.Peek v n) = dxe_call_where C.Peek (number_in frame.registers v) (peek_reply m frame n) m frame
-dxe_effect catalog m frame (A.DxeInstall form h guid v) = dxe_call_where C.Install (both (install_target frame form h) (number_in frame.registers v)) (install_reply m frame form h guid) m frame
-dxe_effect catalog m frame (A.DxeReinstall h guid old new) =
+abbrev pub own_dxe_effect : Catalog → DxeMachine → DriverFrame → Action → DxeEffect
+own_dxe_effect catalog m frame (A.Peek v n) = dxe_call_where C.Peek (number_in frame.registers v) (peek_reply m frame n) m frame
+own_dxe_effect catalog m frame (A.DxeInstall form h guid v) = dxe_call_where C.Install (both (install_target frame form h) (number_in frame.registers v)) (install_reply m frame form h guid) m frame
+own_dxe_effect catalog m frame (A.DxeReinstall h guid old new) =
     dxe_call_where C.Reinstall (both (handle_in frame.registers h) (both (number_in frame.registers old) (number_in frame.registers new))) (reinstall_reply m frame guid) m frame
-dxe_effect catalog m frame (A.DxeUninstall h guid v) = dxe_call_where C.Uninstall (both (handle_in frame.registers h) (number_in frame.registers v)) (uninstall_reply m frame guid) m frame
-dxe_effect catalog m frame (A.DxeLocate h v guid) = DxeCalled C.Locate (dxe_where (locate_handle m.handles guid) (locate_reply m frame h v) m frame NotFound)
-dxe_effect catalog m frame (A.DxeNotify guid block) = DxeCalled C.Notify (notify_reply m frame guid block)
-dxe_effect catalog m frame (A.Schedule name) = DxeCalled C.Schedule (dxe_where (unrequested_named catalog m name) (schedule_reply m frame) m frame NotFound)
-dxe_effect catalog m frame (A.Process v) = dxe_call_where C.Process (number_in frame.registers v) (process_reply catalog m frame) m frame
-dxe_effect catalog m frame A.Dispatch = DxeCalled C.Dispatch (dxe_refusal m frame AlreadyStarted)
-dxe_effect catalog m frame (A.Log text) = DxeLogged text
-dxe_effect catalog m frame (A.SkipIf condition n) = DxeSkipped (skipped frame.last condition n)
-dxe_effect catalog m frame (A.Ret status) = DxeReturned status
-dxe_effect catalog m frame _ = DxeSkipped 0
+own_dxe_effect catalog m frame (A.DxeUninstall h guid v) = dxe_call_where C.Uninstall (both (handle_in frame.registers h) (number_in frame.registers v)) (uninstall_reply m frame guid) m frame
+own_dxe_effect catalog m frame (A.DxeLocate h v guid) = Called C.Locate (dxe_where (locate_handle m.handles guid) (locate_reply m frame h v) m frame NotFound)
+own_dxe_effect catalog m frame (A.DxeNotify guid block) = Called C.Notify (notify_reply m frame guid block)
+own_dxe_effect catalog m frame (A.Schedule name) = Called C.Schedule (dxe_where (unrequested_named catalog m name) (schedule_reply m frame) m frame NotFound)
+own_dxe_effect catalog m frame (A.Process v) = dxe_call_where C.Process (number_in frame.registers v) (process_reply catalog m frame) m frame
+own_dxe_effect catalog m frame A.Dispatch = Called C.Dispatch (dxe_refusal m frame AlreadyStarted)
+own_dxe_effect catalog m frame _ = Skipped 0
+
+abbrev pub dxe_effect : Catalog → DxeMachine → DriverFrame → Action → DxeEffect
+dxe_effect catalog m frame action = effect_by (own_dxe_effect catalog m frame) frame action

@@ -8,25 +8,26 @@ use Rattle.pi_base.specs.declared.word.Word.TheVariants.{Success}
 use Rattle.act_code.specs.declared.action.Action.{Action}
 use Rattle.act_code.specs.declared.action.Action.TheVariants.{Ret}
 use Rattle.depex_code.specs.declared.depex.Depex.TheVariants as D
-use Rattle.boot_model.specs.declared.catalog.Catalog.{Catalog}
-use Rattle.boot_model.specs.declared.catalog.Part.{Part}
-use Rattle.boot_model.specs.declared.catalog.PartExpr.{PartExpr}
-use Rattle.boot_model.specs.declared.catalog.PartExpr.TheVariants as E
+use Rattle.catalog_model.specs.declared.catalog.Catalog.{Catalog}
+use Rattle.catalog_model.specs.declared.catalog.Part.{Part}
+use Rattle.catalog_model.specs.declared.catalog.PartExpr.{PartExpr}
+use Rattle.catalog_model.specs.declared.catalog.PartExpr.TheVariants as E
 use Rattle.boot_model.specs.declared.frame.TheConstants.{MOST_FRAMES}
 use Rattle.boot_model.specs.declared.licence.Licence.{Licence}
 use Rattle.boot_model.specs.declared.line.Line.{Line}
 use Rattle.boot_model.specs.declared.line.Line.TheVariants as L
 use Rattle.boot_model.specs.declared.line.Reason.{Reason}
 use Rattle.boot_model.specs.declared.line.Reason.TheVariants as R
-use Rattle.boot_model.specs.FileType.{same_guid}
-use Rattle.boot_model.specs.Lists.{numbers}
-use Rattle.boot_model.specs.PeiMachine.{no_registers}
+use Rattle.pi_base.specs.Guids.{same_guid}
+use Rattle.pi_base.specs.Lists.{numbers}
+pub use Rattle.boot_model.specs.Frames.{past, start_frames, swept}
 use Rattle.boot_model.specs.PeiStep.{start_lines}
-use Rattle.boot_model.specs.DxeMachine.{DxeMachine, Stopped, DxeSpent, DxeDeep, DriverFrame, ProtocolSweep, ProtocolNote, Scheduled, driver_frame, protocol_frame, dxe_printed}
+use Rattle.boot_model.specs.DxeMachine.{DxeMachine, DriverFrame, ProtocolSweep, ProtocolNote, Scheduled, protocol_frame, dxe_printed}
+use Rattle.boot_model.specs.declared.phase_end.DxeEnd.TheVariants as DxeEnds
 use Rattle.boot_model.specs.DxeChoice.{next_driver, waiting, is_unrequested}
-use Rattle.boot_model.specs.DxeAction.{DxeReply, DxeEffect, DxeWrote, DxeCalled, DxeLogged, DxeSkipped, DxeReturned, dxe_effect}
+use Rattle.boot_model.specs.DxeAction.{DxeReply, DxeEffect, Wrote, Called, Logged, Skipped, Returned, Own, dxe_effect}
 use Rattle.boot_model.specs.Discovery.{discovery_lines}
-use Rattle.boot_model.specs.Parts.{part_at, module_name, module_volume, block_of}
+use Rattle.catalog_model.specs.Parts.{part_at, module_name, module_volume, block_of}
 
 -- what comes next
 pub data DxeCase : Type 0 where
@@ -67,31 +68,28 @@ protocol_line catalog sweep note = L.NotifyProtocol (module_volume catalog note.
 
 abbrev pub protocol_begun : Catalog → DxeMachine → ProtocolNote → ProtocolSweep → DriverFrame → List DriverFrame → DxeMachine
 protocol_begun catalog m note sweep frame below =
-    record (dxe_printed m (protocol_line catalog sweep note ∷ [])) { frames = protocol_frame sweep note ∷ record frame { sweep = Some sweep } ∷ below }
+    record (dxe_printed m (protocol_line catalog sweep note ∷ [])) { frames = protocol_frame sweep note ∷ swept (frame ∷ below) sweep }
 
 -- a notification begins, unless as many frames stand as may
 abbrev pub dxe_fired : Catalog → DxeMachine → ProtocolNote → ProtocolSweep → DriverFrame → List DriverFrame → DxeMachine
 dxe_fired catalog m note sweep frame below =
-    if nat_le MOST_FRAMES (length m.frames) then record m { ended = Some DxeDeep } else protocol_begun catalog m note sweep frame below
-
--- the frame behind its action and n more, its sweep closed
-abbrev pub dxe_past : DriverFrame → ℕ → DriverFrame
-dxe_past frame n = record frame { position = frame.position + 1 + n; sweep = None }
+    if nat_le MOST_FRAMES (length m.frames) then record m { ended = Some DxeEnds.Deep } else protocol_begun catalog m note sweep frame below
 
 -- after a call come its line, and a line for each volume that it discovers
 abbrev pub after_dxe_call : DriverFrame → List DriverFrame → Line → DxeReply → DxeMachine
 after_dxe_call frame below line reply =
     record (dxe_printed reply.machine (line ∷ discovery_lines reply.volumes)) {
-      frames = record (dxe_past frame 0) { registers = reply.registers; last = reply.status; sweep = reply.sweep } ∷ below;
+      frames = record (past frame 0) { registers = reply.registers; last = reply.status; sweep = reply.sweep } ∷ below;
     }
 
 -- the machine after an action of its top frame
 abbrev pub after_dxe_effect : DxeMachine → DriverFrame → List DriverFrame → DxeEffect → DxeMachine
-after_dxe_effect m frame below (DxeWrote registers status) = record m { frames = record (dxe_past frame 0) { registers = registers; last = status } ∷ below }
-after_dxe_effect m frame below (DxeCalled name reply) = after_dxe_call frame below (L.Call name reply.status reply.extra) reply
-after_dxe_effect m frame below (DxeLogged text) = record (dxe_printed m (L.Log (record { items = text }) ∷ [])) { frames = dxe_past frame 0 ∷ below }
-after_dxe_effect m frame below (DxeSkipped n) = record m { frames = dxe_past frame n ∷ below }
-after_dxe_effect m frame below (DxeReturned status) = record (dxe_printed m (L.End status ∷ [])) { frames = below }
+after_dxe_effect m frame below (Wrote registers status) = record m { frames = record (past frame 0) { registers = registers; last = status } ∷ below }
+after_dxe_effect m frame below (Called name reply) = after_dxe_call frame below (L.Call name reply.status reply.extra) reply
+after_dxe_effect m frame below (Logged text) = record (dxe_printed m (L.Log (record { items = text }) ∷ [])) { frames = past frame 0 ∷ below }
+after_dxe_effect m frame below (Skipped n) = record m { frames = past frame n ∷ below }
+after_dxe_effect m frame below (Returned status) = record (dxe_printed m (L.End status ∷ [])) { frames = below }
+after_dxe_effect m frame below (Own own) = absurd own
 
 -- the action at which a frame stands
 abbrev pub dxe_action_at : Catalog → DriverFrame → Action
@@ -103,12 +101,8 @@ with_action m = record m { actions = m.actions + 1 }
 -- an action is taken, unless the fuel is spent
 abbrev pub dxe_acted : Catalog → ℕ → DxeMachine → DriverFrame → List DriverFrame → DxeMachine
 dxe_acted catalog fuel m frame below =
-    if nat_le fuel m.actions then record m { ended = Some DxeSpent }
+    if nat_le fuel m.actions then record m { ended = Some DxeEnds.Spent }
     else after_dxe_effect (with_action m) frame below (dxe_effect catalog (with_action m) frame (dxe_action_at catalog frame))
-
-abbrev pub dxe_start_frames : ℕ → List (List Action) → List DriverFrame
-dxe_start_frames number [] = []
-dxe_start_frames number (block ∷ blocks) = driver_frame number 0 no_registers ∷ []
 
 abbrev pub dxe_start_line : Catalog → ℕ → Licence → Line
 dxe_start_line catalog number licence = L.DxeStart (module_volume catalog number) (module_name catalog number) licence
@@ -119,7 +113,7 @@ driver_started_by catalog m next queue part =
     record (dxe_printed m (start_lines (dxe_start_line catalog next.module_number next.licence) part.script.blocks)) {
       scheduled = queue;
       started = next.module_number ∷ m.started;
-      frames = dxe_start_frames next.module_number part.script.blocks;
+      frames = start_frames next.module_number part.script.blocks;
     }
 
 abbrev pub driver_started : Catalog → DxeMachine → Scheduled → List Scheduled → Option Part → DxeMachine
@@ -146,7 +140,7 @@ abbrev pub driver_waiting_lines : Catalog → DxeMachine → List Line
 driver_waiting_lines catalog m = map (driver_waiting_line catalog m) (waiting catalog m)
 
 abbrev pub dxe_stopped : Catalog → DxeMachine → DxeMachine
-dxe_stopped catalog m = record (dxe_printed m (L.DxeStop ∷ driver_waiting_lines catalog m)) { ended = Some Stopped }
+dxe_stopped catalog m = record (dxe_printed m (L.DxeStop ∷ driver_waiting_lines catalog m)) { ended = Some DxeEnds.Done }
 
 -- what each case does
 abbrev pub in_dxe_case : Catalog → ℕ → DxeMachine → DxeCase → DxeMachine

@@ -1,5 +1,6 @@
 -- How many evaluations of expressions a phase may take: one for each part of a volume that is reported or discovered, and, for each GUID of which an event may have changed whether it is installed, one for each waiting part whose expression pushes that GUID.
 -- The events are a successful install or reinstall, the core's install, and in DXE a successful install or uninstall.
+-- An event counts the parts that wait in the machine before it: those of a volume that it reports are counted once, with their volume. A PEIM waits until it starts, a driver until it is scheduled.
 -- Own.
 use Rattle.std.specs.Prelude.{ℕ, zero, suc, ◌+◌, Bool, false, ◌&&◌, ◌||◌, not, if◌then◌else◌, nat_le, List, [], ◌∷◌, ◌++◌, length, map, filter, sum_by, Some, None, Ok, Err, unwrap_or, option_map}
 use Rattle.std.specs.Option.{option_to_list}
@@ -10,26 +11,26 @@ use Rattle.depex_code.specs.Tree.{DepexTree, True, False, Push, Not, And, Or}
 use Rattle.depex_code.specs.declared.depex.Depex.TheVariants as D
 use Rattle.act_code.specs.declared.action.Action.{Action}
 use Rattle.act_code.specs.declared.action.Action.TheVariants as A
-use Rattle.boot_model.specs.declared.catalog.Catalog.{Catalog}
-use Rattle.boot_model.specs.declared.catalog.PartExpr.{PartExpr}
-use Rattle.boot_model.specs.declared.catalog.PartExpr.TheVariants as E
-use Rattle.boot_model.specs.declared.known_guid.TheConstants.{MEMORY_PPI}
-use Rattle.boot_model.specs.declared.store_handle.Sweep.{Sweep}
-use Rattle.boot_model.specs.FileType.{same_guid}
-use Rattle.boot_model.specs.Lists.{firsts}
-use Rattle.boot_model.specs.StoreState.{StoreState}
-use Rattle.boot_model.specs.Service.{Service}
-use Rattle.boot_model.specs.Service.Descriptor.{guid_at, offsets}
-use Rattle.boot_model.specs.Service.Install.{core_install}
-use Rattle.boot_model.specs.Parts.{has_number, part_at}
+use Rattle.catalog_model.specs.declared.catalog.Catalog.{Catalog}
+use Rattle.catalog_model.specs.declared.catalog.PartExpr.{PartExpr}
+use Rattle.catalog_model.specs.declared.catalog.PartExpr.TheVariants as E
+use Rattle.store_model.specs.declared.known_guid.TheConstants.{MEMORY_PPI}
+use Rattle.store_model.specs.declared.store_handle.Sweep.{Sweep}
+use Rattle.pi_base.specs.Guids.{same_guid}
+use Rattle.pi_base.specs.Lists.{firsts}
+use Rattle.store_model.specs.StoreState.{StoreState}
+use Rattle.store_model.specs.Service.{Service}
+use Rattle.store_model.specs.Service.Descriptor.{guid_at, offsets}
+use Rattle.store_model.specs.Service.Install.{core_install}
+use Rattle.catalog_model.specs.Parts.{has_number, part_at}
 use Rattle.boot_model.specs.Registers.{descriptor_in, descriptors_in, is_success}
 use Rattle.boot_model.specs.PeiMachine.{PeiMachine, Frame}
-use Rattle.boot_model.specs.PeiAction.{Effect, Wrote, Called, Shadowed, Logged, Skipped, Returned, effect}
+use Rattle.boot_model.specs.PeiAction.{Effect, Wrote, Called, Own, Shadowed, Logged, Skipped, Returned, effect}
 use Rattle.boot_model.specs.PeiChoice.{pei_order}
 use Rattle.boot_model.specs.PeiStep.{PeiCase, Fires, Acts, Moves, Pops, Starts, Stops, case_of, action_at, pei_step}
 use Rattle.boot_model.specs.DxeMachine.{DxeMachine, DriverFrame}
-use Rattle.boot_model.specs.DxeAction.{DxeEffect, DxeWrote, DxeCalled, DxeLogged, DxeSkipped, DxeReturned, dxe_effect}
-use Rattle.boot_model.specs.DxeChoice.{discovered_order}
+use Rattle.boot_model.specs.DxeAction.{DxeEffect, dxe_effect}
+use Rattle.boot_model.specs.DxeChoice.{discovered_order, waiting}
 use Rattle.boot_model.specs.DxeStep.{DxeCase, DxeFires, DxeActs, DxeStarts, DxeStops, dxe_case_of, dxe_action_at, dxe_step, with_action}
 
 -- whether a tree pushes a GUID
@@ -56,7 +57,7 @@ each_once guids = firsts same_guid guids
 abbrev pub is_called : Effect → Bool
 is_called (Wrote registers status) = false
 is_called (Called name reply) = is_success reply.status
-is_called Shadowed = false
+is_called (Own Shadowed) = false
 is_called (Logged text) = false
 is_called (Skipped n) = false
 is_called (Returned status) = false
@@ -88,16 +89,16 @@ case_guids catalog fuel m Stops = []
 abbrev pub pei_guids : Catalog → ℕ → PeiMachine → List Guid
 pei_guids catalog fuel m = each_once (case_guids catalog fuel m (case_of catalog m))
 
--- the parts of a machine that wait and push a GUID
+-- the parts that wait in a machine and push a GUID
 abbrev pub pei_asked : Catalog → PeiMachine → Guid → ℕ
 pei_asked catalog m guid = length (filter (λ number. not (has_number m.started number) && part_pushes Pei catalog guid number) (pei_order catalog m.reported))
 
--- those of each GUID of each event of a run, counted in the machine behind the event
+-- those of each GUID of each event of a run, counted in the machine before the event
 abbrev pub pei_changes : Catalog → ℕ → ℕ → PeiMachine → ℕ
 pei_changes catalog fuel zero m = 0
 pei_changes catalog fuel (suc n) m = elim m.ended [
   | Some end ↦ 0
-  | None ↦ sum_by (pei_asked catalog (pei_step catalog fuel m)) (pei_guids catalog fuel m) + pei_changes catalog fuel n (pei_step catalog fuel m)
+  | None ↦ sum_by (pei_asked catalog m) (pei_guids catalog fuel m) + pei_changes catalog fuel n (pei_step catalog fuel m)
 ]
 
 -- the bound of a run of PEI from one machine to its last
@@ -105,11 +106,12 @@ abbrev pub pei_evaluations : Catalog → ℕ → ℕ → PeiMachine → PeiMachi
 pei_evaluations catalog fuel n m last = length (pei_order catalog last.reported) + pei_changes catalog fuel n m
 
 abbrev pub is_dxe_called : DxeEffect → Bool
-is_dxe_called (DxeWrote registers status) = false
-is_dxe_called (DxeCalled name reply) = is_success reply.status
-is_dxe_called (DxeLogged text) = false
-is_dxe_called (DxeSkipped n) = false
-is_dxe_called (DxeReturned status) = false
+is_dxe_called (Wrote registers status) = false
+is_dxe_called (Called name reply) = is_success reply.status
+is_dxe_called (Logged text) = false
+is_dxe_called (Skipped n) = false
+is_dxe_called (Returned status) = false
+is_dxe_called (Own own) = absurd own
 
 -- the GUIDs that an action of DXE installs or takes away
 abbrev pub changed_protocols : Action → List Guid
@@ -129,14 +131,16 @@ dxe_case_guids catalog fuel m DxeStops = []
 abbrev pub dxe_guids : Catalog → ℕ → DxeMachine → List Guid
 dxe_guids catalog fuel m = dxe_case_guids catalog fuel m (dxe_case_of catalog m)
 
+-- the drivers that wait in a machine and push a GUID
 abbrev pub dxe_asked : Catalog → DxeMachine → Guid → ℕ
-dxe_asked catalog m guid = length (filter (λ number. not (has_number m.started number) && part_pushes Dxe catalog guid number) (discovered_order catalog m))
+dxe_asked catalog m guid = length (filter (part_pushes Dxe catalog guid) (waiting catalog m))
 
+-- those of each GUID of each event of a run, counted in the machine before the event
 abbrev pub dxe_changes : Catalog → ℕ → ℕ → DxeMachine → ℕ
 dxe_changes catalog fuel zero m = 0
 dxe_changes catalog fuel (suc n) m = elim m.ended [
   | Some end ↦ 0
-  | None ↦ sum_by (dxe_asked catalog (dxe_step catalog fuel m)) (dxe_guids catalog fuel m) + dxe_changes catalog fuel n (dxe_step catalog fuel m)
+  | None ↦ sum_by (dxe_asked catalog m) (dxe_guids catalog fuel m) + dxe_changes catalog fuel n (dxe_step catalog fuel m)
 ]
 
 -- the bound of a run of DXE

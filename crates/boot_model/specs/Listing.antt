@@ -5,9 +5,12 @@ use Rattle.hob_codec.specs.declared.kind.TheConstants.{HANDOFF}
 use Rattle.boot_model.specs.declared.frame.TheConstants.{BLOCKS}
 use Rattle.boot_model.specs.declared.line.Line.{Line}
 use Rattle.boot_model.specs.declared.line.Line.TheVariants as L
-use Rattle.boot_model.specs.StoreState.{StoreState, Entry, Pending, HobEntry, hob_len, header_len, handoff_len}
-use Rattle.boot_model.specs.HeapImage.{handoff_body, body_bytes}
-use Rattle.boot_model.specs.Service.Descriptor.{guid_at, number_at}
+use Rattle.store_model.specs.StoreState.{StoreState, hob_len, header_len, handoff_len}
+use Rattle.store_model.specs.declared.state.Entry.{Entry}
+use Rattle.store_model.specs.declared.state.HobEntry.{HobEntry}
+use Rattle.store_model.specs.declared.state.Pending.{Pending}
+use Rattle.store_model.specs.HeapImage.{handoff_body, body_bytes}
+use Rattle.store_model.specs.Service.Descriptor.{guid_at, number_at}
 
 abbrev pub ppi_line : StoreState → Entry → Line
 ppi_line s entry = L.Ppi entry.by (guid_at s entry.descriptor) (number_at s entry.descriptor)

@@ -1,6 +1,6 @@
 -- What an action of a PEI script does: it writes registers, calls a service, logs, skips or returns. The service's answer becomes a status, what its line shows, and registers; a refusal changes nothing.
 -- PI 1.8, volume 1, "PEI Services"; the actions and their operands are own.
-use Rattle.std.specs.Prelude.{ℕ, zero, suc, ◌+◌, ◌*◌, ◌%◌, ◌^◌, Bool, ◌==◌, ◌||◌, ◌&&◌, not, if◌then◌else◌, nat_le, nat_lt, List, [], ◌∷◌, Option, Some, None, option_map, slice_set, Ok, Err}
+use Rattle.std.specs.Prelude.{ℕ, zero, suc, ◌+◌, ◌*◌, ◌^◌, Bool, ◌==◌, ◌||◌, ◌&&◌, not, if◌then◌else◌, nat_le, nat_lt, List, [], ◌∷◌, Option, Some, None, option_map, slice_set, Ok, Err}
 use Rattle.std.specs.Option.{option_and_then}
 use Rattle.pi_base.specs.declared.word.Word.{Word}
 use Rattle.pi_base.specs.declared.word.Word.TheVariants.{Success, InvalidParameter, NotFound, OutOfResources, NotAvailableYet}
@@ -15,26 +15,28 @@ use Rattle.boot_model.specs.declared.line.CallName.{CallName}
 use Rattle.boot_model.specs.declared.line.CallName.TheVariants as C
 use Rattle.boot_model.specs.declared.line.Extra.{Extra}
 use Rattle.boot_model.specs.declared.line.Extra.TheVariants as X
-use Rattle.boot_model.specs.declared.store_handle.DescKind.{DescKind}
-use Rattle.boot_model.specs.declared.store_handle.DescKind.TheVariants.{Ppi, Callback, Dispatch}
-use Rattle.boot_model.specs.declared.store_handle.Desc.{Desc}
-use Rattle.boot_model.specs.declared.store_handle.Sweep.{Sweep}
-use Rattle.boot_model.specs.declared.store_handle.GuidFrom.{GuidFrom}
-use Rattle.boot_model.specs.declared.store_handle.GuidFrom.TheVariants.{Inline, At}
-use Rattle.boot_model.specs.declared.store_handle.StoreFault.{StoreFault}
-use Rattle.boot_model.specs.declared.store_handle.StoreFault.TheVariants as F
-use Rattle.boot_model.specs.StoreState.{StoreState}
-use Rattle.boot_model.specs.MemoryReading.{bytes_at}
-use Rattle.boot_model.specs.Service.{Service}
-use Rattle.boot_model.specs.Service.Pool.{pool, store}
-use Rattle.boot_model.specs.Service.Descriptor.{desc, offsets}
-use Rattle.boot_model.specs.Service.Install.{install, reinstall}
-use Rattle.boot_model.specs.Service.Notify.{notify}
-use Rattle.boot_model.specs.Service.Reading.{nth_ppi}
-use Rattle.boot_model.specs.Service.Hob.{create_hob}
-use Rattle.boot_model.specs.Service.Memory.{set_memory, pages, with_boot_mode}
+use Rattle.store_model.specs.declared.store_handle.DescKind.{DescKind}
+use Rattle.store_model.specs.declared.store_handle.DescKind.TheVariants.{Ppi, Callback, Dispatch}
+use Rattle.store_model.specs.declared.store_handle.Desc.{Desc}
+use Rattle.store_model.specs.declared.store_handle.Sweep.{Sweep}
+use Rattle.store_model.specs.declared.store_handle.GuidFrom.{GuidFrom}
+use Rattle.store_model.specs.declared.store_handle.GuidFrom.TheVariants.{Inline, At}
+use Rattle.store_model.specs.declared.store_handle.StoreFault.{StoreFault}
+use Rattle.store_model.specs.declared.store_handle.StoreFault.TheVariants as F
+use Rattle.store_model.specs.StoreState.{StoreState}
+use Rattle.store_model.specs.MemoryReading.{bytes_at}
+use Rattle.store_model.specs.Service.{Service}
+use Rattle.store_model.specs.Service.Pool.{pool, store}
+use Rattle.store_model.specs.Service.Descriptor.{desc, offsets}
+use Rattle.store_model.specs.Service.Install.{install, reinstall}
+use Rattle.store_model.specs.Service.Notify.{notify}
+use Rattle.store_model.specs.Service.Reading.{nth_ppi}
+use Rattle.store_model.specs.Service.Hob.{create_hob}
+use Rattle.store_model.specs.Service.Memory.{set_memory, pages, with_boot_mode}
+use Rattle.boot_model.specs.Effect.{Effect as OfEach, effect_by}
+pub use Rattle.boot_model.specs.Effect.{Wrote, Called, Logged, Skipped, Returned, Own, number_written}
 use Rattle.boot_model.specs.PeiMachine.{Register, Number, PoolIn, DescriptorIn, Frame}
-use Rattle.boot_model.specs.Registers.{number_in, pool_in, descriptor_in, offset_of, register, both, descriptors_in, skipped}
+use Rattle.boot_model.specs.Registers.{number_in, pool_in, descriptor_in, offset_of, register, both, descriptors_in}
 
 -- what a service answered a script: its status, what its line shows, the state and the registers after it, the callbacks to visit, and the PPIs to look at for volumes, by their descriptors' places
 pub record Reply : Type 0 where
@@ -45,14 +47,13 @@ pub record Reply : Type 0 where
   pub sweep : Option Sweep
   pub installs : List ℕ
 
--- what an action does
-pub data Effect : Type 0 where
-  Wrote : (registers : List Register) (status : Word) → Effect
-  Called : (name : CallName) (reply : Reply) → Effect
-  Shadowed : Effect
-  Logged : (text : List ℕ) → Effect
-  Skipped : (n : ℕ) → Effect
-  Returned : (status : Word) → Effect
+-- an action of PEI alone that is no call of the store
+pub data PeiOwn : Type 0 where
+  Shadowed : PeiOwn
+
+-- what an action of PEI does
+abbrev pub Effect : Type 0
+Effect = OfEach Reply PeiOwn
 
 abbrev pub status_of : StoreFault → Word
 status_of F.Full = OutOfResources
@@ -150,34 +151,27 @@ abbrev pub mode_reply : StoreState → Frame → ℕ → ℕ → Reply
 mode_reply s frame zero r = told s (slice_set frame.registers r (Number s.boot_mode)) (X.Number s.boot_mode)
 mode_reply s frame (suc form) r = reply_where (number_in frame.registers r) (set_mode_reply s frame) s frame.registers InvalidParameter
 
--- a register becomes a number, where there is one
-abbrev pub number_written : List Register → ℕ → Option ℕ → Effect
-number_written registers r None = Wrote registers InvalidParameter
-number_written registers r (Some n) = Wrote (slice_set registers r (Number n)) Success
-
 -- a call whose arguments stand in registers
 abbrev pub call_where : {A : Type 0} → CallName → Option A → (A → Reply) → StoreState → Frame → Effect
 call_where name argument reply s frame = Called name (reply_where argument reply s frame.registers InvalidParameter)
 
--- what an action does in a frame; an action of DXE is none of a PEI script
+-- what an action of PEI's own does in a frame; an action of DXE is none of a PEI script
+abbrev pub own_effect : StoreState → Frame → Action → Effect
+own_effect s frame (A.Addr v x offset) = number_written frame.registers v (option_map (λ place. s.base + place + offset) (offset_of (register frame.registers x)))
+own_effect s frame (A.Pool r size) = Called C.Pool (pool_reply s frame r size)
+own_effect s frame (A.Store p offset bytes) = Called C.Store (store_reply s frame (option_and_then (λ to. store s to offset bytes) (pool_in frame.registers p)))
+own_effect s frame (A.Peek v n) = call_where C.Peek (number_in frame.registers v) (peek_reply s frame n) s frame
+own_effect s frame (A.Desc d kind guid arg) = call_where C.Desc (desc_argument frame (kind_number kind) guid arg) (desc_reply s frame d (kind_number kind)) s frame
+own_effect s frame (A.Install list) = call_where C.Install (descriptors_in frame.registers list) (install_reply s frame) s frame
+own_effect s frame (A.Reinstall old new) = call_where C.Reinstall (both (descriptor_in frame.registers old) (descriptor_in frame.registers new)) (reinstall_reply s frame) s frame
+own_effect s frame (A.Notify list) = call_where C.Notify (descriptors_in frame.registers list) (notify_reply s frame) s frame
+own_effect s frame (A.Locate d v guid instance) = Called C.Locate (reply_where (nth_ppi s guid instance) (locate_reply s frame d v) s frame.registers NotFound)
+own_effect s frame (A.Hob kind body) = call_where C.Hob (hob_of kind body) (hob_reply s frame) s frame
+own_effect s frame (A.Memory begin length) = call_where C.Memory (both (number_in frame.registers begin) (number_in frame.registers length)) (memory_reply s frame) s frame
+own_effect s frame (A.Pages r memory_type count) = Called C.Pages (pages_reply s frame r memory_type count)
+own_effect s frame (A.BootMode form r) = Called C.BootMode (mode_reply s frame form r)
+own_effect s frame A.Shadow = Own Shadowed
+own_effect s frame _ = Skipped 0
+
 abbrev pub effect : StoreState → Frame → Action → Effect
-effect s frame (A.Set r n) = Wrote (slice_set frame.registers r (Number n)) Success
-effect s frame (A.Add r n) = number_written frame.registers r (option_map (λ old. (old + n) % 2 ^ 64) (number_in frame.registers r))
-effect s frame (A.Addr v x offset) = number_written frame.registers v (option_map (λ place. s.base + place + offset) (offset_of (register frame.registers x)))
-effect s frame (A.Pool r size) = Called C.Pool (pool_reply s frame r size)
-effect s frame (A.Store p offset bytes) = Called C.Store (store_reply s frame (option_and_then (λ to. store s to offset bytes) (pool_in frame.registers p)))
-effect s frame (A.Peek v n) = call_where C.Peek (number_in frame.registers v) (peek_reply s frame n) s frame
-effect s frame (A.Desc d kind guid arg) = call_where C.Desc (desc_argument frame (kind_number kind) guid arg) (desc_reply s frame d (kind_number kind)) s frame
-effect s frame (A.Install list) = call_where C.Install (descriptors_in frame.registers list) (install_reply s frame) s frame
-effect s frame (A.Reinstall old new) = call_where C.Reinstall (both (descriptor_in frame.registers old) (descriptor_in frame.registers new)) (reinstall_reply s frame) s frame
-effect s frame (A.Notify list) = call_where C.Notify (descriptors_in frame.registers list) (notify_reply s frame) s frame
-effect s frame (A.Locate d v guid instance) = Called C.Locate (reply_where (nth_ppi s guid instance) (locate_reply s frame d v) s frame.registers NotFound)
-effect s frame (A.Hob kind body) = call_where C.Hob (hob_of kind body) (hob_reply s frame) s frame
-effect s frame (A.Memory begin length) = call_where C.Memory (both (number_in frame.registers begin) (number_in frame.registers length)) (memory_reply s frame) s frame
-effect s frame (A.Pages r memory_type count) = Called C.Pages (pages_reply s frame r memory_type count)
-effect s frame (A.BootMode form r) = Called C.BootMode (mode_reply s frame form r)
-effect s frame A.Shadow = Shadowed
-effect s frame (A.Log text) = Logged text
-effect s frame (A.SkipIf condition n) = Skipped (skipped frame.last condition n)
-effect s frame (A.Ret status) = Returned status
-effect s frame _ = Skipped 0
+effect s frame action = effect_by (own_effect s frame) frame action

@@ -8,12 +8,12 @@ use Rattle.pi_base.specs.declared.phase.Phase.TheVariants.{Pei}
 use Rattle.pi_base.specs.declared.word.Word.TheVariants.{Success, AlreadyStarted}
 use Rattle.act_code.specs.declared.action.Action.{Action}
 use Rattle.act_code.specs.declared.action.Action.TheVariants.{Ret}
-use Rattle.boot_model.specs.declared.catalog.Catalog.{Catalog}
-use Rattle.boot_model.specs.declared.catalog.Part.{Part}
-use Rattle.boot_model.specs.declared.catalog.PartExpr.{PartExpr}
-use Rattle.boot_model.specs.declared.catalog.PartExpr.TheVariants as E
+use Rattle.catalog_model.specs.declared.catalog.Catalog.{Catalog}
+use Rattle.catalog_model.specs.declared.catalog.Part.{Part}
+use Rattle.catalog_model.specs.declared.catalog.PartExpr.{PartExpr}
+use Rattle.catalog_model.specs.declared.catalog.PartExpr.TheVariants as E
 use Rattle.boot_model.specs.declared.frame.TheConstants.{MOST_FRAMES, BLOCKS}
-use Rattle.boot_model.specs.declared.known_guid.TheConstants.{DXE_IPL_PPI}
+use Rattle.store_model.specs.declared.known_guid.TheConstants.{DXE_IPL_PPI}
 use Rattle.boot_model.specs.declared.licence.Licence.{Licence}
 use Rattle.boot_model.specs.declared.line.Line.{Line}
 use Rattle.boot_model.specs.declared.line.Line.TheVariants as L
@@ -21,20 +21,23 @@ use Rattle.boot_model.specs.declared.line.CallName.TheVariants as C
 use Rattle.boot_model.specs.declared.line.Extra.TheVariants as X
 use Rattle.boot_model.specs.declared.line.Reason.{Reason}
 use Rattle.boot_model.specs.declared.line.Reason.TheVariants as R
-use Rattle.boot_model.specs.declared.store_handle.Sweep.{Sweep}
-use Rattle.boot_model.specs.declared.store_handle.Firing.{Firing}
-use Rattle.boot_model.specs.StoreState.{StoreState}
-use Rattle.boot_model.specs.Service.{Service}
-use Rattle.boot_model.specs.Service.Sweep.{next_match}
-use Rattle.boot_model.specs.Service.Queue.{queue_pop}
-use Rattle.boot_model.specs.Service.Install.{core_install, has_ppi}
-use Rattle.boot_model.specs.Migration.{migration}
-use Rattle.boot_model.specs.PeiMachine.{PeiMachine, PeiOutcome, HandsOff, NoMemory, NoIpl, Spent, Deep, Frame, frame_at, no_registers, notified_frame, printed}
-use Rattle.boot_model.specs.Parts.{has_number, part_at, module_name, module_volume, block_of}
+use Rattle.store_model.specs.declared.store_handle.Sweep.{Sweep}
+use Rattle.store_model.specs.declared.store_handle.Firing.{Firing}
+use Rattle.store_model.specs.StoreState.{StoreState}
+use Rattle.store_model.specs.Service.{Service}
+use Rattle.store_model.specs.Service.Sweep.{next_match}
+use Rattle.store_model.specs.Service.Queue.{queue_pop}
+use Rattle.store_model.specs.Service.Install.{core_install, has_ppi}
+use Rattle.store_model.specs.Migration.{migration}
+use Rattle.boot_model.specs.PeiMachine.{PeiMachine, Frame, notified_frame, printed}
+use Rattle.boot_model.specs.declared.phase_end.PeiEnd.{PeiEnd}
+use Rattle.boot_model.specs.declared.phase_end.PeiEnd.TheVariants.{Handoff, NoMemory, NoIpl, Spent, Deep}
+use Rattle.catalog_model.specs.Parts.{has_number, part_at, module_name, module_volume, block_of}
 use Rattle.boot_model.specs.Eligible.{licence_at}
 use Rattle.boot_model.specs.PeiChoice.{pei_order, next_peim, cursor_behind}
-use Rattle.boot_model.specs.PeiAction.{Reply, Effect, Wrote, Called, Shadowed, Logged, Skipped, Returned, effect, status_of}
+use Rattle.boot_model.specs.PeiAction.{Reply, Effect, Wrote, Called, Own, Shadowed, Logged, Skipped, Returned, effect, status_of}
 use Rattle.boot_model.specs.Reporting.{reports}
+pub use Rattle.boot_model.specs.Frames.{past, start_frames, swept}
 
 -- what comes next
 pub data PeiCase : Type 0 where
@@ -87,11 +90,6 @@ callback_line catalog firing = L.NotifyCallback (module_volume catalog (module_o
 abbrev pub dispatch_line : Catalog → Firing → Line
 dispatch_line catalog firing = L.NotifyDispatch (module_volume catalog (module_of firing)) (module_name catalog (module_of firing)) firing.guid
 
--- the open sweep stands behind the pair
-abbrev pub swept : List Frame → Sweep → List Frame
-swept [] sweep = []
-swept (frame ∷ below) sweep = record frame { sweep = Some sweep } ∷ below
-
 abbrev pub core_swept : List Frame → Sweep → Option Sweep → Option Sweep
 core_swept [] sweep old = Some sweep
 core_swept (frame ∷ below) sweep old = old
@@ -107,10 +105,6 @@ callback_begun catalog m firing sweep =
 -- unless as many frames stand as may
 abbrev pub fired : Catalog → PeiMachine → Firing → Sweep → PeiMachine
 fired catalog m firing sweep = if nat_le MOST_FRAMES (length m.frames) then record m { ended = Some Deep } else callback_begun catalog m firing sweep
-
--- the frame behind its action and n more, its sweep closed
-abbrev pub past : Frame → ℕ → Frame
-past frame n = record frame { position = frame.position + 1 + n; sweep = None }
 
 abbrev pub report_lines : List ℕ → List Line
 report_lines volumes = map (λ volume. L.Report volume) volumes
@@ -138,7 +132,7 @@ shadowed m frame below =
 abbrev pub after_effect : Catalog → PeiMachine → Frame → List Frame → Effect → PeiMachine
 after_effect catalog m frame below (Wrote registers status) = record m { frames = record (past frame 0) { registers = registers; last = status } ∷ below }
 after_effect catalog m frame below (Called name reply) = after_call catalog m frame below (L.Call name reply.status reply.extra) reply
-after_effect catalog m frame below Shadowed = shadowed m frame below
+after_effect catalog m frame below (Own Shadowed) = shadowed m frame below
 after_effect catalog m frame below (Logged text) = record (printed m (L.Log (record { items = text }) ∷ [])) { frames = past frame 0 ∷ below }
 after_effect catalog m frame below (Skipped n) = record m { frames = past frame n ∷ below }
 after_effect catalog m frame below (Returned status) = record (printed m (L.End status ∷ [])) { frames = below }
@@ -170,10 +164,6 @@ popped_to catalog m firing new = record (printed m (dispatch_line catalog firing
 abbrev pub start_lines : Line → List (List Action) → List Line
 start_lines line [] = line ∷ L.End Success ∷ []
 start_lines line (block ∷ blocks) = line ∷ []
-
-abbrev pub start_frames : ℕ → List (List Action) → List Frame
-start_frames number [] = []
-start_frames number (block ∷ blocks) = frame_at number 0 no_registers ∷ []
 
 -- a second start puts the part among those started again
 abbrev pub with_start : PeiMachine → ℕ → PeiMachine
@@ -222,11 +212,11 @@ abbrev pub waiting_lines : Catalog → PeiMachine → List Line
 waiting_lines catalog m = flat_map (λ number. option_to_list (waiting_line catalog m number)) (pei_order catalog m.reported)
 
 -- how PEI ends: without the move, without the DXE IPL, or by the hand-off
-abbrev pub outcome_of : StoreState → PeiOutcome
-outcome_of s = if s.moved then (if has_ppi s DXE_IPL_PPI then HandsOff else NoIpl) else NoMemory
+abbrev pub outcome_of : StoreState → PeiEnd
+outcome_of s = if s.moved then (if has_ppi s DXE_IPL_PPI then Handoff else NoIpl) else NoMemory
 
-abbrev pub handoff_lines : StoreState → PeiOutcome → List Line
-handoff_lines s HandsOff = L.Handoff s.base ∷ []
+abbrev pub handoff_lines : StoreState → PeiEnd → List Line
+handoff_lines s Handoff = L.Handoff s.base ∷ []
 handoff_lines s NoMemory = []
 handoff_lines s NoIpl = []
 handoff_lines s Spent = []

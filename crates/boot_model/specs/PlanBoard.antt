@@ -2,9 +2,10 @@
 -- Own; FvLength is of PI 1.8, volume 3, `EFI_FIRMWARE_VOLUME_HEADER`.
 use Rattle.std.specs.Prelude.{ℕ, List, [], ◌∷◌, ◌++◌, Option, Some, None, take}
 use Rattle.boot_plan.specs.declared.plan.Plan.{Plan}
-use Rattle.boot_model.specs.declared.catalog.Catalog.{Catalog}
-use Rattle.boot_model.specs.declared.catalog.VolumeEntry.{VolumeEntry}
-use Rattle.boot_model.specs.StoreState.{Board, Rom}
+use Rattle.catalog_model.specs.declared.catalog.Catalog.{Catalog}
+use Rattle.catalog_model.specs.declared.catalog.VolumeEntry.{VolumeEntry}
+use Rattle.phys_mem.specs.declared.rom.Rom.{Rom}
+use Rattle.store_model.specs.StoreState.{Board}
 
 -- the first of these images, where the entry is a volume of the plan; a nested volume lies in the one that it is nested in
 abbrev pub mapped : VolumeEntry → Option ℕ → List (List ℕ) → List Rom

@@ -5,14 +5,15 @@ use Rattle.std.specs.Option.{option_and_then}
 use Rattle.pi_base.specs.declared.guid.Guid.{Guid}
 use Rattle.pi_base.specs.Field.{little_number}
 use Rattle.std.specs.Prelude.{drop}
-use Rattle.boot_model.specs.declared.catalog.Catalog.{Catalog}
-use Rattle.boot_model.specs.declared.known_guid.TheConstants.{FILE_SYSTEM2, FILE_SYSTEM3, VOLUME_INFO_PPI}
-use Rattle.boot_model.specs.FileType.{same_guid}
-use Rattle.boot_model.specs.FileType as Types
-use Rattle.boot_model.specs.StoreState.{StoreState}
-use Rattle.boot_model.specs.MemoryReading.{bytes_at}
-use Rattle.boot_model.specs.Service.Descriptor.{guid_at, number_at}
-use Rattle.boot_model.specs.Parts.{has_number, family, volume_at}
+use Rattle.catalog_model.specs.declared.catalog.Catalog.{Catalog}
+use Rattle.boot_model.specs.declared.known_guid.TheConstants.{FILE_SYSTEM2, FILE_SYSTEM3}
+use Rattle.store_model.specs.declared.known_guid.TheConstants.{VOLUME_INFO_PPI}
+use Rattle.pi_base.specs.Guids.{same_guid}
+use Rattle.pi_base.specs.Guids as Guids
+use Rattle.store_model.specs.StoreState.{StoreState}
+use Rattle.store_model.specs.MemoryReading.{bytes_at}
+use Rattle.store_model.specs.Service.Descriptor.{guid_at, number_at}
+use Rattle.catalog_model.specs.Parts.{has_number, family, volume_at}
 
 -- the bytes of the PPI, and where its FvInfo stands, behind its FvFormat
 abbrev pub volume_info_len : ℕ
@@ -26,7 +27,7 @@ is_file_system guid = same_guid guid FILE_SYSTEM2 || same_guid guid FILE_SYSTEM3
 
 -- the volume that these bytes tell of
 abbrev pub told_by : Catalog → List ℕ → Option ℕ
-told_by catalog bytes = if is_file_system (Types.guid_at bytes 0) then volume_at catalog (little_number 8 (drop volume_info_at bytes)) else None
+told_by catalog bytes = if is_file_system (Guids.guid_at bytes 0) then volume_at catalog (little_number 8 (drop volume_info_at bytes)) else None
 
 -- the volume that the PPI whose descriptor stands at a place tells of
 abbrev pub told_at : Catalog → StoreState → ℕ → Option ℕ

@@ -10,7 +10,7 @@ use Rattle.pi_base.specs.GuidText.{hyphenated_text, lower, swap_fields}
 use Rattle.boot_io.specs.Line.{line_of}
 use Rattle.boot_plan.specs.declared.fault.PlanCause.{PlanCause}
 use Rattle.boot_plan.specs.declared.fault.PlanCause.TheVariants as P
-use Rattle.boot_model.specs.declared.line.TheConstants.{CORE}
+use Rattle.store_model.specs.declared.state.TheConstants.{CORE}
 use Rattle.boot_model.specs.declared.line.Line.{Line}
 use Rattle.boot_model.specs.declared.line.Line.TheVariants as L
 use Rattle.boot_model.specs.declared.line.CallName.{CallName}
@@ -25,8 +25,8 @@ use Rattle.boot_model.specs.declared.line.ExpressionWord.{ExpressionWord}
 use Rattle.boot_model.specs.declared.line.ExpressionWord.TheVariants as V
 use Rattle.boot_model.specs.declared.licence.Licence.{Licence}
 use Rattle.boot_model.specs.declared.licence.Licence.TheVariants as G
-use Rattle.boot_model.specs.declared.image_fault.ImageCause.{ImageCause}
-use Rattle.boot_model.specs.declared.image_fault.ImageCause.TheVariants as I
+use Rattle.catalog_model.specs.declared.image_fault.ImageCause.{ImageCause}
+use Rattle.catalog_model.specs.declared.image_fault.ImageCause.TheVariants as I
 
 -- a number in hexadecimal, with `0x` before it
 abbrev pub hexadecimal : ℕ → List ℕ

@@ -1,6 +1,6 @@
 //! A script that runs.
-use crate::store_handle::{Desc, Pool, Sweep};
 use pi_base::Word;
+use store_model::{Desc, Pool, Sweep};
 
 /// How many frames stand at most.
 pub const MOST_FRAMES: usize = 64;
@@ -22,9 +22,9 @@ pub enum Register {
     HandleIn(u32),
 }
 
-/// A script of PEI that runs: where it stands, and what it holds.
+/// A script that runs: where it stands, and what it holds. `W` is what a call of its phase has still to visit.
 #[derive(Clone, Copy, Debug, PartialEq, Eq)]
-pub struct Frame {
+pub struct Frame<W> {
     /// The number of the module.
     pub module_number: u32,
     pub block: u8,
@@ -33,13 +33,16 @@ pub struct Frame {
     pub registers: [Register; REGISTERS],
     /// The status of its last call.
     pub last: Word,
-    /// The pairs that its last call has still to visit.
-    pub sweep: Option<Sweep>,
+    /// What its last call has still to visit.
+    pub sweep: Option<W>,
 }
 
+/// A script of PEI.
+pub type PeiFrame = Frame<Sweep>;
+
 // What stands in a place for a frame that is not used.
-impl Default for Frame {
-    fn default() -> Frame {
+impl<W> Default for Frame<W> {
+    fn default() -> Frame<W> {
         Frame {
             module_number: 0,
             block: 0,

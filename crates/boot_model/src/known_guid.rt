@@ -1,30 +1,12 @@
-//! The GUIDs that the boot machine knows, as they are stored.
+//! The file systems of volumes that can be reported, and the architectural protocols, as their GUIDs are stored.
+use fv_volume::volume_header::{FFS2, FFS3};
 use pi_base::Guid;
 
 /// The file system of most volumes, `EFI_FIRMWARE_FILE_SYSTEM2_GUID`, 8c8ce578-8a3d-4f1c-9935-896185c32dd3 (PI 1.8, volume 3).
-pub const FILE_SYSTEM2: Guid = Guid([
-    0x78, 0xe5, 0x8c, 0x8c, 0x3d, 0x8a, 0x1c, 0x4f, 0x99, 0x35, 0x89, 0x61, 0x85, 0xc3, 0x2d, 0xd3,
-]);
+pub const FILE_SYSTEM2: Guid = Guid(FFS2);
 
 /// The file system of volumes with large files, `EFI_FIRMWARE_FILE_SYSTEM3_GUID`, 5473c07a-3dcb-4dca-bd6f-1e9689e7349a (PI 1.8, volume 3).
-pub const FILE_SYSTEM3: Guid = Guid([
-    0x7a, 0xc0, 0x73, 0x54, 0xcb, 0x3d, 0xca, 0x4d, 0xbd, 0x6f, 0x1e, 0x96, 0x89, 0xe7, 0x34, 0x9a,
-]);
-
-/// The PPI that tells of a volume, `EFI_PEI_FIRMWARE_VOLUME_INFO_PPI_GUID`, 49edb1c1-bf21-4761-bb12-eb0031aabb39 (PI 1.8, volume 1).
-pub const VOLUME_INFO_PPI: Guid = Guid([
-    0xc1, 0xb1, 0xed, 0x49, 0x21, 0xbf, 0x61, 0x47, 0xbb, 0x12, 0xeb, 0x00, 0x31, 0xaa, 0xbb, 0x39,
-]);
-
-/// The PPI of permanent memory, `EFI_PEI_PERMANENT_MEMORY_INSTALLED_PPI_GUID`, f894643d-c449-42d1-8ea8-85bdd8c65bde (PI 1.8, volume 1).
-pub const MEMORY_PPI: Guid = Guid([
-    0x3d, 0x64, 0x94, 0xf8, 0x49, 0xc4, 0xd1, 0x42, 0x8e, 0xa8, 0x85, 0xbd, 0xd8, 0xc6, 0x5b, 0xde,
-]);
-
-/// The PPI without which there is no hand-off, `EFI_DXE_IPL_PPI_GUID`, 0ae8ce5d-e448-4437-a8d7-ebf5f194f731 (PI 1.8, volume 1).
-pub const DXE_IPL_PPI: Guid = Guid([
-    0x5d, 0xce, 0xe8, 0x0a, 0x48, 0xe4, 0x37, 0x44, 0xa8, 0xd7, 0xeb, 0xf5, 0xf1, 0x94, 0xf7, 0x31,
-]);
+pub const FILE_SYSTEM3: Guid = Guid(FFS3);
 
 /// The thirteen architectural protocols (PI 1.8, volume 2, "DXE Architectural Protocols").
 pub const ARCHITECTURAL: [Guid; 13] = [

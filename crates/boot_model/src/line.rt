@@ -1,8 +1,8 @@
 //! The printed lines of a boot.
-use crate::image_fault::ImageCause;
 use crate::licence::Licence;
 use arrayvec::ArrayVec;
 use boot_plan::PlanCause;
+use catalog_model::ImageCause;
 use pi_base::{Guid, Seq, Word};
 
 /// How many bytes a script logs or reads at once.
@@ -189,9 +189,6 @@ pub enum Line {
         cause: ImageCause,
     },
 }
-
-/// The number that stands for the core in the place of a module's.
-pub const CORE: u32 = u32::MAX;
 
 /// The service that a `call` line names.
 #[derive(Clone, Copy, Debug, PartialEq, Eq)]

@@ -8,3 +8,4 @@ pub mod Adding
 pub mod Finishing
 pub mod Reading
 pub mod OneReading
+mod SomeReading

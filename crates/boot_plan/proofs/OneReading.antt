@@ -18,7 +18,7 @@ use Rattle.boot_plan.specs.Said.{Said, said, temps}
 use Rattle.boot_plan.specs.Draft.{Keeps}
 use Rattle.boot_plan.specs.PlanText.{AreSound, Makes, Gives, IsPlan, IsLineFault, IsPlanFault, cause_at, end_fault}
 
-abbrev made : (base len : ℕ) → base + len < 2 ^ 64 → Span
+abbrev pub made : (base len : ℕ) → base + len < 2 ^ 64 → Span
 made base len h = record { base = base; len = len; in_range = h }
 
 span_same : (a b : Span) → a.base ≡ b.base → a.len ≡ b.len → a ≡ b

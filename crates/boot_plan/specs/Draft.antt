@@ -2,7 +2,7 @@
 use Rattle.std.specs.Prelude.{◌≡◌, ◌≢◌, ℕ, ◌++◌, ◌∷◌, None, Some, Result, Ok, Err, ◌<◌, ◌≤◌, ◌%◌, List, [], length, All, IfSome}
 use Rattle.std.specs.Option.{option_to_list}
 use Rattle.boot_plan.specs.declared.draft.Draft.{Draft}
-use Rattle.boot_plan.specs.declared.limits.TheConstants.{PAGE_LEN, LEAST_TEMP, MOST_TEMP, LEAST_RAM, MOST_RAM, MOST_FUEL, MOST_PAGES, MOST_VOLUMES}
+use Rattle.boot_plan.specs.declared.limits.TheConstants.{PAGE_LEN, LEAST_TEMP, MOST_TEMP, LEAST_RAM, MOST_RAM, MOST_FUEL, MOST_PAGES, MOST_PLAN_VOLUMES}
 use Rattle.boot_plan.specs.Entry.{Entry, Temp, Ram, Volume, Fuel, Pages}
 use Rattle.boot_plan.specs.declared.fault.PlanFault.{PlanFault}
 use Rattle.boot_plan.specs.declared.fault.PlanCause.TheVariants.{Memory}
@@ -22,7 +22,7 @@ pub record Keeps (said : List Said) (draft : Draft) : Type 0 where
 pub record IsInRange (draft : Draft) : Type 0 where
   pub temp : IfSome draft.temp (λ area. IsSpanInRange LEAST_TEMP MOST_TEMP area.base area.size)
   pub ram : IfSome draft.ram (λ area. IsSpanInRange LEAST_RAM MOST_RAM area.base area.size)
-  pub few_volumes : length draft.volumes ≤ MOST_VOLUMES
+  pub few_volumes : length draft.volumes ≤ MOST_PLAN_VOLUMES
   pub volumes : All IsVolumeInRange draft.volumes
   pub fuel : IfSome draft.fuel (λ amount. (1 ≤ amount.value) × (amount.value ≤ MOST_FUEL))
   pub pages : IfSome draft.pages (λ amount. (amount.value % PAGE_LEN ≡ 0) × (amount.value ≤ MOST_PAGES))
@@ -39,7 +39,7 @@ HasPlace before (Pages size) = pages before ≡ []
 abbrev pub IsEntryInRange : Draft → Entry ℕ → Type 0
 IsEntryInRange draft (Temp base size) = IsSpanInRange LEAST_TEMP MOST_TEMP base size
 IsEntryInRange draft (Ram base size) = IsSpanInRange LEAST_RAM MOST_RAM base size
-IsEntryInRange draft (Volume base name) = IsVolumeInRange (record { base = base; name = name }) × (length draft.volumes < MOST_VOLUMES)
+IsEntryInRange draft (Volume base name) = IsVolumeInRange (record { base = base; name = name }) × (length draft.volumes < MOST_PLAN_VOLUMES)
 IsEntryInRange draft (Fuel count) = (1 ≤ count) × (count ≤ MOST_FUEL)
 IsEntryInRange draft (Pages size) = (size % PAGE_LEN ≡ 0) × (size ≤ MOST_PAGES)
 

@@ -2,7 +2,7 @@
 use Rattle.std.specs.Prelude.{ℕ, ◌+◌, ◌%◌, Bool, false, ◌&&◌, nat_lt, nat_le, ◌==◌, if◌then◌else◌, List, length, Option, Some, None}
 use Rattle.boot_plan.specs.declared.fault.PlanCause.{PlanCause}
 use Rattle.boot_plan.specs.declared.fault.PlanCause.TheVariants.{Word, Number, Twice, Limit}
-use Rattle.boot_plan.specs.declared.limits.TheConstants.{LEAST_ADDRESS, MOST_END, PAGE_LEN, VOLUME_ALIGNMENT, LEAST_TEMP, MOST_TEMP, LEAST_RAM, MOST_RAM, MOST_FUEL, MOST_PAGES, MOST_VOLUMES}
+use Rattle.boot_plan.specs.declared.limits.TheConstants.{LEAST_ADDRESS, MOST_END, PAGE_LEN, VOLUME_ALIGNMENT, LEAST_TEMP, MOST_TEMP, LEAST_RAM, MOST_RAM, MOST_FUEL, MOST_PAGES, MOST_PLAN_VOLUMES}
 use Rattle.boot_plan.specs.Line.{is_passed_over}
 use Rattle.boot_plan.specs.Form.{form_of}
 use Rattle.boot_plan.specs.Entry.{Entry, Temp, Ram, Volume, Fuel, Pages, read_entry}
@@ -25,7 +25,7 @@ is_area least most base size =
 abbrev pub is_within : List Said → Entry ℕ → Bool
 is_within before (Temp base size) = is_area LEAST_TEMP MOST_TEMP base size
 is_within before (Ram base size) = is_area LEAST_RAM MOST_RAM base size
-is_within before (Volume base name) = ((base % VOLUME_ALIGNMENT == 0) && nat_le LEAST_ADDRESS base) && nat_lt (length (volumes before)) MOST_VOLUMES
+is_within before (Volume base name) = ((base % VOLUME_ALIGNMENT == 0) && nat_le LEAST_ADDRESS base) && nat_lt (length (volumes before)) MOST_PLAN_VOLUMES
 is_within before (Fuel count) = nat_le 1 count && nat_le count MOST_FUEL
 is_within before (Pages size) = (nat_lt 0 size && (size % PAGE_LEN == 0)) && nat_le size MOST_PAGES
 

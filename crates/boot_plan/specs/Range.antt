@@ -1,7 +1,7 @@
 -- The ranges that each plan keeps (own), for the calls that take one.
 use Rattle.std.specs.Prelude.{◌≡◌, ℕ, ◌+◌, ◌%◌, ◌≤◌, List, length, All}
 use Rattle.pi_base.specs.Span.{AreDisjoint}
-use Rattle.boot_plan.specs.declared.limits.TheConstants.{LEAST_ADDRESS, MOST_END, PAGE_LEN, VOLUME_ALIGNMENT, LEAST_TEMP, MOST_TEMP, LEAST_RAM, MOST_RAM, MOST_FUEL, MOST_PAGES, MOST_VOLUMES, MOST_NAME}
+use Rattle.boot_plan.specs.declared.limits.TheConstants.{LEAST_ADDRESS, MOST_END, PAGE_LEN, VOLUME_ALIGNMENT, LEAST_TEMP, MOST_TEMP, LEAST_RAM, MOST_RAM, MOST_FUEL, MOST_PAGES, MOST_PLAN_VOLUMES, MOST_NAME}
 use Rattle.boot_plan.specs.declared.plan.Plan.{Plan}
 use Rattle.boot_plan.specs.declared.plan.PlanVolume.{PlanVolume}
 
@@ -35,7 +35,7 @@ pub record IsPlanInRange (plan : Plan) : Type 0 where
   pub ram : IsSpanInRange LEAST_RAM MOST_RAM plan.ram.base plan.ram.len
   pub apart : AreDisjoint plan.temp plan.ram
   pub some_volume : 1 ≤ length plan.volumes
-  pub few_volumes : length plan.volumes ≤ MOST_VOLUMES
+  pub few_volumes : length plan.volumes ≤ MOST_PLAN_VOLUMES
   pub volumes : All IsVolumeInRange plan.volumes
   pub some_fuel : 1 ≤ plan.fuel
   pub most_fuel : plan.fuel ≤ MOST_FUEL

@@ -7,8 +7,8 @@ use crate::entry::{Entry, read_entry};
 use crate::fault::{PlanCause, PlanFault};
 use crate::form::form_of;
 use crate::limits::{
-    LEAST_ADDRESS, LEAST_RAM, LEAST_TEMP, MOST_END, MOST_FUEL, MOST_PAGES, MOST_RAM, MOST_TEMP,
-    MOST_VOLUMES, PAGE_LEN, VOLUME_ALIGNMENT,
+    LEAST_ADDRESS, LEAST_RAM, LEAST_TEMP, MOST_END, MOST_FUEL, MOST_PAGES, MOST_PLAN_VOLUMES,
+    MOST_RAM, MOST_TEMP, PAGE_LEN, VOLUME_ALIGNMENT,
 };
 use crate::line::is_passed_over;
 use crate::plan::PlanVolume;
@@ -92,7 +92,7 @@ impl Draft {
             Entry::Volume { base, .. } => {
                 base % VOLUME_ALIGNMENT == 0
                     && base >= LEAST_ADDRESS
-                    && self.volumes.len() < MOST_VOLUMES
+                    && self.volumes.len() < MOST_PLAN_VOLUMES
             }
             Entry::Fuel { count } => count >= 1 && count <= MOST_FUEL,
             Entry::Pages { size } => size > 0 && size % PAGE_LEN == 0 && size <= MOST_PAGES,

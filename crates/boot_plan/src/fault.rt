@@ -4,25 +4,25 @@ ghost use Rattle.boot_plan.specs.declared.fault.PlanCause.TheVariants.{Memory};
 
 use pi_base::OutOfMemory;
 
-/// What is wrong with a plan.
+/// What is wrong with a plan. The numbers are own.
 #[derive(Clone, Copy, Debug, PartialEq, Eq)]
 pub enum PlanCause {
     /// The line has no form: its first word, the number of its words, a byte of it or its name is not of the format.
-    Word,
+    Word = 40,
     /// A number is not spelled as one, or is 2^64 or more.
-    Number,
+    Number = 41,
     /// The text ends without `temp`, `ram` or a volume.
-    Missing,
+    Missing = 42,
     /// A second `temp`, `ram`, `fuel` or `pages`.
-    Twice,
+    Twice = 43,
     /// Temporary RAM and RAM are not disjoint.
-    Overlap,
+    Overlap = 44,
     /// A value is out of its limits, or a volume is the 17th.
-    Limit,
+    Limit = 45,
     /// The page region leaves too little of temporary RAM.
-    Room,
+    Room = 46,
     /// Want of memory.
-    Memory,
+    Memory = 47,
 }
 
 /// The first fault of a plan.
@@ -30,6 +30,7 @@ pub enum PlanCause {
 pub struct PlanFault {
     /// The line that has it, from 1; 0 where memory is wanting.
     pub line: u32,
+    /// What is wrong there.
     pub cause: PlanCause,
 }
 

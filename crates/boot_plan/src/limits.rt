@@ -33,8 +33,8 @@ pub const DEFAULT_FUEL: u32 = 100_000;
 /// The greatest size of the page region, in bytes.
 pub const MOST_PAGES: u64 = 0x10_0000;
 
-/// The greatest number of volumes.
-pub const MOST_VOLUMES: usize = 16;
+/// The greatest number of volumes of a plan; nested ones are not counted.
+pub const MOST_PLAN_VOLUMES: usize = 16;
 
 /// The greatest length of a volume's name, in bytes.
 pub const MOST_NAME: usize = 255;

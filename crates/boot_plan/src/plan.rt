@@ -1,10 +1,12 @@
 // A plan.
 use pi_base::{Seq, Span};
 
-/// A volume of a plan: the address of its first byte, and the name of its file.
+/// A volume of a plan.
 #[derive(Drop)]
 pub struct PlanVolume {
+    /// The address of its first byte.
     pub base: u64,
+    /// The name of its file.
     pub name: Seq<u8>,
 }
 

@@ -1,5 +1,5 @@
 // Reading the text of a plan.
-ghost use Rattle.std.specs.Prelude.{◌≡◌, ◌≢◌, ◌<◌, ◌-◌, ◌^◌, ℕ, List, length, IfOk, IfErr};
+ghost use Rattle.std.specs.Prelude.{◌≡◌, ◌≢◌, ◌⊎◌, ◌<◌, ◌-◌, ◌^◌, ℕ, List, length, IfOk, IfErr};
 ghost use Rattle.boot_plan.specs.PlanText.{IsPlan, IsPlanFault};
 ghost use Rattle.boot_plan.specs.Range.{IsPlanInRange};
 ghost use Rattle.boot_plan.specs.declared.plan.Plan.{Plan};
@@ -28,17 +28,16 @@ pub fn read_plan(alloc: Global, text: &[u8]) -> Result<Plan, PlanFault>
     'lines: while !rest.is_empty() {
         let (line, after) = first_line(rest);
         count += 1;
-        match draft.add(count, line) {
-            Ok(()) => rest = after,
-            Err(fault) => return Err(fault),
-        }
+        draft.add(count, line)?;
+        rest = after;
     }
     finish(draft, count)
 }
 
-/// A text is one plan or has one first fault, and never both.
+/// Each text is a plan or has a first fault, never both, and one plan or one fault.
 pub fn one_reading()
     ensures plans { (text : List ℕ) (a b : Plan) → IsPlan text a → IsPlan text b → a ≡ b }
     ensures faults { (text : List ℕ) (a b : PlanFault) → IsPlanFault text a → IsPlanFault text b → a ≡ b }
     ensures apart { (text : List ℕ) (plan : Plan) (fault : PlanFault) → IsPlan text plan → IsPlanFault text fault → ⊥ }
+    ensures some { (text : List ℕ) → ((plan : Plan) × IsPlan text plan) ⊎ ((fault : PlanFault) × IsPlanFault text fault) }
 {}

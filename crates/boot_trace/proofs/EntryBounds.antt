@@ -6,17 +6,17 @@ use Rattle.std.proofs.lemmas.List.Sums.{sum_by-cons}
 use Rattle.std.proofs.lemmas.Map.Made.{IsDistinct-from_AllPairs}
 use Rattle.std.proofs.lemmas.Map.Steps.{length-le_from_distinct_below}
 use Rattle.std.proofs.lemmas.Bool.Decides.{nat_tests, Decides-eqb}
-use Rattle.boot_model.specs.declared.store_handle.DescKind.{DescKind}
-use Rattle.boot_model.specs.declared.store_handle.DescKind.TheVariants.{Ppi, Callback, Dispatch}
-use Rattle.boot_model.specs.declared.state.Entry.{Entry}
-use Rattle.boot_model.specs.declared.state.Pending.{Pending}
-use Rattle.boot_model.specs.declared.state.Body.{Body}
-use Rattle.boot_model.specs.declared.state.Body.TheVariants.{Node}
-use Rattle.boot_model.specs.declared.state.HobEntry.{HobEntry}
+use Rattle.store_model.specs.declared.store_handle.DescKind.{DescKind}
+use Rattle.store_model.specs.declared.store_handle.DescKind.TheVariants.{Ppi, Callback, Dispatch}
+use Rattle.store_model.specs.declared.state.Entry.{Entry}
+use Rattle.store_model.specs.declared.state.Pending.{Pending}
+use Rattle.store_model.specs.declared.state.Body.{Body}
+use Rattle.store_model.specs.declared.state.Body.TheVariants.{Node}
+use Rattle.store_model.specs.declared.state.HobEntry.{HobEntry}
 use Rattle.boot_model.specs.Listing.{ppi_line, callback_line, dispatch_line, pending_line}
-use Rattle.boot_model.specs.Lists.{Each}
-use Rattle.boot_model.specs.StoreState.{StoreState, Range, hob_len, body_from, end_place}
-use Rattle.boot_model.specs.StateFacts.{IsStoreState, IsEntry, IsPending, IsBoard, IsHeap, IsPlanned, nodes}
+use Rattle.pi_base.specs.Lists.{Each}
+use Rattle.store_model.specs.StoreState.{StoreState, Range, hob_len, body_from, end_place}
+use Rattle.store_model.specs.StateFacts.{IsStoreState, IsEntry, IsPending, IsBoard, IsHeap, IsPlanned, nodes}
 use Rattle.boot_trace.specs.declared.entry_list.EntryList.{EntryList}
 use Rattle.boot_trace.specs.declared.entry_list.EntryList.TheVariants.{Ppis, Callbacks, Dispatches, Pendings}
 use Rattle.boot_trace.specs.EntryLines.{entry_lines}

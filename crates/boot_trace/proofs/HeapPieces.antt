@@ -3,9 +3,9 @@ use lib.Seq.{take-nil}
 use Rattle.std.proofs.Common.{◌≡◌, ℕ, zero, suc, ◌+◌, ◌-◌, ◌≤◌, List, [], ◌∷◌, ◌++◌, length, take, drop, arith, sym, ap, ◌∙◌}
 use Rattle.std.proofs.lemmas.List.{drop-drop, length-take, length-drop}
 use Rattle.hex.specs.Hex.{encode_lower}
-use Rattle.boot_model.specs.StoreState.{StoreState}
-use Rattle.boot_model.specs.StateFacts.{IsStoreState}
-use Rattle.boot_model.specs.HeapImage.{hob_list}
+use Rattle.store_model.specs.StoreState.{StoreState}
+use Rattle.store_model.specs.StateFacts.{IsStoreState}
+use Rattle.store_model.specs.HeapImage.{hob_list}
 use Rattle.boot_trace.specs.HeapParts.{IsHeapPart, heap_part}
 use Rattle.boot_trace.proofs.Hexadecimal.{encode_lower-append}
 use Rattle.boot_trace.proofs.HeapReads.{list_length}

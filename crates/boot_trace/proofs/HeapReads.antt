@@ -7,22 +7,22 @@ use Rattle.std.proofs.lemmas.Option.{same_Some, unwrap_or-slice_get}
 use Rattle.std.proofs.lemmas.Bool.Decides.{nat_tests}
 use Rattle.phys_mem.specs.Region.{is_inside}
 use Rattle.hob_codec.specs.declared.kind.TheConstants.{END}
-use Rattle.boot_model.specs.declared.state.DescriptorBody.{DescriptorBody}
-use Rattle.boot_model.specs.declared.state.Body.{Body}
-use Rattle.boot_model.specs.declared.state.Body.TheVariants.{Bytes, Descriptor, Node, Allocation}
-use Rattle.boot_model.specs.declared.state.HobEntry.{HobEntry}
-use Rattle.boot_model.specs.Lists.{Each, numbers}
-use Rattle.boot_model.specs.StoreState.{StoreState, Range, hob_len, body_len, descriptor_len, end_place}
-use Rattle.boot_model.specs.StateFacts.{IsStoreState, IsGuidOf, IsBodyOf, IsHeap, IsPlanned}
-use Rattle.boot_model.specs.HeapImage.{Links, links_bytes, guid_behind, header_bytes, body_bytes, hobs_bytes, hob_list, or_else}
-use Rattle.boot_model.specs.StoreCall.{Peeks}
-use Rattle.boot_model.specs.MemoryReading.{rom_bytes, heap_byte, region_bytes, bytes_at}
+use Rattle.store_model.specs.declared.state.DescriptorBody.{DescriptorBody}
+use Rattle.store_model.specs.declared.state.Body.{Body}
+use Rattle.store_model.specs.declared.state.Body.TheVariants.{Bytes, Descriptor, Node, Allocation}
+use Rattle.store_model.specs.declared.state.HobEntry.{HobEntry}
+use Rattle.pi_base.specs.Lists.{Each, numbers}
+use Rattle.store_model.specs.StoreState.{StoreState, Range, hob_len, body_len, descriptor_len, end_place}
+use Rattle.store_model.specs.StateFacts.{IsStoreState, IsGuidOf, IsBodyOf, IsHobEntry, IsHeap, IsPlanned}
+use Rattle.store_model.specs.HeapImage.{Links, links_bytes, guid_behind, header_bytes, body_bytes, hobs_bytes, hob_list, or_else}
+use Rattle.store_model.specs.StoreCall.{Peeks}
+use Rattle.store_model.specs.MemoryReading.{rom_bytes, heap_byte, region_bytes, bytes_at}
 use Rattle.boot_trace.specs.HobLines.{handoff_hob, all_hobs}
 use Rattle.boot_trace.specs.HeapParts.{IsHeapPart, heap_part}
 use Rattle.boot_trace.proofs.HobPlaces.{place_of, place_more}
 
 -- a GUID that stands behind its descriptor has sixteen bytes
-guid_len : (s : StoreState) (d : DescriptorBody) (stands : Option ℕ) → IsGuidOf s d stands → length (guid_behind d stands) + 24 ≡ descriptor_len stands
+guid_len : (s : StoreState) (d : DescriptorBody) (stands : Option ℕ) → IsGuidOf s.board d stands → length (guid_behind d stands) + 24 ≡ descriptor_len stands
 guid_len s d None h = omega (arith, h)
 guid_len s d (Some address) h = refl
 
@@ -31,7 +31,7 @@ node_len : (links : Option Links) → length (links_bytes links) ≡ 32
 node_len None = refl
 node_len (Some links) = refl
 
-sized : (s : StoreState) (kind place : ℕ) (body : Body) → IsBodyOf s kind body → length (body_bytes s place body) ≡ body_len body
+sized : (s : StoreState) (kind place : ℕ) (body : Body) → IsBodyOf s.board s.taken kind body → length (body_bytes s place body) ≡ body_len body
 sized s kind place (Bytes bytes) h = refl
 sized s kind place (Descriptor d) h = let e = guid_len s d d.stands h.1 in omega (arith, e)
 sized s kind place Node h = node_len _
@@ -40,12 +40,12 @@ sized s kind place (Allocation a) h = refl
 abbrev IsFormed : StoreState → HobEntry → Type 0
 IsFormed s hob = (place : ℕ) → length (body_bytes s place hob.body) ≡ body_len hob.body
 
-formed : (s : StoreState) (hobs : List HobEntry) → Each (λ hob. IsBodyOf s hob.kind hob.body) hobs → Each (IsFormed s) hobs
+formed : (s : StoreState) (hobs : List HobEntry) → Each (IsHobEntry s.board s.taken) hobs → Each (IsFormed s) hobs
 formed s [] h = tt
-formed s (hob ∷ hobs) h = (λ place. sized s hob.kind place hob.body h.0, formed s hobs h.1)
+formed s (hob ∷ hobs) h = (λ place. sized s hob.kind place hob.body h.0.body, formed s hobs h.1)
 
 all_formed : (s : StoreState) → IsStoreState s → Each (IsFormed s) (all_hobs s)
-all_formed s h = (λ place. refl, formed s s.hobs h.bodies)
+all_formed s h = (λ place. refl, formed s s.hobs h.hobs)
 
 hobs_length : (s : StoreState) (at : ℕ) (hobs : List HobEntry) → Each (IsFormed s) hobs → length (hobs_bytes s at hobs) ≡ sum_by hob_len hobs
 hobs_length s at [] h = refl

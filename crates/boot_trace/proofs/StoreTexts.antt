@@ -4,7 +4,7 @@ use Rattle.std.proofs.lemmas.List.{length-map, append-nil}
 use Rattle.std.proofs.lemmas.Grind.{flat_map-append}
 use Rattle.boot_model.specs.declared.line.Line.{Line}
 use Rattle.boot_model.specs.declared.line.Line.TheVariants as L
-use Rattle.boot_model.specs.StoreState.{StoreState}
+use Rattle.store_model.specs.StoreState.{StoreState}
 use Rattle.boot_model.specs.Listing.{store_lines, ppi_lines, callback_lines, dispatch_lines, pending_lines, hob_lines, ppi_line, callback_line, dispatch_line, pending_line}
 use Rattle.boot_model.specs.Text.{line_text, text_of}
 use Rattle.boot_trace.specs.declared.entry_list.EntryList.TheVariants.{Ppis, Callbacks, Dispatches, Pendings}

@@ -3,7 +3,7 @@
 use Rattle.std.specs.Prelude.{ℕ, List, ◌∷◌, length, map}
 use Rattle.boot_model.specs.declared.line.Line.{Line}
 use Rattle.boot_model.specs.declared.line.Line.TheVariants as L
-use Rattle.boot_model.specs.StoreState.{StoreState}
+use Rattle.store_model.specs.StoreState.{StoreState}
 use Rattle.boot_model.specs.Listing.{ppi_line, callback_line, dispatch_line, pending_line}
 use Rattle.boot_model.specs.Text.{text_of}
 use Rattle.boot_trace.specs.declared.entry_list.EntryList.{EntryList}

@@ -4,10 +4,10 @@ use Rattle.std.specs.Prelude.{ℕ, ◌+◌, ◌==◌, if◌then◌else◌, List,
 use Rattle.hob_codec.specs.declared.kind.TheConstants.{HANDOFF}
 use Rattle.boot_model.specs.declared.line.Line.{Line}
 use Rattle.boot_model.specs.declared.line.Line.TheVariants as L
-use Rattle.boot_model.specs.declared.state.Body.TheVariants.{Bytes}
-use Rattle.boot_model.specs.declared.state.HobEntry.{HobEntry}
-use Rattle.boot_model.specs.StoreState.{StoreState, hob_len, header_len}
-use Rattle.boot_model.specs.HeapImage.{handoff_body, body_bytes}
+use Rattle.store_model.specs.declared.state.Body.TheVariants.{Bytes}
+use Rattle.store_model.specs.declared.state.HobEntry.{HobEntry}
+use Rattle.store_model.specs.StoreState.{StoreState, hob_len, header_len}
+use Rattle.store_model.specs.HeapImage.{handoff_body, body_bytes}
 
 -- the hand-off HOB, as an entry
 abbrev pub handoff_hob : StoreState → HobEntry

@@ -10,8 +10,9 @@ use crate::number_word::{
     decimal_word, expression_word, hexadecimal_word, kind_word, name_word, rank_word,
 };
 use boot_io::{Sink, SinkFault, put_line};
-use boot_model::{ExpressionWord, ImageCause};
+use boot_model::ExpressionWord;
 use boot_plan::PlanCause;
+use catalog_model::ImageCause;
 use pi_base::Guid;
 
 // A volume of the catalogue.

@@ -1,10 +1,11 @@
 //! The entries of a store's lists, each as a line.
 ghost use Rattle.std.specs.Prelude.{◌≡◌, slice_get, length};
-ghost use Rattle.boot_model.specs.Service.{Present, OfEach};
-ghost use Rattle.boot_model.specs.StoreCall.{Anything};
+ghost use Rattle.store_model.specs.Service.{Present, OfEach};
+ghost use Rattle.store_model.specs.StoreCall.{Anything};
 ghost use Rattle.boot_trace.specs.EntryLines.{count_line, entry_lines};
 
-use boot_model::{BLOCKS, DescKind, Line, PeiStore};
+use boot_model::{BLOCKS, Line};
+use store_model::{DescKind, PeiStore};
 
 // A list of entries.
 #[derive(Clone, Copy)]

@@ -2,8 +2,9 @@
 ghost use Rattle.std.specs.Prelude.{◌≡◌};
 ghost use Rattle.boot_model.specs.Text.{word_text, licence_text, call_text, reason_text, end_text, plan_cause_text, image_cause_text, keyword};
 
-use boot_model::{CallName, ImageCause, Licence, Line, Reason, RunEnd};
+use boot_model::{CallName, Licence, Line, Reason, RunEnd};
 use boot_plan::PlanCause;
+use catalog_model::ImageCause;
 use pi_base::Word;
 
 // The name of a status.

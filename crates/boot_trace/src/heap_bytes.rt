@@ -3,14 +3,14 @@ ghost use Rattle.std.specs.Prelude.{◌≡◌, [], ◌∷◌, ◌++◌, ◌≤�
 ghost use Rattle.hex.specs.Hex.{encode_lower};
 ghost use Rattle.boot_io.specs.Line.{line_of};
 ghost use Rattle.boot_io.specs.Sink.{Puts, SinkFaultsAfter};
-ghost use Rattle.boot_model.specs.Service.{Present, OfEach};
+ghost use Rattle.store_model.specs.Service.{Present, OfEach};
 ghost use Rattle.boot_model.specs.Text.{bytes_text, hob_text};
 ghost use Rattle.boot_trace.specs.HeapParts.{IsHeapPart, heap_part};
 
 use crate::hob_line::{PIECE_LEN, put_front, put_piece};
 use crate::number_word::decimal_word;
 use boot_io::{Sink, SinkFault, put_line};
-use boot_model::PeiStore;
+use store_model::PeiStore;
 
 // A piece of the heap, in hexadecimal.
 fn put_heap_piece<S: Sink, M: PeiStore>(

@@ -4,8 +4,9 @@ ghost use Rattle.hex.specs.Hex.{encode_lower};
 ghost use Rattle.boot_model.specs.Text.{hexadecimal, rank_text, name_text, by_text, expression_text};
 
 use arrayvec::ArrayVec;
-use boot_model::{CORE, ExpressionWord, SHOWN_LEN};
+use boot_model::{ExpressionWord, SHOWN_LEN};
 use pi_base::{Guid, decimal, hexadecimal};
+use store_model::CORE;
 
 // How long the words of numbers, of bytes that are shown and of expressions are at most.
 pub(crate) const DECIMAL_LEN: usize = 20;

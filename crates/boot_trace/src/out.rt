@@ -3,7 +3,8 @@ use crate::line::{put, put_all, put_hob_line, put_log, put_refused_file, put_ref
 use crate::store_hobs::put_hob_at;
 use crate::store_lists::put_store;
 use boot_io::{Sink, SinkFault};
-use boot_model::{Line, PeiStore};
+use boot_model::Line;
+use store_model::PeiStore;
 
 /// Where the lines of a boot go. No call takes memory. Where the sink fails, a prefix of the text was put.
 #[derive(Drop)]
@@ -15,9 +16,9 @@ impl<'a, S: Sink> Out<'a, S> {
     ghost use Rattle.std.specs.Prelude.{◌≡◌, true, is_some, IsSomeAnd};
     ghost use Rattle.boot_io.specs.Sink.{Puts, SinkFaultsAfter};
     ghost use Rattle.boot_model.specs.Listing.{store_lines};
-    ghost use Rattle.boot_model.specs.Service.{Present, OfEach};
-    ghost use Rattle.boot_model.specs.Service.Reading.{hob_at};
-    ghost use Rattle.boot_model.specs.StoreCall.{Anything};
+    ghost use Rattle.store_model.specs.Service.{Present, OfEach};
+    ghost use Rattle.store_model.specs.Service.Reading.{hob_at};
+    ghost use Rattle.store_model.specs.StoreCall.{Anything};
     ghost use Rattle.boot_trace.specs.HobLines.{hob_line_at};
     ghost use Rattle.boot_model.specs.Text.{line_text, text_of, log_text, hob_text, refused_file_text, refused_long_text};
 

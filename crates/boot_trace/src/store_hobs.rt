@@ -1,9 +1,9 @@
 //! The HOBs of a store, after their count.
 ghost use Rattle.std.specs.Prelude.{◌≡◌, true, length, Some, is_some, IsSomeAnd};
 ghost use Rattle.boot_io.specs.Sink.{Puts, SinkFaultsAfter};
-ghost use Rattle.boot_model.specs.Service.{Present, OfEach};
-ghost use Rattle.boot_model.specs.Service.Reading.{hob_at};
-ghost use Rattle.boot_model.specs.StoreCall.{Anything};
+ghost use Rattle.store_model.specs.Service.{Present, OfEach};
+ghost use Rattle.store_model.specs.Service.Reading.{hob_at};
+ghost use Rattle.store_model.specs.StoreCall.{Anything};
 ghost use Rattle.boot_model.specs.Text.{line_text, text_of};
 ghost use Rattle.boot_model.specs.Listing.{hob_lines, hob_lines_from};
 ghost use Rattle.boot_trace.specs.HobLines.{all_hobs, hob_line_at};
@@ -11,7 +11,8 @@ ghost use Rattle.boot_trace.specs.HobLines.{all_hobs, hob_line_at};
 use crate::heap_bytes::put_heap_line;
 use crate::line::put_own;
 use boot_io::{Sink, SinkFault};
-use boot_model::{HobSpan, Line, PeiStore};
+use boot_model::Line;
+use store_model::{HobSpan, PeiStore};
 
 // The length of a HOB's header.
 const HEADER_LEN: u16 = 8;

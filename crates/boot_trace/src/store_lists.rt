@@ -1,8 +1,8 @@
 //! The lists of a store, each after its count.
 ghost use Rattle.std.specs.Prelude.{◌≡◌, ◌∷◌, flat_map};
 ghost use Rattle.boot_io.specs.Sink.{Puts, SinkFaultsAfter};
-ghost use Rattle.boot_model.specs.Service.{Present, OfEach};
-ghost use Rattle.boot_model.specs.StoreCall.{Anything};
+ghost use Rattle.store_model.specs.Service.{Present, OfEach};
+ghost use Rattle.store_model.specs.StoreCall.{Anything};
 ghost use Rattle.boot_model.specs.Text.{text_of};
 ghost use Rattle.boot_model.specs.Listing.{store_lines};
 ghost use Rattle.boot_trace.specs.EntryLines.{entry_lines, list_text};
@@ -11,7 +11,7 @@ use crate::entry_list::{EntryList, count_line, entry_count, entry_line};
 use crate::line::put_own;
 use crate::store_hobs::put_hobs;
 use boot_io::{Sink, SinkFault};
-use boot_model::PeiStore;
+use store_model::PeiStore;
 
 // The lists of entries, in the order of printing.
 const ENTRY_LISTS: [EntryList; 4] = [

@@ -1,14 +1,14 @@
 use super::*;
 use arrayvec::ArrayVec;
 use boot_io::MemSink;
-use boot_model::{
-    CORE, CallName, ExpressionWord, Extra, ImageCause, Licence, Line, Reason, RunEnd,
-};
+use boot_model::{CallName, ExpressionWord, Extra, Licence, Line, Reason, RunEnd};
 use boot_plan::PlanCause;
+use catalog_model::ImageCause;
 use pi_base::{Guid, Seq, Word};
 use std::alloc::Global;
 use std::process::Abort;
 use std::test::Fail;
+use store_model::CORE;
 
 const A: Guid = Guid([0, 0, 0, 0, 0, 0, 0, 0, 0, 0, 0, 0, 0, 0, 0, 0x0a]);
 

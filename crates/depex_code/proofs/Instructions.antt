@@ -11,7 +11,7 @@ use Rattle.depex_code.specs.declared.instruction.Instruction.{Instruction}
 use Rattle.depex_code.specs.declared.instruction.Instruction.TheVariants as instruction
 use Rattle.depex_code.specs.Instruction.{instruction_bytes, IsWhole}
 use Rattle.depex_code.specs.Expression.{bytes_of}
-use Rattle.depex_code.specs.Reading.{guid_at, with_guid, instruction_at}
+use Rattle.depex_code.specs.Reading.{guid_front, with_guid, instruction_at}
 
 -- what was read is what stands there
 abbrev IsTaken : List ℕ → Option (Instruction × List ℕ) → Type 0
@@ -60,7 +60,7 @@ instruction_at-taken (b ∷ rest) =
 pub instruction_takes : (bytes : List ℕ) (x : Instruction) (rest : List ℕ) → instruction_at bytes ≡ Some (x, rest) → (bytes ≡ instruction_bytes x ++ rest) × IsWhole x
 instruction_takes bytes x rest e = subst (IsTaken bytes) e (instruction_at-taken bytes)
 
-guid_again : (guid : Guid) (rest : List ℕ) → length guid.0 ≡ 16 → guid_at (guid.0 ++ rest) ≡ Some (guid, rest)
+guid_again : (guid : Guid) (rest : List ℕ) → length guid.0 ≡ 16 → guid_front (guid.0 ++ rest) ≡ Some (guid, rest)
 guid_again guid rest whole =
     let long : ltb (length (guid.0 ++ rest)) 16 ≡ false = let l = length-append guid.0 rest in grind (arith, nat_tests) in
     rw (long, take_at guid.0 rest 16 whole, drop_at guid.0 rest 16 whole) refl

@@ -5,3 +5,4 @@ pub mod Outcomes
 pub mod Stacks
 pub mod TreeWalk
 pub mod Walk
+mod SomeReading

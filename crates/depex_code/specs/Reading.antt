@@ -1,7 +1,8 @@
 -- Reading from left to right: one opcode, and a tree up to its END.
-use Rattle.std.specs.Prelude.{◌≡◌, ◌≢◌, ℕ, ◌+◌, ◌-◌, ◌≤◌, Bool, true, false, Result, Ok, Err, ◌<◌, ⊤, List, [], ◌∷◌, ◌++◌, length, take, drop, map, Option, Some, None, option_map, nat_lt, ◌==◌, if◌then◌else◌, ◌⊎◌}
+use Rattle.std.specs.Prelude.{◌≡◌, ◌≢◌, ℕ, ◌+◌, ◌-◌, ◌≤◌, Bool, true, false, Result, Ok, Err, ◌<◌, ⊤, List, [], ◌∷◌, ◌++◌, length, drop, map, Option, Some, None, option_map, nat_lt, ◌==◌, if◌then◌else◌, ◌⊎◌}
 use Rattle.std.specs.List.{AllByRecursion}
 use Rattle.pi_base.specs.declared.guid.Guid.{Guid}
+use Rattle.pi_base.specs.Guids.{guid_at}
 use Rattle.depex_code.specs.declared.opcode.Opcode.{Opcode}
 use Rattle.depex_code.specs.declared.opcode.Opcode.TheVariants as opcode
 use Rattle.depex_code.specs.declared.instruction.Instruction.{Instruction}
@@ -19,12 +20,12 @@ use Rattle.depex_code.specs.Instruction.{IsWhole}
 use Rattle.depex_code.specs.Expression.{bytes_of, Begins}
 
 -- the GUID at the front, and the bytes behind it
-abbrev pub guid_at : List ℕ → Option (Guid × List ℕ)
-guid_at bytes = if nat_lt (length bytes) 16 then None else Some (record { 0 = take 16 bytes }, drop 16 bytes)
+abbrev pub guid_front : List ℕ → Option (Guid × List ℕ)
+guid_front bytes = if nat_lt (length bytes) 16 then None else Some (guid_at bytes 0, drop 16 bytes)
 
 -- an opcode that has a GUID
 abbrev pub with_guid : (Guid → Instruction) → List ℕ → Option (Instruction × List ℕ)
-with_guid made bytes = option_map (λ x. (made x.0, x.1)) (guid_at bytes)
+with_guid made bytes = option_map (λ x. (made x.0, x.1)) (guid_front bytes)
 
 -- the opcode at the front, and the bytes behind it
 unfoldable pub instruction_at : List ℕ → Option (Instruction × List ℕ)

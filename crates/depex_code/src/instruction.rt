@@ -1,9 +1,9 @@
 // The opcodes of dependency expressions, read from bytes.
 ghost use Rattle.std.specs.Prelude.{◌≡◌, option_map};
-ghost use Rattle.depex_code.specs.Reading.{guid_at, instruction_at};
+ghost use Rattle.depex_code.specs.Reading.{guid_front, instruction_at};
 
 use crate::opcode::Opcode;
-use pi_base::Guid;
+use pi_base::{GUID_LEN, Guid};
 
 /// An opcode of a dependency expression (PI 1.8, volume 1, "Dependency Expression Instruction Set"; volume 2 has `EFI_DEP_BEFORE`, `EFI_DEP_AFTER` and `EFI_DEP_SOR`).
 #[derive(Clone, Copy, Debug, PartialEq, Eq)]
@@ -40,20 +40,14 @@ const END: u8 = 0x08;
 
 const SOR: u8 = 0x09;
 
-/// The bytes of a GUID.
-const GUID_LEN: usize = 16;
-
 // The GUID at the front of the bytes, and the bytes behind it.
-fn guid_at(bytes: &[u8]) -> Option<(Guid, &[u8])>
-    ensures { option_map (λ x. (x.0, x.1.now)) result ≡ guid_at bytes.now }
+fn guid_front(bytes: &[u8]) -> Option<(Guid, &[u8])>
+    ensures { option_map (λ x. (x.0, x.1.now)) result ≡ guid_front bytes.now }
 {
     if bytes.len() < GUID_LEN {
         return None;
     }
-    let (front, rest) = bytes.split_at(GUID_LEN);
-    let mut stored = [0; GUID_LEN];
-    stored.copy_from_slice(front);
-    Some((Guid(stored), rest))
+    Some((Guid::at(bytes, 0), &bytes[GUID_LEN..]))
 }
 
 /// The opcode at the front of the bytes, and the bytes behind it. None where no opcode stands there whole.
@@ -63,9 +57,9 @@ pub fn instruction_at(bytes: &[u8]) -> Option<(Instruction, &[u8])>
 {
     let (code, rest) = bytes.split_first()?;
     match *code {
-        BEFORE => guid_at(rest).map(|(guid, rest)| (Instruction::Before(guid), rest)),
-        AFTER => guid_at(rest).map(|(guid, rest)| (Instruction::After(guid), rest)),
-        PUSH => guid_at(rest).map(|(guid, rest)| (Instruction::Of(Opcode::Push(guid)), rest)),
+        BEFORE => guid_front(rest).map(|(guid, rest)| (Instruction::Before(guid), rest)),
+        AFTER => guid_front(rest).map(|(guid, rest)| (Instruction::After(guid), rest)),
+        PUSH => guid_front(rest).map(|(guid, rest)| (Instruction::Of(Opcode::Push(guid)), rest)),
         AND => Some((Instruction::Of(Opcode::And), rest)),
         OR => Some((Instruction::Of(Opcode::Or), rest)),
         NOT => Some((Instruction::Of(Opcode::Not), rest)),

@@ -18,7 +18,7 @@ pub use depex::Depex;
 pub use fault::DepexFault;
 pub use laws::{one_reading, one_tree};
 pub use opcode::Opcode;
-pub use reading::read_depex;
+pub use reading::{MOST_OPCODES, read_depex};
 pub use set::GuidSet;
 pub use steps::Steps;
 pub use tree::Tree;

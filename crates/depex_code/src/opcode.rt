@@ -12,6 +12,8 @@ pub enum Opcode {
     Or,
     /// Whether the value pushed last does not hold.
     Not,
+    /// A value that holds.
     True,
+    /// A value that does not hold.
     False,
 }

@@ -13,7 +13,7 @@ use pi_base::{Phase, Seq};
 use std::alloc::Global;
 
 /// The most opcodes that an expression may have, END and SOR among them (own).
-const MOST_OPCODES: usize = 1024;
+pub const MOST_OPCODES: usize = 1024;
 
 /// What stands next in a tree.
 enum Turn<'a> {

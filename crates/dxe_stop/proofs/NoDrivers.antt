@@ -5,19 +5,21 @@ use Rattle.std.proofs.lemmas.List.{append-nil}
 use Rattle.std.specs.List.{list_any}
 use Rattle.std.proofs.lemmas.Grind.{flat_map-append}
 use Rattle.pi_base.specs.declared.phase.Phase.TheVariants.{Dxe}
-use Rattle.boot_model.specs.declared.catalog.Catalog.{Catalog}
-use Rattle.boot_model.specs.declared.catalog.Module.{Module}
+use Rattle.catalog_model.specs.declared.catalog.Catalog.{Catalog}
+use Rattle.catalog_model.specs.declared.catalog.Module.{Module}
 use Rattle.boot_model.specs.declared.driver.Scheduled.{Scheduled}
 use Rattle.boot_model.specs.declared.frame.TheConstants.{MOST_FRAMES}
 use Rattle.boot_model.specs.declared.licence.Licence.TheVariants as G
 use Rattle.boot_model.specs.declared.line.Line.{Line}
 use Rattle.boot_model.specs.declared.line.Line.TheVariants as L
-use Rattle.boot_model.specs.HandleState.{no_handles}
-use Rattle.boot_model.specs.StoreState.{StoreState}
-use Rattle.boot_model.specs.Service.Reading.{fv_bases}
-use Rattle.boot_model.specs.Parts.{parts_from, parts_in, rank_at}
+use Rattle.store_model.specs.HandleState.{no_handles}
+use Rattle.store_model.specs.StoreState.{StoreState}
+use Rattle.store_model.specs.Service.Reading.{fv_bases}
+use Rattle.catalog_model.specs.Parts.{parts_from, parts_in, rank_at}
 use Rattle.boot_model.specs.PeiChoice.{ranked}
-use Rattle.boot_model.specs.DxeMachine.{DxeMachine, DxeOutcome, Stopped}
+use Rattle.boot_model.specs.DxeMachine.{DxeMachine}
+use Rattle.boot_model.specs.declared.phase_end.DxeEnd.{DxeEnd}
+use Rattle.boot_model.specs.declared.phase_end.DxeEnd.TheVariants as DxeEnds
 use Rattle.boot_model.specs.DxeChoice.{drivers_of, a_priori_drivers, is_waiting, is_eligible_driver, queue_from, group_scheduled, head_of}
 use Rattle.boot_model.specs.DxeStep.{DxeStops, dxe_step, dxe_stopped, queue_case, in_dxe_case, driver_waiting_line}
 use Rattle.boot_model.specs.DxeRun.{dxe_opening_of, dxe_opening, dxe_run, dxe_end}
@@ -84,12 +86,12 @@ stop_lines volumes [] none =
     ∙ ap (λ t. flat_map volume_line volumes ++ t) (append-nil (line_text L.DxeStop))
 stop_lines volumes (x ∷ xs) none = cc
 
-kept : (o : Option DxeOutcome) (m later : DxeMachine) → o ≡ Some Stopped → (elim o as (λ _. DxeMachine) [ Some end ↦ m | None ↦ later ]) ≡ m
+kept : (o : Option DxeEnd) (m later : DxeMachine) → o ≡ Some DxeEnds.Done → (elim o as (λ _. DxeMachine) [ Some end ↦ m | None ↦ later ]) ≡ m
 kept None m later h = cc
 kept (Some end) m later h = refl
 
 -- a machine that has stopped stays as it is
-stays : (catalog : Catalog) (fuel n : ℕ) (m : DxeMachine) → m.ended ≡ Some Stopped → dxe_run catalog fuel n m ≡ m
+stays : (catalog : Catalog) (fuel n : ℕ) (m : DxeMachine) → m.ended ≡ Some DxeEnds.Done → dxe_run catalog fuel n m ≡ m
 stays catalog fuel zero m h = refl
 stays catalog fuel (suc n) m h = kept m.ended m (dxe_run catalog fuel n (dxe_step catalog fuel m)) h
 
@@ -113,7 +115,7 @@ end_stops catalog fuel s actions none =
 
 -- a machine that has stopped with these volumes and without handles
 abbrev pub HasStopped : List ℕ → DxeMachine → Type 0
-HasStopped volumes end = (end.ended ≡ Some Stopped) × (end.handles ≡ no_handles) × (text_of end.lines ≡ stop_text volumes)
+HasStopped volumes end = (end.ended ≡ Some DxeEnds.Done) × (end.handles ≡ no_handles) × (text_of end.lines ≡ stop_text volumes)
 
 -- the end of a run without drivers
 pub end_is : (catalog : Catalog) (fuel : ℕ) (s : StoreState) (actions : ℕ) → has_drivers catalog ≡ false → HasStopped (discoveries catalog [] (fv_bases s)) (dxe_end catalog fuel s actions)

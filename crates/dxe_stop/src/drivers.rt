@@ -2,7 +2,7 @@
 ghost use Rattle.std.specs.Prelude.{◌≡◌};
 ghost use Rattle.dxe_stop.specs.Drivers.{has_drivers};
 
-use boot_model::Catalog;
+use catalog_model::Catalog;
 
 /// Whether a module of a catalogue has a part for DXE.
 pub fn has_drivers(catalog: &Catalog) -> bool

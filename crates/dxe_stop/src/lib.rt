@@ -5,4 +5,4 @@ mod drivers;
 mod stop;
 
 pub use drivers::has_drivers;
-pub use stop::{Broken, stop_without_drivers};
+pub use stop::stop_without_drivers;

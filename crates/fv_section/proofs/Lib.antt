@@ -1,3 +1,4 @@
 pub mod Sections
 pub mod OneReading
 pub mod Standing
+pub mod Spelled

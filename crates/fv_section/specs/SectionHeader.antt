@@ -2,7 +2,8 @@
 -- (PI 1.8, volume 3, `EFI_COMMON_SECTION_HEADER` and `EFI_COMMON_SECTION_HEADER2`.)
 use Rattle.std.specs.Prelude.{ℕ, ◌+◌, ◌-◌, List, length, drop, slice_index, Option, Some, None, Result, Ok, Err, if◌then◌else◌, ◌==◌, nat_lt}
 use Rattle.pi_base.specs.Field.{little_number}
-use Rattle.fv_section.specs.declared.section_header.TheConstants.{HEADER_LEN, EXTENDED_HEADER_LEN, EXTENDED, EXTENDED_SIZE_AT, TYPE_AT, COMPRESSION, GUID_DEFINED}
+use Rattle.fv_section.specs.declared.section_header.TheConstants.{HEADER_LEN, EXTENDED_HEADER_LEN, EXTENDED, EXTENDED_SIZE_AT, TYPE_AT}
+use Rattle.fv_section.specs.declared.section_type.TheConstants.{COMPRESSION, GUID_DEFINED}
 use Rattle.fv_section.specs.declared.section_header.SectionHeader.{SectionHeader}
 use Rattle.fv_section.specs.declared.section.Section.{Section}
 use Rattle.fv_section.specs.declared.fault.SecCause.{SecCause}

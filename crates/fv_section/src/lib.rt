@@ -4,13 +4,14 @@
 mod fault;
 mod law;
 mod section;
-mod section_header;
+pub mod section_header;
+pub mod section_type;
 mod stream;
 
 pub use fault::{SecCause, SecFault};
 pub use law::{one_reading, places};
 pub use section::Section;
-pub use stream::{MOST_SECTIONS, read_sections};
+pub use stream::{ALIGNMENT, MOST_SECTIONS, read_sections};
 
 #[cfg(test)]
 mod tests;

@@ -4,32 +4,27 @@ ghost use Rattle.fv_section.specs.SectionHeader.{extended_header_at, header_at, 
 
 use crate::fault::SecCause;
 use crate::section::Section;
+use crate::section_type::{COMPRESSION, GUID_DEFINED};
 use pi_base::{u24_at, u32_at};
 
 /// The length of a section's header whose Size field has its size.
 ///
 /// PI 1.8, volume 3, `EFI_COMMON_SECTION_HEADER`.
-pub(crate) const HEADER_LEN: usize = 4;
+pub const HEADER_LEN: usize = 4;
 
 /// The length of an extended section's header.
 ///
 /// PI 1.8, volume 3, `EFI_COMMON_SECTION_HEADER2`.
-pub(crate) const EXTENDED_HEADER_LEN: usize = 8;
+pub const EXTENDED_HEADER_LEN: usize = 8;
 
 /// The Size field of an extended section.
-pub(crate) const EXTENDED: u32 = 0xff_ffff;
+pub const EXTENDED: u32 = 0xff_ffff;
 
 /// The offset of the Type field in a header.
-pub(crate) const TYPE_AT: usize = 3;
+pub const TYPE_AT: usize = 3;
 
 /// The offset of the ExtendedSize field in an extended header.
-pub(crate) const EXTENDED_SIZE_AT: usize = 4;
-
-/// `EFI_SECTION_COMPRESSION`.
-pub(crate) const COMPRESSION: u8 = 0x01;
-
-/// `EFI_SECTION_GUID_DEFINED`.
-pub(crate) const GUID_DEFINED: u8 = 0x02;
+pub const EXTENDED_SIZE_AT: usize = 4;
 
 /// The fields of a section's header.
 #[derive(Clone, Copy, Debug, PartialEq, Eq)]

@@ -13,7 +13,7 @@ use std::alloc::Global;
 pub const MOST_SECTIONS: usize = 256;
 
 /// Sections begin at multiples of this, counted from the stream's start.
-pub(crate) const ALIGNMENT: usize = 4;
+pub const ALIGNMENT: usize = 4;
 
 // A place rounded up to where a section may begin.
 fn aligned(at: usize) -> usize

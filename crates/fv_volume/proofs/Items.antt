@@ -10,7 +10,7 @@ use Rattle.fv_volume.specs.declared.file_state.FileState.{FileState}
 use Rattle.fv_volume.specs.declared.volume_header.Format.{Format}
 use Rattle.fv_volume.specs.declared.fault.VolCause.{VolCause}
 use Rattle.fv_volume.specs.declared.fault.VolCause.TheVariants.{FileSum, FileSize, DataSum}
-use Rattle.fv_volume.specs.declared.item.TheConstants.{PAD}
+use Rattle.fv_volume.specs.declared.file_type.TheConstants.{PAD}
 use Rattle.fv_volume.specs.FileState.{file_state, is_dead, is_whole}
 use Rattle.fv_volume.specs.FileHeader.{file_header, header_sum, size_is_wrong, data_is_wrong}
 use Rattle.fv_volume.specs.Item.{file_of, body_of, sound_item, item_of, item_or_cause, item_at}

@@ -3,12 +3,12 @@ use Rattle.std.specs.Prelude.{ℕ, ◌+◌, List, drop, Option, Some, None, Resu
 use Rattle.pi_base.specs.Field.{little_number}
 use Rattle.fv_volume.specs.declared.volume_header.TheConstants.{EXT_HEADER_OFFSET_AT}
 use Rattle.fv_volume.specs.declared.extended_header.TheConstants.{EXT_HEADER_LEN}
-use Rattle.fv_volume.specs.declared.guid.TheConstants.{GUID_LEN}
+use Rattle.pi_base.specs.declared.guid.TheConstants.{GUID_LEN}
 use Rattle.fv_volume.specs.declared.volume_header.VolumeHeader.{VolumeHeader}
 use Rattle.fv_volume.specs.declared.extended_header.ExtendedHeader.{ExtendedHeader}
 use Rattle.fv_volume.specs.declared.fault.VolFault.{VolFault}
 use Rattle.fv_volume.specs.declared.fault.VolCause.TheVariants.{ExtHeader}
-use Rattle.fv_volume.specs.Guids.{guid_at}
+use Rattle.pi_base.specs.Guids.{guid_at}
 
 -- the extended header lacks its place
 abbrev pub misplaced : Result (Option ExtendedHeader) VolFault

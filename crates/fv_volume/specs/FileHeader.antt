@@ -5,7 +5,7 @@ use Rattle.fv_volume.specs.declared.file_header.TheConstants.{HEADER_LEN, LARGE_
 use Rattle.fv_volume.specs.declared.file_header.FileHeader.{FileHeader}
 use Rattle.fv_volume.specs.declared.volume_header.Format.{Format}
 use Rattle.fv_volume.specs.Bits.{is_set}
-use Rattle.fv_volume.specs.Guids.{guid_at}
+use Rattle.pi_base.specs.Guids.{guid_at}
 
 -- the fields at a place, with a length of the header and a size
 abbrev pub fields_at : List ℕ → ℕ → ℕ → ℕ → FileHeader

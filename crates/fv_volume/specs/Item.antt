@@ -2,7 +2,7 @@
 -- (PI 1.8, volume 3, the firmware file system.)
 use Rattle.std.specs.Prelude.{ℕ, ◌+◌, ◌-◌, List, [], ◌∷◌, length, take, drop, slice_index, Option, Some, None, Result, Ok, Err, if◌then◌else◌, not, ◌==◌}
 use Rattle.fv_volume.specs.declared.file_header.TheConstants.{HEADER_LEN, STATE_AT}
-use Rattle.fv_volume.specs.declared.item.TheConstants.{PAD}
+use Rattle.fv_volume.specs.declared.file_type.TheConstants.{PAD}
 use Rattle.fv_volume.specs.declared.item.Item.{Item}
 use Rattle.fv_volume.specs.declared.item.ItemKind.{ItemKind}
 use Rattle.fv_volume.specs.declared.item.ItemKind.TheVariants.{Dead, Skipped, Pad, Listed}

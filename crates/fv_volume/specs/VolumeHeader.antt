@@ -3,7 +3,7 @@ use Rattle.std.specs.Prelude.{ℕ, ◌%◌, List, length, take, drop, sum, slice
 use Rattle.std.specs.List.{starts_with}
 use Rattle.pi_base.specs.Field.{little_number, words_of}
 use Rattle.fv_volume.specs.declared.volume_header.TheConstants.{LEAST_HEADER_LEN, FILE_SYSTEM_AT, LENGTH_AT, SIGNATURE_AT, ATTRIBUTES_AT, HEADER_LENGTH_AT, CHECKSUM_AT, EXT_HEADER_OFFSET_AT, REVISION_AT, SIGNATURE, REVISION, ERASE_POLARITY, FFS2, FFS3}
-use Rattle.fv_volume.specs.declared.guid.TheConstants.{GUID_LEN}
+use Rattle.pi_base.specs.declared.guid.TheConstants.{GUID_LEN}
 use Rattle.fv_volume.specs.declared.volume_header.VolumeHeader.{VolumeHeader}
 use Rattle.fv_volume.specs.declared.volume_header.Format.{Format}
 use Rattle.fv_volume.specs.declared.volume_header.FileSystem.{FileSystem}

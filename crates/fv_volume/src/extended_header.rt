@@ -3,14 +3,13 @@ ghost use Rattle.std.specs.Prelude.{◌≡◌, ◌≤◌, length, IfOk, IfSome};
 ghost use Rattle.fv_volume.specs.ExtendedHeader.{extended_header};
 
 use crate::fault::{VolCause, VolFault};
-use crate::guid::{GUID_LEN, guid_at};
 use crate::volume_header::{EXT_HEADER_OFFSET_AT, VolumeHeader};
-use pi_base::{Guid, u32_at};
+use pi_base::{GUID_LEN, Guid, u32_at};
 
 /// The length of an extended header without its entries: FvName and ExtHeaderSize.
 ///
 /// PI 1.8, volume 3, `EFI_FIRMWARE_VOLUME_EXT_HEADER`.
-pub(crate) const EXT_HEADER_LEN: usize = 20;
+pub const EXT_HEADER_LEN: usize = 20;
 
 /// What an extended header says.
 #[derive(Clone, Copy, Debug, PartialEq, Eq)]
@@ -46,7 +45,7 @@ pub(crate) fn extended_header(
         return Err(fault);
     }
     Ok(Some(ExtendedHeader {
-        name: guid_at(bytes, at),
+        name: Guid::at(bytes, at),
         end: at + size,
     }))
 }

@@ -3,46 +3,45 @@ ghost use Rattle.std.specs.Prelude.{◌≡◌, ◌≤◌, ◌+◌, length, IfSom
 ghost use Rattle.fv_volume.specs.FileHeader.{fields_at, is_large, file_header, header_sum, size_is_wrong, data_is_wrong};
 
 use crate::bits::is_set;
-use crate::guid::guid_at;
 use crate::volume_header::Format;
 use pi_base::{Guid, sum8, u24_at, u64_at};
 
 /// The length of a file's header.
 ///
 /// PI 1.8, volume 3, `EFI_FFS_FILE_HEADER`.
-pub(crate) const HEADER_LEN: usize = 24;
+pub const HEADER_LEN: usize = 24;
 
 /// The length of a large file's header.
 ///
 /// PI 1.8, volume 3, `EFI_FFS_FILE_HEADER2`.
-pub(crate) const LARGE_HEADER_LEN: usize = 32;
+pub const LARGE_HEADER_LEN: usize = 32;
 
 /// The offset of the file checksum in a header.
-pub(crate) const FILE_CHECKSUM_AT: usize = 17;
+pub const FILE_CHECKSUM_AT: usize = 17;
 
 /// The offset of Type.
-pub(crate) const TYPE_AT: usize = 18;
+pub const TYPE_AT: usize = 18;
 
 /// The offset of Attributes.
-pub(crate) const ATTRIBUTES_AT: usize = 19;
+pub const ATTRIBUTES_AT: usize = 19;
 
 /// The offset of Size, three bytes.
-pub(crate) const SIZE_AT: usize = 20;
+pub const SIZE_AT: usize = 20;
 
 /// The offset of State.
-pub(crate) const STATE_AT: usize = 23;
+pub const STATE_AT: usize = 23;
 
 /// The offset of ExtendedSize, eight bytes, in a large file's header.
-pub(crate) const EXTENDED_SIZE_AT: usize = 24;
+pub const EXTENDED_SIZE_AT: usize = 24;
 
 /// `FFS_ATTRIB_LARGE_FILE`.
-pub(crate) const LARGE_FILE: u8 = 0x01;
+pub const LARGE_FILE: u8 = 0x01;
 
 /// `FFS_ATTRIB_CHECKSUM`.
-pub(crate) const CHECKSUM: u8 = 0x40;
+pub const CHECKSUM: u8 = 0x40;
 
 /// `FFS_FIXED_CHECKSUM`: the file checksum of a file whose body has none.
-pub(crate) const FIXED_CHECKSUM: u8 = 0xaa;
+pub const FIXED_CHECKSUM: u8 = 0xaa;
 
 /// The fields of a file's header that are read.
 #[derive(Clone, Copy, Debug, PartialEq, Eq)]
@@ -64,7 +63,7 @@ fn fields_at(image: &[u8], at: usize, len: usize, size: usize) -> FileHeader
     ensures { result ≡ fields_at image.now at len size }
 {
     FileHeader {
-        name: guid_at(image, at),
+        name: Guid::at(image, at),
         checksum: image[at + FILE_CHECKSUM_AT],
         kind: image[at + TYPE_AT],
         attributes: image[at + ATTRIBUTES_AT],

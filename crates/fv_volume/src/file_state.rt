@@ -5,22 +5,22 @@ ghost use Rattle.fv_volume.specs.FileState.{file_state, is_dead, is_whole};
 use crate::bits::is_set;
 
 /// `EFI_FILE_HEADER_CONSTRUCTION`.
-pub(crate) const HEADER_CONSTRUCTION: u8 = 0x01;
+pub const HEADER_CONSTRUCTION: u8 = 0x01;
 
 /// `EFI_FILE_HEADER_VALID`.
-pub(crate) const HEADER_VALID: u8 = 0x02;
+pub const HEADER_VALID: u8 = 0x02;
 
 /// `EFI_FILE_DATA_VALID`.
-pub(crate) const DATA_VALID: u8 = 0x04;
+pub const DATA_VALID: u8 = 0x04;
 
 /// `EFI_FILE_MARKED_FOR_UPDATE`.
-pub(crate) const MARKED_FOR_UPDATE: u8 = 0x08;
+pub const MARKED_FOR_UPDATE: u8 = 0x08;
 
 /// `EFI_FILE_DELETED`.
-pub(crate) const DELETED: u8 = 0x10;
+pub const DELETED: u8 = 0x10;
 
 /// `EFI_FILE_HEADER_INVALID`.
-pub(crate) const HEADER_INVALID: u8 = 0x20;
+pub const HEADER_INVALID: u8 = 0x20;
 
 /// How far a file has come, by the highest bit of its state.
 ///

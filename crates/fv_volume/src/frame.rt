@@ -10,7 +10,7 @@ use crate::volume_header::{
 use pi_base::Guid;
 
 /// Files begin at multiples of this, counted from the volume's start.
-pub(crate) const ALIGNMENT: usize = 8;
+pub const ALIGNMENT: usize = 8;
 
 /// The frame of a volume.
 #[derive(Clone, Copy, Debug, PartialEq, Eq)]

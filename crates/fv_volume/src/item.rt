@@ -8,11 +8,9 @@ use crate::file_header::{
     FileHeader, HEADER_LEN, STATE_AT, data_is_wrong, file_header, header_sum, size_is_wrong,
 };
 use crate::file_state::{FileState, file_state, is_dead, is_whole};
-use crate::guid::part_of;
+use crate::file_type::PAD;
+use crate::part::part_of;
 use crate::volume_header::Format;
-
-/// `EFI_FV_FILETYPE_FFS_PAD`.
-pub(crate) const PAD: u8 = 0xf0;
 
 /// What an item is.
 #[derive(Clone, Copy, Debug, PartialEq, Eq)]

@@ -3,57 +3,57 @@ ghost use Rattle.std.specs.Prelude.{◌≡◌, ◌≤◌, length, IfNone};
 ghost use Rattle.fv_volume.specs.VolumeHeader.{volume_header, header_fault, format_of, file_system_at, fault_at};
 
 use crate::fault::{VolCause, VolFault};
-use crate::guid::{GUID_LEN, part_of};
-use pi_base::{sum16, u16_at, u32_at, u64_at};
+use crate::part::part_of;
+use pi_base::{GUID_LEN, sum16, u16_at, u32_at, u64_at};
 
 /// The bytes before the block map, which is not read.
 ///
 /// PI 1.8, volume 3, `EFI_FIRMWARE_VOLUME_HEADER`.
-pub(crate) const LEAST_LEN: usize = 56;
+pub const LEAST_LEN: usize = 56;
 
 /// The least HeaderLength: the header with the entry that ends the block map.
-pub(crate) const LEAST_HEADER_LEN: usize = 64;
+pub const LEAST_HEADER_LEN: usize = 64;
 
 /// The offset of FileSystemGuid.
-pub(crate) const FILE_SYSTEM_AT: usize = 16;
+pub const FILE_SYSTEM_AT: usize = 16;
 
 /// The offset of FvLength, eight bytes.
-pub(crate) const LENGTH_AT: usize = 32;
+pub const LENGTH_AT: usize = 32;
 
 /// The offset of Signature.
-pub(crate) const SIGNATURE_AT: usize = 40;
+pub const SIGNATURE_AT: usize = 40;
 
 /// The offset of Attributes, four bytes.
-pub(crate) const ATTRIBUTES_AT: usize = 44;
+pub const ATTRIBUTES_AT: usize = 44;
 
 /// The offset of HeaderLength, two bytes.
-pub(crate) const HEADER_LENGTH_AT: usize = 48;
+pub const HEADER_LENGTH_AT: usize = 48;
 
 /// The offset of Checksum, two bytes.
-pub(crate) const CHECKSUM_AT: usize = 50;
+pub const CHECKSUM_AT: usize = 50;
 
 /// The offset of ExtHeaderOffset, two bytes.
-pub(crate) const EXT_HEADER_OFFSET_AT: usize = 52;
+pub const EXT_HEADER_OFFSET_AT: usize = 52;
 
 /// The offset of Revision.
-pub(crate) const REVISION_AT: usize = 55;
+pub const REVISION_AT: usize = 55;
 
 /// `EFI_FVH_SIGNATURE`, the bytes `_FVH` as a number.
-pub(crate) const SIGNATURE: u32 = 0x4856_465f;
+pub const SIGNATURE: u32 = 0x4856_465f;
 
 /// `EFI_FVH_REVISION`.
-pub(crate) const REVISION: u8 = 2;
+pub const REVISION: u8 = 2;
 
 /// `EFI_FVB2_ERASE_POLARITY` of Attributes.
-pub(crate) const ERASE_POLARITY: u32 = 0x800;
+pub const ERASE_POLARITY: u32 = 0x800;
 
 /// The FFS2 file system, 8c8ce578-8a3d-4f1c-9935-896185c32dd3 as stored.
-pub(crate) const FFS2: [u8; 16] = [
+pub const FFS2: [u8; 16] = [
     0x78, 0xe5, 0x8c, 0x8c, 0x3d, 0x8a, 0x1c, 0x4f, 0x99, 0x35, 0x89, 0x61, 0x85, 0xc3, 0x2d, 0xd3,
 ];
 
 /// The FFS3 file system, 5473c07a-3dcb-4dca-bd6f-1e9689e7349a as stored.
-pub(crate) const FFS3: [u8; 16] = [
+pub const FFS3: [u8; 16] = [
     0x7a, 0xc0, 0x73, 0x54, 0xcb, 0x3d, 0xca, 0x4d, 0xbd, 0x6f, 0x1e, 0x96, 0x89, 0xe7, 0x34, 0x9a,
 ];
 

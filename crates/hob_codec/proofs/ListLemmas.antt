@@ -1,11 +1,13 @@
 -- The places of a list.
-use Rattle.std.proofs.Common.{◌≡◌, ◌≢◌, ℕ, ◌+◌, List, [], ◌∷◌, ◌++◌, Some, None, refl, sym, ap, ◌∙◌, subst}
+use Rattle.std.proofs.Common.{◌≡◌, ◌≢◌, ◌⊎◌, inl, inr, ℕ, zero, suc, ◌+◌, ◌-◌, ◌%◌, ◌<◌, ◌≤◌, ◌==◌, Bool, true, false, not, ◌||◌, cond, nat_lt, nat_le, List, [], ◌∷◌, ◌++◌, length, Option, Some, None, refl, sym, ap, ◌∙◌, subst, arith}
+use Rattle.std.proofs.lemmas.Bool.Decides.{nat_tests}
 use Rattle.std.proofs.lemmas.Option.{same_Some, none-some}
 use Rattle.hob_codec.specs.declared.fault.HobFault.{HobFault}
+use Rattle.hob_codec.specs.declared.fault.HobFault.TheVariants.{Short, Length, NoEnd}
 use Rattle.hob_codec.specs.declared.list.HobPlace.{HobPlace}
 use Rattle.hob_codec.specs.declared.kind.TheConstants.{END}
-use Rattle.hob_codec.specs.HobReading.{kind_at, length_at}
-use Rattle.hob_codec.specs.HobList.{Leads, place_at, fault_at, AreHobs, IsListFault}
+use Rattle.hob_codec.specs.HobReading.{kind_at, length_at, reading, behind, header_fault}
+use Rattle.hob_codec.specs.HobList.{Leads, place_at, first_fault, fault_at, AreHobs, IsListFault}
 
 -- one HOB more
 pub leads_more : (bytes : List ℕ) (from : ℕ) (places : List HobPlace) (to : ℕ) → Leads bytes from places to → fault_at bytes to ≡ None → kind_at bytes to ≢ END
@@ -48,3 +50,48 @@ pub lists_apart : (bytes : List ℕ) (places : List HobPlace) (fault : HobFault)
 lists_apart bytes places fault p q =
     let one = one_list bytes 0 places q.0 p.0 q.1 p.1 q.2 (at_end bytes p.0 p.3) (at_fault bytes q.1 fault q.3) in
     none-some fault (sym p.2 ∙ ap (fault_at bytes) one.1 ∙ q.3)
+
+-- a list that goes on from place to place ends, or has a fault
+abbrev no_fault : Option HobFault
+no_fault = None
+
+sound_header : (bytes : List ℕ) (at : ℕ) (fault : Option HobFault) → first_fault at (kind_at bytes at) (behind fault bytes at) ≡ None → fault ≡ None
+sound_header bytes at None sound = refl
+sound_header bytes at (Some fault) sound = absurd (none-some fault (sym sound))
+
+sound_tests : (left len odd past : Bool) → cond left (Some Short) (cond ((len || odd) || past) (Some Length) no_fault) ≡ None → (left ≡ false) × (len ≡ false)
+sound_tests true len odd past sound = absurd (none-some Short (sym sound))
+sound_tests false true odd past sound = absurd (none-some Length (sym sound))
+sound_tests false false odd past sound = (refl, refl)
+
+sound_place : (bytes : List ℕ) (at : ℕ) (past : Bool) → nat_le (length bytes) at ≡ past → cond past (Some NoEnd) (first_fault at (kind_at bytes at) (reading bytes at)) ≡ None
+    → (8 ≤ length bytes - at) × (8 ≤ length_at bytes at)
+sound_place bytes at true is sound = absurd (none-some NoEnd (sym sound))
+sound_place bytes at false is sound =
+    let tests = sound_tests (nat_lt (length bytes - at) 8) (nat_lt (length_at bytes at) 8) (not (length_at bytes at % 8 == 0)) (nat_lt (length bytes - at) (length_at bytes at)) (sound_header bytes at (header_fault bytes at) sound) in
+    (grind (arith, nat_tests, tests.0), grind (arith, nat_tests, tests.1))
+
+abbrev Outcome : List ℕ → Type 0
+Outcome bytes = ((places : List HobPlace) × AreHobs bytes places) ⊎ ((fault : HobFault) × IsListFault bytes fault)
+
+-- from each place with fewer bytes left the list ends or has a fault
+abbrev Follows : List ℕ → ℕ → Type 0
+Follows bytes left = (places : List HobPlace) (at : ℕ) → length bytes - at < left → Leads bytes 0 places at → Outcome bytes
+
+by_kind : (left : ℕ) (bytes : List ℕ) (places : List HobPlace) (at : ℕ) (ends : Bool) → Follows bytes left → (kind_at bytes at == END) ≡ ends → length bytes - at < suc left → Leads bytes 0 places at → fault_at bytes at ≡ None → Outcome bytes
+by_kind left bytes places at true go is few leads sound = inl (places, (at, leads, sound, grind (arith, nat_tests, is)))
+by_kind left bytes places at false go is few leads sound =
+    let long = sound_place bytes at (nat_le (length bytes) at) refl sound in
+    go (places ++ place_at bytes at ∷ []) (at + length_at bytes at) (omega (arith, few, long.0, long.1)) (leads_more bytes 0 places at leads sound (grind (arith, nat_tests, is)))
+
+by_fault : (left : ℕ) (bytes : List ℕ) (places : List HobPlace) (at : ℕ) (fault : Option HobFault) → Follows bytes left → fault_at bytes at ≡ fault → length bytes - at < suc left → Leads bytes 0 places at → Outcome bytes
+by_fault left bytes places at (Some fault) go is few leads = inr (fault, (places, at, leads, is))
+by_fault left bytes places at None go sound few leads = by_kind left bytes places at (kind_at bytes at == END) go refl few leads sound
+
+follows : (left : ℕ) (bytes : List ℕ) → Follows bytes left
+follows zero bytes places at few leads = absurd (omega (arith, few))
+follows (suc left) bytes places at few leads = by_fault left bytes places at (fault_at bytes at) (follows left bytes) refl few leads
+
+-- all bytes are a list or have a first fault
+pub some_list : (bytes : List ℕ) → Outcome bytes
+some_list bytes = follows (length bytes + 1) bytes [] 0 (omega arith) refl

@@ -1,18 +1,16 @@
 -- A hand-off block that is read at a place, or the first fault there, in the order Short, Length, Form. PI 1.8, volume 3.
 use Rattle.std.specs.Prelude.{ℕ, ◌+◌, ◌-◌, ◌%◌, ◌&&◌, ◌||◌, not, nat_lt, nat_le, ◌==◌, if◌then◌else◌, List, ◌++◌, length, take, drop, slice_index, Option, Some, None, Result, Ok, Err}
 use Rattle.pi_base.specs.Field.{little_number}
+use Rattle.pi_base.specs.Guids.{guid_at}
 use Rattle.hob_codec.specs.declared.fault.HobFault.{HobFault}
 use Rattle.hob_codec.specs.declared.fault.HobFault.TheVariants.{Short, Length, Form}
 use Rattle.hob_codec.specs.declared.kind.TheConstants.{HANDOFF, ALLOCATION, RESOURCE, NAMED, VOLUME, CPU, POOL, VOLUME2, END}
 use Rattle.hob_codec.specs.HobValue.{HobValue, HandoffHob, AllocationHob, ResourceHob, NamedHob, VolumeHob, CpuHob, PoolHob, Volume2Hob, OtherHob}
 use Rattle.hob_codec.specs.HobBytes.{padding}
 
--- the number of so many bytes at a place of a body, and the GUID there
+-- the number of so many bytes at a place of a body
 abbrev pub number_at : ℕ → ℕ → List ℕ → ℕ
 number_at n at body = little_number n (drop at body)
-
-abbrev pub guid_at : ℕ → List ℕ → List ℕ
-guid_at at body = take 16 (drop at body)
 
 -- the fields of a body
 abbrev pub handoff_of : List ℕ → HobValue
@@ -26,13 +24,13 @@ handoff_of body = HandoffHob (record {
 })
 
 abbrev pub allocation_of : List ℕ → HobValue
-allocation_of body = AllocationHob (guid_at 0 body) (number_at 8 16 body) (number_at 8 24 body) (number_at 4 32 body)
+allocation_of body = AllocationHob (guid_at body 0).0 (number_at 8 16 body) (number_at 8 24 body) (number_at 4 32 body)
 
 abbrev pub resource_of : List ℕ → HobValue
-resource_of body = ResourceHob (guid_at 0 body) (number_at 4 16 body) (number_at 4 20 body) (number_at 8 24 body) (number_at 8 32 body)
+resource_of body = ResourceHob (guid_at body 0).0 (number_at 4 16 body) (number_at 4 20 body) (number_at 8 24 body) (number_at 8 32 body)
 
 abbrev pub volume2_of : List ℕ → HobValue
-volume2_of body = Volume2Hob (number_at 8 0 body) (number_at 8 8 body) (guid_at 16 body) (guid_at 32 body)
+volume2_of body = Volume2Hob (number_at 8 0 body) (number_at 8 8 body) (guid_at body 16).0 (guid_at body 32).0
 
 -- where the body has this length
 abbrev pub of_length : ℕ → List ℕ → HobValue → Option HobValue
@@ -44,7 +42,7 @@ hob_of kind body =
     if kind == HANDOFF then (if (length body == 48) && (number_at 4 0 body == 9) then Some (handoff_of body) else None)
     else if kind == ALLOCATION then of_length 40 body (allocation_of body)
     else if kind == RESOURCE then of_length 40 body (resource_of body)
-    else if kind == NAMED then (if nat_le 16 (length body) then Some (NamedHob (guid_at 0 body) (drop 16 body)) else None)
+    else if kind == NAMED then (if nat_le 16 (length body) then Some (NamedHob (guid_at body 0).0 (drop 16 body)) else None)
     else if kind == VOLUME then of_length 16 body (VolumeHob (number_at 8 0 body) (number_at 8 8 body))
     else if kind == CPU then of_length 8 body (CpuHob (slice_index body 0) (slice_index body 1))
     else if kind == POOL then Some (PoolHob body)

@@ -4,10 +4,9 @@ ghost use Rattle.hob_codec.specs.HobValue.{HandoffHob};
 ghost use Rattle.hob_codec.specs.HobReading.{hob_of, handoff_of, allocation_of, resource_of, volume2_of};
 ghost use Rattle.hob_codec.specs.HobView.{hob_value};
 
-use crate::field::guid_at;
 use crate::hob::{Handoff, Hob};
 use crate::kind::{ALLOCATION, CPU, END, HANDOFF, NAMED, POOL, RESOURCE, VOLUME, VOLUME2};
-use pi_base::{u32_at, u64_at};
+use pi_base::{Guid, u32_at, u64_at};
 
 /// The Version of a hand-off HOB. PI 1.8, volume 3, `EFI_HOB_HANDOFF_TABLE_VERSION`.
 pub const HANDOFF_VERSION: u32 = 9;
@@ -33,7 +32,7 @@ fn allocation_of(body: &[u8]) -> Hob<'_>
     ensures { hob_value result ≡ allocation_of body.now }
 {
     Hob::Allocation {
-        name: guid_at(body, 0),
+        name: Guid::at(body, 0),
         base: u64_at(body, 16),
         length: u64_at(body, 24),
         memory_type: u32_at(body, 32),
@@ -46,7 +45,7 @@ fn resource_of(body: &[u8]) -> Hob<'_>
     ensures { hob_value result ≡ resource_of body.now }
 {
     Hob::Resource {
-        owner: guid_at(body, 0),
+        owner: Guid::at(body, 0),
         kind: u32_at(body, 16),
         attributes: u32_at(body, 20),
         start: u64_at(body, 24),
@@ -62,8 +61,8 @@ fn volume2_of(body: &[u8]) -> Hob<'_>
     Hob::Volume2 {
         base: u64_at(body, 0),
         length: u64_at(body, 8),
-        volume: guid_at(body, 16),
-        file: guid_at(body, 32),
+        volume: Guid::at(body, 16),
+        file: Guid::at(body, 32),
     }
 }
 
@@ -78,7 +77,7 @@ pub fn hob_of(kind: u16, body: &[u8]) -> Option<Hob<'_>>
         (ALLOCATION, 40) => Some(allocation_of(body)),
         (RESOURCE, 40) => Some(resource_of(body)),
         (NAMED, 16..) => Some(Hob::Named {
-            name: guid_at(body, 0),
+            name: Guid::at(body, 0),
             body: &body[16..],
         }),
         (VOLUME, 16) => Some(Hob::Volume {

@@ -1,12 +1,7 @@
 // Fields that are written one after another, and fields of a body.
-ghost use Rattle.std.specs.Prelude.{◌≡◌, ◌≤◌, ◌+◌, ◌++◌, length, take, drop};
+ghost use Rattle.std.specs.Prelude.{◌≡◌, ◌≤◌, ◌+◌, ◌++◌, length, take};
 ghost use Rattle.hob_codec.specs.HobBytes.{padding, padded_len};
-ghost use Rattle.hob_codec.specs.HobReading.{guid_at};
 ghost use Rattle.hob_codec.specs.FieldView.{all_bytes};
-
-use pi_base::Guid;
-
-const GUID_LEN: usize = 16;
 
 const ZEROS: [u8; 8] = [0; 8];
 
@@ -46,14 +41,4 @@ pub(crate) fn put_padded(out: &mut [u8], at: usize, body: &[u8])
 {
     put_field(out, at, body);
     put_field(out, at + body.len(), padding(body.len()));
-}
-
-// The GUID at a place.
-pub(crate) fn guid_at(bytes: &[u8], at: usize) -> Guid
-    requires { at + 16 ≤ length bytes.now }
-    ensures { result.0 ≡ guid_at at bytes.now }
-{
-    let mut guid = [0u8; GUID_LEN];
-    guid.copy_from_slice(&bytes[at..at + GUID_LEN]);
-    Guid(guid)
 }

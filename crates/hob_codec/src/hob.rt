@@ -4,12 +4,17 @@ use pi_base::Guid;
 /// The hand-off HOB's fields; its Version is 9. PI 1.8, volume 3, `EFI_HOB_HANDOFF_INFO_TABLE`.
 #[derive(Clone, Copy, Debug, PartialEq, Eq)]
 pub struct Handoff {
+    /// The boot mode, an `EFI_BOOT_MODE`.
     pub boot_mode: u32,
-    /// The addresses of the memory's end and base, of the free memory's end and base, and of the end HOB.
+    /// The address behind the memory that the HOB list may use.
     pub top: u64,
+    /// The address of its first byte.
     pub bottom: u64,
+    /// The address behind its free part.
     pub free_top: u64,
+    /// The address of the first byte of its free part.
     pub free_bottom: u64,
+    /// The address of the end HOB.
     pub end: u64,
 }
 

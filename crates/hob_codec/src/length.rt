@@ -1,4 +1,4 @@
-// The length of an encoded HOB.
+// The length of an encoded HOB, in bytes with its header.
 ghost use Rattle.std.specs.Prelude.{◌≡◌, ◌≤◌, ◌+◌, ◌%◌, length, nat_le, if◌then◌else◌};
 ghost use Rattle.hob_codec.specs.HobBytes.{hob_len, length_of, padded_len};
 ghost use Rattle.hob_codec.specs.HobView.{hob_value};
@@ -11,20 +11,26 @@ pub const HEADER_LEN: usize = 8;
 /// The greatest length of a HOB, a multiple of 8.
 pub const MOST_LEN: usize = 65_528;
 
-const HANDOFF_LEN: u16 = 56;
+/// The length of a hand-off. PI 1.8, volume 3, `EFI_HOB_HANDOFF_INFO_TABLE`.
+pub const HANDOFF_LEN: u16 = 56;
 
-const ALLOCATION_LEN: u16 = 48;
+/// The length of a memory allocation. PI 1.8, volume 3, `EFI_HOB_MEMORY_ALLOCATION`.
+pub const ALLOCATION_LEN: u16 = 48;
 
-const RESOURCE_LEN: u16 = 48;
+/// The length of a resource. PI 1.8, volume 3, `EFI_HOB_RESOURCE_DESCRIPTOR`.
+pub const RESOURCE_LEN: u16 = 48;
 
-/// The length of a HOB with a name and no data.
+/// The length of a HOB with a name and no data. PI 1.8, volume 3, `EFI_HOB_GUID_TYPE`.
 pub const NAMED_LEN: usize = 24;
 
-const VOLUME_LEN: u16 = 24;
+/// The length of a volume. PI 1.8, volume 3, `EFI_HOB_FIRMWARE_VOLUME`.
+pub const VOLUME_LEN: u16 = 24;
 
-const CPU_LEN: u16 = 16;
+/// The length of a processor's spaces. PI 1.8, volume 3, `EFI_HOB_CPU`.
+pub const CPU_LEN: u16 = 16;
 
-const VOLUME2_LEN: u16 = 56;
+/// The length of a volume of a file. PI 1.8, volume 3, `EFI_HOB_FIRMWARE_VOLUME2`.
+pub const VOLUME2_LEN: u16 = 56;
 
 // The length with a padded body behind the fields.
 fn with_body(before: usize, body: &[u8]) -> Option<u16>

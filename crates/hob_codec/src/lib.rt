@@ -6,16 +6,19 @@ mod encode;
 mod fault;
 mod field;
 mod hob;
-mod kind;
+pub mod kind;
 mod length;
 mod list;
 mod read;
 
-pub use body::hob_of;
+pub use body::{HANDOFF_VERSION, hob_of};
 pub use encode::encode_into;
 pub use fault::HobFault;
 pub use hob::{Handoff, Hob};
-pub use length::hob_len;
+pub use length::{
+    ALLOCATION_LEN, CPU_LEN, HANDOFF_LEN, HEADER_LEN, MOST_LEN, NAMED_LEN, RESOURCE_LEN,
+    VOLUME_LEN, VOLUME2_LEN, hob_len,
+};
 pub use list::{HobPlace, one_walk, walk};
 pub use read::{read_at, round_trip};
 

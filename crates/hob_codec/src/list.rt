@@ -1,5 +1,5 @@
 // The places of a HOB list.
-ghost use Rattle.std.specs.Prelude.{◌≡◌, ◌≢◌, ◌≤◌, ◌+◌, ℕ, List, length, IfOk, IfErr, Some, None, MatchResult};
+ghost use Rattle.std.specs.Prelude.{◌≡◌, ◌≢◌, ◌⊎◌, ◌≤◌, ◌+◌, ℕ, List, length, IfOk, IfErr, Some, None, MatchResult};
 ghost use Rattle.hob_codec.specs.HobList.{AreHobs, IsListFault};
 ghost use Rattle.hob_codec.specs.declared.list.HobPlace.{HobPlace};
 ghost use Rattle.hob_codec.specs.declared.fault.HobFault.{HobFault};
@@ -8,14 +8,17 @@ ghost use Rattle.hob_codec.specs.declared.fault.HobFault.TheVariants.{Memory};
 use crate::fault::HobFault;
 use crate::kind::{END, HANDOFF};
 use crate::read::read_at;
-use pi_base::{OutOfMemory, Seq, u16_at};
+use pi_base::{Seq, u16_at};
 use std::alloc::Global;
 
-/// Where a HOB of a list stands, an offset in the bytes, with its type and its length with the header.
+/// A HOB of a list, by its place in the bytes.
 #[derive(Clone, Copy, Debug, PartialEq, Eq)]
 pub struct HobPlace {
+    /// The offset of its header.
     pub at: usize,
+    /// HobType.
     pub kind: u16,
+    /// HobLength, which has the header in it.
     pub length: u16,
 }
 
@@ -29,24 +32,20 @@ impl HobPlace {
         if at >= bytes.len() {
             return Err(HobFault::NoEnd);
         }
-        match read_at(bytes, at) {
-            Err(fault) => Err(fault),
-            Ok(_) => {
-                let kind = u16_at(bytes, at);
-                let length = u16_at(bytes, at + 2);
-                if at == 0 && kind != HANDOFF {
-                    Err(HobFault::Form)
-                } else {
-                    Ok(HobPlace { at, kind, length })
-                }
-            }
+        read_at(bytes, at)?;
+        let kind = u16_at(bytes, at);
+        let length = u16_at(bytes, at + 2);
+        if at == 0 && kind != HANDOFF {
+            Err(HobFault::Form)
+        } else {
+            Ok(HobPlace { at, kind, length })
         }
     }
 }
 
 /// The places of the HOBs from the front to the first end HOB, which is none of them.
 ///
-/// The first HOB is to be a hand-off. Where no byte is left at a place the fault is `NoEnd`.
+/// The fault is the one at the first place that has one: `NoEnd` where no byte is left, then `Short`, `Length` and `Form` as `read_at` answers them, and `Form` where the first HOB is no hand-off.
 pub fn walk(alloc: Global, bytes: &[u8]) -> Result<Seq<HobPlace>, HobFault>
     ensures found { IfOk result (AreHobs bytes.now) }
     ensures fault { IfErr result (λ fault. fault ≢ Memory → IsListFault bytes.now fault) }
@@ -54,24 +53,19 @@ pub fn walk(alloc: Global, bytes: &[u8]) -> Result<Seq<HobPlace>, HobFault>
     let mut places = Seq::new(alloc);
     let mut at = 0usize;
     'walk: loop {
-        match HobPlace::at(bytes, at) {
-            Err(fault) => return Err(fault),
-            Ok(place) => {
-                if place.kind == END {
-                    return Ok(places);
-                }
-                match places.push(place) {
-                    Ok(()) => at += place.length as usize,
-                    Err(OutOfMemory) => return Err(HobFault::Memory),
-                }
-            }
+        let place = HobPlace::at(bytes, at)?;
+        if place.kind == END {
+            return Ok(places);
         }
+        places.push(place)?;
+        at += place.length as usize;
     }
 }
 
-/// No bytes are two lists, or have two first faults, or both.
+/// All bytes are a HOB list or have a first fault, never both, and one list or one fault.
 pub fn one_walk()
     ensures lists { (bytes : List ℕ) (a b : List HobPlace) → AreHobs bytes a → AreHobs bytes b → a ≡ b }
     ensures faults { (bytes : List ℕ) (a b : HobFault) → IsListFault bytes a → IsListFault bytes b → a ≡ b }
     ensures apart { (bytes : List ℕ) (places : List HobPlace) (fault : HobFault) → AreHobs bytes places → IsListFault bytes fault → ⊥ }
+    ensures some { (bytes : List ℕ) → ((places : List HobPlace) × AreHobs bytes places) ⊎ ((fault : HobFault) × IsListFault bytes fault) }
 {}

@@ -38,7 +38,9 @@ fn body_at(bytes: &[u8], at: usize) -> &[u8]
     &bytes[at + HEADER_LEN..at + len]
 }
 
-/// The HOB at a place, an offset in the bytes, and the place after it.
+/// The HOB at an offset in the bytes, and the offset behind it.
+///
+/// Faults, in this order: `Short` where fewer than 8 bytes are left, `Length` where HobLength is below 8, no multiple of 8 or more than is left, `Form` where a type of the table has a body that it may not have. An end HOB is read as `Other`.
 pub fn read_at(bytes: &[u8], at: usize) -> Result<(Hob<'_>, usize), HobFault>
     ensures read { MatchResult result (λ read. reading bytes.now at ≡ Ok (hob_value read.0, read.1)) (λ fault. reading bytes.now at ≡ Err fault) }
     // A HOB has a header at least, and lies in the bytes.

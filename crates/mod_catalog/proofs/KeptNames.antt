@@ -1,5 +1,5 @@
 -- The names that a list keeps, with one name more.
-use Rattle.std.proofs.Common.{◌≡◌, ℕ, zero, suc, ◌+◌, Bool, true, false, cond, not, ◌||◌, List, [], ◌∷◌, ◌++◌, length, map, filter, position, Option, Some, None, is_some, refl, sym, ap, ◌∙◌, arith, length-append}
+use Rattle.std.proofs.Common.{◌≡◌, ◌≤◌, ℕ, zero, suc, ◌+◌, Bool, true, false, cond, not, ◌||◌, List, [], ◌∷◌, ◌++◌, length, map, filter, position, Option, Some, None, is_some, option_map, refl, sym, ap, ◌∙◌, arith, length-append}
 use Rattle.std.specs.List.{list_any, position_from}
 use Rattle.std.specs.Option.{option_or}
 use Rattle.std.proofs.lemmas.Cmp.{nat_list_eq_equiv}
@@ -7,11 +7,16 @@ use Rattle.std.proofs.lemmas.List.{append-nil}
 use Rattle.std.proofs.lemmas.List.Elements.{filter-append}
 use Rattle.std.proofs.lemmas.Iterator.Adapters.{position_from-zero}
 use Rattle.pi_base.specs.declared.guid.Guid.{Guid}
-use Rattle.boot_model.specs.FileType.{same_guid}
-use Rattle.boot_model.specs.Lists.{firsts, numbers}
-use Rattle.mod_catalog.specs.Names.{value_of, IsPut}
-use Rattle.mod_catalog.specs.Ranks.{kept_of, AreKept}
-use Rattle.mod_catalog.specs.declared.rank.Kept.{Kept}
+use Rattle.pi_base.specs.Guids.{same_guid}
+use Rattle.pi_base.specs.Lists.{firsts, numbers}
+use Rattle.guid_map.specs.GuidMap.{value_of, IsPut}
+use Rattle.fv_volume.specs.declared.file.FfsFile.{FfsFile}
+use Rattle.pi_base.specs.declared.phase.Phase.{Phase}
+use Rattle.catalog_model.specs.FileType.{has_part}
+use Rattle.catalog_model.specs.APriori.{bearer, kept_names}
+use Rattle.catalog_model.proofs.BorneNames.{few_kept as few_kept_names}
+use Rattle.mod_catalog.specs.Ranks.{kept_of, known, AreKept, AreBearers}
+use Rattle.mod_catalog.specs.declared.ranks.Kept.{Kept}
 
 plus_zero : (n : ℕ) → 0 + n ≡ n
 plus_zero n = omega arith
@@ -153,3 +158,30 @@ pub next_number : {A : Type 0} (f : ℕ → A) (n : ℕ) → map f (numbers 0 (n
 next_number f n =
     let later : n + 1 ≡ suc n = omega arith in
     ap (λ m. map f (numbers 0 m)) later ∙ numbers_push f 0 n ∙ ap (λ m. map f (numbers 0 n) ++ f m ∷ []) (plus_zero n)
+
+-- the names that are kept are those of the definitions
+of_map : {A B : Type 0} (f : A → B) (found : Option A) → is_some (option_map f found) ≡ is_some found
+of_map f None = refl
+of_map f (Some x) = refl
+
+same_filter : (p q : Guid → Bool) (xs : List Guid) → ((x : Guid) → p x ≡ q x) → filter p xs ≡ filter q xs
+same_filter p q [] same = refl
+same_filter p q (x ∷ xs) same = ap (λ b. cond b (x ∷ filter p xs) (filter p xs)) (same x) ∙ ap (λ rest. cond (q x) (x ∷ rest) rest) (same_filter p q xs same)
+
+pub kept_are : (phase : Phase) (files : List FfsFile) (bearers : List (Guid × ℕ)) (list : List Guid) → AreBearers phase files bearers → kept_of (known bearers) list ≡ kept_names phase files list
+kept_are phase files bearers list are =
+    ap (firsts same_guid) (same_filter (known bearers) (λ name. is_some (bearer phase files name)) list
+    (λ name. ap is_some (are name) ∙ of_map (λ (file : FfsFile). file.at) (bearer phase files name)))
+
+length-filter : {A : Type 0} (p : A → Bool) (xs : List A) → length (filter p xs) ≤ length xs
+length-filter p [] = omega arith
+length-filter p (x ∷ xs) = by (p x) (length-filter p xs)
+  where
+    by : (b : Bool) → length (filter p xs) ≤ length xs → length (cond b (x ∷ filter p xs) (filter p xs)) ≤ length (x ∷ xs)
+    by true rest = omega (arith, rest)
+    by false rest = omega (arith, rest)
+
+-- they are no more than the files
+pub few_kept : (phase : Phase) (files : List FfsFile) (bearers : List (Guid × ℕ)) (list : List Guid) → AreBearers phase files bearers → length (kept_of (known bearers) list) ≤ length files
+few_kept phase files bearers list are =
+    omega (arith, ap length (kept_are phase files bearers list are), few_kept_names phase files list, length-filter (λ (file : FfsFile). has_part phase file.kind) files)

@@ -1,16 +1,10 @@
-mod CatalogueOrFault
 mod EachFacts
-mod FewNames
 mod Files
 mod HeldScripts
 mod Joining
 mod Kept
 mod KeptNames
-mod NameMaps
-mod NestedParts
-mod OneCatalogue
 mod OneFile
 mod PartFacts
-mod Values
 mod VolumeFaults
 mod WholeVolume

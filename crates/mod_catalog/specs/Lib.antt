@@ -1,8 +1,8 @@
+pub mod APriori
 pub mod Examined
-pub mod FileRead
-pub mod Files
-pub mod Names
+pub mod Image
+pub mod Lying
+pub mod Modules
 pub mod Ranks
-pub mod Refusal
-pub mod Stretches
-pub mod Values
+pub mod Refused
+pub mod Scripts

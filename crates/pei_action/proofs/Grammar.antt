@@ -5,7 +5,7 @@ use Rattle.std.specs.List.{list_all}
 use Rattle.std.proofs.lemmas.Bool.Decides.{nat_tests}
 use Rattle.act_code.specs.Format.{is_within}
 use Rattle.boot_model.specs.PeiAction.{kind_number}
-use Rattle.boot_model.specs.StoreCall.{AreFew}
+use Rattle.store_model.specs.StoreCall.{AreFew}
 use Rattle.pei_action.specs.Needs.{IsArgument}
 
 and_left : (a b : Bool) → (a && b) ≡ true → a ≡ true

@@ -1,12 +1,7 @@
 mod Acting
-pub mod Bodies
 mod Collected
-mod Grammar
-mod Held
-pub mod Later
-mod Others
+mod Each
+pub mod Grammar
 mod Pages
-mod Refused
 mod ScriptHobs
-pub mod Staying
-mod Written
+mod Served

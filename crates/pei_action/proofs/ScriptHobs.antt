@@ -3,9 +3,10 @@ use Rattle.std.proofs.Common.{◌≡◌, ℕ, ◌≤◌, ◌==◌, ◌-◌, Bool
 use Rattle.std.proofs.lemmas.Bool.Decides.{nat_tests}
 use Rattle.std.proofs.lemmas.List.{length-drop}
 use Rattle.hob_codec.specs.HobValue.{HobValue, NamedHob}
-use Rattle.hob_codec.specs.HobReading.{hob_of, guid_at}
+use Rattle.hob_codec.specs.HobReading.{hob_of}
 use Rattle.act_code.specs.Format.{is_hob, is_within}
-use Rattle.boot_model.specs.StoreCall.{IsScriptHob}
+use Rattle.pi_base.specs.Guids.{guid_at}
+use Rattle.store_model.specs.StoreCall.{IsScriptHob}
 
 -- what is there where a test holds
 only : (P : HobValue → Type 0) (b : Bool) (own hob : HobValue) → P own → Some hob ≡ cond b (Some own) None → P hob
@@ -15,7 +16,7 @@ only P false own hob p e = cc
 of_kind : (kind n : ℕ) (body : List ℕ) (hob : HobValue) → (kind == n) ≡ true → Some hob ≡ hob_of kind body → Some hob ≡ hob_of n body
 of_kind kind n body hob t e = let same : kind ≡ n = grind (arith, nat_tests, t) in e ∙ ap (λ k. hob_of k body) same
 
-named : (body : List ℕ) → is_within 16 1024 (length body) ≡ true → IsScriptHob (NamedHob (guid_at 0 body) (drop 16 body))
+named : (body : List ℕ) → is_within 16 1024 (length body) ≡ true → IsScriptHob (NamedHob (guid_at body 0).0 (drop 16 body))
 named body h = let le : length body ≤ 1024 = grind (arith, nat_tests, h) in let len : length (drop 16 body) ≡ length body - 16 = length-drop 16 body in omega (arith, le, len)
 
 by_kind : (kind : ℕ) (body : List ℕ) (hob : HobValue) (a b c d e : Bool) → (kind == 3) ≡ a → (kind == 4) ≡ b → (kind == 5) ≡ c → (kind == 6) ≡ d → (kind == 9) ≡ e

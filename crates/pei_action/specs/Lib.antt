@@ -1,3 +1,3 @@
+pub mod Guids
 pub mod Needs
-pub mod Stay
 pub mod Taken

@@ -1,62 +1,42 @@
-// The descriptors of a call.
-ghost use Rattle.std.specs.Prelude.{◌≡◌, ◌<◌, ◌≤◌, ◌++◌, [], ◌∷◌, length};
+// The descriptors in registers.
+ghost use Rattle.std.specs.Prelude.{◌≡◌, ◌≤◌, IfSome, length, option_map};
+ghost use Rattle.boot_model.specs.Registers.{both};
+ghost use Rattle.boot_model.specs.Registers as R;
 
-use boot_model::Desc;
-use std::marker::Model;
+use arrayvec::ArrayVec;
+use boot_model::{REGISTERS, Register};
+use frames::descriptor_in;
+use store_model::Desc;
 
 /// How many descriptors a call takes at most.
 pub const MOST_DESCRIPTORS: usize = 8;
 
-/// Up to eight descriptors, in order.
-#[derive(Drop)]
-pub struct Descriptors {
-    items: [Desc; MOST_DESCRIPTORS],
-    count: usize,
-    ghost few: { count ≤ 8 },
-}
-
-impl Model for Descriptors {
-    ghost use Rattle.std.specs.Prelude.{List, take};
-    ghost use Rattle.boot_model.specs.declared.store_handle.Desc.{Desc};
-
-    ghost Value = { List Desc };
-
-    ghost view = { λ d. take d.count d.items };
-}
-
-impl Descriptors {
-    /// None.
-    pub fn new() -> Descriptors
-        ensures { result ≡ [] }
-    {
-        Descriptors {
-            items: [Desc { offset: 0 }; MOST_DESCRIPTORS],
-            count: 0,
+/// The descriptors in some registers, where each holds one.
+#[tactic(auto, using(crate::proofs::Collected::one_more))]
+pub fn descriptors_in(
+    registers: &[Register; REGISTERS],
+    list: &[u8],
+) -> Option<ArrayVec<Desc, MOST_DESCRIPTORS>>
+    requires few { length list.now ≤ 8 }
+    ensures found { option_map (λ found. found.items) result ≡ R.descriptors_in registers.now list.now }
+    ensures count { IfSome result (λ found. length found.items ≡ length list.now) }
+{
+    let mut found = ArrayVec::new();
+    'registers: for r in list {
+        match descriptor_in(registers, *r) {
+            Some(descriptor) => found.push(descriptor),
+            None => return None,
         }
     }
+    Some(found)
+}
 
-    /// One alone.
-    pub fn of(descriptor: Desc) -> Descriptors
-        ensures { result ≡ descriptor ∷ [] }
-    {
-        let mut one = Descriptors::new();
-        one.push(descriptor);
-        one
-    }
-
-    /// Adds one.
-    pub fn push(&mut self, descriptor: Desc)
-        requires room { length self.old < 8 }
-        ensures { self.new ≡ self.old ++ descriptor ∷ [] }
-    {
-        self.items[self.count] = descriptor;
-        self.count += 1;
-    }
-
-    /// All of them.
-    pub fn as_slice(&self) -> &[Desc]
-        ensures { result.now ≡ self.now }
-    {
-        &self.items[..self.count]
+/// The descriptors in two registers, where both hold one.
+pub fn two_descriptors(registers: &[Register; REGISTERS], old: u8, new: u8) -> Option<(Desc, Desc)>
+    ensures { result ≡ both (R.descriptor_in registers.now old) (R.descriptor_in registers.now new) }
+{
+    match (descriptor_in(registers, old), descriptor_in(registers, new)) {
+        (Some(one), Some(other)) => Some((one, other)),
+        _ => None,
     }
 }

@@ -1,24 +1,19 @@
-//! What an action of a PEI script does, over any store.
+//! What an action of PEI's own does, over any store.
 #![tactic(auto)]
 
 mod action;
 mod address;
 mod descriptors;
+mod guids;
 mod hobs;
-mod laws;
 mod memory;
 mod new_descriptors;
 mod notifications;
-mod numbers;
 mod pools;
 mod ppis;
-mod registers;
 mod taken;
 
-pub use action::take_action;
-pub use descriptors::{Descriptors, MOST_DESCRIPTORS};
-pub use laws::{registers_stay, replies_are_sound, states_stay};
+pub use action::take_own;
+pub use descriptors::MOST_DESCRIPTORS;
+pub use guids::{Changes, changes_of};
 pub use taken::{Reply, Taken};
-
-#[cfg(test)]
-mod tests;

@@ -4,14 +4,17 @@ ghost use Rattle.act_code.specs.declared.action.Action.TheVariants as A;
 ghost use Rattle.boot_model.specs.PeiAction as P;
 ghost use Rattle.boot_model.specs.Registers.{both};
 ghost use Rattle.boot_model.specs.Registers as R;
-ghost use Rattle.boot_model.specs.Service.{Present};
-ghost use Rattle.pei_action.specs.Needs.{HoldRegisters};
-ghost use Rattle.pei_action.specs.Taken.{Acts, ActsAlways, Keeps, Reads};
+ghost use Rattle.store_model.specs.Service.{Present};
+ghost use Rattle.store_model.specs.StoreCall.{Anything};
+ghost use Rattle.boot_model.specs.MachineFacts.{HoldRegisters};
+ghost use Rattle.boot_model.specs.PeiMachine.{Frame};
+ghost use Rattle.pei_action.specs.Taken.{Acts, ActsAlways, Reads};
 
-use crate::registers::{number_in, set};
-use crate::taken::{Taken, refusal, refused, told};
-use boot_model::{CallName, Extra, Frame, PeiStore, REGISTERS, Register};
+use crate::taken::Taken;
+use boot_model::{CallName, Extra, PeiFrame, REGISTERS, Register};
+use frames::{Writes, number_in};
 use pi_base::{OutOfMemory, Word};
+use store_model::PeiStore;
 
 // The numbers in two registers, where both hold one.
 fn numbers_in(registers: &[Register; REGISTERS], first: u8, second: u8) -> Option<(u64, u64)>
@@ -26,18 +29,18 @@ fn numbers_in(registers: &[Register; REGISTERS], first: u8, second: u8) -> Optio
 /// The action `memory`.
 pub fn plan_memory<M: PeiStore>(
     store: &mut M,
-    frame: &Frame,
+    frame: &PeiFrame,
     begin: u8,
     length: u8,
 ) -> Result<Taken, OutOfMemory>
     requires state { Present (M.stands_for store.old) (HoldRegisters frame.now.registers) }
-    ensures row { Acts M.TAKES_MEMORY (M.stands_for store.old) (M.stands_for store.new) (A.Memory begin length) frame.now result frame.now }
+    ensures row { Acts M.TAKES_MEMORY (M.stands_for store.old) (M.stands_for store.new) (A.Memory begin length) frame.now result }
 {
     match numbers_in(&frame.registers, begin, length) {
-        None => Ok(refusal(CallName::Memory, Word::InvalidParameter)),
+        None => Ok(Taken::refusal(CallName::Memory, Word::InvalidParameter)),
         Some((begin, length)) => match store.set_memory(begin, length) {
-            Ok(()) => Ok(told(CallName::Memory, Extra::Nothing)),
-            Err(fault) => refused(CallName::Memory, fault),
+            Ok(()) => Ok(Taken::told(CallName::Memory, Extra::Nothing, Writes::Nothing)),
+            Err(fault) => Taken::refused(CallName::Memory, fault),
         },
     }
 }
@@ -60,63 +63,60 @@ fn may_take(memory_type: u8, count: u32) -> bool
 /// The action `pages`.
 pub fn take_pages<M: PeiStore>(
     store: &mut M,
-    frame: &mut Frame,
     r: u8,
     memory_type: u8,
     count: u32,
 ) -> Result<Taken, OutOfMemory>
-    requires r { r < 16 }
-    requires state { Present (M.stands_for store.old) (HoldRegisters frame.old.registers) }
-    ensures row { Acts M.TAKES_MEMORY (M.stands_for store.old) (M.stands_for store.new) (A.Pages r memory_type count) frame.old result frame.new }
-    ensures frame { Keeps frame.old frame.new }
+    requires state { Present (M.stands_for store.old) Anything }
+    ensures row { (frame : Frame) → Acts M.TAKES_MEMORY (M.stands_for store.old) (M.stands_for store.new) (A.Pages r memory_type count) frame result }
 {
     if !may_take(memory_type, count) {
-        return Ok(refusal(CallName::Pages, Word::InvalidParameter));
+        return Ok(Taken::refusal(CallName::Pages, Word::InvalidParameter));
     }
     match store.pages(memory_type as u32, count) {
-        Ok(address) => {
-            set(frame, r, Register::Number(address));
-            Ok(told(CallName::Pages, Extra::Number(address)))
-        }
-        Err(fault) => refused(CallName::Pages, fault),
+        Ok(address) => Ok(Taken::told(
+            CallName::Pages,
+            Extra::Number(address),
+            Writes::one(r, Register::Number(address)),
+        )),
+        Err(fault) => Taken::refused(CallName::Pages, fault),
     }
 }
 
 // The action `boot_mode` that gets.
-fn get_boot_mode<M: PeiStore>(store: &M, frame: &mut Frame, r: u8) -> Taken
-    requires r { r < 16 }
-    requires state { Present (M.stands_for store.now) (HoldRegisters frame.old.registers) }
-    ensures row { Reads (M.stands_for store.now) (A.BootMode 0 r) frame.old result frame.new }
-    ensures frame { Keeps frame.old frame.new }
+fn get_boot_mode<M: PeiStore>(store: &M, r: u8) -> Taken
+    requires state { Present (M.stands_for store.now) Anything }
+    ensures row { (frame : Frame) → Reads (M.stands_for store.now) (A.BootMode 0 r) frame result }
 {
     let mode = store.boot_mode() as u64;
-    set(frame, r, Register::Number(mode));
-    told(CallName::BootMode, Extra::Number(mode))
+    Taken::told(
+        CallName::BootMode,
+        Extra::Number(mode),
+        Writes::one(r, Register::Number(mode)),
+    )
 }
 
 // The action `boot_mode` that sets.
-fn set_boot_mode<M: PeiStore>(store: &mut M, frame: &Frame, r: u8) -> Taken
+fn set_boot_mode<M: PeiStore>(store: &mut M, frame: &PeiFrame, r: u8) -> Taken
     requires state { Present (M.stands_for store.old) (HoldRegisters frame.now.registers) }
-    ensures row { ActsAlways (M.stands_for store.old) (M.stands_for store.new) (A.BootMode 1 r) frame.now result frame.now }
+    ensures row { ActsAlways (M.stands_for store.old) (M.stands_for store.new) (A.BootMode 1 r) frame.now result }
 {
     match number_in(&frame.registers, r) {
         Some(mode) if mode <= u32::MAX as u64 => {
             store.set_boot_mode(mode as u32);
-            told(CallName::BootMode, Extra::Nothing)
+            Taken::told(CallName::BootMode, Extra::Nothing, Writes::Nothing)
         }
-        _ => refusal(CallName::BootMode, Word::InvalidParameter),
+        _ => Taken::refusal(CallName::BootMode, Word::InvalidParameter),
     }
 }
 
 /// The action `boot_mode`.
-pub fn boot_mode<M: PeiStore>(store: &mut M, frame: &mut Frame, form: u8, r: u8) -> Taken
-    requires r { r < 16 }
-    requires state { Present (M.stands_for store.old) (HoldRegisters frame.old.registers) }
-    ensures row { ActsAlways (M.stands_for store.old) (M.stands_for store.new) (A.BootMode form r) frame.old result frame.new }
-    ensures frame { Keeps frame.old frame.new }
+pub fn boot_mode<M: PeiStore>(store: &mut M, frame: &PeiFrame, form: u8, r: u8) -> Taken
+    requires state { Present (M.stands_for store.old) (HoldRegisters frame.now.registers) }
+    ensures row { ActsAlways (M.stands_for store.old) (M.stands_for store.new) (A.BootMode form r) frame.now result }
 {
     if form == 0 {
-        get_boot_mode(store, frame, r)
+        get_boot_mode(store, r)
     } else {
         set_boot_mode(store, frame, r)
     }

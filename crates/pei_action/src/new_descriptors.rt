@@ -1,21 +1,20 @@
 // The action that makes a descriptor.
 ghost use Rattle.std.specs.Prelude.{◌≡◌, ◌<◌, IfSome};
 ghost use Rattle.act_code.specs.declared.action.Action.TheVariants as A;
-ghost use Rattle.act_code.specs.Format.{guid_arg_registers};
 ghost use Rattle.boot_model.specs.PeiAction as P;
-ghost use Rattle.boot_model.specs.StateFacts.{IsNumberOf};
-ghost use Rattle.boot_model.specs.Service.{Present};
-ghost use Rattle.pei_action.specs.Needs.{HoldRegisters, IsModuleNumber, IsArgument};
-ghost use Rattle.pei_action.specs.Taken.{Acts, Keeps};
+ghost use Rattle.store_model.specs.StateFacts.{IsNumberOf};
+ghost use Rattle.store_model.specs.Service.{Present};
+ghost use Rattle.boot_model.specs.MachineFacts.{HoldRegisters, IsModuleNumber};
+ghost use Rattle.pei_action.specs.Needs.{IsArgument};
+ghost use Rattle.pei_action.specs.Taken.{Acts};
 
 use crate::address::address;
-use crate::registers::{number_in, set};
-use crate::taken::{Taken, refusal, refused, told};
+use crate::taken::Taken;
 use act_code::GuidArg;
-use boot_model::{
-    BLOCKS, CallName, DescKind, Extra, Frame, GuidFrom, PeiStore, REGISTERS, Register,
-};
+use boot_model::{BLOCKS, CallName, Extra, PeiFrame, REGISTERS, Register};
+use frames::{Writes, number_in};
 use pi_base::{OutOfMemory, Word};
+use store_model::{DescKind, GuidFrom, PeiStore};
 
 // The kind that a number is.
 fn kind_of(number: u8) -> DescKind
@@ -42,7 +41,7 @@ fn guid_from(registers: &[Register; REGISTERS], guid: &GuidArg) -> Option<GuidFr
 }
 
 // A PPI's value, or the entry of a notification.
-fn number_of(frame: &Frame, kind: DescKind, arg: u8) -> Option<u64>
+fn number_of(frame: &PeiFrame, kind: DescKind, arg: u8) -> Option<u64>
     requires arg { IsArgument kind arg }
     requires number { IsModuleNumber frame.now.module_number }
     ensures number { result ≡ P.desc_number frame.now.module_number frame.now.registers kind arg }
@@ -57,7 +56,7 @@ fn number_of(frame: &Frame, kind: DescKind, arg: u8) -> Option<u64>
 }
 
 // What a descriptor is made of.
-fn argument(frame: &Frame, kind: DescKind, guid: &GuidArg, arg: u8) -> Option<(GuidFrom, u64)>
+fn argument(frame: &PeiFrame, kind: DescKind, guid: &GuidArg, arg: u8) -> Option<(GuidFrom, u64)>
     requires arg { IsArgument kind arg }
     requires number { IsModuleNumber frame.now.module_number }
     ensures argument { result ≡ P.desc_argument frame.now kind guid.now arg }
@@ -75,29 +74,30 @@ fn argument(frame: &Frame, kind: DescKind, guid: &GuidArg, arg: u8) -> Option<(G
 /// The action `desc`.
 pub fn make_descriptor<M: PeiStore>(
     store: &mut M,
-    frame: &mut Frame,
+    frame: &PeiFrame,
     d: u8,
     kind: u8,
     guid: &GuidArg,
     arg: u8,
 ) -> Result<Taken, OutOfMemory>
-    requires d { d < 16 }
     requires arg { IsArgument (P.kind_number kind) arg }
-    requires number { IsModuleNumber frame.old.module_number }
-    requires state { Present (M.stands_for store.old) (HoldRegisters frame.old.registers) }
-    ensures row { Acts M.TAKES_MEMORY (M.stands_for store.old) (M.stands_for store.new) (A.Desc d kind guid.now arg) frame.old result frame.new }
-    ensures frame { Keeps frame.old frame.new }
+    requires number { IsModuleNumber frame.now.module_number }
+    requires state { Present (M.stands_for store.old) (HoldRegisters frame.now.registers) }
+    ensures row { Acts M.TAKES_MEMORY (M.stands_for store.old) (M.stands_for store.new) (A.Desc d kind guid.now arg) frame.now result }
 {
     let kind = kind_of(kind);
     match argument(frame, kind, guid, arg) {
-        None => Ok(refusal(CallName::Desc, Word::InvalidParameter)),
+        None => Ok(Taken::refusal(CallName::Desc, Word::InvalidParameter)),
         Some((guid, number)) => match store.desc(kind, guid, number) {
             Ok(made) => {
                 let address = address(store, made.offset);
-                set(frame, d, Register::DescriptorIn(made));
-                Ok(told(CallName::Desc, Extra::Number(address)))
+                Ok(Taken::told(
+                    CallName::Desc,
+                    Extra::Number(address),
+                    Writes::one(d, Register::DescriptorIn(made)),
+                ))
             }
-            Err(fault) => refused(CallName::Desc, fault),
+            Err(fault) => Taken::refused(CallName::Desc, fault),
         },
     }
 }

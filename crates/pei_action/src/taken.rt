@@ -1,90 +1,94 @@
-// What an action of a script did.
+//! What an action of PEI's own did.
 ghost use Rattle.std.specs.Prelude.{◌≡◌};
-ghost use Rattle.pei_action.specs.Taken.{told, refusal, swept, refused};
+ghost use Rattle.pei_action.specs.Taken as T;
 
-use crate::descriptors::Descriptors;
+use crate::descriptors::MOST_DESCRIPTORS;
 use arrayvec::ArrayVec;
-use boot_model::{CallName, Extra, SHOWN_LEN, StoreFault, Sweep};
+use boot_model::{CallName, Extra};
+use frames::Writes;
 use pi_base::{OutOfMemory, Word};
+use store_model::{Desc, StoreFault, Sweep};
 
-/// What a service answered to a script.
+/// What a service answers to a script.
 #[derive(Drop)]
 pub struct Reply {
     pub name: CallName,
     pub status: Word,
     /// What its line shows.
     pub extra: Extra,
+    /// The registers that it writes.
+    pub writes: Writes,
     /// The callbacks to visit.
     pub sweep: Option<Sweep>,
     /// The descriptors of the PPIs that it installed, to be looked at for volumes.
-    pub installs: Descriptors,
+    pub installs: ArrayVec<Desc, MOST_DESCRIPTORS>,
 }
 
-/// What an action did. The registers after it stand in the frame.
+/// What an action of PEI's own did to the store, and what is still to be done in its frame.
 #[derive(Drop)]
 pub enum Taken {
-    /// A register is written, or its action is refused.
-    Wrote(Word),
+    /// It writes a register, or is refused, and prints nothing.
+    Wrote { status: Word, writes: Writes },
     /// A service answered.
     Called(Reply),
     /// The module registers for shadow.
     Shadowed,
-    /// A text is logged.
-    Logged(ArrayVec<u8, SHOWN_LEN>),
-    /// So many of the next actions are skipped.
-    Skipped(u8),
-    /// The frame ends.
-    Returned(Word),
 }
 
-/// The answer of a service that changes nothing but registers, or the state.
-pub fn told(name: CallName, extra: Extra) -> Taken
-    ensures { result ≡ told name extra }
-{
-    Taken::Called(Reply {
-        name,
-        status: Word::Success,
-        extra,
-        sweep: None,
-        installs: Descriptors::new(),
-    })
-}
+impl Taken {
+    // The answer of a service that has no callbacks to visit.
+    pub(crate) fn answered(name: CallName, status: Word, extra: Extra, writes: Writes) -> Taken
+        ensures { result ≡ T.answered name status extra writes }
+    {
+        Taken::Called(Reply {
+            name,
+            status,
+            extra,
+            writes,
+            sweep: None,
+            installs: ArrayVec::new(),
+        })
+    }
 
-/// A refusal, which changes nothing.
-pub fn refusal(name: CallName, status: Word) -> Taken
-    ensures { result ≡ refusal name status }
-{
-    Taken::Called(Reply {
-        name,
-        status,
-        extra: Extra::Nothing,
-        sweep: None,
-        installs: Descriptors::new(),
-    })
-}
+    // A success.
+    pub(crate) fn told(name: CallName, extra: Extra, writes: Writes) -> Taken
+        ensures { result ≡ T.told name extra writes }
+    {
+        Taken::answered(name, Word::Success, extra, writes)
+    }
 
-/// The answer of a service that has callbacks to visit, and PPIs that it installed.
-pub fn swept(name: CallName, sweep: Sweep, installs: Descriptors) -> Taken
-    ensures { result ≡ swept name sweep installs }
-{
-    Taken::Called(Reply {
-        name,
-        status: Word::Success,
-        extra: Extra::Nothing,
-        sweep: Some(sweep),
-        installs,
-    })
-}
+    // A refusal, which changes nothing.
+    pub(crate) fn refusal(name: CallName, status: Word) -> Taken
+        ensures { result ≡ T.refusal name status }
+    {
+        Taken::answered(name, status, Extra::Nothing, Writes::Nothing)
+    }
 
-/// What a script is told of a fault of the store. Want of memory is no answer to it.
-pub fn refused(name: CallName, fault: StoreFault) -> Result<Taken, OutOfMemory>
-    ensures { result ≡ refused name fault }
-{
-    match fault {
-        StoreFault::Full => Ok(refusal(name, Word::OutOfResources)),
-        StoreFault::Bad => Ok(refusal(name, Word::InvalidParameter)),
-        StoreFault::Missing => Ok(refusal(name, Word::NotFound)),
-        StoreFault::NotYet => Ok(refusal(name, Word::NotAvailableYet)),
-        StoreFault::Memory => Err(OutOfMemory),
+    // The answer of a service that has callbacks to visit, and PPIs that it installed.
+    pub(crate) fn swept(
+        name: CallName,
+        sweep: Sweep,
+        installs: ArrayVec<Desc, MOST_DESCRIPTORS>,
+    ) -> Taken
+        ensures { result ≡ T.swept name sweep installs.items }
+    {
+        Taken::Called(Reply {
+            name,
+            status: Word::Success,
+            extra: Extra::Nothing,
+            writes: Writes::Nothing,
+            sweep: Some(sweep),
+            installs,
+        })
+    }
+
+    // What a script is told of a fault of the store. Want of memory is no answer to it.
+    pub(crate) fn refused(name: CallName, fault: StoreFault) -> Result<Taken, OutOfMemory>
+        ensures { result ≡ T.refused name fault }
+    {
+        match fault.status() {
+            Some(status) => Ok(Taken::refusal(name, status)),
+            None => Err(OutOfMemory),
+        }
     }
 }

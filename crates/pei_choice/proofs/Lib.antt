@@ -1,4 +1,3 @@
 mod Room
 mod Rotation
-mod ShortParts
 mod VolumeParts

@@ -1,5 +1,6 @@
 -- What is found first in a list that is read from the cursor on.
-use Rattle.std.proofs.Common.{◌≡◌, ℕ, Bool, true, false, cond, Option, Some, None, List, [], ◌∷◌, ◌++◌, take, drop, sym, refl}
+use Rattle.std.proofs.Common.{◌≡◌, ℕ, Bool, true, false, cond, Option, Some, None, List, [], ◌∷◌, ◌++◌, take, drop, min, length, sym, refl, ap, ◌∙◌}
+use Rattle.std.proofs.lemmas.List.{take_min, drop_min}
 use Rattle.std.specs.Prelude.{find}
 use Rattle.boot_model.specs.PeiChoice.{rotated}
 
@@ -19,14 +20,21 @@ find_none : {A : Type 0} (test : A → Bool) (behind front : List A) → find te
 find_none test [] front h = refl
 find_none test (y ∷ behind) front h = missed_by (test y) y (find test behind) (find test (behind ++ front)) (find test front) (find_none test behind front) h
 
-pub found_behind : (test : ℕ → Bool) (order other : List ℕ) (cursor at : ℕ) (behind : List ℕ) (number : ℕ) → order ≡ other → at ≡ cursor → behind ≡ drop cursor order
+-- the cursor divides the order; one behind its end divides it there
+pub front_is : (order front : List ℕ) (cursor at k : ℕ) → at ≡ cursor → k ≡ min cursor (length order) → front ≡ take k order → front ≡ take at order
+front_is order front cursor at k here is before = before ∙ ap (λ n. take n order) is ∙ take_min cursor order ∙ ap (λ n. take n order) (sym here)
+
+pub behind_is : (order behind : List ℕ) (cursor at k : ℕ) → at ≡ cursor → k ≡ min cursor (length order) → behind ≡ drop k order → behind ≡ drop at order
+behind_is order behind cursor at k here is back = back ∙ ap (λ n. drop n order) is ∙ drop_min cursor order ∙ ap (λ n. drop n order) (sym here)
+
+pub found_behind : (test : ℕ → Bool) (order other behind : List ℕ) (at number : ℕ) → order ≡ other → behind ≡ drop at order
     → Some number ≡ find test behind → Some number ≡ find test (rotated at other)
-found_behind test order other cursor at behind number same here back h =
-    let found = find_some test behind (take cursor order) number (sym h) in
+found_behind test order other behind at number same back h =
+    let found = find_some test behind (take at order) number (sym h) in
     cc
 
-pub found_in_front : (test : ℕ → Bool) (order other : List ℕ) (cursor at : ℕ) (front behind : List ℕ) (found : Option ℕ) → order ≡ other → at ≡ cursor
-    → front ≡ take cursor order → behind ≡ drop cursor order → None ≡ find test behind → found ≡ find test front → found ≡ find test (rotated at other)
-found_in_front test order other cursor at front behind found same here before back h f =
+pub found_in_front : (test : ℕ → Bool) (order other front behind : List ℕ) (at : ℕ) (found : Option ℕ) → order ≡ other
+    → front ≡ take at order → behind ≡ drop at order → None ≡ find test behind → found ≡ find test front → found ≡ find test (rotated at other)
+found_in_front test order other front behind at found same before back h f =
     let missed = find_none test behind front (sym h) in
     cc

@@ -1,3 +1,3 @@
 pub mod Order
-pub mod Short
+pub mod Parts
 pub mod Standing

@@ -1,18 +1,16 @@
 //! Whether a PEIM may start.
-ghost use Rattle.std.specs.Prelude.{◌≡◌, ◌≤◌, ◌+◌, option_copied};
-ghost use Rattle.depex_code.specs.Tree.{truth};
-ghost use Rattle.boot_model.specs.declared.catalog.Part.{Part as OfPart};
-ghost use Rattle.boot_model.specs.PeiMachine.{PeiMachine};
-ghost use Rattle.boot_model.specs.StoreState.{StoreState};
-ghost use Rattle.boot_model.specs.Parts.{part_at};
-ghost use Rattle.boot_model.specs.Eligible.{depex_holds, lets_start, may_start, is_eligible};
-ghost use Rattle.pi_base.specs.declared.phase.Phase.TheVariants.{Pei};
-ghost use Rattle.pei_choice.specs.Short.{IsShort, IsShortExpression, AreShort};
-ghost use Rattle.pei_choice.specs.Standing.{HasPpis, IsStage};
+ghost use Rattle.std.specs.Prelude.{◌≡◌, ◌≤◌, ◌+◌, Some, IsTrue, true};
+ghost use Rattle.catalog_model.specs.WellFormed.{IsWellFormed, IsShort, IsShortExpression};
+ghost use Rattle.store_model.specs.StoreState.{StoreState};
+ghost use Rattle.boot_model.specs.Eligible.{depex_holds, lets_start, may_start};
+ghost use Rattle.boot_model.specs.PeimState.{awaits_start};
+ghost use Rattle.pei_choice.specs.Standing.{HasPpis, TellsEligible};
 
-use crate::stage::Stage;
-use boot_model::{Catalog, Part, PartExpr};
+use boot_model::PeimState;
+use catalog_model::{Catalog, Part, PartExpr, well_formed_expressions_are_short};
 use depex_code::{Depex, GuidSet, Steps};
+use frames::part_of;
+use pi_base::Phase;
 use std::sync::ledger::Ledger;
 
 // Whether an expression holds over a set of GUIDs.
@@ -45,16 +43,6 @@ fn lets_start<G: GuidSet, L: Ledger>(expression: &PartExpr, set: &G, steps: &mut
     }
 }
 
-/// The PEI part of a module. None where it has none, or there is no such module.
-pub fn pei_part(catalog: &Catalog, number: u32) -> Option<&Part>
-    ensures { option_copied result ≡ part_at Pei catalog.now number }
-{
-    match catalog.modules.as_slice().get(number as usize) {
-        Some(module) => module.pei.as_ref(),
-        None => None,
-    }
-}
-
 // Whether a part may start that has not started.
 fn may_start<G: GuidSet, L: Ledger>(part: &Part, set: &G, steps: &mut Steps<L>) -> bool
     requires order { G.in_order set.now }
@@ -66,26 +54,29 @@ fn may_start<G: GuidSet, L: Ledger>(part: &Part, set: &G, steps: &mut Steps<L>) 
     part.rank.is_some() || lets_start(&part.expr, set, steps)
 }
 
-/// Whether the PEI part of a module may start now, by the stage of the module, and by whether memory has moved. At most one expression is evaluated.
+/// Whether the PEI part of a module may start now, by how far the module has come, and by whether memory has moved. A module whose starts are over may not. At most one expression is evaluated.
 pub fn is_eligible<G: GuidSet, L: Ledger>(
     catalog: &Catalog,
     number: u32,
-    stage: Stage,
+    state: PeimState,
     moved: bool,
     set: &G,
     steps: &mut Steps<L>,
 ) -> bool
+    requires catalog { IsWellFormed catalog.now }
     requires order { G.in_order set.now }
-    requires short { AreShort catalog.now }
-    ensures eligible { (m : PeiMachine) → IsStage m number stage → m.store.moved ≡ moved → HasPpis (G.has_guid set.now) m.store → result ≡ is_eligible catalog.now m number }
+    ensures eligible { TellsEligible catalog.now number state moved (G.has_guid set.now) result }
+    ensures awaits { IsTrue result → awaits_start state ≡ true }
     ensures counted { steps.old ≤ steps.new }
     ensures few_steps { steps.new ≤ steps.old + 1 }
 {
-    if stage.started {
-        return stage.registered && !stage.again && moved;
-    }
-    match pei_part(catalog, number) {
-        Some(part) => may_start(part, set, steps),
-        None => false,
+    well_formed_expressions_are_short();
+    match state {
+        PeimState::NotDispatched => match part_of(catalog, Phase::Pei, number) {
+            Some(part) => may_start(part, set, steps),
+            None => false,
+        },
+        PeimState::RegisteredForShadow => moved,
+        PeimState::Dispatched | PeimState::Done => false,
     }
 }

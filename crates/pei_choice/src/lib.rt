@@ -2,18 +2,15 @@
 #![tactic(auto)]
 
 mod eligible;
-mod laws;
 mod licence;
 mod next;
 mod order;
-mod stage;
+mod parts;
 
-pub use eligible::{is_eligible, pei_part};
-pub use laws::catalogues_are_short;
+pub use eligible::is_eligible;
 pub use licence::licence_of;
-pub use next::{cursor_behind, next_peim};
+pub use next::next_peim;
 pub use order::PeiOrder;
-pub use stage::{Stage, stage_of};
 
 #[cfg(test)]
 mod tests;

@@ -1,16 +1,17 @@
 //! By which licence a PEIM starts.
 ghost use Rattle.std.specs.Prelude.{◌≡◌, if◌then◌else◌};
 ghost use Rattle.boot_model.specs.Eligible.{licence_by};
+ghost use Rattle.boot_model.specs.PeimState.{has_started};
 ghost use Rattle.boot_model.specs.declared.licence.Licence.TheVariants.{Shadow};
 
-use crate::stage::Stage;
-use boot_model::{Licence, Part, PartExpr};
+use boot_model::{Licence, PeimState};
+use catalog_model::{Part, PartExpr};
 
 /// The licence by which a part starts that may start, by how far its module has come: the second start has its registration, and the first one the place in an a priori file, or else the expression.
-pub fn licence_of(stage: Stage, part: &Part) -> Licence
-    ensures { result ≡ (if stage.started then Shadow else licence_by part.now.rank part.now.expr) }
+pub fn licence_of(state: PeimState, part: &Part) -> Licence
+    ensures { result ≡ (if has_started state then Shadow else licence_by part.now.rank part.now.expr) }
 {
-    if stage.started {
+    if state != PeimState::NotDispatched {
         return Licence::Shadow;
     }
     if part.rank.is_some() {

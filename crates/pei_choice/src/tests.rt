@@ -1,10 +1,12 @@
 // Small catalogues made by hand: the order, where the cursor stands, which part may start, and which starts next.
-ghost use Rattle.std.specs.Prelude.{◌≡◌, ◌<◌, IfOk, IfSome};
-ghost use Rattle.pei_choice.specs.Short.{AreShort, IsShortExpression};
+ghost use Rattle.std.specs.Prelude.{◌≡◌, ◌<◌, [], Some, None, IfOk};
+ghost use Rattle.catalog_model.specs.WellFormed.{IsExpressionOf, IsShortExpression, IsWellFormed};
+ghost use Rattle.pi_base.specs.declared.phase.Phase.TheVariants.{Pei as InPei};
 
 use super::*;
 use act_code::Script;
-use boot_model::{Catalog, MOST_MODULES, Module, Part, PartExpr};
+use boot_model::PeimState;
+use catalog_model::{Catalog, MOST_MODULES, Module, Part, PartExpr, VolumeEntry};
 use depex_code::{Depex, GuidSet, Opcode, Steps, Tree};
 use pi_base::{Guid, OutOfMemory, Phase, Seq};
 use std::alloc::Global;
@@ -18,14 +20,16 @@ const CATALOGUE: [(u32, Option<u32>); 6] = [
     (0, Some(1)),
     (0, Some(0)),
     (1, None),
+    (1, Some(2)),
     (1, Some(0)),
-    (1, Some(7)),
 ];
 
 // A module of a volume, with a rank and an expression.
 fn module(alloc: Global, volume: u32, at: u64, rank: Option<u32>, expr: PartExpr) -> Module
-    requires { IsShortExpression expr }
-    ensures { IfSome result.pei (λ part. IsShortExpression part.expr) }
+    ensures volume { result.volume ≡ volume }
+    ensures at { result.at ≡ at }
+    ensures part { result.pei ≡ Some (record { rank = rank; expr = expr; script = record { phase = InPei; blocks = [] } }) }
+    ensures driver { result.dxe ≡ None }
 {
     Module {
         volume,
@@ -58,25 +62,17 @@ fn catalogue(alloc: Global, modules: &[(u32, Option<u32>)]) -> Result<Catalog, O
 }
 
 #[test]
-fn ranks_first(rt: HostRuntime) -> Result<(), Fail> {
+fn a_priori_parts_come_first_by_rank(rt: HostRuntime) -> Result<(), Fail> {
     let catalog = catalogue(rt.alloc(), &CATALOGUE)
         .ok()
         .ok_or("there is memory")?;
     assert!(rt; catalog.modules.len() <= MOST_MODULES);
     let mut order = PeiOrder::new();
-    // A rank above the number of parts is not in the order.
+    // The second volume has no part of rank 1.
     order.report(&catalog, 1);
     order.report(&catalog, 0);
-    assert_eq!(rt; order.as_slice(), [4, 3, 2, 1, 0].as_slice());
+    assert_eq!(rt; order.as_slice(), [5, 4, 3, 2, 1, 0].as_slice());
     Ok(())
-}
-
-#[test]
-fn places(rt: HostRuntime) {
-    assert_eq!(rt; cursor_behind(&[4, 3, 2], 3), 2);
-    assert_eq!(rt; cursor_behind(&[4, 3, 2], 4), 1);
-    assert_eq!(rt; cursor_behind(&[4, 3, 2], 9), 3);
-    assert_eq!(rt; cursor_behind(&[], 0), 0);
 }
 
 /// A PPI that is installed, and one that is not.
@@ -103,7 +99,8 @@ impl GuidSet for OnePpi {
 
 // An expression that pushes one PPI.
 fn pushes(alloc: Global, guid: Guid) -> Result<PartExpr, OutOfMemory>
-    ensures { IfOk result IsShortExpression }
+    ensures phase { IfOk result (IsExpressionOf InPei) }
+    ensures short { IfOk result IsShortExpression }
 {
     let mut code = Seq::new(alloc);
     code.push(Opcode::Push(guid))?;
@@ -113,50 +110,51 @@ fn pushes(alloc: Global, guid: Guid) -> Result<PartExpr, OutOfMemory>
     }
 }
 
+/// The volume of these modules.
+const VOLUME: VolumeEntry = VolumeEntry {
+    base: 0x10_0000,
+    len: 0x100,
+    name: None,
+    parent: None,
+};
+
 // Five modules of one volume: without an expression, for a PPI that is there and for one that is not, the last a priori too, and with an expression that cannot be read.
 fn choices(alloc: Global) -> Result<Catalog, OutOfMemory>
-    ensures { IfOk result AreShort }
+    ensures { IfOk result IsWellFormed }
 {
-    let mut made = Seq::new(alloc);
-    made.push(module(alloc, 0, 72, None, PartExpr::Absent))?;
-    made.push(module(alloc, 0, 80, None, pushes(alloc, INSTALLED)?))?;
-    made.push(module(alloc, 0, 88, None, pushes(alloc, MISSING)?))?;
-    made.push(module(alloc, 0, 96, Some(0), pushes(alloc, MISSING)?))?;
-    made.push(module(alloc, 0, 104, None, PartExpr::Malformed(0)))?;
-    Ok(Catalog {
-        volumes: Seq::new(alloc),
-        modules: made,
-    })
-}
-
-fn stage(started: bool, registered: bool, again: bool) -> Stage {
-    Stage {
-        started,
-        registered,
-        again,
-    }
+    let (there, missing) = (pushes(alloc, INSTALLED)?, pushes(alloc, MISSING)?);
+    let a_priori = pushes(alloc, MISSING)?;
+    let mut volumes = Seq::new(alloc);
+    volumes.push(VOLUME)?;
+    let mut modules = Seq::new(alloc);
+    modules.push(module(alloc, 0, 72, None, PartExpr::Absent))?;
+    modules.push(module(alloc, 0, 80, None, there))?;
+    modules.push(module(alloc, 0, 88, None, missing))?;
+    modules.push(module(alloc, 0, 96, Some(0), a_priori))?;
+    modules.push(module(alloc, 0, 104, None, PartExpr::Malformed(0)))?;
+    Ok(Catalog { volumes, modules })
 }
 
 fn eligible_in<L: Ledger>(
     catalog: &Catalog,
     number: u32,
-    stage: Stage,
+    state: PeimState,
     moved: bool,
     blank: Blank,
 ) -> bool
     requires name { blank.name ≡ L.name }
     requires parts { blank.parts ≡ L.parts }
     requires some { 0 < L.parts }
-    requires short { AreShort catalog.now }
+    requires catalog { IsWellFormed catalog.now }
 {
     let mut steps = Steps::<L>::new(blank);
-    is_eligible(catalog, number, stage, moved, &OnePpi, &mut steps)
+    is_eligible(catalog, number, state, moved, &OnePpi, &mut steps)
 }
 
 #[test]
-fn may_start(rt: HostRuntime) -> Result<(), Fail> {
+fn a_part_may_start_by_its_state_and_its_expression(rt: HostRuntime) -> Result<(), Fail> {
     let catalog = choices(rt.alloc()).ok().ok_or("there is memory")?;
-    let waits = stage(false, false, false);
+    let waits = PeimState::NotDispatched;
     let rows = [
         (0, waits, false, true),
         (1, waits, false, true),
@@ -166,64 +164,88 @@ fn may_start(rt: HostRuntime) -> Result<(), Fail> {
         // No module.
         (5, waits, false, false),
         // It has started; with shadow, once more after the move.
-        (0, stage(true, false, false), true, false),
-        (0, stage(true, true, false), false, false),
-        (0, stage(true, true, false), true, true),
-        (0, stage(true, true, true), true, false),
+        (0, PeimState::Dispatched, true, false),
+        (0, PeimState::RegisteredForShadow, false, false),
+        (0, PeimState::RegisteredForShadow, true, true),
+        (0, PeimState::Done, true, false),
     ];
-    'rows: for (number, stage, moved, want) in rows {
-        let may = eligible_in::<Brand>(&catalog, number, stage, moved, Blank::new(1));
+    'rows: for (number, state, moved, want) in rows {
+        let may = eligible_in::<Brand>(&catalog, number, state, moved, Blank::new(1));
         assert_eq!(rt; may, want, "module {number}");
     }
     Ok(())
 }
 
+// The order of the five modules, [3, 0, 1, 2, 4], with the cursor behind a module.
+fn order_behind(catalog: &Catalog, last: Option<u32>) -> PeiOrder
+    requires catalog { IsWellFormed catalog.now }
+{
+    let mut order = PeiOrder::new();
+    order.report(catalog, 0);
+    if let Some(number) = last {
+        order.move_behind(number);
+    }
+    order
+}
+
+#[test]
+fn the_cursor_stands_behind_the_module(rt: HostRuntime) -> Result<(), Fail> {
+    let catalog = choices(rt.alloc()).ok().ok_or("there is memory")?;
+    let rows = [
+        (None, 0),
+        (Some(3), 1),
+        (Some(1), 3),
+        (Some(4), 5),
+        (Some(9), 5),
+    ];
+    'rows: for (last, want) in rows {
+        assert_eq!(rt; order_behind(&catalog, last).cursor(), want);
+    }
+    assert_eq!(rt;
+        order_behind(&catalog, None).as_slice(),
+        [3, 0, 1, 2, 4].as_slice()
+    );
+    Ok(())
+}
+
 fn next_in<L: Ledger>(
     catalog: &Catalog,
-    cursor: usize,
-    stages: &[Stage],
+    last: Option<u32>,
+    states: &[PeimState],
     moved: bool,
     blank: Blank,
 ) -> Option<u32>
     requires name { blank.name ≡ L.name }
     requires parts { blank.parts ≡ L.parts }
     requires some { 0 < L.parts }
-    requires short { AreShort catalog.now }
+    requires catalog { IsWellFormed catalog.now }
 {
-    let order = [3, 0, 1, 2, 4];
+    let order = order_behind(catalog, last);
     let mut steps = Steps::<L>::new(blank);
-    next_peim(
-        catalog,
-        &order,
-        cursor.min(5),
-        stages,
-        moved,
-        &OnePpi,
-        &mut steps,
-    )
+    next_peim(catalog, &order, states, moved, &OnePpi, &mut steps)
 }
 
 #[test]
-fn first_behind_the_cursor(rt: HostRuntime) -> Result<(), Fail> {
+fn the_first_behind_the_cursor_comes_next(rt: HostRuntime) -> Result<(), Fail> {
     let catalog = choices(rt.alloc()).ok().ok_or("there is memory")?;
-    let waits = stage(false, false, false);
-    let started = stage(true, false, false);
-    let shadow = stage(true, true, false);
+    let waits = PeimState::NotDispatched;
+    let started = PeimState::Dispatched;
+    let shadow = PeimState::RegisteredForShadow;
     let rows = [
-        // A module behind the stages waits.
-        (0, [waits, waits], false, Some(3)),
-        (1, [waits, waits], false, Some(0)),
-        (2, [waits, waits], false, Some(1)),
+        // A module behind the states waits.
+        (None, [waits, waits], false, Some(3)),
+        (Some(3), [waits, waits], false, Some(0)),
+        (Some(0), [waits, waits], false, Some(1)),
         // Behind the cursor none may start: it goes on at the front.
-        (3, [waits, waits], false, Some(3)),
-        (5, [waits, waits], false, Some(3)),
-        (1, [started, started], false, Some(3)),
-        (1, [started, shadow], false, Some(3)),
-        (1, [started, shadow], true, Some(1)),
+        (Some(1), [waits, waits], false, Some(3)),
+        (Some(4), [waits, waits], false, Some(3)),
+        (Some(3), [started, started], false, Some(3)),
+        (Some(3), [started, shadow], false, Some(3)),
+        (Some(3), [started, shadow], true, Some(1)),
     ];
-    'rows: for (cursor, stages, moved, want) in rows {
-        let next = next_in::<Brand>(&catalog, cursor, &stages, moved, Blank::new(1));
-        assert_eq!(rt; next, want, "cursor {cursor}");
+    'rows: for (last, states, moved, want) in rows {
+        let next = next_in::<Brand>(&catalog, last, &states, moved, Blank::new(1));
+        assert_eq!(rt; next, want);
     }
     Ok(())
 }

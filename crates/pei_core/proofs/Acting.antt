@@ -1,138 +1,185 @@
--- The machine after an action, from what was taken.
-use Rattle.std.proofs.Common.{◌≡◌, ℕ, Bool, true, false, cond, List, [], ◌∷◌, ◌++◌, refl, sym, ap, ◌∙◌, subst, Option, Some, None, nat_le, length, arith, ◌+◌}
-use Rattle.std.specs.Prelude.{unwrap_or, slice_get, IfSome, ◌<◌}
-use Rattle.std.proofs.lemmas.Option.{slice_get_within}
+-- The next action of the top frame, where fuel is left.
+use Rattle.std.proofs.Common.{◌≡◌, ℕ, zero, suc, ◌+◌, ◌<◌, ◌≤◌, Bool, true, false, cond, List, [], ◌∷◌, ◌++◌, refl, sym, ap, ◌∙◌, subst, Option, Some, None, nat_le, arith, Err}
 use Rattle.std.specs.Option.{option_and_then}
+use Rattle.std.specs.Prelude.{map, option_map, slice_get, unwrap_or}
+use Rattle.std.specs.Result.{IsErrAnd}
 use Rattle.std.proofs.lemmas.Bool.Decides.{nat_tests}
 use Rattle.std.proofs.lemmas.List.{append-nil}
+use Rattle.pi_base.specs.Lists.{Each}
+use Rattle.pi_base.specs.declared.guid.Guid.{Guid}
 use Rattle.pi_base.specs.declared.phase.Phase.TheVariants.{Pei}
+use Rattle.pi_base.specs.declared.word.Word.{Word}
 use Rattle.pi_base.specs.declared.word.Word.TheVariants.{Success}
 use Rattle.act_code.specs.declared.action.Action.{Action}
 use Rattle.act_code.specs.declared.action.Action.TheVariants.{Ret}
-use Rattle.boot_model.specs.declared.catalog.Catalog.{Catalog}
-use Rattle.boot_model.specs.declared.catalog.Module.{Module}
-use Rattle.boot_model.specs.declared.catalog.Part.{Part}
-use Rattle.boot_model.specs.declared.frame.Frame.{Frame}
-use Rattle.boot_model.specs.declared.frame.Register.{Register}
+use Rattle.catalog_model.specs.declared.catalog.Catalog.{Catalog}
+use Rattle.store_model.specs.declared.store_handle.Sweep.{Sweep}
+use Rattle.store_model.specs.StoreState.{StoreState}
+use Rattle.store_model.specs.Service.Descriptor.{guid_at}
+use Rattle.boot_model.specs.EventGuids.{case_placed, case_taken, placed, placed_guids, taken_guid, taken_place}
+use Rattle.boot_model.specs.EvaluationBound.{is_called}
+use Rattle.boot_model.specs.MachineFacts.{IsSound}
+use Rattle.boot_model.specs.PeiAction.{Effect, PeiOwn, Reply, effect, own_effect}
+use Rattle.boot_model.specs.PeiMachine.{Frame, PeiMachine}
+use Rattle.boot_model.specs.PeiStep.{Acts, acted, after_effect}
+use Rattle.boot_model.specs.PeiStep as Machine
 use Rattle.boot_model.specs.declared.line.Line.{Line}
-use Rattle.boot_model.specs.declared.line.Line.TheVariants as L
-use Rattle.boot_model.specs.StoreState.{StoreState}
-use Rattle.boot_model.specs.Service.Descriptor.{offsets}
-use Rattle.boot_model.specs.PeiMachine.{PeiMachine, printed}
-use Rattle.boot_model.specs.PeiAction.{Effect, Wrote, Called, Shadowed, Logged, Skipped, Returned, effect}
-use Rattle.boot_model.specs.PeiStep.{after_effect, past, shadowed, acted, action_at}
-use Rattle.boot_model.specs.Parts.{has_number}
-use Rattle.boot_model.specs.WellFormed.{IsWellFormed, part_of, IsPartOf}
-use Rattle.pei_action.specs.declared.taken.Taken.{Taken}
-use Rattle.pei_action.specs.declared.taken.Taken.TheVariants as T
-use Rattle.pei_action.specs.Needs.{IsScriptAction, HoldRegisters}
-use Rattle.pei_action.specs.Taken.{Does, Keeps}
-use Rattle.boot_model.specs.StateFacts.{IsStoreState}
-use Rattle.pei_action.specs.Stay.{RepliesAreSound}
+use Rattle.boot_model.specs.declared.phase_end.PeiEnd.TheVariants as E
+use Rattle.frames.specs.Acted.{HasLeft}
+use Rattle.frames.specs.Alike.{AreAlike, as_effect}
+use Rattle.frames.specs.Deed.{Deed, Wrote, Logged, Skipped, Returned, frames_after, lines_of}
+use Rattle.frames.specs.Found.{action_at, found_block}
+use Rattle.frames.specs.Spent.{HasSpent, IsSpent}
+use Rattle.frames.specs.Took.{HasDone}
+use Rattle.frames.specs.declared.fuel.Fuel.{Fuel}
 use Rattle.pei_core.specs.declared.core_state.Core.{Core}
-use Rattle.pei_core.specs.Standing.{IsCoreOf}
-use Rattle.pei_core.specs.AfterTaken.{after_taken, TellsVisits}
-use Rattle.pei_core.specs.FoundAction.{found_action, found_block}
-use Rattle.pei_core.proofs.Scripts.{part_action, each_at}
+use Rattle.pei_core.specs.Parts.{TakesOwn, action_goal}
+use Rattle.pei_core.specs.Standing.{IsCoreFor, IsCoreOf}
+use Rattle.pei_core.specs.Started.{RunsStarted}
+use Rattle.pei_core.proofs.PeimStates.{same_states}
 
--- the frame with other registers
-pub after_is : (catalog : Catalog) (m : PeiMachine) (frame later : Frame) (below : List Frame) (does : Effect) (taken : Taken) (new : StoreState)
-    → Does does m.store frame.registers taken new later.registers → Keeps frame later → after_effect catalog m frame below does ≡ after_taken catalog m later below taken new
-after_is catalog m frame later below does (T.Wrote status) new h keeps =
-    let F : Frame → StoreState → PeiMachine = λ x s. record m { store = s; frames = record (past x 0) { last = status } ∷ below } in
-    let a : after_effect catalog m frame below does ≡ F (record frame { registers = later.registers }) m.store = ap (λ e. after_effect catalog m frame below e) h.0 in
-    a ∙ ap (λ x. F x m.store) (sym keeps) ∙ ap (λ s. F later s) (sym h.1)
-after_is catalog m frame later below does (T.Called reply) new h keeps =
-    let F : Frame → PeiMachine = λ x. after_taken catalog m x below (T.Called reply) new in
-    let a : after_effect catalog m frame below does ≡ F (record frame { registers = later.registers }) = ap (λ e. after_effect catalog m frame below e) h in
-    a ∙ ap F (sym keeps)
-after_is catalog m frame later below does T.Shadowed new h keeps =
-    let same : later ≡ frame = keeps ∙ ap (λ r. record frame { registers = r }) h.2 in
-    let a : after_effect catalog m frame below does ≡ shadowed m frame below = ap (λ e. after_effect catalog m frame below e) h.0 in
-    a ∙ ap (λ x. shadowed m x below) (sym same) ∙ ap (λ s. shadowed (record m { store = s }) later below) (sym h.1)
-after_is catalog m frame later below does (T.Logged text) new h keeps =
-    let same : later ≡ frame = keeps ∙ ap (λ r. record frame { registers = r }) h.2 in
-    let F : Frame → StoreState → PeiMachine = λ x s. record (printed m (L.Log text ∷ [])) { store = s; frames = past x 0 ∷ below } in
-    let a : after_effect catalog m frame below does ≡ F frame m.store = ap (λ e. after_effect catalog m frame below e) h.0 in
-    a ∙ ap (λ x. F x m.store) (sym same) ∙ ap (λ s. F later s) (sym h.1)
-after_is catalog m frame later below does (T.Skipped n) new h keeps =
-    let same : later ≡ frame = keeps ∙ ap (λ r. record frame { registers = r }) h.2 in
-    let F : Frame → StoreState → PeiMachine = λ x s. record m { store = s; frames = past x n ∷ below } in
-    let a : after_effect catalog m frame below does ≡ F frame m.store = ap (λ e. after_effect catalog m frame below e) h.0 in
-    a ∙ ap (λ x. F x m.store) (sym same) ∙ ap (λ s. F later s) (sym h.1)
-after_is catalog m frame later below does (T.Returned status) new h keeps =
-    let F : StoreState → PeiMachine = λ s. record (printed m (L.End status ∷ [])) { store = s; frames = below } in
-    let a : after_effect catalog m frame below does ≡ F m.store = ap (λ e. after_effect catalog m frame below e) h.0 in
-    a ∙ ap F (sym h.1)
+-- the machine in which an action more was counted
+abbrev pub counted : PeiMachine → PeiMachine
+counted m = record m { actions = m.actions + 1 }
 
--- what an action prints
-by_shadow : (b : Bool) (m one other : PeiMachine) (line second : Line) → one.lines ≡ m.lines ++ line ∷ [] → other.lines ≡ m.lines ++ second ∷ [] → (told : List Line) × ((cond b one other).lines ≡ m.lines ++ told)
-by_shadow true m one other line second e f = (line ∷ [], e)
-by_shadow false m one other line second e f = (second ∷ [], f)
-
-pub after_prints : (catalog : Catalog) (m : PeiMachine) (frame : Frame) (below : List Frame) (does : Effect) → (told : List Line) × ((after_effect catalog m frame below does).lines ≡ m.lines ++ told)
-after_prints catalog m frame below (Wrote registers status) = ([], sym (append-nil m.lines))
-after_prints catalog m frame below (Called name reply) = (_, refl)
-after_prints catalog m frame below Shadowed = by_shadow (has_number m.shadows frame.module_number) m _ _ _ _ refl refl
-after_prints catalog m frame below (Logged text) = (_, refl)
-after_prints catalog m frame below (Skipped n) = ([], sym (append-nil m.lines))
-after_prints catalog m frame below (Returned status) = (_, refl)
-
--- the action at which a frame stands is what was found there
-by_block : (block : Option (List Action)) (p : ℕ) → unwrap_or (option_and_then (λ b. slice_get b p) block) (Ret Success) ≡ unwrap_or (slice_get (unwrap_or block []) p) (Ret Success)
-by_block None ℕ.zero = refl
-by_block None (ℕ.suc p) = refl
+-- the action that the frames find is the machine's
+by_block : (block : Option (List Action)) (p : ℕ) → unwrap_or (slice_get (unwrap_or block []) p) (Ret Success) ≡ unwrap_or (option_and_then (λ b. slice_get b p) block) (Ret Success)
+by_block None zero = refl
+by_block None (suc p) = refl
 by_block (Some block) p = refl
 
-pub found_is : (catalog : Catalog) (frame : Frame) → unwrap_or (found_action catalog frame) (Ret Success) ≡ action_at catalog frame
-found_is catalog frame = by_block (found_block catalog frame) frame.position
+pub found : (catalog : Catalog) (frame : Frame) → Machine.action_at catalog frame ≡ action_at Pei catalog frame
+found catalog frame = by_block (found_block Pei catalog frame) frame.position
 
--- and its place lies in its script
-pub record Fits (catalog : Catalog) (frame : Frame) (action : Action) : Type 0 where
-  pub script : IsScriptAction action
-  pub position : frame.position < 1024
-  pub number : frame.module_number < length catalog.modules
+-- whether fuel is left
+pub fuel_left : (m : PeiMachine) (fuel : ℕ) (core : Core) (later : Fuel) → m.actions ≡ core.fuel.taken → core.fuel.limit ≡ fuel → HasSpent core.fuel later → nat_le fuel m.actions ≡ false
+fuel_left m fuel core later actions limit spent = let less = spent.left in grind (arith, nat_tests, actions, limit, less)
 
-in_block : (catalog : Catalog) (frame : Frame) (action : Action) (part : Part) (o : Option (List Action)) → IsPartOf Pei part → frame.module_number < length catalog.modules → slice_get part.script.blocks frame.block ≡ o → option_and_then (λ b. slice_get b frame.position) o ≡ Some action → Fits catalog frame action
-in_block catalog frame action part None is inside e f = cc
-in_block catalog frame action part (Some block) is inside e f = let h = part_action part frame.block frame.position block action is e f in record { script = h.0; position = h.1; number = inside }
+pub none_left : (m : PeiMachine) (fuel : ℕ) (core : Core) (later : Fuel) → m.actions ≡ core.fuel.taken → core.fuel.limit ≡ fuel → IsSpent core.fuel later → nat_le fuel m.actions ≡ true
+none_left m fuel core later actions limit spent = let less = spent.none in grind (arith, nat_tests, actions, limit, less)
 
-in_part : (catalog : Catalog) (frame : Frame) (action : Action) (o : Option Part) → ((part : Part) → o ≡ Some part → IsPartOf Pei part) → frame.module_number < length catalog.modules → option_and_then (λ b. slice_get b frame.position) (option_and_then (λ part. slice_get part.script.blocks frame.block) o) ≡ Some action → Fits catalog frame action
-in_part catalog frame action None each inside f = cc
-in_part catalog frame action (Some part) each inside f = in_block catalog frame action part (slice_get part.script.blocks frame.block) (each part refl) inside refl f
+acted_by : (catalog : Catalog) (fuel : ℕ) (m : PeiMachine) (frame : Frame) (below : List Frame) (b : Bool) → nat_le fuel m.actions ≡ b
+    → acted catalog fuel m frame below ≡ cond b (record m { ended = Some E.Spent }) (after_effect catalog (counted m) frame below (effect m.store frame (Machine.action_at catalog frame)))
+acted_by catalog fuel m frame below b e = ap (λ t. cond t (record m { ended = Some E.Spent }) (after_effect catalog (counted m) frame below (effect m.store frame (Machine.action_at catalog frame)))) e
 
-some_is : {A : Type 0} (P : A → Type 0) (o : Option A) (a : A) → IfSome o P → o ≡ Some a → P a
-some_is P None a h e = cc
-some_is P (Some b) a h e = let same : b ≡ a = cc in subst P same h
+pub acted_spent : (catalog : Catalog) (fuel : ℕ) (m : PeiMachine) (frame : Frame) (below : List Frame) → nat_le fuel m.actions ≡ true → acted catalog fuel m frame below ≡ record m { ended = Some E.Spent }
+acted_spent catalog fuel m frame below e = acted_by catalog fuel m frame below true e
 
-in_module : (catalog : Catalog) (frame : Frame) (action : Action) (o : Option Module) → IsWellFormed catalog → slice_get catalog.modules frame.module_number ≡ o
-    → option_and_then (λ b. slice_get b frame.position) (option_and_then (λ part. slice_get part.script.blocks frame.block) (option_and_then (part_of Pei) o)) ≡ Some action → Fits catalog frame action
-in_module catalog frame action None well e f = cc
-in_module catalog frame action (Some m) well e f =
-    let P : Module → Type 0 = λ x. IfSome x.pei (IsPartOf Pei) in
-    let is : IfSome m.pei (IsPartOf Pei) = each_at P catalog.modules frame.module_number m well.pei_parts e in
-    in_part catalog frame action m.pei (λ part h. some_is (IsPartOf Pei) m.pei part is h) (slice_get_within catalog.modules frame.module_number m e) f
+pub acted_is : (catalog : Catalog) (fuel : ℕ) (m : PeiMachine) (frame : Frame) (below : List Frame) (has : Effect) → nat_le fuel m.actions ≡ false → effect m.store frame (action_at Pei catalog frame) ≡ has
+    → acted catalog fuel m frame below ≡ after_effect catalog (counted m) frame below has
+acted_is catalog fuel m frame below has e is = acted_by catalog fuel m frame below false e ∙ ap (after_effect catalog (counted m) frame below) (ap (effect m.store frame) (found catalog frame) ∙ is)
 
-pub found_fits : (catalog : Catalog) (frame : Frame) (action : Action) → IsWellFormed catalog → found_action catalog frame ≡ Some action → Fits catalog frame action
-found_fits catalog frame action well e = in_module catalog frame action (slice_get catalog.modules frame.module_number) well refl e
+-- the GUIDs that the action changes
+pub acted_places : (catalog : Catalog) (fuel : ℕ) (m : PeiMachine) (frame : Frame) (below : List Frame) → nat_le fuel m.actions ≡ false → case_placed catalog fuel m (Acts frame below) ≡ placed_guids m.store frame (action_at Pei catalog frame)
+acted_places catalog fuel m frame below e = ap (λ b. cond b [] (placed_guids m.store frame (Machine.action_at catalog frame))) e ∙ ap (placed_guids m.store frame) (found catalog frame)
 
--- what a call visits, by the law on replies
-pub tells_visits : (law : RepliesAreSound) (s : StoreState) (frame : Frame) (action : Action) (taken : Taken) (new : StoreState) (after : List Register) → IsStoreState s → HoldRegisters frame.registers s
-    → Does (effect s frame action) s frame.registers taken new after → TellsVisits taken new
-tells_visits law s frame action (T.Called reply) new after facts held does =
-    (law s frame action reply.name (record { status = reply.status; extra = reply.extra; store = new; registers = after; sweep = reply.sweep; installs = offsets reply.installs }) facts held does).visits
-tells_visits law s frame action (T.Wrote status) new after facts held does = tt
-tells_visits law s frame action T.Shadowed new after facts held does = tt
-tells_visits law s frame action (T.Logged text) new after facts held does = tt
-tells_visits law s frame action (T.Skipped n) new after facts held does = tt
-tells_visits law s frame action (T.Returned status) new after facts held does = tt
+pub acted_takes : (catalog : Catalog) (fuel : ℕ) (m : PeiMachine) (frame : Frame) (below : List Frame) → nat_le fuel m.actions ≡ false → case_taken catalog fuel m (Acts frame below) ≡ taken_guid m.store frame (action_at Pei catalog frame)
+acted_takes catalog fuel m frame below e = ap (λ b. cond b None (taken_guid m.store frame (Machine.action_at catalog frame))) e ∙ ap (taken_guid m.store frame) (found catalog frame)
 
--- there is fuel left
-pub acted_is : (catalog : Catalog) (fuel : ℕ) (m : PeiMachine) (frame : Frame) (below : List Frame) (action : Action) (actions : ℕ) → m.actions ≡ actions → actions < fuel → action_at catalog frame ≡ action
-    → acted catalog fuel m frame below ≡ after_effect catalog (record m { actions = m.actions + 1 }) frame below (effect m.store frame action)
-acted_is catalog fuel m frame below action actions e less is =
-    let t : nat_le fuel m.actions ≡ false = grind (arith, nat_tests, e, less) in
-    rw t (ap (λ a. after_effect catalog (record m { actions = m.actions + 1 }) frame below (effect m.store frame a)) is)
+-- an action of both phases is no call
+no_call : (does : Deed) → is_called (as_effect does) ≡ false
+no_call (Wrote registers status) = refl
+no_call (Logged text) = refl
+no_call (Skipped n) = refl
+no_call (Returned status) = refl
 
-pub one_more : (m : PeiMachine) (core : Core) → IsCoreOf core m → IsCoreOf (record core { actions = core.actions + 1 }) (record m { actions = m.actions + 1 })
-one_more m core of = record { frames = of.frames; sweep = of.sweep; reported = of.reported; stages = of.stages; shadows = of.shadows; actions = ap (λ n. n + 1) of.actions; starts = of.starts; running = of.running }
+places_none : (s : StoreState) (frame : Frame) (action : Action) → is_called (effect s frame action) ≡ false → placed_guids s frame action ≡ []
+places_none s frame action e = ap (λ b. cond b (map (guid_at s) (placed frame action)) []) e
+
+takes_none : (s : StoreState) (frame : Frame) (action : Action) → is_called (effect s frame action) ≡ false → taken_guid s frame action ≡ None
+takes_none s frame action e = ap (λ b. cond b (option_map (guid_at s) (taken_place frame action)) None) e
+
+-- the core behind it
+stood : (m : PeiMachine) (core : Core) (fuel : Fuel) (frames new : List Frame) (lines : List Line) → IsCoreOf core m → HasSpent core.fuel fuel → new ≡ frames
+    → IsCoreOf (record core { frames = new; fuel = fuel }) (record (counted m) { frames = frames; lines = lines })
+stood m core fuel frames new lines of spent is = record {
+  frames = sym is;
+  sweep = of.sweep;
+  reported = of.reported;
+  states = same_states m (record (counted m) { frames = frames; lines = lines }) core.states refl refl refl of.states;
+  shadows = of.shadows;
+  actions = ap (λ n. n + 1) of.actions ∙ sym (ap (λ (x : Fuel). x.taken) spent.counted);
+  starts = of.starts;
+  running = of.running;
+}
+
+deed_core : (does : Deed) (catalog : Catalog) (m : PeiMachine) (frame : Frame) (below : List Frame) (core : Core) (fuel : Fuel) (new : List Frame) → IsCoreOf core m → HasSpent core.fuel fuel → new ≡ frames_after frame below does
+    → IsCoreOf (record core { frames = new; fuel = fuel }) (after_effect catalog (counted m) frame below (as_effect does))
+deed_core (Wrote registers status) catalog m frame below core fuel new of spent is = stood m core fuel _ new m.lines of spent is
+deed_core (Logged text) catalog m frame below core fuel new of spent is = stood m core fuel _ new _ of spent is
+deed_core (Skipped n) catalog m frame below core fuel new of spent is = stood m core fuel _ new m.lines of spent is
+deed_core (Returned status) catalog m frame below core fuel new of spent is = stood m core fuel _ new _ of spent is
+
+deed_store : (does : Deed) (catalog : Catalog) (m : PeiMachine) (frame : Frame) (below : List Frame) → (after_effect catalog (counted m) frame below (as_effect does)).store ≡ m.store
+deed_store (Wrote registers status) catalog m frame below = refl
+deed_store (Logged text) catalog m frame below = refl
+deed_store (Skipped n) catalog m frame below = refl
+deed_store (Returned status) catalog m frame below = refl
+
+deed_lines : (does : Deed) (catalog : Catalog) (m : PeiMachine) (frame : Frame) (below : List Frame) → (after_effect catalog (counted m) frame below (as_effect does)).lines ≡ m.lines ++ lines_of does
+deed_lines (Wrote registers status) catalog m frame below = sym (append-nil m.lines)
+deed_lines (Logged text) catalog m frame below = refl
+deed_lines (Skipped n) catalog m frame below = sym (append-nil m.lines)
+deed_lines (Returned status) catalog m frame below = refl
+
+-- an action of both phases that was taken
+pub record Done (catalog : Catalog) (fuel : ℕ) (m : PeiMachine) (frame : Frame) (below : List Frame) (core : Core) (lines : List Line) : Type 0 where
+  pub later : PeiMachine
+  pub is : acted catalog fuel m frame below ≡ later
+  pub store : later.store ≡ m.store
+  pub fields : IsCoreOf core later
+  pub printed : later.lines ≡ m.lines ++ lines
+  pub there : case_placed catalog fuel m (Acts frame below) ≡ []
+  pub gone : case_taken catalog fuel m (Acts frame below) ≡ None
+
+pub done : (law : AreAlike Sweep Reply PeiOwn) (catalog : Catalog) (fuel : ℕ) (m : PeiMachine) (frame : Frame) (below : List Frame) (core : Core) (later : Fuel) (new : List Frame) (lines : List Line)
+    → IsCoreOf core m → core.fuel.limit ≡ fuel → HasSpent core.fuel later → HasDone frame below (action_at Pei catalog frame) lines new
+    → Done catalog fuel m frame below (record core { frames = new; fuel = later }) lines
+done law catalog fuel m frame below core later new lines of limit spent has =
+    let left = fuel_left m fuel core later of.actions limit spent in
+    let is = law.both (own_effect m.store frame) frame (action_at Pei catalog frame) has.does has.is in
+    record {
+      later = after_effect catalog (counted m) frame below (as_effect has.does);
+      is = acted_is catalog fuel m frame below (as_effect has.does) left is;
+      store = deed_store has.does catalog m frame below;
+      fields = deed_core has.does catalog m frame below core later new of spent has.frames;
+      printed = deed_lines has.does catalog m frame below ∙ ap (λ more. m.lines ++ more) has.told;
+      there = acted_places catalog fuel m frame below left ∙ places_none m.store frame (action_at Pei catalog frame) (ap is_called is ∙ no_call has.does);
+      gone = acted_takes catalog fuel m frame below left ∙ takes_none m.store frame (action_at Pei catalog frame) (ap is_called is ∙ no_call has.does);
+    }
+
+-- an action of PEI's own is left
+pub left_core : (m : PeiMachine) (frame : Frame) (below : List Frame) (core : Core) (later : Fuel) (new : List Frame) → IsCoreOf core m → m.frames ≡ frame ∷ below → HasSpent core.fuel later → new ≡ frame ∷ below
+    → IsCoreOf (record core { frames = new; fuel = later }) (counted m)
+left_core m frame below core later new of e spent is = stood m core later m.frames new m.lines of spent (is ∙ sym e)
+
+pub counted_sound : (m : PeiMachine) → IsSound m → IsSound (counted m)
+counted_sound m sound = record { held = sound.held; modules = sound.modules; sweeps = sound.sweeps; core_sweep = sound.core_sweep; few = sound.few }
+
+pub counted_started : (m : PeiMachine) → RunsStarted m → RunsStarted (counted m)
+counted_started m of = record { bodies = of.bodies; frames_are = of.frames_are }
+
+abbrev pub takes_own : (catalog : Catalog) (m : PeiMachine) (frame : Frame) (below : List Frame) (action : Action) (new : List Frame) → m.frames ≡ frame ∷ below → HasLeft Pei catalog frame below action new → TakesOwn catalog action (counted m)
+takes_own catalog m frame below action new e has = record { top = frame; below = below; frames = e; own = has.own; fits = has.fits; within = has.within; here = has.here }
+
+-- where it leads
+pub own_leads : (catalog : Catalog) (fuel : ℕ) (m : PeiMachine) (frame : Frame) (below : List Frame) (action : Action) → nat_le fuel m.actions ≡ false → action ≡ action_at Pei catalog frame
+    → acted catalog fuel m frame below ≡ (action_goal catalog (counted m) frame below action).to
+own_leads catalog fuel m frame below action left is = acted_is catalog fuel m frame below (effect m.store frame action) left (ap (effect m.store frame) (sym is))
+
+pub own_places : (catalog : Catalog) (fuel : ℕ) (m : PeiMachine) (frame : Frame) (below : List Frame) (action : Action) → nat_le fuel m.actions ≡ false → action ≡ action_at Pei catalog frame
+    → case_placed catalog fuel m (Acts frame below) ≡ placed_guids m.store frame action
+own_places catalog fuel m frame below action left is = acted_places catalog fuel m frame below left ∙ ap (placed_guids m.store frame) (sym is)
+
+pub own_takes : (catalog : Catalog) (fuel : ℕ) (m : PeiMachine) (frame : Frame) (below : List Frame) (action : Action) → nat_le fuel m.actions ≡ false → action ≡ action_at Pei catalog frame
+    → case_taken catalog fuel m (Acts frame below) ≡ taken_guid m.store frame action
+own_takes catalog fuel m frame below action left is = acted_takes catalog fuel m frame below left ∙ ap (taken_guid m.store frame) (sym is)
+
+-- the core for its catalogue and its fuel, where an action more was counted
+pub for_counted : (catalog : Catalog) (fuel : ℕ) (core : Core) (later : Fuel) (new : List Frame) → HasSpent core.fuel later → IsCoreFor catalog fuel core → IsCoreFor catalog fuel (record core { frames = new; fuel = later })
+for_counted catalog fuel core later new spent for = record {
+  states = for.states;
+  known = for.known;
+  shadows = for.shadows;
+  fuelled = ap (λ (x : Fuel). x.limit) spent.counted ∙ for.fuelled;
+}

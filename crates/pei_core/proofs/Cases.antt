@@ -1,43 +1,100 @@
--- Which case of a step applies.
-use Rattle.std.proofs.Common.{◌≡◌, ℕ, List, [], ◌∷◌, Option, Some, None, ap, ◌∙◌}
+-- Which case of a step applies, and what the step's answer then says.
+use Rattle.std.proofs.Common.{◌≡◌, ℕ, Bool, true, false, cond, ◌&&◌, List, [], ◌∷◌, length, Option, Some, None, refl, sym, ap, ◌∙◌, subst, is_some, not, Ok, Err}
 use Rattle.std.specs.Option.{option_map, option_and_then}
-use Rattle.boot_model.specs.declared.catalog.Catalog.{Catalog}
-use Rattle.boot_model.specs.declared.frame.Frame.{Frame}
-use Rattle.boot_model.specs.declared.store_handle.Firing.{Firing}
-use Rattle.boot_model.specs.declared.store_handle.Sweep.{Sweep}
-use Rattle.boot_model.specs.StoreState.{StoreState}
-use Rattle.boot_model.specs.Migration.{migration}
-use Rattle.boot_model.specs.Service.Queue.{queue_pop}
-use Rattle.boot_model.specs.Service.Sweep.{next_match}
-use Rattle.boot_model.specs.PeiMachine.{PeiMachine}
-use Rattle.boot_model.specs.PeiStep.{PeiCase, Fires, Moves, Pops, first_that_applies, acts, starts, open_sweep, in_case, pei_step, fired, acted, moved_to, popped_to}
+use Rattle.catalog_model.specs.declared.catalog.Catalog.{Catalog}
+use Rattle.store_model.specs.declared.store_handle.Firing.{Firing}
+use Rattle.store_model.specs.declared.store_handle.Sweep.{Sweep}
+use Rattle.store_model.specs.StoreState.{StoreState, Range}
+use Rattle.store_model.specs.Migration.{migration, migrated_to}
+use Rattle.store_model.specs.Service.Queue.{queue_pop}
+use Rattle.store_model.specs.Service.Reading.{memory_due}
+use Rattle.store_model.specs.Service.Sweep.{next_match}
+use Rattle.boot_model.specs.declared.phase_end.PeiEnd.{PeiEnd}
+use Rattle.boot_model.specs.EventGuids.{case_placed, case_taken}
+use Rattle.boot_model.specs.PeiMachine.{Frame, PeiMachine}
+use Rattle.boot_model.specs.PeiStep.{PeiCase, Fires, Acts, Moves, Pops, case_of, first_that_applies, acts, starts, open_sweep, in_case, pei_step}
+use Rattle.pei_action.specs.declared.guids.Changes.{Changes}
+use Rattle.pei_core.specs.declared.event.Stepped.{Stepped}
+use Rattle.pei_core.specs.declared.event.Stepped.TheVariants.{Went, Ended}
+use Rattle.pei_core.specs.Parts.{FiresNext}
+use Rattle.pei_core.specs.Steps.{HasStayed, HasStepped, IsCut, IsIdle, StepsTo}
+use Rattle.pei_core.specs.Turn.{Texts, PrintedPart}
 
 -- the first that applies, by what the store and the frames give
 abbrev by : Catalog → PeiMachine → Option (Firing × Sweep) → List Frame → Option StoreState → Option (Firing × StoreState) → PeiCase
 by catalog m a frames c d =
     first_that_applies (option_map (λ pair. Fires pair.0 pair.1) a ∷ acts frames ∷ option_map (λ new. Moves new) c ∷ option_map (λ pair. Pops pair.0 pair.1) d ∷ starts catalog m ∷ [])
 
-pub step_fires : (catalog : Catalog) (fuel : ℕ) (m : PeiMachine) (firing : Firing) (sweep : Sweep)
-    → option_and_then (next_match m.store) (open_sweep m m.frames) ≡ Some (firing, sweep) → pei_step catalog fuel m ≡ fired catalog m firing sweep
-step_fires catalog fuel m firing sweep e = ap (λ a. in_case catalog fuel m (by catalog m a m.frames (migration m.store) (queue_pop m.store))) e
+pub case_fires : (catalog : Catalog) (m : PeiMachine) (firing : Firing) (sweep : Sweep) → FiresNext (Some (firing, sweep)) m → case_of catalog m ≡ Fires firing sweep
+case_fires catalog m firing sweep e = ap (λ a. by catalog m a m.frames (migration m.store) (queue_pop m.store)) e
 
-pub step_acts : (catalog : Catalog) (fuel : ℕ) (m : PeiMachine) (frame : Frame) (below : List Frame)
-    → option_and_then (next_match m.store) (open_sweep m m.frames) ≡ None → m.frames ≡ frame ∷ below → pei_step catalog fuel m ≡ acted catalog fuel m frame below
-step_acts catalog fuel m frame below e f =
-    ap (λ a. in_case catalog fuel m (by catalog m a m.frames (migration m.store) (queue_pop m.store))) e
-    ∙ ap (λ frames. in_case catalog fuel m (by catalog m None frames (migration m.store) (queue_pop m.store))) f
+pub case_acts : (catalog : Catalog) (m : PeiMachine) (frame : Frame) (below : List Frame) → FiresNext None m → m.frames ≡ frame ∷ below → case_of catalog m ≡ Acts frame below
+case_acts catalog m frame below e f =
+    ap (λ a. by catalog m a m.frames (migration m.store) (queue_pop m.store)) e ∙ ap (λ frames. by catalog m None frames (migration m.store) (queue_pop m.store)) f
 
-pub step_moves : (catalog : Catalog) (fuel : ℕ) (m : PeiMachine) (new : StoreState)
-    → option_and_then (next_match m.store) (open_sweep m m.frames) ≡ None → m.frames ≡ [] → migration m.store ≡ Some new → pei_step catalog fuel m ≡ moved_to m new
-step_moves catalog fuel m new e f g =
-    ap (λ a. in_case catalog fuel m (by catalog m a m.frames (migration m.store) (queue_pop m.store))) e
-    ∙ ap (λ frames. in_case catalog fuel m (by catalog m None frames (migration m.store) (queue_pop m.store))) f
-    ∙ ap (λ c. in_case catalog fuel m (by catalog m None [] c (queue_pop m.store))) g
+pub case_moves : (catalog : Catalog) (m : PeiMachine) (new : StoreState) → FiresNext None m → m.frames ≡ [] → migration m.store ≡ Some new → case_of catalog m ≡ Moves new
+case_moves catalog m new e f g =
+    ap (λ a. by catalog m a m.frames (migration m.store) (queue_pop m.store)) e
+    ∙ ap (λ frames. by catalog m None frames (migration m.store) (queue_pop m.store)) f
+    ∙ ap (λ c. by catalog m None [] c (queue_pop m.store)) g
 
-pub step_pops : (catalog : Catalog) (fuel : ℕ) (m : PeiMachine) (firing : Firing) (new : StoreState)
-    → option_and_then (next_match m.store) (open_sweep m m.frames) ≡ None → m.frames ≡ [] → migration m.store ≡ None → queue_pop m.store ≡ Some (firing, new) → pei_step catalog fuel m ≡ popped_to catalog m firing new
-step_pops catalog fuel m firing new e f g h =
-    ap (λ a. in_case catalog fuel m (by catalog m a m.frames (migration m.store) (queue_pop m.store))) e
-    ∙ ap (λ frames. in_case catalog fuel m (by catalog m None frames (migration m.store) (queue_pop m.store))) f
-    ∙ ap (λ c. in_case catalog fuel m (by catalog m None [] c (queue_pop m.store))) g
-    ∙ ap (λ d. in_case catalog fuel m (by catalog m None [] None d)) h
+pub case_pops : (catalog : Catalog) (m : PeiMachine) (firing : Firing) (new : StoreState) → FiresNext None m → m.frames ≡ [] → migration m.store ≡ None → queue_pop m.store ≡ Some (firing, new) → case_of catalog m ≡ Pops firing new
+case_pops catalog m firing new e f g h =
+    ap (λ a. by catalog m a m.frames (migration m.store) (queue_pop m.store)) e
+    ∙ ap (λ frames. by catalog m None frames (migration m.store) (queue_pop m.store)) f
+    ∙ ap (λ c. by catalog m None [] c (queue_pop m.store)) g
+    ∙ ap (λ d. by catalog m None [] None d) h
+
+-- no move is due, and there is none; or one is due, and there is one
+none_by : (s : StoreState) (moved : Bool) (planned : Option Range) → (is_some planned && not moved) ≡ false → cond moved None (option_map (migrated_to s) planned) ≡ None
+none_by s true planned e = refl
+none_by s false None e = refl
+none_by s false (Some to) e = cc
+
+by_due : (s : StoreState) (b : Bool) → memory_due s ≡ b → (memory_due s ≡ true → ⊥) → migration s ≡ None
+by_due s true e idle = absurd (idle e)
+by_due s false e idle = none_by s s.moved s.planned e
+
+pub no_move : (s : StoreState) → (memory_due s ≡ true → ⊥) → migration s ≡ None
+no_move s idle = by_due s (memory_due s) refl idle
+
+some_by : (s : StoreState) (moved : Bool) (planned : Option Range) → (is_some planned && not moved) ≡ true → (new : StoreState) × (cond moved None (option_map (migrated_to s) planned) ≡ Some new)
+some_by s true None e = cc
+some_by s true (Some to) e = cc
+some_by s false None e = cc
+some_by s false (Some to) e = (migrated_to s to, refl)
+
+pub a_move : (s : StoreState) → memory_due s ≡ true → (new : StoreState) × (migration s ≡ Some new)
+a_move s e = some_by s s.moved s.planned e
+
+-- an option is not both, nor is a list
+pub some_none : {A : Type 0} (o : Option A) (a : A) → o ≡ Some a → o ≡ None → ⊥
+some_none (Some b) a some none = cc
+some_none None a some none = cc
+
+pub cons_nil : {A : Type 0} (a : A) (rest xs : List A) → xs ≡ a ∷ rest → xs ≡ [] → ⊥
+cons_nil a rest [] e f = cc
+cons_nil a rest (x ∷ xs) e f = cc
+
+-- an event of a case
+pub went : (memory : Bool) (Stands : PeiMachine → Type 0) (catalog : Catalog) (fuel : ℕ) (m later : PeiMachine) (case : PeiCase) (changes : Changes) (known : ℕ) (answer : Stepped) (t : Texts)
+    → case_of catalog m ≡ case → in_case catalog fuel m case ≡ later → (IsIdle m → ⊥)
+    → changes.there.items ≡ case_placed catalog fuel m case → changes.gone ≡ case_taken catalog fuel m case → known ≡ length m.reported
+    → answer ≡ Went (record { there = changes.there; gone = changes.gone; known = known })
+    → HasStepped Stands m later t → StepsTo memory Stands catalog fuel m t (Ok answer)
+went memory Stands catalog fuel m later case changes known answer t e is busy there gone count answered h =
+    let to : pei_step catalog fuel m ≡ later = ap (in_case catalog fuel m) e ∙ is in
+    subst (λ x. StepsTo memory Stands catalog fuel m t (Ok x)) (sym answered) (
+      busy,
+      record { there = there ∙ ap (case_placed catalog fuel m) (sym e); gone = gone ∙ ap (case_taken catalog fuel m) (sym e); known = count },
+      subst (λ x. HasStepped Stands m x t) (sym to) h,
+    )
+
+-- a part of its lines
+pub part : (catalog : Catalog) (fuel : ℕ) (m later : PeiMachine) (case : PeiCase) (t : Texts) → case_of catalog m ≡ case → in_case catalog fuel m case ≡ later → PrintedPart m later t → PrintedPart m (pei_step catalog fuel m) t
+part catalog fuel m later case t e is h = subst (λ x. PrintedPart m x t) (sym (ap (in_case catalog fuel m) e ∙ is)) h
+
+-- an end
+pub ended : (memory : Bool) (Stands : PeiMachine → Type 0) (catalog : Catalog) (fuel : ℕ) (m : PeiMachine) (case : PeiCase) (end : PeiEnd) (t : Texts)
+    → case_of catalog m ≡ case → in_case catalog fuel m case ≡ record m { ended = Some end } → IsCut end → HasStayed Stands m t → StepsTo memory Stands catalog fuel m t (Ok (Ended end))
+ended memory Stands catalog fuel m case end t e is cut stayed = record { cut = cut; ended = ap (in_case catalog fuel m) e ∙ is; stayed = stayed }

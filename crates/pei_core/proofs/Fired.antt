@@ -1,41 +1,53 @@
 -- The core after a callback or a dispatch notification has begun.
-use Rattle.std.proofs.Common.{◌≡◌, false, cond, List, [], ◌∷◌, Some, None, refl, sym, ap, ◌∙◌, nat_le, length}
-use Rattle.boot_model.specs.declared.catalog.Catalog.{Catalog}
-use Rattle.boot_model.specs.declared.frame.Frame.{Frame}
-use Rattle.boot_model.specs.declared.store_handle.Firing.{Firing}
-use Rattle.boot_model.specs.declared.store_handle.Sweep.{Sweep}
-use Rattle.boot_model.specs.StoreState.{StoreState}
-use Rattle.boot_model.specs.PeiMachine.{PeiMachine, Deep}
-use Rattle.boot_model.specs.PeiStep.{fired, callback_begun, swept, core_swept, notification_frame, popped_to}
+use Rattle.std.proofs.Common.{◌≡◌, Bool, true, false, cond, List, [], ◌∷◌, Some, None, refl, sym, ap, ◌∙◌, subst, nat_le, not, length}
+use Rattle.catalog_model.specs.declared.catalog.Catalog.{Catalog}
+use Rattle.store_model.specs.declared.store_handle.Firing.{Firing}
+use Rattle.store_model.specs.declared.store_handle.Sweep.{Sweep}
+use Rattle.store_model.specs.StoreState.{StoreState}
+use Rattle.boot_model.specs.declared.phase_end.PeiEnd.TheVariants.{Deep}
+use Rattle.boot_model.specs.PeiMachine.{Frame, PeiMachine}
+use Rattle.boot_model.specs.PeiStep.{fired, callback_begun, core_swept, notification_frame, popped_to, swept}
 use Rattle.pei_core.specs.declared.core_state.Core.{Core}
+use Rattle.pei_core.specs.Cores.{with_callback, with_notification}
 use Rattle.pei_core.specs.Standing.{IsCoreOf}
+use Rattle.pei_core.proofs.PeimStates.{same_states}
 
--- fewer frames stand than may
-pub fired_is : (catalog : Catalog) (m : PeiMachine) (firing : Firing) (sweep : Sweep) (frames : List Frame) → m.frames ≡ frames → nat_le 64 (length frames) ≡ false → fired catalog m firing sweep ≡ callback_begun catalog m firing sweep
-fired_is catalog m firing sweep frames e few =
-    ap (λ b. cond b (record m { ended = Some Deep }) (callback_begun catalog m firing sweep)) (ap (λ xs. nat_le 64 (length xs)) e ∙ few)
+-- whether as many frames stand as may
+fired_by : (catalog : Catalog) (m : PeiMachine) (firing : Firing) (sweep : Sweep) (b : Bool) → nat_le 64 (length m.frames) ≡ b → fired catalog m firing sweep ≡ cond b (record m { ended = Some Deep }) (callback_begun catalog m firing sweep)
+fired_by catalog m firing sweep b e = ap (λ t. cond t (record m { ended = Some Deep }) (callback_begun catalog m firing sweep)) e
 
-pub fired_core : (catalog : Catalog) (m : PeiMachine) (firing : Firing) (sweep : Sweep) (core kept : Core) (frames : List Frame) → IsCoreOf core m
-    → kept ≡ record core { frames = swept core.frames sweep; sweep = core_swept core.frames sweep core.sweep } → frames ≡ notification_frame firing ∷ kept.frames
-    → IsCoreOf (record kept { frames = frames }) (callback_begun catalog m firing sweep)
-fired_core catalog m firing sweep core kept frames of is on = record {
-  frames = ap (λ xs. notification_frame firing ∷ swept xs sweep) of.frames ∙ ap (λ k. notification_frame firing ∷ k.frames) (sym is) ∙ sym on;
-  sweep = ap (λ xs. core_swept xs sweep m.core_sweep) of.frames ∙ ap (λ o. core_swept core.frames sweep o) of.sweep ∙ ap (λ k. k.sweep) (sym is);
-  reported = of.reported ∙ ap (λ k. k.reported) (sym is);
-  stages = rw is of.stages;
-  shadows = of.shadows ∙ ap (λ k. k.shadows) (sym is);
-  actions = of.actions ∙ ap (λ k. k.actions) (sym is);
-  starts = ap (λ k. k.starts) is ∙ of.starts;
+turned : (b : Bool) → not b ≡ true → b ≡ false
+turned true e = cc
+turned false e = refl
+
+turned_back : (b : Bool) → not b ≡ false → b ≡ true
+turned_back true e = refl
+turned_back false e = cc
+
+pub fired_begun : (catalog : Catalog) (m : PeiMachine) (firing : Firing) (sweep : Sweep) (core : Core) → IsCoreOf core m → not (nat_le 64 (length core.frames)) ≡ true → fired catalog m firing sweep ≡ callback_begun catalog m firing sweep
+fired_begun catalog m firing sweep core of room = fired_by catalog m firing sweep false (ap (λ xs. nat_le 64 (length xs)) of.frames ∙ turned (nat_le 64 (length core.frames)) room)
+
+pub fired_deep : (catalog : Catalog) (m : PeiMachine) (firing : Firing) (sweep : Sweep) (core : Core) → IsCoreOf core m → not (nat_le 64 (length core.frames)) ≡ false → fired catalog m firing sweep ≡ record m { ended = Some Deep }
+fired_deep catalog m firing sweep core of full = fired_by catalog m firing sweep true (ap (λ xs. nat_le 64 (length xs)) of.frames ∙ turned_back (nat_le 64 (length core.frames)) full)
+
+pub fired_core : (catalog : Catalog) (m : PeiMachine) (firing : Firing) (sweep : Sweep) (core : Core) → IsCoreOf core m → IsCoreOf (with_callback core firing sweep) (callback_begun catalog m firing sweep)
+fired_core catalog m firing sweep core of = record {
+  frames = ap (λ xs. notification_frame firing ∷ swept xs sweep) of.frames;
+  sweep = ap (λ xs. core_swept xs sweep m.core_sweep) of.frames ∙ ap (λ o. core_swept core.frames sweep o) of.sweep;
+  reported = of.reported;
+  states = same_states m (callback_begun catalog m firing sweep) core.states refl refl refl of.states;
+  shadows = of.shadows;
+  actions = of.actions;
+  starts = of.starts;
   running = of.running;
 }
 
-pub popped_core : (catalog : Catalog) (m : PeiMachine) (new : StoreState) (firing : Firing) (core : Core) (frames : List Frame) → IsCoreOf core m → frames ≡ notification_frame firing ∷ []
-    → IsCoreOf (record core { frames = frames; sweep = None }) (popped_to catalog m firing new)
-popped_core catalog m new firing core frames of on = record {
-  frames = sym on;
+pub popped_core : (catalog : Catalog) (m : PeiMachine) (new : StoreState) (firing : Firing) (core : Core) → IsCoreOf core m → IsCoreOf (with_notification core firing) (popped_to catalog m firing new)
+popped_core catalog m new firing core of = record {
+  frames = refl;
   sweep = refl;
   reported = of.reported;
-  stages = of.stages;
+  states = same_states m (popped_to catalog m firing new) core.states refl refl refl of.states;
   shadows = of.shadows;
   actions = of.actions;
   starts = of.starts;

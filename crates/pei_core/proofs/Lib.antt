@@ -1,16 +1,17 @@
-pub mod Acting
-pub mod Awaited
-pub mod Between
-pub mod Calls
-pub mod Cases
-pub mod Fired
-pub mod Going
-pub mod Moving
-pub mod Opened
-pub mod Reported
-pub mod Scripts
-pub mod Shadowed
-pub mod Sounded
-pub mod Staged
-pub mod Started
-pub mod Sweeps
+mod Acting
+mod Awaited
+mod Begun
+mod Calls
+mod Cases
+mod Fired
+mod Going
+mod Moving
+mod Opened
+mod Owned
+mod PeimStates
+mod Reported
+mod Sounded
+mod StartedHobs
+mod StartedSteps
+mod Shadowing
+mod Starting

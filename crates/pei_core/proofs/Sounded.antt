@@ -1,36 +1,52 @@
--- A step leaves a sound machine.
-use Rattle.std.proofs.Common.{Bool, sym, subst, Result, Ok, Err}
-use Rattle.boot_io.specs.declared.sink.SinkFault.{SinkFault}
-use Rattle.boot_model.specs.StoreState.{StoreState}
-use Rattle.boot_model.specs.PeiMachine.{PeiMachine}
-use Rattle.pei_sound.specs.Sound.{IsSound}
-use Rattle.pei_core.specs.declared.core_fault.CoreFault.{CoreFault}
-use Rattle.pei_core.specs.declared.core_fault.CoreFault.TheVariants as F
-use Rattle.pei_core.specs.declared.core_state.Core.{Core}
-use Rattle.pei_core.specs.declared.pei.Stepped.{Stepped}
-use Rattle.pei_core.specs.declared.pei.Stepped.TheVariants.{Went, Idle}
-use Rattle.pei_core.specs.Leaves.{Texts}
-use Rattle.pei_core.specs.Standing.{Have, StandFor}
-use Rattle.pei_core.specs.Starting.{Begins}
-use Rattle.pei_core.specs.Steps.{StepsTo, StartsTo, HasStepped, HasStayed}
+-- A step leaves a machine that is sound, and in which only modules that have started run scripts.
+use Rattle.std.proofs.Common.{◌≡◌, ℕ, Bool, true, Option, Some, None, Result, Ok, Err, refl, ap, ◌∙◌}
+use Rattle.std.specs.Prelude.{unwrap_or}
+use Rattle.pi_base.specs.declared.phase.Phase.TheVariants.{Pei}
+use Rattle.pi_base.specs.declared.word.Word.TheVariants.{Success}
+use Rattle.boot_io.specs.declared.halt.Halt.{Halt}
+use Rattle.boot_io.specs.declared.halt.Halt.TheVariants as H
+use Rattle.act_code.specs.declared.action.Action.{Action}
+use Rattle.act_code.specs.declared.action.Action.TheVariants.{Ret}
+use Rattle.act_code.specs.Index.{is_indexed}
+use Rattle.catalog_model.specs.declared.catalog.Catalog.{Catalog}
+use Rattle.catalog_model.specs.WellFormed.{IsWellFormed}
+use Rattle.store_model.specs.StoreState.{StoreState}
+use Rattle.boot_model.specs.MachineFacts.{IsSound}
+use Rattle.boot_model.specs.PeiMachine.{Frame, PeiMachine}
+use Rattle.boot_model.specs.PeiStep.{action_at, pei_step}
+use Rattle.frames.specs.Found.{found_action}
+use Rattle.frames.proofs.Scripts.{found_fits}
+use Rattle.pei_core.specs.declared.event.Stepped.{Stepped}
+use Rattle.pei_core.specs.declared.event.Stepped.TheVariants.{Went, Idle, Ended}
+use Rattle.pei_core.specs.declared.pei.Pei.{Pei as OfPei}
+use Rattle.pei_core.specs.Standing.{Has, StandsFor}
+use Rattle.pei_core.specs.Started.{RunsStarted}
+use Rattle.pei_core.specs.Steps.{HasStayed, HasStepped, StepsTo}
+use Rattle.pei_core.specs.Turn.{Texts}
+use Rattle.pei_core.proofs.Acting.{found}
 
-sounded : (stands : StoreState → Type 0) (core : Core) (m : PeiMachine) → Have stands core m → IsSound m → StandFor stands core m
-sounded stands core m have sound = record { store = have.0; fields = have.1; sound = sound }
+-- an action of a script names blocks below 64
+named_by : (catalog : Catalog) (frame : Frame) (action : Option Action) → IsWellFormed catalog → found_action Pei catalog frame ≡ action → is_indexed 64 (unwrap_or action (Ret Success)) ≡ true
+named_by catalog frame None well e = refl
+named_by catalog frame (Some action) well e = (found_fits Pei catalog frame action well e).fits.script.1
 
-stepped : (stands : StoreState → Type 0) (core : Core) (m later : PeiMachine) (t : Texts) → IsSound later → HasStepped (Have stands core) m later t → HasStepped (StandFor stands core) m later t
-stepped stands core m later t sound h = record { printed = h.printed; machine = sounded stands core later h.machine sound }
+pub names_are : (catalog : Catalog) → IsWellFormed catalog → (frame : Frame) → is_indexed 64 (action_at catalog frame) ≡ true
+names_are catalog well frame = ap (is_indexed 64) (found catalog frame) ∙ named_by catalog frame (found_action Pei catalog frame) well refl
 
-stayed : (stands : StoreState → Type 0) (core : Core) (m : PeiMachine) (t : Texts) → IsSound m → HasStayed (Have stands core) m t → HasStayed (StandFor stands core) m t
-stayed stands core m t sound h = record { text = h.text; machine = sounded stands core m h.machine sound }
+stands : {M : Type 0} (stands_for : M → StoreState → Type 0) (pei : OfPei M) (m : PeiMachine) → IsSound m → RunsStarted m → Has stands_for pei m → StandsFor stands_for pei m
+stands stands_for pei m sound started has = record { has = has; sound = sound; started = started }
 
-pub steps_sound : (memory : Bool) (stands : StoreState → Type 0) (core : Core) (m later : PeiMachine) (t : Texts) (result : Result Stepped CoreFault) → IsSound m → IsSound later → StepsTo memory (Have stands core) m later t result → StepsTo memory (StandFor stands core) m later t result
-steps_sound memory stands core m later t (Ok Went) sound after h = (h.0, stepped stands core m later t after h.1)
-steps_sound memory stands core m later t (Ok Idle) sound after h = (h.0, stayed stands core m t sound h.1)
-steps_sound memory stands core m later t (Err F.Spent) sound after h = (h.0, stayed stands core m t sound h.1)
-steps_sound memory stands core m later t (Err F.Deep) sound after h = (h.0, stayed stands core m t sound h.1)
-steps_sound memory stands core m later t (Err F.SinkFault) sound after h = h
-steps_sound memory stands core m later t (Err F.Memory) sound after h = h
+stepped : {M : Type 0} (stands_for : M → StoreState → Type 0) (pei : OfPei M) (m later : PeiMachine) (t : Texts) → IsSound later → RunsStarted later → HasStepped (Has stands_for pei) m later t → HasStepped (StandsFor stands_for pei) m later t
+stepped stands_for pei m later t sound started h = record { printed = h.printed; machine = stands stands_for pei later sound started h.machine }
 
-pub starts_sound : (stands : StoreState → Type 0) (core : Core) (m later : PeiMachine) (t : Texts) (result : Result (Unit {0}) SinkFault) → stands m.store → IsSound later → Begins core m later t result → StartsTo (StandFor stands core) m later t result
-starts_sound stands core m later t (Ok done) store after h = record { printed = h.printed; machine = record { store = subst stands (sym h.store) store; fields = h.fields; sound = after } }
-starts_sound stands core m later t (Err fault) store after h = h
+stayed : {M : Type 0} (stands_for : M → StoreState → Type 0) (pei : OfPei M) (m : PeiMachine) (t : Texts) → IsSound m → RunsStarted m → HasStayed (Has stands_for pei) m t → HasStayed (StandsFor stands_for pei) m t
+stayed stands_for pei m t sound started h = record { text = h.text; machine = stands stands_for pei m sound started h.machine }
+
+pub steps_sound : (result : Result Stepped Halt) {M : Type 0} (memory : Bool) (stands_for : M → StoreState → Type 0) (pei : OfPei M) (catalog : Catalog) (fuel : ℕ) (m : PeiMachine) (t : Texts)
+    → IsSound m → RunsStarted m → IsSound (pei_step catalog fuel m) → RunsStarted (pei_step catalog fuel m)
+    → StepsTo memory (Has stands_for pei) catalog fuel m t result → StepsTo memory (StandsFor stands_for pei) catalog fuel m t result
+steps_sound (Ok (Went event)) memory stands_for pei catalog fuel m t sound started after runs h = (h.0, h.1, stepped stands_for pei m (pei_step catalog fuel m) t after runs h.2)
+steps_sound (Ok Idle) memory stands_for pei catalog fuel m t sound started after runs h = (h.0, stayed stands_for pei m t sound started h.1)
+steps_sound (Ok (Ended end)) memory stands_for pei catalog fuel m t sound started after runs h = record { cut = h.cut; ended = h.ended; stayed = stayed stands_for pei m t sound started h.stayed }
+steps_sound (Err H.Sink) memory stands_for pei catalog fuel m t sound started after runs h = h
+steps_sound (Err H.Memory) memory stands_for pei catalog fuel m t sound started after runs h = h

@@ -1,9 +1,7 @@
-pub mod AfterTaken
 pub mod Awaiting
-pub mod FoundAction
-pub mod FrameStack
-pub mod Leaves
+pub mod Cores
+pub mod Parts
 pub mod Standing
-pub mod Starting
+pub mod Started
 pub mod Steps
-pub mod Told
+pub mod Turn

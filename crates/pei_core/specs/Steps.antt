@@ -1,20 +1,32 @@
--- What one step of the core answers and leaves.
+-- What a step of the core answers and leaves, and what a start does.
 -- Own.
-use Rattle.std.specs.Prelude.{◌≡◌, Bool, true, [], Some, None, Result, Ok, Err}
+use Rattle.std.specs.Prelude.{◌≡◌, ℕ, Bool, true, List, [], Some, None, Option, Result, Ok, Err, length, ⊤}
 use Rattle.std.specs.Io.KnownBytes.{Appends}
-use Rattle.boot_io.specs.declared.sink.SinkFault.{SinkFault}
-use Rattle.boot_model.specs.Migration.{migration}
-use Rattle.boot_model.specs.Service.Queue.{queue_pop}
-use Rattle.boot_model.specs.Service.Sweep.{next_match}
 use Rattle.std.specs.Option.{option_and_then}
+use Rattle.boot_io.specs.declared.halt.Halt.{Halt}
+use Rattle.boot_io.specs.declared.halt.Halt.TheVariants as H
+use Rattle.boot_io.specs.declared.sink.SinkFault.{SinkFault}
+use Rattle.pi_base.specs.declared.phase.Phase.TheVariants as Phase
+use Rattle.catalog_model.specs.declared.catalog.Catalog.{Catalog}
+use Rattle.catalog_model.specs.declared.catalog.Part.{Part}
+use Rattle.catalog_model.specs.Parts.{part_at}
+use Rattle.store_model.specs.StoreState.{StoreState}
+use Rattle.store_model.specs.Migration.{migration}
+use Rattle.store_model.specs.Service.Queue.{queue_pop}
+use Rattle.store_model.specs.Service.Sweep.{next_match}
+use Rattle.boot_model.specs.declared.licence.Licence.{Licence}
+use Rattle.boot_model.specs.declared.phase_end.PeiEnd.{PeiEnd}
+use Rattle.boot_model.specs.declared.phase_end.PeiEnd.TheVariants as E
+use Rattle.boot_model.specs.Eligible.{licence_at}
+use Rattle.boot_model.specs.EventGuids.{pei_placed, pei_taken}
 use Rattle.boot_model.specs.PeiMachine.{PeiMachine}
-use Rattle.boot_model.specs.PeiMachine as M
-use Rattle.boot_model.specs.PeiStep.{open_sweep}
-use Rattle.pei_core.specs.declared.core_fault.CoreFault.{CoreFault}
-use Rattle.pei_core.specs.declared.core_fault.CoreFault.TheVariants as F
-use Rattle.pei_core.specs.declared.pei.Stepped.{Stepped}
-use Rattle.pei_core.specs.declared.pei.Stepped.TheVariants.{Went, Idle}
-use Rattle.pei_core.specs.Leaves.{Texts, Printed, PrintedPart}
+use Rattle.boot_model.specs.PeiStep.{open_sweep, pei_step, started}
+use Rattle.pei_core.specs.declared.event.Event.{Event}
+use Rattle.pei_core.specs.declared.event.Stepped.{Stepped}
+use Rattle.pei_core.specs.declared.event.Stepped.TheVariants.{Went, Idle, Ended}
+use Rattle.pei_core.specs.declared.pei.Pei.{Pei}
+use Rattle.pei_core.specs.Standing.{IsFor, StandsFor}
+use Rattle.pei_core.specs.Turn.{Texts, Printed, PrintedPart}
 
 -- no script runs, no pair of the open sweep fires, no move is due and no pair is queued: a start or the end is left
 pub record IsIdle (m : PeiMachine) : Type 0 where
@@ -22,6 +34,12 @@ pub record IsIdle (m : PeiMachine) : Type 0 where
   pub frames : m.frames ≡ []
   pub moves : migration m.store ≡ None
   pub pops : queue_pop m.store ≡ None
+
+-- what the event from a machine did: the GUIDs that it put in, the one that it took away, and how many volumes were reported before it
+pub record IsEvent (catalog : Catalog) (fuel : ℕ) (m : PeiMachine) (event : Event) : Type 0 where
+  pub there : event.there.items ≡ pei_placed catalog fuel m
+  pub gone : event.gone ≡ pei_taken catalog fuel m
+  pub known : event.known ≡ length m.reported
 
 -- the machine is the later one now, and its lines were put
 pub record HasStepped (Stands : PeiMachine → Type 0) (m later : PeiMachine) (t : Texts) : Type 0 where
@@ -33,21 +51,45 @@ pub record HasStayed (Stands : PeiMachine → Type 0) (m : PeiMachine) (t : Text
   pub text : Appends t.old t.new []
   pub machine : Stands m
 
--- by the answer, where the step leads to a machine; memory is wanting only where the store takes it
-abbrev pub StepsTo : Bool → (PeiMachine → Type 0) → PeiMachine → PeiMachine → Texts → Result Stepped CoreFault → Type 0
-StepsTo memory Stands m later t (Ok Went) = (IsIdle m → ⊥) × HasStepped Stands m later t
-StepsTo memory Stands m later t (Ok Idle) = IsIdle m × HasStayed Stands m t
-StepsTo memory Stands m later t (Err F.Spent) = (later ≡ record m { ended = Some M.Spent }) × HasStayed Stands m t
-StepsTo memory Stands m later t (Err F.Deep) = (later ≡ record m { ended = Some M.Deep }) × HasStayed Stands m t
-StepsTo memory Stands m later t (Err F.SinkFault) = PrintedPart m later t
-StepsTo memory Stands m later t (Err F.Memory) = (memory ≡ true) × PrintedPart m later t
+-- the ends that come before an action or a notification
+abbrev pub IsCut : PeiEnd → Type 0
+IsCut E.Handoff = ⊥
+IsCut E.NoMemory = ⊥
+IsCut E.NoIpl = ⊥
+IsCut E.Spent = ⊤
+IsCut E.Deep = ⊤
 
--- the answer of a step, of whether it could be taken
-abbrev pub went_by : Result (Unit {0}) CoreFault → Result Stepped CoreFault
-went_by (Ok _) = Ok Went
-went_by (Err fault) = Err fault
+-- the machine ends so from here, and is as it was
+pub record HasEnded (Stands : PeiMachine → Type 0) (catalog : Catalog) (fuel : ℕ) (m : PeiMachine) (end : PeiEnd) (t : Texts) : Type 0 where
+  pub cut : IsCut end
+  pub ended : pei_step catalog fuel m ≡ record m { ended = Some end }
+  pub stayed : HasStayed Stands m t
+
+-- a step from a machine, by its answer; memory is wanting only where the store takes it
+abbrev pub StepsTo : Bool → (PeiMachine → Type 0) → Catalog → ℕ → PeiMachine → Texts → Result Stepped Halt → Type 0
+StepsTo memory Stands catalog fuel m t (Ok (Went event)) = (IsIdle m → ⊥) × IsEvent catalog fuel m event × HasStepped Stands m (pei_step catalog fuel m) t
+StepsTo memory Stands catalog fuel m t (Ok Idle) = IsIdle m × HasStayed Stands m t
+StepsTo memory Stands catalog fuel m t (Ok (Ended end)) = HasEnded Stands catalog fuel m end t
+StepsTo memory Stands catalog fuel m t (Err H.Sink) = PrintedPart m (pei_step catalog fuel m) t
+StepsTo memory Stands catalog fuel m t (Err H.Memory) = (memory ≡ true) × PrintedPart m (pei_step catalog fuel m) t
+
+-- the same from each machine that the core over its store stands for
+abbrev pub Steps : {M : Type 0} → Bool → (M → StoreState → Type 0) → Catalog → Pei M → Pei M → Option (List ℕ) → Option (List ℕ) → Result Stepped Halt → Type 0
+Steps memory stands catalog pei later old new result =
+    (m : PeiMachine) (fuel : ℕ) → IsFor catalog fuel pei → StandsFor stands pei m
+    → StepsTo memory (StandsFor stands later) catalog fuel m (record { old = old; new = new }) result
 
 -- a start, by its answer
 abbrev pub StartsTo : (PeiMachine → Type 0) → PeiMachine → PeiMachine → Texts → Result (Unit {0}) SinkFault → Type 0
 StartsTo Stands m later t (Ok _) = HasStepped Stands m later t
 StartsTo Stands m later t (Err _) = PrintedPart m later t
+
+-- the licence is that of the module's start from here
+abbrev pub IsLicenceAt : Catalog → PeiMachine → ℕ → Licence → Type 0
+IsLicenceAt catalog m number licence = (part : Part) → part_at Phase.Pei catalog number ≡ Some part → licence ≡ licence_at m number part
+
+-- the same from each machine that the core over its store stands for and in which the licence is the module's
+abbrev pub Starts : {M : Type 0} → (M → StoreState → Type 0) → Catalog → Pei M → ℕ → Licence → Pei M → Option (List ℕ) → Option (List ℕ) → Result (Unit {0}) SinkFault → Type 0
+Starts stands catalog pei number licence later old new result =
+    (m : PeiMachine) → StandsFor stands pei m → IsLicenceAt catalog m number licence
+    → StartsTo (StandsFor stands later) m (started catalog m number) (record { old = old; new = new }) result

@@ -1,103 +1,157 @@
 // The next action of the top frame.
-ghost use Rattle.std.specs.Prelude.{◌≡◌, ◌<◌, ◌∷◌, ℕ, List, length, option_copied};
+ghost use Rattle.std.specs.Prelude.{◌<◌, ℕ, length};
+ghost use Rattle.boot_io.specs.Halted.{HaltsAfter};
+ghost use Rattle.boot_io.specs.Sink.{SinkFaultsAfter};
 ghost use Rattle.boot_model.specs.PeiMachine.{PeiMachine};
-ghost use Rattle.boot_model.specs.PeiAction as E;
-ghost use Rattle.boot_model.specs.PeiStep as P;
-ghost use Rattle.boot_model.specs.Service.{Present};
-ghost use Rattle.boot_model.specs.WellFormed.{IsWellFormed};
-ghost use Rattle.boot_model.specs.declared.frame.Frame.{Frame as OfFrame};
-ghost use Rattle.pei_action.specs.Needs.{HoldRegisters, IsModuleNumber, IsScriptAction};
-ghost use Rattle.pei_core.specs.Awaiting.{AreShadows};
-ghost use Rattle.pei_core.specs.FoundAction.{found_action, found_block};
+ghost use Rattle.catalog_model.specs.WellFormed.{IsWellFormed};
+ghost use Rattle.catalog_model.specs.declared.catalog.Catalog.{Catalog as OfCatalog};
+ghost use Rattle.pi_base.specs.Lists.{Each};
+ghost use Rattle.store_model.specs.StateFacts.{IsDesc};
+ghost use Rattle.store_model.specs.Service.{Present};
 ghost use Rattle.volume_list.specs.Known.{AreKnown};
-ghost use Rattle.pei_core.specs.Leaves.{Goes, Leaves, BrokenAfter, FaultsAfter};
-ghost use Rattle.pei_core.specs.Standing.{IsCoreOf, IsCoreFor};
-ghost use Rattle.pei_core.specs.declared.called.TheConstants.{MOST_ACTIONS};
+ghost use Rattle.frames.specs.Needs.{IsWithin};
+ghost use Rattle.pei_core.specs.Awaiting.{AreShadows};
+ghost use Rattle.pei_core.specs.Parts.{Acts, Registers, Replies, RunsScript, StepsScript, TakesOwn};
+ghost use Rattle.pei_core.specs.Standing.{IsFor, KeepsFor, StandsFor, last_start};
 
-use crate::broken::{Broken, answer};
-use crate::core_fault::CoreFault;
-use crate::core_state::Core;
-use crate::taken::{end_frame, finish};
+use crate::event::Stepped;
+use crate::pei::Pei;
+use crate::reports::{print, put_reports};
 use act_code::Action;
-use boot_io::Sink;
-use boot_model::{Catalog, Frame, PeiStore};
-use pei_action::{replies_are_sound, take_action};
-use pei_choice::pei_part;
-use pi_base::{OutOfMemory, Seq, Word};
+use boot_io::{Halt, Sink, SinkFault};
+use boot_laws::replies_are_sound;
+use boot_model::{CallName, Extra, Line, PeiEnd};
+use catalog_model::Catalog;
+use frames::{Acted, Writes, act, effects_are_alike};
+use pei_action::{Changes, Reply, Taken, changes_of, take_own};
+use pi_base::Phase;
+use store_model::PeiStore;
 
-// The block in which a frame stands.
-fn block_of<'a>(catalog: &'a Catalog, frame: &Frame) -> Option<&'a Seq<Action>>
-    ensures { option_copied result ≡ found_block catalog.now frame.now }
-{
-    match pei_part(catalog, frame.module_number) {
-        Some(part) => part.script.blocks.as_slice().get(frame.block as usize),
-        None => None,
+impl<M: PeiStore + Drop> Pei<M> {
+    // The module of the top frame registers for shadow.
+    fn shadow<S: Sink>(&mut self, number: u32, sink: &mut S) -> Result<(), SinkFault>
+        requires within { IsWithin self.old.core.frames }
+        requires here { number < length self.old.core.states }
+        requires shadows { AreShadows self.old.core.states self.old.core.shadows }
+        ensures row { Registers M.stands_for self.old number self.new (S.text sink.old) (S.text sink.new) result }
+        ensures kept { (catalog : OfCatalog) → KeepsFor catalog self.old self.new (last_start self.old) }
+        ensures faults { SinkFaultsAfter result (S.faults sink.old) (S.faults sink.new) }
+    {
+        let status = self.core.register(number);
+        self.core.frames.answer(&Writes::Nothing, status, None);
+        print(
+            sink,
+            Line::Call {
+                name: CallName::Shadow,
+                status,
+                extra: Extra::Nothing,
+            },
+        )
     }
-}
 
-// The action at which a frame stands. None behind the end of its block, and where there is no such block.
-fn action_at<'a>(catalog: &'a Catalog, frame: &Frame) -> Option<&'a Action>
-    ensures { option_copied result ≡ found_action catalog.now frame.now }
-{
-    match block_of(catalog, frame) {
-        Some(block) => block.as_slice().get(frame.position as usize),
-        None => None,
+    // A call of the top frame was answered: its line, and a line for each volume that it reports.
+    fn answer<S: Sink>(
+        &mut self,
+        catalog: &Catalog,
+        reply: Reply,
+        sink: &mut S,
+    ) -> Result<(), SinkFault>
+        requires catalog { IsWellFormed catalog.now }
+        requires within { IsWithin self.old.core.frames }
+        requires known { AreKnown catalog.now self.old.core.reported }
+        requires state { Present (M.stands_for self.old.store) (λ s. Each (IsDesc s) reply.installs.items) }
+        ensures row { Replies M.stands_for catalog.now self.old reply self.new (S.text sink.old) (S.text sink.new) result }
+        ensures kept { KeepsFor catalog.now self.old self.new (last_start self.old) }
+        ensures faults { SinkFaultsAfter result (S.faults sink.old) (S.faults sink.new) }
+    {
+        let known = self.core.reported.as_slice().len();
+        let Reply {
+            name,
+            status,
+            extra,
+            writes,
+            sweep,
+            installs,
+        } = reply;
+        self.core.frames.answer(&writes, status, sweep);
+        self.core
+            .reported
+            .report(catalog, &self.store, installs.as_slice());
+        print(
+            sink,
+            Line::Call {
+                name,
+                status,
+                extra,
+            },
+        )?;
+        put_reports(sink, self.core.reported.as_slice().split_at(known).1)
     }
-}
 
-// The top frame takes an action.
-fn take<M: PeiStore, S: Sink>(
-    store: &mut M,
-    core: &mut Core,
-    catalog: &Catalog,
-    frame: Frame,
-    action: &Action,
-    sink: &mut S,
-) -> Result<(), Broken>
-    requires catalog { IsWellFormed catalog.now }
-    requires action { IsScriptAction action.now }
-    requires known { AreKnown catalog.now core.old.reported }
-    requires number { IsModuleNumber frame.module_number }
-    requires here { frame.module_number < length core.old.stages }
-    requires shadows { AreShadows core.old.stages core.old.shadows }
-    requires position { frame.position < MOST_ACTIONS }
-    requires state { Present (M.stands_for store.old) (HoldRegisters frame.registers) }
-    ensures row { (m : PeiMachine) (below : List OfFrame) → IsCoreOf core.old m → m.frames ≡ frame ∷ below → M.stands_for store.old m.store → HoldRegisters frame.registers m.store → Goes M.TAKES_MEMORY (M.stands_for store.new) core.new m (P.after_effect catalog.now m frame below (E.effect m.store frame action.now)) (record { old = S.text sink.old; new = S.text sink.new }) result }
-    ensures faults { BrokenAfter result (S.faults sink.old) (S.faults sink.new) }
-    ensures core { (fuel : ℕ) → IsCoreFor catalog.now fuel core.old → IsCoreFor catalog.now fuel core.new }
-    ensures last { core.new.last_start ≡ core.old.last_start }
-{
-    replies_are_sound();
-    let mut acting = frame;
-    match take_action(store, &mut acting, action) {
-        Ok(taken) => finish(store, core, catalog, acting, taken, sink),
-        Err(OutOfMemory) => Err(Broken::Memory),
+    // The top frame takes an action of PEI's own, which was counted.
+    fn act_own<S: Sink>(
+        &mut self,
+        catalog: &Catalog,
+        action: &Action,
+        sink: &mut S,
+    ) -> Result<Changes, Halt>
+        requires catalog { IsWellFormed catalog.now }
+        requires made { (fuel : ℕ) × IsFor catalog.now fuel self.old }
+        requires state { (m : PeiMachine) × StandsFor M.stands_for self.old m × TakesOwn catalog.now action.now m }
+        ensures row { Acts M.TAKES_MEMORY M.stands_for catalog.now action.now self.old self.new (S.text sink.old) (S.text sink.new) result }
+        ensures kept { KeepsFor catalog.now self.old self.new (last_start self.old) }
+        ensures faults { HaltsAfter result (S.faults sink.old) (S.faults sink.new) }
+    {
+        replies_are_sound();
+        let Some(frame) = self.core.frames.top() else {
+            unreachable!()
+        };
+        let number = frame.module_number;
+        let changes = changes_of(&self.store, frame, action);
+        match take_own(&mut self.store, frame, action)? {
+            Taken::Wrote { status, writes } => {
+                self.core.frames.answer(&writes, status, None);
+                Ok(Changes::none())
+            }
+            Taken::Called(reply) => {
+                let status = reply.status;
+                self.answer(catalog, reply, sink)?;
+                Ok(changes.of_call(status))
+            }
+            Taken::Shadowed => {
+                self.shadow(number, sink)?;
+                Ok(Changes::none())
+            }
+        }
     }
-}
 
-/// The top frame takes its next action, unless the fuel is spent.
-pub(crate) fn act<M: PeiStore, S: Sink>(
-    store: &mut M,
-    core: &mut Core,
-    catalog: &Catalog,
-    frame: Frame,
-    sink: &mut S,
-) -> Result<(), CoreFault>
-    requires catalog { IsWellFormed catalog.now }
-    requires core { IsCoreFor catalog.now core.old.fuel core.old }
-    requires number { IsModuleNumber frame.module_number }
-    requires state { Present (M.stands_for store.old) (HoldRegisters frame.registers) }
-    ensures row { (m : PeiMachine) (below : List OfFrame) → IsCoreOf core.old m → m.frames ≡ frame ∷ below → M.stands_for store.old m.store → HoldRegisters frame.registers m.store → Leaves M.TAKES_MEMORY (M.stands_for store.new) core.new m (P.acted catalog.now core.old.fuel m frame below) (record { old = S.text sink.old; new = S.text sink.new }) result }
-    ensures faults { FaultsAfter result (S.faults sink.old) (S.faults sink.new) }
-    ensures core { IsCoreFor catalog.now core.old.fuel core.new }
-    ensures last { core.new.last_start ≡ core.old.last_start }
-{
-    if core.actions >= core.fuel {
-        return Err(CoreFault::Spent);
-    }
-    core.actions += 1;
-    match action_at(catalog, &frame) {
-        Some(action) => answer(take(store, core, catalog, frame, action, sink)),
-        None => answer(end_frame(core, Word::Success, sink)),
+    // The top frame takes its next action, unless the fuel is spent.
+    pub(crate) fn act<S: Sink>(&mut self, catalog: &Catalog, sink: &mut S) -> Result<Stepped, Halt>
+        requires catalog { IsWellFormed catalog.now }
+        requires made { (fuel : ℕ) × IsFor catalog.now fuel self.old }
+        requires state { (m : PeiMachine) × StandsFor M.stands_for self.old m × RunsScript m }
+        ensures row { StepsScript M.TAKES_MEMORY M.stands_for catalog.now self.old self.new (S.text sink.old) (S.text sink.new) result }
+        ensures kept { KeepsFor catalog.now self.old self.new (last_start self.old) }
+        ensures faults { HaltsAfter result (S.faults sink.old) (S.faults sink.new) }
+    {
+        effects_are_alike();
+        let known = self.core.reported.as_slice().len();
+        match act(
+            &mut self.core.frames,
+            &mut self.core.fuel,
+            catalog,
+            Phase::Pei,
+        ) {
+            Acted::Spent => Ok(Stepped::Ended(PeiEnd::Spent)),
+            Acted::Silent => Ok(Stepped::by(Changes::none(), known)),
+            Acted::Prints(line) => {
+                print(sink, line)?;
+                Ok(Stepped::by(Changes::none(), known))
+            }
+            Acted::Own(action) => {
+                let changes = self.act_own(catalog, action, sink)?;
+                Ok(Stepped::by(changes, known))
+            }
+        }
     }
 }

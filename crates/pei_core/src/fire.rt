@@ -1,107 +1,101 @@
 // The open sweep, and the callbacks that it fires.
-ghost use Rattle.std.specs.Prelude.{◌≡◌, ℕ, false};
+ghost use Rattle.std.specs.Prelude.{◌≡◌, ℕ, Some, None, length, nat_le, not, if◌then◌else◌};
 ghost use Rattle.std.specs.Option.{option_and_then};
-ghost use Rattle.boot_model.specs.PeiMachine.{PeiMachine, frame_at as at};
+ghost use Rattle.boot_io.specs.Halted.{HaltsAfter};
+ghost use Rattle.boot_model.specs.PeiMachine.{PeiMachine};
 ghost use Rattle.boot_model.specs.PeiStep as P;
-ghost use Rattle.boot_model.specs.Service.Sweep.{next_match};
-ghost use Rattle.pei_core.specs.Leaves.{Leaves, FaultsAfter};
-ghost use Rattle.pei_core.specs.Standing.{IsCoreOf, IsCoreFor, StandFor};
+ghost use Rattle.boot_model.specs.declared.frame.TheConstants.{MOST_FRAMES};
+ghost use Rattle.store_model.specs.Service.Sweep.{next_match};
+ghost use Rattle.pei_core.specs.Cores.{with_callback};
+ghost use Rattle.pei_core.specs.Parts.{FiresNext, StepsFired};
+ghost use Rattle.pei_core.specs.Standing.{IsCoreOf, IsFor, KeepsFor, StandsFor, last_start};
 
-use crate::broken::{answer, told};
-use crate::core_fault::CoreFault;
 use crate::core_state::Core;
+use crate::event::Stepped;
 use crate::names::callback_line;
-use boot_io::Sink;
-use boot_model::{BLOCKS, Catalog, Firing, Frame, PeiStore, REGISTERS, Register, Sweep};
-use boot_trace::put;
-use pi_base::Word;
-
-/// A frame at the first action of a block.
-pub(crate) fn frame_at(number: u32, block: u8, registers: [Register; REGISTERS]) -> Frame
-    ensures { result ≡ at number block registers }
-{
-    Frame {
-        module_number: number,
-        block,
-        position: 0,
-        registers,
-        last: Word::Success,
-        sweep: None,
-    }
-}
+use crate::pei::Pei;
+use crate::reports::print;
+use boot_io::{Halt, Sink};
+use boot_model::{BLOCKS, PeiEnd, PeiFrame, Register};
+use catalog_model::Catalog;
+use frames::{begin_notification, notified};
+use pei_action::Changes;
+use store_model::{Firing, PeiStore, Sweep};
 
 /// The frame in which a notification runs.
-pub(crate) fn notification_frame(firing: &Firing) -> Frame
+pub(crate) fn notification_frame(firing: &Firing) -> PeiFrame
     ensures { result ≡ P.notification_frame firing.now }
 {
-    let mut registers = [Register::Empty; REGISTERS];
-    registers[0] = Register::Number(firing.value);
-    registers[1] = Register::DescriptorIn(firing.ppi);
-    frame_at(
+    notified(
         firing.entry / BLOCKS,
         (firing.entry % BLOCKS) as u8,
-        registers,
+        Register::Number(firing.value),
+        Register::DescriptorIn(firing.ppi),
     )
 }
 
-// The sweep that is open: the top frame's, or without frames the core's.
-fn open_sweep(core: &Core) -> Option<Sweep>
-    ensures { (m : PeiMachine) → IsCoreOf core.now m → result ≡ P.open_sweep m m.frames }
-{
-    match core.frames.top() {
-        Some(frame) => frame.sweep,
-        None => core.sweep,
+impl Core {
+    // The sweep that is open: the top frame's, or without frames the core's.
+    fn open_sweep(&self) -> Option<Sweep>
+        ensures { (m : PeiMachine) → IsCoreOf self.now m → result ≡ P.open_sweep m m.frames }
+    {
+        match self.frames.top() {
+            Some(frame) => frame.sweep,
+            None => self.sweep,
+        }
+    }
+
+    // A callback begins, unless as many frames stand as may. Whether it begins.
+    fn begin_callback(&mut self, firing: &Firing, sweep: Sweep) -> bool
+        ensures room { result ≡ not (nat_le MOST_FRAMES (length self.old.frames)) }
+        ensures core { self.new ≡ (if result then with_callback self.old firing.now sweep else self.old) }
+    {
+        let is_outermost = self.frames.top().is_none();
+        if !begin_notification(&mut self.frames, notification_frame(firing), sweep) {
+            return false;
+        }
+        if is_outermost {
+            self.sweep = Some(sweep);
+        }
+        true
     }
 }
 
-/// The first pair of the open sweep that fires now, with the sweep behind it.
-pub(crate) fn next_firing<M: PeiStore>(store: &M, core: &Core) -> Option<(Firing, Sweep)>
-    requires state { (m : PeiMachine) × StandFor (M.stands_for store.now) core.now m }
-    ensures { (m : PeiMachine) → StandFor (M.stands_for store.now) core.now m → result ≡ option_and_then (next_match m.store) (P.open_sweep m m.frames) }
-{
-    match open_sweep(core) {
-        None => None,
-        Some(open) => {
-            let mut sweep = open;
-            match store.next_match(&mut sweep) {
-                Some(firing) => Some((firing, sweep)),
-                None => None,
+impl<M: PeiStore + Drop> Pei<M> {
+    // The first pair of the open sweep that fires now, with the sweep behind it.
+    pub(crate) fn next_firing(&self) -> Option<(Firing, Sweep)>
+        requires state { (m : PeiMachine) × StandsFor M.stands_for self.now m }
+        ensures { (m : PeiMachine) → StandsFor M.stands_for self.now m → FiresNext result m }
+    {
+        match self.core.open_sweep() {
+            None => None,
+            Some(open) => {
+                let mut sweep = open;
+                match self.store.next_match(&mut sweep) {
+                    Some(firing) => Some((firing, sweep)),
+                    None => None,
+                }
             }
         }
     }
-}
 
-// The open sweep stands behind a pair.
-fn keep_sweep(core: &mut Core, sweep: Sweep)
-    ensures { core.new ≡ record core.old { frames = P.swept core.old.frames sweep; sweep = P.core_swept core.old.frames sweep core.old.sweep } }
-{
-    match core.frames.top() {
-        Some(frame) => {
-            let mut top = frame;
-            top.sweep = Some(sweep);
-            core.frames.set_top(top);
+    // The callback of a pair that fires begins, unless as many frames stand as may.
+    pub(crate) fn fire<S: Sink>(
+        &mut self,
+        catalog: &Catalog,
+        next: (Firing, Sweep),
+        sink: &mut S,
+    ) -> Result<Stepped, Halt>
+        ensures row { StepsFired next M.TAKES_MEMORY M.stands_for catalog.now self.old self.new (S.text sink.old) (S.text sink.new) result }
+        ensures kept { KeepsFor catalog.now self.old self.new (last_start self.old) }
+        ensures faults { HaltsAfter result (S.faults sink.old) (S.faults sink.new) }
+    {
+        let (firing, sweep) = next;
+        let known = self.core.reported.as_slice().len();
+        if !self.core.begin_callback(&firing, sweep) {
+            return Ok(Stepped::Ended(PeiEnd::Deep));
         }
-        None => core.sweep = Some(sweep),
+        print(sink, callback_line(catalog, &firing))?;
+        Ok(Stepped::by(Changes::none(), known))
     }
-}
-
-/// A callback begins, unless as many frames stand as may.
-pub(crate) fn begin_callback<S: Sink>(
-    core: &mut Core,
-    catalog: &Catalog,
-    firing: Firing,
-    sweep: Sweep,
-    sink: &mut S,
-) -> Result<(), CoreFault>
-    ensures row { (m : PeiMachine) → IsCoreOf core.old m → Leaves false (λ s. s ≡ m.store) core.new m (P.fired catalog.now m firing sweep) (record { old = S.text sink.old; new = S.text sink.new }) result }
-    ensures faults { FaultsAfter result (S.faults sink.old) (S.faults sink.new) }
-    ensures core { (fuel : ℕ) → IsCoreFor catalog.now fuel core.old → IsCoreFor catalog.now fuel core.new }
-    ensures last { core.new.last_start ≡ core.old.last_start }
-{
-    if core.frames.is_full() {
-        return Err(CoreFault::Deep);
-    }
-    keep_sweep(core, sweep);
-    core.frames.push(notification_frame(&firing));
-    answer(told(put(sink, &callback_line(catalog, &firing))))
 }

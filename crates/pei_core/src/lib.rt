@@ -2,27 +2,20 @@
 #![tactic(auto)]
 
 mod act;
-mod broken;
-mod called;
-mod core_fault;
 mod core_state;
+mod event;
 mod fire;
-mod frames;
 mod move_memory;
 mod names;
 mod pei;
 mod queue;
 mod reports;
 mod shadows;
-mod stages;
 mod start;
+mod states;
 mod step;
-mod taken;
 
-pub use core_fault::CoreFault;
+pub use event::{Event, MOST_INSTALLED, Stepped};
 pub use names::{name_of, volume_of};
-pub use pei::{Pei, Stepped};
+pub use pei::Pei;
 pub use reports::put_reports;
-
-#[cfg(test)]
-mod tests;

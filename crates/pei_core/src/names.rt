@@ -1,11 +1,13 @@
 //! What lines say of modules.
 ghost use Rattle.std.specs.Prelude.{◌≡◌};
 ghost use Rattle.boot_model.specs.PeiMachine.{PeiMachine};
-ghost use Rattle.boot_model.specs.Parts.{module_name, module_volume};
+ghost use Rattle.catalog_model.specs.Parts.{module_name, module_volume};
 ghost use Rattle.boot_model.specs.PeiStep.{callback_line, dispatch_line, start_line};
 
-use boot_model::{BLOCKS, Catalog, Firing, Licence, Line};
+use boot_model::{BLOCKS, Licence, Line};
+use catalog_model::Catalog;
 use pi_base::Guid;
+use store_model::Firing;
 
 /// The number of a module's volume; 0 where there is no such module.
 pub fn volume_of(catalog: &Catalog, number: u32) -> u32

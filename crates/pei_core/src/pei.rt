@@ -1,45 +1,32 @@
 //! The core over a store.
-ghost use Rattle.std.specs.Prelude.{◌≡◌, ◌≤◌, ◌+◌, ◌-◌, ◌^◌, min, ℕ, Some, None, IfOk, length, is_some, true};
+ghost use Rattle.std.specs.Prelude.{◌≡◌, ◌≤◌, ◌+◌, ◌-◌, ◌^◌, min, ℕ, Some, None, IfOk, IsTrue, length, is_some, true};
+ghost use Rattle.boot_io.specs.Halted.{HaltsAfter};
 ghost use Rattle.boot_io.specs.Sink.{SinkFaultsAfter};
-ghost use Rattle.boot_model.specs.Eligible.{licence_at};
-ghost use Rattle.boot_model.specs.Parts.{part_at};
-ghost use Rattle.boot_model.specs.PeiMachine.{PeiMachine};
-ghost use Rattle.boot_model.specs.PeiRun.{pei_opening};
-ghost use Rattle.boot_model.specs.PeiStep.{pei_step, started};
-ghost use Rattle.boot_model.specs.StoreState.{Board, empty_store};
-ghost use Rattle.boot_model.specs.WellFormed.{IsWellFormed};
-ghost use Rattle.boot_model.specs.declared.catalog.Catalog.{Catalog as OfCatalog};
-ghost use Rattle.boot_model.specs.declared.catalog.Part.{Part as OfPart};
+ghost use Rattle.catalog_model.specs.Parts.{part_at};
+ghost use Rattle.catalog_model.specs.WellFormed.{IsWellFormed};
+ghost use Rattle.catalog_model.specs.declared.catalog.Catalog.{Catalog as OfCatalog};
 ghost use Rattle.pi_base.specs.declared.phase.Phase.TheVariants.{Pei as InPei};
+ghost use Rattle.boot_model.specs.PeiMachine.{PeiMachine};
+ghost use Rattle.boot_model.specs.PeimState.{ArePeimStates, awaits_start, peim_state};
 ghost use Rattle.pei_core.specs.Awaiting.{awaiting};
-ghost use Rattle.pei_core.specs.Leaves.{FaultsAfter};
-ghost use Rattle.pei_core.specs.Standing.{StandsFor, IsFor, last_start};
-ghost use Rattle.pei_choice.specs.Standing.{AreStages};
-ghost use Rattle.pei_core.specs.Steps.{IsIdle, StepsTo, StartsTo};
+ghost use Rattle.pei_core.specs.Standing.{IsFor, KeepsFor, Opens, StandsFor, last_start};
+ghost use Rattle.pei_core.specs.Steps.{IsIdle, Steps, Starts};
 
-use crate::core_fault::CoreFault;
 use crate::core_state::Core;
-use crate::frames::Frames;
+use crate::event::Stepped;
+use crate::names::start_line;
 use crate::shadows::Shadows;
-use crate::stages;
-use crate::start::start_module;
-use crate::step::step;
-use boot_io::{Sink, SinkFault};
-use boot_model::{Catalog, Licence, PeiStore};
-use pei_choice::Stage;
-use pei_sound::{opening_is_sound, starts_keep_sound, steps_keep_sound};
+use crate::start::put_start;
+use crate::states::none_started;
+use boot_io::{Halt, Sink, SinkFault};
+use boot_laws::{opening_is_sound, starts_keep_sound, steps_keep_sound};
+use boot_model::{Licence, PeimState};
+use catalog_model::Catalog;
+use frames::{Frames, Fuel};
 use pi_base::OutOfMemory;
 use std::alloc::Global;
+use store_model::PeiStore;
 use volume_list::VolumeList;
-
-/// What a step did.
-#[derive(Clone, Copy, Debug, PartialEq, Eq)]
-pub enum Stepped {
-    /// One event of the machine.
-    Went,
-    /// Nothing: no script runs, no notification is due, and no move. A start is left, or the end.
-    Idle,
-}
 
 /// The PEI core over a store, and the machine of PEI that both stand for.
 #[derive(Drop)]
@@ -58,47 +45,45 @@ impl<M: PeiStore + Drop> Pei<M> {
     ) -> Result<Pei<M>, OutOfMemory>
         requires catalog { IsWellFormed catalog.now }
         requires some { 1 ≤ length catalog.now.volumes }
-        ensures opening { IfOk result (λ pei. (board : Board) → M.stands_for store (empty_store board) → StandsFor M.stands_for pei (pei_opening board catalog.now)) }
+        ensures opening { IfOk result (Opens M.stands_for store catalog.now) }
         ensures made { IfOk result (IsFor catalog.now fuel) }
         ensures last { IfOk result (λ pei. last_start pei ≡ None) }
     {
         opening_is_sound();
         let mut reported = VolumeList::new();
         reported.add(catalog, Some(0));
-        match stages::waiting(alloc, catalog.modules.len()) {
-            Ok(stages) => Ok(Pei {
-                store,
-                core: Core {
-                    frames: Frames::new(),
-                    sweep: None,
-                    reported,
-                    stages,
-                    shadows: Shadows::new(),
-                    actions: 0,
-                    fuel,
-                    starts: 0,
-                    last_start: None,
+        Ok(Pei {
+            store,
+            core: Core {
+                frames: Frames::new(),
+                sweep: None,
+                reported,
+                states: none_started(alloc, catalog.modules.len())?,
+                shadows: Shadows::new(),
+                fuel: Fuel {
+                    taken: 0,
+                    limit: fuel,
                 },
-            }),
-            Err(OutOfMemory) => Err(OutOfMemory),
-        }
+                starts: 0,
+                last_start: None,
+            },
+        })
     }
 
     /// One step of the machine, with its lines.
-    pub fn step<S: Sink>(&mut self, catalog: &Catalog, sink: &mut S) -> Result<Stepped, CoreFault>
+    pub fn step<S: Sink>(&mut self, catalog: &Catalog, sink: &mut S) -> Result<Stepped, Halt>
         requires catalog { IsWellFormed catalog.now }
         requires made { (fuel : ℕ) × IsFor catalog.now fuel self.old }
         requires state { (m : PeiMachine) × StandsFor M.stands_for self.old m }
-        ensures row { (m : PeiMachine) (fuel : ℕ) → IsFor catalog.now fuel self.old → StandsFor M.stands_for self.old m → StepsTo M.TAKES_MEMORY (StandsFor M.stands_for self.new) m (pei_step catalog.now fuel m) (record { old = S.text sink.old; new = S.text sink.new }) result }
-        ensures made { (fuel : ℕ) → IsFor catalog.now fuel self.old → IsFor catalog.now fuel self.new }
-        ensures last { last_start self.new ≡ last_start self.old }
-        ensures faults { FaultsAfter result (S.faults sink.old) (S.faults sink.new) }
+        ensures row { Steps M.TAKES_MEMORY M.stands_for catalog.now self.old self.new (S.text sink.old) (S.text sink.new) result }
+        ensures kept { KeepsFor catalog.now self.old self.new (last_start self.old) }
+        ensures faults { HaltsAfter result (S.faults sink.old) (S.faults sink.new) }
     {
         steps_keep_sound();
-        step(&mut self.store, &mut self.core, catalog, sink)
+        self.step_by_case(catalog, sink)
     }
 
-    /// A module starts, by a licence, where a step would do nothing.
+    /// A module starts, by a licence, where a step would do nothing and a start of the module is still to come.
     pub fn start<S: Sink>(
         &mut self,
         catalog: &Catalog,
@@ -108,15 +93,15 @@ impl<M: PeiStore + Drop> Pei<M> {
     ) -> Result<(), SinkFault>
         requires catalog { IsWellFormed catalog.now }
         requires made { (fuel : ℕ) × IsFor catalog.now fuel self.old }
-        requires state { (m : PeiMachine) × StandsFor M.stands_for self.old m × IsIdle m }
+        requires state { (m : PeiMachine) × StandsFor M.stands_for self.old m × IsIdle m × IsTrue (awaits_start (peim_state m number)) }
         requires part { is_some (part_at InPei catalog.now number) ≡ true }
-        ensures row { (m : PeiMachine) → StandsFor M.stands_for self.old m → ((part : OfPart) → part_at InPei catalog.now number ≡ Some part → licence ≡ licence_at m number part) → StartsTo (StandsFor M.stands_for self.new) m (started catalog.now m number) (record { old = S.text sink.old; new = S.text sink.new }) result }
-        ensures made { (fuel : ℕ) → IsFor catalog.now fuel self.old → IsFor catalog.now fuel self.new }
-        ensures last { last_start self.new ≡ Some number }
+        ensures row { Starts M.stands_for catalog.now self.old number licence self.new (S.text sink.old) (S.text sink.new) result }
+        ensures kept { KeepsFor catalog.now self.old self.new (Some number) }
         ensures faults { SinkFaultsAfter result (S.faults sink.old) (S.faults sink.new) }
     {
         starts_keep_sound();
-        start_module(&mut self.core, catalog, number, licence, sink)
+        let runs = self.core.start(catalog, number);
+        put_start(sink, start_line(catalog, number, licence), runs)
     }
 
     /// The store.
@@ -140,11 +125,11 @@ impl<M: PeiStore + Drop> Pei<M> {
         self.core.reported.as_slice()
     }
 
-    /// How far each module has come.
-    pub fn stages(&self) -> &[Stage]
-        ensures { (m : PeiMachine) → StandsFor M.stands_for self.now m → AreStages m result.now }
+    /// How far each module has come, by number.
+    pub fn states(&self) -> &[PeimState]
+        ensures { (m : PeiMachine) → StandsFor M.stands_for self.now m → ArePeimStates m result.now }
     {
-        self.core.stages.as_slice()
+        self.core.states.as_slice()
     }
 
     /// The modules that registered for shadow and have not started again, in the order in which they registered.
@@ -158,14 +143,14 @@ impl<M: PeiStore + Drop> Pei<M> {
     pub fn actions(&self) -> u32
         ensures { (m : PeiMachine) → StandsFor M.stands_for self.now m → result ≡ m.actions }
     {
-        self.core.actions
+        self.core.fuel.taken
     }
 
     /// How many actions may be taken.
     pub fn fuel(&self) -> u32
         ensures { (catalog : OfCatalog) (fuel : ℕ) → IsFor catalog fuel self.now → result ≡ fuel }
     {
-        self.core.fuel
+        self.core.fuel.limit
     }
 
     /// The number of starts, also of second ones; it stays at the last u32.

@@ -1,33 +1,54 @@
 // The queue of dispatch notifications.
-ghost use Rattle.std.specs.Prelude.{◌≡◌, ℕ, [], false};
+ghost use Rattle.std.specs.Prelude.{◌≡◌, ℕ, []};
+ghost use Rattle.boot_io.specs.Halted.{HaltsAfter};
 ghost use Rattle.boot_model.specs.PeiMachine.{PeiMachine};
-ghost use Rattle.boot_model.specs.StoreState.{StoreState};
-ghost use Rattle.boot_model.specs.PeiStep.{popped_to};
-ghost use Rattle.pei_core.specs.Leaves.{Goes, BrokenAfter};
-ghost use Rattle.pei_core.specs.Standing.{IsCoreOf, IsCoreFor};
+ghost use Rattle.pei_core.specs.Cores.{with_notification};
+ghost use Rattle.pei_core.specs.Parts.{Pops, StepsIn};
+ghost use Rattle.pei_core.specs.Standing.{KeepsFor, StandsFor, last_start};
 
-use crate::broken::{Broken, told};
 use crate::core_state::Core;
+use crate::event::Stepped;
 use crate::fire::notification_frame;
 use crate::names::dispatch_line;
-use boot_io::Sink;
-use boot_model::{Catalog, Firing};
-use boot_trace::put;
+use crate::pei::Pei;
+use crate::reports::print;
+use boot_io::{Halt, Sink};
+use catalog_model::Catalog;
+use pei_action::Changes;
+use store_model::{Firing, PeiStore};
 
-/// A dispatch notification that has left the queue begins.
-pub(crate) fn begin_dispatch<S: Sink>(
-    core: &mut Core,
-    catalog: &Catalog,
-    firing: Firing,
-    sink: &mut S,
-) -> Result<(), Broken>
-    requires none { core.old.frames ≡ [] }
-    ensures row { (m : PeiMachine) (new : StoreState) → IsCoreOf core.old m → Goes false (λ s. s ≡ new) core.new m (popped_to catalog.now m firing new) (record { old = S.text sink.old; new = S.text sink.new }) result }
-    ensures faults { BrokenAfter result (S.faults sink.old) (S.faults sink.new) }
-    ensures core { (fuel : ℕ) → IsCoreFor catalog.now fuel core.old → IsCoreFor catalog.now fuel core.new }
-    ensures last { core.new.last_start ≡ core.old.last_start }
-{
-    core.sweep = None;
-    core.frames.push(notification_frame(&firing));
-    told(put(sink, &dispatch_line(catalog, &firing)))
+impl Core {
+    // A dispatch notification begins, where no script runs.
+    fn begin_dispatch(&mut self, firing: &Firing)
+        requires { self.old.frames ≡ [] }
+        ensures { self.new ≡ with_notification self.old firing.now }
+    {
+        self.sweep = None;
+        self.frames.begin(notification_frame(firing));
+    }
+}
+
+impl<M: PeiStore + Drop> Pei<M> {
+    // The first queued pair leaves the queue, and its notification begins; or none is left, and nothing is done.
+    pub(crate) fn step_queue<S: Sink>(
+        &mut self,
+        catalog: &Catalog,
+        sink: &mut S,
+    ) -> Result<Stepped, Halt>
+        requires frames { self.old.core.frames ≡ [] }
+        requires state { (m : PeiMachine) × StandsFor M.stands_for self.old m }
+        ensures row { StepsIn Pops M.TAKES_MEMORY M.stands_for catalog.now self.old self.new (S.text sink.old) (S.text sink.new) result }
+        ensures kept { KeepsFor catalog.now self.old self.new (last_start self.old) }
+        ensures faults { HaltsAfter result (S.faults sink.old) (S.faults sink.new) }
+    {
+        let known = self.core.reported.as_slice().len();
+        match self.store.queue_pop() {
+            None => Ok(Stepped::Idle),
+            Some(firing) => {
+                self.core.begin_dispatch(&firing);
+                print(sink, dispatch_line(catalog, &firing))?;
+                Ok(Stepped::by(Changes::none(), known))
+            }
+        }
+    }
 }

@@ -1,11 +1,9 @@
 //! The modules that await their second start.
-ghost use Rattle.std.specs.Prelude.{◌≡◌, ◌<◌, ◌==◌, [], length, not, filter, false};
-ghost use Rattle.boot_model.specs.declared.limits.TheConstants.{MOST_MODULES};
-ghost use Rattle.pei_core.specs.Awaiting.{after_registering, after_starting};
+ghost use Rattle.std.specs.Prelude.{◌≡◌, ◌<◌, ◌==◌, ◌++◌, ◌∷◌, [], length, not, filter};
+ghost use Rattle.catalog_model.specs.declared.limits.TheConstants.{MOST_MODULES};
 
 use arrayvec::ArrayVec;
-use boot_model::MOST_MODULES;
-use pei_choice::Stage;
+use catalog_model::MOST_MODULES;
 use std::marker::Model;
 
 /// Numbers of modules in the order in which they registered for shadow.
@@ -39,27 +37,16 @@ impl Shadows {
         self.numbers.as_slice()
     }
 
-    /// A module of this stage registers for shadow. The first time it is put at the end, unless it has had its second start.
-    pub fn register(&mut self, stage: Stage, number: u32)
-        requires room { stage.registered ≡ false → length self.old < MOST_MODULES }
-        ensures { self.new ≡ after_registering stage number self.old }
+    /// One more, at the end.
+    pub fn push(&mut self, number: u32)
+        requires room { length self.old < MOST_MODULES }
+        ensures { self.new ≡ self.old ++ number ∷ [] }
     {
-        if !stage.registered && !stage.again {
-            self.numbers.push(number);
-        }
+        self.numbers.push(number);
     }
 
-    /// A module of this stage starts. A second start takes it out.
-    pub fn start(&mut self, stage: Stage, number: u32)
-        ensures { self.new ≡ after_starting stage number self.old }
-    {
-        if stage.started {
-            self.remove(number);
-        }
-    }
-
-    // Takes a number out.
-    fn remove(&mut self, number: u32)
+    /// Takes a number out.
+    pub fn remove(&mut self, number: u32)
         ensures { self.new ≡ filter (λ other. not (other == number)) self.old }
     {
         self.numbers.retain(|other| *other != number);

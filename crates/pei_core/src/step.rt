@@ -1,96 +1,65 @@
-// One step of the machine.
-ghost use Rattle.std.specs.Prelude.{◌≡◌, [], ℕ, None};
-ghost use Rattle.std.specs.Option.{option_and_then};
-ghost use Rattle.boot_model.specs.Service.Sweep.{next_match};
+// One step of the machine, by its cases.
+ghost use Rattle.std.specs.Prelude.{◌≡◌, ℕ, [], None};
+ghost use Rattle.boot_io.specs.Halted.{HaltsAfter};
 ghost use Rattle.boot_model.specs.PeiMachine.{PeiMachine};
-ghost use Rattle.boot_model.specs.PeiStep.{pei_step, open_sweep};
-ghost use Rattle.boot_model.specs.WellFormed.{IsWellFormed};
-ghost use Rattle.pei_core.specs.Leaves.{FaultsAfter};
-ghost use Rattle.pei_core.specs.Standing.{IsCoreFor, Have, StandFor};
-ghost use Rattle.pei_core.specs.Steps.{StepsTo, went_by};
+ghost use Rattle.catalog_model.specs.WellFormed.{IsWellFormed};
+ghost use Rattle.pei_core.specs.Parts.{FiresNext, StepsAll, StepsBetween, StepsQuiet};
+ghost use Rattle.pei_core.specs.Standing.{IsFor, KeepsFor, StandsFor, last_start};
 
-use crate::act::act;
-use crate::broken::answer;
-use crate::core_fault::CoreFault;
-use crate::core_state::Core;
-use crate::fire::{begin_callback, next_firing};
-use crate::move_memory::move_memory;
-use crate::pei::Stepped;
-use crate::queue::begin_dispatch;
-use boot_io::Sink;
-use boot_model::{Catalog, PeiStore};
+use crate::event::Stepped;
+use crate::pei::Pei;
+use boot_io::{Halt, Sink};
+use catalog_model::Catalog;
+use store_model::PeiStore;
 
-// A step that was taken.
-fn went(done: Result<(), CoreFault>) -> Result<Stepped, CoreFault>
-    ensures { result ≡ went_by done }
-{
-    match done {
-        Ok(()) => Ok(Stepped::Went),
-        Err(fault) => Err(fault),
+impl<M: PeiStore + Drop> Pei<M> {
+    // A step between scripts: the move, where it is due, or a notification of the queue.
+    fn step_between<S: Sink>(&mut self, catalog: &Catalog, sink: &mut S) -> Result<Stepped, Halt>
+        requires frames { self.old.core.frames ≡ [] }
+        requires state { (m : PeiMachine) × StandsFor M.stands_for self.old m }
+        ensures row { StepsBetween M.TAKES_MEMORY M.stands_for catalog.now self.old self.new (S.text sink.old) (S.text sink.new) result }
+        ensures kept { KeepsFor catalog.now self.old self.new (last_start self.old) }
+        ensures faults { HaltsAfter result (S.faults sink.old) (S.faults sink.new) }
+    {
+        if self.store.memory_due() {
+            self.move_memory(sink)
+        } else {
+            self.step_queue(catalog, sink)
+        }
     }
-}
 
-// A step between scripts.
-fn step_between<M: PeiStore, S: Sink>(
-    store: &mut M,
-    core: &mut Core,
-    catalog: &Catalog,
-    sink: &mut S,
-) -> Result<Stepped, CoreFault>
-    requires idle { core.old.frames ≡ [] }
-    requires state { (m : PeiMachine) × Have (M.stands_for store.old) core.old m }
-    ensures row { (m : PeiMachine) → Have (M.stands_for store.old) core.old m → option_and_then (next_match m.store) (open_sweep m m.frames) ≡ None → StepsTo M.TAKES_MEMORY (Have (M.stands_for store.new) core.new) m (pei_step catalog.now core.old.fuel m) (record { old = S.text sink.old; new = S.text sink.new }) result }
-    ensures faults { FaultsAfter result (S.faults sink.old) (S.faults sink.new) }
-    ensures core { (fuel : ℕ) → IsCoreFor catalog.now fuel core.old → IsCoreFor catalog.now fuel core.new }
-    ensures last { core.new.last_start ≡ core.old.last_start }
-{
-    if store.memory_due() {
-        return went(answer(move_memory(store, core, sink)));
+    // A step where no pair of the open sweep fires.
+    fn step_on<S: Sink>(&mut self, catalog: &Catalog, sink: &mut S) -> Result<Stepped, Halt>
+        requires catalog { IsWellFormed catalog.now }
+        requires made { (fuel : ℕ) × IsFor catalog.now fuel self.old }
+        requires state { (m : PeiMachine) × StandsFor M.stands_for self.old m × FiresNext None m }
+        ensures row { StepsQuiet M.TAKES_MEMORY M.stands_for catalog.now self.old self.new (S.text sink.old) (S.text sink.new) result }
+        ensures kept { KeepsFor catalog.now self.old self.new (last_start self.old) }
+        ensures faults { HaltsAfter result (S.faults sink.old) (S.faults sink.new) }
+    {
+        if self.core.frames.top().is_some() {
+            self.act(catalog, sink)
+        } else {
+            self.step_between(catalog, sink)
+        }
     }
-    match store.queue_pop() {
-        Some(firing) => went(answer(begin_dispatch(core, catalog, firing, sink))),
-        None => Ok(Stepped::Idle),
-    }
-}
 
-// A step where no pair of the open sweep fires.
-fn step_on<M: PeiStore, S: Sink>(
-    store: &mut M,
-    core: &mut Core,
-    catalog: &Catalog,
-    sink: &mut S,
-) -> Result<Stepped, CoreFault>
-    requires catalog { IsWellFormed catalog.now }
-    requires core { IsCoreFor catalog.now core.old.fuel core.old }
-    requires state { (m : PeiMachine) × StandFor (M.stands_for store.old) core.old m }
-    ensures row { (m : PeiMachine) → StandFor (M.stands_for store.old) core.old m → option_and_then (next_match m.store) (open_sweep m m.frames) ≡ None → StepsTo M.TAKES_MEMORY (Have (M.stands_for store.new) core.new) m (pei_step catalog.now core.old.fuel m) (record { old = S.text sink.old; new = S.text sink.new }) result }
-    ensures faults { FaultsAfter result (S.faults sink.old) (S.faults sink.new) }
-    ensures core { IsCoreFor catalog.now core.old.fuel core.new }
-    ensures last { core.new.last_start ≡ core.old.last_start }
-{
-    match core.frames.top() {
-        Some(frame) => went(act(store, core, catalog, frame, sink)),
-        None => step_between(store, core, catalog, sink),
-    }
-}
-
-/// One step.
-pub(crate) fn step<M: PeiStore, S: Sink>(
-    store: &mut M,
-    core: &mut Core,
-    catalog: &Catalog,
-    sink: &mut S,
-) -> Result<Stepped, CoreFault>
-    requires catalog { IsWellFormed catalog.now }
-    requires core { IsCoreFor catalog.now core.old.fuel core.old }
-    requires state { (m : PeiMachine) × StandFor (M.stands_for store.old) core.old m }
-    ensures row { (m : PeiMachine) → StandFor (M.stands_for store.old) core.old m → StepsTo M.TAKES_MEMORY (Have (M.stands_for store.new) core.new) m (pei_step catalog.now core.old.fuel m) (record { old = S.text sink.old; new = S.text sink.new }) result }
-    ensures faults { FaultsAfter result (S.faults sink.old) (S.faults sink.new) }
-    ensures core { IsCoreFor catalog.now core.old.fuel core.new }
-    ensures last { core.new.last_start ≡ core.old.last_start }
-{
-    match next_firing(store, core) {
-        Some((firing, sweep)) => went(begin_callback(core, catalog, firing, sweep, sink)),
-        None => step_on(store, core, catalog, sink),
+    // The first case that applies: a callback, the top frame's action, or what comes between scripts.
+    pub(crate) fn step_by_case<S: Sink>(
+        &mut self,
+        catalog: &Catalog,
+        sink: &mut S,
+    ) -> Result<Stepped, Halt>
+        requires catalog { IsWellFormed catalog.now }
+        requires made { (fuel : ℕ) × IsFor catalog.now fuel self.old }
+        requires state { (m : PeiMachine) × StandsFor M.stands_for self.old m }
+        ensures row { StepsAll M.TAKES_MEMORY M.stands_for catalog.now self.old self.new (S.text sink.old) (S.text sink.new) result }
+        ensures kept { KeepsFor catalog.now self.old self.new (last_start self.old) }
+        ensures faults { HaltsAfter result (S.faults sink.old) (S.faults sink.new) }
+    {
+        match self.next_firing() {
+            Some(next) => self.fire(catalog, next, sink),
+            None => self.step_on(catalog, sink),
+        }
     }
 }

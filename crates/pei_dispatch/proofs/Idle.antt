@@ -1,22 +1,22 @@
 -- What a step is where the machine is idle; and where it is not, that the cursor stays.
 use Rattle.std.proofs.Common.{◌≡◌, ℕ, ◌+◌, Bool, true, false, cond, List, [], ◌∷◌, Option, Some, None, refl, ap, Ok, Err, nat_le, length}
 use Rattle.std.specs.Option.{option_and_then}
-use Rattle.boot_model.specs.declared.catalog.Catalog.{Catalog}
-use Rattle.boot_model.specs.declared.frame.Frame.{Frame}
+use Rattle.catalog_model.specs.declared.catalog.Catalog.{Catalog}
+use Rattle.boot_model.specs.PeiMachine.{Frame}
 use Rattle.boot_model.specs.declared.line.Line.TheVariants as L
-use Rattle.boot_model.specs.declared.store_handle.Firing.{Firing}
-use Rattle.boot_model.specs.declared.store_handle.Sweep.{Sweep}
-use Rattle.boot_model.specs.Migration.{migration}
-use Rattle.boot_model.specs.Parts.{has_number}
-use Rattle.boot_model.specs.PeiAction.{Effect, Wrote, Called, Shadowed, Logged, Skipped, Returned, effect}
+use Rattle.store_model.specs.declared.store_handle.Firing.{Firing}
+use Rattle.store_model.specs.declared.store_handle.Sweep.{Sweep}
+use Rattle.store_model.specs.Migration.{migration}
+use Rattle.catalog_model.specs.Parts.{has_number}
+use Rattle.boot_model.specs.PeiAction.{Effect, Wrote, Called, Own, Shadowed, Logged, Skipped, Returned, effect}
 use Rattle.boot_model.specs.PeiChoice.{next_peim}
 use Rattle.boot_model.specs.PeiMachine.{PeiMachine, printed}
 use Rattle.boot_model.specs.PeiStep.{Starts, Stops, in_case, pei_step, action_at, after_effect, core_called, open_sweep, started, stopped}
-use Rattle.boot_model.specs.Service.{Service}
-use Rattle.boot_model.specs.Service.Install.{core_install}
-use Rattle.boot_model.specs.Service.Queue.{queue_pop}
-use Rattle.boot_model.specs.Service.Sweep.{next_match}
-use Rattle.boot_model.specs.StoreState.{StoreState}
+use Rattle.store_model.specs.Service.{Service}
+use Rattle.store_model.specs.Service.Install.{core_install}
+use Rattle.store_model.specs.Service.Queue.{queue_pop}
+use Rattle.store_model.specs.Service.Sweep.{next_match}
+use Rattle.store_model.specs.StoreState.{StoreState}
 use Rattle.boot_laws.proofs.PeiCases.{cases}
 use Rattle.pei_core.specs.Steps.{IsIdle}
 
@@ -55,7 +55,7 @@ either_stays n false one other h k = k
 effect_stays : (catalog : Catalog) (m : PeiMachine) (frame : Frame) (below : List Frame) (e : Effect) → (after_effect catalog m frame below e).cursor ≡ m.cursor
 effect_stays catalog m frame below (Wrote registers status) = refl
 effect_stays catalog m frame below (Called name reply) = refl
-effect_stays catalog m frame below Shadowed = either_stays m.cursor (has_number m.shadows frame.module_number) _ _ refl refl
+effect_stays catalog m frame below (Own Shadowed) = either_stays m.cursor (has_number m.shadows frame.module_number) _ _ refl refl
 effect_stays catalog m frame below (Logged text) = refl
 effect_stays catalog m frame below (Skipped n) = refl
 effect_stays catalog m frame below (Returned status) = refl

@@ -1,7 +1,10 @@
-mod Feeding
+mod Choosing
+mod Counting
+mod Ending
 mod Growing
 mod Idle
 mod Lines
+mod Reported
 mod Runs
 mod Starts
 mod Stops

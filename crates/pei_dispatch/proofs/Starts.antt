@@ -1,27 +1,35 @@
--- What a start leaves: the licence that it needs, and where the cursor then stands.
-use Rattle.std.proofs.Common.{◌≡◌, ◌≤◌, ℕ, ◌+◌, Bool, true, false, cond, List, [], ◌∷◌, Option, Some, None, sym, ap, ◌∙◌, subst, length, arith}
-use Rattle.std.specs.Prelude.{if◌then◌else◌, ◌==◌}
+-- What a start leaves: the licence that it needs, where the cursor then stands, and that the module before it is the one that started.
+use Rattle.std.proofs.Common.{◌≡◌, ◌≤◌, ◌||◌, ℕ, zero, suc, ◌+◌, Bool, true, false, cond, List, [], ◌∷◌, Option, Some, None, sym, ap, ◌∙◌, subst, refl, length, arith}
+use Rattle.std.specs.Prelude.{if◌then◌else◌, ◌==◌, slice_get}
+use Rattle.std.proofs.lemmas.Bool.Decides.{nat_tests}
 use Rattle.pi_base.specs.declared.phase.Phase.TheVariants.{Pei}
-use Rattle.boot_model.specs.declared.catalog.Catalog.{Catalog}
-use Rattle.boot_model.specs.declared.catalog.Part.{Part}
+use Rattle.catalog_model.specs.declared.catalog.Catalog.{Catalog}
+use Rattle.catalog_model.specs.declared.catalog.Part.{Part}
+use Rattle.catalog_model.specs.Parts.{part_at, has_number}
+use Rattle.store_model.specs.StoreState.{StoreState}
 use Rattle.boot_model.specs.declared.licence.Licence.{Licence}
 use Rattle.boot_model.specs.declared.licence.Licence.TheVariants as G
+use Rattle.boot_model.specs.declared.peim_state.PeimState.{PeimState}
 use Rattle.boot_model.specs.Eligible.{licence_at, licence_by}
-use Rattle.boot_model.specs.Parts.{part_at, has_number}
-use Rattle.boot_model.specs.PeiChoice.{cursor_behind}
+use Rattle.boot_model.specs.PeiChoice.{pei_order, cursor_behind}
 use Rattle.boot_model.specs.PeiMachine.{PeiMachine}
+use Rattle.boot_model.specs.PeimState.{ArePeimStates, has_started, state_at}
 use Rattle.boot_model.specs.PeiStep.{started, started_part}
 use Rattle.pei_choice.specs.declared.order.PeiOrder.{PeiOrder}
-use Rattle.pei_choice.specs.declared.stage.Stage.{Stage}
-use Rattle.pei_choice.specs.Order.{IsPeiOrder, parts_of}
-use Rattle.pei_choice.specs.Standing.{AreStages, stage_at}
-use Rattle.pei_dispatch.specs.Turns.{IsPlaced}
+use Rattle.pei_choice.specs.Order.{IsPeiOrder, IsPlaced}
+use Rattle.pei_core.specs.declared.pei.Pei.{Pei as OfPei}
+use Rattle.pei_core.specs.Standing.{StandsFor, last_start}
+use Rattle.pei_core.specs.Steps.{IsLicenceAt}
+use Rattle.pei_dispatch.specs.Ends.{KeepsLast}
+use Rattle.pei_dispatch.specs.LastStart.{just_before, last_started}
+use Rattle.pei_dispatch.specs.Turns.{IsNow, IsNext}
 
--- the licence of the stage is that of the machine
-pub licence_is : (m : PeiMachine) (number : ℕ) (stages : List Stage) (stage : Stage) (part other : Part) (licence : Licence) → AreStages m stages → stage ≡ stage_at stages number
-    → licence ≡ (if stage.started then G.Shadow else licence_by part.rank part.expr) → part ≡ other → licence ≡ licence_at m number other
-licence_is m number stages stage part other licence are is made same =
-    let started : stage.started ≡ has_number m.started number = ap (λ (s : Stage). s.started) is ∙ sym (are number).0 in
+-- the licence of the state is that of the machine
+pub licence_is : (catalog : Catalog) (m : PeiMachine) (number : ℕ) (states : List PeimState) (state : PeimState) (part : Part) (licence : Licence) → part_at Pei catalog number ≡ Some part
+    → ArePeimStates m states → state ≡ state_at states number → licence ≡ (if has_started state then G.Shadow else licence_by part.rank part.expr) → IsLicenceAt catalog m number licence
+licence_is catalog m number states state part licence found are is made other there =
+    let same : part ≡ other = cc in
+    let started : has_started state ≡ has_number m.started number = ap has_started is ∙ sym (are number).started in
     made ∙ ap (λ b. if b then G.Shadow else licence_by part.rank part.expr) started ∙ ap (λ (p : Part). licence_at m number p) same
 
 either_within : (n : ℕ) (b : Bool) (one other : ℕ) → one ≤ n → other ≤ n → cond b one other ≤ n
@@ -29,22 +37,47 @@ either_within n true one other h k = h
 either_within n false one other h k = k
 
 -- the place behind a module lies in the order
-pub behind_within : (order : List ℕ) (number : ℕ) → cursor_behind order number ≤ length order
+behind_within : (order : List ℕ) (number : ℕ) → cursor_behind order number ≤ length order
 behind_within [] number = omega arith
 behind_within (first ∷ rest) number =
     let below = behind_within rest number in
     either_within (length (first ∷ rest)) (first == number) 1 (1 + cursor_behind rest number) (omega arith) (omega (arith, below))
 
+-- the module just before the place behind one that is in the order
+one_before : (rest : List ℕ) (first number : ℕ) (b : Bool) → (first == number) ≡ b → (has_number rest number ≡ true → just_before (cursor_behind rest number) rest ≡ Some number)
+    → (b || has_number rest number) ≡ true → just_before (cond b 1 (1 + cursor_behind rest number)) (first ∷ rest) ≡ Some number
+one_before rest first number true e later among = let same : first ≡ number = grind (arith, nat_tests) in ap (λ n. Some n) same
+one_before rest first number false e later among = shifted (cursor_behind rest number) (later among)
+  where
+    shifted : (n : ℕ) → just_before n rest ≡ Some number → just_before (1 + n) (first ∷ rest) ≡ Some number
+    shifted zero h = cc
+    shifted (suc n) h = let e : 1 + suc n ≡ suc (suc n) = omega arith in rw e h
+
+stands_before : (order : List ℕ) (number : ℕ) → has_number order number ≡ true → just_before (cursor_behind order number) order ≡ Some number
+stands_before [] number among = cc
+stands_before (first ∷ rest) number among = one_before rest first number (first == number) refl (stands_before rest number) among
+
 -- what a start leaves, by the part
-placed_by : (catalog : Catalog) (m : PeiMachine) (number : ℕ) (o : Option Part) (part : Part) (kept : PeiOrder) (place : ℕ) → o ≡ Some part → IsPeiOrder catalog m.reported kept
-    → place ≡ cursor_behind (parts_of kept) number → IsPlaced catalog (started_part catalog m number o) kept place
-placed_by catalog m number None part kept place some order is = cc
-placed_by catalog m number (Some other) part kept place some order is = record {
-  order = order;
-  cursor = sym (is ∙ ap (λ parts. cursor_behind parts number) order);
-  within = let P : ℕ → Type 0 = λ n. n ≤ length (parts_of kept) in subst P (sym is) (behind_within (parts_of kept) number);
+now_by : {M : Type 0} (stands : M → StoreState → Type 0) (catalog : Catalog) (later : OfPei M) (m : PeiMachine) (number : ℕ) (o : Option Part) (part : Part) (order moved : PeiOrder) → o ≡ Some part
+    → IsPeiOrder catalog m.reported order → moved.parts ≡ order.parts → moved.cursor ≡ cursor_behind order.parts number → StandsFor stands later (started_part catalog m number o)
+    → IsNow stands catalog later moved (started_part catalog m number o)
+now_by stands catalog later m number None part order moved some parts same cursor machine = cc
+now_by stands catalog later m number (Some other) part order moved some parts same cursor machine = record {
+  machine = machine;
+  placed = record { parts = same ∙ parts; cursor = sym (cursor ∙ ap (λ xs. cursor_behind xs number) parts) };
+  within = behind_within (pei_order catalog m.reported) number;
 }
 
-pub start_placed : (catalog : Catalog) (m : PeiMachine) (number : ℕ) (part : Part) (kept : PeiOrder) (place : ℕ) → part_at Pei catalog number ≡ Some part → IsPeiOrder catalog m.reported kept
-    → place ≡ cursor_behind (parts_of kept) number → IsPlaced catalog (started catalog m number) kept place
-start_placed catalog m number part kept place = placed_by catalog m number (part_at Pei catalog number) part kept place
+pub start_now : {M : Type 0} (stands : M → StoreState → Type 0) (catalog : Catalog) (later : OfPei M) (m : PeiMachine) (number : ℕ) (part : Part) (order moved : PeiOrder)
+    → part_at Pei catalog number ≡ Some part → IsPeiOrder catalog m.reported order → moved.parts ≡ order.parts → moved.cursor ≡ cursor_behind order.parts number
+    → StandsFor stands later (started catalog m number) → IsNow stands catalog later moved (started catalog m number)
+start_now stands catalog later m number part order moved = now_by stands catalog later m number (part_at Pei catalog number) part order moved
+
+last_by : {M : Type 0} (catalog : Catalog) (m : PeiMachine) (number : ℕ) (o : Option Part) (part : Part) (later : OfPei M) → o ≡ Some part → has_number (pei_order catalog m.reported) number ≡ true
+    → last_start later ≡ Some number → last_start later ≡ last_started catalog (started_part catalog m number o)
+last_by catalog m number None part later some among is = cc
+last_by catalog m number (Some other) part later some among is = is ∙ sym (stands_before (pei_order catalog m.reported) number among)
+
+pub start_last : {M : Type 0} (catalog : Catalog) (m : PeiMachine) (number : ℕ) (part : Part) (pei later : OfPei M) → part_at Pei catalog number ≡ Some part → IsNext catalog m number
+    → last_start later ≡ Some number → KeepsLast catalog m pei (started catalog m number) later
+start_last catalog m number part pei later found next is before = last_by catalog m number (part_at Pei catalog number) part later found next.among is

@@ -1,98 +1,114 @@
 -- A turn, from what its parts leave.
-use Rattle.std.proofs.Common.{◌≡◌, ◌≤◌, ℕ, ◌+◌, Bool, false, List, [], ◌∷◌, ◌++◌, Option, Some, None, Ok, Err, Result, refl, sym, ap, ◌∙◌, subst, length, take, arith}
-use Rattle.std.proofs.lemmas.List.{append-nil, length-append, take_at}
+use Rattle.std.proofs.Common.{◌≡◌, ◌≤◌, ◌<◌, ℕ, zero, suc, ◌+◌, Bool, true, List, [], ◌∷◌, ◌++◌, Option, Some, None, Ok, Err, Result, refl, sym, ap, ◌∙◌, subst, length, take, drop, arith}
+use Rattle.std.specs.Prelude.{slice_get}
+use Rattle.std.proofs.lemmas.List.{length-append, drop_at}
 use Rattle.std.proofs.lemmas.Grind.{flat_map-append}
 use Rattle.std.specs.Io.KnownBytes.{Appends}
 use Rattle.boot_io.proofs.PutsLaws.{appends_then, part_then}
-use Rattle.boot_io.specs.declared.sink.SinkFault.{SinkFault}
-use Rattle.boot_io.specs.Sink.{AppendsPart}
-use Rattle.boot_model.specs.declared.catalog.Catalog.{Catalog}
+use Rattle.boot_io.specs.declared.halt.Halt.{Halt}
+use Rattle.boot_io.specs.declared.halt.Halt.TheVariants as H
+use Rattle.catalog_model.specs.declared.catalog.Catalog.{Catalog}
+use Rattle.store_model.specs.StoreState.{StoreState}
+use Rattle.boot_model.specs.declared.phase_end.PeiEnd.{PeiEnd}
+use Rattle.boot_model.specs.Licence.{AllDiffer}
 use Rattle.boot_model.specs.PeiChoice.{pei_order, volume_order}
 use Rattle.boot_model.specs.PeiMachine.{PeiMachine}
-use Rattle.boot_model.specs.PeiStep.{pei_step, waiting_lines, handoff_lines, outcome_of, stopped}
-use Rattle.boot_model.specs.declared.line.Line.TheVariants as L
+use Rattle.boot_model.specs.PeiStep.{pei_step}
 use Rattle.boot_model.specs.Text.{text_of}
 use Rattle.pei_choice.specs.declared.order.PeiOrder.{PeiOrder}
-use Rattle.pei_choice.specs.Order.{IsPeiOrder, parts_of}
-use Rattle.pei_dispatch.specs.declared.answer.Stop.{Stop}
-use Rattle.pei_dispatch.specs.Ends.{broken_by, outcome_by}
-use Rattle.pei_core.specs.Leaves.{Texts, Printed, PrintedPart}
-use Rattle.pei_core.specs.Steps.{IsIdle}
-use Rattle.pei_dispatch.specs.Turns.{IsPlaced, IsOver, TurnsTo}
+use Rattle.pei_choice.specs.Order.{IsPeiOrder, OrderGrows}
+use Rattle.pei_core.specs.declared.event.Stepped.{Stepped}
+use Rattle.pei_core.specs.declared.pei.Pei.{Pei}
+use Rattle.pei_core.specs.Standing.{StandsFor, last_start}
+use Rattle.pei_core.specs.Steps.{IsIdle, StepsTo}
+use Rattle.pei_core.specs.Turn.{Texts, PrintedPart}
+use Rattle.pei_dispatch.specs.Ends.{KeepsLast, IsWantOfStore}
+use Rattle.pei_dispatch.specs.LastStart.{just_before, last_started}
+use Rattle.pei_dispatch.specs.Turns.{IsNow, TurnsTo}
 use Rattle.pei_dispatch.proofs.Growing.{step_grew}
 use Rattle.pei_dispatch.proofs.Idle.{cursor_stays}
-use Rattle.pei_dispatch.proofs.Lines.{part_whole}
 
--- more volumes make the order no shorter
-order_longer : (catalog : Catalog) (reported more : List ℕ) → length (pei_order catalog reported) ≤ length (pei_order catalog (reported ++ more))
-order_longer catalog reported more =
-    let all : pei_order catalog (reported ++ more) ≡ pei_order catalog reported ++ pei_order catalog more = flat_map-append (volume_order catalog) reported more in
-    let long : length (pei_order catalog (reported ++ more)) ≡ length (pei_order catalog reported) + length (pei_order catalog more) =
-    ap length all ∙ length-append (pei_order catalog reported) (pei_order catalog more) in
-    omega (arith, long)
-
--- the order with the volumes that a step reported
-pub step_placed : (catalog : Catalog) (fuel : ℕ) (m : PeiMachine) (kept fed : PeiOrder) (place : ℕ) → (IsIdle m → ⊥) → IsPlaced catalog m kept place
-    → IsPeiOrder catalog (pei_step catalog fuel m).reported fed → IsPlaced catalog (pei_step catalog fuel m) fed place
-step_placed catalog fuel m kept fed place busy placed order =
+-- the volumes that a step reported are those behind the ones that were known
+pub new_volumes : (catalog : Catalog) (fuel : ℕ) (m : PeiMachine) (known : ℕ) (reported new : List ℕ) → known ≡ length m.reported → reported ≡ (pei_step catalog fuel m).reported → new ≡ drop known reported
+    → m.reported ++ new ≡ (pei_step catalog fuel m).reported
+new_volumes catalog fuel m known reported new here now back =
     let grew = step_grew catalog fuel m in
-    let longer = order_longer catalog m.reported grew.more in
-    let before : length (parts_of kept) ≡ length (pei_order catalog m.reported) = ap length placed.order in
-    let now : length (parts_of fed) ≡ length (pei_order catalog (m.reported ++ grew.more)) = ap length order ∙ ap (λ volumes. length (pei_order catalog volumes)) grew.reported in
-    let within = placed.within in
-    record { order = order; cursor = cursor_stays catalog fuel m busy ∙ placed.cursor; within = omega (arith, longer, before, now, within) }
+    let behind : new ≡ grew.more = back ∙ ap (λ n. drop n reported) here ∙ ap (drop (length m.reported)) (now ∙ grew.reported) ∙ drop_at m.reported grew.more (length m.reported) refl in
+    ap (λ xs. m.reported ++ xs) behind ∙ sym grew.reported
 
--- the volumes that were known before a step
-pub step_knows : (catalog : Catalog) (fuel : ℕ) (m : PeiMachine) → take (length m.reported) (pei_step catalog fuel m).reported ≡ m.reported
-step_knows catalog fuel m =
+pub known_within : (catalog : Catalog) (fuel : ℕ) (m : PeiMachine) (known : ℕ) (reported : List ℕ) → known ≡ length m.reported → reported ≡ (pei_step catalog fuel m).reported → known ≤ length reported
+known_within catalog fuel m known reported here now =
     let grew = step_grew catalog fuel m in
-    ap (take (length m.reported)) grew.reported ∙ take_at m.reported grew.more (length m.reported) refl
+    let long : length reported ≡ length m.reported + length grew.more = ap length (now ∙ grew.reported) ∙ length-append m.reported grew.more in
+    omega (arith, long, here)
 
-pub step_known : (catalog : Catalog) (fuel : ℕ) (m : PeiMachine) → length m.reported ≤ length (pei_step catalog fuel m).reported
-step_known catalog fuel m =
-    let grew = step_grew catalog fuel m in
-    let long : length (pei_step catalog fuel m).reported ≡ length m.reported + length grew.more = ap length grew.reported ∙ length-append m.reported grew.more in
-    omega (arith, long)
+-- more volumes come behind the others in the order
+order_with : (catalog : Catalog) (reported more : List ℕ) → pei_order catalog (reported ++ more) ≡ pei_order catalog reported ++ pei_order catalog more
+order_with catalog reported more = flat_map-append (volume_order catalog) reported more
 
--- all lines were put, so a part of them
-pub printed_whole : (m later : PeiMachine) (t : Texts) → Printed m later t → PrintedPart m later t
-printed_whole m later t printed = record { told = printed.told; lines = printed.lines; text = part_whole t.old t.new (text_of printed.told) printed.text }
+-- and the module just before a place in the order stays
+front_stays : (xs ys : List ℕ) (n : ℕ) → n < length xs → slice_get (xs ++ ys) n ≡ slice_get xs n
+front_stays [] ys n within = absurd (omega (arith, within))
+front_stays (x ∷ xs) ys zero within = refl
+front_stays (x ∷ xs) ys (suc n) within = front_stays xs ys n (omega (arith, within))
 
--- where the machine ended and nothing else changed
-pub ends_so : (Stands : PeiMachine → Type 0) (m later : PeiMachine) (stop : Stop) (t : Texts) → later ≡ record m { ended = Some (outcome_by stop) } → Appends t.old t.new [] → Stands m → IsOver Stands m later stop t
-ends_so Stands m later stop t is text stands =
-    let P : PeiMachine → Type 0 = λ x. IsOver Stands m x stop t in
-    let over : IsOver Stands m (record m { ended = Some (outcome_by stop) }) stop t = record {
-      ended = refl;
-      printed = record { told = []; lines = sym (append-nil m.lines); text = text };
-      machine = record { last = m; machine = stands; store = refl; actions = refl };
-    } in
-    subst P (sym is) over
+just_before_stays : (place : ℕ) (order more : List ℕ) → place ≤ length order → just_before place (order ++ more) ≡ just_before place order
+just_before_stays zero order more within = refl
+just_before_stays (suc n) order more within = front_stays order more n (omega (arith, within))
+
+-- a step that is no start and no end, with the volumes that it reported in the order
+pub event_now : {M : Type 0} (stands : M → StoreState → Type 0) (catalog : Catalog) (fuel : ℕ) (m : PeiMachine) (pei later : Pei M) (order grown : PeiOrder) (new : List ℕ) → (IsIdle m → ⊥)
+    → IsNow stands catalog pei order m → OrderGrows catalog order new grown → m.reported ++ new ≡ (pei_step catalog fuel m).reported → StandsFor stands later (pei_step catalog fuel m)
+    → IsNow stands catalog later grown (pei_step catalog fuel m)
+event_now stands catalog fuel m pei later order grown new busy now grows are machine =
+    let step = pei_step catalog fuel m in
+    let cursor = cursor_stays catalog fuel m busy in
+    let all = order_with catalog m.reported new in
+    let long : length (pei_order catalog (m.reported ++ new)) ≡ length (pei_order catalog m.reported) + length (pei_order catalog new) =
+    ap length all ∙ length-append (pei_order catalog m.reported) (pei_order catalog new) in
+    let longer : length (pei_order catalog step.reported) ≡ length (pei_order catalog (m.reported ++ new)) = ap (λ volumes. length (pei_order catalog volumes)) (sym are) in
+    let within = now.within in
+    let P : List ℕ → Type 0 = λ volumes. IsPeiOrder catalog volumes grown in
+    record {
+      machine = machine;
+      placed = record { parts = subst P are (grows.parts m.reported now.placed.parts); cursor = cursor ∙ now.placed.cursor ∙ sym grows.cursor };
+      within = omega (arith, cursor, long, longer, within);
+    }
+
+pub event_last : {M : Type 0} (catalog : Catalog) (fuel : ℕ) (m : PeiMachine) (pei later : Pei M) (new : List ℕ) → (IsIdle m → ⊥) → m.cursor ≤ length (pei_order catalog m.reported)
+    → m.reported ++ new ≡ (pei_step catalog fuel m).reported → last_start later ≡ last_start pei → KeepsLast catalog m pei (pei_step catalog fuel m) later
+event_last catalog fuel m pei later new busy within are same before =
+    let step = pei_step catalog fuel m in
+    let order = pei_order catalog m.reported in
+    let order_is : pei_order catalog step.reported ≡ order ++ pei_order catalog new = ap (pei_order catalog) (sym are) ∙ order_with catalog m.reported new in
+    same ∙ before ∙ sym (just_before_stays m.cursor order (pei_order catalog new) within) ∙ ap (just_before m.cursor) (sym order_is) ∙ ap (λ n. just_before n (pei_order catalog step.reported)) (sym (cursor_stays catalog fuel m busy))
 
 -- nothing was put before a start or the stop
-pub turns_after : (memory : Bool) (Stands : PeiMachine → Type 0) (catalog : Catalog) (m later : PeiMachine) (kept : PeiOrder) (place : ℕ) (old mid new : Option (List ℕ)) (r : Result (Option Stop) SinkFault)
-    → Appends old mid [] → TurnsTo false Stands catalog m later kept place (record { old = mid; new = new }) (broken_by r) → TurnsTo memory Stands catalog m later kept place (record { old = old; new = new }) (broken_by r)
-turns_after memory Stands catalog m later kept place old mid new (Ok None) f turned = record {
+pub turns_after : {M : Type 0} (stands : M → StoreState → Type 0) (catalog : Catalog) (m later_m : PeiMachine) (pei mid_pei later : Pei M) (order : PeiOrder) (old mid new : Option (List ℕ)) (r : Result (Option PeiEnd) Halt)
+    → last_start mid_pei ≡ last_start pei → Appends old mid []
+    → TurnsTo stands catalog m mid_pei later_m later order (record { old = mid; new = new }) r → TurnsTo stands catalog m pei later_m later order (record { old = old; new = new }) r
+turns_after stands catalog m later_m pei mid_pei later order old mid new (Ok None) same f turned = record {
   printed = record { told = turned.printed.told; lines = turned.printed.lines; text = appends_then old mid new [] (text_of turned.printed.told) f turned.printed.text };
-  machine = turned.machine;
-  placed = turned.placed;
+  now = turned.now;
+  last = λ before. turned.last (same ∙ before);
 }
-turns_after memory Stands catalog m later kept place old mid new (Ok (Some stop)) f over = record {
+turns_after stands catalog m later_m pei mid_pei later order old mid new (Ok (Some how)) same f over = record {
   ended = over.ended;
   printed = record { told = over.printed.told; lines = over.printed.lines; text = appends_then old mid new [] (text_of over.printed.told) f over.printed.text };
   machine = over.machine;
+  last = λ before. over.last (same ∙ before);
 }
-turns_after memory Stands catalog m later kept place old mid new (Err fault) f part = record { told = part.told; lines = part.lines; text = part_then old mid new [] (text_of part.told) f part.text }
+turns_after stands catalog m later_m pei mid_pei later order old mid new (Err halt) same f part =
+    record { told = part.told; lines = part.lines; text = part_then old mid new [] (text_of part.told) f part.text }
 
--- the stop ends the machine
-pub stops_so : (Stands : PeiMachine → Type 0) (catalog : Catalog) (m : PeiMachine) (stop : Stop) (t : Texts) → Stands m → outcome_of m.store ≡ outcome_by stop
-    → Appends t.old t.new (text_of (L.PeiStop ∷ (waiting_lines catalog m ++ handoff_lines m.store (outcome_of m.store)))) → IsOver Stands m (stopped catalog m) stop t
-stops_so Stands catalog m stop t stands outcome text = record {
-  ended = ap (λ o. Some o) outcome;
-  printed = record { told = L.PeiStop ∷ (waiting_lines catalog m ++ handoff_lines m.store (outcome_of m.store)); lines = refl; text = text };
-  machine = record { last = m; machine = stands; store = refl; actions = refl };
-}
+-- a step that was given up put a part of its lines
+pub part_of_step : (memory : Bool) (Stands : PeiMachine → Type 0) (catalog : Catalog) (fuel : ℕ) (m : PeiMachine) (t : Texts) (halt : Halt) → StepsTo memory Stands catalog fuel m t (Err halt)
+    → PrintedPart m (pei_step catalog fuel m) t
+part_of_step memory Stands catalog fuel m t H.Sink part = part
+part_of_step memory Stands catalog fuel m t H.Memory wanting = wanting.1
 
-pub stop_breaks : (catalog : Catalog) (m : PeiMachine) (t : Texts)
-    → AppendsPart t.old t.new (text_of (L.PeiStop ∷ (waiting_lines catalog m ++ handoff_lines m.store (outcome_of m.store)))) → PrintedPart m (stopped catalog m) t
-stop_breaks catalog m t text = record { told = L.PeiStop ∷ (waiting_lines catalog m ++ handoff_lines m.store (outcome_of m.store)); lines = refl; text = text }
+-- and memory was wanting only where the store takes it
+pub want_of_step : (A : Type 0) (memory : Bool) (Stands : PeiMachine → Type 0) (catalog : Catalog) (fuel : ℕ) (m : PeiMachine) (t : Texts) (halt : Halt) → StepsTo memory Stands catalog fuel m t (Err halt)
+    → IsWantOfStore {A = A} memory (Err halt)
+want_of_step A memory Stands catalog fuel m t H.Sink part = tt
+want_of_step A memory Stands catalog fuel m t H.Memory wanting = wanting.0

@@ -1,60 +1,78 @@
--- How a run of PEI answers: the outcome of the machine at its end, with all of its lines; or why the end was not reached, with a part of them.
+-- How a run of PEI answers: the end of the machine, with all of its lines; or why the end was not reached, with a part of them.
 -- Own; PI 1.8, volume 1, "PEI Dispatcher", has the hand-off to the DXE IPL alone.
-use Rattle.std.specs.Prelude.{◌≡◌, ℕ, ◌≤◌, Bool, true, false, [], Some, Result, Ok, Err}
+use Rattle.std.specs.Prelude.{◌≡◌, ℕ, ◌≤◌, ◌+◌, ◌*◌, Bool, true, false, List, [], Option, Some, None, Result, Ok, Err, length, ⊤}
 use Rattle.std.specs.Io.KnownBytes.{Appends}
-use Rattle.boot_io.specs.Faults.{Rose}
-use Rattle.boot_io.specs.declared.sink.SinkFault.{SinkFault}
+use Rattle.boot_io.specs.declared.halt.Halt.{Halt}
+use Rattle.boot_io.specs.declared.halt.Halt.TheVariants.{Sink, Memory}
 use Rattle.boot_io.specs.Sink.{AppendsPart}
-use Rattle.boot_model.specs.PeiMachine.{PeiMachine, PeiOutcome}
-use Rattle.boot_model.specs.PeiMachine as M
-use Rattle.boot_model.specs.StoreState.{StoreState}
+use Rattle.catalog_model.specs.declared.catalog.Catalog.{Catalog}
+use Rattle.store_model.specs.declared.store_handle.Sweep.{Sweep}
+use Rattle.store_model.specs.StoreState.{StoreState, Board, empty_store}
+use Rattle.boot_model.specs.declared.phase_end.PeiEnd.{PeiEnd}
+use Rattle.boot_model.specs.PeiMachine.{PeiMachine}
+use Rattle.boot_model.specs.PeiRun.{pei_opening, pei_bound, pei_end}
 use Rattle.boot_model.specs.Text.{text_of}
-use Rattle.pei_dispatch.specs.declared.answer.Broken.{Broken}
-use Rattle.pei_dispatch.specs.declared.answer.Broken.TheVariants as B
-use Rattle.pei_dispatch.specs.declared.answer.Stop.{Stop}
-use Rattle.pei_dispatch.specs.declared.answer.Stop.TheVariants as S
+use Rattle.pei_choice.specs.declared.order.PeiOrder.{PeiOrder}
+use Rattle.pei_choice.specs.Order.{IsPlaced}
+use Rattle.pei_core.specs.declared.pei.Pei.{Pei}
+use Rattle.pei_core.specs.Standing.{StandsFor, IsFor, last_start}
 use Rattle.pei_dispatch.specs.declared.boot.Ended.{Ended}
-use Rattle.pei_core.specs.Leaves.{Texts}
-
--- the outcome that a stop tells of
-abbrev pub outcome_by : Stop → PeiOutcome
-outcome_by S.Handoff = M.HandsOff
-outcome_by S.NoMemory = M.NoMemory
-outcome_by S.NoIpl = M.NoIpl
-outcome_by S.Spent = M.Spent
-outcome_by S.Deep = M.Deep
+use Rattle.pei_dispatch.specs.LastStart.{last_started}
 
 -- the run has ended so, and all of its lines were put
-pub record HasEnded (stop : Stop) (end : PeiMachine) (t : Texts) : Type 0 where
-  pub ended : end.ended ≡ Some (outcome_by stop)
-  pub text : Appends t.old t.new (text_of end.lines)
+pub record HasEnded (how : PeiEnd) (end : PeiMachine) (old new : Option (List ℕ)) : Type 0 where
+  pub ended : end.ended ≡ Some how
+  pub text : Appends old new (text_of end.lines)
 
--- what stands for a machine with the store and the actions of the end
-pub record StandsAt (Stands : PeiMachine → Type 0) (end : PeiMachine) : Type 0 where
-  pub last : PeiMachine
-  pub machine : Stands last
-  pub store : last.store ≡ end.store
-  pub actions : last.actions ≡ end.actions
+-- The core over its store stands for the last machine, and so does the order: that is the end as it was before it ended. The stop alone closes the sweep of the core's own call.
+pub record StandsAtEnd {M : Type 0} (stands : M → StoreState → Type 0) (catalog : Catalog)
+    (pei : Pei M) (order : PeiOrder) (end : PeiMachine) : Type 0 where
+  pub sweep : Option Sweep
+  pub machine : StandsFor stands pei (record end { ended = None; core_sweep = sweep })
+  pub placed : IsPlaced catalog end order
 
--- by the answer, where the run leads to an end; memory is wanting only where the store takes it
-abbrev pub RunsTo : Bool → (PeiMachine → Type 0) → PeiMachine → Texts → Result Stop Broken → Type 0
-RunsTo memory Stands end t (Ok stop) = HasEnded stop end t × StandsAt Stands end
-RunsTo memory Stands end t (Err B.SinkFault) = AppendsPart t.old t.new (text_of end.lines)
-RunsTo memory Stands end t (Err B.Memory) = (memory ≡ true) × AppendsPart t.old t.new (text_of end.lines)
+-- the module that started last is that of the machine, where it was so before
+abbrev pub KeepsLast : {M : Type 0} → Catalog → PeiMachine → Pei M → PeiMachine → Pei M → Type 0
+KeepsLast catalog m pei later_m later = last_start pei ≡ last_started catalog m → last_start later ≡ last_started catalog later_m
 
--- the same of a whole run, which hands its store on; over a store that takes no memory, memory is wanting before anything is put
-abbrev pub BootsTo : {M : Type 0} → Bool → (M → StoreState → Type 0) → PeiMachine → Texts → Result (Ended M) Broken → Type 0
-BootsTo memory stands end t (Ok ended) = HasEnded ended.end end t × stands ended.store end.store × (ended.actions ≡ end.actions)
-BootsTo memory stands end t (Err B.SinkFault) = AppendsPart t.old t.new (text_of end.lines)
-BootsTo memory stands end t (Err B.Memory) = AppendsPart t.old t.new (text_of end.lines) × (memory ≡ false → Appends t.old t.new [])
+-- a run from a machine to an end, by its answer
+abbrev pub RunsTo : {M : Type 0} → (M → StoreState → Type 0) → Catalog
+    → PeiMachine → Pei M → PeiMachine → Pei M → PeiOrder → Option (List ℕ) → Option (List ℕ) → Result PeiEnd Halt → Type 0
+RunsTo stands catalog m pei end later order old new (Ok how) =
+    HasEnded how end old new × StandsAtEnd stands catalog later order end × KeepsLast catalog m pei end later
+RunsTo stands catalog m pei end later order old new (Err halt) = AppendsPart old new (text_of end.lines)
 
--- the answer of a part that can only fail at the sink
-abbrev pub broken_by : {A : Type 0} → Result A SinkFault → Result A Broken
-broken_by (Ok done) = Ok done
-broken_by (Err fault) = Err B.SinkFault
+-- the run from the opening, over each board and fuel for which the core was made
+abbrev pub Runs : {M : Type 0} → (M → StoreState → Type 0) → Catalog
+    → Pei M → Pei M → PeiOrder → Option (List ℕ) → Option (List ℕ) → Result PeiEnd Halt → Type 0
+Runs stands catalog pei later order old new result =
+    (board : Board) (fuel : ℕ) → IsFor catalog fuel pei → StandsFor stands pei (pei_opening board catalog)
+    → RunsTo stands catalog (pei_opening board catalog) pei (pei_end board catalog fuel) later order old new result
 
--- the sink's count of faults rises where a line could not be put, and nowhere else
-abbrev pub BrokenAfter : {A : Type 0} → Result A Broken → ℕ → ℕ → Type 0
-BrokenAfter (Ok _) before now = now ≡ before
-BrokenAfter (Err B.SinkFault) before now = (before ≤ now) × Rose before now
-BrokenAfter (Err B.Memory) before now = now ≡ before
+-- memory is wanting only where the store takes it
+abbrev pub IsWantOfStore : {A : Type 0} → Bool → Result A Halt → Type 0
+IsWantOfStore takes (Ok _) = ⊤
+IsWantOfStore takes (Err Sink) = ⊤
+IsWantOfStore takes (Err Memory) = takes ≡ true
+
+-- in each step of the run at most one expression is evaluated for each part of the order
+abbrev pub HasFewSteps : {M : Type 0} → Catalog → Pei M → PeiOrder → ℕ → ℕ → Type 0
+HasFewSteps catalog pei order before now = (fuel : ℕ) → IsFor catalog fuel pei → now ≤ before + pei_bound catalog fuel * length order.parts
+
+-- a whole run to an end, which hands its store on
+abbrev pub BootsTo : {M : Type 0} → (M → StoreState → Type 0)
+    → PeiMachine → Option (List ℕ) → Option (List ℕ) → Result (Ended M) Halt → Type 0
+BootsTo stands end old new (Ok ended) = HasEnded ended.end end old new × stands ended.store end.store × (ended.actions ≡ end.actions)
+BootsTo stands end old new (Err halt) = AppendsPart old new (text_of end.lines)
+
+-- over each board for which the store stands as it was made
+abbrev pub Boots : {M : Type 0} → (M → StoreState → Type 0) → Catalog
+    → M → ℕ → Option (List ℕ) → Option (List ℕ) → Result (Ended M) Halt → Type 0
+Boots stands catalog store fuel old new result =
+    (board : Board) → stands store (empty_store board) → BootsTo stands (pei_end board catalog fuel) old new result
+
+-- over a store that takes no memory, memory is wanting before anything is put
+abbrev pub IsWantedBefore : {A : Type 0} → Bool → Option (List ℕ) → Option (List ℕ) → Result A Halt → Type 0
+IsWantedBefore takes old new (Ok _) = ⊤
+IsWantedBefore takes old new (Err Sink) = ⊤
+IsWantedBefore takes old new (Err Memory) = takes ≡ false → Appends old new []

@@ -1,2 +1,4 @@
 pub mod Ends
+pub mod LastStart
 pub mod Turns
+pub mod Waiting

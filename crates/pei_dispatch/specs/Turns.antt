@@ -1,53 +1,115 @@
 -- What the parts of a run leave, by their answers. A turn of the run is a step of the machine: what the core does by itself, a start, or the stop.
 -- Own.
-use Rattle.std.specs.Prelude.{◌≡◌, ℕ, ◌≤◌, Bool, true, List, length, Option, Some, None, Result, Ok, Err}
-use Rattle.std.specs.Io.KnownBytes.{Appends}
+use Rattle.std.specs.Prelude.{◌≡◌, ◌≤◌, ℕ, true, length, List, ◌∷◌, ◌++◌, Option, Some, None, Result, Ok, Err}
+use Rattle.boot_io.specs.Sink.{Puts}
+use Rattle.boot_io.specs.declared.halt.Halt.{Halt}
 use Rattle.boot_io.specs.declared.sink.SinkFault.{SinkFault}
-use Rattle.boot_io.specs.Sink.{AppendsPart}
-use Rattle.boot_model.specs.declared.catalog.Catalog.{Catalog}
+use Rattle.catalog_model.specs.declared.catalog.Catalog.{Catalog}
+use Rattle.catalog_model.specs.Parts.{has_number}
+use Rattle.store_model.specs.StoreState.{StoreState}
 use Rattle.boot_model.specs.declared.line.Line.{Line}
+use Rattle.boot_model.specs.declared.line.Line.TheVariants as L
+use Rattle.boot_model.specs.declared.phase_end.PeiEnd.{PeiEnd}
+use Rattle.boot_model.specs.PeiChoice.{pei_order, next_peim}
 use Rattle.boot_model.specs.PeiMachine.{PeiMachine}
-use Rattle.boot_model.specs.PeiStep.{outcome_of}
+use Rattle.boot_model.specs.PeimState.{awaits_start, peim_state}
+use Rattle.boot_model.specs.PeiStep.{pei_step, started, outcome_of, waiting_lines, handoff_lines}
 use Rattle.boot_model.specs.Text.{text_of}
 use Rattle.pei_choice.specs.declared.order.PeiOrder.{PeiOrder}
-use Rattle.pei_choice.specs.Order.{IsPeiOrder, parts_of}
-use Rattle.pei_dispatch.specs.declared.answer.Broken.{Broken}
-use Rattle.pei_dispatch.specs.declared.answer.Broken.TheVariants as B
-use Rattle.pei_dispatch.specs.declared.answer.Stop.{Stop}
-use Rattle.pei_dispatch.specs.Ends.{outcome_by, StandsAt}
-use Rattle.pei_core.specs.Leaves.{Texts, Printed, PrintedPart}
+use Rattle.pei_choice.specs.Order.{IsPeiOrder, IsPlaced}
+use Rattle.pei_core.specs.declared.pei.Pei.{Pei}
+use Rattle.pei_core.specs.Standing.{StandsFor, IsFor}
+use Rattle.pei_core.specs.Steps.{IsIdle}
+use Rattle.pei_core.specs.Turn.{Texts, Printed, PrintedPart}
+use Rattle.pei_dispatch.specs.Ends.{StandsAtEnd, KeepsLast}
 
--- the order is that of the volumes that were reported, and the cursor is the machine's
-pub record IsPlaced (catalog : Catalog) (m : PeiMachine) (kept : PeiOrder) (place : ℕ) : Type 0 where
-  pub order : IsPeiOrder catalog m.reported kept
-  pub cursor : m.cursor ≡ place
-  pub within : place ≤ length (parts_of kept)
+-- the machine for which the core over its store stands now, and the order; its cursor is within the order
+pub record IsNow {M : Type 0} (stands : M → StoreState → Type 0) (catalog : Catalog)
+    (pei : Pei M) (order : PeiOrder) (m : PeiMachine) : Type 0 where
+  pub machine : StandsFor stands pei m
+  pub placed : IsPlaced catalog m order
+  pub within : m.cursor ≤ length (pei_order catalog m.reported)
+
+-- the PEIM that comes next in a machine: it is in the order, and a start of it is still to come
+pub record IsNext (catalog : Catalog) (m : PeiMachine) (number : ℕ) : Type 0 where
+  pub next : next_peim catalog m ≡ Some number
+  pub among : has_number (pei_order catalog m.reported) number ≡ true
+  pub awaits : awaits_start (peim_state m number) ≡ true
+
+-- the machine is idle, and this PEIM comes next
+pub record IsChosen {M : Type 0} (stands : M → StoreState → Type 0) (catalog : Catalog)
+    (pei : Pei M) (order : PeiOrder) (m : PeiMachine) (number : ℕ) : Type 0 where
+  pub now : IsNow stands catalog pei order m
+  pub idle : IsIdle m
+  pub peim : IsNext catalog m number
+
+-- what is chosen
+abbrev pub ChoosesFrom : Catalog → PeiMachine → Option ℕ → Type 0
+ChoosesFrom catalog m None = next_peim catalog m ≡ None
+ChoosesFrom catalog m (Some number) = IsNext catalog m number
+
+abbrev pub Chooses : {M : Type 0} → (M → StoreState → Type 0) → Catalog → Pei M → PeiOrder → Option ℕ → Type 0
+Chooses stands catalog pei order answer = (m : PeiMachine) → IsNow stands catalog pei order m → ChoosesFrom catalog m answer
 
 -- the machine goes on as the later one, and its lines were put
-pub record HasTurned (Stands : PeiMachine → Type 0) (catalog : Catalog) (m later : PeiMachine) (order : PeiOrder) (cursor : ℕ) (t : Texts) : Type 0 where
-  pub printed : Printed m later t
-  pub machine : Stands later
-  pub placed : IsPlaced catalog later order cursor
+pub record HasTurned {M : Type 0} (stands : M → StoreState → Type 0) (catalog : Catalog)
+    (m : PeiMachine) (pei : Pei M) (later_m : PeiMachine) (later : Pei M) (order : PeiOrder) (t : Texts) : Type 0 where
+  pub printed : Printed m later_m t
+  pub now : IsNow stands catalog later order later_m
+  pub last : KeepsLast catalog m pei later_m later
 
 -- the later machine has ended, and its lines were put
-pub record IsOver (Stands : PeiMachine → Type 0) (m later : PeiMachine) (stop : Stop) (t : Texts) : Type 0 where
-  pub ended : later.ended ≡ Some (outcome_by stop)
-  pub printed : Printed m later t
-  pub machine : StandsAt Stands later
+pub record IsOver {M : Type 0} (stands : M → StoreState → Type 0) (catalog : Catalog)
+    (m : PeiMachine) (pei : Pei M) (end : PeiMachine) (later : Pei M) (order : PeiOrder) (how : PeiEnd) (t : Texts) : Type 0 where
+  pub ended : end.ended ≡ Some how
+  pub printed : Printed m end t
+  pub machine : StandsAtEnd stands catalog later order end
+  pub last : KeepsLast catalog m pei end later
 
--- a turn, by its answer; memory is wanting only where the store takes it
-abbrev pub TurnsTo : Bool → (PeiMachine → Type 0) → Catalog → PeiMachine → PeiMachine → PeiOrder → ℕ → Texts → Result (Option Stop) Broken → Type 0
-TurnsTo memory Stands catalog m later order cursor t (Ok None) = HasTurned Stands catalog m later order cursor t
-TurnsTo memory Stands catalog m later order cursor t (Ok (Some stop)) = IsOver Stands m later stop t
-TurnsTo memory Stands catalog m later order cursor t (Err B.SinkFault) = PrintedPart m later t
-TurnsTo memory Stands catalog m later order cursor t (Err B.Memory) = (memory ≡ true) × PrintedPart m later t
+-- a turn from a machine to the later one, by its answer
+abbrev pub TurnsTo : {M : Type 0} → (M → StoreState → Type 0) → Catalog
+    → PeiMachine → Pei M → PeiMachine → Pei M → PeiOrder → Texts → Result (Option PeiEnd) Halt → Type 0
+TurnsTo stands catalog m pei later_m later order t (Ok None) = HasTurned stands catalog m pei later_m later order t
+TurnsTo stands catalog m pei later_m later order t (Ok (Some how)) = IsOver stands catalog m pei later_m later order how t
+TurnsTo stands catalog m pei later_m later order t (Err halt) = PrintedPart m later_m t
 
--- a start, by its answer
-abbrev pub StartsTo : (PeiMachine → Type 0) → Catalog → PeiMachine → PeiMachine → PeiOrder → ℕ → Texts → Result (Unit {0}) SinkFault → Type 0
-StartsTo Stands catalog m later order cursor t (Ok _) = HasTurned Stands catalog m later order cursor t
-StartsTo Stands catalog m later order cursor t (Err fault) = PrintedPart m later t
+-- a turn from each machine for which the core and the order stand: a step of it
+abbrev pub Turns : {M : Type 0} → (M → StoreState → Type 0) → Catalog
+    → Pei M → PeiOrder → Pei M → PeiOrder → Option (List ℕ) → Option (List ℕ) → Result (Option PeiEnd) Halt → Type 0
+Turns stands catalog pei order later grown old new result =
+    (m : PeiMachine) (fuel : ℕ) → IsFor catalog fuel pei → IsNow stands catalog pei order m
+    → TurnsTo stands catalog m pei (pei_step catalog fuel m) later grown (record { old = old; new = new }) result
 
--- the stop, by its answer
-abbrev pub StopsTo : PeiMachine → List Line → Texts → Result Stop SinkFault → Type 0
-StopsTo m lines t (Ok stop) = (outcome_of m.store ≡ outcome_by stop) × Appends t.old t.new (text_of lines)
-StopsTo m lines t (Err fault) = AppendsPart t.old t.new (text_of lines)
+-- the same from each one that is idle
+abbrev pub TurnsIdle : {M : Type 0} → (M → StoreState → Type 0) → Catalog
+    → Pei M → PeiOrder → Pei M → PeiOrder → Option (List ℕ) → Option (List ℕ) → Result (Option PeiEnd) Halt → Type 0
+TurnsIdle stands catalog pei order later grown old new result =
+    (m : PeiMachine) (fuel : ℕ) → IsFor catalog fuel pei → IsNow stands catalog pei order m → IsIdle m
+    → TurnsTo stands catalog m pei (pei_step catalog fuel m) later grown (record { old = old; new = new }) result
+
+-- the start of what was chosen, by its answer
+abbrev pub StartsTo : {M : Type 0} → (M → StoreState → Type 0) → Catalog
+    → PeiMachine → Pei M → PeiMachine → Pei M → PeiOrder → Texts → Result (Unit {0}) SinkFault → Type 0
+StartsTo stands catalog m pei later_m later order t (Ok _) = HasTurned stands catalog m pei later_m later order t
+StartsTo stands catalog m pei later_m later order t (Err fault) = PrintedPart m later_m t
+
+abbrev pub Starts : {M : Type 0} → (M → StoreState → Type 0) → Catalog
+    → Pei M → PeiOrder → ℕ → Pei M → PeiOrder → Option (List ℕ) → Option (List ℕ) → Result (Unit {0}) SinkFault → Type 0
+Starts stands catalog pei order number later moved old new result =
+    (m : PeiMachine) → IsChosen stands catalog pei order m number
+    → StartsTo stands catalog m pei (started catalog m number) later moved (record { old = old; new = new }) result
+
+-- the line of the hand-off over a store, where PEI ends by it
+abbrev pub PutsHandoff : PeiEnd → Option (List ℕ) → Option (List ℕ) → Result (Unit {0}) SinkFault → StoreState → Type 0
+PutsHandoff end old new result s = Puts result old new (text_of (handoff_lines s end))
+
+-- the lines of the stop
+abbrev pub stop_lines : Catalog → PeiMachine → List Line
+stop_lines catalog m = L.PeiStop ∷ (waiting_lines catalog m ++ handoff_lines m.store (outcome_of m.store))
+
+-- as they are put, where the end is that of the machine
+abbrev pub PutsStop : {M : Type 0} → (M → StoreState → Type 0) → Catalog
+    → Pei M → PeiOrder → PeiEnd → Option (List ℕ) → Option (List ℕ) → Result (Unit {0}) SinkFault → Type 0
+PutsStop stands catalog pei order end old new result =
+    (m : PeiMachine) → StandsFor stands pei m → IsPeiOrder catalog m.reported order → end ≡ outcome_of m.store
+    → Puts result old new (text_of (stop_lines catalog m))

@@ -1,38 +1,28 @@
 // The next PEIM.
-ghost use Rattle.std.specs.Prelude.{◌≡◌, ◌≤◌, ℕ};
-ghost use Rattle.boot_model.specs.PeiChoice as C;
+ghost use Rattle.std.specs.Prelude.{◌≤◌, ◌+◌, length};
 ghost use Rattle.boot_model.specs.PeiMachine.{PeiMachine};
-ghost use Rattle.pei_choice.specs.Short.{AreShort};
-ghost use Rattle.pei_core.specs.Standing.{StandsFor};
-ghost use Rattle.pei_dispatch.specs.Turns.{IsPlaced};
+ghost use Rattle.catalog_model.specs.WellFormed.{IsWellFormed};
+ghost use Rattle.pei_dispatch.specs.Turns.{Chooses, IsNow};
 
-use boot_model::{Catalog, PeiStore};
+use catalog_model::Catalog;
 use depex_code::Steps;
 use pei_choice::{PeiOrder, next_peim};
 use pei_core::Pei;
 use std::sync::ledger::Ledger;
+use store_model::PeiStore;
 
 /// The next PEIM over what the core keeps. None where no part may start.
 pub(crate) fn choose<M: PeiStore + Drop, L: Ledger>(
     pei: &Pei<M>,
     order: &PeiOrder,
-    cursor: usize,
     catalog: &Catalog,
     steps: &mut Steps<L>,
 ) -> Option<u32>
-    requires short { AreShort catalog.now }
-    requires state { (m : PeiMachine) × StandsFor M.stands_for pei.now m × IsPlaced catalog.now m order.now cursor }
-    ensures next { (m : PeiMachine) → StandsFor M.stands_for pei.now m → IsPlaced catalog.now m order.now cursor → result ≡ C.next_peim catalog.now m }
-    ensures counted { steps.old ≤ steps.new }
+    requires catalog { IsWellFormed catalog.now }
+    requires state { (m : PeiMachine) × IsNow M.stands_for catalog.now pei.now order.now m }
+    ensures next { Chooses M.stands_for catalog.now pei.now order.now result }
+    ensures few_steps { steps.new ≤ steps.old + length order.now.parts }
 {
     let store = pei.store();
-    next_peim(
-        catalog,
-        order.as_slice(),
-        cursor,
-        pei.stages(),
-        store.moved(),
-        store,
-        steps,
-    )
+    next_peim(catalog, order, pei.states(), store.moved(), store, steps)
 }

@@ -1,16 +1,14 @@
 //! PEI from its opening to its end, over any store (PI 1.8, volume 1, "PEI Dispatcher"): the core's steps, and where it has none left the next PEIM, or the stop.
 #![tactic(auto)]
 
-mod answer;
 mod boot;
 mod choose;
-mod feed;
+mod report;
 mod run;
 mod start;
 mod stop;
 mod turn;
 mod waiting;
 
-pub use answer::{Broken, Stop};
 pub use boot::{Ended, boot_pei};
 pub use run::run_pei;

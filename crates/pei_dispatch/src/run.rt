@@ -1,24 +1,25 @@
 //! PEI to its end.
-ghost use Rattle.std.specs.Prelude.{◌≡◌, ◌≤◌, [], ℕ, length};
-ghost use Rattle.boot_model.specs.declared.limits.TheConstants.{MOST_MODULES};
-ghost use Rattle.boot_model.specs.PeiRun.{pei_opening, pei_bound, pei_end};
-ghost use Rattle.boot_model.specs.StoreState.{Board};
-ghost use Rattle.boot_model.specs.WellFormed.{IsWellFormed};
-ghost use Rattle.pei_choice.specs.Order.{IsPeiOrder};
-ghost use Rattle.pei_choice.specs.Short.{AreShort};
-ghost use Rattle.pei_dispatch.specs.Ends.{RunsTo, BrokenAfter};
+ghost use Rattle.std.specs.Prelude.{◌≡◌, ◌≤◌, ◌+◌, ◌*◌, ℕ, length};
+ghost use Rattle.boot_io.specs.Halted.{HaltsAfter};
+ghost use Rattle.boot_model.specs.PeiRun.{pei_opening, pei_bound};
+ghost use Rattle.catalog_model.specs.WellFormed.{IsWellFormed};
+ghost use Rattle.catalog_model.specs.declared.limits.TheConstants.{MOST_MODULES};
+ghost use Rattle.store_model.specs.StoreState.{Board};
+ghost use Rattle.pei_choice.specs.Order.{IsNewOrder};
 ghost use Rattle.pei_core.specs.Standing.{StandsFor, IsFor};
+ghost use Rattle.pei_dispatch.specs.Ends.{Runs, IsWantOfStore, HasFewSteps};
 
-use crate::answer::{Broken, Stop};
-use crate::feed::feed;
+use crate::report::add_reported;
 use crate::turn::turn;
-use boot_io::{Sink, SinkFault};
+use boot_io::{Halt, Sink};
 use boot_laws::pei_runs_end;
-use boot_model::{Catalog, MOST_FRAMES, PeiStore};
+use boot_model::{MOST_FRAMES, PeiEnd};
+use catalog_model::Catalog;
 use depex_code::Steps;
 use pei_choice::PeiOrder;
 use pei_core::{Pei, put_reports};
 use std::sync::ledger::Ledger;
+use store_model::PeiStore;
 
 // How many steps a run has at most.
 fn bound(catalog: &Catalog, fuel: u32) -> u64
@@ -28,34 +29,29 @@ fn bound(catalog: &Catalog, fuel: u32) -> u64
     2 * u64::from(fuel) + MOST_FRAMES as u64 + 2 * catalog.modules.len() as u64 + 2
 }
 
-/// PEI from the opening to its end: the lines of the opening, then a step of the machine at a time, up to the stop. `order` is the order in which no volume is reported.
-/// At most one expression is evaluated in a turn for each part of the order. Want of memory is answered only where the store takes it.
+/// PEI from the opening to its end: the lines of the opening, then a step of the machine at a time, up to the stop. `order` is the order in which no volume is reported, and then that of all that were.
+/// Behind its end the core over its store, and the order, are those of the last machine. In each step of the machine at most one expression is evaluated for each part of the order. Want of memory is answered only where the store takes it.
 pub fn run_pei<M: PeiStore + Drop, S: Sink, L: Ledger>(
     pei: &mut Pei<M>,
     order: &mut PeiOrder,
     catalog: &Catalog,
     sink: &mut S,
     steps: &mut Steps<L>,
-) -> Result<Stop, Broken>
+) -> Result<PeiEnd, Halt>
     requires catalog { IsWellFormed catalog.now }
-    requires short { AreShort catalog.now }
     requires made { (fuel : ℕ) × IsFor catalog.now fuel pei.old }
-    requires order { IsPeiOrder catalog.now [] order.old }
+    requires order { IsNewOrder order.old }
     requires opening { (board : Board) × StandsFor M.stands_for pei.old (pei_opening board catalog.now) }
-    ensures row { (board : Board) (fuel : ℕ) → IsFor catalog.now fuel pei.old → StandsFor M.stands_for pei.old (pei_opening board catalog.now) → RunsTo M.TAKES_MEMORY (StandsFor M.stands_for pei.new) (pei_end board catalog.now fuel) (record { old = S.text sink.old; new = S.text sink.new }) result }
-    ensures faults { BrokenAfter result (S.faults sink.old) (S.faults sink.new) }
+    ensures row { Runs M.stands_for catalog.now pei.old pei.new order.new (S.text sink.old) (S.text sink.new) result }
+    ensures memory { IsWantOfStore M.TAKES_MEMORY result }
+    ensures faults { HaltsAfter result (S.faults sink.old) (S.faults sink.new) }
+    ensures few_steps { HasFewSteps catalog.now pei.old order.new steps.old steps.new }
 {
-    feed(order, catalog, pei.reported());
-    match put_reports(sink, pei.reported()) {
-        Ok(()) => {}
-        Err(SinkFault) => return Err(Broken::SinkFault),
-    }
-    let mut cursor = 0;
+    add_reported(order, catalog, pei.reported());
+    put_reports(sink, pei.reported())?;
     'turns: for _ in 0..bound(catalog, pei.fuel()) {
-        match turn(pei, order, &mut cursor, catalog, sink, steps) {
-            Ok(None) => {}
-            Ok(Some(stop)) => return Ok(stop),
-            Err(broken) => return Err(broken),
+        if let Some(end) = turn(pei, order, catalog, sink, steps)? {
+            return Ok(end);
         }
     }
     pei_runs_end();

@@ -1,52 +1,54 @@
 // A turn of the run: a step of the machine.
-ghost use Rattle.std.specs.Prelude.{◌≡◌, ◌≤◌, ℕ, length, false};
+ghost use Rattle.std.specs.Prelude.{◌≤◌, ◌+◌, ℕ, false, length};
+ghost use Rattle.boot_io.specs.Halted.{HaltsAfter};
 ghost use Rattle.boot_model.specs.PeiMachine.{PeiMachine};
-ghost use Rattle.boot_model.specs.PeiStep.{pei_step};
-ghost use Rattle.boot_model.specs.WellFormed.{IsWellFormed};
-ghost use Rattle.pei_choice.specs.Short.{AreShort};
-ghost use Rattle.pei_dispatch.specs.Ends.{BrokenAfter, broken_by};
-ghost use Rattle.pei_core.specs.Standing.{StandsFor, IsFor};
+ghost use Rattle.catalog_model.specs.WellFormed.{IsWellFormed};
+ghost use Rattle.pei_core.specs.Standing.{IsFor};
 ghost use Rattle.pei_core.specs.Steps.{IsIdle};
-ghost use Rattle.pei_dispatch.specs.Turns.{IsPlaced, TurnsTo};
+ghost use Rattle.pei_dispatch.specs.Ends.{IsWantOfStore};
+ghost use Rattle.pei_dispatch.specs.Turns.{IsNow, Turns, TurnsIdle};
 
-use crate::answer::{Broken, Stop};
 use crate::choose::choose;
-use crate::feed::feed_new;
+use crate::report::add_reported;
 use crate::start::start;
-use crate::stop::stop;
-use boot_io::{Sink, SinkFault};
-use boot_model::{Catalog, PeiStore};
+use crate::stop::{end_of, put_stop};
+use boot_io::{Halt, Sink};
+use boot_model::PeiEnd;
+use catalog_model::Catalog;
 use depex_code::Steps;
 use pei_choice::PeiOrder;
-use pei_core::{CoreFault, Pei, Stepped};
+use pei_core::{Pei, Stepped};
 use std::sync::ledger::Ledger;
+use store_model::PeiStore;
 
 // The next PEIM starts, or PEI stops.
 fn start_or_stop<M: PeiStore + Drop, S: Sink, L: Ledger>(
     pei: &mut Pei<M>,
-    order: &PeiOrder,
-    cursor: &mut usize,
+    order: &mut PeiOrder,
     catalog: &Catalog,
     sink: &mut S,
     steps: &mut Steps<L>,
-) -> Result<Option<Stop>, SinkFault>
+) -> Result<Option<PeiEnd>, Halt>
     requires catalog { IsWellFormed catalog.now }
-    requires short { AreShort catalog.now }
     requires made { (fuel : ℕ) × IsFor catalog.now fuel pei.old }
-    requires state { (m : PeiMachine) × StandsFor M.stands_for pei.old m × IsPlaced catalog.now m order.now cursor.old × IsIdle m }
-    ensures row { (m : PeiMachine) (fuel : ℕ) → IsFor catalog.now fuel pei.old → StandsFor M.stands_for pei.old m → IsPlaced catalog.now m order.now cursor.old → IsIdle m → TurnsTo false (StandsFor M.stands_for pei.new) catalog.now m (pei_step catalog.now fuel m) order.now cursor.new (record { old = S.text sink.old; new = S.text sink.new }) (broken_by result) }
+    requires state { (m : PeiMachine) × IsNow M.stands_for catalog.now pei.old order.old m × IsIdle m }
+    ensures row { TurnsIdle M.stands_for catalog.now pei.old order.old pei.new order.new (S.text sink.old) (S.text sink.new) result }
     ensures made { (fuel : ℕ) → IsFor catalog.now fuel pei.old → IsFor catalog.now fuel pei.new }
-    ensures faults { BrokenAfter (broken_by result) (S.faults sink.old) (S.faults sink.new) }
+    ensures memory { IsWantOfStore false result }
+    ensures faults { HaltsAfter result (S.faults sink.old) (S.faults sink.new) }
+    ensures longer { length order.old.parts ≤ length order.new.parts }
+    ensures few_steps { steps.new ≤ steps.old + length order.old.parts }
 {
-    match choose(pei, order, *cursor, catalog, steps) {
-        Some(number) => match start(pei, order, cursor, catalog, number, sink) {
-            Ok(()) => Ok(None),
-            Err(SinkFault) => Err(SinkFault),
-        },
-        None => match stop(pei, order, catalog, sink) {
-            Ok(stop) => Ok(Some(stop)),
-            Err(SinkFault) => Err(SinkFault),
-        },
+    match choose(pei, order, catalog, steps) {
+        Some(number) => {
+            start(pei, order, catalog, number, sink)?;
+            Ok(None)
+        }
+        None => {
+            let end = end_of(pei);
+            put_stop(pei, order, catalog, end, sink)?;
+            Ok(Some(end))
+        }
     }
 }
 
@@ -54,32 +56,27 @@ fn start_or_stop<M: PeiStore + Drop, S: Sink, L: Ledger>(
 pub(crate) fn turn<M: PeiStore + Drop, S: Sink, L: Ledger>(
     pei: &mut Pei<M>,
     order: &mut PeiOrder,
-    cursor: &mut usize,
     catalog: &Catalog,
     sink: &mut S,
     steps: &mut Steps<L>,
-) -> Result<Option<Stop>, Broken>
+) -> Result<Option<PeiEnd>, Halt>
     requires catalog { IsWellFormed catalog.now }
-    requires short { AreShort catalog.now }
     requires made { (fuel : ℕ) × IsFor catalog.now fuel pei.old }
-    requires state { (m : PeiMachine) × StandsFor M.stands_for pei.old m × IsPlaced catalog.now m order.old cursor.old }
-    ensures row { (m : PeiMachine) (fuel : ℕ) → IsFor catalog.now fuel pei.old → StandsFor M.stands_for pei.old m → IsPlaced catalog.now m order.old cursor.old → TurnsTo M.TAKES_MEMORY (StandsFor M.stands_for pei.new) catalog.now m (pei_step catalog.now fuel m) order.new cursor.new (record { old = S.text sink.old; new = S.text sink.new }) result }
+    requires state { (m : PeiMachine) × IsNow M.stands_for catalog.now pei.old order.old m }
+    ensures row { Turns M.stands_for catalog.now pei.old order.old pei.new order.new (S.text sink.old) (S.text sink.new) result }
     ensures made { (fuel : ℕ) → IsFor catalog.now fuel pei.old → IsFor catalog.now fuel pei.new }
-    ensures faults { BrokenAfter result (S.faults sink.old) (S.faults sink.new) }
+    ensures memory { IsWantOfStore M.TAKES_MEMORY result }
+    ensures faults { HaltsAfter result (S.faults sink.old) (S.faults sink.new) }
+    ensures longer { length order.old.parts ≤ length order.new.parts }
+    ensures few_steps { steps.new ≤ steps.old + length order.old.parts }
 {
-    let known = pei.reported().len();
-    match pei.step(catalog, sink) {
-        Ok(Stepped::Went) => {
-            feed_new(order, catalog, pei.reported(), known);
+    match pei.step(catalog, sink)? {
+        Stepped::Went(event) => {
+            let (_, new) = pei.reported().split_at(event.known);
+            add_reported(order, catalog, new);
             Ok(None)
         }
-        Ok(Stepped::Idle) => match start_or_stop(pei, order, cursor, catalog, sink, steps) {
-            Ok(turned) => Ok(turned),
-            Err(SinkFault) => Err(Broken::SinkFault),
-        },
-        Err(CoreFault::Spent) => Ok(Some(Stop::Spent)),
-        Err(CoreFault::Deep) => Ok(Some(Stop::Deep)),
-        Err(CoreFault::SinkFault) => Err(Broken::SinkFault),
-        Err(CoreFault::Memory) => Err(Broken::Memory),
+        Stepped::Idle => start_or_stop(pei, order, catalog, sink, steps),
+        Stepped::Ended(end) => Ok(Some(end)),
     }
 }

@@ -1,17 +1,18 @@
 // The parts that wait after the stop.
-ghost use Rattle.std.specs.Prelude.{◌≡◌, flat_map};
-ghost use Rattle.std.specs.Option.{option_to_list};
-ghost use Rattle.boot_io.specs.Sink.{Puts, SinkFaultsAfter};
+ghost use Rattle.std.specs.Prelude.{◌≡◌};
+ghost use Rattle.boot_io.specs.Sink.{SinkFaultsAfter};
 ghost use Rattle.boot_model.specs.PeiMachine.{PeiMachine};
+ghost use Rattle.boot_model.specs.PeimState.{IsPeimState};
 ghost use Rattle.boot_model.specs.PeiStep as P;
-ghost use Rattle.boot_model.specs.Text.{text_of};
-ghost use Rattle.pei_choice.specs.Standing.{AreStages, IsStage};
+ghost use Rattle.pei_dispatch.specs.Waiting.{PutsWaiting, PutsAllWaiting};
 
 use boot_io::{Sink, SinkFault};
-use boot_model::{Catalog, Line, Part, PartExpr, Reason};
+use boot_model::{Line, PeimState, Reason, state_of};
 use boot_trace::put;
-use pei_choice::{Stage, pei_part, stage_of};
+use catalog_model::{Catalog, Part, PartExpr};
+use frames::part_of;
 use pei_core::{name_of, volume_of};
+use pi_base::Phase;
 
 // Why a part waits that has not started.
 fn reason_by(part: &Part) -> Reason
@@ -24,26 +25,24 @@ fn reason_by(part: &Part) -> Reason
 }
 
 // Why the part of a module waits that has come so far, if it does.
-fn reason_of(catalog: &Catalog, number: u32, stage: Stage) -> Option<Reason>
-    ensures { (m : PeiMachine) → IsStage m number stage → result ≡ P.reason_of catalog.now m number }
+fn reason_of(catalog: &Catalog, number: u32, state: PeimState) -> Option<Reason>
+    ensures { (m : PeiMachine) → IsPeimState m number state → result ≡ P.reason_of catalog.now m number }
 {
-    if !stage.started {
-        return match pei_part(catalog, number) {
+    match state {
+        PeimState::NotDispatched => match part_of(catalog, Phase::Pei, number) {
             Some(part) => Some(reason_by(part)),
             None => None,
-        };
+        },
+        PeimState::RegisteredForShadow => Some(Reason::Shadow),
+        PeimState::Dispatched | PeimState::Done => None,
     }
-    if stage.registered && !stage.again {
-        return Some(Reason::Shadow);
-    }
-    None
 }
 
 // The line of a module that has come so far, where its part waits.
-fn waiting_line(catalog: &Catalog, number: u32, stage: Stage) -> Option<Line>
-    ensures { (m : PeiMachine) → IsStage m number stage → result ≡ P.waiting_line catalog.now m number }
+fn waiting_line(catalog: &Catalog, number: u32, state: PeimState) -> Option<Line>
+    ensures { (m : PeiMachine) → IsPeimState m number state → result ≡ P.waiting_line catalog.now m number }
 {
-    match reason_of(catalog, number, stage) {
+    match reason_of(catalog, number, state) {
         Some(reason) => Some(Line::Waiting {
             volume: volume_of(catalog, number),
             name: name_of(catalog, number),
@@ -57,13 +56,13 @@ fn waiting_line(catalog: &Catalog, number: u32, stage: Stage) -> Option<Line>
 fn put_waiting<S: Sink>(
     catalog: &Catalog,
     number: u32,
-    stage: Stage,
+    state: PeimState,
     sink: &mut S,
 ) -> Result<(), SinkFault>
-    ensures text { (m : PeiMachine) → IsStage m number stage → Puts result (S.text sink.old) (S.text sink.new) (text_of (option_to_list (P.waiting_line catalog.now m number))) }
+    ensures text { PutsWaiting catalog.now number state (S.text sink.old) (S.text sink.new) result }
     ensures cause { SinkFaultsAfter result (S.faults sink.old) (S.faults sink.new) }
 {
-    match waiting_line(catalog, number, stage) {
+    match waiting_line(catalog, number, state) {
         Some(line) => put(sink, &line),
         None => Ok(()),
     }
@@ -73,17 +72,14 @@ fn put_waiting<S: Sink>(
 pub(crate) fn put_all_waiting<S: Sink>(
     catalog: &Catalog,
     numbers: &[u32],
-    stages: &[Stage],
+    states: &[PeimState],
     sink: &mut S,
 ) -> Result<(), SinkFault>
-    ensures text { (m : PeiMachine) → AreStages m stages.now → Puts result (S.text sink.old) (S.text sink.new) (text_of (flat_map (λ number. option_to_list (P.waiting_line catalog.now m number)) numbers.now)) }
+    ensures text { PutsAllWaiting catalog.now numbers.now states.now (S.text sink.old) (S.text sink.new) result }
     ensures cause { SinkFaultsAfter result (S.faults sink.old) (S.faults sink.new) }
 {
     'parts: for number in numbers {
-        match put_waiting(catalog, *number, stage_of(stages, *number), sink) {
-            Ok(()) => {}
-            Err(SinkFault) => return Err(SinkFault),
-        }
+        put_waiting(catalog, *number, state_of(states, *number), sink)?;
     }
     Ok(())
 }

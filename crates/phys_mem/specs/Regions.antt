@@ -17,9 +17,13 @@ rom_region rom = record { base = rom.base; bytes = rom.bytes; writable = false }
 abbrev pub temps : PhysMem → List Region
 temps memory = option_to_list (option_map ram_region memory.temp)
 
--- RAM, and the volumes in their order: what is always mapped
+-- the volumes in their order
+abbrev pub rom_regions : PhysMem → List Region
+rom_regions memory = map rom_region memory.roms
+
+-- RAM and the volumes: what is always mapped
 abbrev pub fixed_regions : PhysMem → List Region
-fixed_regions memory = ram_region memory.ram ∷ map rom_region memory.roms
+fixed_regions memory = ram_region memory.ram ∷ rom_regions memory
 
 -- temporary RAM while it is mapped, and what is always mapped
 abbrev pub regions : PhysMem → List Region

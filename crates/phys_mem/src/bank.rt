@@ -5,10 +5,12 @@ ghost use Rattle.phys_mem.specs.Region.{part_of, is_inside, replaced};
 use pi_base::{OutOfMemory, Span};
 use std::alloc::Global;
 
-/// Bytes that are written, and the address of the first.
+/// RAM: bytes that are read and written.
 #[derive(Drop)]
 pub struct Bank {
+    /// The address of the first byte.
     pub base: u64,
+    /// The bytes in order of address.
     pub bytes: Vec<u8>,
 }
 

@@ -19,7 +19,7 @@ pub struct PhysMem {
 
 impl PhysMem {
     ghost use Rattle.phys_mem.specs.Region.{Region};
-    ghost use Rattle.phys_mem.specs.Regions.{regions, fixed_regions, temps, ram_region, rom_region, bytes_at, written, share, copy_of, copied, Becomes};
+    ghost use Rattle.phys_mem.specs.Regions.{regions, fixed_regions, rom_regions, temps, ram_region, rom_region, bytes_at, written, share, copy_of, copied, Becomes};
 
     /// Memory whose temporary RAM and RAM are zero.
     pub fn new(alloc: Global, temp: Span, ram: Span, roms: Seq<Rom>) -> Result<PhysMem, OutOfMemory>
@@ -52,6 +52,13 @@ impl PhysMem {
             Some(bytes) => Some(bytes),
             None => read_roms(self.roms.as_slice(), at, n),
         }
+    }
+
+    /// The `n` bytes at an address, if all of them lie in one volume.
+    pub fn read_rom(&self, at: u64, n: usize) -> Option<&[u8]>
+        ensures { option_map (λ bytes. bytes.now) result ≡ bytes_at (rom_regions self.now) at n }
+    {
+        read_roms(self.roms.as_slice(), at, n)
     }
 
     // Writes the bytes into temporary RAM, if they all lie there.
@@ -119,7 +126,8 @@ impl PhysMem {
     pub fn copy(&mut self, from: u64, to: u64, n: usize) -> bool
         ensures { Becomes (copied (regions self.old) from to n) (regions self.old) result (regions self.new) }
     {
-        if self.shares(from, to, n) {
+        let is_shared = self.shares(from, to, n);
+        if is_shared {
             false
         } else if self.copy_to_temp(from, to, n) {
             true

@@ -41,6 +41,10 @@ fn memory_is_read_and_written(rt: HostRuntime) -> Result<(), Fail> {
     for (at, n, want) in rows {
         assert!(rt; memory.read(at, n) == want, "{at:x}");
     }
+    assert!(rt; memory.read_rom(0x3001, 3) == Some(&[2, 3, 4]));
+    assert!(rt; memory.read_rom(0x3001, 4).is_none());
+    assert!(rt; memory.read_rom(0x1000, 1).is_none());
+    assert!(rt; memory.read_rom(0x2000, 1).is_none());
     assert!(rt; memory.write(0x1ffe, &[7, 8]));
     assert!(rt; !memory.write(0x1fff, &[9, 9]));
     assert!(rt; !memory.write(0x3000, &[9]));

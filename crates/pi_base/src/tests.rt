@@ -17,6 +17,9 @@ fn guids_have_the_usual_text(rt: HostRuntime) -> Result<(), Fail> {
     assert_eq!(rt; Guid::from_text(upper), Some(stored));
     assert_eq!(rt; Guid::from_text(braced), None);
     assert_eq!(rt; Guid::from_text(plain), None);
+    let mut file = [0u8; 20];
+    file[4..].copy_from_slice(&stored.0);
+    assert_eq!(rt; Guid::at(file.as_slice(), 4), stored);
     Ok(())
 }
 
@@ -52,6 +55,24 @@ fn fields_are_little_endian(rt: HostRuntime) -> Result<(), Fail> {
     put_u64(&mut out, 8, 0x0807060504030201);
     let wanted = [0, 1, 2, 3, 4, 5, 6, 0, 1, 2, 3, 4, 5, 6, 7, 8, 0];
     assert_eq!(rt; out, wanted);
+    put_u24(&mut out, 1, 0x0c0b0a);
+    assert_eq!(rt; &out[..5], b"\x00\x0a\x0b\x0c\x04".as_slice());
+    Ok(())
+}
+
+#[test]
+fn checksums_make_a_header_sum_to_zero(rt: HostRuntime) -> Result<(), Fail> {
+    // (bytes, the 8-bit checksum, the 16-bit one)
+    let rows = [
+        ([0u8, 0, 0, 0], 0, 0),
+        ([1, 0, 0, 0], 0xff, 0xffff),
+        ([0x80, 0x80, 1, 0x7f], 0x80, 0x007f),
+        ([0xff, 0xff, 0xff, 0xff], 4, 2),
+    ];
+    for (bytes, byte, word) in rows {
+        assert_eq!(rt; checksum8(bytes.as_slice()), byte);
+        assert_eq!(rt; checksum16(bytes.as_slice()), word);
+    }
     Ok(())
 }
 

@@ -2,7 +2,7 @@
 ghost use Rattle.std.specs.Prelude.{◌≡◌, ◌<◌, ◌↔◌, IfSome, IsNone};
 ghost use Rattle.pi_base.specs.Word.{word_number};
 
-/// What a boot service or a module answers: the `EFI_STATUS` values that occur here (PI 1.8, volume 1). In a script a word is written by its number, from 0 in this order (own).
+/// What a boot service or a module answers: the `EFI_STATUS` values that occur here (UEFI's appendix of status codes; `NotAvailableYet` is PI 1.8's, volume 1). In a script a word is written by its number, from 0 in this order (own).
 #[derive(Clone, Copy, Debug, PartialEq, Eq)]
 pub enum Word {
     /// The service did what was asked.

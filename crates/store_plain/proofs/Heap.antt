@@ -1,24 +1,25 @@
 -- A byte of two lists, and the lengths of what stands in the heap.
-use Rattle.std.proofs.Common.{◌≡◌, ℕ, zero, suc, ◌+◌, ◌≤◌, ◌<◌, List, [], ◌∷◌, ◌++◌, length, take, drop, get_or, arith, ap, refl, sym, ◌∙◌, Option, Some, None, append_assoc}
+use Rattle.std.proofs.Common.{◌≡◌, ℕ, zero, suc, ◌+◌, ◌≤◌, ◌<◌, ◌^◌, List, [], ◌∷◌, ◌++◌, length, take, drop, get_or, arith, ap, refl, sym, ◌∙◌, Option, Some, None, append_assoc}
 use Rattle.std.specs.Prelude.{map, sum_by, slice_set}
 use Rattle.std.proofs.lemmas.List.{map-append}
 use Rattle.store_plain.specs.Words.{words_bytes, descriptor_words}
 use Rattle.std.proofs.lemmas.List.Sums.{sum_by-cons}
-use Rattle.boot_model.specs.declared.store_handle.DescKind.{DescKind}
-use Rattle.boot_model.specs.declared.state.Entry.{Entry}
-use Rattle.boot_model.specs.declared.state.Pending.{Pending}
-use Rattle.boot_model.specs.declared.state.DescriptorBody.{DescriptorBody}
-use Rattle.boot_model.specs.declared.state.Body.{Body}
-use Rattle.boot_model.specs.declared.state.Body.TheVariants.{Bytes, Descriptor, Node, Allocation}
-use Rattle.boot_model.specs.declared.state.HobEntry.{HobEntry}
-use Rattle.boot_model.specs.Lists.{Each, numbers}
-use Rattle.boot_model.specs.StoreState.{StoreState, hob_len, body_len, descriptor_len, end_place, body_at}
-use Rattle.boot_model.specs.StateFacts.{IsEntry, IsPending}
-use Rattle.boot_model.specs.HeapImage.{Links, header_bytes, body_bytes, hobs_bytes, guid_behind, links_bytes, descriptor_bytes}
-use Rattle.store_plain.specs.PlainBody.{IsSized}
+use Rattle.store_model.specs.declared.store_handle.DescKind.{DescKind}
+use Rattle.store_model.specs.declared.state.Entry.{Entry}
+use Rattle.store_model.specs.declared.state.Pending.{Pending}
+use Rattle.store_model.specs.declared.state.DescriptorBody.{DescriptorBody}
+use Rattle.store_model.specs.declared.state.Body.{Body}
+use Rattle.store_model.specs.declared.state.Body.TheVariants.{Bytes, Descriptor, Node, Allocation}
+use Rattle.store_model.specs.declared.state.HobEntry.{HobEntry}
+use Rattle.pi_base.specs.Lists.{Each, numbers}
+use Rattle.store_model.specs.StoreState.{StoreState, body_at, handoff_len, hob_len}
+use Rattle.store_model.specs.StateFacts.{IsEntry, IsPending, IsStoreState}
+use Rattle.store_model.specs.HeapImage.{header_bytes, body_bytes, hobs_bytes, guid_behind, descriptor_bytes}
+use Rattle.store_laws.specs.Fitting.{IsSpelled}
+use Rattle.store_laws.proofs.Fits.{all_fit}
 use Rattle.store_plain.specs.Peeking.{byte_of, IsNear, IsPendingNear}
-use Rattle.store_plain.proofs.Ordered.{each_more}
-use Rattle.store_plain.proofs.Facts.{body_before}
+use Rattle.pi_base.proofs.ListFacts.{each_more}
+use Rattle.store_laws.proofs.Bodies.{body_before}
 
 pub byte_left : (xs ys : List ℕ) (i : ℕ) → i < length xs → byte_of (xs ++ ys) i ≡ byte_of xs i
 byte_left [] ys i le = absurd (omega (arith, le))
@@ -30,32 +31,23 @@ byte_right [] ys i j e = let same : i ≡ j = omega (arith, e) in ap (byte_of ys
 byte_right (x ∷ xs) ys zero j e = absurd (omega (arith, e))
 byte_right (x ∷ xs) ys (suc i) j e = byte_right xs ys i j (omega (arith, e))
 
-pub guid_len : (d : DescriptorBody) (stands : Option ℕ) → length d.guid.0 ≡ 16 → length (guid_behind d stands) + 24 ≡ descriptor_len stands
-guid_len d None e = omega (arith, e)
-guid_len d (Some address) e = refl
+pub hob_spelled : (s : StoreState) (place : ℕ) (hob : HobEntry) → IsSpelled s hob → length (header_bytes hob.kind (hob_len hob) ++ body_bytes s place hob.body) ≡ hob_len hob
+hob_spelled s place hob h = let e = h place in omega (arith, e)
 
-node_len : (links : Option Links) → length (links_bytes links) ≡ 32
-node_len None = refl
-node_len (Some links) = refl
+-- what an entry names stands in the heap, whose addresses fit
+near : (s : StoreState) (place : ℕ) (body : Body) → IsStoreState s → body_at s place ≡ Some body → s.base + place < 2 ^ 64
+near s place body facts h =
+    let before = body_before s.hobs handoff_len place body h in
+    let room = facts.room in
+    let end = (all_fit.heap s facts).end in
+    omega (arith, before, room, end)
 
-pub sized : (s : StoreState) (place : ℕ) (body : Body) → IsSized body → length (body_bytes s place body) ≡ body_len body
-sized s place (Bytes bytes) h = refl
-sized s place (Descriptor d) h = let e = guid_len d d.stands h in omega (arith, e)
-sized s place Node h = node_len _
-sized s place (Allocation a) h = refl
+pub entries_near : (s : StoreState) (kind : DescKind) (entries : List Entry) → IsStoreState s → Each (IsEntry s kind) entries → Each (IsNear s.base) entries
+entries_near s kind entries facts h = each_more (IsEntry s kind) (IsNear s.base) entries (λ entry is. (near s entry.node _ facts is.0, near s entry.descriptor _ facts is.1.1)) h
 
-pub hob_sized : (s : StoreState) (place : ℕ) (hob : HobEntry) → IsSized hob.body → length (header_bytes hob.kind (hob_len hob) ++ body_bytes s place hob.body) ≡ hob_len hob
-hob_sized s place hob h = let e = sized s place hob.body h in omega (arith, e)
-
--- what an entry names stands in the heap
-near : (s : StoreState) (place end : ℕ) (body : Body) → end ≡ end_place s → body_at s place ≡ Some body → place ≤ end
-near s place end body e h = let before = body_before s.hobs 56 place body h in omega (arith, before, e)
-
-pub entries_near : (s : StoreState) (kind : DescKind) (end : ℕ) (entries : List Entry) → end ≡ end_place s → Each (IsEntry s kind) entries → Each (IsNear end) entries
-entries_near s kind end entries e h = each_more (IsEntry s kind) (IsNear end) entries (λ entry is. (near s entry.node end _ e is.0, near s entry.descriptor end _ e is.1.1)) h
-
-pub pendings_near : (s : StoreState) (end : ℕ) (pendings : List Pending) → end ≡ end_place s → Each (IsPending s) pendings → Each (IsPendingNear end) pendings
-pendings_near s end pendings e h = each_more (IsPending s) (IsPendingNear end) pendings (λ pending is. (near s pending.node end _ e is.0, near s pending.descriptor end _ e is.1.1, near s pending.ppi end _ e is.2.1)) h
+pub pendings_near : (s : StoreState) (pendings : List Pending) → IsStoreState s → Each (IsPending s) pendings → Each (IsPendingNear s.base) pendings
+pendings_near s pendings facts h =
+    each_more (IsPending s) (IsPendingNear s.base) pendings (λ pending is. (near s pending.node _ facts is.0, near s pending.descriptor _ facts is.1.1, near s pending.ppi _ facts is.2.1)) h
 
 pub numbers_more : (from count : ℕ) → numbers from (count + 1) ≡ numbers from count ++ (from + count) ∷ []
 numbers_more from zero = ap (λ n. n ∷ []) (let e : from ≡ from + 0 = omega arith in e)
@@ -79,20 +71,20 @@ pub sum_is : (hobs : List HobEntry) (i : ℕ) (hob : HobEntry) → i < length ho
 sum_is hobs i hob le e = ap (sum_by hob_len) (drop_is hobs i hob le e) ∙ sum_by-cons hob_len hob (drop (i + 1) hobs)
 
 -- a byte of the HOB with a number, and one behind it
-pub byte_here : (s : StoreState) (hobs : List HobEntry) (at i n : ℕ) (hob : HobEntry) (tail : List ℕ) → i < length hobs → hob ≡ get_or hobs i hob → IsSized hob.body → n < hob_len hob
+pub byte_here : (s : StoreState) (hobs : List HobEntry) (at i n : ℕ) (hob : HobEntry) (tail : List ℕ) → i < length hobs → hob ≡ get_or hobs i hob → IsSpelled s hob → n < hob_len hob
     → byte_of (hobs_bytes s at (drop i hobs) ++ tail) n ≡ byte_of (header_bytes hob.kind (hob_len hob) ++ body_bytes s (at + 8) hob.body) n
 byte_here s hobs at i n hob tail le e size below =
     let this = header_bytes hob.kind (hob_len hob) ++ body_bytes s (at + 8) hob.body in
     let later = hobs_bytes s (at + hob_len hob) (drop (i + 1) hobs) in
-    let len : length this ≡ hob_len hob = hob_sized s (at + 8) hob size in
+    let len : length this ≡ hob_len hob = hob_spelled s (at + 8) hob size in
     ap (λ xs. byte_of (hobs_bytes s at xs ++ tail) n) (drop_is hobs i hob le e) ∙ ap (λ xs. byte_of xs n) (append_assoc this later tail) ∙ byte_left this (later ++ tail) n (omega (arith, len, below))
 
-pub byte_later : (s : StoreState) (hobs : List HobEntry) (at i n m : ℕ) (hob : HobEntry) (tail : List ℕ) → i < length hobs → hob ≡ get_or hobs i hob → IsSized hob.body → n ≡ hob_len hob + m
+pub byte_later : (s : StoreState) (hobs : List HobEntry) (at i n m : ℕ) (hob : HobEntry) (tail : List ℕ) → i < length hobs → hob ≡ get_or hobs i hob → IsSpelled s hob → n ≡ hob_len hob + m
     → byte_of (hobs_bytes s at (drop i hobs) ++ tail) n ≡ byte_of (hobs_bytes s (at + hob_len hob) (drop (i + 1) hobs) ++ tail) m
 byte_later s hobs at i n m hob tail le e size there =
     let this = header_bytes hob.kind (hob_len hob) ++ body_bytes s (at + 8) hob.body in
     let later = hobs_bytes s (at + hob_len hob) (drop (i + 1) hobs) in
-    let len : length this ≡ hob_len hob = hob_sized s (at + 8) hob size in
+    let len : length this ≡ hob_len hob = hob_spelled s (at + 8) hob size in
     ap (λ xs. byte_of (hobs_bytes s at xs ++ tail) n) (drop_is hobs i hob le e) ∙ ap (λ xs. byte_of xs n) (append_assoc this later tail) ∙ byte_right this (later ++ tail) n m (omega (arith, len, there))
 
 take_set : (xs : List ℕ) (i x : ℕ) → i < length xs → take (i + 1) (slice_set xs i x) ≡ take i xs ++ x ∷ []

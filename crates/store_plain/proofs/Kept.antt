@@ -1,10 +1,10 @@
 -- A store that stands for its own state still does after a call.
 use Rattle.std.proofs.Common.{ℕ, ◌≤◌, refl, subst, arith}
-use Rattle.boot_model.specs.declared.store_handle.DescKind.{DescKind}
-use Rattle.boot_model.specs.declared.store_handle.DescKind.TheVariants.{Ppi, Callback, Dispatch}
-use Rattle.boot_model.specs.StoreState.{StoreState}
-use Rattle.boot_model.specs.StateFacts.{IsStoreState, IsNumberOf}
-use Rattle.boot_model.specs.Service.{AfterEach, And}
+use Rattle.store_model.specs.declared.store_handle.DescKind.{DescKind}
+use Rattle.store_model.specs.declared.store_handle.DescKind.TheVariants.{Ppi, Callback, Dispatch}
+use Rattle.store_model.specs.StoreState.{StoreState}
+use Rattle.store_model.specs.StateFacts.{IsStoreState, IsNumberOf}
+use Rattle.store_model.specs.Service.{AfterEach, And}
 use Rattle.store_plain.specs.declared.store.PlainStore.{PlainStore}
 use Rattle.store_plain.specs.PlainState.{state_of, stands_for}
 
@@ -15,6 +15,6 @@ pub kept_with : (p q : PlainStore) (Needs : StoreState → Type 0) (R : StoreSta
 kept_with p q Needs R row facts needs = let x = row (state_of p) ((refl, facts), needs) in subst IsStoreState x.2.0 x.2.1
 
 pub number_of : (kind : DescKind) (n : ℕ) → n ≤ 0xffff → IsNumberOf kind n
-number_of Ppi n le = tt
+number_of Ppi n le = omega (arith, le)
 number_of Callback n le = omega (arith, le)
 number_of Dispatch n le = omega (arith, le)

@@ -1,25 +1,12 @@
 pub mod Rest
-pub mod Places
-pub mod Ordered
-pub mod Facts
-pub mod Named
 pub mod Encoded
-pub mod Sweeps
 pub mod Folds
 pub mod Renamed
 pub mod WordLists
 pub mod Moves
 pub mod Heap
-pub mod Sound
-pub mod Added
-pub mod Again
-pub mod Changed
-pub mod Keeps
-pub mod Migrated
 pub mod Rows
-pub mod Opening
 pub mod Kept
-pub mod Longer
-pub mod Sized
-pub mod Services
 mod NewPool
+pub mod Left
+pub mod TestBoards

@@ -7,13 +7,13 @@ use Rattle.std.proofs.lemmas.List.Sums.{sum_by-cons}
 use Rattle.store_plain.specs.declared.store.PlainStore.{PlainStore}
 use Rattle.store_plain.specs.PlainState.{state_of}
 use Rattle.store_plain.specs.Moves.{SameLists}
-use Rattle.boot_model.specs.declared.state.Entry.{Entry}
-use Rattle.boot_model.specs.declared.state.Body.{Body}
-use Rattle.boot_model.specs.declared.state.Body.TheVariants.{Bytes, Descriptor, Node, Allocation}
-use Rattle.boot_model.specs.declared.state.HobEntry.{HobEntry}
-use Rattle.boot_model.specs.StoreState.{StoreState, Range, hob_len}
-use Rattle.boot_model.specs.Service.Descriptor.{descriptors}
-use Rattle.boot_model.specs.Migration.{moved_body, moved_hobs}
+use Rattle.store_model.specs.declared.state.Entry.{Entry}
+use Rattle.store_model.specs.declared.state.Body.{Body}
+use Rattle.store_model.specs.declared.state.Body.TheVariants.{Bytes, Descriptor, Node, Allocation}
+use Rattle.store_model.specs.declared.state.HobEntry.{HobEntry}
+use Rattle.store_model.specs.StoreState.{StoreState, Range, hob_len}
+use Rattle.store_model.specs.Service.Descriptor.{descriptors}
+use Rattle.store_model.specs.Migration.{moved_body, moved_hobs}
 
 or_assoc : (a b c : Bool) → (a || b || c) ≡ (a || (b || c))
 or_assoc true b c = refl

@@ -2,17 +2,17 @@
 use Rattle.std.proofs.Common.{◌≡◌, ℕ, ◌+◌, Bool, true, false, cond, List, Result, Ok, Err, refl, subst, arith, length}
 use Rattle.std.specs.Prelude.{nat_lt, replicate, IfOk}
 use Rattle.std.proofs.lemmas.List.{length-replicate}
-use Rattle.boot_model.specs.declared.store_handle.Pool.{Pool}
-use Rattle.boot_model.specs.declared.store_handle.StoreFault.{StoreFault}
-use Rattle.boot_model.specs.declared.store_handle.StoreFault.TheVariants.{Full}
-use Rattle.boot_model.specs.declared.state.Body.TheVariants.{Bytes}
-use Rattle.boot_model.specs.StoreState.{StoreState, appended, pool_of, rounded, next_body, free}
-use Rattle.boot_model.specs.StateFacts.{IsStoreState, IsPool}
-use Rattle.boot_model.specs.Service.{Service, AfterEach, Answers}
-use Rattle.boot_model.specs.Service.Pool.{pool, most_pool}
+use Rattle.store_model.specs.declared.store_handle.Pool.{Pool}
+use Rattle.store_model.specs.declared.store_handle.StoreFault.{StoreFault}
+use Rattle.store_model.specs.declared.store_handle.StoreFault.TheVariants.{Full}
+use Rattle.store_model.specs.declared.state.Body.TheVariants.{Bytes}
+use Rattle.store_model.specs.StoreState.{StoreState, appended, pool_of, rounded, next_body, free}
+use Rattle.store_model.specs.StateFacts.{IsStoreState, IsPool}
+use Rattle.store_model.specs.Service.{Service, AfterEach, Answers}
+use Rattle.store_model.specs.Service.Pool.{pool, most_pool}
 use Rattle.store_plain.specs.declared.store.PlainStore.{PlainStore}
 use Rattle.store_plain.specs.PlainState.{state_of, stands_for}
-use Rattle.store_plain.proofs.Facts.{new_body}
+use Rattle.store_laws.proofs.Bodies.{new_body}
 
 abbrev zeros : ℕ → List ℕ
 zeros size = let zero : ℕ = 0 in replicate (rounded size) zero

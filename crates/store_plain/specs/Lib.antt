@@ -4,4 +4,4 @@ pub mod Nodes
 pub mod Words
 pub mod Moves
 pub mod Peeking
-pub mod Laws
+pub mod Behind

@@ -1,9 +1,9 @@
 -- What the adding of entries and queued pairs needs: room in the heap for their nodes, and memory in the lists.
 -- Own.
 use Rattle.std.specs.Prelude.{ℕ, ◌+◌, ◌*◌, ◌≤◌, List, map, filter, vec_len, vec_capacity}
-use Rattle.boot_model.specs.FileType.{same_guid}
-use Rattle.boot_model.specs.StoreState.{StoreState, free}
-use Rattle.boot_model.specs.Service.Descriptor.{guid_at}
+use Rattle.pi_base.specs.Guids.{same_guid}
+use Rattle.store_model.specs.StoreState.{StoreState, free}
+use Rattle.store_model.specs.Service.Descriptor.{guid_at}
 use Rattle.store_plain.specs.declared.store.PlainStore.{PlainStore}
 use Rattle.store_plain.specs.PlainState.{state_of}
 
@@ -14,7 +14,8 @@ HasNodes p n = (40 * n ≤ free (state_of p)) × (vec_len p.hobs + n ≤ vec_cap
 -- so many entries can be added to each list
 abbrev pub HasEntries : PlainStore → ℕ → Type 0
 HasEntries p n =
-    (vec_len p.ppis + n ≤ vec_capacity p.ppis) × (vec_len p.callbacks + n ≤ vec_capacity p.callbacks) × (vec_len p.dispatches + n ≤ vec_capacity p.dispatches)
+    (vec_len p.ppis + n ≤ vec_capacity p.ppis) × (vec_len p.callbacks + n ≤ vec_capacity p.callbacks)
+    × (vec_len p.dispatches + n ≤ vec_capacity p.dispatches)
 
 -- the pairs of one PPI
 abbrev pub row_of : StoreState → ℕ → List ℕ → List (ℕ × ℕ)

@@ -1,9 +1,9 @@
 -- What a body of a plain store stands for: its bytes, wherever they lie, or a descriptor, a node or pages.
 -- Own.
 use Rattle.std.specs.Prelude.{◌≡◌, ℕ, length, ⊤}
-use Rattle.boot_model.specs.HeapImage.{descriptor_bytes}
-use Rattle.boot_model.specs.declared.state.Body.{Body}
-use Rattle.boot_model.specs.declared.state.Body.TheVariants as S
+use Rattle.store_model.specs.HeapImage.{descriptor_bytes}
+use Rattle.store_model.specs.declared.state.Body.{Body}
+use Rattle.store_model.specs.declared.state.Body.TheVariants as S
 use Rattle.store_plain.specs.declared.plain_hob.PlainBody.{PlainBody}
 use Rattle.store_plain.specs.declared.plain_hob.Role.{Role}
 use Rattle.store_plain.specs.declared.plain_hob.Role.TheVariants as R
@@ -43,10 +43,3 @@ role_body (R.Bytes bytes) = S.Bytes bytes.now
 role_body (R.Descriptor d) = S.Descriptor d
 role_body R.Node = S.Node
 role_body (R.Allocation a) = S.Allocation a
-
--- a GUID has sixteen bytes
-abbrev pub IsSized : Body → Type 0
-IsSized (S.Bytes bytes) = ⊤
-IsSized (S.Descriptor d) = length d.guid.0 ≡ 16
-IsSized S.Node = ⊤
-IsSized (S.Allocation a) = ⊤

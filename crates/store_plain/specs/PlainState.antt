@@ -3,8 +3,8 @@
 use Rattle.std.specs.Prelude.{◌≡◌, option_map}
 use Rattle.pi_base.specs.declared.span.Span.{Span}
 use Rattle.store_plain.specs.declared.store.PlainStore.{PlainStore}
-use Rattle.boot_model.specs.StoreState.{StoreState, Range}
-use Rattle.boot_model.specs.StateFacts.{IsStoreState}
+use Rattle.store_model.specs.StoreState.{StoreState, Range}
+use Rattle.store_model.specs.StateFacts.{IsStoreState}
 
 abbrev pub range_of : Span → Range
 range_of span = record { base = span.base; len = span.len }

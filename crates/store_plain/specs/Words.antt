@@ -3,8 +3,8 @@
 use Rattle.std.specs.Prelude.{ℕ, List, [], ◌∷◌}
 use Rattle.std.specs.List.{flat_map}
 use Rattle.pi_base.specs.Field.{little_bytes}
-use Rattle.boot_model.specs.declared.state.DescriptorBody.{DescriptorBody}
-use Rattle.boot_model.specs.HeapImage.{kind_flags, guid_address}
+use Rattle.store_model.specs.declared.state.DescriptorBody.{DescriptorBody}
+use Rattle.store_model.specs.HeapImage.{kind_flags, guid_address}
 
 abbrev pub words_bytes : List ℕ → List ℕ
 words_bytes words = flat_map (λ n. little_bytes 8 n) words

@@ -1,29 +1,23 @@
 // Descriptors are made and looked up.
 ghost use Rattle.std.specs.Prelude.{◌≡◌, ◌+◌, ◌<◌, true, take, sum_by, length, option_map, IfSome, IfNone, is_some, unwrap_or, None};
-ghost use Rattle.boot_model.specs.StoreState.{body_at, hob_len};
-ghost use Rattle.boot_model.specs.FileType.{same_guid};
-ghost use Rattle.boot_model.specs.MemoryReading.{rom_bytes};
-ghost use Rattle.boot_model.specs.Service.{Answers};
-ghost use Rattle.boot_model.specs.Service.Descriptor.{desc, guid_from, descriptor_at, guid_at, number_at, kind_at, no_guid};
+ghost use Rattle.store_model.specs.StoreState.{body_at, handoff_len, header_len, hob_len};
+ghost use Rattle.pi_base.specs.Guids.{same_guid};
+ghost use Rattle.store_model.specs.MemoryReading.{rom_bytes};
+ghost use Rattle.store_model.specs.Service.{Answers};
+ghost use Rattle.store_model.specs.Service.Descriptor.{desc, guid_from, descriptor_at, guid_at, number_at, kind_at, no_guid};
 ghost use Rattle.phys_mem.specs.Region.{part_of};
-ghost use Rattle.store_plain.specs.Laws.{IsWholeGuid};
+ghost use Rattle.store_laws.specs.Keeping.{IsWholeGuid};
 
-use crate::kind::POOL;
 use crate::length::{HANDOFF_LEN, HEADER_LEN, descriptor_len};
-use crate::plain_hob::{PlainBody, PlainHob, has_sixteen};
+use crate::plain_hob::{PlainBody, PlainHob};
 use crate::store::PlainStore;
-use boot_model::{Desc, DescKind, DescriptorBody, GuidFrom, StoreFault};
+use hob_codec::kind::POOL;
 use phys_mem::Rom;
-use pi_base::{Guid, OutOfMemory};
+use pi_base::Guid;
+use store_model::{Desc, DescKind, DescriptorBody, GuidFrom, StoreFault};
 
-// The law that a GUID that is handed in has sixteen bytes.
-pub(crate) fn is_whole(guid: &GuidFrom)
-    ensures { IsWholeGuid guid.now }
-{
-    if let GuidFrom::Inline(guid) = guid {
-        has_sixteen(&guid.0);
-    }
-}
+// The length of a GUID.
+const GUID_LEN: usize = 16;
 
 // The bytes of a descriptor's GUID, or none.
 fn guid_bytes(found: &Option<DescriptorBody>) -> &[u8]
@@ -66,20 +60,17 @@ impl PlainStore {
 
     // The GUID, and its address where it stands in a volume.
     fn guid_from(&self, guid: GuidFrom) -> Option<(Guid, Option<u64>)>
-        ensures { result ≡ guid_from (state_of self.now) guid }
+        ensures found { result ≡ guid_from (state_of self.now) guid }
+        ensures whole { IsWholeGuid guid }
     {
         let address = match guid {
             GuidFrom::Inline(guid) => return Some((guid, None)),
             GuidFrom::At(address) => address,
         };
-        match rom_bytes(self.roms.as_slice(), address, 16) {
-            Some(bytes) => {
-                let mut guid = [0u8; 16];
-                guid.copy_from_slice(bytes);
-                Some((Guid(guid), Some(address)))
-            }
-            None => None,
-        }
+        let bytes = rom_bytes(self.roms.as_slice(), address, GUID_LEN)?;
+        let mut guid = [0u8; GUID_LEN];
+        guid.copy_from_slice(bytes);
+        Some((Guid(guid), Some(address)))
     }
 
     // A descriptor that nothing names yet.
@@ -89,11 +80,11 @@ impl PlainStore {
         guid: GuidFrom,
         number: u64,
     ) -> Result<Desc, StoreFault>
-        ensures { Answers true (desc (state_of self.old) kind guid number) (state_of self.old) result (state_of self.new) }
+        ensures answer { Answers true (desc (state_of self.old) kind guid number) (state_of self.old) result (state_of self.new) }
+        ensures whole { IsWholeGuid guid }
     {
-        let (guid, stands) = match self.guid_from(guid) {
-            Some(found) => found,
-            None => return Err(StoreFault::Bad),
+        let Some((guid, stands)) = self.guid_from(guid) else {
+            return Err(StoreFault::Bad);
         };
         if self.free() < descriptor_len(stands) + HEADER_LEN {
             return Err(StoreFault::Full);
@@ -105,17 +96,15 @@ impl PlainStore {
             stands,
             number,
         };
-        match self.put_behind(PlainHob::new(POOL, PlainBody::Descriptor(body))) {
-            Ok(()) => Ok(Desc { offset }),
-            Err(OutOfMemory) => Err(StoreFault::Memory),
-        }
+        self.put_behind(PlainHob::new(POOL, PlainBody::Descriptor(body)))?;
+        Ok(Desc { offset })
     }
 
     // The number of the HOB whose body stands at a place.
     #[tactic(auto, using(crate::proofs::Rest::part_of_rest))]
     pub(crate) fn index_of(&self, place: u64) -> Option<usize>
         ensures inside { IfSome result (λ i. i < length self.now.hobs.items) }
-        ensures here { IfSome result (λ i. 56 + sum_by hob_len (take i self.now.hobs.items) + 8 ≡ place) }
+        ensures here { IfSome result (λ i. handoff_len + sum_by hob_len (take i self.now.hobs.items) + header_len ≡ place) }
         ensures none { IfNone result (body_at (state_of self.now) place ≡ None) }
     {
         let mut at = HANDOFF_LEN;

@@ -2,23 +2,23 @@
 ghost use Rattle.std.specs.Prelude.{◌≡◌, ◌≤◌, ◌<◌, ◌+◌, ◌-◌, ◌^◌, ◌++◌, length, option_map, drop, replicate};
 ghost use Rattle.hob_codec.specs.HobBytes.{joined, fields_of};
 ghost use Rattle.hob_codec.specs.HobValue.{HandoffHob, AllocationHob};
-ghost use Rattle.boot_model.specs.Lists.{Each};
-ghost use Rattle.boot_model.specs.StateFacts.{IsStoreState};
-ghost use Rattle.boot_model.specs.HeapImage.{header_bytes, body_bytes, hob_list, handoff_of, handoff_body, allocation_bytes, links_in, pending_links_in, links_at, links_bytes, node_bytes, descriptor_bytes, hobs_bytes};
-ghost use Rattle.boot_model.specs.MemoryReading.{heap_byte};
-ghost use Rattle.boot_model.specs.StoreState.{hob_len, handoff_len};
-ghost use Rattle.store_plain.specs.Peeking.{byte_of, link_words, IsNear, IsPendingNear};
-ghost use Rattle.store_plain.specs.PlainBody.{role_body, IsSized};
+ghost use Rattle.pi_base.specs.Lists.{Each};
+ghost use Rattle.store_model.specs.StateFacts.{IsStoreState};
+ghost use Rattle.store_model.specs.HeapImage.{header_bytes, body_bytes, hob_list, handoff_of, handoff_body, allocation_bytes, links_in, pending_links_in, links_at, links_bytes, node_bytes, descriptor_bytes, hobs_bytes};
+ghost use Rattle.store_model.specs.MemoryReading.{heap_byte};
+ghost use Rattle.store_model.specs.StoreState.{handoff_len, header_len, hob_len};
+ghost use Rattle.store_plain.specs.Peeking.{byte_of, link_words, pages_bytes, IsNear, IsPendingNear};
+ghost use Rattle.store_plain.specs.PlainBody.{role_body};
 ghost use Rattle.store_plain.specs.Words.{words_bytes};
 
-use crate::kind::{END, HANDOFF};
 use crate::length::{HANDOFF_LEN, HEADER_LEN};
 use crate::plain_hob::{PlainHob, Role};
 use crate::store::PlainStore;
 use crate::word_bytes::{descriptor_words, long_bytes, put_words, short_bytes};
-use boot_model::{AllocationBody, DescriptorBody, Entry, Pending};
+use hob_codec::kind::{END, HANDOFF};
 use hob_codec::{Handoff, Hob, encode_into};
 use pi_base::{Guid, put_u16};
+use store_model::{AllocationBody, DescriptorBody, Entry, Pending};
 
 // The byte in a place, and 0 past the last.
 fn byte_in(bytes: &[u8], place: usize) -> u8
@@ -39,7 +39,7 @@ fn header(kind: u16, len: u16) -> [u8; 8]
 
 // A byte of a HOB of pages, behind its header.
 fn allocation_byte(base: u64, allocation: &AllocationBody, place: usize) -> u8
-    ensures { result ≡ byte_of (joined (fields_of (AllocationHob (replicate 16 0) base allocation.now.len allocation.now.memory_type))) place }
+    ensures { result ≡ byte_of (pages_bytes base allocation.now) place }
 {
     let hob = Hob::Allocation {
         name: Guid([0; 16]),
@@ -63,9 +63,8 @@ fn node_array(words: &[u64; 4]) -> [u8; 32]
 }
 
 // The numbers of the node at a place, where one of these entries has it.
-fn links_in(base: u64, end: u64, place: u64, entries: &[Entry]) -> Option<[u64; 4]>
-    requires near { Each (IsNear end) entries.now }
-    requires fits { base + end < 2 ^ 64 }
+fn links_in(base: u64, place: u64, entries: &[Entry]) -> Option<[u64; 4]>
+    requires { Each (IsNear base) entries.now }
     ensures { result ≡ option_map link_words (links_in base place entries.now) }
 {
     let mut rest = entries;
@@ -83,9 +82,8 @@ fn links_in(base: u64, end: u64, place: u64, entries: &[Entry]) -> Option<[u64; 
 }
 
 // The numbers of the node at a place, where one of these queued pairs has it.
-fn pending_links_in(base: u64, end: u64, place: u64, pendings: &[Pending]) -> Option<[u64; 4]>
-    requires near { Each (IsPendingNear end) pendings.now }
-    requires fits { base + end < 2 ^ 64 }
+fn pending_links_in(base: u64, place: u64, pendings: &[Pending]) -> Option<[u64; 4]>
+    requires { Each (IsPendingNear base) pendings.now }
     ensures { result ≡ option_map link_words (pending_links_in base place pendings.now) }
 {
     let mut rest = pendings;
@@ -115,16 +113,16 @@ impl PlainStore {
         requires { IsStoreState (state_of self.now) }
         ensures { result ≡ option_map link_words (links_at (state_of self.now) place) }
     {
-        if let Some(words) = links_in(self.base, self.end, place, self.ppis.as_slice()) {
+        if let Some(words) = links_in(self.base, place, self.ppis.as_slice()) {
             return Some(words);
         }
-        if let Some(words) = links_in(self.base, self.end, place, self.callbacks.as_slice()) {
+        if let Some(words) = links_in(self.base, place, self.callbacks.as_slice()) {
             return Some(words);
         }
-        if let Some(words) = links_in(self.base, self.end, place, self.dispatches.as_slice()) {
+        if let Some(words) = links_in(self.base, place, self.dispatches.as_slice()) {
             return Some(words);
         }
-        pending_links_in(self.base, self.end, place, self.pendings.as_slice())
+        pending_links_in(self.base, place, self.pendings.as_slice())
     }
 
     // A byte of the node at a place.
@@ -181,8 +179,8 @@ impl PlainStore {
     // A byte of the HOBs behind the hand-off HOB, and of the end HOB.
     fn hobs_byte(&self, place: u64) -> u8
         requires facts { IsStoreState (state_of self.now) }
-        requires place { 56 ≤ place }
-        ensures { result ≡ byte_of (hobs_bytes (state_of self.now) 56 self.now.hobs.items ++ header_bytes END 8) (place - 56) }
+        requires place { handoff_len ≤ place }
+        ensures { result ≡ byte_of (hobs_bytes (state_of self.now) handoff_len self.now.hobs.items ++ header_bytes END header_len) (place - handoff_len) }
     {
         let mut at = HANDOFF_LEN;
         'hobs: for hob in self.hobs.as_slice() {

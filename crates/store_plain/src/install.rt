@@ -1,20 +1,21 @@
 // PPIs are installed, and one is put in the place of another.
-ghost use Rattle.std.specs.Prelude.{◌≡◌, ◌≤◌, ◌<◌, ◌+◌, true, false, length, fold, IfOk, OnOk, OnErr, IfSome, IfNone};
+ghost use Rattle.std.specs.Prelude.{◌≡◌, ◌≤◌, ◌<◌, ◌+◌, ℕ, true, false, length, fold, IfOk, OnOk, OnErr, IfSome, IfNone};
 ghost use Rattle.std.specs.List.{list_all};
-ghost use Rattle.boot_model.specs.StoreState.{free};
-ghost use Rattle.boot_model.specs.Service.{Answers};
-ghost use Rattle.boot_model.specs.Service.Descriptor.{is_ppi, kind_at};
-ghost use Rattle.boot_model.specs.Service.Install.{install, reinstall, core_install, install_pairs, install_sweep, installed, reinstall_pairs, reinstall_sweep, reinstalled, node_need, renamed, place_of, is_installed};
-ghost use Rattle.boot_model.specs.StoreCall.{AreFew};
+ghost use Rattle.store_model.specs.StoreState.{free};
+ghost use Rattle.store_model.specs.Service.{Answers};
+ghost use Rattle.store_model.specs.Service.Descriptor.{is_ppi, kind_at};
+ghost use Rattle.store_model.specs.Service.Install.{install, reinstall, core_install, install_pairs, install_sweep, installed, reinstall_pairs, reinstall_sweep, reinstalled, node_need, renamed, place_of, is_installed};
+ghost use Rattle.store_model.specs.StoreCall.{AreFew};
+ghost use Rattle.store_model.specs.declared.store_handle.Desc.{Desc};
 
-use crate::length::HEADER_LEN;
 use crate::nodes::sweep_from;
 use crate::pairs::{descriptors, offsets};
 use crate::store::PlainStore;
-use boot_model::{CORE, Desc, DescKind, GuidFrom, MEMORY_PPI, StoreFault, Sweep};
 use pi_base::OutOfMemory;
+use store_model::{CORE, Desc, DescKind, GuidFrom, MEMORY_PPI, StoreFault, Sweep};
 
 impl PlainStore {
+    ghost use Rattle.store_plain.specs.Nodes.{HasNodes};
     ghost use Rattle.store_plain.specs.PlainState.{state_of};
 
     // Whether the descriptor at a place is a PPI's.
@@ -45,14 +46,8 @@ impl PlainStore {
         ensures { IfOk result (λ pairs. pairs.items ≡ install_pairs (state_of self.now) list.now) }
     {
         let alloc = *self.hobs.allocator();
-        let ppis = match offsets(alloc, list) {
-            Ok(ppis) => ppis,
-            Err(OutOfMemory) => return Err(OutOfMemory),
-        };
-        let notes = match descriptors(alloc, self.dispatches.as_slice()) {
-            Ok(notes) => notes,
-            Err(OutOfMemory) => return Err(OutOfMemory),
-        };
+        let ppis = offsets(alloc, list)?;
+        let notes = descriptors(alloc, self.dispatches.as_slice())?;
         self.pairs_of(ppis.as_slice(), notes.as_slice())
     }
 
@@ -71,14 +66,8 @@ impl PlainStore {
         ensures err { OnErr result (state_of self.new ≡ state_of self.old) }
     {
         let at = self.ppis.len();
-        let sweep = match sweep_from(at, at + list.len(), 0, self.callbacks.len()) {
-            Ok(sweep) => sweep,
-            Err(OutOfMemory) => return Err(OutOfMemory),
-        };
-        match self.reserve(list.len(), pairs.len()) {
-            Ok(()) => {}
-            Err(OutOfMemory) => return Err(OutOfMemory),
-        }
+        let sweep = sweep_from(at, at + list.len(), 0, self.callbacks.len())?;
+        self.reserve(list.len(), pairs.len())?;
         self.add_ppis(list, by);
         self.add_pendings(pairs, by);
         Ok(sweep)
@@ -99,10 +88,7 @@ impl PlainStore {
         if !self.has_room(list.len(), pairs.len()) {
             return Err(StoreFault::Full);
         }
-        match self.put_ppis(list, pairs.as_slice(), by) {
-            Ok(sweep) => Ok(sweep),
-            Err(OutOfMemory) => Err(StoreFault::Memory),
-        }
+        Ok(self.put_ppis(list, pairs.as_slice(), by)?)
     }
 
     // The place of the first PPI that names a descriptor.
@@ -121,11 +107,11 @@ impl PlainStore {
     }
 
     // The PPI in a place names another descriptor.
-    fn rename(&mut self, place: usize, old: Desc, new: Desc)
-        requires place { place ≡ place_of self.old.ppis.items old.offset }
-        requires inside { place < length self.old.ppis.items }
-        ensures state { state_of self.new ≡ record (state_of self.old) { ppis = renamed self.old.ppis.items old.offset new.offset } }
-        ensures hobs { self.new.hobs ≡ self.old.hobs }
+    fn rename(&mut self, place: usize, new: Desc)
+        requires { place < length self.old.ppis.items }
+        ensures state { (old : ℕ) → place ≡ place_of self.old.ppis.items old
+            → state_of self.new ≡ record (state_of self.old) { ppis = renamed self.old.ppis.items old new.offset } }
+        ensures nodes { (n : ℕ) → HasNodes self.old n → HasNodes self.new n }
         ensures pendings { self.new.pendings ≡ self.old.pendings }
     {
         self.ppis[place].descriptor = new.offset;
@@ -135,28 +121,22 @@ impl PlainStore {
     fn put_again(
         &mut self,
         place: usize,
-        old: Desc,
         new: Desc,
         pairs: &[(u64, u64)],
         by: u32,
     ) -> Result<Sweep, OutOfMemory>
-        requires place { place ≡ place_of self.old.ppis.items old.offset }
         requires inside { place < length self.old.ppis.items }
         requires pairs { pairs.now ≡ reinstall_pairs (state_of self.old) new }
         requires room { node_need (length pairs.now) ≤ free (state_of self.old) }
-        ensures sweep { IfOk result (λ sweep. sweep ≡ reinstall_sweep (state_of self.old) old) }
-        ensures state { OnOk result (state_of self.new ≡ reinstalled (state_of self.old) old new by) }
+        ensures sweep { (old : Desc) → place ≡ place_of self.old.ppis.items old.offset
+            → IfOk result (λ sweep. sweep ≡ reinstall_sweep (state_of self.old) old) }
+        ensures state { (old : Desc) → place ≡ place_of self.old.ppis.items old.offset
+            → OnOk result (state_of self.new ≡ reinstalled (state_of self.old) old new by) }
         ensures err { OnErr result (state_of self.new ≡ state_of self.old) }
     {
-        let sweep = match sweep_from(place, place + 1, 0, self.callbacks.len()) {
-            Ok(sweep) => sweep,
-            Err(OutOfMemory) => return Err(OutOfMemory),
-        };
-        match self.reserve(0, pairs.len()) {
-            Ok(()) => {}
-            Err(OutOfMemory) => return Err(OutOfMemory),
-        }
-        self.rename(place, old, new);
+        let sweep = sweep_from(place, place + 1, 0, self.callbacks.len())?;
+        self.reserve(0, pairs.len())?;
+        self.rename(place, new);
         self.add_pendings(pairs, by);
         Ok(sweep)
     }
@@ -173,21 +153,14 @@ impl PlainStore {
         if !self.is_ppi(new.offset) {
             return Err(StoreFault::Bad);
         }
-        let place = match self.place_of(old.offset) {
-            Some(place) => place,
-            None => return Err(StoreFault::Missing),
+        let Some(place) = self.place_of(old.offset) else {
+            return Err(StoreFault::Missing);
         };
-        let pairs = match self.dispatch_pairs(&[new]) {
-            Ok(pairs) => pairs,
-            Err(OutOfMemory) => return Err(StoreFault::Memory),
-        };
+        let pairs = self.dispatch_pairs(&[new])?;
         if !self.has_room(0, pairs.len()) {
             return Err(StoreFault::Full);
         }
-        match self.put_again(place, old, new, pairs.as_slice(), by) {
-            Ok(sweep) => Ok(sweep),
-            Err(OutOfMemory) => Err(StoreFault::Memory),
-        }
+        Ok(self.put_again(place, new, pairs.as_slice(), by)?)
     }
 
     // Installs the PPI of permanent memory, with its descriptor, or does neither.

@@ -1,9 +1,9 @@
 // Lengths in bytes. PI 1.8, volume 3, `EFI_HOB_GENERIC_HEADER` and its HOBs; volume 1, `EFI_PEI_PPI_DESCRIPTOR`.
 ghost use Rattle.std.specs.Prelude.{◌≡◌};
-ghost use Rattle.boot_model.specs.StoreState.{descriptor_len, rounded};
+ghost use Rattle.store_model.specs.StoreState.{descriptor_len, rounded};
 
 /// Of a HOB's header, and of the end HOB.
-pub(crate) const HEADER_LEN: u64 = 8;
+pub(crate) const HEADER_LEN: u64 = hob_codec::HEADER_LEN as u64;
 
 /// Of the hand-off HOB, its header included.
 pub(crate) const HANDOFF_LEN: u64 = 56;

@@ -1,12 +1,11 @@
 //! The store of PEI services over plain lists: the slow, plain program beside the definitions.
 #![tactic(auto)]
 
+mod behind;
 mod descriptor;
 mod heap_byte;
 mod hob;
 mod install;
-mod kind;
-mod laws;
 mod length;
 mod memory;
 mod migration;
@@ -24,7 +23,6 @@ mod store;
 mod sweep;
 mod word_bytes;
 
-pub use laws::services_keep_facts;
 pub use store::PlainStore;
 
 #[cfg(test)]

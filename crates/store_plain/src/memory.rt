@@ -1,15 +1,15 @@
 // Permanent memory and pages.
 ghost use Rattle.std.specs.Prelude.{◌≡◌, ◌≤◌, ◌+◌, true, false, if◌then◌else◌};
-ghost use Rattle.boot_model.specs.StoreState.{free, page_bytes};
-ghost use Rattle.boot_model.specs.Service.{Answers};
-ghost use Rattle.boot_model.specs.Service.Memory.{set_memory, pages, is_memory, pages_taken, early_pages, with_boot_mode};
+ghost use Rattle.store_model.specs.StoreState.{free, page_bytes};
+ghost use Rattle.store_model.specs.Service.{Answers};
+ghost use Rattle.store_model.specs.Service.Memory.{set_memory, pages, is_memory, pages_taken, early_pages, with_boot_mode};
 
-use crate::kind::ALLOCATION;
 use crate::length::{ALLOCATION_LEN, HEADER_LEN, PAGE_LEN};
 use crate::plain_hob::{PlainBody, PlainHob};
 use crate::store::PlainStore;
-use boot_model::{AllocationBody, StoreFault};
-use pi_base::{OutOfMemory, Span};
+use hob_codec::kind::ALLOCATION;
+use pi_base::Span;
+use store_model::{AllocationBody, StoreFault};
 
 impl PlainStore {
     ghost use Rattle.store_plain.specs.PlainState.{state_of};
@@ -56,13 +56,9 @@ impl PlainStore {
             len,
             below: taken,
         };
-        match self.put_behind(PlainHob::new(ALLOCATION, PlainBody::Allocation(body))) {
-            Ok(()) => {
-                self.taken = taken;
-                Ok(self.page_end - taken)
-            }
-            Err(OutOfMemory) => Err(StoreFault::Memory),
-        }
+        self.put_behind(PlainHob::new(ALLOCATION, PlainBody::Allocation(body)))?;
+        self.taken = taken;
+        Ok(self.page_end - taken)
     }
 
     // Takes pages from the page region, before the move.

@@ -1,18 +1,17 @@
 // The move to permanent memory.
 ghost use Rattle.std.specs.Prelude.{◌≡◌, ◌≤◌, ◌<◌, ◌+◌, ◌^◌, ◌==◌, ◌||◌, true, false, length, get_or, slice_set};
-ghost use Rattle.boot_model.specs.declared.state.HobEntry.{HobEntry};
+ghost use Rattle.store_model.specs.declared.state.HobEntry.{HobEntry};
 ghost use Rattle.std.specs.List.{list_any};
-ghost use Rattle.boot_model.specs.Lists.{Each};
-ghost use Rattle.store_plain.specs.PlainBody.{IsSized};
-ghost use Rattle.boot_model.specs.StateFacts.{IsStoreState};
-ghost use Rattle.boot_model.specs.StoreCall.{Migrates, IsDue};
-ghost use Rattle.boot_model.specs.Service.Descriptor.{is_named, descriptors, descriptor_of};
-ghost use Rattle.boot_model.specs.Migration.{moved_number, moved_value, moved_body, moved_hobs};
+ghost use Rattle.store_model.specs.StateFacts.{IsStoreState};
+ghost use Rattle.store_model.specs.StoreState.{handoff_len};
+ghost use Rattle.store_model.specs.StoreCall.{Migrates, IsDue};
+ghost use Rattle.store_model.specs.Service.Descriptor.{is_named, descriptors, descriptor_of};
+ghost use Rattle.store_model.specs.Migration.{moved_number, moved_value, moved_body, moved_hobs};
 
 use crate::length::{HANDOFF_LEN, HEADER_LEN};
 use crate::store::PlainStore;
-use boot_model::{DescKind, DescriptorBody, Entry};
 use pi_base::Span;
+use store_model::{DescKind, DescriptorBody, Entry};
 
 // Whether one of these entries names the descriptor at a place.
 fn names(entries: &[Entry], place: u64) -> bool
@@ -28,7 +27,7 @@ fn names(entries: &[Entry], place: u64) -> bool
 
 impl PlainStore {
     ghost use Rattle.store_plain.specs.PlainState.{state_of, range_of};
-    ghost use Rattle.store_plain.specs.Moves.{FitsInto, SameLists};
+    ghost use Rattle.store_plain.specs.Moves.{FitsInto, SameLists, moved_hob};
 
     // Whether a queued pair names the descriptor at a place.
     fn is_pending(&self, place: u64) -> bool
@@ -84,7 +83,8 @@ impl PlainStore {
         requires index { index < length self.old.hobs.items }
         requires place { place ≤ self.old.end }
         requires fits { FitsInto self.old to }
-        ensures hobs { (d : HobEntry) → self.new.hobs.items ≡ slice_set self.old.hobs.items index (record (get_or self.old.hobs.items index d) { body = moved_body (state_of self.old) (range_of to) place (get_or self.old.hobs.items index d).body }) }
+        ensures hobs { (d : HobEntry) → self.new.hobs.items
+            ≡ slice_set self.old.hobs.items index (moved_hob (state_of self.old) (range_of to) place (get_or self.old.hobs.items index d)) }
         ensures rest { SameLists self.old self.new }
     {
         let d = match self.hobs[index].descriptor() {
@@ -102,7 +102,7 @@ impl PlainStore {
     // All HOBs move.
     fn move_hobs(&mut self, to: Span)
         requires { FitsInto self.old to }
-        ensures hobs { self.new.hobs.items ≡ moved_hobs (state_of self.old) (range_of to) 56 self.old.hobs.items }
+        ensures hobs { self.new.hobs.items ≡ moved_hobs (state_of self.old) (range_of to) handoff_len self.old.hobs.items }
         ensures rest { SameLists self.old self.new }
     {
         let mut at = HANDOFF_LEN;
@@ -110,15 +110,6 @@ impl PlainStore {
             let place = at + HEADER_LEN;
             at += self.hobs[index].len() as u64;
             self.move_hob(index, place, to);
-        }
-    }
-
-    // The law that each GUID has sixteen bytes.
-    pub(crate) fn are_sized(&self)
-        ensures { Each (λ hob. IsSized hob.body) self.now.hobs.items }
-    {
-        'hobs: for hob in self.hobs.as_slice() {
-            hob.len();
         }
     }
 

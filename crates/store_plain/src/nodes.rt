@@ -1,14 +1,14 @@
 // Nodes, entries and queued pairs are added, for which there is room and memory.
 ghost use Rattle.std.specs.Prelude.{◌≡◌, ◌≤◌, ◌<◌, ◌+◌, ◌*◌, nat_le, length, fold, OnOk, OnErr, IfOk, vec_len, vec_capacity, ℕ};
-ghost use Rattle.boot_model.specs.StoreState.{free};
-ghost use Rattle.boot_model.specs.Service.Install.{node_need, with_node, with_ppi, with_pending};
+ghost use Rattle.store_model.specs.StoreState.{free};
+ghost use Rattle.store_model.specs.Service.Install.{node_need, with_node, with_ppi, with_pending};
 
-use crate::kind::POOL;
 use crate::length::{HEADER_LEN, NODE_LEN};
 use crate::plain_hob::{PlainBody, PlainHob};
 use crate::store::PlainStore;
-use boot_model::{Desc, Entry, Pending, Sweep};
+use hob_codec::kind::POOL;
 use pi_base::OutOfMemory;
+use store_model::{Desc, Entry, Pending, Sweep};
 
 // What a node takes.
 const NODE_NEED: u64 = NODE_LEN + HEADER_LEN;
@@ -25,7 +25,8 @@ pub(crate) fn sweep_from(
 ) -> Result<Sweep, OutOfMemory>
     requires ppis { ppi_at ≤ ppi_to }
     requires notes { note_from ≤ note_to }
-    ensures { IfOk result (λ sweep. sweep ≡ record { ppi_to = ppi_to; note_from = note_from; note_to = note_to; ppi_at = ppi_at; note_at = note_from }) }
+    ensures { IfOk result (λ sweep. sweep
+        ≡ record { ppi_to = ppi_to; note_from = note_from; note_to = note_to; ppi_at = ppi_at; note_at = note_from }) }
 {
     if ppi_to > MOST_PLACES || note_to > MOST_PLACES {
         return Err(OutOfMemory);
@@ -61,14 +62,8 @@ impl PlainStore {
         ensures callbacks { self.new.callbacks ≡ self.old.callbacks }
         ensures dispatches { self.new.dispatches ≡ self.old.dispatches }
     {
-        match self.hobs.reserve(nodes) {
-            Ok(()) => {}
-            Err(_) => return Err(OutOfMemory),
-        }
-        match self.pendings.reserve(pairs) {
-            Ok(()) => Ok(()),
-            Err(_) => Err(OutOfMemory),
-        }
+        self.hobs.reserve(nodes).map_err(|_| OutOfMemory)?;
+        self.pendings.reserve(pairs).map_err(|_| OutOfMemory)
     }
 
     // Takes the memory for so many entries in each list.
@@ -76,18 +71,9 @@ impl PlainStore {
         ensures state { state_of self.new ≡ state_of self.old }
         ensures entries { OnOk result (HasEntries self.new entries) }
     {
-        match self.ppis.reserve(entries) {
-            Ok(()) => {}
-            Err(_) => return Err(OutOfMemory),
-        }
-        match self.callbacks.reserve(entries) {
-            Ok(()) => {}
-            Err(_) => return Err(OutOfMemory),
-        }
-        match self.dispatches.reserve(entries) {
-            Ok(()) => Ok(()),
-            Err(_) => Err(OutOfMemory),
-        }
+        self.ppis.reserve(entries).map_err(|_| OutOfMemory)?;
+        self.callbacks.reserve(entries).map_err(|_| OutOfMemory)?;
+        self.dispatches.reserve(entries).map_err(|_| OutOfMemory)
     }
 
     // Takes the memory for the nodes of so many entries and pairs.
@@ -98,10 +84,7 @@ impl PlainStore {
         ensures entries { OnOk result (HasEntries self.new entries) }
         ensures pairs { OnOk result (vec_len self.new.pendings + pairs ≤ vec_capacity self.new.pendings) }
     {
-        match self.reserve_entries(entries) {
-            Ok(()) => {}
-            Err(OutOfMemory) => return Err(OutOfMemory),
-        }
+        self.reserve_entries(entries)?;
         self.reserve_nodes(entries + pairs, pairs)
     }
 

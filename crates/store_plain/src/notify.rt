@@ -1,18 +1,18 @@
 // Notifications are registered.
 ghost use Rattle.std.specs.Prelude.{◌≡◌, ◌≤◌, ◌<◌, ◌+◌, ℕ, true, length, fold, IfOk, OnOk, OnErr};
 ghost use Rattle.std.specs.List.{list_any};
-ghost use Rattle.boot_model.specs.StoreState.{free};
-ghost use Rattle.boot_model.specs.Service.{Answers};
-ghost use Rattle.boot_model.specs.Service.Descriptor.{is_ppi, kind_at};
-ghost use Rattle.boot_model.specs.Service.Install.{node_need};
-ghost use Rattle.boot_model.specs.Service.Notify.{notify, notified, notify_pairs, notify_sweep, new_callbacks, with_note};
-ghost use Rattle.boot_model.specs.StoreCall.{AreFew};
+ghost use Rattle.store_model.specs.StoreState.{free};
+ghost use Rattle.store_model.specs.Service.{Answers};
+ghost use Rattle.store_model.specs.Service.Descriptor.{is_ppi, kind_at};
+ghost use Rattle.store_model.specs.Service.Install.{node_need};
+ghost use Rattle.store_model.specs.Service.Notify.{notify, notified, notify_pairs, notify_sweep, new_callbacks, with_note};
+ghost use Rattle.store_model.specs.StoreCall.{AreFew};
 
 use crate::nodes::sweep_from;
 use crate::pairs::descriptors;
 use crate::store::PlainStore;
-use boot_model::{Desc, DescKind, Entry, StoreFault, Sweep};
 use pi_base::OutOfMemory;
+use store_model::{Desc, DescKind, Entry, StoreFault, Sweep};
 
 impl PlainStore {
     ghost use Rattle.store_plain.specs.PlainState.{state_of};
@@ -48,14 +48,8 @@ impl PlainStore {
     fn ppi_pairs(&self, list: &[Desc]) -> Result<Vec<(u64, u64)>, OutOfMemory>
         ensures { IfOk result (λ pairs. pairs.items ≡ notify_pairs (state_of self.now) list.now) }
     {
-        let ppis = match descriptors(*self.hobs.allocator(), self.ppis.as_slice()) {
-            Ok(ppis) => ppis,
-            Err(OutOfMemory) => return Err(OutOfMemory),
-        };
-        let notes = match self.dispatches_of(list) {
-            Ok(notes) => notes,
-            Err(OutOfMemory) => return Err(OutOfMemory),
-        };
+        let ppis = descriptors(*self.hobs.allocator(), self.ppis.as_slice())?;
+        let notes = self.dispatches_of(list)?;
         self.pairs_of(ppis.as_slice(), notes.as_slice())
     }
 
@@ -115,14 +109,8 @@ impl PlainStore {
     {
         let at = self.callbacks.len();
         let to = at + self.callbacks_in(list);
-        let sweep = match sweep_from(0, self.ppis.len(), at, to) {
-            Ok(sweep) => sweep,
-            Err(OutOfMemory) => return Err(OutOfMemory),
-        };
-        match self.reserve(list.len(), pairs.len()) {
-            Ok(()) => {}
-            Err(OutOfMemory) => return Err(OutOfMemory),
-        }
+        let sweep = sweep_from(0, self.ppis.len(), at, to)?;
+        self.reserve(list.len(), pairs.len())?;
         self.add_notes(list, by);
         self.add_pendings(pairs, by);
         Ok(sweep)
@@ -136,16 +124,10 @@ impl PlainStore {
         if self.any_ppi(list) {
             return Err(StoreFault::Bad);
         }
-        let pairs = match self.ppi_pairs(list) {
-            Ok(pairs) => pairs,
-            Err(OutOfMemory) => return Err(StoreFault::Memory),
-        };
+        let pairs = self.ppi_pairs(list)?;
         if !self.has_room(list.len(), pairs.len()) {
             return Err(StoreFault::Full);
         }
-        match self.put_notes(list, pairs.as_slice(), by) {
-            Ok(sweep) => Ok(sweep),
-            Err(OutOfMemory) => Err(StoreFault::Memory),
-        }
+        Ok(self.put_notes(list, pairs.as_slice(), by)?)
     }
 }

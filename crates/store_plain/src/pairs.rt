@@ -1,13 +1,13 @@
 // The pairs of PPIs and notifications with equal GUIDs, by the places of their descriptors.
 ghost use Rattle.std.specs.Prelude.{◌≡◌, ◌++◌, IfOk, OnOk, not};
-ghost use Rattle.boot_model.specs.Service.Descriptor.{offsets, descriptors};
-ghost use Rattle.boot_model.specs.Service.Install.{pairs_of};
-ghost use Rattle.boot_model.specs.Service.Notify.{new_dispatches};
+ghost use Rattle.store_model.specs.Service.Descriptor.{offsets, descriptors};
+ghost use Rattle.store_model.specs.Service.Install.{pairs_of};
+ghost use Rattle.store_model.specs.Service.Notify.{new_dispatches};
 
 use crate::store::PlainStore;
-use boot_model::{Desc, DescKind, Entry};
 use pi_base::OutOfMemory;
 use std::alloc::Global;
+use store_model::{Desc, DescKind, Entry};
 
 // The places of descriptors.
 pub(crate) fn offsets(alloc: Global, list: &[Desc]) -> Result<Vec<u64>, OutOfMemory>
@@ -15,10 +15,7 @@ pub(crate) fn offsets(alloc: Global, list: &[Desc]) -> Result<Vec<u64>, OutOfMem
 {
     let mut places = Vec::new(alloc);
     'descs: for d in list {
-        match places.push(d.offset) {
-            Ok(()) => {}
-            Err(_) => return Err(OutOfMemory),
-        }
+        places.push(d.offset).map_err(|_| OutOfMemory)?;
     }
     Ok(places)
 }
@@ -29,10 +26,7 @@ pub(crate) fn descriptors(alloc: Global, entries: &[Entry]) -> Result<Vec<u64>, 
 {
     let mut places = Vec::new(alloc);
     'entries: for entry in entries {
-        match places.push(entry.descriptor) {
-            Ok(()) => {}
-            Err(_) => return Err(OutOfMemory),
-        }
+        places.push(entry.descriptor).map_err(|_| OutOfMemory)?;
     }
     Ok(places)
 }
@@ -48,10 +42,7 @@ impl PlainStore {
         let mut places = Vec::new(*self.hobs.allocator());
         'descs: for d in list {
             if self.kind_at(d.offset) != DescKind::Callback {
-                match places.push(d.offset) {
-                    Ok(()) => {}
-                    Err(_) => return Err(OutOfMemory),
-                }
+                places.push(d.offset).map_err(|_| OutOfMemory)?;
             }
         }
         Ok(places)
@@ -68,10 +59,7 @@ impl PlainStore {
     {
         'notes: for note in notes {
             if self.have_one_guid(ppi, *note) {
-                match pairs.push((ppi, *note)) {
-                    Ok(()) => {}
-                    Err(_) => return Err(OutOfMemory),
-                }
+                pairs.push((ppi, *note)).map_err(|_| OutOfMemory)?;
             }
         }
         Ok(())

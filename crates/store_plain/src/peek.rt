@@ -1,10 +1,10 @@
 // Memory is read.
 ghost use Rattle.std.specs.Prelude.{◌≡◌, ◌≤◌, ◌<◌, ◌+◌, ◌^◌, ◌&&◌, ◌||◌, not, length, map, IsTrue};
 ghost use Rattle.phys_mem.specs.Region.{is_inside};
-ghost use Rattle.boot_model.specs.Lists.{numbers};
-ghost use Rattle.boot_model.specs.StateFacts.{IsStoreState};
-ghost use Rattle.boot_model.specs.StoreCall.{Peeks};
-ghost use Rattle.boot_model.specs.MemoryReading.{bytes_at, heap_byte};
+ghost use Rattle.pi_base.specs.Lists.{numbers};
+ghost use Rattle.store_model.specs.StateFacts.{IsStoreState};
+ghost use Rattle.store_model.specs.StoreCall.{Peeks};
+ghost use Rattle.store_model.specs.MemoryReading.{bytes_at, heap_byte};
 
 use crate::descriptor::rom_bytes;
 use crate::store::PlainStore;
@@ -22,7 +22,8 @@ impl PlainStore {
 
     // Whether so many bytes lie in temporary RAM that is mapped, or in RAM.
     fn is_in_ram(&self, at: u64, n: usize) -> bool
-        ensures is { result ≡ ((not self.now.moved && is_inside self.now.temp.base self.now.temp.len at n) || is_inside self.now.ram.base self.now.ram.len at n) }
+        ensures is { result ≡ ((not self.now.moved && is_inside self.now.temp.base self.now.temp.len at n)
+            || is_inside self.now.ram.base self.now.ram.len at n) }
         ensures fits { IsTrue result → at + n < 2 ^ 64 }
     {
         (!self.moved && is_inside(self.temp, at, n)) || is_inside(self.ram, at, n)

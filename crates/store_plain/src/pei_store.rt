@@ -1,15 +1,17 @@
 // The store's calls, over each state that it stands for.
 ghost use Rattle.std.specs.Prelude.{true, ⊤};
 
-use crate::descriptor::is_whole;
 use crate::store::PlainStore;
-use boot_model::{Desc, DescKind, Firing, GuidFrom, HobSpan, PeiStore, Pool, StoreFault, Sweep};
 use depex_code::GuidSet;
 use hob_codec::Hob;
 use pi_base::{Guid, OutOfMemory, Seq};
+use store_model::{
+    Desc, DescKind, EntryList, EntryTold, Firing, GuidFrom, HobSpan, PeiStore, Pool, StoreFault,
+    Sweep,
+};
 
 impl GuidSet for PlainStore {
-    ghost use Rattle.boot_model.specs.Service.Install.{has_ppi};
+    ghost use Rattle.store_model.specs.Service.Install.{has_ppi};
     ghost use Rattle.store_plain.specs.PlainState.{state_of};
 
     ghost has_guid = { λ p guid. has_ppi (state_of p) guid };
@@ -23,7 +25,7 @@ impl GuidSet for PlainStore {
 
 impl PeiStore for PlainStore {
     ghost use Rattle.std.proofs.Common.{ap, sym};
-    ghost use Rattle.boot_model.specs.Service.Install.{has_ppi};
+    ghost use Rattle.store_model.specs.Service.Install.{has_ppi};
     ghost use Rattle.store_plain.specs.PlainState.{state_of, stands_for};
 
     const TAKES_MEMORY: bool = true;
@@ -41,7 +43,6 @@ impl PeiStore for PlainStore {
     }
 
     fn desc(&mut self, kind: DescKind, guid: GuidFrom, arg: u64) -> Result<Desc, StoreFault> {
-        is_whole(&guid);
         self.make_desc(kind, guid, arg)
     }
 
@@ -81,6 +82,14 @@ impl PeiStore for PlainStore {
         self.tell_pending(place)
     }
 
+    fn descriptor(&self, d: Desc) -> (Guid, u64) {
+        self.tell_descriptor(d)
+    }
+
+    fn entry_behind(&self, list: EntryList, node: Option<u64>) -> Option<EntryTold> {
+        self.tell_behind(list, node)
+    }
+
     fn create_hob(&mut self, hob: &Hob) -> Result<u64, StoreFault> {
         self.make_hob(hob)
     }
@@ -98,7 +107,6 @@ impl PeiStore for PlainStore {
     }
 
     fn migrate(&mut self) -> (u64, u64) {
-        self.are_sized();
         self.move_to_memory()
     }
 

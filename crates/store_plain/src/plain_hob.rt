@@ -1,16 +1,16 @@
 // A HOB whose contracts see it as the definitions do.
 ghost use Rattle.std.specs.Prelude.{◌≡◌, ◌≤◌, ◌<◌, ◌+◌, ◌++◌, ◌^◌, length, take, drop, is_some, true};
-ghost use Rattle.boot_model.specs.StoreState.{hob_len, body_len};
-ghost use Rattle.boot_model.specs.Service.Pool.{written};
-ghost use Rattle.boot_model.specs.Service.Queue.{zeroed};
-ghost use Rattle.boot_model.specs.declared.state.Body.TheVariants.{Node};
-ghost use Rattle.store_plain.specs.PlainBody.{body_of, role_body, IsBytes, IsSized, forgotten, renumbered};
-ghost use Rattle.boot_model.specs.Service.Descriptor.{descriptor_of};
+ghost use Rattle.store_model.specs.StoreState.{hob_len, body_len};
+ghost use Rattle.store_model.specs.Service.Pool.{written};
+ghost use Rattle.store_model.specs.Service.Queue.{zeroed};
+ghost use Rattle.store_model.specs.declared.state.Body.TheVariants.{Node};
+ghost use Rattle.store_plain.specs.PlainBody.{body_of, role_body, IsBytes, forgotten, renumbered};
+ghost use Rattle.store_model.specs.Service.Descriptor.{descriptor_of};
 
 use crate::length::{ALLOCATION_LEN, HEADER_LEN, NODE_LEN, descriptor_len};
 use crate::word_bytes::{descriptor_words, long_bytes, short_bytes};
-use boot_model::{AllocationBody, DescriptorBody};
 use std::marker::Model;
+use store_model::{AllocationBody, DescriptorBody};
 
 /// A body. The bytes of a node that left its list, and of a descriptor that was forgotten, lie in arrays, since the calls that leave them there take no memory.
 #[derive(Drop)]
@@ -42,8 +42,8 @@ pub(crate) struct PlainHob {
 }
 
 impl Model for PlainHob {
-    ghost use Rattle.boot_model.specs.declared.state.HobEntry.{HobEntry};
-    ghost use Rattle.boot_model.specs.StoreState.{body_len};
+    ghost use Rattle.store_model.specs.declared.state.HobEntry.{HobEntry};
+    ghost use Rattle.store_model.specs.StoreState.{body_len};
     ghost use Rattle.std.specs.Prelude.{◌≤◌};
     ghost use Rattle.store_plain.specs.PlainBody.{body_of};
 
@@ -73,7 +73,6 @@ impl PlainHob {
     pub(crate) fn len(&self) -> u16
         ensures len { result ≡ hob_len self.now }
         ensures most { result ≤ 65528 }
-        ensures sized { IsSized self.now.body }
     {
         HEADER_LEN as u16 + body_len(&self.body)
     }
@@ -98,13 +97,8 @@ impl PlainHob {
         ensures { result ≡ descriptor_of self.now.body }
     {
         match &self.body {
-            PlainBody::Bytes(_) => None,
-            PlainBody::NodeBytes(_) => None,
-            PlainBody::ShortBytes(_) => None,
-            PlainBody::LongBytes(_) => None,
             PlainBody::Descriptor(d) => Some(*d),
-            PlainBody::Node => None,
-            PlainBody::Allocation(_) => None,
+            _ => None,
         }
     }
 
@@ -124,9 +118,8 @@ impl PlainHob {
         ensures bytes { self.new ≡ record self.old { body = forgotten base place self.old.body } }
         ensures len { hob_len self.new ≡ hob_len self.old }
     {
-        let d = match self.descriptor() {
-            Some(d) => d,
-            None => unreachable!(),
+        let Some(d) = self.descriptor() else {
+            unreachable!();
         };
         let words = descriptor_words(base, place, &d);
         self.body = match d.stands {
@@ -140,14 +133,8 @@ impl PlainHob {
         ensures number { self.new ≡ record self.old { body = renumbered number self.old.body } }
         ensures len { hob_len self.new ≡ hob_len self.old }
     {
-        match &mut self.body {
-            PlainBody::Descriptor(d) => d.number = number,
-            PlainBody::Bytes(_) => {}
-            PlainBody::NodeBytes(_) => {}
-            PlainBody::ShortBytes(_) => {}
-            PlainBody::LongBytes(_) => {}
-            PlainBody::Node => {}
-            PlainBody::Allocation(_) => {}
+        if let PlainBody::Descriptor(d) = &mut self.body {
+            d.number = number;
         }
     }
 
@@ -163,35 +150,22 @@ impl PlainHob {
             PlainBody::NodeBytes(old) => write_over(old.as_mut_slice(), at, bytes),
             PlainBody::ShortBytes(old) => write_over(old.as_mut_slice(), at, bytes),
             PlainBody::LongBytes(old) => write_over(old.as_mut_slice(), at, bytes),
-            PlainBody::Descriptor(_) => {}
-            PlainBody::Node => {}
-            PlainBody::Allocation(_) => {}
+            _ => {}
         }
     }
-}
-
-// The law of a GUID's length.
-pub(crate) fn has_sixteen(guid: &[u8; 16])
-    ensures { length guid.now ≡ 16 }
-{
-    let _bytes = *guid;
 }
 
 // The length of a body.
 fn body_len(body: &PlainBody) -> u16
     requires { body_len (body_of body.now) ≤ 65520 }
-    ensures len { result ≡ body_len (body_of body.now) }
-    ensures sized { IsSized (body_of body.now) }
+    ensures { result ≡ body_len (body_of body.now) }
 {
     match body {
         PlainBody::Bytes(bytes) => bytes.len() as u16,
         PlainBody::NodeBytes(bytes) => bytes.as_slice().len() as u16,
         PlainBody::ShortBytes(bytes) => bytes.as_slice().len() as u16,
         PlainBody::LongBytes(bytes) => bytes.as_slice().len() as u16,
-        PlainBody::Descriptor(d) => {
-            has_sixteen(&d.guid.0);
-            descriptor_len(d.stands) as u16
-        }
+        PlainBody::Descriptor(d) => descriptor_len(d.stands) as u16,
         PlainBody::Node => NODE_LEN as u16,
         PlainBody::Allocation(_) => ALLOCATION_LEN as u16,
     }

@@ -1,28 +1,25 @@
 // Pools are made and written.
 ghost use Rattle.std.specs.Prelude.{◌≡◌, IfOk, true, replicate};
-ghost use Rattle.boot_model.specs.Service.{Answers, Stores};
-ghost use Rattle.boot_model.specs.StateFacts.{IsPool};
-ghost use Rattle.boot_model.specs.Service.Pool.{pool, store};
+ghost use Rattle.store_model.specs.Service.{Answers, Stores};
+ghost use Rattle.store_model.specs.StateFacts.{IsPool};
+ghost use Rattle.store_model.specs.Service.Pool.{pool, store};
 
-use crate::kind::POOL;
 use crate::length::{HEADER_LEN, round_up};
 use crate::plain_hob::{PlainBody, PlainHob};
 use crate::store::PlainStore;
-use boot_model::{Pool, StoreFault};
+use hob_codec::kind::POOL;
 use pi_base::OutOfMemory;
 use std::alloc::Global;
+use store_model::{Pool, StoreFault};
 
 // The most bytes that a pool may have.
-const MOST_POOL: u32 = 65_520;
+const MOST_POOL: u32 = (hob_codec::MOST_LEN - hob_codec::HEADER_LEN) as u32;
 
 // So many zeros.
-fn zeros(alloc: Global, len: usize) -> Result<Vec<u8>, OutOfMemory>
+pub(crate) fn zeros(alloc: Global, len: usize) -> Result<Vec<u8>, OutOfMemory>
     ensures { IfOk result (λ zeros. zeros.items ≡ replicate len 0) }
 {
-    match vec![in alloc; 0u8; len] {
-        Ok(zeros) => Ok(zeros),
-        Err(_) => Err(OutOfMemory),
-    }
+    vec![in alloc; 0u8; len].map_err(|_| OutOfMemory)
 }
 
 impl PlainStore {
@@ -39,15 +36,10 @@ impl PlainStore {
         if self.free() < body + HEADER_LEN {
             return Err(StoreFault::Full);
         }
-        let zeros = match zeros(*self.hobs.allocator(), body as usize) {
-            Ok(zeros) => zeros,
-            Err(OutOfMemory) => return Err(StoreFault::Memory),
-        };
+        let zeros = zeros(*self.hobs.allocator(), body as usize)?;
         let offset = self.end + HEADER_LEN;
-        match self.put_behind(PlainHob::new(POOL, PlainBody::Bytes(zeros))) {
-            Ok(()) => Ok(Pool { offset, size }),
-            Err(OutOfMemory) => Err(StoreFault::Memory),
-        }
+        self.put_behind(PlainHob::new(POOL, PlainBody::Bytes(zeros)))?;
+        Ok(Pool { offset, size })
     }
 
     // Writes bytes into a pool. False where they pass the size that was asked for.

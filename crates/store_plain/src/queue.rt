@@ -1,12 +1,12 @@
 // The queue of dispatch notifications.
 ghost use Rattle.std.specs.Prelude.{◌≡◌};
-ghost use Rattle.boot_model.specs.StoreState.{StoreState, with_body};
-ghost use Rattle.boot_model.specs.StateFacts.{IsStoreState, IsNodeAt};
-ghost use Rattle.boot_model.specs.Service.{Takes};
-ghost use Rattle.boot_model.specs.Service.Queue.{queue_pop, zeroed};
+ghost use Rattle.store_model.specs.StoreState.{handoff_len, with_body};
+ghost use Rattle.store_model.specs.StateFacts.{IsStoreState, IsNodeAt};
+ghost use Rattle.store_model.specs.Service.{Takes};
+ghost use Rattle.store_model.specs.Service.Queue.{queue_pop, zeroed};
 
 use crate::store::PlainStore;
-use boot_model::Firing;
+use store_model::Firing;
 
 impl PlainStore {
     ghost use Rattle.store_plain.specs.PlainState.{state_of};
@@ -14,7 +14,7 @@ impl PlainStore {
     // The node at a place becomes zeros.
     fn zero_node(&mut self, place: u64)
         requires { IsNodeAt (state_of self.old) place }
-        ensures { state_of self.new ≡ record (state_of self.old) { hobs = with_body zeroed 56 self.old.hobs.items place } }
+        ensures { state_of self.new ≡ record (state_of self.old) { hobs = with_body zeroed handoff_len self.old.hobs.items place } }
     {
         match self.index_of(place) {
             Some(index) => self.hobs[index].zero(),
@@ -23,7 +23,7 @@ impl PlainStore {
     }
 
     // The first queued pair leaves the queue.
-    #[tactic(auto, using(crate::proofs::Named::pending_is_named, crate::proofs::Named::pending_is_entry))]
+    #[tactic(auto, using(store_laws::proofs::Named::pending_is_named, store_laws::proofs::Named::pending_is_entry))]
     pub(crate) fn pop_pending(&mut self) -> Option<Firing>
         requires { IsStoreState (state_of self.old) }
         ensures { Takes (queue_pop (state_of self.old)) (state_of self.old) result (state_of self.new) }

@@ -1,21 +1,22 @@
 // What a store tells of its lists and of its HOBs.
 ghost use Rattle.std.specs.Prelude.{◌≡◌, true, IfOk, IfSome, slice_get, slice_index, filter, length, ◌<◌, ◌+◌, ◌^◌, is_some};
 ghost use Rattle.pi_base.specs.Field.{little_number};
-ghost use Rattle.boot_model.specs.HeapImage.{body_bytes};
+ghost use Rattle.store_model.specs.HeapImage.{body_bytes};
 ghost use Rattle.store_plain.specs.PlainBody.{IsBytes};
-ghost use Rattle.boot_model.specs.StateFacts.{IsStoreState};
-ghost use Rattle.boot_model.specs.Service.Descriptor.{descriptor_at, number_at};
-ghost use Rattle.boot_model.specs.Service.Install.{has_ppi};
-ghost use Rattle.boot_model.specs.Service.Reading.{nth_ppi, ppi_at, note_at, pending_at, hob_at, fv_bases, memory_due, notes_of};
-ghost use Rattle.boot_model.specs.Service.Sweep.{firing_of};
-ghost use Rattle.boot_model.specs.StoreState.{hob_len};
+ghost use Rattle.store_model.specs.StateFacts.{IsStoreState};
+ghost use Rattle.store_model.specs.Service.Descriptor.{descriptor_at, number_at};
+ghost use Rattle.store_model.specs.Service.Install.{has_ppi};
+ghost use Rattle.store_model.specs.Service.Reading.{nth_ppi, ppi_at, note_at, pending_at, hob_at, fv_bases, memory_due, notes_of};
+ghost use Rattle.store_model.specs.Service.Sweep.{firing_of};
+ghost use Rattle.store_model.specs.StoreState.{hob_len};
+ghost use Rattle.store_model.specs.declared.limits.TheConstants.{NOTE_NUMBERS};
 
-use crate::kind::{HANDOFF, VOLUME};
 use crate::length::HANDOFF_LEN;
 use crate::plain_hob::{PlainHob, Role};
 use crate::store::PlainStore;
-use boot_model::{Desc, DescKind, Entry, Firing, HobSpan, Pending};
+use hob_codec::kind::{HANDOFF, VOLUME};
 use pi_base::{Guid, OutOfMemory, Seq, u64_at};
+use store_model::{Desc, DescKind, Entry, Firing, HobSpan, Pending};
 
 impl PlainStore {
     ghost use Rattle.store_plain.specs.PlainState.{state_of};
@@ -91,14 +92,14 @@ impl PlainStore {
 
     // The entry of a notification.
     pub(crate) fn entry_at(&self, place: u64) -> u32
-        requires { number_at (state_of self.now) place < 0x40000 }
+        requires { number_at (state_of self.now) place < NOTE_NUMBERS }
         ensures { result ≡ number_at (state_of self.now) place }
     {
         self.number_at(place) as u32
     }
 
     // GUID and entry of the notification in a place.
-    #[tactic(auto, using(crate::proofs::Named::note_is_named, crate::proofs::Named::note_is_entry))]
+    #[tactic(auto, using(store_laws::proofs::Named::note_is_named, store_laws::proofs::Named::note_is_entry))]
     pub(crate) fn tell_note(&self, kind: DescKind, place: u32) -> Option<(Guid, u32)>
         requires { IsStoreState (state_of self.now) }
         ensures { result ≡ note_at (state_of self.now) kind place }
@@ -113,7 +114,7 @@ impl PlainStore {
     }
 
     // The PPI's GUID, and the notification's entry, of the queued pair in a place.
-    #[tactic(auto, using(crate::proofs::Named::pending_is_named, crate::proofs::Named::pending_is_entry))]
+    #[tactic(auto, using(store_laws::proofs::Named::pending_is_named, store_laws::proofs::Named::pending_is_entry))]
     pub(crate) fn tell_pending(&self, place: u32) -> Option<(Guid, u32)>
         requires { IsStoreState (state_of self.now) }
         ensures { result ≡ pending_at (state_of self.now) place }
@@ -127,7 +128,7 @@ impl PlainStore {
     // What a notification is told.
     pub(crate) fn firing(&self, ppi: u64, note: u64) -> Firing
         requires named { is_some (descriptor_at (state_of self.now) ppi) ≡ true }
-        requires entry { number_at (state_of self.now) note < 0x40000 }
+        requires entry { number_at (state_of self.now) note < NOTE_NUMBERS }
         ensures { result ≡ firing_of (state_of self.now) ppi note }
     {
         Firing {
@@ -191,10 +192,7 @@ impl PlainStore {
         let mut bases = Seq::new(*self.hobs.allocator());
         'hobs: for hob in self.hobs.as_slice() {
             if hob.kind() == VOLUME {
-                match bases.push(self.volume_base(hob)) {
-                    Ok(()) => {}
-                    Err(OutOfMemory) => return Err(OutOfMemory),
-                }
+                bases.push(self.volume_base(hob))?;
             }
         }
         Ok(bases)

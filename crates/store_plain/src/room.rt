@@ -1,6 +1,6 @@
 // What is left of the heap, and HOBs put behind the others.
 ghost use Rattle.std.specs.Prelude.{◌≡◌, ◌+◌, ◌≤◌, ◌<◌, ◌^◌, OnOk, OnErr};
-ghost use Rattle.boot_model.specs.StoreState.{free, page_bytes, hob_len, appended};
+ghost use Rattle.store_model.specs.StoreState.{free, page_bytes, hob_len, appended};
 
 use crate::length::HEADER_LEN;
 use crate::plain_hob::PlainHob;
@@ -31,12 +31,8 @@ impl PlainStore {
         ensures err { OnErr result (state_of self.new ≡ state_of self.old) }
     {
         let end = self.end + hob.len() as u64;
-        match self.hobs.push(hob) {
-            Ok(()) => {
-                self.end = end;
-                Ok(())
-            }
-            Err(_) => Err(OutOfMemory),
-        }
+        self.hobs.push(hob).map_err(|_| OutOfMemory)?;
+        self.end = end;
+        Ok(())
     }
 }

@@ -1,15 +1,16 @@
 // A store over lists.
 ghost use Rattle.std.specs.Prelude.{◌≡◌, ◌+◌, ◌≤◌, sum_by, if◌then◌else◌};
-ghost use Rattle.boot_model.specs.StoreState.{hob_len, page_bytes};
-ghost use Rattle.boot_model.specs.StateFacts.{IsBoard, IsStoreState};
-ghost use Rattle.boot_model.specs.StoreState.{empty_store};
+ghost use Rattle.store_model.specs.StoreState.{handoff_len, header_len, hob_len, page_bytes};
+ghost use Rattle.boot_plan.specs.declared.limits.TheConstants.{MOST_END};
+ghost use Rattle.store_model.specs.StateFacts.{IsBoard, IsStoreState};
+ghost use Rattle.store_model.specs.StoreState.{empty_store};
 
-use crate::length::{HANDOFF_LEN, HEADER_LEN};
+use crate::length::HANDOFF_LEN;
 use crate::plain_hob::PlainHob;
-use boot_model::{Entry, Pending};
 use phys_mem::Rom;
 use pi_base::{Seq, Span};
 use std::alloc::Global;
+use store_model::{Entry, Pending};
 
 /// A store of PEI services over plain lists.
 #[derive(Drop)]
@@ -32,12 +33,12 @@ pub struct PlainStore {
     pub(crate) moved: bool,
     // The place of the end HOB.
     pub(crate) end: u64,
-    ghost ended: { end ≡ 56 + sum_by hob_len hobs.items },
-    ghost room: { end + 8 + page_bytes moved taken ≤ len },
+    ghost ended: { end ≡ handoff_len + sum_by hob_len hobs.items },
+    ghost room: { end + header_len + page_bytes moved taken ≤ len },
     ghost heap: { base + len ≤ page_end },
     ghost region_end: { region ≤ page_end },
     ghost early: { (if moved then 0 else taken) ≤ region },
-    ghost low: { page_end ≤ 0x10000000000 },
+    ghost low: { page_end ≤ MOST_END },
 }
 
 impl PlainStore {

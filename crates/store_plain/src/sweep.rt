@@ -1,11 +1,11 @@
 // The pairs that a sweep has still to visit.
 ghost use Rattle.std.specs.Prelude.{◌≡◌, ◌<◌, ◌≤◌, length, IfSome, IfNone, None, is_some, true};
-ghost use Rattle.boot_model.specs.StateFacts.{IsStoreState, IsSweepOf};
-ghost use Rattle.boot_model.specs.StoreCall.{IsMatch};
-ghost use Rattle.boot_model.specs.Service.Sweep.{next_match, first_firing, firing_at, pairs_with, have_one_guid, places_at};
+ghost use Rattle.store_model.specs.StateFacts.{IsStoreState, IsSweepOf};
+ghost use Rattle.store_model.specs.StoreCall.{IsMatch};
+ghost use Rattle.store_model.specs.Service.Sweep.{next_match, first_firing, firing_at, pairs_with, have_one_guid, places_at};
 
 use crate::store::PlainStore;
-use boot_model::{Firing, Sweep};
+use store_model::{Firing, Sweep};
 
 impl PlainStore {
     ghost use Rattle.store_plain.specs.PlainState.{state_of};
@@ -15,7 +15,8 @@ impl PlainStore {
         requires ppi { ppi < length self.now.ppis.items }
         requires notes { sweep.now.note_to ≤ length self.now.callbacks.items }
         ensures note { IfSome result (λ note. note < sweep.now.note_to) }
-        ensures found { IfSome result (λ note. first_firing (state_of self.now) sweep.now (pairs_with sweep.now from ppi) ≡ firing_at (state_of self.now) sweep.now (ppi, note)) }
+        ensures found { IfSome result (λ note. first_firing (state_of self.now) sweep.now (pairs_with sweep.now from ppi)
+            ≡ firing_at (state_of self.now) sweep.now (ppi, note)) }
         ensures fires { IfSome result (λ note. is_some (firing_at (state_of self.now) sweep.now (ppi, note)) ≡ true) }
         ensures none { IfNone result (first_firing (state_of self.now) sweep.now (pairs_with sweep.now from ppi) ≡ None) }
     {
@@ -47,7 +48,7 @@ impl PlainStore {
     }
 
     // The first pair that fires now, the sweep then standing behind it.
-    #[tactic(auto, using(crate::proofs::Named::ppi_is_named))]
+    #[tactic(auto, using(store_laws::proofs::Named::ppi_is_named))]
     pub(crate) fn next_firing(&self, sweep: &mut Sweep) -> Option<Firing>
         requires facts { IsStoreState (state_of self.now) }
         requires sweep { IsSweepOf (state_of self.now) sweep.old }

@@ -1,6 +1,8 @@
-// A store of one scene: what it refuses, what it tells, and worked calls. Each call that the tests make keeps what holds of every state, so that the next may follow.
+// A store of one scene: what it refuses, what it tells, and worked calls.
+// Each call that the tests make keeps what holds of every state, so that the next may follow.
 ghost use Rattle.std.specs.Prelude.{◌≤◌, ◌+◌, IsTrue, IfOk};
-ghost use Rattle.boot_model.specs.StateFacts.{IsStoreState, IsDesc, IsPool};
+ghost use Rattle.store_model.specs.StateFacts.{IsStoreState, IsDesc, IsPool};
+ghost use Rattle.boot_plan.specs.declared.limits.TheConstants.{MOST_TEMP};
 ghost use Rattle.store_plain.specs.PlainState.{state_of};
 
 mod readings;
@@ -10,33 +12,33 @@ mod told;
 mod worked;
 
 use super::*;
-use boot_model::{Desc, DescKind, Firing, GuidFrom, PeiStore, Pool, StoreFault, Sweep};
 use hob_codec::Hob;
-use phys_mem::Rom;
 use pi_base::{Guid, OutOfMemory, Seq, Span};
 use std::alloc::{AllocError, Global};
 use std::process::Abort;
 use std::test::*;
+use store_model::{Desc, DescKind, Firing, GuidFrom, PeiStore, Pool, StoreFault, Sweep};
 
 const NAME: Guid = Guid([0, 0, 0, 0, 0, 0, 0, 0, 0, 0, 0, 0, 0, 0, 0, 1]);
 
 const INLINE: GuidFrom = GuidFrom::Inline(NAME);
+
+// The base of temporary RAM.
+const TEMP: u64 = 0x8000_0000;
 
 const RAM: Span = Span {
     base: 0x4000_0000,
     len: 0x400_0000,
 };
 
-// A store over so many bytes of temporary RAM, the last of which are for early pages, and over these volumes.
-fn store_over(alloc: Global, len: u64, pages: u64, roms: Seq<Rom>) -> PlainStore
-    requires len { len ≤ 0x100000 }
+// A store over so many bytes of temporary RAM, the last of which are for early pages.
+fn store_over(alloc: Global, len: u64, pages: u64) -> PlainStore
+    requires len { len ≤ MOST_TEMP }
     requires pages { pages + 64 ≤ len }
     ensures { IsStoreState (state_of result) }
 {
-    let temp = Span {
-        base: 0x8000_0000,
-        len,
-    };
+    let temp = Span { base: TEMP, len };
+    let roms = Seq::new(alloc);
     PlainStore::new(alloc, temp, pages, RAM, roms)
 }
 
@@ -44,14 +46,14 @@ fn store_over(alloc: Global, len: u64, pages: u64, roms: Seq<Rom>) -> PlainStore
 fn usual(alloc: Global) -> PlainStore
     ensures { IsStoreState (state_of result) }
 {
-    store_over(alloc, 0x1_0000, 0, Seq::new(alloc))
+    store_over(alloc, 0x1_0000, 0)
 }
 
 // A store over 16 KiB of temporary RAM.
 fn small(alloc: Global) -> PlainStore
     ensures { IsStoreState (state_of result) }
 {
-    store_over(alloc, 0x4000, 0, Seq::new(alloc))
+    store_over(alloc, 0x4000, 0)
 }
 
 // A store with so many bytes of early pages.
@@ -59,7 +61,7 @@ fn with_pages(alloc: Global, pages: u64) -> PlainStore
     requires { pages ≤ 0x4000 }
     ensures { IsStoreState (state_of result) }
 {
-    store_over(alloc, 0x1_0000, pages, Seq::new(alloc))
+    store_over(alloc, 0x1_0000, pages)
 }
 
 fn pool(store: &mut PlainStore, size: u32) -> Result<Pool, StoreFault>

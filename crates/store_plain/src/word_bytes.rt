@@ -2,11 +2,11 @@
 ghost use Rattle.std.specs.Prelude.{◌≡◌, ◌≤◌, ◌<◌, ◌+◌, ◌*◌, ◌++◌, ◌^◌, length, take};
 ghost use Rattle.std.specs.List.{flat_map};
 ghost use Rattle.pi_base.specs.Field.{little_bytes};
-ghost use Rattle.boot_model.specs.HeapImage.{descriptor_bytes, guid_address, kind_flags};
+ghost use Rattle.store_model.specs.HeapImage.{descriptor_bytes, guid_address, kind_flags};
 ghost use Rattle.store_plain.specs.Words.{words_bytes, descriptor_words};
 
-use boot_model::{DescKind, DescriptorBody};
 use pi_base::put_u64;
+use store_model::{DescKind, DescriptorBody};
 
 const PPI_FLAGS: u64 = 0x8000_0010;
 

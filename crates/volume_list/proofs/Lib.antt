@@ -2,4 +2,4 @@ mod ListFacts
 mod Room
 mod Families
 mod Newcomers
-mod Places
+mod Ppis

@@ -1,9 +1,10 @@
 -- The volumes that are known: each once, and each of the catalogue.
 -- Own.
 use Rattle.std.specs.Prelude.{ℕ, ◌<◌, not, if◌then◌else◌, List, [], ◌∷◌, ◌++◌, length}
-use Rattle.boot_model.specs.declared.catalog.Catalog.{Catalog}
-use Rattle.boot_model.specs.Lists.{Each}
-use Rattle.boot_model.specs.Parts.{has_number}
+use Rattle.catalog_model.specs.declared.catalog.Catalog.{Catalog}
+use Rattle.pi_base.specs.Lists.{Each}
+use Rattle.catalog_model.specs.Parts.{has_number}
+use Rattle.catalog_model.specs.WellFormed.{IsWellFormed}
 use Rattle.boot_model.specs.Licence.{AllDiffer}
 
 -- each is the number of a volume of the catalogue
@@ -13,6 +14,12 @@ AreInCatalog catalog list = Each (λ volume. volume < length catalog.volumes) li
 pub record AreKnown (catalog : Catalog) (list : List ℕ) : Type 0 where
   pub differ : AllDiffer list
   pub in_catalog : AreInCatalog catalog list
+
+-- volumes of a well-formed catalogue may come to those that are known
+pub record MayCome (catalog : Catalog) (list numbers : List ℕ) : Type 0 where
+  pub formed : IsWellFormed catalog
+  pub known : AreKnown catalog list
+  pub in_catalog : AreInCatalog catalog numbers
 
 -- a list with each of these numbers that is new at its end, one after the other
 abbrev pub with_new : List ℕ → List ℕ → List ℕ

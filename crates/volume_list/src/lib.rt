@@ -3,7 +3,7 @@
 
 mod family;
 mod list;
-mod place;
+mod mapped;
 mod report;
 
 pub use list::VolumeList;

@@ -1,15 +1,16 @@
 //! The volumes that are known, by their numbers.
 ghost use Rattle.std.specs.Prelude.{◌≡◌, ◌<◌, ◌++◌, ◌∷◌, [], length, if◌then◌else◌, IfSome, IsTrue};
-ghost use Rattle.boot_model.specs.Parts.{has_number, is_nested_in};
+ghost use Rattle.catalog_model.specs.Parts.{has_number, is_nested_in};
 ghost use Rattle.boot_model.specs.Reporting.{newcomers};
 ghost use Rattle.boot_model.specs.Discovery.{discoveries};
-ghost use Rattle.boot_model.specs.WellFormed.{IsWellFormed};
-ghost use Rattle.volume_list.specs.Known.{AreKnown, with_new, AreInCatalog};
+ghost use Rattle.catalog_model.specs.WellFormed.{IsWellFormed};
+ghost use Rattle.catalog_model.specs.declared.catalog.Catalog.{Catalog};
+ghost use Rattle.volume_list.specs.Known.{AreKnown, MayCome, with_new};
 
 use crate::family::family_of;
-use crate::place::volume_at;
+use crate::mapped::volume_at;
 use arrayvec::ArrayVec;
-use boot_model::{Catalog, MOST_VOLUMES};
+use catalog_model::{Catalog, MOST_VOLUMES};
 use std::marker::Model;
 
 /// Numbers of volumes in the order in which they became known.
@@ -70,13 +71,11 @@ impl VolumeList {
         }
     }
 
-    // Puts each of these numbers that is new at the end.
-    fn add_each(&mut self, catalog: &Catalog, numbers: &[u32])
-        requires catalog { IsWellFormed catalog.now }
-        requires known { AreKnown catalog.now self.old }
-        requires numbers { AreInCatalog catalog.now numbers.now }
+    // Puts each of these numbers that is new at the end: volumes of a catalogue.
+    fn add_each(&mut self, numbers: &[u32])
+        requires known { (catalog : Catalog) × MayCome catalog self.old numbers.now }
         ensures added { self.new ≡ with_new self.old numbers.now }
-        ensures known { AreKnown catalog.now self.new }
+        ensures known { (catalog : Catalog) → MayCome catalog self.old numbers.now → AreKnown catalog self.new }
     {
         'volumes: for number in numbers {
             let is_new = !self.has(*number);
@@ -109,7 +108,7 @@ impl VolumeList {
         let is_new = !self.has(number);
         if is_new {
             let family = family_of(catalog, number);
-            self.add_each(catalog, family.as_slice());
+            self.add_each(family.as_slice());
         }
     }
 

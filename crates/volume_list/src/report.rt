@@ -1,21 +1,21 @@
-//! The volumes that PPIs tell of.
-ghost use Rattle.std.specs.Prelude.{◌≡◌, ◌≤◌, ◌<◌, ◌-◌, ◌++◌, length, take, drop, IfSome};
-ghost use Rattle.std.specs.Option.{option_and_then};
-ghost use Rattle.boot_model.specs.declared.limits.TheConstants.{MOST_VOLUMES};
-ghost use Rattle.boot_model.specs.FileType.{same_guid, guid_at};
-ghost use Rattle.boot_model.specs.MemoryReading as At;
+//! The volumes that PPIs report.
+ghost use Rattle.std.specs.Prelude.{◌≡◌, ◌≤◌, ◌<◌, length, IfSome};
+ghost use Rattle.catalog_model.specs.declared.limits.TheConstants.{MOST_VOLUMES};
+ghost use Rattle.pi_base.specs.Guids.{guid_at};
 ghost use Rattle.boot_model.specs.Reporting as R;
-ghost use Rattle.boot_model.specs.Service.{Present, OfEach};
-ghost use Rattle.boot_model.specs.Service.Descriptor.{descriptors};
-ghost use Rattle.boot_model.specs.StoreCall.{Anything};
-ghost use Rattle.boot_model.specs.WellFormed.{IsWellFormed};
+ghost use Rattle.store_model.specs.StateFacts.{IsDesc};
+ghost use Rattle.store_model.specs.Service.{Present, OfEach};
+ghost use Rattle.store_model.specs.StoreCall.{Anything};
+ghost use Rattle.catalog_model.specs.WellFormed.{IsWellFormed};
 ghost use Rattle.volume_list.specs.Known.{AreKnown};
-ghost use Rattle.volume_list.specs.Told.{told_in_place};
+ghost use Rattle.volume_list.specs.Reported.{AreDescs, IsWithReports, volume_of_info};
 
 use crate::list::VolumeList;
-use crate::place::volume_at;
-use boot_model::{Catalog, FILE_SYSTEM2, FILE_SYSTEM3, PeiStore, VOLUME_INFO_PPI};
+use crate::mapped::volume_at;
+use boot_model::{FILE_SYSTEM2, FILE_SYSTEM3};
+use catalog_model::Catalog;
 use pi_base::{Guid, u64_at};
+use store_model::{Desc, PeiStore, VOLUME_INFO_PPI};
 
 /// The length of the PPI of the volume information.
 const INFO_LEN: usize = 48;
@@ -23,25 +23,18 @@ const INFO_LEN: usize = 48;
 /// The offset of its FvInfo, the address of the volume.
 const INFO_AT: usize = 16;
 
-// Whether two GUIDs are the same.
-fn same_guid(a: &Guid, b: &Guid) -> bool
-    ensures { result ≡ same_guid a.now b.now }
-{
-    a == b
-}
-
 // Whether the PPI says that the volume has a file system of the specification.
 fn is_file_system(info: &[u8; INFO_LEN]) -> bool
     ensures { result ≡ R.is_file_system (guid_at info.now 0) }
 {
-    let format = &info[..16];
-    format == FILE_SYSTEM2.0.as_slice() || format == FILE_SYSTEM3.0.as_slice()
+    let format = Guid::at(info, 0);
+    format == FILE_SYSTEM2 || format == FILE_SYSTEM3
 }
 
-// The volume that these bytes of a PPI tell of.
-fn told_by(catalog: &Catalog, info: &[u8; INFO_LEN]) -> Option<u32>
+// The volume of which these bytes of a PPI tell.
+fn volume_in(catalog: &Catalog, info: &[u8; INFO_LEN]) -> Option<u32>
     requires { length catalog.now.volumes ≤ MOST_VOLUMES }
-    ensures told { result ≡ R.told_by catalog.now info.now }
+    ensures volume { result ≡ R.told_by catalog.now info.now }
     ensures in_catalog { IfSome result (λ number. number < length catalog.now.volumes) }
 {
     if is_file_system(info) {
@@ -51,47 +44,47 @@ fn told_by(catalog: &Catalog, info: &[u8; INFO_LEN]) -> Option<u32>
     }
 }
 
-// The volume that the PPI at an address tells of.
-fn told_from<M: PeiStore>(catalog: &Catalog, store: &M, address: u64) -> Option<u32>
+// The volume of which the volume information at an address tells.
+fn volume_of_info<M: PeiStore>(catalog: &Catalog, store: &M, address: u64) -> Option<u32>
     requires few { length catalog.now.volumes ≤ MOST_VOLUMES }
     requires state { Present (M.stands_for store.now) Anything }
-    ensures told { OfEach (M.stands_for store.now) Anything (λ s. result ≡ option_and_then (R.told_by catalog.now) (At.bytes_at s address R.volume_info_len)) }
+    ensures volume { OfEach (M.stands_for store.now) Anything (λ s. result ≡ volume_of_info catalog.now s address) }
     ensures in_catalog { IfSome result (λ number. number < length catalog.now.volumes) }
 {
     let mut info = [0; INFO_LEN];
     if store.peek(address, &mut info) {
-        told_by(catalog, &info)
+        volume_in(catalog, &info)
     } else {
         None
     }
 }
 
-// The volume that the PPI in a place tells of.
-fn told_in<M: PeiStore>(catalog: &Catalog, store: &M, place: u32) -> Option<u32>
+// The volume of which the PPI of a descriptor tells.
+fn volume_of_ppi<M: PeiStore>(catalog: &Catalog, store: &M, ppi: Desc) -> Option<u32>
     requires few { length catalog.now.volumes ≤ MOST_VOLUMES }
-    requires state { Present (M.stands_for store.now) Anything }
-    ensures told { OfEach (M.stands_for store.now) Anything (λ s. result ≡ told_in_place catalog.now s place) }
+    requires state { Present (M.stands_for store.now) (λ s. IsDesc s ppi) }
+    ensures volume { OfEach (M.stands_for store.now) (λ s. IsDesc s ppi) (λ s. result ≡ R.told_at catalog.now s ppi.offset) }
     ensures in_catalog { IfSome result (λ number. number < length catalog.now.volumes) }
 {
-    match store.ppi_at(place) {
-        Some((guid, address, _)) if same_guid(&guid, &VOLUME_INFO_PPI) => {
-            told_from(catalog, store, address)
-        }
-        _ => None,
+    let (guid, address) = store.descriptor(ppi);
+    if guid == VOLUME_INFO_PPI {
+        volume_of_info(catalog, store, address)
+    } else {
+        None
     }
 }
 
 impl VolumeList {
-    /// What the PPIs at places from `from` up to `to` of a store tell: reports of volumes.
-    pub fn report<M: PeiStore>(&mut self, catalog: &Catalog, store: &M, from: u32, to: u32)
+    /// What the PPIs of these descriptors report: each volume of the catalogue of which one tells, if it is new, and after it each volume nested in it that is.
+    pub fn report<M: PeiStore>(&mut self, catalog: &Catalog, store: &M, ppis: &[Desc])
         requires catalog { IsWellFormed catalog.now }
         requires known { AreKnown catalog.now self.old }
-        requires state { Present (M.stands_for store.now) Anything }
-        ensures reported { OfEach (M.stands_for store.now) Anything (λ s. self.new ≡ self.old ++ R.reports catalog.now s self.old (descriptors (take (to - from) (drop from s.ppis)))) }
+        requires state { Present (M.stands_for store.now) (AreDescs ppis.now) }
+        ensures reported { OfEach (M.stands_for store.now) (AreDescs ppis.now) (IsWithReports catalog.now self.old ppis.now self.new) }
         ensures known { AreKnown catalog.now self.new }
     {
-        'places: for place in from..to {
-            self.add(catalog, told_in(catalog, store, place));
+        'ppis: for ppi in ppis {
+            self.add(catalog, volume_of_ppi(catalog, store, *ppi));
         }
     }
 }

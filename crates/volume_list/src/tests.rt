@@ -1,9 +1,9 @@
-// A small catalogue made by hand, and the volumes that become known. What PPIs report needs a whole store, and is tested in the crates above.
+// A small catalogue made by hand, and the volumes that become known. What PPIs report needs a whole store, and is tested at the top.
 ghost use Rattle.std.specs.Prelude.{◌<◌, length, IfOk, IfSome};
-ghost use Rattle.boot_model.specs.WellFormed.{IsWellFormed};
+ghost use Rattle.catalog_model.specs.WellFormed.{IsWellFormed};
 
 use super::*;
-use boot_model::{Catalog, VolumeEntry};
+use catalog_model::{Catalog, VolumeEntry};
 use pi_base::{OutOfMemory, Seq};
 use std::alloc::Global;
 use std::test::*;
@@ -83,28 +83,66 @@ fn discovered(catalog: &Catalog, bases: &[u64]) -> VolumeList
     list
 }
 
+/// Two volumes that come to an empty list one after the other, and what is known then.
+#[derive(Drop)]
+struct Coming {
+    first: u32,
+    second: u32,
+    known: &'static [u32],
+}
+
+/// The number of no volume.
+const NONE: u32 = 9;
+
 #[test]
-fn nested_after_their_own(rt: HostRuntime) -> Result<(), Fail> {
+fn nested_volumes_stand_behind_their_own(rt: HostRuntime) -> Result<(), Fail> {
     let catalog = catalogue(rt.alloc()).ok().ok_or("there is memory")?;
-    // The number 9 stands for no volume.
-    let rows: [(u32, u32, &[u32]); 7] = [
-        (9, 9, &[]),
-        (0, 9, &[0, 1, 2, 3]),
-        (9, 4, &[4]),
-        (1, 0, &[1, 2, 0, 3]),
-        (2, 1, &[2, 1]),
-        (0, 1, &[0, 1, 2, 3]),
-        (4, 3, &[4, 3]),
+    let rows = [
+        Coming {
+            first: NONE,
+            second: NONE,
+            known: &[],
+        },
+        Coming {
+            first: 0,
+            second: NONE,
+            known: &[0, 1, 2, 3],
+        },
+        Coming {
+            first: NONE,
+            second: 4,
+            known: &[4],
+        },
+        Coming {
+            first: 1,
+            second: 0,
+            known: &[1, 2, 0, 3],
+        },
+        Coming {
+            first: 2,
+            second: 1,
+            known: &[2, 1],
+        },
+        Coming {
+            first: 0,
+            second: 1,
+            known: &[0, 1, 2, 3],
+        },
+        Coming {
+            first: 4,
+            second: 3,
+            known: &[4, 3],
+        },
     ];
-    'rows: for (first, second, want) in rows {
-        let list = added(&catalog, first, second);
-        assert_eq!(rt; list.as_slice(), want, "{first} and {second}");
+    'rows: for row in &rows {
+        let list = added(&catalog, row.first, row.second);
+        assert_eq!(rt; list.as_slice(), row.known);
     }
     Ok(())
 }
 
 #[test]
-fn one_base_after_the_other(rt: HostRuntime) -> Result<(), Fail> {
+fn volumes_are_discovered_base_by_base(rt: HostRuntime) -> Result<(), Fail> {
     let catalog = catalogue(rt.alloc()).ok().ok_or("there is memory")?;
     let rows: [(&[u64], &[u32]); 4] = [
         (&[], &[]),

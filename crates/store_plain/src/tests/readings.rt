@@ -1,12 +1,12 @@
 // Each call that reads, over the scene, and the calls that write a pool and the boot mode.
 ghost use Rattle.std.specs.Prelude.{IsTrue};
-ghost use Rattle.boot_model.specs.StateFacts.{IsStoreState, IsSweepOf, IsPool};
+ghost use Rattle.store_model.specs.StateFacts.{IsStoreState, IsSweepOf, IsPool};
 ghost use Rattle.store_plain.specs.PlainState.{state_of};
 
-use super::scene::{END, INSTALLED, OTHER, ROM, scene};
+use super::scene::{DISPATCH, END, INSTALLED, OTHER, ROM, scene};
 use super::told::told;
 use super::*;
-use boot_model::{HobSpan, MEMORY_PPI};
+use store_model::{EntryList, EntryTold, HobSpan, MEMORY_PPI};
 
 fn ppi_at(store: &PlainStore, place: u32) -> Option<(Guid, u64, u32)>
     requires { IsStoreState (state_of store.now) }
@@ -75,6 +75,68 @@ fn the_lists_are_told_by_place(rt: HostRuntime) -> Result<(), Fail> {
     assert_eq!(rt; note_at(&store, DescKind::Ppi, 0), None);
     assert_eq!(rt; pending_at(&store, 0), Some((NAME, 3)));
     assert_eq!(rt; pending_at(&store, 1), None);
+    Ok(())
+}
+
+fn descriptor(store: &PlainStore, d: Desc) -> Option<(Guid, u64)>
+    requires { IsStoreState (state_of store.now) }
+{
+    if is_desc(store, d) {
+        Some(store.descriptor(d))
+    } else {
+        None
+    }
+}
+
+// The first entry of a list, and the one behind it.
+fn first_entries(store: &PlainStore, list: EntryList) -> (Option<EntryTold>, Option<EntryTold>)
+    requires { IsStoreState (state_of store.now) }
+{
+    let first = store.entry_behind(list, None);
+    match first {
+        Some(told) => (first, store.entry_behind(list, Some(told.node))),
+        None => (None, None),
+    }
+}
+
+fn told_of(node: u64, number: u64) -> EntryTold {
+    EntryTold {
+        node,
+        guid: NAME,
+        number,
+        by: 9,
+    }
+}
+
+#[test]
+fn entries_are_told_one_behind_the_other(rt: HostRuntime) -> Result<(), Fail> {
+    let mut store = scene(rt.alloc(), 0)?;
+    assert!(rt; install(&mut store, OTHER).is_ok());
+    let lists = [
+        (EntryList::Ppis, told_of(336, 7), Some(told_of(END + 8, 8))),
+        (EntryList::Callbacks, told_of(296, 5), None),
+        (EntryList::Dispatches, told_of(256, 3), None),
+        (
+            EntryList::Pendings,
+            told_of(376, 3),
+            Some(told_of(END + 48, 3)),
+        ),
+    ];
+    for (list, first, second) in lists {
+        assert_eq!(rt;
+            first_entries(&store, list),
+            (Some(first), second),
+            "{list:?}"
+        );
+    }
+    Ok(())
+}
+
+#[test]
+fn a_descriptor_tells_its_guid_and_number(rt: HostRuntime) -> Result<(), Fail> {
+    let store = scene(rt.alloc(), 0)?;
+    assert_eq!(rt; descriptor(&store, OTHER), Some((NAME, 8)));
+    assert_eq!(rt; descriptor(&store, DISPATCH), Some((NAME, 3)));
     Ok(())
 }
 

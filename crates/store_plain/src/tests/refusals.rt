@@ -1,12 +1,12 @@
 // Each refusal of each service beside the neighbour that passes, and that a refused call changes nothing.
 ghost use Rattle.std.specs.Prelude.{IfOk};
-ghost use Rattle.boot_model.specs.StateFacts.{IsStoreState};
+ghost use Rattle.store_model.specs.StateFacts.{IsStoreState};
 ghost use Rattle.store_plain.specs.PlainState.{state_of};
 
 use super::scene::{CALLBACK, DISPATCH, INSTALLED, OTHER, ROM, fill, scene};
 use super::told::told;
 use super::*;
-use boot_model::MEMORY_PPI;
+use store_model::MEMORY_PPI;
 
 #[derive(Clone, Copy, Debug)]
 enum Service {
@@ -237,29 +237,10 @@ fn refusals_come_in_their_order_and_change_nothing(rt: HostRuntime) -> Result<()
     Ok(())
 }
 
-// Where the call wants memory, nothing is left of it.
-fn try_want(rt: &impl Abort, alloc: Global, row: &Row) {
-    match outcome(alloc, row) {
-        Ok((Some(StoreFault::Memory), is_same)) => assert!(rt; is_same, "{row:?}"),
-        _ => {}
-    }
-}
-
-// Of use where one allocation after the other fails.
-#[test]
-fn want_of_memory_changes_nothing(rt: HostRuntime) {
-    for (left, call, fault) in LAID.iter() {
-        try_want(&rt, rt.alloc(), &(Stage::Laid, *left, *call, *fault));
-    }
-    for row in LATER.iter() {
-        try_want(&rt, rt.alloc(), row);
-    }
-}
-
 // There is room for more.
 #[test]
 fn a_pool_has_at_most_65520_bytes(rt: HostRuntime) {
-    let mut store = store_over(rt.alloc(), 0x2_0000, 0, Seq::new(rt.alloc()));
+    let mut store = store_over(rt.alloc(), 0x2_0000, 0);
     assert_eq!(rt; pool(&mut store, 65_521), Err(StoreFault::Full));
     assert_eq!(rt;
         pool(&mut store, 65_520),

@@ -1,11 +1,13 @@
 // The scene: a PPI, a notification of each kind for its GUID, and another PPI that is not installed.
 //
-// Behind the hand-off HOB, which has 56 bytes, stand four descriptors of 48 bytes with their headers, and then four nodes of 40: of the two notifications, of the PPI, and of the pair that is queued. The end HOB is at 56 + 192 + 160 = 408.
+// Behind the hand-off HOB, which has 56 bytes, stand four descriptors of 48 bytes with their headers, and then four nodes of 40:
+// of the two notifications, of the PPI, and of the pair that is queued. The end HOB is at 56 + 192 + 160 = 408.
 ghost use Rattle.std.specs.Prelude.{◌≤◌, IfOk};
-ghost use Rattle.boot_model.specs.StateFacts.{IsStoreState};
+ghost use Rattle.store_model.specs.StateFacts.{IsStoreState};
 ghost use Rattle.store_plain.specs.PlainState.{state_of};
 
 use super::*;
+use phys_mem::Rom;
 
 pub(crate) const INSTALLED: Desc = Desc { offset: 0x40 };
 
@@ -44,12 +46,20 @@ fn enter(store: &mut PlainStore) -> bool
     dispatch.is_ok() && callback.is_ok() && installed.is_ok()
 }
 
-fn volumes(alloc: Global) -> Result<Seq<Rom>, OutOfMemory> {
+// A store over a heap of 16 KiB, so many bytes of early pages, and the volume.
+fn store_with_volume(alloc: Global, pages: u64) -> Result<PlainStore, OutOfMemory>
+    requires { pages ≤ 0x1000 }
+    ensures { IfOk result (λ store. IsStoreState (state_of store)) }
+{
     let mut bytes = Seq::new(alloc);
     bytes.append(&NAME.0)?;
     let mut roms = Seq::new(alloc);
     roms.push(Rom { base: ROM, bytes })?;
-    Ok(roms)
+    let temp = Span {
+        base: TEMP,
+        len: 0x4000 + pages,
+    };
+    Ok(PlainStore::new(alloc, temp, pages, RAM, roms))
 }
 
 /// The scene in a heap of 16 KiB, behind which are so many bytes of early pages.
@@ -57,8 +67,7 @@ pub(crate) fn scene(alloc: Global, pages: u64) -> Result<PlainStore, OutOfMemory
     requires { pages ≤ 0x1000 }
     ensures { IfOk result (λ store. IsStoreState (state_of store)) }
 {
-    let roms = volumes(alloc)?;
-    let mut store = store_over(alloc, 0x4000 + pages, pages, roms);
+    let mut store = store_with_volume(alloc, pages)?;
     let is_made = make(&mut store);
     let is_entered = enter(&mut store);
     if is_made && is_entered {

@@ -1,5 +1,5 @@
 // What a store tells, as bytes: two stores that tell the same bytes are in one state, as far as a caller sees.
-ghost use Rattle.boot_model.specs.StateFacts.{IsStoreState};
+ghost use Rattle.store_model.specs.StateFacts.{IsStoreState};
 ghost use Rattle.store_plain.specs.PlainState.{state_of};
 
 use super::*;

@@ -1,5 +1,5 @@
 // Worked calls: addresses and bytes from the tables of HOBs and of the heap.
-ghost use Rattle.boot_model.specs.StateFacts.{IsStoreState};
+ghost use Rattle.store_model.specs.StateFacts.{IsStoreState};
 ghost use Rattle.store_plain.specs.PlainState.{state_of};
 
 use super::*;

@@ -1,8 +1,8 @@
 use Rattle.std.proofs.Common.{◌≡◌, ◌≢◌, ℕ, List, None, refl, subst, sym, true≢false}
-use Rattle.boot_model.specs.declared.image_fault.ImageCause.TheVariants.{Memory}
+use Rattle.catalog_model.specs.declared.image_fault.ImageCause.TheVariants.{Memory}
 use Rattle.boot_core.specs.declared.command_line.Command.TheVariants.{Boot}
-use Rattle.boot_model.specs.Catalogue.{IsCatalogue}
-use Rattle.boot_model.specs.ImageFault.{IsImageFault}
+use Rattle.catalog_model.specs.Catalogue.{IsCatalogue}
+use Rattle.catalog_model.specs.ImageFault.{IsImageFault}
 use Rattle.boot_core.specs.declared.status.Status.TheVariants.{ImageRefused}
 use Rattle.boot_core.specs.Lines.{image_line}
 use Rattle.boot_core.specs.Outcome.{CatalogOutcome, ImagesOutcome, kind_of, image_refused, images_sound}
@@ -12,6 +12,13 @@ use Rattle.boot_core.proofs.boot.with_images.Goals as goal
 
 pub with_catalog-requires-clause-some : goal.with_catalog-requires-clause-some
 with_catalog-requires-clause-some g c = some_volume c.args.plan.now c.as_slice.result.now c.in-Ok.catalog c.in-Ok.ensures.found c.requires.in_range.some_volume
+
+pub with_catalog-requires-clause-board : goal.with_catalog-requires-clause-board
+with_catalog-requires-clause-board g c =
+    let plan = c.args.plan.now in
+    let catalog = c.in-Ok.catalog in
+    let P : List (List ℕ) → Type 0 = λ images. IsCatalogue plan images catalog in
+    c.boards_are_sound.ensures plan c.args.images catalog c.requires.in_range (subst P c.as_slice.ensures c.in-Ok.ensures.found)
 
 pub returns-in-Ok : goal.returns-in-Ok
 returns-in-Ok g c =

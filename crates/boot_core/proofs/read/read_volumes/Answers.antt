@@ -1,6 +1,6 @@
 use Rattle.std.proofs.Common.{◌≡◌, ◌+◌, List, ℕ, Option, ◌∙◌, take, drop, subst}
 use Rattle.boot_core.specs.declared.status.Status.{Status}
-use Rattle.boot_core.specs.FileReading.{IsRead, LongOutcome, LongVolume, IsVolumeName}
+use Rattle.boot_core.specs.FileReading.{IsRead, LongOutcome, LongVolume, IsReached}
 use Rattle.boot_core.specs.Outcome.{kind_of}
 use Rattle.boot_core.proofs.Ending.{ends_after}
 use Rattle.boot_core.proofs.Pairs.{split_at, image_more}
@@ -31,9 +31,9 @@ returns-in-Err-clause-refused g c =
       read = c.volumes.invariant.read;
       long = subst (λ t. P t volume.name s text) (c.volumes.invariant.same volume.name) here;
     } in
-    let names : (n : List ℕ) → n ≡ name → IsVolumeName volumes n = λ n e.
-    record { before = take i volumes; volume = volume; behind = drop (i + 1) volumes; these = these; is = e ∙ named } in
-    ends_after (kind_of c.in-Err.status) (LongOutcome (mid name) 0x4000000 name) (LongVolume told volumes) (λ n. n ≡ name) (IsVolumeName volumes) ⊥ ⊥ c.in-Err.status
+    let names : (n : List ℕ) → n ≡ name → IsReached told volumes n = λ n e.
+    record { before = take i volumes; volume = volume; behind = drop (i + 1) volumes; images = c.volumes.images; these = these; read = c.volumes.invariant.read; is = e ∙ named } in
+    ends_after (kind_of c.in-Err.status) (LongOutcome (mid name) 0x4000000 name) (LongVolume told volumes) (λ n. n ≡ name) (IsReached told volumes) ⊥ ⊥ c.in-Err.status
     (T c.volumes.sink) (T c.args.sink.now) (T c.read_file.new.sink) (N c.volumes.sink) (N c.args.sink.now) (N c.read_file.new.sink) (F c.volumes.files) (F c.args.files.now) (F c.read_file.new.files) (g.F.Files.missed c.read_file.new.files)
     up names (λ b. b) c.volumes.invariant.text c.volumes.invariant.sink c.volumes.invariant.count c.in-Err.ensures.refused
 

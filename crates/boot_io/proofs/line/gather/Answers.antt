@@ -7,4 +7,4 @@ returns-clause-text g c =
     let T = g.S.Sink.text in
     let kept = c.as_slice.ensures.value ∙ ap (λ line. line.items) c.in-Err.ensures.err in
     gathers_both c.put-2.result (T c.args.sink.now) (T c.put.new.self) (T c.put-2.new.self) c.args.line.now.items c.clear.new.self.items c.args.piece.now
-    c.clear.ensures (rw kept at c.in-Ok-put.ensures.text) c.put-2.ensures.text
+    c.clear.ensures (rw kept at c.in_ok-put.ensures.text) c.put-2.ensures.text

@@ -1,3 +1,4 @@
+use Rattle.std.proofs.lemmas.Result.{err_from_is_err_and}
 use Rattle.std.proofs.Common.{take, ◌∙◌, arith, rules, inl, below_more}
 use Rattle.boot_plan.specs.Line.{lines}
 use Rattle.boot_plan.specs.Said.{said}
@@ -9,7 +10,7 @@ pub lines-preserved : goal.lines-preserved
 lines-preserved c =
     let all = lines c.args.text.now in let n = c.lines.count in
     let at = at_is all n c.first_line.result.0.now (lines c.first_line.result.1.now) (c.lines.invariant.left ∙ c.first_line.ensures.lines) in
-    let added = c.in-Ok.ensures (said (take n all)) c.lines.invariant.keeps c.lines.invariant.range in
+    let added = c.in_ok-add.ensures (said (take n all)) c.lines.invariant.keeps c.lines.invariant.range in
     record {
       within = omega (arith, at.within);
       short = omega (arith, c.first_line.ensures.shorter);
@@ -19,18 +20,20 @@ lines-preserved c =
       range = added.2;
     }
 
-pub returns-in-Err-clause-fault : goal.returns-in-Err-clause-fault
-returns-in-Err-clause-fault c = λ some.
+pub returns-in_err-add-clause-fault : goal.returns-in_err-add-clause-fault
+returns-in_err-add-clause-fault c =
+    let p = err_from_is_err_and c.from_residual.result c.from_residual.ensures.1 in
+    rw (p.1, p.2) (λ some.
     let all = lines c.args.text.now in let n = c.lines.count in
     let at = at_is all n c.first_line.result.0.now (lines c.first_line.result.1.now) (c.lines.invariant.left ∙ c.first_line.ensures.lines) in
-    let fault = c.in-Err.ensures (said (take n all)) c.lines.invariant.keeps c.lines.invariant.range some in
+    let fault = c.in_err-add.ensures (said (take n all)) c.lines.invariant.keeps c.lines.invariant.range some in
     inl (record {
       place = n;
       within = at.within;
       line = fault.0;
       cause = rw at.line_is fault.1;
       first = c.lines.invariant.sound;
-    })
+    }))
 
 pub returns-clause-plan : goal.returns-clause-plan
 returns-clause-plan c =

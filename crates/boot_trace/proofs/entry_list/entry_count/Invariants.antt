@@ -1,5 +1,5 @@
 use Rattle.std.proofs.Common.{◌-◌, ◌≤◌, length}
-use Rattle.boot_model.specs.StoreState.{StoreState}
+use Rattle.store_model.specs.StoreState.{StoreState}
 use Rattle.boot_trace.specs.EntryLines.{entry_lines}
 use Rattle.boot_trace.proofs.entry_list.entry_count.Given as goal
 

@@ -1,7 +1,7 @@
 use Rattle.std.proofs.Common.{◌≡◌, ◌+◌, ◌-◌, ◌≤◌}
 use Rattle.std.specs.Io.KnownBytes.{Appends}
 use Rattle.hex.specs.Hex.{encode_lower}
-use Rattle.boot_model.specs.StoreState.{StoreState}
+use Rattle.store_model.specs.StoreState.{StoreState}
 use Rattle.boot_trace.specs.HeapParts.{IsHeapPart, heap_part}
 use Rattle.boot_trace.proofs.heap_bytes.put_heap_bytes.Given as goal
 

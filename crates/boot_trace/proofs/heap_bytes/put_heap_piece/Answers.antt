@@ -1,7 +1,7 @@
 use Rattle.std.proofs.Common.{◌≡◌, ℕ, List, length, ap, ◌∙◌, subst}
 use Rattle.hex.specs.Hex.{encode_lower}
 use Rattle.boot_io.specs.Sink.{Puts}
-use Rattle.boot_model.specs.MemoryReading.{bytes_at}
+use Rattle.store_model.specs.MemoryReading.{bytes_at}
 use Rattle.boot_trace.specs.HeapParts.{heap_part}
 use Rattle.boot_trace.proofs.HeapReads.{heap_read, peeked}
 use Rattle.boot_trace.proofs.heap_bytes.put_heap_piece.Goals as goal

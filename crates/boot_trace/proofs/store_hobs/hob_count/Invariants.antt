@@ -1,5 +1,5 @@
 use Rattle.std.proofs.Common.{◌≡◌, ◌-◌, ◌≤◌, length}
-use Rattle.boot_model.specs.StoreState.{StoreState}
+use Rattle.store_model.specs.StoreState.{StoreState}
 use Rattle.boot_trace.specs.HobLines.{all_hobs}
 use Rattle.boot_trace.proofs.HobPlaces.{place_of}
 use Rattle.boot_trace.proofs.store_hobs.hob_count.Given as goal

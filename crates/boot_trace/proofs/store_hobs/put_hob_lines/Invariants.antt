@@ -1,6 +1,6 @@
 use Rattle.std.proofs.Common.{◌≡◌, ℕ, ◌-◌, ◌≤◌, length, take}
 use Rattle.std.specs.Io.KnownBytes.{Appends}
-use Rattle.boot_model.specs.StoreState.{StoreState}
+use Rattle.store_model.specs.StoreState.{StoreState}
 use Rattle.boot_model.specs.Listing.{hob_lines_from}
 use Rattle.boot_model.specs.Text.{text_of}
 use Rattle.boot_trace.specs.HobLines.{all_hobs}

@@ -1,6 +1,6 @@
 use Rattle.std.proofs.Common.{◌≡◌, ◌-◌, ◌≤◌, length, take}
 use Rattle.std.specs.Io.KnownBytes.{Appends}
-use Rattle.boot_model.specs.StoreState.{StoreState}
+use Rattle.store_model.specs.StoreState.{StoreState}
 use Rattle.boot_model.specs.Text.{text_of}
 use Rattle.boot_trace.specs.EntryLines.{entry_lines}
 use Rattle.boot_trace.proofs.store_lists.put_entries.Given as goal

@@ -1,6 +1,6 @@
 use Rattle.std.proofs.Common.{◌≡◌, take, flat_map}
 use Rattle.std.specs.Io.KnownBytes.{Appends}
-use Rattle.boot_model.specs.StoreState.{StoreState}
+use Rattle.store_model.specs.StoreState.{StoreState}
 use Rattle.boot_trace.specs.EntryLines.{list_text}
 use Rattle.boot_trace.proofs.store_lists.put_lists.Given as goal
 

@@ -6,8 +6,8 @@ use Rattle.hob_codec.proofs.list.walk.Goals as goal
 pub walk-preserved : goal.walk-preserved
 walk-preserved c =
     let bytes = c.args.bytes.now in let at = c.walk.at in
-    let place = c.in-Ok.ensures in
+    let place = c.in_ok-place.ensures in
     record {
-      leads = rw (c.in-Ok-push.ensures.ok, place.1) (leads_more bytes 0 c.walk.places at c.walk.invariant.leads place.0 (λ e. c.if-place.false (ap (λ (p : HobPlace). p.kind) place.1 ∙ e)));
+      leads = rw (c.in_ok-push.ensures.ok, place.1) (leads_more bytes 0 c.walk.places at c.walk.invariant.leads place.0 (λ e. c.if-place.false (ap (λ (p : HobPlace). p.kind) place.1 ∙ e)));
       within = omega (arith, place.3);
     }

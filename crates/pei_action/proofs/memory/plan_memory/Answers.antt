@@ -1,9 +1,9 @@
 use Rattle.std.proofs.Common.{refl}
 use Rattle.boot_model.specs.declared.line.CallName.TheVariants as C
 use Rattle.boot_model.specs.declared.line.Extra.TheVariants.{Nothing}
-use Rattle.boot_model.specs.Service.Memory.{set_memory}
+use Rattle.store_model.specs.Service.Memory.{set_memory}
 use Rattle.boot_model.specs.PeiAction.{answer_reply, memory_reply}
-use Rattle.pei_action.proofs.Refused.{given_where, refused_taken}
+use Rattle.pei_action.proofs.Served.{given_where, refused_taken}
 use Rattle.pei_action.proofs.memory.plan_memory.Goals as goal
 
 pub returns-in-Err : goal.returns-in-Err

@@ -1,5 +1,5 @@
-use Rattle.pei_action.proofs.Held.{held_pool}
-use Rattle.pei_action.proofs.Written.{stored, not_stored}
+use Rattle.boot_model.proofs.Held.{held_pool}
+use Rattle.pei_action.proofs.Served.{stored, not_stored}
 use Rattle.pei_action.proofs.pools.write_pool.Goals as goal
 
 pub returns-then-store : goal.returns-then-store

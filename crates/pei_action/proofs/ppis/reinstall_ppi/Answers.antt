@@ -1,10 +1,10 @@
-use Rattle.std.proofs.Common.{refl, ap, ◌∙◌, [], ◌∷◌}
+use Rattle.std.proofs.Common.{refl, ap, ◌∙◌, [], ◌∷◌, ◌++◌}
 use Rattle.boot_model.specs.declared.line.CallName.TheVariants as C
-use Rattle.boot_model.specs.Service.Install.{reinstall}
+use Rattle.store_model.specs.Service.Install.{reinstall}
 use Rattle.boot_model.specs.PeiAction.{Called, sweep_reply, reinstall_reply}
 use Rattle.pei_action.specs.Taken.{swept}
-use Rattle.pei_action.proofs.Held.{held_two}
-use Rattle.pei_action.proofs.Refused.{given_where, refused_taken, swept_taken}
+use Rattle.boot_model.proofs.Held.{held_two}
+use Rattle.pei_action.proofs.Served.{given_where, refused_taken, swept_taken}
 use Rattle.pei_action.proofs.ppis.reinstall_ppi.Goals as goal
 
 pub returns-in-Ok : goal.returns-in-Ok
@@ -16,7 +16,7 @@ returns-in-Ok g c = record {
         swept_taken C.Reinstall _ old mid.0 registers c.in-Ok.sweep (c.in-Some.other ∷ []) c.swept.result
             (given_where C.Reinstall _ (c.in-Some.one, c.in-Some.other) (reinstall_reply old c.args.frame.now) old c.args.frame.now c.in-Some.ensures
             ∙ ap (λ service. Called C.Reinstall (sweep_reply service (c.in-Some.other.offset ∷ []) old registers)) mid.1)
-            (c.swept.ensures ∙ ap (λ installs. swept C.Reinstall c.in-Ok.sweep installs) c.of.ensures),
+            (c.swept.ensures ∙ ap (λ installs. swept C.Reinstall c.in-Ok.sweep installs) (c.push.ensures.items ∙ ap (λ xs. xs ++ c.in-Some.other ∷ []) c.new-installs.ensures)),
         mid.2,
       );
 }

@@ -1,18 +1,23 @@
-use Rattle.std.proofs.Common.{◌∷◌, [], refl}
+use Rattle.std.proofs.Common.{subst, sym, ap, [], ◌∷◌}
 use Rattle.pi_base.specs.declared.word.Word.TheVariants.{Success}
+use Rattle.boot_io.proofs.PutsLaws.{puts_err, puts_then}
 use Rattle.boot_model.specs.declared.line.Line.TheVariants as L
 use Rattle.boot_model.specs.Text.{line_text, text_of}
-use Rattle.boot_io.proofs.PutsLaws.{puts_then, part_of_more}
-use Rattle.pei_core.proofs.Going.{puts_one}
+use Rattle.boot_io.specs.Sink.{Puts}
+use Rattle.pei_core.specs.Parts.{started_lines}
+use Rattle.pei_core.proofs.Going.{one_text}
+use Rattle.pei_core.proofs.Starting.{first_text}
 use Rattle.pei_core.proofs.start.put_start.Goals as goal
 
-pub returns-in-Ok-clause-text : goal.returns-in-Ok-clause-text
-returns-in-Ok-clause-text g c =
+pub returns-in_err-print-clause-text : goal.returns-in_err-print-clause-text
+returns-in_err-print-clause-text g c =
     let T = g.S.Sink.text in
-    let last = puts_one c.put-in-Ok.result (L.End Success) (L.End Success) (T c.put-2.new.sink) (T c.put-in-Ok.new.sink) refl c.put-in-Ok.ensures.text in
-    rw c.if-runs.false (puts_then c.put-in-Ok.result (T c.args.sink.now) (T c.put-2.new.sink) (T c.put-in-Ok.new.sink) (line_text c.args.line.now) (text_of (L.End Success ∷ [])) c.in-Ok.ensures.text last)
+    puts_err c.from_residual.result (T c.args.sink.now) (T c.print.new.sink) (text_of (started_lines c.args.line c.args.runs)) c.from_residual.ensures.0
+    (first_text c.args.line c.args.runs (T c.args.sink.now) (T c.print.new.sink) c.in_err-print.ensures.text)
 
-pub returns-in-Err-clause-text : goal.returns-in-Err-clause-text
-returns-in-Err-clause-text g c =
+pub returns-clause-text : goal.returns-clause-text
+returns-clause-text g c =
     let T = g.S.Sink.text in
-    rw c.if-runs.false (part_of_more (T c.args.sink.now) (T c.put-2.new.sink) (line_text c.args.line.now) (text_of (L.End Success ∷ [])) c.in-Err.ensures.text)
+    let end = L.End Success in
+    rw c.if-runs.false (puts_then c.print-2.result (T c.args.sink.now) (T c.print.new.sink) (T c.print-2.new.sink) (line_text c.args.line) (text_of (end ∷ [])) c.in_ok-print.ensures.text
+    (subst (λ text. Puts c.print-2.result (T c.print.new.sink) (T c.print-2.new.sink) text) (sym (one_text end)) c.print-2.ensures.text))

@@ -1,5 +1,5 @@
 use Rattle.pei_dispatch.proofs.boot.boot_pei.Given as goal
 
 -- its steps are counted in the ledger of its blank
-abbrev pub ghosts-boot_counted : goal.ghosts-boot_counted
-ghosts-boot_counted g a = record { name = a.blank.name; parts = a.blank.parts }
+abbrev pub ghosts-boot_with_ledger : goal.ghosts-boot_with_ledger
+ghosts-boot_with_ledger g a = record { name = a.blank.name; parts = a.blank.parts }

@@ -1,22 +1,21 @@
-use Rattle.std.proofs.Common.{◌≡◌, sym, ap, ◌∙◌, Some}
+use Rattle.std.proofs.Common.{◌≡◌, sym, Some}
+use Rattle.std.proofs.lemmas.Result.{err_from_is_err_and}
 use Rattle.pi_base.specs.declared.phase.Phase.TheVariants.{Pei}
-use Rattle.boot_model.specs.declared.catalog.Part.{Part}
-use Rattle.boot_model.specs.Parts.{part_at}
-use Rattle.boot_model.specs.PeiChoice.{cursor_behind}
-use Rattle.pei_dispatch.proofs.Starts.{licence_is, start_placed}
+use Rattle.catalog_model.specs.Parts.{part_at}
+use Rattle.pei_dispatch.proofs.Starts.{licence_is, start_now, start_last}
 use Rattle.pei_dispatch.proofs.start.start.Goals as goal
 
-pub returns-in-Ok-clause-row : goal.returns-in-Ok-clause-row
-returns-in-Ok-clause-row g c m stands placed =
+pub returns-clause-row : goal.returns-clause-row
+returns-clause-row g c m chosen =
+    let catalog = c.args.catalog.now in
     let number = c.args.number in
-    let found : part_at Pei c.args.catalog.now number ≡ Some c.in-Some.part.now = sym c.in-Some.ensures in
-    let licence = λ (part : Part) (is : part_at Pei c.args.catalog.now number ≡ Some part).
-    let same : c.in-Some.part.now ≡ part = cc in
-    licence_is m number c.stages.result.now c.stage_of.result c.in-Some.part.now part c.licence_of-licence.result (c.stages.ensures m stands) c.stage_of.ensures c.licence_of-licence.ensures same in
-    let stepped = c.in-Ok.ensures.row m stands licence in
+    let part = c.in-Some.part.now in
+    let found : part_at Pei catalog number ≡ Some part = sym c.in-Some.ensures in
+    let states = c.states.ensures m chosen.now.machine in
+    let licence = licence_is catalog m number c.states.result.now c.state_of.result part c.licence_of-licence.result found states c.state_of.ensures c.licence_of-licence.ensures in
+    let stepped = c.in_ok-start.ensures.row m chosen.now.machine licence in
     record {
       printed = stepped.printed;
-      machine = stepped.machine;
-      placed = start_placed c.args.catalog.now m number c.in-Some.part.now c.args.order.now c.cursor_behind.result found placed.order
-          (c.cursor_behind.ensures ∙ ap (λ parts. cursor_behind parts number) c.as_slice.ensures);
+      now = start_now g.M.PeiStore.stands_for catalog c.start.new.self m number part c.args.order.now c.move_behind.new.self found chosen.now.placed.parts c.move_behind.ensures.parts c.move_behind.ensures.cursor stepped.machine;
+      last = start_last catalog m number part c.args.pei.now c.start.new.self found chosen.peim c.in_ok-start.ensures.kept.started;
     }

@@ -1,89 +1,78 @@
-use Rattle.std.proofs.Common.{◌≡◌, sym, ◌∙◌, subst, List, ℕ, length, take, Ok, Err}
+use Rattle.std.proofs.Common.{◌≡◌, ◌++◌, ◌∙◌, sym, ap, subst, ℕ, List, Option}
+use Rattle.std.proofs.lemmas.Result.{err_from_is_err_and}
+use Rattle.boot_model.specs.declared.phase_end.PeiEnd.{PeiEnd}
 use Rattle.boot_model.specs.Licence.{AllDiffer}
 use Rattle.boot_model.specs.PeiStep.{pei_step}
-use Rattle.pei_choice.specs.Order.{IsPeiOrder}
-use Rattle.pei_dispatch.specs.declared.answer.Stop.TheVariants as S
 use Rattle.pei_core.specs.Standing.{StandsFor}
-use Rattle.pei_dispatch.proofs.Turning.{step_placed, step_knows, step_known, ends_so, turns_after}
+use Rattle.pei_dispatch.proofs.Ending.{ends_so}
+use Rattle.pei_dispatch.proofs.Turning.{new_volumes, known_within, event_now, event_last, turns_after, part_of_step, want_of_step}
 use Rattle.pei_dispatch.proofs.turn.turn.Goals as goal
 
-pub feed_new-requires-clause-known : goal.feed_new-requires-clause-known
-feed_new-requires-clause-known g c =
+pub returns-in_err-event-clause-row : goal.returns-in_err-event-clause-row
+returns-in_err-event-clause-row g c m fuel made now =
+    let Stands = StandsFor g.M.PeiStore.stands_for c.step.new.self in
+    let p = err_from_is_err_and c.from_residual.result c.from_residual.ensures.1 in
+    rw p.1 (part_of_step g.M.PeiStore.TAKES_MEMORY Stands c.args.catalog.now fuel m _ c.in_err-event.field-0.0 (c.in_err-event.ensures.row m fuel made now.machine))
+
+pub returns-in_err-event-clause-memory : goal.returns-in_err-event-clause-memory
+returns-in_err-event-clause-memory g c =
+    let Stands = StandsFor g.M.PeiStore.stands_for c.step.new.self in
     let m = c.requires.state.0 in
     let fuel = c.requires.made.0 in
-    let stepped = rw c.in-Ok-Went.field-0-is at (c.in-Ok-Went.ensures.row m fuel c.requires.made.1 c.requires.state.1) in
-    let before : c.reported-known.result.now ≡ m.reported = c.reported-known.ensures m c.requires.state.1 in
-    let now : c.reported.result.now ≡ (pei_step c.args.catalog.now fuel m).reported = c.reported.ensures (pei_step c.args.catalog.now fuel m) stepped.1.machine in
-    rw (before, now) (step_known c.args.catalog.now fuel m)
+    let p = err_from_is_err_and c.from_residual.result c.from_residual.ensures.1 in
+    rw (p.1, p.2) (want_of_step (Option PeiEnd) g.M.PeiStore.TAKES_MEMORY Stands c.args.catalog.now fuel m _ c.in_err-event.field-0.0 (c.in_err-event.ensures.row m fuel c.requires.made.1 c.requires.state.1.machine))
+
+pub split_at-requires : goal.split_at-requires
+split_at-requires g c =
+    let m = c.requires.state.0 in
+    let fuel = c.requires.made.0 in
+    let went = rw c.in-Went.is at (c.in_ok-event.ensures.row m fuel c.requires.made.1 c.requires.state.1.machine) in
+    known_within c.args.catalog.now fuel m c.in-Went.event.known c.reported.result.now went.1.known (c.reported.ensures (pei_step c.args.catalog.now fuel m) went.2.machine)
+
+pub add_reported-requires-clause-reported : goal.add_reported-requires-clause-reported
+add_reported-requires-clause-reported g c =
+    let m = c.requires.state.0 in
+    let fuel = c.requires.made.0 in
+    let went = rw c.in-Went.is at (c.in_ok-event.ensures.row m fuel c.requires.made.1 c.requires.state.1.machine) in
+    let later = pei_step c.args.catalog.now fuel m in
+    let are = new_volumes c.args.catalog.now fuel m c.in-Went.event.known c.reported.result.now c.split_at.result.1.now went.1.known (c.reported.ensures later went.2.machine) c.split_at.ensures.back in
+    (m.reported, c.requires.state.1.placed.parts, subst AllDiffer (sym (are ∙ went.2.machine.has.fields.reported)) (c.in_ok-event.ensures.kept.made fuel c.requires.made.1).known.differ)
+
+pub start_or_stop-requires-clause-made : goal.start_or_stop-requires-clause-made
+start_or_stop-requires-clause-made g c = (c.requires.made.0, c.in_ok-event.ensures.kept.made c.requires.made.0 c.requires.made.1)
 
 pub start_or_stop-requires-clause-state : goal.start_or_stop-requires-clause-state
 start_or_stop-requires-clause-state g c =
-    let stepped = rw c.in-Ok-Idle.field-0-is at (c.in-Ok-Idle.ensures.row c.requires.state.0 c.requires.made.0 c.requires.made.1 c.requires.state.1) in
-    (c.requires.state.0, stepped.1.machine, c.requires.state.2, stepped.0)
+    let now = c.requires.state.1 in
+    let idle = rw c.in-Idle.is at (c.in_ok-event.ensures.row c.requires.state.0 c.requires.made.0 c.requires.made.1 now.machine) in
+    (c.requires.state.0, record { machine = idle.1.machine; placed = now.placed; within = now.within }, idle.0)
 
-pub feed_new-requires-clause-order : goal.feed_new-requires-clause-order
-feed_new-requires-clause-order g c =
-    let m = c.requires.state.0 in
-    let fuel = c.requires.made.0 in
-    let stepped = rw c.in-Ok-Went.field-0-is at (c.in-Ok-Went.ensures.row m fuel c.requires.made.1 c.requires.state.1) in
-    let later = pei_step c.args.catalog.now fuel m in
-    let before : c.reported-known.result.now ≡ m.reported = c.reported-known.ensures m c.requires.state.1 in
-    let now : c.reported.result.now ≡ later.reported = c.reported.ensures later stepped.1.machine in
-    let known : take (length c.reported-known.result.now) c.reported.result.now ≡ m.reported = rw (before, now) (step_knows c.args.catalog.now fuel m) in
-    let Old : List ℕ → Type 0 = λ volumes. IsPeiOrder c.args.catalog.now volumes c.args.order.now in
-    subst Old (sym known) c.requires.state.2.order
-
-pub feed_new-requires-clause-differ : goal.feed_new-requires-clause-differ
-feed_new-requires-clause-differ g c =
-    let m = c.requires.state.0 in
-    let fuel = c.requires.made.0 in
-    let stepped = rw c.in-Ok-Went.field-0-is at (c.in-Ok-Went.ensures.row m fuel c.requires.made.1 c.requires.state.1) in
-    let later = pei_step c.args.catalog.now fuel m in
-    let now : c.reported.result.now ≡ c.step.new.self.core.reported = c.reported.ensures later stepped.1.machine ∙ stepped.1.machine.fields.reported in
-    subst AllDiffer (sym now) (c.in-Ok-Went.ensures.made fuel c.requires.made.1).known.differ
-
-pub returns-in-Ok-Went-clause-row : goal.returns-in-Ok-Went-clause-row
-returns-in-Ok-Went-clause-row g c m fuel made stands placed =
-    let stepped = rw c.in-Ok-Went.field-0-is at (c.in-Ok-Went.ensures.row m fuel made stands) in
-    let later = pei_step c.args.catalog.now fuel m in
-    let now : c.reported.result.now ≡ later.reported = c.reported.ensures later stepped.1.machine in
-    let New : List ℕ → Type 0 = λ volumes. IsPeiOrder c.args.catalog.now volumes c.feed_new.new.order in
+pub returns-in-Went-clause-row : goal.returns-in-Went-clause-row
+returns-in-Went-clause-row g c m fuel made now =
+    let catalog = c.args.catalog.now in
+    let went = rw c.in-Went.is at (c.in_ok-event.ensures.row m fuel made now.machine) in
+    let new = c.split_at.result.1.now in
+    let are = new_volumes catalog fuel m c.in-Went.event.known c.reported.result.now new went.1.known (c.reported.ensures (pei_step catalog fuel m) went.2.machine) c.split_at.ensures.back in
     record {
-      printed = stepped.1.printed;
-      machine = stepped.1.machine;
-      placed = step_placed c.args.catalog.now fuel m c.args.order.now c.feed_new.new.order c.args.cursor.now stepped.0 placed (subst New now c.feed_new.ensures);
+      printed = went.2.printed;
+      now = event_now g.M.PeiStore.stands_for catalog fuel m c.args.pei.now c.step.new.self c.args.order.now c.add_reported.new.order new went.0 now c.add_reported.ensures are went.2.machine;
+      last = event_last catalog fuel m c.args.pei.now c.step.new.self new went.0 now.within are c.in_ok-event.ensures.kept.started;
     }
 
-pub returns-in-Ok-clause-row : goal.returns-in-Ok-clause-row
-returns-in-Ok-clause-row g c m fuel made stands placed =
+pub returns-in-Idle-clause-row : goal.returns-in-Idle-clause-row
+returns-in-Idle-clause-row g c m fuel made now =
     let T = g.S.Sink.text in
-    let stepped = rw c.in-Ok-Idle.field-0-is at (c.in-Ok-Idle.ensures.row m fuel made stands) in
-    turns_after g.M.PeiStore.TAKES_MEMORY (StandsFor g.M.PeiStore.stands_for c.start_or_stop.new.pei) c.args.catalog.now m (pei_step c.args.catalog.now fuel m) c.args.order.now c.start_or_stop.new.cursor
-    (T c.args.sink.now) (T c.step.new.sink) (T c.start_or_stop.new.sink) (Ok c.in-Ok.turned) stepped.1.text
-    (c.in-Ok.ensures.row m fuel (c.in-Ok-Idle.ensures.made fuel made) stepped.1.machine placed stepped.0)
+    let catalog = c.args.catalog.now in
+    let idle = rw c.in-Idle.is at (c.in_ok-event.ensures.row m fuel made now.machine) in
+    turns_after g.M.PeiStore.stands_for catalog m (pei_step catalog fuel m) c.args.pei.now c.step.new.self c.start_or_stop.new.pei c.start_or_stop.new.order
+    (T c.args.sink.now) (T c.step.new.sink) (T c.start_or_stop.new.sink) c.start_or_stop.result c.in_ok-event.ensures.kept.started idle.1.text
+    (c.start_or_stop.ensures.row m fuel (c.in_ok-event.ensures.kept.made fuel made) (record { machine = idle.1.machine; placed = now.placed; within = now.within }) idle.0)
 
-pub returns-in-Err-clause-row : goal.returns-in-Err-clause-row
-returns-in-Err-clause-row g c m fuel made stands placed =
-    let T = g.S.Sink.text in
-    let stepped = rw c.in-Ok-Idle.field-0-is at (c.in-Ok-Idle.ensures.row m fuel made stands) in
-    turns_after g.M.PeiStore.TAKES_MEMORY (StandsFor g.M.PeiStore.stands_for c.start_or_stop.new.pei) c.args.catalog.now m (pei_step c.args.catalog.now fuel m) c.args.order.now c.start_or_stop.new.cursor
-    (T c.args.sink.now) (T c.step.new.sink) (T c.start_or_stop.new.sink) (Err c.in-Err.field-0) stepped.1.text
-    (c.in-Err.ensures.row m fuel (c.in-Ok-Idle.ensures.made fuel made) stepped.1.machine placed stepped.0)
+pub returns-in-Idle-clause-made : goal.returns-in-Idle-clause-made
+returns-in-Idle-clause-made g c fuel made = c.start_or_stop.ensures.made fuel (c.in_ok-event.ensures.kept.made fuel made)
 
-pub returns-in-Err-Spent-clause-row : goal.returns-in-Err-Spent-clause-row
-returns-in-Err-Spent-clause-row g c m fuel made stands placed =
-    let ended = rw c.in-Err-Spent.field-0-is at (c.in-Err-Spent.ensures.row m fuel made stands) in
-    ends_so _ m (pei_step c.args.catalog.now fuel m) S.Spent _ ended.0 ended.1.text ended.1.machine
-
-pub returns-in-Err-Deep-clause-row : goal.returns-in-Err-Deep-clause-row
-returns-in-Err-Deep-clause-row g c m fuel made stands placed =
-    let ended = rw c.in-Err-Deep.field-0-is at (c.in-Err-Deep.ensures.row m fuel made stands) in
-    ends_so _ m (pei_step c.args.catalog.now fuel m) S.Deep _ ended.0 ended.1.text ended.1.machine
-
-pub returns-in-Err-SinkFault-clause-row : goal.returns-in-Err-SinkFault-clause-row
-returns-in-Err-SinkFault-clause-row g c m fuel made stands placed =
-    rw c.in-Err-SinkFault.field-0-is at (c.in-Err-SinkFault.ensures.row m fuel made stands)
-
-pub returns-in-Err-Memory-clause-row : goal.returns-in-Err-Memory-clause-row
-returns-in-Err-Memory-clause-row g c m fuel made stands placed =
-    rw c.in-Err-Memory.field-0-is at (c.in-Err-Memory.ensures.row m fuel made stands)
+pub returns-in-Ended-clause-row : goal.returns-in-Ended-clause-row
+returns-in-Ended-clause-row g c m fuel made now =
+    let catalog = c.args.catalog.now in
+    let ended = rw c.in-Ended.is at (c.in_ok-event.ensures.row m fuel made now.machine) in
+    ends_so g.M.PeiStore.stands_for catalog c.args.pei.now c.step.new.self c.args.order.now m (pei_step catalog fuel m) c.in-Ended.end _ now ended.ended ended.stayed.text ended.stayed.machine c.in_ok-event.ensures.kept.started

@@ -1,5 +1,5 @@
 use Rattle.std.proofs.Common.{◌≡◌, drop}
-use Rattle.boot_model.specs.MemoryReading.{rom_bytes}
+use Rattle.store_model.specs.MemoryReading.{rom_bytes}
 use Rattle.store_plain.proofs.descriptor.rom_bytes.Given as goal
 
 abbrev pub invariant-volumes : goal.invariant-volumes

@@ -1,6 +1,6 @@
 use Rattle.std.proofs.Common.{◌≡◌, ◌==◌, drop}
 use Rattle.std.specs.List.{list_any}
-use Rattle.boot_model.specs.Service.Descriptor.{descriptors}
+use Rattle.store_model.specs.Service.Descriptor.{descriptors}
 use Rattle.store_plain.proofs.migration.names.Given as goal
 
 abbrev pub invariant-entries : goal.invariant-entries

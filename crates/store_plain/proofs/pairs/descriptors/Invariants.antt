@@ -1,5 +1,5 @@
 use Rattle.std.proofs.Common.{◌≡◌, ◌++◌, drop}
-use Rattle.boot_model.specs.Service.Descriptor.{descriptors}
+use Rattle.store_model.specs.Service.Descriptor.{descriptors}
 use Rattle.store_plain.proofs.pairs.descriptors.Given as goal
 
 abbrev pub invariant-entries : goal.invariant-entries

@@ -1,5 +1,5 @@
 use Rattle.std.proofs.Common.{◌≡◌, ◌++◌, drop}
-use Rattle.boot_model.specs.Service.Descriptor.{offsets}
+use Rattle.store_model.specs.Service.Descriptor.{offsets}
 use Rattle.store_plain.proofs.pairs.offsets.Given as goal
 
 abbrev pub invariant-descs : goal.invariant-descs

@@ -1,5 +1,5 @@
 use Rattle.std.proofs.Common.{sym, ◌∙◌}
-use Rattle.boot_model.specs.StoreCall.{IsDue}
+use Rattle.store_model.specs.StoreCall.{IsDue}
 use Rattle.store_plain.proofs.Kept.{kept_with}
 use Rattle.store_plain.proofs.tests.migrate.Goals as goal
 

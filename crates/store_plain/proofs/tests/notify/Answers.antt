@@ -1,6 +1,6 @@
 use Rattle.std.proofs.Common.{[], ◌∷◌}
-use Rattle.boot_model.specs.Lists.{Each}
-use Rattle.boot_model.specs.StateFacts.{IsDesc}
+use Rattle.pi_base.specs.Lists.{Each}
+use Rattle.store_model.specs.StateFacts.{IsDesc}
 use Rattle.store_plain.proofs.Kept.{kept_with}
 use Rattle.store_plain.proofs.tests.notify.Goals as goal
 

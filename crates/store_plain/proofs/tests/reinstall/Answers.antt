@@ -1,4 +1,4 @@
-use Rattle.boot_model.specs.StateFacts.{IsDesc}
+use Rattle.store_model.specs.StateFacts.{IsDesc}
 use Rattle.store_plain.proofs.Kept.{kept_with}
 use Rattle.store_plain.proofs.tests.reinstall.Goals as goal
 

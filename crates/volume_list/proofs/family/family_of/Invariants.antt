@@ -1,6 +1,6 @@
 use Rattle.std.proofs.Common.{◌≡◌, ◌≤◌, ◌∷◌, [], drop, length, max}
-use Rattle.boot_model.specs.Parts.{family_from}
-use Rattle.boot_model.specs.WellFormed.{AreNumbered}
+use Rattle.catalog_model.specs.Parts.{family_from}
+use Rattle.catalog_model.specs.WellFormed.{AreNumbered}
 use Rattle.volume_list.proofs.family.family_of.Given as goal
 
 -- the family so far, with those that are left, makes the whole

@@ -1,8 +1,9 @@
-use Rattle.boot_model.specs.Lists.{Each}
-use Rattle.boot_model.specs.StateFacts.{IsDesc}
-use Rattle.boot_model.specs.Service.Install.{install}
-use Rattle.store_plain.proofs.Keeps.{row_with, keeps_install}
+use Rattle.pi_base.specs.Lists.{Each}
+use Rattle.store_model.specs.StateFacts.{IsDesc}
+use Rattle.store_model.specs.Service.Install.{install}
+use Rattle.store_laws.proofs.Services.{all_keep}
+use Rattle.store_plain.proofs.Rows.{row_with}
 use Rattle.store_plain.proofs.pei_store.PlainStorePeiStore.install.Goals as goal
 
 pub returns : goal.returns
-returns c = record { row = row_with (λ s. install s c.args.list.now c.args.by) (λ s. Each (IsDesc s) c.args.list.now) c.args.self.now c.install_ppis.new.self c.install_ppis.result (keeps_install c.args.list.now c.args.by) c.install_ppis.ensures }
+returns c = record { row = row_with (λ s. install s c.args.list.now c.args.by) (λ s. Each (IsDesc s) c.args.list.now) c.args.self.now c.install_ppis.new.self c.install_ppis.result (λ s facts each. all_keep.install s c.args.list.now c.args.by facts each c.ranges.by.fits) c.install_ppis.ensures }

@@ -1,6 +1,6 @@
 use Rattle.std.proofs.Common.{◌≡◌, ℕ, ◌+◌, drop, length}
 use Rattle.std.specs.Prelude.{fold}
-use Rattle.boot_model.specs.Service.Notify.{with_note}
+use Rattle.store_model.specs.Service.Notify.{with_note}
 use Rattle.store_plain.specs.PlainState.{state_of}
 use Rattle.store_plain.specs.Nodes.{HasNodes, HasEntries}
 use Rattle.store_plain.proofs.store.PlainStore.add_notes.Given as goal

@@ -1,6 +1,6 @@
 use Rattle.std.proofs.Common.{◌≡◌, drop}
 use Rattle.std.specs.List.{list_all}
-use Rattle.boot_model.specs.Service.Descriptor.{is_ppi, kind_at}
+use Rattle.store_model.specs.Service.Descriptor.{is_ppi, kind_at}
 use Rattle.store_plain.specs.PlainState.{state_of}
 use Rattle.store_plain.proofs.store.PlainStore.are_ppis.Given as goal
 

@@ -1,6 +1,6 @@
 use Rattle.std.proofs.Common.{◌≡◌, ◌+◌, drop}
 use Rattle.std.specs.Prelude.{sum_by}
-use Rattle.boot_model.specs.StoreState.{hob_len, body_from}
+use Rattle.store_model.specs.StoreState.{hob_len, body_from}
 use Rattle.store_plain.proofs.store.PlainStore.descriptor_at.Given as goal
 
 abbrev pub invariant-hobs : goal.invariant-hobs

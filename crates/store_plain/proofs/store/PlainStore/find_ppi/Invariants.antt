@@ -1,7 +1,7 @@
 use Rattle.std.proofs.Common.{◌≡◌, drop}
 use Rattle.std.specs.Prelude.{filter, slice_get}
-use Rattle.boot_model.specs.FileType.{same_guid}
-use Rattle.boot_model.specs.Service.Descriptor.{guid_at}
+use Rattle.pi_base.specs.Guids.{same_guid}
+use Rattle.store_model.specs.Service.Descriptor.{guid_at}
 use Rattle.store_plain.specs.PlainState.{state_of}
 use Rattle.store_plain.proofs.store.PlainStore.find_ppi.Given as goal
 

@@ -1,6 +1,6 @@
 use Rattle.std.proofs.Common.{◌≡◌, ◌+◌, ◌-◌, ◌++◌, sym, ◌∙◌, arith}
-use Rattle.boot_model.specs.StoreState.{handoff_len}
-use Rattle.boot_model.specs.HeapImage.{hobs_bytes, header_bytes, handoff_body}
+use Rattle.store_model.specs.StoreState.{handoff_len}
+use Rattle.store_model.specs.HeapImage.{hobs_bytes, header_bytes, handoff_body}
 use Rattle.store_plain.specs.PlainState.{state_of}
 use Rattle.store_plain.proofs.Heap.{byte_left, byte_right}
 use Rattle.store_plain.proofs.store.PlainStore.list_byte.Goals as goal

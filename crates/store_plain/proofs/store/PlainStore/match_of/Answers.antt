@@ -1,7 +1,7 @@
 use Rattle.std.proofs.Common.{sym, ap, ◌∙◌, ◌+◌, arith}
-use Rattle.boot_model.specs.Service.Sweep.{first_firing, pairs_with}
+use Rattle.store_model.specs.Service.Sweep.{first_firing, pairs_with}
 use Rattle.store_plain.specs.PlainState.{state_of}
-use Rattle.store_plain.proofs.Sweeps.{got, misses, pair_more}
+use Rattle.store_laws.proofs.Sweeps.{got, misses, pair_more}
 use Rattle.store_plain.proofs.store.PlainStore.match_of.Goals as goal
 
 pub notes-preserved : goal.notes-preserved

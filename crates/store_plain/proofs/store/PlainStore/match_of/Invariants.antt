@@ -1,5 +1,5 @@
 use Rattle.std.proofs.Common.{◌≡◌}
-use Rattle.boot_model.specs.Service.Sweep.{first_firing, pairs_with}
+use Rattle.store_model.specs.Service.Sweep.{first_firing, pairs_with}
 use Rattle.store_plain.specs.PlainState.{state_of}
 use Rattle.store_plain.proofs.store.PlainStore.match_of.Given as goal
 

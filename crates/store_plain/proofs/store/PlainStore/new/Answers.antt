@@ -1,6 +1,6 @@
 use Rattle.store_plain.specs.PlainState.{range_of}
-use Rattle.store_plain.proofs.Opening.{opening_facts}
+use Rattle.store_laws.proofs.Services.{all_keep}
 use Rattle.store_plain.proofs.store.PlainStore.new.Goals as goal
 
 pub returns-clause-facts : goal.returns-clause-facts
-returns-clause-facts c = opening_facts (record { temp = range_of c.args.temp; pages = c.args.pages; ram = range_of c.args.ram; roms = c.args.roms }) c.requires
+returns-clause-facts c = all_keep.first (record { temp = range_of c.args.temp; pages = c.args.pages; ram = range_of c.args.ram; roms = c.args.roms }) c.requires

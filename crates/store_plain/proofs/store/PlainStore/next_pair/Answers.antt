@@ -1,6 +1,6 @@
-use Rattle.boot_model.specs.Service.Sweep.{next_match}
+use Rattle.store_model.specs.Service.Sweep.{next_match}
 use Rattle.store_plain.specs.PlainState.{state_of}
-use Rattle.store_plain.proofs.Sweeps.{found_here, none_here}
+use Rattle.store_laws.proofs.Sweeps.{found_here, none_here}
 use Rattle.store_plain.proofs.store.PlainStore.next_pair.Goals as goal
 
 pub returns-in-Some-clause-found : goal.returns-in-Some-clause-found

@@ -1,5 +1,5 @@
 use Rattle.std.proofs.Common.{◌≡◌, ◌++◌, drop}
-use Rattle.boot_model.specs.Service.Install.{pairs_of}
+use Rattle.store_model.specs.Service.Install.{pairs_of}
 use Rattle.store_plain.specs.PlainState.{state_of}
 use Rattle.store_plain.proofs.store.PlainStore.pairs_of.Given as goal
 

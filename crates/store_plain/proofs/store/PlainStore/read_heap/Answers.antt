@@ -1,5 +1,5 @@
 use Rattle.std.proofs.Common.{◌<◌, length, length-set, ◌∙◌, arith}
-use Rattle.boot_model.specs.MemoryReading.{heap_byte}
+use Rattle.store_model.specs.MemoryReading.{heap_byte}
 use Rattle.store_plain.specs.PlainState.{state_of}
 use Rattle.store_plain.proofs.Heap.{read_more}
 use Rattle.store_plain.proofs.store.PlainStore.read_heap.Goals as goal

@@ -1,7 +1,7 @@
 use Rattle.std.proofs.Common.{◌≡◌, take, length}
 use Rattle.std.specs.Prelude.{map}
-use Rattle.boot_model.specs.Lists.{numbers}
-use Rattle.boot_model.specs.MemoryReading.{heap_byte}
+use Rattle.pi_base.specs.Lists.{numbers}
+use Rattle.store_model.specs.MemoryReading.{heap_byte}
 use Rattle.store_plain.specs.PlainState.{state_of}
 use Rattle.store_plain.proofs.store.PlainStore.read_heap.Given as goal
 

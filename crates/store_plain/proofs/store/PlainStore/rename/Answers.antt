@@ -4,6 +4,6 @@ use Rattle.store_plain.proofs.Renamed.{renamed_to}
 use Rattle.store_plain.proofs.store.PlainStore.rename.Goals as goal
 
 pub returns-clause-state : goal.returns-clause-state
-returns-clause-state c =
+returns-clause-state c old there =
     let s = state_of c.args.self.now in
-    ap (λ ppis. record s { ppis = ppis }) (renamed_to s.ppis c.args.place c.args.old.offset c.args.new.offset c.index_mut.result.now c.requires.place c.requires.inside c.index_mut.ensures.value)
+    ap (λ ppis. record s { ppis = ppis }) (renamed_to s.ppis c.args.place old c.args.new.offset c.index_mut.result.now there c.requires c.index_mut.ensures.value)

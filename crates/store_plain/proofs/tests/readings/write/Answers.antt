@@ -1,4 +1,4 @@
-use Rattle.boot_model.specs.StateFacts.{IsPool}
+use Rattle.store_model.specs.StateFacts.{IsPool}
 use Rattle.store_plain.proofs.Kept.{kept_with}
 use Rattle.store_plain.proofs.tests.readings.write.Goals as goal
 

@@ -1,15 +1,30 @@
-use Rattle.std.proofs.Common.{sym, ◌∙◌, subst, ap}
-use Rattle.volume_list.specs.Known.{AreInCatalog, with_new}
+use Rattle.std.proofs.Common.{◌≡◌, ◌<◌, ℕ, List, length, sym, ◌∙◌, subst, ap}
+use Rattle.catalog_model.specs.declared.catalog.Catalog.{Catalog}
+use Rattle.catalog_model.specs.Parts.{family}
+use Rattle.catalog_model.specs.WellFormed.{IsWellFormed}
+use Rattle.volume_list.specs.Known.{AreInCatalog, AreKnown, MayCome, with_new}
 use Rattle.volume_list.proofs.Families.{family_differs, family_in_catalog}
 use Rattle.volume_list.proofs.Newcomers.{new_family}
 use Rattle.volume_list.proofs.list.VolumeList.add_family.Goals as goal
 
-pub add_each-requires-clause-numbers : goal.add_each-requires-clause-numbers
-add_each-requires-clause-numbers c =
-    subst (AreInCatalog c.args.catalog.now) (sym (c.as_slice.ensures ∙ c.family_of-family.ensures))
-    (family_in_catalog c.args.catalog.now c.args.number c.requires.catalog c.requires.number)
+may_come : (catalog : Catalog) (list numbers : List ℕ) (number : ℕ) → IsWellFormed catalog → AreKnown catalog list → number < length catalog.volumes → numbers ≡ family catalog number
+    → MayCome catalog list numbers
+may_come catalog list numbers number formed known below are = record {
+  formed = formed;
+  known = known;
+  in_catalog = subst (AreInCatalog catalog) (sym are) (family_in_catalog catalog number formed below);
+}
+
+pub add_each-requires : goal.add_each-requires
+add_each-requires c =
+    record { known = (c.args.catalog.now, may_come c.args.catalog.now c.args.self.now _ c.args.number c.requires.catalog c.requires.known c.requires.number (c.as_slice.ensures ∙ c.family_of-family.ensures)) }
 
 pub returns-then-is_new-clause-added : goal.returns-then-is_new-clause-added
 returns-then-is_new-clause-added c =
     new_family c.args.self.now _ c.add_each.new.self _ (sym c.has-is_new.ensures ∙ c.if-is_new.true) (family_differs c.args.catalog.now c.args.number c.requires.catalog)
     (c.add_each.ensures.added ∙ ap (with_new c.args.self.now) (c.as_slice.ensures ∙ c.family_of-family.ensures))
+
+pub returns-then-is_new-clause-known : goal.returns-then-is_new-clause-known
+returns-then-is_new-clause-known c =
+    c.add_each.ensures.known c.args.catalog.now
+    (may_come c.args.catalog.now c.args.self.now _ c.args.number c.requires.catalog c.requires.known c.requires.number (c.as_slice.ensures ∙ c.family_of-family.ensures))

@@ -1,10 +1,7 @@
-use Rattle.volume_list.proofs.Places.{place_more}
+use Rattle.store_model.specs.StateFacts.{IsDesc}
+use Rattle.volume_list.proofs.Ppis.{each_index}
 use Rattle.volume_list.proofs.list.VolumeList.report.Goals as goal
 
-pub places-preserved : goal.places-preserved
-places-preserved g c = record {
-  reported = λ s stands any.
-      place_more c.args.catalog.now s s.ppis c.places.self c.add.new.self _ c.told_in.result c.places.place c.args.to c.places-test.true
-      (c.told_in.ensures.told s stands any) c.add.ensures.added (c.places.invariant.reported s stands any);
-  known = c.add.ensures.known;
-}
+pub volume_of_ppi-requires-clause-state : goal.volume_of_ppi-requires-clause-state
+volume_of_ppi-requires-clause-state g c =
+    let h = c.requires.state in (h.0, h.1, each_index (IsDesc h.0) c.args.ppis.now c.ppis.ppi-index (record { offset = 0 }) c.ppis-test.true h.2)

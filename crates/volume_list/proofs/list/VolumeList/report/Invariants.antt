@@ -1,16 +1,15 @@
-use Rattle.std.proofs.Common.{◌≡◌, ◌-◌, ◌++◌, drop, take}
-use Rattle.boot_model.specs.Reporting.{reports}
-use Rattle.boot_model.specs.Service.{OfEach}
-use Rattle.boot_model.specs.Service.Descriptor.{descriptors}
-use Rattle.boot_model.specs.StoreCall.{Anything}
+use Rattle.std.proofs.Common.{◌≡◌, drop}
+use Rattle.pi_base.specs.Lists.{Each}
+use Rattle.store_model.specs.StateFacts.{IsDesc}
+use Rattle.store_model.specs.Service.{OfEach}
 use Rattle.volume_list.specs.Known.{AreKnown}
+use Rattle.volume_list.specs.Reported.{with_reports}
 use Rattle.volume_list.proofs.list.VolumeList.report.Given as goal
 
 -- the volumes so far, and those that the PPIs left tell of, make the whole
-abbrev pub invariant-places : goal.invariant-places
-invariant-places g l = record {
-  reported : OfEach (g.M.PeiStore.stands_for l.store) Anything (λ s.
-      l.self ++ reports l.catalog s l.self (descriptors (take (l.to - l.place) (drop l.place s.ppis)))
-      ≡ l.fn.self ++ reports l.catalog s l.fn.self (descriptors (take (l.to - l.from) (drop l.from s.ppis))));
+abbrev pub invariant-ppis : goal.invariant-ppis
+invariant-ppis g l = record {
+  reported : OfEach (g.M.PeiStore.stands_for l.store) (λ s. Each (IsDesc s) l.ppis) (λ s.
+      with_reports l.catalog s l.self (drop l.ppi-index l.ppis) ≡ with_reports l.catalog s l.fn.self l.ppis);
   known : AreKnown l.catalog l.self;
 }

@@ -1,0 +1,31 @@
+//! Why a boot that runs is given up.
+ghost use Rattle.std.specs.Prelude.{◌≡◌};
+ghost use Rattle.boot_io.specs.declared.halt.Halt.TheVariants.{Sink, Memory};
+
+use crate::sink::SinkFault;
+use pi_base::OutOfMemory;
+
+/// Why a boot that runs is given up: what it has printed is then the beginning of its text.
+#[derive(Clone, Copy, Debug, PartialEq, Eq)]
+pub enum Halt {
+    /// A line could not be put; the sink has counted it.
+    Sink,
+    /// Want of memory.
+    Memory,
+}
+
+impl From<SinkFault> for Halt {
+    ghost from_gives = { λ _ halt. halt ≡ Sink };
+
+    fn from(_fault: SinkFault) -> Halt {
+        Halt::Sink
+    }
+}
+
+impl From<OutOfMemory> for Halt {
+    ghost from_gives = { λ _ halt. halt ≡ Memory };
+
+    fn from(_want: OutOfMemory) -> Halt {
+        Halt::Memory
+    }
+}

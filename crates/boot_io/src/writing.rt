@@ -1,0 +1,24 @@
+// The loop that writes a whole piece, at any writer of std.
+ghost use Rattle.boot_io.specs.Sink.{Puts};
+
+use crate::SinkFault;
+use std::io::Write;
+
+/// Writes a whole piece. It fails where the writer answers an error or takes nothing, and then a prefix of the piece was taken. It takes no memory.
+pub fn write_whole<W: Write>(writer: &mut W, piece: &[u8]) -> Result<(), SinkFault>
+    // The text is what the writer tells that it holds.
+    ensures { Puts result (W.contents writer.old) (W.contents writer.new) piece.now }
+{
+    let mut rest = piece;
+    'pieces: while !rest.is_empty() {
+        match writer.write(rest) {
+            Ok(0) => return Err(SinkFault),
+            Ok(count) => {
+                let (_, after) = rest.split_at(count);
+                rest = after;
+            }
+            Err(_) => return Err(SinkFault),
+        }
+    }
+    Ok(())
+}

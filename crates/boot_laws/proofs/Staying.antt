@@ -1,0 +1,302 @@
+-- After each action what was there is there, and its sweep lies within the lists: a service adds HOBs, writes bytes into a pool, or changes none.
+use Rattle.std.proofs.Common.{◌≡◌, ℕ, zero, suc, ◌+◌, ◌≤◌, Bool, true, false, cond, List, [], ◌∷◌, ◌++◌, ◌∙◌, ap, length, take, drop, length-append, replicate, ◌-◌, ◌*◌, ◌^◌, ◌==◌, ◌&&◌, arith, sym, refl, subst, Option, Some, None, Ok, Err}
+use Rattle.std.specs.Prelude.{slice_set, slice_get, filter, fold, nat_lt, not}
+use Rattle.std.specs.Option.{option_map, option_and_then}
+use Rattle.std.proofs.lemmas.List.{length-replicate}
+use Rattle.std.proofs.lemmas.Bool.Decides.{nat_tests}
+use Rattle.pi_base.specs.declared.guid.Guid.{Guid}
+use Rattle.pi_base.specs.declared.word.Word.{Word}
+use Rattle.pi_base.specs.declared.word.Word.TheVariants.{InvalidParameter, NotFound}
+use Rattle.hob_codec.specs.HobReading.{hob_of}
+use Rattle.store_model.specs.MemoryReading.{bytes_at}
+use Rattle.hob_codec.specs.HobValue.{HobValue}
+use Rattle.act_code.specs.declared.action.Action.TheVariants as A
+use Rattle.boot_model.specs.PeiMachine.{Frame}
+use Rattle.boot_model.specs.declared.frame.Register.{Register}
+use Rattle.boot_model.specs.declared.frame.Register.TheVariants.{Number, PoolIn, DescriptorIn}
+use Rattle.boot_model.specs.declared.line.Extra.{Extra}
+use Rattle.store_model.specs.declared.state.Entry.{Entry}
+use Rattle.store_model.specs.declared.state.HobEntry.{HobEntry}
+use Rattle.store_model.specs.declared.state.Body.TheVariants.{Bytes, Descriptor}
+use Rattle.store_model.specs.declared.store_handle.DescKind.{DescKind}
+use Rattle.store_model.specs.declared.store_handle.DescKind.TheVariants.{Ppi}
+use Rattle.store_model.specs.declared.store_handle.Desc.{Desc}
+use Rattle.store_model.specs.declared.store_handle.Pool.{Pool}
+use Rattle.store_model.specs.declared.store_handle.Sweep.{Sweep}
+use Rattle.store_model.specs.declared.store_handle.StoreFault.{StoreFault}
+use Rattle.store_model.specs.declared.store_handle.StoreFault.TheVariants as F
+use Rattle.pi_base.specs.Lists.{Each}
+use Rattle.store_model.specs.StoreState.{StoreState, next_body, appended, pool_of, rounded, end_place}
+use Rattle.store_model.specs.StateFacts.{IsPool, IsDesc, IsEntry}
+use Rattle.store_model.specs.Service.{Service, in_room}
+use Rattle.store_model.specs.Service.Reading.{nth_ppi, ppis_of}
+use Rattle.store_model.specs.Service.Pool.{pool, store}
+use Rattle.store_model.specs.Service.Descriptor.{desc, desc_of, guid_from, number_at, descriptors, offsets}
+use Rattle.store_model.specs.Service.Install.{install, reinstall, installed, reinstalled, with_ppi, with_pending, install_pairs, reinstall_pairs, renamed, place_of, is_installed, node_need, install_sweep, reinstall_sweep}
+use Rattle.store_model.specs.Service.Notify.{notify, notified, with_note, notify_pairs, notify_sweep}
+use Rattle.store_model.specs.Service.Hob.{create_hob, hob_entry}
+use Rattle.store_model.specs.Service.Memory.{set_memory, pages, pages_taken, early_pages, allocation_len, allocation_hob, with_pages, with_boot_mode, page_len}
+use Rattle.boot_model.specs.Registers.{pool_in, number_in, descriptor_in, descriptors_in, both}
+use Rattle.boot_model.specs.PeiAction.{Reply, Called, number_written, answer_reply, sweep_reply, reply_where, set_mode_reply, mode_reply, peek_reply, desc_reply, desc_argument, kind_number, install_reply, reinstall_reply, notify_reply, locate_reply, hob_reply, memory_reply, is_memory_type}
+use Rattle.boot_model.specs.MachineFacts.{IsHeld, HoldRegisters}
+use Rattle.boot_laws.specs.Stay.{IsLater, IsReply, Visits, HoldsAfter, ActionsAreSound, RepliesAreSound}
+use Rattle.boot_model.proofs.Held.{held_pool, held_list}
+use Rattle.store_laws.proofs.Bodies.{new_body}
+use Rattle.boot_laws.proofs.Bodies.{hold_on, hobs_stay, added_stays, changed, written_stays}
+use Rattle.boot_laws.proofs.Later.{later_self, later_then, fold_later, pending_later, ppi_later, notes_later, pendings_ppis, ppis_added, behind, renamed_len, renamed_at, callbacks_added}
+
+pub set_held : (s : StoreState) (registers : List Register) (r : ℕ) (x : Register) → IsHeld s x → HoldRegisters registers s → HoldRegisters (slice_set registers r x) s
+set_held s [] r x held each = tt
+set_held s (y ∷ ys) zero x held each = (held, each.1)
+set_held s (y ∷ ys) (suc r) x held each = (each.0, set_held s ys r x held each.1)
+
+number_holds : (s : StoreState) (registers : List Register) (r : ℕ) (n : Option ℕ) → HoldRegisters registers s → HoldsAfter s (number_written registers r n)
+number_holds s registers r None h = h
+number_holds s registers r (Some n) h = set_held s registers r (Number n) tt h
+
+-- a reply that leaves the state as it is
+same_holds : (s : StoreState) (registers : List Register) (status : Word) (extra : Extra) → HoldRegisters registers s
+    → IsReply s (record { status = status; extra = extra; store = s; registers = registers; sweep = None; installs = [] })
+same_holds s registers status extra h = record { registers = h; later = later_self s; visits = refl }
+
+answer_holds : {A : Type 0} (service : Service A) (write : A → List Register) (extra : A → Extra) (s : StoreState) (registers : List Register)
+    → HoldRegisters registers s → ((a : A) (t : StoreState) → service ≡ Ok (a, t) → IsLater s t × HoldRegisters (write a) t) → IsReply s (answer_reply service write extra s registers)
+answer_holds (Ok (a, t)) write extra s registers h f = let k = f a t refl in record { registers = k.1; later = k.0; visits = refl }
+answer_holds (Err fault) write extra s registers h f = record { registers = h; later = later_self s; visits = refl }
+
+sweep_holds : (service : Service Sweep) (installs : List ℕ) (s : StoreState) (registers : List Register)
+    → HoldRegisters registers s → ((a : Sweep) (t : StoreState) → service ≡ Ok (a, t) → IsLater s t × Visits t (Some a) installs) → IsReply s (sweep_reply service installs s registers)
+sweep_holds (Ok (sweep, t)) installs s registers h f = let k = f sweep t refl in record { registers = hold_on s t registers k.0.held h; later = k.0; visits = k.1 }
+sweep_holds (Err fault) installs s registers h f = record { registers = h; later = later_self s; visits = refl }
+
+where_holds : {A : Type 0} (argument : Option A) (reply : A → Reply) (s : StoreState) (registers : List Register) (status : Word)
+    → HoldRegisters registers s → ((a : A) → Some a ≡ argument → IsReply s (reply a)) → IsReply s (reply_where argument reply s registers status)
+where_holds None reply s registers status h f = record { registers = h; later = later_self s; visits = refl }
+where_holds (Some a) reply s registers status h f = f a refl
+
+if_holds : (b : Bool) (s : StoreState) (x y : Reply) → IsReply s x → IsReply s y → IsReply s (cond b x y)
+if_holds true s x y h k = h
+if_holds false s x y h k = k
+
+-- a service that answers is past its refusals
+past : {A : Type 0} (b : Bool) (fault : StoreFault) (service : Service A) (answer : A × StoreState) → cond b (Err fault) service ≡ Ok answer → service ≡ Ok answer
+past true fault service answer e = cc
+past false fault service answer e = e
+
+same_ok : {A : Type 0} (own : Service A) (x y : A × StoreState) → own ≡ Ok x → own ≡ Ok y → x ≡ y
+same_ok own x y a b = cc
+
+-- what holds of an answer and its state
+answer_has : {A : Type 0} (P : A × StoreState → Type 0) (own : Service A) (x y : A × StoreState) → own ≡ Ok x → own ≡ Ok y → P x → P y
+answer_has P own x y a b has = subst P (same_ok own x y a b) has
+
+-- one HOB more
+added_later : (s t : StoreState) (hob : HobEntry) → t.hobs ≡ s.hobs ++ hob ∷ [] → t.ppis ≡ s.ppis → t.callbacks ≡ s.callbacks → IsLater s t
+added_later s t hob e ppis callbacks =
+    let p : length t.ppis ≡ length s.ppis = ap length ppis in let c : length t.callbacks ≡ length s.callbacks = ap length callbacks in
+    record { held = added_stays s t hob e; ppis = omega (arith, p); callbacks = omega (arith, c) }
+
+pool_stays : (s : StoreState) (registers : List Register) (r size : ℕ) → HoldRegisters registers s → (made : Pool) (t : StoreState) → pool s size ≡ Ok (made, t)
+    → IsLater s t × HoldRegisters (slice_set registers r (PoolIn made)) t
+pool_stays s registers r size h made t e =
+    let zeros : List ℕ = replicate (rounded size) 0 in
+    let hob : HobEntry = pool_of (Bytes zeros) in
+    let own : Pool × StoreState = (record { offset = next_body s; size = size }, appended s hob) in
+    let none : ℕ = 0 in
+    let len : length zeros ≡ rounded size = length-replicate (rounded size) none in
+    let is : IsPool own.1 own.0 = (zeros, new_body s.hobs hob 56 (next_body s) refl, omega (arith, len)) in
+    let later : IsLater s own.1 = added_later s own.1 hob refl refl refl in
+    answer_has (λ p. IsLater s p.1 × HoldRegisters (slice_set registers r (PoolIn p.0)) p.1) (Ok own) own (made, t) refl (past _ F.Full _ (made, t) (past _ F.Full _ (made, t) e))
+    (later, set_held own.1 registers r (PoolIn own.0) is (hold_on s own.1 registers later.held h))
+
+desc_stays : (s : StoreState) (registers : List Register) (r : ℕ) (kind : DescKind) (number : ℕ) (from : Option (Guid × Option ℕ)) → HoldRegisters registers s → (made : Desc) (t : StoreState) → desc_of s kind number from ≡ Ok (made, t)
+    → IsLater s t × HoldRegisters (slice_set registers r (DescriptorIn made)) t
+desc_stays s registers r kind number None h made t e = cc
+desc_stays s registers r kind number (Some (guid, stands)) h made t e =
+    let hob : HobEntry = pool_of (Descriptor (record { kind = kind; guid = guid; stands = stands; number = number })) in
+    let own : Desc × StoreState = (record { offset = next_body s }, appended s hob) in
+    let is : IsDesc own.1 own.0 = (record { kind = kind; guid = guid; stands = stands; number = number }, new_body s.hobs hob 56 (next_body s) refl) in
+    let later : IsLater s own.1 = added_later s own.1 hob refl refl refl in
+    answer_has (λ p. IsLater s p.1 × HoldRegisters (slice_set registers r (DescriptorIn p.0)) p.1) (Ok own) own (made, t) refl (past _ F.Full _ (made, t) e)
+    (later, set_held own.1 registers r (DescriptorIn own.0) is (hold_on s own.1 registers later.held h))
+
+-- an install visits the PPIs that it adds
+installed_later : (s : StoreState) (list : List Desc) (by : ℕ) → IsLater s (installed s list by)
+installed_later s list by =
+    let ppis : StoreState = fold (with_ppi by) s list in
+    later_then s ppis (installed s list by) (fold_later (with_ppi by) list s (ppi_later by)) (fold_later (with_pending by) (install_pairs s list) ppis (pending_later by))
+
+installed_visits : (s : StoreState) (list : List Desc) (by : ℕ) → Visits (installed s list by) (Some (install_sweep s list)) (offsets list)
+installed_visits s list by =
+    let added = ppis_added by list s in
+    let all : (installed s list by).ppis ≡ s.ppis ++ added.0 = pendings_ppis by (install_pairs s list) (fold (with_ppi by) s list) ∙ added.1 in
+    let len : length (installed s list by).ppis ≡ length s.ppis + length added.0 = ap length all ∙ length-append s.ppis added.0 in (
+      record { ppis = omega (arith, len, added.3); notes = omega (arith, (installed_later s list by).callbacks) },
+      λ _. sym (ap (λ xs. descriptors (take (length s.ppis + length list - length s.ppis) (drop (length s.ppis) xs))) all ∙ (ap descriptors (behind s.ppis added.0 (length list) added.3) ∙ added.2)),
+    )
+
+pub install_stays : (s : StoreState) (list : List Desc) (by : ℕ) (sweep : Sweep) (t : StoreState) → install s list by ≡ Ok (sweep, t) → IsLater s t × Visits t (Some sweep) (offsets list)
+install_stays s list by sweep t e =
+    answer_has (λ p. IsLater s p.1 × Visits p.1 (Some p.0) (offsets list)) (Ok (install_sweep s list, installed s list by)) (install_sweep s list, installed s list by) (sweep, t) refl
+    (past _ F.Full _ (sweep, t) (past _ F.Bad _ (sweep, t) e)) (installed_later s list by, installed_visits s list by)
+
+-- a registration installs none
+notified_later : (s : StoreState) (list : List Desc) (by : ℕ) → IsLater s (notified s list by)
+notified_later s list by =
+    let notes : StoreState = fold (with_note by) s list in
+    later_then s notes (notified s list by) (notes_later by list s) (fold_later (with_pending by) (notify_pairs s list) notes (pending_later by))
+
+notified_visits : (s : StoreState) (list : List Desc) (by : ℕ) → Each (IsDesc s) list → Visits (notified s list by) (Some (notify_sweep s list)) []
+notified_visits s list by each =
+    let notes : StoreState = fold (with_note by) s list in
+    let count = callbacks_added by list s s (λ place body h. h) each in
+    let more = fold_later (with_pending by) (notify_pairs s list) notes (pending_later by) in
+    (record { ppis = omega (arith, (notified_later s list by).ppis); notes = omega (arith, count, more.callbacks) }, λ some. absurd (some refl))
+
+notify_stays : (s : StoreState) (list : List Desc) (by : ℕ) → Each (IsDesc s) list → (sweep : Sweep) (t : StoreState) → notify s list by ≡ Ok (sweep, t) → IsLater s t × Visits t (Some sweep) []
+notify_stays s list by each sweep t e =
+    answer_has (λ p. IsLater s p.1 × Visits p.1 (Some p.0) []) (Ok (notify_sweep s list, notified s list by)) (notify_sweep s list, notified s list by) (sweep, t) refl
+    (past _ F.Full _ (sweep, t) (past _ F.Bad _ (sweep, t) e)) (notified_later s list by, notified_visits s list by each)
+
+-- one PPI in the place of another
+reinstalled_later : (s : StoreState) (old new : Desc) (by : ℕ) → IsLater s (reinstalled s old new by)
+reinstalled_later s old new by =
+    let named : StoreState = record s { ppis = renamed s.ppis old.offset new.offset } in
+    let len : length named.ppis ≡ length s.ppis = renamed_len s.ppis old.offset new.offset in
+    later_then s named (reinstalled s old new by) (record { held = hobs_stay s named refl; ppis = omega (arith, len); callbacks = omega arith })
+    (fold_later (with_pending by) (reinstall_pairs s new) named (pending_later by))
+
+reinstalled_visits : (s : StoreState) (old new : Desc) (by : ℕ) → is_installed s old ≡ true → Visits (reinstalled s old new by) (Some (reinstall_sweep s old)) (new.offset ∷ [])
+reinstalled_visits s old new by is =
+    let place : ℕ = place_of s.ppis old.offset in
+    let all : (reinstalled s old new by).ppis ≡ renamed s.ppis old.offset new.offset = pendings_ppis by (reinstall_pairs s new) (record s { ppis = renamed s.ppis old.offset new.offset }) in
+    let at = renamed_at s.ppis old.offset new.offset is in
+    let one : place + 1 - place ≡ 1 = omega arith in
+    let later = reinstalled_later s old new by in (
+      record { ppis = omega (arith, at.0, later.ppis); notes = omega (arith, later.callbacks) },
+      λ _. sym (ap (λ xs. descriptors (take (place + 1 - place) (drop place xs))) all ∙ (ap (λ n. descriptors (take n (drop place (renamed s.ppis old.offset new.offset)))) one ∙ at.1)),
+    )
+
+reinstall_on : (b : Bool) (s : StoreState) (old new : Desc) (by : ℕ) (sweep : Sweep) (t : StoreState) → is_installed s old ≡ b
+    → cond (not b) (Err F.Missing) (in_room s (node_need (length (reinstall_pairs s new))) (Ok (reinstall_sweep s old, reinstalled s old new by))) ≡ Ok (sweep, t) → IsLater s t × Visits t (Some sweep) (new.offset ∷ [])
+reinstall_on false s old new by sweep t is e = cc
+reinstall_on true s old new by sweep t is e =
+    answer_has (λ p. IsLater s p.1 × Visits p.1 (Some p.0) (new.offset ∷ [])) (Ok (reinstall_sweep s old, reinstalled s old new by)) (reinstall_sweep s old, reinstalled s old new by) (sweep, t) refl
+    (past _ F.Full _ (sweep, t) e) (reinstalled_later s old new by, reinstalled_visits s old new by is)
+
+reinstall_stays : (s : StoreState) (old new : Desc) (by : ℕ) (sweep : Sweep) (t : StoreState) → reinstall s old new by ≡ Ok (sweep, t) → IsLater s t × Visits t (Some sweep) (new.offset ∷ [])
+reinstall_stays s old new by sweep t e = reinstall_on (is_installed s old) s old new by sweep t refl (past _ F.Bad _ (sweep, t) e)
+
+kept_by : (b : Bool) (s : StoreState) (entry : Entry) (rest : List Entry) → IsEntry s Ppi entry → Each (IsEntry s Ppi) rest → Each (IsEntry s Ppi) (cond b (entry ∷ rest) rest)
+kept_by true s entry rest is each = (is, each)
+kept_by false s entry rest is each = each
+
+filter_each : (s : StoreState) (test : Entry → Bool) (entries : List Entry) → Each (IsEntry s Ppi) entries → Each (IsEntry s Ppi) (filter test entries)
+filter_each s test [] each = tt
+filter_each s test (entry ∷ entries) each = kept_by (test entry) s entry (filter test entries) each.0 (filter_each s test entries each.1)
+
+nth_is : (s : StoreState) (entries : List Entry) (n : ℕ) (found : Desc × ℕ) → Each (IsEntry s Ppi) entries
+    → Some found ≡ option_map (λ entry. (record { offset = entry.descriptor }, number_at s entry.descriptor)) (slice_get entries n) → IsDesc s found.0
+nth_is s [] n found each e = cc
+nth_is s (entry ∷ entries) zero found each e =
+    let own : Desc × ℕ = (record { offset = entry.descriptor }, number_at s entry.descriptor) in let same : own ≡ found = cc in
+    subst (λ p. IsDesc s p.0) same (each.0.1.0, each.0.1.1)
+nth_is s (entry ∷ entries) (suc n) found each e = nth_is s entries n found each.1 e
+
+hob_stays : (s : StoreState) (hob : HobValue) (address : ℕ) (t : StoreState) → create_hob s hob ≡ Ok (address, t) → IsLater s t
+hob_stays s hob address t e =
+    let own : ℕ × StoreState = (s.base + end_place s, appended s (hob_entry hob)) in
+    answer_has (λ p. IsLater s p.1) (Ok own) own (address, t) refl (past _ F.Full _ (address, t) e) (added_later s own.1 (hob_entry hob) refl refl refl)
+
+-- no HOB more
+same_later : (s t : StoreState) → s.hobs ≡ t.hobs → t.ppis ≡ s.ppis → t.callbacks ≡ s.callbacks → IsLater s t
+same_later s t e ppis callbacks =
+    let p : length t.ppis ≡ length s.ppis = ap length ppis in let c : length t.callbacks ≡ length s.callbacks = ap length callbacks in
+    record { held = hobs_stay s t e; ppis = omega (arith, p); callbacks = omega (arith, c) }
+
+memory_stays : (s : StoreState) (begin len : ℕ) (none : Unit {0}) (t : StoreState) → set_memory s begin len ≡ Ok (none, t) → IsLater s t
+memory_stays s begin len none t e =
+    let own : Unit {0} × StoreState = (tt, record s { planned = Some (record { base = begin; len = len }) }) in
+    answer_has (λ p. IsLater s p.1) (Ok own) own (none, t) refl (past _ F.Bad _ (none, t) e) (same_later s own.1 refl refl refl)
+
+taken_stays : (s : StoreState) (memory_type len address : ℕ) (t : StoreState) → pages_taken s memory_type len ≡ Ok (address, t) → IsLater s t
+taken_stays s memory_type len address t e =
+    let own : ℕ × StoreState = (s.page_end - (s.taken + len), with_pages s memory_type len) in
+    answer_has (λ p. IsLater s p.1) (Ok own) own (address, t) refl e (added_later s own.1 (allocation_hob memory_type len (s.taken + len)) refl refl refl)
+
+pages_on : (b : Bool) (s : StoreState) (memory_type count address : ℕ) (t : StoreState)
+    → cond b (in_room s (allocation_len + page_len * count) (pages_taken s memory_type (page_len * count))) (early_pages s memory_type (page_len * count)) ≡ Ok (address, t) → IsLater s t
+pages_on true s memory_type count address t e = taken_stays s memory_type (page_len * count) address t (past _ F.Full _ (address, t) e)
+pages_on false s memory_type count address t e =
+    taken_stays s memory_type (page_len * count) address t (past _ F.Full _ (address, t) (past _ F.Full _ (address, t) (past _ F.NotYet _ (address, t) e)))
+
+mode_holds : (s : StoreState) (frame : Frame) (form r : ℕ) → HoldRegisters frame.registers s → IsReply s (mode_reply s frame form r)
+mode_holds s frame zero r h = same_holds s _ _ _ (set_held s frame.registers r (Number s.boot_mode) tt h)
+mode_holds s frame (suc form) r h =
+    where_holds (number_in frame.registers r) (set_mode_reply s frame) s frame.registers InvalidParameter h
+    (λ mode _. let later : IsLater s (with_boot_mode s mode) = same_later s (with_boot_mode s mode) refl refl refl in
+    if_holds (nat_lt mode (2 ^ 32)) s _ _ (record { registers = hold_on s (with_boot_mode s mode) frame.registers later.held h; later = later; visits = refl }) (same_holds s frame.registers _ _ h))
+
+store_on : (b : Bool) (s new : StoreState) (to : Pool) (at : ℕ) (bytes : List ℕ) → nat_lt to.size (at + length bytes) ≡ b → IsPool s to → Some new ≡ cond b None (Some (changed s to.offset at bytes)) → IsLater s new
+store_on true s new to at bytes t is e = cc
+store_on false s new to at bytes t is e =
+    let fits : at + length bytes ≤ to.size = grind (arith, nat_tests, t) in let same : changed s to.offset at bytes ≡ new = cc in
+    subst (λ u. IsLater s u) same (record { held = written_stays s to at bytes is fits; ppis = omega arith; callbacks = omega arith })
+
+store_stays : (s new : StoreState) (held : Option Pool) (at : ℕ) (bytes : List ℕ) → ((to : Pool) → Some to ≡ held → IsPool s to) → Some new ≡ option_and_then (λ to. store s to at bytes) held → IsLater s new
+store_stays s new None at bytes f e = cc
+store_stays s new (Some to) at bytes f e = store_on (nat_lt to.size (at + length bytes)) s new to at bytes refl (f to refl) e
+
+pub action_holds : ActionsAreSound
+action_holds s frame (A.Set r n) facts h = set_held s frame.registers r (Number n) tt h
+action_holds s frame (A.Add r n) facts h = number_holds s frame.registers r _ h
+action_holds s frame (A.Addr v x offset) facts h = number_holds s frame.registers v _ h
+action_holds s frame (A.Pool r size) facts h = answer_holds (pool s size) _ _ s frame.registers h (pool_stays s frame.registers r size h)
+action_holds s frame (A.Store p offset bytes) facts h =
+    where_holds (option_and_then (λ to. store s to offset bytes) (pool_in frame.registers p)) _ s frame.registers InvalidParameter h
+    (λ new e. let later = store_stays s new (pool_in frame.registers p) offset bytes (λ to. held_pool s frame.registers p to h) e in
+    record { registers = hold_on s new frame.registers later.held h; later = later; visits = refl })
+action_holds s frame (A.Peek v n) facts h =
+    where_holds (number_in frame.registers v) (peek_reply s frame n) s frame.registers InvalidParameter h (λ at _. where_holds (bytes_at s at n) _ s frame.registers NotFound h (λ bytes _. same_holds s _ _ _ h))
+action_holds s frame (A.Desc d kind guid arg) facts h =
+    where_holds (desc_argument frame (kind_number kind) guid arg) (desc_reply s frame d (kind_number kind)) s frame.registers InvalidParameter h
+    (λ argument _. answer_holds (desc s (kind_number kind) argument.0 argument.1) _ _ s frame.registers h (desc_stays s frame.registers d (kind_number kind) argument.1 (guid_from s argument.0) h))
+action_holds s frame (A.Install list) facts h =
+    where_holds (descriptors_in frame.registers list) (install_reply s frame) s frame.registers InvalidParameter h (λ found _. sweep_holds (install s found frame.module_number) _ s frame.registers h (install_stays s found frame.module_number))
+action_holds s frame (A.Reinstall old new) facts h =
+    where_holds (both (descriptor_in frame.registers old) (descriptor_in frame.registers new)) (reinstall_reply s frame) s frame.registers InvalidParameter h
+    (λ pair _. sweep_holds (reinstall s pair.0 pair.1 frame.module_number) _ s frame.registers h (reinstall_stays s pair.0 pair.1 frame.module_number))
+action_holds s frame (A.Notify list) facts h =
+    where_holds (descriptors_in frame.registers list) (notify_reply s frame) s frame.registers InvalidParameter h
+    (λ found e. sweep_holds (notify s found frame.module_number) _ s frame.registers h (notify_stays s found frame.module_number (held_list s frame.registers list found found h e refl)))
+action_holds s frame (A.Locate d v guid instance) facts h =
+    where_holds (nth_ppi s guid instance) (locate_reply s frame d v) s frame.registers NotFound h
+    (λ found e. same_holds s _ _ _ (set_held s (slice_set frame.registers d (DescriptorIn found.0)) v (Number found.1) tt
+    (set_held s frame.registers d (DescriptorIn found.0) (nth_is s (ppis_of s guid) instance found (filter_each s _ s.ppis facts.ppis) e) h)))
+action_holds s frame (A.Hob kind body) facts h =
+    where_holds (hob_of kind body) (hob_reply s frame) s frame.registers InvalidParameter h
+    (λ hob _. answer_holds (create_hob s hob) _ _ s frame.registers h (λ address t e. let later = hob_stays s hob address t e in (later, hold_on s t frame.registers later.held h)))
+action_holds s frame (A.Memory begin length) facts h =
+    where_holds (both (number_in frame.registers begin) (number_in frame.registers length)) (memory_reply s frame) s frame.registers InvalidParameter h
+    (λ span _. answer_holds (set_memory s span.0 span.1) _ _ s frame.registers h (λ none t e. let later = memory_stays s span.0 span.1 none t e in (later, hold_on s t frame.registers later.held h)))
+action_holds s frame (A.Pages r memory_type count) facts h =
+    if_holds (is_memory_type memory_type && not (count == 0)) s _ _
+    (answer_holds (pages s memory_type count) _ _ s frame.registers h
+    (λ address t e. let later = pages_on s.moved s memory_type count address t e in (later, set_held t frame.registers r (Number address) tt (hold_on s t frame.registers later.held h))))
+    (same_holds s frame.registers _ _ h)
+action_holds s frame (A.BootMode form r) facts h = mode_holds s frame form r h
+action_holds s frame A.Shadow facts held = tt
+action_holds s frame (A.Log text) facts held = tt
+action_holds s frame (A.SkipIf condition n) facts held = tt
+action_holds s frame (A.Ret status) facts held = tt
+action_holds s frame (A.DxeInstall form h guid v) facts held = tt
+action_holds s frame (A.DxeReinstall h guid old new) facts held = tt
+action_holds s frame (A.DxeUninstall h guid v) facts held = tt
+action_holds s frame (A.DxeLocate h v guid) facts held = tt
+action_holds s frame (A.DxeNotify guid b) facts held = tt
+action_holds s frame (A.Schedule guid) facts held = tt
+action_holds s frame (A.Process v) facts held = tt
+action_holds s frame A.Dispatch facts held = tt
+
+pub replies_are_sound : RepliesAreSound
+replies_are_sound s frame action name reply facts h e = let is : HoldsAfter s (Called name reply) = subst (λ x. HoldsAfter s x) e (action_holds s frame action facts h) in is

@@ -1,0 +1,9 @@
+-- The laws of stores on which the laws of runs stand.
+use Rattle.store_laws.specs.Keeping.{KeepFacts}
+use Rattle.store_laws.specs.Steps.{StepsKeepFacts}
+use Rattle.store_laws.specs.Fitting.{StatesFit}
+
+pub record StoreLaws : Type 0 where
+  pub keep : KeepFacts
+  pub steps : StepsKeepFacts
+  pub fit : StatesFit

@@ -1,0 +1,20 @@
+-- In each machine of a run of DXE the discovered order has each driver of a discovered volume once, and nothing else.
+-- PI 1.8, volume 2, "DXE Dispatcher".
+use Rattle.std.specs.Prelude.{◌≡◌, ◌↔◌, ℕ, true}
+use Rattle.catalog_model.specs.declared.catalog.Catalog.{Catalog}
+use Rattle.catalog_model.specs.WellFormed.{AreNumbered}
+use Rattle.catalog_model.specs.Parts.{has_number}
+use Rattle.store_model.specs.StoreState.{StoreState}
+use Rattle.boot_model.specs.Licence.{AllDiffer}
+use Rattle.boot_model.specs.DxeMachine.{DxeMachine}
+use Rattle.boot_model.specs.DxeChoice.{discovered_order}
+use Rattle.boot_model.specs.DxeRun.{dxe_run, dxe_opening}
+use Rattle.boot_model.specs.DriverLicence.{IsDiscovered}
+
+pub record HasEachOnce (catalog : Catalog) (m : DxeMachine) : Type 0 where
+  pub once : AllDiffer (discovered_order catalog m)
+  pub each : (number : ℕ) → IsDiscovered catalog m number ↔ (has_number (discovered_order catalog m) number ≡ true)
+
+-- where each volume's parent comes before it, as in every well-formed catalogue
+abbrev pub DiscoveredOrderHasEachOnce : Type 0
+DiscoveredOrderHasEachOnce = (catalog : Catalog) → AreNumbered 0 catalog.volumes → (fuel n : ℕ) (s : StoreState) (actions : ℕ) → HasEachOnce catalog (dxe_run catalog fuel n (dxe_opening catalog s actions))

@@ -1,0 +1,14 @@
+pub mod Bases
+pub mod BorneNames
+pub mod CatalogueOrFault
+pub mod ListCuts
+pub mod NestedParts
+pub mod Numbering
+pub mod OneCatalogue
+pub mod OneFault
+pub mod OwnModules
+pub mod PlanVolumes
+pub mod RankBounds
+pub mod ShortExpressions
+pub mod SoundFiles
+pub mod Stretches

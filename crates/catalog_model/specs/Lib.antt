@@ -1,0 +1,13 @@
+pub mod APriori
+pub mod Catalogue
+pub mod FileType
+pub mod Holding
+pub mod ImageCause
+pub mod ImageFault
+pub mod Location
+pub mod ModuleEntry
+pub mod Parts
+pub mod ReadFile
+pub mod Totals
+pub mod VolumeTree
+pub mod WellFormed

@@ -1,0 +1,9 @@
+mod Done
+mod Firsts
+mod HandleRows
+mod HandlesWith
+mod Holding
+mod Indexes
+mod Reading
+mod Rising
+mod Stretches

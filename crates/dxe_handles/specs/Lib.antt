@@ -1,0 +1,4 @@
+pub mod Holders
+pub mod Index
+pub mod Places
+pub mod Rows

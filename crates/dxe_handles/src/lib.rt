@@ -1,0 +1,14 @@
+//! The handles of DXE: which protocols are on which handles, with their interfaces (PI 1.8, volume 2, "Protocol Handler Services").
+//! The handles of a protocol are found by its GUID, and the interfaces of a handle by its number.
+#![tactic(auto)]
+
+mod fault;
+mod handles;
+mod holders;
+mod places;
+
+pub use fault::HandleFault;
+pub use handles::Handles;
+
+#[cfg(test)]
+mod tests;

@@ -1,0 +1,10 @@
+pub mod Acted
+pub mod Alike
+pub mod Deed
+pub mod Found
+pub mod Frames
+pub mod Needs
+pub mod Peeked
+pub mod Spent
+pub mod Took
+pub mod Writes

@@ -1,0 +1,10 @@
+pub mod Flags
+pub mod Placings
+pub mod Sizes
+pub mod Outcomes
+pub mod Headers
+pub mod Parts
+pub mod SectionsRead
+pub mod FilesRead
+pub mod VolumesRead
+pub mod Modules

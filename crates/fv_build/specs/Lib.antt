@@ -1,0 +1,9 @@
+pub mod Placing
+pub mod Checksum
+pub mod FileSystems
+pub mod Sections
+pub mod Files
+pub mod Header
+pub mod Building
+pub mod Reading
+pub mod Generated

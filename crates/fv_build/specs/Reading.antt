@@ -1,0 +1,51 @@
+-- What the readers of volumes and sections read of a built volume.
+use Rattle.std.specs.Prelude.{◌≡◌, ◌≢◌, ◌≤◌, ℕ, ⊤, Bool, not, ◌==◌, List, [], ◌∷◌, length, take, drop, filter, Option, None, All}
+use Rattle.fv_volume.specs.declared.file.FfsFile.{FfsFile}
+use Rattle.fv_volume.specs.declared.file_type.TheConstants.{PAD}
+use Rattle.fv_volume.specs.declared.volume.Volume.{Volume}
+use Rattle.fv_volume.specs.Volume.{IsVolume}
+use Rattle.fv_section.specs.declared.section.Section.{Section}
+use Rattle.fv_section.specs.declared.section_type.TheConstants.{COMPRESSION, GUID_DEFINED}
+use Rattle.fv_section.specs.declared.stream.TheConstants.{MOST_SECTIONS}
+use Rattle.fv_section.specs.Stream.{AreSections}
+use Rattle.fv_build.specs.declared.new_file.NewFile.{NewFile}
+use Rattle.fv_build.specs.declared.new_file.NewSection.{NewSection}
+use Rattle.fv_build.specs.FileSystems.{FileSystem}
+use Rattle.fv_build.specs.Sections.{body_bytes}
+
+-- as many things of one list as of the other, each pair of them related
+abbrev pub AreEach : {A B : Type 0} → (A → B → Type 0) → List A → List B → Type 0
+AreEach Is [] [] = ⊤
+AreEach Is (x ∷ xs) (y ∷ ys) = Is x y × AreEach Is xs ys
+AreEach Is [] (y ∷ ys) = ⊥
+AreEach Is (x ∷ xs) [] = ⊥
+
+-- a section that was read has the type and the body of the one that was handed in
+abbrev pub IsSectionRead : List ℕ → NewSection → Section → Type 0
+IsSectionRead bytes section read = (read.kind ≡ section.kind) × (take read.body_len (drop read.body_at bytes) ≡ section.body)
+
+-- the reader of sections takes so many, and opens none of these types
+abbrev pub AreReadable : List NewSection → Type 0
+AreReadable sections = (length sections ≤ MOST_SECTIONS) × All (λ section. (section.kind ≢ COMPRESSION) × (section.kind ≢ GUID_DEFINED)) sections
+
+-- the sections that are read of these bytes are those that were handed in
+abbrev pub AreSectionsRead : List ℕ → List NewSection → Type 0
+AreSectionsRead body sections = (read : List Section) × AreSections body read × AreEach (IsSectionRead body) sections read
+
+-- a file that was read has the name, the type and the sections of the one that was handed in
+pub record IsFileRead (bytes : List ℕ) (file : NewFile) (read : FfsFile) : Type 0 where
+  pub name : read.name ≡ file.name
+  pub kind : read.kind ≡ file.kind
+  pub sections : AreReadable file.sections → AreSectionsRead (take read.body_len (drop read.body_at bytes)) file.sections
+
+-- the files that a reader lists: all but the pads
+abbrev pub listed : List NewFile → List NewFile
+listed files = filter (λ file. not (file.kind == PAD)) files
+
+-- the bytes are a volume of all of them without a name, whose files are those that were handed in, pads aside
+pub record IsReadBack (files : List NewFile) (bytes : List ℕ) : Type 0 where
+  pub volume : Volume
+  pub is_volume : IsVolume bytes volume
+  pub len : volume.len ≡ length bytes
+  pub no_name : volume.name ≡ None
+  pub are_files : AreEach (IsFileRead bytes) (listed files) volume.files

@@ -1,0 +1,53 @@
+//! Files as bytes.
+ghost use Rattle.std.specs.Prelude.{◌≡◌, ◌<◌, ◌^◌, ◌++◌, length, OnOk, false, All};
+ghost use Rattle.fv_build.specs.Sections.{body_bytes};
+ghost use Rattle.fv_build.specs.Files.{file_bytes, is_file_too_long};
+ghost use Rattle.fv_build.specs.Building.{files_bytes};
+ghost use Rattle.fv_build.specs.declared.volume_header.TheConstants.{HEADER_LEN};
+
+use crate::file_header::{FileHead, put_file_header};
+use crate::file_system::FileSystem;
+use crate::fill::{fill, gap};
+use crate::new_file::NewFile;
+use crate::section::put_sections;
+use crate::size::{body_len, file_size, is_large};
+use crate::volume_header::ERASED;
+use fv_volume::ALIGNMENT;
+use pi_base::{OutOfMemory, Seq};
+
+// Adds a file.
+fn put_file(out: &mut Seq<u8>, file_system: FileSystem, file: &NewFile) -> Result<(), OutOfMemory>
+    requires short { is_file_too_long file_system file.now ≡ false }
+    requires fits { length (body_bytes file_system file.now.sections) < 2 ^ 32 }
+    ensures { OnOk result (out.new ≡ out.old ++ file_bytes file_system file.now) }
+{
+    let sections = file.sections.as_slice();
+    let body_len = body_len(file_system, sections);
+    let head = FileHead {
+        name: file.name,
+        kind: file.kind,
+        large: is_large(file_system, body_len),
+        size: file_size(file_system, body_len) as u64,
+    };
+    put_file_header(out, &head)?;
+    put_sections(out, file_system, sections)
+}
+
+/// Adds the files of a volume behind its header, the erased bytes between them too.
+pub(crate) fn put_files(
+    out: &mut Seq<u8>,
+    file_system: FileSystem,
+    files: &[NewFile],
+) -> Result<(), OutOfMemory>
+    requires start { length out.old ≡ HEADER_LEN }
+    requires short { All (λ file. is_file_too_long file_system file ≡ false) files.now }
+    requires fits { length (files_bytes file_system files.now) < 2 ^ 32 }
+    ensures { OnOk result (out.new ≡ out.old ++ files_bytes file_system files.now) }
+{
+    for file in files {
+        let end = out.len();
+        fill(out, gap(ALIGNMENT, end), ERASED)?;
+        put_file(out, file_system, file)?;
+    }
+    Ok(())
+}

@@ -1,0 +1,23 @@
+//! Firmware volumes from lists of files, which the readers of volumes and sections read back.
+#![tactic(auto)]
+
+mod build;
+mod fault;
+mod file;
+mod file_header;
+mod file_system;
+mod fill;
+mod generated;
+mod new_file;
+mod section;
+mod size;
+mod volume_header;
+
+pub use build::{MOST_LEN, build_volume, build_volume3};
+pub use fault::BuildFault;
+pub use generated::{MOST_MODULES, VOLUME_LEN, generate};
+pub use new_file::{NewFile, NewSection};
+pub use volume_header::HEADER_LEN;
+
+#[cfg(test)]
+mod tests;

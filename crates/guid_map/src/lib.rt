@@ -1,0 +1,9 @@
+//! A map from GUIDs, in the order of their bytes: images choose their GUIDs, so that a hash would be no guard against many that meet.
+#![tactic(auto)]
+
+mod guid_map;
+
+pub use guid_map::GuidMap;
+
+#[cfg(test)]
+mod tests;

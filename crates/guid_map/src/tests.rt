@@ -1,0 +1,50 @@
+use super::*;
+use pi_base::Guid;
+use std::test::*;
+
+fn guid(first: u8, last: u8) -> Guid {
+    let mut bytes = [0u8; 16];
+    bytes[0] = first;
+    bytes[15] = last;
+    Guid(bytes)
+}
+
+#[test]
+fn each_guid_has_the_value_that_it_was_given_last(rt: HostRuntime) -> Result<(), Fail> {
+    let mut map: GuidMap<u32> = GuidMap::new(rt.alloc());
+    assert!(rt; map.get(&guid(0, 0)).is_none());
+    // What is put in turn, and what the three GUIDs that differ in their first or their last byte alone then have.
+    let rows: [(Guid, u32, [Option<u32>; 3]); 6] = [
+        (guid(0, 1), 7, [None, Some(7), None]),
+        (guid(1, 0), 8, [None, Some(7), Some(8)]),
+        (guid(0, 1), 9, [None, Some(9), Some(8)]),
+        (guid(0, 0), u32::MAX, [Some(u32::MAX), Some(9), Some(8)]),
+        (guid(1, 0), 0, [Some(u32::MAX), Some(9), Some(0)]),
+        (guid(1, 1), 5, [Some(u32::MAX), Some(9), Some(0)]),
+    ];
+    for (put, value, want) in rows {
+        assert!(rt; map.insert(put, value).is_ok());
+        let have = [
+            map.get(&guid(0, 0)),
+            map.get(&guid(0, 1)),
+            map.get(&guid(1, 0)),
+        ];
+        assert!(rt; have == want, "{value}");
+        assert!(rt; map.contains_key(&guid(0, 0)) == want[0].is_some());
+    }
+    Ok(())
+}
+
+#[test]
+fn four_thousand_guids_have_room(rt: HostRuntime) -> Result<(), Fail> {
+    let mut map: GuidMap<u32> = GuidMap::new(rt.alloc());
+    for n in 0..4096u32 {
+        assert!(rt;
+            map.insert(guid((n % 256) as u8, (n / 256) as u8), n)
+                .is_ok()
+        );
+    }
+    assert_eq!(rt; map.get(&guid(0xff, 0x0f)), Some(4095));
+    assert_eq!(rt; map.get(&guid(0, 0x10)), None);
+    Ok(())
+}

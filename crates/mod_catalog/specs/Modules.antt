@@ -1,0 +1,34 @@
+-- The modules of a volume's files, and their parts.
+use Rattle.std.specs.Prelude.{◌≡◌, ℕ, List}
+use Rattle.pi_base.specs.Lists.{EachPair}
+use Rattle.pi_base.specs.declared.guid.Guid.{Guid}
+use Rattle.pi_base.specs.declared.phase.Phase.{Phase}
+use Rattle.pi_base.specs.declared.phase.Phase.TheVariants.{Pei, Dxe}
+use Rattle.fv_volume.specs.declared.file.FfsFile.{FfsFile}
+use Rattle.fv_section.specs.declared.section.Section.{Section}
+use Rattle.act_code.specs.declared.script.Script.{Script}
+use Rattle.catalog_model.specs.declared.catalog.Module.{Module}
+use Rattle.catalog_model.specs.declared.catalog.Part.{Part}
+use Rattle.catalog_model.specs.FileType.{expression_section}
+use Rattle.catalog_model.specs.declared.read_file.ReadFile.{ReadFile}
+use Rattle.catalog_model.specs.ReadFile.{first_body}
+use Rattle.catalog_model.specs.APriori.{a_priori_list, rank_of}
+use Rattle.catalog_model.specs.ModuleEntry.{IsExpression, IsModule}
+use Rattle.catalog_model.specs.Totals.{module_files}
+use Rattle.mod_catalog.specs.declared.modules.VolumeRanks.{VolumeRanks}
+use Rattle.mod_catalog.specs.Ranks.{GiveRanks}
+
+-- the modules of some of the files of a volume
+abbrev pub AreModules : List ℕ → List FfsFile → List ReadFile → ℕ → List ReadFile → List Module → Type 0
+AreModules bytes files reads number some modules = EachPair (IsModule bytes files reads number) (module_files some) modules
+
+-- the ranks are those of the a priori lists of these files
+pub record RanksHold (bytes : List ℕ) (files : List FfsFile) (reads : List ReadFile) (ranks : VolumeRanks) : Type 0 where
+  pub pei : GiveRanks Pei files (a_priori_list bytes files reads Pei) ranks.pei
+  pub dxe : GiveRanks Dxe files (a_priori_list bytes files reads Dxe) ranks.dxe
+
+-- a part with this script, and the rank that a list gives
+pub record IsPartBy (bytes : List ℕ) (files : List FfsFile) (list : List Guid) (file : FfsFile) (sections : List Section) (phase : Phase) (script : Script) (part : Part) : Type 0 where
+  pub rank : part.rank ≡ rank_of phase files list file
+  pub expression : IsExpression phase (first_body bytes (expression_section phase) file sections) part.expr
+  pub scripted : part.script ≡ script

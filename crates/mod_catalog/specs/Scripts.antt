@@ -1,0 +1,21 @@
+-- The scripts of a file, and how many bytes they have.
+use Rattle.std.specs.Prelude.{◌≡◌, ℕ, ◌+◌, ◌≤◌, List}
+use Rattle.pi_base.specs.Lists.{EachPair}
+use Rattle.fv_volume.specs.declared.file.FfsFile.{FfsFile}
+use Rattle.fv_section.specs.declared.section.Section.{Section}
+use Rattle.act_code.specs.declared.script.Script.{Script}
+use Rattle.act_code.specs.Script.{IsScript}
+use Rattle.catalog_model.specs.declared.limits.TheConstants.{MOST_SCRIPT_BYTES}
+use Rattle.catalog_model.specs.ReadFile.{section_body, script_sections}
+use Rattle.catalog_model.specs.Totals.{bytes_of}
+use Rattle.mod_catalog.specs.declared.scripts.Scripts.{Scripts}
+
+-- a section's script
+abbrev pub IsScriptOf : List ℕ → FfsFile → Section → Script → Type 0
+IsScriptOf bytes file section script = IsScript (section_body bytes file section) script
+
+-- the scripts of a file, whose bytes keep the limit behind those of other files
+pub record HoldsScripts (bytes : List ℕ) (file : FfsFile) (sections : List Section) (used : ℕ) (held : Scripts) : Type 0 where
+  pub scripts : EachPair (IsScriptOf bytes file) (script_sections bytes file sections) held.scripts
+  pub count : held.bytes ≡ bytes_of (script_sections bytes file sections)
+  pub within : used + held.bytes ≤ MOST_SCRIPT_BYTES

@@ -1,0 +1,92 @@
+-- What a script is told of a service's answer is the reply of the machine.
+use Rattle.std.proofs.Common.{◌≡◌, Bool, ℕ, List, [], refl, ap, sym, subst, ◌∙◌, Option, Some, None, Result, Err}
+use Rattle.std.specs.Option.{option_and_then}
+use Rattle.pi_base.specs.declared.memory.OutOfMemory.{OutOfMemory}
+use Rattle.pi_base.specs.declared.word.Word.TheVariants.{InvalidParameter, NotFound}
+use Rattle.boot_model.specs.PeiMachine.{Frame}
+use Rattle.boot_model.specs.declared.frame.Register.{Register}
+use Rattle.boot_model.specs.declared.line.CallName.{CallName}
+use Rattle.boot_model.specs.declared.line.CallName.TheVariants as C
+use Rattle.boot_model.specs.declared.line.Extra.{Extra}
+use Rattle.boot_model.specs.declared.line.Extra.TheVariants as X
+use Rattle.store_model.specs.declared.store_handle.Desc.{Desc}
+use Rattle.store_model.specs.declared.store_handle.Pool.{Pool}
+use Rattle.store_model.specs.declared.store_handle.Sweep.{Sweep}
+use Rattle.store_model.specs.declared.store_handle.StoreFault.{StoreFault}
+use Rattle.store_model.specs.declared.store_handle.StoreFault.TheVariants as F
+use Rattle.store_model.specs.MemoryReading.{bytes_at}
+use Rattle.store_model.specs.StoreState.{StoreState}
+use Rattle.store_model.specs.Service.{Service, Answers}
+use Rattle.store_model.specs.Service.Descriptor.{offsets}
+use Rattle.store_model.specs.Service.Pool.{store}
+use Rattle.boot_model.specs.PeiAction.{Effect, Reply, Called, call_where, peek_reply, refusal, reply_where, status_of, store_reply}
+use Rattle.boot_model.specs.PeiAction as P
+use Rattle.frames.specs.declared.registers.Writes.{Writes}
+use Rattle.frames.specs.declared.registers.Writes.TheVariants as W
+use Rattle.frames.specs.declared.reading.Answer.{Answer}
+use Rattle.frames.specs.Peeked.{told_at, told_bytes}
+use Rattle.frames.specs.Writes.{written}
+use Rattle.pei_action.specs.declared.taken.Taken.{Taken}
+use Rattle.pei_action.specs.Taken.{Does, IsTaken, answered, refused, swept, told}
+use Rattle.pei_action.specs.Taken as T
+
+-- a fault of a service with this reply
+fault_taken : {A : Type 0} (memory : Bool) (name : CallName) (service : Service A) (reply : Service A → Reply) (s new : StoreState) (registers : List Register) (fault : StoreFault)
+    → ((f : StoreFault) → reply (Err f) ≡ refusal s registers (status_of f))
+    → Answers memory service s (Err fault) new → IsTaken memory (Called name (reply service)) s registers (refused name fault) new
+fault_taken memory name service reply s new registers F.Full tells (e, same) = ap (λ x. Called name (reply x)) e ∙ ap (Called name) (tells F.Full) ∙ ap (λ t. Called name (refusal t registers (status_of F.Full))) (sym same)
+fault_taken memory name service reply s new registers F.Bad tells (e, same) = ap (λ x. Called name (reply x)) e ∙ ap (Called name) (tells F.Bad) ∙ ap (λ t. Called name (refusal t registers (status_of F.Bad))) (sym same)
+fault_taken memory name service reply s new registers F.Missing tells (e, same) = ap (λ x. Called name (reply x)) e ∙ ap (Called name) (tells F.Missing) ∙ ap (λ t. Called name (refusal t registers (status_of F.Missing))) (sym same)
+fault_taken memory name service reply s new registers F.NotYet tells (e, same) = ap (λ x. Called name (reply x)) e ∙ ap (Called name) (tells F.NotYet) ∙ ap (λ t. Called name (refusal t registers (status_of F.NotYet))) (sym same)
+fault_taken memory name service reply s new registers F.Memory tells (e, same) = (e, same)
+
+pub refused_taken : {A : Type 0} (memory : Bool) (name : CallName) (does : Effect) (service : Service A) (reply : Service A → Reply) (s new : StoreState) (registers : List Register) (fault : StoreFault) (taken : Result Taken OutOfMemory)
+    → does ≡ Called name (reply service) → ((f : StoreFault) → reply (Err f) ≡ refusal s registers (status_of f)) → Answers memory service s (Err fault) new → taken ≡ refused name fault
+    → IsTaken memory does s registers taken new
+refused_taken memory name does service reply s new registers fault taken e tells answers t =
+    subst (λ x. IsTaken memory does s registers x new) (sym t)
+    (subst (λ x. IsTaken memory x s registers (refused name fault) new) (sym e) (fault_taken memory name service reply s new registers fault tells answers))
+
+-- a call whose argument is there
+pub given_where : {B : Type 0} (name : CallName) (argument : Option B) (given : B) (reply : B → Reply) (s : StoreState) (frame : Frame) → Some given ≡ argument → call_where name argument reply s frame ≡ Called name (reply given)
+given_where name argument given reply s frame e = ap (λ a. call_where name a reply s frame) (sym e)
+
+-- a success
+pub told_taken : (name : CallName) (does : Effect) (s new : StoreState) (registers : List Register) (extra : Extra) (writes : Writes) (taken : Taken)
+    → does ≡ Called name (P.told new (written registers writes) extra) → taken ≡ told name extra writes → Does does s registers taken new
+told_taken name does s new registers extra writes taken e t = subst (λ x. Does does s registers x new) (sym t) e
+
+pub swept_taken : (name : CallName) (does : Effect) (s new : StoreState) (registers : List Register) (sweep : Sweep) (installs : List Desc) (taken : Taken)
+    → does ≡ Called name (record (P.told new registers X.Nothing) { sweep = Some sweep; installs = offsets installs }) → taken ≡ swept name sweep installs → Does does s registers taken new
+swept_taken name does s new registers sweep installs taken e t = subst (λ x. Does does s registers x new) (sym t) e
+
+-- a write into a pool
+pub stored : (s new : StoreState) (frame : Frame) (held : Option Pool) (pool : Pool) (offset : ℕ) (bytes : List ℕ) (taken : Taken)
+    → Some pool ≡ held → store s pool offset bytes ≡ Some new → taken ≡ told C.Store X.Nothing W.Nothing
+    → Does (Called C.Store (store_reply s frame (option_and_then (λ to. store s to offset bytes) held))) s frame.registers taken new
+stored s new frame held pool offset bytes taken at e t =
+    subst (λ x. Does (Called C.Store (store_reply s frame (option_and_then (λ to. store s to offset bytes) held))) s frame.registers x new) (sym t)
+    (ap (λ h. Called C.Store (store_reply s frame (option_and_then (λ to. store s to offset bytes) h))) (sym at) ∙ ap (λ r. Called C.Store (store_reply s frame r)) e)
+
+pub not_stored : (s new : StoreState) (frame : Frame) (held : Option Pool) (pool : Pool) (offset : ℕ) (bytes : List ℕ) (taken : Taken)
+    → Some pool ≡ held → store s pool offset bytes ≡ None → new ≡ s → taken ≡ T.refusal C.Store InvalidParameter
+    → Does (Called C.Store (store_reply s frame (option_and_then (λ to. store s to offset bytes) held))) s frame.registers taken new
+not_stored s new frame held pool offset bytes taken at e same t =
+    subst (λ x. Does (Called C.Store (store_reply s frame (option_and_then (λ to. store s to offset bytes) held))) s frame.registers x new) (sym t)
+    (subst (λ n. Does (Called C.Store (store_reply s frame (option_and_then (λ to. store s to offset bytes) held))) s frame.registers (T.refusal C.Store InvalidParameter) n) (sym same)
+    (ap (λ h. Called C.Store (store_reply s frame (option_and_then (λ to. store s to offset bytes) h))) (sym at) ∙ ap (λ r. Called C.Store (store_reply s frame r)) e))
+
+-- bytes that are read
+abbrev shown : StoreState → List Register → Answer → Effect
+shown s registers answer = Called C.Peek (T.reply_in (record { name = C.Peek; status = answer.status; extra = answer.extra; writes = W.Nothing; sweep = None; installs = record { items = [] } }) registers s)
+
+abbrev peek_at : StoreState → List Register → Option (List ℕ) → Effect
+peek_at s registers bytes = Called C.Peek (reply_where bytes (λ read. P.told s registers (X.Bytes (record { items = read }))) s registers NotFound)
+
+bytes_shown : (s : StoreState) (registers : List Register) (bytes : Option (List ℕ)) → peek_at s registers bytes ≡ shown s registers (told_bytes bytes)
+bytes_shown s registers None = refl
+bytes_shown s registers (Some bytes) = refl
+
+pub peek_shown : (s : StoreState) (frame : Frame) (n : ℕ) (at : Option ℕ) → call_where C.Peek at (peek_reply s frame n) s frame ≡ shown s frame.registers (told_at s n at)
+peek_shown s frame n None = refl
+peek_shown s frame n (Some at) = bytes_shown s frame.registers (bytes_at s at n)

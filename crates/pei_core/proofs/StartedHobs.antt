@@ -1,0 +1,259 @@
+-- No action makes a notification of a module that has not started.
+use Rattle.std.proofs.Common.{◌≡◌, ℕ, zero, suc, ◌+◌, ◌*◌, ◌/◌, ◌^◌, ◌<◌, ◌==◌, ◌&&◌, Bool, true, false, cond, List, [], ◌∷◌, ◌++◌, length, replicate, arith, sym, refl, subst, Option, Some, None, Ok, Err}
+use Rattle.std.specs.Bool.{⊤}
+use Rattle.std.specs.Prelude.{fold, slice_set, nat_lt, not}
+use Rattle.std.specs.Option.{option_and_then}
+use Rattle.std.specs.List.{list_all}
+use Rattle.pi_base.specs.declared.guid.Guid.{Guid}
+use Rattle.pi_base.specs.declared.word.Word.{Word}
+use Rattle.pi_base.specs.declared.word.Word.TheVariants.{InvalidParameter, NotFound}
+use Rattle.pi_base.specs.Lists.{Each}
+use Rattle.act_code.specs.Index.{is_indexed}
+use Rattle.act_code.specs.declared.action.Action.{Action}
+use Rattle.act_code.specs.declared.action.Action.TheVariants as A
+use Rattle.act_code.specs.declared.action.GuidArg.{GuidArg}
+use Rattle.store_model.specs.declared.state.Body.{Body}
+use Rattle.store_model.specs.declared.state.Body.TheVariants.{Bytes, Descriptor, Node, Allocation}
+use Rattle.store_model.specs.declared.state.DescriptorBody.{DescriptorBody}
+use Rattle.store_model.specs.declared.state.HobEntry.{HobEntry}
+use Rattle.store_model.specs.declared.store_handle.Desc.{Desc}
+use Rattle.store_model.specs.declared.store_handle.DescKind.{DescKind}
+use Rattle.store_model.specs.declared.store_handle.DescKind.TheVariants.{Ppi, Callback, Dispatch}
+use Rattle.store_model.specs.declared.store_handle.GuidFrom.{GuidFrom}
+use Rattle.store_model.specs.declared.store_handle.Pool.{Pool}
+use Rattle.store_model.specs.declared.store_handle.StoreFault.{StoreFault}
+use Rattle.store_model.specs.declared.store_handle.Sweep.{Sweep}
+use Rattle.store_model.specs.StoreState.{StoreState, appended, end_place, hob_len, next_body, pool_of, rounded, with_body}
+use Rattle.store_model.specs.MemoryReading.{bytes_at}
+use Rattle.store_model.specs.Service.{Service, in_room}
+use Rattle.store_model.specs.Service.Pool.{pool, store, written}
+use Rattle.store_model.specs.Service.Descriptor.{desc, desc_of, guid_from, kind_at, offsets}
+use Rattle.store_model.specs.Service.Install.{install, reinstall, installed, reinstalled, with_ppi, with_pending, install_pairs, install_sweep, reinstall_pairs, reinstall_sweep, renamed}
+use Rattle.store_model.specs.Service.Notify.{notify, notified, with_note, with_note_of, notify_pairs, notify_sweep}
+use Rattle.store_model.specs.Service.Reading.{nth_ppi}
+use Rattle.store_model.specs.Service.Hob.{create_hob, hob_entry}
+use Rattle.store_model.specs.Service.Memory.{set_memory, pages, pages_taken, page_len, allocation_hob}
+use Rattle.boot_model.specs.declared.frame.Register.{Register}
+use Rattle.boot_model.specs.declared.line.Extra.{Extra}
+use Rattle.boot_model.specs.PeiMachine.{Frame}
+use Rattle.boot_model.specs.Registers.{pool_in, number_in, descriptor_in, descriptors_in, both}
+use Rattle.boot_model.specs.PeiAction.{Reply, Effect, Wrote, Called, Own, Shadowed, Logged, Skipped, Returned, effect, number_written, answer_reply, sweep_reply, reply_where, set_mode_reply, mode_reply, peek_reply, desc_reply, desc_number, guid_arg, kind_number, install_reply, reinstall_reply, notify_reply, locate_reply, hob_reply, memory_reply, is_memory_type}
+use Rattle.boot_laws.proofs.ListFacts.{each_push}
+use Rattle.pei_action.specs.Needs.{IsArgument}
+use Rattle.pei_action.proofs.Grammar.{block}
+use Rattle.pei_core.specs.Started.{HasStarted, IsEntryOf, IsBodyOf}
+
+abbrev pub AreHobsOf : List ℕ → List HobEntry → Type 0
+AreHobsOf started hobs = Each (λ hob. IsBodyOf started hob.body) hobs
+
+abbrev pub IsStoreOf : List ℕ → StoreState → Type 0
+IsStoreOf started s = AreHobsOf started s.hobs
+
+-- a HOB is changed
+changed_at : (started : List ℕ) (change : Body → Body) (b : Bool) (hob : HobEntry) → ((body : Body) → IsBodyOf started body → IsBodyOf started (change body))
+    → IsBodyOf started hob.body → IsBodyOf started (cond b (record hob { body = change hob.body }) hob).body
+changed_at started change true hob keeps is = keeps hob.body is
+changed_at started change false hob keeps is = is
+
+pub changed_keeps : (started : List ℕ) (change : Body → Body) (hobs : List HobEntry) (at place : ℕ) → ((body : Body) → IsBodyOf started body → IsBodyOf started (change body))
+    → AreHobsOf started hobs → AreHobsOf started (with_body change at hobs place)
+changed_keeps started change [] at place keeps each = tt
+changed_keeps started change (hob ∷ hobs) at place keeps each =
+    (changed_at started change (at + 8 == place) hob keeps each.0, changed_keeps started change hobs (at + hob_len hob) place keeps each.1)
+
+written_is : (started : List ℕ) (at : ℕ) (bytes : List ℕ) (body : Body) → IsBodyOf started body → IsBodyOf started (written at bytes body)
+written_is started at bytes (Bytes old) is = tt
+written_is started at bytes (Descriptor d) is = is
+written_is started at bytes Node is = tt
+written_is started at bytes (Allocation a) is = tt
+
+-- one item after the other
+fold_keeps : {X : Type 0} (started : List ℕ) (f : StoreState → X → StoreState) (xs : List X) (s : StoreState)
+    → ((t : StoreState) (x : X) → IsStoreOf started t → IsStoreOf started (f t x)) → IsStoreOf started s → IsStoreOf started (fold f s xs)
+fold_keeps started f [] s keeps is = is
+fold_keeps started f (x ∷ xs) s keeps is = fold_keeps started f xs (f s x) keeps (keeps s x is)
+
+with_node_is : (started : List ℕ) (s : StoreState) → IsStoreOf started s → AreHobsOf started (s.hobs ++ pool_of Node ∷ [])
+with_node_is started s is = each_push (λ hob. IsBodyOf started hob.body) s.hobs (pool_of Node) is tt
+
+note_keeps : (started : List ℕ) (kind : DescKind) (by : ℕ) (s : StoreState) (d : Desc) → IsStoreOf started s → IsStoreOf started (with_note_of kind by s d)
+note_keeps started Ppi by s d is = is
+note_keeps started Callback by s d is = with_node_is started s is
+note_keeps started Dispatch by s d is = with_node_is started s is
+
+pending_keeps : (started : List ℕ) (by : ℕ) (pairs : List (ℕ × ℕ)) (s : StoreState) → IsStoreOf started s → IsStoreOf started (fold (with_pending by) s pairs)
+pending_keeps started by pairs s is = fold_keeps started (with_pending by) pairs s (λ t pair k. with_node_is started t k) is
+
+-- a service, where it answers
+abbrev pub Keeps : {A : Type 0} → List ℕ → Service A → Type 0
+Keeps started (Ok pair) = IsStoreOf started pair.1
+Keeps started (Err fault) = ⊤
+
+unless : {A : Type 0} (started : List ℕ) (b : Bool) (fault : StoreFault) (service : Service A) → Keeps started service → Keeps started (cond b (Err fault) service)
+unless started true fault service k = tt
+unless started false fault service k = k
+
+either : {A : Type 0} (started : List ℕ) (b : Bool) (one other : Service A) → Keeps started one → Keeps started other → Keeps started (cond b one other)
+either started true one other k h = k
+either started false one other k h = h
+
+pool_keeps : (started : List ℕ) (s : StoreState) (size : ℕ) → IsStoreOf started s → Keeps started (pool s size)
+pool_keeps started s size is =
+    let hob : HobEntry = pool_of (Bytes (replicate (rounded size) 0)) in
+    let made : Pool = record { offset = next_body s; size = size } in
+    let own : Keeps {A = Pool} started (Ok (made, appended s hob)) = each_push (λ other. IsBodyOf started other.body) s.hobs hob is tt in
+    search (unless, own)
+
+pub desc_keeps : (started : List ℕ) (s : StoreState) (kind : DescKind) (number : ℕ) (from : Option (Guid × Option ℕ)) → IsEntryOf started kind number → IsStoreOf started s → Keeps started (desc_of s kind number from)
+desc_keeps started s kind number None of is = tt
+desc_keeps started s kind number (Some (guid, stands)) of is =
+    let hob : HobEntry = pool_of (Descriptor (record { kind = kind; guid = guid; stands = stands; number = number })) in
+    let made : Desc = record { offset = next_body s } in
+    let own : Keeps {A = Desc} started (Ok (made, appended s hob)) = each_push (λ other. IsBodyOf started other.body) s.hobs hob is of in
+    search (unless, own)
+
+pub install_keeps : (started : List ℕ) (s : StoreState) (list : List Desc) (by : ℕ) → IsStoreOf started s → Keeps started (install s list by)
+install_keeps started s list by is =
+    let own : Keeps {A = Sweep} started (Ok (install_sweep s list, installed s list by)) =
+    pending_keeps started by (install_pairs s list) (fold (with_ppi by) s list) (fold_keeps started (with_ppi by) list s (λ t d k. with_node_is started t k) is) in
+    search (unless, own)
+
+reinstall_keeps : (started : List ℕ) (s : StoreState) (old new : Desc) (by : ℕ) → IsStoreOf started s → Keeps started (reinstall s old new by)
+reinstall_keeps started s old new by is =
+    let own : Keeps {A = Sweep} started (Ok (reinstall_sweep s old, reinstalled s old new by)) =
+    pending_keeps started by (reinstall_pairs s new) (record s { ppis = renamed s.ppis old.offset new.offset }) is in
+    search (unless, own)
+
+notify_keeps : (started : List ℕ) (s : StoreState) (list : List Desc) (by : ℕ) → IsStoreOf started s → Keeps started (notify s list by)
+notify_keeps started s list by is =
+    let own : Keeps {A = Sweep} started (Ok (notify_sweep s list, notified s list by)) =
+    pending_keeps started by (notify_pairs s list) (fold (with_note by) s list) (fold_keeps started (with_note by) list s (λ t d k. note_keeps started (kind_at t d.offset) by t d k) is) in
+    search (unless, own)
+
+hob_keeps : (started : List ℕ) (s : StoreState) (hob : _) → IsStoreOf started s → Keeps started (create_hob s hob)
+hob_keeps started s hob is =
+    let own : Keeps {A = ℕ} started (Ok (s.base + end_place s, appended s (hob_entry hob))) = each_push (λ other. IsBodyOf started other.body) s.hobs (hob_entry hob) is tt in
+    search (unless, own)
+
+memory_keeps : (started : List ℕ) (s : StoreState) (begin len : ℕ) → IsStoreOf started s → Keeps started (set_memory s begin len)
+memory_keeps started s begin len is =
+    let own : Keeps {A = Unit {0}} started (Ok (tt, record s { planned = Some (record { base = begin; len = len }) })) = is in
+    search (unless, own)
+
+taken_keeps : (started : List ℕ) (s : StoreState) (memory_type len : ℕ) → IsStoreOf started s → Keeps started (pages_taken s memory_type len)
+taken_keeps started s memory_type len is = each_push (λ hob. IsBodyOf started hob.body) s.hobs (allocation_hob memory_type len (s.taken + len)) is tt
+
+pages_keep : (started : List ℕ) (s : StoreState) (memory_type count : ℕ) → IsStoreOf started s → Keeps started (pages s memory_type count)
+pages_keep started s memory_type count is =
+    let own = taken_keeps started s memory_type (page_len * count) is in
+    search (either, unless, own)
+
+-- the reply of a service
+answered : {A : Type 0} (started : List ℕ) (service : Service A) (write : A → List Register) (extra : A → Extra) (s : StoreState) (registers : List Register)
+    → IsStoreOf started s → Keeps started service → IsStoreOf started (answer_reply service write extra s registers).store
+answered started (Ok pair) write extra s registers is k = k
+answered started (Err fault) write extra s registers is k = is
+
+swept : (started : List ℕ) (service : Service Sweep) (installs : List ℕ) (s : StoreState) (registers : List Register)
+    → IsStoreOf started s → Keeps started service → IsStoreOf started (sweep_reply service installs s registers).store
+swept started (Ok pair) installs s registers is k = k
+swept started (Err fault) installs s registers is k = is
+
+where_keeps : {A : Type 0} (started : List ℕ) (argument : Option A) (reply : A → Reply) (s : StoreState) (registers : List Register) (status : Word)
+    → IsStoreOf started s → ((a : A) → argument ≡ Some a → IsStoreOf started (reply a).store) → IsStoreOf started (reply_where argument reply s registers status).store
+where_keeps started None reply s registers status is f = is
+where_keeps started (Some a) reply s registers status is f = f a refl
+
+if_kept : (started : List ℕ) (b : Bool) (x y : Reply) → IsStoreOf started x.store → IsStoreOf started y.store → IsStoreOf started (cond b x y).store
+if_kept started true x y h k = h
+if_kept started false x y h k = k
+
+mode_keeps : (started : List ℕ) (s : StoreState) (frame : Frame) (form r : ℕ) → IsStoreOf started s → IsStoreOf started (mode_reply s frame form r).store
+mode_keeps started s frame zero r is = is
+mode_keeps started s frame (suc form) r is =
+    where_keeps started (number_in frame.registers r) (set_mode_reply s frame) s frame.registers InvalidParameter is (λ mode _. if_kept started (nat_lt mode (2 ^ 32)) _ _ is is)
+
+store_on : (started : List ℕ) (b : Bool) (s new : StoreState) (to : Pool) (at : ℕ) (bytes : List ℕ) → IsStoreOf started s
+    → cond b None (Some (record s { hobs = with_body (written at bytes) 56 s.hobs to.offset })) ≡ Some new → IsStoreOf started new
+store_on started true s new to at bytes is e = cc
+store_on started false s new to at bytes is e =
+    let same : (record s { hobs = with_body (written at bytes) 56 s.hobs to.offset }) ≡ new = cc in
+    subst (λ t. IsStoreOf started t) same (changed_keeps started (written at bytes) s.hobs 56 to.offset (written_is started at bytes) is)
+
+store_keeps : (started : List ℕ) (s new : StoreState) (held : Option Pool) (at : ℕ) (bytes : List ℕ) → IsStoreOf started s → option_and_then (λ to. store s to at bytes) held ≡ Some new → IsStoreOf started new
+store_keeps started s new None at bytes is e = cc
+store_keeps started s new (Some to) at bytes is e = store_on started (nat_lt to.size (at + length bytes)) s new to at bytes is e
+
+-- a module's own entry
+entry_of : (number arg : ℕ) → arg < 64 → (number * 64 + arg) / 64 ≡ number
+entry_of number arg lt = omega (arith, lt)
+
+entry_is : (started : List ℕ) (number : ℕ) (registers : List Register) (kind : DescKind) (arg : ℕ) (from : Option GuidFrom) (a : GuidFrom × ℕ) → HasStarted started number → IsArgument kind arg
+    → both from (desc_number number registers kind arg) ≡ Some a → IsEntryOf started kind a.1
+entry_is started number registers Ppi arg from a of is e = tt
+entry_is started number registers Callback arg None a of is e = cc
+entry_is started number registers Callback arg (Some g) a of is e =
+    let same : number * 64 + arg ≡ a.1 = cc in let own = entry_of number arg is in subst (λ n. HasStarted started (n / 64)) same (subst (HasStarted started) (sym own) of)
+entry_is started number registers Dispatch arg None a of is e = cc
+entry_is started number registers Dispatch arg (Some g) a of is e =
+    let same : number * 64 + arg ≡ a.1 = cc in let own = entry_of number arg is in subst (λ n. HasStarted started (n / 64)) same (subst (HasStarted started) (sym own) of)
+
+-- what an action leaves of the store
+abbrev pub LeavesStore : List ℕ → Effect → Type 0
+LeavesStore started (Wrote registers status) = ⊤
+LeavesStore started (Called name reply) = IsStoreOf started reply.store
+LeavesStore started (Own own) = ⊤
+LeavesStore started (Logged text) = ⊤
+LeavesStore started (Skipped n) = ⊤
+LeavesStore started (Returned status) = ⊤
+
+written_leaves : (started : List ℕ) (registers : List Register) (r : ℕ) (n : Option ℕ) → LeavesStore started (number_written registers r n)
+written_leaves started registers r None = tt
+written_leaves started registers r (Some n) = tt
+
+pub action_leaves : (started : List ℕ) (s : StoreState) (frame : Frame) (action : Action) → is_indexed 64 action ≡ true → HasStarted started frame.module_number → IsStoreOf started s → LeavesStore started (effect s frame action)
+action_leaves started s frame (A.Set r n) names of is = tt
+action_leaves started s frame (A.Add r n) names of is = written_leaves started frame.registers r _
+action_leaves started s frame (A.Addr v x offset) names of is = written_leaves started frame.registers v _
+action_leaves started s frame (A.Pool r size) names of is = answered started (pool s size) _ _ s frame.registers is (pool_keeps started s size is)
+action_leaves started s frame (A.Store p offset bytes) names of is =
+    where_keeps started (option_and_then (λ to. store s to offset bytes) (pool_in frame.registers p)) _ s frame.registers InvalidParameter is
+    (λ new e. store_keeps started s new (pool_in frame.registers p) offset bytes is e)
+action_leaves started s frame (A.Peek v n) names of is =
+    where_keeps started (number_in frame.registers v) (peek_reply s frame n) s frame.registers InvalidParameter is (λ at _. where_keeps started (bytes_at s at n) _ s frame.registers NotFound is (λ bytes _. is))
+action_leaves started s frame (A.Desc d kind guid arg) names of is =
+    where_keeps started (both (guid_arg frame.registers guid) (desc_number frame.module_number frame.registers (kind_number kind) arg)) (desc_reply s frame d (kind_number kind)) s frame.registers InvalidParameter is
+    (λ a e. answered started (desc s (kind_number kind) a.0 a.1) _ _ s frame.registers is
+    (desc_keeps started s (kind_number kind) a.1 (guid_from s a.0) (entry_is started frame.module_number frame.registers (kind_number kind) arg (guid_arg frame.registers guid) a of (block kind arg _ names) e) is))
+action_leaves started s frame (A.Install list) names of is =
+    where_keeps started (descriptors_in frame.registers list) (install_reply s frame) s frame.registers InvalidParameter is
+    (λ found _. swept started (install s found frame.module_number) _ s frame.registers is (install_keeps started s found frame.module_number is))
+action_leaves started s frame (A.Reinstall old new) names of is =
+    where_keeps started (both (descriptor_in frame.registers old) (descriptor_in frame.registers new)) (reinstall_reply s frame) s frame.registers InvalidParameter is
+    (λ pair _. swept started (reinstall s pair.0 pair.1 frame.module_number) _ s frame.registers is (reinstall_keeps started s pair.0 pair.1 frame.module_number is))
+action_leaves started s frame (A.Notify list) names of is =
+    where_keeps started (descriptors_in frame.registers list) (notify_reply s frame) s frame.registers InvalidParameter is
+    (λ found _. swept started (notify s found frame.module_number) _ s frame.registers is (notify_keeps started s found frame.module_number is))
+action_leaves started s frame (A.Locate d v guid instance) names of is =
+    where_keeps started (nth_ppi s guid instance) (locate_reply s frame d v) s frame.registers NotFound is (λ found _. is)
+action_leaves started s frame (A.Hob kind body) names of is =
+    where_keeps started _ (hob_reply s frame) s frame.registers InvalidParameter is
+    (λ hob _. answered started (create_hob s hob) _ _ s frame.registers is (hob_keeps started s hob is))
+action_leaves started s frame (A.Memory begin length) names of is =
+    where_keeps started (both (number_in frame.registers begin) (number_in frame.registers length)) (memory_reply s frame) s frame.registers InvalidParameter is
+    (λ span _. answered started (set_memory s span.0 span.1) _ _ s frame.registers is (memory_keeps started s span.0 span.1 is))
+action_leaves started s frame (A.Pages r memory_type count) names of is =
+    if_kept started (is_memory_type memory_type && not (count == 0)) _ _ (answered started (pages s memory_type count) _ _ s frame.registers is (pages_keep started s memory_type count is)) is
+action_leaves started s frame (A.BootMode form r) names of is = mode_keeps started s frame form r is
+action_leaves started s frame A.Shadow names of is = tt
+action_leaves started s frame (A.Log text) names of is = tt
+action_leaves started s frame (A.SkipIf condition n) names of is = tt
+action_leaves started s frame (A.Ret status) names of is = tt
+action_leaves started s frame (A.DxeInstall form h guid v) names of is = tt
+action_leaves started s frame (A.DxeReinstall h guid old new) names of is = tt
+action_leaves started s frame (A.DxeUninstall h guid v) names of is = tt
+action_leaves started s frame (A.DxeLocate h v guid) names of is = tt
+action_leaves started s frame (A.DxeNotify guid b) names of is = tt
+action_leaves started s frame (A.Schedule guid) names of is = tt
+action_leaves started s frame (A.Process v) names of is = tt
+action_leaves started s frame A.Dispatch names of is = tt

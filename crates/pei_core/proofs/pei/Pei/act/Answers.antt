@@ -1,0 +1,122 @@
+use Rattle.std.proofs.Common.{◌≡◌, ◌<◌, ℕ, List, [], ◌∷◌, length, refl, sym, ap, ◌∙◌, subst}
+use Rattle.std.proofs.lemmas.List.{append-nil}
+use Rattle.boot_io.proofs.PutsLaws.{appends_none}
+use Rattle.boot_model.specs.PeiStep.{Acts, in_case}
+use Rattle.pei_core.specs.Parts.{action_goal}
+use Rattle.pei_core.specs.Standing.{Has, StandsFor}
+use Rattle.pei_core.specs.Steps.{IsIdle}
+use Rattle.pei_core.proofs.Acting.{counted, counted_sound, counted_started, done, for_counted, fuel_left, left_core, own_leads, own_places, own_takes, takes_own}
+use Rattle.pei_core.proofs.Cases.{case_acts, cons_nil, part, went}
+use Rattle.pei_core.proofs.Going.{first_part, goes_on, same_err, stepped_from, steps_fail, stepped_none, stepped_one, texts}
+use Rattle.pei_core.proofs.pei.Pei.act.Goals as goal
+
+pub returns-in_err-print-in-Prints-clause-row : goal.returns-in_err-print-in-Prints-clause-row
+returns-in_err-print-in-Prints-clause-row g c m fuel for h runs =
+    let T = g.S.Sink.text in
+    let catalog = c.args.catalog.now in
+    let line = c.in-Prints.line in
+    let has = c.in-Prints.ensures runs.top runs.below (sym h.has.fields.frames ∙ runs.frames) in
+    let d = done c.effects_are_alike.ensures.pei catalog fuel m runs.top runs.below c.args.self.now.core c.act.new.fuel c.act.new.frames (line ∷ []) h.has.fields for.fuelled has.0 has.1 in
+    steps_fail _ _ catalog fuel m _ c.from_residual.result c.from_residual.ensures.1
+    (part catalog fuel m d.later (Acts runs.top runs.below) (texts (T c.args.sink.now) (T c.print.new.sink)) (case_acts catalog m runs.top runs.below runs.quiet runs.frames) d.is
+    (first_part m d.later line line [] (T c.args.sink.now) (T c.print.new.sink) d.printed refl c.in_err-print-in-Prints.ensures.text))
+
+pub returns-in_err-print-in-Prints-clause-kept : goal.returns-in_err-print-in-Prints-clause-kept
+returns-in_err-print-in-Prints-clause-kept g c =
+    let runs = c.requires.state.2 in
+    let has = c.in-Prints.ensures runs.top runs.below (sym c.requires.state.1.has.fields.frames ∙ runs.frames) in
+    record { made = λ fuel for. for_counted c.args.catalog.now fuel c.args.self.now.core c.act.new.fuel c.act.new.frames has.0 for; started = refl }
+
+pub act_own-requires-clause-state : goal.act_own-requires-clause-state
+act_own-requires-clause-state g c =
+    let m = c.requires.state.0 in
+    let h = c.requires.state.1 in
+    let runs = c.requires.state.2 in
+    let has = c.in-Own.ensures runs.top runs.below (sym h.has.fields.frames ∙ runs.frames) in
+    let fields = left_core m runs.top runs.below c.args.self.now.core c.act.new.fuel c.act.new.frames h.has.fields runs.frames has.0 has.1.frames in (
+      counted m,
+      record { has = record { store = h.has.store; fields = fields }; sound = counted_sound m h.sound; started = counted_started m h.started },
+      takes_own c.args.catalog.now m runs.top runs.below c.in-Own.action.now c.act.new.frames runs.frames has.1,
+    )
+
+pub returns-in_err-changes-in-Own-clause-row : goal.returns-in_err-changes-in-Own-clause-row
+returns-in_err-changes-in-Own-clause-row g c m fuel for h runs =
+    let T = g.S.Sink.text in
+    let catalog = c.args.catalog.now in
+    let action = c.in-Own.action.now in
+    let core = c.args.self.now.core in
+    let has = c.in-Own.ensures runs.top runs.below (sym h.has.fields.frames ∙ runs.frames) in
+    let fields = left_core m runs.top runs.below core c.act.new.fuel c.act.new.frames h.has.fields runs.frames has.0 has.1.frames in
+    let left = fuel_left m fuel core c.act.new.fuel h.has.fields.actions for.fuelled has.0 in
+    let is = case_acts catalog m runs.top runs.below runs.quiet runs.frames in
+    let goes = c.in_err-changes-in-Own.ensures.row (counted m) (record { has = record { store = h.has.store; fields = fields }; sound = counted_sound m h.sound; started = counted_started m h.started })
+    (takes_own catalog m runs.top runs.below action c.act.new.frames runs.frames has.1) in
+    goes_on c.in_err-changes-in-Own.field-0.0 g.M.PeiStore.TAKES_MEMORY (Has g.M.PeiStore.stands_for c.act_own.new.self) _ catalog fuel m (counted m) (action_goal catalog (counted m) runs.top runs.below action) []
+    (T c.args.sink.now) (T c.args.sink.now) (T c.act_own.new.sink) c.from_residual-in_err-changes-in-Own.result (same_err _ c.from_residual-in_err-changes-in-Own.result c.from_residual-in_err-changes-in-Own.ensures.1)
+    (ap (in_case catalog fuel m) is ∙ own_leads catalog fuel m runs.top runs.below action left has.1.is) (sym (append-nil m.lines)) (appends_none (T c.args.sink.now)) goes
+
+pub returns-in_err-changes-in-Own-clause-kept : goal.returns-in_err-changes-in-Own-clause-kept
+returns-in_err-changes-in-Own-clause-kept g c =
+    let runs = c.requires.state.2 in
+    let has = c.in-Own.ensures runs.top runs.below (sym c.requires.state.1.has.fields.frames ∙ runs.frames) in
+    let k = c.in_err-changes-in-Own.ensures.kept in
+    record { made = λ fuel for. k.made fuel (for_counted c.args.catalog.now fuel c.args.self.now.core c.act.new.fuel c.act.new.frames has.0 for); started = k.started }
+
+pub returns-in-Silent-clause-row : goal.returns-in-Silent-clause-row
+returns-in-Silent-clause-row g c m fuel for h runs =
+    let T = g.S.Sink.text in
+    let catalog = c.args.catalog.now in
+    let has = c.in-Silent.ensures runs.top runs.below (sym h.has.fields.frames ∙ runs.frames) in
+    let d = done c.effects_are_alike.ensures.pei catalog fuel m runs.top runs.below c.args.self.now.core c.act.new.fuel c.act.new.frames [] h.has.fields for.fuelled has.0 has.1 in
+    went g.M.PeiStore.TAKES_MEMORY _ catalog fuel m d.later (Acts runs.top runs.below) c.none.result _ c.by.result (texts (T c.args.sink.now) (T c.args.sink.now)) (case_acts catalog m runs.top runs.below runs.quiet runs.frames) d.is
+    (λ (idle : IsIdle m). cons_nil _ _ _ runs.frames idle.frames) (c.none.ensures.there ∙ sym d.there) (c.none.ensures.gone ∙ sym d.gone) (ap length c.as_slice-known.ensures ∙ ap length (sym h.has.fields.reported)) c.by.ensures
+    (stepped_none _ m d.later (T c.args.sink.now) (d.printed ∙ append-nil m.lines) (record { store = subst (g.M.PeiStore.stands_for c.args.self.now.store) (sym d.store) h.has.store; fields = d.fields }))
+
+pub returns-in-Silent-clause-kept : goal.returns-in-Silent-clause-kept
+returns-in-Silent-clause-kept g c =
+    let runs = c.requires.state.2 in
+    let has = c.in-Silent.ensures runs.top runs.below (sym c.requires.state.1.has.fields.frames ∙ runs.frames) in
+    record { made = λ fuel for. for_counted c.args.catalog.now fuel c.args.self.now.core c.act.new.fuel c.act.new.frames has.0 for; started = refl }
+
+pub returns-in_ok-print-in-Prints-clause-row : goal.returns-in_ok-print-in-Prints-clause-row
+returns-in_ok-print-in-Prints-clause-row g c m fuel for h runs =
+    let T = g.S.Sink.text in
+    let catalog = c.args.catalog.now in
+    let line = c.in-Prints.line in
+    let has = c.in-Prints.ensures runs.top runs.below (sym h.has.fields.frames ∙ runs.frames) in
+    let d = done c.effects_are_alike.ensures.pei catalog fuel m runs.top runs.below c.args.self.now.core c.act.new.fuel c.act.new.frames (line ∷ []) h.has.fields for.fuelled has.0 has.1 in
+    went g.M.PeiStore.TAKES_MEMORY _ catalog fuel m d.later (Acts runs.top runs.below) c.none-in-Prints.result _ c.by-in-Prints.result (texts (T c.args.sink.now) (T c.print.new.sink)) (case_acts catalog m runs.top runs.below runs.quiet runs.frames) d.is
+    (λ (idle : IsIdle m). cons_nil _ _ _ runs.frames idle.frames) (c.none-in-Prints.ensures.there ∙ sym d.there) (c.none-in-Prints.ensures.gone ∙ sym d.gone) (ap length c.as_slice-known.ensures ∙ ap length (sym h.has.fields.reported)) c.by-in-Prints.ensures
+    (stepped_one _ m d.later line line (T c.args.sink.now) (T c.print.new.sink) d.printed refl c.in_ok-print-in-Prints.ensures.text (record { store = subst (g.M.PeiStore.stands_for c.args.self.now.store) (sym d.store) h.has.store; fields = d.fields }))
+
+pub returns-in_ok-print-in-Prints-clause-kept : goal.returns-in_ok-print-in-Prints-clause-kept
+returns-in_ok-print-in-Prints-clause-kept g c =
+    let runs = c.requires.state.2 in
+    let has = c.in-Prints.ensures runs.top runs.below (sym c.requires.state.1.has.fields.frames ∙ runs.frames) in
+    record { made = λ fuel for. for_counted c.args.catalog.now fuel c.args.self.now.core c.act.new.fuel c.act.new.frames has.0 for; started = refl }
+
+pub returns-in_ok-changes-in-Own-clause-row : goal.returns-in_ok-changes-in-Own-clause-row
+returns-in_ok-changes-in-Own-clause-row g c m fuel for h runs =
+    let T = g.S.Sink.text in
+    let catalog = c.args.catalog.now in
+    let action = c.in-Own.action.now in
+    let core = c.args.self.now.core in
+    let has = c.in-Own.ensures runs.top runs.below (sym h.has.fields.frames ∙ runs.frames) in
+    let fields = left_core m runs.top runs.below core c.act.new.fuel c.act.new.frames h.has.fields runs.frames has.0 has.1.frames in
+    let left = fuel_left m fuel core c.act.new.fuel h.has.fields.actions for.fuelled has.0 in
+    let own = takes_own catalog m runs.top runs.below action c.act.new.frames runs.frames has.1 in
+    let reached = c.in_ok-changes-in-Own.ensures.row (counted m) (record { has = record { store = h.has.store; fields = fields }; sound = counted_sound m h.sound; started = counted_started m h.started }) own in
+    let to = action_goal catalog (counted m) runs.top runs.below action in
+    let t = texts (T c.args.sink.now) (T c.act_own.new.sink) in
+    went g.M.PeiStore.TAKES_MEMORY _ catalog fuel m to.to (Acts runs.top runs.below) c.in_ok-changes-in-Own.changes _ c.by-in-Own.result t (case_acts catalog m runs.top runs.below runs.quiet runs.frames)
+    (own_leads catalog fuel m runs.top runs.below action left has.1.is)
+    (λ (idle : IsIdle m). cons_nil _ _ _ runs.frames idle.frames) (reached.there ∙ sym (own_places catalog fuel m runs.top runs.below action left has.1.is)) (reached.gone ∙ sym (own_takes catalog fuel m runs.top runs.below action left has.1.is))
+    (ap length c.as_slice-known.ensures ∙ ap length (sym h.has.fields.reported)) c.by-in-Own.ensures
+    (stepped_from _ (counted m) m to.to t refl reached.stepped)
+
+pub returns-in_ok-changes-in-Own-clause-kept : goal.returns-in_ok-changes-in-Own-clause-kept
+returns-in_ok-changes-in-Own-clause-kept g c =
+    let runs = c.requires.state.2 in
+    let has = c.in-Own.ensures runs.top runs.below (sym c.requires.state.1.has.fields.frames ∙ runs.frames) in
+    let k = c.in_ok-changes-in-Own.ensures.kept in
+    record { made = λ fuel for. k.made fuel (for_counted c.args.catalog.now fuel c.args.self.now.core c.act.new.fuel c.act.new.frames has.0 for); started = k.started }

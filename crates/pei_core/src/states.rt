@@ -1,0 +1,65 @@
+// How far each module has come.
+ghost use Rattle.std.specs.Prelude.{◌≡◌, ◌<◌, length, if◌then◌else◌, IfOk, replicate, slice_set};
+ghost use Rattle.pi_base.specs.declared.word.Word.{Word as OfWord};
+ghost use Rattle.boot_model.specs.PeimState.{has_started, state_at};
+ghost use Rattle.boot_model.specs.declared.peim_state.PeimState.TheVariants.{NotDispatched};
+ghost use Rattle.pei_core.specs.Awaiting.{AreShadows};
+ghost use Rattle.pei_core.specs.Cores as C;
+
+use crate::core_state::Core;
+use boot_model::{PeimState, state_of};
+use pi_base::{OutOfMemory, Seq, Word};
+use std::alloc::Global;
+
+/// The states of so many modules, of which none has started.
+pub(crate) fn none_started(alloc: Global, count: usize) -> Result<Seq<PeimState>, OutOfMemory>
+    ensures { IfOk result (λ states. states ≡ replicate count NotDispatched) }
+{
+    let mut states = Seq::new(alloc);
+    'modules: for _number in 0..count {
+        states.push(PeimState::NotDispatched)?;
+    }
+    Ok(states)
+}
+
+// The state of a module behind its start.
+fn state_behind(state: PeimState) -> PeimState
+    ensures { result ≡ C.state_behind state }
+{
+    match state {
+        PeimState::NotDispatched => PeimState::Dispatched,
+        _ => PeimState::Done,
+    }
+}
+
+impl Core {
+    /// A module that has started registers for shadow: once, and it then awaits its second start. What its script is told.
+    pub(crate) fn register(&mut self, number: u32) -> Word
+        requires here { number < length self.old.states }
+        requires shadows { AreShadows self.old.states self.old.shadows }
+        ensures status { result ≡ C.register_status (state_at self.old.states number) }
+        ensures core { self.new ≡ C.with_registered (state_at self.old.states number) number self.old }
+    {
+        match state_of(self.states.as_slice(), number) {
+            PeimState::Dispatched => {
+                self.shadows.push(number);
+                self.states
+                    .set(number as usize, PeimState::RegisteredForShadow);
+                Word::Success
+            }
+            _ => Word::AlreadyStarted,
+        }
+    }
+
+    /// A module starts, for the first or for the second time: it then has another state, and awaits no second start.
+    pub(crate) fn dispatch(&mut self, number: u32)
+        requires here { number < length self.old.states }
+        ensures core { self.new ≡ C.with_dispatched (state_at self.old.states number) number self.old }
+    {
+        let state = state_of(self.states.as_slice(), number);
+        self.states.set(number as usize, state_behind(state));
+        if state == PeimState::RegisteredForShadow {
+            self.shadows.remove(number);
+        }
+    }
+}

@@ -1,0 +1,75 @@
+-- The last machine: the core over its store stands for the end as it was before it ended.
+use Rattle.std.proofs.Common.{◌≡◌, ℕ, List, [], ◌++◌, Option, Some, None, refl, sym, ap, ◌∙◌, subst}
+use Rattle.std.proofs.lemmas.List.{append-nil}
+use Rattle.std.specs.Io.KnownBytes.{Appends}
+use Rattle.catalog_model.specs.declared.catalog.Catalog.{Catalog}
+use Rattle.store_model.specs.StoreState.{StoreState}
+use Rattle.boot_model.specs.declared.line.Line.{Line}
+use Rattle.boot_model.specs.declared.phase_end.PeiEnd.{PeiEnd}
+use Rattle.boot_model.specs.MachineFacts.{IsSound}
+use Rattle.boot_model.specs.PeiMachine.{PeiMachine}
+use Rattle.boot_model.specs.PeiStep.{outcome_of, stopped}
+use Rattle.boot_model.specs.Text.{text_of}
+use Rattle.pei_choice.specs.declared.order.PeiOrder.{PeiOrder}
+use Rattle.pei_core.specs.declared.pei.Pei.{Pei}
+use Rattle.pei_core.specs.Standing.{IsCoreOf, Has, StandsFor, last_start}
+use Rattle.pei_core.specs.Turn.{Texts}
+use Rattle.pei_dispatch.specs.Ends.{StandsAtEnd, KeepsLast}
+use Rattle.pei_dispatch.specs.Turns.{IsNow, IsOver, stop_lines}
+
+-- lines that were put change nothing that the core and its store stand for
+with_lines : (m : PeiMachine) (lines : List Line) → PeiMachine
+with_lines m lines = record m { lines = lines; ended = None }
+
+stands_still : {M : Type 0} (stands : M → StoreState → Type 0) (pei : Pei M) (m : PeiMachine) (lines : List Line) → StandsFor stands pei m → StandsFor stands pei (record m { lines = lines; ended = None })
+stands_still stands pei m lines stand =
+    let fields = stand.has.fields in
+    let has : Has stands pei (record m { lines = lines; ended = None }) = record {
+      store = stand.has.store;
+      fields = record {
+        frames = fields.frames;
+        sweep = fields.sweep;
+        reported = fields.reported;
+        states = λ number. let is = fields.states number in record { started = is.started; registered = is.registered; again = is.again };
+        shadows = fields.shadows;
+        actions = fields.actions;
+        starts = fields.starts;
+        running = refl;
+      };
+    } in
+    record {
+      has = has;
+      sound = record { held = stand.sound.held; modules = stand.sound.modules; sweeps = stand.sound.sweeps; core_sweep = stand.sound.core_sweep; few = stand.sound.few };
+      started = record { bodies = stand.started.bodies; frames_are = stand.started.frames_are };
+    }
+
+-- the stop ends the machine
+pub stops_so : {M : Type 0} (stands : M → StoreState → Type 0) (catalog : Catalog) (pei : Pei M) (order : PeiOrder) (m : PeiMachine) (end : PeiEnd) (t : Texts) → IsNow stands catalog pei order m
+    → end ≡ outcome_of m.store → Appends t.old t.new (text_of (stop_lines catalog m)) → IsOver stands catalog m pei (stopped catalog m) pei order end t
+stops_so stands catalog pei order m end t now outcome text = record {
+  ended = ap (λ o. Some o) (sym outcome);
+  printed = record { told = stop_lines catalog m; lines = refl; text = text };
+  machine = record {
+    sweep = m.core_sweep;
+    machine = stands_still stands pei m (m.lines ++ stop_lines catalog m) now.machine;
+    placed = record { parts = now.placed.parts; cursor = now.placed.cursor };
+  };
+  last = λ is. is;
+}
+
+-- the machine ends and nothing else changes
+pub ends_so : {M : Type 0} (stands : M → StoreState → Type 0) (catalog : Catalog) (pei later : Pei M) (order : PeiOrder) (m later_m : PeiMachine) (end : PeiEnd) (t : Texts) → IsNow stands catalog pei order m
+    → later_m ≡ record m { ended = Some end } → Appends t.old t.new [] → StandsFor stands later m → last_start later ≡ last_start pei → IsOver stands catalog m pei later_m later order end t
+ends_so stands catalog pei later order m later_m end t now is text machine same =
+    let P : PeiMachine → Type 0 = λ x. IsOver stands catalog m pei x later order end t in
+    let over : IsOver stands catalog m pei (record m { ended = Some end }) later order end t = record {
+      ended = refl;
+      printed = record { told = []; lines = sym (append-nil m.lines); text = text };
+      machine = record {
+        sweep = m.core_sweep;
+        machine = stands_still stands later m m.lines machine;
+        placed = record { parts = now.placed.parts; cursor = now.placed.cursor };
+      };
+      last = λ before. same ∙ before;
+    } in
+    subst P (sym is) over

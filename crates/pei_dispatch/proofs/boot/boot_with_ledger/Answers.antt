@@ -1,0 +1,12 @@
+use Rattle.std.proofs.lemmas.Result.{err_from_is_err_and}
+use Rattle.pei_dispatch.proofs.boot.boot_with_ledger.Goals as goal
+
+pub returns-clause-row : goal.returns-clause-row
+returns-clause-row g c board stands =
+    let run = c.in_ok-end.ensures.row board c.args.fuel c.in_ok-pei.ensures.made (c.in_ok-pei.ensures.opening board stands) in
+    (run.0, c.into_store.ensures _ run.1.machine, c.actions.ensures _ run.1.machine)
+
+pub returns-in_err-end-clause-row : goal.returns-in_err-end-clause-row
+returns-in_err-end-clause-row g c board stands =
+    let p = err_from_is_err_and c.from_residual-in_err-end.result c.from_residual-in_err-end.ensures.1 in
+    rw p.1 (c.in_err-end.ensures.row board c.args.fuel c.in_ok-pei.ensures.made (c.in_ok-pei.ensures.opening board stands))

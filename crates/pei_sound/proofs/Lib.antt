@@ -1,5 +1,0 @@
-mod CoreSweeps
-mod Firings
-mod Openings
-mod SoundSteps
-mod Standing

@@ -1,0 +1,24 @@
+-- The entries of a list, told one behind the other by their nodes.
+-- Own.
+use Rattle.std.specs.Prelude.{◌≡◌, ℕ, ◌<◌, ◌^◌, List, [], ◌∷◌, length, Option, Some, None}
+use Rattle.store_model.specs.declared.store_handle.EntryList.{EntryList}
+use Rattle.store_model.specs.declared.store_handle.EntryTold.{EntryTold}
+use Rattle.store_model.specs.StoreState.{StoreState}
+use Rattle.store_model.specs.StateFacts.{IsStoreState}
+use Rattle.store_model.specs.StoreCall.{IsNodeIn}
+use Rattle.store_model.specs.Service.Reading.{entry_behind, told_behind, told_of}
+
+-- those of a list that stand behind a node, or all
+abbrev pub left_behind : StoreState → EntryList → Option ℕ → List EntryTold
+left_behind s list node = told_behind node (told_of s list)
+
+-- the entry that is told is the first of those that are left, and behind its node are the others
+pub record IsToldFirst (s : StoreState) (list : EntryList) (node : Option ℕ) (told : EntryTold) : Type 0 where
+  pub is_in : IsNodeIn list (Some told.node) s
+  pub left : left_behind s list node ≡ told ∷ left_behind s list (Some told.node)
+
+pub record EntriesAreTold : Type 0 where
+  pub first : (s : StoreState) (list : EntryList) (node : Option ℕ) (told : EntryTold) → IsStoreState s
+      → entry_behind s list node ≡ Some told → IsToldFirst s list node told
+  pub last : (s : StoreState) (list : EntryList) (node : Option ℕ) → entry_behind s list node ≡ None → left_behind s list node ≡ []
+  pub few : (s : StoreState) (list : EntryList) → IsStoreState s → length (told_of s list) < 2 ^ 28

@@ -1,0 +1,9 @@
+pub mod HandleFacts
+pub mod HandleState
+pub mod HeapImage
+pub mod MemoryReading
+pub mod Migration
+pub mod Service
+pub mod StateFacts
+pub mod StoreCall
+pub mod StoreState
