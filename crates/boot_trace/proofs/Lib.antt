@@ -6,4 +6,5 @@ mod HobPlaces
 mod ListPlaces
 mod PutLines
 mod SpanLines
+mod StartLines
 mod StoreTexts

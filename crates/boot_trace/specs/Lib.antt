@@ -1,3 +1,4 @@
 pub mod EntryLines
 pub mod HeapParts
 pub mod HobLines
+pub mod StartLines

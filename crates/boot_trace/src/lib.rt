@@ -10,12 +10,14 @@ mod hob_line;
 mod line;
 mod number_word;
 mod out;
+mod start;
 mod store_hobs;
 mod store_lists;
 mod trace_line;
 
 pub use line::{put, put_all};
 pub use out::Out;
+pub use start::put_start;
 
 #[cfg(test)]
 mod tests;

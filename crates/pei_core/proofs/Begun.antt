@@ -20,7 +20,7 @@ use Rattle.boot_model.specs.PeiStep.{start_line, start_lines, started, started_b
 use Rattle.frames.specs.Found.{has_block}
 use Rattle.pei_core.specs.declared.core_state.Core.{Core}
 use Rattle.pei_core.specs.Cores.{state_behind, shadows_behind, with_started}
-use Rattle.pei_core.specs.Parts.{started_lines}
+use Rattle.boot_trace.specs.StartLines.{started_lines}
 use Rattle.pei_core.specs.Standing.{IsCoreFor, IsCoreOf}
 use Rattle.pei_core.proofs.Awaited.{starts_again, starts_kept, awaits}
 use Rattle.pei_core.proofs.PeimStates.{first_states, second_states}

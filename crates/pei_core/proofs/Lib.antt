@@ -14,4 +14,3 @@ mod Sounded
 mod StartedHobs
 mod StartedSteps
 mod Shadowing
-mod Starting

@@ -8,7 +8,6 @@ use Rattle.boot_io.specs.declared.sink.SinkFault.{SinkFault}
 use Rattle.pi_base.specs.Lists.{Each}
 use Rattle.pi_base.specs.declared.guid.Guid.{Guid}
 use Rattle.pi_base.specs.declared.phase.Phase.TheVariants.{Pei}
-use Rattle.pi_base.specs.declared.word.Word.TheVariants.{Success}
 use Rattle.catalog_model.specs.declared.catalog.Catalog.{Catalog}
 use Rattle.store_model.specs.declared.store_handle.Firing.{Firing}
 use Rattle.store_model.specs.declared.store_handle.Sweep.{Sweep}
@@ -104,11 +103,6 @@ pub record TakesOwn (catalog : Catalog) (action : Action) (m : PeiMachine) : Typ
 -- the machine behind a call that was answered, in the state behind it
 abbrev pub after_reply : Catalog → PeiMachine → Frame → List Frame → Reply → StoreState → PeiMachine
 after_reply catalog m frame below reply new = after_call catalog m frame below (L.Call reply.name reply.status reply.extra) (reply_in reply frame.registers new)
-
--- the lines of a start: a script without blocks ends at once
-abbrev pub started_lines : Line → Bool → List Line
-started_lines line true = line ∷ []
-started_lines line false = line ∷ L.End Success ∷ []
 
 -- where the core's own call leads
 abbrev pub called_goal : PeiMachine → Service Sweep → Goal

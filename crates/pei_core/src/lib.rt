@@ -16,6 +16,5 @@ mod states;
 mod step;
 
 pub use event::{Event, MOST_INSTALLED, Stepped};
-pub use names::{name_of, volume_of};
 pub use pei::Pei;
 pub use reports::put_reports;

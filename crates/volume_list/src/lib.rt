@@ -7,6 +7,7 @@ mod mapped;
 mod report;
 
 pub use list::VolumeList;
+pub use mapped::volume_at;
 
 #[cfg(test)]
 mod tests;

@@ -44,8 +44,8 @@ impl VolumeList {
         self.numbers.as_slice()
     }
 
-    // Whether a volume is known.
-    pub(crate) fn has(&self, number: u32) -> bool
+    /// Whether a volume is known.
+    pub fn has(&self, number: u32) -> bool
         ensures { result ≡ has_number self.now number }
     {
         self.numbers.as_slice().iter().any(|other| *other == number)

@@ -6,7 +6,7 @@ ghost use Rattle.catalog_model.specs.Parts.{volume_at};
 use catalog_model::Catalog;
 
 /// The number of the volume that is mapped at a physical address. None where no volume is.
-pub(crate) fn volume_at(catalog: &Catalog, base: u64) -> Option<u32>
+pub fn volume_at(catalog: &Catalog, base: u64) -> Option<u32>
     requires { length catalog.now.volumes ≤ MOST_VOLUMES }
     ensures volume { result ≡ volume_at catalog.now base }
     ensures in_catalog { IfSome result (λ number. number < length catalog.now.volumes) }

@@ -3,7 +3,7 @@ use Rattle.frames.specs.Found.{blocks_of}
 use Rattle.pi_base.specs.declared.phase.Phase.TheVariants.{Pei}
 use Rattle.boot_model.specs.PeimState.{awaits_start, state_at}
 use Rattle.boot_model.specs.PeiStep.{started}
-use Rattle.pei_core.specs.Parts.{started_lines}
+use Rattle.boot_trace.specs.StartLines.{started_lines}
 use Rattle.pei_core.specs.Standing.{IsCoreFor, StandsFor}
 use Rattle.pei_core.proofs.Begun.{begun, begun_for, is_there}
 use Rattle.pei_core.proofs.Going.{puts_to}
