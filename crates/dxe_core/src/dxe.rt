@@ -97,6 +97,13 @@ impl Dxe {
         unreachable!()
     }
 
+    /// The handles, for whoever goes on behind DXE.
+    pub fn into_handles(self) -> Handles
+        ensures { result ≡ self.services.handles }
+    {
+        unreachable!()
+    }
+
     /// The discovered volumes and their drivers.
     pub fn order(&self) -> &DriverOrder
         ensures { result.now ≡ self.now.services.order }
