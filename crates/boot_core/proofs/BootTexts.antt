@@ -1,5 +1,5 @@
 -- The text of a boot, part by part.
-use Rattle.std.proofs.Common.{◌≡◌, ℕ, List, [], ◌∷◌, ◌++◌, Option, Some, None, option_map, append_assoc, sym, ap, ◌∙◌}
+use Rattle.std.proofs.Common.{◌≡◌, ℕ, List, [], ◌∷◌, ◌++◌, length, map, flat_map, Option, Some, None, option_map, append_assoc, refl, sym, ap, ◌∙◌}
 use Rattle.std.proofs.lemmas.List.{append-nil}
 use Rattle.std.proofs.lemmas.Grind.{flat_map-append}
 use Rattle.catalog_model.specs.declared.catalog.Catalog.{Catalog}
@@ -10,7 +10,7 @@ use Rattle.boot_model.specs.BootRun.{handle_lines, lines_after, both_lines, dxe_
 use Rattle.boot_model.specs.DxeMachine.{DxeMachine}
 use Rattle.boot_model.specs.declared.phase_end.DxeEnd.{DxeEnd}
 use Rattle.boot_model.specs.DxeRun.{dxe_end}
-use Rattle.store_model.specs.HandleState.{no_handles}
+use Rattle.store_model.specs.HandleState.{HandleState, Interface, no_handles}
 use Rattle.boot_model.specs.Listing.{store_lines}
 use Rattle.boot_model.specs.PeiMachine.{PeiMachine}
 use Rattle.boot_model.specs.declared.phase_end.PeiEnd.{PeiEnd}
@@ -19,22 +19,36 @@ use Rattle.boot_model.specs.PeiRun.{pei_end}
 use Rattle.store_model.specs.StoreState.{StoreState, Board}
 use Rattle.boot_model.specs.Text.{line_text, text_of}
 use Rattle.boot_core.specs.BootEnd.{boot_text, end_of, end_after}
-use Rattle.boot_core.specs.Running.{closing, closing_text, result_text, dxe_behind, behind, dxe_text, text_behind, IsResult}
+use Rattle.boot_core.specs.Running.{closing, closing_text, interface_text, result_text, dxe_behind, behind, dxe_text, text_behind, IsResult}
 
--- the last lines where there is no handle
-closing_is : (s : StoreState) (end : RunEnd) → text_of (closing s no_handles end) ≡ closing_text s end
+-- the lines of interfaces
+interfaces_are : (interfaces : List Interface) → text_of (map (λ i. L.Handle i.handle i.guid i.value) interfaces) ≡ flat_map interface_text interfaces
+unfolding interface_text
+interfaces_are [] = refl
+interfaces_are (i ∷ is) = ap (λ rest. line_text (L.Handle i.handle i.guid i.value) ++ rest) (interfaces_are is)
+
+-- the lines of the handles and of the result
+result_is : (handles : HandleState) (end : RunEnd) → text_of (handle_lines handles ++ L.Result end ∷ []) ≡ result_text handles end
 unfolding result_text
-closing_is s end =
-    ap text_of (append_assoc (store_lines s) (handle_lines no_handles) (L.Result end ∷ [])) ∙ flat_map-append line_text (store_lines s) (L.Handles 0 ∷ L.Result end ∷ [])
+result_is handles end =
+    let lines = map (λ i. L.Handle i.handle i.guid i.value) handles.interfaces in
+    let count = line_text (L.Handles (length handles.interfaces)) in
+    ap (λ rest. count ++ rest) (flat_map-append line_text lines (L.Result end ∷ []) ∙ ap (λ text. text ++ text_of (L.Result end ∷ [])) (interfaces_are handles.interfaces)
+    ∙ ap (λ text. flat_map interface_text handles.interfaces ++ text) (append-nil (line_text (L.Result end))))
 
--- a DXE that ended so without handles, and one that has any end
-pub dxe_stopped : (s : StoreState) (dxe : DxeMachine) (how : DxeEnd) → dxe.ended ≡ Some how → dxe.handles ≡ no_handles
-    → text_of dxe.lines ++ closing_text s (dxe_result how) ≡ dxe_text s dxe
+-- the last lines
+closing_is : (s : StoreState) (handles : HandleState) (end : RunEnd) → text_of (closing s handles end) ≡ closing_text s handles end
+closing_is s handles end =
+    flat_map-append line_text (store_lines s) (handle_lines handles ++ L.Result end ∷ []) ∙ ap (λ text. text_of (store_lines s) ++ text) (result_is handles end)
+
+-- a DXE that ended so with these handles, and one that has any end
+pub dxe_closed : (s : StoreState) (dxe : DxeMachine) (how : DxeEnd) (handles : HandleState) → dxe.ended ≡ Some how → dxe.handles ≡ handles
+    → text_of dxe.lines ++ closing_text s handles (dxe_result how) ≡ dxe_text s dxe
 unfolding dxe_text
-dxe_stopped s dxe how ended handles =
+dxe_closed s dxe how handles ended same =
     let end : RunEnd = dxe_result how in
-    ap (λ t. text_of dxe.lines ++ t) (sym (closing_is s end)) ∙ sym (flat_map-append line_text dxe.lines (closing s no_handles end))
-    ∙ sym (ap (λ h. text_of (dxe.lines ++ closing s h end)) handles) ∙ sym (ap (λ e. text_of (dxe_behind s dxe e)) ended)
+    ap (λ t. text_of dxe.lines ++ t) (sym (closing_is s handles end)) ∙ sym (flat_map-append line_text dxe.lines (closing s handles end))
+    ∙ sym (ap (λ h. text_of (dxe.lines ++ closing s h end)) same) ∙ sym (ap (λ e. text_of (dxe_behind s dxe e)) ended)
 
 begins_by : (s : StoreState) (dxe : DxeMachine) (ended : Option DxeEnd) → (rest : List ℕ) × (text_of (dxe_behind s dxe ended) ≡ text_of dxe.lines ++ rest)
 begins_by s dxe None = ([], sym (append-nil (text_of dxe.lines)))
@@ -54,9 +68,9 @@ done_after catalog fuel m ended answer done =
     ap (end_after catalog fuel m) ended ∙ done
 
 -- what follows any other end of PEI
-pub ended_text : (catalog : Catalog) (fuel : ℕ) (m : PeiMachine) (end : RunEnd) → behind catalog fuel m m.ended ≡ closing m.store no_handles end → closing_text m.store end ≡ text_behind catalog fuel m
+pub ended_text : (catalog : Catalog) (fuel : ℕ) (m : PeiMachine) (end : RunEnd) → behind catalog fuel m m.ended ≡ closing m.store no_handles end → closing_text m.store no_handles end ≡ text_behind catalog fuel m
 unfolding text_behind
-ended_text catalog fuel m end is = sym (closing_is m.store end) ∙ sym (ap text_of is)
+ended_text catalog fuel m end is = sym (closing_is m.store no_handles end) ∙ sym (ap text_of is)
 
 -- a boot is PEI and what follows it
 both_split : (m : PeiMachine) (dxe : DxeMachine) (ended : Option DxeEnd) → text_of (both_lines m dxe ended) ≡ text_of m.lines ++ text_of (dxe_behind m.store dxe ended)

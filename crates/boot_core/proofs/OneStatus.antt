@@ -16,7 +16,7 @@ use Rattle.boot_core.specs.declared.command_line.Command.{Command}
 use Rattle.boot_core.specs.declared.command_line.Command.TheVariants.{Boot, Audit}
 use Rattle.boot_core.specs.CommandLine.{AskFor, verb_of}
 use Rattle.boot_core.specs.FileReading.{IsRead, IsLong, LongVolume, AreImages, IsVolumeName}
-use Rattle.boot_core.specs.Outcome.{Outcome, PlanOutcome, TextOutcome, TextNames, VolumesOutcome, ImagesOutcome, CatalogOutcome, Trail, Kind, OfFiles, OfSink, OfMemory, OfAnswer, Ends, EndsBy, Answered, kind_of, words_usage, words_ask, plan_long, plan_file, plan_refused, plan_read, volume_long, volumes_read, image_refused, images_sound, audited, to_boot, booted, not_built, BootOutcome}
+use Rattle.boot_core.specs.Outcome.{Outcome, PlanOutcome, TextOutcome, TextNames, VolumesOutcome, ImagesOutcome, CatalogOutcome, Trail, Kind, OfFiles, OfSink, OfMemory, OfAnswer, Ends, EndsBy, Answered, kind_of, words_usage, words_ask, plan_long, plan_file, plan_refused, plan_read, volume_long, volumes_read, image_refused, images_sound, audited, to_boot, BootOutcome}
 use Rattle.boot_core.specs.BootEnd.{end_of, status_of}
 use Rattle.boot_core.specs.Causes.{AreTold, IsToldAsBytes, LeadsTo, IsStopped, ComesExactly}
 use Rattle.pi_base.specs.Lists.{Each}
@@ -105,11 +105,8 @@ one_end found a b p q = ap (end_in a) (sym p ∙ q)
     end_in other (Some end) = end
 
 status_of_boot : (plan : Plan) (catalog : Catalog) (images : List (List ℕ)) (a b : Status) (s t : List ℕ) → BootOutcome plan catalog images a s → BootOutcome plan catalog images b t → a ≡ b
-status_of_boot plan catalog images a b s t (booted c built p is x) (booted d again q also y) =
-    is ∙ ap status_of (one_end (end_of (board_of plan catalog images) catalog plan.fuel) c d p q) ∙ sym also
-status_of_boot plan catalog images a b s t (booted c built p is x) (not_built drivers q y) = absurd (true≢false (sym drivers ∙ built))
-status_of_boot plan catalog images a b s t (not_built drivers p x) (booted d built q also y) = absurd (true≢false (sym drivers ∙ built))
-status_of_boot plan catalog images a b s t (not_built drivers p x) (not_built again q y) = p ∙ sym q
+status_of_boot plan catalog images a b s t one other =
+    one.status_is ∙ ap status_of (one_end (end_of (board_of plan catalog images) catalog plan.fuel) one.end other.end one.ended other.ended) ∙ sym other.status_is
 
 status_of_catalog : (command : Command) (plan : Plan) (catalog : Catalog) (images : List (List ℕ)) (a b : Status) (s t : List ℕ) → CatalogOutcome command plan catalog images a s → CatalogOutcome command plan catalog images b t → a ≡ b
 status_of_catalog command plan catalog images a b s t (audited c p x) (audited d q y) = p ∙ sym q

@@ -1,5 +1,5 @@
 -- How a boot that ran is answered.
-use Rattle.std.proofs.Common.{◌≡◌, ℕ, true, false, List, Option, Some, None, Result, Ok, Err, is_some, option_map, refl, sym, inl, inr, subst, true≢false}
+use Rattle.std.proofs.Common.{◌≡◌, ℕ, true, List, Option, Some, None, Result, Ok, Err, is_some, option_map, refl, sym, inl, inr, subst, true≢false}
 use Rattle.std.specs.Prelude.{⊤}
 use Rattle.boot_plan.specs.declared.plan.Plan.{Plan}
 use Rattle.catalog_model.specs.declared.catalog.Catalog.{Catalog}
@@ -20,11 +20,10 @@ use Rattle.boot_core.specs.declared.status.Status.{Status}
 use Rattle.boot_io.specs.declared.halt.Halt.{Halt}
 use Rattle.boot_io.specs.declared.halt.Halt.TheVariants as H
 use Rattle.boot_core.specs.BootEnd.{end_after, end_of, boot_text, status_of}
-use Rattle.boot_core.specs.Outcome.{Kind, OfAnswer, EndsBy, Ends, Answered, SinkFailed, Begun, BootOutcome, Trail, IsOfRun, booted, kind_of}
+use Rattle.boot_core.specs.Outcome.{Kind, OfAnswer, EndsBy, Ends, Answered, SinkFailed, Begun, BootOutcome, Trail, IsOfRun, kind_of}
 use Rattle.boot_core.specs.Outcome as O
 use Rattle.boot_core.specs.Running.{RunsTo, status_after_run}
 use Rattle.boot_io.specs.Halted.{HaltsAfter}
-use Rattle.dxe_stop.specs.Drivers.{has_drivers}
 
 -- each boot has a result
 mapped_end : (ended : Option DxeEnd) → is_some ended ≡ true → (end : RunEnd) × (option_map dxe_result ended ≡ Some end)
@@ -66,33 +65,33 @@ abbrev left_by : Option (List ℕ) → Option (List ℕ) → ℕ → ℕ → Tra
 left_by old new sb sn = record { old = old; new = new; sink_before = sb; sink_now = sn; files_before = 0; files_now = 0; missed = None }
 
 pub run_ends : PeiRunsEnd → DxeRunsEnd → (ran : Result RunEnd Halt) (plan : Plan) (catalog : Catalog) (images : List (List ℕ)) (result : Status) (old new : Option (List ℕ)) (sb sn : ℕ) → AreNumbered 0 catalog.volumes
-    → result ≡ status_after_run ran → has_drivers catalog ≡ false → RunsTo (board_of plan catalog images) catalog plan.fuel (record { old = old; new = new }) ran → HaltsAfter ran sb sn
+    → result ≡ status_after_run ran → RunsTo (board_of plan catalog images) catalog plan.fuel (record { old = old; new = new }) ran → HaltsAfter ran sb sn
     → Ends (BootOutcome plan catalog images) (λ _. ⊥) ⊤ result (record { old = old; new = new; sink_before = sb; sink_now = sn; files_before = 0; files_now = 0; missed = None })
-run_ends pei dxe (Ok end) plan catalog images result old new sb sn numbered is none told counted =
+run_ends pei dxe (Ok end) plan catalog images result old new sb sn numbered is told counted =
     let board = board_of plan catalog images in
     let t : Trail = left_by old new sb sn in
     let Out : Status → List ℕ → Type 0 = BootOutcome plan catalog images in
     let P : Kind → Type 0 = λ k. EndsBy k Out (λ _. ⊥) ⊤ (status_of end) t in
     let Q : Status → Type 0 = λ s. Ends Out (λ _. ⊥) ⊤ s t in
-    let outcome : Out (status_of end) (boot_text board catalog plan.fuel) = booted end none told.0 refl refl in
+    let outcome : Out (status_of end) (boot_text board catalog plan.fuel) = record { end = end; ended = told.0; status_is = refl; text_is = refl } in
     let answered : Answered Out (status_of end) t = record { sink = counted; files = refl; text = boot_text board catalog plan.fuel; outcome = outcome; whole = told.1 } in
     subst Q (sym is) (subst P (sym (answer_of end)) answered)
-run_ends pei dxe (Err H.Sink) plan catalog images result old new sb sn numbered is none told counted =
+run_ends pei dxe (Err H.Sink) plan catalog images result old new sb sn numbered is told counted =
     let board = board_of plan catalog images in
     let t : Trail = left_by old new sb sn in
     let Out : Status → List ℕ → Type 0 = BootOutcome plan catalog images in
     let Q : Status → Type 0 = λ s. Ends Out (λ _. ⊥) ⊤ s t in
     let ends = boot_ends pei dxe board catalog plan.fuel numbered in
-    let outcome : Out (status_of ends.0) (boot_text board catalog plan.fuel) = booted ends.0 none ends.1 refl refl in
+    let outcome : Out (status_of ends.0) (boot_text board catalog plan.fuel) = record { end = ends.0; ended = ends.1; status_is = refl; text_is = refl } in
     let failed : SinkFailed Out (λ _. ⊥) t = record { sink = counted.1; text = boot_text board catalog plan.fuel; cause = inl (status_of ends.0, outcome); part = told } in
     subst Q (sym is) failed
-run_ends pei dxe (Err H.Memory) plan catalog images result old new sb sn numbered is none told counted =
+run_ends pei dxe (Err H.Memory) plan catalog images result old new sb sn numbered is told counted =
     let board = board_of plan catalog images in
     let t : Trail = left_by old new sb sn in
     let Out : Status → List ℕ → Type 0 = BootOutcome plan catalog images in
     let Q : Status → Type 0 = λ s. Ends Out (λ _. ⊥) ⊤ s t in
     let ends = boot_ends pei dxe board catalog plan.fuel numbered in
-    let outcome : Out (status_of ends.0) (boot_text board catalog plan.fuel) = booted ends.0 none ends.1 refl refl in
+    let outcome : Out (status_of ends.0) (boot_text board catalog plan.fuel) = record { end = ends.0; ended = ends.1; status_is = refl; text_is = refl } in
     let begun : Begun Out ⊤ old new = record { boots = tt; status = status_of ends.0; ran = ran_of ends.0; text = boot_text board catalog plan.fuel; outcome = outcome; part = told } in
     let wanting : O.NoMemory Out ⊤ t = record { sink = counted; files = refl; kept = inr begun } in
     subst Q (sym is) wanting

@@ -1,6 +1,6 @@
 -- What the parts of a boot leave, by their answers: their whole text, or a part of it where the sink fails or memory is wanting.
 -- Own.
-use Rattle.std.specs.Prelude.{◌≡◌, ℕ, List, [], ◌∷◌, ◌++◌, Option, Some, None, option_map, Result, Ok, Err}
+use Rattle.std.specs.Prelude.{◌≡◌, ℕ, List, [], ◌∷◌, ◌++◌, Option, Some, None, option_map, flat_map, length, Result, Ok, Err}
 use Rattle.std.specs.Io.KnownBytes.{Appends}
 use Rattle.boot_io.specs.Sink.{AppendsPart}
 use Rattle.catalog_model.specs.declared.catalog.Catalog.{Catalog}
@@ -12,18 +12,18 @@ use Rattle.boot_model.specs.BootRun.{handle_lines, dxe_result}
 use Rattle.boot_model.specs.DxeMachine.{DxeMachine}
 use Rattle.boot_model.specs.declared.phase_end.DxeEnd.{DxeEnd}
 use Rattle.boot_model.specs.DxeRun.{dxe_end}
-use Rattle.store_model.specs.HandleState.{HandleState, no_handles}
+use Rattle.store_model.specs.HandleState.{HandleState, Interface, no_handles}
 use Rattle.boot_model.specs.Listing.{store_lines}
 use Rattle.boot_model.specs.PeiMachine.{PeiMachine}
 use Rattle.boot_model.specs.declared.phase_end.PeiEnd.{PeiEnd}
 use Rattle.boot_model.specs.declared.phase_end.PeiEnd.TheVariants.{Handoff, NoMemory, NoIpl, Spent, Deep}
 use Rattle.store_model.specs.StoreState.{StoreState, Board}
-use Rattle.boot_model.specs.Text.{text_of}
+use Rattle.boot_model.specs.Text.{line_text, text_of}
 use Rattle.boot_io.specs.declared.halt.Halt.{Halt}
 use Rattle.boot_io.specs.declared.halt.Halt.TheVariants as H
 use Rattle.boot_core.specs.declared.status.Status.{Status}
 use Rattle.boot_core.specs.declared.status.Status.TheVariants as V
-use Rattle.boot_core.specs.BootEnd.{end_of, boot_text, status_of}
+use Rattle.boot_core.specs.BootEnd.{end_after, end_of, boot_text, status_of}
 
 -- a sink's text before and after
 pub record Texts : Type 0 where
@@ -39,12 +39,17 @@ Tells Is text t (Err halt) = AppendsPart t.old t.new text
 abbrev pub closing : StoreState → HandleState → RunEnd → List Line
 closing s handles end = store_lines s ++ handle_lines handles ++ L.Result end ∷ []
 
--- the text of the handles, of which there are none, and of the result
-unfoldable pub result_text : RunEnd → List ℕ
-result_text end = text_of (L.Handles 0 ∷ L.Result end ∷ [])
+-- the text of an interface
+unfoldable pub interface_text : Interface → List ℕ
+interface_text i = line_text (L.Handle i.handle i.guid i.value)
 
-abbrev pub closing_text : StoreState → RunEnd → List ℕ
-closing_text s end = text_of (store_lines s) ++ result_text end
+-- the text of the handles and of the result
+unfoldable pub result_text : HandleState → RunEnd → List ℕ
+result_text handles end = line_text (L.Handles (length handles.interfaces)) ++ flat_map interface_text handles.interfaces ++ line_text (L.Result end)
+
+-- the text of the last lines, over a store
+abbrev pub closing_text : StoreState → HandleState → RunEnd → List ℕ
+closing_text s handles end = text_of (store_lines s) ++ result_text handles end
 
 -- the lines behind the hand-off
 abbrev pub dxe_behind : StoreState → DxeMachine → Option DxeEnd → List Line
@@ -68,9 +73,21 @@ IsResult dxe end = option_map dxe_result dxe.ended ≡ Some end
 unfoldable pub dxe_text : StoreState → DxeMachine → List ℕ
 dxe_text s dxe = text_of (dxe_behind s dxe dxe.ended)
 
+-- so a DXE over a store is told, behind a PEI that took so many actions
+abbrev pub BootsDxe : Catalog → ℕ → ℕ → Texts → Result RunEnd Halt → StoreState → Type 0
+BootsDxe catalog fuel taken t ran s = Tells (IsResult (dxe_end catalog fuel s taken)) (dxe_text s (dxe_end catalog fuel s taken)) t ran
+
 -- what follows PEI, to the last line
 unfoldable pub text_behind : Catalog → ℕ → PeiMachine → List ℕ
 text_behind catalog fuel pei = text_of (behind catalog fuel pei pei.ended)
+
+-- PEI has ended so in this machine, with so many actions
+abbrev pub IsEndOf : PeiEnd → ℕ → PeiMachine → Type 0
+IsEndOf how taken pei = (pei.ended ≡ Some how) × (taken ≡ pei.actions)
+
+-- what follows PEI is told
+abbrev pub TellsBehind : Catalog → ℕ → PeiMachine → Texts → Result RunEnd Halt → Type 0
+TellsBehind catalog fuel pei t ran = Tells (λ end. end_after catalog fuel pei pei.ended ≡ Some end) (text_behind catalog fuel pei) t ran
 
 -- a boot, from its first line to its last
 abbrev pub RunsTo : Board → Catalog → ℕ → Texts → Result RunEnd Halt → Type 0

@@ -1,22 +1,21 @@
 // A boot over a store that is as it was made.
-ghost use Rattle.std.specs.Prelude.{◌≡◌, ◌≤◌, ℕ, Some, false, length};
+ghost use Rattle.std.specs.Prelude.{◌≡◌, ◌≤◌, length};
 ghost use Rattle.boot_model.specs.BootRun.{dxe_result};
-ghost use Rattle.boot_model.specs.DxeRun.{dxe_end};
 ghost use Rattle.boot_model.specs.PeiMachine.{PeiMachine};
 ghost use Rattle.store_model.specs.Service.{Present, OfEach};
 ghost use Rattle.store_model.specs.StoreCall.{Anything};
+ghost use Rattle.store_model.specs.HandleState.{no_handles};
 ghost use Rattle.store_model.specs.StoreState.{Board, empty_store};
 ghost use Rattle.catalog_model.specs.WellFormed.{IsWellFormed};
-ghost use Rattle.boot_core.specs.BootEnd.{end_after};
-ghost use Rattle.boot_core.specs.Running.{Tells, RunsTo, IsResult, dxe_text, text_behind};
+ghost use Rattle.boot_core.specs.Running.{BootsDxe, IsEndOf, RunsTo, Tells, TellsBehind, closing_text};
 ghost use Rattle.boot_io.specs.Halted.{HaltsAfter};
-ghost use Rattle.dxe_stop.specs.Drivers.{has_drivers};
 
 use crate::closing::close;
 use boot_io::{Halt, Sink};
 use boot_model::{DxeEnd, PeiEnd, RunEnd};
 use catalog_model::Catalog;
-use dxe_stop::stop_without_drivers;
+use dxe_dispatch::boot_dxe;
+use dxe_handles::Handles;
 use pei_dispatch::{Ended, boot_pei};
 use std::alloc::Global;
 use store_model::PeiStore;
@@ -33,39 +32,56 @@ fn result_of(end: DxeEnd) -> RunEnd
 }
 
 // DXE behind the hand-off, to the last line.
-fn boot_dxe<M: PeiStore, S: Sink>(
+fn boot_drivers<M: PeiStore, S: Sink>(
+    alloc: Global,
     store: &M,
     catalog: &Catalog,
+    fuel: u32,
+    taken: u32,
     sink: &mut S,
 ) -> Result<RunEnd, Halt>
     requires catalog { IsWellFormed catalog.now }
-    requires none { has_drivers catalog.now ≡ false }
     requires state { Present (M.stands_for store.now) Anything }
-    ensures row { OfEach (M.stands_for store.now) Anything (λ s. (fuel actions : ℕ) → Tells (IsResult (dxe_end catalog.now fuel s actions)) (dxe_text s (dxe_end catalog.now fuel s actions)) (record { old = S.text sink.old; new = S.text sink.new }) result) }
+    ensures row { OfEach (M.stands_for store.now) Anything (BootsDxe catalog.now fuel taken (record { old = S.text sink.old; new = S.text sink.new }) result) }
     ensures faults { HaltsAfter result (S.faults sink.old) (S.faults sink.new) }
 {
-    let end = stop_without_drivers(store, catalog, sink)?;
-    close(store, result_of(end), sink)
+    let ended = boot_dxe(alloc, store, catalog, fuel, taken, sink)?;
+    close(store, &ended.handles, result_of(ended.end), sink)
+}
+
+// The last lines of a boot that ended in PEI, where there are no handles.
+fn close_pei<M: PeiStore, S: Sink>(
+    alloc: Global,
+    store: &M,
+    end: RunEnd,
+    sink: &mut S,
+) -> Result<RunEnd, Halt>
+    requires state { Present (M.stands_for store.now) Anything }
+    ensures row { OfEach (M.stands_for store.now) Anything (λ s. Tells (λ answer. answer ≡ end) (closing_text s no_handles end) (record { old = S.text sink.old; new = S.text sink.new }) result) }
+    ensures faults { HaltsAfter result (S.faults sink.old) (S.faults sink.new) }
+{
+    close(store, &Handles::new(alloc), end, sink)
 }
 
 // What follows PEI, to the last line.
 fn boot_behind<M: PeiStore + Drop, S: Sink>(
+    alloc: Global,
     pei: &Ended<M>,
     catalog: &Catalog,
+    fuel: u32,
     sink: &mut S,
 ) -> Result<RunEnd, Halt>
     requires catalog { IsWellFormed catalog.now }
-    requires none { has_drivers catalog.now ≡ false }
     requires state { Present (M.stands_for pei.now.store) Anything }
-    ensures row { (m : PeiMachine) (fuel : ℕ) → M.stands_for pei.now.store m.store → m.ended ≡ Some pei.now.end → Tells (λ end. end_after catalog.now fuel m m.ended ≡ Some end) (text_behind catalog.now fuel m) (record { old = S.text sink.old; new = S.text sink.new }) result }
+    ensures row { (m : PeiMachine) → M.stands_for pei.now.store m.store → IsEndOf pei.now.end pei.now.actions m → TellsBehind catalog.now fuel m (record { old = S.text sink.old; new = S.text sink.new }) result }
     ensures faults { HaltsAfter result (S.faults sink.old) (S.faults sink.new) }
 {
     match pei.end {
-        PeiEnd::Handoff => boot_dxe(&pei.store, catalog, sink),
-        PeiEnd::NoMemory => close(&pei.store, RunEnd::NoMemory, sink),
-        PeiEnd::NoIpl => close(&pei.store, RunEnd::NoIpl, sink),
-        PeiEnd::Spent => close(&pei.store, RunEnd::Spent, sink),
-        PeiEnd::Deep => close(&pei.store, RunEnd::Deep, sink),
+        PeiEnd::Handoff => boot_drivers(alloc, &pei.store, catalog, fuel, pei.actions, sink),
+        PeiEnd::NoMemory => close_pei(alloc, &pei.store, RunEnd::NoMemory, sink),
+        PeiEnd::NoIpl => close_pei(alloc, &pei.store, RunEnd::NoIpl, sink),
+        PeiEnd::Spent => close_pei(alloc, &pei.store, RunEnd::Spent, sink),
+        PeiEnd::Deep => close_pei(alloc, &pei.store, RunEnd::Deep, sink),
     }
 }
 
@@ -79,11 +95,10 @@ pub(crate) fn boot_store<M: PeiStore + Drop, S: Sink>(
 ) -> Result<RunEnd, Halt>
     requires catalog { IsWellFormed catalog.now }
     requires some { 1 ≤ length catalog.now.volumes }
-    requires none { has_drivers catalog.now ≡ false }
     requires opening { (board : Board) × M.stands_for store (empty_store board) }
     ensures row { (board : Board) → M.stands_for store (empty_store board) → RunsTo board catalog.now fuel (record { old = S.text sink.old; new = S.text sink.new }) result }
     ensures faults { HaltsAfter result (S.faults sink.old) (S.faults sink.new) }
 {
     let pei = boot_pei(alloc, store, catalog, fuel, sink)?;
-    boot_behind(&pei, catalog, sink)
+    boot_behind(alloc, &pei, catalog, fuel, sink)
 }

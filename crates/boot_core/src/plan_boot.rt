@@ -1,5 +1,5 @@
 // The boot of a plan whose images have a catalogue.
-ghost use Rattle.std.specs.Prelude.{◌≡◌, ◌≤◌, [], None, false, length, ⊤};
+ghost use Rattle.std.specs.Prelude.{◌≡◌, ◌≤◌, [], None, length, ⊤};
 ghost use Rattle.store_model.specs.StateFacts.{IsBoard};
 ghost use Rattle.boot_model.specs.PlanBoard.{board_of};
 ghost use Rattle.catalog_model.specs.WellFormed.{IsWellFormed};
@@ -7,19 +7,15 @@ ghost use Rattle.boot_core.specs.BootEnd.{status_of};
 ghost use Rattle.boot_core.specs.Outcome.{Ends, BootOutcome};
 ghost use Rattle.boot_core.specs.Running.{RunsTo, status_after_run};
 ghost use Rattle.boot_io.specs.Halted.{HaltsAfter};
-ghost use Rattle.dxe_stop.specs.Drivers.{has_drivers};
 
-use crate::answer::answer;
 use crate::board::roms;
 use crate::boot_run::boot_store;
-use crate::refusal_print::put_not_built;
 use crate::status::Status;
 use boot_io::{Halt, Sink};
 use boot_laws::{dxe_runs_end, pei_runs_end};
 use boot_model::RunEnd;
 use boot_plan::Plan;
 use catalog_model::Catalog;
-use dxe_stop::has_drivers;
 use phys_mem::Rom;
 use pi_base::Seq;
 use std::alloc::Global;
@@ -60,7 +56,6 @@ fn boot_board<S: Sink>(
     requires board { IsBoard (record (board_of plan.now catalog.now []) { roms = roms }) }
     requires catalog { IsWellFormed catalog.now }
     requires some { 1 ≤ length catalog.now.volumes }
-    requires none { has_drivers catalog.now ≡ false }
     ensures row { RunsTo (record (board_of plan.now catalog.now []) { roms = roms }) catalog.now plan.now.fuel (record { old = S.text sink.old; new = S.text sink.new }) result }
     ensures faults { HaltsAfter result (S.faults sink.old) (S.faults sink.new) }
 {
@@ -79,7 +74,6 @@ fn boot_images<S: Sink>(
     requires board { IsBoard (board_of plan.now catalog.now images) }
     requires catalog { IsWellFormed catalog.now }
     requires some { 1 ≤ length catalog.now.volumes }
-    requires none { has_drivers catalog.now ≡ false }
     ensures row { RunsTo (board_of plan.now catalog.now images) catalog.now plan.now.fuel (record { old = S.text sink.old; new = S.text sink.new }) result }
     ensures faults { HaltsAfter result (S.faults sink.old) (S.faults sink.new) }
 {
@@ -87,7 +81,7 @@ fn boot_images<S: Sink>(
     boot_board(alloc, plan, catalog, roms, sink)
 }
 
-/// Boots a plan, unless a module for DXE is among its images.
+/// Boots a plan whose images have this catalogue, and answers the status of its run.
 pub(crate) fn boot_catalog<S: Sink>(
     alloc: Global,
     plan: &Plan,
@@ -108,13 +102,8 @@ pub(crate) fn boot_catalog<S: Sink>(
       missed = None;
     }) }
 {
-    if has_drivers(catalog) {
-        let put = put_not_built(sink);
-        answer(put, Status::ImageRefused)
-    } else {
-        pei_runs_end();
-        dxe_runs_end();
-        let ran = boot_images(alloc, plan, catalog, images, sink);
-        answer_run(ran)
-    }
+    pei_runs_end();
+    dxe_runs_end();
+    let ran = boot_images(alloc, plan, catalog, images, sink);
+    answer_run(ran)
 }

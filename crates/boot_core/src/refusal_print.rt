@@ -1,12 +1,12 @@
 // The lines of the refusals.
 ghost use Rattle.boot_io.specs.Sink.{Puts, SinkFaultsAfter};
-ghost use Rattle.boot_core.specs.Lines.{usage_line, file_line, long_line, plan_line, image_line, not_built_line};
+ghost use Rattle.boot_core.specs.Lines.{usage_line, file_line, long_line, plan_line, image_line};
 
 use boot_io::{Sink, SinkFault};
 use boot_model::Line;
 use boot_plan::PlanFault;
 use boot_trace::{Out, put};
-use catalog_model::{ImageCause, ImageFault};
+use catalog_model::ImageFault;
 
 /// The refusal of the words.
 #[tactic(auto, unfolding(crate::specs::Lines::usage_line))]
@@ -58,21 +58,4 @@ pub(crate) fn put_image_refusal<S: Sink>(sink: &mut S, fault: ImageFault) -> Res
     let at = fault.at;
     let cause = fault.cause;
     put(sink, &Line::RefusedImage { volume, at, cause })
-}
-
-/// The refusal of a form that is not built yet.
-#[tactic(auto, unfolding(crate::specs::Lines::not_built_line))]
-pub(crate) fn put_not_built<S: Sink>(sink: &mut S) -> Result<(), SinkFault>
-    ensures text { Puts result (S.text sink.old) (S.text sink.new) not_built_line }
-    ensures cause { SinkFaultsAfter result (S.faults sink.old) (S.faults sink.new) }
-{
-    let cause = ImageCause::NotBuilt;
-    put(
-        sink,
-        &Line::RefusedImage {
-            volume: 0,
-            at: 0,
-            cause,
-        },
-    )
 }

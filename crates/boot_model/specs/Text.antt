@@ -146,7 +146,6 @@ image_cause_text I.TooManyModules = codes "TooManyModules"
 image_cause_text I.Place = codes "Place"
 image_cause_text I.TooManyVolumes = codes "TooManyVolumes"
 image_cause_text I.ScriptTotal = codes "ScriptTotal"
-image_cause_text I.NotBuilt = codes "NotBuilt"
 image_cause_text I.Memory = codes "Memory"
 
 -- the word of an expression, and what goes with it in the same word

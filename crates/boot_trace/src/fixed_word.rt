@@ -146,7 +146,6 @@ pub(crate) fn image_cause_word(cause: ImageCause) -> &'static [u8]
         ImageCause::Place => b"Place",
         ImageCause::TooManyVolumes => b"TooManyVolumes",
         ImageCause::ScriptTotal => b"ScriptTotal",
-        ImageCause::NotBuilt => b"NotBuilt",
         ImageCause::Memory => b"Memory",
     }
 }

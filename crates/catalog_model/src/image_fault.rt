@@ -41,8 +41,6 @@ pub enum ImageCause {
     TooManyVolumes = 53,
     /// All scripts together pass `MOST_SCRIPT_BYTES`.
     ScriptTotal = 54,
-    /// The image is of a form that is not built yet.
-    NotBuilt = 60,
     /// Want of memory.
     Memory = 61,
 }

@@ -1,5 +1,5 @@
 //! DXE behind a hand-off.
-ghost use Rattle.std.specs.Prelude.{◌≡◌};
+ghost use Rattle.std.specs.Prelude.{◌≡◌, ◌<◌, ◌^◌, IfOk, length};
 ghost use Rattle.boot_io.specs.Halted.{HaltsAfter};
 ghost use Rattle.catalog_model.specs.WellFormed.{IsWellFormed};
 ghost use Rattle.store_model.specs.Service.{Present, OfEach};
@@ -34,6 +34,7 @@ pub fn boot_dxe<M: PeiStore, S: Sink>(
     requires catalog { IsWellFormed catalog.now }
     requires state { Present (M.stands_for store.now) Anything }
     ensures row { OfEach (M.stands_for store.now) Anything (Boots catalog.now fuel taken (S.text sink.old) (S.text sink.new) result) }
+    ensures few { IfOk result (λ ended. length ended.handles.interfaces < 2 ^ 32) }
     ensures faults { HaltsAfter result (S.faults sink.old) (S.faults sink.new) }
 {
     store.fv_bases()?;

@@ -88,6 +88,13 @@ impl Handles {
         self.interfaces.len()
     }
 
+    /// The interfaces, in order of handle, and on a handle in order of install.
+    pub fn interfaces(&self) -> &[Interface]
+        ensures { result.now ≡ self.now.interfaces }
+    {
+        self.interfaces.as_slice()
+    }
+
     /// The interface at a place, in order of handle, and on a handle in order of install.
     pub fn nth(&self, place: u32) -> Option<Interface>
         ensures { result ≡ slice_get self.now.interfaces place }

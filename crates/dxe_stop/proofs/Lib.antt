@@ -1,2 +1,0 @@
-mod NoDrivers
-mod Texts

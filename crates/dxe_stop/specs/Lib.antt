@@ -1,2 +1,0 @@
-pub mod Drivers
-pub mod Stop
