@@ -30,18 +30,18 @@ pub record Laws : Type 0 where
   pub catalogue_or_fault : (plan : Plan) (images : List (List ℕ)) (catalog : Catalog) (fault : ImageFault) → Each AreBytes images → IsCatalogue plan images catalog → IsImageFault plan images fault → ⊥
 
 -- a told content is one
-one_content : (told : Option (List ℕ)) → IsSome told → (c d : List ℕ) → IsTold told c → IsTold told d → c ≡ d
+pub one_content : (told : Option (List ℕ)) → IsSome told → (c d : List ℕ) → IsTold told c → IsTold told d → c ≡ d
 one_content None some c d p q = absurd (true≢false (sym some))
 one_content (Some x) some c d p q = sym p ∙ q
 
 -- it is not both within a limit and over it
-within_or_over : (told : Option (List ℕ)) (limit : ℕ) → IsSome told → (c d : List ℕ) → IsLong told limit c → IsRead told limit d → ⊥
+pub within_or_over : (told : Option (List ℕ)) (limit : ℕ) → IsSome told → (c d : List ℕ) → IsLong told limit c → IsRead told limit d → ⊥
 within_or_over told limit some c d long read =
     let same : length c ≡ length d = ap length (one_content told some c d long.as_told read.as_told) in
     omega (arith, same, long.over, read.within)
 
 -- the files of some volumes are told
-abbrev VolumesTold : (List ℕ → Option (List ℕ)) → List PlanVolume → Type 0
+abbrev pub VolumesTold : (List ℕ → Option (List ℕ)) → List PlanVolume → Type 0
 VolumesTold told volumes = (name : List ℕ) → IsVolumeName volumes name → IsToldAsBytes (told name)
 
 name_behind : (volume : PlanVolume) (volumes : List PlanVolume) (name : List ℕ) → IsVolumeName volumes name → IsVolumeName (volume ∷ volumes) name
@@ -59,7 +59,7 @@ told_bytes None none content is = absurd none
 told_bytes (Some told) are content is = subst AreBytes is are
 
 -- told images are of bytes
-images_bytes : (told : List ℕ → Option (List ℕ)) (volumes : List PlanVolume) → VolumesTold told volumes → (images : List (List ℕ)) → AreImages told volumes images → Each AreBytes images
+pub images_bytes : (told : List ℕ → Option (List ℕ)) (volumes : List PlanVolume) → VolumesTold told volumes → (images : List (List ℕ)) → AreImages told volumes images → Each AreBytes images
 images_bytes told [] all [] read = tt
 images_bytes told [] all (image ∷ images) read = absurd read
 images_bytes told (volume ∷ volumes) all [] read = absurd read
@@ -67,7 +67,7 @@ images_bytes told (volume ∷ volumes) all (image ∷ images) read =
     (told_bytes (told volume.name) (first_told told volume volumes all) image read.0.as_told, images_bytes told volumes (λ n o. all n (name_behind volume volumes n o)) images read.1)
 
 -- told files have one list of images
-one_images : (told : List ℕ → Option (List ℕ)) (volumes : List PlanVolume) → VolumesTold told volumes → (a b : List (List ℕ)) → AreImages told volumes a → AreImages told volumes b → a ≡ b
+pub one_images : (told : List ℕ → Option (List ℕ)) (volumes : List PlanVolume) → VolumesTold told volumes → (a b : List (List ℕ)) → AreImages told volumes a → AreImages told volumes b → a ≡ b
 one_images told [] all [] [] p q = refl
 one_images told [] all [] (y ∷ b) p q = absurd q
 one_images told [] all (x ∷ a) b p q = absurd p
@@ -86,7 +86,7 @@ images_or_long told [] volume behind some content long (image ∷ images) read =
 images_or_long told (first ∷ before) volume behind some content long [] read = read
 images_or_long told (first ∷ before) volume behind some content long (image ∷ images) read = images_or_long told before volume behind some content long images read.1
 
-boot_or_audit : (command : Command) → command ≡ Boot → command ≡ Audit → ⊥
+pub boot_or_audit : (command : Command) → command ≡ Boot → command ≡ Audit → ⊥
 boot_or_audit Boot p q = absurd (no_boot q)
   where
     no_boot : Boot ≡ Audit → ⊥
@@ -122,7 +122,7 @@ status_of_images laws command plan images are a b s t (images_sound c sound o) (
     let P : Catalog → Type 0 = λ x. CatalogOutcome command plan x images b t in
     status_of_catalog command plan c images a b s t o (subst P (laws.catalogues plan images d c also sound) u)
 
-long_told : (told : List ℕ → Option (List ℕ)) (volumes : List PlanVolume) (status : Status) (text : List ℕ) → VolumesTold told volumes → LongVolume told volumes status text → (images : List (List ℕ)) → AreImages told volumes images → ⊥
+pub long_told : (told : List ℕ → Option (List ℕ)) (volumes : List PlanVolume) (status : Status) (text : List ℕ) → VolumesTold told volumes → LongVolume told volumes status text → (images : List (List ℕ)) → AreImages told volumes images → ⊥
 long_told told volumes status text all o images read =
     let some = some_told (told o.volume.name) (all o.volume.name (record { before = o.before; volume = o.volume; behind = o.behind; these = o.these; is = refl })) in
     let P : List PlanVolume → Type 0 = λ vs. AreImages told vs images in
@@ -138,7 +138,7 @@ status_of_volumes laws told command plan all a b s t (volumes_read images read o
     status_of_images laws command plan images (images_bytes told plan.volumes all images read) a b s t o (subst P (one_images told plan.volumes all others images again read) u)
 
 -- the files that a text names are told
-abbrev TextTold : (List ℕ → Option (List ℕ)) → List ℕ → Type 0
+abbrev pub TextTold : (List ℕ → Option (List ℕ)) → List ℕ → Type 0
 TextTold told content = (name : List ℕ) → TextNames content name → IsToldAsBytes (told name)
 
 status_of_text : Laws → (told : List ℕ → Option (List ℕ)) (command : Command) (content : List ℕ) → TextTold told content
@@ -151,7 +151,7 @@ status_of_text laws told command content all a b s t (plan_read plan read o) (pl
     status_of_volumes laws told command plan (λ n names. all n (plan, read, names)) a b s t o (subst P (laws.plans content other plan again read) u)
 
 -- the files that a told plan's text names are told
-abbrev PlanTold : (List ℕ → Option (List ℕ)) → List ℕ → Type 0
+abbrev pub PlanTold : (List ℕ → Option (List ℕ)) → List ℕ → Type 0
 PlanTold told plan = (content name : List ℕ) → IsTold (told plan) content → TextNames content name → IsToldAsBytes (told name)
 
 status_of_plan : Laws → (told : List ℕ → Option (List ℕ)) (command : Command) (plan : List ℕ) → IsSome (told plan) → PlanTold told plan
@@ -172,7 +172,7 @@ first (x ∷ rest) = x
 first [] = []
 
 -- words name one plan
-one_plan : (words : List (List ℕ)) (command another : Command) (plan other : List ℕ) → AskFor words command plan → AskFor words another other → other ≡ plan
+pub one_plan : (words : List (List ℕ)) (command another : Command) (plan other : List ℕ) → AskFor words command plan → AskFor words another other → other ≡ plan
 one_plan words command another plan other p q = ap second (sym q.0 ∙ p.0)
 
 -- the two verbs differ in their length
@@ -186,11 +186,11 @@ one_command Audit Boot e = absurd (omega (arith, e))
 one_command Audit Audit e = refl
 
 -- and ask for one thing
-one_asked : (words : List (List ℕ)) (command another : Command) (plan other : List ℕ) → AskFor words command plan → AskFor words another other → another ≡ command
+pub one_asked : (words : List (List ℕ)) (command another : Command) (plan other : List ℕ) → AskFor words command plan → AskFor words another other → another ≡ command
 one_asked words command another plan other p q = one_command command another (ap (λ ws. length (first ws)) (sym p.0 ∙ q.0))
 
 -- the files of a plan that the words name are told
-plan_told : (told : List ℕ → Option (List ℕ)) (words : List (List ℕ)) (command : Command) (plan : List ℕ) → AreTold told words → AskFor words command plan → PlanTold told plan
+pub plan_told : (told : List ℕ → Option (List ℕ)) (words : List (List ℕ)) (command : Command) (plan : List ℕ) → AreTold told words → AskFor words command plan → PlanTold told plan
 plan_told told words command plan all is content name as_told names = told_with (told plan) (all.plan_file command plan is) content as_told (λ e. all.volume_file command plan content name is e names)
   where
     told_with : {P : Type 0} → (known : Option (List ℕ)) → IsSome known → (content : List ℕ) → IsTold known content → (known ≡ Some content → P) → P
