@@ -89,8 +89,8 @@ const REALISTIC_TEXT: Text<'static> = Text {
     tail: &[],
 };
 
-/// Each boot, its text and its status.
-pub(super) const BOOTS: [(Case<'static>, Text<'static>, Status); 7] = [
+/// Which driver starts when: each boot, its text and its status.
+pub(super) const ORDERS: [(Case<'static>, Text<'static>, Status); 3] = [
     // Drivers before and after another, with a companion of a companion.
     (
         Case {
@@ -127,6 +127,10 @@ pub(super) const BOOTS: [(Case<'static>, Text<'static>, Status); 7] = [
         SCHEDULE_TEXT,
         Status::Done,
     ),
+];
+
+/// What drivers call: each boot, its text and its status.
+pub(super) const SERVICES: [(Case<'static>, Text<'static>, Status); 3] = [
     // The handle services and a protocol notification inside its call.
     (
         Case {
@@ -165,6 +169,10 @@ pub(super) const BOOTS: [(Case<'static>, Text<'static>, Status); 7] = [
         FRAMES_FUEL_75_TEXT,
         Status::Deep,
     ),
+];
+
+/// A whole boot, its text and its status.
+pub(super) const REALISTIC: [(Case<'static>, Text<'static>, Status); 1] = [
     // A reported volume, a nested one, thirteen architectural protocols, and a driver without an expression.
     (
         Case {
