@@ -33,7 +33,8 @@ pub record AreServicesOf (catalog : Catalog) (m : DxeMachine) (s : Services) : T
 abbrev pub AreServicesFor : Catalog → Services → Type 0
 AreServicesFor catalog s = length s.requested ≡ length catalog.modules
 
--- no more handles were made, and no more notifications registered, than actions were taken
+-- no more handles were made, interfaces stand and notifications are registered than actions were taken
 pub record AreCounted (actions : ℕ) (s : Services) : Type 0 where
   pub made : s.handles.made ≤ actions
+  pub interfaces : length s.handles.interfaces ≤ actions
   pub notes : length s.notes ≤ actions
