@@ -1,1 +1,3 @@
 mod Listed
+mod NamesMore
+mod OrderMore
