@@ -1,3 +1,4 @@
 mod Listed
 mod NamesMore
 mod OrderMore
+mod BasesMore
