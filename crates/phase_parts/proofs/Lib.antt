@@ -1,1 +1,2 @@
 mod VolumeParts
+mod FewParts

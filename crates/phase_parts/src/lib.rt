@@ -7,3 +7,6 @@ mod wanted;
 
 pub use expression::depex_holds;
 pub use parts::Parts;
+
+#[cfg(test)]
+mod tests;
