@@ -6,3 +6,6 @@ mod names;
 mod order;
 
 pub use order::DriverOrder;
+
+#[cfg(test)]
+mod tests;
