@@ -1,7 +1,7 @@
 // A catalogue made by hand: volumes that are discovered in one order or another, and what is found by the names of files.
-ghost use Rattle.std.specs.Prelude.{◌≡◌, ◌<◌, Some, None, length, IfOk};
-ghost use Rattle.catalog_model.specs.WellFormed.{IsWellFormed, IsShortExpression};
-ghost use Rattle.pi_base.specs.declared.phase.Phase.TheVariants.{Dxe as InDxe};
+ghost use Rattle.std.specs.Prelude.{◌≡◌, ◌<◌, [], Some, None, length, IfOk};
+ghost use Rattle.catalog_model.specs.WellFormed.{IsWellFormed, IsExpressionOf, IsShortExpression};
+ghost use Rattle.pi_base.specs.declared.phase.Phase.TheVariants.{Pei as InPei, Dxe as InDxe};
 
 use super::*;
 use act_code::Script;
@@ -68,25 +68,52 @@ fn driver(alloc: Global, volume: u32, at: u64, name: Guid, expr: PartExpr) -> Mo
     }
 }
 
+// A PEIM of a volume.
+fn peim(alloc: Global, volume: u32, at: u64, name: Guid, expr: PartExpr) -> Module
+    ensures volume { result.volume ≡ volume }
+    ensures at { result.at ≡ at }
+    ensures part { result.pei ≡ Some (record { rank = None; expr = expr; script = record { phase = InPei; blocks = [] } }) }
+    ensures driver { result.dxe ≡ None }
+{
+    Module {
+        volume,
+        at,
+        name,
+        kind: 6,
+        pei: Some(Part {
+            rank: None,
+            expr,
+            script: Script {
+                phase: Phase::Pei,
+                blocks: Seq::new(alloc),
+            },
+        }),
+        dxe: None,
+    }
+}
+
 fn before(name: Guid) -> PartExpr
+    ensures phase { IsExpressionOf InDxe result }
     ensures short { IsShortExpression result }
 {
     PartExpr::Held(Depex::Before(name))
 }
 
 fn after(name: Guid) -> PartExpr
+    ensures phase { IsExpressionOf InDxe result }
     ensures short { IsShortExpression result }
 {
     PartExpr::Held(Depex::After(name))
 }
 
-// In the first volume FIRST, and SECOND before THIRD; in the nested one THIRD after FIRST, and a twin of FIRST; in the other volume FOURTH before THIRD, and a twin of THIRD after FIRST.
+// In the first volume a PEIM THIRD, FIRST, and SECOND before THIRD; in the nested one THIRD after FIRST, and a twin of FIRST; in the other volume FOURTH before THIRD, and a twin of THIRD after FIRST.
 fn catalogue(alloc: Global) -> Result<Catalog, OutOfMemory>
     ensures { IfOk result IsWellFormed }
 {
     let mut volumes = Seq::new(alloc);
     volumes.append(VOLUMES.as_slice())?;
     let mut modules = Seq::new(alloc);
+    modules.push(peim(alloc, 0, 64, THIRD, PartExpr::Absent))?;
     modules.push(driver(alloc, 0, 72, FIRST, PartExpr::Absent))?;
     modules.push(driver(alloc, 0, 80, SECOND, before(THIRD)))?;
     modules.push(driver(alloc, 1, 72, THIRD, after(FIRST)))?;
@@ -121,18 +148,18 @@ fn volumes_come_with_their_drivers_and_names(rt: HostRuntime) -> Result<(), Fail
         Discovered {
             bases: &[0x10_0000, 0x20_0000],
             volumes: &[0, 1, 2],
-            drivers: &[0, 1, 2, 3, 4, 5],
+            drivers: &[1, 2, 3, 4, 5, 6],
             found: [
                 Found {
                     name: FIRST,
-                    first: Some(0),
+                    first: Some(1),
                     befores: &[],
-                    afters: &[2, 5],
+                    afters: &[3, 6],
                 },
                 Found {
                     name: THIRD,
-                    first: Some(2),
-                    befores: &[1, 4],
+                    first: Some(3),
+                    befores: &[2, 5],
                     afters: &[],
                 },
                 Found {
@@ -147,23 +174,23 @@ fn volumes_come_with_their_drivers_and_names(rt: HostRuntime) -> Result<(), Fail
         Discovered {
             bases: &[0x20_0000, 0x10_1000, 0x30_0000, 0x10_0000, 0x10_1000],
             volumes: &[2, 1, 0],
-            drivers: &[4, 5, 2, 3, 0, 1],
+            drivers: &[5, 6, 3, 4, 1, 2],
             found: [
                 Found {
                     name: FIRST,
-                    first: Some(3),
+                    first: Some(4),
                     befores: &[],
-                    afters: &[5, 2],
+                    afters: &[6, 3],
                 },
                 Found {
                     name: THIRD,
-                    first: Some(5),
-                    befores: &[4, 1],
+                    first: Some(6),
+                    befores: &[5, 2],
                     afters: &[],
                 },
                 Found {
                     name: SECOND,
-                    first: Some(1),
+                    first: Some(2),
                     befores: &[],
                     afters: &[],
                 },
@@ -207,9 +234,9 @@ fn a_volume_comes_once(rt: HostRuntime) -> Result<(), Fail> {
     let catalog = catalogue(rt.alloc()).ok().ok_or("there is memory")?;
     assert!(rt; catalog.volumes.len() == VOLUMES.len());
     let rows: [(u32, u32, &[u32], bool); 3] = [
-        (1, 0, &[2, 3, 0, 1], false),
-        (0, 1, &[0, 1, 2, 3], false),
-        (2, 1, &[4, 5, 2, 3], true),
+        (1, 0, &[3, 4, 1, 2], false),
+        (0, 1, &[1, 2, 3, 4], false),
+        (2, 1, &[5, 6, 3, 4], true),
     ];
     'rows: for (first, second, drivers, has_last) in rows {
         let order = added(rt.alloc(), &catalog, first, second)
