@@ -8,8 +8,7 @@ use Rattle.indexmap.specs.IndexMap.{get_by}
 use Rattle.pi_base.specs.declared.guid.Guid.{Guid}
 use Rattle.pi_base.specs.Guids.{same_guid}
 use Rattle.driver_order.specs.declared.lists.NumberLists.{NumberLists}
-use Rattle.driver_order.specs.Order.{numbers_at}
-use Rattle.driver_order.specs.Lists.{entries_of, numbers_of, IsPushed}
+use Rattle.driver_order.specs.Lists.{numbers_of, IsPushed}
 
 -- the numbers of a list that may be there
 abbrev pub numbers_in : Option (Vec ℕ Global) → List ℕ

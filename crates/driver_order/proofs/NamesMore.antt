@@ -1,5 +1,5 @@
 -- One driver more in what is kept by the names of files.
-use Rattle.std.proofs.Common.{◌≡◌, ℕ, Bool, true, false, cond, List, [], ◌∷◌, ◌++◌, Option, Some, None, is_some, refl, sym, ap, ◌∙◌}
+use Rattle.std.proofs.Common.{◌≡◌, ℕ, Bool, true, false, cond, List, [], ◌∷◌, ◌++◌, Option, Some, None, is_some, refl, ap, ◌∙◌}
 use Rattle.std.specs.Prelude.{if◌then◌else◌, filter, find}
 use Rattle.pi_base.specs.declared.guid.Guid.{Guid}
 use Rattle.pi_base.specs.Guids.{same_guid}
@@ -11,7 +11,7 @@ use Rattle.boot_model.specs.DxeChoice.{before_of, after_of, name_by}
 use Rattle.driver_order.specs.declared.lists.NumberLists.{NumberLists}
 use Rattle.driver_order.specs.declared.names.Names.{Names}
 use Rattle.driver_order.specs.Lists.{numbers_of, IsPushed}
-use Rattle.driver_order.specs.Names.{AreNames, IsFirst, NamesGrow, first_named}
+use Rattle.driver_order.specs.Names.{IsFirst, NamesGrow, first_named}
 use Rattle.driver_order.specs.Order.{gives, givers}
 
 -- what is found in front, or else the one behind

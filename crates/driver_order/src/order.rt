@@ -58,7 +58,11 @@ impl DriverOrder {
     }
 
     /// Discovers the volumes at these bases, one base after the other, each volume followed by those nested in it.
-    pub fn discover(alloc: Global, catalog: &Catalog, bases: &[u64]) -> Result<DriverOrder, OutOfMemory>
+    pub fn discover(
+        alloc: Global,
+        catalog: &Catalog,
+        bases: &[u64],
+    ) -> Result<DriverOrder, OutOfMemory>
         requires catalog { IsWellFormed catalog.now }
         ensures { IfOk result (IsOrderOf catalog.now (discoveries catalog.now [] bases.now)) }
     {
@@ -83,7 +87,8 @@ impl DriverOrder {
         self.volumes.add(catalog, Some(volume));
         let new = &self.volumes.as_slice()[known..];
         push_drivers(&mut self.drivers, catalog, new);
-        self.names.push_all(catalog, &self.drivers.as_slice()[ordered..])
+        self.names
+            .push_all(catalog, &self.drivers.as_slice()[ordered..])
     }
 
     /// The volumes, by number.

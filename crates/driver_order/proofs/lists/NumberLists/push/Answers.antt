@@ -1,4 +1,4 @@
-use Rattle.std.proofs.Common.{sym, ◌∙◌, ap, ◌≡◌, ℕ, List, [], ◌∷◌, ◌++◌}
+use Rattle.std.proofs.Common.{sym, ◌∙◌, ap, ◌≡◌, [], ◌∷◌, ◌++◌}
 use Rattle.std.specs.Prelude.{Some, is_some}
 use Rattle.driver_order.specs.declared.lists.NumberLists.{NumberLists}
 use Rattle.driver_order.specs.Lists.{numbers_of, IsPushed}

@@ -1,4 +1,4 @@
-use Rattle.std.proofs.Common.{ℕ, List, [], ◌∷◌, ◌≡◌, subst, sym}
+use Rattle.std.proofs.Common.{[], ◌∷◌, subst}
 use Rattle.catalog_model.specs.Parts.{module_name}
 use Rattle.driver_order.specs.declared.names.Names.{Names}
 use Rattle.driver_order.specs.Lists.{IsPushed}

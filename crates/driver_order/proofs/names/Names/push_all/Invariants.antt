@@ -1,4 +1,4 @@
-use Rattle.std.proofs.Common.{List, ℕ, ◌≡◌, ◌++◌, take}
+use Rattle.std.proofs.Common.{take}
 use Rattle.driver_order.specs.Names.{NamesGrow}
 use Rattle.driver_order.proofs.names.Names.push_all.Given as goal
 

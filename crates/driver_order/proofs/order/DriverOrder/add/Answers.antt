@@ -1,8 +1,7 @@
-use Rattle.std.proofs.Common.{ℕ, List, ◌≡◌, ◌++◌, Some, sym, subst, ap, ◌∙◌}
+use Rattle.std.proofs.Common.{◌≡◌, ◌++◌, Some, sym, subst, ap, ◌∙◌}
 use Rattle.catalog_model.specs.declared.limits.TheConstants.{MOST_MODULES}
 use Rattle.boot_model.specs.DxeChoice.{drivers_of}
 use Rattle.boot_model.specs.Reporting.{newcomers}
-use Rattle.driver_order.specs.Names.{NamesGrow}
 use Rattle.driver_order.specs.Order.{IsOrderOf}
 use Rattle.driver_order.proofs.Listed.{on_ok}
 use Rattle.driver_order.proofs.OrderMore.{new_part, room_more, order_more, order_by}
@@ -29,9 +28,9 @@ returns c =
     let numbers = new_part c.as_slice-2.result.now c.as_slice-ordered.result.now inside.drivers (drivers_of catalog more) (c.as_slice-2.ensures ∙ grown) c.as_slice-ordered.ensures in
     on_ok c.push_all.result _ _
     (λ names volumes is.
-        let before = subst (IsOrderOf catalog volumes) (sym c.self.view_is) is in
-        let same : inside.volumes ≡ volumes = before.volumes_are in
-        subst (λ known. IsOrderOf catalog (known ++ newcomers catalog known (Some c.args.volume)) (order_by c.add.new.self c.push_drivers.new.drivers c.push_all.new.self)) same
-        (order_more catalog inside.volumes more inside.volumes c.add.new.self inside.drivers c.push_drivers.new.drivers _ inside.names c.push_all.new.self c.add.ensures.known c.add.ensures.added grown numbers names
-        (subst (λ known. IsOrderOf catalog known (order_by inside.volumes inside.drivers inside.names)) (sym same) before)))
+    let before = subst (IsOrderOf catalog volumes) (sym c.self.view_is) is in
+    let same : inside.volumes ≡ volumes = before.volumes_are in
+    subst (λ known. IsOrderOf catalog (known ++ newcomers catalog known (Some c.args.volume)) (order_by c.add.new.self c.push_drivers.new.drivers c.push_all.new.self)) same
+    (order_more catalog inside.volumes more inside.volumes c.add.new.self inside.drivers c.push_drivers.new.drivers _ inside.names c.push_all.new.self c.add.ensures.known c.add.ensures.added grown numbers names
+    (subst (λ known. IsOrderOf catalog known (order_by inside.volumes inside.drivers inside.names)) (sym same) before)))
     c.push_all.ensures

@@ -12,8 +12,10 @@ bases-preserved c =
     let catalog = c.args.catalog.now in
     let bases = c.args.bases.now in
     let i = c.bases.base-index in
-    record { so_far = elim c.match-volume_at.branch [
-      | in-Some+in_ok-add w ↦
-          rw w.order-is (comes catalog bases (discoveries catalog [] bases) i w.in-Some.volume c.bases.order w.add.new.self c.bases-test.true w.in-Some.ensures.volume w.in_ok-add.ensures c.bases.invariant.so_far)
-      | in_default w ↦ rw w.order-is (passes catalog bases (discoveries catalog [] bases) i c.bases.order c.bases-test.true w.in_default.ensures.volume c.bases.invariant.so_far)
-    ] }
+    record {
+      so_far = elim c.match-volume_at.branch [
+        | in-Some+in_ok-add w ↦
+            rw w.order-is (comes catalog bases (discoveries catalog [] bases) i w.in-Some.volume c.bases.order w.add.new.self c.bases-test.true w.in-Some.ensures.volume w.in_ok-add.ensures c.bases.invariant.so_far)
+        | in_default w ↦ rw w.order-is (passes catalog bases (discoveries catalog [] bases) i c.bases.order c.bases-test.true w.in_default.ensures.volume c.bases.invariant.so_far)
+      ];
+    }
