@@ -1,8 +1,9 @@
 -- The discovered volumes, their drivers in discovered order, the first driver of each file name, and for each file name the drivers whose BEFORE or whose AFTER gives it, in discovered order.
 -- PI 1.8, volume 2, "DXE Dispatcher" and "Dependency Expressions"; that they are kept by name is own.
-use Rattle.std.specs.Prelude.{◌≡◌, ℕ, Bool, false, List, Option, Some, None, find, filter}
+use Rattle.std.specs.Prelude.{◌≡◌, ℕ, Bool, false, List, [], Option, Some, None, find, filter, unwrap_or}
 use Rattle.pi_base.specs.declared.guid.Guid.{Guid}
 use Rattle.pi_base.specs.Guids.{same_guid}
+use Rattle.guid_map.specs.GuidMap.{value_of}
 use Rattle.catalog_model.specs.declared.catalog.Catalog.{Catalog}
 use Rattle.catalog_model.specs.declared.catalog.PartExpr.{PartExpr}
 use Rattle.catalog_model.specs.Parts.{module_name}
@@ -13,9 +14,24 @@ use Rattle.volume_list.specs.Known.{AreKnown}
 pub record Drivers : Type 0 where
   pub volumes : List ℕ
   pub drivers : List ℕ
-  pub first : Guid → Option ℕ
-  pub befores : Guid → List ℕ
-  pub afters : Guid → List ℕ
+  pub first : List (Guid × ℕ)
+  pub befores : List (Guid × List ℕ)
+  pub afters : List (Guid × List ℕ)
+
+-- the numbers of a name
+abbrev pub numbers_at : List (Guid × List ℕ) → Guid → List ℕ
+numbers_at lists name = unwrap_or (value_of lists name) []
+
+-- the first driver of a file name
+abbrev pub first_of : Drivers → Guid → Option ℕ
+first_of order name = value_of order.first name
+
+-- the drivers whose BEFORE, and whose AFTER, gives a file name
+abbrev pub befores_of : Drivers → Guid → List ℕ
+befores_of order name = numbers_at order.befores name
+
+abbrev pub afters_of : Drivers → Guid → List ℕ
+afters_of order name = numbers_at order.afters name
 
 -- whether a driver's BEFORE, or its AFTER, gives this name
 abbrev pub gives : Guid → Option Guid → Bool
@@ -31,6 +47,6 @@ pub record IsOrderOf (catalog : Catalog) (volumes : List ℕ) (order : Drivers) 
   pub known : AreKnown catalog volumes
   pub volumes_are : order.volumes ≡ volumes
   pub drivers_are : order.drivers ≡ drivers_of catalog volumes
-  pub first_is : (name : Guid) → order.first name ≡ find (λ number. same_guid (module_name catalog number) name) (drivers_of catalog volumes)
-  pub befores_are : (name : Guid) → order.befores name ≡ givers before_of catalog (drivers_of catalog volumes) name
-  pub afters_are : (name : Guid) → order.afters name ≡ givers after_of catalog (drivers_of catalog volumes) name
+  pub first_is : (name : Guid) → first_of order name ≡ find (λ number. same_guid (module_name catalog number) name) (drivers_of catalog volumes)
+  pub befores_are : (name : Guid) → befores_of order name ≡ givers before_of catalog (drivers_of catalog volumes) name
+  pub afters_are : (name : Guid) → afters_of order name ≡ givers after_of catalog (drivers_of catalog volumes) name

@@ -1,6 +1,11 @@
 //! The drivers of the discovered volumes: in discovered order, by the names of their files, and with those that name them in BEFORE and AFTER (PI 1.8, volume 2, "DXE Dispatcher").
 #![tactic(auto)]
 
+mod lists;
+mod names;
 mod order;
 
 pub use order::DriverOrder;
+
+#[cfg(test)]
+mod tests;

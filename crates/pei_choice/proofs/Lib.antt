@@ -1,3 +1,2 @@
 mod Room
 mod Rotation
-mod VolumeParts

@@ -1,32 +1,18 @@
 //! Whether a PEIM may start.
 ghost use Rattle.std.specs.Prelude.{◌≡◌, ◌≤◌, ◌+◌, Some, IsTrue, true};
-ghost use Rattle.catalog_model.specs.WellFormed.{IsWellFormed, IsShort, IsShortExpression};
+ghost use Rattle.catalog_model.specs.WellFormed.{IsWellFormed, IsShortExpression};
 ghost use Rattle.store_model.specs.StoreState.{StoreState};
-ghost use Rattle.boot_model.specs.Eligible.{depex_holds, lets_start, may_start};
+ghost use Rattle.boot_model.specs.Eligible.{lets_start, may_start};
 ghost use Rattle.boot_model.specs.PeimState.{awaits_start};
 ghost use Rattle.pei_choice.specs.Standing.{HasPpis, TellsEligible};
 
 use boot_model::PeimState;
 use catalog_model::{Catalog, Part, PartExpr, well_formed_expressions_are_short};
-use depex_code::{Depex, GuidSet, Steps};
+use depex_code::{GuidSet, Steps};
 use frames::part_of;
+use phase_parts::depex_holds;
 use pi_base::Phase;
 use std::sync::ledger::Ledger;
-
-// Whether an expression holds over a set of GUIDs.
-fn depex_holds<G: GuidSet, L: Ledger>(expression: &Depex, set: &G, steps: &mut Steps<L>) -> bool
-    requires order { G.in_order set.now }
-    requires short { IsShort expression.now }
-    ensures holds { result ≡ depex_holds (G.has_guid set.now) expression.now }
-    ensures counted { steps.old ≤ steps.new }
-    ensures few_steps { steps.new ≤ steps.old + 1 }
-{
-    match expression {
-        Depex::Before(_) => false,
-        Depex::After(_) => false,
-        Depex::Expr { tree, .. } => tree.holds(set, steps),
-    }
-}
 
 // Whether the expression of a part lets it start.
 fn lets_start<G: GuidSet, L: Ledger>(expression: &PartExpr, set: &G, steps: &mut Steps<L>) -> bool

@@ -5,7 +5,6 @@ mod eligible;
 mod licence;
 mod next;
 mod order;
-mod parts;
 
 pub use eligible::is_eligible;
 pub use licence::licence_of;

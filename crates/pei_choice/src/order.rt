@@ -5,9 +5,10 @@ ghost use Rattle.boot_model.specs.Licence.{AllDiffer};
 ghost use Rattle.boot_model.specs.PeiChoice.{cursor_behind};
 ghost use Rattle.pei_choice.specs.Order.{IsPeiOrder, IsNewOrder, OrderGrows};
 
-use crate::parts::Parts;
 use boot_laws::order_is_of_modules;
 use catalog_model::Catalog;
+use phase_parts::Parts;
+use pi_base::Phase;
 
 /// The PEI parts of the reported volumes, in the order in which they are tried, and the cursor: how many of them stand before the place from which the next PEIM is looked for. It takes no memory.
 #[derive(Drop)]
@@ -34,7 +35,8 @@ impl PeiOrder {
         ensures { OrderGrows catalog.now self.old (volume ∷ []) self.new }
     {
         order_is_of_modules();
-        self.parts.push_volume(catalog, volume);
+        self.parts.push_ranked(catalog, Phase::Pei, volume);
+        self.parts.push_unranked(catalog, Phase::Pei, volume);
     }
 
     /// The cursor comes to stand behind a module; where the module is not in the order, at the end.

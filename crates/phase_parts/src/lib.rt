@@ -3,6 +3,10 @@
 
 mod expression;
 mod parts;
+mod wanted;
 
 pub use expression::depex_holds;
 pub use parts::Parts;
+
+#[cfg(test)]
+mod tests;

@@ -1,9 +1,11 @@
 //! The parts of volumes, in order.
-ghost use Rattle.std.specs.Prelude.{◌≡◌, ◌≤◌, ◌++◌, [], length, is_none, filter};
+ghost use Rattle.std.specs.Prelude.{◌≡◌, ◌≤◌, ◌<◌, ◌++◌, ◌∷◌, [], IsTrue, if◌then◌else◌, length, is_none, filter};
 ghost use Rattle.catalog_model.specs.declared.limits.TheConstants.{MOST_MODULES};
 ghost use Rattle.catalog_model.specs.Parts.{parts_in, rank_at};
 ghost use Rattle.boot_model.specs.PeiChoice.{ranked};
+ghost use Rattle.phase_parts.specs.Parts.{wanted_in, ranked_below};
 
+use crate::wanted::{count_parts, is_part_in, is_wanted, ranks_end};
 use arrayvec::ArrayVec;
 use catalog_model::{Catalog, MOST_MODULES};
 use pi_base::Phase;
@@ -40,13 +42,49 @@ impl Parts {
         self.numbers.as_slice()
     }
 
+    // Puts a number at the end where it is wanted.
+    fn push_where(&mut self, is_wanted: bool, number: u32)
+        requires room { IsTrue is_wanted → length self.old < MOST_MODULES }
+        ensures { self.new ≡ (if is_wanted then self.old ++ number ∷ [] else self.old) }
+    {
+        if is_wanted {
+            self.numbers.push(number);
+        }
+    }
+
+    // Puts the parts of a volume that have this rank, or none, at the end.
+    fn push_wanted(&mut self, catalog: &Catalog, phase: Phase, volume: u32, wanted: Option<u32>)
+        requires few { length catalog.now.modules ≤ MOST_MODULES }
+        requires room { length (self.old ++ wanted_in phase wanted catalog.now volume) ≤ MOST_MODULES }
+        ensures { self.new ≡ self.old ++ wanted_in phase wanted catalog.now volume }
+    {
+        let mut number = 0;
+        'modules: for module in catalog.modules.as_slice() {
+            self.push_where(is_wanted(module, phase, volume, wanted), number);
+            number += 1;
+        }
+    }
+
+    // Puts the parts of a volume with a rank below a number at the end, by rank.
+    fn push_below(&mut self, catalog: &Catalog, phase: Phase, volume: u32, end: u32)
+        requires few { length catalog.now.modules ≤ MOST_MODULES }
+        requires room { length (self.old ++ ranked_below phase catalog.now volume end) ≤ MOST_MODULES }
+        ensures { self.new ≡ self.old ++ ranked_below phase catalog.now volume end }
+    {
+        'ranks: for rank in 0..end {
+            self.push_wanted(catalog, phase, volume, Some(rank));
+        }
+    }
+
     /// Puts the parts of a volume that have a place in its a priori list at the end, in list order.
     pub fn push_ranked(&mut self, catalog: &Catalog, phase: Phase, volume: u32)
         requires few { length catalog.now.modules ≤ MOST_MODULES }
         requires room { length (self.old ++ ranked (rank_at phase catalog.now) (parts_in phase catalog.now volume)) ≤ MOST_MODULES }
         ensures { self.new ≡ self.old ++ ranked (rank_at phase catalog.now) (parts_in phase catalog.now volume) }
     {
-        unreachable!()
+        let count = count_parts(catalog, phase, volume);
+        let end = count.min(ranks_end(catalog, phase, volume));
+        self.push_below(catalog, phase, volume, end as u32);
     }
 
     /// Puts the parts of a volume that have none at the end, by place.
@@ -55,7 +93,7 @@ impl Parts {
         requires room { length (self.old ++ filter (λ number. is_none (rank_at phase catalog.now number)) (parts_in phase catalog.now volume)) ≤ MOST_MODULES }
         ensures { self.new ≡ self.old ++ filter (λ number. is_none (rank_at phase catalog.now number)) (parts_in phase catalog.now volume) }
     {
-        unreachable!()
+        self.push_wanted(catalog, phase, volume, None);
     }
 
     /// Puts the parts of a volume at the end, by place.
@@ -64,6 +102,10 @@ impl Parts {
         requires room { length (self.old ++ parts_in phase catalog.now volume) ≤ MOST_MODULES }
         ensures { self.new ≡ self.old ++ parts_in phase catalog.now volume }
     {
-        unreachable!()
+        let mut number = 0;
+        'modules: for module in catalog.modules.as_slice() {
+            self.push_where(is_part_in(module, phase, volume), number);
+            number += 1;
+        }
     }
 }

@@ -1,0 +1,4 @@
+mod Listed
+mod NamesMore
+mod OrderMore
+mod BasesMore

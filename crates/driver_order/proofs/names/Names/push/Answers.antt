@@ -1,0 +1,20 @@
+use Rattle.std.proofs.Common.{[], ◌∷◌, subst}
+use Rattle.catalog_model.specs.Parts.{module_name}
+use Rattle.driver_order.specs.declared.names.Names.{Names}
+use Rattle.driver_order.specs.Lists.{IsPushed}
+use Rattle.driver_order.specs.Names.{IsFirst, NamesGrow}
+use Rattle.driver_order.proofs.Listed.{on_ok}
+use Rattle.driver_order.proofs.NamesMore.{names_more}
+use Rattle.driver_order.proofs.names.Names.push.Goals as goal
+
+pub returns : goal.returns
+returns c =
+    let catalog = c.args.catalog.now in
+    let number = c.args.number in
+    let old = c.args.self.now in
+    let before = c.given_by-before.result.0 in
+    let after = c.given_by-before.result.1 in
+    let new : Names = record { first = c.put_first.new.first; befores = c.push_under.new.self; afters = c.push_under-2.new.self } in
+    let first : IsFirst old.first (module_name catalog number) number new.first = subst (λ name. IsFirst old.first name number new.first) c.name_of.ensures c.in_ok-put_first.ensures in
+    on_ok c.push_under-2.result (IsPushed old.afters after number new.afters) (NamesGrow catalog old (number ∷ []) new)
+    (names_more catalog number old new before after c.given_by-before.ensures.before c.given_by-before.ensures.after first c.in_ok-push_under.ensures) c.push_under-2.ensures

@@ -1,0 +1,2 @@
+mod VolumeParts
+mod FewParts
