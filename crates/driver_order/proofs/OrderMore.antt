@@ -10,13 +10,8 @@ use Rattle.boot_laws.proofs.Distinct.{all_differ, all_distinct, few_below}
 use Rattle.boot_laws.proofs.PartLists.{IsKnown, distinct_of, known_of, drivers_are}
 use Rattle.volume_list.specs.Known.{AreKnown}
 use Rattle.driver_order.specs.declared.names.Names.{Names}
-use Rattle.driver_order.specs.Lists.{entries_of}
-use Rattle.driver_order.specs.Names.{AreNames, NamesGrow}
-use Rattle.driver_order.specs.Order.{Drivers, IsOrderOf}
-
--- an order by its parts
-abbrev pub order_by : List ℕ → List ℕ → Names → Drivers
-order_by volumes drivers names = record { volumes = volumes; drivers = drivers; first = names.first; befores = entries_of names.befores; afters = entries_of names.afters }
+use Rattle.driver_order.specs.Names.{AreNames, NamesGrow, order_by}
+use Rattle.driver_order.specs.Order.{IsOrderOf}
 
 -- the drivers of volumes that differ are no more than the modules
 few_drivers : (catalog : Catalog) (volumes : List ℕ) → AllDiffer volumes → length (drivers_of catalog volumes) ≤ length catalog.modules

@@ -8,8 +8,8 @@ use Rattle.catalog_model.specs.declared.catalog.Catalog.{Catalog}
 use Rattle.catalog_model.specs.Parts.{module_name}
 use Rattle.boot_model.specs.DxeChoice.{before_of, after_of}
 use Rattle.driver_order.specs.declared.names.Names.{Names}
-use Rattle.driver_order.specs.Lists.{numbers_of}
-use Rattle.driver_order.specs.Order.{givers}
+use Rattle.driver_order.specs.Lists.{entries_of, numbers_of}
+use Rattle.driver_order.specs.Order.{Drivers, givers}
 
 -- the first of these drivers that has a file name
 abbrev pub first_named : Catalog → List ℕ → Guid → Option ℕ
@@ -18,7 +18,8 @@ first_named catalog drivers name = find (λ number. same_guid (module_name catal
 -- a name that had no number has this one, and each other name what it had
 abbrev pub IsFirst : List (Guid × ℕ) → Guid → ℕ → List (Guid × ℕ) → Type 0
 IsFirst old name number new =
-    (other : Guid) → value_of new other ≡ (if is_some (value_of old other) then value_of old other else if same_guid name other then Some number else None)
+    (other : Guid)
+    → value_of new other ≡ (if is_some (value_of old other) then value_of old other else if same_guid name other then Some number else None)
 
 -- what is kept is that of these drivers
 pub record AreNames (catalog : Catalog) (drivers : List ℕ) (names : Names) : Type 0 where
@@ -29,3 +30,13 @@ pub record AreNames (catalog : Catalog) (drivers : List ℕ) (names : Names) : T
 -- the names of some drivers have become those of these drivers and others behind them
 abbrev pub NamesGrow : Catalog → Names → List ℕ → Names → Type 0
 NamesGrow catalog old more new = (drivers : List ℕ) → AreNames catalog drivers old → AreNames catalog (drivers ++ more) new
+
+-- the volumes, their drivers and the names of these
+abbrev pub order_by : List ℕ → List ℕ → Names → Drivers
+order_by volumes drivers names = record {
+  volumes = volumes;
+  drivers = drivers;
+  first = names.first;
+  befores = entries_of names.befores;
+  afters = entries_of names.afters;
+}

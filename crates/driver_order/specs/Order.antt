@@ -1,6 +1,6 @@
 -- The discovered volumes, their drivers in discovered order, the first driver of each file name, and for each file name the drivers whose BEFORE or whose AFTER gives it, in discovered order.
 -- PI 1.8, volume 2, "DXE Dispatcher" and "Dependency Expressions"; that they are kept by name is own.
-use Rattle.std.specs.Prelude.{◌≡◌, ℕ, Bool, false, List, [], Option, Some, None, find, filter, unwrap_or}
+use Rattle.std.specs.Prelude.{◌≡◌, ℕ, Bool, false, List, [], ◌++◌, Option, Some, None, find, filter, unwrap_or}
 use Rattle.pi_base.specs.declared.guid.Guid.{Guid}
 use Rattle.pi_base.specs.Guids.{same_guid}
 use Rattle.guid_map.specs.GuidMap.{value_of}
@@ -8,6 +8,7 @@ use Rattle.catalog_model.specs.declared.catalog.Catalog.{Catalog}
 use Rattle.catalog_model.specs.declared.catalog.PartExpr.{PartExpr}
 use Rattle.catalog_model.specs.Parts.{module_name}
 use Rattle.boot_model.specs.DxeChoice.{drivers_of, name_by, before_of, after_of}
+use Rattle.boot_model.specs.Reporting.{newcomers}
 use Rattle.volume_list.specs.Known.{AreKnown}
 
 -- what is kept, with what is found by a file name: the first driver, those before it and those after it
@@ -50,3 +51,8 @@ pub record IsOrderOf (catalog : Catalog) (volumes : List ℕ) (order : Drivers) 
   pub first_is : (name : Guid) → first_of order name ≡ find (λ number. same_guid (module_name catalog number) name) (drivers_of catalog volumes)
   pub befores_are : (name : Guid) → befores_of order name ≡ givers before_of catalog (drivers_of catalog volumes) name
   pub afters_are : (name : Guid) → afters_of order name ≡ givers after_of catalog (drivers_of catalog volumes) name
+
+-- what is kept of some volumes has become that of these volumes and others behind them: one that is new, and each nested in it that is
+abbrev pub OrderGrows : Catalog → Drivers → ℕ → Drivers → Type 0
+OrderGrows catalog old volume new =
+    (volumes : List ℕ) → IsOrderOf catalog volumes old → IsOrderOf catalog (volumes ++ newcomers catalog volumes (Some volume)) new

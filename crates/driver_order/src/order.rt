@@ -1,13 +1,12 @@
 //! The discovered volumes and their drivers.
-ghost use Rattle.std.specs.Prelude.{◌≡◌, ◌≤◌, ◌<◌, ◌++◌, [], ℕ, List, Some, IfOk, OnOk, length};
+ghost use Rattle.std.specs.Prelude.{◌≡◌, ◌≤◌, ◌<◌, ◌++◌, [], ℕ, List, IfOk, OnOk, length};
 ghost use Rattle.catalog_model.specs.declared.catalog.Catalog.{Catalog};
 ghost use Rattle.catalog_model.specs.declared.limits.TheConstants.{MOST_MODULES};
 ghost use Rattle.catalog_model.specs.Parts.{has_number};
 ghost use Rattle.catalog_model.specs.WellFormed.{IsWellFormed};
 ghost use Rattle.boot_model.specs.Discovery.{discoveries};
 ghost use Rattle.boot_model.specs.DxeChoice.{drivers_of};
-ghost use Rattle.boot_model.specs.Reporting.{newcomers};
-ghost use Rattle.driver_order.specs.Order.{IsOrderOf, first_of, befores_of, afters_of};
+ghost use Rattle.driver_order.specs.Order.{IsOrderOf, OrderGrows, first_of, befores_of, afters_of};
 
 use crate::names::Names;
 use catalog_model::Catalog;
@@ -26,12 +25,12 @@ pub struct DriverOrder {
 }
 
 impl Model for DriverOrder {
-    ghost use Rattle.driver_order.specs.Lists.{entries_of};
+    ghost use Rattle.driver_order.specs.Names.{order_by};
     ghost use Rattle.driver_order.specs.Order.{Drivers};
 
     ghost Value = { Drivers };
 
-    ghost view = { λ order. record { volumes = order.volumes; drivers = order.drivers; first = order.names.first; befores = entries_of order.names.befores; afters = entries_of order.names.afters } };
+    ghost view = { λ order. order_by order.volumes order.drivers order.names };
 }
 
 // Puts the drivers of these volumes at the end, volume by volume.
@@ -80,7 +79,7 @@ impl DriverOrder {
         requires catalog { IsWellFormed catalog.now }
         requires order { (volumes : List ℕ) × IsOrderOf catalog.now volumes self.old }
         requires volume { volume < length catalog.now.volumes }
-        ensures { OnOk result ((volumes : List ℕ) → IsOrderOf catalog.now volumes self.old → IsOrderOf catalog.now (volumes ++ newcomers catalog.now volumes (Some volume)) self.new) }
+        ensures { OnOk result (OrderGrows catalog.now self.old volume self.new) }
     {
         let known = self.volumes.as_slice().len();
         let ordered = self.drivers.as_slice().len();

@@ -1,9 +1,9 @@
 //! The parts of volumes, in order.
-ghost use Rattle.std.specs.Prelude.{◌≡◌, ◌≤◌, ◌<◌, ◌++◌, ◌∷◌, [], IsTrue, if◌then◌else◌, length, is_none, filter};
+ghost use Rattle.std.specs.Prelude.{◌≡◌, ◌≤◌, ◌<◌, ◌++◌, ◌∷◌, [], IsTrue, if◌then◌else◌, length};
 ghost use Rattle.catalog_model.specs.declared.limits.TheConstants.{MOST_MODULES};
 ghost use Rattle.catalog_model.specs.Parts.{parts_in, rank_at};
 ghost use Rattle.boot_model.specs.PeiChoice.{ranked};
-ghost use Rattle.phase_parts.specs.Parts.{wanted_in, ranked_below};
+ghost use Rattle.phase_parts.specs.Parts.{wanted_in, ranked_below, unranked_parts};
 
 use crate::wanted::{count_parts, is_part_in, is_wanted, ranks_end};
 use arrayvec::ArrayVec;
@@ -90,8 +90,8 @@ impl Parts {
     /// Puts the parts of a volume that have none at the end, by place.
     pub fn push_unranked(&mut self, catalog: &Catalog, phase: Phase, volume: u32)
         requires few { length catalog.now.modules ≤ MOST_MODULES }
-        requires room { length (self.old ++ filter (λ number. is_none (rank_at phase catalog.now number)) (parts_in phase catalog.now volume)) ≤ MOST_MODULES }
-        ensures { self.new ≡ self.old ++ filter (λ number. is_none (rank_at phase catalog.now number)) (parts_in phase catalog.now volume) }
+        requires room { length (self.old ++ unranked_parts phase catalog.now volume) ≤ MOST_MODULES }
+        ensures { self.new ≡ self.old ++ unranked_parts phase catalog.now volume }
     {
         self.push_wanted(catalog, phase, volume, None);
     }

@@ -173,12 +173,8 @@ fn holds_in<L: Ledger>(expression: &Depex, blank: Blank) -> bool
 
 #[test]
 fn an_expression_holds_by_the_set(rt: HostRuntime) -> Result<(), Fail> {
-    let there = pushes(rt.alloc(), INSTALLED)
-        .ok()
-        .ok_or("there is memory")?;
-    let missing = pushes(rt.alloc(), MISSING)
-        .ok()
-        .ok_or("there is memory")?;
+    let there = pushes(rt.alloc(), INSTALLED).ok().ok_or("there is memory")?;
+    let missing = pushes(rt.alloc(), MISSING).ok().ok_or("there is memory")?;
     assert!(rt; holds_in::<Brand>(&there, Blank::new(1)));
     assert!(rt; !holds_in::<Brand>(&missing, Blank::new(1)));
     assert!(rt; !holds_in::<Brand>(&Depex::Before(INSTALLED), Blank::new(1)));

@@ -2,9 +2,10 @@ use Rattle.std.proofs.Common.{◌≡◌, ◌++◌, Some, sym, subst, ap, ◌∙�
 use Rattle.catalog_model.specs.declared.limits.TheConstants.{MOST_MODULES}
 use Rattle.boot_model.specs.DxeChoice.{drivers_of}
 use Rattle.boot_model.specs.Reporting.{newcomers}
+use Rattle.driver_order.specs.Names.{order_by}
 use Rattle.driver_order.specs.Order.{IsOrderOf}
 use Rattle.driver_order.proofs.Listed.{on_ok}
-use Rattle.driver_order.proofs.OrderMore.{new_part, room_more, order_more, order_by}
+use Rattle.driver_order.proofs.OrderMore.{new_part, room_more, order_more}
 use Rattle.driver_order.proofs.order.DriverOrder.add.Goals as goal
 
 pub push_drivers-requires-clause-room : goal.push_drivers-requires-clause-room
