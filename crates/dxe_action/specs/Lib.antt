@@ -1,2 +1,4 @@
+pub mod Answered
 pub mod Reply
+pub mod Requests
 pub mod Services

@@ -4,7 +4,8 @@ use Rattle.std.specs.Prelude.{◌≡◌, ◌≤◌, ℕ, Bool, false, List, leng
 use Rattle.catalog_model.specs.declared.catalog.Catalog.{Catalog}
 use Rattle.catalog_model.specs.Parts.{has_number}
 use Rattle.store_model.specs.HandleState.{HandleState}
-use Rattle.boot_model.specs.DxeMachine.{DxeMachine, ProtocolNote}
+use Rattle.boot_model.specs.declared.driver.ProtocolNote.{ProtocolNote}
+use Rattle.boot_model.specs.DxeMachine.{DxeMachine}
 use Rattle.driver_order.specs.Order.{Drivers, IsOrderOf}
 
 -- what is kept

@@ -10,12 +10,17 @@ ghost use Rattle.frames.specs.Needs.{IsScriptAction};
 ghost use Rattle.dxe_action.specs.Reply.{Acts};
 ghost use Rattle.dxe_action.specs.Services.{AreCounted, AreServicesFor, AreServicesOf};
 
+use crate::handles::{install, locate, reinstall, uninstall};
+use crate::memory::read_memory;
+use crate::notifications::notify;
+use crate::process::process;
 use crate::reply::Reply;
+use crate::schedule::schedule;
 use crate::services::DxeServices;
 use act_code::Action;
-use boot_model::DriverFrame;
+use boot_model::{CallName, DriverFrame};
 use catalog_model::Catalog;
-use pi_base::OutOfMemory;
+use pi_base::{OutOfMemory, Word};
 use store_model::PeiStore;
 
 /// Takes an action of a DXE script that scripts of PEI do not have, from the frame in which it stands: what the frame then holds is still to be written. A refusal changes nothing; want of memory leaves the services unfinished.
@@ -37,5 +42,18 @@ pub fn take_own<M: PeiStore>(
     ensures made { OnOk result (AreServicesFor catalog.now services.new) }
     ensures counted { OnOk result ((n : ℕ) → AreCounted n services.old → AreCounted (n + 1) services.new) }
 {
-    unreachable!()
+    match action {
+        Action::Peek { v, n } => Ok(read_memory(store, frame, *v, *n)),
+        Action::DxeInstall { form, h, guid, v } => install(services, frame, *form, *h, guid, *v),
+        Action::DxeReinstall { h, guid, old, new } => {
+            reinstall(services, frame, *h, guid, *old, *new)
+        }
+        Action::DxeUninstall { h, guid, v } => uninstall(services, frame, *h, guid, *v),
+        Action::DxeLocate { h, v, guid } => Ok(locate(services, *h, *v, guid)),
+        Action::DxeNotify { guid, block } => notify(services, frame, guid, *block),
+        Action::Schedule { guid } => Ok(schedule(services, catalog, guid)),
+        Action::Process { v } => process(services, catalog, frame, *v),
+        Action::Dispatch => Ok(Reply::refusal(CallName::Dispatch, Word::AlreadyStarted)),
+        _ => unreachable!(),
+    }
 }

@@ -2,9 +2,17 @@
 #![tactic(auto)]
 
 mod action;
+mod handles;
+mod memory;
+mod notifications;
+mod process;
 mod reply;
+mod schedule;
 mod services;
 
 pub use action::take_own;
 pub use reply::Reply;
 pub use services::DxeServices;
+
+#[cfg(test)]
+mod tests;

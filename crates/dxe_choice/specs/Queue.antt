@@ -49,10 +49,10 @@ abbrev pub HasProtocols : (Guid → Bool) → HandleState → Type 0
 HasProtocols has handles = (guid : Guid) → has guid ≡ has_protocol handles guid
 
 -- how the machine is seen by what chooses its next driver: the queue, the drivers in discovered order, the requests, and the protocols as a set of GUIDs
-pub record IsSeen (catalog : Catalog) (m : DxeMachine) (queue : Queue) (order : Drivers) (requested : List Bool) (has : Guid → Bool) : Type 0 where
-  pub queue : IsQueueOf m queue
-  pub order : IsOrderOf catalog m.discovered order
-  pub requested : AreFlags m.requested requested
+pub record IsSeen (catalog : Catalog) (m : DxeMachine) (now : Queue) (drivers : Drivers) (flags : List Bool) (has : Guid → Bool) : Type 0 where
+  pub queue : IsQueueOf m now
+  pub order : IsOrderOf catalog m.discovered drivers
+  pub requested : AreFlags m.requested flags
   pub protocols : HasProtocols has m.handles
 
 -- the driver comes next, and the queue is that of each machine in which it has started from there

@@ -26,6 +26,6 @@ pub record IsFor (catalog : Catalog) (fuel : ℕ) (core : DxeCore) : Type 0 wher
   pub fuelled : core.fuel.limit ≡ fuel
 
 -- the core beside its store stands for the machine
-pub record StandsFor {M : Type 0} (stands : M → StoreState → Type 0) (store : M) (catalog : Catalog) (core : DxeCore) (m : DxeMachine) : Type 0 where
-  pub store : stands store m.store
-  pub core : IsCoreOf catalog core m
+pub record StandsFor {M : Type 0} (stands : M → StoreState → Type 0) (held : M) (catalog : Catalog) (kept : DxeCore) (m : DxeMachine) : Type 0 where
+  pub store : stands held m.store
+  pub core : IsCoreOf catalog kept m

@@ -1,10 +1,9 @@
 -- What a step of the core answers and leaves, and what a start does.
 -- Own; PI 1.8, volume 2, "DXE Dispatcher".
-use Rattle.std.specs.Prelude.{◌≡◌, ℕ, List, [], ◌++◌, Option, Some, None, Result, Ok, Err, length, ⊤}
+use Rattle.std.specs.Prelude.{◌≡◌, ℕ, List, [], ◌++◌, Option, Some, Result, Ok, Err, length, ⊤}
 use Rattle.std.specs.Option.{option_to_list}
 use Rattle.std.specs.Io.KnownBytes.{Appends}
 use Rattle.boot_io.specs.declared.halt.Halt.{Halt}
-use Rattle.boot_io.specs.declared.halt.Halt.TheVariants as H
 use Rattle.boot_io.specs.declared.sink.SinkFault.{SinkFault}
 use Rattle.pi_base.specs.declared.phase.Phase.TheVariants.{Dxe}
 use Rattle.catalog_model.specs.declared.catalog.Catalog.{Catalog}
@@ -21,7 +20,7 @@ use Rattle.boot_laws.specs.UnrequestedDrivers.{WaitForRequest}
 use Rattle.dxe_core.specs.declared.event.Event.{Event}
 use Rattle.dxe_core.specs.declared.event.Stepped.{Stepped}
 use Rattle.dxe_core.specs.declared.event.Stepped.TheVariants.{Went, Idle, Ended}
-use Rattle.dxe_core.specs.Standing.{DxeCore, IsFor, StandsFor}
+use Rattle.dxe_core.specs.Standing.{DxeCore, IsCoreOf, IsFor, StandsFor}
 use Rattle.dxe_core.specs.Turn.{Texts, Printed, PrintedPart}
 
 -- no script runs: a start or the end is left
@@ -77,8 +76,13 @@ abbrev pub StartsTo : (DxeMachine → Type 0) → DxeMachine → DxeMachine → 
 StartsTo Stands m later t (Ok _) = HasStepped Stands m later t
 StartsTo Stands m later t (Err _) = PrintedPart m later t
 
--- the start of a driver at the head of a queue, from each machine and for each store that the core stands beside
+-- the core has what the machine has, over the store of the machine before
+pub record HasOver (catalog : Catalog) (kept : DxeCore) (before m : DxeMachine) : Type 0 where
+  pub store : m.store ≡ before.store
+  pub core : IsCoreOf catalog kept m
+
+-- the start of a driver at the head of a queue, from each machine that the core has; the store stays
 abbrev pub Starts : Catalog → DxeCore → Scheduled → DxeCore → Option (List ℕ) → Option (List ℕ) → Result (Unit {0}) SinkFault → Type 0
 Starts catalog core next later old new result =
-    {M : Type 0} (stands : M → StoreState → Type 0) (store : M) (m : DxeMachine) (queue : List Scheduled) → StandsFor stands store catalog core m
-    → StartsTo (StandsFor stands store catalog later) m (driver_started catalog m next queue (part_at Dxe catalog next.module_number)) (record { old = old; new = new }) result
+    (m : DxeMachine) (queue : List Scheduled) → IsCoreOf catalog core m
+    → StartsTo (HasOver catalog later m) m (driver_started catalog m next queue (part_at Dxe catalog next.module_number)) (record { old = old; new = new }) result

@@ -1,26 +1,28 @@
 //! The core.
-ghost use Rattle.std.specs.Prelude.{◌≡◌, ◌×◌, [], ℕ, IfOk, OnOk, is_some, true};
+ghost use Rattle.std.specs.Prelude.{◌≡◌, [], ℕ, IfOk, OnOk, is_some, true};
 ghost use Rattle.boot_io.specs.Halted.{HaltsAfter};
 ghost use Rattle.boot_io.specs.Sink.{SinkFaultsAfter};
 ghost use Rattle.pi_base.specs.declared.phase.Phase.TheVariants.{Dxe as InDxe};
 ghost use Rattle.catalog_model.specs.Parts.{part_at};
 ghost use Rattle.catalog_model.specs.WellFormed.{IsWellFormed};
-ghost use Rattle.store_model.specs.HandleState.{no_handles};
 ghost use Rattle.store_model.specs.StoreState.{StoreState};
 ghost use Rattle.boot_model.specs.Discovery.{discoveries};
 ghost use Rattle.boot_model.specs.DxeMachine.{DxeMachine};
 ghost use Rattle.boot_model.specs.DxeRun.{dxe_opening_of};
-ghost use Rattle.boot_laws.specs.UnrequestedDrivers.{WaitForRequest};
 ghost use Rattle.dxe_core.specs.Standing.{IsCoreOf, IsFor, StandsFor};
 ghost use Rattle.dxe_core.specs.Steps.{Starts, Steps};
 
 use crate::event::Stepped;
+use crate::lines::start_line;
 use boot_io::{Halt, Sink, SinkFault};
-use boot_model::Scheduled;
+use boot_model::{ProtocolSweep, Scheduled};
+use boot_trace::put_start;
 use catalog_model::Catalog;
 use driver_order::DriverOrder;
+use dxe_action::DxeServices;
 use dxe_handles::Handles;
-use pi_base::OutOfMemory;
+use frames::{Frames, Fuel, begin_script};
+use pi_base::{OutOfMemory, Phase};
 use std::alloc::Global;
 use std::marker::Model;
 use store_model::PeiStore;
@@ -28,17 +30,20 @@ use store_model::PeiStore;
 /// The DXE core, and the machine of DXE that it stands for beside its store, whatever is scheduled and has started.
 #[derive(Drop)]
 pub struct Dxe {
-    none: u8,
+    pub(crate) frames: Frames<ProtocolSweep>,
+    pub(crate) fuel: Fuel,
+    pub(crate) services: DxeServices,
 }
 
 impl Model for Dxe {
+    ghost use Rattle.std.specs.Prelude.{◌<◌, ◌^◌};
     ghost use Rattle.dxe_core.specs.Standing.{DxeCore};
 
     ghost Value = { DxeCore };
 
-    ghost view = { λ s. record { frames = []; fuel = record { taken = 0; limit = 0 }; services = record { handles = no_handles; notes = []; order = record { volumes = []; drivers = []; first = λ name. None; befores = λ name. []; afters = λ name. [] }; requested = [] } } };
+    ghost view = { λ s. record { frames = s.frames; fuel = s.fuel; services = s.services } };
 
-    ghost invariant = { λ s. ⊥ };
+    ghost invariant = { λ s. s.fuel.limit < 2 ^ 32 };
 }
 
 impl Dxe {
@@ -54,7 +59,11 @@ impl Dxe {
         ensures opening { IfOk result (λ core. (s : StoreState) → IsCoreOf catalog.now core (dxe_opening_of catalog.now s taken (discoveries catalog.now [] bases.now))) }
         ensures made { IfOk result (IsFor catalog.now fuel) }
     {
-        Err(OutOfMemory)
+        Ok(Dxe {
+            frames: Frames::new(),
+            fuel: Fuel { taken, limit: fuel },
+            services: DxeServices::begin(alloc, catalog, bases)?,
+        })
     }
 
     /// One step of the machine, with its lines.
@@ -71,7 +80,13 @@ impl Dxe {
         ensures made { OnOk result ((fuel : ℕ) → IsFor catalog.now fuel self.old → IsFor catalog.now fuel self.new) }
         ensures faults { HaltsAfter result (S.faults sink.old) (S.faults sink.new) }
     {
-        unreachable!()
+        if self.frames.top().is_none() {
+            return Ok(Stepped::Idle);
+        }
+        match self.next_notification() {
+            Some(next) => self.notify(store, catalog, next, sink),
+            None => self.act(store, catalog, sink),
+        }
     }
 
     /// A driver starts, by its licence, where no script runs.
@@ -87,41 +102,42 @@ impl Dxe {
         ensures made { (fuel : ℕ) → IsFor catalog.now fuel self.old → IsFor catalog.now fuel self.new }
         ensures faults { SinkFaultsAfter result (S.faults sink.old) (S.faults sink.new) }
     {
-        unreachable!()
+        let runs = begin_script(&mut self.frames, catalog, Phase::Dxe, next.module_number);
+        put_start(sink, start_line(catalog, &next), runs)
     }
 
     /// The handles.
     pub fn handles(&self) -> &Handles
         ensures { result.now ≡ self.now.services.handles }
     {
-        unreachable!()
+        self.services.handles()
     }
 
     /// The handles, for whoever goes on behind DXE.
     pub fn into_handles(self) -> Handles
         ensures { result ≡ self.services.handles }
     {
-        unreachable!()
+        self.services.into_handles()
     }
 
     /// The discovered volumes and their drivers.
     pub fn order(&self) -> &DriverOrder
         ensures { result.now ≡ self.now.services.order }
     {
-        unreachable!()
+        self.services.order()
     }
 
     /// Which drivers were requested, by number.
     pub fn requested(&self) -> &[bool]
         ensures { result.now ≡ self.now.services.requested }
     {
-        unreachable!()
+        self.services.requested()
     }
 
     /// How many actions may be taken.
     pub fn fuel(&self) -> u32
         ensures { result ≡ self.now.fuel.limit }
     {
-        unreachable!()
+        self.fuel.limit
     }
 }

@@ -1,4 +1,7 @@
 //! What a step of the machine did.
+ghost use Rattle.std.specs.Prelude.{◌≡◌};
+ghost use Rattle.dxe_core.specs.declared.event.Stepped.TheVariants.{Went};
+
 use boot_model::DxeEnd;
 use pi_base::Guid;
 
@@ -20,4 +23,13 @@ pub enum Stepped {
     Idle,
     /// Nothing: DXE ends by `Spent` or by `Deep`. The machine is as it was, and nothing was put.
     Ended(DxeEnd),
+}
+
+impl Stepped {
+    // An event that changed this protocol, where so many volumes were discovered.
+    pub(crate) fn by(changed: Option<Guid>, known: usize) -> Stepped
+        ensures { result ≡ Went (record { changed = changed; known = known }) }
+    {
+        Stepped::Went(Event { changed, known })
+    }
 }

@@ -1,0 +1,7 @@
+mod Discovered
+mod Flags
+mod Grammar
+mod Growing
+mod Handling
+mod Replying
+mod Requested

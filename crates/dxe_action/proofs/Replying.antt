@@ -1,0 +1,64 @@
+-- What a service answers is the machine's reply, with the machine behind it.
+use Rattle.std.proofs.Common.{◌≡◌, ◌++◌, ℕ, List, [], refl, sym, subst}
+use Rattle.std.proofs.lemmas.List.{append-nil}
+use Rattle.pi_base.specs.declared.word.Word.{Word}
+use Rattle.act_code.specs.declared.action.Action.{Action}
+use Rattle.catalog_model.specs.declared.catalog.Catalog.{Catalog}
+use Rattle.boot_model.specs.declared.line.CallName.{CallName}
+use Rattle.store_model.specs.HandleState.{HandleState}
+use Rattle.boot_model.specs.declared.driver.ProtocolNote.{ProtocolNote}
+use Rattle.boot_model.specs.DxeMachine.{DxeMachine, DriverFrame}
+use Rattle.boot_model.specs.DxeAction.{Called, own_dxe_effect, dxe_refusal}
+use Rattle.dxe_action.specs.declared.reply.Reply.{Reply}
+use Rattle.dxe_action.specs.Answered.{refusal}
+use Rattle.dxe_action.specs.Reply.{IsReply, LeavesRest, reply_in}
+use Rattle.dxe_action.specs.Services.{Services, AreServicesOf, AreFlags}
+use Rattle.driver_order.specs.Order.{IsOrderOf}
+
+-- the machine with other handles, notifications and requests
+abbrev pub with_others : DxeMachine → HandleState → List ProtocolNote → List ℕ → DxeMachine
+with_others m handles notes requested = record m { handles = handles; notes = notes; requested = requested }
+
+same_rest : (catalog : Catalog) (m : DxeMachine) (handles : HandleState) (notes : List ProtocolNote) (requested : List ℕ) → LeavesRest catalog m (with_others m handles notes requested) []
+same_rest catalog m handles notes requested = record {
+  store = refl;
+  discovered = sym (append-nil m.discovered);
+  scheduled = sym (append-nil m.scheduled);
+  started = refl;
+  actions = refl;
+  lines = refl;
+  ended = refl;
+}
+
+-- a reply that changes no more than the handles, the notifications and the requests
+pub changed : (catalog : Catalog) (m : DxeMachine) (frame : DriverFrame) (action : Action) (reply : Reply) (old new : Services)
+    → (handles : HandleState) (notes : List ProtocolNote) (requested : List ℕ)
+    → AreServicesOf catalog m old → new.order ≡ old.order → handles ≡ new.handles → notes ≡ new.notes → AreFlags requested new.requested
+    → own_dxe_effect catalog m frame action ≡ Called reply.name (reply_in reply frame.registers (with_others m handles notes requested) [])
+    → IsReply catalog m frame action reply new
+changed catalog m frame action reply old new handles notes requested has same handles_are notes_are flags e = record {
+  later = with_others m handles notes requested;
+  volumes = [];
+  does = e;
+  has = record { handles = handles_are; notes = notes_are; order = subst (λ order. IsOrderOf catalog m.discovered order) (sym same) has.order; requested = flags };
+  rest = same_rest catalog m handles notes requested;
+}
+
+-- a reply that changes nothing
+pub unchanged : (catalog : Catalog) (m : DxeMachine) (frame : DriverFrame) (action : Action) (reply : Reply) (services : Services)
+    → AreServicesOf catalog m services → own_dxe_effect catalog m frame action ≡ Called reply.name (reply_in reply frame.registers m [])
+    → IsReply catalog m frame action reply services
+unchanged catalog m frame action reply services has e = record {
+  later = m;
+  volumes = [];
+  does = e;
+  has = has;
+  rest = same_rest catalog m m.handles m.notes m.requested;
+}
+
+-- a refusal
+pub refuses : (catalog : Catalog) (m : DxeMachine) (frame : DriverFrame) (action : Action) (reply : Reply) (services : Services) (name : CallName) (status : Word)
+    → AreServicesOf catalog m services → reply ≡ refusal name status → own_dxe_effect catalog m frame action ≡ Called name (dxe_refusal m frame status)
+    → IsReply catalog m frame action reply services
+refuses catalog m frame action reply services name status has is e =
+    subst (λ r. IsReply catalog m frame action r services) (sym is) (unchanged catalog m frame action (refusal name status) services has e)

@@ -1,0 +1,21 @@
+use Rattle.std.proofs.Common.{◌≡◌, ◌<◌, sym, subst, length, Some}
+use Rattle.dxe_action.specs.Requests.{Requests, asked_for}
+use Rattle.dxe_action.specs.Services.{Services}
+use Rattle.act_code.specs.declared.action.Action.TheVariants as A
+use Rattle.dxe_action.proofs.Requested.{named, none_named, with_flag}
+use Rattle.dxe_action.proofs.schedule.schedule.Goals as goal
+
+pub returns-in-None-clause-row : goal.returns-in-None-clause-row
+returns-in-None-clause-row c = λ frame m has waits. none_named c.args.catalog.now m frame c.args.services.now c.args.name.now c.refusal.result has waits c.in-None.ensures.first c.refusal.ensures
+
+pub returns-in-Some-clause-row : goal.returns-in-Some-clause-row
+returns-in-Some-clause-row c = λ frame.
+    let catalog = c.args.catalog.now in
+    let name = c.args.name.now in
+    let number = c.in-Some.number in
+    let inside = c.services.inside in
+    let old : Services = record { handles = inside.handles; notes = inside.notes; order = inside.order; requested = inside.requested } in
+    let within : number < length c.args.services.now.requested = subst (λ n. number < n) (sym c.requires.flags) c.in-Some.ensures.within in
+    subst (λ requested. Requests catalog c.args.services.now frame (A.Schedule name) c.told.result (record old { requested = requested })) (sym c.set.ensures)
+    (subst (λ s. number < length s.requested → Some number ≡ asked_for catalog s.requested name s.order.drivers → Requests catalog s frame (A.Schedule name) c.told.result (with_flag old number)) c.services.view_is
+    (λ few first m has waits. named catalog m frame old name number c.told.result has waits few first c.told.ensures) within c.in-Some.ensures.first)

@@ -1,0 +1,4 @@
+mod Scheduling
+mod Companions
+mod Walks
+mod Filling

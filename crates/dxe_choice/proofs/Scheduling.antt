@@ -1,0 +1,165 @@
+-- Drivers are scheduled one after the other.
+use Rattle.std.proofs.Common.{◌≡◌, ℕ, zero, suc, ◌+◌, ◌<◌, ◌≤◌, ◌==◌, Bool, true, false, ◌&&◌, ◌||◌, not, List, [], ◌∷◌, ◌++◌, length, drop, get_or, map, reverse, refl, sym, subst, ap, ◌∙◌, arith, append_assoc}
+use Rattle.std.proofs.lemmas.List.{append-nil, drop-append-le, drop_more, length-set, map-append, reverse-append}
+use Rattle.std.proofs.lemmas.List.Folds.{list_any-append}
+use Rattle.std.proofs.Math.ListN.{drop_of_length-le}
+use Rattle.std.proofs.Math.Dec.{eqb-zero-suc, eqb-suc-zero}
+use Rattle.std.specs.Prelude.{slice_set, flat_map}
+use Rattle.std.specs.List.{list_any}
+use Rattle.std.proofs.lemmas.Bool.Decides.{nat_tests}
+use Rattle.pi_base.specs.Lists.{Each}
+use Rattle.catalog_model.specs.declared.catalog.Catalog.{Catalog}
+use Rattle.pi_base.specs.declared.phase.Phase.TheVariants.{Dxe}
+use Rattle.catalog_model.specs.Parts.{has_number, part_at, part_of}
+use Rattle.boot_model.specs.declared.licence.Licence.{Licence}
+use Rattle.boot_model.specs.declared.driver.Scheduled.{Scheduled}
+use Rattle.boot_model.specs.DxeMachine.{DxeMachine}
+use Rattle.boot_model.specs.DxeChoice.{a_priori_drivers, driver_licence, schedule_of}
+use Rattle.boot_laws.proofs.ListFacts.{each_more, each_append, within}
+use Rattle.boot_laws.proofs.Distinct.{all_differ, few_below}
+use Rattle.boot_laws.proofs.PartLists.{IsKnown, IsPartOfVolume, known_of, ranked_in, ranked_are}
+use Rattle.dxe_choice.specs.Choosing.{AllWait, IsNumberOf, Schedules, as_apriori, is_among}
+use Rattle.dxe_choice.specs.Queue.{Queue, IsDriver, IsQueueFor, IsQueueOf, SchedulesApriori, waits_at}
+
+-- neither of two, one after the other
+neither : (x y w : Bool) → (not y && (not x && w)) ≡ (not (x || y) && w)
+neither true true w = refl
+neither true false w = refl
+neither false y w = refl
+
+pub none_scheduled : (queue : Queue) → Schedules queue [] queue
+none_scheduled queue = record { scheduled = sym (append-nil queue.scheduled); waits = λ n. refl; flags = refl }
+
+pub scheduled_then : (queue mid later : Queue) (a b : List Scheduled) → Schedules queue a mid → Schedules mid b later → Schedules queue (a ++ b) later
+scheduled_then queue mid later a b f g = record {
+  scheduled = g.scheduled ∙ ap (λ xs. xs ++ b) f.scheduled ∙ append_assoc queue.scheduled a b;
+  waits = λ n. g.waits n ∙ ap (λ w. not (is_among b n) && w) (f.waits n) ∙ neither (is_among a n) (is_among b n) (waits_at queue.waits n)
+      ∙ ap (λ t. not t && waits_at queue.waits n) (sym (list_any-append (λ (next : Scheduled). next.module_number == n) a b));
+  flags = g.flags ∙ f.flags;
+}
+
+same_next : (k n : ℕ) (b c : Bool) → (k == n) ≡ b → (suc k == suc n) ≡ c → (k == n) ≡ (suc k == suc n)
+same_next k n true true e f = e ∙ sym f
+same_next k n true false e f = absurd (grind (arith, nat_tests))
+same_next k n false true e f = absurd (grind (arith, nat_tests))
+same_next k n false false e f = e ∙ sym f
+
+-- the flag of one number is taken down
+clear_at : (flags : List Bool) (k n : ℕ) → k < length flags → waits_at (slice_set flags k false) n ≡ (not ((k == n) || false) && waits_at flags n)
+clear_at [] k n h = absurd (omega (arith, h))
+clear_at (flag ∷ flags) zero zero h = refl
+clear_at (flag ∷ flags) zero (suc n) h = ap (λ b. not (b || false) && waits_at flags n) (sym (eqb-zero-suc n))
+clear_at (flag ∷ flags) (suc k) zero h = ap (λ b. not (b || false) && flag) (sym (eqb-suc-zero k))
+clear_at (flag ∷ flags) (suc k) (suc n) h =
+    clear_at flags k n (omega (arith, h)) ∙ ap (λ b. not (b || false) && waits_at flags n) (same_next k n (k == n) (suc k == suc n) refl refl)
+
+-- one driver behind all that were ever scheduled
+pub one_scheduled : (items new : List Scheduled) (head : ℕ) (flags later : List Bool) (x : Scheduled) → head ≤ length items → x.module_number < length flags → new ≡ items ++ x ∷ []
+    → later ≡ slice_set flags x.module_number false → Schedules (record { scheduled = drop head items; waits = flags }) (x ∷ []) (record { scheduled = drop head new; waits = later })
+one_scheduled items new head flags later x within number more cleared = record {
+  scheduled = ap (drop head) more ∙ drop-append-le head items (x ∷ []) within;
+  waits = λ n. ap (λ fs. waits_at fs n) cleared ∙ clear_at flags x.module_number n number;
+  flags = ap length cleared ∙ length-set flags x.module_number false;
+}
+
+-- one flag more that is up
+pub one_waits : (flags : List Bool) → AllWait flags → AllWait (flags ++ true ∷ [])
+one_waits [] up zero = refl
+one_waits [] up (suc n) = refl
+one_waits (flag ∷ flags) up zero = up zero
+one_waits (flag ∷ flags) up (suc n) = one_waits flags (λ k. up (suc k)) n
+
+-- a machine that has so many drivers more in its queue
+pub row_of : (catalog : Catalog) (volumes : List ℕ) (queue later : Queue) → Schedules queue (a_priori_drivers catalog volumes) later → SchedulesApriori catalog queue volumes later
+row_of catalog volumes queue later g m new q s t =
+    let added = a_priori_drivers catalog volumes in
+    let is : ℕ → Scheduled → Bool = λ n next. next.module_number == n in
+    record {
+      scheduled = s ∙ ap (λ xs. xs ++ added) q.scheduled ∙ sym g.scheduled;
+      waits = λ n. g.waits n ∙ ap (λ w. not (is_among added n) && w) (q.waits n) ∙ neither (list_any (is n) m.scheduled) (is_among added n) (not (has_number m.started n))
+          ∙ ap (λ b. not b && not (has_number m.started n)) (sym (list_any-append (is n) m.scheduled added))
+          ∙ ap (λ xs. not (list_any (is n) xs) && not (has_number m.started n)) (sym s)
+          ∙ ap (λ ns. not (list_any (is n) new.scheduled) && not (has_number ns n)) (sym t);
+    }
+
+each_map : (P : Scheduled → Type 0) (f : ℕ → Scheduled) (xs : List ℕ) → Each (λ x. P (f x)) xs → Each P (map f xs)
+each_map P f [] e = tt
+each_map P f (x ∷ xs) e = (e.0, each_map P f xs e.1)
+
+-- what is scheduled of drivers are drivers
+pub mapped_drivers : (catalog : Catalog) (volumes : List ℕ) (f : ℕ → Scheduled) → ((n : ℕ) → (f n).module_number ≡ n) → (xs : List ℕ) → Each (IsKnown catalog volumes) xs → Each (IsDriver catalog) (map f xs)
+mapped_drivers catalog volumes f same xs e =
+    each_map (IsDriver catalog) f xs
+    (each_more (IsKnown catalog volumes) (λ x. IsDriver catalog (f x)) xs (λ x is. subst (λ n. IsDriver catalog (record { module_number = n; licence = (f x).licence })) (sym (same x)) is.0) e)
+
+pub ranked_drivers : (catalog : Catalog) (volumes : List ℕ) → Each (IsDriver catalog) (a_priori_drivers catalog volumes)
+ranked_drivers catalog volumes =
+    mapped_drivers catalog volumes as_apriori (λ n. refl) (flat_map (ranked_in catalog) volumes) (known_of catalog (ranked_in catalog) (ranked_are catalog) volumes)
+
+pub still_for : (catalog : Catalog) (queue later : Queue) (added : List Scheduled) → IsQueueFor catalog queue → Each (IsDriver catalog) added → Schedules queue added later → IsQueueFor catalog later
+still_for catalog queue later added q e g = record {
+  flags = g.flags ∙ q.flags;
+  drivers = subst (λ xs. Each (IsDriver catalog) xs) (sym g.scheduled) (each_append (IsDriver catalog) queue.scheduled added q.drivers e);
+}
+
+-- one number more of those that are left
+pub ranked_left : (P : ℕ → Type 0) (numbers : List ℕ) (i : ℕ) → i < length numbers → Each P (drop i numbers) → Each P (drop (i + 1) numbers)
+ranked_left P numbers i below e = (subst (Each P) (drop_more numbers i 0 below) e).1
+
+pub ranked_on : (old now next : Queue) (numbers : List ℕ) (i : ℕ) → i < length numbers → Schedules now (as_apriori (get_or numbers i 0) ∷ []) next
+    → ((later : Queue) → Schedules now (map as_apriori (drop i numbers)) later → Schedules old (map as_apriori numbers) later)
+    → (later : Queue) → Schedules next (map as_apriori (drop (i + 1) numbers)) later → Schedules old (map as_apriori numbers) later
+ranked_on old now next numbers i below one on later rest =
+    on later (subst (λ xs. Schedules now (map as_apriori xs) later) (sym (drop_more numbers i 0 below))
+    (scheduled_then now next later (as_apriori (get_or numbers i 0) ∷ []) (map as_apriori (drop (i + 1) numbers)) one rest))
+
+ranked_volumes : (catalog : Catalog) (volume : ℕ) (volumes : List ℕ) → a_priori_drivers catalog (volume ∷ []) ++ a_priori_drivers catalog volumes ≡ a_priori_drivers catalog (volume ∷ volumes)
+ranked_volumes catalog volume volumes =
+    let here = ranked_in catalog volume in
+    let rest = flat_map (ranked_in catalog) volumes in
+    sym (map-append as_apriori (here ++ []) rest) ∙ ap (λ xs. map as_apriori (xs ++ rest)) (append-nil here)
+
+-- one volume more of those that are left
+pub volumes_on : (catalog : Catalog) (old now next : Queue) (volumes : List ℕ) (i : ℕ) → i < length volumes → Schedules now (a_priori_drivers catalog (get_or volumes i 0 ∷ [])) next
+    → ((later : Queue) → Schedules now (a_priori_drivers catalog (drop i volumes)) later → Schedules old (a_priori_drivers catalog volumes) later)
+    → (later : Queue) → Schedules next (a_priori_drivers catalog (drop (i + 1) volumes)) later → Schedules old (a_priori_drivers catalog volumes) later
+volumes_on catalog old now next volumes i below one on later rest =
+    let volume = get_or volumes i 0 in
+    on later (subst (λ xs. Schedules now xs later) (ranked_volumes catalog volume (drop (i + 1) volumes) ∙ ap (a_priori_drivers catalog) (sym (drop_more volumes i 0 below)))
+    (scheduled_then now next later (a_priori_drivers catalog (volume ∷ [])) (a_priori_drivers catalog (drop (i + 1) volumes)) one rest))
+
+pub volumes_done : (catalog : Catalog) (old now : Queue) (volumes : List ℕ) (i : ℕ) → length volumes ≤ i
+    → ((later : Queue) → Schedules now (a_priori_drivers catalog (drop i volumes)) later → Schedules old (a_priori_drivers catalog volumes) later) → Schedules old (a_priori_drivers catalog volumes) now
+volumes_done catalog old now volumes i out on = on now (subst (λ xs. Schedules now (a_priori_drivers catalog xs) now) (sym (drop_of_length-le volumes out)) (none_scheduled now))
+
+pub each_front : {A : Type 0} (P : A → Type 0) (xs ys : List A) → Each P (xs ++ ys) → Each P xs
+each_front P [] ys e = tt
+each_front P (x ∷ xs) ys e = (e.0, each_front P xs ys e.1)
+
+-- one driver more of a group, which is given last driver first
+pub group_on : (catalog : Catalog) (old now next : Queue) (group rest whole : List ℕ) (number : ℕ) (licence : Licence) → group ≡ rest ++ number ∷ [] → licence ≡ driver_licence (part_at Dxe catalog number)
+    → Schedules now (record { module_number = number; licence = licence } ∷ []) next
+    → ((later : Queue) → Schedules now (schedule_of catalog (reverse group)) later → Schedules old (schedule_of catalog whole) later)
+    → (later : Queue) → Schedules next (schedule_of catalog (reverse rest)) later → Schedules old (schedule_of catalog whole) later
+group_on catalog old now next group rest whole number licence split is one on later more =
+    let turned : reverse group ≡ number ∷ reverse rest = ap (λ (xs : List ℕ). reverse xs) split ∙ reverse-append rest (number ∷ []) in
+    let first = subst (λ l. Schedules now (record { module_number = number; licence = l } ∷ []) next) is one in
+    on later (subst (λ xs. Schedules now (schedule_of catalog xs) later) (sym turned)
+    (scheduled_then now next later (record { module_number = number; licence = driver_licence (part_at Dxe catalog number) } ∷ []) (schedule_of catalog (reverse rest)) first more))
+
+-- the a priori drivers of a volume are modules of the catalogue, and no more than there are
+ranked_below : (catalog : Catalog) (volume : ℕ) → Each (λ n. n < length catalog.modules) (ranked_in catalog volume)
+ranked_below catalog volume =
+    each_more (IsPartOfVolume Dxe catalog volume) (λ n. n < length catalog.modules) (ranked_in catalog volume) (λ n is. within (part_of Dxe) catalog.modules n is.0) (ranked_are catalog volume).1
+
+pub ranked_room : (catalog : Catalog) (volume most : ℕ) (none : List ℕ) → none ≡ [] → length catalog.modules ≤ most → length (none ++ ranked_in catalog volume) ≤ most
+ranked_room catalog volume most none empty few =
+    let fits = few_below (ranked_in catalog volume) (length catalog.modules) (all_differ (ranked_in catalog volume) (ranked_are catalog volume).0) (ranked_below catalog volume) in
+    let same : length (none ++ ranked_in catalog volume) ≡ length (ranked_in catalog volume) = ap (λ xs. length (xs ++ ranked_in catalog volume)) empty in
+    omega (arith, fits, few, same)
+
+pub ranked_numbers : (catalog : Catalog) (volume : ℕ) (queue : Queue) (none parts numbers : List ℕ) → none ≡ [] → parts ≡ none ++ ranked_in catalog volume → numbers ≡ parts → length queue.waits ≡ length catalog.modules
+    → Each (IsNumberOf queue) numbers
+ranked_numbers catalog volume queue none parts numbers empty pushed are flags =
+    subst (Each (IsNumberOf queue)) (sym (are ∙ pushed ∙ ap (λ xs. xs ++ ranked_in catalog volume) empty))
+    (subst (λ (n : ℕ). Each (λ k. k < n) (ranked_in catalog volume)) (sym flags) (ranked_below catalog volume))

@@ -1,0 +1,89 @@
+-- Which case of a step applies, and what the step's answer then says.
+use Rattle.std.proofs.Common.{◌≡◌, ℕ, Bool, false, Bor, List, [], ◌∷◌, ◌++◌, length, Option, Some, None, sym, ap, ◌∙◌, subst, Ok}
+use Rattle.std.specs.Prelude.{is_none, is_some, not, option_copied}
+use Rattle.std.specs.Option.{option_and_then, option_to_list}
+use Rattle.std.proofs.lemmas.List.{append-nil}
+use Rattle.catalog_model.specs.declared.catalog.Catalog.{Catalog}
+use Rattle.boot_model.specs.declared.driver.ProtocolNote.{ProtocolNote}
+use Rattle.boot_model.specs.declared.driver.ProtocolSweep.{ProtocolSweep}
+use Rattle.boot_model.specs.declared.phase_end.DxeEnd.{DxeEnd}
+use Rattle.boot_model.specs.DxeChoice.{a_priori_drivers}
+use Rattle.boot_model.specs.DxeMachine.{DxeMachine, DriverFrame}
+use Rattle.boot_model.specs.DxeStep.{DxeCase, DxeFires, DxeActs, dxe_case_in, dxe_case_of, dxe_step, in_dxe_case, next_note}
+use Rattle.frames.specs.Frames.{top_of, top_sweep}
+use Rattle.boot_model.specs.EvaluationBound.{dxe_case_guids}
+use Rattle.dxe_core.specs.declared.event.Event.{Event}
+use Rattle.dxe_core.specs.declared.event.Stepped.{Stepped}
+use Rattle.dxe_core.specs.declared.event.Stepped.TheVariants.{Went, Ended}
+use Rattle.dxe_core.specs.Parts.{FiresNext, HasDiscovered, RunsWith}
+use Rattle.dxe_core.specs.Steps.{HasStayed, HasStepped, IsCut, IsIdle, StepsTo}
+use Rattle.dxe_core.specs.Turn.{Texts, PrintedPart}
+
+-- by what the top frame's sweep gives
+abbrev by : DriverFrame → List DriverFrame → Option (ProtocolNote × ProtocolSweep) → DxeCase
+by top below next = elim next [ None ↦ DxeActs top below | Some pair ↦ DxeFires pair.0 pair.1 top below ]
+
+pub case_fires : (catalog : Catalog) (m : DxeMachine) (next : ProtocolNote × ProtocolSweep) (top : DriverFrame) (below : List DriverFrame) → m.frames ≡ top ∷ below → FiresNext (Some next) m top
+    → dxe_case_of catalog m ≡ DxeFires next.0 next.1 top below
+case_fires catalog m next top below frames fires = ap (dxe_case_in catalog m) frames ∙ ap (by top below) fires
+
+pub case_acts : (catalog : Catalog) (m : DxeMachine) (top : DriverFrame) (below : List DriverFrame) → m.frames ≡ top ∷ below → FiresNext None m top → dxe_case_of catalog m ≡ DxeActs top below
+case_acts catalog m top below frames fires = ap (dxe_case_in catalog m) frames ∙ ap (by top below) fires
+
+-- a script runs
+pub is_busy : (m : DxeMachine) (frames : List DriverFrame) (top : DriverFrame) (below : List DriverFrame) → m.frames ≡ frames → frames ≡ top ∷ below → IsIdle m → ⊥
+is_busy m [] top below e f idle = cc
+is_busy m (frame ∷ frames) top below e f idle = cc
+
+pub is_there : (found : Option (Bor DriverFrame)) (frames : List DriverFrame) (none : Bool) → option_copied found ≡ top_of frames → is_some found ≡ not none → none ≡ false → is_none (top_of frames) ≡ false
+is_there None frames none is some e = cc
+is_there (Some top) frames none is some e = ap is_none (sym is)
+
+-- and so it goes on
+pub runs_with : (next : Option (ProtocolNote × ProtocolSweep)) (m : DxeMachine) (frames : List DriverFrame) → m.frames ≡ frames → is_none (top_of frames) ≡ false → next ≡ option_and_then (next_note m) (top_sweep frames) → RunsWith next m
+runs_with next m [] e some is = cc
+runs_with next m (top ∷ below) e some is = record { top = top; below = below; frames = e; fires = sym is }
+
+-- no volume was discovered
+pub none_discovered : (catalog : Catalog) (m later : DxeMachine) → later.discovered ≡ m.discovered → later.scheduled ≡ m.scheduled → later.started ≡ m.started → HasDiscovered catalog m later
+none_discovered catalog m later discovered scheduled started =
+    record { volumes = []; discovered = discovered ∙ sym (append-nil m.discovered); scheduled = scheduled ∙ sym (append-nil m.scheduled); started = started }
+
+-- the same volumes, from a machine with the same queue
+pub discovered_from : (catalog : Catalog) (m other later : DxeMachine) → m.discovered ≡ other.discovered → m.scheduled ≡ other.scheduled → m.started ≡ other.started → HasDiscovered catalog m later → HasDiscovered catalog other later
+discovered_from catalog m other later discovered scheduled started h = record {
+  volumes = h.volumes;
+  discovered = h.discovered ∙ ap (λ xs. xs ++ h.volumes) discovered;
+  scheduled = subst (λ xs. later.scheduled ≡ xs ++ a_priori_drivers catalog h.volumes) scheduled h.scheduled;
+  started = h.started ∙ started;
+}
+
+-- an event of a case
+pub went : (Stands : DxeMachine → Type 0) (catalog : Catalog) (fuel : ℕ) (m later : DxeMachine) (case : DxeCase) (event : Event) (answer : Stepped) (t : Texts)
+    → dxe_case_of catalog m ≡ case → in_dxe_case catalog fuel m case ≡ later → (IsIdle m → ⊥)
+    → option_to_list event.changed ≡ dxe_case_guids catalog fuel m case → event.known ≡ length m.discovered → HasDiscovered catalog m later → answer ≡ Went event
+    → HasStepped Stands m later t → StepsTo Stands catalog fuel m t (Ok answer)
+went Stands catalog fuel m later case event answer t e is busy changed known discovers answered h =
+    let to : dxe_step catalog fuel m ≡ later = ap (in_dxe_case catalog fuel m) e ∙ is in
+    let found = subst (HasDiscovered catalog m) (sym to) discovers in
+    subst (λ x. StepsTo Stands catalog fuel m t (Ok x)) (sym answered) (
+      busy,
+      record {
+        changed = changed ∙ ap (dxe_case_guids catalog fuel m) (sym e);
+        known = known;
+        volumes = found.volumes;
+        discovered = found.discovered;
+        scheduled = found.scheduled;
+        started = found.started;
+      },
+      subst (λ x. HasStepped Stands m x t) (sym to) h,
+    )
+
+-- a part of its lines
+pub part : (catalog : Catalog) (fuel : ℕ) (m later : DxeMachine) (case : DxeCase) (t : Texts) → dxe_case_of catalog m ≡ case → in_dxe_case catalog fuel m case ≡ later → PrintedPart m later t → PrintedPart m (dxe_step catalog fuel m) t
+part catalog fuel m later case t e is h = subst (λ x. PrintedPart m x t) (sym (ap (in_dxe_case catalog fuel m) e ∙ is)) h
+
+-- an end
+pub ended : (Stands : DxeMachine → Type 0) (catalog : Catalog) (fuel : ℕ) (m : DxeMachine) (case : DxeCase) (end : DxeEnd) (t : Texts)
+    → dxe_case_of catalog m ≡ case → in_dxe_case catalog fuel m case ≡ record m { ended = Some end } → IsCut end → HasStayed Stands m t → StepsTo Stands catalog fuel m t (Ok (Ended end))
+ended Stands catalog fuel m case end t e is cut stayed = record { cut = cut; ended = ap (in_dxe_case catalog fuel m) e ∙ is; stayed = stayed }

@@ -1,0 +1,87 @@
+-- What an action of DXE's own, of the top frame, leaves.
+use Rattle.std.proofs.Common.{◌≡◌, ℕ, List, [], ◌∷◌, ◌++◌, length, drop, refl, sym, ap, ◌∙◌, subst, Some, None}
+use Rattle.act_code.specs.declared.action.Action.{Action}
+use Rattle.catalog_model.specs.declared.catalog.Catalog.{Catalog}
+use Rattle.boot_model.specs.declared.driver.ProtocolSweep.{ProtocolSweep}
+use Rattle.boot_model.specs.declared.line.Line.{Line}
+use Rattle.boot_model.specs.declared.line.Line.TheVariants as L
+use Rattle.boot_model.specs.Discovery.{discovery_lines}
+use Rattle.boot_model.specs.DxeAction.{Called, DxeReply, dxe_effect, own_dxe_effect}
+use Rattle.boot_model.specs.DxeMachine.{DriverFrame, DxeMachine}
+use Rattle.boot_model.specs.DxeStep.{after_dxe_call, after_dxe_effect}
+use Rattle.dxe_action.specs.Reply.{IsReply, reply_in}
+use Rattle.dxe_action.specs.Services.{Services}
+use Rattle.dxe_action.specs.declared.reply.Reply.{Reply}
+use Rattle.frames.specs.Alike.{AreAlike}
+use Rattle.frames.specs.Deed.{deed}
+use Rattle.frames.specs.Frames.{answered, top_of}
+use Rattle.frames.specs.Writes.{written}
+use Rattle.dxe_core.specs.Parts.{HasDiscovered, acted_to}
+use Rattle.dxe_core.specs.Standing.{DxeCore, IsCoreOf}
+use Rattle.dxe_core.proofs.Fired.{same_services}
+
+-- the frame that was found is the top one
+same_some : {A : Type 0} (a b : A) → Some a ≡ Some b → a ≡ b
+same_some a b e = cc
+
+pub top_is : (found top : DriverFrame) (below frames of : List DriverFrame) → Some found ≡ top_of frames → of ≡ frames → of ≡ top ∷ below → found ≡ top
+top_is found top below frames of e same is = same_some found top (e ∙ ap top_of (sym same ∙ is))
+
+abbrev pub call_line : Reply → Line
+call_line reply = L.Call reply.name reply.status reply.extra
+
+-- a service replied to the top frame
+pub record Replied (catalog : Catalog) (m : DxeMachine) (top : DriverFrame) (below : List DriverFrame) (action : Action) (reply : Reply) (core : DxeCore) : Type 0 where
+  pub volumes : List ℕ
+  pub later : DxeMachine
+  pub effect_is : dxe_effect catalog m top action ≡ Called reply.name (reply_in reply top.registers later volumes)
+  pub store : (acted_to catalog m top below action).store ≡ m.store
+  pub fields : IsCoreOf catalog core (acted_to catalog m top below action)
+  pub discovers : HasDiscovered catalog m (acted_to catalog m top below action)
+  pub all : core.services.order.volumes ≡ m.discovered ++ volumes
+  pub printed : (acted_to catalog m top below action).lines ≡ m.lines ++ (call_line reply ∷ discovery_lines volumes)
+
+-- the machine behind the reply
+abbrev to : DxeMachine → DriverFrame → List DriverFrame → Reply → List ℕ → DxeMachine
+to later top below reply volumes = after_dxe_call top below (call_line reply) (reply_in reply top.registers later volumes)
+
+reply_core : (catalog : Catalog) (m : DxeMachine) (top : DriverFrame) (below : List DriverFrame) (action : Action) (reply : Reply) (core : DxeCore) (services : Services) (frames : List DriverFrame)
+    → (r : IsReply catalog m top action reply services) → IsCoreOf catalog core m → frames ≡ answered top (written top.registers reply.writes) reply.status reply.sweep ∷ below
+    → IsCoreOf catalog (record core { frames = frames; services = services }) (to r.later top below reply r.volumes)
+reply_core catalog m top below action reply core services frames r of is = record {
+  frames = sym is;
+  services = same_services catalog r.later (to r.later top below reply r.volumes) services refl refl refl refl r.has;
+  actions = r.rest.actions ∙ of.actions;
+  running = r.rest.ended ∙ of.running;
+}
+
+pub replied : (law : AreAlike ProtocolSweep DxeReply ⊥) (catalog : Catalog) (m : DxeMachine) (found top : DriverFrame) (below : List DriverFrame) (action : Action) (reply : Reply) (core : DxeCore) (services : Services) (frames : List DriverFrame)
+    → found ≡ top → deed top action ≡ None → IsReply catalog m found action reply services → IsCoreOf catalog core m → frames ≡ answered top (written top.registers reply.writes) reply.status reply.sweep ∷ below
+    → Replied catalog m top below action reply (record core { frames = frames; services = services })
+replied law catalog m found top below action reply core services frames same own given of is =
+    let r = subst (λ f. IsReply catalog m f action reply services) same given in
+    let effect_is : dxe_effect catalog m top action ≡ Called reply.name (reply_in reply top.registers r.later r.volumes) = law.one (own_dxe_effect catalog m top) top action own ∙ r.does in
+    let leads : acted_to catalog m top below action ≡ to r.later top below reply r.volumes = ap (after_dxe_effect m top below) effect_is in
+    record {
+      volumes = r.volumes;
+      later = r.later;
+      effect_is = effect_is;
+      store = ap (λ (x : DxeMachine). x.store) leads ∙ r.rest.store;
+      fields = subst (IsCoreOf catalog (record core { frames = frames; services = services })) (sym leads) (reply_core catalog m top below action reply core services frames r of is);
+      discovers = record {
+        volumes = r.volumes;
+        discovered = ap (λ (x : DxeMachine). x.discovered) leads ∙ r.rest.discovered;
+        scheduled = ap (λ (x : DxeMachine). x.scheduled) leads ∙ r.rest.scheduled;
+        started = ap (λ (x : DxeMachine). x.started) leads ∙ r.rest.started;
+      };
+      all = r.has.order.volumes_are ∙ r.rest.discovered;
+      printed = ap (λ (x : DxeMachine). x.lines) leads ∙ ap (λ lines. lines ++ (call_line reply ∷ discovery_lines r.volumes)) r.rest.lines;
+    }
+
+-- those that are shown stand behind those that were known
+dropped : (xs ys : List ℕ) → drop (length xs) (xs ++ ys) ≡ ys
+dropped [] ys = refl
+dropped (x ∷ xs) ys = dropped xs ys
+
+pub shown_are : (discovered volumes all shown : List ℕ) (known : ℕ) → all ≡ discovered ++ volumes → known ≡ length discovered → shown ≡ drop known all → shown ≡ volumes
+shown_are discovered volumes all shown known e count is = is ∙ ap (λ n. drop n all) count ∙ ap (drop (length discovered)) e ∙ dropped discovered volumes

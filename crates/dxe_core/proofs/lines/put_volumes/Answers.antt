@@ -1,0 +1,11 @@
+use Rattle.boot_io.proofs.PutsLaws.{puts_err}
+use Rattle.boot_model.specs.Discovery.{discovery_lines}
+use Rattle.boot_model.specs.Text.{text_of}
+use Rattle.dxe_core.proofs.VolumeLines.{part_of_volumes}
+use Rattle.dxe_core.proofs.lines.put_volumes.Goals as goal
+
+pub returns-in_err-print-clause-text : goal.returns-in_err-print-clause-text
+returns-in_err-print-clause-text g c =
+    let T = g.S.Sink.text in
+    puts_err c.from_residual.result (T c.args.sink.now) (T c.print.new.sink) (text_of (discovery_lines c.args.volumes.now)) c.from_residual.ensures.0
+    (part_of_volumes c.args.volumes.now c.volumes.volume-index (T c.args.sink.now) (T c.volumes.sink) (T c.print.new.sink) c.volumes-test.true c.volumes.invariant.text c.in_err-print.ensures.text)

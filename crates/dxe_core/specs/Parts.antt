@@ -1,0 +1,96 @@
+-- What a part of a step leaves: the later machine with the lines that were put and the protocol that was changed, or why there is none.
+-- Own.
+use Rattle.std.specs.Prelude.{◌≡◌, ◌<◌, ℕ, List, ◌∷◌, ◌++◌, Option, Some, None, Result, Ok, Err}
+use Rattle.std.specs.Option.{option_and_then, option_to_list}
+use Rattle.boot_io.specs.declared.halt.Halt.{Halt}
+use Rattle.pi_base.specs.declared.guid.Guid.{Guid}
+use Rattle.pi_base.specs.declared.phase.Phase.TheVariants.{Dxe}
+use Rattle.act_code.specs.declared.action.Action.{Action}
+use Rattle.catalog_model.specs.declared.catalog.Catalog.{Catalog}
+use Rattle.store_model.specs.StoreState.{StoreState}
+use Rattle.boot_model.specs.DxeAction.{dxe_effect}
+use Rattle.boot_model.specs.DxeChoice.{a_priori_drivers}
+use Rattle.boot_model.specs.declared.driver.ProtocolNote.{ProtocolNote}
+use Rattle.boot_model.specs.declared.driver.ProtocolSweep.{ProtocolSweep}
+use Rattle.boot_model.specs.DxeMachine.{DxeMachine, DriverFrame}
+use Rattle.boot_model.specs.DxeStep.{after_dxe_effect, next_note}
+use Rattle.boot_model.specs.EvaluationBound.{dxe_action_guids}
+use Rattle.boot_laws.specs.UnrequestedDrivers.{WaitForRequest}
+use Rattle.frames.specs.Deed.{deed}
+use Rattle.frames.specs.Needs.{IsScriptAction}
+use Rattle.frames.specs.declared.frame.TheConstants.{MOST_ACTIONS}
+use Rattle.dxe_action.specs.Services.{AreCounted, AreServicesFor}
+use Rattle.dxe_core.specs.declared.event.Stepped.{Stepped}
+use Rattle.dxe_core.specs.Standing.{DxeCore, IsFor, StandsFor}
+use Rattle.dxe_core.specs.Steps.{HasStepped, StepsTo}
+use Rattle.dxe_core.specs.Turn.{Texts, PrintedPart}
+
+-- this notification of a frame's sweep begins next, with that sweep behind it, or none does
+abbrev pub FiresNext : Option (ProtocolNote × ProtocolSweep) → DxeMachine → DriverFrame → Type 0
+FiresNext next m top = option_and_then (next_note m) top.sweep ≡ next
+
+-- a script runs, and so it goes on
+pub record RunsWith (next : Option (ProtocolNote × ProtocolSweep)) (m : DxeMachine) : Type 0 where
+  pub top : DriverFrame
+  pub below : List DriverFrame
+  pub frames : m.frames ≡ top ∷ below
+  pub fires : FiresNext next m top
+
+abbrev pub RunsScript : DxeMachine → Type 0
+RunsScript m = RunsWith None m
+
+-- a step from each machine of a case that the core beside its store stands for, and in which drivers wait for their request
+abbrev pub StepsIn : {M : Type 0} → (DxeMachine → Type 0) → (M → StoreState → Type 0) → M → Catalog → DxeCore → DxeCore → Option (List ℕ) → Option (List ℕ) → Result Stepped Halt → Type 0
+StepsIn Case stands store catalog core later old new result =
+    (m : DxeMachine) (fuel : ℕ) → IsFor catalog fuel core → StandsFor stands store catalog core m → WaitForRequest catalog m → Case m
+    → StepsTo (StandsFor stands store catalog later) catalog fuel m (record { old = old; new = new }) result
+
+-- the same where no notification begins, and where this one does
+abbrev pub StepsScript : {M : Type 0} → (M → StoreState → Type 0) → M → Catalog → DxeCore → DxeCore → Option (List ℕ) → Option (List ℕ) → Result Stepped Halt → Type 0
+StepsScript stands store catalog core later old new result = StepsIn RunsScript stands store catalog core later old new result
+
+abbrev pub StepsFired : {M : Type 0} → ProtocolNote × ProtocolSweep → (M → StoreState → Type 0) → M → Catalog → DxeCore → DxeCore → Option (List ℕ) → Option (List ℕ) → Result Stepped Halt → Type 0
+StepsFired next stands store catalog core later old new result = StepsIn (RunsWith (Some next)) stands store catalog core later old new result
+
+-- an action of DXE's own stands next in the top frame's script
+pub record TakesOwn (action : Action) (m : DxeMachine) : Type 0 where
+  pub top : DriverFrame
+  pub below : List DriverFrame
+  pub frames : m.frames ≡ top ∷ below
+  pub own : deed top action ≡ None
+  pub fits : IsScriptAction Dxe action
+  pub within : top.position < MOST_ACTIONS
+
+-- the machine behind an action of its top frame
+abbrev pub acted_to : Catalog → DxeMachine → DriverFrame → List DriverFrame → Action → DxeMachine
+acted_to catalog m top below action = after_dxe_effect m top below (dxe_effect catalog m top action)
+
+-- the volumes that an event discovered stand behind those that there were, and their a priori drivers behind the queue; nothing has started
+pub record HasDiscovered (catalog : Catalog) (m later : DxeMachine) : Type 0 where
+  pub volumes : List ℕ
+  pub discovered : later.discovered ≡ m.discovered ++ volumes
+  pub scheduled : later.scheduled ≡ m.scheduled ++ a_priori_drivers catalog volumes
+  pub started : later.started ≡ m.started
+
+-- an action of the top frame was taken, and has changed this protocol
+pub record HasTaken (Stands : DxeMachine → Type 0) (catalog : Catalog) (m : DxeMachine) (own : DriverFrame × List DriverFrame) (action : Action) (t : Texts) (protocol : Option Guid) : Type 0 where
+  pub changed : option_to_list protocol ≡ dxe_action_guids catalog m own.0 action
+  pub discovers : HasDiscovered catalog m (acted_to catalog m own.0 own.1 action)
+  pub stepped : HasStepped Stands m (acted_to catalog m own.0 own.1 action) t
+
+-- by the answer
+abbrev pub TakesTo : (DxeMachine → Type 0) → Catalog → DxeMachine → DriverFrame × List DriverFrame → Action → Texts → Result (Option Guid) Halt → Type 0
+TakesTo Stands catalog m own action t (Ok changed) = HasTaken Stands catalog m own action t changed
+TakesTo Stands catalog m own action t (Err halt) = PrintedPart m (acted_to catalog m own.0 own.1 action) t
+
+-- an action of DXE's own, from each machine that the core beside its store stands for and in whose top frame it stands
+abbrev pub Acts : {M : Type 0} → (M → StoreState → Type 0) → M → Catalog → Action → DxeCore → DxeCore → Option (List ℕ) → Option (List ℕ) → Result (Option Guid) Halt → Type 0
+Acts stands store catalog action core later old new result =
+    (m : DxeMachine) → StandsFor stands store catalog core m → WaitForRequest catalog m → (own : TakesOwn action m)
+    → TakesTo (StandsFor stands store catalog later) catalog m (own.top, own.below) action (record { old = old; new = new }) result
+
+-- what an action leaves of what the core keeps, where n actions were counted before it
+pub record KeepsFor (catalog : Catalog) (core later : DxeCore) : Type 0 where
+  pub made : AreServicesFor catalog later.services
+  pub counted : AreCounted later.fuel.taken later.services
+  pub limit : later.fuel.limit ≡ core.fuel.limit

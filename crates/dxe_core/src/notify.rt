@@ -1,0 +1,80 @@
+//! The notifications of the top frame's sweep.
+ghost use Rattle.std.specs.Prelude.{◌≡◌, ℕ, OnOk};
+ghost use Rattle.std.specs.Option.{option_and_then};
+ghost use Rattle.boot_io.specs.Halted.{HaltsAfter};
+ghost use Rattle.boot_model.specs.DxeMachine.{DxeMachine, protocol_frame};
+ghost use Rattle.boot_model.specs.DxeStep.{next_note};
+ghost use Rattle.frames.specs.Frames.{top_sweep};
+ghost use Rattle.dxe_core.specs.Parts.{StepsFired};
+ghost use Rattle.dxe_core.specs.Standing.{IsFor};
+
+use crate::dxe::Dxe;
+use crate::event::Stepped;
+use crate::lines::{print, protocol_line};
+use boot_io::{Halt, Sink};
+use boot_model::{DriverFrame, DxeEnd, ProtocolNote, ProtocolSweep, Register};
+use catalog_model::Catalog;
+use dxe_action::DxeServices;
+use frames::{begin_notification, notified};
+use store_model::PeiStore;
+
+// The frame in which a notification runs: it is told the interface and the handle.
+fn notification_frame(note: &ProtocolNote, sweep: &ProtocolSweep) -> DriverFrame
+    ensures { result ≡ protocol_frame sweep.now note.now }
+{
+    notified(
+        note.module_number,
+        note.block,
+        Register::Number(sweep.interface),
+        Register::HandleIn(sweep.handle),
+    )
+}
+
+// The first notification of a sweep's protocol that it has still to visit, and the sweep behind it.
+fn next_of(services: &DxeServices, sweep: ProtocolSweep) -> Option<(ProtocolNote, ProtocolSweep)>
+    ensures { (m : DxeMachine) → m.notes ≡ services.now.notes → result ≡ next_note m sweep }
+{
+    'notes: for place in sweep.note_at..sweep.note_to {
+        if let Some(note) = services.note(place) {
+            if note.guid == sweep.guid {
+                let mut behind = sweep;
+                behind.note_at = place + 1;
+                return Some((*note, behind));
+            }
+        }
+    }
+    None
+}
+
+impl Dxe {
+    // The notification of the top frame's call that begins next, and the sweep behind it.
+    pub(crate) fn next_notification(&self) -> Option<(ProtocolNote, ProtocolSweep)>
+        ensures { (m : DxeMachine) → m.notes ≡ self.now.services.notes → result ≡ option_and_then (next_note m) (top_sweep self.now.frames) }
+    {
+        match self.frames.sweep() {
+            Some(sweep) => next_of(&self.services, sweep),
+            None => None,
+        }
+    }
+
+    // The notification begins, unless as many frames stand as may.
+    pub(crate) fn notify<M: PeiStore, S: Sink>(
+        &mut self,
+        store: &M,
+        catalog: &Catalog,
+        next: (ProtocolNote, ProtocolSweep),
+        sink: &mut S,
+    ) -> Result<Stepped, Halt>
+        ensures row { StepsFired next M.stands_for store.now catalog.now self.old self.new (S.text sink.old) (S.text sink.new) result }
+        ensures made { OnOk result ((fuel : ℕ) → IsFor catalog.now fuel self.old → IsFor catalog.now fuel self.new) }
+        ensures faults { HaltsAfter result (S.faults sink.old) (S.faults sink.new) }
+    {
+        let (note, sweep) = next;
+        let known = self.services.order().volumes().len();
+        if !begin_notification(&mut self.frames, notification_frame(&note, &sweep), sweep) {
+            return Ok(Stepped::Ended(DxeEnd::Deep));
+        }
+        print(sink, protocol_line(catalog, &sweep, &note))?;
+        Ok(Stepped::by(None, known))
+    }
+}
