@@ -6,11 +6,17 @@ ghost use Rattle.store_model.specs.Service.{Present, OfEach};
 ghost use Rattle.store_model.specs.StoreCall.{Anything};
 ghost use Rattle.dxe_dispatch.specs.Ends.{Boots};
 
+use crate::run::run_dxe;
 use boot_io::{Halt, Sink};
 use boot_model::DxeEnd;
 use catalog_model::Catalog;
+use depex_code::Steps;
+use dxe_choice::DriverQueue;
+use dxe_core::Dxe;
 use dxe_handles::Handles;
 use std::alloc::Global;
+use std::marker::Brand;
+use std::sync::ledger::{Blank, Ledger};
 use store_model::PeiStore;
 
 /// What DXE leaves at its end.
@@ -20,6 +26,36 @@ pub struct Ended {
     pub end: DxeEnd,
     /// The handles, with their interfaces.
     pub handles: Handles,
+}
+
+// The expressions that are evaluated are counted in the ledger of a blank.
+fn boot_with_ledger<M: PeiStore, S: Sink, L: Ledger>(
+    alloc: Global,
+    store: &M,
+    catalog: &Catalog,
+    fuel: u32,
+    taken: u32,
+    sink: &mut S,
+    blank: Blank,
+) -> Result<Ended, Halt>
+    requires catalog { IsWellFormed catalog.now }
+    requires state { Present (M.stands_for store.now) Anything }
+    requires name { blank.name ≡ L.name }
+    requires parts { blank.parts ≡ L.parts }
+    requires counts { 0 < L.parts }
+    ensures row { OfEach (M.stands_for store.now) Anything (Boots catalog.now fuel taken (S.text sink.old) (S.text sink.new) result) }
+    ensures few { IfOk result (λ ended. length ended.handles.interfaces < 2 ^ 32) }
+    ensures faults { HaltsAfter result (S.faults sink.old) (S.faults sink.new) }
+{
+    let bases = store.fv_bases()?;
+    let mut dxe = Dxe::begin(alloc, catalog, bases.as_slice(), fuel, taken)?;
+    let mut queue = DriverQueue::new(alloc, catalog)?;
+    let mut steps = Steps::<L>::new(blank);
+    let end = run_dxe(&mut dxe, store, &mut queue, catalog, sink, &mut steps)?;
+    Ok(Ended {
+        end,
+        handles: dxe.into_handles(),
+    })
 }
 
 /// The whole of DXE behind the hand-off of a store. `fuel` is how many actions may be taken in both phases, and `taken` how many PEI took.
@@ -37,6 +73,5 @@ pub fn boot_dxe<M: PeiStore, S: Sink>(
     ensures few { IfOk result (λ ended. length ended.handles.interfaces < 2 ^ 32) }
     ensures faults { HaltsAfter result (S.faults sink.old) (S.faults sink.new) }
 {
-    store.fv_bases()?;
-    Err(Halt::Memory)
+    boot_with_ledger::<M, S, Brand>(alloc, store, catalog, fuel, taken, sink, Blank::new(1))
 }

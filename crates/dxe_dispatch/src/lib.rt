@@ -2,5 +2,12 @@
 #![tactic(auto)]
 
 mod boot;
+mod choose;
+mod run;
+mod stop;
+mod turn;
+mod volumes;
+mod waiting;
 
 pub use boot::{Ended, boot_dxe};
+pub use run::run_dxe;

@@ -1,4 +1,4 @@
-use Rattle.std.proofs.Common.{ℕ, List, ap, ◌∙◌, sym, refl, subst, ◌++◌, ◌≤◌, ◌≡◌, length, append_assoc}
+use Rattle.std.proofs.Common.{ℕ, List, ap, ◌∙◌, sym, refl, subst, ◌++◌, ◌≤◌, length, append_assoc}
 use Rattle.pi_base.specs.declared.phase.Phase.TheVariants.{Pei}
 use Rattle.catalog_model.specs.declared.limits.TheConstants.{MOST_MODULES}
 use Rattle.phase_parts.specs.Parts.{ranked_parts, unranked_parts}

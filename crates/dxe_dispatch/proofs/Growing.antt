@@ -1,0 +1,174 @@
+-- A step of DXE adds lines and takes none away, and takes no more actions than the fuel lets it.
+use Rattle.std.proofs.Common.{◌≡◌, ℕ, zero, suc, ◌+◌, ◌<◌, Bool, true, false, cond, List, [], ◌∷◌, ◌++◌, length, nat_le, Option, Some, None, refl, sym, ap, ◌∙◌, Ok, Err, option_map, arith}
+use Rattle.std.specs.Prelude.{◌%◌, ◌^◌, ⊤}
+use Rattle.std.proofs.lemmas.List.{append-nil}
+use Rattle.std.proofs.lemmas.Bool.Decides.{nat_tests}
+use Rattle.pi_base.specs.declared.guid.Guid.{Guid}
+use Rattle.pi_base.specs.declared.phase.Phase.TheVariants.{Dxe}
+use Rattle.pi_base.specs.declared.word.Word.{Word}
+use Rattle.pi_base.specs.declared.word.Word.TheVariants.{InvalidParameter, NotFound, AlreadyStarted}
+use Rattle.act_code.specs.declared.action.Action.{Action}
+use Rattle.act_code.specs.declared.action.Action.TheVariants as A
+use Rattle.catalog_model.specs.declared.catalog.Catalog.{Catalog}
+use Rattle.catalog_model.specs.declared.catalog.Part.{Part}
+use Rattle.catalog_model.specs.Parts.{has_number, part_at, volume_at}
+use Rattle.store_model.specs.MemoryReading.{bytes_at}
+use Rattle.store_model.specs.HandleState.{HandleState, HandleService, install_interface, reinstall_interface, uninstall_interface, locate_handle}
+use Rattle.boot_model.specs.declared.driver.ProtocolSweep.{ProtocolSweep}
+use Rattle.boot_model.specs.declared.driver.Scheduled.{Scheduled}
+use Rattle.boot_model.specs.declared.line.Extra.TheVariants as X
+use Rattle.boot_model.specs.declared.line.Line.{Line}
+use Rattle.boot_model.specs.declared.line.Line.TheVariants as L
+use Rattle.boot_model.specs.Discovery.{discovery_lines}
+use Rattle.boot_model.specs.declared.phase_end.DxeEnd.TheVariants as DxeEnds
+use Rattle.boot_model.specs.Reporting.{newcomers}
+use Rattle.boot_model.specs.Registers.{number_in, handle_in, both}
+use Rattle.boot_model.specs.DxeMachine.{DxeMachine, DriverFrame}
+use Rattle.boot_model.specs.DxeAction.{DxeReply, DxeEffect, Wrote, Called, Logged, Skipped, Returned, Own, dxe_effect, dxe_told, dxe_where, dxe_refusal, processed, process_volume, process_reply, peek_reply, number_written, install_answer, installed_on, install_target, install_reply, reinstall_answer, reinstall_reply, protocol_sweep, uninstall_answer, uninstall_reply, locate_reply, notify_reply, unrequested_named, schedule_reply}
+use Rattle.boot_model.specs.DxeStep.{DxeCase, DxeFires, DxeActs, DxeStarts, DxeStops, dxe_case_of, in_dxe_case, dxe_step, protocol_begun, after_dxe_effect, with_action, dxe_action_at, driver_started}
+
+-- a call prints nothing by itself, and counts no action
+pub record KeepsMost (m : DxeMachine) (frame : DriverFrame) (reply : DxeReply) : Type 0 where
+  pub lines : reply.machine.lines ≡ m.lines
+  pub actions : reply.machine.actions ≡ m.actions
+
+refusal : (m : DxeMachine) (frame : DriverFrame) (status : Word) → KeepsMost m frame (dxe_refusal m frame status)
+refusal m frame status = record { lines = refl; actions = refl }
+
+done : (m : DxeMachine) (frame : DriverFrame) (reply : DxeReply) → reply.machine.lines ≡ m.lines → reply.machine.actions ≡ m.actions → KeepsMost m frame reply
+done m frame reply lines actions = record { lines = lines; actions = actions }
+
+where_keeps : {A : Type 0} (m : DxeMachine) (frame : DriverFrame) (argument : Option A) (reply : A → DxeReply) (status : Word) → ((a : A) → KeepsMost m frame (reply a)) → KeepsMost m frame (dxe_where argument reply m frame status)
+where_keeps m frame None reply status h = refusal m frame status
+where_keeps m frame (Some a) reply status h = h a
+
+abbrev EffectKeeps : DxeMachine → DriverFrame → DxeEffect → Type 0
+EffectKeeps m frame (Called name reply) = KeepsMost m frame reply
+EffectKeeps m frame (Wrote registers status) = ⊤
+EffectKeeps m frame (Logged text) = ⊤
+EffectKeeps m frame (Skipped n) = ⊤
+EffectKeeps m frame (Returned status) = ⊤
+EffectKeeps m frame (Own own) = ⊤
+
+written_keeps : (m : DxeMachine) (frame : DriverFrame) (r : ℕ) (n : Option ℕ) → EffectKeeps m frame (number_written frame.registers r n)
+written_keeps m frame r None = tt
+written_keeps m frame r (Some n) = tt
+
+installed_keeps : (m : DxeMachine) (frame : DriverFrame) (form h : ℕ) (guid : Guid) (value handle : ℕ) (new : HandleState) → KeepsMost m frame (installed_on m frame form h guid value handle new)
+installed_keeps m frame zero h guid value handle new = done m frame (installed_on m frame zero h guid value handle new) refl refl
+installed_keeps m frame (suc form) h guid value handle new = done m frame (installed_on m frame (suc form) h guid value handle new) refl refl
+
+install_keeps : (m : DxeMachine) (frame : DriverFrame) (form h : ℕ) (guid : Guid) (value : ℕ) (service : HandleService ℕ) → KeepsMost m frame (install_answer service m frame form h guid value)
+install_keeps m frame form h guid value (Ok pair) = installed_keeps m frame form h guid value pair.0 pair.1
+install_keeps m frame form h guid value (Err status) = refusal m frame status
+
+reinstall_keeps : (m : DxeMachine) (frame : DriverFrame) (sweep : ProtocolSweep) (service : HandleService (Unit {0})) → KeepsMost m frame (reinstall_answer service m frame sweep)
+reinstall_keeps m frame sweep (Ok pair) = done m frame (reinstall_answer (Ok pair) m frame sweep) refl refl
+reinstall_keeps m frame sweep (Err status) = refusal m frame status
+
+uninstall_keeps : (m : DxeMachine) (frame : DriverFrame) (service : HandleService (Unit {0})) → KeepsMost m frame (uninstall_answer service m frame)
+uninstall_keeps m frame (Ok pair) = done m frame (uninstall_answer (Ok pair) m frame) refl refl
+uninstall_keeps m frame (Err status) = refusal m frame status
+
+either_keeps : (m : DxeMachine) (frame : DriverFrame) (b : Bool) (one other : DxeReply) → KeepsMost m frame one → KeepsMost m frame other → KeepsMost m frame (cond b one other)
+either_keeps m frame true one other h k = h
+either_keeps m frame false one other h k = k
+
+process_keeps : (catalog : Catalog) (m : DxeMachine) (frame : DriverFrame) (volume : ℕ) → KeepsMost m frame (process_volume catalog m frame volume)
+process_keeps catalog m frame volume =
+    let found = processed catalog m frame (newcomers catalog m.discovered (Some volume)) in
+    either_keeps m frame (has_number m.discovered volume) (dxe_refusal m frame AlreadyStarted) found (refusal m frame AlreadyStarted) (done m frame found refl refl)
+
+scheduled_keeps : (m : DxeMachine) (frame : DriverFrame) (number : ℕ) → KeepsMost m frame (schedule_reply m frame number)
+scheduled_keeps m frame number = record { lines = refl; actions = refl }
+
+effect_keeps : (catalog : Catalog) (m : DxeMachine) (frame : DriverFrame) (action : Action) → EffectKeeps m frame (dxe_effect catalog m frame action)
+effect_keeps catalog m frame (A.Set r n) = tt
+effect_keeps catalog m frame (A.Add r n) = written_keeps m frame r (option_map (λ old. (old + n) % 2 ^ 64) (number_in frame.registers r))
+effect_keeps catalog m frame (A.Peek v n) =
+    where_keeps m frame (number_in frame.registers v) (peek_reply m frame n) InvalidParameter
+    (λ at. where_keeps m frame (bytes_at m.store at n) (λ bytes. dxe_told m frame.registers (X.Bytes (record { items = bytes }))) NotFound
+    (λ bytes. done m frame (dxe_told m frame.registers (X.Bytes (record { items = bytes }))) refl refl))
+effect_keeps catalog m frame (A.DxeInstall form h guid v) =
+    where_keeps m frame (both (install_target frame form h) (number_in frame.registers v)) (install_reply m frame form h guid) InvalidParameter
+    (λ pair. install_keeps m frame form h guid pair.1 (install_interface m.handles pair.0 guid pair.1))
+effect_keeps catalog m frame (A.DxeReinstall h guid old new) =
+    where_keeps m frame (both (handle_in frame.registers h) (both (number_in frame.registers old) (number_in frame.registers new))) (reinstall_reply m frame guid) InvalidParameter
+    (λ triple. reinstall_keeps m frame (protocol_sweep m guid triple.1.1 triple.0) (reinstall_interface m.handles triple.0 guid triple.1.0 triple.1.1))
+effect_keeps catalog m frame (A.DxeUninstall h guid v) =
+    where_keeps m frame (both (handle_in frame.registers h) (number_in frame.registers v)) (uninstall_reply m frame guid) InvalidParameter
+    (λ pair. uninstall_keeps m frame (uninstall_interface m.handles pair.0 guid pair.1))
+effect_keeps catalog m frame (A.DxeLocate h v guid) =
+    where_keeps m frame (locate_handle m.handles guid) (locate_reply m frame h v) NotFound (λ found. done m frame (locate_reply m frame h v found) refl refl)
+effect_keeps catalog m frame (A.DxeNotify guid block) = done m frame (notify_reply m frame guid block) refl refl
+effect_keeps catalog m frame (A.Schedule name) = where_keeps m frame (unrequested_named catalog m name) (schedule_reply m frame) NotFound (scheduled_keeps m frame)
+effect_keeps catalog m frame (A.Process v) =
+    where_keeps m frame (number_in frame.registers v) (process_reply catalog m frame) InvalidParameter
+    (λ base. where_keeps m frame (volume_at catalog base) (process_volume catalog m frame) NotFound (process_keeps catalog m frame))
+effect_keeps catalog m frame A.Dispatch = refusal m frame AlreadyStarted
+effect_keeps catalog m frame (A.Log text) = tt
+effect_keeps catalog m frame (A.SkipIf condition n) = tt
+effect_keeps catalog m frame (A.Ret status) = tt
+effect_keeps catalog m frame (A.Addr v x offset) = tt
+effect_keeps catalog m frame (A.Pool r size) = tt
+effect_keeps catalog m frame (A.Store p offset bytes) = tt
+effect_keeps catalog m frame (A.Desc d kind guid arg) = tt
+effect_keeps catalog m frame (A.Install list) = tt
+effect_keeps catalog m frame (A.Reinstall old new) = tt
+effect_keeps catalog m frame (A.Notify list) = tt
+effect_keeps catalog m frame (A.Locate d v guid instance) = tt
+effect_keeps catalog m frame (A.Hob kind body) = tt
+effect_keeps catalog m frame (A.Memory begin length) = tt
+effect_keeps catalog m frame (A.Pages r memory_type count) = tt
+effect_keeps catalog m frame (A.BootMode form r) = tt
+effect_keeps catalog m frame A.Shadow = tt
+
+-- lines may have come, and the actions are fewer than this
+pub record Grew (m : DxeMachine) (most : ℕ) (later : DxeMachine) : Type 0 where
+  pub told : List Line
+  pub lines : later.lines ≡ m.lines ++ told
+  pub actions : later.actions < most
+
+silent : (m : DxeMachine) (most : ℕ) (later : DxeMachine) → later.lines ≡ m.lines → later.actions < most → Grew m most later
+silent m most later none few = record { told = []; lines = none ∙ sym (append-nil m.lines); actions = few }
+
+either_grew : (m : DxeMachine) (most : ℕ) (b : Bool) (one other : DxeMachine) → Grew m most one → (b ≡ false → Grew m most other) → Grew m most (cond b one other)
+either_grew m most true one other h k = h
+either_grew m most false one other h k = k refl
+
+effect_grew : (m : DxeMachine) (most : ℕ) (frame : DriverFrame) (below : List DriverFrame) (e : DxeEffect) → EffectKeeps m frame e → m.actions < most → Grew m most (after_dxe_effect m frame below e)
+effect_grew m most frame below (Wrote registers status) k few = silent m most (after_dxe_effect m frame below (Wrote registers status)) refl few
+effect_grew m most frame below (Called name reply) k few =
+    let actions = k.actions in
+    let told : List Line = L.Call name reply.status reply.extra ∷ discovery_lines reply.volumes in
+    record { told = told; lines = ap (λ lines. lines ++ told) k.lines; actions = omega (arith, actions, few) }
+effect_grew m most frame below (Logged text) k few = record { told = _; lines = refl; actions = few }
+effect_grew m most frame below (Skipped n) k few = silent m most (after_dxe_effect m frame below (Skipped n)) refl few
+effect_grew m most frame below (Returned status) k few = record { told = _; lines = refl; actions = few }
+effect_grew m most frame below (Own own) k few = absurd own
+
+start_grew : (catalog : Catalog) (m : DxeMachine) (most : ℕ) (next : Scheduled) (queue : List Scheduled) (part : Option Part) → m.actions < most → Grew m most (driver_started catalog m next queue part)
+start_grew catalog m most next queue None few = silent m most (driver_started catalog m next queue None) refl few
+start_grew catalog m most next queue (Some part) few = record { told = _; lines = refl; actions = few }
+
+has_fuel : (fuel actions most : ℕ) → nat_le fuel actions ≡ false → fuel < most → actions + 1 < most
+has_fuel fuel actions most h few = grind (arith, nat_tests)
+
+case_grew : (catalog : Catalog) (fuel most : ℕ) (m : DxeMachine) (case : DxeCase) → fuel < most → m.actions < most → Grew m most (in_dxe_case catalog fuel m case)
+case_grew catalog fuel most m (DxeFires note sweep frame below) bound few =
+    either_grew m most (nat_le 64 (length m.frames)) (record m { ended = Some DxeEnds.Deep }) (protocol_begun catalog m note sweep frame below)
+    (silent m most (record m { ended = Some DxeEnds.Deep }) refl few) (λ _. record { told = _; lines = refl; actions = few })
+case_grew catalog fuel most m (DxeActs frame below) bound few =
+    let acting : DxeMachine = with_action m in
+    let action = dxe_action_at catalog frame in
+    let does : DxeEffect = dxe_effect catalog acting frame action in
+    either_grew m most (nat_le fuel m.actions) (record m { ended = Some DxeEnds.Spent }) (after_dxe_effect acting frame below does)
+    (silent m most (record m { ended = Some DxeEnds.Spent }) refl few)
+    (λ more. let grew = effect_grew acting most frame below does (effect_keeps catalog acting frame action) (has_fuel fuel m.actions most more bound) in
+    record { told = grew.told; lines = grew.lines; actions = grew.actions })
+case_grew catalog fuel most m (DxeStarts next queue) bound few = start_grew catalog m most next queue (part_at Dxe catalog next.module_number) few
+case_grew catalog fuel most m DxeStops bound few = record { told = _; lines = refl; actions = few }
+
+-- a step, where the fuel and the actions that were taken are fewer than this
+pub step_grew : (catalog : Catalog) (fuel most : ℕ) (m : DxeMachine) → fuel < most → m.actions < most → Grew m most (dxe_step catalog fuel m)
+step_grew catalog fuel most m = case_grew catalog fuel most m (dxe_case_of catalog m)

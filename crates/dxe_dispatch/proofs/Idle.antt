@@ -1,0 +1,29 @@
+-- What a step is where no script runs: the start of the next driver, or the stop.
+use Rattle.std.proofs.Common.{◌≡◌, ℕ, true, List, Option, Some, None, refl, ap, ◌∙◌, is_some}
+use Rattle.pi_base.specs.declared.phase.Phase.TheVariants.{Dxe}
+use Rattle.catalog_model.specs.declared.catalog.Catalog.{Catalog}
+use Rattle.catalog_model.specs.declared.catalog.Part.{Part}
+use Rattle.catalog_model.specs.Parts.{part_at}
+use Rattle.boot_model.specs.declared.driver.Scheduled.{Scheduled}
+use Rattle.boot_model.specs.DxeChoice.{next_driver}
+use Rattle.boot_model.specs.DxeMachine.{DxeMachine}
+use Rattle.boot_model.specs.DxeStep.{dxe_case_in, in_dxe_case, queue_case, dxe_step, driver_started, dxe_stopped}
+use Rattle.dxe_choice.specs.Queue.{Queue, IsQueueOf, IsDriver, IsNext}
+use Rattle.dxe_core.specs.Steps.{IsIdle}
+
+pub step_starts : (catalog : Catalog) (fuel : ℕ) (m : DxeMachine) (next : Scheduled) (rest : List Scheduled) → IsIdle m → next_driver catalog m ≡ Some (next, rest)
+    → dxe_step catalog fuel m ≡ driver_started catalog m next rest (part_at Dxe catalog next.module_number)
+step_starts catalog fuel m next rest idle found = ap (in_dxe_case catalog fuel m) (ap (dxe_case_in catalog m) idle ∙ ap queue_case found)
+
+pub step_stops : (catalog : Catalog) (fuel : ℕ) (m : DxeMachine) → IsIdle m → next_driver catalog m ≡ None → dxe_step catalog fuel m ≡ dxe_stopped catalog m
+step_stops catalog fuel m idle none = ap (in_dxe_case catalog fuel m) (ap (dxe_case_in catalog m) idle ∙ ap queue_case none)
+
+queue_by : (catalog : Catalog) (m : DxeMachine) (next : Scheduled) (later : Queue) (chosen : IsNext catalog m next later) (part : Option Part) → is_some part ≡ true
+    → IsQueueOf (driver_started catalog m next chosen.rest part) later
+queue_by catalog m next later chosen None some = cc
+queue_by catalog m next later chosen (Some part) some = chosen.behind (driver_started catalog m next chosen.rest (Some part)) refl refl
+
+-- the queue behind the start of the driver that comes next
+pub started_queue : (catalog : Catalog) (m : DxeMachine) (next : Scheduled) (later : Queue) (chosen : IsNext catalog m next later) → IsDriver catalog next
+    → IsQueueOf (driver_started catalog m next chosen.rest (part_at Dxe catalog next.module_number)) later
+started_queue catalog m next later chosen driver = queue_by catalog m next later chosen (part_at Dxe catalog next.module_number) driver

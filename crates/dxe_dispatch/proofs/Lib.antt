@@ -1,0 +1,9 @@
+mod Growing
+mod Idle
+mod Lines
+mod Openings
+mod Runs
+mod Standing
+mod Turning
+mod Waits
+mod Ways

@@ -1,0 +1,85 @@
+-- Texts of lists of lines.
+use Rattle.std.proofs.Common.{◌≡◌, ◌<◌, ◌≤◌, ℕ, ◌+◌, List, [], ◌∷◌, ◌++◌, Option, Some, refl, sym, ap, ◌∙◌, subst, flat_map, map, Result, take, get_or, length}
+use Rattle.std.specs.Io.KnownBytes.{Appends}
+use Rattle.boot_io.proofs.PutsLaws.{appends_none, puts_then, part_of_more, part_of_lines, lines_more}
+use Rattle.std.specs.Option.{option_to_list}
+use Rattle.std.proofs.lemmas.List.{append-nil, take_all}
+use Rattle.std.proofs.lemmas.Grind.{flat_map-append, get_or_default_zero}
+use Rattle.boot_io.specs.declared.sink.SinkFault.{SinkFault}
+use Rattle.boot_io.specs.Sink.{Puts, AppendsPart}
+use Rattle.boot_model.specs.declared.line.Line.{Line}
+use Rattle.boot_model.specs.Text.{line_text, text_of}
+
+-- one line
+pub one_line : (line : Line) → text_of (line ∷ []) ≡ line_text line
+one_line line = append-nil (line_text line)
+
+-- a line that there is
+pub puts_some : (r : Result (Unit {0}) SinkFault) (old new : Option (List ℕ)) (o : Option Line) (line : Line) → o ≡ Some line → Puts r old new (line_text line) → Puts r old new (text_of (option_to_list o))
+puts_some r old new o line is puts =
+    let P : Option Line → Type 0 = λ x. Puts r old new (text_of (option_to_list x)) in
+    let Q : List ℕ → Type 0 = λ x. Puts r old new x in
+    subst P (sym is) (subst Q (sym (one_line line)) puts)
+
+-- item by item
+pub text_of-flat_map : {X : Type 0} (lines : X → List Line) (xs : List X) → text_of (flat_map lines xs) ≡ flat_map (λ x. text_of (lines x)) xs
+text_of-flat_map lines [] = refl
+text_of-flat_map lines (x ∷ xs) = flat_map-append line_text (lines x) (flat_map lines xs) ∙ ap (λ t. text_of (lines x) ++ t) (text_of-flat_map lines xs)
+
+pub text_of-map : {X : Type 0} (line : X → Line) (xs : List X) → text_of (map line xs) ≡ flat_map (λ x. line_text (line x)) xs
+text_of-map line [] = refl
+text_of-map line (x ∷ xs) = ap (λ t. line_text (line x) ++ t) (text_of-map line xs)
+
+pub text_of-append : (a b : List Line) → text_of (a ++ b) ≡ text_of a ++ text_of b
+text_of-append a b = flat_map-append line_text a b
+
+-- lines, and then a call for others
+pub lines_then : (r : Result (Unit {0}) SinkFault) (old mid new : Option (List ℕ)) (a b : List Line) → Appends old mid (text_of a) → Puts r mid new (text_of b) → Puts r old new (text_of (a ++ b))
+lines_then r old mid new a b f p =
+    let P : List ℕ → Type 0 = λ t. Puts r old new t in
+    subst P (sym (text_of-append a b)) (puts_then r old mid new (text_of a) (text_of b) f p)
+
+-- one line, and then a call for others
+pub line_then : (r : Result (Unit {0}) SinkFault) (old mid new : Option (List ℕ)) (line : Line) (b : List Line) → Appends old mid (line_text line) → Puts r mid new (text_of b) → Puts r old new (text_of (line ∷ b))
+line_then r old mid new line b f p = puts_then r old mid new (line_text line) (text_of b) f p
+
+-- a part of lines is a part of more of them
+pub part_of_longer : (old new : Option (List ℕ)) (a b : List Line) → AppendsPart old new (text_of a) → AppendsPart old new (text_of (a ++ b))
+part_of_longer old new a b p =
+    let P : List ℕ → Type 0 = λ t. AppendsPart old new t in
+    subst P (sym (text_of-append a b)) (part_of_more old new (text_of a) (text_of b) p)
+
+-- the whole is a part, and so is nothing
+pub part_whole : (old new : Option (List ℕ)) (text : List ℕ) → Appends old new text → AppendsPart old new text
+part_whole old new text f = (text, ([], sym (append-nil text)), f)
+
+pub part_none : (old : Option (List ℕ)) (text : List ℕ) → AppendsPart old old text
+part_none old text = ([], (text, refl), appends_none old)
+
+-- a number in the list
+item_is : (xs : List ℕ) (i : ℕ) → i < length xs → get_or xs i 0 ≡ get_or xs i (get_or xs i 0)
+item_is xs i within = sym (get_or_default_zero xs i (get_or xs i 0) within)
+
+-- lines of numbers so far, and the next one
+pub part_of_each : (lines : ℕ → List Line) (xs : List ℕ) (i : ℕ) (old mid new : Option (List ℕ)) → i < length xs
+    → Appends old mid (flat_map (λ x. text_of (lines x)) (take i xs)) → AppendsPart mid new (text_of (lines (get_or xs i 0))) → AppendsPart old new (text_of (flat_map lines xs))
+part_of_each lines xs i old mid new within f p =
+    let P : List ℕ → Type 0 = λ t. AppendsPart old new t in
+    subst P (sym (text_of-flat_map lines xs)) (part_of_lines (λ x. text_of (lines x)) xs i (get_or xs i 0) old mid new within (item_is xs i within) f p)
+
+pub each_more : (lines : ℕ → List Line) (xs : List ℕ) (i : ℕ) (old mid new : Option (List ℕ)) → i < length xs
+    → Appends old mid (flat_map (λ x. text_of (lines x)) (take i xs)) → Appends mid new (text_of (lines (get_or xs i 0))) → Appends old new (flat_map (λ x. text_of (lines x)) (take (i + 1) xs))
+each_more lines xs i old mid new within f p = lines_more (λ x. text_of (lines x)) xs i (get_or xs i 0) old mid new within (item_is xs i within) f p
+
+pub each_done : (lines : ℕ → List Line) (xs : List ℕ) (i : ℕ) (old new : Option (List ℕ)) → length xs ≤ i
+    → Appends old new (flat_map (λ x. text_of (lines x)) (take i xs)) → Appends old new (text_of (flat_map lines xs))
+each_done lines xs i old new all f =
+    let P : List ℕ → Type 0 = λ t. Appends old new t in
+    subst P (ap (flat_map (λ x. text_of (lines x))) (take_all i xs all) ∙ sym (text_of-flat_map lines xs)) f
+
+pub part_of_map : (line : ℕ → Line) (xs : List ℕ) (i : ℕ) (old mid new : Option (List ℕ)) → i < length xs
+    → Appends old mid (text_of (map line (take i xs))) → AppendsPart mid new (line_text (line (get_or xs i 0))) → AppendsPart old new (text_of (map line xs))
+part_of_map line xs i old mid new within f p =
+    let P : List ℕ → Type 0 = λ t. AppendsPart old new t in
+    let Q : List ℕ → Type 0 = λ t. Appends old mid t in
+    subst P (sym (text_of-map line xs)) (part_of_lines (λ x. line_text (line x)) xs i (get_or xs i 0) old mid new within (item_is xs i within) (subst Q (text_of-map line (take i xs)) f) p)

@@ -1,0 +1,35 @@
+-- The lines of the drivers that wait after the stop, as they are put.
+-- Own.
+use Rattle.std.specs.Prelude.{◌≡◌, ℕ, Bool, if◌then◌else◌, List, [], ◌∷◌, Option, Result, flat_map}
+use Rattle.boot_io.specs.Sink.{Puts}
+use Rattle.boot_io.specs.declared.sink.SinkFault.{SinkFault}
+use Rattle.catalog_model.specs.declared.catalog.Catalog.{Catalog}
+use Rattle.catalog_model.specs.Parts.{has_number}
+use Rattle.boot_model.specs.declared.line.Line.{Line}
+use Rattle.boot_model.specs.DxeChoice.{is_waiting}
+use Rattle.boot_model.specs.DxeMachine.{DxeMachine}
+use Rattle.boot_model.specs.DxeStep.{driver_waiting_line}
+use Rattle.boot_model.specs.Text.{text_of}
+use Rattle.dxe_action.specs.Services.{AreFlags}
+use Rattle.dxe_choice.specs.Queue.{Queue, IsQueueOf}
+
+-- the line of a driver, if it waits
+abbrev pub line_where : Bool → Line → List Line
+line_where waits line = if waits then line ∷ [] else []
+
+abbrev pub waiting_line : Catalog → DxeMachine → ℕ → List Line
+waiting_line catalog m number = line_where (is_waiting m number) (driver_waiting_line catalog m number)
+
+-- the lines of those of these drivers that wait
+abbrev pub lines_of : Catalog → DxeMachine → List ℕ → List Line
+lines_of catalog m numbers = flat_map (waiting_line catalog m) numbers
+
+-- the line of a driver that waits or not, and was requested or not
+abbrev pub PutsWaiting : Catalog → ℕ → Bool → Bool → Option (List ℕ) → Option (List ℕ) → Result (Unit {0}) SinkFault → Type 0
+PutsWaiting catalog number waits requested old new result =
+    (m : DxeMachine) → waits ≡ is_waiting m number → requested ≡ has_number m.requested number → Puts result old new (text_of (waiting_line catalog m number))
+
+-- the lines of these drivers, by the queue and the requests
+abbrev pub PutsAllWaiting : Catalog → List ℕ → Queue → List Bool → Option (List ℕ) → Option (List ℕ) → Result (Unit {0}) SinkFault → Type 0
+PutsAllWaiting catalog numbers queue requested old new result =
+    (m : DxeMachine) → IsQueueOf m queue → AreFlags m.requested requested → Puts result old new (text_of (lines_of catalog m numbers))

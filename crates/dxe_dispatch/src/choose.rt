@@ -1,0 +1,38 @@
+// The next driver.
+ghost use Rattle.std.specs.Prelude.{◌≤◌, ◌+◌, length, IfOk, OnOk, IfSome};
+ghost use Rattle.boot_model.specs.DxeMachine.{DxeMachine};
+ghost use Rattle.catalog_model.specs.WellFormed.{IsWellFormed};
+ghost use Rattle.dxe_choice.specs.Queue.{IsDriver, IsQueueFor};
+ghost use Rattle.dxe_dispatch.specs.Turns.{AreOf, Chooses};
+
+use boot_model::Scheduled;
+use catalog_model::Catalog;
+use depex_code::Steps;
+use dxe_choice::DriverQueue;
+use dxe_core::Dxe;
+use pi_base::OutOfMemory;
+use std::sync::ledger::Ledger;
+
+/// The next driver over what the core keeps, which leaves the queue. None where no driver may start.
+pub(crate) fn choose<L: Ledger>(
+    dxe: &Dxe,
+    queue: &mut DriverQueue,
+    catalog: &Catalog,
+    steps: &mut Steps<L>,
+) -> Result<Option<Scheduled>, OutOfMemory>
+    requires catalog { IsWellFormed catalog.now }
+    requires made { IsQueueFor catalog.now queue.old }
+    requires state { (m : DxeMachine) × AreOf catalog.now dxe.now queue.old m }
+    ensures row { Chooses catalog.now dxe.now queue.old queue.new result }
+    ensures driver { IfOk result (λ next. IfSome next (IsDriver catalog.now)) }
+    ensures made { OnOk result (IsQueueFor catalog.now queue.new) }
+    ensures few_steps { steps.new ≤ steps.old + length dxe.now.services.order.drivers }
+{
+    queue.next(
+        catalog,
+        dxe.order(),
+        dxe.requested(),
+        dxe.handles(),
+        steps,
+    )
+}

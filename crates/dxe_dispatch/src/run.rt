@@ -1,0 +1,62 @@
+//! DXE to its end.
+ghost use Rattle.std.specs.Prelude.{◌≡◌, ◌≤◌, ◌<◌, ◌^◌, ℕ, OnOk, length};
+ghost use Rattle.boot_io.specs.Halted.{HaltsAfter};
+ghost use Rattle.boot_model.specs.DxeRun.{dxe_opening, dxe_bound};
+ghost use Rattle.catalog_model.specs.WellFormed.{IsWellFormed};
+ghost use Rattle.catalog_model.specs.declared.limits.TheConstants.{MOST_MODULES};
+ghost use Rattle.store_model.specs.StoreState.{StoreState};
+ghost use Rattle.dxe_choice.specs.Queue.{IsNewQueue, IsQueueFor};
+ghost use Rattle.dxe_core.specs.Standing.{IsFor, StandsFor};
+ghost use Rattle.dxe_dispatch.specs.Ends.{HasFewSteps, Runs};
+
+use crate::turn::turn;
+use crate::volumes::put_volumes;
+use boot_io::{Halt, Sink};
+use boot_laws::{dxe_runs_end, unrequested_drivers_wait};
+use boot_model::{DxeEnd, MOST_FRAMES};
+use catalog_model::Catalog;
+use depex_code::Steps;
+use dxe_choice::DriverQueue;
+use dxe_core::Dxe;
+use std::sync::ledger::Ledger;
+use store_model::PeiStore;
+
+// How many steps a run has at most.
+fn bound(catalog: &Catalog, fuel: u32) -> u64
+    requires { length catalog.now.modules ≤ MOST_MODULES }
+    ensures { result ≡ dxe_bound catalog.now fuel }
+{
+    2 * u64::from(fuel) + MOST_FRAMES as u64 + catalog.modules.len() as u64 + 1
+}
+
+/// DXE from the opening to its end: the a priori drivers of the volumes that were discovered are scheduled, the lines of these volumes are put, and then a step of the machine at a time, up to the stop. `dxe` is the core at its opening, and `queue` is new.
+/// Behind its end the core beside its store, and the queue, are those of the last machine. In each step of the machine at most one expression is evaluated for each driver of the discovered volumes.
+pub fn run_dxe<M: PeiStore, S: Sink, L: Ledger>(
+    dxe: &mut Dxe,
+    store: &M,
+    queue: &mut DriverQueue,
+    catalog: &Catalog,
+    sink: &mut S,
+    steps: &mut Steps<L>,
+) -> Result<DxeEnd, Halt>
+    requires catalog { IsWellFormed catalog.now }
+    requires made { (fuel : ℕ) × IsFor catalog.now fuel dxe.old }
+    requires new { IsNewQueue queue.old }
+    requires queue { IsQueueFor catalog.now queue.old }
+    requires opening { (s : StoreState) × (actions : ℕ) × StandsFor M.stands_for store.now catalog.now dxe.old (dxe_opening catalog.now s actions) }
+    ensures row { Runs M.stands_for store.now catalog.now dxe.old dxe.new queue.new (S.text sink.old) (S.text sink.new) result }
+    ensures few { dxe.old.fuel.taken < 2 ^ 32 → OnOk result (length dxe.new.services.handles.interfaces < 2 ^ 32) }
+    ensures faults { HaltsAfter result (S.faults sink.old) (S.faults sink.new) }
+    ensures few_steps { HasFewSteps M.stands_for store.now catalog.now dxe.old steps.old steps.new }
+{
+    dxe_runs_end();
+    unrequested_drivers_wait();
+    queue.schedule_a_priori(catalog, dxe.order().volumes())?;
+    put_volumes(sink, dxe.order().volumes())?;
+    'turns: for _ in 0..bound(catalog, dxe.fuel()) {
+        if let Some(end) = turn(dxe, store, queue, catalog, sink, steps)? {
+            return Ok(end);
+        }
+    }
+    unreachable!()
+}
