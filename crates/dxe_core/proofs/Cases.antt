@@ -1,22 +1,25 @@
 -- Which case of a step applies, and what the step's answer then says.
-use Rattle.std.proofs.Common.{◌≡◌, ℕ, Bool, false, Bor, List, [], ◌∷◌, ◌++◌, length, Option, Some, None, sym, ap, ◌∙◌, subst, Ok}
+use Rattle.std.proofs.Common.{◌≡◌, ℕ, Bool, false, Bor, List, [], ◌∷◌, ◌++◌, length, Option, Some, None, sym, ap, ◌∙◌, subst, Result, Ok, Err}
 use Rattle.std.specs.Prelude.{is_none, is_some, not, option_copied}
-use Rattle.std.specs.Option.{option_and_then, option_to_list}
+use Rattle.std.specs.Option.{option_to_list}
 use Rattle.std.proofs.lemmas.List.{append-nil}
+use Rattle.boot_io.specs.declared.halt.Halt.{Halt}
 use Rattle.catalog_model.specs.declared.catalog.Catalog.{Catalog}
+use Rattle.store_model.specs.StoreState.{StoreState}
 use Rattle.boot_model.specs.declared.driver.ProtocolNote.{ProtocolNote}
 use Rattle.boot_model.specs.declared.driver.ProtocolSweep.{ProtocolSweep}
 use Rattle.boot_model.specs.declared.phase_end.DxeEnd.{DxeEnd}
 use Rattle.boot_model.specs.DxeChoice.{a_priori_drivers}
 use Rattle.boot_model.specs.DxeMachine.{DxeMachine, DriverFrame}
-use Rattle.boot_model.specs.DxeStep.{DxeCase, DxeFires, DxeActs, dxe_case_in, dxe_case_of, dxe_step, in_dxe_case, next_note}
-use Rattle.frames.specs.Frames.{top_of, top_sweep}
+use Rattle.boot_model.specs.DxeStep.{DxeCase, DxeFires, DxeActs, dxe_case_in, dxe_case_of, dxe_step, in_dxe_case}
+use Rattle.frames.specs.Frames.{top_of}
 use Rattle.boot_model.specs.EvaluationBound.{dxe_case_guids}
 use Rattle.dxe_core.specs.declared.event.Event.{Event}
 use Rattle.dxe_core.specs.declared.event.Stepped.{Stepped}
-use Rattle.dxe_core.specs.declared.event.Stepped.TheVariants.{Went, Ended}
-use Rattle.dxe_core.specs.Parts.{FiresNext, HasDiscovered, RunsWith}
-use Rattle.dxe_core.specs.Steps.{HasStayed, HasStepped, IsCut, IsIdle, StepsTo}
+use Rattle.dxe_core.specs.declared.event.Stepped.TheVariants.{Went, Idle, Ended}
+use Rattle.dxe_core.specs.Parts.{FiresNext, HasDiscovered, RunsWith, next_of_top}
+use Rattle.dxe_core.specs.Standing.{DxeCore, StandsFor}
+use Rattle.dxe_core.specs.Steps.{HasOver, HasStayed, HasStepped, IsCut, IsIdle, StepsTo}
 use Rattle.dxe_core.specs.Turn.{Texts, PrintedPart}
 
 -- by what the top frame's sweep gives
@@ -40,7 +43,7 @@ is_there None frames none is some e = cc
 is_there (Some top) frames none is some e = ap is_none (sym is)
 
 -- and so it goes on
-pub runs_with : (next : Option (ProtocolNote × ProtocolSweep)) (m : DxeMachine) (frames : List DriverFrame) → m.frames ≡ frames → is_none (top_of frames) ≡ false → next ≡ option_and_then (next_note m) (top_sweep frames) → RunsWith next m
+pub runs_with : (next : Option (ProtocolNote × ProtocolSweep)) (m : DxeMachine) (frames : List DriverFrame) → m.frames ≡ frames → is_none (top_of frames) ≡ false → next ≡ next_of_top m frames → RunsWith next m
 runs_with next m [] e some is = cc
 runs_with next m (top ∷ below) e some is = record { top = top; below = below; frames = e; fires = sym is }
 
@@ -87,3 +90,16 @@ part catalog fuel m later case t e is h = subst (λ x. PrintedPart m x t) (sym (
 pub ended : (Stands : DxeMachine → Type 0) (catalog : Catalog) (fuel : ℕ) (m : DxeMachine) (case : DxeCase) (end : DxeEnd) (t : Texts)
     → dxe_case_of catalog m ≡ case → in_dxe_case catalog fuel m case ≡ record m { ended = Some end } → IsCut end → HasStayed Stands m t → StepsTo Stands catalog fuel m t (Ok (Ended end))
 ended Stands catalog fuel m case end t e is cut stayed = record { cut = cut; ended = ap (in_dxe_case catalog fuel m) e ∙ is; stayed = stayed }
+
+-- over the same store, the core stands for the machine beside it
+beside : {M : Type 0} (stands : M → StoreState → Type 0) (held : M) (catalog : Catalog) (kept : DxeCore) (before m : DxeMachine) → stands held before.store → HasOver catalog kept before m → StandsFor stands held catalog kept m
+beside stands held catalog kept before m store has = record { store = subst (stands held) (sym has.store) store; core = has.core }
+
+pub over : (result : Result Stepped Halt) {M : Type 0} (stands : M → StoreState → Type 0) (held : M) (catalog : Catalog) (kept : DxeCore) (fuel : ℕ) (m : DxeMachine) (t : Texts) → stands held m.store
+    → StepsTo (HasOver catalog kept m) catalog fuel m t result → StepsTo (StandsFor stands held catalog kept) catalog fuel m t result
+over (Ok (Went event)) stands held catalog kept fuel m t store h =
+    (h.0, h.1, record { printed = h.2.printed; machine = beside stands held catalog kept m (dxe_step catalog fuel m) store h.2.machine })
+over (Ok Idle) stands held catalog kept fuel m t store h = (h.0, record { text = h.1.text; machine = beside stands held catalog kept m m store h.1.machine })
+over (Ok (Ended end)) stands held catalog kept fuel m t store h =
+    record { cut = h.cut; ended = h.ended; stayed = record { text = h.stayed.text; machine = beside stands held catalog kept m m store h.stayed.machine } }
+over (Err halt) stands held catalog kept fuel m t store h = h

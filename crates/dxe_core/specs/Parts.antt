@@ -17,17 +17,22 @@ use Rattle.boot_model.specs.DxeStep.{after_dxe_effect, next_note}
 use Rattle.boot_model.specs.EvaluationBound.{dxe_action_guids}
 use Rattle.boot_laws.specs.UnrequestedDrivers.{WaitForRequest}
 use Rattle.frames.specs.Deed.{deed}
+use Rattle.frames.specs.Frames.{top_sweep}
 use Rattle.frames.specs.Needs.{IsScriptAction}
 use Rattle.frames.specs.declared.frame.TheConstants.{MOST_ACTIONS}
 use Rattle.dxe_action.specs.Services.{AreCounted, AreServicesFor}
 use Rattle.dxe_core.specs.declared.event.Stepped.{Stepped}
-use Rattle.dxe_core.specs.Standing.{DxeCore, IsFor, StandsFor}
-use Rattle.dxe_core.specs.Steps.{HasStepped, StepsTo}
+use Rattle.dxe_core.specs.Standing.{DxeCore, IsCoreOf, IsFor, StandsFor}
+use Rattle.dxe_core.specs.Steps.{HasOver, HasStepped, StepsTo}
 use Rattle.dxe_core.specs.Turn.{Texts, PrintedPart}
 
 -- this notification of a frame's sweep begins next, with that sweep behind it, or none does
 abbrev pub FiresNext : Option (ProtocolNote × ProtocolSweep) → DxeMachine → DriverFrame → Type 0
 FiresNext next m top = option_and_then (next_note m) top.sweep ≡ next
+
+-- the same of the frames that stand
+abbrev pub next_of_top : DxeMachine → List DriverFrame → Option (ProtocolNote × ProtocolSweep)
+next_of_top m frames = option_and_then (next_note m) (top_sweep frames)
 
 -- a script runs, and so it goes on
 pub record RunsWith (next : Option (ProtocolNote × ProtocolSweep)) (m : DxeMachine) : Type 0 where
@@ -39,18 +44,17 @@ pub record RunsWith (next : Option (ProtocolNote × ProtocolSweep)) (m : DxeMach
 abbrev pub RunsScript : DxeMachine → Type 0
 RunsScript m = RunsWith None m
 
--- a step from each machine of a case that the core beside its store stands for, and in which drivers wait for their request
-abbrev pub StepsIn : {M : Type 0} → (DxeMachine → Type 0) → (M → StoreState → Type 0) → M → Catalog → DxeCore → DxeCore → Option (List ℕ) → Option (List ℕ) → Result Stepped Halt → Type 0
-StepsIn Case stands store catalog core later old new result =
-    (m : DxeMachine) (fuel : ℕ) → IsFor catalog fuel core → StandsFor stands store catalog core m → WaitForRequest catalog m → Case m
+-- a step where no notification begins, from each machine that the core beside its store stands for, and in which drivers wait for their request
+abbrev pub StepsScript : {M : Type 0} → (M → StoreState → Type 0) → M → Catalog → DxeCore → DxeCore → Option (List ℕ) → Option (List ℕ) → Result Stepped Halt → Type 0
+StepsScript stands store catalog core later old new result =
+    (m : DxeMachine) (fuel : ℕ) → IsFor catalog fuel core → StandsFor stands store catalog core m → WaitForRequest catalog m → RunsScript m
     → StepsTo (StandsFor stands store catalog later) catalog fuel m (record { old = old; new = new }) result
 
--- the same where no notification begins, and where this one does
-abbrev pub StepsScript : {M : Type 0} → (M → StoreState → Type 0) → M → Catalog → DxeCore → DxeCore → Option (List ℕ) → Option (List ℕ) → Result Stepped Halt → Type 0
-StepsScript stands store catalog core later old new result = StepsIn RunsScript stands store catalog core later old new result
-
-abbrev pub StepsFired : {M : Type 0} → ProtocolNote × ProtocolSweep → (M → StoreState → Type 0) → M → Catalog → DxeCore → DxeCore → Option (List ℕ) → Option (List ℕ) → Result Stepped Halt → Type 0
-StepsFired next stands store catalog core later old new result = StepsIn (RunsWith (Some next)) stands store catalog core later old new result
+-- a step where this notification begins, from each machine that the core has; the store stays
+abbrev pub StepsFired : ProtocolNote × ProtocolSweep → Catalog → DxeCore → DxeCore → Option (List ℕ) → Option (List ℕ) → Result Stepped Halt → Type 0
+StepsFired next catalog core later old new result =
+    (m : DxeMachine) (fuel : ℕ) → IsCoreOf catalog core m → RunsWith (Some next) m
+    → StepsTo (HasOver catalog later m) catalog fuel m (record { old = old; new = new }) result
 
 -- an action of DXE's own stands next in the top frame's script
 pub record TakesOwn (action : Action) (m : DxeMachine) : Type 0 where

@@ -84,7 +84,7 @@ impl Dxe {
             return Ok(Stepped::Idle);
         }
         match self.next_notification() {
-            Some(next) => self.notify(store, catalog, next, sink),
+            Some(next) => self.notify(catalog, next, sink),
             None => self.act(store, catalog, sink),
         }
     }

@@ -1,11 +1,9 @@
 //! The notifications of the top frame's sweep.
 ghost use Rattle.std.specs.Prelude.{◌≡◌, ℕ, OnOk};
-ghost use Rattle.std.specs.Option.{option_and_then};
 ghost use Rattle.boot_io.specs.Halted.{HaltsAfter};
 ghost use Rattle.boot_model.specs.DxeMachine.{DxeMachine, protocol_frame};
 ghost use Rattle.boot_model.specs.DxeStep.{next_note};
-ghost use Rattle.frames.specs.Frames.{top_sweep};
-ghost use Rattle.dxe_core.specs.Parts.{StepsFired};
+ghost use Rattle.dxe_core.specs.Parts.{StepsFired, next_of_top};
 ghost use Rattle.dxe_core.specs.Standing.{IsFor};
 
 use crate::dxe::Dxe;
@@ -16,7 +14,6 @@ use boot_model::{DriverFrame, DxeEnd, ProtocolNote, ProtocolSweep, Register};
 use catalog_model::Catalog;
 use dxe_action::DxeServices;
 use frames::{begin_notification, notified};
-use store_model::PeiStore;
 
 // The frame in which a notification runs: it is told the interface and the handle.
 fn notification_frame(note: &ProtocolNote, sweep: &ProtocolSweep) -> DriverFrame
@@ -49,7 +46,7 @@ fn next_of(services: &DxeServices, sweep: ProtocolSweep) -> Option<(ProtocolNote
 impl Dxe {
     // The notification of the top frame's call that begins next, and the sweep behind it.
     pub(crate) fn next_notification(&self) -> Option<(ProtocolNote, ProtocolSweep)>
-        ensures { (m : DxeMachine) → m.notes ≡ self.now.services.notes → result ≡ option_and_then (next_note m) (top_sweep self.now.frames) }
+        ensures { (m : DxeMachine) → m.notes ≡ self.now.services.notes → result ≡ next_of_top m self.now.frames }
     {
         match self.frames.sweep() {
             Some(sweep) => next_of(&self.services, sweep),
@@ -58,14 +55,13 @@ impl Dxe {
     }
 
     // The notification begins, unless as many frames stand as may.
-    pub(crate) fn notify<M: PeiStore, S: Sink>(
+    pub(crate) fn notify<S: Sink>(
         &mut self,
-        store: &M,
         catalog: &Catalog,
         next: (ProtocolNote, ProtocolSweep),
         sink: &mut S,
     ) -> Result<Stepped, Halt>
-        ensures row { StepsFired next M.stands_for store.now catalog.now self.old self.new (S.text sink.old) (S.text sink.new) result }
+        ensures row { StepsFired next catalog.now self.old self.new (S.text sink.old) (S.text sink.new) result }
         ensures made { OnOk result ((fuel : ℕ) → IsFor catalog.now fuel self.old → IsFor catalog.now fuel self.new) }
         ensures faults { HaltsAfter result (S.faults sink.old) (S.faults sink.new) }
     {

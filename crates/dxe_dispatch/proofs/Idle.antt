@@ -7,16 +7,13 @@ use Rattle.catalog_model.specs.Parts.{part_at}
 use Rattle.boot_model.specs.declared.driver.Scheduled.{Scheduled}
 use Rattle.boot_model.specs.DxeChoice.{next_driver}
 use Rattle.boot_model.specs.DxeMachine.{DxeMachine}
-use Rattle.boot_model.specs.DxeStep.{dxe_case_in, in_dxe_case, queue_case, dxe_step, driver_started, dxe_stopped}
+use Rattle.boot_model.specs.DxeStep.{dxe_case_in, in_dxe_case, queue_case, dxe_step, driver_started}
 use Rattle.dxe_choice.specs.Queue.{Queue, IsQueueOf, IsDriver, IsNext}
 use Rattle.dxe_core.specs.Steps.{IsIdle}
 
 pub step_starts : (catalog : Catalog) (fuel : ℕ) (m : DxeMachine) (next : Scheduled) (rest : List Scheduled) → IsIdle m → next_driver catalog m ≡ Some (next, rest)
     → dxe_step catalog fuel m ≡ driver_started catalog m next rest (part_at Dxe catalog next.module_number)
 step_starts catalog fuel m next rest idle found = ap (in_dxe_case catalog fuel m) (ap (dxe_case_in catalog m) idle ∙ ap queue_case found)
-
-pub step_stops : (catalog : Catalog) (fuel : ℕ) (m : DxeMachine) → IsIdle m → next_driver catalog m ≡ None → dxe_step catalog fuel m ≡ dxe_stopped catalog m
-step_stops catalog fuel m idle none = ap (in_dxe_case catalog fuel m) (ap (dxe_case_in catalog m) idle ∙ ap queue_case none)
 
 queue_by : (catalog : Catalog) (m : DxeMachine) (next : Scheduled) (later : Queue) (chosen : IsNext catalog m next later) (part : Option Part) → is_some part ≡ true
     → IsQueueOf (driver_started catalog m next chosen.rest part) later

@@ -1,25 +1,13 @@
 -- Texts of lists of lines.
-use Rattle.std.proofs.Common.{◌≡◌, ◌<◌, ◌≤◌, ℕ, ◌+◌, List, [], ◌∷◌, ◌++◌, Option, Some, refl, sym, ap, ◌∙◌, subst, flat_map, map, Result, take, get_or, length}
+use Rattle.std.proofs.Common.{◌≡◌, ◌<◌, ◌≤◌, ℕ, ◌+◌, List, [], ◌∷◌, ◌++◌, Option, refl, sym, ap, ◌∙◌, subst, flat_map, map, Result, take, get_or, length}
 use Rattle.std.specs.Io.KnownBytes.{Appends}
-use Rattle.boot_io.proofs.PutsLaws.{appends_none, puts_then, part_of_more, part_of_lines, lines_more}
-use Rattle.std.specs.Option.{option_to_list}
+use Rattle.boot_io.proofs.PutsLaws.{puts_then, part_of_more, part_of_lines, lines_more}
 use Rattle.std.proofs.lemmas.List.{append-nil, take_all}
 use Rattle.std.proofs.lemmas.Grind.{flat_map-append, get_or_default_zero}
 use Rattle.boot_io.specs.declared.sink.SinkFault.{SinkFault}
 use Rattle.boot_io.specs.Sink.{Puts, AppendsPart}
 use Rattle.boot_model.specs.declared.line.Line.{Line}
 use Rattle.boot_model.specs.Text.{line_text, text_of}
-
--- one line
-pub one_line : (line : Line) → text_of (line ∷ []) ≡ line_text line
-one_line line = append-nil (line_text line)
-
--- a line that there is
-pub puts_some : (r : Result (Unit {0}) SinkFault) (old new : Option (List ℕ)) (o : Option Line) (line : Line) → o ≡ Some line → Puts r old new (line_text line) → Puts r old new (text_of (option_to_list o))
-puts_some r old new o line is puts =
-    let P : Option Line → Type 0 = λ x. Puts r old new (text_of (option_to_list x)) in
-    let Q : List ℕ → Type 0 = λ x. Puts r old new x in
-    subst P (sym is) (subst Q (sym (one_line line)) puts)
 
 -- item by item
 pub text_of-flat_map : {X : Type 0} (lines : X → List Line) (xs : List X) → text_of (flat_map lines xs) ≡ flat_map (λ x. text_of (lines x)) xs
@@ -33,12 +21,6 @@ text_of-map line (x ∷ xs) = ap (λ t. line_text (line x) ++ t) (text_of-map li
 pub text_of-append : (a b : List Line) → text_of (a ++ b) ≡ text_of a ++ text_of b
 text_of-append a b = flat_map-append line_text a b
 
--- lines, and then a call for others
-pub lines_then : (r : Result (Unit {0}) SinkFault) (old mid new : Option (List ℕ)) (a b : List Line) → Appends old mid (text_of a) → Puts r mid new (text_of b) → Puts r old new (text_of (a ++ b))
-lines_then r old mid new a b f p =
-    let P : List ℕ → Type 0 = λ t. Puts r old new t in
-    subst P (sym (text_of-append a b)) (puts_then r old mid new (text_of a) (text_of b) f p)
-
 -- one line, and then a call for others
 pub line_then : (r : Result (Unit {0}) SinkFault) (old mid new : Option (List ℕ)) (line : Line) (b : List Line) → Appends old mid (line_text line) → Puts r mid new (text_of b) → Puts r old new (text_of (line ∷ b))
 line_then r old mid new line b f p = puts_then r old mid new (line_text line) (text_of b) f p
@@ -49,12 +31,9 @@ part_of_longer old new a b p =
     let P : List ℕ → Type 0 = λ t. AppendsPart old new t in
     subst P (sym (text_of-append a b)) (part_of_more old new (text_of a) (text_of b) p)
 
--- the whole is a part, and so is nothing
+-- the whole is a part
 pub part_whole : (old new : Option (List ℕ)) (text : List ℕ) → Appends old new text → AppendsPart old new text
 part_whole old new text f = (text, ([], sym (append-nil text)), f)
-
-pub part_none : (old : Option (List ℕ)) (text : List ℕ) → AppendsPart old old text
-part_none old text = ([], (text, refl), appends_none old)
 
 -- a number in the list
 item_is : (xs : List ℕ) (i : ℕ) → i < length xs → get_or xs i 0 ≡ get_or xs i (get_or xs i 0)

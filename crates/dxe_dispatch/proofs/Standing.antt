@@ -47,7 +47,3 @@ now_still stands store catalog core queue m lines now = record {
   machine = record { store = now.machine.store; core = core_still catalog core m lines now.machine.core };
   queue = queue_still queue m lines now.queue;
 }
-
--- the core beside its store, and the queue
-pub are_of : {M : Type 0} (stands : M → StoreState → Type 0) (store : M) (catalog : Catalog) (core : DxeCore) (queue : Queue) (m : DxeMachine) → IsNow stands store catalog core queue m → AreOf catalog core queue m
-are_of stands store catalog core queue m now = record { core = now.machine.core; queue = now.queue }

@@ -4,17 +4,15 @@ use Rattle.std.proofs.lemmas.List.{append-nil, length-append, drop_at}
 use Rattle.std.specs.Io.KnownBytes.{Appends}
 use Rattle.boot_io.proofs.PutsLaws.{appends_then, part_then}
 use Rattle.boot_io.specs.declared.halt.Halt.{Halt}
-use Rattle.boot_io.specs.Sink.{AppendsPart}
 use Rattle.pi_base.specs.declared.phase.Phase.TheVariants.{Dxe}
 use Rattle.catalog_model.specs.declared.catalog.Catalog.{Catalog}
 use Rattle.catalog_model.specs.Parts.{part_at}
 use Rattle.store_model.specs.StoreState.{StoreState}
 use Rattle.boot_model.specs.declared.driver.Scheduled.{Scheduled}
 use Rattle.boot_model.specs.declared.phase_end.DxeEnd.{DxeEnd}
-use Rattle.boot_model.specs.declared.phase_end.DxeEnd.TheVariants as DxeEnds
-use Rattle.boot_model.specs.DxeChoice.{a_priori_drivers, next_driver}
+use Rattle.boot_model.specs.DxeChoice.{a_priori_drivers}
 use Rattle.boot_model.specs.DxeMachine.{DxeMachine}
-use Rattle.boot_model.specs.DxeStep.{dxe_step, dxe_stopped, driver_started}
+use Rattle.boot_model.specs.DxeStep.{dxe_step, driver_started}
 use Rattle.boot_model.specs.Text.{text_of}
 use Rattle.boot_laws.proofs.DriverGrowth.{driver_steps_grow}
 use Rattle.dxe_choice.specs.Queue.{Queue, IsQueueOf, IsDriver, IsNext, SchedulesApriori}
@@ -23,10 +21,10 @@ use Rattle.dxe_core.specs.Standing.{DxeCore, StandsFor}
 use Rattle.dxe_core.specs.Steps.{IsIdle, IsEvent, HasOver, HasStepped, HasEnded}
 use Rattle.dxe_core.specs.Turn.{Texts, Printed, PrintedPart}
 use Rattle.dxe_dispatch.specs.Ends.{IsNow}
-use Rattle.dxe_dispatch.specs.Turns.{AreOf, HasTurned, IsOver, TurnsTo, stop_lines}
-use Rattle.dxe_dispatch.proofs.Idle.{step_starts, step_stops, started_queue}
+use Rattle.dxe_dispatch.specs.Turns.{AreOf, HasTurned, IsOver, TurnsTo}
+use Rattle.dxe_dispatch.proofs.Idle.{step_starts, started_queue}
 use Rattle.dxe_dispatch.proofs.Lines.{part_whole}
-use Rattle.dxe_dispatch.proofs.Standing.{are_still, now_still}
+use Rattle.dxe_dispatch.proofs.Standing.{now_still}
 
 -- the start of the driver that comes next
 pub starts_so : (catalog : Catalog) (fuel : ℕ) (later : DxeCore) (grown : Queue) (m : DxeMachine) (next : Scheduled) (t : Texts) (chosen : IsNext catalog m next grown) → IsIdle m → IsDriver catalog next
@@ -37,32 +35,6 @@ starts_so catalog fuel later grown m next t chosen idle driver stepped =
     let turned : P (driver_started catalog m next chosen.rest (part_at Dxe catalog next.module_number)) =
     record { printed = stepped.printed; now = record { core = stepped.machine.core; queue = started_queue catalog m next grown chosen driver } } in
     subst P (sym (step_starts catalog fuel m next chosen.rest idle chosen.next_is)) turned
-
--- a start that is given up
-pub starts_part : (catalog : Catalog) (fuel : ℕ) (grown : Queue) (m : DxeMachine) (next : Scheduled) (t : Texts) (chosen : IsNext catalog m next grown) → IsIdle m
-    → PrintedPart m (driver_started catalog m next chosen.rest (part_at Dxe catalog next.module_number)) t → PrintedPart m (dxe_step catalog fuel m) t
-starts_part catalog fuel grown m next t chosen idle part =
-    let P : DxeMachine → Type 0 = λ x. PrintedPart m x t in
-    subst P (sym (step_starts catalog fuel m next chosen.rest idle chosen.next_is)) part
-
--- the stop ends the machine
-pub stops_so : (catalog : Catalog) (fuel : ℕ) (core : DxeCore) (queue : Queue) (m : DxeMachine) (t : Texts) → IsIdle m → next_driver catalog m ≡ None → AreOf catalog core queue m
-    → Appends t.old t.new (text_of (stop_lines catalog m)) → IsOver (AreOf catalog core queue) m (dxe_step catalog fuel m) DxeEnds.Done t
-stops_so catalog fuel core queue m t idle none are text =
-    let P : DxeMachine → Type 0 = λ x. IsOver (AreOf catalog core queue) m x DxeEnds.Done t in
-    let over : P (dxe_stopped catalog m) = record {
-      ended = refl;
-      printed = record { told = stop_lines catalog m; lines = refl; text = text };
-      now = are_still catalog core queue m (m.lines ++ stop_lines catalog m) are;
-    } in
-    subst P (sym (step_stops catalog fuel m idle none)) over
-
--- a part of the stop's lines was put, or nothing at all
-pub stops_part : (catalog : Catalog) (fuel : ℕ) (m : DxeMachine) (t : Texts) → IsIdle m → next_driver catalog m ≡ None → AppendsPart t.old t.new (text_of (stop_lines catalog m)) → PrintedPart m (dxe_step catalog fuel m) t
-stops_part catalog fuel m t idle none part =
-    let P : DxeMachine → Type 0 = λ x. PrintedPart m x t in
-    let stopped : P (dxe_stopped catalog m) = record { told = stop_lines catalog m; lines = refl; text = part } in
-    subst P (sym (step_stops catalog fuel m idle none)) stopped
 
 -- the event behind which the core stands for the later machine, with the drivers that it scheduled
 pub event_so : {M : Type 0} (stands : M → StoreState → Type 0) (store : M) (catalog : Catalog) (fuel : ℕ) (later : DxeCore) (queue grown : Queue) (m : DxeMachine) (event : Event) (known new : List ℕ) (t : Texts)

@@ -36,17 +36,24 @@ abbrev pub RunsTo : {M : Type 0} → (M → StoreState → Type 0) → M → Cat
 RunsTo stands store catalog end core queue old new (Ok how) = HasEnded how end old new × StandsAtEnd stands store catalog core queue end
 RunsTo stands store catalog end core queue old new (Err halt) = AppendsPart old new (text_of end.lines)
 
+-- the core beside its store is at the opening of a run: it stands for it over some state, with some actions
+abbrev pub IsAtOpening : {M : Type 0} → (M → StoreState → Type 0) → M → Catalog → DxeCore → Type 0
+IsAtOpening stands store catalog core =
+    (s : StoreState) × (actions : ℕ) × StandsFor stands store catalog core (dxe_opening catalog s actions)
+
 -- the run from the opening over each state, with the actions and the fuel for which the core was made
 abbrev pub Runs : {M : Type 0} → (M → StoreState → Type 0) → M → Catalog
     → DxeCore → DxeCore → Queue → Option (List ℕ) → Option (List ℕ) → Result DxeEnd Halt → Type 0
 Runs stands store catalog core later queue old new result =
-    (s : StoreState) (actions fuel : ℕ) → IsFor catalog fuel core → StandsFor stands store catalog core (dxe_opening catalog s actions)
+    (s : StoreState) (actions fuel : ℕ) → IsFor catalog fuel core
+    → StandsFor stands store catalog core (dxe_opening catalog s actions)
     → RunsTo stands store catalog (dxe_end catalog fuel s actions) later queue old new result
 
 -- in each step of the run at most one expression is evaluated for each driver of the discovered volumes
 abbrev pub HasFewSteps : {M : Type 0} → (M → StoreState → Type 0) → M → Catalog → DxeCore → ℕ → ℕ → Type 0
 HasFewSteps stands store catalog core before now =
-    (s : StoreState) (actions fuel : ℕ) → IsFor catalog fuel core → StandsFor stands store catalog core (dxe_opening catalog s actions)
+    (s : StoreState) (actions fuel : ℕ) → IsFor catalog fuel core
+    → StandsFor stands store catalog core (dxe_opening catalog s actions)
     → now ≤ before + dxe_bound catalog fuel * length (discovered_order catalog (dxe_end catalog fuel s actions))
 
 -- a whole run to an end, which hands its handles on

@@ -29,7 +29,8 @@ pub record AreOf (catalog : Catalog) (kept : DxeCore) (queued : Queue) (m : DxeM
 
 -- the driver that comes next, by the answer
 abbrev pub Chooses : Catalog → DxeCore → Queue → Queue → Result (Option Scheduled) OutOfMemory → Type 0
-Chooses catalog core queue later result = (m : DxeMachine) → AreOf catalog core queue m → IfOk result (λ next. ComesNext catalog m next later)
+Chooses catalog core queue later result =
+    (m : DxeMachine) → AreOf catalog core queue m → IfOk result (λ next. ComesNext catalog m next later)
 
 -- the machine goes on as the later one, for which all stands now, and its lines were put
 pub record HasTurned (Now : DxeMachine → Type 0) (m later : DxeMachine) (t : Texts) : Type 0 where
@@ -60,7 +61,8 @@ Turns stands store catalog core queue later grown old new result =
     → TurnsTo (IsNow stands store catalog later grown) m (dxe_step catalog fuel m) (record { old = old; new = new }) result
 
 -- the same from each one that is idle, whatever the store
-abbrev pub TurnsIdle : Catalog → DxeCore → Queue → DxeCore → Queue → Option (List ℕ) → Option (List ℕ) → Result (Option DxeEnd) Halt → Type 0
+abbrev pub TurnsIdle : Catalog
+    → DxeCore → Queue → DxeCore → Queue → Option (List ℕ) → Option (List ℕ) → Result (Option DxeEnd) Halt → Type 0
 TurnsIdle catalog core queue later grown old new result =
     (m : DxeMachine) (fuel : ℕ) → AreOf catalog core queue m → IsIdle m
     → TurnsTo (AreOf catalog later grown) m (dxe_step catalog fuel m) (record { old = old; new = new }) result
@@ -75,4 +77,5 @@ stop_lines catalog m = L.DxeStop ∷ driver_waiting_lines catalog m
 
 -- as they are put
 abbrev pub PutsStop : Catalog → DxeCore → Queue → Option (List ℕ) → Option (List ℕ) → Result (Unit {0}) SinkFault → Type 0
-PutsStop catalog core queue old new result = (m : DxeMachine) → AreOf catalog core queue m → Puts result old new (text_of (stop_lines catalog m))
+PutsStop catalog core queue old new result =
+    (m : DxeMachine) → AreOf catalog core queue m → Puts result old new (text_of (stop_lines catalog m))

@@ -25,11 +25,14 @@ abbrev pub lines_of : Catalog → DxeMachine → List ℕ → List Line
 lines_of catalog m numbers = flat_map (waiting_line catalog m) numbers
 
 -- the line of a driver that waits or not, and was requested or not
-abbrev pub PutsWaiting : Catalog → ℕ → Bool → Bool → Option (List ℕ) → Option (List ℕ) → Result (Unit {0}) SinkFault → Type 0
+abbrev pub PutsWaiting : Catalog → ℕ → Bool → Bool
+    → Option (List ℕ) → Option (List ℕ) → Result (Unit {0}) SinkFault → Type 0
 PutsWaiting catalog number waits requested old new result =
-    (m : DxeMachine) → waits ≡ is_waiting m number → requested ≡ has_number m.requested number → Puts result old new (text_of (waiting_line catalog m number))
+    (m : DxeMachine) → waits ≡ is_waiting m number → requested ≡ has_number m.requested number
+    → Puts result old new (text_of (waiting_line catalog m number))
 
 -- the lines of these drivers, by the queue and the requests
-abbrev pub PutsAllWaiting : Catalog → List ℕ → Queue → List Bool → Option (List ℕ) → Option (List ℕ) → Result (Unit {0}) SinkFault → Type 0
+abbrev pub PutsAllWaiting : Catalog → List ℕ → Queue → List Bool
+    → Option (List ℕ) → Option (List ℕ) → Result (Unit {0}) SinkFault → Type 0
 PutsAllWaiting catalog numbers queue requested old new result =
     (m : DxeMachine) → IsQueueOf m queue → AreFlags m.requested requested → Puts result old new (text_of (lines_of catalog m numbers))

@@ -58,7 +58,7 @@ fn boot_with_ledger<M: PeiStore, S: Sink, L: Ledger>(
     })
 }
 
-/// The whole of DXE behind the hand-off of a store. `fuel` is how many actions may be taken in both phases, and `taken` how many PEI took.
+/// The whole of DXE behind the hand-off of a store. `fuel` is how many actions may be taken in both phases, and `taken` how many PEI took. No more interfaces are left than a `u32` counts.
 pub fn boot_dxe<M: PeiStore, S: Sink>(
     alloc: Global,
     store: &M,

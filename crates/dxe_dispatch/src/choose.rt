@@ -28,11 +28,5 @@ pub(crate) fn choose<L: Ledger>(
     ensures made { OnOk result (IsQueueFor catalog.now queue.new) }
     ensures few_steps { steps.new ≤ steps.old + length dxe.now.services.order.drivers }
 {
-    queue.next(
-        catalog,
-        dxe.order(),
-        dxe.requested(),
-        dxe.handles(),
-        steps,
-    )
+    queue.next(catalog, dxe.order(), dxe.requested(), dxe.handles(), steps)
 }

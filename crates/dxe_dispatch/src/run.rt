@@ -1,13 +1,12 @@
 //! DXE to its end.
 ghost use Rattle.std.specs.Prelude.{◌≡◌, ◌≤◌, ◌<◌, ◌^◌, ℕ, OnOk, length};
 ghost use Rattle.boot_io.specs.Halted.{HaltsAfter};
-ghost use Rattle.boot_model.specs.DxeRun.{dxe_opening, dxe_bound};
+ghost use Rattle.boot_model.specs.DxeRun.{dxe_bound};
 ghost use Rattle.catalog_model.specs.WellFormed.{IsWellFormed};
 ghost use Rattle.catalog_model.specs.declared.limits.TheConstants.{MOST_MODULES};
-ghost use Rattle.store_model.specs.StoreState.{StoreState};
 ghost use Rattle.dxe_choice.specs.Queue.{IsNewQueue, IsQueueFor};
-ghost use Rattle.dxe_core.specs.Standing.{IsFor, StandsFor};
-ghost use Rattle.dxe_dispatch.specs.Ends.{HasFewSteps, Runs};
+ghost use Rattle.dxe_core.specs.Standing.{IsFor};
+ghost use Rattle.dxe_dispatch.specs.Ends.{HasFewSteps, IsAtOpening, Runs};
 
 use crate::turn::turn;
 use crate::volumes::put_volumes;
@@ -30,7 +29,7 @@ fn bound(catalog: &Catalog, fuel: u32) -> u64
 }
 
 /// DXE from the opening to its end: the a priori drivers of the volumes that were discovered are scheduled, the lines of these volumes are put, and then a step of the machine at a time, up to the stop. `dxe` is the core at its opening, and `queue` is new.
-/// Behind its end the core beside its store, and the queue, are those of the last machine. In each step of the machine at most one expression is evaluated for each driver of the discovered volumes.
+/// Behind its end the core beside its store, and the queue, are those of the last machine. In each step of the machine at most one expression is evaluated for each driver of the discovered volumes. No more interfaces are left than a `u32` counts, if no more actions were taken before.
 pub fn run_dxe<M: PeiStore, S: Sink, L: Ledger>(
     dxe: &mut Dxe,
     store: &M,
@@ -43,7 +42,7 @@ pub fn run_dxe<M: PeiStore, S: Sink, L: Ledger>(
     requires made { (fuel : ℕ) × IsFor catalog.now fuel dxe.old }
     requires new { IsNewQueue queue.old }
     requires queue { IsQueueFor catalog.now queue.old }
-    requires opening { (s : StoreState) × (actions : ℕ) × StandsFor M.stands_for store.now catalog.now dxe.old (dxe_opening catalog.now s actions) }
+    requires opening { IsAtOpening M.stands_for store.now catalog.now dxe.old }
     ensures row { Runs M.stands_for store.now catalog.now dxe.old dxe.new queue.new (S.text sink.old) (S.text sink.new) result }
     ensures few { dxe.old.fuel.taken < 2 ^ 32 → OnOk result (length dxe.new.services.handles.interfaces < 2 ^ 32) }
     ensures faults { HaltsAfter result (S.faults sink.old) (S.faults sink.new) }

@@ -21,11 +21,5 @@ pub(crate) fn put_stop<S: Sink>(
     ensures cause { SinkFaultsAfter result (S.faults sink.old) (S.faults sink.new) }
 {
     put(sink, &Line::DxeStop)?;
-    put_all_waiting(
-        catalog,
-        dxe.order().drivers(),
-        queue,
-        dxe.requested(),
-        sink,
-    )
+    put_all_waiting(catalog, dxe.order().drivers(), queue, dxe.requested(), sink)
 }

@@ -137,10 +137,11 @@ returns-in_ok-changed-in-Own-clause-row g c m fuel for h waits runs =
     let t = texts (T c.args.sink.now) (T c.act_own.new.sink) in
     let taken = c.in_ok-changed-in-Own.ensures.row (with_action m) (record { store = stands.store; core = fields }) (waits_on catalog m waits) (takes_own catalog m runs.top runs.below action c.act.new.frames runs.frames has.1) in
     let known = ap length c.volumes-known.ensures ∙ ap (λ (order : Drivers). length order.volumes) c.order.ensures ∙ ap length stands.core.services.order.volumes_are in
+    let Stands = StandsFor g.M.PeiStore.stands_for c.args.store.now catalog c.act_own.new.self in
     let busy = is_busy m core.frames runs.top runs.below stands.core.frames (sym stands.core.frames ∙ runs.frames) in
-    went _ catalog fuel m to (DxeActs runs.top runs.below) (record { changed = c.in_ok-changed-in-Own.changed; known = length c.volumes-known.result.now }) c.by-in-Own.result t
+    went Stands catalog fuel m to (DxeActs runs.top runs.below) (record { changed = c.in_ok-changed-in-Own.changed; known = length c.volumes-known.result.now }) c.by-in-Own.result t
     (case_acts catalog m runs.top runs.below runs.frames runs.fires) leads busy (taken.changed ∙ sym (acted_guids catalog fuel m runs.top runs.below action left has.1.is)) known (discovered_from catalog (with_action m) m to refl refl refl taken.discovers) c.by-in-Own.ensures
-    (stepped_from _ (with_action m) m to t refl taken.stepped)
+    (stepped_from Stands (with_action m) m to t refl taken.stepped)
 
 pub returns-in_ok-changed-in-Own-clause-made : goal.returns-in_ok-changed-in-Own-clause-made
 returns-in_ok-changed-in-Own-clause-made g c fuel for =

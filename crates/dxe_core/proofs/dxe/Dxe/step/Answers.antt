@@ -1,6 +1,7 @@
 use Rattle.std.proofs.Common.{ap, ◌∙◌, Some, None}
 use Rattle.dxe_core.specs.Standing.{DxeCore}
-use Rattle.dxe_core.proofs.Cases.{is_there, runs_with}
+use Rattle.dxe_core.proofs.Cases.{is_there, over, runs_with}
+use Rattle.dxe_core.proofs.Going.{texts}
 use Rattle.frames.specs.Frames.{top_of}
 use Rattle.dxe_core.proofs.dxe.Dxe.step.Goals as goal
 
@@ -8,7 +9,8 @@ pub returns-in-Some-clause-row : goal.returns-in-Some-clause-row
 returns-in-Some-clause-row g c m fuel for h waits =
     let frames = c.args.self.now.frames in
     let there = is_there c.top.result frames c.is_none.result (c.top.ensures ∙ ap (λ (core : DxeCore). top_of core.frames) c.self.view_is) c.is_none.ensures c.if-is_none.false in
-    c.notify.ensures.row m fuel for h waits (runs_with (Some c.in-Some.next) m frames h.core.frames there (c.in-Some.ensures m h.core.services.notes))
+    let fired = c.notify.ensures.row m fuel h.core (runs_with (Some c.in-Some.next) m frames h.core.frames there (c.in-Some.ensures m h.core.services.notes)) in
+    over c.notify.result g.M.PeiStore.stands_for c.args.store.now c.args.catalog.now c.notify.new.self fuel m (texts (g.S.Sink.text c.args.sink.now) (g.S.Sink.text c.notify.new.sink)) h.store fired
 
 pub returns-in-None-clause-row : goal.returns-in-None-clause-row
 returns-in-None-clause-row g c m fuel for h waits =
