@@ -9,3 +9,4 @@ mod notify;
 
 pub use dxe::Dxe;
 pub use event::{Event, Stepped};
+pub use lines::put_volumes;

@@ -41,8 +41,8 @@ pub(crate) fn print<S: Sink>(sink: &mut S, line: Line) -> Result<(), SinkFault>
     put(sink, &line)
 }
 
-// Puts a line for each volume that is discovered. Where the sink fails, a prefix of the text was put.
-fn put_volumes<S: Sink>(sink: &mut S, volumes: &[u32]) -> Result<(), SinkFault>
+/// Puts a line for each volume that is discovered. Where the sink fails, a prefix of the text was put.
+pub fn put_volumes<S: Sink>(sink: &mut S, volumes: &[u32]) -> Result<(), SinkFault>
     ensures text { Puts result (S.text sink.old) (S.text sink.new) (text_of (discovery_lines volumes.now)) }
     ensures cause { SinkFaultsAfter result (S.faults sink.old) (S.faults sink.new) }
 {

@@ -14,10 +14,6 @@ pub text_of-flat_map : {X : Type 0} (lines : X → List Line) (xs : List X) → 
 text_of-flat_map lines [] = refl
 text_of-flat_map lines (x ∷ xs) = flat_map-append line_text (lines x) (flat_map lines xs) ∙ ap (λ t. text_of (lines x) ++ t) (text_of-flat_map lines xs)
 
-pub text_of-map : {X : Type 0} (line : X → Line) (xs : List X) → text_of (map line xs) ≡ flat_map (λ x. line_text (line x)) xs
-text_of-map line [] = refl
-text_of-map line (x ∷ xs) = ap (λ t. line_text (line x) ++ t) (text_of-map line xs)
-
 pub text_of-append : (a b : List Line) → text_of (a ++ b) ≡ text_of a ++ text_of b
 text_of-append a b = flat_map-append line_text a b
 
@@ -55,10 +51,3 @@ pub each_done : (lines : ℕ → List Line) (xs : List ℕ) (i : ℕ) (old new :
 each_done lines xs i old new all f =
     let P : List ℕ → Type 0 = λ t. Appends old new t in
     subst P (ap (flat_map (λ x. text_of (lines x))) (take_all i xs all) ∙ sym (text_of-flat_map lines xs)) f
-
-pub part_of_map : (line : ℕ → Line) (xs : List ℕ) (i : ℕ) (old mid new : Option (List ℕ)) → i < length xs
-    → Appends old mid (text_of (map line (take i xs))) → AppendsPart mid new (line_text (line (get_or xs i 0))) → AppendsPart old new (text_of (map line xs))
-part_of_map line xs i old mid new within f p =
-    let P : List ℕ → Type 0 = λ t. AppendsPart old new t in
-    let Q : List ℕ → Type 0 = λ t. Appends old mid t in
-    subst P (sym (text_of-map line xs)) (part_of_lines (λ x. line_text (line x)) xs i (get_or xs i 0) old mid new within (item_is xs i within) (subst Q (text_of-map line (take i xs)) f) p)

@@ -6,7 +6,6 @@ mod choose;
 mod run;
 mod stop;
 mod turn;
-mod volumes;
 mod waiting;
 
 pub use boot::{Ended, boot_dxe};

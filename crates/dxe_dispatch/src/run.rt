@@ -9,14 +9,13 @@ ghost use Rattle.dxe_core.specs.Standing.{IsFor};
 ghost use Rattle.dxe_dispatch.specs.Ends.{HasFewSteps, IsAtOpening, Runs};
 
 use crate::turn::turn;
-use crate::volumes::put_volumes;
 use boot_io::{Halt, Sink};
 use boot_laws::{dxe_runs_end, unrequested_drivers_wait};
 use boot_model::{DxeEnd, MOST_FRAMES};
 use catalog_model::Catalog;
 use depex_code::Steps;
 use dxe_choice::DriverQueue;
-use dxe_core::Dxe;
+use dxe_core::{Dxe, put_volumes};
 use std::sync::ledger::Ledger;
 use store_model::PeiStore;
 
