@@ -1,11 +1,10 @@
 -- A volume that is processed, and bytes that are read.
 use Rattle.std.proofs.Common.{◌≡◌, ℕ, List, false, true, refl, ap, sym, subst, ◌∙◌, ◌++◌, [], Option, Some, None}
 use Rattle.std.specs.Prelude.{if◌then◌else◌}
-use Rattle.pi_base.specs.declared.word.Word.TheVariants.{AlreadyStarted, InvalidParameter, NotFound}
+use Rattle.pi_base.specs.declared.word.Word.TheVariants.{AlreadyStarted, NotFound}
 use Rattle.act_code.specs.declared.action.Action.TheVariants as A
 use Rattle.catalog_model.specs.declared.catalog.Catalog.{Catalog}
 use Rattle.catalog_model.specs.Parts.{has_number, volume_at}
-use Rattle.store_model.specs.StoreState.{StoreState}
 use Rattle.store_model.specs.MemoryReading.{bytes_at}
 use Rattle.boot_model.specs.declared.line.CallName.TheVariants as C
 use Rattle.boot_model.specs.declared.line.Extra.TheVariants as X

@@ -1,13 +1,11 @@
 -- Flags tell which modules were requested.
 use Rattle.std.proofs.Common.{◌≡◌, ◌++◌, ◌<◌, ◌==◌, ◌||◌, ℕ, zero, suc, Bool, true, false, List, [], ◌∷◌, length, refl, ap, sym, ◌∙◌, arith}
 use Rattle.std.specs.Prelude.{replicate, slice_set}
-use Rattle.std.specs.List.{list_any}
 use Rattle.std.proofs.lemmas.Bool.Decides.{nat_tests}
 use Rattle.std.proofs.lemmas.List.{get_or-set_other}
 use Rattle.std.proofs.lemmas.List.Folds.{list_any-append}
 use Rattle.std.proofs.lemmas.Grind.{get_or-set_at}
 use Rattle.std.proofs.lemmas.Option.{unwrap_or-slice_get}
-use Rattle.catalog_model.specs.Parts.{has_number}
 use Rattle.dxe_action.specs.Services.{AreFlags, flag_at}
 
 pub flags_down : (count : ℕ) → AreFlags [] (replicate count false)

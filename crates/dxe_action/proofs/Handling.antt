@@ -1,5 +1,5 @@
 -- What the services of handles answer is the machine's reply.
-use Rattle.std.proofs.Common.{◌≡◌, ℕ, List, [], ◌∷◌, ◌++◌, zero, refl, ap, sym, subst, ◌∙◌, Option, Some, None, Result, Ok, Err}
+use Rattle.std.proofs.Common.{◌≡◌, ℕ, List, [], ◌∷◌, ◌++◌, zero, refl, ap, sym, subst, ◌∙◌, Option, Some, None, Result, Err}
 use Rattle.std.specs.Prelude.{suc, length, option_map}
 use Rattle.pi_base.specs.declared.guid.Guid.{Guid}
 use Rattle.pi_base.specs.declared.word.Word.{Word}
@@ -16,8 +16,7 @@ use Rattle.store_model.specs.HandleState.{HandleState, HandleService, install_ne
 use Rattle.boot_model.specs.Registers.{both, handle_in, number_in}
 use Rattle.boot_model.specs.declared.driver.ProtocolNote.{ProtocolNote}
 use Rattle.boot_model.specs.DxeMachine.{DxeMachine, DriverFrame}
-use Rattle.boot_model.specs.declared.frame.Register.TheVariants.{HandleIn}
-use Rattle.boot_model.specs.DxeAction.{DxeEffect, DxeReply, Called, own_dxe_effect, dxe_call_where, dxe_refusal, dxe_told, install_answer, install_reply, protocol_sweep, reinstall_answer, reinstall_reply, uninstall_answer, uninstall_reply, with_handles}
+use Rattle.boot_model.specs.DxeAction.{DxeReply, Called, own_dxe_effect, dxe_call_where, dxe_refusal, dxe_told, install_answer, install_reply, protocol_sweep, reinstall_answer, reinstall_reply, uninstall_answer, uninstall_reply, with_handles}
 use Rattle.dxe_handles.specs.declared.fault.HandleFault.{HandleFault}
 use Rattle.dxe_handles.specs.declared.fault.HandleFault.TheVariants as F
 use Rattle.dxe_handles.specs.Rows.{IsRow}
@@ -26,10 +25,10 @@ use Rattle.frames.specs.declared.registers.Writes.TheVariants as W
 use Rattle.frames.specs.Writes.{written}
 use Rattle.dxe_action.specs.declared.reply.Reply.{Reply}
 use Rattle.dxe_action.specs.Answered.{refusal, refused, swept, sweep_of, told}
-use Rattle.dxe_action.specs.Reply.{IsReply, Replies, reply_in}
+use Rattle.dxe_action.specs.Reply.{IsReply, Replies}
 use Rattle.dxe_action.specs.Services.{Services, AreServicesOf}
 use Rattle.dxe_action.proofs.Growing as G
-use Rattle.dxe_action.proofs.Replying.{changed, refuses, with_others}
+use Rattle.dxe_action.proofs.Replying.{changed, refuses}
 
 -- a success that changes the handles
 pub tells : (catalog : Catalog) (m : DxeMachine) (frame : DriverFrame) (action : Action) (name : CallName) (extra : Extra) (writes : Writes) (old : Services) (handles : HandleState) (reply : Reply)

@@ -1,5 +1,5 @@
 -- What a service answers is the machine's reply, with the machine behind it.
-use Rattle.std.proofs.Common.{◌≡◌, ◌++◌, ℕ, List, [], refl, sym, subst}
+use Rattle.std.proofs.Common.{◌≡◌, ℕ, List, [], refl, sym, subst}
 use Rattle.std.proofs.lemmas.List.{append-nil}
 use Rattle.pi_base.specs.declared.word.Word.{Word}
 use Rattle.act_code.specs.declared.action.Action.{Action}

@@ -7,11 +7,13 @@ mod memory;
 mod notifications;
 mod process;
 mod reply;
+mod requests;
 mod schedule;
 mod services;
 
 pub use action::take_own;
 pub use reply::Reply;
+pub use requests::{asks_for_request, is_requested};
 pub use services::DxeServices;
 
 #[cfg(test)]

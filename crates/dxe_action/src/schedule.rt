@@ -2,45 +2,24 @@
 ghost use Rattle.std.specs.Prelude.{◌≡◌, ◌<◌, length, Some, IfSome, IsTrue};
 ghost use Rattle.act_code.specs.declared.action.Action.TheVariants as A;
 ghost use Rattle.boot_model.specs.DxeMachine.{DriverFrame};
-ghost use Rattle.boot_model.specs.DxeChoice.{asks_for_request};
 ghost use Rattle.dxe_action.specs.Answered.{GrowByOne};
 ghost use Rattle.dxe_action.specs.Requests.{Requests, asked_for, is_asked_for, waits_for_request};
-ghost use Rattle.dxe_action.specs.Services.{AreServicesFor, flag_at};
+ghost use Rattle.dxe_action.specs.Services.{AreServicesFor};
 
 use crate::reply::Reply;
+use crate::requests::{asks_for_request, is_requested};
 use crate::services::DxeServices;
 use boot_model::{CallName, Extra};
-use catalog_model::{Catalog, Module, Part, PartExpr};
-use depex_code::Depex;
+use catalog_model::{Catalog, Module};
 use frames::Writes;
 use pi_base::{Guid, Word};
-
-// Whether the expression of a part begins with SOR.
-fn has_sor(part: &Part) -> bool
-    ensures { result ≡ asks_for_request (Some part.now) }
-{
-    match &part.expr {
-        PartExpr::Held(Depex::Expr { sor, .. }) => *sor,
-        _ => false,
-    }
-}
 
 // Whether the driver of a module asks for a request, and has no place in its volume's a priori list.
 fn waits(driver: &Module) -> bool
     ensures { result ≡ waits_for_request driver.now }
 {
     match &driver.dxe {
-        Some(part) => part.rank.is_none() && has_sor(part),
-        None => false,
-    }
-}
-
-// The flag of a module.
-fn flag_at(flags: &[bool], number: u32) -> bool
-    ensures { result ≡ flag_at flags.now number }
-{
-    match flags.get(number as usize) {
-        Some(flag) => *flag,
+        Some(part) => part.rank.is_none() && asks_for_request(part),
         None => false,
     }
 }
@@ -51,7 +30,7 @@ fn is_asked_for(catalog: &Catalog, requested: &[bool], name: &Guid, number: u32)
     ensures within { IsTrue result → number < length catalog.now.modules }
 {
     match catalog.modules.as_slice().get(number as usize) {
-        Some(found) => waits(found) && !flag_at(requested, number) && found.name == *name,
+        Some(found) => waits(found) && !is_requested(requested, number) && found.name == *name,
         None => false,
     }
 }

@@ -1,7 +1,6 @@
 -- The companions of a driver are found by its name: those that wait of the drivers that give the name, if the driver is the first of the name.
 use Rattle.std.proofs.Common.{◌≡◌, ℕ, ◌==◌, Bool, true, false, ◌&&◌, cond, List, [], ◌∷◌, Option, Some, None, refl, sym, subst, ap, ◌∙◌}
 use Rattle.std.specs.Prelude.{filter, find}
-use Rattle.std.specs.Option.{option_and_then}
 use Rattle.std.proofs.lemmas.Slice.Eq.{bytes_eq-Decides}
 use Rattle.pi_base.specs.declared.guid.Guid.{Guid}
 use Rattle.pi_base.specs.Guids.{same_guid}
@@ -12,7 +11,7 @@ use Rattle.boot_model.specs.DxeMachine.{DxeMachine}
 use Rattle.boot_model.specs.DxeChoice.{drivers_of, waiting, is_waiting, targets, name_by, before_of, after_of, befores, afters}
 use Rattle.boot_laws.proofs.ListFacts.{found_passes}
 use Rattle.boot_laws.proofs.PartLists.{is_equal}
-use Rattle.driver_order.specs.Order.{Drivers, first_of, befores_of, afters_of, gives, givers}
+use Rattle.driver_order.specs.Order.{Drivers, befores_of, afters_of, gives, givers}
 use Rattle.dxe_choice.specs.Choosing.{HaveWaiting, companions, is_first}
 use Rattle.dxe_choice.specs.Queue.{waits_at}
 

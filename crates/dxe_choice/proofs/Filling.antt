@@ -1,5 +1,5 @@
 -- Where nothing is scheduled, the group of the first eligible driver is; and the head of the queue comes next.
-use Rattle.std.proofs.Common.{◌≡◌, ℕ, zero, suc, ◌-◌, ◌<◌, ◌≤◌, ◌==◌, Bool, true, false, ◌&&◌, ◌||◌, not, cond, List, [], ◌∷◌, ◌++◌, Option, Some, None, length, drop, reverse, refl, sym, subst, ap, ◌∙◌, arith}
+use Rattle.std.proofs.Common.{◌≡◌, ℕ, ◌-◌, ◌<◌, ◌≤◌, ◌==◌, Bool, true, false, ◌&&◌, ◌||◌, not, cond, List, [], ◌∷◌, ◌++◌, Option, Some, None, length, drop, reverse, refl, sym, subst, ap, ◌∙◌, arith}
 use Rattle.std.proofs.lemmas.List.{length-drop, reverse-append, reverse-reverse}
 use Rattle.std.proofs.Math.ListN.{drop_of_length-le}
 use Rattle.std.specs.Prelude.{filter, find, Result, Ok, Err, OnOk}
@@ -11,14 +11,15 @@ use Rattle.pi_base.specs.declared.phase.Phase.TheVariants.{Dxe}
 use Rattle.catalog_model.specs.Parts.{has_number, part_at, part_of}
 use Rattle.boot_model.specs.declared.driver.Scheduled.{Scheduled}
 use Rattle.boot_model.specs.DxeMachine.{DxeMachine}
-use Rattle.boot_model.specs.DxeChoice.{companion_group, discovered_order, driver_licence, driver_queue, first_eligible, group_scheduled, head_of, is_eligible_driver, is_waiting, next_driver, queue_from, schedule_of, waiting}
+use Rattle.boot_model.specs.DxeChoice.{companion_group, discovered_order, driver_licence, driver_queue, first_eligible, group_scheduled, head_of, is_eligible_driver, is_waiting, queue_from, schedule_of, waiting}
 use Rattle.boot_laws.specs.GroupUnfolds.{IsRoot}
 use Rattle.boot_laws.proofs.ListFacts.{each_append, each_more, within, each_found, each_has, found_passes}
 use Rattle.boot_laws.proofs.PartLists.{IsKnown}
 use Rattle.driver_order.specs.Order.{Drivers}
 use Rattle.dxe_choice.specs.Choosing.{HaveWaiting, IsTold, IsNumberOf, IsFilled, Schedules, Takes, is_among, may_come}
-use Rattle.dxe_choice.specs.Queue.{ComesNext, IsDriver, IsNext, IsSeen, IsQueueOf, Queue, waits_at}
+use Rattle.dxe_choice.specs.Queue.{ComesNext, IsDriver, IsSeen, IsQueueOf, Queue, waits_at}
 use Rattle.dxe_choice.proofs.Scheduling.{mapped_drivers}
+use Rattle.dxe_choice.proofs.Walks.{group_numbers}
 
 found_by : (w p : ℕ → Bool) (x : ℕ) (xs : List ℕ) (b : Bool) → find (λ n. w n && p n) xs ≡ find p (filter w xs)
     → cond (b && p x) (Some x) (find (λ n. w n && p n) xs) ≡ find p (cond b (x ∷ filter w xs) (filter w xs))
@@ -30,11 +31,11 @@ find_both : (w p : ℕ → Bool) (xs : List ℕ) → find (λ n. w n && p n) xs 
 find_both w p [] = refl
 find_both w p (x ∷ xs) = found_by w p x xs (w x) (find_both w p xs)
 
-pub first_is : (catalog : Catalog) (m : DxeMachine) (drivers : List ℕ) (found : Option ℕ) → drivers ≡ discovered_order catalog m → found ≡ find (may_come catalog m) drivers → first_eligible catalog m ≡ found
+first_is : (catalog : Catalog) (m : DxeMachine) (drivers : List ℕ) (found : Option ℕ) → drivers ≡ discovered_order catalog m → found ≡ find (may_come catalog m) drivers → first_eligible catalog m ≡ found
 first_is catalog m drivers found are h =
     sym (h ∙ ap (find (may_come catalog m)) are ∙ find_both (is_waiting m) (is_eligible_driver catalog m) (discovered_order catalog m))
 
-pub root_is : (catalog : Catalog) (m : DxeMachine) (root : ℕ) → first_eligible catalog m ≡ Some root → IsRoot catalog m root
+root_is : (catalog : Catalog) (m : DxeMachine) (root : ℕ) → first_eligible catalog m ≡ Some root → IsRoot catalog m root
 root_is catalog m root h = record {
   eligible = found_passes (is_eligible_driver catalog m) (waiting catalog m) root h;
   waits = each_found (λ n. has_number (waiting catalog m) n ≡ true) (is_eligible_driver catalog m) (waiting catalog m) root h (each_has (waiting catalog m));
@@ -82,11 +83,13 @@ emptied (first ∷ rest) group h = h
 pub comes_next : (catalog : Catalog) (m : DxeMachine) (queue later : Queue) (next : Option Scheduled) → IsFilled catalog m queue → Takes queue next later → ComesNext catalog m next later
 comes_next catalog m queue later None q t =
     let none : driver_queue catalog m ≡ [] = q.scheduled ∙ t.0 in
-    let empty : m.scheduled ≡ [] = emptied m.scheduled (group_scheduled catalog m (first_eligible catalog m)) none in
-    (ap head_of none, record {
-      scheduled = empty ∙ sym (ap (λ (x : Queue). x.scheduled) t.1 ∙ t.0);
-      waits = λ n. ap (λ (x : Queue). waits_at x.waits n) t.1 ∙ q.waits n ∙ ap (λ xs. not (list_any (is_number n) xs) && not (has_number m.started n)) (none ∙ sym empty);
-    })
+    let empty : m.scheduled ≡ [] = emptied m.scheduled (group_scheduled catalog m (first_eligible catalog m)) none in (
+      ap head_of none,
+      record {
+        scheduled = empty ∙ sym (ap (λ (x : Queue). x.scheduled) t.1 ∙ t.0);
+        waits = λ n. ap (λ (x : Queue). waits_at x.waits n) t.1 ∙ q.waits n ∙ ap (λ xs. not (list_any (is_number n) xs) && not (has_number m.started n)) (none ∙ sym empty);
+      },
+    )
 comes_next catalog m queue later (Some next) q t =
     let whole : driver_queue catalog m ≡ next ∷ later.scheduled = q.scheduled ∙ t.0 in
     record {
@@ -101,21 +104,26 @@ comes_next catalog m queue later (Some next) q t =
       };
     }
 
--- what is told of a machine by what is seen of it
-pub told_of : (catalog : Catalog) (m : DxeMachine) (queue : Queue) (order : Drivers) (requested flags : List Bool) (has : Guid → Bool) → IsSeen catalog m queue order requested has → flags ≡ queue.waits
-    → IsTold m flags requested has
-told_of catalog m queue order requested flags has seen are = record {
-  waits = λ n. ap (λ fs. waits_at fs n) are ∙ seen.queue.waits n;
-  requested = seen.requested;
-  protocols = seen.protocols;
-}
+-- what is found first over the flags is the first eligible driver
+pub found_first : (catalog : Catalog) (m : DxeMachine) (queue : Queue) (order : Drivers) (requested flags : List Bool) (has : Guid → Bool) (drivers : List ℕ) (found : Option ℕ) → IsSeen catalog m queue order requested has
+    → flags ≡ queue.waits → drivers ≡ order.drivers → ((m : DxeMachine) → IsTold m flags requested has → found ≡ find (may_come catalog m) drivers) → first_eligible catalog m ≡ found
+found_first catalog m queue order requested flags has drivers found seen are all first =
+    first_is catalog m drivers found (all ∙ seen.order.drivers_are)
+    (first m (record { waits = λ n. ap (λ fs. waits_at fs n) are ∙ seen.queue.waits n; requested = seen.requested; protocols = seen.protocols }))
 
-pub have_of : (catalog : Catalog) (m : DxeMachine) (queue : Queue) (order : Drivers) (requested flags : List Bool) (has : Guid → Bool) → IsSeen catalog m queue order requested has → flags ≡ queue.waits
-    → HaveWaiting catalog m order flags
-have_of catalog m queue order requested flags has seen are = record {
-  order = seen.order;
-  waits = λ n. ap (λ fs. waits_at fs n) are ∙ seen.queue.waits n;
-}
+-- the first eligible driver's group
+pub record IsFound (catalog : Catalog) (m : DxeMachine) (root : ℕ) (drivers : List ℕ) : Type 0 where
+  pub first : first_eligible catalog m ≡ Some root
+  pub group : reverse drivers ≡ companion_group catalog m root
+  pub known : Each (IsKnown catalog m.discovered) (companion_group catalog m root)
+
+pub found_group : (catalog : Catalog) (m : DxeMachine) (queue : Queue) (order : Drivers) (requested flags : List Bool) (has : Guid → Bool) (root : ℕ) (group : List ℕ) → IsSeen catalog m queue order requested has
+    → flags ≡ queue.waits → first_eligible catalog m ≡ Some root → ((m : DxeMachine) → HaveWaiting catalog m order flags → IsRoot catalog m root → reverse group ≡ companion_group catalog m root)
+    → IsFound catalog m root group
+found_group catalog m queue order requested flags has root group seen are first walked =
+    let is = root_is catalog m root first in
+    let have : HaveWaiting catalog m order flags = record { order = seen.order; waits = λ n. ap (λ fs. waits_at fs n) are ∙ seen.queue.waits n } in
+    record { first = first; group = walked m have is; known = group_numbers catalog m order flags root have is }
 
 -- a queue all of which has left is empty, and else it is not
 pub queue_empty : (queue view : Queue) (items : List Scheduled) (head : ℕ) → view ≡ queue → view.scheduled ≡ drop head items → length items ≤ head → queue.scheduled ≡ []
@@ -130,19 +138,21 @@ each_turned : (P : ℕ → Type 0) (xs : List ℕ) → Each P xs → Each P (rev
 each_turned P [] e = tt
 each_turned P (x ∷ xs) e = subst (Each P) (sym (reverse-append (x ∷ []) xs)) (each_append P (reverse xs) (x ∷ []) (each_turned P xs e.1) (e.0, tt))
 
--- there is a flag for each driver of a group
-pub group_flags : (catalog : Catalog) (m : DxeMachine) (queue : Queue) (group : List ℕ) (root : ℕ) → Each (IsKnown catalog m.discovered) (companion_group catalog m root)
-    → reverse group ≡ companion_group catalog m root → length queue.waits ≡ length catalog.modules → Each (IsNumberOf queue) group
-group_flags catalog m queue group root known is flags =
-    let turned : Each (IsKnown catalog m.discovered) (reverse group) = subst (Each (IsKnown catalog m.discovered)) (sym is) known in
-    let all : Each (IsKnown catalog m.discovered) group = subst (Each (IsKnown catalog m.discovered)) (reverse-reverse group) (each_turned (IsKnown catalog m.discovered) (reverse group) turned) in
-    each_more (IsKnown catalog m.discovered) (IsNumberOf queue) group
-    (λ n k. let below : n < length catalog.modules = within (part_of Dxe) catalog.modules n k.0 in omega (arith, below, flags)) all
+-- there is a flag for each driver of the group
+pub group_flags : (catalog : Catalog) (m : DxeMachine) (queue : Queue) (root : ℕ) (group : List ℕ) → IsFound catalog m root group → length queue.waits ≡ length catalog.modules → Each (IsNumberOf queue) group
+group_flags catalog m queue root group found flags =
+    let Known : ℕ → Type 0 = IsKnown catalog m.discovered in
+    let turned : Each Known (reverse group) = subst (Each Known) (sym found.group) found.known in
+    let all : Each Known group = subst (Each Known) (reverse-reverse group) (each_turned Known (reverse group) turned) in
+    each_more Known (IsNumberOf queue) group (λ n k. let below : n < length catalog.modules = within (part_of Dxe) catalog.modules n k.0 in omega (arith, below, flags)) all
 
-pub group_drivers : (catalog : Catalog) (m : DxeMachine) (group : List ℕ) (root : ℕ) → Each (IsKnown catalog m.discovered) (companion_group catalog m root)
-    → reverse group ≡ companion_group catalog m root → Each (IsDriver catalog) (schedule_of catalog (reverse group))
-group_drivers catalog m group root known is =
-    mapped_drivers catalog m.discovered (λ n. record { module_number = n; licence = driver_licence (part_at Dxe catalog n) }) (λ n. refl) (reverse group) (subst (Each (IsKnown catalog m.discovered)) (sym is) known)
+pub group_drivers : (catalog : Catalog) (m : DxeMachine) (root : ℕ) (group : List ℕ) → IsFound catalog m root group → Each (IsDriver catalog) (schedule_of catalog (reverse group))
+group_drivers catalog m root group found =
+    mapped_drivers catalog m.discovered (λ n. record { module_number = n; licence = driver_licence (part_at Dxe catalog n) }) (λ n. refl) (reverse group)
+    (subst (Each (IsKnown catalog m.discovered)) (sym found.group) found.known)
+
+pub group_is : (catalog : Catalog) (m : DxeMachine) (root : ℕ) (group : List ℕ) → IsFound catalog m root group → group_scheduled catalog m (first_eligible catalog m) ≡ schedule_of catalog (reverse group)
+group_is catalog m root group found = ap (group_scheduled catalog m) found.first ∙ ap (schedule_of catalog) (sym found.group)
 
 pub on_ok : {E P Q : Type 0} (result : Result (Unit {0}) E) → (P → Q) → OnOk result P → OnOk result Q
 on_ok (Ok done) f p = f p

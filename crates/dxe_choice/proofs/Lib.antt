@@ -2,3 +2,4 @@ mod Scheduling
 mod Companions
 mod Walks
 mod Filling
+mod SmallMachines

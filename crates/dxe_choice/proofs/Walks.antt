@@ -1,5 +1,5 @@
 -- A group is walked with a stack: what the items on the stack stand for, and the drivers that were put, make the group; and each turn takes something off what is left.
-use Rattle.std.proofs.Common.{◌≡◌, ℕ, zero, suc, ◌+◌, ◌*◌, ◌<◌, ◌≤◌, Bool, true, List, [], ◌∷◌, ◌++◌, length, map, reverse, refl, sym, subst, ap, ◌∙◌, arith, append_assoc}
+use Rattle.std.proofs.Common.{◌≡◌, ℕ, ◌+◌, ◌*◌, ◌<◌, ◌≤◌, Bool, true, List, [], ◌∷◌, ◌++◌, length, map, reverse, refl, sym, subst, ap, ◌∙◌, arith, append_assoc}
 use Rattle.std.proofs.lemmas.List.{append-nil, reverse-append, length-append}
 use Rattle.std.proofs.lemmas.List.Sums.{sum_by-append, sum_by-cons, sum_by_push}
 use Rattle.std.proofs.lemmas.Grind.{flat_map-append}
@@ -16,7 +16,7 @@ use Rattle.boot_laws.proofs.Distinct.{few_below}
 use Rattle.boot_laws.proofs.PartLists.{IsKnown}
 use Rattle.boot_laws.proofs.Queue.{waiting_known}
 use Rattle.boot_laws.proofs.GroupUnfolds.{groups_unfold, groups_are_small}
-use Rattle.driver_order.specs.Order.{Drivers, befores_of, afters_of}
+use Rattle.driver_order.specs.Order.{Drivers, befores_of}
 use Rattle.dxe_choice.specs.declared.group.Item.{Item}
 use Rattle.dxe_choice.specs.declared.group.Item.TheVariants as I
 use Rattle.dxe_choice.specs.Choosing.{HaveWaiting, Turns, companions, unfolded}
@@ -156,7 +156,7 @@ group_small : (catalog : Catalog) (m : DxeMachine) (order : Drivers) (flags : Li
 group_small catalog m order flags root have is =
     few_below (companion_group catalog m root) (length catalog.modules) (groups_are_small catalog m root have.order.known.differ is).differ
     (each_more (IsKnown catalog m.discovered) (λ n. n < length catalog.modules) (companion_group catalog m root) (λ n known. within (part_of Dxe) catalog.modules n known.0)
-      (group_numbers catalog m order flags root have is))
+    (group_numbers catalog m order flags root have is))
 
 pub walk_begins : (catalog : Catalog) (m : DxeMachine) (order : Drivers) (flags : List Bool) (root : ℕ) (none stack : List Item) (group : List ℕ) → HaveWaiting catalog m order flags → IsRoot catalog m root
     → none ≡ [] → stack ≡ none ++ I.Group root ∷ [] → group ≡ [] → IsWalk catalog m root stack group 0

@@ -3,14 +3,15 @@ ghost use Rattle.std.specs.Prelude.{◌≡◌, ◌≤◌, ◌+◌, Some};
 ghost use Rattle.std.specs.List.{list_all};
 ghost use Rattle.catalog_model.specs.WellFormed.{IsWellFormed, IsShortExpression};
 ghost use Rattle.store_model.specs.HandleState.{HandleState};
-ghost use Rattle.boot_model.specs.DxeChoice.{asks_for_request, is_eligible_driver, lets_driver_start};
+ghost use Rattle.boot_model.specs.DxeChoice.{is_eligible_driver, lets_driver_start};
 ghost use Rattle.boot_model.specs.DxeMachine.{DxeMachine};
-ghost use Rattle.dxe_action.specs.Services.{AreFlags, flag_at};
+ghost use Rattle.dxe_action.specs.Services.{AreFlags};
 ghost use Rattle.dxe_choice.specs.Queue.{HasProtocols};
 
 use boot_model::ARCHITECTURAL;
 use catalog_model::{Catalog, Part, PartExpr, well_formed_expressions_are_short};
-use depex_code::{Depex, GuidSet, Steps};
+use depex_code::{GuidSet, Steps};
+use dxe_action::{asks_for_request, is_requested};
 use frames::part_of;
 use phase_parts::depex_holds;
 use pi_base::{Guid, Phase};
@@ -45,31 +46,6 @@ fn lets_driver_start<G: GuidSet, L: Ledger>(
         PartExpr::Absent => has_each(&ARCHITECTURAL, set),
         PartExpr::Malformed(_) => false,
         PartExpr::Held(expression) => depex_holds(expression, set, steps),
-    }
-}
-
-// Whether a part's expression begins with SOR.
-fn asks_for_request(part: &Part) -> bool
-    ensures { result ≡ asks_for_request (Some part.now) }
-{
-    match &part.expr {
-        PartExpr::Absent => false,
-        PartExpr::Malformed(_) => false,
-        PartExpr::Held(expression) => match expression {
-            Depex::Before(_) => false,
-            Depex::After(_) => false,
-            Depex::Expr { sor, .. } => *sor,
-        },
-    }
-}
-
-// Whether a driver was requested.
-fn is_requested(requested: &[bool], number: u32) -> bool
-    ensures { result ≡ flag_at requested.now number }
-{
-    match requested.get(number as usize) {
-        Some(flag) => *flag,
-        None => false,
     }
 }
 

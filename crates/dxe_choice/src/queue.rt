@@ -103,7 +103,11 @@ impl DriverQueue {
     }
 
     /// Schedules the a priori drivers of volumes that have just been discovered, in list order, behind those that are scheduled. Want of memory leaves the queue unfinished.
-    pub fn schedule_a_priori(&mut self, catalog: &Catalog, volumes: &[u32]) -> Result<(), OutOfMemory>
+    pub fn schedule_a_priori(
+        &mut self,
+        catalog: &Catalog,
+        volumes: &[u32],
+    ) -> Result<(), OutOfMemory>
         requires catalog { IsWellFormed catalog.now }
         requires made { IsQueueFor catalog.now self.old }
         ensures row { OnOk result (SchedulesApriori catalog.now self.old volumes.now self.new) }
@@ -153,9 +157,22 @@ impl DriverQueue {
         if self.head < self.items.len() {
             return Ok(());
         }
-        match first_eligible(catalog, order.drivers(), self.waits.as_slice(), requested, set, steps) {
+        match first_eligible(
+            catalog,
+            order.drivers(),
+            self.waits.as_slice(),
+            requested,
+            set,
+            steps,
+        ) {
             Some(root) => {
-                let group = backward_group(self.items.alloc(), catalog, order, self.waits.as_slice(), root)?;
+                let group = backward_group(
+                    self.items.alloc(),
+                    catalog,
+                    order,
+                    self.waits.as_slice(),
+                    root,
+                )?;
                 self.schedule_group(catalog, group)
             }
             None => Ok(()),

@@ -1,6 +1,9 @@
-// The drivers of one volume, made by hand: which start, in which order, and by which licences.
-ghost use Rattle.std.specs.Prelude.{◌≡◌, ◌<◌, Some, None, IfOk};
-ghost use Rattle.catalog_model.specs.WellFormed.{IsShortExpression, IsWellFormed};
+// The drivers of small volumes, made by hand: which start, in which order, and by which licences.
+ghost use Rattle.std.specs.Prelude.{◌≡◌, ◌<◌, [], Some, None, IfOk};
+ghost use Rattle.store_model.specs.HandleState.{has_protocol};
+ghost use Rattle.boot_model.specs.DxeMachine.{DxeMachine};
+ghost use Rattle.dxe_choice.specs.Queue.{IsQueueFor, IsSeen};
+ghost use Rattle.catalog_model.specs.WellFormed.{IsExpressionOf, IsShortExpression, IsWellFormed};
 ghost use Rattle.pi_base.specs.declared.phase.Phase.TheVariants.{Dxe as InDxe};
 
 use super::*;
@@ -65,67 +68,63 @@ fn driver(alloc: Global, at: u64, name: Guid, rank: Option<u32>, expr: PartExpr)
 }
 
 fn before(name: Guid) -> PartExpr
+    ensures phase { IsExpressionOf InDxe result }
     ensures short { IsShortExpression result }
 {
     PartExpr::Held(Depex::Before(name))
 }
 
 fn after(name: Guid) -> PartExpr
+    ensures phase { IsExpressionOf InDxe result }
     ensures short { IsShortExpression result }
 {
     PartExpr::Held(Depex::After(name))
 }
 
-// An expression that holds, with SOR or without.
-fn holds(alloc: Global, sor: bool) -> Result<PartExpr, OutOfMemory>
+// An expression that begins with SOR and holds.
+fn holds(alloc: Global) -> Result<PartExpr, OutOfMemory>
+    ensures phase { IfOk result (IsExpressionOf InDxe) }
     ensures short { IfOk result IsShortExpression }
 {
     let mut code = Seq::new(alloc);
     code.push(Opcode::True)?;
     match Tree::from_code(code) {
-        Some(tree) => Ok(PartExpr::Held(Depex::Expr { sor, tree })),
+        Some(tree) => Ok(PartExpr::Held(Depex::Expr { sor: true, tree })),
         None => Err(OutOfMemory),
     }
 }
 
-// Twelve drivers: with SOR; without an expression; a target with companions on both sides, which have companions of their own; two that name each other; one with a place in the a priori list, and one that names it; a twin of the target.
-fn catalogue(alloc: Global) -> Result<Catalog, OutOfMemory>
+// A target with companions on both sides, which have companions of their own.
+fn companions(alloc: Global, target: PartExpr) -> Result<Catalog, OutOfMemory>
+    requires phase { IsExpressionOf InDxe target }
+    requires short { IsShortExpression target }
     ensures { IfOk result IsWellFormed }
 {
-    let (sor, target, twin) = (holds(alloc, true)?, holds(alloc, false)?, holds(alloc, false)?);
     let mut volumes = Seq::new(alloc);
     volumes.push(VOLUME)?;
     let mut modules = Seq::new(alloc);
-    modules.push(driver(alloc, 72, OTHER, None, sor))?;
-    modules.push(driver(alloc, 80, OTHER, None, PartExpr::Absent))?;
-    modules.push(driver(alloc, 88, BEFORE_TARGET, None, before(TARGET)))?;
-    modules.push(driver(alloc, 96, TARGET, None, target))?;
-    modules.push(driver(alloc, 104, AFTER_TARGET, None, after(TARGET)))?;
-    modules.push(driver(alloc, 112, OTHER, None, after(AFTER_TARGET)))?;
-    modules.push(driver(alloc, 120, OTHER, None, before(BEFORE_TARGET)))?;
-    modules.push(driver(alloc, 128, CYCLE, None, after(OTHER_CYCLE)))?;
-    modules.push(driver(alloc, 136, OTHER_CYCLE, None, after(CYCLE)))?;
-    modules.push(driver(alloc, 144, RANKED, Some(0), PartExpr::Malformed(0)))?;
-    modules.push(driver(alloc, 152, OTHER, None, after(RANKED)))?;
-    modules.push(driver(alloc, 160, TARGET, None, twin))?;
+    modules.push(driver(alloc, 72, TARGET, None, target))?;
+    modules.push(driver(alloc, 80, BEFORE_TARGET, None, before(TARGET)))?;
+    modules.push(driver(alloc, 88, OTHER, None, before(BEFORE_TARGET)))?;
+    modules.push(driver(alloc, 96, AFTER_TARGET, None, after(TARGET)))?;
+    modules.push(driver(alloc, 104, OTHER, None, after(AFTER_TARGET)))?;
     Ok(Catalog { volumes, modules })
 }
 
-/// By which licence each of the twelve starts that starts at all.
-const LICENCES: [Licence; 12] = [
-    Licence::True,
-    Licence::Absent,
-    Licence::Before,
-    Licence::True,
-    Licence::After,
-    Licence::After,
-    Licence::Before,
-    Licence::After,
-    Licence::After,
-    Licence::Apriori,
-    Licence::After,
-    Licence::True,
-];
+// One without an expression, two that name each other, one with a place in the a priori list, and one that names it.
+fn others(alloc: Global) -> Result<Catalog, OutOfMemory>
+    ensures { IfOk result IsWellFormed }
+{
+    let mut volumes = Seq::new(alloc);
+    volumes.push(VOLUME)?;
+    let mut modules = Seq::new(alloc);
+    modules.push(driver(alloc, 72, OTHER, None, PartExpr::Absent))?;
+    modules.push(driver(alloc, 80, CYCLE, None, after(OTHER_CYCLE)))?;
+    modules.push(driver(alloc, 88, OTHER_CYCLE, None, after(CYCLE)))?;
+    modules.push(driver(alloc, 96, RANKED, Some(0), PartExpr::Malformed(0)))?;
+    modules.push(driver(alloc, 104, OTHER, None, after(RANKED)))?;
+    Ok(Catalog { volumes, modules })
+}
 
 // Handles with so many of the architectural protocols, one on each.
 fn handles_with(alloc: Global, protocols: usize) -> Result<Handles, OutOfMemory> {
@@ -138,9 +137,31 @@ fn handles_with(alloc: Global, protocols: usize) -> Result<Handles, OutOfMemory>
     Ok(handles)
 }
 
-// The starts of the drivers of the volume, one after the other; only the first may be requested.
+// The drivers that start, one after the other.
+fn starts_from<L: Ledger>(
+    queue: &mut DriverQueue,
+    catalog: &Catalog,
+    order: &DriverOrder,
+    requested: &[bool],
+    handles: &Handles,
+    steps: &mut Steps<L>,
+) -> Result<Seq<Scheduled>, OutOfMemory>
+    requires catalog { IsWellFormed catalog.now }
+    requires made { IsQueueFor catalog.now queue.old }
+    requires seen { (m : DxeMachine) × IsSeen catalog.now m queue.old order.now requested.now (has_protocol handles.now) }
+{
+    let mut starts = Seq::new(catalog.modules.alloc());
+    'starts: for _ in catalog.modules.as_slice() {
+        match queue.next(catalog, order, requested, handles, steps)? {
+            Some(next) => starts.push(next)?,
+            None => return Ok(starts),
+        }
+    }
+    Ok(starts)
+}
+
+// The starts of the drivers of the volume; only the first may be requested.
 fn starts_of<L: Ledger>(
-    alloc: Global,
     catalog: &Catalog,
     handles: &Handles,
     is_requested: bool,
@@ -151,19 +172,19 @@ fn starts_of<L: Ledger>(
     requires some { 0 < L.parts }
     requires catalog { IsWellFormed catalog.now }
 {
+    let alloc = catalog.modules.alloc();
     let order = DriverOrder::discover(alloc, catalog, &[VOLUME.base])?;
     let mut queue = DriverQueue::new(alloc, catalog)?;
     queue.schedule_a_priori(catalog, order.volumes())?;
-    let requested = [is_requested];
     let mut steps = Steps::<L>::new(blank);
-    let mut starts = Seq::new(alloc);
-    'starts: for _ in catalog.modules.as_slice() {
-        match queue.next(catalog, &order, requested.as_slice(), handles, &mut steps)? {
-            Some(next) => starts.push(next)?,
-            None => return Ok(starts),
-        }
-    }
-    Ok(starts)
+    starts_from(
+        &mut queue,
+        catalog,
+        &order,
+        &[is_requested],
+        handles,
+        &mut steps,
+    )
 }
 
 /// Whether the first driver is requested, how many architectural protocols there are, and the drivers that start.
@@ -171,41 +192,69 @@ fn starts_of<L: Ledger>(
 struct Row {
     is_requested: bool,
     protocols: usize,
-    starts: &'static [u32],
+    starts: &'static [(u32, Licence)],
+}
+
+// Whether these drivers start, and no others.
+fn starts_so(alloc: Global, catalog: &Catalog, row: &Row) -> Result<bool, OutOfMemory>
+    requires { IsWellFormed catalog.now }
+{
+    let handles = handles_with(alloc, row.protocols)?;
+    let starts = starts_of::<Brand>(catalog, &handles, row.is_requested, Blank::new(1))?;
+    let mut is_same = starts.len() == row.starts.len();
+    'starts: for (start, (number, licence)) in starts.as_slice().iter().zip(row.starts) {
+        is_same = is_same && start.module_number == *number && start.licence == *licence;
+    }
+    Ok(is_same)
 }
 
 #[test]
-fn drivers_start_with_their_companions(rt: HostRuntime) -> Result<(), Fail> {
-    let catalog = catalogue(rt.alloc()).ok().ok_or("there is memory")?;
+fn companions_start_with_their_target(rt: HostRuntime) -> Result<(), Fail> {
+    let target = holds(rt.alloc()).ok().ok_or("there is memory")?;
+    let catalog = companions(rt.alloc(), target)
+        .ok()
+        .ok_or("there is memory")?;
     let rows = [
         Row {
             is_requested: false,
-            protocols: 0,
-            starts: &[9, 6, 2, 3, 4, 5, 11],
+            protocols: 13,
+            starts: &[],
         },
         Row {
             is_requested: true,
+            protocols: 0,
+            starts: &[
+                (2, Licence::Before),
+                (1, Licence::Before),
+                (0, Licence::True),
+                (3, Licence::After),
+                (4, Licence::After),
+            ],
+        },
+    ];
+    'rows: for row in &rows {
+        assert_eq!(rt; starts_so(rt.alloc(), &catalog, row), Ok(true));
+    }
+    Ok(())
+}
+
+#[test]
+fn all_architectural_protocols_are_asked_for(rt: HostRuntime) -> Result<(), Fail> {
+    let catalog = others(rt.alloc()).ok().ok_or("there is memory")?;
+    let rows = [
+        Row {
+            is_requested: false,
             protocols: 12,
-            starts: &[9, 0, 6, 2, 3, 4, 5, 11],
+            starts: &[(3, Licence::Apriori)],
         },
         Row {
             is_requested: false,
             protocols: 13,
-            starts: &[9, 1, 6, 2, 3, 4, 5, 11],
+            starts: &[(3, Licence::Apriori), (0, Licence::Absent)],
         },
     ];
     'rows: for row in &rows {
-        let handles = handles_with(rt.alloc(), row.protocols)
-            .ok()
-            .ok_or("there is memory")?;
-        let starts = starts_of::<Brand>(rt.alloc(), &catalog, &handles, row.is_requested, Blank::new(1))
-            .ok()
-            .ok_or("there is memory")?;
-        assert_eq!(rt; starts.len(), row.starts.len());
-        'starts: for (start, want) in starts.as_slice().iter().zip(row.starts) {
-            assert_eq!(rt; start.module_number, *want);
-            assert_eq!(rt; Some(&start.licence), LICENCES.get(*want as usize));
-        }
+        assert_eq!(rt; starts_so(rt.alloc(), &catalog, row), Ok(true));
     }
     Ok(())
 }
@@ -222,9 +271,9 @@ fn waits_of(alloc: Global, catalog: &Catalog, number: u32) -> Result<(bool, bool
 
 #[test]
 fn scheduled_drivers_wait_no_more(rt: HostRuntime) -> Result<(), Fail> {
-    let catalog = catalogue(rt.alloc()).ok().ok_or("there is memory")?;
+    let catalog = others(rt.alloc()).ok().ok_or("there is memory")?;
     // The last number is no module's.
-    let rows = [(3, (true, true)), (9, (true, false)), (99, (true, true))];
+    let rows = [(0, (true, true)), (3, (true, false)), (99, (true, true))];
     'rows: for (number, want) in rows {
         let waits = waits_of(rt.alloc(), &catalog, number)
             .ok()

@@ -6,7 +6,6 @@ ghost use Rattle.boot_model.specs.DxeChoice.{asks_for_request, is_sor};
 ghost use Rattle.boot_model.specs.DxeMachine.{DxeMachine};
 ghost use Rattle.boot_model.specs.DxeStep as D;
 ghost use Rattle.catalog_model.specs.declared.catalog.PartExpr.TheVariants.{Held};
-ghost use Rattle.dxe_action.specs.Services.{flag_at};
 ghost use Rattle.dxe_dispatch.specs.Waiting.{PutsWaiting, PutsAllWaiting};
 
 use boot_io::{Sink, SinkFault};
@@ -14,19 +13,10 @@ use boot_model::{Line, Reason};
 use boot_trace::put;
 use catalog_model::{Catalog, Part, PartExpr};
 use depex_code::Depex;
+use dxe_action::is_requested;
 use dxe_choice::DriverQueue;
 use frames::{name_of, part_of, volume_of};
 use pi_base::Phase;
-
-// Whether a driver was requested.
-fn is_requested(requested: &[bool], number: u32) -> bool
-    ensures { result ≡ flag_at requested.now number }
-{
-    match requested.get(number as usize) {
-        Some(flag) => *flag,
-        None => false,
-    }
-}
 
 // Why a driver waits that has this expression.
 fn expression_reason(expression: &Depex, requested: bool) -> Reason

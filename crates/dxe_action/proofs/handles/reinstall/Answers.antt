@@ -1,8 +1,8 @@
-use Rattle.std.proofs.Common.{◌≡◌, refl, ap, subst, ◌∙◌, Ok}
+use Rattle.std.proofs.Common.{refl, ap, subst, ◌∙◌, Ok}
 use Rattle.act_code.specs.declared.action.Action.TheVariants as A
 use Rattle.boot_model.specs.declared.line.CallName.TheVariants as C
 use Rattle.boot_model.specs.declared.line.Extra.TheVariants as X
-use Rattle.store_model.specs.HandleState.{is_on_with, reinstall_interface, with_value}
+use Rattle.store_model.specs.HandleState.{reinstall_interface}
 use Rattle.boot_model.specs.DxeAction.{Called, protocol_sweep, reinstall_answer}
 use Rattle.frames.specs.declared.registers.Writes.TheVariants as W
 use Rattle.dxe_action.specs.Answered.{GrowByOne, Serves, swept}

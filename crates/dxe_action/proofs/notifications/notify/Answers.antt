@@ -1,4 +1,4 @@
-use Rattle.std.proofs.Common.{◌≡◌, sym, subst, [], ◌∷◌, ◌++◌, Ok}
+use Rattle.std.proofs.Common.{subst, Ok}
 use Rattle.act_code.specs.declared.action.Action.TheVariants as A
 use Rattle.dxe_action.specs.Answered.{Serves}
 use Rattle.dxe_action.specs.Services.{Services}

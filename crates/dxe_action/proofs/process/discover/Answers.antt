@@ -1,4 +1,4 @@
-use Rattle.std.proofs.Common.{◌≡◌, sym, subst, ◌∙◌, Ok}
+use Rattle.std.proofs.Common.{sym, subst, ◌∙◌, Ok}
 use Rattle.dxe_action.specs.Answered.{ProcessesVolume}
 use Rattle.dxe_action.specs.Services.{Services}
 use Rattle.dxe_action.proofs.Discovered.{new_volume, with_order}

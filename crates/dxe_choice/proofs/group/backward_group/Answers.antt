@@ -1,4 +1,4 @@
-use Rattle.std.proofs.Common.{◌≤◌, ◌*◌, length, arith, sym}
+use Rattle.std.proofs.Common.{◌≤◌, ◌*◌, length, arith}
 use Rattle.std.proofs.lemmas.Bool.Decides.{nat_tests}
 use Rattle.dxe_choice.proofs.Walks.{walk_begins, walk_on, walk_ends, walk_is_over}
 use Rattle.dxe_choice.proofs.group.backward_group.Goals as goal

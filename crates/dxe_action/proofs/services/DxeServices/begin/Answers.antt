@@ -1,4 +1,4 @@
-use Rattle.std.proofs.Common.{◌≡◌, sym, subst, [], false}
+use Rattle.std.proofs.Common.{sym, subst, []}
 use Rattle.dxe_action.specs.Services.{AreFlags}
 use Rattle.dxe_action.proofs.Flags.{flags_down}
 use Rattle.dxe_action.proofs.services.DxeServices.begin.Goals as goal

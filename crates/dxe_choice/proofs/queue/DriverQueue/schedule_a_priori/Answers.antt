@@ -1,7 +1,7 @@
 use Rattle.std.proofs.Common.{◌≤◌, length, arith, ◌∙◌}
 use Rattle.std.proofs.lemmas.Bool.Decides.{nat_tests}
 use Rattle.boot_model.specs.DxeChoice.{a_priori_drivers}
-use Rattle.dxe_choice.proofs.Scheduling.{ranked_drivers, row_of, still_for, volumes_done, volumes_on}
+use Rattle.dxe_choice.proofs.Scheduling.{ranked_drivers, still_for, volumes_done, volumes_on}
 use Rattle.dxe_choice.proofs.queue.DriverQueue.schedule_a_priori.Goals as goal
 
 pub volumes-preserved : goal.volumes-preserved
