@@ -1,7 +1,7 @@
 -- Texts of lists of lines.
 use Rattle.std.proofs.Common.{◌≡◌, ◌<◌, ◌≤◌, ℕ, ◌+◌, List, [], ◌∷◌, ◌++◌, Option, refl, sym, ap, ◌∙◌, subst, flat_map, map, Result, take, get_or, length}
 use Rattle.std.specs.Io.KnownBytes.{Appends}
-use Rattle.boot_io.proofs.PutsLaws.{puts_then, part_of_more, part_of_lines, lines_more}
+use Rattle.boot_io.proofs.PutsLaws.{appends_none, puts_then, part_of_more, part_of_lines, lines_more}
 use Rattle.std.proofs.lemmas.List.{append-nil, take_all}
 use Rattle.std.proofs.lemmas.Grind.{flat_map-append, get_or_default_zero}
 use Rattle.boot_io.specs.declared.sink.SinkFault.{SinkFault}
@@ -27,9 +27,12 @@ part_of_longer old new a b p =
     let P : List ℕ → Type 0 = λ t. AppendsPart old new t in
     subst P (sym (text_of-append a b)) (part_of_more old new (text_of a) (text_of b) p)
 
--- the whole is a part
+-- the whole is a part, and so is nothing
 pub part_whole : (old new : Option (List ℕ)) (text : List ℕ) → Appends old new text → AppendsPart old new text
 part_whole old new text f = (text, ([], sym (append-nil text)), f)
+
+pub part_none : (old : Option (List ℕ)) (text : List ℕ) → AppendsPart old old text
+part_none old text = ([], (text, refl), appends_none old)
 
 -- a number in the list
 item_is : (xs : List ℕ) (i : ℕ) → i < length xs → get_or xs i 0 ≡ get_or xs i (get_or xs i 0)
