@@ -10,7 +10,8 @@ use Rattle.boot_model.specs.BootRun.{handle_lines, lines_after, both_lines, dxe_
 use Rattle.boot_model.specs.DxeMachine.{DxeMachine}
 use Rattle.boot_model.specs.declared.phase_end.DxeEnd.{DxeEnd}
 use Rattle.boot_model.specs.DxeRun.{dxe_end}
-use Rattle.store_model.specs.HandleState.{HandleState, Interface, no_handles}
+use Rattle.store_model.specs.HandleState.{HandleState, no_handles}
+use Rattle.store_model.specs.declared.interface.Interface.{Interface}
 use Rattle.boot_model.specs.Listing.{store_lines}
 use Rattle.boot_model.specs.PeiMachine.{PeiMachine}
 use Rattle.boot_model.specs.declared.phase_end.PeiEnd.{PeiEnd}

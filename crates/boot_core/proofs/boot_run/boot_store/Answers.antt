@@ -17,7 +17,7 @@ returns-clause-row g c = λ board stands.
     let pei = c.in_ok-pei.ensures.row board stands in
     tells_then c.boot_behind.result (λ answer. end_after catalog fuel m m.ended ≡ Some answer) (λ answer. end_of board catalog fuel ≡ Some answer) (text_of m.lines) (text_behind catalog fuel m) (boot_text board catalog fuel)
     (T c.args.sink.now) (T c.boot_pei.new.sink) (T c.boot_behind.new.sink)
-    (sym (boot_is board catalog fuel)) (end_is board catalog fuel) pei.0.text (c.boot_behind.ensures.row m pei.1.0 (pei.0.ended, pei.1.1))
+    (sym (boot_is board catalog fuel)) (end_is board catalog fuel) pei.0.text (c.boot_behind.ensures.row m pei.1 (pei.0.ended, pei.2))
 
 pub returns-in_err-pei-clause-row : goal.returns-in_err-pei-clause-row
 returns-in_err-pei-clause-row g c = λ board stands.

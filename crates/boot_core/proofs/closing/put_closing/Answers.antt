@@ -1,3 +1,4 @@
+use Rattle.std.proofs.Common.{◌++◌}
 use Rattle.boot_model.specs.Listing.{store_lines}
 use Rattle.boot_model.specs.Text.{text_of}
 use Rattle.boot_io.proofs.PutsLaws.{puts_err, puts_then, part_of_more}
