@@ -40,7 +40,8 @@ result_is handles end =
 -- the last lines
 closing_is : (s : StoreState) (handles : HandleState) (end : RunEnd) → text_of (closing s handles end) ≡ closing_text s handles end
 closing_is s handles end =
-    flat_map-append line_text (store_lines s) (handle_lines handles ++ L.Result end ∷ []) ∙ ap (λ text. text_of (store_lines s) ++ text) (result_is handles end)
+    ap text_of (append_assoc (store_lines s) (handle_lines handles) (L.Result end ∷ []))
+    ∙ flat_map-append line_text (store_lines s) (handle_lines handles ++ L.Result end ∷ []) ∙ ap (λ text. text_of (store_lines s) ++ text) (result_is handles end)
 
 -- a DXE that ended so with these handles, and one that has any end
 pub dxe_closed : (s : StoreState) (dxe : DxeMachine) (how : DxeEnd) (handles : HandleState) → dxe.ended ≡ Some how → dxe.handles ≡ handles

@@ -46,7 +46,7 @@ interface_text i = line_text (L.Handle i.handle i.guid i.value)
 
 -- the text of the handles and of the result
 unfoldable pub result_text : HandleState → RunEnd → List ℕ
-result_text handles end = line_text (L.Handles (length handles.interfaces)) ++ flat_map interface_text handles.interfaces ++ line_text (L.Result end)
+result_text handles end = line_text (L.Handles (length handles.interfaces)) ++ (flat_map interface_text handles.interfaces ++ line_text (L.Result end))
 
 -- the text of the last lines, over a store
 abbrev pub closing_text : StoreState → HandleState → RunEnd → List ℕ

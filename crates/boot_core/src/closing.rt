@@ -30,18 +30,25 @@ fn put_interface<S: Sink>(sink: &mut S, interface: Interface) -> Result<(), Sink
 }
 
 // A line for each interface.
-fn put_interfaces<S: Sink>(sink: &mut S, handles: &Handles) -> Result<(), SinkFault>
-    ensures text { Puts result (S.text sink.old) (S.text sink.new) (flat_map interface_text handles.now.interfaces) }
+fn put_interfaces<S: Sink>(sink: &mut S, interfaces: &[Interface]) -> Result<(), SinkFault>
+    ensures text { Puts result (S.text sink.old) (S.text sink.new) (flat_map interface_text interfaces.now) }
     ensures cause { SinkFaultsAfter result (S.faults sink.old) (S.faults sink.new) }
 {
-    'interfaces: for interface in handles.interfaces() {
+    'interfaces: for interface in interfaces {
         put_interface(sink, *interface)?;
     }
     Ok(())
 }
 
+// How many interfaces there are.
+fn count_of(handles: &Handles) -> u32
+    requires few { length handles.now.interfaces < 2 ^ 32 }
+    ensures { result ≡ length handles.now.interfaces }
+{
+    handles.len() as u32
+}
+
 // The handles, and the result.
-#[tactic(auto, unfolding(crate::specs::Running::result_text))]
 fn put_result<S: Sink>(sink: &mut S, handles: &Handles, end: RunEnd) -> Result<(), SinkFault>
     requires few { length handles.now.interfaces < 2 ^ 32 }
     ensures text { Puts result (S.text sink.old) (S.text sink.new) (result_text handles.now end) }
@@ -50,10 +57,10 @@ fn put_result<S: Sink>(sink: &mut S, handles: &Handles, end: RunEnd) -> Result<(
     put(
         sink,
         &Line::Handles {
-            count: handles.len() as u32,
+            count: count_of(handles),
         },
     )?;
-    put_interfaces(sink, handles)?;
+    put_interfaces(sink, handles.interfaces())?;
     put(sink, &Line::Result { outcome: end })
 }
 

@@ -1,0 +1,10 @@
+use Rattle.std.proofs.Common.{◌≡◌, subst}
+use Rattle.store_model.specs.HandleState.{HandleState}
+use Rattle.boot_core.specs.Running.{Tells, Texts, closing_text}
+use Rattle.boot_core.proofs.boot_run.close_pei.Goals as goal
+
+pub returns-clause-row : goal.returns-clause-row
+returns-clause-row g c = λ s stands any.
+    let t : Texts = record { old = g.S.Sink.text c.args.sink.now; new = g.S.Sink.text c.close.new.sink } in
+    let P : HandleState → Type 0 = λ handles. Tells (λ answer. answer ≡ c.args.end) (closing_text s handles c.args.end) t c.close.result in
+    subst P c.new.ensures (c.close.ensures.row s stands any)
