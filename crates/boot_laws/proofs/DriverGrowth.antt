@@ -18,8 +18,8 @@ use Rattle.boot_model.specs.DxeStep.{DxeCase, DxeFires, DxeActs, DxeStarts, DxeS
 use Rattle.boot_model.specs.DxeRun.{dxe_run, dxe_opening}
 use Rattle.boot_model.specs.DriverLicence.{numbers_of}
 use Rattle.boot_laws.specs.DriverSteps.{BeginsWith, IsGrown, DriverStepsGrow, AreFewDrivers, DriversAreFew}
-use Rattle.boot_laws.proofs.ListFacts.{each_more, each_append, within}
-use Rattle.boot_laws.proofs.Distinct.{all_differ, distinct_append, few_below}
+use Rattle.boot_model.proofs.ListFacts.{each_more, each_append, within}
+use Rattle.boot_model.proofs.Distinct.{all_differ, distinct_append, few_below}
 use Rattle.boot_laws.proofs.PartLists.{IsKnown, distinct_of, known_of, drivers_are}
 use Rattle.boot_laws.proofs.Queue.{IsQueued}
 use Rattle.boot_laws.proofs.DriverActions.{Follows, EffectFollows, effect_follows}

@@ -9,8 +9,8 @@ use Rattle.boot_model.specs.declared.driver.Scheduled.{Scheduled}
 use Rattle.boot_model.specs.DxeMachine.{DxeMachine}
 use Rattle.boot_model.specs.DxeChoice.{discovered_order, is_scheduled, is_waiting, queue_from, waiting, group_within, befores, afters, schedule_of, group_scheduled, first_eligible, is_eligible_driver}
 use Rattle.boot_model.specs.DriverLicence.{DxeStopsIdle}
-use Rattle.boot_laws.proofs.ListFacts.{each_at}
-use Rattle.boot_laws.proofs.Distinct.{neither}
+use Rattle.boot_model.proofs.ListFacts.{each_at}
+use Rattle.boot_model.proofs.Distinct.{neither}
 use Rattle.boot_laws.proofs.PeiOrders.{has_filtered}
 use Rattle.boot_laws.proofs.DxeCases.{stops_from}
 use Rattle.boot_laws.proofs.EachDriver.{order_has}

@@ -20,7 +20,7 @@ use Rattle.boot_model.specs.PeiStep.{PeiCase, Fires, Acts, Moves, Pops, Starts, 
 use Rattle.boot_model.specs.PeiRun.{pei_opening, pei_run}
 use Rattle.boot_model.specs.Reporting.{newcomers, reports, told_at}
 use Rattle.boot_laws.specs.PeiOrder.{ReportedDiffer, OrdersOfRuns}
-use Rattle.boot_laws.proofs.Distinct.{Distinct, all_differ, distinct_append}
+use Rattle.boot_model.proofs.Distinct.{Distinct, all_differ, distinct_append}
 use Rattle.boot_laws.proofs.Volumes.{IsNew, newcomers_new, newcomers_differ, new_apart, parted, distinct_family}
 use Rattle.boot_laws.proofs.PeiOrders.{order_has_each_part_once}
 

@@ -32,7 +32,7 @@ use Rattle.boot_model.specs.Licence.{IsPartAmong}
 use Rattle.boot_model.specs.DriverLicence.{numbers_of, IsMember, IsDriverLicensed, IsDiscovered}
 use Rattle.boot_laws.specs.DriverSteps.{BeginsWith}
 use Rattle.boot_laws.specs.UnrequestedDrivers.{WaitForRequest, UnrequestedDriversWait}
-use Rattle.boot_laws.proofs.ListFacts.{each_more, each_append, each_at, has_later, has_here}
+use Rattle.boot_model.proofs.ListFacts.{each_more, each_append, each_at, has_later, has_here}
 use Rattle.boot_laws.proofs.PartLists.{is_equal, ranked_in, each_flat_ranked, known_of, drivers_are}
 use Rattle.boot_laws.proofs.PeiOrders.{has_front, has_back, has_flat, part_in_volume, ranked_within, ranked_has}
 use Rattle.boot_laws.proofs.DriverActions.{Follows, EffectFollows, effect_follows}
