@@ -49,7 +49,6 @@ mod MovedGuids
 mod EventGuids
 mod StepGuids
 mod StoreLaws
-mod ScriptHobs
 mod EffectFacts
 mod RunFacts
 mod PeiLicences

@@ -10,7 +10,7 @@ use Rattle.pei_action.proofs.Served.{given_where, refused_taken, told_taken}
 use Rattle.pei_action.proofs.hobs.make_hob.Goals as goal
 
 pub create_hob-requires-clause-hob : goal.create_hob-requires-clause-hob
-create_hob-requires-clause-hob g c = script_hob c.args.kind c.args.body.now (hob_value c.in-Some.hob) c.requires.hob c.in-Some.ensures
+create_hob-requires-clause-hob g c = (script_hob c.args.kind c.args.body.now (hob_value c.in-Some.hob) c.requires.hob c.in-Some.ensures).script
 
 pub returns-in-Ok : goal.returns-in-Ok
 returns-in-Ok g c = record {
