@@ -11,7 +11,6 @@ use Rattle.catalog_model.specs.Parts.{has_number, volume_at}
 use Rattle.store_model.specs.MemoryReading.{bytes_at}
 use Rattle.store_model.specs.HandleState.{HandleState, HandleService, install_interface, reinstall_interface, uninstall_interface, locate_handle}
 use Rattle.boot_model.specs.declared.driver.ProtocolSweep.{ProtocolSweep}
-use Rattle.boot_model.specs.declared.frame.Register.{Register}
 use Rattle.boot_model.specs.declared.line.Extra.TheVariants as X
 use Rattle.boot_model.specs.Reporting.{newcomers}
 use Rattle.boot_model.specs.Registers.{number_in, handle_in, both}

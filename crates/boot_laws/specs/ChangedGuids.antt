@@ -1,24 +1,17 @@
 -- Which GUIDs are installed changes in a step of PEI only for those of the step's event.
 -- Those that a successful call puts in are there behind it.
 -- Own.
-use Rattle.std.specs.Prelude.{◌≡◌, ℕ, Bool, true, false, if◌then◌else◌, nat_le, List, [], ◌++◌, map, unwrap_or, option_map, Option, None}
+use Rattle.std.specs.Prelude.{◌≡◌, ℕ, Bool, true, false, List, ◌++◌}
 use Rattle.std.specs.List.{list_any}
 use Rattle.std.specs.Option.{option_to_list}
 use Rattle.pi_base.specs.declared.guid.Guid.{Guid}
-use Rattle.act_code.specs.declared.action.Action.{Action}
-use Rattle.act_code.specs.declared.action.Action.TheVariants as A
 use Rattle.catalog_model.specs.declared.catalog.Catalog.{Catalog}
 use Rattle.pi_base.specs.Guids.{same_guid}
 use Rattle.pi_base.specs.Lists.{Each}
-use Rattle.store_model.specs.StoreState.{StoreState}
 use Rattle.store_model.specs.StateFacts.{IsStoreState}
-use Rattle.store_model.specs.Service.Descriptor.{guid_at, offsets}
-use Rattle.store_model.specs.Service.Install.{core_install, has_ppi}
-use Rattle.boot_model.specs.Registers.{descriptor_in, descriptors_in}
-use Rattle.boot_model.specs.PeiMachine.{Frame}
+use Rattle.store_model.specs.Service.Install.{has_ppi}
 use Rattle.boot_model.specs.PeiMachine.{PeiMachine}
-use Rattle.boot_model.specs.PeiAction.{effect}
-use Rattle.boot_model.specs.PeiStep.{PeiCase, Fires, Acts, Moves, Pops, Starts, Stops, case_of, action_at, pei_step}
+use Rattle.boot_model.specs.PeiStep.{pei_step}
 use Rattle.boot_model.specs.EvaluationBound.{each_once, pei_guids}
 use Rattle.boot_model.specs.EventGuids.{pei_placed, pei_taken}
 use Rattle.boot_model.specs.MachineFacts.{HoldRegisters}

@@ -1,8 +1,8 @@
 -- A HOB of a script's action is one that scripts make, as long as its fields.
-use Rattle.std.proofs.Common.{◌≡◌, ◌≢◌, ℕ, ◌+◌, ◌-◌, ◌*◌, ◌/◌, ◌%◌, ◌≤◌, ◌<◌, ◌^◌, ◌==◌, Bool, true, false, cond, List, length, drop, arith, refl, ap, subst, ◌∙◌, Some, None, length-append, length-drop, length-take}
+use Rattle.std.proofs.Common.{◌≡◌, ℕ, ◌+◌, ◌-◌, ◌≤◌, ◌==◌, Bool, true, false, cond, List, length, drop, arith, refl, ap, subst, ◌∙◌, Some, None, length-append, length-drop, length-take}
 use Rattle.std.proofs.lemmas.List.{length-replicate}
 use Rattle.std.proofs.lemmas.Bool.Decides.{nat_tests}
-use Rattle.hob_codec.specs.HobValue.{HobValue, ResourceHob, NamedHob, VolumeHob, CpuHob, Volume2Hob, kind_of}
+use Rattle.hob_codec.specs.HobValue.{HobValue, ResourceHob, NamedHob, VolumeHob, CpuHob, Volume2Hob}
 use Rattle.hob_codec.specs.HobBytes.{length_of, padded_len, padding}
 use Rattle.hob_codec.specs.HobReading.{hob_of}
 use Rattle.pi_base.specs.Guids.{guid_at}
