@@ -25,7 +25,8 @@ fn put_span<S: Sink, M: PeiStore>(
     span: &HobSpan,
 ) -> Result<(), SinkFault>
     requires state { Present (M.stands_for store.now) (λ s. hob_at s offset ≡ Some span.now) }
-    ensures text { OfEach (M.stands_for store.now) (λ s. hob_at s offset ≡ Some span.now) (λ s. IsSomeAnd (hob_line_at s offset) (λ line. Puts result (S.text sink.old) (S.text sink.new) (line_text line))) }
+    ensures text { OfEach (M.stands_for store.now) (λ s. hob_at s offset ≡ Some span.now)
+        (λ s. IsSomeAnd (hob_line_at s offset) (λ line. Puts result (S.text sink.old) (S.text sink.new) (line_text line))) }
     ensures cause { SinkFaultsAfter result (S.faults sink.old) (S.faults sink.new) }
 {
     let at = store.base() + offset + u64::from(HEADER_LEN);
@@ -40,7 +41,8 @@ pub(crate) fn put_hob_at<S: Sink, M: PeiStore>(
     offset: u64,
 ) -> Result<(), SinkFault>
     requires state { Present (M.stands_for store.now) (λ s. is_some (hob_at s offset) ≡ true) }
-    ensures text { OfEach (M.stands_for store.now) (λ s. is_some (hob_at s offset) ≡ true) (λ s. IsSomeAnd (hob_line_at s offset) (λ line. Puts result (S.text sink.old) (S.text sink.new) (line_text line))) }
+    ensures text { OfEach (M.stands_for store.now) (λ s. is_some (hob_at s offset) ≡ true)
+        (λ s. IsSomeAnd (hob_line_at s offset) (λ line. Puts result (S.text sink.old) (S.text sink.new) (line_text line))) }
     ensures cause { SinkFaultsAfter result (S.faults sink.old) (S.faults sink.new) }
 {
     let span = store.hob_at(offset).unwrap();
@@ -76,7 +78,8 @@ pub fn count_hobs<M: PeiStore>(store: &M) -> HobCount
 // The lines of the HOBs.
 fn put_hob_lines<S: Sink, M: PeiStore>(sink: &mut S, store: &M) -> Result<(), SinkFault>
     requires state { Present (M.stands_for store.now) Anything }
-    ensures text { OfEach (M.stands_for store.now) Anything (λ s. Puts result (S.text sink.old) (S.text sink.new) (text_of (hob_lines_from s 0 (all_hobs s)))) }
+    ensures text { OfEach (M.stands_for store.now) Anything (λ s. Puts result (S.text sink.old) (S.text sink.new)
+        (text_of (hob_lines_from s 0 (all_hobs s)))) }
     ensures cause { SinkFaultsAfter result (S.faults sink.old) (S.faults sink.new) }
 {
     let mut offset = 0;
