@@ -14,8 +14,8 @@ use Rattle.catalog_model.specs.Parts.{has_number, part_at, part_of}
 use Rattle.boot_model.specs.declared.licence.Licence.{Licence}
 use Rattle.boot_model.specs.declared.driver.Scheduled.{Scheduled}
 use Rattle.boot_model.specs.DxeChoice.{a_priori_drivers, driver_licence, schedule_of}
-use Rattle.boot_laws.proofs.ListFacts.{each_more, each_append, within}
-use Rattle.boot_laws.proofs.Distinct.{all_differ, few_below}
+use Rattle.boot_model.proofs.ListFacts.{each_more, each_append, within}
+use Rattle.boot_model.proofs.Distinct.{all_differ, few_below}
 use Rattle.boot_laws.proofs.PartLists.{IsKnown, IsPartOfVolume, known_of, ranked_in, ranked_are}
 use Rattle.dxe_choice.specs.Choosing.{AllWait, IsNumberOf, Schedules, as_apriori, is_among}
 use Rattle.dxe_choice.specs.Queue.{Queue, IsDriver, IsQueueFor, SchedulesApriori, waits_at}
