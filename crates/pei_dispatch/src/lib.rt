@@ -2,8 +2,7 @@
 #![tactic(auto)]
 
 mod boot;
-mod choose;
-mod report;
+mod follow;
 mod run;
 mod start;
 mod stop;
