@@ -45,6 +45,13 @@ with_start part view = record view {
   again = λ number. not (part == number) && view.again number;
 }
 
+-- two views say the same; of one that has not started nobody asks whether it may start again
+pub record AreAlike (view other : View) : Type 0 where
+  pub volumes : view.reported ≡ other.reported
+  pub starts : (number : ℕ) → view.started number ≡ other.started number
+  pub allows : (number : ℕ) → view.started number ≡ true → view.again number ≡ other.again number
+  pub installs : (guid : Guid) → view.has guid ≡ other.has guid
+
 -- the parts of what was reported, in PEI order
 abbrev pub parts_of : Catalog → View → List ℕ
 parts_of catalog view = pei_order catalog view.reported

@@ -2,8 +2,10 @@
 #![tactic(auto)]
 
 mod change;
+mod laws;
 mod licence;
 mod queue;
 
+pub use laws::alike_views_are_shown;
 pub use licence::licence_of;
 pub use queue::PeiQueue;

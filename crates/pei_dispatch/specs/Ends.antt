@@ -39,16 +39,16 @@ KeepsLast catalog m pei later_m later = last_start pei ≡ last_started catalog 
 -- a run from a machine to an end, by its answer
 abbrev pub RunsTo : {M : Type 0} → (M → StoreState → Type 0) → Catalog
     → PeiMachine → Pei M → PeiMachine → Pei M → PeiQueue → Option (List ℕ) → Option (List ℕ) → Result PeiEnd Halt → Type 0
-RunsTo stands catalog m pei end later order old new (Ok how) =
-    HasEnded how end old new × StandsAtEnd stands catalog later order end × KeepsLast catalog m pei end later
-RunsTo stands catalog m pei end later order old new (Err halt) = AppendsPart old new (text_of end.lines)
+RunsTo stands catalog m pei end later queue old new (Ok how) =
+    HasEnded how end old new × StandsAtEnd stands catalog later queue end × KeepsLast catalog m pei end later
+RunsTo stands catalog m pei end later queue old new (Err halt) = AppendsPart old new (text_of end.lines)
 
 -- the run from the opening, over each board and fuel for which the core was made
 abbrev pub Runs : {M : Type 0} → (M → StoreState → Type 0) → Catalog
     → Pei M → Pei M → PeiQueue → Option (List ℕ) → Option (List ℕ) → Result PeiEnd Halt → Type 0
-Runs stands catalog pei later order old new result =
+Runs stands catalog pei later queue old new result =
     (board : Board) (fuel : ℕ) → IsFor catalog fuel pei → StandsFor stands pei (pei_opening board catalog)
-    → RunsTo stands catalog (pei_opening board catalog) pei (pei_end board catalog fuel) later order old new result
+    → RunsTo stands catalog (pei_opening board catalog) pei (pei_end board catalog fuel) later queue old new result
 
 -- memory is wanting only where the store takes it
 abbrev pub IsWantOfStore : {A : Type 0} → Bool → Result A Halt → Type 0

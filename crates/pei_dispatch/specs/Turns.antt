@@ -43,11 +43,19 @@ pub record IsChosen {M : Type 0} (stands : M → StoreState → Type 0) (catalog
   pub idle : IsIdle m
   pub peim : IsNext catalog m number
 
+-- what is chosen
+abbrev pub ChoosesFrom : Catalog → PeiMachine → Option ℕ → Type 0
+ChoosesFrom catalog m None = next_peim catalog m ≡ None
+ChoosesFrom catalog m (Some number) = IsNext catalog m number
+
+abbrev pub Chooses : {M : Type 0} → (M → StoreState → Type 0) → Catalog → Pei M → PeiQueue → Option ℕ → Type 0
+Chooses stands catalog pei queue answer = (m : PeiMachine) → IsNow stands catalog pei queue m → ChoosesFrom catalog m answer
+
 -- the machine goes on as the later one, and its lines were put
 pub record HasTurned {M : Type 0} (stands : M → StoreState → Type 0) (catalog : Catalog)
     (m : PeiMachine) (pei : Pei M) (later_m : PeiMachine) (later : Pei M) (queue : PeiQueue) (t : Texts) : Type 0 where
   pub printed : Printed m later_m t
-  pub now : IsNow stands catalog later order later_m
+  pub now : IsNow stands catalog later queue later_m
   pub last : KeepsLast catalog m pei later_m later
 
 -- the later machine has ended, and its lines were put
@@ -55,17 +63,17 @@ pub record IsOver {M : Type 0} (stands : M → StoreState → Type 0) (catalog :
     (m : PeiMachine) (pei : Pei M) (end : PeiMachine) (later : Pei M) (queue : PeiQueue) (how : PeiEnd) (t : Texts) : Type 0 where
   pub ended : end.ended ≡ Some how
   pub printed : Printed m end t
-  pub machine : StandsAtEnd stands catalog later order end
+  pub machine : StandsAtEnd stands catalog later queue end
   pub last : KeepsLast catalog m pei end later
 
 -- a turn from a machine to the later one, by its answer
 abbrev pub TurnsTo : {M : Type 0} → (M → StoreState → Type 0) → Catalog
     → PeiMachine → Pei M → PeiMachine → Pei M → PeiQueue → Texts → Result (Option PeiEnd) Halt → Type 0
-TurnsTo stands catalog m pei later_m later order t (Ok None) = HasTurned stands catalog m pei later_m later order t
-TurnsTo stands catalog m pei later_m later order t (Ok (Some how)) = IsOver stands catalog m pei later_m later order how t
-TurnsTo stands catalog m pei later_m later order t (Err halt) = PrintedPart m later_m t
+TurnsTo stands catalog m pei later_m later queue t (Ok None) = HasTurned stands catalog m pei later_m later queue t
+TurnsTo stands catalog m pei later_m later queue t (Ok (Some how)) = IsOver stands catalog m pei later_m later queue how t
+TurnsTo stands catalog m pei later_m later queue t (Err halt) = PrintedPart m later_m t
 
--- a turn from each machine for which the core and the order stand: a step of it
+-- a turn from each machine for which the core and the queue stand: a step of it
 abbrev pub Turns : {M : Type 0} → (M → StoreState → Type 0) → Catalog
     → Pei M → PeiQueue → Pei M → PeiQueue → Option (List ℕ) → Option (List ℕ) → Result (Option PeiEnd) Halt → Type 0
 Turns stands catalog pei queue later grown old new result =
@@ -82,8 +90,8 @@ TurnsIdle stands catalog pei queue later grown old new result =
 -- the start of what was chosen, by its answer
 abbrev pub StartsTo : {M : Type 0} → (M → StoreState → Type 0) → Catalog
     → PeiMachine → Pei M → PeiMachine → Pei M → PeiQueue → Texts → Result (Unit {0}) SinkFault → Type 0
-StartsTo stands catalog m pei later_m later order t (Ok _) = HasTurned stands catalog m pei later_m later order t
-StartsTo stands catalog m pei later_m later order t (Err fault) = PrintedPart m later_m t
+StartsTo stands catalog m pei later_m later queue t (Ok _) = HasTurned stands catalog m pei later_m later queue t
+StartsTo stands catalog m pei later_m later queue t (Err fault) = PrintedPart m later_m t
 
 abbrev pub Starts : {M : Type 0} → (M → StoreState → Type 0) → Catalog
     → Pei M → PeiQueue → ℕ → Pei M → PeiQueue → Option (List ℕ) → Option (List ℕ) → Result (Unit {0}) SinkFault → Type 0

@@ -10,8 +10,9 @@ ghost use Rattle.pei_core.specs.Standing.{StandsFor};
 ghost use Rattle.pei_dispatch.specs.Evaluations.{FewEvaluations};
 ghost use Rattle.pei_dispatch.specs.Following.{Follows, HaveStartedAll, after_move};
 
+use boot_laws::{guids_are_there, guids_are_these, guids_change};
 use catalog_model::Catalog;
-use pei_choice::PeiQueue;
+use pei_choice::{PeiQueue, alike_views_are_shown};
 use pei_core::{Event, Pei};
 use pi_base::Guid;
 use store_model::PeiStore;
@@ -54,6 +55,10 @@ pub(crate) fn follow<M: PeiStore + Drop>(
     ensures few { (m : PeiMachine) (fuel : ℕ) → Follows M.stands_for catalog.now fuel pei.now queue.old event.now m
         → FewEvaluations catalog.now fuel m (owed_by queue.old) (owed_by queue.new) }
 {
+    guids_change();
+    guids_are_there();
+    guids_are_these();
+    alike_views_are_shown();
     queue.changed(
         event.there.as_slice(),
         event.gone,

@@ -2,6 +2,7 @@
 #![tactic(auto)]
 
 mod boot;
+mod choose;
 mod follow;
 mod run;
 mod start;

@@ -15,7 +15,7 @@ use boot_laws::pei_runs_end;
 use boot_model::{MOST_FRAMES, PeiEnd};
 use catalog_model::Catalog;
 use depex_code::Steps;
-use pei_choice::PeiQueue;
+use pei_choice::{PeiQueue, alike_views_are_shown};
 use pei_core::{Pei, put_reports};
 use std::sync::ledger::Ledger;
 use store_model::PeiStore;
@@ -46,6 +46,7 @@ pub fn run_pei<M: PeiStore + Drop, S: Sink, L: Ledger>(
     ensures faults { HaltsAfter result (S.faults sink.old) (S.faults sink.new) }
     ensures few_steps { HasFewSteps M.stands_for catalog.now pei.old steps.old steps.new }
 {
+    alike_views_are_shown();
     queue.report(catalog, pei.reported());
     put_reports(sink, pei.reported())?;
     'turns: for _ in 0..bound(catalog, pei.fuel()) {

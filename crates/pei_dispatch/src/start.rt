@@ -11,7 +11,7 @@ use boot_io::{Sink, SinkFault};
 use boot_model::state_of;
 use catalog_model::Catalog;
 use frames::part_of;
-use pei_choice::{PeiQueue, licence_of};
+use pei_choice::{PeiQueue, alike_views_are_shown, licence_of};
 use pei_core::Pei;
 use pi_base::Phase;
 use store_model::PeiStore;
@@ -35,6 +35,7 @@ pub(crate) fn start<M: PeiStore + Drop, S: Sink>(
     let Some(part) = part_of(catalog, Phase::Pei, number) else {
         return Ok(());
     };
+    alike_views_are_shown();
     let licence = licence_of(state_of(pei.states(), number), part);
     pei.start(catalog, number, licence, sink)?;
     queue.started(number);

@@ -10,6 +10,7 @@ ghost use Rattle.pei_choice.specs.Queue.{owed_by};
 ghost use Rattle.pei_dispatch.specs.Evaluations.{AreFewOnTurn};
 ghost use Rattle.pei_dispatch.specs.Turns.{IsNow, Turns, TurnsIdle};
 
+use crate::choose::choose;
 use crate::follow::follow;
 use crate::start::start;
 use crate::stop::{end_of, put_stop};
@@ -39,7 +40,7 @@ fn start_or_stop<M: PeiStore + Drop, S: Sink, L: Ledger>(
     ensures faults { HaltsAfter result (S.faults sink.old) (S.faults sink.new) }
     ensures few_steps { steps.new + owed_by queue.new ≤ steps.old + owed_by queue.old }
 {
-    match queue.choose(catalog, steps) {
+    match choose(pei, queue, catalog, steps) {
         Some(number) => {
             start(pei, queue, catalog, number, sink)?;
             Ok(None)
