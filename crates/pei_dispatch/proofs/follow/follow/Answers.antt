@@ -29,7 +29,7 @@ report-requires-clause-new g c =
     let fuel = c.requires.went.1 in
     let went = c.requires.went.2 in
     let later = pei_step catalog fuel m in
-    let event = event_is c.guids_change.ensures c.guids_are_there.ensures c.guids_are_these.ensures catalog fuel m c.args.event.now c.as_slice.result.now c.is_still_there.result c.as_slice.ensures went.kept went.told (c.is_still_there.ensures later went.behind) in
+    let event = event_is c.guids_change.ensures c.guids_are_there.ensures c.guids_are_these.ensures catalog fuel m c.args.event.now c.as_slice.result.now c.is_still_there.result c.as_slice.ensures.value went.kept went.told (c.is_still_there.ensures later went.behind) in
     let are = new_volumes catalog fuel m c.args.event.now.known c.reported.result.now c.split_at.result.1.now went.told.known (c.reported.ensures later went.behind) c.split_at.ensures.back in
     (with_guids (has_ppi later.store) (view_of m), c.changed.ensures.shows catalog (has_ppi later.store) (view_of m) went.before.shows event, subst AllDiffer (sym are) went.differ)
 
@@ -40,7 +40,7 @@ allow_again-requires g c =
     let fuel = c.requires.went.1 in
     let went = c.requires.went.2 in
     let later = pei_step catalog fuel m in
-    let event = event_is c.guids_change.ensures c.guids_are_there.ensures c.guids_are_these.ensures catalog fuel m c.args.event.now c.as_slice.result.now c.is_still_there.result c.as_slice.ensures went.kept went.told (c.is_still_there.ensures later went.behind) in
+    let event = event_is c.guids_change.ensures c.guids_are_there.ensures c.guids_are_these.ensures catalog fuel m c.args.event.now c.as_slice.result.now c.is_still_there.result c.as_slice.ensures.value went.kept went.told (c.is_still_there.ensures later went.behind) in
     let new = c.split_at.result.1.now in
     let are = new_volumes catalog fuel m c.args.event.now.known c.reported.result.now new went.told.known (c.reported.ensures later went.behind) c.split_at.ensures.back in
     let view = with_guids (has_ppi later.store) (view_of m) in
@@ -53,7 +53,7 @@ returns-clause-queue g c m fuel went =
     let catalog = c.args.catalog.now in
     let later = pei_step catalog fuel m in
     let quiet = step_quiet catalog fuel m went.busy in
-    let event = event_is c.guids_change.ensures c.guids_are_there.ensures c.guids_are_these.ensures catalog fuel m c.args.event.now c.as_slice.result.now c.is_still_there.result c.as_slice.ensures went.kept went.told (c.is_still_there.ensures later went.behind) in
+    let event = event_is c.guids_change.ensures c.guids_are_there.ensures c.guids_are_these.ensures catalog fuel m c.args.event.now c.as_slice.result.now c.is_still_there.result c.as_slice.ensures.value went.kept went.told (c.is_still_there.ensures later went.behind) in
     let new = c.split_at.result.1.now in
     let are = new_volumes catalog fuel m c.args.event.now.known c.reported.result.now new went.told.known (c.reported.ensures later went.behind) c.split_at.ensures.back in
     let view = with_guids (has_ppi later.store) (view_of m) in
@@ -68,8 +68,8 @@ pub returns-clause-few : goal.returns-clause-few
 returns-clause-few g c m fuel went =
     let catalog = c.args.catalog.now in
     let later = pei_step catalog fuel m in
-    let event = event_is c.guids_change.ensures c.guids_are_there.ensures c.guids_are_these.ensures catalog fuel m c.args.event.now c.as_slice.result.now c.is_still_there.result c.as_slice.ensures went.kept went.told (c.is_still_there.ensures later went.behind) in
+    let event = event_is c.guids_change.ensures c.guids_are_there.ensures c.guids_are_these.ensures catalog fuel m c.args.event.now c.as_slice.result.now c.is_still_there.result c.as_slice.ensures.value went.kept went.told (c.is_still_there.ensures later went.behind) in
     let new = c.split_at.result.1.now in
     let are = new_volumes catalog fuel m c.args.event.now.known c.reported.result.now new went.told.known (c.reported.ensures later went.behind) c.split_at.ensures.back in
     let owed = c.allow_again.ensures.owed in
-    few_behind catalog fuel m c.args.event.now c.as_slice.result.now new _ _ _ c.guids_are_these.ensures c.as_slice.ensures went.told are (c.changed.ensures.owed catalog m (has_ppi later.store) went.before event) (omega (arith, owed, c.report.ensures.owed))
+    few_behind catalog fuel m c.args.event.now c.as_slice.result.now new _ _ _ c.guids_are_these.ensures c.as_slice.ensures.value went.told are (c.changed.ensures.owed catalog m (has_ppi later.store) went.before event) (omega (arith, owed, c.report.ensures.owed))
