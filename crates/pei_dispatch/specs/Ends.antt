@@ -62,16 +62,17 @@ HasFewSteps stands catalog pei before now =
     (board : Board) (fuel : ℕ) → IsFor catalog fuel pei → StandsFor stands pei (pei_opening board catalog)
     → now ≤ before + pei_evaluations catalog fuel (pei_bound catalog fuel) (pei_opening board catalog) (pei_end board catalog fuel)
 
--- what was counted in the run
-pub record HasCounted {M : Type 0} (catalog : Catalog) (ended : Ended M) (end : PeiMachine) : Type 0 where
-  pub starts : ended.starts ≡ min (length end.started + length end.again) (2 ^ 32 - 1)
-  pub last : ended.last_start ≡ last_started catalog end
+-- what a run leaves at its end: the store, and what was counted
+pub record IsLeft {M : Type 0} (stands : M → StoreState → Type 0) (catalog : Catalog) (end : PeiMachine) (left : Ended M) : Type 0 where
+  pub store_is : stands left.store end.store
+  pub actions_are : left.actions ≡ end.actions
+  pub starts_are : left.starts ≡ min (length end.started + length end.again) (2 ^ 32 - 1)
+  pub last_is : left.last_start ≡ last_started catalog end
 
 -- a whole run to an end, which hands its store on
 abbrev pub BootsTo : {M : Type 0} → (M → StoreState → Type 0) → Catalog
     → PeiMachine → Option (List ℕ) → Option (List ℕ) → Result (Ended M) Halt → Type 0
-BootsTo stands catalog end old new (Ok ended) =
-    HasEnded ended.end end old new × stands ended.store end.store × (ended.actions ≡ end.actions) × HasCounted catalog ended end
+BootsTo stands catalog end old new (Ok ended) = HasEnded ended.end end old new × IsLeft stands catalog end ended
 BootsTo stands catalog end old new (Err halt) = AppendsPart old new (text_of end.lines)
 
 -- over each board for which the store stands as it was made

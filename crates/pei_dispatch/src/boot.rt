@@ -26,9 +26,9 @@ pub struct Ended<M: PeiStore + Drop> {
     pub store: M,
     /// How many actions were taken.
     pub actions: u32,
-    /// The number of starts, also of second ones; it stays at the last u32.
+    /// How many starts there were, also second ones; it stays at the last u32.
     pub starts: u32,
-    /// The module that started last. None where none has.
+    /// The module that started last. None where none started.
     pub last_start: Option<u32>,
 }
 
