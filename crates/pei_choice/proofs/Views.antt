@@ -120,6 +120,7 @@ shows_reported catalog old new view volume parts law shows are_new is index come
     in_front : (a b : Bool) → b ≡ false → (a || b) ≡ true → a ≡ true
     in_front true b e h = refl
     in_front false b e h = absurd (cc)
+
     either : (b : Bool) → (b ≡ true) ⊎ (b ≡ false)
     either true = inl refl
     either false = inr refl
@@ -199,6 +200,7 @@ shows_again catalog old new view number place shows started at index changes =
     all_true true true false e f = refl
     all_true true false false e f = f
     all_true false a b e f = absurd (cc)
+
     nothing_more : (s a b : Bool) → b ≡ false → (s && a) ≡ (s && (a || (b || false)))
     nothing_more s a true e = absurd (cc)
     nothing_more true true false e = refl

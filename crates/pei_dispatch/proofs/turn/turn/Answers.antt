@@ -30,9 +30,12 @@ follow-requires-clause-went g c =
     let m = c.requires.state.0 in
     let now = c.requires.state.1 in
     let fuel = c.requires.made.0 in
-    let went = rw c.in-Went.is at (c.in_ok-event.ensures.row m fuel c.requires.made.1 now.machine) in
-    (m, fuel, follows_so g.M.PeiStore.stands_for c.args.catalog.now fuel m c.args.pei.now c.step.new.self c.args.queue.now c.in-Went.event now (g.met.M.PeiStore.facts c.args.pei.now.store m.store now.machine.has.store)
-    went.0 went.1 went.2.machine (c.in_ok-event.ensures.kept.made fuel c.requires.made.1))
+    let went = rw c.in-Went.is at (c.in_ok-event.ensures.row m fuel c.requires.made.1 now.machine) in (
+      m,
+      fuel,
+      follows_so g.M.PeiStore.stands_for c.args.catalog.now fuel m c.args.pei.now c.step.new.self c.args.queue.now c.in-Went.event now (g.met.M.PeiStore.facts c.args.pei.now.store m.store now.machine.has.store)
+          went.0 went.1 went.2.machine (c.in_ok-event.ensures.kept.made fuel c.requires.made.1),
+    )
 
 pub start_or_stop-requires-clause-made : goal.start_or_stop-requires-clause-made
 start_or_stop-requires-clause-made g c = (c.requires.made.0, c.in_ok-event.ensures.kept.made c.requires.made.0 c.requires.made.1)

@@ -12,5 +12,5 @@ pub returns-in_default-clause-shows : goal.returns-in_default-clause-shows
 returns-in_default-clause-shows c catalog view shows started =
     let order = c.args.self.now.index.places.order.items in
     shows_without catalog c.args.self.now view c.args.number shows (λ h.
-        let there = found_place order c.args.number h in
-        c.in_default.not-Some there.0 ((c.place_of.ensures.at catalog shows.of_catalog there.0).1 there.1))
+    let there = found_place order c.args.number h in
+    c.in_default.not-Some there.0 ((c.place_of.ensures.at catalog shows.of_catalog there.0).1 there.1))

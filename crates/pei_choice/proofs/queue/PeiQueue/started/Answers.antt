@@ -21,6 +21,6 @@ returns-clause-cursor c =
     let place = c.in-Some.place in
     let at = (c.place_of.ensures.at c.requires.0 c.requires.2.of_catalog place).0 c.in-Some.is in
     sym (behind_place order c.args.number place at (λ other e.
-        let is : c.place_of.result ≡ Some other = (c.place_of.ensures.at c.requires.0 c.requires.2.of_catalog other).1 e in
-        let one : Some other ≡ Some place = sym is ∙ c.in-Some.is in
-        cc))
+    let is : c.place_of.result ≡ Some other = (c.place_of.ensures.at c.requires.0 c.requires.2.of_catalog other).1 e in
+    let one : Some other ≡ Some place = sym is ∙ c.in-Some.is in
+    cc))
