@@ -1,0 +1,4 @@
+pub mod Splits
+pub mod Numerals
+pub mod FixedWords
+pub mod PlainWords

@@ -1,0 +1,19 @@
+//! The reader of a trace: the lines whose texts the bytes are, or the first line of no form.
+#![tactic(auto)]
+
+mod audit_line;
+mod call_line;
+mod count_line;
+mod end_line;
+mod entry_line;
+mod expression_word;
+mod field;
+mod fixed_word;
+mod hex_word;
+mod move_line;
+mod name_word;
+mod notify_line;
+mod number;
+mod place;
+mod refusal_line;
+mod start_line;
