@@ -3,6 +3,7 @@ use Rattle.std.proofs.Common.{◌≡◌, ◌<◌, ◌≤◌, ◌^◌, ◌/◌, �
 use Rattle.std.proofs.lemmas.Bool.Decides.{nat_tests}
 use Rattle.std.proofs.lemmas.List.Folds.{list_all-append}
 use Rattle.std.specs.List.{list_all}
+use Rattle.std.proofs.lemmas.List.Sums.{AllPass-from_list_all}
 use Rattle.uuid.specs.Text.{by_index, is_hyphen_place, hex_digit, nibble, digit_place}
 use Rattle.uuid.specs.Parts.{swap_fields}
 use Rattle.hex.specs.Hex.{encode_with, encode_lower, lower_digits, IsBytes}
@@ -14,6 +15,7 @@ use Rattle.store_model.specs.declared.state.TheConstants.{CORE}
 use Rattle.trace_reader.specs.Plain.{IsPlain}
 use Rattle.trace_reader.specs.Readable.{IsGuid, IsRank, IsName, IsExpression, IsShown}
 use Rattle.trace_reader.proofs.Numerals.{numeral_plain}
+use Rattle.trace_reader.proofs.HexWords.{one_byte}
 
 pub decimal_64_plain : (n : ℕ) → n < 2 ^ 64 → IsPlain (decimal n)
 decimal_64_plain n fits = numeral_plain 10 n (omega arith) (omega arith) fits
@@ -80,7 +82,7 @@ expression_plain (V.After name) fits = guid_plain name fits
 
 -- a half of a byte
 digit_above : (digit : ℕ) → digit < 16 → ltb 32 (slice_index lower_digits digit) ≡ true
-digit_above digit below = ?
+digit_above digit below = AllPass-from_list_all (λ b. ltb 32 b) lower_digits refl digit 0 below
 
 pub encoded_plain : (bytes : List ℕ) → IsBytes bytes → IsPlain (encode_lower bytes)
 unfolding encode_with
@@ -90,3 +92,9 @@ encoded_plain (byte ∷ bytes) fits =
     let high = digit_above (byte / 16) (omega arith) in
     let low = digit_above (byte % 16) (omega arith) in
     rw (high, low) (encoded_plain bytes (λ k. fits (suc k)))
+
+pub kind_plain : (kind : ℕ) → kind < 2 ^ 8 → IsPlain (encode_lower (kind ∷ []))
+kind_plain kind fits = encoded_plain (kind ∷ []) (one_byte kind fits)
+
+pub shown_plain : (bytes : List ℕ) → IsShown bytes → IsPlain (encode_lower bytes)
+shown_plain bytes shown = encoded_plain bytes shown.2

@@ -10,6 +10,7 @@ use Rattle.std.proofs.lemmas.Bool.{and_parts}
 use Rattle.std.proofs.lemmas.Bool.Decides.{nat_tests, Decides-eqb}
 use Rattle.std.proofs.lemmas.Slice.Eq.{slice_eq-Decides}
 use Rattle.boot_io.specs.Line.{spaced}
+use Rattle.trace_reader.specs.Finds.{Finds}
 use Rattle.trace_reader.specs.Plain.{IsPlain, Lacks}
 
 abbrev pub is_byte : ℕ → ℕ → Bool
@@ -63,6 +64,26 @@ stripped bytes front None other = λ rest is. front_not_there bytes front rest o
 -- what follows a front is one
 pub behind_is : (bytes front rest others : List ℕ) → bytes ≡ front ++ rest → bytes ≡ front ++ others → rest ≡ others
 behind_is bytes front rest others is there = sym (drop_at front rest (length front) refl) ∙ ap (drop (length front)) (sym is ∙ there) ∙ drop_at front others (length front) refl
+
+-- what is found behind a front is found in the whole
+pub found_after : {A : Type 0} (fits : A → Type 0) (shows : A → List ℕ) (bytes front rest : List ℕ) (found : Option A)
+    → bytes ≡ front ++ rest → Finds (λ value. fits value × (rest ≡ shows value)) found → Finds (λ value. fits value × (bytes ≡ front ++ shows value)) found
+found_after fits shows bytes front rest (Some value) is found = (found.0, is ∙ ap (λ behind. front ++ behind) found.1)
+found_after fits shows bytes front rest None is none = λ value here. none value (here.0, behind_is bytes front rest (shows value) is here.1)
+
+-- two texts that begin with words are of the same words
+pub same_front : (word other : List ℕ) (words others : List (List ℕ)) → IsPlain word → IsPlain other → word ++ flat_map spaced words ≡ other ++ flat_map spaced others → word ≡ other
+same_front word other words others plain too is =
+    let text = word ++ flat_map spaced words in
+    let n = position_or_len (is_byte 32) text in
+    sym (cut_front text word words n plain refl refl) ∙ cut_front text other others n too is refl
+
+pub same_back : (word other : List ℕ) (words others : List (List ℕ)) → IsPlain word → IsPlain other → word ++ flat_map spaced words ≡ other ++ flat_map spaced others
+    → flat_map spaced words ≡ flat_map spaced others
+same_back word other words others plain too is =
+    let text = word ++ flat_map spaced words in
+    let n = position_or_len (is_byte 32) text in
+    sym (cut_back text word words n plain refl refl) ∙ cut_back text other others n too is refl
 
 pub tail_of : (first : ℕ) (rest others : List ℕ) → first ∷ rest ≡ first ∷ others → rest ≡ others
 tail_of first rest others is = ap (drop 1) is

@@ -1,6 +1,6 @@
 -- The lines that a trace is read as (own): the numbers fit their types, a logged text is what a script may log, bytes that a `peek` shows are as many as it may read, a file name is in one line, and a service shows what its action does.
-use Rattle.std.specs.Prelude.{◌≡◌, ◌<◌, ◌≤◌, ◌^◌, ◌++◌, ℕ, Bool, true, false, List, Option, Some, None, ⊤, flat_map, length}
-use Rattle.std.specs.List.{All}
+use Rattle.std.specs.Prelude.{◌≡◌, ◌<◌, ◌≤◌, ◌^◌, ◌++◌, ℕ, Bool, true, false, List, Option, Some, None, ⊤, flat_map, length, nat_le, ◌&&◌}
+use Rattle.std.specs.List.{list_all}
 use Rattle.hex.specs.Hex.{IsBytes}
 use Rattle.pi_base.specs.declared.guid.Guid.{Guid}
 use Rattle.pi_base.specs.declared.word.Word.{Word}
@@ -43,9 +43,12 @@ IsExpression V.Sor = ⊤
 abbrev pub IsShown : List ℕ → Type 0
 IsShown bytes = (0 < length bytes) × (length bytes ≤ SHOWN_LEN) × IsBytes bytes
 
--- printable characters
+-- printable characters, so many as a script may log at once
+abbrev pub is_printable : ℕ → Bool
+is_printable byte = nat_le 0x20 byte && nat_le byte 0x7e
+
 abbrev pub IsLogged : List ℕ → Type 0
-IsLogged text = (0 < length text) × (length text ≤ SHOWN_LEN) × All (λ byte. (0x20 ≤ byte) × (byte ≤ 0x7e)) text
+IsLogged text = (0 < length text) × (length text ≤ SHOWN_LEN) × (list_all is_printable text ≡ true)
 
 -- the actions that may show nothing on success
 abbrev pub shows_nothing : CallName → Bool

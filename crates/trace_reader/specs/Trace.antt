@@ -1,8 +1,10 @@
 -- The text of a trace (own).
-use Rattle.std.specs.Prelude.{◌≡◌, ◌+◌, ◌<◌, ◌++◌, ℕ, List, length}
+use Rattle.std.specs.Prelude.{◌≡◌, ◌+◌, ◌<◌, ◌++◌, ℕ, List, length, ⊤}
 use Rattle.std.specs.List.{AllByRecursion}
 use Rattle.boot_model.specs.declared.line.Line.{Line}
 use Rattle.boot_model.specs.Text.{line_text, text_of}
+use Rattle.trace_reader.specs.declared.fault.TraceFault.{TraceFault}
+use Rattle.trace_reader.specs.declared.fault.TraceFault.TheVariants as F
 use Rattle.trace_reader.specs.Readable.{IsReadable}
 
 -- the text is that of readable lines
@@ -17,3 +19,8 @@ BeginsWithLine text = (line : Line) × (rest : List ℕ) × IsReadable line × (
 abbrev pub IsBadLine : List ℕ → ℕ → Type 0
 IsBadLine text number = (lines : List Line) × (rest : List ℕ) × (text ≡ text_of lines ++ rest) × AllByRecursion IsReadable lines
     × (number ≡ length lines + 1) × (0 < length rest) × (BeginsWithLine rest → ⊥)
+
+-- what is wrong with a text: its first line that is the text of no readable line, or memory was wanting
+abbrev pub IsFaultOf : List ℕ → TraceFault → Type 0
+IsFaultOf text (F.Bad line) = IsBadLine text line
+IsFaultOf text F.Memory = ⊤

@@ -4,7 +4,8 @@ ghost use Rattle.trace_reader.specs.Readable.{IsLineOf};
 ghost use Rattle.trace_reader.specs.Lacking.{LacksLinesOfAudit};
 
 use crate::field::fields_after;
-use crate::number::{Decimal, Hexadecimal, Kind};
+use crate::hex_word::Kind;
+use crate::number::{Decimal, Hexadecimal};
 use boot_model::Line;
 
 // The line of one of these forms.

@@ -1,10 +1,13 @@
 // The lines of services.
-ghost use Rattle.std.specs.Prelude.{◌≡◌, ℕ, IfSome, IsNone};
+ghost use Rattle.std.specs.Prelude.{◌≡◌, ℕ, true, IfSome, IsNone};
+ghost use Rattle.std.specs.Bool.{Decides};
+ghost use Rattle.pi_base.specs.declared.word.Word.TheVariants.{Success};
+ghost use Rattle.boot_model.specs.declared.line.CallName.TheVariants.{Peek};
 ghost use Rattle.pi_base.specs.declared.word.Word.{Word};
 ghost use Rattle.boot_model.specs.declared.line.CallName.{CallName};
 ghost use Rattle.boot_model.specs.declared.line.Line.TheVariants as L;
 ghost use Rattle.boot_model.specs.declared.line.Extra.TheVariants as E;
-ghost use Rattle.arrayvec.specs.ArrayVec.{ArrayVec};
+ghost use Rattle.arrayvec.specs.declared.array_vec.ArrayVec.{ArrayVec};
 ghost use Rattle.trace_reader.specs.Readable.{IsLineOf, shows_nothing, shows_number};
 ghost use Rattle.trace_reader.specs.Lacking.{LacksLinesOfCall};
 
@@ -55,21 +58,45 @@ fn shows_number(name: CallName) -> bool
     )
 }
 
+// Whether an action may show nothing behind a status.
+fn may_show_nothing(name: CallName, status: Word) -> bool
+    ensures { Decides result (status ≡ Success → shows_nothing name ≡ true) }
+{
+    status != Word::Success || shows_nothing(name)
+}
+
+// Whether an action may show a number behind a status.
+fn may_show_number(name: CallName, status: Word) -> bool
+    ensures { Decides result ((status ≡ Success) × (shows_number name ≡ true)) }
+{
+    status == Word::Success && shows_number(name)
+}
+
+// Whether an action may show bytes behind a status.
+fn may_show_bytes(name: CallName, status: Word) -> bool
+    ensures { Decides result ((status ≡ Success) × (name ≡ Peek)) }
+{
+    status == Word::Success && name == CallName::Peek
+}
+
 // The line of a service that shows nothing.
 #[tactic(auto, unfolding(boot_model::specs::Text::keyword))]
 fn silent_call(line: &[u8]) -> Option<Line>
     ensures read { IfSome result (IsLineOf line.now) }
     ensures none { IsNone result → (name : CallName) (status : Word) → IsLineOf line.now (L.Call name status E.Nothing) → ⊥ }
 {
-    match fields_after(line, b"call") {
-        Some((name, (status, ()))) if status != Word::Success || shows_nothing(name) => Some(
-            Line::Call {
-                name,
-                status,
-                extra: Extra::Nothing,
-            },
-        ),
-        _ => None,
+    let Some((name, (status, ()))) = fields_after(line, b"call") else {
+        return None;
+    };
+    if may_show_nothing(name, status) {
+        let extra = Extra::Nothing;
+        Some(Line::Call {
+            name,
+            status,
+            extra,
+        })
+    } else {
+        None
     }
 }
 
@@ -79,15 +106,18 @@ fn number_call(line: &[u8]) -> Option<Line>
     ensures read { IfSome result (IsLineOf line.now) }
     ensures none { IsNone result → (name : CallName) (status : Word) (n : ℕ) → IsLineOf line.now (L.Call name status (E.Number n)) → ⊥ }
 {
-    match fields_after(line, b"call") {
-        Some((name, (Word::Success, (Hexadecimal(number), ())))) if shows_number(name) => Some(
-            Line::Call {
-                name,
-                status: Word::Success,
-                extra: Extra::Number(number),
-            },
-        ),
-        _ => None,
+    let Some((name, (status, (Hexadecimal(number), ())))) = fields_after(line, b"call") else {
+        return None;
+    };
+    if may_show_number(name, status) {
+        let extra = Extra::Number(number);
+        Some(Line::Call {
+            name,
+            status,
+            extra,
+        })
+    } else {
+        None
     }
 }
 
@@ -95,15 +125,20 @@ fn number_call(line: &[u8]) -> Option<Line>
 #[tactic(auto, unfolding(boot_model::specs::Text::keyword))]
 fn bytes_call(line: &[u8]) -> Option<Line>
     ensures read { IfSome result (IsLineOf line.now) }
-    ensures none { IsNone result → (name : CallName) (status : Word) (bytes : ArrayVec ℕ) → IsLineOf line.now (L.Call name status (E.Bytes bytes)) → ⊥ }
+    ensures none { IsNone result → (name : CallName) (status : Word) (bytes : ArrayVec ℕ 64 (Unit {0})) → IsLineOf line.now (L.Call name status (E.Bytes bytes)) → ⊥ }
 {
-    match fields_after(line, b"call") {
-        Some((CallName::Peek, (Word::Success, (bytes, ())))) => Some(Line::Call {
-            name: CallName::Peek,
-            status: Word::Success,
-            extra: Extra::Bytes(bytes),
-        }),
-        _ => None,
+    let Some((name, (status, (bytes, ())))) = fields_after(line, b"call") else {
+        return None;
+    };
+    if may_show_bytes(name, status) {
+        let extra = Extra::Bytes(bytes);
+        Some(Line::Call {
+            name,
+            status,
+            extra,
+        })
+    } else {
+        None
     }
 }
 

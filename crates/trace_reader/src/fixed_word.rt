@@ -11,7 +11,7 @@ use catalog_model::ImageCause;
 use pi_base::Word;
 
 // A value of few, each with a word of its own.
-trait Named: Copy {
+trait Named: Copy + 'static {
     ghost use Rattle.std.specs.Prelude.{◌≡◌, List, ℕ};
     ghost use Rattle.std.specs.List.{Contains};
 
@@ -27,7 +27,7 @@ trait Named: Copy {
 }
 
 // The value whose word this is.
-fn named<T: Named>(word: &[u8]) -> Option<T>
+fn with_word<T: Named>(word: &[u8]) -> Option<T>
     ensures { Finds (λ value. ⊤ × (word.now ≡ T.text_of value)) result }
 {
     'values: for value in T::all() {
@@ -79,7 +79,7 @@ impl Field for Word {
 
     #[tactic(auto, using(crate::proofs::FixedWords::word_text_plain))]
     fn read(word: &[u8]) -> Option<Word> {
-        named(word)
+        with_word(word)
     }
 }
 
@@ -122,7 +122,7 @@ impl Field for Licence {
 
     #[tactic(auto, using(crate::proofs::FixedWords::licence_text_plain))]
     fn read(word: &[u8]) -> Option<Licence> {
-        named(word)
+        with_word(word)
     }
 }
 
@@ -187,7 +187,7 @@ impl Field for CallName {
 
     #[tactic(auto, using(crate::proofs::FixedWords::call_text_plain))]
     fn read(word: &[u8]) -> Option<CallName> {
-        named(word)
+        with_word(word)
     }
 }
 
@@ -232,7 +232,7 @@ impl Field for Reason {
 
     #[tactic(auto, using(crate::proofs::FixedWords::reason_text_plain))]
     fn read(word: &[u8]) -> Option<Reason> {
-        named(word)
+        with_word(word)
     }
 }
 
@@ -273,7 +273,7 @@ impl Field for RunEnd {
 
     #[tactic(auto, using(crate::proofs::FixedWords::end_text_plain))]
     fn read(word: &[u8]) -> Option<RunEnd> {
-        named(word)
+        with_word(word)
     }
 }
 
@@ -320,7 +320,7 @@ impl Field for PlanCause {
 
     #[tactic(auto, using(crate::proofs::FixedWords::plan_cause_text_plain))]
     fn read(word: &[u8]) -> Option<PlanCause> {
-        named(word)
+        with_word(word)
     }
 }
 
@@ -411,6 +411,6 @@ impl Field for ImageCause {
 
     #[tactic(auto, using(crate::proofs::FixedWords::image_cause_text_plain))]
     fn read(word: &[u8]) -> Option<ImageCause> {
-        named(word)
+        with_word(word)
     }
 }

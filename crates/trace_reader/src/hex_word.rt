@@ -1,5 +1,6 @@
 // Words of bytes in hexadecimal.
-ghost use Rattle.std.specs.Prelude.{◌≡◌, ◌≢◌, ◌<◌, ◌≤◌, ◌^◌, ◌∷◌, [], length, MatchOption};
+ghost use Rattle.std.specs.Prelude.{◌≡◌, ◌<◌, ◌≤◌, ◌^◌, ◌∷◌, [], length, MatchOption};
+ghost use Rattle.std.specs.Bool.{Decides};
 ghost use Rattle.hex.specs.Hex.{encode_lower};
 ghost use Rattle.trace_reader.specs.Finds.{Finds};
 ghost use Rattle.trace_reader.specs.Readable.{IsShown};
@@ -9,7 +10,21 @@ use arrayvec::ArrayVec;
 use boot_model::SHOWN_LEN;
 
 // The type of a file.
+#[derive(Clone, Copy)]
 pub(crate) struct Kind(pub u8);
+
+// A byte, if the word is its.
+fn printed_byte(word: &[u8], byte: u8) -> Option<u8>
+    ensures { MatchOption result (word.now ≡ encode_lower (byte ∷ []) → ⊥) (λ shown. (word.now ≡ encode_lower (byte ∷ [])) × (shown ∷ [] ≡ byte ∷ []) × (shown < 2 ^ 8)) }
+{
+    let mut digits = [0u8; 2];
+    hex::encode_to_slice(&[byte], &mut digits).unwrap();
+    if digits.as_slice() == word {
+        Some(byte)
+    } else {
+        None
+    }
+}
 
 // The byte whose two digits these are.
 fn byte_of(word: &[u8]) -> Option<u8>
@@ -21,13 +36,7 @@ fn byte_of(word: &[u8]) -> Option<u8>
         Err(_) => return None,
     }
     let [byte] = bytes;
-    let mut digits = [0u8; 2];
-    hex::encode_to_slice(&[byte], &mut digits).unwrap();
-    if digits.as_slice() == word {
-        Some(byte)
-    } else {
-        None
-    }
+    printed_byte(word, byte)
 }
 
 impl Field for Kind {
@@ -58,7 +67,7 @@ impl Field for ArrayVec<u8, SHOWN_LEN> {
     #[tactic(auto, using(crate::proofs::PlainWords::shown_plain))]
     fn read(word: &[u8]) -> Option<ArrayVec<u8, SHOWN_LEN>> {
         let len = word.len() / 2;
-        if len == 0 || len > SHOWN_LEN {
+        if !is_shown_len(len) {
             return None;
         }
         let mut room = [0u8; SHOWN_LEN];
@@ -71,15 +80,23 @@ impl Field for ArrayVec<u8, SHOWN_LEN> {
     }
 }
 
+// Whether a script may read so many bytes at once.
+fn is_shown_len(len: usize) -> bool
+    ensures { Decides result ((0 < len) × (len ≤ SHOWN_LEN)) }
+{
+    len > 0 && len <= SHOWN_LEN
+}
+
 // The bytes, if the word is theirs.
 fn shown_of(word: &[u8], bytes: &[u8]) -> Option<ArrayVec<u8, SHOWN_LEN>>
-    requires { length bytes.now ≤ SHOWN_LEN }
-    ensures { MatchOption result (word.now ≢ encode_lower bytes.now) (λ shown. (word.now ≡ encode_lower bytes.now) × (shown.items ≡ bytes.now)) }
+    requires some { 0 < length bytes.now }
+    requires few { length bytes.now ≤ SHOWN_LEN }
+    ensures { MatchOption result (word.now ≡ encode_lower bytes.now → ⊥) (λ shown. (word.now ≡ encode_lower bytes.now) × (shown.items ≡ bytes.now) × IsShown shown.items) }
 {
     let mut room = [0u8; 2 * SHOWN_LEN];
     let (digits, _) = room.split_at_mut(2 * bytes.len());
     hex::encode_to_slice(bytes, digits).unwrap();
-    if digits != word {
+    if &*digits != word {
         return None;
     }
     let mut shown = ArrayVec::new();

@@ -7,6 +7,7 @@ mod count_line;
 mod end_line;
 mod entry_line;
 mod expression_word;
+mod fault;
 mod field;
 mod fixed_word;
 mod hex_word;
@@ -17,3 +18,5 @@ mod number;
 mod place;
 mod refusal_line;
 mod start_line;
+
+pub use fault::TraceFault;

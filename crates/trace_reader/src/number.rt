@@ -102,6 +102,7 @@ impl Field for u16 {
 }
 
 // A number of 64 bits in decimal.
+#[derive(Clone, Copy)]
 pub(crate) struct Decimal(pub u64);
 
 impl Field for Decimal {
@@ -121,6 +122,7 @@ impl Field for Decimal {
 }
 
 // A number of 64 bits in hexadecimal.
+#[derive(Clone, Copy)]
 pub(crate) struct Hexadecimal(pub u64);
 
 impl Field for Hexadecimal {
@@ -141,6 +143,7 @@ impl Field for Hexadecimal {
 }
 
 // The number of a module, or the core.
+#[derive(Clone, Copy)]
 pub(crate) struct By(pub u32);
 
 // The number of a module, or the core's.
