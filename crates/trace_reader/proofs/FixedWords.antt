@@ -32,10 +32,10 @@ word_text_plain W.NotAvailableYet = refl
 word_text_plain W.AlreadyStarted = refl
 word_text_plain W.AccessDenied = refl
 
-word_text_all : List Word
+abbrev word_text_all : List Word
 word_text_all = W.Success ∷ W.InvalidParameter ∷ W.NotFound ∷ W.OutOfResources ∷ W.NotAvailableYet ∷ W.AlreadyStarted ∷ W.AccessDenied ∷ []
 
-word_text_of : List ℕ → Option Word
+abbrev word_text_of : List ℕ → Option Word
 word_text_of word = find (λ value. bytes_eq (word_text value) word) word_text_all
 
 word_text_back : (value : Word) → word_text_of (word_text value) ≡ Some value
@@ -60,10 +60,10 @@ licence_text_plain G.Shadow = refl
 licence_text_plain G.Before = refl
 licence_text_plain G.After = refl
 
-licence_text_all : List Licence
+abbrev licence_text_all : List Licence
 licence_text_all = G.Apriori ∷ G.Absent ∷ G.True ∷ G.Shadow ∷ G.Before ∷ G.After ∷ []
 
-licence_text_of : List ℕ → Option Licence
+abbrev licence_text_of : List ℕ → Option Licence
 licence_text_of word = find (λ value. bytes_eq (licence_text value) word) licence_text_all
 
 licence_text_back : (value : Licence) → licence_text_of (licence_text value) ≡ Some value
@@ -98,10 +98,10 @@ call_text_plain C.Schedule = refl
 call_text_plain C.Process = refl
 call_text_plain C.Dispatch = refl
 
-call_text_all : List CallName
+abbrev call_text_all : List CallName
 call_text_all = C.Pool ∷ C.Store ∷ C.Peek ∷ C.Desc ∷ C.Install ∷ C.Reinstall ∷ C.Notify ∷ C.Locate ∷ C.Hob ∷ C.Memory ∷ C.Pages ∷ C.BootMode ∷ C.Shadow ∷ C.Uninstall ∷ C.Schedule ∷ C.Process ∷ C.Dispatch ∷ []
 
-call_text_of : List ℕ → Option CallName
+abbrev call_text_of : List ℕ → Option CallName
 call_text_of word = find (λ value. bytes_eq (call_text value) word) call_text_all
 
 call_text_back : (value : CallName) → call_text_of (call_text value) ≡ Some value
@@ -137,10 +137,10 @@ reason_text_plain R.Before = refl
 reason_text_plain R.After = refl
 reason_text_plain R.Absent = refl
 
-reason_text_all : List Reason
+abbrev reason_text_all : List Reason
 reason_text_all = R.Malformed ∷ R.False ∷ R.Shadow ∷ R.Unrequested ∷ R.Before ∷ R.After ∷ R.Absent ∷ []
 
-reason_text_of : List ℕ → Option Reason
+abbrev reason_text_of : List ℕ → Option Reason
 reason_text_of word = find (λ value. bytes_eq (reason_text value) word) reason_text_all
 
 reason_text_back : (value : Reason) → reason_text_of (reason_text value) ≡ Some value
@@ -164,10 +164,10 @@ end_text_plain X.NoIpl = refl
 end_text_plain X.Spent = refl
 end_text_plain X.Deep = refl
 
-end_text_all : List RunEnd
+abbrev end_text_all : List RunEnd
 end_text_all = X.Done ∷ X.NoMemory ∷ X.NoIpl ∷ X.Spent ∷ X.Deep ∷ []
 
-end_text_of : List ℕ → Option RunEnd
+abbrev end_text_of : List ℕ → Option RunEnd
 end_text_of word = find (λ value. bytes_eq (end_text value) word) end_text_all
 
 end_text_back : (value : RunEnd) → end_text_of (end_text value) ≡ Some value
@@ -192,10 +192,10 @@ plan_cause_text_plain P.Limit = refl
 plan_cause_text_plain P.Room = refl
 plan_cause_text_plain P.Memory = refl
 
-plan_cause_text_all : List PlanCause
+abbrev plan_cause_text_all : List PlanCause
 plan_cause_text_all = P.Word ∷ P.Number ∷ P.Missing ∷ P.Twice ∷ P.Overlap ∷ P.Limit ∷ P.Room ∷ P.Memory ∷ []
 
-plan_cause_text_of : List ℕ → Option PlanCause
+abbrev plan_cause_text_of : List ℕ → Option PlanCause
 plan_cause_text_of word = find (λ value. bytes_eq (plan_cause_text value) word) plan_cause_text_all
 
 plan_cause_text_back : (value : PlanCause) → plan_cause_text_of (plan_cause_text value) ≡ Some value
@@ -245,10 +245,10 @@ image_cause_text_plain I.TooManyVolumes = refl
 image_cause_text_plain I.ScriptTotal = refl
 image_cause_text_plain I.Memory = refl
 
-image_cause_text_all : List ImageCause
+abbrev image_cause_text_all : List ImageCause
 image_cause_text_all = I.Short ∷ I.Signature ∷ I.Revision ∷ I.FileSystem ∷ I.Length ∷ I.HeaderLength ∷ I.HeaderSum ∷ I.ExtHeader ∷ I.FileSum ∷ I.FileSize ∷ I.DataSum ∷ I.TooManyFiles ∷ I.Size ∷ I.Compressed ∷ I.GuidDefined ∷ I.TooMany ∷ I.Magic ∷ I.Version ∷ I.Phase ∷ I.Count ∷ I.Block ∷ I.Action ∷ I.Jump ∷ I.Index ∷ I.Nesting ∷ I.TooManyModules ∷ I.Place ∷ I.TooManyVolumes ∷ I.ScriptTotal ∷ I.Memory ∷ []
 
-image_cause_text_of : List ℕ → Option ImageCause
+abbrev image_cause_text_of : List ℕ → Option ImageCause
 image_cause_text_of word = find (λ value. bytes_eq (image_cause_text value) word) image_cause_text_all
 
 image_cause_text_back : (value : ImageCause) → image_cause_text_of (image_cause_text value) ≡ Some value

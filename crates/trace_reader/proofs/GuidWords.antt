@@ -12,7 +12,7 @@ use Rattle.trace_reader.specs.Readable.{IsGuid}
 
 swapped : (xs : List ℕ) → IsBytes xs → All (λ b. b < 256) (swap_fields xs)
 swapped xs fits = All-from_recursion (λ b. b < 256) (swap_fields xs)
-    (fits 3, fits 2, fits 1, fits 0, fits 5, fits 4, fits 7, fits 6, fits 8, fits 9, fits 10, fits 11, fits 12, fits 13, fits 14, fits 15, tt)
+    (fits 3, (fits 2, (fits 1, (fits 0, (fits 5, (fits 4, (fits 7, (fits 6, (fits 8, (fits 9, (fits 10, (fits 11, (fits 12, (fits 13, (fits 14, (fits 15, tt))))))))))))))))
 
 -- the text of a GUID is read as it
 pub guid_back : (word : List ℕ) (guid : Guid) → IsGuid guid → word ≡ guid_text guid → guid_of_text word ≡ Some guid.0

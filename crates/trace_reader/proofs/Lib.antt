@@ -5,3 +5,6 @@ pub mod PlainWords
 pub mod HexWords
 pub mod GuidWords
 pub mod CallWords
+pub mod ByteLines
+pub mod NoLine
+pub mod LineBodies

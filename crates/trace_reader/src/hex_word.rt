@@ -1,6 +1,5 @@
 // Words of bytes in hexadecimal.
-ghost use Rattle.std.specs.Prelude.{◌≡◌, ◌<◌, ◌≤◌, ◌^◌, ◌∷◌, [], length, MatchOption};
-ghost use Rattle.std.specs.Bool.{Decides};
+ghost use Rattle.std.specs.Prelude.{◌≡◌, ◌<◌, ◌≤◌, ◌/◌, ◌^◌, ◌∷◌, [], length, MatchOption};
 ghost use Rattle.hex.specs.Hex.{encode_lower};
 ghost use Rattle.trace_reader.specs.Finds.{Finds};
 ghost use Rattle.trace_reader.specs.Readable.{IsShown};
@@ -66,10 +65,9 @@ impl Field for ArrayVec<u8, SHOWN_LEN> {
 
     #[tactic(auto, using(crate::proofs::PlainWords::shown_plain))]
     fn read(word: &[u8]) -> Option<ArrayVec<u8, SHOWN_LEN>> {
-        let len = word.len() / 2;
-        if !is_shown_len(len) {
+        let Some(len) = shown_len(word) else {
             return None;
-        }
+        };
         let mut room = [0u8; SHOWN_LEN];
         let (bytes, _) = room.split_at_mut(len);
         match hex::decode_to_slice(word, bytes) {
@@ -80,11 +78,16 @@ impl Field for ArrayVec<u8, SHOWN_LEN> {
     }
 }
 
-// Whether a script may read so many bytes at once.
-fn is_shown_len(len: usize) -> bool
-    ensures { Decides result ((0 < len) × (len ≤ SHOWN_LEN)) }
+// How many bytes a word shows, if a script may read so many at once.
+fn shown_len(word: &[u8]) -> Option<usize>
+    ensures { MatchOption result ((0 < length word.now / 2) × (length word.now / 2 ≤ SHOWN_LEN) → ⊥) (λ len. (len ≡ length word.now / 2) × (0 < len) × (len ≤ SHOWN_LEN)) }
 {
-    len > 0 && len <= SHOWN_LEN
+    let len = word.len() / 2;
+    if len > 0 && len <= SHOWN_LEN {
+        Some(len)
+    } else {
+        None
+    }
 }
 
 // The bytes, if the word is theirs.

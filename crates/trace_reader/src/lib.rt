@@ -2,6 +2,7 @@
 #![tactic(auto)]
 
 mod audit_line;
+mod byte_line;
 mod call_line;
 mod count_line;
 mod end_line;
@@ -11,6 +12,7 @@ mod fault;
 mod field;
 mod fixed_word;
 mod hex_word;
+mod line;
 mod move_line;
 mod name_word;
 mod notify_line;
@@ -18,5 +20,7 @@ mod number;
 mod place;
 mod refusal_line;
 mod start_line;
+mod trace;
 
 pub use fault::TraceFault;
+pub use trace::read_trace;

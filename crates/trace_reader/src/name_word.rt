@@ -26,7 +26,7 @@ impl Field for Guid {
 }
 
 // Whether nothing stands in a place.
-fn is_dash(word: &[u8]) -> bool
+pub(crate) fn is_dash(word: &[u8]) -> bool
     ensures { Decides result (word.now ≡ dash) }
 {
     word == b"-".as_slice()

@@ -4,6 +4,8 @@ ghost use Rattle.std.specs.List.{position_or_len};
 
 pub(crate) const SPACE: u8 = b' ';
 
+pub(crate) const LINE_FEED: u8 = b'\n';
+
 // The place of the first such byte, or the length.
 pub(crate) fn place_of(bytes: &[u8], sought: u8) -> usize
     ensures first { result ≡ position_or_len (λ b. b == sought) bytes.now }
