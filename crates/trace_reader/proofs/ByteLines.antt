@@ -1,5 +1,5 @@
 -- Lines that show bytes behind a keyword.
-use Rattle.std.proofs.Common.{◌≡◌, ◌++◌, ℕ, List, [], ◌∷◌, flat_map, sym, ap, ◌∙◌, append-nil, true, not, eqb, arith, length, decimal, ◌<◌, ◌^◌, Option, Some, None}
+use Rattle.std.proofs.Common.{◌≡◌, ◌++◌, ℕ, List, [], ◌∷◌, flat_map, sym, ap, ◌∙◌, append-nil, true, not, eqb, arith, length, decimal, ◌<◌, ◌^◌, Option, Some, None, Result, Ok, Err, IfOk}
 use Rattle.std.specs.Prelude.{codes}
 use Rattle.std.specs.Option.{MatchOption}
 use Rattle.hex.specs.Hex.{IsBytes, encode_lower}
@@ -46,3 +46,10 @@ bytes_found word out None other none only = λ bytes is.
     let some = some_shown word bytes other is.1 in
     let same = only bytes is.0 some.0 in
     none (some.0 ∙ ap encode_lower (sym same)) (rw same some.1)
+
+pub bytes_found_ok : {E : Type 0} (word out : List ℕ) (r : Result (Option (List ℕ)) E) → (word ≡ dash → ⊥)
+    → IfOk r (λ found. MatchOption found (word ≡ encode_lower out → 0 < length out → ⊥) (λ same. (word ≡ encode_lower out) × (same ≡ out) × IsBytes out × (0 < length out)))
+    → ((bytes : List ℕ) → IsBytes bytes → word ≡ encode_lower bytes → out ≡ bytes)
+    → IfOk r (Finds (λ bytes. IsBytes bytes × (word ≡ bytes_text bytes)))
+bytes_found_ok word out (Ok found) other answer only = bytes_found word out found other answer only
+bytes_found_ok word out (Err e) other answer only = tt

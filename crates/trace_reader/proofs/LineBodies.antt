@@ -1,6 +1,7 @@
 -- A readable line has no line feed before its end.
-use Rattle.std.proofs.Common.{◌≡◌, ◌++◌, ◌+◌, ◌<◌, ℕ, suc, List, [], ◌∷◌, flat_map, refl, sym, ap, ◌∙◌, true, false, Bool, not, eqb, ltb, leb, arith, length, append-nil, append_assoc, decimal, take, drop}
+use Rattle.std.proofs.Common.{◌≡◌, ◌++◌, ◌+◌, ◌<◌, ℕ, suc, List, [], ◌∷◌, flat_map, refl, sym, ap, ◌∙◌, true, false, Bool, not, eqb, ltb, leb, arith, length, append-nil, append_assoc, decimal, take, drop, get_or}
 use Rattle.std.specs.Prelude.{codes, ◌&&◌, nat_le}
+use Rattle.std.proofs.lemmas.List.Sums.{split_at_first, passes_at_first}
 use Rattle.std.specs.List.{list_all, AllByRecursion, position_or_len}
 use Rattle.std.proofs.lemmas.Bool.{and_parts}
 use Rattle.std.proofs.lemmas.Bool.Decides.{nat_tests}
@@ -94,6 +95,10 @@ body_lacks (L.Hob kind body) is = words_lack (codes "hob") (decimal kind ∷ byt
 body_lacks (L.RefusedFile name) is = word_lacks (codes "refused file") name refl is.0
 body_lacks (L.RefusedLong name) is = word_lacks (codes "refused long") name refl is.0
 
+no_feed : (test : Bool) → not test ≡ true → test ≡ false
+no_feed true is = cc
+no_feed false is = refl
+
 -- the line feed of a line is the first
 line_place : (body rest : List ℕ) → Lacks 10 body → position_or_len (is_byte 10) (body ++ 10 ∷ rest) ≡ length body
 line_place [] rest lacks = refl
@@ -101,10 +106,6 @@ line_place (byte ∷ body) rest lacks =
     let parts = and_parts (not (eqb byte 10)) (list_all (λ b. not (eqb b 10)) body) lacks in
     let other : eqb byte 10 ≡ false = no_feed (eqb byte 10) parts.0 in
     rw other (ap (λ n. 1 + n) (line_place body rest parts.1) ∙ omega arith)
-
-no_feed : (test : Bool) → not test ≡ true → test ≡ false
-no_feed true is = cc
-no_feed false is = refl
 
 -- a text has one first line
 pub same_line : (body other rest others : List ℕ) → Lacks 10 body → Lacks 10 other → body ++ 10 ∷ rest ≡ other ++ 10 ∷ others → body ≡ other
@@ -136,6 +137,26 @@ no_feed_no_line text lacks there =
 pub line_is : (text body after : List ℕ) (line : Line) → text ≡ body ++ 10 ∷ after → IsLineOf body line → text ≡ line_text line ++ after
 line_is text body after line is there = is ∙ ap (λ front. front ++ 10 ∷ after) there.1 ∙ sym (line_then line after)
 
--- where the first line feed stands, or that there is none
-pub feed_cut : (text : List ℕ) → position_or_len (is_byte 10) text < length text → drop (position_or_len (is_byte 10) text) text ≡ 10 ∷ drop (position_or_len (is_byte 10) text + 1) text
-feed_cut text within = ?
+-- what stands before the first line feed has none
+feed_before : (byte : ℕ) (rest : List ℕ) (test : Bool) → eqb byte 10 ≡ test → Lacks 10 (take (position_or_len (is_byte 10) rest) rest) → Lacks 10 (take (position_or_len (is_byte 10) (byte ∷ rest)) (byte ∷ rest))
+feed_before byte rest true is lacks = rw is refl
+feed_before byte rest false is lacks =
+    let next : 1 + position_or_len (is_byte 10) rest ≡ suc (position_or_len (is_byte 10) rest) = omega arith in
+    let front : take (position_or_len (is_byte 10) (byte ∷ rest)) (byte ∷ rest) ≡ byte ∷ take (position_or_len (is_byte 10) rest) rest = rw (is, next) refl in
+    rw front (rw is lacks)
+
+lacks_before : (text : List ℕ) → Lacks 10 (take (position_or_len (is_byte 10) text) text)
+lacks_before [] = refl
+lacks_before (byte ∷ rest) = feed_before byte rest (eqb byte 10) refl (lacks_before rest)
+
+pub front_lacks : (text front : List ℕ) (n : ℕ) → n ≡ position_or_len (is_byte 10) text → front ≡ take n text → Lacks 10 front
+front_lacks text front n place is = rw (is, place) (lacks_before text)
+
+-- a text is what stands before the first line feed, the line feed, and what follows
+pub feed_cut : (text : List ℕ) (n : ℕ) → n ≡ position_or_len (is_byte 10) text → n < length text → text ≡ take n text ++ 10 ∷ drop (n + 1) text
+feed_cut text n place within =
+    let p = position_or_len (is_byte 10) text in
+    let inside : p < length text = rw (← place) within in
+    let passes : eqb (get_or text p 0) 10 ≡ true = passes_at_first (is_byte 10) text 0 inside in
+    let feed : get_or text p 0 ≡ 10 = grind (arith, nat_tests) in
+    rw place (split_at_first (is_byte 10) text 0 inside ∙ ap (λ byte. take p text ++ byte ∷ drop (p + 1) text) feed)
