@@ -24,3 +24,6 @@ mod trace;
 
 pub use fault::TraceFault;
 pub use trace::read_trace;
+
+#[cfg(test)]
+mod tests;
