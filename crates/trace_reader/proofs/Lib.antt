@@ -8,3 +8,7 @@ pub mod CallWords
 pub mod ByteLines
 pub mod NoLine
 pub mod LineBodies
+pub mod Forms
+pub mod FieldsOne
+pub mod LinesOne
+pub mod OneReading

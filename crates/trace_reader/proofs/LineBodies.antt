@@ -50,7 +50,7 @@ words_lack keyword words front plain = both_lack keyword (flat_map spaced words)
 word_lacks : (keyword word : List ℕ) → Lacks 10 keyword → Lacks 10 word → Lacks 10 (keyword ++ flat_map spaced (word ∷ []))
 word_lacks keyword word front back = both_lack keyword (flat_map spaced (word ∷ [])) front (both_lack word [] back refl)
 
-bytes_plain : (bytes : List ℕ) → IsBytes bytes → IsPlain (bytes_text bytes)
+pub bytes_plain : (bytes : List ℕ) → IsBytes bytes → IsPlain (bytes_text bytes)
 bytes_plain [] fits = refl
 bytes_plain (byte ∷ bytes) fits = encoded_plain (byte ∷ bytes) fits
 
@@ -114,7 +114,7 @@ same_line body other rest others lacks too is =
     sym (take_at body (10 ∷ rest) (length body) refl) ∙ ap (take (length body)) is ∙ take_at other (10 ∷ others) (length body) (sym place)
 
 -- a text that goes on with a line is its body, a line feed and the rest
-line_then : (line : Line) (rest : List ℕ) → line_text line ++ rest ≡ (keyword line ++ flat_map spaced (words line)) ++ 10 ∷ rest
+pub line_then : (line : Line) (rest : List ℕ) → line_text line ++ rest ≡ (keyword line ++ flat_map spaced (words line)) ++ 10 ∷ rest
 line_then line rest = append_assoc (keyword line ++ flat_map spaced (words line)) (10 ∷ []) rest
 
 pub no_line_there : (text body after : List ℕ) → text ≡ body ++ 10 ∷ after → Lacks 10 body → ((line : Line) → IsLineOf body line → ⊥) → BeginsWithLine text → ⊥

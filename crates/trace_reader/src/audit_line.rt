@@ -8,7 +8,7 @@ use crate::hex_word::Kind;
 use crate::number::{Decimal, Hexadecimal};
 use boot_model::Line;
 
-// The line of one of these forms.
+// The line of a volume or a module.
 #[tactic(auto, unfolding(boot_model::specs::Text::keyword))]
 pub(crate) fn audit_line(line: &[u8]) -> Option<Line>
     ensures read { IfSome result (IsLineOf line.now) }

@@ -1,4 +1,4 @@
-// The lines of counts, which begin the lists.
+// The lines of counts, with which the lists begin.
 ghost use Rattle.std.specs.Prelude.{IfSome, IsNone};
 ghost use Rattle.trace_reader.specs.Readable.{IsLineOf};
 ghost use Rattle.trace_reader.specs.Lacking.{LacksLinesOfCount};
@@ -6,7 +6,7 @@ ghost use Rattle.trace_reader.specs.Lacking.{LacksLinesOfCount};
 use crate::field::fields_after;
 use boot_model::Line;
 
-// The line of one of these forms.
+// The line of a count.
 #[tactic(auto, unfolding(boot_model::specs::Text::keyword))]
 pub(crate) fn count_line(line: &[u8]) -> Option<Line>
     ensures read { IfSome result (IsLineOf line.now) }

@@ -7,7 +7,7 @@ use crate::field::fields_after;
 use crate::number::Hexadecimal;
 use boot_model::Line;
 
-// The line of one of these forms.
+// The line of a frame's or a phase's end, of a module that waits, of the hand-off or of the result.
 #[tactic(auto, unfolding(boot_model::specs::Text::keyword))]
 pub(crate) fn end_line(line: &[u8]) -> Option<Line>
     ensures read { IfSome result (IsLineOf line.now) }

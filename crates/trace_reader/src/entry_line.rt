@@ -7,7 +7,7 @@ use crate::field::fields_after;
 use crate::number::{By, Hexadecimal};
 use boot_model::Line;
 
-// The line of one of these forms.
+// The line of an entry of a list.
 #[tactic(auto, unfolding(boot_model::specs::Text::keyword))]
 pub(crate) fn entry_line(line: &[u8]) -> Option<Line>
     ensures read { IfSome result (IsLineOf line.now) }

@@ -18,11 +18,13 @@ mod name_word;
 mod notify_line;
 mod number;
 mod place;
+mod reading_law;
 mod refusal_line;
 mod start_line;
 mod trace;
 
 pub use fault::TraceFault;
+pub use reading_law::one_reading;
 pub use trace::read_trace;
 
 #[cfg(test)]

@@ -7,7 +7,7 @@ use crate::field::fields_after;
 use crate::number::Hexadecimal;
 use boot_model::Line;
 
-// The line of one of these forms.
+// The line of the move, or of the PPI that is installed behind it.
 #[tactic(auto, unfolding(boot_model::specs::Text::keyword))]
 pub(crate) fn move_line(line: &[u8]) -> Option<Line>
     ensures read { IfSome result (IsLineOf line.now) }

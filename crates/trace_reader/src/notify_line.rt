@@ -6,7 +6,7 @@ ghost use Rattle.trace_reader.specs.Lacking.{LacksLinesOfNotify};
 use crate::field::fields_after;
 use boot_model::Line;
 
-// The line of one of these forms.
+// The line of a notification that begins.
 #[tactic(auto, unfolding(boot_model::specs::Text::keyword))]
 pub(crate) fn notify_line(line: &[u8]) -> Option<Line>
     ensures read { IfSome result (IsLineOf line.now) }

@@ -7,7 +7,7 @@ use crate::field::fields_after;
 use crate::number::Decimal;
 use boot_model::Line;
 
-// The line of one of these forms.
+// The line of a refusal that names no file.
 #[tactic(auto, unfolding(boot_model::specs::Text::keyword))]
 pub(crate) fn refusal_line(line: &[u8]) -> Option<Line>
     ensures read { IfSome result (IsLineOf line.now) }

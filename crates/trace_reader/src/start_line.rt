@@ -1,4 +1,4 @@
-// The lines of reports, starts and notifications.
+// The lines of reports and starts.
 ghost use Rattle.std.specs.Prelude.{IfSome, IsNone};
 ghost use Rattle.trace_reader.specs.Readable.{IsLineOf};
 ghost use Rattle.trace_reader.specs.Lacking.{LacksLinesOfStart};
@@ -6,7 +6,7 @@ ghost use Rattle.trace_reader.specs.Lacking.{LacksLinesOfStart};
 use crate::field::fields_after;
 use boot_model::Line;
 
-// The line of one of these forms.
+// The line of a volume that is reported or discovered, or of a start.
 #[tactic(auto, unfolding(boot_model::specs::Text::keyword))]
 pub(crate) fn start_line(line: &[u8]) -> Option<Line>
     ensures read { IfSome result (IsLineOf line.now) }
