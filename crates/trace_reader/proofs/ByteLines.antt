@@ -1,5 +1,5 @@
 -- Lines that show bytes behind a keyword.
-use Rattle.std.proofs.Common.{◌≡◌, ◌++◌, ℕ, List, [], ◌∷◌, flat_map, sym, ap, ◌∙◌, append-nil, true, not, eqb, arith, length, decimal, ◌<◌, ◌^◌, Option, Some, None, Result, Ok, Err, IfOk}
+use Rattle.std.proofs.Common.{◌≡◌, ◌++◌, ℕ, List, [], ◌∷◌, flat_map, sym, ap, ◌∙◌, append-nil, not, eqb, arith, length, decimal, ◌<◌, ◌^◌, Option, Some, None, Result, Ok, Err, IfOk}
 use Rattle.std.specs.Prelude.{codes}
 use Rattle.std.specs.Option.{MatchOption}
 use Rattle.hex.specs.Hex.{IsBytes, encode_lower}

@@ -1,5 +1,5 @@
 -- The first two words of a service's line.
-use Rattle.std.proofs.Common.{◌≡◌, ◌++◌, ℕ, List, [], ◌∷◌, flat_map, sym, ap, ◌∙◌}
+use Rattle.std.proofs.Common.{◌≡◌, ◌++◌, ℕ, List, ◌∷◌, flat_map}
 use Rattle.std.specs.Prelude.{codes}
 use Rattle.pi_base.specs.declared.word.Word.{Word}
 use Rattle.boot_io.specs.Line.{spaced}

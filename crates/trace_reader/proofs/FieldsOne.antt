@@ -1,5 +1,5 @@
 -- Each word of a field is one value's.
-use Rattle.std.proofs.Common.{◌≡◌, ◌<◌, ◌≤◌, ◌^◌, ◌+◌, ◌*◌, ◌++◌, ℕ, zero, suc, List, [], ◌∷◌, Option, Some, None, Bool, true, false, cond, eqb, Result, Ok, Err, refl, sym, ap, ◌∙◌, arith, length, decimal, get_or, drop, append-nil, rules}
+use Rattle.std.proofs.Common.{◌≡◌, ◌<◌, ◌≤◌, ◌^◌, ◌+◌, ◌*◌, ℕ, List, [], ◌∷◌, Option, Some, None, Bool, true, false, cond, eqb, Ok, refl, sym, ap, ◌∙◌, arith, length, decimal, get_or, drop}
 use Rattle.std.specs.Prelude.{codes}
 use Rattle.std.specs.Fmt.{digits}
 use Rattle.std.specs.Str.Parse.{digits_value, AllDigits}
@@ -13,8 +13,7 @@ use Rattle.pi_base.specs.declared.guid.Guid.{Guid}
 use Rattle.store_model.specs.declared.state.TheConstants.{CORE}
 use Rattle.boot_model.specs.declared.line.ExpressionWord.{ExpressionWord}
 use Rattle.boot_model.specs.declared.line.ExpressionWord.TheVariants as V
-use Rattle.boot_model.specs.Text.{hexadecimal, guid_text, by_text, rank_text, name_text, expression_text, bytes_text, dash}
-use Rattle.pi_base.specs.GuidText.{guid_of_text}
+use Rattle.boot_model.specs.Text.{hexadecimal, guid_text, by_text, rank_text, name_text, expression_text, bytes_text}
 use Rattle.trace_reader.specs.Readable.{IsGuid, IsRank, IsName, IsExpression}
 use Rattle.trace_reader.proofs.Numerals.{numeral}
 use Rattle.trace_reader.proofs.HexWords.{one_byte}

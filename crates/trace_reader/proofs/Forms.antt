@@ -1,5 +1,5 @@
 -- A form for each variant of a line, and the form of a text.
-use Rattle.std.proofs.Common.{◌≡◌, ◌++◌, ℕ, List, [], ◌∷◌, Option, Some, None, Bool, true, false, ◌&&◌, eqb, refl, sym, ap, ◌∙◌, flat_map, option_map}
+use Rattle.std.proofs.Common.{◌≡◌, ◌++◌, ℕ, List, [], ◌∷◌, Option, Some, Bool, true, false, ◌&&◌, eqb, refl, sym, ap, ◌∙◌, flat_map, option_map}
 use Rattle.std.specs.Prelude.{codes}
 use Rattle.std.specs.List.{find}
 use Rattle.arrayvec.specs.declared.array_vec.ArrayVec.{ArrayVec}

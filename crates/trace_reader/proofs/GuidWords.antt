@@ -1,7 +1,7 @@
 -- The text of a GUID, read.
-use Rattle.std.proofs.Common.{◌≡◌, ◌<◌, ℕ, zero, suc, List, [], ◌∷◌, Option, Some, None, option_map, refl, sym, ap, ◌∙◌, arith, length, inl, All}
+use Rattle.std.proofs.Common.{◌≡◌, ◌<◌, ℕ, List, Some, None, option_map, refl, sym, ap, ◌∙◌, inl, All}
 use Rattle.std.proofs.lemmas.List.Elements.{All-from_recursion}
-use Rattle.uuid.specs.Text.{hyphenated_text, lower, parsed_hyphenated}
+use Rattle.uuid.specs.Text.{hyphenated_text, lower}
 use Rattle.uuid.specs.Parts.{swap_fields}
 use Rattle.uuid.proofs.RoundTrips.{parses_hyphenated_text, swap_twice}
 use Rattle.hex.specs.Hex.{IsBytes}

@@ -1,5 +1,5 @@
 -- Words of bytes, decoded.
-use Rattle.std.proofs.Common.{◌≡◌, ◌≢◌, ◌<◌, ◌^◌, ℕ, zero, suc, List, [], ◌∷◌, Result, Ok, Err, Bool, true, false, refl, sym, ap, ◌∙◌, arith, length, eqb, ◌/◌, Option, Some, None, Decides}
+use Rattle.std.proofs.Common.{◌≡◌, ◌<◌, ◌^◌, ℕ, zero, suc, List, [], ◌∷◌, Result, Ok, Err, Bool, true, false, sym, ap, ◌∙◌, arith, length, eqb, ◌/◌, Option, Some, None, Decides}
 use Rattle.std.specs.Option.{MatchOption}
 use Rattle.trace_reader.specs.Finds.{Finds}
 use Rattle.std.specs.Prelude.{MatchResult}

@@ -1,6 +1,6 @@
 -- A readable line has no line feed before its end.
-use Rattle.std.proofs.Common.{◌≡◌, ◌++◌, ◌+◌, ◌<◌, ℕ, suc, List, [], ◌∷◌, flat_map, refl, sym, ap, ◌∙◌, true, false, Bool, not, eqb, ltb, leb, arith, length, append-nil, append_assoc, decimal, take, drop, get_or}
-use Rattle.std.specs.Prelude.{codes, ◌&&◌, nat_le}
+use Rattle.std.proofs.Common.{◌≡◌, ◌++◌, ◌+◌, ◌<◌, ℕ, suc, List, [], ◌∷◌, flat_map, refl, sym, ap, ◌∙◌, true, false, Bool, not, eqb, ltb, arith, length, append_assoc, decimal, take, drop, get_or}
+use Rattle.std.specs.Prelude.{codes, nat_le}
 use Rattle.std.proofs.lemmas.List.Sums.{split_at_first, passes_at_first}
 use Rattle.std.specs.List.{list_all, AllByRecursion, position_or_len}
 use Rattle.std.proofs.lemmas.Bool.{and_parts}

@@ -1,10 +1,9 @@
 -- No two readable lines have one text.
-use Rattle.std.proofs.Common.{◌≡◌, ◌<◌, ◌^◌, ◌++◌, ℕ, List, [], ◌∷◌, Option, Some, None, refl, sym, ap, ◌∙◌, flat_map, decimal, subst, get_or, true, false, append-nil, arith, drop}
+use Rattle.std.proofs.Common.{◌≡◌, ◌++◌, ℕ, List, [], ◌∷◌, refl, sym, ap, ◌∙◌, flat_map, decimal, subst, get_or, true, false, append-nil, arith, drop}
 use Rattle.std.specs.Prelude.{codes}
 use Rattle.std.specs.List.{AllByRecursion}
 use Rattle.hex.specs.Hex.{encode_lower}
 use Rattle.boot_io.specs.Line.{spaced}
-use Rattle.pi_base.specs.declared.word.Word.TheVariants as W
 use Rattle.boot_model.specs.declared.line.Line.{Line}
 use Rattle.boot_model.specs.declared.line.Line.TheVariants as L
 use Rattle.boot_model.specs.declared.line.CallName.{CallName}
@@ -14,7 +13,7 @@ use Rattle.boot_model.specs.declared.line.Extra.TheVariants as E
 use Rattle.pi_base.specs.declared.word.Word.{Word}
 use Rattle.boot_model.specs.Text.{keyword, words, hexadecimal, guid_text, licence_text, word_text, reason_text, end_text, by_text, rank_text, name_text, expression_text, plan_cause_text, image_cause_text, call_text, bytes_text, extra_words}
 use Rattle.trace_reader.specs.Plain.{IsPlain}
-use Rattle.trace_reader.specs.Readable.{IsReadable, IsExtra, shows_number, shows_nothing}
+use Rattle.trace_reader.specs.Readable.{IsReadable, IsExtra, shows_number}
 use Rattle.trace_reader.proofs.Splits.{same_front, same_back, behind_is, tail_of}
 use Rattle.trace_reader.proofs.PlainWords.{decimal_16_plain, decimal_32_plain, decimal_64_plain, hexadecimal_plain, guid_plain, by_plain, rank_plain, name_plain, kind_plain, expression_plain, shown_plain}
 use Rattle.trace_reader.proofs.FixedWords.{licence_text_plain, word_text_plain, reason_text_plain, end_text_plain, plan_cause_text_plain, image_cause_text_plain, call_text_plain, licence_text_one, word_text_one, reason_text_one, end_text_one, plan_cause_text_one, image_cause_text_one, call_text_one}

@@ -1,5 +1,5 @@
 -- A text is one trace or has one first bad line.
-use Rattle.std.proofs.Common.{◌≡◌, ◌<◌, ◌+◌, ◌++◌, ℕ, List, [], ◌∷◌, refl, sym, ap, ◌∙◌, flat_map, length, append-nil, append_assoc, arith}
+use Rattle.std.proofs.Common.{◌≡◌, ◌++◌, ℕ, List, [], ◌∷◌, refl, sym, ap, ◌∙◌, flat_map, length, append-nil, append_assoc, arith}
 use Rattle.std.specs.List.{AllByRecursion}
 use Rattle.boot_io.specs.Line.{spaced}
 use Rattle.boot_model.specs.declared.line.Line.{Line}

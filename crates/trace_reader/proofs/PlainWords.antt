@@ -1,8 +1,7 @@
 -- The words of fields are plain.
-use Rattle.std.proofs.Common.{◌≡◌, ◌<◌, ◌≤◌, ◌^◌, ◌/◌, ◌%◌, ◌++◌, ℕ, zero, suc, Bool, true, false, ltb, eqb, cond, List, [], ◌∷◌, Option, Some, None, refl, ap, ◌∙◌, arith, decimal, get_or, slice_index}
+use Rattle.std.proofs.Common.{◌≡◌, ◌<◌, ◌^◌, ◌/◌, ◌%◌, ◌++◌, ℕ, zero, suc, Bool, true, false, ltb, eqb, cond, List, [], ◌∷◌, Option, Some, None, refl, ◌∙◌, arith, decimal, slice_index}
 use Rattle.std.proofs.lemmas.Bool.Decides.{nat_tests}
 use Rattle.std.proofs.lemmas.List.Folds.{list_all-append}
-use Rattle.std.specs.List.{list_all}
 use Rattle.std.proofs.lemmas.List.Sums.{AllPass-from_list_all}
 use Rattle.uuid.specs.Text.{by_index, is_hyphen_place, hex_digit, nibble, digit_place}
 use Rattle.uuid.specs.Parts.{swap_fields}
@@ -10,7 +9,7 @@ use Rattle.hex.specs.Hex.{encode_with, encode_lower, lower_digits, IsBytes}
 use Rattle.pi_base.specs.declared.guid.Guid.{Guid}
 use Rattle.boot_model.specs.declared.line.ExpressionWord.{ExpressionWord}
 use Rattle.boot_model.specs.declared.line.ExpressionWord.TheVariants as V
-use Rattle.boot_model.specs.Text.{hexadecimal, by_text, guid_text, rank_text, name_text, expression_text, bytes_text, dash}
+use Rattle.boot_model.specs.Text.{hexadecimal, by_text, guid_text, rank_text, name_text, expression_text}
 use Rattle.store_model.specs.declared.state.TheConstants.{CORE}
 use Rattle.trace_reader.specs.Plain.{IsPlain}
 use Rattle.trace_reader.specs.Readable.{IsGuid, IsRank, IsName, IsExpression, IsShown}

@@ -1,5 +1,5 @@
 -- Where a word ends, and what follows a keyword.
-use Rattle.std.proofs.Common.{◌≡◌, ◌≢◌, ℕ, suc, ◌+◌, ◌<◌, ◌≤◌, Bool, true, false, eqb, ltb, List, [], ◌∷◌, ◌++◌, length, take, drop, refl, sym, ap, ◌∙◌, arith, get_or, flat_map, Decides, Option, Some, None}
+use Rattle.std.proofs.Common.{◌≡◌, ◌≢◌, ℕ, ◌+◌, ◌<◌, ◌≤◌, Bool, true, false, eqb, ltb, List, [], ◌∷◌, ◌++◌, length, take, drop, refl, sym, ap, ◌∙◌, arith, get_or, flat_map, Decides, Option, Some, None}
 use Rattle.std.specs.Option.{MatchOption}
 use Rattle.std.specs.Borrow.{Bor}
 use Rattle.std.specs.Cmp.Lexicographic.{pointwise}
@@ -11,7 +11,7 @@ use Rattle.std.proofs.lemmas.Bool.Decides.{nat_tests, Decides-eqb}
 use Rattle.std.proofs.lemmas.Slice.Eq.{slice_eq-Decides}
 use Rattle.boot_io.specs.Line.{spaced}
 use Rattle.trace_reader.specs.Finds.{Finds}
-use Rattle.trace_reader.specs.Plain.{IsPlain, Lacks}
+use Rattle.trace_reader.specs.Plain.{IsPlain}
 
 abbrev pub is_byte : ℕ → ℕ → Bool
 is_byte sought byte = eqb byte sought

@@ -1,5 +1,5 @@
 -- Bytes that are no line of some forms.
-use Rattle.std.specs.Prelude.{◌≡◌, ◌≢◌, ℕ, List, Option, codes}
+use Rattle.std.specs.Prelude.{◌≢◌, ℕ, List, Option, codes}
 use Rattle.pi_base.specs.declared.guid.Guid.{Guid}
 use Rattle.pi_base.specs.declared.word.Word.{Word}
 use Rattle.boot_plan.specs.declared.fault.PlanCause.{PlanCause}

@@ -1,4 +1,3 @@
-use Rattle.std.proofs.Common.{◌≡◌, ◌++◌, ◌<◌, ◌^◌, ℕ, List, [], ◌∷◌, ◌∙◌, sym, decimal, flat_map}
 use Rattle.boot_model.specs.Text.{keyword}
 use Rattle.trace_reader.proofs.ByteLines.{body_is}
 use Rattle.trace_reader.proofs.byte_line.hob_line.Goals as goal

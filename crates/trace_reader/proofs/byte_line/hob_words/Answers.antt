@@ -1,4 +1,4 @@
-use Rattle.std.proofs.Common.{◌≡◌, ◌++◌, ℕ, List, [], ◌∷◌, ◌∙◌, sym, decimal, flat_map}
+use Rattle.std.proofs.Common.{◌++◌, [], ◌∷◌, ◌∙◌, decimal, flat_map}
 use Rattle.std.specs.Prelude.{codes}
 use Rattle.boot_io.specs.Line.{spaced}
 use Rattle.trace_reader.proofs.Splits.{cut_front, cut_back, behind_is}

@@ -1,4 +1,4 @@
-use Rattle.std.proofs.Common.{◌≡◌, ◌∙◌, sym, [], ◌∷◌}
+use Rattle.std.proofs.Common.{◌∙◌, sym, []}
 use Rattle.boot_model.specs.Text.{keyword}
 use Rattle.trace_reader.proofs.CallWords.{call_is}
 use Rattle.trace_reader.proofs.HexWords.{not_decided}

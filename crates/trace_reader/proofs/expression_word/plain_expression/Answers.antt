@@ -1,4 +1,4 @@
-use Rattle.std.proofs.Common.{◌≡◌, ◌∙◌, sym}
+use Rattle.std.proofs.Common.{◌∙◌, sym}
 use Rattle.trace_reader.proofs.HexWords.{not_same}
 use Rattle.trace_reader.proofs.expression_word.plain_expression.Goals as goal
 

@@ -1,4 +1,4 @@
-use Rattle.std.proofs.Common.{◌≡◌, ◌<◌, ◌^◌, ◌∙◌, sym, ap, refl, [], ◌∷◌, get_or}
+use Rattle.std.proofs.Common.{◌<◌, ◌^◌, ap, refl, [], ◌∷◌, get_or}
 use Rattle.trace_reader.proofs.HexWords.{not_refused, decoded, one_byte, read_back}
 use Rattle.trace_reader.proofs.hex_word.byte_of.Goals as goal
 

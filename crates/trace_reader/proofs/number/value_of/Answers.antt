@@ -1,4 +1,4 @@
-use Rattle.std.proofs.Common.{rules, ◌≡◌, ◌<◌, ◌≤◌, ◌^◌, ℕ, Some}
+use Rattle.std.proofs.Common.{rules}
 use Rattle.trace_reader.proofs.Numerals.{numeral_read, numeral_utf8}
 use Rattle.trace_reader.proofs.number.value_of.Goals as goal
 

@@ -1,4 +1,4 @@
-use Rattle.std.proofs.Common.{◌≡◌, ◌+◌, ◌-◌, ◌∙◌, arith, rules, length, take, drop, ap, sym}
+use Rattle.std.proofs.Common.{◌≡◌, ◌+◌, ◌-◌, ◌∙◌, arith, length, take, drop, ap, sym}
 use Rattle.std.proofs.lemmas.List.{take_all, drop-drop, take_rest}
 use Rattle.trace_reader.proofs.LineBodies.{front_lacks, feed_cut}
 use Rattle.trace_reader.proofs.trace.first_line.Goals as goal

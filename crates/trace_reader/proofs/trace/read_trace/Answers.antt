@@ -1,4 +1,4 @@
-use Rattle.std.proofs.Common.{◌≡◌, ◌<◌, arith, rules, length}
+use Rattle.std.proofs.Common.{◌<◌, rules, length}
 use Rattle.trace_reader.proofs.LineBodies.{no_line_there}
 use Rattle.trace_reader.proofs.trace.read_trace.Goals as goal
 

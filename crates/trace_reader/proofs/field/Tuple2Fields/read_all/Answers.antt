@@ -1,5 +1,4 @@
-use Rattle.std.proofs.Common.{rules, ◌≡◌, ◌++◌, ℕ, List, [], ◌∷◌, flat_map, ◌∙◌, sym}
-use Rattle.boot_io.specs.Line.{spaced}
+use Rattle.std.proofs.Common.{◌∙◌, sym}
 use Rattle.trace_reader.proofs.Splits.{cut_front, cut_back, tail_of}
 use Rattle.trace_reader.proofs.field.Tuple2Fields.read_all.Goals as goal
 

@@ -1,4 +1,4 @@
-use Rattle.std.proofs.Common.{◌≡◌, refl, arith, [], ◌∷◌}
+use Rattle.std.proofs.Common.{refl, arith, [], ◌∷◌}
 use Rattle.std.specs.List.{Contains}
 use Rattle.catalog_model.specs.declared.image_fault.ImageCause.{ImageCause}
 use Rattle.catalog_model.specs.declared.image_fault.ImageCause.TheVariants as I

@@ -1,4 +1,4 @@
-use Rattle.std.proofs.Common.{◌≡◌, refl, arith, [], ◌∷◌}
+use Rattle.std.proofs.Common.{refl, arith, [], ◌∷◌}
 use Rattle.std.specs.List.{Contains}
 use Rattle.boot_plan.specs.declared.fault.PlanCause.{PlanCause}
 use Rattle.boot_plan.specs.declared.fault.PlanCause.TheVariants as P

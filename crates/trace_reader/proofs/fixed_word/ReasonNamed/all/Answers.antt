@@ -1,4 +1,4 @@
-use Rattle.std.proofs.Common.{◌≡◌, refl, arith, [], ◌∷◌}
+use Rattle.std.proofs.Common.{refl, arith, [], ◌∷◌}
 use Rattle.std.specs.List.{Contains}
 use Rattle.boot_model.specs.declared.line.Reason.{Reason}
 use Rattle.boot_model.specs.declared.line.Reason.TheVariants as R

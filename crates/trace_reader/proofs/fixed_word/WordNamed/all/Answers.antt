@@ -1,4 +1,4 @@
-use Rattle.std.proofs.Common.{◌≡◌, refl, arith, [], ◌∷◌}
+use Rattle.std.proofs.Common.{refl, arith, [], ◌∷◌}
 use Rattle.std.specs.List.{Contains}
 use Rattle.pi_base.specs.declared.word.Word.{Word}
 use Rattle.pi_base.specs.declared.word.Word.TheVariants as W

@@ -1,4 +1,4 @@
-use Rattle.std.proofs.Common.{◌≡◌, ◌∙◌, sym, ap, arith, length}
+use Rattle.std.proofs.Common.{arith}
 use Rattle.trace_reader.proofs.HexWords.{not_refused, decoded, read_back, two_digits}
 use Rattle.trace_reader.specs.Readable.{IsShown}
 use Rattle.trace_reader.proofs.hex_word.ArrayVecU8SHOWN_LENField.read.Goals as goal

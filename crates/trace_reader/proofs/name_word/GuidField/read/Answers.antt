@@ -1,4 +1,4 @@
-use Rattle.std.proofs.Common.{◌≡◌, ◌∙◌, sym, ap, Some, None, option_map}
+use Rattle.std.proofs.Common.{◌∙◌, sym, ap, option_map}
 use Rattle.trace_reader.proofs.GuidWords.{guid_not_none, guid_same}
 use Rattle.trace_reader.proofs.HexWords.{not_same}
 use Rattle.trace_reader.proofs.name_word.GuidField.read.Goals as goal
