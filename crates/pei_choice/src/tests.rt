@@ -1,5 +1,6 @@
 // Small catalogues made by hand: the order of the parts, and which of them comes next.
-ghost use Rattle.std.specs.Prelude.{◌≡◌, ◌<◌, [], Some, None, IfOk};
+ghost use Rattle.std.specs.Prelude.{◌≡◌, ◌<◌, ◌≤◌, [], Some, None, IfOk, length};
+ghost use Rattle.catalog_model.specs.declared.limits.TheConstants.{MOST_MODULES as MOST};
 ghost use Rattle.catalog_model.specs.WellFormed.{IsExpressionOf, IsShortExpression, IsWellFormed};
 ghost use Rattle.pi_base.specs.declared.phase.Phase.TheVariants.{Pei as InPei};
 
@@ -60,17 +61,24 @@ fn catalogue(alloc: Global, modules: &[(u32, Option<u32>)]) -> Result<Catalog, O
     })
 }
 
+// The queue behind both volumes; the second one comes first, and has no part of rank 1.
+fn queue_of(alloc: Global, catalog: &Catalog) -> Result<PeiQueue, OutOfMemory>
+    requires { length catalog.now.modules ≤ MOST }
+{
+    let mut queue = PeiQueue::build(alloc, catalog)?;
+    queue.report(catalog, &[1, 0]);
+    Ok(queue)
+}
+
 #[test]
 fn a_priori_parts_come_first_by_rank(rt: HostRuntime) -> Result<(), Fail> {
     let catalog = catalogue(rt.alloc(), &CATALOGUE)
         .ok()
         .ok_or("there is memory")?;
     assert!(rt; catalog.modules.len() <= MOST_MODULES);
-    let mut queue = PeiQueue::build(rt.alloc(), &catalog)
+    let queue = queue_of(rt.alloc(), &catalog)
         .ok()
         .ok_or("there is memory")?;
-    // The second volume has no part of rank 1.
-    queue.report(&catalog, &[1, 0]);
     assert_eq!(rt; queue.as_slice(), [5, 4, 3, 2, 1, 0].as_slice());
     Ok(())
 }
