@@ -1,5 +1,5 @@
 -- What is read from a descriptor in the image.
-use Rattle.std.proofs.Common.{◌≡◌, ◌⊎◌, ℕ, ◌+◌, ◌-◌, ◌≤◌, ◌<◌, ◌^◌, Bool, true, false, cond, List, [], ◌∷◌, length, take, drop, arith, ap, refl, sym, subst, ◌∙◌, Option, Some, None, ◌==◌}
+use Rattle.std.proofs.Common.{◌≡◌, ◌⊎◌, ℕ, ◌+◌, ◌-◌, ◌≤◌, ◌<◌, ◌^◌, Bool, true, false, cond, List, [], ◌∷◌, length, take, drop, arith, ap, refl, sym, ◌∙◌, Option, Some, None}
 use Rattle.std.specs.Prelude.{unwrap_or, IfSome}
 use Rattle.std.proofs.lemmas.Bool.Decides.{nat_tests}
 use Rattle.std.proofs.lemmas.List.{take_at}
@@ -7,15 +7,13 @@ use Rattle.pi_base.specs.declared.guid.Guid.{Guid}
 use Rattle.pi_base.specs.Field.{little_bytes, ReadsWhatItSpells}
 use Rattle.phys_mem.specs.Region.{is_inside}
 use Rattle.phys_mem.specs.declared.rom.Rom.{Rom}
-use Rattle.store_model.specs.declared.state.Body.{Body}
 use Rattle.store_model.specs.declared.state.Body.TheVariants.{Descriptor}
 use Rattle.store_model.specs.declared.state.DescriptorBody.{DescriptorBody}
-use Rattle.store_model.specs.declared.state.HobEntry.{HobEntry}
 use Rattle.store_model.specs.declared.store_handle.DescKind.{DescKind}
 use Rattle.store_model.specs.declared.store_handle.DescKind.TheVariants.{Ppi, Callback, Dispatch}
 use Rattle.pi_base.specs.Lists.{Each}
-use Rattle.store_model.specs.StoreState.{StoreState, body_from, body_at, body_len, hob_len, descriptor_len, end_place}
-use Rattle.store_model.specs.StateFacts.{IsStoreState, IsBodyOf, IsGuidOf}
+use Rattle.store_model.specs.StoreState.{StoreState, body_at, body_len, descriptor_len, end_place}
+use Rattle.store_model.specs.StateFacts.{IsStoreState, IsGuidOf}
 use Rattle.store_model.specs.HeapImage.{heap_image, kind_flags, guid_address, guid_behind, descriptor_bytes, or_else}
 use Rattle.store_model.specs.MemoryReading.{rom_bytes}
 use Rattle.store_laws.specs.Fitting.{IsFittingDescriptor}

@@ -1,18 +1,13 @@
 -- What the facts of a state say of its image.
-use Rattle.std.proofs.Common.{◌≡◌, ℕ, ◌+◌, ◌-◌, ◌≤◌, Bool, true, false, List, [], ◌∷◌, ◌++◌, length, arith, ap, refl, subst, ◌∙◌, Option, Some, None, length-append}
-use Rattle.std.specs.Prelude.{replicate, IfSome}
+use Rattle.std.proofs.Common.{◌≡◌, ℕ, ◌+◌, ◌-◌, ◌≤◌, List, ◌++◌, length, arith, ap, refl, ◌∙◌, Option, Some, None, length-append}
+use Rattle.std.specs.Prelude.{replicate}
 use Rattle.std.proofs.lemmas.List.{length-replicate}
-use Rattle.pi_base.specs.Field.{little_bytes}
 use Rattle.hob_codec.specs.declared.kind.TheConstants.{END}
 use Rattle.boot_plan.specs.declared.limits.TheConstants.{MOST_END}
 use Rattle.store_model.specs.declared.state.Body.{Body}
-use Rattle.store_model.specs.declared.state.Body.TheVariants.{Bytes, Descriptor, Node, Allocation}
-use Rattle.store_model.specs.declared.state.DescriptorBody.{DescriptorBody}
-use Rattle.store_model.specs.declared.state.HobEntry.{HobEntry}
-use Rattle.pi_base.specs.Lists.{Each}
 use Rattle.store_model.specs.StoreState.{StoreState, end_place, body_at, body_len}
-use Rattle.store_model.specs.StateFacts.{IsStoreState, IsBoard, IsBodyOf, IsGuidOf, IsHeap, IsPlanned}
-use Rattle.store_model.specs.HeapImage.{header_bytes, body_bytes, descriptor_bytes, kind_flags, guid_address, guid_behind, hobs_bytes, heap_image, links_at, links_bytes, Links}
+use Rattle.store_model.specs.StateFacts.{IsStoreState}
+use Rattle.store_model.specs.HeapImage.{header_bytes, body_bytes, hobs_bytes, heap_image, links_bytes, Links}
 use Rattle.store_laws.proofs.Fits.{all_fit}
 use Rattle.heap_laws.specs.Spelling.{AreSpelled}
 use Rattle.heap_laws.specs.Growing.{front_bytes}

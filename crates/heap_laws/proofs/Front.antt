@@ -6,13 +6,13 @@ use Rattle.pi_base.specs.Field.{little_bytes, little_number, ReadsWhatItSpells}
 use Rattle.phys_mem.specs.Region.{replaced}
 use Rattle.hob_codec.specs.declared.kind.TheConstants.{END}
 use Rattle.store_model.specs.declared.state.HobEntry.{HobEntry}
-use Rattle.store_model.specs.StoreState.{appended, StoreState, empty_store, end_place, next_body, body_len, page_bytes}
+use Rattle.store_model.specs.StoreState.{StoreState, empty_store, end_place, next_body, body_len, page_bytes}
 use Rattle.store_model.specs.StateFacts.{IsStoreState}
 use Rattle.store_model.specs.HeapImage.{header_bytes, hobs_bytes, hob_list, body_bytes, heap_image}
-use Rattle.heap_laws.specs.Growing.{front_bytes, free_fields, end_fields, FreeTopIsKept, hob_and_end, with_hob, HasHobRoom, HobsAreAdded, PagesAreTaken}
+use Rattle.heap_laws.specs.Growing.{front_bytes, free_fields, grown, HasHobRoom}
 use Rattle.heap_laws.specs.Word.{word_in}
 use Rattle.heap_laws.specs.Front.{BootModesAreRead, FreeTopsAreRead, FreeBottomsAreRead, EndsAreRead, FreeIsRead, FirstImages}
-use Rattle.heap_laws.proofs.Growing.{heaps_grow, grown}
+use Rattle.heap_laws.proofs.Growing.{heaps_grow, hob_and_end}
 use Rattle.heap_laws.proofs.Facts.{bodies_are_spelled, images_fill, has_room, heaps_are_low}
 use Rattle.heap_laws.proofs.Parts.{part_replaced}
 use Rattle.heap_laws.proofs.Reading.{front_read}
@@ -93,7 +93,8 @@ front_changed s hob taken = refl
 front_there : (s : StoreState) → take 56 (drop 0 (heap_image s)) ≡ front_bytes s
 front_there s = front_piece s 0 56 (omega arith) ∙ (let whole : take 56 (front_bytes s) ≡ front_bytes s = refl in whole)
 
-added_by : (s : StoreState) (hob : HobEntry) (taken : ℕ) → IsStoreState s → length (body_bytes s (next_body s) hob.body) ≡ body_len hob.body → HasHobRoom s hob → heap_image (grown s hob taken) ≡ with_hob s (grown s hob taken) hob
+pub added_by : (s : StoreState) (hob : HobEntry) (taken : ℕ) → IsStoreState s → length (body_bytes s (next_body s) hob.body) ≡ body_len hob.body → HasHobRoom s hob
+    → heap_image (grown s hob taken) ≡ replaced (replaced (heap_image s) 32 (free_fields (grown s hob taken))) (end_place s) (hob_and_end s hob)
 added_by s hob taken h len room =
     let image = heap_image s in
     let t = grown s hob taken in
@@ -102,20 +103,3 @@ added_by s hob taken h len room =
     heaps_grow s hob taken (bodies_are_spelled s h) len room
     ∙ ap (λ x. replaced x (end_place s) (hob_and_end s hob))
     (ap (replaced image 0) (front_changed s hob taken) ∙ part_replaced image (front_bytes s) (free_fields t) 0 32 (front_there s) (omega (arith, full, end)) (omega arith))
-
-pub hobs_are_added : HobsAreAdded
-hobs_are_added s hob h len room = added_by s hob s.taken h len room
-
-pub pages_are_taken : PagesAreTaken
-pages_are_taken s memory_type len h room = added_by s _ (s.taken + len) h refl room
-
-end_changed : (s : StoreState) (hob : HobEntry) → replaced (front_bytes s) 32 (free_fields (appended s hob)) ≡ replaced (front_bytes s) 40 (end_fields (appended s hob))
-end_changed s hob = refl
-
-pub free_top_is_kept : FreeTopIsKept
-free_top_is_kept s hob h =
-    let image = heap_image s in
-    let full = images_fill s h in
-    let room = has_room s h in
-    sym (part_replaced image (front_bytes s) (free_fields (appended s hob)) 0 32 (front_there s) (omega (arith, full, room)) (omega arith))
-    ∙ ap (replaced image 0) (end_changed s hob) ∙ part_replaced image (front_bytes s) (end_fields (appended s hob)) 0 40 (front_there s) (omega (arith, full, room)) (omega arith)

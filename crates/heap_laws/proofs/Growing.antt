@@ -8,16 +8,16 @@ use Rattle.hob_codec.specs.declared.kind.TheConstants.{END}
 use Rattle.store_model.specs.declared.state.Body.{Body}
 use Rattle.store_model.specs.declared.state.Body.TheVariants.{Bytes, Descriptor, Node, Allocation}
 use Rattle.store_model.specs.declared.state.HobEntry.{HobEntry}
-use Rattle.store_model.specs.StoreState.{StoreState, appended, end_place, hob_len, body_len}
+use Rattle.store_model.specs.StoreState.{StoreState, end_place, hob_len, body_len}
 use Rattle.store_model.specs.HeapImage.{header_bytes, body_bytes, hobs_bytes, heap_image}
 use Rattle.heap_laws.specs.Spelling.{spelled, AreSpelled}
-use Rattle.heap_laws.specs.Growing.{front_bytes, hob_and_end}
+use Rattle.heap_laws.specs.Growing.{front_bytes, grown}
 use Rattle.heap_laws.proofs.Pieces.{replaced_here, replaced_later}
 use Rattle.heap_laws.proofs.Bodies.{is_spelled, hobs_are_appended}
 
--- a HOB more, and so many bytes of pages
-abbrev pub grown : StoreState → HobEntry → ℕ → StoreState
-grown s hob taken = record (appended s hob) { taken = taken }
+-- the HOB and an end HOB behind it
+abbrev pub hob_and_end : StoreState → HobEntry → List ℕ
+hob_and_end s hob = header_bytes hob.kind (hob_len hob) ++ body_bytes s (end_place s + 8) hob.body ++ header_bytes END 8
 
 -- bodies are spelled as before
 same_bytes : (s : StoreState) (hob : HobEntry) (taken place : ℕ) (body : Body) → body_bytes (grown s hob taken) place body ≡ body_bytes s place body

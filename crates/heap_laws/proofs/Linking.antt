@@ -8,15 +8,16 @@ use Rattle.store_model.specs.declared.state.Pending.{Pending}
 use Rattle.pi_base.specs.Lists.{Each}
 use Rattle.store_model.specs.StoreState.{StoreState, end_place, next_body, pool_of}
 use Rattle.store_model.specs.StateFacts.{IsStoreState, IsNodeAt}
-use Rattle.store_model.specs.HeapImage.{links_at, links_bytes, body_bytes, heap_image}
+use Rattle.store_model.specs.HeapImage.{header_bytes, links_at, links_bytes, body_bytes, heap_image}
 use Rattle.store_model.specs.Service.Install.{with_node}
 use Rattle.store_model.specs.Service.Notify.{note_entry}
 use Rattle.heap_laws.specs.Spelling.{AreSpelled}
 use Rattle.store_model.specs.declared.store_handle.EntryList.{EntryList}
 use Rattle.store_model.specs.declared.store_handle.EntryList.TheVariants.{Ppis, Callbacks, Dispatches, Pendings}
 use Rattle.heap_laws.specs.Items.{Item, item_of, queued_item, items, places_of, links_before, links_of_lists, all_lists, earlier_lists, later_lists}
-use Rattle.heap_laws.specs.Linking.{HasNodeRoom, last_place, named_by, with_last, NodesAreMade, PpisAreLinked, CallbacksAreLinked, DispatchesAreLinked, PairsAreLinked}
-use Rattle.heap_laws.proofs.Padding.{padded_hobs_are_added}
+use Rattle.hob_codec.specs.declared.kind.TheConstants.{POOL}
+use Rattle.heap_laws.specs.Growing.{NodesAreTexts}
+use Rattle.heap_laws.specs.Linking.{HasNodeRoom, last_place, named_by, with_last, PpisAreLinked, CallbacksAreLinked, DispatchesAreLinked, PairsAreLinked}
 use Rattle.heap_laws.proofs.Lists.{each_behind, map_append}
 use Rattle.heap_laws.proofs.Parts.{part_replaced, replaced_len}
 use Rattle.heap_laws.proofs.Facts.{bodies_are_spelled, places_are_inside, node_is_32, image_len}
@@ -160,5 +161,5 @@ pairs_are_linked s by pair h room =
 every_fresh : (s : StoreState) (p : ℕ) → IsStoreState s → p ≡ next_body s → links_at s p ≡ None
 every_fresh s p h e = links_are s p ∙ lists_none s.base p (all_lists s) (fresh s Ppis p h e, (fresh s Callbacks p h e, (fresh s Dispatches p h e, (fresh s Pendings p h e, tt))))
 
-pub nodes_are_made : NodesAreMade
-nodes_are_made s h room = padded_hobs_are_added s (pool_of Node) [] 32 h (omega (arith, room)) (ap links_bytes (every_fresh s (next_body s) h refl)) refl
+pub nodes_are_texts : NodesAreTexts
+nodes_are_texts s h = record { bytes = ap (λ links. header_bytes POOL 40 ++ links_bytes links) (every_fresh s (next_body s) h refl); len = refl; header = omega arith }

@@ -2,7 +2,6 @@
 use Rattle.std.proofs.Common.{◌⊎◌, ℕ, ◌+◌, ◌≤◌, Bool, true, false, length, arith, subst, Option, Some}
 use Rattle.std.specs.Prelude.{IfSome}
 use Rattle.phys_mem.specs.declared.rom.Rom.{Rom}
-use Rattle.pi_base.specs.Lists.{Each}
 use Rattle.store_model.specs.StoreState.{Range, StoreState}
 use Rattle.store_model.specs.StateFacts.{AreApart, IsBoard, IsHeap, IsMapped, IsPlanned, IsStoreState, rom_range}
 use Rattle.heap_laws.specs.Descriptors.{AreRomsApart}

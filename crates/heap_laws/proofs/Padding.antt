@@ -6,16 +6,15 @@ use Rattle.phys_mem.specs.Region.{replaced}
 use Rattle.hob_codec.specs.declared.kind.TheConstants.{END}
 use Rattle.hob_codec.specs.HobValue.{kind_of}
 use Rattle.hob_codec.specs.HobBytes.{hob_bytes, length_of, joined, header_fields, fields_of}
-use Rattle.store_model.specs.declared.state.Body.TheVariants.{Bytes}
-use Rattle.store_model.specs.StoreState.{appended, end_place, next_body, hob_len, body_len, pool_of}
+use Rattle.store_model.specs.StoreState.{end_place, next_body, hob_len, body_len}
 use Rattle.store_model.specs.HeapImage.{header_bytes, hobs_bytes, hob_list, body_bytes, heap_image}
 use Rattle.store_model.specs.Service.Hob.{hob_entry}
 use Rattle.hob_codec.proofs.RoundTrip.{fields_len}
-use Rattle.heap_laws.specs.Growing.{front_bytes, free_fields}
-use Rattle.heap_laws.specs.Padding.{TailsAreZero, PaddedHobsAreAdded, PoolsAreMade, HobsAreCreated}
+use Rattle.heap_laws.specs.Growing.{front_bytes, free_fields, grown, HobsAreAdded, HobsAreTexts}
+use Rattle.heap_laws.specs.Padding.{TailsAreZero}
 use Rattle.heap_laws.proofs.Parts.{take_len, replaced_len}
 use Rattle.heap_laws.proofs.Facts.{bodies_are_spelled, bodies_len, images_fill}
-use Rattle.heap_laws.proofs.Front.{hobs_are_added}
+use Rattle.heap_laws.proofs.Front.{added_by, append_nil}
 use Rattle.heap_laws.proofs.Skipping.{zeros_are_skipped}
 
 -- behind the HOB list
@@ -57,57 +56,56 @@ read_after xs text p k n le inside =
     let place : p + length text + (k - (p + length text)) ≡ k = omega (arith, le) in
     ap (take n) (behind ∙ drop-drop (k - (p + length text)) (p + length text) xs ∙ ap (λ m. drop m xs) place)
 
--- a HOB whose body ends in zeros
-padded_on : (image fields header text end body : List ℕ) (place k : ℕ) → length fields ≡ 24 → length header ≡ 8 → length end ≡ 8 → 56 ≤ place → place + length header + length text + k + 8 ≤ length image
-    → take k (drop (place + length header + length text) image) ≡ replicate k 0 → body ≡ text ++ replicate k 0
-    → replaced (replaced image 32 fields) place (header ++ body ++ end) ≡ replaced (replaced (replaced image 32 fields) place (header ++ text)) (place + length header + length text + k) end
-padded_on image fields header text end body place k fl hl el le fits there is =
+-- a HOB that ends in zeros
+padded_on : (image fields text end whole : List ℕ) (place k : ℕ) → length fields ≡ 24 → length end ≡ 8 → 56 ≤ place → place + length text + k + 8 ≤ length image
+    → take k (drop (place + length text) image) ≡ replicate k 0 → whole ≡ text ++ replicate k 0
+    → replaced (replaced image 32 fields) place (whole ++ end) ≡ replaced (replaced (replaced image 32 fields) place text) (place + length text + k) end
+padded_on image fields text end whole place k fl el le fits there is =
     let under = replaced image 32 fields in
     let size : length under ≡ length image = replaced_len image fields 32 (omega (arith, fl, le, fits)) in
-    let two : length (header ++ text) ≡ length header + length text = length-append header text in
-    let from : place + length (header ++ text) ≡ place + length header + length text = omega (arith, two) in
-    let zeros : take k (drop (place + length (header ++ text)) under) ≡ replicate k 0 =
-    ap (λ n. take k (drop n under)) from ∙ read_after image fields 32 (place + length header + length text) k (omega (arith, fl, le)) (omega (arith, fits)) ∙ there in
-    let shape : header ++ (text ++ replicate k 0) ++ end ≡ header ++ text ++ replicate k 0 ++ end = ap (λ x. x ++ end) (sym (append_assoc header text (replicate k 0))) in
-    ap (λ x. replaced under place (header ++ x ++ end)) is ∙ ap (replaced under place) shape
-    ∙ sym (zeros_are_skipped under (header ++ text) end place k zeros (omega (arith, two, fits, size, el)))
-    ∙ ap (λ n. replaced (replaced under place (header ++ text)) (n + k) end) from
+    let zeros : take k (drop (place + length text) under) ≡ replicate k 0 =
+    read_after image fields 32 (place + length text) k (omega (arith, fl, le)) (omega (arith, fits)) ∙ there in
+    ap (λ x. replaced under place (x ++ end)) is ∙ sym (zeros_are_skipped under text end place k zeros (omega (arith, fits, size, el)))
 
-pub padded_hobs_are_added : PaddedHobsAreAdded
-padded_hobs_are_added s hob text k h room bytes len =
+pub hobs_are_added : HobsAreAdded
+hobs_are_added s hob taken text k h room is =
     let image = heap_image s in
-    let full = images_fill s h in
-    let zeros : List ℕ = replicate k 0 in
-    let z : length zeros ≡ k = length-replicate k 0 in
-    let sizes : length (body_bytes s (next_body s) hob.body) ≡ body_len hob.body = ap length bytes ∙ length-append text zeros ∙ omega (arith, z, len) in
-    let place = end_place s in
+    let fields = free_fields (grown s hob taken) in
     let header = header_bytes hob.kind (hob_len hob) in
+    let body = body_bytes s (next_body s) hob.body in
+    let zeros : List ℕ = replicate k 0 in
+    let place = end_place s in
+    let full = images_fill s h in
+    let z : length zeros ≡ k = length-replicate k 0 in
     let h8 : length header ≡ 8 = refl in
-    let fits : place + length header + length text + k + 8 ≤ length image = omega (arith, h8, len, room, full) in
-    let there : take k (drop (place + length header + length text) image) ≡ replicate k 0 = tails_are_zero s (place + length header + length text) k h (omega (arith, h8)) (omega (arith, fits, full)) in
-    let last : place + length header + length text + k ≡ place + hob_len hob = omega (arith, h8, len) in
-    hobs_are_added s hob h sizes room
-    ∙ padded_on image (free_fields (appended s hob)) header text (header_bytes END 8) (body_bytes s (next_body s) hob.body) place k refl refl refl (omega arith) fits there bytes
-    ∙ ap (λ n. replaced (replaced (replaced image 32 (free_fields (appended s hob))) place (header ++ text)) n (header_bytes END 8)) last
-
-pub pools_are_made : PoolsAreMade
-pools_are_made s n h room =
-    let zeros : List ℕ = replicate n 0 in
-    let size : length zeros ≡ n = length-replicate n 0 in
-    padded_hobs_are_added s (pool_of (Bytes (replicate n 0))) [] n h room refl (size ∙ omega arith)
+    let both : length (header ++ body) ≡ length header + length body = length-append header body in
+    let same : length (header ++ body) ≡ length text + length zeros = ap length is.bytes ∙ length-append text zeros in
+    let all = is.len in
+    let head = is.header in
+    let hob_is : hob_len hob ≡ 8 + body_len hob.body = refl in
+    let sizes : length body ≡ body_len hob.body = omega (arith, h8, both, same, z, all, hob_is) in
+    let fits : place + length text + k + 8 ≤ length image = omega (arith, all, room, full) in
+    let there : take k (drop (place + length text) image) ≡ replicate k 0 = tails_are_zero s (place + length text) k h (omega (arith, head)) (omega (arith, fits, full)) in
+    let last : place + length text + k ≡ place + hob_len hob = omega (arith, all) in
+    added_by s hob taken h sizes room
+    ∙ padded_on image fields text (header_bytes END 8) (header ++ body) place k refl refl (omega arith) fits there is.bytes
+    ∙ ap (λ n. replaced (replaced (replaced image 32 fields) place text) n (header_bytes END 8)) last
 
 -- a HOB that is encoded
 joined_append : (a b : List (List ℕ)) → joined (a ++ b) ≡ joined a ++ joined b
 joined_append [] b = refl
 joined_append (field ∷ a) b = ap (λ x. field ++ x) (joined_append a b) ∙ sym (append_assoc field (joined a) (joined b))
 
-pub hobs_are_created : HobsAreCreated
-hobs_are_created s hob h is room =
-    let entry = hob_entry hob in
+pub hobs_are_texts : HobsAreTexts
+hobs_are_texts s hob is =
     let fields = joined (fields_of hob) in
-    let header = header_bytes (kind_of hob) (length_of hob) in
-    let whole : hob_bytes hob ≡ header ++ fields = joined_append (header_fields (kind_of hob) (length_of hob)) (fields_of hob) in
-    let same : hob_len entry ≡ length_of hob = fields_len hob is in
-    hobs_are_added s entry h refl (omega (arith, same, room))
-    ∙ ap (λ n. replaced (replaced (heap_image s) 32 (free_fields (appended s entry))) (end_place s) (header_bytes (kind_of hob) n ++ fields ++ header_bytes END 8)) same
-    ∙ ap (λ x. replaced (replaced (heap_image s) 32 (free_fields (appended s entry))) (end_place s) (x ++ header_bytes END 8)) (sym whole)
+    let whole : hob_bytes hob ≡ header_bytes (kind_of hob) (length_of hob) ++ fields = joined_append (header_fields (kind_of hob) (length_of hob)) (fields_of hob) in
+    let same : hob_len (hob_entry hob) ≡ length_of hob = fields_len hob is in
+    let h8 : length (header_bytes (kind_of hob) (length_of hob)) ≡ 8 = refl in
+    let size : length (hob_bytes hob) ≡ 8 + length fields = ap length whole ∙ length-append (header_bytes (kind_of hob) (length_of hob)) fields ∙ omega (arith, h8) in
+    let entry : hob_len (hob_entry hob) ≡ 8 + length fields = refl in
+    record {
+      bytes = ap (λ n. header_bytes (kind_of hob) n ++ fields) same ∙ sym whole ∙ sym (append_nil (hob_bytes hob));
+      len = omega (arith, size, entry);
+      header = omega (arith, size);
+    }

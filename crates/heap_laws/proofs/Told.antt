@@ -1,5 +1,5 @@
 -- What the bytes of a heap tell of its lists.
-use Rattle.std.proofs.Common.{◌≡◌, ℕ, ◌+◌, ◌-◌, ◌<◌, ◌^◌, List, [], ◌∷◌, length, drop, arith, ap, refl, sym, ◌∙◌, Option}
+use Rattle.std.proofs.Common.{◌≡◌, ℕ, ◌+◌, ◌-◌, List, [], ◌∷◌, length, drop, arith, ap, refl, sym, ◌∙◌, Option}
 use Rattle.std.specs.Prelude.{map, option_map, unwrap_or}
 use Rattle.pi_base.specs.declared.guid.Guid.{Guid}
 use Rattle.pi_base.specs.Field.{ReadsWhatItSpells}

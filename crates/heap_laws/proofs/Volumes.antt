@@ -1,9 +1,8 @@
 -- The bases of the volumes that HOBs tell of.
-use Rattle.std.proofs.Common.{◌≡◌, ℕ, zero, suc, ◌+◌, ◌-◌, ◌≤◌, ◌<◌, Bool, true, false, cond, List, [], ◌∷◌, ◌++◌, length, take, drop, arith, ap, refl, sym, ◌∙◌, ◌==◌, append_assoc, length-append, length-take, sum_by}
+use Rattle.std.proofs.Common.{◌≡◌, ℕ, zero, suc, ◌+◌, ◌-◌, ◌≤◌, ◌<◌, Bool, true, false, cond, List, [], ◌∷◌, ◌++◌, length, take, drop, arith, ap, refl, sym, ◌∙◌, ◌==◌, append_assoc, length-append, length-take}
 use Rattle.std.specs.Prelude.{map, filter, replicate}
 use Rattle.std.proofs.lemmas.Bool.Decides.{nat_tests}
 use Rattle.std.proofs.lemmas.List.{drop_at, drop-drop, take_at, take-append-drop, take-append-le}
-use Rattle.std.proofs.lemmas.List.Sums.{sum_by-cons}
 use Rattle.pi_base.proofs.FieldLaws.{little_number-append}
 use Rattle.pi_base.specs.Field.{little_number, ReadsWhatItSpells}
 use Rattle.hob_codec.specs.declared.kind.TheConstants.{END, VOLUME}
@@ -19,7 +18,7 @@ use Rattle.heap_laws.specs.Growing.{front_bytes}
 use Rattle.heap_laws.specs.Word.{short_in, word_in}
 use Rattle.heap_laws.specs.Volumes.{volumes_told, VolumesAreTold}
 use Rattle.heap_laws.proofs.Bodies.{is_spelled}
-use Rattle.heap_laws.proofs.Facts.{bodies_are_spelled, has_room}
+use Rattle.heap_laws.proofs.Facts.{bodies_are_spelled}
 use Rattle.heap_laws.proofs.Items.{other_is}
 use Rattle.heap_laws.proofs.Hobs.{header_tells}
 

@@ -1,6 +1,6 @@
 -- What is read from the hand-off HOB, and the first image.
 -- Own.
-use Rattle.std.specs.Prelude.{◌≡◌, ◌+◌, ◌-◌, ◌≤◌, ◌<◌, ◌^◌, ◌++◌, replicate}
+use Rattle.std.specs.Prelude.{◌≡◌, ◌+◌, ◌-◌, ◌≤◌, ◌++◌, replicate}
 use Rattle.phys_mem.specs.Region.{replaced}
 use Rattle.hob_codec.specs.declared.kind.TheConstants.{END}
 use Rattle.store_model.specs.StoreState.{Board, StoreState, empty_store, end_place, free, page_bytes}

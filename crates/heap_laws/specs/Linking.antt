@@ -3,10 +3,9 @@
 use Rattle.std.specs.Prelude.{◌≡◌, ℕ, ◌+◌, ◌≤◌, List, [], ◌∷◌, Option, Some, None}
 use Rattle.pi_base.specs.Field.{little_bytes}
 use Rattle.phys_mem.specs.Region.{replaced}
-use Rattle.store_model.specs.declared.state.Body.TheVariants.{Node}
 use Rattle.store_model.specs.declared.store_handle.Desc.{Desc}
 use Rattle.store_model.specs.declared.store_handle.DescKind.TheVariants.{Callback, Dispatch}
-use Rattle.store_model.specs.StoreState.{StoreState, end_place, next_body, pool_of}
+use Rattle.store_model.specs.StoreState.{StoreState, end_place, next_body}
 use Rattle.store_model.specs.StateFacts.{IsStoreState}
 use Rattle.store_model.specs.HeapImage.{links_bytes, heap_image}
 use Rattle.store_model.specs.Service.Install.{with_node, with_ppi, with_pending}
@@ -14,7 +13,6 @@ use Rattle.store_model.specs.Service.Notify.{with_note_of, note_entry}
 use Rattle.store_model.specs.declared.store_handle.EntryList.{EntryList}
 use Rattle.store_model.specs.declared.store_handle.EntryList.TheVariants.{Ppis, Callbacks, Dispatches, Pendings}
 use Rattle.heap_laws.specs.Items.{Item, item_of, queued_item, items, places_of, links_before}
-use Rattle.heap_laws.specs.Padding.{with_text}
 
 -- a node with its header and an end HOB have room
 abbrev pub HasNodeRoom : StoreState → Type 0
@@ -35,11 +33,6 @@ named_by (Some last) address heap = replaced heap last (little_bytes 8 address)
 abbrev pub with_last : StoreState → EntryList → Item → List ℕ → List ℕ
 with_last s list item heap =
     named_by (last_place (places_of (items s list))) (s.base + item.node) (replaced heap item.node (links_bytes (Some (links_before item 0))))
-
--- a node that no entry has is zeros, which are there already
-abbrev pub NodesAreMade : Type 0
-NodesAreMade = (s : StoreState) → IsStoreState s → HasNodeRoom s
-    → heap_image (with_node s) ≡ with_text s (pool_of Node) []
 
 -- an entry more, behind the others of its list, over the heap with a node more
 abbrev pub PpisAreLinked : Type 0
