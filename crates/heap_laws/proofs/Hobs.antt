@@ -17,10 +17,10 @@ use Rattle.store_model.specs.Service.Reading.{span_from}
 use Rattle.heap_laws.specs.Spelling.{spelled, AreSpelled}
 use Rattle.heap_laws.specs.Growing.{front_bytes}
 use Rattle.heap_laws.specs.Word.{short_in}
-use Rattle.heap_laws.specs.Hobs.{span_told, HobsAreTold}
+use Rattle.heap_laws.specs.Hobs.{span_told, HobsAreTold, HobPlacesAreInside}
 use Rattle.heap_laws.proofs.Pieces.{piece_later}
 use Rattle.heap_laws.proofs.Bodies.{is_spelled}
-use Rattle.heap_laws.proofs.Facts.{bodies_are_spelled, bodies_len}
+use Rattle.heap_laws.proofs.Facts.{bodies_are_spelled, bodies_len, has_room}
 use Rattle.heap_laws.proofs.Front.{number_is, front_piece}
 use Rattle.heap_laws.proofs.Nodes.{piece_of}
 use Rattle.heap_laws.proofs.Items.{other_is}
@@ -150,3 +150,33 @@ by_place s place false e law h at = by_span s place (span_from 56 s.hobs place) 
 
 pub hobs_are_told : ReadsWhatItSpells → HobsAreTold
 hobs_are_told law s place h at = by_place s place (place == 0) refl law h at
+
+-- a HOB's header lies before the end HOB
+inside_on : (hob : HobEntry) (hobs : List HobEntry) (at place : ℕ) (b : Bool) (span : HobSpan) → (at == place) ≡ b
+    → cond b (Some (record { kind = hob.kind; length = hob_len hob; next = at + hob_len hob })) (span_from (at + hob_len hob) hobs place) ≡ Some span
+    → (span_from (at + hob_len hob) hobs place ≡ Some span → place + 8 ≤ at + hob_len hob + sum_by hob_len hobs) → place + 8 ≤ at + sum_by hob_len (hob ∷ hobs)
+inside_on hob hobs at place true span e found f =
+    let here : at ≡ place = grind (arith, nat_tests, e) in
+    let c : sum_by hob_len (hob ∷ hobs) ≡ hob_len hob + sum_by hob_len hobs = sum_by-cons hob_len hob hobs in
+    omega (arith, here, c)
+inside_on hob hobs at place false span e found f =
+    let c : sum_by hob_len (hob ∷ hobs) ≡ hob_len hob + sum_by hob_len hobs = sum_by-cons hob_len hob hobs in
+    let le = f found in
+    omega (arith, le, c)
+
+header_inside : (hobs : List HobEntry) (at place : ℕ) (span : HobSpan) → span_from at hobs place ≡ Some span → place + 8 ≤ at + sum_by hob_len hobs
+header_inside [] at place span e = cc
+header_inside (hob ∷ hobs) at place span e = inside_on hob hobs at place (at == place) span refl e (header_inside hobs (at + hob_len hob) place span)
+
+found_inside : (s : StoreState) (place : ℕ) (found : Option HobSpan) → span_from 56 s.hobs place ≡ found → IsStoreState s → (is_some found ≡ true) ⊎ (place ≡ end_place s) → place + 8 ≤ s.len
+found_inside s place found e h (◌⊎◌.inr end) = let room = has_room s h in omega (arith, end, room)
+found_inside s place None e h (◌⊎◌.inl some) = cc
+found_inside s place (Some span) e h (◌⊎◌.inl some) = let le = header_inside s.hobs 56 place span e in let room = has_room s h in omega (arith, le, room)
+
+placed_inside : (s : StoreState) (place : ℕ) (b : Bool) → (place == 0) ≡ b → IsStoreState s
+    → (is_some (cond b (Some (record { kind = HANDOFF; length = 56; next = 56 })) (span_from 56 s.hobs place)) ≡ true) ⊎ (place ≡ end_place s) → place + 8 ≤ s.len
+placed_inside s place true e h at = let same : place ≡ 0 = grind (arith, nat_tests, e) in let room = has_room s h in omega (arith, same, room)
+placed_inside s place false e h at = found_inside s place (span_from 56 s.hobs place) refl h at
+
+pub hob_places_are_inside : HobPlacesAreInside
+hob_places_are_inside s place h at = placed_inside s place (place == 0) refl h at

@@ -1,9 +1,9 @@
 -- What is read from the header of a HOB.
 -- Own.
-use Rattle.std.specs.Prelude.{◌≡◌, ℕ, ◌+◌, ◌==◌, if◌then◌else◌, List, Option, Some, None}
+use Rattle.std.specs.Prelude.{◌≡◌, ℕ, ◌+◌, ◌≤◌, ◌==◌, if◌then◌else◌, List, Option, Some, None}
 use Rattle.hob_codec.specs.declared.kind.TheConstants.{END}
 use Rattle.store_model.specs.declared.store_handle.HobSpan.{HobSpan}
-use Rattle.store_model.specs.StoreState.{StoreState}
+use Rattle.store_model.specs.StoreState.{StoreState, header_len}
 use Rattle.store_model.specs.StateFacts.{IsStoreState}
 use Rattle.store_model.specs.StoreCall.{IsHobPlace}
 use Rattle.store_model.specs.HeapImage.{heap_image}
@@ -18,3 +18,7 @@ span_told heap place =
 
 abbrev pub HobsAreTold : Type 0
 HobsAreTold = (s : StoreState) (place : ℕ) → IsStoreState s → IsHobPlace place s → hob_at s place ≡ span_told (heap_image s) place
+
+-- its header lies in the heap
+abbrev pub HobPlacesAreInside : Type 0
+HobPlacesAreInside = (s : StoreState) (place : ℕ) → IsStoreState s → IsHobPlace place s → place + header_len ≤ s.len

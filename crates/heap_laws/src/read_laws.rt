@@ -2,7 +2,7 @@
 ghost use Rattle.heap_laws.specs.Chain.{DescriptorIsRead, ListsAreShort, NextIsRead, NodesAreInside, NumberIsRead, SecondIsRead};
 ghost use Rattle.heap_laws.specs.Descriptors.{FlagsAreRead, GuidsAreRead, NumbersAreRead};
 ghost use Rattle.heap_laws.specs.Front.{BootModesAreRead, EndsAreRead, FreeBottomsAreRead, FreeIsRead, FreeTopsAreRead};
-ghost use Rattle.heap_laws.specs.Hobs.{HobsAreTold};
+ghost use Rattle.heap_laws.specs.Hobs.{HobPlacesAreInside, HobsAreTold};
 ghost use Rattle.heap_laws.specs.Volumes.{VolumesAreTold};
 ghost use Rattle.heap_laws.specs.Walk.{ChainsAreLists};
 
@@ -44,6 +44,7 @@ pub fn descriptors_read()
 /// What is read from the headers of HOBs.
 pub fn hobs_told()
     ensures header { HobsAreTold }
+    ensures inside { HobPlacesAreInside }
     ensures volumes { VolumesAreTold }
 {
     little_endian();

@@ -1,0 +1,4 @@
+pub mod HeapMemory
+pub mod Added
+pub mod Created
+pub mod Pages
