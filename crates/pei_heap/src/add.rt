@@ -43,7 +43,14 @@ impl Heap {
     ghost use Rattle.pei_heap.specs.Added.{IsToAdd};
 
     // Adds a HOB of a length, which begins with these bytes and is zero behind them, and answers its offset. What is free then ends at `top`.
-    pub(crate) fn add(&self, memory: &mut PhysMem, top: u64, head: &[u8], rest: &[u8], len: u16) -> u64
+    pub(crate) fn add(
+        &self,
+        memory: &mut PhysMem,
+        top: u64,
+        head: &[u8],
+        rest: &[u8],
+        len: u16,
+    ) -> u64
         requires { (s : StoreState) × (hob : HobEntry) × (taken : ℕ) × IsHeapOf self.now memory.old s
             × IsToAdd s hob taken top (head.now ++ rest.now) len }
         ensures place { (s : StoreState) → IsHeapOf self.now memory.old s → result ≡ end_place s }

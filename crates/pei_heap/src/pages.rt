@@ -67,7 +67,14 @@ impl Heap {
     }
 
     /// Takes pages from the end of what is left of the page region, of which so many bytes are taken already, before the move. None where they have no room there or their HOB has none.
-    pub fn early_pages(&self, memory: &mut PhysMem, region: &Span, early: u64, memory_type: u32, count: u32) -> Option<u64>
+    pub fn early_pages(
+        &self,
+        memory: &mut PhysMem,
+        region: &Span,
+        early: u64,
+        memory_type: u32,
+        count: u32,
+    ) -> Option<u64>
         requires heap { (s : StoreState) × IsEarly self.now memory.old region.now early s }
         requires some { region.now.len ≢ 0 }
         ensures { (s : StoreState) → IsEarly self.now memory.old region.now early s

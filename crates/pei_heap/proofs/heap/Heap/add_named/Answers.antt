@@ -8,9 +8,13 @@ pub add-requires : goal.add-requires
 add-requires c =
     let s = c.requires.heap.0 in
     let name = c.args.name.now.0 in
-    let body = c.args.body.now in
-    (s, hob_entry (NamedHob name body), s.taken, c.requires.heap.1,
-      named_to_add s name body c.as_slice.result.now c.args.top c.args.len c.requires.heap.2 c.named_front-front.ensures.name (c.as_slice.ensures ∙ c.named_front-front.ensures.front) c.requires.len)
+    let body = c.args.body.now in (
+      s,
+      hob_entry (NamedHob name body),
+      s.taken,
+      c.requires.heap.1,
+      named_to_add s name body c.as_slice.result.now c.args.top c.args.len c.requires.heap.2 c.named_front-front.ensures.name (c.as_slice.ensures ∙ c.named_front-front.ensures.front) c.requires.len,
+    )
 
 pub returns-clause-added : goal.returns-clause-added
 returns-clause-added c s is room =
