@@ -17,26 +17,33 @@ use Rattle.heap_laws.specs.Told.{queue_told, image_told, entry_said}
 
 abbrev pub ListsAreTold : Type 0
 ListsAreTold = (s : StoreState) → IsStoreState s
-    → (image_told s Ppis ≡ map (entry_said s) s.ppis) × (image_told s Callbacks ≡ map (entry_said s) s.callbacks) × (image_told s Dispatches ≡ map (entry_said s) s.dispatches)
+    → (image_told s Ppis ≡ map (entry_said s) s.ppis) × (image_told s Callbacks ≡ map (entry_said s) s.callbacks)
+    × (image_told s Dispatches ≡ map (entry_said s) s.dispatches)
 
 abbrev pub PpiIsTold : Type 0
-PpiIsTold = (s : StoreState) (place : ℕ) → IsStoreState s → ppi_at s place ≡ option_map (λ told. (told.guid, told.number, told.by)) (slice_get (image_told s Ppis) place)
+PpiIsTold = (s : StoreState) (place : ℕ) → IsStoreState s
+    → ppi_at s place ≡ option_map (λ told. (told.guid, told.number, told.by)) (slice_get (image_told s Ppis) place)
 
 abbrev pub NthIsTold : Type 0
 NthIsTold = (s : StoreState) (guid : Guid) (n : ℕ) → IsStoreState s
-    → nth_ppi s guid n ≡ option_map (λ told. (record { offset = told.place }, told.number)) (slice_get (filter (λ told. same_guid told.guid guid) (image_told s Ppis)) n)
+    → nth_ppi s guid n
+    ≡ option_map (λ told. (record { offset = told.place }, told.number)) (slice_get (filter (λ told. same_guid told.guid guid) (image_told s Ppis)) n)
 
 abbrev pub HasIsTold : Type 0
-HasIsTold = (s : StoreState) (guid : Guid) → IsStoreState s → has_ppi s guid ≡ list_any (λ told. same_guid told.guid guid) (image_told s Ppis)
+HasIsTold = (s : StoreState) (guid : Guid) → IsStoreState s
+    → has_ppi s guid ≡ list_any (λ told. same_guid told.guid guid) (image_told s Ppis)
 
 abbrev pub CallbackIsTold : Type 0
-CallbackIsTold = (s : StoreState) (place : ℕ) → IsStoreState s → note_at s Callback place ≡ option_map (λ told. (told.guid, told.number)) (slice_get (image_told s Callbacks) place)
+CallbackIsTold = (s : StoreState) (place : ℕ) → IsStoreState s
+    → note_at s Callback place ≡ option_map (λ told. (told.guid, told.number)) (slice_get (image_told s Callbacks) place)
 
 abbrev pub DispatchIsTold : Type 0
-DispatchIsTold = (s : StoreState) (place : ℕ) → IsStoreState s → note_at s Dispatch place ≡ option_map (λ told. (told.guid, told.number)) (slice_get (image_told s Dispatches) place)
+DispatchIsTold = (s : StoreState) (place : ℕ) → IsStoreState s
+    → note_at s Dispatch place ≡ option_map (λ told. (told.guid, told.number)) (slice_get (image_told s Dispatches) place)
 
 abbrev pub PendingIsTold : Type 0
-PendingIsTold = (s : StoreState) (place : ℕ) → IsStoreState s → pending_at s place ≡ slice_get (queue_told s.board.roms (heap_image s) s.base (first_address s.base (items s Pendings))) place
+PendingIsTold = (s : StoreState) (place : ℕ) → IsStoreState s
+    → pending_at s place ≡ slice_get (queue_told s.board.roms (heap_image s) s.base (first_address s.base (items s Pendings))) place
 
 -- two states with one image, one base, the same volumes and the same first nodes
 pub record LookAlike (s t : StoreState) : Type 0 where

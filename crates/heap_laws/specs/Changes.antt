@@ -24,12 +24,14 @@ PairsArePopped = (s : StoreState) (first : Pending) (rest : List Pending) → Is
 
 -- the first PPI that names a descriptor names another: the second word of its node
 abbrev pub PpisAreRenamed : Type 0
-PpisAreRenamed = (s : StoreState) (old new : ℕ) (entry : Entry) (rest : List Entry) → IsStoreState s → drop (place_of s.ppis old) s.ppis ≡ entry ∷ rest
+PpisAreRenamed = (s : StoreState) (old new : ℕ) (entry : Entry) (rest : List Entry) → IsStoreState s
+    → drop (place_of s.ppis old) s.ppis ≡ entry ∷ rest
     → heap_image (record s { ppis = renamed s.ppis old new }) ≡ replaced (heap_image s) (entry.node + 8) (little_bytes 8 (s.base + new))
 
 -- bytes are written into a pool
 abbrev pub PoolsAreWritten : Type 0
-PoolsAreWritten = (s : StoreState) (place at : ℕ) (old bytes : List ℕ) → IsStoreState s → body_at s place ≡ Some (Bytes old) → at + length bytes ≤ length old
+PoolsAreWritten = (s : StoreState) (place at : ℕ) (old bytes : List ℕ) → IsStoreState s → body_at s place ≡ Some (Bytes old)
+    → at + length bytes ≤ length old
     → heap_image (record s { hobs = with_body (written at bytes) handoff_len s.hobs place }) ≡ replaced (heap_image s) (place + at) bytes
 
 -- the hand-off HOB's boot mode

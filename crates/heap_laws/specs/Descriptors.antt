@@ -32,7 +32,8 @@ abbrev pub VolumesAreApart : Type 0
 VolumesAreApart = (s : StoreState) → IsStoreState s → AreRomsApart s
 
 abbrev pub FlagsAreRead : Type 0
-FlagsAreRead = (s : StoreState) (place : ℕ) (d : DescriptorBody) → IsStoreState s → body_at s place ≡ Some (Descriptor d) → word_in (heap_image s) place ≡ kind_flags d.kind
+FlagsAreRead = (s : StoreState) (place : ℕ) (d : DescriptorBody) → IsStoreState s → body_at s place ≡ Some (Descriptor d)
+    → word_in (heap_image s) place ≡ kind_flags d.kind
 
 abbrev pub GuidsAreRead : Type 0
 GuidsAreRead = (s : StoreState) (place : ℕ) (d : DescriptorBody) → IsStoreState s → body_at s place ≡ Some (Descriptor d)

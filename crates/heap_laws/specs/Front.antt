@@ -28,4 +28,5 @@ FreeIsRead = (s : StoreState) → IsStoreState s → word_in (heap_image s) 32 -
 -- a hand-off HOB and an end HOB over zeros
 abbrev pub FirstImages : Type 0
 FirstImages = (board : Board) → board.pages + 64 ≤ board.temp.len
-    → heap_image (empty_store board) ≡ replaced (replicate (board.temp.len - board.pages) 0) 0 (front_bytes (empty_store board) ++ header_bytes END 8)
+    → heap_image (empty_store board)
+    ≡ replaced (replicate (board.temp.len - board.pages) 0) 0 (front_bytes (empty_store board) ++ header_bytes END 8)

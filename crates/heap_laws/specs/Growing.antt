@@ -49,7 +49,8 @@ HasHobRoom s hob = end_place s + hob_len hob + header_len ≤ s.len
 
 -- zeros are there already, and need not be written
 abbrev pub HobsAreAdded : Type 0
-HobsAreAdded = (s : StoreState) (hob : HobEntry) (taken : ℕ) (text : List ℕ) (zeros : ℕ) → IsStoreState s → HasHobRoom s hob → IsText s hob text zeros
+HobsAreAdded = (s : StoreState) (hob : HobEntry) (taken : ℕ) (text : List ℕ) (zeros : ℕ) → IsStoreState s → HasHobRoom s hob
+    → IsText s hob text zeros
     → heap_image (grown s hob taken) ≡ with_hob (heap_image s) (free_fields (grown s hob taken)) (end_place s) text (hob_len hob)
 
 -- a HOB as it is encoded

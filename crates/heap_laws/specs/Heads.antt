@@ -40,7 +40,8 @@ LastIsInside = (s : StoreState) (list : EntryList) → IsStoreState s → last_a
 -- an item more
 abbrev pub FirstIsPushed : Type 0
 FirstIsPushed = (s : StoreState) (list : EntryList) (new : Item) → IsStoreState s
-    → first_address s.base (items s list ++ new ∷ []) ≡ (if first_address s.base (items s list) == 0 then s.base + new.node else first_address s.base (items s list))
+    → first_address s.base (items s list ++ new ∷ [])
+    ≡ (if first_address s.base (items s list) == 0 then s.base + new.node else first_address s.base (items s list))
 
 abbrev pub LastIsPushed : Type 0
 LastIsPushed = (base : ℕ) (list : List Item) (new : Item) → last_address base (list ++ new ∷ []) ≡ base + new.node
@@ -48,10 +49,13 @@ LastIsPushed = (base : ℕ) (list : List Item) (new : Item) → last_address bas
 -- the lists that get one; all others stay
 pub record ItemsArePushed : Type 0 where
   pub ppi : (s : StoreState) (by : ℕ) (d : Desc) → items (with_ppi by s d) Ppis ≡ items s Ppis ++ item_of s.base (note_entry s d by) ∷ []
-  pub callback : (s : StoreState) (by : ℕ) (d : Desc) → items (with_note_of Callback by s d) Callbacks ≡ items s Callbacks ++ item_of s.base (note_entry s d by) ∷ []
-  pub dispatch : (s : StoreState) (by : ℕ) (d : Desc) → items (with_note_of Dispatch by s d) Dispatches ≡ items s Dispatches ++ item_of s.base (note_entry s d by) ∷ []
+  pub callback : (s : StoreState) (by : ℕ) (d : Desc)
+      → items (with_note_of Callback by s d) Callbacks ≡ items s Callbacks ++ item_of s.base (note_entry s d by) ∷ []
+  pub dispatch : (s : StoreState) (by : ℕ) (d : Desc)
+      → items (with_note_of Dispatch by s d) Dispatches ≡ items s Dispatches ++ item_of s.base (note_entry s d by) ∷ []
   pub pair : (s : StoreState) (by : ℕ) (pair : ℕ × ℕ)
-      → items (with_pending by s pair) Pendings ≡ items s Pendings ++ queued_item s.base (record { node = next_body s; descriptor = pair.1; ppi = pair.0; by = by }) ∷ []
+      → items (with_pending by s pair) Pendings
+      ≡ items s Pendings ++ queued_item s.base (record { node = next_body s; descriptor = pair.1; ppi = pair.0; by = by }) ∷ []
 
 -- the queue without its first pair
 abbrev pub FirstIsPopped : Type 0
@@ -60,11 +64,14 @@ FirstIsPopped = (s : StoreState) (first : Pending) (rest : List Pending) → IsS
 
 abbrev pub LastIsPopped : Type 0
 LastIsPopped = (s : StoreState) (first : Pending) (rest : List Pending) → IsStoreState s → s.pendings ≡ first ∷ rest
-    → last_address s.base (items (without_first s first rest) Pendings) ≡ (if word_in (heap_image s) first.node == 0 then 0 else last_address s.base (items s Pendings))
+    → last_address s.base (items (without_first s first rest) Pendings)
+    ≡ (if word_in (heap_image s) first.node == 0 then 0 else last_address s.base (items s Pendings))
 
 -- a PPI that names another descriptor has its node
 abbrev pub PlacesAreKept : Type 0
-PlacesAreKept = (s : StoreState) (old new : ℕ) → places_of (items (record s { ppis = renamed s.ppis old new }) Ppis) ≡ places_of (items s Ppis)
+PlacesAreKept = (s : StoreState) (old new : ℕ)
+    → places_of (items (record s { ppis = renamed s.ppis old new }) Ppis) ≡ places_of (items s Ppis)
 
 abbrev pub EndsAreKept : Type 0
-EndsAreKept = (base : ℕ) (a b : List Item) → places_of a ≡ places_of b → (first_address base a ≡ first_address base b) × (last_address base a ≡ last_address base b)
+EndsAreKept = (base : ℕ) (a b : List Item) → places_of a ≡ places_of b
+    → (first_address base a ≡ first_address base b) × (last_address base a ≡ last_address base b)

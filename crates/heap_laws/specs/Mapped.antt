@@ -49,7 +49,8 @@ pub record IsMemoryOf (s : StoreState) (memory : PhysMem) : Type 0 where
 -- memory of a board as it is made, before anything is written
 abbrev pub FirstMemories : Type 0
 FirstMemories = (board : Board) (memory : PhysMem) → board.pages ≤ board.temp.len
-    → regions memory ≡ record { base = board.temp.base; bytes = replicate board.temp.len 0; writable = true } ∷ record { base = board.ram.base; bytes = replicate board.ram.len 0; writable = true } ∷ map rom_region board.roms
+    → regions memory
+    ≡ record { base = board.temp.base; bytes = replicate board.temp.len 0; writable = true } ∷ record { base = board.ram.base; bytes = replicate board.ram.len 0; writable = true } ∷ map rom_region board.roms
     → HasHeap (layout_of (empty_store board)) (replicate (board.temp.len - board.pages) 0) memory
 
 -- bytes read inside the heap are those of the heap

@@ -35,9 +35,11 @@ abbrev pub all_done : StoreState → Done
 all_done s = record { nodes = λ _. true; descriptors = is_named s; pages = λ _. true }
 
 abbrev pub DescriptorsAreMoved : Type 0
-DescriptorsAreMoved = (s : StoreState) (to : Range) (done : Done) (hobs : List HobEntry) (at p : ℕ) (d : DescriptorBody) → AreSpelled (half s to done) hobs → body_from at hobs p ≡ Some (Descriptor d)
+DescriptorsAreMoved = (s : StoreState) (to : Range) (done : Done) (hobs : List HobEntry) (at p : ℕ) (d : DescriptorBody)
+    → AreSpelled (half s to done) hobs → body_from at hobs p ≡ Some (Descriptor d)
     → length (descriptor_bytes to.base p (moved_descriptor s to d)) ≡ body_len (Descriptor d)
-    → spelled (half s to (with_descriptor done p)) at hobs ≡ replaced (spelled (half s to done) at hobs) (p - at) (descriptor_bytes to.base p (moved_descriptor s to d))
+    → spelled (half s to (with_descriptor done p)) at hobs
+    ≡ replaced (spelled (half s to done) at hobs) (p - at) (descriptor_bytes to.base p (moved_descriptor s to d))
 
 -- one node more, and the pages of one HOB more
 abbrev pub with_node_done : Done → ℕ → Done
@@ -47,18 +49,24 @@ abbrev pub with_pages_done : Done → ℕ → Done
 with_pages_done done p = record done { pages = λ place. done.pages place || place == p }
 
 abbrev pub NodesAreMoved : Type 0
-NodesAreMoved = (s : StoreState) (to : Range) (done : Done) (hobs : List HobEntry) (at p : ℕ) → AreSpelled (half s to done) hobs → body_from at hobs p ≡ Some Node
-    → spelled (half s to (with_node_done done p)) at hobs ≡ replaced (spelled (half s to done) at hobs) (p - at) (node_bytes (migrated_to s to) p)
+NodesAreMoved = (s : StoreState) (to : Range) (done : Done) (hobs : List HobEntry) (at p : ℕ) → AreSpelled (half s to done) hobs
+    → body_from at hobs p ≡ Some Node
+    → spelled (half s to (with_node_done done p)) at hobs
+    ≡ replaced (spelled (half s to done) at hobs) (p - at) (node_bytes (migrated_to s to) p)
 
 abbrev pub PagesAreMoved : Type 0
-PagesAreMoved = (s : StoreState) (to : Range) (done : Done) (hobs : List HobEntry) (at p : ℕ) (a : AllocationBody) → AreSpelled (half s to done) hobs → body_from at hobs p ≡ Some (Allocation a)
-    → spelled (half s to (with_pages_done done p)) at hobs ≡ replaced (spelled (half s to done) at hobs) (p - at) (allocation_bytes (to.base + to.len) a)
+PagesAreMoved = (s : StoreState) (to : Range) (done : Done) (hobs : List HobEntry) (at p : ℕ) (a : AllocationBody)
+    → AreSpelled (half s to done) hobs → body_from at hobs p ≡ Some (Allocation a)
+    → spelled (half s to (with_pages_done done p)) at hobs
+    ≡ replaced (spelled (half s to done) at hobs) (p - at) (allocation_bytes (to.base + to.len) a)
 
 -- where all is done, these are the bytes of the state after the move
 abbrev pub HeapsAreMoved : Type 0
-HeapsAreMoved = (s : StoreState) (to : Range) (hobs : List HobEntry) (at : ℕ) → Each (λ hob. (place : ℕ) → body_len (moved_body s to place hob.body) ≡ body_len hob.body) hobs
+HeapsAreMoved = (s : StoreState) (to : Range) (hobs : List HobEntry) (at : ℕ)
+    → Each (λ hob. (place : ℕ) → body_len (moved_body s to place hob.body) ≡ body_len hob.body) hobs
     → spelled (half s to (all_done s)) at hobs ≡ hobs_bytes (migrated_to s to) at (moved_hobs s to at hobs)
 
 -- a number is shifted once: what was shifted is shifted no more
 abbrev pub ShiftsAreOnce : Type 0
-ShiftsAreOnce = (s : StoreState) (to : Range) (n : ℕ) → IsStoreState s → s.moved ≡ false → s.planned ≡ Some to → moved_number s to (moved_number s to n) ≡ moved_number s to n
+ShiftsAreOnce = (s : StoreState) (to : Range) (n : ℕ) → IsStoreState s → s.moved ≡ false → s.planned ≡ Some to
+    → moved_number s to (moved_number s to n) ≡ moved_number s to n

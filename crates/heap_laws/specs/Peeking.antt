@@ -10,4 +10,5 @@ use Rattle.store_model.specs.MemoryReading as M
 use Rattle.heap_laws.specs.Mapped.{IsMemoryOf}
 
 abbrev pub MemoryIsRead : Type 0
-MemoryIsRead = (s : StoreState) (memory : PhysMem) (at n : ℕ) → IsStoreState s → IsMemoryOf s memory → R.bytes_at (regions memory) at n ≡ M.bytes_at s at n
+MemoryIsRead = (s : StoreState) (memory : PhysMem) (at n : ℕ) → IsStoreState s → IsMemoryOf s memory
+    → R.bytes_at (regions memory) at n ≡ M.bytes_at s at n

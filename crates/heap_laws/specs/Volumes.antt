@@ -17,4 +17,5 @@ volumes_told (suc n) heap at =
     else volumes_told n heap (at + short_in heap (at + 2))
 
 abbrev pub VolumesAreTold : Type 0
-VolumesAreTold = (s : StoreState) (fuel : ℕ) → IsStoreState s → length s.hobs < fuel → fv_bases s ≡ volumes_told fuel (heap_image s) handoff_len
+VolumesAreTold = (s : StoreState) (fuel : ℕ) → IsStoreState s → length s.hobs < fuel
+    → fv_bases s ≡ volumes_told fuel (heap_image s) handoff_len

@@ -1,0 +1,4 @@
+pub mod Nth
+pub mod Entries
+pub mod Ends
+pub mod Pushed
