@@ -1,4 +1,5 @@
 pub mod Nth
+pub mod NodeFields
 pub mod Entries
 pub mod Ends
 pub mod Pushed

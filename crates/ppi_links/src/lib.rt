@@ -3,10 +3,10 @@
 
 mod entry;
 mod heads;
-mod nodes;
+mod node;
 mod pushing;
 
 pub use entry::NewEntry;
 pub use heads::Heads;
-pub use nodes::nth_node;
+pub use node::{Node, nth_node};
 pub use pushing::push;

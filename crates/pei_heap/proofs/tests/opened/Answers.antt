@@ -1,4 +1,4 @@
-use Rattle.std.proofs.Common.{◌≡◌, ◌≤◌, ◌+◌, ◌-◌, refl, arith}
+use Rattle.std.proofs.Common.{refl, arith}
 use Rattle.store_model.specs.StoreState.{empty_store}
 use Rattle.pei_heap.proofs.TestBoards.{board, test_fresh}
 use Rattle.pei_heap.proofs.tests.opened.Goals as goal

@@ -1,11 +1,11 @@
-use Rattle.std.proofs.Common.{◌≡◌, ◌+◌, ◌<◌, Some, length, ap, sym, ◌∙◌, arith, subst}
+use Rattle.std.proofs.Common.{◌≡◌, ◌+◌, Some, length, ap, sym, ◌∙◌, arith, subst}
 use Rattle.store_model.specs.StoreState.{next_body}
 use Rattle.store_model.specs.HeapImage.{heap_image, links_bytes}
 use Rattle.store_model.specs.Service.Install.{with_node}
 use Rattle.heap_laws.specs.Mapped.{layout_of}
 use Rattle.ppi_links.specs.declared.heads.Heads.{Heads}
 use Rattle.ppi_links.specs.Linked.{AreHeads}
-use Rattle.ppi_links.specs.NewEntry.{second_of, with_entry, with_last_node}
+use Rattle.ppi_links.specs.NewEntry.{with_entry, with_last_node}
 use Rattle.ppi_links.proofs.Ends.{few_entries, still_heads}
 use Rattle.ppi_links.proofs.Pushed.{AreLinked, node_room, pushed, tail_inside}
 use Rattle.ppi_links.proofs.pushing.push.Goals as goal

@@ -1,4 +1,4 @@
-use Rattle.std.proofs.Common.{◌≡◌, ◌≤◌, length, arith, ap, ◌∙◌}
+use Rattle.std.proofs.Common.{◌≡◌, arith, ap, ◌∙◌}
 use Rattle.store_model.specs.HeapImage.{heap_image}
 use Rattle.heap_laws.specs.Mapped.{layout_of}
 use Rattle.heap_laws.specs.Word.{word_in}

@@ -1,4 +1,4 @@
-use Rattle.std.proofs.Common.{◌≡◌, ◌≤◌, ◌+◌, length, ap, sym, ◌∙◌, arith}
+use Rattle.std.proofs.Common.{◌≡◌, ◌+◌, length, ap, sym, ◌∙◌, arith}
 use Rattle.store_model.specs.HeapImage.{heap_image}
 use Rattle.heap_laws.specs.Mapped.{layout_of}
 use Rattle.heap_laws.specs.Word.{short_in}
