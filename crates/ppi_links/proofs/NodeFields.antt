@@ -14,7 +14,7 @@ use Rattle.store_model.specs.HeapImage.{heap_image}
 use Rattle.heap_laws.specs.Chain.{DescriptorIsRead, IsHeaded, NodesAreInside, NumberIsRead, SecondIsRead}
 use Rattle.heap_laws.specs.Items.{Item, item_of, items, queued_item}
 use Rattle.heap_laws.specs.Word.{word_in}
-use Rattle.heap_laws.proofs.Facts.{images_fill}
+use Rattle.heap_laws.proofs.Facts.{heaps_are_low, images_fill}
 use Rattle.ppi_links.specs.declared.node.Node.{Node}
 use Rattle.ppi_links.specs.Node.{node_of}
 
@@ -45,19 +45,20 @@ number_fits s Pendings i item h e = pairs_fit s s.base s.pendings i item h.pendi
 
 -- its bytes lie in the heap
 pub node_inside : (s : StoreState) (list : EntryList) (heap : List ℕ) (base head place at : ℕ) (item : Item) → NodesAreInside → IsHeaded s list heap base head → slice_get (items s list) place ≡ Some item → at ≡ s.base + item.node
-    → (base ≤ at) × (at - base + 32 ≤ length heap)
+    → (base ≤ at) × (at - base + 32 ≤ length heap) × (at - base + 32 < 2 ^ 64)
 node_inside s list heap base head place at item law h e here =
     let rest = behind (items s list) place item e in
     let inside = law s list place item rest.0 h.state rest.1 in
     let size : length heap ≡ s.len = ap length h.image ∙ images_fill s h.state in
     let start = h.start in
-    (omega (arith, here, start), omega (arith, here, start, size, inside.1))
+    let low : s.base + s.len ≤ 0x10000000000 = heaps_are_low s h.state in
+    (omega (arith, here, start), omega (arith, here, start, size, inside.1), omega (arith, here, start, low, inside.1))
 
 -- its fields
 pub node_is : (s : StoreState) (list : EntryList) (heap : List ℕ) (base head place at descriptor second number : ℕ) (item : Item) → DescriptorIsRead → SecondIsRead → NumberIsRead → IsHeaded s list heap base head
     → slice_get (items s list) place ≡ Some item → at ≡ s.base + item.node
     → descriptor ≡ word_in heap (at - base + 8) → second ≡ word_in heap (at - base + 16) → number ≡ word_in heap (at - base + 24)
-    → record { at = at; descriptor = descriptor; second = second; by = number % 4294967296 } ≡ node_of s.base item
+    → record { at = at; descriptor = descriptor; second = second; by = number } ≡ node_of s.base item
 node_is s list heap base head place at descriptor second number item first next last h e here d t n =
     let rest = behind (items s list) place item e in
     let start = h.start in
@@ -66,10 +67,20 @@ node_is s list heap base head place at descriptor second number item first next 
     let d_is : descriptor ≡ item.descriptor = d ∙ ap (λ x. word_in x (at - base + 8)) h.image ∙ ap (λ k. word_in (heap_image s) (k + 8)) there ∙ first s list place item rest.0 h.state rest.1 in
     let t_is : second ≡ item.second = t ∙ ap (λ x. word_in x (at - base + 16)) h.image ∙ ap (λ k. word_in (heap_image s) (k + 16)) there ∙ next s list place item rest.0 h.state rest.1 in
     let n_is : number ≡ item.number = n ∙ ap (λ x. word_in x (at - base + 24)) h.image ∙ ap (λ k. word_in (heap_image s) (k + 24)) there ∙ last s list place item rest.0 h.state rest.1 (omega (arith, fits)) in
-    let small : number % 4294967296 ≡ item.number = omega (arith, n_is, fits) in
     let made : (a b c e : ℕ) → Node = λ a b c e. record { at = a; descriptor = b; second = c; by = e } in
-    ap (λ a. made a descriptor second (number % 4294967296)) here ∙ ap (λ b. made (s.base + item.node) b second (number % 4294967296)) d_is
-    ∙ ap (λ c. made (s.base + item.node) item.descriptor c (number % 4294967296)) t_is ∙ ap (λ x. made (s.base + item.node) item.descriptor item.second x) small
+    ap (λ a. made a descriptor second (number)) here ∙ ap (λ b. made (s.base + item.node) b second (number)) d_is
+    ∙ ap (λ c. made (s.base + item.node) item.descriptor c (number)) t_is ∙ ap (λ x. made (s.base + item.node) item.descriptor item.second x) n_is
+
+-- and its number fits
+pub number_small : (s : StoreState) (list : EntryList) (heap : List ℕ) (base head place at number : ℕ) (item : Item) → NumberIsRead → IsHeaded s list heap base head
+    → slice_get (items s list) place ≡ Some item → at ≡ s.base + item.node → number ≡ word_in heap (at - base + 24) → number < 2 ^ 32
+number_small s list heap base head place at number item last h e here n =
+    let rest = behind (items s list) place item e in
+    let start = h.start in
+    let there : at - base ≡ item.node = omega (arith, here, start) in
+    let fits = number_fits s list place item h.state e in
+    let n_is : number ≡ item.number = n ∙ ap (λ x. word_in x (at - base + 24)) h.image ∙ ap (λ k. word_in (heap_image s) (k + 24)) there ∙ last s list place item rest.0 h.state rest.1 (omega (arith, fits)) in
+    omega (arith, n_is, fits)
 
 -- the item of an address that was found
 pub found_item : (s : StoreState) (list : List Item) (at : ℕ) (found : Option Item) → Some at ≡ option_map (λ (item : Item). s.base + item.node) found → (item : Item) × (found ≡ Some item) × (at ≡ s.base + item.node)
