@@ -19,7 +19,7 @@ use Rattle.store_model.specs.MemoryReading.{rom_bytes}
 use Rattle.store_laws.specs.Fitting.{IsFittingDescriptor}
 use Rattle.store_laws.proofs.Fits.{all_fit, body_is_of}
 use Rattle.heap_laws.specs.Word.{word_in}
-use Rattle.heap_laws.specs.Descriptors.{AreRomsApart, guid_read, FlagsAreRead, GuidsAreRead, NumbersAreRead}
+use Rattle.heap_laws.specs.Descriptors.{AreRomsApart, guid_read, FlagsAreRead, AddressesAreRead, GuidsAreRead, NumbersAreRead}
 use Rattle.heap_laws.proofs.Facts.{bodies_are_spelled, places_are_inside, images_fill, has_room}
 use Rattle.heap_laws.proofs.Outside.{roms_are_apart}
 use Rattle.heap_laws.proofs.Front.{number_is, low_word, append_nil}
@@ -61,8 +61,8 @@ address_fits : (s : StoreState) (place : ℕ) (stands : Option ℕ) → IsStoreS
 address_fits s place None h le fits = let room = has_room s h in low_word s (s.base + place + 24) h (omega (arith, le, room))
 address_fits s place (Some address) h le fits = omega (arith, fits)
 
-address_is : (s : StoreState) (place : ℕ) (d : DescriptorBody) → ReadsWhatItSpells → IsStoreState s → body_at s place ≡ Some (Descriptor d) → word_in (heap_image s) (place + 8) ≡ guid_address s.base place d.stands
-address_is s place d law h found =
+pub address_is : ReadsWhatItSpells → AddressesAreRead
+address_is law s place d h found =
     let fits = fits_fact s place d h found in
     let inside = places_are_inside s place (Descriptor d) found in
     let long = descriptor_long d.stands in
@@ -122,4 +122,4 @@ guid_by s place d (Some address) is h apart found fact =
 
 pub guids_are_read : ReadsWhatItSpells → GuidsAreRead
 guids_are_read law s place d h found =
-    ap (guid_read s.board.roms (heap_image s) s.base) (address_is s place d law h found) ∙ guid_by s place d d.stands refl h (roms_are_apart s h) found (guid_fact s place d h found)
+    ap (guid_read s.board.roms (heap_image s) s.base) (address_is law s place d h found) ∙ guid_by s place d d.stands refl h (roms_are_apart s h) found (guid_fact s place d h found)

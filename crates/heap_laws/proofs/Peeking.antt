@@ -21,7 +21,7 @@ same_else : (a b : Option (List ℕ)) → R.or_else a b ≡ H.or_else a b
 same_else None b = refl
 same_else (Some a) b = refl
 
-roms_same : (roms : List Rom) (at n : ℕ) → R.bytes_at (map rom_region roms) at n ≡ rom_bytes roms at n
+pub roms_same : (roms : List Rom) (at n : ℕ) → R.bytes_at (map rom_region roms) at n ≡ rom_bytes roms at n
 roms_same [] at n = refl
 roms_same (rom ∷ roms) at n =
     ap (R.or_else (part_of rom.base rom.bytes at n)) (roms_same roms at n) ∙ same_else (part_of rom.base rom.bytes at n) (rom_bytes roms at n)

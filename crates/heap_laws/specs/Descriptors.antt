@@ -9,7 +9,7 @@ use Rattle.store_model.specs.declared.state.DescriptorBody.{DescriptorBody}
 use Rattle.pi_base.specs.Lists.{Each}
 use Rattle.store_model.specs.StoreState.{StoreState, body_at}
 use Rattle.store_model.specs.StateFacts.{IsStoreState}
-use Rattle.store_model.specs.HeapImage.{heap_image, kind_flags}
+use Rattle.store_model.specs.HeapImage.{guid_address, heap_image, kind_flags}
 use Rattle.store_model.specs.MemoryReading.{rom_bytes}
 use Rattle.heap_laws.specs.Word.{word_in}
 
@@ -34,6 +34,11 @@ VolumesAreApart = (s : StoreState) → IsStoreState s → AreRomsApart s
 abbrev pub FlagsAreRead : Type 0
 FlagsAreRead = (s : StoreState) (place : ℕ) (d : DescriptorBody) → IsStoreState s → body_at s place ≡ Some (Descriptor d)
     → word_in (heap_image s) place ≡ kind_flags d.kind
+
+-- the address of its GUID
+abbrev pub AddressesAreRead : Type 0
+AddressesAreRead = (s : StoreState) (place : ℕ) (d : DescriptorBody) → IsStoreState s → body_at s place ≡ Some (Descriptor d)
+    → word_in (heap_image s) (place + 8) ≡ guid_address s.base place d.stands
 
 abbrev pub GuidsAreRead : Type 0
 GuidsAreRead = (s : StoreState) (place : ℕ) (d : DescriptorBody) → IsStoreState s → body_at s place ≡ Some (Descriptor d)

@@ -1,6 +1,6 @@
 //! What is read from the image.
 ghost use Rattle.heap_laws.specs.Chain.{DescriptorIsRead, ListsAreShort, NextIsRead, NodesAreInside, NumberIsRead, SecondIsRead};
-ghost use Rattle.heap_laws.specs.Descriptors.{FlagsAreRead, GuidsAreRead, NumbersAreRead};
+ghost use Rattle.heap_laws.specs.Descriptors.{AddressesAreRead, FlagsAreRead, GuidsAreRead, NumbersAreRead};
 ghost use Rattle.heap_laws.specs.Front.{BootModesAreRead, EndsAreRead, FreeBottomsAreRead, FreeIsRead, FreeTopsAreRead};
 ghost use Rattle.heap_laws.specs.Hobs.{HobPlacesAreInside, HobsAreTold};
 ghost use Rattle.heap_laws.specs.Volumes.{VolumesAreTold};
@@ -35,6 +35,7 @@ pub fn nodes_read()
 /// What is read from a descriptor.
 pub fn descriptors_read()
     ensures flags { FlagsAreRead }
+    ensures address { AddressesAreRead }
     ensures guid { GuidsAreRead }
     ensures number { NumbersAreRead }
 {
