@@ -3,3 +3,5 @@ pub mod NodeFields
 pub mod Entries
 pub mod Ends
 pub mod Pushed
+pub mod Volumes
+pub mod Descriptors

@@ -1,3 +1,4 @@
 pub mod Linked
 pub mod NewEntry
 pub mod Node
+pub mod DescRead
