@@ -5,3 +5,4 @@ pub mod Ends
 pub mod Pushed
 pub mod Volumes
 pub mod Descriptors
+pub mod Queue

@@ -2,3 +2,4 @@ pub mod Linked
 pub mod NewEntry
 pub mod Node
 pub mod DescRead
+pub mod Popped

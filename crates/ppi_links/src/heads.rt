@@ -32,6 +32,7 @@ fn first_of(head: u64, address: u64) -> u64
 impl Heads {
     ghost use Rattle.ppi_links.specs.Linked.{AreHeads};
     ghost use Rattle.ppi_links.specs.NewEntry.{with_last_node};
+    ghost use Rattle.ppi_links.specs.Popped.{with_next_pair};
 
     // The last node of a list.
     pub(crate) fn last(&self, list: EntryList) -> u64
@@ -70,6 +71,16 @@ impl Heads {
                 self.queue = first_of(self.queue, address);
                 self.queue_tail = address;
             }
+        }
+    }
+
+    // The first queued pair leaves; the next one's node, or 0, is then the first.
+    pub(crate) fn pop(&mut self, next: u64)
+        ensures { self.new ≡ with_next_pair next self.old }
+    {
+        self.queue = next;
+        if next == 0 {
+            self.queue_tail = 0;
         }
     }
 }
