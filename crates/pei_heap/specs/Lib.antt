@@ -1,0 +1,5 @@
+pub mod HeapMemory
+pub mod Added
+pub mod Created
+pub mod Pages
+pub mod First
