@@ -42,7 +42,8 @@ fn boot_drivers<M: PeiStore, S: Sink>(
 ) -> Result<RunEnd, Halt>
     requires catalog { IsWellFormed catalog.now }
     requires state { Present (M.stands_for store.now) Anything }
-    ensures row { OfEach (M.stands_for store.now) Anything (BootsDxe catalog.now fuel taken (record { old = S.text sink.old; new = S.text sink.new }) result) }
+    ensures row { OfEach (M.stands_for store.now) Anything (BootsDxe catalog.now fuel taken
+        (record { old = S.text sink.old; new = S.text sink.new }) result) }
     ensures faults { HaltsAfter result (S.faults sink.old) (S.faults sink.new) }
 {
     let ended = boot_dxe(alloc, store, catalog, fuel, taken, sink)?;
@@ -57,7 +58,8 @@ fn close_pei<M: PeiStore, S: Sink>(
     sink: &mut S,
 ) -> Result<RunEnd, Halt>
     requires state { Present (M.stands_for store.now) Anything }
-    ensures row { OfEach (M.stands_for store.now) Anything (λ s. Tells (λ answer. answer ≡ end) (closing_text s no_handles end) (record { old = S.text sink.old; new = S.text sink.new }) result) }
+    ensures row { OfEach (M.stands_for store.now) Anything (λ s. Tells (λ answer. answer ≡ end) (closing_text s no_handles end)
+        (record { old = S.text sink.old; new = S.text sink.new }) result) }
     ensures faults { HaltsAfter result (S.faults sink.old) (S.faults sink.new) }
 {
     close(store, &Handles::new(alloc), end, sink)
@@ -73,7 +75,8 @@ fn boot_behind<M: PeiStore + Drop, S: Sink>(
 ) -> Result<RunEnd, Halt>
     requires catalog { IsWellFormed catalog.now }
     requires state { Present (M.stands_for pei.now.store) Anything }
-    ensures row { (m : PeiMachine) → M.stands_for pei.now.store m.store → IsEndOf pei.now.end pei.now.actions m → TellsBehind catalog.now fuel m (record { old = S.text sink.old; new = S.text sink.new }) result }
+    ensures row { (m : PeiMachine) → M.stands_for pei.now.store m.store → IsEndOf pei.now.end pei.now.actions m
+        → TellsBehind catalog.now fuel m (record { old = S.text sink.old; new = S.text sink.new }) result }
     ensures faults { HaltsAfter result (S.faults sink.old) (S.faults sink.new) }
 {
     match pei.end {

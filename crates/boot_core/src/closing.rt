@@ -73,7 +73,8 @@ fn put_closing<M: PeiStore, S: Sink>(
 ) -> Result<(), SinkFault>
     requires state { Present (M.stands_for store.now) Anything }
     requires few { length handles.now.interfaces < 2 ^ 32 }
-    ensures text { OfEach (M.stands_for store.now) Anything (λ s. Puts result (S.text sink.old) (S.text sink.new) (closing_text s handles.now end)) }
+    ensures text { OfEach (M.stands_for store.now) Anything (λ s. Puts result (S.text sink.old) (S.text sink.new)
+        (closing_text s handles.now end)) }
     ensures cause { SinkFaultsAfter result (S.faults sink.old) (S.faults sink.new) }
 {
     put_store_lists(sink, store)?;
@@ -89,7 +90,8 @@ pub(crate) fn close<M: PeiStore, S: Sink>(
 ) -> Result<RunEnd, Halt>
     requires state { Present (M.stands_for store.now) Anything }
     requires few { length handles.now.interfaces < 2 ^ 32 }
-    ensures row { OfEach (M.stands_for store.now) Anything (λ s. Tells (λ answer. answer ≡ end) (closing_text s handles.now end) (record { old = S.text sink.old; new = S.text sink.new }) result) }
+    ensures row { OfEach (M.stands_for store.now) Anything (λ s. Tells (λ answer. answer ≡ end) (closing_text s handles.now end)
+        (record { old = S.text sink.old; new = S.text sink.new }) result) }
     ensures faults { HaltsAfter result (S.faults sink.old) (S.faults sink.new) }
 {
     put_closing(sink, store, handles, end)?;

@@ -6,5 +6,6 @@ ghost use Rattle.pei_choice.specs.View.{AreAlike, View};
 
 /// A queue shows each view that says what one says that it shows.
 pub fn alike_views_are_shown()
-    ensures { (catalog : Catalog) (queue : Queue) (view other : View) → Shows catalog queue view → AreAlike view other → Shows catalog queue other }
+    ensures { (catalog : Catalog) (queue : Queue) (view other : View) → Shows catalog queue view → AreAlike view other
+        → Shows catalog queue other }
 {}

@@ -22,7 +22,8 @@ pub(crate) fn choose<M: PeiStore + Drop, L: Ledger>(
     requires catalog { IsWellFormed catalog.now }
     requires state { (m : PeiMachine) × IsNow M.stands_for catalog.now pei.now queue.old m }
     ensures next { Chooses M.stands_for catalog.now pei.now queue.old result }
-    ensures kept { (m : PeiMachine) → IsNow M.stands_for catalog.now pei.now queue.old m → IsNow M.stands_for catalog.now pei.now queue.new m }
+    ensures kept { (m : PeiMachine) → IsNow M.stands_for catalog.now pei.now queue.old m
+        → IsNow M.stands_for catalog.now pei.now queue.new m }
     ensures few_steps { steps.new + owed_by queue.new ≤ steps.old + owed_by queue.old }
 {
     queue.choose(catalog, steps)

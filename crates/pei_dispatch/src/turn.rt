@@ -68,7 +68,8 @@ pub(crate) fn turn<M: PeiStore + Drop, S: Sink, L: Ledger>(
     ensures made { (fuel : ℕ) → IsFor catalog.now fuel pei.old → IsFor catalog.now fuel pei.new }
     ensures memory { IsWantOfStore M.TAKES_MEMORY result }
     ensures faults { HaltsAfter result (S.faults sink.old) (S.faults sink.new) }
-    ensures few_steps { AreFewOnTurn M.stands_for catalog.now pei.old queue.old (steps.old + owed_by queue.old) (steps.new + owed_by queue.new) }
+    ensures few_steps { AreFewOnTurn M.stands_for catalog.now pei.old queue.old (steps.old + owed_by queue.old)
+        (steps.new + owed_by queue.new) }
 {
     match pei.step(catalog, sink)? {
         Stepped::Went(event) => {
