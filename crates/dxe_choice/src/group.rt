@@ -8,7 +8,7 @@ ghost use Rattle.dxe_choice.specs.Choosing.{HaveWaiting, Turns, unfolded};
 ghost use Rattle.dxe_choice.specs.Queue.{waits_at};
 ghost use Rattle.dxe_choice.specs.declared.group.Item.TheVariants.{Group};
 
-use crate::first::waits_at;
+use crate::waits::waits_at;
 use catalog_model::Catalog;
 use driver_order::DriverOrder;
 use frames::name_of;

@@ -1,0 +1,10 @@
+pub mod Change
+pub mod Discovery
+pub mod Dispatch
+pub mod Index
+pub mod Installed
+pub mod Places
+pub mod Rouse
+pub mod Standing
+pub mod Verdict
+pub mod Watching

@@ -1,0 +1,111 @@
+// The parts of the known volumes, each with its place.
+ghost use Rattle.std.specs.Prelude.{◌≡◌, ◌≤◌, ◌<◌, ◌+◌, [], ℕ, Some, IfOk, true, false, length, slice_get};
+ghost use Rattle.place_set.specs.Places.{flag, count};
+ghost use Rattle.wait_index.specs.declared.verdict.Verdict.{Verdict as OfVerdict};
+ghost use Rattle.wait_index.specs.Places.{order_of, standing_of, IsInOrder, IsKept, AreJudged};
+
+use crate::standing::Standing;
+use crate::verdict::Verdict;
+use arrayvec::ArrayVec;
+use catalog_model::MOST_MODULES;
+use pi_base::{OutOfMemory, Seq};
+use place_set::PlaceSet;
+use std::alloc::Global;
+
+/// The parts of the known volumes in their order, and how the part of each module stands.
+#[derive(Drop)]
+pub(crate) struct Places {
+    pub(crate) order: ArrayVec<u32, MOST_MODULES>,
+    /// By the numbers of the modules.
+    pub(crate) standings: Seq<Standing>,
+    /// Places of which the part may start.
+    pub(crate) ready: PlaceSet,
+    /// Places of which the part may start where all architectural protocols are installed.
+    pub(crate) later: PlaceSet,
+    /// Places of which the expression has to be evaluated.
+    pub(crate) stale: PlaceSet,
+}
+
+// A module of which nothing is known.
+const UNKNOWN: Standing = Standing {
+    place: None,
+    waits: false,
+    open: false,
+    again: false,
+    verdict: Verdict::No,
+};
+
+impl Places {
+    /// No places, for so many modules.
+    pub(crate) fn new(alloc: Global, modules: usize) -> Result<Places, OutOfMemory>
+        ensures in_order { IfOk result IsInOrder }
+        ensures order { IfOk result (λ places. order_of places ≡ []) }
+        ensures as_many { IfOk result (λ places. length places.standings ≡ modules) }
+        ensures stale { IfOk result (λ places. count places.stale ≡ 0) }
+    {
+        let standings = match vec![in alloc; UNKNOWN; modules] {
+            Ok(standings) => Seq::from_vec(standings),
+            Err(_) => return Err(OutOfMemory),
+        };
+        Ok(Places {
+            order: ArrayVec::new(),
+            standings,
+            ready: PlaceSet::new(alloc)?,
+            later: PlaceSet::new(alloc)?,
+            stale: PlaceSet::new(alloc)?,
+        })
+    }
+
+    /// How the part of a module stands.
+    pub(crate) fn standing(&self, number: u32) -> Standing
+        ensures { result ≡ standing_of self.now number }
+    {
+        match self.standings.as_slice().get(number as usize) {
+            Some(standing) => *standing,
+            None => UNKNOWN,
+        }
+    }
+
+    /// The module at a place.
+    pub(crate) fn number_at(&self, place: usize) -> u32
+        requires { place < length (order_of self.now) }
+        ensures { slice_get (order_of self.now) place ≡ Some result }
+    {
+        self.order.as_slice()[place]
+    }
+
+    /// Has the part at a place stand so.
+    pub(crate) fn stand(&mut self, place: usize, number: u32, standing: Standing)
+        requires in_order { IsInOrder self.old }
+        requires here { slice_get (order_of self.old) place ≡ Some number }
+        requires placed { standing.place ≡ Some place }
+        ensures in_order { IsInOrder self.new }
+        ensures here { standing_of self.new number ≡ standing }
+        ensures others { (other : ℕ) → ¬ (number ≡ other) → standing_of self.new other ≡ standing_of self.old other }
+        ensures order { order_of self.new ≡ order_of self.old }
+        ensures stale { self.new.stale ≡ self.old.stale }
+        ensures as_many { length self.new.standings ≡ length self.old.standings }
+    {
+        self.standings.set(number as usize, standing);
+        self.ready.put(place, standing.is_ready());
+        self.later.put(place, standing.is_later());
+    }
+
+    /// Takes note of what the expression of the part at a place says.
+    pub(crate) fn judge(&mut self, place: usize, verdict: Verdict)
+        requires in_order { IsInOrder self.old }
+        requires stale { flag self.old.stale place ≡ true }
+        ensures in_order { IsInOrder self.new }
+        ensures kept { IsKept self.old self.new }
+        ensures counted { count self.new.stale + 1 ≡ count self.old.stale }
+        ensures as_many { length self.new.standings ≡ length self.old.standings }
+        ensures judged { (judge : ℕ → OfVerdict) → ((number : ℕ) → slice_get (order_of self.old) place ≡ Some number → verdict ≡ judge number)
+            → AreJudged judge self.old → AreJudged judge self.new }
+    {
+        let number = self.number_at(place);
+        let mut standing = self.standing(number);
+        standing.verdict = verdict;
+        self.stand(place, number, standing);
+        self.stale.remove(place);
+    }
+}

@@ -1,0 +1,34 @@
+// A GUID came or went: the expressions that ask for it are stale.
+ghost use Rattle.std.specs.Prelude.{[], ◌∷◌};
+ghost use Rattle.wait_index.specs.Places.{IsInOrder};
+ghost use Rattle.wait_index.specs.Rouse.{IsRoused};
+
+use crate::places::Places;
+
+impl Places {
+    /// The expression of a module is stale, where its part has a place and waits.
+    pub(crate) fn rouse(&mut self, number: u32)
+        requires { IsInOrder self.old }
+        ensures in_order { IsInOrder self.new }
+        ensures roused { IsRoused (number ∷ []) self.old self.new }
+    {
+        let standing = self.standing(number);
+        if !standing.waits {
+            return;
+        }
+        if let Some(place) = standing.place {
+            self.stale.insert(place as usize);
+        }
+    }
+
+    /// The expressions of these modules are stale, where their parts have places and wait.
+    pub(crate) fn rouse_all(&mut self, numbers: &[u32])
+        requires { IsInOrder self.old }
+        ensures in_order { IsInOrder self.new }
+        ensures roused { IsRoused numbers.now self.old self.new }
+    {
+        'numbers: for number in numbers {
+            self.rouse(*number);
+        }
+    }
+}

@@ -1,0 +1,41 @@
+// Expressions are evaluated where they may say something new.
+ghost use Rattle.std.specs.Prelude.{◌≡◌, ◌≤◌, ◌+◌, length};
+ghost use Rattle.place_set.specs.Places.{count};
+ghost use Rattle.wait_index.specs.Installed.{is_there};
+ghost use Rattle.wait_index.specs.Places.{IsInOrder, IsKept, AreJudged};
+ghost use Rattle.catalog_model.specs.WellFormed.{AreShort};
+ghost use Rattle.wait_index.specs.Verdict.{verdict_of};
+
+use crate::installed::Installed;
+use crate::places::Places;
+use crate::verdict::verdict_of;
+use catalog_model::Catalog;
+use depex_code::Steps;
+use pi_base::Phase;
+use std::sync::ledger::Ledger;
+
+/// Evaluates the expression of each stale place, once.
+pub(crate) fn settle<L: Ledger>(
+    places: &mut Places,
+    phase: Phase,
+    catalog: &Catalog,
+    installed: &Installed,
+    steps: &mut Steps<L>,
+)
+    requires short { AreShort phase catalog.now }
+    requires in_order { IsInOrder places.old }
+    requires judged { AreJudged (verdict_of phase catalog.now (is_there installed.now)) places.old }
+    ensures in_order { IsInOrder places.new }
+    ensures judged { AreJudged (verdict_of phase catalog.now (is_there installed.now)) places.new }
+    ensures kept { IsKept places.old places.new }
+    ensures as_many { length places.new.standings ≡ length places.old.standings }
+    ensures settled { count places.new.stale ≡ 0 }
+    ensures counted { steps.old ≤ steps.new }
+    ensures few_steps { steps.new ≤ steps.old + count places.old.stale }
+{
+    'stale: while let Some(place) = places.stale.first_from(0) {
+        let number = places.number_at(place);
+        let verdict = verdict_of(phase, catalog, number, installed, steps);
+        places.judge(place, verdict);
+    }
+}

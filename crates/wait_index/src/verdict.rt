@@ -1,0 +1,98 @@
+// What the expression of a part says over the GUIDs that are installed.
+ghost use Rattle.std.specs.Prelude.{◌≡◌, ◌≤◌, ◌+◌, Bool, true, false, if◌then◌else◌, option_copied};
+ghost use Rattle.pi_base.specs.declared.phase.Phase.{Phase as OfPhase};
+ghost use Rattle.catalog_model.specs.declared.catalog.Part.{Part as OfPart};
+ghost use Rattle.catalog_model.specs.Parts.{part_at};
+ghost use Rattle.boot_model.specs.Eligible.{depex_holds};
+ghost use Rattle.wait_index.specs.Verdict.{verdict_by, absent_verdict, expression_verdict, part_verdict, verdict_of};
+ghost use Rattle.wait_index.specs.Installed.{is_there};
+ghost use Rattle.catalog_model.specs.WellFormed.{IsShort, IsShortExpression, AreShort};
+
+use crate::installed::Installed;
+use catalog_model::{Catalog, Part, PartExpr};
+use depex_code::Steps;
+use frames::part_of;
+use phase_parts::depex_holds;
+use pi_base::Phase;
+use std::sync::ledger::Ledger;
+
+/// Whether a part may start: no, yes, or where all architectural protocols are installed.
+#[derive(Clone, Copy, Debug, PartialEq, Eq)]
+pub enum Verdict {
+    No,
+    Yes,
+    WithAll,
+}
+
+// Yes or no.
+fn verdict_by(holds: bool) -> Verdict
+    ensures { result ≡ verdict_by holds }
+{
+    if holds { Verdict::Yes } else { Verdict::No }
+}
+
+// What a part without an expression waits for.
+fn absent_verdict(phase: Phase) -> Verdict
+    ensures { result ≡ absent_verdict phase }
+{
+    match phase {
+        Phase::Pei => Verdict::Yes,
+        Phase::Dxe => Verdict::WithAll,
+    }
+}
+
+// What an expression says.
+fn expression_verdict<L: Ledger>(
+    phase: Phase,
+    expr: &PartExpr,
+    installed: &Installed,
+    steps: &mut Steps<L>,
+) -> Verdict
+    requires short { IsShortExpression expr.now }
+    ensures verdict { result ≡ expression_verdict phase (is_there installed.now) expr.now }
+    ensures counted { steps.old ≤ steps.new }
+    ensures few_steps { steps.new ≤ steps.old + 1 }
+{
+    match expr {
+        PartExpr::Absent => absent_verdict(phase),
+        PartExpr::Malformed(_) => Verdict::No,
+        PartExpr::Held(expression) => verdict_by(depex_holds(expression, installed, steps)),
+    }
+}
+
+// What a part's rank and its expression say.
+fn part_verdict<L: Ledger>(
+    phase: Phase,
+    part: &Part,
+    installed: &Installed,
+    steps: &mut Steps<L>,
+) -> Verdict
+    requires short { IsShortExpression part.now.expr }
+    ensures verdict { result ≡ part_verdict phase (is_there installed.now) part.now }
+    ensures counted { steps.old ≤ steps.new }
+    ensures few_steps { steps.new ≤ steps.old + 1 }
+{
+    if phase == Phase::Pei && part.rank.is_some() {
+        return Verdict::Yes;
+    }
+    expression_verdict(phase, &part.expr, installed, steps)
+}
+
+/// What the part of a module says now. At most one expression is evaluated.
+pub(crate) fn verdict_of<L: Ledger>(
+    phase: Phase,
+    catalog: &Catalog,
+    number: u32,
+    installed: &Installed,
+    steps: &mut Steps<L>,
+) -> Verdict
+    requires short { AreShort phase catalog.now }
+    ensures verdict { result ≡ verdict_of phase catalog.now (is_there installed.now) number }
+    ensures counted { steps.old ≤ steps.new }
+    ensures few_steps { steps.new ≤ steps.old + 1 }
+{
+    match part_of(catalog, phase, number) {
+        Some(part) => part_verdict(phase, part, installed, steps),
+        None => Verdict::No,
+    }
+}
