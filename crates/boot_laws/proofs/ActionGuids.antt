@@ -33,12 +33,13 @@ use Rattle.boot_model.specs.Registers.{number_in, pool_in, pool_of, descriptor_i
 use Rattle.boot_model.specs.PeiAction.{Reply, Effect, Wrote, Called, Own, Shadowed, Logged, Skipped, Returned, effect, answer_reply, sweep_reply, reply_where, store_reply, peek_reply, desc_argument, kind_number, desc_reply, install_reply, reinstall_reply, notify_reply, locate_reply, hob_reply, memory_reply, pages_reply, is_memory_type, set_mode_reply, mode_reply, number_written, told, refusal}
 use Rattle.boot_model.specs.EvaluationBound.{is_called, action_guids}
 use Rattle.boot_model.specs.MachineFacts.{HoldRegisters, IsHeld}
-use Rattle.boot_laws.specs.ChangedGuids.{is_among, placed, placed_guids}
+use Rattle.boot_laws.specs.ChangedGuids.{is_among}
+use Rattle.boot_model.specs.EventGuids.{placed, placed_guids}
 use Rattle.boot_laws.proofs.GuidLists.{each_among, or_false}
 use Rattle.boot_laws.proofs.InstalledGuids.{AreThere, installed_has, ppi_is, ppis_are, reinstalled_has, reinstalled_there}
 use Rattle.boot_laws.proofs.LastingGuids.{IsQuiet, named, quiet_has, quiet_self}
 use Rattle.boot_laws.proofs.QuietServices.{KeepsQuiet, OptionQuiet, pool_quiet, desc_quiet, notify_quiet, hob_quiet, memory_quiet, pages_quiet, store_quiet}
-use Rattle.boot_laws.proofs.ListFacts.{each_more, has_later}
+use Rattle.boot_model.proofs.ListFacts.{each_more, has_later}
 
 -- what changes from one state to another, and what is there then
 pub record Puts (s new : StoreState) (changed placed : List Guid) : Type 0 where

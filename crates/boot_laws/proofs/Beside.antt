@@ -6,7 +6,7 @@ use Rattle.pi_base.specs.Lists.{Each}
 use Rattle.boot_model.specs.DxeMachine.{DxeMachine}
 use Rattle.boot_model.specs.DxeChoice.{befores, afters, group_within}
 use Rattle.boot_model.specs.DriverLicence.{target_of, Leads, IsCompanionOf, StandBeside, IsBeforeNamed, IsAfterNamed}
-use Rattle.boot_laws.proofs.ListFacts.{each_more, each_append, each_flat}
+use Rattle.boot_model.proofs.ListFacts.{each_more, each_append, each_flat}
 use Rattle.boot_laws.proofs.Groups.{IsBefore, IsAfter, are_before, are_after, before_names, after_names}
 
 -- a companion of one that names x is a companion of x

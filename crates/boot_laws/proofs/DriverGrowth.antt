@@ -1,5 +1,5 @@
 -- A step of DXE keeps the store, and adds volumes, requests and drivers behind those that there were.
-use Rattle.std.proofs.Common.{◌≡◌, ℕ, ◌+◌, ◌<◌, Bool, true, false, cond, List, [], ◌∷◌, ◌++◌, length, Option, Some, None, refl, sym, ap, ◌∙◌, subst, inl, inr, map, nat_le, arith, append_assoc}
+use Rattle.std.proofs.Common.{◌≡◌, ℕ, ◌+◌, ◌<◌, Bool, true, false, cond, List, [], ◌∷◌, ◌++◌, length, Option, Some, None, refl, sym, ap, ◌∙◌, inl, inr, map, nat_le, arith, append_assoc}
 use Rattle.std.specs.Prelude.{find, flat_map}
 use Rattle.pi_base.specs.declared.guid.Guid.{Guid}
 use Rattle.pi_base.specs.declared.phase.Phase.TheVariants.{Dxe}
@@ -17,9 +17,9 @@ use Rattle.boot_model.specs.DxeAction.{DxeEffect, Wrote, Called, Logged, Skipped
 use Rattle.boot_model.specs.DxeStep.{DxeCase, DxeFires, DxeActs, DxeStarts, DxeStops, dxe_case_of, in_dxe_case, protocol_begun, after_dxe_effect, with_action, dxe_action_at, driver_started}
 use Rattle.boot_model.specs.DxeRun.{dxe_run, dxe_opening}
 use Rattle.boot_model.specs.DriverLicence.{numbers_of}
-use Rattle.boot_laws.specs.DriverSteps.{BeginsWith, IsGrown, DriverStepsGrow, AreFewDrivers, DriversAreFew}
-use Rattle.boot_laws.proofs.ListFacts.{each_more, each_append, within}
-use Rattle.boot_laws.proofs.Distinct.{all_differ, distinct_append, few_below}
+use Rattle.boot_laws.specs.DriverSteps.{BeginsWith, DriverStepsGrow, AreFewDrivers, DriversAreFew}
+use Rattle.boot_model.proofs.ListFacts.{each_more, each_append, within}
+use Rattle.boot_model.proofs.Distinct.{all_differ, distinct_append, few_below}
 use Rattle.boot_laws.proofs.PartLists.{IsKnown, distinct_of, known_of, drivers_are}
 use Rattle.boot_laws.proofs.Queue.{IsQueued}
 use Rattle.boot_laws.proofs.DriverActions.{Follows, EffectFollows, effect_follows}

@@ -21,7 +21,7 @@ use Rattle.boot_model.specs.DxeStep.{DxeCase, DxeFires, DxeActs, DxeStarts, DxeS
 use Rattle.boot_model.specs.DxeRun.{dxe_opening}
 use Rattle.boot_model.specs.DriverLicence.{IsMember}
 use Rattle.boot_laws.specs.DriverLicences.{OneOf, IsApriori, group_of, IsScheduledFrom, WasLicensed, IsLicensedDxeStep, AlongDxeRun, DriversStartLicensed}
-use Rattle.boot_laws.proofs.ListFacts.{each_more, each_append, each_both}
+use Rattle.boot_model.proofs.ListFacts.{each_more, each_append, each_both}
 use Rattle.boot_laws.proofs.PartLists.{IsKnown, known_of, ranked_in, ranked_are, each_flat_ranked}
 use Rattle.boot_laws.proofs.Queue.{has_more, has_behind}
 use Rattle.boot_laws.proofs.DriverActions.{Follows, EffectFollows, effect_follows}

@@ -22,7 +22,7 @@ use Rattle.boot_model.specs.DxeRun.{dxe_run, dxe_opening}
 use Rattle.boot_laws.specs.DriverStarts.{DriversStartOnce}
 use Rattle.boot_laws.specs.DiscoveredOrder.{DiscoveredOrderHasEachOnce}
 use Rattle.boot_laws.proofs.EachDriver.{has_each_once}
-use Rattle.boot_laws.proofs.Distinct.{Distinct, all_differ}
+use Rattle.boot_model.proofs.Distinct.{Distinct, all_differ}
 use Rattle.boot_laws.proofs.PartLists.{ranked_in}
 use Rattle.boot_laws.proofs.Volumes.{IsNew, newcomers_new, newcomers_differ, discoveries_differ}
 use Rattle.boot_model.specs.DriverLicence.{numbers_of}

@@ -16,8 +16,8 @@ use Rattle.boot_model.specs.declared.phase_end.DxeEnd.TheVariants as DxeEnds
 use Rattle.boot_model.specs.DxeAction.{DxeEffect, Wrote, Called, Logged, Skipped, Returned, Own, dxe_effect}
 use Rattle.boot_model.specs.DxeStep.{DxeCase, DxeFires, DxeActs, DxeStarts, DxeStops, dxe_case_of, in_dxe_case, dxe_step, next_note, protocol_begun, after_dxe_effect, with_action, dxe_action_at, driver_started, start_frames}
 use Rattle.boot_laws.proofs.Counting.{missing, In, in_numbers, fewer}
-use Rattle.boot_laws.proofs.ListFacts.{within}
-use Rattle.boot_laws.proofs.Distinct.{is_absent}
+use Rattle.boot_model.proofs.ListFacts.{within}
+use Rattle.boot_model.proofs.Distinct.{is_absent}
 use Rattle.boot_laws.proofs.Queue.{IsQueued}
 use Rattle.boot_laws.proofs.DriverActions.{Follows, EffectFollows, effect_follows}
 use Rattle.boot_laws.proofs.DxeCases.{fires_from, starts_from}

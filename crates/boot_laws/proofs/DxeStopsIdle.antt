@@ -1,6 +1,6 @@
 -- DXE stops only where nothing is scheduled and no driver of a discovered volume that has not started may start.
-use Rattle.std.proofs.Common.{◌≡◌, ℕ, zero, suc, ◌==◌, Bool, true, false, not, ◌&&◌, ◌||◌, cond, List, [], ◌∷◌, ◌++◌, Option, Some, None, refl, sym, subst, ap, ◌∙◌, length}
-use Rattle.std.specs.Prelude.{filter, find, flat_map}
+use Rattle.std.proofs.Common.{◌≡◌, ℕ, zero, suc, ◌==◌, Bool, true, false, not, ◌&&◌, ◌||◌, cond, List, [], ◌∷◌, ◌++◌, Option, Some, None, refl, ap, ◌∙◌, length}
+use Rattle.std.specs.Prelude.{find, flat_map}
 use Rattle.std.specs.List.{list_any}
 use Rattle.pi_base.specs.Lists.{Each}
 use Rattle.catalog_model.specs.declared.catalog.Catalog.{Catalog}
@@ -9,8 +9,8 @@ use Rattle.boot_model.specs.declared.driver.Scheduled.{Scheduled}
 use Rattle.boot_model.specs.DxeMachine.{DxeMachine}
 use Rattle.boot_model.specs.DxeChoice.{discovered_order, is_scheduled, is_waiting, queue_from, waiting, group_within, befores, afters, schedule_of, group_scheduled, first_eligible, is_eligible_driver}
 use Rattle.boot_model.specs.DriverLicence.{DxeStopsIdle}
-use Rattle.boot_laws.proofs.ListFacts.{each_at}
-use Rattle.boot_laws.proofs.Distinct.{neither}
+use Rattle.boot_model.proofs.ListFacts.{each_at}
+use Rattle.boot_model.proofs.Distinct.{neither}
 use Rattle.boot_laws.proofs.PeiOrders.{has_filtered}
 use Rattle.boot_laws.proofs.DxeCases.{stops_from}
 use Rattle.boot_laws.proofs.EachDriver.{order_has}

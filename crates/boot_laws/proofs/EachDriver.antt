@@ -7,8 +7,8 @@ use Rattle.boot_model.specs.DxeMachine.{DxeMachine}
 use Rattle.boot_model.specs.DxeChoice.{discovered_order}
 use Rattle.boot_model.specs.DriverLicence.{IsDiscovered}
 use Rattle.boot_laws.specs.DiscoveredOrder.{HasEachOnce}
-use Rattle.boot_laws.proofs.ListFacts.{each_at}
-use Rattle.boot_laws.proofs.Distinct.{Distinct, all_differ}
+use Rattle.boot_model.proofs.ListFacts.{each_at}
+use Rattle.boot_model.proofs.Distinct.{Distinct, all_differ}
 use Rattle.boot_laws.proofs.PartLists.{distinct_of, known_of, drivers_are}
 use Rattle.boot_laws.proofs.PeiOrders.{has_flat, part_in_volume}
 

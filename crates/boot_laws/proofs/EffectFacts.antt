@@ -48,8 +48,10 @@ use Rattle.boot_model.specs.PeiAction.{Reply, Effect, Wrote, Called, Own, Shadow
 use Rattle.boot_model.proofs.Held.{held_pool, held_place, held_list, held_two}
 use Rattle.boot_laws.specs.RunFacts.{IsFitting, FitRegisters}
 use Rattle.boot_laws.proofs.Firings.{number_of as number_is}
-use Rattle.boot_laws.proofs.Scripts.{IsPeiAction}
-use Rattle.boot_laws.proofs.ScriptHobs.{script_hob, made_entry}
+use Rattle.pi_base.specs.declared.phase.Phase.TheVariants.{Pei}
+use Rattle.boot_model.proofs.ScriptActions.{IsOfScript}
+use Rattle.boot_model.proofs.ScriptHobs.{script_hob}
+use Rattle.store_laws.proofs.Hobs.{script_entry}
 use Rattle.boot_laws.proofs.StoreLaws.{StoreLaws}
 
 pub record FitsReply (reply : Reply) : Type 0 where
@@ -204,7 +206,7 @@ filter_each s test [] each = tt
 filter_each s test (entry ∷ entries) each = kept_by (test entry) s entry (filter test entries) each.0 (filter_each s test entries each.1)
 
 -- a HOB of a script
-hob_kept : StoreLaws → (s : StoreState) (hob : HobValue) (kind : ℕ) (body : List ℕ) → IsStoreState s → IsPeiAction (A.Hob kind body) → Some hob ≡ hob_of kind body → Keeps (create_hob s hob)
+hob_kept : StoreLaws → (s : StoreState) (hob : HobValue) (kind : ℕ) (body : List ℕ) → IsStoreState s → IsOfScript Pei (A.Hob kind body) → Some hob ≡ hob_of kind body → Keeps (create_hob s hob)
 hob_kept laws s hob kind body facts is e = in_turn (nat_lt (free s) (length_of hob)) refl where
   in_turn : (full : Bool) → nat_lt (free s) (length_of hob) ≡ full → Keeps (cond full (Err F.Full) (Ok (s.base + end_place s, appended s (hob_entry hob))))
   in_turn true t = tt
@@ -212,7 +214,7 @@ hob_kept laws s hob kind body facts is e = in_turn (nat_lt (free s) (length_of h
       let made = script_hob kind body hob is.is.in_range e in
       let len = made.len in
       let room : length_of hob ≤ free s = grind (arith, nat_tests, t) in
-      (laws.steps.hob s (hob_entry hob) (record { state = facts; room = omega (arith, len, room) }) (made_entry s.board s.taken hob made)).state
+      (laws.steps.hob s (hob_entry hob) (record { state = facts; room = omega (arith, len, room) }) (script_entry s.board s.taken hob (record { script = made.script; len = len }))).state
 
 -- pages lie below the end of pages
 past : {A : Type 0} (b : Bool) (fault : StoreFault) (service : Service A) (answer : A × StoreState) → cond b (Err fault) service ≡ Ok answer → service ≡ Ok answer
@@ -243,7 +245,7 @@ mode_fits laws s frame (suc form) r facts fits =
 word_of : (number : ℕ) → IsModuleNumber number → IsWord number
 word_of number is = omega (arith, is)
 
-pub action_fits : StoreLaws → (s : StoreState) (frame : Frame) (action : Action) → IsStoreState s → HoldRegisters frame.registers s → FitRegisters frame.registers → IsModuleNumber frame.module_number → IsPeiAction action
+pub action_fits : StoreLaws → (s : StoreState) (frame : Frame) (action : Action) → IsStoreState s → HoldRegisters frame.registers s → FitRegisters frame.registers → IsModuleNumber frame.module_number → IsOfScript Pei action
     → FitsAfter (effect s frame action)
 action_fits laws s frame (A.Set r n) facts held fits among is = let small = is.is.in_range.1 in set_fits frame.registers r (Number n) (omega (arith, small)) fits
 action_fits laws s frame (A.Add r n) facts held fits among is = number_fits frame.registers r _ (λ m e. sum_fits (number_in frame.registers r) n m e) fits

@@ -15,7 +15,7 @@ use Rattle.boot_model.specs.PeiMachine.{PeiMachine}
 use Rattle.boot_model.specs.PeiAction.{effect}
 use Rattle.boot_model.specs.PeiStep.{PeiCase, Fires, Acts, Moves, Pops, Starts, Stops, action_at}
 use Rattle.boot_model.specs.EvaluationBound.{action_guids, case_guids, changed_places, is_called}
-use Rattle.boot_laws.specs.ChangedGuids.{case_placed, case_taken, placed, placed_guids, taken_guid, taken_place}
+use Rattle.boot_model.specs.EventGuids.{case_placed, case_taken, placed, placed_guids, taken_guid, taken_place}
 
 -- whether or not the call succeeded
 by_answer : (b : Bool) (changed : List Guid) (taken : Option Guid) (added : List Guid) → changed ≡ option_to_list taken ++ added

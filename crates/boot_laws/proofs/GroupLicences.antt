@@ -15,7 +15,7 @@ use Rattle.boot_model.specs.declared.licence.Licence.TheVariants as G
 use Rattle.boot_model.specs.DxeMachine.{DxeMachine}
 use Rattle.boot_model.specs.DxeChoice.{waiting, driver_named, before_of, after_of, companion_group, lets_driver_start, driver_may_start, is_eligible_driver, is_unrequested, licence_in_group, driver_licence, schedule_of, group_scheduled, first_eligible}
 use Rattle.boot_model.specs.DriverLicence.{IsDriverLicensed, IsMember, SchedulesLicensed, numbers_of}
-use Rattle.boot_laws.proofs.ListFacts.{each_more, found_passes}
+use Rattle.boot_model.proofs.ListFacts.{each_more, found_passes}
 use Rattle.boot_laws.proofs.PartLists.{both_of}
 use Rattle.boot_laws.proofs.Volumes.{not_true}
 use Rattle.boot_laws.proofs.Beside.{IsRootOrPlaced, all_placed}

@@ -15,8 +15,8 @@ use Rattle.boot_model.specs.DxeMachine.{DxeMachine}
 use Rattle.catalog_model.specs.Parts.{part_at}
 use Rattle.boot_model.specs.DxeChoice.{waiting, driver_named, before_of, after_of, name_by, targets, befores, afters, group_within, lets_driver_start, driver_may_start, is_eligible_driver, is_unrequested}
 use Rattle.boot_model.specs.DriverLicence.{named_by, first_of, target_of, Leads}
-use Rattle.boot_laws.proofs.ListFacts.{each_more, each_append, each_filter, each_flat, each_both, each_cross}
-use Rattle.boot_laws.proofs.Distinct.{Apart, AllApart, Distinct, distinct_append, distinct_filter, distinct_flat}
+use Rattle.boot_model.proofs.ListFacts.{each_more, each_append, each_filter, each_flat, each_both, each_cross}
+use Rattle.boot_model.proofs.Distinct.{Apart, AllApart, Distinct, distinct_append, distinct_filter, distinct_flat}
 use Rattle.boot_laws.proofs.PartLists.{both_of, is_equal, passed}
 use Rattle.boot_laws.proofs.Chains.{leads_on, Over, one_below, not_over}
 

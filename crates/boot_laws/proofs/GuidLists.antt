@@ -7,7 +7,7 @@ use Rattle.pi_base.specs.Guids.{same_guid}
 use Rattle.pi_base.specs.Lists.{Each, firsts}
 use Rattle.store_model.specs.StoreState.{StoreState}
 use Rattle.store_model.specs.Service.Descriptor.{guid_at}
-use Rattle.boot_laws.proofs.ListFacts.{each_more, has_later, has_here}
+use Rattle.boot_model.proofs.ListFacts.{each_more, has_later, has_here}
 use Rattle.boot_laws.specs.ChangedGuids.{is_among}
 use Rattle.boot_laws.proofs.LastingGuids.{has_in}
 

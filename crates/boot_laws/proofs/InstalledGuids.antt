@@ -17,7 +17,7 @@ use Rattle.pi_base.specs.Lists.{Each}
 use Rattle.store_model.specs.StoreState.{StoreState, body_at, pool_of}
 use Rattle.store_model.specs.Service.Descriptor.{guid_at, kind_at, is_ppi, descriptor_in, descriptors, offsets}
 use Rattle.store_model.specs.Service.Install.{has_ppi, installed, install_pairs, reinstalled, reinstall_pairs, renamed, with_ppi, is_installed}
-use Rattle.boot_laws.proofs.ListFacts.{has_later}
+use Rattle.boot_model.proofs.ListFacts.{has_later}
 use Rattle.boot_laws.proofs.Bodies.{added_grows}
 use Rattle.boot_laws.proofs.Later.{pendings_ppis, ppis_added}
 use Rattle.boot_laws.specs.ChangedGuids.{is_among}

@@ -1,10 +1,8 @@
 pub mod Counting
-pub mod ListFacts
 pub mod StoreMoved
 pub mod ActionMoved
 pub mod PeiCases
 pub mod PeiSteps
-pub mod Distinct
 pub mod PartLists
 pub mod Volumes
 pub mod Chains
@@ -50,9 +48,7 @@ mod ActionGuids
 mod MovedGuids
 mod EventGuids
 mod StepGuids
-mod Scripts
 mod StoreLaws
-mod ScriptHobs
 mod EffectFacts
 mod RunFacts
 mod PeiLicences

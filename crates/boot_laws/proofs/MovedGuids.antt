@@ -23,7 +23,7 @@ use Rattle.store_model.specs.Service.{Service}
 use Rattle.store_model.specs.Service.Descriptor.{descriptors, descriptor_in, guid_at, is_named, is_ppi, kind_at}
 use Rattle.store_model.specs.Service.Install.{both_or_full, core_install, core_of, has_ppi, install_pairs, install_sweep, installed, node_need}
 use Rattle.boot_model.specs.EvaluationBound.{core_guids}
-use Rattle.boot_laws.proofs.ListFacts.{each_both, each_more}
+use Rattle.boot_model.proofs.ListFacts.{each_both, each_more}
 use Rattle.boot_laws.proofs.MovedHobs.{moved_named}
 use Rattle.boot_laws.proofs.Unmoved.{entries_named}
 use Rattle.store_laws.proofs.Bodies.{new_body}

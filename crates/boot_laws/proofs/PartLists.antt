@@ -11,8 +11,8 @@ use Rattle.pi_base.specs.Lists.{Each, numbers}
 use Rattle.catalog_model.specs.WellFormed.{part_of}
 use Rattle.catalog_model.specs.Parts.{has_number, part_at, rank_at, module_volume, is_part_in, parts_from, parts_in}
 use Rattle.boot_model.specs.PeiChoice.{is_rank, ranked}
-use Rattle.boot_laws.proofs.ListFacts.{each_more, each_filter, each_flat, each_has}
-use Rattle.boot_laws.proofs.Distinct.{Distinct, distinct_filter, distinct_flat, distinct_numbers}
+use Rattle.boot_model.proofs.ListFacts.{each_more, each_filter, each_flat, each_has}
+use Rattle.boot_model.proofs.Distinct.{Distinct, distinct_filter, distinct_flat, distinct_numbers}
 
 -- the module of a number, if there is one, has a part and is in the volume
 abbrev pub IsPartIn : Phase → ℕ → Option Module → Type 0

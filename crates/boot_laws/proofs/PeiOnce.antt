@@ -25,7 +25,7 @@ use Rattle.boot_model.specs.Licence.{AreStartedOnce, StartedOnce, StartsAtMostOn
 use Rattle.boot_laws.proofs.ActionMoved.{EffectKeeps, effect_keeps as action_keeps}
 use Rattle.boot_laws.proofs.StoreMoved.{KeepsMoved, core_moved}
 use Rattle.boot_laws.proofs.PeiCases.{migrated_is, moves_from, popped_is, pops_from}
-use Rattle.boot_laws.proofs.ListFacts.{each_more, has_later, found_passes}
+use Rattle.boot_model.proofs.ListFacts.{each_more, has_later, found_passes}
 use Rattle.boot_laws.proofs.PeiStarts.{starts_from, second_start, any_of_both}
 
 fired_keeps : (catalog : Catalog) (m : PeiMachine) (firing : Firing) (sweep : Sweep) (deep : Bool) → StartedOnce m → StartedOnce (cond deep (record m { ended = Some Deep }) (callback_begun catalog m firing sweep))

@@ -14,8 +14,8 @@ use Rattle.catalog_model.specs.WellFormed.{IsWellFormed, IsRankWithin}
 use Rattle.boot_model.specs.PeiChoice.{is_rank, ranked, volume_order, pei_order}
 use Rattle.boot_model.specs.Licence.{IsPartAmong}
 use Rattle.boot_laws.specs.PeiOrder.{OrderIsOfModules, OrderHasEachPartOnce}
-use Rattle.boot_laws.proofs.ListFacts.{each_more, each_append, each_cross, each_filter, each_flat, each_has, has_later, has_here, within}
-use Rattle.boot_laws.proofs.Distinct.{Distinct, all_differ, all_distinct, distinct_append, distinct_filter, distinct_flat, few_below}
+use Rattle.boot_model.proofs.ListFacts.{each_more, each_append, each_cross, each_filter, each_flat, each_has, has_later, has_here, within}
+use Rattle.boot_model.proofs.Distinct.{Distinct, all_differ, all_distinct, distinct_append, distinct_filter, distinct_flat, few_below}
 use Rattle.boot_laws.proofs.PartLists.{IsPartOfVolume, parts_are, distinct_parts, passed, distinct_ranked, each_ranked, have_rank, each_of}
 
 either : (o : Option ℕ) → is_some o ≡ true → is_none o ≡ true → ⊥

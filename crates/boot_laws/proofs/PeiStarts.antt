@@ -19,7 +19,7 @@ use Rattle.catalog_model.specs.Parts.{has_number}
 use Rattle.boot_model.specs.Eligible.{is_eligible, may_start, may_start_again, lets_start, licence_by}
 use Rattle.boot_model.specs.PeiChoice.{pei_order, rotated, next_peim}
 use Rattle.boot_model.specs.PeiStep.{Fires, Moves, Pops, Starts, Stops, first_that_applies, acts}
-use Rattle.boot_laws.proofs.ListFacts.{found_passes}
+use Rattle.boot_model.proofs.ListFacts.{found_passes}
 use Rattle.boot_laws.proofs.PeiOrders.{in_pei_order}
 use Rattle.boot_laws.proofs.Unmoved.{moves_change_nothing}
 use Rattle.boot_model.specs.Licence.{IsLicensed, StartsLicensed, MovesUnchanged, StopsIdle, IsLicensedStep}

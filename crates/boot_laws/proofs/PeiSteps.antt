@@ -26,7 +26,7 @@ use Rattle.boot_model.specs.PeiChoice.{pei_order, rotated, next_peim}
 use Rattle.boot_model.specs.PeiAction.{Effect, Wrote, Called, Own, Shadowed, Logged, Skipped, Returned, effect}
 use Rattle.boot_model.specs.PeiStep.{PeiCase, Fires, Acts, Moves, Pops, Starts, Stops, case_of, in_case, pei_step, callback_begun, action_at, after_effect, core_called, popped_to, started_part, start_frames, open_sweep, past}
 use Rattle.boot_laws.proofs.Counting.{one_if, missing, In, in_numbers, fewer}
-use Rattle.boot_laws.proofs.ListFacts.{each_at, within, found_passes}
+use Rattle.boot_model.proofs.ListFacts.{each_at, within, found_passes}
 use Rattle.boot_laws.proofs.StoreMoved.{KeepsMoved, core_moved}
 use Rattle.boot_laws.proofs.ActionMoved.{EffectKeeps, effect_keeps}
 use Rattle.boot_laws.proofs.PeiCases.{fires_from, moves_from, migrated_is, pops_from, popped_is, starts_from}

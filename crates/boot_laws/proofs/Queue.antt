@@ -9,8 +9,8 @@ use Rattle.catalog_model.specs.Parts.{has_number, parts_in, module_volume}
 use Rattle.boot_model.specs.DxeMachine.{DxeMachine}
 use Rattle.boot_model.specs.DxeChoice.{discovered_order, is_waiting, is_scheduled, waiting, is_eligible_driver, companion_group, queue_from, first_eligible, group_scheduled, driver_queue}
 use Rattle.boot_model.specs.DriverLicence.{numbers_of}
-use Rattle.boot_laws.proofs.ListFacts.{each_more, each_append, each_filter, each_both, each_cross, each_at, each_found, found_passes, has_later}
-use Rattle.boot_laws.proofs.Distinct.{Apart, AllApart, Distinct, absent, distinct_append, distinct_filter}
+use Rattle.boot_model.proofs.ListFacts.{each_more, each_append, each_filter, each_both, each_cross, each_at, each_found, found_passes, has_later}
+use Rattle.boot_model.proofs.Distinct.{Apart, AllApart, Distinct, absent, distinct_append, distinct_filter}
 use Rattle.boot_laws.proofs.PartLists.{IsKnown, both_of, passed, distinct_of, known_of, drivers_are, ranked_in, ranked_are}
 use Rattle.boot_laws.proofs.Volumes.{IsNew, new_apart, not_true}
 use Rattle.boot_laws.proofs.Groups.{distinct_group, each_of_group}

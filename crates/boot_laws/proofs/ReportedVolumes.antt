@@ -1,5 +1,5 @@
 -- The volumes that a machine of a run of PEI has reported differ.
-use Rattle.std.proofs.Common.{◌≡◌, ℕ, zero, suc, Bool, true, false, cond, List, [], ◌∷◌, ◌++◌, ◌+◌, length, Option, Some, None, Ok, Err, nat_le}
+use Rattle.std.proofs.Common.{ℕ, zero, suc, Bool, true, false, cond, List, [], ◌∷◌, ◌++◌, ◌+◌, length, Option, Some, None, Ok, Err, nat_le}
 use Rattle.pi_base.specs.declared.phase.Phase.TheVariants.{Pei}
 use Rattle.pi_base.specs.Lists.{Each}
 use Rattle.pi_base.proofs.ListFacts.{each_more, each_append}
@@ -15,12 +15,11 @@ use Rattle.boot_model.specs.declared.line.Line.TheVariants as L
 use Rattle.boot_model.specs.declared.phase_end.PeiEnd.TheVariants.{Spent, Deep}
 use Rattle.boot_model.specs.PeiMachine.{PeiMachine, Frame, printed}
 use Rattle.boot_model.specs.PeiAction.{Effect, Wrote, Called, Own, Shadowed, Logged, Skipped, Returned, effect}
-use Rattle.boot_model.specs.PeiChoice.{pei_order}
 use Rattle.boot_model.specs.PeiStep.{PeiCase, Fires, Acts, Moves, Pops, Starts, Stops, case_of, in_case, pei_step, callback_begun, action_at, after_effect, core_called, started_part}
 use Rattle.boot_model.specs.PeiRun.{pei_opening, pei_run}
 use Rattle.boot_model.specs.Reporting.{newcomers, reports, told_at}
 use Rattle.boot_laws.specs.PeiOrder.{ReportedDiffer, OrdersOfRuns}
-use Rattle.boot_laws.proofs.Distinct.{Distinct, all_differ, distinct_append}
+use Rattle.boot_model.proofs.Distinct.{Distinct, all_differ, distinct_append}
 use Rattle.boot_laws.proofs.Volumes.{IsNew, newcomers_new, newcomers_differ, new_apart, parted, distinct_family}
 use Rattle.boot_laws.proofs.PeiOrders.{order_has_each_part_once}
 

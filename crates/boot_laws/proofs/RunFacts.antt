@@ -29,7 +29,8 @@ use Rattle.boot_model.specs.PeiStep.{PeiCase, Fires, Acts, Moves, Pops, Starts, 
 use Rattle.boot_model.specs.PeiRun.{pei_run, pei_opening}
 use Rattle.boot_laws.specs.RunFacts.{FitRegisters, HasFacts, OpeningHasFacts, StepHasFacts, RunHasFacts}
 use Rattle.boot_laws.proofs.StoreLaws.{StoreLaws}
-use Rattle.boot_laws.proofs.Scripts.{action_is}
+use Rattle.boot_model.proofs.ScriptActions.{taken_action}
+use Rattle.pi_base.specs.declared.phase.Phase.TheVariants.{Pei as InPei}
 use Rattle.boot_laws.proofs.EffectFacts.{FitsAfter, action_fits, set_fits}
 use Rattle.boot_laws.proofs.PeiCases.{cases}
 use Rattle.boot_laws.proofs.Firings.{pop_sound}
@@ -124,7 +125,7 @@ case_fits laws catalog fuel m (Acts frame below) e well has =
     let action = action_at catalog frame in
     either_fits (nat_le fuel m.actions) (record m { ended = Some Spent }) _ (record { store = has.store; numbers = has.numbers })
     (effect_fits catalog (record m { actions = m.actions + 1 }) frame below (effect m.store frame action) has.store numbers.0 numbers.1
-    (action_fits laws m.store frame action has.store parts.held.0 numbers.0 parts.modules.0 (action_is catalog frame well)))
+    (action_fits laws m.store frame action has.store parts.held.0 numbers.0 parts.modules.0 (taken_action InPei catalog frame.module_number frame.block frame.position well)))
 case_fits laws catalog fuel m (Moves new) e well has =
     let moved = moves_with (option_and_then (next_match m.store) (open_sweep m m.frames)) m.frames (migration m.store) (queue_pop m.store) (next_peim catalog m) new (laws.keep.move m.store has.store) e in
     core_fits (record (printed m (L.Migrate m.store.base new.base ∷ [])) { store = new }) (core_install new) (record { store = moved; numbers = has.numbers }) (laws.keep.core_install new moved)

@@ -25,7 +25,7 @@ use Rattle.boot_model.specs.declared.phase_end.PeiEnd.TheVariants.{Spent, Deep}
 use Rattle.boot_model.specs.PeiChoice.{next_peim}
 use Rattle.boot_model.specs.PeiAction.{Effect, Wrote, Called, Own, Shadowed, Logged, Skipped, Returned, effect}
 use Rattle.boot_model.specs.PeiStep.{PeiCase, Fires, Acts, Moves, Pops, Starts, Stops, case_of, in_case, callback_begun, core_swept, open_sweep, action_at, after_effect, core_called, started_part, start_frames}
-use Rattle.boot_laws.proofs.ListFacts.{within}
+use Rattle.boot_model.proofs.ListFacts.{within}
 use Rattle.boot_laws.proofs.PeiCases.{cases}
 use Rattle.boot_model.specs.MachineFacts.{IsModuleNumber}
 use Rattle.boot_laws.specs.Stay.{Visits}

@@ -11,7 +11,7 @@ use Rattle.store_model.specs.StoreState.{StoreState}
 use Rattle.store_model.specs.StateFacts.{IsSweepOf}
 use Rattle.boot_model.specs.PeiMachine.{PeiMachine, no_registers}
 use Rattle.boot_model.specs.PeiStep.{notification_frame, swept}
-use Rattle.boot_laws.proofs.ListFacts.{each_more}
+use Rattle.boot_model.proofs.ListFacts.{each_more}
 use Rattle.boot_model.specs.MachineFacts.{HoldRegisters, IsModuleNumber}
 use Rattle.boot_laws.specs.Stay.{IsLater}
 use Rattle.boot_laws.proofs.Bodies.{hold_on}

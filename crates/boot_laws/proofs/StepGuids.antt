@@ -22,7 +22,8 @@ use Rattle.boot_model.specs.PeiStep.{PeiCase, Fires, Acts, Moves, Pops, Starts, 
 use Rattle.boot_model.specs.EvaluationBound.{action_guids, case_guids}
 use Rattle.boot_model.specs.MachineFacts.{HoldRegisters}
 use Rattle.boot_laws.proofs.PeiCases.{cases}
-use Rattle.boot_laws.specs.ChangedGuids.{IsKept, case_placed, placed_guids}
+use Rattle.boot_laws.specs.ChangedGuids.{IsKept}
+use Rattle.boot_model.specs.EventGuids.{case_placed, placed_guids}
 use Rattle.boot_laws.proofs.ActionGuids.{Puts, puts, puts_nothing, state_after}
 use Rattle.boot_laws.proofs.LastingGuids.{IsQuiet, quiet_has}
 use Rattle.boot_laws.proofs.MovedGuids.{Keeps, OfSome, core_puts, core_state, migration_keeps}

@@ -21,7 +21,7 @@ use Rattle.store_model.specs.Migration.{migrated_to, moved_body, moved_number, m
 use Rattle.store_model.specs.Service.Descriptor.{descriptors, descriptor_in, guid_at, number_at, is_named, no_guid}
 use Rattle.boot_model.specs.Unchanged.{IsSamePlace, KeepsPpi, KeepsNotification, KeepsPending, KeepsNumber, KeepsDescriptor, KeepsNamed, KeepsBody, KeepsPlace, IsUnchanged}
 use Rattle.boot_laws.specs.Moves.{MovesChangeNothing}
-use Rattle.boot_laws.proofs.ListFacts.{has_here, has_later}
+use Rattle.boot_model.proofs.ListFacts.{has_here, has_later}
 use Rattle.boot_laws.proofs.PartLists.{both_of}
 use Rattle.boot_laws.proofs.MovedHobs.{moved_at, moved_named, moved_lengths, kinds_stay}
 

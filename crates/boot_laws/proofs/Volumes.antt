@@ -8,8 +8,8 @@ use Rattle.catalog_model.specs.WellFormed.{AreNumbered}
 use Rattle.catalog_model.specs.Parts.{has_number, is_nested_in, family_from, family, volume_at}
 use Rattle.boot_model.specs.Reporting.{newcomers}
 use Rattle.boot_model.specs.Discovery.{discoveries}
-use Rattle.boot_laws.proofs.ListFacts.{each_more, each_append, each_at}
-use Rattle.boot_laws.proofs.Distinct.{Apart, AllApart, Distinct, absent, distinct_append, distinct_filter}
+use Rattle.boot_model.proofs.ListFacts.{each_more, each_append, each_at}
+use Rattle.boot_model.proofs.Distinct.{Apart, AllApart, Distinct, absent, distinct_append, distinct_filter}
 
 -- the volume itself, or one behind it and before a number
 abbrev IsOf : ℕ → ℕ → ℕ → Type 0

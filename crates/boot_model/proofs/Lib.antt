@@ -7,5 +7,9 @@ mod HandleRows
 mod PeekRows
 mod RequestRows
 pub mod Held
+pub mod ListFacts
+pub mod Distinct
+pub mod ScriptActions
+pub mod ScriptHobs
 mod PeiRows
 mod WorkedBoots

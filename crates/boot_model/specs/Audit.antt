@@ -1,5 +1,5 @@
 -- What an audit prints of a catalogue (own): each volume by number, directly followed by its modules by number, and last the result.
-use Rattle.std.specs.Prelude.{ℕ, ◌+◌, ◌==◌, Bool, true, false, List, [], ◌∷◌, ◌++◌, map, filter, flat_map, Option, Some, None}
+use Rattle.std.specs.Prelude.{ℕ, ◌+◌, ◌==◌, true, false, List, [], ◌∷◌, ◌++◌, map, filter, flat_map, Option, Some, None}
 use Rattle.depex_code.specs.declared.depex.Depex.TheVariants.{Before, After, Expr}
 use Rattle.catalog_model.specs.declared.catalog.Catalog.{Catalog}
 use Rattle.catalog_model.specs.declared.catalog.VolumeEntry.{VolumeEntry}

@@ -1,6 +1,6 @@
 -- The GUIDs of an event of PEI: those that a successful install or reinstall, or the core's install, puts in, and the one that a reinstall may take away.
 -- Own; PI 1.8, volume 1, `InstallPpi()` and `ReInstallPpi()`.
-use Rattle.std.specs.Prelude.{ℕ, Option, Some, None, option_map, List, [], map, unwrap_or, if◌then◌else◌, nat_le}
+use Rattle.std.specs.Prelude.{ℕ, Option, None, option_map, List, [], map, unwrap_or, if◌then◌else◌, nat_le}
 use Rattle.std.specs.Option.{option_to_list}
 use Rattle.pi_base.specs.declared.guid.Guid.{Guid}
 use Rattle.act_code.specs.declared.action.Action.{Action}

@@ -4,14 +4,13 @@
 -- Each HOB keeps its type, its length and so its place. A body that is no descriptor stays.
 -- A descriptor that is named stays one, and one that nothing names becomes the bytes that it spelled.
 -- PI 1.8, volume 1, "Installing PEI Memory" and `EFI_PEI_TEMPORARY_RAM_SUPPORT_PPI`; which numbers are shifted is own.
-use Rattle.std.specs.Prelude.{◌≡◌, ℕ, ◌+◌, ◌<◌, ◌≤◌, Bool, true, false, List, ◌++◌, map, Option, Some, None}
+use Rattle.std.specs.Prelude.{◌≡◌, ℕ, ◌+◌, ◌<◌, ◌≤◌, Bool, true, false, ◌++◌, map, Option, Some, None}
 use Rattle.pi_base.specs.Lists.{Each}
 use Rattle.store_model.specs.declared.store_handle.DescKind.{DescKind}
 use Rattle.store_model.specs.declared.store_handle.DescKind.TheVariants.{Ppi, Callback, Dispatch}
 use Rattle.store_model.specs.declared.state.Body.{Body}
 use Rattle.store_model.specs.declared.state.Body.TheVariants.{Bytes, Descriptor, Node, Allocation}
 use Rattle.store_model.specs.declared.state.DescriptorBody.{DescriptorBody}
-use Rattle.store_model.specs.declared.state.Entry.{Entry}
 use Rattle.store_model.specs.declared.state.Pending.{Pending}
 use Rattle.store_model.specs.StoreState.{StoreState, hob_len, body_at}
 use Rattle.store_model.specs.HeapImage.{descriptor_bytes}

@@ -136,6 +136,15 @@ place_on s n offset (Some hob) is le e = inl (ap is_some (told_at s n offset e �
 pub hob_place : (s : StoreState) (n offset : ℕ) → n ≤ length (all_hobs s) → offset ≡ place_of (all_hobs s) n → IsHobPlace offset s
 hob_place s n offset = place_on s n offset (slice_get (all_hobs s) n) refl
 
+-- a place at which no HOB stands is the end HOB's
+end_or : (s : StoreState) (offset : ℕ) (o : Option HobSpan) → hob_at s offset ≡ o → None ≡ o → IsHobPlace offset s → offset ≡ end_place s
+end_or s offset None is none (inl some) = let no : false ≡ true = sym (ap is_some is) ∙ some in cc
+end_or s offset None is none (inr end) = end
+end_or s offset (Some span) is none place = cc
+
+pub at_end : (s : StoreState) (offset : ℕ) → IsHobPlace offset s → None ≡ hob_at s offset → offset ≡ end_place s
+at_end s offset place none = end_or s offset (hob_at s offset) refl none place
+
 -- a HOB that is found has a number
 pub numbered : (s : StoreState) (offset : ℕ) (span : HobSpan) → hob_at s offset ≡ Some span → (n : ℕ) × (offset ≡ place_of (all_hobs s) n)
 numbered s offset span h =

@@ -24,7 +24,8 @@ pub(crate) fn put_volume<S: Sink>(
     len: u64,
     name: Option<Guid>,
 ) -> Result<(), SinkFault>
-    ensures text { Puts result (S.text sink.old) (S.text sink.new) (line_of keyword.now (decimal volume ∷ hexadecimal base ∷ decimal len ∷ name_text name ∷ [])) }
+    ensures text { Puts result (S.text sink.old) (S.text sink.new)
+        (line_of keyword.now (decimal volume ∷ hexadecimal base ∷ decimal len ∷ name_text name ∷ [])) }
     ensures cause { SinkFaultsAfter result (S.faults sink.old) (S.faults sink.new) }
 {
     let volume = decimal_word(u64::from(volume));
@@ -62,7 +63,9 @@ pub(crate) fn put_module<S: Sink>(
     kind: u8,
     parts: Parts,
 ) -> Result<(), SinkFault>
-    ensures text { Puts result (S.text sink.old) (S.text sink.new) (line_of keyword.now (decimal by ∷ decimal volume ∷ guid_text name ∷ encode_lower (kind ∷ []) ∷ rank_text parts.pei_rank ∷ rank_text parts.dxe_rank ∷ expression_text parts.pei ∷ expression_text parts.dxe ∷ [])) }
+    ensures text { Puts result (S.text sink.old) (S.text sink.new)
+        (line_of keyword.now (decimal by ∷ decimal volume ∷ guid_text name ∷ encode_lower (kind ∷ [])
+        ∷ rank_text parts.pei_rank ∷ rank_text parts.dxe_rank ∷ expression_text parts.pei ∷ expression_text parts.dxe ∷ [])) }
     ensures cause { SinkFaultsAfter result (S.faults sink.old) (S.faults sink.new) }
 {
     let by = decimal_word(u64::from(by));
@@ -110,7 +113,8 @@ pub(crate) fn put_image_refusal<S: Sink>(
     at: u64,
     cause: ImageCause,
 ) -> Result<(), SinkFault>
-    ensures text { Puts result (S.text sink.old) (S.text sink.new) (line_of keyword.now (decimal volume ∷ decimal at ∷ image_cause_text cause ∷ [])) }
+    ensures text { Puts result (S.text sink.old) (S.text sink.new)
+        (line_of keyword.now (decimal volume ∷ decimal at ∷ image_cause_text cause ∷ [])) }
     ensures cause { SinkFaultsAfter result (S.faults sink.old) (S.faults sink.new) }
 {
     let volume = decimal_word(u64::from(volume));

@@ -18,7 +18,8 @@ pub(crate) fn put_call<S: Sink>(
     status: Word,
     extra: &Extra,
 ) -> Result<(), SinkFault>
-    ensures text { Puts result (S.text sink.old) (S.text sink.new) (line_of keyword.now (call_text name ∷ word_text status ∷ extra_words extra.now)) }
+    ensures text { Puts result (S.text sink.old) (S.text sink.new)
+        (line_of keyword.now (call_text name ∷ word_text status ∷ extra_words extra.now)) }
     ensures cause { SinkFaultsAfter result (S.faults sink.old) (S.faults sink.new) }
 {
     let name = call_name_word(name);

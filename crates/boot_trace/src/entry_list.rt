@@ -76,3 +76,11 @@ pub(crate) fn entry_count<M: PeiStore>(store: &M, list: EntryList) -> u32
     }
     count
 }
+
+/// How many PPIs are installed.
+pub fn count_ppis<M: PeiStore>(store: &M) -> u32
+    requires state { Present (M.stands_for store.now) Anything }
+    ensures row { OfEach (M.stands_for store.now) Anything (λ s. result ≡ length s.ppis) }
+{
+    entry_count(store, EntryList::Ppis)
+}

@@ -21,7 +21,8 @@ fn put_heap_piece<S: Sink, M: PeiStore>(
 ) -> Result<(), SinkFault>
     requires few { len ≤ PIECE_LEN }
     requires state { Present (M.stands_for store.now) (IsHeapPart at len) }
-    ensures text { OfEach (M.stands_for store.now) (IsHeapPart at len) (λ s. Puts result (S.text sink.old) (S.text sink.new) (encode_lower (heap_part s at len))) }
+    ensures text { OfEach (M.stands_for store.now) (IsHeapPart at len)
+        (λ s. Puts result (S.text sink.old) (S.text sink.new) (encode_lower (heap_part s at len))) }
     ensures cause { SinkFaultsAfter result (S.faults sink.old) (S.faults sink.new) }
 {
     let mut bytes = [0u8; PIECE_LEN];
@@ -39,7 +40,8 @@ fn put_heap_bytes<S: Sink, M: PeiStore>(
     len: usize,
 ) -> Result<(), SinkFault>
     requires state { Present (M.stands_for store.now) (IsHeapPart at len) }
-    ensures text { OfEach (M.stands_for store.now) (IsHeapPart at len) (λ s. Puts result (S.text sink.old) (S.text sink.new) (encode_lower (heap_part s at len))) }
+    ensures text { OfEach (M.stands_for store.now) (IsHeapPart at len)
+        (λ s. Puts result (S.text sink.old) (S.text sink.new) (encode_lower (heap_part s at len))) }
     ensures cause { SinkFaultsAfter result (S.faults sink.old) (S.faults sink.new) }
 {
     let mut next = at;
@@ -64,7 +66,8 @@ fn put_heap_back<S: Sink, M: PeiStore>(
     len: usize,
 ) -> Result<(), SinkFault>
     requires state { Present (M.stands_for store.now) (IsHeapPart at len) }
-    ensures text { OfEach (M.stands_for store.now) (IsHeapPart at len) (λ s. Puts result (S.text sink.old) (S.text sink.new) (encode_lower (heap_part s at len) ++ 10 ∷ [])) }
+    ensures text { OfEach (M.stands_for store.now) (IsHeapPart at len)
+        (λ s. Puts result (S.text sink.old) (S.text sink.new) (encode_lower (heap_part s at len) ++ 10 ∷ [])) }
     ensures cause { SinkFaultsAfter result (S.faults sink.old) (S.faults sink.new) }
 {
     match put_heap_bytes(sink, store, at, len) {
@@ -83,7 +86,8 @@ fn put_heap_hob<S: Sink, M: PeiStore>(
     len: usize,
 ) -> Result<(), SinkFault>
     requires state { Present (M.stands_for store.now) (IsHeapPart at len) }
-    ensures text { OfEach (M.stands_for store.now) (IsHeapPart at len) (λ s. Puts result (S.text sink.old) (S.text sink.new) (line_of keyword.now (decimal kind ∷ bytes_text (heap_part s at len) ∷ []))) }
+    ensures text { OfEach (M.stands_for store.now) (IsHeapPart at len)
+        (λ s. Puts result (S.text sink.old) (S.text sink.new) (line_of keyword.now (decimal kind ∷ bytes_text (heap_part s at len) ∷ []))) }
     ensures cause { SinkFaultsAfter result (S.faults sink.old) (S.faults sink.new) }
 {
     if len == 0 {
@@ -109,7 +113,8 @@ pub(crate) fn put_heap_line<S: Sink, M: PeiStore>(
     len: usize,
 ) -> Result<(), SinkFault>
     requires state { Present (M.stands_for store.now) (IsHeapPart at len) }
-    ensures text { OfEach (M.stands_for store.now) (IsHeapPart at len) (λ s. Puts result (S.text sink.old) (S.text sink.new) (hob_text kind (heap_part s at len))) }
+    ensures text { OfEach (M.stands_for store.now) (IsHeapPart at len)
+        (λ s. Puts result (S.text sink.old) (S.text sink.new) (hob_text kind (heap_part s at len))) }
     ensures cause { SinkFaultsAfter result (S.faults sink.old) (S.faults sink.new) }
 {
     put_heap_hob(sink, store, b"hob", kind, at, len)

@@ -15,9 +15,11 @@ mod store_hobs;
 mod store_lists;
 mod trace_line;
 
+pub use entry_list::count_ppis;
 pub use line::{put, put_all};
 pub use out::Out;
 pub use start::put_start;
+pub use store_hobs::{HobCount, count_hobs};
 
 #[cfg(test)]
 mod tests;

@@ -80,7 +80,8 @@ impl<'a, S: Sink> Out<'a, S> {
     pub fn store_lists<M: PeiStore>(&mut self, store: &M) -> Result<(), SinkFault>
         requires state { Present (M.stands_for store.now) Anything }
         ensures same_sink { self.new.sink.ghost_name ≡ self.old.sink.ghost_name }
-        ensures text { OfEach (M.stands_for store.now) Anything (λ s. Puts result (S.text self.old.sink.now) (S.text self.new.sink.now) (text_of (store_lines s))) }
+        ensures text { OfEach (M.stands_for store.now) Anything
+            (λ s. Puts result (S.text self.old.sink.now) (S.text self.new.sink.now) (text_of (store_lines s))) }
         ensures cause { SinkFaultsAfter result (S.faults self.old.sink.now) (S.faults self.new.sink.now) }
     {
         put_store(self.sink, store)
@@ -90,7 +91,9 @@ impl<'a, S: Sink> Out<'a, S> {
     pub fn hob_line<M: PeiStore>(&mut self, store: &M, offset: u64) -> Result<(), SinkFault>
         requires state { Present (M.stands_for store.now) (λ s. is_some (hob_at s offset) ≡ true) }
         ensures same_sink { self.new.sink.ghost_name ≡ self.old.sink.ghost_name }
-        ensures text { OfEach (M.stands_for store.now) (λ s. is_some (hob_at s offset) ≡ true) (λ s. IsSomeAnd (hob_line_at s offset) (λ line. Puts result (S.text self.old.sink.now) (S.text self.new.sink.now) (line_text line))) }
+        ensures text { OfEach (M.stands_for store.now) (λ s. is_some (hob_at s offset) ≡ true)
+            (λ s. IsSomeAnd (hob_line_at s offset) (λ line. Puts result (S.text self.old.sink.now) (S.text self.new.sink.now)
+            (line_text line))) }
         ensures cause { SinkFaultsAfter result (S.faults self.old.sink.now) (S.faults self.new.sink.now) }
     {
         put_hob_at(self.sink, store, offset)

@@ -6,7 +6,7 @@ ghost use Rattle.store_model.specs.Service.Reading.{hob_at};
 ghost use Rattle.store_model.specs.StoreCall.{Anything};
 ghost use Rattle.boot_model.specs.Text.{line_text, text_of};
 ghost use Rattle.boot_model.specs.Listing.{hob_lines, hob_lines_from};
-ghost use Rattle.boot_trace.specs.HobLines.{all_hobs, hob_line_at};
+ghost use Rattle.boot_trace.specs.HobLines.{IsHobCount, all_hobs, hob_line_at};
 
 use crate::heap_bytes::put_heap_line;
 use crate::line::put_own;
@@ -25,7 +25,8 @@ fn put_span<S: Sink, M: PeiStore>(
     span: &HobSpan,
 ) -> Result<(), SinkFault>
     requires state { Present (M.stands_for store.now) (λ s. hob_at s offset ≡ Some span.now) }
-    ensures text { OfEach (M.stands_for store.now) (λ s. hob_at s offset ≡ Some span.now) (λ s. IsSomeAnd (hob_line_at s offset) (λ line. Puts result (S.text sink.old) (S.text sink.new) (line_text line))) }
+    ensures text { OfEach (M.stands_for store.now) (λ s. hob_at s offset ≡ Some span.now)
+        (λ s. IsSomeAnd (hob_line_at s offset) (λ line. Puts result (S.text sink.old) (S.text sink.new) (line_text line))) }
     ensures cause { SinkFaultsAfter result (S.faults sink.old) (S.faults sink.new) }
 {
     let at = store.base() + offset + u64::from(HEADER_LEN);
@@ -40,17 +41,27 @@ pub(crate) fn put_hob_at<S: Sink, M: PeiStore>(
     offset: u64,
 ) -> Result<(), SinkFault>
     requires state { Present (M.stands_for store.now) (λ s. is_some (hob_at s offset) ≡ true) }
-    ensures text { OfEach (M.stands_for store.now) (λ s. is_some (hob_at s offset) ≡ true) (λ s. IsSomeAnd (hob_line_at s offset) (λ line. Puts result (S.text sink.old) (S.text sink.new) (line_text line))) }
+    ensures text { OfEach (M.stands_for store.now) (λ s. is_some (hob_at s offset) ≡ true)
+        (λ s. IsSomeAnd (hob_line_at s offset) (λ line. Puts result (S.text sink.old) (S.text sink.new) (line_text line))) }
     ensures cause { SinkFaultsAfter result (S.faults sink.old) (S.faults sink.new) }
 {
     let span = store.hob_at(offset).unwrap();
     put_span(sink, store, offset, &span)
 }
 
-// How many HOBs there are but the end HOB.
-fn hob_count<M: PeiStore>(store: &M) -> u32
+/// The HOB list of a store, counted.
+#[derive(Clone, Copy, Debug, PartialEq, Eq)]
+pub struct HobCount {
+    /// How many HOBs there are but the end HOB.
+    pub hobs: u32,
+    /// The offset of the end HOB in the heap.
+    pub end: u64,
+}
+
+/// Counts the HOB list of a store.
+pub fn count_hobs<M: PeiStore>(store: &M) -> HobCount
     requires state { Present (M.stands_for store.now) Anything }
-    ensures row { OfEach (M.stands_for store.now) Anything (λ s. result ≡ length (all_hobs s)) }
+    ensures row { OfEach (M.stands_for store.now) Anything (IsHobCount result) }
 {
     let mut count = 0;
     let mut next = 0;
@@ -58,13 +69,17 @@ fn hob_count<M: PeiStore>(store: &M) -> u32
         count += 1;
         next = span.next;
     }
-    count
+    HobCount {
+        hobs: count,
+        end: next,
+    }
 }
 
 // The lines of the HOBs.
 fn put_hob_lines<S: Sink, M: PeiStore>(sink: &mut S, store: &M) -> Result<(), SinkFault>
     requires state { Present (M.stands_for store.now) Anything }
-    ensures text { OfEach (M.stands_for store.now) Anything (λ s. Puts result (S.text sink.old) (S.text sink.new) (text_of (hob_lines_from s 0 (all_hobs s)))) }
+    ensures text { OfEach (M.stands_for store.now) Anything (λ s. Puts result (S.text sink.old) (S.text sink.new)
+        (text_of (hob_lines_from s 0 (all_hobs s)))) }
     ensures cause { SinkFaultsAfter result (S.faults sink.old) (S.faults sink.new) }
 {
     let mut offset = 0;
@@ -83,7 +98,7 @@ pub(crate) fn put_hobs<S: Sink, M: PeiStore>(sink: &mut S, store: &M) -> Result<
     ensures text { OfEach (M.stands_for store.now) Anything (λ s. Puts result (S.text sink.old) (S.text sink.new) (text_of (hob_lines s))) }
     ensures cause { SinkFaultsAfter result (S.faults sink.old) (S.faults sink.new) }
 {
-    let count = hob_count(store);
+    let count = count_hobs(store).hobs;
     match put_own(sink, Line::Hobs { count }) {
         Ok(()) => put_hob_lines(sink, store),
         Err(SinkFault) => Err(SinkFault),

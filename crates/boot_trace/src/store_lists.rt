@@ -28,7 +28,8 @@ fn put_entries<S: Sink, M: PeiStore>(
     list: EntryList,
 ) -> Result<(), SinkFault>
     requires state { Present (M.stands_for store.now) Anything }
-    ensures text { OfEach (M.stands_for store.now) Anything (λ s. Puts result (S.text sink.old) (S.text sink.new) (text_of (entry_lines s list))) }
+    ensures text { OfEach (M.stands_for store.now) Anything (λ s. Puts result (S.text sink.old) (S.text sink.new)
+        (text_of (entry_lines s list))) }
     ensures cause { SinkFaultsAfter result (S.faults sink.old) (S.faults sink.new) }
 {
     let mut place = 0;
@@ -60,7 +61,8 @@ fn put_lists<S: Sink, M: PeiStore>(
     lists: &[EntryList],
 ) -> Result<(), SinkFault>
     requires state { Present (M.stands_for store.now) Anything }
-    ensures text { OfEach (M.stands_for store.now) Anything (λ s. Puts result (S.text sink.old) (S.text sink.new) (flat_map (list_text s) lists.now)) }
+    ensures text { OfEach (M.stands_for store.now) Anything (λ s. Puts result (S.text sink.old) (S.text sink.new)
+        (flat_map (list_text s) lists.now)) }
     ensures cause { SinkFaultsAfter result (S.faults sink.old) (S.faults sink.new) }
 {
     for list in lists {
@@ -75,7 +77,8 @@ fn put_lists<S: Sink, M: PeiStore>(
 // All lists of a store.
 pub(crate) fn put_store<S: Sink, M: PeiStore>(sink: &mut S, store: &M) -> Result<(), SinkFault>
     requires state { Present (M.stands_for store.now) Anything }
-    ensures text { OfEach (M.stands_for store.now) Anything (λ s. Puts result (S.text sink.old) (S.text sink.new) (text_of (store_lines s))) }
+    ensures text { OfEach (M.stands_for store.now) Anything (λ s. Puts result (S.text sink.old) (S.text sink.new)
+        (text_of (store_lines s))) }
     ensures cause { SinkFaultsAfter result (S.faults sink.old) (S.faults sink.new) }
 {
     match put_lists(sink, store, &ENTRY_LISTS) {

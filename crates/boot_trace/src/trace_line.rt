@@ -51,7 +51,8 @@ pub(crate) fn put_note<S: Sink>(
     by: u32,
     block: u32,
 ) -> Result<(), SinkFault>
-    ensures text { Puts result (S.text sink.old) (S.text sink.new) (line_of keyword.now (guid_text guid ∷ decimal by ∷ decimal block ∷ [])) }
+    ensures text { Puts result (S.text sink.old) (S.text sink.new)
+        (line_of keyword.now (guid_text guid ∷ decimal by ∷ decimal block ∷ [])) }
     ensures cause { SinkFaultsAfter result (S.faults sink.old) (S.faults sink.new) }
 {
     let by = decimal_word(u64::from(by));
@@ -71,7 +72,8 @@ pub(crate) fn put_value<S: Sink>(
     guid: Guid,
     value: u64,
 ) -> Result<(), SinkFault>
-    ensures text { Puts result (S.text sink.old) (S.text sink.new) (line_of keyword.now (word.now ∷ guid_text guid ∷ hexadecimal value ∷ [])) }
+    ensures text { Puts result (S.text sink.old) (S.text sink.new)
+        (line_of keyword.now (word.now ∷ guid_text guid ∷ hexadecimal value ∷ [])) }
     ensures cause { SinkFaultsAfter result (S.faults sink.old) (S.faults sink.new) }
 {
     let value = hexadecimal_word(value);

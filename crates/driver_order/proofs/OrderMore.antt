@@ -5,8 +5,8 @@ use Rattle.catalog_model.specs.declared.catalog.Catalog.{Catalog}
 use Rattle.catalog_model.specs.Parts.{part_of, parts_in}
 use Rattle.boot_model.specs.DxeChoice.{drivers_of}
 use Rattle.boot_model.specs.Licence.{AllDiffer}
-use Rattle.boot_laws.proofs.ListFacts.{each_more, within}
-use Rattle.boot_laws.proofs.Distinct.{all_differ, all_distinct, few_below}
+use Rattle.boot_model.proofs.ListFacts.{each_more, within}
+use Rattle.boot_model.proofs.Distinct.{all_differ, all_distinct, few_below}
 use Rattle.boot_laws.proofs.PartLists.{IsKnown, distinct_of, known_of, drivers_are}
 use Rattle.volume_list.specs.Known.{AreKnown}
 use Rattle.driver_order.specs.declared.names.Names.{Names}

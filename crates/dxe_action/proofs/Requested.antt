@@ -14,7 +14,7 @@ use Rattle.boot_model.specs.DxeMachine.{DxeMachine, DriverFrame}
 use Rattle.boot_model.specs.DxeChoice.{asks_for_request, discovered_order}
 use Rattle.boot_model.specs.DxeAction.{Called, dxe_where, schedule_reply, unrequested_named}
 use Rattle.boot_laws.specs.UnrequestedDrivers.{WaitForRequest}
-use Rattle.boot_laws.proofs.ListFacts.{each_found, each_has}
+use Rattle.boot_model.proofs.ListFacts.{each_found, each_has}
 use Rattle.frames.specs.declared.registers.Writes.TheVariants as W
 use Rattle.dxe_action.specs.declared.reply.Reply.{Reply}
 use Rattle.dxe_action.specs.Answered.{refusal, requests}

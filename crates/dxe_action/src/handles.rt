@@ -29,7 +29,8 @@ fn handle_and_number(frame: &DriverFrame, h: u8, v: u8) -> Option<(u32, u64)>
 
 // The handle in one register and the numbers in two others, where all hold one.
 fn handle_and_numbers(frame: &DriverFrame, h: u8, old: u8, new: u8) -> Option<(u32, (u64, u64))>
-    ensures { result ≡ both (R.handle_in frame.now.registers h) (both (R.number_in frame.now.registers old) (R.number_in frame.now.registers new)) }
+    ensures { result ≡ both (R.handle_in frame.now.registers h)
+        (both (R.number_in frame.now.registers old) (R.number_in frame.now.registers new)) }
 {
     match (
         handle_and_number(frame, h, old),
@@ -95,7 +96,8 @@ fn install_on(
     v: u8,
 ) -> Result<Reply, OutOfMemory>
     requires counted { (n : ℕ) × (n < 2 ^ 32 - 1) × AreCounted n services.old }
-    ensures row { (catalog : Catalog) (form : ℕ) → Serves catalog services.old frame.now (A.DxeInstall (suc form) h guid.now v) result services.new }
+    ensures row { (catalog : Catalog) (form : ℕ) → Serves catalog services.old frame.now (A.DxeInstall (suc form) h guid.now v) result
+        services.new }
     ensures grow { OnOk result (GrowByOne services.old services.new) }
 {
     match handle_and_number(frame, h, v) {
@@ -161,7 +163,8 @@ pub(crate) fn uninstall(
 
 /// The action `locate`.
 pub(crate) fn locate(services: &DxeServices, h: u8, v: u8, guid: &Guid) -> Reply
-    ensures row { (catalog : Catalog) (frame : DriverFrame) → Serves catalog services.now frame (A.DxeLocate h v guid.now) (Ok result) services.now }
+    ensures row { (catalog : Catalog) (frame : DriverFrame) → Serves catalog services.now frame (A.DxeLocate h v guid.now) (Ok result)
+        services.now }
 {
     match services.handles.locate(guid) {
         None => Reply::refusal(CallName::Locate, Word::NotFound),

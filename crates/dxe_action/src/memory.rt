@@ -17,7 +17,8 @@ use store_model::PeiStore;
 pub(crate) fn read_memory<M: PeiStore>(store: &M, frame: &DriverFrame, v: u8, n: u8) -> Reply
     requires few { n ≤ 64 }
     requires state { Present (M.stands_for store.now) Anything }
-    ensures row { (catalog : Catalog) (services : Services) (m : DxeMachine) → M.stands_for store.now m.store → AreServicesOf catalog m services → Replies catalog m frame.now (A.Peek v n) (Ok result) services }
+    ensures row { (catalog : Catalog) (services : Services) (m : DxeMachine) → M.stands_for store.now m.store
+        → AreServicesOf catalog m services → Replies catalog m frame.now (A.Peek v n) (Ok result) services }
 {
     let read = peek(store, &frame.registers, v, n);
     Reply::answered(CallName::Peek, read.status, read.extra, Writes::Nothing)

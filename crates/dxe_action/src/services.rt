@@ -54,7 +54,8 @@ impl DxeServices {
         bases: &[u64],
     ) -> Result<DxeServices, OutOfMemory>
         requires catalog { IsWellFormed catalog.now }
-        ensures opening { IfOk result (λ services. (s : StoreState) (actions : ℕ) → AreServicesOf catalog.now (dxe_opening_of catalog.now s actions (discoveries catalog.now [] bases.now)) services) }
+        ensures opening { IfOk result (λ services. (s : StoreState) (actions : ℕ)
+            → AreServicesOf catalog.now (dxe_opening_of catalog.now s actions (discoveries catalog.now [] bases.now)) services) }
         ensures made { IfOk result (AreServicesFor catalog.now) }
         ensures counted { IfOk result (AreCounted 0) }
     {

@@ -9,7 +9,7 @@ use Rattle.catalog_model.specs.declared.catalog.PartExpr.{PartExpr}
 use Rattle.catalog_model.specs.Parts.{module_name}
 use Rattle.boot_model.specs.DxeMachine.{DxeMachine}
 use Rattle.boot_model.specs.DxeChoice.{drivers_of, waiting, is_waiting, targets, name_by, before_of, after_of, befores, afters}
-use Rattle.boot_laws.proofs.ListFacts.{found_passes}
+use Rattle.boot_model.proofs.ListFacts.{found_passes}
 use Rattle.boot_laws.proofs.PartLists.{is_equal}
 use Rattle.driver_order.specs.Order.{Drivers, befores_of, afters_of, gives, givers}
 use Rattle.dxe_choice.specs.Choosing.{HaveWaiting, companions, is_first}

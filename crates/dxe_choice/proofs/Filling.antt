@@ -12,7 +12,7 @@ use Rattle.boot_model.specs.declared.driver.Scheduled.{Scheduled}
 use Rattle.boot_model.specs.DxeMachine.{DxeMachine}
 use Rattle.boot_model.specs.DxeChoice.{companion_group, driver_licence, driver_queue, drivers_of, first_eligible, group_scheduled, head_of, is_eligible_driver, is_waiting, queue_from, schedule_of, waiting}
 use Rattle.boot_laws.specs.GroupUnfolds.{IsRoot}
-use Rattle.boot_laws.proofs.ListFacts.{each_append, each_more, within, each_found, each_has, found_passes}
+use Rattle.boot_model.proofs.ListFacts.{each_append, each_more, within, each_found, each_has, found_passes}
 use Rattle.boot_laws.proofs.PartLists.{IsKnown}
 use Rattle.driver_order.specs.Order.{Drivers}
 use Rattle.wait_index.specs.declared.index.WaitIndex.{WaitIndex}

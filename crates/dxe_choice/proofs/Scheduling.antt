@@ -16,8 +16,8 @@ use Rattle.boot_model.specs.declared.driver.Scheduled.{Scheduled}
 use Rattle.boot_model.specs.DxeChoice.{a_priori_drivers, discovered_order, driver_licence, drivers_of, is_waiting, schedule_of}
 use Rattle.boot_model.specs.DxeMachine.{DxeMachine}
 use Rattle.boot_model.specs.Licence.{AllDiffer}
-use Rattle.boot_laws.proofs.ListFacts.{each_more, each_append, within}
-use Rattle.boot_laws.proofs.Distinct.{all_differ, few_below}
+use Rattle.boot_model.proofs.ListFacts.{each_more, each_append, within}
+use Rattle.boot_model.proofs.Distinct.{all_differ, few_below}
 use Rattle.boot_laws.proofs.EachDriver.{order_has}
 use Rattle.boot_laws.proofs.PartLists.{IsKnown, IsPartOfVolume, is_equal, known_of, ranked_in, ranked_are}
 use Rattle.boot_laws.proofs.Queue.{has_behind}

@@ -11,8 +11,8 @@ use Rattle.catalog_model.specs.Parts.{has_number, part_of}
 use Rattle.boot_model.specs.DxeMachine.{DxeMachine}
 use Rattle.boot_model.specs.DxeChoice.{befores, afters, companion_group, waiting}
 use Rattle.boot_laws.specs.GroupUnfolds.{IsOver, IsRoot, Unfolds}
-use Rattle.boot_laws.proofs.ListFacts.{each_more, each_append, each_at, within}
-use Rattle.boot_laws.proofs.Distinct.{few_below}
+use Rattle.boot_model.proofs.ListFacts.{each_more, each_append, each_at, within}
+use Rattle.boot_model.proofs.Distinct.{few_below}
 use Rattle.boot_laws.proofs.PartLists.{IsKnown}
 use Rattle.boot_laws.proofs.Queue.{waiting_known}
 use Rattle.boot_laws.proofs.GroupUnfolds.{groups_unfold, groups_are_small}

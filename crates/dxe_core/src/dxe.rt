@@ -56,7 +56,8 @@ impl Dxe {
         taken: u32,
     ) -> Result<Dxe, OutOfMemory>
         requires catalog { IsWellFormed catalog.now }
-        ensures opening { IfOk result (λ core. (s : StoreState) → IsCoreOf catalog.now core (dxe_opening_of catalog.now s taken (discoveries catalog.now [] bases.now))) }
+        ensures opening { IfOk result (λ core. (s : StoreState)
+            → IsCoreOf catalog.now core (dxe_opening_of catalog.now s taken (discoveries catalog.now [] bases.now))) }
         ensures made { IfOk result (IsFor catalog.now fuel) }
     {
         Ok(Dxe {

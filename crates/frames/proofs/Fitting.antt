@@ -9,12 +9,15 @@ use Rattle.frames.specs.Found.{found_action}
 use Rattle.frames.specs.Frames.{top_of}
 use Rattle.frames.specs.Needs.{IsScriptAction, IsWithin}
 use Rattle.boot_model.specs.declared.frame.Frame.{Frame}
-use Rattle.frames.proofs.Scripts.{found_fits}
+use Rattle.boot_model.proofs.ScriptActions.{FitsIn, script_action}
+
+pub found_fits : {W : Type 0} (phase : Phase) (catalog : Catalog) (frame : Frame W) (action : Action) → IsWellFormed catalog → found_action phase catalog frame ≡ Some action → FitsIn phase catalog frame.module_number frame.position action
+found_fits phase catalog frame action well e = script_action phase catalog frame.module_number frame.block frame.position action well e
 
 pub is_of_phase : {W : Type 0} (phase : Phase) (catalog : Catalog) (frame : Frame W) (found : Option (Bor Action))
     → IsWellFormed catalog → option_copied found ≡ found_action phase catalog frame → IfSome found (λ action. IsScriptAction phase action.now)
 is_of_phase phase catalog frame None well e = tt
-is_of_phase phase catalog frame (Some action) well e = (found_fits phase catalog frame action.now well (sym e)).fits.script
+is_of_phase phase catalog frame (Some action) well e = let script = (found_fits phase catalog frame action.now well (sym e)).fits.script in (script.is, script.indexed)
 
 within : {W : Type 0} (frames : List (Frame W)) (frame : Frame W) → Some frame ≡ top_of frames → frame.position < 1024 → IsWithin frames
 within [] frame e h = tt

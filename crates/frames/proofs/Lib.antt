@@ -1,6 +1,5 @@
 pub mod Blocks
-mod Fitting
+pub mod Fitting
 mod Grammar
 pub mod Same
-pub mod Scripts
 mod Written

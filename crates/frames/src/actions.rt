@@ -49,7 +49,8 @@ fn skipped(last: Word, condition: u8, n: u8) -> u8
 // The action `set`.
 fn set_number<W: Copy>(frames: &mut Frames<W>, r: u8, n: u64)
     requires { IsWithin frames.old }
-    ensures { (frame : OfFrame W) (below : List (OfFrame W)) → frames.old ≡ frame ∷ below → frames.new ≡ frame_after frame (number_written frame.registers r (Some n)) ∷ below }
+    ensures { (frame : OfFrame W) (below : List (OfFrame W)) → frames.old ≡ frame ∷ below
+        → frames.new ≡ frame_after frame (number_written frame.registers r (Some n)) ∷ below }
 {
     frames.answer(&Writes::one(r, Register::Number(n)), Word::Success, None);
 }
@@ -57,7 +58,8 @@ fn set_number<W: Copy>(frames: &mut Frames<W>, r: u8, n: u64)
 // The action `add`.
 fn add_number<W: Copy>(frames: &mut Frames<W>, r: u8, n: u64)
     requires { IsWithin frames.old }
-    ensures { (frame : OfFrame W) (below : List (OfFrame W)) → frames.old ≡ frame ∷ below → frames.new ≡ frame_after frame (number_added frame.registers r n) ∷ below }
+    ensures { (frame : OfFrame W) (below : List (OfFrame W)) → frames.old ≡ frame ∷ below
+        → frames.new ≡ frame_after frame (number_added frame.registers r n) ∷ below }
 {
     match frames.number_in(r) {
         Some(old) => set_number(frames, r, old.wrapping_add(n)),

@@ -35,10 +35,12 @@ fn next_action<'a, W: Copy>(
     phase: Phase,
 ) -> Option<&'a Action>
     requires catalog { IsWellFormed catalog.now }
-    ensures found { (frame : OfFrame W) (below : List (OfFrame W)) → frames.now ≡ frame ∷ below → option_copied result ≡ found_action phase catalog.now frame }
+    ensures found { (frame : OfFrame W) (below : List (OfFrame W)) → frames.now ≡ frame ∷ below
+        → option_copied result ≡ found_action phase catalog.now frame }
     ensures fits { IfSome result (λ action. IsScriptAction phase action.now) }
     ensures place { OnSome result (IsWithin frames.now) }
-    ensures here { (frame : OfFrame W) (below : List (OfFrame W)) → frames.now ≡ frame ∷ below → OnSome result (frame.module_number < length catalog.now.modules) }
+    ensures here { (frame : OfFrame W) (below : List (OfFrame W)) → frames.now ≡ frame ∷ below
+        → OnSome result (frame.module_number < length catalog.now.modules) }
 {
     match frames.top() {
         Some(frame) => action_at(catalog, phase, frame),
@@ -54,7 +56,8 @@ pub fn act<'a, W: Copy>(
     phase: Phase,
 ) -> Acted<'a>
     requires catalog { IsWellFormed catalog.now }
-    ensures { (frame : OfFrame W) (below : List (OfFrame W)) → frames.old ≡ frame ∷ below → HasActed phase catalog.now frame below fuel.old result fuel.new frames.new }
+    ensures { (frame : OfFrame W) (below : List (OfFrame W)) → frames.old ≡ frame ∷ below
+        → HasActed phase catalog.now frame below fuel.old result fuel.new frames.new }
 {
     if !fuel.spend() {
         return Acted::Spent;

@@ -101,7 +101,8 @@ impl<W: Copy> Frames<W> {
     /// The top one's action wrote registers and has this status, and this is still to be visited.
     pub fn answer(&mut self, writes: &Writes, status: Word, sweep: Option<W>)
         requires { IsWithin self.old }
-        ensures { (frame : OfFrame W) (below : List (OfFrame W)) → self.old ≡ frame ∷ below → self.new ≡ answered frame (written frame.registers writes.now) status sweep ∷ below }
+        ensures { (frame : OfFrame W) (below : List (OfFrame W)) → self.old ≡ frame ∷ below
+            → self.new ≡ answered frame (written frame.registers writes.now) status sweep ∷ below }
     {
         if let Some(top) = self.items.as_mut_slice().last_mut() {
             answer(top, writes, status, sweep);

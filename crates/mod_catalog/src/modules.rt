@@ -58,7 +58,8 @@ fn module_of(
     number: u32,
 ) -> Result<Module, OutOfMemory>
     requires { IsPlaced bytes.now read }
-    ensures { (files : List File) (reads : List Read) → RanksHold bytes.now files reads ranks.now → IfOk result (IsModule bytes.now files reads number read) }
+    ensures { (files : List File) (reads : List Read) → RanksHold bytes.now files reads ranks.now
+        → IfOk result (IsModule bytes.now files reads number read) }
 {
     let ReadFile {
         file,
@@ -109,7 +110,8 @@ fn made_modules(
     number: u32,
 ) -> Result<Seq<Module>, OutOfMemory>
     requires { ArePlaced bytes.now reads }
-    ensures { (files : List File) → RanksHold bytes.now files reads ranks.now → IfOk result (AreModules bytes.now files reads number reads) }
+    ensures { (files : List File) → RanksHold bytes.now files reads ranks.now
+        → IfOk result (AreModules bytes.now files reads number reads) }
 {
     let mut modules = Seq::new(alloc);
     'reads: for read in reads.into_vec() {

@@ -56,7 +56,8 @@ fn bearers_of(alloc: Global, files: &[FfsFile], phase: Phase) -> Result<GuidMap<
 // One name of a list more: it is kept where it stands for a file, for the first time.
 fn keep(kept: &mut Kept, bearers: &GuidMap<u64>, name: Guid) -> Result<(), OutOfMemory>
     requires { kept.old.count < u32.MAX }
-    ensures { OnOk result ((list : List Name) → AreKept (known bearers.now) list kept.old → AreKept (known bearers.now) (list ++ name ∷ []) kept.new) }
+    ensures { OnOk result ((list : List Name) → AreKept (known bearers.now) list kept.old
+        → AreKept (known bearers.now) (list ++ name ∷ []) kept.new) }
 {
     if !bearers.contains_key(&name) {
         return Ok(());
@@ -119,7 +120,8 @@ impl Ranks {
 
     // The rank of a file of the volume.
     fn rank_of(&self, file: &FfsFile) -> Option<u32>
-        ensures { (phase : OfPhase) (files : List File) (list : List Name) → HoldRanks phase files list self.now → result ≡ rank_of phase files list file.now }
+        ensures { (phase : OfPhase) (files : List File) (list : List Name) → HoldRanks phase files list self.now
+            → result ≡ rank_of phase files list file.now }
     {
         if self.bears(file) {
             self.places.get(&file.name)
@@ -131,7 +133,8 @@ impl Ranks {
 
 /// The rank that a list gives a file of the volume.
 pub(crate) fn rank_of(ranks: &Option<Ranks>, file: &FfsFile) -> Option<u32>
-    ensures { (phase : OfPhase) (files : List File) (list : List Name) → GiveRanks phase files list ranks.now → result ≡ rank_of phase files list file.now }
+    ensures { (phase : OfPhase) (files : List File) (list : List Name) → GiveRanks phase files list ranks.now
+        → result ≡ rank_of phase files list file.now }
 {
     match ranks {
         Some(ranks) => ranks.rank_of(file),

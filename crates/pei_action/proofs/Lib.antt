@@ -3,5 +3,4 @@ mod Collected
 mod Each
 pub mod Grammar
 mod Pages
-mod ScriptHobs
 mod Served

@@ -83,7 +83,8 @@ fn guids_of<M: PeiStore>(store: &M, list: &[Desc]) -> ArrayVec<Guid, MOST_DESCRI
 fn installed<M: PeiStore>(store: &M, frame: &PeiFrame, list: &[u8]) -> Changes
     requires few { AreFew list.now }
     requires state { Present (M.stands_for store.now) (HoldRegisters frame.now.registers) }
-    ensures { OfEach (M.stands_for store.now) (HoldRegisters frame.now.registers) (λ s. AreChangesOf s frame.now (A.Install list.now) result) }
+    ensures { OfEach (M.stands_for store.now) (HoldRegisters frame.now.registers)
+        (λ s. AreChangesOf s frame.now (A.Install list.now) result) }
 {
     match descriptors_in(&frame.registers, list) {
         Some(found) => Changes {
@@ -97,7 +98,8 @@ fn installed<M: PeiStore>(store: &M, frame: &PeiFrame, list: &[u8]) -> Changes
 // The GUID of the descriptor in a register.
 fn guid_in<M: PeiStore>(store: &M, registers: &[Register; REGISTERS], r: u8) -> Option<Guid>
     requires state { Present (M.stands_for store.now) (HoldRegisters registers.now) }
-    ensures { OfEach (M.stands_for store.now) (HoldRegisters registers.now) (λ s. result ≡ option_map (λ d. guid_at s d.offset) (R.descriptor_in registers.now r)) }
+    ensures { OfEach (M.stands_for store.now) (HoldRegisters registers.now)
+        (λ s. result ≡ option_map (λ d. guid_at s d.offset) (R.descriptor_in registers.now r)) }
 {
     match descriptor_in(registers, r) {
         Some(descriptor) => Some(store.descriptor(descriptor).0),
@@ -119,7 +121,8 @@ fn one_or_none(guid: Option<Guid>) -> ArrayVec<Guid, MOST_DESCRIPTORS>
 // The GUIDs that a reinstall puts in and takes away.
 fn reinstalled<M: PeiStore>(store: &M, frame: &PeiFrame, old: u8, new: u8) -> Changes
     requires state { Present (M.stands_for store.now) (HoldRegisters frame.now.registers) }
-    ensures { OfEach (M.stands_for store.now) (HoldRegisters frame.now.registers) (λ s. AreChangesOf s frame.now (A.Reinstall old new) result) }
+    ensures { OfEach (M.stands_for store.now) (HoldRegisters frame.now.registers)
+        (λ s. AreChangesOf s frame.now (A.Reinstall old new) result) }
 {
     Changes {
         there: one_or_none(guid_in(store, &frame.registers, new)),

@@ -18,7 +18,8 @@ use store_model::PeiStore;
 pub fn make_hob<M: PeiStore>(store: &mut M, kind: u8, body: &[u8]) -> Result<Taken, OutOfMemory>
     requires hob { is_hob kind (length body.now) ≡ true }
     requires state { Present (M.stands_for store.old) Anything }
-    ensures row { (frame : Frame) → Acts M.TAKES_MEMORY (M.stands_for store.old) (M.stands_for store.new) (A.Hob kind body.now) frame result }
+    ensures row { (frame : Frame) → Acts M.TAKES_MEMORY (M.stands_for store.old) (M.stands_for store.new) (A.Hob kind body.now) frame
+        result }
 {
     match hob_of(kind as u16, body) {
         None => Ok(Taken::refusal(CallName::Hob, Word::InvalidParameter)),

@@ -68,7 +68,8 @@ pub fn take_pages<M: PeiStore>(
     count: u32,
 ) -> Result<Taken, OutOfMemory>
     requires state { Present (M.stands_for store.old) Anything }
-    ensures row { (frame : Frame) → Acts M.TAKES_MEMORY (M.stands_for store.old) (M.stands_for store.new) (A.Pages r memory_type count) frame result }
+    ensures row { (frame : Frame) → Acts M.TAKES_MEMORY (M.stands_for store.old) (M.stands_for store.new) (A.Pages r memory_type count)
+        frame result }
 {
     if !may_take(memory_type, count) {
         return Ok(Taken::refusal(CallName::Pages, Word::InvalidParameter));

@@ -9,8 +9,8 @@ use Rattle.pi_base.specs.Lists.{Each}
 use Rattle.boot_model.specs.declared.peim_state.PeimState.{PeimState}
 use Rattle.boot_model.specs.declared.peim_state.PeimState.TheVariants.{NotDispatched, Dispatched, RegisteredForShadow, Done}
 use Rattle.boot_model.specs.PeimState.{awaits_start, state_at}
-use Rattle.boot_laws.proofs.ListFacts.{each_more, each_push, each_filter, each_at}
-use Rattle.boot_laws.proofs.Distinct.{differ_pushed, differ_filter, turned, few_below}
+use Rattle.boot_model.proofs.ListFacts.{each_more, each_push, each_filter, each_at}
+use Rattle.boot_model.proofs.Distinct.{differ_pushed, differ_filter, turned, few_below}
 use Rattle.pei_core.specs.Awaiting.{AreShadows}
 use Rattle.pei_core.specs.Cores.{shadows_behind, state_behind}
 use Rattle.pei_core.proofs.PeimStates.{here, elsewhere, same, differ}

@@ -8,7 +8,7 @@ use Rattle.catalog_model.specs.declared.catalog.Catalog.{Catalog}
 use Rattle.catalog_model.specs.declared.catalog.Part.{Part}
 use Rattle.catalog_model.specs.Parts.{has_number, part_at}
 use Rattle.catalog_model.specs.WellFormed.{part_of}
-use Rattle.boot_laws.proofs.ListFacts.{within}
+use Rattle.boot_model.proofs.ListFacts.{within}
 use Rattle.boot_model.specs.declared.licence.Licence.{Licence}
 use Rattle.boot_model.specs.declared.line.Line.{Line}
 use Rattle.boot_model.specs.declared.peim_state.PeimState.{PeimState}

@@ -15,7 +15,7 @@ use Rattle.boot_model.specs.MachineFacts.{IsSound}
 use Rattle.boot_model.specs.PeiMachine.{Frame, PeiMachine}
 use Rattle.boot_model.specs.PeiStep.{action_at, pei_step}
 use Rattle.frames.specs.Found.{found_action}
-use Rattle.frames.proofs.Scripts.{found_fits}
+use Rattle.frames.proofs.Fitting.{found_fits}
 use Rattle.pei_core.specs.declared.event.Stepped.{Stepped}
 use Rattle.pei_core.specs.declared.event.Stepped.TheVariants.{Went, Idle, Ended}
 use Rattle.pei_core.specs.declared.pei.Pei.{Pei as OfPei}
@@ -28,7 +28,7 @@ use Rattle.pei_core.proofs.Acting.{found}
 -- an action of a script names blocks below 64
 named_by : (catalog : Catalog) (frame : Frame) (action : Option Action) → IsWellFormed catalog → found_action Pei catalog frame ≡ action → is_indexed 64 (unwrap_or action (Ret Success)) ≡ true
 named_by catalog frame None well e = refl
-named_by catalog frame (Some action) well e = (found_fits Pei catalog frame action well e).fits.script.1
+named_by catalog frame (Some action) well e = (found_fits Pei catalog frame action well e).fits.script.indexed
 
 pub names_are : (catalog : Catalog) → IsWellFormed catalog → (frame : Frame) → is_indexed 64 (action_at catalog frame) ≡ true
 names_are catalog well frame = ap (is_indexed 64) (found catalog frame) ∙ named_by catalog frame (found_action Pei catalog frame) well refl

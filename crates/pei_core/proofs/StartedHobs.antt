@@ -38,7 +38,7 @@ use Rattle.boot_model.specs.declared.line.Extra.{Extra}
 use Rattle.boot_model.specs.PeiMachine.{Frame}
 use Rattle.boot_model.specs.Registers.{pool_in, number_in, descriptor_in, descriptors_in, both}
 use Rattle.boot_model.specs.PeiAction.{Reply, Effect, Wrote, Called, Own, Shadowed, Logged, Skipped, Returned, effect, number_written, answer_reply, sweep_reply, reply_where, set_mode_reply, mode_reply, peek_reply, desc_reply, desc_number, guid_arg, kind_number, install_reply, reinstall_reply, notify_reply, locate_reply, hob_reply, memory_reply, is_memory_type}
-use Rattle.boot_laws.proofs.ListFacts.{each_push}
+use Rattle.boot_model.proofs.ListFacts.{each_push}
 use Rattle.pei_action.specs.Needs.{IsArgument}
 use Rattle.pei_action.proofs.Grammar.{block}
 use Rattle.pei_core.specs.Started.{HasStarted, IsEntryOf, IsBodyOf}

@@ -41,7 +41,7 @@ use Rattle.boot_model.specs.PeiRun.{pei_opening}
 use Rattle.boot_model.specs.PeiAction.{Effect, Wrote, Called, Own, Shadowed, Logged, Skipped, Returned, effect}
 use Rattle.boot_model.specs.PeiChoice.{next_peim}
 use Rattle.boot_model.specs.PeiStep.{PeiCase, Fires, Acts, Moves, Pops, Starts, Stops, case_of, in_case, pei_step, callback_begun, open_sweep, action_at, after_effect, core_called, started as started_at, started_part, start_frames, swept}
-use Rattle.boot_laws.proofs.ListFacts.{each_more, each_push, has_here, has_later}
+use Rattle.boot_model.proofs.ListFacts.{each_more, each_push, has_here, has_later}
 use Rattle.boot_laws.proofs.PeiCases.{cases}
 use Rattle.pei_core.specs.Started.{HasStarted, IsEntryOf, IsBodyOf, AreOfStarted, RunsStarted}
 use Rattle.pei_core.proofs.StartedHobs.{AreHobsOf, IsStoreOf, LeavesStore, action_leaves, changed_keeps, desc_keeps, install_keeps, Keeps}

@@ -180,7 +180,8 @@ impl PlainStore {
     fn hobs_byte(&self, place: u64) -> u8
         requires facts { IsStoreState (state_of self.now) }
         requires place { handoff_len ≤ place }
-        ensures { result ≡ byte_of (hobs_bytes (state_of self.now) handoff_len self.now.hobs.items ++ header_bytes END header_len) (place - handoff_len) }
+        ensures { result ≡ byte_of (hobs_bytes (state_of self.now) handoff_len self.now.hobs.items ++ header_bytes END header_len)
+            (place - handoff_len) }
     {
         let mut at = HANDOFF_LEN;
         'hobs: for hob in self.hobs.as_slice() {

@@ -8,8 +8,8 @@ use Rattle.catalog_model.specs.WellFormed.{AreNumbered, IsWellFormed}
 use Rattle.boot_model.specs.Licence.{AllDiffer}
 use Rattle.catalog_model.specs.Parts.{is_nested_in, family_from, family}
 use Rattle.volume_list.specs.Known.{AreInCatalog}
-use Rattle.boot_laws.proofs.ListFacts.{each_more, each_push, each_at}
-use Rattle.boot_laws.proofs.Distinct.{differ_pushed}
+use Rattle.boot_model.proofs.ListFacts.{each_more, each_push, each_at}
+use Rattle.boot_model.proofs.Distinct.{differ_pushed}
 use Rattle.volume_list.proofs.ListFacts.{absent}
 
 -- the volume itself, or one behind it and before a number

@@ -5,7 +5,7 @@ use Rattle.std.specs.Prelude.{filter}
 use Rattle.catalog_model.specs.Parts.{has_number}
 use Rattle.boot_model.specs.Licence.{AllDiffer}
 use Rattle.volume_list.specs.Known.{with_new}
-use Rattle.boot_laws.proofs.Distinct.{neither}
+use Rattle.boot_model.proofs.Distinct.{neither}
 use Rattle.volume_list.proofs.ListFacts.{has_pushed, turned}
 
 -- the numbers that are new stay so beside one that is none of them

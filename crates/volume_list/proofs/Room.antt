@@ -7,8 +7,8 @@ use Rattle.catalog_model.specs.declared.catalog.Catalog.{Catalog}
 use Rattle.catalog_model.specs.Parts.{has_number}
 use Rattle.catalog_model.specs.WellFormed.{IsWellFormed}
 use Rattle.volume_list.specs.Known.{AreKnown, with_new}
-use Rattle.boot_laws.proofs.ListFacts.{each_push}
-use Rattle.boot_laws.proofs.Distinct.{differ_pushed, few_below}
+use Rattle.boot_model.proofs.ListFacts.{each_push}
+use Rattle.boot_model.proofs.Distinct.{differ_pushed, few_below}
 
 -- a volume that is new comes to the known ones
 known_if : (catalog : Catalog) (known : List ℕ) (number : ℕ) (b : Bool) → not (has_number known number) ≡ b → AreKnown catalog known → number < length catalog.volumes

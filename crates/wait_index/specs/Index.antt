@@ -91,8 +91,8 @@ pub record Changes (change : Standing → Standing) (place : ℕ) (old new : Wai
 -- one GUID is installed or not, and the others are as before
 pub record IsSet (catalog : Catalog) (guid : Guid) (there : Bool) (old new : WaitIndex) : Type 0 where
   pub phase : new.phase ≡ old.phase
-  pub slots : new.installed.slots ≡ old.installed.slots
   pub has : (other : Guid) (slot : ℕ) → value_of old.installed.slots other ≡ Some slot → has_in new other ≡ (if same_guid guid other then there else has_in old other)
+  pub slots : new.installed.slots ≡ old.installed.slots
   pub order : new.places.order ≡ old.places.order
   pub standings : new.places.standings ≡ old.places.standings
 

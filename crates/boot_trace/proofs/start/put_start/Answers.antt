@@ -1,4 +1,4 @@
-use Rattle.std.proofs.Common.{subst, sym, ap, [], ◌∷◌}
+use Rattle.std.proofs.Common.{subst, sym, [], ◌∷◌}
 use Rattle.pi_base.specs.declared.word.Word.TheVariants.{Success}
 use Rattle.boot_io.proofs.PutsLaws.{puts_err, puts_then}
 use Rattle.boot_model.specs.declared.line.Line.TheVariants as L

@@ -1,6 +1,5 @@
-use Rattle.std.proofs.Common.{ap, ◌∙◌, ◌∷◌, ◌+◌, ◌%◌, ◌^◌, None}
+use Rattle.std.proofs.Common.{ap, ◌∙◌, ◌∷◌, ◌+◌, ◌%◌, ◌^◌}
 use Rattle.std.specs.Option.{option_map}
-use Rattle.pi_base.specs.declared.word.Word.TheVariants.{InvalidParameter}
 use Rattle.frames.specs.Deed.{frame_after, number_written}
 use Rattle.frames.proofs.actions.add_number.Goals as goal
 

@@ -1,4 +1,4 @@
-use Rattle.std.proofs.Common.{ap, sym, ◌∙◌, refl, Some, []}
+use Rattle.std.proofs.Common.{ap, ◌∙◌, refl, []}
 use Rattle.std.specs.Prelude.{map, unwrap_or}
 use Rattle.std.specs.Option.{option_map}
 use Rattle.store_model.specs.Service.Descriptor.{guid_at, offsets}

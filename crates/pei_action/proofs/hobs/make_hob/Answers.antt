@@ -5,12 +5,12 @@ use Rattle.boot_model.specs.declared.line.Extra.TheVariants as X
 use Rattle.store_model.specs.Service.Hob.{create_hob}
 use Rattle.boot_model.specs.PeiAction.{Called, answer_reply, hob_reply}
 use Rattle.frames.specs.declared.registers.Writes.TheVariants as W
-use Rattle.pei_action.proofs.ScriptHobs.{script_hob}
+use Rattle.boot_model.proofs.ScriptHobs.{script_hob}
 use Rattle.pei_action.proofs.Served.{given_where, refused_taken, told_taken}
 use Rattle.pei_action.proofs.hobs.make_hob.Goals as goal
 
 pub create_hob-requires-clause-hob : goal.create_hob-requires-clause-hob
-create_hob-requires-clause-hob g c = script_hob c.args.kind c.args.body.now (hob_value c.in-Some.hob) c.requires.hob c.in-Some.ensures
+create_hob-requires-clause-hob g c = (script_hob c.args.kind c.args.body.now (hob_value c.in-Some.hob) c.requires.hob c.in-Some.ensures).script
 
 pub returns-in-Ok : goal.returns-in-Ok
 returns-in-Ok g c = record {

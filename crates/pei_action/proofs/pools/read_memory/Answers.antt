@@ -4,7 +4,7 @@ use Rattle.boot_model.specs.PeiAction.{Called, effect}
 use Rattle.boot_model.specs.Registers.{number_in}
 use Rattle.act_code.specs.declared.action.Action.TheVariants as A
 use Rattle.frames.specs.declared.registers.Writes.TheVariants as W
-use Rattle.pei_action.specs.Taken.{Does, answered, reply_in}
+use Rattle.pei_action.specs.Taken.{Does, reply_in}
 use Rattle.pei_action.proofs.Served.{peek_shown}
 use Rattle.pei_action.proofs.pools.read_memory.Goals as goal
 

@@ -1,10 +1,9 @@
-use Rattle.std.proofs.Common.{refl, ap, sym, subst, ◌∙◌, [], Err}
+use Rattle.std.proofs.Common.{refl, ap, sym, subst, ◌∙◌, Err}
 use Rattle.boot_model.specs.declared.line.CallName.TheVariants as C
 use Rattle.store_model.specs.Service.{Answers}
 use Rattle.store_model.specs.Service.Descriptor.{offsets}
 use Rattle.store_model.specs.Service.Install.{install}
 use Rattle.boot_model.specs.PeiAction.{Called, sweep_reply, install_reply}
-use Rattle.pei_action.specs.Taken.{swept}
 use Rattle.boot_model.proofs.Held.{held_list}
 use Rattle.pei_action.proofs.Served.{given_where, refused_taken, swept_taken}
 use Rattle.pei_action.proofs.ppis.install_ppis.Goals as goal

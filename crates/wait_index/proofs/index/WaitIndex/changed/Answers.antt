@@ -23,8 +23,8 @@ returns-then-says-there-clause-set c catalog is =
     let here = sym c.get.ensures ∙ c.in-Some.is in
     record {
       phase = refl;
-      slots = c.put.ensures.slots;
       has = has_set old.phase catalog old.watchers old.installed c.put.new.self c.args.guid.now c.in-Some.slot c.args.there is.watched here c.put.ensures.slots c.put.ensures.there;
+      slots = c.put.ensures.slots;
       order = c.rouse_watchers.ensures.roused.order;
       standings = c.rouse_watchers.ensures.roused.standings;
     }

@@ -2,7 +2,7 @@ use Rattle.std.proofs.Common.{◌≡◌, ◌-◌, ◌≤◌, length}
 use Rattle.store_model.specs.StoreState.{StoreState}
 use Rattle.boot_trace.specs.HobLines.{all_hobs}
 use Rattle.boot_trace.proofs.HobPlaces.{place_of}
-use Rattle.boot_trace.proofs.store_hobs.hob_count.Given as goal
+use Rattle.boot_trace.proofs.store_hobs.count_hobs.Given as goal
 
 -- the next HOB has the number that was counted
 abbrev pub invariant-hobs : goal.invariant-hobs

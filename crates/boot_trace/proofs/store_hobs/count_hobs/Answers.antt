@@ -1,7 +1,7 @@
 use Rattle.std.proofs.Common.{arith}
 use Rattle.boot_trace.proofs.EntryBounds.{few_hobs}
-use Rattle.boot_trace.proofs.HobPlaces.{told, none_left, hob_place}
-use Rattle.boot_trace.proofs.store_hobs.hob_count.Goals as goal
+use Rattle.boot_trace.proofs.HobPlaces.{told, none_left, hob_place, at_end}
+use Rattle.boot_trace.proofs.store_hobs.count_hobs.Goals as goal
 
 pub hob_at-requires : goal.hob_at-requires
 hob_at-requires g c =
@@ -26,6 +26,7 @@ pub returns : goal.returns
 returns g c = record {
   row = λ s stands needs.
       let i = c.hobs.invariant s stands in
-      let high = none_left s c.hobs.count c.hobs.next i.1 (c.in_default.ensures.row s stands (hob_place s c.hobs.count c.hobs.next i.0 i.1)) in
-      omega (arith, i.0, high);
+      let h = c.in_default.ensures.row s stands (hob_place s c.hobs.count c.hobs.next i.0 i.1) in
+      let high = none_left s c.hobs.count c.hobs.next i.1 h in
+      record { hobs_are = omega (arith, i.0, high); end_is = at_end s c.hobs.next (hob_place s c.hobs.count c.hobs.next i.0 i.1) h };
 }

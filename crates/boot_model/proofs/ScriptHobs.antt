@@ -1,26 +1,19 @@
--- A HOB that a script makes is a HOB of a state, as long as its fields.
-use Rattle.std.proofs.Common.{◌≡◌, ◌≢◌, ℕ, ◌+◌, ◌-◌, ◌*◌, ◌/◌, ◌%◌, ◌≤◌, ◌<◌, ◌^◌, ◌==◌, Bool, true, false, cond, List, length, drop, arith, refl, ap, subst, ◌∙◌, Some, None, length-append, length-drop, length-take}
+-- A HOB of a script's action is one that scripts make, as long as its fields.
+use Rattle.std.proofs.Common.{◌≡◌, ℕ, ◌+◌, ◌-◌, ◌≤◌, ◌==◌, Bool, true, false, cond, List, length, drop, arith, refl, ap, subst, ◌∙◌, Some, None, length-append, length-drop, length-take}
 use Rattle.std.proofs.lemmas.List.{length-replicate}
 use Rattle.std.proofs.lemmas.Bool.Decides.{nat_tests}
-use Rattle.hob_codec.specs.declared.kind.TheConstants.{HANDOFF, ALLOCATION, VOLUME, END}
-use Rattle.hob_codec.specs.HobValue.{HobValue, ResourceHob, NamedHob, VolumeHob, CpuHob, Volume2Hob, kind_of}
+use Rattle.hob_codec.specs.HobValue.{HobValue, ResourceHob, NamedHob, VolumeHob, CpuHob, Volume2Hob}
 use Rattle.hob_codec.specs.HobBytes.{length_of, padded_len, padding}
 use Rattle.hob_codec.specs.HobReading.{hob_of}
 use Rattle.pi_base.specs.Guids.{guid_at}
 use Rattle.act_code.specs.Format.{is_hob, is_within}
-use Rattle.store_model.specs.StoreState.{Board, hob_len, most_hob}
-use Rattle.store_model.specs.StateFacts.{IsHobEntry}
+use Rattle.store_model.specs.StoreState.{hob_len}
+use Rattle.store_model.specs.StoreCall.{IsScriptHob}
 use Rattle.store_model.specs.Service.Hob.{hob_entry}
 
 -- a HOB as a script makes it
 pub record IsMade (hob : HobValue) : Type 0 where
-  pub kind : kind_of hob < 2 ^ 16
-  pub not_handoff : kind_of hob ≢ HANDOFF
-  pub not_end : kind_of hob ≢ END
-  pub not_pages : kind_of hob ≢ ALLOCATION
-  pub most : length_of hob ≤ most_hob
-  pub aligned : length_of hob % 8 ≡ 0
-  pub volume : kind_of hob ≡ VOLUME → length_of hob ≡ 24
+  pub script : IsScriptHob hob
   pub len : hob_len (hob_entry hob) ≡ length_of hob
 
 whole : (at : ℕ) (body : List ℕ) → at + 16 ≤ length body → length (guid_at body at).0 ≡ 16
@@ -31,68 +24,20 @@ whole at body le =
 zeros_len : (n : ℕ) → length (padding n) ≡ padded_len n - n
 zeros_len n = let zero : ℕ = 0 in length-replicate (padded_len n - n) zero
 
-named_aligned : (n : ℕ) → (24 + n * 8) % 8 ≡ 0
-named_aligned n = omega arith
-
 resource : (owner : List ℕ) (kind attributes start len : ℕ) → length owner ≡ 16 → IsMade (ResourceHob owner kind attributes start len)
-resource owner kind attributes start len is = record {
-  kind = omega arith;
-  not_handoff = λ e. absurd (omega (arith, e));
-  not_end = λ e. absurd (omega (arith, e));
-  not_pages = λ e. absurd (omega (arith, e));
-  most = omega arith;
-  aligned = refl;
-  volume = λ e. absurd (omega (arith, e));
-  len = simp length-append (omega (arith, is));
-}
+resource owner kind attributes start len is = record { script = tt; len = simp length-append (omega (arith, is)) }
 
 named : (name body : List ℕ) → length name ≡ 16 → length body ≤ 1024 → IsMade (NamedHob name body)
-named name body is few = record {
-  kind = omega arith;
-  not_handoff = λ e. absurd (omega (arith, e));
-  not_end = λ e. absurd (omega (arith, e));
-  not_pages = λ e. absurd (omega (arith, e));
-  most = omega (arith, few);
-  aligned = named_aligned ((length body + 7) / 8);
-  volume = λ e. absurd (omega (arith, e));
-  len = simp length-append (omega (arith, is, zeros_len (length body)));
-}
+named name body is few = record { script = omega (arith, few); len = simp length-append (omega (arith, is, zeros_len (length body))) }
 
 volume : (base len : ℕ) → IsMade (VolumeHob base len)
-volume base len = record {
-  kind = omega arith;
-  not_handoff = λ e. absurd (omega (arith, e));
-  not_end = λ e. absurd (omega (arith, e));
-  not_pages = λ e. absurd (omega (arith, e));
-  most = omega arith;
-  aligned = refl;
-  volume = λ e. refl;
-  len = refl;
-}
+volume base len = record { script = tt; len = refl }
 
 cpu : (memory io : ℕ) → IsMade (CpuHob memory io)
-cpu memory io = record {
-  kind = omega arith;
-  not_handoff = λ e. absurd (omega (arith, e));
-  not_end = λ e. absurd (omega (arith, e));
-  not_pages = λ e. absurd (omega (arith, e));
-  most = omega arith;
-  aligned = refl;
-  volume = λ e. absurd (omega (arith, e));
-  len = refl;
-}
+cpu memory io = record { script = tt; len = refl }
 
 volume2 : (base len : ℕ) (name file : List ℕ) → length name ≡ 16 → length file ≡ 16 → IsMade (Volume2Hob base len name file)
-volume2 base len name file is also = record {
-  kind = omega arith;
-  not_handoff = λ e. absurd (omega (arith, e));
-  not_end = λ e. absurd (omega (arith, e));
-  not_pages = λ e. absurd (omega (arith, e));
-  most = omega arith;
-  aligned = refl;
-  volume = λ e. absurd (omega (arith, e));
-  len = simp length-append (omega (arith, is, also));
-}
+volume2 base len name file is also = record { script = tt; len = simp length-append (omega (arith, is, also)) }
 
 -- what is there where a test holds
 only : (b : Bool) (own hob : HobValue) → (b ≡ true → IsMade own) → Some hob ≡ cond b (Some own) None → IsMade hob
@@ -127,17 +72,3 @@ by_kind kind body hob false false false false false ka kb kc kd ke h is = cc
 
 pub script_hob : (kind : ℕ) (body : List ℕ) (hob : HobValue) → is_hob kind (length body) ≡ true → Some hob ≡ hob_of kind body → IsMade hob
 script_hob kind body hob h is = by_kind kind body hob (kind == 3) (kind == 4) (kind == 5) (kind == 6) (kind == 9) refl refl refl refl refl h is
-
-pub made_entry : (board : Board) (taken : ℕ) (hob : HobValue) → IsMade hob → IsHobEntry board taken (hob_entry hob)
-made_entry board taken hob is =
-    let len = is.len in
-    let most = is.most in
-    record {
-      kind = is.kind;
-      not_handoff = is.not_handoff;
-      not_end = is.not_end;
-      len = omega (arith, len, most);
-      aligned = ap (λ n. n % 8) len ∙ is.aligned;
-      volume = λ e. let long = is.volume e in omega (arith, len, long);
-      body = is.not_pages;
-    }

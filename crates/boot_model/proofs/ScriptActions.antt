@@ -1,13 +1,15 @@
--- An action of a block of a script in the grammar, and its place.
-use Rattle.std.proofs.Common.{◌≡◌, ◌⊎◌, ℕ, zero, suc, ◌-◌, ◌≤◌, ◌<◌, ◌&&◌, Bool, true, false, List, [], ◌∷◌, length, arith, refl, subst, Option, Some, None, inl, inr}
-use Rattle.std.specs.Prelude.{slice_get, nat_lt, IfSome}
+-- An action of a block of a module's script is in the grammar of its phase, names blocks that a script may have, and stands at a place that a block may have.
+use Rattle.std.proofs.Common.{◌≡◌, ◌⊎◌, ℕ, zero, suc, ◌-◌, ◌≤◌, ◌<◌, ◌&&◌, Bool, true, false, List, [], ◌∷◌, length, arith, refl, ap, ◌∙◌, subst, Option, Some, None, inl, inr}
+use Rattle.std.specs.Prelude.{slice_get, nat_lt, IfSome, unwrap_or}
 use Rattle.std.specs.Option.{option_and_then}
 use Rattle.std.specs.List.{list_all}
 use Rattle.std.proofs.lemmas.Bool.Decides.{nat_tests}
 use Rattle.std.proofs.lemmas.Option.{slice_get_within}
 use Rattle.pi_base.specs.declared.phase.Phase.{Phase}
 use Rattle.pi_base.specs.declared.phase.Phase.TheVariants.{Pei, Dxe}
+use Rattle.pi_base.specs.declared.word.Word.TheVariants.{Success}
 use Rattle.act_code.specs.declared.action.Action.{Action}
+use Rattle.act_code.specs.declared.action.Action.TheVariants.{Ret}
 use Rattle.act_code.specs.declared.script.Script.{Script}
 use Rattle.act_code.specs.Format.{is_within, registers_in, blocks_in}
 use Rattle.act_code.specs.Index.{is_indexed}
@@ -19,9 +21,7 @@ use Rattle.catalog_model.specs.declared.catalog.Module.{Module}
 use Rattle.catalog_model.specs.declared.catalog.Part.{Part}
 use Rattle.pi_base.specs.Lists.{Each}
 use Rattle.catalog_model.specs.WellFormed.{IsPartOf, IsWellFormed, part_of}
-use Rattle.frames.specs.Found.{found_action}
-use Rattle.frames.specs.Needs.{IsScriptAction}
-use Rattle.boot_model.specs.declared.frame.Frame.{Frame}
+use Rattle.catalog_model.specs.Parts.{block_of, part_at}
 
 more : (n m k : ℕ) → m ≤ k → nat_lt n m ≡ true → nat_lt n k ≡ true
 more n m k le e = grind (arith, nat_tests, le, e)
@@ -62,9 +62,14 @@ none_of (first ∷ rest) i block none e = cc
 within_high : (n low high : ℕ) → is_within low high n ≡ true → n ≤ high
 within_high n low high e = grind (arith, nat_tests, e)
 
--- an action in its script, and its place in its block
+-- an action of a script of the phase, which names blocks that a script may have
+pub record IsOfScript (phase : Phase) (action : Action) : Type 0 where
+  pub is : S.IsAction phase action
+  pub indexed : is_indexed 64 action ≡ true
+
+-- the same, and its place in its block
 pub record Fits (phase : Phase) (place : ℕ) (action : Action) : Type 0 where
-  pub script : IsScriptAction phase action
+  pub script : IsOfScript phase action
   pub position : place < 1024
 
 -- the same, in the script of a module of the catalogue
@@ -79,7 +84,10 @@ in_grammar phase script b p block action of grammar e f =
     let few : length block ≤ 1024 = within_high (length block) 1 1024 is.number in
     let inside : p < length block = slice_get_within block p action f in
     let below : length script.blocks ≤ 64 = within_high (length script.blocks) 1 64 grammar.number in
-    record { script = (subst (λ x. S.IsAction x action) of sound.1.is, indexed_more (length script.blocks) 64 action below sound.1.indexed); position = omega (arith, few, inside) }
+    record {
+      script = record { is = subst (λ x. S.IsAction x action) of sound.1.is; indexed = indexed_more (length script.blocks) 64 action below sound.1.indexed };
+      position = omega (arith, few, inside);
+    }
 
 in_script : (phase : Phase) (script : Script) (b p : ℕ) (block : List Action) (action : Action) → script.phase ≡ phase → ((script.blocks ≡ []) ⊎ IsInGrammar script) → slice_get script.blocks b ≡ Some block → slice_get block p ≡ Some action → Fits phase p action
 in_script phase script b p block action of (inl none) e f = absurd (none_of script.blocks b block none e)
@@ -110,5 +118,29 @@ in_module phase catalog number b p action None well e f = cc
 in_module phase catalog number b p action (Some m) well e f =
     record { fits = in_part phase b p action (part_of phase m) (part_is phase catalog number m well e) f; here = slice_get_within catalog.modules number m e }
 
-pub found_fits : {W : Type 0} (phase : Phase) (catalog : Catalog) (frame : Frame W) (action : Action) → IsWellFormed catalog → found_action phase catalog frame ≡ Some action → FitsIn phase catalog frame.module_number frame.position action
-found_fits phase catalog frame action well e = in_module phase catalog frame.module_number frame.block frame.position action (slice_get catalog.modules frame.module_number) well refl e
+pub script_action : (phase : Phase) (catalog : Catalog) (number b p : ℕ) (action : Action) → IsWellFormed catalog
+    → option_and_then (λ block. slice_get block p) (option_and_then (λ part. slice_get part.script.blocks b) (part_at phase catalog number)) ≡ Some action
+    → FitsIn phase catalog number p action
+script_action phase catalog number b p action well e = in_module phase catalog number b p action (slice_get catalog.modules number) well refl e
+
+-- behind the end of a block a script returns
+ret : (phase : Phase) → IsOfScript phase (Ret Success)
+ret Pei = record { is = record { of_phase = refl; in_range = tt }; indexed = refl }
+ret Dxe = record { is = record { of_phase = refl; in_range = tt }; indexed = refl }
+
+in_place : (phase : Phase) (catalog : Catalog) (number b p : ℕ) (block : List Action) (action : Option Action) → IsWellFormed catalog
+    → option_and_then (λ part. slice_get part.script.blocks b) (part_at phase catalog number) ≡ Some block → slice_get block p ≡ action
+    → IsOfScript phase (unwrap_or action (Ret Success))
+in_place phase catalog number b p block None well e f = ret phase
+in_place phase catalog number b p block (Some action) well e f =
+    (script_action phase catalog number b p action well (ap (option_and_then (λ block. slice_get block p)) e ∙ f)).fits.script
+
+in_found : (phase : Phase) (catalog : Catalog) (number b p : ℕ) (block : Option (List Action)) → IsWellFormed catalog
+    → option_and_then (λ part. slice_get part.script.blocks b) (part_at phase catalog number) ≡ block
+    → IsOfScript phase (unwrap_or (slice_get (unwrap_or block []) p) (Ret Success))
+in_found phase catalog number b zero None well e = ret phase
+in_found phase catalog number b (suc p) None well e = ret phase
+in_found phase catalog number b p (Some block) well e = in_place phase catalog number b p block (slice_get block p) well e refl
+
+pub taken_action : (phase : Phase) (catalog : Catalog) (number b p : ℕ) → IsWellFormed catalog → IsOfScript phase (unwrap_or (slice_get (block_of phase catalog number b) p) (Ret Success))
+taken_action phase catalog number b p well = in_found phase catalog number b p (option_and_then (λ part. slice_get part.script.blocks b) (part_at phase catalog number)) well refl

@@ -7,7 +7,7 @@ use Rattle.std.proofs.lemmas.Map.Steps.{length-le_from_distinct_below}
 use Rattle.pi_base.specs.Lists.{Each, Ordered, numbers}
 use Rattle.catalog_model.specs.Parts.{has_number}
 use Rattle.boot_model.specs.Licence.{AllDiffer}
-use Rattle.boot_laws.proofs.ListFacts.{each_more, each_flat, each_both, each_cross, each_at, ordered_filter, ordered_append}
+use Rattle.boot_model.proofs.ListFacts.{each_more, each_flat, each_both, each_cross, each_at, ordered_filter, ordered_append}
 
 -- the number is none of these, and none of those is one of these
 abbrev pub Apart : ℕ → List ℕ → Type 0
