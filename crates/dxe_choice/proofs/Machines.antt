@@ -37,6 +37,12 @@ same_there catalog m later old new same handles s guid slot at =
     ∙ s.installed guid slot (ap (λ (i : Installed). value_of i.slots guid) (sym same) ∙ at)
     ∙ ap (λ h. has_protocol h guid) (sym handles)
 
+-- which drivers wait, where the queue and the starts stay
+pub waiting_same : (m later : DxeMachine) → later.scheduled ≡ m.scheduled → later.started ≡ m.started → (n : ℕ) → is_waiting later n ≡ is_waiting m n
+waiting_same m later scheduled started n =
+    ap (λ xs. not (list_any (λ (next : Scheduled). next.module_number == n) xs) && not (has_number later.started n)) scheduled
+    ∙ ap (λ ns. not (list_any (λ (next : Scheduled). next.module_number == n) m.scheduled) && not (has_number ns n)) started
+
 -- drivers are scheduled
 pub stands_scheduled : (catalog : Catalog) (m later : DxeMachine) (added : List Scheduled) (old new : WaitIndex) → StandsForDxe catalog m old → WaitNoMore (is_among added) old new
     → later.discovered ≡ m.discovered → later.requested ≡ m.requested → later.handles ≡ m.handles → ((n : ℕ) → is_waiting later n ≡ (not (is_among added n) && is_waiting m n)) → StandsForDxe catalog later new
@@ -78,9 +84,7 @@ stands_changed catalog m later guid there old new s set has =
     let order : order_in new ≡ order_in old = ap (λ xs. xs.items) set.order in
     let known : (n : ℕ) → has_number (order_in new) n ≡ true → has_number (order_in old) n ≡ true = λ n h. ap (λ xs. has_number xs n) (sym order) ∙ h in
     let stands : (n : ℕ) → standing_of new.places n ≡ standing_of old.places n = λ n. ap (λ (ss : List Standing). unwrap_or (slice_get ss n) unknown) set.standings in
-    let waiting : (n : ℕ) → is_waiting later n ≡ is_waiting m n =
-    λ n. ap (λ xs. not (list_any (λ (next : Scheduled). next.module_number == n) xs) && not (has_number later.started n)) has.scheduled
-    ∙ ap (λ ns. not (list_any (λ (next : Scheduled). next.module_number == n) m.scheduled) && not (has_number ns n)) has.started in
+    let waiting = waiting_same m later has.scheduled has.started in
     record {
       phase = set.phase ∙ s.phase;
       order = order ∙ s.order ∙ ap (drivers_of catalog) (sym has.discovered);
@@ -108,17 +112,17 @@ later_has : (a b : Bool) → b ≡ true → (a || b) ≡ true
 later_has true b h = refl
 later_has false b h = h
 
+lacks_by : (x : ℕ) (xs ys : List ℕ) (n : ℕ) (b : Bool) → (x == n) ≡ b → has_number (xs ++ ys) x ≡ false → has_number ys n ≡ true → has_number xs n ≡ false → (b || has_number xs n) ≡ false
+lacks_by x xs ys n true e d h on =
+    let there : has_number (xs ++ ys) n ≡ true = has_either xs ys n ∙ later_has (has_number xs n) (has_number ys n) h in
+    let never : has_number (xs ++ ys) n ≡ false = ap (has_number (xs ++ ys)) (sym (is_equal x n e)) ∙ d in
+    absurd (cc)
+lacks_by x xs ys n false e d h on = on
+
 -- a number behind the others is none of them
 pub first_lacks : (xs ys : List ℕ) (n : ℕ) → AllDiffer (xs ++ ys) → has_number ys n ≡ true → has_number xs n ≡ false
 first_lacks [] ys n d h = refl
-first_lacks (x ∷ xs) ys n d h = by (x == n) refl
-  where
-    by : (b : Bool) → (x == n) ≡ b → (b || has_number xs n) ≡ false
-    by true e =
-        let there : has_number (xs ++ ys) n ≡ true = has_either xs ys n ∙ later_has (has_number xs n) (has_number ys n) h in
-        let never : has_number (xs ++ ys) n ≡ false = ap (has_number (xs ++ ys)) (sym (is_equal x n e)) ∙ d.0 in
-        absurd (cc)
-    by false e = first_lacks xs ys n d.1 h
+first_lacks (x ∷ xs) ys n d h = lacks_by x xs ys n (x == n) refl d.0 h (first_lacks xs ys n d.1 h)
 
 and_true : (b : Bool) → (b && true) ≡ b
 and_true true = refl
@@ -171,9 +175,7 @@ asked_too false false r = refl
 pub stands_requested : (catalog : Catalog) (m later : DxeMachine) (number : ℕ) (old new : WaitIndex) → StandsForDxe catalog m old → IsRequested number old new → HasRequest catalog number m later → StandsForDxe catalog later new
 stands_requested catalog m later number old new s is has =
     let known : (n : ℕ) → has_number (order_in new) n ≡ true → has_number (order_in old) n ≡ true = λ n h. ap (λ xs. has_number xs n) (sym is.order) ∙ h in
-    let waiting : (n : ℕ) → is_waiting later n ≡ is_waiting m n =
-    λ n. ap (λ xs. not (list_any (λ (next : Scheduled). next.module_number == n) xs) && not (has_number later.started n)) has.scheduled
-    ∙ ap (λ ns. not (list_any (λ (next : Scheduled). next.module_number == n) m.scheduled) && not (has_number ns n)) has.started in
+    let waiting = waiting_same m later has.scheduled has.started in
     record {
       phase = is.phase ∙ s.phase;
       order = is.order ∙ s.order ∙ ap (drivers_of catalog) (sym has.discovered);
@@ -199,9 +201,7 @@ pub untouched_requested : (catalog : Catalog) (m later : DxeMachine) (number : �
 untouched_requested catalog m later number others has n h =
     let none : has_number (discovered_order catalog m) n ≡ false = ap (λ volumes. has_number (drivers_of catalog volumes) n) (sym has.discovered) ∙ h in
     let was = others n none in (
-      ap (λ xs. not (list_any (λ (next : Scheduled). next.module_number == n) xs) && not (has_number later.started n)) has.scheduled
-      ∙ ap (λ ns. not (list_any (λ (next : Scheduled). next.module_number == n) m.scheduled) && not (has_number ns n)) has.started
-      ∙ was.0,
+      waiting_same m later has.scheduled has.started n ∙ was.0,
       ap (λ ns. has_number ns n) has.requested ∙ has_either m.requested (number ∷ []) n
       ∙ either_none (has_number m.requested n) ((number == n) || false) was.1 (lacks_one number n (discovered_order catalog m) (number == n) refl has.known none),
     )
@@ -209,9 +209,7 @@ untouched_requested catalog m later number others has n h =
 pub untouched_changed : (catalog : Catalog) (m later : DxeMachine) (guid : Guid) (there : Bool) → AreUntouched catalog m → HasProtocol guid there m later → AreUntouched catalog later
 untouched_changed catalog m later guid there others has n h =
     let was = others n (ap (λ volumes. has_number (drivers_of catalog volumes) n) (sym has.discovered) ∙ h) in (
-      ap (λ xs. not (list_any (λ (next : Scheduled). next.module_number == n) xs) && not (has_number later.started n)) has.scheduled
-      ∙ ap (λ ns. not (list_any (λ (next : Scheduled). next.module_number == n) m.scheduled) && not (has_number ns n)) has.started
-      ∙ was.0,
+      waiting_same m later has.scheduled has.started n ∙ was.0,
       ap (λ ns. has_number ns n) has.requested ∙ was.1,
     )
 

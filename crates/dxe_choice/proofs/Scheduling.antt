@@ -1,32 +1,35 @@
 -- Drivers are scheduled one after the other.
 use Rattle.std.proofs.Common.{◌≡◌, ℕ, zero, suc, ◌+◌, ◌<◌, ◌≤◌, ◌==◌, Bool, true, false, ◌&&◌, ◌||◌, not, List, [], ◌∷◌, ◌++◌, length, drop, get_or, map, reverse, refl, sym, subst, ap, ◌∙◌, arith, append_assoc}
-use Rattle.std.proofs.lemmas.List.{append-nil, drop-append-le, drop_more, length-set, map-append, reverse-append}
+use Rattle.std.proofs.lemmas.List.{append-nil, drop-append-le, drop_at, drop_more, length-append, length-set, map-append, reverse-append}
 use Rattle.std.proofs.lemmas.List.Folds.{list_any-append}
 use Rattle.std.proofs.Math.ListN.{drop_of_length-le}
 use Rattle.std.proofs.Math.Dec.{eqb-zero-suc, eqb-suc-zero}
 use Rattle.std.specs.Prelude.{slice_set, flat_map}
 use Rattle.std.specs.List.{list_any}
 use Rattle.std.proofs.lemmas.Bool.Decides.{nat_tests}
+use Rattle.pi_base.specs.declared.guid.Guid.{Guid}
 use Rattle.pi_base.specs.Lists.{Each}
 use Rattle.catalog_model.specs.declared.catalog.Catalog.{Catalog}
 use Rattle.pi_base.specs.declared.phase.Phase.TheVariants.{Dxe}
-use Rattle.catalog_model.specs.Parts.{has_number, module_volume, part_at, part_of}
+use Rattle.catalog_model.specs.Parts.{has_number, module_volume, part_at, part_of, parts_in}
 use Rattle.boot_model.specs.declared.licence.Licence.{Licence}
 use Rattle.boot_model.specs.declared.driver.Scheduled.{Scheduled}
 use Rattle.boot_model.specs.DxeChoice.{a_priori_drivers, discovered_order, driver_licence, drivers_of, is_waiting, schedule_of}
 use Rattle.boot_model.specs.DxeMachine.{DxeMachine}
+use Rattle.boot_model.specs.EvaluationBound.{dxe_asked}
 use Rattle.boot_model.specs.Licence.{AllDiffer}
 use Rattle.boot_model.proofs.ListFacts.{each_more, each_append, within}
 use Rattle.boot_model.proofs.Distinct.{all_differ, few_below}
 use Rattle.boot_laws.proofs.EachDriver.{order_has}
-use Rattle.boot_laws.proofs.PartLists.{IsKnown, IsPartOfVolume, is_equal, known_of, ranked_in, ranked_are}
+use Rattle.boot_laws.proofs.PartLists.{IsKnown, IsPartOfVolume, drivers_are, is_equal, known_of, ranked_in, ranked_are}
 use Rattle.boot_laws.proofs.Queue.{has_behind}
 use Rattle.wait_index.specs.declared.index.WaitIndex.{WaitIndex}
-use Rattle.wait_index.specs.Index.{order_in}
-use Rattle.dxe_choice.specs.Choosing.{AllWait, Come, IsNumberOf, Schedules, as_apriori}
-use Rattle.dxe_choice.specs.Index.{Leaves, is_among}
-use Rattle.dxe_choice.specs.Queue.{Queue, HasVolumes, IsDriver, IsQueueFor, IsQueueOf, waits_at}
-use Rattle.dxe_choice.proofs.Machines.{none_before, stands_come, stands_scheduled}
+use Rattle.driver_order.specs.Order.{Drivers}
+use Rattle.wait_index.specs.Index.{IsIndex, IsSame, IsSet, asked, order_in}
+use Rattle.dxe_choice.specs.Choosing.{AllWait, Come, HasIndex, IsNumberOf, Schedules, as_apriori}
+use Rattle.dxe_choice.specs.Index.{IsRequested, Leaves, WaitNoMore, is_among}
+use Rattle.dxe_choice.specs.Queue.{AreNew, HasProtocol, HasRequest, Queue, HasVolumes, IsDriver, IsQueueFor, IsQueueOf, owed, waits_at}
+use Rattle.dxe_choice.proofs.Machines.{none_before, stands_changed, stands_come, stands_requested, stands_scheduled, stands_settled, untouched_changed, untouched_requested, waiting_same}
 use Rattle.dxe_choice.proofs.Waiting.{leave_then, neither, none_leave}
 
 pub none_scheduled : (queue : Queue) → Schedules queue [] queue
@@ -78,15 +81,15 @@ one_waits (flag ∷ flags) up (suc n) = one_waits flags (λ k. up (suc k)) n
 abbrev pub IsKnownNext : Catalog → List ℕ → Scheduled → Type 0
 IsKnownNext catalog volumes next = IsKnown catalog volumes next.module_number
 
+not_among_by : (catalog : Catalog) (m : DxeMachine) (n number : ℕ) (later b : Bool) → (number == n) ≡ b → has_number (discovered_order catalog m) n ≡ false → IsKnown catalog m.discovered number → later ≡ false → (b || later) ≡ false
+not_among_by catalog m n number later true same none known on =
+    let there : has_number (discovered_order catalog m) n ≡ true = ap (has_number (discovered_order catalog m)) (sym (is_equal number n same)) ∙ order_has catalog m number known in
+    absurd (cc)
+not_among_by catalog m n number later false same none known on = on
+
 not_among : (catalog : Catalog) (m : DxeMachine) (n : ℕ) (added : List Scheduled) → has_number (discovered_order catalog m) n ≡ false → Each (IsKnownNext catalog m.discovered) added → is_among added n ≡ false
 not_among catalog m n [] none e = refl
-not_among catalog m n (next ∷ added) none e = by (next.module_number == n) refl
-  where
-    by : (b : Bool) → (next.module_number == n) ≡ b → (b || is_among added n) ≡ false
-    by true same =
-        let there : has_number (discovered_order catalog m) n ≡ true = ap (has_number (discovered_order catalog m)) (sym (is_equal next.module_number n same)) ∙ order_has catalog m next.module_number e.0 in
-        absurd (cc)
-    by false same = not_among catalog m n added none e.1
+not_among catalog m n (next ∷ added) none e = not_among_by catalog m n next.module_number (is_among added n) (next.module_number == n) refl none e.0 (not_among catalog m n added none e.1)
 
 -- a machine that has so many drivers more in its queue
 pub scheduled_row : (catalog : Catalog) (m new : DxeMachine) (added : List Scheduled) (queue later : Queue) → IsQueueOf catalog m queue → Schedules queue added later → new.scheduled ≡ m.scheduled ++ added → new.started ≡ m.started
@@ -212,3 +215,75 @@ pub ranked_numbers : (catalog : Catalog) (volume : ℕ) (queue : Queue) (none pa
 ranked_numbers catalog volume queue none parts numbers empty pushed are flags =
     subst (Each (IsNumberOf queue)) (sym (are ∙ pushed ∙ ap (λ xs. xs ++ ranked_in catalog volume) empty))
     (subst (λ (n : ℕ). Each (λ k. k < n) (ranked_in catalog volume)) (sym flags) (ranked_below catalog volume))
+
+-- a driver was requested
+pub request_row : (catalog : Catalog) (m new : DxeMachine) (number : ℕ) (queue later : Queue) → later.scheduled ≡ queue.scheduled → later.waits ≡ queue.waits → IsRequested number queue.index later.index
+    → IsQueueOf catalog m queue → HasRequest catalog number m new → IsQueueOf catalog new later
+request_row catalog m new number queue later scheduled flags is q has = record {
+  scheduled = has.scheduled ∙ q.scheduled ∙ sym scheduled;
+  waits = λ n. ap (λ fs. waits_at fs n) flags ∙ q.waits n ∙ sym (waiting_same m new has.scheduled has.started n);
+  index = stands_requested catalog m new number queue.index later.index q.index is has;
+  others = untouched_requested catalog m new number q.others has;
+}
+
+-- a protocol is on a handle now, or on none
+pub change_row : (catalog : Catalog) (m new : DxeMachine) (guid : Guid) (there : Bool) (queue later : Queue) → later.scheduled ≡ queue.scheduled → later.waits ≡ queue.waits → IsSet catalog guid there queue.index later.index
+    → IsQueueOf catalog m queue → HasProtocol guid there m new → IsQueueOf catalog new later
+change_row catalog m new guid there queue later scheduled flags is q has = record {
+  scheduled = has.scheduled ∙ q.scheduled ∙ sym scheduled;
+  waits = λ n. ap (λ fs. waits_at fs n) flags ∙ q.waits n ∙ sym (waiting_same m new has.scheduled has.started n);
+  index = stands_changed catalog m new guid there queue.index later.index q.index is has;
+  others = untouched_changed catalog m new guid there q.others has;
+}
+
+-- expressions were evaluated
+pub settle_row : (catalog : Catalog) (m : DxeMachine) (queue later : Queue) → later.scheduled ≡ queue.scheduled → later.waits ≡ queue.waits → IsSame queue.index later.index → IsQueueOf catalog m queue → IsQueueOf catalog m later
+settle_row catalog m queue later scheduled flags is q = record {
+  scheduled = q.scheduled ∙ sym scheduled;
+  waits = λ n. ap (λ fs. waits_at fs n) flags ∙ q.waits n;
+  index = stands_settled catalog m queue.index later.index q.index is;
+  others = q.others;
+}
+
+-- the drivers of volumes are modules
+pub drivers_below : (catalog : Catalog) (volumes : List ℕ) → Each (λ n. n < length catalog.modules) (drivers_of catalog volumes)
+drivers_below catalog volumes =
+    each_more (IsKnown catalog volumes) (λ n. n < length catalog.modules) (drivers_of catalog volumes) (λ n known. within (part_of Dxe) catalog.modules n known.0) (known_of catalog (parts_in Dxe catalog) (drivers_are catalog) volumes)
+
+-- the new drivers stand behind those of the index
+pub new_are : (catalog : Catalog) (queue : Queue) (order : Drivers) (known place : ℕ) (all drivers : List ℕ) → AreNew catalog queue order known → all ≡ order.drivers → place ≡ length (order_in queue.index) → drivers ≡ drop place all
+    → drivers ≡ drivers_of catalog (drop known order.volumes)
+new_are catalog queue order known place all drivers new is at behind =
+    behind ∙ ap (λ n. drop n all) at ∙ ap (drop (length (order_in queue.index))) (is ∙ new.drivers) ∙ drop_at (order_in queue.index) (drivers_of catalog (drop known order.volumes)) (length (order_in queue.index)) refl
+
+pub new_differ : (catalog : Catalog) (queue : Queue) (order : Drivers) (known : ℕ) (drivers : List ℕ) → AreNew catalog queue order known → drivers ≡ drivers_of catalog (drop known order.volumes) → AllDiffer (order_in queue.index ++ drivers)
+new_differ catalog queue order known drivers new are = subst AllDiffer (new.drivers ∙ ap (λ xs. order_in queue.index ++ xs) (sym are)) new.differ
+
+pub new_within : (catalog : Catalog) (queue : Queue) (order : Drivers) (known place : ℕ) (all : List ℕ) → AreNew catalog queue order known → all ≡ order.drivers → place ≡ length (order_in queue.index) → place ≤ length all
+new_within catalog queue order known place all new is at =
+    let long : length all ≡ length (order_in queue.index) + length (drivers_of catalog (drop known order.volumes)) =
+    ap length (is ∙ new.drivers) ∙ length-append (order_in queue.index) (drivers_of catalog (drop known order.volumes)) in
+    omega (arith, long, at)
+
+-- what is kept for a catalogue, with another index of it
+pub still_made : (catalog : Catalog) (queue later : Queue) → later.scheduled ≡ queue.scheduled → later.waits ≡ queue.waits → later.index.phase ≡ queue.index.phase → IsIndex catalog later.index → IsQueueFor catalog queue → IsQueueFor catalog later
+still_made catalog queue later scheduled flags phase index q = record {
+  flags = ap length flags ∙ q.flags;
+  drivers = subst (λ xs. Each (IsDriver catalog) xs) (sym scheduled) q.drivers;
+  index = index;
+  phase = phase ∙ q.phase;
+}
+
+-- the drivers that wait and push a protocol have to be evaluated
+pub changed_owes : (catalog : Catalog) (m : DxeMachine) (guid : Guid) (view queue later : Queue) → queue ≡ view → owed later ≤ owed queue + asked catalog queue.index guid → asked catalog queue.index guid ≡ dxe_asked catalog m guid
+    → owed later ≤ owed view + dxe_asked catalog m guid
+changed_owes catalog m guid view queue later is few same =
+    let before : owed queue ≡ owed view = ap (λ q. owed q) is in
+    sums (owed later) (owed queue) (owed view) _ _ before few same
+  where
+    sums : (now queue view asks bound : ℕ) → queue ≡ view → now ≤ queue + asks → asks ≡ bound → now ≤ view + bound
+    sums now queue view asks bound before few same = omega (arith, before, few, same)
+
+-- the index is still that of its catalogue
+pub still_index : (queue later : Queue) {left : ℕ → Bool} → HasIndex queue → WaitNoMore left queue.index later.index → HasIndex later
+still_index queue later h w = (h.0, w.kept h.0 h.1)

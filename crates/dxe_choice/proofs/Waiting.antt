@@ -15,14 +15,15 @@ use Rattle.wait_index.specs.Index.{Changes, IsIndex, again_in, is_open_in, order
 use Rattle.wait_index.specs.Places.{order_of, standing_of}
 use Rattle.dxe_choice.specs.Index.{IsRequested, Leaves, WaitNoMore, is_among}
 
+place_by : (x : ℕ) (xs : List ℕ) (n : ℕ) (b : Bool) → (x == n) ≡ b → (b || has_number xs n) ≡ true → (has_number xs n ≡ true → (place : ℕ) × (slice_get xs place ≡ Some n))
+    → (place : ℕ) × (slice_get (x ∷ xs) place ≡ Some n)
+place_by x xs n true e k on = (0, ap Some (is_equal x n e))
+place_by x xs n false e k on = let later = on k in (suc later.0, later.1)
+
 -- a number of a list has a place
 pub has_place : (xs : List ℕ) (n : ℕ) → has_number xs n ≡ true → (place : ℕ) × (slice_get xs place ≡ Some n)
 has_place [] n h = cc
-has_place (x ∷ xs) n h = by (x == n) refl h
-  where
-    by : (b : Bool) → (x == n) ≡ b → (b || has_number xs n) ≡ true → (place : ℕ) × (slice_get (x ∷ xs) place ≡ Some n)
-    by true e k = (0, ap Some (is_equal x n e))
-    by false e k = let later = has_place xs n k in (suc later.0, later.1)
+has_place (x ∷ xs) n h = place_by x xs n (x == n) refl h (has_place xs n)
 
 pub place_within : (xs : List ℕ) (place n : ℕ) → slice_get xs place ≡ Some n → place < length xs
 place_within [] place n h = cc

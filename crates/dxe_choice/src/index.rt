@@ -25,7 +25,7 @@ pub(crate) fn leave(index: &mut WaitIndex, number: u32)
 }
 
 /// A driver is requested.
-pub(crate) fn open(index: &mut WaitIndex, number: u32)
+pub(crate) fn admit(index: &mut WaitIndex, number: u32)
     requires { (catalog : OfCatalog) × IsIndex catalog index.old }
     ensures { IsRequested number index.old index.new }
 {

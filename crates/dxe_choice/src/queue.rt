@@ -12,7 +12,7 @@ ghost use Rattle.boot_model.specs.Licence.{AllDiffer};
 ghost use Rattle.wait_index.specs.Index.{order_in};
 
 use crate::group::backward_group;
-use crate::index::{first_that_may_start, leave, open};
+use crate::index::{admit, first_that_may_start, leave};
 use crate::licence::licence_of;
 use crate::waits::waits_at;
 use boot_model::{Licence, Scheduled};
@@ -170,7 +170,7 @@ impl DriverQueue {
         ensures made { (catalog : OfCatalog) → IsQueueFor catalog self.old → IsQueueFor catalog self.new }
         ensures owes { owed self.new ≡ owed self.old }
     {
-        open(&mut self.index, number);
+        admit(&mut self.index, number);
     }
 
     /// A protocol is on a handle now, or on none.
