@@ -32,7 +32,8 @@ use Rattle.dxe_dispatch.specs.Ends.{IsNow}
 use Rattle.dxe_dispatch.specs.Events.{HasEvent}
 use Rattle.dxe_dispatch.specs.Turns.{AreOf, HasTurned, IsOver, IsWithin, TurnsTo}
 use Rattle.dxe_dispatch.proofs.Idle.{step_starts, started_queue}
-use Rattle.dxe_dispatch.proofs.Lines.{part_whole}
+use Rattle.dxe_dispatch.proofs.Growing.{step_grew}
+use Rattle.dxe_dispatch.proofs.Lines.{part_none, part_whole}
 use Rattle.dxe_dispatch.proofs.Runs.{discovered_more}
 use Rattle.dxe_dispatch.proofs.Standing.{now_still}
 
@@ -156,3 +157,17 @@ turns_after stands store catalog fuel m later queue old mid new (Err halt) here 
 pub on_ok : {A E P Q : Type 0} (result : Result A E) → (P → Q) → OnOk result P → OnOk result Q
 on_ok (Ok done) f p = f p
 on_ok (Err fault) f p = tt
+
+-- nothing was put of a step's lines
+pub none_started : (catalog : Catalog) (fuel : ℕ) (m : DxeMachine) (text : Option (List ℕ)) → PrintedPart m (dxe_step catalog fuel m) (record { old = text; new = text })
+none_started catalog fuel m text =
+    let most : ℕ = fuel + m.actions + 1 in
+    let grew = step_grew catalog fuel most m (omega arith) (omega arith) in
+    record { told = grew.told; lines = grew.lines; text = part_none text (text_of grew.told) }
+
+-- a start was put in part
+pub part_started : (catalog : Catalog) (fuel : ℕ) (m : DxeMachine) (next : Scheduled) (grown : Queue) (t : Texts) (chosen : IsNext catalog m next grown) → IsIdle m
+    → PrintedPart m (driver_started catalog m next chosen.rest (part_at Dxe catalog next.module_number)) t → PrintedPart m (dxe_step catalog fuel m) t
+part_started catalog fuel m next grown t chosen idle part =
+    let P : DxeMachine → Type 0 = λ x. PrintedPart m x t in
+    subst P (sym (step_starts catalog fuel m next chosen.rest idle chosen.next_is)) part

@@ -1,6 +1,7 @@
 use Rattle.std.proofs.Common.{◌≡◌, ◌∙◌, ap, refl, subst, sym, drop, length, ◌≤◌, ◌+◌, arith}
 use Rattle.std.proofs.lemmas.Result.{err_from_is_err_and}
 use Rattle.boot_model.specs.DxeChoice.{drivers_of}
+use Rattle.boot_model.specs.DxeStep.{dxe_step}
 use Rattle.driver_order.specs.Order.{Drivers, IsOrderOf}
 use Rattle.dxe_choice.specs.Queue.{Discovers, owed}
 use Rattle.dxe_dispatch.proofs.Turning.{event_owes, on_ok, event_so, has_event, new_drivers, owes_still, told, whole_part, ends_so, turns_after}
@@ -15,7 +16,7 @@ discover-requires-clause-new g c =
     let ready = c.requires.state.3 in
     let went = rw c.in-Went.is at (c.in_ok-event.ensures.row m fuel made ready.now.machine ready.waits) in
     let core = went.2.machine.core in
-    let here = c.tell.ensures.row catalog c.requires.queue m (told m _) ready.now.queue (has_event catalog fuel m c.in-Went.event c.step.new.self.services.handles went.1 core.services.handles) in
+    let here = c.tell.ensures.row catalog c.requires.queue m (told m (dxe_step catalog fuel m)) ready.now.queue (has_event catalog fuel m c.in-Went.event c.step.new.self.services.handles went.1 core.services.handles) in
     let order = subst (IsOrderOf catalog _) (sym c.order.ensures) core.services.order in
     new_drivers catalog fuel m c.in-Went.event c.tell.new.queue c.order.result.now went.1 order here.index.order ready.once
 
@@ -37,7 +38,7 @@ returns-in_ok-discover-in-Went-clause-row g c m fuel made ready =
     let catalog = c.args.catalog.now in
     let went = rw c.in-Went.is at (c.in_ok-event.ensures.row m fuel made ready.now.machine ready.waits) in
     let core = went.2.machine.core in
-    let here = c.tell.ensures.row catalog c.requires.queue m (told m _) ready.now.queue (has_event catalog fuel m c.in-Went.event c.step.new.self.services.handles went.1 core.services.handles) in
+    let here = c.tell.ensures.row catalog c.requires.queue m (told m (dxe_step catalog fuel m)) ready.now.queue (has_event catalog fuel m c.in-Went.event c.step.new.self.services.handles went.1 core.services.handles) in
     let row = subst (λ (order : Drivers). Discovers catalog c.tell.new.queue (drop c.in-Went.event.known order.volumes) c.discover.new.self) c.order.ensures c.in_ok-discover-in-Went.ensures.row in
     event_so g.M.PeiStore.stands_for c.args.store.now catalog fuel c.step.new.self c.tell.new.queue c.discover.new.self m c.in-Went.event _ went.1 went.2 here row
 
@@ -66,3 +67,6 @@ returns-in-Ended-clause-row g c m fuel made ready =
 
 pub returns-in-Ended-clause-owes : goal.returns-in-Ended-clause-owes
 returns-in-Ended-clause-owes g c m fuel made ready = owes_still c.args.catalog.now fuel m _ _ (omega arith)
+
+pub returns-in-Idle-clause-made : goal.returns-in-Idle-clause-made
+returns-in-Idle-clause-made g c = on_ok c.start_or_stop.result (λ keeps fuel for. keeps fuel (c.in_ok-event.ensures.made fuel for)) c.start_or_stop.ensures.made
