@@ -1,6 +1,7 @@
--- The words of a command line: what is asked for, and the name of a plan's file.
-use Rattle.std.specs.Prelude.{◌≡◌, ◌≢◌, ℕ, List, [], ◌∷◌, codes, map, String, string_bytes}
+-- The words of a command line: what is asked for, and the name of a plan's file, or the number of modules of a generated volume.
+use Rattle.std.specs.Prelude.{◌≡◌, ◌≢◌, ◌≤◌, ℕ, List, [], ◌∷◌, codes, decimal, map, String, string_bytes}
 use Rattle.std.specs.declared.alloc.Global.{Global}
+use Rattle.fv_build.specs.declared.generated.TheConstants.{MOST_MODULES}
 use Rattle.boot_core.specs.declared.command_line.Command.{Command}
 use Rattle.boot_core.specs.declared.command_line.Command.TheVariants.{Boot, Audit}
 
@@ -17,9 +18,20 @@ verb_of Audit = codes "audit"
 abbrev pub AskFor : List (List ℕ) → Command → List ℕ → Type 0
 AskFor words command plan = (words ≡ verb_of command ∷ plan ∷ []) × (plan ≢ [])
 
+-- the words ask for the generated volume of so many modules: the number is in shortest decimal digits
+pub record AskForGenerated (words : List (List ℕ)) (n : ℕ) : Type 0 where
+  pub words_are : words ≡ codes "generate" ∷ decimal n ∷ []
+  pub some : 1 ≤ n
+  pub most : n ≤ MOST_MODULES
+
+-- they name no plan
+abbrev pub NameNoPlan : List (List ℕ) → Type 0
+NameNoPlan words = (command : Command) (plan : List ℕ) → AskFor words command plan → ⊥
+
 -- they ask for nothing that there is
-abbrev pub AskForNothing : List (List ℕ) → Type 0
-AskForNothing words = (command : Command) (plan : List ℕ) → AskFor words command plan → ⊥
+pub record AskForNothing (words : List (List ℕ)) : Type 0 where
+  pub no_plan : NameNoPlan words
+  pub no_number : (n : ℕ) → AskForGenerated words n → ⊥
 
 -- they ask for a boot
 abbrev pub AskForBoot : List (List ℕ) → Type 0

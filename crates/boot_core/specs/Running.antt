@@ -21,10 +21,10 @@ use Rattle.boot_model.specs.declared.phase_end.PeiEnd.TheVariants.{Handoff, NoMe
 use Rattle.store_model.specs.StoreState.{StoreState, Board}
 use Rattle.boot_model.specs.Text.{line_text, text_of}
 use Rattle.boot_io.specs.declared.halt.Halt.{Halt}
-use Rattle.boot_io.specs.declared.halt.Halt.TheVariants as H
-use Rattle.boot_core.specs.declared.status.Status.{Status}
-use Rattle.boot_core.specs.declared.status.Status.TheVariants as V
-use Rattle.boot_core.specs.BootEnd.{end_after, end_of, boot_text, status_of}
+use Rattle.boot_model.specs.PeiRun.{pei_end}
+use Rattle.pei_dispatch.specs.Ends.{IsLeft}
+use Rattle.boot_core.specs.declared.boot_run.Ran.{Ran}
+use Rattle.boot_core.specs.BootEnd.{end_after, end_of, boot_text}
 
 -- a sink's text before and after
 pub record Texts : Type 0 where
@@ -90,12 +90,11 @@ IsEndOf how taken pei = (pei.ended ≡ Some how) × (taken ≡ pei.actions)
 abbrev pub TellsBehind : Catalog → ℕ → PeiMachine → Texts → Result RunEnd Halt → Type 0
 TellsBehind catalog fuel pei t ran = Tells (λ end. end_after catalog fuel pei pei.ended ≡ Some end) (text_behind catalog fuel pei) t ran
 
--- a boot, from its first line to its last
-abbrev pub RunsTo : Board → Catalog → ℕ → Texts → Result RunEnd Halt → Type 0
-RunsTo board catalog fuel t ran = Tells (λ end. end_of board catalog fuel ≡ Some end) (boot_text board catalog fuel) t ran
+-- a boot has come to its end: its result, and what PEI left
+pub record IsRun {M : Type 0} (stands : M → StoreState → Type 0) (board : Board) (catalog : Catalog) (fuel : ℕ) (ran : Ran M) : Type 0 where
+  pub end_is : end_of board catalog fuel ≡ Some ran.«end»
+  pub left : IsLeft stands catalog (pei_end board catalog fuel) ran.pei
 
--- the status of a boot that ran, or of why it did not come to its end
-abbrev pub status_after_run : Result RunEnd Halt → Status
-status_after_run (Ok end) = status_of end
-status_after_run (Err H.Sink) = V.SinkFault
-status_after_run (Err H.Memory) = V.Memory
+-- a boot, from its first line to its last
+abbrev pub RunsTo : {M : Type 0} → (M → StoreState → Type 0) → Board → Catalog → ℕ → Texts → Result (Ran M) Halt → Type 0
+RunsTo stands board catalog fuel t ran = Tells (IsRun stands board catalog fuel) (boot_text board catalog fuel) t ran

@@ -85,20 +85,31 @@ fn boot_behind<M: PeiStore + Drop, S: Sink>(
     }
 }
 
-/// A boot from its first line to its last: PEI, DXE behind a hand-off, the lists, the handles and the result, which is answered.
+/// What a boot leaves at its end.
+#[derive(Drop)]
+pub(crate) struct Ran<M: PeiStore + Drop> {
+    /// Its result.
+    pub end: RunEnd,
+    /// The end of PEI, with the store, which DXE changes no more.
+    pub pei: Ended<M>,
+}
+
+/// A boot from its first line to its last: PEI, DXE behind a hand-off, the lists, the handles and the result.
 pub(crate) fn boot_store<M: PeiStore + Drop, S: Sink>(
     alloc: Global,
     store: M,
     catalog: &Catalog,
     fuel: u32,
     sink: &mut S,
-) -> Result<RunEnd, Halt>
+) -> Result<Ran<M>, Halt>
     requires catalog { IsWellFormed catalog.now }
     requires some { 1 ≤ length catalog.now.volumes }
     requires opening { (board : Board) × M.stands_for store (empty_store board) }
-    ensures row { (board : Board) → M.stands_for store (empty_store board) → RunsTo board catalog.now fuel (record { old = S.text sink.old; new = S.text sink.new }) result }
+    ensures row { (board : Board) → M.stands_for store (empty_store board)
+        → RunsTo M.stands_for board catalog.now fuel (record { old = S.text sink.old; new = S.text sink.new }) result }
     ensures faults { HaltsAfter result (S.faults sink.old) (S.faults sink.new) }
 {
     let pei = boot_pei(alloc, store, catalog, fuel, sink)?;
-    boot_behind(alloc, &pei, catalog, fuel, sink)
+    let end = boot_behind(alloc, &pei, catalog, fuel, sink)?;
+    Ok(Ran { end, pei })
 }

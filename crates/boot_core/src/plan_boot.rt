@@ -1,19 +1,19 @@
 // The boot of a plan whose images have a catalogue.
 ghost use Rattle.std.specs.Prelude.{◌≡◌, ◌≤◌, [], None, length, ⊤};
 ghost use Rattle.store_model.specs.StateFacts.{IsBoard};
+ghost use Rattle.store_plain.specs.PlainState.{stands_for};
 ghost use Rattle.boot_model.specs.PlanBoard.{board_of};
 ghost use Rattle.catalog_model.specs.WellFormed.{IsWellFormed};
-ghost use Rattle.boot_core.specs.BootEnd.{status_of};
+ghost use Rattle.boot_core.specs.Handing.{HandsBack, IsBooted};
 ghost use Rattle.boot_core.specs.Outcome.{Ends, BootOutcome};
-ghost use Rattle.boot_core.specs.Running.{RunsTo, status_after_run};
+ghost use Rattle.boot_core.specs.Running.{RunsTo};
 ghost use Rattle.boot_io.specs.Halted.{HaltsAfter};
 
 use crate::board::roms;
-use crate::boot_run::boot_store;
-use crate::status::Status;
+use crate::boot_run::{Ran, boot_store};
+use crate::status::{Status, status_of};
 use boot_io::{Halt, Sink};
 use boot_laws::{dxe_runs_end, pei_runs_end};
-use boot_model::RunEnd;
 use boot_plan::Plan;
 use catalog_model::Catalog;
 use phys_mem::Rom;
@@ -21,27 +21,32 @@ use pi_base::Seq;
 use std::alloc::Global;
 use store_plain::PlainStore;
 
-// How a result is answered.
-fn status_of(end: RunEnd) -> Status
-    ensures { result ≡ status_of end }
-{
-    match end {
-        RunEnd::Done => Status::Done,
-        RunEnd::NoMemory => Status::NoHandoff,
-        RunEnd::NoIpl => Status::NoHandoff,
-        RunEnd::Spent => Status::Spent,
-        RunEnd::Deep => Status::Deep,
-    }
+/// What a boot answers.
+#[derive(Drop)]
+pub struct Booted {
+    /// How it ended, or why it did not come to its end.
+    pub status: Status,
+    /// The store of the last machine; None where the boot did not come to its end.
+    pub store: Option<PlainStore>,
 }
 
-// The status of a boot that ran, or of why it did not come to its end.
-fn answer_run(ran: Result<RunEnd, Halt>) -> Status
-    ensures { result ≡ status_after_run ran }
+// The answer of a boot that ran, or of why it did not come to its end.
+fn answer_run(ran: Result<Ran<PlainStore>, Halt>) -> Booted
+    ensures { IsBooted ran result }
 {
     match ran {
-        Ok(end) => status_of(end),
-        Err(Halt::Sink) => Status::SinkFault,
-        Err(Halt::Memory) => Status::Memory,
+        Ok(ran) => Booted {
+            status: status_of(ran.end),
+            store: Some(ran.pei.store),
+        },
+        Err(Halt::Sink) => Booted {
+            status: Status::SinkFault,
+            store: None,
+        },
+        Err(Halt::Memory) => Booted {
+            status: Status::Memory,
+            store: None,
+        },
     }
 }
 
@@ -52,47 +57,49 @@ fn boot_board<S: Sink>(
     catalog: &Catalog,
     roms: Seq<Rom>,
     sink: &mut S,
-) -> Result<RunEnd, Halt>
+) -> Result<Ran<PlainStore>, Halt>
     requires board { IsBoard (record (board_of plan.now catalog.now []) { roms = roms }) }
     requires catalog { IsWellFormed catalog.now }
     requires some { 1 ≤ length catalog.now.volumes }
-    ensures row { RunsTo (record (board_of plan.now catalog.now []) { roms = roms }) catalog.now plan.now.fuel (record { old = S.text sink.old; new = S.text sink.new }) result }
+    ensures row { RunsTo stands_for (record (board_of plan.now catalog.now []) { roms = roms }) catalog.now plan.now.fuel
+        (record { old = S.text sink.old; new = S.text sink.new }) result }
     ensures faults { HaltsAfter result (S.faults sink.old) (S.faults sink.new) }
 {
     let store = PlainStore::new(alloc, plan.temp, plan.pages, plan.ram, roms);
     boot_store(alloc, store, catalog, plan.fuel, sink)
 }
 
-// Boots a plan whose images have this catalogue.
-fn boot_images<S: Sink>(
+/// Boots a plan whose images have this catalogue, from its first line to its last.
+pub(crate) fn boot_plan<S: Sink>(
     alloc: Global,
     plan: &Plan,
     catalog: &Catalog,
     images: Seq<Seq<u8>>,
     sink: &mut S,
-) -> Result<RunEnd, Halt>
+) -> Result<Ran<PlainStore>, Halt>
     requires board { IsBoard (board_of plan.now catalog.now images) }
     requires catalog { IsWellFormed catalog.now }
     requires some { 1 ≤ length catalog.now.volumes }
-    ensures row { RunsTo (board_of plan.now catalog.now images) catalog.now plan.now.fuel (record { old = S.text sink.old; new = S.text sink.new }) result }
+    ensures row { RunsTo stands_for (board_of plan.now catalog.now images) catalog.now plan.now.fuel
+        (record { old = S.text sink.old; new = S.text sink.new }) result }
     ensures faults { HaltsAfter result (S.faults sink.old) (S.faults sink.new) }
 {
     let roms = roms(alloc, catalog.volumes.as_slice(), images)?;
     boot_board(alloc, plan, catalog, roms, sink)
 }
 
-/// Boots a plan whose images have this catalogue, and answers the status of its run.
+/// Boots a plan whose images have this catalogue, and answers the status of its run, with the store.
 pub(crate) fn boot_catalog<S: Sink>(
     alloc: Global,
     plan: &Plan,
     catalog: &Catalog,
     images: Seq<Seq<u8>>,
     sink: &mut S,
-) -> Status
+) -> Booted
     requires board { IsBoard (board_of plan.now catalog.now images) }
     requires catalog { IsWellFormed catalog.now }
     requires some { 1 ≤ length catalog.now.volumes }
-    ensures { Ends (BootOutcome plan.now catalog.now images) (λ _. ⊥) ⊤ result (record {
+    ensures ends { Ends (BootOutcome plan.now catalog.now images) (λ _. ⊥) ⊤ result.status (record {
       old = S.text sink.old;
       new = S.text sink.new;
       sink_before = S.faults sink.old;
@@ -101,9 +108,10 @@ pub(crate) fn boot_catalog<S: Sink>(
       files_now = 0;
       missed = None;
     }) }
+    ensures store { HandsBack plan.now catalog.now images result }
 {
     pei_runs_end();
     dxe_runs_end();
-    let ran = boot_images(alloc, plan, catalog, images, sink);
+    let ran = boot_plan(alloc, plan, catalog, images, sink);
     answer_run(ran)
 }

@@ -73,8 +73,12 @@ comes_next catalog m queue later None q t =
     (ap head_of none, subst (IsQueueOf catalog m) (sym t.1) here)
 comes_next catalog m queue later (Some next) q t =
     let whole : driver_queue catalog m ≡ next ∷ later.scheduled = q.scheduled ∙ t.0 in
-    record { rest = later.scheduled; next_is = ap head_of whole; behind = λ new h. started_row catalog (with_queue m (driver_queue catalog m)) new queue later next q whole t.1 t.2
-      (record { scheduled = h.scheduled; started = h.started; discovered = h.discovered; requested = h.requested; handles = h.handles }) }
+    record {
+      rest = later.scheduled;
+      next_is = ap head_of whole;
+      behind = λ new h. started_row catalog (with_queue m (driver_queue catalog m)) new queue later next q whole t.1 t.2
+          (record { scheduled = h.scheduled; started = h.started; discovered = h.discovered; requested = h.requested; handles = h.handles });
+    }
   where
     started_row : (catalog : Catalog) (m new : DxeMachine) (queue later : Queue) (next : Scheduled) → IsQueueOf catalog m queue → m.scheduled ≡ next ∷ later.scheduled → later.waits ≡ queue.waits → later.index ≡ queue.index
         → HasStarted next.module_number later.scheduled m new → IsQueueOf catalog new later

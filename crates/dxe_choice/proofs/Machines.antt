@@ -203,7 +203,7 @@ untouched_requested catalog m later number others has n h =
     let was = others n none in (
       waiting_same m later has.scheduled has.started n ∙ was.0,
       ap (λ ns. has_number ns n) has.requested ∙ has_either m.requested (number ∷ []) n
-      ∙ either_none (has_number m.requested n) ((number == n) || false) was.1 (lacks_one number n (discovered_order catalog m) (number == n) refl has.known none),
+          ∙ either_none (has_number m.requested n) ((number == n) || false) was.1 (lacks_one number n (discovered_order catalog m) (number == n) refl has.known none),
     )
 
 pub untouched_changed : (catalog : Catalog) (m later : DxeMachine) (guid : Guid) (there : Bool) → AreUntouched catalog m → HasProtocol guid there m later → AreUntouched catalog later

@@ -107,9 +107,9 @@ scheduled_row catalog m new added queue later q g s t discovered requested handl
       waits = λ n. g.waits n ∙ ap (λ w. not (is_among added n) && w) (q.waits n) ∙ gone n;
       index = stands_scheduled catalog m new added queue.index later.index q.index g.index discovered requested handles (λ n. sym (gone n));
       others = λ n h. (
-          sym (gone n) ∙ ap (λ b. not b && is_waiting m n) (not_among catalog m n added (before n h) known) ∙ (q.others n (before n h)).0,
-          ap (λ ns. has_number ns n) requested ∙ (q.others n (before n h)).1,
-        );
+        sym (gone n) ∙ ap (λ b. not b && is_waiting m n) (not_among catalog m n added (before n h) known) ∙ (q.others n (before n h)).0,
+        ap (λ ns. has_number ns n) requested ∙ (q.others n (before n h)).1,
+      );
     }
 
 pub each_map : (P : Scheduled → Type 0) (f : ℕ → Scheduled) (xs : List ℕ) → Each (λ x. P (f x)) xs → Each P (map f xs)

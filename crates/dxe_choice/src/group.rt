@@ -81,7 +81,8 @@ pub(crate) fn backward_group(
     root: u32,
 ) -> Result<Seq<u32>, OutOfMemory>
     requires few { length catalog.now.modules ≤ MOST_MODULES }
-    ensures { (m : DxeMachine) → HaveWaiting catalog.now m order.now waits.now → IsRoot catalog.now m root → IfOk result (λ group. reverse group ≡ companion_group catalog.now m root) }
+    ensures { (m : DxeMachine) → HaveWaiting catalog.now m order.now waits.now → IsRoot catalog.now m root
+        → IfOk result (λ group. reverse group ≡ companion_group catalog.now m root) }
 {
     let mut group = Seq::new(alloc);
     let mut stack = Seq::new(alloc);

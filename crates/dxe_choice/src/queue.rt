@@ -213,7 +213,8 @@ impl DriverQueue {
         requires catalog { IsWellFormed catalog.now }
         requires made { IsQueueFor catalog.now self.old }
         requires root { (m : DxeMachine) × IsFirst catalog.now m self.old order.now root }
-        ensures row { OnOk result ((m : DxeMachine) → IsFirst catalog.now m self.old order.now root → Schedules self.old (schedule_of catalog.now (companion_group catalog.now m root)) self.new) }
+        ensures row { OnOk result ((m : DxeMachine) → IsFirst catalog.now m self.old order.now root
+            → Schedules self.old (schedule_of catalog.now (companion_group catalog.now m root)) self.new) }
         ensures made { OnOk result (IsQueueFor catalog.now self.new) }
     {
         let group = backward_group(
@@ -282,7 +283,8 @@ impl DriverQueue {
         requires catalog { IsWellFormed catalog.now }
         requires made { IsQueueFor catalog.now self.old }
         requires seen { (m : DxeMachine) × IsSeen catalog.now m self.old order.now }
-        ensures row { (m : DxeMachine) → IsSeen catalog.now m self.old order.now → IfOk result (λ next. ComesNext catalog.now m next self.new) }
+        ensures row { (m : DxeMachine) → IsSeen catalog.now m self.old order.now
+            → IfOk result (λ next. ComesNext catalog.now m next self.new) }
         ensures driver { IfOk result (λ next. IfSome next (IsDriver catalog.now)) }
         ensures made { OnOk result (IsQueueFor catalog.now self.new) }
         ensures few_steps { steps.new ≤ steps.old + owed self.old }

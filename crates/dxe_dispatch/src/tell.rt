@@ -6,9 +6,9 @@ ghost use Rattle.catalog_model.specs.declared.catalog.Catalog.{Catalog as OfCata
 ghost use Rattle.dxe_choice.specs.Queue.{IsQueueFor, owed};
 ghost use Rattle.dxe_dispatch.specs.Events.{Owes, Tells, TellsChange};
 
+use depex_code::GuidSet;
 use dxe_choice::DriverQueue;
 use dxe_core::{Dxe, Event};
-use depex_code::GuidSet;
 use pi_base::Guid;
 
 // The protocol that was installed or uninstalled is on a handle now, or on none.

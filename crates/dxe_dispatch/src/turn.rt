@@ -61,13 +61,15 @@ pub(crate) fn turn<M: PeiStore, S: Sink, L: Ledger>(
 ) -> Result<Option<DxeEnd>, Halt>
     requires catalog { IsWellFormed catalog.now }
     requires queue { IsQueueFor catalog.now queue.old }
-    requires state { (m : DxeMachine) × (fuel : ℕ) × IsFor catalog.now fuel dxe.old × IsReady M.stands_for store.now catalog.now fuel dxe.old queue.old m }
+    requires state { (m : DxeMachine) × (fuel : ℕ) × IsFor catalog.now fuel dxe.old
+        × IsReady M.stands_for store.now catalog.now fuel dxe.old queue.old m }
     ensures row { Turns M.stands_for store.now catalog.now dxe.old queue.old dxe.new queue.new (S.text sink.old) (S.text sink.new) result }
     ensures made { OnOk result ((fuel : ℕ) → IsFor catalog.now fuel dxe.old → IsFor catalog.now fuel dxe.new) }
     ensures queue { OnOk result (IsQueueFor catalog.now queue.new) }
     ensures faults { HaltsAfter result (S.faults sink.old) (S.faults sink.new) }
     ensures few_steps { steps.new ≤ steps.old + owed queue.old }
-    ensures owes { OnOk result (OwesBehind M.stands_for store.now catalog.now dxe.old queue.old (steps.old + owed queue.old) (steps.new + owed queue.new)) }
+    ensures owes { OnOk result (OwesBehind M.stands_for store.now catalog.now dxe.old queue.old
+        (steps.old + owed queue.old) (steps.new + owed queue.new)) }
 {
     match dxe.step(store, catalog, sink)? {
         Stepped::Went(event) => {

@@ -1,5 +1,5 @@
 //! A volume of many modules, from their number (own).
-ghost use Rattle.std.specs.Prelude.{◌≡◌, ◌<◌, ◌≤◌, ◌++◌, OnOk, IfOk, IfErr, true};
+ghost use Rattle.std.specs.Prelude.{◌≡◌, ◌<◌, ◌≤◌, ◌++◌, OnOk, IfOk, IfErr, length, true};
 ghost use Rattle.act_code.specs.Script.{script_bytes};
 ghost use Rattle.fv_build.specs.declared.fault.BuildFault.TheVariants.{Memory};
 ghost use Rattle.fv_build.specs.Generated.{numbered, installs, memory_said, hand_off, actions_of, script_of, waits_for, expression_of, module_of, generated_files, generated};
@@ -203,6 +203,7 @@ pub fn generate(alloc: Global, n: u32) -> Result<Seq<u8>, BuildFault>
     requires some { 1 ≤ n }
     requires most { n ≤ MOST_MODULES }
     ensures volume { IfOk result (λ volume. volume ≡ generated n) }
+    ensures len { IfOk result (λ volume. length volume ≡ VOLUME_LEN) }
     ensures memory { IfErr result (λ fault. fault ≡ Memory) }
 {
     let files = modules(alloc, n)?;

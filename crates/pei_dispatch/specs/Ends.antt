@@ -1,6 +1,6 @@
 -- How a run of PEI answers: the end of the machine, with all of its lines; or why the end was not reached, with a part of them.
 -- Own; PI 1.8, volume 1, "PEI Dispatcher", has the hand-off to the DXE IPL alone.
-use Rattle.std.specs.Prelude.{◌≡◌, ℕ, ◌≤◌, ◌+◌, ◌*◌, Bool, true, false, List, [], Option, Some, None, Result, Ok, Err, length, ⊤}
+use Rattle.std.specs.Prelude.{◌≡◌, ℕ, ◌≤◌, ◌+◌, ◌-◌, ◌*◌, ◌^◌, min, Bool, true, false, List, [], Option, Some, None, Result, Ok, Err, length, ⊤}
 use Rattle.std.specs.Io.KnownBytes.{Appends}
 use Rattle.boot_io.specs.declared.halt.Halt.{Halt}
 use Rattle.boot_io.specs.declared.halt.Halt.TheVariants.{Sink, Memory}
@@ -59,17 +59,24 @@ IsWantOfStore takes (Err Memory) = takes ≡ true
 abbrev pub HasFewSteps : {M : Type 0} → Catalog → Pei M → PeiOrder → ℕ → ℕ → Type 0
 HasFewSteps catalog pei order before now = (fuel : ℕ) → IsFor catalog fuel pei → now ≤ before + pei_bound catalog fuel * length order.parts
 
+-- what a run leaves at its end: the store, and what was counted
+pub record IsLeft {M : Type 0} (stands : M → StoreState → Type 0) (catalog : Catalog) (end : PeiMachine) (left : Ended M) : Type 0 where
+  pub store_is : stands left.store end.store
+  pub actions_are : left.actions ≡ end.actions
+  pub starts_are : left.starts ≡ min (length end.started + length end.again) (2 ^ 32 - 1)
+  pub last_is : left.last_start ≡ last_started catalog end
+
 -- a whole run to an end, which hands its store on
-abbrev pub BootsTo : {M : Type 0} → (M → StoreState → Type 0)
+abbrev pub BootsTo : {M : Type 0} → (M → StoreState → Type 0) → Catalog
     → PeiMachine → Option (List ℕ) → Option (List ℕ) → Result (Ended M) Halt → Type 0
-BootsTo stands end old new (Ok ended) = HasEnded ended.end end old new × stands ended.store end.store × (ended.actions ≡ end.actions)
-BootsTo stands end old new (Err halt) = AppendsPart old new (text_of end.lines)
+BootsTo stands catalog end old new (Ok ended) = HasEnded ended.end end old new × IsLeft stands catalog end ended
+BootsTo stands catalog end old new (Err halt) = AppendsPart old new (text_of end.lines)
 
 -- over each board for which the store stands as it was made
 abbrev pub Boots : {M : Type 0} → (M → StoreState → Type 0) → Catalog
     → M → ℕ → Option (List ℕ) → Option (List ℕ) → Result (Ended M) Halt → Type 0
 Boots stands catalog store fuel old new result =
-    (board : Board) → stands store (empty_store board) → BootsTo stands (pei_end board catalog fuel) old new result
+    (board : Board) → stands store (empty_store board) → BootsTo stands catalog (pei_end board catalog fuel) old new result
 
 -- over a store that takes no memory, memory is wanting before anything is put
 abbrev pub IsWantedBefore : {A : Type 0} → Bool → Option (List ℕ) → Option (List ℕ) → Result A Halt → Type 0

@@ -26,6 +26,10 @@ pub struct Ended<M: PeiStore + Drop> {
     pub store: M,
     /// How many actions were taken.
     pub actions: u32,
+    /// How many starts there were, also second ones; it stays at the last u32.
+    pub starts: u32,
+    /// The module that started last. None where none started.
+    pub last_start: Option<u32>,
 }
 
 // The expressions that are evaluated are counted in the ledger of a blank.
@@ -54,6 +58,8 @@ fn boot_with_ledger<M: PeiStore + Drop, S: Sink, L: Ledger>(
     Ok(Ended {
         end,
         actions: pei.actions(),
+        starts: pei.starts(),
+        last_start: pei.last_start(),
         store: pei.into_store(),
     })
 }

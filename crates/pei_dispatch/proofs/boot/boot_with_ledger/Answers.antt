@@ -1,10 +1,17 @@
+use Rattle.std.proofs.Common.{◌∙◌}
 use Rattle.std.proofs.lemmas.Result.{err_from_is_err_and}
 use Rattle.pei_dispatch.proofs.boot.boot_with_ledger.Goals as goal
 
 pub returns-clause-row : goal.returns-clause-row
 returns-clause-row g c board stands =
     let run = c.in_ok-end.ensures.row board c.args.fuel c.in_ok-pei.ensures.made (c.in_ok-pei.ensures.opening board stands) in
-    (run.0, c.into_store.ensures _ run.1.machine, c.actions.ensures _ run.1.machine)
+    let last = run.2 c.in_ok-pei.ensures.last in
+    (run.0, record {
+      store_is = c.into_store.ensures _ run.1.machine;
+      actions_are = c.actions.ensures _ run.1.machine;
+      starts_are = c.starts.ensures _ run.1.machine;
+      last_is = c.last_start.ensures ∙ last;
+    })
 
 pub returns-in_err-end-clause-row : goal.returns-in_err-end-clause-row
 returns-in_err-end-clause-row g c board stands =

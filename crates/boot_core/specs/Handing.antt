@@ -1,0 +1,44 @@
+-- What a boot hands back: the store of the last machine, where the boot came to its end.
+-- Own.
+use Rattle.std.specs.Prelude.{◌≡◌, ℕ, List, Option, Some, None, Result, Ok, Err, ⊤}
+use Rattle.boot_plan.specs.declared.plan.Plan.{Plan}
+use Rattle.boot_io.specs.declared.halt.Halt.{Halt}
+use Rattle.boot_io.specs.declared.halt.Halt.TheVariants as H
+use Rattle.catalog_model.specs.declared.catalog.Catalog.{Catalog}
+use Rattle.catalog_model.specs.Catalogue.{IsCatalogue}
+use Rattle.boot_model.specs.PeiRun.{pei_end}
+use Rattle.boot_model.specs.PlanBoard.{board_of}
+use Rattle.store_model.specs.StoreState.{StoreState}
+use Rattle.store_plain.specs.declared.store.PlainStore.{PlainStore}
+use Rattle.store_plain.specs.PlainState.{stands_for}
+use Rattle.boot_core.specs.declared.boot_run.Ran.{Ran}
+use Rattle.boot_core.specs.declared.plan_boot.Booted.{Booted}
+use Rattle.boot_core.specs.declared.status.Status.TheVariants as V
+use Rattle.boot_core.specs.BootEnd.{status_of}
+use Rattle.boot_core.specs.Outcome.{IsOfRun}
+
+-- the answer of a boot that ran, or of why it did not come to its end
+abbrev pub IsBooted : Result (Ran PlainStore) Halt → Booted → Type 0
+IsBooted (Ok ran) booted = (booted.status ≡ status_of ran.«end») × (booted.store ≡ Some ran.pei.store)
+IsBooted (Err H.Sink) booted = (booted.status ≡ V.SinkFault) × (booted.store ≡ None)
+IsBooted (Err H.Memory) booted = (booted.status ≡ V.Memory) × (booted.store ≡ None)
+
+-- a store that stands for this state, where there is one
+abbrev pub StandsWhere : StoreState → Option PlainStore → Type 0
+StandsWhere s None = ⊤
+StandsWhere s (Some store) = stands_for store s
+
+-- a store exactly after the end of a run
+abbrev pub IsWhereRan : Booted → Type 0
+IsWhereRan (record { status = status; store = None }) = IsOfRun status → ⊥
+IsWhereRan (record { status = status; store = Some store }) = IsOfRun status
+
+-- and it stands for the state of the last machine
+pub record HandsBack (plan : Plan) (catalog : Catalog) (images : List (List ℕ)) (booted : Booted) : Type 0 where
+  pub where_ran : IsWhereRan booted
+  pub stands : StandsWhere (pei_end (board_of plan catalog images) catalog plan.fuel).store booted.store
+
+-- the same of images, whatever their catalogue
+pub record HandsBackOf (plan : Plan) (images : List (List ℕ)) (booted : Booted) : Type 0 where
+  pub where_ran : IsWhereRan booted
+  pub stands : (catalog : Catalog) → IsCatalogue plan images catalog → StandsWhere (pei_end (board_of plan catalog images) catalog plan.fuel).store booted.store

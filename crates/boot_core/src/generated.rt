@@ -1,0 +1,169 @@
+// The boot of a generated volume.
+ghost use Rattle.std.specs.Prelude.{◌≡◌, ◌≤◌, None, IfOk};
+ghost use Rattle.pi_base.specs.Field.{AreBytes};
+ghost use Rattle.boot_core.specs.Examining.{IsExamined, IsJob, IsSized};
+ghost use Rattle.boot_core.specs.GeneratedOutcome.{GeneratedOutcome, SummaryOutcome, generated_images, generated_plan};
+ghost use Rattle.boot_core.specs.Outcome.{Ends, ImagesOutcome};
+ghost use Rattle.fv_build.specs.Generated.{generated};
+
+use crate::answer::answer;
+use crate::images::examine;
+use crate::nowhere::Nowhere;
+use crate::plan_boot::boot_plan;
+use crate::status::{Status, status_of};
+use crate::summary::{put_summary, summary_of};
+use boot_io::{Halt, Sink};
+use boot_plan::{Plan, PlanVolume};
+use catalog_model::Catalog;
+use fv_build::{MOST_MODULES, generate};
+use pi_base::{OutOfMemory, Seq, Span};
+use std::alloc::Global;
+
+/// Temporary RAM of a generated volume's boot.
+pub(crate) const TEMP_BASE: u64 = 0x8000_0000;
+
+pub(crate) const TEMP_LEN: u64 = 0x1_0000;
+
+/// Its RAM.
+pub(crate) const RAM_BASE: u64 = 0x4000_0000;
+
+pub(crate) const RAM_LEN: u64 = 0x400_0000;
+
+/// Where the volume is mapped.
+pub(crate) const VOLUME_BASE: u64 = 0xff00_0000;
+
+/// How many actions may be taken.
+pub(crate) const FUEL: u32 = 100_000;
+
+// The plan of a generated volume.
+fn generated_plan(alloc: Global) -> Result<Plan, OutOfMemory>
+    ensures plan { IfOk result (λ plan. plan ≡ generated_plan) }
+{
+    let mut name = Seq::new(alloc);
+    name.append(b"generated")?;
+    let mut volumes = Seq::new(alloc);
+    volumes.push(PlanVolume {
+        base: VOLUME_BASE,
+        name,
+    })?;
+    Ok(Plan {
+        temp: Span {
+            base: TEMP_BASE,
+            len: TEMP_LEN,
+        },
+        ram: Span {
+            base: RAM_BASE,
+            len: RAM_LEN,
+        },
+        volumes,
+        fuel: FUEL,
+        pages: 0,
+    })
+}
+
+// What is said of the generated volume: its length, and that its items are bytes.
+fn told_of(_volume: &[u8])
+    ensures { AreBytes _volume.now }
+{}
+
+// The images of that plan: the generated volume of n modules.
+fn generated_images(alloc: Global, n: u32) -> Result<Seq<Seq<u8>>, OutOfMemory>
+    requires some { 1 ≤ n }
+    requires most { n ≤ MOST_MODULES }
+    ensures images { IfOk result (λ images. images ≡ generated_images n) }
+    ensures sized { IfOk result (λ _. IsSized (generated n)) }
+{
+    let mut images = Seq::new(alloc);
+    match generate(alloc, n) {
+        Ok(volume) => {
+            told_of(volume.as_slice());
+            images.push(volume)?;
+            Ok(images)
+        }
+        Err(_) => Err(OutOfMemory),
+    }
+}
+
+// The plan of a generated volume of n modules, and its images.
+fn job(alloc: Global, n: u32) -> Result<(Plan, Seq<Seq<u8>>), OutOfMemory>
+    requires some { 1 ≤ n }
+    requires most { n ≤ MOST_MODULES }
+    ensures { IfOk result (λ job. IsJob n job.0 job.1) }
+{
+    Ok((generated_plan(alloc)?, generated_images(alloc, n)?))
+}
+// Boots the generated volume of n modules, whose images have this catalogue, and puts the summary.
+fn boot_to_summary<S: Sink>(
+    alloc: Global,
+    n: u32,
+    plan: &Plan,
+    catalog: &Catalog,
+    images: Seq<Seq<u8>>,
+    sink: &mut S,
+) -> Status
+    requires job { IsJob n plan.now images }
+    requires examined { IsExamined plan.now images catalog.now }
+    ensures { Ends (SummaryOutcome n catalog.now) (λ _. ⊥) ⊥ result (record {
+      old = S.text sink.old;
+      new = S.text sink.new;
+      sink_before = S.faults sink.old;
+      sink_now = S.faults sink.new;
+      files_before = 0;
+      files_now = 0;
+      missed = None;
+    }) }
+{
+    match boot_plan(alloc, plan, catalog, images, &mut Nowhere) {
+        Ok(ran) => {
+            let put = put_summary(sink, &summary_of(n, &ran.pei, ran.end));
+            answer(put, status_of(ran.end))
+        }
+        Err(Halt::Sink) => unreachable!(),
+        Err(Halt::Memory) => Status::Memory,
+    }
+}
+
+// Examines the generated volume of n modules, and then boots it.
+fn boot_examined<S: Sink>(
+    alloc: Global,
+    n: u32,
+    plan: &Plan,
+    images: Seq<Seq<u8>>,
+    sink: &mut S,
+) -> Status
+    requires { IsJob n plan.now images }
+    ensures { Ends (ImagesOutcome (SummaryOutcome n) generated_plan (generated_images n)) (λ _. ⊥) ⊥ result (record {
+      old = S.text sink.old;
+      new = S.text sink.new;
+      sink_before = S.faults sink.old;
+      sink_now = S.faults sink.new;
+      files_before = 0;
+      files_now = 0;
+      missed = None;
+    }) }
+{
+    match examine(alloc, plan, images.as_slice(), sink) {
+        Ok(catalog) => boot_to_summary(alloc, n, plan, &catalog, images, sink),
+        Err(status) => status,
+    }
+}
+
+/// Boots the generated volume of n modules, and puts the summary of the boot in place of its lines.
+pub(crate) fn boot_generated<S: Sink>(alloc: Global, n: u32, sink: &mut S) -> Status
+    requires some { 1 ≤ n }
+    requires most { n ≤ MOST_MODULES }
+    ensures { Ends (GeneratedOutcome n) (λ _. ⊥) ⊥ result (record {
+      old = S.text sink.old;
+      new = S.text sink.new;
+      sink_before = S.faults sink.old;
+      sink_now = S.faults sink.new;
+      files_before = 0;
+      files_now = 0;
+      missed = None;
+    }) }
+{
+    match job(alloc, n) {
+        Ok((plan, images)) => boot_examined(alloc, n, &plan, images, sink),
+        Err(OutOfMemory) => Status::Memory,
+    }
+}
