@@ -1,6 +1,5 @@
 -- Machines of DXE for the tests: some volumes are discovered, protocols are installed, the first driver is requested or none, and each start leaves the queue.
-use Rattle.std.proofs.Common.{◌≡◌, ℕ, ◌+◌, Bool, true, false, ◌||◌, drop, List, [], ◌∷◌, ◌++◌, Option, Some, None, refl, sym, ap, subst, ◌∙◌, arith}
-use Rattle.std.specs.Prelude.{slice_get}
+use Rattle.std.proofs.Common.{◌≡◌, ℕ, ◌+◌, ◌<◌, get_or, length, Bool, true, false, ◌||◌, drop, List, [], ◌∷◌, ◌++◌, Option, Some, None, refl, sym, ap, subst, ◌∙◌, arith}
 use Rattle.std.proofs.lemmas.List.Folds.{list_any-append}
 use Rattle.std.proofs.lemmas.Slice.Eq.{bytes_eq-Decides}
 use Rattle.pi_base.specs.declared.guid.Guid.{Guid}
@@ -112,22 +111,17 @@ seen_changed catalog queue later order guid seen changes =
     let m = seen.0 in (with_protocol m guid, record { queue = changes m (with_protocol m guid) seen.1.queue (has_now m guid); order = seen.1.order })
 
 -- the first driver is requested
-first_known : (xs : List ℕ) (n : ℕ) → Some n ≡ slice_get xs 0 → has_number xs n ≡ true
-first_known [] n e = cc
-first_known (x ∷ xs) n e = let same : x ≡ n = cc in subst (λ k. has_number (x ∷ xs) k ≡ true) same (has_first x xs)
+first_known : (xs : List ℕ) (n : ℕ) → 0 < length xs → n ≡ get_or xs 0 n → has_number xs n ≡ true
+first_known [] n some e = absurd (omega (arith, some))
+first_known (x ∷ xs) n some e = subst (λ k. has_number (x ∷ xs) k ≡ true) (sym e) (has_first x xs)
 
-pub seen_requested : (catalog : Catalog) (queue later : Queue) (order : Drivers) (number : ℕ) → ((m : DxeMachine) × IsSeen catalog m queue order) → Some number ≡ slice_get order.drivers 0 → Requests catalog queue number later
-    → (m : DxeMachine) × IsSeen catalog m later order
-seen_requested catalog queue later order number seen first requests =
+pub seen_requested : (catalog : Catalog) (queue later : Queue) (order : Drivers) (drivers : List ℕ) (number : ℕ) → ((m : DxeMachine) × IsSeen catalog m queue order) → drivers ≡ order.drivers → 0 < length drivers → number ≡ get_or drivers 0 number
+    → Requests catalog queue number later → (m : DxeMachine) × IsSeen catalog m later order
+seen_requested catalog queue later order drivers number seen are some first requests =
     let m = seen.0 in
-    let asked : DxeMachine = record m { requested = m.requested ++ number ∷ [] } in (
-      asked,
-      record {
-        queue = requests m asked seen.1.queue
-            (record { known = first_known (drivers_of catalog m.discovered) number (first ∙ ap (λ xs. slice_get xs 0) seen.1.order.drivers_are); requested = refl; discovered = refl; scheduled = refl; started = refl; handles = refl });
-        order = seen.1.order;
-      },
-    )
+    let asked : DxeMachine = record m { requested = m.requested ++ number ∷ [] } in
+    let known = subst (λ xs. has_number xs number ≡ true) (are ∙ seen.1.order.drivers_are) (first_known drivers number some first) in
+    (asked, record { queue = requests m asked seen.1.queue (record { known = known; requested = refl; discovered = refl; scheduled = refl; started = refl; handles = refl }); order = seen.1.order })
 
 -- one start later
 pub seen_on : (catalog : Catalog) (queue later : Queue) (order : Drivers) (next : Scheduled) → ((m : DxeMachine) × IsSeen catalog m queue order) → ((m : DxeMachine) → IsSeen catalog m queue order → IsNext catalog m next later)

@@ -1,5 +1,5 @@
 // The drivers of small volumes, made by hand: which start, in which order, and by which licences.
-ghost use Rattle.std.specs.Prelude.{◌≡◌, ◌<◌, Some, None, IfOk};
+ghost use Rattle.std.specs.Prelude.{◌≡◌, ◌<◌, [], Some, None, IfOk};
 ghost use Rattle.boot_model.specs.DxeMachine.{DxeMachine};
 ghost use Rattle.dxe_choice.specs.Queue.{IsQueueFor, IsSeen};
 ghost use Rattle.catalog_model.specs.WellFormed.{IsExpressionOf, IsShortExpression, IsWellFormed};
