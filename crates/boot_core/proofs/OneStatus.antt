@@ -14,9 +14,12 @@ use Rattle.boot_model.specs.declared.line.RunEnd.{RunEnd}
 use Rattle.boot_core.specs.declared.status.Status.{Status}
 use Rattle.boot_core.specs.declared.command_line.Command.{Command}
 use Rattle.boot_core.specs.declared.command_line.Command.TheVariants.{Boot, Audit}
-use Rattle.boot_core.specs.CommandLine.{AskFor, verb_of}
+use Rattle.boot_core.specs.CommandLine.{AskFor, AskForGenerated, verb_of}
 use Rattle.boot_core.specs.FileReading.{IsRead, IsLong, LongVolume, AreImages, IsVolumeName}
-use Rattle.boot_core.specs.Outcome.{Outcome, PlanOutcome, TextOutcome, TextNames, VolumesOutcome, ImagesOutcome, CatalogOutcome, Trail, Kind, OfFiles, OfSink, OfMemory, OfAnswer, Ends, EndsBy, Answered, kind_of, words_usage, words_ask, plan_long, plan_file, plan_refused, plan_read, volume_long, volumes_read, image_refused, images_sound, audited, to_boot, BootOutcome}
+use Rattle.boot_core.specs.Outcome.{Outcome, PlanOutcome, TextOutcome, TextNames, VolumesOutcome, ImagesOutcome, CommandOutcome, NumberOutcome, Trail, Kind, OfFiles, OfSink, OfMemory, OfAnswer, Ends, EndsBy, Answered, kind_of, words_ask, words_no_plan, number_none, number_asked, plan_long, plan_file, plan_refused, plan_read, volume_long, volumes_read, image_refused, images_sound, BootOutcome}
+use Rattle.boot_core.specs.GeneratedOutcome.{GeneratedOutcome, SummaryOutcome, generated_board, generated_images, generated_plan}
+use Rattle.boot_core.specs.declared.generated.TheConstants.{FUEL}
+use Rattle.std.proofs.lemmas.Fmt.{decimal_injective}
 use Rattle.boot_core.specs.BootEnd.{end_of, status_of}
 use Rattle.boot_core.specs.Causes.{AreTold, IsToldAsBytes, LeadsTo, IsStopped, ComesExactly}
 use Rattle.pi_base.specs.Lists.{Each}
@@ -86,16 +89,6 @@ images_or_long told [] volume behind some content long (image ∷ images) read =
 images_or_long told (first ∷ before) volume behind some content long [] read = read
 images_or_long told (first ∷ before) volume behind some content long (image ∷ images) read = images_or_long told before volume behind some content long images read.1
 
-pub boot_or_audit : (command : Command) → command ≡ Boot → command ≡ Audit → ⊥
-boot_or_audit Boot p q = absurd (no_boot q)
-  where
-    no_boot : Boot ≡ Audit → ⊥
-    no_boot e = let P : Command → Type 0 = λ c. elim c [ Boot ↦ Unit {0} | Audit ↦ ⊥ ] in subst P e tt
-boot_or_audit Audit p q = absurd (no_audit p)
-  where
-    no_audit : Audit ≡ Boot → ⊥
-    no_audit e = let P : Command → Type 0 = λ c. elim c [ Boot ↦ ⊥ | Audit ↦ Unit {0} ] in subst P e tt
-
 -- a boot has one result
 one_end : (found : Option RunEnd) (a b : RunEnd) → found ≡ Some a → found ≡ Some b → a ≡ b
 one_end found a b p q = ap (end_in a) (sym p ∙ q)
@@ -108,19 +101,22 @@ status_of_boot : (plan : Plan) (catalog : Catalog) (images : List (List ℕ)) (a
 status_of_boot plan catalog images a b s t one other =
     one.status_is ∙ ap status_of (one_end (end_of (board_of plan catalog images) catalog plan.fuel) one.end other.end one.ended other.ended) ∙ sym other.status_is
 
-status_of_catalog : (command : Command) (plan : Plan) (catalog : Catalog) (images : List (List ℕ)) (a b : Status) (s t : List ℕ) → CatalogOutcome command plan catalog images a s → CatalogOutcome command plan catalog images b t → a ≡ b
-status_of_catalog command plan catalog images a b s t (audited c p x) (audited d q y) = p ∙ sym q
-status_of_catalog command plan catalog images a b s t (audited c p x) (to_boot d o) = absurd (boot_or_audit command d c)
-status_of_catalog command plan catalog images a b s t (to_boot c o) (audited d q y) = absurd (boot_or_audit command c d)
-status_of_catalog command plan catalog images a b s t (to_boot c o) (to_boot d u) = status_of_boot plan catalog images a b s t o u
+status_of_command : (command : Command) (plan : Plan) (images : List (List ℕ)) (catalog : Catalog) (a b : Status) (s t : List ℕ) → CommandOutcome command plan images catalog a s → CommandOutcome command plan images catalog b t → a ≡ b
+status_of_command Boot plan images catalog a b s t one other = status_of_boot plan catalog images a b s t one other
+status_of_command Audit plan images catalog a b s t one other = one.status_is ∙ sym other.status_is
 
-status_of_images : Laws → (command : Command) (plan : Plan) (images : List (List ℕ)) → Each AreBytes images → (a b : Status) (s t : List ℕ) → ImagesOutcome command plan images a s → ImagesOutcome command plan images b t → a ≡ b
-status_of_images laws command plan images are a b s t (image_refused f is p x) (image_refused g also q y) = p ∙ sym q
-status_of_images laws command plan images are a b s t (image_refused f is p x) (images_sound c sound o) = absurd (laws.catalogue_or_fault plan images c f are sound is)
-status_of_images laws command plan images are a b s t (images_sound c sound o) (image_refused f is q y) = absurd (laws.catalogue_or_fault plan images c f are sound is)
-status_of_images laws command plan images are a b s t (images_sound c sound o) (images_sound d also u) =
-    let P : Catalog → Type 0 = λ x. CatalogOutcome command plan x images b t in
-    status_of_catalog command plan c images a b s t o (subst P (laws.catalogues plan images d c also sound) u)
+-- a catalogue leads to one status
+abbrev LeadsToOne : (Catalog → Status → List ℕ → Type 0) → Type 0
+LeadsToOne Leads = (catalog : Catalog) (a b : Status) (s t : List ℕ) → Leads catalog a s → Leads catalog b t → a ≡ b
+
+status_of_images : Laws → (Leads : Catalog → Status → List ℕ → Type 0) (plan : Plan) (images : List (List ℕ)) → LeadsToOne Leads → Each AreBytes images → (a b : Status) (s t : List ℕ)
+    → ImagesOutcome Leads plan images a s → ImagesOutcome Leads plan images b t → a ≡ b
+status_of_images laws Leads plan images one are a b s t (image_refused f is p x) (image_refused g also q y) = p ∙ sym q
+status_of_images laws Leads plan images one are a b s t (image_refused f is p x) (images_sound c sound o) = absurd (laws.catalogue_or_fault plan images c f are sound is)
+status_of_images laws Leads plan images one are a b s t (images_sound c sound o) (image_refused f is q y) = absurd (laws.catalogue_or_fault plan images c f are sound is)
+status_of_images laws Leads plan images one are a b s t (images_sound c sound o) (images_sound d also u) =
+    let P : Catalog → Type 0 = λ x. Leads x b t in
+    one c a b s t o (subst P (laws.catalogues plan images d c also sound) u)
 
 pub long_told : (told : List ℕ → Option (List ℕ)) (volumes : List PlanVolume) (status : Status) (text : List ℕ) → VolumesTold told volumes → LongVolume told volumes status text → (images : List (List ℕ)) → AreImages told volumes images → ⊥
 long_told told volumes status text all o images read =
@@ -134,8 +130,9 @@ status_of_volumes laws told command plan all a b s t (volume_long o) (volume_lon
 status_of_volumes laws told command plan all a b s t (volume_long o) (volumes_read images read u) = absurd (long_told told plan.volumes a s all o images read)
 status_of_volumes laws told command plan all a b s t (volumes_read images read o) (volume_long u) = absurd (long_told told plan.volumes b t all u images read)
 status_of_volumes laws told command plan all a b s t (volumes_read images read o) (volumes_read others again u) =
-    let P : List (List ℕ) → Type 0 = λ x. ImagesOutcome command plan x b t in
-    status_of_images laws command plan images (images_bytes told plan.volumes all images read) a b s t o (subst P (one_images told plan.volumes all others images again read) u)
+    let P : List (List ℕ) → Type 0 = λ x. ImagesOutcome (CommandOutcome command plan x) plan x b t in
+    status_of_images laws (CommandOutcome command plan images) plan images (status_of_command command plan images) (images_bytes told plan.volumes all images read) a b s t o
+    (subst P (one_images told plan.volumes all others images again read) u)
 
 -- the files that a text names are told
 abbrev pub TextTold : (List ℕ → Option (List ℕ)) → List ℕ → Type 0
@@ -163,7 +160,7 @@ status_of_plan laws told command plan some all a b s t (plan_file c read o) (pla
     let P : List ℕ → Type 0 = λ content. TextOutcome told command content b t in
     status_of_text laws told command c (λ name names. all c name read.as_told names) a b s t o (subst P (one_content (told plan) some d c again.as_told read.as_told) u)
 
-abbrev second : List (List ℕ) → List ℕ
+abbrev pub second : List (List ℕ) → List ℕ
 second (x ∷ y ∷ rest) = y
 second rest = []
 
@@ -197,11 +194,35 @@ plan_told told words command plan all is content name as_told names = told_with 
     told_with None some content as_told f = absurd (true≢false (sym some))
     told_with (Some x) some content as_told f = f (ap Some as_told)
 
+-- and ask for one generated volume
+one_number : (words : List (List ℕ)) (n m : ℕ) → AskForGenerated words n → AskForGenerated words m → m ≡ n
+one_number words n m p q =
+    let low = p.2.most in
+    let high = q.2.most in
+    let same : q.0 ≡ p.0 = ap second (sym q.1 ∙ p.1) in
+    decimal_injective m n (omega (arith, high)) (omega (arith, low)) (sym q.2.word_is ∙ same ∙ p.2.word_is)
+
+status_of_summary : (n : ℕ) → LeadsToOne (SummaryOutcome n)
+status_of_summary n catalog a b s t one other =
+    one.status_is ∙ ap status_of (one_end (end_of (generated_board n catalog) catalog FUEL) one.end other.end one.ended other.ended) ∙ sym other.status_is
+
+status_of_generated : Laws → (n : ℕ) (a b : Status) (s t : List ℕ) → GeneratedOutcome n a s → GeneratedOutcome n b t → a ≡ b
+status_of_generated laws n a b s t one other =
+    status_of_images laws (SummaryOutcome n) generated_plan (generated_images n) (status_of_summary n) (one.of_bytes, tt) a b s t one.leads other.leads
+
+status_of_number : Laws → (words : List (List ℕ)) (a b : Status) (s t : List ℕ) → NumberOutcome words a s → NumberOutcome words b t → a ≡ b
+status_of_number laws words a b s t (number_none none p x) (number_none also q y) = p ∙ sym q
+status_of_number laws words a b s t (number_none none p x) (number_asked n is o) = absurd (none n is)
+status_of_number laws words a b s t (number_asked n is o) (number_none none q y) = absurd (none n is)
+status_of_number laws words a b s t (number_asked n is o) (number_asked m also u) =
+    let P : ℕ → Type 0 = λ x. GeneratedOutcome x b t in
+    status_of_generated laws n a b s t o (subst P (one_number words n m is also) u)
+
 pub one_status : Laws → (told : List ℕ → Option (List ℕ)) (words : List (List ℕ)) → AreTold told words
     → (a b : Status) (s t : List ℕ) → Outcome told words a s → Outcome told words b t → a ≡ b
-one_status laws told words all a b s t (words_usage n p x) (words_usage m q y) = p ∙ sym q
-one_status laws told words all a b s t (words_usage n p x) (words_ask command plan is o) = absurd (n command plan is)
-one_status laws told words all a b s t (words_ask command plan is o) (words_usage n q y) = absurd (n command plan is)
+one_status laws told words all a b s t (words_no_plan n o) (words_no_plan m u) = status_of_number laws words a b s t o u
+one_status laws told words all a b s t (words_no_plan n o) (words_ask command plan is u) = absurd (n command plan is)
+one_status laws told words all a b s t (words_ask command plan is o) (words_no_plan n u) = absurd (n command plan is)
 one_status laws told words all a b s t (words_ask command plan is o) (words_ask another other also u) =
     let P : List ℕ → Type 0 = λ p. PlanOutcome told another p b t in
     let Q : Command → Type 0 = λ c. PlanOutcome told c plan b t in

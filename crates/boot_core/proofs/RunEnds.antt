@@ -22,7 +22,13 @@ use Rattle.boot_io.specs.declared.halt.Halt.TheVariants as H
 use Rattle.boot_core.specs.BootEnd.{end_after, end_of, boot_text, status_of}
 use Rattle.boot_core.specs.Outcome.{Kind, OfAnswer, EndsBy, Ends, Answered, SinkFailed, Begun, BootOutcome, Trail, IsOfRun, kind_of}
 use Rattle.boot_core.specs.Outcome as O
-use Rattle.boot_core.specs.Running.{RunsTo, status_after_run}
+use Rattle.store_plain.specs.declared.store.PlainStore.{PlainStore}
+use Rattle.store_plain.specs.PlainState.{stands_for}
+use Rattle.boot_core.specs.declared.boot_run.Ran.{Ran}
+use Rattle.boot_core.specs.declared.plan_boot.Booted.{Booted}
+use Rattle.boot_core.specs.declared.status.Status.TheVariants as V
+use Rattle.boot_core.specs.Handing.{HandsBack, IsBooted, IsWhereRan, StandsWhere}
+use Rattle.boot_core.specs.Running.{RunsTo, Texts}
 use Rattle.boot_io.specs.Halted.{HaltsAfter}
 
 -- each boot has a result
@@ -45,7 +51,7 @@ boot_ends pei dxe board catalog fuel numbered =
     some_end catalog fuel m m.ended (pei board catalog fuel) (dxe catalog numbered fuel m.store m.actions)
 
 -- a result is answered, and is no fault
-answer_of : (end : RunEnd) → kind_of (status_of end) ≡ OfAnswer
+pub answer_of : (end : RunEnd) → kind_of (status_of end) ≡ OfAnswer
 answer_of E.Done = refl
 answer_of E.NoMemory = refl
 answer_of E.NoIpl = refl
@@ -64,19 +70,20 @@ ran_of E.Deep = tt
 abbrev left_by : Option (List ℕ) → Option (List ℕ) → ℕ → ℕ → Trail
 left_by old new sb sn = record { old = old; new = new; sink_before = sb; sink_now = sn; files_before = 0; files_now = 0; missed = None }
 
-pub run_ends : PeiRunsEnd → DxeRunsEnd → (ran : Result RunEnd Halt) (plan : Plan) (catalog : Catalog) (images : List (List ℕ)) (result : Status) (old new : Option (List ℕ)) (sb sn : ℕ) → AreNumbered 0 catalog.volumes
-    → result ≡ status_after_run ran → RunsTo (board_of plan catalog images) catalog plan.fuel (record { old = old; new = new }) ran → HaltsAfter ran sb sn
-    → Ends (BootOutcome plan catalog images) (λ _. ⊥) ⊤ result (record { old = old; new = new; sink_before = sb; sink_now = sn; files_before = 0; files_now = 0; missed = None })
-run_ends pei dxe (Ok end) plan catalog images result old new sb sn numbered is told counted =
+pub run_ends : PeiRunsEnd → DxeRunsEnd → (ran : Result (Ran PlainStore) Halt) (plan : Plan) (catalog : Catalog) (images : List (List ℕ)) (booted : Booted) (old new : Option (List ℕ)) (sb sn : ℕ) → AreNumbered 0 catalog.volumes
+    → IsBooted ran booted → RunsTo stands_for (board_of plan catalog images) catalog plan.fuel (record { old = old; new = new }) ran → HaltsAfter ran sb sn
+    → Ends (BootOutcome plan catalog images) (λ _. ⊥) ⊤ booted.status (record { old = old; new = new; sink_before = sb; sink_now = sn; files_before = 0; files_now = 0; missed = None })
+run_ends pei dxe (Ok ran) plan catalog images booted old new sb sn numbered is told counted =
     let board = board_of plan catalog images in
+    let end = ran.«end» in
     let t : Trail = left_by old new sb sn in
     let Out : Status → List ℕ → Type 0 = BootOutcome plan catalog images in
     let P : Kind → Type 0 = λ k. EndsBy k Out (λ _. ⊥) ⊤ (status_of end) t in
     let Q : Status → Type 0 = λ s. Ends Out (λ _. ⊥) ⊤ s t in
-    let outcome : Out (status_of end) (boot_text board catalog plan.fuel) = record { end = end; ended = told.0; status_is = refl; text_is = refl } in
+    let outcome : Out (status_of end) (boot_text board catalog plan.fuel) = record { end = end; ended = told.0.end_is; status_is = refl; text_is = refl } in
     let answered : Answered Out (status_of end) t = record { sink = counted; files = refl; text = boot_text board catalog plan.fuel; outcome = outcome; whole = told.1 } in
-    subst Q (sym is) (subst P (sym (answer_of end)) answered)
-run_ends pei dxe (Err H.Sink) plan catalog images result old new sb sn numbered is told counted =
+    subst Q (sym is.0) (subst P (sym (answer_of end)) answered)
+run_ends pei dxe (Err H.Sink) plan catalog images booted old new sb sn numbered is told counted =
     let board = board_of plan catalog images in
     let t : Trail = left_by old new sb sn in
     let Out : Status → List ℕ → Type 0 = BootOutcome plan catalog images in
@@ -84,8 +91,8 @@ run_ends pei dxe (Err H.Sink) plan catalog images result old new sb sn numbered 
     let ends = boot_ends pei dxe board catalog plan.fuel numbered in
     let outcome : Out (status_of ends.0) (boot_text board catalog plan.fuel) = record { end = ends.0; ended = ends.1; status_is = refl; text_is = refl } in
     let failed : SinkFailed Out (λ _. ⊥) t = record { sink = counted.1; text = boot_text board catalog plan.fuel; cause = inl (status_of ends.0, outcome); part = told } in
-    subst Q (sym is) failed
-run_ends pei dxe (Err H.Memory) plan catalog images result old new sb sn numbered is told counted =
+    subst Q (sym is.0) failed
+run_ends pei dxe (Err H.Memory) plan catalog images booted old new sb sn numbered is told counted =
     let board = board_of plan catalog images in
     let t : Trail = left_by old new sb sn in
     let Out : Status → List ℕ → Type 0 = BootOutcome plan catalog images in
@@ -94,4 +101,21 @@ run_ends pei dxe (Err H.Memory) plan catalog images result old new sb sn numbere
     let outcome : Out (status_of ends.0) (boot_text board catalog plan.fuel) = record { end = ends.0; ended = ends.1; status_is = refl; text_is = refl } in
     let begun : Begun Out ⊤ old new = record { boots = tt; status = status_of ends.0; ran = ran_of ends.0; text = boot_text board catalog plan.fuel; outcome = outcome; part = told } in
     let wanting : O.NoMemory Out ⊤ t = record { sink = counted; files = refl; kept = inr begun } in
-    subst Q (sym is) wanting
+    subst Q (sym is.0) wanting
+
+-- the store is handed back exactly behind the end of a run
+where_of : (status : Status) (store : Option PlainStore) (booted : Booted) → (booted.status ≡ status) × (booted.store ≡ store) → IsWhereRan status store → IsWhereRan booted.status booted.store
+where_of status store booted is h = subst (λ s. IsWhereRan s booted.store) (sym is.0) (subst (IsWhereRan status) (sym is.1) h)
+
+pub hands_back : (ran : Result (Ran PlainStore) Halt) (plan : Plan) (catalog : Catalog) (images : List (List ℕ)) (booted : Booted) (t : Texts)
+    → IsBooted ran booted → RunsTo stands_for (board_of plan catalog images) catalog plan.fuel t ran → HandsBack plan catalog images booted
+hands_back (Ok ran) plan catalog images booted t is told =
+    let board = board_of plan catalog images in
+    record {
+      where_ran = where_of (status_of ran.«end») (Some ran.pei.store) booted is (ran_of ran.«end»);
+      stands = subst (StandsWhere (pei_end board catalog plan.fuel).store) (sym is.1) told.0.left.store_is;
+    }
+hands_back (Err H.Sink) plan catalog images booted t is told =
+    record { where_ran = where_of V.SinkFault None booted is (λ none. none); stands = subst (StandsWhere (pei_end (board_of plan catalog images) catalog plan.fuel).store) (sym is.1) tt }
+hands_back (Err H.Memory) plan catalog images booted t is told =
+    record { where_ran = where_of V.Memory None booted is (λ none. none); stands = subst (StandsWhere (pei_end (board_of plan catalog images) catalog plan.fuel).store) (sym is.1) tt }

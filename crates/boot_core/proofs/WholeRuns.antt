@@ -13,27 +13,23 @@ use Rattle.boot_core.specs.declared.command_line.Command.{Command}
 use Rattle.boot_core.specs.declared.command_line.Command.TheVariants.{Boot, Audit}
 use Rattle.boot_core.specs.CommandLine.{AskFor}
 use Rattle.boot_core.specs.FileReading.{AreImages, IsRead, plan_limit}
-use Rattle.boot_core.specs.Outcome.{Outcome, PlanOutcome, TextOutcome, VolumesOutcome, ImagesOutcome, CatalogOutcome, BootOutcome, Trail, Ends, Answered, words_usage, words_ask, plan_long, plan_file, plan_refused, plan_read, volume_long, volumes_read, image_refused, images_sound, audited, to_boot}
+use Rattle.boot_core.specs.Outcome.{Outcome, PlanOutcome, TextOutcome, VolumesOutcome, ImagesOutcome, CommandOutcome, BootOutcome, Trail, Ends, Answered, words_no_plan, words_ask, plan_long, plan_file, plan_refused, plan_read, volume_long, volumes_read, image_refused, images_sound}
 use Rattle.boot_core.specs.Causes.{AreTold}
 use Rattle.boot_core.specs.Completeness.{AskForBootOf, IsUnfailing, HasRun, IsComplete}
-use Rattle.boot_core.proofs.OneStatus.{Laws, VolumesTold, TextTold, PlanTold, one_content, within_or_over, images_bytes, one_images, boot_or_audit, long_told, one_plan, one_asked, plan_told}
-
-of_catalog : (plan : Plan) (catalog : Catalog) (images : List (List ℕ)) (status : Status) (text : List ℕ) → CatalogOutcome Boot plan catalog images status text → BootOutcome plan catalog images status text
-of_catalog plan catalog images status text (audited c p x) = absurd (boot_or_audit Boot refl c)
-of_catalog plan catalog images status text (to_boot c o) = o
+use Rattle.boot_core.proofs.OneStatus.{Laws, VolumesTold, TextTold, PlanTold, one_content, within_or_over, images_bytes, one_images, long_told, one_plan, one_asked, plan_told}
 
 of_images : Laws → (plan : Plan) (catalog : Catalog) (images : List (List ℕ)) (status : Status) (text : List ℕ) → Each AreBytes images → IsCatalogue plan images catalog
-    → ImagesOutcome Boot plan images status text → BootOutcome plan catalog images status text
+    → ImagesOutcome (CommandOutcome Boot plan images) plan images status text → BootOutcome plan catalog images status text
 of_images laws plan catalog images status text are sound (image_refused f is p x) = absurd (laws.catalogue_or_fault plan images catalog f are sound is)
 of_images laws plan catalog images status text are sound (images_sound other also o) =
-    let P : Catalog → Type 0 = λ c. CatalogOutcome Boot plan c images status text in
-    of_catalog plan catalog images status text (subst P (laws.catalogues plan images other catalog also sound) o)
+    let P : Catalog → Type 0 = λ c. CommandOutcome Boot plan images c status text in
+    subst P (laws.catalogues plan images other catalog also sound) o
 
 of_volumes : Laws → (told : List ℕ → Option (List ℕ)) (plan : Plan) (catalog : Catalog) (images : List (List ℕ)) (status : Status) (text : List ℕ) → VolumesTold told plan.volumes
     → AreImages told plan.volumes images → IsCatalogue plan images catalog → VolumesOutcome told Boot plan status text → BootOutcome plan catalog images status text
 of_volumes laws told plan catalog images status text all read sound (volume_long o) = absurd (long_told told plan.volumes status text all o images read)
 of_volumes laws told plan catalog images status text all read sound (volumes_read others again o) =
-    let P : List (List ℕ) → Type 0 = λ x. ImagesOutcome Boot plan x status text in
+    let P : List (List ℕ) → Type 0 = λ x. ImagesOutcome (CommandOutcome Boot plan x) plan x status text in
     of_images laws plan catalog images status text (images_bytes told plan.volumes all images read) sound (subst P (one_images told plan.volumes all others images again read) o)
 
 of_text : Laws → (told : List ℕ → Option (List ℕ)) (content : List ℕ) (plan : Plan) (catalog : Catalog) (images : List (List ℕ)) (status : Status) (text : List ℕ) → TextTold told content → IsPlan content plan
@@ -53,7 +49,7 @@ of_plan laws told words plan catalog images status text asks all told_all (plan_
 
 of_words : Laws → (told : List ℕ → Option (List ℕ)) (words : List (List ℕ)) (plan : Plan) (catalog : Catalog) (images : List (List ℕ)) (status : Status) (text : List ℕ)
     → AskForBootOf told words plan images catalog → AreTold told words → Outcome told words status text → BootOutcome plan catalog images status text
-of_words laws told words plan catalog images status text asks all (words_usage none p x) = absurd (none Boot asks.name asks.asked)
+of_words laws told words plan catalog images status text asks all (words_no_plan none o) = absurd (none Boot asks.name asks.asked)
 of_words laws told words plan catalog images status text asks all (words_ask command name is o) =
     let P : List ℕ → Type 0 = λ n. PlanOutcome told command n status text in
     let Q : Command → Type 0 = λ c. PlanOutcome told c asks.name status text in

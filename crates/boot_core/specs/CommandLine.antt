@@ -18,11 +18,15 @@ verb_of Audit = codes "audit"
 abbrev pub AskFor : List (List ℕ) → Command → List ℕ → Type 0
 AskFor words command plan = (words ≡ verb_of command ∷ plan ∷ []) × (plan ≢ [])
 
--- the words ask for the generated volume of so many modules: the number is in shortest decimal digits
-pub record AskForGenerated (words : List (List ℕ)) (n : ℕ) : Type 0 where
-  pub words_are : words ≡ codes "generate" ∷ decimal n ∷ []
+-- a word is the number of modules of a generated volume, in shortest decimal digits
+pub record IsCount (word : List ℕ) (n : ℕ) : Type 0 where
+  pub word_is : word ≡ decimal n
   pub some : 1 ≤ n
   pub most : n ≤ MOST_MODULES
+
+-- the words ask for the generated volume of so many modules
+abbrev pub AskForGenerated : List (List ℕ) → ℕ → Type 0
+AskForGenerated words n = (word : List ℕ) × (words ≡ codes "generate" ∷ word ∷ []) × IsCount word n
 
 -- they name no plan
 abbrev pub NameNoPlan : List (List ℕ) → Type 0

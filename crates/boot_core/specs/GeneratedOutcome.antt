@@ -1,6 +1,7 @@
 -- What `generate` leads to: the boot of the generated volume, of which a summary is printed in place of its lines.
 -- Own.
 use Rattle.std.specs.Prelude.{◌≡◌, ℕ, ◌+◌, ◌-◌, ◌^◌, min, List, [], ◌∷◌, codes, decimal, flat_map, length, Option, Some, None, option_map}
+use Rattle.std.proofs.Math.Dec.{lit≤}
 use Rattle.pi_base.specs.Field.{AreBytes}
 use Rattle.boot_io.specs.Line.{line_of}
 use Rattle.boot_plan.specs.declared.plan.Plan.{Plan}
@@ -24,8 +25,8 @@ use Rattle.boot_core.specs.ImagesOutcome.{ImagesOutcome}
 -- the plan of a generated volume: memory, the volume, and the fuel
 abbrev pub generated_plan : Plan
 generated_plan = record {
-  temp = record { base = TEMP_BASE; len = TEMP_LEN };
-  ram = record { base = RAM_BASE; len = RAM_LEN };
+  temp = record { base = TEMP_BASE; len = TEMP_LEN; in_range = lit≤ tt };
+  ram = record { base = RAM_BASE; len = RAM_LEN; in_range = lit≤ tt };
   volumes = record { base = VOLUME_BASE; name = codes "generated" } ∷ [];
   fuel = FUEL;
   pages = 0;

@@ -13,6 +13,7 @@ use Rattle.store_plain.specs.declared.store.PlainStore.{PlainStore}
 use Rattle.store_plain.specs.PlainState.{stands_for}
 use Rattle.boot_core.specs.declared.boot_run.Ran.{Ran}
 use Rattle.boot_core.specs.declared.plan_boot.Booted.{Booted}
+use Rattle.boot_core.specs.declared.status.Status.{Status}
 use Rattle.boot_core.specs.declared.status.Status.TheVariants as V
 use Rattle.boot_core.specs.BootEnd.{status_of}
 use Rattle.boot_core.specs.Outcome.{IsOfRun}
@@ -29,16 +30,16 @@ StandsWhere s None = ⊤
 StandsWhere s (Some store) = stands_for store s
 
 -- a store exactly after the end of a run
-abbrev pub IsWhereRan : Booted → Type 0
-IsWhereRan (record { status = status; store = None }) = IsOfRun status → ⊥
-IsWhereRan (record { status = status; store = Some store }) = IsOfRun status
+abbrev pub IsWhereRan : Status → Option PlainStore → Type 0
+IsWhereRan status None = IsOfRun status → ⊥
+IsWhereRan status (Some store) = IsOfRun status
 
 -- and it stands for the state of the last machine
 pub record HandsBack (plan : Plan) (catalog : Catalog) (images : List (List ℕ)) (booted : Booted) : Type 0 where
-  pub where_ran : IsWhereRan booted
+  pub where_ran : IsWhereRan booted.status booted.store
   pub stands : StandsWhere (pei_end (board_of plan catalog images) catalog plan.fuel).store booted.store
 
 -- the same of images, whatever their catalogue
 pub record HandsBackOf (plan : Plan) (images : List (List ℕ)) (booted : Booted) : Type 0 where
-  pub where_ran : IsWhereRan booted
+  pub where_ran : IsWhereRan booted.status booted.store
   pub stands : (catalog : Catalog) → IsCatalogue plan images catalog → StandsWhere (pei_end (board_of plan catalog images) catalog plan.fuel).store booted.store

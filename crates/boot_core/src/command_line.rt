@@ -1,6 +1,6 @@
 // The words of a command line.
-ghost use Rattle.std.specs.Prelude.{◌≡◌, ◌≢◌, ◌<◌, ◌^◌, ℕ, List, decimal, IfSome, IfNone};
-ghost use Rattle.boot_core.specs.CommandLine.{AskFor, AskForGenerated, NameNoPlan, words_of, verb_of};
+ghost use Rattle.std.specs.Prelude.{◌≡◌, ◌≢◌, ◌↔◌, ℕ, List, [], ◌∷◌, codes, decimal, IfSome, IfNone, IsTrue};
+ghost use Rattle.boot_core.specs.CommandLine.{AskFor, AskForGenerated, IsCount, NameNoPlan, words_of, verb_of};
 
 use fv_build::MOST_MODULES;
 use pi_base::decimal;
@@ -46,17 +46,31 @@ pub(crate) fn asked(words: &[String]) -> Option<(Command, &str)>
     }
 }
 
-// The number that a word spells in shortest decimal digits.
-fn number_of(word: &str) -> Option<u32>
-    ensures found { IfSome result (λ number. word.now ≡ decimal number) }
-    ensures none { IfNone result ((number : ℕ) → number < 2 ^ 32 → word.now ≢ decimal number) }
+// Whether a word is a number in shortest decimal digits.
+fn is_spelled(word: &[u8], number: u32) -> bool
+    ensures { IsTrue result ↔ (word.now ≡ decimal number) }
+{
+    let mut digits = [0u8; 20];
+    let len = decimal(u64::from(number), &mut digits);
+    let (text, _) = digits.split_at(len);
+    text == word
+}
+
+// Whether a word is this number of modules of a generated volume.
+fn is_count(word: &[u8], number: u32) -> bool
+    ensures { IsTrue result ↔ IsCount word.now number }
+{
+    number >= 1 && number <= MOST_MODULES && is_spelled(word, number)
+}
+
+// The number of modules of a generated volume that a word is.
+fn count_of(word: &str) -> Option<u32>
+    ensures found { IfSome result (IsCount word.now) }
+    ensures none { IfNone result ((number : ℕ) → IsCount word.now number → ⊥) }
 {
     match word.parse::<u32>() {
         Ok(number) => {
-            let mut digits = [0u8; 20];
-            let len = decimal(u64::from(number), &mut digits);
-            let (text, _) = digits.split_at(len);
-            if text == word.as_bytes() {
+            if is_count(word.as_bytes(), number) {
                 Some(number)
             } else {
                 None
@@ -66,21 +80,38 @@ fn number_of(word: &str) -> Option<u32>
     }
 }
 
+// Whether a word is the verb of a generated volume.
+fn is_generate(verb: &str) -> bool
+    ensures { IsTrue result ↔ (verb.now ≡ codes "generate") }
+{
+    verb == "generate"
+}
+
+// The word behind `generate`, where there are these two words.
+fn word_behind(words: &[String]) -> Option<&str>
+    ensures found { IfSome result (λ word. words_of words.now ≡ codes "generate" ∷ word.now ∷ []) }
+    ensures none { IfNone result ((word : List ℕ) → words_of words.now ≡ codes "generate" ∷ word ∷ [] → ⊥) }
+{
+    match words {
+        [verb, word] => {
+            let word = word.as_str();
+            if is_generate(verb.as_str()) {
+                Some(word)
+            } else {
+                None
+            }
+        }
+        _ => None,
+    }
+}
+
 /// Of how many modules the words ask for a generated volume.
 pub(crate) fn asked_number(words: &[String]) -> Option<u32>
     ensures found { IfSome result (AskForGenerated (words_of words.now)) }
     ensures none { IfNone result ((number : ℕ) → AskForGenerated (words_of words.now) number → ⊥) }
 {
-    match words {
-        [verb, count] => {
-            if verb.as_str() != "generate" {
-                return None;
-            }
-            match number_of(count.as_str()) {
-                Some(number) if number >= 1 && number <= MOST_MODULES => Some(number),
-                _ => None,
-            }
-        }
-        _ => None,
+    match word_behind(words) {
+        Some(word) => count_of(word),
+        None => None,
     }
 }

@@ -14,7 +14,7 @@ use crate::status::Status;
 use boot_io::Sink;
 use boot_laws::boards_are_sound;
 use boot_plan::Plan;
-use catalog_model::{Catalog, ImageCause, catalogues_are_well_formed};
+use catalog_model::{Catalog, ImageCause, catalogues_are_well_formed, one_catalogue};
 use mod_catalog::catalog;
 use pi_base::Seq;
 use std::alloc::Global;
@@ -85,6 +85,7 @@ pub fn boot_images<S: Sink>(
     }) }
     ensures store { HandsBackOf plan.now images result }
 {
+    one_catalogue();
     match examine(alloc, plan, images.as_slice(), sink) {
         Ok(catalog) => boot_catalog(alloc, plan, &catalog, images, sink),
         Err(status) => Booted {

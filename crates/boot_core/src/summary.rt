@@ -51,7 +51,11 @@ fn index_of(n: u32, number: Option<u32>) -> Option<u32>
 }
 
 /// The summary of a boot of n modules that ended so, behind this end of PEI.
-pub(crate) fn summary_of<M: PeiStore + Drop>(n: u32, pei: &Ended<M>, end: RunEnd) -> [SummaryLine; 8]
+pub(crate) fn summary_of<M: PeiStore + Drop>(
+    n: u32,
+    pei: &Ended<M>,
+    end: RunEnd,
+) -> [SummaryLine; 8]
     requires state { Present (M.stands_for pei.now.store) Anything }
     ensures { (catalog : Catalog) (m : PeiMachine) → IsLeft M.stands_for catalog m pei.now → result ≡ summary_lines n catalog m end }
 {

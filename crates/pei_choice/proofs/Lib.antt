@@ -1,2 +1,7 @@
 mod Room
-mod Rotation
+mod Differing
+pub mod Numbers
+mod Places
+mod GuidLists
+mod Views
+mod Notes

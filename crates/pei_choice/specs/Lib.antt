@@ -1,2 +1,3 @@
-pub mod Order
-pub mod Standing
+pub mod Noted
+pub mod Queue
+pub mod View

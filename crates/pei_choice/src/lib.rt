@@ -1,15 +1,14 @@
-//! Which PEIM starts next (PI 1.8, volume 1, "PEI Dispatcher"): the order of the parts of the reported volumes, whether a part may start over the installed PPIs, by which licence, and the first one behind the cursor.
+//! Which PEIM starts next (PI 1.8, volume 1, "PEI Dispatcher"): the parts of the reported volumes in their order, over the index of those that wait, the first one behind the cursor that may start, and by which licence it does.
 #![tactic(auto)]
 
-mod eligible;
+mod change;
+mod laws;
 mod licence;
-mod next;
-mod order;
+mod queue;
 
-pub use eligible::is_eligible;
+pub use laws::alike_views_are_shown;
 pub use licence::licence_of;
-pub use next::next_peim;
-pub use order::PeiOrder;
+pub use queue::PeiQueue;
 
 #[cfg(test)]
 mod tests;

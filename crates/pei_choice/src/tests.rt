@@ -1,13 +1,12 @@
-// Small catalogues made by hand: the order, where the cursor stands, which part may start, and which starts next.
+// Small catalogues made by hand: the order of the parts, and which of them comes next.
 ghost use Rattle.std.specs.Prelude.{◌≡◌, ◌<◌, [], Some, None, IfOk};
 ghost use Rattle.catalog_model.specs.WellFormed.{IsExpressionOf, IsShortExpression, IsWellFormed};
 ghost use Rattle.pi_base.specs.declared.phase.Phase.TheVariants.{Pei as InPei};
 
 use super::*;
 use act_code::Script;
-use boot_model::PeimState;
 use catalog_model::{Catalog, MOST_MODULES, Module, Part, PartExpr, VolumeEntry};
-use depex_code::{Depex, GuidSet, Opcode, Steps, Tree};
+use depex_code::{Depex, Opcode, Steps, Tree};
 use pi_base::{Guid, OutOfMemory, Phase, Seq};
 use std::alloc::Global;
 use std::marker::Brand;
@@ -67,11 +66,12 @@ fn a_priori_parts_come_first_by_rank(rt: HostRuntime) -> Result<(), Fail> {
         .ok()
         .ok_or("there is memory")?;
     assert!(rt; catalog.modules.len() <= MOST_MODULES);
-    let mut order = PeiOrder::new();
+    let mut queue = PeiQueue::build(rt.alloc(), &catalog)
+        .ok()
+        .ok_or("there is memory")?;
     // The second volume has no part of rank 1.
-    order.report(&catalog, 1);
-    order.report(&catalog, 0);
-    assert_eq!(rt; order.as_slice(), [5, 4, 3, 2, 1, 0].as_slice());
+    queue.report(&catalog, &[1, 0]);
+    assert_eq!(rt; queue.as_slice(), [5, 4, 3, 2, 1, 0].as_slice());
     Ok(())
 }
 
@@ -79,23 +79,6 @@ fn a_priori_parts_come_first_by_rank(rt: HostRuntime) -> Result<(), Fail> {
 const INSTALLED: Guid = Guid([1; 16]);
 
 const MISSING: Guid = Guid([2; 16]);
-
-/// The set of the one PPI that is installed.
-#[derive(Drop)]
-struct OnePpi;
-
-impl GuidSet for OnePpi {
-    ghost use Rattle.std.specs.Prelude.{bytes_eq};
-    ghost use Rattle.pei_choice.specs.declared.tests.TheConstants.{INSTALLED};
-
-    ghost has_guid = { λ _ guid. bytes_eq guid.0 INSTALLED.0 };
-
-    ghost in_order = { λ _. Unit {0} };
-
-    fn has(&self, guid: &Guid) -> bool {
-        *guid == INSTALLED
-    }
-}
 
 // An expression that pushes one PPI.
 fn pushes(alloc: Global, guid: Guid) -> Result<PartExpr, OutOfMemory>
@@ -135,117 +118,30 @@ fn choices(alloc: Global) -> Result<Catalog, OutOfMemory>
     Ok(Catalog { volumes, modules })
 }
 
-fn eligible_in<L: Ledger>(
+// The PEIM that comes first, over a queue of which every call is made.
+fn first_of<L: Ledger>(
+    alloc: Global,
     catalog: &Catalog,
-    number: u32,
-    state: PeimState,
-    moved: bool,
     blank: Blank,
-) -> bool
+) -> Result<Option<u32>, OutOfMemory>
     requires name { blank.name ≡ L.name }
     requires parts { blank.parts ≡ L.parts }
     requires some { 0 < L.parts }
     requires catalog { IsWellFormed catalog.now }
 {
+    let mut queue = PeiQueue::build(alloc, catalog)?;
+    queue.report(catalog, &[0]);
     let mut steps = Steps::<L>::new(blank);
-    is_eligible(catalog, number, state, moved, &OnePpi, &mut steps)
+    let first = queue.choose(catalog, &mut steps);
+    queue.again(&[]);
+    queue.changed(&[INSTALLED], None, false);
+    Ok(first)
 }
 
 #[test]
-fn a_part_may_start_by_its_state_and_its_expression(rt: HostRuntime) -> Result<(), Fail> {
+fn an_a_priori_part_comes_first(rt: HostRuntime) -> Result<(), Fail> {
     let catalog = choices(rt.alloc()).ok().ok_or("there is memory")?;
-    let waits = PeimState::NotDispatched;
-    let rows = [
-        (0, waits, false, true),
-        (1, waits, false, true),
-        (2, waits, false, false),
-        (3, waits, false, true),
-        (4, waits, false, false),
-        // No module.
-        (5, waits, false, false),
-        // It has started; with shadow, once more after the move.
-        (0, PeimState::Dispatched, true, false),
-        (0, PeimState::RegisteredForShadow, false, false),
-        (0, PeimState::RegisteredForShadow, true, true),
-        (0, PeimState::Done, true, false),
-    ];
-    'rows: for (number, state, moved, want) in rows {
-        let may = eligible_in::<Brand>(&catalog, number, state, moved, Blank::new(1));
-        assert_eq!(rt; may, want, "module {number}");
-    }
-    Ok(())
-}
-
-// The order of the five modules, [3, 0, 1, 2, 4], with the cursor behind a module.
-fn order_behind(catalog: &Catalog, last: Option<u32>) -> PeiOrder
-    requires catalog { IsWellFormed catalog.now }
-{
-    let mut order = PeiOrder::new();
-    order.report(catalog, 0);
-    if let Some(number) = last {
-        order.move_behind(number);
-    }
-    order
-}
-
-#[test]
-fn the_cursor_stands_behind_the_module(rt: HostRuntime) -> Result<(), Fail> {
-    let catalog = choices(rt.alloc()).ok().ok_or("there is memory")?;
-    let rows = [
-        (None, 0),
-        (Some(3), 1),
-        (Some(1), 3),
-        (Some(4), 5),
-        (Some(9), 5),
-    ];
-    'rows: for (last, want) in rows {
-        assert_eq!(rt; order_behind(&catalog, last).cursor(), want);
-    }
-    assert_eq!(rt;
-        order_behind(&catalog, None).as_slice(),
-        [3, 0, 1, 2, 4].as_slice()
-    );
-    Ok(())
-}
-
-fn next_in<L: Ledger>(
-    catalog: &Catalog,
-    last: Option<u32>,
-    states: &[PeimState],
-    moved: bool,
-    blank: Blank,
-) -> Option<u32>
-    requires name { blank.name ≡ L.name }
-    requires parts { blank.parts ≡ L.parts }
-    requires some { 0 < L.parts }
-    requires catalog { IsWellFormed catalog.now }
-{
-    let order = order_behind(catalog, last);
-    let mut steps = Steps::<L>::new(blank);
-    next_peim(catalog, &order, states, moved, &OnePpi, &mut steps)
-}
-
-#[test]
-fn the_first_behind_the_cursor_comes_next(rt: HostRuntime) -> Result<(), Fail> {
-    let catalog = choices(rt.alloc()).ok().ok_or("there is memory")?;
-    let waits = PeimState::NotDispatched;
-    let started = PeimState::Dispatched;
-    let shadow = PeimState::RegisteredForShadow;
-    let rows = [
-        // A module behind the states waits.
-        (None, [waits, waits], false, Some(3)),
-        (Some(3), [waits, waits], false, Some(0)),
-        (Some(0), [waits, waits], false, Some(1)),
-        // Behind the cursor none may start: it goes on at the front.
-        (Some(1), [waits, waits], false, Some(3)),
-        (Some(4), [waits, waits], false, Some(3)),
-        (Some(3), [started, started], false, Some(3)),
-        (Some(3), [started, shadow], false, Some(3)),
-        (Some(3), [started, shadow], true, Some(1)),
-    ];
-    'rows: for (last, states, moved, want) in rows {
-        let next = next_in::<Brand>(&catalog, last, &states, moved, Blank::new(1));
-        assert_eq!(rt; next, want);
-    }
+    let first = first_of::<Brand>(rt.alloc(), &catalog, Blank::new(1));
+    assert!(rt; first == Ok(Some(3)));
     Ok(())
 }

@@ -10,7 +10,8 @@ use Rattle.boot_model.specs.MachineFacts.{IsSound}
 use Rattle.boot_model.specs.PeiMachine.{PeiMachine}
 use Rattle.boot_model.specs.PeiStep.{outcome_of, stopped}
 use Rattle.boot_model.specs.Text.{text_of}
-use Rattle.pei_choice.specs.declared.order.PeiOrder.{PeiOrder}
+use Rattle.pei_choice.specs.declared.queue.PeiQueue.{PeiQueue}
+use Rattle.pei_choice.specs.Queue.{IsPlaced, IsQueueOf}
 use Rattle.pei_core.specs.declared.pei.Pei.{Pei}
 use Rattle.pei_core.specs.Standing.{IsCoreOf, Has, StandsFor, last_start}
 use Rattle.pei_core.specs.Turn.{Texts}
@@ -44,31 +45,31 @@ stands_still stands pei m lines stand =
     }
 
 -- the stop ends the machine
-pub stops_so : {M : Type 0} (stands : M → StoreState → Type 0) (catalog : Catalog) (pei : Pei M) (order : PeiOrder) (m : PeiMachine) (end : PeiEnd) (t : Texts) → IsNow stands catalog pei order m
-    → end ≡ outcome_of m.store → Appends t.old t.new (text_of (stop_lines catalog m)) → IsOver stands catalog m pei (stopped catalog m) pei order end t
-stops_so stands catalog pei order m end t now outcome text = record {
+pub stops_so : {M : Type 0} (stands : M → StoreState → Type 0) (catalog : Catalog) (pei : Pei M) (queue : PeiQueue) (m : PeiMachine) (end : PeiEnd) (t : Texts) → IsNow stands catalog pei queue m
+    → end ≡ outcome_of m.store → Appends t.old t.new (text_of (stop_lines catalog m)) → IsOver stands catalog m pei (stopped catalog m) pei queue end t
+stops_so stands catalog pei queue m end t now outcome text = record {
   ended = ap (λ o. Some o) (sym outcome);
   printed = record { told = stop_lines catalog m; lines = refl; text = text };
   machine = record {
     sweep = m.core_sweep;
     machine = stands_still stands pei m (m.lines ++ stop_lines catalog m) now.machine;
-    placed = record { parts = now.placed.parts; cursor = now.placed.cursor };
+    placed = record { parts = now.parts.shows.order; place = now.parts.place };
   };
   last = λ is. is;
 }
 
 -- the machine ends and nothing else changes
-pub ends_so : {M : Type 0} (stands : M → StoreState → Type 0) (catalog : Catalog) (pei later : Pei M) (order : PeiOrder) (m later_m : PeiMachine) (end : PeiEnd) (t : Texts) → IsNow stands catalog pei order m
-    → later_m ≡ record m { ended = Some end } → Appends t.old t.new [] → StandsFor stands later m → last_start later ≡ last_start pei → IsOver stands catalog m pei later_m later order end t
-ends_so stands catalog pei later order m later_m end t now is text machine same =
-    let P : PeiMachine → Type 0 = λ x. IsOver stands catalog m pei x later order end t in
-    let over : IsOver stands catalog m pei (record m { ended = Some end }) later order end t = record {
+pub ends_so : {M : Type 0} (stands : M → StoreState → Type 0) (catalog : Catalog) (pei later : Pei M) (queue : PeiQueue) (m later_m : PeiMachine) (end : PeiEnd) (t : Texts) → IsNow stands catalog pei queue m
+    → later_m ≡ record m { ended = Some end } → Appends t.old t.new [] → StandsFor stands later m → last_start later ≡ last_start pei → IsOver stands catalog m pei later_m later queue end t
+ends_so stands catalog pei later queue m later_m end t now is text machine same =
+    let P : PeiMachine → Type 0 = λ x. IsOver stands catalog m pei x later queue end t in
+    let over : IsOver stands catalog m pei (record m { ended = Some end }) later queue end t = record {
       ended = refl;
       printed = record { told = []; lines = sym (append-nil m.lines); text = text };
       machine = record {
         sweep = m.core_sweep;
         machine = stands_still stands later m m.lines machine;
-        placed = record { parts = now.placed.parts; cursor = now.placed.cursor };
+        placed = record { parts = now.parts.shows.order; place = now.parts.place };
       };
       last = λ before. same ∙ before;
     } in

@@ -1,10 +1,10 @@
 mod Choosing
-mod Counting
 mod Ending
+mod Evaluating
+mod Following
 mod Growing
 mod Idle
 mod Lines
-mod Reported
 mod Runs
 mod Starts
 mod Stops

@@ -8,6 +8,7 @@ use Rattle.boot_io.proofs.PutsLaws.{appends_then, part_then}
 use Rattle.boot_io.specs.declared.halt.Halt.{Halt}
 use Rattle.boot_io.specs.declared.halt.Halt.TheVariants as H
 use Rattle.catalog_model.specs.declared.catalog.Catalog.{Catalog}
+use Rattle.store_model.specs.StateFacts.{IsStoreState}
 use Rattle.store_model.specs.StoreState.{StoreState}
 use Rattle.boot_model.specs.declared.phase_end.PeiEnd.{PeiEnd}
 use Rattle.boot_model.specs.Licence.{AllDiffer}
@@ -15,18 +16,19 @@ use Rattle.boot_model.specs.PeiChoice.{pei_order, volume_order}
 use Rattle.boot_model.specs.PeiMachine.{PeiMachine}
 use Rattle.boot_model.specs.PeiStep.{pei_step}
 use Rattle.boot_model.specs.Text.{text_of}
-use Rattle.pei_choice.specs.declared.order.PeiOrder.{PeiOrder}
-use Rattle.pei_choice.specs.Order.{IsPeiOrder, OrderGrows}
-use Rattle.pei_core.specs.declared.event.Stepped.{Stepped}
+use Rattle.pei_choice.specs.declared.queue.PeiQueue.{PeiQueue}
+use Rattle.pei_choice.specs.Queue.{IsQueueOf}
+use Rattle.pei_core.specs.declared.event.Event.{Event}
 use Rattle.pei_core.specs.declared.pei.Pei.{Pei}
-use Rattle.pei_core.specs.Standing.{StandsFor, last_start}
-use Rattle.pei_core.specs.Steps.{IsIdle, StepsTo}
+use Rattle.pei_core.specs.Standing.{IsFor, StandsFor, last_start}
+use Rattle.pei_core.specs.Steps.{IsEvent, IsIdle, StepsTo}
 use Rattle.pei_core.specs.Turn.{Texts, PrintedPart}
 use Rattle.pei_dispatch.specs.Ends.{KeepsLast, IsWantOfStore}
+use Rattle.pei_dispatch.specs.Following.{Follows}
 use Rattle.pei_dispatch.specs.LastStart.{just_before, last_started}
 use Rattle.pei_dispatch.specs.Turns.{IsNow, TurnsTo}
 use Rattle.pei_dispatch.proofs.Growing.{step_grew}
-use Rattle.pei_dispatch.proofs.Idle.{cursor_stays}
+use Rattle.pei_dispatch.proofs.Idle.{step_quiet}
 
 -- the volumes that a step reported are those behind the ones that were known
 pub new_volumes : (catalog : Catalog) (fuel : ℕ) (m : PeiMachine) (known : ℕ) (reported new : List ℕ) → known ≡ length m.reported → reported ≡ (pei_step catalog fuel m).reported → new ≡ drop known reported
@@ -43,8 +45,16 @@ known_within catalog fuel m known reported here now =
     omega (arith, long, here)
 
 -- more volumes come behind the others in the order
-order_with : (catalog : Catalog) (reported more : List ℕ) → pei_order catalog (reported ++ more) ≡ pei_order catalog reported ++ pei_order catalog more
+pub order_with : (catalog : Catalog) (reported more : List ℕ) → pei_order catalog (reported ++ more) ≡ pei_order catalog reported ++ pei_order catalog more
 order_with catalog reported more = flat_map-append (volume_order catalog) reported more
+
+-- so it is no shorter behind a step
+pub order_longer : (catalog : Catalog) (fuel : ℕ) (m : PeiMachine) → length (pei_order catalog m.reported) ≤ length (pei_order catalog (pei_step catalog fuel m).reported)
+order_longer catalog fuel m =
+    let grew = step_grew catalog fuel m in
+    let long : length (pei_order catalog (pei_step catalog fuel m).reported) ≡ length (pei_order catalog m.reported) + length (pei_order catalog grew.more) =
+    ap length (ap (pei_order catalog) grew.reported ∙ order_with catalog m.reported grew.more) ∙ length-append (pei_order catalog m.reported) (pei_order catalog grew.more) in
+    omega (arith, long)
 
 -- and the module just before a place in the order stays
 front_stays : (xs ys : List ℕ) (n : ℕ) → n < length xs → slice_get (xs ++ ys) n ≡ slice_get xs n
@@ -56,49 +66,53 @@ just_before_stays : (place : ℕ) (order more : List ℕ) → place ≤ length o
 just_before_stays zero order more within = refl
 just_before_stays (suc n) order more within = front_stays order more n (omega (arith, within))
 
--- a step that is no start and no end, with the volumes that it reported in the order
-pub event_now : {M : Type 0} (stands : M → StoreState → Type 0) (catalog : Catalog) (fuel : ℕ) (m : PeiMachine) (pei later : Pei M) (order grown : PeiOrder) (new : List ℕ) → (IsIdle m → ⊥)
-    → IsNow stands catalog pei order m → OrderGrows catalog order new grown → m.reported ++ new ≡ (pei_step catalog fuel m).reported → StandsFor stands later (pei_step catalog fuel m)
+-- a step that is no start and no end, with the queue behind its event
+pub event_now : {M : Type 0} (stands : M → StoreState → Type 0) (catalog : Catalog) (fuel : ℕ) (m : PeiMachine) (pei later : Pei M) (queue grown : PeiQueue) → (IsIdle m → ⊥)
+    → IsNow stands catalog pei queue m → IsQueueOf catalog (pei_step catalog fuel m) grown → StandsFor stands later (pei_step catalog fuel m)
     → IsNow stands catalog later grown (pei_step catalog fuel m)
-event_now stands catalog fuel m pei later order grown new busy now grows are machine =
-    let step = pei_step catalog fuel m in
-    let cursor = cursor_stays catalog fuel m busy in
-    let all = order_with catalog m.reported new in
-    let long : length (pei_order catalog (m.reported ++ new)) ≡ length (pei_order catalog m.reported) + length (pei_order catalog new) =
-    ap length all ∙ length-append (pei_order catalog m.reported) (pei_order catalog new) in
-    let longer : length (pei_order catalog step.reported) ≡ length (pei_order catalog (m.reported ++ new)) = ap (λ volumes. length (pei_order catalog volumes)) (sym are) in
-    let within = now.within in
-    let P : List ℕ → Type 0 = λ volumes. IsPeiOrder catalog volumes grown in
-    record {
-      machine = machine;
-      placed = record { parts = subst P are (grows.parts m.reported now.placed.parts); cursor = cursor ∙ now.placed.cursor ∙ sym grows.cursor };
-      within = omega (arith, cursor, long, longer, within);
-    }
+event_now stands catalog fuel m pei later queue grown busy now parts machine =
+    let cursor = (step_quiet catalog fuel m busy).cursor in
+    let longer = order_longer catalog fuel m in
+    record { machine = machine; parts = parts; within = omega (arith, cursor, longer, now.within) }
 
-pub event_last : {M : Type 0} (catalog : Catalog) (fuel : ℕ) (m : PeiMachine) (pei later : Pei M) (new : List ℕ) → (IsIdle m → ⊥) → m.cursor ≤ length (pei_order catalog m.reported)
-    → m.reported ++ new ≡ (pei_step catalog fuel m).reported → last_start later ≡ last_start pei → KeepsLast catalog m pei (pei_step catalog fuel m) later
-event_last catalog fuel m pei later new busy within are same before =
+-- the queue may follow the event
+pub follows_so : {M : Type 0} (stands : M → StoreState → Type 0) (catalog : Catalog) (fuel : ℕ) (m : PeiMachine) (pei later : Pei M) (queue : PeiQueue) (event : Event) → IsNow stands catalog pei queue m
+    → IsStoreState m.store → (IsIdle m → ⊥) → IsEvent catalog fuel m event → StandsFor stands later (pei_step catalog fuel m) → IsFor catalog fuel later → Follows stands catalog fuel later queue event m
+follows_so stands catalog fuel m pei later queue event now facts busy told behind made = record {
+  before = now.parts;
+  kept = record { facts = facts; held = now.machine.sound.held };
+  busy = busy;
+  told = told;
+  behind = behind;
+  differ = subst AllDiffer (sym behind.has.fields.reported) made.known.differ;
+}
+
+pub event_last : {M : Type 0} (catalog : Catalog) (fuel : ℕ) (m : PeiMachine) (pei later : Pei M) → (IsIdle m → ⊥) → m.cursor ≤ length (pei_order catalog m.reported)
+    → last_start later ≡ last_start pei → KeepsLast catalog m pei (pei_step catalog fuel m) later
+event_last catalog fuel m pei later busy within same before =
     let step = pei_step catalog fuel m in
+    let grew = step_grew catalog fuel m in
     let order = pei_order catalog m.reported in
-    let order_is : pei_order catalog step.reported ≡ order ++ pei_order catalog new = ap (pei_order catalog) (sym are) ∙ order_with catalog m.reported new in
-    same ∙ before ∙ sym (just_before_stays m.cursor order (pei_order catalog new) within) ∙ ap (just_before m.cursor) (sym order_is) ∙ ap (λ n. just_before n (pei_order catalog step.reported)) (sym (cursor_stays catalog fuel m busy))
+    let order_is : pei_order catalog step.reported ≡ order ++ pei_order catalog grew.more = ap (pei_order catalog) grew.reported ∙ order_with catalog m.reported grew.more in
+    same ∙ before ∙ sym (just_before_stays m.cursor order (pei_order catalog grew.more) within) ∙ ap (just_before m.cursor) (sym order_is)
+    ∙ ap (λ n. just_before n (pei_order catalog step.reported)) (sym (step_quiet catalog fuel m busy).cursor)
 
 -- nothing was put before a start or the stop
-pub turns_after : {M : Type 0} (stands : M → StoreState → Type 0) (catalog : Catalog) (m later_m : PeiMachine) (pei mid_pei later : Pei M) (order : PeiOrder) (old mid new : Option (List ℕ)) (r : Result (Option PeiEnd) Halt)
+pub turns_after : {M : Type 0} (stands : M → StoreState → Type 0) (catalog : Catalog) (m later_m : PeiMachine) (pei mid_pei later : Pei M) (queue : PeiQueue) (old mid new : Option (List ℕ)) (r : Result (Option PeiEnd) Halt)
     → last_start mid_pei ≡ last_start pei → Appends old mid []
-    → TurnsTo stands catalog m mid_pei later_m later order (record { old = mid; new = new }) r → TurnsTo stands catalog m pei later_m later order (record { old = old; new = new }) r
-turns_after stands catalog m later_m pei mid_pei later order old mid new (Ok None) same f turned = record {
+    → TurnsTo stands catalog m mid_pei later_m later queue (record { old = mid; new = new }) r → TurnsTo stands catalog m pei later_m later queue (record { old = old; new = new }) r
+turns_after stands catalog m later_m pei mid_pei later queue old mid new (Ok None) same f turned = record {
   printed = record { told = turned.printed.told; lines = turned.printed.lines; text = appends_then old mid new [] (text_of turned.printed.told) f turned.printed.text };
   now = turned.now;
   last = λ before. turned.last (same ∙ before);
 }
-turns_after stands catalog m later_m pei mid_pei later order old mid new (Ok (Some how)) same f over = record {
+turns_after stands catalog m later_m pei mid_pei later queue old mid new (Ok (Some how)) same f over = record {
   ended = over.ended;
   printed = record { told = over.printed.told; lines = over.printed.lines; text = appends_then old mid new [] (text_of over.printed.told) f over.printed.text };
   machine = over.machine;
   last = λ before. over.last (same ∙ before);
 }
-turns_after stands catalog m later_m pei mid_pei later order old mid new (Err halt) same f part =
+turns_after stands catalog m later_m pei mid_pei later queue old mid new (Err halt) same f part =
     record { told = part.told; lines = part.lines; text = part_then old mid new [] (text_of part.told) f part.text }
 
 -- a step that was given up put a part of its lines

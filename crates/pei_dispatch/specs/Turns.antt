@@ -15,19 +15,19 @@ use Rattle.boot_model.specs.PeiMachine.{PeiMachine}
 use Rattle.boot_model.specs.PeimState.{awaits_start, peim_state}
 use Rattle.boot_model.specs.PeiStep.{pei_step, started, outcome_of, waiting_lines, handoff_lines}
 use Rattle.boot_model.specs.Text.{text_of}
-use Rattle.pei_choice.specs.declared.order.PeiOrder.{PeiOrder}
-use Rattle.pei_choice.specs.Order.{IsPeiOrder, IsPlaced}
+use Rattle.pei_choice.specs.declared.queue.PeiQueue.{PeiQueue}
+use Rattle.pei_choice.specs.Queue.{IsQueueOf, parts_in}
 use Rattle.pei_core.specs.declared.pei.Pei.{Pei}
 use Rattle.pei_core.specs.Standing.{StandsFor, IsFor}
 use Rattle.pei_core.specs.Steps.{IsIdle}
 use Rattle.pei_core.specs.Turn.{Texts, Printed, PrintedPart}
 use Rattle.pei_dispatch.specs.Ends.{StandsAtEnd, KeepsLast}
 
--- the machine for which the core over its store stands now, and the order; its cursor is within the order
+-- the machine for which the core over its store stands now, and the queue; its cursor is within the order
 pub record IsNow {M : Type 0} (stands : M → StoreState → Type 0) (catalog : Catalog)
-    (pei : Pei M) (order : PeiOrder) (m : PeiMachine) : Type 0 where
+    (pei : Pei M) (queue : PeiQueue) (m : PeiMachine) : Type 0 where
   pub machine : StandsFor stands pei m
-  pub placed : IsPlaced catalog m order
+  pub parts : IsQueueOf catalog m queue
   pub within : m.cursor ≤ length (pei_order catalog m.reported)
 
 -- the PEIM that comes next in a machine: it is in the order, and a start of it is still to come
@@ -38,8 +38,8 @@ pub record IsNext (catalog : Catalog) (m : PeiMachine) (number : ℕ) : Type 0 w
 
 -- the machine is idle, and this PEIM comes next
 pub record IsChosen {M : Type 0} (stands : M → StoreState → Type 0) (catalog : Catalog)
-    (pei : Pei M) (order : PeiOrder) (m : PeiMachine) (number : ℕ) : Type 0 where
-  pub now : IsNow stands catalog pei order m
+    (pei : Pei M) (queue : PeiQueue) (m : PeiMachine) (number : ℕ) : Type 0 where
+  pub now : IsNow stands catalog pei queue m
   pub idle : IsIdle m
   pub peim : IsNext catalog m number
 
@@ -48,55 +48,55 @@ abbrev pub ChoosesFrom : Catalog → PeiMachine → Option ℕ → Type 0
 ChoosesFrom catalog m None = next_peim catalog m ≡ None
 ChoosesFrom catalog m (Some number) = IsNext catalog m number
 
-abbrev pub Chooses : {M : Type 0} → (M → StoreState → Type 0) → Catalog → Pei M → PeiOrder → Option ℕ → Type 0
-Chooses stands catalog pei order answer = (m : PeiMachine) → IsNow stands catalog pei order m → ChoosesFrom catalog m answer
+abbrev pub Chooses : {M : Type 0} → (M → StoreState → Type 0) → Catalog → Pei M → PeiQueue → Option ℕ → Type 0
+Chooses stands catalog pei queue answer = (m : PeiMachine) → IsNow stands catalog pei queue m → ChoosesFrom catalog m answer
 
 -- the machine goes on as the later one, and its lines were put
 pub record HasTurned {M : Type 0} (stands : M → StoreState → Type 0) (catalog : Catalog)
-    (m : PeiMachine) (pei : Pei M) (later_m : PeiMachine) (later : Pei M) (order : PeiOrder) (t : Texts) : Type 0 where
+    (m : PeiMachine) (pei : Pei M) (later_m : PeiMachine) (later : Pei M) (queue : PeiQueue) (t : Texts) : Type 0 where
   pub printed : Printed m later_m t
-  pub now : IsNow stands catalog later order later_m
+  pub now : IsNow stands catalog later queue later_m
   pub last : KeepsLast catalog m pei later_m later
 
 -- the later machine has ended, and its lines were put
 pub record IsOver {M : Type 0} (stands : M → StoreState → Type 0) (catalog : Catalog)
-    (m : PeiMachine) (pei : Pei M) (end : PeiMachine) (later : Pei M) (order : PeiOrder) (how : PeiEnd) (t : Texts) : Type 0 where
+    (m : PeiMachine) (pei : Pei M) (end : PeiMachine) (later : Pei M) (queue : PeiQueue) (how : PeiEnd) (t : Texts) : Type 0 where
   pub ended : end.ended ≡ Some how
   pub printed : Printed m end t
-  pub machine : StandsAtEnd stands catalog later order end
+  pub machine : StandsAtEnd stands catalog later queue end
   pub last : KeepsLast catalog m pei end later
 
 -- a turn from a machine to the later one, by its answer
 abbrev pub TurnsTo : {M : Type 0} → (M → StoreState → Type 0) → Catalog
-    → PeiMachine → Pei M → PeiMachine → Pei M → PeiOrder → Texts → Result (Option PeiEnd) Halt → Type 0
-TurnsTo stands catalog m pei later_m later order t (Ok None) = HasTurned stands catalog m pei later_m later order t
-TurnsTo stands catalog m pei later_m later order t (Ok (Some how)) = IsOver stands catalog m pei later_m later order how t
-TurnsTo stands catalog m pei later_m later order t (Err halt) = PrintedPart m later_m t
+    → PeiMachine → Pei M → PeiMachine → Pei M → PeiQueue → Texts → Result (Option PeiEnd) Halt → Type 0
+TurnsTo stands catalog m pei later_m later queue t (Ok None) = HasTurned stands catalog m pei later_m later queue t
+TurnsTo stands catalog m pei later_m later queue t (Ok (Some how)) = IsOver stands catalog m pei later_m later queue how t
+TurnsTo stands catalog m pei later_m later queue t (Err halt) = PrintedPart m later_m t
 
--- a turn from each machine for which the core and the order stand: a step of it
+-- a turn from each machine for which the core and the queue stand: a step of it
 abbrev pub Turns : {M : Type 0} → (M → StoreState → Type 0) → Catalog
-    → Pei M → PeiOrder → Pei M → PeiOrder → Option (List ℕ) → Option (List ℕ) → Result (Option PeiEnd) Halt → Type 0
-Turns stands catalog pei order later grown old new result =
-    (m : PeiMachine) (fuel : ℕ) → IsFor catalog fuel pei → IsNow stands catalog pei order m
+    → Pei M → PeiQueue → Pei M → PeiQueue → Option (List ℕ) → Option (List ℕ) → Result (Option PeiEnd) Halt → Type 0
+Turns stands catalog pei queue later grown old new result =
+    (m : PeiMachine) (fuel : ℕ) → IsFor catalog fuel pei → IsNow stands catalog pei queue m
     → TurnsTo stands catalog m pei (pei_step catalog fuel m) later grown (record { old = old; new = new }) result
 
 -- the same from each one that is idle
 abbrev pub TurnsIdle : {M : Type 0} → (M → StoreState → Type 0) → Catalog
-    → Pei M → PeiOrder → Pei M → PeiOrder → Option (List ℕ) → Option (List ℕ) → Result (Option PeiEnd) Halt → Type 0
-TurnsIdle stands catalog pei order later grown old new result =
-    (m : PeiMachine) (fuel : ℕ) → IsFor catalog fuel pei → IsNow stands catalog pei order m → IsIdle m
+    → Pei M → PeiQueue → Pei M → PeiQueue → Option (List ℕ) → Option (List ℕ) → Result (Option PeiEnd) Halt → Type 0
+TurnsIdle stands catalog pei queue later grown old new result =
+    (m : PeiMachine) (fuel : ℕ) → IsFor catalog fuel pei → IsNow stands catalog pei queue m → IsIdle m
     → TurnsTo stands catalog m pei (pei_step catalog fuel m) later grown (record { old = old; new = new }) result
 
 -- the start of what was chosen, by its answer
 abbrev pub StartsTo : {M : Type 0} → (M → StoreState → Type 0) → Catalog
-    → PeiMachine → Pei M → PeiMachine → Pei M → PeiOrder → Texts → Result (Unit {0}) SinkFault → Type 0
-StartsTo stands catalog m pei later_m later order t (Ok _) = HasTurned stands catalog m pei later_m later order t
-StartsTo stands catalog m pei later_m later order t (Err fault) = PrintedPart m later_m t
+    → PeiMachine → Pei M → PeiMachine → Pei M → PeiQueue → Texts → Result (Unit {0}) SinkFault → Type 0
+StartsTo stands catalog m pei later_m later queue t (Ok _) = HasTurned stands catalog m pei later_m later queue t
+StartsTo stands catalog m pei later_m later queue t (Err fault) = PrintedPart m later_m t
 
 abbrev pub Starts : {M : Type 0} → (M → StoreState → Type 0) → Catalog
-    → Pei M → PeiOrder → ℕ → Pei M → PeiOrder → Option (List ℕ) → Option (List ℕ) → Result (Unit {0}) SinkFault → Type 0
-Starts stands catalog pei order number later moved old new result =
-    (m : PeiMachine) → IsChosen stands catalog pei order m number
+    → Pei M → PeiQueue → ℕ → Pei M → PeiQueue → Option (List ℕ) → Option (List ℕ) → Result (Unit {0}) SinkFault → Type 0
+Starts stands catalog pei queue number later moved old new result =
+    (m : PeiMachine) → IsChosen stands catalog pei queue m number
     → StartsTo stands catalog m pei (started catalog m number) later moved (record { old = old; new = new }) result
 
 -- the line of the hand-off over a store, where PEI ends by it
@@ -109,7 +109,7 @@ stop_lines catalog m = L.PeiStop ∷ (waiting_lines catalog m ++ handoff_lines m
 
 -- as they are put, where the end is that of the machine
 abbrev pub PutsStop : {M : Type 0} → (M → StoreState → Type 0) → Catalog
-    → Pei M → PeiOrder → PeiEnd → Option (List ℕ) → Option (List ℕ) → Result (Unit {0}) SinkFault → Type 0
-PutsStop stands catalog pei order end old new result =
-    (m : PeiMachine) → StandsFor stands pei m → IsPeiOrder catalog m.reported order → end ≡ outcome_of m.store
+    → Pei M → PeiQueue → PeiEnd → Option (List ℕ) → Option (List ℕ) → Result (Unit {0}) SinkFault → Type 0
+PutsStop stands catalog pei queue end old new result =
+    (m : PeiMachine) → StandsFor stands pei m → parts_in queue ≡ pei_order catalog m.reported → end ≡ outcome_of m.store
     → Puts result old new (text_of (stop_lines catalog m))

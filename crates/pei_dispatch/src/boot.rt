@@ -10,7 +10,7 @@ use boot_io::{Halt, Sink};
 use boot_model::PeiEnd;
 use catalog_model::Catalog;
 use depex_code::Steps;
-use pei_choice::PeiOrder;
+use pei_choice::PeiQueue;
 use pei_core::Pei;
 use std::alloc::Global;
 use std::marker::Brand;
@@ -51,10 +51,10 @@ fn boot_with_ledger<M: PeiStore + Drop, S: Sink, L: Ledger>(
     ensures memory { IsWantedBefore M.TAKES_MEMORY (S.text sink.old) (S.text sink.new) result }
     ensures faults { HaltsAfter result (S.faults sink.old) (S.faults sink.new) }
 {
+    let mut queue = PeiQueue::build(alloc, catalog)?;
     let mut pei = Pei::begin(alloc, store, catalog, fuel)?;
-    let mut order = PeiOrder::new();
     let mut steps = Steps::<L>::new(blank);
-    let end = run_pei(&mut pei, &mut order, catalog, sink, &mut steps)?;
+    let end = run_pei(&mut pei, &mut queue, catalog, sink, &mut steps)?;
     Ok(Ended {
         end,
         actions: pei.actions(),

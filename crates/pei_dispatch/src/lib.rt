@@ -3,7 +3,7 @@
 
 mod boot;
 mod choose;
-mod report;
+mod follow;
 mod run;
 mod start;
 mod stop;

@@ -13,7 +13,7 @@ use boot_io::{Sink, SinkFault};
 use boot_model::{Line, PeiEnd};
 use boot_trace::put;
 use catalog_model::Catalog;
-use pei_choice::PeiOrder;
+use pei_choice::PeiQueue;
 use pei_core::Pei;
 use store_model::{DXE_IPL_PPI, PeiStore};
 
@@ -60,16 +60,16 @@ pub(crate) fn end_of<M: PeiStore + Drop>(pei: &Pei<M>) -> PeiEnd
 /// The lines of the stop: the parts that wait, and the hand-off.
 pub(crate) fn put_stop<M: PeiStore + Drop, S: Sink>(
     pei: &Pei<M>,
-    order: &PeiOrder,
+    queue: &PeiQueue,
     catalog: &Catalog,
     end: PeiEnd,
     sink: &mut S,
 ) -> Result<(), SinkFault>
     requires state { (m : PeiMachine) × StandsFor M.stands_for pei.now m }
-    ensures row { PutsStop M.stands_for catalog.now pei.now order.now end (S.text sink.old) (S.text sink.new) result }
+    ensures row { PutsStop M.stands_for catalog.now pei.now queue.now end (S.text sink.old) (S.text sink.new) result }
     ensures cause { SinkFaultsAfter result (S.faults sink.old) (S.faults sink.new) }
 {
     put(sink, &Line::PeiStop)?;
-    put_all_waiting(catalog, order.as_slice(), pei.states(), sink)?;
+    put_all_waiting(catalog, queue.as_slice(), pei.states(), sink)?;
     put_handoff(pei.store(), end, sink)
 }

@@ -15,7 +15,6 @@ use crate::places::Places;
 use crate::settle::settle;
 use catalog_model::Catalog;
 use depex_code::Steps;
-
 use pi_base::{Guid, Phase, Seq};
 use std::sync::ledger::Ledger;
 

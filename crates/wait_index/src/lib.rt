@@ -20,7 +20,10 @@ mod watch;
 pub use index::WaitIndex;
 pub use installed::Installed;
 pub use laws::{
-    asked_are_those_of_the_bound_in_dxe, asked_are_those_of_the_bound_in_pei, next_is_the_first_eligible_driver,
-    next_is_the_next_peim, truth_asks_what_is_pushed,
+    asked_are_those_of_the_bound_in_dxe, asked_are_those_of_the_bound_in_pei,
+    next_is_the_first_eligible_driver, next_is_the_next_peim, truth_asks_what_is_pushed,
 };
 pub use verdict::Verdict;
+
+#[cfg(test)]
+mod tests;

@@ -3,7 +3,7 @@ use Rattle.boot_plan.specs.declared.plan.PlanVolume.{PlanVolume}
 use Rattle.boot_core.specs.declared.command_line.Command.TheVariants.{Boot}
 use Rattle.boot_core.specs.declared.status.Status.{Status}
 use Rattle.boot_core.specs.FileReading.{AreImages, LongVolume, IsReached}
-use Rattle.boot_core.specs.Outcome.{ImagesOutcome, VolumesOutcome, kind_of, volume_long, volumes_read}
+use Rattle.boot_core.specs.Outcome.{CommandOutcome, ImagesOutcome, VolumesOutcome, kind_of, volume_long, volumes_read}
 use Rattle.boot_core.proofs.Ending.{ends_after, ends_without_files}
 use Rattle.boot_core.proofs.Pairs.{images_len, images_short}
 use Rattle.boot_core.proofs.boot.with_plan.Goals as goal
@@ -28,7 +28,7 @@ returns-in-Ok g c =
     let told = g.F.Files.told c.args.files.now in
     let P : List PlanVolume → List (List ℕ) → Type 0 = AreImages told in
     let read = subst (λ volumes. P volumes c.in-Ok.images) c.as_slice.ensures c.in-Ok.ensures.read in
-    ends_without_files (kind_of c.with_images.result) (ImagesOutcome c.args.command plan images) (VolumesOutcome told c.args.command plan) (IsReached told plan.volumes) (c.args.command ≡ Boot) (c.args.command ≡ Boot) c.with_images.result
+    ends_without_files (kind_of c.with_images.result) (ImagesOutcome (CommandOutcome c.args.command plan images) plan images) (VolumesOutcome told c.args.command plan) (IsReached told plan.volumes) (c.args.command ≡ Boot) (c.args.command ≡ Boot) c.with_images.result
     (T c.read_volumes.new.sink) (T c.args.sink.now) (T c.with_images.new.sink) (N c.read_volumes.new.sink) (N c.args.sink.now) (N c.with_images.new.sink) (F c.args.files.now) (F c.read_volumes.new.files) (g.F.Files.missed c.read_volumes.new.files)
     (λ s t o. volumes_read images read o) (λ b. b) c.in-Ok.ensures.untouched.text c.in-Ok.ensures.untouched.sink c.in-Ok.ensures.untouched.files c.with_images.ensures
 

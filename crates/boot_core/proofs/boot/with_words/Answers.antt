@@ -4,8 +4,8 @@ use Rattle.boot_core.specs.declared.command_line.Command.{Command}
 use Rattle.boot_core.specs.declared.status.Status.TheVariants.{Usage}
 use Rattle.boot_core.specs.CommandLine.{words_of, AskFor, AskForBoot}
 use Rattle.boot_core.specs.Lines.{usage_line}
-use Rattle.boot_core.specs.Outcome.{PlanOutcome, PlanNames, Outcome, Names, kind_of, words_usage, words_ask}
-use Rattle.boot_core.proofs.Ending.{answer_ends, ends_after}
+use Rattle.boot_core.specs.Outcome.{NumberOutcome, PlanOutcome, PlanNames, Outcome, Names, kind_of, words_ask, words_no_plan}
+use Rattle.boot_core.proofs.Ending.{ends_after, ends_without_files}
 use Rattle.boot_core.proofs.boot.with_words.Goals as goal
 
 pub returns-in-Some : goal.returns-in-Some
@@ -29,6 +29,6 @@ returns-in-None g c =
     let F = g.F.Files.faults in
     let words = words_of c.args.words.now in
     let told = g.F.Files.told c.args.files.now in
-    answer_ends c.put_usage-put.result (Outcome told words) (Names told words) (AskForBoot words) Usage c.answer.result usage_line (T c.args.sink.now) (T c.put_usage-put.new.sink) (N c.args.sink.now) (N c.put_usage-put.new.sink)
-    (F c.args.files.now) (F c.args.files.now) (g.F.Files.missed c.args.files.now) c.answer.ensures refl
-    (words_usage c.in-None.ensures.none refl refl) refl c.put_usage-put.ensures.text c.put_usage-put.ensures.cause
+    ends_without_files (kind_of c.without_plan.result) (NumberOutcome words) (Outcome told words) (Names told words) ⊥ (AskForBoot words) c.without_plan.result
+    (T c.args.sink.now) (T c.args.sink.now) (T c.without_plan.new.sink) (N c.args.sink.now) (N c.args.sink.now) (N c.without_plan.new.sink) (F c.args.files.now) (F c.args.files.now) (g.F.Files.missed c.args.files.now)
+    (λ s t o. words_no_plan c.in-None.ensures.none o) (λ b. absurd b) refl refl refl c.without_plan.ensures

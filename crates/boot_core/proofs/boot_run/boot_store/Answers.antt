@@ -1,11 +1,14 @@
-use Rattle.std.proofs.Common.{◌≡◌, Some, sym}
+use Rattle.std.proofs.Common.{◌≡◌, ℕ, List, Some, subst, sym}
+use Rattle.std.specs.Io.KnownBytes.{Appends}
+use Rattle.boot_io.specs.Sink.{AppendsPart}
+use Rattle.boot_io.proofs.PutsLaws.{appends_then, part_then}
 use Rattle.std.proofs.lemmas.Result.{err_from_is_err_and}
 use Rattle.boot_model.specs.PeiRun.{pei_end}
 use Rattle.boot_model.specs.Text.{text_of}
 use Rattle.boot_core.specs.BootEnd.{end_after, end_of, boot_text}
 use Rattle.boot_core.specs.Running.{text_behind}
 use Rattle.boot_core.proofs.BootTexts.{boot_is, end_is}
-use Rattle.boot_core.proofs.Telling.{tells_then, part_in}
+use Rattle.boot_core.proofs.Telling.{part_in}
 use Rattle.boot_core.proofs.boot_run.boot_store.Goals as goal
 
 pub returns-clause-row : goal.returns-clause-row
@@ -15,9 +18,23 @@ returns-clause-row g c = λ board stands.
     let fuel = c.args.fuel in
     let m = pei_end board catalog fuel in
     let pei = c.in_ok-pei.ensures.row board stands in
-    tells_then c.boot_behind.result (λ answer. end_after catalog fuel m m.ended ≡ Some answer) (λ answer. end_of board catalog fuel ≡ Some answer) (text_of m.lines) (text_behind catalog fuel m) (boot_text board catalog fuel)
-    (T c.args.sink.now) (T c.boot_pei.new.sink) (T c.boot_behind.new.sink)
-    (sym (boot_is board catalog fuel)) (end_is board catalog fuel) pei.0.text (c.boot_behind.ensures.row m pei.1 (pei.0.ended, pei.2))
+    let told = c.in_ok-end.ensures.row m pei.1.store_is (pei.0.ended, pei.1.actions_are) in
+    let whole = appends_then (T c.args.sink.now) (T c.boot_pei.new.sink) (T c.boot_behind.new.sink) (text_of m.lines) (text_behind catalog fuel m) pei.0.text told.1 in
+    let P : List ℕ → Type 0 = λ text. Appends (T c.args.sink.now) (T c.boot_behind.new.sink) text in
+    (record { end_is = end_is board catalog fuel c.in_ok-end.end told.0; left = pei.1 }, subst P (sym (boot_is board catalog fuel)) whole)
+
+pub returns-in_err-end-clause-row : goal.returns-in_err-end-clause-row
+returns-in_err-end-clause-row g c = λ board stands.
+    let T = g.S.Sink.text in
+    let catalog = c.args.catalog.now in
+    let fuel = c.args.fuel in
+    let m = pei_end board catalog fuel in
+    let pei = c.in_ok-pei.ensures.row board stands in
+    let p = err_from_is_err_and c.from_residual-in_err-end.result c.from_residual-in_err-end.ensures.1 in
+    let told = c.in_err-end.ensures.row m pei.1.store_is (pei.0.ended, pei.1.actions_are) in
+    let part = part_then (T c.args.sink.now) (T c.boot_pei.new.sink) (T c.boot_behind.new.sink) (text_of m.lines) (text_behind catalog fuel m) pei.0.text told in
+    let P : List ℕ → Type 0 = λ text. AppendsPart (T c.args.sink.now) (T c.boot_behind.new.sink) text in
+    rw p.1 (subst P (sym (boot_is board catalog fuel)) part)
 
 pub returns-in_err-pei-clause-row : goal.returns-in_err-pei-clause-row
 returns-in_err-pei-clause-row g c = λ board stands.

@@ -1,0 +1,16 @@
+use Rattle.std.proofs.Common.{◌≡◌, Some, None}
+use Rattle.pei_choice.proofs.Places.{found_place, place_within}
+use Rattle.pei_choice.proofs.Views.{shows_without}
+use Rattle.pei_choice.proofs.queue.PeiQueue.again_one.Goals as goal
+
+pub again-requires-clause-within : goal.again-requires-clause-within
+again-requires-clause-within c =
+    let order = c.args.self.now.index.places.order.items in
+    place_within order c.args.number c.in-Some.place ((c.place_of.ensures.at c.requires.0 c.requires.2.of_catalog c.in-Some.place).0 c.in-Some.is)
+
+pub returns-in_default-clause-shows : goal.returns-in_default-clause-shows
+returns-in_default-clause-shows c catalog view shows started =
+    let order = c.args.self.now.index.places.order.items in
+    shows_without catalog c.args.self.now view c.args.number shows (λ h.
+    let there = found_place order c.args.number h in
+    c.in_default.not-Some there.0 ((c.place_of.ensures.at catalog shows.of_catalog there.0).1 there.1))

@@ -1,0 +1,131 @@
+//! The parts of PEI that wait, and the next PEIM.
+ghost use Rattle.std.specs.Prelude.{◌≡◌, ◌≤◌, ◌+◌, ◌∷◌, [], ℕ, IfOk, length};
+ghost use Rattle.catalog_model.specs.declared.catalog.Catalog.{Catalog as OfCatalog};
+ghost use Rattle.catalog_model.specs.declared.limits.TheConstants.{MOST_MODULES};
+ghost use Rattle.catalog_model.specs.WellFormed.{IsWellFormed};
+ghost use Rattle.boot_model.specs.PeiChoice.{cursor_behind, next_peim, pei_order, volume_order};
+ghost use Rattle.boot_model.specs.PeiMachine.{PeiMachine};
+ghost use Rattle.pei_choice.specs.Queue.{AreNew, HasStarted, HaveStarted, IsInOrder, IsNewQueue, IsQueueOf, Shows, ShowsBehind, owed_by, parts_in};
+ghost use Rattle.pei_choice.specs.View.{View, with_again, with_start, with_volumes};
+
+use boot_laws::order_is_of_modules;
+use catalog_model::{Catalog, well_formed_expressions_are_short};
+use depex_code::Steps;
+use phase_parts::Parts;
+use pi_base::{OutOfMemory, Phase};
+use std::alloc::Global;
+use std::sync::ledger::Ledger;
+use wait_index::{WaitIndex, next_is_the_next_peim};
+
+/// The PEI parts of the reported volumes, in the order in which they are tried, with the index of those that wait; and the cursor: how many of them stand before the place from which the next PEIM is looked for.
+#[derive(Drop)]
+pub struct PeiQueue {
+    pub(crate) index: WaitIndex,
+    pub(crate) cursor: usize,
+}
+
+impl PeiQueue {
+    /// The queue where no volume is reported and nothing has started. It alone takes memory.
+    pub fn build(alloc: Global, catalog: &Catalog) -> Result<PeiQueue, OutOfMemory>
+        requires few { length catalog.now.modules ≤ MOST_MODULES }
+        ensures { IfOk result (IsNewQueue catalog.now) }
+    {
+        Ok(PeiQueue {
+            index: WaitIndex::build(alloc, catalog, Phase::Pei)?,
+            cursor: 0,
+        })
+    }
+
+    // One more volume: its ranked parts by rank, then the others by place.
+    fn report_one(&mut self, catalog: &Catalog, volume: u32)
+        requires few { length catalog.now.modules ≤ MOST_MODULES }
+        requires new { (view : View) × Shows catalog.now self.old view × AreNew (volume ∷ []) view }
+        ensures shows { ShowsBehind catalog.now self.old self.new (AreNew (volume ∷ [])) (with_volumes (volume ∷ [])) }
+        ensures cursor { self.new.cursor ≡ self.old.cursor }
+        ensures owed { owed_by self.new ≤ owed_by self.old + length (volume_order catalog.now volume) }
+    {
+        order_is_of_modules();
+        let mut parts = Parts::new();
+        parts.push_ranked(catalog, Phase::Pei, volume);
+        parts.push_unranked(catalog, Phase::Pei, volume);
+        self.index.discover(catalog, parts.as_slice());
+    }
+
+    /// Volumes are reported that were not yet: each with its ranked parts by rank, then its others by place.
+    pub fn report(&mut self, catalog: &Catalog, volumes: &[u32])
+        requires few { length catalog.now.modules ≤ MOST_MODULES }
+        requires new { (view : View) × Shows catalog.now self.old view × AreNew volumes.now view }
+        ensures shows { ShowsBehind catalog.now self.old self.new (AreNew volumes.now) (with_volumes volumes.now) }
+        ensures cursor { self.new.cursor ≡ self.old.cursor }
+        ensures owed { owed_by self.new ≤ owed_by self.old + length (pei_order catalog.now volumes.now) }
+    {
+        'volumes: for volume in volumes {
+            self.report_one(catalog, *volume);
+        }
+    }
+
+    /// A part starts: it waits no more, and the cursor comes to stand behind it.
+    pub fn started(&mut self, number: u32)
+        requires { (catalog : OfCatalog) × (view : View) × Shows catalog self.old view × IsInOrder catalog number view }
+        ensures shows { (catalog : OfCatalog) → ShowsBehind catalog self.old self.new (IsInOrder catalog number) (with_start number) }
+        ensures cursor { self.new.cursor ≡ cursor_behind (parts_in self.old) number }
+        ensures owed { owed_by self.new ≤ owed_by self.old }
+    {
+        let Some(place) = self.index.place_of(number) else {
+            unreachable!()
+        };
+        self.index.started(place as usize);
+        self.cursor = place as usize + 1;
+    }
+
+    // A part that has started may start again.
+    fn again_one(&mut self, number: u32)
+        requires { (catalog : OfCatalog) × (view : View) × Shows catalog self.old view × HasStarted number view }
+        ensures shows { (catalog : OfCatalog) → ShowsBehind catalog self.old self.new (HasStarted number) (with_again (number ∷ [])) }
+        ensures cursor { self.new.cursor ≡ self.old.cursor }
+        ensures owed { owed_by self.new ≡ owed_by self.old }
+    {
+        if let Some(place) = self.index.place_of(number) {
+            self.index.again(place as usize);
+        }
+    }
+
+    /// Parts that have started may start again.
+    pub fn again(&mut self, numbers: &[u32])
+        requires { (catalog : OfCatalog) × (view : View) × Shows catalog self.old view × HaveStarted numbers.now view }
+        ensures shows { (catalog : OfCatalog) → ShowsBehind catalog self.old self.new (HaveStarted numbers.now) (with_again numbers.now) }
+        ensures cursor { self.new.cursor ≡ self.old.cursor }
+        ensures owed { owed_by self.new ≡ owed_by self.old }
+    {
+        'parts: for number in numbers {
+            self.again_one(*number);
+        }
+    }
+
+    /// The next PEIM: the first of the order that may start, read from the cursor to the end and then from the front to the cursor. None where no part may start.
+    /// Expressions are evaluated that may say something new.
+    pub fn choose<L: Ledger>(&mut self, catalog: &Catalog, steps: &mut Steps<L>) -> Option<u32>
+        requires catalog { IsWellFormed catalog.now }
+        requires shows { (view : View) × Shows catalog.now self.old view }
+        requires within { self.old.cursor ≤ length (parts_in self.old) }
+        ensures shows { (view : View) → Shows catalog.now self.old view → Shows catalog.now self.new view }
+        ensures cursor { self.new.cursor ≡ self.old.cursor }
+        ensures next { (m : PeiMachine) → IsQueueOf catalog.now m self.old → result ≡ next_peim catalog.now m }
+        ensures few_steps { steps.new + owed_by self.new ≤ steps.old + owed_by self.old }
+    {
+        well_formed_expressions_are_short();
+        next_is_the_next_peim();
+        self.index.settle(catalog, steps);
+        match self.index.next(self.cursor) {
+            Some(place) => self.index.module_at(place),
+            None => None,
+        }
+    }
+
+    /// The parts, by the numbers of their modules.
+    pub fn as_slice(&self) -> &[u32]
+        ensures { result.now ≡ parts_in self.now }
+    {
+        self.index.order()
+    }
+}

@@ -1,0 +1,14 @@
+pub mod Splits
+pub mod Numerals
+pub mod FixedWords
+pub mod PlainWords
+pub mod HexWords
+pub mod GuidWords
+pub mod CallWords
+pub mod ByteLines
+pub mod NoLine
+pub mod LineBodies
+pub mod Forms
+pub mod FieldsOne
+pub mod LinesOne
+pub mod OneReading

@@ -1,0 +1,43 @@
+// The lines of an audit.
+ghost use Rattle.std.specs.Prelude.{IfSome, IsNone};
+ghost use Rattle.trace_reader.specs.Readable.{IsLineOf};
+ghost use Rattle.trace_reader.specs.Lacking.{LacksLinesOfAudit};
+
+use crate::field::fields_after;
+use crate::hex_word::Kind;
+use crate::number::{Decimal, Hexadecimal};
+use boot_model::Line;
+
+// The line of a volume or a module.
+#[tactic(auto, unfolding(boot_model::specs::Text::keyword))]
+pub(crate) fn audit_line(line: &[u8]) -> Option<Line>
+    ensures read { IfSome result (IsLineOf line.now) }
+    ensures none { IsNone result → LacksLinesOfAudit line.now }
+{
+    if let Some((volume, (Hexadecimal(base), (Decimal(len), (name, ()))))) = fields_after(
+        line, b"volume",
+    ) {
+        return Some(Line::Volume {
+            volume,
+            base,
+            len,
+            name,
+        });
+    }
+    if let Some(
+        (by, (volume, (name, (Kind(kind), (pei_rank, (dxe_rank, (pei, (dxe, ())))))))),
+    ) = fields_after(line, b"module")
+    {
+        return Some(Line::Module {
+            by,
+            volume,
+            name,
+            kind,
+            pei_rank,
+            dxe_rank,
+            pei,
+            dxe,
+        });
+    }
+    None
+}

@@ -1,0 +1,66 @@
+// Words of expressions.
+ghost use Rattle.std.specs.Prelude.{◌≡◌, ◌++◌, IfSome, IsNone};
+ghost use Rattle.boot_model.specs.Text.{expression_text};
+ghost use Rattle.trace_reader.specs.Finds.{Finds};
+ghost use Rattle.trace_reader.specs.Readable.{IsExpression};
+ghost use Rattle.trace_reader.specs.Lacking.{LacksPlainExpressions};
+
+use crate::field::Field;
+use crate::place::behind;
+use boot_model::ExpressionWord;
+use pi_base::Guid;
+
+// What a field shows behind a front.
+fn read_behind<F: Field>(word: &[u8], front: &[u8]) -> Option<F>
+    ensures { Finds (λ value. F.fits value × (word.now ≡ front.now ++ F.shows value)) result }
+{
+    match behind(word, front) {
+        Some(rest) => F::read(rest),
+        None => None,
+    }
+}
+
+// An expression that has a word of its own.
+#[tactic(auto, unfolding(boot_model::specs::Text::expression_text))]
+fn plain_expression(word: &[u8]) -> Option<ExpressionWord>
+    ensures read { IfSome result (λ expression. IsExpression expression × (word.now ≡ expression_text expression)) }
+    ensures none { IsNone result → LacksPlainExpressions word.now }
+{
+    if word == b"-".as_slice() {
+        Some(ExpressionWord::NoPart)
+    } else if word == b"absent".as_slice() {
+        Some(ExpressionWord::Absent)
+    } else if word == b"expr".as_slice() {
+        Some(ExpressionWord::Tree)
+    } else if word == b"sor".as_slice() {
+        Some(ExpressionWord::Sor)
+    } else {
+        None
+    }
+}
+
+impl Field for ExpressionWord {
+    ghost use Rattle.boot_model.specs.Text.{expression_text};
+    ghost use Rattle.trace_reader.specs.Readable.{IsExpression};
+
+    ghost shows = { expression_text };
+
+    ghost fits = { IsExpression };
+
+    #[tactic(auto, using(crate::proofs::PlainWords::expression_plain), unfolding(boot_model::specs::Text::expression_text))]
+    fn read(word: &[u8]) -> Option<ExpressionWord> {
+        if let Some(expression) = plain_expression(word) {
+            return Some(expression);
+        }
+        if let Some(at) = read_behind(word, b"malformed@") {
+            return Some(ExpressionWord::Malformed(at));
+        }
+        if let Some(name) = read_behind(word, b"before=") {
+            return Some(ExpressionWord::Before(name));
+        }
+        match read_behind(word, b"after=") {
+            Some(name) => Some(ExpressionWord::After(name)),
+            None => None,
+        }
+    }
+}

@@ -1,0 +1,31 @@
+//! The reader of a trace: the lines whose texts the bytes are, or the first line of no form.
+#![tactic(auto)]
+
+mod audit_line;
+mod byte_line;
+mod call_line;
+mod count_line;
+mod end_line;
+mod entry_line;
+mod expression_word;
+mod fault;
+mod field;
+mod fixed_word;
+mod hex_word;
+mod line;
+mod move_line;
+mod name_word;
+mod notify_line;
+mod number;
+mod place;
+mod reading_law;
+mod refusal_line;
+mod start_line;
+mod trace;
+
+pub use fault::TraceFault;
+pub use reading_law::one_reading;
+pub use trace::read_trace;
+
+#[cfg(test)]
+mod tests;

@@ -1,0 +1,23 @@
+// The lines of the move to permanent memory.
+ghost use Rattle.std.specs.Prelude.{IfSome, IsNone};
+ghost use Rattle.trace_reader.specs.Readable.{IsLineOf};
+ghost use Rattle.trace_reader.specs.Lacking.{LacksLinesOfMove};
+
+use crate::field::fields_after;
+use crate::number::Hexadecimal;
+use boot_model::Line;
+
+// The line of the move, or of the PPI that is installed behind it.
+#[tactic(auto, unfolding(boot_model::specs::Text::keyword))]
+pub(crate) fn move_line(line: &[u8]) -> Option<Line>
+    ensures read { IfSome result (IsLineOf line.now) }
+    ensures none { IsNone result → LacksLinesOfMove line.now }
+{
+    if let Some((Hexadecimal(from), (Hexadecimal(to), ()))) = fields_after(line, b"migrate") {
+        return Some(Line::Migrate { from, to });
+    }
+    if let Some((status, ())) = fields_after(line, b"core install") {
+        return Some(Line::CoreInstall { status });
+    }
+    None
+}

@@ -1,0 +1,36 @@
+// The lines of reports and starts.
+ghost use Rattle.std.specs.Prelude.{IfSome, IsNone};
+ghost use Rattle.trace_reader.specs.Readable.{IsLineOf};
+ghost use Rattle.trace_reader.specs.Lacking.{LacksLinesOfStart};
+
+use crate::field::fields_after;
+use boot_model::Line;
+
+// The line of a volume that is reported or discovered, or of a start.
+#[tactic(auto, unfolding(boot_model::specs::Text::keyword))]
+pub(crate) fn start_line(line: &[u8]) -> Option<Line>
+    ensures read { IfSome result (IsLineOf line.now) }
+    ensures none { IsNone result → LacksLinesOfStart line.now }
+{
+    if let Some((volume, ())) = fields_after(line, b"report") {
+        return Some(Line::Report { volume });
+    }
+    if let Some((volume, ())) = fields_after(line, b"dxe volume") {
+        return Some(Line::DxeVolume { volume });
+    }
+    if let Some((volume, (name, (licence, ())))) = fields_after(line, b"pei start") {
+        return Some(Line::PeiStart {
+            volume,
+            name,
+            licence,
+        });
+    }
+    if let Some((volume, (name, (licence, ())))) = fields_after(line, b"dxe start") {
+        return Some(Line::DxeStart {
+            volume,
+            name,
+            licence,
+        });
+    }
+    None
+}
