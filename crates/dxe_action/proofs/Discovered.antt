@@ -18,9 +18,9 @@ use Rattle.frames.specs.declared.reading.Answer.{Answer}
 use Rattle.frames.specs.Peeked.{peeked, told_at, told_bytes}
 use Rattle.dxe_action.specs.declared.reply.Reply.{Reply}
 use Rattle.dxe_action.specs.Answered.{answered, refusal, told}
-use Rattle.dxe_action.specs.Reply.{IsReply, reply_in}
+use Rattle.dxe_action.specs.Reply.{IsReply, LeavesRest, reply_in}
 use Rattle.dxe_action.specs.Services.{Services, AreServicesOf}
-use Rattle.dxe_action.proofs.Replying.{refuses, unchanged}
+use Rattle.dxe_action.proofs.Replying.{none_more, refuses, unchanged}
 
 processes : (catalog : Catalog) (m : DxeMachine) (frame : DriverFrame) (v base volume : ℕ) → number_in frame.registers v ≡ Some base → volume_at catalog base ≡ Some volume
     → own_dxe_effect catalog m frame (A.Process v) ≡ Called C.Process (process_volume catalog m frame volume)
@@ -54,7 +54,8 @@ new_volume catalog m frame v base volume old order reply has number mapped new a
           (ap (λ known. has_number known volume) (sym has.order.volumes_are) ∙ new)
           ∙ ap (λ r. Called r.name (reply_in r frame.registers (with_volumes catalog m volumes) volumes)) (sym is);
       has = record { handles = has.handles; notes = has.notes; order = added m.discovered has.order; requested = has.requested };
-      rest = record { store = refl; discovered = refl; scheduled = refl; started = refl; actions = refl; lines = refl; ended = refl };
+      rest = subst (LeavesRest catalog m (with_volumes catalog m volumes) volumes) (sym (ap (λ (r : Reply). r.requested) is))
+          (record { store = refl; discovered = refl; scheduled = refl; started = refl; requested = none_more m; known = tt; actions = refl; lines = refl; ended = refl });
     }
 
 -- bytes that are read
@@ -76,5 +77,5 @@ pub reads : (catalog : Catalog) (m : DxeMachine) (frame : DriverFrame) (v n : �
     → answer ≡ peeked m.store frame.registers v n → reply ≡ answered C.Peek answer.status answer.extra W.Nothing → IsReply catalog m frame (A.Peek v n) reply services
 reads catalog m frame v n services answer reply has read is =
     subst (λ r. IsReply catalog m frame (A.Peek v n) r services) (sym is)
-    (unchanged catalog m frame (A.Peek v n) (answered C.Peek answer.status answer.extra W.Nothing) services has
+    (unchanged catalog m frame (A.Peek v n) (answered C.Peek answer.status answer.extra W.Nothing) services has refl
     (peek_shown m frame n (number_in frame.registers v) ∙ ap (λ a. shown m frame a) (sym read)))

@@ -28,7 +28,7 @@ use Rattle.dxe_action.specs.Answered.{refusal, refused, swept, sweep_of, told}
 use Rattle.dxe_action.specs.Reply.{IsReply, Replies}
 use Rattle.dxe_action.specs.Services.{Services, AreServicesOf}
 use Rattle.dxe_action.proofs.Growing as G
-use Rattle.dxe_action.proofs.Replying.{changed, refuses}
+use Rattle.dxe_action.proofs.Replying.{changed, none_more, refuses}
 
 -- a success that changes the handles
 pub tells : (catalog : Catalog) (m : DxeMachine) (frame : DriverFrame) (action : Action) (name : CallName) (extra : Extra) (writes : Writes) (old : Services) (handles : HandleState) (reply : Reply)
@@ -36,7 +36,7 @@ pub tells : (catalog : Catalog) (m : DxeMachine) (frame : DriverFrame) (action :
     → reply ≡ told name extra writes → IsReply catalog m frame action reply (G.with_handles old handles)
 tells catalog m frame action name extra writes old handles reply has e is =
     subst (λ r. IsReply catalog m frame action r (G.with_handles old handles)) (sym is)
-    (changed catalog m frame action (told name extra writes) old (G.with_handles old handles) handles m.notes m.requested has refl refl has.notes has.requested e)
+    (changed catalog m frame action (told name extra writes) old (G.with_handles old handles) handles m.notes m.requested has refl refl has.notes has.requested (none_more m) tt e)
 
 -- one that has notifications to visit
 pub sweeps : (catalog : Catalog) (m : DxeMachine) (frame : DriverFrame) (action : Action) (name : CallName) (extra : Extra) (writes : Writes) (guid : Guid) (value handle : ℕ)
@@ -47,7 +47,7 @@ sweeps catalog m frame action name extra writes guid value handle old handles re
     let visits : sweep_of (G.with_handles old handles) guid value handle ≡ protocol_sweep m guid value handle =
     ap (λ notes. record { guid = guid; interface = value; handle = handle; note_at = 0; note_to = length notes }) (sym has.notes) in
     subst (λ r. IsReply catalog m frame action r (G.with_handles old handles)) (sym (is ∙ ap (λ sweep. swept name extra writes sweep) visits))
-    (changed catalog m frame action (swept name extra writes (protocol_sweep m guid value handle)) old (G.with_handles old handles) handles m.notes m.requested has refl refl has.notes has.requested e)
+    (changed catalog m frame action (swept name extra writes (protocol_sweep m guid value handle)) old (G.with_handles old handles) handles m.notes m.requested has refl refl has.notes has.requested (none_more m) tt e)
 
 -- a fault
 pub faulted : {A : Type 0} (catalog : Catalog) (m : DxeMachine) (frame : DriverFrame) (action : Action) (name : CallName) (old : Services) (handles : HandleState)
@@ -121,4 +121,4 @@ notifies catalog m frame guid block old notes reply has pushed is =
     let note : ProtocolNote = record { guid = guid; module_number = frame.module_number; block = block } in
     subst (λ r. IsReply catalog m frame (A.DxeNotify guid block) r (with_notes old notes)) (sym is)
     (changed catalog m frame (A.DxeNotify guid block) (told C.Notify X.Nothing W.Nothing) old (with_notes old notes) m.handles (m.notes ++ note ∷ []) m.requested has refl has.handles
-    (ap (λ ns. ns ++ note ∷ []) has.notes ∙ sym pushed) has.requested refl)
+    (ap (λ ns. ns ++ note ∷ []) has.notes ∙ sym pushed) has.requested (none_more m) tt refl)

@@ -23,9 +23,9 @@ use Rattle.dxe_action.specs.declared.reply.Reply.{Reply}
 use Rattle.dxe_action.specs.Services.{Services, AreServicesOf}
 use Rattle.dxe_action.specs.Reply.{Replies}
 
--- an answer without notifications to visit, one of success, a refusal, and a success with notifications to visit
+-- an answer without notifications to visit, one of success, a refusal, a success with notifications to visit, and that of a request
 abbrev pub answered : CallName → Word → Extra → Writes → Reply
-answered name status extra writes = record { name = name; status = status; extra = extra; writes = writes; sweep = None }
+answered name status extra writes = record { name = name; status = status; extra = extra; writes = writes; sweep = None; requested = None }
 
 abbrev pub told : CallName → Extra → Writes → Reply
 told name extra writes = answered name S.Success extra writes
@@ -34,7 +34,10 @@ abbrev pub refusal : CallName → Word → Reply
 refusal name status = answered name status Nothing W.Nothing
 
 abbrev pub swept : CallName → Extra → Writes → ProtocolSweep → Reply
-swept name extra writes sweep = record { name = name; status = S.Success; extra = extra; writes = writes; sweep = Some sweep }
+swept name extra writes sweep = record { name = name; status = S.Success; extra = extra; writes = writes; sweep = Some sweep; requested = None }
+
+abbrev pub requests : CallName → ℕ → Reply
+requests name number = record (told name Nothing W.Nothing) { requested = Some number }
 
 -- a fault of the handles is a refusal with its status; want of memory is none
 abbrev pub refused : CallName → HandleFault → Result Reply OutOfMemory

@@ -18,6 +18,8 @@ pub struct Reply {
     pub writes: Writes,
     /// The notifications to visit.
     pub sweep: Option<ProtocolSweep>,
+    /// The driver that it requested.
+    pub requested: Option<u32>,
 }
 
 impl Reply {
@@ -31,6 +33,7 @@ impl Reply {
             extra,
             writes,
             sweep: None,
+            requested: None,
         }
     }
 
@@ -58,6 +61,21 @@ impl Reply {
             extra,
             writes,
             sweep: Some(sweep),
+            requested: None,
+        }
+    }
+
+    // The success of a request.
+    pub(crate) fn requests(name: CallName, number: u32) -> Reply
+        ensures { result ≡ A.requests name number }
+    {
+        Reply {
+            name,
+            status: Word::Success,
+            extra: Extra::Nothing,
+            writes: Writes::Nothing,
+            sweep: None,
+            requested: Some(number),
         }
     }
 

@@ -9,9 +9,8 @@ ghost use Rattle.dxe_action.specs.Services.{AreServicesFor};
 use crate::reply::Reply;
 use crate::requests::{asks_for_request, is_requested};
 use crate::services::DxeServices;
-use boot_model::{CallName, Extra};
+use boot_model::CallName;
 use catalog_model::{Catalog, Module};
-use frames::Writes;
 use pi_base::{Guid, Word};
 
 // Whether the driver of a module asks for a request, and has no place in its volume's a priori list.
@@ -59,7 +58,7 @@ pub(crate) fn schedule(services: &mut DxeServices, catalog: &Catalog, name: &Gui
         None => Reply::refusal(CallName::Schedule, Word::NotFound),
         Some(number) => {
             services.requested.set(number as usize, true);
-            Reply::told(CallName::Schedule, Extra::Nothing, Writes::Nothing)
+            Reply::requests(CallName::Schedule, number)
         }
     }
 }

@@ -2,38 +2,30 @@
 use Rattle.std.proofs.Common.{◌≡◌, ℕ, ◌-◌, ◌<◌, ◌≤◌, ◌==◌, Bool, true, false, ◌&&◌, ◌||◌, not, cond, List, [], ◌∷◌, ◌++◌, Option, Some, None, length, drop, reverse, refl, sym, subst, ap, ◌∙◌, arith}
 use Rattle.std.proofs.lemmas.List.{length-drop, reverse-append, reverse-reverse}
 use Rattle.std.proofs.Math.ListN.{drop_of_length-le}
-use Rattle.std.specs.Prelude.{filter, find, Result, Ok, Err, OnOk}
+use Rattle.std.specs.Prelude.{IfSome, Result, Ok, Err, OnOk}
 use Rattle.std.specs.List.{list_any}
 use Rattle.pi_base.specs.Lists.{Each}
 use Rattle.catalog_model.specs.declared.catalog.Catalog.{Catalog}
-use Rattle.pi_base.specs.declared.guid.Guid.{Guid}
 use Rattle.pi_base.specs.declared.phase.Phase.TheVariants.{Dxe}
 use Rattle.catalog_model.specs.Parts.{has_number, part_at, part_of}
 use Rattle.boot_model.specs.declared.driver.Scheduled.{Scheduled}
 use Rattle.boot_model.specs.DxeMachine.{DxeMachine}
-use Rattle.boot_model.specs.DxeChoice.{companion_group, discovered_order, driver_licence, driver_queue, first_eligible, group_scheduled, head_of, is_eligible_driver, is_waiting, queue_from, schedule_of, waiting}
+use Rattle.boot_model.specs.DxeChoice.{companion_group, driver_licence, driver_queue, drivers_of, first_eligible, group_scheduled, head_of, is_eligible_driver, is_waiting, queue_from, schedule_of, waiting}
 use Rattle.boot_laws.specs.GroupUnfolds.{IsRoot}
 use Rattle.boot_model.proofs.ListFacts.{each_append, each_more, within, each_found, each_has, found_passes}
 use Rattle.boot_laws.proofs.PartLists.{IsKnown}
 use Rattle.driver_order.specs.Order.{Drivers}
-use Rattle.dxe_choice.specs.Choosing.{HaveWaiting, IsTold, IsNumberOf, IsFilled, Schedules, Takes, is_among, may_come}
-use Rattle.dxe_choice.specs.Queue.{ComesNext, IsDriver, IsSeen, IsQueueOf, Queue, waits_at}
-use Rattle.dxe_choice.proofs.Scheduling.{mapped_drivers}
+use Rattle.wait_index.specs.declared.index.WaitIndex.{WaitIndex}
+use Rattle.wait_index.specs.Dispatch.{StandsForDxe}
+use Rattle.wait_index.specs.Index as W
+use Rattle.wait_index.specs.Index.{IsIndex}
+use Rattle.dxe_choice.specs.Choosing.{HaveWaiting, IsFirst, IsNumberOf, IsFilled, Schedules, Takes}
+use Rattle.dxe_choice.specs.Index.{is_among}
+use Rattle.dxe_choice.specs.Queue.{ComesNext, HasStarted, IsDriver, IsQueueFor, IsQueueOf, Queue, owed, waits_at}
+use Rattle.dxe_choice.proofs.Machines.{stands_scheduled}
+use Rattle.dxe_choice.proofs.Scheduling.{IsKnownNext, each_map, mapped_drivers, scheduled_row}
+use Rattle.dxe_choice.proofs.Waiting.{none_leave}
 use Rattle.dxe_choice.proofs.Walks.{group_numbers}
-
-found_by : (w p : ℕ → Bool) (x : ℕ) (xs : List ℕ) (b : Bool) → find (λ n. w n && p n) xs ≡ find p (filter w xs)
-    → cond (b && p x) (Some x) (find (λ n. w n && p n) xs) ≡ find p (cond b (x ∷ filter w xs) (filter w xs))
-found_by w p x xs true h = ap (λ found. cond (p x) (Some x) found) h
-found_by w p x xs false h = h
-
--- the first that passes two tests
-find_both : (w p : ℕ → Bool) (xs : List ℕ) → find (λ n. w n && p n) xs ≡ find p (filter w xs)
-find_both w p [] = refl
-find_both w p (x ∷ xs) = found_by w p x xs (w x) (find_both w p xs)
-
-first_is : (catalog : Catalog) (m : DxeMachine) (drivers : List ℕ) (found : Option ℕ) → drivers ≡ discovered_order catalog m → found ≡ find (may_come catalog m) drivers → first_eligible catalog m ≡ found
-first_is catalog m drivers found are h =
-    sym (h ∙ ap (find (may_come catalog m)) are ∙ find_both (is_waiting m) (is_eligible_driver catalog m) (discovered_order catalog m))
 
 root_is : (catalog : Catalog) (m : DxeMachine) (root : ℕ) → first_eligible catalog m ≡ Some root → IsRoot catalog m root
 root_is catalog m root h = record {
@@ -45,30 +37,23 @@ kept : (queue group : List Scheduled) → 0 < length queue → queue_from queue 
 kept [] group h = absurd (omega (arith, h))
 kept (first ∷ rest) group h = refl
 
--- whether a number is that of a driver which is scheduled
-abbrev is_number : ℕ → Scheduled → Bool
-is_number n next = next.module_number == n
+-- the machine with another queue
+abbrev pub with_queue : DxeMachine → List Scheduled → DxeMachine
+with_queue m scheduled = record m { scheduled = scheduled }
 
 -- a queue that is not empty stays
-pub filled_before : (catalog : Catalog) (m : DxeMachine) (queue : Queue) → IsQueueOf m queue → 0 < length queue.scheduled → IsFilled catalog m queue
+pub filled_before : (catalog : Catalog) (m : DxeMachine) (queue : Queue) → IsQueueOf catalog m queue → 0 < length queue.scheduled → IsFilled catalog m queue
 filled_before catalog m queue q some =
     let same : driver_queue catalog m ≡ m.scheduled = kept m.scheduled (group_scheduled catalog m (first_eligible catalog m)) (subst (λ (xs : List Scheduled). 0 < length xs) (sym q.scheduled) some) in
-    record {
-      scheduled = same ∙ q.scheduled;
-      waits = λ n. q.waits n ∙ ap (λ xs. not (list_any (is_number n) xs) && not (has_number m.started n)) (sym same);
-    }
+    subst (λ xs. IsQueueOf catalog (with_queue m xs) queue) (sym same) q
 
 -- an empty one gets the group, or stays empty
-pub filled_by : (catalog : Catalog) (m : DxeMachine) (queue later : Queue) (group : List Scheduled) → IsQueueOf m queue → queue.scheduled ≡ [] → group_scheduled catalog m (first_eligible catalog m) ≡ group
-    → Schedules queue group later → IsFilled catalog m later
-filled_by catalog m queue later group q none is g =
+pub filled_by : (catalog : Catalog) (m : DxeMachine) (queue later : Queue) (group : List Scheduled) → IsQueueOf catalog m queue → queue.scheduled ≡ [] → group_scheduled catalog m (first_eligible catalog m) ≡ group
+    → Each (IsKnownNext catalog m.discovered) group → Schedules queue group later → IsFilled catalog m later
+filled_by catalog m queue later group q none is known g =
     let empty : m.scheduled ≡ [] = q.scheduled ∙ none in
-    let same : driver_queue catalog m ≡ group = ap (λ xs. queue_from xs (group_scheduled catalog m (first_eligible catalog m))) empty ∙ is in
-    record {
-      scheduled = same ∙ sym (g.scheduled ∙ ap (λ xs. xs ++ group) none);
-      waits = λ n. g.waits n ∙ ap (λ w. not (is_among group n) && w) (q.waits n ∙ ap (λ xs. not (list_any (is_number n) xs) && not (has_number m.started n)) empty)
-          ∙ ap (λ xs. not (list_any (is_number n) xs) && not (has_number m.started n)) (sym same);
-    }
+    let same : driver_queue catalog m ≡ m.scheduled ++ group = ap (λ xs. queue_from xs (group_scheduled catalog m (first_eligible catalog m))) empty ∙ is ∙ sym (ap (λ xs. xs ++ group) empty) in
+    scheduled_row catalog m (with_queue m (driver_queue catalog m)) group queue later q g same refl refl refl refl known
 
 started_or_left : (x r s : Bool) → (not (x || r) && not s) ≡ (not r && not (x || s))
 started_or_left true true s = refl
@@ -83,33 +68,36 @@ emptied (first ∷ rest) group h = h
 pub comes_next : (catalog : Catalog) (m : DxeMachine) (queue later : Queue) (next : Option Scheduled) → IsFilled catalog m queue → Takes queue next later → ComesNext catalog m next later
 comes_next catalog m queue later None q t =
     let none : driver_queue catalog m ≡ [] = q.scheduled ∙ t.0 in
-    let empty : m.scheduled ≡ [] = emptied m.scheduled (group_scheduled catalog m (first_eligible catalog m)) none in (
-      ap head_of none,
-      record {
-        scheduled = empty ∙ sym (ap (λ (x : Queue). x.scheduled) t.1 ∙ t.0);
-        waits = λ n. ap (λ (x : Queue). waits_at x.waits n) t.1 ∙ q.waits n ∙ ap (λ xs. not (list_any (is_number n) xs) && not (has_number m.started n)) (none ∙ sym empty);
-      },
-    )
+    let empty : m.scheduled ≡ [] = emptied m.scheduled (group_scheduled catalog m (first_eligible catalog m)) none in
+    let here : IsQueueOf catalog m queue = subst (λ xs. IsQueueOf catalog (with_queue m xs) queue) (none ∙ sym empty) q in
+    (ap head_of none, subst (IsQueueOf catalog m) (sym t.1) here)
 comes_next catalog m queue later (Some next) q t =
     let whole : driver_queue catalog m ≡ next ∷ later.scheduled = q.scheduled ∙ t.0 in
     record {
       rest = later.scheduled;
       next_is = ap head_of whole;
-      behind = λ new s h. record {
-        scheduled = s;
-        waits = λ n. ap (λ flags. waits_at flags n) t.1 ∙ q.waits n ∙ ap (λ xs. not (list_any (is_number n) xs) && not (has_number m.started n)) whole
-            ∙ started_or_left (is_number n next) (is_among later.scheduled n) (has_number m.started n)
-            ∙ ap (λ xs. not (list_any (is_number n) xs) && not (has_number (next.module_number ∷ m.started) n)) (sym s)
-            ∙ ap (λ ns. not (list_any (is_number n) new.scheduled) && not (has_number ns n)) (sym h);
-      };
+      behind = λ new h. started_row catalog (with_queue m (driver_queue catalog m)) new queue later next q whole t.1 t.2
+          (record { scheduled = h.scheduled; started = h.started; discovered = h.discovered; requested = h.requested; handles = h.handles });
     }
-
--- what is found first over the flags is the first eligible driver
-pub found_first : (catalog : Catalog) (m : DxeMachine) (queue : Queue) (order : Drivers) (requested flags : List Bool) (has : Guid → Bool) (drivers : List ℕ) (found : Option ℕ) → IsSeen catalog m queue order requested has
-    → flags ≡ queue.waits → drivers ≡ order.drivers → ((m : DxeMachine) → IsTold m flags requested has → found ≡ find (may_come catalog m) drivers) → first_eligible catalog m ≡ found
-found_first catalog m queue order requested flags has drivers found seen are all first =
-    first_is catalog m drivers found (all ∙ seen.order.drivers_are)
-    (first m (record { waits = λ n. ap (λ fs. waits_at fs n) are ∙ seen.queue.waits n; requested = seen.requested; protocols = seen.protocols }))
+  where
+    started_row : (catalog : Catalog) (m new : DxeMachine) (queue later : Queue) (next : Scheduled) → IsQueueOf catalog m queue → m.scheduled ≡ next ∷ later.scheduled → later.waits ≡ queue.waits → later.index ≡ queue.index
+        → HasStarted next.module_number later.scheduled m new → IsQueueOf catalog new later
+    started_row catalog m new queue later next q whole flags same h =
+        let is : ℕ → Scheduled → Bool = λ n x. x.module_number == n in
+        let gone : (n : ℕ) → is_waiting m n ≡ is_waiting new n =
+        λ n. ap (λ xs. not (list_any (is n) xs) && not (has_number m.started n)) whole
+        ∙ started_or_left (is n next) (is_among later.scheduled n) (has_number m.started n)
+        ∙ ap (λ xs. not (list_any (is n) xs) && not (has_number (next.module_number ∷ m.started) n)) (sym h.scheduled)
+        ∙ ap (λ ns. not (list_any (is n) new.scheduled) && not (has_number ns n)) (sym h.started) in
+        let stands : StandsForDxe catalog new queue.index = stands_scheduled catalog m new [] queue.index queue.index q.index (none_leave queue.index) h.discovered h.requested h.handles (λ n. sym (gone n)) in
+        record {
+          scheduled = h.scheduled;
+          waits = λ n. ap (λ fs. waits_at fs n) flags ∙ q.waits n ∙ gone n;
+          index = subst (StandsForDxe catalog new) (sym same) stands;
+          others = λ n none.
+              let was = q.others n (ap (λ volumes. has_number (drivers_of catalog volumes) n) (sym h.discovered) ∙ none) in
+              (sym (gone n) ∙ was.0, ap (λ ns. has_number ns n) h.requested ∙ was.1);
+        }
 
 -- the first eligible driver's group
 pub record IsFound (catalog : Catalog) (m : DxeMachine) (root : ℕ) (drivers : List ℕ) : Type 0 where
@@ -117,13 +105,12 @@ pub record IsFound (catalog : Catalog) (m : DxeMachine) (root : ℕ) (drivers : 
   pub group : reverse drivers ≡ companion_group catalog m root
   pub known : Each (IsKnown catalog m.discovered) (companion_group catalog m root)
 
-pub found_group : (catalog : Catalog) (m : DxeMachine) (queue : Queue) (order : Drivers) (requested flags : List Bool) (has : Guid → Bool) (root : ℕ) (group : List ℕ) → IsSeen catalog m queue order requested has
-    → flags ≡ queue.waits → first_eligible catalog m ≡ Some root → ((m : DxeMachine) → HaveWaiting catalog m order flags → IsRoot catalog m root → reverse group ≡ companion_group catalog m root)
-    → IsFound catalog m root group
-found_group catalog m queue order requested flags has root group seen are first walked =
-    let is = root_is catalog m root first in
-    let have : HaveWaiting catalog m order flags = record { order = seen.order; waits = λ n. ap (λ fs. waits_at fs n) are ∙ seen.queue.waits n } in
-    record { first = first; group = walked m have is; known = group_numbers catalog m order flags root have is }
+pub found_group : (catalog : Catalog) (m : DxeMachine) (queue : Queue) (order : Drivers) (flags : List Bool) (root : ℕ) (group : List ℕ) → IsFirst catalog m queue order root → flags ≡ queue.waits
+    → ((m : DxeMachine) → HaveWaiting catalog m order flags → IsRoot catalog m root → reverse group ≡ companion_group catalog m root) → IsFound catalog m root group
+found_group catalog m queue order flags root group is are walked =
+    let root_of = root_is catalog m root is.first in
+    let have : HaveWaiting catalog m order flags = record { order = is.seen.order; waits = λ n. ap (λ fs. waits_at fs n) are ∙ is.seen.queue.waits n } in
+    record { first = is.first; group = walked m have root_of; known = group_numbers catalog m order flags root have root_of }
 
 -- a queue all of which has left is empty, and else it is not
 pub queue_empty : (queue view : Queue) (items : List Scheduled) (head : ℕ) → view ≡ queue → view.scheduled ≡ drop head items → length items ≤ head → queue.scheduled ≡ []
@@ -151,9 +138,33 @@ group_drivers catalog m root group found =
     mapped_drivers catalog m.discovered (λ n. record { module_number = n; licence = driver_licence (part_at Dxe catalog n) }) (λ n. refl) (reverse group)
     (subst (Each (IsKnown catalog m.discovered)) (sym found.group) found.known)
 
-pub group_is : (catalog : Catalog) (m : DxeMachine) (root : ℕ) (group : List ℕ) → IsFound catalog m root group → group_scheduled catalog m (first_eligible catalog m) ≡ schedule_of catalog (reverse group)
-group_is catalog m root group found = ap (group_scheduled catalog m) found.first ∙ ap (schedule_of catalog) (sym found.group)
+-- its drivers are of discovered volumes
+pub group_known : (catalog : Catalog) (m : DxeMachine) (root : ℕ) (order : Drivers) (queue : Queue) → IsFirst catalog m queue order root → Each (IsKnownNext catalog m.discovered) (schedule_of catalog (companion_group catalog m root))
+group_known catalog m root order queue is =
+    let root_of = root_is catalog m root is.first in
+    let have : HaveWaiting catalog m order queue.waits = record { order = is.seen.order; waits = is.seen.queue.waits } in
+    each_map (IsKnownNext catalog m.discovered) (λ n. record { module_number = n; licence = driver_licence (part_at Dxe catalog n) }) (companion_group catalog m root) (group_numbers catalog m order queue.waits root have root_of)
 
 pub on_ok : {E P Q : Type 0} (result : Result (Unit {0}) E) → (P → Q) → OnOk result P → OnOk result Q
 on_ok (Ok done) f p = f p
 on_ok (Err fault) f p = tt
+
+-- a queue whose head has left
+pub takes_for : (catalog : Catalog) (queue later : Queue) (next : Option Scheduled) → IsQueueFor catalog queue → Takes queue next later → IsQueueFor catalog later
+takes_for catalog queue later None q t = subst (IsQueueFor catalog) (sym t.1) q
+takes_for catalog queue later (Some next) q t =
+    let drivers : Each (IsDriver catalog) (next ∷ later.scheduled) = subst (λ xs. Each (IsDriver catalog) xs) t.0 q.drivers in
+    record {
+      flags = ap length t.1 ∙ q.flags;
+      drivers = drivers.1;
+      index = subst (IsIndex catalog) (sym t.2) q.index;
+      phase = ap (λ (i : WaitIndex). i.phase) t.2 ∙ q.phase;
+    }
+
+pub takes_driver : (catalog : Catalog) (queue later : Queue) (next : Option Scheduled) → IsQueueFor catalog queue → Takes queue next later → IfSome next (IsDriver catalog)
+takes_driver catalog queue later None q t = tt
+takes_driver catalog queue later (Some next) q t = let drivers : Each (IsDriver catalog) (next ∷ later.scheduled) = subst (λ xs. Each (IsDriver catalog) xs) t.0 q.drivers in drivers.0
+
+pub takes_owes : (queue later : Queue) (next : Option Scheduled) → Takes queue next later → owed later ≡ owed queue
+takes_owes queue later None t = ap (λ q. owed q) t.1
+takes_owes queue later (Some next) t = ap (λ (i : WaitIndex). W.owed i) t.2

@@ -1,5 +1,7 @@
-mod Scheduling
 mod Companions
-mod Walks
 mod Filling
+mod Machines
+mod Scheduling
 mod SmallMachines
+mod Waiting
+mod Walks

@@ -1,38 +1,30 @@
 -- What is told of the machine to what chooses its next driver, and how a group is walked with a stack.
 -- Own; PI 1.8, volume 2, "DXE Dispatcher".
-use Rattle.std.specs.Prelude.{◌≡◌, ℕ, ◌<◌, Bool, true, false, ◌==◌, ◌&&◌, not, if◌then◌else◌, List, [], ◌∷◌, ◌++◌, length, map, filter, Option, Some, None}
-use Rattle.std.specs.List.{list_any}
+use Rattle.std.specs.Prelude.{◌≡◌, ℕ, ◌<◌, ◌≤◌, ◌+◌, Bool, true, false, ◌==◌, ◌&&◌, not, if◌then◌else◌, List, [], ◌∷◌, ◌++◌, length, map, filter, Option, Some, None}
 use Rattle.pi_base.specs.declared.guid.Guid.{Guid}
+use Rattle.pi_base.specs.declared.phase.Phase.TheVariants.{Dxe}
 use Rattle.catalog_model.specs.declared.catalog.Catalog.{Catalog}
 use Rattle.catalog_model.specs.Parts.{module_name}
 use Rattle.boot_model.specs.declared.driver.Scheduled.{Scheduled}
-use Rattle.boot_model.specs.DxeChoice.{driver_queue, is_eligible_driver, is_waiting}
+use Rattle.boot_model.specs.DxeChoice.{driver_queue, first_eligible, is_waiting}
 use Rattle.boot_model.specs.DxeMachine.{DxeMachine}
 use Rattle.driver_order.specs.Order.{Drivers, IsOrderOf, first_of, befores_of, afters_of}
-use Rattle.dxe_action.specs.Services.{AreFlags}
+use Rattle.wait_index.specs.Discovery.{HaveCome}
+use Rattle.wait_index.specs.Index.{IsIndex}
 use Rattle.dxe_choice.specs.declared.group.Item.{Item}
 use Rattle.dxe_choice.specs.declared.group.Item.TheVariants as I
 use Rattle.boot_model.specs.declared.licence.Licence.TheVariants as G
-use Rattle.dxe_choice.specs.Queue.{Queue, HasProtocols, IsQueueOf, waits_at}
+use Rattle.dxe_choice.specs.Index.{WaitNoMore, is_among}
+use Rattle.dxe_choice.specs.Queue.{Queue, IsQueueOf, IsSeen, owed, waits_at}
 
 -- the flags say which drivers wait
 abbrev pub AreWaiting : DxeMachine → List Bool → Type 0
 AreWaiting m waits = (number : ℕ) → waits_at waits number ≡ is_waiting m number
 
--- which drivers wait, which were requested, and which protocols are on the handles
-pub record IsTold (m : DxeMachine) (wait_flags request_flags : List Bool) (has : Guid → Bool) : Type 0 where
-  pub waits : AreWaiting m wait_flags
-  pub requested : AreFlags m.requested request_flags
-  pub protocols : HasProtocols has m.handles
-
 -- the drivers in discovered order, and which of them wait
 pub record HaveWaiting (catalog : Catalog) (m : DxeMachine) (drivers : Drivers) (flags : List Bool) : Type 0 where
   pub order : IsOrderOf catalog m.discovered drivers
   pub waits : AreWaiting m flags
-
--- whether a driver waits and may start
-abbrev pub may_come : Catalog → DxeMachine → ℕ → Bool
-may_come catalog m number = is_waiting m number && is_eligible_driver catalog m number
 
 -- whether a driver is the first of its name
 abbrev pub is_first : Option ℕ → ℕ → Bool
@@ -54,20 +46,17 @@ abbrev pub Turns : (ℕ → List Item) → List Item → List ℕ → Item → L
 Turns items stack group (I.Group number) stack_later group_later = (stack_later ≡ stack ++ items number) × (group_later ≡ group)
 Turns items stack group (I.Driver number) stack_later group_later = (stack_later ≡ stack) × (group_later ≡ group ++ number ∷ [])
 
--- whether a driver is among those that are scheduled
-abbrev pub is_among : List Scheduled → ℕ → Bool
-is_among scheduled number = list_any (λ next. next.module_number == number) scheduled
-
 -- these come to the queue's end, and wait no more
 pub record Schedules (queue : Queue) (added : List Scheduled) (later : Queue) : Type 0 where
   pub scheduled : later.scheduled ≡ queue.scheduled ++ added
   pub waits : (number : ℕ) → waits_at later.waits number ≡ (not (is_among added number) && waits_at queue.waits number)
   pub flags : length later.waits ≡ length queue.waits
+  pub index : WaitNoMore (is_among added) queue.index later.index
 
 -- the head leaves the queue, if there is one
 abbrev pub Takes : Queue → Option Scheduled → Queue → Type 0
 Takes queue None later = (queue.scheduled ≡ []) × (later ≡ queue)
-Takes queue (Some next) later = (queue.scheduled ≡ next ∷ later.scheduled) × (later.waits ≡ queue.waits)
+Takes queue (Some next) later = (queue.scheduled ≡ next ∷ later.scheduled) × (later.waits ≡ queue.waits) × (later.index ≡ queue.index)
 
 -- all flags are up
 abbrev pub AllWait : List Bool → Type 0
@@ -77,10 +66,28 @@ AllWait waits = (number : ℕ) → waits_at waits number ≡ true
 abbrev pub IsNumberOf : Queue → ℕ → Type 0
 IsNumberOf queue number = number < length queue.waits
 
+-- the index is that of some catalogue
+abbrev pub HasIndex : Queue → Type 0
+HasIndex queue = (catalog : Catalog) × IsIndex catalog queue.index
+
+-- these drivers wait in the index, and the queue is as before
+pub record Come (catalog : Catalog) (drivers : List ℕ) (old new : Queue) : Type 0 where
+  pub scheduled : new.scheduled ≡ old.scheduled
+  pub waits : new.waits ≡ old.waits
+  pub phase : new.index.phase ≡ old.index.phase
+  pub installed : new.index.installed ≡ old.index.installed
+  pub come : HaveCome Dxe catalog drivers old.index.places new.index.places
+  pub owes : owed new ≤ owed old + length drivers
+
+-- the driver is the first eligible one of the machine that is seen
+pub record IsFirst (catalog : Catalog) (m : DxeMachine) (now : Queue) (drivers : Drivers) (root : ℕ) : Type 0 where
+  pub seen : IsSeen catalog m now drivers
+  pub first : first_eligible catalog m ≡ Some root
+
 -- a driver with its place in an a priori list
 abbrev pub as_apriori : ℕ → Scheduled
 as_apriori number = record { module_number = number; licence = G.Apriori }
 
 -- the queue from which a machine's next driver is taken, the group of the first eligible driver if nothing was scheduled
 abbrev pub IsFilled : Catalog → DxeMachine → Queue → Type 0
-IsFilled catalog m queue = IsQueueOf (record m { scheduled = driver_queue catalog m }) queue
+IsFilled catalog m queue = IsQueueOf catalog (record m { scheduled = driver_queue catalog m }) queue

@@ -8,7 +8,7 @@ ghost use Rattle.dxe_choice.specs.Choosing.{HaveWaiting, Turns, unfolded};
 ghost use Rattle.dxe_choice.specs.Queue.{waits_at};
 ghost use Rattle.dxe_choice.specs.declared.group.Item.TheVariants.{Group};
 
-use crate::first::waits_at;
+use crate::waits::waits_at;
 use catalog_model::Catalog;
 use driver_order::DriverOrder;
 use frames::name_of;
@@ -81,7 +81,8 @@ pub(crate) fn backward_group(
     root: u32,
 ) -> Result<Seq<u32>, OutOfMemory>
     requires few { length catalog.now.modules ≤ MOST_MODULES }
-    ensures { (m : DxeMachine) → HaveWaiting catalog.now m order.now waits.now → IsRoot catalog.now m root → IfOk result (λ group. reverse group ≡ companion_group catalog.now m root) }
+    ensures { (m : DxeMachine) → HaveWaiting catalog.now m order.now waits.now → IsRoot catalog.now m root
+        → IfOk result (λ group. reverse group ≡ companion_group catalog.now m root) }
 {
     let mut group = Seq::new(alloc);
     let mut stack = Seq::new(alloc);

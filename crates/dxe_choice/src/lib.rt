@@ -1,11 +1,11 @@
-//! Which driver starts next (PI 1.8, volume 2, "DXE Dispatcher"): the head of the scheduled queue, or the first of the group of the first eligible driver in discovered order.
+//! Which driver starts next (PI 1.8, volume 2, "DXE Dispatcher"): the head of the scheduled queue, or the first of the group of the first eligible driver in discovered order, which the index of the waiting drivers tells.
 #![tactic(auto)]
 
-mod eligible;
-mod first;
 mod group;
+mod index;
 mod licence;
 mod queue;
+mod waits;
 
 pub use queue::DriverQueue;
 

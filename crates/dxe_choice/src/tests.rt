@@ -1,6 +1,5 @@
 // The drivers of small volumes, made by hand: which start, in which order, and by which licences.
 ghost use Rattle.std.specs.Prelude.{◌≡◌, ◌<◌, [], Some, None, IfOk};
-ghost use Rattle.store_model.specs.HandleState.{has_protocol};
 ghost use Rattle.boot_model.specs.DxeMachine.{DxeMachine};
 ghost use Rattle.dxe_choice.specs.Queue.{IsQueueFor, IsSeen};
 ghost use Rattle.catalog_model.specs.WellFormed.{IsExpressionOf, IsShortExpression, IsWellFormed};
@@ -12,7 +11,6 @@ use boot_model::{ARCHITECTURAL, Licence, Scheduled};
 use catalog_model::{Catalog, Module, Part, PartExpr, VolumeEntry};
 use depex_code::{Depex, Opcode, Steps, Tree};
 use driver_order::DriverOrder;
-use dxe_handles::Handles;
 use pi_base::{Guid, OutOfMemory, Phase, Seq};
 use std::alloc::Global;
 use std::marker::Brand;
@@ -126,15 +124,28 @@ fn others(alloc: Global) -> Result<Catalog, OutOfMemory>
     Ok(Catalog { volumes, modules })
 }
 
-// Handles with so many of the architectural protocols, one on each.
-fn handles_with(alloc: Global, protocols: usize) -> Result<Handles, OutOfMemory> {
-    let mut handles = Handles::new(alloc);
+// So many of the architectural protocols are installed.
+fn install(queue: &mut DriverQueue, catalog: &Catalog, order: &DriverOrder, protocols: usize)
+    requires made { IsQueueFor catalog.now queue.old }
+    requires seen { (m : DxeMachine) × IsSeen catalog.now m queue.old order.now }
+    ensures made { IsQueueFor catalog.now queue.new }
+    ensures seen { (m : DxeMachine) × IsSeen catalog.now m queue.new order.now }
+{
     'protocols: for guid in ARCHITECTURAL.iter().take(protocols) {
-        if handles.made() == u32::MAX || handles.install(None, *guid, 1).is_err() {
-            return Err(OutOfMemory);
-        }
+        queue.change(guid, true);
     }
-    Ok(handles)
+}
+
+// The first driver is requested.
+fn request_first(queue: &mut DriverQueue, catalog: &Catalog, order: &DriverOrder)
+    requires made { IsQueueFor catalog.now queue.old }
+    requires seen { (m : DxeMachine) × IsSeen catalog.now m queue.old order.now }
+    ensures made { IsQueueFor catalog.now queue.new }
+    ensures seen { (m : DxeMachine) × IsSeen catalog.now m queue.new order.now }
+{
+    if let Some(first) = order.drivers().get(0) {
+        queue.request(*first);
+    }
 }
 
 // The drivers that start, one after the other.
@@ -142,17 +153,15 @@ fn starts_from<L: Ledger>(
     queue: &mut DriverQueue,
     catalog: &Catalog,
     order: &DriverOrder,
-    requested: &[bool],
-    handles: &Handles,
     steps: &mut Steps<L>,
 ) -> Result<Seq<Scheduled>, OutOfMemory>
     requires catalog { IsWellFormed catalog.now }
     requires made { IsQueueFor catalog.now queue.old }
-    requires seen { (m : DxeMachine) × IsSeen catalog.now m queue.old order.now requested.now (has_protocol handles.now) }
+    requires seen { (m : DxeMachine) × IsSeen catalog.now m queue.old order.now }
 {
     let mut starts = Seq::new(catalog.modules.alloc());
     'starts: for _ in catalog.modules.as_slice() {
-        match queue.next(catalog, order, requested, handles, steps)? {
+        match queue.next(catalog, order, steps)? {
             Some(next) => starts.push(next)?,
             None => return Ok(starts),
         }
@@ -160,11 +169,10 @@ fn starts_from<L: Ledger>(
     Ok(starts)
 }
 
-// The starts of the drivers of the volume; only the first may be requested.
+// The starts of the drivers of the volume.
 fn starts_of<L: Ledger>(
     catalog: &Catalog,
-    handles: &Handles,
-    is_requested: bool,
+    row: &Row,
     blank: Blank,
 ) -> Result<Seq<Scheduled>, OutOfMemory>
     requires name { blank.name ≡ L.name }
@@ -175,16 +183,13 @@ fn starts_of<L: Ledger>(
     let alloc = catalog.modules.alloc();
     let order = DriverOrder::discover(alloc, catalog, &[VOLUME.base])?;
     let mut queue = DriverQueue::new(alloc, catalog)?;
-    queue.schedule_a_priori(catalog, order.volumes())?;
+    queue.discover(catalog, &order, 0)?;
+    install(&mut queue, catalog, &order, row.protocols);
+    if row.is_requested {
+        request_first(&mut queue, catalog, &order);
+    }
     let mut steps = Steps::<L>::new(blank);
-    starts_from(
-        &mut queue,
-        catalog,
-        &order,
-        &[is_requested],
-        handles,
-        &mut steps,
-    )
+    starts_from(&mut queue, catalog, &order, &mut steps)
 }
 
 /// Whether the first driver is requested, how many architectural protocols there are, and the drivers that start.
@@ -196,11 +201,10 @@ struct Row {
 }
 
 // Whether these drivers start, and no others.
-fn starts_so(alloc: Global, catalog: &Catalog, row: &Row) -> Result<bool, OutOfMemory>
+fn starts_so(catalog: &Catalog, row: &Row) -> Result<bool, OutOfMemory>
     requires { IsWellFormed catalog.now }
 {
-    let handles = handles_with(alloc, row.protocols)?;
-    let starts = starts_of::<Brand>(catalog, &handles, row.is_requested, Blank::new(1))?;
+    let starts = starts_of::<Brand>(catalog, row, Blank::new(1))?;
     let mut is_same = starts.len() == row.starts.len();
     'starts: for (start, (number, licence)) in starts.as_slice().iter().zip(row.starts) {
         is_same = is_same && start.module_number == *number && start.licence == *licence;
@@ -233,7 +237,7 @@ fn companions_start_with_their_target(rt: HostRuntime) -> Result<(), Fail> {
         },
     ];
     'rows: for row in &rows {
-        assert_eq!(rt; starts_so(rt.alloc(), &catalog, row), Ok(true));
+        assert_eq!(rt; starts_so(&catalog, row), Ok(true));
     }
     Ok(())
 }
@@ -254,7 +258,7 @@ fn all_architectural_protocols_are_asked_for(rt: HostRuntime) -> Result<(), Fail
         },
     ];
     'rows: for row in &rows {
-        assert_eq!(rt; starts_so(rt.alloc(), &catalog, row), Ok(true));
+        assert_eq!(rt; starts_so(&catalog, row), Ok(true));
     }
     Ok(())
 }
@@ -263,9 +267,10 @@ fn all_architectural_protocols_are_asked_for(rt: HostRuntime) -> Result<(), Fail
 fn waits_of(alloc: Global, catalog: &Catalog, number: u32) -> Result<(bool, bool), OutOfMemory>
     requires catalog { IsWellFormed catalog.now }
 {
+    let order = DriverOrder::discover(alloc, catalog, &[VOLUME.base])?;
     let mut queue = DriverQueue::new(alloc, catalog)?;
     let waited = queue.is_waiting(number);
-    queue.schedule_a_priori(catalog, &[0])?;
+    queue.discover(catalog, &order, 0)?;
     Ok((waited, queue.is_waiting(number)))
 }
 

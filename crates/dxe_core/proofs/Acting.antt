@@ -102,11 +102,11 @@ deed_lines (Logged text) m frame below = refl
 deed_lines (Skipped n) m frame below = sym (append-nil m.lines)
 deed_lines (Returned status) m frame below = refl
 
-deed_discovers : (does : Deed) (catalog : Catalog) (m : DxeMachine) (frame : DriverFrame) (below : List DriverFrame) → HasDiscovered catalog m (after_dxe_effect (with_action m) frame below (as_effect does))
-deed_discovers (Wrote registers status) catalog m frame below = none_discovered catalog m _ refl refl refl
-deed_discovers (Logged text) catalog m frame below = none_discovered catalog m _ refl refl refl
-deed_discovers (Skipped n) catalog m frame below = none_discovered catalog m _ refl refl refl
-deed_discovers (Returned status) catalog m frame below = none_discovered catalog m _ refl refl refl
+deed_discovers : (does : Deed) (catalog : Catalog) (m : DxeMachine) (frame : DriverFrame) (below : List DriverFrame) → HasDiscovered catalog m (after_dxe_effect (with_action m) frame below (as_effect does)) None
+deed_discovers (Wrote registers status) catalog m frame below = none_discovered catalog m _ refl refl refl refl
+deed_discovers (Logged text) catalog m frame below = none_discovered catalog m _ refl refl refl refl
+deed_discovers (Skipped n) catalog m frame below = none_discovered catalog m _ refl refl refl refl
+deed_discovers (Returned status) catalog m frame below = none_discovered catalog m _ refl refl refl refl
 
 -- an action of both phases that was taken
 pub record Done (catalog : Catalog) (fuel : ℕ) (m : DxeMachine) (frame : DriverFrame) (below : List DriverFrame) (core : DxeCore) (lines : List Line) : Type 0 where
@@ -115,7 +115,7 @@ pub record Done (catalog : Catalog) (fuel : ℕ) (m : DxeMachine) (frame : Drive
   pub store : later.store ≡ m.store
   pub fields : IsCoreOf catalog core later
   pub printed : later.lines ≡ m.lines ++ lines
-  pub discovers : HasDiscovered catalog m later
+  pub discovers : HasDiscovered catalog m later None
   pub changed : dxe_case_guids catalog fuel m (DxeActs frame below) ≡ []
 
 pub done : (law : AreAlike ProtocolSweep DxeReply ⊥) (catalog : Catalog) (fuel : ℕ) (m : DxeMachine) (frame : DriverFrame) (below : List DriverFrame) (core : DxeCore) (later : Fuel) (new : List DriverFrame) (lines : List Line)

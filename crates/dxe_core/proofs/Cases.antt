@@ -1,17 +1,19 @@
 -- Which case of a step applies, and what the step's answer then says.
-use Rattle.std.proofs.Common.{◌≡◌, ℕ, Bool, false, Bor, List, [], ◌∷◌, ◌++◌, length, Option, Some, None, sym, ap, ◌∙◌, subst, Result, Ok, Err}
-use Rattle.std.specs.Prelude.{is_none, is_some, not, option_copied}
+use Rattle.std.proofs.Common.{◌≡◌, ℕ, Bool, true, false, Bor, List, [], ◌∷◌, ◌++◌, length, Option, Some, None, sym, ap, ◌∙◌, subst, Result, Ok, Err}
+use Rattle.std.specs.Prelude.{is_none, is_some, IfSome, not, option_copied}
 use Rattle.std.specs.Option.{option_to_list}
 use Rattle.std.proofs.lemmas.List.{append-nil}
 use Rattle.boot_io.specs.declared.halt.Halt.{Halt}
 use Rattle.catalog_model.specs.declared.catalog.Catalog.{Catalog}
+use Rattle.catalog_model.specs.Parts.{has_number}
 use Rattle.store_model.specs.StoreState.{StoreState}
 use Rattle.boot_model.specs.declared.driver.ProtocolNote.{ProtocolNote}
 use Rattle.boot_model.specs.declared.driver.ProtocolSweep.{ProtocolSweep}
 use Rattle.boot_model.specs.declared.phase_end.DxeEnd.{DxeEnd}
-use Rattle.boot_model.specs.DxeChoice.{a_priori_drivers}
+use Rattle.boot_model.specs.DxeChoice.{a_priori_drivers, drivers_of}
 use Rattle.boot_model.specs.DxeMachine.{DxeMachine, DriverFrame}
 use Rattle.boot_model.specs.DxeStep.{DxeCase, DxeFires, DxeActs, dxe_case_in, dxe_case_of, dxe_step, in_dxe_case}
+use Rattle.boot_laws.specs.ChangedGuids.{is_among}
 use Rattle.frames.specs.Frames.{top_of}
 use Rattle.boot_model.specs.EvaluationBound.{dxe_case_guids}
 use Rattle.dxe_core.specs.declared.event.Event.{Event}
@@ -21,6 +23,7 @@ use Rattle.dxe_core.specs.Parts.{FiresNext, HasDiscovered, RunsWith, next_of_top
 use Rattle.dxe_core.specs.Standing.{DxeCore, StandsFor}
 use Rattle.dxe_core.specs.Steps.{HasOver, HasStayed, HasStepped, IsCut, IsIdle, StepsTo}
 use Rattle.dxe_core.specs.Turn.{Texts, PrintedPart}
+use Rattle.dxe_core.proofs.ProtocolChanges.{protocols_change}
 
 -- by what the top frame's sweep gives
 abbrev by : DriverFrame → List DriverFrame → Option (ProtocolNote × ProtocolSweep) → DxeCase
@@ -47,37 +50,50 @@ pub runs_with : (next : Option (ProtocolNote × ProtocolSweep)) (m : DxeMachine)
 runs_with next m [] e some is = cc
 runs_with next m (top ∷ below) e some is = record { top = top; below = below; frames = e; fires = sym is }
 
--- no volume was discovered
-pub none_discovered : (catalog : Catalog) (m later : DxeMachine) → later.discovered ≡ m.discovered → later.scheduled ≡ m.scheduled → later.started ≡ m.started → HasDiscovered catalog m later
-none_discovered catalog m later discovered scheduled started =
-    record { volumes = []; discovered = discovered ∙ sym (append-nil m.discovered); scheduled = scheduled ∙ sym (append-nil m.scheduled); started = started }
+-- no volume was discovered, and no driver requested
+pub none_discovered : (catalog : Catalog) (m later : DxeMachine) → later.discovered ≡ m.discovered → later.scheduled ≡ m.scheduled → later.started ≡ m.started → later.requested ≡ m.requested → HasDiscovered catalog m later None
+none_discovered catalog m later discovered scheduled started requested =
+    record {
+      volumes = [];
+      discovered = discovered ∙ sym (append-nil m.discovered);
+      scheduled = scheduled ∙ sym (append-nil m.scheduled);
+      started = started;
+      requested = requested ∙ sym (append-nil m.requested);
+      in_order = tt;
+    }
 
 -- the same volumes, from a machine with the same queue
-pub discovered_from : (catalog : Catalog) (m other later : DxeMachine) → m.discovered ≡ other.discovered → m.scheduled ≡ other.scheduled → m.started ≡ other.started → HasDiscovered catalog m later → HasDiscovered catalog other later
-discovered_from catalog m other later discovered scheduled started h = record {
+pub discovered_from : (catalog : Catalog) (m other later : DxeMachine) (asked : Option ℕ) → m.discovered ≡ other.discovered → m.scheduled ≡ other.scheduled → m.started ≡ other.started → m.requested ≡ other.requested
+    → HasDiscovered catalog m later asked → HasDiscovered catalog other later asked
+discovered_from catalog m other later asked discovered scheduled started requested h = record {
   volumes = h.volumes;
   discovered = h.discovered ∙ ap (λ xs. xs ++ h.volumes) discovered;
   scheduled = subst (λ xs. later.scheduled ≡ xs ++ a_priori_drivers catalog h.volumes) scheduled h.scheduled;
   started = h.started ∙ started;
+  requested = h.requested ∙ ap (λ xs. xs ++ option_to_list asked) requested;
+  in_order = subst (λ volumes. IfSome asked (λ number. has_number (drivers_of catalog volumes) number ≡ true)) discovered h.in_order;
 }
 
 -- an event of a case
 pub went : (Stands : DxeMachine → Type 0) (catalog : Catalog) (fuel : ℕ) (m later : DxeMachine) (case : DxeCase) (event : Event) (answer : Stepped) (t : Texts)
     → dxe_case_of catalog m ≡ case → in_dxe_case catalog fuel m case ≡ later → (IsIdle m → ⊥)
-    → option_to_list event.changed ≡ dxe_case_guids catalog fuel m case → event.known ≡ length m.discovered → HasDiscovered catalog m later → answer ≡ Went event
+    → option_to_list event.changed ≡ dxe_case_guids catalog fuel m case → event.known ≡ length m.discovered → HasDiscovered catalog m later event.requested → answer ≡ Went event
     → HasStepped Stands m later t → StepsTo Stands catalog fuel m t (Ok answer)
 went Stands catalog fuel m later case event answer t e is busy changed known discovers answered h =
     let to : dxe_step catalog fuel m ≡ later = ap (in_dxe_case catalog fuel m) e ∙ is in
-    let found = subst (HasDiscovered catalog m) (sym to) discovers in
+    let found = subst (λ x. HasDiscovered catalog m x event.requested) (sym to) discovers in
     subst (λ x. StepsTo Stands catalog fuel m t (Ok x)) (sym answered) (
       busy,
       record {
         changed = changed ∙ ap (dxe_case_guids catalog fuel m) (sym e);
+        others = λ guid none. protocols_change catalog fuel m guid (ap (is_among guid) (sym (changed ∙ ap (dxe_case_guids catalog fuel m) (sym e))) ∙ none);
         known = known;
         volumes = found.volumes;
         discovered = found.discovered;
         scheduled = found.scheduled;
         started = found.started;
+        requested = found.requested;
+        in_order = found.in_order;
       },
       subst (λ x. HasStepped Stands m x t) (sym to) h,
     )

@@ -1,4 +1,5 @@
 mod Acting
+mod ProtocolChanges
 mod Cases
 mod DriverLines
 mod Fired

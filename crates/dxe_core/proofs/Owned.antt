@@ -37,7 +37,7 @@ pub record Replied (catalog : Catalog) (m : DxeMachine) (top : DriverFrame) (bel
   pub effect_is : dxe_effect catalog m top action ≡ Called reply.name (reply_in reply top.registers later volumes)
   pub store : (acted_to catalog m top below action).store ≡ m.store
   pub fields : IsCoreOf catalog core (acted_to catalog m top below action)
-  pub discovers : HasDiscovered catalog m (acted_to catalog m top below action)
+  pub discovers : HasDiscovered catalog m (acted_to catalog m top below action) reply.requested
   pub all : core.services.order.volumes ≡ m.discovered ++ volumes
   pub printed : (acted_to catalog m top below action).lines ≡ m.lines ++ (call_line reply ∷ discovery_lines volumes)
 
@@ -73,6 +73,8 @@ replied law catalog m found top below action reply core services frames same own
         discovered = ap (λ (x : DxeMachine). x.discovered) leads ∙ r.rest.discovered;
         scheduled = ap (λ (x : DxeMachine). x.scheduled) leads ∙ r.rest.scheduled;
         started = ap (λ (x : DxeMachine). x.started) leads ∙ r.rest.started;
+        requested = ap (λ (x : DxeMachine). x.requested) leads ∙ r.rest.requested;
+        in_order = r.rest.known;
       };
       all = r.has.order.volumes_are ∙ r.rest.discovered;
       printed = ap (λ (x : DxeMachine). x.lines) leads ∙ ap (λ lines. lines ++ (call_line reply ∷ discovery_lines r.volumes)) r.rest.lines;

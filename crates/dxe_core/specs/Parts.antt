@@ -1,9 +1,8 @@
 -- What a part of a step leaves: the later machine with the lines that were put and the protocol that was changed, or why there is none.
 -- Own.
-use Rattle.std.specs.Prelude.{◌≡◌, ◌<◌, ℕ, List, ◌∷◌, ◌++◌, Option, Some, None, Result, Ok, Err}
+use Rattle.std.specs.Prelude.{◌≡◌, ◌<◌, ℕ, List, ◌∷◌, ◌++◌, Option, Some, None, IfSome, length, Result, Ok, Err}
 use Rattle.std.specs.Option.{option_and_then, option_to_list}
 use Rattle.boot_io.specs.declared.halt.Halt.{Halt}
-use Rattle.pi_base.specs.declared.guid.Guid.{Guid}
 use Rattle.pi_base.specs.declared.phase.Phase.TheVariants.{Dxe}
 use Rattle.act_code.specs.declared.action.Action.{Action}
 use Rattle.catalog_model.specs.declared.catalog.Catalog.{Catalog}
@@ -20,7 +19,9 @@ use Rattle.frames.specs.Deed.{deed}
 use Rattle.frames.specs.Frames.{top_sweep}
 use Rattle.frames.specs.Needs.{IsScriptAction}
 use Rattle.frames.specs.declared.frame.TheConstants.{MOST_ACTIONS}
+use Rattle.dxe_action.specs.Reply.{IsInOrder}
 use Rattle.dxe_action.specs.Services.{AreCounted, AreServicesFor}
+use Rattle.dxe_core.specs.declared.event.Event.{Event}
 use Rattle.dxe_core.specs.declared.event.Stepped.{Stepped}
 use Rattle.dxe_core.specs.Standing.{DxeCore, IsCoreOf, IsFor, StandsFor}
 use Rattle.dxe_core.specs.Steps.{HasOver, HasStepped, StepsTo}
@@ -69,26 +70,29 @@ pub record TakesOwn (action : Action) (m : DxeMachine) : Type 0 where
 abbrev pub acted_to : Catalog → DxeMachine → DriverFrame → List DriverFrame → Action → DxeMachine
 acted_to catalog m top below action = after_dxe_effect m top below (dxe_effect catalog m top action)
 
--- the volumes that an event discovered stand behind those that there were, and their a priori drivers behind the queue; nothing has started
-pub record HasDiscovered (catalog : Catalog) (m later : DxeMachine) : Type 0 where
+-- the volumes that an event discovered stand behind those that there were, and their a priori drivers behind the queue; so does the driver that it requested, one of a discovered volume; nothing has started
+pub record HasDiscovered (catalog : Catalog) (m later : DxeMachine) (asked : Option ℕ) : Type 0 where
   pub volumes : List ℕ
   pub discovered : later.discovered ≡ m.discovered ++ volumes
   pub scheduled : later.scheduled ≡ m.scheduled ++ a_priori_drivers catalog volumes
   pub started : later.started ≡ m.started
+  pub requested : later.requested ≡ m.requested ++ option_to_list asked
+  pub in_order : IfSome asked (IsInOrder catalog m)
 
--- an action of the top frame was taken, and has changed this protocol
-pub record HasTaken (Stands : DxeMachine → Type 0) (catalog : Catalog) (m : DxeMachine) (own : DriverFrame × List DriverFrame) (action : Action) (t : Texts) (protocol : Option Guid) : Type 0 where
-  pub changed : option_to_list protocol ≡ dxe_action_guids catalog m own.0 action
-  pub discovers : HasDiscovered catalog m (acted_to catalog m own.0 own.1 action)
+-- an action of the top frame was taken, and this event is what it did
+pub record HasTaken (Stands : DxeMachine → Type 0) (catalog : Catalog) (m : DxeMachine) (own : DriverFrame × List DriverFrame) (action : Action) (t : Texts) (event : Event) : Type 0 where
+  pub changed : option_to_list event.changed ≡ dxe_action_guids catalog m own.0 action
+  pub known : event.known ≡ length m.discovered
+  pub discovers : HasDiscovered catalog m (acted_to catalog m own.0 own.1 action) event.requested
   pub stepped : HasStepped Stands m (acted_to catalog m own.0 own.1 action) t
 
 -- by the answer
-abbrev pub TakesTo : (DxeMachine → Type 0) → Catalog → DxeMachine → DriverFrame × List DriverFrame → Action → Texts → Result (Option Guid) Halt → Type 0
-TakesTo Stands catalog m own action t (Ok changed) = HasTaken Stands catalog m own action t changed
+abbrev pub TakesTo : (DxeMachine → Type 0) → Catalog → DxeMachine → DriverFrame × List DriverFrame → Action → Texts → Result Event Halt → Type 0
+TakesTo Stands catalog m own action t (Ok event) = HasTaken Stands catalog m own action t event
 TakesTo Stands catalog m own action t (Err halt) = PrintedPart m (acted_to catalog m own.0 own.1 action) t
 
 -- an action of DXE's own, from each machine that the core beside its store stands for and in whose top frame it stands
-abbrev pub Acts : {M : Type 0} → (M → StoreState → Type 0) → M → Catalog → Action → DxeCore → DxeCore → Option (List ℕ) → Option (List ℕ) → Result (Option Guid) Halt → Type 0
+abbrev pub Acts : {M : Type 0} → (M → StoreState → Type 0) → M → Catalog → Action → DxeCore → DxeCore → Option (List ℕ) → Option (List ℕ) → Result Event Halt → Type 0
 Acts stands store catalog action core later old new result =
     (m : DxeMachine) → StandsFor stands store catalog core m → WaitForRequest catalog m → (own : TakesOwn action m)
     → TakesTo (StandsFor stands store catalog later) catalog m (own.top, own.below) action (record { old = old; new = new }) result

@@ -1,13 +1,15 @@
 -- What a step of the core answers and leaves, and what a start does.
 -- Own; PI 1.8, volume 2, "DXE Dispatcher".
-use Rattle.std.specs.Prelude.{◌≡◌, ℕ, List, [], ◌++◌, Option, Some, Result, Ok, Err, length, ⊤}
+use Rattle.std.specs.Prelude.{◌≡◌, ℕ, false, List, [], ◌++◌, Option, Some, IfSome, Result, Ok, Err, length, ⊤}
 use Rattle.std.specs.Option.{option_to_list}
 use Rattle.std.specs.Io.KnownBytes.{Appends}
 use Rattle.boot_io.specs.declared.halt.Halt.{Halt}
 use Rattle.boot_io.specs.declared.sink.SinkFault.{SinkFault}
+use Rattle.pi_base.specs.declared.guid.Guid.{Guid}
 use Rattle.pi_base.specs.declared.phase.Phase.TheVariants.{Dxe}
 use Rattle.catalog_model.specs.declared.catalog.Catalog.{Catalog}
 use Rattle.catalog_model.specs.Parts.{part_at}
+use Rattle.store_model.specs.HandleState.{has_protocol}
 use Rattle.store_model.specs.StoreState.{StoreState}
 use Rattle.boot_model.specs.declared.driver.Scheduled.{Scheduled}
 use Rattle.boot_model.specs.declared.phase_end.DxeEnd.{DxeEnd}
@@ -16,7 +18,9 @@ use Rattle.boot_model.specs.DxeChoice.{a_priori_drivers}
 use Rattle.boot_model.specs.DxeMachine.{DxeMachine}
 use Rattle.boot_model.specs.DxeStep.{dxe_step, driver_started}
 use Rattle.boot_model.specs.EvaluationBound.{dxe_guids}
+use Rattle.boot_laws.specs.ChangedGuids.{is_among}
 use Rattle.boot_laws.specs.UnrequestedDrivers.{WaitForRequest}
+use Rattle.dxe_action.specs.Reply.{IsInOrder}
 use Rattle.dxe_core.specs.declared.event.Event.{Event}
 use Rattle.dxe_core.specs.declared.event.Stepped.{Stepped}
 use Rattle.dxe_core.specs.declared.event.Stepped.TheVariants.{Went, Idle, Ended}
@@ -27,9 +31,12 @@ use Rattle.dxe_core.specs.Turn.{Texts, Printed, PrintedPart}
 abbrev pub IsIdle : DxeMachine → Type 0
 IsIdle m = m.frames ≡ []
 
--- what the event from a machine did: the protocol that it may have changed, and the volumes that it discovered behind those that there were, whose a priori drivers are scheduled; nothing has started
+-- what the event from a machine did: the protocol that it may have changed, besides which each is on a handle as before, the driver of a discovered volume that it requested, and the volumes that it discovered behind those that there were, whose a priori drivers are scheduled; nothing has started
 pub record IsEvent (catalog : Catalog) (fuel : ℕ) (m : DxeMachine) (event : Event) : Type 0 where
   pub changed : option_to_list event.changed ≡ dxe_guids catalog fuel m
+  pub others : (guid : Guid) → is_among guid (option_to_list event.changed) ≡ false → has_protocol (dxe_step catalog fuel m).handles guid ≡ has_protocol m.handles guid
+  pub requested : (dxe_step catalog fuel m).requested ≡ m.requested ++ option_to_list event.requested
+  pub in_order : IfSome event.requested (IsInOrder catalog m)
   pub known : event.known ≡ length m.discovered
   pub volumes : List ℕ
   pub discovered : (dxe_step catalog fuel m).discovered ≡ m.discovered ++ volumes

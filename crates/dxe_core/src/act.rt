@@ -11,7 +11,7 @@ ghost use Rattle.dxe_core.specs.Parts.{Acts, KeepsFor, RunsScript, StepsScript, 
 ghost use Rattle.dxe_core.specs.Standing.{IsFor, StandsFor};
 
 use crate::dxe::Dxe;
-use crate::event::Stepped;
+use crate::event::{Event, Stepped};
 use crate::lines::{print, put_reply};
 use act_code::Action;
 use boot_io::{Halt, Sink};
@@ -59,7 +59,7 @@ impl Dxe {
         catalog: &Catalog,
         action: &Action,
         sink: &mut S,
-    ) -> Result<Option<Guid>, Halt>
+    ) -> Result<Event, Halt>
         requires catalog { IsWellFormed catalog.now }
         requires made { AreServicesFor catalog.now self.old.services }
         requires counted { (n : ℕ) × (n < 2 ^ 32 - 1) × (n + 1 ≡ self.old.fuel.taken) × AreCounted n self.old.services }
@@ -79,6 +79,7 @@ impl Dxe {
             extra,
             writes,
             sweep,
+            requested,
         } = take_own(&mut self.services, store, catalog, frame, action)?;
         self.frames.answer(&writes, status, sweep);
         let call = Line::Call {
@@ -87,7 +88,11 @@ impl Dxe {
             extra,
         };
         put_reply(sink, call, behind(self.services.order().volumes(), known))?;
-        Ok(changed_by(action, status))
+        Ok(Event {
+            changed: changed_by(action, status),
+            requested,
+            known,
+        })
     }
 
     // The top frame takes its next action, unless the fuel is spent.
@@ -108,14 +113,14 @@ impl Dxe {
         let known = self.services.order().volumes().len();
         match act(&mut self.frames, &mut self.fuel, catalog, Phase::Dxe) {
             Acted::Spent => Ok(Stepped::Ended(DxeEnd::Spent)),
-            Acted::Silent => Ok(Stepped::by(None, known)),
+            Acted::Silent => Ok(Stepped::quiet(known)),
             Acted::Prints(line) => {
                 print(sink, line)?;
-                Ok(Stepped::by(None, known))
+                Ok(Stepped::quiet(known))
             }
             Acted::Own(action) => {
-                let changed = self.act_own(store, catalog, action, sink)?;
-                Ok(Stepped::by(changed, known))
+                let event = self.act_own(store, catalog, action, sink)?;
+                Ok(Stepped::Went(event))
             }
         }
     }

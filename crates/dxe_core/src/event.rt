@@ -1,5 +1,5 @@
 //! What a step of the machine did.
-ghost use Rattle.std.specs.Prelude.{◌≡◌};
+ghost use Rattle.std.specs.Prelude.{◌≡◌, None};
 ghost use Rattle.dxe_core.specs.declared.event.Stepped.TheVariants.{Went};
 
 use boot_model::DxeEnd;
@@ -10,6 +10,8 @@ use pi_base::Guid;
 pub struct Event {
     /// The protocol that it installed or uninstalled.
     pub changed: Option<Guid>,
+    /// The driver that it requested.
+    pub requested: Option<u32>,
     /// How many volumes were discovered before it: those at this place of the discovered volumes and behind it are new.
     pub known: usize,
 }
@@ -26,10 +28,14 @@ pub enum Stepped {
 }
 
 impl Stepped {
-    // An event that changed this protocol, where so many volumes were discovered.
-    pub(crate) fn by(changed: Option<Guid>, known: usize) -> Stepped
-        ensures { result ≡ Went (record { changed = changed; known = known }) }
+    // An event that changed no protocol and requested no driver, where so many volumes were discovered.
+    pub(crate) fn quiet(known: usize) -> Stepped
+        ensures { result ≡ Went (record { changed = None; requested = None; known = known }) }
     {
-        Stepped::Went(Event { changed, known })
+        Stepped::Went(Event {
+            changed: None,
+            requested: None,
+            known,
+        })
     }
 }

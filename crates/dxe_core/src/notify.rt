@@ -71,6 +71,6 @@ impl Dxe {
             return Ok(Stepped::Ended(DxeEnd::Deep));
         }
         print(sink, protocol_line(catalog, &sweep, &note))?;
-        Ok(Stepped::by(None, known))
+        Ok(Stepped::quiet(known))
     }
 }

@@ -16,11 +16,11 @@ pub step_starts : (catalog : Catalog) (fuel : ℕ) (m : DxeMachine) (next : Sche
 step_starts catalog fuel m next rest idle found = ap (in_dxe_case catalog fuel m) (ap (dxe_case_in catalog m) idle ∙ ap queue_case found)
 
 queue_by : (catalog : Catalog) (m : DxeMachine) (next : Scheduled) (later : Queue) (chosen : IsNext catalog m next later) (part : Option Part) → is_some part ≡ true
-    → IsQueueOf (driver_started catalog m next chosen.rest part) later
+    → IsQueueOf catalog (driver_started catalog m next chosen.rest part) later
 queue_by catalog m next later chosen None some = cc
-queue_by catalog m next later chosen (Some part) some = chosen.behind (driver_started catalog m next chosen.rest (Some part)) refl refl
+queue_by catalog m next later chosen (Some part) some = chosen.behind (driver_started catalog m next chosen.rest (Some part)) (record { scheduled = refl; started = refl; discovered = refl; requested = refl; handles = refl })
 
 -- the queue behind the start of the driver that comes next
 pub started_queue : (catalog : Catalog) (m : DxeMachine) (next : Scheduled) (later : Queue) (chosen : IsNext catalog m next later) → IsDriver catalog next
-    → IsQueueOf (driver_started catalog m next chosen.rest (part_at Dxe catalog next.module_number)) later
+    → IsQueueOf catalog (driver_started catalog m next chosen.rest (part_at Dxe catalog next.module_number)) later
 started_queue catalog m next later chosen driver = queue_by catalog m next later chosen (part_at Dxe catalog next.module_number) driver

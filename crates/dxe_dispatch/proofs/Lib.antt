@@ -4,6 +4,7 @@ mod Lines
 mod Openings
 mod Runs
 mod Standing
+mod Told
 mod Turning
 mod Waits
 mod Ways

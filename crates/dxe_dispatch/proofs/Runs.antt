@@ -57,7 +57,7 @@ run_tells catalog fuel (suc n) m =
     ]
 
 -- the discovered drivers only become more
-discovered_more : (catalog : Catalog) (old more new : List ℕ) → new ≡ old ++ more → length (drivers_of catalog old) ≤ length (drivers_of catalog new)
+pub discovered_more : (catalog : Catalog) (old more new : List ℕ) → new ≡ old ++ more → length (drivers_of catalog old) ≤ length (drivers_of catalog new)
 discovered_more catalog old more new is =
     let all : drivers_of catalog new ≡ drivers_of catalog old ++ drivers_of catalog more = ap (drivers_of catalog) is ∙ flat_map-append (parts_in Dxe catalog) old more in
     let long : length (drivers_of catalog new) ≡ length (drivers_of catalog old) + length (drivers_of catalog more) = ap length all ∙ length-append (drivers_of catalog old) (drivers_of catalog more) in

@@ -1,29 +1,40 @@
 -- A turn, from what its parts leave.
 use Rattle.std.proofs.Common.{◌≡◌, ◌≤◌, ℕ, ◌+◌, List, [], ◌++◌, Option, Some, None, Ok, Err, Result, refl, sym, ap, ◌∙◌, subst, length, drop, arith}
+use Rattle.std.specs.Prelude.{OnOk, sum_by}
+use Rattle.std.specs.Option.{option_to_list}
+use Rattle.std.proofs.lemmas.Grind.{flat_map-append}
 use Rattle.std.proofs.lemmas.List.{append-nil, length-append, drop_at}
 use Rattle.std.specs.Io.KnownBytes.{Appends}
 use Rattle.boot_io.proofs.PutsLaws.{appends_then, part_then}
 use Rattle.boot_io.specs.declared.halt.Halt.{Halt}
 use Rattle.pi_base.specs.declared.phase.Phase.TheVariants.{Dxe}
 use Rattle.catalog_model.specs.declared.catalog.Catalog.{Catalog}
-use Rattle.catalog_model.specs.Parts.{part_at}
+use Rattle.catalog_model.specs.Parts.{part_at, parts_in}
+use Rattle.store_model.specs.HandleState.{HandleState}
 use Rattle.store_model.specs.StoreState.{StoreState}
 use Rattle.boot_model.specs.declared.driver.Scheduled.{Scheduled}
 use Rattle.boot_model.specs.declared.phase_end.DxeEnd.{DxeEnd}
-use Rattle.boot_model.specs.DxeChoice.{a_priori_drivers}
+use Rattle.boot_model.specs.DxeChoice.{a_priori_drivers, discovered_order, drivers_of}
 use Rattle.boot_model.specs.DxeMachine.{DxeMachine}
 use Rattle.boot_model.specs.DxeStep.{dxe_step, driver_started}
 use Rattle.boot_model.specs.Text.{text_of}
 use Rattle.boot_laws.proofs.DriverGrowth.{driver_steps_grow}
-use Rattle.dxe_choice.specs.Queue.{Queue, IsQueueOf, IsDriver, IsNext, SchedulesApriori}
+use Rattle.boot_model.specs.EvaluationBound.{dxe_asked, dxe_guids}
+use Rattle.boot_model.specs.Licence.{AllDiffer}
+use Rattle.driver_order.specs.Order.{Drivers, IsOrderOf}
+use Rattle.wait_index.specs.Index.{order_in}
+use Rattle.dxe_choice.specs.Queue.{AreNew, Discovers, HasVolumes, Queue, IsQueueOf, IsDriver, IsNext}
 use Rattle.dxe_core.specs.declared.event.Event.{Event}
 use Rattle.dxe_core.specs.Standing.{DxeCore, StandsFor}
 use Rattle.dxe_core.specs.Steps.{IsIdle, IsEvent, HasOver, HasStepped, HasEnded}
 use Rattle.dxe_core.specs.Turn.{Texts, Printed, PrintedPart}
 use Rattle.dxe_dispatch.specs.Ends.{IsNow}
-use Rattle.dxe_dispatch.specs.Turns.{AreOf, HasTurned, IsOver, TurnsTo}
+use Rattle.dxe_dispatch.specs.Events.{HasEvent}
+use Rattle.dxe_dispatch.specs.Turns.{AreOf, HasTurned, IsOver, IsWithin, TurnsTo}
 use Rattle.dxe_dispatch.proofs.Idle.{step_starts, started_queue}
-use Rattle.dxe_dispatch.proofs.Lines.{part_whole}
+use Rattle.dxe_dispatch.proofs.Growing.{step_grew}
+use Rattle.dxe_dispatch.proofs.Lines.{part_none, part_whole}
+use Rattle.dxe_dispatch.proofs.Runs.{discovered_more}
 use Rattle.dxe_dispatch.proofs.Standing.{now_still}
 
 -- the start of the driver that comes next
@@ -36,24 +47,74 @@ starts_so catalog fuel later grown m next t chosen idle driver stepped =
     record { printed = stepped.printed; now = record { core = stepped.machine.core; queue = started_queue catalog m next grown chosen driver } } in
     subst P (sym (step_starts catalog fuel m next chosen.rest idle chosen.next_is)) turned
 
--- the event behind which the core stands for the later machine, with the drivers that it scheduled
-pub event_so : {M : Type 0} (stands : M → StoreState → Type 0) (store : M) (catalog : Catalog) (fuel : ℕ) (later : DxeCore) (queue grown : Queue) (m : DxeMachine) (event : Event) (known new : List ℕ) (t : Texts)
-    → IsEvent catalog fuel m event → HasStepped (StandsFor stands store catalog later) m (dxe_step catalog fuel m) t → IsQueueOf m queue → known ≡ (dxe_step catalog fuel m).discovered → new ≡ drop event.known known
-    → SchedulesApriori catalog queue new grown → HasTurned (IsNow stands store catalog later grown) m (dxe_step catalog fuel m) t
-event_so stands store catalog fuel later queue grown m event known new t is stepped was now back schedules =
+-- the machine behind what an event did, before volumes are discovered
+abbrev pub told : DxeMachine → DxeMachine → DxeMachine
+told m later = record m { handles = later.handles; requested = later.requested }
+
+pub has_event : (catalog : Catalog) (fuel : ℕ) (m : DxeMachine) (event : Event) (handles : HandleState) → IsEvent catalog fuel m event → (dxe_step catalog fuel m).handles ≡ handles → HasEvent handles catalog event m (told m (dxe_step catalog fuel m))
+has_event catalog fuel m event handles is same =
+    record { same = same; others = is.others; requested = is.requested; in_order = is.in_order; discovered = refl; scheduled = refl; started = refl }
+
+-- the volumes at the place that the event tells, and behind it, are those that it discovered
+behind : (known : List ℕ) (m step : DxeMachine) (place : ℕ) (volumes : List ℕ) → known ≡ step.discovered → place ≡ length m.discovered → step.discovered ≡ m.discovered ++ volumes → drop place known ≡ volumes
+behind known m step place volumes now at more = ap (λ n. drop n known) at ∙ ap (drop (length m.discovered)) (now ∙ more) ∙ drop_at m.discovered volumes (length m.discovered) refl
+
+-- so that their drivers stand behind those of the index
+pub new_drivers : (catalog : Catalog) (fuel : ℕ) (m : DxeMachine) (event : Event) (queue : Queue) (order : Drivers) → IsEvent catalog fuel m event → IsOrderOf catalog (dxe_step catalog fuel m).discovered order
+    → order_in queue.index ≡ discovered_order catalog m → AllDiffer (discovered_order catalog (dxe_step catalog fuel m)) → AreNew catalog queue order event.known
+new_drivers catalog fuel m event queue order is o here once =
     let step : DxeMachine = dxe_step catalog fuel m in
-    let behind : new ≡ is.volumes =
-    back ∙ ap (λ n. drop n known) is.known ∙ ap (drop (length m.discovered)) (now ∙ is.discovered) ∙ drop_at m.discovered is.volumes (length m.discovered) refl in
+    let new = behind order.volumes m step event.known is.volumes o.volumes_are is.known is.discovered in
+    let long : length order.volumes ≡ length m.discovered + length is.volumes = ap length (o.volumes_are ∙ is.discovered) ∙ length-append m.discovered is.volumes in
+    let known = is.known in
     record {
-      printed = stepped.printed;
-      now = record { machine = stepped.machine; queue = schedules m step was (is.scheduled ∙ ap (λ volumes. m.scheduled ++ a_priori_drivers catalog volumes) (sym behind)) is.started };
+      within = omega (arith, long, known);
+      drivers = o.drivers_are ∙ ap (drivers_of catalog) is.discovered ∙ flat_map-append (parts_in Dxe catalog) m.discovered is.volumes
+          ∙ ap (λ xs. xs ++ drivers_of catalog is.volumes) (sym here) ∙ ap (λ volumes. order_in queue.index ++ drivers_of catalog volumes) (sym new);
+      differ = subst AllDiffer (sym o.drivers_are) once;
     }
 
-pub known_within : (catalog : Catalog) (fuel : ℕ) (m : DxeMachine) (event : Event) (known : List ℕ) → IsEvent catalog fuel m event → known ≡ (dxe_step catalog fuel m).discovered → event.known ≤ length known
-known_within catalog fuel m event known is now =
-    let long : length known ≡ length m.discovered + length is.volumes = ap length (now ∙ is.discovered) ∙ length-append m.discovered is.volumes in
-    let here = is.known in
-    omega (arith, long, here)
+-- the event behind which the core stands for the later machine, with the queue that was told of it
+pub event_so : {M : Type 0} (stands : M → StoreState → Type 0) (store : M) (catalog : Catalog) (fuel : ℕ) (later : DxeCore) (mid grown : Queue) (m : DxeMachine) (event : Event) (t : Texts)
+    → IsEvent catalog fuel m event → HasStepped (StandsFor stands store catalog later) m (dxe_step catalog fuel m) t → IsQueueOf catalog (told m (dxe_step catalog fuel m)) mid
+    → Discovers catalog mid (drop event.known later.services.order.volumes) grown → HasTurned (IsNow stands store catalog later grown) m (dxe_step catalog fuel m) t
+event_so stands store catalog fuel later mid grown m event t is stepped here discovers =
+    let step : DxeMachine = dxe_step catalog fuel m in
+    let new = behind later.services.order.volumes m step event.known is.volumes stepped.machine.core.services.order.volumes_are is.known is.discovered in
+    let has : HasVolumes catalog (drop event.known later.services.order.volumes) (told m step) step = record {
+      discovered = is.discovered ∙ ap (λ xs. m.discovered ++ xs) (sym new);
+      scheduled = is.scheduled ∙ ap (λ xs. m.scheduled ++ a_priori_drivers catalog xs) (sym new);
+      started = is.started;
+      requested = refl;
+      handles = refl;
+    } in
+    record { printed = stepped.printed; now = record { machine = stepped.machine; queue = discovers (told m step) step here has } }
+
+-- what has to be evaluated behind it
+pub event_owes : (catalog : Catalog) (fuel : ℕ) (m : DxeMachine) (event : Event) (volumes : List ℕ) (steps before told_owes now : ℕ) → IsEvent catalog fuel m event → volumes ≡ (dxe_step catalog fuel m).discovered
+    → told_owes ≤ before + sum_by (dxe_asked catalog m) (option_to_list event.changed) → now ≤ told_owes + length (drivers_of catalog (drop event.known volumes)) → IsWithin catalog fuel m (steps + before) (steps + now)
+event_owes catalog fuel m event volumes steps before told_owes now is same first second =
+    let step : DxeMachine = dxe_step catalog fuel m in
+    let new = behind volumes m step event.known is.volumes same is.known is.discovered in
+    let all : length (discovered_order catalog step) ≡ length (discovered_order catalog m) + length (drivers_of catalog is.volumes) =
+    ap (λ xs. length (drivers_of catalog xs)) is.discovered ∙ ap length (flat_map-append (parts_in Dxe catalog) m.discovered is.volumes) ∙ length-append (discovered_order catalog m) (drivers_of catalog is.volumes) in
+    let asked : sum_by (dxe_asked catalog m) (option_to_list event.changed) ≡ sum_by (dxe_asked catalog m) (dxe_guids catalog fuel m) = ap (sum_by (dxe_asked catalog m)) is.changed in
+    let more : length (drivers_of catalog (drop event.known volumes)) ≡ length (drivers_of catalog is.volumes) = ap (λ xs. length (drivers_of catalog xs)) new in
+    sums steps before told_owes now _ _ _ _ _ _ first second all asked more
+  where
+    sums : (steps before told_owes now by_event by_step here there new seen : ℕ) → told_owes ≤ before + by_event → now ≤ told_owes + seen → there ≡ here + new → by_event ≡ by_step → seen ≡ new
+        → (steps + now) + here ≤ (steps + before) + (there + by_step)
+    sums steps before told_owes now by_event by_step here there new seen first second all asked more = omega (arith, first, second, all, asked, more)
+
+-- where nothing more has to be evaluated
+pub owes_still : (catalog : Catalog) (fuel : ℕ) (m : DxeMachine) (before now : ℕ) → now ≤ before → IsWithin catalog fuel m before now
+owes_still catalog fuel m before now few =
+    let grown = driver_steps_grow catalog fuel m in
+    let more = discovered_more catalog m.discovered grown.discovered.0 (dxe_step catalog fuel m).discovered grown.discovered.1 in
+    sums before now _ _ _ few more
+  where
+    sums : (before now here there by_step : ℕ) → now ≤ before → here ≤ there → now + here ≤ before + (there + by_step)
+    sums before now here there by_step few more = omega (arith, few, more)
 
 -- all that was put is a part
 pub whole_part : (m later : DxeMachine) (t : Texts) → Printed m later t → PrintedPart m later t
@@ -61,7 +122,7 @@ whole_part m later t printed = record { told = printed.told; lines = printed.lin
 
 -- the machine ends and nothing else changes
 pub ends_so : {M : Type 0} (stands : M → StoreState → Type 0) (store : M) (catalog : Catalog) (fuel : ℕ) (later : DxeCore) (queue : Queue) (m : DxeMachine) (end : DxeEnd) (t : Texts)
-    → HasEnded (StandsFor stands store catalog later) catalog fuel m end t → IsQueueOf m queue → IsOver (IsNow stands store catalog later queue) m (dxe_step catalog fuel m) end t
+    → HasEnded (StandsFor stands store catalog later) catalog fuel m end t → IsQueueOf catalog m queue → IsOver (IsNow stands store catalog later queue) m (dxe_step catalog fuel m) end t
 ends_so stands store catalog fuel later queue m end t ended was =
     let P : DxeMachine → Type 0 = λ x. IsOver (IsNow stands store catalog later queue) m x end t in
     let over : P (record m { ended = Some end }) = record {
@@ -92,3 +153,21 @@ turns_after stands store catalog fuel m later queue old mid new (Ok (Some how)) 
 }
 turns_after stands store catalog fuel m later queue old mid new (Err halt) here f part =
     record { told = part.told; lines = part.lines; text = part_then old mid new [] (text_of part.told) f part.text }
+
+pub on_ok : {A E P Q : Type 0} (result : Result A E) → (P → Q) → OnOk result P → OnOk result Q
+on_ok (Ok done) f p = f p
+on_ok (Err fault) f p = tt
+
+-- nothing was put of a step's lines
+pub none_started : (catalog : Catalog) (fuel : ℕ) (m : DxeMachine) (text : Option (List ℕ)) → PrintedPart m (dxe_step catalog fuel m) (record { old = text; new = text })
+none_started catalog fuel m text =
+    let most : ℕ = fuel + m.actions + 1 in
+    let grew = step_grew catalog fuel most m (omega arith) (omega arith) in
+    record { told = grew.told; lines = grew.lines; text = part_none text (text_of grew.told) }
+
+-- a start was put in part
+pub part_started : (catalog : Catalog) (fuel : ℕ) (m : DxeMachine) (next : Scheduled) (grown : Queue) (t : Texts) (chosen : IsNext catalog m next grown) → IsIdle m
+    → PrintedPart m (driver_started catalog m next chosen.rest (part_at Dxe catalog next.module_number)) t → PrintedPart m (dxe_step catalog fuel m) t
+part_started catalog fuel m next grown t chosen idle part =
+    let P : DxeMachine → Type 0 = λ x. PrintedPart m x t in
+    subst P (sym (step_starts catalog fuel m next chosen.rest idle chosen.next_is)) part

@@ -1,15 +1,15 @@
 -- How a run of DXE answers: the end of the machine, with all of its lines; or why the end was not reached, with a part of them.
 -- Own; PI 1.8, volume 2, "DXE Dispatcher".
-use Rattle.std.specs.Prelude.{◌≡◌, ◌≤◌, ℕ, ◌+◌, ◌*◌, List, Option, Some, None, Result, Ok, Err, length}
+use Rattle.std.specs.Prelude.{◌≡◌, ◌≤◌, ℕ, ◌+◌, List, Option, Some, None, Result, Ok, Err}
 use Rattle.std.specs.Io.KnownBytes.{Appends}
 use Rattle.boot_io.specs.declared.halt.Halt.{Halt}
 use Rattle.boot_io.specs.Sink.{AppendsPart}
 use Rattle.catalog_model.specs.declared.catalog.Catalog.{Catalog}
 use Rattle.store_model.specs.StoreState.{StoreState}
 use Rattle.boot_model.specs.declared.phase_end.DxeEnd.{DxeEnd}
-use Rattle.boot_model.specs.DxeChoice.{discovered_order}
 use Rattle.boot_model.specs.DxeMachine.{DxeMachine}
 use Rattle.boot_model.specs.DxeRun.{dxe_opening, dxe_bound, dxe_end}
+use Rattle.boot_model.specs.EvaluationBound.{dxe_evaluations}
 use Rattle.boot_model.specs.Text.{text_of}
 use Rattle.dxe_choice.specs.Queue.{Queue, IsQueueOf}
 use Rattle.dxe_core.specs.Standing.{DxeCore, IsFor, StandsFor}
@@ -24,7 +24,7 @@ pub record HasEnded (how : DxeEnd) (end : DxeMachine) (old new : Option (List �
 pub record IsNow {M : Type 0} (stands : M → StoreState → Type 0) (beside : M) (catalog : Catalog)
     (core : DxeCore) (kept : Queue) (m : DxeMachine) : Type 0 where
   pub machine : StandsFor stands beside catalog core m
-  pub queue : IsQueueOf m kept
+  pub queue : IsQueueOf catalog m kept
 
 -- the core beside its store, and the queue, stand for the last machine: that is the end as it was before it ended
 abbrev pub StandsAtEnd : {M : Type 0} → (M → StoreState → Type 0) → M → Catalog → DxeCore → Queue → DxeMachine → Type 0
@@ -49,12 +49,12 @@ Runs stands store catalog core later queue old new result =
     → StandsFor stands store catalog core (dxe_opening catalog s actions)
     → RunsTo stands store catalog (dxe_end catalog fuel s actions) later queue old new result
 
--- in each step of the run at most one expression is evaluated for each driver of the discovered volumes
-abbrev pub HasFewSteps : {M : Type 0} → (M → StoreState → Type 0) → M → Catalog → DxeCore → ℕ → ℕ → Type 0
-HasFewSteps stands store catalog core before now =
+-- no more expressions are evaluated than the bound of the run lets
+abbrev pub EvaluatesFew : {M : Type 0} → (M → StoreState → Type 0) → M → Catalog → DxeCore → ℕ → ℕ → Type 0
+EvaluatesFew stands store catalog core before now =
     (s : StoreState) (actions fuel : ℕ) → IsFor catalog fuel core
     → StandsFor stands store catalog core (dxe_opening catalog s actions)
-    → now ≤ before + dxe_bound catalog fuel * length (discovered_order catalog (dxe_end catalog fuel s actions))
+    → now ≤ before + dxe_evaluations catalog fuel (dxe_bound catalog fuel) (dxe_opening catalog s actions) (dxe_end catalog fuel s actions)
 
 -- a whole run to an end, which hands its handles on
 abbrev pub BootsTo : DxeMachine → Option (List ℕ) → Option (List ℕ) → Result Ended Halt → Type 0

@@ -1,3 +1,4 @@
 pub mod Ends
+pub mod Events
 pub mod Turns
 pub mod Waiting

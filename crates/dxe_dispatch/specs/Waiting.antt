@@ -35,4 +35,4 @@ PutsWaiting catalog number waits requested old new result =
 abbrev pub PutsAllWaiting : Catalog → List ℕ → Queue → List Bool
     → Option (List ℕ) → Option (List ℕ) → Result (Unit {0}) SinkFault → Type 0
 PutsAllWaiting catalog numbers queue requested old new result =
-    (m : DxeMachine) → IsQueueOf m queue → AreFlags m.requested requested → Puts result old new (text_of (lines_of catalog m numbers))
+    (m : DxeMachine) → IsQueueOf catalog m queue → AreFlags m.requested requested → Puts result old new (text_of (lines_of catalog m numbers))

@@ -1,8 +1,8 @@
 // The next driver.
-ghost use Rattle.std.specs.Prelude.{◌≤◌, ◌+◌, length, IfOk, OnOk, IfSome};
+ghost use Rattle.std.specs.Prelude.{◌≤◌, ◌+◌, IfOk, OnOk, IfSome};
 ghost use Rattle.boot_model.specs.DxeMachine.{DxeMachine};
 ghost use Rattle.catalog_model.specs.WellFormed.{IsWellFormed};
-ghost use Rattle.dxe_choice.specs.Queue.{IsDriver, IsQueueFor};
+ghost use Rattle.dxe_choice.specs.Queue.{IsDriver, IsQueueFor, owed};
 ghost use Rattle.dxe_dispatch.specs.Turns.{AreOf, Chooses};
 
 use boot_model::Scheduled;
@@ -26,7 +26,8 @@ pub(crate) fn choose<L: Ledger>(
     ensures row { Chooses catalog.now dxe.now queue.old queue.new result }
     ensures driver { IfOk result (λ next. IfSome next (IsDriver catalog.now)) }
     ensures made { OnOk result (IsQueueFor catalog.now queue.new) }
-    ensures few_steps { steps.new ≤ steps.old + length dxe.now.services.order.drivers }
+    ensures few_steps { steps.new ≤ steps.old + owed queue.old }
+    ensures owes { OnOk result (steps.new + owed queue.new ≤ steps.old + owed queue.old) }
 {
-    queue.next(catalog, dxe.order(), dxe.requested(), dxe.handles(), steps)
+    queue.next(catalog, dxe.order(), steps)
 }

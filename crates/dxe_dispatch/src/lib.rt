@@ -5,6 +5,7 @@ mod boot;
 mod choose;
 mod run;
 mod stop;
+mod tell;
 mod turn;
 mod waiting;
 

@@ -6,11 +6,11 @@ ghost use Rattle.catalog_model.specs.WellFormed.{IsWellFormed};
 ghost use Rattle.catalog_model.specs.declared.limits.TheConstants.{MOST_MODULES};
 ghost use Rattle.dxe_choice.specs.Queue.{IsNewQueue, IsQueueFor};
 ghost use Rattle.dxe_core.specs.Standing.{IsFor};
-ghost use Rattle.dxe_dispatch.specs.Ends.{HasFewSteps, IsAtOpening, Runs};
+ghost use Rattle.dxe_dispatch.specs.Ends.{EvaluatesFew, IsAtOpening, Runs};
 
 use crate::turn::turn;
 use boot_io::{Halt, Sink};
-use boot_laws::{dxe_runs_end, unrequested_drivers_wait};
+use boot_laws::{discovered_order_has_each_once, dxe_runs_end, unrequested_drivers_wait};
 use boot_model::{DxeEnd, MOST_FRAMES};
 use catalog_model::Catalog;
 use depex_code::Steps;
@@ -28,7 +28,7 @@ fn bound(catalog: &Catalog, fuel: u32) -> u64
 }
 
 /// DXE from the opening to its end: the a priori drivers of the volumes that were discovered are scheduled, the lines of these volumes are put, and then a step of the machine at a time, up to the stop. `dxe` is the core at its opening, and `queue` is new.
-/// Behind its end the core beside its store, and the queue, are those of the last machine. In each step of the machine at most one expression is evaluated for each driver of the discovered volumes. No more interfaces are left than a `u32` counts, if no more actions were taken before.
+/// Behind its end the core beside its store, and the queue, are those of the last machine. No more expressions are evaluated than the bound on evaluations lets: one for each driver of a discovered volume, and one for each driver that waits for a protocol when that is installed or uninstalled. No more interfaces are left than a `u32` counts, if no more actions were taken before.
 pub fn run_dxe<M: PeiStore, S: Sink, L: Ledger>(
     dxe: &mut Dxe,
     store: &M,
@@ -39,17 +39,18 @@ pub fn run_dxe<M: PeiStore, S: Sink, L: Ledger>(
 ) -> Result<DxeEnd, Halt>
     requires catalog { IsWellFormed catalog.now }
     requires made { (fuel : ℕ) × IsFor catalog.now fuel dxe.old }
-    requires new { IsNewQueue queue.old }
+    requires new { IsNewQueue catalog.now queue.old }
     requires queue { IsQueueFor catalog.now queue.old }
     requires opening { IsAtOpening M.stands_for store.now catalog.now dxe.old }
     ensures row { Runs M.stands_for store.now catalog.now dxe.old dxe.new queue.new (S.text sink.old) (S.text sink.new) result }
     ensures few { dxe.old.fuel.taken < 2 ^ 32 → OnOk result (length dxe.new.services.handles.interfaces < 2 ^ 32) }
     ensures faults { HaltsAfter result (S.faults sink.old) (S.faults sink.new) }
-    ensures few_steps { HasFewSteps M.stands_for store.now catalog.now dxe.old steps.old steps.new }
+    ensures few_steps { EvaluatesFew M.stands_for store.now catalog.now dxe.old steps.old steps.new }
 {
     dxe_runs_end();
     unrequested_drivers_wait();
-    queue.schedule_a_priori(catalog, dxe.order().volumes())?;
+    discovered_order_has_each_once();
+    queue.discover(catalog, dxe.order(), 0)?;
     put_volumes(sink, dxe.order().volumes())?;
     'turns: for _ in 0..bound(catalog, dxe.fuel()) {
         if let Some(end) = turn(dxe, store, queue, catalog, sink, steps)? {

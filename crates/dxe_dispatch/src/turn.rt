@@ -1,15 +1,16 @@
 // A turn of the run: a step of the machine.
-ghost use Rattle.std.specs.Prelude.{ℕ, OnOk};
+ghost use Rattle.std.specs.Prelude.{◌≤◌, ◌+◌, ℕ, OnOk};
 ghost use Rattle.boot_io.specs.Halted.{HaltsAfter};
 ghost use Rattle.boot_model.specs.DxeMachine.{DxeMachine};
 ghost use Rattle.catalog_model.specs.WellFormed.{IsWellFormed};
-ghost use Rattle.dxe_choice.specs.Queue.{IsQueueFor};
+ghost use Rattle.dxe_choice.specs.Queue.{IsQueueFor, owed};
 ghost use Rattle.dxe_core.specs.Standing.{IsFor};
 ghost use Rattle.dxe_core.specs.Steps.{IsIdle};
-ghost use Rattle.dxe_dispatch.specs.Turns.{AreOf, EvaluatesFew, IsReady, Turns, TurnsIdle};
+ghost use Rattle.dxe_dispatch.specs.Turns.{AreOf, IsReady, OwesBehind, Turns, TurnsIdle};
 
 use crate::choose::choose;
 use crate::stop::put_stop;
+use crate::tell::tell;
 use boot_io::{Halt, Sink};
 use boot_model::DxeEnd;
 use catalog_model::Catalog;
@@ -34,7 +35,8 @@ fn start_or_stop<S: Sink, L: Ledger>(
     ensures made { OnOk result ((fuel : ℕ) → IsFor catalog.now fuel dxe.old → IsFor catalog.now fuel dxe.new) }
     ensures queue { OnOk result (IsQueueFor catalog.now queue.new) }
     ensures faults { HaltsAfter result (S.faults sink.old) (S.faults sink.new) }
-    ensures few_steps { EvaluatesFew (AreOf catalog.now dxe.old queue.old) catalog.now steps.old steps.new }
+    ensures few_steps { steps.new ≤ steps.old + owed queue.old }
+    ensures owes { OnOk result (steps.new + owed queue.new ≤ steps.old + owed queue.old) }
 {
     match choose(dxe, queue, catalog, steps)? {
         Some(next) => {
@@ -48,7 +50,7 @@ fn start_or_stop<S: Sink, L: Ledger>(
     }
 }
 
-/// The core takes a step; where it has none left the next driver starts, or DXE stops. The a priori drivers of the volumes that the step discovered are scheduled.
+/// The core takes a step; where it has none left the next driver starts, or DXE stops. The queue is told what the step did: the a priori drivers of the volumes that it discovered are scheduled.
 pub(crate) fn turn<M: PeiStore, S: Sink, L: Ledger>(
     dxe: &mut Dxe,
     store: &M,
@@ -58,19 +60,21 @@ pub(crate) fn turn<M: PeiStore, S: Sink, L: Ledger>(
     steps: &mut Steps<L>,
 ) -> Result<Option<DxeEnd>, Halt>
     requires catalog { IsWellFormed catalog.now }
-    requires made { (fuel : ℕ) × IsFor catalog.now fuel dxe.old }
     requires queue { IsQueueFor catalog.now queue.old }
-    requires state { (m : DxeMachine) × IsReady M.stands_for store.now catalog.now dxe.old queue.old m }
+    requires state { (m : DxeMachine) × (fuel : ℕ) × IsFor catalog.now fuel dxe.old
+        × IsReady M.stands_for store.now catalog.now fuel dxe.old queue.old m }
     ensures row { Turns M.stands_for store.now catalog.now dxe.old queue.old dxe.new queue.new (S.text sink.old) (S.text sink.new) result }
     ensures made { OnOk result ((fuel : ℕ) → IsFor catalog.now fuel dxe.old → IsFor catalog.now fuel dxe.new) }
     ensures queue { OnOk result (IsQueueFor catalog.now queue.new) }
     ensures faults { HaltsAfter result (S.faults sink.old) (S.faults sink.new) }
-    ensures few_steps { EvaluatesFew (IsReady M.stands_for store.now catalog.now dxe.old queue.old) catalog.now steps.old steps.new }
+    ensures few_steps { steps.new ≤ steps.old + owed queue.old }
+    ensures owes { OnOk result (OwesBehind M.stands_for store.now catalog.now dxe.old queue.old
+        (steps.old + owed queue.old) (steps.new + owed queue.new)) }
 {
     match dxe.step(store, catalog, sink)? {
         Stepped::Went(event) => {
-            let (_, new) = dxe.order().volumes().split_at(event.known);
-            queue.schedule_a_priori(catalog, new)?;
+            tell(dxe, queue, &event);
+            queue.discover(catalog, dxe.order(), event.known)?;
             Ok(None)
         }
         Stepped::Idle => start_or_stop(dxe, queue, catalog, sink, steps),

@@ -16,6 +16,6 @@ returns-in-Some-clause-row c = λ frame.
     let inside = c.services.inside in
     let old : Services = record { handles = inside.handles; notes = inside.notes; order = inside.order; requested = inside.requested } in
     let within : number < length c.args.services.now.requested = subst (λ n. number < n) (sym c.requires.flags) c.in-Some.ensures.within in
-    subst (λ requested. Requests catalog c.args.services.now frame (A.Schedule name) c.told.result (record old { requested = requested })) (sym c.set.ensures)
-    (subst (λ s. number < length s.requested → Some number ≡ asked_for catalog s.requested name s.order.drivers → Requests catalog s frame (A.Schedule name) c.told.result (with_flag old number)) c.services.view_is
-    (λ few first m has waits. named catalog m frame old name number c.told.result has waits few first c.told.ensures) within c.in-Some.ensures.first)
+    subst (λ requested. Requests catalog c.args.services.now frame (A.Schedule name) c.requests.result (record old { requested = requested })) (sym c.set.ensures)
+    (subst (λ s. number < length s.requested → Some number ≡ asked_for catalog s.requested name s.order.drivers → Requests catalog s frame (A.Schedule name) c.requests.result (with_flag old number)) c.services.view_is
+    (λ few first m has waits. named catalog m frame old name number c.requests.result has waits few first c.requests.ensures) within c.in-Some.ensures.first)

@@ -1,4 +1,3 @@
-use Rattle.store_model.specs.HandleState.{has_protocol}
 use Rattle.boot_model.specs.DxeMachine.{DxeMachine}
 use Rattle.dxe_choice.specs.Queue.{IsQueueFor, IsSeen}
 use Rattle.dxe_choice.proofs.tests.starts_from.Given as goal
@@ -7,5 +6,5 @@ use Rattle.dxe_choice.proofs.tests.starts_from.Given as goal
 abbrev pub invariant-starts : goal.invariant-starts
 invariant-starts g l = record {
   made : IsQueueFor l.fn.catalog l.queue;
-  seen : (m : DxeMachine) × IsSeen l.fn.catalog m l.queue l.order l.requested (has_protocol l.handles);
+  seen : (m : DxeMachine) × IsSeen l.fn.catalog m l.queue l.order;
 }

@@ -1,9 +1,19 @@
-use Rattle.std.proofs.Common.{subst}
-use Rattle.dxe_choice.specs.Queue.{SchedulesApriori}
-use Rattle.dxe_choice.proofs.SmallMachines.{seen_first}
+use Rattle.std.proofs.Common.{subst, sym}
+use Rattle.boot_model.specs.DxeMachine.{DxeMachine}
+use Rattle.dxe_choice.specs.Queue.{IsSeen}
+use Rattle.dxe_choice.proofs.SmallMachines.{new_drivers, seen_first}
 use Rattle.dxe_choice.proofs.tests.starts_of.Goals as goal
+use Rattle.dxe_choice.proofs.tests.starts_of.Goals.{then-row, else-row}
+
+pub discover-requires-2-clause-new : goal.discover-requires-2-clause-new
+discover-requires-2-clause-new g c = new_drivers c.args.catalog.now _ c.in_ok-order.order c.in_ok-queue.queue c.in_ok-order.ensures c.in_ok-queue.ensures.new
+
+pub install-requires-clause-seen : goal.install-requires-clause-seen
+install-requires-clause-seen g c =
+    seen_first c.args.catalog.now _ c.in_ok-order.order c.in_ok-queue.queue c.discover-2.new.self c.in_ok-order.ensures c.in_ok-queue.ensures.new c.in_ok-discover.ensures.row
 
 pub starts_from-requires-clause-seen : goal.starts_from-requires-clause-seen
-starts_from-requires-clause-seen g c =
-    let row = subst (λ volumes. SchedulesApriori c.args.catalog.now c.in_ok-queue.queue volumes c.schedule_a_priori.new.self) c.volumes.ensures c.in_ok-schedule_a_priori.ensures.row in
-    seen_first c.args.catalog.now _ c.in_ok-order.order c.args.is_requested c.args.handles.now c.in_ok-queue.queue c.schedule_a_priori.new.self c.in_ok-order.ensures c.in_ok-queue.ensures.new row
+starts_from-requires-clause-seen g c = elim c.if-row.branch [
+  | then-row w ↦ subst (λ queue. (m : DxeMachine) × IsSeen c.args.catalog.now m queue c.in_ok-order.order) (sym w.queue-is) w.request_first.ensures.seen
+  | else-row w ↦ subst (λ queue. (m : DxeMachine) × IsSeen c.args.catalog.now m queue c.in_ok-order.order) (sym w.queue-is) c.install.ensures.seen
+]

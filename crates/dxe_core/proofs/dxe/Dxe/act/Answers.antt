@@ -3,6 +3,7 @@ use Rattle.std.proofs.lemmas.List.{append-nil}
 use Rattle.driver_order.specs.Order.{Drivers}
 use Rattle.boot_model.specs.DxeStep.{DxeActs, with_action}
 use Rattle.frames.specs.declared.fuel.Fuel.{Fuel}
+use Rattle.dxe_core.specs.declared.event.Stepped.TheVariants.{Went}
 use Rattle.dxe_core.specs.Parts.{acted_to}
 use Rattle.dxe_core.specs.Standing.{DxeCore, IsFor, StandsFor}
 use Rattle.dxe_core.proofs.Acting.{acted_guids, acted_leads, count_fits, done, for_counted, fuel_left, left_core, limit_fits, takes_own, waits_on}
@@ -48,8 +49,8 @@ act_own-requires-clause-state g c =
     let fields = left_core catalog m runs.top runs.below core c.act.new.fuel c.act.new.frames stands.core runs.frames has.0 has.1.frames in
     (with_action m, record { store = stands.store; core = fields }, takes_own catalog m runs.top runs.below c.in-Own.action.now c.act.new.frames runs.frames has.1)
 
-pub returns-in_err-changed-in-Own-clause-row : goal.returns-in_err-changed-in-Own-clause-row
-returns-in_err-changed-in-Own-clause-row g c m fuel for h waits runs =
+pub returns-in_err-event-in-Own-clause-row : goal.returns-in_err-event-in-Own-clause-row
+returns-in_err-event-in-Own-clause-row g c m fuel for h waits runs =
     let T = g.S.Sink.text in
     let catalog = c.args.catalog.now in
     let core : DxeCore = record { frames = c.self.inside.frames; fuel = c.self.inside.fuel; services = c.self.inside.services } in
@@ -62,8 +63,8 @@ returns-in_err-changed-in-Own-clause-row g c m fuel for h waits runs =
     let leads = acted_leads catalog fuel m runs.top runs.below action left has.1.is in
     let to = acted_to catalog (with_action m) runs.top runs.below action in
     let t = texts (T c.args.sink.now) (T c.act_own.new.sink) in
-    let taken = c.in_err-changed-in-Own.ensures.row (with_action m) (record { store = stands.store; core = fields }) (waits_on catalog m waits) (takes_own catalog m runs.top runs.below action c.act.new.frames runs.frames has.1) in
-    steps_fail _ catalog fuel m t c.from_residual-in_err-changed-in-Own.result c.from_residual-in_err-changed-in-Own.ensures.0
+    let taken = c.in_err-event-in-Own.ensures.row (with_action m) (record { store = stands.store; core = fields }) (waits_on catalog m waits) (takes_own catalog m runs.top runs.below action c.act.new.frames runs.frames has.1) in
+    steps_fail _ catalog fuel m t c.from_residual-in_err-event-in-Own.result c.from_residual-in_err-event-in-Own.ensures.0
     (part catalog fuel m to (DxeActs runs.top runs.below) t (case_acts catalog m runs.top runs.below runs.frames runs.fires) leads (part_from (with_action m) m to t refl taken))
 
 pub returns-in-Silent-clause-row : goal.returns-in-Silent-clause-row
@@ -77,8 +78,8 @@ returns-in-Silent-clause-row g c m fuel for h waits runs =
     let d = done c.effects_are_alike.ensures.dxe catalog fuel m runs.top runs.below core c.act.new.fuel c.act.new.frames [] stands.core kept.fuelled has.0 has.1 in
     let known = ap length c.volumes-known.ensures ∙ ap (λ (order : Drivers). length order.volumes) c.order.ensures ∙ ap length stands.core.services.order.volumes_are in
     let busy = is_busy m core.frames runs.top runs.below stands.core.frames (sym stands.core.frames ∙ runs.frames) in
-    went _ catalog fuel m d.later (DxeActs runs.top runs.below) (record { changed = None; known = length c.volumes-known.result.now }) c.by.result (texts (T c.args.sink.now) (T c.args.sink.now))
-    (case_acts catalog m runs.top runs.below runs.frames runs.fires) d.is busy (sym d.changed) known d.discovers c.by.ensures
+    went _ catalog fuel m d.later (DxeActs runs.top runs.below) (record { changed = None; requested = None; known = length c.volumes-known.result.now }) c.quiet.result (texts (T c.args.sink.now) (T c.args.sink.now))
+    (case_acts catalog m runs.top runs.below runs.frames runs.fires) d.is busy (sym d.changed) known d.discovers c.quiet.ensures
     (stepped_none _ m d.later (T c.args.sink.now) (d.printed ∙ append-nil m.lines) (record { store = subst (g.M.PeiStore.stands_for c.args.store.now) (sym d.store) stands.store; core = d.fields }))
 
 pub returns-in-Silent-clause-made : goal.returns-in-Silent-clause-made
@@ -105,8 +106,8 @@ returns-in_ok-print-in-Prints-clause-row g c m fuel for h waits runs =
     let d = done c.effects_are_alike.ensures.dxe catalog fuel m runs.top runs.below core c.act.new.fuel c.act.new.frames (line ∷ []) stands.core kept.fuelled has.0 has.1 in
     let known = ap length c.volumes-known.ensures ∙ ap (λ (order : Drivers). length order.volumes) c.order.ensures ∙ ap length stands.core.services.order.volumes_are in
     let busy = is_busy m core.frames runs.top runs.below stands.core.frames (sym stands.core.frames ∙ runs.frames) in
-    went _ catalog fuel m d.later (DxeActs runs.top runs.below) (record { changed = None; known = length c.volumes-known.result.now }) c.by-in-Prints.result (texts (T c.args.sink.now) (T c.print.new.sink))
-    (case_acts catalog m runs.top runs.below runs.frames runs.fires) d.is busy (sym d.changed) known d.discovers c.by-in-Prints.ensures
+    went _ catalog fuel m d.later (DxeActs runs.top runs.below) (record { changed = None; requested = None; known = length c.volumes-known.result.now }) c.quiet-in-Prints.result (texts (T c.args.sink.now) (T c.print.new.sink))
+    (case_acts catalog m runs.top runs.below runs.frames runs.fires) d.is busy (sym d.changed) known d.discovers c.quiet-in-Prints.ensures
     (stepped_one _ m d.later line line (T c.args.sink.now) (T c.print.new.sink) d.printed refl c.in_ok-print-in-Prints.ensures.text (record { store = subst (g.M.PeiStore.stands_for c.args.store.now) (sym d.store) stands.store; core = d.fields }))
 
 pub returns-in_ok-print-in-Prints-clause-made : goal.returns-in_ok-print-in-Prints-clause-made
@@ -121,8 +122,8 @@ returns-in_ok-print-in-Prints-clause-made g c fuel for =
     let kept = subst (IsFor catalog fuel) (sym c.self.view_is) for in
     for_counted catalog fuel core c.act.new.fuel c.act.new.frames has.0 kept
 
-pub returns-in_ok-changed-in-Own-clause-row : goal.returns-in_ok-changed-in-Own-clause-row
-returns-in_ok-changed-in-Own-clause-row g c m fuel for h waits runs =
+pub returns-in_ok-event-in-Own-clause-row : goal.returns-in_ok-event-in-Own-clause-row
+returns-in_ok-event-in-Own-clause-row g c m fuel for h waits runs =
     let T = g.S.Sink.text in
     let catalog = c.args.catalog.now in
     let core : DxeCore = record { frames = c.self.inside.frames; fuel = c.self.inside.fuel; services = c.self.inside.services } in
@@ -135,16 +136,16 @@ returns-in_ok-changed-in-Own-clause-row g c m fuel for h waits runs =
     let leads = acted_leads catalog fuel m runs.top runs.below action left has.1.is in
     let to = acted_to catalog (with_action m) runs.top runs.below action in
     let t = texts (T c.args.sink.now) (T c.act_own.new.sink) in
-    let taken = c.in_ok-changed-in-Own.ensures.row (with_action m) (record { store = stands.store; core = fields }) (waits_on catalog m waits) (takes_own catalog m runs.top runs.below action c.act.new.frames runs.frames has.1) in
-    let known = ap length c.volumes-known.ensures ∙ ap (λ (order : Drivers). length order.volumes) c.order.ensures ∙ ap length stands.core.services.order.volumes_are in
+    let taken = c.in_ok-event-in-Own.ensures.row (with_action m) (record { store = stands.store; core = fields }) (waits_on catalog m waits) (takes_own catalog m runs.top runs.below action c.act.new.frames runs.frames has.1) in
+    let event = c.in_ok-event-in-Own.event in
     let Stands = StandsFor g.M.PeiStore.stands_for c.args.store.now catalog c.act_own.new.self in
     let busy = is_busy m core.frames runs.top runs.below stands.core.frames (sym stands.core.frames ∙ runs.frames) in
-    went Stands catalog fuel m to (DxeActs runs.top runs.below) (record { changed = c.in_ok-changed-in-Own.changed; known = length c.volumes-known.result.now }) c.by-in-Own.result t
-    (case_acts catalog m runs.top runs.below runs.frames runs.fires) leads busy (taken.changed ∙ sym (acted_guids catalog fuel m runs.top runs.below action left has.1.is)) known (discovered_from catalog (with_action m) m to refl refl refl taken.discovers) c.by-in-Own.ensures
+    went Stands catalog fuel m to (DxeActs runs.top runs.below) event (Went event) t
+    (case_acts catalog m runs.top runs.below runs.frames runs.fires) leads busy (taken.changed ∙ sym (acted_guids catalog fuel m runs.top runs.below action left has.1.is)) taken.known (discovered_from catalog (with_action m) m to event.requested refl refl refl refl taken.discovers) refl
     (stepped_from Stands (with_action m) m to t refl taken.stepped)
 
-pub returns-in_ok-changed-in-Own-clause-made : goal.returns-in_ok-changed-in-Own-clause-made
-returns-in_ok-changed-in-Own-clause-made g c fuel for =
+pub returns-in_ok-event-in-Own-clause-made : goal.returns-in_ok-event-in-Own-clause-made
+returns-in_ok-event-in-Own-clause-made g c fuel for =
     let catalog = c.args.catalog.now in
     let m = c.requires.state.0 in
     let h = c.requires.state.1 in
@@ -153,7 +154,7 @@ returns-in_ok-changed-in-Own-clause-made g c fuel for =
     let stands = subst (λ kept. StandsFor g.M.PeiStore.stands_for c.args.store.now catalog kept m) (sym c.self.view_is) h in
     let has = c.in-Own.ensures runs.top runs.below (sym stands.core.frames ∙ runs.frames) in
     let kept = subst (IsFor catalog fuel) (sym c.self.view_is) for in
-    let keeps = c.in_ok-changed-in-Own.ensures.made in
+    let keeps = c.in_ok-event-in-Own.ensures.made in
     record { made = keeps.made; counted = keeps.counted; fuelled = keeps.limit ∙ ap (λ (x : Fuel). x.limit) has.0.counted ∙ kept.fuelled }
 
 pub invariant_of-self-in-Silent : goal.invariant_of-self-in-Silent

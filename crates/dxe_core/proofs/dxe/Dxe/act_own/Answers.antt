@@ -61,6 +61,7 @@ returns-clause-row g c m h waits own =
     let text = subst (λ xs. Appends (T c.args.sink.now) (T c.put_reply.new.sink) (text_of (call_line c.in_ok-name.field-0 ∷ discovery_lines xs))) shown c.in_ok-put_reply.ensures.text in
     record {
       changed = c.changed_by.ensures ∙ ap (λ (has : DxeEffect). if is_dxe_called has then changed_protocols action else []) (sym r.effect_is);
+      known = ap length c.volumes-known.ensures ∙ ap (λ (order : Drivers). length order.volumes) c.order.ensures ∙ ap length stands.core.services.order.volumes_are;
       discovers = r.discovers;
       stepped = stepped _ m (acted_to catalog m own.top own.below action) (call_line c.in_ok-name.field-0 ∷ discovery_lines r.volumes) (T c.args.sink.now) (T c.put_reply.new.sink) r.printed text
           (record { store = subst (g.M.PeiStore.stands_for c.args.store.now) (sym r.store) stands.store; core = r.fields });

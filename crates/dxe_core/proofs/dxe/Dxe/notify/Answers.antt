@@ -34,7 +34,7 @@ returns-clause-row g c m fuel h runs =
     let fields = fired_core catalog m note sweep runs.top runs.below core c.begin_notification.new.frames c.begin_notification.result of runs.frames c.if-not-begin_notification.false
     (c.begin_notification.ensures.frames ∙ ap (λ frame. cond c.begin_notification.result (frame ∷ swept core.frames sweep) core.frames) c.notification_frame.ensures) in
     let known = ap length c.volumes-known.ensures ∙ ap (λ (order : Drivers). length order.volumes) c.order.ensures ∙ ap length of.services.order.volumes_are in
-    went _ catalog fuel m begun (DxeFires note sweep runs.top runs.below) (record { changed = None; known = length c.volumes-known.result.now }) c.by.result (texts (T c.args.sink.now) (T c.print.new.sink))
+    went _ catalog fuel m begun (DxeFires note sweep runs.top runs.below) (record { changed = None; requested = None; known = length c.volumes-known.result.now }) c.quiet.result (texts (T c.args.sink.now) (T c.print.new.sink))
     (case_fires catalog m c.args.next runs.top runs.below runs.frames runs.fires) is (is_busy m core.frames runs.top runs.below of.frames (sym of.frames ∙ runs.frames)) refl known
-    (none_discovered catalog m begun refl refl refl) c.by.ensures
+    (none_discovered catalog m begun refl refl refl refl) c.quiet.ensures
     (stepped_one _ m begun (protocol_line catalog sweep note) c.protocol_line.result (T c.args.sink.now) (T c.print.new.sink) refl c.protocol_line.ensures c.in_ok-print.ensures.text (record { store = refl; core = fields }))

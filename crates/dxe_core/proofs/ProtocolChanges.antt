@@ -1,0 +1,243 @@
+-- A step of DXE changes which protocols are on the handles only for that of its event.
+use Rattle.std.proofs.Common.{◌≡◌, ℕ, zero, suc, ◌+◌, Bool, true, false, ◌&&◌, ◌||◌, not, cond, List, [], ◌∷◌, ◌++◌, Option, Some, None, Ok, Err, refl, sym, ap, ◌∙◌, nat_le, nat_lt, length, option_map}
+use Rattle.std.specs.Prelude.{◌%◌, ◌^◌, ⊤}
+use Rattle.std.specs.List.{list_any}
+use Rattle.std.proofs.lemmas.List.Folds.{list_any-append}
+use Rattle.std.proofs.lemmas.Slice.Eq.{bytes_eq-Decides}
+use Rattle.pi_base.specs.declared.guid.Guid.{Guid}
+use Rattle.pi_base.specs.declared.phase.Phase.TheVariants.{Dxe}
+use Rattle.pi_base.specs.declared.word.Word.{Word}
+use Rattle.pi_base.specs.declared.word.Word.TheVariants.{InvalidParameter, NotFound, AlreadyStarted}
+use Rattle.pi_base.specs.Guids.{same_guid}
+use Rattle.act_code.specs.declared.action.Action.{Action}
+use Rattle.act_code.specs.declared.action.Action.TheVariants as A
+use Rattle.catalog_model.specs.declared.catalog.Catalog.{Catalog}
+use Rattle.catalog_model.specs.declared.catalog.Part.{Part}
+use Rattle.catalog_model.specs.Parts.{has_number, part_at, volume_at}
+use Rattle.store_model.specs.declared.interface.Interface.{Interface}
+use Rattle.store_model.specs.MemoryReading.{bytes_at}
+use Rattle.store_model.specs.HandleState.{HandleState, HandleService, change_of, has_protocol, install_interface, install_on, is_live, is_on, is_on_with, locate_handle, placed, reinstall_interface, uninstall_interface, with_value, without}
+use Rattle.boot_model.specs.declared.driver.ProtocolSweep.{ProtocolSweep}
+use Rattle.boot_model.specs.declared.driver.Scheduled.{Scheduled}
+use Rattle.boot_model.specs.declared.line.Extra.TheVariants as X
+use Rattle.boot_model.specs.declared.phase_end.DxeEnd.TheVariants as DxeEnds
+use Rattle.boot_model.specs.Reporting.{newcomers}
+use Rattle.boot_model.specs.Registers.{both, handle_in, is_success, number_in}
+use Rattle.boot_model.specs.DxeMachine.{DxeMachine, DriverFrame}
+use Rattle.boot_model.specs.DxeAction.{DxeReply, DxeEffect, Wrote, Called, Logged, Skipped, Returned, Own, dxe_effect, dxe_told, dxe_where, dxe_refusal, processed, process_volume, process_reply, peek_reply, number_written, install_answer, installed_on, install_target, install_reply, reinstall_answer, reinstall_reply, protocol_sweep, uninstall_answer, uninstall_reply, locate_reply, notify_reply, unrequested_named, schedule_reply}
+use Rattle.boot_model.specs.DxeStep.{DxeCase, DxeFires, DxeActs, DxeStarts, DxeStops, dxe_case_of, dxe_step, in_dxe_case, protocol_begun, after_dxe_effect, with_action, dxe_action_at, driver_started}
+use Rattle.boot_model.specs.EvaluationBound.{changed_protocols, dxe_action_guids, dxe_case_guids, dxe_guids, is_dxe_called}
+use Rattle.boot_laws.specs.ChangedGuids.{is_among}
+
+-- an interface of a protocol
+abbrev is_of : Guid → Interface → Bool
+is_of guid i = same_guid i.guid guid
+
+abbrev HasOf : Guid → List Interface → Bool
+HasOf guid is = list_any (is_of guid) is
+
+or_false : (b : Bool) → (b || false) ≡ false → b ≡ false
+or_false true h = h
+or_false false h = h
+
+right_false : (a b : Bool) → b ≡ false → (a || b) ≡ a
+right_false true b h = refl
+right_false false b h = h
+
+left_false : (a b : Bool) → a ≡ false → (a || b) ≡ b
+left_false true b h = cc
+left_false false b h = refl
+
+-- one of another protocol is put among them
+placed_by : (b : Bool) (guid : Guid) (new i : Interface) (is : List Interface) → is_of guid new ≡ false → HasOf guid (placed new is) ≡ HasOf guid is
+    → HasOf guid (cond b (new ∷ i ∷ is) (i ∷ placed new is)) ≡ HasOf guid (i ∷ is)
+placed_by true guid new i is other h = left_false (is_of guid new) (HasOf guid (i ∷ is)) other
+placed_by false guid new i is other h = ap (λ b. is_of guid i || b) h
+
+placed_has : (guid : Guid) (new : Interface) (is : List Interface) → is_of guid new ≡ false → HasOf guid (placed new is) ≡ HasOf guid is
+placed_has guid new [] other = left_false (is_of guid new) false other
+placed_has guid new (i ∷ is) other = placed_by (nat_lt new.handle i.handle) guid new i is other (placed_has guid new is other)
+
+-- one gets another value
+valued_by : (b : Bool) (guid : Guid) (test : Interface → Bool) (value : ℕ) (i : Interface) (is : List Interface) → HasOf guid (with_value test value is) ≡ HasOf guid is
+    → HasOf guid (cond b (record i { value = value } ∷ is) (i ∷ with_value test value is)) ≡ HasOf guid (i ∷ is)
+valued_by true guid test value i is h = refl
+valued_by false guid test value i is h = ap (λ b. is_of guid i || b) h
+
+valued_has : (guid : Guid) (test : Interface → Bool) (value : ℕ) (is : List Interface) → HasOf guid (with_value test value is) ≡ HasOf guid is
+valued_has guid test value [] = refl
+valued_has guid test value (i ∷ is) = valued_by (test i) guid test value i is (valued_has guid test value is)
+
+-- one of another protocol is taken away
+without_by : (b : Bool) (guid : Guid) (test : Interface → Bool) (i : Interface) (is : List Interface) → test i ≡ b → ((i : Interface) → test i ≡ true → is_of guid i ≡ false)
+    → HasOf guid (without test is) ≡ HasOf guid is → HasOf guid (cond b is (i ∷ without test is)) ≡ HasOf guid (i ∷ is)
+without_by true guid test i is e other h = sym (left_false (is_of guid i) (HasOf guid is) (other i e))
+without_by false guid test i is e other h = ap (λ b. is_of guid i || b) h
+
+without_has : (guid : Guid) (test : Interface → Bool) (is : List Interface) → ((i : Interface) → test i ≡ true → is_of guid i ≡ false) → HasOf guid (without test is) ≡ HasOf guid is
+without_has guid test [] other = refl
+without_has guid test (i ∷ is) other = without_by (test i) guid test i is refl other (without_has guid test is other)
+
+both_of : (a b c : Bool) → ((a && b) && c) ≡ true → b ≡ true
+both_of true true c h = refl
+both_of true false c h = h
+both_of false b c h = cc
+
+same_is : (a b : Guid) → same_guid a b ≡ true → a ≡ b
+same_is a b h = ap (λ bytes. record { 0 = bytes }) ((bytes_eq-Decides a.0 b.0).0 h)
+
+-- those that a test for a protocol passes are of no other
+on_other : (handle : ℕ) (changed : Guid) (value : ℕ) (guid : Guid) (i : Interface) → same_guid changed guid ≡ false → is_on_with handle changed value i ≡ true → is_of guid i ≡ false
+on_other handle changed value guid i other h =
+    ap (λ g. same_guid g guid) (same_is i.guid changed (both_of _ (same_guid i.guid changed) _ h)) ∙ other
+
+-- a service keeps whether the protocol is on a handle
+abbrev Lasts : {A : Type 0} → HandleState → Guid → HandleService A → Type 0
+Lasts h guid (Ok pair) = has_protocol pair.1 guid ≡ has_protocol h guid
+Lasts h guid (Err status) = ⊤
+
+either_lasts : {A : Type 0} (h : HandleState) (guid : Guid) (b : Bool) (status : Word) (service : HandleService A) → Lasts h guid service → Lasts h guid (cond b (Err status) service)
+either_lasts h guid true status service k = tt
+either_lasts h guid false status service k = k
+
+found_lasts : {A : Type 0} (h : HandleState) (guid : Guid) (b : Bool) (status : Word) (service : HandleService A) → Lasts h guid service → Lasts h guid (cond b service (Err status))
+found_lasts h guid true status service k = k
+found_lasts h guid false status service k = tt
+
+install_lasts : (h : HandleState) (target : Option ℕ) (changed : Guid) (value : ℕ) (guid : Guid) → same_guid changed guid ≡ false → Lasts h guid (install_interface h target changed value)
+install_lasts h None changed value guid other =
+    list_any-append (is_of guid) h.interfaces (record { handle = h.made + 1; guid = changed; value = value } ∷ [])
+    ∙ right_false (HasOf guid h.interfaces) (same_guid changed guid || false) (left_false (same_guid changed guid) false other)
+install_lasts h (Some handle) changed value guid other =
+    let new : Interface = record { handle = handle; guid = changed; value = value } in
+    either_lasts h guid (not (is_live h handle) || list_any (is_on handle changed) h.interfaces) InvalidParameter (Ok (handle, record h { interfaces = placed new h.interfaces })) (placed_has guid new h.interfaces other)
+
+change_lasts : (h : HandleState) (handle : ℕ) (changed : Guid) (value : ℕ) (guid : Guid) (is : List Interface) → HasOf guid is ≡ HasOf guid h.interfaces → Lasts h guid (change_of h handle changed value is)
+change_lasts h handle changed value guid is same =
+    either_lasts h guid (not (is_live h handle)) InvalidParameter (cond (list_any (is_on_with handle changed value) h.interfaces) (Ok (tt, record h { interfaces = is })) (Err NotFound))
+    (found_lasts h guid (list_any (is_on_with handle changed value) h.interfaces) NotFound (Ok (tt, record h { interfaces = is })) same)
+
+-- a reply keeps it, unless it succeeds and the protocol is among these
+abbrev Keeps : DxeMachine → Guid → List Guid → DxeReply → Type 0
+Keeps m guid changed reply = is_among guid (cond (is_success reply.status) changed []) ≡ false → has_protocol reply.machine.handles guid ≡ has_protocol m.handles guid
+
+abbrev EffectKeeps : DxeMachine → Guid → List Guid → DxeEffect → Type 0
+EffectKeeps m guid changed (Called name reply) = Keeps m guid changed reply
+EffectKeeps m guid changed (Wrote registers status) = ⊤
+EffectKeeps m guid changed (Logged text) = ⊤
+EffectKeeps m guid changed (Skipped n) = ⊤
+EffectKeeps m guid changed (Returned status) = ⊤
+EffectKeeps m guid changed (Own own) = ⊤
+
+where_keeps : {A : Type 0} (m : DxeMachine) (guid : Guid) (changed : List Guid) (frame : DriverFrame) (argument : Option A) (reply : A → DxeReply) (status : Word) → ((a : A) → Keeps m guid changed (reply a))
+    → Keeps m guid changed (dxe_where argument reply m frame status)
+where_keeps m guid changed frame None reply status h = λ _. refl
+where_keeps m guid changed frame (Some a) reply status h = h a
+
+written_keeps : (m : DxeMachine) (guid : Guid) (changed : List Guid) (frame : DriverFrame) (r : ℕ) (n : Option ℕ) → EffectKeeps m guid changed (number_written frame.registers r n)
+written_keeps m guid changed frame r None = tt
+written_keeps m guid changed frame r (Some n) = tt
+
+installed_keeps : (m : DxeMachine) (guid : Guid) (frame : DriverFrame) (form h : ℕ) (changed : Guid) (value handle : ℕ) (new : HandleState) → (same_guid changed guid ≡ false → has_protocol new guid ≡ has_protocol m.handles guid)
+    → Keeps m guid (changed ∷ []) (installed_on m frame form h changed value handle new)
+installed_keeps m guid frame zero h changed value handle new k = λ none. k (or_false (same_guid changed guid) none)
+installed_keeps m guid frame (suc form) h changed value handle new k = λ none. k (or_false (same_guid changed guid) none)
+
+install_keeps : (m : DxeMachine) (guid : Guid) (frame : DriverFrame) (form h : ℕ) (changed : Guid) (value : ℕ) (service : HandleService ℕ) → (same_guid changed guid ≡ false → Lasts m.handles guid service)
+    → Keeps m guid (changed ∷ []) (install_answer service m frame form h changed value)
+install_keeps m guid frame form h changed value (Ok pair) k = installed_keeps m guid frame form h changed value pair.0 pair.1 k
+install_keeps m guid frame form h changed value (Err status) k = λ _. refl
+
+reinstall_keeps : (m : DxeMachine) (guid : Guid) (frame : DriverFrame) (sweep : ProtocolSweep) (service : HandleService (Unit {0})) → Lasts m.handles guid service → Keeps m guid [] (reinstall_answer service m frame sweep)
+reinstall_keeps m guid frame sweep (Ok pair) k = λ _. k
+reinstall_keeps m guid frame sweep (Err status) k = λ _. refl
+
+uninstall_keeps : (m : DxeMachine) (guid : Guid) (frame : DriverFrame) (changed : Guid) (service : HandleService (Unit {0})) → (same_guid changed guid ≡ false → Lasts m.handles guid service)
+    → Keeps m guid (changed ∷ []) (uninstall_answer service m frame)
+uninstall_keeps m guid frame changed (Ok pair) k = λ none. k (or_false (same_guid changed guid) none)
+uninstall_keeps m guid frame changed (Err status) k = λ _. refl
+
+either_keeps : (m : DxeMachine) (guid : Guid) (changed : List Guid) (b : Bool) (one other : DxeReply) → Keeps m guid changed one → Keeps m guid changed other → Keeps m guid changed (cond b one other)
+either_keeps m guid changed true one other h k = h
+either_keeps m guid changed false one other h k = k
+
+effect_keeps : (catalog : Catalog) (m : DxeMachine) (guid : Guid) (frame : DriverFrame) (action : Action) → EffectKeeps m guid (changed_protocols action) (dxe_effect catalog m frame action)
+effect_keeps catalog m guid frame (A.Set r n) = tt
+effect_keeps catalog m guid frame (A.Add r n) = written_keeps m guid [] frame r (option_map (λ old. (old + n) % 2 ^ 64) (number_in frame.registers r))
+effect_keeps catalog m guid frame (A.Peek v n) =
+    where_keeps m guid [] frame (number_in frame.registers v) (peek_reply m frame n) InvalidParameter
+    (λ at. where_keeps m guid [] frame (bytes_at m.store at n) (λ bytes. dxe_told m frame.registers (X.Bytes (record { items = bytes }))) NotFound (λ bytes _. refl))
+effect_keeps catalog m guid frame (A.DxeInstall form h changed v) =
+    where_keeps m guid (changed ∷ []) frame (both (install_target frame form h) (number_in frame.registers v)) (install_reply m frame form h changed) InvalidParameter
+    (λ pair. install_keeps m guid frame form h changed pair.1 (install_interface m.handles pair.0 changed pair.1) (install_lasts m.handles pair.0 changed pair.1 guid))
+effect_keeps catalog m guid frame (A.DxeReinstall h changed old new) =
+    where_keeps m guid [] frame (both (handle_in frame.registers h) (both (number_in frame.registers old) (number_in frame.registers new))) (reinstall_reply m frame changed) InvalidParameter
+    (λ triple. reinstall_keeps m guid frame (protocol_sweep m changed triple.1.1 triple.0) (reinstall_interface m.handles triple.0 changed triple.1.0 triple.1.1)
+    (change_lasts m.handles triple.0 changed triple.1.0 guid _ (valued_has guid (is_on_with triple.0 changed triple.1.0) triple.1.1 m.handles.interfaces)))
+effect_keeps catalog m guid frame (A.DxeUninstall h changed v) =
+    where_keeps m guid (changed ∷ []) frame (both (handle_in frame.registers h) (number_in frame.registers v)) (uninstall_reply m frame changed) InvalidParameter
+    (λ pair. uninstall_keeps m guid frame changed (uninstall_interface m.handles pair.0 changed pair.1)
+    (λ other. change_lasts m.handles pair.0 changed pair.1 guid _ (without_has guid (is_on_with pair.0 changed pair.1) m.handles.interfaces (λ i is. on_other pair.0 changed pair.1 guid i other is))))
+effect_keeps catalog m guid frame (A.DxeLocate h v changed) =
+    where_keeps m guid [] frame (locate_handle m.handles changed) (locate_reply m frame h v) NotFound (λ found _. refl)
+effect_keeps catalog m guid frame (A.DxeNotify changed block) = λ _. refl
+effect_keeps catalog m guid frame (A.Schedule name) = where_keeps m guid [] frame (unrequested_named catalog m name) (schedule_reply m frame) NotFound (λ number _. refl)
+effect_keeps catalog m guid frame (A.Process v) =
+    where_keeps m guid [] frame (number_in frame.registers v) (process_reply catalog m frame) InvalidParameter
+    (λ base. where_keeps m guid [] frame (volume_at catalog base) (process_volume catalog m frame) NotFound
+    (λ volume. either_keeps m guid [] (has_number m.discovered volume) (dxe_refusal m frame AlreadyStarted) (processed catalog m frame (newcomers catalog m.discovered (Some volume))) (λ _. refl) (λ _. refl)))
+effect_keeps catalog m guid frame A.Dispatch = λ _. refl
+effect_keeps catalog m guid frame (A.Log text) = tt
+effect_keeps catalog m guid frame (A.SkipIf condition n) = tt
+effect_keeps catalog m guid frame (A.Ret status) = tt
+effect_keeps catalog m guid frame (A.Addr v x offset) = tt
+effect_keeps catalog m guid frame (A.Pool r size) = tt
+effect_keeps catalog m guid frame (A.Store p offset bytes) = tt
+effect_keeps catalog m guid frame (A.Desc d kind other arg) = tt
+effect_keeps catalog m guid frame (A.Install list) = tt
+effect_keeps catalog m guid frame (A.Reinstall old new) = tt
+effect_keeps catalog m guid frame (A.Notify list) = tt
+effect_keeps catalog m guid frame (A.Locate d v other instance) = tt
+effect_keeps catalog m guid frame (A.Hob kind body) = tt
+effect_keeps catalog m guid frame (A.Memory begin length) = tt
+effect_keeps catalog m guid frame (A.Pages r memory_type count) = tt
+effect_keeps catalog m guid frame (A.BootMode form r) = tt
+effect_keeps catalog m guid frame A.Shadow = tt
+
+-- the machine behind an effect
+effect_lasts : (m : DxeMachine) (guid : Guid) (changed : List Guid) (frame : DriverFrame) (below : List DriverFrame) (e : DxeEffect) → EffectKeeps m guid changed e → is_among guid (cond (is_dxe_called e) changed []) ≡ false
+    → has_protocol (after_dxe_effect m frame below e).handles guid ≡ has_protocol m.handles guid
+effect_lasts m guid changed frame below (Wrote registers status) k none = refl
+effect_lasts m guid changed frame below (Called name reply) k none = k none
+effect_lasts m guid changed frame below (Logged text) k none = refl
+effect_lasts m guid changed frame below (Skipped n) k none = refl
+effect_lasts m guid changed frame below (Returned status) k none = refl
+effect_lasts m guid changed frame below (Own own) k none = absurd own
+
+fired_lasts : (m : DxeMachine) (guid : Guid) (b : Bool) (one other : DxeMachine) → one.handles ≡ m.handles → other.handles ≡ m.handles → has_protocol (cond b one other).handles guid ≡ has_protocol m.handles guid
+fired_lasts m guid true one other h k = ap (λ s. has_protocol s guid) h
+fired_lasts m guid false one other h k = ap (λ s. has_protocol s guid) k
+
+acted_lasts : (m : DxeMachine) (guid : Guid) (b : Bool) (one other : DxeMachine) (changed : List Guid) → one.handles ≡ m.handles → (is_among guid changed ≡ false → has_protocol other.handles guid ≡ has_protocol m.handles guid)
+    → is_among guid (cond b [] changed) ≡ false → has_protocol (cond b one other).handles guid ≡ has_protocol m.handles guid
+acted_lasts m guid true one other changed h k none = ap (λ s. has_protocol s guid) h
+acted_lasts m guid false one other changed h k none = k none
+
+started_lasts : (catalog : Catalog) (m : DxeMachine) (next : Scheduled) (queue : List Scheduled) (part : Option Part) → (driver_started catalog m next queue part).handles ≡ m.handles
+started_lasts catalog m next queue None = refl
+started_lasts catalog m next queue (Some part) = refl
+
+case_lasts : (catalog : Catalog) (fuel : ℕ) (m : DxeMachine) (guid : Guid) (case : DxeCase) → is_among guid (dxe_case_guids catalog fuel m case) ≡ false
+    → has_protocol (in_dxe_case catalog fuel m case).handles guid ≡ has_protocol m.handles guid
+case_lasts catalog fuel m guid (DxeFires note sweep frame below) none =
+    fired_lasts m guid (nat_le 64 (length m.frames)) (record m { ended = Some DxeEnds.Deep }) (protocol_begun catalog m note sweep frame below) refl refl
+case_lasts catalog fuel m guid (DxeActs frame below) none =
+    let action = dxe_action_at catalog frame in
+    let does : DxeEffect = dxe_effect catalog (with_action m) frame action in
+    acted_lasts m guid (nat_le fuel m.actions) (record m { ended = Some DxeEnds.Spent }) (after_dxe_effect (with_action m) frame below does) (dxe_action_guids catalog (with_action m) frame action) refl
+    (effect_lasts (with_action m) guid (changed_protocols action) frame below does (effect_keeps catalog (with_action m) guid frame action)) none
+case_lasts catalog fuel m guid (DxeStarts next queue) none = ap (λ s. has_protocol s guid) (started_lasts catalog m next queue (part_at Dxe catalog next.module_number))
+case_lasts catalog fuel m guid DxeStops none = refl
+
+pub protocols_change : (catalog : Catalog) (fuel : ℕ) (m : DxeMachine) (guid : Guid) → is_among guid (dxe_guids catalog fuel m) ≡ false → has_protocol (dxe_step catalog fuel m).handles guid ≡ has_protocol m.handles guid
+protocols_change catalog fuel m guid none = case_lasts catalog fuel m guid (dxe_case_of catalog m) none
