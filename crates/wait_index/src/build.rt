@@ -23,7 +23,8 @@ fn protocols_of(alloc: Global, watch: &mut Watch, phase: Phase) -> Result<Seq<us
     requires { IsNumbering watch.old }
     ensures numbering { OnOk result (IsNumbering watch.new) }
     ensures kept { OnOk result (Covers (λ guid. false) watch.old watch.new) }
-    ensures slots { IfOk result (λ slots. phase ≡ Phase.Dxe → EachPair (λ guid slot. value_of watch.new.slots guid ≡ Some slot) ARCHITECTURAL slots) }
+    ensures slots { IfOk result (λ slots. phase ≡ Phase.Dxe → EachPair (λ guid slot. value_of watch.new.slots guid ≡ Some slot)
+        ARCHITECTURAL slots) }
 {
     match phase {
         Phase::Pei => Ok(Seq::new(alloc)),

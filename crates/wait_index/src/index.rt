@@ -136,7 +136,8 @@ impl WaitIndex {
     /// The place of a module. None where its volume is not known, or it has no part.
     pub fn place_of(&self, number: u32) -> Option<u32>
         ensures place { result ≡ place_in self.now number }
-        ensures at { (catalog : OfCatalog) → IsIndex catalog self.now → (place : ℕ) → (result ≡ Some place) ↔ (slice_get (order_in self.now) place ≡ Some number) }
+        ensures at { (catalog : OfCatalog) → IsIndex catalog self.now → (place : ℕ)
+            → (result ≡ Some place) ↔ (slice_get (order_in self.now) place ≡ Some number) }
     {
         self.places.standing(number).place
     }

@@ -14,7 +14,8 @@ ghost use Rattle.wait_index.specs.Dispatch.{StandsForPei, StandsForDxe};
 
 /// Whether a tree holds depends on the GUIDs alone that it pushes.
 pub fn truth_asks_what_is_pushed()
-    ensures { (has other : Guid → Bool) (node : DepexTree) → ((guid : Guid) → tree_pushes guid node ≡ true → has guid ≡ other guid) → truth has node ≡ truth other node }
+    ensures { (has other : Guid → Bool) (node : DepexTree) → ((guid : Guid) → tree_pushes guid node ≡ true → has guid ≡ other guid)
+        → truth has node ≡ truth other node }
 {}
 
 /// Over an index that stands for the machine in PEI, `next` from the machine's cursor gives the next PEIM.
@@ -31,10 +32,12 @@ pub fn next_is_the_first_eligible_driver()
 
 /// In PEI the parts that wait and push a GUID are those that the bound on evaluations counts.
 pub fn asked_are_those_of_the_bound_in_pei()
-    ensures { (catalog : Catalog) (m : PeiMachine) (index : Index) → StandsForPei catalog m index → (guid : Guid) → asked catalog index guid ≡ pei_asked catalog m guid }
+    ensures { (catalog : Catalog) (m : PeiMachine) (index : Index) → StandsForPei catalog m index → (guid : Guid)
+        → asked catalog index guid ≡ pei_asked catalog m guid }
 {}
 
 /// In DXE too.
 pub fn asked_are_those_of_the_bound_in_dxe()
-    ensures { (catalog : Catalog) (m : DxeMachine) (index : Index) → StandsForDxe catalog m index → (guid : Guid) → asked catalog index guid ≡ dxe_asked catalog m guid }
+    ensures { (catalog : Catalog) (m : DxeMachine) (index : Index) → StandsForDxe catalog m index → (guid : Guid)
+        → asked catalog index guid ≡ dxe_asked catalog m guid }
 {}

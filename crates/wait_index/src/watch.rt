@@ -172,7 +172,8 @@ fn note_opcode(
 ) -> Result<(), OutOfMemory>
     requires below { IsBelow slots.now (length lists.old.items) }
     requires apart { AreApart slots.now }
-    ensures { OnOk result (AreNoted slots.now (λ guid list. if opcode_pushes guid opcode.now then noted list number else list) lists.old.items lists.new.items) }
+    ensures { OnOk result (AreNoted slots.now (λ guid list. if opcode_pushes guid opcode.now then noted list number else list)
+        lists.old.items lists.new.items) }
 {
     if let Opcode::Push(guid) = opcode {
         if let Some(slot) = slots.get(guid) {
