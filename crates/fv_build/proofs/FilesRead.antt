@@ -1,24 +1,23 @@
 -- The files of a built volume are read again.
-use Rattle.std.proofs.Common.{◌≡◌, ◌≢◌, ℕ, suc, ◌+◌, ◌-◌, ◌*◌, ◌%◌, ◌<◌, ◌≤◌, ◌^◌, Bool, true, false, cond, List, [], ◌∷◌, ◌++◌, length, take, drop, map, sum, filter, replicate, refl, sym, ap, ◌∙◌, arith, append_assoc, length-append, All, subst}
+use Rattle.std.proofs.Common.{◌≡◌, ℕ, suc, ◌+◌, ◌-◌, ◌%◌, ◌<◌, ◌≤◌, ◌^◌, Bool, true, false, cond, List, [], ◌∷◌, ◌++◌, length, take, drop, map, sum, replicate, refl, sym, ap, ◌∙◌, arith, append_assoc, length-append, All, subst}
 use Rattle.std.proofs.lemmas.Bool.Decides.{nat_tests}
-use Rattle.std.proofs.lemmas.List.{append-nil, length-replicate}
-use Rattle.std.proofs.lemmas.List.Elements.{All-tail, All-cons}
-use Rattle.std.proofs.lemmas.List.Sums.{sum_by-append, sum_by-cons}
-use Rattle.std.specs.Prelude.{nat_lt, ◌==◌, ◌||◌, not}
+use Rattle.std.proofs.lemmas.List.{length-replicate}
+use Rattle.std.proofs.lemmas.List.Elements.{All-tail}
+use Rattle.std.proofs.lemmas.List.Sums.{sum_by-append}
+use Rattle.std.specs.Prelude.{◌==◌, not}
 use Rattle.std.specs.List.{list_any}
 use Rattle.pi_base.specs.Field.{little_bytes}
 use Rattle.fv_volume.specs.declared.file.FfsFile.{FfsFile}
 use Rattle.fv_volume.specs.Frame.{aligned}
-use Rattle.fv_volume.proofs.Spelled.{fields, attributes_of, Lists, lists_none, lists_file, IsSpelled, listed_file}
+use Rattle.fv_volume.proofs.Spelled.{Lists, lists_none, lists_file, IsSpelled, listed_file}
 use Rattle.fv_build.specs.declared.file_header.FileHead.{FileHead}
 use Rattle.fv_build.specs.declared.new_file.NewFile.{NewFile}
-use Rattle.fv_build.specs.declared.new_file.NewSection.{NewSection}
 use Rattle.fv_build.specs.FileSystems.{FileSystem, Ffs2, Ffs3}
 use Rattle.fv_build.specs.Placing.{gap, laid}
 use Rattle.fv_build.specs.Checksum.{checksum8}
 use Rattle.fv_build.specs.Sections.{body_bytes, is_section_too_long}
-use Rattle.fv_build.specs.Files.{is_large, file_size, short_fields, extended_size, header_with, file_header, head_of, file_bytes, is_past_size, is_file_too_long, HasWholeName}
-use Rattle.fv_build.specs.Reading.{AreEach, IsFileRead, AreReadable, AreSectionsRead, listed}
+use Rattle.fv_build.specs.Files.{is_large, short_fields, extended_size, header_with, file_header, file_bytes, is_past_size, is_file_too_long, HasWholeName}
+use Rattle.fv_build.specs.Reading.{AreEach, IsFileRead, AreSectionsRead, listed}
 use Rattle.fv_build.proofs.Flags.{or_first, none_pass}
 use Rattle.fv_build.proofs.Parts.{drop_behind, room_at, drop_text, take_text}
 use Rattle.fv_build.proofs.Sizes.{not_past}

@@ -1,10 +1,10 @@
 -- The bytes of a volume's header.
-use Rattle.std.proofs.Common.{◌≡◌, ℕ, ◌+◌, ◌-◌, ◌%◌, ◌<◌, List, ◌++◌, length, take, drop, replicate, sum, refl, ap, ◌∙◌, arith}
+use Rattle.std.proofs.Common.{◌≡◌, ℕ, ◌+◌, ◌%◌, ◌<◌, List, ◌++◌, length, take, drop, replicate, sum, refl, ap, ◌∙◌, arith}
 use Rattle.std.proofs.Math.ListN.{set}
 use borrow.Rule.Slice.PartMut.{put_mid}
 use Rattle.pi_base.specs.Field.{little_bytes, words_of}
 use Rattle.fv_build.specs.FileSystems.{FileSystem, Ffs2, Ffs3, file_system_guid}
-use Rattle.fv_build.specs.Checksum.{checksum8, checksum16}
+use Rattle.fv_build.specs.Checksum.{checksum16}
 use Rattle.fv_build.specs.Header.{header_with}
 
 -- bytes with a text written over a part

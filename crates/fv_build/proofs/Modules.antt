@@ -1,5 +1,5 @@
 -- The modules of the generated volume: their scripts are right, and nothing stands against the volume.
-use Rattle.std.proofs.Common.{◌≡◌, ℕ, zero, suc, ◌+◌, ◌-◌, ◌*◌, ◌/◌, ◌<◌, ◌≤◌, ◌^◌, Bool, true, false, cond, List, [], ◌∷◌, ◌++◌, length, map, min, replicate, Option, Some, None, refl, sym, ap, ◌∙◌, arith, length-append, Result, Ok, Err, IfErr}
+use Rattle.std.proofs.Common.{◌≡◌, ℕ, zero, suc, ◌+◌, ◌-◌, ◌*◌, ◌<◌, ◌≤◌, ◌^◌, Bool, true, false, cond, List, [], ◌∷◌, ◌++◌, length, map, min, replicate, Option, Some, None, refl, sym, ap, ◌∙◌, arith, length-append, Result, Ok, Err, IfErr}
 use Rattle.std.proofs.lemmas.Bool.Decides.{nat_tests}
 use Rattle.std.proofs.lemmas.List.{length-replicate, length-map}
 use Rattle.std.specs.Prelude.{nat_lt, ◌==◌, ◌||◌, ◌&&◌}
@@ -10,7 +10,7 @@ use Rattle.pi_base.specs.declared.word.Word.TheVariants.{Success}
 use Rattle.act_code.specs.declared.action.Action.{Action}
 use Rattle.act_code.specs.declared.action.Action.TheVariants.{Set, Desc, Install, Memory, Ret}
 use Rattle.act_code.specs.declared.action.GuidArg.TheVariants.{Inline}
-use Rattle.act_code.specs.Script.{IsInGrammar, IsBlock, IsSound, IsAction, AreSound, Each}
+use Rattle.act_code.specs.Script.{IsInGrammar, IsBlock, IsSound, AreSound}
 use Rattle.fv_build.specs.declared.generated.TheConstants.{DXE_IPL_PPI}
 use Rattle.fv_build.specs.declared.new_file.NewSection.{NewSection}
 use Rattle.fv_build.specs.FileSystems.{Ffs2}

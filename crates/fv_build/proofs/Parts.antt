@@ -1,8 +1,7 @@
 -- Parts of bytes that stand at a place.
-use Rattle.std.proofs.Common.{◌≡◌, ℕ, ◌+◌, ◌-◌, ◌≤◌, List, [], ◌∷◌, ◌++◌, length, take, drop, refl, sym, ap, ◌∙◌, arith, get_or-drop, length-drop, length-append}
+use Rattle.std.proofs.Common.{◌≡◌, ℕ, ◌+◌, ◌-◌, List, ◌++◌, length, take, drop, sym, ap, ◌∙◌, length-drop}
 use Rattle.std.proofs.lemmas.List.{drop-drop}
 use Rattle.std.proofs.Math.Seq.{drop-append_seam, take-append_seam}
-use Rattle.std.specs.Prelude.{slice_index}
 
 -- what stands behind a place
 pub drop_behind : (n at : ℕ) (bytes here : List ℕ) → drop at bytes ≡ here → drop (at + n) bytes ≡ drop n here

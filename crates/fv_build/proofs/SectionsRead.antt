@@ -1,13 +1,13 @@
 -- The sections of a built file are read again.
-use Rattle.std.proofs.Common.{◌≡◌, ◌≢◌, ℕ, suc, ◌+◌, ◌-◌, ◌<◌, ◌≤◌, Bool, true, false, List, [], ◌∷◌, ◌++◌, length, take, drop, map, replicate, Result, Ok, Err, refl, sym, ap, ◌∙◌, arith, append_assoc, length-append, All, subst}
+use Rattle.std.proofs.Common.{◌≡◌, ◌≢◌, ℕ, suc, ◌+◌, ◌-◌, ◌<◌, ◌≤◌, Bool, true, false, List, [], ◌∷◌, ◌++◌, length, take, drop, map, replicate, Ok, refl, sym, ap, ◌∙◌, arith, append_assoc, length-append, All, subst}
 use Rattle.std.proofs.lemmas.Bool.Decides.{nat_tests}
-use Rattle.std.proofs.lemmas.List.{append-nil, length-replicate}
+use Rattle.std.proofs.lemmas.List.{length-replicate}
 use Rattle.std.proofs.lemmas.List.Elements.{All-tail}
-use Rattle.std.specs.Prelude.{nat_lt, if◌then◌else◌}
+use Rattle.std.specs.Prelude.{if◌then◌else◌}
 use Rattle.pi_base.specs.Field.{little_bytes}
 use Rattle.fv_section.specs.declared.section.Section.{Section}
 use Rattle.fv_section.specs.SectionHeader.{section_at}
-use Rattle.fv_section.specs.Stream.{aligned, Leads, AreSections}
+use Rattle.fv_section.specs.Stream.{aligned, Leads}
 use Rattle.fv_section.proofs.Spelled.{short_section, long_section}
 use Rattle.fv_build.specs.declared.new_file.NewSection.{NewSection}
 use Rattle.fv_build.specs.FileSystems.{FileSystem, Ffs2, Ffs3}

@@ -1,20 +1,20 @@
 -- Sizes as numbers and as lengths of bytes.
-use Rattle.std.proofs.Common.{◌≡◌, ℕ, ◌+◌, ◌-◌, ◌^◌, ◌<◌, ◌≤◌, zero, suc, replicate, Bool, true, false, List, [], ◌∷◌, ◌++◌, length, map, min, refl, sym, ap, ◌∙◌, arith, length-append, inl, inr, get_or, take}
+use Rattle.std.proofs.Common.{◌≡◌, ℕ, ◌+◌, ◌<◌, ◌≤◌, zero, suc, replicate, Bool, true, false, List, [], ◌∷◌, ◌++◌, length, map, min, refl, sym, ap, ◌∙◌, arith, length-append, inl, inr, get_or, take}
 use Rattle.std.proofs.lemmas.Bool.{cases_lt}
 use Rattle.std.proofs.lemmas.Bool.Decides.{nat_tests}
 use Rattle.std.proofs.lemmas.List.{map-append, take_more}
 use Rattle.std.specs.List.{list_any}
-use Rattle.std.specs.Prelude.{nat_lt, ◌||◌, ◌⊎◌, if◌then◌else◌}
+use Rattle.std.specs.Prelude.{nat_lt, if◌then◌else◌}
 use Rattle.pi_base.specs.Field.{little_bytes}
 use Rattle.fv_build.specs.declared.new_file.NewFile.{NewFile}
 use Rattle.fv_build.specs.declared.new_file.NewSection.{NewSection}
 use Rattle.fv_build.specs.FileSystems.{FileSystem, Ffs2, Ffs3}
 use Rattle.fv_build.specs.Placing.{gap, laid}
-use Rattle.fv_build.specs.Sections.{is_extended, section_size, section_header, section_bytes, body_bytes, is_section_too_long}
+use Rattle.fv_build.specs.Sections.{is_extended, section_size, section_bytes, body_bytes, is_section_too_long}
 use Rattle.fv_build.specs.Files.{is_large, file_size, file_header, head_of, file_with, file_bytes, is_past_size, is_file_too_long}
 use Rattle.fv_build.specs.Building.{need}
 use Rattle.fv_build.proofs.Flags.{or_second}
-use Rattle.fv_build.proofs.Placings.{laid_more, length-laid_more}
+use Rattle.fv_build.proofs.Placings.{length-laid_more}
 
 -- a sum that stands still at its last value
 pub saturated : (most true_end end : ℕ) (skip : ℕ → ℕ) (place size true_size next : ℕ)

@@ -1,17 +1,15 @@
 -- A built volume is read again.
-use Rattle.std.proofs.Common.{◌≡◌, ℕ, zero, suc, ◌+◌, ◌-◌, ◌*◌, ◌%◌, ◌/◌, ◌<◌, ◌≤◌, ◌^◌, Bool, true, false, cond, List, [], ◌∷◌, ◌++◌, length, take, drop, map, min, sum, replicate, Option, Some, None, refl, sym, ap, ◌∙◌, arith, append_assoc, length-append, All, subst}
+use Rattle.std.proofs.Common.{◌≡◌, ℕ, zero, suc, ◌+◌, ◌-◌, ◌*◌, ◌%◌, ◌/◌, ◌<◌, ◌≤◌, ◌^◌, Bool, true, false, cond, List, [], ◌∷◌, ◌++◌, length, take, drop, sum, replicate, Some, None, refl, sym, ap, ◌∙◌, arith, length-append, All}
 use Rattle.std.proofs.lemmas.Bool.Decides.{nat_tests}
-use Rattle.std.proofs.lemmas.List.{append-nil, length-replicate}
-use Rattle.std.proofs.lemmas.List.Elements.{All-cons}
+use Rattle.std.proofs.lemmas.List.{length-replicate}
 use Rattle.std.proofs.lemmas.List.Sums.{sum_by-append, sum_by-cons}
 use Rattle.std.specs.Prelude.{nat_lt}
 use Rattle.std.specs.List.{list_any}
 use Rattle.pi_base.specs.Field.{little_bytes, words_of}
 use Rattle.fv_volume.proofs.SpelledHeaders.{spelled_header, volume_read}
 use Rattle.fv_build.specs.declared.fault.BuildFault.{BuildFault}
-use Rattle.fv_build.specs.declared.fault.BuildFault.TheVariants.{TooMany, Size, NoRoom}
 use Rattle.fv_build.specs.declared.new_file.NewFile.{NewFile}
-use Rattle.fv_build.specs.FileSystems.{FileSystem, Ffs2, Ffs3, file_system_guid}
+use Rattle.fv_build.specs.FileSystems.{FileSystem, Ffs2, Ffs3}
 use Rattle.fv_build.specs.Checksum.{checksum16}
 use Rattle.fv_build.specs.Header.{header_with, volume_header}
 use Rattle.fv_build.specs.Files.{is_file_too_long, HasWholeName}

@@ -1,5 +1,5 @@
 -- What the readers of volumes and sections read of a built volume.
-use Rattle.std.specs.Prelude.{◌≡◌, ◌≢◌, ◌≤◌, ℕ, ⊤, Bool, not, ◌==◌, List, [], ◌∷◌, length, take, drop, filter, Option, None, All}
+use Rattle.std.specs.Prelude.{◌≡◌, ◌≢◌, ◌≤◌, ℕ, ⊤, not, ◌==◌, List, [], ◌∷◌, length, take, drop, filter, None, All}
 use Rattle.fv_volume.specs.declared.file.FfsFile.{FfsFile}
 use Rattle.fv_volume.specs.declared.file_type.TheConstants.{PAD}
 use Rattle.fv_volume.specs.declared.volume.Volume.{Volume}
@@ -10,8 +10,6 @@ use Rattle.fv_section.specs.declared.stream.TheConstants.{MOST_SECTIONS}
 use Rattle.fv_section.specs.Stream.{AreSections}
 use Rattle.fv_build.specs.declared.new_file.NewFile.{NewFile}
 use Rattle.fv_build.specs.declared.new_file.NewSection.{NewSection}
-use Rattle.fv_build.specs.FileSystems.{FileSystem}
-use Rattle.fv_build.specs.Sections.{body_bytes}
 
 -- as many things of one list as of the other, each pair of them related
 abbrev pub AreEach : {A B : Type 0} → (A → B → Type 0) → List A → List B → Type 0

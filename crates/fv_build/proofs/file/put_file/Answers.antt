@@ -1,4 +1,4 @@
-use Rattle.std.proofs.Common.{◌≡◌, ℕ, ◌<◌, ◌++◌, Bool, true, false, length, min, sym, ap, ◌∙◌, refl, arith, append_assoc}
+use Rattle.std.proofs.Common.{◌≡◌, ◌<◌, ◌++◌, Bool, true, false, length, min, sym, ap, ◌∙◌, refl, arith, append_assoc}
 use Rattle.std.specs.Bool.{OnFalse}
 use Rattle.fv_build.specs.Sections.{body_bytes}
 use Rattle.fv_build.specs.Files.{is_large, is_past_size, file_size, file_header, head_of}

@@ -1,4 +1,4 @@
-use Rattle.std.proofs.Common.{◌≡◌, List, None, sym, ap, ◌∙◌, subst, arith}
+use Rattle.std.proofs.Common.{◌≡◌, None, ap, ◌∙◌}
 use Rattle.fv_build.specs.FileSystems.{Ffs2}
 use Rattle.fv_build.specs.Building.{fault_of}
 use Rattle.fv_build.proofs.Modules.{none_against, only_memory}

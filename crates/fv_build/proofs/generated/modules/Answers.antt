@@ -1,4 +1,4 @@
-use Rattle.std.proofs.Common.{◌≡◌, ℕ, suc, ◌-◌, ◌≤◌, List, [], ◌∷◌, ◌++◌, map, sym, ap, ◌∙◌, arith, append_assoc}
+use Rattle.std.proofs.Common.{◌≡◌, ℕ, suc, ◌-◌, List, [], ◌∷◌, ◌++◌, map, ap, ◌∙◌, arith, append_assoc}
 use Rattle.fv_build.specs.declared.new_file.NewFile.{NewFile}
 use Rattle.fv_build.specs.Generated.{module_of, downward}
 use Rattle.fv_build.proofs.generated.modules.Goals as goal

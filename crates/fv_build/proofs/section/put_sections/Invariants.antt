@@ -1,4 +1,4 @@
-use Rattle.std.proofs.Common.{◌≡◌, ◌++◌, length, take}
+use Rattle.std.proofs.Common.{◌≡◌, ◌++◌, take}
 use Rattle.fv_build.specs.Sections.{body_bytes}
 use Rattle.fv_build.proofs.section.put_sections.Given as goal
 

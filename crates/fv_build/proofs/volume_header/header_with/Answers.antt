@@ -1,4 +1,4 @@
-use Rattle.std.proofs.Common.{◌≡◌, ap, ◌∙◌, replicate}
+use Rattle.std.proofs.Common.{ap, ◌∙◌, replicate}
 use Rattle.std.proofs.Math.ListN.{set}
 use borrow.Rule.Slice.PartMut.{put_mid}
 use Rattle.pi_base.specs.Field.{little_bytes}
