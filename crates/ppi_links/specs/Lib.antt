@@ -1,5 +1,0 @@
-pub mod Linked
-pub mod NewEntry
-pub mod Node
-pub mod DescRead
-pub mod Popped
