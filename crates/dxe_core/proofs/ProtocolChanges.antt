@@ -1,5 +1,5 @@
 -- A step of DXE changes which protocols are on the handles only for that of its event.
-use Rattle.std.proofs.Common.{◌≡◌, ℕ, zero, suc, ◌+◌, Bool, true, false, ◌&&◌, ◌||◌, not, cond, List, [], ◌∷◌, ◌++◌, Option, Some, None, Ok, Err, refl, sym, ap, ◌∙◌, nat_le, nat_lt, length, option_map}
+use Rattle.std.proofs.Common.{◌≡◌, ℕ, zero, suc, ◌+◌, Bool, true, false, ◌&&◌, ◌||◌, not, cond, List, [], ◌∷◌, Option, Some, None, Ok, Err, refl, sym, ap, ◌∙◌, nat_le, nat_lt, length, option_map}
 use Rattle.std.specs.Prelude.{◌%◌, ◌^◌, ⊤}
 use Rattle.std.specs.List.{list_any}
 use Rattle.std.proofs.lemmas.List.Folds.{list_any-append}
@@ -16,7 +16,7 @@ use Rattle.catalog_model.specs.declared.catalog.Part.{Part}
 use Rattle.catalog_model.specs.Parts.{has_number, part_at, volume_at}
 use Rattle.store_model.specs.declared.interface.Interface.{Interface}
 use Rattle.store_model.specs.MemoryReading.{bytes_at}
-use Rattle.store_model.specs.HandleState.{HandleState, HandleService, change_of, has_protocol, install_interface, install_on, is_live, is_on, is_on_with, locate_handle, placed, reinstall_interface, uninstall_interface, with_value, without}
+use Rattle.store_model.specs.HandleState.{HandleState, HandleService, change_of, has_protocol, install_interface, is_live, is_on, is_on_with, locate_handle, placed, reinstall_interface, uninstall_interface, with_value, without}
 use Rattle.boot_model.specs.declared.driver.ProtocolSweep.{ProtocolSweep}
 use Rattle.boot_model.specs.declared.driver.Scheduled.{Scheduled}
 use Rattle.boot_model.specs.declared.line.Extra.TheVariants as X
@@ -24,7 +24,7 @@ use Rattle.boot_model.specs.declared.phase_end.DxeEnd.TheVariants as DxeEnds
 use Rattle.boot_model.specs.Reporting.{newcomers}
 use Rattle.boot_model.specs.Registers.{both, handle_in, is_success, number_in}
 use Rattle.boot_model.specs.DxeMachine.{DxeMachine, DriverFrame}
-use Rattle.boot_model.specs.DxeAction.{DxeReply, DxeEffect, Wrote, Called, Logged, Skipped, Returned, Own, dxe_effect, dxe_told, dxe_where, dxe_refusal, processed, process_volume, process_reply, peek_reply, number_written, install_answer, installed_on, install_target, install_reply, reinstall_answer, reinstall_reply, protocol_sweep, uninstall_answer, uninstall_reply, locate_reply, notify_reply, unrequested_named, schedule_reply}
+use Rattle.boot_model.specs.DxeAction.{DxeReply, DxeEffect, Wrote, Called, Logged, Skipped, Returned, Own, dxe_effect, dxe_told, dxe_where, dxe_refusal, processed, process_volume, process_reply, peek_reply, number_written, install_answer, installed_on, install_target, install_reply, reinstall_answer, reinstall_reply, protocol_sweep, uninstall_answer, uninstall_reply, locate_reply, unrequested_named, schedule_reply}
 use Rattle.boot_model.specs.DxeStep.{DxeCase, DxeFires, DxeActs, DxeStarts, DxeStops, dxe_case_of, dxe_step, in_dxe_case, protocol_begun, after_dxe_effect, with_action, dxe_action_at, driver_started}
 use Rattle.boot_model.specs.EvaluationBound.{changed_protocols, dxe_action_guids, dxe_case_guids, dxe_guids, is_dxe_called}
 use Rattle.boot_laws.specs.ChangedGuids.{is_among}
