@@ -28,7 +28,8 @@ fn are_indexed(registers: &[u8], blocks: &[u8], count: u8) -> bool
 
 // The same for a descriptor's operands.
 fn is_descriptor_indexed(d: u8, kind: u8, guid: &GuidArg, arg: u8, count: u8) -> bool
-    ensures { result ≡ are_indexed (registers_in (Pair RegisterNumber Descriptor) (d, (kind, guid.now, arg))) (blocks_in (Pair RegisterNumber Descriptor) (d, (kind, guid.now, arg))) count }
+    ensures { result ≡ are_indexed (registers_in (Pair RegisterNumber Descriptor) (d, (kind, guid.now, arg)))
+        (blocks_in (Pair RegisterNumber Descriptor) (d, (kind, guid.now, arg))) count }
 {
     match guid {
         GuidArg::Inline(_) => {

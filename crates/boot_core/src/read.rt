@@ -38,7 +38,8 @@ pub(crate) fn read_file<F: Files, S: Sink>(
       files_now = F.faults files.new;
       missed = F.missed files.new;
     })) }
-    ensures refused { IfErr result (λ status. Ends (LongOutcome (F.told files.old name.now) limit name.now) (λ n. n ≡ name.now) ⊥ status (record {
+    ensures refused { IfErr result
+        (λ status. Ends (LongOutcome (F.told files.old name.now) limit name.now) (λ n. n ≡ name.now) ⊥ status (record {
       old = S.text sink.old;
       new = S.text sink.new;
       sink_before = S.faults sink.old;
@@ -92,7 +93,8 @@ pub(crate) fn read_volumes<F: Files, S: Sink>(
       files_now = F.faults files.new;
       missed = F.missed files.new;
     })) }
-    ensures refused { IfErr result (λ status. Ends (LongVolume (F.told files.old) volumes.now) (IsReached (F.told files.old) volumes.now) ⊥ status (record {
+    ensures refused { IfErr result
+        (λ status. Ends (LongVolume (F.told files.old) volumes.now) (IsReached (F.told files.old) volumes.now) ⊥ status (record {
       old = S.text sink.old;
       new = S.text sink.new;
       sink_before = S.faults sink.old;

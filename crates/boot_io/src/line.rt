@@ -41,7 +41,8 @@ fn gather_words<S: Sink>(
     line: &mut Gathered,
     words: &[&[u8]],
 ) -> Result<(), SinkFault>
-    ensures text { Gathers result (S.text sink.old) (S.text sink.new) line.old.items line.new.items (flat_map spaced (words_now words.now)) }
+    ensures text { Gathers result (S.text sink.old) (S.text sink.new) line.old.items line.new.items
+        (flat_map spaced (words_now words.now)) }
     ensures cause { SinkFaultsAfter result (S.faults sink.old) (S.faults sink.new) }
 {
     for word in words {

@@ -12,7 +12,8 @@ ghost use Rattle.catalog_model.specs.declared.image_fault.ImageFault.{ImageFault
 
 /// The images of a plan have one catalogue at most, or one first fault, and never both.
 pub fn one_catalogue()
-    ensures catalogues { (plan : Plan) (images : List (List ℕ)) (a b : Catalog) → IsCatalogue plan images a → IsCatalogue plan images b → a ≡ b }
+    ensures catalogues { (plan : Plan) (images : List (List ℕ)) (a b : Catalog) → IsCatalogue plan images a → IsCatalogue plan images b
+        → a ≡ b }
     ensures faults { (plan : Plan) (images : List (List ℕ)) (a b : ImageFault) → Each AreBytes images
         → IsImageFault plan images a → IsImageFault plan images b → a ≡ b }
     ensures apart { (plan : Plan) (images : List (List ℕ)) (catalog : Catalog) (fault : ImageFault) → Each AreBytes images

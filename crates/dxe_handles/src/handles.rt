@@ -32,7 +32,8 @@ impl Model for Handles {
 
     ghost view = { λ h. record { interfaces = h.interfaces.items; made = h.made } };
 
-    ghost invariant = { λ h. IsHandleState (record { interfaces = h.interfaces.items; made = h.made }) × IsIndex h.holders h.interfaces.items };
+    ghost invariant = { λ h. IsHandleState (record { interfaces = h.interfaces.items; made = h.made })
+        × IsIndex h.holders h.interfaces.items };
 }
 
 /// Puts an interface at a place, and its handle among those that have the protocol. Where memory is wanting both stay as they were.
@@ -45,7 +46,8 @@ fn add(
     requires within { at ≤ length interfaces.old.items }
     requires rises { Rises (holders_of holders.old interface.guid) }
     ensures placed { OnOk result (interfaces.new.items ≡ insert interfaces.old.items at interface) }
-    ensures held { OnOk result (HasInstead holders.old interface.guid (with_handle interface.handle (holders_of holders.old interface.guid)) holders.new) }
+    ensures held { OnOk result
+        (HasInstead holders.old interface.guid (with_handle interface.handle (holders_of holders.old interface.guid)) holders.new) }
     ensures same { OnErr result (interfaces.new.items ≡ interfaces.old.items) }
     ensures still { OnErr result (HaveStill holders.old holders.new) }
 {

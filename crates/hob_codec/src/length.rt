@@ -36,7 +36,8 @@ pub const VOLUME2_LEN: u16 = 56;
 fn with_body(before: usize, body: &[u8]) -> Option<u16>
     requires short { before ≤ 24 }
     requires aligned { before % 8 ≡ 0 }
-    ensures { result ≡ (if nat_le (before + padded_len (length body.now)) 65528 then Some (before + padded_len (length body.now)) else None) }
+    ensures { result
+        ≡ (if nat_le (before + padded_len (length body.now)) 65528 then Some (before + padded_len (length body.now)) else None) }
 {
     if body.len() > MOST_LEN - before {
         return None;

@@ -27,7 +27,9 @@ impl HobPlace {
 
     // The HOB at a place of a list, or the list's fault there.
     fn at(bytes: &[u8], at: usize) -> Result<HobPlace, HobFault>
-        ensures { MatchResult result (λ place. (fault_at bytes.now at ≡ None) × (place ≡ place_at bytes.now at) × (8 ≤ place.length) × (at + place.length ≤ length bytes.now)) (λ fault. fault_at bytes.now at ≡ Some fault) }
+        ensures { MatchResult result
+            (λ place. (fault_at bytes.now at ≡ None) × (place ≡ place_at bytes.now at) × (8 ≤ place.length)
+            × (at + place.length ≤ length bytes.now)) (λ fault. fault_at bytes.now at ≡ Some fault) }
     {
         if at >= bytes.len() {
             return Err(HobFault::NoEnd);

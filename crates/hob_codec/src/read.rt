@@ -42,9 +42,11 @@ fn body_at(bytes: &[u8], at: usize) -> &[u8]
 ///
 /// Faults, in this order: `Short` where fewer than 8 bytes are left, `Length` where HobLength is below 8, no multiple of 8 or more than is left, `Form` where a type of the table has a body that it may not have. An end HOB is read as `Other`.
 pub fn read_at(bytes: &[u8], at: usize) -> Result<(Hob<'_>, usize), HobFault>
-    ensures read { MatchResult result (λ read. reading bytes.now at ≡ Ok (hob_value read.0, read.1)) (λ fault. reading bytes.now at ≡ Err fault) }
+    ensures read { MatchResult result (λ read. reading bytes.now at ≡ Ok (hob_value read.0, read.1))
+        (λ fault. reading bytes.now at ≡ Err fault) }
     // A HOB has a header at least, and lies in the bytes.
-    ensures next { IfOk result (λ read. (read.1 ≡ at + length_at bytes.now at) × (8 ≤ length_at bytes.now at) × (read.1 ≤ length bytes.now)) }
+    ensures next { IfOk result
+        (λ read. (read.1 ≡ at + length_at bytes.now at) × (8 ≤ length_at bytes.now at) × (read.1 ≤ length bytes.now)) }
 {
     if let Some(fault) = header_fault(bytes, at) {
         return Err(fault);

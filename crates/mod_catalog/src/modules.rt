@@ -91,7 +91,8 @@ fn add_module(
 ) -> Result<(), OutOfMemory>
     requires { IsPlaced bytes.now read }
     ensures { OnOk result ((files : List File) (reads before : List Read) → RanksHold bytes.now files reads ranks.now
-        → AreModules bytes.now files reads number before modules.old → AreModules bytes.now files reads number (before ++ read ∷ []) modules.new) }
+        → AreModules bytes.now files reads number before modules.old
+        → AreModules bytes.now files reads number (before ++ read ∷ []) modules.new) }
 {
     if !has_module(read.file.kind) {
         return Ok(());

@@ -29,7 +29,8 @@ fn take_away(index: &mut WaitIndex, gone: Option<Guid>, is_still_there: bool)
 // GUIDs are installed.
 fn put_in(index: &mut WaitIndex, guids: &[Guid])
     requires { (catalog : OfCatalog) × IsIndex catalog index.old }
-    ensures { (catalog : OfCatalog) (has : OfGuid → Bool) (before : List OfGuid) → IsIndex catalog index.old → Each (λ guid. has guid ≡ true) guids.now
+    ensures { (catalog : OfCatalog) (has : OfGuid → Bool) (before : List OfGuid) → IsIndex catalog index.old
+        → Each (λ guid. has guid ≡ true) guids.now
         → AreKnown has before index.old → IsNoted catalog has before guids.now index.old index.new }
 {
     'guids: for guid in guids {
@@ -45,7 +46,8 @@ impl PeiQueue {
             → ShowsBehind catalog self.old self.new (λ view. IsEventOf view.has has gone is_still_there there.now) (with_guids has) }
         ensures cursor { self.new.cursor ≡ self.old.cursor }
         ensures owed { (catalog : OfCatalog) (m : PeiMachine) (has : OfGuid → Bool) → IsQueueOf catalog m self.old
-            → IsEventOf (has_ppi m.store) has gone is_still_there there.now → OwesFor catalog m (event_guids gone there.now) self.old self.new }
+            → IsEventOf (has_ppi m.store) has gone is_still_there there.now
+            → OwesFor catalog m (event_guids gone there.now) self.old self.new }
     {
         asked_are_those_of_the_bound_in_pei();
         take_away(&mut self.index, gone, is_still_there);

@@ -32,7 +32,8 @@ fn is_still_there<M: PeiStore + Drop>(pei: &Pei<M>, gone: Option<Guid>) -> bool
 fn allow_again<M: PeiStore + Drop>(pei: &Pei<M>, queue: &mut PeiQueue, catalog: &Catalog)
     requires { (m : PeiMachine) × (view : View) × StandsFor M.stands_for pei.now m × Shows catalog.now queue.old view
         × HaveStartedAll m view }
-    ensures shows { (m : PeiMachine) (view : View) → StandsFor M.stands_for pei.now m → Shows catalog.now queue.old view → HaveStartedAll m view
+    ensures shows { (m : PeiMachine) (view : View) → StandsFor M.stands_for pei.now m → Shows catalog.now queue.old view
+        → HaveStartedAll m view
         → Shows catalog.now queue.new (after_move m view) }
     ensures cursor { queue.new.cursor ≡ queue.old.cursor }
     ensures owed { owed_by queue.new ≡ owed_by queue.old }

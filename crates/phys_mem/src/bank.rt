@@ -53,7 +53,8 @@ impl Bank {
     pub(crate) fn put(&mut self, at: u64, bytes: &[u8]) -> bool
         ensures base { self.new.base ≡ self.old.base }
         ensures put { result ≡ is_inside self.old.base (length self.old.bytes.items) at (length bytes.now) }
-        ensures bytes { self.new.bytes.items ≡ (if result then replaced self.old.bytes.items (at - self.old.base) bytes.now else self.old.bytes.items) }
+        ensures bytes { self.new.bytes.items
+            ≡ (if result then replaced self.old.bytes.items (at - self.old.base) bytes.now else self.old.bytes.items) }
     {
         if !is_inside(self.base, self.bytes.len(), at, bytes.len()) {
             return false;

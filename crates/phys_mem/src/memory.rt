@@ -23,7 +23,9 @@ impl PhysMem {
 
     /// Memory whose temporary RAM and RAM are zero.
     pub fn new(alloc: Global, temp: Span, ram: Span, roms: Seq<Rom>) -> Result<PhysMem, OutOfMemory>
-        ensures { IfOk result (λ memory. regions memory ≡ record { base = temp.base; bytes = replicate temp.len 0; writable = true } ∷ record { base = ram.base; bytes = replicate ram.len 0; writable = true } ∷ map rom_region roms) }
+        ensures { IfOk result (λ memory. regions memory
+            ≡ record { base = temp.base; bytes = replicate temp.len 0; writable = true }
+            ∷ record { base = ram.base; bytes = replicate ram.len 0; writable = true } ∷ map rom_region roms) }
     {
         let temp = Bank::new(alloc, temp)?;
         let ram = Bank::new(alloc, ram)?;
@@ -99,7 +101,8 @@ impl PhysMem {
 
     // Copies into temporary RAM from outside it.
     fn copy_to_temp(&mut self, from: u64, to: u64, n: usize) -> bool
-        ensures copied { Becomes (copy_of (temps self.old) to (bytes_at (ram_region self.old.ram ∷ map rom_region self.old.roms) from n)) (temps self.old) result (temps self.new) }
+        ensures copied { Becomes (copy_of (temps self.old) to (bytes_at (ram_region self.old.ram ∷ map rom_region self.old.roms) from n))
+            (temps self.old) result (temps self.new) }
         ensures ram { self.new.ram ≡ self.old.ram }
         ensures roms { self.new.roms ≡ self.old.roms }
     {
@@ -114,7 +117,9 @@ impl PhysMem {
 
     // Copies into RAM from outside it.
     fn copy_to_ram(&mut self, from: u64, to: u64, n: usize) -> bool
-        ensures copied { Becomes (copy_of (ram_region self.old.ram ∷ []) to (bytes_at (temps self.old ++ map rom_region self.old.roms) from n)) (ram_region self.old.ram ∷ []) result (ram_region self.new.ram ∷ []) }
+        ensures copied { Becomes
+            (copy_of (ram_region self.old.ram ∷ []) to (bytes_at (temps self.old ++ map rom_region self.old.roms) from n))
+            (ram_region self.old.ram ∷ []) result (ram_region self.new.ram ∷ []) }
         ensures temp { self.new.temp ≡ self.old.temp }
         ensures roms { self.new.roms ≡ self.old.roms }
     {
@@ -188,7 +193,8 @@ fn read_fixed<'a>(ram: &'a Bank, roms: &'a [Rom], at: u64, n: usize) -> Option<&
 
 // The `n` bytes at an address, if all of them lie in temporary RAM or in one volume.
 fn read_movable<'a>(temp: &'a Option<Bank>, roms: &'a [Rom], at: u64, n: usize) -> Option<&'a [u8]>
-    ensures { option_map (λ bytes. bytes.now) result ≡ bytes_at (option_to_list (option_map ram_region temp.now) ++ map rom_region roms.now) at n }
+    ensures { option_map (λ bytes. bytes.now) result
+        ≡ bytes_at (option_to_list (option_map ram_region temp.now) ++ map rom_region roms.now) at n }
 {
     match temp {
         Some(temp) => read_fixed(temp, roms, at, n),
@@ -198,7 +204,8 @@ fn read_movable<'a>(temp: &'a Option<Bank>, roms: &'a [Rom], at: u64, n: usize) 
 
 // Writes what was read, if anything, at an address.
 fn copy_into(bank: &mut Bank, to: u64, source: Option<&[u8]>) -> bool
-    ensures { Becomes (copy_of (ram_region bank.old ∷ []) to (option_map (λ bytes. bytes.now) source.entry)) (ram_region bank.old ∷ []) result (ram_region bank.new ∷ []) }
+    ensures { Becomes (copy_of (ram_region bank.old ∷ []) to (option_map (λ bytes. bytes.now) source.entry)) (ram_region bank.old ∷ [])
+        result (ram_region bank.new ∷ []) }
 {
     match source {
         Some(bytes) => bank.put(to, bytes),

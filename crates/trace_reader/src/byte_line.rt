@@ -75,7 +75,9 @@ fn is_hex_of(alloc: Global, word: &[u8], bytes: &[u8]) -> Result<bool, OutOfMemo
 
 // The bytes, if they are some and the word shows them.
 fn shown_bytes(alloc: Global, word: &[u8], bytes: Seq<u8>) -> Result<Option<Seq<u8>>, OutOfMemory>
-    ensures { IfOk result (λ shown. MatchOption shown (word.now ≡ encode_lower bytes → 0 < length bytes → ⊥) (λ same. (word.now ≡ encode_lower bytes) × (same ≡ bytes) × IsBytes bytes × (0 < length bytes))) }
+    ensures { IfOk result
+        (λ shown. MatchOption shown (word.now ≡ encode_lower bytes → 0 < length bytes → ⊥)
+        (λ same. (word.now ≡ encode_lower bytes) × (same ≡ bytes) × IsBytes bytes × (0 < length bytes))) }
 {
     if bytes.is_empty() {
         return Ok(None);
@@ -107,7 +109,9 @@ fn bytes_of(alloc: Global, word: &[u8]) -> Result<Option<Seq<u8>>, OutOfMemory>
 
 // The type of a HOB and the word of its bytes.
 fn hob_words(line: &[u8]) -> Option<(u16, &[u8])>
-    ensures { MatchOption result ((kind : ℕ) (body : List ℕ) → kind < 2 ^ 16 → line.now ≡ codes "hob" ++ flat_map spaced (decimal kind ∷ body ∷ []) → ⊥) (λ words. (words.0 < 2 ^ 16) × (line.now ≡ codes "hob" ++ flat_map spaced (decimal words.0 ∷ words.1.now ∷ []))) }
+    ensures { MatchOption result
+        ((kind : ℕ) (body : List ℕ) → kind < 2 ^ 16 → line.now ≡ codes "hob" ++ flat_map spaced (decimal kind ∷ body ∷ []) → ⊥)
+        (λ words. (words.0 < 2 ^ 16) × (line.now ≡ codes "hob" ++ flat_map spaced (decimal words.0 ∷ words.1.now ∷ []))) }
 {
     let Some(words) = behind(line, b"hob ") else {
         return None;

@@ -125,7 +125,8 @@ fn number_call(line: &[u8]) -> Option<Line>
 #[tactic(auto, unfolding(boot_model::specs::Text::keyword))]
 fn bytes_call(line: &[u8]) -> Option<Line>
     ensures read { IfSome result (IsLineOf line.now) }
-    ensures none { IsNone result → (name : CallName) (status : Word) (bytes : ArrayVec ℕ 64 (Unit {0})) → IsLineOf line.now (L.Call name status (E.Bytes bytes)) → ⊥ }
+    ensures none { IsNone result → (name : CallName) (status : Word) (bytes : ArrayVec ℕ 64 (Unit {0}))
+        → IsLineOf line.now (L.Call name status (E.Bytes bytes)) → ⊥ }
 {
     let Some((name, (status, (bytes, ())))) = fields_after(line, b"call") else {
         return None;

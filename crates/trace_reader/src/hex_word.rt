@@ -14,7 +14,8 @@ pub(crate) struct Kind(pub u8);
 
 // A byte, if the word is its.
 fn printed_byte(word: &[u8], byte: u8) -> Option<u8>
-    ensures { MatchOption result (word.now ≡ encode_lower (byte ∷ []) → ⊥) (λ shown. (word.now ≡ encode_lower (byte ∷ [])) × (shown ∷ [] ≡ byte ∷ []) × (shown < 2 ^ 8)) }
+    ensures { MatchOption result (word.now ≡ encode_lower (byte ∷ []) → ⊥)
+        (λ shown. (word.now ≡ encode_lower (byte ∷ [])) × (shown ∷ [] ≡ byte ∷ []) × (shown < 2 ^ 8)) }
 {
     let mut digits = [0u8; 2];
     hex::encode_to_slice(&[byte], &mut digits).unwrap();
@@ -80,7 +81,8 @@ impl Field for ArrayVec<u8, SHOWN_LEN> {
 
 // How many bytes a word shows, if a script may read so many at once.
 fn shown_len(word: &[u8]) -> Option<usize>
-    ensures { MatchOption result ((0 < length word.now / 2) × (length word.now / 2 ≤ SHOWN_LEN) → ⊥) (λ len. (len ≡ length word.now / 2) × (0 < len) × (len ≤ SHOWN_LEN)) }
+    ensures { MatchOption result ((0 < length word.now / 2) × (length word.now / 2 ≤ SHOWN_LEN) → ⊥)
+        (λ len. (len ≡ length word.now / 2) × (0 < len) × (len ≤ SHOWN_LEN)) }
 {
     let len = word.len() / 2;
     if len > 0 && len <= SHOWN_LEN {
@@ -94,7 +96,8 @@ fn shown_len(word: &[u8]) -> Option<usize>
 fn shown_of(word: &[u8], bytes: &[u8]) -> Option<ArrayVec<u8, SHOWN_LEN>>
     requires some { 0 < length bytes.now }
     requires few { length bytes.now ≤ SHOWN_LEN }
-    ensures { MatchOption result (word.now ≡ encode_lower bytes.now → ⊥) (λ shown. (word.now ≡ encode_lower bytes.now) × (shown.items ≡ bytes.now) × IsShown shown.items) }
+    ensures { MatchOption result (word.now ≡ encode_lower bytes.now → ⊥)
+        (λ shown. (word.now ≡ encode_lower bytes.now) × (shown.items ≡ bytes.now) × IsShown shown.items) }
 {
     let mut room = [0u8; 2 * SHOWN_LEN];
     let (digits, _) = room.split_at_mut(2 * bytes.len());

@@ -71,7 +71,8 @@ impl WaitIndex {
         requires settled { owed self.now ≡ 0 }
         requires cursor { cursor ≤ length (order_in self.now) }
         ensures { (catalog : OfCatalog) → IsIndex catalog self.now
-            → option_and_then (slice_get (order_in self.now)) result ≡ find (is_eligible_in catalog self.now) (rotated cursor (order_in self.now)) }
+            → option_and_then (slice_get (order_in self.now)) result
+            ≡ find (is_eligible_in catalog self.now) (rotated cursor (order_in self.now)) }
     {
         next(&self.places, self.has_all(), cursor)
     }

@@ -14,7 +14,8 @@ pub(crate) fn next(places: &Places, all: bool, cursor: usize) -> Option<usize>
     requires settled { count places.now.stale ≡ 0 }
     requires cursor { cursor ≤ length (order_of places.now) }
     ensures { (judge : ℕ → Verdict) → AreJudged judge places.now
-        → option_and_then (slice_get (order_of places.now)) result ≡ find (is_due all judge places.now) (rotated cursor (order_of places.now)) }
+        → option_and_then (slice_get (order_of places.now)) result
+        ≡ find (is_due all judge places.now) (rotated cursor (order_of places.now)) }
 {
     match places.ready.first_of_two(&places.later, all, cursor) {
         Some(place) => Some(place),

@@ -99,7 +99,8 @@ impl Places {
         ensures kept { IsKept self.old self.new }
         ensures counted { count self.new.stale + 1 ≡ count self.old.stale }
         ensures as_many { length self.new.standings ≡ length self.old.standings }
-        ensures judged { (judge : ℕ → OfVerdict) → ((number : ℕ) → slice_get (order_of self.old) place ≡ Some number → verdict ≡ judge number)
+        ensures judged { (judge : ℕ → OfVerdict)
+            → ((number : ℕ) → slice_get (order_of self.old) place ≡ Some number → verdict ≡ judge number)
             → AreJudged judge self.old → AreJudged judge self.new }
     {
         let number = self.number_at(place);
