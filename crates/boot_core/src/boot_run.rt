@@ -8,6 +8,7 @@ ghost use Rattle.store_model.specs.HandleState.{no_handles};
 ghost use Rattle.store_model.specs.StoreState.{Board, empty_store};
 ghost use Rattle.catalog_model.specs.WellFormed.{IsWellFormed};
 ghost use Rattle.boot_core.specs.Running.{BootsDxe, IsEndOf, RunsTo, Tells, TellsBehind, closing_text};
+ghost use Rattle.boot_core.specs.Wanting.{WantsOutsidePei};
 ghost use Rattle.boot_io.specs.Halted.{HaltsAfter};
 
 use crate::closing::close;
@@ -110,6 +111,8 @@ pub(crate) fn boot_store<M: PeiStore + Drop, S: Sink>(
     requires opening { (board : Board) × M.stands_for store (empty_store board) }
     ensures row { (board : Board) → M.stands_for store (empty_store board)
         → RunsTo M.stands_for board catalog.now fuel (record { old = S.text sink.old; new = S.text sink.new }) result }
+    ensures memory { (board : Board) → M.stands_for store (empty_store board)
+        → WantsOutsidePei M.TAKES_MEMORY board catalog.now fuel (record { old = S.text sink.old; new = S.text sink.new }) result }
     ensures faults { HaltsAfter result (S.faults sink.old) (S.faults sink.new) }
 {
     let pei = boot_pei(alloc, store, catalog, fuel, sink)?;

@@ -9,6 +9,7 @@ use Rattle.boot_core.specs.BootEnd.{end_after, end_of, boot_text}
 use Rattle.boot_core.specs.Running.{text_behind}
 use Rattle.boot_core.proofs.BootTexts.{boot_is, end_is}
 use Rattle.boot_core.proofs.Telling.{part_in}
+use Rattle.boot_core.proofs.Wanted.{before_pei, behind_pei}
 use Rattle.boot_core.proofs.boot_run.boot_store.Goals as goal
 
 pub returns-clause-row : goal.returns-clause-row
@@ -45,3 +46,19 @@ returns-in_err-pei-clause-row g c = λ board stands.
     let p = err_from_is_err_and c.from_residual.result c.from_residual.ensures.1 in
     rw p.1 (part_in (T c.args.sink.now) (T c.boot_pei.new.sink) (text_of m.lines) (text_behind catalog fuel m) (boot_text board catalog fuel) (boot_is board catalog fuel)
     (c.in_err-pei.ensures.row board stands))
+
+pub returns-in_err-end-clause-memory : goal.returns-in_err-end-clause-memory
+returns-in_err-end-clause-memory g c = λ board stands.
+    let T = g.S.Sink.text in
+    let m = pei_end board c.args.catalog.now c.args.fuel in
+    let pei = c.in_ok-pei.ensures.row board stands in
+    let p = err_from_is_err_and c.from_residual-in_err-end.result c.from_residual-in_err-end.ensures.1 in
+    let told = c.in_err-end.ensures.row m pei.1.store_is (pei.0.ended, pei.1.actions_are) in
+    rw p.1 (behind_pei g.M.PeiStore.TAKES_MEMORY board c.args.catalog.now c.args.fuel (T c.args.sink.now) (T c.boot_pei.new.sink) (T c.boot_behind.new.sink)
+    (text_behind c.args.catalog.now c.args.fuel m) c.in_err-end.error pei.0.text told)
+
+pub returns-in_err-pei-clause-memory : goal.returns-in_err-pei-clause-memory
+returns-in_err-pei-clause-memory g c = λ board stands.
+    let T = g.S.Sink.text in
+    let p = err_from_is_err_and c.from_residual.result c.from_residual.ensures.1 in
+    rw p.1 (before_pei g.M.PeiStore.TAKES_MEMORY board c.args.catalog.now c.args.fuel (T c.args.sink.now) (T c.boot_pei.new.sink) c.in_err-pei.error c.in_err-pei.ensures.memory)
