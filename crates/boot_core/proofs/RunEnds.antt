@@ -22,8 +22,8 @@ use Rattle.boot_io.specs.declared.halt.Halt.TheVariants as H
 use Rattle.boot_core.specs.BootEnd.{end_after, end_of, boot_text, status_of}
 use Rattle.boot_core.specs.Outcome.{Kind, OfAnswer, EndsBy, Ends, Answered, SinkFailed, Begun, BootOutcome, Trail, IsOfRun, kind_of}
 use Rattle.boot_core.specs.Outcome as O
-use Rattle.store_plain.specs.declared.store.PlainStore.{PlainStore}
-use Rattle.store_plain.specs.PlainState.{stands_for}
+use Rattle.mem_store.specs.declared.store.MemStore.{MemStore}
+use Rattle.mem_store.specs.MemState.{StandsFor}
 use Rattle.boot_core.specs.declared.boot_run.Ran.{Ran}
 use Rattle.boot_core.specs.declared.plan_boot.Booted.{Booted}
 use Rattle.boot_core.specs.declared.status.Status.TheVariants as V
@@ -70,8 +70,8 @@ ran_of E.Deep = tt
 abbrev left_by : Option (List ℕ) → Option (List ℕ) → ℕ → ℕ → Trail
 left_by old new sb sn = record { old = old; new = new; sink_before = sb; sink_now = sn; files_before = 0; files_now = 0; missed = None }
 
-pub run_ends : PeiRunsEnd → DxeRunsEnd → (ran : Result (Ran PlainStore) Halt) (plan : Plan) (catalog : Catalog) (images : List (List ℕ)) (booted : Booted) (old new : Option (List ℕ)) (sb sn : ℕ) → AreNumbered 0 catalog.volumes
-    → IsBooted ran booted → RunsTo stands_for (board_of plan catalog images) catalog plan.fuel (record { old = old; new = new }) ran → HaltsAfter ran sb sn
+pub run_ends : PeiRunsEnd → DxeRunsEnd → (ran : Result (Ran MemStore) Halt) (plan : Plan) (catalog : Catalog) (images : List (List ℕ)) (booted : Booted) (old new : Option (List ℕ)) (sb sn : ℕ) → AreNumbered 0 catalog.volumes
+    → IsBooted ran booted → RunsTo StandsFor (board_of plan catalog images) catalog plan.fuel (record { old = old; new = new }) ran → HaltsAfter ran sb sn
     → Ends (BootOutcome plan catalog images) (λ _. ⊥) ⊤ booted.status (record { old = old; new = new; sink_before = sb; sink_now = sn; files_before = 0; files_now = 0; missed = None })
 run_ends pei dxe (Ok ran) plan catalog images booted old new sb sn numbered is told counted =
     let board = board_of plan catalog images in
@@ -104,11 +104,11 @@ run_ends pei dxe (Err H.Memory) plan catalog images booted old new sb sn numbere
     subst Q (sym is.0) wanting
 
 -- the store is handed back exactly behind the end of a run
-where_of : (status : Status) (store : Option PlainStore) (booted : Booted) → (booted.status ≡ status) × (booted.store ≡ store) → IsWhereRan status store → IsWhereRan booted.status booted.store
+where_of : (status : Status) (store : Option MemStore) (booted : Booted) → (booted.status ≡ status) × (booted.store ≡ store) → IsWhereRan status store → IsWhereRan booted.status booted.store
 where_of status store booted is h = subst (λ s. IsWhereRan s booted.store) (sym is.0) (subst (IsWhereRan status) (sym is.1) h)
 
-pub hands_back : (ran : Result (Ran PlainStore) Halt) (plan : Plan) (catalog : Catalog) (images : List (List ℕ)) (booted : Booted) (t : Texts)
-    → IsBooted ran booted → RunsTo stands_for (board_of plan catalog images) catalog plan.fuel t ran → HandsBack plan catalog images booted
+pub hands_back : (ran : Result (Ran MemStore) Halt) (plan : Plan) (catalog : Catalog) (images : List (List ℕ)) (booted : Booted) (t : Texts)
+    → IsBooted ran booted → RunsTo StandsFor (board_of plan catalog images) catalog plan.fuel t ran → HandsBack plan catalog images booted
 hands_back (Ok ran) plan catalog images booted t is told =
     let board = board_of plan catalog images in
     record {

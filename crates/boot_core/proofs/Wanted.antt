@@ -1,10 +1,10 @@
 -- Where memory is wanting in a boot.
-use Rattle.std.proofs.Common.{◌≡◌, ℕ, Bool, List, ◌++◌, Option, Result, Ok, Err, inl, inr}
+use Rattle.std.proofs.Common.{◌≡◌, ◌⊎◌, ℕ, Bool, false, List, [], ◌++◌, Option, Result, Ok, Err, refl, sym, subst, inl, inr}
 use Rattle.std.specs.Io.KnownBytes.{Appends}
 use Rattle.boot_io.specs.declared.halt.Halt.{Halt}
 use Rattle.boot_io.specs.declared.halt.Halt.TheVariants as H
 use Rattle.boot_io.specs.Sink.{AppendsPart}
-use Rattle.boot_io.proofs.PutsLaws.{appends_then}
+use Rattle.boot_io.proofs.PutsLaws.{appends_none, appends_then}
 use Rattle.catalog_model.specs.declared.catalog.Catalog.{Catalog}
 use Rattle.store_model.specs.StoreState.{Board}
 use Rattle.boot_model.specs.declared.line.RunEnd.{RunEnd}
@@ -12,8 +12,16 @@ use Rattle.boot_model.specs.PeiRun.{pei_end}
 use Rattle.boot_model.specs.Text.{text_of}
 use Rattle.pei_dispatch.specs.declared.boot.Ended.{Ended}
 use Rattle.pei_dispatch.specs.Ends.{IsWantedBefore}
+use Rattle.mem_store.specs.declared.store.MemStore.{MemStore}
 use Rattle.boot_core.specs.declared.boot_run.Ran.{Ran}
-use Rattle.boot_core.specs.Wanting.{WantsOutsidePei}
+use Rattle.boot_core.specs.declared.plan_boot.Booted.{Booted}
+use Rattle.boot_core.specs.declared.status.Status.{Status}
+use Rattle.boot_core.specs.Handing.{IsBooted}
+use Rattle.boot_core.specs.Outcome.{Begun, EndsBy, Kind, OfFiles, OfSink, OfMemory, OfAnswer, Trail, kind_of}
+use Rattle.boot_core.specs.Running.{Texts}
+use Rattle.boot_core.specs.Wanting.{IsOutsidePei, IsWantedOutsidePei, WantsOutsidePei}
+use Rattle.boot_core.proofs.Causes.{none_of}
+use Rattle.boot_core.proofs.RunEnds.{answer_of}
 
 -- behind all lines of PEI
 pub behind_pei : {A : Type 0} (takes : Bool) (board : Board) (catalog : Catalog) (fuel : ℕ) (old mid new : Option (List ℕ)) (text : List ℕ) (halt : Halt)
@@ -28,3 +36,30 @@ pub before_pei : {A B : Type 0} (takes : Bool) (board : Board) (catalog : Catalo
     → IsWantedBefore {B} takes old new (Err halt) → WantsOutsidePei {A} takes board catalog fuel (record { old = old; new = new }) (Err halt)
 before_pei takes board catalog fuel old new H.Sink wanted = tt
 before_pei takes board catalog fuel old new H.Memory wanted = λ takes_none. inl (wanted takes_none)
+
+-- nothing was put
+pub at_once : {A : Type 0} (takes : Bool) (board : Board) (catalog : Catalog) (fuel : ℕ) (old : Option (List ℕ))
+    → WantsOutsidePei {A} takes board catalog fuel (record { old = old; new = old }) (Err H.Memory)
+at_once takes board catalog fuel old = λ takes_none. inl (appends_none old)
+
+-- so the answer of a boot says it
+pub answered_outside : (ran : Result (Ran MemStore) Halt) (board : Board) (catalog : Catalog) (fuel : ℕ) (booted : Booted) (t : Texts)
+    → IsBooted ran booted → WantsOutsidePei false board catalog fuel t ran → IsWantedOutsidePei (kind_of booted.status) board catalog fuel t
+answered_outside (Ok ran) board catalog fuel booted t is wants =
+    let P : Status → Type 0 = λ status. IsWantedOutsidePei (kind_of status) board catalog fuel t in
+    let Q : Kind → Type 0 = λ kind. IsWantedOutsidePei kind board catalog fuel t in
+    subst P (sym is.0) (subst Q (sym (answer_of ran.«end»)) tt)
+answered_outside (Err H.Sink) board catalog fuel booted t is wants =
+    let P : Status → Type 0 = λ status. IsWantedOutsidePei (kind_of status) board catalog fuel t in
+    subst P (sym is.0) tt
+answered_outside (Err H.Memory) board catalog fuel booted t is wants =
+    let P : Status → Type 0 = λ status. IsWantedOutsidePei (kind_of status) board catalog fuel t in
+    subst P (sym is.0) (wants refl)
+
+-- where no boot had begun nothing was put
+pub refused_outside : (kind : Kind) (Out : Status → List ℕ → Type 0) (status : Status) (t : Trail) (board : Board) (catalog : Catalog) (fuel : ℕ)
+    → EndsBy kind Out (λ _. ⊥) ⊥ status t → IsWantedOutsidePei kind board catalog fuel (record { old = t.old; new = t.new })
+refused_outside OfFiles Out status t board catalog fuel ends = tt
+refused_outside OfSink Out status t board catalog fuel ends = tt
+refused_outside OfMemory Out status t board catalog fuel ends = inl (none_of Out ⊥ t.old t.new (λ begun. begun) ends.kept)
+refused_outside OfAnswer Out status t board catalog fuel ends = tt

@@ -9,8 +9,8 @@ use Rattle.catalog_model.specs.Catalogue.{IsCatalogue}
 use Rattle.boot_model.specs.PeiRun.{pei_end}
 use Rattle.boot_model.specs.PlanBoard.{board_of}
 use Rattle.store_model.specs.StoreState.{StoreState}
-use Rattle.store_plain.specs.declared.store.PlainStore.{PlainStore}
-use Rattle.store_plain.specs.PlainState.{stands_for}
+use Rattle.mem_store.specs.declared.store.MemStore.{MemStore}
+use Rattle.mem_store.specs.MemState.{StandsFor}
 use Rattle.boot_core.specs.declared.boot_run.Ran.{Ran}
 use Rattle.boot_core.specs.declared.plan_boot.Booted.{Booted}
 use Rattle.boot_core.specs.declared.status.Status.{Status}
@@ -19,18 +19,18 @@ use Rattle.boot_core.specs.BootEnd.{status_of}
 use Rattle.boot_core.specs.Outcome.{IsOfRun}
 
 -- the answer of a boot that ran, or of why it did not come to its end
-abbrev pub IsBooted : Result (Ran PlainStore) Halt → Booted → Type 0
+abbrev pub IsBooted : Result (Ran MemStore) Halt → Booted → Type 0
 IsBooted (Ok ran) booted = (booted.status ≡ status_of ran.«end») × (booted.store ≡ Some ran.pei.store)
 IsBooted (Err H.Sink) booted = (booted.status ≡ V.SinkFault) × (booted.store ≡ None)
 IsBooted (Err H.Memory) booted = (booted.status ≡ V.Memory) × (booted.store ≡ None)
 
 -- a store that stands for this state, where there is one
-abbrev pub StandsWhere : StoreState → Option PlainStore → Type 0
+abbrev pub StandsWhere : StoreState → Option MemStore → Type 0
 StandsWhere s None = ⊤
-StandsWhere s (Some store) = stands_for store s
+StandsWhere s (Some store) = StandsFor store s
 
 -- a store exactly after the end of a run
-abbrev pub IsWhereRan : Status → Option PlainStore → Type 0
+abbrev pub IsWhereRan : Status → Option MemStore → Type 0
 IsWhereRan status None = IsOfRun status → ⊥
 IsWhereRan status (Some store) = IsOfRun status
 

@@ -4,10 +4,14 @@ use Rattle.std.specs.Prelude.{◌≡◌, ◌⊎◌, ℕ, Bool, false, List, [], 
 use Rattle.std.specs.Io.KnownBytes.{Appends}
 use Rattle.boot_io.specs.declared.halt.Halt.{Halt}
 use Rattle.boot_io.specs.declared.halt.Halt.TheVariants.{Sink, Memory}
+use Rattle.boot_plan.specs.declared.plan.Plan.{Plan}
 use Rattle.catalog_model.specs.declared.catalog.Catalog.{Catalog}
+use Rattle.catalog_model.specs.Catalogue.{IsCatalogue}
 use Rattle.store_model.specs.StoreState.{Board}
 use Rattle.boot_model.specs.PeiRun.{pei_end}
+use Rattle.boot_model.specs.PlanBoard.{board_of}
 use Rattle.boot_model.specs.Text.{text_of}
+use Rattle.boot_core.specs.Outcome.{Kind, OfFiles, OfSink, OfMemory, OfAnswer}
 use Rattle.boot_core.specs.Running.{Texts}
 
 -- nothing was put; or all lines of PEI were, and then a part of what follows
@@ -20,3 +24,15 @@ abbrev pub WantsOutsidePei : {A : Type 0} → Bool → Board → Catalog → ℕ
 WantsOutsidePei takes board catalog fuel t (Ok _) = ⊤
 WantsOutsidePei takes board catalog fuel t (Err Sink) = ⊤
 WantsOutsidePei takes board catalog fuel t (Err Memory) = takes ≡ false → IsOutsidePei board catalog fuel t
+
+-- by the kind of its status
+abbrev pub IsWantedOutsidePei : Kind → Board → Catalog → ℕ → Texts → Type 0
+IsWantedOutsidePei OfFiles board catalog fuel t = ⊤
+IsWantedOutsidePei OfSink board catalog fuel t = ⊤
+IsWantedOutsidePei OfMemory board catalog fuel t = IsOutsidePei board catalog fuel t
+IsWantedOutsidePei OfAnswer board catalog fuel t = ⊤
+
+-- the same of images, whatever their catalogue
+abbrev pub IsWantedOutsidePeiOf : Kind → Plan → List (List ℕ) → Texts → Type 0
+IsWantedOutsidePeiOf kind plan images t =
+    (catalog : Catalog) → IsCatalogue plan images catalog → IsWantedOutsidePei kind (board_of plan catalog images) catalog plan.fuel t

@@ -4,7 +4,8 @@ ghost use Rattle.boot_plan.specs.Range.{IsPlanInRange};
 ghost use Rattle.boot_core.specs.declared.command_line.Command.TheVariants.{Audit, Boot};
 ghost use Rattle.boot_core.specs.Examining.{ImageRefusal, IsExamined};
 ghost use Rattle.boot_core.specs.Handing.{HandsBackOf};
-ghost use Rattle.boot_core.specs.Outcome.{CommandOutcome, Ends, ImagesOutcome, IsUntouched};
+ghost use Rattle.boot_core.specs.Outcome.{CommandOutcome, Ends, ImagesOutcome, IsUntouched, kind_of};
+ghost use Rattle.boot_core.specs.Wanting.{IsWantedOutsidePeiOf};
 
 use crate::answer::answer;
 use crate::audit_print::put_audit;
@@ -64,7 +65,7 @@ pub(crate) fn examine<S: Sink>(
 }
 
 /// Boots a plan over its images: their first fault is refused, or the lines of the boot of their catalogue are put, and the status is that of the run.
-/// There are as many images as volumes of the plan, each of at most 64 MiB. The store is that of the last machine, where the boot came to its end.
+/// There are as many images as volumes of the plan, each of at most 64 MiB. The store is that of the last machine, where the boot came to its end: its memory is the image of that machine's state. Memory is wanting before anything is put or behind all lines of PEI, and never in it.
 pub fn boot_images<S: Sink>(
     alloc: Global,
     plan: &Plan,
@@ -83,6 +84,7 @@ pub fn boot_images<S: Sink>(
       files_now = 0;
       missed = None;
     }) }
+    ensures memory { IsWantedOutsidePeiOf (kind_of result.status) plan.now images (record { old = S.text sink.old; new = S.text sink.new }) }
     ensures store { HandsBackOf plan.now images result }
 {
     one_catalogue();

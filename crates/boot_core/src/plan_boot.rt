@@ -1,12 +1,13 @@
 // The boot of a plan whose images have a catalogue.
-ghost use Rattle.std.specs.Prelude.{◌≡◌, ◌≤◌, [], None, length, ⊤};
+ghost use Rattle.std.specs.Prelude.{◌≡◌, ◌≤◌, [], None, false, length, ⊤};
 ghost use Rattle.store_model.specs.StateFacts.{IsBoard};
-ghost use Rattle.store_plain.specs.PlainState.{stands_for};
+ghost use Rattle.mem_store.specs.MemState.{StandsFor};
 ghost use Rattle.boot_model.specs.PlanBoard.{board_of};
 ghost use Rattle.catalog_model.specs.WellFormed.{IsWellFormed};
 ghost use Rattle.boot_core.specs.Handing.{HandsBack, IsBooted};
-ghost use Rattle.boot_core.specs.Outcome.{Ends, BootOutcome};
+ghost use Rattle.boot_core.specs.Outcome.{Ends, BootOutcome, kind_of};
 ghost use Rattle.boot_core.specs.Running.{RunsTo};
+ghost use Rattle.boot_core.specs.Wanting.{IsWantedOutsidePei, WantsOutsidePei};
 ghost use Rattle.boot_io.specs.Halted.{HaltsAfter};
 
 use crate::board::roms;
@@ -16,10 +17,10 @@ use boot_io::{Halt, Sink};
 use boot_laws::{dxe_runs_end, pei_runs_end};
 use boot_plan::Plan;
 use catalog_model::Catalog;
+use mem_store::MemStore;
 use phys_mem::Rom;
 use pi_base::Seq;
 use std::alloc::Global;
-use store_plain::PlainStore;
 
 /// What a boot answers.
 #[derive(Drop)]
@@ -27,11 +28,11 @@ pub struct Booted {
     /// How it ended, or why it did not come to its end.
     pub status: Status,
     /// The store of the last machine; None where the boot did not come to its end.
-    pub store: Option<PlainStore>,
+    pub store: Option<MemStore>,
 }
 
 // The answer of a boot that ran, or of why it did not come to its end.
-fn answer_run(ran: Result<Ran<PlainStore>, Halt>) -> Booted
+fn answer_run(ran: Result<Ran<MemStore>, Halt>) -> Booted
     ensures { IsBooted ran result }
 {
     match ran {
@@ -57,15 +58,17 @@ fn boot_board<S: Sink>(
     catalog: &Catalog,
     roms: Seq<Rom>,
     sink: &mut S,
-) -> Result<Ran<PlainStore>, Halt>
+) -> Result<Ran<MemStore>, Halt>
     requires board { IsBoard (record (board_of plan.now catalog.now []) { roms = roms }) }
     requires catalog { IsWellFormed catalog.now }
     requires some { 1 ≤ length catalog.now.volumes }
-    ensures row { RunsTo stands_for (record (board_of plan.now catalog.now []) { roms = roms }) catalog.now plan.now.fuel
+    ensures row { RunsTo StandsFor (record (board_of plan.now catalog.now []) { roms = roms }) catalog.now plan.now.fuel
+        (record { old = S.text sink.old; new = S.text sink.new }) result }
+    ensures memory { WantsOutsidePei false (record (board_of plan.now catalog.now []) { roms = roms }) catalog.now plan.now.fuel
         (record { old = S.text sink.old; new = S.text sink.new }) result }
     ensures faults { HaltsAfter result (S.faults sink.old) (S.faults sink.new) }
 {
-    let store = PlainStore::new(alloc, plan.temp, plan.pages, plan.ram, roms);
+    let store = MemStore::new(alloc, plan.temp, plan.pages, plan.ram, roms)?;
     boot_store(alloc, store, catalog, plan.fuel, sink)
 }
 
@@ -76,11 +79,13 @@ pub(crate) fn boot_plan<S: Sink>(
     catalog: &Catalog,
     images: Seq<Seq<u8>>,
     sink: &mut S,
-) -> Result<Ran<PlainStore>, Halt>
+) -> Result<Ran<MemStore>, Halt>
     requires board { IsBoard (board_of plan.now catalog.now images) }
     requires catalog { IsWellFormed catalog.now }
     requires some { 1 ≤ length catalog.now.volumes }
-    ensures row { RunsTo stands_for (board_of plan.now catalog.now images) catalog.now plan.now.fuel
+    ensures row { RunsTo StandsFor (board_of plan.now catalog.now images) catalog.now plan.now.fuel
+        (record { old = S.text sink.old; new = S.text sink.new }) result }
+    ensures memory { WantsOutsidePei false (board_of plan.now catalog.now images) catalog.now plan.now.fuel
         (record { old = S.text sink.old; new = S.text sink.new }) result }
     ensures faults { HaltsAfter result (S.faults sink.old) (S.faults sink.new) }
 {
@@ -108,6 +113,8 @@ pub(crate) fn boot_catalog<S: Sink>(
       files_now = 0;
       missed = None;
     }) }
+    ensures memory { IsWantedOutsidePei (kind_of result.status) (board_of plan.now catalog.now images) catalog.now plan.now.fuel
+        (record { old = S.text sink.old; new = S.text sink.new }) }
     ensures store { HandsBack plan.now catalog.now images result }
 {
     pei_runs_end();

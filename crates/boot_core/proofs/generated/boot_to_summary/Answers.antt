@@ -1,6 +1,6 @@
 use Rattle.std.proofs.Common.{◌≡◌, ℕ, List, None, Some, refl, sym, ap, ◌∙◌, subst, arith}
 use Rattle.boot_plan.specs.declared.plan.Plan.{Plan}
-use Rattle.store_plain.specs.PlainState.{stands_for}
+use Rattle.mem_store.specs.MemState.{StandsFor}
 use Rattle.boot_model.specs.PeiRun.{pei_end}
 use Rattle.boot_model.specs.PlanBoard.{board_of}
 use Rattle.boot_core.specs.declared.generated.TheConstants.{FUEL}
@@ -22,8 +22,8 @@ returns-in-Ok g c =
     let ran = c.in-Ok.ran in
     let end = ran.«end» in
     let pei = pei_end (generated_board n catalog) catalog FUEL in
-    let P : Plan → List (List ℕ) → Type 0 = λ plan images. IsRun stands_for (board_of plan catalog images) catalog plan.fuel ran in
-    let run : IsRun stands_for (generated_board n catalog) catalog FUEL ran =
+    let P : Plan → List (List ℕ) → Type 0 = λ plan images. IsRun StandsFor (board_of plan catalog images) catalog plan.fuel ran in
+    let run : IsRun StandsFor (generated_board n catalog) catalog FUEL ran =
     subst (λ plan. P plan (generated_images n)) c.requires.job.plan_is (subst (P c.args.plan.now) c.requires.job.images_are c.in-Ok.ensures.row.0) in
     let lines : c.summary_of.result ≡ summary_lines n catalog pei end = c.summary_of.ensures catalog pei run.left in
     answer_ends c.put_summary-put.result (SummaryOutcome n catalog) (λ _. ⊥) ⊥ (status_of end) c.answer.result (summary_text (summary_lines n catalog pei end)) (T c.args.sink.now) (T c.put_summary-put.new.sink) (N c.args.sink.now) (N c.put_summary-put.new.sink) 0 0 None

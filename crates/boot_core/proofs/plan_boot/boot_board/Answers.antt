@@ -1,5 +1,9 @@
-use Rattle.std.proofs.Common.{sym}
+use Rattle.std.proofs.lemmas.Result.{err_from_is_err_and}
+use Rattle.boot_core.proofs.Wanted.{at_once}
 use Rattle.boot_core.proofs.plan_boot.boot_board.Goals as goal
 
 pub returns-clause-row : goal.returns-clause-row
-returns-clause-row g c = c.boot_store.ensures.row _ (sym c.new-store.ensures.state, c.new-store.ensures.facts)
+returns-clause-row g c = c.boot_store.ensures.row _ c.in_ok-store.ensures
+
+pub returns-clause-memory : goal.returns-clause-memory
+returns-clause-memory g c = c.boot_store.ensures.memory _ c.in_ok-store.ensures
