@@ -21,7 +21,7 @@ fn rom(entry: &VolumeEntry, image: Seq<u8>) -> Rom
 }
 
 /// The images of volumes as they are mapped, each cut to its FvLength. No image is copied.
-pub(crate) fn roms(
+pub fn roms(
     alloc: Global,
     entries: &[VolumeEntry],
     images: Seq<Seq<u8>>,

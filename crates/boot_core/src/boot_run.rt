@@ -91,7 +91,7 @@ fn boot_behind<M: PeiStore + Drop, S: Sink>(
 
 /// What a boot leaves at its end.
 #[derive(Drop)]
-pub(crate) struct Ran<M: PeiStore + Drop> {
+pub struct Ran<M: PeiStore + Drop> {
     /// Its result.
     pub end: RunEnd,
     /// The end of PEI, with the store, which DXE changes no more.
@@ -99,7 +99,7 @@ pub(crate) struct Ran<M: PeiStore + Drop> {
 }
 
 /// A boot from its first line to its last: PEI, DXE behind a hand-off, the lists, the handles and the result.
-pub(crate) fn boot_store<M: PeiStore + Drop, S: Sink>(
+pub fn boot_store<M: PeiStore + Drop, S: Sink>(
     alloc: Global,
     store: M,
     catalog: &Catalog,

@@ -21,7 +21,7 @@ use pi_base::Seq;
 use std::alloc::Global;
 
 /// The catalogue of a plan's images. Where they have a fault its line is put, and its status is the answer.
-pub(crate) fn examine<S: Sink>(
+pub fn examine<S: Sink>(
     alloc: Global,
     plan: &Plan,
     images: &[Seq<u8>],

@@ -1,7 +1,7 @@
 // Boots with drivers whose texts are known: the files of each volume, up to the erased bytes behind the last, and the text.
 use super::worked::Text;
 use super::{Case, HEADER, Image, SMALLEST, VOLUME};
-use crate::Status;
+use boot_core::Status;
 
 const COMPANIONS_FILES: [u8; 446] = [
     0, 0, 0, 0, 0, 0, 0, 0, 0, 0, 0, 0, 0, 0, 0, 0xf, 0x76, 0xaa, 6, 0, 0x75, 0, 0, 0xf8, 0x5d, 0,

@@ -1,6 +1,6 @@
 // Boots whose texts are known: the files of each volume, up to the erased bytes behind the last, and the text.
 use super::{Case, HEADER, Image, PAGES, PLAN, SMALLEST, VOLUME};
-use crate::Status;
+use boot_core::Status;
 
 /// A text: its head, then a turn so many times, then its tail.
 #[derive(Clone, Copy)]

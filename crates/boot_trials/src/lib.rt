@@ -1,0 +1,9 @@
+//! Whole boots, tried over both stores: the store in memory, over which the program boots, and the store of plain lists.
+#![tactic(auto)]
+
+mod over_lists;
+
+pub use over_lists::boot_over_lists;
+
+#[cfg(test)]
+mod tests;
