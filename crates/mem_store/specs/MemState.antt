@@ -1,0 +1,25 @@
+-- The states that a store in memory stands for: memory has the image of the state, and the store's fields say what the image does not.
+-- Own.
+use Rattle.std.specs.Prelude.{◌≡◌, ◌+◌, Bool, false, option_map}
+use Rattle.pi_base.specs.declared.span.Span.{Span}
+use Rattle.store_model.specs.StoreState.{Board, Range, StoreState}
+use Rattle.ppi_links.specs.Linked.{IsLinked}
+use Rattle.mem_store.specs.declared.store.MemStore.{MemStore}
+
+abbrev pub range_of : Span → Range
+range_of span = record { base = span.base; len = span.len }
+
+-- temporary RAM, the page region at its end, and RAM; the volumes are those of the memory
+pub record IsBoardOf (m : MemStore) (board : Board) : Type 0 where
+  pub temp : range_of m.temp ≡ board.temp
+  pub ram : range_of m.ram ≡ board.ram
+  pub pages : m.pages.len ≡ board.pages
+  pub pages_end : m.pages.base + m.pages.len ≡ board.temp.base + board.temp.len
+
+-- memory has the image of the state, and the heads are those of its lists; so many bytes of pages were taken before the move
+pub record StandsFor (m : MemStore) (s : StoreState) : Type 0 where
+  pub linked : IsLinked m.heap m.memory m.heads s
+  pub board : IsBoardOf m s.board
+  pub planned : option_map range_of m.planned ≡ s.planned
+  pub moved : m.moved ≡ s.moved
+  pub early : s.moved ≡ false → m.early ≡ s.taken

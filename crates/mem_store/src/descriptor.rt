@@ -1,0 +1,39 @@
+// Descriptors are made and read.
+ghost use Rattle.std.specs.Prelude.{◌≡◌, false};
+ghost use Rattle.store_model.specs.Service.{OfEach, Performs, Present};
+ghost use Rattle.store_model.specs.Service.Descriptor.{desc};
+ghost use Rattle.store_model.specs.Service.Reading.{descriptor};
+ghost use Rattle.store_model.specs.StateFacts.{IsDesc, IsNumberOf};
+ghost use Rattle.store_model.specs.StoreCall.{Anything};
+
+use crate::store::MemStore;
+use pi_base::Guid;
+use ppi_links::read_descriptor;
+use store_model::{Desc, DescKind, GuidFrom, StoreFault};
+
+impl MemStore {
+    ghost use Rattle.mem_store.specs.MemState.{StandsFor};
+
+    // A descriptor that nothing names yet.
+    pub(crate) fn make_desc(
+        &mut self,
+        kind: DescKind,
+        guid: GuidFrom,
+        number: u64,
+    ) -> Result<Desc, StoreFault>
+        requires state { Present (StandsFor self.old) Anything }
+        requires number { IsNumberOf kind number }
+        ensures { Performs false (StandsFor self.old) (StandsFor self.new) (λ s. desc s kind guid number) result }
+    {
+        Err(StoreFault::Full)
+    }
+
+    // GUID and number of a descriptor.
+    pub(crate) fn tell_descriptor(&self, d: Desc) -> (Guid, u64)
+        requires { Present (StandsFor self.now) (λ s. IsDesc s d) }
+        ensures { OfEach (StandsFor self.now) (λ s. IsDesc s d) (λ s. result ≡ descriptor s d) }
+    {
+        let told = read_descriptor(&self.heap, &self.memory, d);
+        (told.guid, told.number)
+    }
+}

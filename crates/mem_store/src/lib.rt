@@ -1,0 +1,18 @@
+//! The store of PEI services in the bytes of physical memory: it keeps no list.
+#![tactic(auto)]
+
+mod descriptor;
+mod hob;
+mod install;
+mod memory;
+mod migration;
+mod notify;
+mod peek;
+mod pei_store;
+mod pool;
+mod queue;
+mod reading;
+mod store;
+mod sweep;
+
+pub use store::MemStore;

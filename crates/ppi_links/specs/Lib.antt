@@ -1,0 +1,5 @@
+pub mod Linked
+pub mod NewEntry
+pub mod Node
+pub mod DescRead
+pub mod Popped
