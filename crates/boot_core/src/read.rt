@@ -40,14 +40,14 @@ pub(crate) fn read_file<F: Files, S: Sink>(
     })) }
     ensures refused { IfErr result
         (λ status. Ends (LongOutcome (F.told files.old name.now) limit name.now) (λ n. n ≡ name.now) ⊥ status (record {
-      old = S.text sink.old;
-      new = S.text sink.new;
-      sink_before = S.faults sink.old;
-      sink_now = S.faults sink.new;
-      files_before = F.faults files.old;
-      files_now = F.faults files.new;
-      missed = F.missed files.new;
-    })) }
+          old = S.text sink.old;
+          new = S.text sink.new;
+          sink_before = S.faults sink.old;
+          sink_now = S.faults sink.new;
+          files_before = F.faults files.old;
+          files_now = F.faults files.new;
+          missed = F.missed files.new;
+        })) }
 {
     let mut content = Seq::new(alloc);
     match files.read_whole(name, limit, &mut content) {
@@ -95,14 +95,14 @@ pub(crate) fn read_volumes<F: Files, S: Sink>(
     })) }
     ensures refused { IfErr result
         (λ status. Ends (LongVolume (F.told files.old) volumes.now) (IsReached (F.told files.old) volumes.now) ⊥ status (record {
-      old = S.text sink.old;
-      new = S.text sink.new;
-      sink_before = S.faults sink.old;
-      sink_now = S.faults sink.new;
-      files_before = F.faults files.old;
-      files_now = F.faults files.new;
-      missed = F.missed files.new;
-    })) }
+          old = S.text sink.old;
+          new = S.text sink.new;
+          sink_before = S.faults sink.old;
+          sink_now = S.faults sink.new;
+          files_before = F.faults files.old;
+          files_now = F.faults files.new;
+          missed = F.missed files.new;
+        })) }
 {
     let mut images = Seq::new(alloc);
     'volumes: for volume in volumes {
