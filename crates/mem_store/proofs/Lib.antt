@@ -1,2 +1,4 @@
 pub mod Standing
 pub mod Rows
+pub mod NextHobs
+pub mod Walked

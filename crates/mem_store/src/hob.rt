@@ -7,9 +7,19 @@ ghost use Rattle.store_model.specs.Service.Reading.{fv_bases, hob_at};
 ghost use Rattle.store_model.specs.StoreCall.{Anything, IsHobPlace, IsScriptHob};
 
 use crate::store::MemStore;
-use hob_codec::Hob;
+use heap_laws::{hobs_told, image_facts};
+use hob_codec::kind::VOLUME;
+use hob_codec::{HANDOFF_LEN, Hob};
+use pei_heap::word_in;
 use pi_base::{OutOfMemory, Seq};
+use store_laws::states_fit;
 use store_model::{HobSpan, StoreFault};
+
+// More HOBs than a heap has.
+const MOST_HOBS: u32 = 1 << 28;
+
+// The offset of a HOB's body.
+const BODY_AT: usize = 8;
 
 impl MemStore {
     ghost use Rattle.mem_store.specs.MemState.{StandsFor};
@@ -20,9 +30,10 @@ impl MemStore {
         requires hob { IsScriptHob (hob_value hob.now) }
         ensures { Performs false (StandsFor self.old) (StandsFor self.new) (λ s. create_hob s (hob_value hob.now)) result }
     {
-        self.heap
-            .create(&mut self.memory, hob)
-            .ok_or(StoreFault::Full)
+        match self.heap.create(&mut self.memory, hob) {
+            Some(address) => Ok(address),
+            None => Err(StoreFault::Full),
+        }
     }
 
     // The HOB at an offset of the heap.
@@ -38,6 +49,24 @@ impl MemStore {
         requires { Present (StandsFor self.now) Anything }
         ensures { OfEach (StandsFor self.now) Anything (λ s. IfOk result (λ bases. bases ≡ fv_bases s)) }
     {
-        Err(OutOfMemory)
+        hobs_told();
+        image_facts();
+        states_fit();
+        let mut bases = Seq::new(self.memory.alloc());
+        let mut offset = HANDOFF_LEN as u64;
+        'hobs: for _hob in 0..MOST_HOBS {
+            let span = match self.heap.place(&self.memory, offset) {
+                Some(span) => span,
+                None => return Ok(bases),
+            };
+            if span.kind == VOLUME {
+                bases.push(word_in(
+                    self.heap.bytes(&self.memory),
+                    offset as usize + BODY_AT,
+                ))?;
+            }
+            offset = span.next;
+        }
+        Ok(bases)
     }
 }

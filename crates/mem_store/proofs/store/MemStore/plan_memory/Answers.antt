@@ -1,0 +1,4 @@
+use Rattle.mem_store.proofs.store.MemStore.plan_memory.Goals as goal
+
+pub returns : goal.returns
+returns c s h = ?
