@@ -10,6 +10,7 @@ use Rattle.pei_heap.specs.HeapMemory.{IsHeapOf}
 use Rattle.ppi_links.specs.declared.heads.Heads.{Heads}
 use Rattle.ppi_links.specs.Linked.{AreHeads, IsLinked}
 use Rattle.mem_store.specs.declared.store.MemStore.{MemStore}
+use Rattle.mem_store.specs.Made.{IsSame}
 use Rattle.mem_store.specs.MemState.{StandsFor, range_of}
 
 -- a state with other HOBs, pages and boot mode
@@ -47,13 +48,6 @@ stands_grown m s hobs taken mode memory h is e = stands_early m s hobs taken mod
 -- memory that is the same
 pub stands_same : (m : MemStore) (s : StoreState) (memory : PhysMem) → StandsFor m s → memory ≡ m.memory → StandsFor (record m { memory = memory }) s
 stands_same m s memory h e = subst (λ (x : PhysMem). StandsFor (record m { memory = x }) s) (sym e) h
-
--- what a state says beside its heap is the same
-pub record IsSame (s t : StoreState) : Type 0 where
-  pub board : t.board ≡ s.board
-  pub planned : t.planned ≡ s.planned
-  pub moved : t.moved ≡ s.moved
-  pub taken : t.taken ≡ s.taken
 
 -- other lists
 pub stands_linked : (m : MemStore) (s t : StoreState) (memory : PhysMem) (heads : Heads) → StandsFor m s → IsLinked m.heap memory heads t → IsSame s t

@@ -26,19 +26,26 @@ impl MemStore {
         requires number { IsNumberOf kind number }
         ensures { OfEach (StandsFor self.now) Anything (λ s. IsToMake s kind guid number result) }
     {
-        let (guid, stands) = match guid {
-            GuidFrom::Inline(guid) => (guid, None),
-            GuidFrom::At(address) => match self.memory.read_rom(address, GUID_LEN) {
-                Some(bytes) => (Guid::at(bytes, 0), Some(address)),
-                None => return None,
-            },
+        let address = match guid {
+            GuidFrom::Inline(guid) => {
+                return Some(DescriptorBody {
+                    kind,
+                    guid,
+                    stands: None,
+                    number,
+                });
+            }
+            GuidFrom::At(address) => address,
         };
-        Some(DescriptorBody {
-            kind,
-            guid,
-            stands,
-            number,
-        })
+        match self.memory.read_rom(address, GUID_LEN) {
+            Some(bytes) => Some(DescriptorBody {
+                kind,
+                guid: Guid::at(bytes, 0),
+                stands: Some(address),
+                number,
+            }),
+            None => None,
+        }
     }
 
     // A descriptor that nothing names yet.

@@ -1,10 +1,13 @@
 // HOBs are made and told.
-ghost use Rattle.std.specs.Prelude.{◌≡◌, false, IfOk};
+ghost use Rattle.std.specs.Prelude.{◌≡◌, ◌++◌, false, IfOk, OnOk, Some};
 ghost use Rattle.hob_codec.specs.HobView.{hob_value};
 ghost use Rattle.store_model.specs.Service.{OfEach, Performs, Present};
 ghost use Rattle.store_model.specs.Service.Hob.{create_hob};
 ghost use Rattle.store_model.specs.Service.Reading.{fv_bases, hob_at};
+ghost use Rattle.store_model.specs.StoreState.{StoreState};
+ghost use Rattle.store_model.specs.HeapImage.{heap_image};
 ghost use Rattle.store_model.specs.StoreCall.{Anything, IsHobPlace, IsScriptHob};
+ghost use Rattle.mem_store.specs.Volumes.{base_told};
 
 use crate::store::MemStore;
 use heap_laws::{hobs_told, image_facts};
@@ -44,13 +47,33 @@ impl MemStore {
         self.heap.place(&self.memory, offset)
     }
 
+    // Adds the base of the volume that a HOB tells of, where it tells of one.
+    fn push_base(
+        &self,
+        bases: &mut Seq<u64>,
+        offset: u64,
+        span: HobSpan,
+    ) -> Result<(), OutOfMemory>
+        requires { (s : StoreState) × StandsFor self.now s × (hob_at s offset ≡ Some span) }
+        ensures { (s : StoreState) → StandsFor self.now s
+            → OnOk result (bases.new ≡ bases.old ++ base_told (heap_image s) offset span.kind) }
+    {
+        hobs_told();
+        image_facts();
+        states_fit();
+        if span.kind != VOLUME {
+            return Ok(());
+        }
+        let heap = self.heap.bytes(&self.memory);
+        bases.push(word_in(heap, offset as usize + BODY_AT))
+    }
+
     // The bases of the volumes that HOBs tell of.
     pub(crate) fn volume_bases(&self) -> Result<Seq<u64>, OutOfMemory>
         requires { Present (StandsFor self.now) Anything }
         ensures { OfEach (StandsFor self.now) Anything (λ s. IfOk result (λ bases. bases ≡ fv_bases s)) }
     {
         hobs_told();
-        image_facts();
         states_fit();
         let mut bases = Seq::new(self.memory.alloc());
         let mut offset = HANDOFF_LEN as u64;
@@ -59,11 +82,9 @@ impl MemStore {
                 Some(span) => span,
                 None => return Ok(bases),
             };
-            if span.kind == VOLUME {
-                bases.push(word_in(
-                    self.heap.bytes(&self.memory),
-                    offset as usize + BODY_AT,
-                ))?;
+            match self.push_base(&mut bases, offset, span) {
+                Ok(()) => {}
+                Err(OutOfMemory) => return Err(OutOfMemory),
             }
             offset = span.next;
         }
