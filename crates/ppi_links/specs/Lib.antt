@@ -3,3 +3,7 @@ pub mod NewEntry
 pub mod Node
 pub mod DescRead
 pub mod Popped
+pub mod Walk
+pub mod Replaced
+pub mod Pairs
+pub mod Has
