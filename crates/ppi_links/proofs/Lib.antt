@@ -6,3 +6,4 @@ pub mod Pushed
 pub mod Volumes
 pub mod Descriptors
 pub mod Queue
+pub mod Walking
