@@ -9,11 +9,15 @@ use Rattle.store_model.specs.declared.store_handle.EntryList.{EntryList}
 use Rattle.store_model.specs.declared.store_handle.EntryList.TheVariants.{Ppis, Callbacks, Dispatches, Pendings}
 use Rattle.store_model.specs.StoreState.{StoreState}
 use Rattle.store_model.specs.StateFacts.{IsDesc, IsDescriptorAt, IsStoreState}
+use Rattle.store_model.specs.HeapImage.{heap_image}
 use Rattle.store_laws.specs.Named.{IsNamed, NamedAreThere}
 use Rattle.heap_laws.specs.Chain.{IsHeaded, NextIsRead, NodesAreInside}
 use Rattle.heap_laws.specs.Items.{Item, first_address, item_of, items}
 use Rattle.heap_laws.specs.Word.{word_in}
 use Rattle.heap_laws.proofs.Nodes.{drop_next, node_place}
+use Rattle.phys_mem.specs.declared.memory.PhysMem.{PhysMem}
+use Rattle.pei_heap.specs.declared.heap.Heap.{Heap}
+use Rattle.pei_heap.specs.HeapMemory.{IsHeapOf}
 use Rattle.ppi_links.specs.declared.node.Node.{Node}
 use Rattle.ppi_links.specs.declared.walk.Met.{Met}
 use Rattle.ppi_links.specs.Node.{node_of}
@@ -42,14 +46,14 @@ pub none_at : (s : StoreState) (list : EntryList) (place at : ℕ) → IsStoreSt
 none_at s list place at h z f = none_by s list place at (drop place (items s list)) h refl z f
 
 -- the list by its bytes
-pub headed_by : (s : StoreState) (list : EntryList) (bytes heap : List ℕ) (base : ℕ) → IsStoreState s → bytes ≡ heap → base ≡ s.base → heap ≡ Rattle.store_model.specs.HeapImage.heap_image s → IsHeaded s list bytes base (first_address s.base (items s list))
-headed_by s list bytes heap base h e b is = record { state = h; image = e ∙ is; start = b; first = refl }
+pub headed_at : (s : StoreState) (list : EntryList) (heap : Heap) (memory : PhysMem) (bytes : List ℕ) (head : ℕ) → IsHeapOf heap memory s → bytes ≡ heap_image s → head ≡ first_address s.base (items s list) → IsHeaded s list bytes heap.span.base head
+headed_at s list heap memory bytes head h e f = record { state = h.state; image = e; start = h.image.base; first = f }
 
 -- the entry of an item
-entry_of : (base : ℕ) (xs : List Entry) (place : ℕ) (item : Item) (rest : List Item) → drop place (map (item_of base) xs) ≡ item ∷ rest → (e : Entry) × (drop place xs ≡ e ∷ drop (place + 1) xs) × (item_of base e ≡ item)
+entry_of : (base : ℕ) (xs : List Entry) (place : ℕ) (item : Item) (rest : List Item) → drop place (map (item_of base) xs) ≡ item ∷ rest → (e : Entry) × (es : List Entry) × (drop place xs ≡ e ∷ es) × (item_of base e ≡ item)
 entry_of base [] zero item rest e = cc
 entry_of base [] (suc i) item rest e = cc
-entry_of base (x ∷ xs) zero item rest e = (x, refl, cc)
+entry_of base (x ∷ xs) zero item rest e = (x, xs, refl, cc)
 entry_of base (x ∷ xs) (suc i) item rest e = entry_of base xs i item rest e
 
 no_entry : (base : ℕ) (xs : List Entry) (place : ℕ) → drop place (map (item_of base) xs) ≡ [] → drop place xs ≡ []
@@ -70,10 +74,20 @@ pub record IsEntryAt (s : StoreState) (list : EntryList) (place : ℕ) (item : I
   pub rest : drop place (entries_in s list) ≡ entry ∷ drop (place + 1) (entries_in s list)
   pub is : item_of s.base entry ≡ item
 
+entry_in : (s : StoreState) (list : EntryList) (xs : List Entry) (place : ℕ) (item : Item) (rest : List Item) → entries_in s list ≡ xs → drop place (map (item_of s.base) xs) ≡ item ∷ rest → IsEntryAt s list place item
+entry_in s list xs place item rest same e =
+    let f = entry_of s.base xs place item rest e in
+    let tail : drop (place + 1) xs ≡ f.1 = drop_next xs place f.0 f.1 f.2 in
+    record {
+      entry = f.0;
+      rest = ap (drop place) same ∙ f.2 ∙ ap (λ x. f.0 ∷ x) (sym tail) ∙ ap (λ x. f.0 ∷ drop (place + 1) x) (sym same);
+      is = f.3;
+    }
+
 entry_by : (s : StoreState) (list : EntryList) (place : ℕ) (item : Item) (rest : List Item) → HasEntries list → drop place (items s list) ≡ item ∷ rest → IsEntryAt s list place item
-entry_by s Ppis place item rest has e = let f = entry_of s.base s.ppis place item rest e in record { entry = f.0; rest = f.1; is = f.2 }
-entry_by s Callbacks place item rest has e = let f = entry_of s.base s.callbacks place item rest e in record { entry = f.0; rest = f.1; is = f.2 }
-entry_by s Dispatches place item rest has e = let f = entry_of s.base s.dispatches place item rest e in record { entry = f.0; rest = f.1; is = f.2 }
+entry_by s Ppis place item rest has e = entry_in s Ppis s.ppis place item rest refl e
+entry_by s Callbacks place item rest has e = entry_in s Callbacks s.callbacks place item rest refl e
+entry_by s Dispatches place item rest has e = entry_in s Dispatches s.dispatches place item rest refl e
 entry_by s Pendings place item rest has e = absurd has
 
 pub no_more : (s : StoreState) (list : EntryList) (place : ℕ) → HasEntries list → drop place (items s list) ≡ [] → drop place (entries_in s list) ≡ []
@@ -118,3 +132,16 @@ behind_base s list place base node item rest law h start e is =
     let inside = law s list place item rest h e in
     let descriptor : node.descriptor ≡ item.descriptor = ap (λ (n : Node). n.descriptor) is in
     omega (arith, inside.2, start, descriptor)
+
+-- the address of an item that was found by its place
+pub from_get : (base : ℕ) (xs : List Item) (i at : ℕ) → Some at ≡ option_map (λ (item : Item). base + item.node) (slice_get xs i) → at ≡ first_address base (drop i xs)
+from_get base [] zero at e = cc
+from_get base [] (suc i) at e = cc
+from_get base (x ∷ xs) zero at e = cc
+from_get base (x ∷ xs) (suc i) at e = from_get base xs i at e
+
+pub from_none : (base : ℕ) (xs : List Item) (i : ℕ) → None ≡ option_map (λ (item : Item). base + item.node) (slice_get xs i) → 0 ≡ first_address base (drop i xs)
+from_none base [] zero e = refl
+from_none base [] (suc i) e = refl
+from_none base (x ∷ xs) zero e = cc
+from_none base (x ∷ xs) (suc i) e = from_none base xs i e
