@@ -7,3 +7,5 @@ pub mod Volumes
 pub mod Descriptors
 pub mod Queue
 pub mod Walking
+pub mod Finding
+pub mod Tellings

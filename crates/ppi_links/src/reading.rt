@@ -203,7 +203,9 @@ pub fn entry_behind(heap: &Heap, memory: &PhysMem, heads: &Heads, list: EntryLis
 {
     let at = node_behind(heap, memory, heads, list, node);
     match list {
-        EntryList::Ppis | EntryList::Callbacks | EntryList::Dispatches => tell_entry(heap, memory, at),
         EntryList::Pendings => tell_pair(heap, memory, at),
+        EntryList::Ppis => tell_entry(heap, memory, at),
+        EntryList::Callbacks => tell_entry(heap, memory, at),
+        EntryList::Dispatches => tell_entry(heap, memory, at),
     }
 }
