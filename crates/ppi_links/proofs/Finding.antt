@@ -1,5 +1,5 @@
 -- A search along a list, by what is left of it.
-use Rattle.std.proofs.Common.{◌≡◌, ◌≢◌, ◌+◌, ◌-◌, ◌||◌, ℕ, zero, suc, Bool, true, false, cond, List, [], ◌∷◌, Option, Some, None, ap, sym, refl, ◌∙◌, arith}
+use Rattle.std.proofs.Common.{◌≡◌, ◌≢◌, ◌+◌, ◌-◌, ◌≤◌, length, drop, ◌||◌, ℕ, zero, suc, Bool, true, false, cond, List, [], ◌∷◌, Option, Some, None, ap, sym, refl, ◌∙◌, arith}
 use Rattle.std.specs.Prelude.{filter, slice_get}
 use Rattle.std.specs.List.{list_any}
 
@@ -31,3 +31,10 @@ nth_past p xs rest x left whole e f t = ap (λ b. slice_get (cond b (x ∷ filte
 
 pub nth_end : {A : Type 0} (p : A → Bool) (xs : List A) (left : ℕ) (whole : Option A) → xs ≡ [] → slice_get (filter p xs) left ≡ whole → None ≡ whole
 nth_end p xs left whole e f = ap (λ l. slice_get (filter p l) left) (sym e) ∙ f
+
+-- past the last there is nothing
+pub drop_all : {A : Type 0} (xs : List A) (i : ℕ) → length xs ≤ i → drop i xs ≡ []
+drop_all [] zero le = refl
+drop_all [] (suc i) le = refl
+drop_all (x ∷ xs) zero le = absurd (omega (arith, le))
+drop_all (x ∷ xs) (suc i) le = drop_all xs i (omega (arith, le))

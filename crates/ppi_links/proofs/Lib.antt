@@ -7,5 +7,6 @@ pub mod Volumes
 pub mod Descriptors
 pub mod Queue
 pub mod Walking
+pub mod Named
 pub mod Finding
 pub mod Tellings
