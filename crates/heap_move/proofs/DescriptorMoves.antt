@@ -46,7 +46,7 @@ pub descriptor_read : (s : StoreState) (to : Range) (course : Course) (done : Do
 descriptor_read s to course done p d h found =
     step_read s to done p (Descriptor d) (descriptor_now s to p d (done.descriptors p)) (guid_behind d d.stands) h.bodies found (descriptor_is s to done p d (done.descriptors p) refl) (descriptor_long d)
 
-descriptor_behind : (s : StoreState) (p : ℕ) (d : DescriptorBody) → length (body_bytes s p (Descriptor d)) ≡ body_len (Descriptor d) → body_len (Descriptor d) ≡ 24 + length (guid_behind d d.stands)
+pub descriptor_behind : (s : StoreState) (p : ℕ) (d : DescriptorBody) → length (body_bytes s p (Descriptor d)) ≡ body_len (Descriptor d) → body_len (Descriptor d) ≡ 24 + length (guid_behind d d.stands)
 descriptor_behind s p d h = sym h ∙ omega arith
 
 pub descriptor_written : (s : StoreState) (to : Range) (course : Course) (done : Done) (p : ℕ) (d : DescriptorBody) → IsReady s to course → body_at s p ≡ Some (Descriptor d)

@@ -45,7 +45,7 @@ last_is base [] = refl
 last_is base (link ∷ []) = refl
 last_is base (link ∷ next ∷ links) = last_is base (next ∷ links)
 
-drop_map : {A B : Type 0} (f : A → B) (xs rest : List A) (x : A) (i : ℕ) → drop i xs ≡ x ∷ rest → drop i (map f xs) ≡ f x ∷ map f rest
+pub drop_map : {A B : Type 0} (f : A → B) (xs rest : List A) (x : A) (i : ℕ) → drop i xs ≡ x ∷ rest → drop i (map f xs) ≡ f x ∷ map f rest
 drop_map f [] rest x ℕ.zero e = cc
 drop_map f [] rest x (ℕ.suc i) e = cc
 drop_map f (y ∷ ys) rest x ℕ.zero e =

@@ -25,14 +25,14 @@ links_now s to link rest b = cond b (links_words (fields to.base link rest)) (li
 pub node_within : (s : StoreState) (to : Range) (course : Course) (p : ℕ) → IsReady s to course → IsNodeAt s p → p < s.len
 node_within s to course p h found = let le = inside s to course p Node h found in omega (arith, le)
 
-descriptor_within : (s : StoreState) (to : Range) (course : Course) (p : ℕ) → IsReady s to course → HasDescriptor s p → p < s.len
+pub descriptor_within : (s : StoreState) (to : Range) (course : Course) (p : ℕ) → IsReady s to course → HasDescriptor s p → p < s.len
 descriptor_within s to course p h found = let le = inside s to course p (Descriptor found.0) h found.1 in let long = descriptor_long found.0 in omega (arith, le, long)
 
-next_within : (s : StoreState) (to : Range) (course : Course) (p : Option ℕ) → IsReady s to course → IfSome p (IsNodeAt s) → IfSome p (λ n. n < s.len)
+pub next_within : (s : StoreState) (to : Range) (course : Course) (p : Option ℕ) → IsReady s to course → IfSome p (IsNodeAt s) → IfSome p (λ n. n < s.len)
 next_within s to course None h found = tt
 next_within s to course (Some p) h found = node_within s to course p h found
 
-other_within : (s : StoreState) (to : Range) (course : Course) (p : Option ℕ) → IsReady s to course → IfSome p (HasDescriptor s) → IfSome p (λ n. n < s.len)
+pub other_within : (s : StoreState) (to : Range) (course : Course) (p : Option ℕ) → IsReady s to course → IfSome p (HasDescriptor s) → IfSome p (λ n. n < s.len)
 other_within s to course None h found = tt
 other_within s to course (Some p) h found = descriptor_within s to course p h found
 

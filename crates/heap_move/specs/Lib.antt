@@ -6,3 +6,4 @@ pub mod Pages
 pub mod Copied
 pub mod Ready
 pub mod Due
+pub mod Relocated

@@ -10,7 +10,8 @@ use phys_mem::PhysMem;
 /// Copies the first `n` bytes of the old heap to the new, and unmaps temporary RAM.
 pub fn copy_heap(memory: &mut PhysMem, course: &Course, n: usize)
     requires due { (s : StoreState) × (to : Range) × IsMoving s to memory.old × (course.now ≡ course_of s to) × (n ≡ end_place s + 8) }
-    ensures { (s : StoreState) (to : Range) → IsMoving s to memory.old → course.now ≡ course_of s to → n ≡ end_place s + 8 → IsCopied s to memory.new }
+    ensures { (s : StoreState) (to : Range) → IsMoving s to memory.old → course.now ≡ course_of s to → n ≡ end_place s + 8
+        → IsCopied s to memory.new }
 {
     if !memory.copy(course.from, course.to, n) {
         unreachable!()

@@ -26,8 +26,10 @@ pub fn end_place(heap: &Heap, memory: &PhysMem) -> u64
 
 /// Writes the memory's bounds into the hand-off HOB of the new heap.
 pub fn write_handoff(memory: &mut PhysMem, course: &Course, place: u64, taken: u64)
-    requires copied { (s : StoreState) × (to : Range) × IsReady s to course.now × IsCopied s to memory.old × (place ≡ end_place s) × (taken ≡ s.taken) × (s.taken ≤ s.board.pages) }
-    ensures { (s : StoreState) (to : Range) → IsReady s to course.now → IsCopied s to memory.old → place ≡ end_place s → taken ≡ s.taken → s.taken ≤ s.board.pages → IsHalf s to none_done memory.new }
+    requires copied { (s : StoreState) × (to : Range) × IsReady s to course.now × IsCopied s to memory.old × (place ≡ end_place s)
+        × (taken ≡ s.taken) × (s.taken ≤ s.board.pages) }
+    ensures { (s : StoreState) (to : Range) → IsReady s to course.now → IsCopied s to memory.old → place ≡ end_place s → taken ≡ s.taken
+        → s.taken ≤ s.board.pages → IsHalf s to none_done memory.new }
 {
     let top = course.to + course.room;
     let low = Words {

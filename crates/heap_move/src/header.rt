@@ -17,7 +17,8 @@ pub struct Header {
 /// The header at an address of the heap.
 pub fn header_at(memory: &PhysMem, at: u64) -> Header
     requires heap { (l : Layout) × (heap : List ℕ) × HasHeap l heap memory.now × (l.base ≤ at) × (at + 8 ≤ l.base + l.len) }
-    ensures { (l : Layout) (heap : List ℕ) (header : OfHeader) → HasHeap l heap memory.now → l.base ≤ at → at + 8 ≤ l.base + l.len → take 8 (drop (at - l.base) heap) ≡ header_bytes header.kind header.len
+    ensures { (l : Layout) (heap : List ℕ) (header : OfHeader) → HasHeap l heap memory.now → l.base ≤ at → at + 8 ≤ l.base + l.len
+        → take 8 (drop (at - l.base) heap) ≡ header_bytes header.kind header.len
         → header.kind < 256 ^ 2 → header.len < 256 ^ 2 → result ≡ header }
 {
     little_endian();

@@ -1,12 +1,14 @@
 // The move of a heap as a whole.
 ghost use Rattle.std.specs.Prelude.{◌≡◌};
 ghost use Rattle.store_model.specs.StoreState.{Range, StoreState, end_place};
+ghost use Rattle.store_model.specs.HeapImage.{heap_image};
 ghost use Rattle.store_model.specs.Migration.{migrated_to};
 ghost use Rattle.heap_laws.specs.Mapped.{IsMemoryOf};
 ghost use Rattle.ppi_links.specs.Linked.{AreHeads, IsLinked};
 ghost use Rattle.heap_move.specs.Due.{IsDue, IsMoving, course_of, range_of};
 ghost use Rattle.heap_move.specs.Half.{IsHalf, lists_done, none_done};
 ghost use Rattle.heap_move.specs.Ready.{IsReady};
+ghost use Rattle.heap_move.specs.Relocated.{IsRelocated};
 
 use crate::chain::move_chain;
 use crate::copy::copy_heap;
@@ -15,7 +17,7 @@ use crate::handoff::{end_place, write_handoff};
 use crate::hob::move_hobs;
 use pei_heap::Heap;
 use phys_mem::PhysMem;
-use pi_base::Span;
+use pi_base::{Span, little_endian};
 use ppi_links::Heads;
 
 // The ends of the lists after the move.
@@ -77,9 +79,12 @@ pub fn migrate(
     to: Span,
 )
     requires { (s : StoreState) × IsLinked heap.old memory.old heads.old s × IsDue s pages early to }
-    ensures { (s : StoreState) → IsLinked heap.old memory.old heads.old s → IsDue s pages early to
+    ensures linked { (s : StoreState) → IsLinked heap.old memory.old heads.old s → IsDue s pages early to
         → IsLinked heap.new memory.new heads.new (migrated_to s (range_of to)) }
+    ensures relocated { (s : StoreState) → IsLinked heap.old memory.old heads.old s → IsDue s pages early to
+        → IsRelocated s (range_of to) (heap_image s) (heap_image (migrated_to s (range_of to))) }
 {
+    little_endian();
     let course = Course {
         from: heap.span.base,
         len: heap.span.len,

@@ -6,7 +6,8 @@ use Rattle.pei_heap.specs.declared.heap.Heap.{Heap}
 use Rattle.pei_heap.specs.HeapMemory.{IsHeapOf}
 use Rattle.heap_move.specs.declared.course.Course.{Course}
 use Rattle.heap_move.specs.Due.{IsDue, IsMoving, course_of, range_of}
-use Rattle.heap_move.proofs.Readiness.{after}
+use Rattle.heap_move.proofs.Readiness.{after, is_ready, pages_left}
+use Rattle.heap_move.proofs.Relocated.{relocated}
 use Rattle.heap_move.proofs.migration.migrate.Goals as goal
 
 course_is : (s : StoreState) (memory : PhysMem) (heap : Heap) (pages : Span) (early : ℕ) (to : Span) → IsHeapOf heap memory s → IsDue s pages early to
@@ -27,18 +28,20 @@ move_heap-requires c =
     let s = c.requires.0 in
     let is = c.requires.1 in
     let h = c.requires.2 in
-    record { due = (
-      s,
-      range_of c.args.to,
-      moving s c.args.memory.now c.args.heap.now c.args.pages c.args.early c.args.to is.heap_is h,
-      course_is s c.args.memory.now c.args.heap.now c.args.pages c.args.early c.args.to is.heap_is h,
-      is.heads_are,
-      c.end_place-place.ensures s is.heap_is,
-      h.early_is,
-    ) }
+    record {
+      due = (
+        s,
+        range_of c.args.to,
+        moving s c.args.memory.now c.args.heap.now c.args.pages c.args.early c.args.to is.heap_is h,
+        course_is s c.args.memory.now c.args.heap.now c.args.pages c.args.early c.args.to is.heap_is h,
+        is.heads_are,
+        c.end_place-place.ensures s is.heap_is,
+        h.early_is,
+      );
+    }
 
-pub returns : goal.returns
-returns c s is h =
+pub returns-clause-linked : goal.returns-clause-linked
+returns-clause-linked c s is h =
     let to = range_of c.args.to in
     let due = moving s c.args.memory.now c.args.heap.now c.args.pages c.args.early c.args.to is.heap_is h in
     let way = course_is s c.args.memory.now c.args.heap.now c.args.pages c.args.early c.args.to is.heap_is h in
@@ -48,3 +51,9 @@ returns c s is h =
       heap_is = record { state = after s to is.heap_is.state h.still h.planned; image = record { base = refl; len = refl; has = memory.image } };
       heads_are = c.move_heap.ensures.heads s to due way is.heads_are place h.early_is;
     }
+
+pub returns-clause-relocated : goal.returns-clause-relocated
+returns-clause-relocated c s is h =
+    let to = range_of c.args.to in
+    let due = moving s c.args.memory.now c.args.heap.now c.args.pages c.args.early c.args.to is.heap_is h in
+    relocated c.little_endian.ensures.read s to (course_of s to) (is_ready s to c.args.memory.now due) (pages_left s due.state due.still)
