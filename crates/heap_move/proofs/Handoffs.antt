@@ -1,13 +1,11 @@
 -- The hand-off HOB of the old heap, and the one of the new.
-use Rattle.std.proofs.Common.{◌≡◌, ℕ, ◌+◌, ◌-◌, ◌≤◌, ◌<◌, ◌^◌, List, [], ◌++◌, length, take, drop, arith, ap, refl, sym, ◌∙◌, append_assoc}
-use Rattle.std.specs.Prelude.{replicate}
-use Rattle.pi_base.specs.Field.{little_number, little_bytes, ReadsWhatItSpells}
+use Rattle.std.proofs.Common.{◌≡◌, ℕ, ◌+◌, ◌-◌, ◌≤◌, List, ◌++◌, arith, ap, refl, sym, ◌∙◌, append_assoc}
 use Rattle.phys_mem.specs.Region.{replaced}
-use Rattle.hob_codec.specs.declared.kind.TheConstants.{HANDOFF, END}
+use Rattle.hob_codec.specs.declared.kind.TheConstants.{HANDOFF}
 use Rattle.hob_codec.specs.HobValue.{HandoffHob}
 use Rattle.hob_codec.specs.HobBytes.{fields_of, joined}
 use Rattle.store_model.specs.StoreState.{Range, StoreState, end_place, page_bytes}
-use Rattle.store_model.specs.HeapImage.{header_bytes, hobs_bytes, hob_list, heap_image}
+use Rattle.store_model.specs.HeapImage.{header_bytes}
 use Rattle.store_model.specs.Migration.{migrated_to}
 use Rattle.heap_laws.specs.Growing.{front_bytes}
 use Rattle.heap_laws.specs.Spelling.{spelled}

@@ -1,5 +1,5 @@
 -- The image after the move, part by part, beside the image before.
-use Rattle.std.proofs.Common.{◌≡◌, ℕ, ◌+◌, ◌-◌, ◌≤◌, ◌<◌, ◌^◌, Bool, true, false, List, [], ◌∷◌, length, take, drop, arith, ap, refl, sym, subst, ◌∙◌, Some}
+use Rattle.std.proofs.Common.{◌≡◌, ℕ, ◌+◌, ◌-◌, ◌≤◌, true, false, List, [], ◌∷◌, length, take, drop, arith, ap, refl, sym, subst, ◌∙◌, Some}
 use Rattle.std.specs.Prelude.{map, option_map, if◌then◌else◌}
 use Rattle.pi_base.specs.Field.{little_bytes, ReadsWhatItSpells}
 use Rattle.store_model.specs.declared.state.AllocationBody.{AllocationBody}
@@ -22,7 +22,7 @@ use Rattle.heap_laws.proofs.Front.{front_piece, number_is}
 use Rattle.heap_laws.proofs.Nodes.{piece_of, node_is, next_is_read, descriptor_is_read, second_is_read}
 use Rattle.heap_laws.proofs.Reading.{image_at}
 use Rattle.heap_move.specs.declared.course.Course.{Course}
-use Rattle.heap_move.specs.Linked.{Link, links_of, address, item_at, first_of, fields}
+use Rattle.heap_move.specs.Linked.{Link, links_of, item_at, first_of, fields}
 use Rattle.heap_move.specs.Ready.{IsReady}
 use Rattle.heap_move.specs.Relocated.{IsKept, IsNodeMoved, IsDescriptorMoved, ArePagesMoved, IsRelocated}
 use Rattle.heap_move.proofs.Links.{items_old, items_new, first_is, drop_map, is_link}

@@ -1,6 +1,6 @@
 use Rattle.std.proofs.Common.{◌≡◌, ℕ, ap, ◌∙◌, refl}
 use Rattle.pi_base.specs.declared.span.Span.{Span}
-use Rattle.store_model.specs.StoreState.{Range, StoreState}
+use Rattle.store_model.specs.StoreState.{StoreState}
 use Rattle.phys_mem.specs.declared.memory.PhysMem.{PhysMem}
 use Rattle.pei_heap.specs.declared.heap.Heap.{Heap}
 use Rattle.pei_heap.specs.HeapMemory.{IsHeapOf}
