@@ -22,18 +22,12 @@ frame_read front tail spell hobs p body len spelt found =
     ap (drop p) (append_assoc front bodies tail) ∙ ap (λ n. drop n (front ++ (bodies ++ tail))) sum ∙ sym (drop-drop (p - 56) (length front) (front ++ (bodies ++ tail))) ∙ ap (drop (p - 56)) (drop_at front (bodies ++ tail) (length front) refl) in
     ap (take (body_len body)) here ∙ bodies_are_read spell hobs 56 p body tail spelt found
 
-pub frame_written : (front tail : List ℕ) (f g : ℕ → Body → List ℕ) (hobs : List HobEntry) (p : ℕ) (body : Body) → length front ≡ 56 → AreSpelled f hobs → AgreeBut p f g → body_from 56 hobs p ≡ Some body → length (g p body) ≡ body_len body
-    → front ++ spelled g 56 hobs ++ tail ≡ replaced (front ++ spelled f 56 hobs ++ tail) p (g p body)
-frame_written front tail f g hobs p body len spelt agree found text =
-    let old : List ℕ = spelled f 56 hobs in
-    let le : 56 + 8 ≤ p = body_behind hobs 56 p body found in
-    let before : p + body_len body ≤ 56 + sum_by hob_len hobs = body_inside hobs 56 p body found in
-    let size : length old ≡ sum_by hob_len hobs = spelled_len f 56 hobs spelt in
-    let all : length (front ++ old) ≡ length front + length old = length-append front old in
-    let fits : p + length (g p body) ≤ length (front ++ old) = omega (arith, before, size, all, len, text) in
+pub framed : (front bodies tail text new : List ℕ) (p : ℕ) → length front ≡ 56 → 64 ≤ p → p + length text ≤ 56 + length bodies → new ≡ replaced bodies (p - 56) text
+    → front ++ new ++ tail ≡ replaced (front ++ bodies ++ tail) p text
+framed front bodies tail text new p len le fits is =
+    let all : length (front ++ bodies) ≡ length front + length bodies = length-append front bodies in
     let sum : p ≡ length front + (p - 56) = omega (arith, le, len) in
-    let new : spelled g 56 hobs ≡ replaced old (p - 56) (g p body) = ap (spelled g 56) (sym (unchanged hobs 56 p)) ∙ bodies_are_written f g (λ b. b) hobs 56 p body spelt agree found refl text in
-    ap (λ x. front ++ x ++ tail) new ∙ sym (replaced_front (front ++ old) tail (g p body) p fits ∙ ap (λ x. x ++ tail) (replaced_later front old (g p body) p (p - 56) sum))
+    ap (λ x. front ++ x ++ tail) is ∙ sym (replaced_front (front ++ bodies) tail text p (omega (arith, all, len, fits)) ∙ ap (λ x. x ++ tail) (replaced_later front bodies text p (p - 56) sum))
 
 -- what is the same behind a text need not be written
 rest_same : (after rest : List ℕ) (n : ℕ) → n ≡ length rest → take n after ≡ rest → rest ++ drop n after ≡ after

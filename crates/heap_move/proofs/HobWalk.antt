@@ -114,9 +114,3 @@ no_hob hobs i le =
 pub few_hobs : (hobs : List HobEntry) → length hobs ≤ sum_by hob_len hobs
 few_hobs [] = omega arith
 few_hobs (hob ∷ rest) = let sum : sum_by hob_len (hob ∷ rest) ≡ hob_len hob + sum_by hob_len rest = sum_by-cons hob_len hob rest in let few = few_hobs rest in omega (arith, sum, few)
-
-pub hob_at : {A : Type 0} (P : A → Type 0) (xs : List A) (i : ℕ) (x : A) (rest : List A) → Each P xs → drop i xs ≡ x ∷ rest → P x
-hob_at P [] zero x rest h e = cc
-hob_at P [] (suc i) x rest h e = cc
-hob_at P (y ∷ ys) zero x rest h e = let same : y ≡ x = cc in subst P same h.0
-hob_at P (y ∷ ys) (suc i) x rest h e = hob_at P ys i x rest h.1 e

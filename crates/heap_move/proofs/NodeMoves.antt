@@ -1,5 +1,5 @@
 -- A node, moved: the numbers that are read are the old or the new, and what is written are the new.
-use Rattle.std.proofs.Common.{◌≡◌, ℕ, ◌+◌, ◌≤◌, ◌<◌, Bool, true, false, cond, List, take, drop, arith, refl, Option, Some, None}
+use Rattle.std.proofs.Common.{◌≡◌, ℕ, ◌+◌, ◌≤◌, ◌<◌, Bool, true, false, cond, List, take, drop, arith, refl, Option, Some, None, ◌-◌, ap, ◌∙◌}
 use Rattle.std.specs.Prelude.{IfSome}
 use Rattle.pi_base.specs.Field.{little_bytes}
 use Rattle.phys_mem.specs.Region.{replaced}
@@ -8,6 +8,8 @@ use Rattle.store_model.specs.StoreState.{Range, StoreState}
 use Rattle.store_model.specs.StateFacts.{IsNodeAt}
 use Rattle.store_model.specs.Migration.{moved_number}
 use Rattle.heap_laws.specs.Moving.{Done, half, with_node_done}
+use Rattle.heap_laws.specs.Spelling.{spelled}
+use Rattle.heap_laws.proofs.Moving.{nodes_are_moved}
 use Rattle.heap_move.specs.declared.course.Course.{Course}
 use Rattle.heap_move.specs.declared.words.Words.{Words}
 use Rattle.heap_move.specs.WordBytes.{words_bytes, links_words, shifted_node}
@@ -15,7 +17,7 @@ use Rattle.heap_move.specs.Half.{half_image}
 use Rattle.heap_move.specs.Linked.{Link, address, first_of, fields, IsLink, HasDescriptor}
 use Rattle.heap_move.specs.Ready.{IsReady}
 use Rattle.heap_move.proofs.Numbers.{place_moves, new_stays, address_moves, address_stays, address_low}
-use Rattle.heap_move.proofs.Steps.{step_read, step_written, half_spelt, node_is, node_done, node_apart}
+use Rattle.heap_move.proofs.Steps.{step_read, step_written, half_spelt, node_is, node_new}
 use Rattle.heap_move.proofs.Moves.{inside, descriptor_long, same_words, AreLow, old_low, new_low, spelt_at}
 
 -- the numbers of a node
@@ -62,5 +64,5 @@ pub node_written : (s : StoreState) (to : Range) (course : Course) (done : Done)
     → half_image s to (with_node_done done link.node) ≡ replaced (half_image s to done) link.node (words_bytes (links_words (fields to.base link rest)))
 node_written s to course done link rest h l =
     step_written s to done (with_node_done done link.node) link.node Node (links_now s to link rest (done.nodes link.node)) (links_words (fields to.base link rest)) (little_bytes 8 link.number)
-    h.bodies (node_apart s to done link.node) l.node (node_is s to done link rest (done.nodes link.node) l refl) (node_done s to done link rest l) refl
-    (spelt_at (half s to (with_node_done done link.node)) s.hobs 56 link.node Node (half_spelt s to (with_node_done done link.node) s.hobs h.bodies) l.node)
+    h.bodies l.node (node_is s to done link rest (done.nodes link.node) l refl) refl
+    (nodes_are_moved s to done s.hobs 56 link.node (half_spelt s to done s.hobs h.bodies) l.node ∙ ap (replaced (spelled (half s to done) 56 s.hobs) (link.node - 56)) (node_new s to link rest l))

@@ -7,16 +7,16 @@ use Rattle.store_model.specs.declared.state.AllocationBody.{AllocationBody}
 use Rattle.store_model.specs.declared.state.Body.TheVariants.{Bytes, Descriptor, Node, Allocation}
 use Rattle.store_model.specs.StoreState.{Range, StoreState, body_at}
 use Rattle.store_model.specs.HeapImage.{allocation_bytes}
-use Rattle.heap_laws.specs.Spelling.{AgreeBut}
+use Rattle.heap_laws.specs.Spelling.{spelled}
 use Rattle.heap_laws.specs.Moving.{Done, half}
-use Rattle.heap_laws.proofs.Items.{same_is, other_is}
+use Rattle.heap_laws.proofs.Moving.{pages_are_moved}
 use Rattle.heap_move.specs.declared.course.Course.{Course}
 use Rattle.heap_move.specs.declared.words.Words.{Words}
 use Rattle.heap_move.specs.WordBytes.{words_bytes}
 use Rattle.heap_move.specs.Half.{half_image}
 use Rattle.heap_move.specs.Pages.{with_pages}
 use Rattle.heap_move.specs.Ready.{IsReady}
-use Rattle.heap_move.proofs.Steps.{step_read, step_written}
+use Rattle.heap_move.proofs.Steps.{step_read, step_written, half_spelt}
 
 -- a zero name, and a base
 abbrev pub page_words : ℕ → Words
@@ -32,25 +32,6 @@ spelt_pages page_end a = refl
 pages_old : (s : StoreState) (to : Range) (done : Done) (p : ℕ) (a : AllocationBody) → done.pages p ≡ false → half s to done p (Allocation a) ≡ words_bytes (page_words (s.page_end - a.below)) ++ page_rest a
 pages_old s to done p a e = ap (λ b. cond b (allocation_bytes (to.base + to.len) a) (allocation_bytes s.page_end a)) e ∙ spelt_pages s.page_end a
 
-or_true : (b : Bool) → (b || true) ≡ true
-or_true true = refl
-or_true false = refl
-
-or_false : (b : Bool) → (b || false) ≡ b
-or_false true = refl
-or_false false = refl
-
-pages_new : (s : StoreState) (to : Range) (done : Done) (p : ℕ) (a : AllocationBody) → half s to (with_pages done p (Allocation a)) p (Allocation a) ≡ words_bytes (page_words (to.base + to.len - a.below)) ++ page_rest a
-pages_new s to done p a =
-    ap (λ b. cond b (allocation_bytes (to.base + to.len) a) (allocation_bytes s.page_end a)) (ap (λ b. done.pages p || b) (same_is p) ∙ or_true (done.pages p)) ∙ spelt_pages (to.base + to.len) a
-
-pages_apart : (s : StoreState) (to : Range) (done : Done) (p : ℕ) (a : AllocationBody) → AgreeBut p (half s to done) (half s to (with_pages done p (Allocation a)))
-pages_apart s to done p a place (Bytes bytes) n = refl
-pages_apart s to done p a place (Descriptor d) n = refl
-pages_apart s to done p a place Node n = refl
-pages_apart s to done p a place (Allocation b) n =
-    ap (λ x. cond x (allocation_bytes (to.base + to.len) b) (allocation_bytes s.page_end b)) (ap (λ x. done.pages place || x) (other_is place p n) ∙ or_false (done.pages place))
-
 pub pages_read : (s : StoreState) (to : Range) (course : Course) (done : Done) (p : ℕ) (a : AllocationBody) → IsReady s to course → body_at s p ≡ Some (Allocation a) → done.pages p ≡ false
     → take 24 (drop p (half_image s to done)) ≡ words_bytes (page_words (s.page_end - a.below))
 pages_read s to course done p a h found e = step_read s to done p (Allocation a) (page_words (s.page_end - a.below)) (page_rest a) h.bodies found (pages_old s to done p a e) (omega arith)
@@ -58,6 +39,6 @@ pages_read s to course done p a h found e = step_read s to done p (Allocation a)
 pub pages_written : (s : StoreState) (to : Range) (course : Course) (done : Done) (p : ℕ) (a : AllocationBody) → IsReady s to course → body_at s p ≡ Some (Allocation a) → done.pages p ≡ false
     → half_image s to (with_pages done p (Allocation a)) ≡ replaced (half_image s to done) p (words_bytes (page_words (to.base + to.len - a.below)))
 pages_written s to course done p a h found e =
-    let size : length (half s to (with_pages done p (Allocation a)) p (Allocation a)) ≡ 40 = ap length (ap (λ b. cond b (allocation_bytes (to.base + to.len) a) (allocation_bytes s.page_end a)) (ap (λ b. done.pages p || b) (same_is p) ∙ or_true (done.pages p))) in
     step_written s to done (with_pages done p (Allocation a)) p (Allocation a) (page_words (s.page_end - a.below)) (page_words (to.base + to.len - a.below)) (page_rest a)
-    h.bodies (pages_apart s to done p a) found (pages_old s to done p a e) (pages_new s to done p a) refl size
+    h.bodies found (pages_old s to done p a e) refl
+    (pages_are_moved s to done s.hobs 56 p a (half_spelt s to done s.hobs h.bodies) found ∙ ap (replaced (spelled (half s to done) 56 s.hobs) (p - 56)) (spelt_pages (to.base + to.len) a))
