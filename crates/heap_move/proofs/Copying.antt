@@ -14,7 +14,7 @@ use Rattle.heap_laws.specs.Spelling.{AreSpelled}
 use Rattle.heap_laws.specs.Mapped.{layout_of, regions_by, IsPlacedBy}
 use Rattle.heap_laws.proofs.Words.{has_read}
 use Rattle.heap_move.specs.Copied.{copied_image, IsCopied}
-use Rattle.heap_move.specs.Due.{IsMoving}
+use Rattle.heap_move.specs.Ready.{IsMoving}
 use Rattle.heap_move.proofs.Readiness.{heap_of, placed_in, is_ready}
 use Rattle.heap_move.proofs.ListBytes.{zeros, list_len, copied_is}
 use Rattle.heap_move.proofs.CopiedRegions.{is_in, away, turned, roms_apart, zeros_written, copied_regions}

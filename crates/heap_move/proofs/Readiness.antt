@@ -21,8 +21,7 @@ use Rattle.store_laws.proofs.Fits.{all_fit, body_is_of}
 use Rattle.store_laws.proofs.Services.{all_keep}
 use Rattle.heap_laws.proofs.Facts.{bodies_are_spelled, has_room}
 use Rattle.heap_move.specs.Course.{IsCourse}
-use Rattle.heap_move.specs.Due.{course_of, IsMoving}
-use Rattle.heap_move.specs.Ready.{IsElsewhere, IsMovable, IsOfKind, HasHeader, IsReady}
+use Rattle.heap_move.specs.Ready.{IsElsewhere, IsMovable, IsOfKind, HasHeader, IsReady, course_of, IsMoving}
 
 -- the heap before the move
 pub heap_of : (s : StoreState) → IsStoreState s → s.moved ≡ false → IsHeap s false

@@ -2,7 +2,7 @@
 ghost use Rattle.std.specs.Prelude.{◌≡◌, ◌+◌, ◌≤◌, ℕ};
 ghost use Rattle.store_model.specs.StoreState.{Range, StoreState, end_place};
 ghost use Rattle.heap_move.specs.Copied.{IsCopied};
-ghost use Rattle.heap_move.specs.Due.{IsMoving, course_of};
+ghost use Rattle.heap_move.specs.Ready.{IsMoving, course_of};
 
 use crate::course::Course;
 use phys_mem::PhysMem;

@@ -5,9 +5,9 @@ ghost use Rattle.store_model.specs.HeapImage.{heap_image};
 ghost use Rattle.store_model.specs.Migration.{migrated_to};
 ghost use Rattle.heap_laws.specs.Mapped.{IsMemoryOf};
 ghost use Rattle.ppi_links.specs.Linked.{AreHeads, IsLinked};
-ghost use Rattle.heap_move.specs.Due.{IsDue, IsMoving, course_of, range_of};
+ghost use Rattle.heap_move.specs.Due.{IsDue, range_of};
 ghost use Rattle.heap_move.specs.Half.{IsHalf, lists_done, none_done};
-ghost use Rattle.heap_move.specs.Ready.{IsReady};
+ghost use Rattle.heap_move.specs.Ready.{IsReady, IsMoving, course_of};
 ghost use Rattle.heap_move.specs.Relocated.{IsRelocated};
 
 use crate::chain::move_chain;

@@ -5,7 +5,8 @@ use Rattle.phys_mem.specs.declared.memory.PhysMem.{PhysMem}
 use Rattle.pei_heap.specs.declared.heap.Heap.{Heap}
 use Rattle.pei_heap.specs.HeapMemory.{IsHeapOf}
 use Rattle.heap_move.specs.declared.course.Course.{Course}
-use Rattle.heap_move.specs.Due.{IsDue, IsMoving, course_of, range_of}
+use Rattle.heap_move.specs.Due.{IsDue, range_of}
+use Rattle.heap_move.specs.Ready.{IsMoving, course_of}
 use Rattle.heap_move.proofs.Readiness.{after, is_ready, pages_left}
 use Rattle.heap_move.proofs.Relocated.{relocated}
 use Rattle.heap_move.proofs.migration.migrate.Goals as goal
