@@ -9,8 +9,15 @@ ghost use Rattle.heap_move.specs.Ready.{IsReady};
 use crate::course::Course;
 use crate::words::{Words, put_words};
 use heap_laws::handoff_read;
+use hob_codec::HEADER_LEN;
 use pei_heap::{Heap, word_in};
 use phys_mem::PhysMem;
+
+// The offset of EfiMemoryTop, behind which EfiMemoryBottom and EfiFreeMemoryTop stand.
+const MEMORY_TOP_AT: u64 = 16;
+
+// The offset of EfiFreeMemoryTop, behind which EfiFreeMemoryBottom and EfiEndOfHobList stand.
+const FREE_TOP_AT: u64 = 32;
 
 // The offset of EfiEndOfHobList.
 const END_AT: usize = 48;
@@ -37,11 +44,11 @@ pub fn write_handoff(memory: &mut PhysMem, course: &Course, place: u64, taken: u
         second: course.to,
         third: top - taken,
     };
-    put_words(memory, course.to + 16, low);
+    put_words(memory, course.to + MEMORY_TOP_AT, low);
     let high = Words {
         first: top - taken,
-        second: course.to + place + 8,
+        second: course.to + place + HEADER_LEN as u64,
         third: course.to + place,
     };
-    put_words(memory, course.to + 32, high);
+    put_words(memory, course.to + FREE_TOP_AT, high);
 }

@@ -15,6 +15,7 @@ use crate::course::Course;
 use crate::header::header_at;
 use crate::words::{Words, put_words, words_at};
 use hob_codec::kind::ALLOCATION;
+use hob_codec::{HANDOFF_LEN, HEADER_LEN};
 use phys_mem::PhysMem;
 
 // What the numbers of taken pages are after the move: their base is counted from the new heap's end.
@@ -67,13 +68,13 @@ pub fn move_hobs(memory: &mut PhysMem, course: &Course, end: u64)
     ensures { (s : StoreState) (to : Range) (done : Done) → IsReady s to course.now → ((place : ℕ) → done.pages place ≡ false)
         → IsHalf s to done memory.old → end ≡ to.base + end_place s → IsHalf s to (with_hobs done handoff_len s.hobs) memory.new }
 {
-    let mut at = course.to + 56;
+    let mut at = course.to + HANDOFF_LEN as u64;
     'hobs: for _step in 0..course.len {
         if at >= end {
             return;
         }
         let header = header_at(memory, at);
-        move_hob(memory, course, header.kind, at + 8);
+        move_hob(memory, course, header.kind, at + HEADER_LEN as u64);
         at += u64::from(header.len);
     }
 }

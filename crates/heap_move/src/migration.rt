@@ -15,6 +15,7 @@ use crate::copy::copy_heap;
 use crate::course::Course;
 use crate::handoff::{end_place, write_handoff};
 use crate::hob::move_hobs;
+use hob_codec::HEADER_LEN;
 use pei_heap::Heap;
 use phys_mem::PhysMem;
 use pi_base::{Span, little_endian};
@@ -61,7 +62,7 @@ fn move_heap(memory: &mut PhysMem, course: &Course, heads: &Heads, place: u64, t
     ensures heads { (s : StoreState) (to : Range) → IsMoving s to memory.old → course.now ≡ course_of s to → AreHeads s heads.now
         → place ≡ end_place s → taken ≡ s.taken → AreHeads (migrated_to s to) result }
 {
-    copy_heap(memory, course, (place + 8) as usize);
+    copy_heap(memory, course, (place + HEADER_LEN as u64) as usize);
     write_handoff(memory, course, place, taken);
     let moved = moved_heads(course, heads);
     move_lists(memory, course, &moved);
