@@ -4,3 +4,4 @@ pub mod NextHobs
 pub mod Walked
 pub mod OnWay
 pub mod RomGuids
+pub mod Moves
