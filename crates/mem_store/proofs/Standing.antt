@@ -1,12 +1,17 @@
 -- A store whose memory changed, and the state that it then stands for.
-use Rattle.std.proofs.Common.{◌≡◌, ◌∙◌, ℕ, List, Bool, true, false, sym, subst}
+use Rattle.std.proofs.Common.{◌≡◌, ◌∙◌, ◌+◌, ℕ, List, Bool, true, false, Some, ap, refl, sym, subst}
+use Rattle.pi_base.specs.declared.span.Span.{Span}
+use Rattle.store_model.specs.StoreState.{Board}
+use Rattle.store_model.specs.StateFacts.{IsStoreState}
 use Rattle.phys_mem.specs.declared.memory.PhysMem.{PhysMem}
-use Rattle.store_model.specs.StoreState.{HobEntry, StoreState}
+use Rattle.store_model.specs.declared.state.HobEntry.{HobEntry}
+use Rattle.store_model.specs.StoreState.{StoreState}
 use Rattle.pei_heap.specs.HeapMemory.{IsHeapOf}
 use Rattle.ppi_links.specs.declared.heads.Heads.{Heads}
 use Rattle.ppi_links.specs.Linked.{AreHeads, IsLinked}
 use Rattle.mem_store.specs.declared.store.MemStore.{MemStore}
-use Rattle.mem_store.specs.MemState.{StandsFor}
+use Rattle.mem_store.specs.Made.{IsSame}
+use Rattle.mem_store.specs.MemState.{StandsFor, range_of}
 
 -- a state with other HOBs, pages and boot mode
 abbrev pub with_heap : StoreState → List HobEntry → ℕ → ℕ → StoreState
@@ -43,3 +48,42 @@ stands_grown m s hobs taken mode memory h is e = stands_early m s hobs taken mod
 -- memory that is the same
 pub stands_same : (m : MemStore) (s : StoreState) (memory : PhysMem) → StandsFor m s → memory ≡ m.memory → StandsFor (record m { memory = memory }) s
 stands_same m s memory h e = subst (λ (x : PhysMem). StandsFor (record m { memory = x }) s) (sym e) h
+
+-- other lists
+pub stands_linked : (m : MemStore) (s t : StoreState) (memory : PhysMem) (heads : Heads) → StandsFor m s → IsLinked m.heap memory heads t → IsSame s t
+    → StandsFor (record m { memory = memory; heads = heads }) t
+stands_linked m s t memory heads h linked same = record {
+  linked = linked;
+  board = record {
+    temp = h.board.temp ∙ ap (λ (b : Board). b.temp) (sym same.board);
+    ram = h.board.ram ∙ ap (λ (b : Board). b.ram) (sym same.board);
+    pages = h.board.pages ∙ ap (λ (b : Board). b.pages) (sym same.board);
+    pages_end = h.board.pages_end ∙ ap (λ (b : Board). b.temp.base + b.temp.len) (sym same.board);
+  };
+  planned = h.planned ∙ sym same.planned;
+  moved = h.moved ∙ sym same.moved;
+  early = λ before. h.early (sym same.moved ∙ before) ∙ sym same.taken;
+}
+
+-- another plan
+pub stands_planned : (m : MemStore) (s : StoreState) (to : Span) → StandsFor m s → IsStoreState (record s { planned = Some (range_of to) })
+    → StandsFor (record m { planned = Some to }) (record s { planned = Some (range_of to) })
+stands_planned m s to h facts =
+    let heads = h.linked.heads_are in
+    let is = h.linked.heap_is.image in record {
+      linked = record {
+        heap_is = record { state = facts; image = record { base = is.base; len = is.len; has = record { placed = is.has.placed; len = is.has.len; regions = is.has.regions } } };
+        heads_are = record {
+          ppi_ends = record { first = heads.ppi_ends.first; last = heads.ppi_ends.last };
+          note_ends = record { first = heads.note_ends.first; last = heads.note_ends.last };
+          later_ends = record { first = heads.later_ends.first; last = heads.later_ends.last };
+          queue_ends = record { first = heads.queue_ends.first; last = heads.queue_ends.last };
+          ppis_are = heads.ppis_are;
+          notes_are = heads.notes_are;
+        };
+      };
+      board = record { temp = h.board.temp; ram = h.board.ram; pages = h.board.pages; pages_end = h.board.pages_end };
+      planned = refl;
+      moved = h.moved;
+      early = h.early;
+    }

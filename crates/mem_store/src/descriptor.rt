@@ -4,15 +4,49 @@ ghost use Rattle.store_model.specs.Service.{OfEach, Performs, Present};
 ghost use Rattle.store_model.specs.Service.Descriptor.{desc};
 ghost use Rattle.store_model.specs.Service.Reading.{descriptor};
 ghost use Rattle.store_model.specs.StateFacts.{IsDesc, IsNumberOf};
+ghost use Rattle.mem_store.specs.NewDescriptor.{IsToMake};
 ghost use Rattle.store_model.specs.StoreCall.{Anything};
 
 use crate::store::MemStore;
-use pi_base::Guid;
+use pi_base::{GUID_LEN, Guid};
 use ppi_links::read_descriptor;
-use store_model::{Desc, DescKind, GuidFrom, StoreFault};
+use store_model::{Desc, DescKind, DescriptorBody, GuidFrom, StoreFault};
 
 impl MemStore {
     ghost use Rattle.mem_store.specs.MemState.{StandsFor};
+
+    // The descriptor to make. None where an address has no sixteen bytes in one volume.
+    fn descriptor_from(
+        &self,
+        kind: DescKind,
+        guid: GuidFrom,
+        number: u64,
+    ) -> Option<DescriptorBody>
+        requires state { Present (StandsFor self.now) Anything }
+        requires number { IsNumberOf kind number }
+        ensures { OfEach (StandsFor self.now) Anything (λ s. IsToMake s kind guid number result) }
+    {
+        let address = match guid {
+            GuidFrom::Inline(guid) => {
+                return Some(DescriptorBody {
+                    kind,
+                    guid,
+                    stands: None,
+                    number,
+                });
+            }
+            GuidFrom::At(address) => address,
+        };
+        match self.memory.read_rom(address, GUID_LEN) {
+            Some(bytes) => Some(DescriptorBody {
+                kind,
+                guid: Guid::at(bytes, 0),
+                stands: Some(address),
+                number,
+            }),
+            None => None,
+        }
+    }
 
     // A descriptor that nothing names yet.
     pub(crate) fn make_desc(
@@ -25,7 +59,14 @@ impl MemStore {
         requires number { IsNumberOf kind number }
         ensures { Performs false (StandsFor self.old) (StandsFor self.new) (λ s. desc s kind guid number) result }
     {
-        Err(StoreFault::Full)
+        let d = match self.descriptor_from(kind, guid, number) {
+            Some(d) => d,
+            None => return Err(StoreFault::Bad),
+        };
+        match self.heap.descriptor(&mut self.memory, &d) {
+            Some(made) => Ok(made),
+            None => Err(StoreFault::Full),
+        }
     }
 
     // GUID and number of a descriptor.

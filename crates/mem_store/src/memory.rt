@@ -81,9 +81,10 @@ impl MemStore {
         if !self.moved {
             return self.take_early(memory_type, count);
         }
-        self.heap
-            .pages(&mut self.memory, memory_type, count)
-            .ok_or(StoreFault::Full)
+        match self.heap.pages(&mut self.memory, memory_type, count) {
+            Some(lowest) => Ok(lowest),
+            None => Err(StoreFault::Full),
+        }
     }
 
     // The boot mode.

@@ -5,6 +5,7 @@ use crate::store::MemStore;
 use depex_code::GuidSet;
 use hob_codec::Hob;
 use pi_base::{Guid, OutOfMemory, Seq};
+use ppi_links::{has_ppi, links_told};
 use store_model::{
     Desc, DescKind, EntryList, EntryTold, Firing, GuidFrom, HobSpan, PeiStore, Pool, StoreFault,
     Sweep,
@@ -12,14 +13,16 @@ use store_model::{
 
 impl GuidSet for MemStore {
     ghost use Rattle.store_model.specs.StoreState.{StoreState};
+    ghost use Rattle.ppi_links.specs.Has.{links_have};
     ghost use Rattle.mem_store.specs.MemState.{StandsFor};
 
-    ghost has_guid = { λ m guid. false };
+    ghost has_guid = { λ m guid. links_have m.heap m.memory m.heads guid };
 
     ghost in_order = { λ m. (s : StoreState) × StandsFor m s };
 
-    fn has(&self, _guid: &Guid) -> bool {
-        false
+    fn has(&self, guid: &Guid) -> bool {
+        links_told();
+        has_ppi(&self.heap, &self.memory, &self.heads, guid)
     }
 }
 

@@ -17,9 +17,10 @@ impl MemStore {
         requires { Present (StandsFor self.old) Anything }
         ensures { Performs false (StandsFor self.old) (StandsFor self.new) (λ s. pool s size) result }
     {
-        self.heap
-            .pool(&mut self.memory, size)
-            .ok_or(StoreFault::Full)
+        match self.heap.pool(&mut self.memory, size) {
+            Some(pool) => Ok(pool),
+            None => Err(StoreFault::Full),
+        }
     }
 
     // Writes bytes into a pool. False where they pass the size that was asked for.

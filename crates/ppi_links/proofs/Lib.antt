@@ -6,3 +6,7 @@ pub mod Pushed
 pub mod Volumes
 pub mod Descriptors
 pub mod Queue
+pub mod Walking
+pub mod Named
+pub mod Finding
+pub mod Tellings

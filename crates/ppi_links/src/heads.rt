@@ -2,7 +2,7 @@
 ghost use Rattle.std.specs.Prelude.{◌≡◌, ◌<◌, ◌+◌, ◌^◌};
 ghost use Rattle.store_model.specs.StoreState.{StoreState};
 ghost use Rattle.heap_laws.specs.Heads.{last_address};
-ghost use Rattle.heap_laws.specs.Items.{items};
+ghost use Rattle.heap_laws.specs.Items.{first_address, items};
 ghost use Rattle.ppi_links.specs.NewEntry as N;
 
 use store_model::EntryList;
@@ -33,6 +33,18 @@ impl Heads {
     ghost use Rattle.ppi_links.specs.Linked.{AreHeads};
     ghost use Rattle.ppi_links.specs.NewEntry.{with_last_node};
     ghost use Rattle.ppi_links.specs.Popped.{with_next_pair};
+
+    // The first node of a list.
+    pub(crate) fn first(&self, list: EntryList) -> u64
+        ensures { (s : StoreState) → AreHeads s self.now → result ≡ first_address s.base (items s list) }
+    {
+        match list {
+            EntryList::Ppis => self.ppi,
+            EntryList::Callbacks => self.note,
+            EntryList::Dispatches => self.later,
+            EntryList::Pendings => self.queue,
+        }
+    }
 
     // The last node of a list.
     pub(crate) fn last(&self, list: EntryList) -> u64

@@ -28,7 +28,7 @@ const SECOND_AT: usize = 16;
 const NUMBER_AT: usize = 24;
 
 // The address of the node in a place of a list, by its first node's address or 0. None past the last.
-fn nth_address(heap: &[u8], base: u64, head: u64, place: u32) -> Option<u64>
+pub(crate) fn nth_address(heap: &[u8], base: u64, head: u64, place: u32) -> Option<u64>
     requires { (s : StoreState) × (list : EntryList) × IsHeaded s list heap.now base head }
     ensures { (s : StoreState) (list : EntryList) → IsHeaded s list heap.now base head
         → result ≡ option_map (λ (item : Item). s.base + item.node) (slice_get (items s list) place) }
@@ -47,7 +47,7 @@ fn nth_address(heap: &[u8], base: u64, head: u64, place: u32) -> Option<u64>
 }
 
 // The node of an item.
-fn read_node(heap: &[u8], base: u64, at: u64) -> Node
+pub(crate) fn read_node(heap: &[u8], base: u64, at: u64) -> Node
     requires { (s : StoreState) × (list : EntryList) × (place : ℕ) × (item : Item) × (head : ℕ) × IsHeaded s list heap.now base head
         × (slice_get (items s list) place ≡ Some item) × (at ≡ s.base + item.node) }
     ensures { (s : StoreState) (list : EntryList) (place : ℕ) (item : Item) (head : ℕ) → IsHeaded s list heap.now base head
