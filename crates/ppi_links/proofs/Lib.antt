@@ -7,6 +7,7 @@ pub mod Volumes
 pub mod Descriptors
 pub mod Queue
 pub mod Walking
+pub mod Matches
 pub mod Named
 pub mod Finding
 pub mod Tellings

@@ -62,7 +62,7 @@ fn match_from(heap: &Heap, memory: &PhysMem, first: u64, from: u32, to: u32, gui
         };
         let offset = met.entry.descriptor;
         let told = read_descriptor(heap, memory, Desc { offset });
-        if same_guid(&told.guid, guid) {
+        if same_guid(guid, &told.guid) {
             let entry = told.number as u32;
             return Some(Match { place, entry });
         }
