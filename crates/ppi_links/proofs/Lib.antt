@@ -7,6 +7,8 @@ pub mod Volumes
 pub mod Descriptors
 pub mod Queue
 pub mod Walking
+pub mod Queueing
+pub mod Knowing
 pub mod Matches
 pub mod Named
 pub mod Finding
