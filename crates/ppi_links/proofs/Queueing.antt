@@ -18,15 +18,15 @@ use Rattle.store_model.specs.declared.store_handle.EntryList.TheVariants.{Ppis, 
 use Rattle.store_model.specs.StoreState.{StoreState, body_at, end_place, free, hob_len, page_bytes, pool_of}
 use Rattle.store_model.specs.StateFacts.{IsDesc, IsDescriptorAt, IsEntry, IsStoreState}
 use Rattle.store_model.specs.Service.Descriptor.{descriptor_in, descriptors, guid_at, is_callback, kind_at, no_guid, offsets}
-use Rattle.store_model.specs.Service.Install.{node_need, pairs_of, with_node, with_pending}
-use Rattle.store_model.specs.Service.Notify.{new_dispatches}
+use Rattle.store_model.specs.Service.Install.{install_pairs, node_need, pairs_of, with_node, with_pending, with_ppi}
+use Rattle.store_model.specs.Service.Notify.{new_dispatches, notify_pairs, with_note, with_note_of}
 use Rattle.store_laws.specs.Bodies.{IsGrown}
 use Rattle.store_laws.proofs.Steps.{grown_node}
 use Rattle.heap_laws.specs.Items.{first_address, item_of, items}
 use Rattle.pei_heap.specs.declared.heap.Heap.{Heap}
 use Rattle.ppi_links.specs.declared.heads.Heads.{Heads}
 use Rattle.ppi_links.specs.Linked.{IsLinked}
-use Rattle.ppi_links.specs.Pairs.{queued, row_of}
+use Rattle.ppi_links.specs.Pairs.{PairsStay, queued, row_of}
 use Rattle.ppi_links.specs.Walk.{StandsAt, address_from}
 
 -- what queueing keeps of a state
@@ -198,3 +198,43 @@ new_descs_on s false place places h each = (h, each)
 pub new_descs : (s : StoreState) (list : List Desc) → Each (IsDesc s) list → Each (HasDesc s) (new_dispatches s list)
 new_descs s [] h = tt
 new_descs s (d ∷ list) h = new_descs_on s (is_callback (kind_at s d.offset)) d.offset (new_dispatches s list) h.0 (new_descs s list h.1)
+
+-- the entries of a call are made
+record IsMade (s t : StoreState) : Type 0 where
+  bodies : IsGrown s t
+  ppis : t.ppis ≡ s.ppis
+
+ppis_made : (by : ℕ) (list : List Desc) (s : StoreState) → IsGrown s (fold (with_ppi by) s list) × (fold (with_ppi by) s list).dispatches ≡ s.dispatches
+ppis_made by [] s = (λ place body e. e, refl)
+ppis_made by (d ∷ list) s =
+    let later = ppis_made by list (with_ppi by s d) in
+    (λ place body e. later.0 place body (grown_node s place body e), later.1)
+
+note_made : (kind : DescKind) (by : ℕ) (s : StoreState) (d : Desc) → IsMade s (with_note_of kind by s d)
+note_made Ppi by s d = record { bodies = λ place body e. e; ppis = refl }
+note_made Callback by s d = record { bodies = grown_node s; ppis = refl }
+note_made Dispatch by s d = record { bodies = grown_node s; ppis = refl }
+
+notes_made : (by : ℕ) (list : List Desc) (s : StoreState) → IsMade s (fold (with_note by) s list)
+notes_made by [] s = record { bodies = λ place body e. e; ppis = refl }
+notes_made by (d ∷ list) s =
+    let first = note_made (kind_at s d.offset) by s d in
+    let later = notes_made by list (with_note by s d) in
+    record { bodies = λ place body e. later.bodies place body (first.bodies place body e); ppis = later.ppis ∙ first.ppis }
+
+install_stays : (s : StoreState) (list : List Desc) (by : ℕ) → IsStoreState s → Each (IsDesc s) list → install_pairs (fold (with_ppi by) s list) list ≡ install_pairs s list
+install_stays s list by h each =
+    let t = fold (with_ppi by) s list in
+    let made = ppis_made by list s in
+    ap (λ (xs : List Entry). pairs_of t (offsets list) (descriptors xs)) made.1
+    ∙ pairs_stay s t (offsets list) (descriptors s.dispatches) made.0 (given_descs s list each) (named_descs s Dispatch s.dispatches h.dispatches)
+
+notify_stays : (s : StoreState) (list : List Desc) (by : ℕ) → IsStoreState s → Each (IsDesc s) list → notify_pairs (fold (with_note by) s list) list ≡ notify_pairs s list
+notify_stays s list by h each =
+    let t = fold (with_note by) s list in
+    let made = notes_made by list s in
+    ap (λ (xs : List Entry). pairs_of t (descriptors xs) (new_dispatches t list)) made.ppis ∙ ap (pairs_of t (descriptors s.ppis)) (new_stays s t list made.bodies each)
+    ∙ pairs_stay s t (descriptors s.ppis) (new_dispatches s list) made.bodies (named_descs s Ppi s.ppis h.ppis) (new_descs s list each)
+
+pub all_pairs_stay : PairsStay
+all_pairs_stay = record { install = install_stays; notify = notify_stays }
