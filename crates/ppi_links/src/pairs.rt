@@ -41,17 +41,6 @@ fn one_if(due: bool) -> u64
     if due { 1 } else { 0 }
 }
 
-// The pair of a PPI and a notification.
-fn pair_of(ppi: Desc, note: Desc, by: u32) -> NewEntry
-    ensures { result ≡ record { descriptor = note.offset; ppi = ppi.offset; by = by } }
-{
-    NewEntry {
-        descriptor: note.offset,
-        ppi: ppi.offset,
-        by,
-    }
-}
-
 // How many dispatch notifications have the GUID of a PPI.
 fn count_row(heap: &Heap, memory: &PhysMem, heads: &Heads, ppi: Desc) -> u64
     requires { (s : StoreState) × IsLinked heap.now memory.now heads.now s × IsDesc s ppi }
@@ -118,7 +107,12 @@ fn push_row(heap: &Heap, memory: &mut PhysMem, heads: &mut Heads, ppi: Desc, by:
             offset: met.entry.descriptor,
         };
         let due = is_of(heap, memory, &guid, note);
-        push_if(heap, memory, heads, due, pair_of(ppi, note, by));
+        let pair = NewEntry {
+            descriptor: note.offset,
+            ppi: ppi.offset,
+            by,
+        };
+        push_if(heap, memory, heads, due, pair);
         at = met.next;
     }
 }
@@ -189,7 +183,12 @@ fn push_new_row(heap: &Heap, memory: &mut PhysMem, heads: &mut Heads, ppi: Desc,
     let guid = read_descriptor(heap, memory, ppi).guid;
     'descs: for d in list {
         let due = is_due(heap, memory, &guid, *d);
-        push_if(heap, memory, heads, due, pair_of(ppi, *d, by));
+        let pair = NewEntry {
+            descriptor: d.offset,
+            ppi: ppi.offset,
+            by,
+        };
+        push_if(heap, memory, heads, due, pair);
     }
 }
 

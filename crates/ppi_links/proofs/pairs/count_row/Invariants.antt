@@ -11,7 +11,7 @@ use Rattle.ppi_links.proofs.pairs.count_row.Given as goal
 abbrev pub invariant-notes : goal.invariant-notes
 invariant-notes l = record {
   at : (s : StoreState) → IsLinked l.heap l.memory l.heads s → StandsAt s Dispatches l._place l.at;
-  left : (s : StoreState) → IsLinked l.heap l.memory l.heads s → IsDesc s l.ppi
-      → l.count + length (row_of s l.ppi.offset (descriptors (drop l._place s.dispatches))) ≡ length (row_of s l.ppi.offset (descriptors s.dispatches));
+  left : (s : StoreState) → IsLinked l.heap l.memory l.heads s → IsDesc s l.fn.ppi
+      → l.count + length (row_of s l.fn.ppi.offset (descriptors (drop l._place s.dispatches))) ≡ length (row_of s l.fn.ppi.offset (descriptors s.dispatches));
   few : l.count ≤ l._place;
 }

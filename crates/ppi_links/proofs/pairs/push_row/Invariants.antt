@@ -10,7 +10,7 @@ use Rattle.ppi_links.proofs.pairs.push_row.Given as goal
 
 abbrev pub invariant-notes : goal.invariant-notes
 invariant-notes l = record {
-  at : (s : StoreState) → IsLinked l.fn.heap l.fn.memory l.fn.heads s → StandsAt s Dispatches l._place l.at;
+  at : (s : StoreState) → IsLinked l.fn.heap l.fn.memory l.fn.heads s → CanQueueRow s l.ppi (descriptors s.dispatches) → StandsAt s Dispatches l._place l.at;
   left : (s : StoreState) → IsLinked l.fn.heap l.fn.memory l.fn.heads s → CanQueueRow s l.ppi (descriptors s.dispatches)
       → IsLeft l.heap l.memory l.heads s l.by (row_of s l.ppi.offset (descriptors s.dispatches)) (row_of s l.ppi.offset (descriptors (drop l._place s.dispatches)));
 }
