@@ -72,7 +72,7 @@ match_at s sweep ppi from place to entry guid told n rest law row below there ge
       entry_is = number;
       inside = inside;
       fires = sym left ∙ ap (first_firing s sweep) (law.next_note sweep ppi place inside)
-      ∙ fires_here s sweep ppi place row.entry n (pairs_with sweep (place + 1) ppi) row.there get (guids_are s row.entry.descriptor n.descriptor guid told true row.guid_is same hit);
+          ∙ fires_here s sweep ppi place row.entry n (pairs_with sweep (place + 1) ppi) row.there get (guids_are s row.entry.descriptor n.descriptor guid told true row.guid_is same hit);
     }
 
 pub match_past : (s : StoreState) (sweep : Sweep) (ppi from place to : ℕ) (guid told : Guid) (n : Entry) → SweepsGoOn → IsRow s sweep ppi to guid → place < to

@@ -50,7 +50,7 @@ row_at s now count ppi place guid met due h q p g is e =
         here = is.next.here ∙ ap (λ b. first_address b (drop (place + 1) (map (item_of b) now.dispatches))) q.base ∙ ap (λ xs. first_address s.base (drop (place + 1) (map (item_of s.base) xs))) q.dispatches;
       };
       split = ap (λ xs. row_of s ppi (descriptors xs)) rest ∙ row_more s ppi met.entry.descriptor (descriptors (drop (place + 1) s.dispatches))
-      ∙ ap (λ b. pair_if b ppi met.entry.descriptor ++ row_of s ppi (descriptors (drop (place + 1) s.dispatches))) (sym same);
+          ∙ ap (λ b. pair_if b ppi met.entry.descriptor ++ row_of s ppi (descriptors (drop (place + 1) s.dispatches))) (sym same);
     }
 
 -- a pair that is due has room
@@ -184,9 +184,11 @@ new_split s now count ppi place guid list d due q g each rest e =
     let test : Guid → DescKind → Guid → Bool = λ x k y. not (is_callback k) && same_guid x y in
     let same : due ≡ test (guid_at s ppi) (kind_at s d.offset) (guid_at s d.offset) =
     e ∙ ap (λ x. test x (kind_at now d.offset) (guid_at now d.offset)) g ∙ ap (λ k. test (guid_at s ppi) k (guid_at now d.offset)) (kind_stays s now d.offset q.bodies there)
-    ∙ ap (test (guid_at s ppi) (kind_at s d.offset)) (guid_stays s now d.offset q.bodies there) in
-    (ap (λ xs. row_of s ppi (new_dispatches s xs)) rest ∙ new_more s ppi d (drop (place + 1) list)
-      ∙ ap (λ b. pair_if b ppi d.offset ++ row_of s ppi (new_dispatches s (drop (place + 1) list))) (sym same), same)
+    ∙ ap (test (guid_at s ppi) (kind_at s d.offset)) (guid_stays s now d.offset q.bodies there) in (
+      ap (λ xs. row_of s ppi (new_dispatches s xs)) rest ∙ new_more s ppi d (drop (place + 1) list)
+          ∙ ap (λ b. pair_if b ppi d.offset ++ row_of s ppi (new_dispatches s (drop (place + 1) list))) (sym same),
+      same,
+    )
 
 pub new_is : (s : StoreState) (ppi place : ℕ) (list : List Desc) (d : Desc) (due : Bool) → Each (IsDesc s) list → list_any (λ x. is_ppi (kind_at s x.offset)) list ≡ false → drop place list ≡ d ∷ drop (place + 1) list
     → due ≡ (not (is_callback (kind_at s d.offset)) && same_guid (guid_at s ppi) (guid_at s d.offset)) → due ≡ true → IsDescriptorAt s Dispatch d.offset

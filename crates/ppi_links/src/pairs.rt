@@ -175,7 +175,14 @@ pub fn count_new_pairs(heap: &Heap, memory: &PhysMem, heads: &Heads, list: &[Des
 }
 
 // Queues the pairs of one PPI with the dispatch notifications among these.
-fn push_new_row(heap: &Heap, memory: &mut PhysMem, heads: &mut Heads, ppi: Desc, list: &[Desc], by: u32)
+fn push_new_row(
+    heap: &Heap,
+    memory: &mut PhysMem,
+    heads: &mut Heads,
+    ppi: Desc,
+    list: &[Desc],
+    by: u32,
+)
     requires { (s : StoreState) × IsLinked heap.now memory.old heads.old s × CanQueueNewRow s ppi list.now }
     ensures { (s : StoreState) → IsLinked heap.now memory.old heads.old s → CanQueueNewRow s ppi list.now
         → IsLinked heap.now memory.new heads.new (queued by s (row_of s ppi.offset (new_dispatches s list.now))) }

@@ -38,12 +38,15 @@ push_new_row-requires c =
     let p = ppi.ppi_is in
     let notes = new_dispatches s c.args.list.now in
     let row = new_row_now s l.now l.count c.in-Some.met.entry.descriptor c.args.list.now l.from (p.0, p.1) can.descs in
-    let room = row_room (free l.now) _ (row_of s c.in-Some.met.entry.descriptor notes) _ (entry_rows s notes _ _ c.in-Some.met.entry ppi.rest) l.room in
-    (l.now, l.linked, record {
-      row = record { ppi_is = at_stays s l.now Ppi c.in-Some.met.entry.descriptor l.from.bodies p; room = subst (λ xs. node_need (length xs) ≤ free l.now) (sym row) room };
-      descs = descs_now s l.now c.args.list.now l.from.bodies can.descs;
-      notes = notes_now s l.now c.args.list.now l.from.bodies can.descs can.notes;
-    })
+    let room = row_room (free l.now) _ (row_of s c.in-Some.met.entry.descriptor notes) _ (entry_rows s notes _ _ c.in-Some.met.entry ppi.rest) l.room in (
+      l.now,
+      l.linked,
+      record {
+        row = record { ppi_is = at_stays s l.now Ppi c.in-Some.met.entry.descriptor l.from.bodies p; room = subst (λ xs. node_need (length xs) ≤ free l.now) (sym row) room };
+        descs = descs_now s l.now c.args.list.now l.from.bodies can.descs;
+        notes = notes_now s l.now c.args.list.now l.from.bodies can.descs can.notes;
+      },
+    )
 
 pub ppis-preserved : goal.ppis-preserved
 ppis-preserved c = record {

@@ -34,9 +34,12 @@ push_if-requires c =
     let l = c.descs.invariant.left s h can in
     let guid = (c.read_descriptor.ensures s h.heap_is (p.0, p.1)).guid_is in
     let due = c.is_due-due.ensures l.now l.linked.heap_is (desc_stays s l.now d.offset l.from.bodies there) in
-    let split = new_split s l.now l.count c.args.ppi.offset c.descs.d-index c.read_descriptor.result.guid c.args.list.now d c.is_due-due.result l.from guid can.descs rest due in
-    (l.now, l.linked, ready c.args.heap.now c.descs.memory c.descs.heads s c.args.by c.args.ppi.offset d.offset _ _ _ c.is_due-due.result l p
-    (new_is s c.args.ppi.offset c.descs.d-index c.args.list.now d c.is_due-due.result can.descs can.notes rest split.1) split.0)
+    let split = new_split s l.now l.count c.args.ppi.offset c.descs.d-index c.read_descriptor.result.guid c.args.list.now d c.is_due-due.result l.from guid can.descs rest due in (
+      l.now,
+      l.linked,
+      ready c.args.heap.now c.descs.memory c.descs.heads s c.args.by c.args.ppi.offset d.offset _ _ _ c.is_due-due.result l p
+          (new_is s c.args.ppi.offset c.descs.d-index c.args.list.now d c.is_due-due.result can.descs can.notes rest split.1) split.0,
+    )
 
 pub descs-preserved : goal.descs-preserved
 descs-preserved c = record {

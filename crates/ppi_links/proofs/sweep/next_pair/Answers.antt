@@ -36,9 +36,11 @@ returns-in-Some-match_from c s h is =
     let entry = c.in-Some.met.entry in
     let read = c.read_descriptor-told.ensures s h.heap_is (desc_of s Ppi entry.descriptor met.named) in
     let get = get_next s.ppis c.ppis.ppi entry _ met.rest in
-    let found = c.in-Some-match_from.ensures s c.args.sweep.now c.ppis.ppi h.heap_is (c.ppis.invariant.notes s h is) (record { entry = entry; there = get; guid_is = read.guid_is; to_is = refl }) in
-    (pair_fires s c.args.sweep.now c.ppis.ppi c.ppis.from c.in-Some-match_from.found entry c.read_descriptor-told.result.guid c.read_descriptor-told.result.number
-    c.ppis-test.true get (c.ppis.invariant.left s h is) found read.guid_is read.number_is, found.inside)
+    let found = c.in-Some-match_from.ensures s c.args.sweep.now c.ppis.ppi h.heap_is (c.ppis.invariant.notes s h is) (record { entry = entry; there = get; guid_is = read.guid_is; to_is = refl }) in (
+      pair_fires s c.args.sweep.now c.ppis.ppi c.ppis.from c.in-Some-match_from.found entry c.read_descriptor-told.result.guid c.read_descriptor-told.result.number
+          c.ppis-test.true get (c.ppis.invariant.left s h is) found read.guid_is read.number_is,
+      found.inside,
+    )
 
 pub ppis-preserved : goal.ppis-preserved
 ppis-preserved c = record {
