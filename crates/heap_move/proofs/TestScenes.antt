@@ -1,6 +1,6 @@
 -- The board of the test, its first heap, and a heap with a HOB more.
 use Rattle.std.proofs.Common.{◌≡◌, ℕ, ◌+◌, List, [], ◌∷◌, Bool, true, false, cond, map, arith, inr, ap, refl, sym, subst, Option, Some, None, Ok, Err}
-use Rattle.std.specs.Prelude.{replicate, nat_lt, nat_le}
+use Rattle.std.specs.Prelude.{replicate, nat_lt}
 use Rattle.phys_mem.specs.Regions.{regions, rom_region}
 use Rattle.phys_mem.specs.declared.memory.PhysMem.{PhysMem}
 use Rattle.phys_mem.specs.declared.rom.Rom.{Rom}
@@ -13,10 +13,10 @@ use Rattle.store_model.specs.StoreState.{Board, Range, StoreState, appended, emp
 use Rattle.store_model.specs.StateFacts.{IsBoard, IsStoreState}
 use Rattle.store_model.specs.Service.{Service}
 use Rattle.store_model.specs.Service.Hob.{create_hob, hob_entry}
-use Rattle.store_model.specs.Service.Memory.{pages, with_pages, allocation_hob, allocation_len}
+use Rattle.store_model.specs.Service.Memory.{pages, with_pages, allocation_hob}
 use Rattle.heap_laws.specs.Growing.{grown}
 use Rattle.pei_heap.specs.declared.heap.Heap.{Heap}
-use Rattle.pei_heap.specs.HeapMemory.{IsFresh, IsHeapOf, IsServed, Serves}
+use Rattle.pei_heap.specs.HeapMemory.{IsFresh, IsHeapOf, Serves}
 use Rattle.ppi_links.specs.declared.heads.Heads.{Heads}
 use Rattle.ppi_links.specs.Linked.{AreHeads, IsLinked}
 use Rattle.heap_move.specs.Due.{IsDue}
