@@ -61,7 +61,7 @@ then_step s t u count first second =
     let b = second.free_is in
     record { state = second.state; bodies = λ place body e. second.bodies place body (first.bodies place body e); free_is = omega (arith, a, b) }
 
-then_same : (s t u : StoreState) → IsSame s t → IsSame t u → IsSame s u
+pub then_same : (s t u : StoreState) → IsSame s t → IsSame t u → IsSame s u
 then_same s t u a b = record { board = b.board ∙ a.board; planned = b.planned ∙ a.planned; moved = b.moved ∙ a.moved; taken = b.taken ∙ a.taken }
 
 -- one more is made

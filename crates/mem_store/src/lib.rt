@@ -1,6 +1,7 @@
 //! The store of PEI services in the bytes of physical memory: it keeps no list.
 #![tactic(auto)]
 
+mod core_install;
 mod descriptor;
 mod hob;
 mod install;
@@ -9,6 +10,7 @@ mod migration;
 mod notify;
 mod peek;
 mod pei_store;
+mod pending_links;
 mod pool;
 mod queue;
 mod reading;

@@ -5,7 +5,8 @@ use crate::store::MemStore;
 use depex_code::GuidSet;
 use hob_codec::Hob;
 use pi_base::{Guid, OutOfMemory, Seq};
-use ppi_links::{has_ppi, links_told};
+use crate::pending_links::links_told;
+use ppi_links::has_ppi;
 use store_model::{
     Desc, DescKind, EntryList, EntryTold, Firing, GuidFrom, HobSpan, PeiStore, Pool, StoreFault,
     Sweep,

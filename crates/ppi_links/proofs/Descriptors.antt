@@ -63,7 +63,7 @@ not_inside base size len address true same e out =
     let fits : address + 16 ≤ base + size = grind (arith, nat_tests, e) in
     absurd (out (le, omega (arith, fits, same)))
 
-take_length : (xs : List ℕ) → take (length xs) xs ≡ xs
+pub take_length : (xs : List ℕ) → take (length xs) xs ≡ xs
 take_length [] = refl
 take_length (x ∷ xs) = ap (λ rest. x ∷ rest) (take_length xs)
 

@@ -33,7 +33,7 @@ one_first : (temp : Option Bank) (ram first : Region) (roms volumes : List Rom) 
 one_first (Some bank) ram first roms volumes w e = absurd (no_rom volumes ram (map rom_region roms) w (sym (rest_of (ram_region bank) first (ram ∷ map rom_region roms) (map rom_region volumes) e)))
 one_first None ram first roms volumes w e = rest_of ram first (map rom_region roms) (map rom_region volumes) e
 
-roms_by : (l : Layout) (moved : Bool) (heap : List ℕ) (memory : PhysMem) → regions memory ≡ regions_by l moved heap → rom_regions memory ≡ map rom_region l.board.roms
+pub roms_by : (l : Layout) (moved : Bool) (heap : List ℕ) (memory : PhysMem) → regions memory ≡ regions_by l moved heap → rom_regions memory ≡ map rom_region l.board.roms
 roms_by l false heap memory e = two_first memory.temp (ram_region memory.ram) memory.roms _ _ (map rom_region l.board.roms) refl e
 roms_by l true heap memory e = one_first memory.temp (ram_region memory.ram) _ memory.roms l.board.roms refl e
 

@@ -7,7 +7,7 @@ use Rattle.pi_base.specs.Lists.{Each}
 use Rattle.store_model.specs.declared.store_handle.Desc.{Desc}
 use Rattle.store_model.specs.declared.store_handle.DescKind.TheVariants.{Ppi}
 use Rattle.store_model.specs.StoreState.{StoreState, free}
-use Rattle.store_model.specs.StateFacts.{IsDesc, IsDescOf}
+use Rattle.store_model.specs.StateFacts.{IsDesc, IsDescOf, IsStoreState}
 use Rattle.store_model.specs.Service.Descriptor.{guid_at, is_ppi, kind_at}
 use Rattle.store_model.specs.Service.Install.{install_pairs, node_need, with_pending, with_ppi}
 use Rattle.store_model.specs.Service.Notify.{new_dispatches, notify_pairs, with_note}
@@ -44,7 +44,7 @@ pub record CanQueueNew (s : StoreState) (list : List Desc) : Type 0 where
 
 -- the pairs of a call are the same once its entries are made
 pub record PairsStay : Type 0 where
-  pub install : (s : StoreState) (list : List Desc) (by : ℕ) → Each (IsDesc s) list
+  pub install : (s : StoreState) (list : List Desc) (by : ℕ) → IsStoreState s → Each (IsDesc s) list
       → install_pairs (fold (with_ppi by) s list) list ≡ install_pairs s list
-  pub notify : (s : StoreState) (list : List Desc) (by : ℕ) → Each (IsDesc s) list
+  pub notify : (s : StoreState) (list : List Desc) (by : ℕ) → IsStoreState s → Each (IsDesc s) list
       → notify_pairs (fold (with_note by) s list) list ≡ notify_pairs s list

@@ -24,7 +24,9 @@ pub struct Node {
 
 // The offsets of a node's fields behind the first, which is the next node's address.
 const DESCRIPTOR_AT: usize = 8;
+
 const SECOND_AT: usize = 16;
+
 const NUMBER_AT: usize = 24;
 
 // The address of the node in a place of a list, by its first node's address or 0. None past the last.

@@ -17,7 +17,7 @@ use crate::descriptor::read_descriptor;
 use crate::entry::NewEntry;
 use crate::heads::Heads;
 use crate::pushing::push;
-use crate::reading::{has_guid, same_guid};
+use crate::reading::same_guid;
 use crate::walk::entry_from;
 use heap_laws::{image_facts, nodes_read};
 use pei_heap::Heap;
@@ -26,15 +26,19 @@ use pi_base::Guid;
 use store_laws::{entries_are_told, named_are_there};
 use store_model::{Desc, DescKind, EntryList};
 
-// The pair of a PPI and a notification.
-fn pair_of(ppi: Desc, note: Desc, by: u32) -> NewEntry
-    ensures { result ≡ record { descriptor = note.offset; ppi = ppi.offset; by = by } }
+// Whether a notification has the GUID.
+fn is_of(heap: &Heap, memory: &PhysMem, guid: &Guid, note: Desc) -> bool
+    requires { (s : StoreState) × IsHeapOf heap.now memory.now s × IsDesc s note }
+    ensures { (s : StoreState) → IsHeapOf heap.now memory.now s → IsDesc s note → result ≡ G.same_guid guid.now (guid_at s note.offset) }
 {
-    NewEntry {
-        descriptor: note.offset,
-        ppi: ppi.offset,
-        by,
-    }
+    same_guid(guid, &read_descriptor(heap, memory, note).guid)
+}
+
+// 1 for a pair, and 0 for none.
+fn one_if(due: bool) -> u64
+    ensures { result ≡ (if due then 1 else 0) }
+{
+    if due { 1 } else { 0 }
 }
 
 // How many dispatch notifications have the GUID of a PPI.
@@ -54,9 +58,7 @@ fn count_row(heap: &Heap, memory: &PhysMem, heads: &Heads, ppi: Desc) -> u64
             None => return count,
         };
         let offset = met.entry.descriptor;
-        if has_guid(heap, memory, Desc { offset }, &guid) {
-            count += 1;
-        }
+        count += one_if(is_of(heap, memory, &guid, Desc { offset }));
         at = met.next;
     }
     count
@@ -104,8 +106,13 @@ fn push_row(heap: &Heap, memory: &mut PhysMem, heads: &mut Heads, ppi: Desc, by:
         let note = Desc {
             offset: met.entry.descriptor,
         };
-        let due = has_guid(heap, memory, note, &guid);
-        push_if(heap, memory, heads, due, pair_of(ppi, note, by));
+        let due = is_of(heap, memory, &guid, note);
+        let pair = NewEntry {
+            descriptor: note.offset,
+            ppi: ppi.offset,
+            by,
+        };
+        push_if(heap, memory, heads, due, pair);
         at = met.next;
     }
 }
@@ -141,9 +148,7 @@ fn count_new_row(heap: &Heap, memory: &PhysMem, ppi: Desc, list: &[Desc]) -> u64
     let guid = read_descriptor(heap, memory, ppi).guid;
     let mut count = 0;
     'descs: for d in list {
-        if is_due(heap, memory, &guid, *d) {
-            count += 1;
-        }
+        count += one_if(is_due(heap, memory, &guid, *d));
     }
     count
 }
@@ -170,7 +175,14 @@ pub fn count_new_pairs(heap: &Heap, memory: &PhysMem, heads: &Heads, list: &[Des
 }
 
 // Queues the pairs of one PPI with the dispatch notifications among these.
-fn push_new_row(heap: &Heap, memory: &mut PhysMem, heads: &mut Heads, ppi: Desc, list: &[Desc], by: u32)
+fn push_new_row(
+    heap: &Heap,
+    memory: &mut PhysMem,
+    heads: &mut Heads,
+    ppi: Desc,
+    list: &[Desc],
+    by: u32,
+)
     requires { (s : StoreState) × IsLinked heap.now memory.old heads.old s × CanQueueNewRow s ppi list.now }
     ensures { (s : StoreState) → IsLinked heap.now memory.old heads.old s → CanQueueNewRow s ppi list.now
         → IsLinked heap.now memory.new heads.new (queued by s (row_of s ppi.offset (new_dispatches s list.now))) }
@@ -178,7 +190,12 @@ fn push_new_row(heap: &Heap, memory: &mut PhysMem, heads: &mut Heads, ppi: Desc,
     let guid = read_descriptor(heap, memory, ppi).guid;
     'descs: for d in list {
         let due = is_due(heap, memory, &guid, *d);
-        push_if(heap, memory, heads, due, pair_of(ppi, *d, by));
+        let pair = NewEntry {
+            descriptor: d.offset,
+            ppi: ppi.offset,
+            by,
+        };
+        push_if(heap, memory, heads, due, pair);
     }
 }
 

@@ -41,7 +41,11 @@ pub fn pop(heap: &Heap, memory: &mut PhysMem, heads: &mut Heads) -> Option<Firin
     requires { (s : StoreState) × IsLinked heap.now memory.old heads.old s }
     ensures { (s : StoreState) → IsLinked heap.now memory.old heads.old s
         → IsPopped heap.now s result (record {
-            old_memory = memory.old; old_heads = heads.old; new_memory = memory.new; new_heads = heads.new }) }
+          old_memory = memory.old;
+          old_heads = heads.old;
+          new_memory = memory.new;
+          new_heads = heads.new;
+        }) }
 {
     named_are_there();
     let base = heap.span.base;

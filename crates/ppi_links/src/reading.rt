@@ -61,7 +61,13 @@ pub fn has_ppi(heap: &Heap, memory: &PhysMem, heads: &Heads, guid: &Guid) -> boo
 }
 
 /// The n-th PPI of a GUID, from 0, and its value.
-pub fn nth_ppi(heap: &Heap, memory: &PhysMem, heads: &Heads, guid: &Guid, n: u16) -> Option<(Desc, u64)>
+pub fn nth_ppi(
+    heap: &Heap,
+    memory: &PhysMem,
+    heads: &Heads,
+    guid: &Guid,
+    n: u16,
+) -> Option<(Desc, u64)>
     requires { (s : StoreState) × IsLinked heap.now memory.now heads.now s }
     ensures { (s : StoreState) → IsLinked heap.now memory.now heads.now s → result ≡ R.nth_ppi s guid.now n }
 {
@@ -160,7 +166,13 @@ fn note_from(heap: &Heap, memory: &PhysMem, head: u64, place: u32) -> Option<(Gu
 }
 
 /// GUID and entry of the notification in a place of its kind's list. None past the last.
-pub fn note_at(heap: &Heap, memory: &PhysMem, heads: &Heads, kind: DescKind, place: u32) -> Option<(Guid, u32)>
+pub fn note_at(
+    heap: &Heap,
+    memory: &PhysMem,
+    heads: &Heads,
+    kind: DescKind,
+    place: u32,
+) -> Option<(Guid, u32)>
     requires { (s : StoreState) × IsLinked heap.now memory.now heads.now s }
     ensures { (s : StoreState) → IsLinked heap.now memory.now heads.now s → result ≡ R.note_at s kind place }
 {
@@ -184,7 +196,13 @@ pub fn pending_at(heap: &Heap, memory: &PhysMem, heads: &Heads, place: u32) -> O
 }
 
 // The address of the node behind the one at this offset, and of the first where none is given.
-fn node_behind(heap: &Heap, memory: &PhysMem, heads: &Heads, list: EntryList, node: Option<u64>) -> u64
+fn node_behind(
+    heap: &Heap,
+    memory: &PhysMem,
+    heads: &Heads,
+    list: EntryList,
+    node: Option<u64>,
+) -> u64
     requires { (s : StoreState) × IsLinked heap.now memory.now heads.now s × IsNodeIn list node s }
     ensures { (s : StoreState) → IsLinked heap.now memory.now heads.now s → IsNodeIn list node s → IsBehind s list node result }
 {
@@ -196,7 +214,13 @@ fn node_behind(heap: &Heap, memory: &PhysMem, heads: &Heads, list: EntryList, no
 }
 
 /// The entry of a list behind the one with this node, and the first where none is given. None behind the last.
-pub fn entry_behind(heap: &Heap, memory: &PhysMem, heads: &Heads, list: EntryList, node: Option<u64>) -> Option<EntryTold>
+pub fn entry_behind(
+    heap: &Heap,
+    memory: &PhysMem,
+    heads: &Heads,
+    list: EntryList,
+    node: Option<u64>,
+) -> Option<EntryTold>
     requires { (s : StoreState) × IsLinked heap.now memory.now heads.now s × IsNodeIn list node s }
     ensures { (s : StoreState) → IsLinked heap.now memory.now heads.now s → IsNodeIn list node s
         → result ≡ R.entry_behind s list node }

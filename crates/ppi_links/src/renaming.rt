@@ -58,11 +58,21 @@ pub fn rename(heap: &Heap, memory: &mut PhysMem, heads: &Heads, found: PpiFound,
     nodes_read();
     steps_keep_facts();
     let address = heap.span.base + new.offset;
-    heap.put(memory, found.node + DESCRIPTOR_AT, address.to_le_bytes().as_slice());
+    heap.put(
+        memory,
+        found.node + DESCRIPTOR_AT,
+        address.to_le_bytes().as_slice(),
+    );
 }
 
 /// The first PPI that names a descriptor names another; its place. None where none names it.
-pub fn replace(heap: &Heap, memory: &mut PhysMem, heads: &Heads, old: Desc, new: Desc) -> Option<u32>
+pub fn replace(
+    heap: &Heap,
+    memory: &mut PhysMem,
+    heads: &Heads,
+    old: Desc,
+    new: Desc,
+) -> Option<u32>
     requires { (s : StoreState) × IsLinked heap.now memory.old heads.now s × IsDescOf s Ppi new }
     ensures { (s : StoreState) → IsLinked heap.now memory.old heads.now s → IsDescOf s Ppi new
         → IsReplaced heap.now heads.now s (record { old = old; new = new; before = memory.old; after = memory.new }) result }

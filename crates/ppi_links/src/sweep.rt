@@ -47,7 +47,14 @@ fn has_ended(sweep: &Sweep) -> bool
 }
 
 // The first callback that has the GUID, from the one on whose node stands at an address.
-fn match_from(heap: &Heap, memory: &PhysMem, first: u64, from: u32, to: u32, guid: &Guid) -> Option<Match>
+fn match_from(
+    heap: &Heap,
+    memory: &PhysMem,
+    first: u64,
+    from: u32,
+    to: u32,
+    guid: &Guid,
+) -> Option<Match>
     requires { (s : StoreState) × IsHeapOf heap.now memory.now s × AreCallbacks s first from to }
     ensures { (s : StoreState) (sweep : OfSweep) (ppi : ℕ) → IsHeapOf heap.now memory.now s → AreCallbacks s first from to
         → IsRow s sweep ppi to guid.now → IsFirstMatch s sweep ppi from result }
@@ -62,7 +69,7 @@ fn match_from(heap: &Heap, memory: &PhysMem, first: u64, from: u32, to: u32, gui
         };
         let offset = met.entry.descriptor;
         let told = read_descriptor(heap, memory, Desc { offset });
-        if same_guid(&told.guid, guid) {
+        if same_guid(guid, &told.guid) {
             let entry = told.number as u32;
             return Some(Match { place, entry });
         }

@@ -108,5 +108,5 @@ returns c s h =
     let entry = c.read_descriptor-entry.ensures s h.heap_is (desc_is s Dispatch found.first.descriptor (c.in-Some.pair.descriptor - c.args.heap.now.span.base) note pending.1) in
     let told = c.read_descriptor-told.ensures s h.heap_is (desc_is s Ppi found.first.ppi (c.in-Some.pair.second - c.args.heap.now.span.base) ppi pending.2) in
     let fired = same_firing s found.first c.read_descriptor-entry.result.number (c.in-Some.pair.second - c.args.heap.now.span.base) c.read_descriptor-told.result.guid c.read_descriptor-told.result.number
-        (entry.number_is ∙ ap (number_at s) note) ppi (told.guid_is ∙ ap (guid_at s) ppi) (told.number_is ∙ ap (number_at s) ppi) in
+    (entry.number_is ∙ ap (number_at s) note) ppi (told.guid_is ∙ ap (guid_at s) ppi) (told.number_is ∙ ap (number_at s) ppi) in
     (without_first s found.first found.rest, pop_is s found.first found.rest _ found.pairs fired, c.unlink_first.ensures s found.first found.rest h found.pairs)

@@ -55,5 +55,5 @@ returns c s first rest h e =
     let image : c.bytes.result.now ≡ heap_image s = c.bytes.ensures (layout_of s) (heap_image s) is.image in
     let word : c.word_in-next.result ≡ word_in (heap_image s) first.node = c.word_in-next.ensures ∙ ap (λ x. word_in x offset) image ∙ ap (word_in (heap_image s)) there in
     let done = unlinked s first rest c.args.heap.now c.args.memory.now c.put.new.memory c.args.heads.now offset c.word_in-next.result c.as_slice.result.now
-        c.bodies_changed.ensures.popped c.heads_moved.ensures.first_popped c.heads_moved.ensures.last_popped c.services_keep_facts.ensures h e there word c.as_slice.ensures holds in
+    c.bodies_changed.ensures.popped c.heads_moved.ensures.first_popped c.heads_moved.ensures.last_popped c.services_keep_facts.ensures h e there word c.as_slice.ensures holds in
     subst (λ (x : Heads). IsLinked c.args.heap.now c.put.new.memory x (without_first s first rest)) (sym c.pop.ensures) done

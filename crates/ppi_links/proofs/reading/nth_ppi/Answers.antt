@@ -44,11 +44,11 @@ ppis-preserved c = record {
       let whole = slice_get (ppis_of s c.args.guid.now) c.args.n in
       let rest = drop (c.ppis._place + 1) s.ppis in
       elim c.if-same_guid.branch [
-        then-same_guid+else-left-eq0 w ↦
-        ap (λ n. slice_get (filter p rest) n) w.left-is ∙ nth_on p (drop c.ppis._place s.ppis) rest c.in-Some.met.entry c.ppis.left whole met.rest (c.ppis.invariant.left s h)
-        (w.if-same_guid.ensures ∙ ap (λ g. same_guid g c.args.guid.now) read.guid_is) w.if-left-eq0.false
+        | then-same_guid+else-left-eq0 w ↦
+            ap (λ n. slice_get (filter p rest) n) w.left-is ∙ nth_on p (drop c.ppis._place s.ppis) rest c.in-Some.met.entry c.ppis.left whole met.rest (c.ppis.invariant.left s h)
+            (w.if-same_guid.ensures ∙ ap (λ g. same_guid g c.args.guid.now) read.guid_is) w.if-left-eq0.false
         | else-same_guid w ↦
-        ap (λ n. slice_get (filter p rest) n) w.left-is ∙ nth_past p (drop c.ppis._place s.ppis) rest c.in-Some.met.entry c.ppis.left whole met.rest (c.ppis.invariant.left s h)
-        (w.if-same_guid.ensures ∙ ap (λ g. same_guid g c.args.guid.now) read.guid_is)
+            ap (λ n. slice_get (filter p rest) n) w.left-is ∙ nth_past p (drop c.ppis._place s.ppis) rest c.in-Some.met.entry c.ppis.left whole met.rest (c.ppis.invariant.left s h)
+            (w.if-same_guid.ensures ∙ ap (λ g. same_guid g c.args.guid.now) read.guid_is)
       ];
 }

@@ -1,0 +1,21 @@
+use Rattle.std.proofs.Common.{◌≡◌, ◌≤◌, ◌+◌, ◌*◌, length, drop}
+use Rattle.store_model.specs.declared.store_handle.EntryList.TheVariants.{Ppis}
+use Rattle.store_model.specs.StoreState.{StoreState}
+use Rattle.store_model.specs.StateFacts.{IsDesc}
+use Rattle.store_model.specs.StoreCall.{AreDescs}
+use Rattle.store_model.specs.Service.Descriptor.{descriptors, offsets}
+use Rattle.store_model.specs.Service.Install.{install_pairs, pairs_of}
+use Rattle.store_model.specs.Service.Notify.{new_dispatches, notify_pairs}
+use Rattle.pei_heap.specs.HeapMemory.{IsHeapOf}
+use Rattle.ppi_links.specs.Linked.{IsLinked}
+use Rattle.ppi_links.specs.Pairs.{CanQueueAll, CanQueueNew, CanQueueNewRow, row_of}
+use Rattle.ppi_links.specs.Walk.{StandsAt}
+use Rattle.ppi_links.proofs.Queueing.{IsLeft}
+use Rattle.ppi_links.proofs.pairs.push_new_pairs.Given as goal
+
+abbrev pub invariant-ppis : goal.invariant-ppis
+invariant-ppis l = record {
+  at : (s : StoreState) → IsLinked l.fn.heap l.fn.memory l.fn.heads s → CanQueueNew s l.list → StandsAt s Ppis l._place l.at;
+  left : (s : StoreState) → IsLinked l.fn.heap l.fn.memory l.fn.heads s → CanQueueNew s l.list
+      → IsLeft l.heap l.memory l.heads s l.by (notify_pairs s l.list) (pairs_of s (descriptors (drop l._place s.ppis)) (new_dispatches s l.list));
+}
