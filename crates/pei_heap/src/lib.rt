@@ -4,6 +4,7 @@
 mod add;
 mod begin;
 mod create;
+mod descriptor;
 mod handoff;
 mod heap;
 mod pages;
