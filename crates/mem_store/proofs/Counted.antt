@@ -61,7 +61,7 @@ counted_more s guid count node passed told one counted law h e o =
     let first = law.first s Dispatches node told h e in
     let rest = left_behind s Dispatches (Some told.node) in
     let kept : length (filter (of_guid guid) (left_behind s Dispatches node)) ≡ cond (same_guid guid told.guid) 1 0 + length (filter (of_guid guid) rest) =
-        ap (λ (xs : List EntryTold). length (filter (of_guid guid) xs)) first.left ∙ kept_by (same_guid guid told.guid) told (filter (of_guid guid) rest) in
+    ap (λ (xs : List EntryTold). length (filter (of_guid guid) xs)) first.left ∙ kept_by (same_guid guid told.guid) told (filter (of_guid guid) rest) in
     let size : length (left_behind s Dispatches node) ≡ length rest + 1 = ap (λ (xs : List EntryTold). length xs) first.left ∙ one_longer told rest in
     let all = counted.all in
     let few = counted.few in

@@ -59,7 +59,7 @@ install_row m s list by pairs sweep memory after heads ends h all room count swe
     let answer : Service Sweep = Ok (install_sweep s list, t) in
     let need = node_need (length list) + node_need (length (install_pairs s list)) in
     let row : install s list by ≡ answer = ap (λ b. unless_bad (not b) (in_room s need answer)) all
-        ∙ ap (λ n. cond (nat_lt (free s) (node_need (length list) + node_need n)) (Err Full) answer) (sym count) ∙ ap (λ b. cond b (Err Full) answer) room in
+    ∙ ap (λ n. cond (nat_lt (free s) (node_need (length list) + node_need n)) (Err Full) answer) (sym count) ∙ ap (λ b. cond b (Err Full) answer) room in
     (t, row ∙ ap (λ x. Ok (x, t)) (sym swept), stands_linked m s t after ends h here (then_same s first t made.same (queue_same by (install_pairs s list) first)))
 
 -- a PPI in the place of another
@@ -81,7 +81,7 @@ reinstall_row m s old new by pairs sweep after ends h is there room count swept 
     let le = fits (free s) (node_need 0 + node_need pairs) room in
     let enough : nat_lt (free s) need ≡ false = grind (arith, nat_tests, le, count) in
     let row : reinstall s old new by ≡ answer = ap (λ b. unless_bad (not b) (cond (not (is_installed s old)) (Err Missing) (in_room s need answer))) is
-        ∙ ap (λ b. cond (not b) (Err Missing) (in_room s need answer)) there ∙ ap (λ b. cond b (Err Full) answer) enough in
+    ∙ ap (λ b. cond (not b) (Err Missing) (in_room s need answer)) there ∙ ap (λ b. cond b (Err Full) answer) enough in
     let same : IsSame s first = record { board = refl; planned = refl; moved = refl; taken = refl } in
     (t, row ∙ ap (λ x. Ok (x, t)) (sym swept), stands_linked m s t after ends h linked (then_same s first t same (queue_same by (reinstall_pairs s new) first)))
 
@@ -127,5 +127,5 @@ notify_row m s list by pairs sweep memory after heads ends h none room count swe
     let answer : Service Sweep = Ok (notify_sweep s list, t) in
     let need = node_need (length list) + node_need (length (notify_pairs s list)) in
     let row : notify s list by ≡ answer = ap (λ b. unless_bad b (in_room s need answer)) none
-        ∙ ap (λ n. cond (nat_lt (free s) (node_need (length list) + node_need n)) (Err Full) answer) (sym count) ∙ ap (λ b. cond b (Err Full) answer) room in
+    ∙ ap (λ n. cond (nat_lt (free s) (node_need (length list) + node_need n)) (Err Full) answer) (sym count) ∙ ap (λ b. cond b (Err Full) answer) room in
     (t, row ∙ ap (λ x. Ok (x, t)) (sym swept), stands_linked m s t after ends h here (then_same s first t made.same (queue_same by (notify_pairs s list) first)))

@@ -36,11 +36,14 @@ pub stands_moved : (m : MemStore) (s : StoreState) (to : Span) (memory : PhysMem
 stands_moved m s to memory heap heads base h due some e linked =
     let is = due_is m s to h due some in
     let t = migrated_to s (range_of to) in
-    let moved : migration s ≡ Some t = ap (λ b. cond b None (option_map (migrated_to s) s.planned)) is.still ∙ ap (option_map (migrated_to s)) is.planned in
-    (t, (moved, ap (λ n. (n, to.base)) e), record {
-      linked = linked;
-      board = record { temp = h.board.temp; ram = h.board.ram; pages = h.board.pages; pages_end = h.board.pages_end };
-      planned = h.planned;
-      moved = refl;
-      early = λ before. absurd (true≢false before);
-    })
+    let moved : migration s ≡ Some t = ap (λ b. cond b None (option_map (migrated_to s) s.planned)) is.still ∙ ap (option_map (migrated_to s)) is.planned in (
+      t,
+      (moved, ap (λ n. (n, to.base)) e),
+      record {
+        linked = linked;
+        board = record { temp = h.board.temp; ram = h.board.ram; pages = h.board.pages; pages_end = h.board.pages_end };
+        planned = h.planned;
+        moved = refl;
+        early = λ before. absurd (true≢false before);
+      },
+    )

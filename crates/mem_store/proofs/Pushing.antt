@@ -97,7 +97,7 @@ note_more heap memory after heads ends s list by i none kind notes law word can 
     let kind_t = note_kind t d note in
     let is : notes ≡ note_list note.kind = l ∙ ap note_list (k ∙ kind_t) in
     let made : with_entry notes (entry_of d by) t ≡ with_note by t d =
-        ap (λ n. with_entry n (entry_of d by) t) is ∙ made_by t note.kind d by note.other ∙ ap (λ x. with_note_of x by t d) (sym kind_t) in
+    ap (λ n. with_entry n (entry_of d by) t) is ∙ made_by t note.kind d by note.other ∙ ap (λ x. with_note_of x by t d) (sym kind_t) in
     let here : IsLinked heap after ends (with_note by t d) = subst (IsLinked heap after ends) made linked in
     let step = law.note t note.kind by d (room_on heap memory heads s (with_note by) list i way can.room le) note.other note.at word in
     one_more heap memory after heads ends s (with_note by) list i none way le here step (same_by t (kind_at t d.offset) d by)

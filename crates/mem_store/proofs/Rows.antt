@@ -131,7 +131,7 @@ pub desc_some : (m : MemStore) (s : StoreState) (memory : PhysMem) (kind : DescK
 desc_some m s memory kind guid number d made h is out =
     let told : Option (Guid × Option ℕ) = Some (d.guid, d.stands) in
     let same : desc s kind guid number ≡ desc_of s d.kind d.number told =
-        ap (desc_of s kind number) is.guid_is ∙ ap (λ k. desc_of s k number told) (sym is.kind_is) ∙ ap (λ n. desc_of s d.kind n told) (sym is.number_is) in
+    ap (desc_of s kind number) is.guid_is ∙ ap (λ k. desc_of s k number told) (sym is.kind_is) ∙ ap (λ n. desc_of s d.kind n told) (sym is.number_is) in
     let row = served_some (desc_of s d.kind d.number told) m s memory made h (desc_adds s d) out in
     (row.0, same ∙ row.1, row.2)
 

@@ -25,7 +25,11 @@ const MOST_ENTRIES: u32 = 1 << 28;
 fn one_if_same(a: &Guid, b: &Guid) -> u32
     ensures { result ≡ (if G.same_guid a.now b.now then 1 else 0) }
 {
-    if a.0.as_slice() == b.0.as_slice() { 1 } else { 0 }
+    if a.0.as_slice() == b.0.as_slice() {
+        1
+    } else {
+        0
+    }
 }
 
 impl MemStore {

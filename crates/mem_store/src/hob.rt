@@ -48,12 +48,7 @@ impl MemStore {
     }
 
     // Adds the base of the volume that a HOB tells of, where it tells of one.
-    fn push_base(
-        &self,
-        bases: &mut Seq<u64>,
-        offset: u64,
-        span: HobSpan,
-    ) -> Result<(), OutOfMemory>
+    fn push_base(&self, bases: &mut Seq<u64>, offset: u64, span: HobSpan) -> Result<(), OutOfMemory>
         requires { (s : StoreState) × StandsFor self.now s × (hob_at s offset ≡ Some span) }
         ensures { (s : StoreState) → StandsFor self.now s
             → OnOk result (bases.new ≡ bases.old ++ base_told (heap_image s) offset span.kind) }

@@ -14,8 +14,10 @@ ghost use Rattle.mem_store.specs.Made.{CanMakePpis, IsMade};
 use crate::store::MemStore;
 use pei_heap::Heap;
 use phys_mem::PhysMem;
-use crate::pending_links::{count_pairs, pairs_stay, push_pairs};
-use ppi_links::{Heads, NewEntry, PpiFound, find_ppi, push, read_descriptor, rename};
+use ppi_links::{
+    Heads, NewEntry, PpiFound, count_pairs, find_ppi, pairs_stay, push, push_pairs,
+    read_descriptor, rename,
+};
 use store_laws::{entries_are_told, steps_keep_facts};
 use store_model::{Desc, DescKind, EntryList, StoreFault, Sweep};
 

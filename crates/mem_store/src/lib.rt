@@ -10,7 +10,6 @@ mod migration;
 mod notify;
 mod peek;
 mod pei_store;
-mod pending_links;
 mod pool;
 mod queue;
 mod reading;
@@ -18,3 +17,6 @@ mod store;
 mod sweep;
 
 pub use store::MemStore;
+
+#[cfg(test)]
+mod tests;

@@ -23,9 +23,12 @@ push_pairs-requires c =
     let all = sym (c.are_ppis.ensures s h descs) ∙ c.if-not-are_ppis.false in
     let room = sym (c.is_full.ensures s h tt) ∙ c.if-is_full.false in
     let made = c.push_ppis.ensures s h.linked (can_make s list pairs descs all room) in
-    let stay = c.pairs_stay.ensures.install s list c.args.by descs in
-    (fold (with_ppi c.args.by) s list, made.linked, can_queue c.args.self.now s (fold (with_ppi c.args.by) s list) list pairs c.push_ppis.new.memory c.push_ppis.new.heads descs all room
-        (c.count_pairs-pairs.ensures s h.linked descs) stay made)
+    let stay = c.pairs_stay.ensures.install s list c.args.by h.linked.heap_is.state descs in (
+      fold (with_ppi c.args.by) s list,
+      made.linked,
+      can_queue c.args.self.now s (fold (with_ppi c.args.by) s list) list pairs c.push_ppis.new.memory c.push_ppis.new.heads descs all room
+          (c.count_pairs-pairs.ensures s h.linked descs) stay made,
+    )
 
 pub returns : goal.returns
 returns c s both =
@@ -37,7 +40,7 @@ returns c s both =
     let room = sym (c.is_full.ensures s h tt) ∙ c.if-is_full.false in
     let count = c.count_pairs-pairs.ensures s h.linked descs in
     let made = c.push_ppis.ensures s h.linked (can_make s list pairs descs all room) in
-    let stay = c.pairs_stay.ensures.install s list c.args.by descs in
+    let stay = c.pairs_stay.ensures.install s list c.args.by h.linked.heap_is.state descs in
     let first = fold (with_ppi c.args.by) s list in
     let linked = c.push_pairs.ensures first made.linked (can_queue c.args.self.now s first list pairs c.push_ppis.new.memory c.push_ppis.new.heads descs all room count stay made) in
     install_row c.args.self.now s list c.args.by pairs c.sweep_behind-sweep.result c.push_ppis.new.memory c.push_pairs.new.memory c.push_ppis.new.heads c.push_pairs.new.heads h all room count

@@ -14,9 +14,12 @@ push_new_pairs-requires c =
     let none = sym (c.any_ppi.ensures s h descs) ∙ c.if-any_ppi.false in
     let room = sym (c.is_full.ensures s h tt) ∙ c.if-is_full.false in
     let made = c.push_notes.ensures s h.linked (can_note s list pairs descs none room) in
-    let stay = c.pairs_stay.ensures.notify s list c.args.by descs in
-    (fold (with_note c.args.by) s list, made.linked, can_queue_new c.args.self.now s (fold (with_note c.args.by) s list) list pairs c.push_notes.new.memory c.push_notes.new.heads descs none room
-        (c.count_new_pairs-pairs.ensures s h.linked descs) stay made)
+    let stay = c.pairs_stay.ensures.notify s list c.args.by h.linked.heap_is.state descs in (
+      fold (with_note c.args.by) s list,
+      made.linked,
+      can_queue_new c.args.self.now s (fold (with_note c.args.by) s list) list pairs c.push_notes.new.memory c.push_notes.new.heads descs none room
+          (c.count_new_pairs-pairs.ensures s h.linked descs) stay made,
+    )
 
 pub returns : goal.returns
 returns c s both =
@@ -28,7 +31,7 @@ returns c s both =
     let room = sym (c.is_full.ensures s h tt) ∙ c.if-is_full.false in
     let count = c.count_new_pairs-pairs.ensures s h.linked descs in
     let made = c.push_notes.ensures s h.linked (can_note s list pairs descs none room) in
-    let stay = c.pairs_stay.ensures.notify s list c.args.by descs in
+    let stay = c.pairs_stay.ensures.notify s list c.args.by h.linked.heap_is.state descs in
     let first = fold (with_note c.args.by) s list in
     let linked = c.push_new_pairs.ensures first made.linked (can_queue_new c.args.self.now s first list pairs c.push_notes.new.memory c.push_notes.new.heads descs none room count stay made) in
     notify_row c.args.self.now s list c.args.by pairs c.sweep_over-sweep.result c.push_notes.new.memory c.push_new_pairs.new.memory c.push_notes.new.heads c.push_new_pairs.new.heads h none room count

@@ -1,0 +1,20 @@
+-- Linked memory that has two PPIs and a notification of each kind, whether or not they are named. The tests keep it.
+-- Own.
+use Rattle.std.specs.Prelude.{ℕ}
+use Rattle.phys_mem.specs.declared.memory.PhysMem.{PhysMem}
+use Rattle.store_model.specs.declared.store_handle.DescKind.TheVariants.{Ppi, Callback, Dispatch}
+use Rattle.store_model.specs.StoreState.{StoreState}
+use Rattle.store_model.specs.StateFacts.{IsDescriptorAt}
+use Rattle.pei_heap.specs.declared.heap.Heap.{Heap}
+use Rattle.ppi_links.specs.declared.heads.Heads.{Heads}
+use Rattle.ppi_links.specs.Linked.{IsLinked}
+
+-- the places of their descriptors
+pub record AreThere (s : StoreState) : Type 0 where
+  pub installed : IsDescriptorAt s Ppi 0x40
+  pub dispatch : IsDescriptorAt s Dispatch 0x70
+  pub callback : IsDescriptorAt s Callback 0xa0
+  pub other : IsDescriptorAt s Ppi 0xd0
+
+abbrev pub IsScene : Heap → PhysMem → Heads → Type 0
+IsScene heap memory heads = (s : StoreState) × IsLinked heap memory heads s × AreThere s
