@@ -1,6 +1,6 @@
 -- The board of the tests, and the store behind a call.
-use Rattle.std.proofs.Common.{◌≡◌, ℕ, ◌+◌, ◌≤◌, Bool, true, false, cond, List, [], None, Result, Ok, Err, arith, inr, sym, subst}
-use Rattle.std.specs.Prelude.{IfOk, nat_lt}
+use Rattle.std.proofs.Common.{◌≡◌, ℕ, ◌+◌, ◌≤◌, Bool, true, false, List, [], None, Result, Ok, Err, arith, inr, sym, subst}
+use Rattle.std.specs.Prelude.{IfOk, if◌then◌else◌, nat_lt}
 use Rattle.boot_plan.specs.declared.limits.TheConstants.{MOST_TEMP}
 use Rattle.pi_base.specs.declared.memory.OutOfMemory.{OutOfMemory}
 use Rattle.phys_mem.specs.declared.rom.Rom.{Rom}
@@ -16,7 +16,7 @@ use Rattle.store_model.specs.Service.Descriptor.{desc}
 use Rattle.store_laws.proofs.BodyLaws.{all_stay}
 use Rattle.store_model.specs.StateFacts.{IsBoard, IsDesc}
 use Rattle.store_model.specs.StoreCall.{Anything}
-use Rattle.store_model.specs.Service.{AfterEach, Present}
+use Rattle.store_model.specs.Service.{AfterEach, Present, Service}
 use Rattle.mem_store.specs.declared.store.MemStore.{MemStore}
 use Rattle.mem_store.specs.MemState.{StandsFor}
 
@@ -47,17 +47,19 @@ pub still : (before after : MemStore) (R : StoreState → StoreState → Type 0)
 still before after R row h = let next = row h.0 h.1 in (next.0, next.2, tt)
 
 -- a descriptor that was made may be handed in
-there_by : (s : StoreState) (guid : Guid) (number : ℕ) (d : Desc) (t : StoreState) (full : Bool)
-    → cond full (Err Full) (Ok (record { offset = next_body s }, appended s (pool_of (Descriptor (record { kind = Ppi; guid = guid; stands = None; number = number }))))) ≡ Ok (d, t) → IsDesc t d
-there_by s guid number d t true e = cc
-there_by s guid number d t false e =
+abbrev made_desc : StoreState → Guid → ℕ → Desc × StoreState
+made_desc s guid number = (record { offset = next_body s }, appended s (pool_of (Descriptor (record { kind = Ppi; guid = guid; stands = None; number = number }))))
+
+abbrev made_or_full : Bool → Desc × StoreState → Service Desc
+made_or_full full made = if full then Err Full else Ok made
+
+there_by : (s : StoreState) (guid : Guid) (number : ℕ) (told : Desc × StoreState) (full : Bool) → made_or_full full (made_desc s guid number) ≡ Ok told → IsDesc told.1 told.0
+there_by s guid number told true e = cc
+there_by s guid number told false e =
     let body : DescriptorBody = record { kind = Ppi; guid = guid; stands = None; number = number } in
-    let made = appended s (pool_of (Descriptor body)) in
-    let ours : Desc × StoreState = (record { offset = next_body s }, made) in
-    let told : Desc × StoreState = (d, t) in
-    let same : ours ≡ told = cc in
-    let here : IsDesc made (record { offset = next_body s }) = (body, all_stay.new s (pool_of (Descriptor body))) in
+    let same : made_desc s guid number ≡ told = cc in
+    let here : IsDesc (appended s (pool_of (Descriptor body))) (record { offset = next_body s }) = (body, all_stay.new s (pool_of (Descriptor body))) in
     subst (λ (p : Desc × StoreState). IsDesc p.1 p.0) same here
 
 pub desc_there : (s : StoreState) (guid : Guid) (number : ℕ) (d : Desc) (t : StoreState) → desc s Ppi (Inline guid) number ≡ Ok (d, t) → IsDesc t d
-desc_there s guid number d t e = there_by s guid number d t (nat_lt (free s) 48) e
+desc_there s guid number d t e = let told : Desc × StoreState = (d, t) in there_by s guid number told (nat_lt (free s) 48) e

@@ -105,7 +105,9 @@ fn without_a_region_there_are_no_early_pages(rt: HostRuntime) -> Result<(), Fail
 
 #[test]
 fn early_pages_come_from_the_end_of_their_region(rt: HostRuntime) -> Result<(), Fail> {
-    let mut store = store_over(rt.alloc(), 0x1_0000, 0x1000).ok().ok_or("memory")?;
+    let mut store = store_over(rt.alloc(), 0x1_0000, 0x1000)
+        .ok()
+        .ok_or("memory")?;
     assert_eq!(rt; pages(&mut store, 2), Err(StoreFault::Full));
     assert_eq!(rt; pages(&mut store, 1), Ok(0x8000_f000));
     assert_eq!(rt; pages(&mut store, 1), Err(StoreFault::Full));
