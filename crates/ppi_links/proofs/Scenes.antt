@@ -184,5 +184,5 @@ queued_scene heap memory heads s by pairs there h = (queued by s pairs, h, still
 pub room_for_all : (free count : ℕ) (pairs : List (ℕ × ℕ)) → count ≡ length pairs → count ≤ free / 40 → node_need (length pairs) ≤ free
 room_for_all free count pairs e le = omega (arith, e, le)
 
-pub no_ppi : (s : StoreState) → AreThere s → list_any (λ d. is_ppi (kind_at s d.offset)) (record { offset = 0x70 } ∷ []) ≡ false
+pub no_ppi : (s : StoreState) → AreThere s → list_any (λ (d : Desc). is_ppi (kind_at s d.offset)) (record { offset = 0x70 } ∷ []) ≡ false
 no_ppi s there = ap (λ k. is_ppi k || false) (kind_is s Dispatch 0x70 there.dispatch)
