@@ -147,8 +147,8 @@ still_desc : (s : StoreState) (first : Pending) (kind : DescKind) (place : ℕ) 
 still_desc s first kind place rest stay node d =
     let keeps : KeepsLength zeroed s first.node Node = record { there = node; len = refl } in
     let other : place ≢ first.node = λ e.
-        let same : Some (Descriptor d.0) ≡ Some Node = sym d.1 ∙ ap (body_at s) e ∙ node in
-        absurd cc in
+    let same : Some (Descriptor d.0) ≡ Some Node = sym d.1 ∙ ap (body_at s) e ∙ node in
+    absurd cc in
     (d.0, stay.elsewhere zeroed s first.node place Node keeps other ∙ d.1, d.2)
 
 left_by : (s t : StoreState) (pairs : List Pending) (firing : Firing) → s.pendings ≡ pairs → BodiesStay → IsStoreState s → AreThere s → popped s pairs ≡ Some (firing, t) → AreThere t

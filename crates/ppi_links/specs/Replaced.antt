@@ -30,7 +30,7 @@ abbrev pub with_renamed : StoreState → Desc → Desc → StoreState
 with_renamed s old new = record s { ppis = renamed s.ppis old.offset new.offset }
 
 -- memory has its image, and the PPI's place is told
-pub record IsReplacedAt (heap : Heap) (heads : Heads) (s : StoreState) (old : Desc) (new : Desc) (place : ℕ) (memory : PhysMem) : Type 0 where
+pub record IsReplacedAt (heap : Heap) (heads : Heads) (s : StoreState) (old new : Desc) (place : ℕ) (memory : PhysMem) : Type 0 where
   pub place_is : place ≡ place_of s.ppis old.offset
   pub inside : place < length s.ppis
   pub installed : is_installed s old ≡ true

@@ -60,7 +60,14 @@ struct Scene {
 }
 
 // Makes a descriptor. False where it does not stand at this place.
-fn makes(heap: &Heap, memory: &mut PhysMem, heads: &Heads, kind: DescKind, number: u64, place: u64) -> bool
+fn makes(
+    heap: &Heap,
+    memory: &mut PhysMem,
+    heads: &Heads,
+    kind: DescKind,
+    number: u64,
+    place: u64,
+) -> bool
     requires state { (s : StoreState) × IsLinked heap.now memory.old heads.now s }
     requires number { IsNumberOf kind number }
     ensures { (s : StoreState) → IsLinked heap.now memory.old heads.now s → result ≡ true
@@ -141,7 +148,13 @@ fn enter(scene: &mut Scene, list: EntryList) -> bool
         ppi: 0x40,
         by: 9,
     };
-    push(&scene.heap, &mut scene.memory, &mut scene.heads, list, entry);
+    push(
+        &scene.heap,
+        &mut scene.memory,
+        &mut scene.heads,
+        list,
+        entry,
+    );
     true
 }
 
@@ -159,7 +172,13 @@ fn put_other(scene: &mut Scene) -> Option<u32>
     requires { IsScene scene.old.heap scene.old.memory scene.old.heads }
     ensures { IsScene scene.new.heap scene.new.memory scene.new.heads }
 {
-    replace(&scene.heap, &mut scene.memory, &scene.heads, INSTALLED, OTHER)
+    replace(
+        &scene.heap,
+        &mut scene.memory,
+        &scene.heads,
+        INSTALLED,
+        OTHER,
+    )
 }
 
 // Queues the PPI's pairs, and answers how many. None without room.
@@ -172,7 +191,13 @@ fn queue_all(scene: &mut Scene) -> Option<u64>
     if scene.heap.free(&scene.memory) / 40 < count {
         return None;
     }
-    push_pairs(&scene.heap, &mut scene.memory, &mut scene.heads, list.as_slice(), 9);
+    push_pairs(
+        &scene.heap,
+        &mut scene.memory,
+        &mut scene.heads,
+        list.as_slice(),
+        9,
+    );
     Some(count)
 }
 
@@ -186,7 +211,13 @@ fn queue_new(scene: &mut Scene) -> Option<u64>
     if scene.heap.free(&scene.memory) / 40 < count {
         return None;
     }
-    push_new_pairs(&scene.heap, &mut scene.memory, &mut scene.heads, list.as_slice(), 9);
+    push_new_pairs(
+        &scene.heap,
+        &mut scene.memory,
+        &mut scene.heads,
+        list.as_slice(),
+        9,
+    );
     Some(count)
 }
 

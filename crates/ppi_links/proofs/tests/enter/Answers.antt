@@ -20,6 +20,8 @@ returns c =
     let there = c.requires.2 in
     let fits = c.if-free-lt40.false in
     let is = c.free.ensures s h.heap_is in
-    let done = c.push.ensures s h (record { names = entry_of_list c.args.list c.place_for.result s there c.place_for.ensures; room = omega (arith, fits, is) }) in
-    (with_entry c.args.list (record { descriptor = c.place_for.result; ppi = 0x40; by = 9 }) s, done,
-      still_there s _ (entered_grown c.args.list (record { descriptor = c.place_for.result; ppi = 0x40; by = 9 }) s) there)
+    let done = c.push.ensures s h (record { names = entry_of_list c.args.list c.place_for.result s there c.place_for.ensures; room = omega (arith, fits, is) }) in (
+      with_entry c.args.list (record { descriptor = c.place_for.result; ppi = 0x40; by = 9 }) s,
+      done,
+      still_there s _ (entered_grown c.args.list (record { descriptor = c.place_for.result; ppi = 0x40; by = 9 }) s) there,
+    )
