@@ -1,5 +1,5 @@
 -- The scene of the tests, which each call keeps.
-use Rattle.std.proofs.Common.{◌≡◌, ◌≢◌, ◌≤◌, ◌<◌, ◌+◌, ◌/◌, ◌^◌, ℕ, Bool, true, false, cond, List, [], ◌∷◌, length, map, Option, Some, None, Ok, Err, ap, sym, refl, ◌∙◌, arith, inr, subst, nat_lt}
+use Rattle.std.proofs.Common.{◌≡◌, ◌≢◌, ◌≤◌, ◌/◌, ℕ, Bool, true, false, cond, List, [], ◌∷◌, length, map, Option, Some, None, Ok, Err, ap, sym, refl, ◌∙◌, arith, inr, subst, nat_lt}
 use Rattle.std.specs.Prelude.{replicate, ◌||◌}
 use Rattle.std.specs.List.{list_any}
 use Rattle.phys_mem.specs.Regions.{regions, rom_region}
@@ -8,7 +8,6 @@ use Rattle.phys_mem.specs.declared.rom.Rom.{Rom}
 use Rattle.pi_base.specs.declared.guid.Guid.{Guid}
 use Rattle.pi_base.specs.declared.span.Span.{Span}
 use Rattle.store_model.specs.declared.state.Body.TheVariants.{Descriptor, Node}
-use Rattle.store_model.specs.declared.state.DescriptorBody.{DescriptorBody}
 use Rattle.store_model.specs.declared.state.HobEntry.{HobEntry}
 use Rattle.pi_base.specs.Lists.{Each}
 use Rattle.store_model.specs.declared.state.Pending.{Pending}
@@ -21,7 +20,6 @@ use Rattle.store_model.specs.declared.store_handle.DescKind.TheVariants.{Ppi, Ca
 use Rattle.store_model.specs.declared.store_handle.StoreFault.TheVariants.{Full}
 use Rattle.store_model.specs.StoreState.{Board, StoreState, appended, body_at, empty_store, free, next_body, pool_of}
 use Rattle.store_model.specs.StateFacts.{IsBoard, IsDescriptorAt, IsNodeAt, IsPending, IsStoreState}
-use Rattle.store_model.specs.Service.{Service}
 use Rattle.store_model.specs.Service.Descriptor.{desc_of, is_ppi, kind_at}
 use Rattle.store_model.specs.Service.Install.{node_need}
 use Rattle.store_model.specs.Service.Queue.{popped, zeroed}

@@ -1,5 +1,4 @@
-use Rattle.std.proofs.Common.{◌≡◌, ◌≤◌, arith}
-use Rattle.store_model.specs.StoreState.{free}
+use Rattle.std.proofs.Common.{arith}
 use Rattle.ppi_links.specs.NewEntry.{with_entry}
 use Rattle.ppi_links.proofs.Scenes.{entered_grown, entry_of_list, still_there}
 use Rattle.ppi_links.proofs.tests.enter.Goals as goal

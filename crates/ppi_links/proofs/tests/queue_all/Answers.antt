@@ -1,14 +1,11 @@
-use Rattle.std.proofs.Common.{◌≡◌, ◌≤◌, ◌/◌, ◌∷◌, List, [], length, ap, sym, subst, false, ◌∙◌}
-use Rattle.std.specs.List.{list_any}
+use Rattle.std.proofs.Common.{◌≡◌, ◌≤◌, ◌/◌, ◌∷◌, List, [], length, ap, sym, subst, ◌∙◌}
 use Rattle.pi_base.specs.Lists.{Each}
 use Rattle.store_model.specs.declared.store_handle.Desc.{Desc}
 use Rattle.store_model.specs.declared.store_handle.DescKind.TheVariants.{Ppi}
 use Rattle.store_model.specs.StoreState.{free}
 use Rattle.store_model.specs.StateFacts.{IsDesc, IsDescOf}
-use Rattle.store_model.specs.Service.Descriptor.{is_ppi, kind_at}
 use Rattle.store_model.specs.Service.Install.{install_pairs}
-use Rattle.store_model.specs.Service.Notify.{notify_pairs}
-use Rattle.ppi_links.proofs.Scenes.{no_ppi, queued_scene, room_for_all}
+use Rattle.ppi_links.proofs.Scenes.{queued_scene, room_for_all}
 use Rattle.ppi_links.proofs.tests.queue_all.Goals as goal
 
 pub returns : goal.returns

@@ -2,11 +2,9 @@ use Rattle.std.proofs.Common.{◌≡◌, ◌≤◌, ◌/◌, ◌∷◌, List, []
 use Rattle.std.specs.List.{list_any}
 use Rattle.pi_base.specs.Lists.{Each}
 use Rattle.store_model.specs.declared.store_handle.Desc.{Desc}
-use Rattle.store_model.specs.declared.store_handle.DescKind.TheVariants.{Ppi}
 use Rattle.store_model.specs.StoreState.{free}
-use Rattle.store_model.specs.StateFacts.{IsDesc, IsDescOf}
+use Rattle.store_model.specs.StateFacts.{IsDesc}
 use Rattle.store_model.specs.Service.Descriptor.{is_ppi, kind_at}
-use Rattle.store_model.specs.Service.Install.{install_pairs}
 use Rattle.store_model.specs.Service.Notify.{notify_pairs}
 use Rattle.ppi_links.proofs.Scenes.{no_ppi, queued_scene, room_for_all}
 use Rattle.ppi_links.proofs.tests.queue_new.Goals as goal
