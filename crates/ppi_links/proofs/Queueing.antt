@@ -1,6 +1,6 @@
 -- Pairs that are queued one after another, by those that are left.
-use Rattle.std.proofs.Common.{◌≡◌, ◌≢◌, ◌≤◌, ◌<◌, ◌+◌, ◌-◌, ◌*◌, ◌++◌, ◌&&◌, ℕ, zero, suc, Bool, true, false, cond, List, [], ◌∷◌, length, drop, Option, Some, None, ap, sym, refl, ◌∙◌, arith, subst, length-append}
-use Rattle.std.specs.Prelude.{map, filter, flat_map, fold, not, option_map, unwrap_or, if◌then◌else◌}
+use Rattle.std.proofs.Common.{◌≡◌, ◌≢◌, ◌≤◌, ◌+◌, ◌-◌, ◌*◌, ◌++◌, ◌&&◌, ℕ, suc, Bool, true, false, cond, List, [], ◌∷◌, length, drop, Option, ap, sym, refl, ◌∙◌, arith, subst, length-append}
+use Rattle.std.specs.Prelude.{map, filter, fold, not, option_map, unwrap_or, if◌then◌else◌}
 use Rattle.std.proofs.lemmas.List.Sums.{fold-append, sum_by_push}
 use Rattle.phys_mem.specs.declared.memory.PhysMem.{PhysMem}
 use Rattle.pi_base.specs.declared.guid.Guid.{Guid}
@@ -15,19 +15,19 @@ use Rattle.store_model.specs.declared.store_handle.DescKind.{DescKind}
 use Rattle.store_model.specs.declared.store_handle.DescKind.TheVariants.{Ppi, Callback, Dispatch}
 use Rattle.store_model.specs.declared.store_handle.EntryList.{EntryList}
 use Rattle.store_model.specs.declared.store_handle.EntryList.TheVariants.{Ppis, Callbacks, Dispatches, Pendings}
-use Rattle.store_model.specs.StoreState.{StoreState, body_at, end_place, free, hob_len, page_bytes, pool_of}
+use Rattle.store_model.specs.StoreState.{StoreState, end_place, free, hob_len, page_bytes, pool_of}
 use Rattle.store_model.specs.StateFacts.{IsDesc, IsDescriptorAt, IsEntry, IsStoreState}
 use Rattle.store_model.specs.Service.Descriptor.{descriptor_in, descriptors, guid_at, is_callback, kind_at, no_guid, offsets}
-use Rattle.store_model.specs.Service.Install.{install_pairs, node_need, pairs_of, with_node, with_pending, with_ppi}
+use Rattle.store_model.specs.Service.Install.{install_pairs, node_need, pairs_of, with_pending, with_ppi}
 use Rattle.store_model.specs.Service.Notify.{new_dispatches, notify_pairs, with_note, with_note_of}
 use Rattle.store_laws.specs.Bodies.{IsGrown}
 use Rattle.store_laws.proofs.Steps.{grown_node}
-use Rattle.heap_laws.specs.Items.{first_address, item_of, items}
+use Rattle.heap_laws.specs.Items.{first_address, item_of}
 use Rattle.pei_heap.specs.declared.heap.Heap.{Heap}
 use Rattle.ppi_links.specs.declared.heads.Heads.{Heads}
 use Rattle.ppi_links.specs.Linked.{IsLinked}
 use Rattle.ppi_links.specs.Pairs.{PairsStay, queued, row_of}
-use Rattle.ppi_links.specs.Walk.{StandsAt, address_from}
+use Rattle.ppi_links.specs.Walk.{StandsAt}
 
 -- what queueing keeps of a state
 pub record Queued (s u : StoreState) (count : ℕ) : Type 0 where

@@ -3,6 +3,8 @@
 use Rattle.std.specs.Prelude.{ℕ}
 use Rattle.phys_mem.specs.declared.memory.PhysMem.{PhysMem}
 use Rattle.store_model.specs.declared.store_handle.DescKind.TheVariants.{Ppi, Callback, Dispatch}
+use Rattle.store_model.specs.declared.store_handle.EntryList.{EntryList}
+use Rattle.store_model.specs.declared.store_handle.EntryList.TheVariants.{Ppis, Callbacks, Dispatches, Pendings}
 use Rattle.store_model.specs.StoreState.{StoreState}
 use Rattle.store_model.specs.StateFacts.{IsDescriptorAt}
 use Rattle.pei_heap.specs.declared.heap.Heap.{Heap}
@@ -18,3 +20,10 @@ pub record AreThere (s : StoreState) : Type 0 where
 
 abbrev pub IsScene : Heap → PhysMem → Heads → Type 0
 IsScene heap memory heads = (s : StoreState) × IsLinked heap memory heads s × AreThere s
+
+-- the place of the descriptor that is entered in a list
+abbrev pub place_for : EntryList → ℕ
+place_for Ppis = 0x40
+place_for Callbacks = 0xa0
+place_for Dispatches = 0x70
+place_for Pendings = 0x70

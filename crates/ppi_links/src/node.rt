@@ -50,8 +50,8 @@ pub(crate) fn nth_address(heap: &[u8], base: u64, head: u64, place: u32) -> Opti
 
 // The node of an item.
 pub(crate) fn read_node(heap: &[u8], base: u64, at: u64) -> Node
-    requires { (s : StoreState) × (list : EntryList) × (place : ℕ) × (item : Item) × (head : ℕ) × IsHeaded s list heap.now base head
-        × (slice_get (items s list) place ≡ Some item) × (at ≡ s.base + item.node) }
+    requires { (s : StoreState) × (list : EntryList) × (place : ℕ) × (item : Item) × (head : ℕ)
+        × IsHeaded s list heap.now base head × (slice_get (items s list) place ≡ Some item) × (at ≡ s.base + item.node) }
     ensures { (s : StoreState) (list : EntryList) (place : ℕ) (item : Item) (head : ℕ) → IsHeaded s list heap.now base head
         → slice_get (items s list) place ≡ Some item → at ≡ s.base + item.node → result ≡ node_of s.base item }
 {

@@ -29,7 +29,8 @@ use store_model::{Desc, DescKind, EntryList};
 // Whether a notification has the GUID.
 fn is_of(heap: &Heap, memory: &PhysMem, guid: &Guid, note: Desc) -> bool
     requires { (s : StoreState) × IsHeapOf heap.now memory.now s × IsDesc s note }
-    ensures { (s : StoreState) → IsHeapOf heap.now memory.now s → IsDesc s note → result ≡ G.same_guid guid.now (guid_at s note.offset) }
+    ensures { (s : StoreState) → IsHeapOf heap.now memory.now s → IsDesc s note
+        → result ≡ G.same_guid guid.now (guid_at s note.offset) }
 {
     same_guid(guid, &read_descriptor(heap, memory, note).guid)
 }

@@ -20,7 +20,8 @@ fn name_next(heap: &Heap, memory: &mut PhysMem, last: u64, node: u64)
     requires { (l : Layout) × (bytes : List ℕ) × Holds heap.now memory.old l bytes
         × (last ≢ 0 → (l.base ≤ last) × (last + 8 ≤ l.base + l.len)) }
     ensures { (l : Layout) (bytes : List ℕ) → Holds heap.now memory.old l bytes
-        → (last ≢ 0 → (l.base ≤ last) × (last + 8 ≤ l.base + l.len)) → Holds heap.now memory.new l (named_at l.base last node bytes) }
+        → (last ≢ 0 → (l.base ≤ last) × (last + 8 ≤ l.base + l.len))
+        → Holds heap.now memory.new l (named_at l.base last node bytes) }
 {
     if last != 0 {
         heap.put(memory, last - heap.span.base, node.to_le_bytes().as_slice());

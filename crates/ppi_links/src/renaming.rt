@@ -47,9 +47,10 @@ pub fn find_ppi(heap: &Heap, memory: &PhysMem, heads: &Heads, d: Desc) -> Option
 
 /// A PPI that is found names another descriptor.
 pub fn rename(heap: &Heap, memory: &mut PhysMem, heads: &Heads, found: PpiFound, new: Desc)
-    requires { (s : StoreState) × (old : OfDesc) × IsLinked heap.now memory.old heads.now s × IsFirstNamed s old found × IsDescOf s Ppi new }
-    ensures { (s : StoreState) (old : OfDesc) → IsLinked heap.now memory.old heads.now s → IsFirstNamed s old found → IsDescOf s Ppi new
-        → IsLinked heap.now memory.new heads.now (with_renamed s old new) }
+    requires { (s : StoreState) × (old : OfDesc) × IsLinked heap.now memory.old heads.now s × IsFirstNamed s old found
+        × IsDescOf s Ppi new }
+    ensures { (s : StoreState) (old : OfDesc) → IsLinked heap.now memory.old heads.now s → IsFirstNamed s old found
+        → IsDescOf s Ppi new → IsLinked heap.now memory.new heads.now (with_renamed s old new) }
 {
     bodies_are_inside();
     bodies_changed();

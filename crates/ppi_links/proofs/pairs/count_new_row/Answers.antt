@@ -1,4 +1,4 @@
-use Rattle.std.proofs.Common.{◌≡◌, ◌≤◌, ◌<◌, ◌+◌, length, drop, slice_index_or, refl, ap, arith, ◌∙◌}
+use Rattle.std.proofs.Common.{length, slice_index_or, ap, arith}
 use Rattle.store_model.specs.declared.store_handle.Desc.{Desc}
 use Rattle.store_model.specs.StateFacts.{IsDesc}
 use Rattle.store_model.specs.Service.Notify.{new_dispatches}

@@ -1,5 +1,4 @@
-use Rattle.std.proofs.Common.{◌≡◌, ◌≤◌, ◌<◌, ◌+◌, ◌*◌, ◌^◌, length, drop, slice_index_or, refl, ap, arith, ◌∙◌}
-use Rattle.pi_base.specs.Lists.{Each}
+use Rattle.std.proofs.Common.{◌+◌, length, drop, slice_index_or, ap}
 use Rattle.store_model.specs.declared.store_handle.Desc.{Desc}
 use Rattle.store_model.specs.StateFacts.{IsDesc}
 use Rattle.store_model.specs.Service.Descriptor.{descriptors, offsets}

@@ -1,4 +1,4 @@
-use Rattle.std.proofs.Common.{◌≡◌, ◌≤◌, ◌<◌, ◌+◌, ◌^◌, length, drop, refl, ap, arith, ◌∙◌}
+use Rattle.std.proofs.Common.{◌≡◌, ◌+◌, length, drop, ap, arith}
 use Rattle.store_model.specs.declared.store_handle.DescKind.TheVariants.{Dispatch}
 use Rattle.store_model.specs.declared.store_handle.EntryList.TheVariants.{Dispatches}
 use Rattle.store_model.specs.Service.Descriptor.{descriptors}

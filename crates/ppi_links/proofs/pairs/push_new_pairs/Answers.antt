@@ -1,4 +1,4 @@
-use Rattle.std.proofs.Common.{◌≡◌, ◌≤◌, ◌+◌, length, drop, refl, ap, sym, subst, arith, ◌∙◌}
+use Rattle.std.proofs.Common.{◌≤◌, length, drop, ap, sym, subst, arith, ◌∙◌}
 use Rattle.store_model.specs.declared.store_handle.DescKind.TheVariants.{Ppi}
 use Rattle.store_model.specs.declared.store_handle.EntryList.TheVariants.{Ppis}
 use Rattle.store_model.specs.StoreState.{free}

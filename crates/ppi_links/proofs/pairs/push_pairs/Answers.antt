@@ -1,15 +1,15 @@
-use Rattle.std.proofs.Common.{◌≡◌, ◌≤◌, ◌+◌, length, drop, slice_index_or, refl, ap, sym, subst, ◌∙◌}
+use Rattle.std.proofs.Common.{◌≤◌, length, slice_index_or, ap, sym, subst}
 use Rattle.store_model.specs.declared.store_handle.Desc.{Desc}
 use Rattle.store_model.specs.declared.store_handle.DescKind.TheVariants.{Ppi}
 use Rattle.store_model.specs.StoreState.{free}
 use Rattle.store_model.specs.StateFacts.{IsDescOf}
 use Rattle.store_model.specs.Service.Descriptor.{descriptors, offsets}
-use Rattle.store_model.specs.Service.Install.{install_pairs, node_need, pairs_of}
+use Rattle.store_model.specs.Service.Install.{node_need, pairs_of}
 use Rattle.heap_laws.proofs.Lists.{each_behind}
 use Rattle.ppi_links.specs.Linked.{IsLinked}
 use Rattle.ppi_links.specs.Pairs.{queued, row_of}
 use Rattle.ppi_links.proofs.Finding.{drop_all, drop_get}
-use Rattle.ppi_links.proofs.Queueing.{all_left, at_stays, less_left, none_left}
+use Rattle.ppi_links.proofs.Queueing.{at_stays, less_left, none_left}
 use Rattle.ppi_links.proofs.Rows.{row_now, row_room, rows_more}
 use Rattle.ppi_links.proofs.pairs.push_pairs.Goals as goal
 

@@ -1,12 +1,12 @@
-use Rattle.std.proofs.Common.{◌≡◌, ◌≢◌, ◌≤◌, ◌<◌, ◌+◌, ◌^◌, length, drop, refl, ap, sym, arith, ◌∙◌}
+use Rattle.std.proofs.Common.{◌≡◌, length, drop, ap, sym, arith, ◌∙◌}
 use Rattle.store_model.specs.declared.store_handle.DescKind.TheVariants.{Dispatch}
-use Rattle.store_model.specs.declared.store_handle.EntryList.TheVariants.{Callbacks, Dispatches}
+use Rattle.store_model.specs.declared.store_handle.EntryList.TheVariants.{Dispatches}
 use Rattle.store_model.specs.Service.Descriptor.{descriptors}
 use Rattle.heap_laws.specs.Items.{item_of, items}
 use Rattle.ppi_links.specs.Pairs.{row_of}
 use Rattle.ppi_links.proofs.Ends.{map_len}
 use Rattle.ppi_links.proofs.Finding.{drop_all}
-use Rattle.ppi_links.proofs.Queueing.{all_left, less_left, none_left, pair_if, stands_on}
+use Rattle.ppi_links.proofs.Queueing.{less_left, none_left, pair_if, stands_on}
 use Rattle.ppi_links.proofs.Rows.{dispatches_not, ready, row_at}
 use Rattle.ppi_links.proofs.Walking.{desc_of}
 use Rattle.ppi_links.proofs.pairs.push_row.Goals as goal

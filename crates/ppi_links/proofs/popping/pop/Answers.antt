@@ -1,5 +1,4 @@
-use Rattle.std.proofs.Common.{◌≡◌, ◌+◌, ◌-◌, Some, ap, sym, refl, ◌∙◌, arith}
-use Rattle.std.specs.Prelude.{slice_get}
+use Rattle.std.proofs.Common.{◌≡◌, ◌-◌, ap, refl, ◌∙◌, arith}
 use Rattle.store_model.specs.declared.store_handle.DescKind.TheVariants.{Ppi, Dispatch}
 use Rattle.store_model.specs.declared.store_handle.EntryList.TheVariants.{Pendings}
 use Rattle.store_model.specs.HeapImage.{heap_image}

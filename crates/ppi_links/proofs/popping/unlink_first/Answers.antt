@@ -1,4 +1,4 @@
-use Rattle.std.proofs.Common.{◌≡◌, ◌≤◌, ◌+◌, ◌-◌, length, ap, sym, ◌∙◌, arith, subst}
+use Rattle.std.proofs.Common.{◌≡◌, ◌-◌, length, ap, sym, ◌∙◌, arith, subst}
 use Rattle.store_model.specs.HeapImage.{heap_image}
 use Rattle.heap_laws.specs.Changes.{without_first}
 use Rattle.heap_laws.specs.Mapped.{layout_of}

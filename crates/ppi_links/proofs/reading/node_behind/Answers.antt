@@ -1,4 +1,4 @@
-use Rattle.std.proofs.Common.{◌≡◌, Some, refl, subst, sym}
+use Rattle.std.proofs.Common.{refl, subst, sym}
 use Rattle.store_model.specs.HeapImage.{heap_image}
 use Rattle.store_model.specs.StoreCall.{IsNodeIn}
 use Rattle.heap_laws.specs.Mapped.{layout_of}

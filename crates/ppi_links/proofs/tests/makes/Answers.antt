@@ -7,5 +7,5 @@ pub returns-in-Some : goal.returns-in-Some
 returns-in-Some c s h e =
     let at : c.in-Some.made.offset ≡ c.args.place = grind (arith, nat_tests, e) in
     let made = made_at c.args.heap.now c.args.memory.now c.descriptor.new.memory c.args.heads.now s c.args.kind _ c.args.number c.args.place c.in-Some.made c.bodies_stay.ensures h
-        (c.in-Some.ensures s h.heap_is (record { guid = refl; number = c.requires.number })) at in
+    (c.in-Some.ensures s h.heap_is (record { guid = refl; number = c.requires.number })) at in
     (made.now, made.linked, made.grown, made.there)

@@ -1,4 +1,3 @@
-use Rattle.std.proofs.Common.{◌≡◌, sym, refl, ◌∙◌}
 use Rattle.store_model.specs.HeapImage.{heap_image}
 use Rattle.heap_laws.specs.Items.{items}
 use Rattle.heap_laws.specs.Mapped.{layout_of}

@@ -1,4 +1,4 @@
-use Rattle.std.proofs.Common.{◌≡◌, ◌-◌, ◌≤◌, sym, refl, ◌∙◌, arith, ap}
+use Rattle.std.proofs.Common.{refl}
 use Rattle.store_model.specs.HeapImage.{heap_image}
 use Rattle.heap_laws.specs.Items.{first_address, items}
 use Rattle.heap_laws.specs.Mapped.{layout_of}
