@@ -18,11 +18,14 @@ use store_model::{Desc, DescKind, DescriptorBody};
 
 // The flags of a PPI, a callback and a dispatch notification, each with the mark of the last descriptor of a list.
 const PPI_FLAGS: u64 = 0x8000_0010;
+
 const CALLBACK_FLAGS: u64 = 0x8000_0020;
+
 const DISPATCH_FLAGS: u64 = 0x8000_0040;
 
 // The length of a descriptor's fields, and of a descriptor whose GUID stands behind it.
 const FIELDS_LEN: u16 = 24;
+
 const INLINE_LEN: u16 = 40;
 
 // The flags of a kind.
