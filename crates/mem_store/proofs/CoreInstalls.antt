@@ -1,6 +1,6 @@
 -- The row of the core's call: the descriptor and the PPI of permanent memory.
-use Rattle.std.proofs.Common.{◌≡◌, ◌∙◌, ◌≤◌, ◌<◌, ◌+◌, ◌*◌, ℕ, Bool, true, false, cond, List, [], ◌∷◌, ◌++◌, length, Option, Some, None, Ok, Err, Result, ap, refl, sym, subst, arith, true≢false}
-use Rattle.std.specs.Prelude.{nat_lt, not, map, filter, option_map, unwrap_or, flat_map}
+use Rattle.std.proofs.Common.{◌≡◌, ◌∙◌, ◌≤◌, ◌<◌, ◌+◌, ℕ, Bool, true, false, cond, List, [], ◌∷◌, ◌++◌, length, Some, None, Ok, Err, ap, refl, sym, subst, arith, true≢false}
+use Rattle.std.specs.Prelude.{nat_lt, not, map, filter}
 use Rattle.std.specs.List.{list_all}
 use Rattle.std.proofs.lemmas.Bool.Decides.{nat_tests}
 use Rattle.pi_base.specs.declared.guid.Guid.{Guid}
@@ -12,7 +12,6 @@ use Rattle.store_model.specs.declared.state.Body.TheVariants.{Descriptor}
 use Rattle.store_model.specs.declared.state.DescriptorBody.{DescriptorBody}
 use Rattle.store_model.specs.declared.state.Entry.{Entry}
 use Rattle.store_model.specs.declared.store_handle.Desc.{Desc}
-use Rattle.store_model.specs.declared.store_handle.DescKind.{DescKind}
 use Rattle.store_model.specs.declared.store_handle.DescKind.TheVariants.{Ppi, Dispatch}
 use Rattle.store_model.specs.declared.store_handle.EntryTold.{EntryTold}
 use Rattle.store_model.specs.declared.store_handle.EntryList.TheVariants.{Dispatches}
@@ -21,7 +20,7 @@ use Rattle.store_model.specs.declared.store_handle.StoreFault.{StoreFault}
 use Rattle.store_model.specs.declared.store_handle.StoreFault.TheVariants as F
 use Rattle.store_model.specs.declared.store_handle.Sweep.{Sweep}
 use Rattle.store_model.specs.StoreState.{StoreState, appended, body_at, free, next_body, pool_of}
-use Rattle.store_model.specs.StateFacts.{IsDesc, IsDescriptorAt, IsEntry, IsStoreState}
+use Rattle.store_model.specs.StateFacts.{IsDesc, IsEntry, IsStoreState}
 use Rattle.store_model.specs.Service.{Answers, Service, in_room, unless_bad}
 use Rattle.store_model.specs.Service.Descriptor.{desc, descriptors, guid_at, is_ppi, kind_at}
 use Rattle.store_model.specs.Service.Install.{both_or_full, core_install, core_of, install, install_pairs, install_sweep, installed, node_need, pairs_of}

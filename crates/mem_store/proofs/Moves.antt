@@ -1,9 +1,9 @@
 -- The move of a store.
-use Rattle.std.proofs.Common.{◌≡◌, ◌∙◌, ℕ, Bool, true, false, cond, Option, Some, None, ap, refl, sym, subst, true≢false}
+use Rattle.std.proofs.Common.{◌≡◌, ◌∙◌, ℕ, Bool, true, false, cond, Some, None, ap, refl, sym, true≢false}
 use Rattle.std.specs.Prelude.{◌&&◌, is_some, not, option_map}
 use Rattle.phys_mem.specs.declared.memory.PhysMem.{PhysMem}
 use Rattle.pi_base.specs.declared.span.Span.{Span}
-use Rattle.store_model.specs.StoreState.{Range, StoreState}
+use Rattle.store_model.specs.StoreState.{StoreState}
 use Rattle.store_model.specs.StoreCall.{IsDue, Migrates}
 use Rattle.store_model.specs.Migration.{migrated_to, migration}
 use Rattle.pei_heap.specs.declared.heap.Heap.{Heap}

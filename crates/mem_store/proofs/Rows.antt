@@ -1,5 +1,5 @@
 -- A call that may refuse, from the call of the heap.
-use Rattle.std.proofs.Common.{◌≡◌, ◌∙◌, ◌≤◌, ◌+◌, ◌-◌, ◌*◌, ◌==◌, true≢false, ap, arith, length, [], ◌∷◌, ℕ, List, Bool, true, false, cond, Option, Some, None, Ok, Err, Result, refl, sym, subst}
+use Rattle.std.proofs.Common.{◌≡◌, ◌∙◌, ◌≤◌, ◌+◌, ◌-◌, ◌*◌, ◌==◌, true≢false, ap, arith, length, [], ◌∷◌, ℕ, List, Bool, true, false, cond, Option, Some, None, Ok, Err, refl, sym, subst}
 use Rattle.std.specs.Prelude.{⊤, nat_lt, not, IfSome}
 use Rattle.std.proofs.lemmas.Bool.Decides.{nat_tests}
 use Rattle.pi_base.specs.declared.guid.Guid.{Guid}

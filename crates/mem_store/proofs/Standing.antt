@@ -1,5 +1,5 @@
 -- A store whose memory changed, and the state that it then stands for.
-use Rattle.std.proofs.Common.{◌≡◌, ◌∙◌, ◌+◌, ℕ, List, Bool, true, false, Some, ap, refl, sym, subst}
+use Rattle.std.proofs.Common.{◌≡◌, ◌∙◌, ◌+◌, ℕ, List, false, Some, ap, refl, sym, subst}
 use Rattle.pi_base.specs.declared.span.Span.{Span}
 use Rattle.store_model.specs.StoreState.{Board}
 use Rattle.store_model.specs.StateFacts.{IsStoreState}

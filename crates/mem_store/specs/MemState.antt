@@ -1,6 +1,6 @@
 -- The states that a store in memory stands for: memory has the image of the state, and the store's fields say what the image does not.
 -- Own.
-use Rattle.std.specs.Prelude.{◌≡◌, ◌+◌, Bool, false, option_map}
+use Rattle.std.specs.Prelude.{◌≡◌, ◌+◌, false, option_map}
 use Rattle.pi_base.specs.declared.span.Span.{Span}
 use Rattle.store_model.specs.StoreState.{Board, Range, StoreState}
 use Rattle.ppi_links.specs.Linked.{IsLinked}

@@ -1,5 +1,5 @@
 // The PPI of permanent memory. PI 1.8, volume 1, `EFI_PEI_PERMANENT_MEMORY_INSTALLED_PPI_GUID`.
-ghost use Rattle.std.specs.Prelude.{◌≡◌, ◌≤◌, ◌+◌, ◌^◌, false, if◌then◌else◌, nat_lt, length, filter};
+ghost use Rattle.std.specs.Prelude.{◌≡◌, ◌+◌, false, if◌then◌else◌, nat_lt, length, filter};
 ghost use Rattle.pi_base.specs.Guids as G;
 ghost use Rattle.store_model.specs.declared.store_handle.EntryList.TheVariants as L;
 ghost use Rattle.store_model.specs.StoreState.{free};

@@ -1,5 +1,5 @@
 // Permanent memory, pages and the boot mode.
-ghost use Rattle.std.specs.Prelude.{◌≡◌, ◌≤◌, false};
+ghost use Rattle.std.specs.Prelude.{◌≡◌, false};
 ghost use Rattle.store_model.specs.Service.{AfterEach, OfEach, Performs, Present};
 ghost use Rattle.store_model.specs.Service.Memory.{is_memory, pages, set_memory, with_boot_mode};
 ghost use Rattle.store_model.specs.Service.Reading.{memory_due};

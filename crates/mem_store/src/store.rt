@@ -1,5 +1,5 @@
 // A store in memory.
-ghost use Rattle.std.specs.Prelude.{◌≡◌, IfOk};
+ghost use Rattle.std.specs.Prelude.{IfOk};
 ghost use Rattle.store_model.specs.StateFacts.{IsBoard};
 ghost use Rattle.store_model.specs.StoreState.{empty_store};
 

@@ -1,5 +1,5 @@
 // Descriptors. PI 1.8, volume 1, `EFI_PEI_PPI_DESCRIPTOR` and `EFI_PEI_NOTIFY_DESCRIPTOR`.
-ghost use Rattle.std.specs.Prelude.{◌≡◌, ◌++◌, ◌<◌, ◌+◌, ◌^◌, Some, length};
+ghost use Rattle.std.specs.Prelude.{◌≡◌, ◌++◌, Some};
 ghost use Rattle.hob_codec.specs.declared.kind.TheConstants.{POOL as POOL_KIND};
 ghost use Rattle.pi_base.specs.Field.{little_bytes};
 ghost use Rattle.store_model.specs.StoreState.{StoreState, descriptor_len};
@@ -9,7 +9,6 @@ ghost use Rattle.pei_heap.specs.NewDescriptor.{guid_address_by};
 
 use crate::add::{HEADER_LEN, header};
 use crate::heap::Heap;
-use heap_laws::image_facts;
 use hob_codec::kind::POOL;
 use phys_mem::PhysMem;
 use pi_base::put_u64;
@@ -18,11 +17,14 @@ use store_model::{Desc, DescKind, DescriptorBody};
 
 // The flags of a PPI, a callback and a dispatch notification, each with the mark of the last descriptor of a list.
 const PPI_FLAGS: u64 = 0x8000_0010;
+
 const CALLBACK_FLAGS: u64 = 0x8000_0020;
+
 const DISPATCH_FLAGS: u64 = 0x8000_0040;
 
 // The length of a descriptor's fields, and of a descriptor whose GUID stands behind it.
 const FIELDS_LEN: u16 = 24;
+
 const INLINE_LEN: u16 = 40;
 
 // The flags of a kind.
@@ -88,7 +90,6 @@ impl Heap {
         ensures { (s : StoreState) → IsHeapOf self.now memory.old s → IsNew s d.now
             → IsServed (desc_of s d.now.kind d.now.number (Some (d.now.guid, d.now.stands))) self.now memory.old result memory.new }
     {
-        image_facts();
         states_fit();
         steps_keep_facts();
         let len = HEADER_LEN + body_len(d);

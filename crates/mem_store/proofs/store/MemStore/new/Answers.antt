@@ -1,5 +1,4 @@
-use Rattle.std.proofs.Common.{◌≡◌, ◌≤◌, ◌+◌, ◌-◌, refl, arith}
-use Rattle.phys_mem.specs.declared.memory.PhysMem.{PhysMem}
+use Rattle.std.proofs.Common.{refl, arith}
 use Rattle.store_model.specs.StoreState.{Board}
 use Rattle.pei_heap.specs.HeapMemory.{IsFresh}
 use Rattle.mem_store.specs.MemState.{range_of}

@@ -1,4 +1,4 @@
-use Rattle.std.proofs.Common.{◌≡◌, ◌≤◌, ◌<◌, ◌+◌, ◌^◌, ◌∙◌, ◌++◌, ◌∷◌, [], length, arith, ap, sym}
+use Rattle.std.proofs.Common.{◌≡◌, ◌+◌, ◌∙◌, length, arith, ap}
 use Rattle.store_model.specs.HeapImage.{heap_image}
 use Rattle.store_laws.specs.Fitting.{IsFittingHeap}
 use Rattle.heap_laws.specs.Mapped.{layout_of}

@@ -1,4 +1,4 @@
-use Rattle.std.proofs.Common.{◌≡◌, Some, sym, refl}
+use Rattle.std.proofs.Common.{sym, refl}
 use Rattle.mem_store.proofs.Walked.{walked_all, walked_end, walked_first, walked_more}
 use Rattle.mem_store.proofs.store.MemStore.volume_bases.Goals as goal
 
