@@ -1,5 +1,5 @@
 -- Where memory is wanting in a boot.
-use Rattle.std.proofs.Common.{◌≡◌, ◌⊎◌, ℕ, Bool, false, List, [], ◌++◌, Option, Result, Ok, Err, refl, sym, subst, inl, inr}
+use Rattle.std.proofs.Common.{◌≡◌, ◌⊎◌, ℕ, Bool, false, List, [], ◌++◌, Option, Result, Ok, Err, IfErr, refl, sym, subst, inl, inr}
 use Rattle.std.specs.Io.KnownBytes.{Appends}
 use Rattle.boot_io.specs.declared.halt.Halt.{Halt}
 use Rattle.boot_io.specs.declared.halt.Halt.TheVariants as H
@@ -24,27 +24,27 @@ use Rattle.boot_core.proofs.Causes.{none_of}
 use Rattle.boot_core.proofs.RunEnds.{answer_of}
 
 -- behind all lines of PEI
-pub behind_pei : {A : Type 0} (takes : Bool) (board : Board) (catalog : Catalog) (fuel : ℕ) (old mid new : Option (List ℕ)) (text : List ℕ) (halt : Halt)
+pub behind_pei : (takes : Bool) (board : Board) (catalog : Catalog) (fuel : ℕ) (old mid new : Option (List ℕ)) (text : List ℕ) (halt : Halt)
     → Appends old mid (text_of (pei_end board catalog fuel).lines) → AppendsPart mid new text
-    → WantsOutsidePei {A} takes board catalog fuel (record { old = old; new = new }) (Err halt)
+    → WantsOutsidePei takes board catalog fuel (record { old = old; new = new }) halt
 behind_pei takes board catalog fuel old mid new text H.Sink put part = tt
 behind_pei takes board catalog fuel old mid new text H.Memory put part = λ takes_none.
     inr (part.0, appends_then old mid new (text_of (pei_end board catalog fuel).lines) part.0 put part.2)
 
 -- before PEI
-pub before_pei : {A B : Type 0} (takes : Bool) (board : Board) (catalog : Catalog) (fuel : ℕ) (old new : Option (List ℕ)) (halt : Halt)
-    → IsWantedBefore {B} takes old new (Err halt) → WantsOutsidePei {A} takes board catalog fuel (record { old = old; new = new }) (Err halt)
-before_pei takes board catalog fuel old new H.Sink wanted = tt
-before_pei takes board catalog fuel old new H.Memory wanted = λ takes_none. inl (wanted takes_none)
+pub before_pei : (A : Type 0) (takes : Bool) (board : Board) (catalog : Catalog) (fuel : ℕ) (old new : Option (List ℕ)) (halt : Halt)
+    → IsWantedBefore {A = A} takes old new (Err halt) → WantsOutsidePei takes board catalog fuel (record { old = old; new = new }) halt
+before_pei A takes board catalog fuel old new H.Sink wanted = tt
+before_pei A takes board catalog fuel old new H.Memory wanted = λ takes_none. inl (wanted takes_none)
 
 -- nothing was put
-pub at_once : {A : Type 0} (takes : Bool) (board : Board) (catalog : Catalog) (fuel : ℕ) (old : Option (List ℕ))
-    → WantsOutsidePei {A} takes board catalog fuel (record { old = old; new = old }) (Err H.Memory)
+pub at_once : (takes : Bool) (board : Board) (catalog : Catalog) (fuel : ℕ) (old : Option (List ℕ))
+    → WantsOutsidePei takes board catalog fuel (record { old = old; new = old }) H.Memory
 at_once takes board catalog fuel old = λ takes_none. inl (appends_none old)
 
 -- so the answer of a boot says it
 pub answered_outside : (ran : Result (Ran MemStore) Halt) (board : Board) (catalog : Catalog) (fuel : ℕ) (booted : Booted) (t : Texts)
-    → IsBooted ran booted → WantsOutsidePei false board catalog fuel t ran → IsWantedOutsidePei (kind_of booted.status) board catalog fuel t
+    → IsBooted ran booted → IfErr ran (WantsOutsidePei false board catalog fuel t) → IsWantedOutsidePei (kind_of booted.status) board catalog fuel t
 answered_outside (Ok ran) board catalog fuel booted t is wants =
     let P : Status → Type 0 = λ status. IsWantedOutsidePei (kind_of status) board catalog fuel t in
     let Q : Kind → Type 0 = λ kind. IsWantedOutsidePei kind board catalog fuel t in

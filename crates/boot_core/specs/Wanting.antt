@@ -1,6 +1,6 @@
 -- Where memory may be wanting in a boot over a store that takes none: before anything is put, or behind all lines of PEI.
 -- Own.
-use Rattle.std.specs.Prelude.{◌≡◌, ◌⊎◌, ℕ, Bool, false, List, [], ◌++◌, Result, Ok, Err, ⊤}
+use Rattle.std.specs.Prelude.{◌≡◌, ◌⊎◌, ℕ, Bool, false, List, [], ◌++◌, ⊤}
 use Rattle.std.specs.Io.KnownBytes.{Appends}
 use Rattle.boot_io.specs.declared.halt.Halt.{Halt}
 use Rattle.boot_io.specs.declared.halt.Halt.TheVariants.{Sink, Memory}
@@ -19,11 +19,10 @@ abbrev pub IsOutsidePei : Board → Catalog → ℕ → Texts → Type 0
 IsOutsidePei board catalog fuel t =
     Appends t.old t.new [] ⊎ ((part : List ℕ) × Appends t.old t.new (text_of (pei_end board catalog fuel).lines ++ part))
 
--- where a boot wants memory, by its answer
-abbrev pub WantsOutsidePei : {A : Type 0} → Bool → Board → Catalog → ℕ → Texts → Result A Halt → Type 0
-WantsOutsidePei takes board catalog fuel t (Ok _) = ⊤
-WantsOutsidePei takes board catalog fuel t (Err Sink) = ⊤
-WantsOutsidePei takes board catalog fuel t (Err Memory) = takes ≡ false → IsOutsidePei board catalog fuel t
+-- where a boot is given up for want of memory
+abbrev pub WantsOutsidePei : Bool → Board → Catalog → ℕ → Texts → Halt → Type 0
+WantsOutsidePei takes board catalog fuel t Sink = ⊤
+WantsOutsidePei takes board catalog fuel t Memory = takes ≡ false → IsOutsidePei board catalog fuel t
 
 -- by the kind of its status
 abbrev pub IsWantedOutsidePei : Kind → Board → Catalog → ℕ → Texts → Type 0

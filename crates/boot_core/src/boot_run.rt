@@ -1,5 +1,5 @@
 // A boot over a store that is as it was made.
-ghost use Rattle.std.specs.Prelude.{◌≡◌, ◌≤◌, length};
+ghost use Rattle.std.specs.Prelude.{◌≡◌, ◌≤◌, IfErr, length};
 ghost use Rattle.boot_model.specs.BootRun.{dxe_result};
 ghost use Rattle.boot_model.specs.PeiMachine.{PeiMachine};
 ghost use Rattle.store_model.specs.Service.{Present, OfEach};
@@ -112,7 +112,7 @@ pub fn boot_store<M: PeiStore + Drop, S: Sink>(
     ensures row { (board : Board) → M.stands_for store (empty_store board)
         → RunsTo M.stands_for board catalog.now fuel (record { old = S.text sink.old; new = S.text sink.new }) result }
     ensures memory { (board : Board) → M.stands_for store (empty_store board)
-        → WantsOutsidePei M.TAKES_MEMORY board catalog.now fuel (record { old = S.text sink.old; new = S.text sink.new }) result }
+        → IfErr result (WantsOutsidePei M.TAKES_MEMORY board catalog.now fuel (record { old = S.text sink.old; new = S.text sink.new })) }
     ensures faults { HaltsAfter result (S.faults sink.old) (S.faults sink.new) }
 {
     let pei = boot_pei(alloc, store, catalog, fuel, sink)?;

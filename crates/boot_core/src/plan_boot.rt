@@ -1,5 +1,5 @@
 // The boot of a plan whose images have a catalogue.
-ghost use Rattle.std.specs.Prelude.{◌≡◌, ◌≤◌, [], None, false, length, ⊤};
+ghost use Rattle.std.specs.Prelude.{◌≡◌, ◌≤◌, [], IfErr, None, false, length, ⊤};
 ghost use Rattle.store_model.specs.StateFacts.{IsBoard};
 ghost use Rattle.mem_store.specs.MemState.{StandsFor};
 ghost use Rattle.boot_model.specs.PlanBoard.{board_of};
@@ -64,8 +64,8 @@ fn boot_board<S: Sink>(
     requires some { 1 ≤ length catalog.now.volumes }
     ensures row { RunsTo StandsFor (record (board_of plan.now catalog.now []) { roms = roms }) catalog.now plan.now.fuel
         (record { old = S.text sink.old; new = S.text sink.new }) result }
-    ensures memory { WantsOutsidePei false (record (board_of plan.now catalog.now []) { roms = roms }) catalog.now plan.now.fuel
-        (record { old = S.text sink.old; new = S.text sink.new }) result }
+    ensures memory { IfErr result (WantsOutsidePei false (record (board_of plan.now catalog.now []) { roms = roms }) catalog.now plan.now.fuel
+        (record { old = S.text sink.old; new = S.text sink.new })) }
     ensures faults { HaltsAfter result (S.faults sink.old) (S.faults sink.new) }
 {
     let store = MemStore::new(alloc, plan.temp, plan.pages, plan.ram, roms)?;
@@ -85,8 +85,8 @@ pub(crate) fn boot_plan<S: Sink>(
     requires some { 1 ≤ length catalog.now.volumes }
     ensures row { RunsTo StandsFor (board_of plan.now catalog.now images) catalog.now plan.now.fuel
         (record { old = S.text sink.old; new = S.text sink.new }) result }
-    ensures memory { WantsOutsidePei false (board_of plan.now catalog.now images) catalog.now plan.now.fuel
-        (record { old = S.text sink.old; new = S.text sink.new }) result }
+    ensures memory { IfErr result (WantsOutsidePei false (board_of plan.now catalog.now images) catalog.now plan.now.fuel
+        (record { old = S.text sink.old; new = S.text sink.new })) }
     ensures faults { HaltsAfter result (S.faults sink.old) (S.faults sink.new) }
 {
     let roms = roms(alloc, catalog.volumes.as_slice(), images)?;

@@ -55,10 +55,10 @@ returns-in_err-end-clause-memory g c = λ board stands.
     let p = err_from_is_err_and c.from_residual-in_err-end.result c.from_residual-in_err-end.ensures.1 in
     let told = c.in_err-end.ensures.row m pei.1.store_is (pei.0.ended, pei.1.actions_are) in
     rw p.1 (behind_pei g.M.PeiStore.TAKES_MEMORY board c.args.catalog.now c.args.fuel (T c.args.sink.now) (T c.boot_pei.new.sink) (T c.boot_behind.new.sink)
-    (text_behind c.args.catalog.now c.args.fuel m) c.in_err-end.error pei.0.text told)
+    (text_behind c.args.catalog.now c.args.fuel m) _ pei.0.text told)
 
 pub returns-in_err-pei-clause-memory : goal.returns-in_err-pei-clause-memory
 returns-in_err-pei-clause-memory g c = λ board stands.
     let T = g.S.Sink.text in
     let p = err_from_is_err_and c.from_residual.result c.from_residual.ensures.1 in
-    rw p.1 (before_pei g.M.PeiStore.TAKES_MEMORY board c.args.catalog.now c.args.fuel (T c.args.sink.now) (T c.boot_pei.new.sink) c.in_err-pei.error c.in_err-pei.ensures.memory)
+    rw (p.1, p.2) (before_pei ℕ g.M.PeiStore.TAKES_MEMORY board c.args.catalog.now c.args.fuel (T c.args.sink.now) (T c.boot_pei.new.sink) _ c.in_err-pei.ensures.memory)
