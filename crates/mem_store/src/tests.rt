@@ -1,4 +1,4 @@
-// Worked calls: the room of a heap, early pages, and the bytes behind a move.
+// Worked calls: the room of a heap, early pages, volumes, and the bytes behind a move.
 // Each call that the tests make leaves a store that stands for a state, so that the next may follow.
 ghost use Rattle.std.specs.Prelude.{◌≤◌, ◌+◌, IfOk};
 ghost use Rattle.boot_plan.specs.declared.limits.TheConstants.{MOST_TEMP};
@@ -7,6 +7,7 @@ ghost use Rattle.store_model.specs.StoreCall.{Anything};
 ghost use Rattle.mem_store.specs.MemState.{StandsFor};
 
 use super::*;
+use hob_codec::Hob;
 use pi_base::{Guid, OutOfMemory, Seq, Span};
 use std::alloc::Global;
 use std::test::*;
@@ -46,6 +47,22 @@ fn pages(store: &mut MemStore, count: u32) -> Result<u64, StoreFault>
     ensures { Present (StandsFor store.new) Anything }
 {
     store.pages(4, count)
+}
+
+fn volume_hob(store: &mut MemStore, base: u64) -> Result<u64, StoreFault>
+    requires { Present (StandsFor store.old) Anything }
+    ensures { Present (StandsFor store.new) Anything }
+{
+    store.create_hob(&Hob::Volume {
+        base,
+        length: 0x1000,
+    })
+}
+
+fn bases(store: &MemStore) -> Option<Seq<u64>>
+    requires { Present (StandsFor store.now) Anything }
+{
+    store.fv_bases().ok()
 }
 
 // Makes a PPI's descriptor and installs it. False where either is refused.
@@ -127,5 +144,16 @@ fn a_descriptor_moves_with_its_node(rt: HostRuntime) -> Result<(), Fail> {
         bytes_at(&store, 0x4000_0070),
         *b"\0\0\0\0\0\0\0\0\x40\0\0\x40\0\0\0\0\0\0\0\0\0\0\0\0\x09\0\0\0\0\0\0\0\xff\xff\x08\0\0\0\0\0"
     );
+    Ok(())
+}
+
+#[test]
+fn the_volumes_of_hobs_are_told(rt: HostRuntime) -> Result<(), Fail> {
+    let mut store = store_over(rt.alloc(), 0x4000, 0).ok().ok_or("memory")?;
+    assert_eq!(rt; volume_hob(&mut store, 0xfff0_0000), Ok(0x8000_0038));
+    assert_eq!(rt; volume_hob(&mut store, 0xffe0_0000), Ok(0x8000_0050));
+    let found = bases(&store).ok_or("memory")?;
+    let wants = [0xfff0_0000, 0xffe0_0000];
+    assert_eq!(rt; found.as_slice(), wants.as_slice());
     Ok(())
 }
