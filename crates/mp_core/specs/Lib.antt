@@ -1,0 +1,4 @@
+pub mod Calls
+pub mod OneAfterAnother
+pub mod Past
+pub mod Schedule

@@ -1,0 +1,35 @@
+-- The jobs one after another: each start takes its whole job at once, on its processors in ascending order.
+-- Own.
+use Rattle.std.specs.Prelude.{ℕ, ◌+◌, ◌^◌, ◌%◌, ◌==◌, if◌then◌else◌, List, [], ◌∷◌, ◌++◌, map, fold}
+use Rattle.pi_base.specs.Lists.{numbers}
+use Rattle.mp_core.specs.declared.op.Op.{Op}
+use Rattle.mp_core.specs.declared.op.Op.TheVariants.{Add, Put}
+use Rattle.mp_core.specs.Schedule.{Step, Part, jobs}
+
+-- what each cell and each processor's record has
+pub record Contents : Type 0 where
+  pub cell : ℕ → ℕ
+  pub record_of : ℕ → List ℕ
+
+-- before the first job cells are 0, and records empty
+abbrev pub blank : Contents
+blank = record { cell = λ c. 0; record_of = λ p. [] }
+
+-- a processor does an operation
+abbrev pub does : ℕ → Contents → Op → Contents
+does on contents (Add cell n) = record contents { cell = λ c. if cell == c then (contents.cell c + n) % 2 ^ 64 else contents.cell c }
+does on contents (Put n) = record contents { record_of = λ p. if on == p then contents.record_of p ++ n ∷ [] else contents.record_of p }
+
+-- a processor does all operations
+abbrev pub does_all : Contents → Part → Contents
+does_all contents part = fold (does part.on) contents part.ops
+
+-- what the jobs of the accepted starts leave, one after another
+abbrev pub one_after_another : List Step → Contents
+one_after_another steps = fold does_all blank (jobs steps)
+
+abbrev pub cells_of : ℕ → Contents → List ℕ
+cells_of cells contents = map contents.cell (numbers 0 cells)
+
+abbrev pub records_of : ℕ → Contents → List (List ℕ)
+records_of processors contents = map contents.record_of (numbers 0 processors)

@@ -1,0 +1,13 @@
+//! The MP services of PI 1.8, volume 2, "MP Services Protocol", as a machine over a list of events: what each call answers, and what the jobs of
+//! the application processors leave in memory, whatever the order in which the processors get on.
+#![tactic(auto)]
+
+mod event;
+mod limits;
+mod op;
+mod reply;
+
+pub use event::MpEvent;
+pub use limits::{MOST_CELLS, MOST_OPS, MOST_PROCESSORS};
+pub use op::Op;
+pub use reply::{MpOutcome, MpReply, MpWord};
