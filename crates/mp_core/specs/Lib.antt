@@ -1,4 +1,6 @@
 pub mod Calls
+pub mod Fair
 pub mod OneAfterAnother
 pub mod Past
+pub mod Processor
 pub mod Schedule

@@ -2,6 +2,7 @@
 -- processor has.
 -- Own.
 use Rattle.std.specs.Prelude.{ℕ, suc, ◌+◌, ◌^◌, ◌%◌, ◌==◌, nat_lt, Bool, false, if◌then◌else◌, List, [], ◌∷◌, length, take, drop, map, flat_map, sum_by, Option, Some, None}
+use Rattle.std.specs.Option.{option_or}
 use Rattle.pi_base.specs.Lists.{numbers}
 use Rattle.mp_core.specs.declared.op.Op.{Op}
 use Rattle.mp_core.specs.declared.op.Op.TheVariants.{Add, Put}
@@ -22,7 +23,7 @@ abbrev pub last_start : ℕ → List Step → Option (List Op × ℕ)
 last_start p [] = None
 last_start p (Turns on ∷ later) = last_start p later
 last_start p (Starts on job ∷ later) =
-    elim (last_start p later) [ Some start ↦ Some start | None ↦ if on == p then Some (job, turns p later) else None ]
+    option_or (last_start p later) (if on == p then Some (job, turns p later) else None)
 
 -- a processor is busy where its last start's job is longer than the number of its turns after that start
 abbrev pub is_busy : ℕ → List Step → Bool
@@ -65,9 +66,13 @@ put (Put n) = n ∷ []
 abbrev pub adds : ℕ → List Part → ℕ
 adds c parts = sum_by (λ part. sum_by (added c) part.ops) parts
 
+-- a processor's operations, in order
+abbrev pub ops_of : ℕ → List Part → List Op
+ops_of p parts = flat_map (λ part. if part.on == p then part.ops else []) parts
+
 -- the Puts of a processor, in order
 abbrev pub puts : ℕ → List Part → List ℕ
-puts p parts = flat_map (λ part. if part.on == p then flat_map put part.ops else []) parts
+puts p parts = flat_map put (ops_of p parts)
 
 -- each cell is the sum of its Adds in all done parts, modulo 2^64
 abbrev pub cells_after : ℕ → List Step → List ℕ

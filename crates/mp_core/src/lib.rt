@@ -4,7 +4,9 @@
 
 mod event;
 mod limits;
+mod machine;
 mod op;
+mod processor;
 mod reply;
 
 pub use event::MpEvent;
