@@ -1,2 +1,5 @@
 mod Rows
 pub mod Turned
+pub mod Fairness
+pub mod InOrder
+pub mod Orderly

@@ -8,7 +8,7 @@ use Rattle.mp_core.specs.declared.op.Op.{Op}
 use Rattle.mp_core.specs.Schedule.{Step, Starts, Turns, Part, turns, jobs, done, undone, added, adds, ops_of}
 use Rattle.mp_core.specs.Fair.{starts, IsFair}
 
-same : {A : Type 0} (b : Bool) (x : A) → cond b x x ≡ x
+pub same : {A : Type 0} (b : Bool) (x : A) → cond b x x ≡ x
 same true x = refl
 same false x = refl
 

@@ -15,3 +15,8 @@ abbrev pub IsFair : List Step → Type 0
 IsFair [] = ⊤
 IsFair (Turns on ∷ later) = IsFair later
 IsFair (Starts on job ∷ later) = (starts on later ≡ true → length job ≤ turns on later) × IsFair later
+
+-- each start is on a processor that there is, and comes where its last job is done
+pub record AreOrderly (processors : ℕ) (steps : List Step) : Type 0 where
+  pub fair : IsFair steps
+  pub below : (p : ℕ) → processors ≤ p → starts p steps ≡ false
