@@ -78,10 +78,6 @@ pub idle_from : (p : ℕ) (s : List Step) → IsFair s → is_busy p s ≡ false
 idle_from p s f h = empty_from (ops_of p (undone s)) (sym (is_busy-undone p s f) ∙ h)
 
 -- a call that answers Success passes each refusal
-pub passes : (a : Bool) (word : MpWord) (rest : List (Bool × MpWord)) → (word ≡ Success → ⊥) → first_refusal ((a, word) ∷ rest) ≡ Success → (a ≡ false) × (first_refusal rest ≡ Success)
-passes true word rest ne h = absurd (ne h)
-passes false word rest ne h = (refl, h)
-
 abbrev pub four : Bool → Bool → Bool → Bool → MpWord → MpWord → MpWord
 four a b c d third last = first_refusal ((a, DeviceError) ∷ (b, NotFound) ∷ (c, third) ∷ (d, last) ∷ [])
 
@@ -92,19 +88,20 @@ pub record ArePassed (a b c d : Bool) : Type 0 where
   pub ready : d ≡ false
 
 pub four_pass : (a b c d : Bool) (last : MpWord) → (last ≡ Success → ⊥) → four a b c d InvalidParameter last ≡ Success → ArePassed a b c d
-four_pass a b c d last ne h =
-    let one : (a ≡ false) × (first_refusal ((b, NotFound) ∷ (c, InvalidParameter) ∷ (d, last) ∷ []) ≡ Success) = passes a DeviceError _ (λ e. cc) h in
-    let two : (b ≡ false) × (first_refusal ((c, InvalidParameter) ∷ (d, last) ∷ []) ≡ Success) = passes b NotFound _ (λ e. cc) one.1 in
-    let three : (c ≡ false) × (first_refusal ((d, last) ∷ []) ≡ Success) = passes c InvalidParameter _ (λ e. cc) two.1 in
-    let rest : (d ≡ false) × (first_refusal [] ≡ Success) = passes d last [] ne three.1 in
-    record { device = one.0; found = two.0; valid = three.0; ready = rest.0; }
+four_pass true b c d last ne h = absurd (cc)
+four_pass false true c d last ne h = absurd (cc)
+four_pass false false true d last ne h = absurd (cc)
+four_pass false false false true last ne h = absurd (ne h)
+four_pass false false false false last ne h = record { device = refl; found = refl; valid = refl; ready = refl; }
+
+three_pass : (a b c : Bool) → first_refusal ((a, DeviceError) ∷ (b, NotStarted) ∷ (c, NotReady) ∷ []) ≡ Success → c ≡ false
+three_pass true b c h = absurd (cc)
+three_pass false true c h = absurd (cc)
+three_pass false false true h = absurd (cc)
+three_pass false false false h = refl
 
 pub all_pass : (processors : ℕ) (past : Past) (by : ℕ) → startup_all_aps processors past by ≡ Success → list_any (λ p. is_busy p past.steps) (enabled_aps processors past) ≡ false
-all_pass processors past by h =
-    let none_busy : Bool = list_any (λ p. is_busy p past.steps) (enabled_aps processors past) in
-    let one : (not (eqb by past.bsp) ≡ false) × (first_refusal ((is_empty (enabled_aps processors past), NotStarted) ∷ (none_busy, NotReady) ∷ []) ≡ Success) = passes _ DeviceError _ (λ e. cc) h in
-    let two : (is_empty (enabled_aps processors past) ≡ false) × (first_refusal ((none_busy, NotReady) ∷ []) ≡ Success) = passes _ NotStarted _ (λ e. cc) one.1 in
-    (passes none_busy NotReady [] (λ e. cc) two.1).0
+all_pass processors past by h = three_pass (not (eqb by past.bsp)) (is_empty (enabled_aps processors past)) (list_any (λ p. is_busy p past.steps) (enabled_aps processors past)) h
 
 pub all_idle : (processors : ℕ) (past : Past) → IsFair past.steps → list_any (λ p. is_busy p past.steps) (enabled_aps processors past) ≡ false
     → (p : ℕ) → p < processors → is_enabled_ap past p ≡ true → ops_of p (undone past.steps) ≡ []
@@ -124,7 +121,7 @@ Stay processors past = AreOrderly processors past.steps
 
 this_starts : (processors : ℕ) (past : Past) (by on : ℕ) (job : List Op) → Stay processors past → startup_this_ap processors past by on ≡ Success → Stay processors (started (on ∷ []) job past)
 this_starts processors past by on job o h =
-    let pass = four_pass _ _ _ _ NotReady (λ e. cc) h in
+    let pass = four_pass (not (eqb by past.bsp)) (not (ltb on processors)) (not (is_enabled_ap past on)) (is_busy on past.steps) NotReady (λ e. cc) h in
     orderly-starts processors on past.steps job o (ltb-true on processors (not-false (ltb on processors) pass.found)) (idle_from on past.steps o.fair pass.ready)
 
 pub orderly-after : (processors : ℕ) (past : Past) (event : MpEvent) → Stay processors past → Stay processors (after processors past event)
