@@ -8,6 +8,7 @@ mod machine;
 mod op;
 mod processor;
 mod reply;
+mod services;
 
 pub use event::MpEvent;
 pub use limits::{MOST_CELLS, MOST_OPS, MOST_PROCESSORS};
