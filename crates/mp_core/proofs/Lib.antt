@@ -3,3 +3,4 @@ pub mod Turned
 pub mod Fairness
 pub mod InOrder
 pub mod Orderly
+pub mod Standing

@@ -156,6 +156,7 @@ impl<'a> Machine<'a> {
         requires { p < length self.old.processors.items }
         ensures bsp { self.new.bsp ≡ self.old.bsp }
         ensures cells { self.new.cells ≡ self.old.cells }
+        ensures count { length self.new.processors.items ≡ length self.old.processors.items }
         ensures started { (x : Processor) → self.new.processors.items ≡ slice_set self.old.processors.items p (record (slice_index_or self.old.processors.items p x) { rest = job.entry }) }
     {
         self.processors[p].rest = job;
@@ -166,6 +167,7 @@ impl<'a> Machine<'a> {
         requires { p < length self.old.processors.items }
         ensures bsp { self.new.bsp ≡ self.old.bsp }
         ensures cells { self.new.cells ≡ self.old.cells }
+        ensures count { length self.new.processors.items ≡ length self.old.processors.items }
         ensures enabled { (x : Processor) → self.new.processors.items ≡ slice_set self.old.processors.items p (record (slice_index_or self.old.processors.items p x) { enabled = enabled }) }
     {
         self.processors[p].enabled = enabled;

@@ -29,11 +29,13 @@ impl<'a> Machine<'a> {
         ensures word { Tells self.old (λ processors past. startup_all_aps processors past by) result }
         ensures after { Becomes self.old (λ _ cells. IsJob cells job.now) (λ processors past. after processors past (event.All by job.now)) self.new }
     {
-        let word = self.all_word(by);
-        if word == MpWord::Success {
-            self.start_all(job);
+        match self.all_word(by) {
+            MpWord::Success => {
+                self.start_all(job);
+                MpWord::Success
+            }
+            refusal => refusal,
         }
-        word
     }
 
     // `StartupThisAP`.
@@ -41,11 +43,13 @@ impl<'a> Machine<'a> {
         ensures word { Tells self.old (λ processors past. startup_this_ap processors past by on) result }
         ensures after { Becomes self.old (λ _ cells. IsJob cells job.now) (λ processors past. after processors past (event.This by on job.now)) self.new }
     {
-        let word = self.this_word(by, on);
-        if word == MpWord::Success {
-            self.start(on as usize, job);
+        match self.this_word(by, on) {
+            MpWord::Success => {
+                self.start(on as usize, job);
+                MpWord::Success
+            }
+            refusal => refusal,
         }
-        word
     }
 
     // `EnableDisableAP`.
@@ -53,11 +57,13 @@ impl<'a> Machine<'a> {
         ensures word { Tells self.old (λ processors past. enable_disable_ap processors past by on) result }
         ensures after { Becomes self.old (λ _ _. ⊤) (λ processors past. after processors past (event.Enable by on enabled)) self.new }
     {
-        let word = self.enable_word(by, on);
-        if word == MpWord::Success {
-            self.enable(on as usize, enabled);
+        match self.enable_word(by, on) {
+            MpWord::Success => {
+                self.enable(on as usize, enabled);
+                MpWord::Success
+            }
+            refusal => refusal,
         }
-        word
     }
 
     // `SwitchBSP`.
@@ -66,12 +72,14 @@ impl<'a> Machine<'a> {
         ensures word { Tells self.old (λ processors past. switch_bsp processors past by on) result }
         ensures after { Becomes self.old (λ _ _. ⊤) (λ processors past. after processors past (event.Switch by on enabled)) self.new }
     {
-        let word = self.this_word(by, on);
-        if word == MpWord::Success {
-            self.enable(self.bsp as usize, enabled);
-            self.bsp = on;
+        match self.this_word(by, on) {
+            MpWord::Success => {
+                self.enable(self.bsp as usize, enabled);
+                self.bsp = on;
+                MpWord::Success
+            }
+            refusal => refusal,
         }
-        word
     }
 
     // A processor does one operation of its job, if it is busy.

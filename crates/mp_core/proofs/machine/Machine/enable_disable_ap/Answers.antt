@@ -1,0 +1,5 @@
+use Rattle.std.proofs.Common.{◌≡◌, ℕ}
+use Rattle.mp_core.proofs.machine.Machine.enable_disable_ap.Goals as goal
+
+pub returns-then-eq-clause-after : goal.returns-then-eq-clause-after
+returns-then-eq-clause-after c = ?
