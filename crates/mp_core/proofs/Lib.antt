@@ -4,3 +4,6 @@ pub mod Fairness
 pub mod InOrder
 pub mod Orderly
 pub mod Standing
+pub mod Searching
+pub mod Starting
+pub mod Turning

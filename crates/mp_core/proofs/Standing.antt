@@ -182,7 +182,7 @@ set_map f g n at v here others =
           (λ ne. get_or-set_other (map f (numbers 0 n)) at k v d ne ∙ get_or-map f (numbers 0 n) k d d in_numbers ∙ ap f at_k ∙ others k ne ∙ sym right)
           (cases_eq k at))
 
-sum_one : (c : ℕ) (op : Op) → sum_of c (op ∷ []) ≡ added c op
+pub sum_one : (c : ℕ) (op : Op) → sum_of c (op ∷ []) ≡ added c op
 sum_one c op = sum_by-cons (added c) op [] ∙ omega arith
 
 pub cells_add : (n cell k : ℕ) (parts : List Part) → cell < n
