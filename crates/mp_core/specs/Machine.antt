@@ -1,14 +1,15 @@
 -- What the machine of the code stands for.
 -- Own.
-use Rattle.std.specs.Prelude.{◌≡◌, ℕ, ◌<◌, List, length, slice_index_or, Result, Ok, Err, false}
+use Rattle.std.specs.Prelude.{◌≡◌, ℕ, ◌<◌, List, length, map, not, slice_index_or, false}
 use Rattle.std.specs.List.{list_any}
 use Rattle.pi_base.specs.Lists.{Each}
 use Rattle.mp_core.specs.declared.op.Op.{Op}
 use Rattle.mp_core.specs.declared.machine.Machine.{Machine}
+use Rattle.mp_core.specs.declared.reply.MpOutcome.{MpOutcome}
 use Rattle.mp_core.specs.declared.processor.Processor.{Processor}
 use Rattle.mp_core.specs.Calls.{IsOp}
 use Rattle.mp_core.specs.Fair.{AreOrderly}
-use Rattle.mp_core.specs.Past.{Past, enabled_aps, started}
+use Rattle.mp_core.specs.Past.{Past, is_empty, enabled_aps, started}
 use Rattle.mp_core.specs.Schedule.{is_busy, undone, done, ops_of, puts, cells_after}
 
 -- a processor is the one with this number of a past
@@ -45,3 +46,9 @@ abbrev pub StartsAll : Machine → List Op → Machine → Type 0
 StartsAll old job new =
     (processors cells : ℕ) (past : Past) → AreOrderly processors past.steps → IsMachine processors cells past old → Each (IsOp cells) job
     → list_any (λ p. is_busy p past.steps) (enabled_aps processors past) ≡ false → IsMachine processors cells (started (enabled_aps processors past) job past) new
+
+-- an outcome has the machine's cells, and of each processor the record and whether it is busy
+pub record IsLeft (m : Machine) (outcome : MpOutcome) : Type 0 where
+  pub cells : outcome.cells ≡ m.cells
+  pub records : outcome.records ≡ map (λ x. x.record) m.processors.items
+  pub busy : outcome.busy ≡ map (λ x. not (is_empty x.rest.now)) m.processors.items

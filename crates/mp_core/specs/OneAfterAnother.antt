@@ -1,10 +1,11 @@
 -- The jobs one after another: each start takes its whole job at once, on its processors in ascending order.
 -- Own.
-use Rattle.std.specs.Prelude.{ℕ, ◌+◌, ◌^◌, ◌%◌, ◌==◌, if◌then◌else◌, List, [], ◌∷◌, ◌++◌, map, fold}
+use Rattle.std.specs.Prelude.{◌≡◌, ℕ, ◌+◌, ◌^◌, ◌%◌, ◌<◌, ◌==◌, if◌then◌else◌, List, [], ◌∷◌, ◌++◌, map, fold, slice_index, slice_index_or}
 use Rattle.pi_base.specs.Lists.{numbers}
 use Rattle.mp_core.specs.declared.op.Op.{Op}
 use Rattle.mp_core.specs.declared.op.Op.TheVariants.{Add, Put}
-use Rattle.mp_core.specs.Schedule.{Step, Part, jobs}
+use Rattle.mp_core.specs.declared.reply.MpOutcome.{MpOutcome}
+use Rattle.mp_core.specs.Schedule.{Step, Part, jobs, undone, adds, puts}
 
 -- what each cell and each processor's record has
 pub record Contents : Type 0 where
@@ -33,3 +34,13 @@ cells_of cells contents = map contents.cell (numbers 0 cells)
 
 abbrev pub records_of : ℕ → Contents → List (List ℕ)
 records_of processors contents = map contents.record_of (numbers 0 processors)
+
+-- the cells and records are those of the jobs one after another
+abbrev pub IsInOrder : ℕ → ℕ → List Step → MpOutcome → Type 0
+IsInOrder processors cells steps outcome =
+    (outcome.cells ≡ cells_of cells (one_after_another steps)) × (outcome.records ≡ records_of processors (one_after_another steps))
+
+-- each cell with the Adds that are not yet done, and each record with the Puts that are not yet done, is that of the jobs one after another
+pub record Completes (processors cells : ℕ) (steps : List Step) (outcome : MpOutcome) : Type 0 where
+  pub adds_to_come : (c : ℕ) → c < cells → (slice_index outcome.cells c + adds c (undone steps)) % 2 ^ 64 ≡ (one_after_another steps).cell c
+  pub puts_to_come : (p : ℕ) → p < processors → slice_index_or outcome.records p [] ++ puts p (undone steps) ≡ (one_after_another steps).record_of p

@@ -6,11 +6,14 @@ mod event;
 mod limits;
 mod machine;
 mod op;
+mod outcome;
 mod processor;
 mod reply;
+mod running;
 mod services;
 
 pub use event::MpEvent;
 pub use limits::{MOST_CELLS, MOST_OPS, MOST_PROCESSORS};
 pub use op::Op;
 pub use reply::{MpOutcome, MpReply, MpWord};
+pub use running::run;

@@ -1,4 +1,4 @@
-use Rattle.std.proofs.Common.{◌≡◌, ◌<◌, Bool, refl, sym, subst}
+use Rattle.std.proofs.Common.{◌≡◌, ◌<◌, Bool, refl, sym, subst, ◌∙◌}
 use Rattle.mp_core.specs.declared.reply.MpWord.TheVariants.{Success}
 use Rattle.mp_core.specs.Machine.{IsMachine}
 use Rattle.mp_core.specs.Past.{Past, enable_disable_ap, if_success, with_enabled}
