@@ -7,3 +7,4 @@ pub mod Standing
 pub mod Searching
 pub mod Starting
 pub mod Turning
+pub mod Runs
