@@ -24,11 +24,11 @@ short zero (op ∷ rest) e = absurd (cc)
 short (suc t) [] e = omega arith
 short (suc t) (op ∷ rest) e = let rest_short : length rest ≤ t = short t rest e in omega arith
 
-front_empty : (x y : List Op) → x ++ y ≡ [] → x ≡ []
+pub front_empty : (x y : List Op) → x ++ y ≡ [] → x ≡ []
 front_empty [] y e = refl
 front_empty (op ∷ rest) y e = absurd (cc)
 
-back_empty : (x y : List Op) → x ++ y ≡ [] → y ≡ []
+pub back_empty : (x y : List Op) → x ++ y ≡ [] → y ≡ []
 back_empty [] y e = e
 back_empty (op ∷ rest) y e = absurd (cc)
 
