@@ -37,8 +37,9 @@ pub fn run(
     let mut machine = Machine::new(alloc, processors, cells)?;
     let mut replies = Seq::new(alloc);
     for event in events {
-        if let Some(reply) = machine.event(event)? {
-            replies.push(reply)?;
+        match machine.event(event)? {
+            Some(reply) => replies.push(reply)?,
+            None => {}
         }
     }
     machine.outcome(alloc, replies)
