@@ -1,11 +1,14 @@
 -- The jobs one after another: each start takes its whole job at once, on its processors in ascending order.
 -- Own.
-use Rattle.std.specs.Prelude.{◌≡◌, ℕ, ◌+◌, ◌^◌, ◌%◌, ◌<◌, ◌==◌, if◌then◌else◌, List, [], ◌∷◌, ◌++◌, map, fold, slice_index, slice_index_or}
+use Rattle.std.specs.Prelude.{◌≡◌, ℕ, ◌+◌, ◌^◌, ◌%◌, ◌<◌, ◌==◌, false, if◌then◌else◌, List, [], ◌∷◌, ◌++◌, map, fold, slice_index, slice_index_or}
+use Rattle.std.specs.List.{list_any}
 use Rattle.pi_base.specs.Lists.{numbers}
+use Rattle.mp_core.specs.declared.event.MpEvent.{MpEvent}
 use Rattle.mp_core.specs.declared.op.Op.{Op}
 use Rattle.mp_core.specs.declared.op.Op.TheVariants.{Add, Put}
 use Rattle.mp_core.specs.declared.reply.MpOutcome.{MpOutcome}
-use Rattle.mp_core.specs.Schedule.{Step, Part, jobs, undone, adds, puts}
+use Rattle.mp_core.specs.Past.{schedule}
+use Rattle.mp_core.specs.Schedule.{Step, Part, jobs, done, undone, adds, puts, cells_after, records_after, busy_after}
 
 -- what each cell and each processor's record has
 pub record Contents : Type 0 where
@@ -44,3 +47,15 @@ IsInOrder processors cells steps outcome =
 pub record Completes (processors cells : ℕ) (steps : List Step) (outcome : MpOutcome) : Type 0 where
   pub adds_to_come : (c : ℕ) → c < cells → (slice_index outcome.cells c + adds c (undone steps)) % 2 ^ 64 ≡ (one_after_another steps).cell c
   pub puts_to_come : (p : ℕ) → p < processors → slice_index_or outcome.records p [] ++ puts p (undone steps) ≡ (one_after_another steps).record_of p
+
+-- after any list of events, each cell and each record with what is to come are those of the jobs one after another
+abbrev pub CompletesInOrder : Type 0
+CompletesInOrder = (processors : ℕ) (events : List MpEvent) → let steps : List Step = schedule processors events in
+    ((c : ℕ) → (adds c (done steps) % 2 ^ 64 + adds c (undone steps)) % 2 ^ 64 ≡ (one_after_another steps).cell c)
+    × ((p : ℕ) → puts p (done steps) ++ puts p (undone steps) ≡ (one_after_another steps).record_of p)
+
+-- after any list of events that leaves no processor busy, cells and records are those of the jobs one after another
+abbrev pub IdlesInOrder : Type 0
+IdlesInOrder = (processors cells : ℕ) (events : List MpEvent) → let steps : List Step = schedule processors events in
+    list_any (λ busy. busy) (busy_after processors steps) ≡ false
+    → (cells_after cells steps ≡ cells_of cells (one_after_another steps)) × (records_after processors steps ≡ records_of processors (one_after_another steps))

@@ -3,8 +3,10 @@
 #![tactic(auto)]
 
 mod event;
+mod laws;
 mod limits;
 mod machine;
+mod needs;
 mod op;
 mod outcome;
 mod processor;
@@ -13,7 +15,12 @@ mod running;
 mod services;
 
 pub use event::MpEvent;
+pub use laws::jobs_in_order;
 pub use limits::{MOST_CELLS, MOST_OPS, MOST_PROCESSORS};
+pub use needs::events_fit;
 pub use op::Op;
 pub use reply::{MpOutcome, MpReply, MpWord};
 pub use running::run;
+
+#[cfg(test)]
+mod tests;

@@ -1,5 +1,5 @@
 // The processors and the shared cells.
-ghost use Rattle.std.specs.Prelude.{◌≡◌, ◌<◌, ◌+◌, ◌%◌, ◌^◌, ◌++◌, [], ◌∷◌, length, not, replicate, slice_index, slice_index_or, slice_set, IfOk, OnOk, ⊤};
+ghost use Rattle.std.specs.Prelude.{◌≡◌, ◌==◌, ◌<◌, ◌+◌, ◌%◌, ◌^◌, ◌++◌, [], ◌∷◌, length, not, replicate, slice_index, slice_index_or, slice_set, IfOk, OnOk, ⊤};
 ghost use Rattle.std.specs.List.{list_any};
 ghost use Rattle.pi_base.specs.Lists.{Each};
 ghost use Rattle.mp_core.specs.declared.reply.MpWord.TheVariants as word;
@@ -55,6 +55,13 @@ impl<'a> Machine<'a> {
         })
     }
 
+    // Whether a processor is the BSP.
+    fn is_bsp(&self, p: u32) -> bool
+        ensures { Tells self.now (λ processors past. p == past.bsp) result }
+    {
+        p == self.bsp
+    }
+
     // Whether a processor is an enabled AP.
     pub(crate) fn is_enabled_ap(&self, p: usize) -> bool
         requires { p < length self.now.processors.items }
@@ -99,7 +106,7 @@ impl<'a> Machine<'a> {
     pub(crate) fn all_word(&self, by: u32) -> MpWord
         ensures { Tells self.now (λ processors past. startup_all_aps processors past by) result }
     {
-        if by != self.bsp {
+        if !self.is_bsp(by) {
             return MpWord::DeviceError;
         }
         if !self.has_enabled_ap() {
@@ -116,7 +123,7 @@ impl<'a> Machine<'a> {
         ensures startup { Tells self.now (λ processors past. startup_this_ap processors past by on) result }
         ensures below { result ≡ word.Success → on < length self.now.processors.items }
     {
-        if by != self.bsp {
+        if !self.is_bsp(by) {
             return MpWord::DeviceError;
         }
         if on as usize >= self.processors.len() {
@@ -136,7 +143,7 @@ impl<'a> Machine<'a> {
         ensures enable { Tells self.now (λ processors past. enable_disable_ap processors past by on) result }
         ensures below { result ≡ word.Success → on < length self.now.processors.items }
     {
-        if by != self.bsp {
+        if !self.is_bsp(by) {
             return MpWord::DeviceError;
         }
         if on as usize >= self.processors.len() {
