@@ -12,10 +12,11 @@ use Rattle.mp_core.proofs.Turned.{turns-starts, turns-again, starts-turns, none_
 pub fair-turns : (q : ℕ) (s : List Step) → IsFair s → IsFair (s ++ Turns q ∷ [])
 fair-turns q [] f = tt
 fair-turns q (Turns on ∷ later) f = fair-turns q later f
-fair-turns q (Starts on j ∷ later) f =
-    ((λ again. let before : starts on later ≡ true = sym (starts-turns on q later) ∙ again in
+fair-turns q (Starts on j ∷ later) f = (
+  (λ again. let before : starts on later ≡ true = sym (starts-turns on q later) ∙ again in
       subst (λ n. length j ≤ n) (sym (turns-again on q later before)) (f.0 before)),
-    fair-turns q later f.1)
+  fair-turns q later f.1,
+)
 
 -- a job of which nothing is left is as long as its turns, at most
 short : (t : ℕ) (j : List Op) → drop t j ≡ [] → length j ≤ t
@@ -43,13 +44,15 @@ flipped a b h = ne_eqb b a (λ e. eqb-false a b h (sym e))
 pub fair-starts : (p : ℕ) (s : List Step) (job : List Op) → IsFair s → ops_of p (undone s) ≡ [] → IsFair (s ++ Starts p job ∷ [])
 fair-starts p [] job f e = ((λ again. absurd (false≢true again)), tt)
 fair-starts p (Turns on ∷ later) job f e = fair-starts p later job f e
-fair-starts p (Starts on j ∷ later) job f e =
-    ((λ again. subst (λ n. length j ≤ n) (sym (turns-starts on later p job))
+fair-starts p (Starts on j ∷ later) job f e = (
+  (λ again. subst (λ n. length j ≤ n) (sym (turns-starts on later p job))
       (elim (eqb on p) as (λ b. eqb on p ≡ b → length j ≤ turns on later) [
-        true ↦ λ mine. short (turns on later) j (front_empty (drop (turns on later) j) (ops_of p (undone later))
-          (subst (λ b. cond b (drop (turns on later) j) [] ++ ops_of p (undone later) ≡ []) mine e))
-        | false ↦ λ other. f.0 (sym (starts-starts on p later job (flipped on p other)) ∙ again) ] refl)),
-    fair-starts p later job f.1 (back_empty (cond (eqb on p) (drop (turns on later) j) []) (ops_of p (undone later)) e))
+        | true ↦ λ mine. short (turns on later) j (front_empty (drop (turns on later) j) (ops_of p (undone later))
+            (subst (λ b. cond b (drop (turns on later) j) [] ++ ops_of p (undone later) ≡ []) mine e))
+        | false ↦ λ other. f.0 (sym (starts-starts on p later job (flipped on p other)) ∙ again)
+      ] refl)),
+  fair-starts p later job f.1 (back_empty (cond (eqb on p) (drop (turns on later) j) []) (ops_of p (undone later)) e),
+)
 
 -- a processor is busy where something is left of its job
 
@@ -114,4 +117,4 @@ is_busy-undone p (Turns on ∷ later) f = is_busy-undone p later f
 is_busy-undone p (Starts on j ∷ later) f =
     is_busy_at p on j later (eqb on p) refl
     ∙ busy_step (eqb on p) (starts p later) (turns on later) j (ops_of p (undone later)) (last_start p later) (is_busy-undone p later f.1)
-      (λ mine again. f.0 (subst (λ n. starts n later ≡ true) (sym (eqb-true on p mine)) again)) (last_some p later) (last_none p later) (none_undone p later)
+    (λ mine again. f.0 (subst (λ n. starts n later ≡ true) (sym (eqb-true on p mine)) again)) (last_some p later) (last_none p later) (none_undone p later)

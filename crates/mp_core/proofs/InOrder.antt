@@ -38,7 +38,7 @@ ops_join p [] f = refl
 ops_join p (Turns on ∷ later) f = ops_join p later f
 ops_join p (Starts on j ∷ later) f =
     ops_step (eqb on p) (starts p later) (turns on later) j (ops_of p (done later)) (ops_of p (undone later)) (ops_of p (jobs later)) (ops_join p later f.1)
-      (λ mine again. f.0 (subst (λ n. starts n later ≡ true) (sym (eqb-true on p mine)) again)) (none_done p later) (none_undone p later) (none_jobs p later)
+    (λ mine again. f.0 (subst (λ n. starts n later ≡ true) (sym (eqb-true on p mine)) again)) (none_done p later) (none_undone p later) (none_jobs p later)
 
 -- the cells
 

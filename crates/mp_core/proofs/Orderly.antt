@@ -44,7 +44,8 @@ starts-push p q (Starts on j ∷ later) job = ap (λ b. eqb on p || b) (starts-p
 pub orderly-starts : (n p : ℕ) (s : List Step) (job : List Op) → AreOrderly n s → p < n → ops_of p (undone s) ≡ [] → AreOrderly n (s ++ Starts p job ∷ [])
 orderly-starts n p s job o lt idle = record {
   fair = fair-starts p s job o.fair idle;
-  below = λ q le. starts-push q p s job ∙ (λ i. o.below q le i || ne_eqb p q (λ e. absurd (let same : p ≡ q = e in omega arith)) i); }
+  below = λ q le. starts-push q p s job ∙ (λ i. o.below q le i || ne_eqb p q (λ e. absurd (let same : p ≡ q = e in omega arith)) i);
+}
 
 -- one more each, for the numbers that pass a test
 pub orderly_all : (n from count : ℕ) (f : ℕ → Bool) (s : List Step) (job : List Op) → AreOrderly n s → from + count ≤ n
@@ -52,10 +53,11 @@ pub orderly_all : (n from count : ℕ) (f : ℕ → Bool) (s : List Step) (job :
 orderly_all n from zero f s job o le idle = subst (AreOrderly n) (sym (append-nil s)) o
 orderly_all n from (suc count) f s job o le idle =
     elim (f from) as (λ b. f from ≡ b → AreOrderly n (s ++ map (λ p. Starts p job) (cond b (from ∷ filter f (numbers (from + 1) count)) (filter f (numbers (from + 1) count))))) [
-      true ↦ λ e. subst (AreOrderly n) (append_assoc s (Starts from job ∷ []) (map (λ p. Starts p job) (filter f (numbers (from + 1) count))))
-        (orderly_all n (from + 1) count f (s ++ Starts from job ∷ []) job (orderly-starts n from s job o (omega arith) (idle from (omega arith) (omega arith) e)) (omega arith)
+      | true ↦ λ e. subst (AreOrderly n) (append_assoc s (Starts from job ∷ []) (map (λ p. Starts p job) (filter f (numbers (from + 1) count))))
+          (orderly_all n (from + 1) count f (s ++ Starts from job ∷ []) job (orderly-starts n from s job o (omega arith) (idle from (omega arith) (omega arith) e)) (omega arith)
           (λ p low high pass. undone_other p from s job (ne_eqb from p (λ same. absurd (let e : from ≡ p = same in omega arith))) ∙ idle p (omega arith) (omega arith) pass))
-      | false ↦ λ e. orderly_all n (from + 1) count f s job o (omega arith) (λ p low high pass. idle p (omega arith) (omega arith) pass) ] refl
+      | false ↦ λ e. orderly_all n (from + 1) count f s job o (omega arith) (λ p low high pass. idle p (omega arith) (omega arith) pass)
+    ] refl
 
 -- a test that no number that passes another passes
 at_or_above : (a b : ℕ) → a ≤ b → (a ≡ b) ⊎ (a < b)
@@ -65,10 +67,11 @@ none_of : (f g : ℕ → Bool) (from count : ℕ) → list_any g (filter f (numb
 none_of f g from zero h p low high pass = absurd (omega arith)
 none_of f g from (suc count) h p low high pass =
     elim (f from) as (λ b. f from ≡ b → list_any g (cond b (from ∷ filter f (numbers (from + 1) count)) (filter f (numbers (from + 1) count))) ≡ false → g p ≡ false) [
-      true ↦ λ e r. ⊎_elim (λ same. subst (λ n. g n ≡ false) same (or_parts (g from) (list_any g (filter f (numbers (from + 1) count))) r).0)
+      | true ↦ λ e r. ⊎_elim (λ same. subst (λ n. g n ≡ false) same (or_parts (g from) (list_any g (filter f (numbers (from + 1) count))) r).0)
           (λ above. none_of f g (from + 1) count (or_parts (g from) (list_any g (filter f (numbers (from + 1) count))) r).1 p (omega arith) (omega arith) pass) (at_or_above from p low)
       | false ↦ λ e r. ⊎_elim (λ same. absurd (true≢false (sym pass ∙ ap f (sym same) ∙ e)))
-          (λ above. none_of f g (from + 1) count r p (omega arith) (omega arith) pass) (at_or_above from p low) ] refl h
+          (λ above. none_of f g (from + 1) count r p (omega arith) (omega arith) pass) (at_or_above from p low)
+    ] refl h
 
 empty_from : (ops : List Op) → not (is_empty ops) ≡ false → ops ≡ []
 empty_from [] h = refl
@@ -92,7 +95,7 @@ four_pass true b c d last ne h = absurd (cc)
 four_pass false true c d last ne h = absurd (cc)
 four_pass false false true d last ne h = absurd (cc)
 four_pass false false false true last ne h = absurd (ne h)
-four_pass false false false false last ne h = record { device = refl; found = refl; valid = refl; ready = refl; }
+four_pass false false false false last ne h = record { device = refl; found = refl; valid = refl; ready = refl }
 
 three_pass : (a b c : Bool) → first_refusal ((a, DeviceError) ∷ (b, NotStarted) ∷ (c, NotReady) ∷ []) ≡ Success → c ≡ false
 three_pass true b c h = absurd (cc)
@@ -127,17 +130,17 @@ this_starts processors past by on job o h =
 pub orderly-after : (processors : ℕ) (past : Past) (event : MpEvent) → Stay processors past → Stay processors (after processors past event)
 orderly-after processors past (All by job) o = if_success_keeps (Stay processors) (startup_all_aps processors past by) past (started (enabled_aps processors past) job past) o
     (λ h. orderly_all processors 0 processors (is_enabled_ap past) past.steps job o (omega arith)
-      (λ p low high pass. all_idle processors past o.fair (all_pass processors past by h) p (omega arith) pass))
+    (λ p low high pass. all_idle processors past o.fair (all_pass processors past by h) p (omega arith) pass))
 orderly-after processors past (This by on job) o = if_success_keeps (Stay processors) (startup_this_ap processors past by on) past (started (on ∷ []) job past) o
     (this_starts processors past by on job o)
 orderly-after processors past (Enable by on enabled) o = if_success_keeps (Stay processors) (enable_disable_ap processors past by on) past _ o (λ h. o)
 orderly-after processors past (Switch by on enabled) o = if_success_keeps (Stay processors) (switch_bsp processors past by on) past _ o (λ h. o)
 orderly-after processors past (Who by) o = o
-orderly-after processors past (Turn on) o = record { fair = fair-turns on past.steps o.fair; below = λ p le. starts-turns p on past.steps ∙ o.below p le; }
+orderly-after processors past (Turn on) o = record { fair = fair-turns on past.steps o.fair; below = λ p le. starts-turns p on past.steps ∙ o.below p le }
 
 orderly_from : (processors : ℕ) (past : Past) (events : List MpEvent) → Stay processors past → Stay processors (past_from processors past events)
 orderly_from processors past [] o = o
 orderly_from processors past (event ∷ later) o = orderly_from processors (after processors past event) later (orderly-after processors past event o)
 
 pub orderly : (processors : ℕ) (events : List MpEvent) → AreOrderly processors (past_from processors opening events).steps
-orderly processors events = orderly_from processors opening events (record { fair = tt; below = λ p le. refl; })
+orderly processors events = orderly_from processors opening events (record { fair = tt; below = λ p le. refl })

@@ -37,7 +37,7 @@ replies_push processors past (first ∷ rest) e =
 
 pub replies_more : (processors : ℕ) (events : List MpEvent) (i : ℕ) (e : MpEvent) → i < length events
     → replies_from processors opening (take (i + 1) events)
-      ≡ replies_from processors opening (take i events) ++ option_to_list (reply processors (past_from processors opening (take i events)) (get_or events i e))
+    ≡ replies_from processors opening (take i events) ++ option_to_list (reply processors (past_from processors opening (take i events)) (get_or events i e))
 replies_more processors events i e lt = ap (replies_from processors opening) (take_more events i e lt) ∙ replies_push processors opening (take i events) (get_or events i e)
 
 -- what a machine leaves
@@ -50,7 +50,7 @@ by_number f g from (suc n) [] count each = absurd (omega arith)
 by_number f g from (suc n) (x ∷ rest) count each =
     let first : f x ≡ g from = each 0 x (omega arith) ∙ ap g (omega arith) in
     let later : map f rest ≡ map g (numbers (from + 1) n) =
-      by_number f g (from + 1) n rest (omega arith) (λ p y lt. each (suc p) y (omega arith) ∙ ap g (omega arith)) in
+    by_number f g (from + 1) n rest (omega arith) (λ p y lt. each (suc p) y (omega arith) ∙ ap g (omega arith)) in
     λ i. first i ∷ later i
 
 pub cells_left : (processors cells : ℕ) (past : Past) (m : Machine) (outcome : MpOutcome) → IsMachine processors cells past m → IsLeft m outcome
@@ -61,13 +61,13 @@ pub records_left : (processors cells : ℕ) (past : Past) (m : Machine) (outcome
     → outcome.records ≡ records_after processors past.steps
 records_left processors cells past m outcome h left =
     left.records ∙ by_number (λ (x : Processor). x.«record») (λ p. puts p (done past.steps)) 0 processors m.processors.items h.count
-      (λ p x lt. (h.each p x lt).record_is ∙ ap (λ n. puts n (done past.steps)) (omega arith))
+    (λ p x lt. (h.each p x lt).record_is ∙ ap (λ n. puts n (done past.steps)) (omega arith))
 
 pub busy_left : (processors cells : ℕ) (past : Past) (m : Machine) (outcome : MpOutcome) → AreOrderly processors past.steps → IsMachine processors cells past m → IsLeft m outcome
     → outcome.busy ≡ busy_after processors past.steps
 busy_left processors cells past m outcome o h left =
     left.busy ∙ by_number (λ (x : Processor). not (is_empty x.rest.now)) (λ p. is_busy p past.steps) 0 processors m.processors.items h.count
-      (λ p x lt. ap (λ ops. not (is_empty ops)) (h.each p x lt).rest ∙ sym (is_busy-undone p past.steps o.fair) ∙ ap (λ n. is_busy n past.steps) (omega arith))
+    (λ p x lt. ap (λ ops. not (is_empty ops)) (h.each p x lt).rest ∙ sym (is_busy-undone p past.steps o.fair) ∙ ap (λ n. is_busy n past.steps) (omega arith))
 
 -- where no processor is busy, nothing is to come
 
@@ -86,7 +86,7 @@ nothing_to_add : (c : ℕ) (parts : List Part) → ((p : ℕ) → ops_of p parts
 nothing_to_add c [] none = refl
 nothing_to_add c (part ∷ rest) none =
     let here : part.ops ≡ [] =
-      front_empty part.ops (ops_of part.on rest) (sym (ap (λ b. cond b part.ops [] ++ ops_of part.on rest) (eq-eqb part.on part.on refl)) ∙ none part.on) in
+    front_empty part.ops (ops_of part.on rest) (sym (ap (λ b. cond b part.ops [] ++ ops_of part.on rest) (eq-eqb part.on part.on refl)) ∙ none part.on) in
     let later : adds c rest ≡ 0 = nothing_to_add c rest (λ p. back_empty (cond (eqb part.on p) part.ops []) (ops_of p rest) (none p)) in
     let both : adds c (part ∷ rest) ≡ sum_of c part.ops + adds c rest = adds-cons c part.on part.ops rest in
     let nothing : sum_of c part.ops ≡ 0 = ap (sum_of c) here in omega arith
@@ -96,11 +96,11 @@ pub idle_in_order : (processors cells : ℕ) (s : List Step) → AreOrderly proc
 idle_in_order processors cells s o none =
     let left : (p : ℕ) → ops_of p (undone s) ≡ [] = all_done processors s o none in
     let cell : (c : ℕ) → adds c (done s) % 2 ^ 64 ≡ (one_after_another s).cell c =
-      λ c. (let nothing : adds c (undone s) ≡ 0 = nothing_to_add c (undone s) left in
-        let same : adds c (done s) % 2 ^ 64 ≡ (adds c (done s) % 2 ^ 64 + adds c (undone s)) % 2 ^ 64 =
-          sym (mod_twice (adds c (done s))) ∙ ap (λ x. x % 2 ^ 64) (omega arith) in same ∙ cells_in_order c s) in
+    λ c. (let nothing : adds c (undone s) ≡ 0 = nothing_to_add c (undone s) left in
+    let same : adds c (done s) % 2 ^ 64 ≡ (adds c (done s) % 2 ^ 64 + adds c (undone s)) % 2 ^ 64 =
+    sym (mod_twice (adds c (done s))) ∙ ap (λ x. x % 2 ^ 64) (omega arith) in same ∙ cells_in_order c s) in
     let told : (p : ℕ) → puts p (done s) ≡ (one_after_another s).record_of p =
-      λ p. sym (append-nil (puts p (done s))) ∙ ap (λ ops. puts p (done s) ++ flat_map put ops) (sym (left p)) ∙ records_in_order p s o.fair in
+    λ p. sym (append-nil (puts p (done s))) ∙ ap (λ ops. puts p (done s) ++ flat_map put ops) (sym (left p)) ∙ records_in_order p s o.fair in
     ((λ i. map (λ c. cell c i) (numbers 0 cells)), (λ i. map (λ p. told p i) (numbers 0 processors)))
 
 -- at any moment
@@ -113,11 +113,12 @@ pub completes : (processors cells : ℕ) (s : List Step) (outcome : MpOutcome) �
     → Completes processors cells s outcome
 completes processors cells s outcome o cells_are records_are = record {
   adds_to_come = λ c lt.
-    ap (λ xs. (get_or xs c 0 + adds c (undone s)) % 2 ^ 64) cells_are
-    ∙ ap (λ x. (x + adds c (undone s)) % 2 ^ 64) (at_number (λ k. adds k (done s) % 2 ^ 64) cells c 0 lt) ∙ cells_in_order c s;
+      ap (λ xs. (get_or xs c 0 + adds c (undone s)) % 2 ^ 64) cells_are
+      ∙ ap (λ x. (x + adds c (undone s)) % 2 ^ 64) (at_number (λ k. adds k (done s) % 2 ^ 64) cells c 0 lt) ∙ cells_in_order c s;
   puts_to_come = λ p lt.
-    ap (λ xs. get_or xs p [] ++ puts p (undone s)) records_are
-    ∙ ap (λ x. x ++ puts p (undone s)) (at_number (λ k. puts k (done s)) processors p [] lt) ∙ records_in_order p s o.fair; }
+      ap (λ xs. get_or xs p [] ++ puts p (undone s)) records_are
+      ∙ ap (λ x. x ++ puts p (undone s)) (at_number (λ k. puts k (done s)) processors p [] lt) ∙ records_in_order p s o.fair;
+}
 
 -- what holds of each item holds of one
 pub each_at : {A : Type 0} (P : A → Type 0) (xs : List A) (i : ℕ) (d : A) → Each P xs → i < length xs → P (get_or xs i d)

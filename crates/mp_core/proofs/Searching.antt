@@ -14,7 +14,7 @@ pub any_filter : (f g : ℕ → Bool) (xs : List ℕ) → list_any g (filter f x
 any_filter f g [] = refl
 any_filter f g (x ∷ rest) =
     elim (f x) as (λ b. list_any g (cond b (x ∷ filter f rest) (filter f rest)) ≡ ((b && g x) || list_any (λ p. f p && g p) rest))
-      [ true ↦ ap (λ b. g x || b) (any_filter f g rest) | false ↦ any_filter f g rest ]
+    [ true ↦ ap (λ b. g x || b) (any_filter f g rest) | false ↦ any_filter f g rest ]
 
 -- none up to a processor, nor that one
 pub any_more : (f : ℕ → Bool) (p : ℕ) → list_any f (numbers 0 p) ≡ false → f p ≡ false → list_any f (numbers 0 (p + 1)) ≡ false
@@ -30,7 +30,7 @@ pub filter-append : (f : ℕ → Bool) (xs ys : List ℕ) → filter f (xs ++ ys
 filter-append f [] ys = refl
 filter-append f (x ∷ rest) ys =
     elim (f x) as (λ b. cond b (x ∷ filter f (rest ++ ys)) (filter f (rest ++ ys)) ≡ cond b (x ∷ filter f rest) (filter f rest) ++ filter f ys)
-      [ true ↦ ap (λ zs. x ∷ zs) (filter-append f rest ys) | false ↦ filter-append f rest ys ]
+    [ true ↦ ap (λ zs. x ∷ zs) (filter-append f rest ys) | false ↦ filter-append f rest ys ]
 
 pub filter_push : (f : ℕ → Bool) (p : ℕ) → filter f (numbers 0 (p + 1)) ≡ filter f (numbers 0 p) ++ cond (f p) (p ∷ []) []
 filter_push f p =

@@ -68,7 +68,8 @@ same_others cells past now q x h enabled rest record_is = record {
   enabled = h.enabled ∙ sym enabled;
   rest = h.rest ∙ sym rest;
   record_is = h.record_is ∙ sym record_is;
-  in_range = h.in_range; }
+  in_range = h.in_range;
+}
 
 pub start_stands : (processors cells : ℕ) (past : Past) (m now : Machine) (p : ℕ) (job : Bor (List Op)) → IsMachine processors cells past m → p < processors
     → ops_of p (undone past.steps) ≡ [] → Each (IsOp cells) job.now → now.bsp ≡ m.bsp → now.cells ≡ m.cells → length now.processors.items ≡ length m.processors.items
@@ -77,17 +78,18 @@ pub start_stands : (processors cells : ℕ) (past : Past) (m now : Machine) (p :
 start_stands processors cells past m now p job h lt idle range bsp cells_same count items =
     let after_start : Past = started (p ∷ []) job.now past in
     let here : job.now ≡ ops_of p (undone after_start.steps) =
-      sym (ap (ops_of p) (undone-starts past.steps p job.now) ∙ ops_of-push p p (undone past.steps) job.now ∙ (λ i. idle i ++ cond (eq-eqb p p refl i) job.now [])) in
+    sym (ap (ops_of p) (undone-starts past.steps p job.now) ∙ ops_of-push p p (undone past.steps) job.now ∙ (λ i. idle i ++ cond (eq-eqb p p refl i) job.now [])) in
     record {
       bsp = bsp ∙ h.bsp;
       bsp_below = subst (λ n. n < processors) (sym bsp) h.bsp_below;
       count = count ∙ h.count;
       each = λ q x qlt. subst (λ xs. IsProcessor cells after_start q (get_or xs q x)) (sym (items x))
-        (each_set (IsProcessor cells after_start) m.processors.items p (record (get_or m.processors.items p x) { rest = job }) processors h.count
-          (record { enabled = (h.each p x lt).enabled; rest = here; record_is = (h.each p x lt).record_is ∙ sym (puts-starts p p past.steps job.now); in_range = range; })
+          (each_set (IsProcessor cells after_start) m.processors.items p (record (get_or m.processors.items p x) { rest = job }) processors h.count
+          (record { enabled = (h.each p x lt).enabled; rest = here; record_is = (h.each p x lt).record_is ∙ sym (puts-starts p p past.steps job.now); in_range = range })
           (λ r y rlt ne. same_others cells past after_start r (get_or m.processors.items r y) (h.each r y rlt) refl
-            (undone_other r p past.steps job.now (ne_eqb p r (λ e. ne (sym e)))) (puts-starts r p past.steps job.now)) q x qlt);
-      cells_are = cells_same ∙ h.cells_are ∙ sym (cells-starts cells p past.steps job.now); }
+          (undone_other r p past.steps job.now (ne_eqb p r (λ e. ne (sym e)))) (puts-starts r p past.steps job.now)) q x qlt);
+      cells_are = cells_same ∙ h.cells_are ∙ sym (cells-starts cells p past.steps job.now);
+    }
 
 -- a processor is enabled as told
 
@@ -102,11 +104,12 @@ enable_stands processors cells past m now p bsp enabled h lt bsp_is bsp_lt cells
       bsp_below = subst (λ n. n < processors) (sym bsp_is) bsp_lt;
       count = count ∙ h.count;
       each = λ q x qlt. subst (λ xs. IsProcessor cells then q (get_or xs q x)) (sym (items x))
-        (each_set (IsProcessor cells then) m.processors.items p (record (get_or m.processors.items p x) { enabled = enabled }) processors h.count
-          (record { enabled = sym (ap (λ b. cond b enabled (past.enabled p)) (eq-eqb p p refl)); rest = (h.each p x lt).rest; record_is = (h.each p x lt).record_is; in_range = (h.each p x lt).in_range; })
+          (each_set (IsProcessor cells then) m.processors.items p (record (get_or m.processors.items p x) { enabled = enabled }) processors h.count
+          (record { enabled = sym (ap (λ b. cond b enabled (past.enabled p)) (eq-eqb p p refl)); rest = (h.each p x lt).rest; record_is = (h.each p x lt).record_is; in_range = (h.each p x lt).in_range })
           (λ r y rlt ne. same_others cells past then r (get_or m.processors.items r y) (h.each r y rlt)
-            (ap (λ b. cond b enabled (past.enabled r)) (ne_eqb r p ne)) refl refl) q x qlt);
-      cells_are = cells_same ∙ h.cells_are; }
+          (ap (λ b. cond b enabled (past.enabled r)) (ne_eqb r p ne)) refl refl) q x qlt);
+      cells_are = cells_same ∙ h.cells_are;
+    }
 
 -- a turn
 
@@ -140,10 +143,11 @@ turn_stands processors cells past m now on y o h lt t =
       bsp_below = subst (λ n. n < processors) (sym t.bsp) h.bsp_below;
       count = ap length t.items ∙ length-set m.processors.items on y ∙ h.count;
       each = λ q x qlt. subst (λ xs. IsProcessor cells then q (get_or xs q x)) (sym t.items)
-        (each_set (IsProcessor cells then) m.processors.items on y processors h.count
-          (record { enabled = t.enabled; rest = t.rest ∙ sym (undone-turns on past.steps o.fair); record_is = t.record_is ∙ sym (puts_turned on past.steps o.fair); in_range = t.in_range; })
+          (each_set (IsProcessor cells then) m.processors.items on y processors h.count
+          (record { enabled = t.enabled; rest = t.rest ∙ sym (undone-turns on past.steps o.fair); record_is = t.record_is ∙ sym (puts_turned on past.steps o.fair); in_range = t.in_range })
           (λ r z rlt ne. turned_other processors cells past on r (get_or m.processors.items r z) ne (h.each r z rlt)) q x qlt);
-      cells_are = t.cells_are ∙ sym (cells-turns cells on past.steps o.fair); }
+      cells_are = t.cells_are ∙ sym (cells-turns cells on past.steps o.fair);
+    }
 
 plus_none : (n : ℕ) → n + 0 ≡ n
 plus_none n = omega arith
@@ -160,44 +164,45 @@ turn_past processors cells past m on o h le = record {
   count = h.count;
   each = λ q x qlt. turned_other processors cells past on q (get_or m.processors.items q x) (λ e. let same : q ≡ on = e in omega arith) (h.each q x qlt);
   cells_are = h.cells_are ∙ sym (cells-turns cells on past.steps o.fair
-    ∙ (λ i. map (λ c. (adds c (done past.steps) + sum_of c (take 1 (none_undone on past.steps (o.below on le) i))) % 2 ^ 64) (numbers 0 cells))
-    ∙ (λ i. map (λ c. plus_none (adds c (done past.steps)) i % 2 ^ 64) (numbers 0 cells))); }
+      ∙ (λ i. map (λ c. (adds c (done past.steps) + sum_of c (take 1 (none_undone on past.steps (o.below on le) i))) % 2 ^ 64) (numbers 0 cells))
+      ∙ (λ i. map (λ c. plus_none (adds c (done past.steps)) i % 2 ^ 64) (numbers 0 cells)));
+}
 
 -- the cells after an operation
 
 set_map : (f g : ℕ → ℕ) (n at v : ℕ) → v ≡ g at → ((i : ℕ) → i ≢ at → f i ≡ g i) → set (map f (numbers 0 n)) at v ≡ map g (numbers 0 n)
 set_map f g n at v here others =
     same_lists (set (map f (numbers 0 n)) at v) (map g (numbers 0 n))
-      (length-set (map f (numbers 0 n)) at v ∙ length-map (numbers 0 n) f ∙ sym (length-map (numbers 0 n) g))
-      (λ k d lt.
-        let long : length (set (map f (numbers 0 n)) at v) ≡ n = length-set (map f (numbers 0 n)) at v ∙ length-map (numbers 0 n) f ∙ length-numbers 0 n in
-        let low : k < n = subst (λ m. k < m) long lt in
-        let in_numbers : k < length (numbers 0 n) = subst (λ m. k < m) (sym (length-numbers 0 n)) low in
-        let at_k : get_or (numbers 0 n) k d ≡ k = numbers_at 0 n k d low ∙ omega arith in
-        let right : get_or (map g (numbers 0 n)) k d ≡ g k = get_or-map g (numbers 0 n) k d d in_numbers ∙ ap g at_k in
-        ⊎_elim
-          (λ e. let same : k ≡ at = e in
-            subst (λ m. get_or (set (map f (numbers 0 n)) m v) k d ≡ v) same
-              (get_or-set_same (map f (numbers 0 n)) k v d (subst (λ m. k < m) (sym (length-map (numbers 0 n) f)) in_numbers)) ∙ here ∙ ap g (sym same) ∙ sym right)
-          (λ ne. get_or-set_other (map f (numbers 0 n)) at k v d ne ∙ get_or-map f (numbers 0 n) k d d in_numbers ∙ ap f at_k ∙ others k ne ∙ sym right)
-          (cases_eq k at))
+    (length-set (map f (numbers 0 n)) at v ∙ length-map (numbers 0 n) f ∙ sym (length-map (numbers 0 n) g))
+    (λ k d lt.
+    let long : length (set (map f (numbers 0 n)) at v) ≡ n = length-set (map f (numbers 0 n)) at v ∙ length-map (numbers 0 n) f ∙ length-numbers 0 n in
+    let low : k < n = subst (λ m. k < m) long lt in
+    let in_numbers : k < length (numbers 0 n) = subst (λ m. k < m) (sym (length-numbers 0 n)) low in
+    let at_k : get_or (numbers 0 n) k d ≡ k = numbers_at 0 n k d low ∙ omega arith in
+    let right : get_or (map g (numbers 0 n)) k d ≡ g k = get_or-map g (numbers 0 n) k d d in_numbers ∙ ap g at_k in
+    ⊎_elim
+    (λ e. let same : k ≡ at = e in
+    subst (λ m. get_or (set (map f (numbers 0 n)) m v) k d ≡ v) same
+    (get_or-set_same (map f (numbers 0 n)) k v d (subst (λ m. k < m) (sym (length-map (numbers 0 n) f)) in_numbers)) ∙ here ∙ ap g (sym same) ∙ sym right)
+    (λ ne. get_or-set_other (map f (numbers 0 n)) at k v d ne ∙ get_or-map f (numbers 0 n) k d d in_numbers ∙ ap f at_k ∙ others k ne ∙ sym right)
+    (cases_eq k at))
 
 pub sum_one : (c : ℕ) (op : Op) → sum_of c (op ∷ []) ≡ added c op
 sum_one c op = sum_by-cons (added c) op [] ∙ omega arith
 
 pub cells_add : (n cell k : ℕ) (parts : List Part) → cell < n
     → set (map (λ c. adds c parts % 2 ^ 64) (numbers 0 n)) cell ((get_or (map (λ c. adds c parts % 2 ^ 64) (numbers 0 n)) cell 0 + k) % 2 ^ 64)
-      ≡ map (λ c. (adds c parts + sum_of c (Add cell k ∷ [])) % 2 ^ 64) (numbers 0 n)
+    ≡ map (λ c. (adds c parts + sum_of c (Add cell k ∷ [])) % 2 ^ 64) (numbers 0 n)
 cells_add n cell k parts lt =
     set_map (λ c. adds c parts % 2 ^ 64) (λ c. (adds c parts + sum_of c (Add cell k ∷ [])) % 2 ^ 64) n cell _
-      (let in_numbers : cell < length (numbers 0 n) = subst (λ m. cell < m) (sym (length-numbers 0 n)) lt in
-       let there : get_or (map (λ c. adds c parts % 2 ^ 64) (numbers 0 n)) cell 0 ≡ adds cell parts % 2 ^ 64 =
-         get_or-map (λ c. adds c parts % 2 ^ 64) (numbers 0 n) cell 0 0 in_numbers ∙ ap (λ c. adds c parts % 2 ^ 64) (numbers_at 0 n cell 0 lt ∙ omega arith) in
-       let mine : sum_of cell (Add cell k ∷ []) ≡ k = sum_one cell (Add cell k) ∙ ap (λ b. cond b k 0) (eq-eqb cell cell refl) in
-       ap (λ x. (x + k) % 2 ^ 64) there ∙ mod-add-mod (adds cell parts) (2 ^ 64) k ∙ ap (λ x. (adds cell parts + x) % 2 ^ 64) (sym mine))
-      (λ i ne.
-       let other : sum_of i (Add cell k ∷ []) ≡ 0 = sum_one i (Add cell k) ∙ ap (λ b. cond b k 0) (ne_eqb cell i (λ e. ne (sym e))) in
-       ap (λ x. x % 2 ^ 64) (plus_zero (adds i parts) (sum_of i (Add cell k ∷ [])) other))
+    (let in_numbers : cell < length (numbers 0 n) = subst (λ m. cell < m) (sym (length-numbers 0 n)) lt in
+    let there : get_or (map (λ c. adds c parts % 2 ^ 64) (numbers 0 n)) cell 0 ≡ adds cell parts % 2 ^ 64 =
+    get_or-map (λ c. adds c parts % 2 ^ 64) (numbers 0 n) cell 0 0 in_numbers ∙ ap (λ c. adds c parts % 2 ^ 64) (numbers_at 0 n cell 0 lt ∙ omega arith) in
+    let mine : sum_of cell (Add cell k ∷ []) ≡ k = sum_one cell (Add cell k) ∙ ap (λ b. cond b k 0) (eq-eqb cell cell refl) in
+    ap (λ x. (x + k) % 2 ^ 64) there ∙ mod-add-mod (adds cell parts) (2 ^ 64) k ∙ ap (λ x. (adds cell parts + x) % 2 ^ 64) (sym mine))
+    (λ i ne.
+    let other : sum_of i (Add cell k ∷ []) ≡ 0 = sum_one i (Add cell k) ∙ ap (λ b. cond b k 0) (ne_eqb cell i (λ e. ne (sym e))) in
+    ap (λ x. x % 2 ^ 64) (plus_zero (adds i parts) (sum_of i (Add cell k ∷ [])) other))
 
 pub cells_same : (n : ℕ) (ops : List Op) (parts : List Part) → ((c : ℕ) → sum_of c ops ≡ 0)
     → map (λ c. adds c parts % 2 ^ 64) (numbers 0 n) ≡ map (λ c. (adds c parts + sum_of c ops) % 2 ^ 64) (numbers 0 n)

@@ -23,10 +23,11 @@ undone_above : (p from count : ℕ) (f : ℕ → Bool) (s : List Step) (job : Li
 undone_above p from zero f s job le = ap (λ x. ops_of p (undone x)) (append-nil s)
 undone_above p from (suc count) f s job le =
     elim (f from) as (λ b. ops_of p (undone (s ++ map (λ q. Starts q job) (cond b (from ∷ filter f (numbers (from + 1) count)) (filter f (numbers (from + 1) count))))) ≡ ops_of p (undone s)) [
-      true ↦ ap (λ x. ops_of p (undone x)) (sym (append_assoc s (Starts from job ∷ []) (map (λ q. Starts q job) (filter f (numbers (from + 1) count)))))
-        ∙ undone_above p (from + 1) count f (s ++ Starts from job ∷ []) job (omega arith)
-        ∙ undone_other p from s job (ne_eqb from p (λ e. let same : from ≡ p = e in omega arith))
-      | false ↦ undone_above p (from + 1) count f s job (omega arith) ]
+      | true ↦ ap (λ x. ops_of p (undone x)) (sym (append_assoc s (Starts from job ∷ []) (map (λ q. Starts q job) (filter f (numbers (from + 1) count)))))
+          ∙ undone_above p (from + 1) count f (s ++ Starts from job ∷ []) job (omega arith)
+          ∙ undone_other p from s job (ne_eqb from p (λ e. let same : from ≡ p = e in omega arith))
+      | false ↦ undone_above p (from + 1) count f s job (omega arith)
+    ]
 
 -- the enabled APs below p have started
 abbrev pub below : Past → List Op → ℕ → Past
@@ -46,14 +47,14 @@ pub next_starts : (processors cells : ℕ) (past : Past) (m now : Machine) (p : 
 next_starts processors cells past m now p job o lt ready h range pass bsp cells_same count items =
     let f : ℕ → Bool = is_enabled_ap past in
     let idle : ops_of p (undone (below past job.now p).steps) ≡ [] =
-      undone_above p 0 p f past.steps job.now (omega arith) ∙ all_idle processors past o.fair ready p lt pass in
+    undone_above p 0 p f past.steps job.now (omega arith) ∙ all_idle processors past o.fair ready p lt pass in
     let more : filter f (numbers 0 (p + 1)) ≡ filter f (numbers 0 p) ++ p ∷ [] = filter_push f p ∙ ap (λ b. filter f (numbers 0 p) ++ cond b (p ∷ []) []) pass in
     let steps : (below past job.now p).steps ++ Starts p job.now ∷ [] ≡ (below past job.now (p + 1)).steps =
-      append_assoc past.steps (map (λ q. Starts q job.now) (filter f (numbers 0 p))) (Starts p job.now ∷ [])
-      ∙ ap (λ x. past.steps ++ x) (sym (map-append (λ q. Starts q job.now) (filter f (numbers 0 p)) (p ∷ [])))
-      ∙ ap (λ x. past.steps ++ map (λ q. Starts q job.now) x) (sym more) in
+    append_assoc past.steps (map (λ q. Starts q job.now) (filter f (numbers 0 p))) (Starts p job.now ∷ [])
+    ∙ ap (λ x. past.steps ++ x) (sym (map-append (λ q. Starts q job.now) (filter f (numbers 0 p)) (p ∷ [])))
+    ∙ ap (λ x. past.steps ++ map (λ q. Starts q job.now) x) (sym more) in
     subst (λ s. IsMachine processors cells (record past { steps = s }) now) steps
-      (start_stands processors cells (below past job.now p) m now p job h lt idle range bsp cells_same count items)
+    (start_stands processors cells (below past job.now p) m now p job h lt idle range bsp cells_same count items)
 
 -- p does not
 pub next_passes : (processors cells : ℕ) (past : Past) (m : Machine) (p : ℕ) (job : List Op) → IsMachine processors cells (below past job p) m → is_enabled_ap past p ≡ false
@@ -61,5 +62,5 @@ pub next_passes : (processors cells : ℕ) (past : Past) (m : Machine) (p : ℕ)
 next_passes processors cells past m p job h pass =
     let f : ℕ → Bool = is_enabled_ap past in
     let same : filter f (numbers 0 (p + 1)) ≡ filter f (numbers 0 p) =
-      filter_push f p ∙ ap (λ b. filter f (numbers 0 p) ++ cond b (p ∷ []) []) pass ∙ append-nil (filter f (numbers 0 p)) in
+    filter_push f p ∙ ap (λ b. filter f (numbers 0 p) ++ cond b (p ∷ []) []) pass ∙ append-nil (filter f (numbers 0 p)) in
     subst (λ ps. IsMachine processors cells (started ps job past) m) (sym same) h

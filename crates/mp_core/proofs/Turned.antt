@@ -134,7 +134,8 @@ head p on job later short = record {
   another = λ e. turns-other on p later (ne_eqb p on (λ q. eqb-false on p e (sym q)));
   before = λ e h. turns-again on p later (subst (λ n. starts n later ≡ true) (sym (eqb-true on p e)) h);
   last = λ e h. subst (λ n. turns on (later ++ Turns n ∷ []) ≡ suc (turns on later)) (eqb-true on p e) (turns-last on later (subst (λ n. starts n later ≡ false) (sym (eqb-true on p e)) h));
-  short = λ e h. short (subst (λ n. starts n later ≡ true) (sym (eqb-true on p e)) h); }
+  short = λ e h. short (subst (λ n. starts n later ≡ true) (sym (eqb-true on p e)) h);
+}
 
 done_step : (b d : Bool) (t n : ℕ) (j D' D U : List Op) → Head b d t n j → D' ≡ D ++ take 1 U → (d ≡ false → D ≡ []) → (d ≡ false → U ≡ [])
     → cond b (take n j) [] ++ D' ≡ (cond b (take t j) [] ++ D) ++ take 1 (cond b (drop t j) [] ++ U)
@@ -190,7 +191,7 @@ adds_step c true true t n j A' A U h e none_u =
     let gone : sum_of c (take 1 (drop t j ++ U)) ≡ sum_of c (take 1 U) = ap (λ x. sum_of c (take 1 (x ++ U))) (drop_all t j (h.short refl refl)) in omega arith
 adds_step c true false t n j A' A U h e none_u =
     let more : sum_of c (take n j) ≡ sum_of c (take t j) + sum_of c (take 1 (drop t j)) =
-        ap (λ m. sum_of c (take m j)) (h.last refl refl) ∙ ap (sum_of c) (take_one_more t j) ∙ sum_by-append (added c) (take t j) (take 1 (drop t j)) in
+    ap (λ m. sum_of c (take m j)) (h.last refl refl) ∙ ap (sum_of c) (take_one_more t j) ∙ sum_by-append (added c) (take t j) (take 1 (drop t j)) in
     let all : sum_of c (take 1 (drop t j ++ U)) ≡ sum_of c (take 1 (drop t j)) = ap (λ x. sum_of c (take 1 (drop t j ++ x))) (none_u refl) ∙ ap (λ x. sum_of c (take 1 x)) (append-nil (drop t j)) in
     let nothing : sum_of c (take 1 U) ≡ 0 = ap (λ x. sum_of c (take 1 x)) (none_u refl) in omega arith
 
@@ -200,5 +201,5 @@ adds-turns c p (Turns on ∷ later) f = adds-turns c p later f
 adds-turns c p (Starts on j ∷ later) f =
     adds-cons c on (take (turns on (later ++ Turns p ∷ [])) j) (done (later ++ Turns p ∷ []))
     ∙ adds_step c (eqb on p) (starts p later) (turns on later) (turns on (later ++ Turns p ∷ [])) j _ (adds c (done later)) (ops_of p (undone later))
-      (head p on j later f.0) (adds-turns c p later f.1) (none_undone p later)
+    (head p on j later f.0) (adds-turns c p later f.1) (none_undone p later)
     ∙ ap (λ n. n + sum_of c (take 1 (cond (eqb on p) (drop (turns on later) j) [] ++ ops_of p (undone later)))) (sym (adds-cons c on (take (turns on later) j) (done later)))

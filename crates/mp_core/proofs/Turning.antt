@@ -36,7 +36,8 @@ add_stands processors cells past m now on x y cell n o h lt is does bsp items su
       record_is = does.1.1 ∙ px.record_is ∙ sym (append-nil (puts on (done past.steps))) ∙ ap (λ ops. puts on (done past.steps) ++ flat_map put (take 1 ops)) (sym rest);
       in_range = range.1;
       cells_are = sums ∙ ap (λ xs. set xs cell ((get_or xs cell 0 + n) % 2 ^ 64)) h.cells_are ∙ cells_add cells cell n (done past.steps) range.0
-        ∙ ap (λ ops. map (λ c. (adds c (done past.steps) + sum_of c (take 1 ops)) % 2 ^ 64) (numbers 0 cells)) (sym rest); })
+          ∙ ap (λ ops. map (λ c. (adds c (done past.steps) + sum_of c (take 1 ops)) % 2 ^ 64) (numbers 0 cells)) (sym rest);
+    })
 
 pub put_stands : (processors cells : ℕ) (past : Past) (m now : Machine) (on : ℕ) (x y z : Processor) (n : ℕ) → AreOrderly processors past.steps → IsMachine processors cells past m
     → on < processors → x ≡ get_or m.processors.items on x → Does x (Some (Put n)) y → z.enabled ≡ y.enabled → z.rest.now ≡ y.rest.now → z.record ≡ y.record ++ n ∷ []
@@ -53,7 +54,8 @@ put_stands processors cells past m now on x y z n o h lt is does enabled rest_is
       record_is = record_is ∙ ap (λ r. r ++ n ∷ []) (does.1.1 ∙ px.record_is) ∙ ap (λ ops. puts on (done past.steps) ++ flat_map put (take 1 ops)) (sym rest);
       in_range = subst (Each (IsOp cells)) (sym rest_is) range.1;
       cells_are = cells_are ∙ h.cells_are ∙ cells_same cells (Put n ∷ []) (done past.steps) (λ c. sum_one c (Put n))
-        ∙ ap (λ ops. map (λ c. (adds c (done past.steps) + sum_of c (take 1 ops)) % 2 ^ 64) (numbers 0 cells)) (sym rest); })
+          ∙ ap (λ ops. map (λ c. (adds c (done past.steps) + sum_of c (take 1 ops)) % 2 ^ 64) (numbers 0 cells)) (sym rest);
+    })
 
 pub none_stands : (processors cells : ℕ) (past : Past) (m now : Machine) (on : ℕ) (x y : Processor) → AreOrderly processors past.steps → IsMachine processors cells past m
     → on < processors → x ≡ get_or m.processors.items on x → Does x None y → now.bsp ≡ m.bsp → now.processors.items ≡ set m.processors.items on y → now.cells ≡ m.cells
@@ -69,7 +71,8 @@ none_stands processors cells past m now on x y o h lt is does bsp items cells_ar
       record_is = does.2.1 ∙ px.record_is ∙ sym (append-nil (puts on (done past.steps))) ∙ ap (λ ops. puts on (done past.steps) ++ flat_map put (take 1 ops)) (sym rest);
       in_range = subst (Each (IsOp cells)) (sym does.1) tt;
       cells_are = cells_are ∙ h.cells_are ∙ cells_same cells [] (done past.steps) (λ c. refl)
-        ∙ ap (λ ops. map (λ c. (adds c (done past.steps) + sum_of c (take 1 ops)) % 2 ^ 64) (numbers 0 cells)) (sym rest); })
+          ∙ ap (λ ops. map (λ c. (adds c (done past.steps) + sum_of c (take 1 ops)) % 2 ^ 64) (numbers 0 cells)) (sym rest);
+    })
 
 -- a cell of an operation that is left is there
 pub cell_below : (processors cells : ℕ) (past : Past) (m : Machine) (on : ℕ) (x y : Processor) (cell n : ℕ) → IsMachine processors cells past m → on < processors

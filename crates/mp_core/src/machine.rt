@@ -3,10 +3,8 @@ ghost use Rattle.std.specs.Prelude.{◌≡◌, ◌==◌, ◌<◌, ◌+◌, ◌%�
 ghost use Rattle.std.specs.List.{list_any};
 ghost use Rattle.pi_base.specs.Lists.{Each};
 ghost use Rattle.mp_core.specs.declared.reply.MpWord.TheVariants as word;
-
 ghost use Rattle.mp_core.specs.Past.{enable_disable_ap, enabled_aps, is_empty, is_enabled_ap, opening, startup_all_aps, startup_this_ap};
 ghost use Rattle.mp_core.specs.Schedule.{is_busy};
-
 
 use crate::op::Op;
 use crate::processor::Processor;
@@ -38,7 +36,11 @@ impl<'a> Machine<'a> {
     ghost use Rattle.mp_core.specs.Past.{Past};
 
     // The machine before the first event.
-    pub(crate) fn new(alloc: Global, processors: u32, cells: u32) -> Result<Machine<'a>, OutOfMemory>
+    pub(crate) fn new(
+        alloc: Global,
+        processors: u32,
+        cells: u32,
+    ) -> Result<Machine<'a>, OutOfMemory>
         requires { 0 < processors }
         ensures { IfOk result (λ machine. IsMachine processors cells opening machine) }
     {

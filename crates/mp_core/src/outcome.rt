@@ -12,7 +12,11 @@ impl<'a> Machine<'a> {
     ghost use Rattle.mp_core.specs.Machine.{IsLeft};
 
     /// What the machine leaves, with the replies.
-    pub(crate) fn outcome(self, alloc: Global, replies: Seq<MpReply>) -> Result<MpOutcome, OutOfMemory>
+    pub(crate) fn outcome(
+        self,
+        alloc: Global,
+        replies: Seq<MpReply>,
+    ) -> Result<MpOutcome, OutOfMemory>
         ensures replies { IfOk result (λ outcome. outcome.replies ≡ replies) }
         ensures left { IfOk result (IsLeft self.entry) }
     {

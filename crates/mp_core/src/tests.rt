@@ -27,10 +27,15 @@ struct Case {
 }
 
 const SUCCESS: MpReply = MpReply::Word(MpWord::Success);
+
 const NOT_READY: MpReply = MpReply::Word(MpWord::NotReady);
+
 const DEVICE_ERROR: MpReply = MpReply::Word(MpWord::DeviceError);
+
 const NOT_STARTED: MpReply = MpReply::Word(MpWord::NotStarted);
+
 const NOT_FOUND: MpReply = MpReply::Word(MpWord::NotFound);
+
 const UNSUPPORTED: MpReply = MpReply::Word(MpWord::Unsupported);
 
 const CASES: [Case; 3] = [
@@ -157,14 +162,14 @@ fn worked_lists_answer_and_leave_what_was_reckoned(rt: HostRuntime) -> Result<()
         let events = events_of(rt.alloc(), case.rows).expect(&rt, "ample memory");
         assert!(rt; 1 <= case.processors && case.processors <= MOST_PROCESSORS);
         assert!(rt; 1 <= case.cells && case.cells <= MOST_CELLS);
-        assert!(rt; events_fit(events.as_slice(), case.processors, case.cells), "case {n}");
-        let outcome = run(
-            rt.alloc(),
-            case.processors,
-            case.cells,
-            events.as_slice(),
-        )
-        .expect(&rt, "ample memory");
+        assert!(rt;
+            events_fit(events.as_slice(), case.processors, case.cells),
+            "case {n}"
+        );
+        let outcome = run(rt.alloc(), case.processors, case.cells, events.as_slice()).expect(
+            &rt,
+            "ample memory",
+        );
         assert!(rt; outcome.replies.as_slice() == case.replies, "case {n}");
         assert!(rt; outcome.cells.as_slice() == case.left, "case {n}");
         assert!(rt; outcome.busy.as_slice() == case.busy, "case {n}");

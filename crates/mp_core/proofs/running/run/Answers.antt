@@ -29,14 +29,16 @@ loop-event-preserved c =
     let told = c.in_ok-reply.ensures.reply n k past (orderly n (take i events)) c.loop-event.invariant.stands in
     let answer : c.in_ok-reply.field-0 ≡ reply n past (get_or events i e) = told ∙ ap (reply n past) c.event-item.is in
     let grown : c.match-branch-3.replies ≡ c.loop-event.replies ++ option_to_list c.in_ok-reply.field-0 =
-      elim c.match-branch-3.branch [
-        in-Some+in_ok-push-in-Some w ↦ w.replies-is ∙ w.in_ok-push-in-Some.ensures.ok ∙ ap (λ x. c.loop-event.replies ++ option_to_list x) (sym w.in-Some.is)
-        | in-None w ↦ w.replies-is ∙ sym (append-nil c.loop-event.replies) ∙ ap (λ x. c.loop-event.replies ++ option_to_list x) (sym w.in-None.is) ] in
+    elim c.match-branch-3.branch [
+      | in-Some+in_ok-push-in-Some w ↦ w.replies-is ∙ w.in_ok-push-in-Some.ensures.ok ∙ ap (λ x. c.loop-event.replies ++ option_to_list x) (sym w.in-Some.is)
+      | in-None w ↦ w.replies-is ∙ sym (append-nil c.loop-event.replies) ∙ ap (λ x. c.loop-event.replies ++ option_to_list x) (sym w.in-None.is)
+    ] in
     record {
       stands = subst (λ p. IsMachine n k p c.event.new.self) (sym (past_more n events i e lt ∙ ap (after n past) (sym c.event-item.is)))
-        (c.in_ok-reply.ensures.after n k past (orderly n (take i events)) c.loop-event.invariant.stands
+          (c.in_ok-reply.ensures.after n k past (orderly n (take i events)) c.loop-event.invariant.stands
           (subst (IsEvent n k) (sym c.event-item.is) (each_at (IsEvent n k) events i e c.requires.events lt)));
-      replies_are = grown ∙ (λ j. before j ++ option_to_list (answer j)) ∙ sym (replies_more n events i e lt); }
+      replies_are = grown ∙ (λ j. before j ++ option_to_list (answer j)) ∙ sym (replies_more n events i e lt);
+    }
 
 -- the machine when all events are over
 ends : (processors cells index : ℕ) (events : List MpEvent) (m : Machine) → length events ≤ index → IsMachine processors cells (past_from processors opening (take index events)) m
@@ -67,9 +69,9 @@ returns-clause-idle c =
     let h = ends n k c.loop-event.event-index events m (omega arith) c.loop-event.invariant.stands in
     let past : Past = past_from n opening events in
     if_ok c.outcome.result (IsLeft m) _ c.outcome.ensures.left (λ outcome left none.
-      let none_busy = subst (λ (bs : List Bool). list_any (λ b. b) bs ≡ false) (busy_left n k past m outcome (orderly n events) h left) none in
-      let same = idle_in_order n k past.steps (orderly n events) none_busy in
-      (cells_left n k past m outcome h left ∙ same.0, records_left n k past m outcome h left ∙ same.1))
+    let none_busy = subst (λ (bs : List Bool). list_any (λ b. b) bs ≡ false) (busy_left n k past m outcome (orderly n events) h left) none in
+    let same = idle_in_order n k past.steps (orderly n events) none_busy in
+    (cells_left n k past m outcome h left ∙ same.0, records_left n k past m outcome h left ∙ same.1))
 
 pub returns-clause-in_time : goal.returns-clause-in_time
 returns-clause-in_time c =
@@ -77,4 +79,4 @@ returns-clause-in_time c =
     let h = ends n k c.loop-event.event-index events m (omega arith) c.loop-event.invariant.stands in
     let past : Past = past_from n opening events in
     if_ok c.outcome.result (IsLeft m) _ c.outcome.ensures.left (λ outcome left.
-      completes n k past.steps outcome (orderly n events) (cells_left n k past m outcome h left) (records_left n k past m outcome h left))
+    completes n k past.steps outcome (orderly n events) (cells_left n k past m outcome h left) (records_left n k past m outcome h left))

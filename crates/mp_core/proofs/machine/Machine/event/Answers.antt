@@ -20,14 +20,14 @@ returns-in-Turn-clause-after c = after_event c.args.self.now c.turn.new.self c.a
 pub returns-in-All-clause-after : goal.returns-in-All-clause-after
 returns-in-All-clause-after c = after_event c.args.self.now c.startup_all_aps-word.new.self c.args.event.now (event.All c.in-All.by c.in-All.job) c.in-All.is
     (λ processors cells past o h needs.
-      subst (λ (job : List Op). IsMachine processors cells (after processors past (event.All c.in-All.by job)) c.startup_all_aps-word.new.self) c.as_slice.ensures
-        (c.startup_all_aps-word.ensures.after processors cells past o h (subst (λ (job : List Op). IsJob cells job) (sym c.as_slice.ensures) needs.1)))
+    subst (λ (job : List Op). IsMachine processors cells (after processors past (event.All c.in-All.by job)) c.startup_all_aps-word.new.self) c.as_slice.ensures
+    (c.startup_all_aps-word.ensures.after processors cells past o h (subst (λ (job : List Op). IsJob cells job) (sym c.as_slice.ensures) needs.1)))
 
 pub returns-in-This-clause-after : goal.returns-in-This-clause-after
 returns-in-This-clause-after c = after_event c.args.self.now c.startup_this_ap-word.new.self c.args.event.now (event.This c.in-This.by c.in-This.on c.in-This.job) c.in-This.is
     (λ processors cells past o h needs.
-      subst (λ (job : List Op). IsMachine processors cells (after processors past (event.This c.in-This.by c.in-This.on job)) c.startup_this_ap-word.new.self) c.as_slice-in-This.ensures
-        (c.startup_this_ap-word.ensures.after processors cells past o h (subst (λ (job : List Op). IsJob cells job) (sym c.as_slice-in-This.ensures) needs.1)))
+    subst (λ (job : List Op). IsMachine processors cells (after processors past (event.This c.in-This.by c.in-This.on job)) c.startup_this_ap-word.new.self) c.as_slice-in-This.ensures
+    (c.startup_this_ap-word.ensures.after processors cells past o h (subst (λ (job : List Op). IsJob cells job) (sym c.as_slice-in-This.ensures) needs.1)))
 
 pub returns-in-Enable-clause-after : goal.returns-in-Enable-clause-after
 returns-in-Enable-clause-after c = after_event c.args.self.now c.enable_disable_ap-word.new.self c.args.event.now (event.Enable c.in-Enable.by c.in-Enable.on c.in-Enable.enabled) c.in-Enable.is

@@ -9,7 +9,7 @@ pub returns-then-is_enabled_ap : goal.returns-then-is_enabled_ap
 returns-then-is_enabled_ap c = λ processors cells past o h.
     let count = h.count in
     sym (empty_filter (is_enabled_ap past) (numbers 0 processors)
-      ∙ any_here (is_enabled_ap past) processors c.loop-p.p (omega arith) (sym (c.is_enabled_ap.ensures processors cells past o h) ∙ c.if-is_enabled_ap.true))
+    ∙ any_here (is_enabled_ap past) processors c.loop-p.p (omega arith) (sym (c.is_enabled_ap.ensures processors cells past o h) ∙ c.if-is_enabled_ap.true))
 
 pub loop-p-preserved : goal.loop-p-preserved
 loop-p-preserved c = λ processors cells past o h.

@@ -16,6 +16,7 @@ returns c =
       bsp_below = c.requires;
       count = c.loop.invariant.0 ∙ all;
       each = λ p x lt.
-        let new = c.loop.invariant.1 p x (omega arith) in
-        record { enabled = new.0; rest = new.1; record_is = new.2; in_range = subst (λ (ops : List Op). Each (IsOp c.args.cells) ops) (sym new.1) tt; };
-      cells_are = c.in_ok-zeros.ensures ∙ zero_cells 0 c.args.cells; }
+          let new = c.loop.invariant.1 p x (omega arith) in
+          record { enabled = new.0; rest = new.1; record_is = new.2; in_range = subst (λ (ops : List Op). Each (IsOp c.args.cells) ops) (sym new.1) tt };
+      cells_are = c.in_ok-zeros.ensures ∙ zero_cells 0 c.args.cells;
+    }

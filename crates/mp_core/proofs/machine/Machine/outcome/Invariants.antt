@@ -7,4 +7,5 @@ abbrev pub invariant-loop-processor : goal.invariant-loop-processor
 invariant-loop-processor l = record {
   cells : l.self.cells ≡ l.fn.self.cells;
   records : map (λ (x : Processor). x.«record») l.fn.self.processors.items ≡ l.records ++ map (λ (x : Processor). x.«record») l.processor-iterator.rest.items;
-  busy : map (λ (x : Processor). not (is_empty x.rest.now)) l.fn.self.processors.items ≡ l.busy ++ map (λ (x : Processor). not (is_empty x.rest.now)) l.processor-iterator.rest.items; }
+  busy : map (λ (x : Processor). not (is_empty x.rest.now)) l.fn.self.processors.items ≡ l.busy ++ map (λ (x : Processor). not (is_empty x.rest.now)) l.processor-iterator.rest.items;
+}

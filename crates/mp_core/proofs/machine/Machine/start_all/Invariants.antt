@@ -12,5 +12,6 @@ abbrev pub invariant-loop-p : goal.invariant-loop-p
 invariant-loop-p l = record {
   count : length l.self.processors.items ≡ length l.fn.self.processors.items;
   stands : (processors cells : ℕ) (past : Past) → AreOrderly processors past.steps → IsMachine processors cells past l.fn.self → Each (IsOp cells) l.job
-    → list_any (λ p. is_busy p past.steps) (enabled_aps processors past) ≡ false
-    → IsMachine processors cells (started (filter (is_enabled_ap past) (numbers 0 l.p)) l.job past) l.self; }
+      → list_any (λ p. is_busy p past.steps) (enabled_aps processors past) ≡ false
+      → IsMachine processors cells (started (filter (is_enabled_ap past) (numbers 0 l.p)) l.job past) l.self;
+}

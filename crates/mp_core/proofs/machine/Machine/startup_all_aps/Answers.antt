@@ -9,4 +9,4 @@ pub returns-in-Success-clause-after : goal.returns-in-Success-clause-after
 returns-in-Success-clause-after c = λ processors cells past o h job.
     let word : Success ≡ startup_all_aps processors past c.args.by = c.in-Success.ensures processors cells past o h in
     subst (λ w. IsMachine processors cells (if_success w past (started (enabled_aps processors past) c.args.job.now past)) c.start_all.new.self) word
-      (c.start_all.ensures processors cells past o h job.1 (all_pass processors past c.args.by (sym word)))
+    (c.start_all.ensures processors cells past o h job.1 (all_pass processors past c.args.by (sym word)))

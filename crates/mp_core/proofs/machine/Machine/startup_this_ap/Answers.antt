@@ -13,5 +13,5 @@ returns-in-Success-clause-after c = λ processors cells past o h job.
     let word : Success ≡ startup_this_ap processors past c.args.by on = c.in-Success.ensures.startup processors cells past o h in
     let pass = four_pass (not (eqb c.args.by past.bsp)) (not (ltb on processors)) (not (is_enabled_ap past on)) (is_busy on past.steps) NotReady (λ e. cc) (sym word) in
     subst (λ w. IsMachine processors cells (if_success w past (started (on ∷ []) c.args.job.now past)) c.start.new.self) word
-      (start_stands processors cells past c.args.self.now c.start.new.self on c.args.job h (subst (λ n. on < n) h.count (c.in-Success.ensures.below refl))
-        (idle_from on past.steps o.fair pass.ready) job.1 c.start.ensures.bsp c.start.ensures.cells c.start.ensures.count c.start.ensures.started)
+    (start_stands processors cells past c.args.self.now c.start.new.self on c.args.job h (subst (λ n. on < n) h.count (c.in-Success.ensures.below refl))
+    (idle_from on past.steps o.fair pass.ready) job.1 c.start.ensures.bsp c.start.ensures.cells c.start.ensures.count c.start.ensures.started)

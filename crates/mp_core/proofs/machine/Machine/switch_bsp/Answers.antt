@@ -14,6 +14,6 @@ returns-in-Success-clause-after c = λ processors cells past o h needs.
     let new_bsp : c.args.on < processors = subst (λ n. c.args.on < n) h.count (c.in-Success.ensures.below refl) in
     let then : Past = record (with_enabled m.bsp c.args.enabled past) { bsp = c.args.on } in
     let stands : IsMachine processors cells then now =
-      enable_stands processors cells past m now m.bsp c.args.on c.args.enabled h h.bsp_below refl new_bsp c.enable.ensures.cells c.enable.ensures.count c.enable.ensures.enabled in
+    enable_stands processors cells past m now m.bsp c.args.on c.args.enabled h h.bsp_below refl new_bsp c.enable.ensures.cells c.enable.ensures.count c.enable.ensures.enabled in
     subst (λ w. IsMachine processors cells (if_success w past (record (with_enabled past.bsp c.args.enabled past) { bsp = c.args.on })) now) word
-      (subst (λ b. IsMachine processors cells (record (with_enabled b c.args.enabled past) { bsp = c.args.on }) now) h.bsp stands)
+    (subst (λ b. IsMachine processors cells (record (with_enabled b c.args.enabled past) { bsp = c.args.on }) now) h.bsp stands)
