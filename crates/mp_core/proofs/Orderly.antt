@@ -1,9 +1,9 @@
 -- The table sees to it that starts are orderly.
-use Rattle.std.proofs.Common.{◌≡◌, ℕ, zero, suc, ◌+◌, ◌<◌, ◌≤◌, Bool, true, false, not, ◌&&◌, ◌||◌, cond, eqb, ltb, List, [], ◌∷◌, ◌++◌, map, sym, refl, ap, subst, ◌∙◌, arith, append_assoc, ⊎_elim, inl, inr, ◌⊎◌}
-use Rattle.std.proofs.lemmas.Bool.{false≢true, true≢false, eqb-false, ne_eqb, not-false, not-true, ltb-true, or_parts, cases_lt}
+use Rattle.std.proofs.Common.{◌≡◌, ℕ, zero, suc, ◌+◌, ◌<◌, ◌≤◌, Bool, true, false, not, ◌||◌, cond, eqb, ltb, List, [], ◌∷◌, ◌++◌, map, sym, refl, ap, subst, ◌∙◌, arith, append_assoc, ⊎_elim, inl, inr, ◌⊎◌}
+use Rattle.std.proofs.lemmas.Bool.{true≢false, ne_eqb, not-false, ltb-true, or_parts, cases_lt}
 use Rattle.std.proofs.lemmas.List.{append-nil}
 use Rattle.std.proofs.lemmas.List.Concat.{flat_map-append}
-use Rattle.std.specs.List.{filter, list_any, fold}
+use Rattle.std.specs.List.{filter, list_any}
 use Rattle.pi_base.specs.Lists.{numbers}
 use Rattle.mp_core.specs.declared.event.MpEvent.{MpEvent}
 use Rattle.mp_core.specs.declared.event.MpEvent.TheVariants.{All, This, Enable, Switch, Who, Turn}

@@ -1,5 +1,5 @@
 -- A run from its first event on.
-use Rattle.std.proofs.Common.{◌≡◌, ℕ, zero, suc, ⊎_elim, cond, eqb, ◌+◌, ◌%◌, ◌^◌, ◌<◌, Bool, true, false, not, List, [], ◌∷◌, ◌++◌, map, length, take, get_or, sym, refl, ap, subst, ◌∙◌, arith}
+use Rattle.std.proofs.Common.{◌≡◌, ℕ, zero, suc, ⊎_elim, cond, eqb, ◌+◌, ◌%◌, ◌^◌, ◌<◌, Bool, false, not, List, [], ◌∷◌, ◌++◌, map, length, take, get_or, sym, refl, ap, subst, ◌∙◌, arith}
 use Rattle.std.proofs.lemmas.Bool.{or_parts, cases_lt, eq-eqb}
 use Rattle.std.proofs.lemmas.List.{append-nil, append_assoc, take_more, get_or-map}
 use Rattle.std.proofs.lemmas.List.Sums.{fold_more}
@@ -9,11 +9,10 @@ use Rattle.pi_base.specs.Lists.{Each, numbers}
 use Rattle.mp_core.specs.declared.event.MpEvent.{MpEvent}
 use Rattle.mp_core.specs.declared.machine.Machine.{Machine}
 use Rattle.mp_core.specs.declared.processor.Processor.{Processor}
-use Rattle.mp_core.specs.declared.reply.MpReply.{MpReply}
 use Rattle.mp_core.specs.declared.reply.MpOutcome.{MpOutcome}
 use Rattle.mp_core.specs.Fair.{AreOrderly}
 use Rattle.mp_core.specs.Machine.{IsMachine, IsLeft}
-use Rattle.mp_core.specs.OneAfterAnother.{one_after_another, cells_of, records_of, Completes, IsInOrder}
+use Rattle.mp_core.specs.OneAfterAnother.{one_after_another, cells_of, records_of, Completes}
 use Rattle.mp_core.specs.Past.{Past, opening, after, is_empty, past_from, reply, replies_from}
 use Rattle.mp_core.specs.Schedule.{Step, Part, is_busy, done, undone, adds, ops_of, put, puts, cells_after, records_after, busy_after}
 use Rattle.mp_core.proofs.Fairness.{is_busy-undone, front_empty, back_empty}

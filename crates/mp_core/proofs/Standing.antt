@@ -1,7 +1,7 @@
 -- A machine that stands for a past, and the pasts for which it stands after a change.
-use Rattle.std.proofs.Common.{◌≡◌, ℕ, zero, suc, ◌+◌, ◌%◌, ◌^◌, ◌<◌, ◌≤◌, ◌≢◌, Bool, true, false, not, cond, eqb, List, [], ◌∷◌, ◌++◌, map, length, take, drop, get_or, set, sym, refl, ap, subst, ◌∙◌, arith, append_assoc, ⊎_elim, Some, None}
+use Rattle.std.proofs.Common.{◌≡◌, ℕ, zero, suc, ◌+◌, ◌%◌, ◌^◌, ◌<◌, ◌≤◌, ◌≢◌, Bool, false, cond, eqb, List, [], ◌∷◌, ◌++◌, map, length, take, drop, get_or, set, sym, refl, ap, subst, ◌∙◌, arith, ⊎_elim}
 use Rattle.std.proofs.Math.Nat.{mod-add-mod}
-use Rattle.std.proofs.lemmas.Bool.{eqb-true, eq-eqb, ne_eqb, cases_eq}
+use Rattle.std.proofs.lemmas.Bool.{eq-eqb, ne_eqb, cases_eq}
 use Rattle.std.proofs.lemmas.List.{append-nil, get_or-set_same, get_or-set_other, length-set, length-map, get_or-map, same_lists}
 use Rattle.std.proofs.lemmas.List.Concat.{flat_map-append}
 use Rattle.std.proofs.lemmas.List.Sums.{sum_by-cons, sum_by_push}
@@ -11,13 +11,12 @@ use Rattle.pi_base.specs.Lists.{Each, numbers}
 use Rattle.mp_core.specs.declared.event.MpEvent.TheVariants as event
 use Rattle.mp_core.specs.declared.machine.Machine.{Machine}
 use Rattle.mp_core.specs.declared.op.Op.{Op}
-use Rattle.mp_core.specs.declared.op.Op.TheVariants.{Add, Put}
+use Rattle.mp_core.specs.declared.op.Op.TheVariants.{Add}
 use Rattle.mp_core.specs.declared.processor.Processor.{Processor}
 use Rattle.mp_core.specs.Calls.{IsOp}
 use Rattle.mp_core.specs.Fair.{AreOrderly, IsFair}
 use Rattle.mp_core.specs.Machine.{IsMachine, IsProcessor}
 use Rattle.mp_core.specs.Past.{Past, after, started, with_enabled}
-use Rattle.mp_core.specs.Processor.{Does}
 use Rattle.mp_core.specs.Schedule.{Step, Starts, Turns, Part, done, undone, ops_of, puts, put, adds, added, cells_after}
 use Rattle.mp_core.proofs.Orderly.{ops_of-push, undone_other}
 use Rattle.mp_core.proofs.Turned.{same, done-starts, undone-starts, done-turns, done-turns_other, undone-turns, undone-turns_other, adds-turns, none_undone, sum_of}

@@ -1,6 +1,6 @@
 -- The turns of a processor that is busy, and of one that is not.
-use Rattle.std.proofs.Common.{◌≡◌, ℕ, ◌+◌, ◌%◌, ◌^◌, ◌<◌, List, [], ◌∷◌, ◌++◌, map, length, take, drop, get_or, set, sym, refl, ap, subst, ◌∙◌, arith, Some, None}
-use Rattle.std.proofs.lemmas.List.{append-nil, length-map, set-get_or}
+use Rattle.std.proofs.Common.{◌≡◌, ℕ, ◌+◌, ◌%◌, ◌^◌, ◌<◌, [], ◌∷◌, ◌++◌, map, length, take, drop, get_or, set, sym, refl, ap, subst, ◌∙◌, Some, None}
+use Rattle.std.proofs.lemmas.List.{append-nil, length-map}
 use Rattle.std.specs.List.{flat_map}
 use Rattle.pi_base.specs.Lists.{Each, numbers}
 use Rattle.mp_core.specs.declared.event.MpEvent.TheVariants as event
@@ -14,7 +14,7 @@ use Rattle.mp_core.specs.Machine.{IsMachine, IsProcessor}
 use Rattle.mp_core.specs.Past.{Past, after}
 use Rattle.mp_core.specs.Processor.{Does}
 use Rattle.mp_core.specs.Schedule.{done, undone, ops_of, puts, put, adds}
-use Rattle.mp_core.proofs.Standing.{HasTurned, turn_stands, cells_add, cells_same, sum_one, length-numbers}
+use Rattle.mp_core.proofs.Standing.{turn_stands, cells_add, cells_same, sum_one, length-numbers}
 use Rattle.mp_core.proofs.Turned.{sum_of}
 
 -- the operations that are left, when one was taken off

@@ -1,7 +1,6 @@
 -- No processor starts before its last job is done, as the table sees to.
 -- Own.
 use Rattle.std.specs.Prelude.{◌≡◌, ℕ, ◌≤◌, ◌==◌, ◌||◌, Bool, true, false, List, [], ◌∷◌, length, ⊤}
-use Rattle.mp_core.specs.declared.op.Op.{Op}
 use Rattle.mp_core.specs.Schedule.{Step, Starts, Turns, turns}
 
 -- whether a processor starts

@@ -1,6 +1,6 @@
 -- What each call of the MP services answers and does, by the calls and turns before it. `processors` is how many there are.
 -- PI 1.8, volume 2, "MP Services Protocol". The order of the refusals is own.
-use Rattle.std.specs.Prelude.{ℕ, ◌==◌, nat_lt, Bool, true, false, not, ◌&&◌, ◌||◌, if◌then◌else◌, List, [], ◌∷◌, ◌++◌, map, filter, fold, Option, Some, None, option_to_list}
+use Rattle.std.specs.Prelude.{ℕ, ◌==◌, nat_lt, Bool, true, false, not, ◌&&◌, if◌then◌else◌, List, [], ◌∷◌, ◌++◌, map, filter, fold, Option, Some, None, option_to_list}
 use Rattle.std.specs.List.{list_any}
 use Rattle.pi_base.specs.Lists.{numbers}
 use Rattle.mp_core.specs.declared.event.MpEvent.{MpEvent}

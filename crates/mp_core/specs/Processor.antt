@@ -1,6 +1,6 @@
 -- What a processor of the code stands for.
 -- Own.
-use Rattle.std.specs.Prelude.{◌≡◌, List, [], ◌∷◌, true, Option, Some, None}
+use Rattle.std.specs.Prelude.{◌≡◌, [], ◌∷◌, true, Option, Some, None}
 use Rattle.mp_core.specs.declared.op.Op.{Op}
 use Rattle.mp_core.specs.declared.processor.Processor.{Processor}
 

@@ -1,16 +1,13 @@
-use Rattle.std.proofs.Common.{◌≡◌, ℕ, ◌+◌, ◌<◌, ◌≤◌, ◌++◌, Bool, false, List, length, take, get_or, sym, ap, subst, ◌∙◌, arith, Result, Ok, Err}
+use Rattle.std.proofs.Common.{◌≡◌, ℕ, ◌<◌, ◌≤◌, ◌++◌, Bool, false, List, length, take, get_or, sym, ap, subst, ◌∙◌, arith, Result, Ok, Err}
 use Rattle.std.proofs.lemmas.List.{append-nil, take_all}
 use Rattle.std.specs.List.{list_any}
 use Rattle.std.specs.Option.{option_to_list}
 use Rattle.std.specs.Result.{IfOk}
 use Rattle.mp_core.specs.declared.event.MpEvent.{MpEvent}
 use Rattle.mp_core.specs.declared.machine.Machine.{Machine}
-use Rattle.mp_core.specs.declared.reply.MpOutcome.{MpOutcome}
 use Rattle.mp_core.specs.Calls.{IsEvent}
-use Rattle.mp_core.specs.Fair.{AreOrderly}
 use Rattle.mp_core.specs.Machine.{IsLeft, IsMachine}
-use Rattle.mp_core.specs.Past.{Past, after, opening, past_from, reply, schedule}
-use Rattle.mp_core.specs.Schedule.{Step}
+use Rattle.mp_core.specs.Past.{Past, after, opening, past_from, reply}
 use Rattle.mp_core.proofs.Orderly.{orderly}
 use Rattle.mp_core.proofs.Runs.{busy_left, cells_left, completes, each_at, idle_in_order, past_more, records_left, replies_more}
 use Rattle.mp_core.proofs.running.run.Goals as goal

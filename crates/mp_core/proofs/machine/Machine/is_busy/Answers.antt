@@ -1,4 +1,4 @@
-use Rattle.std.proofs.Common.{◌≡◌, ◌<◌, not, length, sym, ap, subst, ◌∙◌}
+use Rattle.std.proofs.Common.{◌<◌, not, sym, ap, subst, ◌∙◌}
 use Rattle.mp_core.specs.Machine.{IsProcessor}
 use Rattle.mp_core.specs.Past.{is_empty}
 use Rattle.mp_core.proofs.Fairness.{is_busy-undone}

@@ -1,4 +1,4 @@
-use Rattle.std.proofs.Common.{◌≡◌, ℕ, zero, suc, ◌+◌, ◌%◌, ◌^◌, ◌<◌, List, [], ◌∷◌, map, length, replicate, sym, refl, ap, subst, ◌∙◌, arith}
+use Rattle.std.proofs.Common.{◌≡◌, ℕ, zero, suc, ◌+◌, ◌%◌, ◌^◌, List, ◌∷◌, map, replicate, sym, refl, ap, subst, ◌∙◌, arith}
 use Rattle.pi_base.specs.Lists.{Each, numbers}
 use Rattle.mp_core.specs.declared.op.Op.{Op}
 use Rattle.mp_core.specs.Calls.{IsOp}

@@ -1,4 +1,4 @@
-use Rattle.std.proofs.Common.{◌≡◌, ℕ, ◌+◌, ◌<◌, ◌≤◌, length, sym, ap, subst, ◌∙◌, arith}
+use Rattle.std.proofs.Common.{◌≡◌, ◌+◌, ◌<◌, ◌≤◌, length, sym, ap, subst, ◌∙◌, arith}
 use Rattle.mp_core.specs.Machine.{IsMachine}
 use Rattle.mp_core.proofs.Starting.{below, below_orderly, next_starts, next_passes}
 use Rattle.mp_core.proofs.machine.Machine.start_all.Goals as goal

@@ -1,4 +1,4 @@
-use Rattle.std.proofs.Common.{◌≡◌, ◌<◌, length, Bool, refl, sym, subst}
+use Rattle.std.proofs.Common.{◌≡◌, ◌<◌, refl, subst}
 use Rattle.mp_core.specs.declared.machine.Machine.{Machine}
 use Rattle.mp_core.specs.declared.reply.MpWord.TheVariants.{Success}
 use Rattle.mp_core.specs.Machine.{IsMachine}

@@ -1,4 +1,4 @@
-use Rattle.std.proofs.Common.{◌≡◌, ℕ, ◌<◌, ◌++◌, ◌∷◌, [], length, refl, sym, subst, ◌∙◌, ap, arith, Some, Result, Ok, Err}
+use Rattle.std.proofs.Common.{◌≡◌, ◌<◌, ◌++◌, ◌∷◌, [], length, refl, subst, ◌∙◌, ap, arith, Some, Result, Ok, Err}
 use Rattle.std.proofs.lemmas.List.{get_or-set_same, set-set}
 use Rattle.std.specs.Result.{OnOk}
 use Rattle.mp_core.specs.declared.processor.Processor.{Processor}
