@@ -33,9 +33,11 @@ Stands m Needs = (processors : ℕ) × (cells : ℕ) × (past : Past) × IsMachi
 
 -- an answer is what a definition says of each past that the machine stands for
 abbrev pub Tells : {A : Type 0} → Machine → (ℕ → Past → A) → A → Type 0
-Tells m answer result = (processors cells : ℕ) (past : Past) → AreOrderly processors past.steps → IsMachine processors cells past m → result ≡ answer processors past
+Tells m answer result =
+    (processors cells : ℕ) (past : Past) → AreOrderly processors past.steps → IsMachine processors cells past m
+    → result ≡ answer processors past
 
--- the machine stands for what a definition makes of each past that it stood for, where there is a fact of how many processors and cells it has
+-- the machine stands for what a definition makes of each past that it stood for, where its numbers of processors and cells have a fact
 abbrev pub Becomes : Machine → (ℕ → ℕ → Type 0) → (ℕ → Past → Past) → Machine → Type 0
 Becomes old Needs change new =
     (processors cells : ℕ) (past : Past) → AreOrderly processors past.steps → IsMachine processors cells past old → Needs processors cells
@@ -45,7 +47,8 @@ Becomes old Needs change new =
 abbrev pub StartsAll : Machine → List Op → Machine → Type 0
 StartsAll old job new =
     (processors cells : ℕ) (past : Past) → AreOrderly processors past.steps → IsMachine processors cells past old → Each (IsOp cells) job
-    → list_any (λ p. is_busy p past.steps) (enabled_aps processors past) ≡ false → IsMachine processors cells (started (enabled_aps processors past) job past) new
+    → list_any (λ p. is_busy p past.steps) (enabled_aps processors past) ≡ false
+    → IsMachine processors cells (started (enabled_aps processors past) job past) new
 
 -- an outcome has the machine's cells, and of each processor the record and whether it is busy
 pub record IsLeft (m : Machine) (outcome : MpOutcome) : Type 0 where

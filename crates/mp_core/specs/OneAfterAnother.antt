@@ -38,6 +38,10 @@ cells_of cells contents = map contents.cell (numbers 0 cells)
 abbrev pub records_of : ℕ → Contents → List (List ℕ)
 records_of processors contents = map contents.record_of (numbers 0 processors)
 
+-- no processor is busy
+abbrev pub IsIdle : MpOutcome → Type 0
+IsIdle outcome = list_any (λ busy. busy) outcome.busy ≡ false
+
 -- the cells and records are those of the jobs one after another
 abbrev pub IsInOrder : ℕ → ℕ → List Step → MpOutcome → Type 0
 IsInOrder processors cells steps outcome =
@@ -46,7 +50,8 @@ IsInOrder processors cells steps outcome =
 -- each cell with the Adds that are not yet done, and each record with the Puts that are not yet done, is that of the jobs one after another
 pub record Completes (processors cells : ℕ) (steps : List Step) (outcome : MpOutcome) : Type 0 where
   pub adds_to_come : (c : ℕ) → c < cells → (slice_index outcome.cells c + adds c (undone steps)) % 2 ^ 64 ≡ (one_after_another steps).cell c
-  pub puts_to_come : (p : ℕ) → p < processors → slice_index_or outcome.records p [] ++ puts p (undone steps) ≡ (one_after_another steps).record_of p
+  pub puts_to_come : (p : ℕ) → p < processors
+      → slice_index_or outcome.records p [] ++ puts p (undone steps) ≡ (one_after_another steps).record_of p
 
 -- after any list of events, each cell and each record with what is to come are those of the jobs one after another
 abbrev pub CompletesInOrder : Type 0
@@ -58,4 +63,5 @@ CompletesInOrder = (processors : ℕ) (events : List MpEvent) → let steps : Li
 abbrev pub IdlesInOrder : Type 0
 IdlesInOrder = (processors cells : ℕ) (events : List MpEvent) → let steps : List Step = schedule processors events in
     list_any (λ busy. busy) (busy_after processors steps) ≡ false
-    → (cells_after cells steps ≡ cells_of cells (one_after_another steps)) × (records_after processors steps ≡ records_of processors (one_after_another steps))
+    → (cells_after cells steps ≡ cells_of cells (one_after_another steps))
+    × (records_after processors steps ≡ records_of processors (one_after_another steps))

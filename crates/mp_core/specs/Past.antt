@@ -98,7 +98,8 @@ abbrev pub after : ℕ → Past → MpEvent → Past
 after processors past (All by job) = if_success (startup_all_aps processors past by) past (started (enabled_aps processors past) job past)
 after processors past (This by on job) = if_success (startup_this_ap processors past by on) past (started (on ∷ []) job past)
 after processors past (Enable by on enabled) = if_success (enable_disable_ap processors past by on) past (with_enabled on enabled past)
-after processors past (Switch by on enabled) = if_success (switch_bsp processors past by on) past (record (with_enabled past.bsp enabled past) { bsp = on })
+after processors past (Switch by on enabled) =
+    if_success (switch_bsp processors past by on) past (record (with_enabled past.bsp enabled past) { bsp = on })
 after processors past (Who by) = past
 after processors past (Turn on) = record past { steps = past.steps ++ Turns on ∷ [] }
 
@@ -113,7 +114,8 @@ schedule processors events = (past_from processors opening events).steps
 -- each event answers by the table, over the events before it
 abbrev pub replies_from : ℕ → Past → List MpEvent → List MpReply
 replies_from processors past [] = []
-replies_from processors past (event ∷ later) = option_to_list (reply processors past event) ++ replies_from processors (after processors past event) later
+replies_from processors past (event ∷ later) =
+    option_to_list (reply processors past event) ++ replies_from processors (after processors past event) later
 
 abbrev pub replies : ℕ → List MpEvent → List MpReply
 replies processors events = replies_from processors opening events

@@ -1,5 +1,5 @@
--- What processors did and left in memory, from the starts of their jobs and their turns, in order. A turn does one operation of the job that its
--- processor has.
+-- What processors did and left in memory, from the starts of their jobs and their turns, in order. A turn does one operation of the job
+-- that its processor has.
 -- Own.
 use Rattle.std.specs.Prelude.{ℕ, suc, ◌^◌, ◌%◌, ◌==◌, nat_lt, Bool, false, if◌then◌else◌, List, [], ◌∷◌, length, take, drop, map, flat_map, sum_by, Option, Some, None}
 use Rattle.std.specs.Option.{option_or}

@@ -1,7 +1,6 @@
 // The processors and the shared cells.
-ghost use Rattle.std.specs.Prelude.{◌≡◌, ◌==◌, ◌<◌, ◌+◌, ◌%◌, ◌^◌, ◌++◌, [], ◌∷◌, length, not, replicate, slice_index, slice_index_or, slice_set, IfOk, OnOk, ⊤};
+ghost use Rattle.std.specs.Prelude.{◌≡◌, ◌==◌, ◌<◌, ◌+◌, ◌%◌, ◌^◌, length, not, replicate, slice_index, slice_set, IfOk};
 ghost use Rattle.std.specs.List.{list_any};
-ghost use Rattle.pi_base.specs.Lists.{Each};
 ghost use Rattle.mp_core.specs.declared.reply.MpWord.TheVariants as word;
 ghost use Rattle.mp_core.specs.Past.{enable_disable_ap, enabled_aps, is_empty, is_enabled_ap, opening, startup_all_aps, startup_this_ap};
 ghost use Rattle.mp_core.specs.Schedule.{is_busy};
@@ -31,9 +30,8 @@ fn zeros(alloc: Global, count: u32) -> Result<Seq<u64>, OutOfMemory>
 }
 
 impl<'a> Machine<'a> {
-    ghost use Rattle.mp_core.specs.declared.processor.Processor.{Processor};
-    ghost use Rattle.mp_core.specs.Machine.{Becomes, IsMachine, Stands, Tells};
-    ghost use Rattle.mp_core.specs.Past.{Past};
+    ghost use Rattle.mp_core.specs.Machine.{IsMachine, Tells};
+    ghost use Rattle.mp_core.specs.Processor.{IsChanged};
 
     // The machine before the first event.
     pub(crate) fn new(
@@ -166,7 +164,7 @@ impl<'a> Machine<'a> {
         ensures bsp { self.new.bsp ≡ self.old.bsp }
         ensures cells { self.new.cells ≡ self.old.cells }
         ensures count { length self.new.processors.items ≡ length self.old.processors.items }
-        ensures started { (x : Processor) → self.new.processors.items ≡ slice_set self.old.processors.items p (record (slice_index_or self.old.processors.items p x) { rest = job.entry }) }
+        ensures started { IsChanged self.old.processors.items p (λ x. record x { rest = job.entry }) self.new.processors.items }
     {
         self.processors[p].rest = job;
     }
@@ -177,7 +175,7 @@ impl<'a> Machine<'a> {
         ensures bsp { self.new.bsp ≡ self.old.bsp }
         ensures cells { self.new.cells ≡ self.old.cells }
         ensures count { length self.new.processors.items ≡ length self.old.processors.items }
-        ensures enabled { (x : Processor) → self.new.processors.items ≡ slice_set self.old.processors.items p (record (slice_index_or self.old.processors.items p x) { enabled = enabled }) }
+        ensures enabled { IsChanged self.old.processors.items p (λ x. record x { enabled = enabled }) self.new.processors.items }
     {
         self.processors[p].enabled = enabled;
     }

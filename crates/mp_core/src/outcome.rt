@@ -1,9 +1,7 @@
 // What is left when the events are over.
 ghost use Rattle.std.specs.Prelude.{◌≡◌, IfOk};
-ghost use Rattle.mp_core.specs.Schedule.{busy_after, cells_after, records_after};
 
 use crate::machine::Machine;
-use crate::processor::Processor;
 use crate::reply::{MpOutcome, MpReply};
 use pi_base::{OutOfMemory, Seq};
 use std::alloc::Global;

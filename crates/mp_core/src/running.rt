@@ -1,9 +1,8 @@
 // A list of events.
-ghost use Rattle.std.specs.Prelude.{◌≡◌, false, IfOk};
-ghost use Rattle.std.specs.List.{list_any};
+ghost use Rattle.std.specs.Prelude.{◌≡◌, IfOk};
 ghost use Rattle.mp_core.specs.declared.limits.TheConstants.{MOST_CELLS, MOST_PROCESSORS};
 ghost use Rattle.mp_core.specs.Calls.{AreEvents, IsCount};
-ghost use Rattle.mp_core.specs.OneAfterAnother.{Completes, IsInOrder};
+ghost use Rattle.mp_core.specs.OneAfterAnother.{Completes, IsIdle, IsInOrder};
 ghost use Rattle.mp_core.specs.Past.{replies, schedule};
 ghost use Rattle.mp_core.specs.Schedule.{busy_after, cells_after, records_after};
 
@@ -31,7 +30,7 @@ pub fn run(
     ensures busy { IfOk result (λ outcome. outcome.busy ≡ busy_after processors (schedule processors events.now)) }
 
     // The jobs taken one after another give the same, once all are done.
-    ensures idle { IfOk result (λ outcome. list_any (λ busy. busy) outcome.busy ≡ false → IsInOrder processors cells (schedule processors events.now) outcome) }
+    ensures idle { IfOk result (λ outcome. IsIdle outcome → IsInOrder processors cells (schedule processors events.now) outcome) }
     ensures in_time { IfOk result (Completes processors cells (schedule processors events.now)) }
 {
     let mut machine = Machine::new(alloc, processors, cells)?;

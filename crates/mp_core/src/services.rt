@@ -27,7 +27,8 @@ impl<'a> Machine<'a> {
     // `StartupAllAPs`.
     fn startup_all_aps(&mut self, by: u32, job: &'a [Op]) -> MpWord
         ensures word { Tells self.old (λ processors past. startup_all_aps processors past by) result }
-        ensures after { Becomes self.old (λ _ cells. IsJob cells job.now) (λ processors past. after processors past (event.All by job.now)) self.new }
+        ensures after { Becomes self.old (λ _ cells. IsJob cells job.now)
+            (λ processors past. after processors past (event.All by job.now)) self.new }
     {
         match self.all_word(by) {
             MpWord::Success => {
@@ -41,7 +42,8 @@ impl<'a> Machine<'a> {
     // `StartupThisAP`.
     fn startup_this_ap(&mut self, by: u32, on: u32, job: &'a [Op]) -> MpWord
         ensures word { Tells self.old (λ processors past. startup_this_ap processors past by on) result }
-        ensures after { Becomes self.old (λ _ cells. IsJob cells job.now) (λ processors past. after processors past (event.This by on job.now)) self.new }
+        ensures after { Becomes self.old (λ _ cells. IsJob cells job.now)
+            (λ processors past. after processors past (event.This by on job.now)) self.new }
     {
         match self.this_word(by, on) {
             MpWord::Success => {
