@@ -1,0 +1,79 @@
+use Rattle.std.proofs.Common.{◌≡◌, ℕ, ◌<◌, ◌≤◌, ◌++◌, Bool, false, List, length, take, get_or, sym, ap, subst, ◌∙◌, arith, Result, Ok, Err}
+use Rattle.std.proofs.lemmas.List.{append-nil, take_all}
+use Rattle.std.specs.List.{list_any}
+use Rattle.std.specs.Option.{option_to_list}
+use Rattle.std.specs.Result.{IfOk}
+use Rattle.mp_core.specs.declared.event.MpEvent.{MpEvent}
+use Rattle.mp_core.specs.declared.machine.Machine.{Machine}
+use Rattle.mp_core.specs.Calls.{IsEvent}
+use Rattle.mp_core.specs.Machine.{IsLeft, IsMachine}
+use Rattle.mp_core.specs.Past.{Past, after, opening, past_from, reply}
+use Rattle.mp_core.proofs.Orderly.{orderly}
+use Rattle.mp_core.proofs.Runs.{busy_left, cells_left, completes, each_at, idle_in_order, past_more, records_left, replies_more}
+use Rattle.mp_core.proofs.running.run.Goals as goal
+use Rattle.mp_core.proofs.running.run.Goals.{in-Some+in_ok-push-in-Some, in-None}
+
+if_ok : {T E : Type 0} (r : Result T E) (P Q : T → Type 0) → IfOk r P → ((x : T) → P x → Q x) → IfOk r Q
+if_ok (Ok x) P Q h f = f x h
+if_ok (Err e) P Q h f = h
+
+pub loop-event-preserved : goal.loop-event-preserved
+loop-event-preserved c =
+    let n = c.args.processors in let k = c.args.cells in let events = c.args.events.now in let i = c.loop-event.event-index in let e = c.event-item.result in
+    let past : Past = past_from n opening (take i events) in
+    let before = c.loop-event.invariant.replies_are in
+    let lt : i < length events = omega arith in
+    let told = c.in_ok-reply.ensures.reply n k past (orderly n (take i events)) c.loop-event.invariant.stands in
+    let answer : c.in_ok-reply.field-0 ≡ reply n past (get_or events i e) = told ∙ ap (reply n past) c.event-item.is in
+    let grown : c.match-branch-3.replies ≡ c.loop-event.replies ++ option_to_list c.in_ok-reply.field-0 =
+    elim c.match-branch-3.branch [
+      | in-Some+in_ok-push-in-Some w ↦ w.replies-is ∙ w.in_ok-push-in-Some.ensures.ok ∙ ap (λ x. c.loop-event.replies ++ option_to_list x) (sym w.in-Some.is)
+      | in-None w ↦ w.replies-is ∙ sym (append-nil c.loop-event.replies) ∙ ap (λ x. c.loop-event.replies ++ option_to_list x) (sym w.in-None.is)
+    ] in
+    record {
+      stands = subst (λ p. IsMachine n k p c.event.new.self) (sym (past_more n events i e lt ∙ ap (after n past) (sym c.event-item.is)))
+          (c.in_ok-reply.ensures.after n k past (orderly n (take i events)) c.loop-event.invariant.stands
+          (subst (IsEvent n k) (sym c.event-item.is) (each_at (IsEvent n k) events i e c.requires.events lt)));
+      replies_are = grown ∙ (λ j. before j ++ option_to_list (answer j)) ∙ sym (replies_more n events i e lt);
+    }
+
+-- the machine when all events are over
+ends : (processors cells index : ℕ) (events : List MpEvent) (m : Machine) → length events ≤ index → IsMachine processors cells (past_from processors opening (take index events)) m
+    → IsMachine processors cells (past_from processors opening events) m
+ends processors cells index events m le h = subst (λ es. IsMachine processors cells (past_from processors opening es) m) (take_all index events le) h
+
+pub returns-clause-cells : goal.returns-clause-cells
+returns-clause-cells c =
+    let n = c.args.processors in let k = c.args.cells in let events = c.args.events.now in let m = c.loop-event.machine in
+    let h = ends n k c.loop-event.event-index events m (omega arith) c.loop-event.invariant.stands in
+    if_ok c.outcome.result (IsLeft m) _ c.outcome.ensures.left (λ outcome left. cells_left n k (past_from n opening events) m outcome h left)
+
+pub returns-clause-records : goal.returns-clause-records
+returns-clause-records c =
+    let n = c.args.processors in let k = c.args.cells in let events = c.args.events.now in let m = c.loop-event.machine in
+    let h = ends n k c.loop-event.event-index events m (omega arith) c.loop-event.invariant.stands in
+    if_ok c.outcome.result (IsLeft m) _ c.outcome.ensures.left (λ outcome left. records_left n k (past_from n opening events) m outcome h left)
+
+pub returns-clause-busy : goal.returns-clause-busy
+returns-clause-busy c =
+    let n = c.args.processors in let k = c.args.cells in let events = c.args.events.now in let m = c.loop-event.machine in
+    let h = ends n k c.loop-event.event-index events m (omega arith) c.loop-event.invariant.stands in
+    if_ok c.outcome.result (IsLeft m) _ c.outcome.ensures.left (λ outcome left. busy_left n k (past_from n opening events) m outcome (orderly n events) h left)
+
+pub returns-clause-idle : goal.returns-clause-idle
+returns-clause-idle c =
+    let n = c.args.processors in let k = c.args.cells in let events = c.args.events.now in let m = c.loop-event.machine in
+    let h = ends n k c.loop-event.event-index events m (omega arith) c.loop-event.invariant.stands in
+    let past : Past = past_from n opening events in
+    if_ok c.outcome.result (IsLeft m) _ c.outcome.ensures.left (λ outcome left none.
+    let none_busy = subst (λ (bs : List Bool). list_any (λ b. b) bs ≡ false) (busy_left n k past m outcome (orderly n events) h left) none in
+    let same = idle_in_order n k past.steps (orderly n events) none_busy in
+    (cells_left n k past m outcome h left ∙ same.0, records_left n k past m outcome h left ∙ same.1))
+
+pub returns-clause-in_time : goal.returns-clause-in_time
+returns-clause-in_time c =
+    let n = c.args.processors in let k = c.args.cells in let events = c.args.events.now in let m = c.loop-event.machine in
+    let h = ends n k c.loop-event.event-index events m (omega arith) c.loop-event.invariant.stands in
+    let past : Past = past_from n opening events in
+    if_ok c.outcome.result (IsLeft m) _ c.outcome.ensures.left (λ outcome left.
+    completes n k past.steps outcome (orderly n events) (cells_left n k past m outcome h left) (records_left n k past m outcome h left))
