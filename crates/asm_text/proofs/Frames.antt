@@ -1,5 +1,5 @@
 -- What was gone through of the text of a tree, and what was written of it.
-use Rattle.std.proofs.Common.{◌≡◌, ℕ, Bool, true, false, List, [], ◌∷◌, ◌++◌, length, map, Option, Some, None, flat_map, refl, sym, ap, subst, ◌∙◌, arith, inl, inr, absurd}
+use Rattle.std.proofs.Common.{◌≡◌, ℕ, Bool, true, false, List, [], ◌∷◌, ◌++◌, length, map, Option, Some, None, flat_map, refl, sym, ap, subst, ◌∙◌, arith, inl, inr}
 use Rattle.std.specs.Prelude.{codes, ⊤, ◌⊎◌}
 use Rattle.std.specs.List.{AllByRecursion}
 use Rattle.std.proofs.lemmas.Option.{same_Some}
@@ -81,15 +81,18 @@ all_parts (y ∷ ys) x all = let rest = all_parts ys x all.1 in ((all.0, rest.0)
 abbrev Last : List Frame → List Waiting → Waiting → Type 0
 Last frames waiting what = (others : List Frame) × (last : Frame) × (frames ≡ others ++ last ∷ []) × (waiting ≡ map kind others) × (what ≡ kind last)
 
-with_front : (frame : Frame) (frames : List Frame) (waiting : List Waiting) (first what : Waiting) → first ≡ kind frame → Last frames waiting what → Last (frame ∷ frames) (first ∷ waiting) what
-with_front frame frames waiting first what is last =
+with_front : (frame : Frame) (frames : List Frame) (waiting : List Waiting) (initial what : Waiting) → initial ≡ kind frame → Last frames waiting what → Last (frame ∷ frames) (initial ∷ waiting) what
+with_front frame frames waiting initial what is last =
     (frame ∷ last.0, last.1, ap (λ l. frame ∷ l) last.2, rw (is, last.3) refl, last.4)
 
 last_of : (frames : List Frame) (waiting : List Waiting) (what : Waiting) → waiting ++ what ∷ [] ≡ map kind frames → Last frames waiting what
 last_of [] waiting what e = absurd (omega (arith, ap length e, length-append waiting (what ∷ [])))
-last_of (frame ∷ []) [] what e = ([], frame, refl, refl, cc)
-last_of (frame ∷ (other ∷ frames)) [] what e = absurd cc
-last_of (frame ∷ frames) (first ∷ waiting) what e = with_front frame frames waiting first what cc (last_of frames waiting what cc)
+last_of (frame ∷ []) [] what e = let same : what ≡ kind frame = cc in ([], frame, refl, refl, same)
+last_of (frame ∷ (other ∷ frames)) [] what e = let never : [] ≡ kind other ∷ map kind frames = cc in absurd cc
+last_of (frame ∷ frames) (initial ∷ waiting) what e =
+    let same : initial ≡ kind frame = cc in
+    let others : waiting ++ what ∷ [] ≡ map kind frames = cc in
+    with_front frame frames waiting initial what same (last_of frames waiting what others)
 
 -- one frame more
 frame_more : (text : List ℕ) (frames : List Frame) (frame : Frame) (left rest : List ℕ) (waiting : List Waiting) (code : List Opcode)
@@ -153,9 +156,6 @@ regrouped_and fronts first second between rest = simp append_assoc
 regrouped_first : (fronts first between rest : List ℕ) → (fronts ++ codes "(") ++ (first ++ (between ++ rest)) ≡ fronts ++ ((codes "(" ++ (first ++ between)) ++ rest)
 regrouped_first fronts first between rest = simp append_assoc
 
-opened_sound : (text rest : List ℕ) (frames : List Frame) (node : DepexTree) (waiting : List Waiting) (code : List Opcode) (q : Place) (o : Option (Waiting × List ℕ))
-    → waiting ≡ map kind frames → AllByRecursion IsFrame frames → IsTree node → text ≡ (flat_map front frames ++ codes "(") ++ (tree_text node ++ rest)
-    → code ≡ flat_map head frames ++ postfix node → operator_at rest ≡ o → opened waiting code o ≡ Some q → Sound text q
 operator_sound : (text rest : List ℕ) (frames : List Frame) (node : DepexTree) (waiting : List Waiting) (code : List Opcode) (what : Waiting) (more : List ℕ) (q : Place)
     → waiting ≡ map kind frames → AllByRecursion IsFrame frames → IsTree node → text ≡ (flat_map front frames ++ codes "(") ++ (tree_text node ++ rest)
     → code ≡ flat_map head frames ++ postfix node → OperatorIs rest what more → at more false (waiting ++ what ∷ []) code ≡ q → Sound text q
@@ -169,6 +169,10 @@ operator_sound text rest frames node waiting code Disjunction more q waits are i
       (here ∙ ap (λ t. (fronts ++ codes "(") ++ (tree_text node ++ t)) operator ∙ regrouped_first fronts (tree_text node) (codes " or ") more) written)
 operator_sound text rest frames node waiting code First more q waits are is here written operator e = absurd operator
 operator_sound text rest frames node waiting code Negation more q waits are is here written operator e = absurd operator
+
+opened_sound : (text rest : List ℕ) (frames : List Frame) (node : DepexTree) (waiting : List Waiting) (code : List Opcode) (q : Place) (o : Option (Waiting × List ℕ))
+    → waiting ≡ map kind frames → AllByRecursion IsFrame frames → IsTree node → text ≡ (flat_map front frames ++ codes "(") ++ (tree_text node ++ rest)
+    → code ≡ flat_map head frames ++ postfix node → operator_at rest ≡ o → opened waiting code o ≡ Some q → Sound text q
 opened_sound text rest frames node waiting code q None waits are is here written found e = absurd cc
 opened_sound text rest frames node waiting code q (Some x) waits are is here written found e =
     operator_sound text rest frames node waiting code x.0 x.1 q waits are is here written (operator_is rest x found) (same_Some (at x.1 false (waiting ++ x.0 ∷ []) code) q e)

@@ -48,13 +48,13 @@ pub behind_there : (front rest : List ℕ) → behind front (front ++ rest) ≡ 
 behind_there front rest = rw (take_at front rest (length front) refl, itself front, drop_at front rest (length front) refl) refl
 
 none_by : (test : Bool) (x : List ℕ) → (test ≡ true → ⊥) → ◌≡◌ {A = Option (List ℕ)} (if test then Some x else None) None
-none_by true x no = absurd (no refl)
-none_by false x no = refl
+none_by true x never = absurd (never refl)
+none_by false x never = refl
 
 pub behind_none : (front text : List ℕ) → ((rest : List ℕ) → text ≡ front ++ rest → ⊥) → behind front text ≡ None
-behind_none front text no =
+behind_none front text never =
     none_by (bytes_eq (take (length front) text) front) (drop (length front) text)
-    (λ here. no (drop (length front) text) (sym (take-append-drop (length front) text) ∙ ap (λ there. there ++ drop (length front) text) ((same (take (length front) text) front).0 here)))
+    (λ here. never (drop (length front) text) (sym (take-append-drop (length front) text) ∙ ap (λ there. there ++ drop (length front) text) ((same (take (length front) text) front).0 here)))
 
 pub not_behind : (front text rest : List ℕ) → behind front text ≡ None → text ≡ front ++ rest → ⊥
 not_behind front text rest none is =

@@ -1,8 +1,12 @@
+mod Expressions
 mod Frames
 mod Fronts
 mod Guids
+mod LineFeeds
+mod OneText
 mod Paths
 mod Printed
 mod Stacks
 mod Tokens
+mod TreeEnds
 mod TreePaths

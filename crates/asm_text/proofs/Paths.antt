@@ -1,9 +1,9 @@
 -- From place to place in the text of a tree.
-use Rattle.std.proofs.Common.{◌≡◌, ℕ, Bool, List, [], ◌∷◌, ◌++◌, Option, Some, None, refl, sym, ap, subst, ◌∙◌, absurd}
+use Rattle.std.proofs.Common.{◌≡◌, ℕ, Bool, List, [], ◌∷◌, ◌++◌, Option, Some, None, refl, sym, ap, subst, ◌∙◌}
 use Rattle.std.proofs.lemmas.Option.{same_Some}
 use Rattle.depex_code.specs.declared.opcode.Opcode.{Opcode}
 use Rattle.asm_text.specs.declared.token.Waiting.{Waiting}
-use Rattle.asm_text.specs.Walk.{Place, step, split_last, with_first}
+use Rattle.asm_text.specs.Walk.{Place, step, split_last, with_first, resumed}
 
 abbrev pub at : List ℕ → Bool → List Waiting → List Opcode → Place
 at rest ended waiting code = record { rest = rest; ended = ended; waiting = waiting; code = code }
@@ -53,11 +53,19 @@ split_none : {A : Type 0} (xs : List A) → split_last xs ≡ None → xs ≡ []
 split_none [] e = refl
 split_none (y ∷ ys) e = absurd (with_first_some y (split_last ys) e)
 
+split_with : {A : Type 0} (y : A) (ys : List A) (o : Option (List A × A)) → split_last ys ≡ o → ((others : List A × A) → split_last ys ≡ Some others → ys ≡ others.0 ++ others.1 ∷ [])
+    → (parts : List A × A) → with_first y o ≡ Some parts → y ∷ ys ≡ parts.0 ++ parts.1 ∷ []
+split_with y ys None is parted parts e =
+    ap (λ l. y ∷ l) (split_none ys is) ∙ ap (λ p. p.0 ++ p.1 ∷ []) (same_Some ([], y) parts e)
+split_with y ys (Some others) is parted parts e =
+    ap (λ xs. y ∷ xs) (parted others is) ∙ ap (λ p. p.0 ++ p.1 ∷ []) (same_Some (y ∷ others.0, others.1) parts e)
+
 pub split_is : {A : Type 0} (xs : List A) (parts : List A × A) → split_last xs ≡ Some parts → xs ≡ parts.0 ++ parts.1 ∷ []
-split_with : {A : Type 0} (y : A) (ys : List A) (o : Option (List A × A)) → split_last ys ≡ o → (parts : List A × A) → with_first y o ≡ Some parts → y ∷ ys ≡ parts.0 ++ parts.1 ∷ []
 split_is [] parts e = absurd cc
-split_is (y ∷ ys) parts e = split_with y ys (split_last ys) refl parts e
-split_with y ys None is parts e =
-    rw (split_none ys is) (ap (λ p. p.0 ++ p.1 ∷ []) (same_Some ([], y) parts e))
-split_with y ys (Some others) is parts e =
-    ap (λ xs. y ∷ xs) (split_is ys others is) ∙ ap (λ p. p.0 ++ p.1 ∷ []) (same_Some (y ∷ others.0, others.1) parts e)
+split_is (y ∷ ys) parts e = split_with y ys (split_last ys) refl (split_is ys) parts e
+
+-- what goes on where an operand ended, by what waits for it
+pub resumed_by : (text : List ℕ) (code : List Opcode) (old new : List Waiting) (what kind : Waiting) → old ≡ new ++ what ∷ [] → what ≡ kind
+    → resumed text code (split_last old) ≡ resumed text code (Some (new, kind))
+resumed_by text code old new what kind parts is =
+    ap (λ w. resumed text code (split_last w)) parts ∙ ap (resumed text code) (split_push new what) ∙ ap (λ k. resumed text code (Some (new, k))) is

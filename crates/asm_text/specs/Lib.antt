@@ -4,6 +4,7 @@ pub mod ExpressionText
 pub mod Front
 pub mod Numerals
 pub mod Operands
+pub mod ReadDepex
 pub mod ReadTree
 pub mod ScriptText
 pub mod Texts

@@ -63,8 +63,8 @@ fn put_code(out: &mut Seq<u8>, code: &[Opcode]) -> Result<(), OutOfMemory>
     Ok(())
 }
 
-// How many opcodes an expression has, SOR and END among them.
-fn opcodes(depex: &Depex) -> usize
+/// How many opcodes an expression has, SOR and END among them.
+pub(crate) fn opcodes(depex: &Depex) -> usize
     ensures { result ≡ length (instructions depex.now) }
 {
     match depex {

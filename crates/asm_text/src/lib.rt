@@ -3,14 +3,20 @@
 
 mod action_text;
 mod depex_bytes;
+mod depex_reading;
 mod depex_text;
+mod fault;
 mod front;
 mod operand;
 mod script_text;
+mod text_law;
 mod token;
 mod tree_reading;
 mod tree_text;
 
 pub use depex_bytes::write_depex;
+pub use depex_reading::parse_depex;
 pub use depex_text::print_depex;
+pub use fault::TextFault;
 pub use script_text::print_script;
+pub use text_law::one_expression;

@@ -1,5 +1,9 @@
 // Reading the text of a tree, with a stack of what waits for an operand.
-ghost use Rattle.std.specs.Prelude.{◌≡◌, ◌≤◌, ◌<◌, ◌+◌, ◌*◌, ◌++◌, true, false, length, IfOk, IfSome};
+ghost use Rattle.std.specs.Prelude.{◌≡◌, ◌≤◌, ◌<◌, ◌+◌, ◌*◌, ◌++◌, [], List, true, false, codes, length, IfOk, IfSome};
+ghost use Rattle.depex_code.specs.declared.opcode.Opcode.{Opcode};
+ghost use Rattle.depex_code.specs.declared.opcode.Opcode.TheVariants as opcode;
+ghost use Rattle.asm_text.specs.declared.token.Waiting.{Waiting};
+ghost use Rattle.asm_text.specs.Front.{behind};
 ghost use Rattle.asm_text.specs.Walk.{Goes, turned, opened, closed, resumed, split_last, next_place, token_at, operator_at};
 ghost use Rattle.asm_text.specs.ReadTree.{Finds, FindsCode, IsTreeOf};
 
@@ -97,6 +101,14 @@ fn go<'a>(
     }
 }
 
+// Whether the text of a tree goes on at a place.
+fn goes_on(ended: bool, waiting: &Seq<Waiting>) -> bool
+    ensures on { result ≡ true → ended ≡ true → waiting.now ≡ [] → ⊥ }
+    ensures end { result ≡ false → (ended ≡ true) × (waiting.now ≡ []) }
+{
+    !ended || !waiting.is_empty()
+}
+
 // The postfix opcodes of the tree whose text this is.
 fn code_of(alloc: Global, text: &[u8]) -> Result<Option<Seq<Opcode>>, OutOfMemory>
     ensures { IfOk result (FindsCode text.now) }
@@ -105,7 +117,7 @@ fn code_of(alloc: Global, text: &[u8]) -> Result<Option<Seq<Opcode>>, OutOfMemor
     let mut waiting = Seq::new(alloc);
     let mut rest = text;
     let mut ended = false;
-    'walk: while !(ended && waiting.is_empty()) {
+    'walk: while goes_on(ended, &waiting) {
         match go(rest, ended, &mut waiting, &mut code)? {
             Some((behind, at_end)) => {
                 rest = behind;
