@@ -10,3 +10,4 @@ mod Stacks
 mod Tokens
 mod TreeEnds
 mod TreePaths
+mod WorkedRows

@@ -5,6 +5,7 @@ pub mod Front
 pub mod Numerals
 pub mod Operands
 pub mod ReadDepex
+pub mod ReadScript
 pub mod ReadTree
 pub mod ScriptText
 pub mod Texts
