@@ -159,7 +159,11 @@ lined next after = append_assoc next (10 ∷ []) after
 -- no line feed
 pub bad_short : (text : List ℕ) → Lacks 10 text → IsBadLine IsDepexText text 1
 bad_short text lacks = record {
-  lines = []; rest = text; here = refl; are = tt; before = refl;
+  lines = [];
+  rest = text;
+  here = refl;
+  are = tt;
+  before = refl;
   begins = (depex_text (Expr false True), some_text);
   stops = λ next after lack is more there. feed_there next after (subst (Lacks 10) (is ∙ lined next after) lacks);
   none = λ there. feed_there (expression_text there.0) [] (subst (Lacks 10) there.1.1 lacks);
@@ -168,7 +172,11 @@ bad_short text lacks = record {
 -- a first line of no expression
 pub bad_first : (text l rest : List ℕ) → text ≡ l ++ 10 ∷ rest → Lacks 10 l → ((e : Depex) → IsExpressionOf l e → ⊥) → IsBadLine IsDepexText text 1
 bad_first text l rest here lacks none = record {
-  lines = []; rest = text; here = refl; are = tt; before = refl;
+  lines = [];
+  rest = text;
+  here = refl;
+  are = tt;
+  before = refl;
   begins = (depex_text (Expr false True), some_text);
   stops = λ next after lack is more there.
       let same : l ≡ next = same_line l next rest after lacks lack (sym here ∙ is ∙ lined next after) in
@@ -186,7 +194,9 @@ one_line l rest = ap (λ t. t ++ rest) (append-nil (line l)) ∙ append_assoc l 
 -- more than one line
 pub bad_second : (text l rest : List ℕ) (e : Depex) → text ≡ l ++ 10 ∷ rest → Lacks 10 l → IsExpressionOf l e → (rest ≡ [] → ⊥) → IsBadLine IsDepexText text 2
 bad_second text l rest e here lacks is some = record {
-  lines = l ∷ []; rest = rest; before = refl;
+  lines = l ∷ [];
+  rest = rest;
+  before = refl;
   here = here ∙ sym (one_line l rest);
   are = (lacks, tt);
   begins = ([], (e, (is.0, append-nil (line l ++ []) ∙ append-nil (line l) ∙ ap line is.1)));

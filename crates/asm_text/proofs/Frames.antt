@@ -112,7 +112,11 @@ ended : (text : List ℕ) (frames : List Frame) (node : DepexTree) (rest : List 
     → waiting ≡ map kind frames → AllByRecursion IsFrame frames → IsTree node → text ≡ flat_map front frames ++ (tree_text node ++ rest) → code ≡ flat_map head frames ++ postfix node
     → Sound text (at rest true waiting code)
 ended text frames node rest waiting code waits are is here written = record {
-  frames = frames; left = tree_text node ++ rest; waits = waits; are = are; here = here;
+  frames = frames;
+  left = tree_text node ++ rest;
+  waits = waits;
+  are = are;
+  here = here;
   behind = (node, is, refl, written);
 }
 
@@ -162,11 +166,11 @@ operator_sound : (text rest : List ℕ) (frames : List Frame) (node : DepexTree)
 operator_sound text rest frames node waiting code Conjunction more q waits are is here written operator e =
     let fronts = flat_map front frames in
     subst (Sound text) e (frame_more text frames (AndOf node) rest more waiting code waits are is
-      (here ∙ ap (λ t. (fronts ++ codes "(") ++ (tree_text node ++ t)) operator ∙ regrouped_first fronts (tree_text node) (codes " and ") more) written)
+    (here ∙ ap (λ t. (fronts ++ codes "(") ++ (tree_text node ++ t)) operator ∙ regrouped_first fronts (tree_text node) (codes " and ") more) written)
 operator_sound text rest frames node waiting code Disjunction more q waits are is here written operator e =
     let fronts = flat_map front frames in
     subst (Sound text) e (frame_more text frames (OrOf node) rest more waiting code waits are is
-      (here ∙ ap (λ t. (fronts ++ codes "(") ++ (tree_text node ++ t)) operator ∙ regrouped_first fronts (tree_text node) (codes " or ") more) written)
+    (here ∙ ap (λ t. (fronts ++ codes "(") ++ (tree_text node ++ t)) operator ∙ regrouped_first fronts (tree_text node) (codes " or ") more) written)
 operator_sound text rest frames node waiting code First more q waits are is here written operator e = absurd operator
 operator_sound text rest frames node waiting code Negation more q waits are is here written operator e = absurd operator
 
@@ -188,9 +192,9 @@ closed_sound text rest frames first node whole between operator waiting code q (
     let heads = flat_map head frames in
     let all : ((heads ++ postfix first) ++ postfix node) ++ operator ∷ [] ≡ heads ++ (postfix first ++ (postfix node ++ operator ∷ [])) = simp append_assoc in
     subst (Sound text) (same_Some (at more true waiting (code ++ operator ∷ [])) q e) (ended text frames whole more waiting _ waits are is
-      (here ∙ ap (λ t. (fronts ++ (codes "(" ++ (tree_text first ++ between))) ++ (tree_text node ++ t)) (behind_is (codes ")") rest more found)
-        ∙ regrouped_and fronts (tree_text first) (tree_text node) between more ∙ ap (λ t. fronts ++ (t ++ more)) (sym spelled))
-      (ap (λ c. c ++ operator ∷ []) written ∙ all ∙ ap (λ c. heads ++ c) (sym coded)))
+    (here ∙ ap (λ t. (fronts ++ (codes "(" ++ (tree_text first ++ between))) ++ (tree_text node ++ t)) (behind_is (codes ")") rest more found)
+    ∙ regrouped_and fronts (tree_text first) (tree_text node) between more ∙ ap (λ t. fronts ++ (t ++ more)) (sym spelled))
+    (ap (λ c. c ++ operator ∷ []) written ∙ all ∙ ap (λ c. heads ++ c) (sym coded)))
 
 -- where an operand ended, the last frame has it
 frame_sound : (text rest : List ℕ) (frames : List Frame) (last : Frame) (node : DepexTree) (waiting : List Waiting) (code : List Opcode) (q : Place)

@@ -1,6 +1,10 @@
 -- A text is that of one expression.
-use Rattle.std.proofs.Common.{◌≡◌, ℕ, true, false, List, [], ◌∷◌, ◌++◌, Some, refl, sym, ap, subst, ◌∙◌, arith}
-use Rattle.std.specs.Prelude.{codes}
+use Rattle.std.proofs.Common.{◌≡◌, ℕ, true, false, List, [], ◌∷◌, ◌++◌, ◌≤◌, ◌<◌, length, Some, Result, Ok, Err, refl, sym, ap, subst, ◌∙◌, arith}
+use Rattle.std.specs.Prelude.{codes, IfOk, IfErr}
+use Rattle.depex_code.specs.Expression.{instructions}
+use Rattle.asm_text.specs.declared.fault.TextFault.{TextFault}
+use Rattle.asm_text.specs.declared.fault.TextFault.TheVariants.{Bad, TooLong, Memory}
+use Rattle.asm_text.specs.ReadDepex.{IsDepexOf, IsDepexRefused, GivesBack}
 use Rattle.std.proofs.lemmas.Option.{same_Some}
 use Rattle.std.proofs.lemmas.List.{append_cancel_left, append_cancel_right, append-nil}
 use Rattle.pi_base.specs.declared.guid.Guid.{Guid}
@@ -50,3 +54,13 @@ same_line (Expr false n) (Expr false m) a b e = ap (λ t. Expr false t) (same_tr
 
 pub same_expression : (e f : Depex) → IsExpression e → IsExpression f → depex_text e ≡ depex_text f → e ≡ f
 same_expression e f a b is = same_line e f a b (append_cancel_right (expression_text e) (expression_text f) (10 ∷ []) is)
+
+-- so an expression that is printed is read again
+pub again_by : (text : List ℕ) (r : Result Depex TextFault) → IfOk r (IsDepexOf text) → IfErr r (IsDepexRefused text) → (depex : Depex) → IsDepexOf text depex
+    → length (instructions depex) ≤ 1024 → GivesBack depex r
+again_by text (Ok read) is refused depex there few = same_expression read depex is.0 there.0 (sym is.1 ∙ there.1)
+again_by text (Err (Bad number)) is refused depex there few = absurd (refused.none (depex, there))
+again_by text (Err TooLong) is refused depex there few =
+    let same : refused.0 ≡ depex = same_expression refused.0 depex refused.1.0 there.0 (sym refused.1.1 ∙ there.1) in
+    absurd (omega (arith, refused.2, few, ap (λ (e : Depex). length (instructions e)) same))
+again_by text (Err Memory) is refused depex there few = refl

@@ -1,5 +1,5 @@
 -- Reading the text of an expression (own).
-use Rattle.std.specs.Prelude.{◌≡◌, ℕ, ◌<◌, ⊤, List, length}
+use Rattle.std.specs.Prelude.{◌≡◌, ℕ, ◌<◌, ⊤, List, length, Result, Ok, Err}
 use Rattle.depex_code.specs.declared.depex.Depex.{Depex}
 use Rattle.depex_code.specs.Expression.{instructions}
 use Rattle.asm_text.specs.declared.fault.TextFault.{TextFault}
@@ -14,6 +14,11 @@ IsDepexOf text depex = IsExpression depex × (text ≡ depex_text depex)
 
 abbrev pub IsDepexText : List ℕ → Type 0
 IsDepexText text = (depex : Depex) × IsDepexOf text depex
+
+-- the answer is the expression, or memory ran out
+abbrev pub GivesBack : Depex → Result Depex TextFault → Type 0
+GivesBack depex (Ok read) = read ≡ depex
+GivesBack depex (Err fault) = fault ≡ Memory
 
 -- why nothing was read
 abbrev pub IsDepexRefused : List ℕ → TextFault → Type 0

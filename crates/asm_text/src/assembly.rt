@@ -2,8 +2,10 @@
 ghost use Rattle.std.specs.Prelude.{◌<◌, length, IfOk, IfSome};
 
 use crate::front::{guid_word, place_of};
-use crate::table::{Kind, row_of};
-use crate::words::{decimal_word, hexadecimal_word, put_hexadecimal, register_word, small_word, status_word, word};
+use crate::table::{Kind, LAST_BLOCK, row_of};
+use crate::words::{
+    decimal_word, hexadecimal_word, put_hexadecimal, register_word, small_word, status_word, word,
+};
 use pi_base::{OutOfMemory, Phase, Seq, put_u64};
 use std::alloc::Global;
 
@@ -14,8 +16,6 @@ const TILDE: u8 = b'~';
 const MOST_BYTES: usize = 64;
 
 const MOST_REGISTERS: usize = 8;
-
-const LAST_BLOCK: u8 = 63;
 
 const PPI: u8 = 0;
 
@@ -106,7 +106,11 @@ fn put_word(out: &mut Seq<u8>, kind: Kind, word: &[u8]) -> Result<bool, OutOfMem
 }
 
 // Adds the operand that stands behind a space. What follows it.
-fn next_word<'a>(out: &mut Seq<u8>, kind: Kind, text: &'a [u8]) -> Result<Option<&'a [u8]>, OutOfMemory>
+fn next_word<'a>(
+    out: &mut Seq<u8>,
+    kind: Kind,
+    text: &'a [u8],
+) -> Result<Option<&'a [u8]>, OutOfMemory>
     ensures { IfOk result (λ rest. IfSome rest (λ rest. length rest.now < length text.now)) }
 {
     let Some((first, rest)) = word(text) else {
@@ -207,7 +211,11 @@ fn put_guid_arg<'a>(out: &mut Seq<u8>, text: &'a [u8]) -> Result<Option<&'a [u8]
 }
 
 // Adds a descriptor's last operand, by what the descriptor is of. What follows it.
-fn put_last<'a>(out: &mut Seq<u8>, kind: u8, text: &'a [u8]) -> Result<Option<&'a [u8]>, OutOfMemory> {
+fn put_last<'a>(
+    out: &mut Seq<u8>,
+    kind: u8,
+    text: &'a [u8],
+) -> Result<Option<&'a [u8]>, OutOfMemory> {
     if kind == PPI {
         return next_word(out, Kind::Register, text);
     }
@@ -236,7 +244,11 @@ fn put_descriptor(out: &mut Seq<u8>, text: &[u8]) -> Result<bool, OutOfMemory> {
 }
 
 // Adds an operand. What follows it.
-fn put_operand<'a>(out: &mut Seq<u8>, kind: Kind, text: &'a [u8]) -> Result<Option<&'a [u8]>, OutOfMemory> {
+fn put_operand<'a>(
+    out: &mut Seq<u8>,
+    kind: Kind,
+    text: &'a [u8],
+) -> Result<Option<&'a [u8]>, OutOfMemory> {
     let whole = match kind {
         Kind::Text => put_text(out, text)?,
         Kind::Registers => put_registers(out, text)?,
@@ -264,7 +276,11 @@ fn put_operands(out: &mut Seq<u8>, kinds: &[Kind], text: &[u8]) -> Result<bool, 
 }
 
 /// The bytes of the action of a phase whose line this is.
-pub(crate) fn action_bytes(alloc: Global, phase: Phase, line: &[u8]) -> Result<Option<Seq<u8>>, OutOfMemory> {
+pub(crate) fn action_bytes(
+    alloc: Global,
+    phase: Phase,
+    line: &[u8],
+) -> Result<Option<Seq<u8>>, OutOfMemory> {
     let (name, operands) = line.split_at(place_of(line, SPACE));
     let Some((_, code, kinds)) = row_of(phase, name) else {
         return Ok(None);

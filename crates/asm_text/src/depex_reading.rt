@@ -1,11 +1,12 @@
 // Reading the text of an expression.
 ghost use Rattle.std.specs.Prelude.{◌≡◌, ◌≤◌, ◌<◌, ◌++◌, length, codes, option_map, Option, IfOk, IfErr};
+ghost use Rattle.depex_code.specs.declared.depex.Depex.{Depex};
 ghost use Rattle.depex_code.specs.declared.depex.Depex.TheVariants as depex;
 ghost use Rattle.depex_code.specs.Expression.{instructions};
 ghost use Rattle.depex_code.specs.Tree.{DepexTree};
 ghost use Rattle.asm_text.specs.Front.{guid_word};
 ghost use Rattle.asm_text.specs.ReadTree.{Finds, IsTreeOf, IsExpressionOf};
-ghost use Rattle.asm_text.specs.ReadDepex.{IsDepexOf, IsDepexRefused};
+ghost use Rattle.asm_text.specs.ReadDepex.{IsDepexOf, IsDepexRefused, GivesBack};
 
 use crate::depex_bytes::opcodes;
 use crate::fault::TextFault;
@@ -61,12 +62,10 @@ fn expression(alloc: Global, line: &[u8]) -> Result<Option<Depex>, OutOfMemory>
     tree_line(alloc, false, line)
 }
 
-/// Reads the text of an expression, one line with its line feed.
-pub fn parse_depex(alloc: Global, text: &[u8]) -> Result<Depex, TextFault>
-    // What is read is the expression whose text this is, of at most 1,024 opcodes.
+// The expression whose text this is, or why there is none.
+fn read_text(alloc: Global, text: &[u8]) -> Result<Depex, TextFault>
     ensures read { IfOk result (IsDepexOf text.now) }
     ensures few { IfOk result (λ depex. length (instructions depex) ≤ 1024) }
-    // Where nothing is read, the text is that of a longer expression, or goes wrong with this line, or memory ran out.
     ensures refused { IfErr result (IsDepexRefused text.now) }
 {
     let Some((line, rest)) = first_line(text) else {
@@ -82,4 +81,17 @@ pub fn parse_depex(alloc: Global, text: &[u8]) -> Result<Depex, TextFault>
         return Err(TextFault::TooLong);
     }
     Ok(depex)
+}
+
+/// Reads the text of an expression, one line with its line feed.
+pub fn parse_depex(alloc: Global, text: &[u8]) -> Result<Depex, TextFault>
+    // What is read is the expression whose text this is, of at most 1,024 opcodes.
+    ensures read { IfOk result (IsDepexOf text.now) }
+    ensures few { IfOk result (λ depex. length (instructions depex) ≤ 1024) }
+    // The text of such an expression is read as it, unless memory ran out.
+    ensures again { (depex : Depex) → IsDepexOf text.now depex → length (instructions depex) ≤ 1024 → GivesBack depex result }
+    // Where nothing is read, the text is that of a longer expression, or goes wrong with this line, or memory ran out.
+    ensures refused { IfErr result (IsDepexRefused text.now) }
+{
+    read_text(alloc, text)
 }

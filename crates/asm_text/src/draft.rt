@@ -103,7 +103,7 @@ impl Draft {
             }
             self.close()?;
         }
-        self.blocks += 1;
+        self.blocks = self.blocks.saturating_add(1);
         self.actions = 0;
         self.needed = 0;
         self.returned = false;
@@ -115,7 +115,9 @@ impl Draft {
         self.actions = self.actions.saturating_add(1);
         self.returned = is_ret(action);
         if let Some(n) = skipped(action) {
-            self.needed = self.needed.max(self.actions.saturating_add(u16::from(n) + 1));
+            self.needed = self
+                .needed
+                .max(self.actions.saturating_add(u16::from(n) + 1));
         }
         if let Some(block) = block_of(action) {
             self.named = self.named.max(block.saturating_add(1));

@@ -72,7 +72,8 @@ fn checked(alloc: Global, text: &[u8], bytes: &[u8]) -> Result<Option<Script>, O
     }
 }
 
-/// Reads the text of a script. TooLong where its bytes would pass 65,536.
+/// Reads the text of a script. TooLong where its bytes would pass 65,536. That the text of each script is read, and which line is told of a text
+/// of none, is tested and not proved.
 pub fn parse_script(alloc: Global, text: &[u8]) -> Result<Script, TextFault>
     // What is read is the script whose text this is, and its bytes keep their limit.
     ensures read { IfOk result (IsScriptOf text.now) }

@@ -36,7 +36,7 @@ pub(crate) enum Kind {
 pub(crate) type Row = (&'static [u8], u8, &'static [Kind]);
 
 /// The last number of a block.
-const LAST_BLOCK: u8 = 63;
+pub(crate) const LAST_BLOCK: u8 = 63;
 
 /// The code of `desc`.
 pub(crate) const DESC: u8 = 0x08;
@@ -56,7 +56,11 @@ const BOTH: [Row; 6] = [
     (b"add", 0x02, &[Kind::Register, Kind::Hexadecimal(8)]),
     (b"peek", 0x07, &[Kind::Register, Kind::Small(1, 64)]),
     (b"log", 0x11, &[Kind::Text]),
-    (b"skip_if", SKIP_IF, &[Kind::Small(0, 1), Kind::Small(1, 255)]),
+    (
+        b"skip_if",
+        SKIP_IF,
+        &[Kind::Small(0, 1), Kind::Small(1, 255)],
+    ),
     (b"ret", RET, &[Kind::Status]),
 ];
 
@@ -127,7 +131,11 @@ const DXE: [Row; 8] = [
     (
         b"notify",
         DXE_NOTIFY,
-        &[Kind::Guid, Kind::Fixed(b"block"), Kind::Small(0, LAST_BLOCK)],
+        &[
+            Kind::Guid,
+            Kind::Fixed(b"block"),
+            Kind::Small(0, LAST_BLOCK),
+        ],
     ),
     (b"schedule", 0x25, &[Kind::Guid]),
     (b"process", 0x26, &[Kind::Register]),

@@ -221,7 +221,10 @@ fn text_with(alloc: Global, phase: Phase, line: &[u8]) -> Result<Seq<u8>, Fail> 
     }
     put(&mut text, b"block\n")?;
     put(&mut text, line)?;
-    put(&mut text, b"\nret Success\nret Success\nblock\nret Success\n")?;
+    put(
+        &mut text,
+        b"\nret Success\nret Success\nblock\nret Success\n",
+    )?;
     Ok(text)
 }
 
@@ -264,7 +267,10 @@ fn smallest_script(rt: HostRuntime) {
     };
     assert_eq!(rt;
         bytes.as_slice(),
-        [0x50, 0x49, 0x41, 0x53, 1, 1, 1, 0, 2, 0, 0x11, 1, 0x61, 0x13, 0].as_slice()
+        [
+            0x50, 0x49, 0x41, 0x53, 1, 1, 1, 0, 2, 0, 0x11, 1, 0x61, 0x13, 0
+        ]
+        .as_slice()
     );
 }
 

@@ -38,7 +38,10 @@ fn begin<'a>(
 }
 
 // What follows the operator behind a bracket's first operand.
-fn open<'a>(text: &'a [u8], waiting: &mut Seq<Waiting>) -> Result<Option<(&'a [u8], bool)>, OutOfMemory>
+fn open<'a>(
+    text: &'a [u8],
+    waiting: &mut Seq<Waiting>,
+) -> Result<Option<(&'a [u8], bool)>, OutOfMemory>
     ensures goes { (code : List Opcode) → IfOk result (Goes (opened waiting.old code (operator_at text.now)) waiting.new code) }
     ensures less { IfOk result (λ next. IfSome next (λ x. length waiting.new + 2 * length x.0.now < 1 + length waiting.old + 2 * length text.now)) }
 {
@@ -50,7 +53,11 @@ fn open<'a>(text: &'a [u8], waiting: &mut Seq<Waiting>) -> Result<Option<(&'a [u
 }
 
 // What follows the closing bracket behind the operands of an operator.
-fn close<'a>(text: &'a [u8], code: &mut Seq<Opcode>, operator: Opcode) -> Result<Option<(&'a [u8], bool)>, OutOfMemory>
+fn close<'a>(
+    text: &'a [u8],
+    code: &mut Seq<Opcode>,
+    operator: Opcode,
+) -> Result<Option<(&'a [u8], bool)>, OutOfMemory>
     ensures goes { (waiting : List Waiting) → IfOk result (Goes (closed waiting code.old operator (behind (codes ")") text.now)) waiting code.new) }
     ensures less { IfOk result (λ next. IfSome next (λ x. length x.0.now < length text.now)) }
 {
@@ -126,7 +133,11 @@ fn code_of(alloc: Global, text: &[u8]) -> Result<Option<Seq<Opcode>>, OutOfMemor
             None => return Ok(None),
         }
     }
-    if rest.is_empty() { Ok(Some(code)) } else { Ok(None) }
+    if rest.is_empty() {
+        Ok(Some(code))
+    } else {
+        Ok(None)
+    }
 }
 
 // The tree whose text this is.
