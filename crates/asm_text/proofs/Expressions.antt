@@ -1,5 +1,5 @@
 -- The line of an expression, by what stands at its front.
-use Rattle.std.proofs.Common.{◌≡◌, ℕ, ◌<◌, ◌+◌, ◌&&◌, ◌||◌, Bool, true, false, not, eqb, List, [], ◌∷◌, ◌++◌, length, get_or, Option, Some, None, option_map, flat_map, refl, sym, ap, subst, ◌∙◌, arith}
+use Rattle.std.proofs.Common.{◌≡◌, ℕ, ◌&&◌, ◌||◌, Bool, true, false, eqb, List, [], ◌∷◌, ◌++◌, length, get_or, Option, Some, None, option_map, flat_map, refl, sym, ap, subst, ◌∙◌, arith}
 use Rattle.std.specs.Prelude.{codes, ◌==◌, nat_lt, Result, Ok, Err, IfOk}
 use Rattle.pi_base.specs.declared.memory.OutOfMemory.{OutOfMemory}
 use Rattle.std.specs.List.{list_all}
@@ -11,11 +11,11 @@ use Rattle.depex_code.specs.declared.depex.Depex.{Depex}
 use Rattle.depex_code.specs.declared.depex.Depex.TheVariants.{Before, After, Expr}
 use Rattle.depex_code.specs.Tree.{DepexTree, True, False, Push, Not, And, Or}
 use Rattle.asm_text.specs.Numerals.{guid_text}
-use Rattle.asm_text.specs.ExpressionText.{bracketed, tree_text, sor_text, expression_text, depex_text}
+use Rattle.asm_text.specs.ExpressionText.{bracketed, tree_text, expression_text, depex_text}
 use Rattle.asm_text.specs.Front.{behind, guid_word}
 use Rattle.asm_text.specs.ScriptText.{line}
 use Rattle.asm_text.specs.BadLine.{Lacks, IsBadLine}
-use Rattle.asm_text.specs.ReadTree.{Finds, IsGuid, IsTree, IsTreeOf, IsExpression, IsExpressionOf}
+use Rattle.asm_text.specs.ReadTree.{Finds, IsTreeOf, IsExpressionOf}
 use Rattle.asm_text.specs.ReadDepex.{IsDepexOf, IsDepexText}
 use Rattle.asm_text.proofs.Fronts.{not_behind}
 use Rattle.asm_text.proofs.Guids.{is_guid_char, guid_chars, guid_at_front, guid_word_is, guid_word_there}

@@ -1,10 +1,9 @@
 -- The tokens of a tree's text, both ways.
-use Rattle.std.proofs.Common.{◌≡◌, ℕ, ◌<◌, Bool, true, false, List, [], ◌∷◌, ◌++◌, Option, Some, None, option_map, refl, sym, ap, subst, ◌∙◌, arith, inl, inr}
-use Rattle.std.specs.Prelude.{codes, ◌⊎◌}
+use Rattle.std.proofs.Common.{◌≡◌, ℕ, List, ◌++◌, Option, Some, None, refl, subst, arith}
+use Rattle.std.specs.Prelude.{codes}
 use Rattle.std.proofs.lemmas.Option.{same_Some}
 use Rattle.std.proofs.lemmas.Bool.{false≢true}
 use Rattle.pi_base.specs.declared.guid.Guid.{Guid}
-use Rattle.depex_code.specs.declared.opcode.Opcode.{Opcode}
 use Rattle.depex_code.specs.declared.opcode.Opcode.TheVariants as opcode
 use Rattle.asm_text.specs.declared.token.Waiting.{Waiting}
 use Rattle.asm_text.specs.declared.token.Waiting.TheVariants.{Negation, First, Conjunction, Disjunction}
@@ -14,7 +13,7 @@ use Rattle.asm_text.specs.Numerals.{guid_text}
 use Rattle.asm_text.specs.Front.{behind, guid_front}
 use Rattle.asm_text.specs.Walk.{with_token, token_at, operator_at}
 use Rattle.asm_text.specs.ReadTree.{IsGuid}
-use Rattle.asm_text.proofs.Fronts.{behind_is, behind_there, behind_none}
+use Rattle.asm_text.proofs.Fronts.{behind_is, behind_none}
 use Rattle.asm_text.proofs.Guids.{guid_at_front, guid_front_is, guid_front_there, mapped}
 
 -- a token stands at the front, and the rest behind it

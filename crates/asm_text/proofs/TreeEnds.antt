@@ -12,7 +12,7 @@ use Rattle.asm_text.specs.Walk.{Place, step, next_place}
 use Rattle.asm_text.specs.ReadTree.{Finds, IsTreeOf, IsCodeOf}
 use Rattle.asm_text.proofs.Paths.{at, Path, path_on, path_stays}
 use Rattle.asm_text.proofs.TreePaths.{passes}
-use Rattle.asm_text.proofs.Frames.{Frame, kind, front, head, Behind, Sound, path_sound, starts_sound}
+use Rattle.asm_text.proofs.Frames.{Frame, kind, front, head, Behind, path_sound, starts_sound}
 
 -- the last place of the text of a tree
 pub come_to : (text : List ℕ) (node : DepexTree) (path : List Place) (p : Place) → IsTreeOf text node → Path (at text false [] []) path p → step p ≡ None → p ≡ at [] true [] (postfix node)

@@ -1,4 +1,4 @@
-use Rattle.std.proofs.Common.{◌≡◌, [], ◌∷◌, ◌++◌, Some, true, false, rules}
+use Rattle.std.proofs.Common.{◌≡◌, [], ◌∷◌, ◌++◌, Some, false, rules}
 use Rattle.asm_text.specs.Walk.{step}
 use Rattle.asm_text.proofs.Paths.{at, path_more}
 use Rattle.asm_text.proofs.TreeEnds.{walked_out, walked_short, walked_end, empty_is, not_empty}
