@@ -1,0 +1,131 @@
+-- The text of a GUID: its characters, and reading it.
+use Rattle.std.proofs.Common.{◌≡◌, ◌<◌, ◌/◌, ◌%◌, ◌&&◌, ℕ, zero, suc, Bool, true, false, eqb, cond, List, [], ◌∷◌, ◌++◌, length, take, drop, get_or, Option, Some, None, option_map, refl, sym, ap, subst, ◌∙◌, arith, inl, All}
+use Rattle.std.specs.Prelude.{bytes_eq, if◌then◌else◌, option_and_then, nat_lt, slice_index}
+use Rattle.std.specs.List.{list_all}
+use Rattle.std.proofs.lemmas.Bool.{and_parts, and_from, eqb-true}
+use Rattle.std.proofs.lemmas.Bool.Decides.{nat_tests}
+use Rattle.std.proofs.lemmas.Option.{same_Some}
+use Rattle.std.proofs.lemmas.List.{take_at, drop_at, take-append-drop, length-append, get_or_append_left}
+use Rattle.std.proofs.lemmas.List.Elements.{All-from_recursion}
+use Rattle.std.proofs.lemmas.List.Folds.{list_all-append}
+use Rattle.std.proofs.lemmas.List.Sums.{AllPass-from_list_all}
+use Rattle.uuid.specs.Text.{by_index, is_hyphen_place, hex_digit, nibble, digit_place, lower}
+use Rattle.uuid.specs.Parts.{swap_fields}
+use Rattle.uuid.proofs.RoundTrips.{parses_hyphenated_text, swap_twice}
+use Rattle.hex.specs.Hex.{IsBytes}
+use Rattle.pi_base.specs.declared.guid.Guid.{Guid}
+use Rattle.pi_base.specs.GuidText.{guid_of_text}
+use Rattle.asm_text.specs.Numerals.{guid_text}
+use Rattle.asm_text.specs.Front.{is_guid, spelled_so, guid_word, guid_front}
+use Rattle.asm_text.specs.ReadTree.{IsGuid}
+use Rattle.asm_text.proofs.Stacks.{bind_some}
+use Rattle.asm_text.proofs.Fronts.{passed, same, itself}
+
+-- a digit or a hyphen
+abbrev pub is_guid_char : ℕ → Bool
+is_guid_char b = nat_lt 40 b && nat_lt b 103
+
+digit_char : (d : ℕ) → d < 16 → is_guid_char (hex_digit 97 d) ≡ true
+digit_char d below = grind (arith, nat_tests)
+
+half_below : (t : Bool) (a b : ℕ) → cond t (a % 16) (b % 16) < 16
+half_below true a b = omega arith
+half_below false a b = omega arith
+
+place_char : (hyphen : Bool) (d : ℕ) → d < 16 → is_guid_char (cond hyphen 45 (hex_digit 97 d)) ≡ true
+place_char true d below = refl
+place_char false d below = digit_char d below
+
+all_chars : (n : ℕ) (f : ℕ → ℕ) → ((k : ℕ) → is_guid_char (f k) ≡ true) → list_all is_guid_char (by_index n f) ≡ true
+unfolding by_index
+all_chars zero f each = refl
+all_chars (suc n) f each = list_all-append is_guid_char (by_index n f) (f n ∷ []) ∙ rw (all_chars n f each, each n) refl
+
+long_index : (n : ℕ) (f : ℕ → ℕ) → length (by_index n f) ≡ n
+unfolding by_index
+long_index zero f = refl
+long_index (suc n) f = length-append (by_index n f) (f n ∷ []) ∙ rw (long_index n f) (omega arith)
+
+pub guid_chars : (guid : Guid) → list_all is_guid_char (guid_text guid) ≡ true
+guid_chars guid = all_chars 36 (λ k. cond (is_hyphen_place k) 45 (hex_digit 97 (nibble (swap_fields guid.0) (digit_place k))))
+    (λ k. place_char (is_hyphen_place k) (nibble (swap_fields guid.0) (digit_place k)) (half_below (eqb (digit_place k % 2) 0) (slice_index (swap_fields guid.0) (digit_place k / 2) / 16) (slice_index (swap_fields guid.0) (digit_place k / 2))))
+
+pub guid_long : (guid : Guid) → length (guid_text guid) ≡ 36
+guid_long guid = long_index 36 (λ k. cond (is_hyphen_place k) 45 (hex_digit 97 (nibble (swap_fields guid.0) (digit_place k))))
+
+-- a text that a GUID's text begins has such characters in its first 36 places
+pub guid_at_front : (guid : Guid) (rest text : List ℕ) (k : ℕ) → k < 36 → guid_text guid ++ rest ≡ text → is_guid_char (get_or text k 0) ≡ true
+guid_at_front guid rest text k below is =
+    let inside : k < length (guid_text guid) = omega (arith, guid_long guid) in
+    let here : get_or text k 0 ≡ get_or (guid_text guid) k 0 = ap (λ t. get_or t k 0) (sym is) ∙ get_or_append_left (guid_text guid) rest 0 k inside in
+    rw here (AllPass-from_list_all is_guid_char (guid_text guid) (guid_chars guid) k 0 inside)
+
+pub bytes_from : (xs : List ℕ) → list_all (λ byte. nat_lt byte 256) xs ≡ true → IsBytes xs
+bytes_from [] all i = omega arith
+bytes_from (x ∷ xs) all zero = let here : nat_lt x 256 ≡ true = (and_parts _ _ all).0 in grind (arith, nat_tests)
+bytes_from (x ∷ xs) all (suc i) = bytes_from xs (and_parts _ _ all).1 i
+
+pub bytes_to : (xs : List ℕ) → IsBytes xs → list_all (λ byte. nat_lt byte 256) xs ≡ true
+bytes_to [] all = refl
+bytes_to (x ∷ xs) all = let here : x < 256 = all 0 in and_from _ _ (grind (arith, nat_tests)) (bytes_to xs (λ i. all (suc i)))
+
+guid_tested : (guid : Guid) → IsGuid guid → is_guid guid.0 ≡ true
+guid_tested guid is = let long : eqb (length guid.0) 16 ≡ true = rw is.0 refl in and_from _ _ long (bytes_to guid.0 is.1)
+
+swapped : (xs : List ℕ) → IsBytes xs → All (λ b. b < 256) (swap_fields xs)
+swapped xs fits = All-from_recursion (λ b. b < 256) (swap_fields xs)
+    (fits 3, (fits 2, (fits 1, (fits 0, (fits 5, (fits 4, (fits 7, (fits 6, (fits 8, (fits 9, (fits 10, (fits 11, (fits 12, (fits 13, (fits 14, (fits 15, tt))))))))))))))))
+
+-- the text of a GUID is read as it
+guid_back : (guid : Guid) → IsGuid guid → guid_of_text (guid_text guid) ≡ Some guid.0
+guid_back guid is =
+    ap (option_map swap_fields) (sym (parses_hyphenated_text lower (swap_fields guid.0) (inl refl) refl (swapped guid.0 is.1))) ∙ ap Some (swap_twice guid.0 is.0)
+
+pub guid_word_there : (guid : Guid) → IsGuid guid → guid_word (guid_text guid) ≡ Some guid
+unfolding guid_word
+guid_word_there guid is =
+    ap (option_and_then (spelled_so (guid_text guid))) (guid_back guid is) ∙ rw (guid_tested guid is, itself (guid_text guid)) refl
+
+pub guid_word_is : (word : List ℕ) (guid : Guid) → guid_word word ≡ Some guid → IsGuid guid × (word ≡ guid_text guid)
+unfolding guid_word
+guid_word_is word guid e =
+    let b = bind_some (guid_of_text word) (spelled_so word) guid e in
+    let made : Guid = record { 0 = b.0 } in
+    let p = passed (is_guid b.0 && bytes_eq (guid_text made) word) made guid b.2 in
+    let tests = and_parts (is_guid b.0) (bytes_eq (guid_text made) word) p.0 in
+    let parts = and_parts (eqb (length b.0) 16) (list_all (λ byte. nat_lt byte 256) b.0) tests.0 in
+    subst (λ (g : Guid). IsGuid g × (word ≡ guid_text g)) p.1 ((eqb-true (length b.0) 16 parts.0, bytes_from b.0 parts.1), sym ((same (guid_text made) word).0 tests.1))
+
+-- what the code finds is the GUID of the word
+pub word_found : (word : List ℕ) (guid : Guid) → IsGuid guid → Some guid.0 ≡ guid_of_text word → bytes_eq (guid_text guid) word ≡ true → Some guid ≡ guid_word word
+unfolding guid_word
+word_found word guid is read test = sym (ap (option_and_then (spelled_so word)) (sym read) ∙ rw (guid_tested guid is, test) refl)
+
+pub word_not_found : (word : List ℕ) (guid : Guid) → IsGuid guid → Some guid.0 ≡ guid_of_text word → bytes_eq (guid_text guid) word ≡ false → None ≡ guid_word word
+unfolding guid_word
+word_not_found word guid is read test = sym (ap (option_and_then (spelled_so word)) (sym read) ∙ rw (guid_tested guid is, test) refl)
+
+pub no_word : (word : List ℕ) → None ≡ guid_of_text word → None ≡ guid_word word
+unfolding guid_word
+no_word word read = ap (option_and_then (spelled_so word)) read
+
+past : {A : Type 0} (test : Bool) (o : Option A) (y : A) → (if test then None else o) ≡ Some y → o ≡ Some y
+past true o y e = absurd cc
+past false o y e = e
+
+pub mapped : {A B : Type 0} (f : A → B) (o : Option A) (y : B) → option_map f o ≡ Some y → (x : A) × (o ≡ Some x) × (f x ≡ y)
+mapped f None y e = absurd cc
+mapped f (Some x) y e = (x, refl, same_Some (f x) y e)
+
+pub guid_front_is : (text : List ℕ) (x : Guid × List ℕ) → guid_front text ≡ Some x → IsGuid x.0 × (text ≡ guid_text x.0 ++ x.1)
+unfolding guid_front
+guid_front_is text x e =
+    let m = mapped (λ guid. (guid, drop 36 text)) (guid_word (take 36 text)) x (past (nat_lt (length text) 36) _ x e) in
+    let w = guid_word_is (take 36 text) m.0 m.1 in
+    subst (λ (x : Guid × List ℕ). IsGuid x.0 × (text ≡ guid_text x.0 ++ x.1)) m.2 (w.0, sym (take-append-drop 36 text) ∙ ap (λ t. t ++ drop 36 text) w.1)
+
+pub guid_front_there : (guid : Guid) (rest : List ℕ) → IsGuid guid → guid_front (guid_text guid ++ rest) ≡ Some (guid, rest)
+unfolding guid_front
+guid_front_there guid rest is =
+    let long : nat_lt (length (guid_text guid ++ rest)) 36 ≡ false = let n = length-append (guid_text guid) rest in let m = guid_long guid in grind (arith, nat_tests) in
+    rw (long, take_at (guid_text guid) rest 36 (guid_long guid), drop_at (guid_text guid) rest 36 (guid_long guid), guid_word_there guid is) refl

@@ -1,0 +1,13 @@
+mod Expressions
+mod Frames
+mod Fronts
+mod Guids
+mod LineFeeds
+mod OneText
+mod Paths
+mod Printed
+mod Stacks
+mod Tokens
+mod TreeEnds
+mod TreePaths
+mod WorkedRows

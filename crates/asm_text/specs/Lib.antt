@@ -1,0 +1,12 @@
+pub mod ActionText
+pub mod BadLine
+pub mod ExpressionText
+pub mod Front
+pub mod Numerals
+pub mod Operands
+pub mod ReadDepex
+pub mod ReadScript
+pub mod ReadTree
+pub mod ScriptText
+pub mod Texts
+pub mod Walk

@@ -1,0 +1,15 @@
+-- The words of operands (own).
+use Rattle.std.specs.Prelude.{ℕ, List, decimal}
+use Rattle.hex.specs.Hex.{encode_lower}
+use Rattle.asm_text.specs.declared.operand.Operand.{Operand}
+use Rattle.asm_text.specs.declared.operand.Operand.TheVariants.{Register, Decimal, Hexadecimal, Guid, Status, Bytes, Text}
+use Rattle.asm_text.specs.Numerals.{hexadecimal, guid_text, register, status_text}
+
+abbrev pub word_of : Operand → List ℕ
+word_of (Register r) = register r
+word_of (Decimal n) = decimal n
+word_of (Hexadecimal n) = hexadecimal n
+word_of (Guid guid) = guid_text guid.now
+word_of (Status status) = status_text status
+word_of (Bytes bytes) = encode_lower bytes.now
+word_of (Text text) = text.now

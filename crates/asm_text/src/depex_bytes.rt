@@ -1,0 +1,123 @@
+// The one spelling of an expression.
+ghost use Rattle.std.specs.Prelude.{◌≡◌, ◌<◌, ◌≤◌, ◌++◌, ◌∷◌, [], length, map, OnOk, IfOk, IfErr};
+ghost use Rattle.depex_code.specs.declared.depex.Depex.TheVariants as depex;
+ghost use Rattle.depex_code.specs.declared.instruction.Instruction.TheVariants as instruction;
+ghost use Rattle.depex_code.specs.Expression.{bytes_of, instructions, sor_front};
+ghost use Rattle.depex_code.specs.Instruction.{instruction_bytes};
+ghost use Rattle.act_code.specs.declared.fault.WriteFault.TheVariants as write_fault;
+
+use act_code::WriteFault;
+use depex_code::{Depex, MOST_OPCODES, Opcode, Tree};
+use pi_base::{Guid, OutOfMemory, Seq};
+use std::alloc::Global;
+
+const BEFORE: u8 = 0x00;
+
+const AFTER: u8 = 0x01;
+
+const PUSH: u8 = 0x02;
+
+const AND: u8 = 0x03;
+
+const OR: u8 = 0x04;
+
+const NOT: u8 = 0x05;
+
+const TRUE: u8 = 0x06;
+
+const FALSE: u8 = 0x07;
+
+const END: u8 = 0x08;
+
+const SOR: u8 = 0x09;
+
+// Adds an opcode that has a GUID.
+fn put_guid(out: &mut Seq<u8>, code: u8, guid: &Guid) -> Result<(), OutOfMemory>
+    ensures { OnOk result (out.new ≡ out.old ++ code ∷ guid.now.0) }
+{
+    out.push(code)?;
+    out.append(&guid.0)
+}
+
+// Adds an opcode of a tree.
+fn put_opcode(out: &mut Seq<u8>, opcode: &Opcode) -> Result<(), OutOfMemory>
+    ensures { OnOk result (out.new ≡ out.old ++ instruction_bytes (instruction.Of opcode.now)) }
+{
+    match opcode {
+        Opcode::Push(guid) => put_guid(out, PUSH, guid),
+        Opcode::And => out.push(AND),
+        Opcode::Or => out.push(OR),
+        Opcode::Not => out.push(NOT),
+        Opcode::True => out.push(TRUE),
+        Opcode::False => out.push(FALSE),
+    }
+}
+
+// Adds the opcodes of a tree.
+fn put_code(out: &mut Seq<u8>, code: &[Opcode]) -> Result<(), OutOfMemory>
+    ensures { OnOk result (out.new ≡ out.old ++ bytes_of (map instruction.Of code.now)) }
+{
+    for opcode in code {
+        put_opcode(out, opcode)?;
+    }
+    Ok(())
+}
+
+/// How many opcodes an expression has, SOR and END among them.
+pub(crate) fn opcodes(depex: &Depex) -> usize
+    ensures { result ≡ length (instructions depex.now) }
+{
+    match depex {
+        Depex::Before(_) | Depex::After(_) => 2,
+        Depex::Expr { sor, tree } => usize::from(*sor) + tree.code().len() + 1,
+    }
+}
+
+// SOR in front of a tree.
+fn sor_front(sor: bool) -> &'static [u8]
+    ensures { result.now ≡ bytes_of (sor_front sor) }
+{
+    if sor { &[SOR] } else { &[] }
+}
+
+// Adds a tree, with SOR in front or not.
+fn put_tree(out: &mut Seq<u8>, sor: bool, tree: &Tree) -> Result<(), OutOfMemory>
+    ensures { OnOk result (out.new ≡ out.old ++ bytes_of (instructions (depex.Expr sor tree.now))) }
+{
+    out.append(sor_front(sor))?;
+    put_code(out, tree.code())?;
+    out.push(END)
+}
+
+// Adds the name of a driver that stands beside another.
+fn put_beside(out: &mut Seq<u8>, code: u8, guid: &Guid) -> Result<(), OutOfMemory>
+    ensures { OnOk result (out.new ≡ out.old ++ ((code ∷ guid.now.0) ++ 8 ∷ [])) }
+{
+    put_guid(out, code, guid)?;
+    out.push(END)
+}
+
+// Adds the opcodes of an expression.
+fn put_depex(out: &mut Seq<u8>, depex: &Depex) -> Result<(), OutOfMemory>
+    ensures { OnOk result (out.new ≡ out.old ++ bytes_of (instructions depex.now)) }
+{
+    match depex {
+        Depex::Before(guid) => put_beside(out, BEFORE, guid),
+        Depex::After(guid) => put_beside(out, AFTER, guid),
+        Depex::Expr { sor, tree } => put_tree(out, *sor, tree),
+    }
+}
+
+/// The one spelling of an expression, which `read_depex` reads as the expression again. TooLong exactly where it has more than 1,024 opcodes, SOR and END among them.
+pub fn write_depex(alloc: Global, depex: &Depex) -> Result<Seq<u8>, WriteFault>
+    ensures written { IfOk result (λ bytes. bytes ≡ bytes_of (instructions depex.now)) }
+    ensures few { IfOk result (λ bytes. length (instructions depex.now) ≤ 1024) }
+    ensures too_long { IfErr result (λ fault. fault ≡ write_fault.TooLong → 1024 < length (instructions depex.now)) }
+{
+    if opcodes(depex) > MOST_OPCODES {
+        return Err(WriteFault::TooLong);
+    }
+    let mut out = Seq::new(alloc);
+    put_depex(&mut out, depex)?;
+    Ok(out)
+}

@@ -1,0 +1,315 @@
+// The worked rows, each action's text both ways, and each refusal once.
+use super::*;
+use act_code::{read_script, write_script};
+use depex_code::read_depex;
+use pi_base::{Phase, Seq};
+use std::alloc::Global;
+use std::test::*;
+
+// Adds bytes.
+fn put(out: &mut Seq<u8>, bytes: &[u8]) -> Result<(), Fail> {
+    if out.append(bytes).is_err() {
+        return Err(Fail::new("ample memory"));
+    }
+    Ok(())
+}
+
+/// Expressions as text, and their bytes.
+const EXPRESSIONS: [(&[u8], &[u8]); 6] = [
+    (b"sor true\n", &[9, 6, 8]),
+    (b"(true or not false)\n", &[6, 7, 5, 4, 8]),
+    (b"((true and false) and true)\n", &[6, 7, 3, 6, 3, 8]),
+    (
+        b"(03020100-0504-0706-0809-0a0b0c0d0e0f and not 13121110-1514-1716-1819-1a1b1c1d1e1f)\n",
+        &[
+            2, 0, 1, 2, 3, 4, 5, 6, 7, 8, 9, 10, 11, 12, 13, 14, 15, 2, 16, 17, 18, 19, 20, 21, 22,
+            23, 24, 25, 26, 27, 28, 29, 30, 31, 5, 3, 8,
+        ],
+    ),
+    (
+        b"before 03020100-0504-0706-0809-0a0b0c0d0e0f\n",
+        &[0, 0, 1, 2, 3, 4, 5, 6, 7, 8, 9, 10, 11, 12, 13, 14, 15, 8],
+    ),
+    (
+        b"after 03020100-0504-0706-0809-0a0b0c0d0e0f\n",
+        &[1, 0, 1, 2, 3, 4, 5, 6, 7, 8, 9, 10, 11, 12, 13, 14, 15, 8],
+    ),
+];
+
+#[test]
+fn expressions_both_ways(rt: HostRuntime) {
+    for (text, bytes) in &EXPRESSIONS {
+        let Ok(depex) = parse_depex(rt.alloc(), text) else {
+            panic!(rt; "not read");
+        };
+        let Ok(written) = write_depex(rt.alloc(), &depex) else {
+            panic!(rt; "not written");
+        };
+        assert_eq!(rt; written.as_slice(), *bytes);
+        let Ok(read) = read_depex(rt.alloc(), bytes, Phase::Dxe) else {
+            panic!(rt; "not read from bytes");
+        };
+        let Ok(printed) = print_depex(rt.alloc(), &read) else {
+            panic!(rt; "not printed");
+        };
+        assert_eq!(rt; printed.as_slice(), *text);
+    }
+}
+
+/// Texts of no expression, and the line with which they go wrong.
+const NO_EXPRESSIONS: [(&[u8], u32); 12] = [
+    (b"", 1),
+    (b"true", 1),
+    (b"true\ntrue\n", 2),
+    (b"true\n\n", 2),
+    (b"TRUE\n", 1),
+    (b"not  true\n", 1),
+    (b"true \n", 1),
+    (b"(true and false\n", 1),
+    (b"true and false\n", 1),
+    (b"sor sor true\n", 1),
+    (b"03020100-0504-0706-0809-0A0B0C0D0E0F\n", 1),
+    (b"before true\n", 1),
+];
+
+#[test]
+fn no_expressions(rt: HostRuntime) {
+    for (text, line) in &NO_EXPRESSIONS {
+        match parse_depex(rt.alloc(), text) {
+            Ok(_) => panic!(rt; "read"),
+            Err(fault) => assert_eq!(rt; fault, TextFault::Bad { line: *line }),
+        }
+    }
+}
+
+// So many `not`, and `true`.
+fn negated(alloc: Global, count: usize) -> Result<Seq<u8>, Fail> {
+    let mut text = Seq::new(alloc);
+    for _ in 0..count {
+        put(&mut text, b"not ")?;
+    }
+    put(&mut text, b"true\n")?;
+    Ok(text)
+}
+
+#[test]
+fn longest_expression(rt: HostRuntime) -> Result<(), Fail> {
+    let longest = negated(rt.alloc(), 1022)?;
+    assert!(rt; parse_depex(rt.alloc(), longest.as_slice()).is_ok());
+    let longer = negated(rt.alloc(), 1023)?;
+    match parse_depex(rt.alloc(), longer.as_slice()) {
+        Ok(_) => panic!(rt; "read"),
+        Err(fault) => assert_eq!(rt; fault, TextFault::TooLong),
+    }
+    Ok(())
+}
+
+/// Actions as text, and their bytes.
+const ACTIONS: [(Phase, &[u8], &[u8]); 29] = [
+    (Phase::Pei, b"set r1 0x10", &[1, 1, 16, 0, 0, 0, 0, 0, 0, 0]),
+    (
+        Phase::Dxe,
+        b"add r15 0xffffffffffffffff",
+        &[2, 15, 255, 255, 255, 255, 255, 255, 255, 255],
+    ),
+    (Phase::Pei, b"pool r2 0x18", &[3, 2, 24, 0, 0, 0]),
+    (
+        Phase::Pei,
+        b"store r2 0x0 0aff",
+        &[4, 2, 0, 0, 0, 0, 2, 10, 255],
+    ),
+    (Phase::Pei, b"addr r3 r2 0x4", &[6, 3, 2, 4, 0, 0, 0]),
+    (Phase::Dxe, b"peek r3 64", &[7, 3, 64]),
+    (
+        Phase::Pei,
+        b"desc r4 ppi 03020100-0504-0706-0809-0a0b0c0d0e0f r3",
+        &[
+            8, 4, 0, 0, 0, 1, 2, 3, 4, 5, 6, 7, 8, 9, 10, 11, 12, 13, 14, 15, 3,
+        ],
+    ),
+    (
+        Phase::Pei,
+        b"desc r4 callback at r5 block 1",
+        &[8, 4, 1, 1, 5, 1],
+    ),
+    (
+        Phase::Pei,
+        b"desc r4 dispatch 03020100-0504-0706-0809-0a0b0c0d0e0f block 1",
+        &[
+            8, 4, 2, 0, 0, 1, 2, 3, 4, 5, 6, 7, 8, 9, 10, 11, 12, 13, 14, 15, 1,
+        ],
+    ),
+    (Phase::Pei, b"install r4 r5", &[9, 2, 4, 5]),
+    (Phase::Pei, b"reinstall r4 r5", &[10, 4, 5]),
+    (Phase::Pei, b"notify r4", &[11, 1, 4]),
+    (
+        Phase::Pei,
+        b"locate r6 r7 03020100-0504-0706-0809-0a0b0c0d0e0f 300",
+        &[
+            12, 6, 7, 0, 1, 2, 3, 4, 5, 6, 7, 8, 9, 10, 11, 12, 13, 14, 15, 44, 1,
+        ],
+    ),
+    (
+        Phase::Pei,
+        b"hob 6 0102030405060708",
+        &[13, 6, 8, 0, 1, 2, 3, 4, 5, 6, 7, 8],
+    ),
+    (Phase::Pei, b"memory r8 r9", &[14, 8, 9]),
+    (Phase::Pei, b"pages r1 4 0x2", &[15, 1, 4, 2, 0, 0, 0]),
+    (Phase::Pei, b"boot_mode set r1", &[16, 1, 1]),
+    (Phase::Dxe, b"log a b", &[17, 3, 97, 32, 98]),
+    (Phase::Dxe, b"skip_if 1 1", &[18, 1, 1]),
+    (Phase::Pei, b"ret NotFound", &[19, 2]),
+    (Phase::Pei, b"shadow", &[20]),
+    (
+        Phase::Dxe,
+        b"install new r1 03020100-0504-0706-0809-0a0b0c0d0e0f r2",
+        &[
+            32, 0, 1, 0, 1, 2, 3, 4, 5, 6, 7, 8, 9, 10, 11, 12, 13, 14, 15, 2,
+        ],
+    ),
+    (
+        Phase::Dxe,
+        b"reinstall r1 03020100-0504-0706-0809-0a0b0c0d0e0f r2 r3",
+        &[
+            33, 1, 0, 1, 2, 3, 4, 5, 6, 7, 8, 9, 10, 11, 12, 13, 14, 15, 2, 3,
+        ],
+    ),
+    (
+        Phase::Dxe,
+        b"uninstall r1 03020100-0504-0706-0809-0a0b0c0d0e0f r2",
+        &[
+            34, 1, 0, 1, 2, 3, 4, 5, 6, 7, 8, 9, 10, 11, 12, 13, 14, 15, 2,
+        ],
+    ),
+    (
+        Phase::Dxe,
+        b"locate r1 r2 03020100-0504-0706-0809-0a0b0c0d0e0f",
+        &[
+            35, 1, 2, 0, 1, 2, 3, 4, 5, 6, 7, 8, 9, 10, 11, 12, 13, 14, 15,
+        ],
+    ),
+    (
+        Phase::Dxe,
+        b"notify 03020100-0504-0706-0809-0a0b0c0d0e0f block 1",
+        &[36, 0, 1, 2, 3, 4, 5, 6, 7, 8, 9, 10, 11, 12, 13, 14, 15, 1],
+    ),
+    (
+        Phase::Dxe,
+        b"schedule 03020100-0504-0706-0809-0a0b0c0d0e0f",
+        &[37, 0, 1, 2, 3, 4, 5, 6, 7, 8, 9, 10, 11, 12, 13, 14, 15],
+    ),
+    (Phase::Dxe, b"process r1", &[38, 1]),
+    (Phase::Dxe, b"dispatch", &[39]),
+];
+
+// The bytes of the script whose text this is.
+fn assembled(alloc: Global, text: &[u8]) -> Result<Seq<u8>, TextFault> {
+    let script = parse_script(alloc, text)?;
+    match write_script(alloc, &script) {
+        Ok(bytes) => Ok(bytes),
+        Err(_) => Err(TextFault::Memory),
+    }
+}
+
+// The script of an action, two rets behind it, and another block.
+fn text_with(alloc: Global, phase: Phase, line: &[u8]) -> Result<Seq<u8>, Fail> {
+    let mut text = Seq::new(alloc);
+    match phase {
+        Phase::Pei => put(&mut text, b"phase pei\n")?,
+        Phase::Dxe => put(&mut text, b"phase dxe\n")?,
+    }
+    put(&mut text, b"block\n")?;
+    put(&mut text, line)?;
+    put(
+        &mut text,
+        b"\nret Success\nret Success\nblock\nret Success\n",
+    )?;
+    Ok(text)
+}
+
+// Its bytes.
+fn bytes_with(alloc: Global, phase: Phase, action: &[u8]) -> Result<Seq<u8>, Fail> {
+    let mut bytes = Seq::new(alloc);
+    match phase {
+        Phase::Pei => put(&mut bytes, &[0x50, 0x49, 0x41, 0x53, 1, 1, 2, 0, 3, 0])?,
+        Phase::Dxe => put(&mut bytes, &[0x50, 0x49, 0x41, 0x53, 1, 2, 2, 0, 3, 0])?,
+    }
+    put(&mut bytes, action)?;
+    put(&mut bytes, &[19, 0, 19, 0, 1, 0, 19, 0])?;
+    Ok(bytes)
+}
+
+#[test]
+fn actions_both_ways(rt: HostRuntime) -> Result<(), Fail> {
+    for (phase, line, action) in &ACTIONS {
+        let text = text_with(rt.alloc(), *phase, line)?;
+        let bytes = bytes_with(rt.alloc(), *phase, action)?;
+        let Ok(written) = assembled(rt.alloc(), text.as_slice()) else {
+            panic!(rt; "not read");
+        };
+        assert_eq!(rt; written.as_slice(), bytes.as_slice());
+        let Ok(read) = read_script(rt.alloc(), bytes.as_slice()) else {
+            panic!(rt; "not read from bytes");
+        };
+        let Ok(printed) = print_script(rt.alloc(), &read) else {
+            panic!(rt; "not printed");
+        };
+        assert_eq!(rt; printed.as_slice(), text.as_slice());
+    }
+    Ok(())
+}
+
+#[test]
+fn smallest_script(rt: HostRuntime) {
+    let Ok(bytes) = assembled(rt.alloc(), b"phase pei\nblock\nlog a\nret Success\n") else {
+        panic!(rt; "not read");
+    };
+    assert_eq!(rt;
+        bytes.as_slice(),
+        [
+            0x50, 0x49, 0x41, 0x53, 1, 1, 1, 0, 2, 0, 0x11, 1, 0x61, 0x13, 0
+        ]
+        .as_slice()
+    );
+}
+
+/// Texts of no script, and the line with which they go wrong.
+const NO_SCRIPTS: [(&[u8], u32); 20] = [
+    (b"", 1),
+    (b"phase mm\n", 1),
+    (b"phase pei\n", 2),
+    (b"phase pei\nlog a\n", 2),
+    (b"phase pei\nblock\nblock\n", 3),
+    (b"phase pei\nblock\nlog a\n", 4),
+    (b"phase pei\nblock\nret Success", 3),
+    (b"phase pei\nblock\nret  Success\n", 3),
+    (b"phase pei\nblock\nret Success\n\n", 4),
+    (b"phase dxe\nblock\npool r1 0x1\nret Success\n", 3),
+    (b"phase pei\nblock\nset r1 0X1\nret Success\n", 3),
+    (b"phase pei\nblock\nset r1 0x01\nret Success\n", 3),
+    (b"phase pei\nblock\nset r16 0x1\nret Success\n", 3),
+    (b"phase pei\nblock\npool r1 0x100000000\nret Success\n", 3),
+    (b"phase pei\nblock\nstore r1 0x0 0A\nret Success\n", 3),
+    (b"phase pei\nblock\nskip_if 0 1\nret Success\n", 5),
+    (b"phase pei\nblock\nskip_if 0 1\nret Success\nblock\n", 5),
+    (b"phase pei\nblock\nhob 6 01\nret Success\n", 3),
+    (
+        b"phase dxe\nblock\nnotify 03020100-0504-0706-0809-0a0b0c0d0e0f block 1\nret Success\n",
+        5,
+    ),
+    (
+        b"phase dxe\nblock\nnotify 03020100-0504-0706-0809-0a0b0c0d0e0f block 64\nret Success\n",
+        3,
+    ),
+];
+
+#[test]
+fn no_scripts(rt: HostRuntime) {
+    for (text, line) in &NO_SCRIPTS {
+        match parse_script(rt.alloc(), text) {
+            Ok(_) => panic!(rt; "read"),
+            Err(fault) => assert_eq!(rt; fault, TextFault::Bad { line: *line }),
+        }
+    }
+}
