@@ -1,9 +1,9 @@
 // What a person is told of an exit status.
 use boot_core::Status;
 
-// The forms of a command line.
+// The version, and the forms of a command line.
 const USAGE: &str =
-    "usage: piboot boot PLAN | piboot audit PLAN | piboot generate N, with N from 1 to 4096";
+    "version 0.1; usage: piboot boot PLAN | piboot audit PLAN | piboot generate N, with N from 1 to 4096";
 
 /// A line on an exit status: what happened, and where to read on. None of Done.
 pub(crate) fn meaning_of(status: Status) -> Option<&'static str> {
