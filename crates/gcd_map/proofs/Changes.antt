@@ -1,8 +1,8 @@
 -- Lists of ranges that grow, with a change.
-use Rattle.std.proofs.Common.{◌≡◌, inl, inr, ℕ, ◌+◌, ◌-◌, ◌<◌, ◌≤◌, List, [], ◌∷◌, ◌++◌, length, take, drop, refl, sym, ap, ◌∙◌, subst, arith, min, max}
+use Rattle.std.proofs.Common.{◌≡◌, ◌≢◌, ◌⊎◌, inl, inr, ℕ, zero, suc, ◌+◌, ◌-◌, ◌<◌, ◌≤◌, Bool, true, false, List, [], ◌∷◌, ◌++◌, length, take, drop, refl, sym, ap, ◌∙◌, subst, arith, min, max}
 use Rattle.std.specs.Prelude.{Result, Ok, Err, OnOk}
 use Rattle.std.proofs.lemmas.Bool.Decides.{nat_tests}
-use Rattle.std.proofs.lemmas.List.{take-append-drop}
+use Rattle.std.proofs.lemmas.List.{take-append-drop, append-nil}
 use Rattle.gcd_map.specs.declared.state.SpaceState.{SpaceState}
 use Rattle.gcd_map.specs.declared.state.Effect.{Effect}
 use Rattle.gcd_map.specs.declared.range.GcdRange.{GcdRange}
@@ -11,7 +11,7 @@ use Rattle.gcd_map.specs.Stretch.{AllIn}
 use Rattle.gcd_map.specs.Ranges.{Cover, Differ, BeginsOther, state_of}
 use Rattle.gcd_map.specs.Growing.{EndsOther, EndsWith, Opens, Extends, ExtendsBy, ExtendsByAll, after}
 use Rattle.gcd_map.specs.Tests.{base_at}
-use Rattle.gcd_map.proofs.Covers.{below_or, cover_append, Split, cover_split, cover_same, cover_more, base_here}
+use Rattle.gcd_map.proofs.Covers.{below_or, cover_append, Split, cover_split, cover_order, cover_same, cover_more, base_here}
 use Rattle.gcd_map.proofs.Neighbours.{differ_more, differ_last, differ_append, differ_front, differ_back}
 
 pub on_ok : {A E : Type 0} (r : Result A E) (P Q : Type 0) → (P → Q) → OnOk r P → OnOk r Q

@@ -5,3 +5,5 @@ pub mod Stretches
 pub mod Highest
 pub mod Tops
 pub mod Unique
+pub mod Following
+pub mod Walking

@@ -1,5 +1,5 @@
 -- Neighbours that differ.
-use Rattle.std.proofs.Common.{◌≡◌, List, [], ◌∷◌, ◌++◌, refl, sym, ap, ◌∙◌, subst}
+use Rattle.std.proofs.Common.{◌≡◌, ◌≢◌, ℕ, List, [], ◌∷◌, ◌++◌, refl, sym, ap, ◌∙◌, subst}
 use Rattle.gcd_map.specs.declared.state.SpaceState.{SpaceState}
 use Rattle.gcd_map.specs.declared.range.GcdRange.{GcdRange}
 use Rattle.gcd_map.specs.Ranges.{state_of, BeginsOther, Differ}

@@ -1,5 +1,5 @@
 -- What tests of ranges tell of the addresses of a stretch.
-use Rattle.std.proofs.Common.{inl, inr, ℕ, zero, suc, ◌+◌, ◌<◌, ◌≤◌, ◌^◌, Bool, true, false, MatchBool, List, [], ◌∷◌, length, drop, get_or, sym, subst, arith}
+use Rattle.std.proofs.Common.{◌≡◌, ◌⊎◌, inl, inr, ℕ, zero, suc, ◌+◌, ◌<◌, ◌≤◌, ◌^◌, Bool, true, false, MatchBool, List, [], ◌∷◌, length, drop, get_or, refl, sym, ap, ◌∙◌, subst, arith}
 use Rattle.pi_base.specs.Lists.{Each}
 use Rattle.gcd_map.specs.declared.state.SpaceState.{SpaceState}
 use Rattle.gcd_map.specs.declared.need.Need.{Need}

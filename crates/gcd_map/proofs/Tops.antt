@@ -1,9 +1,10 @@
 -- The base that `top` finds.
-use Rattle.std.proofs.Common.{◌≡◌, ℕ, ◌^◌, ◌<◌, List, Option, subst}
+use Rattle.std.proofs.Common.{◌≡◌, ℕ, ◌+◌, ◌^◌, ◌<◌, ◌≤◌, List, Some, None, Option, sym, subst, arith}
 use Rattle.gcd_map.specs.declared.state.GcdKind.{GcdKind}
 use Rattle.gcd_map.specs.declared.range.GcdRange.{GcdRange}
 use Rattle.gcd_map.specs.declared.map.GcdMap.{GcdMap}
 use Rattle.gcd_map.specs.AddressSpace.{MemorySpace, state_at, free_of}
+use Rattle.gcd_map.specs.Commands.{HasRoom}
 use Rattle.gcd_map.specs.SpaceMap.{Shows}
 use Rattle.gcd_map.specs.Tests.{IsHighest}
 use Rattle.gcd_map.proofs.Highest.{IsTop, is_top}

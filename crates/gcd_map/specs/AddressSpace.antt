@@ -1,5 +1,5 @@
 -- The memory space as the state of each of its addresses: that which the last change that holds the address gives it. PI 1.8, volume 2, "Global Coherency Domain Services".
-use Rattle.std.specs.Prelude.{ℕ, ◌+◌, ◌&&◌, nat_le, nat_lt, if◌then◌else◌, true, false, List, [], ◌∷◌, ◌++◌, fold}
+use Rattle.std.specs.Prelude.{ℕ, ◌+◌, ◌&&◌, nat_le, nat_lt, if◌then◌else◌, Bool, true, false, List, [], ◌∷◌, ◌++◌, fold}
 use Rattle.gcd_map.specs.declared.state.GcdKind.{GcdKind}
 use Rattle.gcd_map.specs.declared.state.GcdKind.TheVariants.{NonExistent}
 use Rattle.gcd_map.specs.declared.state.SpaceState.{SpaceState}
@@ -40,6 +40,10 @@ state_after changes = fold changed untouched changes
 pub record MemorySpace : Type 0 where
   pub limit : ℕ
   pub changes : List Change
+
+-- nothing is there
+abbrev pub empty_space : ℕ → MemorySpace
+empty_space limit = record { limit = limit; changes = [] }
 
 abbrev pub state_at : MemorySpace → ℕ → SpaceState
 state_at space = state_after space.changes

@@ -5,7 +5,7 @@ use Rattle.gcd_map.specs.declared.state.Effect.{Effect}
 use Rattle.gcd_map.specs.declared.range.GcdRange.{GcdRange}
 use Rattle.gcd_map.specs.AddressSpace.{changed}
 use Rattle.gcd_map.specs.Stretch.{AllIn}
-use Rattle.gcd_map.specs.Ranges.{state_of, Cover, Differ}
+use Rattle.gcd_map.specs.Ranges.{state_of, Cover, BeginsOther, Differ}
 
 -- the last range, if there is one, has another state
 abbrev pub EndsOther : List GcdRange → SpaceState → Type 0

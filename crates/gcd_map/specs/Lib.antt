@@ -6,3 +6,6 @@ pub mod SpaceMap
 pub mod Tests
 pub mod Growing
 pub mod OneMap
+pub mod HobMap
+pub mod HobFaults
+pub mod Places

@@ -1,5 +1,5 @@
 -- A list of ranges that shows the states of a space's addresses: in order of base, none empty, without a gap, and no two neighbours of one state.
-use Rattle.std.specs.Prelude.{◌≡◌, ◌≢◌, ℕ, ◌+◌, ◌^◌, ◌<◌, List, [], ◌∷◌}
+use Rattle.std.specs.Prelude.{◌≡◌, ◌≢◌, ℕ, ◌+◌, ◌^◌, ◌<◌, ◌≤◌, List, [], ◌∷◌}
 use Rattle.gcd_map.specs.declared.state.SpaceState.{SpaceState}
 use Rattle.gcd_map.specs.declared.range.GcdRange.{GcdRange}
 use Rattle.gcd_map.specs.Stretch.{AllIn}

@@ -1,5 +1,5 @@
 -- The memory space map of a memory space: the one list of ranges from 0 to the limit that shows its states.
-use Rattle.std.specs.Prelude.{◌≡◌, ◌^◌, ◌<◌, ◌≤◌, List}
+use Rattle.std.specs.Prelude.{◌≡◌, ℕ, ◌^◌, ◌<◌, ◌≤◌, List}
 use Rattle.gcd_map.specs.declared.range.GcdRange.{GcdRange}
 use Rattle.gcd_map.specs.declared.map.GcdMap.{GcdMap}
 use Rattle.gcd_map.specs.AddressSpace.{MemorySpace, state_at}

@@ -4,6 +4,8 @@
 
 mod change;
 mod fault;
+mod hob;
+mod hobs;
 mod map;
 mod need;
 mod range;
@@ -12,7 +14,8 @@ mod state;
 mod word;
 
 pub use fault::{GcdCause, GcdFault};
-pub use map::{GcdMap, MOST_ALIGN, one_map};
+pub use hobs::{MOST_BYTES, from_hobs};
+pub use map::{GcdMap, LEAST_BITS, MOST_ALIGN, MOST_BITS, one_map};
 pub use range::GcdRange;
 pub use state::{GcdKind, SpaceState};
 pub use word::GcdWord;

@@ -1,7 +1,7 @@
 // The memory space map.
 ghost use Rattle.std.specs.Prelude.{◌≡◌, ◌<◌, ◌≤◌, ◌+◌, ◌^◌, ℕ, IfOk, SomeIff, MatchBool, MatchResult};
 ghost use Rattle.gcd_map.specs.declared.word.GcdWord.TheVariants.{Memory};
-ghost use Rattle.gcd_map.specs.AddressSpace.{MemorySpace, state_at, with_change};
+ghost use Rattle.gcd_map.specs.AddressSpace.{MemorySpace, empty_space, state_at, with_change};
 ghost use Rattle.gcd_map.specs.Stretch.{AllIn, SomeIn};
 ghost use Rattle.gcd_map.specs.Tests.{Meets, Misses};
 ghost use Rattle.gcd_map.specs.Commands.{AddRow, AllocateRow, TopRow, FreeRow, RemoveRow};
@@ -14,10 +14,17 @@ use crate::range::GcdRange;
 use crate::search::{all_meet, highest};
 use crate::state::{Effect, GcdKind, SpaceState};
 use crate::word::GcdWord;
-use pi_base::Seq;
+use pi_base::{OutOfMemory, Seq};
+use std::alloc::Global;
 
 /// The greatest alignment that `top` takes, as a power of 2.
 pub const MOST_ALIGN: u8 = 52;
+
+/// The fewest bits of an address.
+pub const LEAST_BITS: u8 = 12;
+
+/// The most bits of an address.
+pub const MOST_BITS: u8 = 52;
 
 /// The memory space map.
 #[derive(Drop)]
@@ -28,6 +35,22 @@ pub struct GcdMap {
 }
 
 impl GcdMap {
+    // The map of a space with addresses of so many bits, in which nothing is.
+    pub(crate) fn empty(alloc: Global, bits: u8) -> Result<GcdMap, OutOfMemory>
+        requires { bits ≤ MOST_BITS }
+        ensures { IfOk result (λ map. Shows map (empty_space (2 ^ bits))) }
+    {
+        let limit = unit_of(bits);
+        let mut ranges = Seq::new(alloc);
+        ranges.push(GcdRange {
+            base: 0,
+            len: limit,
+            kind: GcdKind::NonExistent,
+            allocated: false,
+        })?;
+        Ok(GcdMap { limit, ranges })
+    }
+
     // The address behind a stretch that lies in the memory space.
     fn end_of(&self, base: u64, len: u64) -> Option<u64>
         ensures { SomeIff result (base + len ≤ self.now.limit) (base + len) }
@@ -197,6 +220,7 @@ fn unit_of(align: u8) -> u64
     requires { align ≤ MOST_ALIGN }
     ensures power { result ≡ 2 ^ align }
     ensures some { 0 < result }
+    ensures most { result ≤ 2 ^ MOST_ALIGN }
 {
     1 << align
 }

@@ -1,8 +1,9 @@
-use Rattle.std.proofs.Common.{◌≡◌, List, ◌++◌, take, drop, ap, ◌∙◌, subst}
+use Rattle.std.proofs.Common.{◌≡◌, ◌<◌, ◌^◌, ℕ, List, ◌++◌, take, drop, length, ap, sym, ◌∙◌, subst}
+use Rattle.pi_base.specs.Lists.{Each}
 use Rattle.gcd_map.specs.declared.range.GcdRange.{GcdRange}
 use Rattle.gcd_map.specs.Ranges.{DoesFit}
 use Rattle.gcd_map.specs.Growing.{ExtendsByAll}
-use Rattle.gcd_map.specs.Tests.{IsRangeOf}
+use Rattle.gcd_map.specs.Tests.{IsRangeOf, base_at}
 use Rattle.gcd_map.proofs.Covers.{begins_low}
 use Rattle.gcd_map.proofs.Stretches.{covers_fit, each_drop}
 use Rattle.gcd_map.proofs.Changes.{changed_covers}

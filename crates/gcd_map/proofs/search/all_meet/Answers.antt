@@ -1,4 +1,4 @@
-use Rattle.std.proofs.Common.{List, MatchBool, subst}
+use Rattle.std.proofs.Common.{◌≡◌, List, drop, MatchBool, ap, subst, ◌∙◌}
 use Rattle.gcd_map.specs.declared.range.GcdRange.{GcdRange}
 use Rattle.gcd_map.specs.Tests.{EachMeets, SomeMisses}
 use Rattle.gcd_map.proofs.Covers.{begins_low}

@@ -1,4 +1,4 @@
-use Rattle.std.proofs.Common.{◌≡◌, ℕ, suc, ◌-◌, drop, Some, None, subst, arith}
+use Rattle.std.proofs.Common.{◌≡◌, ℕ, suc, ◌-◌, ◌≤◌, length, drop, Some, None, subst, arith}
 use Rattle.gcd_map.specs.Tests.{IsHighest}
 use Rattle.gcd_map.proofs.Highest.{highest_front, one_before}
 use Rattle.gcd_map.proofs.search.highest.Goals as goal

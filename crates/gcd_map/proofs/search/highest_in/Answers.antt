@@ -1,4 +1,5 @@
-use Rattle.std.proofs.Common.{◌+◌, ◌-◌, arith, rules}
+use Rattle.std.proofs.Common.{◌≡◌, ◌+◌, ◌-◌, arith, rules}
+use Rattle.gcd_map.specs.Ranges.{state_of}
 use Rattle.gcd_map.proofs.Highest.{whole_units, most_units}
 use Rattle.gcd_map.proofs.search.highest_in.Goals as goal
 

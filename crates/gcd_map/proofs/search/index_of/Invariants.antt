@@ -1,4 +1,4 @@
-use Rattle.std.proofs.Common.{◌-◌, ◌<◌, ◌≤◌, length}
+use Rattle.std.proofs.Common.{ℕ, ◌-◌, ◌<◌, ◌≤◌, length}
 use Rattle.gcd_map.specs.Tests.{base_at}
 use Rattle.gcd_map.proofs.search.index_of.Given as goal
 

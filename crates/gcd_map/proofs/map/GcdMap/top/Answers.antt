@@ -1,4 +1,4 @@
-use Rattle.std.proofs.Common.{◌^◌, Some, None, refl, arith, rules}
+use Rattle.std.proofs.Common.{◌≡◌, ℕ, ◌+◌, ◌^◌, ◌<◌, ◌≤◌, List, Some, None, refl, arith, rules}
 use Rattle.gcd_map.specs.AddressSpace.{state_at, free_of, with_change, allocate_change}
 use Rattle.gcd_map.proofs.Highest.{IsTop}
 use Rattle.gcd_map.proofs.Tops.{tops}
