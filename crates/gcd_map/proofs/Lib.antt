@@ -1,9 +1,0 @@
-pub mod Covers
-pub mod Neighbours
-pub mod Changes
-pub mod Stretches
-pub mod Highest
-pub mod Tops
-pub mod Unique
-pub mod Following
-pub mod Walking

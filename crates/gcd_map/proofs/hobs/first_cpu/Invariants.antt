@@ -1,9 +1,0 @@
-use Rattle.std.proofs.Common.{◌≡◌, length}
-use Rattle.gcd_map.specs.HobMap.{first_cpu}
-use Rattle.gcd_map.proofs.hobs.first_cpu.Given as goal
-
-abbrev pub invariant-cpus : goal.invariant-cpus
-invariant-cpus l = first_cpu l.bytes l.rest ≡ first_cpu l.bytes l.places
-
-abbrev pub decreases-cpus : goal.decreases-cpus
-decreases-cpus l = length l.rest
