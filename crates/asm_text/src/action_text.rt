@@ -106,7 +106,8 @@ fn put_last(out: &mut Seq<u8>, kind: u8, arg: u8) -> Result<(), OutOfMemory>
 
 // Adds the operands of `desc`.
 fn put_desc(out: &mut Seq<u8>, d: u8, kind: u8, guid: &GuidArg, arg: u8) -> Result<(), OutOfMemory>
-    ensures { OnOk result (out.new ≡ out.old ++ flat_map spaced (register d ∷ kind_word kind ∷ (guid_words guid.now ++ last_words kind arg))) }
+    ensures { OnOk result
+        (out.new ≡ out.old ++ flat_map spaced (register d ∷ kind_word kind ∷ (guid_words guid.now ++ last_words kind arg))) }
 {
     put_descriptor(out, d, kind, guid)?;
     put_last(out, kind, arg)

@@ -38,7 +38,8 @@ fn after_line(word: &[u8]) -> Option<Depex>
 
 // A tree, behind `sor` or not.
 fn tree_line(alloc: Global, sor: bool, text: &[u8]) -> Result<Option<Depex>, OutOfMemory>
-    ensures { IfOk result (λ found. (tree : Option DepexTree) × Finds (IsTreeOf text.now) tree × (found ≡ option_map (depex.Expr sor) tree)) }
+    ensures { IfOk result
+        (λ found. (tree : Option DepexTree) × Finds (IsTreeOf text.now) tree × (found ≡ option_map (depex.Expr sor) tree)) }
 {
     match tree_of(alloc, text)? {
         Some(tree) => Ok(Some(Depex::Expr { sor, tree })),

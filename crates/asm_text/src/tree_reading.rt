@@ -20,7 +20,8 @@ fn begin<'a>(
     code: &mut Seq<Opcode>,
 ) -> Result<Option<(&'a [u8], bool)>, OutOfMemory>
     ensures goes { IfOk result (Goes (turned waiting.old code.old (token_at text.now)) waiting.new code.new) }
-    ensures less { IfOk result (λ next. IfSome next (λ x. length waiting.new + 2 * length x.0.now < length waiting.old + 2 * length text.now)) }
+    ensures less { IfOk result
+        (λ next. IfSome next (λ x. length waiting.new + 2 * length x.0.now < length waiting.old + 2 * length text.now)) }
 {
     let Some((token, rest)) = token_at(text) else {
         return Ok(None);
@@ -43,7 +44,8 @@ fn open<'a>(
     waiting: &mut Seq<Waiting>,
 ) -> Result<Option<(&'a [u8], bool)>, OutOfMemory>
     ensures goes { (code : List Opcode) → IfOk result (Goes (opened waiting.old code (operator_at text.now)) waiting.new code) }
-    ensures less { IfOk result (λ next. IfSome next (λ x. length waiting.new + 2 * length x.0.now < 1 + length waiting.old + 2 * length text.now)) }
+    ensures less { IfOk result
+        (λ next. IfSome next (λ x. length waiting.new + 2 * length x.0.now < 1 + length waiting.old + 2 * length text.now)) }
 {
     let Some((what, rest)) = operator_at(text) else {
         return Ok(None);
@@ -58,7 +60,8 @@ fn close<'a>(
     code: &mut Seq<Opcode>,
     operator: Opcode,
 ) -> Result<Option<(&'a [u8], bool)>, OutOfMemory>
-    ensures goes { (waiting : List Waiting) → IfOk result (Goes (closed waiting code.old operator (behind (codes ")") text.now)) waiting code.new) }
+    ensures goes { (waiting : List Waiting)
+        → IfOk result (Goes (closed waiting code.old operator (behind (codes ")") text.now)) waiting code.new) }
     ensures less { IfOk result (λ next. IfSome next (λ x. length x.0.now < length text.now)) }
 {
     let Some(rest) = behind(text, b")") else {
@@ -75,7 +78,8 @@ fn resume<'a>(
     code: &mut Seq<Opcode>,
 ) -> Result<Option<(&'a [u8], bool)>, OutOfMemory>
     ensures goes { IfOk result (Goes (resumed text.now code.old (split_last waiting.old)) waiting.new code.new) }
-    ensures less { IfOk result (λ next. IfSome next (λ x. length waiting.new + 2 * length x.0.now < length waiting.old + 2 * length text.now)) }
+    ensures less { IfOk result
+        (λ next. IfSome next (λ x. length waiting.new + 2 * length x.0.now < length waiting.old + 2 * length text.now)) }
 {
     let Some(what) = waiting.pop() else {
         return Ok(None);
@@ -99,7 +103,8 @@ fn go<'a>(
     code: &mut Seq<Opcode>,
 ) -> Result<Option<(&'a [u8], bool)>, OutOfMemory>
     ensures goes { IfOk result (Goes (next_place text.now ended waiting.old code.old) waiting.new code.new) }
-    ensures less { IfOk result (λ next. IfSome next (λ x. length waiting.new + 2 * length x.0.now < length waiting.old + 2 * length text.now)) }
+    ensures less { IfOk result
+        (λ next. IfSome next (λ x. length waiting.new + 2 * length x.0.now < length waiting.old + 2 * length text.now)) }
 {
     if ended {
         resume(text, waiting, code)

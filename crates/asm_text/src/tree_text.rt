@@ -37,7 +37,8 @@ fn put_text(alloc: Global, texts: &mut Seq<Seq<u8>>, text: &[u8]) -> Result<(), 
 // Puts `not` in front of the last text.
 fn negate(alloc: Global, texts: &mut Seq<Seq<u8>>) -> Result<(), OutOfMemory>
     requires { 0 < length texts.old }
-    ensures { (rest : List (List ℕ)) (node : List ℕ) → texts.old ≡ rest ++ node ∷ [] → OnOk result (texts.new ≡ rest ++ (codes "not " ++ node) ∷ []) }
+    ensures { (rest : List (List ℕ)) (node : List ℕ) → texts.old ≡ rest ++ node ∷ []
+        → OnOk result (texts.new ≡ rest ++ (codes "not " ++ node) ∷ []) }
 {
     let node = last_text(texts);
     texts.push(joined(alloc, b"not ", node.as_slice())?)
@@ -61,7 +62,8 @@ fn bracket(alloc: Global, texts: &mut Seq<Seq<u8>>, between: &[u8]) -> Result<()
 // The texts after an opcode, where they are those of a stack of trees.
 fn put_opcode(alloc: Global, texts: &mut Seq<Seq<u8>>, opcode: &Opcode) -> Result<(), OutOfMemory>
     requires { (stack next : List DepexTree) × (texts.old ≡ texts_of stack) × (built opcode.now stack ≡ Some next) }
-    ensures { (stack next : List DepexTree) → texts.old ≡ texts_of stack → built opcode.now stack ≡ Some next → OnOk result (texts.new ≡ texts_of next) }
+    ensures { (stack next : List DepexTree) → texts.old ≡ texts_of stack → built opcode.now stack ≡ Some next
+        → OnOk result (texts.new ≡ texts_of next) }
 {
     match opcode {
         Opcode::True => put_text(alloc, texts, b"true"),

@@ -84,7 +84,8 @@ pub fn boot_images<S: Sink>(
       files_now = 0;
       missed = None;
     }) }
-    ensures memory { IsWantedOutsidePeiOf (kind_of result.status) plan.now images (record { old = S.text sink.old; new = S.text sink.new }) }
+    ensures memory { IsWantedOutsidePeiOf (kind_of result.status) plan.now images
+        (record { old = S.text sink.old; new = S.text sink.new }) }
     ensures store { HandsBackOf plan.now images result }
 {
     one_catalogue();

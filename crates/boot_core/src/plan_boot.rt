@@ -64,7 +64,8 @@ fn boot_board<S: Sink>(
     requires some { 1 ≤ length catalog.now.volumes }
     ensures row { RunsTo StandsFor (record (board_of plan.now catalog.now []) { roms = roms }) catalog.now plan.now.fuel
         (record { old = S.text sink.old; new = S.text sink.new }) result }
-    ensures memory { IfErr result (WantsOutsidePei false (record (board_of plan.now catalog.now []) { roms = roms }) catalog.now plan.now.fuel
+    ensures memory { IfErr result
+        (WantsOutsidePei false (record (board_of plan.now catalog.now []) { roms = roms }) catalog.now plan.now.fuel
         (record { old = S.text sink.old; new = S.text sink.new })) }
     ensures faults { HaltsAfter result (S.faults sink.old) (S.faults sink.new) }
 {
