@@ -1,15 +1,18 @@
-// The loop that writes a whole piece, at any writer of std.
+// The loops that write a whole piece and hand it on, at any writer of std.
+ghost use Rattle.std.specs.Io.KnownBytes.{Keeps};
 ghost use Rattle.boot_io.specs.Sink.{Puts};
 
 use crate::SinkFault;
+use crate::again::{TRIES, may_get_through};
 use std::io::Write;
 
-/// Writes a whole piece. It fails where the writer answers an error or takes nothing, and then a prefix of the piece was taken. It takes no memory.
+/// Writes a whole piece. It fails where the writer answers an error or takes nothing, and then a prefix of the piece was taken; a call that was interrupted or would have blocked is made again and is no error. It takes no memory.
 pub fn write_whole<W: Write>(writer: &mut W, piece: &[u8]) -> Result<(), SinkFault>
     // The text is what the writer tells that it holds.
     ensures { Puts result (W.contents writer.old) (W.contents writer.new) piece.now }
 {
     let mut rest = piece;
+    let mut tries = TRIES;
     'pieces: while !rest.is_empty() {
         match writer.write(rest) {
             Ok(0) => return Err(SinkFault),
@@ -17,8 +20,23 @@ pub fn write_whole<W: Write>(writer: &mut W, piece: &[u8]) -> Result<(), SinkFau
                 let (_, after) = rest.split_at(count);
                 rest = after;
             }
+            Err(fault) if tries > 0 && may_get_through(&fault) => tries -= 1,
             Err(_) => return Err(SinkFault),
         }
     }
     Ok(())
+}
+
+/// Hands on what a writer still holds back. It fails where the writer answers an error; a call that was interrupted or would have blocked is made again and is no error.
+pub fn flush_whole<W: Write>(writer: &mut W) -> Result<(), SinkFault>
+    ensures { Keeps (W.contents writer.old) (W.contents writer.new) }
+{
+    let mut tries = TRIES;
+    'flushes: loop {
+        match writer.flush() {
+            Ok(()) => return Ok(()),
+            Err(fault) if tries > 0 && may_get_through(&fault) => tries -= 1,
+            Err(_) => return Err(SinkFault),
+        }
+    }
 }

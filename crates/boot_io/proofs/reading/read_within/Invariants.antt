@@ -7,4 +7,4 @@ abbrev pub invariant-chunks : goal.invariant-chunks
 invariant-chunks g l = (content : List ℕ) × (l.into ≡ l.fn.into ++ content) × (length content + l.left ≡ l.limit) × Consumes (g.R.Read.remaining l.fn.reader) (g.R.Read.remaining l.reader) content
 
 abbrev pub decreases-chunks : goal.decreases-chunks
-decreases-chunks g l = l.left
+decreases-chunks g l = l.left + l.tries

@@ -3,8 +3,8 @@ use Rattle.std.proofs.lemmas.List.{take-append-drop}
 use Rattle.boot_io.proofs.PutsLaws.{appends_then}
 use Rattle.boot_io.proofs.writing.write_whole.Goals as goal
 
-pub pieces-preserved : goal.pieces-preserved
-pieces-preserved g c =
+pub pieces-preserved-in-Ok : goal.pieces-preserved-in-Ok
+pieces-preserved-in-Ok g c =
     let C = g.W.Write.contents in
     let before = c.pieces.invariant in
     let rest = c.pieces.rest.now in
