@@ -1,4 +1,4 @@
-mod EntryBounds
+mod HobBounds
 mod HeapPieces
 mod HeapReads
 mod Hexadecimal

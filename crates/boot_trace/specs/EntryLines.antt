@@ -1,13 +1,15 @@
 -- The lines of a store's lists of entries: PPIs, callbacks, dispatch notifications and queued pairs.
 -- Own.
-use Rattle.std.specs.Prelude.{ℕ, List, ◌∷◌, length, map}
+use Rattle.std.specs.Prelude.{ℕ, ◌/◌, ◌%◌, List, ◌∷◌, length, map}
+use Rattle.boot_model.specs.declared.frame.TheConstants.{BLOCKS}
 use Rattle.boot_model.specs.declared.line.Line.{Line}
 use Rattle.boot_model.specs.declared.line.Line.TheVariants as L
+use Rattle.store_model.specs.declared.store_handle.EntryList.{EntryList}
+use Rattle.store_model.specs.declared.store_handle.EntryList.TheVariants.{Ppis, Callbacks, Dispatches, Pendings}
+use Rattle.store_model.specs.declared.store_handle.EntryTold.{EntryTold}
 use Rattle.store_model.specs.StoreState.{StoreState}
-use Rattle.boot_model.specs.Listing.{ppi_line, callback_line, dispatch_line, pending_line}
+use Rattle.store_model.specs.Service.Reading.{told_of}
 use Rattle.boot_model.specs.Text.{text_of}
-use Rattle.boot_trace.specs.declared.entry_list.EntryList.{EntryList}
-use Rattle.boot_trace.specs.declared.entry_list.EntryList.TheVariants.{Ppis, Callbacks, Dispatches, Pendings}
 
 -- the line of a list's count
 abbrev pub count_line : EntryList → ℕ → Line
@@ -16,13 +18,17 @@ count_line Callbacks count = L.Callbacks count
 count_line Dispatches count = L.Dispatches count
 count_line Pendings count = L.Pendings count
 
--- the lines of its entries, in order
+-- the line of an entry that is told: a PPI with its maker and value, a notification with its module and block
+abbrev pub told_line : EntryList → EntryTold → Line
+told_line Ppis told = L.Ppi told.by told.guid told.number
+told_line Callbacks told = L.Callback told.guid (told.number / BLOCKS) (told.number % BLOCKS)
+told_line Dispatches told = L.Dispatch told.guid (told.number / BLOCKS) (told.number % BLOCKS)
+told_line Pendings told = L.Pending told.guid (told.number / BLOCKS) (told.number % BLOCKS)
+
+-- the lines of a list's entries, in order
 abbrev pub entry_lines : StoreState → EntryList → List Line
-entry_lines s Ppis = map (ppi_line s) s.ppis
-entry_lines s Callbacks = map (callback_line s) s.callbacks
-entry_lines s Dispatches = map (dispatch_line s) s.dispatches
-entry_lines s Pendings = map (pending_line s) s.pendings
+entry_lines s list = map (told_line list) (told_of s list)
 
 -- the text of a list: its count, and its entries
 abbrev pub list_text : StoreState → EntryList → List ℕ
-list_text s list = text_of (count_line list (length (entry_lines s list)) ∷ entry_lines s list)
+list_text s list = text_of (count_line list (length (told_of s list)) ∷ entry_lines s list)

@@ -1,20 +1,15 @@
 //! The entries of a store's lists, each as a line.
-ghost use Rattle.std.specs.Prelude.{◌≡◌, slice_get, length};
+ghost use Rattle.std.specs.Prelude.{◌≡◌, ◌≢◌, ◌<◌, length};
+ghost use Rattle.store_model.specs.declared.limits.TheConstants.{NOTE_NUMBERS};
+ghost use Rattle.store_model.specs.declared.store_handle.EntryList.TheVariants.{Ppis};
 ghost use Rattle.store_model.specs.Service.{Present, OfEach};
+ghost use Rattle.store_model.specs.Service.Reading.{told_of};
 ghost use Rattle.store_model.specs.StoreCall.{Anything};
-ghost use Rattle.boot_trace.specs.EntryLines.{count_line, entry_lines};
+ghost use Rattle.boot_trace.specs.EntryLines.{count_line, told_line};
 
 use boot_model::{BLOCKS, Line};
-use store_model::{DescKind, PeiStore};
-
-// A list of entries.
-#[derive(Clone, Copy)]
-pub(crate) enum EntryList {
-    Ppis,
-    Callbacks,
-    Dispatches,
-    Pendings,
-}
+use store_laws::entries_are_told;
+use store_model::{EntryList, EntryTold, PeiStore};
 
 // The line of a list's count.
 pub(crate) fn count_line(list: EntryList, count: u32) -> Line
@@ -28,39 +23,35 @@ pub(crate) fn count_line(list: EntryList, count: u32) -> Line
     }
 }
 
-// The line of the entry in a place of a list. None past the last.
-pub(crate) fn entry_line<M: PeiStore>(store: &M, list: EntryList, place: u32) -> Option<Line>
-    requires state { Present (M.stands_for store.now) Anything }
-    ensures row { OfEach (M.stands_for store.now) Anything (λ s. result ≡ slice_get (entry_lines s list) place) }
+// The line of an entry that is told.
+pub(crate) fn told_line(list: EntryList, told: EntryTold) -> Line
+    requires number { list ≢ Ppis → told.number < NOTE_NUMBERS }
+    ensures { result ≡ told_line list told }
 {
+    let EntryTold {
+        guid, number, by, ..
+    } = told;
+    let entry = number as u32;
     match list {
-        EntryList::Ppis => match store.ppi_at(place) {
-            Some((guid, value, by)) => Some(Line::Ppi { by, guid, value }),
-            None => None,
+        EntryList::Ppis => Line::Ppi {
+            by,
+            guid,
+            value: number,
         },
-        EntryList::Callbacks => match store.note_at(DescKind::Callback, place) {
-            Some((guid, entry)) => Some(Line::Callback {
-                guid,
-                by: entry / BLOCKS,
-                block: entry % BLOCKS,
-            }),
-            None => None,
+        EntryList::Callbacks => Line::Callback {
+            guid,
+            by: entry / BLOCKS,
+            block: entry % BLOCKS,
         },
-        EntryList::Dispatches => match store.note_at(DescKind::Dispatch, place) {
-            Some((guid, entry)) => Some(Line::Dispatch {
-                guid,
-                by: entry / BLOCKS,
-                block: entry % BLOCKS,
-            }),
-            None => None,
+        EntryList::Dispatches => Line::Dispatch {
+            guid,
+            by: entry / BLOCKS,
+            block: entry % BLOCKS,
         },
-        EntryList::Pendings => match store.pending_at(place) {
-            Some((guid, entry)) => Some(Line::Pending {
-                guid,
-                by: entry / BLOCKS,
-                block: entry % BLOCKS,
-            }),
-            None => None,
+        EntryList::Pendings => Line::Pending {
+            guid,
+            by: entry / BLOCKS,
+            block: entry % BLOCKS,
         },
     }
 }
@@ -68,11 +59,14 @@ pub(crate) fn entry_line<M: PeiStore>(store: &M, list: EntryList, place: u32) ->
 // How many entries a list has.
 pub(crate) fn entry_count<M: PeiStore>(store: &M, list: EntryList) -> u32
     requires state { Present (M.stands_for store.now) Anything }
-    ensures row { OfEach (M.stands_for store.now) Anything (λ s. result ≡ length (entry_lines s list)) }
+    ensures row { OfEach (M.stands_for store.now) Anything (λ s. result ≡ length (told_of s list)) }
 {
+    entries_are_told();
     let mut count = 0;
-    'entries: while entry_line(store, list, count).is_some() {
+    let mut node = None;
+    'entries: while let Some(told) = store.entry_behind(list, node) {
         count += 1;
+        node = Some(told.node);
     }
     count
 }

@@ -1,17 +1,19 @@
 //! The lists of a store, each after its count.
-ghost use Rattle.std.specs.Prelude.{◌≡◌, ◌∷◌, flat_map};
+ghost use Rattle.std.specs.Prelude.{◌≡◌, ◌∷◌, flat_map, length};
 ghost use Rattle.boot_io.specs.Sink.{Puts, SinkFaultsAfter};
 ghost use Rattle.store_model.specs.Service.{Present, OfEach};
+ghost use Rattle.store_model.specs.Service.Reading.{told_of};
 ghost use Rattle.store_model.specs.StoreCall.{Anything};
 ghost use Rattle.boot_model.specs.Text.{text_of};
 ghost use Rattle.boot_model.specs.Listing.{store_lines};
 ghost use Rattle.boot_trace.specs.EntryLines.{entry_lines, list_text};
 
-use crate::entry_list::{EntryList, count_line, entry_count, entry_line};
+use crate::entry_list::{count_line, entry_count, told_line};
 use crate::line::put_own;
 use crate::store_hobs::put_hobs;
 use boot_io::{Sink, SinkFault};
-use store_model::PeiStore;
+use store_laws::entries_are_told;
+use store_model::{EntryList, PeiStore};
 
 // The lists of entries, in the order of printing.
 const ENTRY_LISTS: [EntryList; 4] = [
@@ -21,23 +23,27 @@ const ENTRY_LISTS: [EntryList; 4] = [
     EntryList::Pendings,
 ];
 
-// The entries of a list.
+// The entries of a list, of which there are `count`.
 fn put_entries<S: Sink, M: PeiStore>(
     sink: &mut S,
     store: &M,
     list: EntryList,
+    count: u32,
 ) -> Result<(), SinkFault>
     requires state { Present (M.stands_for store.now) Anything }
+    requires count { OfEach (M.stands_for store.now) Anything (λ s. count ≡ length (told_of s list)) }
     ensures text { OfEach (M.stands_for store.now) Anything (λ s. Puts result (S.text sink.old) (S.text sink.new)
         (text_of (entry_lines s list))) }
     ensures cause { SinkFaultsAfter result (S.faults sink.old) (S.faults sink.new) }
 {
-    let mut place = 0;
-    'entries: while let Some(line) = entry_line(store, list, place) {
-        match put_own(sink, line) {
-            Ok(()) => place += 1,
-            Err(SinkFault) => return Err(SinkFault),
-        }
+    entries_are_told();
+    let mut node = None;
+    'entries: for _place in 0..count {
+        let Some(told) = store.entry_behind(list, node) else {
+            break 'entries;
+        };
+        put_own(sink, told_line(list, told))?;
+        node = Some(told.node);
     }
     Ok(())
 }
@@ -48,10 +54,9 @@ fn put_list<S: Sink, M: PeiStore>(sink: &mut S, store: &M, list: EntryList) -> R
     ensures text { OfEach (M.stands_for store.now) Anything (λ s. Puts result (S.text sink.old) (S.text sink.new) (list_text s list)) }
     ensures cause { SinkFaultsAfter result (S.faults sink.old) (S.faults sink.new) }
 {
-    match put_own(sink, count_line(list, entry_count(store, list))) {
-        Ok(()) => put_entries(sink, store, list),
-        Err(SinkFault) => Err(SinkFault),
-    }
+    let count = entry_count(store, list);
+    put_own(sink, count_line(list, count))?;
+    put_entries(sink, store, list, count)
 }
 
 // Some of the lists of entries.
@@ -66,10 +71,7 @@ fn put_lists<S: Sink, M: PeiStore>(
     ensures cause { SinkFaultsAfter result (S.faults sink.old) (S.faults sink.new) }
 {
     for list in lists {
-        match put_list(sink, store, *list) {
-            Ok(()) => {}
-            Err(SinkFault) => return Err(SinkFault),
-        }
+        put_list(sink, store, *list)?;
     }
     Ok(())
 }
@@ -81,8 +83,6 @@ pub(crate) fn put_store<S: Sink, M: PeiStore>(sink: &mut S, store: &M) -> Result
         (text_of (store_lines s))) }
     ensures cause { SinkFaultsAfter result (S.faults sink.old) (S.faults sink.new) }
 {
-    match put_lists(sink, store, &ENTRY_LISTS) {
-        Ok(()) => put_hobs(sink, store),
-        Err(SinkFault) => Err(SinkFault),
-    }
+    put_lists(sink, store, &ENTRY_LISTS)?;
+    put_hobs(sink, store)
 }

@@ -1,5 +1,5 @@
 -- The entries of a list are told one behind the other, each once, since their nodes differ.
-use Rattle.std.proofs.Common.{◌≡◌, ◌≢◌, ℕ, zero, suc, ◌+◌, ◌<◌, ◌≤◌, ◌^◌, Bool, true, false, cond, List, [], ◌∷◌, ◌++◌, length, ap, arith, refl, sym, subst, ◌∙◌, Option, Some, None, ◌==◌, length-append, eqb}
+use Rattle.std.proofs.Common.{◌≡◌, ◌≢◌, ℕ, ◌+◌, ◌<◌, ◌≤◌, ◌^◌, Bool, true, false, cond, List, [], ◌∷◌, ◌++◌, length, ap, arith, refl, sym, subst, ◌∙◌, Option, Some, None, ◌==◌, eqb}
 use Rattle.std.specs.Prelude.{map, ◌||◌, slice_get}
 use Rattle.std.specs.List.{list_any}
 use Rattle.std.proofs.lemmas.Bool.Decides.{Decides-eqb, nat_tests}
@@ -8,6 +8,7 @@ use Rattle.std.proofs.lemmas.Map.Steps.{length-le_from_distinct_below}
 use Rattle.std.proofs.lemmas.List.{length-map, map-append}
 use Rattle.pi_base.specs.Lists.{Each}
 use Rattle.pi_base.proofs.ListFacts.{each_more, each_of_map}
+use Rattle.store_model.specs.declared.limits.TheConstants.{NOTE_NUMBERS}
 use Rattle.store_model.specs.declared.store_handle.EntryList.{EntryList}
 use Rattle.store_model.specs.declared.store_handle.EntryList.TheVariants.{Ppis, Callbacks, Dispatches, Pendings}
 use Rattle.store_model.specs.declared.store_handle.EntryTold.{EntryTold}
@@ -17,12 +18,14 @@ use Rattle.store_model.specs.declared.state.Body.TheVariants.{Node}
 use Rattle.store_model.specs.declared.state.Entry.{Entry}
 use Rattle.store_model.specs.declared.state.Pending.{Pending}
 use Rattle.store_model.specs.StoreState.{StoreState, end_place, handoff_len}
-use Rattle.store_model.specs.StateFacts.{IsEntry, IsNodeAt, IsPending, IsStoreState}
+use Rattle.store_model.specs.StateFacts.{IsDescriptorAt, IsEntry, IsNodeAt, IsPending, IsStoreState}
+use Rattle.store_model.specs.Service.Descriptor.{number_at}
 use Rattle.store_model.specs.Service.Reading.{behind_node, entry_behind, entry_told, pending_told, told_behind, told_of}
 use Rattle.store_laws.specs.Behind.{EntriesAreTold, IsToldFirst, left_behind}
-use Rattle.store_laws.proofs.Items.{differ_from, each_left, each_to_map, ordered_left, ordered_right, pairs_of_ordered}
+use Rattle.store_laws.proofs.Items.{differ_from, each_left, each_right, each_to_map, ordered_left, ordered_right, pairs_of_ordered}
 use Rattle.store_laws.proofs.Bodies.{body_before}
 use Rattle.store_laws.proofs.Fits.{all_fit}
+use Rattle.store_laws.proofs.Named.{entry_of, named}
 use Rattle.store_laws.proofs.Sound.{Differ, node_of, pending_node, sound_of}
 
 abbrev told_node : EntryTold → ℕ
@@ -150,9 +153,38 @@ few_told s list h =
     let room = h.room in
     omega (arith, few, len, most, room)
 
+-- the number of each notification, and so of the first that is left
+abbrev HasBlock : EntryTold → Type 0
+HasBlock told = told.number < NOTE_NUMBERS
+
+note_number : (s : StoreState) (kind : DescKind) (place : ℕ) → IsStoreState s → kind ≢ Ppi → IsDescriptorAt s kind place → number_at s place < NOTE_NUMBERS
+note_number s kind place h other is = entry_of kind (number_at s place) other (named s kind place h is).number_is
+
+entry_numbers : (s : StoreState) (kind : DescKind) (entries : List Entry) → IsStoreState s → kind ≢ Ppi → Each (IsEntry s kind) entries → Each HasBlock (map (entry_told s) entries)
+entry_numbers s kind entries h other are =
+    each_to_map HasBlock (entry_told s) entries (each_more (IsEntry s kind) (λ entry. HasBlock (entry_told s entry)) entries (λ entry is. note_number s kind entry.descriptor h other is.1) are)
+
+pending_numbers : (s : StoreState) (pendings : List Pending) → IsStoreState s → Each (IsPending s) pendings → Each HasBlock (map (pending_told s) pendings)
+pending_numbers s pendings h are =
+    each_to_map HasBlock (pending_told s) pendings (each_more (IsPending s) (λ pending. HasBlock (pending_told s pending)) pendings (λ pending is. note_number s Dispatch pending.descriptor h (λ e. cc) is.1) are)
+
+told_numbers : (s : StoreState) (list : EntryList) → IsStoreState s → list ≢ Ppis → Each HasBlock (told_of s list)
+told_numbers s Ppis h other = absurd (other refl)
+told_numbers s Callbacks h other = entry_numbers s Callback s.callbacks h (λ e. cc) h.callbacks
+told_numbers s Dispatches h other = entry_numbers s Dispatch s.dispatches h (λ e. cc) h.dispatches
+told_numbers s Pendings h other = pending_numbers s s.pendings h h.pendings
+
+told_number : (s : StoreState) (list : EntryList) (node : Option ℕ) (told : EntryTold) → IsStoreState s → list ≢ Ppis → entry_behind s list node ≡ Some told → HasBlock told
+told_number s list node told h other e =
+    let found = first_is (told_behind node (told_of s list)) told e in
+    let end = left_end node (told_of s list) in
+    let left = each_right HasBlock end.before (told_behind node (told_of s list)) (subst (Each HasBlock) end.is (told_numbers s list h other)) in
+    (subst (Each HasBlock) found.1 left).0
+
 pub all_told : EntriesAreTold
 all_told = record {
   first = told_first;
   last = λ s list node e. none_left (left_behind s list node) e;
   few = few_told;
+  number = λ s list node told h other e. told_number s list node told h other e;
 }

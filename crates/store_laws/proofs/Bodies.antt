@@ -1,5 +1,5 @@
 -- Where bodies stand after a HOB was added, and after one body was changed.
-use Rattle.std.proofs.Common.{◌≡◌, ◌≢◌, ℕ, ◌+◌, ◌≤◌, ◌<◌, Bool, true, false, cond, List, [], ◌∷◌, ◌++◌, arith, sym, refl, ap, subst, ◌∙◌, Option, Some, None, ◌==◌, sum_by}
+use Rattle.std.proofs.Common.{◌≡◌, ◌≢◌, ℕ, ◌+◌, ◌<◌, Bool, true, false, cond, List, [], ◌∷◌, ◌++◌, arith, sym, refl, ap, subst, ◌∙◌, Option, Some, ◌==◌, sum_by}
 use Rattle.std.proofs.lemmas.List.Sums.{sum_by-cons}
 use Rattle.std.proofs.lemmas.Bool.Decides.{nat_tests}
 use Rattle.pi_base.specs.Lists.{Each}

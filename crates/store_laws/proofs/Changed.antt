@@ -1,5 +1,5 @@
 -- What holds of every state is kept where bytes are written into a pool, and where the first queued pair leaves the queue.
-use Rattle.std.proofs.Common.{◌≡◌, ◌≢◌, ℕ, ◌+◌, ◌≤◌, ◌%◌, List, [], ◌∷◌, ◌++◌, length, take, drop, arith, sym, refl, ap, subst, ◌∙◌, Some, append_assoc, length-append, length-take, length-drop}
+use Rattle.std.proofs.Common.{◌≡◌, ◌≢◌, ℕ, ◌+◌, ◌≤◌, ◌%◌, List, ◌∷◌, ◌++◌, length, take, drop, arith, sym, refl, ap, subst, ◌∙◌, Some, append_assoc, length-append, length-take, length-drop}
 use Rattle.std.specs.Prelude.{map}
 use Rattle.hob_codec.specs.declared.kind.TheConstants.{POOL, ALLOCATION}
 use Rattle.pi_base.specs.Lists.{Each}

@@ -7,7 +7,6 @@ use Rattle.pi_base.proofs.ListFacts.{each_more}
 use Rattle.store_model.specs.HeapImage.{Links, body_bytes, links_bytes}
 use Rattle.store_model.specs.declared.state.Body.{Body}
 use Rattle.store_model.specs.declared.state.Body.TheVariants.{Allocation, Bytes, Descriptor, Node}
-use Rattle.store_model.specs.declared.state.DescriptorBody.{DescriptorBody}
 use Rattle.store_model.specs.declared.state.HobEntry.{HobEntry}
 use Rattle.store_model.specs.StoreState.{Range, StoreState, body_at, body_from, body_len, handoff_len, header_len, hob_len}
 use Rattle.store_model.specs.StateFacts.{IsBoard, IsBodyOf, IsHeap, IsHobEntry, IsPlanned, IsStoreState}

@@ -4,8 +4,7 @@ use Rattle.std.proofs.lemmas.List.{length-replicate}
 use Rattle.hob_codec.specs.declared.kind.TheConstants.{HANDOFF, ALLOCATION, VOLUME, END}
 use Rattle.hob_codec.specs.HobValue.{HobValue, HandoffHob, AllocationHob, ResourceHob, NamedHob, VolumeHob, CpuHob, PoolHob, Volume2Hob, OtherHob}
 use Rattle.hob_codec.specs.HobValue as V
-use Rattle.hob_codec.specs.HobBytes.{length_of, padded_len}
-use Rattle.store_model.specs.declared.store_handle.DescKind.{DescKind}
+use Rattle.hob_codec.specs.HobBytes.{length_of}
 use Rattle.store_model.specs.declared.state.Body.TheVariants.{Bytes, Descriptor}
 use Rattle.store_model.specs.declared.state.DescriptorBody.{DescriptorBody}
 use Rattle.store_model.specs.StoreState.{Board, descriptor_len, header_len, hob_len, most_hob, pool_of, rounded}

@@ -1,6 +1,6 @@
 -- The move keeps what holds of every state.
-use Rattle.std.proofs.Common.{◌≡◌, ◌≢◌, ℕ, ◌+◌, ◌-◌, ◌%◌, ◌≤◌, ◌<◌, ◌^◌, Bool, true, false, cond, List, [], ◌∷◌, ◌++◌, length, arith, sym, refl, ap, subst, ◌∙◌, Option, Some, None, ◌==◌, sum_by}
-use Rattle.std.specs.Prelude.{option_map, ◌||◌, ◌&&◌, if◌then◌else◌, nat_le, nat_lt, IfSome}
+use Rattle.std.proofs.Common.{◌≡◌, ℕ, ◌+◌, ◌-◌, ◌%◌, ◌≤◌, ◌<◌, ◌^◌, Bool, true, false, cond, List, [], ◌∷◌, ◌++◌, length, arith, sym, refl, ap, ◌∙◌, Option, Some, None, ◌==◌, sum_by}
+use Rattle.std.specs.Prelude.{option_map, ◌||◌, ◌&&◌, if◌then◌else◌, nat_le, nat_lt}
 use Rattle.std.specs.List.{list_any}
 use Rattle.std.proofs.lemmas.Bool.Decides.{nat_tests}
 use Rattle.std.proofs.lemmas.List.Sums.{sum_by-cons}
@@ -17,10 +17,10 @@ use Rattle.store_model.specs.declared.state.Body.{Body}
 use Rattle.store_model.specs.declared.state.Body.TheVariants.{Bytes, Descriptor, Node, Allocation}
 use Rattle.store_model.specs.declared.state.HobEntry.{HobEntry}
 use Rattle.store_model.specs.HeapImage.{descriptor_bytes}
-use Rattle.store_model.specs.StoreState.{Board, StoreState, Range, body_at, body_from, body_len, handoff_len, header_len, hob_len}
-use Rattle.store_model.specs.StateFacts.{IsBoard, IsBodyOf, IsDescriptorAt, IsEntry, IsGuidOf, IsHeap, IsHobEntry, IsNodeAt, IsNumberOf, IsPending, IsPlanned, IsStoreState}
+use Rattle.store_model.specs.StoreState.{Board, StoreState, Range, body_from, body_len, handoff_len, header_len, hob_len}
+use Rattle.store_model.specs.StateFacts.{IsBoard, IsBodyOf, IsDescriptorAt, IsEntry, IsGuidOf, IsHeap, IsHobEntry, IsNodeAt, IsNumberOf, IsPending, IsPlanned}
 use Rattle.store_model.specs.Service.Descriptor.{is_named, descriptors}
-use Rattle.store_model.specs.Migration.{migrated_to, moved_body, moved_descriptor, moved_hobs, moved_number, moved_value}
+use Rattle.store_model.specs.Migration.{migrated_to, moved_body, moved_descriptor, moved_hobs, moved_value}
 use Rattle.store_laws.specs.Fitting.{IsFittingDescriptor}
 use Rattle.store_laws.proofs.Guids.{descriptor_fits}
 use Rattle.store_laws.proofs.Sound.{IsSound}

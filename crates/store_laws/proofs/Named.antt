@@ -1,7 +1,6 @@
 -- What an entry or a queued pair names is a descriptor, and a notification's number is an entry.
 use Rattle.std.proofs.Common.{◌≡◌, ◌≢◌, ℕ, ◌<◌, true, refl, subst, ap, Some, sym}
 use Rattle.std.specs.Prelude.{option_map, slice_get, is_some, unwrap_or}
-use Rattle.pi_base.specs.Lists.{Each}
 use Rattle.store_model.specs.declared.limits.TheConstants.{NOTE_NUMBERS}
 use Rattle.store_model.specs.declared.store_handle.Desc.{Desc}
 use Rattle.store_model.specs.declared.store_handle.DescKind.{DescKind}
@@ -55,7 +54,7 @@ all_named = record {
 is_named : (s : StoreState) (kind : DescKind) (place : ℕ) → IsDescriptorAt s kind place → is_some (descriptor_at s place) ≡ true
 is_named s kind place h = rw h.1 refl
 
-entry_of : (kind : DescKind) (number : ℕ) → kind ≢ Ppi → IsNumberOf kind number → number < NOTE_NUMBERS
+pub entry_of : (kind : DescKind) (number : ℕ) → kind ≢ Ppi → IsNumberOf kind number → number < NOTE_NUMBERS
 entry_of Ppi number other h = absurd (other refl)
 entry_of Callback number other h = h
 entry_of Dispatch number other h = h

@@ -1,6 +1,6 @@
 -- Each service keeps what holds of every state, since its own test leaves room.
 use Rattle.std.proofs.Common.{◌≡◌, ℕ, ◌+◌, ◌-◌, ◌*◌, ◌≤◌, ◌<◌, ◌^◌, Bool, true, false, List, [], ◌∷◌, length, arith, sym, refl, subst, ◌∙◌, Option, Some, None, Ok, Err, nat_le, nat_lt, ◌==◌}
-use Rattle.std.specs.Prelude.{if◌then◌else◌, not, ◌&&◌, is_none, option_map, IfSome, ⊤}
+use Rattle.std.specs.Prelude.{if◌then◌else◌, not, ◌&&◌, is_none, option_map, IfSome}
 use Rattle.std.specs.List.{list_all, list_any}
 use Rattle.std.proofs.lemmas.Bool.Decides.{nat_tests}
 use Rattle.hob_codec.specs.HobValue.{HobValue}
@@ -38,12 +38,12 @@ use Rattle.store_model.specs.Service.Memory.{allocation_hob, early_pages, is_mem
 use Rattle.store_laws.specs.Bodies.{changed}
 use Rattle.store_laws.specs.Keeping.{IsMade, IsScripted, IsWord, KeepFacts, Keeps}
 use Rattle.store_laws.proofs.Bodies.{new_body, sum_changed}
-use Rattle.store_laws.proofs.Sound.{IsFrame, IsRoomy, IsSound, appended_sound, bare, facts_of, sound_of}
+use Rattle.store_laws.proofs.Sound.{IsRoomy, IsSound, appended_sound, bare, facts_of, sound_of}
 use Rattle.store_laws.proofs.Hobs.{descriptor_entry, few_pages, pages_entry, pool_entry, script_entry, zeros, zeros_need}
 use Rattle.store_laws.proofs.Entries.{both_true, installed_sound, note_descs, notified_sound, ppi_desc, ppi_descs, reinstalled_sound}
 use Rattle.store_laws.proofs.Changed.{popped_sound, without_first, written_len, written_sound}
 use Rattle.store_laws.proofs.Longer.{Longer, installed_longer, longer_room, notified_longer, push_longer, reinstalled_longer}
-use Rattle.store_laws.proofs.Moved.{IsWay, migrated_sound, sum_moved, way_of}
+use Rattle.store_laws.proofs.Moved.{migrated_sound, sum_moved, way_of}
 
 -- the first state
 first_keeps : (board : Board) → IsBoard board → IsStoreState (empty_store board)

@@ -1,5 +1,5 @@
 -- Each step of a service keeps what holds of every state where it has room, and takes what its HOB has.
-use Rattle.std.proofs.Common.{◌≡◌, ◌≢◌, ℕ, ◌+◌, ◌-◌, ◌≤◌, arith, refl, sym, subst}
+use Rattle.std.proofs.Common.{◌≡◌, ◌≢◌, ℕ, ◌+◌, ◌-◌, ◌≤◌, arith, refl}
 use Rattle.std.proofs.lemmas.List.Sums.{sum_by_push}
 use Rattle.store_model.specs.declared.store_handle.DescKind.{DescKind}
 use Rattle.store_model.specs.declared.store_handle.DescKind.TheVariants.{Ppi, Callback, Dispatch}
@@ -7,7 +7,7 @@ use Rattle.store_model.specs.declared.store_handle.Desc.{Desc}
 use Rattle.store_model.specs.declared.state.Body.TheVariants.{Node}
 use Rattle.store_model.specs.declared.state.HobEntry.{HobEntry}
 use Rattle.store_model.specs.StoreState.{StoreState, appended, end_place, free, hob_len, page_bytes, pool_of}
-use Rattle.store_model.specs.StateFacts.{IsDescOf, IsHobEntry, IsStoreState}
+use Rattle.store_model.specs.StateFacts.{IsDescOf, IsHobEntry}
 use Rattle.store_model.specs.Service.Install.{renamed, with_node, with_pending, with_ppi}
 use Rattle.store_model.specs.Service.Notify.{with_note, with_note_of}
 use Rattle.store_laws.specs.Bodies.{IsGrown}
@@ -15,7 +15,7 @@ use Rattle.store_laws.specs.Keeping.{IsWord}
 use Rattle.store_laws.specs.Steps.{HasRoom, IsPair, IsStep, StepsKeepFacts}
 use Rattle.store_laws.proofs.Bodies.{grown_by}
 use Rattle.store_laws.proofs.Sound.{IsRoomy, IsSound, appended_sound, facts_of, sound_of}
-use Rattle.store_laws.proofs.Steps.{grown_node, kind_is, node_entry, node_sound, renamed_sound, with_note_sound, with_pending_sound, with_ppi_sound}
+use Rattle.store_laws.proofs.Steps.{grown_node, kind_is, node_sound, renamed_sound, with_note_sound, with_pending_sound, with_ppi_sound}
 
 -- t has the heap of s, and its end HOB stands so much later
 record IsLonger (s t : StoreState) (need : ℕ) : Type 0 where

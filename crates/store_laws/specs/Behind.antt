@@ -1,7 +1,9 @@
 -- The entries of a list, told one behind the other by their nodes.
 -- Own.
-use Rattle.std.specs.Prelude.{◌≡◌, ℕ, ◌<◌, ◌^◌, List, [], ◌∷◌, length, Option, Some, None}
+use Rattle.std.specs.Prelude.{◌≡◌, ◌≢◌, ℕ, ◌<◌, ◌^◌, List, [], ◌∷◌, length, Option, Some, None}
+use Rattle.store_model.specs.declared.limits.TheConstants.{NOTE_NUMBERS}
 use Rattle.store_model.specs.declared.store_handle.EntryList.{EntryList}
+use Rattle.store_model.specs.declared.store_handle.EntryList.TheVariants.{Ppis}
 use Rattle.store_model.specs.declared.store_handle.EntryTold.{EntryTold}
 use Rattle.store_model.specs.StoreState.{StoreState}
 use Rattle.store_model.specs.StateFacts.{IsStoreState}
@@ -17,8 +19,11 @@ pub record IsToldFirst (s : StoreState) (list : EntryList) (node : Option ℕ) (
   pub is_in : IsNodeIn list (Some told.node) s
   pub left : left_behind s list node ≡ told ∷ left_behind s list (Some told.node)
 
+-- the entries of a store's lists are told in order and each once, a list has few, and a notification's number is that of a module's block
 pub record EntriesAreTold : Type 0 where
   pub first : (s : StoreState) (list : EntryList) (node : Option ℕ) (told : EntryTold) → IsStoreState s
       → entry_behind s list node ≡ Some told → IsToldFirst s list node told
   pub last : (s : StoreState) (list : EntryList) (node : Option ℕ) → entry_behind s list node ≡ None → left_behind s list node ≡ []
   pub few : (s : StoreState) (list : EntryList) → IsStoreState s → length (told_of s list) < 2 ^ 28
+  pub number : (s : StoreState) (list : EntryList) (node : Option ℕ) (told : EntryTold) → IsStoreState s → list ≢ Ppis
+      → entry_behind s list node ≡ Some told → told.number < NOTE_NUMBERS

@@ -1,5 +1,5 @@
 use Rattle.std.proofs.Common.{arith}
-use Rattle.boot_trace.proofs.EntryBounds.{few_hobs}
+use Rattle.boot_trace.proofs.HobBounds.{few_hobs}
 use Rattle.boot_trace.proofs.HobPlaces.{told, none_left, hob_place, at_end}
 use Rattle.boot_trace.proofs.store_hobs.count_hobs.Goals as goal
 

@@ -5,7 +5,7 @@ use Rattle.boot_model.specs.declared.line.Line.{Line}
 use Rattle.boot_model.specs.Listing.{hob_lines_from}
 use Rattle.boot_model.specs.Text.{line_text}
 use Rattle.boot_trace.specs.HobLines.{all_hobs}
-use Rattle.boot_trace.proofs.EntryBounds.{small_heap}
+use Rattle.boot_trace.proofs.HobBounds.{small_heap}
 use Rattle.boot_trace.proofs.HobPlaces.{told, none_left, hob_place, line_of_hob, line_at, line_in, lines_len}
 use Rattle.boot_trace.proofs.PutLines.{next_line, next_part, all_lines}
 use Rattle.boot_trace.proofs.store_hobs.put_hob_lines.Goals as goal

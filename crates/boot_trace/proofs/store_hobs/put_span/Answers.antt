@@ -4,7 +4,7 @@ use Rattle.boot_model.specs.declared.line.Line.{Line}
 use Rattle.boot_model.specs.declared.line.Line.TheVariants as L
 use Rattle.boot_model.specs.Text.{line_text}
 use Rattle.boot_trace.specs.HeapParts.{IsHeapPart, heap_part}
-use Rattle.boot_trace.proofs.EntryBounds.{low_heap}
+use Rattle.boot_trace.proofs.HobBounds.{low_heap}
 use Rattle.boot_trace.proofs.SpanLines.{body_at, span_line}
 use Rattle.boot_trace.proofs.store_hobs.put_span.Goals as goal
 
