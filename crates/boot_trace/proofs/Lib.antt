@@ -1,3 +1,4 @@
+mod EntryPlaces
 mod HobBounds
 mod HeapPieces
 mod HeapReads

@@ -1,5 +1,6 @@
 //! The entries of a store's lists, each as a line.
-ghost use Rattle.std.specs.Prelude.{◌≡◌, ◌≢◌, ◌<◌, length};
+ghost use Rattle.std.specs.Prelude.{◌≡◌, ◌≢◌, ◌<◌, ◌/◌, ◌%◌, length};
+ghost use Rattle.boot_model.specs.declared.frame.TheConstants.{BLOCKS};
 ghost use Rattle.store_model.specs.declared.limits.TheConstants.{NOTE_NUMBERS};
 ghost use Rattle.store_model.specs.declared.store_handle.EntryList.TheVariants.{Ppis};
 ghost use Rattle.store_model.specs.Service.{Present, OfEach};
@@ -23,36 +24,44 @@ pub(crate) fn count_line(list: EntryList, count: u32) -> Line
     }
 }
 
+// Module and block of a notification's entry.
+fn block_of(entry: u64) -> (u32, u32)
+    requires { entry < NOTE_NUMBERS }
+    ensures { result ≡ (entry / BLOCKS, entry % BLOCKS) }
+{
+    let entry = entry as u32;
+    (entry / BLOCKS, entry % BLOCKS)
+}
+
 // The line of an entry that is told.
 pub(crate) fn told_line(list: EntryList, told: EntryTold) -> Line
     requires number { list ≢ Ppis → told.number < NOTE_NUMBERS }
     ensures { result ≡ told_line list told }
 {
     let EntryTold {
-        guid, number, by, ..
+        guid,
+        number,
+        by,
+        ..
     } = told;
-    let entry = number as u32;
     match list {
         EntryList::Ppis => Line::Ppi {
             by,
             guid,
             value: number,
         },
-        EntryList::Callbacks => Line::Callback {
-            guid,
-            by: entry / BLOCKS,
-            block: entry % BLOCKS,
-        },
-        EntryList::Dispatches => Line::Dispatch {
-            guid,
-            by: entry / BLOCKS,
-            block: entry % BLOCKS,
-        },
-        EntryList::Pendings => Line::Pending {
-            guid,
-            by: entry / BLOCKS,
-            block: entry % BLOCKS,
-        },
+        EntryList::Callbacks => {
+            let (by, block) = block_of(number);
+            Line::Callback { guid, by, block }
+        }
+        EntryList::Dispatches => {
+            let (by, block) = block_of(number);
+            Line::Dispatch { guid, by, block }
+        }
+        EntryList::Pendings => {
+            let (by, block) = block_of(number);
+            Line::Pending { guid, by, block }
+        }
     }
 }
 

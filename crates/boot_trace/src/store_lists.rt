@@ -40,7 +40,7 @@ fn put_entries<S: Sink, M: PeiStore>(
     let mut node = None;
     'entries: for _place in 0..count {
         let Some(told) = store.entry_behind(list, node) else {
-            break 'entries;
+            return Ok(());
         };
         put_own(sink, told_line(list, told))?;
         node = Some(told.node);

@@ -34,7 +34,7 @@ fn bytes(rt: &impl Abort, alloc: Global, list: &[u8]) -> Seq<u8> {
 }
 
 #[test]
-fn lines_of_the_trace(rt: HostRuntime) -> Result<(), Fail> {
+fn lines_of_starts_calls_and_notifications(rt: HostRuntime) -> Result<(), Fail> {
     let alloc = rt.alloc();
     let mut text = ArrayVec::new();
     text.push(b'a');
@@ -102,7 +102,12 @@ fn lines_of_the_trace(rt: HostRuntime) -> Result<(), Fail> {
             fired: MEMORY,
         },
         b"notify dispatch 0 00000000-0000-0000-0000-00000000000a f894643d-c449-42d1-8ea8-85bdd8c65bde\n",
-    )?;
+    )
+}
+
+#[test]
+fn lines_of_a_phase_from_an_end_to_the_hand_off(rt: HostRuntime) -> Result<(), Fail> {
+    let alloc = rt.alloc();
     shows(
         &rt,
         alloc,

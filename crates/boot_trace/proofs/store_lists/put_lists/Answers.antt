@@ -1,14 +1,16 @@
-use Rattle.std.proofs.Common.{get_or, sym}
+use Rattle.std.proofs.Common.{get_or, sym, flat_map}
 use Rattle.std.proofs.lemmas.Option.{slice_get-get_or}
-use Rattle.boot_trace.specs.declared.entry_list.EntryList.TheVariants.{Ppis}
+use Rattle.store_model.specs.declared.store_handle.EntryList.TheVariants.{Ppis}
 use Rattle.boot_trace.specs.EntryLines.{list_text}
+use Rattle.boot_io.proofs.PutsLaws.{puts_err}
 use Rattle.boot_trace.proofs.PutLines.{next_part}
 use Rattle.boot_trace.proofs.store_lists.put_lists.Goals as goal
 
-pub returns-in-Err-clause-text : goal.returns-in-Err-clause-text
-returns-in-Err-clause-text g c s stands needs =
+pub returns-in_err-put_list-clause-text : goal.returns-in_err-put_list-clause-text
+returns-in_err-put_list-clause-text g c s stands needs =
     let T = g.S.Sink.text in
     let lists = c.args.lists.now in
     let i = c.loop-list.list-index in
-    next_part (list_text s) lists i (get_or lists i Ppis) (T c.args.sink.now) (T c.loop-list.sink) (T c.put_list.new.sink) (sym (slice_get-get_or lists i Ppis c.loop-list-test.true))
-    (c.loop-list.invariant.text s stands) (c.in-Err.ensures.text s stands tt)
+    puts_err c.from_residual.result (T c.args.sink.now) (T c.put_list.new.sink) (flat_map (list_text s) lists) c.from_residual.ensures.0
+    (next_part (list_text s) lists i (get_or lists i Ppis) (T c.args.sink.now) (T c.loop-list.sink) (T c.put_list.new.sink) (sym (slice_get-get_or lists i Ppis c.loop-list-test.true))
+    (c.loop-list.invariant.text s stands) (c.in_err-put_list.ensures.text s stands tt))

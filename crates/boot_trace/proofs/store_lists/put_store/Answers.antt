@@ -1,23 +1,24 @@
 use Rattle.std.proofs.Common.{ℕ, List, [], ◌∷◌, flat_map, sym, subst}
 use Rattle.boot_io.specs.Sink.{Puts, AppendsPart}
-use Rattle.boot_io.proofs.PutsLaws.{puts_then, part_of_more}
-use Rattle.boot_model.specs.Listing.{hob_lines}
+use Rattle.boot_io.proofs.PutsLaws.{puts_err, puts_then, part_of_more}
+use Rattle.boot_model.specs.Listing.{hob_lines, store_lines}
 use Rattle.boot_model.specs.Text.{text_of}
-use Rattle.boot_trace.specs.declared.entry_list.EntryList.TheVariants.{Ppis, Callbacks, Dispatches, Pendings}
+use Rattle.store_model.specs.declared.store_handle.EntryList.TheVariants.{Ppis, Callbacks, Dispatches, Pendings}
 use Rattle.boot_trace.specs.EntryLines.{list_text}
 use Rattle.boot_trace.proofs.StoreTexts.{store_text}
 use Rattle.boot_trace.proofs.store_lists.put_store.Goals as goal
 
-pub returns-in-Ok-clause-text : goal.returns-in-Ok-clause-text
-returns-in-Ok-clause-text g c s stands needs =
+pub returns-clause-text : goal.returns-clause-text
+returns-clause-text g c s stands needs =
     let T = g.S.Sink.text in
     let entries = flat_map (list_text s) (Ppis ∷ Callbacks ∷ Dispatches ∷ Pendings ∷ []) in
     let P : List ℕ → Type 0 = λ text. Puts c.put_hobs.result (T c.args.sink.now) (T c.put_hobs.new.sink) text in
-    subst P (sym (store_text s)) (puts_then c.put_hobs.result (T c.args.sink.now) (T c.put_lists.new.sink) (T c.put_hobs.new.sink) entries (text_of (hob_lines s)) (c.in-Ok.ensures.text s stands tt) (c.put_hobs.ensures.text s stands tt))
+    subst P (sym (store_text s)) (puts_then c.put_hobs.result (T c.args.sink.now) (T c.put_lists.new.sink) (T c.put_hobs.new.sink) entries (text_of (hob_lines s)) (c.in_ok-put_lists.ensures.text s stands tt) (c.put_hobs.ensures.text s stands tt))
 
-pub returns-in-Err-clause-text : goal.returns-in-Err-clause-text
-returns-in-Err-clause-text g c s stands needs =
+pub returns-in_err-put_lists-clause-text : goal.returns-in_err-put_lists-clause-text
+returns-in_err-put_lists-clause-text g c s stands needs =
     let T = g.S.Sink.text in
     let entries = flat_map (list_text s) (Ppis ∷ Callbacks ∷ Dispatches ∷ Pendings ∷ []) in
     let P : List ℕ → Type 0 = λ text. AppendsPart (T c.args.sink.now) (T c.put_lists.new.sink) text in
-    subst P (sym (store_text s)) (part_of_more (T c.args.sink.now) (T c.put_lists.new.sink) entries (text_of (hob_lines s)) (c.in-Err.ensures.text s stands tt))
+    puts_err c.from_residual.result (T c.args.sink.now) (T c.put_lists.new.sink) (text_of (store_lines s)) c.from_residual.ensures.0
+    (subst P (sym (store_text s)) (part_of_more (T c.args.sink.now) (T c.put_lists.new.sink) entries (text_of (hob_lines s)) (c.in_err-put_lists.ensures.text s stands tt)))
