@@ -1,5 +1,4 @@
 // Reading an action of a phase.
-ghost use Rattle.std.specs.Prelude.{◌≡◌};
 ghost use Rattle.act_code.specs.Reading.{Gives, operands_at, action_at};
 
 use crate::action::Action;

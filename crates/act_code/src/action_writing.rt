@@ -1,7 +1,7 @@
 // Writing actions: the one spelling of each.
-ghost use Rattle.std.specs.Prelude.{◌≡◌, ◌<◌, ◌≤◌, ◌++◌, ◌∷◌, [], length, OnOk, true};
+ghost use Rattle.std.specs.Prelude.{◌≡◌, ◌<◌, ◌≤◌, ◌++◌, ◌∷◌, [], length, OnOk};
 ghost use Rattle.pi_base.specs.Field.{little_bytes};
-ghost use Rattle.act_code.specs.Format.{spelled, is_within, is_hob, Counted, HobBody, Pair, RegisterNumber, Descriptor};
+ghost use Rattle.act_code.specs.Format.{spelled, HobBody, Pair, RegisterNumber, Descriptor};
 ghost use Rattle.act_code.specs.Table.{code_of_action};
 ghost use Rattle.act_code.specs.Script.{action_bytes, operand_bytes, IsWritable};
 

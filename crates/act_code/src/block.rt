@@ -1,5 +1,5 @@
 // The blocks of a script, read action by action.
-ghost use Rattle.std.specs.Prelude.{◌≡◌, ◌≤◌, ◌-◌, length};
+ghost use Rattle.std.specs.Prelude.{◌≡◌, ◌≤◌, ◌-◌};
 ghost use Rattle.act_code.specs.ScriptReading.{Gives, fault_at, checked_at, many, count_at, block_at, ends_in_ret};
 ghost use Rattle.act_code.specs.declared.block.Stop.TheVariants as stop;
 

@@ -1,5 +1,5 @@
 // Reading a script.
-ghost use Rattle.std.specs.Prelude.{◌≡◌, ◌≤◌, length, IfOk, IfErr};
+ghost use Rattle.std.specs.Prelude.{◌≤◌, IfOk, IfErr};
 ghost use Rattle.act_code.specs.ScriptReading.{Gives, body_at, script_at};
 ghost use Rattle.act_code.specs.Script.{IsScript, IsRefused, GivesBack};
 ghost use Rattle.act_code.specs.declared.script.Script.{Script};

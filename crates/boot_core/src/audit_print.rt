@@ -1,5 +1,5 @@
 // The text of an audit.
-ghost use Rattle.std.specs.Prelude.{◌≡◌, ◌≤◌, ◌++◌, length};
+ghost use Rattle.std.specs.Prelude.{◌≡◌, ◌≤◌, length};
 ghost use Rattle.boot_io.specs.Sink.{Puts, SinkFaultsAfter};
 ghost use Rattle.catalog_model.specs.declared.limits.TheConstants.{MOST_MODULES, MOST_VOLUMES};
 ghost use Rattle.boot_model.specs.Audit.{expression_word, part_word, part_rank};

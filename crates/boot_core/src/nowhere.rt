@@ -8,7 +8,6 @@ pub(crate) struct Nowhere;
 
 impl Sink for Nowhere {
     ghost use Rattle.std.specs.Prelude.{None};
-    ghost use Rattle.boot_io.specs.Sink.{Puts, SinkFaultsAfter};
 
     ghost text = { λ _. None };
 

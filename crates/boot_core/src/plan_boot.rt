@@ -1,5 +1,5 @@
 // The boot of a plan whose images have a catalogue.
-ghost use Rattle.std.specs.Prelude.{◌≡◌, ◌≤◌, [], IfErr, None, false, length, ⊤};
+ghost use Rattle.std.specs.Prelude.{◌≤◌, [], IfErr, None, false, length, ⊤};
 ghost use Rattle.store_model.specs.StateFacts.{IsBoard};
 ghost use Rattle.mem_store.specs.MemState.{StandsFor};
 ghost use Rattle.boot_model.specs.PlanBoard.{board_of};

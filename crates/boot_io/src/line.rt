@@ -1,5 +1,5 @@
 // Lines that are put word by word, with few calls of the sink.
-ghost use Rattle.std.specs.Prelude.{◌≡◌, ◌++◌, [], ◌∷◌, flat_map};
+ghost use Rattle.std.specs.Prelude.{flat_map};
 ghost use Rattle.boot_io.specs.Line.{Gathers, line_of, spaced, words_now};
 ghost use Rattle.boot_io.specs.Sink.{Puts, SinkFaultsAfter};
 

@@ -1,5 +1,5 @@
 // A plan that is being read, line by line.
-ghost use Rattle.std.specs.Prelude.{◌≡◌, ◌↔◌, ◌≢◌, ◌≤◌, ◌++◌, ◌∷◌, [], false, List, OnOk, OnErr, IsTrue, ℕ};
+ghost use Rattle.std.specs.Prelude.{◌≡◌, ◌≤◌, ◌++◌, ◌∷◌, [], false, List, OnOk, OnErr};
 ghost use Rattle.boot_plan.specs.LineCause.{is_area, is_repeated, is_within};
 ghost use Rattle.boot_plan.specs.View.{form_view, entry_view};
 

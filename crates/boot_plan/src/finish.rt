@@ -1,5 +1,5 @@
 // The plan that a draft has become after the last line.
-ghost use Rattle.std.specs.Prelude.{◌≡◌, ◌≢◌, ◌<◌, ◌≤◌, ◌+◌, ◌^◌, List, IfOk, IfErr, IfSome, Some};
+ghost use Rattle.std.specs.Prelude.{◌≡◌, ◌<◌, ◌≤◌, ◌+◌, ◌^◌, List, IfOk, IfErr, IfSome, Some};
 ghost use Rattle.std.specs.Option.{option_to_list};
 ghost use Rattle.boot_plan.specs.Said.{Said};
 ghost use Rattle.boot_plan.specs.Draft.{Keeps, IsInRange};

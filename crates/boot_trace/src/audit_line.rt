@@ -1,5 +1,5 @@
 //! The lines of an audit, and of refusals.
-ghost use Rattle.std.specs.Prelude.{◌≡◌, [], ◌∷◌, decimal};
+ghost use Rattle.std.specs.Prelude.{[], ◌∷◌, decimal};
 ghost use Rattle.hex.specs.Hex.{encode_lower};
 ghost use Rattle.boot_io.specs.Line.{line_of};
 ghost use Rattle.boot_io.specs.Sink.{Puts, SinkFaultsAfter};

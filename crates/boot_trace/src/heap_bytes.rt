@@ -1,5 +1,5 @@
 //! The line of a HOB whose bytes stand in a store's heap.
-ghost use Rattle.std.specs.Prelude.{◌≡◌, [], ◌∷◌, ◌++◌, ◌≤◌, decimal};
+ghost use Rattle.std.specs.Prelude.{[], ◌∷◌, ◌++◌, ◌≤◌, decimal};
 ghost use Rattle.hex.specs.Hex.{encode_lower};
 ghost use Rattle.boot_io.specs.Line.{line_of};
 ghost use Rattle.boot_io.specs.Sink.{Puts, SinkFaultsAfter};

@@ -1,5 +1,4 @@
 //! A line of any form.
-ghost use Rattle.std.specs.Prelude.{◌≡◌};
 ghost use Rattle.boot_io.specs.Sink.{Puts, SinkFaultsAfter};
 ghost use Rattle.boot_model.specs.Text.{line_text, text_of, log_text, hob_text, refused_file_text, refused_long_text};
 

@@ -1,5 +1,5 @@
 //! The words of numbers, names and bytes.
-ghost use Rattle.std.specs.Prelude.{◌≡◌, ◌≤◌, [], ◌∷◌, length, decimal};
+ghost use Rattle.std.specs.Prelude.{◌≡◌, [], ◌∷◌, decimal};
 ghost use Rattle.hex.specs.Hex.{encode_lower};
 ghost use Rattle.boot_model.specs.Text.{hexadecimal, rank_text, name_text, by_text, expression_text};
 

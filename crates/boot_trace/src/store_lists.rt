@@ -1,5 +1,5 @@
 //! The lists of a store, each after its count.
-ghost use Rattle.std.specs.Prelude.{◌≡◌, ◌∷◌, flat_map, length};
+ghost use Rattle.std.specs.Prelude.{◌≡◌, flat_map, length};
 ghost use Rattle.boot_io.specs.Sink.{Puts, SinkFaultsAfter};
 ghost use Rattle.store_model.specs.Service.{Present, OfEach};
 ghost use Rattle.store_model.specs.Service.Reading.{told_of};

@@ -1,5 +1,5 @@
 // Boots over the store of plain lists.
-ghost use Rattle.std.specs.Prelude.{◌≡◌, ◌≤◌, [], length};
+ghost use Rattle.std.specs.Prelude.{◌≤◌, [], length};
 ghost use Rattle.store_model.specs.StateFacts.{IsBoard};
 ghost use Rattle.store_plain.specs.PlainState.{stands_for};
 ghost use Rattle.boot_model.specs.PlanBoard.{board_of};

@@ -1,5 +1,5 @@
 // Reading an expression from its bytes.
-ghost use Rattle.std.specs.Prelude.{◌≡◌, ◌+◌, ◌-◌, ◌<◌, ◌≤◌, ◌^◌, [], ◌∷◌, ◌++◌, length, Some, IfOk, IfErr};
+ghost use Rattle.std.specs.Prelude.{◌≡◌, ◌+◌, ◌-◌, ◌<◌, ◌≤◌, ◌^◌, length, Some, IfOk, IfErr};
 ghost use Rattle.depex_code.specs.Reading.{IsTreeRead, IsTreeRefused, IsTreeDepex, IsBeside, Goes, instruction_at};
 ghost use Rattle.depex_code.specs.Expression.{Reads, IsRefused};
 

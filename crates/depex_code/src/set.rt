@@ -1,5 +1,5 @@
 // Sets of GUIDs.
-ghost use Rattle.std.specs.Prelude.{◌≡◌, ℕ, Bool};
+ghost use Rattle.std.specs.Prelude.{◌≡◌, Bool};
 
 use pi_base::Guid;
 

@@ -1,9 +1,6 @@
 // What an event did is told to the queue.
-ghost use Rattle.std.specs.Prelude.{◌≡◌, ◌≤◌, ◌+◌, OnOk, length};
-ghost use Rattle.boot_model.specs.DxeMachine.{DxeMachine};
-ghost use Rattle.catalog_model.specs.WellFormed.{IsWellFormed};
 ghost use Rattle.catalog_model.specs.declared.catalog.Catalog.{Catalog as OfCatalog};
-ghost use Rattle.dxe_choice.specs.Queue.{IsQueueFor, owed};
+ghost use Rattle.dxe_choice.specs.Queue.{IsQueueFor};
 ghost use Rattle.dxe_dispatch.specs.Events.{Owes, Tells, TellsChange};
 
 use depex_code::GuidSet;

@@ -1,5 +1,5 @@
 // The drivers that wait after the stop.
-ghost use Rattle.std.specs.Prelude.{◌≡◌, ◌&&◌, not, ℕ, Some};
+ghost use Rattle.std.specs.Prelude.{◌≡◌, ◌&&◌, not, Some};
 ghost use Rattle.boot_io.specs.Sink.{SinkFaultsAfter};
 ghost use Rattle.catalog_model.specs.Parts.{has_number};
 ghost use Rattle.boot_model.specs.DxeChoice.{asks_for_request, is_sor};

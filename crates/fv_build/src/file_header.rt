@@ -1,7 +1,7 @@
 //! The headers of files as bytes.
 ghost use Rattle.std.specs.Prelude.{◌≡◌, ◌<◌, ◌^◌, ◌++◌, OnOk};
 ghost use Rattle.std.specs.Bool.{OnFalse};
-ghost use Rattle.fv_build.specs.Files.{short_fields, extended_size, header_with, file_header};
+ghost use Rattle.fv_build.specs.Files.{short_fields, extended_size, file_header};
 
 use fv_volume::file_header::{FIXED_CHECKSUM, LARGE_FILE};
 use fv_volume::file_state::{DATA_VALID, HEADER_CONSTRUCTION, HEADER_VALID};

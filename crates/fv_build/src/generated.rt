@@ -2,7 +2,7 @@
 ghost use Rattle.std.specs.Prelude.{◌≡◌, ◌<◌, ◌≤◌, ◌++◌, OnOk, IfOk, IfErr, length, true};
 ghost use Rattle.act_code.specs.Script.{script_bytes};
 ghost use Rattle.fv_build.specs.declared.fault.BuildFault.TheVariants.{Memory};
-ghost use Rattle.fv_build.specs.Generated.{numbered, installs, memory_said, hand_off, actions_of, script_of, waits_for, expression_of, module_of, generated_files, generated};
+ghost use Rattle.fv_build.specs.Generated.{numbered, installs, memory_said, actions_of, script_of, waits_for, expression_of, module_of, generated_files, generated};
 
 use crate::build::build_volume;
 use crate::fault::BuildFault;

@@ -1,9 +1,8 @@
 //! Sizes, told before a byte is written. One of 2^64 or more stands as 2^64 - 1.
-ghost use Rattle.std.specs.Prelude.{◌≡◌, ◌+◌, ◌-◌, ◌^◌, length, min, All};
+ghost use Rattle.std.specs.Prelude.{◌≡◌, ◌-◌, ◌^◌, length, min, All};
 ghost use Rattle.std.specs.List.{list_any};
 ghost use Rattle.fv_build.specs.Sections.{is_extended, section_size, body_bytes, is_section_too_long};
 ghost use Rattle.fv_build.specs.Files.{is_large, file_size, is_past_size, is_file_too_long, HasWholeName};
-ghost use Rattle.fv_build.specs.FileSystems.{most_section};
 ghost use Rattle.fv_build.specs.Building.{need};
 
 use crate::file_system::{FileSystem, MOST_EXTENDED_SIZE, MOST_SIZE};

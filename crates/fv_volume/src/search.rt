@@ -1,5 +1,5 @@
 //! The search for the files of a volume, forward from place to place.
-ghost use Rattle.std.specs.Prelude.{◌≡◌, ◌≢◌, ◌≤◌, ◌+◌, ◌++◌, ◌∷◌, [], IfOk, IfErr, OnOk, length, ◌==◌};
+ghost use Rattle.std.specs.Prelude.{◌≡◌, ◌≢◌, ◌≤◌, ◌+◌, ◌++◌, IfOk, IfErr, OnOk, length, ◌==◌};
 ghost use Rattle.std.specs.List.{list_all};
 ghost use Rattle.fv_volume.specs.Item.{listed_of};
 ghost use Rattle.fv_volume.specs.Search.{ends_at, met_at, IsListing, IsSearchFault};

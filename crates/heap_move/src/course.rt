@@ -1,5 +1,5 @@
 // Where a heap lay, and where it lies.
-ghost use Rattle.std.specs.Prelude.{◌≡◌, ℕ};
+ghost use Rattle.std.specs.Prelude.{◌≡◌};
 ghost use Rattle.store_model.specs.StoreState.{Range, StoreState};
 ghost use Rattle.store_model.specs.Migration.{moved_number};
 

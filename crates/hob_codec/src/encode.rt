@@ -1,5 +1,5 @@
 // A HOB as bytes.
-ghost use Rattle.std.specs.Prelude.{◌≡◌, ◌≤◌, ◌<◌, ◌+◌, ◌++◌, ◌^◌, length, take, Some, ℕ};
+ghost use Rattle.std.specs.Prelude.{◌≡◌, ◌≤◌, ◌<◌, ◌+◌, ◌++◌, ◌^◌, length, take, Some};
 ghost use Rattle.hob_codec.specs.HobBytes.{hob_bytes, hob_len, header_fields, fields_of, joined, length_of, padded_len};
 ghost use Rattle.hob_codec.specs.HobValue.{kind_of, HandoffHob, AllocationHob, ResourceHob, NamedHob, VolumeHob, CpuHob, PoolHob, Volume2Hob};
 ghost use Rattle.hob_codec.specs.HobView.{hob_value};

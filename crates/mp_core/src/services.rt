@@ -1,5 +1,5 @@
 // What the events do.
-ghost use Rattle.std.specs.Prelude.{◌≡◌, IfOk, OnOk, ⊤};
+ghost use Rattle.std.specs.Prelude.{IfOk, OnOk, ⊤};
 ghost use Rattle.mp_core.specs.declared.event.MpEvent.TheVariants as event;
 ghost use Rattle.mp_core.specs.Calls.{IsEvent, IsJob};
 ghost use Rattle.mp_core.specs.Past.{after, enable_disable_ap, reply, startup_all_aps, startup_this_ap, switch_bsp};

@@ -1,5 +1,5 @@
 // Which GUIDs are installed changes.
-ghost use Rattle.std.specs.Prelude.{◌≡◌, ◌≤◌, [], ℕ, List, Bool, IfSome, true};
+ghost use Rattle.std.specs.Prelude.{◌≡◌, [], List, Bool, IfSome, true};
 ghost use Rattle.std.specs.Option.{option_to_list};
 ghost use Rattle.pi_base.specs.Lists.{Each};
 ghost use Rattle.pi_base.specs.declared.guid.Guid.{Guid as OfGuid};

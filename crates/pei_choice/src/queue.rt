@@ -1,5 +1,5 @@
 //! The parts of PEI that wait, and the next PEIM.
-ghost use Rattle.std.specs.Prelude.{◌≡◌, ◌≤◌, ◌+◌, ◌∷◌, [], ℕ, IfOk, length};
+ghost use Rattle.std.specs.Prelude.{◌≡◌, ◌≤◌, ◌+◌, ◌∷◌, [], IfOk, length};
 ghost use Rattle.catalog_model.specs.declared.catalog.Catalog.{Catalog as OfCatalog};
 ghost use Rattle.catalog_model.specs.declared.limits.TheConstants.{MOST_MODULES};
 ghost use Rattle.catalog_model.specs.WellFormed.{IsWellFormed};

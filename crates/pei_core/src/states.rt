@@ -1,7 +1,7 @@
 // How far each module has come.
-ghost use Rattle.std.specs.Prelude.{◌≡◌, ◌<◌, length, if◌then◌else◌, IfOk, replicate, slice_set};
+ghost use Rattle.std.specs.Prelude.{◌≡◌, ◌<◌, length, if◌then◌else◌, IfOk, replicate};
 ghost use Rattle.pi_base.specs.declared.word.Word.{Word as OfWord};
-ghost use Rattle.boot_model.specs.PeimState.{has_started, state_at};
+ghost use Rattle.boot_model.specs.PeimState.{state_at};
 ghost use Rattle.boot_model.specs.declared.peim_state.PeimState.TheVariants.{NotDispatched};
 ghost use Rattle.pei_core.specs.Awaiting.{AreShadows};
 ghost use Rattle.pei_core.specs.Cores as C;

@@ -1,5 +1,5 @@
 // A HOB is added behind the others.
-ghost use Rattle.std.specs.Prelude.{◌≡◌, ◌≤◌, ◌<◌, ◌+◌, ◌++◌, ◌^◌, ℕ};
+ghost use Rattle.std.specs.Prelude.{◌≡◌, ◌<◌, ◌+◌, ◌++◌, ◌^◌, ℕ};
 ghost use Rattle.store_model.specs.StoreState.{StoreState, end_place};
 ghost use Rattle.store_model.specs.HeapImage.{header_bytes, heap_image};
 ghost use Rattle.store_model.specs.declared.state.HobEntry.{HobEntry};

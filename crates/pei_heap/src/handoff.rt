@@ -1,5 +1,5 @@
 // The fields of the hand-off HOB, and what is free. PI 1.8, volume 3, `EFI_HOB_HANDOFF_INFO_TABLE`.
-ghost use Rattle.std.specs.Prelude.{◌≡◌, ◌≤◌, ◌<◌, ◌+◌, ◌-◌, ◌^◌};
+ghost use Rattle.std.specs.Prelude.{◌≡◌, ◌+◌, ◌-◌};
 ghost use Rattle.store_model.specs.StoreState.{StoreState, end_place, page_bytes};
 ghost use Rattle.store_model.specs.StoreState as S;
 ghost use Rattle.store_model.specs.Service.Memory.{with_boot_mode};
@@ -8,7 +8,7 @@ use crate::heap::Heap;
 use crate::word::{half_word_in, word_in};
 use heap_laws::{bodies_changed, handoff_read, image_facts};
 use phys_mem::PhysMem;
-use store_laws::{services_keep_facts, states_fit};
+use store_laws::services_keep_facts;
 
 // The offset of BootMode.
 const BOOT_MODE_AT: usize = 12;

@@ -4,7 +4,7 @@ ghost use Rattle.hob_codec.specs.HobValue.{AllocationHob};
 ghost use Rattle.hob_codec.specs.HobBytes.{hob_bytes};
 ghost use Rattle.store_model.specs.StoreState.{StoreState};
 ghost use Rattle.store_model.specs.HeapImage.{heap_image};
-ghost use Rattle.store_model.specs.Service.Memory.{allocation_hob, page_len, pages};
+ghost use Rattle.store_model.specs.Service.Memory.{allocation_hob, pages};
 ghost use Rattle.heap_laws.specs.Growing.{grown};
 ghost use Rattle.heap_laws.specs.Mapped.{layout_of};
 

@@ -1,5 +1,5 @@
 // A heap in temporary RAM, byte by byte.
-ghost use Rattle.std.specs.Prelude.{◌≡◌, ◌≤◌, ◌+◌, IfOk};
+ghost use Rattle.std.specs.Prelude.{◌≤◌, ◌+◌, IfOk};
 ghost use Rattle.hob_codec.specs.HobView.{hob_value};
 ghost use Rattle.store_model.specs.StoreCall.{IsScriptHob};
 ghost use Rattle.store_model.specs.StoreState.{StoreState};

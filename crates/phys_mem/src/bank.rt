@@ -1,5 +1,5 @@
 // Bytes at an address.
-ghost use Rattle.std.specs.Prelude.{◌≡◌, ◌≤◌, ◌+◌, ◌^◌, ◌<◌, ◌-◌, if◌then◌else◌, length, option_map, IfOk, replicate};
+ghost use Rattle.std.specs.Prelude.{◌≡◌, ◌+◌, ◌<◌, ◌-◌, if◌then◌else◌, length, option_map, IfOk, replicate};
 ghost use Rattle.phys_mem.specs.Region.{part_of, is_inside, replaced};
 
 use pi_base::{OutOfMemory, Span};

@@ -1,5 +1,5 @@
 // Physical memory.
-ghost use Rattle.std.specs.Prelude.{◌≡◌, ◌++◌, ◌∷◌, ◌+◌, ◌<◌, ◌^◌, ◌&&◌, [], List, ℕ, map, length, option_map, IfOk, true, replicate};
+ghost use Rattle.std.specs.Prelude.{◌≡◌, ◌++◌, ◌∷◌, ◌+◌, ◌<◌, ◌&&◌, [], map, option_map, IfOk, true, replicate};
 ghost use Rattle.phys_mem.specs.Region.{is_inside};
 ghost use Rattle.phys_mem.specs.Regions.{rom_region, ram_region, bytes_at, share, copy_of, Becomes};
 ghost use Rattle.std.specs.Option.{option_to_list};

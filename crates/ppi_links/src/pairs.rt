@@ -19,11 +19,10 @@ use crate::heads::Heads;
 use crate::pushing::push;
 use crate::reading::same_guid;
 use crate::walk::entry_from;
-use heap_laws::{image_facts, nodes_read};
+use heap_laws::nodes_read;
 use pei_heap::Heap;
 use phys_mem::PhysMem;
 use pi_base::Guid;
-use store_laws::{entries_are_told, named_are_there};
 use store_model::{Desc, DescKind, EntryList};
 
 // Whether a notification has the GUID.

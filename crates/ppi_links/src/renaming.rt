@@ -1,5 +1,4 @@
 // A PPI that names another descriptor.
-ghost use Rattle.std.specs.Prelude.{◌≡◌, ℕ};
 ghost use Rattle.store_model.specs.StoreState.{StoreState};
 ghost use Rattle.store_model.specs.StateFacts.{IsDescOf};
 ghost use Rattle.store_model.specs.declared.store_handle.Desc.{Desc as OfDesc};

@@ -1,7 +1,7 @@
 // PPIs and notifications that are installed, queued, told and told to again.
 //
 // Behind the hand-off HOB, which has 56 bytes, stand four descriptors of 48 bytes with their headers; nodes of 40 bytes follow, the first at 56 + 192 + 8 = 0x100.
-ghost use Rattle.std.specs.Prelude.{◌≡◌, ◌≢◌, true, IfSome};
+ghost use Rattle.std.specs.Prelude.{◌≡◌, true, IfSome};
 ghost use Rattle.store_model.specs.StoreState.{StoreState};
 ghost use Rattle.store_model.specs.StateFacts.{IsDescriptorAt, IsNumberOf};
 ghost use Rattle.store_laws.specs.Bodies.{IsGrown};

@@ -1,5 +1,5 @@
 // The entries of a list, told one behind the other by their nodes.
-ghost use Rattle.std.specs.Prelude.{◌≡◌, drop, map, option_map, slice_get};
+ghost use Rattle.std.specs.Prelude.{◌≡◌, drop, map, slice_get};
 ghost use Rattle.pi_base.specs.Lists.{Each};
 ghost use Rattle.store_model.specs.StateFacts.{IsStoreState, IsDesc};
 ghost use Rattle.store_model.specs.StoreState.{StoreState};

@@ -1,5 +1,5 @@
 // Nodes, entries and queued pairs are added, for which there is room and memory.
-ghost use Rattle.std.specs.Prelude.{◌≡◌, ◌≤◌, ◌<◌, ◌+◌, ◌*◌, nat_le, length, fold, OnOk, OnErr, IfOk, vec_len, vec_capacity, ℕ};
+ghost use Rattle.std.specs.Prelude.{◌≡◌, ◌≤◌, ◌<◌, ◌+◌, ◌*◌, nat_le, length, fold, OnOk, IfOk, vec_len, vec_capacity, ℕ};
 ghost use Rattle.store_model.specs.StoreState.{free};
 ghost use Rattle.store_model.specs.Service.Install.{node_need, with_node, with_ppi, with_pending};
 

@@ -1,5 +1,5 @@
 // The pairs of PPIs and notifications with equal GUIDs, by the places of their descriptors.
-ghost use Rattle.std.specs.Prelude.{◌≡◌, ◌++◌, IfOk, OnOk, not};
+ghost use Rattle.std.specs.Prelude.{◌≡◌, ◌++◌, IfOk, OnOk};
 ghost use Rattle.store_model.specs.Service.Descriptor.{offsets, descriptors};
 ghost use Rattle.store_model.specs.Service.Install.{pairs_of};
 ghost use Rattle.store_model.specs.Service.Notify.{new_dispatches};

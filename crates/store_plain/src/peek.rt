@@ -1,5 +1,5 @@
 // Memory is read.
-ghost use Rattle.std.specs.Prelude.{◌≡◌, ◌≤◌, ◌<◌, ◌+◌, ◌^◌, ◌&&◌, ◌||◌, not, length, map, IsTrue};
+ghost use Rattle.std.specs.Prelude.{◌≡◌, ◌<◌, ◌+◌, ◌^◌, ◌&&◌, ◌||◌, not, length, map, IsTrue};
 ghost use Rattle.phys_mem.specs.Region.{is_inside};
 ghost use Rattle.pi_base.specs.Lists.{numbers};
 ghost use Rattle.store_model.specs.StateFacts.{IsStoreState};

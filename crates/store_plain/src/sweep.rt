@@ -2,7 +2,7 @@
 ghost use Rattle.std.specs.Prelude.{◌≡◌, ◌<◌, ◌≤◌, length, IfSome, IfNone, None, is_some, true};
 ghost use Rattle.store_model.specs.StateFacts.{IsStoreState, IsSweepOf};
 ghost use Rattle.store_model.specs.StoreCall.{IsMatch};
-ghost use Rattle.store_model.specs.Service.Sweep.{next_match, first_firing, firing_at, pairs_with, have_one_guid, places_at};
+ghost use Rattle.store_model.specs.Service.Sweep.{next_match, first_firing, firing_at, pairs_with, have_one_guid};
 
 use crate::store::PlainStore;
 use store_model::{Firing, Sweep};

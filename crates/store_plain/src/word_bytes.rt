@@ -1,8 +1,6 @@
 // Numbers of 8 bytes, one after another, and the bytes of a descriptor.
 ghost use Rattle.std.specs.Prelude.{◌≡◌, ◌≤◌, ◌<◌, ◌+◌, ◌*◌, ◌++◌, ◌^◌, length, take};
-ghost use Rattle.std.specs.List.{flat_map};
-ghost use Rattle.pi_base.specs.Field.{little_bytes};
-ghost use Rattle.store_model.specs.HeapImage.{descriptor_bytes, guid_address, kind_flags};
+ghost use Rattle.store_model.specs.HeapImage.{guid_address, kind_flags};
 ghost use Rattle.store_plain.specs.Words.{words_bytes, descriptor_words};
 
 use pi_base::put_u64;

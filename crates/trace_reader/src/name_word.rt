@@ -2,7 +2,6 @@
 ghost use Rattle.std.specs.Prelude.{◌≡◌};
 ghost use Rattle.std.specs.Bool.{Decides};
 ghost use Rattle.boot_model.specs.Text.{dash, guid_text, name_text, rank_text};
-ghost use Rattle.trace_reader.specs.Finds.{Finds};
 ghost use Rattle.trace_reader.specs.Readable.{IsGuid, IsName, IsRank};
 
 use crate::field::Field;

@@ -1,8 +1,8 @@
 // A part starts, may start again, or is opened or closed.
-ghost use Rattle.std.specs.Prelude.{◌≡◌, ◌≤◌, ◌<◌, ℕ, Some, true, false, length, slice_get};
+ghost use Rattle.std.specs.Prelude.{◌≡◌, ◌≤◌, ◌<◌, ℕ, true, false, length};
 ghost use Rattle.place_set.specs.Places.{count};
 ghost use Rattle.wait_index.specs.declared.verdict.Verdict.{Verdict as OfVerdict};
-ghost use Rattle.wait_index.specs.Places.{order_of, standing_of, IsInOrder, AreJudged};
+ghost use Rattle.wait_index.specs.Places.{order_of, IsInOrder, AreJudged};
 ghost use Rattle.wait_index.specs.Change.{IsChanged, started, again, gated};
 
 use crate::places::Places;

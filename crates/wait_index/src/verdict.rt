@@ -1,12 +1,11 @@
 // What the expression of a part says over the GUIDs that are installed.
-ghost use Rattle.std.specs.Prelude.{◌≡◌, ◌≤◌, ◌+◌, Bool, true, false, if◌then◌else◌, option_copied};
+ghost use Rattle.std.specs.Prelude.{◌≡◌, ◌≤◌, ◌+◌, if◌then◌else◌};
 ghost use Rattle.pi_base.specs.declared.phase.Phase.{Phase as OfPhase};
 ghost use Rattle.catalog_model.specs.declared.catalog.Part.{Part as OfPart};
-ghost use Rattle.catalog_model.specs.Parts.{part_at};
 ghost use Rattle.boot_model.specs.Eligible.{depex_holds};
 ghost use Rattle.wait_index.specs.Verdict.{verdict_by, absent_verdict, expression_verdict, part_verdict, verdict_of};
 ghost use Rattle.wait_index.specs.Installed.{is_there};
-ghost use Rattle.catalog_model.specs.WellFormed.{IsShort, IsShortExpression, AreShort};
+ghost use Rattle.catalog_model.specs.WellFormed.{IsShortExpression, AreShort};
 
 use crate::installed::Installed;
 use catalog_model::{Catalog, Part, PartExpr};

@@ -1,5 +1,5 @@
 // The GUIDs that expressions push: first each has its slot, then each slot has the modules that push its GUID.
-ghost use Rattle.std.specs.Prelude.{◌≡◌, ◌≤◌, ◌<◌, ◌++◌, ◌∷◌, [], List, ℕ, true, false, Some, length, slice_set, if◌then◌else◌, IfOk, OnOk};
+ghost use Rattle.std.specs.Prelude.{◌≡◌, ◌≤◌, ◌<◌, [], false, Some, length, slice_set, if◌then◌else◌, IfOk, OnOk};
 ghost use Rattle.pi_base.specs.declared.guid.Guid.{Guid as OfGuid};
 ghost use Rattle.guid_map.specs.GuidMap.{value_of};
 ghost use Rattle.catalog_model.specs.declared.limits.TheConstants.{MOST_MODULES};
