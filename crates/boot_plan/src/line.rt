@@ -34,8 +34,8 @@ fn without_return(line: &[u8]) -> &[u8]
     }
 }
 
-// The first line of a text, and what follows it.
-pub(crate) fn first_line(text: &[u8]) -> (&[u8], &[u8])
+/// The first line of a text, and what follows it. A line ends with a line feed, which the last may lack; a carriage return directly before it is dropped.
+pub fn first_line(text: &[u8]) -> (&[u8], &[u8])
     requires { 0 < length text.now }
     ensures lines { lines text.now ≡ result.0.now ∷ lines result.1.now }
     ensures shorter { length result.1.now < length text.now }
@@ -47,8 +47,8 @@ pub(crate) fn first_line(text: &[u8]) -> (&[u8], &[u8])
     }
 }
 
-// Whether a line is empty or a comment.
-pub(crate) fn is_passed_over(line: &[u8]) -> bool
+/// Whether a line is passed over: it is empty or begins with `#`.
+pub fn is_passed_over(line: &[u8]) -> bool
     ensures { result ≡ is_passed_over line.now }
 {
     match line {

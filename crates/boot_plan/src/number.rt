@@ -38,8 +38,8 @@ fn number_in(base: u32, digits: &[u8]) -> Option<u64>
     Some(number)
 }
 
-// The number that a word spells: decimal digits, or `0x` and hexadecimal digits, below 2^64.
-pub(crate) fn number_of(word: &[u8]) -> Option<u64>
+/// The number that a word spells: decimal digits, or `0x` and hexadecimal digits of either case, below 2^64. None where it spells none.
+pub fn number_of(word: &[u8]) -> Option<u64>
     ensures { result ≡ number_of word.now }
 {
     match word {

@@ -23,8 +23,8 @@ fn has_outer_space(line: &[u8]) -> bool
     matches!(line, [SPACE, ..] | [.., SPACE])
 }
 
-// Whether a line has printable characters alone, and a space neither first nor last.
-pub(crate) fn is_plain(line: &[u8]) -> bool
+/// Whether a line has printable ASCII characters alone, and a space neither first nor last.
+pub fn is_plain(line: &[u8]) -> bool
     ensures { result ≡ is_plain line.now }
 {
     is_printable(line) && !has_outer_space(line)
@@ -43,8 +43,8 @@ fn behind_spaces(line: &[u8]) -> &[u8]
     rest
 }
 
-// The first word of a line that begins with none of the spaces, and the rest from the next word on.
-pub(crate) fn first_word(line: &[u8]) -> (&[u8], &[u8])
+/// The first word of a line that does not begin with a space, and the rest from the next word on. Words are separated by one or more spaces. Of an empty line both are empty.
+pub fn first_word(line: &[u8]) -> (&[u8], &[u8])
     requires { slice_index line.now 0 ≢ 32 }
     ensures words { 0 < length line.now → words line.now ≡ result.0.now ∷ words result.1.now }
     ensures some { 0 < length line.now → 0 < length result.0.now }

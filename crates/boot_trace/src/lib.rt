@@ -17,6 +17,7 @@ mod trace_line;
 
 pub use entry_list::count_ppis;
 pub use line::{put, put_all};
+pub use number_word::{DECIMAL_LEN, HEXADECIMAL_LEN, decimal_word, hexadecimal_word};
 pub use out::Out;
 pub use start::put_start;
 pub use store_hobs::{HobCount, count_hobs};

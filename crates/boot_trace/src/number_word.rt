@@ -8,10 +8,13 @@ use boot_model::{ExpressionWord, SHOWN_LEN};
 use pi_base::{Guid, decimal, hexadecimal};
 use store_model::CORE;
 
-// How long the words of numbers, of bytes that are shown and of expressions are at most.
-pub(crate) const DECIMAL_LEN: usize = 20;
+/// How many digits a number below 2^64 has at most in decimal.
+pub const DECIMAL_LEN: usize = 20;
 
-pub(crate) const HEXADECIMAL_LEN: usize = 18;
+/// How long a number below 2^64 is at most in hexadecimal, with `0x` before it.
+pub const HEXADECIMAL_LEN: usize = 18;
+
+// How long the words of bytes that are shown, of names and of expressions are at most.
 
 pub(crate) const SHOWN_HEX_LEN: usize = 2 * SHOWN_LEN;
 
@@ -19,8 +22,8 @@ pub(crate) const NAME_LEN: usize = 36;
 
 pub(crate) const EXPRESSION_LEN: usize = 43;
 
-// A number in decimal.
-pub(crate) fn decimal_word(number: u64) -> ArrayVec<u8, DECIMAL_LEN>
+/// A number in decimal, without leading zeros.
+pub fn decimal_word(number: u64) -> ArrayVec<u8, DECIMAL_LEN>
     ensures { result.items ≡ decimal number }
 {
     let mut digits = [0u8; DECIMAL_LEN];
@@ -31,8 +34,8 @@ pub(crate) fn decimal_word(number: u64) -> ArrayVec<u8, DECIMAL_LEN>
     word
 }
 
-// A number in hexadecimal, with `0x` before it.
-pub(crate) fn hexadecimal_word(number: u64) -> ArrayVec<u8, HEXADECIMAL_LEN>
+/// A number in hexadecimal, with `0x` before it, in lower case and without leading zeros.
+pub fn hexadecimal_word(number: u64) -> ArrayVec<u8, HEXADECIMAL_LEN>
     ensures { result.items ≡ hexadecimal number }
 {
     let mut digits = [0u8; HEXADECIMAL_LEN];

@@ -277,3 +277,24 @@ fn lines_of_audits_and_refusals(rt: HostRuntime) -> Result<(), Fail> {
         b"refused image 0 50 HeaderSum\n",
     )
 }
+
+#[test]
+fn numbers_are_words_in_decimal_and_in_hexadecimal(rt: HostRuntime) {
+    let rows = [
+        (0, b"0".as_slice(), b"0x0".as_slice()),
+        (
+            0x80000040,
+            b"2147483712".as_slice(),
+            b"0x80000040".as_slice(),
+        ),
+        (
+            u64::MAX,
+            b"18446744073709551615".as_slice(),
+            b"0xffffffffffffffff".as_slice(),
+        ),
+    ];
+    for (number, in_decimal, in_hexadecimal) in rows {
+        assert_eq!(rt; decimal_word(number).as_slice(), in_decimal);
+        assert_eq!(rt; hexadecimal_word(number).as_slice(), in_hexadecimal);
+    }
+}
