@@ -4,10 +4,10 @@ use Rattle.std.specs.Option.{option_map}
 use Rattle.std.proofs.lemmas.List.{nil_from_length}
 use Rattle.std.proofs.lemmas.Bool.Decides.{nat_tests}
 use Rattle.boot_plan.specs.declared.draft.Draft.{Draft}
-use Rattle.boot_plan.specs.Line.{is_passed_over}
+use Rattle.line_words.specs.Line.{is_passed_over}
 use Rattle.boot_plan.specs.Entry.{Entry, Temp, Ram, Volume, Fuel, Pages, read_entry, both}
 use Rattle.boot_plan.specs.Form.{form_of}
-use Rattle.boot_plan.specs.Number.{number_of}
+use Rattle.line_words.specs.Number.{number_of}
 use Rattle.boot_plan.specs.Said.{Said, said_from, temps, rams, fuels, pages, volumes}
 use Rattle.boot_plan.specs.LineCause.{is_repeated, is_within, is_area, line_cause}
 use Rattle.boot_plan.specs.Draft.{Keeps, IsInRange, HasPlace, IsEntryInRange}

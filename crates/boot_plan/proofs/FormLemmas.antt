@@ -1,6 +1,7 @@
 -- The form of a line of three words.
 use Rattle.std.proofs.Common.{◌≡◌, ℕ, ◌<◌, true, List, [], ◌∷◌, length, refl, arith, ap, ◌∙◌}
-use Rattle.boot_plan.specs.Form.{words, is_plain, form_of, long_form}
+use Rattle.line_words.specs.Words.{words, is_plain}
+use Rattle.boot_plan.specs.Form.{form_of, long_form}
 
 -- what stands in front of a word is not empty
 some_of : (line word : List ℕ) → (line ≡ [] → word ≡ []) → 0 < length word → 0 < length line

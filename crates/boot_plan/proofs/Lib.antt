@@ -1,7 +1,4 @@
-pub mod LineLemmas
-pub mod WordLemmas
 pub mod FormLemmas
-pub mod Values
 pub mod Drafts
 pub mod Names
 pub mod Adding

@@ -4,10 +4,11 @@ use Rattle.std.specs.List.{slice_split, onto_first, filter, list_all, AllByRecur
 use Rattle.std.proofs.lemmas.List.Elements.{All-from_recursion}
 use Rattle.std.proofs.lemmas.Bool.Decides.{nat_tests}
 use Rattle.boot_plan.specs.Entry.{Entry, Temp, Ram, Volume, Fuel, Pages}
-use Rattle.boot_plan.specs.Form.{words, is_plain, form_of, form_of_words, has_outer_space}
+use Rattle.line_words.specs.Words.{words, is_plain, has_outer_space}
+use Rattle.boot_plan.specs.Form.{form_of, form_of_words}
 use Rattle.boot_plan.specs.Range.{IsName}
 use Rattle.boot_plan.specs.declared.limits.TheConstants.{MOST_NAME}
-use Rattle.boot_plan.proofs.LineLemmas.{is_byte}
+use Rattle.line_words.proofs.LineLemmas.{is_byte}
 
 abbrev visible : ℕ → Type 0
 visible byte = (0x21 ≤ byte) × (byte ≤ 0x7e)

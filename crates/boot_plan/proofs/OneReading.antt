@@ -13,7 +13,7 @@ use Rattle.boot_plan.specs.declared.plan.PlanVolume.{PlanVolume}
 use Rattle.boot_plan.specs.declared.fault.PlanFault.{PlanFault}
 use Rattle.boot_plan.specs.declared.fault.PlanCause.{PlanCause}
 use Rattle.boot_plan.specs.declared.fault.PlanCause.TheVariants.{Memory}
-use Rattle.boot_plan.specs.Line.{lines}
+use Rattle.line_words.specs.Line.{lines}
 use Rattle.boot_plan.specs.Said.{Said, said, temps}
 use Rattle.boot_plan.specs.Draft.{Keeps}
 use Rattle.boot_plan.specs.PlanText.{AreSound, Makes, Gives, IsPlan, IsLineFault, IsPlanFault, cause_at, end_fault}

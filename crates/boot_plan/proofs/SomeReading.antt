@@ -12,7 +12,7 @@ use Rattle.boot_plan.specs.declared.fault.PlanFault.{PlanFault}
 use Rattle.boot_plan.specs.declared.fault.PlanCause.{PlanCause}
 use Rattle.boot_plan.specs.declared.fault.PlanCause.TheVariants.{Twice, Limit, Missing}
 use Rattle.boot_plan.specs.declared.limits.TheConstants.{DEFAULT_FUEL}
-use Rattle.boot_plan.specs.Line.{lines, is_passed_over}
+use Rattle.line_words.specs.Line.{lines, is_passed_over}
 use Rattle.boot_plan.specs.Form.{form_of}
 use Rattle.boot_plan.specs.Entry.{Entry, Temp, Ram, Volume, Fuel, Pages, read_entry}
 use Rattle.boot_plan.specs.Said.{Said, said, said_from}

@@ -1,6 +1,6 @@
 -- What a line of a plan says (own), by its first word. Its numbers are the words that spell them, or the numbers.
 use Rattle.std.specs.Prelude.{ℕ, List, Option, Some, None, option_map}
-use Rattle.boot_plan.specs.Number.{number_of}
+use Rattle.line_words.specs.Number.{number_of}
 
 pub data Entry (N : Type 0) : Type 0 where
   Temp : N → N → Entry N

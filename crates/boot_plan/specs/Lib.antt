@@ -1,5 +1,3 @@
-pub mod Line
-pub mod Number
 pub mod Form
 pub mod Entry
 pub mod View

@@ -8,7 +8,7 @@ use Rattle.boot_plan.specs.declared.fault.PlanFault.{PlanFault}
 use Rattle.boot_plan.specs.declared.fault.PlanCause.{PlanCause}
 use Rattle.boot_plan.specs.declared.fault.PlanCause.TheVariants.{Missing, Overlap, Room}
 use Rattle.boot_plan.specs.declared.limits.TheConstants.{LEAST_TEMP, DEFAULT_FUEL}
-use Rattle.boot_plan.specs.Line.{lines}
+use Rattle.line_words.specs.Line.{lines}
 use Rattle.boot_plan.specs.Said.{Said, said, temps, rams, volumes, fuels, pages}
 use Rattle.boot_plan.specs.LineCause.{line_cause}
 

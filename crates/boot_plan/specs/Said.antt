@@ -2,7 +2,7 @@
 use Rattle.std.specs.Prelude.{ℕ, ◌+◌, List, [], ◌∷◌, Option, Some, None, option_map, if◌then◌else◌}
 use Rattle.std.specs.Option.{option_and_then}
 use Rattle.std.specs.List.{cons_option, filter_map}
-use Rattle.boot_plan.specs.Line.{is_passed_over}
+use Rattle.line_words.specs.Line.{is_passed_over}
 use Rattle.boot_plan.specs.Form.{form_of}
 use Rattle.boot_plan.specs.Entry.{Entry, Temp, Ram, Volume, Fuel, Pages, read_entry}
 use Rattle.boot_plan.specs.declared.draft.Area.{Area}

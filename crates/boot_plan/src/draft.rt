@@ -10,8 +10,8 @@ use crate::limits::{
     LEAST_ADDRESS, LEAST_RAM, LEAST_TEMP, MOST_END, MOST_FUEL, MOST_PAGES, MOST_PLAN_VOLUMES,
     MOST_RAM, MOST_TEMP, PAGE_LEN, VOLUME_ALIGNMENT,
 };
-use crate::line::is_passed_over;
 use crate::plan::PlanVolume;
+use line_words::is_passed_over;
 use pi_base::{OutOfMemory, Seq};
 use std::alloc::Global;
 

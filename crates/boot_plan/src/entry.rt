@@ -3,7 +3,7 @@ ghost use Rattle.std.specs.Prelude.{◌≡◌, option_map};
 ghost use Rattle.boot_plan.specs.Entry.{read_entry};
 ghost use Rattle.boot_plan.specs.View.{form_view, entry_view};
 
-use crate::number::number_of;
+use line_words::number_of;
 
 // What a line says, by its first word; its numbers are words or numbers.
 #[derive(Clone, Copy)]

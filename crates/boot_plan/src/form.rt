@@ -5,7 +5,7 @@ ghost use Rattle.boot_plan.specs.View.{form_view};
 
 use crate::entry::Entry;
 use crate::limits::MOST_NAME;
-use crate::words::{first_word, is_plain};
+use line_words::{first_word, is_plain};
 
 const TEMP: [u8; 4] = *b"temp";
 

@@ -7,22 +7,16 @@ mod fault;
 mod finish;
 mod form;
 mod limits;
-mod line;
-mod number;
 mod plan;
 mod read;
-mod words;
 
 pub use fault::{PlanCause, PlanFault};
 pub use limits::{
     DEFAULT_FUEL, LEAST_ADDRESS, LEAST_RAM, LEAST_TEMP, MOST_END, MOST_FUEL, MOST_NAME, MOST_PAGES,
     MOST_PLAN_VOLUMES, MOST_RAM, MOST_TEMP, PAGE_LEN, VOLUME_ALIGNMENT,
 };
-pub use line::{first_line, is_passed_over};
-pub use number::number_of;
 pub use plan::{Plan, PlanVolume};
 pub use read::{one_reading, read_plan};
-pub use words::{first_word, is_plain};
 
 #[cfg(test)]
 mod tests;

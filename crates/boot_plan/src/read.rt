@@ -9,8 +9,8 @@ ghost use Rattle.boot_plan.specs.declared.fault.PlanCause.TheVariants.{Memory};
 use crate::draft::Draft;
 use crate::fault::PlanFault;
 use crate::finish::finish;
-use crate::line::first_line;
 use crate::plan::Plan;
+use line_words::first_line;
 use std::alloc::Global;
 
 /// Reads the text of a plan, of fewer than 2^32 - 1 bytes.

@@ -1,6 +1,6 @@
 use Rattle.std.proofs.Common.{◌≡◌, sym, ◌∙◌, ap, rules, ◌∷◌, []}
 use Rattle.std.proofs.lemmas.List.{nil_from_length}
-use Rattle.boot_plan.specs.Form.{words}
+use Rattle.line_words.specs.Words.{words}
 use Rattle.boot_plan.proofs.FormLemmas.{form_is}
 use Rattle.boot_plan.proofs.form.form_of.Goals as goal
 

@@ -1,4 +1,4 @@
-use Rattle.boot_plan.specs.Line.{lines}
+use Rattle.line_words.specs.Line.{lines}
 use Rattle.boot_plan.specs.Said.{said}
 use Rattle.boot_plan.proofs.OneReading.{one_plan, one_fault}
 use Rattle.boot_plan.proofs.SomeReading.{some_reading}

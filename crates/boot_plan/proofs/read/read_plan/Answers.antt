@@ -1,6 +1,6 @@
 use Rattle.std.proofs.lemmas.Result.{err_from_is_err_and}
 use Rattle.std.proofs.Common.{take, ◌∙◌, arith, rules, inl, below_more}
-use Rattle.boot_plan.specs.Line.{lines}
+use Rattle.line_words.specs.Line.{lines}
 use Rattle.boot_plan.specs.Said.{said}
 use Rattle.boot_plan.proofs.Reading.{at_is, said_more}
 use Rattle.boot_plan.proofs.OneReading.{read_ok, read_err, ended}

@@ -1,5 +1,5 @@
 use Rattle.std.proofs.Common.{◌≡◌, ℕ, ◌+◌, ◌<◌, ◌≤◌, length, take, drop, None}
-use Rattle.boot_plan.specs.Line.{lines}
+use Rattle.line_words.specs.Line.{lines}
 use Rattle.boot_plan.specs.Said.{said}
 use Rattle.boot_plan.specs.Draft.{Keeps, IsInRange}
 use Rattle.boot_plan.specs.PlanText.{cause_at}

@@ -1,6 +1,6 @@
 use Rattle.std.proofs.Common.{◌≡◌, ◌≤◌, length}
-use Rattle.boot_plan.specs.Form.{words}
-use Rattle.boot_plan.proofs.words.behind_spaces.Given as goal
+use Rattle.line_words.specs.Words.{words}
+use Rattle.line_words.proofs.words.behind_spaces.Given as goal
 
 abbrev pub invariant-spaces : goal.invariant-spaces
 invariant-spaces l = (words l.rest ≡ words l.line) × (length l.rest ≤ length l.line)

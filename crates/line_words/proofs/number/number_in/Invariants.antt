@@ -1,8 +1,8 @@
 use Rattle.std.proofs.Common.{◌≡◌, ◌<◌, ◌^◌, take, true}
 use Rattle.std.specs.List.{list_all}
 use Rattle.std.specs.Char.{is_digit}
-use Rattle.boot_plan.specs.Number.{value_in}
-use Rattle.boot_plan.proofs.number.number_in.Given as goal
+use Rattle.line_words.specs.Number.{value_in}
+use Rattle.line_words.proofs.number.number_in.Given as goal
 
 abbrev pub invariant-digits : goal.invariant-digits
 invariant-digits l = record {

@@ -1,4 +1,4 @@
--- The numbers of a plan (own): decimal digits, or `0x` and hexadecimal digits of either case, below 2^64.
+-- The numbers of a line (own): decimal digits, or `0x` and hexadecimal digits of either case, below 2^64.
 use Rattle.std.specs.Prelude.{ℕ, ◌+◌, ◌*◌, ◌^◌, Bool, ◌&&◌, nat_lt, ◌==◌, if◌then◌else◌, List, [], ◌∷◌, length, Option, Some, None}
 use Rattle.std.specs.Char.{digit_value, is_digit}
 use Rattle.std.specs.List.{list_all}

@@ -1,7 +1,7 @@
 // The words of a line.
 ghost use Rattle.std.specs.Prelude.{◌≡◌, ◌≢◌, ◌<◌, ◌≤◌, ◌&&◌, nat_le, ◌∷◌, [], length, slice_index};
 ghost use Rattle.std.specs.List.{list_all};
-ghost use Rattle.boot_plan.specs.Form.{words, is_plain, has_outer_space};
+ghost use Rattle.line_words.specs.Words.{words, is_plain, has_outer_space};
 
 use crate::line::place_of;
 
@@ -23,7 +23,7 @@ fn has_outer_space(line: &[u8]) -> bool
     matches!(line, [SPACE, ..] | [.., SPACE])
 }
 
-/// Whether a line has printable ASCII characters alone, and a space neither first nor last.
+/// Whether a line has printable characters alone, and a space neither first nor last.
 pub fn is_plain(line: &[u8]) -> bool
     ensures { result ≡ is_plain line.now }
 {
@@ -43,7 +43,7 @@ fn behind_spaces(line: &[u8]) -> &[u8]
     rest
 }
 
-/// The first word of a line that does not begin with a space, and the rest from the next word on. Words are separated by one or more spaces. Of an empty line both are empty.
+/// The first word of a line that begins with none of the spaces, and the rest from the next word on.
 pub fn first_word(line: &[u8]) -> (&[u8], &[u8])
     requires { slice_index line.now 0 ≢ 32 }
     ensures words { 0 < length line.now → words line.now ≡ result.0.now ∷ words result.1.now }

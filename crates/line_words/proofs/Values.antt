@@ -6,7 +6,7 @@ use Rattle.std.proofs.lemmas.List.Folds.{list_all-append}
 use Rattle.std.proofs.lemmas.Bool.Decides.{nat_tests}
 use Rattle.std.specs.Char.{digit_value, is_digit}
 use Rattle.std.specs.List.{list_all}
-use Rattle.boot_plan.specs.Number.{value_in, number_in, are_digits}
+use Rattle.line_words.specs.Number.{value_in, number_in, are_digits}
 
 -- digits behind digits
 pub value-append : (base : ℕ) (xs ys : List ℕ) → value_in base (xs ++ ys) ≡ value_in base xs * base ^ length ys + value_in base ys

@@ -1,7 +1,7 @@
 use Rattle.std.proofs.Common.{◌≡◌, ◌+◌, ◌-◌, arith, rules, length, take, drop, ap, ◌∙◌}
 use Rattle.std.proofs.lemmas.List.{take_all, nil_from_length, drop-drop, take_rest}
-use Rattle.boot_plan.proofs.LineLemmas.{lines_last, lines_more}
-use Rattle.boot_plan.proofs.line.first_line.Goals as goal
+use Rattle.line_words.proofs.LineLemmas.{lines_last, lines_more}
+use Rattle.line_words.proofs.line.first_line.Goals as goal
 
 pub returns-in-empty-clause-lines : goal.returns-in-empty-clause-lines
 returns-in-empty-clause-lines c =

@@ -6,8 +6,8 @@ use Rattle.std.proofs.lemmas.List.{drop_more, drop_all, take_all}
 use Rattle.std.proofs.lemmas.List.Splits.{slice_split_first}
 use Rattle.std.proofs.lemmas.List.Sums.{passes_at_first}
 use Rattle.std.proofs.lemmas.Bool.Decides.{nat_tests}
-use Rattle.boot_plan.specs.Form.{words}
-use Rattle.boot_plan.proofs.LineLemmas.{is_byte, no_cut}
+use Rattle.line_words.specs.Words.{words}
+use Rattle.line_words.proofs.LineLemmas.{is_byte, no_cut}
 
 -- a space at the front is no part of a word
 pub words_space : (rest : List ℕ) → words (32 ∷ rest) ≡ words rest

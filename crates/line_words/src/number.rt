@@ -1,7 +1,7 @@
-// The numbers of a plan.
+// The numbers of a line.
 ghost use Rattle.std.specs.Prelude.{◌≡◌, ◌≤◌, ◌<◌, ◌+◌, ◌*◌, ◌^◌};
 ghost use Rattle.std.specs.Option.{SomeIff};
-ghost use Rattle.boot_plan.specs.Number.{number_of, number_in};
+ghost use Rattle.line_words.specs.Number.{number_of, number_in};
 
 const DECIMAL: u32 = 10;
 
@@ -38,7 +38,7 @@ fn number_in(base: u32, digits: &[u8]) -> Option<u64>
     Some(number)
 }
 
-/// The number that a word spells: decimal digits, or `0x` and hexadecimal digits of either case, below 2^64. None where it spells none.
+/// The number that a word spells: decimal digits, or `0x` and hexadecimal digits of either case, below 2^64.
 pub fn number_of(word: &[u8]) -> Option<u64>
     ensures { result ≡ number_of word.now }
 {

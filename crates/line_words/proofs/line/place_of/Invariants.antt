@@ -1,5 +1,5 @@
 use Rattle.std.proofs.Common.{◌≡◌, ℕ, ◌<◌, get_or}
-use Rattle.boot_plan.proofs.line.place_of.Given as goal
+use Rattle.line_words.proofs.line.place_of.Given as goal
 
 abbrev pub invariant-search : goal.invariant-search
 invariant-search l = (k : ℕ) → k < l.place → get_or l.bytes k 0 ≡ l.sought → ⊥

@@ -1,9 +1,9 @@
 use Rattle.std.proofs.Common.{◌≡◌, ◌∙◌, arith, rules, ◌<◌, ◌+◌, get_or, take, ap}
 use Rattle.std.proofs.lemmas.List.{take_all}
 use Rattle.std.specs.Char.{digit_value}
-use Rattle.boot_plan.proofs.Values.{value_more, valid_more, too_great, is_number}
-use Rattle.boot_plan.specs.Number.{value_in}
-use Rattle.boot_plan.proofs.number.number_in.Goals as goal
+use Rattle.line_words.proofs.Values.{value_more, valid_more, too_great, is_number}
+use Rattle.line_words.specs.Number.{value_in}
+use Rattle.line_words.proofs.number.number_in.Goals as goal
 
 pub returns-in-None-with_digit : goal.returns-in-None-with_digit
 returns-in-None-with_digit c =

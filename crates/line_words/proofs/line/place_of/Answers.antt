@@ -1,6 +1,6 @@
 use Rattle.std.proofs.Common.{arith, length}
-use Rattle.boot_plan.proofs.LineLemmas.{place_is}
-use Rattle.boot_plan.proofs.line.place_of.Goals as goal
+use Rattle.line_words.proofs.LineLemmas.{place_is}
+use Rattle.line_words.proofs.line.place_of.Goals as goal
 
 pub returns-then-byte-sought-clause-first : goal.returns-then-byte-sought-clause-first
 returns-then-byte-sought-clause-first c =

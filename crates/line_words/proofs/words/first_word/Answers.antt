@@ -1,5 +1,5 @@
-use Rattle.boot_plan.proofs.WordLemmas.{words_first}
-use Rattle.boot_plan.proofs.words.first_word.Goals as goal
+use Rattle.line_words.proofs.WordLemmas.{words_first}
+use Rattle.line_words.proofs.words.first_word.Goals as goal
 
 pub returns-clause-words : goal.returns-clause-words
 returns-clause-words c = λ some.
