@@ -1,0 +1,15 @@
+pub mod Covers
+pub mod Neighbours
+pub mod Changes
+pub mod Stretches
+pub mod Highest
+pub mod Tops
+pub mod Unique
+pub mod Following
+pub mod Walking
+pub mod OneStop
+pub mod OneSpace
+pub mod WordCuts
+pub mod CommandLines
+pub mod Runs
+pub mod Prints

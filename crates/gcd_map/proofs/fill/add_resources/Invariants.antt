@@ -1,0 +1,16 @@
+use Rattle.std.proofs.Common.{length}
+use Rattle.pi_base.specs.Lists.{Each}
+use Rattle.gcd_map.specs.HobMap.{resources, MayCome, came}
+use Rattle.gcd_map.specs.HobFaults.{ComesNot}
+use Rattle.gcd_map.specs.Places.{IsNear}
+use Rattle.gcd_map.proofs.Following.{Goes}
+use Rattle.gcd_map.proofs.fill.add_resources.Given as goal
+
+abbrev pub invariant-resources : goal.invariant-resources
+invariant-resources l = record {
+  goes : Goes MayCome came ComesNot l.fn.map (resources l.bytes l.places) l.map (resources l.bytes l.rest);
+  near : Each IsNear l.rest;
+}
+
+abbrev pub decreases-resources : goal.decreases-resources
+decreases-resources l = length l.rest

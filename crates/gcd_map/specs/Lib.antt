@@ -1,0 +1,15 @@
+pub mod AddressSpace
+pub mod Stretch
+pub mod Commands
+pub mod Ranges
+pub mod SpaceMap
+pub mod Tests
+pub mod Growing
+pub mod OneMap
+pub mod HobMap
+pub mod HobFaults
+pub mod Places
+pub mod MapText
+pub mod CommandText
+pub mod CommandFaults
+pub mod Run

@@ -1,0 +1,21 @@
+-- The memory space map of a memory space: the one list of ranges from 0 to the limit that shows its states.
+use Rattle.std.specs.Prelude.{◌≡◌, ◌^◌, ◌<◌, ◌≤◌, List}
+use Rattle.gcd_map.specs.declared.range.GcdRange.{GcdRange}
+use Rattle.gcd_map.specs.declared.map.GcdMap.{GcdMap}
+use Rattle.gcd_map.specs.AddressSpace.{MemorySpace, state_at}
+use Rattle.gcd_map.specs.Ranges.{Cover, Differ}
+
+pub record IsSpaceMap (space : MemorySpace) (ranges : List GcdRange) : Type 0 where
+  pub covered : Cover (state_at space) 0 ranges space.limit
+  pub merged : Differ ranges
+
+-- the map shows that space, which has an address at least, and 2 ^ 52 at most
+pub record Shows (map : GcdMap) (space : MemorySpace) : Type 0 where
+  pub limit : map.limit ≡ space.limit
+  pub some : 0 < space.limit
+  pub most : space.limit ≤ 2 ^ 52
+  pub ranges : IsSpaceMap space map.ranges
+
+-- what a call that took memory spaces that its map shows leaves
+abbrev pub AfterEach : GcdMap → GcdMap → (MemorySpace → MemorySpace → Type 0) → Type 0
+AfterEach before now R = (old : MemorySpace) → Shows before old → (new : MemorySpace) × R old new × Shows now new

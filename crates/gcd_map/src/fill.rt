@@ -1,0 +1,153 @@
+// The resources and allocations of a HOB list, one after another.
+ghost use Rattle.std.specs.Prelude.{◌≡◌, ◌≢◌, ◌<◌, ◌^◌, MatchResult};
+ghost use Rattle.pi_base.specs.Lists.{Each};
+ghost use Rattle.gcd_map.specs.declared.state.GcdKind.TheVariants.{NonExistent};
+ghost use Rattle.gcd_map.specs.declared.fault.GcdCause.TheVariants.{Memory};
+ghost use Rattle.gcd_map.specs.AddressSpace.{MemorySpace};
+ghost use Rattle.gcd_map.specs.SpaceMap.{Shows};
+ghost use Rattle.gcd_map.specs.HobMap.{resource_at, allocation_at, resources, allocations, MayCome, came, MayBeTaken, taken, Follow, IsFilled};
+ghost use Rattle.gcd_map.specs.HobFaults.{ComesNot, IsNotTaken, Stops, IsMemoryFault};
+ghost use Rattle.gcd_map.specs.Places.{IsNear, resource_cause, allocation_cause, IsFaultOf, Step, IsStepFault};
+
+use crate::fault::{GcdCause, GcdFault};
+use crate::hob::{HobStretch, allocation_at, resource_at};
+use crate::map::GcdMap;
+use crate::state::GcdKind;
+use crate::word::GcdWord;
+use hob_codec::HobPlace;
+
+fn resource_cause(word: GcdWord) -> GcdCause
+    ensures { result ≡ resource_cause word }
+{
+    match word {
+        GcdWord::AccessDenied => GcdCause::Overlap,
+        GcdWord::Memory => GcdCause::Memory,
+        _ => GcdCause::Range,
+    }
+}
+
+fn allocation_cause(word: GcdWord) -> GcdCause
+    ensures { result ≡ allocation_cause word }
+{
+    match word {
+        GcdWord::Memory => GcdCause::Memory,
+        _ => GcdCause::Outside,
+    }
+}
+
+// Adds a resource.
+fn add_resource(map: &mut GcdMap, resource: HobStretch) -> Result<(), GcdFault>
+    requires shown { (space : MemorySpace) × Shows map.old space }
+    requires used { resource.kind ≢ NonExistent }
+    requires near { resource.at < 2 ^ 32 }
+    ensures { (space : MemorySpace) → Shows map.old space
+        → MatchResult result (λ _. MayCome space resource × Shows map.new (came space resource))
+        (IsFaultOf ComesNot space resource) }
+{
+    match map.add(resource.kind, resource.base, resource.len) {
+        Ok(()) => Ok(()),
+        Err(word) => Err(GcdFault {
+            cause: resource_cause(word),
+            at: resource.at as u32,
+        }),
+    }
+}
+
+// Allocates what an allocation HOB tells.
+fn take_allocation(map: &mut GcdMap, allocation: HobStretch) -> Result<(), GcdFault>
+    requires shown { (space : MemorySpace) × Shows map.old space }
+    requires near { allocation.at < 2 ^ 32 }
+    ensures { (space : MemorySpace) → Shows map.old space
+        → MatchResult result (λ _. MayBeTaken space allocation × Shows map.new (taken space allocation))
+        (IsFaultOf IsNotTaken space allocation) }
+{
+    match map.allocate(GcdKind::System, allocation.base, allocation.len) {
+        Ok(()) => Ok(()),
+        Err(word) => Err(GcdFault {
+            cause: allocation_cause(word),
+            at: allocation.at as u32,
+        }),
+    }
+}
+
+// Adds the resource at a place, if one is there.
+fn add_at(map: &mut GcdMap, bytes: &[u8], at: usize) -> Result<(), GcdFault>
+    requires shown { (space : MemorySpace) × Shows map.old space }
+    requires near { at < 2 ^ 32 }
+    ensures { (space : MemorySpace) → Shows map.old space
+        → MatchResult result (λ _. Step MayCome came space (resource_at bytes.now at) map.new)
+        (IsStepFault ComesNot space (resource_at bytes.now at)) }
+{
+    match resource_at(bytes, at) {
+        Some(resource) => add_resource(map, resource),
+        None => Ok(()),
+    }
+}
+
+// Allocates what the HOB at a place tells, if it is an allocation.
+fn take_at(map: &mut GcdMap, bytes: &[u8], at: usize) -> Result<(), GcdFault>
+    requires shown { (space : MemorySpace) × Shows map.old space }
+    requires near { at < 2 ^ 32 }
+    ensures { (space : MemorySpace) → Shows map.old space
+        → MatchResult result (λ _. Step MayBeTaken taken space (allocation_at bytes.now at) map.new)
+        (IsStepFault IsNotTaken space (allocation_at bytes.now at)) }
+{
+    match allocation_at(bytes, at) {
+        Some(allocation) => take_allocation(map, allocation),
+        None => Ok(()),
+    }
+}
+
+// Adds the resources in order.
+fn add_resources(map: &mut GcdMap, bytes: &[u8], places: &[HobPlace]) -> Result<(), GcdFault>
+    requires shown { (space : MemorySpace) × Shows map.old space }
+    requires near { Each IsNear places.now }
+    ensures { (space : MemorySpace) → Shows map.old space
+        → MatchResult result
+        (λ _. (end : MemorySpace) × Follow MayCome came space (resources bytes.now places.now) end × Shows map.new end)
+        (λ fault. fault.cause ≢ Memory → Stops MayCome came ComesNot space (resources bytes.now places.now) fault) }
+{
+    let mut rest = places;
+    'resources: while let Some((place, after)) = rest.split_first() {
+        match add_at(map, bytes, place.at) {
+            Ok(()) => {}
+            Err(fault) => return Err(fault),
+        }
+        rest = after;
+    }
+    Ok(())
+}
+
+// Allocates the allocations in order.
+fn take_allocations(map: &mut GcdMap, bytes: &[u8], places: &[HobPlace]) -> Result<(), GcdFault>
+    requires shown { (space : MemorySpace) × Shows map.old space }
+    requires near { Each IsNear places.now }
+    ensures { (space : MemorySpace) → Shows map.old space
+        → MatchResult result
+        (λ _. (end : MemorySpace) × Follow MayBeTaken taken space (allocations bytes.now places.now) end × Shows map.new end)
+        (λ fault. fault.cause ≢ Memory → Stops MayBeTaken taken IsNotTaken space (allocations bytes.now places.now) fault) }
+{
+    let mut rest = places;
+    'allocations: while let Some((place, after)) = rest.split_first() {
+        match take_at(map, bytes, place.at) {
+            Ok(()) => {}
+            Err(fault) => return Err(fault),
+        }
+        rest = after;
+    }
+    Ok(())
+}
+
+// Adds the resources in order, and then allocates the allocations in order.
+pub(crate) fn fill(map: &mut GcdMap, bytes: &[u8], places: &[HobPlace]) -> Result<(), GcdFault>
+    requires shown { (space : MemorySpace) × Shows map.old space }
+    requires near { Each IsNear places.now }
+    ensures { (space : MemorySpace) → Shows map.old space
+        → MatchResult result (λ _. (end : MemorySpace) × IsFilled bytes.now places.now space end × Shows map.new end)
+        (λ fault. fault.cause ≢ Memory → IsMemoryFault bytes.now places.now space fault) }
+{
+    match add_resources(map, bytes, places) {
+        Ok(()) => take_allocations(map, bytes, places),
+        Err(fault) => Err(fault),
+    }
+}

@@ -1,0 +1,38 @@
+//! The memory space map of the global coherency domain: which memory there is, of which kind, and what of it is allocated. It begins
+//! as a HOB list tells, and commands change it, which are also read as text. PI 1.8, volume 2, "Global Coherency Domain Services".
+//! No attributes, owners or I/O space.
+#![tactic(auto)]
+
+mod change;
+mod command;
+mod commands;
+mod fault;
+mod fill;
+mod hob;
+mod hobs;
+mod map;
+mod need;
+mod perform;
+mod print;
+mod range;
+mod search;
+mod state;
+mod text_word;
+mod walk;
+mod word;
+
+pub use command::{ALIGN_END, Command, read_command};
+pub use commands::{CommandFault, one_reading, read_commands};
+pub use fault::{GcdCause, GcdFault};
+pub use hobs::{MOST_BYTES, from_hobs, one_space};
+pub use map::{GcdMap, LEAST_BITS, MOST_ALIGN, MOST_BITS, one_map};
+pub use perform::Answer;
+pub use print::{
+    put_answer, put_answers, put_command_refusal, put_hobs_refusal, put_map, put_range,
+};
+pub use range::GcdRange;
+pub use state::{GcdKind, SpaceState};
+pub use word::GcdWord;
+
+#[cfg(test)]
+mod tests;

@@ -1,0 +1,72 @@
+// Doing commands.
+ghost use Rattle.std.specs.Prelude.{◌≡◌, map, IfOk};
+ghost use Rattle.gcd_map.specs.AddressSpace.{MemorySpace};
+ghost use Rattle.gcd_map.specs.SpaceMap.{Shows, AfterEach};
+ghost use Rattle.gcd_map.specs.Run.{CommandRow, IsRun};
+
+use crate::command::Command;
+use crate::map::GcdMap;
+use crate::word::GcdWord;
+use pi_base::{OutOfMemory, Seq};
+use std::alloc::Global;
+
+/// What a command is answered.
+#[derive(Clone, Copy, Debug, PartialEq, Eq)]
+pub enum Answer {
+    /// It was done.
+    Done,
+    /// It was done at this base.
+    At(u64),
+    /// It was refused, and changed nothing.
+    Refused(GcdWord),
+}
+
+impl GcdMap {
+    /// Does a command, by the call of its name.
+    pub fn perform(&mut self, command: Command) -> Answer
+        requires { (space : MemorySpace) × Shows self.old space }
+        ensures row { AfterEach self.old self.new (λ old new. CommandRow command old result new) }
+    {
+        let done = match command {
+            Command::Add { kind, base, len } => self.add(kind, base, len),
+            Command::Allocate { kind, base, len } => self.allocate(kind, base, len),
+            Command::Top { kind, align, len } => {
+                return match self.top(kind, align, len) {
+                    Ok(base) => Answer::At(base),
+                    Err(word) => Answer::Refused(word),
+                };
+            }
+            Command::Free { base, len } => self.free(base, len),
+            Command::Remove { base, len } => self.remove(base, len),
+        };
+        match done {
+            Ok(()) => Answer::Done,
+            Err(word) => Answer::Refused(word),
+        }
+    }
+
+    /// Does commands in order, and gives each with its answer. Where memory is wanting for the map, those behind are not done.
+    pub fn run(
+        &mut self,
+        alloc: Global,
+        commands: &[Command],
+    ) -> Result<Seq<(Command, Answer)>, OutOfMemory>
+        requires { (space : MemorySpace) × Shows self.old space }
+        ensures commands { IfOk result (λ steps. map (λ step. step.0) steps ≡ commands.now) }
+        ensures run { IfOk result (λ steps. AfterEach self.old self.new (λ old new. IsRun old steps new)) }
+        ensures shown { (space : MemorySpace) × Shows self.new space }
+    {
+        let mut steps = Seq::new(alloc);
+        'commands: for command in commands {
+            let answer = self.perform(*command);
+            if answer == Answer::Refused(GcdWord::Memory) {
+                return Err(OutOfMemory);
+            }
+            match steps.push((*command, answer)) {
+                Ok(()) => {}
+                Err(OutOfMemory) => return Err(OutOfMemory),
+            }
+        }
+        Ok(steps)
+    }
+}
