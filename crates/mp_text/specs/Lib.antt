@@ -1,0 +1,5 @@
+pub mod Words
+pub mod LineText
+pub mod FileText
+pub mod FileFaults
+pub mod OutcomeText
