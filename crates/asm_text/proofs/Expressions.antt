@@ -19,7 +19,7 @@ use Rattle.asm_text.specs.ReadTree.{Finds, IsTreeOf, IsExpressionOf}
 use Rattle.asm_text.specs.ReadDepex.{IsDepexOf, IsDepexText}
 use Rattle.asm_text.proofs.Fronts.{not_behind}
 use Rattle.asm_text.proofs.Guids.{is_guid_char, guid_chars, guid_at_front, guid_word_is, guid_word_there}
-use Rattle.asm_text.proofs.LineFeeds.{both_lack, feed_there, same_line, same_rest}
+use Rattle.asm_text.proofs.LineFeeds.{both_lack, feed_there, lined, same_line, same_rest}
 
 -- what the text of a tree begins with
 abbrev is_tree_front : List ℕ → Bool
@@ -152,9 +152,6 @@ first_of text l rest more e lacks here is = same_line l (expression_text e) rest
 
 some_text : IsDepexText (depex_text (Expr false True))
 some_text = (Expr false True, (tt, refl))
-
-lined : (next after : List ℕ) → line next ++ after ≡ next ++ 10 ∷ after
-lined next after = append_assoc next (10 ∷ []) after
 
 -- no line feed
 pub bad_short : (text : List ℕ) → Lacks 10 text → IsBadLine IsDepexText text 1

@@ -1,5 +1,5 @@
 -- From place to place in the text of a tree.
-use Rattle.std.proofs.Common.{◌≡◌, ℕ, Bool, List, [], ◌∷◌, ◌++◌, Option, Some, None, refl, sym, ap, subst, ◌∙◌}
+use Rattle.std.proofs.Common.{◌≡◌, ◌≤◌, ◌-◌, suc, length, get_or, arith, ℕ, Bool, List, [], ◌∷◌, ◌++◌, Option, Some, None, refl, sym, ap, subst, ◌∙◌}
 use Rattle.std.proofs.lemmas.Option.{same_Some}
 use Rattle.depex_code.specs.declared.opcode.Opcode.{Opcode}
 use Rattle.asm_text.specs.declared.token.Waiting.{Waiting}
@@ -49,7 +49,7 @@ with_first_some : {A : Type 0} (y : A) (o : Option (List A × A)) → with_first
 with_first_some y None e = absurd cc
 with_first_some y (Some parts) e = absurd cc
 
-split_none : {A : Type 0} (xs : List A) → split_last xs ≡ None → xs ≡ []
+pub split_none : {A : Type 0} (xs : List A) → split_last xs ≡ None → xs ≡ []
 split_none [] e = refl
 split_none (y ∷ ys) e = absurd (with_first_some y (split_last ys) e)
 
@@ -69,3 +69,16 @@ pub resumed_by : (text : List ℕ) (code : List Opcode) (old new : List Waiting)
     → resumed text code (split_last old) ≡ resumed text code (Some (new, kind))
 resumed_by text code old new what kind parts is =
     ap (λ w. resumed text code (split_last w)) parts ∙ ap (resumed text code) (split_push new what) ∙ ap (λ k. resumed text code (Some (new, k))) is
+
+alone : {A : Type 0} (y x : A) → y ≡ x → split_last (y ∷ []) ≡ Some ([], x)
+alone y x is = rw is refl
+
+-- the last of a list, by its place
+pub last_parts : {A : Type 0} (xs : List A) (x : A) → 1 ≤ length xs → x ≡ get_or xs (length xs - 1) x → (front : List A) × (split_last xs ≡ Some (front, x))
+last_parts {A} [] x some is = absurd (omega arith)
+last_parts {A} (y ∷ []) x some is = ([], alone y x (sym is))
+last_parts {A} (y ∷ (z ∷ ys)) x some is =
+    let place : suc (length (z ∷ ys)) - 1 ≡ suc (length (z ∷ ys) - 1) = omega arith in
+    let more = last_parts (z ∷ ys) x (omega arith) (rw place at is) in
+    let found : Option (List A × A) = Some (more.0, x) in
+    (y ∷ more.0, ap (with_first y) {y = found} more.1)

@@ -1,5 +1,5 @@
 -- Lines, and the first line of a text with which it goes wrong (own).
-use Rattle.std.specs.Prelude.{◌≡◌, ℕ, ◌+◌, List, ◌++◌, length, flat_map, not, true, ◌==◌}
+use Rattle.std.specs.Prelude.{◌≡◌, ℕ, ◌+◌, List, ◌++◌, length, flat_map, not, true, ◌==◌, nat_lt}
 use Rattle.std.specs.List.{list_all, AllByRecursion}
 use Rattle.asm_text.specs.ScriptText.{line}
 
@@ -17,3 +17,7 @@ pub record IsBadLine (Is : List ℕ → Type 0) (text : List ℕ) (number : ℕ)
   pub begins : (more : List ℕ) × Is (flat_map line lines ++ more)
   pub stops : (next after : List ℕ) → Lacks 10 next → rest ≡ line next ++ after → (more : List ℕ) → Is (flat_map line lines ++ (line next ++ more)) → ⊥
   pub none : Is text → ⊥
+
+-- each byte of a word is above the space
+abbrev pub IsPlain : List ℕ → Type 0
+IsPlain word = list_all (λ byte. nat_lt 32 byte) word ≡ true

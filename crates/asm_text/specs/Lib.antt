@@ -1,12 +1,17 @@
 pub mod ActionText
 pub mod BadLine
+pub mod Drafts
 pub mod ExpressionText
 pub mod Front
+pub mod LineReading
 pub mod Numerals
+pub mod OperandReading
 pub mod Operands
 pub mod ReadDepex
 pub mod ReadScript
 pub mod ReadTree
+pub mod Reading
 pub mod ScriptText
 pub mod Texts
 pub mod Walk
+pub mod WordReading

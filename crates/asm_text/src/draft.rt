@@ -1,165 +1,202 @@
-// A script that is put together line by line.
-use crate::assembly::action_bytes;
+// A script that is put together line by line. Its last block may go on.
+ghost use Rattle.std.specs.Prelude.{◌≡◌, ◌-◌, ◌&&◌, length, nat_lt};
+ghost use Rattle.std.specs.List.{list_all};
+ghost use Rattle.act_code.specs.Index.{has_room, is_ret};
+ghost use Rattle.act_code.specs.ScriptReading.{ends_in_ret};
+ghost use Rattle.asm_text.specs.Reading.{Gives};
+ghost use Rattle.asm_text.specs.Drafts.{have_room, is_closed, may_end, may_stand, with_block, pushed, extended, with_line, names_below, is_whole};
+ghost use Rattle.asm_text.specs.Walk.{split_last};
+
+use crate::line_reading::action_of;
 use crate::script_text::block_text;
-use crate::table::{DESC, DXE_NOTIFY, RET, SKIP_IF};
-use act_code::{MAGIC, MOST_BLOCKS};
-use pi_base::{OutOfMemory, Phase, Seq, put_u16};
+use crate::unread::Unread;
+use act_code::{Action, MOST_BLOCKS, Script};
+use pi_base::{Phase, Seq};
 use std::alloc::Global;
 
 /// The most actions of a block.
-const MOST_ACTIONS: u16 = 1024;
+const MOST_ACTIONS: usize = 1024;
 
-const VERSION: u8 = 1;
-
-const PEI: u8 = 1;
-
-const DXE: u8 = 2;
-
+/// The kind of a descriptor of a PPI.
 const PPI: u8 = 0;
 
-/// What the lines so far say.
-#[derive(Drop)]
-pub(crate) struct Draft {
-    phase: Phase,
-    /// The bytes of the blocks before the last.
-    body: Seq<u8>,
-    /// The bytes of the last block's actions.
-    block: Seq<u8>,
-    /// How many blocks there are.
-    blocks: u8,
-    /// How many blocks the actions name at least.
-    named: u8,
-    /// How many actions the last block has.
-    actions: u16,
-    /// How many it needs, for those that its actions skip.
-    needed: u16,
-    /// Whether its last action is `ret`.
-    returned: bool,
-}
-
-// The block that an action names.
-fn block_of(action: &[u8]) -> Option<u8> {
+// Whether the actions that an action skips may stand behind it and one more, where so many are left with itself.
+fn has_room(action: &Action, left: usize) -> bool
+    ensures { result ≡ has_room left action.now }
+{
     match action {
-        [DESC, _, PPI, ..] => None,
-        [DESC, .., block] | [DXE_NOTIFY, .., block] => Some(*block),
-        _ => None,
+        Action::SkipIf { n, .. } => usize::from(*n) + 2 <= left,
+        _ => true,
     }
 }
 
-// How many actions an action skips, and needs one more behind them.
-fn skipped(action: &[u8]) -> Option<u8> {
+// Whether an action ends its frame.
+fn is_ret(action: &Action) -> bool
+    ensures { result ≡ is_ret action.now }
+{
     match action {
-        [SKIP_IF, _, n] => Some(*n),
-        _ => None,
-    }
-}
-
-// Whether an action is `ret`.
-fn is_ret(action: &[u8]) -> bool {
-    match action {
-        [RET, ..] => true,
+        Action::Ret { .. } => true,
         _ => false,
     }
 }
 
-impl Draft {
-    /// A script of a phase with no block yet.
-    pub(crate) fn new(alloc: Global, phase: Phase) -> Draft {
-        Draft {
-            phase,
-            body: Seq::new(alloc),
-            block: Seq::new(alloc),
-            blocks: 0,
-            named: 0,
-            actions: 0,
-            needed: 0,
-            returned: false,
+// Whether an action may stand where so many are left with it.
+fn may_stand(action: &Action, left: usize) -> bool
+    ensures { result ≡ may_stand left action.now }
+{
+    has_room(action, left) && (left > 1 || is_ret(action))
+}
+
+// Whether the last action is a ret.
+fn ends_in_ret(actions: &[Action]) -> bool
+    ensures { result ≡ ends_in_ret actions.now }
+{
+    match actions {
+        [.., last] => is_ret(last),
+        [] => false,
+    }
+}
+
+// Whether each action that skips others has them behind it and one more.
+fn have_room(actions: &[Action]) -> bool
+    ensures { result ≡ have_room (length actions.now) actions.now }
+{
+    'actions: for (index, action) in actions.iter().enumerate() {
+        if !has_room(action, actions.len() - index) {
+            return false;
         }
     }
+    true
+}
 
-    // Whether the last block may end where it stands.
-    fn is_closed(&self) -> bool {
-        self.returned && self.actions >= self.needed
+// Whether a block may end behind these actions.
+fn is_closed(actions: &[Action]) -> bool
+    ensures { result ≡ is_closed actions.now }
+{
+    ends_in_ret(actions) && have_room(actions)
+}
+
+// Whether the last block may end, or the answer where there is none.
+fn may_end(blocks: &[Seq<Action>], none: bool) -> bool
+    ensures { result ≡ may_end none (split_last blocks.now) }
+{
+    match blocks {
+        [.., last] => is_closed(last.as_slice()),
+        [] => none,
     }
+}
 
-    // Puts the last block behind those before it.
-    fn close(&mut self) -> Result<(), OutOfMemory> {
-        let mut count = [0u8; 2];
-        put_u16(&mut count, 0, self.actions);
-        self.body.append(&count)?;
-        self.body.append(self.block.as_slice())?;
-        self.block.truncate(0);
-        Ok(())
+// The script with one more block.
+fn with_block(alloc: Global, draft: Script) -> Result<Script, Unread>
+    ensures { Gives (λ x. x) result (with_block draft) }
+{
+    let Script { phase, mut blocks } = draft;
+    if blocks.len() < MOST_BLOCKS as usize && may_end(blocks.as_slice(), true) {
+        blocks.push(Seq::new(alloc))?;
+        Ok(Script { phase, blocks })
+    } else {
+        Err(Unread::Malformed)
     }
+}
 
-    // Begins a block. False where none may begin.
-    fn begin(&mut self) -> Result<bool, OutOfMemory> {
-        if self.blocks >= MOST_BLOCKS {
-            return Ok(false);
-        }
-        if self.blocks > 0 {
-            if !self.is_closed() {
-                return Ok(false);
+// All blocks but the last, and the last.
+fn split_last(mut blocks: Seq<Seq<Action>>) -> Option<(Seq<Seq<Action>>, Seq<Action>)>
+    ensures { result ≡ split_last blocks }
+{
+    match blocks.pop() {
+        Some(last) => Some((blocks, last)),
+        None => None,
+    }
+}
+
+// The blocks, and the last one with one more action.
+fn pushed(
+    phase: Phase,
+    mut others: Seq<Seq<Action>>,
+    mut last: Seq<Action>,
+    action: Action,
+) -> Result<Script, Unread>
+    ensures { Gives (λ x. x) result (pushed phase others last action) }
+{
+    if last.len() >= MOST_ACTIONS || !may_stand(&action, MOST_ACTIONS - last.len()) {
+        return Err(Unread::Malformed);
+    }
+    last.push(action)?;
+    others.push(last)?;
+    Ok(Script {
+        phase,
+        blocks: others,
+    })
+}
+
+// The script with one more action in its last block.
+fn extended(alloc: Global, draft: Script, line: &[u8]) -> Result<Script, Unread>
+    ensures { Gives (λ x. x) result (extended draft line.now) }
+{
+    let Script { phase, blocks } = draft;
+    let Some((others, last)) = split_last(blocks) else {
+        return Err(Unread::Malformed);
+    };
+    let action = action_of(alloc, phase, line)?;
+    pushed(phase, others, last, action)
+}
+
+/// The script with one more line.
+#[tactic(auto, unfolding(crate::specs::Drafts::with_line))]
+pub(crate) fn with_line(alloc: Global, draft: Script, line: &[u8]) -> Result<Script, Unread>
+    ensures { Gives (λ x. x) result (with_line draft line.now) }
+{
+    if line == block_text() {
+        with_block(alloc, draft)
+    } else {
+        extended(alloc, draft, line)
+    }
+}
+
+// Whether all blocks are below a number.
+fn are_below(blocks: &[u8], count: usize) -> bool
+    ensures { result ≡ list_all (λ b. nat_lt b count) blocks.now }
+{
+    blocks.iter().all(|block| usize::from(*block) < count)
+}
+
+// Whether an action names only blocks below a number.
+fn names_below(action: &Action, count: usize) -> bool
+    ensures { result ≡ names_below count action.now }
+{
+    match action {
+        Action::Desc { kind, arg, .. } => {
+            if *kind == PPI {
+                true
+            } else {
+                are_below(&[*arg], count)
             }
-            self.close()?;
         }
-        self.blocks = self.blocks.saturating_add(1);
-        self.actions = 0;
-        self.needed = 0;
-        self.returned = false;
-        Ok(true)
+        Action::DxeNotify { block, .. } => are_below(&[*block], count),
+        _ => true,
     }
+}
 
-    // Counts an action. False where the block could not end behind it.
-    fn count(&mut self, action: &[u8]) -> bool {
-        self.actions = self.actions.saturating_add(1);
-        self.returned = is_ret(action);
-        if let Some(n) = skipped(action) {
-            self.needed = self
-                .needed
-                .max(self.actions.saturating_add(u16::from(n) + 1));
-        }
-        if let Some(block) = block_of(action) {
-            self.named = self.named.max(block.saturating_add(1));
-        }
-        self.needed <= MOST_ACTIONS && (self.returned || self.actions < MOST_ACTIONS)
-    }
+// Whether all actions of a block do.
+fn name_below(actions: &[Action], count: usize) -> bool
+    ensures { result ≡ list_all (names_below count) actions.now }
+{
+    actions.iter().all(|action| names_below(action, count))
+}
 
-    // Adds the action of a line. False where none of a script stands there.
-    fn add(&mut self, alloc: Global, line: &[u8]) -> Result<bool, OutOfMemory> {
-        if self.blocks == 0 || self.actions >= MOST_ACTIONS {
-            return Ok(false);
-        }
-        let Some(action) = action_bytes(alloc, self.phase, line)? else {
-            return Ok(false);
-        };
-        self.block.append(action.as_slice())?;
-        Ok(self.count(action.as_slice()))
-    }
+// Whether all actions of all blocks do.
+fn all_name_below(blocks: &[Seq<Action>], count: usize) -> bool
+    ensures { result ≡ list_all (list_all (names_below count)) blocks.now }
+{
+    blocks
+        .iter()
+        .all(|actions| name_below(actions.as_slice(), count))
+}
 
-    /// Adds a line. False where the lines up to it begin no text of a script.
-    pub(crate) fn add_line(&mut self, alloc: Global, line: &[u8]) -> Result<bool, OutOfMemory> {
-        if line == block_text() {
-            self.begin()
-        } else {
-            self.add(alloc, line)
-        }
-    }
-
-    /// The bytes of the script. None where the lines are not all that it has.
-    pub(crate) fn finish(mut self, alloc: Global) -> Result<Option<Seq<u8>>, OutOfMemory> {
-        if self.blocks == 0 || !self.is_closed() || self.named > self.blocks {
-            return Ok(None);
-        }
-        self.close()?;
-        let phase = match self.phase {
-            Phase::Pei => PEI,
-            Phase::Dxe => DXE,
-        };
-        let mut bytes = Seq::new(alloc);
-        bytes.append(&MAGIC)?;
-        bytes.append(&[VERSION, phase, self.blocks, 0])?;
-        bytes.append(self.body.as_slice())?;
-        Ok(Some(bytes))
-    }
+/// Whether the lines are all that the script has.
+pub(crate) fn is_whole(draft: &Script) -> bool
+    ensures { result ≡ is_whole draft.now }
+{
+    may_end(draft.blocks.as_slice(), false)
+        && all_name_below(draft.blocks.as_slice(), draft.blocks.len())
 }

@@ -2,22 +2,27 @@
 #![tactic(auto)]
 
 mod action_text;
-mod assembly;
+mod common_line;
 mod depex_bytes;
 mod depex_reading;
 mod depex_text;
 mod draft;
+mod dxe_line;
 mod fault;
 mod front;
+mod line_reading;
+mod list_reading;
 mod operand;
+mod operand_reading;
+mod pei_line;
 mod script_reading;
 mod script_text;
-mod table;
 mod text_law;
 mod token;
 mod tree_reading;
 mod tree_text;
-mod words;
+mod unread;
+mod word;
 
 pub use depex_bytes::write_depex;
 pub use depex_reading::parse_depex;
@@ -25,7 +30,7 @@ pub use depex_text::print_depex;
 pub use fault::TextFault;
 pub use script_reading::parse_script;
 pub use script_text::print_script;
-pub use text_law::one_expression;
+pub use text_law::{one_bad_line, one_expression, one_script, scripts_of_bytes};
 
 #[cfg(test)]
 mod tests;

@@ -1,19 +1,25 @@
-// Reading the text of a script: its lines are put together as bytes, and what is read of these has to have the text.
-ghost use Rattle.std.specs.Prelude.{◌≡◌, ◌≤◌, ◌<◌, length, IfOk, IfSome};
-ghost use Rattle.act_code.specs.Script.{script_bytes, IsInGrammar, IsScript};
-ghost use Rattle.asm_text.specs.ScriptText.{script_text};
-ghost use Rattle.asm_text.specs.ReadScript.{IsScriptOf};
+// Reading the text of a script, line by line.
+ghost use Rattle.std.specs.Prelude.{◌≡◌, ◌≤◌, ◌<◌, ◌++◌, length, IfOk, IfErr};
+ghost use Rattle.act_code.specs.Script.{script_bytes};
+ghost use Rattle.act_code.specs.declared.script.Script.{Script};
+ghost use Rattle.asm_text.specs.Drafts.{phase_of};
+ghost use Rattle.asm_text.specs.ScriptText.{line, phase_text};
+ghost use Rattle.asm_text.specs.ReadScript.{IsScriptOf, IsScriptRefused, GivesScript};
 
-use crate::draft::Draft;
+use crate::draft::{is_whole, with_line};
 use crate::fault::TextFault;
 use crate::front::first_line;
-use crate::script_text::{phase_text, print_script};
-use act_code::{ActCause, MOST_SCRIPT, Script, read_script};
-use pi_base::{OutOfMemory, Phase, Seq};
+use crate::script_text::phase_text;
+use crate::unread::Unread;
+use act_code::{Script, WriteFault, write_script};
+use pi_base::{Phase, Seq};
 use std::alloc::Global;
 
 // The phase of a first line.
-fn phase_of(line: &[u8]) -> Option<Phase> {
+#[tactic(auto, unfolding(crate::specs::Drafts::phase_of))]
+fn phase_of(line: &[u8]) -> Option<Phase>
+    ensures { result ≡ phase_of line.now }
+{
     if line == phase_text(Phase::Pei) {
         Some(Phase::Pei)
     } else if line == phase_text(Phase::Dxe) {
@@ -23,67 +29,73 @@ fn phase_of(line: &[u8]) -> Option<Phase> {
     }
 }
 
-// The bytes of the script whose text this is, or the first line up to which none begins so.
-fn assemble(alloc: Global, text: &[u8]) -> Result<Seq<u8>, TextFault> {
-    let Some((line, after)) = first_line(text) else {
-        return Err(TextFault::Bad { line: 1 });
+// The script of a phase whose lines behind the first these are, or why there is none.
+fn read_lines(alloc: Global, phase: Phase, text: &[u8]) -> Result<Script, TextFault>
+    ensures read { IfOk result (IsScriptOf (line (phase_text phase) ++ text.now)) }
+    ensures refused { IfErr result (IsScriptRefused (line (phase_text phase) ++ text.now)) }
+{
+    let mut draft = Script {
+        phase,
+        blocks: Seq::new(alloc),
     };
-    let Some(phase) = phase_of(line) else {
-        return Err(TextFault::Bad { line: 1 });
-    };
-    let mut draft = Draft::new(alloc, phase);
-    let mut rest = after;
+    let mut rest = text;
     let mut number = 2u32;
     'lines: while !rest.is_empty() {
         let Some((line, after)) = first_line(rest) else {
             return Err(TextFault::Bad { line: number });
         };
-        if !draft.add_line(alloc, line)? {
-            return Err(TextFault::Bad { line: number });
+        match with_line(alloc, draft, line) {
+            Ok(next) => draft = next,
+            Err(Unread::Malformed) => return Err(TextFault::Bad { line: number }),
+            Err(Unread::Memory) => return Err(TextFault::Memory),
         }
         rest = after;
-        number = number.saturating_add(1);
+        number += 1;
     }
-    match draft.finish(alloc)? {
-        Some(bytes) => Ok(bytes),
-        None => Err(TextFault::Bad { line: number }),
+    if is_whole(&draft) {
+        Ok(draft)
+    } else {
+        Err(TextFault::Bad { line: number })
     }
 }
 
-// The script that bytes are, where the text is its own. Bytes that were put together of a script's lines are such.
-fn checked(alloc: Global, text: &[u8], bytes: &[u8]) -> Result<Option<Script>, OutOfMemory>
-    ensures { IfOk result (λ script. IfSome script (IsScriptOf text.now)) }
+// The script whose text this is, however long, or why there is none.
+fn read_text(alloc: Global, text: &[u8]) -> Result<Script, TextFault>
+    ensures read { IfOk result (IsScriptOf text.now) }
+    ensures refused { IfErr result (IsScriptRefused text.now) }
 {
-    match read_script(alloc, bytes) {
-        Ok(script) => {
-            if print_script(alloc, &script)?.as_slice() == text {
-                Ok(Some(script))
-            } else {
-                Ok(None)
-            }
-        }
-        Err(fault) => {
-            if fault.cause == ActCause::Memory {
-                Err(OutOfMemory)
-            } else {
-                Ok(None)
-            }
-        }
+    let Some((line, after)) = first_line(text) else {
+        return Err(TextFault::Bad { line: 1 });
+    };
+    match phase_of(line) {
+        Some(phase) => read_lines(alloc, phase, after),
+        None => Err(TextFault::Bad { line: 1 }),
     }
 }
 
-/// Reads the text of a script. TooLong where its bytes would pass 65,536. That the text of each script is read, and which line is told of a text
-/// of none, is tested and not proved.
+// The script whose text this is, within the limit, or why there is none.
+fn read_short(alloc: Global, text: &[u8]) -> Result<Script, TextFault>
+    ensures read { IfOk result (IsScriptOf text.now) }
+    ensures short { IfOk result (λ script. length (script_bytes script) ≤ 65536) }
+    ensures refused { IfErr result (IsScriptRefused text.now) }
+{
+    let script = read_text(alloc, text)?;
+    match write_script(alloc, &script) {
+        Ok(_) => Ok(script),
+        Err(WriteFault::TooLong) => Err(TextFault::TooLong),
+        Err(WriteFault::Memory) => Err(TextFault::Memory),
+    }
+}
+
+/// Reads the text of a script.
 pub fn parse_script(alloc: Global, text: &[u8]) -> Result<Script, TextFault>
     // What is read is the script whose text this is, and its bytes keep their limit.
     ensures read { IfOk result (IsScriptOf text.now) }
+    ensures short { IfOk result (λ script. length (script_bytes script) ≤ 65536) }
+    // The text of such a script is read as it, unless memory ran out.
+    ensures again { (script : Script) → IsScriptOf text.now script → length (script_bytes script) ≤ 65536 → GivesScript script result }
+    // Where nothing is read, the text is that of a longer script, or goes wrong with this line, or memory ran out.
+    ensures refused { IfErr result (IsScriptRefused text.now) }
 {
-    let bytes = assemble(alloc, text)?;
-    if bytes.len() > MOST_SCRIPT {
-        return Err(TextFault::TooLong);
-    }
-    match checked(alloc, text, bytes.as_slice())? {
-        Some(script) => Ok(script),
-        None => Err(TextFault::Bad { line: 1 }),
-    }
+    read_short(alloc, text)
 }

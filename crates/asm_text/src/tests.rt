@@ -313,3 +313,103 @@ fn no_scripts(rt: HostRuntime) {
         }
     }
 }
+
+// Some lines, a line so many times, and other lines.
+fn repeated(
+    alloc: Global,
+    front: &[u8],
+    line: &[u8],
+    count: usize,
+    behind: &[u8],
+) -> Result<Seq<u8>, Fail> {
+    let mut text = Seq::new(alloc);
+    put(&mut text, front)?;
+    for _ in 0..count {
+        put(&mut text, line)?;
+    }
+    put(&mut text, behind)?;
+    Ok(text)
+}
+
+/// Lines, a line and how many times it stands behind them, other lines, and the line with which the text goes wrong; 0 where it is a script's.
+const LIMITS: [(&[u8], &[u8], usize, &[u8], u32); 8] = [
+    // 1,024 actions
+    (b"phase pei\nblock\n", b"log a\n", 1023, b"ret Success\n", 0),
+    // and one that is no ret, or one more
+    (b"phase pei\nblock\n", b"log a\n", 1024, b"", 1026),
+    (
+        b"phase pei\nblock\n",
+        b"ret Success\n",
+        1024,
+        b"ret Success\n",
+        1027,
+    ),
+    // 64 blocks
+    (b"phase pei\n", b"block\nret Success\n", 64, b"", 0),
+    (b"phase pei\n", b"block\nret Success\n", 64, b"block\n", 130),
+    // an action that skips 255, 257 before the block's last place and 256
+    (
+        b"phase pei\nblock\n",
+        b"log a\n",
+        767,
+        b"skip_if 0 255\n",
+        771,
+    ),
+    (
+        b"phase pei\nblock\n",
+        b"log a\n",
+        768,
+        b"skip_if 0 255\n",
+        771,
+    ),
+    // the highest number of a block, reached by none
+    (
+        b"phase dxe\n",
+        b"block\nnotify 03020100-0504-0706-0809-0a0b0c0d0e0f block 63\nret Success\n",
+        63,
+        b"",
+        191,
+    ),
+];
+
+#[test]
+fn limits_of_scripts(rt: HostRuntime) -> Result<(), Fail> {
+    for (front, line, count, behind, bad) in &LIMITS {
+        let text = repeated(rt.alloc(), front, line, *count, behind)?;
+        match parse_script(rt.alloc(), text.as_slice()) {
+            Ok(_) => assert_eq!(rt; *bad, 0),
+            Err(fault) => assert_eq!(rt; fault, TextFault::Bad { line: *bad }),
+        }
+    }
+    Ok(())
+}
+
+/// A script with 992 texts of 64 characters, which take 66 bytes each.
+const LONG: &[u8] = b"log 0123456789abcdef0123456789abcdef0123456789abcdef0123456789abcdef\n";
+
+#[test]
+fn longest_script(rt: HostRuntime) -> Result<(), Fail> {
+    let longest = repeated(
+        rt.alloc(),
+        b"phase pei\nblock\n",
+        LONG,
+        992,
+        b"log 0123456789abcdef0123456789abcdef0123456789abcdef01\nret Success\n",
+    )?;
+    let Ok(bytes) = assembled(rt.alloc(), longest.as_slice()) else {
+        panic!(rt; "not read");
+    };
+    assert_eq!(rt; bytes.len(), 65536);
+    let longer = repeated(
+        rt.alloc(),
+        b"phase pei\nblock\n",
+        LONG,
+        992,
+        b"log 0123456789abcdef0123456789abcdef0123456789abcdef012\nret Success\n",
+    )?;
+    match parse_script(rt.alloc(), longer.as_slice()) {
+        Ok(_) => panic!(rt; "read"),
+        Err(fault) => assert_eq!(rt; fault, TextFault::TooLong),
+    }
+    Ok(())
+}

@@ -1,10 +1,33 @@
-// The law of texts.
-ghost use Rattle.std.specs.Prelude.{◌≡◌};
+// The laws of texts.
+ghost use Rattle.std.specs.Prelude.{◌≡◌, ℕ, List};
 ghost use Rattle.depex_code.specs.declared.depex.Depex.{Depex};
+ghost use Rattle.act_code.specs.declared.script.Script.{Script};
+ghost use Rattle.act_code.specs.Script.{IsScript};
+ghost use Rattle.hex.specs.Hex.{IsBytes};
+ghost use Rattle.asm_text.specs.BadLine.{IsBadLine};
 ghost use Rattle.asm_text.specs.ExpressionText.{depex_text};
+ghost use Rattle.asm_text.specs.ScriptText.{script_text};
 ghost use Rattle.asm_text.specs.ReadTree.{IsExpression};
+ghost use Rattle.asm_text.specs.ReadDepex.{IsDepexText};
+ghost use Rattle.asm_text.specs.ReadScript.{IsWellFormed, IsScriptText};
 
 /// A text is that of one expression, so `parse_depex` gives back what `print_depex` was given.
 pub fn one_expression()
     ensures { (depex other : Depex) → IsExpression depex → IsExpression other → depex_text depex ≡ depex_text other → depex ≡ other }
+{}
+
+/// A text is that of one script, so `parse_script` gives back what `print_script` was given.
+pub fn one_script()
+    ensures { (script other : Script) → IsWellFormed script → IsWellFormed other → script_text script ≡ script_text other → script ≡ other }
+{}
+
+/// A script that bytes spell is one that a text can be of.
+pub fn scripts_of_bytes()
+    ensures { (bytes : List ℕ) (script : Script) → IsBytes bytes → IsScript bytes script → IsWellFormed script }
+{}
+
+/// A text goes wrong with one line, as an expression and as a script.
+pub fn one_bad_line()
+    ensures expressions { (text : List ℕ) (m n : ℕ) → IsBadLine IsDepexText text m → IsBadLine IsDepexText text n → m ≡ n }
+    ensures scripts { (text : List ℕ) (m n : ℕ) → IsBadLine IsScriptText text m → IsBadLine IsScriptText text n → m ≡ n }
 {}

@@ -1,0 +1,207 @@
+-- An action's line is read as it, and as no other.
+use Rattle.std.proofs.Common.{◌≡◌, ℕ, Bool, true, false, List, [], ◌∷◌, ◌++◌, length, take, drop, flat_map, Option, Some, refl, sym, ap, subst, ◌∙◌, arith}
+use Rattle.std.specs.Prelude.{bytes_eq, nat_lt, codes, ◌==◌, if◌then◌else◌}
+use Rattle.std.specs.List.{list_all}
+use Rattle.std.proofs.lemmas.Bool.{and_parts, and_from, false≢true, eqb-true}
+use Rattle.std.proofs.lemmas.List.{append-nil, take_at, drop_at, take-append-drop}
+use Rattle.hex.specs.Hex.{IsBytes}
+use Rattle.pi_base.specs.declared.phase.Phase.{Phase}
+use Rattle.pi_base.specs.declared.phase.Phase.TheVariants.{Pei, Dxe}
+use Rattle.act_code.specs.declared.action.Action.{Action}
+use Rattle.act_code.specs.declared.action.Action.TheVariants.{Set as ActionSet}
+use Rattle.act_code.specs.declared.code.Code.{Code}
+use Rattle.act_code.specs.declared.code.Code.TheVariants as code
+use Rattle.act_code.specs.Format.{Value, registers_in, blocks_in}
+use Rattle.act_code.specs.Index.{is_indexed}
+use Rattle.act_code.specs.Reading.{only_if}
+use Rattle.act_code.specs.Script.{IsAction, operand_bytes}
+use Rattle.act_code.specs.Table.{is_code_of, format_of, made, code_of_action, operands}
+use Rattle.asm_text.specs.ActionText.{name_of, small_number, words_of, spaced, operand_words, action_text}
+use Rattle.asm_text.specs.BadLine.{IsPlain}
+use Rattle.asm_text.specs.WordReading.{space_place}
+use Rattle.asm_text.specs.OperandReading.{read, small_word, operands_at}
+use Rattle.asm_text.specs.LineReading.{or_named, common_action, memory_action, pei_action, dxe_action, named_action, action_of}
+use Rattle.asm_text.proofs.Fronts.{passed, same}
+use Rattle.asm_text.proofs.Stacks.{bind_some}
+use Rattle.asm_text.proofs.WordSplits.{Stands, word_end, stands_too}
+use Rattle.asm_text.proofs.Readables.{IsReadable, most_of, small_shows, formats_known}
+use Rattle.asm_text.proofs.OperandLaws.{Follows, reads}
+use Rattle.asm_text.proofs.OperandTexts.{shows}
+use Rattle.asm_text.proofs.GoodOperands.{IsGood, readable, good, fits_byte}
+
+-- an action that a line can show
+pub record IsGoodAction (phase : Phase) (action : Action) : Type 0 where
+  pub is : IsAction phase action
+  pub indexed : is_indexed 64 action ≡ true
+  pub bytes : IsBytes (operand_bytes action)
+
+pub good_operands : (phase : Phase) (a : Action) → IsGoodAction phase a → IsGood (format_of (code_of_action a)) (operands a)
+good_operands phase a is =
+    let parts = and_parts (list_all (λ r. nat_lt r 16) (registers_in (format_of (code_of_action a)) (operands a))) (list_all (λ b. nat_lt b 64) (blocks_in (format_of (code_of_action a)) (operands a))) is.indexed in
+    record { range = is.is.in_range; registers = parts.0; blocks = parts.1; bytes = is.bytes }
+
+formats_fit : (c : Code) → fits_byte (format_of c) ≡ true
+formats_fit code.Set = refl
+formats_fit _ = refl
+
+made-operands : (a : Action) → made (code_of_action a) (operands a) ≡ a
+made-operands (ActionSet r n) = refl
+made-operands _ = refl
+
+made_good : (phase : Phase) (c : Code) (v : Value (format_of c)) → is_code_of phase c ≡ true → IsGood (format_of c) v → IsGoodAction phase (made c v)
+made_good phase code.Set v of_phase good =
+    record { is = record { of_phase = of_phase; in_range = good.range }; indexed = and_from _ _ good.registers good.blocks; bytes = good.bytes }
+made_good phase _ v of_phase good =
+    record { is = record { of_phase = of_phase; in_range = good.range }; indexed = and_from _ _ good.registers good.blocks; bytes = good.bytes }
+
+made_text : (c : Code) (v : Value (format_of c)) → name_of c ++ flat_map spaced (words_of (small_number c) (format_of c) v) ≡ action_text (made c v)
+made_text code.Set v = refl
+made_text _ v = refl
+
+operands_there : (a : Action) → IsReadable (format_of (code_of_action a)) (operands a) → operands_at (code_of_action a) (flat_map spaced (operand_words a)) ≡ Some a
+unfolding operands_at
+operands_there a is =
+    let c = code_of_action a in
+    let follows : Follows (format_of c) [] = record { stands = tt; last = λ e. refl } in
+    let there = reads (small_number c) (small_word c) (most_of c) (small_shows c) (format_of c) (operands a) [] (formats_known c) is follows in
+    let here : read (small_word c) (format_of c) (flat_map spaced (operand_words a)) ≡ Some (operands a, []) = ap (read (small_word c) (format_of c)) (sym (append-nil (flat_map spaced (operand_words a)))) ∙ there in
+    rw here (ap Some (made-operands a))
+
+pub record IsMade (c : Code) (text : List ℕ) (a : Action) : Type 0 where
+  pub value : Value (format_of c)
+  pub is : IsReadable (format_of c) value
+  pub here : text ≡ flat_map spaced (words_of (small_number c) (format_of c) value)
+  pub made : Rattle.act_code.specs.Table.made c value ≡ a
+
+empty_of : (xs : List ℕ) → (length xs == 0) ≡ true → xs ≡ []
+empty_of [] e = refl
+empty_of (x ∷ xs) e = absurd (omega (arith, eqb-true (length (x ∷ xs)) 0 e))
+
+operands_were : (c : Code) (text : List ℕ) (a : Action) → operands_at c text ≡ Some a → IsMade c text a
+unfolding operands_at
+operands_were c text a e =
+    let x = bind_some (read (small_word c) (format_of c) text) (λ x. only_if (length x.1 == 0) (made c x.0)) a e in
+    let p = passed (length x.0.1 == 0) (made c x.0.0) a x.2 in
+    let s = shows (small_number c) (small_word c) (most_of c) (small_shows c) (format_of c) text x.0 x.1 in
+    let none = empty_of x.0.1 p.0 in
+    let words = flat_map spaced (words_of (small_number c) (format_of c) x.0.0) in
+    record { value = x.0.0; is = s.0; here = s.1 ∙ ap (λ r. words ++ r) none ∙ append-nil words; made = p.1 }
+
+-- names
+pub name_plain : (c : Code) → IsPlain (name_of c)
+unfolding name_of
+name_plain code.Set = refl
+name_plain _ = refl
+
+named_there : (phase : Phase) (c : Code) → is_code_of phase c ≡ true → (text : List ℕ) → named_action phase (name_of c) text ≡ operands_at c text
+unfolding name_of pei_action memory_action common_action dxe_action
+named_there Pei code.DxeInstall of_phase text = absurd (false≢true of_phase)
+named_there Pei code.DxeReinstall of_phase text = absurd (false≢true of_phase)
+named_there Pei code.DxeUninstall of_phase text = absurd (false≢true of_phase)
+named_there Pei code.DxeLocate of_phase text = absurd (false≢true of_phase)
+named_there Pei code.DxeNotify of_phase text = absurd (false≢true of_phase)
+named_there Pei code.Schedule of_phase text = absurd (false≢true of_phase)
+named_there Pei code.Process of_phase text = absurd (false≢true of_phase)
+named_there Pei code.Dispatch of_phase text = absurd (false≢true of_phase)
+named_there Pei _ of_phase text = refl
+named_there Dxe code.Pool of_phase text = absurd (false≢true of_phase)
+named_there Dxe code.Store of_phase text = absurd (false≢true of_phase)
+named_there Dxe code.Addr of_phase text = absurd (false≢true of_phase)
+named_there Dxe code.Desc of_phase text = absurd (false≢true of_phase)
+named_there Dxe code.Install of_phase text = absurd (false≢true of_phase)
+named_there Dxe code.Reinstall of_phase text = absurd (false≢true of_phase)
+named_there Dxe code.Notify of_phase text = absurd (false≢true of_phase)
+named_there Dxe code.Locate of_phase text = absurd (false≢true of_phase)
+named_there Dxe code.Hob of_phase text = absurd (false≢true of_phase)
+named_there Dxe code.Memory of_phase text = absurd (false≢true of_phase)
+named_there Dxe code.Pages of_phase text = absurd (false≢true of_phase)
+named_there Dxe code.BootMode of_phase text = absurd (false≢true of_phase)
+named_there Dxe code.Shadow of_phase text = absurd (false≢true of_phase)
+named_there Dxe _ of_phase text = refl
+
+-- the action has the name, and its operands are the text
+pub record IsNamed (phase : Phase) (name text : List ℕ) (a : Action) : Type 0 where
+  pub code : Code
+  pub of_phase : is_code_of phase code ≡ true
+  pub named : name ≡ name_of code
+  pub operands : operands_at code text ≡ Some a
+
+named_by : (phase : Phase) (name text : List ℕ) (c : Code) (own : List ℕ) (others : Option Action) (a : Action) (test : Bool) → bytes_eq name own ≡ test → own ≡ name_of c → is_code_of phase c ≡ true
+    → (others ≡ Some a → IsNamed phase name text a) → (if test then operands_at c text else others) ≡ Some a → IsNamed phase name text a
+named_by phase name text c own others a true is spelled of_phase more e = record { code = c; of_phase = of_phase; named = (same name own).0 is ∙ spelled; operands = e }
+named_by phase name text c own others a false is spelled of_phase more e = more e
+
+named_or : (phase : Phase) (name text : List ℕ) (c : Code) (own : List ℕ) (others : Option Action) (a : Action) → own ≡ name_of c → is_code_of phase c ≡ true
+    → (others ≡ Some a → IsNamed phase name text a) → or_named name text c own others ≡ Some a → IsNamed phase name text a
+named_or phase name text c own others a spelled of_phase more e = named_by phase name text c own others a (bytes_eq name own) refl spelled of_phase more e
+
+common_named : (phase : Phase) (name text : List ℕ) (a : Action) → common_action name text ≡ Some a → IsNamed phase name text a
+unfolding common_action name_of
+common_named phase name text a e =
+    named_or phase name text code.Set (codes "set") _ a refl refl
+    (named_or phase name text code.Add (codes "add") _ a refl refl
+    (named_or phase name text code.Peek (codes "peek") _ a refl refl
+    (named_or phase name text code.Log (codes "log") _ a refl refl
+    (named_or phase name text code.SkipIf (codes "skip_if") _ a refl refl
+    (named_or phase name text code.Ret (codes "ret") _ a refl refl (λ e. absurd cc)))))) e
+
+memory_named : (name text : List ℕ) (a : Action) → memory_action name text ≡ Some a → IsNamed Pei name text a
+unfolding memory_action name_of
+memory_named name text a e =
+    named_or Pei name text code.Pool (codes "pool") _ a refl refl
+    (named_or Pei name text code.Store (codes "store") _ a refl refl
+    (named_or Pei name text code.Addr (codes "addr") _ a refl refl
+    (named_or Pei name text code.Hob (codes "hob") _ a refl refl
+    (named_or Pei name text code.Memory (codes "memory") _ a refl refl
+    (named_or Pei name text code.Pages (codes "pages") _ a refl refl (common_named Pei name text a)))))) e
+
+pei_named : (name text : List ℕ) (a : Action) → pei_action name text ≡ Some a → IsNamed Pei name text a
+unfolding pei_action name_of
+pei_named name text a e =
+    named_or Pei name text code.Desc (codes "desc") _ a refl refl
+    (named_or Pei name text code.Install (codes "install") _ a refl refl
+    (named_or Pei name text code.Reinstall (codes "reinstall") _ a refl refl
+    (named_or Pei name text code.Notify (codes "notify") _ a refl refl
+    (named_or Pei name text code.Locate (codes "locate") _ a refl refl
+    (named_or Pei name text code.BootMode (codes "boot_mode") _ a refl refl
+    (named_or Pei name text code.Shadow (codes "shadow") _ a refl refl (memory_named name text a))))))) e
+
+dxe_named : (name text : List ℕ) (a : Action) → dxe_action name text ≡ Some a → IsNamed Dxe name text a
+unfolding dxe_action name_of
+dxe_named name text a e =
+    named_or Dxe name text code.DxeInstall (codes "install") _ a refl refl
+    (named_or Dxe name text code.DxeReinstall (codes "reinstall") _ a refl refl
+    (named_or Dxe name text code.DxeUninstall (codes "uninstall") _ a refl refl
+    (named_or Dxe name text code.DxeLocate (codes "locate") _ a refl refl
+    (named_or Dxe name text code.DxeNotify (codes "notify") _ a refl refl
+    (named_or Dxe name text code.Schedule (codes "schedule") _ a refl refl
+    (named_or Dxe name text code.Process (codes "process") _ a refl refl
+    (named_or Dxe name text code.Dispatch (codes "dispatch") _ a refl refl (common_named Dxe name text a)))))))) e
+
+named_were : (phase : Phase) (name text : List ℕ) (a : Action) → named_action phase name text ≡ Some a → IsNamed phase name text a
+named_were Pei name text a e = pei_named name text a e
+named_were Dxe name text a e = dxe_named name text a e
+
+-- the line of an action is read as it
+pub action_there : (phase : Phase) (a : Action) → IsGoodAction phase a → action_of phase (action_text a) ≡ Some a
+unfolding action_of
+action_there phase a is =
+    let c = code_of_action a in
+    let name = name_of c in
+    let text = flat_map spaced (operand_words a) in
+    let stands : Stands text = subst Stands (append-nil text) (stands_too (operand_words a) [] tt) in
+    rw (word_end name text (name_plain c) stands, take_at name text (length name) refl, drop_at name text (length name) refl, named_there phase c is.is.of_phase text)
+    (operands_there a (readable (format_of c) (operands a) (good_operands phase a is)))
+
+-- what is read of a line is the action of which it is the line
+pub action_was : (phase : Phase) (line : List ℕ) (a : Action) → action_of phase line ≡ Some a → IsGoodAction phase a × (line ≡ action_text a)
+unfolding action_of
+action_was phase line a e =
+    let front = take (space_place line) line in
+    let rest = drop (space_place line) line in
+    let n = named_were phase front rest a e in
+    let m = operands_were n.code rest a n.operands in
+    let is = made_good phase n.code m.value n.of_phase (good (format_of n.code) m.value (formats_fit n.code) m.is) in
+    let whole : line ≡ action_text (made n.code m.value) =
+    sym (take-append-drop (space_place line) line) ∙ ap (λ t. t ++ rest) n.named ∙ ap (λ t. name_of n.code ++ t) m.here ∙ made_text n.code m.value in
+    subst (λ (b : Action). IsGoodAction phase b × (line ≡ action_text b)) m.made (is, whole)

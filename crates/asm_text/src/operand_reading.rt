@@ -1,0 +1,205 @@
+// The operands of actions, each behind a space. A reader gives a value and what follows it.
+ghost use Rattle.std.specs.Prelude.{◌≡◌, ◌==◌, length};
+ghost use Rattle.act_code.specs.Format.{is_within};
+ghost use Rattle.act_code.specs.Reading.{only_if};
+ghost use Rattle.asm_text.specs.Reading.{Gives};
+ghost use Rattle.asm_text.specs.WordReading.{number_word, choice_word};
+ghost use Rattle.asm_text.specs.OperandReading.{register_at, within_at, little_at, guid_at, status_at, block_at, guid_arg_at, last_at, descriptor_at};
+
+use crate::front::guid_word;
+use crate::unread::Unread;
+use crate::word::{
+    choice_word, decimal_word, hexadecimal_word, kind_word, register_word, status_word, word,
+};
+use act_code::{Action, GuidArg};
+use pi_base::{Guid, Word};
+
+/// The last number of a block.
+const LAST_BLOCK: u8 = 63;
+
+/// The kind of a descriptor of a PPI.
+const PPI: u8 = 0;
+
+/// The action, where nothing follows its operands.
+pub(crate) fn ended(action: Action, rest: &[u8]) -> Result<Action, Unread>
+    ensures { Gives (λ x. x) result (only_if (length rest.now == 0) action) }
+{
+    if rest.is_empty() {
+        Ok(action)
+    } else {
+        Err(Unread::Malformed)
+    }
+}
+
+/// A register.
+#[tactic(auto, unfolding(crate::specs::OperandReading::register_at))]
+pub(crate) fn register(text: &[u8]) -> Result<(u8, &[u8]), Unread>
+    ensures { Gives (λ x. (x.0, x.1.now)) result (register_at text.now) }
+{
+    let (word, rest) = word(text)?;
+    match register_word(word) {
+        Some(r) => Ok((r, rest)),
+        None => Err(Unread::Malformed),
+    }
+}
+
+// Whether a number is one from another to a third.
+fn is_within(low: u64, high: u64, n: u64) -> bool
+    ensures { result ≡ is_within low high n }
+{
+    low <= n && n <= high
+}
+
+/// A small number in decimal, from one to another.
+#[tactic(auto, unfolding(crate::specs::OperandReading::within_at))]
+pub(crate) fn small(text: &[u8], low: u8, high: u8) -> Result<(u8, &[u8]), Unread>
+    ensures { Gives (λ x. (x.0, x.1.now)) result (within_at (number_word 10) low high text.now) }
+{
+    let (word, rest) = word(text)?;
+    let Some(n) = decimal_word(word) else {
+        return Err(Unread::Malformed);
+    };
+    if is_within(u64::from(low), u64::from(high), n) {
+        Ok((n as u8, rest))
+    } else {
+        Err(Unread::Malformed)
+    }
+}
+
+/// One of two words, for 0 and 1.
+#[tactic(auto, unfolding(crate::specs::OperandReading::within_at))]
+pub(crate) fn choice<'a>(text: &'a [u8], zero: &[u8], one: &[u8]) -> Result<(u8, &'a [u8]), Unread>
+    ensures { Gives (λ x. (x.0, x.1.now)) result (within_at (choice_word zero.now one.now) 0 1 text.now) }
+{
+    let (word, rest) = word(text)?;
+    let Some(n) = choice_word(word, zero, one) else {
+        return Err(Unread::Malformed);
+    };
+    if is_within(0, 1, n) {
+        Ok((n as u8, rest))
+    } else {
+        Err(Unread::Malformed)
+    }
+}
+
+/// A number of two bytes, in decimal.
+#[tactic(auto, unfolding(crate::specs::OperandReading::little_at))]
+pub(crate) fn number_2(text: &[u8]) -> Result<(u16, &[u8]), Unread>
+    ensures { Gives (λ x. (x.0, x.1.now)) result (little_at 2 text.now) }
+{
+    let (word, rest) = word(text)?;
+    let Some(n) = decimal_word(word) else {
+        return Err(Unread::Malformed);
+    };
+    if n <= u64::from(u16::MAX) {
+        Ok((n as u16, rest))
+    } else {
+        Err(Unread::Malformed)
+    }
+}
+
+/// A number of four bytes, in hexadecimal.
+#[tactic(auto, unfolding(crate::specs::OperandReading::little_at))]
+pub(crate) fn number_4(text: &[u8]) -> Result<(u32, &[u8]), Unread>
+    ensures { Gives (λ x. (x.0, x.1.now)) result (little_at 4 text.now) }
+{
+    let (word, rest) = word(text)?;
+    let Some(n) = hexadecimal_word(word) else {
+        return Err(Unread::Malformed);
+    };
+    if n <= u64::from(u32::MAX) {
+        Ok((n as u32, rest))
+    } else {
+        Err(Unread::Malformed)
+    }
+}
+
+/// A number of eight bytes, in hexadecimal.
+#[tactic(auto, unfolding(crate::specs::OperandReading::little_at))]
+pub(crate) fn number_8(text: &[u8]) -> Result<(u64, &[u8]), Unread>
+    ensures { Gives (λ x. (x.0, x.1.now)) result (little_at 8 text.now) }
+{
+    let (word, rest) = word(text)?;
+    match hexadecimal_word(word) {
+        Some(n) => Ok((n, rest)),
+        None => Err(Unread::Malformed),
+    }
+}
+
+/// A GUID.
+#[tactic(auto, unfolding(crate::specs::OperandReading::guid_at))]
+pub(crate) fn guid(text: &[u8]) -> Result<(Guid, &[u8]), Unread>
+    ensures { Gives (λ x. (x.0, x.1.now)) result (guid_at text.now) }
+{
+    let (word, rest) = word(text)?;
+    match guid_word(word) {
+        Some(guid) => Ok((guid, rest)),
+        None => Err(Unread::Malformed),
+    }
+}
+
+/// A status.
+#[tactic(auto, unfolding(crate::specs::OperandReading::status_at))]
+pub(crate) fn status(text: &[u8]) -> Result<(Word, &[u8]), Unread>
+    ensures { Gives (λ x. (x.0, x.1.now)) result (status_at text.now) }
+{
+    let (word, rest) = word(text)?;
+    match status_word(word) {
+        Some(status) => Ok((status, rest)),
+        None => Err(Unread::Malformed),
+    }
+}
+
+/// The number of a block.
+#[tactic(auto, unfolding(crate::specs::OperandReading::block_at))]
+pub(crate) fn block(text: &[u8]) -> Result<(u8, &[u8]), Unread>
+    ensures { Gives (λ x. (x.0, x.1.now)) result (block_at text.now) }
+{
+    let (word, rest) = word(text)?;
+    if word == b"block".as_slice() {
+        small(rest, 0, LAST_BLOCK)
+    } else {
+        Err(Unread::Malformed)
+    }
+}
+
+// A GUID, or the register with its address.
+#[tactic(auto, unfolding(crate::specs::OperandReading::guid_arg_at))]
+fn guid_arg(text: &[u8]) -> Result<(GuidArg, &[u8]), Unread>
+    ensures { Gives (λ x. (x.0, x.1.now)) result (guid_arg_at text.now) }
+{
+    let (word, rest) = word(text)?;
+    if word == b"at".as_slice() {
+        let (v, rest) = register(rest)?;
+        Ok((GuidArg::Register(v), rest))
+    } else {
+        let (guid, rest) = guid(text)?;
+        Ok((GuidArg::Inline(guid), rest))
+    }
+}
+
+// A PPI's register, or a notification's block.
+#[tactic(auto, unfolding(crate::specs::OperandReading::last_at))]
+fn last(kind: u8, text: &[u8]) -> Result<(u8, &[u8]), Unread>
+    ensures { Gives (λ x. (x.0, x.1.now)) result (last_at kind text.now) }
+{
+    if kind == PPI {
+        register(text)
+    } else {
+        block(text)
+    }
+}
+
+/// What a descriptor is of, its GUID or the register of its address, and its last operand.
+#[tactic(auto, unfolding(crate::specs::OperandReading::descriptor_at))]
+pub(crate) fn descriptor(text: &[u8]) -> Result<((u8, GuidArg, u8), &[u8]), Unread>
+    ensures { Gives (λ x. ((x.0.0, x.0.1, x.0.2), x.1.now)) result (descriptor_at text.now) }
+{
+    let (word, rest) = word(text)?;
+    let Some(kind) = kind_word(word) else {
+        return Err(Unread::Malformed);
+    };
+    let (guid, rest) = guid_arg(rest)?;
+    let (arg, rest) = last(kind, rest)?;
+    Ok(((kind, guid, arg), rest))
+}

@@ -1,0 +1,196 @@
+// The words of a line, each as the value that it shows. A word is read only where it is what is printed of the value.
+ghost use Rattle.std.specs.Prelude.{◌≡◌, ◌≤◌, ◌<◌, ◌^◌, ℕ, false, Some, decimal, length, bytes_eq};
+ghost use Rattle.hex.specs.Hex.{encode_lower};
+ghost use Rattle.act_code.specs.Reading.{only_if};
+ghost use Rattle.std.specs.Fmt.{digits};
+ghost use Rattle.asm_text.specs.Numerals.{hexadecimal};
+ghost use Rattle.asm_text.specs.Reading.{Gives};
+ghost use Rattle.asm_text.specs.ReadTree.{Finds};
+ghost use Rattle.asm_text.specs.WordReading.{space_place, word_at, number_word, hexadecimal_word, register_word, choice_word, kind_word, status_word, bytes_word};
+
+use crate::front::{behind, place_of};
+use crate::operand::status_text;
+use crate::unread::Unread;
+use hex::FromHexError;
+use pi_base::{Seq, Word, decimal, hexadecimal};
+use std::alloc::Global;
+use std::str;
+
+const SPACE: u8 = b' ';
+
+const DECIMAL: u32 = 10;
+
+const DECIMAL_LEN: usize = 20;
+
+const HEXADECIMAL: u32 = 16;
+
+const HEXADECIMAL_LEN: usize = 18;
+
+const REGISTERS: u64 = 16;
+
+const STATUSES: [Word; 7] = [
+    Word::Success,
+    Word::InvalidParameter,
+    Word::NotFound,
+    Word::OutOfResources,
+    Word::NotAvailableYet,
+    Word::AlreadyStarted,
+    Word::AccessDenied,
+];
+
+/// Where the first space stands, or the length.
+pub(crate) fn space_place(text: &[u8]) -> usize
+    ensures place { result ≡ space_place text.now }
+    ensures within { result ≤ length text.now }
+{
+    place_of(text, SPACE)
+}
+
+/// The word behind a space, and what follows it.
+#[tactic(auto, unfolding(crate::specs::WordReading::word_at))]
+pub(crate) fn word(text: &[u8]) -> Result<(&[u8], &[u8]), Unread>
+    ensures { Gives (λ x. (x.0.now, x.1.now)) result (word_at text.now) }
+{
+    let Some(after) = behind(text, b" ") else {
+        return Err(Unread::Malformed);
+    };
+    Ok(after.split_at(space_place(after)))
+}
+
+// The number whose digits these are, if they are a number's.
+fn value_of(text: &[u8], base: u32) -> Option<u64>
+    requires low { 2 ≤ base }
+    requires high { base ≤ 16 }
+    ensures { (n : ℕ) → n < 2 ^ 64 → text.now ≡ digits base false n → result ≡ Some n }
+{
+    match str::from_utf8(text) {
+        Ok(digits) => u64::from_str_radix(digits, base).ok(),
+        Err(_) => None,
+    }
+}
+
+// The number whose decimal text a word is.
+fn decimal_of(word: &[u8]) -> Option<u64>
+    ensures { Finds (λ n. (n < 2 ^ 64) × (word.now ≡ decimal n)) result }
+{
+    let Some(number) = value_of(word, DECIMAL) else {
+        return None;
+    };
+    let mut digits = [0u8; DECIMAL_LEN];
+    let len = decimal(number, &mut digits);
+    let (text, _) = digits.split_at(len);
+    if text == word { Some(number) } else { None }
+}
+
+// The number whose hexadecimal text a word is, with `0x` before it.
+fn hexadecimal_of(word: &[u8]) -> Option<u64>
+    ensures { Finds (λ n. (n < 2 ^ 64) × (word.now ≡ hexadecimal n)) result }
+{
+    let Some(behind_prefix) = behind(word, b"0x") else {
+        return None;
+    };
+    let Some(number) = value_of(behind_prefix, HEXADECIMAL) else {
+        return None;
+    };
+    let mut digits = [0u8; HEXADECIMAL_LEN];
+    let len = hexadecimal(number, &mut digits);
+    let (text, _) = digits.split_at(len);
+    if text == word { Some(number) } else { None }
+}
+
+/// The number whose decimal text a word is.
+pub(crate) fn decimal_word(word: &[u8]) -> Option<u64>
+    ensures { result ≡ number_word 10 word.now }
+{
+    decimal_of(word)
+}
+
+/// The number whose hexadecimal text a word is.
+pub(crate) fn hexadecimal_word(word: &[u8]) -> Option<u64>
+    ensures { result ≡ hexadecimal_word word.now }
+{
+    hexadecimal_of(word)
+}
+
+/// A register below 16.
+#[tactic(auto, unfolding(crate::specs::WordReading::register_word))]
+pub(crate) fn register_word(word: &[u8]) -> Option<u8>
+    ensures { result ≡ register_word word.now }
+{
+    let Some(digits) = behind(word, b"r") else {
+        return None;
+    };
+    let Some(r) = decimal_word(digits) else {
+        return None;
+    };
+    if r < REGISTERS { Some(r as u8) } else { None }
+}
+
+/// 0 or 1, for one of two words.
+#[tactic(auto, unfolding(crate::specs::WordReading::choice_word))]
+pub(crate) fn choice_word(word: &[u8], zero: &[u8], one: &[u8]) -> Option<u64>
+    ensures { result ≡ choice_word zero.now one.now word.now }
+{
+    if word == zero {
+        Some(0)
+    } else if word == one {
+        Some(1)
+    } else {
+        None
+    }
+}
+
+/// What a descriptor is of.
+#[tactic(auto, unfolding(crate::specs::WordReading::kind_word))]
+pub(crate) fn kind_word(word: &[u8]) -> Option<u8>
+    ensures { result ≡ kind_word word.now }
+{
+    if word == b"ppi".as_slice() {
+        Some(0)
+    } else if word == b"callback".as_slice() {
+        Some(1)
+    } else if word == b"dispatch".as_slice() {
+        Some(2)
+    } else {
+        None
+    }
+}
+
+/// A status by its name.
+#[tactic(auto, unfolding(crate::specs::WordReading::status_word))]
+pub(crate) fn status_word(word: &[u8]) -> Option<Word>
+    ensures { result ≡ status_word word.now }
+{
+    STATUSES
+        .iter()
+        .copied()
+        .find(|status| status_text(*status) == word)
+}
+
+// The bytes, where the word is their text.
+fn shown_by(alloc: Global, word: &[u8], bytes: Seq<u8>) -> Result<Seq<u8>, Unread>
+    ensures { Gives (λ x. x) result (only_if (bytes_eq (encode_lower bytes) word.now) bytes) }
+{
+    match hex::encode(alloc, bytes.as_slice()) {
+        Ok(text) => {
+            if text.as_bytes() == word {
+                Ok(bytes)
+            } else {
+                Err(Unread::Malformed)
+            }
+        }
+        Err(_) => Err(Unread::Memory),
+    }
+}
+
+/// The bytes whose text a word is.
+#[tactic(auto, unfolding(crate::specs::WordReading::bytes_word))]
+pub(crate) fn bytes_word(alloc: Global, word: &[u8]) -> Result<Seq<u8>, Unread>
+    ensures { Gives (λ x. x) result (bytes_word word.now) }
+{
+    match hex::decode(alloc, word) {
+        Ok(bytes) => shown_by(alloc, word, Seq::from_vec(bytes)),
+        Err(FromHexError::OutOfMemory) => Err(Unread::Memory),
+        Err(_) => Err(Unread::Malformed),
+    }
+}
