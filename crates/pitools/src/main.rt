@@ -1,0 +1,60 @@
+//! The tools beside the boot: the memory space map, the MP services, and expressions and scripts as text.
+#![tactic(auto)]
+
+mod meaning;
+
+use crate::meaning::meaning_of;
+use boot_io::{RealFiles, RealSink, SinkFault, flush_whole};
+use std::env;
+use std::io::{self, BufWriter, ErrorKind, IsTerminal};
+use std::process::ExitCode;
+use tools_core::{ToolStatus, tools_main};
+
+// The words after the program's name. Where one is not UTF-8 there are none, which is no form of a command line.
+fn words_of(rt: &HostRuntime) -> io::Result<Vec<String>> {
+    let mut words = Vec::new(rt.alloc());
+    match env::args(rt) {
+        Ok(args) => {
+            for word in args.skip(1) {
+                words.push(word)?;
+            }
+            Ok(words)
+        }
+        Err(error) if error.kind() == ErrorKind::InvalidData => Ok(words),
+        Err(error) => Err(error),
+    }
+}
+
+// Does what the words ask for. The text is handed on in pieces, and one that can't be is the sink's fault.
+fn run(rt: &HostRuntime) -> io::Result<ToolStatus> {
+    let words = words_of(rt)?;
+    let mut files = RealFiles::new(rt);
+    let mut out = BufWriter::new(rt.alloc(), io::writer(rt))?;
+    let mut sink = RealSink::new(&mut out);
+    let status = tools_main(rt.alloc(), words.as_slice(), &mut files, &mut sink);
+    match flush_whole(&mut out) {
+        Ok(()) => Ok(status),
+        Err(SinkFault) => Ok(ToolStatus::SinkFault),
+    }
+}
+
+// Tells a person what a status means.
+fn tell(rt: &HostRuntime, status: ToolStatus) {
+    if let Some(meaning) = meaning_of(status) {
+        // The exit status says it all where nothing can be written here.
+        let _ = eprintln!(rt; "pitools: {meaning}");
+    }
+}
+
+fn main(rt: HostRuntime) -> ExitCode {
+    let status = match run(&rt) {
+        Ok(status) => status,
+        // The words and the buffer want memory, and nothing else.
+        Err(_) => ToolStatus::Memory,
+    };
+    // A program that reads the status needs no words.
+    if rt.stderr().is_terminal() {
+        tell(&rt, status);
+    }
+    ExitCode::from(status as u8)
+}

@@ -1,0 +1,9 @@
+pub mod CommandLine
+pub mod FileReading
+pub mod Refusals
+pub mod ReportText
+pub mod GcdReport
+pub mod MpReport
+pub mod TextReport
+pub mod Outcome
+pub mod Ends

@@ -1,0 +1,24 @@
+// What the tools answer.
+
+/// What the tools answer, with the number that the program ends with.
+#[derive(Clone, Copy, Debug, PartialEq, Eq)]
+pub enum ToolStatus {
+    /// The text is the answer.
+    Done = 0,
+    /// The words have no form.
+    Usage = 1,
+    /// A file could not be read.
+    FileFault = 2,
+    /// A file is longer than its limit.
+    TooLong = 3,
+    /// The text could not be put.
+    SinkFault = 9,
+    /// Want of memory.
+    Memory = 10,
+    /// The HOB list tells no memory space.
+    HobsRefused = 13,
+    /// A line of a file of commands has no form.
+    CommandRefused = 14,
+    /// A text is that of no expression or script, or bytes are none.
+    TextRefused = 15,
+}
