@@ -1,0 +1,204 @@
+// Volumes as a person writes them: their files, with expressions and scripts as text.
+use act_code::write_script;
+use asm_text::{parse_depex, parse_script, write_depex};
+use fv_build::{HEADER_LEN, MOST_LEN, NewFile, NewSection, build_volume};
+use fv_section::section_type::{DXE_DEPEX, PEI_DEPEX, RAW, VOLUME_IMAGE};
+use fv_volume::file_type;
+use pi_base::{Guid, Seq};
+use std::alloc::Global;
+use std::process::Abort;
+use std::test::Fail;
+
+/// A file and its sections, of which those that are empty are left out.
+#[derive(Clone, Copy)]
+pub(super) struct Module<'a> {
+    pub(super) name: &'a str,
+    /// The type of the file, and of the section with its expression.
+    pub(super) kind: u8,
+    pub(super) depex: u8,
+    /// The expression, and the bytes of one that has no text.
+    pub(super) expression: &'a str,
+    pub(super) opcodes: &'a [u8],
+    /// The script, in a raw section.
+    pub(super) script: &'a str,
+    /// The GUIDs of an a priori list and the bytes behind them, in a raw section.
+    pub(super) list: &'a [&'a str],
+    pub(super) behind: &'a [u8],
+}
+
+/// A PEIM that starts at once.
+pub(super) const PEIM: Module<'static> = Module {
+    name: "00000000-0000-0000-0000-00000000000a",
+    kind: file_type::PEIM,
+    depex: PEI_DEPEX,
+    expression: "",
+    opcodes: &[],
+    script: "",
+    list: &[],
+    behind: &[],
+};
+
+/// A driver without an expression.
+pub(super) const DRIVER: Module<'static> = Module {
+    name: "00000000-0000-0000-0000-000000000001",
+    kind: file_type::DRIVER,
+    depex: DXE_DEPEX,
+    ..PEIM
+};
+
+/// The a priori list of PEI.
+pub(super) const FIRST_PEIMS: Module<'static> = Module {
+    name: "1b45cc0a-156a-428a-af62-49864da0e6e6",
+    kind: file_type::FREEFORM,
+    ..PEIM
+};
+
+/// The a priori list of DXE.
+pub(super) const FIRST_DRIVERS: Module<'static> = Module {
+    name: "fc510ee7-ffdc-11d4-bd41-0080c73c8881",
+    kind: file_type::FREEFORM,
+    ..PEIM
+};
+
+/// A PEIM that gives memory, installs the DXE IPL PPI, and tells of the volume in a HOB.
+pub(super) const HAND_OFF: Module<'static> = Module {
+    name: "00000000-0000-0000-0000-00000000000f",
+    script: "phase pei
+block
+set r0 0x40000000
+set r1 0x100000
+memory r0 r1
+set r2 0x0
+desc r3 ppi 0ae8ce5d-e448-4437-a8d7-ebf5f194f731 r2
+install r3
+hob 5 0000f0ff000000000010000000000000
+ret Success
+",
+    ..PEIM
+};
+
+// The file that holds a nested volume, and that volume's length.
+const NEST: &str = "00000000-0000-0000-0000-000000000044";
+
+const NESTED_LEN: u64 = 4096;
+
+// The bytes of a module's expression.
+fn expression_of(rt: &impl Abort, alloc: Global, module: &Module<'_>) -> Result<Seq<u8>, Fail> {
+    let mut text = Seq::new(alloc);
+    if module.expression.is_empty() {
+        assert_eq!(rt; text.append(module.opcodes), Ok(()));
+        return Ok(text);
+    }
+    assert_eq!(rt; text.append(module.expression.as_bytes()), Ok(()));
+    assert_eq!(rt; text.push(b'\n'), Ok(()));
+    let Ok(depex) = parse_depex(alloc, text.as_slice()) else {
+        return Err(Fail::new("the text of an expression"));
+    };
+    match write_depex(alloc, &depex) {
+        Ok(bytes) => Ok(bytes),
+        Err(_) => Err(Fail::new("an expression in its limits")),
+    }
+}
+
+// The bytes of a module's script.
+fn script_of(alloc: Global, module: &Module<'_>) -> Result<Seq<u8>, Fail> {
+    if module.script.is_empty() {
+        return Ok(Seq::new(alloc));
+    }
+    let Ok(script) = parse_script(alloc, module.script.as_bytes()) else {
+        return Err(Fail::new("the text of a script"));
+    };
+    match write_script(alloc, &script) {
+        Ok(bytes) => Ok(bytes),
+        Err(_) => Err(Fail::new("a script in its limits")),
+    }
+}
+
+fn guid_of(text: &str) -> Result<Guid, Fail> {
+    match Guid::from_text(text.as_bytes()) {
+        Some(guid) => Ok(guid),
+        None => Err(Fail::new("the text of a GUID")),
+    }
+}
+
+// The bytes of an a priori list.
+fn list_of(rt: &impl Abort, alloc: Global, module: &Module<'_>) -> Result<Seq<u8>, Fail> {
+    let mut bytes = Seq::new(alloc);
+    for name in module.list {
+        let guid = guid_of(name)?;
+        assert_eq!(rt; bytes.append(&guid.0), Ok(()));
+    }
+    assert_eq!(rt; bytes.append(module.behind), Ok(()));
+    Ok(bytes)
+}
+
+// Adds a section, unless it is empty.
+fn put_section(rt: &impl Abort, sections: &mut Seq<NewSection>, kind: u8, body: Seq<u8>) {
+    if !body.is_empty() {
+        assert_eq!(rt; sections.push(NewSection { kind, body }), Ok(()));
+    }
+}
+
+fn file_of(rt: &impl Abort, alloc: Global, module: &Module<'_>) -> Result<NewFile, Fail> {
+    let mut sections = Seq::new(alloc);
+    let expression = expression_of(rt, alloc, module)?;
+    put_section(rt, &mut sections, module.depex, expression);
+    put_section(rt, &mut sections, RAW, script_of(alloc, module)?);
+    put_section(rt, &mut sections, RAW, list_of(rt, alloc, module)?);
+    Ok(NewFile {
+        name: guid_of(module.name)?,
+        kind: module.kind,
+        sections,
+    })
+}
+
+fn files_of(rt: &impl Abort, alloc: Global, modules: &[Module<'_>]) -> Result<Seq<NewFile>, Fail> {
+    let mut files = Seq::new(alloc);
+    for module in modules {
+        let file = file_of(rt, alloc, module)?;
+        assert_eq!(rt; files.push(file), Ok(()));
+    }
+    Ok(files)
+}
+
+fn built(alloc: Global, files: &[NewFile], len: u64) -> Result<Seq<u8>, Fail> {
+    if len < HEADER_LEN as u64 || MOST_LEN < len {
+        return Err(Fail::new("a volume's length"));
+    }
+    match build_volume(alloc, files, len) {
+        Ok(volume) => Ok(volume),
+        Err(_) => Err(Fail::new("files that have room")),
+    }
+}
+
+/// The volume of some files.
+pub(super) fn image_of(
+    rt: &impl Abort,
+    alloc: Global,
+    modules: &[Module<'_>],
+    len: u64,
+) -> Result<Seq<u8>, Fail> {
+    let files = files_of(rt, alloc, modules)?;
+    built(alloc, files.as_slice(), len)
+}
+
+/// The volume of some files and, behind them, a file that holds the volume of others.
+pub(super) fn nest_of(
+    rt: &impl Abort,
+    alloc: Global,
+    modules: &[Module<'_>],
+    nested: &[Module<'_>],
+    len: u64,
+) -> Result<Seq<u8>, Fail> {
+    let mut files = files_of(rt, alloc, modules)?;
+    let mut sections = Seq::new(alloc);
+    let body = image_of(rt, alloc, nested, NESTED_LEN)?;
+    put_section(rt, &mut sections, VOLUME_IMAGE, body);
+    let nest = NewFile {
+        name: guid_of(NEST)?,
+        kind: file_type::VOLUME_IMAGE,
+        sections,
+    };
+    assert_eq!(rt; files.push(nest), Ok(()));
+    built(alloc, files.as_slice(), len)
+}
