@@ -52,7 +52,7 @@ const PREFIXES: [(u8, u32); 16] = [
 ];
 
 #[test]
-fn prefixes(rt: HostRuntime) {
+fn each_prefix_of_a_script_is_refused(rt: HostRuntime) {
     for (n, outcome) in PREFIXES.iter().enumerate() {
         assert!(rt; n <= SMALLEST.len());
         assert_eq!(rt; told(read_script(rt.alloc(), &SMALLEST[..n])), *outcome);
@@ -176,7 +176,7 @@ const FAULTS: [(&[u8], (u8, u32)); 24] = [
 ];
 
 #[test]
-fn faults(rt: HostRuntime) {
+fn each_fault_comes_at_its_place(rt: HostRuntime) {
     for (bytes, outcome) in &FAULTS {
         assert_eq!(rt; told(read_script(rt.alloc(), bytes)), *outcome);
     }
@@ -235,7 +235,7 @@ fn rewritten(alloc: Global, bytes: &[u8]) -> Option<Seq<u8>> {
 }
 
 #[test]
-fn every_action(rt: HostRuntime) -> Result<(), Fail> {
+fn each_action_is_written_and_read(rt: HostRuntime) -> Result<(), Fail> {
     let pei = rewritten(rt.alloc(), &PEI_SCRIPT).ok_or("it is a script of PEI")?;
     assert_eq!(rt; pei.as_slice(), PEI_SCRIPT.as_slice());
     let dxe = rewritten(rt.alloc(), &DXE_SCRIPT).ok_or("it is a script of DXE")?;

@@ -10,7 +10,7 @@ use Rattle.pi_base.specs.declared.guid.Guid.{Guid}
 use Rattle.depex_code.specs.declared.depex.Depex.{Depex}
 use Rattle.depex_code.specs.declared.depex.Depex.TheVariants.{Before, After, Expr}
 use Rattle.depex_code.specs.Tree.{DepexTree, True, False, Push, Not, And, Or}
-use Rattle.asm_text.specs.Numerals.{guid_text}
+use Rattle.pi_base.specs.WordText.{guid_text}
 use Rattle.asm_text.specs.ExpressionText.{bracketed, tree_text, expression_text, depex_text}
 use Rattle.asm_text.specs.Front.{behind, guid_word}
 use Rattle.asm_text.specs.ScriptText.{line}

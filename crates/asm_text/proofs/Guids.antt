@@ -15,7 +15,7 @@ use Rattle.uuid.proofs.RoundTrips.{parses_hyphenated_text, swap_twice}
 use Rattle.hex.specs.Hex.{IsBytes}
 use Rattle.pi_base.specs.declared.guid.Guid.{Guid}
 use Rattle.pi_base.specs.GuidText.{guid_of_text}
-use Rattle.asm_text.specs.Numerals.{guid_text}
+use Rattle.pi_base.specs.WordText.{guid_text}
 use Rattle.asm_text.specs.Front.{is_guid, spelled_so, guid_word, guid_front}
 use Rattle.asm_text.specs.ReadTree.{IsGuid}
 use Rattle.asm_text.proofs.Stacks.{bind_some}

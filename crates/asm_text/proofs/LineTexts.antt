@@ -13,7 +13,8 @@ use Rattle.act_code.specs.Format.{Format, Value, is_within, Nothing, Byte, Withi
 use Rattle.act_code.specs.Table.{format_of, code_of_action, operands}
 use Rattle.asm_text.specs.ActionText.{name_of, small_number, words_of, spaced, operand_words, action_text, kind_word as shown_kind, guid_words, last_words}
 use Rattle.asm_text.specs.BadLine.{Lacks, IsPlain}
-use Rattle.asm_text.specs.Numerals.{hexadecimal, register, guid_text, status_text}
+use Rattle.pi_base.specs.WordText.{hexadecimal, guid_text, word_text}
+use Rattle.asm_text.specs.Numerals.{register}
 use Rattle.asm_text.specs.OperandReading.{small_word}
 use Rattle.asm_text.proofs.LineFeeds.{both_lack}
 use Rattle.asm_text.proofs.PlainWords.{decimal_plain, hexadecimal_plain, register_plain, guid_plain, status_plain, encoded_plain}
@@ -86,7 +87,7 @@ words_lack shown small most laws (Little width) value known is =
     let fits : value < 2 ^ 64 = let a = is_most (256 ^ width) (2 ^ 64) known in omega arith in
     (little_lacks (width == 2) value fits, tt)
 words_lack shown small most laws GuidBytes value known is = (plain_lacks (guid_text value) (guid_plain value), tt)
-words_lack shown small most laws WordNumber value known is = (plain_lacks (status_text value) (status_plain value), tt)
+words_lack shown small most laws WordNumber value known is = (plain_lacks (word_text value) (status_plain value), tt)
 words_lack shown small most laws Counted value known is = (plain_lacks (encode_lower value) (encoded_plain value is.1), tt)
 words_lack shown small most laws Text value known is = (printable_lacks value is.1, tt)
 words_lack shown small most laws Registers value known is = registers_lack value is.1

@@ -12,7 +12,7 @@ use Rattle.depex_code.specs.declared.depex.Depex.{Depex}
 use Rattle.depex_code.specs.declared.depex.Depex.TheVariants.{Before, After, Expr}
 use Rattle.depex_code.specs.Tree.{DepexTree, postfix}
 use Rattle.depex_code.specs.TreeCode.{tree_of, tree_of-postfix}
-use Rattle.asm_text.specs.Numerals.{guid_text}
+use Rattle.pi_base.specs.WordText.{guid_text}
 use Rattle.asm_text.specs.ExpressionText.{tree_text, expression_text, depex_text}
 use Rattle.asm_text.specs.Front.{guid_word}
 use Rattle.asm_text.specs.Walk.{Place}

@@ -14,7 +14,8 @@ use Rattle.act_code.specs.Format.{Format, Value, is_within, Nothing, Byte, Withi
 use Rattle.act_code.specs.Reading.{◌>>=◌, only_if}
 use Rattle.asm_text.specs.ActionText.{spaced, words_of, kind_word as shown_kind, guid_words, last_words, block_words}
 use Rattle.asm_text.specs.BadLine.{IsPlain}
-use Rattle.asm_text.specs.Numerals.{hexadecimal, register, guid_text, status_text}
+use Rattle.pi_base.specs.WordText.{hexadecimal, guid_text, word_text}
+use Rattle.asm_text.specs.Numerals.{register}
 use Rattle.asm_text.specs.ReadTree.{IsGuid}
 use Rattle.asm_text.specs.WordReading.{word_at, number_word, hexadecimal_word}
 use Rattle.asm_text.specs.OperandReading.{read, register_at, within_at, little_at, guid_at, status_at, bytes_at, counted_at, text_at, registers_within, registers_at, block_at, guid_arg_at, last_at, descriptor_at, hob_at}
@@ -67,9 +68,9 @@ guid_reads : (guid : Guid) (rest : List ℕ) → IsGuid guid → Stands rest →
 unfolding guid_at
 guid_reads guid rest is stands = rw (word_then (guid_text guid) [] rest (guid_plain guid) stands, guid_word_there guid is) refl
 
-status_reads : (status : Word) (rest : List ℕ) → Stands rest → status_at (flat_map spaced (status_text status ∷ []) ++ rest) ≡ Some (status, rest)
+status_reads : (status : Word) (rest : List ℕ) → Stands rest → status_at (flat_map spaced (word_text status ∷ []) ++ rest) ≡ Some (status, rest)
 unfolding status_at
-status_reads status rest stands = rw (word_then (status_text status) [] rest (status_plain status) stands, status_there status) refl
+status_reads status rest stands = rw (word_then (word_text status) [] rest (status_plain status) stands, status_there status) refl
 
 bytes_reads : (bytes rest : List ℕ) → IsBytes bytes → Stands rest → bytes_at (flat_map spaced (encode_lower bytes ∷ []) ++ rest) ≡ Some (bytes, rest)
 unfolding bytes_at

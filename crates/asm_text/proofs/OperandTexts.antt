@@ -15,7 +15,8 @@ use Rattle.act_code.specs.Format.{Format, Value, is_within, is_hob, Nothing, Byt
 use Rattle.act_code.specs.Reading.{◌>>=◌, only_if}
 use Rattle.asm_text.specs.ActionText.{spaced, words_of, kind_word as shown_kind, guid_words, last_words, block_words}
 use Rattle.asm_text.specs.Front.{behind, guid_word}
-use Rattle.asm_text.specs.Numerals.{hexadecimal, register, guid_text, status_text}
+use Rattle.pi_base.specs.WordText.{hexadecimal, guid_text, word_text}
+use Rattle.asm_text.specs.Numerals.{register}
 use Rattle.asm_text.specs.ReadTree.{IsGuid}
 use Rattle.asm_text.specs.WordReading.{word_at, number_word, hexadecimal_word, register_word, kind_word, status_word, bytes_word}
 use Rattle.asm_text.specs.OperandReading.{read, register_at, within_at, little_at, guid_at, status_at, bytes_at, counted_at, text_at, registers_within, registers_at, block_at, guid_arg_at, last_at, descriptor_at, hob_at}
@@ -95,12 +96,12 @@ guid_was text x e =
     let is = guid_word_is w.0.0 g.0 g.1 in
     subst (λ (y : Guid × List ℕ). IsGuid y.0 × Fronts text (guid_text y.0 ∷ []) y.1) (same_Some (g.0, w.0.1) x g.2) (is.0, word_shown text (guid_text g.0) w.0 w.1 is.1)
 
-status_was : (text : List ℕ) (x : Word × List ℕ) → status_at text ≡ Some x → Fronts text (status_text x.0 ∷ []) x.1
+status_was : (text : List ℕ) (x : Word × List ℕ) → status_at text ≡ Some x → Fronts text (word_text x.0 ∷ []) x.1
 unfolding status_at
 status_was text x e =
     let w = bind_some (word_at text) (λ w. status_word w.0 >>= λ s. let found : Word × List ℕ = (s, w.1) in Some found) x e in
     let s = bind_some (status_word w.0.0) (λ s. let found : Word × List ℕ = (s, w.0.1) in Some found) x w.2 in
-    subst (λ (y : Word × List ℕ). Fronts text (status_text y.0 ∷ []) y.1) (same_Some (s.0, w.0.1) x s.2) (word_shown text (status_text s.0) w.0 w.1 (status_is w.0.0 s.0 s.1))
+    subst (λ (y : Word × List ℕ). Fronts text (word_text y.0 ∷ []) y.1) (same_Some (s.0, w.0.1) x s.2) (word_shown text (word_text s.0) w.0 w.1 (status_is w.0.0 s.0 s.1))
 
 bytes_was : (text : List ℕ) (x : List ℕ × List ℕ) → bytes_at text ≡ Some x → IsBytes x.0 × Fronts text (encode_lower x.0 ∷ []) x.1
 unfolding bytes_at

@@ -10,7 +10,8 @@ use Rattle.pi_base.specs.declared.guid.Guid.{Guid}
 use Rattle.pi_base.specs.declared.word.Word.{Word}
 use Rattle.pi_base.specs.declared.word.Word.TheVariants.{Success}
 use Rattle.asm_text.specs.BadLine.{IsPlain}
-use Rattle.asm_text.specs.Numerals.{hexadecimal, register, guid_text, status_text}
+use Rattle.pi_base.specs.WordText.{hexadecimal, guid_text, word_text}
+use Rattle.asm_text.specs.Numerals.{register}
 use Rattle.asm_text.proofs.Guids.{is_guid_char, guid_chars}
 use Rattle.asm_text.proofs.NumberWords.{numeral_plain}
 
@@ -34,8 +35,8 @@ chars_plain (byte ∷ text) all =
 pub guid_plain : (guid : Guid) → IsPlain (guid_text guid)
 guid_plain guid = chars_plain (guid_text guid) (guid_chars guid)
 
-pub status_plain : (status : Word) → IsPlain (status_text status)
-unfolding status_text
+pub status_plain : (status : Word) → IsPlain (word_text status)
+unfolding word_text
 status_plain Success = refl
 status_plain _ = refl
 

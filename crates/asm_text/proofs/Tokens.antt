@@ -9,7 +9,7 @@ use Rattle.asm_text.specs.declared.token.Waiting.{Waiting}
 use Rattle.asm_text.specs.declared.token.Waiting.TheVariants.{Negation, First, Conjunction, Disjunction}
 use Rattle.asm_text.specs.declared.token.Token.{Token}
 use Rattle.asm_text.specs.declared.token.Token.TheVariants.{Waits, Is}
-use Rattle.asm_text.specs.Numerals.{guid_text}
+use Rattle.pi_base.specs.WordText.{guid_text}
 use Rattle.asm_text.specs.Front.{behind, guid_front}
 use Rattle.asm_text.specs.Walk.{with_token, token_at, operator_at}
 use Rattle.asm_text.specs.ReadTree.{IsGuid}

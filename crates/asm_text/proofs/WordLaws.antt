@@ -17,7 +17,8 @@ use Rattle.act_code.specs.Format.{is_within}
 use Rattle.asm_text.specs.declared.word.TheConstants.{STATUSES}
 use Rattle.asm_text.specs.ActionText.{kind_word as shown_kind}
 use Rattle.asm_text.specs.Front.{behind}
-use Rattle.asm_text.specs.Numerals.{hexadecimal, register, status_text}
+use Rattle.pi_base.specs.WordText.{hexadecimal, word_text}
+use Rattle.asm_text.specs.Numerals.{register}
 use Rattle.asm_text.specs.ReadTree.{Finds}
 use Rattle.asm_text.specs.WordReading.{number_word, hexadecimal_word, register_word, choice_word, kind_word, status_word, shown_by, bytes_word}
 use Rattle.asm_text.proofs.Fronts.{passed, same, itself, behind_is, behind_there}
@@ -146,15 +147,15 @@ find_passes : {X : Type 0} (p : X → Bool) (xs : List X) (y : X) → find p xs 
 find_passes p [] y e = absurd cc
 find_passes p (x ∷ xs) y e = find_by p xs x y (p x) refl (find_passes p xs) e
 
-status_name : (status : Word) (word : List ℕ) → bytes_eq (status_text status) word ≡ true → word ≡ status_text status
-status_name status word test = sym ((same (status_text status) word).0 test)
+status_name : (status : Word) (word : List ℕ) → bytes_eq (word_text status) word ≡ true → word ≡ word_text status
+status_name status word test = sym ((same (word_text status) word).0 test)
 
-pub status_is : (word : List ℕ) (status : Word) → status_word word ≡ Some status → word ≡ status_text status
+pub status_is : (word : List ℕ) (status : Word) → status_word word ≡ Some status → word ≡ word_text status
 unfolding status_word
-status_is word status e = status_name status word (find_passes (λ s. bytes_eq (status_text s) word) STATUSES status e)
+status_is word status e = status_name status word (find_passes (λ s. bytes_eq (word_text s) word) STATUSES status e)
 
-pub status_there : (status : Word) → status_word (status_text status) ≡ Some status
-unfolding status_word status_text
+pub status_there : (status : Word) → status_word (word_text status) ≡ Some status
+unfolding status_word word_text
 status_there Success = refl
 status_there _ = refl
 

@@ -12,7 +12,7 @@ use Rattle.depex_code.specs.Expression.{bytes_of, instructions}
 use Rattle.act_code.specs.declared.action.Action.TheVariants.{Log, Ret, Pool}
 use Rattle.act_code.specs.declared.script.Script.{Script}
 use Rattle.act_code.specs.Script.{script_bytes}
-use Rattle.asm_text.specs.Numerals.{status_text}
+use Rattle.pi_base.specs.WordText.{word_text}
 use Rattle.asm_text.specs.ExpressionText.{depex_text}
 use Rattle.asm_text.specs.ActionText.{name_of, action_text}
 use Rattle.asm_text.specs.ScriptText.{phase_text, block_text, script_text}
@@ -22,7 +22,7 @@ logs_a : Script
 logs_a = record { phase = Pei; blocks = (Log (97 ∷ []) ∷ (Ret Success ∷ [])) ∷ [] }
 
 script_as_text : script_text logs_a ≡ codes "phase pei\nblock\nlog a\nret Success\n"
-unfolding logs_a phase_text block_text name_of status_text
+unfolding logs_a phase_text block_text name_of word_text
 script_as_text = refl
 
 script_as_bytes : script_bytes logs_a ≡ 0x50 ∷ 0x49 ∷ 0x41 ∷ 0x53 ∷ 1 ∷ 1 ∷ 1 ∷ 0 ∷ 2 ∷ 0 ∷ 0x11 ∷ 1 ∷ 0x61 ∷ 0x13 ∷ 0 ∷ []

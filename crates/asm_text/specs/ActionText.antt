@@ -8,7 +8,8 @@ use Rattle.act_code.specs.declared.code.Code.{Code}
 use Rattle.act_code.specs.declared.code.Code.TheVariants as code
 use Rattle.act_code.specs.Format.{Format, Value, Nothing, Byte, Within, RegisterNumber, BlockNumber, Little, GuidBytes, WordNumber, Counted, Text, Registers, Descriptor, HobBody, Pair}
 use Rattle.act_code.specs.Table.{format_of, code_of_action, operands}
-use Rattle.asm_text.specs.Numerals.{hexadecimal, guid_text, register, status_text}
+use Rattle.pi_base.specs.WordText.{hexadecimal, guid_text, word_text}
+use Rattle.asm_text.specs.Numerals.{register}
 
 -- the names of actions
 unfoldable pub name_of : Code → List ℕ
@@ -72,7 +73,7 @@ words_of small RegisterNumber value = register value ∷ []
 words_of small BlockNumber value = block_words value
 words_of small (Little width) value = (if width == 2 then decimal value else hexadecimal value) ∷ []
 words_of small GuidBytes value = guid_text value ∷ []
-words_of small WordNumber value = status_text value ∷ []
+words_of small WordNumber value = word_text value ∷ []
 words_of small Counted value = encode_lower value ∷ []
 words_of small Text value = value ∷ []
 words_of small Registers value = map register value

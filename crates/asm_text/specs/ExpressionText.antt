@@ -3,7 +3,7 @@ use Rattle.std.specs.Prelude.{ℕ, Bool, true, false, List, [], ◌∷◌, ◌++
 use Rattle.depex_code.specs.declared.depex.Depex.{Depex}
 use Rattle.depex_code.specs.declared.depex.Depex.TheVariants.{Before, After, Expr}
 use Rattle.depex_code.specs.Tree.{DepexTree, True, False, Push, Not, And, Or}
-use Rattle.asm_text.specs.Numerals.{guid_text}
+use Rattle.pi_base.specs.WordText.{guid_text}
 
 -- two texts in brackets, with a word between
 abbrev pub bracketed : List ℕ → List ℕ → List ℕ → List ℕ

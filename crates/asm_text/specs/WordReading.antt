@@ -9,7 +9,7 @@ use Rattle.pi_base.specs.declared.word.Word.{Word}
 use Rattle.act_code.specs.Reading.{◌>>=◌, only_if}
 use Rattle.asm_text.specs.declared.word.TheConstants.{STATUSES}
 use Rattle.asm_text.specs.Front.{behind}
-use Rattle.asm_text.specs.Numerals.{status_text}
+use Rattle.pi_base.specs.WordText.{word_text}
 
 -- where the first space stands, or the length
 abbrev pub space_place : List ℕ → ℕ
@@ -53,7 +53,7 @@ kind_word word =
 
 -- a status by its name
 unfoldable pub status_word : List ℕ → Option Word
-status_word word = find (λ status. bytes_eq (status_text status) word) STATUSES
+status_word word = find (λ status. bytes_eq (word_text status) word) STATUSES
 
 -- the bytes whose text a word is
 abbrev pub shown_by : List ℕ → Result (List ℕ) FromHexError → Option (List ℕ)

@@ -1,7 +1,7 @@
 // The text of an expression.
 ghost use Rattle.std.specs.Prelude.{◌≡◌, ◌++◌, IfOk};
 ghost use Rattle.asm_text.specs.ExpressionText.{expression_text, depex_text, sor_text, tree_text};
-ghost use Rattle.asm_text.specs.Numerals.{guid_text};
+ghost use Rattle.pi_base.specs.WordText.{guid_text};
 
 use crate::tree_text::tree_text;
 use depex_code::{Depex, Tree};

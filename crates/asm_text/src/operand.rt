@@ -1,7 +1,8 @@
 // The operands of actions as words.
 ghost use Rattle.std.specs.Prelude.{◌≡◌, ◌≤◌, ◌++◌, ◌∷◌, length, map, flat_map, decimal, OnOk, take};
 ghost use Rattle.hex.specs.Hex.{encode_lower};
-ghost use Rattle.asm_text.specs.Numerals.{hexadecimal, guid_text, register, status_text};
+ghost use Rattle.pi_base.specs.WordText.{hexadecimal, guid_text};
+ghost use Rattle.asm_text.specs.Numerals.{register};
 ghost use Rattle.asm_text.specs.ActionText.{spaced};
 ghost use Rattle.asm_text.specs.Operands.{word_of};
 
@@ -69,22 +70,6 @@ fn put_word(out: &mut Seq<u8>, word: &[u8]) -> Result<(), OutOfMemory>
     out.append(word)
 }
 
-// The name of a status.
-#[tactic(auto, unfolding(crate::specs::Numerals::status_text))]
-pub(crate) fn status_text(status: Word) -> &'static [u8]
-    ensures { result.now ≡ status_text status }
-{
-    match status {
-        Word::Success => b"Success",
-        Word::InvalidParameter => b"InvalidParameter",
-        Word::NotFound => b"NotFound",
-        Word::OutOfResources => b"OutOfResources",
-        Word::NotAvailableYet => b"NotAvailableYet",
-        Word::AlreadyStarted => b"AlreadyStarted",
-        Word::AccessDenied => b"AccessDenied",
-    }
-}
-
 // Adds a space, and an operand.
 fn put_operand(out: &mut Seq<u8>, operand: &Operand<'_>) -> Result<(), OutOfMemory>
     ensures { OnOk result (out.new ≡ out.old ++ spaced (word_of operand.now)) }
@@ -94,7 +79,7 @@ fn put_operand(out: &mut Seq<u8>, operand: &Operand<'_>) -> Result<(), OutOfMemo
         Operand::Decimal(n) => put_decimal(out, b" ", u64::from(*n)),
         Operand::Hexadecimal(n) => put_hexadecimal(out, *n),
         Operand::Guid(guid) => put_word(out, &guid.to_text()),
-        Operand::Status(status) => put_word(out, status_text(*status)),
+        Operand::Status(status) => put_word(out, status.text()),
         Operand::Bytes(bytes) => put_bytes(out, bytes),
         Operand::Text(text) => put_word(out, text),
     }

@@ -37,7 +37,7 @@ const EXPRESSIONS: [(&[u8], &[u8]); 6] = [
 ];
 
 #[test]
-fn expressions_both_ways(rt: HostRuntime) {
+fn expressions_go_both_ways(rt: HostRuntime) {
     for (text, bytes) in &EXPRESSIONS {
         let Ok(depex) = parse_depex(rt.alloc(), text) else {
             panic!(rt; "not read");
@@ -73,7 +73,7 @@ const NO_EXPRESSIONS: [(&[u8], u32); 12] = [
 ];
 
 #[test]
-fn no_expressions(rt: HostRuntime) {
+fn what_is_no_expression_is_bad_at_its_line(rt: HostRuntime) {
     for (text, line) in &NO_EXPRESSIONS {
         match parse_depex(rt.alloc(), text) {
             Ok(_) => panic!(rt; "read"),
@@ -93,7 +93,7 @@ fn negated(alloc: Global, count: usize) -> Result<Seq<u8>, Fail> {
 }
 
 #[test]
-fn longest_expression(rt: HostRuntime) -> Result<(), Fail> {
+fn the_longest_expression_is_read(rt: HostRuntime) -> Result<(), Fail> {
     let longest = negated(rt.alloc(), 1022)?;
     assert!(rt; parse_depex(rt.alloc(), longest.as_slice()).is_ok());
     let longer = negated(rt.alloc(), 1023)?;
@@ -241,7 +241,7 @@ fn bytes_with(alloc: Global, phase: Phase, action: &[u8]) -> Result<Seq<u8>, Fai
 }
 
 #[test]
-fn actions_both_ways(rt: HostRuntime) -> Result<(), Fail> {
+fn actions_go_both_ways(rt: HostRuntime) -> Result<(), Fail> {
     for (phase, line, action) in &ACTIONS {
         let text = text_with(rt.alloc(), *phase, line)?;
         let bytes = bytes_with(rt.alloc(), *phase, action)?;
@@ -261,7 +261,7 @@ fn actions_both_ways(rt: HostRuntime) -> Result<(), Fail> {
 }
 
 #[test]
-fn smallest_script(rt: HostRuntime) {
+fn the_smallest_script_is_read(rt: HostRuntime) {
     let Ok(bytes) = assembled(rt.alloc(), b"phase pei\nblock\nlog a\nret Success\n") else {
         panic!(rt; "not read");
     };
@@ -305,7 +305,7 @@ const NO_SCRIPTS: [(&[u8], u32); 20] = [
 ];
 
 #[test]
-fn no_scripts(rt: HostRuntime) {
+fn what_is_no_script_is_bad_at_its_line(rt: HostRuntime) {
     for (text, line) in &NO_SCRIPTS {
         match parse_script(rt.alloc(), text) {
             Ok(_) => panic!(rt; "read"),
@@ -373,7 +373,7 @@ const LIMITS: [(&[u8], &[u8], usize, &[u8], u32); 8] = [
 ];
 
 #[test]
-fn limits_of_scripts(rt: HostRuntime) -> Result<(), Fail> {
+fn scripts_keep_within_their_limits(rt: HostRuntime) -> Result<(), Fail> {
     for (front, line, count, behind, bad) in &LIMITS {
         let text = repeated(rt.alloc(), front, line, *count, behind)?;
         match parse_script(rt.alloc(), text.as_slice()) {
@@ -388,7 +388,7 @@ fn limits_of_scripts(rt: HostRuntime) -> Result<(), Fail> {
 const LONG: &[u8] = b"log 0123456789abcdef0123456789abcdef0123456789abcdef0123456789abcdef\n";
 
 #[test]
-fn longest_script(rt: HostRuntime) -> Result<(), Fail> {
+fn the_longest_script_is_read(rt: HostRuntime) -> Result<(), Fail> {
     let longest = repeated(
         rt.alloc(),
         b"phase pei\nblock\n",

@@ -3,13 +3,12 @@ ghost use Rattle.std.specs.Prelude.{◌≡◌, ◌≤◌, ◌<◌, ◌^◌, ℕ,
 ghost use Rattle.hex.specs.Hex.{encode_lower};
 ghost use Rattle.act_code.specs.Reading.{only_if};
 ghost use Rattle.std.specs.Fmt.{digits};
-ghost use Rattle.asm_text.specs.Numerals.{hexadecimal};
+ghost use Rattle.pi_base.specs.WordText.{hexadecimal};
 ghost use Rattle.asm_text.specs.Reading.{Gives};
 ghost use Rattle.asm_text.specs.ReadTree.{Finds};
 ghost use Rattle.asm_text.specs.WordReading.{space_place, word_at, number_word, hexadecimal_word, register_word, choice_word, kind_word, status_word, bytes_word};
 
 use crate::front::{behind, place_of};
-use crate::operand::status_text;
 use crate::unread::Unread;
 use hex::FromHexError;
 use pi_base::{Seq, Word, decimal, hexadecimal};
@@ -164,7 +163,7 @@ pub(crate) fn status_word(word: &[u8]) -> Option<Word>
     STATUSES
         .iter()
         .copied()
-        .find(|status| status_text(*status) == word)
+        .find(|status| status.text() == word)
 }
 
 // The bytes, where the word is their text.

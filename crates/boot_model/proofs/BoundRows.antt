@@ -13,7 +13,8 @@ use Rattle.boot_model.specs.declared.line.Line.{Line}
 use Rattle.boot_model.specs.declared.line.Line.TheVariants as L
 use Rattle.boot_model.specs.declared.line.CallName.TheVariants as C
 use Rattle.boot_model.specs.declared.line.Extra.TheVariants as X
-use Rattle.boot_model.specs.Text.{text_of, keyword, word_text, licence_text, call_text, reason_text, end_text}
+use Rattle.pi_base.specs.WordText.{word_text}
+use Rattle.boot_model.specs.Text.{text_of, keyword, licence_text, call_text, reason_text, end_text}
 use Rattle.store_model.specs.StoreState.{Board}
 use Rattle.boot_model.specs.BootRun.{boot_lines}
 use Rattle.boot_model.specs.PeiMachine.{PeiMachine}

@@ -13,7 +13,8 @@ use Rattle.catalog_model.specs.declared.catalog.PartExpr.TheVariants.{Absent, Ma
 use Rattle.catalog_model.specs.declared.catalog.Catalog.{Catalog}
 use Rattle.catalog_model.specs.declared.catalog.Module.{Module}
 use Rattle.boot_model.specs.BootRun.{boot_lines}
-use Rattle.boot_model.specs.Text.{text_of, keyword, word_text, licence_text, call_text, reason_text, end_text}
+use Rattle.pi_base.specs.WordText.{word_text}
+use Rattle.boot_model.specs.Text.{text_of, keyword, licence_text, call_text, reason_text, end_text}
 use Rattle.boot_model.proofs.WorkedBoots.{installs_on_one, guid, board, fuel, held, on_request, before, after, peim, driver, in_volume, volume, script, printed, opener, opener_with, opener_listing, volume_hob, dxe_text_of, ppi_desc}
 
 -- two volumes, and one nested in the second

@@ -11,7 +11,8 @@ use Rattle.act_code.specs.declared.action.GuidArg.TheVariants as G
 use Rattle.catalog_model.specs.declared.catalog.Module.{Module}
 use Rattle.catalog_model.specs.declared.catalog.PartExpr.TheVariants.{Absent}
 use Rattle.boot_model.specs.declared.known_guid.TheConstants.{FILE_SYSTEM2}
-use Rattle.boot_model.specs.Text.{keyword, word_text, licence_text, call_text, reason_text, end_text}
+use Rattle.pi_base.specs.WordText.{word_text}
+use Rattle.boot_model.specs.Text.{keyword, licence_text, call_text, reason_text, end_text}
 use Rattle.phys_mem.specs.declared.rom.Rom.{Rom}
 use Rattle.store_model.specs.StoreState.{Board}
 use Rattle.boot_model.proofs.WorkedBoots.{guid, board, held, peim, script, memory_at, ppi_desc, boot_text}

@@ -8,7 +8,8 @@ use Rattle.depex_code.specs.Tree as T
 use Rattle.act_code.specs.declared.action.Action.TheVariants as A
 use Rattle.catalog_model.specs.declared.catalog.Module.{Module}
 use Rattle.catalog_model.specs.declared.catalog.PartExpr.TheVariants.{Malformed}
-use Rattle.boot_model.specs.Text.{keyword, word_text, licence_text, call_text, reason_text, end_text}
+use Rattle.pi_base.specs.WordText.{word_text}
+use Rattle.boot_model.specs.Text.{keyword, licence_text, call_text, reason_text, end_text}
 use Rattle.boot_model.proofs.WorkedBoots.{guid, held, on_request, before, after, driver, script, printed, opener, opener_listing, dxe_text}
 
 -- a request is granted once, and only to a driver that asks for it

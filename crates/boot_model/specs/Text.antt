@@ -1,12 +1,10 @@
 -- The printed lines (own): each is a keyword and words with a space between. Numbers of volumes, modules, blocks and handles are decimal, addresses and values hexadecimal.
-use Rattle.std.specs.Prelude.{ℕ, ◌==◌, if◌then◌else◌, List, [], ◌∷◌, ◌++◌, codes, decimal, Option, Some, None, false}
-use Rattle.std.specs.Fmt.{digits}
+use Rattle.std.specs.Prelude.{ℕ, ◌==◌, if◌then◌else◌, List, [], ◌∷◌, ◌++◌, codes, decimal, Option, Some, None}
 use Rattle.hex.specs.Hex.{encode_lower}
 use Rattle.std.specs.List.{flat_map}
+use Rattle.pi_base.specs.WordText.{hexadecimal, guid_text, word_text}
 use Rattle.pi_base.specs.declared.guid.Guid.{Guid}
 use Rattle.pi_base.specs.declared.word.Word.{Word}
-use Rattle.pi_base.specs.declared.word.Word.TheVariants as W
-use Rattle.pi_base.specs.GuidText.{hyphenated_text, lower, swap_fields}
 use Rattle.boot_io.specs.Line.{line_of}
 use Rattle.boot_plan.specs.declared.fault.PlanCause.{PlanCause}
 use Rattle.boot_plan.specs.declared.fault.PlanCause.TheVariants as P
@@ -28,13 +26,6 @@ use Rattle.boot_model.specs.declared.licence.Licence.TheVariants as G
 use Rattle.catalog_model.specs.declared.image_fault.ImageCause.{ImageCause}
 use Rattle.catalog_model.specs.declared.image_fault.ImageCause.TheVariants as I
 
--- a number in hexadecimal, with `0x` before it
-abbrev pub hexadecimal : ℕ → List ℕ
-hexadecimal n = 48 ∷ 120 ∷ digits 16 false n
-
-abbrev pub guid_text : Guid → List ℕ
-guid_text guid = hyphenated_text lower (swap_fields guid.0)
-
 -- `-` in the place of what is not there
 abbrev pub dash : List ℕ
 dash = 45 ∷ []
@@ -53,15 +44,6 @@ bytes_text (byte ∷ bytes) = encode_lower (byte ∷ bytes)
 
 abbrev pub by_text : ℕ → List ℕ
 by_text by = if by == CORE then codes "core" else decimal by
-
-unfoldable pub word_text : Word → List ℕ
-word_text W.Success = codes "Success"
-word_text W.InvalidParameter = codes "InvalidParameter"
-word_text W.NotFound = codes "NotFound"
-word_text W.OutOfResources = codes "OutOfResources"
-word_text W.NotAvailableYet = codes "NotAvailableYet"
-word_text W.AlreadyStarted = codes "AlreadyStarted"
-word_text W.AccessDenied = codes "AccessDenied"
 
 unfoldable pub licence_text : Licence → List ℕ
 licence_text G.Apriori = codes "apriori"

@@ -58,7 +58,7 @@ fn a_plan_is_read(rt: HostRuntime) -> Result<(), Fail> {
 }
 
 #[test]
-fn whole_texts(rt: HostRuntime) -> Result<(), Fail> {
+fn a_plan_is_refused_at_its_first_bad_line(rt: HostRuntime) -> Result<(), Fail> {
     let rows: [(&[u8], Option<(u32, PlanCause)>); 20] = [
         (USUAL, None),
         (
@@ -128,7 +128,7 @@ fn whole_texts(rt: HostRuntime) -> Result<(), Fail> {
 }
 
 #[test]
-fn lines_behind_a_plan(rt: HostRuntime) -> Result<(), Fail> {
+fn lines_behind_a_plan_are_read(rt: HostRuntime) -> Result<(), Fail> {
     let rows: [(&[u8], Option<(u32, PlanCause)>); 44] = [
         (b"fuel 1", None),
         (b"fuel 1000000", None),
@@ -180,7 +180,7 @@ fn lines_behind_a_plan(rt: HostRuntime) -> Result<(), Fail> {
 }
 
 #[test]
-fn limits_of_memory(rt: HostRuntime) -> Result<(), Fail> {
+fn memory_keeps_within_its_limits(rt: HostRuntime) -> Result<(), Fail> {
     let rows: [(&[u8], Option<(u32, PlanCause)>); 14] = [
         (b"temp 0x80000000 0x3000", Some((1, Limit))),
         (b"temp 0x80000000 0x101000", Some((1, Limit))),
@@ -202,7 +202,7 @@ fn limits_of_memory(rt: HostRuntime) -> Result<(), Fail> {
 }
 
 #[test]
-fn many_volumes_and_long_names(rt: HostRuntime) -> Result<(), Fail> {
+fn sixteen_volumes_and_long_names_are_read(rt: HostRuntime) -> Result<(), Fail> {
     let alloc = rt.alloc();
     let mut text = Vec::from_slice(alloc, USUAL)?;
     for _ in 0..15 {

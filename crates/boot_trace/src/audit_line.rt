@@ -3,7 +3,8 @@ ghost use Rattle.std.specs.Prelude.{[], ◌∷◌, decimal};
 ghost use Rattle.hex.specs.Hex.{encode_lower};
 ghost use Rattle.boot_io.specs.Line.{line_of};
 ghost use Rattle.boot_io.specs.Sink.{Puts, SinkFaultsAfter};
-ghost use Rattle.boot_model.specs.Text.{guid_text, hexadecimal, name_text, rank_text, expression_text, plan_cause_text, image_cause_text};
+ghost use Rattle.pi_base.specs.WordText.{guid_text, hexadecimal};
+ghost use Rattle.boot_model.specs.Text.{name_text, rank_text, expression_text, plan_cause_text, image_cause_text};
 
 use crate::fixed_word::{image_cause_word, plan_cause_word};
 use crate::number_word::{

@@ -2,9 +2,10 @@
 ghost use Rattle.std.specs.Prelude.{◌∷◌};
 ghost use Rattle.boot_io.specs.Line.{line_of};
 ghost use Rattle.boot_io.specs.Sink.{Puts, SinkFaultsAfter};
-ghost use Rattle.boot_model.specs.Text.{call_text, word_text, extra_words};
+ghost use Rattle.pi_base.specs.WordText.{word_text};
+ghost use Rattle.boot_model.specs.Text.{call_text, extra_words};
 
-use crate::fixed_word::{call_name_word, word_word};
+use crate::fixed_word::call_name_word;
 use crate::number_word::{hexadecimal_word, shown_word};
 use boot_io::{Sink, SinkFault, put_line};
 use boot_model::{CallName, Extra};
@@ -23,7 +24,7 @@ pub(crate) fn put_call<S: Sink>(
     ensures cause { SinkFaultsAfter result (S.faults sink.old) (S.faults sink.new) }
 {
     let name = call_name_word(name);
-    let status = word_word(status);
+    let status = status.text();
     match extra {
         Extra::Nothing => put_line(sink, keyword, &[name, status]),
         Extra::Number(number) => {

@@ -1,31 +1,14 @@
 //! The fixed words of lines.
 ghost use Rattle.std.specs.Prelude.{◌≡◌};
-ghost use Rattle.boot_model.specs.Text.{word_text, licence_text, call_text, reason_text, end_text, plan_cause_text, image_cause_text, keyword};
+ghost use Rattle.boot_model.specs.Text.{licence_text, call_text, reason_text, end_text, plan_cause_text, image_cause_text, keyword};
 
 use boot_model::{CallName, Licence, Line, Reason, RunEnd};
 use boot_plan::PlanCause;
 use catalog_model::ImageCause;
-use pi_base::Word;
 
-// The name of a status.
-#[tactic(auto, unfolding(boot_model::specs::Text::word_text))]
-pub(crate) fn word_word(word: Word) -> &'static [u8]
-    ensures { result.now ≡ word_text word }
-{
-    match word {
-        Word::Success => b"Success",
-        Word::InvalidParameter => b"InvalidParameter",
-        Word::NotFound => b"NotFound",
-        Word::OutOfResources => b"OutOfResources",
-        Word::NotAvailableYet => b"NotAvailableYet",
-        Word::AlreadyStarted => b"AlreadyStarted",
-        Word::AccessDenied => b"AccessDenied",
-    }
-}
-
-// Why a module starts.
+/// Why a module starts, as a line names it.
 #[tactic(auto, unfolding(boot_model::specs::Text::licence_text))]
-pub(crate) fn licence_word(licence: Licence) -> &'static [u8]
+pub fn licence_word(licence: Licence) -> &'static [u8]
     ensures { result.now ≡ licence_text licence }
 {
     match licence {
@@ -38,9 +21,9 @@ pub(crate) fn licence_word(licence: Licence) -> &'static [u8]
     }
 }
 
-// The name of a service.
+/// The name of a service.
 #[tactic(auto, unfolding(boot_model::specs::Text::call_text))]
-pub(crate) fn call_name_word(name: CallName) -> &'static [u8]
+pub fn call_name_word(name: CallName) -> &'static [u8]
     ensures { result.now ≡ call_text name }
 {
     match name {
@@ -64,9 +47,9 @@ pub(crate) fn call_name_word(name: CallName) -> &'static [u8]
     }
 }
 
-// Why a module waits.
+/// Why a module waits, as a line names it.
 #[tactic(auto, unfolding(boot_model::specs::Text::reason_text))]
-pub(crate) fn reason_word(reason: Reason) -> &'static [u8]
+pub fn reason_word(reason: Reason) -> &'static [u8]
     ensures { result.now ≡ reason_text reason }
 {
     match reason {
@@ -80,9 +63,9 @@ pub(crate) fn reason_word(reason: Reason) -> &'static [u8]
     }
 }
 
-// How a run ends.
+/// How a run ends, as a line names it.
 #[tactic(auto, unfolding(boot_model::specs::Text::end_text))]
-pub(crate) fn run_end_word(end: RunEnd) -> &'static [u8]
+pub fn run_end_word(end: RunEnd) -> &'static [u8]
     ensures { result.now ≡ end_text end }
 {
     match end {
@@ -94,9 +77,9 @@ pub(crate) fn run_end_word(end: RunEnd) -> &'static [u8]
     }
 }
 
-// A cause of a plan.
+/// A cause of a refused plan, as a line names it.
 #[tactic(auto, unfolding(boot_model::specs::Text::plan_cause_text))]
-pub(crate) fn plan_cause_word(cause: PlanCause) -> &'static [u8]
+pub fn plan_cause_word(cause: PlanCause) -> &'static [u8]
     ensures { result.now ≡ plan_cause_text cause }
 {
     match cause {
@@ -111,9 +94,9 @@ pub(crate) fn plan_cause_word(cause: PlanCause) -> &'static [u8]
     }
 }
 
-// A cause of an image.
+/// A cause of a refused image, as a line names it.
 #[tactic(auto, unfolding(boot_model::specs::Text::image_cause_text))]
-pub(crate) fn image_cause_word(cause: ImageCause) -> &'static [u8]
+pub fn image_cause_word(cause: ImageCause) -> &'static [u8]
     ensures { result.now ≡ image_cause_text cause }
 {
     match cause {

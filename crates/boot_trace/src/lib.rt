@@ -16,6 +16,9 @@ mod store_lists;
 mod trace_line;
 
 pub use entry_list::count_ppis;
+pub use fixed_word::{
+    call_name_word, image_cause_word, licence_word, plan_cause_word, reason_word, run_end_word,
+};
 pub use line::{put, put_all};
 pub use number_word::{DECIMAL_LEN, HEXADECIMAL_LEN, decimal_word, hexadecimal_word};
 pub use out::Out;

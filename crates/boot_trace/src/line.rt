@@ -4,7 +4,7 @@ ghost use Rattle.boot_model.specs.Text.{line_text, text_of, log_text, hob_text, 
 
 use crate::audit_line::{Parts, put_image_refusal, put_module, put_plan_refusal, put_volume};
 use crate::call_line::put_call;
-use crate::fixed_word::{keyword, licence_word, reason_word, run_end_word, word_word};
+use crate::fixed_word::{keyword, licence_word, reason_word, run_end_word};
 use crate::hob_line::put_hob;
 use crate::number_word::{by_word, decimal_word};
 use crate::trace_line::{
@@ -52,9 +52,9 @@ pub fn put<S: Sink>(sink: &mut S, line: &Line) -> Result<(), SinkFault>
             name,
             fired,
         } => put_named(sink, key, *volume, *name, &fired.to_text()),
-        Line::End { status } => put_word(sink, key, word_word(*status)),
+        Line::End { status } => put_word(sink, key, status.text()),
         Line::Migrate { from, to } => put_addresses(sink, key, *from, *to),
-        Line::CoreInstall { status } => put_word(sink, key, word_word(*status)),
+        Line::CoreInstall { status } => put_word(sink, key, status.text()),
         Line::PeiStop => put_bare(sink, key),
         Line::DxeStop => put_bare(sink, key),
         Line::Waiting {

@@ -1,7 +1,8 @@
 //! The words of numbers, names and bytes.
 ghost use Rattle.std.specs.Prelude.{◌≡◌, [], ◌∷◌, decimal};
 ghost use Rattle.hex.specs.Hex.{encode_lower};
-ghost use Rattle.boot_model.specs.Text.{hexadecimal, rank_text, name_text, by_text, expression_text};
+ghost use Rattle.pi_base.specs.WordText.{hexadecimal};
+ghost use Rattle.boot_model.specs.Text.{rank_text, name_text, by_text, expression_text};
 
 use arrayvec::ArrayVec;
 use boot_model::{ExpressionWord, SHOWN_LEN};

@@ -34,7 +34,7 @@ fn bytes(rt: &impl Abort, alloc: Global, list: &[u8]) -> Seq<u8> {
 }
 
 #[test]
-fn lines_of_starts_calls_and_notifications(rt: HostRuntime) -> Result<(), Fail> {
+fn starts_calls_and_notifications_have_their_lines(rt: HostRuntime) -> Result<(), Fail> {
     let alloc = rt.alloc();
     let mut text = ArrayVec::new();
     text.push(b'a');
@@ -106,7 +106,7 @@ fn lines_of_starts_calls_and_notifications(rt: HostRuntime) -> Result<(), Fail> 
 }
 
 #[test]
-fn lines_of_a_phase_from_an_end_to_the_hand_off(rt: HostRuntime) -> Result<(), Fail> {
+fn a_phase_has_its_lines_from_an_end_to_the_hand_off(rt: HostRuntime) -> Result<(), Fail> {
     let alloc = rt.alloc();
     shows(
         &rt,
@@ -156,7 +156,7 @@ fn lines_of_a_phase_from_an_end_to_the_hand_off(rt: HostRuntime) -> Result<(), F
 }
 
 #[test]
-fn lines_of_the_lists(rt: HostRuntime) -> Result<(), Fail> {
+fn each_list_has_its_lines(rt: HostRuntime) -> Result<(), Fail> {
     let alloc = rt.alloc();
     shows(&rt, alloc, Line::Ppis { count: 1 }, b"ppis 1\n")?;
     shows(
@@ -219,7 +219,7 @@ fn lines_of_the_lists(rt: HostRuntime) -> Result<(), Fail> {
 }
 
 #[test]
-fn lines_of_audits_and_refusals(rt: HostRuntime) -> Result<(), Fail> {
+fn audits_and_refusals_have_their_lines(rt: HostRuntime) -> Result<(), Fail> {
     let alloc = rt.alloc();
     let part = Line::Module {
         by: 2,

@@ -2,7 +2,7 @@
 ghost use Rattle.std.specs.Prelude.{[], ◌∷◌, decimal};
 ghost use Rattle.boot_io.specs.Line.{line_of};
 ghost use Rattle.boot_io.specs.Sink.{Puts, SinkFaultsAfter};
-ghost use Rattle.boot_model.specs.Text.{guid_text, hexadecimal};
+ghost use Rattle.pi_base.specs.WordText.{guid_text, hexadecimal};
 
 use crate::number_word::{decimal_word, hexadecimal_word};
 use boot_io::{Sink, SinkFault, put_line};

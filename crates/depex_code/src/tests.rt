@@ -140,7 +140,7 @@ const READINGS: [(&[u8], (u8, u32), (u8, u32)); 27] = [
 ];
 
 #[test]
-fn readings(rt: HostRuntime) {
+fn an_expression_is_read_or_refused_at_its_opcode(rt: HostRuntime) {
     for (bytes, dxe, pei) in &READINGS {
         assert_eq!(rt; told(read_depex(rt.alloc(), bytes, Phase::Dxe)), *dxe);
         assert_eq!(rt; told(read_depex(rt.alloc(), bytes, Phase::Pei)), *pei);
@@ -159,7 +159,7 @@ fn negated(alloc: Global, count: usize) -> Result<Vec<u8>, Fail> {
 }
 
 #[test]
-fn most_opcodes(rt: HostRuntime) -> Result<(), Fail> {
+fn the_longest_expression_is_read(rt: HostRuntime) -> Result<(), Fail> {
     let most = negated(rt.alloc(), 1022)?;
     assert_eq!(rt;
         told(read_depex(rt.alloc(), most.as_slice(), Phase::Pei)),
@@ -206,7 +206,7 @@ const TRUTHS: [(&[Opcode], [bool; 3]); 9] = [
 ];
 
 #[test]
-fn truths(rt: HostRuntime) -> Result<(), Fail> {
+fn an_expression_is_true_by_the_guids_that_are_there(rt: HostRuntime) -> Result<(), Fail> {
     for (code, truths) in &TRUTHS {
         let mut list = Seq::new(rt.alloc());
         assert!(rt; list.append(code).is_ok());
@@ -233,7 +233,7 @@ const NO_TREES: [&[Opcode]; 4] = [
 ];
 
 #[test]
-fn no_trees(rt: HostRuntime) {
+fn what_leaves_no_single_value_is_no_tree(rt: HostRuntime) {
     for code in &NO_TREES {
         let mut list = Seq::new(rt.alloc());
         assert!(rt; list.append(code).is_ok());

@@ -43,7 +43,7 @@ fn fails(alloc: Global, bytes: &[u8], at: u64, cause: SecCause) -> bool {
 }
 
 #[test]
-fn sound_streams(rt: HostRuntime) {
+fn sound_streams_are_read(rt: HostRuntime) {
     // No bytes; a whole section; an extended one, and one of the least size.
     assert!(rt; reads(rt.alloc(), &[], &[]));
     assert!(rt; reads(rt.alloc(), &RAW, &[section(RAW_TYPE, 4, 15)]));
@@ -71,7 +71,7 @@ fn sound_streams(rt: HostRuntime) {
 }
 
 #[test]
-fn cut_streams(rt: HostRuntime) {
+fn cut_streams_are_refused(rt: HostRuntime) {
     // Fewer than four bytes are an end, and any longer part of a section is none.
     for cut in 0..4 {
         assert!(rt; reads(rt.alloc(), &RAW[..cut], &[]), "cut to {cut}");
@@ -95,7 +95,7 @@ fn cut_streams(rt: HostRuntime) {
 }
 
 #[test]
-fn faults(rt: HostRuntime) {
+fn each_fault_comes_at_its_place(rt: HostRuntime) {
     let table: [(&[u8], u64, SecCause); 7] = [
         // A size below its header's length.
         (&[3, 0, 0, 0x19], 0, SecCause::Size),
@@ -136,7 +136,7 @@ fn front(bytes: &[u8], len: usize) -> &[u8] {
 }
 
 #[test]
-fn most_sections(rt: HostRuntime) {
+fn the_most_sections_are_read(rt: HostRuntime) {
     let mut bytes = many();
     // 256 sections are read, and the next one is too many, also where it has another fault.
     let len = match read_sections(rt.alloc(), front(&bytes, 1024)) {
@@ -150,7 +150,7 @@ fn most_sections(rt: HostRuntime) {
 }
 
 #[test]
-fn numbers(rt: HostRuntime) {
+fn each_cause_has_its_number(rt: HostRuntime) {
     one_reading();
     let numbers = [
         SecCause::Size as u8,

@@ -98,7 +98,7 @@ fn fails(alloc: Global, bytes: &[u8], at: u64, cause: VolCause) -> bool {
 }
 
 #[test]
-fn headers(rt: HostRuntime) {
+fn each_fault_of_a_header_comes_in_its_order(rt: HostRuntime) {
     one_reading();
     places();
     let bytes = changed(&[]);
@@ -137,7 +137,7 @@ fn front(bytes: &[u8], len: usize) -> &[u8] {
 }
 
 #[test]
-fn every_length(rt: HostRuntime) {
+fn each_cut_volume_is_refused(rt: HostRuntime) {
     let mut bytes = changed(&[]);
     for len in 0..4098u64 {
         put_u64(&mut bytes, 32, len);
@@ -159,7 +159,7 @@ fn every_length(rt: HostRuntime) {
 }
 
 #[test]
-fn files_and_states(rt: HostRuntime) {
+fn files_are_listed_by_their_states(rt: HostRuntime) {
     let listed: [&[(usize, u8)]; 4] = [
         // Marked for update; bits above 0x20 say nothing.
         &[(95, 0xf0)],
@@ -190,7 +190,7 @@ fn files_and_states(rt: HostRuntime) {
 }
 
 #[test]
-fn file_faults(rt: HostRuntime) {
+fn each_fault_of_a_file_comes_at_its_place(rt: HostRuntime) {
     let table: [(&[(usize, u8)], VolCause); 10] = [
         (&[(88, 0xc4), (89, 0xab)], VolCause::FileSum),
         (&[(88, 0xc4), (95, 0xe0)], VolCause::FileSum),
@@ -215,7 +215,7 @@ fn file_faults(rt: HostRuntime) {
 }
 
 #[test]
-fn second_file(rt: HostRuntime) {
+fn a_second_file_is_listed_or_refused(rt: HostRuntime) {
     // The file ends at 115, and the next one begins at 120.
     let mut bytes = changed(&[]);
     put(&mut bytes, 120, &EMPTY_FILE);
@@ -269,7 +269,7 @@ fn large(size: u64, checksum: u8, len: u64) -> [u8; LEN] {
 }
 
 #[test]
-fn large_files(rt: HostRuntime) {
+fn large_files_are_listed(rt: HostRuntime) {
     // FFS3 with a file that is not large.
     let mut bytes = large(51, 0xbc, 4096);
     put(&mut bytes, 72, &FRONT[72..]);
@@ -329,7 +329,7 @@ fn many_files(alloc: Global) -> Result<Vec<u8>, AllocError> {
 }
 
 #[test]
-fn most_files(rt: HostRuntime) -> Result<(), Fail> {
+fn the_most_files_are_listed(rt: HostRuntime) -> Result<(), Fail> {
     let mut bytes = many_files(rt.alloc())?;
     bytes.extend_from_slice(&ERASED)?;
     let count = match read_volume(rt.alloc(), bytes.as_slice()) {
@@ -351,7 +351,7 @@ fn most_files(rt: HostRuntime) -> Result<(), Fail> {
 }
 
 #[test]
-fn numbers(rt: HostRuntime) {
+fn each_cause_has_its_number(rt: HostRuntime) {
     assert_eq!(rt; VolCause::Short as u8, 1);
     assert_eq!(rt; VolCause::FileSystem as u8, 4);
     assert_eq!(rt; VolCause::ExtHeader as u8, 8);

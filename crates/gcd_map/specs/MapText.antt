@@ -1,7 +1,7 @@
 -- What is printed of commands and of the map (own): a line is a keyword and words with a space between. Addresses and lengths are hexadecimal, lines and offsets decimal.
 use Rattle.std.specs.Prelude.{ℕ, Bool, true, false, List, [], ◌∷◌, codes, decimal}
-use Rattle.std.specs.Fmt.{digits}
 use Rattle.std.specs.List.{flat_map}
+use Rattle.pi_base.specs.WordText.{hexadecimal}
 use Rattle.boot_io.specs.Line.{line_of}
 use Rattle.gcd_map.specs.declared.state.GcdKind.{GcdKind}
 use Rattle.gcd_map.specs.declared.state.GcdKind.TheVariants.{NonExistent, Reserved, System, Mmio}
@@ -15,10 +15,6 @@ use Rattle.gcd_map.specs.declared.command.Command.{Command}
 use Rattle.gcd_map.specs.declared.command.Command.TheVariants.{Add, Allocate, Top, Free, Remove}
 use Rattle.gcd_map.specs.declared.perform.Answer.{Answer}
 use Rattle.gcd_map.specs.declared.perform.Answer.TheVariants.{Done, At, Refused}
-
--- a number in hexadecimal, with `0x` before it
-abbrev pub hexadecimal : ℕ → List ℕ
-hexadecimal n = 48 ∷ 120 ∷ digits 16 false n
 
 unfoldable pub kind_text : GcdKind → List ℕ
 kind_text NonExistent = codes "nonexistent"

@@ -40,7 +40,7 @@ fn check(
 }
 
 #[test]
-fn each_type(rt: HostRuntime) -> Result<(), Fail> {
+fn each_type_goes_both_ways(rt: HostRuntime) -> Result<(), Fail> {
     let rows: [(Hob<'_>, &[u8], Hob<'_>); 12] = [
         (
             Hob::Handoff(HANDOFF),
@@ -173,7 +173,7 @@ fn each_type(rt: HostRuntime) -> Result<(), Fail> {
 }
 
 #[test]
-fn greatest_lengths(rt: HostRuntime) -> Result<(), Fail> {
+fn the_greatest_lengths_are_encoded(rt: HostRuntime) -> Result<(), Fail> {
     for (len, pool, named) in [
         (65_504, Some(65_512), Some(65_528)),
         (65_505, Some(65_520), None),
@@ -189,7 +189,7 @@ fn greatest_lengths(rt: HostRuntime) -> Result<(), Fail> {
 }
 
 #[test]
-fn faults_at_a_place(rt: HostRuntime) {
+fn faults_come_at_a_place(rt: HostRuntime) {
     let rows: [(&[u8], usize, HobFault); 11] = [
         (b"", 0, HobFault::Short),
         (b"\x07\0\x08\0\0\0\0", 0, HobFault::Short),
@@ -220,7 +220,7 @@ const HEAP: &[u8] =
     b"\x01\0\x38\0\0\0\0\0\x09\0\0\0\x11\0\0\0\0\0\x10\x40\0\0\0\0\0\0\0\x40\0\0\0\0\0\xf0\x0f\x40\0\0\0\0\xd8\0\0\x40\0\0\0\0\xd0\0\0\x40\0\0\0\0\x07\0\x30\0\0\0\0\0\x10\0\0\x80\0\0\0\0\x58\0\0\x40\0\0\0\0\0\0\0\0\0\0\0\0\x3d\x64\x94\xf8\x49\xc4\xd1\x42\x8e\xa8\x85\xbd\xd8\xc6\x5b\xde\x07\0\x28\0\0\0\0\0\0\0\0\0\0\0\0\0\x40\0\0\x40\0\0\0\0\0\0\0\0\0\0\0\0\xff\xff\xff\xff\0\0\0\0\x02\0\x30\0\0\0\0\0\0\0\0\0\0\0\0\0\0\0\0\0\0\0\0\0\0\xf0\x0f\x40\0\0\0\0\0\x10\0\0\0\0\0\0\x04\0\0\0\0\0\0\0\x06\0\x10\0\0\0\0\0\x30\x10\0\0\0\0\0\0\xff\xff\x08\0\0\0\0\0\0\0\0\0\0\0\0\0";
 
 #[test]
-fn a_list(rt: HostRuntime) -> Result<(), Fail> {
+fn a_list_is_walked(rt: HostRuntime) -> Result<(), Fail> {
     let places = walk(rt.alloc(), HEAP).ok().ok_or("a list")?;
     let wants = [
         HobPlace {

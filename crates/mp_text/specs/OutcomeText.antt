@@ -1,8 +1,8 @@
 -- What is printed of an MP file and its outcome (own): a line is a keyword and words with a space between. What a cell has is
 -- hexadecimal, and each other number is decimal.
 use Rattle.std.specs.Prelude.{ℕ, Bool, true, false, not, List, [], ◌∷◌, ◌++◌, map, filter, codes, decimal}
-use Rattle.std.specs.Fmt.{digits}
 use Rattle.std.specs.List.{flat_map, enumerate_from, zip}
+use Rattle.pi_base.specs.WordText.{hexadecimal}
 use Rattle.boot_io.specs.Line.{line_of}
 use Rattle.mp_core.specs.declared.event.MpEvent.{MpEvent}
 use Rattle.mp_core.specs.declared.event.MpEvent.TheVariants as E
@@ -14,10 +14,6 @@ use Rattle.mp_core.specs.declared.reply.MpWord.TheVariants.{Success, DeviceError
 use Rattle.mp_text.specs.declared.keyword.Keyword.{Keyword}
 use Rattle.mp_text.specs.declared.keyword.Keyword.TheVariants.{All, This, Enable, Disable, Switch, Who, Turn}
 use Rattle.mp_text.specs.LineText.{keyword_text}
-
--- a number in hexadecimal, with `0x` before it
-abbrev pub hexadecimal : ℕ → List ℕ
-hexadecimal n = 48 ∷ 120 ∷ digits 16 false n
 
 -- the keyword of an event's line
 abbrev pub keyword_of : MpEvent → Keyword

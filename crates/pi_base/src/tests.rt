@@ -77,7 +77,7 @@ fn checksums_make_a_header_sum_to_zero(rt: HostRuntime) -> Result<(), Fail> {
 }
 
 #[test]
-fn numbers_words_and_spans(rt: HostRuntime) -> Result<(), Fail> {
+fn numbers_words_and_spans_have_their_texts(rt: HostRuntime) -> Result<(), Fail> {
     let mut digits = [0u8; 20];
     let len = decimal(u64::MAX, &mut digits);
     assert_eq!(rt; &digits[..len], b"18446744073709551615".as_slice());

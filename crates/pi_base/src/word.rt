@@ -1,6 +1,7 @@
 // The statuses that boot services answer.
 ghost use Rattle.std.specs.Prelude.{◌≡◌, ◌<◌, ◌↔◌, IfSome, IsNone};
 ghost use Rattle.pi_base.specs.Word.{word_number};
+ghost use Rattle.pi_base.specs.WordText.{word_text};
 
 /// What a boot service or a module answers: the `EFI_STATUS` values that occur here (UEFI's appendix of status codes; `NotAvailableYet` is PI 1.8's, volume 1). In a script a word is written by its number, from 0 in this order (own).
 #[derive(Clone, Copy, Debug, PartialEq, Eq)]
@@ -27,6 +28,22 @@ impl Word {
         ensures { result ≡ word_number self }
     {
         self as u8
+    }
+
+    /// Its name as it is printed and read.
+    #[tactic(auto, unfolding(crate::specs::WordText::word_text))]
+    pub fn text(self) -> &'static [u8]
+        ensures { result.now ≡ word_text self }
+    {
+        match self {
+            Word::Success => b"Success",
+            Word::InvalidParameter => b"InvalidParameter",
+            Word::NotFound => b"NotFound",
+            Word::OutOfResources => b"OutOfResources",
+            Word::NotAvailableYet => b"NotAvailableYet",
+            Word::AlreadyStarted => b"AlreadyStarted",
+            Word::AccessDenied => b"AccessDenied",
+        }
     }
 
     /// The word that a number stands for in a script.

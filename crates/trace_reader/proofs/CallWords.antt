@@ -4,7 +4,8 @@ use Rattle.std.specs.Prelude.{codes}
 use Rattle.pi_base.specs.declared.word.Word.{Word}
 use Rattle.boot_io.specs.Line.{spaced}
 use Rattle.boot_model.specs.declared.line.CallName.{CallName}
-use Rattle.boot_model.specs.Text.{call_text, word_text}
+use Rattle.pi_base.specs.WordText.{word_text}
+use Rattle.boot_model.specs.Text.{call_text}
 use Rattle.trace_reader.proofs.Splits.{same_front, same_back, behind_is, tail_of}
 use Rattle.trace_reader.proofs.FixedWords.{call_text_plain, word_text_plain, call_text_one, word_text_one}
 

@@ -13,7 +13,8 @@ use Rattle.pi_base.specs.declared.guid.Guid.{Guid}
 use Rattle.store_model.specs.declared.state.TheConstants.{CORE}
 use Rattle.boot_model.specs.declared.line.ExpressionWord.{ExpressionWord}
 use Rattle.boot_model.specs.declared.line.ExpressionWord.TheVariants as V
-use Rattle.boot_model.specs.Text.{hexadecimal, guid_text, by_text, rank_text, name_text, expression_text, bytes_text}
+use Rattle.pi_base.specs.WordText.{hexadecimal, guid_text}
+use Rattle.boot_model.specs.Text.{by_text, rank_text, name_text, expression_text, bytes_text}
 use Rattle.trace_reader.specs.Readable.{IsGuid, IsRank, IsName, IsExpression}
 use Rattle.trace_reader.proofs.Numerals.{numeral}
 use Rattle.trace_reader.proofs.HexWords.{one_byte}

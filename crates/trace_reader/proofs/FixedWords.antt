@@ -3,7 +3,8 @@ use Rattle.std.proofs.Common.{◌≡◌, refl, sym, ap, ◌∙◌, ℕ, List, []
 use Rattle.std.specs.List.{find}
 use Rattle.std.specs.Str.{bytes_eq}
 use Rattle.trace_reader.specs.Plain.{IsPlain}
-use Rattle.boot_model.specs.Text.{word_text, licence_text, call_text, reason_text, end_text, plan_cause_text, image_cause_text}
+use Rattle.pi_base.specs.WordText.{word_text}
+use Rattle.boot_model.specs.Text.{licence_text, call_text, reason_text, end_text, plan_cause_text, image_cause_text}
 use Rattle.pi_base.specs.declared.word.Word.{Word}
 use Rattle.pi_base.specs.declared.word.Word.TheVariants as W
 use Rattle.boot_model.specs.declared.licence.Licence.{Licence}

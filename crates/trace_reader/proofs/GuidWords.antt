@@ -7,7 +7,7 @@ use Rattle.uuid.proofs.RoundTrips.{parses_hyphenated_text, swap_twice}
 use Rattle.hex.specs.Hex.{IsBytes}
 use Rattle.pi_base.specs.declared.guid.Guid.{Guid}
 use Rattle.pi_base.specs.GuidText.{guid_of_text}
-use Rattle.boot_model.specs.Text.{guid_text}
+use Rattle.pi_base.specs.WordText.{guid_text}
 use Rattle.trace_reader.specs.Readable.{IsGuid}
 
 swapped : (xs : List ℕ) → IsBytes xs → All (λ b. b < 256) (swap_fields xs)

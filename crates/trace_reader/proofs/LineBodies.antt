@@ -12,7 +12,8 @@ use Rattle.boot_io.specs.Line.{spaced}
 use Rattle.boot_model.specs.declared.line.Line.{Line}
 use Rattle.boot_model.specs.declared.line.Line.TheVariants as L
 use Rattle.boot_model.specs.declared.line.Extra.TheVariants as E
-use Rattle.boot_model.specs.Text.{keyword, words, line_text, hexadecimal, guid_text, licence_text, word_text, reason_text, end_text, by_text, rank_text, name_text, expression_text, plan_cause_text, image_cause_text, call_text, bytes_text}
+use Rattle.pi_base.specs.WordText.{hexadecimal, guid_text, word_text}
+use Rattle.boot_model.specs.Text.{keyword, words, line_text, licence_text, reason_text, end_text, by_text, rank_text, name_text, expression_text, plan_cause_text, image_cause_text, call_text, bytes_text}
 use Rattle.trace_reader.specs.Plain.{IsPlain, Lacks}
 use Rattle.trace_reader.specs.Readable.{IsReadable, IsLineOf, is_printable}
 use Rattle.trace_reader.specs.Trace.{BeginsWithLine}

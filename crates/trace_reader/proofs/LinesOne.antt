@@ -11,7 +11,8 @@ use Rattle.boot_model.specs.declared.line.CallName.TheVariants as C
 use Rattle.boot_model.specs.declared.line.Extra.{Extra}
 use Rattle.boot_model.specs.declared.line.Extra.TheVariants as E
 use Rattle.pi_base.specs.declared.word.Word.{Word}
-use Rattle.boot_model.specs.Text.{keyword, words, hexadecimal, guid_text, licence_text, word_text, reason_text, end_text, by_text, rank_text, name_text, expression_text, plan_cause_text, image_cause_text, call_text, bytes_text, extra_words}
+use Rattle.pi_base.specs.WordText.{hexadecimal, guid_text, word_text}
+use Rattle.boot_model.specs.Text.{keyword, words, licence_text, reason_text, end_text, by_text, rank_text, name_text, expression_text, plan_cause_text, image_cause_text, call_text, bytes_text, extra_words}
 use Rattle.trace_reader.specs.Plain.{IsPlain}
 use Rattle.trace_reader.specs.Readable.{IsReadable, IsExtra, shows_number}
 use Rattle.trace_reader.proofs.Splits.{same_front, same_back, behind_is, tail_of}

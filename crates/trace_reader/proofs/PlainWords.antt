@@ -9,7 +9,8 @@ use Rattle.hex.specs.Hex.{encode_with, encode_lower, lower_digits, IsBytes}
 use Rattle.pi_base.specs.declared.guid.Guid.{Guid}
 use Rattle.boot_model.specs.declared.line.ExpressionWord.{ExpressionWord}
 use Rattle.boot_model.specs.declared.line.ExpressionWord.TheVariants as V
-use Rattle.boot_model.specs.Text.{hexadecimal, by_text, guid_text, rank_text, name_text, expression_text}
+use Rattle.pi_base.specs.WordText.{hexadecimal, guid_text}
+use Rattle.boot_model.specs.Text.{by_text, rank_text, name_text, expression_text}
 use Rattle.store_model.specs.declared.state.TheConstants.{CORE}
 use Rattle.trace_reader.specs.Plain.{IsPlain}
 use Rattle.trace_reader.specs.Readable.{IsGuid, IsRank, IsName, IsExpression, IsShown}

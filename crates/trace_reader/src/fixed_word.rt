@@ -2,11 +2,15 @@
 ghost use Rattle.std.specs.Prelude.{◌≡◌, List, ℕ, ⊤};
 ghost use Rattle.std.specs.List.{Contains};
 ghost use Rattle.trace_reader.specs.Finds.{Finds};
-ghost use Rattle.boot_model.specs.Text.{word_text, licence_text, call_text, reason_text, end_text, plan_cause_text, image_cause_text};
+ghost use Rattle.pi_base.specs.WordText.{word_text};
+ghost use Rattle.boot_model.specs.Text.{licence_text, call_text, reason_text, end_text, plan_cause_text, image_cause_text};
 
 use crate::field::Field;
 use boot_model::{CallName, Licence, Reason, RunEnd};
 use boot_plan::PlanCause;
+use boot_trace::{
+    call_name_word, image_cause_word, licence_word, plan_cause_word, reason_word, run_end_word,
+};
 use catalog_model::ImageCause;
 use pi_base::Word;
 
@@ -39,21 +43,12 @@ fn with_word<T: Named>(word: &[u8]) -> Option<T>
 }
 
 impl Named for Word {
-    ghost use Rattle.boot_model.specs.Text.{word_text};
+    ghost use Rattle.pi_base.specs.WordText.{word_text};
 
     ghost text_of = { word_text };
 
-    #[tactic(auto, unfolding(boot_model::specs::Text::word_text))]
     fn text(self) -> &'static [u8] {
-        match self {
-            Word::Success => b"Success",
-            Word::InvalidParameter => b"InvalidParameter",
-            Word::NotFound => b"NotFound",
-            Word::OutOfResources => b"OutOfResources",
-            Word::NotAvailableYet => b"NotAvailableYet",
-            Word::AlreadyStarted => b"AlreadyStarted",
-            Word::AccessDenied => b"AccessDenied",
-        }
+        Word::text(self)
     }
 
     fn all() -> &'static [Word] {
@@ -71,7 +66,7 @@ impl Named for Word {
 
 impl Field for Word {
     ghost use Rattle.std.specs.Prelude.{⊤};
-    ghost use Rattle.boot_model.specs.Text.{word_text};
+    ghost use Rattle.pi_base.specs.WordText.{word_text};
 
     ghost shows = { word_text };
 
@@ -88,16 +83,8 @@ impl Named for Licence {
 
     ghost text_of = { licence_text };
 
-    #[tactic(auto, unfolding(boot_model::specs::Text::licence_text))]
     fn text(self) -> &'static [u8] {
-        match self {
-            Licence::Apriori => b"apriori",
-            Licence::Absent => b"absent",
-            Licence::True => b"true",
-            Licence::Shadow => b"shadow",
-            Licence::Before => b"before",
-            Licence::After => b"after",
-        }
+        licence_word(self)
     }
 
     fn all() -> &'static [Licence] {
@@ -131,27 +118,8 @@ impl Named for CallName {
 
     ghost text_of = { call_text };
 
-    #[tactic(auto, unfolding(boot_model::specs::Text::call_text))]
     fn text(self) -> &'static [u8] {
-        match self {
-            CallName::Pool => b"pool",
-            CallName::Store => b"store",
-            CallName::Peek => b"peek",
-            CallName::Desc => b"desc",
-            CallName::Install => b"install",
-            CallName::Reinstall => b"reinstall",
-            CallName::Notify => b"notify",
-            CallName::Locate => b"locate",
-            CallName::Hob => b"hob",
-            CallName::Memory => b"memory",
-            CallName::Pages => b"pages",
-            CallName::BootMode => b"boot_mode",
-            CallName::Shadow => b"shadow",
-            CallName::Uninstall => b"uninstall",
-            CallName::Schedule => b"schedule",
-            CallName::Process => b"process",
-            CallName::Dispatch => b"dispatch",
-        }
+        call_name_word(self)
     }
 
     fn all() -> &'static [CallName] {
@@ -196,17 +164,8 @@ impl Named for Reason {
 
     ghost text_of = { reason_text };
 
-    #[tactic(auto, unfolding(boot_model::specs::Text::reason_text))]
     fn text(self) -> &'static [u8] {
-        match self {
-            Reason::Malformed => b"malformed",
-            Reason::False => b"false",
-            Reason::Shadow => b"shadow",
-            Reason::Unrequested => b"unrequested",
-            Reason::Before => b"before",
-            Reason::After => b"after",
-            Reason::Absent => b"absent",
-        }
+        reason_word(self)
     }
 
     fn all() -> &'static [Reason] {
@@ -241,15 +200,8 @@ impl Named for RunEnd {
 
     ghost text_of = { end_text };
 
-    #[tactic(auto, unfolding(boot_model::specs::Text::end_text))]
     fn text(self) -> &'static [u8] {
-        match self {
-            RunEnd::Done => b"Done",
-            RunEnd::NoMemory => b"NoMemory",
-            RunEnd::NoIpl => b"NoIpl",
-            RunEnd::Spent => b"Spent",
-            RunEnd::Deep => b"Deep",
-        }
+        run_end_word(self)
     }
 
     fn all() -> &'static [RunEnd] {
@@ -282,18 +234,8 @@ impl Named for PlanCause {
 
     ghost text_of = { plan_cause_text };
 
-    #[tactic(auto, unfolding(boot_model::specs::Text::plan_cause_text))]
     fn text(self) -> &'static [u8] {
-        match self {
-            PlanCause::Word => b"Word",
-            PlanCause::Number => b"Number",
-            PlanCause::Missing => b"Missing",
-            PlanCause::Twice => b"Twice",
-            PlanCause::Overlap => b"Overlap",
-            PlanCause::Limit => b"Limit",
-            PlanCause::Room => b"Room",
-            PlanCause::Memory => b"Memory",
-        }
+        plan_cause_word(self)
     }
 
     fn all() -> &'static [PlanCause] {
@@ -329,40 +271,8 @@ impl Named for ImageCause {
 
     ghost text_of = { image_cause_text };
 
-    #[tactic(auto, unfolding(boot_model::specs::Text::image_cause_text))]
     fn text(self) -> &'static [u8] {
-        match self {
-            ImageCause::Short => b"Short",
-            ImageCause::Signature => b"Signature",
-            ImageCause::Revision => b"Revision",
-            ImageCause::FileSystem => b"FileSystem",
-            ImageCause::Length => b"Length",
-            ImageCause::HeaderLength => b"HeaderLength",
-            ImageCause::HeaderSum => b"HeaderSum",
-            ImageCause::ExtHeader => b"ExtHeader",
-            ImageCause::FileSum => b"FileSum",
-            ImageCause::FileSize => b"FileSize",
-            ImageCause::DataSum => b"DataSum",
-            ImageCause::TooManyFiles => b"TooManyFiles",
-            ImageCause::Size => b"Size",
-            ImageCause::Compressed => b"Compressed",
-            ImageCause::GuidDefined => b"GuidDefined",
-            ImageCause::TooMany => b"TooMany",
-            ImageCause::Magic => b"Magic",
-            ImageCause::Version => b"Version",
-            ImageCause::Phase => b"Phase",
-            ImageCause::Count => b"Count",
-            ImageCause::Block => b"Block",
-            ImageCause::Action => b"Action",
-            ImageCause::Jump => b"Jump",
-            ImageCause::Index => b"Index",
-            ImageCause::Nesting => b"Nesting",
-            ImageCause::TooManyModules => b"TooManyModules",
-            ImageCause::Place => b"Place",
-            ImageCause::TooManyVolumes => b"TooManyVolumes",
-            ImageCause::ScriptTotal => b"ScriptTotal",
-            ImageCause::Memory => b"Memory",
-        }
+        image_cause_word(self)
     }
 
     fn all() -> &'static [ImageCause] {

@@ -1,14 +1,15 @@
 // Words of GUIDs, and of ranks and names that may be absent.
 ghost use Rattle.std.specs.Prelude.{◌≡◌};
 ghost use Rattle.std.specs.Bool.{Decides};
-ghost use Rattle.boot_model.specs.Text.{dash, guid_text, name_text, rank_text};
+ghost use Rattle.pi_base.specs.WordText.{guid_text};
+ghost use Rattle.boot_model.specs.Text.{dash, name_text, rank_text};
 ghost use Rattle.trace_reader.specs.Readable.{IsGuid, IsName, IsRank};
 
 use crate::field::Field;
 use pi_base::Guid;
 
 impl Field for Guid {
-    ghost use Rattle.boot_model.specs.Text.{guid_text};
+    ghost use Rattle.pi_base.specs.WordText.{guid_text};
     ghost use Rattle.trace_reader.specs.Readable.{IsGuid};
 
     ghost shows = { guid_text };

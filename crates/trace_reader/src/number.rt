@@ -2,7 +2,8 @@
 ghost use Rattle.std.specs.Prelude.{◌≡◌, ◌<◌, ◌≤◌, ◌^◌, ℕ, decimal, false, Some};
 ghost use Rattle.std.specs.Fmt.{digits};
 ghost use Rattle.trace_reader.specs.Finds.{Finds};
-ghost use Rattle.boot_model.specs.Text.{hexadecimal, by_text};
+ghost use Rattle.pi_base.specs.WordText.{hexadecimal};
+ghost use Rattle.boot_model.specs.Text.{by_text};
 
 use crate::field::Field;
 use crate::place::behind;
@@ -127,7 +128,7 @@ pub(crate) struct Hexadecimal(pub u64);
 
 impl Field for Hexadecimal {
     ghost use Rattle.std.specs.Prelude.{◌<◌, ◌^◌};
-    ghost use Rattle.boot_model.specs.Text.{hexadecimal};
+    ghost use Rattle.pi_base.specs.WordText.{hexadecimal};
 
     ghost shows = { λ n. hexadecimal n.0 };
 

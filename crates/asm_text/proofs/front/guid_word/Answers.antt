@@ -1,6 +1,6 @@
 use Rattle.std.proofs.Common.{◌≡◌, ◌∙◌, sym, ap, option_map, true, false, rules}
 use Rattle.std.specs.Prelude.{bytes_eq}
-use Rattle.asm_text.specs.Numerals.{guid_text}
+use Rattle.pi_base.specs.WordText.{guid_text}
 use Rattle.asm_text.specs.ReadTree.{IsGuid}
 use Rattle.asm_text.proofs.Guids.{word_found, word_not_found, no_word}
 use Rattle.asm_text.proofs.front.guid_word.Goals as goal

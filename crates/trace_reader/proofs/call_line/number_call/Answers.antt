@@ -1,5 +1,5 @@
 use Rattle.std.proofs.Common.{◌∙◌, [], ◌∷◌}
-use Rattle.boot_model.specs.Text.{hexadecimal}
+use Rattle.pi_base.specs.WordText.{hexadecimal}
 use Rattle.boot_model.specs.Text.{keyword}
 use Rattle.trace_reader.proofs.CallWords.{call_is}
 use Rattle.trace_reader.proofs.HexWords.{not_decided}
