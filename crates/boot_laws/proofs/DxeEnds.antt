@@ -43,11 +43,11 @@ frames_later : (number : ℕ) (blocks : List (List Action)) → SweepsAreLater (
 frames_later number [] = tt
 frames_later number (block ∷ blocks) = ((λ _. refl), tt)
 
-start_later : (catalog : Catalog) (m : DxeMachine) (next : Scheduled) (queue : List Scheduled) (part : Option Part) → SweepsAreLater m.frames → SweepsAreLater (driver_started catalog m next queue part).frames
+pub start_later : (catalog : Catalog) (m : DxeMachine) (next : Scheduled) (queue : List Scheduled) (part : Option Part) → SweepsAreLater m.frames → SweepsAreLater (driver_started catalog m next queue part).frames
 start_later catalog m next queue None h = h
 start_later catalog m next queue (Some part) h = frames_later next.module_number part.script.blocks
 
-case_later : (catalog : Catalog) (fuel : ℕ) (m : DxeMachine) (case : DxeCase) → dxe_case_of catalog m ≡ case → SweepsAreLater m.frames → SweepsAreLater (in_dxe_case catalog fuel m case).frames
+pub case_later : (catalog : Catalog) (fuel : ℕ) (m : DxeMachine) (case : DxeCase) → dxe_case_of catalog m ≡ case → SweepsAreLater m.frames → SweepsAreLater (in_dxe_case catalog fuel m case).frames
 case_later catalog fuel m (DxeFires note sweep frame below) e h =
     let k = fires_from catalog m m.frames note sweep frame below e in
     let later : SweepsAreLater (frame ∷ below) = subst SweepsAreLater k.0 h in
@@ -60,12 +60,12 @@ case_later catalog fuel m (DxeActs frame below) e h =
 case_later catalog fuel m (DxeStarts next queue) e h = start_later catalog m next queue (part_at Dxe catalog next.module_number) h
 case_later catalog fuel m DxeStops e h = h
 
-step_way : (catalog : Catalog) (fuel : ℕ) (m : DxeMachine) → AreNumbered 0 catalog.volumes → IsUnderWay catalog m → IsUnderWay catalog (dxe_step catalog fuel m)
+pub step_way : (catalog : Catalog) (fuel : ℕ) (m : DxeMachine) → AreNumbered 0 catalog.volumes → IsUnderWay catalog m → IsUnderWay catalog (dxe_step catalog fuel m)
 step_way catalog fuel m numbered way =
     record { sweeps = case_later catalog fuel m (dxe_case_of catalog m) refl way.sweeps; queued = case_queued catalog fuel m (dxe_case_of catalog m) numbered refl way.queued }
 
 -- with no step left it has ended
-none_left : (catalog : Catalog) (fuel : ℕ) (m : DxeMachine) → IsUnderWay catalog m → steps_left catalog fuel m ≤ 0 → is_some m.ended ≡ true
+pub none_left : (catalog : Catalog) (fuel : ℕ) (m : DxeMachine) → IsUnderWay catalog m → steps_left catalog fuel m ≤ 0 → is_some m.ended ≡ true
 none_left catalog fuel m way h =
     elim m.ended as (λ o. m.ended ≡ o → is_some o ≡ true) [
       | Some end ↦ λ _. refl
@@ -73,7 +73,7 @@ none_left catalog fuel m way h =
           let less : steps_left catalog fuel (dxe_step catalog fuel m) < steps_left catalog fuel m = steps_run_out catalog fuel m going way in absurd (omega (arith, less, h))
     ] refl
 
-ends_on : (catalog : Catalog) (fuel n : ℕ) (m : DxeMachine) → AreNumbered 0 catalog.volumes → IsUnderWay catalog m → steps_left catalog fuel m ≤ n → is_some (dxe_run catalog fuel n m).ended ≡ true
+pub ends_on : (catalog : Catalog) (fuel n : ℕ) (m : DxeMachine) → AreNumbered 0 catalog.volumes → IsUnderWay catalog m → steps_left catalog fuel m ≤ n → is_some (dxe_run catalog fuel n m).ended ≡ true
 ends_on catalog fuel zero m numbered way le = none_left catalog fuel m way le
 ends_on catalog fuel (suc n) m numbered way le =
     elim m.ended as (λ o. m.ended ≡ o → is_some (elim o as (λ _. DxeMachine) [ Some end ↦ m | None ↦ dxe_run catalog fuel n (dxe_step catalog fuel m) ]).ended ≡ true) [

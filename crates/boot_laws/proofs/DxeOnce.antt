@@ -51,7 +51,7 @@ follows_queued : (catalog : Catalog) (old new : DxeMachine) → AreNumbered 0 ca
 follows_queued catalog old new numbered (inl h) q = same_queued catalog old.discovered old.scheduled old.started new.discovered new.scheduled new.started h.discovered h.scheduled h.started q
 follows_queued catalog old new numbered (inr h) q = subst (IsQueued catalog) (sym h.1) (volumes_queued catalog old h.0 numbered q)
 
-effect_queued : (catalog : Catalog) (m : DxeMachine) (frame : DriverFrame) (below : List DriverFrame) (e : DxeEffect) → AreNumbered 0 catalog.volumes → EffectFollows catalog m e → IsQueued catalog m
+pub effect_queued : (catalog : Catalog) (m : DxeMachine) (frame : DriverFrame) (below : List DriverFrame) (e : DxeEffect) → AreNumbered 0 catalog.volumes → EffectFollows catalog m e → IsQueued catalog m
     → IsQueued catalog (after_dxe_effect m frame below e)
 effect_queued catalog m frame below (Wrote registers status) numbered f q = q
 effect_queued catalog m frame below (Called name reply) numbered f q = follows_queued catalog m reply.machine numbered f q
@@ -64,7 +64,7 @@ either_queued : (catalog : Catalog) (b : Bool) (one other : DxeMachine) → IsQu
 either_queued catalog true one other h k = h
 either_queued catalog false one other h k = k
 
-start_queued : (catalog : Catalog) (m : DxeMachine) (next : Scheduled) (queue : List Scheduled) (part : Option Part) → AreQueued catalog m.discovered (numbers_of (next ∷ queue)) m.started
+pub start_queued : (catalog : Catalog) (m : DxeMachine) (next : Scheduled) (queue : List Scheduled) (part : Option Part) → AreQueued catalog m.discovered (numbers_of (next ∷ queue)) m.started
     → IsQueued catalog (driver_started catalog m next queue part)
 start_queued catalog m next queue None q = head_dropped catalog m.discovered next.module_number (numbers_of queue) m.started q
 start_queued catalog m next queue (Some part) q = head_started catalog m.discovered next.module_number (numbers_of queue) m.started q

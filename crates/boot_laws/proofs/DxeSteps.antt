@@ -52,7 +52,7 @@ pub record IsUnderWay (catalog : Catalog) (m : DxeMachine) : Type 0 where
 has_fuel : (fuel actions : ℕ) → nat_le fuel actions ≡ false → actions < fuel
 has_fuel fuel actions h = grind (arith, nat_tests)
 
-at_most : (catalog : Catalog) (fuel : ℕ) (m : DxeMachine) → steps_left catalog fuel m ≤ left catalog fuel m
+pub at_most : (catalog : Catalog) (fuel : ℕ) (m : DxeMachine) → steps_left catalog fuel m ≤ left catalog fuel m
 at_most catalog fuel m = elim m.ended as (λ o. (elim o as (λ _. ℕ) [ Some end ↦ 0 | None ↦ left catalog fuel m ]) ≤ left catalog fuel m) [ Some end ↦ omega arith | None ↦ omega arith ]
 
 position_le : (n : ℕ) → (elim n as (λ _. ℕ) [ zero ↦ 0 | suc k ↦ 1 ]) ≤ 1
@@ -98,7 +98,7 @@ ended_or : (catalog : Catalog) (fuel n : ℕ) (b : Bool) (one other : DxeMachine
 ended_or catalog fuel n true one other h k = h
 ended_or catalog fuel n false one other h k = k refl
 
-start_left : (catalog : Catalog) (fuel : ℕ) (m : DxeMachine) (next : Scheduled) (queue : List Scheduled) (part : Option Part) → is_some part ≡ true → between_actions m.frames ≡ 1
+pub start_left : (catalog : Catalog) (fuel : ℕ) (m : DxeMachine) (next : Scheduled) (queue : List Scheduled) (part : Option Part) → is_some part ≡ true → between_actions m.frames ≡ 1
     → starts_left catalog (next.module_number ∷ m.started) < starts_left catalog m.started → left catalog fuel (driver_started catalog m next queue part) < left catalog fuel m
 start_left catalog fuel m next queue None some empty less = cc
 start_left catalog fuel m next queue (Some part) some empty less = let b = between_le (start_frames next.module_number part.script.blocks) in omega (arith, empty, less, b)

@@ -150,7 +150,7 @@ no_name_in h (E.Held (D.Before name)) may = cc
 no_name_in h (E.Held (D.After name)) may = cc
 no_name_in h (E.Held (D.Expr sor node)) may = (refl, refl)
 
-no_name : (h : HandleState) (o : Option Part) → driver_may_start h o ≡ true → (option_and_then (λ part. before_of part.expr) o ≡ None) × (option_and_then (λ part. after_of part.expr) o ≡ None)
+pub no_name : (h : HandleState) (o : Option Part) → driver_may_start h o ≡ true → (option_and_then (λ part. before_of part.expr) o ≡ None) × (option_and_then (λ part. after_of part.expr) o ≡ None)
 no_name h None may = cc
 no_name h (Some part) may = no_name_in h part.expr may
 

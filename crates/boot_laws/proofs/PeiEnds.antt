@@ -38,7 +38,7 @@ swept_later m (frame ∷ below) sweep h k = ((λ z. absurd (not_begun (next_matc
 not_zero : {P : Type 0} (a n : ℕ) → a + 1 + n ≡ 0 → P
 not_zero a n h = absurd (omega (arith, h))
 
-either_way : (catalog : Catalog) (b : Bool) (one other : PeiMachine) → IsUnderWay catalog one → IsUnderWay catalog other → IsUnderWay catalog (cond b one other)
+pub either_way : (catalog : Catalog) (b : Bool) (one other : PeiMachine) → IsUnderWay catalog one → IsUnderWay catalog other → IsUnderWay catalog (cond b one other)
 either_way catalog true one other h k = h
 either_way catalog false one other h k = k
 
@@ -63,11 +63,11 @@ one_more : (catalog : Catalog) (number : ℕ) (started : List ℕ) (before : Boo
 one_more catalog number started true h parts = parts
 one_more catalog number started false h parts = (h, parts)
 
-start_way : (catalog : Catalog) (m : PeiMachine) (number : ℕ) (part : Option Part) → HasPart Pei catalog number → IsUnderWay catalog m → IsUnderWay catalog (started_part catalog m number part)
+pub start_way : (catalog : Catalog) (m : PeiMachine) (number : ℕ) (part : Option Part) → HasPart Pei catalog number → IsUnderWay catalog m → IsUnderWay catalog (started_part catalog m number part)
 start_way catalog m number None h way = way
 start_way catalog m number (Some part) h way = record { sweeps = frames_later number part.script.blocks; parts = one_more catalog number m.started (has_number m.started number) h way.parts }
 
-case_way : (catalog : Catalog) (fuel : ℕ) (m : PeiMachine) (case : PeiCase) → case_of catalog m ≡ case → IsUnderWay catalog m → IsUnderWay catalog (in_case catalog fuel m case)
+pub case_way : (catalog : Catalog) (fuel : ℕ) (m : PeiMachine) (case : PeiCase) → case_of catalog m ≡ case → IsUnderWay catalog m → IsUnderWay catalog (in_case catalog fuel m case)
 case_way catalog fuel m (Fires firing sweep) e way =
     let k : is_some (option_and_then (next_match m.store) (open_sweep m m.frames)) ≡ true = fires_from _ m.frames (migration m.store) (queue_pop m.store) (next_peim catalog m) firing sweep e in
     either_way catalog (nat_le 64 (length m.frames)) (record m { ended = Some Deep }) (callback_begun catalog m firing sweep) (record { sweeps = way.sweeps; parts = way.parts })
@@ -84,7 +84,7 @@ case_way catalog fuel m (Starts number) e way =
 case_way catalog fuel m Stops e way = record { sweeps = way.sweeps; parts = way.parts }
 
 -- with no step left it has ended
-none_left : (catalog : Catalog) (fuel : ℕ) (m : PeiMachine) → IsUnderWay catalog m → steps_left catalog fuel m ≤ 0 → is_some m.ended ≡ true
+pub none_left : (catalog : Catalog) (fuel : ℕ) (m : PeiMachine) → IsUnderWay catalog m → steps_left catalog fuel m ≤ 0 → is_some m.ended ≡ true
 none_left catalog fuel m way h =
     elim m.ended as (λ o. m.ended ≡ o → is_some o ≡ true) [
       | Some end ↦ λ _. refl
@@ -92,7 +92,7 @@ none_left catalog fuel m way h =
           let less : steps_left catalog fuel (pei_step catalog fuel m) < steps_left catalog fuel m = steps_run_out catalog fuel m going way in absurd (omega (arith, less, h))
     ] refl
 
-ends_on : (catalog : Catalog) (fuel n : ℕ) (m : PeiMachine) → IsUnderWay catalog m → steps_left catalog fuel m ≤ n → is_some (pei_run catalog fuel n m).ended ≡ true
+pub ends_on : (catalog : Catalog) (fuel n : ℕ) (m : PeiMachine) → IsUnderWay catalog m → steps_left catalog fuel m ≤ n → is_some (pei_run catalog fuel n m).ended ≡ true
 ends_on catalog fuel zero m way le = none_left catalog fuel m way le
 ends_on catalog fuel (suc n) m way le =
     elim m.ended as (λ o. m.ended ≡ o → is_some (elim o as (λ _. PeiMachine) [ Some end ↦ m | None ↦ pei_run catalog fuel n (pei_step catalog fuel m) ]).ended ≡ true) [

@@ -107,18 +107,18 @@ neither_of : (a b : Bool) → a ≡ false → b ≡ false → (a || b) ≡ false
 neither_of a b e h = cc
 
 -- a list that is rotated has what the list has
-none_rotated : (p : ℕ → Bool) (cursor : ℕ) (order : List ℕ) → list_any p (rotated cursor order) ≡ false → list_any p order ≡ false
+pub none_rotated : (p : ℕ → Bool) (cursor : ℕ) (order : List ℕ) → list_any p (rotated cursor order) ≡ false → list_any p order ≡ false
 none_rotated p cursor order h =
     let parts = or_false (list_any p (drop cursor order)) (list_any p (take cursor order)) (sym (any_of_both p (drop cursor order) (take cursor order)) ∙ h) in
     let both : (list_any p (take cursor order) || list_any p (drop cursor order)) ≡ false = neither_of _ _ parts.1 parts.0 in
     subst (λ xs. list_any p xs ≡ false) (take-append-drop cursor order) (any_of_both p (take cursor order) (drop cursor order) ∙ both)
 
 -- in a list of which no item passes a test, none does
-passes_on : (p : ℕ → Bool) (x n : ℕ) (b later : Bool) → (x == n) ≡ b → p x ≡ false → (later ≡ true → p n ≡ false) → (b || later) ≡ true → p n ≡ false
+pub passes_on : (p : ℕ → Bool) (x n : ℕ) (b later : Bool) → (x == n) ≡ b → p x ≡ false → (later ≡ true → p n ≡ false) → (b || later) ≡ true → p n ≡ false
 passes_on p x n true later e first rest h = let same : x ≡ n = grind (arith, nat_tests) in subst (λ m. p m ≡ false) same first
 passes_on p x n false later e first rest h = rest h
 
-none_passes : (p : ℕ → Bool) (xs : List ℕ) (n : ℕ) → list_any p xs ≡ false → has_number xs n ≡ true → p n ≡ false
+pub none_passes : (p : ℕ → Bool) (xs : List ℕ) (n : ℕ) → list_any p xs ≡ false → has_number xs n ≡ true → p n ≡ false
 none_passes p [] n h has = cc
 none_passes p (x ∷ xs) n h has = let both = or_false (p x) (list_any p xs) h in passes_on p x n (x == n) (has_number xs n) refl both.0 (none_passes p xs n both.1) has
 

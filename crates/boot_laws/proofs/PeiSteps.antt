@@ -66,7 +66,7 @@ pub record IsUnderWay (catalog : Catalog) (m : PeiMachine) : Type 0 where
 has_fuel : (fuel actions : ℕ) → nat_le fuel actions ≡ false → actions < fuel
 has_fuel fuel actions h = grind (arith, nat_tests)
 
-at_most : (catalog : Catalog) (fuel : ℕ) (m : PeiMachine) → steps_left catalog fuel m ≤ left catalog fuel m
+pub at_most : (catalog : Catalog) (fuel : ℕ) (m : PeiMachine) → steps_left catalog fuel m ≤ left catalog fuel m
 at_most catalog fuel m = elim m.ended as (λ o. (elim o as (λ _. ℕ) [ Some end ↦ 0 | None ↦ left catalog fuel m ]) ≤ left catalog fuel m) [ Some end ↦ omega arith | None ↦ omega arith ]
 
 position_le : (n : ℕ) → (elim n as (λ _. ℕ) [ zero ↦ 0 | suc k ↦ 1 ]) ≤ 1
@@ -117,7 +117,7 @@ counted : (catalog : Catalog) (started again : List ℕ) (number : ℕ) (before 
 counted catalog started again number true e second among = let less = fewer number again (module_numbers catalog) (second refl) among in omega (arith, less)
 counted catalog started again number false e second among = let less = fewer number started (module_numbers catalog) e among in omega (arith, less)
 
-start_left : (catalog : Catalog) (fuel : ℕ) (m : PeiMachine) (number : ℕ) (part : Option Part) → is_some part ≡ true → between_actions m.frames ≡ 1
+pub start_left : (catalog : Catalog) (fuel : ℕ) (m : PeiMachine) (number : ℕ) (part : Option Part) → is_some part ≡ true → between_actions m.frames ≡ 1
     → starts_left catalog (cond (has_number m.started number) m.started (number ∷ m.started)) (cond (has_number m.started number) (number ∷ m.again) m.again) < starts_left catalog m.started m.again
     → left catalog fuel (started_part catalog m number part) < left catalog fuel m
 start_left catalog fuel m number None some empty less = cc
@@ -137,7 +137,7 @@ first_has s None h = cc
 first_has s (Some part) h = refl
 
 -- what may start has a part, for what has started has one
-part_by : (catalog : Catalog) (m : PeiMachine) (number : ℕ) (before : Bool) → has_number m.started number ≡ before → Each (HasPart Pei catalog) m.started
+pub part_by : (catalog : Catalog) (m : PeiMachine) (number : ℕ) (before : Bool) → has_number m.started number ≡ before → Each (HasPart Pei catalog) m.started
     → cond before (may_start_again m number) (may_start m.store (part_at Pei catalog number)) ≡ true → HasPart Pei catalog number
 part_by catalog m number true e parts h = each_at (HasPart Pei catalog) m.started number parts e
 part_by catalog m number false e parts h = first_has m.store (part_at Pei catalog number) h

@@ -96,19 +96,20 @@ waiting_known catalog m = each_filter (IsKnown catalog m.discovered) (is_waiting
 waiting_apart : (catalog : Catalog) (m : DxeMachine) → AllApart (waiting catalog m) m.started
 waiting_apart catalog m = passed (λ n. Apart n m.started) (is_waiting m) (discovered_order catalog m) (waiting_new m)
 
--- a group in the place of an empty queue
-group_queued : (catalog : Catalog) (m : DxeMachine) (number : ℕ) → first_eligible catalog m ≡ Some number → IsQueued catalog m → AreQueued catalog m.discovered (companion_group catalog m number) m.started
-group_queued catalog m number found q =
+-- the group of a driver that waits and may start, in the place of an empty queue
+pub group_queued : (catalog : Catalog) (m : DxeMachine) (number : ℕ) → is_eligible_driver catalog m number ≡ true → ((P : ℕ → Type 0) → Each P (waiting catalog m) → P number) → IsQueued catalog m
+    → AreQueued catalog m.discovered (companion_group catalog m number) m.started
+group_queued catalog m number eligible waits q =
     let deep = length (waiting catalog m) in
     let differ : Distinct (waiting catalog m) = distinct_filter (is_waiting m) (discovered_order catalog m) (distinct_of catalog (parts_in Dxe catalog) (drivers_are catalog) m.discovered q.volumes_differ) in
     let apart = waiting_apart catalog m in
     let known = waiting_known catalog m in
     record {
       volumes_differ = q.volumes_differ;
-      queue_differs = distinct_group catalog m deep number differ (found_passes (is_eligible_driver catalog m) (waiting catalog m) number found);
+      queue_differs = distinct_group catalog m deep number differ eligible;
       started_differ = q.started_differ;
-      apart = each_of_group (λ n. Apart n m.started) catalog m deep number apart (each_found (λ n. Apart n m.started) (is_eligible_driver catalog m) (waiting catalog m) number found apart);
-      queue_known = each_of_group (IsKnown catalog m.discovered) catalog m deep number known (each_found (IsKnown catalog m.discovered) (is_eligible_driver catalog m) (waiting catalog m) number found known);
+      apart = each_of_group (λ n. Apart n m.started) catalog m deep number apart (waits (λ n. Apart n m.started) apart);
+      queue_known = each_of_group (IsKnown catalog m.discovered) catalog m deep number known (waits (IsKnown catalog m.discovered) known);
       started_known = q.started_known;
     }
 
@@ -131,7 +132,8 @@ group_or_none catalog m None e q = record {
   started_known = q.started_known;
 }
 group_or_none catalog m (Some number) e q =
-    subst (λ ns. AreQueued catalog m.discovered ns m.started) (sym (numbers_of_map _ (λ n. refl) (companion_group catalog m number))) (group_queued catalog m number e q)
+    subst (λ ns. AreQueued catalog m.discovered ns m.started) (sym (numbers_of_map _ (λ n. refl) (companion_group catalog m number)))
+    (group_queued catalog m number (found_passes (is_eligible_driver catalog m) (waiting catalog m) number e) (λ P h. each_found P (is_eligible_driver catalog m) (waiting catalog m) number e h) q)
 
 queue_or_group : (P : List Scheduled → Type 0) (queue group : List Scheduled) → P queue → P group → P (queue_from queue group)
 queue_or_group P [] group p g = g

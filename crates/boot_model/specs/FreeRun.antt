@@ -1,12 +1,19 @@
--- A run in which the dispatchers choose freely: any eligible PEIM may start in the place of the first, and any eligible driver, with its group, in the place of the first.
--- Every other step is that of the machine.
+-- A boot in which the dispatchers choose freely: any eligible PEIM may start in the place of the first, a second start too, and any eligible driver, with its group, in the place of the first.
+-- Every other step is that of the machine, and so are the opening, the hand-off, the last lists and the result.
 -- PI 1.8, volumes 1 and 2, leave the order to the dispatchers.
-use Rattle.std.specs.Prelude.{◌≡◌, ℕ, true, List, [], ◌∷◌, Some, None, is_some}
+use Rattle.std.specs.Prelude.{◌≡◌, ℕ, true, List, [], ◌∷◌, Option, Some, None, is_some}
 use Rattle.pi_base.specs.declared.phase.Phase.TheVariants.{Dxe}
 use Rattle.catalog_model.specs.declared.catalog.Catalog.{Catalog}
 use Rattle.catalog_model.specs.Parts.{has_number, part_at}
 use Rattle.boot_model.specs.Eligible.{is_eligible}
+use Rattle.store_model.specs.StoreState.{Board}
+use Rattle.boot_model.specs.declared.line.Line.{Line}
+use Rattle.boot_model.specs.declared.phase_end.PeiEnd.{PeiEnd}
+use Rattle.boot_model.specs.declared.phase_end.PeiEnd.TheVariants.{Handoff, NoMemory, NoIpl, Spent, Deep}
 use Rattle.boot_model.specs.PeiMachine.{PeiMachine}
+use Rattle.boot_model.specs.PeiRun.{pei_opening, last_machine}
+use Rattle.boot_model.specs.DxeRun.{dxe_opening}
+use Rattle.boot_model.specs.BootRun.{both_lines, lines_after}
 use Rattle.boot_model.specs.PeiChoice.{pei_order}
 use Rattle.boot_model.specs.PeiStep.{PeiCase, Fires, Acts, Moves, Pops, Starts, Stops, case_of, in_case, started}
 use Rattle.boot_model.specs.DxeMachine.{DxeMachine, Scheduled}
@@ -56,3 +63,28 @@ IsFreeInDxe catalog fuel m DxeStops later = later ≡ in_dxe_case catalog fuel m
 abbrev pub IsFreeDxeRun : Catalog → ℕ → DxeMachine → List DxeMachine → Type 0
 IsFreeDxeRun catalog fuel m [] = is_some m.ended ≡ true
 IsFreeDxeRun catalog fuel m (later ∷ rest) = (m.ended ≡ None) × IsFreeInDxe catalog fuel m (dxe_case_of catalog m) later × IsFreeDxeRun catalog fuel later rest
+
+abbrev pub last_of_dxe : DxeMachine → List DxeMachine → DxeMachine
+last_of_dxe m [] = m
+last_of_dxe m (later ∷ rest) = last_of_dxe later rest
+
+-- all lines of a boot that goes freely from a machine of DXE on, behind this machine of PEI
+abbrev pub AreFreeDxeLines : Catalog → ℕ → PeiMachine → DxeMachine → List Line → Type 0
+AreFreeDxeLines catalog fuel pei m lines = (run : List DxeMachine) × IsFreeDxeRun catalog fuel m run × (lines ≡ both_lines pei (last_of_dxe m run) (last_of_dxe m run).ended)
+
+-- all lines behind a PEI that has ended so: behind a hand-off DXE goes freely from its opening
+abbrev pub AreFreeLinesAfter : Catalog → ℕ → PeiMachine → Option PeiEnd → List Line → Type 0
+AreFreeLinesAfter catalog fuel pei None lines = lines ≡ lines_after catalog fuel pei None
+AreFreeLinesAfter catalog fuel pei (Some Handoff) lines = AreFreeDxeLines catalog fuel pei (dxe_opening catalog pei.store pei.actions) lines
+AreFreeLinesAfter catalog fuel pei (Some NoMemory) lines = lines ≡ lines_after catalog fuel pei (Some NoMemory)
+AreFreeLinesAfter catalog fuel pei (Some NoIpl) lines = lines ≡ lines_after catalog fuel pei (Some NoIpl)
+AreFreeLinesAfter catalog fuel pei (Some Spent) lines = lines ≡ lines_after catalog fuel pei (Some Spent)
+AreFreeLinesAfter catalog fuel pei (Some Deep) lines = lines ≡ lines_after catalog fuel pei (Some Deep)
+
+-- all lines of a boot that goes freely from a machine of PEI on
+abbrev pub AreFreePeiLines : Catalog → ℕ → PeiMachine → List Line → Type 0
+AreFreePeiLines catalog fuel m lines = (run : List PeiMachine) × IsFreePeiRun catalog fuel m run × AreFreeLinesAfter catalog fuel (last_machine m run) (last_machine m run).ended lines
+
+-- all lines of a free boot
+abbrev pub AreFreeLines : Board → Catalog → ℕ → List Line → Type 0
+AreFreeLines board catalog fuel lines = AreFreePeiLines catalog fuel (pei_opening board catalog) lines
