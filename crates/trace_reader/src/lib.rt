@@ -25,6 +25,7 @@ mod trace;
 
 pub use fault::TraceFault;
 pub use reading_law::one_reading;
+pub use start_line::start_line;
 pub use trace::read_trace;
 
 #[cfg(test)]

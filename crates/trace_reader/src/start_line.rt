@@ -6,9 +6,9 @@ ghost use Rattle.trace_reader.specs.Lacking.{LacksLinesOfStart};
 use crate::field::fields_after;
 use boot_model::Line;
 
-// The line of a volume that is reported or discovered, or of a start.
+/// The line of a volume that is reported or discovered, or of a start, whose bytes without the line feed these are. None where they are of no such line.
 #[tactic(auto, unfolding(boot_model::specs::Text::keyword))]
-pub(crate) fn start_line(line: &[u8]) -> Option<Line>
+pub fn start_line(line: &[u8]) -> Option<Line>
     ensures read { IfSome result (IsLineOf line.now) }
     ensures none { IsNone result → LacksLinesOfStart line.now }
 {
