@@ -9,40 +9,12 @@ MEMORY_PPI = "f894643d-c449-42d1-8ea8-85bdd8c65bde"
 VOLUME_INFO_PPI = "49edb1c1-bf21-4761-bb12-eb0031aabb39"
 NAMES = {"dxe-ipl-ppi": IPL_PPI, "volume-info-ppi": VOLUME_INFO_PPI}
 HANDOFF_LENGTH, HEADER, END_LENGTH = 56, 8, 8
-FV_HOB, POOL_HOB, BEFORE, AFTER, SOR = 5, 7, 0x00, 0x01, 0x09
+FV_HOB, POOL_HOB = 5, 7
 PPI_FLAGS, CORE = 0x80000010, 0xFFFFFFFF
 
 
 def eight(number):
     return number.to_bytes(8, "little")
-
-
-def is_malformed(phase, code):
-    return code is not None and expression_text(phase, code) is None
-
-
-def expression_text(phase, code):
-    """The text of an expression's bytes; none where they are malformed, or go on behind END."""
-    first = code[:1]
-    if phase == "dxe" and first in (b"\0", b"\1"):
-        return f"{['before', 'after'][first[0]]} {uuid.UUID(bytes_le=code[1:17])}" if len(code) == 18 and code[17] == 8 else None
-    at = int(phase == "dxe" and code[:1] == bytes([SOR]))
-    front, stack = "sor " * at, []
-    while at < len(code):
-        opcode, at = code[at], at + 1
-        if opcode == 0x02 and at + 16 <= len(code):
-            stack.append(str(uuid.UUID(bytes_le=code[at : at + 16])))
-            at += 16
-        elif opcode in (0x03, 0x04) and len(stack) >= 2:
-            second, first = stack.pop(), stack.pop()
-            stack.append(f"({first} {['and', 'or'][opcode - 3]} {second})")
-        elif opcode == 0x05 and stack:
-            stack.append(f"not {stack.pop()}")
-        elif opcode in (0x06, 0x07):
-            stack.append(["true", "false"][opcode - 6])
-        else:
-            return front + stack[0] if opcode == 0x08 and len(stack) == 1 and at == len(code) else None
-    return None
 
 
 class Trace:
@@ -206,7 +178,7 @@ class Trace:
         for module in self.order[self.cursor :] + self.order[: self.cursor]:
             again = module.number in self.shadows and self.started.count(module.number) < 2
             if again or module.number not in self.started:
-                self.waits(module, "shadow" if again else "malformed" if is_malformed("pei", module.expressions["pei"]) else "false")
+                self.waits(module, "shadow" if again else "malformed" if module.is_malformed("pei") else "false")
         if self.moved and IPL_PPI in [ppi[3] for ppi in self.ppis]:
             self.say(f"handoff {self.base:#x}")
             return True
@@ -235,10 +207,8 @@ class Trace:
     def stop_dxe(self):
         self.say("dxe stop")
         for module in self.waiting():
-            code = module.expressions["dxe"]
-            licence = module.licence("dxe")
-            unrequested = module.is_sor() and module.number not in self.requested
-            tree = "malformed" if is_malformed("dxe", code) else "unrequested" if unrequested else "false"
+            licence, unrequested = module.licence("dxe"), module.is_sor() and module.number not in self.requested
+            tree = "malformed" if module.is_malformed("dxe") else "unrequested" if unrequested else "false"
             self.waits(module, tree if licence == "true" else licence)
 
     # The end

@@ -1,4 +1,4 @@
-"""Reads firmware volumes, their files and sections: what `cut-volumes` and `log-to-trace` have in common."""
+"""Reads firmware volumes, their files, sections and expressions, for `cut-volumes` and `log-to-trace`."""
 import uuid
 
 SIGNATURE, SIGNATURE_AT = b"_FVH", 40  # PI 1.8, volume 3, "Firmware Volume Header"
@@ -6,6 +6,7 @@ FFS2 = "8c8ce578-8a3d-4f1c-9935-896185c32dd3"
 FFS3 = "5473c07a-3dcb-4dca-bd6f-1e9689e7349a"
 FILE_SYSTEMS = {uuid.UUID(system).bytes_le: system for system in (FFS2, FFS3)}
 PAD, LARGE_FILE = 0xF0, 0x01
+BEFORE, AFTER, PUSH, AND, OR, NOT, TRUE, FALSE, END, SOR = range(10)  # the opcodes of expressions
 
 
 def little(data, at, size):
@@ -70,3 +71,26 @@ def sections_of(body):
             return
         yield body[at + 3], body[at : at + size], front
         at += size + -size % 4
+
+
+def expression_in(phase, code):
+    """The text of the expression that some bytes begin with, as `make-volume` reads it, and its length; none where it is malformed."""
+    if phase == "dxe" and code[:1] in (bytes([BEFORE]), bytes([AFTER])):
+        return (f"{['before', 'after'][code[0]]} {guid_text(code, 1)}", 18) if code[17:18] == bytes([END]) else None
+    at = int(phase == "dxe" and code[:1] == bytes([SOR]))
+    front, trees = "sor " * at, []
+    while at < len(code):
+        opcode, at = code[at], at + 1
+        if opcode == PUSH and at + 16 <= len(code):
+            trees.append(guid_text(code, at))
+            at += 16
+        elif opcode in (AND, OR) and len(trees) >= 2:
+            right, left = trees.pop(), trees.pop()
+            trees.append(f"({left} {'and' if opcode == AND else 'or'} {right})")
+        elif opcode == NOT and trees:
+            trees.append(f"not {trees.pop()}")
+        elif opcode in (TRUE, FALSE):
+            trees.append("true" if opcode == TRUE else "false")
+        else:
+            return (front + trees[0], at) if opcode == END and len(trees) == 1 else None
+    return None
