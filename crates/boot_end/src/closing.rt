@@ -3,18 +3,29 @@ ghost use Rattle.std.specs.Prelude.{◌≡◌, ◌<◌, ◌^◌, flat_map, lengt
 ghost use Rattle.boot_io.specs.Sink.{Puts, SinkFaultsAfter};
 ghost use Rattle.store_model.specs.Service.{Present, OfEach};
 ghost use Rattle.store_model.specs.StoreCall.{Anything};
-ghost use Rattle.boot_core.specs.Running.{Tells, interface_text, result_text, closing_text};
-ghost use Rattle.boot_io.specs.Halted.{HaltsAfter};
+ghost use Rattle.boot_model.specs.Listing.{store_lines};
+ghost use Rattle.boot_model.specs.Text.{text_of};
+ghost use Rattle.boot_end.specs.Closing.{interface_text, result_text, closing_text};
 
-use crate::print::put_store_lists;
-use boot_io::{Halt, Sink, SinkFault};
+use boot_io::{Sink, SinkFault};
 use boot_model::{Line, RunEnd};
-use boot_trace::put;
+use boot_trace::{Out, put};
 use dxe_handles::Handles;
 use store_model::{Interface, PeiStore};
 
+// The lists of a store: its PPIs, notifications, queued pairs and HOBs.
+fn put_store_lists<M: PeiStore, S: Sink>(sink: &mut S, store: &M) -> Result<(), SinkFault>
+    requires state { Present (M.stands_for store.now) Anything }
+    ensures text { OfEach (M.stands_for store.now) Anything (λ s. Puts result (S.text sink.old) (S.text sink.new)
+        (text_of (store_lines s))) }
+    ensures cause { SinkFaultsAfter result (S.faults sink.old) (S.faults sink.new) }
+{
+    let mut out = Out { sink };
+    out.store_lists(store)
+}
+
 // A line for an interface.
-#[tactic(auto, unfolding(crate::specs::Running::interface_text))]
+#[tactic(auto, unfolding(crate::specs::Closing::interface_text))]
 fn put_interface<S: Sink>(sink: &mut S, interface: Interface) -> Result<(), SinkFault>
     ensures text { Puts result (S.text sink.old) (S.text sink.new) (interface_text interface) }
     ensures cause { SinkFaultsAfter result (S.faults sink.old) (S.faults sink.new) }
@@ -64,8 +75,8 @@ fn put_result<S: Sink>(sink: &mut S, handles: &Handles, end: RunEnd) -> Result<(
     put(sink, &Line::Result { outcome: end })
 }
 
-// The last lines.
-fn put_closing<M: PeiStore, S: Sink>(
+/// Puts the last lines of a boot: the lists of its last store, the handles and the result. Where the sink fails, a prefix of their text was put.
+pub fn put_closing<M: PeiStore, S: Sink>(
     sink: &mut S,
     store: &M,
     handles: &Handles,
@@ -79,21 +90,4 @@ fn put_closing<M: PeiStore, S: Sink>(
 {
     put_store_lists(sink, store)?;
     put_result(sink, handles, end)
-}
-
-/// Puts the last lines, and answers the result.
-pub(crate) fn close<M: PeiStore, S: Sink>(
-    store: &M,
-    handles: &Handles,
-    end: RunEnd,
-    sink: &mut S,
-) -> Result<RunEnd, Halt>
-    requires state { Present (M.stands_for store.now) Anything }
-    requires few { length handles.now.interfaces < 2 ^ 32 }
-    ensures row { OfEach (M.stands_for store.now) Anything (λ s. Tells (λ answer. answer ≡ end) (closing_text s handles.now end)
-        (record { old = S.text sink.old; new = S.text sink.new }) result) }
-    ensures faults { HaltsAfter result (S.faults sink.old) (S.faults sink.new) }
-{
-    put_closing(sink, store, handles, end)?;
-    Ok(end)
 }

@@ -1,7 +1,7 @@
 use Rattle.std.proofs.Common.{◌≡◌, take, flat_map}
 use Rattle.std.specs.Io.KnownBytes.{Appends}
-use Rattle.boot_core.specs.Running.{interface_text}
-use Rattle.boot_core.proofs.closing.put_interfaces.Given as goal
+use Rattle.boot_end.specs.Closing.{interface_text}
+use Rattle.boot_end.proofs.closing.put_interfaces.Given as goal
 
 -- the lines so far, without a fault
 abbrev pub invariant-interfaces : goal.invariant-interfaces

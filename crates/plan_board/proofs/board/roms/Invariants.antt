@@ -1,7 +1,7 @@
 use Rattle.std.proofs.Common.{◌≡◌, ◌++◌, drop}
 use Rattle.std.specs.Vec.Iter.{into_iter_items}
 use Rattle.boot_model.specs.PlanBoard.{roms_of}
-use Rattle.boot_core.proofs.board.roms.Given as goal
+use Rattle.plan_board.proofs.board.roms.Given as goal
 
 -- what was mapped, and what is left, make the whole
 abbrev pub invariant-entries : goal.invariant-entries

@@ -1,8 +1,8 @@
 use Rattle.std.proofs.Common.{flat_map}
 use Rattle.std.proofs.lemmas.List.{get_or_default}
 use Rattle.boot_io.proofs.PutsLaws.{part_of_lines, puts_err}
-use Rattle.boot_core.specs.Running.{interface_text}
-use Rattle.boot_core.proofs.closing.put_interfaces.Goals as goal
+use Rattle.boot_end.specs.Closing.{interface_text}
+use Rattle.boot_end.proofs.closing.put_interfaces.Goals as goal
 
 pub returns-in_err-put_interface-clause-text : goal.returns-in_err-put_interface-clause-text
 returns-in_err-put_interface-clause-text g c =

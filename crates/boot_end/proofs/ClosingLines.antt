@@ -1,5 +1,5 @@
 -- The lines of the handles and the result, one after the other.
-use Rattle.std.proofs.Common.{◌≡◌, ℕ, List, ◌++◌, length, flat_map, Option, Result}
+use Rattle.std.proofs.Common.{ℕ, List, ◌++◌, length, flat_map, Option, Result}
 use Rattle.std.specs.Io.KnownBytes.{Appends}
 use Rattle.boot_io.specs.Sink.{AppendsPart, Puts}
 use Rattle.boot_io.specs.declared.sink.SinkFault.{SinkFault}
@@ -8,7 +8,7 @@ use Rattle.boot_model.specs.declared.line.Line.TheVariants as L
 use Rattle.boot_model.specs.declared.line.RunEnd.{RunEnd}
 use Rattle.boot_model.specs.Text.{line_text}
 use Rattle.store_model.specs.HandleState.{HandleState}
-use Rattle.boot_core.specs.Running.{interface_text, result_text}
+use Rattle.boot_end.specs.Closing.{interface_text, result_text}
 
 -- the line of the number of interfaces, the lines of the interfaces, and the line of the result
 abbrev count_text : HandleState → List ℕ

@@ -1,13 +1,13 @@
-use Rattle.std.proofs.Common.{ℕ, List, length, flat_map, subst, sym, ap, ◌∙◌, Option}
+use Rattle.std.proofs.Common.{ℕ, List, flat_map, subst}
 use Rattle.std.specs.Io.KnownBytes.{Appends}
 use Rattle.boot_io.specs.Sink.{AppendsPart}
 use Rattle.boot_io.proofs.PutsLaws.{puts_err}
 use Rattle.boot_model.specs.declared.line.Line.TheVariants as L
 use Rattle.boot_model.specs.Text.{line_text}
-use Rattle.boot_core.specs.Running.{interface_text, result_text}
+use Rattle.boot_end.specs.Closing.{interface_text, result_text}
 use Rattle.store_model.specs.declared.interface.Interface.{Interface}
-use Rattle.boot_core.proofs.ClosingLines.{first_part, second_part, puts_all}
-use Rattle.boot_core.proofs.closing.put_result.Goals as goal
+use Rattle.boot_end.proofs.ClosingLines.{first_part, second_part, puts_all}
+use Rattle.boot_end.proofs.closing.put_result.Goals as goal
 
 pub returns-in_err-put-clause-text : goal.returns-in_err-put-clause-text
 returns-in_err-put-clause-text g c =

@@ -2,8 +2,8 @@ use Rattle.std.proofs.Common.{◌++◌}
 use Rattle.boot_model.specs.Listing.{store_lines}
 use Rattle.boot_model.specs.Text.{text_of}
 use Rattle.boot_io.proofs.PutsLaws.{puts_err, puts_then, part_of_more}
-use Rattle.boot_core.specs.Running.{result_text}
-use Rattle.boot_core.proofs.closing.put_closing.Goals as goal
+use Rattle.boot_end.specs.Closing.{result_text}
+use Rattle.boot_end.proofs.closing.put_closing.Goals as goal
 
 pub returns-clause-text : goal.returns-clause-text
 returns-clause-text g c = λ s stands any.
