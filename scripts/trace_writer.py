@@ -22,7 +22,7 @@ class Trace:
 
     def __init__(self, board, catalogue):
         self.board, self.catalogue = board, catalogue
-        self.base, self.end = board["temp"][0], board["temp"][0] + board["temp"][1] - board["pages"]
+        self.base, self.end = board["temp"][0], sum(board["temp"]) - board["pages"][0]
         self.lines, self.hobs, self.ppis, self.handles = [], [], [], []
         self.planned, self.moved, self.order, self.cursor = None, False, [], 0
         self.started, self.shadows, self.registers, self.status = [], [], {}, "Success"
