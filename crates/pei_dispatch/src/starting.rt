@@ -17,7 +17,7 @@ use pi_base::Phase;
 use store_model::PeiStore;
 
 /// The module that comes next starts, and the cursor then stands behind it. One without a PEI part has nothing to start.
-pub(crate) fn start<M: PeiStore + Drop, S: Sink>(
+pub fn start<M: PeiStore + Drop, S: Sink>(
     pei: &mut Pei<M>,
     queue: &mut PeiQueue,
     catalog: &Catalog,
