@@ -1,8 +1,9 @@
 -- Over an index that stands for a machine, a driver may be next exactly where it is the first that may start from its own place on.
-use Rattle.std.proofs.Common.{◌≡◌, ℕ, zero, suc, ◌+◌, ◌==◌, Bool, true, false, ◌&&◌, ◌||◌, not, cond, List, [], ◌∷◌, ◌++◌, Option, Some, None, drop, take, refl, sym, ap, ◌∙◌}
+use Rattle.std.proofs.Common.{◌≡◌, ℕ, zero, suc, ◌+◌, ◌==◌, Bool, true, false, ◌&&◌, ◌||◌, not, cond, List, [], ◌∷◌, ◌++◌, Option, Some, None, drop, take, refl, sym, subst, ap, ◌∙◌, arith, eqb}
 use Rattle.std.specs.Prelude.{◌↔◌, filter, find, slice_get}
 use Rattle.std.specs.List.{list_all}
-use Rattle.std.specs.Option.{option_and_then}
+use Rattle.std.specs.Option.{option_and_then, option_eq}
+use Rattle.std.proofs.lemmas.Bool.Decides.{nat_tests}
 use Rattle.guid_map.specs.GuidMap.{value_of}
 use Rattle.pi_base.specs.declared.guid.Guid.{Guid}
 use Rattle.pi_base.specs.declared.phase.Phase.{Phase}
@@ -19,7 +20,7 @@ use Rattle.boot_model.specs.DxeChoice.{driver_may_start, is_eligible_driver, is_
 use Rattle.boot_model.specs.DxeMachine.{DxeMachine}
 use Rattle.boot_model.specs.Eligible.{depex_holds}
 use Rattle.boot_model.specs.PeiChoice.{rotated}
-use Rattle.boot_model.proofs.ListFacts.{found_passes}
+use Rattle.boot_model.proofs.ListFacts.{found_passes, has_first}
 use Rattle.boot_laws.proofs.PartLists.{is_equal}
 use Rattle.wait_index.specs.declared.index.WaitIndex.{WaitIndex}
 use Rattle.wait_index.specs.Dispatch.{StandsForDxe}
@@ -89,7 +90,10 @@ filtered_has p (x ∷ xs) n = by (p x) (x == n) refl refl (filtered_has p xs n)
 
 has_of_place : (xs : List ℕ) (place n : ℕ) → slice_get xs place ≡ Some n → has_number xs n ≡ true
 has_of_place [] place n h = cc
-has_of_place (x ∷ xs) zero n h = grind (h, ◌==◌)
+has_of_place (x ∷ xs) zero n h = subst (λ k. has_number (x ∷ xs) k ≡ true) (one x n h) (has_first x xs)
+  where
+    one : (a b : ℕ) → Some a ≡ Some b → a ≡ b
+    one a b e = cc
 has_of_place (x ∷ xs) (suc place) n h = later (x == n) (has_number xs n) (has_of_place xs place n h)
   where
     later : (a b : Bool) → b ≡ true → (a || b) ≡ true
@@ -102,7 +106,7 @@ pub next_with_place : (catalog : Catalog) (m : DxeMachine) (index : WaitIndex) (
 next_with_place catalog m index place number is stands at =
     let known : has_number (order_in index) number ≡ true = has_of_place (order_in index) place number at in
     ap (λ b. b && is_eligible_driver catalog m number) (filtered_has (is_waiting m) _ number
-        ∙ ap (λ order. has_number order number && is_waiting m number) (sym stands.order) ∙ ap (λ b. b && is_waiting m number) known)
+    ∙ ap (λ order. has_number order number && is_waiting m number) (sym stands.order) ∙ ap (λ b. b && is_waiting m number) known)
     ∙ sym (one_eligible catalog m index is stands number known)
 
 -- and one without may not
@@ -130,12 +134,36 @@ first_from_place p order place number result at once found = (passes, is_first)
   where
     begins : (rest : List ℕ) × (drop place order ≡ number ∷ rest)
     begins = rotated_begins order place number at
+
     passes : result ≡ Some place → p number ≡ true
     passes is = found_passes p (rotated place order) number (sym found ∙ ap (option_and_then (slice_get order)) is ∙ at)
+
     here : p number ≡ true → option_and_then (slice_get order) result ≡ Some number
     here e = found ∙ ap (λ xs. find p (xs ++ take place order)) begins.1 ∙ ap (λ b. cond b (Some number) (find p (begins.0 ++ take place order))) e
+
     at_place : (r : Option ℕ) → option_and_then (slice_get order) r ≡ Some number → r ≡ Some place
     at_place None h = cc
     at_place (Some other) h = ap Some (once other h)
+
     is_first : p number ≡ true → result ≡ Some place
     is_first e = at_place result (here e)
+
+pub one_place : (a b : ℕ) → Some a ≡ Some b → a ≡ b
+one_place a b e = cc
+
+-- a place that is found, compared with another
+pub is_same_place : (found : Option ℕ) (place : ℕ) (b : Bool) → (found ≡ Some place) ↔ (b ≡ true) → option_eq eqb found (Some place) ≡ b
+is_same_place None place true is = let never : None ≡ Some place = is.1 refl in cc
+is_same_place None place false is = refl
+is_same_place (Some other) place b is = by (other == place) b refl is
+  where
+    by : (same b : Bool) → (other == place) ≡ same → (Some other ≡ Some place) ↔ (b ≡ true) → (other == place) ≡ b
+    by true b e is = e ∙ sym (is.0 (ap Some (is_equal other place e)))
+    by false true e is =
+        let same : other ≡ place = one_place other place (is.1 refl) in
+        let yes : (place == place) ≡ true = grind (arith, nat_tests) in
+        absurd (never (sym yes ∙ ap (λ n. n == place) (sym same) ∙ e))
+      where
+        never : true ≡ false → ⊥
+        never h = cc
+    by false false e is = e

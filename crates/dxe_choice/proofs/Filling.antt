@@ -108,7 +108,7 @@ pub record IsFound (catalog : Catalog) (m : DxeMachine) (root : ℕ) (drivers : 
 pub found_group : (catalog : Catalog) (m : DxeMachine) (queue : Queue) (order : Drivers) (flags : List Bool) (root : ℕ) (group : List ℕ) → IsSeenRoot catalog m queue order root → flags ≡ queue.waits
     → ((m : DxeMachine) → HaveWaiting catalog m order flags → IsRoot catalog m root → reverse group ≡ companion_group catalog m root) → IsFound catalog m root group
 found_group catalog m queue order flags root group is are walked =
-    let root_of = is.root in
+    let root_of = is.is_root in
     let have : HaveWaiting catalog m order flags = record { order = is.seen.order; waits = λ n. ap (λ fs. waits_at fs n) are ∙ is.seen.queue.waits n } in
     record { group = walked m have root_of; known = group_numbers catalog m order flags root have root_of }
 
@@ -141,7 +141,7 @@ group_drivers catalog m root group found =
 -- its drivers are of discovered volumes
 pub group_known : (catalog : Catalog) (m : DxeMachine) (root : ℕ) (order : Drivers) (queue : Queue) → IsSeenRoot catalog m queue order root → Each (IsKnownNext catalog m.discovered) (schedule_of catalog (companion_group catalog m root))
 group_known catalog m root order queue is =
-    let root_of = is.root in
+    let root_of = is.is_root in
     let have : HaveWaiting catalog m order queue.waits = record { order = is.seen.order; waits = is.seen.queue.waits } in
     each_map (IsKnownNext catalog m.discovered) (λ n. record { module_number = n; licence = driver_licence (part_at Dxe catalog n) }) (companion_group catalog m root) (group_numbers catalog m order queue.waits root have root_of)
 
@@ -208,6 +208,7 @@ may_be_root catalog m root may = record { eligible = second (has_number (waiting
     first : (a b : Bool) → (a && b) ≡ true → a ≡ true
     first true b h = refl
     first false b h = h
+
     second : (a b : Bool) → (a && b) ≡ true → b ≡ true
     second true b h = h
     second false b h = cc

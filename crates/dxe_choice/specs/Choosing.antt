@@ -83,7 +83,7 @@ pub record Come (catalog : Catalog) (drivers : List ℕ) (old new : Queue) : Typ
 -- the driver waits in the machine that is seen, and is eligible
 pub record IsSeenRoot (catalog : Catalog) (m : DxeMachine) (now : Queue) (drivers : Drivers) (root : ℕ) : Type 0 where
   pub seen : IsSeen catalog m now drivers
-  pub root : IsRoot catalog m root
+  pub is_root : IsRoot catalog m root
 
 -- a driver with its place in an a priori list
 abbrev pub as_apriori : ℕ → Scheduled

@@ -217,6 +217,7 @@ impl DriverQueue {
         ensures row { OnOk result ((m : DxeMachine) → IsSeenRoot catalog.now m self.old order.now root
             → Schedules self.old (schedule_of catalog.now (companion_group catalog.now m root)) self.new) }
         ensures made { OnOk result (IsQueueFor catalog.now self.new) }
+        ensures owes { OnOk result (owed self.new ≤ owed self.old) }
     {
         let group = backward_group(
             self.items.alloc(),

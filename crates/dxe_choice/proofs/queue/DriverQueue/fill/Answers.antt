@@ -20,8 +20,15 @@ returns-in-Some-clause-filled g c =
     (λ row m seen.
     let here = c.first_eligible.ensures.queue m seen.queue in
     let first = c.first_eligible.ensures.first m seen.queue ∙ c.in-Some.is in
-    let is : IsSeenRoot catalog m mid c.args.order.now root = record { seen = record { queue = here; order = seen.order }; root = root_is catalog m root first } in
+    let is : IsSeenRoot catalog m mid c.args.order.now root = record { seen = record { queue = here; order = seen.order }; is_root = root_is catalog m root first } in
     filled_by catalog m mid c.schedule_group_of.new.self (schedule_of catalog (companion_group catalog m root)) here
     (c.first_eligible.ensures.same ∙ queue_empty c.args.self.now _ c.self.inside.items c.self.inside.head c.self.view_is refl out)
     (ap (group_scheduled catalog m) first) (group_known catalog m root c.args.order.now mid is) (row m is))
     c.schedule_group_of.ensures.row
+
+pub schedule_group_of-requires-clause-root : goal.schedule_group_of-requires-clause-root
+schedule_group_of-requires-clause-root g c =
+    let m = c.requires.seen.0 in
+    let seen = c.requires.seen.1 in
+    let here = c.first_eligible.ensures.queue m seen.queue in
+    (m, record { seen = record { queue = here; order = seen.order }; is_root = root_is c.args.catalog.now m c.in-Some.root (c.first_eligible.ensures.first m seen.queue ∙ c.in-Some.is) })
