@@ -1,5 +1,5 @@
 -- Over an index that stands for a machine, a driver may be next exactly where it is the first that may start from its own place on.
-use Rattle.std.proofs.Common.{◌≡◌, ℕ, zero, suc, ◌+◌, ◌==◌, Bool, true, false, ◌&&◌, ◌||◌, not, cond, List, [], ◌∷◌, ◌++◌, Option, Some, None, drop, take, refl, sym, subst, ap, ◌∙◌, arith, eqb}
+use Rattle.std.proofs.Common.{◌≡◌, ℕ, zero, suc, ◌==◌, Bool, true, false, ◌&&◌, ◌||◌, not, cond, List, [], ◌∷◌, ◌++◌, Option, Some, None, drop, take, refl, sym, subst, ap, ◌∙◌, arith, eqb}
 use Rattle.std.specs.Prelude.{◌↔◌, filter, find, slice_get}
 use Rattle.std.specs.List.{list_all}
 use Rattle.std.specs.Option.{option_and_then, option_eq}
@@ -16,7 +16,7 @@ use Rattle.catalog_model.specs.declared.catalog.PartExpr.TheVariants as E
 use Rattle.catalog_model.specs.Parts.{has_number, part_at}
 use Rattle.store_model.specs.HandleState.{HandleState, has_protocol}
 use Rattle.boot_model.specs.declared.known_guid.TheConstants.{ARCHITECTURAL}
-use Rattle.boot_model.specs.DxeChoice.{driver_may_start, is_eligible_driver, is_unrequested, is_waiting, lets_driver_start, waiting}
+use Rattle.boot_model.specs.DxeChoice.{driver_may_start, is_eligible_driver, is_unrequested, is_waiting, lets_driver_start}
 use Rattle.boot_model.specs.DxeMachine.{DxeMachine}
 use Rattle.boot_model.specs.Eligible.{depex_holds}
 use Rattle.boot_model.specs.PeiChoice.{rotated}

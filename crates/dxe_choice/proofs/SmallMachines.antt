@@ -1,5 +1,5 @@
 -- Machines of DXE for the tests: some volumes are discovered, protocols are installed, the first driver is requested or none, and each start leaves the queue.
-use Rattle.std.proofs.Common.{◌≡◌, ℕ, ◌+◌, ◌<◌, get_or, length, Bool, true, false, cond, ◌&&◌, ◌||◌, drop, List, [], ◌∷◌, ◌++◌, Option, Some, None, refl, sym, ap, subst, ◌∙◌, arith}
+use Rattle.std.proofs.Common.{◌≡◌, ℕ, ◌<◌, get_or, length, Bool, true, false, cond, ◌&&◌, ◌||◌, drop, List, [], ◌∷◌, ◌++◌, Some, None, refl, sym, ap, subst, ◌∙◌, arith}
 use Rattle.std.proofs.lemmas.List.Folds.{list_any-append}
 use Rattle.std.proofs.lemmas.Slice.Eq.{bytes_eq-Decides}
 use Rattle.pi_base.specs.declared.guid.Guid.{Guid}
@@ -8,7 +8,7 @@ use Rattle.catalog_model.specs.declared.catalog.Catalog.{Catalog}
 use Rattle.catalog_model.specs.Parts.{has_number}
 use Rattle.store_model.specs.StoreState.{Range, StoreState}
 use Rattle.store_model.specs.declared.interface.Interface.{Interface}
-use Rattle.store_model.specs.HandleState.{HandleState, has_protocol, no_handles}
+use Rattle.store_model.specs.HandleState.{has_protocol, no_handles}
 use Rattle.boot_model.specs.declared.driver.Scheduled.{Scheduled}
 use Rattle.boot_model.specs.DxeMachine.{DxeMachine}
 use Rattle.boot_model.specs.DxeChoice.{a_priori_drivers, drivers_of, group_scheduled}
@@ -17,7 +17,6 @@ use Rattle.boot_laws.proofs.EachDriver.{has_each_once}
 use Rattle.boot_model.proofs.Distinct.{all_distinct}
 use Rattle.boot_model.proofs.ListFacts.{has_first}
 use Rattle.driver_order.specs.Order.{Drivers, IsOrderOf}
-use Rattle.wait_index.specs.Index.{order_in}
 use Rattle.dxe_choice.specs.Aim.{aimed, is_free, may_be_next}
 use Rattle.dxe_choice.specs.Queue.{AreNew, Changes, Discovers, HasProtocol, IsNewQueue, IsNext, IsQueueOf, IsSeen, Queue, Requests}
 

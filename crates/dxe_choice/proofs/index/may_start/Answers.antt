@@ -1,4 +1,4 @@
-use Rattle.std.proofs.Common.{ℕ, ◌≡◌, ◌≤◌, ◌<◌, length, sym, ◌∙◌, Some, arith}
+use Rattle.std.proofs.Common.{ℕ, ◌≡◌, ◌<◌, length, sym, ◌∙◌, Some, arith}
 use Rattle.std.specs.Prelude.{slice_get}
 use Rattle.wait_index.specs.Index.{is_eligible_in, order_in}
 use Rattle.dxe_choice.proofs.Eligible.{first_from_place, is_same_place, next_with_place, none_without_place, one_place}

@@ -1,4 +1,4 @@
-use Rattle.std.proofs.Common.{◌≤◌, ◌<◌, length, arith, refl, ap, sym, ◌∙◌}
+use Rattle.std.proofs.Common.{◌≤◌, ◌<◌, length, arith, refl, ◌∙◌}
 use Rattle.std.proofs.lemmas.Bool.Decides.{nat_tests}
 use Rattle.dxe_choice.specs.Choosing.{IsSeenRoot}
 use Rattle.dxe_choice.proofs.Filling.{aimed_at, aimed_before, aimed_past, group_known, may_be_root, on_ok, queue_empty, queue_has}
