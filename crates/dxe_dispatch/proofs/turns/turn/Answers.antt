@@ -5,7 +5,7 @@ use Rattle.boot_model.specs.DxeStep.{dxe_step}
 use Rattle.driver_order.specs.Order.{Drivers, IsOrderOf}
 use Rattle.dxe_choice.specs.Queue.{Discovers, owed}
 use Rattle.dxe_dispatch.proofs.Turning.{event_owes, on_ok, event_so, has_event, new_drivers, owes_still, told, whole_part, ends_so, turns_after}
-use Rattle.dxe_dispatch.proofs.turn.turn.Goals as goal
+use Rattle.dxe_dispatch.proofs.turns.turn.Goals as goal
 
 pub discover-requires-clause-new : goal.discover-requires-clause-new
 discover-requires-clause-new g c =

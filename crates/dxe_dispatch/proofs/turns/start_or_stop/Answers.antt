@@ -1,6 +1,6 @@
 use Rattle.std.proofs.lemmas.Result.{err_from_is_err_and}
 use Rattle.dxe_dispatch.proofs.Turning.{none_started, part_started, starts_so}
-use Rattle.dxe_dispatch.proofs.turn.start_or_stop.Goals as goal
+use Rattle.dxe_dispatch.proofs.turns.start_or_stop.Goals as goal
 
 pub returns-in_err-next-clause-row : goal.returns-in_err-next-clause-row
 returns-in_err-next-clause-row g c m fuel are idle =

@@ -51,7 +51,7 @@ fn start_or_stop<S: Sink, L: Ledger>(
 }
 
 /// The core takes a step; where it has none left the next driver starts, or DXE stops. The queue is told what the step did: the a priori drivers of the volumes that it discovered are scheduled.
-pub(crate) fn turn<M: PeiStore, S: Sink, L: Ledger>(
+pub fn turn<M: PeiStore, S: Sink, L: Ledger>(
     dxe: &mut Dxe,
     store: &M,
     queue: &mut DriverQueue,
