@@ -1,5 +1,5 @@
 use Rattle.boot_model.specs.Text.{keyword}
-use Rattle.trace_reader.proofs.start_line.start_line.Goals as goal
+use Rattle.trace_reader.proofs.starting_line.start_line.Goals as goal
 
 pub returns-clause-none : goal.returns-clause-none
 unfolding keyword
