@@ -10,6 +10,7 @@ use crate::answer::answer;
 use crate::images::examine;
 use crate::nowhere::Nowhere;
 use crate::plan_boot::boot_plan;
+use crate::refusal::refuse;
 use crate::status::{Status, status_of};
 use crate::summary::{put_summary, summary_of};
 use boot_io::{Halt, Sink};
@@ -142,9 +143,9 @@ fn boot_examined<S: Sink>(
       missed = None;
     }) }
 {
-    match examine(alloc, plan, images.as_slice(), sink) {
+    match examine(alloc, plan, images.as_slice()) {
         Ok(catalog) => boot_to_summary(alloc, n, plan, &catalog, images, sink),
-        Err(status) => status,
+        Err(no_catalog) => refuse(no_catalog, sink),
     }
 }
 

@@ -6,7 +6,7 @@ use Rattle.boot_model.specs.PlanBoard.{board_of}
 use Rattle.boot_core.specs.declared.generated.TheConstants.{FUEL}
 use Rattle.boot_core.specs.BootEnd.{status_of}
 use Rattle.boot_core.specs.GeneratedOutcome.{SummaryOutcome, generated_board, generated_images, summary_lines, summary_text}
-use Rattle.boot_core.specs.Outcome.{status_after}
+use Rattle.boot_core.specs.Refusing.{status_after}
 use Rattle.boot_core.specs.Running.{IsRun}
 use Rattle.boot_io.specs.Sink.{Puts}
 use Rattle.boot_core.proofs.Ending.{answer_ends}
@@ -16,7 +16,6 @@ use Rattle.boot_core.proofs.generated.boot_to_summary.Goals as goal
 pub returns-in-Ok : goal.returns-in-Ok
 returns-in-Ok g c =
     let T = g.S.Sink.text in
-    let N = g.S.Sink.faults in
     let n = c.args.n in
     let catalog = c.args.catalog.now in
     let ran = c.in-Ok.ran in
@@ -26,7 +25,7 @@ returns-in-Ok g c =
     let run : IsRun StandsFor (generated_board n catalog) catalog FUEL ran =
     subst (λ plan. P plan (generated_images n)) c.requires.job.plan_is (subst (P c.args.plan.now) c.requires.job.images_are c.in-Ok.ensures.row.0) in
     let lines : c.summary_of.result ≡ summary_lines n catalog pei end = c.summary_of.ensures catalog pei run.left in
-    answer_ends c.put_summary-put.result (SummaryOutcome n catalog) (λ _. ⊥) ⊥ (status_of end) c.answer.result (summary_text (summary_lines n catalog pei end)) (T c.args.sink.now) (T c.put_summary-put.new.sink) (N c.args.sink.now) (N c.put_summary-put.new.sink) 0 0 None
+    answer_ends c.put_summary-put.result (SummaryOutcome n catalog) (λ _. ⊥) ⊥ (status_of end) c.answer.result (summary_text (summary_lines n catalog pei end)) _
     (c.answer.ensures ∙ ap (status_after c.put_summary-put.result) c.status_of.ensures) (answer_of end)
     (record { end = end; ended = run.end_is; status_is = refl; text_is = refl }) refl
     (subst (λ lines. Puts c.put_summary-put.result (T c.args.sink.now) (T c.put_summary-put.new.sink) (summary_text lines)) lines c.put_summary-put.ensures.text) c.put_summary-put.ensures.cause
