@@ -1,4 +1,4 @@
--- Where nothing is scheduled, the group of the first eligible driver is; and the head of the queue comes next.
+-- Where nothing is scheduled, the group of the first eligible driver is, or of the one at which the choice is aimed; and the head of the queue comes next.
 use Rattle.std.proofs.Common.{◌≡◌, ℕ, ◌-◌, ◌<◌, ◌≤◌, ◌==◌, Bool, true, false, ◌&&◌, ◌||◌, not, cond, List, [], ◌∷◌, ◌++◌, Option, Some, None, length, drop, reverse, refl, sym, subst, ap, ◌∙◌, arith}
 use Rattle.std.proofs.lemmas.List.{length-drop, reverse-append, reverse-reverse}
 use Rattle.std.proofs.Math.ListN.{drop_of_length-le}
@@ -19,7 +19,8 @@ use Rattle.wait_index.specs.declared.index.WaitIndex.{WaitIndex}
 use Rattle.wait_index.specs.Dispatch.{StandsForDxe}
 use Rattle.wait_index.specs.Index as W
 use Rattle.wait_index.specs.Index.{IsIndex}
-use Rattle.dxe_choice.specs.Choosing.{HaveWaiting, IsFirst, IsNumberOf, IsFilled, Schedules, Takes}
+use Rattle.dxe_choice.specs.Aim.{aimed, is_free, may_be_next}
+use Rattle.dxe_choice.specs.Choosing.{HaveWaiting, IsNumberOf, IsFilled, IsSeenRoot, Schedules, Takes}
 use Rattle.dxe_choice.specs.Index.{is_among}
 use Rattle.dxe_choice.specs.Queue.{ComesNext, HasStarted, IsDriver, IsQueueFor, IsQueueOf, Queue, owed, waits_at}
 use Rattle.dxe_choice.proofs.Machines.{stands_scheduled}
@@ -27,7 +28,7 @@ use Rattle.dxe_choice.proofs.Scheduling.{IsKnownNext, each_map, mapped_drivers, 
 use Rattle.dxe_choice.proofs.Waiting.{none_leave}
 use Rattle.dxe_choice.proofs.Walks.{group_numbers}
 
-root_is : (catalog : Catalog) (m : DxeMachine) (root : ℕ) → first_eligible catalog m ≡ Some root → IsRoot catalog m root
+pub root_is : (catalog : Catalog) (m : DxeMachine) (root : ℕ) → first_eligible catalog m ≡ Some root → IsRoot catalog m root
 root_is catalog m root h = record {
   eligible = found_passes (is_eligible_driver catalog m) (waiting catalog m) root h;
   waits = each_found (λ n. has_number (waiting catalog m) n ≡ true) (is_eligible_driver catalog m) (waiting catalog m) root h (each_has (waiting catalog m));
@@ -99,18 +100,17 @@ comes_next catalog m queue later (Some next) q t =
               (sym (gone n) ∙ was.0, ap (λ ns. has_number ns n) h.requested ∙ was.1);
         }
 
--- the first eligible driver's group
+-- the group of an eligible driver that waits
 pub record IsFound (catalog : Catalog) (m : DxeMachine) (root : ℕ) (drivers : List ℕ) : Type 0 where
-  pub first : first_eligible catalog m ≡ Some root
   pub group : reverse drivers ≡ companion_group catalog m root
   pub known : Each (IsKnown catalog m.discovered) (companion_group catalog m root)
 
-pub found_group : (catalog : Catalog) (m : DxeMachine) (queue : Queue) (order : Drivers) (flags : List Bool) (root : ℕ) (group : List ℕ) → IsFirst catalog m queue order root → flags ≡ queue.waits
+pub found_group : (catalog : Catalog) (m : DxeMachine) (queue : Queue) (order : Drivers) (flags : List Bool) (root : ℕ) (group : List ℕ) → IsSeenRoot catalog m queue order root → flags ≡ queue.waits
     → ((m : DxeMachine) → HaveWaiting catalog m order flags → IsRoot catalog m root → reverse group ≡ companion_group catalog m root) → IsFound catalog m root group
 found_group catalog m queue order flags root group is are walked =
-    let root_of = root_is catalog m root is.first in
+    let root_of = is.is_root in
     let have : HaveWaiting catalog m order flags = record { order = is.seen.order; waits = λ n. ap (λ fs. waits_at fs n) are ∙ is.seen.queue.waits n } in
-    record { first = is.first; group = walked m have root_of; known = group_numbers catalog m order flags root have root_of }
+    record { group = walked m have root_of; known = group_numbers catalog m order flags root have root_of }
 
 -- a queue all of which has left is empty, and else it is not
 pub queue_empty : (queue view : Queue) (items : List Scheduled) (head : ℕ) → view ≡ queue → view.scheduled ≡ drop head items → length items ≤ head → queue.scheduled ≡ []
@@ -139,9 +139,9 @@ group_drivers catalog m root group found =
     (subst (Each (IsKnown catalog m.discovered)) (sym found.group) found.known)
 
 -- its drivers are of discovered volumes
-pub group_known : (catalog : Catalog) (m : DxeMachine) (root : ℕ) (order : Drivers) (queue : Queue) → IsFirst catalog m queue order root → Each (IsKnownNext catalog m.discovered) (schedule_of catalog (companion_group catalog m root))
+pub group_known : (catalog : Catalog) (m : DxeMachine) (root : ℕ) (order : Drivers) (queue : Queue) → IsSeenRoot catalog m queue order root → Each (IsKnownNext catalog m.discovered) (schedule_of catalog (companion_group catalog m root))
 group_known catalog m root order queue is =
-    let root_of = root_is catalog m root is.first in
+    let root_of = is.is_root in
     let have : HaveWaiting catalog m order queue.waits = record { order = is.seen.order; waits = is.seen.queue.waits } in
     each_map (IsKnownNext catalog m.discovered) (λ n. record { module_number = n; licence = driver_licence (part_at Dxe catalog n) }) (companion_group catalog m root) (group_numbers catalog m order queue.waits root have root_of)
 
@@ -168,3 +168,47 @@ takes_driver catalog queue later (Some next) q t = let drivers : Each (IsDriver 
 pub takes_owes : (queue later : Queue) (next : Option Scheduled) → Takes queue next later → owed later ≡ owed queue
 takes_owes queue later None t = ap (λ q. owed q) t.1
 takes_owes queue later (Some next) t = ap (λ (i : WaitIndex). W.owed i) t.2
+
+-- where the choice is aimed
+aim_by : (catalog : Catalog) (m : DxeMachine) (root : ℕ) (b : Bool) → (is_free m.scheduled && may_be_next catalog m root) ≡ b → aimed catalog m root ≡ cond b (with_queue m (group_scheduled catalog m (Some root))) m
+aim_by catalog m root b e = ap (λ t. cond t (with_queue m (group_scheduled catalog m (Some root))) m) e
+
+not_free : (scheduled : List Scheduled) (b : Bool) → 0 < length scheduled → (is_free scheduled && b) ≡ false
+not_free [] b some = absurd (omega (arith, some))
+not_free (first ∷ rest) b some = refl
+
+-- where something is scheduled, nothing more is
+pub aimed_before : (catalog : Catalog) (m : DxeMachine) (queue : Queue) (root : ℕ) → IsQueueOf catalog m queue → 0 < length queue.scheduled → IsQueueOf catalog (aimed catalog m root) queue
+aimed_before catalog m queue root q some =
+    let none = not_free m.scheduled (may_be_next catalog m root) (subst (λ (xs : List Scheduled). 0 < length xs) (sym q.scheduled) some) in
+    subst (λ n. IsQueueOf catalog n queue) (sym (aim_by catalog m root false none)) q
+
+-- nor where the driver may not be next
+pub aimed_past : (catalog : Catalog) (m : DxeMachine) (queue : Queue) (root : ℕ) → IsQueueOf catalog m queue → may_be_next catalog m root ≡ false → IsQueueOf catalog (aimed catalog m root) queue
+aimed_past catalog m queue root q none = subst (λ n. IsQueueOf catalog n queue) (sym (aim_by catalog m root false (both (is_free m.scheduled) (may_be_next catalog m root) none))) q
+  where
+    both : (a b : Bool) → b ≡ false → (a && b) ≡ false
+    both true b e = e
+    both false b e = refl
+
+-- else its group is
+pub aimed_at : (catalog : Catalog) (m : DxeMachine) (queue later : Queue) (root : ℕ) → IsQueueOf catalog m queue → queue.scheduled ≡ [] → may_be_next catalog m root ≡ true
+    → Each (IsKnownNext catalog m.discovered) (schedule_of catalog (companion_group catalog m root)) → Schedules queue (schedule_of catalog (companion_group catalog m root)) later → IsQueueOf catalog (aimed catalog m root) later
+aimed_at catalog m queue later root q none may known g =
+    let group = schedule_of catalog (companion_group catalog m root) in
+    let empty : m.scheduled ≡ [] = q.scheduled ∙ none in
+    let same : group ≡ m.scheduled ++ group = ap (λ xs. xs ++ group) (sym empty) in
+    let is = ap (λ xs. is_free xs && may_be_next catalog m root) empty ∙ may in
+    subst (λ n. IsQueueOf catalog n later) (sym (aim_by catalog m root true is)) (scheduled_row catalog m (with_queue m group) group queue later q g same refl refl refl refl known)
+
+-- a driver that may be next is a root
+pub may_be_root : (catalog : Catalog) (m : DxeMachine) (root : ℕ) → may_be_next catalog m root ≡ true → IsRoot catalog m root
+may_be_root catalog m root may = record { eligible = second (has_number (waiting catalog m) root) (is_eligible_driver catalog m root) may; waits = first (has_number (waiting catalog m) root) (is_eligible_driver catalog m root) may }
+  where
+    first : (a b : Bool) → (a && b) ≡ true → a ≡ true
+    first true b h = refl
+    first false b h = h
+
+    second : (a b : Bool) → (a && b) ≡ true → b ≡ true
+    second true b h = h
+    second false b h = cc

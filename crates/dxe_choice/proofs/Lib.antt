@@ -1,4 +1,5 @@
 mod Companions
+mod Eligible
 mod Filling
 mod Machines
 mod Scheduling

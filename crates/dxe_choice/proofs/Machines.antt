@@ -1,18 +1,17 @@
 -- The machine for which the index of the waiting drivers stands, where something of it changes.
-use Rattle.std.proofs.Common.{◌≡◌, ℕ, ◌==◌, Bool, true, false, ◌&&◌, ◌||◌, not, cond, List, [], ◌∷◌, ◌++◌, Option, Some, None, refl, sym, subst, ap, ◌∙◌}
-use Rattle.std.specs.Prelude.{flat_map, slice_get, unwrap_or}
+use Rattle.std.proofs.Common.{◌≡◌, ℕ, ◌==◌, Bool, true, false, ◌&&◌, ◌||◌, not, cond, List, [], ◌∷◌, ◌++◌, Some, refl, sym, ap, ◌∙◌}
+use Rattle.std.specs.Prelude.{slice_get, unwrap_or}
 use Rattle.std.specs.List.{list_any}
 use Rattle.std.proofs.lemmas.Grind.{flat_map-append}
 use Rattle.std.proofs.lemmas.List.Folds.{list_any-append}
 use Rattle.std.proofs.lemmas.Slice.Eq.{bytes_eq-Decides}
-use Rattle.std.proofs.lemmas.Bool.Decides.{nat_tests}
 use Rattle.guid_map.specs.GuidMap.{value_of}
 use Rattle.pi_base.specs.declared.guid.Guid.{Guid}
 use Rattle.pi_base.specs.declared.phase.Phase.TheVariants.{Dxe}
 use Rattle.pi_base.specs.Guids.{same_guid}
 use Rattle.catalog_model.specs.declared.catalog.Catalog.{Catalog}
 use Rattle.catalog_model.specs.Parts.{has_number, part_at, parts_in}
-use Rattle.store_model.specs.HandleState.{HandleState, has_protocol}
+use Rattle.store_model.specs.HandleState.{has_protocol}
 use Rattle.boot_model.specs.declared.driver.Scheduled.{Scheduled}
 use Rattle.boot_model.specs.DxeChoice.{asks_for_request, discovered_order, drivers_of, is_waiting}
 use Rattle.boot_model.specs.DxeMachine.{DxeMachine}
@@ -25,7 +24,7 @@ use Rattle.wait_index.specs.Discovery.{HaveCome}
 use Rattle.wait_index.specs.Dispatch.{StandsForDxe}
 use Rattle.wait_index.specs.Index.{IsSame, IsSet, again_in, has_in, is_open_in, order_in, waits_in}
 use Rattle.wait_index.specs.Installed.{is_there}
-use Rattle.wait_index.specs.Places.{order_of, standing_of, unknown}
+use Rattle.wait_index.specs.Places.{standing_of, unknown}
 use Rattle.dxe_choice.specs.Index.{IsRequested, WaitNoMore, is_among}
 use Rattle.dxe_choice.specs.Queue.{AreUntouched, HasProtocol, HasRequest}
 

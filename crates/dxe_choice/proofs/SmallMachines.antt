@@ -1,5 +1,5 @@
 -- Machines of DXE for the tests: some volumes are discovered, protocols are installed, the first driver is requested or none, and each start leaves the queue.
-use Rattle.std.proofs.Common.{◌≡◌, ℕ, ◌+◌, ◌<◌, get_or, length, Bool, true, false, ◌||◌, drop, List, [], ◌∷◌, ◌++◌, Option, Some, None, refl, sym, ap, subst, ◌∙◌, arith}
+use Rattle.std.proofs.Common.{◌≡◌, ℕ, ◌<◌, get_or, length, Bool, true, false, cond, ◌&&◌, ◌||◌, drop, List, [], ◌∷◌, ◌++◌, Some, None, refl, sym, ap, subst, ◌∙◌, arith}
 use Rattle.std.proofs.lemmas.List.Folds.{list_any-append}
 use Rattle.std.proofs.lemmas.Slice.Eq.{bytes_eq-Decides}
 use Rattle.pi_base.specs.declared.guid.Guid.{Guid}
@@ -8,17 +8,17 @@ use Rattle.catalog_model.specs.declared.catalog.Catalog.{Catalog}
 use Rattle.catalog_model.specs.Parts.{has_number}
 use Rattle.store_model.specs.StoreState.{Range, StoreState}
 use Rattle.store_model.specs.declared.interface.Interface.{Interface}
-use Rattle.store_model.specs.HandleState.{HandleState, has_protocol, no_handles}
+use Rattle.store_model.specs.HandleState.{has_protocol, no_handles}
 use Rattle.boot_model.specs.declared.driver.Scheduled.{Scheduled}
 use Rattle.boot_model.specs.DxeMachine.{DxeMachine}
-use Rattle.boot_model.specs.DxeChoice.{a_priori_drivers, drivers_of}
+use Rattle.boot_model.specs.DxeChoice.{a_priori_drivers, drivers_of, group_scheduled}
 use Rattle.boot_model.specs.Licence.{AllDiffer}
 use Rattle.boot_laws.proofs.EachDriver.{has_each_once}
 use Rattle.boot_model.proofs.Distinct.{all_distinct}
 use Rattle.boot_model.proofs.ListFacts.{has_first}
 use Rattle.driver_order.specs.Order.{Drivers, IsOrderOf}
-use Rattle.wait_index.specs.Index.{order_in}
-use Rattle.dxe_choice.specs.Queue.{AreNew, Changes, Discovers, HasProtocol, IsNewQueue, IsNext, IsSeen, Queue, Requests}
+use Rattle.dxe_choice.specs.Aim.{aimed, is_free, may_be_next}
+use Rattle.dxe_choice.specs.Queue.{AreNew, Changes, Discovers, HasProtocol, IsNewQueue, IsNext, IsQueueOf, IsSeen, Queue, Requests}
 
 nowhere : Range
 nowhere = record { base = 0; len = 0 }
@@ -131,3 +131,17 @@ seen_on catalog queue later order next seen row =
     let n = row m seen.1 in
     let begun : DxeMachine = record m { scheduled = n.rest; started = next.module_number ∷ m.started } in
     (begun, record { queue = n.behind begun (record { scheduled = refl; started = refl; discovered = refl; requested = refl; handles = refl }); order = seen.1.order })
+
+-- the machine at which a choice is aimed
+aimed_discovered : (catalog : Catalog) (m : DxeMachine) (root : ℕ) → (aimed catalog m root).discovered ≡ m.discovered
+aimed_discovered catalog m root = by (is_free m.scheduled && may_be_next catalog m root)
+  where
+    by : (b : Bool) → (cond b (record m { scheduled = group_scheduled catalog m (Some root) }) m).discovered ≡ m.discovered
+    by true = refl
+    by false = refl
+
+pub seen_aimed : (catalog : Catalog) (root : ℕ) (old new : Queue) (order : Drivers) → ((m : DxeMachine) × IsSeen catalog m old order) → ((m : DxeMachine) → IsSeen catalog m old order → IsQueueOf catalog (aimed catalog m root) new)
+    → (m : DxeMachine) × IsSeen catalog m new order
+seen_aimed catalog root old new order seen row =
+    let m = seen.0 in
+    (aimed catalog m root, record { queue = row m seen.1; order = subst (λ volumes. IsOrderOf catalog volumes order) (sym (aimed_discovered catalog m root)) seen.1.order })

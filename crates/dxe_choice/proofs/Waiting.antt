@@ -1,5 +1,5 @@
 -- The index of the waiting drivers, where drivers are scheduled and requested.
-use Rattle.std.proofs.Common.{◌≡◌, ℕ, zero, suc, ◌<◌, ◌≤◌, ◌==◌, Bool, true, false, ◌&&◌, ◌||◌, not, cond, List, [], ◌∷◌, ◌++◌, Option, Some, None, length, refl, sym, subst, ap, ◌∙◌, arith}
+use Rattle.std.proofs.Common.{◌≡◌, ℕ, zero, suc, ◌<◌, ◌≤◌, ◌==◌, Bool, true, false, ◌&&◌, ◌||◌, not, cond, List, [], ◌∷◌, ◌++◌, Option, Some, None, length, refl, sym, ap, ◌∙◌, arith}
 use Rattle.std.specs.Prelude.{slice_get}
 use Rattle.std.proofs.lemmas.Bool.Decides.{nat_tests}
 use Rattle.std.proofs.lemmas.List.Folds.{list_any-append}
@@ -11,7 +11,7 @@ use Rattle.wait_index.specs.declared.index.WaitIndex.{WaitIndex}
 use Rattle.wait_index.specs.declared.places.Places.{Places}
 use Rattle.wait_index.specs.declared.standing.Standing.{Standing}
 use Rattle.wait_index.specs.Change.{IsChanged, gated, started}
-use Rattle.wait_index.specs.Index.{Changes, IsIndex, again_in, is_open_in, order_in, owed, waits_in}
+use Rattle.wait_index.specs.Index.{Changes, IsIndex, is_open_in, order_in, owed, waits_in}
 use Rattle.wait_index.specs.Places.{order_of, standing_of}
 use Rattle.dxe_choice.specs.Index.{IsRequested, Leaves, WaitNoMore, is_among}
 

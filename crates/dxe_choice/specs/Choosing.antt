@@ -6,8 +6,9 @@ use Rattle.pi_base.specs.declared.phase.Phase.TheVariants.{Dxe}
 use Rattle.catalog_model.specs.declared.catalog.Catalog.{Catalog}
 use Rattle.catalog_model.specs.Parts.{module_name}
 use Rattle.boot_model.specs.declared.driver.Scheduled.{Scheduled}
-use Rattle.boot_model.specs.DxeChoice.{driver_queue, first_eligible, is_waiting}
+use Rattle.boot_model.specs.DxeChoice.{driver_queue, is_waiting}
 use Rattle.boot_model.specs.DxeMachine.{DxeMachine}
+use Rattle.boot_laws.specs.GroupUnfolds.{IsRoot}
 use Rattle.driver_order.specs.Order.{Drivers, IsOrderOf, first_of, befores_of, afters_of}
 use Rattle.wait_index.specs.Discovery.{HaveCome}
 use Rattle.wait_index.specs.Index.{IsIndex}
@@ -79,10 +80,10 @@ pub record Come (catalog : Catalog) (drivers : List ℕ) (old new : Queue) : Typ
   pub come : HaveCome Dxe catalog drivers old.index.places new.index.places
   pub owes : owed new ≤ owed old + length drivers
 
--- the driver is the first eligible one of the machine that is seen
-pub record IsFirst (catalog : Catalog) (m : DxeMachine) (now : Queue) (drivers : Drivers) (root : ℕ) : Type 0 where
+-- the driver waits in the machine that is seen, and is eligible
+pub record IsSeenRoot (catalog : Catalog) (m : DxeMachine) (now : Queue) (drivers : Drivers) (root : ℕ) : Type 0 where
   pub seen : IsSeen catalog m now drivers
-  pub first : first_eligible catalog m ≡ Some root
+  pub is_root : IsRoot catalog m root
 
 -- a driver with its place in an a priori list
 abbrev pub as_apriori : ℕ → Scheduled

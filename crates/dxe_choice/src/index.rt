@@ -7,6 +7,7 @@ ghost use Rattle.boot_model.specs.DxeChoice as C;
 ghost use Rattle.boot_model.specs.DxeMachine.{DxeMachine};
 ghost use Rattle.wait_index.specs.Dispatch.{StandsForDxe};
 ghost use Rattle.wait_index.specs.Index.{IsIndex, IsSame, owed};
+ghost use Rattle.dxe_choice.specs.Aim.{may_be_next};
 ghost use Rattle.dxe_choice.specs.Index.{IsRequested, Leaves};
 
 use catalog_model::{Catalog, well_formed_expressions_are_short};
@@ -54,5 +55,28 @@ pub(crate) fn first_that_may_start<L: Ledger>(
     match index.next(0) {
         Some(place) => index.module_at(place),
         None => None,
+    }
+}
+
+/// Whether a driver waits and may start: then it is the first that may from its own place on. The expressions that may say something new are evaluated before.
+pub(crate) fn may_start<L: Ledger>(
+    index: &mut WaitIndex,
+    catalog: &Catalog,
+    number: u32,
+    steps: &mut Steps<L>,
+) -> bool
+    requires catalog { IsWellFormed catalog.now }
+    requires index { IsIndex catalog.now index.old }
+    requires phase { index.old.phase ≡ Dxe }
+    ensures may { (m : DxeMachine) → StandsForDxe catalog.now m index.old → may_be_next catalog.now m number ≡ result }
+    ensures index { IsIndex catalog.now index.new }
+    ensures same { IsSame index.old index.new }
+    ensures few_steps { steps.new + owed index.new ≤ steps.old + owed index.old }
+{
+    well_formed_expressions_are_short();
+    index.settle(catalog, steps);
+    match index.place_of(number) {
+        Some(place) => index.next(place as usize) == Some(place as usize),
+        None => false,
     }
 }

@@ -6,13 +6,14 @@ ghost use Rattle.catalog_model.specs.declared.catalog.Catalog.{Catalog as OfCata
 ghost use Rattle.boot_model.specs.DxeChoice.{a_priori_drivers, companion_group, drivers_of, schedule_of};
 ghost use Rattle.boot_model.specs.DxeChoice as C;
 ghost use Rattle.boot_model.specs.DxeMachine.{DxeMachine};
-ghost use Rattle.dxe_choice.specs.Choosing.{AllWait, Come, HasIndex, IsFilled, IsFirst, IsNumberOf, Schedules, Takes, as_apriori};
+ghost use Rattle.dxe_choice.specs.Aim.{aimed, may_be_next};
+ghost use Rattle.dxe_choice.specs.Choosing.{AllWait, Come, HasIndex, IsFilled, IsNumberOf, IsSeenRoot, Schedules, Takes, as_apriori};
 ghost use Rattle.dxe_choice.specs.Queue.{AreNew, Changes, ComesNext, Discovers, IsDriver, IsNewQueue, IsQueueFor, IsQueueOf, IsSeen, OwesFor, Requests, owed, waits_at};
 ghost use Rattle.boot_model.specs.Licence.{AllDiffer};
 ghost use Rattle.wait_index.specs.Index.{order_in};
 
 use crate::group::backward_group;
-use crate::index::{admit, first_that_may_start, leave};
+use crate::index::{admit, first_that_may_start, leave, may_start};
 use crate::licence::licence_of;
 use crate::waits::waits_at;
 use boot_model::{Licence, Scheduled};
@@ -203,7 +204,7 @@ impl DriverQueue {
         waits_at(self.waits.as_slice(), number)
     }
 
-    // Schedules the group of a driver.
+    // Schedules the group of an eligible driver that waits.
     fn schedule_group_of(
         &mut self,
         catalog: &Catalog,
@@ -212,10 +213,11 @@ impl DriverQueue {
     ) -> Result<(), OutOfMemory>
         requires catalog { IsWellFormed catalog.now }
         requires made { IsQueueFor catalog.now self.old }
-        requires root { (m : DxeMachine) × IsFirst catalog.now m self.old order.now root }
-        ensures row { OnOk result ((m : DxeMachine) → IsFirst catalog.now m self.old order.now root
+        requires root { (m : DxeMachine) × IsSeenRoot catalog.now m self.old order.now root }
+        ensures row { OnOk result ((m : DxeMachine) → IsSeenRoot catalog.now m self.old order.now root
             → Schedules self.old (schedule_of catalog.now (companion_group catalog.now m root)) self.new) }
         ensures made { OnOk result (IsQueueFor catalog.now self.new) }
+        ensures owes { OnOk result (owed self.new ≤ owed self.old) }
     {
         let group = backward_group(
             self.items.alloc(),
@@ -262,6 +264,51 @@ impl DriverQueue {
         ensures owes { steps.new + owed self.new ≤ steps.old + owed self.old }
     {
         first_that_may_start(&mut self.index, catalog, steps)
+    }
+
+    // Whether a driver waits and may start. What the queue owes is evaluated before.
+    fn may_be_next<L: Ledger>(
+        &mut self,
+        catalog: &Catalog,
+        number: u32,
+        steps: &mut Steps<L>,
+    ) -> bool
+        requires catalog { IsWellFormed catalog.now }
+        requires made { IsQueueFor catalog.now self.old }
+        ensures may { (m : DxeMachine) → IsQueueOf catalog.now m self.old → may_be_next catalog.now m number ≡ result }
+        ensures queue { (m : DxeMachine) → IsQueueOf catalog.now m self.old → IsQueueOf catalog.now m self.new }
+        ensures made { IsQueueFor catalog.now self.new }
+        ensures same { self.new.scheduled ≡ self.old.scheduled }
+        ensures owes { steps.new + owed self.new ≤ steps.old + owed self.old }
+    {
+        may_start(&mut self.index, catalog, number, steps)
+    }
+
+    /// Aims the next choice at a driver: where nothing is scheduled, and the driver waits and may start, its group is scheduled, as if it were the first that may. Else nothing is. No more expressions are evaluated than the queue owes. Want of memory leaves the queue unfinished.
+    pub fn aim<L: Ledger>(
+        &mut self,
+        catalog: &Catalog,
+        order: &DriverOrder,
+        root: u32,
+        steps: &mut Steps<L>,
+    ) -> Result<(), OutOfMemory>
+        requires catalog { IsWellFormed catalog.now }
+        requires made { IsQueueFor catalog.now self.old }
+        requires seen { (m : DxeMachine) × IsSeen catalog.now m self.old order.now }
+        ensures row { OnOk result ((m : DxeMachine) → IsSeen catalog.now m self.old order.now
+            → IsQueueOf catalog.now (aimed catalog.now m root) self.new) }
+        ensures made { OnOk result (IsQueueFor catalog.now self.new) }
+        ensures few_steps { steps.new ≤ steps.old + owed self.old }
+        ensures owes { OnOk result (steps.new + owed self.new ≤ steps.old + owed self.old) }
+    {
+        if self.head < self.items.len() {
+            return Ok(());
+        }
+        if self.may_be_next(catalog, root, steps) {
+            self.schedule_group_of(catalog, order, root)
+        } else {
+            Ok(())
+        }
     }
 
     // The head leaves the queue, if there is one.

@@ -1,5 +1,5 @@
 // The drivers of small volumes, made by hand: which start, in which order, and by which licences.
-ghost use Rattle.std.specs.Prelude.{◌≡◌, ◌<◌, [], Some, None, IfOk};
+ghost use Rattle.std.specs.Prelude.{◌≡◌, ◌<◌, [], Some, None, IfOk, OnOk};
 ghost use Rattle.boot_model.specs.DxeMachine.{DxeMachine};
 ghost use Rattle.dxe_choice.specs.Queue.{IsQueueFor, IsSeen};
 ghost use Rattle.catalog_model.specs.WellFormed.{IsExpressionOf, IsShortExpression, IsWellFormed};
@@ -92,7 +92,7 @@ fn holds(alloc: Global) -> Result<PartExpr, OutOfMemory>
     }
 }
 
-// A target with companions on both sides, which have companions of their own.
+// A target with companions on both sides, which have companions of their own, and one without an expression.
 fn companions(alloc: Global, target: PartExpr) -> Result<Catalog, OutOfMemory>
     requires phase { IsExpressionOf InDxe target }
     requires short { IsShortExpression target }
@@ -106,6 +106,7 @@ fn companions(alloc: Global, target: PartExpr) -> Result<Catalog, OutOfMemory>
     modules.push(driver(alloc, 88, OTHER, None, before(BEFORE_TARGET)))?;
     modules.push(driver(alloc, 96, AFTER_TARGET, None, after(TARGET)))?;
     modules.push(driver(alloc, 104, OTHER, None, after(AFTER_TARGET)))?;
+    modules.push(driver(alloc, 112, OTHER, None, PartExpr::Absent))?;
     Ok(Catalog { volumes, modules })
 }
 
@@ -145,6 +146,26 @@ fn request_first(queue: &mut DriverQueue, catalog: &Catalog, order: &DriverOrder
 {
     if let Some(first) = order.drivers().get(0) {
         queue.request(*first);
+    }
+}
+
+// The choice is aimed at a driver, if one is given.
+fn aim_at<L: Ledger>(
+    queue: &mut DriverQueue,
+    catalog: &Catalog,
+    order: &DriverOrder,
+    aim: Option<u32>,
+    steps: &mut Steps<L>,
+) -> Result<(), OutOfMemory>
+    requires catalog { IsWellFormed catalog.now }
+    requires made { IsQueueFor catalog.now queue.old }
+    requires seen { (m : DxeMachine) × IsSeen catalog.now m queue.old order.now }
+    ensures made { OnOk result (IsQueueFor catalog.now queue.new) }
+    ensures seen { OnOk result ((m : DxeMachine) × IsSeen catalog.now m queue.new order.now) }
+{
+    match aim {
+        Some(root) => queue.aim(catalog, order, root, steps),
+        None => Ok(()),
     }
 }
 
@@ -189,14 +210,16 @@ fn starts_of<L: Ledger>(
         request_first(&mut queue, catalog, &order);
     }
     let mut steps = Steps::<L>::new(blank);
+    aim_at(&mut queue, catalog, &order, row.aim, &mut steps)?;
     starts_from(&mut queue, catalog, &order, &mut steps)
 }
 
-/// Whether the first driver is requested, how many architectural protocols there are, and the drivers that start.
+/// Whether the first driver is requested, how many architectural protocols there are, at which driver the first choice is aimed, and the drivers that start.
 #[derive(Drop)]
 struct Row {
     is_requested: bool,
     protocols: usize,
+    aim: Option<u32>,
     starts: &'static [(u32, Licence)],
 }
 
@@ -221,12 +244,27 @@ fn companions_start_with_their_target(rt: HostRuntime) -> Result<(), Fail> {
     let rows = [
         Row {
             is_requested: false,
-            protocols: 13,
+            protocols: 12,
+            aim: Some(0),
             starts: &[],
         },
         Row {
             is_requested: true,
+            protocols: 13,
+            aim: Some(5),
+            starts: &[
+                (5, Licence::Absent),
+                (2, Licence::Before),
+                (1, Licence::Before),
+                (0, Licence::True),
+                (3, Licence::After),
+                (4, Licence::After),
+            ],
+        },
+        Row {
+            is_requested: true,
             protocols: 0,
+            aim: None,
             starts: &[
                 (2, Licence::Before),
                 (1, Licence::Before),
@@ -249,11 +287,13 @@ fn all_architectural_protocols_are_asked_for(rt: HostRuntime) -> Result<(), Fail
         Row {
             is_requested: false,
             protocols: 12,
+            aim: None,
             starts: &[(3, Licence::Apriori)],
         },
         Row {
             is_requested: false,
             protocols: 13,
+            aim: Some(0),
             starts: &[(3, Licence::Apriori), (0, Licence::Absent)],
         },
     ];

@@ -1,6 +1,6 @@
 -- Which case of a step applies, and what the step's answer then says.
-use Rattle.std.proofs.Common.{◌≡◌, ℕ, Bool, true, false, Bor, List, [], ◌∷◌, ◌++◌, length, Option, Some, None, sym, ap, ◌∙◌, subst, Result, Ok, Err}
-use Rattle.std.specs.Prelude.{is_none, is_some, IfSome, not, option_copied}
+use Rattle.std.proofs.Common.{◌≡◌, ℕ, Bool, true, false, Bor, List, [], ◌∷◌, ◌++◌, length, Option, Some, None, refl, sym, ap, ◌∙◌, subst, Result, Ok, Err}
+use Rattle.std.specs.Prelude.{◌↔◌, is_none, is_some, IfSome, IsTrue, not, option_copied}
 use Rattle.std.specs.Option.{option_to_list}
 use Rattle.std.proofs.lemmas.List.{append-nil}
 use Rattle.boot_io.specs.declared.halt.Halt.{Halt}
@@ -44,6 +44,15 @@ is_busy m (frame ∷ frames) top below e f idle = cc
 pub is_there : (found : Option (Bor DriverFrame)) (frames : List DriverFrame) (none : Bool) → option_copied found ≡ top_of frames → is_some found ≡ not none → none ≡ false → is_none (top_of frames) ≡ false
 is_there None frames none is some e = cc
 is_there (Some top) frames none is some e = ap is_none (sym is)
+
+-- or none does
+pub none_stands : (found : Option (Bor DriverFrame)) (frames : List DriverFrame) (none : Bool) → option_copied found ≡ top_of frames → is_some found ≡ not none → IsTrue none ↔ (frames ≡ [])
+none_stands None [] true is some = (λ _. refl, λ _. refl)
+none_stands None [] false is some = cc
+none_stands None (top ∷ below) none is some = cc
+none_stands (Some top) [] none is some = cc
+none_stands (Some found) (top ∷ below) true is some = cc
+none_stands (Some found) (top ∷ below) false is some = (λ h. cc, λ h. cc)
 
 -- and so it goes on
 pub runs_with : (next : Option (ProtocolNote × ProtocolSweep)) (m : DxeMachine) (frames : List DriverFrame) → m.frames ≡ frames → is_none (top_of frames) ≡ false → next ≡ next_of_top m frames → RunsWith next m

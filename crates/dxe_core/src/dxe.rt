@@ -1,5 +1,5 @@
 //! The core.
-ghost use Rattle.std.specs.Prelude.{◌≡◌, [], ℕ, IfOk, OnOk, is_some, true};
+ghost use Rattle.std.specs.Prelude.{◌≡◌, ◌↔◌, [], ℕ, IfOk, IsTrue, OnOk, is_some, true};
 ghost use Rattle.boot_io.specs.Halted.{HaltsAfter};
 ghost use Rattle.boot_io.specs.Sink.{SinkFaultsAfter};
 ghost use Rattle.pi_base.specs.declared.phase.Phase.TheVariants.{Dxe as InDxe};
@@ -133,6 +133,13 @@ impl Dxe {
         ensures { result.now ≡ self.now.services.requested }
     {
         self.services.requested()
+    }
+
+    /// Whether no script runs: a start is left, or the end.
+    pub fn is_idle(&self) -> bool
+        ensures { IsTrue result ↔ (self.now.frames ≡ []) }
+    {
+        self.frames.top().is_none()
     }
 
     /// How many actions may be taken.

@@ -1,4 +1,4 @@
-mod Growing
+pub mod Growing
 mod Idle
 mod Lines
 mod Openings

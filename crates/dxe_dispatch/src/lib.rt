@@ -6,8 +6,9 @@ mod choose;
 mod run;
 mod stop;
 mod tell;
-mod turn;
+mod turns;
 mod waiting;
 
 pub use boot::{Ended, boot_dxe};
 pub use run::run_dxe;
+pub use turns::turn;

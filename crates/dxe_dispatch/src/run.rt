@@ -8,7 +8,7 @@ ghost use Rattle.dxe_choice.specs.Queue.{IsNewQueue, IsQueueFor};
 ghost use Rattle.dxe_core.specs.Standing.{IsFor};
 ghost use Rattle.dxe_dispatch.specs.Ends.{EvaluatesFew, IsAtOpening, Runs};
 
-use crate::turn::turn;
+use crate::turns::turn;
 use boot_io::{Halt, Sink};
 use boot_laws::{discovered_order_has_each_once, dxe_runs_end, unrequested_drivers_wait};
 use boot_model::{DxeEnd, MOST_FRAMES};

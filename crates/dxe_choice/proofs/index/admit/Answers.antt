@@ -1,7 +1,7 @@
 use Rattle.std.proofs.Common.{◌≡◌, Some}
 use Rattle.std.specs.Prelude.{slice_get}
 use Rattle.wait_index.specs.Index.{order_in}
-use Rattle.dxe_choice.proofs.Waiting.{not_there, place_within, requested_at, requested_none}
+use Rattle.dxe_choice.proofs.Waiting.{not_there, place_within, requested_none}
 use Rattle.dxe_choice.proofs.index.admit.Goals as goal
 
 pub gate-requires-clause-within : goal.gate-requires-clause-within

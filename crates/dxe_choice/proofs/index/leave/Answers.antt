@@ -1,7 +1,7 @@
 use Rattle.std.proofs.Common.{◌≡◌, Some}
 use Rattle.std.specs.Prelude.{slice_get}
 use Rattle.wait_index.specs.Index.{order_in}
-use Rattle.dxe_choice.proofs.Waiting.{leaves_at, leaves_none, not_there, place_within}
+use Rattle.dxe_choice.proofs.Waiting.{leaves_none, not_there, place_within}
 use Rattle.dxe_choice.proofs.index.leave.Goals as goal
 
 pub started-requires-clause-within : goal.started-requires-clause-within

@@ -12,8 +12,8 @@ pub install-requires-clause-seen : goal.install-requires-clause-seen
 install-requires-clause-seen g c =
     seen_first c.args.catalog.now _ c.in_ok-order.order c.in_ok-queue.queue c.discover-2.new.self c.in_ok-order.ensures c.in_ok-queue.ensures.new c.in_ok-discover.ensures.row
 
-pub starts_from-requires-clause-seen : goal.starts_from-requires-clause-seen
-starts_from-requires-clause-seen g c = elim c.if-row.branch [
+pub aim_at-requires-clause-seen : goal.aim_at-requires-clause-seen
+aim_at-requires-clause-seen g c = elim c.if-row.branch [
   | then-row w ↦ subst (λ queue. (m : DxeMachine) × IsSeen c.args.catalog.now m queue c.in_ok-order.order) (sym w.queue-is) w.request_first.ensures.seen
   | else-row w ↦ subst (λ queue. (m : DxeMachine) × IsSeen c.args.catalog.now m queue c.in_ok-order.order) (sym w.queue-is) c.install.ensures.seen
 ]

@@ -1,4 +1,4 @@
-use Rattle.std.proofs.Common.{drop, refl, subst, sym, arith}
+use Rattle.std.proofs.Common.{drop, refl, subst, sym}
 use Rattle.dxe_choice.specs.Queue.{IsQueueFor, IsQueueOf, Queue}
 use Rattle.dxe_choice.proofs.Scheduling.{change_row, changed_owes, still_made}
 use Rattle.dxe_choice.proofs.queue.DriverQueue.change.Goals as goal

@@ -1,6 +1,6 @@
 use Rattle.std.proofs.Common.{◌≡◌, ◌<◌, ◌∙◌, ap, length, drop, subst, sym}
 use Rattle.pi_base.specs.Lists.{Each}
-use Rattle.boot_model.specs.DxeChoice.{a_priori_drivers, drivers_of}
+use Rattle.boot_model.specs.DxeChoice.{a_priori_drivers}
 use Rattle.wait_index.specs.Index.{order_in}
 use Rattle.dxe_choice.specs.Choosing.{Schedules}
 use Rattle.dxe_choice.specs.Queue.{Queue}

@@ -1,8 +1,8 @@
 use Rattle.std.proofs.Common.{◌≤◌, ◌<◌, length, arith, refl, ap, ◌∙◌}
 use Rattle.std.proofs.lemmas.Bool.Decides.{nat_tests}
 use Rattle.boot_model.specs.DxeChoice.{companion_group, group_scheduled, schedule_of}
-use Rattle.dxe_choice.specs.Choosing.{IsFirst}
-use Rattle.dxe_choice.proofs.Filling.{filled_before, filled_by, group_known, on_ok, queue_empty, queue_has}
+use Rattle.dxe_choice.specs.Choosing.{IsSeenRoot}
+use Rattle.dxe_choice.proofs.Filling.{filled_before, filled_by, group_known, on_ok, queue_empty, queue_has, root_is}
 use Rattle.dxe_choice.proofs.queue.DriverQueue.fill.Goals as goal
 
 pub returns-then-self-len-clause-filled : goal.returns-then-self-len-clause-filled
@@ -19,8 +19,16 @@ returns-in-Some-clause-filled g c =
     on_ok c.schedule_group_of.result
     (λ row m seen.
     let here = c.first_eligible.ensures.queue m seen.queue in
-    let is : IsFirst catalog m mid c.args.order.now root = record { seen = record { queue = here; order = seen.order }; first = c.first_eligible.ensures.first m seen.queue ∙ c.in-Some.is } in
+    let first = c.first_eligible.ensures.first m seen.queue ∙ c.in-Some.is in
+    let is : IsSeenRoot catalog m mid c.args.order.now root = record { seen = record { queue = here; order = seen.order }; is_root = root_is catalog m root first } in
     filled_by catalog m mid c.schedule_group_of.new.self (schedule_of catalog (companion_group catalog m root)) here
     (c.first_eligible.ensures.same ∙ queue_empty c.args.self.now _ c.self.inside.items c.self.inside.head c.self.view_is refl out)
-    (ap (group_scheduled catalog m) is.first) (group_known catalog m root c.args.order.now mid is) (row m is))
+    (ap (group_scheduled catalog m) first) (group_known catalog m root c.args.order.now mid is) (row m is))
     c.schedule_group_of.ensures.row
+
+pub schedule_group_of-requires-clause-root : goal.schedule_group_of-requires-clause-root
+schedule_group_of-requires-clause-root g c =
+    let m = c.requires.seen.0 in
+    let seen = c.requires.seen.1 in
+    let here = c.first_eligible.ensures.queue m seen.queue in
+    (m, record { seen = record { queue = here; order = seen.order }; is_root = root_is c.args.catalog.now m c.in-Some.root (c.first_eligible.ensures.first m seen.queue ∙ c.in-Some.is) })

@@ -1,5 +1,4 @@
-use Rattle.std.proofs.Common.{◌≤◌, length, arith, ◌∙◌}
-use Rattle.std.proofs.lemmas.Bool.Decides.{nat_tests}
+use Rattle.std.proofs.Common.{◌∙◌}
 use Rattle.dxe_choice.proofs.Scheduling.{still_index, volumes_on}
 use Rattle.dxe_choice.proofs.queue.DriverQueue.schedule_a_priori.Goals as goal
 
