@@ -40,12 +40,12 @@ pub record Laws : Type 0 where
   pub catalogue_or_fault : (plan : Plan) (images : List (List ℕ)) (catalog : Catalog) (fault : ImageFault) → Each AreBytes images → IsCatalogue plan images catalog → IsImageFault plan images fault → ⊥
 
 -- a told content is one
-pub one_content : (told : Option (List ℕ)) → IsSome told → (c d : List ℕ) → IsTold told c → IsTold told d → c ≡ d
+one_content : (told : Option (List ℕ)) → IsSome told → (c d : List ℕ) → IsTold told c → IsTold told d → c ≡ d
 one_content None some c d p q = absurd (true≢false (sym some))
 one_content (Some x) some c d p q = sym p ∙ q
 
 -- it is not both within a limit and over it
-pub within_or_over : (told : Option (List ℕ)) (limit : ℕ) → IsSome told → (c d : List ℕ) → IsLong told limit c → IsRead told limit d → ⊥
+within_or_over : (told : Option (List ℕ)) (limit : ℕ) → IsSome told → (c d : List ℕ) → IsLong told limit c → IsRead told limit d → ⊥
 within_or_over told limit some c d long read =
     let same : length c ≡ length d = ap length (one_content told some c d long.as_told read.as_told) in
     omega (arith, same, long.over, read.within)
@@ -69,7 +69,7 @@ told_bytes None none content is = absurd none
 told_bytes (Some told) are content is = subst AreBytes is are
 
 -- told images are of bytes
-pub images_bytes : (told : List ℕ → Option (List ℕ)) (volumes : List PlanVolume) → VolumesTold told volumes → (images : List (List ℕ)) → AreImages told volumes images → Each AreBytes images
+images_bytes : (told : List ℕ → Option (List ℕ)) (volumes : List PlanVolume) → VolumesTold told volumes → (images : List (List ℕ)) → AreImages told volumes images → Each AreBytes images
 images_bytes told [] all [] read = tt
 images_bytes told [] all (image ∷ images) read = absurd read
 images_bytes told (volume ∷ volumes) all [] read = absurd read
@@ -77,7 +77,7 @@ images_bytes told (volume ∷ volumes) all (image ∷ images) read =
     (told_bytes (told volume.name) (first_told told volume volumes all) image read.0.as_told, images_bytes told volumes (λ n o. all n (name_behind volume volumes n o)) images read.1)
 
 -- told files have one list of images
-pub one_images : (told : List ℕ → Option (List ℕ)) (volumes : List PlanVolume) → VolumesTold told volumes → (a b : List (List ℕ)) → AreImages told volumes a → AreImages told volumes b → a ≡ b
+one_images : (told : List ℕ → Option (List ℕ)) (volumes : List PlanVolume) → VolumesTold told volumes → (a b : List (List ℕ)) → AreImages told volumes a → AreImages told volumes b → a ≡ b
 one_images told [] all [] [] p q = refl
 one_images told [] all [] (y ∷ b) p q = absurd q
 one_images told [] all (x ∷ a) b p q = absurd p
@@ -280,7 +280,7 @@ status_of_refused laws told words all a b (job_refused command plan asks refusal
     let here = subst (λ n. IsRefusal told n b) (one_plan words command another plan other asks also) again in
     refusals_status laws told plan (all.plan_file command plan asks) a b refusal here
 
-pub one_status : Laws → (told : List ℕ → Option (List ℕ)) (words : List (List ℕ)) → AreTold told words
+one_status : Laws → (told : List ℕ → Option (List ℕ)) (words : List (List ℕ)) → AreTold told words
     → (a b : Status) (s t : List ℕ) → Outcome told words a s → Outcome told words b t → a ≡ b
 one_status laws told words all a b s t (refusal_told line is p x) (refusal_told other also q y) = p ∙ status_of_refused laws told words all line other is also ∙ sym q
 one_status laws told words all a b s t (refusal_told line is p x) (asked_done asked asks o) = absurd (asked_or_refused laws told words all asked line asks is)

@@ -29,10 +29,11 @@ fn refusal_of(fault: ImageFault) -> NoJob
     if fault.cause == ImageCause::Memory {
         return NoJob::Memory;
     }
-    let volume = fault.volume;
-    let at = fault.at;
-    let cause = fault.cause;
-    NoJob::Refused(Line::RefusedImage { volume, at, cause })
+    NoJob::Refused(Line::RefusedImage {
+        volume: fault.volume,
+        at: fault.at,
+        cause: fault.cause,
+    })
 }
 
 /// The catalogue of a plan's images, or the refusal of their first fault.
