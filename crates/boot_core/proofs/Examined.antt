@@ -32,7 +32,7 @@ of_catalogue one plan images catalog booted sound back = record {
 }
 
 -- the line of an image's fault is an outcome of its images
-due_of_image : (Leads : Catalog → Status → List ℕ → Type 0) (plan : Plan) (images : List (List ℕ)) (line : Line) → IsImageRefusal plan images line → IsDue (ImagesOutcome Leads plan images) line
+pub due_of_image : (Leads : Catalog → Status → List ℕ → Type 0) (plan : Plan) (images : List (List ℕ)) (line : Line) → IsImageRefusal plan images line → IsDue (ImagesOutcome Leads plan images) line
 due_of_image Leads plan images line r =
     let P : Line → Type 0 = λ l. IsDue (ImagesOutcome Leads plan images) l in
     let here : IsDue (ImagesOutcome Leads plan images) (image_line r.fault) = record { kind = refl; outcome = image_refused r.fault r.is refl refl } in
