@@ -1,5 +1,5 @@
 -- What the words ask for, seen from what it leads to.
-use Rattle.std.proofs.Common.{◌≡◌, ◌⊎◌, ℕ, List, Option, refl, ap, subst, inl, inr}
+use Rattle.std.proofs.Common.{◌≡◌, ℕ, List, Option, refl, ap, subst, inl, inr}
 use Rattle.boot_model.specs.declared.line.Line.{Line}
 use Rattle.plan_files.specs.declared.job.Job.{Job}
 use Rattle.plan_files.specs.declared.reading.NoJob.{NoJob}

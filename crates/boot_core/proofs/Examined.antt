@@ -1,5 +1,5 @@
 -- What follows of an examination of images: what a boot hands back, and which statuses a refusal has.
-use Rattle.std.proofs.Common.{◌≡◌, ◌≢◌, ℕ, List, Option, None, Result, Ok, Err, refl, subst, sym, inl}
+use Rattle.std.proofs.Common.{◌≡◌, ◌≢◌, ℕ, List, None, Result, Ok, Err, refl, subst, sym, inl}
 use Rattle.boot_io.specs.declared.sink.SinkFault.{SinkFault}
 use Rattle.boot_plan.specs.declared.plan.Plan.{Plan}
 use Rattle.catalog_model.specs.declared.catalog.Catalog.{Catalog}

@@ -22,7 +22,7 @@ use Rattle.boot_core.specs.declared.deciding.Asked.{Asked}
 use Rattle.boot_core.specs.declared.deciding.Asked.TheVariants as A
 use Rattle.boot_core.specs.CommandLine.{AskFor, AskForGenerated, verb_of}
 use Rattle.boot_core.specs.Deciding.{IsAsked, IsRefused, asked_of, job_asked, number_asked, words_refused, job_refused}
-use Rattle.boot_core.specs.Outcome.{Outcome, AskedOutcome, JobOutcome, ImagesOutcome, CommandOutcome, Trail, Kind, OfFiles, OfSink, OfMemory, OfAnswer, Ends, EndsBy, Answered, kind_of, refusal_told, asked_done, image_refused, images_sound, BootOutcome}
+use Rattle.boot_core.specs.Outcome.{Outcome, AskedOutcome, ImagesOutcome, CommandOutcome, Trail, Kind, OfFiles, OfSink, OfMemory, OfAnswer, Ends, EndsBy, Answered, kind_of, refusal_told, asked_done, image_refused, images_sound, BootOutcome}
 use Rattle.boot_core.specs.GeneratedOutcome.{GeneratedOutcome, SummaryOutcome, generated_board, generated_images, generated_plan}
 use Rattle.boot_core.specs.Refusing.{refusal_status}
 use Rattle.boot_core.specs.declared.generated.TheConstants.{FUEL}

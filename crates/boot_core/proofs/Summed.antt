@@ -1,5 +1,5 @@
 -- What follows of a boot that was summed up.
-use Rattle.std.proofs.Common.{◌≡◌, ℕ, List, None, Err, refl, subst, inl}
+use Rattle.std.proofs.Common.{ℕ, List, None, Err, refl, subst, inl}
 use Rattle.boot_plan.specs.declared.plan.Plan.{Plan}
 use Rattle.boot_model.specs.declared.line.Line.{Line}
 use Rattle.plan_files.specs.declared.reading.NoJob.{NoJob}

@@ -1,5 +1,5 @@
 -- The words of a boot of a plan and images without a fault lead to its run alone.
-use Rattle.std.proofs.Common.{◌≡◌, ◌⊎◌, ℕ, List, Option, refl, sym, ap, ◌∙◌, subst, inl, inr}
+use Rattle.std.proofs.Common.{◌≡◌, ℕ, List, Option, refl, ap, ◌∙◌, subst, inl, inr}
 use Rattle.boot_plan.specs.declared.plan.Plan.{Plan}
 use Rattle.catalog_model.specs.declared.catalog.Catalog.{Catalog}
 use Rattle.catalog_model.specs.Catalogue.{IsCatalogue}
@@ -14,7 +14,7 @@ use Rattle.boot_core.specs.declared.deciding.Asked.TheVariants as A
 use Rattle.boot_core.specs.Deciding.{asked_of, job_asked, number_asked, words_refused, job_refused}
 use Rattle.boot_core.specs.Outcome.{Outcome, AskedOutcome, ImagesOutcome, CommandOutcome, BootOutcome, Trail, Ends, Answered, refusal_told, asked_done, image_refused, images_sound}
 use Rattle.boot_core.specs.Causes.{AreTold}
-use Rattle.boot_core.specs.Completeness.{AskForBootOf, IsUnfailing, HasRun, IsComplete}
+use Rattle.boot_core.specs.Completeness.{AskForBootOf, HasRun, IsComplete}
 use Rattle.boot_core.proofs.OneStatus.{Laws, job_bytes, job_or_refusal, number_or_plan, one_asked, one_job, one_plan, plan_told}
 
 of_images : Laws → (plan : Plan) (catalog : Catalog) (images : List (List ℕ)) (status : Status) (text : List ℕ) → Each AreBytes images → IsCatalogue plan images catalog

@@ -1,5 +1,5 @@
 -- What the images of a plan lead to: the refusal of their first fault, or what their catalogue leads to.
-use Rattle.std.specs.Prelude.{◌≡◌, ℕ, List, Option, Some}
+use Rattle.std.specs.Prelude.{◌≡◌, ℕ, List, Some}
 use Rattle.boot_plan.specs.declared.plan.Plan.{Plan}
 use Rattle.catalog_model.specs.declared.catalog.Catalog.{Catalog}
 use Rattle.catalog_model.specs.declared.image_fault.ImageFault.{ImageFault}

@@ -1,4 +1,3 @@
-use Rattle.boot_core.specs.Deciding.{IsSoundJob}
 use Rattle.boot_core.proofs.boot.run.Goals as goal
 
 pub returns-in-Boot : goal.returns-in-Boot

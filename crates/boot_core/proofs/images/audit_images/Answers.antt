@@ -1,4 +1,4 @@
-use Rattle.std.proofs.Common.{None, refl}
+use Rattle.std.proofs.Common.{refl}
 use Rattle.boot_core.specs.declared.command_line.Command.TheVariants.{Audit}
 use Rattle.boot_core.specs.declared.status.Status.TheVariants.{Done}
 use Rattle.boot_core.specs.AuditText.{audit_text}

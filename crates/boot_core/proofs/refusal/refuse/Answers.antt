@@ -1,4 +1,4 @@
-use Rattle.std.proofs.Common.{◌≡◌, ◌∙◌, ap}
+use Rattle.std.proofs.Common.{◌∙◌, ap}
 use Rattle.boot_core.specs.Refusing.{status_after}
 use Rattle.boot_core.proofs.refusal.refuse.Goals as goal
 
