@@ -1,18 +1,15 @@
 -- The text of a boot, part by part.
-use Rattle.std.proofs.Common.{◌≡◌, ℕ, List, [], ◌∷◌, ◌++◌, length, map, flat_map, Option, Some, None, option_map, append_assoc, refl, sym, ap, ◌∙◌}
+use Rattle.std.proofs.Common.{◌≡◌, ℕ, List, [], ◌++◌, Option, Some, None, append_assoc, sym, ap, ◌∙◌}
 use Rattle.std.proofs.lemmas.List.{append-nil}
 use Rattle.std.proofs.lemmas.Grind.{flat_map-append}
 use Rattle.catalog_model.specs.declared.catalog.Catalog.{Catalog}
-use Rattle.boot_model.specs.declared.line.Line.TheVariants as L
 use Rattle.boot_model.specs.declared.line.RunEnd.{RunEnd}
 use Rattle.boot_model.specs.declared.line.RunEnd.TheVariants as E
-use Rattle.boot_model.specs.BootRun.{handle_lines, lines_after, both_lines, dxe_result}
+use Rattle.boot_model.specs.BootRun.{lines_after, both_lines, dxe_result}
 use Rattle.boot_model.specs.DxeMachine.{DxeMachine}
 use Rattle.boot_model.specs.declared.phase_end.DxeEnd.{DxeEnd}
 use Rattle.boot_model.specs.DxeRun.{dxe_end}
 use Rattle.store_model.specs.HandleState.{HandleState, no_handles}
-use Rattle.store_model.specs.declared.interface.Interface.{Interface}
-use Rattle.boot_model.specs.Listing.{store_lines}
 use Rattle.boot_model.specs.PeiMachine.{PeiMachine}
 use Rattle.boot_model.specs.declared.phase_end.PeiEnd.{PeiEnd}
 use Rattle.boot_model.specs.declared.phase_end.PeiEnd.TheVariants.{Handoff, NoMemory, NoIpl, Spent, Deep}

@@ -10,18 +10,25 @@ use Rattle.catalog_model.specs.declared.image_fault.ImageFault.{ImageFault}
 use Rattle.catalog_model.specs.Catalogue.{IsCatalogue}
 use Rattle.catalog_model.specs.ImageFault.{IsImageFault}
 use Rattle.boot_model.specs.PlanBoard.{board_of}
+use Rattle.boot_model.specs.declared.line.Line.{Line}
 use Rattle.boot_model.specs.declared.line.RunEnd.{RunEnd}
+use Rattle.plan_files.specs.declared.job.Job.{Job}
+use Rattle.plan_files.specs.Job.{IsJob, IsRefusal, plan_long, plan_refused, volume_long}
+use Rattle.plan_files.specs.Reading.{IsRead, IsLong, IsLongVolume, AreImages}
 use Rattle.boot_core.specs.declared.status.Status.{Status}
 use Rattle.boot_core.specs.declared.command_line.Command.{Command}
 use Rattle.boot_core.specs.declared.command_line.Command.TheVariants.{Boot, Audit}
+use Rattle.boot_core.specs.declared.deciding.Asked.{Asked}
+use Rattle.boot_core.specs.declared.deciding.Asked.TheVariants as A
 use Rattle.boot_core.specs.CommandLine.{AskFor, AskForGenerated, verb_of}
-use Rattle.boot_core.specs.FileReading.{IsRead, IsLong, LongVolume, AreImages, IsVolumeName}
-use Rattle.boot_core.specs.Outcome.{Outcome, PlanOutcome, TextOutcome, TextNames, VolumesOutcome, ImagesOutcome, CommandOutcome, NumberOutcome, Trail, Kind, OfFiles, OfSink, OfMemory, OfAnswer, Ends, EndsBy, Answered, kind_of, words_ask, words_no_plan, number_none, number_asked, plan_long, plan_file, plan_refused, plan_read, volume_long, volumes_read, image_refused, images_sound, BootOutcome}
+use Rattle.boot_core.specs.Deciding.{IsAsked, IsRefused, asked_of, job_asked, number_asked, words_refused, job_refused}
+use Rattle.boot_core.specs.Outcome.{Outcome, AskedOutcome, ImagesOutcome, CommandOutcome, Trail, Kind, OfFiles, OfSink, OfMemory, OfAnswer, Ends, EndsBy, Answered, kind_of, refusal_told, asked_done, image_refused, images_sound, BootOutcome}
 use Rattle.boot_core.specs.GeneratedOutcome.{GeneratedOutcome, SummaryOutcome, generated_board, generated_images, generated_plan}
+use Rattle.boot_core.specs.Refusing.{refusal_status}
 use Rattle.boot_core.specs.declared.generated.TheConstants.{FUEL}
 use Rattle.std.proofs.lemmas.Fmt.{decimal_injective}
 use Rattle.boot_core.specs.BootEnd.{end_of, status_of}
-use Rattle.boot_core.specs.Causes.{AreTold, IsToldAsBytes, LeadsTo, IsStopped, ComesExactly}
+use Rattle.boot_core.specs.Causes.{AreTold, IsToldAsBytes, IsVolumeName, TextNames, LeadsTo, IsStopped, ComesExactly}
 use Rattle.pi_base.specs.Lists.{Each}
 use Rattle.pi_base.specs.Field.{AreBytes}
 
@@ -33,12 +40,12 @@ pub record Laws : Type 0 where
   pub catalogue_or_fault : (plan : Plan) (images : List (List ℕ)) (catalog : Catalog) (fault : ImageFault) → Each AreBytes images → IsCatalogue plan images catalog → IsImageFault plan images fault → ⊥
 
 -- a told content is one
-pub one_content : (told : Option (List ℕ)) → IsSome told → (c d : List ℕ) → IsTold told c → IsTold told d → c ≡ d
+one_content : (told : Option (List ℕ)) → IsSome told → (c d : List ℕ) → IsTold told c → IsTold told d → c ≡ d
 one_content None some c d p q = absurd (true≢false (sym some))
 one_content (Some x) some c d p q = sym p ∙ q
 
 -- it is not both within a limit and over it
-pub within_or_over : (told : Option (List ℕ)) (limit : ℕ) → IsSome told → (c d : List ℕ) → IsLong told limit c → IsRead told limit d → ⊥
+within_or_over : (told : Option (List ℕ)) (limit : ℕ) → IsSome told → (c d : List ℕ) → IsLong told limit c → IsRead told limit d → ⊥
 within_or_over told limit some c d long read =
     let same : length c ≡ length d = ap length (one_content told some c d long.as_told read.as_told) in
     omega (arith, same, long.over, read.within)
@@ -62,7 +69,7 @@ told_bytes None none content is = absurd none
 told_bytes (Some told) are content is = subst AreBytes is are
 
 -- told images are of bytes
-pub images_bytes : (told : List ℕ → Option (List ℕ)) (volumes : List PlanVolume) → VolumesTold told volumes → (images : List (List ℕ)) → AreImages told volumes images → Each AreBytes images
+images_bytes : (told : List ℕ → Option (List ℕ)) (volumes : List PlanVolume) → VolumesTold told volumes → (images : List (List ℕ)) → AreImages told volumes images → Each AreBytes images
 images_bytes told [] all [] read = tt
 images_bytes told [] all (image ∷ images) read = absurd read
 images_bytes told (volume ∷ volumes) all [] read = absurd read
@@ -70,7 +77,7 @@ images_bytes told (volume ∷ volumes) all (image ∷ images) read =
     (told_bytes (told volume.name) (first_told told volume volumes all) image read.0.as_told, images_bytes told volumes (λ n o. all n (name_behind volume volumes n o)) images read.1)
 
 -- told files have one list of images
-pub one_images : (told : List ℕ → Option (List ℕ)) (volumes : List PlanVolume) → VolumesTold told volumes → (a b : List (List ℕ)) → AreImages told volumes a → AreImages told volumes b → a ≡ b
+one_images : (told : List ℕ → Option (List ℕ)) (volumes : List PlanVolume) → VolumesTold told volumes → (a b : List (List ℕ)) → AreImages told volumes a → AreImages told volumes b → a ≡ b
 one_images told [] all [] [] p q = refl
 one_images told [] all [] (y ∷ b) p q = absurd q
 one_images told [] all (x ∷ a) b p q = absurd p
@@ -118,47 +125,61 @@ status_of_images laws Leads plan images one are a b s t (images_sound c sound o)
     let P : Catalog → Type 0 = λ x. Leads x b t in
     one c a b s t o (subst P (laws.catalogues plan images d c also sound) u)
 
-pub long_told : (told : List ℕ → Option (List ℕ)) (volumes : List PlanVolume) (status : Status) (text : List ℕ) → VolumesTold told volumes → LongVolume told volumes status text → (images : List (List ℕ)) → AreImages told volumes images → ⊥
-long_told told volumes status text all o images read =
-    let some = some_told (told o.volume.name) (all o.volume.name (record { before = o.before; volume = o.volume; behind = o.behind; these = o.these; is = refl })) in
+-- a volume's file that is too long has no image
+long_told : (told : List ℕ → Option (List ℕ)) (volumes : List PlanVolume) (line : Line) → VolumesTold told volumes → IsLongVolume told volumes line → (images : List (List ℕ)) → AreImages told volumes images → ⊥
+long_told told volumes line all o images read =
+    let r = o.reached in
+    let some = some_told (told o.volume.name) (all o.volume.name (record { before = r.before; volume = o.volume; behind = r.behind; these = r.these; is = refl })) in
     let P : List PlanVolume → Type 0 = λ vs. AreImages told vs images in
-    images_or_long told o.before o.volume o.behind some o.long.content o.long.long images (subst P o.these read)
-
-status_of_volumes : Laws → (told : List ℕ → Option (List ℕ)) (command : Command) (plan : Plan) → VolumesTold told plan.volumes → (a b : Status) (s t : List ℕ)
-    → VolumesOutcome told command plan a s → VolumesOutcome told command plan b t → a ≡ b
-status_of_volumes laws told command plan all a b s t (volume_long o) (volume_long u) = o.long.status_is ∙ sym u.long.status_is
-status_of_volumes laws told command plan all a b s t (volume_long o) (volumes_read images read u) = absurd (long_told told plan.volumes a s all o images read)
-status_of_volumes laws told command plan all a b s t (volumes_read images read o) (volume_long u) = absurd (long_told told plan.volumes b t all u images read)
-status_of_volumes laws told command plan all a b s t (volumes_read images read o) (volumes_read others again u) =
-    let P : List (List ℕ) → Type 0 = λ x. ImagesOutcome (CommandOutcome command plan x) plan x b t in
-    status_of_images laws (CommandOutcome command plan images) plan images (status_of_command command plan images) (images_bytes told plan.volumes all images read) a b s t o
-    (subst P (one_images told plan.volumes all others images again read) u)
-
--- the files that a text names are told
-abbrev pub TextTold : (List ℕ → Option (List ℕ)) → List ℕ → Type 0
-TextTold told content = (name : List ℕ) → TextNames content name → IsToldAsBytes (told name)
-
-status_of_text : Laws → (told : List ℕ → Option (List ℕ)) (command : Command) (content : List ℕ) → TextTold told content
-    → (a b : Status) (s t : List ℕ) → TextOutcome told command content a s → TextOutcome told command content b t → a ≡ b
-status_of_text laws told command content all a b s t (plan_refused f is p x) (plan_refused g also q y) = p ∙ sym q
-status_of_text laws told command content all a b s t (plan_refused f is p x) (plan_read plan read o) = absurd (laws.plan_or_fault content plan f read is)
-status_of_text laws told command content all a b s t (plan_read plan read o) (plan_refused f is q y) = absurd (laws.plan_or_fault content plan f read is)
-status_of_text laws told command content all a b s t (plan_read plan read o) (plan_read other again u) =
-    let P : Plan → Type 0 = λ x. VolumesOutcome told command x b t in
-    status_of_volumes laws told command plan (λ n names. all n (plan, read, names)) a b s t o (subst P (laws.plans content other plan again read) u)
+    images_or_long told r.before o.volume r.behind some o.long.content o.long.long images (subst P r.these read)
 
 -- the files that a told plan's text names are told
 abbrev pub PlanTold : (List ℕ → Option (List ℕ)) → List ℕ → Type 0
 PlanTold told plan = (content name : List ℕ) → IsTold (told plan) content → TextNames content name → IsToldAsBytes (told name)
 
-status_of_plan : Laws → (told : List ℕ → Option (List ℕ)) (command : Command) (plan : List ℕ) → IsSome (told plan) → PlanTold told plan
-    → (a b : Status) (s t : List ℕ) → PlanOutcome told command plan a s → PlanOutcome told command plan b t → a ≡ b
-status_of_plan laws told command plan some all a b s t (plan_long o) (plan_long u) = o.status_is ∙ sym u.status_is
-status_of_plan laws told command plan some all a b s t (plan_long o) (plan_file d read u) = absurd (within_or_over (told plan) 0x10000 some o.content d o.long read)
-status_of_plan laws told command plan some all a b s t (plan_file c read o) (plan_long u) = absurd (within_or_over (told plan) 0x10000 some u.content c u.long read)
-status_of_plan laws told command plan some all a b s t (plan_file c read o) (plan_file d again u) =
-    let P : List ℕ → Type 0 = λ content. TextOutcome told command content b t in
-    status_of_text laws told command c (λ name names. all c name read.as_told names) a b s t o (subst P (one_content (told plan) some d c again.as_told read.as_told) u)
+-- those of a job's volumes
+volumes_told : (told : List ℕ → Option (List ℕ)) (name : List ℕ) → PlanTold told name → (job : Job) → IsJob told name job → VolumesTold told job.plan.volumes
+volumes_told told name all job is = λ n names. all is.content n is.read.as_told (job.plan, is.plan_is, names)
+
+-- so its images are of bytes
+pub job_bytes : (told : List ℕ → Option (List ℕ)) (name : List ℕ) → PlanTold told name → (job : Job) → IsJob told name job → Each AreBytes job.images
+job_bytes told name all job is = images_bytes told job.plan.volumes (volumes_told told name all job is) job.images is.images_are
+
+-- a told plan has one job
+pub one_job : Laws → (told : List ℕ → Option (List ℕ)) (name : List ℕ) → IsSome (told name) → PlanTold told name → (a b : Job) → IsJob told name a → IsJob told name b → a ≡ b
+one_job laws told name some all a b p q =
+    let content : p.content ≡ q.content = one_content (told name) some p.content q.content p.read.as_told q.read.as_told in
+    let plan : a.plan ≡ b.plan = laws.plans q.content a.plan b.plan (subst (λ c. IsPlan c a.plan) content p.plan_is) q.plan_is in
+    let read : AreImages told b.plan.volumes a.images = subst (λ x. AreImages told x.volumes a.images) plan p.images_are in
+    let images : a.images ≡ b.images = one_images told b.plan.volumes (volumes_told told name all b q) a.images b.images read q.images_are in
+    let with_plan : Plan → Job = λ x. record { plan = x; images = a.images } in
+    let with_images : List (List ℕ) → Job = λ x. record { plan = b.plan; images = x } in
+    ap with_plan plan ∙ ap with_images images
+
+-- and no refusal beside it
+pub job_or_refusal : Laws → (told : List ℕ → Option (List ℕ)) (name : List ℕ) → IsSome (told name) → PlanTold told name → (job : Job) (line : Line) → IsJob told name job → IsRefusal told name line → ⊥
+job_or_refusal laws told name some all job line is (plan_long q) = within_or_over (told name) 0x10000 some q.content is.content q.long is.read
+job_or_refusal laws told name some all job line is (plan_refused d again fault of_fault e) =
+    let content = one_content (told name) some d is.content again.as_told is.read.as_told in
+    laws.plan_or_fault is.content job.plan fault is.plan_is (subst (λ c. IsPlanFault c fault) content of_fault)
+job_or_refusal laws told name some all job line is (volume_long d again plan of_plan o) =
+    let content = one_content (told name) some d is.content again.as_told is.read.as_told in
+    let same : plan ≡ job.plan = laws.plans is.content plan job.plan (subst (λ c. IsPlan c plan) content of_plan) is.plan_is in
+    long_told told job.plan.volumes line (volumes_told told name all job is) (subst (λ x. IsLongVolume told x.volumes line) same o) job.images is.images_are
+
+-- its refusals have one status
+refusals_status : Laws → (told : List ℕ → Option (List ℕ)) (name : List ℕ) → IsSome (told name) → (a b : Line) → IsRefusal told name a → IsRefusal told name b → refusal_status a ≡ refusal_status b
+refusals_status laws told name some a b (plan_long p) (plan_long q) = ap refusal_status p.line_is ∙ sym (ap refusal_status q.line_is)
+refusals_status laws told name some a b (plan_long p) (plan_refused d read g fault e) = absurd (within_or_over (told name) 0x10000 some p.content d p.long read)
+refusals_status laws told name some a b (plan_long p) (volume_long d read plan is o) = absurd (within_or_over (told name) 0x10000 some p.content d p.long read)
+refusals_status laws told name some a b (plan_refused d read g fault e) (plan_long p) = absurd (within_or_over (told name) 0x10000 some p.content d p.long read)
+refusals_status laws told name some a b (volume_long d read plan is o) (plan_long p) = absurd (within_or_over (told name) 0x10000 some p.content d p.long read)
+refusals_status laws told name some a b (plan_refused c read f fault e) (plan_refused d again g other u) = ap refusal_status e ∙ sym (ap refusal_status u)
+refusals_status laws told name some a b (volume_long c read plan is o) (volume_long d again other also u) = ap refusal_status o.long.line_is ∙ sym (ap refusal_status u.long.line_is)
+refusals_status laws told name some a b (plan_refused c read f fault e) (volume_long d again plan is o) =
+    absurd (laws.plan_or_fault c plan f (subst (λ x. IsPlan x plan) (one_content (told name) some d c again.as_told read.as_told) is) fault)
+refusals_status laws told name some a b (volume_long d again plan is o) (plan_refused c read f fault e) =
+    absurd (laws.plan_or_fault c plan f (subst (λ x. IsPlan x plan) (one_content (told name) some d c again.as_told read.as_told) is) fault)
 
 abbrev pub second : List (List ℕ) → List ℕ
 second (x ∷ y ∷ rest) = y
@@ -210,24 +231,63 @@ status_of_generated : Laws → (n : ℕ) (a b : Status) (s t : List ℕ) → Gen
 status_of_generated laws n a b s t one other =
     status_of_images laws (SummaryOutcome n) generated_plan (generated_images n) (status_of_summary n) (one.of_bytes, tt) a b s t one.leads other.leads
 
-status_of_number : Laws → (words : List (List ℕ)) (a b : Status) (s t : List ℕ) → NumberOutcome words a s → NumberOutcome words b t → a ≡ b
-status_of_number laws words a b s t (number_none none p x) (number_none also q y) = p ∙ sym q
-status_of_number laws words a b s t (number_none none p x) (number_asked n is o) = absurd (none n is)
-status_of_number laws words a b s t (number_asked n is o) (number_none none q y) = absurd (none n is)
-status_of_number laws words a b s t (number_asked n is o) (number_asked m also u) =
-    let P : ℕ → Type 0 = λ x. GeneratedOutcome x b t in
-    status_of_generated laws n a b s t o (subst P (one_number words n m is also) u)
+-- words that ask for a generated volume name no plan
+pub number_or_plan : (words : List (List ℕ)) (n : ℕ) (command : Command) (plan : List ℕ) → AskForGenerated words n → AskFor words command plan → ⊥
+number_or_plan words n Boot plan p q = let e = ap (λ ws. length (first ws)) (sym p.1 ∙ q.0) in omega (arith, e)
+number_or_plan words n Audit plan p q = let e = ap (λ ws. length (first ws)) (sym p.1 ∙ q.0) in omega (arith, e)
 
-pub one_status : Laws → (told : List ℕ → Option (List ℕ)) (words : List (List ℕ)) → AreTold told words
+-- what the words ask for has one status
+status_of_job : Laws → (told : List ℕ → Option (List ℕ)) (name : List ℕ) → PlanTold told name → (command : Command) (job : Job) → IsJob told name job → (a b : Status) (s t : List ℕ)
+    → AskedOutcome (asked_of command job) a s → AskedOutcome (asked_of command job) b t → a ≡ b
+status_of_job laws told name all Boot job is a b s t o u =
+    status_of_images laws (CommandOutcome Boot job.plan job.images) job.plan job.images (status_of_command Boot job.plan job.images) (job_bytes told name all job is) a b s t o u
+status_of_job laws told name all Audit job is a b s t o u =
+    status_of_images laws (CommandOutcome Audit job.plan job.images) job.plan job.images (status_of_command Audit job.plan job.images) (job_bytes told name all job is) a b s t o u
+
+status_of_asked : Laws → (told : List ℕ → Option (List ℕ)) (words : List (List ℕ)) → AreTold told words → (asked : Asked) → IsAsked told words asked → (a b : Status) (s t : List ℕ)
+    → AskedOutcome asked a s → AskedOutcome asked b t → a ≡ b
+status_of_asked laws told words all asked (job_asked command plan asks job is e) a b s t o u =
+    status_of_job laws told plan (plan_told told words command plan all asks) command job is a b s t (subst (λ x. AskedOutcome x a s) e o) (subst (λ x. AskedOutcome x b t) e u)
+status_of_asked laws told words all asked (number_asked n asks e) a b s t o u =
+    status_of_generated laws n a b s t (subst (λ x. AskedOutcome x a s) e o) (subst (λ x. AskedOutcome x b t) e u)
+
+-- they ask for one thing
+one_asking : Laws → (told : List ℕ → Option (List ℕ)) (words : List (List ℕ)) → AreTold told words → (a b : Asked) → IsAsked told words a → IsAsked told words b → b ≡ a
+one_asking laws told words all a b (job_asked command plan asks job is e) (job_asked another other also next of u) =
+    let same = one_plan words command another plan other asks also in
+    let here : IsJob told plan next = subst (λ n. IsJob told n next) same of in
+    let jobs : next ≡ job = one_job laws told plan (all.plan_file command plan asks) (plan_told told words command plan all asks) next job here is in
+    u ∙ ap (λ c. asked_of c next) (one_asked words command another plan other asks also) ∙ ap (λ j. asked_of command j) jobs ∙ sym e
+one_asking laws told words all a b (job_asked command plan asks job is e) (number_asked n also u) = absurd (number_or_plan words n command plan also asks)
+one_asking laws told words all a b (number_asked n asks e) (job_asked command plan also job is u) = absurd (number_or_plan words n command plan asks also)
+one_asking laws told words all a b (number_asked n asks e) (number_asked m also u) = u ∙ ap A.Generate (one_number words n m asks also) ∙ sym e
+
+-- and are not refused beside
+asked_or_refused : Laws → (told : List ℕ → Option (List ℕ)) (words : List (List ℕ)) → AreTold told words → (asked : Asked) (line : Line) → IsAsked told words asked → IsRefused told words line → ⊥
+asked_or_refused laws told words all asked line (job_asked command plan asks job is e) (words_refused none u) = none.no_plan command plan asks
+asked_or_refused laws told words all asked line (number_asked n asks e) (words_refused none u) = none.no_number n asks
+asked_or_refused laws told words all asked line (number_asked n asks e) (job_refused command plan also refusal) = number_or_plan words n command plan asks also
+asked_or_refused laws told words all asked line (job_asked command plan asks job is e) (job_refused another other also refusal) =
+    let here = subst (λ n. IsRefusal told n line) (one_plan words command another plan other asks also) refusal in
+    job_or_refusal laws told plan (all.plan_file command plan asks) (plan_told told words command plan all asks) job line is here
+
+-- refused words have one status
+status_of_refused : Laws → (told : List ℕ → Option (List ℕ)) (words : List (List ℕ)) → AreTold told words → (a b : Line) → IsRefused told words a → IsRefused told words b → refusal_status a ≡ refusal_status b
+status_of_refused laws told words all a b (words_refused none e) (words_refused same u) = ap refusal_status e ∙ sym (ap refusal_status u)
+status_of_refused laws told words all a b (words_refused none e) (job_refused command plan asks refusal) = absurd (none.no_plan command plan asks)
+status_of_refused laws told words all a b (job_refused command plan asks refusal) (words_refused none e) = absurd (none.no_plan command plan asks)
+status_of_refused laws told words all a b (job_refused command plan asks refusal) (job_refused another other also again) =
+    let here = subst (λ n. IsRefusal told n b) (one_plan words command another plan other asks also) again in
+    refusals_status laws told plan (all.plan_file command plan asks) a b refusal here
+
+one_status : Laws → (told : List ℕ → Option (List ℕ)) (words : List (List ℕ)) → AreTold told words
     → (a b : Status) (s t : List ℕ) → Outcome told words a s → Outcome told words b t → a ≡ b
-one_status laws told words all a b s t (words_no_plan n o) (words_no_plan m u) = status_of_number laws words a b s t o u
-one_status laws told words all a b s t (words_no_plan n o) (words_ask command plan is u) = absurd (n command plan is)
-one_status laws told words all a b s t (words_ask command plan is o) (words_no_plan n u) = absurd (n command plan is)
-one_status laws told words all a b s t (words_ask command plan is o) (words_ask another other also u) =
-    let P : List ℕ → Type 0 = λ p. PlanOutcome told another p b t in
-    let Q : Command → Type 0 = λ c. PlanOutcome told c plan b t in
-    let here = subst Q (one_asked words command another plan other is also) (subst P (one_plan words command another plan other is also) u) in
-    status_of_plan laws told command plan (all.plan_file command plan is) (plan_told told words command plan all is) a b s t o here
+one_status laws told words all a b s t (refusal_told line is p x) (refusal_told other also q y) = p ∙ status_of_refused laws told words all line other is also ∙ sym q
+one_status laws told words all a b s t (refusal_told line is p x) (asked_done asked asks o) = absurd (asked_or_refused laws told words all asked line asks is)
+one_status laws told words all a b s t (asked_done asked asks o) (refusal_told line is p x) = absurd (asked_or_refused laws told words all asked line asks is)
+one_status laws told words all a b s t (asked_done asked asks o) (asked_done other also u) =
+    let here = subst (λ x. AskedOutcome x b t) (one_asking laws told words all asked other asks also) u in
+    status_of_asked laws told words all asked asks a b s t o here
 
 -- an answer is the one that is due
 due : Laws → (k : Kind) (told : List ℕ → Option (List ℕ)) (words : List (List ℕ)) (Named : List ℕ → Type 0) (Boots : Type 0) (status wanted : Status) (t : Trail)

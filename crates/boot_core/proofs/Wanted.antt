@@ -1,5 +1,5 @@
 -- Where memory is wanting in a boot.
-use Rattle.std.proofs.Common.{◌≡◌, ◌⊎◌, ℕ, Bool, false, List, [], ◌++◌, Option, Result, Ok, Err, IfErr, refl, sym, subst, inl, inr}
+use Rattle.std.proofs.Common.{ℕ, Bool, false, List, Option, Result, Ok, Err, IfErr, refl, sym, subst, inl, inr}
 use Rattle.std.specs.Io.KnownBytes.{Appends}
 use Rattle.boot_io.specs.declared.halt.Halt.{Halt}
 use Rattle.boot_io.specs.declared.halt.Halt.TheVariants as H
@@ -7,19 +7,17 @@ use Rattle.boot_io.specs.Sink.{AppendsPart}
 use Rattle.boot_io.proofs.PutsLaws.{appends_none, appends_then}
 use Rattle.catalog_model.specs.declared.catalog.Catalog.{Catalog}
 use Rattle.store_model.specs.StoreState.{Board}
-use Rattle.boot_model.specs.declared.line.RunEnd.{RunEnd}
 use Rattle.boot_model.specs.PeiRun.{pei_end}
 use Rattle.boot_model.specs.Text.{text_of}
-use Rattle.pei_dispatch.specs.declared.boot.Ended.{Ended}
 use Rattle.pei_dispatch.specs.Ends.{IsWantedBefore}
 use Rattle.mem_store.specs.declared.store.MemStore.{MemStore}
 use Rattle.boot_core.specs.declared.boot_run.Ran.{Ran}
 use Rattle.boot_core.specs.declared.plan_boot.Booted.{Booted}
 use Rattle.boot_core.specs.declared.status.Status.{Status}
 use Rattle.boot_core.specs.Handing.{IsBooted}
-use Rattle.boot_core.specs.Outcome.{Begun, EndsBy, Kind, OfFiles, OfSink, OfMemory, OfAnswer, Trail, kind_of}
+use Rattle.boot_core.specs.Outcome.{EndsBy, Kind, OfFiles, OfSink, OfMemory, OfAnswer, Trail, kind_of}
 use Rattle.boot_core.specs.Running.{Texts}
-use Rattle.boot_core.specs.Wanting.{IsOutsidePei, IsWantedOutsidePei, WantsOutsidePei}
+use Rattle.boot_core.specs.Wanting.{IsWantedOutsidePei, WantsOutsidePei}
 use Rattle.boot_core.proofs.Causes.{none_of}
 use Rattle.boot_core.proofs.RunEnds.{answer_of}
 

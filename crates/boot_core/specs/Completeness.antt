@@ -4,25 +4,21 @@ use Rattle.std.specs.Prelude.{◌≡◌, ◌⊎◌, ℕ, List, Option}
 use Rattle.std.specs.Io.KnownBytes.{Appends}
 use Rattle.boot_io.specs.Faults.{Rose}
 use Rattle.boot_plan.specs.declared.plan.Plan.{Plan}
-use Rattle.boot_plan.specs.PlanText.{IsPlan}
 use Rattle.catalog_model.specs.declared.catalog.Catalog.{Catalog}
 use Rattle.catalog_model.specs.Catalogue.{IsCatalogue}
+use Rattle.plan_files.specs.Job.{IsJob}
 use Rattle.boot_core.specs.declared.command_line.Command.TheVariants.{Boot}
 use Rattle.boot_core.specs.declared.status.Status.{Status}
 use Rattle.boot_core.specs.declared.status.Status.TheVariants.{Memory}
 use Rattle.boot_core.specs.Causes.{AreTold}
 use Rattle.boot_core.specs.CommandLine.{AskFor}
-use Rattle.boot_core.specs.FileReading.{plan_limit, AreImages, IsRead}
 use Rattle.boot_core.specs.Outcome.{BootOutcome, Trail}
 
 -- the words ask for the boot of this plan, whose images have this catalogue
 pub record AskForBootOf (told : List ℕ → Option (List ℕ)) (words : List (List ℕ)) (plan : Plan) (images : List (List ℕ)) (catalog : Catalog) : Type 0 where
   pub name : List ℕ
   pub asked : AskFor words Boot name
-  pub content : List ℕ
-  pub read : IsRead (told name) plan_limit content
-  pub plan_is : IsPlan content plan
-  pub images_are : AreImages told plan.volumes images
+  pub job : IsJob told name (record { plan = plan; images = images })
   pub sound : IsCatalogue plan images catalog
 
 -- no read and no write failed

@@ -1,20 +1,22 @@
 -- What the examination of a plan's images comes to: their catalogue, or the refusal of their first fault.
 -- Own.
-use Rattle.std.specs.Prelude.{◌≡◌, ◌≤◌, ℕ, List, length}
+use Rattle.std.specs.Prelude.{◌≡◌, ◌≢◌, ◌≤◌, ℕ, List, length, ⊤}
 use Rattle.boot_plan.specs.declared.plan.Plan.{Plan}
 use Rattle.catalog_model.specs.declared.catalog.Catalog.{Catalog}
 use Rattle.catalog_model.specs.declared.image_fault.ImageFault.{ImageFault}
+use Rattle.catalog_model.specs.declared.image_fault.ImageCause.TheVariants as I
 use Rattle.catalog_model.specs.Catalogue.{IsCatalogue}
 use Rattle.catalog_model.specs.ImageFault.{IsImageFault}
 use Rattle.catalog_model.specs.WellFormed.{IsWellFormed}
+use Rattle.boot_model.specs.declared.line.Line.{Line}
 use Rattle.boot_model.specs.PlanBoard.{board_of}
+use Rattle.plan_files.specs.declared.reading.NoJob.{NoJob}
+use Rattle.plan_files.specs.declared.reading.NoJob.TheVariants.{Refused, Memory}
 use Rattle.store_model.specs.StateFacts.{IsBoard}
-use Rattle.boot_core.specs.declared.status.Status.{Status}
-use Rattle.boot_core.specs.declared.status.Status.TheVariants.{ImageRefused}
 use Rattle.fv_build.specs.Generated.{generated}
 use Rattle.pi_base.specs.Field.{AreBytes}
 use Rattle.boot_core.specs.GeneratedOutcome.{generated_images, generated_plan}
-use Rattle.boot_core.specs.Lines.{image_line}
+use Rattle.boot_core.specs.Refusing.{image_line}
 
 -- the catalogue of the images, which can be booted
 pub record IsExamined (plan : Plan) (images : List (List ℕ)) (catalog : Catalog) : Type 0 where
@@ -24,11 +26,20 @@ pub record IsExamined (plan : Plan) (images : List (List ℕ)) (catalog : Catalo
   pub board : IsBoard (board_of plan catalog images)
 
 -- the line of the first fault
-pub record ImageRefusal (plan : Plan) (images : List (List ℕ)) (status : Status) (text : List ℕ) : Type 0 where
+pub record IsImageRefusal (plan : Plan) (images : List (List ℕ)) (line : Line) : Type 0 where
   pub fault : ImageFault
   pub is : IsImageFault plan images fault
-  pub status_is : status ≡ ImageRefused
-  pub text_is : text ≡ image_line fault
+  pub line_is : line ≡ image_line fault
+
+-- why images have no catalogue: that line, or want of memory
+abbrev pub AreRefused : Plan → List (List ℕ) → NoJob → Type 0
+AreRefused plan images (Refused line) = IsImageRefusal plan images line
+AreRefused plan images Memory = ⊤
+
+-- a fault is told by its line; want of memory is none
+abbrev pub IsFaultTold : ImageFault → NoJob → Type 0
+IsFaultTold fault (Refused line) = (fault.cause ≢ I.Memory) × (line ≡ image_line fault)
+IsFaultTold fault Memory = ⊤
 
 -- a list of bytes that a file of a volume may have
 pub record IsSized (image : List ℕ) : Type 0 where

@@ -1,5 +1,5 @@
 -- What the images of a plan lead to: the refusal of their first fault, or what their catalogue leads to.
-use Rattle.std.specs.Prelude.{◌≡◌, ℕ, List, Option, Some}
+use Rattle.std.specs.Prelude.{◌≡◌, ℕ, List, Some}
 use Rattle.boot_plan.specs.declared.plan.Plan.{Plan}
 use Rattle.catalog_model.specs.declared.catalog.Catalog.{Catalog}
 use Rattle.catalog_model.specs.declared.image_fault.ImageFault.{ImageFault}
@@ -7,13 +7,14 @@ use Rattle.catalog_model.specs.Catalogue.{IsCatalogue}
 use Rattle.catalog_model.specs.ImageFault.{IsImageFault}
 use Rattle.boot_model.specs.declared.line.RunEnd.{RunEnd}
 use Rattle.boot_model.specs.PlanBoard.{board_of}
+use Rattle.boot_model.specs.Text.{line_text}
 use Rattle.boot_core.specs.declared.status.Status.{Status}
 use Rattle.boot_core.specs.declared.status.Status.TheVariants.{Done, ImageRefused}
 use Rattle.boot_core.specs.declared.command_line.Command.{Command}
 use Rattle.boot_core.specs.declared.command_line.Command.TheVariants.{Boot, Audit}
 use Rattle.boot_core.specs.AuditText.{audit_text}
 use Rattle.boot_core.specs.BootEnd.{end_of, boot_text, status_of}
-use Rattle.boot_core.specs.Lines.{image_line}
+use Rattle.boot_core.specs.Refusing.{image_line}
 
 -- what a boot leads to: its result and its whole text, by the plan's board
 pub record BootOutcome (plan : Plan) (catalog : Catalog) (images : List (List ℕ)) (status : Status) (text : List ℕ) : Type 0 where
@@ -34,5 +35,5 @@ CommandOutcome Boot plan images catalog status text = BootOutcome plan catalog i
 
 -- what images lead to, where a catalogue leads to this
 pub data ImagesOutcome (Leads : Catalog → Status → List ℕ → Type 0) (plan : Plan) (images : List (List ℕ)) (status : Status) (text : List ℕ) : Type 0 where
-  image_refused : (fault : ImageFault) → IsImageFault plan images fault → status ≡ ImageRefused → text ≡ image_line fault → ImagesOutcome Leads plan images status text
+  image_refused : (fault : ImageFault) → IsImageFault plan images fault → status ≡ ImageRefused → text ≡ line_text (image_line fault) → ImagesOutcome Leads plan images status text
   images_sound : (catalog : Catalog) → IsCatalogue plan images catalog → Leads catalog status text → ImagesOutcome Leads plan images status text

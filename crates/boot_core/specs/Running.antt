@@ -1,29 +1,26 @@
 -- What the parts of a boot leave, by their answers: their whole text, or a part of it where the sink fails or memory is wanting.
 -- Own.
-use Rattle.std.specs.Prelude.{◌≡◌, ℕ, List, [], ◌∷◌, ◌++◌, Option, Some, None, option_map, flat_map, length, Result, Ok, Err}
+use Rattle.std.specs.Prelude.{◌≡◌, ℕ, List, [], ◌++◌, Option, Some, None, option_map, Result, Ok, Err}
 use Rattle.std.specs.Io.KnownBytes.{Appends}
 use Rattle.boot_io.specs.Sink.{AppendsPart}
 use Rattle.catalog_model.specs.declared.catalog.Catalog.{Catalog}
 use Rattle.boot_model.specs.declared.line.Line.{Line}
-use Rattle.boot_model.specs.declared.line.Line.TheVariants as L
 use Rattle.boot_model.specs.declared.line.RunEnd.{RunEnd}
 use Rattle.boot_model.specs.declared.line.RunEnd.TheVariants as E
-use Rattle.boot_model.specs.BootRun.{handle_lines, dxe_result}
+use Rattle.boot_model.specs.BootRun.{dxe_result}
 use Rattle.boot_model.specs.DxeMachine.{DxeMachine}
 use Rattle.boot_model.specs.declared.phase_end.DxeEnd.{DxeEnd}
 use Rattle.boot_model.specs.DxeRun.{dxe_end}
-use Rattle.store_model.specs.HandleState.{HandleState, no_handles}
-use Rattle.store_model.specs.declared.interface.Interface.{Interface}
-use Rattle.boot_model.specs.Listing.{store_lines}
+use Rattle.store_model.specs.HandleState.{no_handles}
 use Rattle.boot_model.specs.PeiMachine.{PeiMachine}
 use Rattle.boot_model.specs.declared.phase_end.PeiEnd.{PeiEnd}
 use Rattle.boot_model.specs.declared.phase_end.PeiEnd.TheVariants.{Handoff, NoMemory, NoIpl, Spent, Deep}
 use Rattle.store_model.specs.StoreState.{StoreState, Board}
-use Rattle.boot_model.specs.Text.{line_text, text_of}
+use Rattle.boot_model.specs.Text.{text_of}
 use Rattle.boot_io.specs.declared.halt.Halt.{Halt}
 use Rattle.boot_model.specs.PeiRun.{pei_end}
 use Rattle.pei_dispatch.specs.Ends.{IsLeft}
-use Rattle.boot_end.specs.Closing.{closing, closing_text}
+use Rattle.boot_end.specs.Closing.{closing}
 use Rattle.boot_core.specs.declared.boot_run.Ran.{Ran}
 use Rattle.boot_core.specs.BootEnd.{end_after, end_of, boot_text}
 

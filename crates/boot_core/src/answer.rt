@@ -1,6 +1,6 @@
 // How a call answers whose text was put.
 ghost use Rattle.std.specs.Prelude.{◌≡◌};
-ghost use Rattle.boot_core.specs.Outcome.{status_after};
+ghost use Rattle.boot_core.specs.Refusing.{status_after};
 
 use crate::status::Status;
 use boot_io::SinkFault;

@@ -27,7 +27,7 @@ fn command_of(verb: &str) -> Option<Command>
 }
 
 /// What the words ask for, and of which plan.
-pub(crate) fn asked(words: &[String]) -> Option<(Command, &str)>
+pub(crate) fn asked_plan(words: &[String]) -> Option<(Command, &str)>
     ensures found { IfSome result (λ asked. AskFor (words_of words.now) asked.0 asked.1.now) }
     ensures none { IfNone result (NameNoPlan (words_of words.now)) }
 {

@@ -2,21 +2,25 @@
 ghost use Rattle.std.specs.Prelude.{◌≡◌, ◌≤◌, None, IfOk};
 ghost use Rattle.pi_base.specs.Field.{AreBytes};
 ghost use Rattle.boot_core.specs.Examining.{IsExamined, IsJob, IsSized};
-ghost use Rattle.boot_core.specs.GeneratedOutcome.{GeneratedOutcome, SummaryOutcome, generated_images, generated_plan};
-ghost use Rattle.boot_core.specs.Outcome.{Ends, ImagesOutcome};
+ghost use Rattle.boot_core.specs.GeneratedOutcome.{GeneratedOutcome, generated_images, generated_plan};
+ghost use Rattle.boot_core.specs.Outcome.{Ends};
+ghost use Rattle.boot_core.specs.Summing.{IsSummary, SumsUp};
 ghost use Rattle.fv_build.specs.Generated.{generated};
 
 use crate::answer::answer;
 use crate::images::examine;
 use crate::nowhere::Nowhere;
 use crate::plan_boot::boot_plan;
+use crate::refusal::refuse;
 use crate::status::{Status, status_of};
-use crate::summary::{put_summary, summary_of};
+use crate::summary::{SummaryLine, put_summary, summary_of};
 use boot_io::{Halt, Sink};
+use boot_model::RunEnd;
 use boot_plan::{Plan, PlanVolume};
 use catalog_model::Catalog;
 use fv_build::{MOST_MODULES, generate};
 use pi_base::{OutOfMemory, Seq, Span};
+use plan_files::NoJob;
 use std::alloc::Global;
 
 /// Temporary RAM of a generated volume's boot.
@@ -92,60 +96,45 @@ fn job(alloc: Global, n: u32) -> Result<(Plan, Seq<Seq<u8>>), OutOfMemory>
 {
     Ok((generated_plan(alloc)?, generated_images(alloc, n)?))
 }
-// Boots the generated volume of n modules, whose images have this catalogue, and puts the summary.
-fn boot_to_summary<S: Sink>(
+// The summary of a boot of a generated volume, and how the boot ended.
+#[derive(Drop)]
+struct Summary {
+    lines: [SummaryLine; 8],
+    end: RunEnd,
+}
+
+// Boots the generated volume of n modules, whose images have this catalogue, and sums that boot up.
+fn sum_up(
     alloc: Global,
     n: u32,
     plan: &Plan,
     catalog: &Catalog,
     images: Seq<Seq<u8>>,
-    sink: &mut S,
-) -> Status
+) -> Result<Summary, OutOfMemory>
     requires job { IsJob n plan.now images }
     requires examined { IsExamined plan.now images catalog.now }
-    ensures { Ends (SummaryOutcome n catalog.now) (λ _. ⊥) ⊥ result (record {
-      old = S.text sink.old;
-      new = S.text sink.new;
-      sink_before = S.faults sink.old;
-      sink_now = S.faults sink.new;
-      files_before = 0;
-      files_now = 0;
-      missed = None;
-    }) }
+    ensures { IfOk result (IsSummary n catalog.now) }
 {
     match boot_plan(alloc, plan, catalog, images, &mut Nowhere) {
-        Ok(ran) => {
-            let put = put_summary(sink, &summary_of(n, &ran.pei, ran.end));
-            answer(put, status_of(ran.end))
-        }
+        Ok(ran) => Ok(Summary {
+            lines: summary_of(n, &ran.pei, ran.end),
+            end: ran.end,
+        }),
         Err(Halt::Sink) => unreachable!(),
-        Err(Halt::Memory) => Status::Memory,
+        Err(Halt::Memory) => Err(OutOfMemory),
     }
 }
 
-// Examines the generated volume of n modules, and then boots it.
-fn boot_examined<S: Sink>(
-    alloc: Global,
-    n: u32,
-    plan: &Plan,
-    images: Seq<Seq<u8>>,
-    sink: &mut S,
-) -> Status
-    requires { IsJob n plan.now images }
-    ensures { Ends (ImagesOutcome (SummaryOutcome n) generated_plan (generated_images n)) (λ _. ⊥) ⊥ result (record {
-      old = S.text sink.old;
-      new = S.text sink.new;
-      sink_before = S.faults sink.old;
-      sink_now = S.faults sink.new;
-      files_before = 0;
-      files_now = 0;
-      missed = None;
-    }) }
+// Examines the generated volume of n modules, and then boots it and sums that boot up.
+fn summarize(alloc: Global, n: u32) -> Result<Summary, NoJob>
+    requires some { 1 ≤ n }
+    requires most { n ≤ MOST_MODULES }
+    ensures { SumsUp n result }
 {
-    match examine(alloc, plan, images.as_slice(), sink) {
-        Ok(catalog) => boot_to_summary(alloc, n, plan, &catalog, images, sink),
-        Err(status) => status,
-    }
+    let (plan, images) = job(alloc, n)?;
+    let catalog = examine(alloc, &plan, images.as_slice())?;
+    let summary = sum_up(alloc, n, &plan, &catalog, images)?;
+    Ok(summary)
 }
 
 /// Boots the generated volume of n modules, and puts the summary of the boot in place of its lines.
@@ -162,8 +151,11 @@ pub(crate) fn boot_generated<S: Sink>(alloc: Global, n: u32, sink: &mut S) -> St
       missed = None;
     }) }
 {
-    match job(alloc, n) {
-        Ok((plan, images)) => boot_examined(alloc, n, &plan, images, sink),
-        Err(OutOfMemory) => Status::Memory,
+    match summarize(alloc, n) {
+        Ok(summary) => {
+            let put = put_summary(sink, &summary.lines);
+            answer(put, status_of(summary.end))
+        }
+        Err(no_catalog) => refuse(no_catalog, sink),
     }
 }

@@ -2,65 +2,53 @@
 ghost use Rattle.std.specs.Prelude.{◌≡◌, ◌≤◌, None, All, IfOk, IfErr, length, ⊤};
 ghost use Rattle.boot_plan.specs.Range.{IsPlanInRange};
 ghost use Rattle.boot_core.specs.declared.command_line.Command.TheVariants.{Audit, Boot};
-ghost use Rattle.boot_core.specs.Examining.{ImageRefusal, IsExamined};
+ghost use Rattle.boot_core.specs.Examining.{AreRefused, IsExamined, IsFaultTold};
 ghost use Rattle.boot_core.specs.Handing.{HandsBackOf};
-ghost use Rattle.boot_core.specs.Outcome.{CommandOutcome, Ends, ImagesOutcome, IsUntouched, kind_of};
+ghost use Rattle.boot_core.specs.Outcome.{CommandOutcome, Ends, ImagesOutcome, kind_of};
 ghost use Rattle.boot_core.specs.Wanting.{IsWantedOutsidePeiOf};
 
 use crate::answer::answer;
 use crate::audit_print::put_audit;
 use crate::plan_boot::{Booted, boot_catalog};
-use crate::refusal_print::put_image_refusal;
+use crate::refusal::refuse;
 use crate::status::Status;
 use boot_io::Sink;
 use boot_laws::boards_are_sound;
+use boot_model::Line;
 use boot_plan::Plan;
-use catalog_model::{Catalog, ImageCause, catalogues_are_well_formed, one_catalogue};
+use catalog_model::{Catalog, ImageCause, ImageFault, catalogues_are_well_formed, one_catalogue};
 use mod_catalog::catalog;
 use pi_base::Seq;
+use plan_files::NoJob;
 use std::alloc::Global;
 
-/// The catalogue of a plan's images. Where they have a fault its line is put, and its status is the answer.
-pub fn examine<S: Sink>(
-    alloc: Global,
-    plan: &Plan,
-    images: &[Seq<u8>],
-    sink: &mut S,
-) -> Result<Catalog, Status>
+// The refusal of an image, or want of memory.
+fn refusal_of(fault: ImageFault) -> NoJob
+    ensures { IsFaultTold fault result }
+{
+    if fault.cause == ImageCause::Memory {
+        return NoJob::Memory;
+    }
+    NoJob::Refused(Line::RefusedImage {
+        volume: fault.volume,
+        at: fault.at,
+        cause: fault.cause,
+    })
+}
+
+/// The catalogue of a plan's images, or the refusal of their first fault.
+pub fn examine(alloc: Global, plan: &Plan, images: &[Seq<u8>]) -> Result<Catalog, NoJob>
     requires in_range { IsPlanInRange plan.now }
     requires as_many { length images.now ≡ length plan.now.volumes }
     requires short { All (λ image. length image ≤ 0x4000000) images.now }
     ensures found { IfOk result (IsExamined plan.now images.now) }
-    ensures untouched { IfOk result (λ _. IsUntouched (record {
-      old = S.text sink.old;
-      new = S.text sink.new;
-      sink_before = S.faults sink.old;
-      sink_now = S.faults sink.new;
-      files_before = 0;
-      files_now = 0;
-      missed = None;
-    })) }
-    ensures refused { IfErr result (λ status. Ends (ImageRefusal plan.now images.now) (λ _. ⊥) ⊥ status (record {
-      old = S.text sink.old;
-      new = S.text sink.new;
-      sink_before = S.faults sink.old;
-      sink_now = S.faults sink.new;
-      files_before = 0;
-      files_now = 0;
-      missed = None;
-    })) }
+    ensures refused { IfErr result (AreRefused plan.now images.now) }
 {
     boards_are_sound();
     catalogues_are_well_formed();
     match catalog(alloc, plan, images) {
         Ok(catalog) => Ok(catalog),
-        Err(fault) => {
-            if fault.cause == ImageCause::Memory {
-                return Err(Status::Memory);
-            }
-            let put = put_image_refusal(sink, fault);
-            Err(answer(put, Status::ImageRefused))
-        }
+        Err(fault) => Err(refusal_of(fault)),
     }
 }
 
@@ -89,10 +77,10 @@ pub fn boot_images<S: Sink>(
     ensures store { HandsBackOf plan.now images result }
 {
     one_catalogue();
-    match examine(alloc, plan, images.as_slice(), sink) {
+    match examine(alloc, plan, images.as_slice()) {
         Ok(catalog) => boot_catalog(alloc, plan, &catalog, images, sink),
-        Err(status) => Booted {
-            status,
+        Err(no_catalog) => Booted {
+            status: refuse(no_catalog, sink),
             store: None,
         },
     }
@@ -118,11 +106,11 @@ pub(crate) fn audit_images<S: Sink>(
       missed = None;
     }) }
 {
-    match examine(alloc, plan, images, sink) {
+    match examine(alloc, plan, images) {
         Ok(catalog) => {
             let put = put_audit(sink, &catalog);
             answer(put, Status::Done)
         }
-        Err(status) => status,
+        Err(no_catalog) => refuse(no_catalog, sink),
     }
 }

@@ -1,11 +1,11 @@
-use Rattle.std.proofs.Common.{◌≡◌, ℕ, List, Some, subst, sym}
+use Rattle.std.proofs.Common.{ℕ, List, subst, sym}
 use Rattle.std.specs.Io.KnownBytes.{Appends}
 use Rattle.boot_io.specs.Sink.{AppendsPart}
 use Rattle.boot_io.proofs.PutsLaws.{appends_then, part_then}
 use Rattle.std.proofs.lemmas.Result.{err_from_is_err_and}
 use Rattle.boot_model.specs.PeiRun.{pei_end}
 use Rattle.boot_model.specs.Text.{text_of}
-use Rattle.boot_core.specs.BootEnd.{end_after, end_of, boot_text}
+use Rattle.boot_core.specs.BootEnd.{boot_text}
 use Rattle.boot_core.specs.Running.{text_behind}
 use Rattle.boot_core.proofs.BootTexts.{boot_is, end_is}
 use Rattle.boot_core.proofs.Telling.{part_in}

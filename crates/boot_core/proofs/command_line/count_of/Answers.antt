@@ -1,4 +1,4 @@
-use Rattle.std.proofs.Common.{◌≡◌, ℕ, ◌<◌, ◌^◌, Result, Ok, arith, sym, ◌∙◌, subst, true≢false}
+use Rattle.std.proofs.Common.{◌≡◌, arith, sym, ◌∙◌, subst, true≢false}
 use Rattle.std.proofs.lemmas.Fmt.{parse-decimal}
 use Rattle.boot_core.specs.CommandLine.{IsCount}
 use Rattle.boot_core.proofs.command_line.count_of.Goals as goal

@@ -1,14 +1,21 @@
-use Rattle.std.proofs.Common.{None, refl}
-use Rattle.boot_core.specs.GeneratedOutcome.{GeneratedOutcome, SummaryOutcome, generated_images, generated_plan}
-use Rattle.boot_core.specs.Outcome.{ImagesOutcome, kind_of}
-use Rattle.boot_core.proofs.Ending.{ends_after}
+use Rattle.std.proofs.Common.{◌∙◌, ap, refl}
+use Rattle.boot_core.specs.BootEnd.{status_of}
+use Rattle.boot_core.specs.GeneratedOutcome.{GeneratedOutcome, summary_text}
+use Rattle.boot_core.specs.Refusing.{status_after}
+use Rattle.boot_core.specs.Summing.{IsGeneratedRefusal}
+use Rattle.boot_core.proofs.Ending.{answer_ends, refused_ends}
+use Rattle.boot_core.proofs.RunEnds.{answer_of}
+use Rattle.boot_core.proofs.Summed.{due_of_generated, lacks_of_summed, outcome_of}
 use Rattle.boot_core.proofs.generated.boot_generated.Goals as goal
 
 pub returns-in-Ok : goal.returns-in-Ok
 returns-in-Ok g c =
-    let T = g.S.Sink.text in
-    let N = g.S.Sink.faults in
     let n = c.args.n in
-    ends_after (kind_of c.boot_examined.result) (ImagesOutcome (SummaryOutcome n) generated_plan (generated_images n)) (GeneratedOutcome n) (λ _. ⊥) (λ _. ⊥) ⊥ ⊥ c.boot_examined.result
-    (T c.args.sink.now) (T c.args.sink.now) (T c.boot_examined.new.sink) (N c.args.sink.now) (N c.args.sink.now) (N c.boot_examined.new.sink) 0 0 0 None
-    (λ s t o. record { of_bytes = c.in-Ok.ensures.sized.of_bytes; leads = o }) (λ m e. e) (λ b. b) refl refl refl c.boot_examined.ensures
+    let summary = c.in-Ok.summary in
+    answer_ends c.put_summary-put.result (GeneratedOutcome n) (λ _. ⊥) ⊥ (status_of summary.«end») c.answer.result (summary_text summary.lines) _
+    (c.answer.ensures ∙ ap (status_after c.put_summary-put.result) c.status_of.ensures) (answer_of summary.«end») (outcome_of n summary c.in-Ok.ensures) refl c.put_summary-put.ensures.text c.put_summary-put.ensures.cause
+
+pub returns-in-Err : goal.returns-in-Err
+returns-in-Err g c =
+    let n = c.args.n in
+    refused_ends c.in-Err.no_catalog (IsGeneratedRefusal n) (GeneratedOutcome n) (λ _. ⊥) ⊥ c.refuse.result _ (due_of_generated n) (lacks_of_summed n c.in-Err.no_catalog c.in-Err.ensures) c.refuse.ensures

@@ -1,5 +1,3 @@
-use Rattle.std.proofs.lemmas.Result.{err_from_is_err_and}
-use Rattle.boot_core.proofs.Wanted.{at_once}
 use Rattle.boot_core.proofs.plan_boot.boot_board.Goals as goal
 
 pub returns-clause-row : goal.returns-clause-row

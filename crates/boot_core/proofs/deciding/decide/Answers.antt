@@ -1,0 +1,27 @@
+use Rattle.std.proofs.Common.{refl, sym, subst}
+use Rattle.std.proofs.lemmas.Result.{err_from_is_err_and}
+use Rattle.plan_files.specs.Job.{IsNamed, IsRefusal}
+use Rattle.plan_files.specs.Reading.{FilesTrail, Lacks}
+use Rattle.boot_core.specs.CommandLine.{words_of}
+use Rattle.boot_core.specs.Deciding.{IsRefused, Names, job_asked, job_refused, number_asked}
+use Rattle.boot_core.proofs.Asking.{lacks_up}
+use Rattle.boot_core.proofs.deciding.decide.Goals as goal
+
+pub returns-in_err-job-clause-row : goal.returns-in_err-job-clause-row
+returns-in_err-job-clause-row g c =
+    let told = g.F.Files.told c.args.files.now in
+    let words = words_of c.args.words.now in
+    let command = c.in-Some.command in
+    let plan = c.in-Some.plan.now in
+    let asks = c.in-Some.ensures.found in
+    let t : FilesTrail = record { before = g.F.Files.faults c.args.files.now; now = g.F.Files.faults c.read_job.new.files; missed = g.F.Files.missed c.read_job.new.files } in
+    let p = err_from_is_err_and c.from_residual.result c.from_residual.ensures.1 in
+    rw p.1 (subst (Lacks (IsRefused told words) (Names told words) t) (sym p.2)
+    (lacks_up (IsRefusal told plan) (IsRefused told words) (IsNamed told plan) (Names told words) t c.in_err-job.field-0.0 (λ line r. job_refused command plan asks r) (λ name n. (command, plan, asks, n)) c.in_err-job.ensures.row))
+
+pub returns-in-Some-clause-row : goal.returns-in-Some-clause-row
+returns-in-Some-clause-row g c =
+    (job_asked c.in-Some.command c.in-Some.plan.now c.in-Some.ensures.found c.in_ok-job.job c.in_ok-job.ensures.row.0 c.asked_of.ensures.asked, c.in_ok-job.ensures.row.1)
+
+pub returns-in-Some-asked_number-clause-row : goal.returns-in-Some-asked_number-clause-row
+returns-in-Some-asked_number-clause-row g c = (number_asked c.in-Some-asked_number.number c.in-Some-asked_number.ensures.found refl, refl)
