@@ -1,6 +1,5 @@
 // A boot over a store that is as it was made.
 ghost use Rattle.std.specs.Prelude.{◌≡◌, ◌≤◌, ◌<◌, ◌^◌, IfErr, length};
-ghost use Rattle.boot_model.specs.BootRun.{dxe_result};
 ghost use Rattle.boot_model.specs.PeiMachine.{PeiMachine};
 ghost use Rattle.store_model.specs.Service.{Present, OfEach};
 ghost use Rattle.store_model.specs.StoreCall.{Anything};
@@ -12,9 +11,9 @@ ghost use Rattle.boot_core.specs.Running.{BootsDxe, IsEndOf, RunsTo, Tells, Tell
 ghost use Rattle.boot_core.specs.Wanting.{WantsOutsidePei};
 ghost use Rattle.boot_io.specs.Halted.{HaltsAfter};
 
-use boot_end::put_closing;
+use boot_end::{put_closing, result_of};
 use boot_io::{Halt, Sink};
-use boot_model::{DxeEnd, PeiEnd, RunEnd};
+use boot_model::{PeiEnd, RunEnd};
 use catalog_model::Catalog;
 use dxe_dispatch::boot_dxe;
 use dxe_handles::Handles;
@@ -37,17 +36,6 @@ fn close<M: PeiStore, S: Sink>(
 {
     put_closing(sink, store, handles, end)?;
     Ok(end)
-}
-
-// The result of a boot whose DXE ended so.
-fn result_of(end: DxeEnd) -> RunEnd
-    ensures { result ≡ dxe_result end }
-{
-    match end {
-        DxeEnd::Done => RunEnd::Done,
-        DxeEnd::Spent => RunEnd::Spent,
-        DxeEnd::Deep => RunEnd::Deep,
-    }
 }
 
 // DXE behind the hand-off, to the last line.

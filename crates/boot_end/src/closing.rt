@@ -3,15 +3,27 @@ ghost use Rattle.std.specs.Prelude.{◌≡◌, ◌<◌, ◌^◌, flat_map, lengt
 ghost use Rattle.boot_io.specs.Sink.{Puts, SinkFaultsAfter};
 ghost use Rattle.store_model.specs.Service.{Present, OfEach};
 ghost use Rattle.store_model.specs.StoreCall.{Anything};
+ghost use Rattle.boot_model.specs.BootRun.{dxe_result};
 ghost use Rattle.boot_model.specs.Listing.{store_lines};
 ghost use Rattle.boot_model.specs.Text.{text_of};
 ghost use Rattle.boot_end.specs.Closing.{interface_text, result_text, closing_text};
 
 use boot_io::{Sink, SinkFault};
-use boot_model::{Line, RunEnd};
+use boot_model::{DxeEnd, Line, RunEnd};
 use boot_trace::{Out, put};
 use dxe_handles::Handles;
 use store_model::{Interface, PeiStore};
+
+/// The result of a boot whose DXE ended so.
+pub fn result_of(end: DxeEnd) -> RunEnd
+    ensures { result ≡ dxe_result end }
+{
+    match end {
+        DxeEnd::Done => RunEnd::Done,
+        DxeEnd::Spent => RunEnd::Spent,
+        DxeEnd::Deep => RunEnd::Deep,
+    }
+}
 
 // The lists of a store: its PPIs, notifications, queued pairs and HOBs.
 fn put_store_lists<M: PeiStore, S: Sink>(sink: &mut S, store: &M) -> Result<(), SinkFault>

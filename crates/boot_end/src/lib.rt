@@ -3,4 +3,4 @@
 
 mod closing;
 
-pub use closing::put_closing;
+pub use closing::{put_closing, result_of};
