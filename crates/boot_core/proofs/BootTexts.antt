@@ -20,28 +20,9 @@ use Rattle.boot_model.specs.PeiRun.{pei_end}
 use Rattle.store_model.specs.StoreState.{StoreState, Board}
 use Rattle.boot_model.specs.Text.{line_text, text_of}
 use Rattle.boot_core.specs.BootEnd.{boot_text, end_of, end_after}
-use Rattle.boot_core.specs.Running.{closing, closing_text, interface_text, result_text, dxe_behind, behind, dxe_text, text_behind, IsResult}
-
--- the lines of interfaces
-interfaces_are : (interfaces : List Interface) → text_of (map (λ i. L.Handle i.handle i.guid i.value) interfaces) ≡ flat_map interface_text interfaces
-unfolding interface_text
-interfaces_are [] = refl
-interfaces_are (i ∷ is) = ap (λ rest. line_text (L.Handle i.handle i.guid i.value) ++ rest) (interfaces_are is)
-
--- the lines of the handles and of the result
-result_is : (handles : HandleState) (end : RunEnd) → text_of (handle_lines handles ++ L.Result end ∷ []) ≡ result_text handles end
-unfolding result_text
-result_is handles end =
-    let lines = map (λ i. L.Handle i.handle i.guid i.value) handles.interfaces in
-    let count = line_text (L.Handles (length handles.interfaces)) in
-    ap (λ rest. count ++ rest) (flat_map-append line_text lines (L.Result end ∷ []) ∙ ap (λ text. text ++ text_of (L.Result end ∷ [])) (interfaces_are handles.interfaces)
-    ∙ ap (λ text. flat_map interface_text handles.interfaces ++ text) (append-nil (line_text (L.Result end))))
-
--- the last lines
-closing_is : (s : StoreState) (handles : HandleState) (end : RunEnd) → text_of (closing s handles end) ≡ closing_text s handles end
-closing_is s handles end =
-    ap text_of (append_assoc (store_lines s) (handle_lines handles) (L.Result end ∷ []))
-    ∙ flat_map-append line_text (store_lines s) (handle_lines handles ++ L.Result end ∷ []) ∙ ap (λ text. text_of (store_lines s) ++ text) (result_is handles end)
+use Rattle.boot_end.specs.Closing.{closing, closing_text}
+use Rattle.boot_end.proofs.ClosingTexts.{closing_is}
+use Rattle.boot_core.specs.Running.{dxe_behind, behind, dxe_text, text_behind, IsResult}
 
 -- a DXE that ended so with these handles, and one that has any end
 pub dxe_closed : (s : StoreState) (dxe : DxeMachine) (how : DxeEnd) (handles : HandleState) → dxe.ended ≡ Some how → dxe.handles ≡ handles

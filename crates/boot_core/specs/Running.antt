@@ -23,6 +23,7 @@ use Rattle.boot_model.specs.Text.{line_text, text_of}
 use Rattle.boot_io.specs.declared.halt.Halt.{Halt}
 use Rattle.boot_model.specs.PeiRun.{pei_end}
 use Rattle.pei_dispatch.specs.Ends.{IsLeft}
+use Rattle.boot_end.specs.Closing.{closing, closing_text}
 use Rattle.boot_core.specs.declared.boot_run.Ran.{Ran}
 use Rattle.boot_core.specs.BootEnd.{end_after, end_of, boot_text}
 
@@ -35,22 +36,6 @@ pub record Texts : Type 0 where
 abbrev pub Tells : {A : Type 0} → (A → Type 0) → List ℕ → Texts → Result A Halt → Type 0
 Tells Is text t (Ok answer) = Is answer × Appends t.old t.new text
 Tells Is text t (Err halt) = AppendsPart t.old t.new text
-
--- the last lines over a store
-abbrev pub closing : StoreState → HandleState → RunEnd → List Line
-closing s handles end = store_lines s ++ handle_lines handles ++ L.Result end ∷ []
-
--- the text of an interface
-unfoldable pub interface_text : Interface → List ℕ
-interface_text i = line_text (L.Handle i.handle i.guid i.value)
-
--- the text of the handles and of the result
-unfoldable pub result_text : HandleState → RunEnd → List ℕ
-result_text handles end = line_text (L.Handles (length handles.interfaces)) ++ (flat_map interface_text handles.interfaces ++ line_text (L.Result end))
-
--- the text of the last lines, over a store
-abbrev pub closing_text : StoreState → HandleState → RunEnd → List ℕ
-closing_text s handles end = text_of (store_lines s) ++ result_text handles end
 
 -- the lines behind the hand-off
 abbrev pub dxe_behind : StoreState → DxeMachine → Option DxeEnd → List Line

@@ -1,5 +1,5 @@
 // A boot over a store that is as it was made.
-ghost use Rattle.std.specs.Prelude.{◌≡◌, ◌≤◌, IfErr, length};
+ghost use Rattle.std.specs.Prelude.{◌≡◌, ◌≤◌, ◌<◌, ◌^◌, IfErr, length};
 ghost use Rattle.boot_model.specs.BootRun.{dxe_result};
 ghost use Rattle.boot_model.specs.PeiMachine.{PeiMachine};
 ghost use Rattle.store_model.specs.Service.{Present, OfEach};
@@ -7,11 +7,12 @@ ghost use Rattle.store_model.specs.StoreCall.{Anything};
 ghost use Rattle.store_model.specs.HandleState.{no_handles};
 ghost use Rattle.store_model.specs.StoreState.{Board, empty_store};
 ghost use Rattle.catalog_model.specs.WellFormed.{IsWellFormed};
-ghost use Rattle.boot_core.specs.Running.{BootsDxe, IsEndOf, RunsTo, Tells, TellsBehind, closing_text};
+ghost use Rattle.boot_end.specs.Closing.{closing_text};
+ghost use Rattle.boot_core.specs.Running.{BootsDxe, IsEndOf, RunsTo, Tells, TellsBehind};
 ghost use Rattle.boot_core.specs.Wanting.{WantsOutsidePei};
 ghost use Rattle.boot_io.specs.Halted.{HaltsAfter};
 
-use crate::closing::close;
+use boot_end::put_closing;
 use boot_io::{Halt, Sink};
 use boot_model::{DxeEnd, PeiEnd, RunEnd};
 use catalog_model::Catalog;
@@ -20,6 +21,23 @@ use dxe_handles::Handles;
 use pei_dispatch::{Ended, boot_pei};
 use std::alloc::Global;
 use store_model::PeiStore;
+
+// Puts the last lines, and answers the result.
+fn close<M: PeiStore, S: Sink>(
+    store: &M,
+    handles: &Handles,
+    end: RunEnd,
+    sink: &mut S,
+) -> Result<RunEnd, Halt>
+    requires state { Present (M.stands_for store.now) Anything }
+    requires few { length handles.now.interfaces < 2 ^ 32 }
+    ensures row { OfEach (M.stands_for store.now) Anything (λ s. Tells (λ answer. answer ≡ end) (closing_text s handles.now end)
+        (record { old = S.text sink.old; new = S.text sink.new }) result) }
+    ensures faults { HaltsAfter result (S.faults sink.old) (S.faults sink.new) }
+{
+    put_closing(sink, store, handles, end)?;
+    Ok(end)
+}
 
 // The result of a boot whose DXE ended so.
 fn result_of(end: DxeEnd) -> RunEnd

@@ -10,7 +10,6 @@ ghost use Rattle.boot_core.specs.Running.{RunsTo};
 ghost use Rattle.boot_core.specs.Wanting.{IsWantedOutsidePei, WantsOutsidePei};
 ghost use Rattle.boot_io.specs.Halted.{HaltsAfter};
 
-use crate::board::roms;
 use crate::boot_run::{Ran, boot_store};
 use crate::status::{Status, status_of};
 use boot_io::{Halt, Sink};
@@ -20,6 +19,7 @@ use catalog_model::Catalog;
 use mem_store::MemStore;
 use phys_mem::Rom;
 use pi_base::Seq;
+use plan_board::roms;
 use std::alloc::Global;
 
 /// What a boot answers.

@@ -6,12 +6,13 @@ ghost use Rattle.boot_model.specs.PlanBoard.{board_of};
 ghost use Rattle.catalog_model.specs.WellFormed.{IsWellFormed};
 ghost use Rattle.boot_core.specs.Running.{RunsTo};
 
-use boot_core::{Ran, boot_store, roms};
+use boot_core::{Ran, boot_store};
 use boot_io::{Halt, Sink};
 use boot_plan::Plan;
 use catalog_model::Catalog;
 use phys_mem::Rom;
 use pi_base::Seq;
+use plan_board::roms;
 use std::alloc::Global;
 use store_plain::PlainStore;
 

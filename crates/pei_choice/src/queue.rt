@@ -1,7 +1,8 @@
 //! The parts of PEI that wait, and the next PEIM.
-ghost use Rattle.std.specs.Prelude.{◌≡◌, ◌≤◌, ◌+◌, ◌∷◌, [], IfOk, length};
+ghost use Rattle.std.specs.Prelude.{◌≡◌, ◌≤◌, ◌+◌, ◌∷◌, [], true, false, Some, IfOk, length, slice_get};
 ghost use Rattle.catalog_model.specs.declared.catalog.Catalog.{Catalog as OfCatalog};
 ghost use Rattle.catalog_model.specs.declared.limits.TheConstants.{MOST_MODULES};
+ghost use Rattle.catalog_model.specs.Parts.{has_number};
 ghost use Rattle.catalog_model.specs.WellFormed.{IsWellFormed};
 ghost use Rattle.boot_model.specs.PeiChoice.{cursor_behind, next_peim, pei_order, volume_order};
 ghost use Rattle.boot_model.specs.PeiMachine.{PeiMachine};
@@ -76,6 +77,21 @@ impl PeiQueue {
         };
         self.index.started(place as usize);
         self.cursor = place as usize + 1;
+    }
+
+    /// The cursor comes to stand before a part, so that this part is looked at first. Where the part is not in the order, the cursor stays.
+    pub fn aim(&mut self, number: u32)
+        requires { (catalog : OfCatalog) × (view : View) × Shows catalog self.old view }
+        ensures shows { (catalog : OfCatalog) (view : View) → Shows catalog self.old view → Shows catalog self.new view }
+        ensures parts { parts_in self.new ≡ parts_in self.old }
+        ensures owed { owed_by self.new ≡ owed_by self.old }
+        ensures within { self.old.cursor ≤ length (parts_in self.old) → self.new.cursor ≤ length (parts_in self.old) }
+        ensures cursor { has_number (parts_in self.old) number ≡ true → slice_get (parts_in self.old) self.new.cursor ≡ Some number }
+        ensures stays { has_number (parts_in self.old) number ≡ false → self.new.cursor ≡ self.old.cursor }
+    {
+        if let Some(place) = self.index.place_of(number) {
+            self.cursor = place as usize;
+        }
     }
 
     // A part that has started may start again.

@@ -126,10 +126,11 @@ fn choices(alloc: Global) -> Result<Catalog, OutOfMemory>
     Ok(Catalog { volumes, modules })
 }
 
-// The PEIM that comes first, over a queue of which every call is made.
+// The PEIM that comes first where the cursor is put before a part, over a queue of which every call is made.
 fn first_of<L: Ledger>(
     alloc: Global,
     catalog: &Catalog,
+    aimed: u32,
     blank: Blank,
 ) -> Result<Option<u32>, OutOfMemory>
     requires name { blank.name ≡ L.name }
@@ -140,6 +141,7 @@ fn first_of<L: Ledger>(
     let mut queue = PeiQueue::build(alloc, catalog)?;
     queue.report(catalog, &[0]);
     let mut steps = Steps::<L>::new(blank);
+    queue.aim(aimed);
     let first = queue.choose(catalog, &mut steps);
     queue.again(&[]);
     queue.changed(&[INSTALLED], None, false);
@@ -149,7 +151,15 @@ fn first_of<L: Ledger>(
 #[test]
 fn an_a_priori_part_comes_first(rt: HostRuntime) -> Result<(), Fail> {
     let catalog = choices(rt.alloc()).ok().ok_or("there is memory")?;
-    let first = first_of::<Brand>(rt.alloc(), &catalog, Blank::new(1));
+    let first = first_of::<Brand>(rt.alloc(), &catalog, 5, Blank::new(1));
     assert!(rt; first == Ok(Some(3)));
+    Ok(())
+}
+
+#[test]
+fn the_part_behind_the_cursor_comes_first(rt: HostRuntime) -> Result<(), Fail> {
+    let catalog = choices(rt.alloc()).ok().ok_or("there is memory")?;
+    let first = first_of::<Brand>(rt.alloc(), &catalog, 0, Blank::new(1));
+    assert!(rt; first == Ok(Some(0)));
     Ok(())
 }

@@ -17,7 +17,7 @@ use Rattle.boot_model.specs.Text.{line_text, text_of}
 use Rattle.pei_action.specs.declared.guids.Changes.{Changes}
 use Rattle.pei_core.specs.declared.event.Stepped.{Stepped}
 use Rattle.pei_core.specs.Parts.{Goal, GoesTo, Reaches}
-use Rattle.pei_core.specs.Steps.{HasStepped, StartsTo, StepsTo}
+use Rattle.pei_core.specs.Steps.{HasStepped, IsIdle, StartsTo, StepsTo}
 use Rattle.boot_model.specs.PeiStep.{pei_step}
 use Rattle.pei_core.specs.Turn.{Texts, Printed, PrintedPart}
 
@@ -82,8 +82,8 @@ is_sink : {A : Type 0} (r : Result A Halt) → IsErrAnd r (λ halt. halt ≡ H.S
 is_sink (Ok a) h = absurd h
 is_sink (Err halt) h = ap Err h
 
-pub steps_fail : (memory : Bool) (Stands : PeiMachine → Type 0) (catalog : Catalog) (fuel : ℕ) (m : PeiMachine) (t : Texts) (r : Result Stepped Halt) → IsErrAnd r (λ halt. halt ≡ H.Sink) → PrintedPart m (pei_step catalog fuel m) t → StepsTo memory Stands catalog fuel m t r
-steps_fail memory Stands catalog fuel m t r h part = subst (λ x. StepsTo memory Stands catalog fuel m t x) (sym (is_sink r h)) part
+pub steps_fail : (memory : Bool) (Stands : PeiMachine → Type 0) (catalog : Catalog) (fuel : ℕ) (m : PeiMachine) (t : Texts) (r : Result Stepped Halt) → IsErrAnd r (λ halt. halt ≡ H.Sink) → (IsIdle m → ⊥) → PrintedPart m (pei_step catalog fuel m) t → StepsTo memory Stands catalog fuel m t r
+steps_fail memory Stands catalog fuel m t r h busy part = subst (λ x. StepsTo memory Stands catalog fuel m t x) (sym (is_sink r h)) (busy, part)
 
 pub goes_fail : (memory : Bool) (Stands : PeiMachine → Type 0) (m : PeiMachine) (goal : Goal) (t : Texts) (r : Result Changes Halt) → IsErrAnd r (λ halt. halt ≡ H.Sink) → PrintedPart m goal.to t → GoesTo memory Stands m goal t r
 goes_fail memory Stands m goal t r h part = subst (λ x. GoesTo memory Stands m goal t x) (sym (is_sink r h)) part
@@ -103,10 +103,10 @@ puts_to (Err fault) Stands m later told old new lines puts machine = record { to
 
 -- a part that failed behind lines that were put
 pub goes_on : (halt : Halt) (memory : Bool) (Standing Stands : PeiMachine → Type 0) (catalog : Catalog) (fuel : ℕ) (m mid : PeiMachine) (goal : Goal) (told : List Line) (old now new : Option (List ℕ)) (r : Result Stepped Halt)
-    → r ≡ Err halt → pei_step catalog fuel m ≡ goal.to → mid.lines ≡ m.lines ++ told → Appends old now (text_of told) → GoesTo memory Standing mid goal (texts now new) (Err halt) → StepsTo memory Stands catalog fuel m (texts old new) r
-goes_on H.Sink memory Standing Stands catalog fuel m mid goal told old now new r e to lines f part =
-    subst (λ x. StepsTo memory Stands catalog fuel m (texts old new) x) (sym e) (subst (λ x. PrintedPart m x (texts old new)) (sym to) (part_after m mid goal.to told old now new lines f part))
-goes_on H.Memory memory Standing Stands catalog fuel m mid goal told old now new r e to lines f part =
+    → r ≡ Err halt → (IsIdle m → ⊥) → pei_step catalog fuel m ≡ goal.to → mid.lines ≡ m.lines ++ told → Appends old now (text_of told) → GoesTo memory Standing mid goal (texts now new) (Err halt) → StepsTo memory Stands catalog fuel m (texts old new) r
+goes_on H.Sink memory Standing Stands catalog fuel m mid goal told old now new r e busy to lines f part =
+    subst (λ x. StepsTo memory Stands catalog fuel m (texts old new) x) (sym e) (busy, subst (λ x. PrintedPart m x (texts old new)) (sym to) (part_after m mid goal.to told old now new lines f part))
+goes_on H.Memory memory Standing Stands catalog fuel m mid goal told old now new r e busy to lines f part =
     subst (λ x. StepsTo memory Stands catalog fuel m (texts old new) x) (sym e) (part.0, subst (λ x. PrintedPart m x (texts old new)) (sym to) (part_after m mid goal.to told old now new lines f part.1))
 
 -- an event that leads elsewhere only in name

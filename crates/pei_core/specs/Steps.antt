@@ -70,7 +70,7 @@ abbrev pub StepsTo : Bool → (PeiMachine → Type 0) → Catalog → ℕ → Pe
 StepsTo memory Stands catalog fuel m t (Ok (Went event)) = (IsIdle m → ⊥) × IsEvent catalog fuel m event × HasStepped Stands m (pei_step catalog fuel m) t
 StepsTo memory Stands catalog fuel m t (Ok Idle) = IsIdle m × HasStayed Stands m t
 StepsTo memory Stands catalog fuel m t (Ok (Ended end)) = HasEnded Stands catalog fuel m end t
-StepsTo memory Stands catalog fuel m t (Err H.Sink) = PrintedPart m (pei_step catalog fuel m) t
+StepsTo memory Stands catalog fuel m t (Err H.Sink) = (IsIdle m → ⊥) × PrintedPart m (pei_step catalog fuel m) t
 StepsTo memory Stands catalog fuel m t (Err H.Memory) = (memory ≡ true) × PrintedPart m (pei_step catalog fuel m) t
 
 -- the same from each machine that the core over its store stands for

@@ -26,7 +26,7 @@ use Rattle.pei_core.specs.Turn.{Texts, PrintedPart}
 use Rattle.pei_dispatch.specs.Ends.{KeepsLast, IsWantOfStore}
 use Rattle.pei_dispatch.specs.Following.{Follows}
 use Rattle.pei_dispatch.specs.LastStart.{just_before, last_started}
-use Rattle.pei_dispatch.specs.Turns.{IsNow, TurnsTo}
+use Rattle.pei_dispatch.specs.Turns.{GoesTo, IsNow, TurnsTo}
 use Rattle.pei_dispatch.proofs.Growing.{step_grew}
 use Rattle.pei_dispatch.proofs.Idle.{step_quiet}
 
@@ -115,11 +115,20 @@ turns_after stands catalog m later_m pei mid_pei later queue old mid new (Ok (So
 turns_after stands catalog m later_m pei mid_pei later queue old mid new (Err halt) same f part =
     record { told = part.told; lines = part.lines; text = part_then old mid new [] (text_of part.told) f part.text }
 
--- a step that was given up put a part of its lines
-pub part_of_step : (memory : Bool) (Stands : PeiMachine → Type 0) (catalog : Catalog) (fuel : ℕ) (m : PeiMachine) (t : Texts) (halt : Halt) → StepsTo memory Stands catalog fuel m t (Err halt)
-    → PrintedPart m (pei_step catalog fuel m) t
-part_of_step memory Stands catalog fuel m t H.Sink part = part
-part_of_step memory Stands catalog fuel m t H.Memory wanting = wanting.1
+-- a step that was given up put a part of its lines, where the machine is not idle
+pub halts_so : {M : Type 0} (memory : Bool) (Stands : PeiMachine → Type 0) (stands : M → StoreState → Type 0) (catalog : Catalog) (fuel : ℕ) (m : PeiMachine) (pei : Pei M) (queue : PeiQueue) (later : Pei M) (grown : PeiQueue) (t : Texts) (halt : Halt)
+    → StepsTo memory Stands catalog fuel m t (Err halt) → GoesTo stands catalog fuel m pei queue later grown t (Err halt)
+halts_so memory Stands stands catalog fuel m pei queue later grown t H.Sink h = h
+halts_so memory Stands stands catalog fuel m pei queue later grown t H.Memory h = h.1
+
+pub part_of_going : {M : Type 0} (stands : M → StoreState → Type 0) (catalog : Catalog) (fuel : ℕ) (m : PeiMachine) (pei : Pei M) (queue : PeiQueue) (later : Pei M) (grown : PeiQueue) (t : Texts) (halt : Halt)
+    → GoesTo stands catalog fuel m pei queue later grown t (Err halt) → PrintedPart m (pei_step catalog fuel m) t
+part_of_going stands catalog fuel m pei queue later grown t H.Sink h = h.1
+part_of_going stands catalog fuel m pei queue later grown t H.Memory h = h
+
+pub want_as : (A B : Type 0) (memory : Bool) (halt : Halt) → IsWantOfStore {A = A} memory (Err halt) → IsWantOfStore {A = B} memory (Err halt)
+want_as A B memory H.Sink h = tt
+want_as A B memory H.Memory h = h
 
 -- and memory was wanting only where the store takes it
 pub want_of_step : (A : Type 0) (memory : Bool) (Stands : PeiMachine → Type 0) (catalog : Catalog) (fuel : ℕ) (m : PeiMachine) (t : Texts) (halt : Halt) → StepsTo memory Stands catalog fuel m t (Err halt)

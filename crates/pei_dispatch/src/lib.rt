@@ -2,13 +2,18 @@
 #![tactic(auto)]
 
 mod boot;
-mod choose;
 mod follow;
+mod going;
+mod next;
 mod run;
-mod start;
+mod starting;
 mod stop;
 mod turn;
 mod waiting;
 
 pub use boot::{Ended, boot_pei};
+pub use going::{Progress, go_on};
+pub use next::choose;
 pub use run::run_pei;
+pub use starting::start;
+pub use stop::stop_pei;

@@ -10,16 +10,16 @@ ghost use Rattle.pei_choice.specs.Queue.{owed_by};
 ghost use Rattle.pei_dispatch.specs.Evaluations.{AreFewOnTurn};
 ghost use Rattle.pei_dispatch.specs.Turns.{IsNow, Turns, TurnsIdle};
 
-use crate::choose::choose;
-use crate::follow::follow;
-use crate::start::start;
-use crate::stop::{end_of, put_stop};
+use crate::going::{Progress, go_on};
+use crate::next::choose;
+use crate::starting::start;
+use crate::stop::stop_pei;
 use boot_io::{Halt, Sink};
 use boot_model::PeiEnd;
 use catalog_model::Catalog;
 use depex_code::Steps;
 use pei_choice::PeiQueue;
-use pei_core::{Pei, Stepped};
+use pei_core::Pei;
 use std::sync::ledger::Ledger;
 use store_model::PeiStore;
 
@@ -45,11 +45,7 @@ fn start_or_stop<M: PeiStore + Drop, S: Sink, L: Ledger>(
             start(pei, queue, catalog, number, sink)?;
             Ok(None)
         }
-        None => {
-            let end = end_of(pei);
-            put_stop(pei, queue, catalog, end, sink)?;
-            Ok(Some(end))
-        }
+        None => Ok(Some(stop_pei(pei, queue, catalog, sink)?)),
     }
 }
 
@@ -71,12 +67,9 @@ pub(crate) fn turn<M: PeiStore + Drop, S: Sink, L: Ledger>(
     ensures few_steps { AreFewOnTurn M.stands_for catalog.now pei.old queue.old (steps.old + owed_by queue.old)
         (steps.new + owed_by queue.new) }
 {
-    match pei.step(catalog, sink)? {
-        Stepped::Went(event) => {
-            follow(pei, queue, catalog, &event);
-            Ok(None)
-        }
-        Stepped::Idle => start_or_stop(pei, queue, catalog, sink, steps),
-        Stepped::Ended(end) => Ok(Some(end)),
+    match go_on(pei, queue, catalog, sink)? {
+        Progress::Went => Ok(None),
+        Progress::Idle => start_or_stop(pei, queue, catalog, sink, steps),
+        Progress::Ended(end) => Ok(Some(end)),
     }
 }

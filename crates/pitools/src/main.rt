@@ -1,14 +1,24 @@
 //! The tools beside the boot: the memory space map, the MP services, and expressions and scripts as text.
 #![tactic(auto)]
 
+mod command_line;
+mod gcd_tool;
 mod meaning;
+mod mp_tool;
+mod print;
+mod reading;
+mod report;
+mod status;
+mod text_tool;
+mod tools;
 
 use crate::meaning::meaning_of;
+use crate::status::ToolStatus;
+use crate::tools::tools_main;
 use boot_io::{RealFiles, RealSink, SinkFault, flush_whole};
 use std::env;
 use std::io::{self, BufWriter, ErrorKind, IsTerminal};
 use std::process::ExitCode;
-use tools_core::{ToolStatus, tools_main};
 
 // The words after the program's name. Where one is not UTF-8 there are none, which is no form of a command line.
 fn words_of(rt: &HostRuntime) -> io::Result<Vec<String>> {
@@ -58,3 +68,6 @@ fn main(rt: HostRuntime) -> ExitCode {
     }
     ExitCode::from(status as u8)
 }
+
+#[cfg(test)]
+mod tests;

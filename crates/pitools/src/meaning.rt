@@ -1,5 +1,5 @@
 // What a person is told of an exit status.
-use tools_core::ToolStatus;
+use crate::status::ToolStatus;
 
 // The version, and the forms of a command line.
 const USAGE: &str =

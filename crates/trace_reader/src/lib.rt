@@ -20,12 +20,12 @@ mod number;
 mod place;
 mod reading_law;
 mod refusal_line;
-mod start_line;
+mod starting_line;
 mod trace;
 
 pub use fault::TraceFault;
 pub use reading_law::one_reading;
-pub use start_line::start_line;
+pub use starting_line::start_line;
 pub use trace::read_trace;
 
 #[cfg(test)]

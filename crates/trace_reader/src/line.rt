@@ -14,7 +14,7 @@ use crate::entry_line::entry_line;
 use crate::move_line::move_line;
 use crate::notify_line::notify_line;
 use crate::refusal_line::refusal_line;
-use crate::start_line::start_line;
+use crate::starting_line::start_line;
 use boot_model::Line;
 use pi_base::OutOfMemory;
 use std::alloc::Global;

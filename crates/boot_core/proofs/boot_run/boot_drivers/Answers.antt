@@ -5,7 +5,8 @@ use Rattle.boot_model.specs.declared.line.RunEnd.{RunEnd}
 use Rattle.boot_model.specs.BootRun.{dxe_result}
 use Rattle.boot_model.specs.DxeRun.{dxe_end}
 use Rattle.boot_model.specs.Text.{text_of}
-use Rattle.boot_core.specs.Running.{IsResult, dxe_text, closing_text}
+use Rattle.boot_end.specs.Closing.{closing_text}
+use Rattle.boot_core.specs.Running.{IsResult, dxe_text}
 use Rattle.boot_core.proofs.BootTexts.{dxe_closed, dxe_begins}
 use Rattle.boot_core.proofs.Telling.{tells_then, part_in}
 use Rattle.boot_core.proofs.boot_run.boot_drivers.Goals as goal

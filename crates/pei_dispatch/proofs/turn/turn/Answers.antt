@@ -1,91 +1,64 @@
-use Rattle.std.proofs.Common.{arith, Option}
+use Rattle.std.proofs.Common.{arith, ap, Option}
 use Rattle.std.proofs.lemmas.Result.{err_from_is_err_and}
 use Rattle.boot_model.specs.declared.phase_end.PeiEnd.{PeiEnd}
 use Rattle.boot_model.specs.PeiStep.{pei_step}
-use Rattle.pei_core.specs.Standing.{StandsFor}
-use Rattle.pei_dispatch.proofs.Ending.{ends_so}
+use Rattle.pei_choice.specs.Queue.{owed_by}
+use Rattle.pei_core.specs.Turn.{Texts}
+use Rattle.pei_dispatch.specs.declared.going.Progress.{Progress}
 use Rattle.pei_dispatch.proofs.Evaluating.{few_still, few_with}
-use Rattle.pei_dispatch.proofs.Turning.{event_now, event_last, follows_so, turns_after, part_of_step, want_of_step}
+use Rattle.pei_dispatch.proofs.Turning.{turns_after, part_of_going, want_as}
 use Rattle.pei_dispatch.proofs.turn.turn.Goals as goal
 
-pub returns-in_err-event-clause-row : goal.returns-in_err-event-clause-row
-returns-in_err-event-clause-row g c m fuel made now =
-    let Stands = StandsFor g.M.PeiStore.stands_for c.step.new.self in
+pub returns-in_err-go_on-clause-row : goal.returns-in_err-go_on-clause-row
+returns-in_err-go_on-clause-row g c m fuel made now =
+    let T = g.S.Sink.text in
+    let t : Texts = record { old = T c.args.sink.now; new = T c.go_on.new.sink } in
     let p = err_from_is_err_and c.from_residual.result c.from_residual.ensures.1 in
-    rw p.1 (part_of_step g.M.PeiStore.TAKES_MEMORY Stands c.args.catalog.now fuel m _ c.in_err-event.field-0.0 (c.in_err-event.ensures.row m fuel made now.machine))
+    rw p.1 (part_of_going g.M.PeiStore.stands_for c.args.catalog.now fuel m c.args.pei.now c.args.queue.now c.go_on.new.pei c.go_on.new.queue t c.in_err-go_on.field-0.0 (c.in_err-go_on.ensures.row m fuel made now))
 
-pub returns-in_err-event-clause-memory : goal.returns-in_err-event-clause-memory
-returns-in_err-event-clause-memory g c =
-    let Stands = StandsFor g.M.PeiStore.stands_for c.step.new.self in
-    let m = c.requires.state.0 in
-    let fuel = c.requires.made.0 in
+pub returns-in_err-go_on-clause-memory : goal.returns-in_err-go_on-clause-memory
+returns-in_err-go_on-clause-memory g c =
     let p = err_from_is_err_and c.from_residual.result c.from_residual.ensures.1 in
-    rw (p.1, p.2) (want_of_step (Option PeiEnd) g.M.PeiStore.TAKES_MEMORY Stands c.args.catalog.now fuel m _ c.in_err-event.field-0.0 (c.in_err-event.ensures.row m fuel c.requires.made.1 c.requires.state.1.machine))
+    rw (p.1, p.2) (want_as Progress (Option PeiEnd) g.M.PeiStore.TAKES_MEMORY c.in_err-go_on.field-0.0 c.in_err-go_on.ensures.memory)
 
-pub returns-in_err-event-clause-few_steps : goal.returns-in_err-event-clause-few_steps
-returns-in_err-event-clause-few_steps g c m fuel made now = few_still c.args.catalog.now fuel m _ _ (omega arith)
-
-pub follow-requires-clause-went : goal.follow-requires-clause-went
-follow-requires-clause-went g c =
-    let m = c.requires.state.0 in
-    let now = c.requires.state.1 in
-    let fuel = c.requires.made.0 in
-    let went = rw c.in-Went.is at (c.in_ok-event.ensures.row m fuel c.requires.made.1 now.machine) in (
-      m,
-      fuel,
-      follows_so g.M.PeiStore.stands_for c.args.catalog.now fuel m c.args.pei.now c.step.new.self c.args.queue.now c.in-Went.event now (g.met.M.PeiStore.facts c.args.pei.now.store m.store now.machine.has.store)
-          went.0 went.1 went.2.machine (c.in_ok-event.ensures.kept.made fuel c.requires.made.1),
-    )
+pub returns-in_err-go_on-clause-few_steps : goal.returns-in_err-go_on-clause-few_steps
+returns-in_err-go_on-clause-few_steps g c m fuel made now = few_with c.args.catalog.now fuel m c.args.steps.now _ _ (c.in_err-go_on.ensures.few m fuel made now)
 
 pub start_or_stop-requires-clause-made : goal.start_or_stop-requires-clause-made
-start_or_stop-requires-clause-made g c = (c.requires.made.0, c.in_ok-event.ensures.kept.made c.requires.made.0 c.requires.made.1)
+start_or_stop-requires-clause-made g c = (c.requires.made.0, c.in_ok-go_on.ensures.made c.requires.made.0 c.requires.made.1)
 
 pub start_or_stop-requires-clause-state : goal.start_or_stop-requires-clause-state
 start_or_stop-requires-clause-state g c =
-    let now = c.requires.state.1 in
-    let idle = rw c.in-Idle.is at (c.in_ok-event.ensures.row c.requires.state.0 c.requires.made.0 c.requires.made.1 now.machine) in
-    (c.requires.state.0, record { machine = idle.1.machine; parts = now.parts; within = now.within }, idle.0)
+    let rested = rw c.in-Idle.is at (c.in_ok-go_on.ensures.row c.requires.state.0 c.requires.made.0 c.requires.made.1 c.requires.state.1) in
+    (c.requires.state.0, rested.now, rested.idle)
 
 pub returns-in-Went-clause-row : goal.returns-in-Went-clause-row
-returns-in-Went-clause-row g c m fuel made now =
-    let catalog = c.args.catalog.now in
-    let went = rw c.in-Went.is at (c.in_ok-event.ensures.row m fuel made now.machine) in
-    let follows = follows_so g.M.PeiStore.stands_for catalog fuel m c.args.pei.now c.step.new.self c.args.queue.now c.in-Went.event now (g.met.M.PeiStore.facts c.args.pei.now.store m.store now.machine.has.store)
-    went.0 went.1 went.2.machine (c.in_ok-event.ensures.kept.made fuel made) in
-    record {
-      printed = went.2.printed;
-      now = event_now g.M.PeiStore.stands_for catalog fuel m c.args.pei.now c.step.new.self c.args.queue.now c.follow.new.queue went.0 now (c.follow.ensures.queue m fuel follows) went.2.machine;
-      last = event_last catalog fuel m c.args.pei.now c.step.new.self went.0 now.within c.in_ok-event.ensures.kept.started;
-    }
+returns-in-Went-clause-row g c m fuel made now = (rw c.in-Went.is at (c.in_ok-go_on.ensures.row m fuel made now)).1
 
 pub returns-in-Went-clause-few_steps : goal.returns-in-Went-clause-few_steps
-returns-in-Went-clause-few_steps g c m fuel made now =
-    let catalog = c.args.catalog.now in
-    let went = rw c.in-Went.is at (c.in_ok-event.ensures.row m fuel made now.machine) in
-    let follows = follows_so g.M.PeiStore.stands_for catalog fuel m c.args.pei.now c.step.new.self c.args.queue.now c.in-Went.event now (g.met.M.PeiStore.facts c.args.pei.now.store m.store now.machine.has.store)
-    went.0 went.1 went.2.machine (c.in_ok-event.ensures.kept.made fuel made) in
-    few_with catalog fuel m c.args.steps.now _ _ (c.follow.ensures.few m fuel follows)
+returns-in-Went-clause-few_steps g c m fuel made now = few_with c.args.catalog.now fuel m c.args.steps.now _ _ (c.in_ok-go_on.ensures.few m fuel made now)
 
-pub returns-in-Idle-clause-few_steps : goal.returns-in-Idle-clause-few_steps
-returns-in-Idle-clause-few_steps g c m fuel made now = few_still c.args.catalog.now fuel m _ _ c.start_or_stop.ensures.few_steps
+pub returns-in-Ended-clause-row : goal.returns-in-Ended-clause-row
+returns-in-Ended-clause-row g c m fuel made now = (rw c.in-Ended.is at (c.in_ok-go_on.ensures.row m fuel made now)).1
 
 pub returns-in-Ended-clause-few_steps : goal.returns-in-Ended-clause-few_steps
-returns-in-Ended-clause-few_steps g c m fuel made now = few_still c.args.catalog.now fuel m _ _ (omega arith)
+returns-in-Ended-clause-few_steps g c m fuel made now = few_with c.args.catalog.now fuel m c.args.steps.now _ _ (c.in_ok-go_on.ensures.few m fuel made now)
 
 pub returns-in-Idle-clause-row : goal.returns-in-Idle-clause-row
 returns-in-Idle-clause-row g c m fuel made now =
     let T = g.S.Sink.text in
     let catalog = c.args.catalog.now in
-    let idle = rw c.in-Idle.is at (c.in_ok-event.ensures.row m fuel made now.machine) in
-    turns_after g.M.PeiStore.stands_for catalog m (pei_step catalog fuel m) c.args.pei.now c.step.new.self c.start_or_stop.new.pei c.start_or_stop.new.queue
-    (T c.args.sink.now) (T c.step.new.sink) (T c.start_or_stop.new.sink) c.start_or_stop.result c.in_ok-event.ensures.kept.started idle.1.text
-    (c.start_or_stop.ensures.row m fuel (c.in_ok-event.ensures.kept.made fuel made) (record { machine = idle.1.machine; parts = now.parts; within = now.within }) idle.0)
+    let rested = rw c.in-Idle.is at (c.in_ok-go_on.ensures.row m fuel made now) in
+    turns_after g.M.PeiStore.stands_for catalog m (pei_step catalog fuel m) c.args.pei.now c.go_on.new.pei c.start_or_stop.new.pei c.start_or_stop.new.queue
+    (T c.args.sink.now) (T c.go_on.new.sink) (T c.start_or_stop.new.sink) c.start_or_stop.result rested.last rested.text
+    (c.start_or_stop.ensures.row m fuel (c.in_ok-go_on.ensures.made fuel made) rested.now rested.idle)
 
 pub returns-in-Idle-clause-made : goal.returns-in-Idle-clause-made
-returns-in-Idle-clause-made g c fuel made = c.start_or_stop.ensures.made fuel (c.in_ok-event.ensures.kept.made fuel made)
+returns-in-Idle-clause-made g c fuel made = c.start_or_stop.ensures.made fuel (c.in_ok-go_on.ensures.made fuel made)
 
-pub returns-in-Ended-clause-row : goal.returns-in-Ended-clause-row
-returns-in-Ended-clause-row g c m fuel made now =
-    let catalog = c.args.catalog.now in
-    let ended = rw c.in-Ended.is at (c.in_ok-event.ensures.row m fuel made now.machine) in
-    ends_so g.M.PeiStore.stands_for catalog c.args.pei.now c.step.new.self c.args.queue.now m (pei_step catalog fuel m) c.in-Ended.end _ now ended.ended ended.stayed.text ended.stayed.machine c.in_ok-event.ensures.kept.started
+pub returns-in-Idle-clause-few_steps : goal.returns-in-Idle-clause-few_steps
+returns-in-Idle-clause-few_steps g c m fuel made now =
+    let rested = rw c.in-Idle.is at (c.in_ok-go_on.ensures.row m fuel made now) in
+    let owed = ap owed_by rested.kept_is in
+    let few = c.start_or_stop.ensures.few_steps in
+    few_still c.args.catalog.now fuel m _ _ (omega (arith, owed, few))

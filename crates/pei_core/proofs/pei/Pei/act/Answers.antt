@@ -17,7 +17,7 @@ returns-in_err-print-in-Prints-clause-row g c m fuel for h runs =
     let line = c.in-Prints.line in
     let has = c.in-Prints.ensures runs.top runs.below (sym h.has.fields.frames ∙ runs.frames) in
     let d = done c.effects_are_alike.ensures.pei catalog fuel m runs.top runs.below c.args.self.now.core c.act.new.fuel c.act.new.frames (line ∷ []) h.has.fields for.fuelled has.0 has.1 in
-    steps_fail _ _ catalog fuel m _ c.from_residual.result c.from_residual.ensures.1
+    steps_fail _ _ catalog fuel m _ c.from_residual.result c.from_residual.ensures.1 (λ (idle : IsIdle m). cons_nil _ _ _ runs.frames idle.frames)
     (part catalog fuel m d.later (Acts runs.top runs.below) (texts (T c.args.sink.now) (T c.print.new.sink)) (case_acts catalog m runs.top runs.below runs.quiet runs.frames) d.is
     (first_part m d.later line line [] (T c.args.sink.now) (T c.print.new.sink) d.printed refl c.in_err-print-in-Prints.ensures.text))
 
@@ -52,7 +52,7 @@ returns-in_err-changes-in-Own-clause-row g c m fuel for h runs =
     let goes = c.in_err-changes-in-Own.ensures.row (counted m) (record { has = record { store = h.has.store; fields = fields }; sound = counted_sound m h.sound; started = counted_started m h.started })
     (takes_own catalog m runs.top runs.below action c.act.new.frames runs.frames has.1) in
     goes_on c.in_err-changes-in-Own.field-0.0 g.M.PeiStore.TAKES_MEMORY (Has g.M.PeiStore.stands_for c.act_own.new.self) _ catalog fuel m (counted m) (action_goal catalog (counted m) runs.top runs.below action) []
-    (T c.args.sink.now) (T c.args.sink.now) (T c.act_own.new.sink) c.from_residual-in_err-changes-in-Own.result (same_err _ c.from_residual-in_err-changes-in-Own.result c.from_residual-in_err-changes-in-Own.ensures.1)
+    (T c.args.sink.now) (T c.args.sink.now) (T c.act_own.new.sink) c.from_residual-in_err-changes-in-Own.result (same_err _ c.from_residual-in_err-changes-in-Own.result c.from_residual-in_err-changes-in-Own.ensures.1) (λ (idle : IsIdle m). cons_nil _ _ _ runs.frames idle.frames)
     (ap (in_case catalog fuel m) is ∙ own_leads catalog fuel m runs.top runs.below action left has.1.is) (sym (append-nil m.lines)) (appends_none (T c.args.sink.now)) goes
 
 pub returns-in_err-changes-in-Own-clause-kept : goal.returns-in_err-changes-in-Own-clause-kept

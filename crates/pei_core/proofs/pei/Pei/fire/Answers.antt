@@ -16,7 +16,7 @@ returns-in_err-print-clause-row g c m fuel for h e =
     let begun = callback_begun catalog m firing c.args.next.1 in
     let is = fired_begun catalog m firing c.args.next.1 c.args.self.now.core h.has.fields (sym c.begin_callback.ensures.room ∙ c.if-not-begin_callback.false) in
     let line = callback_line catalog firing in
-    steps_fail _ _ catalog fuel m _ c.from_residual.result c.from_residual.ensures.1
+    steps_fail _ _ catalog fuel m _ c.from_residual.result c.from_residual.ensures.1 (λ (idle : IsIdle m). some_none _ _ e idle.fires)
     (part catalog fuel m begun (Fires firing c.args.next.1) (texts (T c.args.sink.now) (T c.print.new.sink)) (case_fires catalog m firing c.args.next.1 e) is
     (first_part m begun line c.callback_line.result [] (T c.args.sink.now) (T c.print.new.sink) refl c.callback_line.ensures c.in_err-print.ensures.text))
 

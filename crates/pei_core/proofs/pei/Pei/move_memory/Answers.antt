@@ -20,7 +20,7 @@ returns-in_err-print-clause-row g c catalog m fuel for h moves =
     let mid = moved m a.0 in
     let told = call_prints mid (core_install a.0) in
     let line = L.Migrate m.store.base a.0.base in
-    steps_fail _ _ catalog fuel m _ c.from_residual.result c.from_residual.ensures.1
+    steps_fail _ _ catalog fuel m _ c.from_residual.result c.from_residual.ensures.1 (λ (idle : IsIdle m). some_none _ _ a.1.0 idle.moves)
     (part catalog fuel m (moved_to m a.0) (Moves a.0) (texts (T c.args.sink.now) (T c.print.new.sink)) is refl
     (first_part m (moved_to m a.0) line _ told.0 (T c.args.sink.now) (T c.print.new.sink) (told.1 ∙ append_assoc m.lines (line ∷ []) told.0) (migrate_line c.migrate-from.result m.store a.0 a.1.1) c.in_err-print.ensures.text))
 
@@ -33,7 +33,7 @@ returns-in_err-changes-clause-row g c catalog m fuel for h moves =
     let line = L.Migrate m.store.base a.0.base in
     let first = subst (λ l. Appends (T c.args.sink.now) (T c.print.new.sink) l) (ap line_text (migrate_line c.migrate-from.result m.store a.0 a.1.1) ∙ sym (one_text line)) c.in_ok-print.ensures.text in
     goes_on c.in_err-changes.field-0.0 g.M.PeiStore.TAKES_MEMORY (Has g.M.PeiStore.stands_for c.install_memory.new.self) _ catalog fuel m mid (called_goal mid (core_install a.0)) (line ∷ []) (T c.args.sink.now) (T c.print.new.sink) (T c.install_memory.new.sink) c.from_residual-in_err-changes.result
-    (same_err _ c.from_residual-in_err-changes.result c.from_residual-in_err-changes.ensures.1) (ap (in_case catalog fuel m) is) refl first
+    (same_err _ c.from_residual-in_err-changes.result c.from_residual-in_err-changes.ensures.1) (λ (idle : IsIdle m). some_none _ _ a.1.0 idle.moves) (ap (in_case catalog fuel m) is) refl first
     (c.in_err-changes.ensures.row mid (record { store = a.2; fields = moved_core m a.0 c.args.self.now.core h.has.fields }))
 
 pub returns-in_err-changes-clause-kept : goal.returns-in_err-changes-clause-kept

@@ -15,7 +15,7 @@ returns-in_err-print-in-Some-clause-row g c m fuel for h pops =
     let a = c.in-Some.ensures.row m.store h.has.store in
     let later = popped_to catalog m firing a.0 in
     let is = case_pops catalog m firing a.0 pops.0.quiet pops.0.frames (no_move m.store pops.1) a.1 in
-    steps_fail _ _ catalog fuel m _ c.from_residual.result c.from_residual.ensures.1
+    steps_fail _ _ catalog fuel m _ c.from_residual.result c.from_residual.ensures.1 (λ (idle : IsIdle m). some_none _ _ a.1 idle.pops)
     (part catalog fuel m later (Pops firing a.0) (texts (T c.args.sink.now) (T c.print.new.sink)) is refl
     (first_part m later (dispatch_line catalog firing) c.dispatch_line.result [] (T c.args.sink.now) (T c.print.new.sink) refl c.dispatch_line.ensures c.in_err-print-in-Some.ensures.text))
 

@@ -1,0 +1,2 @@
+pub mod ClosingTexts
+mod ClosingLines

@@ -1,0 +1,6 @@
+//! The end of a boot: its last lines.
+#![tactic(auto)]
+
+mod closing;
+
+pub use closing::put_closing;

@@ -1,0 +1,6 @@
+pub mod PeiUnderWay
+pub mod PeiFree
+pub mod PeiAim
+pub mod DxeUnderWay
+pub mod DxeFree
+pub mod DxeAim

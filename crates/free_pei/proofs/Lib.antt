@@ -1,0 +1,7 @@
+mod Choosing
+mod Facts
+mod Going
+mod Lines
+mod Reading
+mod Runs
+mod Starts

@@ -1,0 +1,7 @@
+use Rattle.std.proofs.Common.{take}
+use Rattle.pi_base.specs.Lists.{Each}
+use Rattle.trace_reader.specs.Readable.{IsGuid}
+use Rattle.free_pei.proofs.catalog_names.names_are_guids.Given as goal
+
+abbrev pub invariant-modules : goal.invariant-modules
+invariant-modules l = Each (λ m. IsGuid m.name) (take l.member-index l.catalog.modules)

@@ -1,0 +1,10 @@
+//! PEI as a text has it, from its opening to its end (PI 1.8, volume 1, "PEI Dispatcher", which leaves the order to the dispatcher): the core prints into the text, and where a PEIM is chosen the next line of the text says which.
+#![tactic(auto)]
+
+mod aim;
+mod catalog_names;
+mod opening;
+mod run;
+mod turn;
+
+pub use run::run_pei_by_text;

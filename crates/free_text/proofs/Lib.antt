@@ -1,0 +1,4 @@
+pub mod Fronts
+mod Pieces
+mod Places
+pub mod Telling

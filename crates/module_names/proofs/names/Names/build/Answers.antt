@@ -1,0 +1,39 @@
+use Rattle.std.proofs.Common.{◌≡◌, ◌<◌, ◌+◌, ℕ, List, Some, length, get_or, refl, ap, subst, arith, slice_get}
+use Rattle.std.proofs.lemmas.Option.{slice_get_read}
+use Rattle.catalog_model.specs.declared.catalog.Catalog.{Catalog}
+use Rattle.catalog_model.specs.declared.catalog.Module.{Module}
+use Rattle.module_names.specs.declared.names.Names.{Names}
+use Rattle.module_names.specs.Named.{AreNames}
+use Rattle.module_names.specs.Taking.{IsKept, Keeps}
+use Rattle.module_names.proofs.Building.{no_twins, refused, one_more_named}
+use Rattle.module_names.proofs.names.Names.build.Goals as goal
+
+-- the module at hand
+at_hand : (catalog : Catalog) (items : List Module) (k : ℕ) (m : Module) → items ≡ catalog.modules → k < length items → m ≡ get_or items k m → (slice_get catalog.modules k ≡ Some m) × (k < length catalog.modules)
+at_hand catalog items k m same below is = (subst (λ xs. slice_get xs k ≡ Some m) same (slice_get_read items (length items) k m refl below is), subst (λ xs. k < length xs) same below)
+
+pub modules-preserved : goal.modules-preserved
+modules-preserved c =
+    let catalog = c.args.catalog.now in
+    let at = at_hand catalog c.as_slice-member-items.result.now c.modules.member-index c.member-item.result c.as_slice-member-items.ensures c.modules-test.true c.member-item.is in
+    let kept = c.in_default.ensures in
+    record {
+      names = one_more_named catalog c.modules.member-index c.member-item.result c.modules.volumes.items c.keep.new.maps.items c.modules.invariant.names at.0 at.1
+          (subst (λ n. IsKept c.member-item.result.volume c.member-item.result.name n c.modules.volumes.items c.keep.new.maps.items) c.modules.invariant.number kept);
+      number = ap (λ n. n + 1) c.modules.invariant.number;
+    }
+
+pub returns-in-Err-clause-twins : goal.returns-in-Err-clause-twins
+returns-in-Err-clause-twins c =
+    let catalog = c.args.catalog.now in
+    let at = at_hand catalog c.as_slice-member-items.result.now c.modules.member-index c.member-item.result c.as_slice-member-items.ensures c.modules-test.true c.member-item.is in
+    refused Names catalog c.modules.member-index c.modules.number c.member-item.result c.modules.volumes.items c.keep.new.maps.items c.in-Err.fault c.requires c.modules.invariant.names at.0 at.1
+    (subst (Keeps c.member-item.result.volume c.member-item.result.name c.modules.number c.modules.volumes.items c.keep.new.maps.items) c.in-Err.is c.keep.ensures)
+
+pub returns-clause-names : goal.returns-clause-names
+returns-clause-names c =
+    let same : c.modules.member-index ≡ length c.args.catalog.now.modules = omega (arith, c.modules-test.false, c.modules.auto.member-index-end, ap length c.as_slice-member-items.ensures) in
+    subst (λ n. AreNames c.args.catalog.now n c.modules.volumes.items) same c.modules.invariant.names
+
+pub returns-clause-apart : goal.returns-clause-apart
+returns-clause-apart c = no_twins c.args.catalog.now c.modules.volumes.items (returns-clause-names c)

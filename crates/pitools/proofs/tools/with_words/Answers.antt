@@ -1,0 +1,27 @@
+use Rattle.std.proofs.Common.{◌≡◌}
+use Rattle.pitools.specs.CommandLine.{words_of}
+use Rattle.pitools.specs.Outcome.{MapNames, MapOutcome, Names, Outcome, ToolOutcome, of_map, of_tool, words_ask_map, words_ask_tool}
+use Rattle.pitools.proofs.Ending.{reports_ok}
+use Rattle.pitools.proofs.tools.with_words.Goals as goal
+
+pub returns-in-Some-clause-report : goal.returns-in-Some-clause-report
+returns-in-Some-clause-report g c =
+    let F = g.F.Files.faults in
+    let told = g.F.Files.told c.args.files.now in
+    let words = words_of c.args.words.now in
+    let hobs = c.in-Some.hobs.now in
+    let commands = c.in-Some.commands.now in
+    reports_ok c.with_map.result (MapOutcome told hobs commands) (Outcome told words) (MapNames told hobs commands) (Names told words)
+    (record { before = F c.args.files.now; now = F c.with_map.new.files; missed = g.F.Files.missed c.with_map.new.files })
+    (λ s t o. words_ask_map hobs commands c.in-Some.ensures.found o) (λ n m. of_map hobs commands c.in-Some.ensures.found m) c.with_map.ensures.report
+
+pub returns-in-Some-asked_tool-clause-report : goal.returns-in-Some-asked_tool-clause-report
+returns-in-Some-asked_tool-clause-report g c =
+    let F = g.F.Files.faults in
+    let told = g.F.Files.told c.args.files.now in
+    let words = words_of c.args.words.now in
+    let tool = c.in-Some-asked_tool.tool in
+    let file = c.in-Some-asked_tool.file.now in
+    reports_ok c.with_tool.result (ToolOutcome (told file) tool file) (Outcome told words) (λ name. name ≡ file) (Names told words)
+    (record { before = F c.args.files.now; now = F c.with_tool.new.files; missed = g.F.Files.missed c.with_tool.new.files })
+    (λ s t o. words_ask_tool tool file c.in-Some-asked_tool.ensures.found o) (λ n e. of_tool tool file c.in-Some-asked_tool.ensures.found e) c.with_tool.ensures.report

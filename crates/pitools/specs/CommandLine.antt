@@ -1,0 +1,32 @@
+-- The words of a command line: a tool, and the names of its files.
+-- Own.
+use Rattle.std.specs.Prelude.{◌≡◌, ◌≢◌, ℕ, List, [], ◌∷◌, ◌++◌, codes, map, String, string_bytes}
+use Rattle.std.specs.declared.alloc.Global.{Global}
+use Rattle.pitools.specs.declared.command_line.Tool.{Tool}
+use Rattle.pitools.specs.declared.command_line.Tool.TheVariants.{AssembleDepex, AssembleScript, ReadPei, ReadDxe, ReadScript, Mp}
+
+-- the bytes of each word
+abbrev pub words_of : List (String Global) → List (List ℕ)
+words_of words = map string_bytes words
+
+-- the words that ask for a tool of one file
+abbrev pub tool_words : Tool → List (List ℕ)
+tool_words AssembleDepex = codes "asm" ∷ codes "depex" ∷ []
+tool_words AssembleScript = codes "asm" ∷ codes "script" ∷ []
+tool_words ReadPei = codes "dis" ∷ codes "pei" ∷ []
+tool_words ReadDxe = codes "dis" ∷ codes "dxe" ∷ []
+tool_words ReadScript = codes "dis" ∷ codes "script" ∷ []
+tool_words Mp = codes "mp" ∷ []
+
+-- the words ask for this tool with the file of this name
+abbrev pub AskForTool : List (List ℕ) → Tool → List ℕ → Type 0
+AskForTool words tool file = (words ≡ tool_words tool ++ file ∷ []) × (file ≢ [])
+
+-- the words ask for the memory space map of a HOB list's file and a file of commands
+abbrev pub AskForMap : List (List ℕ) → List ℕ → List ℕ → Type 0
+AskForMap words hobs commands = (words ≡ codes "gcd" ∷ hobs ∷ commands ∷ []) × (hobs ≢ []) × (commands ≢ [])
+
+-- the words ask for nothing that there is
+pub record AskForNothing (words : List (List ℕ)) : Type 0 where
+  pub no_tool : (tool : Tool) (file : List ℕ) → AskForTool words tool file → ⊥
+  pub no_map : (hobs commands : List ℕ) → AskForMap words hobs commands → ⊥

@@ -1,0 +1,65 @@
+-- What a command line leads to, by the files that are read: the status, and the text that is printed. All files are read before any is examined.
+-- Own.
+use Rattle.std.specs.Prelude.{◌≡◌, ◌⊎◌, ℕ, List, Option}
+use Rattle.pi_base.specs.declared.phase.Phase.TheVariants.{Pei, Dxe}
+use Rattle.pitools.specs.declared.command_line.Tool.{Tool}
+use Rattle.pitools.specs.declared.command_line.Tool.TheVariants.{AssembleDepex, AssembleScript, ReadPei, ReadDxe, ReadScript, Mp}
+use Rattle.pitools.specs.declared.status.ToolStatus.{ToolStatus}
+use Rattle.pitools.specs.declared.status.ToolStatus.TheVariants.{Usage}
+use Rattle.pitools.specs.CommandLine.{AskForMap, AskForNothing, AskForTool}
+use Rattle.pitools.specs.FileReading.{IsRead, LongOutcome}
+use Rattle.pitools.specs.Refusals.{usage_line}
+use Rattle.pitools.specs.GcdReport.{GcdReport}
+use Rattle.pitools.specs.MpReport.{MpReport}
+use Rattle.pitools.specs.TextReport.{AssemblyReport, DepexReport, ExpressionReport, ScriptReport}
+
+-- how many bytes a HOB list, a text and bytes that are read may have, and how many a file of commands or an MP file
+abbrev pub file_limit : ℕ
+file_limit = 0x100000
+
+abbrev pub commands_limit : ℕ
+commands_limit = 0x10000
+
+abbrev pub limit_of : Tool → ℕ
+limit_of AssembleDepex = file_limit
+limit_of AssembleScript = file_limit
+limit_of ReadPei = file_limit
+limit_of ReadDxe = file_limit
+limit_of ReadScript = file_limit
+limit_of Mp = commands_limit
+
+-- what the content of a tool's file leads to
+abbrev pub ContentReport : Tool → List ℕ → ToolStatus → List ℕ → Type 0
+ContentReport AssembleDepex content = DepexReport content
+ContentReport AssembleScript content = AssemblyReport content
+ContentReport ReadPei content = ExpressionReport Pei content
+ContentReport ReadDxe content = ExpressionReport Dxe content
+ContentReport ReadScript content = ScriptReport content
+ContentReport Mp content = MpReport content
+
+-- what a tool's file leads to
+pub data ToolOutcome (told : Option (List ℕ)) (tool : Tool) (file : List ℕ) (status : ToolStatus) (text : List ℕ) : Type 0 where
+  long : LongOutcome told (limit_of tool) file status text → ToolOutcome told tool file status text
+  content : (content : List ℕ) → IsRead told (limit_of tool) content → ContentReport tool content status text → ToolOutcome told tool file status text
+
+-- what the files of a HOB list and of commands lead to
+pub data MapOutcome (told : List ℕ → Option (List ℕ)) (hobs commands : List ℕ) (status : ToolStatus) (text : List ℕ) : Type 0 where
+  hobs_long : LongOutcome (told hobs) file_limit hobs status text → MapOutcome told hobs commands status text
+  commands_long : (bytes : List ℕ) → IsRead (told hobs) file_limit bytes → LongOutcome (told commands) commands_limit commands status text
+      → MapOutcome told hobs commands status text
+  both : (bytes lines : List ℕ) → IsRead (told hobs) file_limit bytes → IsRead (told commands) commands_limit lines → GcdReport bytes lines status text
+      → MapOutcome told hobs commands status text
+
+-- what the words lead to
+pub data Outcome (told : List ℕ → Option (List ℕ)) (words : List (List ℕ)) (status : ToolStatus) (text : List ℕ) : Type 0 where
+  usage : AskForNothing words → status ≡ Usage → text ≡ usage_line → Outcome told words status text
+  words_ask_map : (hobs commands : List ℕ) → AskForMap words hobs commands → MapOutcome told hobs commands status text → Outcome told words status text
+  words_ask_tool : (tool : Tool) (file : List ℕ) → AskForTool words tool file → ToolOutcome (told file) tool file status text → Outcome told words status text
+
+-- a name of a file to which the reading comes: the words give it, and those before it are read
+abbrev pub MapNames : (List ℕ → Option (List ℕ)) → List ℕ → List ℕ → List ℕ → Type 0
+MapNames told hobs commands name = (name ≡ hobs) ⊎ ((bytes : List ℕ) × IsRead (told hobs) file_limit bytes × (name ≡ commands))
+
+pub data Names (told : List ℕ → Option (List ℕ)) (words : List (List ℕ)) (name : List ℕ) : Type 0 where
+  of_map : (hobs commands : List ℕ) → AskForMap words hobs commands → MapNames told hobs commands name → Names told words name
+  of_tool : (tool : Tool) (file : List ℕ) → AskForTool words tool file → name ≡ file → Names told words name

@@ -1,0 +1,40 @@
+-- What is printed of a report, and the status that goes with it.
+-- Own.
+use Rattle.std.specs.Prelude.{ℕ, List, ◌++◌}
+use Rattle.gcd_map.specs.MapText.{answers_text, map_text, hobs_refusal, command_refusal}
+use Rattle.mp_text.specs.OutcomeText.{bad_line, outcome_text}
+use Rattle.pitools.specs.declared.status.ToolStatus.{ToolStatus}
+use Rattle.pitools.specs.declared.status.ToolStatus.TheVariants as S
+use Rattle.pitools.specs.declared.report.Report.{Report}
+use Rattle.pitools.specs.declared.report.Report.TheVariants as R
+use Rattle.pitools.specs.Refusals.{usage_line, file_line, long_line, text_line, text_long_line, malformed_line, bytes_line}
+
+abbrev pub report_text : Report → List ℕ
+report_text R.Usage = usage_line
+report_text (R.NoFile name) = file_line name.now
+report_text (R.Long name) = long_line name.now
+report_text (R.Hobs fault) = hobs_refusal fault
+report_text (R.Command line) = command_refusal line
+report_text (R.Event line) = bad_line line
+report_text (R.Text line) = text_line line
+report_text R.TextLong = text_long_line
+report_text (R.Malformed at) = malformed_line at
+report_text (R.Bytes fault) = bytes_line fault.cause fault.at
+report_text (R.Map steps map) = answers_text steps ++ map_text map.ranges
+report_text (R.Mp file outcome) = outcome_text file.events outcome
+report_text (R.Answer text) = text
+
+abbrev pub report_status : Report → ToolStatus
+report_status R.Usage = S.Usage
+report_status (R.NoFile name) = S.FileFault
+report_status (R.Long name) = S.TooLong
+report_status (R.Hobs fault) = S.HobsRefused
+report_status (R.Command line) = S.CommandRefused
+report_status (R.Event line) = S.CommandRefused
+report_status (R.Text line) = S.TextRefused
+report_status R.TextLong = S.TextRefused
+report_status (R.Malformed at) = S.TextRefused
+report_status (R.Bytes fault) = S.TextRefused
+report_status (R.Map steps map) = S.Done
+report_status (R.Mp file outcome) = S.Done
+report_status (R.Answer text) = S.Done

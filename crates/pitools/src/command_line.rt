@@ -1,0 +1,134 @@
+// The words of a command line.
+ghost use Rattle.std.specs.Prelude.{◌≡◌, ◌↔◌, ℕ, List, [], ◌∷◌, codes, IfSome, IfNone, IsTrue};
+ghost use Rattle.pitools.specs.declared.command_line.Tool.{Tool};
+ghost use Rattle.pitools.specs.CommandLine.{words_of, tool_words, AskForTool, AskForMap};
+
+/// A tool of one file.
+#[derive(Clone, Copy, Debug, PartialEq, Eq)]
+pub(crate) enum Tool {
+    /// The bytes of an expression's text.
+    AssembleDepex,
+    /// The bytes of a script's text.
+    AssembleScript,
+    /// The text of an expression of PEI.
+    ReadPei,
+    /// The text of an expression of DXE.
+    ReadDxe,
+    /// The text of a script.
+    ReadScript,
+    /// The MP services over an MP file.
+    Mp,
+}
+
+// The tool that makes bytes of such a text.
+fn assembler_of(what: &str) -> Option<Tool>
+    ensures found { IfSome result (λ tool. tool_words tool ≡ codes "asm" ∷ what.now ∷ []) }
+    ensures none { IfNone result ((tool : Tool) → tool_words tool ≡ codes "asm" ∷ what.now ∷ [] → ⊥) }
+{
+    if what == "depex" {
+        Some(Tool::AssembleDepex)
+    } else if what == "script" {
+        Some(Tool::AssembleScript)
+    } else {
+        None
+    }
+}
+
+// The tool that makes a text of such bytes.
+fn reader_of(what: &str) -> Option<Tool>
+    ensures found { IfSome result (λ tool. tool_words tool ≡ codes "dis" ∷ what.now ∷ []) }
+    ensures none { IfNone result ((tool : Tool) → tool_words tool ≡ codes "dis" ∷ what.now ∷ [] → ⊥) }
+{
+    if what == "pei" {
+        Some(Tool::ReadPei)
+    } else if what == "dxe" {
+        Some(Tool::ReadDxe)
+    } else if what == "script" {
+        Some(Tool::ReadScript)
+    } else {
+        None
+    }
+}
+
+// The tool that two words name.
+fn tool_of(verb: &str, what: &str) -> Option<Tool>
+    ensures found { IfSome result (λ tool. tool_words tool ≡ verb.now ∷ what.now ∷ []) }
+    ensures none { IfNone result ((tool : Tool) → tool_words tool ≡ verb.now ∷ what.now ∷ [] → ⊥) }
+{
+    if verb == "asm" {
+        assembler_of(what)
+    } else if verb == "dis" {
+        reader_of(what)
+    } else {
+        None
+    }
+}
+
+// The tool that one word names.
+fn short_tool_of(verb: &str) -> Option<Tool>
+    ensures found { IfSome result (λ tool. tool_words tool ≡ verb.now ∷ []) }
+    ensures none { IfNone result ((tool : Tool) → tool_words tool ≡ verb.now ∷ [] → ⊥) }
+{
+    if verb == "mp" { Some(Tool::Mp) } else { None }
+}
+
+// The tool that words name which stand before a file's name.
+fn named_tool(words: &[String]) -> Option<Tool>
+    ensures found { IfSome result (λ tool. tool_words tool ≡ words_of words.now) }
+    ensures none { IfNone result ((tool : Tool) → tool_words tool ≡ words_of words.now → ⊥) }
+{
+    match words {
+        [verb] => short_tool_of(verb.as_str()),
+        [verb, what] => tool_of(verb.as_str(), what.as_str()),
+        _ => None,
+    }
+}
+
+/// The tool of one file that the words ask for, and the file's name.
+pub(crate) fn asked_tool(words: &[String]) -> Option<(Tool, &str)>
+    ensures found { IfSome result (λ asked. AskForTool (words_of words.now) asked.0 asked.1.now) }
+    ensures none { IfNone result ((tool : Tool) (file : List ℕ) → AskForTool (words_of words.now) tool file → ⊥) }
+{
+    match words {
+        [front @ .., file] => {
+            let file = file.as_str();
+            if file.is_empty() {
+                return None;
+            }
+            match named_tool(front) {
+                Some(tool) => Some((tool, file)),
+                None => None,
+            }
+        }
+        [] => None,
+    }
+}
+
+// Whether a word asks for a memory space map.
+fn asks_for_map(verb: &str) -> bool
+    ensures { IsTrue result ↔ (verb.now ≡ codes "gcd") }
+{
+    verb == "gcd"
+}
+
+/// The names of the files of a HOB list and of commands, where the words ask for their map.
+pub(crate) fn asked_map(words: &[String]) -> Option<(&str, &str)>
+    ensures found { IfSome result (λ asked. AskForMap (words_of words.now) asked.0.now asked.1.now) }
+    ensures none { IfNone result ((hobs commands : List ℕ) → AskForMap (words_of words.now) hobs commands → ⊥) }
+{
+    match words {
+        [verb, hobs, commands] => {
+            let hobs = hobs.as_str();
+            let commands = commands.as_str();
+            if hobs.is_empty() || commands.is_empty() {
+                return None;
+            }
+            if asks_for_map(verb.as_str()) {
+                Some((hobs, commands))
+            } else {
+                None
+            }
+        }
+        _ => None,
+    }
+}

@@ -1,0 +1,155 @@
+// Printing a report.
+ghost use Rattle.std.specs.Prelude.{◌≡◌};
+ghost use Rattle.boot_io.specs.Sink.{Puts, SinkFaultsAfter};
+ghost use Rattle.pitools.specs.Refusals.{bytes_line, cause_text, file_line, long_line, text_line, text_long_line, usage_line};
+ghost use Rattle.pitools.specs.Refusals.{malformed_line, malformed_text, refused_bytes, refused_text, refused_text_long};
+ghost use Rattle.pitools.specs.ReportText.{report_text};
+
+use crate::report::Report;
+use act_code::{ActCause, ActFault};
+use boot_io::{Sink, SinkFault, put_line};
+use boot_model::Line;
+use boot_trace::{Out, decimal_word, put};
+use gcd_map::{put_answers, put_command_refusal, put_hobs_refusal, put_map};
+use mp_text::{put_bad_line, put_outcome};
+
+// The refusal of the words.
+#[tactic(auto, unfolding(crate::specs::Refusals::usage_line))]
+fn put_usage<S: Sink>(sink: &mut S) -> Result<(), SinkFault>
+    ensures text { Puts result (S.text sink.old) (S.text sink.new) usage_line }
+    ensures cause { SinkFaultsAfter result (S.faults sink.old) (S.faults sink.new) }
+{
+    put(sink, &Line::RefusedUsage)
+}
+
+// The refusal that names a file that could not be read.
+#[tactic(auto, unfolding(crate::specs::Refusals::file_line))]
+fn put_file<S: Sink>(sink: &mut S, name: &[u8]) -> Result<(), SinkFault>
+    ensures text { Puts result (S.text sink.old) (S.text sink.new) (file_line name.now) }
+    ensures cause { SinkFaultsAfter result (S.faults sink.old) (S.faults sink.new) }
+{
+    let mut out = Out { sink };
+    out.refused_file(name)
+}
+
+// The refusal that names a file that is too long.
+#[tactic(auto, unfolding(crate::specs::Refusals::long_line))]
+fn put_long<S: Sink>(sink: &mut S, name: &[u8]) -> Result<(), SinkFault>
+    ensures text { Puts result (S.text sink.old) (S.text sink.new) (long_line name.now) }
+    ensures cause { SinkFaultsAfter result (S.faults sink.old) (S.faults sink.new) }
+{
+    let mut out = Out { sink };
+    out.refused_long(name)
+}
+
+// The first words of lines.
+#[tactic(auto, unfolding(crate::specs::Refusals::refused_text))]
+fn refused_text() -> &'static [u8]
+    ensures { result.now ≡ refused_text }
+{
+    b"refused text"
+}
+
+#[tactic(auto, unfolding(crate::specs::Refusals::refused_text_long))]
+fn refused_text_long() -> &'static [u8]
+    ensures { result.now ≡ refused_text_long }
+{
+    b"refused text long"
+}
+
+#[tactic(auto, unfolding(crate::specs::Refusals::refused_bytes))]
+fn refused_bytes() -> &'static [u8]
+    ensures { result.now ≡ refused_bytes }
+{
+    b"refused bytes"
+}
+
+// The cause of bytes that are no expression.
+#[tactic(auto, unfolding(crate::specs::Refusals::malformed_text))]
+fn malformed_text() -> &'static [u8]
+    ensures { result.now ≡ malformed_text }
+{
+    b"Malformed"
+}
+
+// The word of a script's cause.
+#[tactic(auto, unfolding(crate::specs::Refusals::cause_text))]
+fn cause_word(cause: ActCause) -> &'static [u8]
+    ensures { result.now ≡ cause_text cause }
+{
+    match cause {
+        ActCause::Magic => b"Magic",
+        ActCause::Version => b"Version",
+        ActCause::Phase => b"Phase",
+        ActCause::Count => b"Count",
+        ActCause::Block => b"Block",
+        ActCause::Action => b"Action",
+        ActCause::Jump => b"Jump",
+        ActCause::Index => b"Index",
+        ActCause::Memory => b"Memory",
+    }
+}
+
+// The refusal of a text, by its line.
+fn put_text<S: Sink>(sink: &mut S, line: u32) -> Result<(), SinkFault>
+    ensures text { Puts result (S.text sink.old) (S.text sink.new) (text_line line) }
+    ensures cause { SinkFaultsAfter result (S.faults sink.old) (S.faults sink.new) }
+{
+    let line = decimal_word(u64::from(line));
+    put_line(sink, refused_text(), &[line.as_slice()])
+}
+
+// The refusal of a text whose bytes pass their limit.
+fn put_text_long<S: Sink>(sink: &mut S) -> Result<(), SinkFault>
+    ensures text { Puts result (S.text sink.old) (S.text sink.new) text_long_line }
+    ensures cause { SinkFaultsAfter result (S.faults sink.old) (S.faults sink.new) }
+{
+    put_line(sink, refused_text_long(), &[])
+}
+
+// The refusal of bytes that are no expression.
+fn put_malformed<S: Sink>(sink: &mut S, at: u32) -> Result<(), SinkFault>
+    ensures text { Puts result (S.text sink.old) (S.text sink.new) (malformed_line at) }
+    ensures cause { SinkFaultsAfter result (S.faults sink.old) (S.faults sink.new) }
+{
+    let at = decimal_word(u64::from(at));
+    put_line(sink, refused_bytes(), &[malformed_text(), at.as_slice()])
+}
+
+// The refusal of bytes that are no script.
+fn put_bytes<S: Sink>(sink: &mut S, fault: &ActFault) -> Result<(), SinkFault>
+    ensures text { Puts result (S.text sink.old) (S.text sink.new) (bytes_line fault.now.cause fault.now.at) }
+    ensures cause { SinkFaultsAfter result (S.faults sink.old) (S.faults sink.new) }
+{
+    let at = decimal_word(u64::from(fault.at));
+    put_line(
+        sink,
+        refused_bytes(),
+        &[cause_word(fault.cause), at.as_slice()],
+    )
+}
+
+/// Puts what a report says.
+pub(crate) fn put_report<S: Sink>(sink: &mut S, report: &Report<'_>) -> Result<(), SinkFault>
+    ensures text { Puts result (S.text sink.old) (S.text sink.new) (report_text report.now) }
+    ensures cause { SinkFaultsAfter result (S.faults sink.old) (S.faults sink.new) }
+{
+    match report {
+        Report::Usage => put_usage(sink),
+        Report::NoFile(name) => put_file(sink, name.as_bytes()),
+        Report::Long(name) => put_long(sink, name.as_bytes()),
+        Report::Hobs(fault) => put_hobs_refusal(sink, *fault),
+        Report::Command(line) => put_command_refusal(sink, *line),
+        Report::Event(line) => put_bad_line(sink, *line),
+        Report::Text(line) => put_text(sink, *line),
+        Report::TextLong => put_text_long(sink),
+        Report::Malformed(at) => put_malformed(sink, *at),
+        Report::Bytes(fault) => put_bytes(sink, fault),
+        Report::Map { steps, map } => {
+            put_answers(sink, steps.as_slice())?;
+            put_map(sink, map.map())
+        }
+        Report::Mp { file, outcome } => put_outcome(sink, file, outcome),
+        Report::Answer(text) => sink.put(text.as_slice()),
+    }
+}

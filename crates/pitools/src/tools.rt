@@ -1,0 +1,131 @@
+// The top call.
+ghost use Rattle.std.specs.Prelude.{◌≡◌, ◌≤◌, ℕ, List, IfOk, OnErr};
+ghost use Rattle.pitools.specs.CommandLine.{words_of};
+ghost use Rattle.pitools.specs.Ends.{Ends, Reports, status_after};
+ghost use Rattle.pitools.specs.Outcome.{limit_of, MapNames, MapOutcome, Names, Outcome, ToolOutcome};
+
+use crate::command_line::{Tool, asked_map, asked_tool};
+use crate::gcd_tool::map_report;
+use crate::print::put_report;
+use crate::reading::{Reading, read_file};
+use crate::report::Report;
+use crate::status::ToolStatus;
+use crate::text_tool::content_report;
+use boot_io::{Files, Sink, SinkFault};
+use pi_base::OutOfMemory;
+use std::alloc::Global;
+
+// The most bytes of a HOB list, of a text and of bytes that are read.
+const FILE_LIMIT: usize = 0x10_0000;
+
+// The most bytes of a file of commands and of an MP file.
+const COMMANDS_LIMIT: usize = 0x1_0000;
+
+// The most bytes of a tool's file.
+fn limit_of(tool: Tool) -> usize
+    ensures limit { result ≡ limit_of tool }
+    ensures most { result ≤ FILE_LIMIT }
+{
+    match tool {
+        Tool::Mp => COMMANDS_LIMIT,
+        _ => FILE_LIMIT,
+    }
+}
+
+// What the files of a HOB list and of commands lead to.
+fn with_map<'a, F: Files>(
+    alloc: Global,
+    hobs: &'a str,
+    commands: &'a str,
+    files: &mut F,
+) -> Result<Report<'a>, OutOfMemory>
+    ensures report { IfOk result (λ report. Reports (MapOutcome (F.told files.old) hobs.now commands.now)
+        (MapNames (F.told files.old) hobs.now commands.now) report
+        (record { before = F.faults files.old; now = F.faults files.new; missed = F.missed files.new })) }
+    ensures memory { OnErr result (F.faults files.new ≡ F.faults files.old) }
+{
+    let bytes = match read_file(alloc, hobs, FILE_LIMIT, files)? {
+        Reading::Content(bytes) => bytes,
+        Reading::Refused(report) => return Ok(report),
+    };
+    let lines = match read_file(alloc, commands, COMMANDS_LIMIT, files)? {
+        Reading::Content(lines) => lines,
+        Reading::Refused(report) => return Ok(report),
+    };
+    map_report(alloc, bytes.as_slice(), lines.as_slice())
+}
+
+// What a tool's file leads to.
+fn with_tool<'a, F: Files>(
+    alloc: Global,
+    tool: Tool,
+    file: &'a str,
+    files: &mut F,
+) -> Result<Report<'a>, OutOfMemory>
+    ensures report { IfOk result (λ report. Reports (ToolOutcome (F.told files.old file.now) tool file.now)
+        (λ name. name ≡ file.now) report
+        (record { before = F.faults files.old; now = F.faults files.new; missed = F.missed files.new })) }
+    ensures memory { OnErr result (F.faults files.new ≡ F.faults files.old) }
+{
+    match read_file(alloc, file, limit_of(tool), files)? {
+        Reading::Content(content) => content_report(alloc, tool, content.as_slice()),
+        Reading::Refused(report) => Ok(report),
+    }
+}
+
+// What the words lead to.
+fn with_words<'a, F: Files>(
+    alloc: Global,
+    words: &'a [String],
+    files: &mut F,
+) -> Result<Report<'a>, OutOfMemory>
+    ensures report { IfOk result
+        (λ report. Reports (Outcome (F.told files.old) (words_of words.now)) (Names (F.told files.old) (words_of words.now)) report
+        (record { before = F.faults files.old; now = F.faults files.new; missed = F.missed files.new })) }
+    ensures memory { OnErr result (F.faults files.new ≡ F.faults files.old) }
+{
+    if let Some((hobs, commands)) = asked_map(words) {
+        return with_map(alloc, hobs, commands, files);
+    }
+    match asked_tool(words) {
+        Some((tool, file)) => with_tool(alloc, tool, file, files),
+        None => Ok(Report::Usage),
+    }
+}
+
+// The status of a text that was put, or the sink's fault.
+fn answer(put: Result<(), SinkFault>, status: ToolStatus) -> ToolStatus
+    ensures { result ≡ status_after put status }
+{
+    match put {
+        Ok(()) => status,
+        Err(SinkFault) => ToolStatus::SinkFault,
+    }
+}
+
+/// Does what the words of a command line ask for: `gcd HOBS COMMANDS`, `mp FILE`, `asm depex FILE`, `asm script FILE`, `dis pei FILE`,
+/// `dis dxe FILE` or `dis script FILE`. All files are read before any is examined, and all is decided before anything is put.
+pub fn tools_main<F: Files, S: Sink>(
+    alloc: Global,
+    words: &[String],
+    files: &mut F,
+    sink: &mut S,
+) -> ToolStatus
+    // The text and the status are those that the words lead to by the files that are read; or the files failed, and the text names the file;
+    // or the sink failed, behind a part of such a text; or memory was wanting, and nothing was put.
+    ensures { Ends (Outcome (F.told files.old) (words_of words.now)) (Names (F.told files.old) (words_of words.now)) result (record {
+      old = S.text sink.old;
+      new = S.text sink.new;
+      before = S.faults sink.old;
+      now = S.faults sink.new;
+      files = record { before = F.faults files.old; now = F.faults files.new; missed = F.missed files.new };
+    }) }
+{
+    match with_words(alloc, words, files) {
+        Ok(report) => {
+            let put = put_report(sink, &report);
+            answer(put, report.status())
+        }
+        Err(OutOfMemory) => ToolStatus::Memory,
+    }
+}

@@ -1,0 +1,6 @@
+//! The board of a plan: its volumes where they are mapped.
+#![tactic(auto)]
+
+mod board;
+
+pub use board::roms;

@@ -1,0 +1,8 @@
+//! A plan and its volumes, from their files.
+#![tactic(auto)]
+
+mod job;
+mod reading;
+
+pub use job::{Job, read_job};
+pub use reading::{NoJob, read_file};
