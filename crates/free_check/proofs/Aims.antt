@@ -1,5 +1,5 @@
 -- The queue, aimed by a text.
-use Rattle.std.proofs.Common.{◌≡◌, ℕ, Bool, true, false, not, List, [], Option, Some, None, Result, Ok, Err, refl, sym, ap, ◌∙◌, subst}
+use Rattle.std.proofs.Common.{◌≡◌, ℕ, Bool, true, false, not, [], Option, Some, None, Result, Ok, Err, refl, sym, ◌∙◌, subst}
 use Rattle.std.specs.Prelude.{◌↔◌, IsTrue, OnOk}
 use Rattle.catalog_model.specs.declared.catalog.Catalog.{Catalog}
 use Rattle.boot_model.specs.DxeMachine.{DxeMachine}

@@ -1,5 +1,5 @@
 -- DXE as a text has it, a turn after the other.
-use Rattle.std.proofs.Common.{◌≡◌, ℕ, suc, ◌<◌, ◌≤◌, ◌+◌, ◌-◌, ◌^◌, true, false, List, [], ◌∷◌, ◌++◌, Option, Some, None, Ok, Err, length, drop, refl, sym, ap, ◌∙◌, subst, inl, arith, is_some}
+use Rattle.std.proofs.Common.{◌≡◌, ℕ, suc, ◌<◌, ◌≤◌, ◌+◌, ◌-◌, true, false, List, [], ◌++◌, Some, None, Ok, Err, length, drop, refl, sym, ap, ◌∙◌, subst, inl, arith, is_some}
 use Rattle.std.specs.Io.KnownBytes.{Appends}
 use Rattle.boot_io.specs.Faults.{IsPrefix, Rose}
 use Rattle.boot_io.specs.Sink.{AppendsPart}
@@ -17,16 +17,14 @@ use Rattle.boot_model.specs.PeiMachine.{PeiMachine}
 use Rattle.boot_model.specs.Text.{text_of}
 use Rattle.boot_laws.specs.UnrequestedDrivers.{UnrequestedDriversWait}
 use Rattle.store_model.specs.HandleState.{HandleState, no_handles}
-use Rattle.dxe_action.specs.Services.{AreCounted}
 use Rattle.boot_model.specs.Licence.{AllDiffer}
 use Rattle.driver_order.specs.Order.{Drivers, IsOrderOf}
 use Rattle.dxe_choice.specs.Queue.{AreNew, Discovers, HasVolumes, IsNewQueue, IsQueueOf, Queue}
 use Rattle.dxe_core.specs.Standing.{DxeCore, IsCoreOf, IsFor, StandsFor}
 use Rattle.dxe_dispatch.specs.Ends.{IsNow}
 use Rattle.free_laws.specs.DxeFree.{DxeEndsFreely, DxeLinesGrow}
-use Rattle.free_laws.specs.DxeUnderWay.{DxeHasEnded, DxeOpensUnderWay, IsUnderWay, steps_left}
+use Rattle.free_laws.specs.DxeUnderWay.{DxeHasEnded, DxeOpensUnderWay, steps_left}
 use Rattle.free_text.specs.declared.spelled.Spelled.{Spelled}
-use Rattle.free_text.specs.Following.{Tracks}
 use Rattle.free_text.specs.Putting.{IsOffHere, PutsGoOn, PutsPart}
 use Rattle.free_text.specs.Spelled.{IsHeld, IsRight, faults_of, spoken}
 use Rattle.free_text.proofs.Telling.{held_on, off}

@@ -1,6 +1,6 @@
 -- The free boots from a machine and those from its next one, by the line with which the text goes on.
-use Rattle.std.proofs.Common.{◌≡◌, ◌⊎◌, ℕ, ◌<◌, ◌==◌, Bool, true, false, List, [], ◌∷◌, ◌++◌, Option, Some, None, length, refl, sym, ap, ◌∙◌, subst, append_assoc, inl, inr, is_some, arith}
-use Rattle.std.specs.Prelude.{◌≢◌, flat_map}
+use Rattle.std.proofs.Common.{◌≡◌, ◌⊎◌, ℕ, ◌==◌, Bool, true, false, List, [], ◌∷◌, ◌++◌, Option, Some, None, refl, sym, ap, ◌∙◌, subst, append_assoc, inl, inr, is_some, arith}
+use Rattle.std.specs.Prelude.{flat_map}
 use Rattle.std.proofs.lemmas.Grind.{flat_map-append}
 use Rattle.std.proofs.lemmas.List.{append-nil}
 use Rattle.act_code.specs.declared.action.Action.{Action}
@@ -24,16 +24,14 @@ use Rattle.boot_model.specs.Text.{keyword, line_text, text_of, words}
 use Rattle.std.proofs.lemmas.Bool.Decides.{nat_tests}
 use Rattle.boot_laws.proofs.PartLists.{is_equal}
 use Rattle.free_laws.specs.DxeAim.{AimIsFree, DxeStartsFreely, FirstEligibleMayStart, GroupsAreAimed, IsChoosing, aimed}
-use Rattle.free_laws.specs.DxeFree.{DxeEndsFreely, DxeGoesOn, DxeLinesGrow, IsOwnCase}
+use Rattle.free_laws.specs.DxeFree.{DxeGoesOn, DxeLinesGrow, IsOwnCase}
 use Rattle.free_laws.specs.DxeUnderWay.{IsDriverOf, IsUnderWay}
-use Rattle.free_laws.specs.PeiFree.{AreLinesBehind}
 use Rattle.free_text.specs.Following.{EndsLine, Tracks}
-use Rattle.free_text.specs.Lines.{Lacks}
 use Rattle.free_text.specs.Putting.{AllPrint, PartsByLine}
 use Rattle.free_text.proofs.Fronts.{has_line, prefix_then, same_behind}
 use Rattle.trace_reader.specs.Readable.{IsReadable}
 use Rattle.trace_reader.proofs.LineBodies.{body_lacks}
-use Rattle.free_check.specs.DxeAim.{BeginsWithStart, LeadsTo}
+use Rattle.free_check.specs.DxeAim.{LeadsTo}
 use Rattle.free_check.specs.DxeTurn.{printed_by}
 
 -- the start of a driver is a readable line
@@ -122,17 +120,23 @@ another_parts catalog fuel pei m root other text left lines grow s readable whol
   where
     start : Line
     start = dxe_start_line catalog s.first.module_number s.first.licence
+
     printed : List ℕ
     printed = printed_by pei m
+
     later : DxeMachine
     later = dxe_step catalog fuel (aimed catalog m other)
+
     more : printed_by pei later ≡ printed ++ (line_text start ++ text_of s.rest)
     more = printed_more pei m later (start ∷ s.rest) s.lines
+
     prints : IsPrefix (printed ++ line_text start) (text_of lines)
     prints = prefix_then (printed ++ line_text start) (printed_by pei later) (text_of lines)
         (text_of s.rest, more ∙ sym (append_assoc printed (line_text start) (text_of s.rest))) (begins_printed catalog fuel pei later lines grow are)
+
     unequal : Some root ≡ Some other → ⊥
     unequal e = let same : root ≡ other = cc in let yes : (other == other) ≡ true = grind (arith, nat_tests) in let no : (other == other) ≡ false = ap (λ n. n == other) (sym same) ∙ apart in cc
+
     other_line : IsPrefix (printed ++ line_text start) text → ⊥
     other_line p =
         let goes : left ≡ line_text start ++ p.0 = same_behind printed left (line_text start ++ p.0) (sym whole ∙ p.1 ∙ append_assoc printed (line_text start) p.0) in
@@ -151,8 +155,10 @@ by_aimed_step catalog fuel pei m root text left on starts aims first groups grow
   where
     s : StartsFirst catalog fuel m root
     s = starts_first catalog fuel m root groups choosing may way
+
     own : IsOwnCase (dxe_case_of catalog (aimed catalog m root)) (aimed catalog m root).scheduled
     own = aimed_owns catalog fuel m root s
+
     by : (lines : List Line) (other : ℕ) → MaySchedule catalog m other → AreFreeDxeLines catalog fuel pei (aimed catalog m other) lines → (b : Bool) → (root == other) ≡ b
         → AreFreeDxeLines catalog fuel pei (dxe_step catalog fuel (aimed catalog m root)) lines ⊎ (PartsByLine text (printed_by pei m) lines × PrintsMore m (dxe_step catalog fuel (aimed catalog m root)))
     by lines other free are true e =
@@ -176,6 +182,7 @@ tracks_by catalog fuel pei m later text told lines_are is stands = record { back
   where
     printed : List ℕ
     printed = printed_by pei m
+
     parted : (lines : List Line) → IsPrefix (printed_by pei later) (text_of lines) → PartsByLine text printed lines → PrintsMore m later → ⊥
     parted lines begins p more =
         let all : printed_by pei later ≡ printed ++ text_of (more.0 ∷ more.1) = printed_more pei m later (more.0 ∷ more.1) more.2 in
@@ -187,6 +194,7 @@ tracks_by catalog fuel pei m later text told lines_are is stands = record { back
         let front : IsPrefix (printed ++ (p.line ++ 10 ∷ [])) (printed_by pei later) =
         (line.0, all ∙ ap (λ t. printed ++ t) line.1 ∙ sym (append_assoc printed (p.line ++ 10 ∷ []) line.0)) in
         p.other (prefix_then (printed ++ (p.line ++ 10 ∷ [])) (printed_by pei later) text front stands)
+
     by : (lines : List Line) → IsPrefix (printed_by pei later) (text_of lines) → AreFreeDxeLines catalog fuel pei later lines ⊎ (PartsByLine text printed lines × PrintsMore m later) → AreFreeDxeLines catalog fuel pei later lines
     by lines begins (inl are) = are
     by lines begins (inr p) = absurd (parted lines begins p.0 p.1)
@@ -201,6 +209,7 @@ all_print catalog fuel pei m later text told grow lines_are is some = record {
   where
     prints : (lines : List Line) → AreFreeDxeLines catalog fuel pei later lines → IsPrefix (printed_by pei m ++ text_of told) (text_of lines)
     prints lines are = subst (λ t. IsPrefix t (text_of lines)) (printed_more pei m later told lines_are) (begins_printed catalog fuel pei later lines grow are)
+
     by : (lines : List Line) → AreFreeDxeLines catalog fuel pei later lines ⊎ (PartsByLine text (printed_by pei m) lines × PrintsMore m later)
         → IsPrefix (printed_by pei m ++ text_of told) (text_of lines) ⊎ PartsByLine text (printed_by pei m) lines
     by lines (inl are) = inl (prints lines are)

@@ -1,6 +1,6 @@
 -- From the text's next line to the driver of the group that it starts.
-use Rattle.std.proofs.Common.{◌≡◌, ℕ, zero, suc, ◌<◌, ◌≤◌, ◌+◌, ◌-◌, ◌^◌, Bool, true, false, ◌&&◌, not, List, [], ◌∷◌, ◌++◌, Option, Some, None, length, refl, sym, ap, ◌∙◌, subst, append_assoc, arith, is_some}
-use Rattle.std.specs.Prelude.{◌==◌, MatchOption, slice_get, unwrap_or, option_map}
+use Rattle.std.proofs.Common.{◌≡◌, ℕ, zero, suc, ◌<◌, ◌≤◌, ◌+◌, ◌-◌, Bool, true, false, ◌&&◌, not, List, [], ◌∷◌, ◌++◌, Option, Some, None, length, refl, sym, ap, ◌∙◌, subst, arith, is_some}
+use Rattle.std.specs.Prelude.{slice_get, unwrap_or, option_map}
 use Rattle.std.specs.List.{list_all}
 use Rattle.std.specs.Option.{option_and_then}
 use Rattle.boot_io.specs.Faults.{IsPrefix}
@@ -15,28 +15,22 @@ use Rattle.catalog_model.specs.declared.catalog.Module.{Module}
 use Rattle.catalog_model.specs.declared.catalog.Part.{Part}
 use Rattle.catalog_model.specs.declared.catalog.PartExpr.{PartExpr}
 use Rattle.catalog_model.specs.declared.catalog.PartExpr.TheVariants as E
-use Rattle.catalog_model.specs.declared.limits.TheConstants.{MOST_VOLUMES}
 use Rattle.catalog_model.specs.Parts.{module_name, module_volume, part_at, part_of}
 use Rattle.catalog_model.specs.WellFormed.{IsWellFormed}
 use Rattle.boot_model.specs.declared.driver.Scheduled.{Scheduled}
 use Rattle.boot_model.specs.declared.line.Line.{Line}
-use Rattle.boot_model.specs.declared.line.Line.TheVariants as L
-use Rattle.boot_model.specs.DriverLicence.{first_of, named_by, numbers_of, target_of}
+use Rattle.boot_model.specs.DriverLicence.{first_of, numbers_of, target_of}
 use Rattle.boot_model.specs.DxeChoice.{after_of, before_of, companion_group, driver_licence, driver_named, group_scheduled, schedule_of}
 use Rattle.boot_model.specs.DxeMachine.{DxeMachine}
-use Rattle.boot_model.specs.DxeStep.{dxe_start_line}
 use Rattle.boot_model.specs.FreeRun.{MaySchedule}
 use Rattle.boot_model.specs.Text.{keyword, line_text, words}
 use Rattle.boot_model.proofs.ListFacts.{within}
-use Rattle.driver_order.specs.Order as O
-use Rattle.driver_order.specs.Order.{Drivers, IsOrderOf}
 use Rattle.free_laws.specs.DxeAim.{GroupsAreAimed, IsChoosing, NamesLeadToRoot, follows}
 use Rattle.free_laws.specs.DxeUnderWay.{FewDriversWait, IsDriverOf, IsUnderWay}
 use Rattle.free_text.specs.declared.spelled.Spelled.{Spelled}
 use Rattle.free_text.specs.Lines.{BeginsWithLine, Lacks, is_feed}
 use Rattle.free_text.specs.Spelled.{IsRight, left}
 use Rattle.module_names.specs.Named.{AreNames, IsNamed}
-use Rattle.trace_reader.specs.Lacking.{LacksLinesOfStart}
 use Rattle.trace_reader.specs.Readable.{IsGuid, IsLineOf, IsReadable}
 use Rattle.trace_reader.proofs.LineBodies.{body_lacks, line_then, same_line}
 use Rattle.trace_reader.proofs.OneReading.{text_one}
@@ -102,6 +96,7 @@ group_first catalog m root first rest is = by (companion_group catalog m root) r
   where
     first_is : (x : ℕ) (xs : List ℕ) → schedule_of catalog (x ∷ xs) ≡ first ∷ rest → x ≡ first.module_number
     first_is x xs e = let same : record { module_number = x; licence = driver_licence (part_at Dxe catalog x) } ≡ first = cc in ap (λ (s : Scheduled). s.module_number) same
+
     by : (numbers : List ℕ) → companion_group catalog m root ≡ numbers → schedule_of catalog numbers ≡ first ∷ rest → (more : List ℕ) × (companion_group catalog m root ≡ first.module_number ∷ more)
     by [] e f = cc
     by (x ∷ xs) e f = (xs, e ∙ ap (λ n. n ∷ xs) (first_is x xs f))

@@ -26,8 +26,8 @@ use Rattle.boot_model.specs.DriverLicence.{first_of, named_by, numbers_of, IsDis
 use Rattle.boot_model.specs.FreeRun.{MaySchedule}
 use Rattle.boot_laws.specs.DriverSteps.{BeginsWith}
 use Rattle.boot_laws.specs.UnrequestedDrivers.{WaitForRequest}
-use Rattle.boot_model.proofs.ListFacts.{each_more, each_at, each_has, has_later, has_here}
-use Rattle.boot_laws.proofs.PartLists.{is_equal, ranked_in, each_flat_ranked, known_of, drivers_are}
+use Rattle.boot_model.proofs.ListFacts.{each_more, each_at}
+use Rattle.boot_laws.proofs.PartLists.{ranked_in, each_flat_ranked, known_of, drivers_are}
 use Rattle.boot_laws.proofs.PeiOrders.{has_front, has_flat, part_in_volume, ranked_within, ranked_has}
 use Rattle.boot_laws.proofs.DriverActions.{Follows, EffectFollows, effect_follows}
 use Rattle.boot_laws.proofs.DriverCalls.{EffectKeeps, effect_keeps}
@@ -306,16 +306,20 @@ aim_waits catalog m root none may waits = whole catalog later each
   where
     group : List Scheduled
     group = schedule_of catalog (companion_group catalog m root)
+
     later : DxeMachine
     later = record m { scheduled = group_scheduled catalog m (Some root) }
+
     free : (number : ℕ) → is_in group number ≡ true → is_unrequested catalog m number ≡ false
     free number has =
         let known : has_number (companion_group catalog m root) number ≡ true = ap (λ ns. has_number ns number) (sym (numbers_are catalog (companion_group catalog m root))) ∙ sym (in_numbers group number) ∙ has in
         let over = each_at (λ z. (k : ℕ) × Leads (target_of catalog m) root z k) (companion_group catalog m root) number (all_stand catalog m (length (waiting catalog m)) root) known in
         member_asked catalog m root number over.0 may over.1
+
     by : (number : ℕ) (b : Bool) → is_in group number ≡ b → is_unrequested catalog m number ≡ true → (not b && is_waiting m number) ≡ is_waiting m number
     by number true e asks = absurd (false_true (sym (free number e) ∙ asks))
     by number false e asks = refl
+
     each : Waits catalog later
     each number is asks =
         waits_more m later group number (ap (λ xs. xs ++ group) (sym none)) refl ∙ by number (is_in group number) refl asks ∙ waits.wait number is asks

@@ -1,24 +1,20 @@
 -- The machine from which a turn goes on: the choice is aimed at the driver to which the text's next line leads, or the machine chooses by itself where that line leads to none that may be scheduled.
-use Rattle.std.proofs.Common.{◌≡◌, ◌⊎◌, ℕ, ◌==◌, Bool, true, false, ◌&&◌, cond, List, [], ◌∷◌, ◌++◌, Option, Some, None, refl, sym, ap, ◌∙◌, subst, inl, inr, is_some, arith}
-use Rattle.std.specs.Prelude.{◌≢◌}
+use Rattle.std.proofs.Common.{◌≡◌, ℕ, Bool, true, false, ◌&&◌, cond, List, [], ◌∷◌, Option, Some, None, refl, sym, ap, ◌∙◌, subst}
 use Rattle.pi_base.specs.declared.phase.Phase.TheVariants.{Dxe}
 use Rattle.catalog_model.specs.declared.catalog.Catalog.{Catalog}
 use Rattle.catalog_model.specs.declared.catalog.Part.{Part}
 use Rattle.catalog_model.specs.Parts.{has_number, part_at}
-use Rattle.catalog_model.specs.WellFormed.{IsWellFormed}
 use Rattle.store_model.specs.StoreState.{StoreState}
 use Rattle.boot_model.specs.declared.driver.ProtocolNote.{ProtocolNote}
 use Rattle.boot_model.specs.declared.driver.ProtocolSweep.{ProtocolSweep}
 use Rattle.boot_model.specs.declared.driver.Scheduled.{Scheduled}
-use Rattle.boot_model.specs.DxeChoice.{discovered_order, driver_queue, first_eligible, group_scheduled, head_of, is_eligible_driver, next_driver, queue_from, waiting}
+use Rattle.boot_model.specs.DxeChoice.{driver_queue, first_eligible, group_scheduled, head_of, is_eligible_driver, queue_from, waiting}
 use Rattle.boot_model.specs.DxeMachine.{DriverFrame, DxeMachine}
-use Rattle.boot_model.specs.DxeStep.{DxeActs, DxeCase, DxeFires, DxeStarts, DxeStops, dxe_case_in, dxe_case_of, dxe_step, driver_started, frame_case, in_dxe_case, next_note, queue_case}
+use Rattle.boot_model.specs.DxeStep.{DxeActs, DxeCase, DxeFires, DxeStarts, dxe_case_in, dxe_case_of, dxe_step, driver_started, in_dxe_case, next_note, queue_case}
 use Rattle.std.specs.Option.{option_and_then}
 use Rattle.boot_model.specs.FreeRun.{MaySchedule}
 use Rattle.dxe_choice.specs.Aim.{aimed as aimed_if, is_free, may_be_next}
 use Rattle.dxe_core.specs.Standing.{DxeCore, IsCoreOf, StandsFor}
-use Rattle.dxe_choice.specs.Queue.{IsQueueOf, Queue}
-use Rattle.dxe_dispatch.specs.Ends.{IsNow}
 use Rattle.free_laws.specs.DxeAim.{FirstEligibleMayStart, GroupsAreAimed, IsChoosing, aimed}
 use Rattle.free_laws.specs.DxeFree.{IsOwnCase}
 use Rattle.free_check.specs.DxeAim.{BeginsWithStart, LeadsTo, aimed_by}
@@ -95,12 +91,13 @@ chosen_target catalog m left (Some root) law choosing leads = by (may_be_next ca
   where
     test : (b : Bool) → may_be_next catalog m root ≡ b → (is_free m.scheduled && may_be_next catalog m root) ≡ b
     test b e = ap (λ xs. is_free xs && may_be_next catalog m root) choosing.scheduled ∙ e
+
     by : (b : Bool) → may_be_next catalog m root ≡ b → IsTarget catalog m left (aimed_if catalog m root)
     by true e = subst (IsTarget catalog m left) (sym (aim_is catalog m root true (test true e))) (Aimed root (record { choosing = choosing; may = may_by catalog m root e; leads = leads }))
     by false e =
         let none : LeadsNowhere catalog m left = λ other first rest may group begins.
-            let same = one_number root other (leads other first rest may group begins) in
-            false_true (sym e ∙ ap (may_be_next catalog m) same ∙ is_may catalog m other may) in
+        let same = one_number root other (leads other first rest may group begins) in
+        false_true (sym e ∙ ap (may_be_next catalog m) same ∙ is_may catalog m other may) in
         subst (IsTarget catalog m left) (sym (aim_is catalog m root false (test false e))) (self_chosen catalog m left law choosing none)
 
 -- where a driver is scheduled the choice is aimed at none

@@ -1,34 +1,31 @@
 -- What a turn leaves that is held against a text, from the machine's own step.
-use Rattle.std.proofs.Common.{◌≡◌, ◌⊎◌, ℕ, ◌<◌, ◌≤◌, ◌+◌, List, [], ◌∷◌, ◌++◌, Option, Some, None, Ok, Err, length, refl, sym, ap, ◌∙◌, subst, arith}
-use Rattle.std.proofs.lemmas.List.{append-nil, take-append-drop}
+use Rattle.std.proofs.Common.{◌≡◌, ℕ, ◌<◌, List, ◌++◌, Option, Some, None, Ok, Err, refl, sym, ap, ◌∙◌, subst, arith}
+use Rattle.std.proofs.lemmas.List.{take-append-drop}
 use Rattle.std.specs.Io.KnownBytes.{Appends}
 use Rattle.boot_io.specs.declared.halt.Halt.{Halt}
 use Rattle.boot_io.specs.declared.halt.Halt.TheVariants as H
 use Rattle.boot_io.specs.Faults.{IsPrefix, Rose}
 use Rattle.boot_io.specs.Halted.{HaltsAfter}
-use Rattle.boot_io.specs.Sink.{AppendsPart}
 use Rattle.catalog_model.specs.declared.catalog.Catalog.{Catalog}
 use Rattle.catalog_model.specs.WellFormed.{IsWellFormed}
 use Rattle.store_model.specs.StoreState.{StoreState}
 use Rattle.boot_model.specs.declared.line.Line.{Line}
 use Rattle.boot_model.specs.declared.phase_end.DxeEnd.{DxeEnd}
-use Rattle.boot_model.specs.DxeChoice.{discovered_order, first_eligible, group_scheduled}
 use Rattle.boot_model.specs.DxeMachine.{DxeMachine}
-use Rattle.boot_model.specs.DxeStep.{dxe_case_of, dxe_step}
+use Rattle.boot_model.specs.DxeStep.{dxe_step}
 use Rattle.boot_model.specs.FreeRun.{AreFreeDxeLines}
-use Rattle.boot_model.specs.Licence.{AllDiffer}
 use Rattle.boot_model.specs.PeiMachine.{PeiMachine}
 use Rattle.boot_model.specs.Text.{text_of}
 use Rattle.boot_laws.specs.UnrequestedDrivers.{WaitForRequest}
 use Rattle.boot_laws.proofs.EachDriver.{has_each_once}
 use Rattle.dxe_choice.specs.Queue.{IsQueueOf, Queue}
-use Rattle.dxe_core.specs.Standing.{DxeCore, StandsFor}
+use Rattle.dxe_core.specs.Standing.{DxeCore}
 use Rattle.dxe_core.specs.Turn.{Printed, PrintedPart, Texts}
 use Rattle.dxe_dispatch.specs.Ends.{IsNow}
 use Rattle.dxe_dispatch.specs.Turns.{IsReady, TurnsTo as StepsTo}
 use Rattle.dxe_dispatch.proofs.Growing.{step_grew}
 use Rattle.free_laws.specs.DxeAim.{AimIsFree, DxeStartsFreely, FirstEligibleMayStart, GroupsAreAimed, aimed}
-use Rattle.free_laws.specs.DxeFree.{DxeEndsFreely, DxeGoesOn, DxeLinesGrow, IsOwnCase, OwnDxeStepsAreFree}
+use Rattle.free_laws.specs.DxeFree.{DxeEndsFreely, DxeGoesOn, DxeLinesGrow, OwnDxeStepsAreFree}
 use Rattle.free_laws.specs.DxeUnderWay.{DxeStepsRunOut, IsNearerEnd, IsUnderWay}
 use Rattle.free_text.specs.declared.spelled.Spelled.{Spelled}
 use Rattle.free_text.specs.Following.{Tracks}
@@ -38,7 +35,7 @@ use Rattle.free_text.specs.Parted.{parted_by as by_halt}
 use Rattle.free_text.specs.Spelled.{IsHeld, IsRight, faults_of, left, spoken, whole}
 use Rattle.free_check.specs.DxeAim.{AimsByText, aimed_by}
 use Rattle.free_check.specs.DxeTurn.{GoesTo, IsFollowed, IsOnWay, TakesFew, TurnsTo, printed_by}
-use Rattle.free_check.proofs.FreeSteps.{AreReadable, IsByText, StartsFirst, all_print, aimed_owns, by_aimed_step, by_own_step, printed_more, starts_first, tracks_by}
+use Rattle.free_check.proofs.FreeSteps.{AreReadable, IsByText, all_print, aimed_owns, by_aimed_step, by_own_step, printed_more, starts_first, tracks_by}
 use Rattle.free_check.proofs.Requests.{aim_waits, step_waits}
 use Rattle.free_check.proofs.Targets.{Aimed, First, IsChosen, IsTarget, Own, first_step, target_is, target_stands}
 

@@ -8,8 +8,7 @@ use pi_base::Guid;
 // A GUID is sixteen bytes.
 fn is_guid(name: Guid)
     ensures { IsGuid name }
-{
-}
+{}
 
 /// The file name of each module is sixteen bytes: nothing is left to test.
 pub(crate) fn names_are_guids(catalog: &Catalog)

@@ -1,9 +1,4 @@
-use Rattle.free_check.proofs.Aims.{busy_aims, none_aims, on_ok, some_aims}
-use Rattle.std.proofs.Common.{◌≡◌, true, refl}
-use Rattle.std.proofs.lemmas.Bool.Decides.{nat_tests}
-use Rattle.dxe_choice.specs.Queue.{IsSeen}
-use Rattle.driver_order.specs.Order.{Drivers}
-use Rattle.boot_model.specs.DxeMachine.{DxeMachine}
+use Rattle.free_check.proofs.Aims.{none_aims, on_ok, some_aims}
 use Rattle.free_check.proofs.Aims.{same_seen}
 use Rattle.free_check.proofs.dxe_aim.aim_by_text.Goals as goal
 

@@ -1,6 +1,5 @@
-use Rattle.std.proofs.Common.{◌≡◌, ℕ, Some, refl, sym, ◌∙◌, subst}
+use Rattle.std.proofs.Common.{ℕ, sym, ◌∙◌}
 use Rattle.catalog_model.specs.Parts.{module_name, module_volume}
-use Rattle.module_names.specs.Named.{IsNamed}
 use Rattle.pi_base.specs.declared.guid.Guid.{Guid}
 use Rattle.free_check.proofs.Leading.{named_so, nothing_there, same_pair}
 use Rattle.free_check.proofs.dxe_next.next_start.Goals as goal

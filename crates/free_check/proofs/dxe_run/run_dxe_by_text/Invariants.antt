@@ -1,11 +1,10 @@
-use Rattle.std.proofs.Common.{◌≡◌, ◌-◌, ℕ, List}
+use Rattle.std.proofs.Common.{◌-◌, ℕ, List}
 use Rattle.store_model.specs.StoreState.{StoreState}
 use Rattle.boot_model.specs.DxeRun.{dxe_bound, dxe_opening}
 use Rattle.boot_model.specs.PeiMachine.{PeiMachine}
 use Rattle.boot_model.specs.Text.{text_of}
 use Rattle.dxe_choice.specs.Queue.{IsQueueFor}
 use Rattle.dxe_core.specs.Standing.{IsFor, StandsFor}
-use Rattle.free_check.specs.DxeAim.{AreGuids}
 use Rattle.free_check.proofs.FollowedRuns.{IsFollowing, IsGoing}
 use Rattle.free_text.specs.Spelled.{IsHeld, IsRight}
 use Rattle.free_check.proofs.dxe_run.run_dxe_by_text.Given as goal
