@@ -1,0 +1,183 @@
+-- From the text's next line to the driver of the group that it starts.
+use Rattle.std.proofs.Common.{◌≡◌, ℕ, zero, suc, ◌<◌, ◌≤◌, ◌+◌, ◌-◌, Bool, true, false, ◌&&◌, not, List, [], ◌∷◌, ◌++◌, Option, Some, None, length, refl, sym, ap, ◌∙◌, subst, arith, is_some}
+use Rattle.std.specs.Prelude.{slice_get, unwrap_or, option_map}
+use Rattle.std.specs.List.{list_all}
+use Rattle.std.specs.Option.{option_and_then}
+use Rattle.boot_io.specs.Faults.{IsPrefix}
+use Rattle.boot_io.specs.Line.{spaced}
+use Rattle.std.specs.Prelude.{flat_map}
+use Rattle.pi_base.specs.declared.guid.Guid.{Guid}
+use Rattle.pi_base.specs.declared.phase.Phase.TheVariants.{Dxe}
+use Rattle.pi_base.specs.Lists.{Each}
+use Rattle.depex_code.specs.declared.depex.Depex.TheVariants as D
+use Rattle.catalog_model.specs.declared.catalog.Catalog.{Catalog}
+use Rattle.catalog_model.specs.declared.catalog.Module.{Module}
+use Rattle.catalog_model.specs.declared.catalog.Part.{Part}
+use Rattle.catalog_model.specs.declared.catalog.PartExpr.{PartExpr}
+use Rattle.catalog_model.specs.declared.catalog.PartExpr.TheVariants as E
+use Rattle.catalog_model.specs.Parts.{module_name, module_volume, part_at, part_of}
+use Rattle.catalog_model.specs.WellFormed.{IsWellFormed}
+use Rattle.boot_model.specs.declared.driver.Scheduled.{Scheduled}
+use Rattle.boot_model.specs.declared.line.Line.{Line}
+use Rattle.boot_model.specs.DriverLicence.{first_of, numbers_of, target_of}
+use Rattle.boot_model.specs.DxeChoice.{after_of, before_of, companion_group, driver_licence, driver_named, group_scheduled, schedule_of}
+use Rattle.boot_model.specs.DxeMachine.{DxeMachine}
+use Rattle.boot_model.specs.FreeRun.{MaySchedule}
+use Rattle.boot_model.specs.Text.{keyword, line_text, words}
+use Rattle.boot_model.proofs.ListFacts.{within}
+use Rattle.free_laws.specs.DxeAim.{GroupsAreAimed, IsChoosing, NamesLeadToRoot, follows}
+use Rattle.free_laws.specs.DxeUnderWay.{FewDriversWait, IsDriverOf, IsUnderWay}
+use Rattle.free_text.specs.declared.spelled.Spelled.{Spelled}
+use Rattle.free_text.specs.Lines.{BeginsWithLine, Lacks, is_feed}
+use Rattle.free_text.specs.Spelled.{IsRight, left}
+use Rattle.module_names.specs.Named.{AreNames, IsNamed}
+use Rattle.trace_reader.specs.Readable.{IsGuid, IsLineOf, IsReadable}
+use Rattle.trace_reader.proofs.LineBodies.{body_lacks, line_then, same_line}
+use Rattle.trace_reader.proofs.OneReading.{text_one}
+use Rattle.free_check.specs.DxeAim.{AreGuids, BeginsWithStart, LeadsTo, NamesNext, given_by}
+use Rattle.free_check.proofs.FreeSteps.{AreReadable}
+
+-- the name that an expression gives leads to the driver that it names
+target_by : (f : Guid → Option ℕ) (expr : PartExpr) → option_and_then f (given_by expr) ≡ first_of (option_and_then f (before_of expr)) (option_and_then f (after_of expr))
+target_by f E.Absent = refl
+target_by f (E.Malformed at) = refl
+target_by f (E.Held (D.Before name)) = kept (f name)
+  where
+    kept : (o : Option ℕ) → o ≡ first_of o None
+    kept None = refl
+    kept (Some n) = refl
+target_by f (E.Held (D.After name)) = refl
+target_by f (E.Held (D.Expr sor node)) = refl
+
+targets_by : (f : Guid → Option ℕ) (part : Option Part)
+    → option_and_then f (option_and_then (λ (p : Part). given_by p.expr) part) ≡ first_of (option_and_then f (option_and_then (λ (p : Part). before_of p.expr) part)) (option_and_then f (option_and_then (λ (p : Part). after_of p.expr) part))
+targets_by f None = refl
+targets_by f (Some part) = target_by f part.expr
+
+pub target_found : (catalog : Catalog) (m : DxeMachine) (number : ℕ) (part : Option Part) → part_at Dxe catalog number ≡ part → option_and_then (driver_named catalog m) (option_and_then (λ (p : Part). given_by p.expr) part) ≡ target_of catalog m number
+target_found catalog m number part is =
+    ap (λ o. option_and_then (driver_named catalog m) (option_and_then (λ (p : Part). given_by p.expr) o)) (sym is) ∙ targets_by (driver_named catalog m) (part_at Dxe catalog number)
+
+-- a step on the way to the root
+pub follows_more : (catalog : Catalog) (m : DxeMachine) (n number target : ℕ) → target_of catalog m number ≡ Some target → follows catalog m (suc n) number ≡ follows catalog m n target
+follows_more catalog m n number target is = ap (λ o. elim o as (λ _. ℕ) [ None ↦ number | Some t ↦ follows catalog m n t ]) is
+
+pub follows_end : (catalog : Catalog) (m : DxeMachine) (n number : ℕ) → target_of catalog m number ≡ None → follows catalog m n number ≡ number
+follows_end catalog m zero number is = refl
+follows_end catalog m (suc n) number is = ap (λ o. elim o as (λ _. ℕ) [ None ↦ number | Some t ↦ follows catalog m n t ]) is
+
+-- the start of a driver is a readable line
+guid_at : (ms : List Module) (number : ℕ) → Each (λ m. IsGuid m.name) ms → number < length ms → (found : Module) × (slice_get ms number ≡ Some found) × IsGuid found.name
+guid_at [] number e below = absurd (omega (arith, below))
+guid_at (m ∷ ms) zero e below = (m, refl, e.0)
+guid_at (m ∷ ms) (suc number) e below = guid_at ms number e.1 (omega (arith, below))
+
+volume_at : (ms : List Module) (number most : ℕ) → Each (λ m. m.volume < most) ms → number < length ms → unwrap_or (option_map (λ (m : Module). m.volume) (slice_get ms number)) 0 < most
+volume_at [] number most e below = absurd (omega (arith, below))
+volume_at (m ∷ ms) zero most e below = e.0
+volume_at (m ∷ ms) (suc number) most e below = volume_at ms number most e.1 (omega (arith, below))
+
+pub starts_readable : (catalog : Catalog) → IsWellFormed catalog → AreGuids catalog → AreReadable catalog
+starts_readable catalog well guids next driver =
+    let number = next.module_number in
+    let below : number < length catalog.modules = within (part_of Dxe) catalog.modules number driver in
+    let found = guid_at catalog.modules number guids below in
+    let volume : module_volume catalog number < length catalog.volumes = volume_at catalog.modules number (length catalog.volumes) well.in_range below in
+    let few = well.few_volumes in
+    let name : module_name catalog number ≡ found.0.name = name_is catalog.modules number found.0 found.1 in
+    (omega (arith, volume, few), subst IsGuid (sym name) found.2)
+  where
+    name_is : (ms : List Module) (number : ℕ) (found : Module) → slice_get ms number ≡ Some found → module_name (record catalog { modules = ms }) number ≡ found.name
+    name_is ms number found is = rw is refl
+
+-- what the first of a group is
+pub group_first : (catalog : Catalog) (m : DxeMachine) (root : ℕ) (first : Scheduled) (rest : List Scheduled) → group_scheduled catalog m (Some root) ≡ first ∷ rest → (more : List ℕ) × (companion_group catalog m root ≡ first.module_number ∷ more)
+group_first catalog m root first rest is = by (companion_group catalog m root) refl is
+  where
+    first_is : (x : ℕ) (xs : List ℕ) → schedule_of catalog (x ∷ xs) ≡ first ∷ rest → x ≡ first.module_number
+    first_is x xs e = let same : record { module_number = x; licence = driver_licence (part_at Dxe catalog x) } ≡ first = cc in ap (λ (s : Scheduled). s.module_number) same
+
+    by : (numbers : List ℕ) → companion_group catalog m root ≡ numbers → schedule_of catalog numbers ≡ first ∷ rest → (more : List ℕ) × (companion_group catalog m root ≡ first.module_number ∷ more)
+    by [] e f = cc
+    by (x ∷ xs) e f = (xs, e ∙ ap (λ n. n ∷ xs) (first_is x xs f))
+
+no_number : (n : ℕ) → None ≡ Some n → ⊥
+no_number n e = cc
+
+one_number : (a b : ℕ) → Some a ≡ Some b → a ≡ b
+one_number a b e = cc
+
+first_known : (catalog : Catalog) (m : DxeMachine) (other : ℕ) (first : Scheduled) (rest : List Scheduled) → GroupsAreAimed → IsUnderWay catalog m → IsChoosing m → MaySchedule catalog m other → group_scheduled catalog m (Some other) ≡ first ∷ rest
+    → is_some (part_at Dxe catalog first.module_number) ≡ true
+first_known catalog m other first rest law way choosing may group =
+    let known = subst (λ xs. Each (IsDriverOf catalog m.discovered) (numbers_of xs)) group ((law catalog m other choosing may).way way).queue_known in
+    known.0.0
+
+-- the laws by which a line leads to a driver
+pub record LeadLaws : Type 0 where
+  pub roots : NamesLeadToRoot
+  pub few : FewDriversWait
+  pub groups : GroupsAreAimed
+
+number_next : (laws : LeadLaws) (catalog : Catalog) (m : DxeMachine) (names : List (List (Guid × ℕ))) (text : Spelled) (found : Option ℕ) (other : ℕ) (first : Scheduled) (rest : List Scheduled) → NamesNext names text found → IsWellFormed catalog
+    → AreNames catalog (length catalog.modules) names → AreGuids catalog → IsUnderWay catalog m → IsChoosing m → IsRight text → MaySchedule catalog m other → group_scheduled catalog m (Some other) ≡ first ∷ rest → BeginsWithStart catalog first (left text)
+    → found ≡ Some first.module_number
+number_next laws catalog m names text found other first rest next well are guids way choosing right may group begins =
+    let driver = first_known catalog m other first rest laws.groups way choosing may group in
+    next catalog first are (starts_readable catalog well guids first driver) right (within (part_of Dxe) catalog.modules first.module_number driver) begins
+
+-- a module is named
+pub leads_on : (laws : LeadLaws) (catalog : Catalog) (m : DxeMachine) (names : List (List (Guid × ℕ))) (text : Spelled) (found : Option ℕ) (number root : ℕ) → found ≡ Some number → NamesNext names text found → IsWellFormed catalog
+    → AreNames catalog (length catalog.modules) names → AreGuids catalog → IsUnderWay catalog m → IsChoosing m → IsRight text → root ≡ follows catalog m (length catalog.modules) number → LeadsTo catalog m (left text) (Some root)
+leads_on laws catalog m names text found number root is next well are guids way choosing right root_is other first rest may group begins =
+    let named = number_next laws catalog m names text found other first rest next well are guids way choosing right may group begins in
+    let same : number ≡ first.module_number = one_number number first.module_number (sym is ∙ named) in
+    let members = group_first catalog m other first rest group in
+    let leads = laws.roots catalog m other first.module_number members.0 may members.1 in
+    ap Some (root_is ∙ ap (follows catalog m (length catalog.modules)) same ∙ leads.leads (length catalog.modules) (laws.few catalog m way).waiting)
+
+-- none is
+pub leads_nowhere : (laws : LeadLaws) (catalog : Catalog) (m : DxeMachine) (names : List (List (Guid × ℕ))) (text : Spelled) (found : Option ℕ) → found ≡ None → NamesNext names text found → IsWellFormed catalog
+    → AreNames catalog (length catalog.modules) names → AreGuids catalog → IsUnderWay catalog m → IsChoosing m → IsRight text → LeadsTo catalog m (left text) None
+leads_nowhere laws catalog m names text found none next well are guids way choosing right other first rest may group begins =
+    absurd (no_number first.module_number (sym none ∙ number_next laws catalog m names text found other first rest next well are guids way choosing right may group begins))
+
+-- a line feed is there
+lacks_none : (front rest : List ℕ) → Lacks (front ++ 10 ∷ rest) → ⊥
+lacks_none [] rest lacks = let e : (not (is_feed 10) && list_all (λ byte. not (is_feed byte)) rest) ≡ false = refl in cc
+lacks_none (x ∷ xs) rest lacks = lacks_none xs rest (second (not (is_feed x)) _ lacks)
+  where
+    second : (a b : Bool) → (a && b) ≡ true → b ≡ true
+    second true b e = e
+    second false b e = absurd (cc)
+
+-- a text that goes on with a line has a next line
+pub line_there : (line : Line) (bytes : List ℕ) → IsPrefix (line_text line) bytes → Lacks bytes → ⊥
+line_there line bytes begins lacks = lacks_none (keyword line ++ flat_map spaced (words line)) begins.0 (subst Lacks (begins.1 ∙ line_then line begins.0) lacks)
+
+-- which is that one
+pub next_is : (line : Line) (bytes read : List ℕ) → IsReadable line → IsPrefix (line_text line) bytes → BeginsWithLine bytes read → IsLineOf read line
+next_is line bytes read readable begins next =
+    (readable, same_line read (keyword line ++ flat_map spaced (words line)) next.rest begins.0 next.lacks (body_lacks line readable) (sym next.is ∙ begins.1 ∙ line_then line begins.0))
+
+-- and is read as it
+pub read_is : (line found : Line) (bytes : List ℕ) → IsLineOf bytes line → IsLineOf bytes found → found ≡ line
+read_is line found bytes is read = text_one found line read.0 is.0 (ap (λ b. b ++ 10 ∷ []) (sym read.1 ∙ is.1))
+
+pub same_pair : (a b : ℕ × Guid) → Some a ≡ Some b → (a.0 ≡ b.0) × (a.1 ≡ b.1)
+same_pair a b e = let same : a ≡ b = cc in (ap (λ p. p.0) same, ap (λ p. p.1) same)
+
+-- one name nearer to the root
+pub follows_left : (catalog : Catalog) (m : DxeMachine) (all counter number target : ℕ) → counter < all → target_of catalog m number ≡ Some target → follows catalog m (all - counter) number ≡ follows catalog m (all - (counter + 1)) target
+follows_left catalog m all counter number target below is =
+    let one : all - counter ≡ suc (all - (counter + 1)) = omega (arith, below) in ap (λ n. follows catalog m n number) one ∙ follows_more catalog m (all - (counter + 1)) number target is
+
+pub none_left : (catalog : Catalog) (m : DxeMachine) (all counter number : ℕ) → all ≤ counter → follows catalog m (all - counter) number ≡ number
+none_left catalog m all counter number out = let none : all - counter ≡ 0 = omega (arith, out) in ap (λ n. follows catalog m n number) none
+
+pub nothing_there : (a : ℕ × Guid) → None ≡ Some a → ⊥
+nothing_there a e = cc
+
+-- the module is named by the volume and the name that were read
+pub named_so : (catalog : Catalog) (number volume : ℕ) (name : Guid) → number < length catalog.modules → module_volume catalog number ≡ volume → module_name catalog number ≡ name → IsNamed catalog volume name number
+named_so catalog number volume name below same named = record { is_module = below; in_volume = same; of_name = named }

@@ -1,0 +1,7 @@
+mod Aims
+mod FollowedRuns
+mod FreeSteps
+mod Leading
+mod Requests
+mod Targets
+mod TurnResults

@@ -1,0 +1,9 @@
+use Rattle.std.proofs.Common.{◌≡◌, ◌-◌, length}
+use Rattle.boot_model.specs.DxeMachine.{DxeMachine}
+use Rattle.driver_order.specs.Order.{IsOrderOf}
+use Rattle.free_laws.specs.DxeAim.{follows}
+use Rattle.free_check.proofs.dxe_target.root_of.Given as goal
+
+-- the names that are left lead on to the driver
+abbrev pub invariant-names : goal.invariant-names
+invariant-names l = (m : DxeMachine) → IsOrderOf l.catalog m.discovered l.order → follows l.catalog m (length l.catalog.modules - l.counter) l.root ≡ follows l.catalog m (length l.catalog.modules) l.number

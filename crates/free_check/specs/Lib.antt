@@ -1,0 +1,3 @@
+pub mod DxeAim
+pub mod DxeTurn
+pub mod DxeRun

@@ -1,0 +1,70 @@
+// DXE as a text has it.
+ghost use Rattle.std.specs.Prelude.{◌≡◌, ◌≤◌, ◌<◌, ◌^◌, ℕ, OnOk, length};
+ghost use Rattle.boot_model.specs.DxeRun.{dxe_bound};
+ghost use Rattle.catalog_model.specs.declared.limits.TheConstants.{MOST_MODULES};
+ghost use Rattle.catalog_model.specs.WellFormed.{IsWellFormed};
+ghost use Rattle.dxe_choice.specs.Queue.{IsNewQueue, IsQueueFor};
+ghost use Rattle.dxe_core.specs.Standing.{IsFor};
+ghost use Rattle.dxe_dispatch.specs.Ends.{IsAtOpening};
+ghost use Rattle.free_check.specs.DxeRun.{FollowsDxe};
+ghost use Rattle.free_text.specs.Spelled.{IsRight};
+ghost use Rattle.module_names.specs.Named.{AreNames};
+
+use crate::dxe_guids::names_are_guids;
+use crate::dxe_turn::turn_by_text;
+use boot_laws::{discovered_order_has_each_once, unrequested_drivers_wait};
+use boot_model::{DxeEnd, MOST_FRAMES};
+use catalog_model::Catalog;
+use depex_code::Steps;
+use dxe_choice::DriverQueue;
+use dxe_core::{Dxe, put_volumes};
+use free_laws::{dxe_ends, dxe_lines_grow, dxe_opens};
+use free_text::{Parted, Spelled, text_tells};
+use module_names::Names;
+use std::sync::ledger::Ledger;
+use store_model::PeiStore;
+
+// How many steps a free run has at most.
+fn bound(catalog: &Catalog, fuel: u32) -> u64
+    requires { length catalog.now.modules ≤ MOST_MODULES }
+    ensures { result ≡ dxe_bound catalog.now fuel }
+{
+    2 * u64::from(fuel) + MOST_FRAMES as u64 + catalog.modules.len() as u64 + 1
+}
+
+/// DXE as a text has it, from the opening to its end: the lines of the volumes that were discovered, and then a step at a time. `dxe` is the core at its opening, and `queue` is new. The text is off where no free boot of the plan goes on as it does.
+pub(crate) fn run_dxe_by_text<M: PeiStore, L: Ledger>(
+    dxe: &mut Dxe,
+    store: &M,
+    queue: &mut DriverQueue,
+    catalog: &Catalog,
+    names: &Names,
+    text: &mut Spelled<'_>,
+    steps: &mut Steps<L>,
+) -> Result<DxeEnd, Parted>
+    requires catalog { IsWellFormed catalog.now }
+    requires names { AreNames catalog.now (length catalog.now.modules) names.now.volumes.items }
+    requires made { (fuel : ℕ) × IsFor catalog.now fuel dxe.old }
+    requires new { IsNewQueue catalog.now queue.old }
+    requires queue { IsQueueFor catalog.now queue.old }
+    requires opening { IsAtOpening M.stands_for store.now catalog.now dxe.old }
+    requires text { IsRight text.old }
+    ensures row { FollowsDxe M.stands_for store.now catalog.now dxe.old dxe.new text.old text.new result }
+    ensures few { dxe.old.fuel.taken < 2 ^ 32 → OnOk result (length dxe.new.services.handles.interfaces < 2 ^ 32) }
+{
+    dxe_opens();
+    dxe_ends();
+    dxe_lines_grow();
+    unrequested_drivers_wait();
+    discovered_order_has_each_once();
+    text_tells();
+    names_are_guids(catalog);
+    queue.discover(catalog, dxe.order(), 0)?;
+    put_volumes(text, dxe.order().volumes())?;
+    'turns: for _ in 0..bound(catalog, dxe.fuel()) {
+        if let Some(end) = turn_by_text(dxe, store, queue, catalog, names, text, steps)? {
+            return Ok(end);
+        }
+    }
+    unreachable!()
+}

@@ -1,0 +1,48 @@
+// Where the names behind BEFORE and AFTER lead.
+ghost use Rattle.std.specs.Prelude.{◌≡◌, length};
+ghost use Rattle.boot_model.specs.DriverLicence as Of;
+ghost use Rattle.boot_model.specs.DxeMachine.{DxeMachine};
+ghost use Rattle.driver_order.specs.Order.{IsOrderOf};
+ghost use Rattle.free_check.specs.DxeAim.{given_by};
+ghost use Rattle.free_laws.specs.DxeAim.{follows};
+
+use catalog_model::{Catalog, PartExpr};
+use depex_code::Depex;
+use driver_order::DriverOrder;
+use frames::part_of;
+use pi_base::{Guid, Phase};
+
+// The name that an expression gives in BEFORE or in AFTER.
+fn given_by(expression: &PartExpr) -> Option<Guid>
+    ensures { result ≡ given_by expression.now }
+{
+    match expression {
+        PartExpr::Held(Depex::Before(name)) => Some(*name),
+        PartExpr::Held(Depex::After(name)) => Some(*name),
+        _ => None,
+    }
+}
+
+// The driver that a driver names in BEFORE or in AFTER.
+fn target_of(catalog: &Catalog, order: &DriverOrder, number: u32) -> Option<u32>
+    ensures { (m : DxeMachine) → IsOrderOf catalog.now m.discovered order.now → result ≡ Of.target_of catalog.now m number }
+{
+    let part = part_of(catalog, Phase::Dxe, number)?;
+    let name = given_by(&part.expr)?;
+    order.named(&name)
+}
+
+/// The driver to which the names lead from a driver, after at most as many as there are modules.
+pub(crate) fn root_of(catalog: &Catalog, order: &DriverOrder, number: u32) -> u32
+    ensures { (m : DxeMachine) → IsOrderOf catalog.now m.discovered order.now
+        → result ≡ follows catalog.now m (length catalog.now.modules) number }
+{
+    let mut root = number;
+    'names: for _ in 0..catalog.modules.len() {
+        match target_of(catalog, order, root) {
+            Some(target) => root = target,
+            None => return root,
+        }
+    }
+    root
+}
