@@ -5,3 +5,7 @@ mod Leading
 mod Requests
 mod Targets
 mod TurnResults
+mod FirstOff
+mod LastLines
+mod EndedInPei
+mod HandedOff

@@ -1,9 +1,16 @@
-//! A text, held against the free boots of a plan.
+//! Whether a text is the trace of a boot of a plan in which the dispatchers chose freely.
 #![tactic(auto)]
 
+mod checking;
+mod closing;
 mod dxe_aim;
 mod dxe_guids;
 mod dxe_next;
 mod dxe_run;
 mod dxe_target;
 mod dxe_turn;
+mod following;
+mod verdict;
+
+pub use checking::{CheckFault, check};
+pub use verdict::Verdict;

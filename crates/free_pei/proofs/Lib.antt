@@ -1,7 +1,7 @@
 mod Choosing
 mod Facts
 mod Going
-mod Lines
+pub mod Lines
 mod Reading
 mod Runs
 mod Starts

@@ -1,0 +1,53 @@
+-- The last lines of a boot against a text.
+use Rattle.std.proofs.Common.{◌≡◌, ◌≤◌, ℕ, ◌+◌, ◌-◌, ◌^◌, List, [], ◌++◌, refl, sym, ap, ◌∙◌, subst, append_assoc, arith, inl, Some, Option}
+use Rattle.std.specs.Prelude.{min}
+use Rattle.std.proofs.lemmas.List.{append-nil}
+use Rattle.std.specs.Io.KnownBytes.{Appends}
+use Rattle.boot_io.specs.Faults.{IsPrefix, Rose}
+use Rattle.boot_io.specs.Sink.{AppendsPart}
+use Rattle.boot_model.specs.declared.line.Line.{Line}
+use Rattle.boot_model.specs.Text.{text_of}
+use Rattle.free_text.specs.declared.spelled.Spelled.{Spelled}
+use Rattle.free_text.specs.Following.{Tracks}
+use Rattle.free_text.specs.Putting.{AllPrint, IsOffHere}
+use Rattle.free_text.specs.Spelled.{IsHeld, IsRight, met, spoken}
+use Rattle.free_text.proofs.Fronts.{prefix_then}
+use Rattle.free_text.proofs.Telling.{failed, goes_on, held_on, off}
+use Rattle.free_check.specs.Following.{IsLast, IsWhole}
+
+-- a text that failed once is not right
+pub not_right : (before now : ℕ) → before ≡ 0 → Rose before now → now ≡ 0 → ⊥
+not_right before now none rose is =
+    let least : min (before + 1) (2 ^ 64 - 1) ≡ 1 = ap (λ n. min (n + 1) (2 ^ 64 - 1)) none in
+    omega (arith, least, rose, is)
+
+-- the last lines were met
+pub whole_by : (Lines : List Line → Type 0) (old new : Spelled) (text printed last : List ℕ) → IsHeld old text printed → IsLast Lines printed last → IsRight new → Appends (Some (spoken old)) (Some (spoken new)) last
+    → IsWhole Lines text (met new) new
+whole_by Lines old new text printed last held is right puts =
+    let here = held_on old new text printed last held (goes_on old new last puts held.right right) right in
+    let all : met new ≡ text_of is.all = here.met_is ∙ sym is.text_is in
+    record {
+      held = record { whole_is = here.whole_is; met_is = refl; right = right };
+      lines = is.all;
+      boots = is.boots;
+      is = all;
+      only = λ others boots begins.
+        let more : IsPrefix printed (text_of others) = prefix_then printed (met new) (text_of others) (last, here.met_is) begins in
+        is.only others boots more ∙ sym all;
+    }
+
+-- a part of them was, and the text is off
+pub off_by : (Lines : List Line → Type 0) (old new : Spelled) (text printed last : List ℕ) → IsHeld old text printed → IsLast Lines printed last → (IsRight new → ⊥)
+    → AppendsPart (Some (spoken old)) (Some (spoken new)) last → IsOffHere Lines text new
+off_by Lines old new text printed last held is wrong part =
+    let Here : List Line → Type 0 = λ lines. Lines lines × IsPrefix printed (text_of lines) in
+    let tracks : Tracks Lines Here printed = record { back = λ lines here. here.0; on = λ lines boots begins. (boots, begins) } in
+    let prints : (lines : List Line) → Lines lines → IsPrefix printed (text_of lines) → IsPrefix (printed ++ last) (text_of lines) = λ lines boots begins.
+      ([], is.only lines boots begins ∙ is.text_is ∙ sym (append-nil (printed ++ last))) in
+    let first : IsPrefix printed (text_of is.all) = (last, is.text_is) in
+    let all : AllPrint Here text printed last = record {
+      some = (is.all, (is.boots, first), prints is.all is.boots first);
+      each = λ lines here. inl (prints lines here.0 here.1);
+    } in
+    off Lines Here new text printed last (failed old new text printed last held wrong part) tracks all

@@ -1,0 +1,42 @@
+//! What a check answers.
+ghost use Rattle.std.specs.Prelude.{ℕ, IfOk};
+ghost use Rattle.boot_model.specs.FreeRun.{AreFreeLines};
+ghost use Rattle.catalog_model.specs.declared.catalog.Catalog.{Catalog as OfCatalog};
+ghost use Rattle.store_model.specs.StoreState.{Board};
+ghost use Rattle.free_text.specs.Spelled.{whole};
+ghost use Rattle.free_check.specs.Following.{Follows, IsShort};
+ghost use Rattle.free_check.specs.Verdict.{IsVerdict};
+
+use free_text::{Parted, Spelled};
+use pi_base::OutOfMemory;
+
+/// What the check of a text answers.
+#[derive(Clone, Copy, Debug, PartialEq, Eq)]
+pub enum Verdict {
+    /// The text is the whole text of some free boot.
+    Yes,
+    /// It is not.
+    No {
+        /// The first line, from 1, that the text does not have, or with which it begins no free boot.
+        line: u32,
+    },
+}
+
+/// The verdict on a text, by how a boot was followed along it.
+pub fn verdict_of(
+    followed: Result<(), Parted>,
+    text: &Spelled<'_>,
+) -> Result<Verdict, OutOfMemory>
+    requires few { IsShort text.now followed }
+    ensures { (board : Board) (catalog : OfCatalog) (fuel : ℕ) → Follows (AreFreeLines board catalog fuel) (whole text.now) text.now followed
+        → IfOk result (IsVerdict (AreFreeLines board catalog fuel) (whole text.now)) }
+{
+    match followed {
+        Ok(()) if text.is_at_end() => Ok(Verdict::Yes),
+        Ok(()) => Ok(Verdict::No { line: text.line() }),
+        Err(parted) => match parted {
+            Parted::Off => Ok(Verdict::No { line: text.line() }),
+            Parted::Memory => Err(OutOfMemory),
+        },
+    }
+}
