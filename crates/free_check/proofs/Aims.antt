@@ -1,5 +1,5 @@
 -- The queue, aimed by a text.
-use Rattle.std.proofs.Common.{◌≡◌, ℕ, Bool, true, false, not, [], Option, Some, None, Result, Ok, Err, refl, sym, ◌∙◌, subst}
+use Rattle.std.proofs.Common.{◌≡◌, ℕ, Bool, true, [], Option, Some, None, Result, Ok, Err, refl, sym, ◌∙◌, subst}
 use Rattle.std.specs.Prelude.{◌↔◌, IsTrue, OnOk}
 use Rattle.catalog_model.specs.declared.catalog.Catalog.{Catalog}
 use Rattle.boot_model.specs.DxeMachine.{DxeMachine}
@@ -18,21 +18,6 @@ order_of catalog core queue m order is are = let P : Drivers → Type 0 = λ dri
 
 pub seen_of : (catalog : Catalog) (core : DxeCore) (queue : Queue) (m : DxeMachine) (order : Drivers) → order ≡ core.services.order → AreOf catalog core queue m → IsSeen catalog m queue order
 seen_of catalog core queue m order is are = record { queue = are.queue; order = order_of catalog core queue m order is are }
-
-not_idle : (idle : Bool) (core : DxeCore) → IsTrue idle ↔ (core.frames ≡ []) → idle ≡ false → core.frames ≡ [] → ⊥
-not_idle idle core is runs none = never (sym runs ∙ is.1 none)
-  where
-    never : false ≡ true → ⊥
-    never e = cc
-
--- a script runs
-pub busy_aims : (catalog : Catalog) (core : DxeCore) (queue : Queue) (text : Spelled) (idle : Bool) → IsTrue idle ↔ (core.frames ≡ []) → idle ≡ false → AimsByText catalog core queue text queue
-busy_aims catalog core queue text idle is busy m are = record {
-  root = None;
-  queue = are.queue;
-  leads = λ way choosing right. absurd (not_idle idle core is busy (sym are.core.frames ∙ choosing.frames));
-  busy = λ runs. refl;
-}
 
 -- none runs, and the text names no driver
 pub none_aims : (catalog : Catalog) (core : DxeCore) (queue : Queue) (order : Drivers) (text : Spelled) (found : Option ℕ) → order ≡ core.services.order → LeadsByText catalog order text found → found ≡ None → AimsByText catalog core queue text queue
@@ -56,10 +41,6 @@ some_aims catalog core queue later order text found root idle is none same leads
 pub on_ok : {A E P Q : Type 0} (result : Result A E) → (P → Q) → OnOk result P → OnOk result Q
 on_ok (Ok done) f p = f p
 on_ok (Err fault) f p = tt
-
-pub not_not : (b : Bool) → not b ≡ false → b ≡ true
-not_not true e = refl
-not_not false e = cc
 
 -- by the order of the core, twice
 pub same_seen : (catalog : Catalog) (core : DxeCore) (queue later : Queue) (root : ℕ) (order other : Drivers) → order ≡ core.services.order → other ≡ core.services.order

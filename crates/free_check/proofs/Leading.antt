@@ -2,25 +2,20 @@
 use Rattle.std.proofs.Common.{◌≡◌, ℕ, zero, suc, ◌<◌, ◌≤◌, ◌+◌, ◌-◌, Bool, true, false, ◌&&◌, not, List, [], ◌∷◌, ◌++◌, Option, Some, None, length, refl, sym, ap, ◌∙◌, subst, arith, is_some}
 use Rattle.std.specs.Prelude.{slice_get, unwrap_or, option_map}
 use Rattle.std.specs.List.{list_all}
-use Rattle.std.specs.Option.{option_and_then}
 use Rattle.boot_io.specs.Faults.{IsPrefix}
 use Rattle.boot_io.specs.Line.{spaced}
 use Rattle.std.specs.Prelude.{flat_map}
 use Rattle.pi_base.specs.declared.guid.Guid.{Guid}
 use Rattle.pi_base.specs.declared.phase.Phase.TheVariants.{Dxe}
 use Rattle.pi_base.specs.Lists.{Each}
-use Rattle.depex_code.specs.declared.depex.Depex.TheVariants as D
 use Rattle.catalog_model.specs.declared.catalog.Catalog.{Catalog}
 use Rattle.catalog_model.specs.declared.catalog.Module.{Module}
-use Rattle.catalog_model.specs.declared.catalog.Part.{Part}
-use Rattle.catalog_model.specs.declared.catalog.PartExpr.{PartExpr}
-use Rattle.catalog_model.specs.declared.catalog.PartExpr.TheVariants as E
 use Rattle.catalog_model.specs.Parts.{module_name, module_volume, part_at, part_of}
 use Rattle.catalog_model.specs.WellFormed.{IsWellFormed}
 use Rattle.boot_model.specs.declared.driver.Scheduled.{Scheduled}
 use Rattle.boot_model.specs.declared.line.Line.{Line}
-use Rattle.boot_model.specs.DriverLicence.{first_of, numbers_of, target_of}
-use Rattle.boot_model.specs.DxeChoice.{after_of, before_of, companion_group, driver_licence, driver_named, group_scheduled, schedule_of}
+use Rattle.boot_model.specs.DriverLicence.{numbers_of, target_of}
+use Rattle.boot_model.specs.DxeChoice.{companion_group, driver_licence, group_scheduled, schedule_of}
 use Rattle.boot_model.specs.DxeMachine.{DxeMachine}
 use Rattle.boot_model.specs.FreeRun.{MaySchedule}
 use Rattle.boot_model.specs.Text.{keyword, line_text, words}
@@ -34,29 +29,8 @@ use Rattle.module_names.specs.Named.{AreNames, IsNamed}
 use Rattle.trace_reader.specs.Readable.{IsGuid, IsLineOf, IsReadable}
 use Rattle.trace_reader.proofs.LineBodies.{body_lacks, line_then, same_line}
 use Rattle.trace_reader.proofs.OneReading.{text_one}
-use Rattle.free_check.specs.DxeAim.{AreGuids, BeginsWithStart, LeadsTo, NamesNext, given_by}
+use Rattle.free_check.specs.DxeAim.{AreGuids, BeginsWithStart, LeadsTo, NamesNext}
 use Rattle.free_check.proofs.FreeSteps.{AreReadable}
-
--- the name that an expression gives leads to the driver that it names
-target_by : (f : Guid → Option ℕ) (expr : PartExpr) → option_and_then f (given_by expr) ≡ first_of (option_and_then f (before_of expr)) (option_and_then f (after_of expr))
-target_by f E.Absent = refl
-target_by f (E.Malformed at) = refl
-target_by f (E.Held (D.Before name)) = kept (f name)
-  where
-    kept : (o : Option ℕ) → o ≡ first_of o None
-    kept None = refl
-    kept (Some n) = refl
-target_by f (E.Held (D.After name)) = refl
-target_by f (E.Held (D.Expr sor node)) = refl
-
-targets_by : (f : Guid → Option ℕ) (part : Option Part)
-    → option_and_then f (option_and_then (λ (p : Part). given_by p.expr) part) ≡ first_of (option_and_then f (option_and_then (λ (p : Part). before_of p.expr) part)) (option_and_then f (option_and_then (λ (p : Part). after_of p.expr) part))
-targets_by f None = refl
-targets_by f (Some part) = target_by f part.expr
-
-pub target_found : (catalog : Catalog) (m : DxeMachine) (number : ℕ) (part : Option Part) → part_at Dxe catalog number ≡ part → option_and_then (driver_named catalog m) (option_and_then (λ (p : Part). given_by p.expr) part) ≡ target_of catalog m number
-target_found catalog m number part is =
-    ap (λ o. option_and_then (driver_named catalog m) (option_and_then (λ (p : Part). given_by p.expr) o)) (sym is) ∙ targets_by (driver_named catalog m) (part_at Dxe catalog number)
 
 -- a step on the way to the root
 pub follows_more : (catalog : Catalog) (m : DxeMachine) (n number target : ℕ) → target_of catalog m number ≡ Some target → follows catalog m (suc n) number ≡ follows catalog m n target

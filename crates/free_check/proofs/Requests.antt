@@ -186,13 +186,6 @@ follows_wait : (catalog : Catalog) (m later : DxeMachine) → IsWellFormed catal
 follows_wait catalog m later well way (inl h) more waits = same_waits catalog m later h.discovered h.scheduled h.started more waits
 follows_wait catalog m later well way (inr h) more waits = subst (Waits catalog) (sym h.1) (volumes_wait catalog m (newcomers catalog m.discovered (Some h.0)) well way waits)
 
-nothing_more : (xs : List ℕ) → BeginsWith xs xs
-nothing_more xs = ([], end xs)
-  where
-    end : (ys : List ℕ) → ys ≡ ys ++ []
-    end [] = refl
-    end (y ∷ ys) = ap (λ zs. y ∷ zs) (end ys)
-
 effect_waits : (catalog : Catalog) (m : DxeMachine) (frame : DriverFrame) (below : List DriverFrame) (e : DxeEffect) → IsWellFormed catalog → IsUnderWay catalog m → EffectFollows catalog m e → EffectKeeps m frame e → Waits catalog m
     → Waits catalog (after_dxe_effect m frame below e)
 effect_waits catalog m frame below (Wrote registers status) well way f k waits = waits
@@ -251,9 +244,6 @@ pub step_waits : (catalog : Catalog) (fuel : ℕ) (m : DxeMachine) → IsWellFor
 step_waits catalog fuel m well way own waits = whole catalog (dxe_step catalog fuel m) (case_waits catalog fuel m (dxe_case_of catalog m) well way refl own waits.wait)
 
 -- an expression that names a driver asks for no request
-asks_by : PartExpr → Bool
-asks_by expr = elim expr [ E.Absent ↦ false | E.Malformed at ↦ false | E.Held expression ↦ is_sor expression ]
-
 before_asks_none : (f : Guid → Option ℕ) (o : Option Part) (x : ℕ) → option_and_then f (option_and_then (λ (p : Part). before_of p.expr) o) ≡ Some x → asks_for_request o ≡ false
 before_asks_none f None x h = refl
 before_asks_none f (Some part) x h = by part.expr h
