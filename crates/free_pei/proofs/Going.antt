@@ -1,28 +1,26 @@
 -- What a turn leaves, from what its parts leave.
-use Rattle.std.proofs.Common.{◌≡◌, ◌≤◌, ◌<◌, ℕ, suc, ◌+◌, ◌-◌, ◌^◌, Bool, true, false, List, [], ◌∷◌, ◌++◌, Option, Some, None, Result, Ok, Err, refl, sym, ap, ◌∙◌, subst, length, arith, inl, inr, append_assoc}
-use Rattle.std.specs.Prelude.{◌⊎◌, ◌↔◌, min}
+use Rattle.std.proofs.Common.{◌≡◌, ◌<◌, ℕ, ◌+◌, ◌-◌, ◌^◌, List, [], ◌∷◌, ◌++◌, Some, None, Err, refl, sym, ap, ◌∙◌, subst, length, arith, inl, inr}
+use Rattle.std.specs.Prelude.{◌⊎◌, min}
 use Rattle.std.proofs.lemmas.List.{append-nil, length-append}
 use Rattle.std.specs.Io.KnownBytes.{Appends}
 use Rattle.boot_io.specs.Faults.{IsPrefix, Rose}
 use Rattle.boot_io.specs.Halted.{HaltsAfter}
 use Rattle.boot_io.specs.declared.halt.Halt.{Halt}
 use Rattle.boot_io.specs.declared.halt.Halt.TheVariants as H
-use Rattle.boot_io.specs.declared.sink.SinkFault.{SinkFault}
-use Rattle.boot_io.specs.Sink.{AppendsPart, SinkFaultsAfter}
+use Rattle.boot_io.specs.Sink.{AppendsPart}
 use Rattle.catalog_model.specs.declared.catalog.Catalog.{Catalog}
 use Rattle.catalog_model.specs.WellFormed.{IsWellFormed}
 use Rattle.store_model.specs.StoreState.{Board, StoreState}
 use Rattle.boot_model.specs.declared.line.Line.{Line}
-use Rattle.boot_model.specs.FreeRun.{AreFreePeiLines, IsFreePeiStep}
+use Rattle.boot_model.specs.FreeRun.{AreFreePeiLines}
 use Rattle.boot_model.specs.PeiMachine.{PeiMachine}
-use Rattle.boot_model.specs.PeiStep.{case_of, pei_step, started, stopped}
+use Rattle.boot_model.specs.PeiStep.{case_of, pei_step}
 use Rattle.boot_model.specs.declared.phase_end.PeiEnd.{PeiEnd}
-use Rattle.boot_model.specs.Text.{line_text, text_of}
+use Rattle.boot_model.specs.Text.{text_of}
 use Rattle.free_laws.specs.PeiFree.{AreLinesBehind, IsOwnCase, OwnPeiStepsAreFree, PeiEndsFreely, PeiGoesOn, PeiLinesGrow}
-use Rattle.free_laws.specs.PeiUnderWay.{IsUnderWay}
 use Rattle.free_text.specs.declared.spelled.Spelled.{Spelled}
 use Rattle.free_text.specs.Following.{EndsLine, Tracks}
-use Rattle.free_text.specs.Putting.{AllPrint, HasParted, IsOffHere, PartsByLine, PutsGoOn, PutsPart}
+use Rattle.free_text.specs.Putting.{AllPrint, IsOffHere, PartsByLine, PutsGoOn, PutsPart}
 use Rattle.free_text.specs.Spelled.{IsHeld, IsRight, faults_of, met, spoken}
 use Rattle.free_text.proofs.Telling.{held_begins, held_on, not_parted, off, tracks_on}
 use Rattle.pei_core.specs.declared.pei.Pei.{Pei}
@@ -31,8 +29,7 @@ use Rattle.pei_core.specs.Standing.{Has, StandsFor}
 use Rattle.pei_core.specs.Steps.{IsIdle}
 use Rattle.pei_core.specs.Turn.{Texts, Printed, PrintedPart}
 use Rattle.pei_dispatch.specs.declared.going.Progress.{Progress}
-use Rattle.pei_dispatch.specs.Turns.{GoesTo, HasTurned, IsNow, IsOver}
-use Rattle.free_text.specs.declared.parted.Parted.{Parted}
+use Rattle.pei_dispatch.specs.Turns.{GoesTo, HasTurned, IsOver}
 use Rattle.free_text.specs.Parted.{parted_by}
 use Rattle.free_laws.specs.PeiAim.{with_cursor}
 use Rattle.free_pei.specs.ByText.{FromOpening, HasEnded, GoesOn, IsAtTurn, IsFollowed, TurnsTo}

@@ -1,6 +1,5 @@
 -- PEI by a text, a turn at a time.
-use Rattle.std.proofs.Common.{◌≡◌, ◌≤◌, ◌<◌, ℕ, ◌+◌, ◌-◌, List, [], ◌++◌, Option, Some, None, Result, Ok, Err, refl, sym, ap, ◌∙◌, subst, arith, is_some, true, false, inl}
-use Rattle.std.specs.Prelude.{◌⊎◌}
+use Rattle.std.proofs.Common.{◌≡◌, ◌≤◌, ℕ, ◌+◌, List, [], Some, Err, refl, sym, ap, ◌∙◌, subst, arith, is_some, false, inl}
 use Rattle.std.specs.Io.KnownBytes.{Appends}
 use Rattle.boot_io.specs.Faults.{IsPrefix, Rose}
 use Rattle.boot_io.specs.Sink.{AppendsPart}
@@ -18,7 +17,7 @@ use Rattle.free_text.specs.declared.parted.Parted.{Parted}
 use Rattle.free_text.specs.declared.parted.Parted.TheVariants.{Off, Memory}
 use Rattle.free_text.specs.declared.spelled.Spelled.{Spelled}
 use Rattle.free_text.specs.Following.{Tracks}
-use Rattle.free_text.specs.Putting.{AllPrint, IsOffHere, PartsByLine, PutsGoOn, PutsPart}
+use Rattle.free_text.specs.Putting.{AllPrint, IsOffHere, PutsGoOn, PutsPart}
 use Rattle.free_text.specs.Spelled.{IsHeld, IsRight, faults_of, met, spoken, whole}
 use Rattle.free_text.proofs.Telling.{held_on, off}
 use Rattle.pei_choice.specs.declared.queue.PeiQueue.{PeiQueue}
@@ -27,7 +26,7 @@ use Rattle.pei_choice.specs.Queue.{IsNewQueue, Shows}
 use Rattle.pei_choice.specs.View.{view_of}
 use Rattle.pei_core.specs.Standing.{IsFor, StandsFor}
 use Rattle.pei_dispatch.specs.Turns.{IsNow}
-use Rattle.free_pei.specs.ByText.{FromOpening, GoesOn, IsAtTurn, IsFollowed, RunsTo, TurnsTo}
+use Rattle.free_pei.specs.ByText.{FromOpening, GoesOn, IsAtTurn, RunsTo, TurnsTo}
 use Rattle.free_pei.proofs.Going.{not_right}
 use Rattle.free_pei.proofs.Lines.{text_append}
 

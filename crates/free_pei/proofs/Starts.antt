@@ -1,7 +1,6 @@
 -- What the start of a chosen PEIM leaves, and the stop.
-use Rattle.std.proofs.Common.{◌≡◌, ◌≤◌, ℕ, arith, length, List, [], ◌∷◌, ◌++◌, Option, Some, None, Result, Ok, Err, refl, sym, ap, ◌∙◌, subst}
-use Rattle.std.specs.Prelude.{◌⊎◌, ◌↔◌}
-use Rattle.std.specs.Io.KnownBytes.{Appends}
+use Rattle.std.proofs.Common.{◌≡◌, ◌≤◌, ℕ, arith, length, List, [], ◌∷◌, ◌++◌, Some, None, Err, refl, sym, ap, ◌∙◌, subst}
+use Rattle.std.specs.Prelude.{◌↔◌}
 use Rattle.boot_io.specs.Faults.{Rose}
 use Rattle.boot_io.specs.Halted.{HaltsAfter}
 use Rattle.boot_io.specs.declared.halt.Halt.{Halt}
@@ -11,26 +10,25 @@ use Rattle.catalog_model.specs.WellFormed.{IsWellFormed}
 use Rattle.store_model.specs.StoreState.{Board, StoreState}
 use Rattle.boot_model.specs.declared.line.Line.{Line}
 use Rattle.boot_model.specs.declared.phase_end.PeiEnd.{PeiEnd}
-use Rattle.boot_model.specs.FreeRun.{AreFreePeiLines, IsFreePeiStep, MayStart}
+use Rattle.boot_model.specs.FreeRun.{AreFreePeiLines}
 use Rattle.boot_model.specs.Eligible.{licence_at}
 use Rattle.boot_model.specs.PeiChoice.{next_peim}
 use Rattle.boot_model.specs.PeiMachine.{PeiMachine}
-use Rattle.boot_model.specs.PeiStep.{PeiCase, Starts, Stops, case_of, in_case, pei_step, started, stopped}
-use Rattle.boot_model.specs.Text.{text_of}
-use Rattle.free_laws.specs.PeiAim.{CursorAims, IsAimable, with_cursor}
+use Rattle.boot_model.specs.PeiStep.{Starts, Stops, case_of, in_case, pei_step, started, stopped}
+use Rattle.free_laws.specs.PeiAim.{IsAimable, with_cursor}
 use Rattle.free_laws.specs.PeiFree.{AreLinesOfStart, IsOwnCase, PeiStartsFreely}
-use Rattle.free_laws.specs.PeiUnderWay.{IsUnderWay, PeiStepsRunOut}
+use Rattle.free_laws.specs.PeiUnderWay.{PeiStepsRunOut}
 use Rattle.free_text.specs.Parted.{parted_by}
 use Rattle.free_text.specs.declared.spelled.Spelled.{Spelled}
 use Rattle.free_text.specs.Putting.{IsOffHere}
-use Rattle.free_text.specs.Spelled.{faults_of, left, spoken}
+use Rattle.free_text.specs.Spelled.{faults_of, left}
 use Rattle.pei_choice.specs.declared.queue.PeiQueue.{PeiQueue}
 use Rattle.pei_choice.specs.Queue.{Shows, parts_in}
 use Rattle.pei_choice.specs.View.{view_of}
 use Rattle.pei_core.specs.declared.pei.Pei.{Pei}
 use Rattle.pei_core.specs.Standing.{StandsFor}
 use Rattle.pei_core.specs.Steps.{IsIdle}
-use Rattle.pei_core.specs.Turn.{Printed, PrintedPart, Texts}
+use Rattle.pei_core.specs.Turn.{Printed, PrintedPart}
 use Rattle.pei_dispatch.specs.Turns as D
 use Rattle.pei_dispatch.specs.Turns.{HasTurned, IsNow, IsOver}
 use Rattle.free_pei.specs.ByText.{FromOpening, GoesOn, HasEnded, IsAtTurn, TurnsTo}

@@ -1,9 +1,7 @@
 // A turn by the text: a step of the machine that some free boot takes.
-ghost use Rattle.std.specs.Prelude.{◌≡◌, ℕ, length};
+ghost use Rattle.std.specs.Prelude.{ℕ};
 ghost use Rattle.catalog_model.specs.WellFormed.{IsWellFormed};
 ghost use Rattle.boot_model.specs.PeiMachine.{PeiMachine};
-ghost use Rattle.free_text.specs.Spelled.{IsRight, whole};
-ghost use Rattle.module_names.specs.Named.{AreNames, HasNoTwins};
 ghost use Rattle.pei_core.specs.Standing.{IsFor};
 ghost use Rattle.pei_core.specs.Steps.{IsIdle};
 ghost use Rattle.pei_dispatch.specs.Turns.{IsNow};
@@ -11,7 +9,6 @@ ghost use Rattle.free_pei.specs.ByText.{Turns, TurnsIdle};
 ghost use Rattle.free_pei.specs.Names.{IsNamedBy};
 
 use crate::aim::aim_by_text;
-use boot_laws::order_is_of_modules;
 use boot_model::PeiEnd;
 use catalog_model::Catalog;
 use depex_code::Steps;

@@ -12,4 +12,3 @@ pub use spelled::Spelled;
 
 #[cfg(test)]
 mod tests;
-

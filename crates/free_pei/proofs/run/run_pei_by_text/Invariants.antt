@@ -1,4 +1,4 @@
-use Rattle.std.proofs.Common.{◌≡◌, ℕ}
+use Rattle.std.proofs.Common.{ℕ}
 use Rattle.store_model.specs.StoreState.{Board}
 use Rattle.boot_model.specs.PeiRun.{pei_opening}
 use Rattle.free_text.specs.Spelled.{whole}

@@ -1,8 +1,5 @@
-use Rattle.std.proofs.Common.{sym, subst, refl}
 use Rattle.std.proofs.lemmas.Result.{err_from_is_err_and}
 use Rattle.pei_choice.specs.View.{view_of}
-use Rattle.pei_choice.specs.declared.queue.PeiQueue.{PeiQueue}
-use Rattle.boot_model.specs.PeiMachine.{PeiMachine}
 use Rattle.free_laws.specs.PeiAim.{with_cursor}
 use Rattle.free_pei.proofs.Choosing.{Choice}
 use Rattle.free_pei.proofs.Going.{Laws}

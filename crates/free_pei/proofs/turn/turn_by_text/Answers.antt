@@ -1,4 +1,3 @@
-use Rattle.std.proofs.Common.{sym, subst}
 use Rattle.std.proofs.lemmas.Result.{err_from_is_err_and}
 use Rattle.free_pei.proofs.Going.{Laws, halted, over, rested_followed, went}
 use Rattle.free_pei.proofs.turn.turn_by_text.Goals as goal

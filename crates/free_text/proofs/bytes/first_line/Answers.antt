@@ -1,4 +1,4 @@
-use Rattle.std.proofs.Common.{◌≡◌, ◌+◌, drop, get_or, sym, ap, subst, ◌∙◌, ◌++◌, ◌∷◌, arith}
+use Rattle.std.proofs.Common.{◌+◌, drop, sym, ap, subst, ◌∙◌, ◌++◌, ◌∷◌}
 use Rattle.free_text.specs.Lines.{Lacks}
 use Rattle.free_text.proofs.Places.{cut_at}
 use Rattle.free_text.proofs.bytes.first_line.Goals as goal

@@ -1,4 +1,4 @@
-use Rattle.std.proofs.Common.{◌≡◌, ◌+◌, length, drop, get_or, sym, ap, subst, ◌∙◌, ◌++◌, ◌∷◌, arith, true, false}
+use Rattle.std.proofs.Common.{length, drop, ◌∙◌, arith}
 use Rattle.std.proofs.lemmas.Bool.Decides.{Decides-eqb}
 use Rattle.std.proofs.lemmas.Slice.Eq.{starts_is}
 use Rattle.free_text.proofs.Places.{all_same, get_there, place_within, same_on}

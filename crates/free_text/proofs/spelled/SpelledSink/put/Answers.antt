@@ -1,4 +1,4 @@
-use Rattle.std.proofs.Common.{refl, sym, ap, ◌∙◌, subst}
+use Rattle.std.proofs.Common.{refl, sym, ◌∙◌, subst}
 use Rattle.boot_io.specs.Faults.{IsPrefix}
 use Rattle.free_text.specs.Agreement.{IsOtherAt}
 use Rattle.free_text.proofs.Pieces.{all_told, part_told}
