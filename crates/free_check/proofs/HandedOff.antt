@@ -81,7 +81,7 @@ pub last_of_dxe : DxeEndsSo → (Start Here : List Line → Type 0) (catalog : C
 last_of_dxe law Start Here catalog fuel text pei opening end how handles s tracks same grow ended has followed =
     let all : List Line = (pei.lines ++ end.lines) ++ closing pei.store handles (dxe_result how) in
     let whole_is : both_lines pei end end.ended ≡ all =
-      ap (both_lines pei end) ended ∙ ap (λ h. pei.lines ++ end.lines ++ closing pei.store h (dxe_result how)) has ∙ sym (append_assoc pei.lines end.lines (closing pei.store handles (dxe_result how))) in
+      ap (both_lines pei end) ended ∙ ap (λ h. pei.lines ++ end.lines ++ closing pei.store h (dxe_result how)) has in
     let ends : (lines : List Line) → AreFreeDxeLines catalog fuel pei end lines ↔ (lines ≡ both_lines pei end end.ended) = law catalog fuel pei end (ap is_some ended) in
     let begins : IsPrefix (text_of pei.lines) (D.printed_by pei end) = (text_of end.lines, flat_map-append line_text pei.lines end.lines) in
     record {

@@ -141,7 +141,7 @@ fn follow_phases<M: PeiStore + Drop, L: Ledger>(
 }
 
 /// A boot from its first line to its last, held against a text of which nothing was met yet.
-pub fn follow_boot<M: PeiStore + Drop>(
+pub(crate) fn follow_boot<M: PeiStore + Drop>(
     alloc: Global,
     store: M,
     catalog: &Catalog,

@@ -1,9 +1,8 @@
 //! What a check answers.
-ghost use Rattle.std.specs.Prelude.{ℕ, IfOk};
+ghost use Rattle.std.specs.Prelude.{ℕ, List, IfOk};
 ghost use Rattle.boot_model.specs.FreeRun.{AreFreeLines};
 ghost use Rattle.catalog_model.specs.declared.catalog.Catalog.{Catalog as OfCatalog};
 ghost use Rattle.store_model.specs.StoreState.{Board};
-ghost use Rattle.free_text.specs.Spelled.{whole};
 ghost use Rattle.free_check.specs.Following.{Follows, IsShort};
 ghost use Rattle.free_check.specs.Verdict.{IsVerdict};
 
@@ -23,13 +22,13 @@ pub enum Verdict {
 }
 
 /// The verdict on a text, by how a boot was followed along it.
-pub fn verdict_of(
+pub(crate) fn verdict_of(
     followed: Result<(), Parted>,
     text: &Spelled<'_>,
 ) -> Result<Verdict, OutOfMemory>
     requires few { IsShort text.now followed }
-    ensures { (board : Board) (catalog : OfCatalog) (fuel : ℕ) → Follows (AreFreeLines board catalog fuel) (whole text.now) text.now followed
-        → IfOk result (IsVerdict (AreFreeLines board catalog fuel) (whole text.now)) }
+    ensures { (board : Board) (catalog : OfCatalog) (fuel : ℕ) (told : List ℕ) → Follows (AreFreeLines board catalog fuel) told text.now followed
+        → IfOk result (IsVerdict (AreFreeLines board catalog fuel) told) }
 {
     match followed {
         Ok(()) if text.is_at_end() => Ok(Verdict::Yes),
