@@ -1,8 +1,7 @@
 -- A boot that ended in PEI, along a text.
-use Rattle.std.proofs.Common.{◌≡◌, ℕ, List, ◌++◌, Option, Some, is_some, refl, sym, ap, ◌∙◌, subst}
+use Rattle.std.proofs.Common.{◌≡◌, ℕ, List, ◌++◌, Some, is_some, refl, ap, ◌∙◌, subst}
 use Rattle.std.specs.Prelude.{◌↔◌}
 use Rattle.std.proofs.lemmas.Grind.{flat_map-append}
-use Rattle.boot_io.specs.Faults.{IsPrefix}
 use Rattle.catalog_model.specs.declared.catalog.Catalog.{Catalog}
 use Rattle.store_model.specs.HandleState.{no_handles}
 use Rattle.store_model.specs.StoreState.{Board}

@@ -1,5 +1,5 @@
 -- The first line with which a text is no boot's any more, by where a boot was followed to.
-use Rattle.std.proofs.Common.{◌≡◌, ◌≢◌, ◌≤◌, ◌<◌, ℕ, zero, suc, ◌+◌, Bool, true, false, cond, List, [], ◌∷◌, ◌++◌, length, refl, sym, ap, ◌∙◌, subst, append_assoc, arith, Option, Some, None, inl, inr, ◌⊎◌}
+use Rattle.std.proofs.Common.{◌≡◌, ◌≢◌, ◌≤◌, ◌<◌, ℕ, zero, suc, ◌+◌, Bool, true, false, cond, List, [], ◌∷◌, ◌++◌, length, refl, sym, ap, ◌∙◌, subst, arith, Option, Some, None, inl, inr, ◌⊎◌}
 use Rattle.std.specs.Prelude.{option_map}
 use Rattle.std.proofs.lemmas.Bool.{cases_lt, eqb-true}
 use Rattle.std.proofs.lemmas.List.Sums.{sum_by-append}
@@ -12,7 +12,7 @@ use Rattle.free_text.specs.Following.{EndsLine, IsOff}
 use Rattle.free_text.specs.Lines.{front_lines, feeds_in, is_feed}
 use Rattle.free_text.specs.declared.spelled.Spelled.{Spelled}
 use Rattle.free_check.specs.Following.{IsWhole}
-use Rattle.free_check.specs.Verdict.{IsBoot, BeginsBoot, IsFirstOff}
+use Rattle.free_check.specs.Verdict.{BeginsBoot, IsFirstOff}
 
 -- a front of a text, by how many lines it has
 abbrev FrontOf : ℕ → List ℕ → List ℕ → Type 0
@@ -117,10 +117,10 @@ off_at_its_line Lines text met p off = record {
   some = omega arith;
   no_boot = λ is. off.other is.0 is.1 (sym is.2);
   off = λ b.
-    let front = front_is (1 + feeds_in met) text b.front b.is in
-    let longer = longer_front met b.front text p front.0 (omega (arith, front.1)) (either_way (length b.front) (length met)) in
-    let next : suc (feeds_in met) ≡ 1 + feeds_in met = omega arith in
-    off.parted b.lines b.front b.boots front.0 (ends_line (feeds_in met) text b.front (ap (λ n. front_lines n text) next ∙ b.is)) longer b.begins;
+      let front = front_is (1 + feeds_in met) text b.front b.is in
+      let longer = longer_front met b.front text p front.0 (omega (arith, front.1)) (either_way (length b.front) (length met)) in
+      let next : suc (feeds_in met) ≡ 1 + feeds_in met = omega arith in
+      off.parted b.lines b.front b.boots front.0 (ends_line (feeds_in met) text b.front (ap (λ n. front_lines n text) next ∙ b.is)) longer b.begins;
   first = λ count some less. met_begins Lines text met p off.begins.0 off.begins.1 off.begins.2 count less;
 }
 
@@ -129,15 +129,15 @@ pub off_behind_the_whole : (Lines : List Line → Type 0) (text met : List ℕ) 
 off_behind_the_whole Lines text met s p other whole = record {
   some = omega arith;
   no_boot = λ is.
-    let begins : IsPrefix met (text_of is.0) = (p.0, sym is.2 ∙ p.1) in
-    other (sym (whole.only is.0 is.1 begins) ∙ sym is.2);
+      let begins : IsPrefix met (text_of is.0) = (p.0, sym is.2 ∙ p.1) in
+      other (sym (whole.only is.0 is.1 begins) ∙ sym is.2);
   off = λ b.
-    let front = front_is (1 + feeds_in met) text b.front b.is in
-    let longer = longer_front met b.front text p front.0 (omega (arith, front.1)) (either_way (length b.front) (length met)) in
-    let within = shorter_front met b.front text p front.0 (omega (arith, longer)) in
-    let same = whole.only b.lines b.boots (prefix_then met b.front (text_of b.lines) within b.begins) in
-    let long = ap length b.begins.1 ∙ length-append b.front b.begins.0 in
-    let size = ap length same in
-    omega (arith, longer, long, size);
+      let front = front_is (1 + feeds_in met) text b.front b.is in
+      let longer = longer_front met b.front text p front.0 (omega (arith, front.1)) (either_way (length b.front) (length met)) in
+      let within = shorter_front met b.front text p front.0 (omega (arith, longer)) in
+      let same = whole.only b.lines b.boots (prefix_then met b.front (text_of b.lines) within b.begins) in
+      let long = ap length b.begins.1 ∙ length-append b.front b.begins.0 in
+      let size = ap length same in
+      omega (arith, longer, long, size);
   first = λ count some less. met_begins Lines text met p whole.lines whole.boots ([], sym whole.is ∙ sym (append-nil met)) count less;
 }

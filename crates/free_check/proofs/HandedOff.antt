@@ -1,17 +1,16 @@
 -- A boot that goes on to DXE, along a text.
-use Rattle.std.proofs.Common.{◌≡◌, ◌≤◌, ◌<◌, ℕ, List, [], ◌∷◌, ◌++◌, Option, Some, is_some, refl, sym, ap, ◌∙◌, subst, append_assoc, arith, inl, inr, length}
+use Rattle.std.proofs.Common.{◌≡◌, ◌≤◌, ◌<◌, ℕ, List, [], ◌∷◌, ◌++◌, Some, is_some, refl, sym, ap, ◌∙◌, subst, append_assoc, arith, inl, inr, length}
 use Rattle.std.specs.Prelude.{◌↔◌, ◌⊎◌}
 use Rattle.std.proofs.lemmas.Bool.{cases_lt}
 use Rattle.std.proofs.lemmas.Grind.{flat_map-append}
 use Rattle.boot_io.specs.Faults.{IsPrefix}
 use Rattle.catalog_model.specs.declared.catalog.Catalog.{Catalog}
 use Rattle.store_model.specs.HandleState.{HandleState}
-use Rattle.store_model.specs.StoreState.{Board, StoreState}
 use Rattle.boot_end.specs.Closing.{closing, closing_text}
 use Rattle.boot_end.proofs.ClosingTexts.{closing_is}
 use Rattle.boot_model.specs.BootRun.{both_lines, dxe_result}
 use Rattle.boot_model.specs.DxeMachine.{DxeMachine}
-use Rattle.boot_model.specs.FreeRun.{AreFreeDxeLines, AreFreeLines, AreFreePeiLines}
+use Rattle.boot_model.specs.FreeRun.{AreFreeDxeLines}
 use Rattle.boot_model.specs.PeiMachine.{PeiMachine}
 use Rattle.boot_model.specs.Text.{line_text, text_of}
 use Rattle.boot_model.specs.declared.line.Line.{Line}
@@ -20,10 +19,9 @@ use Rattle.free_laws.specs.DxeFree.{DxeEndsSo, DxeLinesGrow}
 use Rattle.free_text.specs.declared.spelled.Spelled.{Spelled}
 use Rattle.free_text.specs.Following.{EndsLine, IsOff, Tracks}
 use Rattle.free_text.specs.Putting.{IsOffHere}
-use Rattle.free_text.specs.Spelled.{IsHeld, met, whole}
+use Rattle.free_text.specs.Spelled.{met}
 use Rattle.free_text.proofs.Fronts.{prefix_then, shorter_front}
-use Rattle.free_text.proofs.Telling.{held_begins, met_begins}
-use Rattle.free_pei.specs.ByText.{IsFollowed}
+use Rattle.free_text.proofs.Telling.{met_begins}
 use Rattle.free_pei.proofs.Lines.{lines_end}
 use Rattle.free_check.specs.DxeTurn as D
 use Rattle.free_check.specs.Following.{IsLast}
@@ -58,12 +56,12 @@ off_behind Start Here Then text lines s tracks same grow there off =
     let parts : IsOff Start text (met s) = record {
       begins = (off.off.begins.0, tracks.back off.off.begins.0 ((same off.off.begins.0).1 off.off.begins.1), off.off.begins.2);
       parted = λ others front boots begins ends longer prints.
-        let met_in = shorter_front (met s) front text met_there begins (omega (arith, longer)) in
-        let here = tracks.on others boots (prefix_then printed front (text_of others) (prefix_then printed (met s) front in_met met_in) prints) in
-        off.off.parted others front ((same others).0 here) begins ends longer prints;
+          let met_in = shorter_front (met s) front text met_there begins (omega (arith, longer)) in
+          let here = tracks.on others boots (prefix_then printed front (text_of others) (prefix_then printed (met s) front in_met met_in) prints) in
+          off.off.parted others front ((same others).0 here) begins ends longer prints;
       other = λ others boots is.
-        let here = tracks.on others boots (subst (λ t. IsPrefix printed t) (sym is) there) in
-        off.off.other others ((same others).0 here) is;
+          let here = tracks.on others boots (subst (λ t. IsPrefix printed t) (sym is) there) in
+          off.off.other others ((same others).0 here) is;
     } in
     record { whole_is = off.whole_is; off = parts }
 
@@ -81,7 +79,7 @@ pub last_of_dxe : DxeEndsSo → (Start Here : List Line → Type 0) (catalog : C
 last_of_dxe law Start Here catalog fuel text pei opening end how handles s tracks same grow ended has followed =
     let all : List Line = (pei.lines ++ end.lines) ++ closing pei.store handles (dxe_result how) in
     let whole_is : both_lines pei end end.ended ≡ all =
-      ap (both_lines pei end) ended ∙ ap (λ h. pei.lines ++ end.lines ++ closing pei.store h (dxe_result how)) has in
+    ap (both_lines pei end) ended ∙ ap (λ h. pei.lines ++ end.lines ++ closing pei.store h (dxe_result how)) has in
     let ends : (lines : List Line) → AreFreeDxeLines catalog fuel pei end lines ↔ (lines ≡ both_lines pei end end.ended) = law catalog fuel pei end (ap is_some ended) in
     let begins : IsPrefix (text_of pei.lines) (D.printed_by pei end) = (text_of end.lines, flat_map-append line_text pei.lines end.lines) in
     record {
@@ -89,6 +87,6 @@ last_of_dxe law Start Here catalog fuel text pei opening end how handles s track
       boots = tracks.back all ((same all).1 (followed.tracks.back all ((ends all).1 (sym whole_is))));
       text_is = flat_map-append line_text (pei.lines ++ end.lines) (closing pei.store handles (dxe_result how)) ∙ ap (λ t. D.printed_by pei end ++ t) (closing_is pei.store handles (dxe_result how));
       only = λ others boots prints.
-        let here = tracks.on others boots (prefix_then (text_of pei.lines) (D.printed_by pei end) (text_of others) begins prints) in
-        ap text_of ((ends others).0 (followed.tracks.on others ((same others).0 here) prints) ∙ whole_is);
+          let here = tracks.on others boots (prefix_then (text_of pei.lines) (D.printed_by pei end) (text_of others) begins prints) in
+          ap text_of ((ends others).0 (followed.tracks.on others ((same others).0 here) prints) ∙ whole_is);
     }

@@ -1,5 +1,5 @@
 -- The last lines of a boot against a text.
-use Rattle.std.proofs.Common.{◌≡◌, ◌≤◌, ℕ, ◌+◌, ◌-◌, ◌^◌, List, [], ◌++◌, refl, sym, ap, ◌∙◌, subst, append_assoc, arith, inl, Some, Option}
+use Rattle.std.proofs.Common.{◌≡◌, ℕ, ◌+◌, ◌-◌, ◌^◌, List, [], ◌++◌, refl, sym, ap, ◌∙◌, arith, inl, Some}
 use Rattle.std.specs.Prelude.{min}
 use Rattle.std.proofs.lemmas.List.{append-nil}
 use Rattle.std.specs.Io.KnownBytes.{Appends}
@@ -33,8 +33,8 @@ whole_by Lines old new text printed last held is right puts =
       boots = is.boots;
       is = all;
       only = λ others boots begins.
-        let more : IsPrefix printed (text_of others) = prefix_then printed (met new) (text_of others) (last, here.met_is) begins in
-        is.only others boots more ∙ sym all;
+          let more : IsPrefix printed (text_of others) = prefix_then printed (met new) (text_of others) (last, here.met_is) begins in
+          is.only others boots more ∙ sym all;
     }
 
 -- a part of them was, and the text is off
@@ -44,7 +44,7 @@ off_by Lines old new text printed last held is wrong part =
     let Here : List Line → Type 0 = λ lines. Lines lines × IsPrefix printed (text_of lines) in
     let tracks : Tracks Lines Here printed = record { back = λ lines here. here.0; on = λ lines boots begins. (boots, begins) } in
     let prints : (lines : List Line) → Lines lines → IsPrefix printed (text_of lines) → IsPrefix (printed ++ last) (text_of lines) = λ lines boots begins.
-      ([], is.only lines boots begins ∙ is.text_is ∙ sym (append-nil (printed ++ last))) in
+    ([], is.only lines boots begins ∙ is.text_is ∙ sym (append-nil (printed ++ last))) in
     let first : IsPrefix printed (text_of is.all) = (last, is.text_is) in
     let all : AllPrint Here text printed last = record {
       some = (is.all, (is.boots, first), prints is.all is.boots first);

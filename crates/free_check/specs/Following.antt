@@ -18,7 +18,7 @@ use Rattle.free_text.specs.declared.parted.Parted.{Parted}
 use Rattle.free_text.specs.declared.parted.Parted.TheVariants.{Off, Memory}
 use Rattle.free_text.specs.declared.spelled.Spelled.{Spelled}
 use Rattle.free_text.specs.Putting.{IsOffHere}
-use Rattle.free_text.specs.Spelled.{IsHeld, IsRight, met, whole}
+use Rattle.free_text.specs.Spelled.{IsHeld, met, whole}
 
 -- what was met is the whole text of a boot, and the boots whose text begins with it are of that text
 pub record IsWhole (Lines : List Line → Type 0) (text printed : List ℕ) (s : Spelled) : Type 0 where

@@ -56,7 +56,9 @@ fn follow_drivers<M: PeiStore, L: Ledger>(
     let mut dxe = Dxe::begin(alloc, catalog, bases.as_slice(), fuel, actions)?;
     let mut queue = DriverQueue::new(alloc, catalog)?;
     let mut steps = Steps::<L>::new(blank);
-    let end = run_dxe_by_text(&mut dxe, store, &mut queue, catalog, names, text, &mut steps)?;
+    let end = run_dxe_by_text(
+        &mut dxe, store, &mut queue, catalog, names, text, &mut steps,
+    )?;
     close(text, store, &dxe.into_handles(), result_of(end))
 }
 

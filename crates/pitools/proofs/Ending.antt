@@ -9,6 +9,7 @@ use Rattle.pitools.specs.declared.report.Report.{Report}
 use Rattle.pitools.specs.declared.report.Report.TheVariants as R
 use Rattle.pitools.specs.declared.status.ToolStatus.{ToolStatus}
 use Rattle.pitools.specs.declared.status.ToolStatus.TheVariants.{Done}
+use Rattle.free_check.specs.declared.verdict.Verdict.TheVariants.{Yes, No}
 use Rattle.pitools.specs.FileReading.{FilesTrail}
 use Rattle.pitools.specs.Ends.{Answered, At, Ends, EndsBy, Failing, IsDue, Kind, Nowhere, OfText, Reports, ReportsBy, SinkFailed, Tells, Trail, failing, kind_of, outcome, status_after, unread}
 use Rattle.pitools.specs.ReportText.{report_status, report_text}
@@ -50,17 +51,15 @@ told_reports (Ok report) Out Out' Named t up same tells =
     subst P (sym tells.1) both
 told_reports (Err e) Out Out' Named t up same tells = tt
 
--- a content over the limit, as it is told where it is
-pub long_content : (told : Option (List ℕ)) (limit : ℕ) → IfSome told (λ content. limit < length content) → (content : List ℕ) × IsTold told content × (limit < length content)
-long_content None limit h =
-    let zeros : ℕ = 0 in (replicate (limit + 1) zeros, tt, let e : length (replicate (limit + 1) zeros) ≡ limit + 1 = length-replicate (limit + 1) zeros in omega (arith, e))
-long_content (Some content) limit h = (content, refl, h)
-
 -- each report's text is due with its status
 due_of : (Out : ToolStatus → List ℕ → Type 0) (Named : List ℕ → Type 0) (report : Report) (t : FilesTrail) → Reports Out Named report t → IsDue Out Named (report_status report) (report_text report) t
 due_of Out Named R.Usage t r = outcome r.0 r.1
-due_of Out Named (R.NoFile name) t r = unread name.now r refl refl
+due_of Out Named (R.NoFile name) t r = unread name r refl refl
 due_of Out Named (R.Long name) t r = outcome r.0 r.1
+due_of Out Named (R.Plan fault) t r = outcome r.0 r.1
+due_of Out Named (R.Image fault) t r = outcome r.0 r.1
+due_of Out Named (R.Twins volume) t r = outcome r.0 r.1
+due_of Out Named (R.Verdict verdict) t r = outcome r.0 r.1
 due_of Out Named (R.Hobs fault) t r = outcome r.0 r.1
 due_of Out Named (R.Command line) t r = outcome r.0 r.1
 due_of Out Named (R.Event line) t r = outcome r.0 r.1
@@ -76,6 +75,11 @@ text_kind : (report : Report) → kind_of (report_status report) ≡ OfText
 text_kind R.Usage = refl
 text_kind (R.NoFile name) = refl
 text_kind (R.Long name) = refl
+text_kind (R.Plan fault) = refl
+text_kind (R.Image fault) = refl
+text_kind (R.Twins volume) = refl
+text_kind (R.Verdict Yes) = refl
+text_kind (R.Verdict (No line)) = refl
 text_kind (R.Hobs fault) = refl
 text_kind (R.Command line) = refl
 text_kind (R.Event line) = refl

@@ -26,7 +26,12 @@ AskForTool words tool file = (words ≡ tool_words tool ++ file ∷ []) × (file
 abbrev pub AskForMap : List (List ℕ) → List ℕ → List ℕ → Type 0
 AskForMap words hobs commands = (words ≡ codes "gcd" ∷ hobs ∷ commands ∷ []) × (hobs ≢ []) × (commands ≢ [])
 
+-- the words ask whether a file has the trace of a free boot of a plan
+abbrev pub AskForCheck : List (List ℕ) → List ℕ → List ℕ → Type 0
+AskForCheck words plan trace = (words ≡ codes "check" ∷ plan ∷ trace ∷ []) × (plan ≢ []) × (trace ≢ [])
+
 -- the words ask for nothing that there is
 pub record AskForNothing (words : List (List ℕ)) : Type 0 where
   pub no_tool : (tool : Tool) (file : List ℕ) → AskForTool words tool file → ⊥
   pub no_map : (hobs commands : List ℕ) → AskForMap words hobs commands → ⊥
+  pub no_check : (plan trace : List ℕ) → AskForCheck words plan trace → ⊥

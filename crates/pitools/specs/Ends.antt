@@ -22,8 +22,12 @@ pub data Failing : Type 0 where
 
 abbrev pub failing : Report → Failing
 failing R.Usage = Nowhere
-failing (R.NoFile name) = At name.now
+failing (R.NoFile name) = At name
 failing (R.Long name) = Nowhere
+failing (R.Plan fault) = Nowhere
+failing (R.Image fault) = Nowhere
+failing (R.Twins volume) = Nowhere
+failing (R.Verdict verdict) = Nowhere
 failing (R.Hobs fault) = Nowhere
 failing (R.Command line) = Nowhere
 failing (R.Event line) = Nowhere
@@ -97,8 +101,12 @@ kind_of S.Done = OfText
 kind_of S.Usage = OfText
 kind_of S.FileFault = OfText
 kind_of S.TooLong = OfText
+kind_of S.PlanRefused = OfText
+kind_of S.ImageRefused = OfText
 kind_of S.SinkFault = OfSink
 kind_of S.Memory = OfMemory
+kind_of S.No = OfText
+kind_of S.Twins = OfText
 kind_of S.HobsRefused = OfText
 kind_of S.CommandRefused = OfText
 kind_of S.TextRefused = OfText

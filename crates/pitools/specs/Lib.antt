@@ -1,9 +1,11 @@
 pub mod CommandLine
 pub mod FileReading
+pub mod FileRefusal
 pub mod Refusals
 pub mod ReportText
 pub mod GcdReport
 pub mod MpReport
+pub mod CheckReport
 pub mod TextReport
 pub mod Outcome
 pub mod Ends

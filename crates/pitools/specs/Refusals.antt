@@ -2,6 +2,10 @@
 -- Own.
 use Rattle.std.specs.Prelude.{ℕ, List, [], ◌∷◌, codes, decimal}
 use Rattle.boot_io.specs.Line.{line_of}
+use Rattle.boot_plan.specs.declared.fault.PlanFault.{PlanFault}
+use Rattle.catalog_model.specs.declared.image_fault.ImageFault.{ImageFault}
+use Rattle.free_check.specs.declared.verdict.Verdict.{Verdict}
+use Rattle.free_check.specs.declared.verdict.Verdict.TheVariants.{Yes, No}
 use Rattle.boot_model.specs.declared.line.Line.TheVariants as L
 use Rattle.boot_model.specs.Text.{line_text, refused_file_text, refused_long_text}
 use Rattle.act_code.specs.declared.fault.ActCause.{ActCause}
@@ -18,6 +22,38 @@ file_line name = refused_file_text name
 -- a file that is too long
 unfoldable pub long_line : List ℕ → List ℕ
 long_line name = refused_long_text name
+
+-- the first fault of a plan
+unfoldable pub plan_line : PlanFault → List ℕ
+plan_line fault = line_text (L.RefusedPlan fault.line fault.cause)
+
+-- the first fault of the images of a plan's volumes
+unfoldable pub image_line : ImageFault → List ℕ
+image_line fault = line_text (L.RefusedImage fault.volume fault.at fault.cause)
+
+unfoldable pub refused_twins : List ℕ
+refused_twins = codes "refused twins"
+
+unfoldable pub yes_text : List ℕ
+yes_text = codes "yes"
+
+unfoldable pub no_text : List ℕ
+no_text = codes "no"
+
+-- a volume with two modules of one name
+abbrev pub twins_line : ℕ → List ℕ
+twins_line volume = line_of refused_twins (decimal volume ∷ [])
+
+-- the verdict on a trace
+abbrev pub yes_line : List ℕ
+yes_line = line_of yes_text []
+
+abbrev pub no_line : ℕ → List ℕ
+no_line line = line_of no_text (decimal line ∷ [])
+
+abbrev pub verdict_line : Verdict → List ℕ
+verdict_line Yes = yes_line
+verdict_line (No line) = no_line line
 
 unfoldable pub refused_text : List ℕ
 refused_text = codes "refused text"

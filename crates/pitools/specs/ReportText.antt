@@ -3,16 +3,22 @@
 use Rattle.std.specs.Prelude.{ℕ, List, ◌++◌}
 use Rattle.gcd_map.specs.MapText.{answers_text, map_text, hobs_refusal, command_refusal}
 use Rattle.mp_text.specs.OutcomeText.{bad_line, outcome_text}
+use Rattle.free_check.specs.declared.verdict.Verdict.{Verdict}
+use Rattle.free_check.specs.declared.verdict.Verdict.TheVariants.{Yes, No}
 use Rattle.pitools.specs.declared.status.ToolStatus.{ToolStatus}
 use Rattle.pitools.specs.declared.status.ToolStatus.TheVariants as S
 use Rattle.pitools.specs.declared.report.Report.{Report}
 use Rattle.pitools.specs.declared.report.Report.TheVariants as R
-use Rattle.pitools.specs.Refusals.{usage_line, file_line, long_line, text_line, text_long_line, malformed_line, bytes_line}
+use Rattle.pitools.specs.Refusals.{usage_line, file_line, long_line, plan_line, image_line, twins_line, verdict_line, text_line, text_long_line, malformed_line, bytes_line}
 
 abbrev pub report_text : Report → List ℕ
 report_text R.Usage = usage_line
-report_text (R.NoFile name) = file_line name.now
-report_text (R.Long name) = long_line name.now
+report_text (R.NoFile name) = file_line name
+report_text (R.Long name) = long_line name
+report_text (R.Plan fault) = plan_line fault
+report_text (R.Image fault) = image_line fault
+report_text (R.Twins volume) = twins_line volume
+report_text (R.Verdict verdict) = verdict_line verdict
 report_text (R.Hobs fault) = hobs_refusal fault
 report_text (R.Command line) = command_refusal line
 report_text (R.Event line) = bad_line line
@@ -24,10 +30,18 @@ report_text (R.Map steps map) = answers_text steps ++ map_text map.ranges
 report_text (R.Mp file outcome) = outcome_text file.events outcome
 report_text (R.Answer text) = text
 
+abbrev pub verdict_status : Verdict → ToolStatus
+verdict_status Yes = S.Done
+verdict_status (No line) = S.No
+
 abbrev pub report_status : Report → ToolStatus
 report_status R.Usage = S.Usage
 report_status (R.NoFile name) = S.FileFault
 report_status (R.Long name) = S.TooLong
+report_status (R.Plan fault) = S.PlanRefused
+report_status (R.Image fault) = S.ImageRefused
+report_status (R.Twins volume) = S.Twins
+report_status (R.Verdict verdict) = verdict_status verdict
 report_status (R.Hobs fault) = S.HobsRefused
 report_status (R.Command line) = S.CommandRefused
 report_status (R.Event line) = S.CommandRefused

@@ -1,7 +1,7 @@
 // The words of a command line.
 ghost use Rattle.std.specs.Prelude.{◌≡◌, ◌↔◌, ℕ, List, [], ◌∷◌, codes, IfSome, IfNone, IsTrue};
 ghost use Rattle.pitools.specs.declared.command_line.Tool.{Tool};
-ghost use Rattle.pitools.specs.CommandLine.{words_of, tool_words, AskForTool, AskForMap};
+ghost use Rattle.pitools.specs.CommandLine.{words_of, tool_words, AskForTool, AskForMap, AskForCheck};
 
 /// A tool of one file.
 #[derive(Clone, Copy, Debug, PartialEq, Eq)]
@@ -109,6 +109,35 @@ fn asks_for_map(verb: &str) -> bool
     ensures { IsTrue result ↔ (verb.now ≡ codes "gcd") }
 {
     verb == "gcd"
+}
+
+// Whether a word asks for the check of a trace.
+fn asks_for_check(verb: &str) -> bool
+    ensures { IsTrue result ↔ (verb.now ≡ codes "check") }
+{
+    verb == "check"
+}
+
+/// The names of the files of a plan and of a trace, where the words ask whether the trace is a free boot's.
+pub(crate) fn asked_check(words: &[String]) -> Option<(&str, &str)>
+    ensures found { IfSome result (λ asked. AskForCheck (words_of words.now) asked.0.now asked.1.now) }
+    ensures none { IfNone result ((plan trace : List ℕ) → AskForCheck (words_of words.now) plan trace → ⊥) }
+{
+    match words {
+        [verb, plan, trace] => {
+            let plan = plan.as_str();
+            let trace = trace.as_str();
+            if plan.is_empty() || trace.is_empty() {
+                return None;
+            }
+            if asks_for_check(verb.as_str()) {
+                Some((plan, trace))
+            } else {
+                None
+            }
+        }
+        _ => None,
+    }
 }
 
 /// The names of the files of a HOB list and of commands, where the words ask for their map.

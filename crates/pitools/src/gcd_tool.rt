@@ -9,11 +9,7 @@ use pi_base::OutOfMemory;
 use std::alloc::Global;
 
 /// What a HOB list and the text of commands lead to.
-pub(crate) fn map_report(
-    alloc: Global,
-    bytes: &[u8],
-    lines: &[u8],
-) -> Result<Report<'static>, OutOfMemory>
+pub(crate) fn map_report(alloc: Global, bytes: &[u8], lines: &[u8]) -> Result<Report, OutOfMemory>
     requires bytes { length bytes.now ≤ 0x100000 }
     requires lines { length lines.now ≤ 0x10000 }
     ensures { IfOk result (Tells (GcdReport bytes.now lines.now)) }

@@ -1,6 +1,7 @@
-//! The tools beside the boot: the memory space map, the MP services, and expressions and scripts as text.
+//! The tools beside the boot: the check of a trace with free choice, the memory space map, the MP services, and expressions and scripts as text.
 #![tactic(auto)]
 
+mod check_tool;
 mod command_line;
 mod gcd_tool;
 mod meaning;

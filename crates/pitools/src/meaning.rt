@@ -3,7 +3,7 @@ use crate::status::ToolStatus;
 
 // The version, and the forms of a command line.
 const USAGE: &str =
-    "version 0.1; usage: pitools gcd HOBS COMMANDS | pitools mp FILE | pitools asm depex|script FILE | pitools dis pei|dxe|script FILE";
+    "version 0.1; usage: pitools check PLAN TRACE | pitools gcd HOBS COMMANDS | pitools mp FILE | pitools asm depex|script FILE | pitools dis pei|dxe|script FILE";
 
 /// A line on an exit status: what happened, and where to read on. None of Done.
 pub(crate) fn meaning_of(status: ToolStatus) -> Option<&'static str> {
@@ -12,6 +12,16 @@ pub(crate) fn meaning_of(status: ToolStatus) -> Option<&'static str> {
         ToolStatus::Usage => Some(USAGE),
         ToolStatus::FileFault => Some("a file could not be read; its name stands above"),
         ToolStatus::TooLong => Some("a file is longer than its limit (docs/TOOLS.md)"),
+        ToolStatus::PlanRefused => {
+            Some("the plan is refused at the line above (docs/FORMATS.md has the causes)")
+        }
+        ToolStatus::ImageRefused => {
+            Some("an image is refused at the offset above (docs/FORMATS.md has the causes)")
+        }
+        ToolStatus::No => Some(
+            "the trace is no free boot's from the line above on (docs/CHECK.md)",
+        ),
+        ToolStatus::Twins => Some("the volume above has two modules of one name (docs/CHECK.md)"),
         ToolStatus::SinkFault => Some("standard output failed, and the text above may be cut"),
         ToolStatus::Memory => Some("memory was wanting"),
         ToolStatus::HobsRefused => {

@@ -10,7 +10,7 @@ use pi_base::OutOfMemory;
 use std::alloc::Global;
 
 /// What an MP file leads to.
-pub(crate) fn mp_report(alloc: Global, text: &[u8]) -> Result<Report<'static>, OutOfMemory>
+pub(crate) fn mp_report(alloc: Global, text: &[u8]) -> Result<Report, OutOfMemory>
     requires { length text.now ≤ 0x100000 }
     ensures { IfOk result (Tells (MpReport text.now)) }
 {

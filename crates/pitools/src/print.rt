@@ -1,7 +1,8 @@
 // Printing a report.
 ghost use Rattle.std.specs.Prelude.{◌≡◌};
 ghost use Rattle.boot_io.specs.Sink.{Puts, SinkFaultsAfter};
-ghost use Rattle.pitools.specs.Refusals.{bytes_line, cause_text, file_line, long_line, text_line, text_long_line, usage_line};
+ghost use Rattle.pitools.specs.Refusals.{bytes_line, cause_text, file_line, image_line, long_line, plan_line, text_line, text_long_line, usage_line};
+ghost use Rattle.pitools.specs.Refusals.{no_text, refused_twins, twins_line, verdict_line, yes_text};
 ghost use Rattle.pitools.specs.Refusals.{malformed_line, malformed_text, refused_bytes, refused_text, refused_text_long};
 ghost use Rattle.pitools.specs.ReportText.{report_text};
 
@@ -9,7 +10,10 @@ use crate::report::Report;
 use act_code::{ActCause, ActFault};
 use boot_io::{Sink, SinkFault, put_line};
 use boot_model::Line;
+use boot_plan::PlanFault;
 use boot_trace::{Out, decimal_word, put};
+use catalog_model::ImageFault;
+use free_check::Verdict;
 use gcd_map::{put_answers, put_command_refusal, put_hobs_refusal, put_map};
 use mp_text::{put_bad_line, put_outcome};
 
@@ -42,7 +46,51 @@ fn put_long<S: Sink>(sink: &mut S, name: &[u8]) -> Result<(), SinkFault>
     out.refused_long(name)
 }
 
+// The refusal of a plan.
+#[tactic(auto, unfolding(crate::specs::Refusals::plan_line))]
+fn put_plan<S: Sink>(sink: &mut S, fault: PlanFault) -> Result<(), SinkFault>
+    ensures text { Puts result (S.text sink.old) (S.text sink.new) (plan_line fault) }
+    ensures cause { SinkFaultsAfter result (S.faults sink.old) (S.faults sink.new) }
+{
+    let line = fault.line;
+    let cause = fault.cause;
+    put(sink, &Line::RefusedPlan { line, cause })
+}
+
+// The refusal of an image.
+#[tactic(auto, unfolding(crate::specs::Refusals::image_line))]
+fn put_image<S: Sink>(sink: &mut S, fault: ImageFault) -> Result<(), SinkFault>
+    ensures text { Puts result (S.text sink.old) (S.text sink.new) (image_line fault) }
+    ensures cause { SinkFaultsAfter result (S.faults sink.old) (S.faults sink.new) }
+{
+    let volume = fault.volume;
+    let at = fault.at;
+    let cause = fault.cause;
+    put(sink, &Line::RefusedImage { volume, at, cause })
+}
+
 // The first words of lines.
+#[tactic(auto, unfolding(crate::specs::Refusals::refused_twins))]
+fn refused_twins() -> &'static [u8]
+    ensures { result.now ≡ refused_twins }
+{
+    b"refused twins"
+}
+
+#[tactic(auto, unfolding(crate::specs::Refusals::yes_text))]
+fn yes_text() -> &'static [u8]
+    ensures { result.now ≡ yes_text }
+{
+    b"yes"
+}
+
+#[tactic(auto, unfolding(crate::specs::Refusals::no_text))]
+fn no_text() -> &'static [u8]
+    ensures { result.now ≡ no_text }
+{
+    b"no"
+}
+
 #[tactic(auto, unfolding(crate::specs::Refusals::refused_text))]
 fn refused_text() -> &'static [u8]
     ensures { result.now ≡ refused_text }
@@ -90,6 +138,29 @@ fn cause_word(cause: ActCause) -> &'static [u8]
     }
 }
 
+// The refusal of a volume with two modules of one name.
+fn put_twins<S: Sink>(sink: &mut S, volume: u32) -> Result<(), SinkFault>
+    ensures text { Puts result (S.text sink.old) (S.text sink.new) (twins_line volume) }
+    ensures cause { SinkFaultsAfter result (S.faults sink.old) (S.faults sink.new) }
+{
+    let volume = decimal_word(u64::from(volume));
+    put_line(sink, refused_twins(), &[volume.as_slice()])
+}
+
+// The verdict on a trace.
+fn put_verdict<S: Sink>(sink: &mut S, verdict: Verdict) -> Result<(), SinkFault>
+    ensures text { Puts result (S.text sink.old) (S.text sink.new) (verdict_line verdict) }
+    ensures cause { SinkFaultsAfter result (S.faults sink.old) (S.faults sink.new) }
+{
+    match verdict {
+        Verdict::Yes => put_line(sink, yes_text(), &[]),
+        Verdict::No { line } => {
+            let line = decimal_word(u64::from(line));
+            put_line(sink, no_text(), &[line.as_slice()])
+        }
+    }
+}
+
 // The refusal of a text, by its line.
 fn put_text<S: Sink>(sink: &mut S, line: u32) -> Result<(), SinkFault>
     ensures text { Puts result (S.text sink.old) (S.text sink.new) (text_line line) }
@@ -130,14 +201,18 @@ fn put_bytes<S: Sink>(sink: &mut S, fault: &ActFault) -> Result<(), SinkFault>
 }
 
 /// Puts what a report says.
-pub(crate) fn put_report<S: Sink>(sink: &mut S, report: &Report<'_>) -> Result<(), SinkFault>
+pub(crate) fn put_report<S: Sink>(sink: &mut S, report: &Report) -> Result<(), SinkFault>
     ensures text { Puts result (S.text sink.old) (S.text sink.new) (report_text report.now) }
     ensures cause { SinkFaultsAfter result (S.faults sink.old) (S.faults sink.new) }
 {
     match report {
         Report::Usage => put_usage(sink),
-        Report::NoFile(name) => put_file(sink, name.as_bytes()),
-        Report::Long(name) => put_long(sink, name.as_bytes()),
+        Report::NoFile(name) => put_file(sink, name.as_slice()),
+        Report::Long(name) => put_long(sink, name.as_slice()),
+        Report::Plan(fault) => put_plan(sink, *fault),
+        Report::Image(fault) => put_image(sink, *fault),
+        Report::Twins(volume) => put_twins(sink, *volume),
+        Report::Verdict(verdict) => put_verdict(sink, *verdict),
         Report::Hobs(fault) => put_hobs_refusal(sink, *fault),
         Report::Command(line) => put_command_refusal(sink, *line),
         Report::Event(line) => put_bad_line(sink, *line),

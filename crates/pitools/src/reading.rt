@@ -1,26 +1,43 @@
 // The files of a tool.
 ghost use Rattle.std.specs.Prelude.{◌≡◌, ℕ, List, IfOk, OnErr};
 ghost use Rattle.pitools.specs.Ends.{IsReading};
+ghost use Rattle.pitools.specs.FileRefusal.{IsFileRefusal, IsReportOf};
 
 use crate::report::Report;
-use boot_io::{FileFault, Files};
+use boot_io::Files;
+use boot_model::Line;
+use boot_plan::PlanFault;
 use pi_base::{OutOfMemory, Seq};
+use plan_files::NoJob;
 use std::alloc::Global;
 
 /// The content of a file, or why there is none.
 #[derive(Drop)]
-pub(crate) enum Reading<'a> {
+pub(crate) enum Reading {
     Content(Seq<u8>),
-    Refused(Report<'a>),
+    Refused(Report),
+}
+
+/// The report of a file that could not be read or is too long, or of a plan's fault.
+pub(crate) fn report_of(line: Line) -> Report
+    requires { IsFileRefusal line }
+    ensures { IsReportOf line result }
+{
+    match line {
+        Line::RefusedFile { name } => Report::NoFile(name),
+        Line::RefusedLong { name } => Report::Long(name),
+        Line::RefusedPlan { line, cause } => Report::Plan(PlanFault { line, cause }),
+        _ => unreachable!(),
+    }
 }
 
 /// Reads the file of a name.
-pub(crate) fn read_file<'a, F: Files>(
+pub(crate) fn read_file<F: Files>(
     alloc: Global,
-    name: &'a str,
+    name: &str,
     limit: usize,
     files: &mut F,
-) -> Result<Reading<'a>, OutOfMemory>
+) -> Result<Reading, OutOfMemory>
     ensures same { (other : List ℕ) → F.told files.new other ≡ F.told files.old other }
     ensures reading { IfOk result (IsReading (F.told files.old name.now) limit name.now (record {
       before = F.faults files.old;
@@ -29,11 +46,9 @@ pub(crate) fn read_file<'a, F: Files>(
     })) }
     ensures memory { OnErr result (F.faults files.new ≡ F.faults files.old) }
 {
-    let mut content = Seq::new(alloc);
-    match files.read_whole(name, limit, &mut content) {
-        Ok(()) => Ok(Reading::Content(content)),
-        Err(FileFault::Failed) => Ok(Reading::Refused(Report::NoFile(name))),
-        Err(FileFault::TooLong) => Ok(Reading::Refused(Report::Long(name))),
-        Err(FileFault::Memory) => Err(OutOfMemory),
+    match plan_files::read_file(alloc, name, limit, files) {
+        Ok(content) => Ok(Reading::Content(content)),
+        Err(NoJob::Refused(line)) => Ok(Reading::Refused(report_of(line))),
+        Err(NoJob::Memory) => Err(OutOfMemory),
     }
 }

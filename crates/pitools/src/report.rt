@@ -4,6 +4,9 @@ ghost use Rattle.pitools.specs.ReportText.{report_status};
 
 use crate::status::ToolStatus;
 use act_code::ActFault;
+use boot_plan::PlanFault;
+use catalog_model::ImageFault;
+use free_check::Verdict;
 use gcd_map::{Answer, Command, GcdFault, GcdMap};
 use mp_core::MpOutcome;
 use mp_text::MpFile;
@@ -11,13 +14,21 @@ use pi_base::Seq;
 
 /// What is printed of a command line.
 #[derive(Drop)]
-pub(crate) enum Report<'a> {
+pub(crate) enum Report {
     /// The words have no form.
     Usage,
     /// The file of this name could not be read.
-    NoFile(&'a str),
+    NoFile(Seq<u8>),
     /// The file of this name is longer than its limit.
-    Long(&'a str),
+    Long(Seq<u8>),
+    /// The first fault of a plan.
+    Plan(PlanFault),
+    /// The first fault of the images of a plan's volumes.
+    Image(ImageFault),
+    /// The first volume with two modules of one name.
+    Twins(u32),
+    /// The verdict on a trace.
+    Verdict(Verdict),
     /// The first fault of a HOB list.
     Hobs(GcdFault),
     /// The first line, from 1, that is no command.
@@ -46,7 +57,7 @@ pub(crate) enum Report<'a> {
     Answer(Seq<u8>),
 }
 
-impl Report<'_> {
+impl Report {
     /// The status that goes with it.
     pub(crate) fn status(&self) -> ToolStatus
         ensures { result ≡ report_status self.now }
@@ -55,6 +66,11 @@ impl Report<'_> {
             Report::Usage => ToolStatus::Usage,
             Report::NoFile(_) => ToolStatus::FileFault,
             Report::Long(_) => ToolStatus::TooLong,
+            Report::Plan(_) => ToolStatus::PlanRefused,
+            Report::Image(_) => ToolStatus::ImageRefused,
+            Report::Twins(_) => ToolStatus::Twins,
+            Report::Verdict(Verdict::Yes) => ToolStatus::Done,
+            Report::Verdict(Verdict::No { .. }) => ToolStatus::No,
             Report::Hobs(_) => ToolStatus::HobsRefused,
             Report::Command(_) | Report::Event(_) => ToolStatus::CommandRefused,
             Report::Text(_) | Report::TextLong => ToolStatus::TextRefused,

@@ -11,10 +11,18 @@ pub enum ToolStatus {
     FileFault = 2,
     /// A file is longer than its limit.
     TooLong = 3,
+    /// The plan has a fault.
+    PlanRefused = 4,
+    /// An image of the plan's volumes has a fault.
+    ImageRefused = 5,
     /// The text could not be put.
     SinkFault = 9,
     /// Want of memory.
     Memory = 10,
+    /// The trace is no free boot's.
+    No = 11,
+    /// A volume has two modules of one name.
+    Twins = 12,
     /// The HOB list tells no memory space.
     HobsRefused = 13,
     /// A line of a file of commands has no form.

@@ -22,7 +22,10 @@ const SCRIPT: &[u8; 15] = b"PIAS\x01\x01\x01\0\x02\0\x11\x01\x61\x13\0";
 
 const SCRIPT_TEXT: &[u8; 34] = b"phase pei\nblock\nlog a\nret Success\n";
 
-const ROWS: [Row; 19] = [
+// A plan of one volume, whose image is not examined before the trace is read.
+const PLAN: &[u8; 59] = b"temp 0x100000 0x4000\nram 0x200000 0x1000\nvolume 0x300000 v\n";
+
+const ROWS: [Row; 24] = [
     (&[], &[], ToolStatus::Usage, b"refused usage\n"),
     (
         &["gcd", "h"],
@@ -35,6 +38,36 @@ const ROWS: [Row; 19] = [
         &[],
         ToolStatus::Usage,
         b"refused usage\n",
+    ),
+    (
+        &["check", "p", ""],
+        &[("p", PLAN)],
+        ToolStatus::Usage,
+        b"refused usage\n",
+    ),
+    (
+        &["check", "p", "t"],
+        &[("t", b"")],
+        ToolStatus::FileFault,
+        b"refused file p\n",
+    ),
+    (
+        &["check", "p", "t"],
+        &[("p", b"fuel 0\n")],
+        ToolStatus::PlanRefused,
+        b"refused plan 1 Limit\n",
+    ),
+    (
+        &["check", "p", "t"],
+        &[("p", PLAN)],
+        ToolStatus::FileFault,
+        b"refused file v\n",
+    ),
+    (
+        &["check", "p", "t"],
+        &[("p", PLAN), ("v", b"")],
+        ToolStatus::FileFault,
+        b"refused file t\n",
     ),
     (
         &["gcd", "h", "c"],

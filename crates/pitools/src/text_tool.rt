@@ -17,7 +17,7 @@ use std::alloc::Global;
 const LINE_FEED: u8 = b'\n';
 
 // Bytes as plain hexadecimal on one line.
-fn hex_answer(alloc: Global, bytes: &[u8]) -> Result<Report<'static>, OutOfMemory>
+fn hex_answer(alloc: Global, bytes: &[u8]) -> Result<Report, OutOfMemory>
     ensures { IfOk result (λ report. report ≡ R.Answer (hex_line bytes.now)) }
 {
     let Ok(digits) = hex::encode(alloc, bytes) else {
@@ -30,7 +30,7 @@ fn hex_answer(alloc: Global, bytes: &[u8]) -> Result<Report<'static>, OutOfMemor
 }
 
 // The bytes of the text of an expression.
-fn assemble_depex(alloc: Global, text: &[u8]) -> Result<Report<'static>, OutOfMemory>
+fn assemble_depex(alloc: Global, text: &[u8]) -> Result<Report, OutOfMemory>
     ensures { IfOk result (Tells (DepexReport text.now)) }
 {
     let depex = match parse_depex(alloc, text) {
@@ -47,7 +47,7 @@ fn assemble_depex(alloc: Global, text: &[u8]) -> Result<Report<'static>, OutOfMe
 }
 
 // The bytes of the text of a script.
-fn assemble_script(alloc: Global, text: &[u8]) -> Result<Report<'static>, OutOfMemory>
+fn assemble_script(alloc: Global, text: &[u8]) -> Result<Report, OutOfMemory>
     ensures { IfOk result (Tells (AssemblyReport text.now)) }
 {
     let script = match parse_script(alloc, text) {
@@ -64,11 +64,7 @@ fn assemble_script(alloc: Global, text: &[u8]) -> Result<Report<'static>, OutOfM
 }
 
 // The text of an expression's bytes.
-fn read_expression(
-    alloc: Global,
-    bytes: &[u8],
-    phase: Phase,
-) -> Result<Report<'static>, OutOfMemory>
+fn read_expression(alloc: Global, bytes: &[u8], phase: Phase) -> Result<Report, OutOfMemory>
     ensures { IfOk result (Tells (ExpressionReport phase bytes.now)) }
 {
     match read_depex(alloc, bytes, phase) {
@@ -79,7 +75,7 @@ fn read_expression(
 }
 
 // The text of a script's bytes.
-fn script_report(alloc: Global, bytes: &[u8]) -> Result<Report<'static>, OutOfMemory>
+fn script_report(alloc: Global, bytes: &[u8]) -> Result<Report, OutOfMemory>
     ensures { IfOk result (Tells (ScriptReport bytes.now)) }
 {
     match read_script(alloc, bytes) {
@@ -98,7 +94,7 @@ pub(crate) fn content_report(
     alloc: Global,
     tool: Tool,
     content: &[u8],
-) -> Result<Report<'static>, OutOfMemory>
+) -> Result<Report, OutOfMemory>
     requires { length content.now ≤ 0x100000 }
     ensures { IfOk result (Tells (ContentReport tool content.now)) }
 {

@@ -4,7 +4,8 @@ ghost use Rattle.pitools.specs.CommandLine.{words_of};
 ghost use Rattle.pitools.specs.Ends.{Ends, Reports, status_after};
 ghost use Rattle.pitools.specs.Outcome.{limit_of, MapNames, MapOutcome, Names, Outcome, ToolOutcome};
 
-use crate::command_line::{Tool, asked_map, asked_tool};
+use crate::check_tool::with_check;
+use crate::command_line::{Tool, asked_check, asked_map, asked_tool};
 use crate::gcd_tool::map_report;
 use crate::print::put_report;
 use crate::reading::{Reading, read_file};
@@ -33,12 +34,12 @@ fn limit_of(tool: Tool) -> usize
 }
 
 // What the files of a HOB list and of commands lead to.
-fn with_map<'a, F: Files>(
+fn with_map<F: Files>(
     alloc: Global,
-    hobs: &'a str,
-    commands: &'a str,
+    hobs: &str,
+    commands: &str,
     files: &mut F,
-) -> Result<Report<'a>, OutOfMemory>
+) -> Result<Report, OutOfMemory>
     ensures report { IfOk result (λ report. Reports (MapOutcome (F.told files.old) hobs.now commands.now)
         (MapNames (F.told files.old) hobs.now commands.now) report
         (record { before = F.faults files.old; now = F.faults files.new; missed = F.missed files.new })) }
@@ -56,12 +57,12 @@ fn with_map<'a, F: Files>(
 }
 
 // What a tool's file leads to.
-fn with_tool<'a, F: Files>(
+fn with_tool<F: Files>(
     alloc: Global,
     tool: Tool,
-    file: &'a str,
+    file: &str,
     files: &mut F,
-) -> Result<Report<'a>, OutOfMemory>
+) -> Result<Report, OutOfMemory>
     ensures report { IfOk result (λ report. Reports (ToolOutcome (F.told files.old file.now) tool file.now)
         (λ name. name ≡ file.now) report
         (record { before = F.faults files.old; now = F.faults files.new; missed = F.missed files.new })) }
@@ -74,11 +75,11 @@ fn with_tool<'a, F: Files>(
 }
 
 // What the words lead to.
-fn with_words<'a, F: Files>(
+fn with_words<F: Files>(
     alloc: Global,
-    words: &'a [String],
+    words: &[String],
     files: &mut F,
-) -> Result<Report<'a>, OutOfMemory>
+) -> Result<Report, OutOfMemory>
     ensures report { IfOk result
         (λ report. Reports (Outcome (F.told files.old) (words_of words.now)) (Names (F.told files.old) (words_of words.now)) report
         (record { before = F.faults files.old; now = F.faults files.new; missed = F.missed files.new })) }
@@ -86,6 +87,9 @@ fn with_words<'a, F: Files>(
 {
     if let Some((hobs, commands)) = asked_map(words) {
         return with_map(alloc, hobs, commands, files);
+    }
+    if let Some((plan, trace)) = asked_check(words) {
+        return with_check(alloc, plan, trace, files);
     }
     match asked_tool(words) {
         Some((tool, file)) => with_tool(alloc, tool, file, files),
@@ -103,8 +107,8 @@ fn answer(put: Result<(), SinkFault>, status: ToolStatus) -> ToolStatus
     }
 }
 
-/// Does what the words of a command line ask for: `gcd HOBS COMMANDS`, `mp FILE`, `asm depex FILE`, `asm script FILE`, `dis pei FILE`,
-/// `dis dxe FILE` or `dis script FILE`. All files are read before any is examined, and all is decided before anything is put.
+/// Does what the words of a command line ask for: `check PLAN TRACE`, `gcd HOBS COMMANDS`, `mp FILE`, `asm depex FILE`, `asm script FILE`, `dis pei FILE`,
+/// `dis dxe FILE` or `dis script FILE`. All files are read before any is examined, those of a plan's volumes behind the plan's examination, and all is decided before anything is put.
 pub fn tools_main<F: Files, S: Sink>(
     alloc: Global,
     words: &[String],

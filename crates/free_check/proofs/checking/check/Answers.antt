@@ -1,4 +1,4 @@
-use Rattle.std.proofs.Common.{◌≡◌, ◌≢◌, ◌≤◌, length, subst, sym, true≢false}
+use Rattle.std.proofs.Common.{◌≢◌, subst, sym, true≢false}
 use Rattle.catalog_model.specs.declared.image_fault.ImageCause.TheVariants.{Memory}
 use Rattle.catalog_model.specs.Catalogue.{IsCatalogue}
 use Rattle.catalog_model.specs.ImageFault.{IsImageFault}

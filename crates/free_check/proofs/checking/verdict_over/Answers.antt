@@ -1,4 +1,4 @@
-use Rattle.std.proofs.Common.{◌≡◌, ◌<◌, ◌≤◌, ◌^◌, ◌-◌, ℕ, List, [], length, Result, Ok, Err, arith, subst, sym}
+use Rattle.std.proofs.Common.{◌<◌, ◌≤◌, ◌^◌, ◌-◌, ℕ, List, [], length, Result, Ok, Err, arith, subst, sym}
 use Rattle.boot_model.specs.FreeRun.{AreFreeLines}
 use Rattle.boot_model.specs.PlanBoard.{board_of}
 use Rattle.store_model.specs.StoreState.{Board}

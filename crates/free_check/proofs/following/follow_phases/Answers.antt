@@ -27,9 +27,9 @@ behind stands store actions board catalog fuel text how pei s told here are = re
 pub returns-in_err-end : goal.returns-in_err-end
 returns-in_err-end g c = record {
   row = λ board stands.
-    let told = c.in_err-end.ensures.row board c.args.fuel c.in_ok-pei.ensures.made (c.in_ok-pei.ensures.opening board stands) in
-    let p = err_from_is_err_and c.from_residual-in_err-end.result c.from_residual-in_err-end.ensures.1 in
-    rw p.1 (rw p.2 (parted_up g.M.PeiStore.stands_for board c.args.catalog.now c.args.fuel (whole c.args.text.now) c.run_pei_by_text.new.pei c.run_pei_by_text.new.text _ told));
+      let told = c.in_err-end.ensures.row board c.args.fuel c.in_ok-pei.ensures.made (c.in_ok-pei.ensures.opening board stands) in
+      let p = err_from_is_err_and c.from_residual-in_err-end.result c.from_residual-in_err-end.ensures.1 in
+      rw p.1 (rw p.2 (parted_up g.M.PeiStore.stands_for board c.args.catalog.now c.args.fuel (whole c.args.text.now) c.run_pei_by_text.new.pei c.run_pei_by_text.new.text _ told));
 }
 
 pub follow_behind-requires-clause-state : goal.follow_behind-requires-clause-state
@@ -47,8 +47,8 @@ follow_behind-requires-clause-right g c =
 pub returns : goal.returns
 returns g c = record {
   row = λ board stands.
-    let told = c.in_ok-end.ensures.row board c.args.fuel c.in_ok-pei.ensures.made (c.in_ok-pei.ensures.opening board stands) in
-    let here = c.into_store-store.ensures _ told.core.machine in
-    let are = c.actions-actions.ensures _ told.core.machine in
-    c.follow_behind.ensures.row board (whole c.args.text.now) (behind g.M.PeiStore.stands_for c.into_store-store.result c.actions-actions.result board c.args.catalog.now c.args.fuel (whole c.args.text.now) c.in_ok-end.end c.run_pei_by_text.new.pei c.run_pei_by_text.new.text told here are);
+      let told = c.in_ok-end.ensures.row board c.args.fuel c.in_ok-pei.ensures.made (c.in_ok-pei.ensures.opening board stands) in
+      let here = c.into_store-store.ensures _ told.core.machine in
+      let are = c.actions-actions.ensures _ told.core.machine in
+      c.follow_behind.ensures.row board (whole c.args.text.now) (behind g.M.PeiStore.stands_for c.into_store-store.result c.actions-actions.result board c.args.catalog.now c.args.fuel (whole c.args.text.now) c.in_ok-end.end c.run_pei_by_text.new.pei c.run_pei_by_text.new.text told here are);
 }

@@ -1,4 +1,4 @@
-use Rattle.std.proofs.Common.{◌≢◌, ℕ, List, sym, ◌∙◌, subst}
+use Rattle.std.proofs.Common.{◌≢◌, List, sym, ◌∙◌, subst}
 use Rattle.boot_io.specs.Faults.{IsPrefix}
 use Rattle.boot_model.specs.FreeRun.{AreFreeLines}
 use Rattle.boot_model.specs.declared.line.Line.{Line}

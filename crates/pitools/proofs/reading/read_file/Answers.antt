@@ -1,8 +1,19 @@
-use Rattle.std.proofs.Common.{refl}
-use Rattle.pitools.proofs.Ending.{long_content}
+use Rattle.std.proofs.Common.{◌≡◌}
+use Rattle.plan_files.specs.Reading.{FilesTrail}
+use Rattle.pitools.proofs.FileReports.{file_refusal, file_reports}
 use Rattle.pitools.proofs.reading.read_file.Goals as goal
 
-pub returns-in-Err-TooLong-clause-reading : goal.returns-in-Err-TooLong-clause-reading
-returns-in-Err-TooLong-clause-reading g c =
-    let long = long_content (g.F.Files.told c.args.files.now c.args.name.now) c.args.limit (rw c.in-Err-TooLong.field-0-is at c.in-Err-TooLong.ensures.into).1 in
-    (record { content = long.0; as_told = long.1; over = long.2; status_is = refl; text_is = refl }, rw c.in-Err-TooLong.field-0-is at c.in-Err-TooLong.ensures.cause)
+pub report_of-requires : goal.report_of-requires
+report_of-requires g c =
+    let F = g.F.Files.faults in
+    let name = c.args.name.now in
+    let t : FilesTrail = record { before = F c.args.files.now; now = F c.read_file.new.files; missed = g.F.Files.missed c.read_file.new.files } in
+    file_refusal (g.F.Files.told c.args.files.now name) c.args.limit name t c.in-Err-Refused.line (rw c.in-Err-Refused.field-0-is at c.in-Err-Refused.ensures.row)
+
+pub returns-in-Err-Refused-clause-reading : goal.returns-in-Err-Refused-clause-reading
+returns-in-Err-Refused-clause-reading g c =
+    let F = g.F.Files.faults in
+    let name = c.args.name.now in
+    let t : FilesTrail = record { before = F c.args.files.now; now = F c.read_file.new.files; missed = g.F.Files.missed c.read_file.new.files } in
+    file_reports (g.F.Files.told c.args.files.now name) c.args.limit name t c.in-Err-Refused.line c.report_of.result
+    (rw c.in-Err-Refused.field-0-is at c.in-Err-Refused.ensures.row) c.report_of.ensures

@@ -1,6 +1,7 @@
 use Rattle.std.proofs.Common.{◌≡◌}
 use Rattle.pitools.specs.CommandLine.{words_of}
-use Rattle.pitools.specs.Outcome.{MapNames, MapOutcome, Names, Outcome, ToolOutcome, of_map, of_tool, words_ask_map, words_ask_tool}
+use Rattle.pitools.specs.CheckReport.{CheckNames, CheckOutcome}
+use Rattle.pitools.specs.Outcome.{MapNames, MapOutcome, Names, Outcome, ToolOutcome, of_check, of_map, of_tool, words_ask_check, words_ask_map, words_ask_tool}
 use Rattle.pitools.proofs.Ending.{reports_ok}
 use Rattle.pitools.proofs.tools.with_words.Goals as goal
 
@@ -25,3 +26,14 @@ returns-in-Some-asked_tool-clause-report g c =
     reports_ok c.with_tool.result (ToolOutcome (told file) tool file) (Outcome told words) (λ name. name ≡ file) (Names told words)
     (record { before = F c.args.files.now; now = F c.with_tool.new.files; missed = g.F.Files.missed c.with_tool.new.files })
     (λ s t o. words_ask_tool tool file c.in-Some-asked_tool.ensures.found o) (λ n e. of_tool tool file c.in-Some-asked_tool.ensures.found e) c.with_tool.ensures.report
+
+pub returns-in-Some-asked_check-clause-report : goal.returns-in-Some-asked_check-clause-report
+returns-in-Some-asked_check-clause-report g c =
+    let F = g.F.Files.faults in
+    let told = g.F.Files.told c.args.files.now in
+    let words = words_of c.args.words.now in
+    let plan = c.in-Some-asked_check.plan.now in
+    let trace = c.in-Some-asked_check.trace.now in
+    reports_ok c.with_check.result (CheckOutcome told plan trace) (Outcome told words) (CheckNames told plan trace) (Names told words)
+    (record { before = F c.args.files.now; now = F c.with_check.new.files; missed = g.F.Files.missed c.with_check.new.files })
+    (λ s t o. words_ask_check plan trace c.in-Some-asked_check.ensures.found o) (λ n m. of_check plan trace c.in-Some-asked_check.ensures.found m) c.with_check.ensures.report
