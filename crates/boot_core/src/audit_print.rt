@@ -106,10 +106,7 @@ fn put_members<S: Sink>(sink: &mut S, volume: u32, modules: &[Module]) -> Result
 {
     let mut number = 0u32;
     'modules: for member in modules {
-        match put_module_in(sink, volume, number, member) {
-            Ok(()) => {}
-            Err(SinkFault) => return Err(SinkFault),
-        }
+        put_module_in(sink, volume, number, member)?;
         number += 1;
     }
     Ok(())
@@ -126,10 +123,8 @@ fn put_entry<S: Sink>(
     ensures text { Puts result (S.text sink.old) (S.text sink.new) (entry_text modules.now (record { number = number; item = entry.now })) }
     ensures cause { SinkFaultsAfter result (S.faults sink.old) (S.faults sink.new) }
 {
-    match put_volume(sink, number, entry) {
-        Ok(()) => put_members(sink, number, modules),
-        Err(SinkFault) => Err(SinkFault),
-    }
+    put_volume(sink, number, entry)?;
+    put_members(sink, number, modules)
 }
 
 // The lines of all volumes.
@@ -145,10 +140,7 @@ fn put_entries<S: Sink>(
 {
     let mut number = 0u32;
     'entries: for entry in entries {
-        match put_entry(sink, number, entry, modules) {
-            Ok(()) => {}
-            Err(SinkFault) => return Err(SinkFault),
-        }
+        put_entry(sink, number, entry, modules)?;
         number += 1;
     }
     Ok(())

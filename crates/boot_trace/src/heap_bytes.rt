@@ -47,13 +47,9 @@ fn put_heap_bytes<S: Sink, M: PeiStore>(
     let mut next = at;
     let mut left = len;
     'pieces: while left > PIECE_LEN {
-        match put_heap_piece(sink, store, next, PIECE_LEN) {
-            Ok(()) => {
-                next += PIECE_LEN as u64;
-                left -= PIECE_LEN;
-            }
-            Err(SinkFault) => return Err(SinkFault),
-        }
+        put_heap_piece(sink, store, next, PIECE_LEN)?;
+        next += PIECE_LEN as u64;
+        left -= PIECE_LEN;
     }
     put_heap_piece(sink, store, next, left)
 }

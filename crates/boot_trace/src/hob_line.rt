@@ -31,10 +31,8 @@ fn put_bytes<S: Sink>(sink: &mut S, bytes: &[u8]) -> Result<(), SinkFault>
     let mut rest = bytes;
     'pieces: while rest.len() > PIECE_LEN {
         let (piece, after) = rest.split_at(PIECE_LEN);
-        match put_piece(sink, piece) {
-            Ok(()) => rest = after,
-            Err(SinkFault) => return Err(SinkFault),
-        }
+        put_piece(sink, piece)?;
+        rest = after;
     }
     put_piece(sink, rest)
 }

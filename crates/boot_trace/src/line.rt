@@ -141,10 +141,7 @@ pub fn put_all<S: Sink>(sink: &mut S, lines: &[Line]) -> Result<(), SinkFault>
     ensures cause { SinkFaultsAfter result (S.faults sink.old) (S.faults sink.new) }
 {
     for line in lines {
-        match put(sink, line) {
-            Ok(()) => {}
-            Err(SinkFault) => return Err(SinkFault),
-        }
+        put(sink, line)?;
     }
     Ok(())
 }

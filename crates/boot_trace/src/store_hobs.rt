@@ -84,10 +84,8 @@ fn put_hob_lines<S: Sink, M: PeiStore>(sink: &mut S, store: &M) -> Result<(), Si
 {
     let mut offset = 0;
     'hobs: while let Some(span) = store.hob_at(offset) {
-        match put_span(sink, store, offset, &span) {
-            Ok(()) => offset = span.next,
-            Err(SinkFault) => return Err(SinkFault),
-        }
+        put_span(sink, store, offset, &span)?;
+        offset = span.next;
     }
     Ok(())
 }

@@ -1,8 +1,10 @@
 -- Where nothing is scheduled, the group of the first eligible driver is, or of the one at which the choice is aimed; and the head of the queue comes next.
-use Rattle.std.proofs.Common.{◌≡◌, ℕ, ◌-◌, ◌<◌, ◌≤◌, ◌==◌, Bool, true, false, ◌&&◌, ◌||◌, not, cond, List, [], ◌∷◌, ◌++◌, Option, Some, None, length, drop, reverse, refl, sym, subst, ap, ◌∙◌, arith}
+use Rattle.std.proofs.Common.{◌≡◌, ℕ, ◌-◌, ◌<◌, ◌≤◌, ◌==◌, Bool, true, false, true≢false, ◌&&◌, ◌||◌, not, cond, List, [], ◌∷◌, ◌++◌, Option, Some, None, length, drop, reverse, refl, sym, subst, ap, ◌∙◌, arith}
 use Rattle.std.proofs.lemmas.List.{length-drop, reverse-append, reverse-reverse}
 use Rattle.std.proofs.Math.ListN.{drop_of_length-le}
-use Rattle.std.specs.Prelude.{IfSome, Result, Ok, Err, OnOk}
+use Rattle.std.proofs.lemmas.Bool.{eqb-true}
+use Rattle.std.proofs.lemmas.Bool.Decides.{nat_tests}
+use Rattle.std.specs.Prelude.{◌↔◌, IsTrue, nat_eq, IfSome, Result, Ok, Err, OnOk}
 use Rattle.std.specs.List.{list_any}
 use Rattle.pi_base.specs.Lists.{Each}
 use Rattle.catalog_model.specs.declared.catalog.Catalog.{Catalog}
@@ -113,13 +115,18 @@ found_group catalog m queue order flags root group is are walked =
     record { group = walked m have root_of; known = group_numbers catalog m order flags root have root_of }
 
 -- a queue all of which has left is empty, and else it is not
-pub queue_empty : (queue view : Queue) (items : List Scheduled) (head : ℕ) → view ≡ queue → view.scheduled ≡ drop head items → length items ≤ head → queue.scheduled ≡ []
-queue_empty queue view items head is drops out = ap (λ (q : Queue). q.scheduled) (sym is) ∙ drops ∙ drop_of_length-le items out
+-- the queue is empty where its head stands at the end of the items
+pub at_end : (queue view : Queue) (items : List Scheduled) (head count : ℕ) → view ≡ queue → view.scheduled ≡ drop head items → count ≡ length items → head ≤ length items → IsTrue (nat_eq head count) ↔ (queue.scheduled ≡ [])
+at_end queue view items head count is drops whole within =
+    let left : queue.scheduled ≡ drop head items = ap (λ (q : Queue). q.scheduled) (sym is) ∙ drops in
+    let long : length queue.scheduled ≡ length items - head = ap (λ (xs : List Scheduled). length xs) left ∙ length-drop head items in (
+      λ t. let out : length items ≤ head = omega (arith, eqb-true head count t, whole) in left ∙ drop_of_length-le items out,
+      λ none. let empty : length queue.scheduled ≡ 0 = ap (λ (xs : List Scheduled). length xs) none in grind (arith, nat_tests, long, empty, whole, within),
+    )
 
-pub queue_has : (queue view : Queue) (items : List Scheduled) (head : ℕ) → view ≡ queue → view.scheduled ≡ drop head items → head < length items → 0 < length queue.scheduled
-queue_has queue view items head is drops below =
-    let long : length queue.scheduled ≡ length items - head = ap (λ (q : Queue). length q.scheduled) (sym is) ∙ ap (λ (xs : List Scheduled). length xs) drops ∙ length-drop head items in
-    omega (arith, long, below)
+pub has_some : (none : Bool) (xs : List Scheduled) → IsTrue none ↔ (xs ≡ []) → none ≡ false → 0 < length xs
+has_some none [] empty some = absurd (true≢false (sym (empty.1 refl) ∙ some))
+has_some none (x ∷ xs) empty some = omega arith
 
 each_turned : (P : ℕ → Type 0) (xs : List ℕ) → Each P xs → Each P (reverse xs)
 each_turned P [] e = tt

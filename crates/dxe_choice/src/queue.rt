@@ -1,5 +1,5 @@
 //! The scheduled queue, the drivers that wait, and the next driver.
-ghost use Rattle.std.specs.Prelude.{◌≡◌, ◌≤◌, ◌<◌, ◌+◌, [], ◌∷◌, ◌++◌, drop, IfOk, OnOk, IfSome, length, map, reverse};
+ghost use Rattle.std.specs.Prelude.{◌≡◌, ◌≤◌, ◌<◌, ◌+◌, ◌↔◌, IsTrue, [], ◌∷◌, ◌++◌, drop, IfOk, OnOk, IfSome, length, map, reverse};
 ghost use Rattle.pi_base.specs.Lists.{Each};
 ghost use Rattle.catalog_model.specs.WellFormed.{IsWellFormed};
 ghost use Rattle.catalog_model.specs.declared.catalog.Catalog.{Catalog as OfCatalog};
@@ -197,6 +197,13 @@ impl DriverQueue {
         Ok(())
     }
 
+    /// Whether no driver is scheduled.
+    pub fn is_empty(&self) -> bool
+        ensures { IsTrue result ↔ (self.now.scheduled ≡ []) }
+    {
+        self.head == self.items.len()
+    }
+
     /// Whether a driver is neither scheduled nor started.
     pub fn is_waiting(&self, number: u32) -> bool
         ensures { result ≡ waits_at self.now.waits number }
@@ -244,7 +251,7 @@ impl DriverQueue {
         ensures few_steps { steps.new ≤ steps.old + owed self.old }
         ensures owes { OnOk result (steps.new + owed self.new ≤ steps.old + owed self.old) }
     {
-        if self.head < self.items.len() {
+        if !self.is_empty() {
             return Ok(());
         }
         match self.first_eligible(catalog, steps) {
@@ -301,7 +308,7 @@ impl DriverQueue {
         ensures few_steps { steps.new ≤ steps.old + owed self.old }
         ensures owes { OnOk result (steps.new + owed self.new ≤ steps.old + owed self.old) }
     {
-        if self.head < self.items.len() {
+        if !self.is_empty() {
             return Ok(());
         }
         if self.may_be_next(catalog, root, steps) {

@@ -41,7 +41,7 @@ fn next_root(
     }
 }
 
-/// Where no script runs, the choice is aimed at the driver to whose group the one belongs that the text starts next: its group is scheduled, where nothing is, and it may be.
+/// Where no script runs and nothing is scheduled, the choice is aimed at the driver to whose group the one belongs that the text starts next: its group is scheduled, if it may be.
 pub(crate) fn aim_by_text<L: Ledger>(
     dxe: &Dxe,
     queue: &mut DriverQueue,
@@ -58,7 +58,7 @@ pub(crate) fn aim_by_text<L: Ledger>(
     ensures row { OnOk result (AimsByText catalog.now dxe.now queue.old text.now queue.new) }
     ensures made { OnOk result (IsQueueFor catalog.now queue.new) }
 {
-    if !dxe.is_idle() {
+    if !dxe.is_idle() || !queue.is_empty() {
         return Ok(());
     }
     match next_root(dxe.order(), catalog, names, text) {

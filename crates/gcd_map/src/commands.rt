@@ -42,10 +42,8 @@ fn take_line(commands: &mut Seq<Command>, number: u32, line: &[u8]) -> Result<()
     let Some(command) = read_command(line) else {
         return Err(CommandFault::Bad { line: number });
     };
-    match commands.push(command) {
-        Ok(()) => Ok(()),
-        Err(OutOfMemory) => Err(CommandFault::Memory),
-    }
+    commands.push(command)?;
+    Ok(())
 }
 
 /// Reads the commands of a text, of fewer than 2^32 - 1 bytes. Lines that are empty or begin with `#` are passed over.
@@ -60,10 +58,7 @@ pub fn read_commands(alloc: Global, text: &[u8]) -> Result<Seq<Command>, Command
     'lines: while !rest.is_empty() {
         let (line, after) = first_line(rest);
         count += 1;
-        match take_line(&mut commands, count, line) {
-            Ok(()) => {}
-            Err(fault) => return Err(fault),
-        }
+        take_line(&mut commands, count, line)?;
         rest = after;
     }
     Ok(commands)

@@ -109,10 +109,7 @@ fn add_resources(map: &mut GcdMap, bytes: &[u8], places: &[HobPlace]) -> Result<
 {
     let mut rest = places;
     'resources: while let Some((place, after)) = rest.split_first() {
-        match add_at(map, bytes, place.at) {
-            Ok(()) => {}
-            Err(fault) => return Err(fault),
-        }
+        add_at(map, bytes, place.at)?;
         rest = after;
     }
     Ok(())
@@ -129,10 +126,7 @@ fn take_allocations(map: &mut GcdMap, bytes: &[u8], places: &[HobPlace]) -> Resu
 {
     let mut rest = places;
     'allocations: while let Some((place, after)) = rest.split_first() {
-        match take_at(map, bytes, place.at) {
-            Ok(()) => {}
-            Err(fault) => return Err(fault),
-        }
+        take_at(map, bytes, place.at)?;
         rest = after;
     }
     Ok(())

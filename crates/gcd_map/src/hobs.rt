@@ -67,15 +67,10 @@ pub fn from_hobs(alloc: Global, bytes: &[u8]) -> Result<GcdMap, GcdFault>
     ensures fault { IfErr result (λ fault. fault.cause ≢ Memory → IsFirstFault bytes.now fault) }
 {
     let places = places_of(alloc, bytes)?;
-    let bits = match bits_of(bytes, places.as_slice()) {
-        Ok(bits) => bits,
-        Err(fault) => return Err(fault),
-    };
+    let bits = bits_of(bytes, places.as_slice())?;
     let mut map = GcdMap::empty(alloc, bits)?;
-    match fill(&mut map, bytes, places.as_slice()) {
-        Ok(()) => Ok(map),
-        Err(fault) => Err(fault),
-    }
+    fill(&mut map, bytes, places.as_slice())?;
+    Ok(map)
 }
 
 /// All bytes tell a memory space or have a first fault, never both, and one space or one fault.

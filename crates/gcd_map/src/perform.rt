@@ -62,10 +62,7 @@ impl GcdMap {
             if answer == Answer::Refused(GcdWord::Memory) {
                 return Err(OutOfMemory);
             }
-            match steps.push((*command, answer)) {
-                Ok(()) => {}
-                Err(OutOfMemory) => return Err(OutOfMemory),
-            }
+            steps.push((*command, answer))?;
         }
         Ok(steps)
     }

@@ -69,10 +69,7 @@ pub fn put_answers<S: Sink>(sink: &mut S, steps: &[(Command, Answer)]) -> Result
     ensures cause { SinkFaultsAfter result (S.faults sink.old) (S.faults sink.new) }
 {
     'put: for step in steps {
-        match put_answer(sink, step.0, step.1) {
-            Ok(()) => {}
-            Err(SinkFault) => return Err(SinkFault),
-        }
+        put_answer(sink, step.0, step.1)?;
     }
     Ok(())
 }
@@ -106,10 +103,7 @@ pub fn put_map<S: Sink>(sink: &mut S, ranges: &[GcdRange]) -> Result<(), SinkFau
     ensures cause { SinkFaultsAfter result (S.faults sink.old) (S.faults sink.new) }
 {
     'put: for range in ranges {
-        match put_range(sink, *range) {
-            Ok(()) => {}
-            Err(SinkFault) => return Err(SinkFault),
-        }
+        put_range(sink, *range)?;
     }
     Ok(())
 }

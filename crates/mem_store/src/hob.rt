@@ -77,10 +77,7 @@ impl MemStore {
                 Some(span) => span,
                 None => return Ok(bases),
             };
-            match self.push_base(&mut bases, offset, span) {
-                Ok(()) => {}
-                Err(OutOfMemory) => return Err(OutOfMemory),
-            }
+            self.push_base(&mut bases, offset, span)?;
             offset = span.next;
         }
         Ok(bases)

@@ -89,9 +89,7 @@ impl Names {
         let mut volumes = none_kept(alloc, catalog.volumes.len())?;
         let mut number = 0u32;
         'modules: for member in catalog.modules.as_slice() {
-            if let Err(fault) = keep(&mut volumes, member, number) {
-                return Err(fault);
-            }
+            keep(&mut volumes, member, number)?;
             number += 1;
         }
         Ok(Names { volumes })

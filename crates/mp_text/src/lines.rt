@@ -55,10 +55,7 @@ pub(crate) fn read_events(
     let mut number = first;
     'lines: while !rest.is_empty() {
         let (line, after) = first_line(rest);
-        match take_line(&mut events, number, line, processors, cells) {
-            Ok(()) => {}
-            Err(fault) => return Err(fault),
-        }
+        take_line(&mut events, number, line, processors, cells)?;
         number += 1;
         rest = after;
     }

@@ -56,10 +56,7 @@ fn put_replies<S: Sink>(
             let [reply, behind @ ..] = answers else {
                 return Ok(());
             };
-            match put_reply(sink, event, *reply) {
-                Ok(()) => {}
-                Err(SinkFault) => return Err(SinkFault),
-            }
+            put_reply(sink, event, *reply)?;
             answers = behind;
         }
         later = after;
@@ -87,10 +84,7 @@ fn put_cells<S: Sink>(sink: &mut S, cells: &[u64]) -> Result<(), SinkFault>
     ensures cause { SinkFaultsAfter result (S.faults sink.old) (S.faults sink.new) }
 {
     'cells: for (index, cell) in cells.iter().enumerate() {
-        match put_cell(sink, index as u64, *cell) {
-            Ok(()) => {}
-            Err(SinkFault) => return Err(SinkFault),
-        }
+        put_cell(sink, index as u64, *cell)?;
     }
     Ok(())
 }
@@ -113,10 +107,7 @@ fn put_numbers<S: Sink>(sink: &mut S, numbers: &[u64]) -> Result<(), SinkFault>
     ensures cause { SinkFaultsAfter result (S.faults sink.old) (S.faults sink.new) }
 {
     'numbers: for number in numbers {
-        match put_number(sink, *number) {
-            Ok(()) => {}
-            Err(SinkFault) => return Err(SinkFault),
-        }
+        put_number(sink, *number)?;
     }
     Ok(())
 }
@@ -144,10 +135,7 @@ fn put_records<S: Sink>(sink: &mut S, records: &[Seq<u64>]) -> Result<(), SinkFa
     ensures cause { SinkFaultsAfter result (S.faults sink.old) (S.faults sink.new) }
 {
     'records: for (processor, numbers) in records.iter().enumerate() {
-        match put_record(sink, processor as u64, numbers.as_slice()) {
-            Ok(()) => {}
-            Err(SinkFault) => return Err(SinkFault),
-        }
+        put_record(sink, processor as u64, numbers.as_slice())?;
     }
     Ok(())
 }

@@ -75,10 +75,7 @@ impl PlainStore {
     {
         let mut pairs = Vec::new(*self.hobs.allocator());
         'ppis: for ppi in ppis {
-            match self.add_row(*ppi, notes, &mut pairs) {
-                Ok(()) => {}
-                Err(OutOfMemory) => return Err(OutOfMemory),
-            }
+            self.add_row(*ppi, notes, &mut pairs)?;
         }
         Ok(pairs)
     }

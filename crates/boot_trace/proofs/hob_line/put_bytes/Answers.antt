@@ -3,7 +3,7 @@ use Rattle.std.proofs.lemmas.List.{take-append-drop}
 use Rattle.std.specs.Io.KnownBytes.{Appends}
 use Rattle.hex.specs.Hex.{encode_lower}
 use Rattle.boot_io.specs.Sink.{AppendsPart, Puts}
-use Rattle.boot_io.proofs.PutsLaws.{appends_none, appends_then, part_then, part_of_more, puts_then}
+use Rattle.boot_io.proofs.PutsLaws.{appends_none, appends_then, part_then, part_of_more, puts_then, puts_err}
 use Rattle.boot_trace.proofs.Hexadecimal.{encode_lower-append, encode_lower-none}
 use Rattle.boot_trace.proofs.hob_line.put_bytes.Goals as goal
 
@@ -25,14 +25,14 @@ pieces-preserved g c =
     record {
       text = (
         before.0 ++ piece,
-        subst P (sym (encode_lower-append before.0 piece)) (appends_then (T c.args.sink.now) (T c.pieces.sink) (T c.put_piece.new.sink) (encode_lower before.0) (encode_lower piece) before.1 c.in-Ok.ensures.text),
+        subst P (sym (encode_lower-append before.0 piece)) (appends_then (T c.args.sink.now) (T c.pieces.sink) (T c.put_piece.new.sink) (encode_lower before.0) (encode_lower piece) before.1 c.in_ok-put_piece.ensures.text),
         before.2 ∙ ap (λ t. before.0 ++ t) cut ∙ sym (append_assoc before.0 piece rest),
       );
-      count = c.in-Ok.ensures.cause ∙ c.pieces.invariant.count;
+      count = c.in_ok-put_piece.ensures.cause ∙ c.pieces.invariant.count;
     }
 
-pub returns-in-Err-clause-text : goal.returns-in-Err-clause-text
-returns-in-Err-clause-text g c =
+pub returns-in_err-put_piece-clause-text : goal.returns-in_err-put_piece-clause-text
+returns-in_err-put_piece-clause-text g c =
     let T = g.S.Sink.text in
     let before = c.pieces.invariant.text in
     let piece = c.split_at.result.0.now in
@@ -43,8 +43,9 @@ returns-in-Err-clause-text g c =
     append_assoc (encode_lower before.0) (encode_lower piece) (encode_lower rest) ∙ ap (λ t. encode_lower before.0 ++ t) (sym (encode_lower-append piece rest) ∙ ap encode_lower (sym cut))
     ∙ sym (encode_lower-append before.0 c.pieces.rest.now) ∙ ap encode_lower (sym before.2) in
     let P : List ℕ → Type 0 = λ text. AppendsPart (T c.args.sink.now) (T c.put_piece.new.sink) text in
-    subst P whole (part_of_more (T c.args.sink.now) (T c.put_piece.new.sink) (encode_lower before.0 ++ encode_lower piece) (encode_lower rest)
-    (part_then (T c.args.sink.now) (T c.pieces.sink) (T c.put_piece.new.sink) (encode_lower before.0) (encode_lower piece) before.1 c.in-Err.ensures.text))
+    puts_err c.from_residual.result (T c.args.sink.now) (T c.put_piece.new.sink) _ c.from_residual.ensures.0
+    (subst P whole (part_of_more (T c.args.sink.now) (T c.put_piece.new.sink) (encode_lower before.0 ++ encode_lower piece) (encode_lower rest)
+    (part_then (T c.args.sink.now) (T c.pieces.sink) (T c.put_piece.new.sink) (encode_lower before.0) (encode_lower piece) before.1 c.in_err-put_piece.ensures.text)))
 
 pub returns-clause-text : goal.returns-clause-text
 returns-clause-text g c =

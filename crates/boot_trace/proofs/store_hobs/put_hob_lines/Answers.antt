@@ -8,6 +8,7 @@ use Rattle.boot_trace.specs.HobLines.{all_hobs}
 use Rattle.boot_trace.proofs.HobBounds.{small_heap}
 use Rattle.boot_trace.proofs.HobPlaces.{told, none_left, hob_place, line_of_hob, line_at, line_in, lines_len}
 use Rattle.boot_trace.proofs.PutLines.{next_line, next_part, all_lines}
+use Rattle.boot_io.proofs.PutsLaws.{puts_err}
 use Rattle.boot_trace.proofs.store_hobs.put_hob_lines.Goals as goal
 
 pub hob_at-requires : goal.hob_at-requires
@@ -39,21 +40,22 @@ hobs-preserved g c =
           let t = told s i.0 c.hobs.offset c.in-Some.span i.2 h in
           let line = line_of_hob s c.hobs.offset t.hob in
           let P : Option Line → Type 0 = λ o. IsSomeAnd o (λ line. Appends (T c.hobs.sink) (T c.put_span.new.sink) (line_text line)) in
-          let put : Appends (T c.hobs.sink) (T c.put_span.new.sink) (line_text line) = subst P (line_at s i.0 c.hobs.offset t.hob i.2 t.is) (c.in-Ok.ensures.text s stands (sym h)) in
+          let put : Appends (T c.hobs.sink) (T c.put_span.new.sink) (line_text line) = subst P (line_at s i.0 c.hobs.offset t.hob i.2 t.is) (c.in_ok-put_span.ensures.text s stands (sym h)) in
           (i.0 + 1, omega (arith, t.within), t.next, next_line line_text (hob_lines_from s 0 (all_hobs s)) i.0 line (T c.args.sink.now) (T c.hobs.sink) (T c.put_span.new.sink) (line_in s i.0 c.hobs.offset t.hob i.2 t.is) i.3 put);
-      count = c.in-Ok.ensures.cause ∙ c.hobs.invariant.count;
+      count = c.in_ok-put_span.ensures.cause ∙ c.hobs.invariant.count;
     }
 
-pub returns-in-Err-clause-text : goal.returns-in-Err-clause-text
-returns-in-Err-clause-text g c s stands needs =
+pub returns-in_err-put_span-clause-text : goal.returns-in_err-put_span-clause-text
+returns-in_err-put_span-clause-text g c s stands needs =
     let T = g.S.Sink.text in
     let i = c.hobs.invariant.text s stands in
     let h = c.in-Some.ensures.row s stands (hob_place s i.0 c.hobs.offset i.1 i.2) in
     let t = told s i.0 c.hobs.offset c.in-Some.span i.2 h in
     let line = line_of_hob s c.hobs.offset t.hob in
     let P : Option Line → Type 0 = λ o. IsSomeAnd o (λ line. AppendsPart (T c.hobs.sink) (T c.put_span.new.sink) (line_text line)) in
-    let put : AppendsPart (T c.hobs.sink) (T c.put_span.new.sink) (line_text line) = subst P (line_at s i.0 c.hobs.offset t.hob i.2 t.is) (c.in-Err.ensures.text s stands (sym h)) in
-    next_part line_text (hob_lines_from s 0 (all_hobs s)) i.0 line (T c.args.sink.now) (T c.hobs.sink) (T c.put_span.new.sink) (line_in s i.0 c.hobs.offset t.hob i.2 t.is) i.3 put
+    let put : AppendsPart (T c.hobs.sink) (T c.put_span.new.sink) (line_text line) = subst P (line_at s i.0 c.hobs.offset t.hob i.2 t.is) (c.in_err-put_span.ensures.text s stands (sym h)) in
+    puts_err c.from_residual.result (T c.args.sink.now) (T c.put_span.new.sink) _ c.from_residual.ensures.0
+    (next_part line_text (hob_lines_from s 0 (all_hobs s)) i.0 line (T c.args.sink.now) (T c.hobs.sink) (T c.put_span.new.sink) (line_in s i.0 c.hobs.offset t.hob i.2 t.is) i.3 put)
 
 pub returns-clause-text : goal.returns-clause-text
 returns-clause-text g c s stands needs =

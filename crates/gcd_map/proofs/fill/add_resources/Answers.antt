@@ -1,8 +1,11 @@
-use Rattle.std.proofs.Common.{◌≡◌, ◌∷◌, List, refl, subst}
+use Rattle.std.proofs.Common.{◌≡◌, ◌∷◌, List, refl, subst, ◌≢◌, sym}
+use Rattle.std.proofs.lemmas.Result.{err_from_is_err_and}
+use Rattle.gcd_map.specs.declared.fault.GcdFault.{GcdFault}
+use Rattle.gcd_map.specs.declared.fault.GcdCause.TheVariants.{Memory}
 use Rattle.pi_base.specs.Lists.{Each}
 use Rattle.hob_codec.specs.declared.list.HobPlace.{HobPlace}
 use Rattle.gcd_map.specs.HobMap.{resources, resource_at, MayCome, came, with_first}
-use Rattle.gcd_map.specs.HobFaults.{ComesNot}
+use Rattle.gcd_map.specs.HobFaults.{ComesNot, Stops}
 use Rattle.gcd_map.specs.Places.{IsNear}
 use Rattle.gcd_map.proofs.Changes.{no_items}
 use Rattle.gcd_map.proofs.Following.{Goes, Gone, goes_first, goes_step, step_stops}
@@ -19,19 +22,21 @@ resources-preserved c =
     let goes : Goes MayCome came ComesNot c.args.map.now all c.resources.map (with_first (resource_at bytes place.at) (resources bytes rest)) =
     subst (λ (l : List HobPlace). Goes MayCome came ComesNot c.args.map.now all c.resources.map (resources bytes l)) is c.resources.invariant.goes in
     record {
-      goes = goes_step MayCome came ComesNot c.args.map.now all c.resources.map c.add_at.new.map (resource_at bytes place.at) (resources bytes rest) goes c.in-Ok.ensures;
+      goes = goes_step MayCome came ComesNot c.args.map.now all c.resources.map c.add_at.new.map (resource_at bytes place.at) (resources bytes rest) goes c.in_ok-add_at.ensures;
       near = (subst (λ (l : List HobPlace). Each IsNear l) is c.resources.invariant.near).1;
     }
 
-pub returns-in-Err : goal.returns-in-Err
-returns-in-Err c = λ space shows other.
+pub returns-in_err-add_at : goal.returns-in_err-add_at
+returns-in_err-add_at c = λ space shows.
     let bytes = c.args.bytes.now in let place = c.in-Some.place.now in let rest = c.in-Some.after.now in
     let is : c.resources.rest.now ≡ place ∷ rest = c.in-Some.ensures.cases.0 in
     let all = resources bytes c.args.places.now in
     let goes : Goes MayCome came ComesNot c.args.map.now all c.resources.map (with_first (resource_at bytes place.at) (resources bytes rest)) =
     subst (λ (l : List HobPlace). Goes MayCome came ComesNot c.args.map.now all c.resources.map (resources bytes l)) is c.resources.invariant.goes in
     let gone = goes space shows in
-    step_stops MayCome came ComesNot space all c.resources.map (resource_at bytes place.at) (resources bytes rest) c.in-Err.fault gone (c.in-Err.ensures gone.now gone.shows) other
+    let p = err_from_is_err_and c.from_residual.result c.from_residual.ensures.1 in
+    rw p.1 (subst (λ (fault : GcdFault). fault.cause ≢ Memory → Stops MayCome came ComesNot space all fault) (sym p.2)
+    (λ other. step_stops MayCome came ComesNot space all c.resources.map (resource_at bytes place.at) (resources bytes rest) c.in_err-add_at.field-0.0 gone (c.in_err-add_at.ensures gone.now gone.shows) other))
 
 pub returns : goal.returns
 returns c = λ space shows.

@@ -15,8 +15,8 @@ lines-preserved c =
     record {
       short = omega (arith, c.first_line.ensures.shorter, c.lines.invariant.short);
       spelling = taken_more p k n line after c.lines.events c.take_line.new.events (spelled p k (numbered_from c.args.first (lines c.args.text.now)))
-          c.in-Ok.ensures.line.1 (rw left at c.lines.invariant.spelling);
+          c.in_ok-take_line.ensures.line.1 (rw left at c.lines.invariant.spelling);
       sound = c.lines.invariant.sound ∙ ap (λ ls. first_without_event p k (numbered_from n ls)) left ∙ ap (first_without_event p k) (numbered_first n line after)
-          ∙ first_behind p k (numbered_from n (line ∷ [])) (numbered_from (n + 1) after) c.in-Ok.ensures.line.0;
-      fits = c.in-Ok.ensures.fits c.lines.invariant.fits;
+          ∙ first_behind p k (numbered_from n (line ∷ [])) (numbered_from (n + 1) after) c.in_ok-take_line.ensures.line.0;
+      fits = c.in_ok-take_line.ensures.fits c.lines.invariant.fits;
     }

@@ -1,10 +1,12 @@
-use Rattle.std.proofs.Common.{◌≡◌, ◌<◌, ◌+◌, ℕ, List, Some, length, get_or, refl, ap, subst, arith, slice_get}
+use Rattle.std.proofs.Common.{◌≡◌, ◌<◌, ◌+◌, ℕ, List, Some, Err, length, get_or, refl, sym, ap, subst, arith, slice_get}
+use Rattle.std.proofs.lemmas.Result.{err_from_is_err_and}
 use Rattle.std.proofs.lemmas.Option.{slice_get_read}
 use Rattle.catalog_model.specs.declared.catalog.Catalog.{Catalog}
 use Rattle.catalog_model.specs.declared.catalog.Module.{Module}
 use Rattle.module_names.specs.declared.names.Names.{Names}
-use Rattle.module_names.specs.Named.{AreNames}
-use Rattle.module_names.specs.Taking.{IsKept, Keeps}
+use Rattle.module_names.specs.declared.names.NamesFault.{NamesFault}
+use Rattle.module_names.specs.Named.{AreNames, IsFirstWithTwins}
+use Rattle.module_names.specs.Taking.{Fails, IsKept}
 use Rattle.module_names.proofs.Building.{no_twins, refused, one_more_named}
 use Rattle.module_names.proofs.names.Names.build.Goals as goal
 
@@ -16,19 +18,21 @@ pub modules-preserved : goal.modules-preserved
 modules-preserved c =
     let catalog = c.args.catalog.now in
     let at = at_hand catalog c.as_slice-member-items.result.now c.modules.member-index c.member-item.result c.as_slice-member-items.ensures c.modules-test.true c.member-item.is in
-    let kept = c.in_default.ensures in
+    let kept = c.in_ok-keep.ensures in
     record {
       names = one_more_named catalog c.modules.member-index c.member-item.result c.modules.volumes.items c.keep.new.maps.items c.modules.invariant.names at.0 at.1
           (subst (λ n. IsKept c.member-item.result.volume c.member-item.result.name n c.modules.volumes.items c.keep.new.maps.items) c.modules.invariant.number kept);
       number = ap (λ n. n + 1) c.modules.invariant.number;
     }
 
-pub returns-in-Err-clause-twins : goal.returns-in-Err-clause-twins
-returns-in-Err-clause-twins c =
+pub returns-in_err-keep-clause-twins : goal.returns-in_err-keep-clause-twins
+returns-in_err-keep-clause-twins c =
     let catalog = c.args.catalog.now in
     let at = at_hand catalog c.as_slice-member-items.result.now c.modules.member-index c.member-item.result c.as_slice-member-items.ensures c.modules-test.true c.member-item.is in
-    refused Names catalog c.modules.member-index c.modules.number c.member-item.result c.modules.volumes.items c.keep.new.maps.items c.in-Err.fault c.requires c.modules.invariant.names at.0 at.1
-    (subst (Keeps c.member-item.result.volume c.member-item.result.name c.modules.number c.modules.volumes.items c.keep.new.maps.items) c.in-Err.is c.keep.ensures)
+    let p = err_from_is_err_and c.from_residual-in_err-keep.result c.from_residual-in_err-keep.ensures.1 in
+    rw p.1 (subst (λ (fault : NamesFault). Fails {A = Names} (IsFirstWithTwins catalog) (Err fault)) (sym p.2)
+    (refused Names catalog c.modules.member-index c.modules.number c.member-item.result c.modules.volumes.items c.keep.new.maps.items c.in_err-keep.field-0.0 c.requires c.modules.invariant.names at.0 at.1
+    c.in_err-keep.ensures))
 
 pub returns-clause-names : goal.returns-clause-names
 returns-clause-names c =
