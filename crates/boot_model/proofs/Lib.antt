@@ -13,3 +13,4 @@ pub mod ScriptActions
 pub mod ScriptHobs
 mod PeiRows
 mod WorkedBoots
+pub mod Texts

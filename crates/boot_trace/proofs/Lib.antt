@@ -4,6 +4,7 @@ mod HeapPieces
 mod HeapReads
 mod Hexadecimal
 mod HobPlaces
+pub mod Lines
 mod ListPlaces
 mod PutLines
 mod SpanLines

@@ -26,52 +26,9 @@ use Rattle.wait_index.specs.declared.index.WaitIndex.{WaitIndex}
 use Rattle.wait_index.specs.Dispatch.{StandsForDxe}
 use Rattle.wait_index.specs.Index.{IsIndex, again_in, has_in, is_eligible_in, is_open_in, order_in, waits_in}
 use Rattle.wait_index.specs.Verdict.{expression_verdict, has_all, holds_by, lets, verdict_by, verdict_in, verdict_of}
-use Rattle.wait_index.proofs.Truth.{verdict_same}
+use Rattle.wait_index.proofs.Dispatch.{dxe_one}
 use Rattle.dxe_choice.specs.Aim.{may_be_next}
 use Rattle.dxe_choice.proofs.Waiting.{has_place}
-
-all_same : (slots : Guid → ℕ → Type 0) (has other : Guid → Bool) (guids : List Guid) (ss : List ℕ) → ((guid : Guid) (slot : ℕ) → slots guid slot → has guid ≡ other guid) → EachPair slots guids ss → list_all has guids ≡ list_all other guids
-all_same slots has other [] [] h pairs = refl
-all_same slots has other [] (s ∷ ss) h pairs = absurd pairs
-all_same slots has other (g ∷ guids) [] h pairs = absurd pairs
-all_same slots has other (g ∷ guids) (s ∷ ss) h pairs =
-    ap (λ b. b && list_all has guids) (h g s pairs.0) ∙ ap (λ b. other g && b) (all_same slots has other guids ss h pairs.1)
-
-lets_by : (all b : Bool) → lets all (verdict_by b) ≡ b
-lets_by all true = refl
-lets_by all false = refl
-
-expression_may : (h : HandleState) (expr : PartExpr) → lets (has_all (has_protocol h)) (expression_verdict Dxe (has_protocol h) expr) ≡ lets_driver_start h expr
-expression_may h E.Absent = refl
-expression_may h (E.Malformed at) = refl
-expression_may h (E.Held expression) = lets_by (has_all (has_protocol h)) (depex_holds (has_protocol h) expression)
-
-part_may : (h : HandleState) (part : Option Part) → lets (has_all (has_protocol h)) (verdict_in Dxe (has_protocol h) part) ≡ driver_may_start h part
-part_may h None = refl
-part_may h (Some part) = expression_may h part.expr
-
-by_parts : (waits unrequested h a w o : Bool) → w ≡ waits → o ≡ not unrequested → a ≡ false → (a || (w && o && h)) ≡ (waits && (not unrequested && h))
-by_parts waits unrequested h a w o e f g = ap (λ b. b || (w && o && h)) g ∙ ap (λ b. b && o && h) e ∙ ap (λ b. waits && b && h) f ∙ by waits unrequested h
-  where
-    by : (x y k : Bool) → (x && not y && k) ≡ (x && (not y && k))
-    by true y k = refl
-    by false y k = refl
-
--- a driver of the order is eligible in the index where it waits and is eligible in the machine
-one_eligible : (catalog : Catalog) (m : DxeMachine) (index : WaitIndex) → IsIndex catalog index → StandsForDxe catalog m index → (number : ℕ) → has_number (order_in index) number ≡ true
-    → is_eligible_in catalog index number ≡ (is_waiting m number && is_eligible_driver catalog m number)
-one_eligible catalog m index is stands number within =
-    let h = m.handles in
-    let same : verdict_of index.phase catalog (has_in index) number ≡ verdict_of index.phase catalog (has_protocol h) number =
-    verdict_same index.phase catalog (has_in index) (has_protocol h) number (λ guid pushes. let its = is.watched.pushed guid number pushes in stands.installed guid its.0 its.1) in
-    let all : has_all (has_in index) ≡ has_all (has_protocol h) =
-    all_same (λ guid slot. value_of index.installed.slots guid ≡ Some slot) (has_in index) (has_protocol h) ARCHITECTURAL index.installed.protocols stands.installed (is.watched.protocols stands.phase) in
-    let holds : holds_by index.phase (has_in index) (part_at index.phase catalog number) ≡ driver_may_start h (part_at Dxe catalog number) =
-    ap (λ a. lets a (verdict_of index.phase catalog (has_in index) number)) all ∙ ap (lets (has_all (has_protocol h))) same
-    ∙ ap (λ (p : Phase). lets (has_all (has_protocol h)) (verdict_of p catalog (has_protocol h) number)) stands.phase ∙ part_may h (part_at Dxe catalog number) in
-    ap (λ b. again_in index number || (waits_in index number && is_open_in index number && b)) holds
-    ∙ by_parts (is_waiting m number) (is_unrequested catalog m number) (driver_may_start h (part_at Dxe catalog number)) (again_in index number) (waits_in index number) (is_open_in index number)
-    (stands.waits number within) (stands.opens number within) (stands.again number within)
 
 -- a list has a number where the whole has it and it passes
 filtered_has : (p : ℕ → Bool) (xs : List ℕ) (n : ℕ) → has_number (filter p xs) n ≡ (has_number xs n && p n)
@@ -107,7 +64,7 @@ next_with_place catalog m index place number is stands at =
     let known : has_number (order_in index) number ≡ true = has_of_place (order_in index) place number at in
     ap (λ b. b && is_eligible_driver catalog m number) (filtered_has (is_waiting m) _ number
     ∙ ap (λ order. has_number order number && is_waiting m number) (sym stands.order) ∙ ap (λ b. b && is_waiting m number) known)
-    ∙ sym (one_eligible catalog m index is stands number known)
+    ∙ sym (dxe_one catalog m index is stands number known)
 
 -- and one without may not
 pub none_without_place : (catalog : Catalog) (m : DxeMachine) (index : WaitIndex) (number : ℕ) → StandsForDxe catalog m index → ((place : ℕ) → slice_get (order_in index) place ≡ Some number → ⊥) → may_be_next catalog m number ≡ false

@@ -1,6 +1,5 @@
 pub mod Growing
 mod Idle
-mod Lines
 mod Openings
 mod Runs
 mod Standing

@@ -33,7 +33,7 @@ use Rattle.dxe_dispatch.specs.Events.{HasEvent}
 use Rattle.dxe_dispatch.specs.Turns.{AreOf, HasTurned, IsOver, IsWithin, TurnsTo}
 use Rattle.dxe_dispatch.proofs.Idle.{step_starts, started_queue}
 use Rattle.dxe_dispatch.proofs.Growing.{step_grew}
-use Rattle.dxe_dispatch.proofs.Lines.{part_none, part_whole}
+use Rattle.boot_trace.proofs.Lines.{part_none, part_whole}
 use Rattle.dxe_dispatch.proofs.Runs.{discovered_more}
 use Rattle.dxe_dispatch.proofs.Standing.{now_still}
 

@@ -14,7 +14,7 @@ use Rattle.boot_model.specs.DxeStep.{driver_waiting_line, driver_waiting_lines}
 use Rattle.boot_model.specs.Text.{line_text, text_of}
 use Rattle.dxe_dispatch.specs.Turns.{stop_lines}
 use Rattle.dxe_dispatch.specs.Waiting.{line_where, lines_of}
-use Rattle.dxe_dispatch.proofs.Lines.{line_then}
+use Rattle.boot_trace.proofs.Lines.{line_then}
 
 one_more : (b : Bool) (line : ℕ → Line) (number : ℕ) (numbers : List ℕ) (rest : List Line) → rest ≡ map line numbers → line_where b (line number) ++ rest ≡ map line (cond b (number ∷ numbers) numbers)
 one_more true line number numbers rest e = ap (λ lines. line number ∷ lines) e

@@ -26,7 +26,8 @@ use Rattle.dxe_core.specs.Standing.{DxeCore, IsCoreOf, IsFor, StandsFor}
 use Rattle.dxe_core.specs.Turn.{PrintedPart}
 use Rattle.dxe_dispatch.specs.Ends.{HasEnded, IsNow, StandsAtEnd}
 use Rattle.dxe_dispatch.specs.Turns.{HasTurned, IsOver, IsReady, IsWithin}
-use Rattle.dxe_dispatch.proofs.Lines.{text_of-append, part_of_longer}
+use Rattle.boot_model.proofs.Texts.{text_of-append}
+use Rattle.boot_trace.proofs.Lines.{part_of_longer}
 use Rattle.dxe_dispatch.proofs.Runs.{goes, goes_on, stays, run_tells, run_discovers, run_few}
 
 -- A run: the machine at its opening and at its end, the evaluations that its protocols may ask for, and the sink's text and the evaluations before it.

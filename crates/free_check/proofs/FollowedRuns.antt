@@ -32,7 +32,8 @@ use Rattle.free_text.specs.declared.parted.Parted.{Parted}
 use Rattle.free_text.specs.declared.parted.Parted.TheVariants.{Memory, Off}
 use Rattle.free_check.specs.DxeRun.{FollowsTo, HasFollowed}
 use Rattle.free_check.specs.DxeTurn.{Boot, GoesTo, HasTurned, IsFollowed, IsOnWay, IsOver, TakesFew, TurnsTo, printed_by}
-use Rattle.free_check.proofs.FreeSteps.{begins_printed, text_append}
+use Rattle.boot_model.proofs.Texts.{text_of-append}
+use Rattle.free_check.proofs.FreeSteps.{begins_printed}
 
 -- a machine of a free boot as far as the text was met, which has no more steps left than turns
 pub record IsFollowing {M : Type 0} (stands : M → StoreState → Type 0) (store : M) (boot : Boot) (core : DxeCore) (kept : Queue) (text : Spelled) (turns : ℕ) : Type 0 where
@@ -44,7 +45,7 @@ pub record IsFollowing {M : Type 0} (stands : M → StoreState → Type 0) (stor
 
 -- what is printed at the opening
 opening_printed : (catalog : Catalog) (pei : PeiMachine) (s : StoreState) (actions : ℕ) → printed_by pei (dxe_opening catalog s actions) ≡ text_of pei.lines ++ text_of (discovery_lines (dxe_opening catalog s actions).discovered)
-opening_printed catalog pei s actions = text_append pei.lines (discovery_lines (dxe_opening catalog s actions).discovered)
+opening_printed catalog pei s actions = text_of-append pei.lines (discovery_lines (dxe_opening catalog s actions).discovered)
 
 -- the queue at the opening
 opening_queue : (catalog : Catalog) (kept queue : Queue) (volumes : List ℕ) (s : StoreState) (actions : ℕ) → IsNewQueue catalog kept → volumes ≡ (dxe_opening catalog s actions).discovered → Discovers catalog kept (drop 0 volumes) queue

@@ -21,6 +21,7 @@ use Rattle.boot_model.specs.FreeRun.{AreFreeDxeLines, MaySchedule}
 use Rattle.boot_model.specs.PeiMachine.{PeiMachine}
 use Rattle.boot_model.specs.PeiStep.{start_lines}
 use Rattle.boot_model.specs.Text.{keyword, line_text, text_of, words}
+use Rattle.boot_model.proofs.Texts.{text_of-append}
 use Rattle.std.proofs.lemmas.Bool.Decides.{nat_tests}
 use Rattle.boot_laws.proofs.PartLists.{is_equal}
 use Rattle.free_laws.specs.DxeAim.{AimIsFree, DxeStartsFreely, FirstEligibleMayStart, GroupsAreAimed, IsChoosing, aimed}
@@ -47,17 +48,14 @@ pub record IsByText (catalog : Catalog) (fuel : ℕ) (pei : PeiMachine) (m later
   pub back : (lines : List Line) → AreFreeDxeLines catalog fuel pei later lines → AreFreeDxeLines catalog fuel pei m lines
   pub each : (lines : List Line) → AreFreeDxeLines catalog fuel pei m lines → AreFreeDxeLines catalog fuel pei later lines ⊎ (PartsByLine text (printed_by pei m) lines × PrintsMore m later)
 
-pub text_append : (a b : List Line) → text_of (a ++ b) ≡ text_of a ++ text_of b
-text_append a b = flat_map-append line_text a b
-
 -- the text of more lines
 pub printed_more : (pei : PeiMachine) (m later : DxeMachine) (told : List Line) → later.lines ≡ m.lines ++ told → printed_by pei later ≡ printed_by pei m ++ text_of told
-printed_more pei m later told is = ap (λ lines. text_of (pei.lines ++ lines)) is ∙ ap text_of (sym (append_assoc pei.lines m.lines told)) ∙ text_append (pei.lines ++ m.lines) told
+printed_more pei m later told is = ap (λ lines. text_of (pei.lines ++ lines)) is ∙ ap text_of (sym (append_assoc pei.lines m.lines told)) ∙ text_of-append (pei.lines ++ m.lines) told
 
 -- the lines of a free boot begin with those that were printed
 pub begins_printed : (catalog : Catalog) (fuel : ℕ) (pei : PeiMachine) (m : DxeMachine) (lines : List Line) → DxeLinesGrow → AreFreeDxeLines catalog fuel pei m lines → IsPrefix (printed_by pei m) (text_of lines)
 begins_printed catalog fuel pei m lines grow are =
-    let behind = grow catalog fuel pei m lines are in (text_of behind.rest, ap text_of behind.printed_first ∙ text_append (pei.lines ++ m.lines) behind.rest)
+    let behind = grow catalog fuel pei m lines are in (text_of behind.rest, ap text_of behind.printed_first ∙ text_of-append (pei.lines ++ m.lines) behind.rest)
 
 -- where there is no choice
 pub by_own_step : (catalog : Catalog) (fuel : ℕ) (pei : PeiMachine) (m : DxeMachine) (text : List ℕ) → DxeGoesOn → m.ended ≡ None → IsOwnCase (dxe_case_of catalog m) m.scheduled → IsByText catalog fuel pei m (dxe_step catalog fuel m) text

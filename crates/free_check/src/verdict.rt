@@ -27,7 +27,8 @@ pub(crate) fn verdict_of(
     text: &Spelled<'_>,
 ) -> Result<Verdict, OutOfMemory>
     requires few { IsShort text.now followed }
-    ensures { (board : Board) (catalog : OfCatalog) (fuel : ℕ) (told : List ℕ) → Follows (AreFreeLines board catalog fuel) told text.now followed
+    ensures { (board : Board) (catalog : OfCatalog) (fuel : ℕ) (told : List ℕ)
+        → Follows (AreFreeLines board catalog fuel) told text.now followed
         → IfOk result (IsVerdict (AreFreeLines board catalog fuel) told) }
 {
     match followed {

@@ -34,7 +34,8 @@ use Rattle.free_text.specs.Parted.{parted_by}
 use Rattle.free_laws.specs.PeiAim.{with_cursor}
 use Rattle.free_pei.specs.ByText.{FromOpening, HasEnded, GoesOn, IsAtTurn, IsFollowed, TurnsTo}
 use Rattle.free_pei.proofs.Choosing.{own_case}
-use Rattle.free_pei.proofs.Lines.{begins_with, ends_after, lines_end, text_append}
+use Rattle.boot_model.proofs.Texts.{text_of-append}
+use Rattle.free_pei.proofs.Lines.{begins_with, ends_after, lines_end}
 
 -- a sink that failed once is not right
 pub not_right : (before now : ℕ) → before ≡ 0 → Rose before now → now ≡ 0 → ⊥
@@ -64,7 +65,7 @@ followed_on law Start catalog fuel text m later told old new followed leads onwa
     let printed = text_of m.lines in
     let right : IsRight new = same ∙ followed.held.right in
     let held = held_on old new text printed (text_of told) followed.held (law old new (text_of told) put followed.held.right right) right in
-    let is : text_of later.lines ≡ printed ++ text_of told = ap text_of leads.lines ∙ text_append m.lines told in
+    let is : text_of later.lines ≡ printed ++ text_of told = ap text_of leads.lines ∙ text_of-append m.lines told in
     let tracks = tracks_on Start (AreFreePeiLines catalog fuel m) (AreFreePeiLines catalog fuel later) printed (text_of told) followed.tracks leads.back (onward (held_begins new text (printed ++ text_of told) held)) in
     record {
       tracks = subst (λ t. Tracks Start (AreFreePeiLines catalog fuel later) t) (sym is) tracks;

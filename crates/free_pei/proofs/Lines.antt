@@ -6,11 +6,9 @@ use Rattle.boot_io.specs.Faults.{IsPrefix}
 use Rattle.boot_io.specs.Line.{spaced}
 use Rattle.boot_model.specs.declared.line.Line.{Line}
 use Rattle.boot_model.specs.Text.{keyword, words, line_text, text_of}
+use Rattle.boot_model.proofs.Texts.{text_of-append}
 use Rattle.free_text.specs.Following.{EndsLine}
 use Rattle.std.specs.Prelude.{flat_map}
-
-pub text_append : (xs ys : List Line) → text_of (xs ++ ys) ≡ text_of xs ++ text_of ys
-text_append xs ys = flat_map-append line_text xs ys
 
 -- a line without its line feed
 abbrev pub body : Line → List ℕ
@@ -27,7 +25,7 @@ ends_after front text ends = (front ++ ends.0, ap (λ t. front ++ t) ends.1 ∙ 
 
 -- lines that begin with others
 pub begins_with : (printed told all : List Line) (rest : List Line) → all ≡ (printed ++ told) ++ rest → IsPrefix (text_of printed ++ text_of told) (text_of all)
-begins_with printed told all rest is = (text_of rest, ap text_of is ∙ text_append (printed ++ told) rest ∙ ap (λ t. t ++ text_of rest) (text_append printed told))
+begins_with printed told all rest is = (text_of rest, ap text_of is ∙ text_of-append (printed ++ told) rest ∙ ap (λ t. t ++ text_of rest) (text_of-append printed told))
 
 -- and with the first of them
 pub begins_with_line : (printed more all : List Line) (line : Line) (rest : List Line) → all ≡ (printed ++ line ∷ more) ++ rest → IsPrefix (text_of printed ++ (body line ++ 10 ∷ [])) (text_of all)

@@ -28,7 +28,7 @@ use Rattle.pei_core.specs.Standing.{IsFor, StandsFor}
 use Rattle.pei_dispatch.specs.Turns.{IsNow}
 use Rattle.free_pei.specs.ByText.{FromOpening, GoesOn, IsAtTurn, RunsTo, TurnsTo}
 use Rattle.free_pei.proofs.Going.{not_right}
-use Rattle.free_pei.proofs.Lines.{text_append}
+use Rattle.boot_model.proofs.Texts.{text_of-append}
 
 -- a machine of a free run that has so many turns behind it
 pub record IsUnderWayTo {M : Type 0} (stands : M → StoreState → Type 0) (board : Board) (catalog : Catalog) (fuel : ℕ) (text : List ℕ) (turns : ℕ) (pei : Pei M) (queue : PeiQueue) (s : Spelled) : Type 0 where
@@ -80,7 +80,7 @@ opening_off parts opens ends grow board catalog fuel shown old new well none rig
     off Start Start new (whole old) [] (text_of m.lines) parted (all_tracks Start []) all
   where
     first : (printed lines : List Line) → AreLinesBehind printed lines → IsPrefix (text_of printed) (text_of lines)
-    first printed lines behind = (text_of behind.rest, ap text_of behind.printed_first ∙ text_append printed behind.rest)
+    first printed lines behind = (text_of behind.rest, ap text_of behind.printed_first ∙ text_of-append printed behind.rest)
 
 -- a turn more
 pub way_on : {M : Type 0} (nearer : PeiStepsRunOut) (stands : M → StoreState → Type 0) (board : Board) (catalog : Catalog) (fuel : ℕ) (text : List ℕ) (turns : ℕ) (pei later : Pei M) (queue grown : PeiQueue) (old new : Spelled) → (way : IsUnderWayTo stands board catalog fuel text turns pei queue old)

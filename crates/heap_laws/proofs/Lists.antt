@@ -2,14 +2,7 @@
 use Rattle.std.proofs.Common.{◌≡◌, ℕ, zero, suc, ◌<◌, List, [], ◌∷◌, ◌++◌, length, drop, arith, ap, refl, subst}
 use Rattle.std.specs.Prelude.{AllPairs, slice_index_or, map}
 use Rattle.pi_base.specs.Lists.{Each, Ordered}
-
-pub each_more : {A : Type 0} (P Q : A → Type 0) (xs : List A) → ((x : A) → P x → Q x) → Each P xs → Each Q xs
-each_more P Q [] f h = tt
-each_more P Q (x ∷ xs) f h = (f x h.0, each_more P Q xs f h.1)
-
-pub each_append : {A : Type 0} (P : A → Type 0) (xs ys : List A) → Each P xs → Each P ys → Each P (xs ++ ys)
-each_append P [] ys h k = k
-each_append P (x ∷ xs) ys h k = (h.0, each_append P xs ys h.1 k)
+pub use Rattle.pi_base.proofs.ListFacts.{each_more, each_append}
 
 pub each_left : {A : Type 0} (P : A → Type 0) (xs ys : List A) → Each P (xs ++ ys) → Each P xs
 each_left P [] ys h = tt

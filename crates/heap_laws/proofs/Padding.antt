@@ -10,7 +10,7 @@ use Rattle.store_model.specs.StoreState.{end_place, next_body, hob_len, body_len
 use Rattle.store_model.specs.HeapImage.{header_bytes, hobs_bytes, hob_list, body_bytes, heap_image}
 use Rattle.store_model.specs.Service.Hob.{hob_entry}
 use Rattle.hob_codec.proofs.RoundTrip.{fields_len}
-use Rattle.heap_laws.specs.Growing.{front_bytes, free_fields, grown, HobsAreAdded, HobsAreTexts}
+use Rattle.heap_laws.specs.Growing.{front_bytes, free_fields, grown, HobsAreAdded}
 use Rattle.heap_laws.specs.Padding.{TailsAreZero}
 use Rattle.heap_laws.proofs.Parts.{take_len, replaced_len}
 use Rattle.heap_laws.proofs.Facts.{bodies_are_spelled, bodies_len, images_fill}
@@ -90,22 +90,3 @@ hobs_are_added s hob taken text k h room is =
     added_by s hob taken h sizes room
     ∙ padded_on image fields text (header_bytes END 8) (header ++ body) place k refl refl (omega arith) fits there is.bytes
     ∙ ap (λ n. replaced (replaced (replaced image 32 fields) place text) n (header_bytes END 8)) last
-
--- a HOB that is encoded
-joined_append : (a b : List (List ℕ)) → joined (a ++ b) ≡ joined a ++ joined b
-joined_append [] b = refl
-joined_append (field ∷ a) b = ap (λ x. field ++ x) (joined_append a b) ∙ sym (append_assoc field (joined a) (joined b))
-
-pub hobs_are_texts : HobsAreTexts
-hobs_are_texts s hob is =
-    let fields = joined (fields_of hob) in
-    let whole : hob_bytes hob ≡ header_bytes (kind_of hob) (length_of hob) ++ fields = joined_append (header_fields (kind_of hob) (length_of hob)) (fields_of hob) in
-    let same : hob_len (hob_entry hob) ≡ length_of hob = fields_len hob is in
-    let h8 : length (header_bytes (kind_of hob) (length_of hob)) ≡ 8 = refl in
-    let size : length (hob_bytes hob) ≡ 8 + length fields = ap length whole ∙ length-append (header_bytes (kind_of hob) (length_of hob)) fields ∙ omega (arith, h8) in
-    let entry : hob_len (hob_entry hob) ≡ 8 + length fields = refl in
-    record {
-      bytes = ap (λ n. header_bytes (kind_of hob) n ++ fields) same ∙ sym whole ∙ sym (append_nil (hob_bytes hob));
-      len = omega (arith, size, entry);
-      header = omega (arith, size);
-    }

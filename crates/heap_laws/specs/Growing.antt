@@ -53,10 +53,6 @@ HobsAreAdded = (s : StoreState) (hob : HobEntry) (taken : ℕ) (text : List ℕ)
     → IsText s hob text zeros
     → heap_image (grown s hob taken) ≡ with_hob (heap_image s) (free_fields (grown s hob taken)) (end_place s) text (hob_len hob)
 
--- a HOB as it is encoded
-abbrev pub HobsAreTexts : Type 0
-HobsAreTexts = (s : StoreState) (hob : HobValue) → IsHob hob → IsText s (hob_entry hob) (hob_bytes hob) 0
-
 -- a node that no entry has is a header and zeros
 abbrev pub NodesAreTexts : Type 0
 NodesAreTexts = (s : StoreState) → IsStoreState s → IsText s (pool_of Node) (header_bytes POOL (header_len + node_len)) node_len

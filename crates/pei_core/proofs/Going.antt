@@ -14,6 +14,7 @@ use Rattle.catalog_model.specs.declared.catalog.Catalog.{Catalog}
 use Rattle.boot_model.specs.declared.line.Line.{Line}
 use Rattle.boot_model.specs.PeiMachine.{PeiMachine}
 use Rattle.boot_model.specs.Text.{line_text, text_of}
+use Rattle.boot_model.proofs.Texts.{text_of-append}
 use Rattle.pei_action.specs.declared.guids.Changes.{Changes}
 use Rattle.pei_core.specs.declared.event.Stepped.{Stepped}
 use Rattle.pei_core.specs.Parts.{Goal, GoesTo, Reaches}
@@ -27,9 +28,6 @@ texts old new = record { old = old; new = new }
 -- the text of one line, and of lines behind others
 pub one_text : (line : Line) → text_of (line ∷ []) ≡ line_text line
 one_text line = append-nil (line_text line)
-
-text_append : (xs ys : List Line) → text_of (xs ++ ys) ≡ text_of xs ++ text_of ys
-text_append xs ys = flat_map-append line_text xs ys
 
 -- lines were put, and the machine is the later one
 pub stepped : (Stands : PeiMachine → Type 0) (m later : PeiMachine) (told : List Line) (old new : Option (List ℕ)) → later.lines ≡ m.lines ++ told → Appends old new (text_of told) → Stands later → HasStepped Stands m later (texts old new)
@@ -56,13 +54,13 @@ pub part_after : (m mid later : PeiMachine) (told : List Line) (old now new : Op
 part_after m mid later told old now new lines f part = record {
   told = told ++ part.told;
   lines = part.lines ∙ ap (λ x. x ++ part.told) lines ∙ append_assoc m.lines told part.told;
-  text = subst (λ x. AppendsPart old new x) (sym (text_append told part.told)) (part_then old now new (text_of told) (text_of part.told) f part.text);
+  text = subst (λ x. AppendsPart old new x) (sym (text_of-append told part.told)) (part_then old now new (text_of told) (text_of part.told) f part.text);
 }
 
 pub stepped_after : (Stands : PeiMachine → Type 0) (m mid later : PeiMachine) (told : List Line) (old now new : Option (List ℕ)) → mid.lines ≡ m.lines ++ told → Appends old now (text_of told) → HasStepped Stands mid later (texts now new) → HasStepped Stands m later (texts old new)
 stepped_after Stands m mid later told old now new lines f h =
     stepped Stands m later (told ++ h.printed.told) old new (h.printed.lines ∙ ap (λ x. x ++ h.printed.told) lines ∙ append_assoc m.lines told h.printed.told)
-    (subst (λ x. Appends old new x) (sym (text_append told h.printed.told)) (appends_then old now new (text_of told) (text_of h.printed.told) f h.printed.text)) h.machine
+    (subst (λ x. Appends old new x) (sym (text_of-append told h.printed.told)) (appends_then old now new (text_of told) (text_of h.printed.told) f h.printed.text)) h.machine
 
 -- from a machine with the same lines
 pub part_from : (m other later : PeiMachine) (t : Texts) → m.lines ≡ other.lines → PrintedPart m later t → PrintedPart other later t

@@ -4,7 +4,6 @@ mod Evaluating
 mod Following
 mod Growing
 mod Idle
-mod Lines
 mod Runs
 mod Starts
 mod Stops

@@ -23,7 +23,8 @@ use Rattle.pei_dispatch.specs.Ends.{HasEnded, StandsAtEnd, KeepsLast}
 use Rattle.pei_dispatch.specs.Turns.{IsNow, HasTurned, IsOver}
 use Rattle.pei_dispatch.specs.Evaluations.{FewEvaluations}
 use Rattle.pei_dispatch.proofs.Evaluating.{FewSoFar, few_more, few_in_all}
-use Rattle.pei_dispatch.proofs.Lines.{text_of-append, part_of_longer}
+use Rattle.boot_model.proofs.Texts.{text_of-append}
+use Rattle.boot_trace.proofs.Lines.{part_of_longer}
 use Rattle.pei_dispatch.proofs.Runs.{goes, stays, run_tells}
 
 -- A run: the machine and the core at its opening, the machine at its end, the sink's text and the evaluations before it, and the evaluations that its events allow.

@@ -68,7 +68,8 @@ fn read_volumes<F: Files>(
 ) -> Result<Seq<Seq<u8>>, NoJob>
     requires { All IsVolumeInRange volumes.now }
     ensures same { (other : List ℕ) → F.told files.new other ≡ F.told files.old other }
-    ensures row { Reads (AreImages (F.told files.old) volumes.now) (IsLongVolume (F.told files.old) volumes.now) (IsReached (F.told files.old) volumes.now)
+    ensures row { Reads (AreImages (F.told files.old) volumes.now) (IsLongVolume (F.told files.old) volumes.now)
+        (IsReached (F.told files.old) volumes.now)
         (record { before = F.faults files.old; now = F.faults files.new; missed = F.missed files.new }) result }
 {
     let mut images = Seq::new(alloc);

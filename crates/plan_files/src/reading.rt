@@ -44,7 +44,8 @@ pub fn read_file<F: Files>(
     files: &mut F,
 ) -> Result<Seq<u8>, NoJob>
     ensures same { (other : List ℕ) → F.told files.new other ≡ F.told files.old other }
-    ensures row { Reads (IsRead (F.told files.old name.now) limit) (IsLongFile (F.told files.old name.now) limit name.now) (λ n. n ≡ name.now)
+    ensures row { Reads (IsRead (F.told files.old name.now) limit) (IsLongFile (F.told files.old name.now) limit name.now)
+        (λ n. n ≡ name.now)
         (record { before = F.faults files.old; now = F.faults files.new; missed = F.missed files.new }) result }
 {
     let kept = kept(alloc, name)?;

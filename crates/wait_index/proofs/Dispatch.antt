@@ -135,7 +135,8 @@ dxe_bools waits unrequested h a w o e f g = ap (λ b. b || (w && o && h)) g ∙ 
     by true y k = refl
     by false y k = refl
 
-dxe_one : (catalog : Catalog) (m : DxeMachine) (index : WaitIndex) → IsIndex catalog index → StandsForDxe catalog m index → (number : ℕ) → has_number (order_in index) number ≡ true
+-- a driver of the order is eligible in the index where it waits and is eligible in the machine
+pub dxe_one : (catalog : Catalog) (m : DxeMachine) (index : WaitIndex) → IsIndex catalog index → StandsForDxe catalog m index → (number : ℕ) → has_number (order_in index) number ≡ true
     → is_eligible_in catalog index number ≡ (is_waiting m number && is_eligible_driver catalog m number)
 dxe_one catalog m index is stands number within =
     let h = m.handles in

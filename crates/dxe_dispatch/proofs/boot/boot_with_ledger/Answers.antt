@@ -1,6 +1,6 @@
 use Rattle.std.proofs.Common.{sym, ◌∙◌}
 use Rattle.std.proofs.lemmas.Result.{err_from_is_err_and}
-use Rattle.dxe_dispatch.proofs.Lines.{part_none}
+use Rattle.boot_trace.proofs.Lines.{part_none}
 use Rattle.dxe_dispatch.proofs.Openings.{stands_at_opening}
 use Rattle.dxe_dispatch.proofs.boot.boot_with_ledger.Goals as goal
 

@@ -1,7 +1,7 @@
 use Rattle.std.proofs.Common.{◌∙◌, get_or, arith}
 use Rattle.std.proofs.lemmas.Result.{err_from_is_err_and}
 use Rattle.dxe_dispatch.specs.Waiting.{waiting_line}
-use Rattle.dxe_dispatch.proofs.Lines.{part_of_each, each_more, each_done}
+use Rattle.boot_trace.proofs.Lines.{part_of_each, each_more, each_done}
 use Rattle.dxe_dispatch.proofs.waiting.put_all_waiting.Goals as goal
 
 pub returns-in_err-put_waiting-clause-text : goal.returns-in_err-put_waiting-clause-text

@@ -1,4 +1,4 @@
--- Texts of lists of lines.
+-- Lines that are put one after another, which callers cite: what is told of a sink after a list of lines, or a part of it.
 use Rattle.std.proofs.Common.{◌≡◌, ◌<◌, ◌≤◌, ℕ, ◌+◌, List, [], ◌∷◌, ◌++◌, Option, refl, sym, ap, ◌∙◌, subst, flat_map, map, Result, take, get_or, length}
 use Rattle.std.specs.Io.KnownBytes.{Appends}
 use Rattle.boot_io.proofs.PutsLaws.{appends_none, puts_then, part_of_more, part_of_lines, lines_more}
@@ -8,18 +8,17 @@ use Rattle.boot_io.specs.declared.sink.SinkFault.{SinkFault}
 use Rattle.boot_io.specs.Sink.{Puts, AppendsPart}
 use Rattle.boot_model.specs.declared.line.Line.{Line}
 use Rattle.boot_model.specs.Text.{line_text, text_of}
-
--- item by item
-pub text_of-flat_map : {X : Type 0} (lines : X → List Line) (xs : List X) → text_of (flat_map lines xs) ≡ flat_map (λ x. text_of (lines x)) xs
-text_of-flat_map lines [] = refl
-text_of-flat_map lines (x ∷ xs) = flat_map-append line_text (lines x) (flat_map lines xs) ∙ ap (λ t. text_of (lines x) ++ t) (text_of-flat_map lines xs)
-
-pub text_of-append : (a b : List Line) → text_of (a ++ b) ≡ text_of a ++ text_of b
-text_of-append a b = flat_map-append line_text a b
+use Rattle.boot_model.proofs.Texts.{text_of-append, text_of-flat_map}
 
 -- one line, and then a call for others
 pub line_then : (r : Result (Unit {0}) SinkFault) (old mid new : Option (List ℕ)) (line : Line) (b : List Line) → Appends old mid (line_text line) → Puts r mid new (text_of b) → Puts r old new (text_of (line ∷ b))
 line_then r old mid new line b f p = puts_then r old mid new (line_text line) (text_of b) f p
+
+-- lines, and then a call for others
+pub lines_then : (r : Result (Unit {0}) SinkFault) (old mid new : Option (List ℕ)) (a b : List Line) → Appends old mid (text_of a) → Puts r mid new (text_of b) → Puts r old new (text_of (a ++ b))
+lines_then r old mid new a b f p =
+    let P : List ℕ → Type 0 = λ t. Puts r old new t in
+    subst P (sym (text_of-append a b)) (puts_then r old mid new (text_of a) (text_of b) f p)
 
 -- a part of lines is a part of more of them
 pub part_of_longer : (old new : Option (List ℕ)) (a b : List Line) → AppendsPart old new (text_of a) → AppendsPart old new (text_of (a ++ b))
