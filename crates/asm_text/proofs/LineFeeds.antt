@@ -1,11 +1,7 @@
 -- Texts of lines.
-use Rattle.std.proofs.Common.{◌≡◌, ◌++◌, ◌+◌, ◌<◌, ℕ, suc, List, [], ◌∷◌, refl, sym, ap, ◌∙◌, true, false, Bool, not, eqb, arith, length, take, drop, get_or, subst, flat_map, append_assoc}
-use Rattle.std.proofs.lemmas.List.Sums.{split_at_first, passes_at_first}
-use Rattle.std.specs.List.{list_all, position_or_len, AllByRecursion}
-use Rattle.std.proofs.lemmas.Bool.{and_parts}
-use Rattle.std.proofs.lemmas.Bool.Decides.{nat_tests}
-use Rattle.std.proofs.lemmas.List.{take_at, drop_at, length-append, append-nil}
-use Rattle.std.proofs.lemmas.List.Folds.{list_all-append}
+use Rattle.std.proofs.Common.{◌≡◌, ◌++◌, ℕ, List, [], ◌∷◌, refl, sym, ap, ◌∙◌, arith, length, subst, flat_map, append_assoc}
+use Rattle.std.specs.List.{AllByRecursion}
+use Rattle.std.proofs.lemmas.List.{length-append, append-nil}
 use Rattle.asm_text.specs.ScriptText.{line}
 use Rattle.printed_words.specs.Words.{Lacks}
 use Rattle.printed_words.proofs.LineFeeds.{feed_there, same_line, same_rest}

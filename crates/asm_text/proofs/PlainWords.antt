@@ -1,17 +1,10 @@
 -- The words of registers and statuses are plain.
-use Rattle.std.proofs.Common.{◌≡◌, ℕ, suc, ◌<◌, ◌/◌, ◌%◌, ◌^◌, true, ltb, List, [], ◌∷◌, refl, arith, decimal, slice_index}
-use Rattle.std.specs.Prelude.{nat_lt}
-use Rattle.std.specs.List.{list_all}
-use Rattle.std.proofs.lemmas.Bool.{and_parts}
-use Rattle.std.proofs.lemmas.Bool.Decides.{nat_tests}
-use Rattle.std.proofs.lemmas.List.Sums.{AllPass-from_list_all}
-use Rattle.hex.specs.Hex.{encode_with, encode_lower, lower_digits, IsBytes}
-use Rattle.pi_base.specs.declared.guid.Guid.{Guid}
+use Rattle.std.proofs.Common.{ℕ, ◌<◌, refl, arith}
 use Rattle.pi_base.specs.declared.word.Word.{Word}
 use Rattle.pi_base.specs.declared.word.Word.TheVariants.{Success}
 use Rattle.printed_words.specs.Words.{IsPlain}
 use Rattle.printed_words.proofs.PlainWords.{decimal_plain}
-use Rattle.pi_base.specs.WordText.{hexadecimal, guid_text, word_text}
+use Rattle.pi_base.specs.WordText.{word_text}
 use Rattle.asm_text.specs.Numerals.{register}
 
 pub register_plain : (r : ℕ) → r < 16 → IsPlain (register r)
