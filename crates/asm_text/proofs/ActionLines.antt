@@ -17,11 +17,12 @@ use Rattle.act_code.specs.Reading.{only_if}
 use Rattle.act_code.specs.Script.{IsAction, operand_bytes}
 use Rattle.act_code.specs.Table.{is_code_of, format_of, made, code_of_action, operands}
 use Rattle.asm_text.specs.ActionText.{name_of, small_number, words_of, spaced, operand_words, action_text}
-use Rattle.asm_text.specs.BadLine.{IsPlain}
+use Rattle.printed_words.specs.Words.{IsPlain}
+use Rattle.printed_words.proofs.Comparisons.{same}
 use Rattle.asm_text.specs.WordReading.{space_place}
 use Rattle.asm_text.specs.OperandReading.{read, small_word, operands_at}
 use Rattle.asm_text.specs.LineReading.{or_named, common_action, memory_action, pei_action, dxe_action, named_action, action_of}
-use Rattle.asm_text.proofs.Fronts.{passed, same}
+use Rattle.asm_text.proofs.Fronts.{passed}
 use Rattle.asm_text.proofs.Stacks.{bind_some}
 use Rattle.asm_text.proofs.WordSplits.{Stands, word_end, stands_too}
 use Rattle.asm_text.proofs.Readables.{IsReadable, most_of, small_shows, formats_known}

@@ -8,12 +8,14 @@ use Rattle.std.proofs.lemmas.List.{append-nil, length-append}
 use Rattle.pi_base.specs.declared.phase.Phase.{Phase}
 use Rattle.pi_base.specs.declared.phase.Phase.TheVariants.{Pei, Dxe}
 use Rattle.act_code.specs.declared.script.Script.{Script}
-use Rattle.asm_text.specs.BadLine.{Lacks, IsBadLine}
+use Rattle.printed_words.specs.Words.{Lacks}
+use Rattle.printed_words.proofs.Comparisons.{same}
+use Rattle.printed_words.proofs.LineFeeds.{feed_there, same_line}
+use Rattle.asm_text.specs.BadLine.{IsBadLine}
 use Rattle.asm_text.specs.Drafts.{phase_of, with_line, is_whole}
 use Rattle.asm_text.specs.ReadScript.{IsWellFormed, IsScriptOf, IsScriptText}
 use Rattle.asm_text.specs.ScriptText.{phase_text, line}
-use Rattle.asm_text.proofs.Fronts.{same}
-use Rattle.asm_text.proofs.LineFeeds.{feed_there, lined, same_line, cut_lines, next_line, no_line}
+use Rattle.asm_text.proofs.LineFeeds.{lined, cut_lines, next_line, no_line}
 use Rattle.asm_text.proofs.Blocks.{at, made_well}
 use Rattle.asm_text.proofs.ScriptLines.{body_lines, lines_of, flat_both, text_is, lines_lack, phase_lacks, phase_one}
 use Rattle.asm_text.proofs.Drafting.{with_lines, with_more, well_reached, well_whole}

@@ -14,12 +14,15 @@ use Rattle.pi_base.specs.WordText.{guid_text}
 use Rattle.asm_text.specs.ExpressionText.{bracketed, tree_text, expression_text, depex_text}
 use Rattle.asm_text.specs.Front.{behind, guid_word}
 use Rattle.asm_text.specs.ScriptText.{line}
-use Rattle.asm_text.specs.BadLine.{Lacks, IsBadLine}
-use Rattle.asm_text.specs.ReadTree.{Finds, IsTreeOf, IsExpressionOf}
+use Rattle.printed_words.specs.Words.{Lacks, Finds}
+use Rattle.printed_words.proofs.GuidWords.{is_guid_char, guid_chars}
+use Rattle.printed_words.proofs.LineFeeds.{both_lack, feed_there, same_line, same_rest}
+use Rattle.asm_text.specs.BadLine.{IsBadLine}
+use Rattle.asm_text.specs.ReadTree.{IsTreeOf, IsExpressionOf}
 use Rattle.asm_text.specs.ReadDepex.{IsDepexOf, IsDepexText}
 use Rattle.asm_text.proofs.Fronts.{not_behind}
-use Rattle.asm_text.proofs.Guids.{is_guid_char, guid_chars, guid_at_front, guid_word_is, guid_word_there}
-use Rattle.asm_text.proofs.LineFeeds.{both_lack, feed_there, lined, same_line, same_rest}
+use Rattle.asm_text.proofs.Guids.{guid_at_front, guid_word_is, guid_word_there}
+use Rattle.asm_text.proofs.LineFeeds.{lined}
 
 -- what the text of a tree begins with
 abbrev is_tree_front : List ℕ → Bool

@@ -1,14 +1,11 @@
 -- What stands at the front of a text, and where a byte is first.
-use Rattle.std.proofs.Common.{◌≡◌, ◌≢◌, ℕ, ◌+◌, ◌<◌, ◌≤◌, Bool, true, false, eqb, List, ◌++◌, length, take, drop, refl, sym, ap, ◌∙◌, arith, get_or, Decides, Option, Some, None, option_map}
+use Rattle.std.proofs.Common.{◌≡◌, ℕ, ◌+◌, Bool, true, false, List, ◌++◌, length, take, drop, refl, sym, ap, ◌∙◌, arith, Option, Some, None, option_map}
 use Rattle.std.specs.Prelude.{bytes_eq, if◌then◌else◌}
 use Rattle.std.specs.Option.{MatchOption}
 use Rattle.std.specs.Borrow.{Bor}
-use Rattle.std.specs.List.{position_or_len}
 use Rattle.std.proofs.lemmas.Option.{same_Some}
-use Rattle.std.proofs.lemmas.List.{take_at, drop_at, take-append-drop}
-use Rattle.std.proofs.lemmas.List.Sums.{position_or_len_is}
-use Rattle.std.proofs.lemmas.Bool.Decides.{nat_tests, Decides-eqb}
-use Rattle.std.proofs.lemmas.Slice.Eq.{slice_eq-Decides}
+use Rattle.std.proofs.lemmas.List.{take_at, drop_at, take-append-drop, length-append}
+use Rattle.printed_words.proofs.Comparisons.{same}
 use Rattle.asm_text.specs.Front.{behind}
 
 -- a test that was passed
@@ -16,27 +13,14 @@ pub passed : {A : Type 0} (test : Bool) (x y : A) → (if test then Some x else 
 passed true x y e = (refl, same_Some x y e)
 passed false x y e = absurd cc
 
--- a comparison of bytes
-pub same : (a b : List ℕ) → Decides (bytes_eq a b) (a ≡ b)
-same a b = slice_eq-Decides Decides-eqb a b (bytes_eq a b) refl
+-- a value that is never there
+pub none_of : {A : Type 0} (o : Option A) → ((x : A) → o ≡ Some x → ⊥) → o ≡ None
+none_of None never = refl
+none_of (Some x) never = absurd (never x refl)
 
+-- a comparison of bytes with themselves
 pub itself : (a : List ℕ) → bytes_eq a a ≡ true
 itself a = (same a a).1 refl
-
--- what `strip_prefix` answers
-pub stripped : (text front : List ℕ) (r : Option (Bor (List ℕ)))
-    → MatchOption r (bytes_eq (take (length front) text) front ≡ false)
-    (λ rest. (bytes_eq (take (length front) text) front ≡ true) × (rest.now ≡ drop (length front) text) × (length rest.now + length front ≡ length text))
-    → option_map (λ rest. rest.now) r ≡ behind front text
-stripped text front (Some rest) is = rw is.0 (ap Some is.1)
-stripped text front None other = rw other refl
-
-pub stripped_shorter : (text front : List ℕ) (r : Option (Bor (List ℕ)))
-    → MatchOption r (bytes_eq (take (length front) text) front ≡ false)
-    (λ rest. (bytes_eq (take (length front) text) front ≡ true) × (rest.now ≡ drop (length front) text) × (length rest.now + length front ≡ length text))
-    → MatchOption r (Unit {0}) (λ rest. length rest.now + length front ≡ length text)
-stripped_shorter text front (Some rest) is = is.2
-stripped_shorter text front None other = tt
 
 -- what follows a front
 pub behind_is : (front text rest : List ℕ) → behind front text ≡ Some rest → text ≡ front ++ rest
@@ -62,8 +46,13 @@ not_behind front text rest none is =
     let never : None ≡ Some rest = sym none ∙ there in
     cc
 
--- the place of the first such byte
-pub place_is : (bytes : List ℕ) (sought i : ℕ) → i ≤ length bytes → ((k : ℕ) → k < i → get_or bytes k 0 ≡ sought → ⊥) → (i < length bytes → get_or bytes i 0 ≡ sought)
-    → i ≡ position_or_len (λ b. eqb b sought) bytes
-place_is bytes sought i within none here =
-    sym (position_or_len_is (λ b. eqb b sought) bytes i 0 within (λ k h. let n : get_or bytes k 0 ≢ sought = none k h in grind (arith, nat_tests)) (λ h. let n : get_or bytes i 0 ≡ sought = here h in grind (arith, nat_tests)))
+-- what stands behind a front is what reading gives
+pub found_behind : (text front : List ℕ) (r : Option (Bor (List ℕ))) → MatchOption r ((rest : List ℕ) → text ≡ front ++ rest → ⊥) (λ rest. text ≡ front ++ rest.now)
+    → option_map (λ rest. rest.now) r ≡ behind front text
+found_behind text front (Some rest) is = sym (ap (behind front) is ∙ behind_there front rest.now)
+found_behind text front None never = sym (behind_none front text never)
+
+pub shorter_behind : (text front : List ℕ) (r : Option (Bor (List ℕ))) → MatchOption r ((rest : List ℕ) → text ≡ front ++ rest → ⊥) (λ rest. text ≡ front ++ rest.now)
+    → MatchOption r (Unit {0}) (λ rest. length rest.now + length front ≡ length text)
+shorter_behind text front (Some rest) is = omega (arith, ap length is, length-append front rest.now)
+shorter_behind text front None never = tt

@@ -1,57 +1,22 @@
--- The text of a GUID: its characters, and reading it.
-use Rattle.std.proofs.Common.{◌≡◌, ◌<◌, ◌/◌, ◌%◌, ◌&&◌, ℕ, zero, suc, Bool, true, false, eqb, cond, List, [], ◌∷◌, ◌++◌, length, take, drop, get_or, Option, Some, None, option_map, refl, sym, ap, subst, ◌∙◌, arith, inl, All}
-use Rattle.std.specs.Prelude.{bytes_eq, if◌then◌else◌, option_and_then, nat_lt, slice_index}
+-- The text of a GUID, as a word and at the front of a text.
+use Rattle.std.proofs.Common.{◌≡◌, ◌<◌, ◌&&◌, ℕ, zero, suc, Bool, true, false, eqb, List, [], ◌∷◌, ◌++◌, length, take, drop, get_or, Option, Some, None, option_map, refl, sym, ap, subst, ◌∙◌, arith}
+use Rattle.std.specs.Prelude.{bytes_eq, if◌then◌else◌, option_and_then, nat_lt}
 use Rattle.std.specs.List.{list_all}
 use Rattle.std.proofs.lemmas.Bool.{and_parts, and_from, eqb-true}
 use Rattle.std.proofs.lemmas.Bool.Decides.{nat_tests}
 use Rattle.std.proofs.lemmas.Option.{same_Some}
 use Rattle.std.proofs.lemmas.List.{take_at, drop_at, take-append-drop, length-append, get_or_append_left}
-use Rattle.std.proofs.lemmas.List.Elements.{All-from_recursion}
-use Rattle.std.proofs.lemmas.List.Folds.{list_all-append}
 use Rattle.std.proofs.lemmas.List.Sums.{AllPass-from_list_all}
-use Rattle.uuid.specs.Text.{by_index, is_hyphen_place, hex_digit, nibble, digit_place, lower}
-use Rattle.uuid.specs.Parts.{swap_fields}
-use Rattle.uuid.proofs.RoundTrips.{parses_hyphenated_text, swap_twice}
 use Rattle.hex.specs.Hex.{IsBytes}
 use Rattle.pi_base.specs.declared.guid.Guid.{Guid}
 use Rattle.pi_base.specs.GuidText.{guid_of_text}
 use Rattle.pi_base.specs.WordText.{guid_text}
 use Rattle.asm_text.specs.Front.{is_guid, spelled_so, guid_word, guid_front}
-use Rattle.asm_text.specs.ReadTree.{IsGuid}
+use Rattle.printed_words.specs.Words.{Finds, IsGuid}
+use Rattle.printed_words.proofs.Comparisons.{same}
+use Rattle.printed_words.proofs.GuidWords.{is_guid_char, guid_chars, guid_long, guid_back}
 use Rattle.asm_text.proofs.Stacks.{bind_some}
-use Rattle.asm_text.proofs.Fronts.{passed, same, itself}
-
--- a digit or a hyphen
-abbrev pub is_guid_char : ℕ → Bool
-is_guid_char b = nat_lt 40 b && nat_lt b 103
-
-digit_char : (d : ℕ) → d < 16 → is_guid_char (hex_digit 97 d) ≡ true
-digit_char d below = grind (arith, nat_tests)
-
-half_below : (t : Bool) (a b : ℕ) → cond t (a % 16) (b % 16) < 16
-half_below true a b = omega arith
-half_below false a b = omega arith
-
-place_char : (hyphen : Bool) (d : ℕ) → d < 16 → is_guid_char (cond hyphen 45 (hex_digit 97 d)) ≡ true
-place_char true d below = refl
-place_char false d below = digit_char d below
-
-all_chars : (n : ℕ) (f : ℕ → ℕ) → ((k : ℕ) → is_guid_char (f k) ≡ true) → list_all is_guid_char (by_index n f) ≡ true
-unfolding by_index
-all_chars zero f each = refl
-all_chars (suc n) f each = list_all-append is_guid_char (by_index n f) (f n ∷ []) ∙ rw (all_chars n f each, each n) refl
-
-long_index : (n : ℕ) (f : ℕ → ℕ) → length (by_index n f) ≡ n
-unfolding by_index
-long_index zero f = refl
-long_index (suc n) f = length-append (by_index n f) (f n ∷ []) ∙ rw (long_index n f) (omega arith)
-
-pub guid_chars : (guid : Guid) → list_all is_guid_char (guid_text guid) ≡ true
-guid_chars guid = all_chars 36 (λ k. cond (is_hyphen_place k) 45 (hex_digit 97 (nibble (swap_fields guid.0) (digit_place k))))
-    (λ k. place_char (is_hyphen_place k) (nibble (swap_fields guid.0) (digit_place k)) (half_below (eqb (digit_place k % 2) 0) (slice_index (swap_fields guid.0) (digit_place k / 2) / 16) (slice_index (swap_fields guid.0) (digit_place k / 2))))
-
-pub guid_long : (guid : Guid) → length (guid_text guid) ≡ 36
-guid_long guid = long_index 36 (λ k. cond (is_hyphen_place k) 45 (hex_digit 97 (nibble (swap_fields guid.0) (digit_place k))))
+use Rattle.asm_text.proofs.Fronts.{passed, none_of, itself}
 
 -- a text that a GUID's text begins has such characters in its first 36 places
 pub guid_at_front : (guid : Guid) (rest text : List ℕ) (k : ℕ) → k < 36 → guid_text guid ++ rest ≡ text → is_guid_char (get_or text k 0) ≡ true
@@ -72,19 +37,10 @@ bytes_to (x ∷ xs) all = let here : x < 256 = all 0 in and_from _ _ (grind (ari
 guid_tested : (guid : Guid) → IsGuid guid → is_guid guid.0 ≡ true
 guid_tested guid is = let long : eqb (length guid.0) 16 ≡ true = rw is.0 refl in and_from _ _ long (bytes_to guid.0 is.1)
 
-swapped : (xs : List ℕ) → IsBytes xs → All (λ b. b < 256) (swap_fields xs)
-swapped xs fits = All-from_recursion (λ b. b < 256) (swap_fields xs)
-    (fits 3, (fits 2, (fits 1, (fits 0, (fits 5, (fits 4, (fits 7, (fits 6, (fits 8, (fits 9, (fits 10, (fits 11, (fits 12, (fits 13, (fits 14, (fits 15, tt))))))))))))))))
-
--- the text of a GUID is read as it
-guid_back : (guid : Guid) → IsGuid guid → guid_of_text (guid_text guid) ≡ Some guid.0
-guid_back guid is =
-    ap (option_map swap_fields) (sym (parses_hyphenated_text lower (swap_fields guid.0) (inl refl) refl (swapped guid.0 is.1))) ∙ ap Some (swap_twice guid.0 is.0)
-
 pub guid_word_there : (guid : Guid) → IsGuid guid → guid_word (guid_text guid) ≡ Some guid
 unfolding guid_word
 guid_word_there guid is =
-    ap (option_and_then (spelled_so (guid_text guid))) (guid_back guid is) ∙ rw (guid_tested guid is, itself (guid_text guid)) refl
+    ap (option_and_then (spelled_so (guid_text guid))) (guid_back (guid_text guid) guid is refl) ∙ rw (guid_tested guid is, itself (guid_text guid)) refl
 
 pub guid_word_is : (word : List ℕ) (guid : Guid) → guid_word word ≡ Some guid → IsGuid guid × (word ≡ guid_text guid)
 unfolding guid_word
@@ -96,18 +52,10 @@ guid_word_is word guid e =
     let parts = and_parts (eqb (length b.0) 16) (list_all (λ byte. nat_lt byte 256) b.0) tests.0 in
     subst (λ (g : Guid). IsGuid g × (word ≡ guid_text g)) p.1 ((eqb-true (length b.0) 16 parts.0, bytes_from b.0 parts.1), sym ((same (guid_text made) word).0 tests.1))
 
--- what the code finds is the GUID of the word
-pub word_found : (word : List ℕ) (guid : Guid) → IsGuid guid → Some guid.0 ≡ guid_of_text word → bytes_eq (guid_text guid) word ≡ true → Some guid ≡ guid_word word
-unfolding guid_word
-word_found word guid is read test = sym (ap (option_and_then (spelled_so word)) (sym read) ∙ rw (guid_tested guid is, test) refl)
-
-pub word_not_found : (word : List ℕ) (guid : Guid) → IsGuid guid → Some guid.0 ≡ guid_of_text word → bytes_eq (guid_text guid) word ≡ false → None ≡ guid_word word
-unfolding guid_word
-word_not_found word guid is read test = sym (ap (option_and_then (spelled_so word)) (sym read) ∙ rw (guid_tested guid is, test) refl)
-
-pub no_word : (word : List ℕ) → None ≡ guid_of_text word → None ≡ guid_word word
-unfolding guid_word
-no_word word read = ap (option_and_then (spelled_so word)) read
+-- the GUID of a word is what reading gives
+pub guid_found : (word : List ℕ) (r : Option Guid) → Finds (λ guid. IsGuid guid × (word ≡ guid_text guid)) r → r ≡ guid_word word
+guid_found word (Some guid) found = sym (ap guid_word found.1 ∙ guid_word_there guid found.0)
+guid_found word None none = sym (none_of (guid_word word) (λ guid e. none guid (guid_word_is word guid e)))
 
 past : {A : Type 0} (test : Bool) (o : Option A) (y : A) → (if test then None else o) ≡ Some y → o ≡ Some y
 past true o y e = absurd cc

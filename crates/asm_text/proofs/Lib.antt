@@ -11,7 +11,6 @@ mod GoodOperands
 mod Guids
 mod LineFeeds
 mod LineTexts
-mod NumberWords
 mod OneBadLine
 mod OneScript
 mod OneText

@@ -12,12 +12,13 @@ use Rattle.act_code.specs.declared.action.GuidArg.TheVariants.{Inline, Register}
 use Rattle.act_code.specs.Format.{Format, Value, is_within, Nothing, Byte, Within, RegisterNumber, BlockNumber, Little, GuidBytes, WordNumber, Counted, Text, Registers, Descriptor, HobBody, Pair}
 use Rattle.act_code.specs.Table.{format_of, code_of_action, operands}
 use Rattle.asm_text.specs.ActionText.{name_of, small_number, words_of, spaced, operand_words, action_text, kind_word as shown_kind, guid_words, last_words}
-use Rattle.asm_text.specs.BadLine.{Lacks, IsPlain}
+use Rattle.printed_words.specs.Words.{Lacks, IsPlain}
+use Rattle.printed_words.proofs.LineFeeds.{both_lack}
+use Rattle.printed_words.proofs.PlainWords.{decimal_plain, hexadecimal_plain, guid_plain, encoded_plain}
 use Rattle.pi_base.specs.WordText.{hexadecimal, guid_text, word_text}
 use Rattle.asm_text.specs.Numerals.{register}
 use Rattle.asm_text.specs.OperandReading.{small_word}
-use Rattle.asm_text.proofs.LineFeeds.{both_lack}
-use Rattle.asm_text.proofs.PlainWords.{decimal_plain, hexadecimal_plain, register_plain, guid_plain, status_plain, encoded_plain}
+use Rattle.asm_text.proofs.PlainWords.{register_plain, status_plain}
 use Rattle.asm_text.proofs.WordLaws.{is_most}
 use Rattle.asm_text.proofs.Readables.{IsReadable, IsReadableArg, IsReadableLast, is_open, is_known, Shows, most_of, small_shows, formats_known}
 use Rattle.asm_text.proofs.GoodOperands.{readable}

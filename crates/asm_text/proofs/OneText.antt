@@ -16,7 +16,8 @@ use Rattle.pi_base.specs.WordText.{guid_text}
 use Rattle.asm_text.specs.ExpressionText.{tree_text, expression_text, depex_text}
 use Rattle.asm_text.specs.Front.{guid_word}
 use Rattle.asm_text.specs.Walk.{Place}
-use Rattle.asm_text.specs.ReadTree.{IsGuid, IsTree, IsExpression}
+use Rattle.printed_words.specs.Words.{IsGuid}
+use Rattle.asm_text.specs.ReadTree.{IsTree, IsExpression}
 use Rattle.asm_text.proofs.Guids.{guid_word_there}
 use Rattle.asm_text.proofs.Paths.{at, Path}
 use Rattle.asm_text.proofs.TreePaths.{passes}

@@ -13,15 +13,16 @@ use Rattle.act_code.specs.declared.action.GuidArg.TheVariants.{Inline, Register}
 use Rattle.act_code.specs.Format.{Format, Value, is_within, Nothing, Byte, Within, RegisterNumber, BlockNumber, Little, GuidBytes, WordNumber, Counted, Text, Registers, Descriptor, HobBody, Pair}
 use Rattle.act_code.specs.Reading.{◌>>=◌, only_if}
 use Rattle.asm_text.specs.ActionText.{spaced, words_of, kind_word as shown_kind, guid_words, last_words, block_words}
-use Rattle.asm_text.specs.BadLine.{IsPlain}
+use Rattle.printed_words.specs.Words.{IsPlain, IsGuid}
+use Rattle.printed_words.proofs.Comparisons.{same}
+use Rattle.printed_words.proofs.GuidWords.{guid_long}
+use Rattle.printed_words.proofs.PlainWords.{decimal_plain, hexadecimal_plain, guid_plain, encoded_plain}
 use Rattle.pi_base.specs.WordText.{hexadecimal, guid_text, word_text}
 use Rattle.asm_text.specs.Numerals.{register}
-use Rattle.asm_text.specs.ReadTree.{IsGuid}
 use Rattle.asm_text.specs.WordReading.{word_at, number_word, hexadecimal_word}
 use Rattle.asm_text.specs.OperandReading.{read, register_at, within_at, little_at, guid_at, status_at, bytes_at, counted_at, text_at, registers_within, registers_at, block_at, guid_arg_at, last_at, descriptor_at, hob_at}
-use Rattle.asm_text.proofs.Fronts.{same}
-use Rattle.asm_text.proofs.Guids.{guid_word_there, guid_long}
-use Rattle.asm_text.proofs.PlainWords.{decimal_plain, hexadecimal_plain, register_plain, guid_plain, status_plain, encoded_plain}
+use Rattle.asm_text.proofs.Guids.{guid_word_there}
+use Rattle.asm_text.proofs.PlainWords.{register_plain, status_plain}
 use Rattle.asm_text.proofs.WordLaws.{number_there, hexadecimal_there, register_there, kind_there, status_there, bytes_there, is_most}
 use Rattle.asm_text.proofs.WordSplits.{Stands, stands_too, word_then, spaced_both}
 use Rattle.asm_text.proofs.Readables.{IsReadable, IsReadableArg, IsReadableLast, is_open, is_known, Shows}

@@ -17,10 +17,11 @@ use Rattle.asm_text.specs.ActionText.{spaced, words_of, kind_word as shown_kind,
 use Rattle.asm_text.specs.Front.{behind, guid_word}
 use Rattle.pi_base.specs.WordText.{hexadecimal, guid_text, word_text}
 use Rattle.asm_text.specs.Numerals.{register}
-use Rattle.asm_text.specs.ReadTree.{IsGuid}
+use Rattle.printed_words.specs.Words.{IsGuid}
+use Rattle.printed_words.proofs.Comparisons.{same}
 use Rattle.asm_text.specs.WordReading.{word_at, number_word, hexadecimal_word, register_word, kind_word, status_word, bytes_word}
 use Rattle.asm_text.specs.OperandReading.{read, register_at, within_at, little_at, guid_at, status_at, bytes_at, counted_at, text_at, registers_within, registers_at, block_at, guid_arg_at, last_at, descriptor_at, hob_at}
-use Rattle.asm_text.proofs.Fronts.{passed, same, behind_is}
+use Rattle.asm_text.proofs.Fronts.{passed, behind_is}
 use Rattle.asm_text.proofs.Stacks.{bind_some}
 use Rattle.asm_text.proofs.Guids.{guid_word_is}
 use Rattle.asm_text.proofs.WordLaws.{number_is, hexadecimal_is, register_is, kind_is, status_is, bytes_is, is_most}

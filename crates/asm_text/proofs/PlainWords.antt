@@ -1,54 +1,16 @@
--- The words of operands are plain.
-use Rattle.std.proofs.Common.{◌≡◌, ℕ, suc, ◌<◌, ◌/◌, ◌%◌, ◌^◌, true, ltb, List, [], ◌∷◌, refl, arith, decimal, slice_index}
-use Rattle.std.specs.Prelude.{nat_lt}
-use Rattle.std.specs.List.{list_all}
-use Rattle.std.proofs.lemmas.Bool.{and_parts}
-use Rattle.std.proofs.lemmas.Bool.Decides.{nat_tests}
-use Rattle.std.proofs.lemmas.List.Sums.{AllPass-from_list_all}
-use Rattle.hex.specs.Hex.{encode_with, encode_lower, lower_digits, IsBytes}
-use Rattle.pi_base.specs.declared.guid.Guid.{Guid}
+-- The words of registers and statuses are plain.
+use Rattle.std.proofs.Common.{ℕ, ◌<◌, refl, arith}
 use Rattle.pi_base.specs.declared.word.Word.{Word}
 use Rattle.pi_base.specs.declared.word.Word.TheVariants.{Success}
-use Rattle.asm_text.specs.BadLine.{IsPlain}
-use Rattle.pi_base.specs.WordText.{hexadecimal, guid_text, word_text}
+use Rattle.printed_words.specs.Words.{IsPlain}
+use Rattle.printed_words.proofs.PlainWords.{decimal_plain}
+use Rattle.pi_base.specs.WordText.{word_text}
 use Rattle.asm_text.specs.Numerals.{register}
-use Rattle.asm_text.proofs.Guids.{is_guid_char, guid_chars}
-use Rattle.asm_text.proofs.NumberWords.{numeral_plain}
-
-pub decimal_plain : (n : ℕ) → n < 2 ^ 64 → IsPlain (decimal n)
-decimal_plain n fits = numeral_plain 10 n (omega arith) (omega arith) fits
-
-pub hexadecimal_plain : (n : ℕ) → n < 2 ^ 64 → IsPlain (hexadecimal n)
-hexadecimal_plain n fits = numeral_plain 16 n (omega arith) (omega arith) fits
 
 pub register_plain : (r : ℕ) → r < 16 → IsPlain (register r)
 register_plain r small = decimal_plain r (omega arith)
-
-chars_plain : (text : List ℕ) → list_all is_guid_char text ≡ true → IsPlain text
-chars_plain [] all = refl
-chars_plain (byte ∷ text) all =
-    let parts = and_parts (is_guid_char byte) (list_all is_guid_char text) all in
-    let high : nat_lt 40 byte ≡ true = (and_parts (nat_lt 40 byte) (nat_lt byte 103) parts.0).0 in
-    let above : ltb 32 byte ≡ true = grind (arith, nat_tests) in
-    rw above (chars_plain text parts.1)
-
-pub guid_plain : (guid : Guid) → IsPlain (guid_text guid)
-guid_plain guid = chars_plain (guid_text guid) (guid_chars guid)
 
 pub status_plain : (status : Word) → IsPlain (word_text status)
 unfolding word_text
 status_plain Success = refl
 status_plain _ = refl
-
--- a half of a byte
-digit_above : (digit : ℕ) → digit < 16 → ltb 32 (slice_index lower_digits digit) ≡ true
-digit_above digit below = AllPass-from_list_all (λ b. ltb 32 b) lower_digits refl digit 0 below
-
-pub encoded_plain : (bytes : List ℕ) → IsBytes bytes → IsPlain (encode_lower bytes)
-unfolding encode_with
-encoded_plain [] fits = refl
-encoded_plain (byte ∷ bytes) fits =
-    let here : byte < 256 = fits 0 in
-    let high = digit_above (byte / 16) (omega arith) in
-    let low = digit_above (byte % 16) (omega arith) in
-    rw (high, low) (encoded_plain bytes (λ k. fits (suc k)))

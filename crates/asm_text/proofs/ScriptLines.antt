@@ -12,11 +12,11 @@ use Rattle.act_code.specs.declared.code.Code.TheVariants as code
 use Rattle.act_code.specs.declared.script.Script.{Script}
 use Rattle.act_code.specs.Table.{code_of_action}
 use Rattle.asm_text.specs.ActionText.{name_of, spaced, operand_words, action_text}
-use Rattle.asm_text.specs.BadLine.{Lacks}
+use Rattle.printed_words.specs.Words.{Lacks}
+use Rattle.printed_words.proofs.Comparisons.{same}
 use Rattle.asm_text.specs.ReadScript.{IsWellFormed}
 use Rattle.asm_text.specs.ScriptText.{phase_text, block_text, line, action_line, block_lines, script_text}
 use Rattle.asm_text.specs.WordReading.{space_place}
-use Rattle.asm_text.proofs.Fronts.{same}
 use Rattle.asm_text.proofs.WordSplits.{Stands, word_end, stands_too}
 use Rattle.asm_text.proofs.ActionLines.{IsGoodAction, name_plain}
 use Rattle.asm_text.proofs.LineTexts.{action_lacks}

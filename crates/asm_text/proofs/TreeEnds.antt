@@ -9,7 +9,8 @@ use Rattle.depex_code.specs.TreeCode.{tree_of, tree_of-postfix}
 use Rattle.asm_text.specs.declared.token.Waiting.{Waiting}
 use Rattle.asm_text.specs.ExpressionText.{tree_text}
 use Rattle.asm_text.specs.Walk.{Place, step, next_place}
-use Rattle.asm_text.specs.ReadTree.{Finds, IsTreeOf, IsCodeOf}
+use Rattle.printed_words.specs.Words.{Finds}
+use Rattle.asm_text.specs.ReadTree.{IsTreeOf, IsCodeOf}
 use Rattle.asm_text.proofs.Paths.{at, Path, path_on, path_stays}
 use Rattle.asm_text.proofs.TreePaths.{passes}
 use Rattle.asm_text.proofs.Frames.{Frame, kind, front, head, Behind, path_sound, starts_sound}

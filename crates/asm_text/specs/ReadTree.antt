@@ -1,21 +1,11 @@
 -- What reading gives (own).
-use Rattle.std.specs.Prelude.{◌≡◌, ℕ, ⊤, List, length, Option, Some, None}
-use Rattle.hex.specs.Hex.{IsBytes}
-use Rattle.pi_base.specs.declared.guid.Guid.{Guid}
+use Rattle.std.specs.Prelude.{◌≡◌, ℕ, ⊤, List, Option, Some, None}
+use Rattle.printed_words.specs.Words.{IsGuid}
 use Rattle.depex_code.specs.declared.opcode.Opcode.{Opcode}
 use Rattle.depex_code.specs.declared.depex.Depex.{Depex}
 use Rattle.depex_code.specs.declared.depex.Depex.TheVariants as depex
 use Rattle.depex_code.specs.Tree.{DepexTree, True, False, Push, Not, And, Or, postfix}
 use Rattle.asm_text.specs.ExpressionText.{tree_text, expression_text}
-
--- the value that a text is of, or none where it is of no value
-abbrev pub Finds : {A : Type 0} → (A → Type 0) → Option A → Type 0
-Finds Is (Some value) = Is value
-Finds Is None = (value : _) → Is value → ⊥
-
--- sixteen bytes
-abbrev pub IsGuid : Guid → Type 0
-IsGuid guid = (length guid.0 ≡ 16) × IsBytes guid.0
 
 -- each GUID that a tree names has sixteen bytes
 abbrev pub IsTree : DepexTree → Type 0

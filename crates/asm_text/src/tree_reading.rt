@@ -5,7 +5,8 @@ ghost use Rattle.depex_code.specs.declared.opcode.Opcode.TheVariants as opcode;
 ghost use Rattle.asm_text.specs.declared.token.Waiting.{Waiting};
 ghost use Rattle.asm_text.specs.Front.{behind};
 ghost use Rattle.asm_text.specs.Walk.{Goes, turned, opened, closed, resumed, split_last, next_place, token_at, operator_at};
-ghost use Rattle.asm_text.specs.ReadTree.{Finds, FindsCode, IsTreeOf};
+ghost use Rattle.printed_words.specs.Words.{Finds};
+ghost use Rattle.asm_text.specs.ReadTree.{FindsCode, IsTreeOf};
 
 use crate::front::behind;
 use crate::token::{Token, Waiting, operator_at, token_at};

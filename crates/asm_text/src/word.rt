@@ -1,29 +1,18 @@
 // The words of a line, each as the value that it shows. A word is read only where it is what is printed of the value.
-ghost use Rattle.std.specs.Prelude.{◌≡◌, ◌≤◌, ◌<◌, ◌^◌, ℕ, false, Some, decimal, length, bytes_eq};
+ghost use Rattle.std.specs.Prelude.{◌≡◌, ◌≤◌, length, bytes_eq};
 ghost use Rattle.hex.specs.Hex.{encode_lower};
 ghost use Rattle.act_code.specs.Reading.{only_if};
-ghost use Rattle.std.specs.Fmt.{digits};
-ghost use Rattle.pi_base.specs.WordText.{hexadecimal};
 ghost use Rattle.asm_text.specs.Reading.{Gives};
-ghost use Rattle.asm_text.specs.ReadTree.{Finds};
 ghost use Rattle.asm_text.specs.WordReading.{space_place, word_at, number_word, hexadecimal_word, register_word, choice_word, kind_word, status_word, bytes_word};
 
-use crate::front::{behind, place_of};
+use crate::front::behind;
 use crate::unread::Unread;
 use hex::FromHexError;
-use pi_base::{Seq, Word, decimal, hexadecimal};
+use pi_base::{Seq, Word};
+use printed_words::{decimal_of, hexadecimal_of, place_of};
 use std::alloc::Global;
-use std::str;
 
 const SPACE: u8 = b' ';
-
-const DECIMAL: u32 = 10;
-
-const DECIMAL_LEN: usize = 20;
-
-const HEXADECIMAL: u32 = 16;
-
-const HEXADECIMAL_LEN: usize = 18;
 
 const REGISTERS: u64 = 16;
 
@@ -54,47 +43,6 @@ pub(crate) fn word(text: &[u8]) -> Result<(&[u8], &[u8]), Unread>
         return Err(Unread::Malformed);
     };
     Ok(after.split_at(space_place(after)))
-}
-
-// The number whose digits these are, if they are a number's.
-fn value_of(text: &[u8], base: u32) -> Option<u64>
-    requires low { 2 ≤ base }
-    requires high { base ≤ 16 }
-    ensures { (n : ℕ) → n < 2 ^ 64 → text.now ≡ digits base false n → result ≡ Some n }
-{
-    match str::from_utf8(text) {
-        Ok(digits) => u64::from_str_radix(digits, base).ok(),
-        Err(_) => None,
-    }
-}
-
-// The number whose decimal text a word is.
-fn decimal_of(word: &[u8]) -> Option<u64>
-    ensures { Finds (λ n. (n < 2 ^ 64) × (word.now ≡ decimal n)) result }
-{
-    let Some(number) = value_of(word, DECIMAL) else {
-        return None;
-    };
-    let mut digits = [0u8; DECIMAL_LEN];
-    let len = decimal(number, &mut digits);
-    let (text, _) = digits.split_at(len);
-    if text == word { Some(number) } else { None }
-}
-
-// The number whose hexadecimal text a word is, with `0x` before it.
-fn hexadecimal_of(word: &[u8]) -> Option<u64>
-    ensures { Finds (λ n. (n < 2 ^ 64) × (word.now ≡ hexadecimal n)) result }
-{
-    let Some(behind_prefix) = behind(word, b"0x") else {
-        return None;
-    };
-    let Some(number) = value_of(behind_prefix, HEXADECIMAL) else {
-        return None;
-    };
-    let mut digits = [0u8; HEXADECIMAL_LEN];
-    let len = hexadecimal(number, &mut digits);
-    let (text, _) = digits.split_at(len);
-    if text == word { Some(number) } else { None }
 }
 
 /// The number whose decimal text a word is.

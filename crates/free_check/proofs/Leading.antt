@@ -26,7 +26,8 @@ use Rattle.free_text.specs.declared.spelled.Spelled.{Spelled}
 use Rattle.free_text.specs.Lines.{BeginsWithLine, Lacks, is_feed}
 use Rattle.free_text.specs.Spelled.{IsRight, left}
 use Rattle.module_names.specs.Named.{AreNames, IsNamed}
-use Rattle.trace_reader.specs.Readable.{IsGuid, IsLineOf, IsReadable}
+use Rattle.printed_words.specs.Words.{IsGuid}
+use Rattle.trace_reader.specs.Readable.{IsLineOf, IsReadable}
 use Rattle.trace_reader.proofs.LineBodies.{body_lacks, line_then, same_line}
 use Rattle.trace_reader.proofs.OneReading.{text_one}
 use Rattle.free_check.specs.DxeAim.{AreGuids, BeginsWithStart, LeadsTo, NamesNext}

@@ -23,7 +23,8 @@ use Rattle.free_laws.specs.DxeUnderWay.{IsUnderWay}
 use Rattle.free_text.specs.declared.spelled.Spelled.{Spelled}
 use Rattle.free_text.specs.Spelled.{IsRight, left}
 use Rattle.module_names.specs.Named.{AreNames}
-use Rattle.trace_reader.specs.Readable.{IsGuid, IsReadable}
+use Rattle.printed_words.specs.Words.{IsGuid}
+use Rattle.trace_reader.specs.Readable.{IsReadable}
 
 -- the name that an expression gives, in BEFORE or in AFTER
 abbrev pub given_by : PartExpr → Option Guid

@@ -14,7 +14,8 @@ use Rattle.boot_model.specs.declared.licence.Licence.{Licence}
 use Rattle.boot_model.specs.Eligible.{is_eligible, may_start, may_start_again}
 use Rattle.boot_model.specs.PeiMachine.{PeiMachine}
 use Rattle.free_laws.specs.PeiUnderWay.{IsUnderWay}
-use Rattle.trace_reader.specs.Readable.{IsGuid, IsReadable}
+use Rattle.printed_words.specs.Words.{IsGuid}
+use Rattle.trace_reader.specs.Readable.{IsReadable}
 use Rattle.module_names.specs.Named.{IsNamed}
 use Rattle.free_pei.specs.Names.{AreGuids}
 use Rattle.free_pei.specs.Starting.{start_of}

@@ -3,7 +3,7 @@
 use Rattle.std.specs.Prelude.{length}
 use Rattle.pi_base.specs.Lists.{Each}
 use Rattle.catalog_model.specs.declared.catalog.Catalog.{Catalog}
-use Rattle.trace_reader.specs.Readable.{IsGuid}
+use Rattle.printed_words.specs.Words.{IsGuid}
 use Rattle.module_names.specs.declared.names.Names.{Names}
 use Rattle.module_names.specs.Named.{AreNames, HasNoTwins}
 

@@ -1,6 +1,6 @@
 // The file names of a catalogue.
 ghost use Rattle.free_pei.specs.Names.{AreGuids};
-ghost use Rattle.trace_reader.specs.Readable.{IsGuid};
+ghost use Rattle.printed_words.specs.Words.{IsGuid};
 
 use catalog_model::Catalog;
 use pi_base::Guid;

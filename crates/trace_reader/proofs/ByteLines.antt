@@ -4,14 +4,13 @@ use Rattle.std.specs.Prelude.{codes}
 use Rattle.std.specs.Option.{MatchOption}
 use Rattle.hex.specs.Hex.{IsBytes, encode_lower}
 use Rattle.boot_model.specs.Text.{bytes_text, dash}
-use Rattle.trace_reader.specs.Finds.{Finds}
+use Rattle.printed_words.specs.Words.{Finds, Lacks}
 use Rattle.trace_reader.proofs.Splits.{same_back, behind_is, tail_of}
 use Rattle.trace_reader.proofs.PlainWords.{decimal_16_plain}
 use Rattle.std.specs.List.{list_all}
 use Rattle.std.proofs.lemmas.Bool.{and_parts}
 use Rattle.std.proofs.lemmas.List.Folds.{list_all-append}
 use Rattle.boot_io.specs.Line.{spaced}
-use Rattle.trace_reader.specs.Plain.{Lacks}
 
 -- one word behind a keyword
 pub one_word : (keyword word : List ℕ) → keyword ++ flat_map spaced (word ∷ []) ≡ keyword ++ 32 ∷ word

@@ -1,7 +1,7 @@
 -- Words of bytes, decoded.
 use Rattle.std.proofs.Common.{◌≡◌, ◌<◌, ◌^◌, ℕ, zero, suc, List, [], ◌∷◌, Result, Ok, Err, Bool, true, false, sym, ap, ◌∙◌, arith, length, eqb, ◌/◌, Option, Some, None, Decides}
 use Rattle.std.specs.Option.{MatchOption}
-use Rattle.trace_reader.specs.Finds.{Finds}
+use Rattle.printed_words.specs.Words.{Finds}
 use Rattle.std.specs.Prelude.{MatchResult}
 use Rattle.std.specs.Cmp.Lexicographic.{pointwise}
 use Rattle.std.proofs.lemmas.Bool.Decides.{Decides-eqb}
@@ -45,10 +45,4 @@ two_digits word bytes is = omega (arith, ap length is ∙ length-encode_with low
 pub not_decided : {P : Type 0} (r : Bool) → Decides r P → r ≡ false → P → ⊥
 not_decided r decides other holds =
     let yes : r ≡ true = decides.1 holds in
-    cc
-
--- a comparison that fails
-pub not_same : (a b : List ℕ) (r : Bool) → r ≡ pointwise eqb a b → r ≡ false → a ≡ b → ⊥
-not_same a b r is other same =
-    let yes : r ≡ true = (slice_eq-Decides Decides-eqb a b r is).1 same in
     cc

@@ -14,11 +14,12 @@ use Rattle.boot_model.specs.declared.line.Line.TheVariants as L
 use Rattle.boot_model.specs.declared.line.Extra.TheVariants as E
 use Rattle.pi_base.specs.WordText.{hexadecimal, guid_text, word_text}
 use Rattle.boot_model.specs.Text.{keyword, words, line_text, licence_text, reason_text, end_text, by_text, rank_text, name_text, expression_text, plan_cause_text, image_cause_text, call_text, bytes_text}
-use Rattle.trace_reader.specs.Plain.{IsPlain, Lacks}
+use Rattle.printed_words.specs.Words.{IsPlain, Lacks}
 use Rattle.trace_reader.specs.Readable.{IsReadable, IsLineOf, is_printable}
 use Rattle.trace_reader.specs.Trace.{BeginsWithLine}
-use Rattle.trace_reader.proofs.Splits.{is_byte}
-use Rattle.trace_reader.proofs.PlainWords.{decimal_16_plain, decimal_32_plain, decimal_64_plain, hexadecimal_plain, guid_plain, by_plain, rank_plain, name_plain, kind_plain, expression_plain, shown_plain, encoded_plain}
+use Rattle.printed_words.proofs.LineFeeds.{both_lack, same_line, feed_there}
+use Rattle.printed_words.proofs.PlainWords.{decimal_plain, hexadecimal_plain, guid_plain, encoded_plain}
+use Rattle.trace_reader.proofs.PlainWords.{decimal_16_plain, decimal_32_plain, by_plain, rank_plain, name_plain, kind_plain, expression_plain, shown_plain}
 use Rattle.trace_reader.proofs.FixedWords.{licence_text_plain, word_text_plain, reason_text_plain, end_text_plain, plan_cause_text_plain, image_cause_text_plain, call_text_plain}
 
 -- a plain word has no line feed
@@ -38,9 +39,6 @@ logged_lacks (byte ∷ text) printable =
     let other : eqb byte 10 ≡ false = grind (arith, nat_tests) in
     rw other (logged_lacks text parts.1)
 
-both_lack : (front back : List ℕ) → Lacks 10 front → Lacks 10 back → Lacks 10 (front ++ back)
-both_lack front back a b = list_all-append (λ byte. not (eqb byte 10)) front back ∙ rw (a, b) refl
-
 spaced_lack : (words : List (List ℕ)) → AllByRecursion IsPlain words → Lacks 10 (flat_map spaced words)
 spaced_lack [] plain = refl
 spaced_lack (word ∷ words) plain = both_lack word (flat_map spaced words) (plain_lacks word plain.0) (spaced_lack words plain.1)
@@ -59,15 +57,15 @@ pub body_lacks : (line : Line) → IsReadable line → Lacks 10 (keyword line ++
 unfolding keyword
 body_lacks (L.Report volume) is = words_lack (codes "report") (decimal volume ∷ []) refl ((decimal_32_plain volume is), tt)
 body_lacks (L.DxeVolume volume) is = words_lack (codes "dxe volume") (decimal volume ∷ []) refl ((decimal_32_plain volume is), tt)
-body_lacks (L.PeiStart volume name licence) is = words_lack (codes "pei start") (decimal volume ∷ guid_text name ∷ licence_text licence ∷ []) refl ((decimal_32_plain volume is.0), ((guid_plain name is.1), ((licence_text_plain licence), tt)))
-body_lacks (L.DxeStart volume name licence) is = words_lack (codes "dxe start") (decimal volume ∷ guid_text name ∷ licence_text licence ∷ []) refl ((decimal_32_plain volume is.0), ((guid_plain name is.1), ((licence_text_plain licence), tt)))
-body_lacks (L.NotifyCallback volume name fired) is = words_lack (codes "notify callback") (decimal volume ∷ guid_text name ∷ guid_text fired ∷ []) refl ((decimal_32_plain volume is.0), ((guid_plain name is.1), ((guid_plain fired is.2), tt)))
-body_lacks (L.NotifyDispatch volume name fired) is = words_lack (codes "notify dispatch") (decimal volume ∷ guid_text name ∷ guid_text fired ∷ []) refl ((decimal_32_plain volume is.0), ((guid_plain name is.1), ((guid_plain fired is.2), tt)))
-body_lacks (L.NotifyProtocol volume name fired) is = words_lack (codes "notify protocol") (decimal volume ∷ guid_text name ∷ guid_text fired ∷ []) refl ((decimal_32_plain volume is.0), ((guid_plain name is.1), ((guid_plain fired is.2), tt)))
+body_lacks (L.PeiStart volume name licence) is = words_lack (codes "pei start") (decimal volume ∷ guid_text name ∷ licence_text licence ∷ []) refl ((decimal_32_plain volume is.0), ((guid_plain name), ((licence_text_plain licence), tt)))
+body_lacks (L.DxeStart volume name licence) is = words_lack (codes "dxe start") (decimal volume ∷ guid_text name ∷ licence_text licence ∷ []) refl ((decimal_32_plain volume is.0), ((guid_plain name), ((licence_text_plain licence), tt)))
+body_lacks (L.NotifyCallback volume name fired) is = words_lack (codes "notify callback") (decimal volume ∷ guid_text name ∷ guid_text fired ∷ []) refl ((decimal_32_plain volume is.0), ((guid_plain name), ((guid_plain fired), tt)))
+body_lacks (L.NotifyDispatch volume name fired) is = words_lack (codes "notify dispatch") (decimal volume ∷ guid_text name ∷ guid_text fired ∷ []) refl ((decimal_32_plain volume is.0), ((guid_plain name), ((guid_plain fired), tt)))
+body_lacks (L.NotifyProtocol volume name fired) is = words_lack (codes "notify protocol") (decimal volume ∷ guid_text name ∷ guid_text fired ∷ []) refl ((decimal_32_plain volume is.0), ((guid_plain name), ((guid_plain fired), tt)))
 body_lacks (L.End status) is = words_lack (codes "end") (word_text status ∷ []) refl ((word_text_plain status), tt)
 body_lacks L.PeiStop is = words_lack (codes "pei stop") ([]) refl tt
 body_lacks L.DxeStop is = words_lack (codes "dxe stop") ([]) refl tt
-body_lacks (L.Waiting volume name reason) is = words_lack (codes "waiting") (decimal volume ∷ guid_text name ∷ reason_text reason ∷ []) refl ((decimal_32_plain volume is.0), ((guid_plain name is.1), ((reason_text_plain reason), tt)))
+body_lacks (L.Waiting volume name reason) is = words_lack (codes "waiting") (decimal volume ∷ guid_text name ∷ reason_text reason ∷ []) refl ((decimal_32_plain volume is.0), ((guid_plain name), ((reason_text_plain reason), tt)))
 body_lacks (L.Handoff address) is = words_lack (codes "handoff") (hexadecimal address ∷ []) refl ((hexadecimal_plain address is), tt)
 body_lacks (L.Result outcome) is = words_lack (codes "result") (end_text outcome ∷ []) refl ((end_text_plain outcome), tt)
 body_lacks (L.Migrate from to) is = words_lack (codes "migrate") (hexadecimal from ∷ hexadecimal to ∷ []) refl ((hexadecimal_plain from is.0), ((hexadecimal_plain to is.1), tt))
@@ -78,16 +76,16 @@ body_lacks (L.Dispatches count) is = words_lack (codes "dispatches") (decimal co
 body_lacks (L.Pendings count) is = words_lack (codes "pendings") (decimal count ∷ []) refl ((decimal_32_plain count is), tt)
 body_lacks (L.Hobs count) is = words_lack (codes "hobs") (decimal count ∷ []) refl ((decimal_32_plain count is), tt)
 body_lacks (L.Handles count) is = words_lack (codes "handles") (decimal count ∷ []) refl ((decimal_32_plain count is), tt)
-body_lacks (L.Ppi by guid value) is = words_lack (codes "ppi") (by_text by ∷ guid_text guid ∷ hexadecimal value ∷ []) refl ((by_plain by is.0), ((guid_plain guid is.1), ((hexadecimal_plain value is.2), tt)))
-body_lacks (L.Callback guid by block) is = words_lack (codes "callback") (guid_text guid ∷ decimal by ∷ decimal block ∷ []) refl ((guid_plain guid is.0), ((decimal_32_plain by is.1), ((decimal_32_plain block is.2), tt)))
-body_lacks (L.Dispatch guid by block) is = words_lack (codes "dispatch") (guid_text guid ∷ decimal by ∷ decimal block ∷ []) refl ((guid_plain guid is.0), ((decimal_32_plain by is.1), ((decimal_32_plain block is.2), tt)))
-body_lacks (L.Pending guid by block) is = words_lack (codes "pending") (guid_text guid ∷ decimal by ∷ decimal block ∷ []) refl ((guid_plain guid is.0), ((decimal_32_plain by is.1), ((decimal_32_plain block is.2), tt)))
-body_lacks (L.Handle handle guid value) is = words_lack (codes "handle") (decimal handle ∷ guid_text guid ∷ hexadecimal value ∷ []) refl ((decimal_32_plain handle is.0), ((guid_plain guid is.1), ((hexadecimal_plain value is.2), tt)))
-body_lacks (L.Volume volume base len name) is = words_lack (codes "volume") (decimal volume ∷ hexadecimal base ∷ decimal len ∷ name_text name ∷ []) refl ((decimal_32_plain volume is.0), ((hexadecimal_plain base is.1), ((decimal_64_plain len is.2), ((name_plain name is.3), tt))))
-body_lacks (L.Module by volume name kind pei_rank dxe_rank pei dxe) is = words_lack (codes "module") (decimal by ∷ decimal volume ∷ guid_text name ∷ encode_lower (kind ∷ []) ∷ rank_text pei_rank ∷ rank_text dxe_rank ∷ expression_text pei ∷ expression_text dxe ∷ []) refl ((decimal_32_plain by is.0), ((decimal_32_plain volume is.1), ((guid_plain name is.2), ((kind_plain kind is.3), ((rank_plain pei_rank is.4), ((rank_plain dxe_rank is.5), ((expression_plain pei is.6), ((expression_plain dxe is.7), tt))))))))
+body_lacks (L.Ppi by guid value) is = words_lack (codes "ppi") (by_text by ∷ guid_text guid ∷ hexadecimal value ∷ []) refl ((by_plain by is.0), ((guid_plain guid), ((hexadecimal_plain value is.2), tt)))
+body_lacks (L.Callback guid by block) is = words_lack (codes "callback") (guid_text guid ∷ decimal by ∷ decimal block ∷ []) refl ((guid_plain guid), ((decimal_32_plain by is.1), ((decimal_32_plain block is.2), tt)))
+body_lacks (L.Dispatch guid by block) is = words_lack (codes "dispatch") (guid_text guid ∷ decimal by ∷ decimal block ∷ []) refl ((guid_plain guid), ((decimal_32_plain by is.1), ((decimal_32_plain block is.2), tt)))
+body_lacks (L.Pending guid by block) is = words_lack (codes "pending") (guid_text guid ∷ decimal by ∷ decimal block ∷ []) refl ((guid_plain guid), ((decimal_32_plain by is.1), ((decimal_32_plain block is.2), tt)))
+body_lacks (L.Handle handle guid value) is = words_lack (codes "handle") (decimal handle ∷ guid_text guid ∷ hexadecimal value ∷ []) refl ((decimal_32_plain handle is.0), ((guid_plain guid), ((hexadecimal_plain value is.2), tt)))
+body_lacks (L.Volume volume base len name) is = words_lack (codes "volume") (decimal volume ∷ hexadecimal base ∷ decimal len ∷ name_text name ∷ []) refl ((decimal_32_plain volume is.0), ((hexadecimal_plain base is.1), ((decimal_plain len is.2), ((name_plain name is.3), tt))))
+body_lacks (L.Module by volume name kind pei_rank dxe_rank pei dxe) is = words_lack (codes "module") (decimal by ∷ decimal volume ∷ guid_text name ∷ encode_lower (kind ∷ []) ∷ rank_text pei_rank ∷ rank_text dxe_rank ∷ expression_text pei ∷ expression_text dxe ∷ []) refl ((decimal_32_plain by is.0), ((decimal_32_plain volume is.1), ((guid_plain name), ((kind_plain kind is.3), ((rank_plain pei_rank is.4), ((rank_plain dxe_rank is.5), ((expression_plain pei is.6), ((expression_plain dxe is.7), tt))))))))
 body_lacks L.RefusedUsage is = words_lack (codes "refused usage") ([]) refl tt
 body_lacks (L.RefusedPlan line cause) is = words_lack (codes "refused plan") (decimal line ∷ plan_cause_text cause ∷ []) refl ((decimal_32_plain line is), ((plan_cause_text_plain cause), tt))
-body_lacks (L.RefusedImage volume at cause) is = words_lack (codes "refused image") (decimal volume ∷ decimal at ∷ image_cause_text cause ∷ []) refl ((decimal_32_plain volume is.0), ((decimal_64_plain at is.1), ((image_cause_text_plain cause), tt)))
+body_lacks (L.RefusedImage volume at cause) is = words_lack (codes "refused image") (decimal volume ∷ decimal at ∷ image_cause_text cause ∷ []) refl ((decimal_32_plain volume is.0), ((decimal_plain at is.1), ((image_cause_text_plain cause), tt)))
 body_lacks (L.Call name status E.Nothing) is = words_lack (codes "call") (call_text name ∷ word_text status ∷ []) refl (call_text_plain name, (word_text_plain status, tt))
 body_lacks (L.Call name status (E.Number n)) is = words_lack (codes "call") (call_text name ∷ word_text status ∷ hexadecimal n ∷ []) refl (call_text_plain name, (word_text_plain status, (hexadecimal_plain n is.2, tt)))
 body_lacks (L.Call name status (E.Bytes bytes)) is = words_lack (codes "call") (call_text name ∷ word_text status ∷ encode_lower bytes.items ∷ []) refl (call_text_plain name, (word_text_plain status, (shown_plain bytes.items is.2, tt)))
@@ -95,24 +93,6 @@ body_lacks (L.Log text) is = word_lacks (codes "log") text.items refl (logged_la
 body_lacks (L.Hob kind body) is = words_lack (codes "hob") (decimal kind ∷ bytes_text body ∷ []) refl (decimal_16_plain kind is.0, (bytes_plain body is.1, tt))
 body_lacks (L.RefusedFile name) is = word_lacks (codes "refused file") name refl is.0
 body_lacks (L.RefusedLong name) is = word_lacks (codes "refused long") name refl is.0
-
-no_feed : (test : Bool) → not test ≡ true → test ≡ false
-no_feed true is = cc
-no_feed false is = refl
-
--- the line feed of a line is the first
-line_place : (body rest : List ℕ) → Lacks 10 body → position_or_len (is_byte 10) (body ++ 10 ∷ rest) ≡ length body
-line_place [] rest lacks = refl
-line_place (byte ∷ body) rest lacks =
-    let parts = and_parts (not (eqb byte 10)) (list_all (λ b. not (eqb b 10)) body) lacks in
-    let other : eqb byte 10 ≡ false = no_feed (eqb byte 10) parts.0 in
-    rw other (ap (λ n. 1 + n) (line_place body rest parts.1) ∙ omega arith)
-
--- a text has one first line
-pub same_line : (body other rest others : List ℕ) → Lacks 10 body → Lacks 10 other → body ++ 10 ∷ rest ≡ other ++ 10 ∷ others → body ≡ other
-same_line body other rest others lacks too is =
-    let place : length body ≡ length other = sym (line_place body rest lacks) ∙ ap (position_or_len (is_byte 10)) is ∙ line_place other others too in
-    sym (take_at body (10 ∷ rest) (length body) refl) ∙ ap (take (length body)) is ∙ take_at other (10 ∷ others) (length body) (sym place)
 
 -- a text that goes on with a line is its body, a line feed and the rest
 pub line_then : (line : Line) (rest : List ℕ) → line_text line ++ rest ≡ (keyword line ++ flat_map spaced (words line)) ++ 10 ∷ rest
@@ -124,10 +104,6 @@ no_line_there text body after is lacks none there =
     let whole : body ++ 10 ∷ after ≡ (keyword line ++ flat_map spaced (words line)) ++ 10 ∷ there.1 = sym is ∙ there.3 ∙ line_then line there.1 in
     none line (there.2, same_line body _ after there.1 lacks (body_lacks line there.2) whole)
 
-feed_there : (front rest : List ℕ) → Lacks 10 (front ++ 10 ∷ rest) → ⊥
-feed_there [] rest lacks = let never : false ≡ true = lacks in cc
-feed_there (byte ∷ front) rest lacks = feed_there front rest (and_parts (not (eqb byte 10)) (list_all (λ b. not (eqb b 10)) (front ++ 10 ∷ rest)) lacks).1
-
 pub no_feed_no_line : (text : List ℕ) → Lacks 10 text → BeginsWithLine text → ⊥
 no_feed_no_line text lacks there =
     let line = there.0 in
@@ -137,27 +113,3 @@ no_feed_no_line text lacks there =
 -- a line and what follows it
 pub line_is : (text body after : List ℕ) (line : Line) → text ≡ body ++ 10 ∷ after → IsLineOf body line → text ≡ line_text line ++ after
 line_is text body after line is there = is ∙ ap (λ front. front ++ 10 ∷ after) there.1 ∙ sym (line_then line after)
-
--- what stands before the first line feed has none
-feed_before : (byte : ℕ) (rest : List ℕ) (test : Bool) → eqb byte 10 ≡ test → Lacks 10 (take (position_or_len (is_byte 10) rest) rest) → Lacks 10 (take (position_or_len (is_byte 10) (byte ∷ rest)) (byte ∷ rest))
-feed_before byte rest true is lacks = rw is refl
-feed_before byte rest false is lacks =
-    let next : 1 + position_or_len (is_byte 10) rest ≡ suc (position_or_len (is_byte 10) rest) = omega arith in
-    let front : take (position_or_len (is_byte 10) (byte ∷ rest)) (byte ∷ rest) ≡ byte ∷ take (position_or_len (is_byte 10) rest) rest = rw (is, next) refl in
-    rw front (rw is lacks)
-
-lacks_before : (text : List ℕ) → Lacks 10 (take (position_or_len (is_byte 10) text) text)
-lacks_before [] = refl
-lacks_before (byte ∷ rest) = feed_before byte rest (eqb byte 10) refl (lacks_before rest)
-
-pub front_lacks : (text front : List ℕ) (n : ℕ) → n ≡ position_or_len (is_byte 10) text → front ≡ take n text → Lacks 10 front
-front_lacks text front n place is = rw (is, place) (lacks_before text)
-
--- a text is what stands before the first line feed, the line feed, and what follows
-pub feed_cut : (text : List ℕ) (n : ℕ) → n ≡ position_or_len (is_byte 10) text → n < length text → text ≡ take n text ++ 10 ∷ drop (n + 1) text
-feed_cut text n place within =
-    let p = position_or_len (is_byte 10) text in
-    let inside : p < length text = rw (← place) within in
-    let passes : eqb (get_or text p 0) 10 ≡ true = passes_at_first (is_byte 10) text 0 inside in
-    let feed : get_or text p 0 ≡ 10 = grind (arith, nat_tests) in
-    rw place (split_at_first (is_byte 10) text 0 inside ∙ ap (λ byte. take p text ++ byte ∷ drop (p + 1) text) feed)

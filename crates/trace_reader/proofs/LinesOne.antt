@@ -13,10 +13,11 @@ use Rattle.boot_model.specs.declared.line.Extra.TheVariants as E
 use Rattle.pi_base.specs.declared.word.Word.{Word}
 use Rattle.pi_base.specs.WordText.{hexadecimal, guid_text, word_text}
 use Rattle.boot_model.specs.Text.{keyword, words, licence_text, reason_text, end_text, by_text, rank_text, name_text, expression_text, plan_cause_text, image_cause_text, call_text, bytes_text, extra_words}
-use Rattle.trace_reader.specs.Plain.{IsPlain}
+use Rattle.printed_words.specs.Words.{IsPlain}
 use Rattle.trace_reader.specs.Readable.{IsReadable, IsExtra, shows_number}
 use Rattle.trace_reader.proofs.Splits.{same_front, same_back, behind_is, tail_of}
-use Rattle.trace_reader.proofs.PlainWords.{decimal_16_plain, decimal_32_plain, decimal_64_plain, hexadecimal_plain, guid_plain, by_plain, rank_plain, name_plain, kind_plain, expression_plain, shown_plain}
+use Rattle.printed_words.proofs.PlainWords.{decimal_plain, hexadecimal_plain, guid_plain}
+use Rattle.trace_reader.proofs.PlainWords.{decimal_16_plain, decimal_32_plain, by_plain, rank_plain, name_plain, kind_plain, expression_plain, shown_plain}
 use Rattle.trace_reader.proofs.FixedWords.{licence_text_plain, word_text_plain, reason_text_plain, end_text_plain, plan_cause_text_plain, image_cause_text_plain, call_text_plain, licence_text_one, word_text_one, reason_text_one, end_text_one, plan_cause_text_one, image_cause_text_one, call_text_one}
 use Rattle.trace_reader.proofs.FieldsOne.{wide_one, decimal_one, hexadecimal_one, guid_one, by_one, rank_one, name_one, kind_one, expression_one, encoded_one, bytes_one}
 use Rattle.trace_reader.proofs.LineBodies.{bytes_plain}
@@ -81,15 +82,15 @@ one_of : (of : Form) (x y : Parts of) → IsReadable (made of x) → IsReadable 
 unfolding keyword
 one_of OfReport x y p q is = let ws = behind_one (codes "report") (decimal x ∷ []) (decimal y ∷ []) ((decimal_32_plain x p), tt) ((decimal_32_plain y q), tt) is in ap L.Report (decimal_one x y p q (ap (nth 0) ws))
 one_of OfDxeVolume x y p q is = let ws = behind_one (codes "dxe volume") (decimal x ∷ []) (decimal y ∷ []) ((decimal_32_plain x p), tt) ((decimal_32_plain y q), tt) is in ap L.DxeVolume (decimal_one x y p q (ap (nth 0) ws))
-one_of OfPeiStart x y p q is = let ws = behind_one (codes "pei start") (decimal x.0 ∷ guid_text x.1 ∷ licence_text x.2 ∷ []) (decimal y.0 ∷ guid_text y.1 ∷ licence_text y.2 ∷ []) ((decimal_32_plain x.0 p.0), ((guid_plain x.1 p.1), ((licence_text_plain x.2), tt))) ((decimal_32_plain y.0 q.0), ((guid_plain y.1 q.1), ((licence_text_plain y.2), tt))) is in let e0 : x.0 ≡ y.0 = (decimal_one x.0 y.0 p.0 q.0 (ap (nth 0) ws)) in let e1 : x.1 ≡ y.1 = (guid_one x.1 y.1 p.1 q.1 (ap (nth 1) ws)) in let e2 : x.2 ≡ y.2 = (licence_text_one x.2 y.2 (ap (nth 2) ws)) in rw (e0, e1, e2) refl
-one_of OfDxeStart x y p q is = let ws = behind_one (codes "dxe start") (decimal x.0 ∷ guid_text x.1 ∷ licence_text x.2 ∷ []) (decimal y.0 ∷ guid_text y.1 ∷ licence_text y.2 ∷ []) ((decimal_32_plain x.0 p.0), ((guid_plain x.1 p.1), ((licence_text_plain x.2), tt))) ((decimal_32_plain y.0 q.0), ((guid_plain y.1 q.1), ((licence_text_plain y.2), tt))) is in let e0 : x.0 ≡ y.0 = (decimal_one x.0 y.0 p.0 q.0 (ap (nth 0) ws)) in let e1 : x.1 ≡ y.1 = (guid_one x.1 y.1 p.1 q.1 (ap (nth 1) ws)) in let e2 : x.2 ≡ y.2 = (licence_text_one x.2 y.2 (ap (nth 2) ws)) in rw (e0, e1, e2) refl
-one_of OfNotifyCallback x y p q is = let ws = behind_one (codes "notify callback") (decimal x.0 ∷ guid_text x.1 ∷ guid_text x.2 ∷ []) (decimal y.0 ∷ guid_text y.1 ∷ guid_text y.2 ∷ []) ((decimal_32_plain x.0 p.0), ((guid_plain x.1 p.1), ((guid_plain x.2 p.2), tt))) ((decimal_32_plain y.0 q.0), ((guid_plain y.1 q.1), ((guid_plain y.2 q.2), tt))) is in let e0 : x.0 ≡ y.0 = (decimal_one x.0 y.0 p.0 q.0 (ap (nth 0) ws)) in let e1 : x.1 ≡ y.1 = (guid_one x.1 y.1 p.1 q.1 (ap (nth 1) ws)) in let e2 : x.2 ≡ y.2 = (guid_one x.2 y.2 p.2 q.2 (ap (nth 2) ws)) in rw (e0, e1, e2) refl
-one_of OfNotifyDispatch x y p q is = let ws = behind_one (codes "notify dispatch") (decimal x.0 ∷ guid_text x.1 ∷ guid_text x.2 ∷ []) (decimal y.0 ∷ guid_text y.1 ∷ guid_text y.2 ∷ []) ((decimal_32_plain x.0 p.0), ((guid_plain x.1 p.1), ((guid_plain x.2 p.2), tt))) ((decimal_32_plain y.0 q.0), ((guid_plain y.1 q.1), ((guid_plain y.2 q.2), tt))) is in let e0 : x.0 ≡ y.0 = (decimal_one x.0 y.0 p.0 q.0 (ap (nth 0) ws)) in let e1 : x.1 ≡ y.1 = (guid_one x.1 y.1 p.1 q.1 (ap (nth 1) ws)) in let e2 : x.2 ≡ y.2 = (guid_one x.2 y.2 p.2 q.2 (ap (nth 2) ws)) in rw (e0, e1, e2) refl
-one_of OfNotifyProtocol x y p q is = let ws = behind_one (codes "notify protocol") (decimal x.0 ∷ guid_text x.1 ∷ guid_text x.2 ∷ []) (decimal y.0 ∷ guid_text y.1 ∷ guid_text y.2 ∷ []) ((decimal_32_plain x.0 p.0), ((guid_plain x.1 p.1), ((guid_plain x.2 p.2), tt))) ((decimal_32_plain y.0 q.0), ((guid_plain y.1 q.1), ((guid_plain y.2 q.2), tt))) is in let e0 : x.0 ≡ y.0 = (decimal_one x.0 y.0 p.0 q.0 (ap (nth 0) ws)) in let e1 : x.1 ≡ y.1 = (guid_one x.1 y.1 p.1 q.1 (ap (nth 1) ws)) in let e2 : x.2 ≡ y.2 = (guid_one x.2 y.2 p.2 q.2 (ap (nth 2) ws)) in rw (e0, e1, e2) refl
+one_of OfPeiStart x y p q is = let ws = behind_one (codes "pei start") (decimal x.0 ∷ guid_text x.1 ∷ licence_text x.2 ∷ []) (decimal y.0 ∷ guid_text y.1 ∷ licence_text y.2 ∷ []) ((decimal_32_plain x.0 p.0), ((guid_plain x.1), ((licence_text_plain x.2), tt))) ((decimal_32_plain y.0 q.0), ((guid_plain y.1), ((licence_text_plain y.2), tt))) is in let e0 : x.0 ≡ y.0 = (decimal_one x.0 y.0 p.0 q.0 (ap (nth 0) ws)) in let e1 : x.1 ≡ y.1 = (guid_one x.1 y.1 p.1 q.1 (ap (nth 1) ws)) in let e2 : x.2 ≡ y.2 = (licence_text_one x.2 y.2 (ap (nth 2) ws)) in rw (e0, e1, e2) refl
+one_of OfDxeStart x y p q is = let ws = behind_one (codes "dxe start") (decimal x.0 ∷ guid_text x.1 ∷ licence_text x.2 ∷ []) (decimal y.0 ∷ guid_text y.1 ∷ licence_text y.2 ∷ []) ((decimal_32_plain x.0 p.0), ((guid_plain x.1), ((licence_text_plain x.2), tt))) ((decimal_32_plain y.0 q.0), ((guid_plain y.1), ((licence_text_plain y.2), tt))) is in let e0 : x.0 ≡ y.0 = (decimal_one x.0 y.0 p.0 q.0 (ap (nth 0) ws)) in let e1 : x.1 ≡ y.1 = (guid_one x.1 y.1 p.1 q.1 (ap (nth 1) ws)) in let e2 : x.2 ≡ y.2 = (licence_text_one x.2 y.2 (ap (nth 2) ws)) in rw (e0, e1, e2) refl
+one_of OfNotifyCallback x y p q is = let ws = behind_one (codes "notify callback") (decimal x.0 ∷ guid_text x.1 ∷ guid_text x.2 ∷ []) (decimal y.0 ∷ guid_text y.1 ∷ guid_text y.2 ∷ []) ((decimal_32_plain x.0 p.0), ((guid_plain x.1), ((guid_plain x.2), tt))) ((decimal_32_plain y.0 q.0), ((guid_plain y.1), ((guid_plain y.2), tt))) is in let e0 : x.0 ≡ y.0 = (decimal_one x.0 y.0 p.0 q.0 (ap (nth 0) ws)) in let e1 : x.1 ≡ y.1 = (guid_one x.1 y.1 p.1 q.1 (ap (nth 1) ws)) in let e2 : x.2 ≡ y.2 = (guid_one x.2 y.2 p.2 q.2 (ap (nth 2) ws)) in rw (e0, e1, e2) refl
+one_of OfNotifyDispatch x y p q is = let ws = behind_one (codes "notify dispatch") (decimal x.0 ∷ guid_text x.1 ∷ guid_text x.2 ∷ []) (decimal y.0 ∷ guid_text y.1 ∷ guid_text y.2 ∷ []) ((decimal_32_plain x.0 p.0), ((guid_plain x.1), ((guid_plain x.2), tt))) ((decimal_32_plain y.0 q.0), ((guid_plain y.1), ((guid_plain y.2), tt))) is in let e0 : x.0 ≡ y.0 = (decimal_one x.0 y.0 p.0 q.0 (ap (nth 0) ws)) in let e1 : x.1 ≡ y.1 = (guid_one x.1 y.1 p.1 q.1 (ap (nth 1) ws)) in let e2 : x.2 ≡ y.2 = (guid_one x.2 y.2 p.2 q.2 (ap (nth 2) ws)) in rw (e0, e1, e2) refl
+one_of OfNotifyProtocol x y p q is = let ws = behind_one (codes "notify protocol") (decimal x.0 ∷ guid_text x.1 ∷ guid_text x.2 ∷ []) (decimal y.0 ∷ guid_text y.1 ∷ guid_text y.2 ∷ []) ((decimal_32_plain x.0 p.0), ((guid_plain x.1), ((guid_plain x.2), tt))) ((decimal_32_plain y.0 q.0), ((guid_plain y.1), ((guid_plain y.2), tt))) is in let e0 : x.0 ≡ y.0 = (decimal_one x.0 y.0 p.0 q.0 (ap (nth 0) ws)) in let e1 : x.1 ≡ y.1 = (guid_one x.1 y.1 p.1 q.1 (ap (nth 1) ws)) in let e2 : x.2 ≡ y.2 = (guid_one x.2 y.2 p.2 q.2 (ap (nth 2) ws)) in rw (e0, e1, e2) refl
 one_of OfEnd x y p q is = let ws = behind_one (codes "end") (word_text x ∷ []) (word_text y ∷ []) ((word_text_plain x), tt) ((word_text_plain y), tt) is in ap L.End (word_text_one x y (ap (nth 0) ws))
 one_of OfPeiStop x y p q is = refl
 one_of OfDxeStop x y p q is = refl
-one_of OfWaiting x y p q is = let ws = behind_one (codes "waiting") (decimal x.0 ∷ guid_text x.1 ∷ reason_text x.2 ∷ []) (decimal y.0 ∷ guid_text y.1 ∷ reason_text y.2 ∷ []) ((decimal_32_plain x.0 p.0), ((guid_plain x.1 p.1), ((reason_text_plain x.2), tt))) ((decimal_32_plain y.0 q.0), ((guid_plain y.1 q.1), ((reason_text_plain y.2), tt))) is in let e0 : x.0 ≡ y.0 = (decimal_one x.0 y.0 p.0 q.0 (ap (nth 0) ws)) in let e1 : x.1 ≡ y.1 = (guid_one x.1 y.1 p.1 q.1 (ap (nth 1) ws)) in let e2 : x.2 ≡ y.2 = (reason_text_one x.2 y.2 (ap (nth 2) ws)) in rw (e0, e1, e2) refl
+one_of OfWaiting x y p q is = let ws = behind_one (codes "waiting") (decimal x.0 ∷ guid_text x.1 ∷ reason_text x.2 ∷ []) (decimal y.0 ∷ guid_text y.1 ∷ reason_text y.2 ∷ []) ((decimal_32_plain x.0 p.0), ((guid_plain x.1), ((reason_text_plain x.2), tt))) ((decimal_32_plain y.0 q.0), ((guid_plain y.1), ((reason_text_plain y.2), tt))) is in let e0 : x.0 ≡ y.0 = (decimal_one x.0 y.0 p.0 q.0 (ap (nth 0) ws)) in let e1 : x.1 ≡ y.1 = (guid_one x.1 y.1 p.1 q.1 (ap (nth 1) ws)) in let e2 : x.2 ≡ y.2 = (reason_text_one x.2 y.2 (ap (nth 2) ws)) in rw (e0, e1, e2) refl
 one_of OfHandoff x y p q is = let ws = behind_one (codes "handoff") (hexadecimal x ∷ []) (hexadecimal y ∷ []) ((hexadecimal_plain x p), tt) ((hexadecimal_plain y q), tt) is in ap L.Handoff (hexadecimal_one x y p q (ap (nth 0) ws))
 one_of OfResult x y p q is = let ws = behind_one (codes "result") (end_text x ∷ []) (end_text y ∷ []) ((end_text_plain x), tt) ((end_text_plain y), tt) is in ap L.Result (end_text_one x y (ap (nth 0) ws))
 one_of OfMigrate x y p q is = let ws = behind_one (codes "migrate") (hexadecimal x.0 ∷ hexadecimal x.1 ∷ []) (hexadecimal y.0 ∷ hexadecimal y.1 ∷ []) ((hexadecimal_plain x.0 p.0), ((hexadecimal_plain x.1 p.1), tt)) ((hexadecimal_plain y.0 q.0), ((hexadecimal_plain y.1 q.1), tt)) is in let e0 : x.0 ≡ y.0 = (hexadecimal_one x.0 y.0 p.0 q.0 (ap (nth 0) ws)) in let e1 : x.1 ≡ y.1 = (hexadecimal_one x.1 y.1 p.1 q.1 (ap (nth 1) ws)) in rw (e0, e1) refl
@@ -100,16 +101,16 @@ one_of OfDispatches x y p q is = let ws = behind_one (codes "dispatches") (decim
 one_of OfPendings x y p q is = let ws = behind_one (codes "pendings") (decimal x ∷ []) (decimal y ∷ []) ((decimal_32_plain x p), tt) ((decimal_32_plain y q), tt) is in ap L.Pendings (decimal_one x y p q (ap (nth 0) ws))
 one_of OfHobs x y p q is = let ws = behind_one (codes "hobs") (decimal x ∷ []) (decimal y ∷ []) ((decimal_32_plain x p), tt) ((decimal_32_plain y q), tt) is in ap L.Hobs (decimal_one x y p q (ap (nth 0) ws))
 one_of OfHandles x y p q is = let ws = behind_one (codes "handles") (decimal x ∷ []) (decimal y ∷ []) ((decimal_32_plain x p), tt) ((decimal_32_plain y q), tt) is in ap L.Handles (decimal_one x y p q (ap (nth 0) ws))
-one_of OfPpi x y p q is = let ws = behind_one (codes "ppi") (by_text x.0 ∷ guid_text x.1 ∷ hexadecimal x.2 ∷ []) (by_text y.0 ∷ guid_text y.1 ∷ hexadecimal y.2 ∷ []) ((by_plain x.0 p.0), ((guid_plain x.1 p.1), ((hexadecimal_plain x.2 p.2), tt))) ((by_plain y.0 q.0), ((guid_plain y.1 q.1), ((hexadecimal_plain y.2 q.2), tt))) is in let e0 : x.0 ≡ y.0 = (by_one x.0 y.0 p.0 q.0 (ap (nth 0) ws)) in let e1 : x.1 ≡ y.1 = (guid_one x.1 y.1 p.1 q.1 (ap (nth 1) ws)) in let e2 : x.2 ≡ y.2 = (hexadecimal_one x.2 y.2 p.2 q.2 (ap (nth 2) ws)) in rw (e0, e1, e2) refl
-one_of OfCallback x y p q is = let ws = behind_one (codes "callback") (guid_text x.0 ∷ decimal x.1 ∷ decimal x.2 ∷ []) (guid_text y.0 ∷ decimal y.1 ∷ decimal y.2 ∷ []) ((guid_plain x.0 p.0), ((decimal_32_plain x.1 p.1), ((decimal_32_plain x.2 p.2), tt))) ((guid_plain y.0 q.0), ((decimal_32_plain y.1 q.1), ((decimal_32_plain y.2 q.2), tt))) is in let e0 : x.0 ≡ y.0 = (guid_one x.0 y.0 p.0 q.0 (ap (nth 0) ws)) in let e1 : x.1 ≡ y.1 = (decimal_one x.1 y.1 p.1 q.1 (ap (nth 1) ws)) in let e2 : x.2 ≡ y.2 = (decimal_one x.2 y.2 p.2 q.2 (ap (nth 2) ws)) in rw (e0, e1, e2) refl
-one_of OfDispatch x y p q is = let ws = behind_one (codes "dispatch") (guid_text x.0 ∷ decimal x.1 ∷ decimal x.2 ∷ []) (guid_text y.0 ∷ decimal y.1 ∷ decimal y.2 ∷ []) ((guid_plain x.0 p.0), ((decimal_32_plain x.1 p.1), ((decimal_32_plain x.2 p.2), tt))) ((guid_plain y.0 q.0), ((decimal_32_plain y.1 q.1), ((decimal_32_plain y.2 q.2), tt))) is in let e0 : x.0 ≡ y.0 = (guid_one x.0 y.0 p.0 q.0 (ap (nth 0) ws)) in let e1 : x.1 ≡ y.1 = (decimal_one x.1 y.1 p.1 q.1 (ap (nth 1) ws)) in let e2 : x.2 ≡ y.2 = (decimal_one x.2 y.2 p.2 q.2 (ap (nth 2) ws)) in rw (e0, e1, e2) refl
-one_of OfPending x y p q is = let ws = behind_one (codes "pending") (guid_text x.0 ∷ decimal x.1 ∷ decimal x.2 ∷ []) (guid_text y.0 ∷ decimal y.1 ∷ decimal y.2 ∷ []) ((guid_plain x.0 p.0), ((decimal_32_plain x.1 p.1), ((decimal_32_plain x.2 p.2), tt))) ((guid_plain y.0 q.0), ((decimal_32_plain y.1 q.1), ((decimal_32_plain y.2 q.2), tt))) is in let e0 : x.0 ≡ y.0 = (guid_one x.0 y.0 p.0 q.0 (ap (nth 0) ws)) in let e1 : x.1 ≡ y.1 = (decimal_one x.1 y.1 p.1 q.1 (ap (nth 1) ws)) in let e2 : x.2 ≡ y.2 = (decimal_one x.2 y.2 p.2 q.2 (ap (nth 2) ws)) in rw (e0, e1, e2) refl
-one_of OfHandle x y p q is = let ws = behind_one (codes "handle") (decimal x.0 ∷ guid_text x.1 ∷ hexadecimal x.2 ∷ []) (decimal y.0 ∷ guid_text y.1 ∷ hexadecimal y.2 ∷ []) ((decimal_32_plain x.0 p.0), ((guid_plain x.1 p.1), ((hexadecimal_plain x.2 p.2), tt))) ((decimal_32_plain y.0 q.0), ((guid_plain y.1 q.1), ((hexadecimal_plain y.2 q.2), tt))) is in let e0 : x.0 ≡ y.0 = (decimal_one x.0 y.0 p.0 q.0 (ap (nth 0) ws)) in let e1 : x.1 ≡ y.1 = (guid_one x.1 y.1 p.1 q.1 (ap (nth 1) ws)) in let e2 : x.2 ≡ y.2 = (hexadecimal_one x.2 y.2 p.2 q.2 (ap (nth 2) ws)) in rw (e0, e1, e2) refl
-one_of OfVolume x y p q is = let ws = behind_one (codes "volume") (decimal x.0 ∷ hexadecimal x.1 ∷ decimal x.2 ∷ name_text x.3 ∷ []) (decimal y.0 ∷ hexadecimal y.1 ∷ decimal y.2 ∷ name_text y.3 ∷ []) ((decimal_32_plain x.0 p.0), ((hexadecimal_plain x.1 p.1), ((decimal_64_plain x.2 p.2), ((name_plain x.3 p.3), tt)))) ((decimal_32_plain y.0 q.0), ((hexadecimal_plain y.1 q.1), ((decimal_64_plain y.2 q.2), ((name_plain y.3 q.3), tt)))) is in let e0 : x.0 ≡ y.0 = (decimal_one x.0 y.0 p.0 q.0 (ap (nth 0) ws)) in let e1 : x.1 ≡ y.1 = (hexadecimal_one x.1 y.1 p.1 q.1 (ap (nth 1) ws)) in let e2 : x.2 ≡ y.2 = (wide_one x.2 y.2 p.2 q.2 (ap (nth 2) ws)) in let e3 : x.3 ≡ y.3 = (name_one x.3 y.3 p.3 q.3 (ap (nth 3) ws)) in rw (e0, e1, e2, e3) refl
-one_of OfModule x y p q is = let ws = behind_one (codes "module") (decimal x.0 ∷ decimal x.1 ∷ guid_text x.2 ∷ encode_lower (x.3 ∷ []) ∷ rank_text x.4 ∷ rank_text x.5 ∷ expression_text x.6 ∷ expression_text x.7 ∷ []) (decimal y.0 ∷ decimal y.1 ∷ guid_text y.2 ∷ encode_lower (y.3 ∷ []) ∷ rank_text y.4 ∷ rank_text y.5 ∷ expression_text y.6 ∷ expression_text y.7 ∷ []) ((decimal_32_plain x.0 p.0), ((decimal_32_plain x.1 p.1), ((guid_plain x.2 p.2), ((kind_plain x.3 p.3), ((rank_plain x.4 p.4), ((rank_plain x.5 p.5), ((expression_plain x.6 p.6), ((expression_plain x.7 p.7), tt)))))))) ((decimal_32_plain y.0 q.0), ((decimal_32_plain y.1 q.1), ((guid_plain y.2 q.2), ((kind_plain y.3 q.3), ((rank_plain y.4 q.4), ((rank_plain y.5 q.5), ((expression_plain y.6 q.6), ((expression_plain y.7 q.7), tt)))))))) is in let e0 : x.0 ≡ y.0 = (decimal_one x.0 y.0 p.0 q.0 (ap (nth 0) ws)) in let e1 : x.1 ≡ y.1 = (decimal_one x.1 y.1 p.1 q.1 (ap (nth 1) ws)) in let e2 : x.2 ≡ y.2 = (guid_one x.2 y.2 p.2 q.2 (ap (nth 2) ws)) in let e3 : x.3 ≡ y.3 = (kind_one x.3 y.3 p.3 q.3 (ap (nth 3) ws)) in let e4 : x.4 ≡ y.4 = (rank_one x.4 y.4 p.4 q.4 (ap (nth 4) ws)) in let e5 : x.5 ≡ y.5 = (rank_one x.5 y.5 p.5 q.5 (ap (nth 5) ws)) in let e6 : x.6 ≡ y.6 = (expression_one x.6 y.6 p.6 q.6 (ap (nth 6) ws)) in let e7 : x.7 ≡ y.7 = (expression_one x.7 y.7 p.7 q.7 (ap (nth 7) ws)) in rw (e0, e1, e2, e3, e4, e5, e6, e7) refl
+one_of OfPpi x y p q is = let ws = behind_one (codes "ppi") (by_text x.0 ∷ guid_text x.1 ∷ hexadecimal x.2 ∷ []) (by_text y.0 ∷ guid_text y.1 ∷ hexadecimal y.2 ∷ []) ((by_plain x.0 p.0), ((guid_plain x.1), ((hexadecimal_plain x.2 p.2), tt))) ((by_plain y.0 q.0), ((guid_plain y.1), ((hexadecimal_plain y.2 q.2), tt))) is in let e0 : x.0 ≡ y.0 = (by_one x.0 y.0 p.0 q.0 (ap (nth 0) ws)) in let e1 : x.1 ≡ y.1 = (guid_one x.1 y.1 p.1 q.1 (ap (nth 1) ws)) in let e2 : x.2 ≡ y.2 = (hexadecimal_one x.2 y.2 p.2 q.2 (ap (nth 2) ws)) in rw (e0, e1, e2) refl
+one_of OfCallback x y p q is = let ws = behind_one (codes "callback") (guid_text x.0 ∷ decimal x.1 ∷ decimal x.2 ∷ []) (guid_text y.0 ∷ decimal y.1 ∷ decimal y.2 ∷ []) ((guid_plain x.0), ((decimal_32_plain x.1 p.1), ((decimal_32_plain x.2 p.2), tt))) ((guid_plain y.0), ((decimal_32_plain y.1 q.1), ((decimal_32_plain y.2 q.2), tt))) is in let e0 : x.0 ≡ y.0 = (guid_one x.0 y.0 p.0 q.0 (ap (nth 0) ws)) in let e1 : x.1 ≡ y.1 = (decimal_one x.1 y.1 p.1 q.1 (ap (nth 1) ws)) in let e2 : x.2 ≡ y.2 = (decimal_one x.2 y.2 p.2 q.2 (ap (nth 2) ws)) in rw (e0, e1, e2) refl
+one_of OfDispatch x y p q is = let ws = behind_one (codes "dispatch") (guid_text x.0 ∷ decimal x.1 ∷ decimal x.2 ∷ []) (guid_text y.0 ∷ decimal y.1 ∷ decimal y.2 ∷ []) ((guid_plain x.0), ((decimal_32_plain x.1 p.1), ((decimal_32_plain x.2 p.2), tt))) ((guid_plain y.0), ((decimal_32_plain y.1 q.1), ((decimal_32_plain y.2 q.2), tt))) is in let e0 : x.0 ≡ y.0 = (guid_one x.0 y.0 p.0 q.0 (ap (nth 0) ws)) in let e1 : x.1 ≡ y.1 = (decimal_one x.1 y.1 p.1 q.1 (ap (nth 1) ws)) in let e2 : x.2 ≡ y.2 = (decimal_one x.2 y.2 p.2 q.2 (ap (nth 2) ws)) in rw (e0, e1, e2) refl
+one_of OfPending x y p q is = let ws = behind_one (codes "pending") (guid_text x.0 ∷ decimal x.1 ∷ decimal x.2 ∷ []) (guid_text y.0 ∷ decimal y.1 ∷ decimal y.2 ∷ []) ((guid_plain x.0), ((decimal_32_plain x.1 p.1), ((decimal_32_plain x.2 p.2), tt))) ((guid_plain y.0), ((decimal_32_plain y.1 q.1), ((decimal_32_plain y.2 q.2), tt))) is in let e0 : x.0 ≡ y.0 = (guid_one x.0 y.0 p.0 q.0 (ap (nth 0) ws)) in let e1 : x.1 ≡ y.1 = (decimal_one x.1 y.1 p.1 q.1 (ap (nth 1) ws)) in let e2 : x.2 ≡ y.2 = (decimal_one x.2 y.2 p.2 q.2 (ap (nth 2) ws)) in rw (e0, e1, e2) refl
+one_of OfHandle x y p q is = let ws = behind_one (codes "handle") (decimal x.0 ∷ guid_text x.1 ∷ hexadecimal x.2 ∷ []) (decimal y.0 ∷ guid_text y.1 ∷ hexadecimal y.2 ∷ []) ((decimal_32_plain x.0 p.0), ((guid_plain x.1), ((hexadecimal_plain x.2 p.2), tt))) ((decimal_32_plain y.0 q.0), ((guid_plain y.1), ((hexadecimal_plain y.2 q.2), tt))) is in let e0 : x.0 ≡ y.0 = (decimal_one x.0 y.0 p.0 q.0 (ap (nth 0) ws)) in let e1 : x.1 ≡ y.1 = (guid_one x.1 y.1 p.1 q.1 (ap (nth 1) ws)) in let e2 : x.2 ≡ y.2 = (hexadecimal_one x.2 y.2 p.2 q.2 (ap (nth 2) ws)) in rw (e0, e1, e2) refl
+one_of OfVolume x y p q is = let ws = behind_one (codes "volume") (decimal x.0 ∷ hexadecimal x.1 ∷ decimal x.2 ∷ name_text x.3 ∷ []) (decimal y.0 ∷ hexadecimal y.1 ∷ decimal y.2 ∷ name_text y.3 ∷ []) ((decimal_32_plain x.0 p.0), ((hexadecimal_plain x.1 p.1), ((decimal_plain x.2 p.2), ((name_plain x.3 p.3), tt)))) ((decimal_32_plain y.0 q.0), ((hexadecimal_plain y.1 q.1), ((decimal_plain y.2 q.2), ((name_plain y.3 q.3), tt)))) is in let e0 : x.0 ≡ y.0 = (decimal_one x.0 y.0 p.0 q.0 (ap (nth 0) ws)) in let e1 : x.1 ≡ y.1 = (hexadecimal_one x.1 y.1 p.1 q.1 (ap (nth 1) ws)) in let e2 : x.2 ≡ y.2 = (wide_one x.2 y.2 p.2 q.2 (ap (nth 2) ws)) in let e3 : x.3 ≡ y.3 = (name_one x.3 y.3 p.3 q.3 (ap (nth 3) ws)) in rw (e0, e1, e2, e3) refl
+one_of OfModule x y p q is = let ws = behind_one (codes "module") (decimal x.0 ∷ decimal x.1 ∷ guid_text x.2 ∷ encode_lower (x.3 ∷ []) ∷ rank_text x.4 ∷ rank_text x.5 ∷ expression_text x.6 ∷ expression_text x.7 ∷ []) (decimal y.0 ∷ decimal y.1 ∷ guid_text y.2 ∷ encode_lower (y.3 ∷ []) ∷ rank_text y.4 ∷ rank_text y.5 ∷ expression_text y.6 ∷ expression_text y.7 ∷ []) ((decimal_32_plain x.0 p.0), ((decimal_32_plain x.1 p.1), ((guid_plain x.2), ((kind_plain x.3 p.3), ((rank_plain x.4 p.4), ((rank_plain x.5 p.5), ((expression_plain x.6 p.6), ((expression_plain x.7 p.7), tt)))))))) ((decimal_32_plain y.0 q.0), ((decimal_32_plain y.1 q.1), ((guid_plain y.2), ((kind_plain y.3 q.3), ((rank_plain y.4 q.4), ((rank_plain y.5 q.5), ((expression_plain y.6 q.6), ((expression_plain y.7 q.7), tt)))))))) is in let e0 : x.0 ≡ y.0 = (decimal_one x.0 y.0 p.0 q.0 (ap (nth 0) ws)) in let e1 : x.1 ≡ y.1 = (decimal_one x.1 y.1 p.1 q.1 (ap (nth 1) ws)) in let e2 : x.2 ≡ y.2 = (guid_one x.2 y.2 p.2 q.2 (ap (nth 2) ws)) in let e3 : x.3 ≡ y.3 = (kind_one x.3 y.3 p.3 q.3 (ap (nth 3) ws)) in let e4 : x.4 ≡ y.4 = (rank_one x.4 y.4 p.4 q.4 (ap (nth 4) ws)) in let e5 : x.5 ≡ y.5 = (rank_one x.5 y.5 p.5 q.5 (ap (nth 5) ws)) in let e6 : x.6 ≡ y.6 = (expression_one x.6 y.6 p.6 q.6 (ap (nth 6) ws)) in let e7 : x.7 ≡ y.7 = (expression_one x.7 y.7 p.7 q.7 (ap (nth 7) ws)) in rw (e0, e1, e2, e3, e4, e5, e6, e7) refl
 one_of OfRefusedUsage x y p q is = refl
 one_of OfRefusedPlan x y p q is = let ws = behind_one (codes "refused plan") (decimal x.0 ∷ plan_cause_text x.1 ∷ []) (decimal y.0 ∷ plan_cause_text y.1 ∷ []) ((decimal_32_plain x.0 p), ((plan_cause_text_plain x.1), tt)) ((decimal_32_plain y.0 q), ((plan_cause_text_plain y.1), tt)) is in let e0 : x.0 ≡ y.0 = (decimal_one x.0 y.0 p q (ap (nth 0) ws)) in let e1 : x.1 ≡ y.1 = (plan_cause_text_one x.1 y.1 (ap (nth 1) ws)) in rw (e0, e1) refl
-one_of OfRefusedImage x y p q is = let ws = behind_one (codes "refused image") (decimal x.0 ∷ decimal x.1 ∷ image_cause_text x.2 ∷ []) (decimal y.0 ∷ decimal y.1 ∷ image_cause_text y.2 ∷ []) ((decimal_32_plain x.0 p.0), ((decimal_64_plain x.1 p.1), ((image_cause_text_plain x.2), tt))) ((decimal_32_plain y.0 q.0), ((decimal_64_plain y.1 q.1), ((image_cause_text_plain y.2), tt))) is in let e0 : x.0 ≡ y.0 = (decimal_one x.0 y.0 p.0 q.0 (ap (nth 0) ws)) in let e1 : x.1 ≡ y.1 = (wide_one x.1 y.1 p.1 q.1 (ap (nth 1) ws)) in let e2 : x.2 ≡ y.2 = (image_cause_text_one x.2 y.2 (ap (nth 2) ws)) in rw (e0, e1, e2) refl
+one_of OfRefusedImage x y p q is = let ws = behind_one (codes "refused image") (decimal x.0 ∷ decimal x.1 ∷ image_cause_text x.2 ∷ []) (decimal y.0 ∷ decimal y.1 ∷ image_cause_text y.2 ∷ []) ((decimal_32_plain x.0 p.0), ((decimal_plain x.1 p.1), ((image_cause_text_plain x.2), tt))) ((decimal_32_plain y.0 q.0), ((decimal_plain y.1 q.1), ((image_cause_text_plain y.2), tt))) is in let e0 : x.0 ≡ y.0 = (decimal_one x.0 y.0 p.0 q.0 (ap (nth 0) ws)) in let e1 : x.1 ≡ y.1 = (wide_one x.1 y.1 p.1 q.1 (ap (nth 1) ws)) in let e2 : x.2 ≡ y.2 = (image_cause_text_one x.2 y.2 (ap (nth 2) ws)) in rw (e0, e1, e2) refl
 one_of OfCall x y p q is = call_one x.0 y.0 x.1 y.1 x.2 y.2 p q is
 one_of OfLog x y p q is = let e = word_one (codes "log") x.items y.items is in ap (λ items. L.Log (record { items = items })) e
 one_of OfHob x y p q is =

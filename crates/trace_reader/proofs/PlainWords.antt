@@ -12,22 +12,16 @@ use Rattle.boot_model.specs.declared.line.ExpressionWord.TheVariants as V
 use Rattle.pi_base.specs.WordText.{hexadecimal, guid_text}
 use Rattle.boot_model.specs.Text.{by_text, rank_text, name_text, expression_text}
 use Rattle.store_model.specs.declared.state.TheConstants.{CORE}
-use Rattle.trace_reader.specs.Plain.{IsPlain}
-use Rattle.trace_reader.specs.Readable.{IsGuid, IsRank, IsName, IsExpression, IsShown}
-use Rattle.trace_reader.proofs.Numerals.{numeral_plain}
+use Rattle.printed_words.specs.Words.{IsPlain}
+use Rattle.trace_reader.specs.Readable.{IsRank, IsName, IsExpression, IsShown}
+use Rattle.printed_words.proofs.PlainWords.{decimal_plain, guid_plain, encoded_plain}
 use Rattle.trace_reader.proofs.HexWords.{one_byte}
 
-pub decimal_64_plain : (n : ℕ) → n < 2 ^ 64 → IsPlain (decimal n)
-decimal_64_plain n fits = numeral_plain 10 n (omega arith) (omega arith) fits
-
 pub decimal_32_plain : (n : ℕ) → n < 2 ^ 32 → IsPlain (decimal n)
-decimal_32_plain n fits = decimal_64_plain n (omega arith)
+decimal_32_plain n fits = decimal_plain n (omega arith)
 
 pub decimal_16_plain : (n : ℕ) → n < 2 ^ 16 → IsPlain (decimal n)
-decimal_16_plain n fits = decimal_64_plain n (omega arith)
-
-pub hexadecimal_plain : (n : ℕ) → n < 2 ^ 64 → IsPlain (hexadecimal n)
-hexadecimal_plain n fits = numeral_plain 16 n (omega arith) (omega arith) fits
+decimal_16_plain n fits = decimal_plain n (omega arith)
 
 -- the core has a word, and a module its number
 pub core_is : by_text CORE ≡ 99 ∷ 111 ∷ 114 ∷ 101 ∷ []
@@ -43,29 +37,13 @@ either_plain false a b plain others = others
 pub by_plain : (by : ℕ) → by < 2 ^ 32 → IsPlain (by_text by)
 by_plain by fits = either_plain (eqb by CORE) (99 ∷ 111 ∷ 114 ∷ 101 ∷ []) (decimal by) refl (decimal_32_plain by fits)
 
--- a digit or a hyphen
-glyph_above : (digit : ℕ) → ltb 32 (hex_digit 97 digit) ≡ true
-glyph_above digit = grind (arith, nat_tests)
-
-place_above : (hyphen : Bool) (digit : ℕ) → ltb 32 (cond hyphen 45 (hex_digit 97 digit)) ≡ true
-place_above true digit = refl
-place_above false digit = glyph_above digit
-
-all_plain : (n : ℕ) (f : ℕ → ℕ) → ((k : ℕ) → ltb 32 (f k) ≡ true) → IsPlain (by_index n f)
-unfolding by_index
-all_plain zero f above = refl
-all_plain (suc n) f above = list_all-append (λ byte. ltb 32 byte) (by_index n f) (f n ∷ []) ∙ rw (all_plain n f above, above n) refl
-
-pub guid_plain : (guid : Guid) → IsGuid guid → IsPlain (guid_text guid)
-guid_plain guid is = all_plain 36 (λ k. cond (is_hyphen_place k) 45 (hex_digit 97 (nibble (swap_fields guid.0) (digit_place k)))) (λ k. place_above (is_hyphen_place k) (nibble (swap_fields guid.0) (digit_place k)))
-
 pub rank_plain : (rank : Option ℕ) → IsRank rank → IsPlain (rank_text rank)
 rank_plain None fits = refl
 rank_plain (Some rank) fits = decimal_32_plain rank fits
 
 pub name_plain : (name : Option Guid) → IsName name → IsPlain (name_text name)
 name_plain None fits = refl
-name_plain (Some name) fits = guid_plain name fits
+name_plain (Some name) fits = guid_plain name
 
 both_plain : (a b : List ℕ) → IsPlain a → IsPlain b → IsPlain (a ++ b)
 both_plain a b front back = list_all-append (λ byte. ltb 32 byte) a b ∙ rw (front, back) refl
@@ -77,21 +55,8 @@ expression_plain V.Absent fits = refl
 expression_plain (V.Malformed at) fits = decimal_32_plain at fits
 expression_plain V.Tree fits = refl
 expression_plain V.Sor fits = refl
-expression_plain (V.Before name) fits = guid_plain name fits
-expression_plain (V.After name) fits = guid_plain name fits
-
--- a half of a byte
-digit_above : (digit : ℕ) → digit < 16 → ltb 32 (slice_index lower_digits digit) ≡ true
-digit_above digit below = AllPass-from_list_all (λ b. ltb 32 b) lower_digits refl digit 0 below
-
-pub encoded_plain : (bytes : List ℕ) → IsBytes bytes → IsPlain (encode_lower bytes)
-unfolding encode_with
-encoded_plain [] fits = refl
-encoded_plain (byte ∷ bytes) fits =
-    let here : byte < 256 = fits 0 in
-    let high = digit_above (byte / 16) (omega arith) in
-    let low = digit_above (byte % 16) (omega arith) in
-    rw (high, low) (encoded_plain bytes (λ k. fits (suc k)))
+expression_plain (V.Before name) fits = guid_plain name
+expression_plain (V.After name) fits = guid_plain name
 
 pub kind_plain : (kind : ℕ) → kind < 2 ^ 8 → IsPlain (encode_lower (kind ∷ []))
 kind_plain kind fits = encoded_plain (kind ∷ []) (one_byte kind fits)

@@ -10,17 +10,10 @@ use Rattle.std.proofs.lemmas.Bool.{and_parts}
 use Rattle.std.proofs.lemmas.Bool.Decides.{nat_tests, Decides-eqb}
 use Rattle.std.proofs.lemmas.Slice.Eq.{slice_eq-Decides}
 use Rattle.boot_io.specs.Line.{spaced}
-use Rattle.trace_reader.specs.Finds.{Finds}
-use Rattle.trace_reader.specs.Plain.{IsPlain}
+use Rattle.printed_words.specs.Words.{Finds, IsPlain}
 
 abbrev pub is_byte : ℕ → ℕ → Bool
 is_byte sought byte = eqb byte sought
-
--- the place of the first such byte
-pub place_is : (bytes : List ℕ) (sought i : ℕ) → i ≤ length bytes → ((k : ℕ) → k < i → get_or bytes k 0 ≡ sought → ⊥) → (i < length bytes → get_or bytes i 0 ≡ sought)
-    → i ≡ position_or_len (λ b. eqb b sought) bytes
-place_is bytes sought i within none here =
-    sym (position_or_len_is (is_byte sought) bytes i 0 within (λ k h. let n : get_or bytes k 0 ≢ sought = none k h in grind (arith, nat_tests)) (λ h. let n : get_or bytes i 0 ≡ sought = here h in grind (arith, nat_tests)))
 
 -- the first space behind a word stands at its end
 pub word_place : (word : List ℕ) (words : List (List ℕ)) → IsPlain word → position_or_len (is_byte 32) (word ++ flat_map spaced words) ≡ length word
@@ -38,28 +31,6 @@ cut_front text word words n plain is place = rw (place, is, word_place word word
 
 pub cut_back : (text word : List ℕ) (words : List (List ℕ)) (n : ℕ) → IsPlain word → text ≡ word ++ flat_map spaced words → n ≡ position_or_len (is_byte 32) text → drop n text ≡ flat_map spaced words
 cut_back text word words n plain is place = rw (place, is, word_place word words plain) (drop_at word (flat_map spaced words) (length word) refl)
-
--- whether a line begins with a keyword
-begins : (front keyword : List ℕ) → Decides (pointwise eqb front keyword) (front ≡ keyword)
-begins front keyword = slice_eq-Decides Decides-eqb front keyword (pointwise eqb front keyword) refl
-
-pub front_there : (bytes front rest : List ℕ) → pointwise eqb (take (length front) bytes) front ≡ true → rest ≡ drop (length front) bytes → bytes ≡ front ++ rest
-front_there bytes front rest same is =
-    rw is (sym (take-append-drop (length front) bytes) ∙ ap (λ there. there ++ drop (length front) bytes) ((begins (take (length front) bytes) front).0 same))
-
-pub front_not_there : (bytes front rest : List ℕ) → pointwise eqb (take (length front) bytes) front ≡ false → bytes ≡ front ++ rest → ⊥
-front_not_there bytes front rest other is =
-    let there : take (length front) bytes ≡ front = rw is (take_at front rest (length front) refl) in
-    let same : pointwise eqb (take (length front) bytes) front ≡ true = (begins (take (length front) bytes) front).1 there in
-    cc
-
--- what `strip_prefix` answers
-pub stripped : (bytes front : List ℕ) (r : Option (Bor (List ℕ)))
-    → MatchOption r (pointwise eqb (take (length front) bytes) front ≡ false)
-    (λ rest. (pointwise eqb (take (length front) bytes) front ≡ true) × (rest.now ≡ drop (length front) bytes) × (length rest.now + length front ≡ length bytes))
-    → MatchOption r ((rest : List ℕ) → bytes ≡ front ++ rest → ⊥) (λ rest. bytes ≡ front ++ rest.now)
-stripped bytes front (Some rest) is = front_there bytes front rest.now is.0 is.1
-stripped bytes front None other = λ rest is. front_not_there bytes front rest other is
 
 -- what follows a front is one
 pub behind_is : (bytes front rest others : List ℕ) → bytes ≡ front ++ rest → bytes ≡ front ++ others → rest ≡ others

@@ -1,5 +1,3 @@
-pub mod Finds
-pub mod Plain
 pub mod Readable
 pub mod Trace
 pub mod Lacking

@@ -16,11 +16,7 @@ use Rattle.boot_model.specs.declared.line.Extra.TheVariants as E
 use Rattle.boot_model.specs.declared.line.ExpressionWord.{ExpressionWord}
 use Rattle.boot_model.specs.declared.line.ExpressionWord.TheVariants as V
 use Rattle.boot_model.specs.Text.{keyword, words}
-use Rattle.trace_reader.specs.Plain.{Lacks}
-
--- sixteen bytes
-abbrev pub IsGuid : Guid → Type 0
-IsGuid guid = (length guid.0 ≡ 16) × IsBytes guid.0
+use Rattle.printed_words.specs.Words.{IsGuid, Lacks}
 
 abbrev pub IsRank : Option ℕ → Type 0
 IsRank None = ⊤

@@ -5,17 +5,16 @@ ghost use Rattle.std.specs.List.{list_all};
 ghost use Rattle.hex.specs.Hex.{IsBytes, encode_lower};
 ghost use Rattle.boot_io.specs.Line.{spaced};
 ghost use Rattle.boot_model.specs.Text.{bytes_text};
-ghost use Rattle.trace_reader.specs.Finds.{Finds};
-ghost use Rattle.trace_reader.specs.Plain.{Lacks};
+ghost use Rattle.printed_words.specs.Words.{Finds, Lacks};
 ghost use Rattle.trace_reader.specs.Readable.{IsLineOf, IsLogged, is_printable};
 ghost use Rattle.trace_reader.specs.Lacking.{LacksLogLines, LacksHobLines, LacksFileLines};
 
-use crate::field::Field;
+use crate::field::{Field, SPACE};
 use crate::name_word::is_dash;
-use crate::place::{SPACE, behind, place_of};
 use arrayvec::ArrayVec;
 use boot_model::{Line, SHOWN_LEN};
 use pi_base::{OutOfMemory, Seq};
+use printed_words::{behind, place_of};
 use std::alloc::Global;
 
 const TILDE: u8 = b'~';

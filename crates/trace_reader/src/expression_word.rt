@@ -1,14 +1,14 @@
 // Words of expressions.
 ghost use Rattle.std.specs.Prelude.{◌≡◌, ◌++◌, IfSome, IsNone};
 ghost use Rattle.boot_model.specs.Text.{expression_text};
-ghost use Rattle.trace_reader.specs.Finds.{Finds};
+ghost use Rattle.printed_words.specs.Words.{Finds};
 ghost use Rattle.trace_reader.specs.Readable.{IsExpression};
 ghost use Rattle.trace_reader.specs.Lacking.{LacksPlainExpressions};
 
 use crate::field::Field;
-use crate::place::behind;
 use boot_model::ExpressionWord;
 use pi_base::Guid;
+use printed_words::behind;
 
 // What a field shows behind a front.
 fn read_behind<F: Field>(word: &[u8], front: &[u8]) -> Option<F>

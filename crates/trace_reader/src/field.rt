@@ -1,16 +1,16 @@
 // The words of a line, each as the value that it shows.
 ghost use Rattle.std.specs.Prelude.{◌≡◌, ◌++◌, ℕ, List, [], ◌∷◌, ⊤, flat_map};
 ghost use Rattle.boot_io.specs.Line.{spaced};
-ghost use Rattle.trace_reader.specs.Finds.{Finds};
-ghost use Rattle.trace_reader.specs.Plain.{IsPlain};
+ghost use Rattle.printed_words.specs.Words.{Finds, IsPlain};
 
-use crate::place::{SPACE, behind, place_of};
+use printed_words::{behind, place_of};
+
+pub(crate) const SPACE: u8 = b' ';
 
 // What one word of a line shows.
 pub(crate) trait Field: Sized {
     ghost use Rattle.std.specs.Prelude.{◌≡◌, ℕ, List};
-    ghost use Rattle.trace_reader.specs.Finds.{Finds};
-    ghost use Rattle.trace_reader.specs.Plain.{IsPlain};
+    ghost use Rattle.printed_words.specs.Words.{Finds, IsPlain};
 
     // The word of a value, and which values there are.
     ghost shows: { Self → List ℕ };

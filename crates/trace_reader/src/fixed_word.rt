@@ -1,7 +1,7 @@
 // The fixed words of lines.
 ghost use Rattle.std.specs.Prelude.{◌≡◌, List, ℕ, ⊤};
 ghost use Rattle.std.specs.List.{Contains};
-ghost use Rattle.trace_reader.specs.Finds.{Finds};
+ghost use Rattle.printed_words.specs.Words.{Finds};
 ghost use Rattle.pi_base.specs.WordText.{word_text};
 ghost use Rattle.boot_model.specs.Text.{licence_text, call_text, reason_text, end_text, plan_cause_text, image_cause_text};
 

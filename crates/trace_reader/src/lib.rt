@@ -17,7 +17,6 @@ mod move_line;
 mod name_word;
 mod notify_line;
 mod number;
-mod place;
 mod reading_law;
 mod refusal_line;
 mod starting_line;

@@ -3,25 +3,23 @@ ghost use Rattle.std.specs.Prelude.{◌≡◌};
 ghost use Rattle.std.specs.Bool.{Decides};
 ghost use Rattle.pi_base.specs.WordText.{guid_text};
 ghost use Rattle.boot_model.specs.Text.{dash, name_text, rank_text};
-ghost use Rattle.trace_reader.specs.Readable.{IsGuid, IsName, IsRank};
+ghost use Rattle.printed_words.specs.Words.{IsGuid};
+ghost use Rattle.trace_reader.specs.Readable.{IsName, IsRank};
 
 use crate::field::Field;
 use pi_base::Guid;
+use printed_words::guid_of;
 
 impl Field for Guid {
     ghost use Rattle.pi_base.specs.WordText.{guid_text};
-    ghost use Rattle.trace_reader.specs.Readable.{IsGuid};
+    ghost use Rattle.printed_words.specs.Words.{IsGuid};
 
     ghost shows = { guid_text };
 
     ghost fits = { IsGuid };
 
-    #[tactic(auto, using(crate::proofs::PlainWords::guid_plain))]
     fn read(word: &[u8]) -> Option<Guid> {
-        match Guid::from_text(word) {
-            Some(guid) if guid.to_text().as_slice() == word => Some(guid),
-            _ => None,
-        }
+        guid_of(word)
     }
 }
 

@@ -1,26 +1,14 @@
 // Reading the text of a trace.
-ghost use Rattle.std.specs.Prelude.{◌≡◌, ◌<◌, ◌-◌, ◌^◌, ◌++◌, ◌∷◌, length, IfOk, IfErr, MatchOption};
+ghost use Rattle.std.specs.Prelude.{◌<◌, ◌-◌, ◌^◌, length, IfOk, IfErr};
 ghost use Rattle.boot_model.specs.declared.line.Line.{Line};
-ghost use Rattle.trace_reader.specs.Plain.{Lacks};
 ghost use Rattle.trace_reader.specs.Trace.{IsTrace, IsFaultOf};
 
 use crate::fault::TraceFault;
 use crate::line::read_line;
-use crate::place::{LINE_FEED, place_of};
 use boot_model::Line;
 use pi_base::{OutOfMemory, Seq};
+use printed_words::first_line;
 use std::alloc::Global;
-
-// The first line of a text without its line feed, and what follows it.
-fn first_line(text: &[u8]) -> Option<(&[u8], &[u8])>
-    ensures { MatchOption result (Lacks 10 text.now) (λ parts. (text.now ≡ parts.0.now ++ 10 ∷ parts.1.now) × Lacks 10 parts.0.now) }
-{
-    let (line, rest) = text.split_at(place_of(text, LINE_FEED));
-    match rest {
-        [_, after @ ..] => Some((line, after)),
-        [] => None,
-    }
-}
 
 /// Reads the text of a trace, of fewer than 2^32 - 1 bytes: the readable lines whose texts it is, or the first line that is none's.
 pub fn read_trace(alloc: Global, text: &[u8]) -> Result<Seq<Line>, TraceFault>

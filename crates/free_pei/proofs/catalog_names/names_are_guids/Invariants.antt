@@ -1,6 +1,6 @@
 use Rattle.std.proofs.Common.{take}
 use Rattle.pi_base.specs.Lists.{Each}
-use Rattle.trace_reader.specs.Readable.{IsGuid}
+use Rattle.printed_words.specs.Words.{IsGuid}
 use Rattle.free_pei.proofs.catalog_names.names_are_guids.Given as goal
 
 abbrev pub invariant-modules : goal.invariant-modules

@@ -1,13 +1,5 @@
-use Rattle.std.proofs.Common.{◌∙◌, sym, ap, option_map}
-use Rattle.trace_reader.proofs.GuidWords.{guid_not_none, guid_same}
-use Rattle.trace_reader.proofs.HexWords.{not_same}
+use Rattle.printed_words.proofs.PlainWords.{guid_plain}
 use Rattle.trace_reader.proofs.name_word.GuidField.read.Goals as goal
 
-pub returns-in_default-clause-found : goal.returns-in_default-clause-found
-returns-in_default-clause-found c = λ guid is.
-    let read = ap (option_map (λ g. g.0)) (sym c.in-Some.is) ∙ c.from_text.ensures in
-    let text = guid_same c.args.word.now guid c.in-Some.guid is.0 is.1 read in
-    not_same _ _ _ c.eq.ensures c.if-eq.false (c.as_slice.ensures ∙ c.to_text.ensures ∙ text)
-
-pub returns-in_default-2-clause-found : goal.returns-in_default-2-clause-found
-returns-in_default-2-clause-found c = λ guid is. guid_not_none c.args.word.now guid is.0 is.1 (ap (option_map (λ g. g.0)) (sym c.in_default.is) ∙ c.from_text.ensures)
+pub returns-clause-plain : goal.returns-clause-plain
+returns-clause-plain c = λ value fits. guid_plain value

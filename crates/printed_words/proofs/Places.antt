@@ -1,0 +1,34 @@
+-- The first place of a byte, and what follows a front.
+use Rattle.std.proofs.Common.{◌≡◌, ◌≢◌, ℕ, ◌+◌, ◌<◌, ◌≤◌, true, false, eqb, List, ◌++◌, length, take, drop, refl, sym, ap, ◌∙◌, arith, get_or, Option, Some, None}
+use Rattle.std.specs.Option.{MatchOption}
+use Rattle.std.specs.Borrow.{Bor}
+use Rattle.std.specs.Cmp.Lexicographic.{pointwise}
+use Rattle.std.specs.List.{position_or_len}
+use Rattle.std.proofs.lemmas.List.{take_at, take-append-drop}
+use Rattle.std.proofs.lemmas.List.Sums.{position_or_len_is}
+use Rattle.std.proofs.lemmas.Bool.Decides.{nat_tests}
+use Rattle.printed_words.proofs.Comparisons.{same}
+
+-- the place of the first such byte
+pub place_is : (bytes : List ℕ) (sought i : ℕ) → i ≤ length bytes → ((k : ℕ) → k < i → get_or bytes k 0 ≡ sought → ⊥) → (i < length bytes → get_or bytes i 0 ≡ sought)
+    → i ≡ position_or_len (λ b. eqb b sought) bytes
+place_is bytes sought i within none here =
+    sym (position_or_len_is (λ b. eqb b sought) bytes i 0 within (λ k h. let n : get_or bytes k 0 ≢ sought = none k h in grind (arith, nat_tests)) (λ h. let n : get_or bytes i 0 ≡ sought = here h in grind (arith, nat_tests)))
+
+front_there : (bytes front rest : List ℕ) → pointwise eqb (take (length front) bytes) front ≡ true → rest ≡ drop (length front) bytes → bytes ≡ front ++ rest
+front_there bytes front rest test is =
+    rw is (sym (take-append-drop (length front) bytes) ∙ ap (λ there. there ++ drop (length front) bytes) ((same (take (length front) bytes) front).0 test))
+
+front_not_there : (bytes front rest : List ℕ) → pointwise eqb (take (length front) bytes) front ≡ false → bytes ≡ front ++ rest → ⊥
+front_not_there bytes front rest other is =
+    let there : take (length front) bytes ≡ front = rw is (take_at front rest (length front) refl) in
+    let yes : pointwise eqb (take (length front) bytes) front ≡ true = (same (take (length front) bytes) front).1 there in
+    cc
+
+-- what `strip_prefix` answers
+pub stripped : (bytes front : List ℕ) (r : Option (Bor (List ℕ)))
+    → MatchOption r (pointwise eqb (take (length front) bytes) front ≡ false)
+    (λ rest. (pointwise eqb (take (length front) bytes) front ≡ true) × (rest.now ≡ drop (length front) bytes) × (length rest.now + length front ≡ length bytes))
+    → MatchOption r ((rest : List ℕ) → bytes ≡ front ++ rest → ⊥) (λ rest. bytes ≡ front ++ rest.now)
+stripped bytes front (Some rest) is = front_there bytes front rest.now is.0 is.1
+stripped bytes front None other = λ rest is. front_not_there bytes front rest other is
