@@ -8,8 +8,9 @@ ghost use Rattle.asm_text.specs.WordReading.{space_place, word_at, number_word, 
 use crate::front::behind;
 use crate::unread::Unread;
 use hex::FromHexError;
+use line_words::place_of;
 use pi_base::{Seq, Word};
-use printed_words::{decimal_of, hexadecimal_of, place_of};
+use printed_words::{decimal_of, hexadecimal_of};
 use std::alloc::Global;
 
 const SPACE: u8 = b' ';

@@ -25,12 +25,12 @@ use Rattle.free_laws.specs.DxeUnderWay.{FewDriversWait, IsDriverOf, IsUnderWay}
 use Rattle.free_text.specs.declared.spelled.Spelled.{Spelled}
 use Rattle.free_text.specs.Lines.{BeginsWithLine, Lacks, is_feed}
 use Rattle.free_text.specs.Spelled.{IsRight, left}
-use Rattle.module_names.specs.Named.{AreNames, IsNamed}
+use Rattle.module_names.specs.Named.{AreGuids, AreNames, IsNamed}
 use Rattle.printed_words.specs.Words.{IsGuid}
 use Rattle.trace_reader.specs.Readable.{IsLineOf, IsReadable}
 use Rattle.trace_reader.proofs.LineBodies.{body_lacks, line_then, same_line}
 use Rattle.trace_reader.proofs.OneReading.{text_one}
-use Rattle.free_check.specs.DxeAim.{AreGuids, BeginsWithStart, LeadsTo, NamesNext}
+use Rattle.free_check.specs.DxeAim.{BeginsWithStart, LeadsTo, NamesNext}
 use Rattle.free_check.proofs.FreeSteps.{AreReadable}
 
 -- a step on the way to the root

@@ -2,7 +2,6 @@
 -- Own; PI 1.8, volume 2, "DXE Dispatcher", leaves the order of the drivers that may start to the dispatcher.
 use Rattle.std.specs.Prelude.{◌≡◌, ℕ, ◌<◌, List, [], ◌∷◌, ◌++◌, Option, Some, None, length}
 use Rattle.pi_base.specs.declared.guid.Guid.{Guid}
-use Rattle.pi_base.specs.Lists.{Each}
 use Rattle.depex_code.specs.declared.depex.Depex.TheVariants as D
 use Rattle.catalog_model.specs.declared.catalog.Catalog.{Catalog}
 use Rattle.catalog_model.specs.declared.catalog.PartExpr.{PartExpr}
@@ -23,7 +22,6 @@ use Rattle.free_laws.specs.DxeUnderWay.{IsUnderWay}
 use Rattle.free_text.specs.declared.spelled.Spelled.{Spelled}
 use Rattle.free_text.specs.Spelled.{IsRight, left}
 use Rattle.module_names.specs.Named.{AreNames}
-use Rattle.printed_words.specs.Words.{IsGuid}
 use Rattle.trace_reader.specs.Readable.{IsReadable}
 
 -- the name that an expression gives, in BEFORE or in AFTER
@@ -33,10 +31,6 @@ given_by (E.Malformed at) = None
 given_by (E.Held (D.Before name)) = Some name
 given_by (E.Held (D.After name)) = Some name
 given_by (E.Held (D.Expr sor node)) = None
-
--- each file name is a GUID
-abbrev pub AreGuids : Catalog → Type 0
-AreGuids catalog = Each (λ m. IsGuid m.name) catalog.modules
 
 -- the bytes begin with the line of the start of a driver
 pub record BeginsWithStart (catalog : Catalog) (next : Scheduled) (bytes : List ℕ) : Type 0 where

@@ -4,8 +4,8 @@ ghost use Rattle.boot_model.specs.DxeMachine.{DxeMachine};
 ghost use Rattle.catalog_model.specs.WellFormed.{IsWellFormed};
 ghost use Rattle.dxe_choice.specs.Queue.{IsQueueFor};
 ghost use Rattle.dxe_dispatch.specs.Turns.{AreOf};
-ghost use Rattle.free_check.specs.DxeAim.{AimsByText, AreGuids, LeadsByText};
-ghost use Rattle.module_names.specs.Named.{AreNames};
+ghost use Rattle.free_check.specs.DxeAim.{AimsByText, LeadsByText};
+ghost use Rattle.module_names.specs.Named.{AreGuids, AreNames};
 
 use crate::dxe_next::next_start;
 use crate::dxe_target::root_of;

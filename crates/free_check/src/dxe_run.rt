@@ -10,7 +10,6 @@ ghost use Rattle.free_check.specs.DxeRun.{FollowsDxe};
 ghost use Rattle.free_text.specs.Spelled.{IsRight};
 ghost use Rattle.module_names.specs.Named.{AreNames};
 
-use crate::dxe_guids::names_are_guids;
 use crate::dxe_turn::turn_by_text;
 use boot_laws::{discovered_order_has_each_once, unrequested_drivers_wait};
 use boot_model::{DxeEnd, MOST_FRAMES};
@@ -20,7 +19,7 @@ use dxe_choice::DriverQueue;
 use dxe_core::{Dxe, put_volumes};
 use free_laws::{dxe_ends, dxe_lines_grow, dxe_opens};
 use free_text::{Parted, Spelled, text_tells};
-use module_names::Names;
+use module_names::{Names, names_are_guids};
 use std::sync::ledger::Ledger;
 use store_model::PeiStore;
 

@@ -4,10 +4,9 @@ ghost use Rattle.boot_model.specs.DxeMachine.{DxeMachine};
 ghost use Rattle.catalog_model.specs.WellFormed.{IsWellFormed};
 ghost use Rattle.dxe_choice.specs.Queue.{IsQueueFor};
 ghost use Rattle.dxe_core.specs.Standing.{IsFor};
-ghost use Rattle.free_check.specs.DxeAim.{AreGuids};
 ghost use Rattle.free_check.specs.DxeTurn.{GoesOn, IsOnWay, TurnsByText};
 ghost use Rattle.free_text.specs.Spelled.{IsRight};
-ghost use Rattle.module_names.specs.Named.{AreNames};
+ghost use Rattle.module_names.specs.Named.{AreGuids, AreNames};
 
 use crate::dxe_aim::aim_by_text;
 use boot_model::DxeEnd;

@@ -4,7 +4,6 @@
 mod checking;
 mod closing;
 mod dxe_aim;
-mod dxe_guids;
 mod dxe_next;
 mod dxe_run;
 mod dxe_target;

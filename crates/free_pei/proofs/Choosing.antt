@@ -35,7 +35,7 @@ use Rattle.trace_reader.proofs.LineBodies.{body_lacks}
 use Rattle.pei_choice.specs.declared.queue.PeiQueue.{PeiQueue}
 use Rattle.pei_choice.specs.Queue.{parts_in}
 use Rattle.pei_core.specs.Steps.{IsIdle}
-use Rattle.free_pei.specs.Names.{AreGuids}
+use Rattle.module_names.specs.Named.{AreGuids}
 use Rattle.free_pei.specs.Starting.{IsAimed, StartsNext, start_of}
 use Rattle.free_pei.proofs.Facts.{IsPartOfModule, part_of_module}
 use Rattle.free_pei.proofs.Lines.{begins_with_line, body}

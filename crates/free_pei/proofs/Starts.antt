@@ -32,7 +32,7 @@ use Rattle.pei_core.specs.Turn.{Printed, PrintedPart}
 use Rattle.pei_dispatch.specs.Turns as D
 use Rattle.pei_dispatch.specs.Turns.{HasTurned, IsNow, IsOver}
 use Rattle.free_pei.specs.ByText.{FromOpening, GoesOn, HasEnded, IsAtTurn, TurnsTo}
-use Rattle.free_pei.specs.Names.{AreGuids}
+use Rattle.module_names.specs.Named.{AreGuids}
 use Rattle.free_pei.specs.Starting.{IsAimed, start_of}
 use Rattle.free_pei.proofs.Choosing.{Choice, IsChoice, each_start, idle_starts, idle_stops, prints_start, some_first, start_is_free}
 use Rattle.free_pei.proofs.Going.{Laws, LeadsOn, GoOnFrom, cursor_stands, followed_on, go_on_by_lines, off_on, own_followed, own_off, stands_anywhere, text_texts}

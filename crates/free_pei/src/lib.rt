@@ -2,7 +2,6 @@
 #![tactic(auto)]
 
 mod aim;
-mod catalog_names;
 mod opening;
 mod run;
 mod turn;

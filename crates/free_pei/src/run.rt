@@ -10,7 +10,6 @@ ghost use Rattle.pei_choice.specs.Queue.{IsNewQueue};
 ghost use Rattle.pei_core.specs.Standing.{StandsFor, IsFor};
 ghost use Rattle.free_pei.specs.ByText.{Runs};
 
-use crate::catalog_names::names_are_guids;
 use crate::opening::open_queue;
 use crate::turn::turn_by_text;
 use boot_model::{MOST_FRAMES, PeiEnd};
@@ -18,7 +17,7 @@ use catalog_model::Catalog;
 use depex_code::Steps;
 use free_laws::{pei_ends, pei_lines_grow, pei_opens};
 use free_text::{Parted, Spelled, text_tells};
-use module_names::Names;
+use module_names::{Names, names_are_guids};
 use pei_choice::PeiQueue;
 use pei_core::{Pei, put_reports};
 use std::sync::ledger::Ledger;

@@ -5,7 +5,7 @@ mod line;
 mod number;
 mod words;
 
-pub use line::{first_line, is_passed_over};
+pub use line::{first_line, is_passed_over, place_of};
 pub use number::number_of;
 pub use words::{first_word, is_plain};
 

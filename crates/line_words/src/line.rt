@@ -11,8 +11,8 @@ const CARRIAGE_RETURN: u8 = b'\r';
 
 const COMMENT: u8 = b'#';
 
-// The place of the first such byte, or the length.
-pub(crate) fn place_of(bytes: &[u8], sought: u8) -> usize
+/// The place of the first such byte, or the length.
+pub fn place_of(bytes: &[u8], sought: u8) -> usize
     ensures first { result ≡ position_or_len (λ b. b == sought) bytes.now }
     ensures within { result ≤ length bytes.now }
 {

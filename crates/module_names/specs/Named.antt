@@ -2,9 +2,15 @@
 use Rattle.std.specs.Prelude.{◌≡◌, ◌<◌, ℕ, List, Option, Some, slice_get, length}
 use Rattle.std.specs.Option.{option_and_then}
 use Rattle.pi_base.specs.declared.guid.Guid.{Guid}
+use Rattle.pi_base.specs.Lists.{Each}
+use Rattle.printed_words.specs.Words.{IsGuid}
 use Rattle.guid_map.specs.GuidMap.{value_of}
 use Rattle.catalog_model.specs.declared.catalog.Catalog.{Catalog}
 use Rattle.catalog_model.specs.Parts.{module_name, module_volume}
+
+-- each file name is a GUID
+abbrev pub AreGuids : Catalog → Type 0
+AreGuids catalog = Each (λ m. IsGuid m.name) catalog.modules
 
 -- the module of this number is in the volume and has the file name
 pub record IsNamed (catalog : Catalog) (volume : ℕ) (name : Guid) (number : ℕ) : Type 0 where

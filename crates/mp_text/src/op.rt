@@ -1,11 +1,12 @@
 // Operations and jobs.
 ghost use Rattle.std.specs.Prelude.{◌≡◌, ◌≢◌, ◌≤◌, ◌==◌, length, slice_index, IfSome, IfOk};
-ghost use Rattle.std.specs.List.{position_or_len, before_first, after_first};
+ghost use Rattle.std.specs.List.{before_first, after_first};
 ghost use Rattle.line_words.specs.Words.{words};
 ghost use Rattle.mp_core.specs.Calls.{IsOp, IsJob};
 ghost use Rattle.mp_text.specs.LineText.{add_of, op_of, job_of};
 
 use crate::word::{decimal_of, next_word, number_below};
+use line_words::place_of;
 use mp_core::{MOST_OPS, Op};
 use pi_base::{OutOfMemory, Seq};
 use std::alloc::Global;
@@ -19,19 +20,6 @@ const EQUALS: u8 = b'=';
 
 // What stands between a cell and a number.
 const COLON: u8 = b':';
-
-// The place of the first such sign, or the length.
-fn place_of(text: &[u8], sign: u8) -> usize
-    ensures first { result ≡ position_or_len (λ byte. byte == sign) text.now }
-    ensures within { result ≤ length text.now }
-{
-    'search: for (place, byte) in text.iter().enumerate() {
-        if *byte == sign {
-            return place;
-        }
-    }
-    text.len()
-}
 
 // What stands before the first such sign, and what stands behind it.
 fn parted(text: &[u8], sign: u8) -> (&[u8], &[u8])

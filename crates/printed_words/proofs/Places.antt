@@ -1,4 +1,4 @@
--- The first place of a byte, and what follows a front.
+-- What follows a front.
 use Rattle.std.proofs.Common.{◌≡◌, ◌≢◌, ℕ, ◌+◌, ◌<◌, ◌≤◌, true, false, eqb, List, ◌++◌, length, take, drop, refl, sym, ap, ◌∙◌, arith, get_or, Option, Some, None}
 use Rattle.std.specs.Option.{MatchOption}
 use Rattle.std.specs.Borrow.{Bor}
@@ -8,12 +8,6 @@ use Rattle.std.proofs.lemmas.List.{take_at, take-append-drop}
 use Rattle.std.proofs.lemmas.List.Sums.{position_or_len_is}
 use Rattle.std.proofs.lemmas.Bool.Decides.{nat_tests}
 use Rattle.printed_words.proofs.Comparisons.{same}
-
--- the place of the first such byte
-pub place_is : (bytes : List ℕ) (sought i : ℕ) → i ≤ length bytes → ((k : ℕ) → k < i → get_or bytes k 0 ≡ sought → ⊥) → (i < length bytes → get_or bytes i 0 ≡ sought)
-    → i ≡ position_or_len (λ b. eqb b sought) bytes
-place_is bytes sought i within none here =
-    sym (position_or_len_is (λ b. eqb b sought) bytes i 0 within (λ k h. let n : get_or bytes k 0 ≢ sought = none k h in grind (arith, nat_tests)) (λ h. let n : get_or bytes i 0 ≡ sought = here h in grind (arith, nat_tests)))
 
 front_there : (bytes front rest : List ℕ) → pointwise eqb (take (length front) bytes) front ≡ true → rest ≡ drop (length front) bytes → bytes ≡ front ++ rest
 front_there bytes front rest test is =

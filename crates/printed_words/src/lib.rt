@@ -1,4 +1,4 @@
-//! The words of a printed text, read back, each as the value of which it is the print (own): numbers and GUIDs, where a byte stands, and the lines that line feeds end.
+//! The words of a printed text, read back, each as the value of which it is the print (own): numbers and GUIDs, and the lines that line feeds end.
 #![tactic(auto)]
 
 mod guid;
@@ -7,7 +7,7 @@ mod place;
 
 pub use guid::guid_of;
 pub use number::{decimal_of, hexadecimal_of};
-pub use place::{behind, first_line, place_of};
+pub use place::{behind, first_line};
 
 #[cfg(test)]
 mod tests;

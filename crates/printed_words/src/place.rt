@@ -1,22 +1,10 @@
-// Where a byte stands, and what stands before and behind it.
-ghost use Rattle.std.specs.Prelude.{◌≡◌, ◌≢◌, ◌≤◌, ◌==◌, ◌++◌, ◌∷◌, ℕ, List, length, MatchOption};
-ghost use Rattle.std.specs.List.{position_or_len};
+// What stands behind a front, and the lines that line feeds end.
+ghost use Rattle.std.specs.Prelude.{◌≡◌, ◌≢◌, ◌++◌, ◌∷◌, ℕ, List, MatchOption};
 ghost use Rattle.printed_words.specs.Words.{Lacks};
 
-const LINE_FEED: u8 = b'\n';
+use line_words::place_of;
 
-/// The place of the first such byte, or the length.
-pub fn place_of(bytes: &[u8], sought: u8) -> usize
-    ensures first { result ≡ position_or_len (λ b. b == sought) bytes.now }
-    ensures within { result ≤ length bytes.now }
-{
-    'search: for (place, byte) in bytes.iter().enumerate() {
-        if *byte == sought {
-            return place;
-        }
-    }
-    bytes.len()
-}
+const LINE_FEED: u8 = b'\n';
 
 /// What follows a front of the bytes. None where they do not begin so.
 pub fn behind<'a>(bytes: &'a [u8], front: &[u8]) -> Option<&'a [u8]>

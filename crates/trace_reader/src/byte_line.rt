@@ -13,8 +13,9 @@ use crate::field::{Field, SPACE};
 use crate::name_word::is_dash;
 use arrayvec::ArrayVec;
 use boot_model::{Line, SHOWN_LEN};
+use line_words::place_of;
 use pi_base::{OutOfMemory, Seq};
-use printed_words::{behind, place_of};
+use printed_words::behind;
 use std::alloc::Global;
 
 const TILDE: u8 = b'~';

@@ -3,7 +3,8 @@ ghost use Rattle.std.specs.Prelude.{◌≡◌, ◌++◌, ℕ, List, [], ◌∷�
 ghost use Rattle.boot_io.specs.Line.{spaced};
 ghost use Rattle.printed_words.specs.Words.{Finds, IsPlain};
 
-use printed_words::{behind, place_of};
+use line_words::place_of;
+use printed_words::behind;
 
 pub(crate) const SPACE: u8 = b' ';
 

@@ -1,5 +1,5 @@
-// The file names of a catalogue.
-ghost use Rattle.free_pei.specs.Names.{AreGuids};
+//! The file names of a catalogue are GUIDs.
+ghost use Rattle.module_names.specs.Named.{AreGuids};
 ghost use Rattle.printed_words.specs.Words.{IsGuid};
 
 use catalog_model::Catalog;
@@ -10,8 +10,8 @@ fn is_guid(name: Guid)
     ensures { IsGuid name }
 {}
 
-/// The file name of each module is sixteen bytes: nothing is left to test.
-pub(crate) fn names_are_guids(catalog: &Catalog)
+/// The file name of each module of a catalogue is sixteen bytes: a start line that names it can be read.
+pub fn names_are_guids(catalog: &Catalog)
     ensures { AreGuids catalog.now }
 {
     'modules: for member in catalog.modules.as_slice() {
