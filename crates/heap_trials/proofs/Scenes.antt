@@ -1,4 +1,4 @@
--- The scene of the tests, which each call keeps.
+-- The scene of the tests of the lists, which each call keeps.
 use Rattle.std.proofs.Common.{◌≡◌, ◌≢◌, ◌≤◌, ◌/◌, ℕ, Bool, true, false, cond, List, [], ◌∷◌, length, map, Option, Some, None, Ok, Err, ap, sym, refl, ◌∙◌, arith, inr, subst, nat_lt}
 use Rattle.std.specs.Prelude.{replicate, ◌||◌}
 use Rattle.std.specs.List.{list_any}
@@ -36,8 +36,12 @@ use Rattle.ppi_links.specs.NewEntry.{IsOf, with_entry}
 use Rattle.ppi_links.specs.Pairs.{queued}
 use Rattle.ppi_links.specs.Popped.{Change, IsPopped}
 use Rattle.ppi_links.specs.Replaced.{IsReplaced, Replacement, with_renamed}
-use Rattle.ppi_links.specs.Scene.{AreThere, IsScene, place_for}
+use Rattle.heap_trials.specs.Scene.{AreThere, place_for}
 use Rattle.ppi_links.proofs.Queueing.{all_queued, at_stays}
+
+-- the scene, by the fields of its store
+abbrev pub IsSceneIn : Heap → PhysMem → Heads → Type 0
+IsSceneIn heap memory heads = (s : StoreState) × IsLinked heap memory heads s × AreThere s
 
 -- a descriptor that is made
 made_on : (b : Bool) (x y : Desc × StoreState) → cond b (Err Full) (Ok x) ≡ Ok y → x ≡ y
@@ -126,19 +130,19 @@ left_by s t (first ∷ rest) firing e stay h there f =
       other = still_desc s first Ppi 0xd0 rest stay node there.other;
     })
 
-pub left_scene : (heap : Heap) (s : StoreState) (result : Option Firing) (c : Change) → BodiesStay → IsLinked heap c.old_memory c.old_heads s → AreThere s → IsPopped heap s result c → IsScene heap c.new_memory c.new_heads
+pub left_scene : (heap : Heap) (s : StoreState) (result : Option Firing) (c : Change) → BodiesStay → IsLinked heap c.old_memory c.old_heads s → AreThere s → IsPopped heap s result c → IsSceneIn heap c.new_memory c.new_heads
 left_scene heap s (Some firing) c stay h there is = (is.0, is.2, left_by s is.0 s.pendings firing refl stay h.heap_is.state there is.1)
 left_scene heap s None c stay h there is =
     (s, subst (λ m. IsLinked heap m c.new_heads s) (sym is.1) (subst (λ x. IsLinked heap c.old_memory x s) (sym is.2) h), there)
 
 -- the other PPI is put in the place of the first
-pub put_scene : (heap : Heap) (heads : Heads) (s : StoreState) (r : Replacement) (result : Option ℕ) → IsLinked heap r.before heads s → AreThere s → IsReplaced heap heads s r result → IsScene heap r.after heads
+pub put_scene : (heap : Heap) (heads : Heads) (s : StoreState) (r : Replacement) (result : Option ℕ) → IsLinked heap r.before heads s → AreThere s → IsReplaced heap heads s r result → IsSceneIn heap r.after heads
 put_scene heap heads s r (Some place) h there is =
     (with_renamed s r.old r.new, is.linked, record { installed = there.installed; dispatch = there.dispatch; callback = there.callback; other = there.other })
 put_scene heap heads s r None h there is = (s, subst (λ m. IsLinked heap m heads s) (sym is.1) h, there)
 
 -- pairs are queued
-pub queued_scene : (heap : Heap) (memory : PhysMem) (heads : Heads) (s : StoreState) (by : ℕ) (pairs : List (ℕ × ℕ)) → AreThere s → IsLinked heap memory heads (queued by s pairs) → IsScene heap memory heads
+pub queued_scene : (heap : Heap) (memory : PhysMem) (heads : Heads) (s : StoreState) (by : ℕ) (pairs : List (ℕ × ℕ)) → AreThere s → IsLinked heap memory heads (queued by s pairs) → IsSceneIn heap memory heads
 queued_scene heap memory heads s by pairs there h = (queued by s pairs, h, still_there s (queued by s pairs) (all_queued by pairs s).bodies there)
 
 pub room_for_all : (free count : ℕ) (pairs : List (ℕ × ℕ)) → count ≡ length pairs → count ≤ free / 40 → node_need (length pairs) ≤ free

@@ -6,6 +6,6 @@ use Rattle.heap_trials.proofs.links.makes.Goals as goal
 pub returns-in-Some : goal.returns-in-Some
 returns-in-Some c s h e =
     let at : c.in-Some.made.offset ≡ c.args.place = grind (arith, nat_tests, e) in
-    let made = made_at c.args.heap.now c.args.memory.now c.descriptor.new.memory c.args.heads.now s c.args.kind _ c.args.number c.args.place c.in-Some.made c.bodies_stay.ensures h
+    let made = made_at c.args.store.now.heap c.args.store.now.memory c.descriptor.new.memory c.args.store.now.heads s c.args.kind _ c.args.number c.args.place c.in-Some.made c.bodies_stay.ensures h
     (c.in-Some.ensures s h.heap_is (record { guid = refl; number = c.requires.number })) at in
     (made.now, made.linked, made.grown, made.there)
