@@ -37,6 +37,7 @@ use Rattle.ppi_links.specs.Pairs.{queued}
 use Rattle.ppi_links.specs.Popped.{Change, IsPopped}
 use Rattle.ppi_links.specs.Replaced.{IsReplaced, Replacement, with_renamed}
 use Rattle.heap_trials.specs.Scene.{AreThere, place_for}
+use Rattle.heap_trials.proofs.Boards.{is_made, new_desc, new_hob}
 use Rattle.ppi_links.proofs.Queueing.{all_queued, at_stays}
 
 -- the scene, by the fields of its store
@@ -44,13 +45,6 @@ abbrev pub IsSceneIn : Heap → PhysMem → Heads → Type 0
 IsSceneIn heap memory heads = (s : StoreState) × IsLinked heap memory heads s × AreThere s
 
 -- a descriptor that is made
-made_on : (b : Bool) (x y : Desc × StoreState) → cond b (Err Full) (Ok x) ≡ Ok y → x ≡ y
-made_on true x y e = cc
-made_on false x y e = cc
-
-abbrev new_hob : DescKind → Guid → ℕ → HobEntry
-new_hob kind guid number = pool_of (Descriptor (record { kind = kind; guid = guid; stands = None; number = number }))
-
 same_heads : (s : StoreState) (hob : HobEntry) (heads : Heads) → AreHeads s heads → AreHeads (appended s hob) heads
 same_heads s hob heads h = record {
   ppi_ends = record { first = h.ppi_ends.first; last = h.ppi_ends.last };
@@ -72,9 +66,8 @@ pub made_at : (heap : Heap) (old new : PhysMem) (heads : Heads) (s : StoreState)
 made_at heap old new heads s kind guid number place made stay h served at =
     let hob = new_hob kind guid number in
     let u = appended s hob in
-    let given : Desc × StoreState = (record { offset = next_body s }, u) in
     let done : Desc × StoreState = (made, served.0) in
-    let both : given ≡ done = made_on (nat_lt (free s) 48) given done served.1 in
+    let both : new_desc s kind guid number ≡ done = is_made s kind guid number done served.1 in
     let state : u ≡ served.0 = ap (λ (x : Desc × StoreState). x.1) both in
     let here : next_body s ≡ place = ap (λ (x : Desc × StoreState). x.0.offset) both ∙ at in
     record {

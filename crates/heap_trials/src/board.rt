@@ -22,6 +22,9 @@ pub(crate) const RAM: Span = Span {
     len: 0x2_0000,
 };
 
+/// The bytes of a node with its header.
+pub(crate) const NODE_LEN: u64 = 40;
+
 // The type of memory that the pages have. UEFI, `EFI_MEMORY_TYPE`.
 const BOOT_SERVICES_DATA: u32 = 4;
 

@@ -3,7 +3,8 @@ ghost use Rattle.store_model.specs.Service.{Present};
 ghost use Rattle.store_model.specs.StoreCall.{Anything};
 ghost use Rattle.mem_store.specs.MemState.{StandsFor};
 
-use crate::board::{TEMP, create, pages, store_over};
+use crate::board::{NODE_LEN, TEMP, create, pages, store_over};
+use boot_plan::MOST_TEMP;
 use hob_codec::kind::{HANDOFF, POOL};
 use hob_codec::{Hob, HobPlace, walk};
 use mem_store::MemStore;
@@ -23,7 +24,7 @@ fn pool(store: &mut MemStore, size: u32) -> Result<Pool, StoreFault>
 fn node(store: &mut MemStore) -> Option<u64>
     requires { Present (StandsFor store.old) Anything }
 {
-    if store.heap.free(&store.memory) < 40 {
+    if store.heap.free(&store.memory) < NODE_LEN {
         return None;
     }
     Some(store.heap.node(&mut store.memory))
@@ -49,7 +50,7 @@ fn places(alloc: Global, store: &MemStore) -> Option<Seq<HobPlace>>
 
 // Whether a pool fits into a heap of this length. None where that is no length of a heap, or for want of memory.
 fn pool_fits(alloc: Global, len: u64, size: u32) -> Option<bool> {
-    if len < 64 || len > 0x2_0000 {
+    if len < 64 || len > MOST_TEMP {
         return None;
     }
     match store_over(alloc, len, 0) {

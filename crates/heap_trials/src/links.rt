@@ -8,7 +8,7 @@ ghost use Rattle.store_laws.specs.Bodies.{IsGrown};
 ghost use Rattle.heap_trials.specs.Scene as S;
 ghost use Rattle.heap_trials.specs.Scene.{IsLinkedStore, IsScene};
 
-use crate::board::store_over;
+use crate::board::{NODE_LEN, store_over};
 use mem_store::MemStore;
 use pi_base::Guid;
 use ppi_links::{
@@ -29,6 +29,9 @@ const DISPATCH: Desc = Desc { offset: 0x70 };
 const CALLBACK: Desc = Desc { offset: 0xa0 };
 
 const OTHER: Desc = Desc { offset: 0xd0 };
+
+// The number of the module whose script calls.
+const MAKER: u32 = 9;
 
 // Makes a descriptor. False where it does not stand at this place.
 fn makes(store: &mut MemStore, kind: DescKind, number: u64, place: u64) -> bool
@@ -98,13 +101,13 @@ fn enter(scene: &mut MemStore, list: EntryList) -> bool
     requires { IsScene scene.old }
     ensures { IsScene scene.new }
 {
-    if scene.heap.free(&scene.memory) < 40 {
+    if scene.heap.free(&scene.memory) < NODE_LEN {
         return false;
     }
     let entry = NewEntry {
         descriptor: place_for(list),
-        ppi: 0x40,
-        by: 9,
+        ppi: INSTALLED.offset,
+        by: MAKER,
     };
     push(
         &scene.heap,
@@ -146,7 +149,7 @@ fn queue_all(scene: &mut MemStore) -> Option<u64>
 {
     let list = [INSTALLED];
     let count = count_pairs(&scene.heap, &scene.memory, &scene.heads, list.as_slice());
-    if scene.heap.free(&scene.memory) / 40 < count {
+    if scene.heap.free(&scene.memory) / NODE_LEN < count {
         return None;
     }
     push_pairs(
@@ -154,7 +157,7 @@ fn queue_all(scene: &mut MemStore) -> Option<u64>
         &mut scene.memory,
         &mut scene.heads,
         list.as_slice(),
-        9,
+        MAKER,
     );
     Some(count)
 }
@@ -166,7 +169,7 @@ fn queue_new(scene: &mut MemStore) -> Option<u64>
 {
     let list = [DISPATCH];
     let count = count_new_pairs(&scene.heap, &scene.memory, &scene.heads, list.as_slice());
-    if scene.heap.free(&scene.memory) / 40 < count {
+    if scene.heap.free(&scene.memory) / NODE_LEN < count {
         return None;
     }
     push_new_pairs(
@@ -174,7 +177,7 @@ fn queue_new(scene: &mut MemStore) -> Option<u64>
         &mut scene.memory,
         &mut scene.heads,
         list.as_slice(),
-        9,
+        MAKER,
     );
     Some(count)
 }
@@ -261,12 +264,12 @@ fn what_is_entered_is_told(rt: HostRuntime) -> Result<(), Fail> {
         node: 0x100,
         guid: NAME,
         number: 7,
-        by: 9,
+        by: MAKER,
     };
     assert!(rt; has(&scene, &NAME));
     assert_eq!(rt; nth(&scene, 1), Some((INSTALLED, 7)));
     assert_eq!(rt; nth(&scene, 2), None);
-    assert_eq!(rt; ppi(&scene, 1), Some((NAME, 7, 9)));
+    assert_eq!(rt; ppi(&scene, 1), Some((NAME, 7, MAKER)));
     assert_eq!(rt; note(&scene, DescKind::Callback, 0), Some((NAME, 5)));
     assert_eq!(rt; note(&scene, DescKind::Dispatch, 0), None);
     assert_eq!(rt; first(&scene, EntryList::Ppis), Some(told));
