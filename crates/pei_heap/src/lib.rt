@@ -14,6 +14,3 @@ mod word;
 
 pub use heap::Heap;
 pub use word::{half_word_in, short_in, word_in};
-
-#[cfg(test)]
-mod tests;

@@ -1,0 +1,31 @@
+-- A store whose memory has two PPIs and a notification of each kind, whether or not they are named. The tests of the lists keep it.
+-- Own.
+use Rattle.std.specs.Prelude.{ℕ}
+use Rattle.store_model.specs.declared.store_handle.DescKind.TheVariants.{Ppi, Callback, Dispatch}
+use Rattle.store_model.specs.declared.store_handle.EntryList.{EntryList}
+use Rattle.store_model.specs.declared.store_handle.EntryList.TheVariants.{Ppis, Callbacks, Dispatches, Pendings}
+use Rattle.store_model.specs.StoreState.{StoreState}
+use Rattle.store_model.specs.StateFacts.{IsDescriptorAt}
+use Rattle.ppi_links.specs.Linked.{IsLinked}
+use Rattle.mem_store.specs.declared.store.MemStore.{MemStore}
+
+-- its memory has the image of a state, and its heads are that state's
+abbrev pub IsLinkedStore : MemStore → StoreState → Type 0
+IsLinkedStore store s = IsLinked store.heap store.memory store.heads s
+
+-- the places of their descriptors
+pub record AreThere (s : StoreState) : Type 0 where
+  pub installed : IsDescriptorAt s Ppi 0x40
+  pub dispatch : IsDescriptorAt s Dispatch 0x70
+  pub callback : IsDescriptorAt s Callback 0xa0
+  pub other : IsDescriptorAt s Ppi 0xd0
+
+abbrev pub IsScene : MemStore → Type 0
+IsScene store = (s : StoreState) × IsLinkedStore store s × AreThere s
+
+-- the place of the descriptor that is entered in a list
+abbrev pub place_for : EntryList → ℕ
+place_for Ppis = 0x40
+place_for Callbacks = 0xa0
+place_for Dispatches = 0x70
+place_for Pendings = 0x70

@@ -1,0 +1,312 @@
+// PPIs and notifications that are installed, queued, told and told to again.
+//
+// Behind the hand-off HOB, which has 56 bytes, stand four descriptors of 48 bytes with their headers; nodes of 40 bytes follow, the first at 56 + 192 + 8 = 0x100.
+ghost use Rattle.std.specs.Prelude.{◌≡◌, true, IfSome};
+ghost use Rattle.store_model.specs.StoreState.{StoreState};
+ghost use Rattle.store_model.specs.StateFacts.{IsDescriptorAt, IsNumberOf};
+ghost use Rattle.store_laws.specs.Bodies.{IsGrown};
+ghost use Rattle.heap_trials.specs.Scene as S;
+ghost use Rattle.heap_trials.specs.Scene.{IsLinkedStore, IsScene};
+
+use crate::board::{NODE_LEN, store_over};
+use mem_store::MemStore;
+use pi_base::Guid;
+use ppi_links::{
+    NewEntry, count_new_pairs, count_pairs, entry_behind, has_ppi, next_match, note_at, nth_ppi,
+    pending_at, pop, ppi_at, push, push_new_pairs, push_pairs, replace,
+};
+use std::alloc::Global;
+use std::test::*;
+use store_laws::bodies_stay;
+use store_model::{Desc, DescKind, DescriptorBody, EntryList, EntryTold, Firing, Sweep};
+
+const NAME: Guid = Guid([1, 2, 3, 4, 5, 6, 7, 8, 9, 10, 11, 12, 13, 14, 15, 16]);
+
+const INSTALLED: Desc = Desc { offset: 0x40 };
+
+const DISPATCH: Desc = Desc { offset: 0x70 };
+
+const CALLBACK: Desc = Desc { offset: 0xa0 };
+
+const OTHER: Desc = Desc { offset: 0xd0 };
+
+// The number of the module whose script calls.
+const MAKER: u32 = 9;
+
+// Makes a descriptor. False where it does not stand at this place.
+fn makes(store: &mut MemStore, kind: DescKind, number: u64, place: u64) -> bool
+    requires state { (s : StoreState) × IsLinkedStore store.old s }
+    requires number { IsNumberOf kind number }
+    ensures { (s : StoreState) → IsLinkedStore store.old s → result ≡ true
+        → (t : StoreState) × IsLinkedStore store.new t × IsGrown s t × IsDescriptorAt t kind place }
+{
+    bodies_stay();
+    let d = DescriptorBody {
+        kind,
+        guid: NAME,
+        stands: None,
+        number,
+    };
+    match store.heap.descriptor(&mut store.memory, &d) {
+        Some(made) => made.offset == place,
+        None => false,
+    }
+}
+
+// Makes the four descriptors. False where one could not be made.
+fn makes_all(store: &mut MemStore) -> bool
+    requires { (s : StoreState) × IsLinkedStore store.old s }
+    ensures { result ≡ true → IsScene store.new }
+{
+    if !makes(store, DescKind::Ppi, 7, 0x40) {
+        return false;
+    }
+    if !makes(store, DescKind::Dispatch, 3, 0x70) {
+        return false;
+    }
+    if !makes(store, DescKind::Callback, 5, 0xa0) {
+        return false;
+    }
+    makes(store, DescKind::Ppi, 8, 0xd0)
+}
+
+// A store with the four descriptors, none of them named.
+fn opened(alloc: Global) -> Option<MemStore>
+    ensures { IfSome result IsScene }
+{
+    let mut store = match store_over(alloc, 0x4000, 0) {
+        Ok(store) => store,
+        Err(_) => return None,
+    };
+    if !makes_all(&mut store) {
+        return None;
+    }
+    Some(store)
+}
+
+// The place of the descriptor that is entered in a list.
+fn place_for(list: EntryList) -> u64
+    ensures { result ≡ S.place_for list }
+{
+    match list {
+        EntryList::Ppis => INSTALLED.offset,
+        EntryList::Callbacks => CALLBACK.offset,
+        EntryList::Dispatches => DISPATCH.offset,
+        EntryList::Pendings => DISPATCH.offset,
+    }
+}
+
+// Enters a descriptor in its list. False without room.
+fn enter(scene: &mut MemStore, list: EntryList) -> bool
+    requires { IsScene scene.old }
+    ensures { IsScene scene.new }
+{
+    if scene.heap.free(&scene.memory) < NODE_LEN {
+        return false;
+    }
+    let entry = NewEntry {
+        descriptor: place_for(list),
+        ppi: INSTALLED.offset,
+        by: MAKER,
+    };
+    push(
+        &scene.heap,
+        &mut scene.memory,
+        &mut scene.heads,
+        list,
+        entry,
+    );
+    true
+}
+
+// The first pair leaves the queue.
+fn leave(scene: &mut MemStore) -> Option<Firing>
+    requires { IsScene scene.old }
+    ensures { IsScene scene.new }
+{
+    bodies_stay();
+    pop(&scene.heap, &mut scene.memory, &mut scene.heads)
+}
+
+// The other PPI comes into the place of the first.
+fn put_other(scene: &mut MemStore) -> Option<u32>
+    requires { IsScene scene.old }
+    ensures { IsScene scene.new }
+{
+    replace(
+        &scene.heap,
+        &mut scene.memory,
+        &scene.heads,
+        INSTALLED,
+        OTHER,
+    )
+}
+
+// Queues the PPI's pairs, and answers how many. None without room.
+fn queue_all(scene: &mut MemStore) -> Option<u64>
+    requires { IsScene scene.old }
+    ensures { IsScene scene.new }
+{
+    let list = [INSTALLED];
+    let count = count_pairs(&scene.heap, &scene.memory, &scene.heads, list.as_slice());
+    if scene.heap.free(&scene.memory) / NODE_LEN < count {
+        return None;
+    }
+    push_pairs(
+        &scene.heap,
+        &mut scene.memory,
+        &mut scene.heads,
+        list.as_slice(),
+        MAKER,
+    );
+    Some(count)
+}
+
+// Queues the pairs of all PPIs with the notification, and answers how many. None without room.
+fn queue_new(scene: &mut MemStore) -> Option<u64>
+    requires { IsScene scene.old }
+    ensures { IsScene scene.new }
+{
+    let list = [DISPATCH];
+    let count = count_new_pairs(&scene.heap, &scene.memory, &scene.heads, list.as_slice());
+    if scene.heap.free(&scene.memory) / NODE_LEN < count {
+        return None;
+    }
+    push_new_pairs(
+        &scene.heap,
+        &mut scene.memory,
+        &mut scene.heads,
+        list.as_slice(),
+        MAKER,
+    );
+    Some(count)
+}
+
+// The next callback that fires of a sweep over what is there. None where it is over more.
+fn fires(scene: &MemStore, sweep: &mut Sweep) -> Option<Firing>
+    requires { IsScene scene.now }
+{
+    if sweep.ppi_to > scene.heads.ppis {
+        return None;
+    }
+    if sweep.note_to > scene.heads.notes {
+        return None;
+    }
+    next_match(&scene.heap, &scene.memory, &scene.heads, sweep)
+}
+
+fn has(scene: &MemStore, guid: &Guid) -> bool
+    requires { IsScene scene.now }
+{
+    has_ppi(&scene.heap, &scene.memory, &scene.heads, guid)
+}
+
+fn nth(scene: &MemStore, n: u16) -> Option<(Desc, u64)>
+    requires { IsScene scene.now }
+{
+    nth_ppi(&scene.heap, &scene.memory, &scene.heads, &NAME, n)
+}
+
+fn ppi(scene: &MemStore, place: u32) -> Option<(Guid, u64, u32)>
+    requires { IsScene scene.now }
+{
+    ppi_at(&scene.heap, &scene.memory, &scene.heads, place)
+}
+
+fn note(scene: &MemStore, kind: DescKind, place: u32) -> Option<(Guid, u32)>
+    requires { IsScene scene.now }
+{
+    note_at(&scene.heap, &scene.memory, &scene.heads, kind, place)
+}
+
+fn pending(scene: &MemStore, place: u32) -> Option<(Guid, u32)>
+    requires { IsScene scene.now }
+{
+    pending_at(&scene.heap, &scene.memory, &scene.heads, place)
+}
+
+fn first(scene: &MemStore, list: EntryList) -> Option<EntryTold>
+    requires { IsScene scene.now }
+{
+    entry_behind(&scene.heap, &scene.memory, &scene.heads, list, None)
+}
+
+const QUEUED: Firing = Firing {
+    entry: 3,
+    ppi: INSTALLED,
+    guid: NAME,
+    value: 7,
+};
+
+#[test]
+fn a_queue_is_emptied_and_filled_again(rt: HostRuntime) -> Result<(), Fail> {
+    let mut scene = opened(rt.alloc()).ok_or("a scene")?;
+    assert!(rt; enter(&mut scene, EntryList::Dispatches));
+    assert!(rt; enter(&mut scene, EntryList::Ppis));
+    assert_eq!(rt; queue_all(&mut scene), Some(1));
+    assert_eq!(rt; pending(&scene, 0), Some((NAME, 3)));
+    assert_eq!(rt; leave(&mut scene), Some(QUEUED));
+    assert_eq!(rt; leave(&mut scene), None);
+    assert_eq!(rt; scene.heads.queue_tail, 0);
+    assert!(rt; enter(&mut scene, EntryList::Pendings));
+    assert_eq!(rt; leave(&mut scene), Some(QUEUED));
+    Ok(())
+}
+
+#[test]
+fn what_is_entered_is_told(rt: HostRuntime) -> Result<(), Fail> {
+    let mut scene = opened(rt.alloc()).ok_or("a scene")?;
+    assert!(rt; !has(&scene, &NAME));
+    assert!(rt; enter(&mut scene, EntryList::Ppis));
+    assert!(rt; enter(&mut scene, EntryList::Ppis));
+    assert!(rt; enter(&mut scene, EntryList::Callbacks));
+    let told = EntryTold {
+        node: 0x100,
+        guid: NAME,
+        number: 7,
+        by: MAKER,
+    };
+    assert!(rt; has(&scene, &NAME));
+    assert_eq!(rt; nth(&scene, 1), Some((INSTALLED, 7)));
+    assert_eq!(rt; nth(&scene, 2), None);
+    assert_eq!(rt; ppi(&scene, 1), Some((NAME, 7, MAKER)));
+    assert_eq!(rt; note(&scene, DescKind::Callback, 0), Some((NAME, 5)));
+    assert_eq!(rt; note(&scene, DescKind::Dispatch, 0), None);
+    assert_eq!(rt; first(&scene, EntryList::Ppis), Some(told));
+    assert_eq!(rt; queue_new(&mut scene), Some(2));
+    assert_eq!(rt; pending(&scene, 1), Some((NAME, 3)));
+    Ok(())
+}
+
+#[test]
+fn a_ppi_in_the_place_of_another_is_told_again(rt: HostRuntime) -> Result<(), Fail> {
+    let mut scene = opened(rt.alloc()).ok_or("a scene")?;
+    assert!(rt; enter(&mut scene, EntryList::Ppis));
+    assert_eq!(rt; put_other(&mut scene), Some(0));
+    assert_eq!(rt; nth(&scene, 0), Some((OTHER, 8)));
+    assert_eq!(rt; put_other(&mut scene), None);
+    Ok(())
+}
+
+#[test]
+fn a_sweep_stops_at_each_pair_once(rt: HostRuntime) -> Result<(), Fail> {
+    let mut scene = opened(rt.alloc()).ok_or("a scene")?;
+    assert!(rt; enter(&mut scene, EntryList::Ppis));
+    assert!(rt; enter(&mut scene, EntryList::Callbacks));
+    let mut sweep = Sweep {
+        ppi_to: 1,
+        note_from: 0,
+        note_to: 1,
+        ppi_at: 0,
+        note_at: 0,
+    };
+    let told = Firing {
+        entry: 5,
+        ppi: INSTALLED,
+        guid: NAME,
+        value: 7,
+    };
+    assert_eq!(rt; fires(&scene, &mut sweep), Some(told));
+    assert_eq!(rt; fires(&scene, &mut sweep), None);
+    Ok(())
+}

@@ -1,0 +1,107 @@
+// A heap moved to permanent memory, byte by byte.
+ghost use Rattle.store_model.specs.Service.{Present};
+ghost use Rattle.store_model.specs.StoreCall.{Anything};
+ghost use Rattle.mem_store.specs.MemState.{StandsFor};
+
+use crate::board::{RAM, TEMP, create, pages, store_over};
+use hob_codec::Hob;
+use mem_store::MemStore;
+use pi_base::{Guid, Span};
+use std::test::*;
+use store_model::{DescKind, GuidFrom, PeiStore};
+
+const NAME: Guid = Guid([0, 0, 0, 0, 0, 0, 0, 0, 0, 0, 0, 0, 0, 0, 0, 1]);
+
+// Permanent memory in the upper half of RAM.
+const UPPER: Span = Span {
+    base: 0x4001_0000,
+    len: 0x1_0000,
+};
+
+// Makes a PPI's descriptor and installs it. False where either is refused.
+fn install(store: &mut MemStore, value: u16) -> bool
+    requires { Present (StandsFor store.old) Anything }
+    ensures { Present (StandsFor store.new) Anything }
+{
+    match store.desc(DescKind::Ppi, GuidFrom::Inline(NAME), u64::from(value)) {
+        Ok(d) => store.install(&[d], 9).is_ok(),
+        Err(_) => false,
+    }
+}
+
+// Plans permanent memory and moves there. None where it is not planned.
+fn move_to(store: &mut MemStore, to: Span) -> Option<(u64, u64)>
+    requires { Present (StandsFor store.old) Anything }
+    ensures { Present (StandsFor store.new) Anything }
+{
+    let planned = store.set_memory(to.base, to.len);
+    if !store.memory_due() {
+        return None;
+    }
+    if planned.is_err() {
+        return None;
+    }
+    Some(store.migrate())
+}
+
+// Forty bytes at an address.
+fn bytes_at(store: &MemStore, at: u64) -> [u8; 40]
+    requires { Present (StandsFor store.now) Anything }
+{
+    let mut bytes = [0; 40];
+    store.peek(at, bytes.as_mut_slice());
+    bytes
+}
+
+#[test]
+fn pages_move_and_bytes_that_look_like_an_address_stay(rt: HostRuntime) -> Result<(), Fail> {
+    let mut store = store_over(rt.alloc(), 0x8000, 0x3000)
+        .ok()
+        .ok_or("memory")?;
+    assert_eq!(rt; pages(&mut store, 1), Ok(TEMP + 0x7000));
+    let named = Hob::Named {
+        name: Guid(*b"0123456789abcdef"),
+        body: b"\x40\0\0\x80\0\0\0\0",
+    };
+    assert_eq!(rt; create(&mut store, &named), Ok(TEMP + 104));
+    assert_eq!(rt; move_to(&mut store, UPPER), Some((TEMP, 0x4001_0000)));
+    assert_eq!(rt; store.heap.span, UPPER);
+    assert!(rt; store.memory.read(TEMP, 8).is_none());
+    // The hand-off HOB: the end of memory, its base, what is free, and the end HOB.
+    assert!(rt;
+        store.memory.read(0x4001_0000, 56)
+            == Some(
+                b"\x01\0\x38\0\0\0\0\0\x09\0\0\0\0\0\0\0\0\0\x02\x40\0\0\0\0\0\0\x01\x40\0\0\0\0\0\xf0\x01\x40\0\0\0\0\x90\0\x01\x40\0\0\0\0\x88\0\x01\x40\0\0\0\0"
+            )
+    );
+    // The page lies at the end of the new heap.
+    assert!(rt;
+        store.memory.read(0x4001_0038, 48)
+            == Some(
+                b"\x02\0\x30\0\0\0\0\0\0\0\0\0\0\0\0\0\0\0\0\0\0\0\0\0\0\xf0\x01\x40\0\0\0\0\0\x10\0\0\0\0\0\0\x04\0\0\0\0\0\0\0"
+            )
+    );
+    assert!(rt;
+        store.memory.read(0x4001_0068, 40)
+            == Some(
+                b"\x04\0\x20\0\0\0\0\x000123456789abcdef\x40\0\0\x80\0\0\0\0\xff\xff\x08\0\0\0\0\0"
+            )
+    );
+    Ok(())
+}
+
+#[test]
+fn a_descriptor_moves_with_its_node(rt: HostRuntime) -> Result<(), Fail> {
+    let mut store = store_over(rt.alloc(), 0x4000, 0).ok().ok_or("memory")?;
+    assert!(rt; install(&mut store, 0x1234));
+    assert_eq!(rt; move_to(&mut store, RAM), Some((TEMP, 0x4000_0000)));
+    assert_eq!(rt;
+        bytes_at(&store, 0x4000_0040),
+        *b"\x10\0\0\x80\0\0\0\0\x58\0\0\x40\0\0\0\0\x34\x12\0\0\0\0\0\0\0\0\0\0\0\0\0\0\0\0\0\0\0\0\0\x01"
+    );
+    assert_eq!(rt;
+        bytes_at(&store, 0x4000_0070),
+        *b"\0\0\0\0\0\0\0\0\x40\0\0\x40\0\0\0\0\0\0\0\0\0\0\0\0\x09\0\0\0\0\0\0\0\xff\xff\x08\0\0\0\0\0"
+    );
+    Ok(())
+}

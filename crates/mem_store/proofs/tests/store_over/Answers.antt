@@ -1,8 +1,0 @@
-use Rattle.mem_store.proofs.TestBoards.{stands, test_board}
-use Rattle.mem_store.proofs.tests.store_over.Goals as goal
-
-pub new-requires : goal.new-requires
-new-requires c = test_board c.args.len c.args.pages c.new-roms.result c.requires.len c.requires.pages c.new-roms.ensures
-
-pub returns : goal.returns
-returns c = stands _ c.new.result c.new.ensures
