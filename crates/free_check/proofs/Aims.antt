@@ -1,5 +1,5 @@
 -- The queue, aimed by a text.
-use Rattle.std.proofs.Common.{◌≡◌, ℕ, Bool, true, [], Option, Some, None, Result, Ok, Err, refl, sym, ◌∙◌, subst}
+use Rattle.std.proofs.Common.{◌≡◌, ℕ, Bool, false, true≢false, [], Option, Some, None, Result, Ok, Err, refl, sym, ◌∙◌, subst}
 use Rattle.std.specs.Prelude.{◌↔◌, IsTrue, OnOk}
 use Rattle.catalog_model.specs.declared.catalog.Catalog.{Catalog}
 use Rattle.boot_model.specs.DxeMachine.{DxeMachine}
@@ -19,7 +19,7 @@ order_of catalog core queue m order is are = let P : Drivers → Type 0 = λ dri
 pub seen_of : (catalog : Catalog) (core : DxeCore) (queue : Queue) (m : DxeMachine) (order : Drivers) → order ≡ core.services.order → AreOf catalog core queue m → IsSeen catalog m queue order
 seen_of catalog core queue m order is are = record { queue = are.queue; order = order_of catalog core queue m order is are }
 
--- none runs, and the text names no driver
+-- a driver is to be chosen, and the text names none
 pub none_aims : (catalog : Catalog) (core : DxeCore) (queue : Queue) (order : Drivers) (text : Spelled) (found : Option ℕ) → order ≡ core.services.order → LeadsByText catalog order text found → found ≡ None → AimsByText catalog core queue text queue
 none_aims catalog core queue order text found same leads none m are = record {
   root = None;
@@ -28,14 +28,23 @@ none_aims catalog core queue order text found same leads none m are = record {
   busy = λ runs. refl;
 }
 
--- or names one
-pub some_aims : (catalog : Catalog) (core : DxeCore) (queue later : Queue) (order : Drivers) (text : Spelled) (found : Option ℕ) (root : ℕ) (idle : Bool) → IsTrue idle ↔ (core.frames ≡ []) → idle ≡ true → order ≡ core.services.order
+-- no driver is to be chosen
+pub not_free : (catalog : Catalog) (core : DxeCore) (queue : Queue) (text : Spelled) (free : Bool) → IsTrue free ↔ ((core.frames ≡ []) × (queue.scheduled ≡ [])) → free ≡ false → AimsByText catalog core queue text queue
+not_free catalog core queue text free is busy m are = record {
+  root = None;
+  queue = are.queue;
+  leads = λ way choosing right. absurd (true≢false (sym (is.1 (sym are.core.frames ∙ choosing.frames, sym are.queue.scheduled ∙ choosing.scheduled)) ∙ busy));
+  busy = λ runs. refl;
+}
+
+-- or the text names one
+pub some_aims : (catalog : Catalog) (core : DxeCore) (queue later : Queue) (order : Drivers) (text : Spelled) (found : Option ℕ) (root : ℕ) → core.frames ≡ [] → order ≡ core.services.order
     → LeadsByText catalog order text found → found ≡ Some root → ((m : DxeMachine) → IsSeen catalog m queue order → IsQueueOf catalog (aimed catalog m root) later) → AimsByText catalog core queue text later
-some_aims catalog core queue later order text found root idle is none same leads some row m are = record {
+some_aims catalog core queue later order text found root none same leads some row m are = record {
   root = Some root;
   queue = row m (seen_of catalog core queue m order same are);
   leads = λ way choosing right. subst (LeadsTo catalog m (left text)) some (leads m (order_of catalog core queue m order same are) way choosing right);
-  busy = λ runs. absurd (runs (are.core.frames ∙ is.0 none));
+  busy = λ runs. absurd (runs (are.core.frames ∙ none));
 }
 
 pub on_ok : {A E P Q : Type 0} (result : Result A E) → (P → Q) → OnOk result P → OnOk result Q

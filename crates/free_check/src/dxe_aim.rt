@@ -1,5 +1,5 @@
 // The choice that is aimed at the driver that a text starts next.
-ghost use Rattle.std.specs.Prelude.{◌≤◌, ◌+◌, OnOk, length};
+ghost use Rattle.std.specs.Prelude.{◌≡◌, ◌≤◌, ◌+◌, ◌↔◌, [], IsTrue, OnOk, length};
 ghost use Rattle.boot_model.specs.DxeMachine.{DxeMachine};
 ghost use Rattle.catalog_model.specs.WellFormed.{IsWellFormed};
 ghost use Rattle.dxe_choice.specs.Queue.{IsQueueFor};
@@ -41,6 +41,13 @@ fn next_root(
     }
 }
 
+// Whether a driver is to be chosen: no script runs, and nothing is scheduled.
+fn is_choice(dxe: &Dxe, queue: &DriverQueue) -> bool
+    ensures { IsTrue result ↔ ((dxe.now.frames ≡ []) × (queue.now.scheduled ≡ [])) }
+{
+    dxe.is_idle() && queue.is_empty()
+}
+
 /// Where no script runs and nothing is scheduled, the choice is aimed at the driver to whose group the one belongs that the text starts next: its group is scheduled, if it may be.
 pub(crate) fn aim_by_text<L: Ledger>(
     dxe: &Dxe,
@@ -58,7 +65,7 @@ pub(crate) fn aim_by_text<L: Ledger>(
     ensures row { OnOk result (AimsByText catalog.now dxe.now queue.old text.now queue.new) }
     ensures made { OnOk result (IsQueueFor catalog.now queue.new) }
 {
-    if !dxe.is_idle() || !queue.is_empty() {
+    if !is_choice(dxe, queue) {
         return Ok(());
     }
     match next_root(dxe.order(), catalog, names, text) {
