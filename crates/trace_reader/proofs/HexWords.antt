@@ -1,11 +1,8 @@
 -- Words of bytes, decoded.
-use Rattle.std.proofs.Common.{◌≡◌, ◌<◌, ◌^◌, ℕ, zero, suc, List, [], ◌∷◌, Result, Ok, Err, Bool, true, false, sym, ap, ◌∙◌, arith, length, eqb, ◌/◌, Option, Some, None, Decides}
+use Rattle.std.proofs.Common.{◌≡◌, ◌<◌, ◌^◌, ℕ, zero, suc, List, [], ◌∷◌, Result, Ok, Err, Bool, true, false, sym, ap, ◌∙◌, arith, length, ◌/◌, Option, Some, None, Decides}
 use Rattle.std.specs.Option.{MatchOption}
 use Rattle.printed_words.specs.Words.{Finds}
 use Rattle.std.specs.Prelude.{MatchResult}
-use Rattle.std.specs.Cmp.Lexicographic.{pointwise}
-use Rattle.std.proofs.lemmas.Bool.Decides.{Decides-eqb}
-use Rattle.std.proofs.lemmas.Slice.Eq.{slice_eq-Decides}
 use Rattle.hex.specs.Hex.{IsBytes, encode_lower, decode_sized, lower_digits}
 use Rattle.hex.specs.declared.error.FromHexError.{FromHexError}
 use Rattle.hex.proofs.HexLemmas.{decode_sized-encode_lower, length-encode_with}

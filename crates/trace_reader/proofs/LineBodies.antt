@@ -1,12 +1,9 @@
 -- A readable line has no line feed before its end.
-use Rattle.std.proofs.Common.{◌≡◌, ◌++◌, ◌+◌, ◌<◌, ℕ, suc, List, [], ◌∷◌, flat_map, refl, sym, ap, ◌∙◌, true, false, Bool, not, eqb, ltb, arith, length, append_assoc, decimal, take, drop, get_or}
+use Rattle.std.proofs.Common.{◌≡◌, ◌++◌, ℕ, List, [], ◌∷◌, flat_map, refl, sym, ap, ◌∙◌, true, false, eqb, ltb, arith, append_assoc, decimal}
 use Rattle.std.specs.Prelude.{codes, nat_le}
-use Rattle.std.proofs.lemmas.List.Sums.{split_at_first, passes_at_first}
-use Rattle.std.specs.List.{list_all, AllByRecursion, position_or_len}
+use Rattle.std.specs.List.{list_all, AllByRecursion}
 use Rattle.std.proofs.lemmas.Bool.{and_parts}
 use Rattle.std.proofs.lemmas.Bool.Decides.{nat_tests}
-use Rattle.std.proofs.lemmas.List.{take_at}
-use Rattle.std.proofs.lemmas.List.Folds.{list_all-append}
 use Rattle.hex.specs.Hex.{encode_lower, IsBytes}
 use Rattle.boot_io.specs.Line.{spaced}
 use Rattle.boot_model.specs.declared.line.Line.{Line}

@@ -1,15 +1,11 @@
 -- The words of fields are plain.
-use Rattle.std.proofs.Common.{◌≡◌, ◌<◌, ◌^◌, ◌/◌, ◌%◌, ◌++◌, ℕ, zero, suc, Bool, true, false, ltb, eqb, cond, List, [], ◌∷◌, Option, Some, None, refl, ◌∙◌, arith, decimal, slice_index}
+use Rattle.std.proofs.Common.{◌≡◌, ◌<◌, ◌^◌, ◌++◌, ℕ, Bool, true, false, ltb, eqb, cond, List, [], ◌∷◌, Option, Some, None, refl, ◌∙◌, arith, decimal}
 use Rattle.std.proofs.lemmas.Bool.Decides.{nat_tests}
 use Rattle.std.proofs.lemmas.List.Folds.{list_all-append}
-use Rattle.std.proofs.lemmas.List.Sums.{AllPass-from_list_all}
-use Rattle.uuid.specs.Text.{by_index, is_hyphen_place, hex_digit, nibble, digit_place}
-use Rattle.uuid.specs.Parts.{swap_fields}
-use Rattle.hex.specs.Hex.{encode_with, encode_lower, lower_digits, IsBytes}
+use Rattle.hex.specs.Hex.{encode_lower}
 use Rattle.pi_base.specs.declared.guid.Guid.{Guid}
 use Rattle.boot_model.specs.declared.line.ExpressionWord.{ExpressionWord}
 use Rattle.boot_model.specs.declared.line.ExpressionWord.TheVariants as V
-use Rattle.pi_base.specs.WordText.{hexadecimal, guid_text}
 use Rattle.boot_model.specs.Text.{by_text, rank_text, name_text, expression_text}
 use Rattle.store_model.specs.declared.state.TheConstants.{CORE}
 use Rattle.printed_words.specs.Words.{IsPlain}
