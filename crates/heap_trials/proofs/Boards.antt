@@ -65,5 +65,5 @@ is_made s kind guid number told e = made_by (nat_lt (free s) 48) (new_desc s kin
 pub desc_there : (s : StoreState) (guid : Guid) (number : ℕ) (d : Desc) (t : StoreState) → desc s Ppi (Inline guid) number ≡ Ok (d, t) → IsDesc t d
 desc_there s guid number d t e =
     let here : IsDesc (appended s (new_hob Ppi guid number)) (record { offset = next_body s }) =
-      (record { kind = Ppi; guid = guid; stands = None; number = number }, all_stay.new s (new_hob Ppi guid number)) in
+    (record { kind = Ppi; guid = guid; stands = None; number = number }, all_stay.new s (new_hob Ppi guid number)) in
     subst (λ (p : Desc × StoreState). IsDesc p.1 p.0) (is_made s Ppi guid number (d, t) e) here

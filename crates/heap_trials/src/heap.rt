@@ -159,9 +159,7 @@ fn the_boot_mode_is_the_second_field_of_the_hand_off(rt: HostRuntime) -> Result<
 
 #[test]
 fn a_hob_tells_of_an_early_page(rt: HostRuntime) -> Result<(), Fail> {
-    let mut store = store_over(rt.alloc(), 0x8000, 0x3000)
-        .ok()
-        .ok_or("memory")?;
+    let mut store = store_over(rt.alloc(), 0x8000, 0x3000).ok().ok_or("memory")?;
     assert_eq!(rt; pages(&mut store, 1), Ok(TEMP + 0x7000));
     assert!(rt;
         store.memory.read(TEMP + 56, 48)

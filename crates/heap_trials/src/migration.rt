@@ -55,9 +55,7 @@ fn bytes_at(store: &MemStore, at: u64) -> [u8; 40]
 
 #[test]
 fn pages_move_and_bytes_that_look_like_an_address_stay(rt: HostRuntime) -> Result<(), Fail> {
-    let mut store = store_over(rt.alloc(), 0x8000, 0x3000)
-        .ok()
-        .ok_or("memory")?;
+    let mut store = store_over(rt.alloc(), 0x8000, 0x3000).ok().ok_or("memory")?;
     assert_eq!(rt; pages(&mut store, 1), Ok(TEMP + 0x7000));
     let named = Hob::Named {
         name: Guid(*b"0123456789abcdef"),

@@ -8,7 +8,7 @@ push-requires c =
     let s = c.requires.0 in
     let h = c.requires.1 in
     let there = c.requires.2 in
-    let fits = c.if-free-lt40.false in
+    let fits = c.if-free-lt-NODE_LEN.false in
     let is = c.free.ensures s h.heap_is in
     (s, h, record { names = entry_of_list c.args.list c.place_for.result s there c.place_for.ensures; room = omega (arith, fits, is) })
 
@@ -17,7 +17,7 @@ returns c =
     let s = c.requires.0 in
     let h = c.requires.1 in
     let there = c.requires.2 in
-    let fits = c.if-free-lt40.false in
+    let fits = c.if-free-lt-NODE_LEN.false in
     let is = c.free.ensures s h.heap_is in
     let done = c.push.ensures s h (record { names = entry_of_list c.args.list c.place_for.result s there c.place_for.ensures; room = omega (arith, fits, is) }) in (
       with_entry c.args.list (record { descriptor = c.place_for.result; ppi = 0x40; by = 9 }) s,
