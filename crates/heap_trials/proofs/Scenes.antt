@@ -1,12 +1,9 @@
 -- The scene of the tests of the lists, which each call keeps.
-use Rattle.std.proofs.Common.{◌≡◌, ◌≢◌, ◌≤◌, ◌/◌, ℕ, Bool, true, false, cond, List, [], ◌∷◌, length, map, Option, Some, None, Ok, Err, ap, sym, refl, ◌∙◌, arith, inr, subst, nat_lt}
-use Rattle.std.specs.Prelude.{replicate, ◌||◌}
+use Rattle.std.proofs.Common.{◌≡◌, ◌≢◌, ◌≤◌, ◌/◌, ℕ, false, List, [], ◌∷◌, length, Option, Some, None, Ok, ap, sym, refl, ◌∙◌, arith, subst}
+use Rattle.std.specs.Prelude.{◌||◌}
 use Rattle.std.specs.List.{list_any}
-use Rattle.phys_mem.specs.Regions.{regions, rom_region}
 use Rattle.phys_mem.specs.declared.memory.PhysMem.{PhysMem}
-use Rattle.phys_mem.specs.declared.rom.Rom.{Rom}
 use Rattle.pi_base.specs.declared.guid.Guid.{Guid}
-use Rattle.pi_base.specs.declared.span.Span.{Span}
 use Rattle.store_model.specs.declared.state.Body.TheVariants.{Descriptor, Node}
 use Rattle.store_model.specs.declared.state.HobEntry.{HobEntry}
 use Rattle.pi_base.specs.Lists.{Each}
@@ -17,9 +14,8 @@ use Rattle.store_model.specs.declared.store_handle.EntryList.{EntryList}
 use Rattle.store_model.specs.declared.store_handle.EntryList.TheVariants.{Ppis, Callbacks, Dispatches, Pendings}
 use Rattle.store_model.specs.declared.store_handle.DescKind.{DescKind}
 use Rattle.store_model.specs.declared.store_handle.DescKind.TheVariants.{Ppi, Callback, Dispatch}
-use Rattle.store_model.specs.declared.store_handle.StoreFault.TheVariants.{Full}
-use Rattle.store_model.specs.StoreState.{Board, StoreState, appended, body_at, empty_store, free, next_body, pool_of}
-use Rattle.store_model.specs.StateFacts.{IsBoard, IsDescriptorAt, IsNodeAt, IsPending, IsStoreState}
+use Rattle.store_model.specs.StoreState.{StoreState, appended, body_at, free, next_body}
+use Rattle.store_model.specs.StateFacts.{IsDescriptorAt, IsNodeAt, IsPending, IsStoreState}
 use Rattle.store_model.specs.Service.Descriptor.{desc_of, is_ppi, kind_at}
 use Rattle.store_model.specs.Service.Install.{node_need}
 use Rattle.store_model.specs.Service.Queue.{popped, zeroed}
@@ -28,7 +24,7 @@ use Rattle.store_laws.specs.Bodies.{BodiesStay, IsGrown, KeepsLength}
 use Rattle.store_laws.proofs.Steps.{grown_node, kind_is}
 use Rattle.heap_laws.specs.Changes.{without_first}
 use Rattle.pei_heap.specs.declared.heap.Heap.{Heap}
-use Rattle.pei_heap.specs.HeapMemory.{IsFresh, IsHeapOf}
+use Rattle.pei_heap.specs.HeapMemory.{IsHeapOf}
 use Rattle.ppi_links.specs.declared.heads.Heads.{Heads}
 use Rattle.ppi_links.specs.declared.entry.NewEntry.{NewEntry}
 use Rattle.ppi_links.specs.Linked.{AreHeads, IsLinked}
