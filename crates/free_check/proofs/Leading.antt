@@ -28,7 +28,8 @@ use Rattle.free_text.specs.Spelled.{IsRight, left}
 use Rattle.module_names.specs.Named.{AreGuids, AreNames, IsNamed}
 use Rattle.printed_words.specs.Words.{IsGuid}
 use Rattle.trace_reader.specs.Readable.{IsLineOf, IsReadable}
-use Rattle.trace_reader.proofs.LineBodies.{body_lacks, line_then, same_line}
+use Rattle.printed_words.proofs.LineFeeds.{same_line}
+use Rattle.trace_reader.proofs.LineBodies.{body_lacks, line_then}
 use Rattle.trace_reader.proofs.OneReading.{text_one}
 use Rattle.free_check.specs.DxeAim.{BeginsWithStart, LeadsTo, NamesNext}
 use Rattle.free_check.proofs.FreeSteps.{AreReadable}
