@@ -1,31 +1,19 @@
 -- Over an index that stands for a machine, a driver may be next exactly where it is the first that may start from its own place on.
-use Rattle.std.proofs.Common.{◌≡◌, ℕ, zero, suc, ◌==◌, Bool, true, false, ◌&&◌, ◌||◌, not, cond, List, [], ◌∷◌, ◌++◌, Option, Some, None, drop, take, refl, sym, subst, ap, ◌∙◌, arith, eqb}
+use Rattle.std.proofs.Common.{◌≡◌, ℕ, zero, suc, ◌==◌, Bool, true, false, ◌&&◌, ◌||◌, cond, List, [], ◌∷◌, ◌++◌, Option, Some, None, drop, take, refl, sym, subst, ap, ◌∙◌, arith, eqb}
 use Rattle.std.specs.Prelude.{◌↔◌, filter, find, slice_get}
-use Rattle.std.specs.List.{list_all}
 use Rattle.std.specs.Option.{option_and_then, option_eq}
 use Rattle.std.proofs.lemmas.Bool.Decides.{nat_tests}
-use Rattle.guid_map.specs.GuidMap.{value_of}
-use Rattle.pi_base.specs.declared.guid.Guid.{Guid}
-use Rattle.pi_base.specs.declared.phase.Phase.{Phase}
-use Rattle.pi_base.specs.declared.phase.Phase.TheVariants.{Dxe}
-use Rattle.pi_base.specs.Lists.{EachPair}
 use Rattle.catalog_model.specs.declared.catalog.Catalog.{Catalog}
-use Rattle.catalog_model.specs.declared.catalog.Part.{Part}
-use Rattle.catalog_model.specs.declared.catalog.PartExpr.{PartExpr}
 use Rattle.catalog_model.specs.declared.catalog.PartExpr.TheVariants as E
-use Rattle.catalog_model.specs.Parts.{has_number, part_at}
-use Rattle.store_model.specs.HandleState.{HandleState, has_protocol}
-use Rattle.boot_model.specs.declared.known_guid.TheConstants.{ARCHITECTURAL}
-use Rattle.boot_model.specs.DxeChoice.{driver_may_start, is_eligible_driver, is_unrequested, is_waiting, lets_driver_start}
+use Rattle.catalog_model.specs.Parts.{has_number}
+use Rattle.boot_model.specs.DxeChoice.{is_eligible_driver, is_waiting}
 use Rattle.boot_model.specs.DxeMachine.{DxeMachine}
-use Rattle.boot_model.specs.Eligible.{depex_holds}
 use Rattle.boot_model.specs.PeiChoice.{rotated}
 use Rattle.boot_model.proofs.ListFacts.{found_passes, has_first}
 use Rattle.boot_laws.proofs.PartLists.{is_equal}
 use Rattle.wait_index.specs.declared.index.WaitIndex.{WaitIndex}
 use Rattle.wait_index.specs.Dispatch.{StandsForDxe}
-use Rattle.wait_index.specs.Index.{IsIndex, again_in, has_in, is_eligible_in, is_open_in, order_in, waits_in}
-use Rattle.wait_index.specs.Verdict.{expression_verdict, has_all, holds_by, lets, verdict_by, verdict_in, verdict_of}
+use Rattle.wait_index.specs.Index.{IsIndex, is_eligible_in, order_in}
 use Rattle.wait_index.proofs.Dispatch.{dxe_one}
 use Rattle.dxe_choice.specs.Aim.{may_be_next}
 use Rattle.dxe_choice.proofs.Waiting.{has_place}

@@ -1,6 +1,6 @@
 -- What an event of the machine is to the queue: the protocol that it changed, and the driver that it requested.
 -- Own.
-use Rattle.std.specs.Prelude.{◌≡◌, ◌≤◌, ◌+◌, ℕ, false, ◌++◌, Option, IfSome, sum_by}
+use Rattle.std.specs.Prelude.{◌≡◌, ◌≤◌, ◌+◌, false, ◌++◌, Option, IfSome, sum_by}
 use Rattle.std.specs.Option.{option_to_list}
 use Rattle.pi_base.specs.declared.guid.Guid.{Guid}
 use Rattle.catalog_model.specs.declared.catalog.Catalog.{Catalog}

@@ -1,7 +1,6 @@
 -- The free boots from a machine and those from its next one, by the line with which the text goes on.
 use Rattle.std.proofs.Common.{◌≡◌, ◌⊎◌, ℕ, ◌==◌, Bool, true, false, List, [], ◌∷◌, ◌++◌, Option, Some, None, refl, sym, ap, ◌∙◌, subst, append_assoc, inl, inr, is_some, arith}
 use Rattle.std.specs.Prelude.{flat_map}
-use Rattle.std.proofs.lemmas.Grind.{flat_map-append}
 use Rattle.std.proofs.lemmas.List.{append-nil}
 use Rattle.act_code.specs.declared.action.Action.{Action}
 use Rattle.pi_base.specs.declared.phase.Phase.TheVariants.{Dxe}

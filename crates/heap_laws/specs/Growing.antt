@@ -4,14 +4,11 @@ use Rattle.std.specs.Prelude.{◌≡◌, ℕ, ◌+◌, ◌-◌, ◌≤◌, List,
 use Rattle.pi_base.specs.Field.{little_bytes}
 use Rattle.phys_mem.specs.Region.{replaced}
 use Rattle.hob_codec.specs.declared.kind.TheConstants.{HANDOFF, END, POOL}
-use Rattle.hob_codec.specs.HobValue.{HobValue, IsHob}
-use Rattle.hob_codec.specs.HobBytes.{hob_bytes}
 use Rattle.store_model.specs.declared.state.Body.TheVariants.{Node}
 use Rattle.store_model.specs.declared.state.HobEntry.{HobEntry}
 use Rattle.store_model.specs.StoreState.{StoreState, appended, end_place, handoff_len, header_len, hob_len, next_body, node_len, page_bytes, pool_of}
 use Rattle.store_model.specs.StateFacts.{IsStoreState}
 use Rattle.store_model.specs.HeapImage.{header_bytes, handoff_body, body_bytes, heap_image}
-use Rattle.store_model.specs.Service.Hob.{hob_entry}
 
 -- the hand-off HOB
 abbrev pub front_bytes : StoreState → List ℕ

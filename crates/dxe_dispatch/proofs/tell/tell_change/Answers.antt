@@ -1,4 +1,4 @@
-use Rattle.std.proofs.Common.{Some, ap, ◌∙◌, subst, sym}
+use Rattle.std.proofs.Common.{ap, ◌∙◌, subst, sym}
 use Rattle.store_model.specs.HandleState.{has_protocol}
 use Rattle.dxe_dispatch.specs.Events.{Owes, TellsChange}
 use Rattle.dxe_dispatch.proofs.Told.{has_protocol_now, none_changed, one_asked}
