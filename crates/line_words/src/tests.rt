@@ -8,6 +8,8 @@ fn lines_words_and_numbers_are_read(rt: HostRuntime) {
         (b"add  system".as_slice(), b"# no\n".as_slice())
     );
     assert_eq!(rt; first_line(b"add"), (b"add".as_slice(), b"".as_slice()));
+    assert_eq!(rt; place_of(b"a b c", b' '), 1);
+    assert_eq!(rt; place_of(b"abc", b' '), 3);
     assert_eq!(rt;
         first_word(b"add  system"),
         (b"add".as_slice(), b"system".as_slice())
