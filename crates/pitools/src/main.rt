@@ -69,6 +69,3 @@ fn main(rt: HostRuntime) -> ExitCode {
     }
     ExitCode::from(status as u8)
 }
-
-#[cfg(test)]
-mod tests;
