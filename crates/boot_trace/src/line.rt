@@ -20,51 +20,56 @@ pub fn put<S: Sink>(sink: &mut S, line: &Line) -> Result<(), SinkFault>
 {
     let key = keyword(line);
     match line {
-        Line::Report { volume } => put_number(sink, key, *volume),
+        Line::PeiStop | Line::DxeStop | Line::RefusedUsage => put_bare(sink, key),
+        Line::Report { volume: number }
+        | Line::DxeVolume { volume: number }
+        | Line::Ppis { count: number }
+        | Line::Callbacks { count: number }
+        | Line::Dispatches { count: number }
+        | Line::Pendings { count: number }
+        | Line::Hobs { count: number }
+        | Line::Handles { count: number } => put_number(sink, key, *number),
         Line::PeiStart {
             volume,
             name,
             licence,
-        } => put_named(sink, key, *volume, *name, licence_word(*licence)),
-        Line::DxeStart {
+        }
+        | Line::DxeStart {
             volume,
             name,
             licence,
         } => put_named(sink, key, *volume, *name, licence_word(*licence)),
+        Line::NotifyCallback {
+            volume,
+            name,
+            fired,
+        }
+        | Line::NotifyDispatch {
+            volume,
+            name,
+            fired,
+        }
+        | Line::NotifyProtocol {
+            volume,
+            name,
+            fired,
+        } => put_named(sink, key, *volume, *name, &fired.to_text()),
+        Line::Waiting {
+            volume,
+            name,
+            reason,
+        } => put_named(sink, key, *volume, *name, reason_word(*reason)),
         Line::Call {
             name,
             status,
             extra,
         } => put_call(sink, key, *name, *status, extra),
         Line::Log { text } => put_word(sink, key, text.as_slice()),
-        Line::NotifyCallback {
-            volume,
-            name,
-            fired,
-        } => put_named(sink, key, *volume, *name, &fired.to_text()),
-        Line::NotifyDispatch {
-            volume,
-            name,
-            fired,
-        } => put_named(sink, key, *volume, *name, &fired.to_text()),
-        Line::NotifyProtocol {
-            volume,
-            name,
-            fired,
-        } => put_named(sink, key, *volume, *name, &fired.to_text()),
-        Line::End { status } => put_word(sink, key, status.text()),
+        Line::RefusedFile { name } | Line::RefusedLong { name } => put_word(sink, key, name.as_slice()),
+        Line::End { status } | Line::CoreInstall { status } => put_word(sink, key, status.text()),
+        Line::Result { outcome } => put_word(sink, key, run_end_word(*outcome)),
         Line::Migrate { from, to } => put_addresses(sink, key, *from, *to),
-        Line::CoreInstall { status } => put_word(sink, key, status.text()),
-        Line::PeiStop => put_bare(sink, key),
-        Line::DxeStop => put_bare(sink, key),
-        Line::Waiting {
-            volume,
-            name,
-            reason,
-        } => put_named(sink, key, *volume, *name, reason_word(*reason)),
         Line::Handoff { address } => put_address(sink, key, *address),
-        Line::DxeVolume { volume } => put_number(sink, key, *volume),
-        Line::Ppis { count } => put_number(sink, key, *count),
         Line::Ppi { by, guid, value } => put_value(
             sink,
             key,
@@ -72,15 +77,6 @@ pub fn put<S: Sink>(sink: &mut S, line: &Line) -> Result<(), SinkFault>
             *guid,
             *value,
         ),
-        Line::Callbacks { count } => put_number(sink, key, *count),
-        Line::Callback { guid, by, block } => put_note(sink, key, *guid, *by, *block),
-        Line::Dispatches { count } => put_number(sink, key, *count),
-        Line::Dispatch { guid, by, block } => put_note(sink, key, *guid, *by, *block),
-        Line::Pendings { count } => put_number(sink, key, *count),
-        Line::Pending { guid, by, block } => put_note(sink, key, *guid, *by, *block),
-        Line::Hobs { count } => put_number(sink, key, *count),
-        Line::Hob { kind, body } => put_hob(sink, key, *kind, body.as_slice()),
-        Line::Handles { count } => put_number(sink, key, *count),
         Line::Handle {
             handle,
             guid,
@@ -92,7 +88,10 @@ pub fn put<S: Sink>(sink: &mut S, line: &Line) -> Result<(), SinkFault>
             *guid,
             *value,
         ),
-        Line::Result { outcome } => put_word(sink, key, run_end_word(*outcome)),
+        Line::Callback { guid, by, block }
+        | Line::Dispatch { guid, by, block }
+        | Line::Pending { guid, by, block } => put_note(sink, key, *guid, *by, *block),
+        Line::Hob { kind, body } => put_hob(sink, key, *kind, body.as_slice()),
         Line::Volume {
             volume,
             base,
@@ -117,9 +116,6 @@ pub fn put<S: Sink>(sink: &mut S, line: &Line) -> Result<(), SinkFault>
             };
             put_module(sink, key, *by, *volume, *name, *kind, parts)
         }
-        Line::RefusedUsage => put_bare(sink, key),
-        Line::RefusedFile { name } => put_word(sink, key, name.as_slice()),
-        Line::RefusedLong { name } => put_word(sink, key, name.as_slice()),
         Line::RefusedPlan { line, cause } => put_plan_refusal(sink, key, *line, *cause),
         Line::RefusedImage { volume, at, cause } => put_image_refusal(
             sink, key, *volume, *at, *cause,

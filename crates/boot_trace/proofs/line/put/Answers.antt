@@ -1,22 +1,23 @@
+use Rattle.std.proofs.Common.{inl, inr}
 use Rattle.boot_trace.proofs.line.put.Goals as goal
 
 pub returns-in-PeiStart-clause-text : goal.returns-in-PeiStart-clause-text
-returns-in-PeiStart-clause-text g c = rw c.in-PeiStart.is (rw (c.keyword-key.ensures, c.in-PeiStart.is, c.licence_word.ensures) at c.put_named.ensures.text)
-
-pub returns-in-DxeStart-clause-text : goal.returns-in-DxeStart-clause-text
-returns-in-DxeStart-clause-text g c = rw c.in-DxeStart.is (rw (c.keyword-key.ensures, c.in-DxeStart.is, c.licence_word-in-DxeStart.ensures) at c.put_named-in-DxeStart.ensures.text)
+returns-in-PeiStart-clause-text g c = elim c.in-PeiStart.is [
+    | inl pei ↦ rw pei (rw (c.keyword-key.ensures, pei, c.licence_word.ensures) at c.put_named-in-PeiStart.ensures.text)
+    | inr dxe ↦ rw dxe (rw (c.keyword-key.ensures, dxe, c.licence_word.ensures) at c.put_named-in-PeiStart.ensures.text)
+  ]
 
 pub returns-in-NotifyCallback-clause-text : goal.returns-in-NotifyCallback-clause-text
-returns-in-NotifyCallback-clause-text g c = rw c.in-NotifyCallback.is (rw (c.keyword-key.ensures, c.in-NotifyCallback.is, c.to_text.ensures) at c.put_named-in-NotifyCallback.ensures.text)
-
-pub returns-in-NotifyDispatch-clause-text : goal.returns-in-NotifyDispatch-clause-text
-returns-in-NotifyDispatch-clause-text g c = rw c.in-NotifyDispatch.is (rw (c.keyword-key.ensures, c.in-NotifyDispatch.is, c.to_text-in-NotifyDispatch.ensures) at c.put_named-in-NotifyDispatch.ensures.text)
-
-pub returns-in-NotifyProtocol-clause-text : goal.returns-in-NotifyProtocol-clause-text
-returns-in-NotifyProtocol-clause-text g c = rw c.in-NotifyProtocol.is (rw (c.keyword-key.ensures, c.in-NotifyProtocol.is, c.to_text-in-NotifyProtocol.ensures) at c.put_named-in-NotifyProtocol.ensures.text)
+returns-in-NotifyCallback-clause-text g c = elim c.in-NotifyCallback.is [
+    | inl callback ↦ rw callback (rw (c.keyword-key.ensures, callback, c.to_text.ensures) at c.put_named-in-NotifyCallback.ensures.text)
+    | inr other ↦ elim other [
+        | inl dispatch ↦ rw dispatch (rw (c.keyword-key.ensures, dispatch, c.to_text.ensures) at c.put_named-in-NotifyCallback.ensures.text)
+        | inr protocol ↦ rw protocol (rw (c.keyword-key.ensures, protocol, c.to_text.ensures) at c.put_named-in-NotifyCallback.ensures.text)
+      ]
+  ]
 
 pub returns-in-Waiting-clause-text : goal.returns-in-Waiting-clause-text
-returns-in-Waiting-clause-text g c = rw c.in-Waiting.is (rw (c.keyword-key.ensures, c.in-Waiting.is, c.reason_word.ensures) at c.put_named-in-Waiting.ensures.text)
+returns-in-Waiting-clause-text g c = rw c.in-Waiting.is (rw (c.keyword-key.ensures, c.in-Waiting.is, c.reason_word.ensures) at c.put_named.ensures.text)
 
 pub returns-in-Ppi-clause-text : goal.returns-in-Ppi-clause-text
 returns-in-Ppi-clause-text g c = rw c.in-Ppi.is (rw (c.keyword-key.ensures, c.in-Ppi.is, c.as_slice-in-Ppi.ensures.value, c.by_word.ensures) at c.put_value.ensures.text)
@@ -26,3 +27,12 @@ returns-in-Handle-clause-text g c = rw c.in-Handle.is (rw (c.keyword-key.ensures
 
 pub returns-in-Module-clause-text : goal.returns-in-Module-clause-text
 returns-in-Module-clause-text g c = rw c.in-Module.is (rw (c.keyword-key.ensures, c.in-Module.is) at c.put_module.ensures.text)
+
+pub returns-in-Callback-clause-text : goal.returns-in-Callback-clause-text
+returns-in-Callback-clause-text g c = elim c.in-Callback.is [
+    | inl callback ↦ rw callback (rw (c.keyword-key.ensures, callback) at c.put_note.ensures.text)
+    | inr other ↦ elim other [
+        | inl dispatch ↦ rw dispatch (rw (c.keyword-key.ensures, dispatch) at c.put_note.ensures.text)
+        | inr pending ↦ rw pending (rw (c.keyword-key.ensures, pending) at c.put_note.ensures.text)
+      ]
+  ]
