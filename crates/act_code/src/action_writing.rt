@@ -135,16 +135,29 @@ fn put_operands(out: &mut Seq<u8>, action: &Action) -> Result<(), OutOfMemory>
     ensures { OnOk result (out.new ≡ out.old ++ operand_bytes action.now) }
 {
     match action {
-        Action::Set { r, n } => put(out, &[*r], &bytes_8(*n)),
-        Action::Add { r, n } => put(out, &[*r], &bytes_8(*n)),
+        Action::Set { r, n } | Action::Add { r, n } => put(out, &[*r], &bytes_8(*n)),
         Action::Pool { r, size } => put(out, &[*r], &bytes_4(*size)),
         Action::Store { p, offset, bytes } => put_store(out, *p, *offset, bytes),
-        Action::Addr { v, x, offset } => put(out, &[*v, *x], &bytes_4(*offset)),
-        Action::Peek { v, n } => put(out, &[], &[*v, *n]),
+        Action::Addr {
+            v: a,
+            x: b,
+            offset: n,
+        }
+        | Action::Pages {
+            r: a,
+            memory_type: b,
+            count: n,
+        } => put(out, &[*a, *b], &bytes_4(*n)),
+        Action::Peek { v: a, n: b }
+        | Action::Reinstall { old: a, new: b }
+        | Action::Memory {
+            begin: a,
+            length: b,
+        }
+        | Action::BootMode { form: a, r: b }
+        | Action::SkipIf { condition: a, n: b } => put(out, &[], &[*a, *b]),
         Action::Desc { d, kind, guid, arg } => put_descriptor(out, *d, *kind, guid, *arg),
-        Action::Install { list } => put_list(out, list),
-        Action::Reinstall { old, new } => put(out, &[], &[*old, *new]),
-        Action::Notify { list } => put_list(out, list),
+        Action::Install { list } | Action::Notify { list } => put_list(out, list),
         Action::Locate {
             d,
             v,
@@ -152,17 +165,8 @@ fn put_operands(out: &mut Seq<u8>, action: &Action) -> Result<(), OutOfMemory>
             instance,
         } => put_guid(out, &[*d, *v], guid, &bytes_2(*instance)),
         Action::Hob { kind, body } => put_hob(out, *kind, body),
-        Action::Memory { begin, length } => put(out, &[], &[*begin, *length]),
-        Action::Pages {
-            r,
-            memory_type,
-            count,
-        } => put(out, &[*r, *memory_type], &bytes_4(*count)),
-        Action::BootMode { form, r } => put(out, &[], &[*form, *r]),
         Action::Log { text } => put_list(out, text),
-        Action::SkipIf { condition, n } => put(out, &[], &[*condition, *n]),
         Action::Ret { status } => put(out, &[], &[status.number()]),
-        Action::Shadow => put(out, &[], &[]),
         Action::DxeInstall { form, h, guid, v } => put_guid(out, &[*form, *h], guid, &[*v]),
         Action::DxeReinstall { h, guid, old, new } => put_guid(out, &[*h], guid, &[*old, *new]),
         Action::DxeUninstall { h, guid, v } => put_guid(out, &[*h], guid, &[*v]),
@@ -170,7 +174,7 @@ fn put_operands(out: &mut Seq<u8>, action: &Action) -> Result<(), OutOfMemory>
         Action::DxeNotify { guid, block } => put_guid(out, &[], guid, &[*block]),
         Action::Schedule { guid } => put(out, &[], &guid.0),
         Action::Process { v } => put(out, &[], &[*v]),
-        Action::Dispatch => put(out, &[], &[]),
+        Action::Shadow | Action::Dispatch => put(out, &[], &[]),
     }
 }
 

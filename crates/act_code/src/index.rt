@@ -54,33 +54,37 @@ pub fn is_indexed(action: &Action, count: u8) -> bool
     ensures { result ≡ is_indexed count action.now }
 {
     match action {
-        Action::Set { r, .. } => are_indexed(&[*r], &[], count),
-        Action::Add { r, .. } => are_indexed(&[*r], &[], count),
-        Action::Pool { r, .. } => are_indexed(&[*r], &[], count),
-        Action::Store { p, .. } => are_indexed(&[*p], &[], count),
-        Action::Addr { v, x, .. } => are_indexed(&[*v, *x], &[], count),
-        Action::Peek { v, .. } => are_indexed(&[*v], &[], count),
-        Action::Desc { d, kind, guid, arg } => is_descriptor_indexed(*d, *kind, guid, *arg, count),
-        Action::Install { list } => are_indexed(list.as_slice(), &[], count),
-        Action::Reinstall { old, new } => are_indexed(&[*old, *new], &[], count),
-        Action::Notify { list } => are_indexed(list.as_slice(), &[], count),
-        Action::Locate { d, v, .. } => are_indexed(&[*d, *v], &[], count),
-        Action::Hob { .. } => true,
-        Action::Memory { begin, length } => are_indexed(&[*begin, *length], &[], count),
-        Action::Pages { r, .. } => are_indexed(&[*r], &[], count),
-        Action::BootMode { r, .. } => are_indexed(&[*r], &[], count),
-        Action::Log { .. } => true,
-        Action::SkipIf { .. } => true,
-        Action::Ret { .. } => true,
-        Action::Shadow => true,
-        Action::DxeInstall { h, v, .. } => are_indexed(&[*h, *v], &[], count),
+        Action::Set { r, .. }
+        | Action::Add { r, .. }
+        | Action::Pool { r, .. }
+        | Action::Store { p: r, .. }
+        | Action::Peek { v: r, .. }
+        | Action::Pages { r, .. }
+        | Action::BootMode { r, .. }
+        | Action::Process { v: r } => are_indexed(&[*r], &[], count),
+        Action::Addr { v: a, x: b, .. }
+        | Action::Reinstall { old: a, new: b }
+        | Action::Locate { d: a, v: b, .. }
+        | Action::Memory {
+            begin: a,
+            length: b,
+        }
+        | Action::DxeInstall { h: a, v: b, .. }
+        | Action::DxeUninstall { h: a, v: b, .. }
+        | Action::DxeLocate { h: a, v: b, .. } => are_indexed(&[*a, *b], &[], count),
         Action::DxeReinstall { h, old, new, .. } => are_indexed(&[*h, *old, *new], &[], count),
-        Action::DxeUninstall { h, v, .. } => are_indexed(&[*h, *v], &[], count),
-        Action::DxeLocate { h, v, .. } => are_indexed(&[*h, *v], &[], count),
+        Action::Desc { d, kind, guid, arg } => is_descriptor_indexed(*d, *kind, guid, *arg, count),
+        Action::Install { list } | Action::Notify { list } => {
+            are_indexed(list.as_slice(), &[], count)
+        }
         Action::DxeNotify { block, .. } => are_indexed(&[], &[*block], count),
-        Action::Schedule { .. } => true,
-        Action::Process { v } => are_indexed(&[*v], &[], count),
-        Action::Dispatch => true,
+        Action::Hob { .. }
+        | Action::Log { .. }
+        | Action::SkipIf { .. }
+        | Action::Ret { .. }
+        | Action::Shadow
+        | Action::Schedule { .. }
+        | Action::Dispatch => true,
     }
 }
 
