@@ -119,8 +119,9 @@ fn put_words(out: &mut Seq<u8>, action: &Action) -> Result<(), OutOfMemory>
 {
     use Operand::{Bytes, Decimal, Hexadecimal, Register, Status, Text};
     match action {
-        Action::Set { r, n } => put_operands(out, &[Register(*r), Hexadecimal(*n)]),
-        Action::Add { r, n } => put_operands(out, &[Register(*r), Hexadecimal(*n)]),
+        Action::Set { r, n } | Action::Add { r, n } => {
+            put_operands(out, &[Register(*r), Hexadecimal(*n)])
+        }
         Action::Pool { r, size } => {
             put_operands(out, &[Register(*r), Hexadecimal(u64::from(*size))])
         }
@@ -138,9 +139,7 @@ fn put_words(out: &mut Seq<u8>, action: &Action) -> Result<(), OutOfMemory>
         ),
         Action::Peek { v, n } => put_operands(out, &[Register(*v), Decimal(u16::from(*n))]),
         Action::Desc { d, kind, guid, arg } => put_desc(out, *d, *kind, guid, *arg),
-        Action::Install { list } => put_registers(out, list.as_slice()),
-        Action::Reinstall { old, new } => put_operands(out, &[Register(*old), Register(*new)]),
-        Action::Notify { list } => put_registers(out, list.as_slice()),
+        Action::Install { list } | Action::Notify { list } => put_registers(out, list.as_slice()),
         Action::Locate {
             d,
             v,
@@ -159,9 +158,11 @@ fn put_words(out: &mut Seq<u8>, action: &Action) -> Result<(), OutOfMemory>
             out,
             &[Decimal(u16::from(*kind)), Bytes(body.as_slice())],
         ),
-        Action::Memory { begin, length } => {
-            put_operands(out, &[Register(*begin), Register(*length)])
-        }
+        Action::Reinstall { old: a, new: b }
+        | Action::Memory {
+            begin: a,
+            length: b,
+        } => put_operands(out, &[Register(*a), Register(*b)]),
         Action::Pages {
             r,
             memory_type,
@@ -183,7 +184,6 @@ fn put_words(out: &mut Seq<u8>, action: &Action) -> Result<(), OutOfMemory>
             &[Decimal(u16::from(*condition)), Decimal(u16::from(*n))],
         ),
         Action::Ret { status } => put_operands(out, &[Status(*status)]),
-        Action::Shadow => put_operands(out, &[]),
         Action::DxeInstall { form, h, guid, v } => put_operands(
             out,
             &[
@@ -220,7 +220,7 @@ fn put_words(out: &mut Seq<u8>, action: &Action) -> Result<(), OutOfMemory>
         ),
         Action::Schedule { guid } => put_operands(out, &[Operand::Guid(guid)]),
         Action::Process { v } => put_operands(out, &[Register(*v)]),
-        Action::Dispatch => put_operands(out, &[]),
+        Action::Shadow | Action::Dispatch => put_operands(out, &[]),
     }
 }
 

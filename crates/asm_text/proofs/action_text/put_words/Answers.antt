@@ -1,14 +1,12 @@
+use Rattle.std.proofs.Common.{inl, inr}
 use Rattle.asm_text.proofs.Printed.{printed_as}
 use Rattle.asm_text.proofs.action_text.put_words.Goals as goal
 
 pub returns-in-Set : goal.returns-in-Set
-returns-in-Set c = printed_as _ _ _ _ _ c.in-Set.is c.put_operands.ensures
-
-pub returns-in-Add : goal.returns-in-Add
-returns-in-Add c = printed_as _ _ _ _ _ c.in-Add.is c.put_operands-in-Add.ensures
+returns-in-Set c = elim c.in-Set.is [ | inl e ↦ printed_as _ _ _ _ _ e c.put_operands-in-Set.ensures | inr e ↦ printed_as _ _ _ _ _ e c.put_operands-in-Set.ensures ]
 
 pub returns-in-Pool : goal.returns-in-Pool
-returns-in-Pool c = printed_as _ _ _ _ _ c.in-Pool.is (rw c.from.ensures at c.put_operands-in-Pool.ensures)
+returns-in-Pool c = printed_as _ _ _ _ _ c.in-Pool.is (rw c.from.ensures at c.put_operands.ensures)
 
 pub returns-in-Store : goal.returns-in-Store
 returns-in-Store c = printed_as _ _ _ _ _ c.in-Store.is (rw (c.from-in-Store.ensures, c.as_slice.ensures) at c.put_operands-in-Store.ensures)
@@ -23,22 +21,16 @@ pub returns-in-Desc : goal.returns-in-Desc
 returns-in-Desc c = printed_as _ _ _ _ _ c.in-Desc.is c.put_desc.ensures
 
 pub returns-in-Install : goal.returns-in-Install
-returns-in-Install c = printed_as _ _ _ _ _ c.in-Install.is (rw c.as_slice-in-Install.ensures at c.put_registers.ensures)
+returns-in-Install c = elim c.in-Install.is [ | inl e ↦ printed_as _ _ _ _ _ e (rw c.as_slice-in-Install.ensures at c.put_registers.ensures) | inr e ↦ printed_as _ _ _ _ _ e (rw c.as_slice-in-Install.ensures at c.put_registers.ensures) ]
 
 pub returns-in-Reinstall : goal.returns-in-Reinstall
-returns-in-Reinstall c = printed_as _ _ _ _ _ c.in-Reinstall.is c.put_operands-in-Reinstall.ensures
-
-pub returns-in-Notify : goal.returns-in-Notify
-returns-in-Notify c = printed_as _ _ _ _ _ c.in-Notify.is (rw c.as_slice-in-Notify.ensures at c.put_registers-in-Notify.ensures)
+returns-in-Reinstall c = elim c.in-Reinstall.is [ | inl e ↦ printed_as _ _ _ _ _ e c.put_operands-in-Reinstall.ensures | inr e ↦ printed_as _ _ _ _ _ e c.put_operands-in-Reinstall.ensures ]
 
 pub returns-in-Locate : goal.returns-in-Locate
 returns-in-Locate c = printed_as _ _ _ _ _ c.in-Locate.is c.put_operands-in-Locate.ensures
 
 pub returns-in-Hob : goal.returns-in-Hob
 returns-in-Hob c = printed_as _ _ _ _ _ c.in-Hob.is (rw (c.from-in-Hob.ensures, c.as_slice-in-Hob.ensures) at c.put_operands-in-Hob.ensures)
-
-pub returns-in-Memory : goal.returns-in-Memory
-returns-in-Memory c = printed_as _ _ _ _ _ c.in-Memory.is c.put_operands-in-Memory.ensures
 
 pub returns-in-Pages : goal.returns-in-Pages
 returns-in-Pages c = printed_as _ _ _ _ _ c.in-Pages.is (rw (c.from-in-Pages.ensures, c.from-in-Pages-2.ensures) at c.put_operands-in-Pages.ensures)
