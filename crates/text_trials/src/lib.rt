@@ -1,0 +1,11 @@
+//! The texts and codes that people and files write, and what is printed, tried row by row.
+#![tactic(auto)]
+
+#[cfg(test)]
+mod board;
+#[cfg(test)]
+mod expressions;
+#[cfg(test)]
+mod plans;
+#[cfg(test)]
+mod scripts;
