@@ -1,4 +1,5 @@
 // What several of the tests put together: bytes, texts with a part many times over, and a sink for what is printed.
+use boot_io::MemSink;
 use pi_base::Seq;
 use std::alloc::{AllocError, Global};
 use std::test::Fail;
@@ -41,6 +42,14 @@ pub(crate) fn list_of<T: Copy>(alloc: Global, items: &[T]) -> Result<Seq<T>, Fai
     let mut list = Seq::new(alloc);
     match list.append(items) {
         Ok(()) => Ok(list),
+        Err(_) => Err(Fail::new("ample memory")),
+    }
+}
+
+/// An empty sink with room for 4,096 bytes.
+pub(crate) fn empty_sink(alloc: Global) -> Result<MemSink, Fail> {
+    match MemSink::new(alloc, 4096, Seq::new(alloc)) {
+        Ok(sink) => Ok(sink),
         Err(_) => Err(Fail::new("ample memory")),
     }
 }

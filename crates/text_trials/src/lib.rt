@@ -6,6 +6,12 @@ mod board;
 #[cfg(test)]
 mod expressions;
 #[cfg(test)]
+mod expressions_as_text;
+#[cfg(test)]
 mod plans;
 #[cfg(test)]
+mod printed_lines;
+#[cfg(test)]
 mod scripts;
+#[cfg(test)]
+mod scripts_as_text;
