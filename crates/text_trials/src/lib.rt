@@ -15,3 +15,5 @@ mod printed_lines;
 mod scripts;
 #[cfg(test)]
 mod scripts_as_text;
+#[cfg(test)]
+mod traces;
