@@ -8,9 +8,19 @@ mod expressions;
 #[cfg(test)]
 mod expressions_as_text;
 #[cfg(test)]
+mod hob_rows;
+#[cfg(test)]
+mod map_commands;
+#[cfg(test)]
+mod map_faults;
+#[cfg(test)]
+mod memory_map;
+#[cfg(test)]
 mod plans;
 #[cfg(test)]
 mod printed_lines;
+#[cfg(test)]
+mod processors;
 #[cfg(test)]
 mod scripts;
 #[cfg(test)]
