@@ -34,8 +34,8 @@ fn check(
 
 #[test]
 fn a_plan_is_read(rt: HostRuntime) -> Result<(), Fail> {
-    let text =
-        b"# a comment\x00\xff\r\n\nram 1073741824 0x4000000\r\nfuel 000007\n#\npages 0xC000\ntemp   0x00080000000  0x10000\nvolume 0xfff00000 a.fv\nvolume 0x100000 ~!";
+    let text = b"# a comment\x00\xff\r\n\nram 1073741824 0x4000000\r\nfuel 000007\n#\n\
+        pages 0xC000\ntemp   0x00080000000  0x10000\nvolume 0xfff00000 a.fv\nvolume 0x100000 ~!";
     let plan = read_plan(rt.alloc(), text.as_slice()).ok().ok_or("a plan")?;
     assert_eq!(rt; (plan.temp.base, plan.temp.len), (0x8000_0000, 0x1_0000));
     assert_eq!(rt; (plan.ram.base, plan.ram.len), (0x4000_0000, 0x400_0000));

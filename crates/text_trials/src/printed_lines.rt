@@ -28,13 +28,8 @@ fn show(rt: &impl Abort, alloc: Global, rows: &[(Line, &[u8])]) -> Result<(), Fa
 }
 
 #[test]
-fn starts_calls_and_notifications_have_their_lines(rt: HostRuntime) -> Result<(), Fail> {
+fn starts_and_notifications_have_their_lines(rt: HostRuntime) -> Result<(), Fail> {
     let alloc = rt.alloc();
-    let mut text = ArrayVec::new();
-    text.push(b'a');
-    let mut read = ArrayVec::new();
-    read.push(0x23);
-    read.push(0x0a);
     let rows = [
         (Line::Report { volume: 0 }, b"report 0\n".as_slice()),
         (
@@ -53,6 +48,29 @@ fn starts_calls_and_notifications_have_their_lines(rt: HostRuntime) -> Result<()
             },
             b"dxe start 2 00000000-0000-0000-0000-00000000000a before\n".as_slice(),
         ),
+        (
+            Line::NotifyDispatch {
+                volume: 0,
+                name: A,
+                fired: MEMORY,
+            },
+            b"notify dispatch 0 00000000-0000-0000-0000-00000000000a \
+                f894643d-c449-42d1-8ea8-85bdd8c65bde\n"
+                .as_slice(),
+        ),
+    ];
+    show(&rt, alloc, &rows)
+}
+
+#[test]
+fn calls_and_logs_have_their_lines(rt: HostRuntime) -> Result<(), Fail> {
+    let alloc = rt.alloc();
+    let mut text = ArrayVec::new();
+    text.push(b'a');
+    let mut read = ArrayVec::new();
+    read.push(0x23);
+    read.push(0x0a);
+    let rows = [
         (
             Line::Call {
                 name: CallName::Desc,
@@ -78,14 +96,6 @@ fn starts_calls_and_notifications_have_their_lines(rt: HostRuntime) -> Result<()
             b"call peek Success 230a\n".as_slice(),
         ),
         (Line::Log { text }, b"log a\n".as_slice()),
-        (
-            Line::NotifyDispatch {
-                volume: 0,
-                name: A,
-                fired: MEMORY,
-            },
-            b"notify dispatch 0 00000000-0000-0000-0000-00000000000a f894643d-c449-42d1-8ea8-85bdd8c65bde\n".as_slice(),
-        ),
     ];
     show(&rt, alloc, &rows)
 }
@@ -134,7 +144,7 @@ fn a_phase_has_its_lines_from_an_end_to_the_hand_off(rt: HostRuntime) -> Result<
 }
 
 #[test]
-fn each_list_has_its_lines(rt: HostRuntime) -> Result<(), Fail> {
+fn ppis_notifications_and_handles_have_their_lines(rt: HostRuntime) -> Result<(), Fail> {
     let alloc = rt.alloc();
     let rows = [
         (Line::Ppis { count: 1 }, b"ppis 1\n".as_slice()),
@@ -154,6 +164,22 @@ fn each_list_has_its_lines(rt: HostRuntime) -> Result<(), Fail> {
             },
             b"callback 00000000-0000-0000-0000-00000000000a 1 63\n".as_slice(),
         ),
+        (
+            Line::Handle {
+                handle: 1,
+                guid: A,
+                value: 6,
+            },
+            b"handle 1 00000000-0000-0000-0000-00000000000a 0x6\n".as_slice(),
+        ),
+    ];
+    show(&rt, alloc, &rows)
+}
+
+#[test]
+fn hobs_and_results_have_their_lines(rt: HostRuntime) -> Result<(), Fail> {
+    let alloc = rt.alloc();
+    let rows = [
         (Line::Hobs { count: 2 }, b"hobs 2\n".as_slice()),
         (
             Line::Hob {
@@ -170,14 +196,6 @@ fn each_list_has_its_lines(rt: HostRuntime) -> Result<(), Fail> {
             b"hob 7 -\n".as_slice(),
         ),
         (
-            Line::Handle {
-                handle: 1,
-                guid: A,
-                value: 6,
-            },
-            b"handle 1 00000000-0000-0000-0000-00000000000a 0x6\n".as_slice(),
-        ),
-        (
             Line::Result {
                 outcome: RunEnd::NoIpl,
             },
@@ -188,7 +206,7 @@ fn each_list_has_its_lines(rt: HostRuntime) -> Result<(), Fail> {
 }
 
 #[test]
-fn audits_and_refusals_have_their_lines(rt: HostRuntime) -> Result<(), Fail> {
+fn audits_have_their_lines(rt: HostRuntime) -> Result<(), Fail> {
     let alloc = rt.alloc();
     let part = Line::Module {
         by: 2,
@@ -214,6 +232,14 @@ fn audits_and_refusals_have_their_lines(rt: HostRuntime) -> Result<(), Fail> {
             part,
             b"module 2 0 00000000-0000-0000-0000-00000000000a 0c - 3 - malformed@2\n".as_slice(),
         ),
+    ];
+    show(&rt, alloc, &rows)
+}
+
+#[test]
+fn refusals_have_their_lines(rt: HostRuntime) -> Result<(), Fail> {
+    let alloc = rt.alloc();
+    let rows = [
         (Line::RefusedUsage, b"refused usage\n".as_slice()),
         (
             Line::RefusedFile {

@@ -1,4 +1,5 @@
-// The bytes of scripts, made by hand: every action of each phase with its bytes, each prefix of the smallest script, and faults beside their neighbours that pass.
+// The bytes of scripts, made by hand: every action of each phase with its bytes, each prefix of the smallest
+// script, and faults beside their neighbours that pass.
 use crate::board::SMALLEST_SCRIPT;
 use act_code::{ActCause, ActFault, Script, read_script, write_script};
 use pi_base::Seq;

@@ -201,7 +201,8 @@ fn what_is_no_script_is_bad_at_its_line(rt: HostRuntime) {
     }
 }
 
-/// Lines, a line and how many times it stands behind them, other lines, and the line with which the text goes wrong; 0 where it is a script's.
+/// Lines, a line and how many times it stands behind them, other lines, and the line with which the text
+/// goes wrong; 0 where it is a script's.
 const LIMITS: [(&[u8], &[u8], usize, &[u8], u32); 8] = [
     // 1,024 actions
     (b"phase pei\nblock\n", b"log a\n", 1023, b"ret Success\n", 0),
