@@ -26,6 +26,3 @@ pub use laws::one_outcome;
 pub use reading::read_script;
 pub use script::Script;
 pub use writing::write_script;
-
-#[cfg(test)]
-mod tests;

@@ -31,6 +31,3 @@ pub use fault::TextFault;
 pub use script_reading::parse_script;
 pub use script_text::print_script;
 pub use text_law::{one_bad_line, one_expression, one_script, scripts_of_bytes};
-
-#[cfg(test)]
-mod tests;

@@ -17,6 +17,3 @@ pub use limits::{
 };
 pub use plan::{Plan, PlanVolume};
 pub use read::{one_reading, read_plan};
-
-#[cfg(test)]
-mod tests;

@@ -24,6 +24,3 @@ pub use number_word::{DECIMAL_LEN, HEXADECIMAL_LEN, decimal_word, hexadecimal_wo
 pub use out::Out;
 pub use start::put_start;
 pub use store_hobs::{HobCount, count_hobs};
-
-#[cfg(test)]
-mod tests;

@@ -22,6 +22,3 @@ pub use reading::{MOST_OPCODES, read_depex};
 pub use set::GuidSet;
 pub use steps::Steps;
 pub use tree::Tree;
-
-#[cfg(test)]
-mod tests;

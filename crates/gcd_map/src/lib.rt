@@ -33,6 +33,3 @@ pub use print::{
 pub use range::GcdRange;
 pub use state::{GcdKind, SpaceState};
 pub use word::GcdWord;
-
-#[cfg(test)]
-mod tests;

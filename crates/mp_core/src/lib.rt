@@ -21,6 +21,3 @@ pub use needs::events_fit;
 pub use op::Op;
 pub use reply::{MpOutcome, MpReply, MpWord};
 pub use running::run;
-
-#[cfg(test)]
-mod tests;

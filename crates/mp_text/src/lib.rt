@@ -18,6 +18,3 @@ pub use fault::MpFault;
 pub use file::{MpFile, read_mp};
 pub use laws::{each_call_is_answered, one_reading};
 pub use print::{put_bad_line, put_outcome};
-
-#[cfg(test)]
-mod tests;

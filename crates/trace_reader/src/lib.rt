@@ -26,6 +26,3 @@ pub use fault::TraceFault;
 pub use reading_law::one_reading;
 pub use starting_line::start_line;
 pub use trace::read_trace;
-
-#[cfg(test)]
-mod tests;

@@ -1,13 +1,10 @@
-// Scripts made by hand: every action of each phase with its bytes, each prefix of the smallest script, and faults beside their neighbours that pass.
-use super::*;
+// The bytes of scripts, made by hand: every action of each phase with its bytes, each prefix of the smallest
+// script, and faults beside their neighbours that pass.
+use crate::board::SMALLEST_SCRIPT;
+use act_code::{ActCause, ActFault, Script, read_script, write_script};
 use pi_base::Seq;
 use std::alloc::Global;
 use std::test::*;
-
-/// The script of a module that logs `a` and ends.
-const SMALLEST: [u8; 15] = [
-    0x50, 0x49, 0x41, 0x53, 0x01, 0x01, 0x01, 0x00, 0x02, 0x00, 0x11, 0x01, 0x61, 0x13, 0x00,
-];
 
 // The cause's number and the place; 0 where a script is read.
 fn told(read: Result<Script, ActFault>) -> (u8, u32) {
@@ -54,8 +51,11 @@ const PREFIXES: [(u8, u32); 16] = [
 #[test]
 fn each_prefix_of_a_script_is_refused(rt: HostRuntime) {
     for (n, outcome) in PREFIXES.iter().enumerate() {
-        assert!(rt; n <= SMALLEST.len());
-        assert_eq!(rt; told(read_script(rt.alloc(), &SMALLEST[..n])), *outcome);
+        assert!(rt; n <= SMALLEST_SCRIPT.len());
+        assert_eq!(rt;
+            told(read_script(rt.alloc(), &SMALLEST_SCRIPT[..n])),
+            *outcome
+        );
     }
 }
 

@@ -1,107 +1,10 @@
-// The worked rows, each action's text both ways, and each refusal once.
-use super::*;
+// Scripts as a person writes them: each action both ways between its text and its bytes, each refusal once, and the limits.
+use crate::board::{SMALLEST_SCRIPT, joined, repeated};
 use act_code::{read_script, write_script};
-use depex_code::read_depex;
+use asm_text::{TextFault, parse_script, print_script};
 use pi_base::{Phase, Seq};
 use std::alloc::Global;
 use std::test::*;
-
-// Adds bytes.
-fn put(out: &mut Seq<u8>, bytes: &[u8]) -> Result<(), Fail> {
-    if out.append(bytes).is_err() {
-        return Err(Fail::new("ample memory"));
-    }
-    Ok(())
-}
-
-/// Expressions as text, and their bytes.
-const EXPRESSIONS: [(&[u8], &[u8]); 6] = [
-    (b"sor true\n", &[9, 6, 8]),
-    (b"(true or not false)\n", &[6, 7, 5, 4, 8]),
-    (b"((true and false) and true)\n", &[6, 7, 3, 6, 3, 8]),
-    (
-        b"(03020100-0504-0706-0809-0a0b0c0d0e0f and not 13121110-1514-1716-1819-1a1b1c1d1e1f)\n",
-        &[
-            2, 0, 1, 2, 3, 4, 5, 6, 7, 8, 9, 10, 11, 12, 13, 14, 15, 2, 16, 17, 18, 19, 20, 21, 22,
-            23, 24, 25, 26, 27, 28, 29, 30, 31, 5, 3, 8,
-        ],
-    ),
-    (
-        b"before 03020100-0504-0706-0809-0a0b0c0d0e0f\n",
-        &[0, 0, 1, 2, 3, 4, 5, 6, 7, 8, 9, 10, 11, 12, 13, 14, 15, 8],
-    ),
-    (
-        b"after 03020100-0504-0706-0809-0a0b0c0d0e0f\n",
-        &[1, 0, 1, 2, 3, 4, 5, 6, 7, 8, 9, 10, 11, 12, 13, 14, 15, 8],
-    ),
-];
-
-#[test]
-fn expressions_go_both_ways(rt: HostRuntime) {
-    for (text, bytes) in &EXPRESSIONS {
-        let Ok(depex) = parse_depex(rt.alloc(), text) else {
-            panic!(rt; "not read");
-        };
-        let Ok(written) = write_depex(rt.alloc(), &depex) else {
-            panic!(rt; "not written");
-        };
-        assert_eq!(rt; written.as_slice(), *bytes);
-        let Ok(read) = read_depex(rt.alloc(), bytes, Phase::Dxe) else {
-            panic!(rt; "not read from bytes");
-        };
-        let Ok(printed) = print_depex(rt.alloc(), &read) else {
-            panic!(rt; "not printed");
-        };
-        assert_eq!(rt; printed.as_slice(), *text);
-    }
-}
-
-/// Texts of no expression, and the line with which they go wrong.
-const NO_EXPRESSIONS: [(&[u8], u32); 11] = [
-    (b"", 1),
-    (b"true", 1),
-    (b"true\ntrue\n", 2),
-    (b"true\n\n", 2),
-    (b"TRUE\n", 1),
-    (b"not  true\n", 1),
-    (b"true \n", 1),
-    (b"(true and false\n", 1),
-    (b"true and false\n", 1),
-    (b"sor sor true\n", 1),
-    (b"before true\n", 1),
-];
-
-#[test]
-fn what_is_no_expression_is_bad_at_its_line(rt: HostRuntime) {
-    for (text, line) in &NO_EXPRESSIONS {
-        match parse_depex(rt.alloc(), text) {
-            Ok(_) => panic!(rt; "read"),
-            Err(fault) => assert_eq!(rt; fault, TextFault::Bad { line: *line }),
-        }
-    }
-}
-
-// So many `not`, and `true`.
-fn negated(alloc: Global, count: usize) -> Result<Seq<u8>, Fail> {
-    let mut text = Seq::new(alloc);
-    for _ in 0..count {
-        put(&mut text, b"not ")?;
-    }
-    put(&mut text, b"true\n")?;
-    Ok(text)
-}
-
-#[test]
-fn the_longest_expression_is_read(rt: HostRuntime) -> Result<(), Fail> {
-    let longest = negated(rt.alloc(), 1022)?;
-    assert!(rt; parse_depex(rt.alloc(), longest.as_slice()).is_ok());
-    let longer = negated(rt.alloc(), 1023)?;
-    match parse_depex(rt.alloc(), longer.as_slice()) {
-        Ok(_) => panic!(rt; "read"),
-        Err(fault) => assert_eq!(rt; fault, TextFault::TooLong),
-    }
-    Ok(())
-}
 
 /// Actions as text, and their bytes.
 const ACTIONS: [(Phase, &[u8], &[u8]); 29] = [
@@ -211,44 +114,34 @@ fn assembled(alloc: Global, text: &[u8]) -> Result<Seq<u8>, TextFault> {
     }
 }
 
-// The script of an action, two rets behind it, and another block.
-fn text_with(alloc: Global, phase: Phase, line: &[u8]) -> Result<Seq<u8>, Fail> {
-    let mut text = Seq::new(alloc);
-    match phase {
-        Phase::Pei => put(&mut text, b"phase pei\n")?,
-        Phase::Dxe => put(&mut text, b"phase dxe\n")?,
-    }
-    put(&mut text, b"block\n")?;
-    put(&mut text, line)?;
-    put(
-        &mut text,
-        b"\nret Success\nret Success\nblock\nret Success\n",
-    )?;
-    Ok(text)
-}
+/// What stands in front of the action and behind it: two rets, and another block.
+const PEI_TEXT: &[u8] = b"phase pei\nblock\n";
 
-// Its bytes.
-fn bytes_with(alloc: Global, phase: Phase, action: &[u8]) -> Result<Seq<u8>, Fail> {
-    let mut bytes = Seq::new(alloc);
-    match phase {
-        Phase::Pei => put(&mut bytes, &[0x50, 0x49, 0x41, 0x53, 1, 1, 2, 0, 3, 0])?,
-        Phase::Dxe => put(&mut bytes, &[0x50, 0x49, 0x41, 0x53, 1, 2, 2, 0, 3, 0])?,
-    }
-    put(&mut bytes, action)?;
-    put(&mut bytes, &[19, 0, 19, 0, 1, 0, 19, 0])?;
-    Ok(bytes)
-}
+const DXE_TEXT: &[u8] = b"phase dxe\nblock\n";
+
+const TEXT_BEHIND: &[u8] = b"\nret Success\nret Success\nblock\nret Success\n";
+
+/// The bytes of the same.
+const PEI_BYTES: &[u8] = &[0x50, 0x49, 0x41, 0x53, 1, 1, 2, 0, 3, 0];
+
+const DXE_BYTES: &[u8] = &[0x50, 0x49, 0x41, 0x53, 1, 2, 2, 0, 3, 0];
+
+const BYTES_BEHIND: &[u8] = &[19, 0, 19, 0, 1, 0, 19, 0];
 
 #[test]
 fn actions_go_both_ways(rt: HostRuntime) -> Result<(), Fail> {
     for (phase, line, action) in &ACTIONS {
-        let text = text_with(rt.alloc(), *phase, line)?;
-        let bytes = bytes_with(rt.alloc(), *phase, action)?;
-        let Ok(written) = assembled(rt.alloc(), text.as_slice()) else {
+        let (text_front, bytes_front) = match phase {
+            Phase::Pei => (PEI_TEXT, PEI_BYTES),
+            Phase::Dxe => (DXE_TEXT, DXE_BYTES),
+        };
+        let text = joined(rt.alloc(), &[text_front, line, TEXT_BEHIND])?;
+        let bytes = joined(rt.alloc(), &[bytes_front, action, BYTES_BEHIND])?;
+        let Ok(written) = assembled(rt.alloc(), &text) else {
             panic!(rt; "not read");
         };
         assert_eq!(rt; written.as_slice(), bytes.as_slice());
-        let Ok(read) = read_script(rt.alloc(), bytes.as_slice()) else {
+        let Ok(read) = read_script(rt.alloc(), &bytes) else {
             panic!(rt; "not read from bytes");
         };
         let Ok(printed) = print_script(rt.alloc(), &read) else {
@@ -264,17 +157,11 @@ fn the_smallest_script_is_read(rt: HostRuntime) {
     let Ok(bytes) = assembled(rt.alloc(), b"phase pei\nblock\nlog a\nret Success\n") else {
         panic!(rt; "not read");
     };
-    assert_eq!(rt;
-        bytes.as_slice(),
-        [
-            0x50, 0x49, 0x41, 0x53, 1, 1, 1, 0, 2, 0, 0x11, 1, 0x61, 0x13, 0
-        ]
-        .as_slice()
-    );
+    assert_eq!(rt; bytes.as_slice(), SMALLEST_SCRIPT.as_slice());
 }
 
 /// Texts of no script, and the line with which they go wrong.
-const NO_SCRIPTS: [(&[u8], u32); 18] = [
+const NO_SCRIPTS: [(&[u8], u32); 20] = [
     (b"", 1),
     (b"phase mm\n", 1),
     (b"phase pei\n", 2),
@@ -287,6 +174,9 @@ const NO_SCRIPTS: [(&[u8], u32); 18] = [
     (b"phase dxe\nblock\npool r1 0x1\nret Success\n", 3),
     (b"phase pei\nblock\nset r16 0x1\nret Success\n", 3),
     (b"phase pei\nblock\npool r1 0x100000000\nret Success\n", 3),
+    // numbers that are not in their printed form
+    (b"phase pei\nblock\nset r1 0X1\nret Success\n", 3),
+    (b"phase pei\nblock\nset r1 0x01\nret Success\n", 3),
     (b"phase pei\nblock\nstore r1 0x0 0A\nret Success\n", 3),
     (b"phase pei\nblock\nskip_if 0 1\nret Success\n", 5),
     (b"phase pei\nblock\nskip_if 0 1\nret Success\nblock\n", 5),
@@ -311,24 +201,8 @@ fn what_is_no_script_is_bad_at_its_line(rt: HostRuntime) {
     }
 }
 
-// Some lines, a line so many times, and other lines.
-fn repeated(
-    alloc: Global,
-    front: &[u8],
-    line: &[u8],
-    count: usize,
-    behind: &[u8],
-) -> Result<Seq<u8>, Fail> {
-    let mut text = Seq::new(alloc);
-    put(&mut text, front)?;
-    for _ in 0..count {
-        put(&mut text, line)?;
-    }
-    put(&mut text, behind)?;
-    Ok(text)
-}
-
-/// Lines, a line and how many times it stands behind them, other lines, and the line with which the text goes wrong; 0 where it is a script's.
+/// Lines, a line and how many times it stands behind them, other lines, and the line with which the text
+/// goes wrong; 0 where it is a script's.
 const LIMITS: [(&[u8], &[u8], usize, &[u8], u32); 8] = [
     // 1,024 actions
     (b"phase pei\nblock\n", b"log a\n", 1023, b"ret Success\n", 0),
@@ -373,7 +247,7 @@ const LIMITS: [(&[u8], &[u8], usize, &[u8], u32); 8] = [
 fn scripts_keep_within_their_limits(rt: HostRuntime) -> Result<(), Fail> {
     for (front, line, count, behind, bad) in &LIMITS {
         let text = repeated(rt.alloc(), front, line, *count, behind)?;
-        match parse_script(rt.alloc(), text.as_slice()) {
+        match parse_script(rt.alloc(), &text) {
             Ok(_) => assert_eq!(rt; *bad, 0),
             Err(fault) => assert_eq!(rt; fault, TextFault::Bad { line: *bad }),
         }
@@ -381,30 +255,24 @@ fn scripts_keep_within_their_limits(rt: HostRuntime) -> Result<(), Fail> {
     Ok(())
 }
 
-/// A script with 992 texts of 64 characters, which take 66 bytes each.
+/// A line of 992 that are alike, whose text of 64 characters takes 66 bytes.
 const LONG: &[u8] = b"log 0123456789abcdef0123456789abcdef0123456789abcdef0123456789abcdef\n";
+
+/// The last lines of the longest script, and of one that is a byte longer.
+const LAST: &[u8] = b"log 0123456789abcdef0123456789abcdef0123456789abcdef01\nret Success\n";
+
+const LAST_LONGER: &[u8] =
+    b"log 0123456789abcdef0123456789abcdef0123456789abcdef012\nret Success\n";
 
 #[test]
 fn the_longest_script_is_read(rt: HostRuntime) -> Result<(), Fail> {
-    let longest = repeated(
-        rt.alloc(),
-        b"phase pei\nblock\n",
-        LONG,
-        992,
-        b"log 0123456789abcdef0123456789abcdef0123456789abcdef01\nret Success\n",
-    )?;
-    let Ok(bytes) = assembled(rt.alloc(), longest.as_slice()) else {
+    let longest = repeated(rt.alloc(), PEI_TEXT, LONG, 992, LAST)?;
+    let Ok(bytes) = assembled(rt.alloc(), &longest) else {
         panic!(rt; "not read");
     };
     assert_eq!(rt; bytes.len(), 65536);
-    let longer = repeated(
-        rt.alloc(),
-        b"phase pei\nblock\n",
-        LONG,
-        992,
-        b"log 0123456789abcdef0123456789abcdef0123456789abcdef012\nret Success\n",
-    )?;
-    match parse_script(rt.alloc(), longer.as_slice()) {
+    let longer = repeated(rt.alloc(), PEI_TEXT, LONG, 992, LAST_LONGER)?;
+    match parse_script(rt.alloc(), &longer) {
         Ok(_) => panic!(rt; "read"),
         Err(fault) => assert_eq!(rt; fault, TextFault::TooLong),
     }

@@ -1,10 +1,10 @@
-// Expressions from the specification and made by hand: what is read, where nothing is, and whether it holds.
+// The bytes of dependency expressions, from the specification and made by hand: what is read, where nothing is, and whether it holds.
 ghost use Rattle.std.specs.Prelude.{◌≡◌, ◌<◌, ◌≤◌, length};
 ghost use Rattle.depex_code.specs.Tree.{postfix};
 
-use super::*;
-use pi_base::{Guid, Phase, Seq};
-use std::alloc::Global;
+use crate::board::{list_of, repeated};
+use depex_code::{Depex, DepexFault, GuidSet, Opcode, Steps, Tree, read_depex};
+use pi_base::{Guid, Phase};
 use std::marker::Brand;
 use std::process::Abort;
 use std::sync::ledger::{Blank, Ledger};
@@ -147,29 +147,13 @@ fn an_expression_is_read_or_refused_at_its_opcode(rt: HostRuntime) {
     }
 }
 
-// TRUE, so many NOTs, and END.
-fn negated(alloc: Global, count: usize) -> Result<Vec<u8>, Fail> {
-    let mut bytes = Vec::new(alloc);
-    bytes.push(6)?;
-    for _ in 0..count {
-        bytes.push(5)?;
-    }
-    bytes.push(8)?;
-    Ok(bytes)
-}
-
 #[test]
-fn the_longest_expression_is_read(rt: HostRuntime) -> Result<(), Fail> {
-    let most = negated(rt.alloc(), 1022)?;
-    assert_eq!(rt;
-        told(read_depex(rt.alloc(), most.as_slice(), Phase::Pei)),
-        (TREE, 1023)
-    );
-    let over = negated(rt.alloc(), 1023)?;
-    assert_eq!(rt;
-        told(read_depex(rt.alloc(), over.as_slice(), Phase::Pei)),
-        (MALFORMED, 1024)
-    );
+fn an_expression_has_at_most_1023_opcodes(rt: HostRuntime) -> Result<(), Fail> {
+    // How many NOTs stand between TRUE and END, and what is read.
+    for (count, outcome) in [(1022, (TREE, 1023)), (1023, (MALFORMED, 1024))] {
+        let bytes = repeated(rt.alloc(), &[6], &[5], count, &[8])?;
+        assert_eq!(rt; told(read_depex(rt.alloc(), &bytes, Phase::Pei)), outcome);
+    }
     Ok(())
 }
 
@@ -208,8 +192,7 @@ const TRUTHS: [(&[Opcode], [bool; 3]); 9] = [
 #[test]
 fn an_expression_is_true_by_the_guids_that_are_there(rt: HostRuntime) -> Result<(), Fail> {
     for (code, truths) in &TRUTHS {
-        let mut list = Seq::new(rt.alloc());
-        assert!(rt; list.append(code).is_ok());
+        let list = list_of(rt.alloc(), code)?;
         let tree = Tree::from_code(list).ok_or("the opcodes are those of a tree")?;
         assert_eq!(rt; tree.code(), *code);
         assert_eq!(rt;
@@ -233,10 +216,10 @@ const NO_TREES: [&[Opcode]; 4] = [
 ];
 
 #[test]
-fn what_leaves_no_single_value_is_no_tree(rt: HostRuntime) {
+fn what_leaves_no_single_value_is_no_tree(rt: HostRuntime) -> Result<(), Fail> {
     for code in &NO_TREES {
-        let mut list = Seq::new(rt.alloc());
-        assert!(rt; list.append(code).is_ok());
+        let list = list_of(rt.alloc(), code)?;
         assert!(rt; Tree::from_code(list).is_none());
     }
+    Ok(())
 }

@@ -1,0 +1,81 @@
+// HOB lists that tell of memory.
+use crate::hob_rows::Row::*;
+use hob_codec::kind::END;
+use hob_codec::{Handoff, Hob, encode_into, hob_len};
+use pi_base::Guid;
+use std::alloc::Global;
+use std::test::Fail;
+
+/// A HOB behind the hand-off: what a map is made of, with its type, base and length, and what is passed over.
+#[derive(Clone, Copy)]
+pub(crate) enum Row {
+    Cpu(u8),
+    Resource(u32, u64, u64),
+    Allocation(u64, u64),
+    Named,
+    Pool,
+}
+
+const NAME: Guid = Guid([0; 16]);
+
+const NOTHING: [u8; 16] = [0; 16];
+
+fn hob_of(row: &Row) -> Hob<'static> {
+    match *row {
+        Cpu(memory) => Hob::Cpu { memory, io: 16 },
+        Resource(kind, start, length) => Hob::Resource {
+            owner: NAME,
+            kind,
+            attributes: 0,
+            start,
+            length,
+        },
+        Allocation(base, length) => Hob::Allocation {
+            name: NAME,
+            base,
+            length,
+            memory_type: 0,
+        },
+        Named => Hob::Named {
+            name: NAME,
+            body: b"",
+        },
+        Pool => Hob::Pool { body: &NOTHING },
+    }
+}
+
+fn put_hob(alloc: Global, bytes: &mut Vec<u8>, hob: &Hob<'_>) -> Result<(), Fail> {
+    let Some(len) = hob_len(hob) else {
+        return Err(Fail::new("no length"));
+    };
+    let mut out = vec![in alloc; 0u8; len as usize]?;
+    encode_into(hob, out.as_mut_slice());
+    bytes.extend_from_slice(&out)?;
+    Ok(())
+}
+
+/// A hand-off, these HOBs, and an end.
+pub(crate) fn hob_list(alloc: Global, rows: &[Row]) -> Result<Vec<u8>, Fail> {
+    let mut bytes = Vec::new(alloc);
+    let handoff = Handoff {
+        boot_mode: 0,
+        top: 0,
+        bottom: 0,
+        free_top: 0,
+        free_bottom: 0,
+        end: 0,
+    };
+    put_hob(alloc, &mut bytes, &Hob::Handoff(handoff))?;
+    for row in rows {
+        put_hob(alloc, &mut bytes, &hob_of(row))?;
+    }
+    put_hob(
+        alloc,
+        &mut bytes,
+        &Hob::Other {
+            kind: END,
+            body: b"",
+        },
+    )?;
+    Ok(bytes)
+}

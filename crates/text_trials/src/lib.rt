@@ -1,0 +1,29 @@
+//! The texts and codes that people and files write, and what is printed, tried row by row.
+#![tactic(auto)]
+
+#[cfg(test)]
+mod board;
+#[cfg(test)]
+mod expressions;
+#[cfg(test)]
+mod expressions_as_text;
+#[cfg(test)]
+mod hob_rows;
+#[cfg(test)]
+mod map_commands;
+#[cfg(test)]
+mod map_faults;
+#[cfg(test)]
+mod memory_map;
+#[cfg(test)]
+mod plans;
+#[cfg(test)]
+mod printed_lines;
+#[cfg(test)]
+mod processors;
+#[cfg(test)]
+mod scripts;
+#[cfg(test)]
+mod scripts_as_text;
+#[cfg(test)]
+mod traces;

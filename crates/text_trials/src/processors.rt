@@ -1,0 +1,118 @@
+// Files of the MP services' machine: what is printed of their runs, which processors have a job left, and the first bad line.
+use crate::board::{MOST_TEXT, empty_sink};
+use mp_core::{events_fit, run};
+use mp_text::{MpFault, each_call_is_answered, one_reading, put_bad_line, put_outcome, read_mp};
+use std::test::*;
+
+/// A file, what is printed of its run, and which processors have a job left.
+#[derive(Clone, Copy)]
+struct Case {
+    file: &'static [u8],
+    printed: &'static [u8],
+    busy: &'static [bool],
+}
+
+const CASES: [Case; 5] = [
+    // A start of all, turns, a start of a busy AP, a caller that is no BSP, and the APs disabled.
+    Case {
+        file: b"mp 3 1\nall 0 add=0:5 put=7\nturn 2\nthis 0 1 put=1\nturn 1\nturn 1\nturn 2\n\
+            all 1 put=1\nwho 2\ndisable 0 1\ndisable 0 2\nall 0 put=1\n",
+        printed: b"all Success\nthis NotReady\nall DeviceError\nwho 2\ndisable Success\n\
+            disable Success\nall NotStarted\ncell 0 0xa\nrecord 0 -\nrecord 1 7\nrecord 2 7\n",
+        busy: &[false, false, false],
+    },
+    // A switch, after which the old BSP is a disabled AP, and a processor that is not there.
+    Case {
+        file: b"mp 2 1\nswitch 0 1 off\nall 1 put=1\nenable 1 0\nthis 1 0 add=0:3\ndisable 1 0\n\
+            turn 0\ndisable 1 0\nthis 1 9 put=1\n",
+        printed: b"switch Success\nall NotStarted\nenable Success\nthis Success\n\
+            disable Unsupported\ndisable Success\nthis NotFound\ncell 0 0x3\nrecord 0 -\nrecord 1 -\n",
+        busy: &[false, false],
+    },
+    // A sum that passes 2^64, and a `put` that is to come.
+    Case {
+        file: b"mp 2 2\nthis 0 1 add=1:18446744073709551615 add=1:3 put=9\nturn 1\nturn 1\nturn 0\n",
+        printed: b"this Success\ncell 0 0x0\ncell 1 0x2\nrecord 0 -\nrecord 1 -\n",
+        busy: &[false, true],
+    },
+    // A record of several numbers.
+    Case {
+        file: b"mp 2 1\nall 0 put=64 put=75 put=54 put=39\nturn 1\nturn 1\nturn 1\nenable 0 1\n\
+            all 0 put=16 put=93\nthis 0 2 add=0:7\n",
+        printed: b"all Success\nenable Unsupported\nall NotReady\nthis NotFound\ncell 0 0x0\n\
+            record 0 -\nrecord 1 64 75 54\n",
+        busy: &[false, true],
+    },
+    // Lines that are passed over, carriage returns, spaces, zeros in front, the greatest numbers, and no last line feed.
+    Case {
+        file: b"# a run\r\n\r\nmp  02 001\r\nall 0   put=00018446744073709551615\n#\n\
+            turn 4294967295\nturn 1",
+        printed: b"all Success\ncell 0 0x0\nrecord 0 -\nrecord 1 18446744073709551615\n",
+        busy: &[false, false],
+    },
+];
+
+/// Texts that are no files, and the line that is named.
+const REFUSED: [(&[u8], &[u8]); 18] = [
+    // No first line `mp N C`.
+    (b"", b"refused command 1\n"),
+    (b"# none\n\n", b"refused command 3\n"),
+    (b"\nwho 0\nmp 1 1\n", b"refused command 2\n"),
+    (b"mp 0 1\n", b"refused command 1\n"),
+    (b"mp 65 1\n", b"refused command 1\n"),
+    (b"mp 1 65\n", b"refused command 1\n"),
+    (b"mp 1 1 1\n", b"refused command 1\n"),
+    // A second one.
+    (b"mp 2 1\nmp 2 1\n", b"refused command 2\n"),
+    // A caller, a cell, a number of a processor, or a number that is not there.
+    (b"mp 2 1\n\nwho 2\nwho 3\n", b"refused command 3\n"),
+    (b"mp 2 1\nall 0 put=1 add=1:1\n", b"refused command 2\n"),
+    (b"mp 2 1\nturn 4294967296\n", b"refused command 2\n"),
+    (
+        b"mp 2 1\nall 0 put=18446744073709551616\n",
+        b"refused command 2\n",
+    ),
+    // Words that spell nothing, too few and too many.
+    (b"mp 2 1\nall 0 put=0x1\n", b"refused command 2\n"),
+    (b"mp 2 1\nall 0 add=0\n", b"refused command 2\n"),
+    (b"mp 2 1\nswitch 0 1 yes\n", b"refused command 2\n"),
+    (b"mp 2 1\nall 0\n", b"refused command 2\n"),
+    (b"mp 2 1\nwho 0 1\n", b"refused command 2\n"),
+    (b"mp 2 1\nwho 0 \n", b"refused command 2\n"),
+];
+
+#[test]
+fn a_run_prints_what_was_reckoned(rt: HostRuntime) -> Result<(), Fail> {
+    for case in &CASES {
+        let mut sink = empty_sink(rt.alloc())?;
+        assert!(rt; case.file.len() < MOST_TEXT);
+        let Ok(file) = read_mp(rt.alloc(), case.file) else {
+            return Err(Fail::new("a file"));
+        };
+        let events = file.events.as_slice();
+        assert!(rt; events_fit(events, file.processors, file.cells));
+        let Ok(outcome) = run(rt.alloc(), file.processors, file.cells, events) else {
+            return Err(Fail::new("ample memory"));
+        };
+        assert_eq!(rt; put_outcome(&mut sink, &file, &outcome), Ok(()));
+        assert_eq!(rt; sink.text(), case.printed);
+        assert_eq!(rt; outcome.busy.as_slice(), case.busy);
+    }
+    each_call_is_answered();
+    Ok(())
+}
+
+#[test]
+fn what_is_no_file_is_refused_at_its_first_bad_line(rt: HostRuntime) -> Result<(), Fail> {
+    for (text, want) in &REFUSED {
+        let mut sink = empty_sink(rt.alloc())?;
+        assert!(rt; text.len() < MOST_TEXT);
+        match read_mp(rt.alloc(), text) {
+            Err(MpFault::Bad { line }) => assert_eq!(rt; put_bad_line(&mut sink, line), Ok(())),
+            _ => panic!(rt; "a bad line"),
+        }
+        assert_eq!(rt; sink.text(), *want);
+    }
+    one_reading();
+    Ok(())
+}
