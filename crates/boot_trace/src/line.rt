@@ -65,7 +65,11 @@ pub fn put<S: Sink>(sink: &mut S, line: &Line) -> Result<(), SinkFault>
             extra,
         } => put_call(sink, key, *name, *status, extra),
         Line::Log { text } => put_word(sink, key, text.as_slice()),
-        Line::RefusedFile { name } | Line::RefusedLong { name } => put_word(sink, key, name.as_slice()),
+        Line::RefusedFile { name } | Line::RefusedLong { name } => put_word(
+            sink,
+            key,
+            name.as_slice(),
+        ),
         Line::End { status } | Line::CoreInstall { status } => put_word(sink, key, status.text()),
         Line::Result { outcome } => put_word(sink, key, run_end_word(*outcome)),
         Line::Migrate { from, to } => put_addresses(sink, key, *from, *to),

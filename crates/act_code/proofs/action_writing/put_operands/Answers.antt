@@ -5,7 +5,7 @@ use Rattle.act_code.proofs.Formats.{within_le, hob_small}
 use Rattle.act_code.proofs.action_writing.put_operands.Goals as goal
 
 pub returns-in-Set : goal.returns-in-Set
-returns-in-Set c = elim c.in-Set.is [ | inl e ↦ written_as _ _ _ _ _ e (rw c.bytes_8.ensures at c.put-in-Set.ensures) | inr e ↦ written_as _ _ _ _ _ e (rw c.bytes_8.ensures at c.put-in-Set.ensures) ]
+returns-in-Set c = elim c.in-Set.is [ inl e ↦ written_as _ _ _ _ _ e (rw c.bytes_8.ensures at c.put-in-Set.ensures) | inr e ↦ written_as _ _ _ _ _ e (rw c.bytes_8.ensures at c.put-in-Set.ensures) ]
 
 pub returns-in-Pool : goal.returns-in-Pool
 returns-in-Pool c = written_as _ _ _ _ _ c.in-Pool.is (rw c.bytes_4.ensures at c.put.ensures)
@@ -14,25 +14,25 @@ pub returns-in-Store : goal.returns-in-Store
 returns-in-Store c = written_as _ _ _ _ _ c.in-Store.is c.put_store.ensures
 
 pub returns-in-Addr : goal.returns-in-Addr
-returns-in-Addr c = elim c.in-Addr.is [ | inl e ↦ written_as _ _ _ _ _ e (rw c.bytes_4-in-Addr.ensures at c.put-in-Addr.ensures) | inr e ↦ written_as _ _ _ _ _ e (rw c.bytes_4-in-Addr.ensures at c.put-in-Addr.ensures) ]
+returns-in-Addr c = elim c.in-Addr.is [ inl e ↦ written_as _ _ _ _ _ e (rw c.bytes_4-in-Addr.ensures at c.put-in-Addr.ensures) | inr e ↦ written_as _ _ _ _ _ e (rw c.bytes_4-in-Addr.ensures at c.put-in-Addr.ensures) ]
 
 pub returns-in-Peek : goal.returns-in-Peek
 returns-in-Peek c = elim c.in-Peek.is [
+  | inl e ↦ written_as _ _ _ _ _ e c.put-in-Peek.ensures
+  | inr o ↦ elim o [
     | inl e ↦ written_as _ _ _ _ _ e c.put-in-Peek.ensures
     | inr o ↦ elim o [
-        | inl e ↦ written_as _ _ _ _ _ e c.put-in-Peek.ensures
-        | inr o ↦ elim o [
-            | inl e ↦ written_as _ _ _ _ _ e c.put-in-Peek.ensures
-            | inr o ↦ elim o [ | inl e ↦ written_as _ _ _ _ _ e c.put-in-Peek.ensures | inr e ↦ written_as _ _ _ _ _ e c.put-in-Peek.ensures ]
-          ]
-      ]
+      | inl e ↦ written_as _ _ _ _ _ e c.put-in-Peek.ensures
+      | inr o ↦ elim o [ inl e ↦ written_as _ _ _ _ _ e c.put-in-Peek.ensures | inr e ↦ written_as _ _ _ _ _ e c.put-in-Peek.ensures ]
+    ]
   ]
+]
 
 pub returns-in-Desc : goal.returns-in-Desc
 returns-in-Desc c = written_as _ _ _ _ _ c.in-Desc.is c.put_descriptor.ensures
 
 pub returns-in-Install : goal.returns-in-Install
-returns-in-Install c = elim c.in-Install.is [ | inl e ↦ written_as _ _ _ _ _ e c.put_list-in-Install.ensures | inr e ↦ written_as _ _ _ _ _ e c.put_list-in-Install.ensures ]
+returns-in-Install c = elim c.in-Install.is [ inl e ↦ written_as _ _ _ _ _ e c.put_list-in-Install.ensures | inr e ↦ written_as _ _ _ _ _ e c.put_list-in-Install.ensures ]
 
 pub returns-in-Locate : goal.returns-in-Locate
 returns-in-Locate c = written_as _ _ _ _ _ c.in-Locate.is (rw c.bytes_2.ensures at c.put_guid.ensures)
@@ -47,7 +47,7 @@ pub returns-in-Ret : goal.returns-in-Ret
 returns-in-Ret c = written_as _ _ _ _ _ c.in-Ret.is (rw c.number.ensures at c.put-in-Ret.ensures)
 
 pub returns-in-Shadow : goal.returns-in-Shadow
-returns-in-Shadow c = elim c.in-Shadow.is [ | inl e ↦ written_as _ _ _ _ _ e c.put-in-Shadow.ensures | inr e ↦ written_as _ _ _ _ _ e c.put-in-Shadow.ensures ]
+returns-in-Shadow c = elim c.in-Shadow.is [ inl e ↦ written_as _ _ _ _ _ e c.put-in-Shadow.ensures | inr e ↦ written_as _ _ _ _ _ e c.put-in-Shadow.ensures ]
 
 pub returns-in-DxeInstall : goal.returns-in-DxeInstall
 returns-in-DxeInstall c = written_as _ _ _ _ _ c.in-DxeInstall.is c.put_guid-in-DxeInstall.ensures
@@ -78,7 +78,7 @@ put_hob-requires c = let w = writable_as _ _ c.in-Hob.is c.requires in hob_small
 
 pub put_list-requires-in-Install : goal.put_list-requires-in-Install
 put_list-requires-in-Install c =
-    let w : is_within 1 8 (length c.in-Install.list) ≡ true = elim c.in-Install.is [ | inl e ↦ writable_as _ _ e c.requires | inr e ↦ writable_as _ _ e c.requires ] in
+    let w : is_within 1 8 (length c.in-Install.list) ≡ true = elim c.in-Install.is [ inl e ↦ writable_as _ _ e c.requires | inr e ↦ writable_as _ _ e c.requires ] in
     let short : length c.in-Install.list ≤ 8 = within_le 1 8 (length c.in-Install.list) w in
     omega arith
 

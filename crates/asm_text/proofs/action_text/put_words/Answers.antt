@@ -3,7 +3,7 @@ use Rattle.asm_text.proofs.Printed.{printed_as}
 use Rattle.asm_text.proofs.action_text.put_words.Goals as goal
 
 pub returns-in-Set : goal.returns-in-Set
-returns-in-Set c = elim c.in-Set.is [ | inl e ↦ printed_as _ _ _ _ _ e c.put_operands-in-Set.ensures | inr e ↦ printed_as _ _ _ _ _ e c.put_operands-in-Set.ensures ]
+returns-in-Set c = elim c.in-Set.is [ inl e ↦ printed_as _ _ _ _ _ e c.put_operands-in-Set.ensures | inr e ↦ printed_as _ _ _ _ _ e c.put_operands-in-Set.ensures ]
 
 pub returns-in-Pool : goal.returns-in-Pool
 returns-in-Pool c = printed_as _ _ _ _ _ c.in-Pool.is (rw c.from.ensures at c.put_operands.ensures)
@@ -21,10 +21,10 @@ pub returns-in-Desc : goal.returns-in-Desc
 returns-in-Desc c = printed_as _ _ _ _ _ c.in-Desc.is c.put_desc.ensures
 
 pub returns-in-Install : goal.returns-in-Install
-returns-in-Install c = elim c.in-Install.is [ | inl e ↦ printed_as _ _ _ _ _ e (rw c.as_slice-in-Install.ensures at c.put_registers.ensures) | inr e ↦ printed_as _ _ _ _ _ e (rw c.as_slice-in-Install.ensures at c.put_registers.ensures) ]
+returns-in-Install c = elim c.in-Install.is [ inl e ↦ printed_as _ _ _ _ _ e (rw c.as_slice-in-Install.ensures at c.put_registers.ensures) | inr e ↦ printed_as _ _ _ _ _ e (rw c.as_slice-in-Install.ensures at c.put_registers.ensures) ]
 
 pub returns-in-Reinstall : goal.returns-in-Reinstall
-returns-in-Reinstall c = elim c.in-Reinstall.is [ | inl e ↦ printed_as _ _ _ _ _ e c.put_operands-in-Reinstall.ensures | inr e ↦ printed_as _ _ _ _ _ e c.put_operands-in-Reinstall.ensures ]
+returns-in-Reinstall c = elim c.in-Reinstall.is [ inl e ↦ printed_as _ _ _ _ _ e c.put_operands-in-Reinstall.ensures | inr e ↦ printed_as _ _ _ _ _ e c.put_operands-in-Reinstall.ensures ]
 
 pub returns-in-Locate : goal.returns-in-Locate
 returns-in-Locate c = printed_as _ _ _ _ _ c.in-Locate.is c.put_operands-in-Locate.ensures
