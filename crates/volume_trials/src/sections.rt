@@ -1,0 +1,141 @@
+// Streams of sections that are read, and the first fault of others.
+use crate::board::{ONE_PEIM, front};
+use fv_section::section_type::{PE32, RAW};
+use fv_section::{SecCause, SecFault, Section, one_reading, read_sections};
+use std::alloc::Global;
+use std::process::Abort;
+use std::test::*;
+
+/// The section of the one-PEIM volume as an extended one, of 23 bytes.
+const EXTENDED_RAW: [u8; 23] = [
+    0xff, 0xff, 0xff, 0x19, 0x17, 0x00, 0x00, 0x00, 0x50, 0x49, 0x41, 0x53, 0x01, 0x01, 0x01, 0x00,
+    0x02, 0x00, 0x11, 0x01, 0x61, 0x13, 0x00,
+];
+
+/// Two sections, and three bytes behind them.
+const TWO: [u8; 15] = [
+    5, 0, 0, 0x10, 0xaa, 1, 2, 3, 4, 0, 0, 0x19, 0xff, 0xff, 0xff,
+];
+
+const fn section(kind: u8, body_at: u64, body_len: u64) -> Section {
+    Section {
+        kind,
+        body_at,
+        body_len,
+    }
+}
+
+// Whether the bytes are read as these sections.
+fn reads(alloc: Global, bytes: &[u8], sections: &[Section]) -> bool {
+    match read_sections(alloc, bytes) {
+        Ok(found) => found.as_slice() == sections,
+        Err(_) => false,
+    }
+}
+
+// Whether the bytes have this fault.
+fn fails(alloc: Global, bytes: &[u8], at: u64, cause: SecCause) -> bool {
+    match read_sections(alloc, bytes) {
+        Ok(_) => false,
+        Err(fault) => fault == SecFault { at, cause },
+    }
+}
+
+#[test]
+fn sound_streams_are_read(rt: HostRuntime) {
+    let rows: [(&[u8], &[Section]); 6] = [
+        // No bytes; a whole section; an extended one, and one of the least size.
+        (&[], &[]),
+        (&ONE_PEIM[96..], &[section(RAW, 4, 15)]),
+        (&EXTENDED_RAW, &[section(RAW, 8, 15)]),
+        (
+            &[0xff, 0xff, 0xff, 0x10, 8, 0, 0, 0],
+            &[section(PE32, 8, 0)],
+        ),
+        // The second section begins at the next multiple of four; three bytes may be left at the end.
+        (&TWO, &[section(PE32, 4, 1), section(RAW, 12, 0)]),
+        // The rounded place may lie behind the end.
+        (&TWO[..5], &[section(PE32, 4, 1)]),
+    ];
+    for (bytes, sections) in rows {
+        assert!(rt; reads(rt.alloc(), bytes, sections), "{bytes:?}");
+    }
+}
+
+// Fewer than four bytes of a section are an end, and any longer part of it is none.
+fn is_cut(rt: &impl Abort, alloc: Global, bytes: &[u8]) {
+    for cut in 0..bytes.len() {
+        let part = front(bytes, cut);
+        let is_right = if cut < 4 {
+            reads(alloc, part, &[])
+        } else {
+            fails(alloc, part, 0, SecCause::Size)
+        };
+        assert!(rt; is_right, "cut to {cut}: {bytes:?}");
+    }
+}
+
+#[test]
+fn cut_streams_are_refused(rt: HostRuntime) {
+    is_cut(&rt, rt.alloc(), &ONE_PEIM[96..]);
+    is_cut(&rt, rt.alloc(), &EXTENDED_RAW);
+}
+
+#[test]
+fn each_fault_comes_at_its_place(rt: HostRuntime) {
+    let rows: [(&[u8], u64, SecCause); 7] = [
+        // A size below its header's length.
+        (&[3, 0, 0, 0x19], 0, SecCause::Size),
+        (&[0xff, 0xff, 0xff, 0x19, 7, 0, 0, 0], 0, SecCause::Size),
+        // The top of both size fields.
+        (&[0xfe, 0xff, 0xff, 0x19, 0, 0, 0, 0], 0, SecCause::Size),
+        (
+            &[0xff, 0xff, 0xff, 0x19, 0xff, 0xff, 0xff, 0xff],
+            0,
+            SecCause::Size,
+        ),
+        // Sections that are not opened, behind a sound one; a wrong size comes before the type.
+        (&[4, 0, 0, 0x19, 4, 0, 0, 1], 4, SecCause::Compressed),
+        (&[4, 0, 0, 0x19, 4, 0, 0, 2], 4, SecCause::GuidDefined),
+        (&[4, 0, 0, 0x19, 5, 0, 0, 1], 4, SecCause::Size),
+    ];
+    for (bytes, at, cause) in rows {
+        assert!(rt; fails(rt.alloc(), bytes, at, cause), "{bytes:?}");
+    }
+}
+
+// 257 sections without bodies.
+fn many() -> [u8; 1028] {
+    let mut bytes = [0u8; 1028];
+    for i in 0..257usize {
+        bytes[4 * i] = 4;
+        bytes[4 * i + 3] = RAW;
+    }
+    bytes
+}
+
+#[test]
+fn the_most_sections_are_read(rt: HostRuntime) {
+    let mut bytes = many();
+    // 256 sections are read, and the next one is too many, also where it has another fault.
+    let len = match read_sections(rt.alloc(), front(&bytes, 1024)) {
+        Ok(sections) => sections.len(),
+        Err(_) => 0,
+    };
+    assert_eq!(rt; len, 256);
+    assert!(rt; fails(rt.alloc(), &bytes, 1024, SecCause::TooMany));
+    bytes[1024] = 0;
+    assert!(rt; fails(rt.alloc(), &bytes, 1024, SecCause::TooMany));
+}
+
+#[test]
+fn each_cause_has_its_number(rt: HostRuntime) {
+    one_reading();
+    let numbers = [
+        SecCause::Size as u8,
+        SecCause::Compressed as u8,
+        SecCause::GuidDefined as u8,
+        SecCause::TooMany as u8,
+    ];
+    assert_eq!(rt; numbers, [20, 21, 22, 23]);
+}
