@@ -18,6 +18,3 @@ pub use fault::BuildFault;
 pub use generated::{MOST_MODULES, VOLUME_LEN, generate};
 pub use new_file::{NewFile, NewSection};
 pub use volume_header::HEADER_LEN;
-
-#[cfg(test)]
-mod tests;

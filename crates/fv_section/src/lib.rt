@@ -12,6 +12,3 @@ pub use fault::{SecCause, SecFault};
 pub use law::{one_reading, places};
 pub use section::Section;
 pub use stream::{ALIGNMENT, MOST_SECTIONS, read_sections};
-
-#[cfg(test)]
-mod tests;

@@ -1,22 +1,21 @@
-use super::*;
+// Streams of sections that are read, and the first fault of others.
+use crate::board::{ONE_PEIM, front};
+use fv_section::section_type::{PE32, RAW};
+use fv_section::{SecCause, SecFault, Section, one_reading, read_sections};
 use std::alloc::Global;
+use std::process::Abort;
 use std::test::*;
 
-/// The script of the one-PEIM volume in a raw section of 19 bytes.
-const RAW: [u8; 19] = [
-    0x13, 0x00, 0x00, 0x19, 0x50, 0x49, 0x41, 0x53, 0x01, 0x01, 0x01, 0x00, 0x02, 0x00, 0x11, 0x01,
-    0x61, 0x13, 0x00,
-];
-
-/// The same script in an extended section of 23 bytes.
+/// The section of the one-PEIM volume as an extended one, of 23 bytes.
 const EXTENDED_RAW: [u8; 23] = [
     0xff, 0xff, 0xff, 0x19, 0x17, 0x00, 0x00, 0x00, 0x50, 0x49, 0x41, 0x53, 0x01, 0x01, 0x01, 0x00,
     0x02, 0x00, 0x11, 0x01, 0x61, 0x13, 0x00,
 ];
 
-const PE32: u8 = 0x10;
-
-const RAW_TYPE: u8 = 0x19;
+/// Two sections, and three bytes behind them.
+const TWO: [u8; 15] = [
+    5, 0, 0, 0x10, 0xaa, 1, 2, 3, 4, 0, 0, 0x19, 0xff, 0xff, 0xff,
+];
 
 const fn section(kind: u8, body_at: u64, body_len: u64) -> Section {
     Section {
@@ -44,59 +43,47 @@ fn fails(alloc: Global, bytes: &[u8], at: u64, cause: SecCause) -> bool {
 
 #[test]
 fn sound_streams_are_read(rt: HostRuntime) {
-    // No bytes; a whole section; an extended one, and one of the least size.
-    assert!(rt; reads(rt.alloc(), &[], &[]));
-    assert!(rt; reads(rt.alloc(), &RAW, &[section(RAW_TYPE, 4, 15)]));
-    assert!(rt; reads(rt.alloc(), &EXTENDED_RAW, &[section(RAW_TYPE, 8, 15)]));
-    assert!(rt;
-        reads(
-            rt.alloc(),
+    let rows: [(&[u8], &[Section]); 6] = [
+        // No bytes; a whole section; an extended one, and one of the least size.
+        (&[], &[]),
+        (&ONE_PEIM[96..], &[section(RAW, 4, 15)]),
+        (&EXTENDED_RAW, &[section(RAW, 8, 15)]),
+        (
             &[0xff, 0xff, 0xff, 0x10, 8, 0, 0, 0],
-            &[section(PE32, 8, 0)]
-        )
-    );
-    // The second section begins at the next multiple of four; three bytes may be left at the end.
-    let two = [
-        5, 0, 0, 0x10, 0xaa, 1, 2, 3, 4, 0, 0, 0x19, 0xff, 0xff, 0xff,
+            &[section(PE32, 8, 0)],
+        ),
+        // The second section begins at the next multiple of four; three bytes may be left at the end.
+        (&TWO, &[section(PE32, 4, 1), section(RAW, 12, 0)]),
+        // The rounded place may lie behind the end.
+        (&TWO[..5], &[section(PE32, 4, 1)]),
     ];
-    assert!(rt;
-        reads(
-            rt.alloc(),
-            &two,
-            &[section(PE32, 4, 1), section(RAW_TYPE, 12, 0)]
-        )
-    );
-    // The rounded place may lie behind the end.
-    assert!(rt; reads(rt.alloc(), &two[..5], &[section(PE32, 4, 1)]));
+    for (bytes, sections) in rows {
+        assert!(rt; reads(rt.alloc(), bytes, sections), "{bytes:?}");
+    }
+}
+
+// Fewer than four bytes of a section are an end, and any longer part of it is none.
+fn is_cut(rt: &impl Abort, alloc: Global, bytes: &[u8]) {
+    for cut in 0..bytes.len() {
+        let part = front(bytes, cut);
+        let is_right = if cut < 4 {
+            reads(alloc, part, &[])
+        } else {
+            fails(alloc, part, 0, SecCause::Size)
+        };
+        assert!(rt; is_right, "cut to {cut}: {bytes:?}");
+    }
 }
 
 #[test]
 fn cut_streams_are_refused(rt: HostRuntime) {
-    // Fewer than four bytes are an end, and any longer part of a section is none.
-    for cut in 0..4 {
-        assert!(rt; reads(rt.alloc(), &RAW[..cut], &[]), "cut to {cut}");
-        assert!(rt;
-            reads(rt.alloc(), &EXTENDED_RAW[..cut], &[]),
-            "extended, cut to {cut}"
-        );
-    }
-    for cut in 4..19 {
-        assert!(rt;
-            fails(rt.alloc(), &RAW[..cut], 0, SecCause::Size),
-            "cut to {cut}"
-        );
-    }
-    for cut in 4..23 {
-        assert!(rt;
-            fails(rt.alloc(), &EXTENDED_RAW[..cut], 0, SecCause::Size),
-            "extended, cut to {cut}"
-        );
-    }
+    is_cut(&rt, rt.alloc(), &ONE_PEIM[96..]);
+    is_cut(&rt, rt.alloc(), &EXTENDED_RAW);
 }
 
 #[test]
 fn each_fault_comes_at_its_place(rt: HostRuntime) {
-    let table: [(&[u8], u64, SecCause); 7] = [
+    let rows: [(&[u8], u64, SecCause); 7] = [
         // A size below its header's length.
         (&[3, 0, 0, 0x19], 0, SecCause::Size),
         (&[0xff, 0xff, 0xff, 0x19, 7, 0, 0, 0], 0, SecCause::Size),
@@ -112,8 +99,8 @@ fn each_fault_comes_at_its_place(rt: HostRuntime) {
         (&[4, 0, 0, 0x19, 4, 0, 0, 2], 4, SecCause::GuidDefined),
         (&[4, 0, 0, 0x19, 5, 0, 0, 1], 4, SecCause::Size),
     ];
-    for (bytes, at, cause) in table {
-        assert!(rt; fails(rt.alloc(), bytes, at, cause));
+    for (bytes, at, cause) in rows {
+        assert!(rt; fails(rt.alloc(), bytes, at, cause), "{bytes:?}");
     }
 }
 
@@ -122,17 +109,9 @@ fn many() -> [u8; 1028] {
     let mut bytes = [0u8; 1028];
     for i in 0..257usize {
         bytes[4 * i] = 4;
-        bytes[4 * i + 3] = RAW_TYPE;
+        bytes[4 * i + 3] = RAW;
     }
     bytes
-}
-
-// The first bytes, all where there are fewer.
-fn front(bytes: &[u8], len: usize) -> &[u8] {
-    match bytes.get(..len) {
-        Some(front) => front,
-        None => bytes,
-    }
 }
 
 #[test]

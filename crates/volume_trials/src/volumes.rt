@@ -1,24 +1,13 @@
-use super::*;
+// The files that stand in a volume, and the first fault of its header and of its files.
+use crate::board::{ONE_PEIM, empty_files, front, guid, volume};
+use fv_volume::file_type::{PEIM, RAW};
+use fv_volume::{FfsFile, MOST_FILES, VolCause, VolFault, one_reading, places, read_volume};
 use pi_base::{Guid, put_u16, put_u64, sum16};
-use std::alloc::{AllocError, Global};
+use std::alloc::Global;
 use std::test::*;
 
 /// The length of the one-PEIM volume.
 const LEN: usize = 4096;
-
-/// The bytes of the one-PEIM volume before the erased ones: a header of 72 bytes, and a PEIM of 43
-/// bytes that holds a raw section.
-const FRONT: [u8; 115] = [
-    0, 0, 0, 0, 0, 0, 0, 0, 0, 0, 0, 0, 0, 0, 0, 0, //
-    0x78, 0xe5, 0x8c, 0x8c, 0x3d, 0x8a, 0x1c, 0x4f, 0x99, 0x35, 0x89, 0x61, 0x85, 0xc3, 0x2d, 0xd3,
-    0x00, 0x10, 0, 0, 0, 0, 0, 0, 0x5f, 0x46, 0x56, 0x48, 0x00, 0x08, 0x00, 0x00, //
-    0x48, 0x00, 0xd1, 0xcd, 0x00, 0x00, 0x00, 0x02, 0x01, 0, 0, 0, 0x00, 0x10, 0, 0, //
-    0, 0, 0, 0, 0, 0, 0, 0, //
-    0, 0, 0, 0, 0, 0, 0, 0, 0, 0, 0, 0, 0, 0, 0, 0x0a, //
-    0xc5, 0xaa, 0x06, 0x00, 0x2b, 0, 0, 0xf8, //
-    0x13, 0, 0, 0x19, 0x50, 0x49, 0x41, 0x53, 0x01, 0x01, 0x01, 0x00, 0x02, 0x00, 0x11, 0x01, 0x61,
-    0x13, 0x00,
-];
 
 /// A raw file of 24 bytes with a name of zeros.
 const EMPTY_FILE: [u8; 24] = [
@@ -27,17 +16,17 @@ const EMPTY_FILE: [u8; 24] = [
 
 const ERASED: [u8; 24] = [0xff; 24];
 
-// The GUID 00000000-0000-0000-0000-0000000000NN.
-const fn guid(last: u8) -> Guid {
-    Guid([0, 0, 0, 0, 0, 0, 0, 0, 0, 0, 0, 0, 0, 0, 0, last])
-}
+/// The name of the file system FFS3.
+const FFS3: [u8; 16] = [
+    0x7a, 0xc0, 0x73, 0x54, 0xcb, 0x3d, 0xca, 0x4d, 0xbd, 0x6f, 0x1e, 0x96, 0x89, 0xe7, 0x34, 0x9a,
+];
 
 // A PEIM of the name that the one-PEIM volume has.
 const fn peim(at: u64, body_at: u64, body_len: u64) -> FfsFile {
     FfsFile {
         at,
         name: guid(0x0a),
-        kind: 0x06,
+        kind: PEIM,
         body_at,
         body_len,
     }
@@ -46,7 +35,7 @@ const fn peim(at: u64, body_at: u64, body_len: u64) -> FfsFile {
 const THE_PEIM: FfsFile = FfsFile {
     at: 72,
     name: Guid([0, 0, 0, 0, 0, 0, 0, 0, 0, 0, 0, 0, 0, 0, 0, 0x0a]),
-    kind: 0x06,
+    kind: PEIM,
     body_at: 96,
     body_len: 19,
 };
@@ -65,7 +54,7 @@ fn put(bytes: &mut [u8; LEN], at: usize, text: &[u8]) {
 // The one-PEIM volume with these bytes changed.
 fn changed(changes: &[(usize, u8)]) -> [u8; LEN] {
     let mut bytes = [0xff; LEN];
-    put(&mut bytes, 0, &FRONT);
+    put(&mut bytes, 0, &ONE_PEIM);
     for (at, byte) in changes {
         if *at < LEN {
             bytes[*at] = *byte;
@@ -101,13 +90,7 @@ fn fails(alloc: Global, bytes: &[u8], at: u64, cause: VolCause) -> bool {
 fn each_fault_of_a_header_comes_in_its_order(rt: HostRuntime) {
     one_reading();
     places();
-    let bytes = changed(&[]);
-    assert!(rt; lists(rt.alloc(), &bytes, 4096, None, &[THE_PEIM]));
-    assert!(rt; fails(rt.alloc(), front(&bytes, 4095), 32, VolCause::Length));
-    assert!(rt; fails(rt.alloc(), front(&bytes, 63), 0, VolCause::Short));
-    assert!(rt; fails(rt.alloc(), front(&bytes, 64), 32, VolCause::Length));
-    assert!(rt; fails(rt.alloc(), &[], 0, VolCause::Short));
-    let table: [(&[(usize, u8)], u64, VolCause); 11] = [
+    let rows: [(&[(usize, u8)], u64, VolCause); 11] = [
         (&[(50, 0xd0)], 50, VolCause::HeaderSum),
         // Each cause with a later one beside it: the first in order is told.
         (&[(40, 0x2d), (55, 1)], 40, VolCause::Signature),
@@ -123,16 +106,24 @@ fn each_fault_of_a_header_comes_in_its_order(rt: HostRuntime) {
         (&[(52, 70), (50, 0x8b)], 52, VolCause::ExtHeader),
         (&[(52, 96), (50, 0x71)], 52, VolCause::ExtHeader),
     ];
-    for (changes, at, cause) in table {
-        assert!(rt; fails(rt.alloc(), &changed(changes), at, cause));
+    for (changes, at, cause) in rows {
+        let bytes = changed(changes);
+        assert!(rt; fails(rt.alloc(), &bytes, at, cause), "{changes:?}");
     }
 }
 
-// The first bytes, all where there are fewer.
-fn front(bytes: &[u8], len: usize) -> &[u8] {
-    match bytes.get(..len) {
-        Some(front) => front,
-        None => bytes,
+#[test]
+fn bytes_that_end_before_their_volume_are_refused(rt: HostRuntime) {
+    let bytes = changed(&[]);
+    assert!(rt; lists(rt.alloc(), &bytes, 4096, None, &[THE_PEIM]));
+    let rows = [
+        (4095, 32, VolCause::Length),
+        (64, 32, VolCause::Length),
+        (63, 0, VolCause::Short),
+        (0, 0, VolCause::Short),
+    ];
+    for (len, at, cause) in rows {
+        assert!(rt; fails(rt.alloc(), front(&bytes, len), at, cause), "{len}");
     }
 }
 
@@ -160,38 +151,35 @@ fn each_cut_volume_is_refused(rt: HostRuntime) {
 
 #[test]
 fn files_are_listed_by_their_states(rt: HostRuntime) {
-    let listed: [&[(usize, u8)]; 4] = [
+    // Whether the file is listed.
+    let rows: [(&[(usize, u8)], bool); 11] = [
         // Marked for update; bits above 0x20 say nothing.
-        &[(95, 0xf0)],
-        &[(95, 0xb8)],
+        (&[(95, 0xf0)], true),
+        (&[(95, 0xb8)], true),
         // A body with its checksum.
-        &[(88, 0x85), (91, 0x40), (89, 0x1c)],
-        // Polarity 0.
-        &[(45, 0), (51, 0xd5), (95, 0x07)],
-    ];
-    for changes in listed {
-        assert!(rt; lists(rt.alloc(), &changed(changes), 4096, None, &[THE_PEIM]));
-    }
-    let empty: [&[(usize, u8)]; 7] = [
-        // Under polarity 0 the State byte says header invalid.
-        &[(45, 0), (51, 0xd5)],
+        (&[(88, 0x85), (91, 0x40), (89, 0x1c)], true),
+        // Polarity 0, under which the State byte of the other says header invalid.
+        (&[(45, 0), (51, 0xd5), (95, 0x07)], true),
+        (&[(45, 0), (51, 0xd5)], false),
         // Deleted, half-written, in construction, invalid, and with no bit.
-        &[(95, 0xe0), (89, 0xab)],
-        &[(95, 0xfc), (89, 0xab)],
-        &[(95, 0xfe), (88, 0)],
-        &[(95, 0xc0), (88, 0)],
-        &[(95, 0xff), (88, 0)],
+        (&[(95, 0xe0), (89, 0xab)], false),
+        (&[(95, 0xfc), (89, 0xab)], false),
+        (&[(95, 0xfe), (88, 0)], false),
+        (&[(95, 0xc0), (88, 0)], false),
+        (&[(95, 0xff), (88, 0)], false),
         // A pad file.
-        &[(88, 0xdb), (90, 0xf0)],
+        (&[(88, 0xdb), (90, 0xf0)], false),
     ];
-    for changes in empty {
-        assert!(rt; lists(rt.alloc(), &changed(changes), 4096, None, &[]));
+    for (changes, is_listed) in rows {
+        let files: &[FfsFile] = if is_listed { &[THE_PEIM] } else { &[] };
+        let bytes = changed(changes);
+        assert!(rt; lists(rt.alloc(), &bytes, 4096, None, files), "{changes:?}");
     }
 }
 
 #[test]
 fn each_fault_of_a_file_comes_at_its_place(rt: HostRuntime) {
-    let table: [(&[(usize, u8)], VolCause); 10] = [
+    let rows: [(&[(usize, u8)], VolCause); 10] = [
         (&[(88, 0xc4), (89, 0xab)], VolCause::FileSum),
         (&[(88, 0xc4), (95, 0xe0)], VolCause::FileSum),
         (&[(89, 0xab)], VolCause::DataSum),
@@ -206,8 +194,9 @@ fn each_fault_of_a_file_comes_at_its_place(rt: HostRuntime) {
         // A deleted file's size is tested.
         (&[(88, 0xd9), (92, 0x17), (95, 0xe0)], VolCause::FileSize),
     ];
-    for (changes, cause) in table {
-        assert!(rt; fails(rt.alloc(), &changed(changes), 72, cause));
+    for (changes, cause) in rows {
+        let bytes = changed(changes);
+        assert!(rt; fails(rt.alloc(), &bytes, 72, cause), "{changes:?}");
     }
     // A file may end with the volume.
     let whole = changed(&[(88, 0x29), (92, 0xb8), (93, 0x0f)]);
@@ -222,29 +211,26 @@ fn a_second_file_is_listed_or_refused(rt: HostRuntime) {
     let second = FfsFile {
         at: 120,
         name: guid(0),
-        kind: 0x01,
+        kind: RAW,
         body_at: 144,
         body_len: 0,
     };
     assert!(rt; lists(rt.alloc(), &bytes, 4096, None, &[THE_PEIM, second]));
     bytes[136] = 0;
     assert!(rt; fails(rt.alloc(), &bytes, 120, VolCause::FileSum));
+}
+
+#[test]
+fn files_stand_behind_the_extended_header(rt: HostRuntime) {
     // A pad file at 72 holds the extended header, behind which the search begins.
     let mut bytes = changed(&[(50, 0x71), (52, 96)]);
     put(&mut bytes, 72, &ERASED);
     put(&mut bytes, 88, &[0xf4, 0xaa, 0xf0, 0x00, 0x2c, 0, 0, 0xf8]);
     put(&mut bytes, 96, &guid(0x33).0);
     put(&mut bytes, 112, &[20, 0, 0, 0, 0xff, 0xff, 0xff, 0xff]);
-    put(&mut bytes, 120, &FRONT[72..]);
-    assert!(rt;
-        lists(
-            rt.alloc(),
-            &bytes,
-            4096,
-            Some(guid(0x33)),
-            &[peim(120, 144, 19)]
-        )
-    );
+    put(&mut bytes, 120, &ONE_PEIM[72..]);
+    let name = Some(guid(0x33));
+    assert!(rt; lists(rt.alloc(), &bytes, 4096, name, &[peim(120, 144, 19)]));
     // ExtHeaderSize below 20.
     bytes[112] = 19;
     assert!(rt; fails(rt.alloc(), &bytes, 52, VolCause::ExtHeader));
@@ -253,107 +239,75 @@ fn a_second_file_is_listed_or_refused(rt: HostRuntime) {
 // The one-PEIM volume as FFS3, its file large, with this ExtendedSize, header checksum and FvLength.
 fn large(size: u64, checksum: u8, len: u64) -> [u8; LEN] {
     let mut bytes = changed(&[(88, checksum), (91, 0x01), (92, 0)]);
-    put(
-        &mut bytes,
-        16,
-        &[
-            0x7a, 0xc0, 0x73, 0x54, 0xcb, 0x3d, 0xca, 0x4d, 0xbd, 0x6f, 0x1e, 0x96, 0x89, 0xe7,
-            0x34, 0x9a,
-        ],
-    );
+    put(&mut bytes, 16, &FFS3);
     put_u64(&mut bytes, 32, len);
     put_u64(&mut bytes, 96, size);
-    put(&mut bytes, 104, &FRONT[96..]);
+    put(&mut bytes, 104, &ONE_PEIM[96..]);
     seal(&mut bytes);
     bytes
 }
 
 #[test]
-fn large_files_are_listed(rt: HostRuntime) {
-    // FFS3 with a file that is not large.
+fn a_file_that_is_not_large_may_stand_under_ffs3(rt: HostRuntime) {
     let mut bytes = large(51, 0xbc, 4096);
-    put(&mut bytes, 72, &FRONT[72..]);
+    put(&mut bytes, 72, &ONE_PEIM[72..]);
     put(&mut bytes, 115, &[0xff; 8]);
     assert!(rt; bytes[50] == 0xe8 && bytes[51] == 0x1e);
     assert!(rt; lists(rt.alloc(), &bytes, 4096, None, &[THE_PEIM]));
-    // A large file; its Size says nothing.
-    let bytes = large(51, 0xbc, 4096);
-    assert!(rt; lists(rt.alloc(), &bytes, 4096, None, &[peim(72, 104, 19)]));
-    // It ends with the volume, and a byte behind it.
-    assert!(rt;
-        lists(
-            rt.alloc(),
-            &large(51, 0xbc, 123),
-            123,
-            None,
-            &[peim(72, 104, 19)]
-        )
-    );
-    assert!(rt; fails(rt.alloc(), &large(51, 0xbc, 122), 72, VolCause::FileSize));
-    // Its header ends with the volume, and a byte behind it.
-    assert!(rt;
-        lists(
-            rt.alloc(),
-            &large(32, 0xcf, 104),
-            104,
-            None,
-            &[peim(72, 104, 0)]
-        )
-    );
-    assert!(rt; fails(rt.alloc(), &large(32, 0xcf, 103), 72, VolCause::FileSize));
-    // A size below the header, and the top of the field.
-    assert!(rt; fails(rt.alloc(), &large(31, 0xd0, 4096), 72, VolCause::FileSize));
-    assert!(rt;
-        fails(
-            rt.alloc(),
-            &large(u64::MAX, 0xf7, 4096),
-            72,
-            VolCause::FileSize
-        )
-    );
-    assert!(rt; fails(rt.alloc(), &large(51, 0xbd, 4096), 72, VolCause::FileSum));
 }
 
-// A volume of 393,312 bytes with 16,384 files without bodies and room for one more.
-fn many_files(alloc: Global) -> Result<Vec<u8>, AllocError> {
-    let mut bytes = Vec::new(alloc);
-    bytes.extend_from_slice(&FRONT[..32])?;
-    bytes.extend_from_slice(&[0x60, 0x00, 0x06, 0, 0, 0, 0, 0])?;
-    bytes.extend_from_slice(&FRONT[40..50])?;
-    bytes.extend_from_slice(&[0x6b, 0xdd])?;
-    bytes.extend_from_slice(&FRONT[52..72])?;
-    for _ in 0..16_384 {
-        bytes.extend_from_slice(&EMPTY_FILE)?;
+#[test]
+fn large_files_are_listed_or_refused(rt: HostRuntime) {
+    // ExtendedSize, the header's checksum, FvLength, and the length of the body or the fault of the file.
+    let rows: [(u64, u8, u64, Result<u64, VolCause>); 8] = [
+        // Its Size says nothing.
+        (51, 0xbc, 4096, Ok(19)),
+        // It ends with the volume, and a byte behind it.
+        (51, 0xbc, 123, Ok(19)),
+        (51, 0xbc, 122, Err(VolCause::FileSize)),
+        // Its header ends with the volume, and a byte behind it.
+        (32, 0xcf, 104, Ok(0)),
+        (32, 0xcf, 103, Err(VolCause::FileSize)),
+        // A size below the header, and the top of the field.
+        (31, 0xd0, 4096, Err(VolCause::FileSize)),
+        (u64::MAX, 0xf7, 4096, Err(VolCause::FileSize)),
+        (51, 0xbd, 4096, Err(VolCause::FileSum)),
+    ];
+    for (size, checksum, len, want) in rows {
+        let bytes = large(size, checksum, len);
+        let is_right = match want {
+            Ok(body_len) => lists(rt.alloc(), &bytes, len, None, &[peim(72, 104, body_len)]),
+            Err(cause) => fails(rt.alloc(), &bytes, 72, cause),
+        };
+        assert!(rt; is_right, "{size} of {len}: {want:?}");
     }
-    Ok(bytes)
 }
 
 #[test]
 fn the_most_files_are_listed(rt: HostRuntime) -> Result<(), Fail> {
-    let mut bytes = many_files(rt.alloc())?;
-    bytes.extend_from_slice(&ERASED)?;
-    let count = match read_volume(rt.alloc(), bytes.as_slice()) {
+    let mut files = empty_files(rt.alloc(), MOST_FILES, RAW, guid(0))?;
+    assert!(rt; files.starts_with(&EMPTY_FILE));
+    files.extend_from_slice(&ERASED)?;
+    let bytes = volume(rt.alloc(), &files)?;
+    let count = match read_volume(rt.alloc(), &bytes) {
         Ok(volume) => volume.files.len(),
         Err(_) => 0,
     };
     assert_eq!(rt; count, 16_384);
-    let mut bytes = many_files(rt.alloc())?;
-    bytes.extend_from_slice(&EMPTY_FILE)?;
-    assert!(rt;
-        fails(
-            rt.alloc(),
-            bytes.as_slice(),
-            393_288,
-            VolCause::TooManyFiles
-        )
-    );
+    let files = empty_files(rt.alloc(), MOST_FILES + 1, RAW, guid(0))?;
+    let bytes = volume(rt.alloc(), &files)?;
+    assert!(rt; bytes.len() == 393_312 && bytes.as_slice()[50..52] == [0x6b, 0xdd]);
+    assert!(rt; fails(rt.alloc(), &bytes, 393_288, VolCause::TooManyFiles));
     Ok(())
 }
 
 #[test]
 fn each_cause_has_its_number(rt: HostRuntime) {
-    assert_eq!(rt; VolCause::Short as u8, 1);
-    assert_eq!(rt; VolCause::FileSystem as u8, 4);
-    assert_eq!(rt; VolCause::ExtHeader as u8, 8);
-    assert_eq!(rt; VolCause::TooManyFiles as u8, 12);
+    let numbers = [
+        VolCause::Short as u8,
+        VolCause::FileSystem as u8,
+        VolCause::ExtHeader as u8,
+        VolCause::TooManyFiles as u8,
+    ];
+    assert_eq!(rt; numbers, [1, 4, 8, 12]);
 }

@@ -1,0 +1,275 @@
+// HOBs as bytes, both ways, and the places of a list of them.
+use hob_codec::{
+    Handoff, Hob, HobFault, HobPlace, encode_into, hob_len, one_walk, read_at, round_trip, walk,
+};
+use pi_base::Guid;
+use std::alloc::{AllocError, Global};
+use std::process::Abort;
+use std::test::*;
+
+const NAME: Guid = Guid([0, 1, 2, 3, 4, 5, 6, 7, 8, 9, 10, 11, 12, 13, 14, 15]);
+
+const HANDOFF: Handoff = Handoff {
+    boot_mode: 0x11,
+    top: 0x4010_0000,
+    bottom: 0x4000_0000,
+    free_top: 0x400f_f000,
+    free_bottom: 0x4000_00d8,
+    end: 0x4000_00d0,
+};
+
+// A HOB has these bytes, and they are read as the HOB with its body padded, up to their end.
+fn check(
+    rt: &impl Abort,
+    alloc: Global,
+    rows: &[(Hob<'_>, &[u8], Hob<'_>)],
+) -> Result<(), AllocError> {
+    for (hob, bytes, again) in rows {
+        let Some(len) = hob_len(hob) else {
+            panic!(rt; "no length");
+        };
+        let mut out = vec![in alloc; 0xaau8; len as usize]?;
+        encode_into(hob, out.as_mut_slice());
+        assert_eq!(rt; out.as_slice(), *bytes);
+        match read_at(bytes, 0) {
+            Ok((read, next)) => {
+                assert_eq!(rt; next, bytes.len());
+                assert!(rt; read == *again);
+            }
+            Err(fault) => panic!(rt; "{fault}"),
+        }
+    }
+    Ok(())
+}
+
+#[test]
+fn each_type_goes_both_ways(rt: HostRuntime) -> Result<(), Fail> {
+    let rows: [(Hob<'_>, &[u8], Hob<'_>); 12] = [
+        (
+            Hob::Handoff(HANDOFF),
+            b"\x01\0\x38\0\0\0\0\0\x09\0\0\0\x11\0\0\0\0\0\x10\x40\0\0\0\0\0\0\0\x40\0\0\0\0\0\xf0\x0f\x40\0\0\0\0\xd8\0\0\x40\0\0\0\0\xd0\0\0\x40\0\0\0\0",
+            Hob::Handoff(HANDOFF),
+        ),
+        (
+            Hob::Allocation {
+                name: Guid([0; 16]),
+                base: 0x400f_f000,
+                length: 0x1000,
+                memory_type: 4,
+            },
+            b"\x02\0\x30\0\0\0\0\0\0\0\0\0\0\0\0\0\0\0\0\0\0\0\0\0\0\xf0\x0f\x40\0\0\0\0\0\x10\0\0\0\0\0\0\x04\0\0\0\0\0\0\0",
+            Hob::Allocation {
+                name: Guid([0; 16]),
+                base: 0x400f_f000,
+                length: 0x1000,
+                memory_type: 4,
+            },
+        ),
+        (
+            Hob::Resource {
+                owner: NAME,
+                kind: 5,
+                attributes: 7,
+                start: 0x10,
+                length: 0x2000,
+            },
+            b"\x03\0\x30\0\0\0\0\0\0\x01\x02\x03\x04\x05\x06\x07\x08\x09\x0a\x0b\x0c\x0d\x0e\x0f\x05\0\0\0\x07\0\0\0\x10\0\0\0\0\0\0\0\0\x20\0\0\0\0\0\0",
+            Hob::Resource {
+                owner: NAME,
+                kind: 5,
+                attributes: 7,
+                start: 0x10,
+                length: 0x2000,
+            },
+        ),
+        (
+            Hob::Named {
+                name: NAME,
+                body: b"abc",
+            },
+            b"\x04\0\x20\0\0\0\0\0\0\x01\x02\x03\x04\x05\x06\x07\x08\x09\x0a\x0b\x0c\x0d\x0e\x0fabc\0\0\0\0\0",
+            Hob::Named {
+                name: NAME,
+                body: b"abc\0\0\0\0\0",
+            },
+        ),
+        (
+            Hob::Volume {
+                base: 0xff80_0000,
+                length: 0x80_0000,
+            },
+            b"\x05\0\x18\0\0\0\0\0\0\0\x80\xff\0\0\0\0\0\0\x80\0\0\0\0\0",
+            Hob::Volume {
+                base: 0xff80_0000,
+                length: 0x80_0000,
+            },
+        ),
+        (
+            Hob::Cpu {
+                memory: 0x30,
+                io: 0x10,
+            },
+            b"\x06\0\x10\0\0\0\0\0\x30\x10\0\0\0\0\0\0",
+            Hob::Cpu {
+                memory: 0x30,
+                io: 0x10,
+            },
+        ),
+        (
+            Hob::Pool { body: b"" },
+            b"\x07\0\x08\0\0\0\0\0",
+            Hob::Pool { body: b"" },
+        ),
+        (
+            Hob::Pool { body: b"12345678" },
+            b"\x07\0\x10\0\0\0\0\x0012345678",
+            Hob::Pool { body: b"12345678" },
+        ),
+        (
+            Hob::Pool { body: b"123456789" },
+            b"\x07\0\x18\0\0\0\0\x00123456789\0\0\0\0\0\0\0",
+            Hob::Pool {
+                body: b"123456789\0\0\0\0\0\0\0",
+            },
+        ),
+        (
+            Hob::Volume2 {
+                base: 0xff80_0000,
+                length: 0x1000,
+                volume: NAME,
+                file: Guid([9; 16]),
+            },
+            b"\x09\0\x38\0\0\0\0\0\0\0\x80\xff\0\0\0\0\0\x10\0\0\0\0\0\0\0\x01\x02\x03\x04\x05\x06\x07\x08\x09\x0a\x0b\x0c\x0d\x0e\x0f\x09\x09\x09\x09\x09\x09\x09\x09\x09\x09\x09\x09\x09\x09\x09\x09",
+            Hob::Volume2 {
+                base: 0xff80_0000,
+                length: 0x1000,
+                volume: NAME,
+                file: Guid([9; 16]),
+            },
+        ),
+        (
+            Hob::Other {
+                kind: 8,
+                body: b"z",
+            },
+            b"\x08\0\x10\0\0\0\0\0z\0\0\0\0\0\0\0",
+            Hob::Other {
+                kind: 8,
+                body: b"z\0\0\0\0\0\0\0",
+            },
+        ),
+        (
+            Hob::Other {
+                kind: 0xffff,
+                body: b"",
+            },
+            b"\xff\xff\x08\0\0\0\0\0",
+            Hob::Other {
+                kind: 0xffff,
+                body: b"",
+            },
+        ),
+    ];
+    check(&rt, rt.alloc(), &rows)?;
+    round_trip();
+    Ok(())
+}
+
+#[test]
+fn the_greatest_lengths_are_encoded(rt: HostRuntime) -> Result<(), Fail> {
+    for (len, pool, named) in [
+        (65_504, Some(65_512), Some(65_528)),
+        (65_505, Some(65_520), None),
+        (65_520, Some(65_528), None),
+        (65_521, None, None),
+    ] {
+        let body = vec![in rt.alloc(); 0u8; len]?;
+        let body = body.as_slice();
+        assert_eq!(rt; hob_len(&Hob::Pool { body }), pool);
+        assert_eq!(rt; hob_len(&Hob::Named { name: NAME, body }), named);
+    }
+    Ok(())
+}
+
+#[test]
+fn faults_come_at_a_place(rt: HostRuntime) {
+    let rows: [(&[u8], usize, HobFault); 11] = [
+        (b"", 0, HobFault::Short),
+        (b"\x07\0\x08\0\0\0\0", 0, HobFault::Short),
+        (b"\x07\0\x08\0\0\0\0\0", 1, HobFault::Short),
+        (b"\x07\0\x08\0\0\0\0\0", usize::MAX, HobFault::Short),
+        (b"\x07\0\0\0\0\0\0\0", 0, HobFault::Length),
+        (b"\x07\0\x0c\0\0\0\0\0\0\0\0\0\0\0\0\0", 0, HobFault::Length),
+        (b"\x07\0\x10\0\0\0\0\0", 0, HobFault::Length),
+        (b"\x06\0\x08\0\0\0\0\0", 0, HobFault::Form),
+        (b"\xff\xff\x10\0\0\0\0\0\0\0\0\0\0\0\0\0", 0, HobFault::Form),
+        (b"\x04\0\x10\0\0\0\0\0\0\0\0\0\0\0\0\0", 0, HobFault::Form),
+        (
+            b"\x01\0\x38\0\0\0\0\0\x08\0\0\0\x11\0\0\0\0\0\x10\x40\0\0\0\0\0\0\0\x40\0\0\0\0\0\xf0\x0f\x40\0\0\0\0\xd8\0\0\x40\0\0\0\0\xd0\0\0\x40\0\0\0\0",
+            0,
+            HobFault::Form,
+        ),
+    ];
+    for (bytes, at, fault) in rows {
+        match read_at(bytes, at) {
+            Ok(_) => panic!(rt; "a HOB"),
+            Err(found) => assert_eq!(rt; found, fault),
+        }
+    }
+}
+
+// The heap of a boot with early pages: the hand-off, two pools, an allocation, a CPU, the end, and zeros.
+const HEAP: &[u8] =
+    b"\x01\0\x38\0\0\0\0\0\x09\0\0\0\x11\0\0\0\0\0\x10\x40\0\0\0\0\0\0\0\x40\0\0\0\0\0\xf0\x0f\x40\0\0\0\0\xd8\0\0\x40\0\0\0\0\xd0\0\0\x40\0\0\0\0\x07\0\x30\0\0\0\0\0\x10\0\0\x80\0\0\0\0\x58\0\0\x40\0\0\0\0\0\0\0\0\0\0\0\0\x3d\x64\x94\xf8\x49\xc4\xd1\x42\x8e\xa8\x85\xbd\xd8\xc6\x5b\xde\x07\0\x28\0\0\0\0\0\0\0\0\0\0\0\0\0\x40\0\0\x40\0\0\0\0\0\0\0\0\0\0\0\0\xff\xff\xff\xff\0\0\0\0\x02\0\x30\0\0\0\0\0\0\0\0\0\0\0\0\0\0\0\0\0\0\0\0\0\0\xf0\x0f\x40\0\0\0\0\0\x10\0\0\0\0\0\0\x04\0\0\0\0\0\0\0\x06\0\x10\0\0\0\0\0\x30\x10\0\0\0\0\0\0\xff\xff\x08\0\0\0\0\0\0\0\0\0\0\0\0\0";
+
+#[test]
+fn a_list_is_walked(rt: HostRuntime) -> Result<(), Fail> {
+    let places = walk(rt.alloc(), HEAP).ok().ok_or("a list")?;
+    let wants = [
+        HobPlace {
+            at: 0,
+            kind: 1,
+            length: 56,
+        },
+        HobPlace {
+            at: 56,
+            kind: 7,
+            length: 48,
+        },
+        HobPlace {
+            at: 104,
+            kind: 7,
+            length: 40,
+        },
+        HobPlace {
+            at: 144,
+            kind: 2,
+            length: 48,
+        },
+        HobPlace {
+            at: 192,
+            kind: 6,
+            length: 16,
+        },
+    ];
+    assert_eq!(rt; places.as_slice(), wants.as_slice());
+    one_walk();
+    let rows: [(&[u8], HobFault); 6] = [
+        (b"", HobFault::NoEnd),
+        (b"\xff\xff\x08\0\0\0\0\0", HobFault::Form),
+        (
+            b"\x07\0\x08\0\0\0\0\0\xff\xff\x08\0\0\0\0\0",
+            HobFault::Form,
+        ),
+        (&HEAP[..56], HobFault::NoEnd),
+        (&HEAP[..60], HobFault::Short),
+        (&HEAP[..72], HobFault::Length),
+    ];
+    for (bytes, fault) in rows {
+        match walk(rt.alloc(), bytes) {
+            Ok(_) => panic!(rt; "a list"),
+            Err(found) => assert_eq!(rt; found, fault),
+        }
+    }
+    Ok(())
+}
