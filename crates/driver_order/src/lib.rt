@@ -6,6 +6,3 @@ mod names;
 mod order;
 
 pub use order::DriverOrder;
-
-#[cfg(test)]
-mod tests;

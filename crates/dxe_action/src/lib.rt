@@ -15,6 +15,3 @@ pub use action::take_own;
 pub use reply::Reply;
 pub use requests::{asks_for_request, is_requested};
 pub use services::DxeServices;
-
-#[cfg(test)]
-mod tests;

@@ -3,6 +3,5 @@ mod Eligible
 mod Filling
 mod Machines
 mod Scheduling
-mod SmallMachines
 mod Waiting
 mod Walks

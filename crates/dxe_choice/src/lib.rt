@@ -8,6 +8,3 @@ mod queue;
 mod waits;
 
 pub use queue::DriverQueue;
-
-#[cfg(test)]
-mod tests;

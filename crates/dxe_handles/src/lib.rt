@@ -9,6 +9,3 @@ mod places;
 
 pub use fault::HandleFault;
 pub use handles::Handles;
-
-#[cfg(test)]
-mod tests;

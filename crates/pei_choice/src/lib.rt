@@ -9,6 +9,3 @@ mod queue;
 pub use laws::alike_views_are_shown;
 pub use licence::licence_of;
 pub use queue::PeiQueue;
-
-#[cfg(test)]
-mod tests;

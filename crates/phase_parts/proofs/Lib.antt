@@ -1,2 +1,1 @@
 mod VolumeParts
-mod FewParts

@@ -7,6 +7,3 @@ mod wanted;
 
 pub use expression::depex_holds;
 pub use parts::Parts;
-
-#[cfg(test)]
-mod tests;

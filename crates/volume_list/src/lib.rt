@@ -8,6 +8,3 @@ mod report;
 
 pub use list::VolumeList;
 pub use mapped::volume_at;
-
-#[cfg(test)]
-mod tests;

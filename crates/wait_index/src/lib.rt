@@ -24,6 +24,3 @@ pub use laws::{
     next_is_the_first_eligible_driver, next_is_the_next_peim, truth_asks_what_is_pushed,
 };
 pub use verdict::Verdict;
-
-#[cfg(test)]
-mod tests;

@@ -1,4 +1,0 @@
-use Rattle.pei_choice.proofs.tests.an_a_priori_part_comes_first.Given as goal
-
-abbrev pub ghosts-first_of : goal.ghosts-first_of
-ghosts-first_of g a = record { name = a.blank.name; parts = a.blank.parts }
