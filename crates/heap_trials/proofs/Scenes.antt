@@ -1,11 +1,9 @@
 -- The scene of the tests of the lists, which each call keeps.
-use Rattle.std.proofs.Common.{◌≡◌, ◌≢◌, ◌≤◌, ◌/◌, ℕ, false, List, [], ◌∷◌, length, Option, Some, None, Ok, ap, sym, refl, ◌∙◌, arith, subst}
+use Rattle.std.proofs.Common.{◌≡◌, ◌≢◌, ◌≤◌, ◌/◌, ℕ, false, List, [], ◌∷◌, length, Option, Some, None, ap, sym, refl, ◌∙◌, arith, subst}
 use Rattle.std.specs.Prelude.{◌||◌}
 use Rattle.std.specs.List.{list_any}
 use Rattle.phys_mem.specs.declared.memory.PhysMem.{PhysMem}
-use Rattle.pi_base.specs.declared.guid.Guid.{Guid}
 use Rattle.store_model.specs.declared.state.Body.TheVariants.{Descriptor, Node}
-use Rattle.store_model.specs.declared.state.HobEntry.{HobEntry}
 use Rattle.pi_base.specs.Lists.{Each}
 use Rattle.store_model.specs.declared.state.Pending.{Pending}
 use Rattle.store_model.specs.declared.store_handle.Desc.{Desc}
@@ -14,9 +12,9 @@ use Rattle.store_model.specs.declared.store_handle.EntryList.{EntryList}
 use Rattle.store_model.specs.declared.store_handle.EntryList.TheVariants.{Ppis, Callbacks, Dispatches, Pendings}
 use Rattle.store_model.specs.declared.store_handle.DescKind.{DescKind}
 use Rattle.store_model.specs.declared.store_handle.DescKind.TheVariants.{Ppi, Callback, Dispatch}
-use Rattle.store_model.specs.StoreState.{StoreState, appended, body_at, free, next_body}
+use Rattle.store_model.specs.StoreState.{StoreState, body_at, free}
 use Rattle.store_model.specs.StateFacts.{IsDescriptorAt, IsNodeAt, IsPending, IsStoreState}
-use Rattle.store_model.specs.Service.Descriptor.{desc_of, is_ppi, kind_at}
+use Rattle.store_model.specs.Service.Descriptor.{is_ppi, kind_at}
 use Rattle.store_model.specs.Service.Install.{node_need}
 use Rattle.store_model.specs.Service.Queue.{popped, zeroed}
 use Rattle.store_model.specs.Service.Sweep.{firing_of}
@@ -24,10 +22,9 @@ use Rattle.store_laws.specs.Bodies.{BodiesStay, IsGrown, KeepsLength}
 use Rattle.store_laws.proofs.Steps.{grown_node, kind_is}
 use Rattle.heap_laws.specs.Changes.{without_first}
 use Rattle.pei_heap.specs.declared.heap.Heap.{Heap}
-use Rattle.pei_heap.specs.HeapMemory.{IsHeapOf}
 use Rattle.ppi_links.specs.declared.heads.Heads.{Heads}
 use Rattle.ppi_links.specs.declared.entry.NewEntry.{NewEntry}
-use Rattle.ppi_links.specs.Linked.{AreHeads, IsLinked}
+use Rattle.ppi_links.specs.Linked.{IsLinked}
 use Rattle.ppi_links.specs.NewEntry.{IsOf, with_entry}
 use Rattle.ppi_links.specs.Pairs.{queued}
 use Rattle.ppi_links.specs.Popped.{Change, IsPopped}

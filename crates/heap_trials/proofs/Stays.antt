@@ -1,5 +1,5 @@
 -- What stands in a state still does after a service: each adds HOBs, or none.
-use Rattle.std.proofs.Common.{◌≡◌, ◌+◌, ℕ, Bool, true, false, cond, List, [], ◌∷◌, length, zero, suc, arith, Option, Some, None, Result, Ok, Err, refl, sym, subst}
+use Rattle.std.proofs.Common.{◌≡◌, ℕ, Bool, true, false, cond, List, [], ◌∷◌, length, zero, suc, arith, Option, Some, None, Result, Ok, Err, refl, sym, subst}
 use Rattle.std.specs.Prelude.{◌<◌, fold, slice_get, is_some, option_map, IfOk, replicate}
 use Rattle.pi_base.specs.declared.guid.Guid.{Guid}
 use Rattle.store_model.specs.declared.state.Body.TheVariants.{Bytes, Descriptor}
