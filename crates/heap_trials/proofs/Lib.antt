@@ -1,2 +1,4 @@
 pub mod Boards
+pub mod NewPools
 pub mod Scenes
+pub mod Stays

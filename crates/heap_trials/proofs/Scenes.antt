@@ -1,11 +1,9 @@
 -- The scene of the tests of the lists, which each call keeps.
-use Rattle.std.proofs.Common.{◌≡◌, ◌≢◌, ◌≤◌, ◌/◌, ℕ, false, List, [], ◌∷◌, length, Option, Some, None, Ok, ap, sym, refl, ◌∙◌, arith, subst}
+use Rattle.std.proofs.Common.{◌≡◌, ◌≢◌, ◌≤◌, ◌/◌, ℕ, false, List, [], ◌∷◌, length, Option, Some, None, ap, sym, refl, ◌∙◌, arith, subst}
 use Rattle.std.specs.Prelude.{◌||◌}
 use Rattle.std.specs.List.{list_any}
 use Rattle.phys_mem.specs.declared.memory.PhysMem.{PhysMem}
-use Rattle.pi_base.specs.declared.guid.Guid.{Guid}
 use Rattle.store_model.specs.declared.state.Body.TheVariants.{Descriptor, Node}
-use Rattle.store_model.specs.declared.state.HobEntry.{HobEntry}
 use Rattle.pi_base.specs.Lists.{Each}
 use Rattle.store_model.specs.declared.state.Pending.{Pending}
 use Rattle.store_model.specs.declared.store_handle.Desc.{Desc}
@@ -14,9 +12,9 @@ use Rattle.store_model.specs.declared.store_handle.EntryList.{EntryList}
 use Rattle.store_model.specs.declared.store_handle.EntryList.TheVariants.{Ppis, Callbacks, Dispatches, Pendings}
 use Rattle.store_model.specs.declared.store_handle.DescKind.{DescKind}
 use Rattle.store_model.specs.declared.store_handle.DescKind.TheVariants.{Ppi, Callback, Dispatch}
-use Rattle.store_model.specs.StoreState.{StoreState, appended, body_at, free, next_body}
+use Rattle.store_model.specs.StoreState.{StoreState, body_at, free}
 use Rattle.store_model.specs.StateFacts.{IsDescriptorAt, IsNodeAt, IsPending, IsStoreState}
-use Rattle.store_model.specs.Service.Descriptor.{desc_of, is_ppi, kind_at}
+use Rattle.store_model.specs.Service.Descriptor.{is_ppi, kind_at}
 use Rattle.store_model.specs.Service.Install.{node_need}
 use Rattle.store_model.specs.Service.Queue.{popped, zeroed}
 use Rattle.store_model.specs.Service.Sweep.{firing_of}
@@ -24,63 +22,21 @@ use Rattle.store_laws.specs.Bodies.{BodiesStay, IsGrown, KeepsLength}
 use Rattle.store_laws.proofs.Steps.{grown_node, kind_is}
 use Rattle.heap_laws.specs.Changes.{without_first}
 use Rattle.pei_heap.specs.declared.heap.Heap.{Heap}
-use Rattle.pei_heap.specs.HeapMemory.{IsHeapOf}
 use Rattle.ppi_links.specs.declared.heads.Heads.{Heads}
 use Rattle.ppi_links.specs.declared.entry.NewEntry.{NewEntry}
-use Rattle.ppi_links.specs.Linked.{AreHeads, IsLinked}
+use Rattle.ppi_links.specs.Linked.{IsLinked}
 use Rattle.ppi_links.specs.NewEntry.{IsOf, with_entry}
 use Rattle.ppi_links.specs.Pairs.{queued}
 use Rattle.ppi_links.specs.Popped.{Change, IsPopped}
 use Rattle.ppi_links.specs.Replaced.{IsReplaced, Replacement, with_renamed}
-use Rattle.heap_trials.specs.Scene.{AreThere, place_for}
-use Rattle.heap_trials.proofs.Boards.{is_made, new_desc, new_hob}
-use Rattle.ppi_links.proofs.Queueing.{all_queued, at_stays}
+use Rattle.heap_trials.specs.Scene.{AreThere}
+use Rattle.heap_trials.specs.LinkedScene.{place_for}
+use Rattle.heap_trials.proofs.Stays.{all_kept}
+use Rattle.ppi_links.proofs.Queueing.{all_queued}
 
 -- the scene, by the fields of its store
 abbrev pub IsSceneIn : Heap → PhysMem → Heads → Type 0
 IsSceneIn heap memory heads = (s : StoreState) × IsLinked heap memory heads s × AreThere s
-
--- a descriptor that is made
-same_heads : (s : StoreState) (hob : HobEntry) (heads : Heads) → AreHeads s heads → AreHeads (appended s hob) heads
-same_heads s hob heads h = record {
-  ppi_ends = record { first = h.ppi_ends.first; last = h.ppi_ends.last };
-  note_ends = record { first = h.note_ends.first; last = h.note_ends.last };
-  later_ends = record { first = h.later_ends.first; last = h.later_ends.last };
-  queue_ends = record { first = h.queue_ends.first; last = h.queue_ends.last };
-  ppis_are = h.ppis_are;
-  notes_are = h.notes_are;
-}
-
-pub record IsMadeAt (heap : Heap) (memory : PhysMem) (heads : Heads) (s : StoreState) (kind : DescKind) (place : ℕ) : Type 0 where
-  pub now : StoreState
-  pub linked : IsLinked heap memory heads now
-  pub grown : IsGrown s now
-  pub there : IsDescriptorAt now kind place
-
-pub made_at : (heap : Heap) (old new : PhysMem) (heads : Heads) (s : StoreState) (kind : DescKind) (guid : Guid) (number place : ℕ) (made : Desc) → BodiesStay → IsLinked heap old heads s
-    → ((t : StoreState) × (desc_of s kind number (Some (guid, None)) ≡ Ok (made, t)) × IsHeapOf heap new t) → made.offset ≡ place → IsMadeAt heap new heads s kind place
-made_at heap old new heads s kind guid number place made stay h served at =
-    let hob = new_hob kind guid number in
-    let u = appended s hob in
-    let done : Desc × StoreState = (made, served.0) in
-    let both : new_desc s kind guid number ≡ done = is_made s kind guid number done served.1 in
-    let state : u ≡ served.0 = ap (λ (x : Desc × StoreState). x.1) both in
-    let here : next_body s ≡ place = ap (λ (x : Desc × StoreState). x.0.offset) both ∙ at in
-    record {
-      now = u;
-      linked = record { heap_is = subst (IsHeapOf heap new) (sym state) served.2; heads_are = same_heads s hob heads h.heads_are };
-      grown = stay.grown s hob;
-      there = subst (IsDescriptorAt u kind) here (record { kind = kind; guid = guid; stands = None; number = number }, stay.new s hob, refl);
-    }
-
--- all four stay
-pub still_there : (s t : StoreState) → IsGrown s t → AreThere s → AreThere t
-still_there s t grown h = record {
-  installed = at_stays s t Ppi 0x40 grown h.installed;
-  dispatch = at_stays s t Dispatch 0x70 grown h.dispatch;
-  callback = at_stays s t Callback 0xa0 grown h.callback;
-  other = at_stays s t Ppi 0xd0 grown h.other;
-}
 
 -- an entry more
 pub entered_grown : (list : EntryList) (entry : NewEntry) (s : StoreState) → IsGrown s (with_entry list entry s)
@@ -132,7 +88,7 @@ put_scene heap heads s r None h there is = (s, subst (λ m. IsLinked heap m head
 
 -- pairs are queued
 pub queued_scene : (heap : Heap) (memory : PhysMem) (heads : Heads) (s : StoreState) (by : ℕ) (pairs : List (ℕ × ℕ)) → AreThere s → IsLinked heap memory heads (queued by s pairs) → IsSceneIn heap memory heads
-queued_scene heap memory heads s by pairs there h = (queued by s pairs, h, still_there s (queued by s pairs) (all_queued by pairs s).bodies there)
+queued_scene heap memory heads s by pairs there h = (queued by s pairs, h, all_kept s there (queued by s pairs) (all_queued by pairs s).bodies)
 
 pub room_for_all : (free count : ℕ) (pairs : List (ℕ × ℕ)) → count ≡ length pairs → count ≤ free / 40 → node_need (length pairs) ≤ free
 room_for_all free count pairs e le = omega (arith, e, le)

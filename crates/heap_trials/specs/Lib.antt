@@ -1,1 +1,3 @@
+pub mod LinkedScene
 pub mod Scene
+pub mod Volumes

@@ -1,17 +1,12 @@
--- A store whose memory has two PPIs and a notification of each kind, whether or not they are named. The tests of the lists keep it.
+-- A store with two PPIs and a notification of each kind, whether or not they are named. The tests of both stores keep it.
 -- Own.
-use Rattle.std.specs.Prelude.{ℕ}
+use Rattle.store_model.specs.declared.store_handle.Desc.{Desc}
 use Rattle.store_model.specs.declared.store_handle.DescKind.TheVariants.{Ppi, Callback, Dispatch}
-use Rattle.store_model.specs.declared.store_handle.EntryList.{EntryList}
-use Rattle.store_model.specs.declared.store_handle.EntryList.TheVariants.{Ppis, Callbacks, Dispatches, Pendings}
 use Rattle.store_model.specs.StoreState.{StoreState}
-use Rattle.store_model.specs.StateFacts.{IsDescriptorAt}
-use Rattle.ppi_links.specs.Linked.{IsLinked}
-use Rattle.mem_store.specs.declared.store.MemStore.{MemStore}
-
--- its memory has the image of a state, and its heads are that state's
-abbrev pub IsLinkedStore : MemStore → StoreState → Type 0
-IsLinkedStore store s = IsLinked store.heap store.memory store.heads s
+use Rattle.store_model.specs.StateFacts.{IsDesc, IsDescriptorAt}
+use Rattle.store_model.specs.Service.{Present}
+use Rattle.heap_trials.specs.declared.scene.Of.{Of}
+use Rattle.heap_trials.specs.declared.scene.Of.TheVariants as O
 
 -- the places of their descriptors
 pub record AreThere (s : StoreState) : Type 0 where
@@ -20,12 +15,17 @@ pub record AreThere (s : StoreState) : Type 0 where
   pub callback : IsDescriptorAt s Callback 0xa0
   pub other : IsDescriptorAt s Ppi 0xd0
 
-abbrev pub IsScene : MemStore → Type 0
-IsScene store = (s : StoreState) × IsLinkedStore store s × AreThere s
+-- a descriptor may be handed in
+abbrev pub HasDesc : Desc → StoreState → Type 0
+HasDesc d s = IsDesc s d
 
--- the place of the descriptor that is entered in a list
-abbrev pub place_for : EntryList → ℕ
-place_for Ppis = 0x40
-place_for Callbacks = 0xa0
-place_for Dispatches = 0x70
-place_for Pendings = 0x70
+-- a state stands that has the four
+abbrev pub IsLaid : (StoreState → Type 0) → Type 0
+IsLaid Stands = Present Stands AreThere
+
+-- the four descriptors
+abbrev pub desc_of : Of → Desc
+desc_of O.Installed = record { offset = 0x40 }
+desc_of O.Dispatch = record { offset = 0x70 }
+desc_of O.Callback = record { offset = 0xa0 }
+desc_of O.Other = record { offset = 0xd0 }

@@ -1,17 +1,17 @@
-// The board of all tests: a store in memory over temporary RAM and RAM, without volumes.
-// Each call that the tests make leaves a store that stands for a state, so that the next may follow.
+// The board of all tests, temporary RAM, RAM and a volume, and both stores over it: in memory, and of plain lists.
 ghost use Rattle.std.specs.Prelude.{◌≤◌, ◌+◌, IfOk};
 ghost use Rattle.boot_plan.specs.declared.limits.TheConstants.{MOST_TEMP};
-ghost use Rattle.hob_codec.specs.HobView.{hob_value};
 ghost use Rattle.store_model.specs.Service.{Present};
-ghost use Rattle.store_model.specs.StoreCall.{Anything, IsScriptHob};
+ghost use Rattle.store_model.specs.StoreCall.{Anything};
 ghost use Rattle.mem_store.specs.MemState.{StandsFor};
+ghost use Rattle.store_plain.specs.PlainState.{stands_for};
+ghost use Rattle.heap_trials.specs.Volumes.{AreVolumes};
 
-use hob_codec::Hob;
 use mem_store::MemStore;
+use phys_mem::Rom;
 use pi_base::{OutOfMemory, Seq, Span};
 use std::alloc::Global;
-use store_model::{PeiStore, StoreFault};
+use store_plain::PlainStore;
 
 /// The base of temporary RAM.
 pub(crate) const TEMP: u64 = 0x8000_0000;
@@ -22,37 +22,44 @@ pub(crate) const RAM: Span = Span {
     len: 0x2_0000,
 };
 
+/// Where the one volume is mapped.
+pub(crate) const ROM: u64 = 0xff80_0000;
+
+/// Its bytes.
+const VOLUME: [u8; 16] = [0, 0, 0, 0, 0, 0, 0, 0, 0, 0, 0, 0, 0, 0, 0, 1];
+
 /// The bytes of a node with its header.
 pub(crate) const NODE_LEN: u64 = 40;
 
-// The type of memory that the pages have. UEFI, `EFI_MEMORY_TYPE`.
-const BOOT_SERVICES_DATA: u32 = 4;
+// The volume.
+fn volumes(alloc: Global) -> Result<Seq<Rom>, OutOfMemory>
+    ensures { IfOk result (λ roms. AreVolumes roms) }
+{
+    let mut bytes = Seq::new(alloc);
+    bytes.append(&VOLUME)?;
+    let mut roms = Seq::new(alloc);
+    roms.push(Rom { base: ROM, bytes })?;
+    Ok(roms)
+}
 
-/// A store over so many bytes of temporary RAM, the last of which are for early pages.
+/// A store in memory over so many bytes of temporary RAM, the last of which are for early pages.
 pub(crate) fn store_over(alloc: Global, len: u64, pages: u64) -> Result<MemStore, OutOfMemory>
     requires len { len ≤ MOST_TEMP }
     requires pages { pages + 64 ≤ len }
     ensures { IfOk result (λ store. Present (StandsFor store) Anything) }
 {
     let temp = Span { base: TEMP, len };
-    let roms = Seq::new(alloc);
+    let roms = volumes(alloc)?;
     MemStore::new(alloc, temp, pages, RAM, roms)
 }
 
-/// Takes pages.
-pub(crate) fn pages(store: &mut MemStore, count: u32) -> Result<u64, StoreFault>
-    requires state { Present (StandsFor store.old) Anything }
-    requires some { 1 ≤ count }
-    ensures { Present (StandsFor store.new) Anything }
+/// A store of plain lists over the same.
+pub(crate) fn lists_over(alloc: Global, len: u64, pages: u64) -> Result<PlainStore, OutOfMemory>
+    requires len { len ≤ MOST_TEMP }
+    requires pages { pages + 64 ≤ len }
+    ensures { IfOk result (λ store. Present (stands_for store) Anything) }
 {
-    store.pages(BOOT_SERVICES_DATA, count)
-}
-
-/// Makes a HOB.
-pub(crate) fn create(store: &mut MemStore, hob: &Hob<'_>) -> Result<u64, StoreFault>
-    requires state { Present (StandsFor store.old) Anything }
-    requires hob { IsScriptHob (hob_value hob.now) }
-    ensures { Present (StandsFor store.new) Anything }
-{
-    store.create_hob(hob)
+    let temp = Span { base: TEMP, len };
+    let roms = volumes(alloc)?;
+    Ok(PlainStore::new(alloc, temp, pages, RAM, roms))
 }

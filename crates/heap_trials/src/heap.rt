@@ -3,22 +3,15 @@ ghost use Rattle.store_model.specs.Service.{Present};
 ghost use Rattle.store_model.specs.StoreCall.{Anything};
 ghost use Rattle.mem_store.specs.MemState.{StandsFor};
 
-use crate::board::{NODE_LEN, TEMP, create, pages, store_over};
-use boot_plan::MOST_TEMP;
+use crate::board::{NODE_LEN, TEMP, store_over};
+use crate::calls::{create, free, pages, pool, set_boot_mode};
 use hob_codec::kind::{HANDOFF, POOL};
 use hob_codec::{Hob, HobPlace, walk};
 use mem_store::MemStore;
 use pi_base::{Guid, Seq};
 use std::alloc::Global;
 use std::test::*;
-use store_model::{HobSpan, PeiStore, Pool, StoreFault};
-
-fn pool(store: &mut MemStore, size: u32) -> Result<Pool, StoreFault>
-    requires { Present (StandsFor store.old) Anything }
-    ensures { Present (StandsFor store.new) Anything }
-{
-    store.pool(size)
-}
+use store_model::{HobSpan, PeiStore, Pool};
 
 // Makes a node and answers its offset. None without room.
 fn node(store: &mut MemStore) -> Option<u64>
@@ -28,12 +21,6 @@ fn node(store: &mut MemStore) -> Option<u64>
         return None;
     }
     Some(store.heap.node(&mut store.memory))
-}
-
-fn free(store: &MemStore) -> u64
-    requires { Present (StandsFor store.now) Anything }
-{
-    store.heap.free(&store.memory)
 }
 
 fn first_place(store: &MemStore) -> Option<HobSpan>
@@ -48,17 +35,6 @@ fn places(alloc: Global, store: &MemStore) -> Option<Seq<HobPlace>>
     walk(alloc, store.heap.bytes(&store.memory)).ok()
 }
 
-// Whether a pool fits into a heap of this length. None where that is no length of a heap, or for want of memory.
-fn pool_fits(alloc: Global, len: u64, size: u32) -> Option<bool> {
-    if len < 64 || len > MOST_TEMP {
-        return None;
-    }
-    match store_over(alloc, len, 0) {
-        Ok(mut store) => Some(pool(&mut store, size).is_ok()),
-        Err(_) => None,
-    }
-}
-
 #[test]
 fn a_pool_of_all_that_is_free_leaves_no_room(rt: HostRuntime) -> Result<(), Fail> {
     let mut store = store_over(rt.alloc(), 0x4000, 0).ok().ok_or("memory")?;
@@ -67,7 +43,6 @@ fn a_pool_of_all_that_is_free_leaves_no_room(rt: HostRuntime) -> Result<(), Fail
         size: 16_312,
     };
     assert_eq!(rt; pool(&mut store, 16_312), Ok(whole));
-    assert_eq!(rt; pool(&mut store, 8), Err(StoreFault::Full));
     assert_eq!(rt; free(&store), 0);
     let found = places(rt.alloc(), &store).ok_or("a list")?;
     let wants = [
@@ -89,27 +64,6 @@ fn a_pool_of_all_that_is_free_leaves_no_room(rt: HostRuntime) -> Result<(), Fail
                 b"\x09\0\0\0\0\0\0\0\0\x40\0\x80\0\0\0\0\0\0\0\x80\0\0\0\0\0\x40\0\x80\0\0\0\0\0\x40\0\x80\0\0\0\0\xf8\x3f\0\x80\0\0\0\0"
             )
     );
-    Ok(())
-}
-
-#[test]
-fn a_pool_fits_to_the_byte(rt: HostRuntime) -> Result<(), Fail> {
-    // The length of the heap, the size of a pool, and whether it fits.
-    let rows: [(u64, u32, bool); 6] = [
-        (80, 8, true),
-        (79, 8, false),
-        (80, 9, false),
-        (88, 9, true),
-        (0x1_1000, 65_520, true),
-        (0x1_1000, 65_521, false),
-    ];
-    for (len, size, fits) in rows {
-        assert_eq!(rt;
-            pool_fits(rt.alloc(), len, size),
-            Some(fits),
-            "{len} {size}"
-        );
-    }
     Ok(())
 }
 
@@ -152,7 +106,7 @@ fn a_node_takes_forty_bytes(rt: HostRuntime) -> Result<(), Fail> {
 #[test]
 fn the_boot_mode_is_the_second_field_of_the_hand_off(rt: HostRuntime) -> Result<(), Fail> {
     let mut store = store_over(rt.alloc(), 0x4000, 0).ok().ok_or("memory")?;
-    store.set_boot_mode(0x20);
+    set_boot_mode(&mut store, 0x20);
     assert!(rt; store.memory.read(TEMP + 8, 8) == Some(b"\x09\0\0\0\x20\0\0\0"));
     Ok(())
 }

@@ -1,14 +1,16 @@
 // PPIs and notifications that are installed, queued, told and told to again.
 //
-// Behind the hand-off HOB, which has 56 bytes, stand four descriptors of 48 bytes with their headers; nodes of 40 bytes follow, the first at 56 + 192 + 8 = 0x100.
+// Behind the four descriptors of the scene nodes of 40 bytes follow, the first at 56 + 192 + 8 = 0x100.
 ghost use Rattle.std.specs.Prelude.{◌≡◌, true, IfSome};
 ghost use Rattle.store_model.specs.StoreState.{StoreState};
 ghost use Rattle.store_model.specs.StateFacts.{IsDescriptorAt, IsNumberOf};
 ghost use Rattle.store_laws.specs.Bodies.{IsGrown};
-ghost use Rattle.heap_trials.specs.Scene as S;
-ghost use Rattle.heap_trials.specs.Scene.{IsLinkedStore, IsScene};
+ghost use Rattle.heap_trials.specs.LinkedScene as S;
+ghost use Rattle.heap_trials.specs.LinkedScene.{IsScene};
 
 use crate::board::{NODE_LEN, store_over};
+use crate::calls::MAKER;
+use crate::scene::{CALLBACK, DISPATCH, INSTALLED, NAME, OTHER, makes_all};
 use mem_store::MemStore;
 use pi_base::Guid;
 use ppi_links::{
@@ -19,56 +21,6 @@ use std::alloc::Global;
 use std::test::*;
 use store_laws::bodies_stay;
 use store_model::{Desc, DescKind, DescriptorBody, EntryList, EntryTold, Firing, Sweep};
-
-const NAME: Guid = Guid([1, 2, 3, 4, 5, 6, 7, 8, 9, 10, 11, 12, 13, 14, 15, 16]);
-
-const INSTALLED: Desc = Desc { offset: 0x40 };
-
-const DISPATCH: Desc = Desc { offset: 0x70 };
-
-const CALLBACK: Desc = Desc { offset: 0xa0 };
-
-const OTHER: Desc = Desc { offset: 0xd0 };
-
-// The number of the module whose script calls.
-const MAKER: u32 = 9;
-
-// Makes a descriptor. False where it does not stand at this place.
-fn makes(store: &mut MemStore, kind: DescKind, number: u64, place: u64) -> bool
-    requires state { (s : StoreState) × IsLinkedStore store.old s }
-    requires number { IsNumberOf kind number }
-    ensures { (s : StoreState) → IsLinkedStore store.old s → result ≡ true
-        → (t : StoreState) × IsLinkedStore store.new t × IsGrown s t × IsDescriptorAt t kind place }
-{
-    bodies_stay();
-    let d = DescriptorBody {
-        kind,
-        guid: NAME,
-        stands: None,
-        number,
-    };
-    match store.heap.descriptor(&mut store.memory, &d) {
-        Some(made) => made.offset == place,
-        None => false,
-    }
-}
-
-// Makes the four descriptors. False where one could not be made.
-fn makes_all(store: &mut MemStore) -> bool
-    requires { (s : StoreState) × IsLinkedStore store.old s }
-    ensures { result ≡ true → IsScene store.new }
-{
-    if !makes(store, DescKind::Ppi, 7, 0x40) {
-        return false;
-    }
-    if !makes(store, DescKind::Dispatch, 3, 0x70) {
-        return false;
-    }
-    if !makes(store, DescKind::Callback, 5, 0xa0) {
-        return false;
-    }
-    makes(store, DescKind::Ppi, 8, 0xd0)
-}
 
 // A store with the four descriptors, none of them named.
 fn opened(alloc: Global) -> Option<MemStore>

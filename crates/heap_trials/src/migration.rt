@@ -1,57 +1,16 @@
 // A heap moved to permanent memory, byte by byte.
-ghost use Rattle.store_model.specs.Service.{Present};
-ghost use Rattle.store_model.specs.StoreCall.{Anything};
-ghost use Rattle.mem_store.specs.MemState.{StandsFor};
-
-use crate::board::{RAM, TEMP, create, pages, store_over};
+use crate::board::{RAM, TEMP, store_over};
+use crate::calls::{bytes_at, create, install_new, move_to, pages};
+use crate::scene::INLINE;
 use hob_codec::Hob;
-use mem_store::MemStore;
 use pi_base::{Guid, Span};
 use std::test::*;
-use store_model::{DescKind, GuidFrom, PeiStore};
-
-const NAME: Guid = Guid([0, 0, 0, 0, 0, 0, 0, 0, 0, 0, 0, 0, 0, 0, 0, 1]);
 
 // Permanent memory in the upper half of RAM.
 const UPPER: Span = Span {
     base: 0x4001_0000,
     len: 0x1_0000,
 };
-
-// Makes a PPI's descriptor and installs it. False where either is refused.
-fn install(store: &mut MemStore, value: u16) -> bool
-    requires { Present (StandsFor store.old) Anything }
-    ensures { Present (StandsFor store.new) Anything }
-{
-    match store.desc(DescKind::Ppi, GuidFrom::Inline(NAME), u64::from(value)) {
-        Ok(d) => store.install(&[d], 9).is_ok(),
-        Err(_) => false,
-    }
-}
-
-// Plans permanent memory and moves there. None where it is not planned.
-fn move_to(store: &mut MemStore, to: Span) -> Option<(u64, u64)>
-    requires { Present (StandsFor store.old) Anything }
-    ensures { Present (StandsFor store.new) Anything }
-{
-    let planned = store.set_memory(to.base, to.len);
-    if !store.memory_due() {
-        return None;
-    }
-    if planned.is_err() {
-        return None;
-    }
-    Some(store.migrate())
-}
-
-// Forty bytes at an address.
-fn bytes_at(store: &MemStore, at: u64) -> [u8; 40]
-    requires { Present (StandsFor store.now) Anything }
-{
-    let mut bytes = [0; 40];
-    store.peek(at, bytes.as_mut_slice());
-    bytes
-}
 
 #[test]
 fn pages_move_and_bytes_that_look_like_an_address_stay(rt: HostRuntime) -> Result<(), Fail> {
@@ -91,7 +50,7 @@ fn pages_move_and_bytes_that_look_like_an_address_stay(rt: HostRuntime) -> Resul
 #[test]
 fn a_descriptor_moves_with_its_node(rt: HostRuntime) -> Result<(), Fail> {
     let mut store = store_over(rt.alloc(), 0x4000, 0).ok().ok_or("memory")?;
-    assert!(rt; install(&mut store, 0x1234));
+    assert!(rt; install_new(&mut store, INLINE, 0x1234).is_some());
     assert_eq!(rt; move_to(&mut store, RAM), Some((TEMP, 0x4000_0000)));
     assert_eq!(rt;
         bytes_at(&store, 0x4000_0040),

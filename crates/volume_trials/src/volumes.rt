@@ -257,7 +257,7 @@ fn a_file_that_is_not_large_may_stand_under_ffs3(rt: HostRuntime) {
 }
 
 #[test]
-fn large_files_are_listed_or_refused(rt: HostRuntime) {
+fn large_files_are_listed(rt: HostRuntime) {
     // ExtendedSize, the header's checksum, FvLength, and the length of the body or the fault of the file.
     let rows: [(u64, u8, u64, Result<u64, VolCause>); 8] = [
         // Its Size says nothing.

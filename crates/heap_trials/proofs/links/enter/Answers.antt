@@ -1,6 +1,7 @@
 use Rattle.std.proofs.Common.{arith}
 use Rattle.ppi_links.specs.NewEntry.{with_entry}
-use Rattle.heap_trials.proofs.Scenes.{entered_grown, entry_of_list, still_there}
+use Rattle.heap_trials.proofs.Scenes.{entered_grown, entry_of_list}
+use Rattle.heap_trials.proofs.Stays.{all_kept}
 use Rattle.heap_trials.proofs.links.enter.Goals as goal
 
 pub push-requires : goal.push-requires
@@ -22,5 +23,5 @@ returns c =
     let done = c.push.ensures s h (record { names = entry_of_list c.args.list c.place_for.result s there c.place_for.ensures; room = omega (arith, fits, is) }) in (
       with_entry c.args.list (record { descriptor = c.place_for.result; ppi = 0x40; by = 9 }) s,
       done,
-      still_there s _ (entered_grown c.args.list (record { descriptor = c.place_for.result; ppi = 0x40; by = 9 }) s) there,
+      all_kept s there _ (entered_grown c.args.list (record { descriptor = c.place_for.result; ppi = 0x40; by = 9 }) s),
     )

@@ -1,4 +1,5 @@
+use Rattle.std.proofs.Common.{refl}
 use Rattle.heap_trials.proofs.links.opened.Goals as goal
 
-pub makes_all-requires : goal.makes_all-requires
-makes_all-requires c = let stands = c.in-Ok.ensures in (stands.0, stands.1.linked)
+pub returns : goal.returns
+returns c = let h = c.if-not-makes_all.ensures refl in (h.0, h.1.linked, h.2)

@@ -1,0 +1,279 @@
+// Each refusal of each service beside the neighbour that passes, and that a refused call changes nothing: over both stores.
+ghost use Rattle.std.specs.Prelude.{◌≤◌};
+ghost use Rattle.store_model.specs.Service.{Present};
+ghost use Rattle.store_model.specs.StoreCall.{Anything};
+ghost use Rattle.heap_trials.specs.Scene.{IsLaid};
+
+use crate::board::{ROM, lists_over, store_over};
+use crate::calls::{core_install, create, desc, move_to, notify_new, pages, plan, pool};
+use crate::scene::{INLINE, Of, fill, install, laid, notify, reinstall};
+use crate::told::told;
+use hob_codec::Hob;
+use pi_base::Span;
+use std::alloc::Global;
+use std::process::Abort;
+use std::test::*;
+use store_model::{DescKind, GuidFrom, MEMORY_PPI, PeiStore, StoreFault};
+
+/// A call that names descriptors of the scene.
+#[derive(Clone, Copy, Debug)]
+enum Named {
+    Install(Of),
+    Reinstall(Of, Of),
+    Notify(Of),
+}
+
+/// A call that names none.
+#[derive(Clone, Copy, Debug)]
+enum Service {
+    Pool(u32),
+    Desc(GuidFrom),
+    CreateHob,
+    SetMemory(u64, u64),
+    CoreInstall,
+    Pages(u32),
+}
+
+/// How far the scene has come.
+#[derive(Clone, Copy, Debug)]
+enum Stage {
+    /// As it was laid.
+    Laid,
+    /// Its last bytes of temporary RAM are a page for early pages.
+    Paged,
+    /// A dispatch notification waits for permanent memory.
+    Awaited,
+    /// Permanent memory is set, with 20 KiB.
+    Planned,
+    /// The heap has moved there.
+    Moved,
+}
+
+/// Permanent memory of a later stage.
+const PLANNED: Span = Span {
+    base: 0x4000_0000,
+    len: 0x5000,
+};
+
+// A stage, the bytes that are free when the call comes, the call, and the fault of its answer.
+type Row = (Stage, u32, Service, Option<StoreFault>);
+
+const PASSES: Option<StoreFault> = None;
+
+const FULL: Option<StoreFault> = Some(StoreFault::Full);
+
+const BAD: Option<StoreFault> = Some(StoreFault::Bad);
+
+const MISSING: Option<StoreFault> = Some(StoreFault::Missing);
+
+const NOT_YET: Option<StoreFault> = Some(StoreFault::NotYet);
+
+/// Over the scene as it was laid, the bytes that are free, the call and its fault.
+const OF_THE_SCENE: [(u32, Named, Option<StoreFault>); 14] = [
+    // A PPI: 40 bytes for it, and 40 for the pair with the dispatch notification.
+    (80, Named::Install(Of::Other), PASSES),
+    (72, Named::Install(Of::Other), FULL),
+    (0, Named::Install(Of::Callback), BAD),
+    (400, Named::Install(Of::Dispatch), BAD),
+    // 40 for the pair. The kind of the new one comes before whether the old one is installed, and that before the room.
+    (40, Named::Reinstall(Of::Installed, Of::Other), PASSES),
+    (32, Named::Reinstall(Of::Installed, Of::Other), FULL),
+    (0, Named::Reinstall(Of::Installed, Of::Callback), BAD),
+    (400, Named::Reinstall(Of::Other, Of::Dispatch), BAD),
+    (0, Named::Reinstall(Of::Other, Of::Installed), MISSING),
+    // 40 for a notification, and for a dispatch 40 for the pair with the installed PPI.
+    (40, Named::Notify(Of::Callback), PASSES),
+    (32, Named::Notify(Of::Callback), FULL),
+    (80, Named::Notify(Of::Dispatch), PASSES),
+    (72, Named::Notify(Of::Dispatch), FULL),
+    (0, Named::Notify(Of::Other), BAD),
+];
+
+/// At each stage.
+const ROWS: [Row; 30] = [
+    // A pool: its bytes up to a multiple of 8, and a header of 8.
+    (Stage::Laid, 24, Service::Pool(9), PASSES),
+    (Stage::Laid, 16, Service::Pool(9), FULL),
+    // A descriptor: 24 bytes, 16 for a GUID that stands behind it, and a header. A GUID elsewhere lies whole in one volume.
+    (Stage::Laid, 48, Service::Desc(INLINE), PASSES),
+    (Stage::Laid, 40, Service::Desc(INLINE), FULL),
+    (Stage::Laid, 32, Service::Desc(GuidFrom::At(ROM)), PASSES),
+    (Stage::Laid, 24, Service::Desc(GuidFrom::At(ROM)), FULL),
+    (Stage::Laid, 0, Service::Desc(GuidFrom::At(ROM + 1)), BAD),
+    (Stage::Laid, 400, Service::Desc(GuidFrom::At(ROM - 1)), BAD),
+    (
+        Stage::Laid,
+        400,
+        Service::Desc(GuidFrom::At(0x8000_0040)),
+        BAD,
+    ),
+    (Stage::Laid, 400, Service::Desc(GuidFrom::At(u64::MAX)), BAD),
+    // The HOB of a CPU has 16 bytes.
+    (Stage::Laid, 16, Service::CreateHob, PASSES),
+    (Stage::Laid, 8, Service::CreateHob, FULL),
+    // Memory: whole pages in RAM, no less than temporary RAM, and once.
+    (
+        Stage::Laid,
+        0,
+        Service::SetMemory(0x4001_c000, 0x4000),
+        PASSES,
+    ),
+    (Stage::Laid, 0, Service::SetMemory(0x4001_d000, 0x4000), BAD),
+    (Stage::Laid, 0, Service::SetMemory(0x3fff_f000, 0x4000), BAD),
+    (Stage::Laid, 0, Service::SetMemory(0x4000_0800, 0x4000), BAD),
+    (Stage::Laid, 0, Service::SetMemory(0x4000_0000, 0x4800), BAD),
+    (Stage::Laid, 0, Service::SetMemory(0x4000_0000, 0x3000), BAD),
+    (
+        Stage::Planned,
+        0,
+        Service::SetMemory(0x4000_0000, 0x8000),
+        BAD,
+    ),
+    // The PPI of permanent memory: a descriptor of 48, a PPI of 40, and 40 for the pair with a notification that waits for it.
+    (Stage::Laid, 88, Service::CoreInstall, PASSES),
+    (Stage::Laid, 80, Service::CoreInstall, FULL),
+    (Stage::Laid, 40, Service::CoreInstall, FULL),
+    (Stage::Awaited, 128, Service::CoreInstall, PASSES),
+    (Stage::Awaited, 120, Service::CoreInstall, FULL),
+    // Pages: a HOB of 48 bytes, and before the move pages of the region, where there is one, after it pages of the heap.
+    (Stage::Laid, 0, Service::Pages(1), NOT_YET),
+    (Stage::Paged, 48, Service::Pages(1), PASSES),
+    (Stage::Paged, 40, Service::Pages(1), FULL),
+    (Stage::Paged, 400, Service::Pages(2), FULL),
+    (Stage::Moved, 4144, Service::Pages(1), PASSES),
+    (Stage::Moved, 4136, Service::Pages(1), FULL),
+];
+
+// The fault of an answer.
+fn fault<T: Drop>(answer: Result<T, StoreFault>) -> Option<StoreFault> {
+    match answer {
+        Ok(_) => None,
+        Err(fault) => Some(fault),
+    }
+}
+
+fn call_named<S: PeiStore>(store: &mut S, call: Named) -> Option<StoreFault>
+    requires { IsLaid (S.stands_for store.old) }
+    ensures { IsLaid (S.stands_for store.new) }
+{
+    match call {
+        Named::Install(of) => fault(install(store, of)),
+        Named::Reinstall(old, new) => fault(reinstall(store, old, new)),
+        Named::Notify(of) => fault(notify(store, of)),
+    }
+}
+
+fn call<S: PeiStore>(store: &mut S, call: Service) -> Option<StoreFault>
+    requires { Present (S.stands_for store.old) Anything }
+    ensures { Present (S.stands_for store.new) Anything }
+{
+    match call {
+        Service::Pool(size) => fault(pool(store, size)),
+        Service::Desc(guid) => fault(desc(store, DescKind::Ppi, guid, 1)),
+        Service::CreateHob => fault(create(store, &Hob::Cpu { memory: 48, io: 16 })),
+        Service::SetMemory(begin, len) => fault(plan(store, begin, len)),
+        Service::CoreInstall => fault(core_install(store)),
+        Service::Pages(count) => fault(pages(store, count.max(1))),
+    }
+}
+
+// Brings the scene to a stage. False where it does not come there.
+fn bring<S: PeiStore>(store: &mut S, stage: Stage) -> bool
+    requires { Present (S.stands_for store.old) Anything }
+    ensures { Present (S.stands_for store.new) Anything }
+{
+    match stage {
+        Stage::Laid | Stage::Paged => true,
+        Stage::Awaited => notify_new(store, GuidFrom::Inline(MEMORY_PPI), 1).is_some(),
+        Stage::Planned => plan(store, PLANNED.base, PLANNED.len).is_ok(),
+        Stage::Moved => move_to(store, PLANNED).is_some(),
+    }
+}
+
+// The fault comes, and the store then tells what it told before; or none does, and it tells something else.
+fn try_named<S: PeiStore + Drop>(
+    rt: &impl Abort,
+    alloc: Global,
+    store: S,
+    row: &(u32, Named, Option<StoreFault>),
+) -> Result<(), Fail>
+    requires { Present (S.stands_for store) Anything }
+{
+    let mut store = laid(store).ok_or("a scene")?;
+    assert!(rt; fill(&mut store, row.0), "{row:?}");
+    let before = told(alloc, &store)?;
+    let fault = call_named(&mut store, row.1);
+    let after = told(alloc, &store)?;
+    assert_eq!(rt; fault, row.2, "{row:?}");
+    assert_eq!(rt;
+        before.as_slice() == after.as_slice(),
+        fault.is_some(),
+        "{row:?}"
+    );
+    Ok(())
+}
+
+#[test]
+fn calls_that_name_descriptors_are_refused_in_order_and_change_nothing(
+    rt: HostRuntime,
+) -> Result<(), Fail> {
+    for row in OF_THE_SCENE.iter() {
+        try_named(&rt, rt.alloc(), lists_over(rt.alloc(), 0x4000, 0)?, row)?;
+        try_named(&rt, rt.alloc(), store_over(rt.alloc(), 0x4000, 0)?, row)?;
+    }
+    Ok(())
+}
+
+// The same of a call that names none, at a stage.
+fn try_row<S: PeiStore + Drop>(
+    rt: &impl Abort,
+    alloc: Global,
+    store: S,
+    row: &Row,
+) -> Result<(), Fail>
+    requires { Present (S.stands_for store) Anything }
+{
+    let mut store = laid(store).ok_or("a scene")?;
+    assert!(rt; bring(&mut store, row.0), "{row:?}");
+    assert!(rt; fill(&mut store, row.1), "{row:?}");
+    let before = told(alloc, &store)?;
+    let fault = call(&mut store, row.2);
+    let after = told(alloc, &store)?;
+    assert_eq!(rt; fault, row.3, "{row:?}");
+    assert_eq!(rt;
+        before.as_slice() == after.as_slice(),
+        fault.is_some(),
+        "{row:?}"
+    );
+    Ok(())
+}
+
+// The bytes of early pages at a stage.
+fn pages_of(stage: Stage) -> u64
+    ensures { result ≤ 0x1000 }
+{
+    match stage {
+        Stage::Paged => 0x1000,
+        _ => 0,
+    }
+}
+
+#[test]
+fn refusals_come_in_their_order_and_change_nothing(rt: HostRuntime) -> Result<(), Fail> {
+    for row in ROWS.iter() {
+        let early = pages_of(row.0);
+        try_row(
+            &rt,
+            rt.alloc(),
+            lists_over(rt.alloc(), 0x4000 + early, early)?,
+            row,
+        )?;
+        try_row(
+            &rt,
+            rt.alloc(),
+            store_over(rt.alloc(), 0x4000 + early, early)?,
+            row,
+        )?;
+    }
+    Ok(())
+}
