@@ -21,6 +21,3 @@ pub use length::{
 };
 pub use list::{HobPlace, one_walk, walk};
 pub use read::{read_at, round_trip};
-
-#[cfg(test)]
-mod tests;

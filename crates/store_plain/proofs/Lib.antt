@@ -6,7 +6,4 @@ pub mod WordLists
 pub mod Moves
 pub mod Heap
 pub mod Rows
-pub mod Kept
-mod NewPool
 pub mod Left
-pub mod TestBoards

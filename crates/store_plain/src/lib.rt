@@ -24,6 +24,3 @@ mod sweep;
 mod word_bytes;
 
 pub use store::PlainStore;
-
-#[cfg(test)]
-mod tests;
