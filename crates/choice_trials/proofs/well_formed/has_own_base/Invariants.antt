@@ -1,0 +1,7 @@
+use Rattle.pi_base.specs.Lists.{Each}
+use Rattle.choice_trials.specs.Sound.{HaveOtherBases}
+use Rattle.choice_trials.proofs.well_formed.has_own_base.Given as goal
+
+-- what is left to be shown
+abbrev pub invariant-others : goal.invariant-others
+invariant-others l = Each (HaveOtherBases l.entry) l.left → Each (HaveOtherBases l.entry) l.others

@@ -1,0 +1,7 @@
+use Rattle.pi_base.specs.Lists.{Ordered}
+use Rattle.choice_trials.specs.Sound.{HaveOtherBases}
+use Rattle.choice_trials.proofs.well_formed.have_own_bases.Given as goal
+
+-- what is left to be shown
+abbrev pub invariant-volumes : goal.invariant-volumes
+invariant-volumes l = Ordered HaveOtherBases l.left → Ordered HaveOtherBases l.volumes
