@@ -1,6 +1,6 @@
 -- The services of a machine are those of one over any store in which drivers wait for their request: the one that has started the drivers with a rank, and no others.
-use Rattle.std.proofs.Common.{◌≡◌, ℕ, zero, suc, ◌<◌, ◌≤◌, Bool, true, false, cond, ◌&&◌, ◌||◌, not, ◌==◌, List, [], ◌∷◌, length, find, filter, Option, Some, None, is_none, refl, sym, ap, ◌∙◌, arith, subst}
-use Rattle.std.specs.Prelude.{is_some, slice_get, ◌⊎◌, inl, inr, Result, Ok}
+use Rattle.std.proofs.Common.{◌≡◌, ℕ, zero, suc, ◌<◌, ◌≤◌, Bool, true, false, cond, ◌&&◌, ◌||◌, not, ◌==◌, List, [], ◌∷◌, length, find, filter, Option, Some, None, is_none, inl, inr, refl, sym, ap, ◌∙◌, arith, subst}
+use Rattle.std.specs.Prelude.{is_some, slice_get, ◌⊎◌, Result, Ok}
 use Rattle.std.specs.Option.{option_and_then}
 use Rattle.std.proofs.lemmas.Option.{slice_get_past}
 use Rattle.std.proofs.lemmas.Bool.{cases_lt}
@@ -25,33 +25,28 @@ use Rattle.dxe_action.specs.Services.{Services, AreServicesFor, AreServicesOf}
 use Rattle.choice_trials.specs.Served.{IsServed}
 
 -- the numbers below a bound that pass a test
-those : (ℕ → Bool) → ℕ → List ℕ
+abbrev those : (ℕ → Bool) → ℕ → List ℕ
 those p zero = []
 those p (suc n) = cond (p n) (n ∷ those p n) (those p n)
 
+past_one : (n k : ℕ) (b : Bool) (rest : List ℕ) → suc n ≤ k → has_number rest k ≡ false → has_number (cond b (n ∷ rest) rest) k ≡ false
+past_one n k true rest le none = let other : (n == k) ≡ false = grind (arith, nat_tests) in ap (λ t. t || has_number rest k) other ∙ none
+past_one n k false rest le none = none
+
 none_past : (p : ℕ → Bool) (n k : ℕ) → n ≤ k → has_number (those p n) k ≡ false
 none_past p zero k le = refl
-none_past p (suc n) k le = by (p n)
-  where
-    rest : has_number (those p n) k ≡ false
-    rest = none_past p n k (omega (arith, le))
+none_past p (suc n) k le = past_one n k (p n) (those p n) le (none_past p n k (omega (arith, le)))
 
-    other : (n == k) ≡ false
-    other = grind (arith, nat_tests)
-
-    by : (b : Bool) → has_number (cond b (n ∷ those p n) (those p n)) k ≡ false
-    by true = ap (λ t. t || has_number (those p n) k) other ∙ rest
-    by false = rest
+one_of : (p : ℕ → Bool) (n k : ℕ) (rest : List ℕ) → k < suc n → (k < n → has_number rest k ≡ p k) → (n ≤ k → has_number rest k ≡ false) → (same b : Bool) → (n == k) ≡ same → p n ≡ b
+    → has_number (cond b (n ∷ rest) rest) k ≡ p k
+one_of p n k rest below here past true true e is = let at : n ≡ k = grind (arith, nat_tests) in ap (λ t. t || has_number rest k) e ∙ sym (ap p (sym at) ∙ is)
+one_of p n k rest below here past true false e is = let at : n ≡ k = grind (arith, nat_tests) in past (omega (arith, at)) ∙ sym (ap p (sym at) ∙ is)
+one_of p n k rest below here past false true e is = ap (λ t. t || has_number rest k) e ∙ here (grind (arith, nat_tests))
+one_of p n k rest below here past false false e is = here (grind (arith, nat_tests))
 
 are_those : (p : ℕ → Bool) (n k : ℕ) → k < n → has_number (those p n) k ≡ p k
 are_those p zero k below = absurd (omega (arith, below))
-are_those p (suc n) k below = by (n == k) refl (p n) refl
-  where
-    by : (same : Bool) → (n == k) ≡ same → (b : Bool) → p n ≡ b → has_number (cond b (n ∷ those p n) (those p n)) k ≡ p k
-    by true e true is = let at : n ≡ k = grind (arith, nat_tests) in ap (λ t. t || has_number (those p n) k) e ∙ sym (ap p (sym at) ∙ is)
-    by true e false is = let at : n ≡ k = grind (arith, nat_tests) in none_past p n k (omega (arith, at)) ∙ sym (ap p (sym at) ∙ is)
-    by false e true is = ap (λ t. t || has_number (those p n) k) e ∙ are_those p n k (grind (arith, nat_tests))
-    by false e false is = are_those p n k (grind (arith, nat_tests))
+are_those p (suc n) k below = one_of p n k (those p n) below (are_those p n k) (none_past p n k) (n == k) (p n) refl refl
 
 find_step : (p : ℕ → Bool) (x : ℕ) (xs : List ℕ) (b : Bool) (found : Option ℕ) → find p xs ≡ found → find p (cond b (x ∷ xs) xs) ≡ cond (b && p x) (Some x) found
 find_step p x xs true found e = ap (λ f. cond (p x) (Some x) f) e

@@ -1,5 +1,5 @@
 -- A catalogue whose volumes and modules are sound is well-formed.
-use Rattle.std.proofs.Common.{ℕ, ◌<◌, ◌≤◌, List, [], ◌∷◌, length}
+use Rattle.std.proofs.Common.{◌≡◌, ℕ, ◌<◌, ◌≤◌, Bool, true, false, not, List, [], ◌∷◌, length, refl}
 use Rattle.std.specs.Prelude.{IfSome}
 use Rattle.pi_base.specs.Lists.{Each, Ordered}
 use Rattle.pi_base.specs.declared.phase.Phase.TheVariants.{Pei, Dxe}
@@ -13,6 +13,10 @@ use Rattle.choice_trials.specs.Sound.{AreSound, ComesBefore, HaveOtherBases, IsS
 ordered_more : {A : Type 0} (R S : A → A → Type 0) (xs : List A) → ((a b : A) → R a b → S a b) → Ordered R xs → Ordered S xs
 ordered_more R S [] f e = tt
 ordered_more R S (x ∷ xs) f e = (each_more (R x) (S x) xs (f x) e.0, ordered_more R S xs f e.1)
+
+pub is_so : (b : Bool) → not b ≡ false → b ≡ true
+is_so true e = refl
+is_so false e = absurd cc
 
 pub well_formed : (catalog : Catalog) → length catalog.volumes ≤ MOST_VOLUMES → length catalog.modules ≤ MOST_MODULES → AreNumbered 0 catalog.volumes → Ordered HaveOtherBases catalog.volumes
     → AreSound catalog → IsWellFormed catalog

@@ -216,5 +216,11 @@ pub(crate) fn is_well_formed(catalog: &Catalog) -> bool
     if volumes.len() > MOST_VOLUMES || catalog.modules.len() > MOST_MODULES {
         return false;
     }
-    are_behind_their_parents(volumes) && have_own_bases(volumes) && are_sound(catalog)
+    if !are_behind_their_parents(volumes) {
+        return false;
+    }
+    if !have_own_bases(volumes) {
+        return false;
+    }
+    are_sound(catalog)
 }

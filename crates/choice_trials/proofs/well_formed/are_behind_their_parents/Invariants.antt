@@ -8,3 +8,6 @@ invariant-volumes l = record {
   numbered : AreNumbered l.number l.left → AreNumbered 0 l.volumes;
   count : l.number + length l.left ≡ length l.volumes;
 }
+
+abbrev pub decreases-volumes : goal.decreases-volumes
+decreases-volumes l = length l.left
