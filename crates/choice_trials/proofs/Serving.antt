@@ -99,5 +99,5 @@ served stands store catalog old frame action new reply state is acts flags =
     let s = state.0 in
     let m = is.machine.0 in
     let has = is.machine.1 in
-    let does = acts (begun catalog s m) state.1.0 (record { handles = has.handles; notes = has.notes; order = has.order; requested = has.requested }) (wait_for_request catalog s m) in
+    let does = acts (begun catalog s m) state.1 (record { handles = has.handles; notes = has.notes; order = has.order; requested = has.requested }) (wait_for_request catalog s m) in
     record { flags = flags; machine = (does.later, does.has) }

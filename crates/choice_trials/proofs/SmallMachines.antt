@@ -24,7 +24,7 @@ use Rattle.dxe_choice.specs.Queue.{AreNew, Changes, Discovers, HasProtocol, IsNe
 nowhere : Range
 nowhere = record { base = 0; len = 0 }
 
-empty_store : StoreState
+pub empty_store : StoreState
 empty_store = record {
   board = record { temp = nowhere; pages = 0; ram = nowhere; roms = [] };
   hobs = [];

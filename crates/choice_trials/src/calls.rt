@@ -160,7 +160,21 @@ fn reply_of(
     if !are_few(services) {
         return None;
     }
-    take_own(services, store, catalog, &frame(), &action_of(call)).ok()
+    match take_own(services, store, catalog, &frame(), &action_of(call)) {
+        Ok(reply) => Some(reply),
+        Err(OutOfMemory) => None,
+    }
+}
+
+// The services of the catalogue's drivers, where the volumes at these bases are discovered.
+fn services_at(alloc: Global, catalog: &Catalog, bases: &[u64]) -> Option<DxeServices>
+    requires { IsWellFormed catalog.now }
+    ensures { IfSome result (IsServed catalog.now) }
+{
+    match DxeServices::begin(alloc, catalog, bases) {
+        Ok(services) => Some(services),
+        Err(OutOfMemory) => None,
+    }
 }
 
 /// Calls in order, each with its status, the number that its line shows, and up to which notification it visits those of its protocol.
@@ -230,48 +244,89 @@ const CALLS: [(Call, Word, Option<u64>, Option<u32>); 18] = [
     (Call::Locate(LIVE, FIVE, 0x22), Word::NotFound, None, None),
 ];
 
+// What is looked at of a reply: its status, the number that its line shows, and up to which notification it visits those of its protocol.
+fn told(reply: &Reply) -> (Word, Option<u64>, Option<u32>) {
+    let number = match reply.extra {
+        Extra::Number(number) => Some(number),
+        _ => None,
+    };
+    let note_to = match &reply.sweep {
+        Some(sweep) => Some(sweep.note_to),
+        None => None,
+    };
+    (reply.status, number, note_to)
+}
+
+// The first of the calls, by its number, that is answered in another way.
+fn first_wrong(services: &mut DxeServices, store: &PlainStore, catalog: &Catalog) -> Option<usize>
+    requires catalog { IsWellFormed catalog.now }
+    requires state { Present (stands_for store.now) Anything }
+    requires served { IsServed catalog.now services.old }
+{
+    'calls: for at in 0..CALLS.len() {
+        let (call, status, number, note_to) = CALLS[at];
+        match reply_of(services, store, catalog, call) {
+            Some(reply) if told(&reply) == (status, number, note_to) => {}
+            _ => return Some(at),
+        }
+    }
+    None
+}
+
+// What is left where all calls are answered by their rows: the module and the block of the first notification, whether there is a second, and the handles.
+fn left_behind(
+    alloc: Global,
+    store: &PlainStore,
+    catalog: &Catalog,
+) -> Option<(u32, u8, bool, usize)>
+    requires catalog { IsWellFormed catalog.now }
+    requires state { Present (stands_for store.now) Anything }
+{
+    let mut services = services_at(alloc, catalog, &[NESTED[0].0])?;
+    match first_wrong(&mut services, store, catalog) {
+        None => {
+            let (by, block) = first_note(&services)?;
+            Some((
+                by,
+                block,
+                services.note(1).is_some(),
+                services.handles().len(),
+            ))
+        }
+        Some(_) => None,
+    }
+}
+
+// The module and the block of the first notification.
+fn first_note(services: &DxeServices) -> Option<(u32, u8)> {
+    match services.note(0) {
+        Some(note) => Some((note.module_number, note.block)),
+        None => None,
+    }
+}
+
 #[test]
 fn protocol_services_answer_by_their_rows(rt: HostRuntime) -> Result<(), Fail> {
     let catalog = catalogue(rt.alloc(), &NESTED, &DRIVERS).ok_or("a catalogue")?;
-    let store = store(rt.alloc());
-    let mut services = DxeServices::begin(rt.alloc(), &catalog, &[NESTED[0].0])
-        .ok()
-        .ok_or("there is memory")?;
-    'calls: for (n, (call, status, number, note_to)) in CALLS.iter().enumerate() {
-        let reply = reply_of(&mut services, &store, &catalog, *call).ok_or("there is memory")?;
-        let shown = match reply.extra {
-            Extra::Number(number) => Some(number),
-            _ => None,
-        };
-        assert_eq!(rt; reply.status, *status, "call {n}");
-        assert_eq!(rt; shown, *number, "call {n}");
-        assert_eq!(rt;
-            reply.sweep.map(|sweep| sweep.note_to),
-            *note_to,
-            "call {n}"
-        );
-    }
-    let note = services.note(0).ok_or("a notification")?;
-    assert_eq!(rt; (note.module_number, note.block), (3, 3));
-    assert!(rt; services.note(1).is_none());
-    assert_eq!(rt; services.into_handles().len(), 2);
+    let left = left_behind(rt.alloc(), &store(rt.alloc()), &catalog);
+    assert_eq!(rt; left, Some((3, 3, false, 2)));
     Ok(())
+}
+
+// What a new protocol and a look for it write into registers.
+fn written(alloc: Global, store: &PlainStore, catalog: &Catalog) -> Option<(Writes, Writes)>
+    requires catalog { IsWellFormed catalog.now }
+    requires state { Present (stands_for store.now) Anything }
+{
+    let mut services = services_at(alloc, catalog, &[])?;
+    let made = reply_of(&mut services, store, catalog, Call::New(10, 0x21, SIX))?;
+    let found = reply_of(&mut services, store, catalog, Call::Locate(11, 12, 0x21))?;
+    Some((made.writes, found.writes))
 }
 
 #[test]
 fn results_go_into_registers(rt: HostRuntime) -> Result<(), Fail> {
     let catalog = catalogue(rt.alloc(), &NESTED, &DRIVERS).ok_or("a catalogue")?;
-    let store = store(rt.alloc());
-    let mut services = DxeServices::begin(rt.alloc(), &catalog, &[])
-        .ok()
-        .ok_or("there is memory")?;
-    let made = reply_of(&mut services, &store, &catalog, Call::New(10, 0x21, SIX)).ok_or(
-        "there is memory",
-    )?;
-    assert_eq!(rt; made.writes, Writes::one(10, Register::HandleIn(1)));
-    let found = reply_of(&mut services, &store, &catalog, Call::Locate(11, 12, 0x21)).ok_or(
-        "there is memory",
-    )?;
     let handle = Write {
         r: 11,
         register: Register::HandleIn(1),
@@ -280,7 +335,12 @@ fn results_go_into_registers(rt: HostRuntime) -> Result<(), Fail> {
         r: 12,
         register: Register::Number(6),
     };
-    assert_eq!(rt; found.writes, Writes::Two(handle, value));
+    let want = (
+        Writes::one(10, Register::HandleIn(1)),
+        Writes::Two(handle, value),
+    );
+    let got = written(rt.alloc(), &store(rt.alloc()), &catalog);
+    assert_eq!(rt; got, Some(want));
     Ok(())
 }
 
@@ -295,7 +355,7 @@ fn are_answered(
     requires catalog { IsWellFormed catalog.now }
     requires state { Present (stands_for store.now) Anything }
 {
-    let mut services = DxeServices::begin(alloc, catalog, &[NESTED[0].0]).ok()?;
+    let mut services = services_at(alloc, catalog, &[NESTED[0].0])?;
     let one = reply_of(&mut services, store, catalog, Call::Schedule(last))?;
     let other = reply_of(&mut services, store, catalog, Call::Schedule(last))?;
     let third = reply_of(&mut services, store, catalog, Call::Schedule(last))?;
@@ -320,7 +380,7 @@ fn processed(alloc: Global, store: &PlainStore, catalog: &Catalog, v: u8) -> Opt
     requires catalog { IsWellFormed catalog.now }
     requires state { Present (stands_for store.now) Anything }
 {
-    let mut services = DxeServices::begin(alloc, catalog, &[NESTED[1].0]).ok()?;
+    let mut services = services_at(alloc, catalog, &[NESTED[1].0])?;
     let reply = reply_of(&mut services, store, catalog, Call::Process(v))?;
     Some((reply.status, services.order().volumes().len()))
 }
