@@ -14,10 +14,6 @@ ordered_more : {A : Type 0} (R S : A → A → Type 0) (xs : List A) → ((a b :
 ordered_more R S [] f e = tt
 ordered_more R S (x ∷ xs) f e = (each_more (R x) (S x) xs (f x) e.0, ordered_more R S xs f e.1)
 
-pub is_so : (b : Bool) → not b ≡ false → b ≡ true
-is_so true e = refl
-is_so false e = absurd cc
-
 pub well_formed : (catalog : Catalog) → length catalog.volumes ≤ MOST_VOLUMES → length catalog.modules ≤ MOST_MODULES → AreNumbered 0 catalog.volumes → Ordered HaveOtherBases catalog.volumes
     → AreSound catalog → IsWellFormed catalog
 well_formed catalog few_volumes few_modules numbered bases sound =
