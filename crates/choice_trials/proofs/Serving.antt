@@ -1,11 +1,10 @@
 -- The services of a machine are those of one over any store in which drivers wait for their request: the one that has started the drivers with a rank, and no others.
-use Rattle.std.proofs.Common.{◌≡◌, ℕ, zero, suc, ◌<◌, ◌≤◌, Bool, true, false, cond, ◌&&◌, ◌||◌, not, ◌==◌, List, [], ◌∷◌, length, find, filter, Option, Some, None, is_none, inl, inr, refl, sym, ap, ◌∙◌, arith, subst}
-use Rattle.std.specs.Prelude.{is_some, slice_get, ◌⊎◌, Result, Ok}
+use Rattle.std.proofs.Common.{◌≡◌, ℕ, zero, suc, ◌<◌, ◌≤◌, Bool, true, false, cond, ◌&&◌, ◌||◌, not, ◌==◌, List, [], ◌∷◌, length, find, filter, Option, Some, None, is_none, inl, inr, refl, sym, ap, ◌∙◌, arith}
+use Rattle.std.specs.Prelude.{is_some, ◌⊎◌, Ok}
 use Rattle.std.specs.Option.{option_and_then}
 use Rattle.std.proofs.lemmas.Option.{slice_get_past}
 use Rattle.std.proofs.lemmas.Bool.{cases_lt}
 use Rattle.std.proofs.lemmas.Bool.Decides.{nat_tests}
-use Rattle.pi_base.specs.declared.guid.Guid.{Guid}
 use Rattle.pi_base.specs.declared.phase.Phase.TheVariants.{Dxe}
 use Rattle.pi_base.specs.Guids.{same_guid}
 use Rattle.catalog_model.specs.declared.catalog.Catalog.{Catalog}
@@ -21,7 +20,7 @@ use Rattle.store_model.specs.Service.{Present}
 use Rattle.store_model.specs.StoreCall.{Anything}
 use Rattle.dxe_action.specs.declared.reply.Reply.{Reply}
 use Rattle.dxe_action.specs.Reply.{Acts}
-use Rattle.dxe_action.specs.Services.{Services, AreServicesFor, AreServicesOf}
+use Rattle.dxe_action.specs.Services.{Services, AreServicesFor}
 use Rattle.choice_trials.specs.Served.{IsServed}
 
 -- the numbers below a bound that pass a test

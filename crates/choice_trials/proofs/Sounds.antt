@@ -1,7 +1,7 @@
 -- A catalogue whose volumes and modules are sound is well-formed.
-use Rattle.std.proofs.Common.{◌≡◌, ℕ, ◌<◌, ◌≤◌, Bool, true, false, not, List, [], ◌∷◌, length, refl}
+use Rattle.std.proofs.Common.{◌<◌, ◌≤◌, List, [], ◌∷◌, length}
 use Rattle.std.specs.Prelude.{IfSome}
-use Rattle.pi_base.specs.Lists.{Each, Ordered}
+use Rattle.pi_base.specs.Lists.{Ordered}
 use Rattle.pi_base.specs.declared.phase.Phase.TheVariants.{Pei, Dxe}
 use Rattle.pi_base.proofs.ListFacts.{each_more}
 use Rattle.catalog_model.specs.declared.catalog.Catalog.{Catalog}
