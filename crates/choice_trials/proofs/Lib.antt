@@ -1,0 +1,4 @@
+mod FewParts
+mod SmallMachines
+mod Sounds
+mod Serving

@@ -1,0 +1,261 @@
+// The drivers of a small volume: which start, in which order, and by which licences.
+ghost use Rattle.std.specs.Prelude.{◌≡◌, ◌<◌, OnOk};
+ghost use Rattle.boot_model.specs.DxeMachine.{DxeMachine};
+ghost use Rattle.catalog_model.specs.WellFormed.{IsWellFormed};
+ghost use Rattle.dxe_choice.specs.Queue.{IsQueueFor, IsSeen};
+
+use crate::catalogues::{FIRST, FOURTH, Kind, Needs, ONE, Row, SECOND, THIRD, UNNAMED, catalogue};
+use boot_model::{ARCHITECTURAL, Licence, Scheduled};
+use catalog_model::Catalog;
+use depex_code::{Opcode, Steps};
+use driver_order::DriverOrder;
+use dxe_choice::DriverQueue;
+use pi_base::{Guid, OutOfMemory, Seq};
+use std::alloc::Global;
+use std::marker::Brand;
+use std::sync::ledger::{Blank, Ledger};
+use std::test::*;
+
+/// The names of the files that others name.
+const TARGET: Guid = FIRST;
+
+const BEFORE_TARGET: Guid = SECOND;
+
+const AFTER_TARGET: Guid = THIRD;
+
+const RANKED: Guid = FOURTH;
+
+const CYCLE: Guid = Guid([5; 16]);
+
+const OTHER_CYCLE: Guid = Guid([6; 16]);
+
+/// A target that holds once it is requested, with companions on both sides, which have companions of their own, and a driver without an expression.
+const COMPANIONS: [Row; 6] = [
+    (0, Kind::Driver, TARGET, None, Needs::Sor(Opcode::True)),
+    (0, Kind::Driver, BEFORE_TARGET, None, Needs::Before(TARGET)),
+    (0, Kind::Driver, UNNAMED, None, Needs::Before(BEFORE_TARGET)),
+    (0, Kind::Driver, AFTER_TARGET, None, Needs::After(TARGET)),
+    (0, Kind::Driver, UNNAMED, None, Needs::After(AFTER_TARGET)),
+    (0, Kind::Driver, UNNAMED, None, Needs::Nothing),
+];
+
+/// One without an expression, two that name each other, one with a place in the a priori list, and one that names it.
+const OTHERS: [Row; 5] = [
+    (0, Kind::Driver, UNNAMED, None, Needs::Nothing),
+    (0, Kind::Driver, CYCLE, None, Needs::After(OTHER_CYCLE)),
+    (0, Kind::Driver, OTHER_CYCLE, None, Needs::After(CYCLE)),
+    (0, Kind::Driver, RANKED, Some(0), Needs::Unreadable),
+    (0, Kind::Driver, UNNAMED, None, Needs::After(RANKED)),
+];
+
+/// The base of the one volume.
+const BASE: u64 = ONE[0].0;
+
+// So many of the architectural protocols are installed.
+fn install(queue: &mut DriverQueue, catalog: &Catalog, order: &DriverOrder, protocols: usize)
+    requires made { IsQueueFor catalog.now queue.old }
+    requires seen { (m : DxeMachine) × IsSeen catalog.now m queue.old order.now }
+    ensures made { IsQueueFor catalog.now queue.new }
+    ensures seen { (m : DxeMachine) × IsSeen catalog.now m queue.new order.now }
+{
+    'protocols: for guid in ARCHITECTURAL.iter().take(protocols) {
+        queue.change(guid, true);
+    }
+}
+
+// The first driver is requested.
+fn request_first(queue: &mut DriverQueue, catalog: &Catalog, order: &DriverOrder)
+    requires made { IsQueueFor catalog.now queue.old }
+    requires seen { (m : DxeMachine) × IsSeen catalog.now m queue.old order.now }
+    ensures made { IsQueueFor catalog.now queue.new }
+    ensures seen { (m : DxeMachine) × IsSeen catalog.now m queue.new order.now }
+{
+    if let Some(first) = order.drivers().get(0) {
+        queue.request(*first);
+    }
+}
+
+// The choice is aimed at a driver, if one is given.
+fn aim_at<L: Ledger>(
+    queue: &mut DriverQueue,
+    catalog: &Catalog,
+    order: &DriverOrder,
+    aim: Option<u32>,
+    steps: &mut Steps<L>,
+) -> Result<(), OutOfMemory>
+    requires catalog { IsWellFormed catalog.now }
+    requires made { IsQueueFor catalog.now queue.old }
+    requires seen { (m : DxeMachine) × IsSeen catalog.now m queue.old order.now }
+    ensures made { OnOk result (IsQueueFor catalog.now queue.new) }
+    ensures seen { OnOk result ((m : DxeMachine) × IsSeen catalog.now m queue.new order.now) }
+{
+    match aim {
+        Some(root) => queue.aim(catalog, order, root, steps),
+        None => Ok(()),
+    }
+}
+
+// The drivers that start, one after the other.
+fn starts_from<L: Ledger>(
+    queue: &mut DriverQueue,
+    catalog: &Catalog,
+    order: &DriverOrder,
+    steps: &mut Steps<L>,
+) -> Result<Seq<Scheduled>, OutOfMemory>
+    requires catalog { IsWellFormed catalog.now }
+    requires made { IsQueueFor catalog.now queue.old }
+    requires seen { (m : DxeMachine) × IsSeen catalog.now m queue.old order.now }
+{
+    let mut starts = Seq::new(catalog.modules.alloc());
+    'starts: for _ in catalog.modules.as_slice() {
+        match queue.next(catalog, order, steps)? {
+            Some(next) => starts.push(next)?,
+            None => return Ok(starts),
+        }
+    }
+    Ok(starts)
+}
+
+// The starts of the drivers of the volume.
+fn starts_of<L: Ledger>(
+    catalog: &Catalog,
+    row: &Case,
+    blank: Blank,
+) -> Result<Seq<Scheduled>, OutOfMemory>
+    requires name { blank.name ≡ L.name }
+    requires parts { blank.parts ≡ L.parts }
+    requires some { 0 < L.parts }
+    requires catalog { IsWellFormed catalog.now }
+{
+    let alloc = catalog.modules.alloc();
+    let order = DriverOrder::discover(alloc, catalog, &[BASE])?;
+    let mut queue = DriverQueue::new(alloc, catalog)?;
+    queue.discover(catalog, &order, 0)?;
+    install(&mut queue, catalog, &order, row.protocols);
+    if row.is_requested {
+        request_first(&mut queue, catalog, &order);
+    }
+    let mut steps = Steps::<L>::new(blank);
+    aim_at(&mut queue, catalog, &order, row.aim, &mut steps)?;
+    starts_from(&mut queue, catalog, &order, &mut steps)
+}
+
+/// Whether the first driver is requested, how many architectural protocols there are, at which driver the first choice is aimed, and the drivers that start.
+#[derive(Drop)]
+struct Case {
+    is_requested: bool,
+    protocols: usize,
+    aim: Option<u32>,
+    starts: &'static [(u32, Licence)],
+}
+
+// Whether these drivers start, and no others.
+fn starts_so(catalog: &Catalog, row: &Case) -> Result<bool, OutOfMemory>
+    requires { IsWellFormed catalog.now }
+{
+    let starts = starts_of::<Brand>(catalog, row, Blank::new(1))?;
+    let mut is_same = starts.len() == row.starts.len();
+    'starts: for (start, (number, licence)) in starts.as_slice().iter().zip(row.starts) {
+        is_same = is_same && start.module_number == *number && start.licence == *licence;
+    }
+    Ok(is_same)
+}
+
+#[test]
+fn companions_start_with_their_target(rt: HostRuntime) -> Result<(), Fail> {
+    let catalog = catalogue(rt.alloc(), &ONE, &COMPANIONS).ok_or("a catalogue")?;
+    let rows = [
+        Case {
+            is_requested: false,
+            protocols: 12,
+            aim: Some(0),
+            starts: &[],
+        },
+        Case {
+            is_requested: true,
+            protocols: 13,
+            aim: Some(5),
+            starts: &[
+                (5, Licence::Absent),
+                (2, Licence::Before),
+                (1, Licence::Before),
+                (0, Licence::True),
+                (3, Licence::After),
+                (4, Licence::After),
+            ],
+        },
+        Case {
+            is_requested: true,
+            protocols: 0,
+            aim: None,
+            starts: &[
+                (2, Licence::Before),
+                (1, Licence::Before),
+                (0, Licence::True),
+                (3, Licence::After),
+                (4, Licence::After),
+            ],
+        },
+    ];
+    'rows: for row in &rows {
+        assert_eq!(rt; starts_so(&catalog, row), Ok(true));
+    }
+    Ok(())
+}
+
+#[test]
+fn all_architectural_protocols_are_asked_for(rt: HostRuntime) -> Result<(), Fail> {
+    let catalog = catalogue(rt.alloc(), &ONE, &OTHERS).ok_or("a catalogue")?;
+    let rows = [
+        Case {
+            is_requested: false,
+            protocols: 12,
+            aim: None,
+            starts: &[(3, Licence::Apriori)],
+        },
+        Case {
+            is_requested: false,
+            protocols: 13,
+            aim: Some(0),
+            starts: &[(3, Licence::Apriori), (0, Licence::Absent)],
+        },
+    ];
+    'rows: for row in &rows {
+        assert_eq!(rt; starts_so(&catalog, row), Ok(true));
+    }
+    Ok(())
+}
+
+// Whether the queue is empty and whether a driver waits, before and after the a priori drivers of the volume are scheduled.
+fn standings_of(
+    alloc: Global,
+    catalog: &Catalog,
+    number: u32,
+) -> Result<[(bool, bool); 2], OutOfMemory>
+    requires catalog { IsWellFormed catalog.now }
+{
+    let order = DriverOrder::discover(alloc, catalog, &[BASE])?;
+    let mut queue = DriverQueue::new(alloc, catalog)?;
+    let before = (queue.is_empty(), queue.is_waiting(number));
+    queue.discover(catalog, &order, 0)?;
+    Ok([before, (queue.is_empty(), queue.is_waiting(number))])
+}
+
+#[test]
+fn scheduled_drivers_wait_no_more(rt: HostRuntime) -> Result<(), Fail> {
+    // The last number is no module's. The first catalogue has no a priori driver.
+    let rows: [(&[Row], u32, [(bool, bool); 2]); 4] = [
+        (&COMPANIONS, 0, [(true, true), (true, true)]),
+        (&OTHERS, 0, [(true, true), (false, true)]),
+        (&OTHERS, 3, [(true, true), (false, false)]),
+        (&OTHERS, 99, [(true, true), (false, true)]),
+    ];
+    'rows: for (drivers, number, want) in rows {
+        let catalog = catalogue(rt.alloc(), &ONE, drivers).ok_or("a catalogue")?;
+        let standings = standings_of(rt.alloc(), &catalog, number)
+            .ok()
+            .ok_or("there is memory")?;
+        assert_eq!(rt; standings, want, "module {number}");
+    }
+    Ok(())
+}

@@ -1,0 +1,23 @@
+//! Which module comes next and what a driver's calls answer, tried over catalogues made by hand.
+#![tactic(auto)]
+
+#[cfg(test)]
+mod calls;
+#[cfg(test)]
+mod catalogues;
+#[cfg(test)]
+mod drivers;
+#[cfg(test)]
+mod handles;
+#[cfg(test)]
+mod index;
+#[cfg(test)]
+mod order;
+#[cfg(test)]
+mod parts;
+#[cfg(test)]
+mod peims;
+#[cfg(test)]
+mod volumes;
+#[cfg(test)]
+mod well_formed;
