@@ -1,5 +1,5 @@
 -- What stands in a state still does after a service: each adds HOBs, or none.
-use Rattle.std.proofs.Common.{◌≡◌, ℕ, Bool, true, false, cond, List, [], ◌∷◌, length, zero, suc, arith, Option, Some, None, Result, Ok, Err, refl, sym, subst}
+use Rattle.std.proofs.Common.{◌≡◌, ℕ, Bool, true, false, cond, List, [], ◌∷◌, length, zero, suc, arith, Option, Some, None, Result, Ok, Err, refl, sym, subst, inl, inr}
 use Rattle.std.specs.Prelude.{◌<◌, fold, slice_get, is_some, option_map, IfOk, replicate}
 use Rattle.pi_base.specs.declared.guid.Guid.{Guid}
 use Rattle.store_model.specs.declared.state.Body.TheVariants.{Bytes, Descriptor}
@@ -22,9 +22,7 @@ use Rattle.store_model.specs.Service.Pool.{pool}
 use Rattle.store_laws.specs.Bodies.{IsGrown}
 use Rattle.store_laws.proofs.BodyLaws.{all_stay}
 use Rattle.store_laws.proofs.Steps.{grown_node}
-use Rattle.heap_trials.specs.Scene.{AreThere, HasDesc, desc_of as place_of}
-use Rattle.heap_trials.specs.declared.scene.Of.{Of}
-use Rattle.heap_trials.specs.declared.scene.Of.TheVariants as O
+use Rattle.heap_trials.specs.Scene.{AreThere, HasDesc, IsOfScene}
 
 -- all bodies of a state stand in later ones
 same_grown : (s : StoreState) → IsGrown s s
@@ -113,11 +111,11 @@ all_kept s h u grown = record {
   other = at_kept s u Ppi 0xd0 grown h.other;
 }
 
-pub is_desc : (s : StoreState) (of : Of) → AreThere s → IsDesc s (place_of of)
-is_desc s O.Installed h = (h.installed.0, h.installed.1)
-is_desc s O.Dispatch h = (h.dispatch.0, h.dispatch.1)
-is_desc s O.Callback h = (h.callback.0, h.callback.1)
-is_desc s O.Other h = (h.other.0, h.other.1)
+pub is_desc : (s : StoreState) (d : Desc) → IsOfScene d → AreThere s → IsDesc s d
+is_desc s d (inl e) h = subst (IsDesc s) (sym e) (h.installed.0, h.installed.1)
+is_desc s d (inr (inl e)) h = subst (IsDesc s) (sym e) (h.dispatch.0, h.dispatch.1)
+is_desc s d (inr (inr (inl e))) h = subst (IsDesc s) (sym e) (h.callback.0, h.callback.1)
+is_desc s d (inr (inr (inr e))) h = subst (IsDesc s) (sym e) (h.other.0, h.other.1)
 
 -- a descriptor that was made is the service's
 made_by : (full : Bool) (new told : Desc × StoreState) → cond full (Err F.Full) (Ok new) ≡ Ok told → new ≡ told

@@ -1,12 +1,11 @@
 -- A store with two PPIs and a notification of each kind, whether or not they are named. The tests of both stores keep it.
 -- Own.
+use Rattle.std.specs.Prelude.{◌≡◌, ◌⊎◌}
 use Rattle.store_model.specs.declared.store_handle.Desc.{Desc}
 use Rattle.store_model.specs.declared.store_handle.DescKind.TheVariants.{Ppi, Callback, Dispatch}
 use Rattle.store_model.specs.StoreState.{StoreState}
 use Rattle.store_model.specs.StateFacts.{IsDesc, IsDescriptorAt}
 use Rattle.store_model.specs.Service.{Present}
-use Rattle.heap_trials.specs.declared.scene.Of.{Of}
-use Rattle.heap_trials.specs.declared.scene.Of.TheVariants as O
 
 -- the places of their descriptors
 pub record AreThere (s : StoreState) : Type 0 where
@@ -23,9 +22,6 @@ HasDesc d s = IsDesc s d
 abbrev pub IsLaid : (StoreState → Type 0) → Type 0
 IsLaid Stands = Present Stands AreThere
 
--- the four descriptors
-abbrev pub desc_of : Of → Desc
-desc_of O.Installed = record { offset = 0x40 }
-desc_of O.Dispatch = record { offset = 0x70 }
-desc_of O.Callback = record { offset = 0xa0 }
-desc_of O.Other = record { offset = 0xd0 }
+-- one of the four descriptors
+abbrev pub IsOfScene : Desc → Type 0
+IsOfScene d = (d ≡ record { offset = 0x40 }) ⊎ ((d ≡ record { offset = 0x70 }) ⊎ ((d ≡ record { offset = 0xa0 }) ⊎ (d ≡ record { offset = 0xd0 })))

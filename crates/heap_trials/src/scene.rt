@@ -8,8 +8,7 @@ ghost use Rattle.store_model.specs.StateFacts.{IsDescriptorAt, IsNumberOf};
 ghost use Rattle.store_model.specs.Service.{Present};
 ghost use Rattle.store_model.specs.StoreCall.{Anything};
 ghost use Rattle.store_laws.specs.Bodies.{IsGrown};
-ghost use Rattle.heap_trials.specs.Scene as S;
-ghost use Rattle.heap_trials.specs.Scene.{IsLaid};
+ghost use Rattle.heap_trials.specs.Scene.{IsLaid, IsOfScene};
 
 use crate::calls::{MAKER, free};
 use pi_base::Guid;
@@ -42,7 +41,7 @@ pub(crate) enum Of {
 
 /// The descriptor.
 pub(crate) fn desc_of(of: Of) -> Desc
-    ensures { result ≡ S.desc_of of }
+    ensures { IsOfScene result }
 {
     match of {
         Of::Installed => INSTALLED,

@@ -1,4 +1,4 @@
-use Rattle.std.proofs.Common.{[], ◌∷◌, sym, subst}
+use Rattle.std.proofs.Common.{[], ◌∷◌}
 use Rattle.store_model.specs.StateFacts.{IsDesc}
 use Rattle.store_model.specs.Service.Install.{install}
 use Rattle.heap_trials.specs.Scene.{AreThere}
@@ -9,6 +9,6 @@ pub returns : goal.returns
 returns g c =
     let h = c.requires in
     let d = c.desc_of-d.result in
-    let is : IsDesc h.0 d = subst (IsDesc h.0) (sym c.desc_of-d.ensures) (is_desc h.0 c.args.of h.2) in
+    let is : IsDesc h.0 d = is_desc h.0 c.desc_of-d.result c.desc_of-d.ensures h.2 in
     kept_by AreThere (g.M.PeiStore.stands_for c.install.new.self) _ (install h.0 (d ∷ []) 9) h.0 c.install.result
     (all_kept h.0 h.2) (install_grows h.0 (d ∷ []) 9) (c.install.ensures.row h.0 (h.1, (is, tt)))
