@@ -309,7 +309,7 @@ fn first_note(services: &DxeServices) -> Option<(u32, u8)> {
 fn protocol_services_answer_by_their_rows(rt: HostRuntime) -> Result<(), Fail> {
     let catalog = catalogue(rt.alloc(), &NESTED, &DRIVERS).ok_or("a catalogue")?;
     let left = left_behind(rt.alloc(), &store(rt.alloc()), &catalog);
-    assert_eq!(rt; left, Some((3, 3, false, 2)));
+    assert!(rt; left == Some((3, 3, false, 2)));
     Ok(())
 }
 
@@ -340,7 +340,7 @@ fn results_go_into_registers(rt: HostRuntime) -> Result<(), Fail> {
         Writes::Two(handle, value),
     );
     let got = written(rt.alloc(), &store(rt.alloc()), &catalog);
-    assert_eq!(rt; got, Some(want));
+    assert!(rt; got == Some(want));
     Ok(())
 }
 
@@ -370,7 +370,7 @@ fn drivers_of_a_name_are_requested_once_each(rt: HostRuntime) -> Result<(), Fail
     let rows = [(7, Word::Success), (8, Word::NotFound), (9, Word::NotFound)];
     'rows: for (last, want) in rows {
         let answered = are_answered(rt.alloc(), &store, &catalog, last, want);
-        assert_eq!(rt; answered, Some(true), "name {last}");
+        assert!(rt; answered == Some(true), "name {last}");
     }
     Ok(())
 }
@@ -398,7 +398,7 @@ fn a_new_volume_is_processed(rt: HostRuntime) -> Result<(), Fail> {
     ];
     'rows: for (v, want) in rows {
         let got = processed(rt.alloc(), &store, &catalog, v);
-        assert_eq!(rt; got, Some(want), "register {v}");
+        assert!(rt; got == Some(want), "register {v}");
     }
     Ok(())
 }

@@ -198,7 +198,7 @@ fn companions_start_with_their_target(rt: HostRuntime) -> Result<(), Fail> {
         },
     ];
     'rows: for row in &rows {
-        assert_eq!(rt; starts_so(&catalog, row), Ok(true));
+        assert!(rt; starts_so(&catalog, row) == Ok(true));
     }
     Ok(())
 }
@@ -221,7 +221,7 @@ fn all_architectural_protocols_are_asked_for(rt: HostRuntime) -> Result<(), Fail
         },
     ];
     'rows: for row in &rows {
-        assert_eq!(rt; starts_so(&catalog, row), Ok(true));
+        assert!(rt; starts_so(&catalog, row) == Ok(true));
     }
     Ok(())
 }
@@ -255,7 +255,7 @@ fn scheduled_drivers_wait_no_more(rt: HostRuntime) -> Result<(), Fail> {
         let standings = standings_of(rt.alloc(), &catalog, number)
             .ok()
             .ok_or("there is memory")?;
-        assert_eq!(rt; standings, want, "module {number}");
+        assert!(rt; standings == want, "module {number}");
     }
     Ok(())
 }

@@ -79,13 +79,13 @@ fn each_row_of_the_services_answers_as_in_a_worked_boot(rt: HostRuntime) -> Resu
     for (n, row) in ROWS.iter().enumerate() {
         assert!(rt; answers(&mut handles, *row), "row {n}");
     }
-    assert_eq!(rt; handles.made(), 6);
-    assert_eq!(rt; handles.len(), LISTED.len());
+    assert!(rt; handles.made() == 6);
+    assert!(rt; handles.len() == LISTED.len());
     for (place, (handle, last, value)) in LISTED.iter().enumerate() {
         let interface = handles.nth(place as u32).expect(&rt, "an interface");
-        assert_eq!(rt; interface.handle, *handle);
+        assert!(rt; interface.handle == *handle);
         assert!(rt; interface.guid == guid(*last));
-        assert_eq!(rt; interface.value, *value);
+        assert!(rt; interface.value == *value);
     }
     assert!(rt; handles.nth(8).is_none());
     assert!(rt; handles.has(&guid(0x26)) && !handles.has(&guid(0x24)));
@@ -101,12 +101,12 @@ fn the_lowest_of_many_handles_is_located(rt: HostRuntime) -> Result<(), Fail> {
     }
     // The protocol comes last onto the handle that is lowest then.
     for handle in [400u32, 300, 7, 500] {
-        assert_eq!(rt; handles.install(Some(handle), guid(9), 1), Ok(handle));
+        assert!(rt; handles.install(Some(handle), guid(9), 1) == Ok(handle));
     }
     for want in [7u32, 300, 400, 500] {
-        assert_eq!(rt; handles.locate(&guid(9)), Some((want, 1)));
-        assert_eq!(rt; handles.uninstall(want, guid(9), 1), Ok(()));
+        assert!(rt; handles.locate(&guid(9)) == Some((want, 1)));
+        assert!(rt; handles.uninstall(want, guid(9), 1).is_ok());
     }
-    assert_eq!(rt; handles.locate(&guid(9)), None);
+    assert!(rt; handles.locate(&guid(9)).is_none());
     Ok(())
 }

@@ -65,12 +65,12 @@ fn volumes_come_with_their_drivers_and_names(rt: HostRuntime) -> Result<(), Fail
         let order = DriverOrder::discover(rt.alloc(), &catalog, row.bases)
             .ok()
             .ok_or("there is memory")?;
-        assert_eq!(rt; order.volumes(), row.volumes);
-        assert_eq!(rt; order.drivers(), row.drivers);
+        assert!(rt; order.volumes() == row.volumes);
+        assert!(rt; order.drivers() == row.drivers);
         'names: for (name, first, befores, afters) in &row.found {
-            assert_eq!(rt; order.named(name), *first);
-            assert_eq!(rt; order.befores(name), *befores);
-            assert_eq!(rt; order.afters(name), *afters);
+            assert!(rt; order.named(name) == *first);
+            assert!(rt; order.befores(name) == *befores);
+            assert!(rt; order.afters(name) == *afters);
         }
     }
     Ok(())
@@ -106,8 +106,8 @@ fn a_volume_comes_once(rt: HostRuntime) -> Result<(), Fail> {
         let order = added(rt.alloc(), &catalog, first, second)
             .ok()
             .ok_or("there is memory")?;
-        assert_eq!(rt; order.drivers(), drivers);
-        assert_eq!(rt; order.has_volume(2), has_last);
+        assert!(rt; order.drivers() == drivers);
+        assert!(rt; order.has_volume(2) == has_last);
     }
     Ok(())
 }

@@ -50,7 +50,7 @@ fn ranked_parts_come_first_and_others_by_place(rt: HostRuntime) -> Result<(), Fa
     ];
     'rows: for (phase, first, second, want) in rows {
         let parts = parts_of(&catalog, phase, first, second);
-        assert_eq!(rt; parts.as_slice(), want);
+        assert!(rt; parts.as_slice() == want);
     }
     Ok(())
 }

@@ -64,7 +64,7 @@ fn nested_volumes_stand_behind_their_own(rt: HostRuntime) -> Result<(), Fail> {
     ];
     'rows: for (first, second, known) in rows {
         let list = added(&catalog, first, second);
-        assert_eq!(rt; list.as_slice(), known);
+        assert!(rt; list.as_slice() == known);
     }
     Ok(())
 }
@@ -80,7 +80,7 @@ fn volumes_are_discovered_base_by_base(rt: HostRuntime) -> Result<(), Fail> {
         (&[0x10_1100, 0x20_0000, 0x10_1100, 0x10_1000], &[2, 4, 1]),
     ];
     'rows: for (bases, want) in rows {
-        assert_eq!(rt; discovered(&catalog, bases).as_slice(), want);
+        assert!(rt; discovered(&catalog, bases).as_slice() == want);
     }
     Ok(())
 }

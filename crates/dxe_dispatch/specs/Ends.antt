@@ -49,6 +49,23 @@ Runs stands store catalog core later queue old new result =
     → StandsFor stands store catalog core (dxe_opening catalog s actions)
     → RunsTo stands store catalog (dxe_end catalog fuel s actions) later queue old new result
 
+-- the core beside its store is at the opening over each state for which the store stands, with the actions that PEI took
+abbrev pub IsOpened : {M : Type 0} → (M → StoreState → Type 0) → M → Catalog → ℕ → DxeCore → Type 0
+IsOpened stands store catalog taken core = (s : StoreState) → stands store s → StandsFor stands store catalog core (dxe_opening catalog s taken)
+
+-- a run to an end, by its answer, and the handles that it leaves
+abbrev pub LeavesAt : DxeMachine → DxeCore → Option (List ℕ) → Option (List ℕ) → Result DxeEnd Halt → Type 0
+LeavesAt end core old new (Ok how) = HasEnded how end old new × (end.handles ≡ core.services.handles)
+LeavesAt end core old new (Err halt) = AppendsPart old new (text_of end.lines)
+
+-- the same of the run from the opening over each state, with the actions and the fuel for which the core was made
+abbrev pub Leaves : {M : Type 0} → (M → StoreState → Type 0) → M → Catalog
+    → DxeCore → DxeCore → Option (List ℕ) → Option (List ℕ) → Result DxeEnd Halt → Type 0
+Leaves stands store catalog core later old new result =
+    (s : StoreState) (actions fuel : ℕ) → IsFor catalog fuel core
+    → StandsFor stands store catalog core (dxe_opening catalog s actions)
+    → LeavesAt (dxe_end catalog fuel s actions) later old new result
+
 -- no more expressions are evaluated than the bound of the run lets
 abbrev pub EvaluatesFew : {M : Type 0} → (M → StoreState → Type 0) → M → Catalog → DxeCore → ℕ → ℕ → Type 0
 EvaluatesFew stands store catalog core before now =

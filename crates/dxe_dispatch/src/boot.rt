@@ -1,10 +1,11 @@
 //! DXE behind a hand-off.
-ghost use Rattle.std.specs.Prelude.{◌≡◌, ◌<◌, ◌^◌, IfOk, length};
+ghost use Rattle.std.specs.Prelude.{◌≡◌, ◌<◌, ◌^◌, ℕ, IfOk, OnOk, length};
 ghost use Rattle.boot_io.specs.Halted.{HaltsAfter};
 ghost use Rattle.catalog_model.specs.WellFormed.{IsWellFormed};
 ghost use Rattle.store_model.specs.Service.{Present, OfEach};
 ghost use Rattle.store_model.specs.StoreCall.{Anything};
-ghost use Rattle.dxe_dispatch.specs.Ends.{Boots};
+ghost use Rattle.dxe_core.specs.Standing.{IsFor};
+ghost use Rattle.dxe_dispatch.specs.Ends.{Boots, IsAtOpening, IsOpened, Leaves};
 
 use crate::run::run_dxe;
 use boot_io::{Halt, Sink};
@@ -14,6 +15,7 @@ use depex_code::Steps;
 use dxe_choice::DriverQueue;
 use dxe_core::Dxe;
 use dxe_handles::Handles;
+use pi_base::OutOfMemory;
 use std::alloc::Global;
 use std::marker::Brand;
 use std::sync::ledger::{Blank, Ledger};
@@ -28,34 +30,45 @@ pub struct Ended {
     pub handles: Handles,
 }
 
-// The expressions that are evaluated are counted in the ledger of a blank.
-fn boot_with_ledger<M: PeiStore, S: Sink, L: Ledger>(
+// The core at its opening, over a store behind the hand-off.
+fn opening<M: PeiStore>(
     alloc: Global,
     store: &M,
     catalog: &Catalog,
     fuel: u32,
     taken: u32,
-    sink: &mut S,
-    blank: Blank,
-) -> Result<Ended, Halt>
+) -> Result<Dxe, OutOfMemory>
     requires catalog { IsWellFormed catalog.now }
     requires state { Present (M.stands_for store.now) Anything }
+    ensures row { IfOk result (IsOpened M.stands_for store.now catalog.now taken) }
+    ensures made { IfOk result (IsFor catalog.now fuel) }
+{
+    let bases = store.fv_bases()?;
+    Dxe::begin(alloc, catalog, bases.as_slice(), fuel, taken)
+}
+
+// DXE from its opening, over a queue that is made for it. The expressions that are evaluated are counted in the ledger of a blank.
+fn run_with_ledger<M: PeiStore, S: Sink, L: Ledger>(
+    alloc: Global,
+    dxe: &mut Dxe,
+    store: &M,
+    catalog: &Catalog,
+    sink: &mut S,
+    blank: Blank,
+) -> Result<DxeEnd, Halt>
+    requires catalog { IsWellFormed catalog.now }
+    requires made { (fuel : ℕ) × IsFor catalog.now fuel dxe.old }
+    requires opening { IsAtOpening M.stands_for store.now catalog.now dxe.old }
     requires name { blank.name ≡ L.name }
     requires parts { blank.parts ≡ L.parts }
     requires counts { 0 < L.parts }
-    ensures row { OfEach (M.stands_for store.now) Anything (Boots catalog.now fuel taken (S.text sink.old) (S.text sink.new) result) }
-    ensures few { IfOk result (λ ended. length ended.handles.interfaces < 2 ^ 32) }
+    ensures row { Leaves M.stands_for store.now catalog.now dxe.old dxe.new (S.text sink.old) (S.text sink.new) result }
+    ensures few { dxe.old.fuel.taken < 2 ^ 32 → OnOk result (length dxe.new.services.handles.interfaces < 2 ^ 32) }
     ensures faults { HaltsAfter result (S.faults sink.old) (S.faults sink.new) }
 {
-    let bases = store.fv_bases()?;
-    let mut dxe = Dxe::begin(alloc, catalog, bases.as_slice(), fuel, taken)?;
     let mut queue = DriverQueue::new(alloc, catalog)?;
     let mut steps = Steps::<L>::new(blank);
-    let end = run_dxe(&mut dxe, store, &mut queue, catalog, sink, &mut steps)?;
-    Ok(Ended {
-        end,
-        handles: dxe.into_handles(),
-    })
+    run_dxe(dxe, store, &mut queue, catalog, sink, &mut steps)
 }
 
 /// The whole of DXE behind the hand-off of a store. `fuel` is how many actions may be taken in both phases, and `taken` how many PEI took. No more interfaces are left than a `u32` counts.
@@ -73,5 +86,11 @@ pub fn boot_dxe<M: PeiStore, S: Sink>(
     ensures few { IfOk result (λ ended. length ended.handles.interfaces < 2 ^ 32) }
     ensures faults { HaltsAfter result (S.faults sink.old) (S.faults sink.new) }
 {
-    boot_with_ledger::<M, S, Brand>(alloc, store, catalog, fuel, taken, sink, Blank::new(1))
+    let mut dxe = opening(alloc, store, catalog, fuel, taken)?;
+    let blank = Blank::new(1);
+    let end = run_with_ledger::<M, S, Brand>(alloc, &mut dxe, store, catalog, sink, blank)?;
+    Ok(Ended {
+        end,
+        handles: dxe.into_handles(),
+    })
 }

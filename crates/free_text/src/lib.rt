@@ -9,6 +9,3 @@ mod spelled;
 pub use laws::text_tells;
 pub use parted::Parted;
 pub use spelled::Spelled;
-
-#[cfg(test)]
-mod tests;

@@ -4,6 +4,3 @@
 mod guid_map;
 
 pub use guid_map::GuidMap;
-
-#[cfg(test)]
-mod tests;

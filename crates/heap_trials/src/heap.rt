@@ -42,8 +42,8 @@ fn a_pool_of_all_that_is_free_leaves_no_room(rt: HostRuntime) -> Result<(), Fail
         offset: 0x40,
         size: 16_312,
     };
-    assert_eq!(rt; pool(&mut store, 16_312), Ok(whole));
-    assert_eq!(rt; free(&store), 0);
+    assert!(rt; pool(&mut store, 16_312) == Ok(whole));
+    assert!(rt; free(&store) == 0);
     let found = places(rt.alloc(), &store).ok_or("a list")?;
     let wants = [
         HobPlace {
@@ -57,7 +57,7 @@ fn a_pool_of_all_that_is_free_leaves_no_room(rt: HostRuntime) -> Result<(), Fail
             length: 16_320,
         },
     ];
-    assert_eq!(rt; found.as_slice(), wants.as_slice());
+    assert!(rt; found.as_slice() == wants.as_slice());
     assert!(rt;
         store.memory.read(TEMP + 8, 48)
             == Some(
@@ -75,8 +75,8 @@ fn hobs_stand_one_behind_another(rt: HostRuntime) -> Result<(), Fail> {
         name: Guid(*b"0123456789abcdef"),
         body: b"xyz",
     };
-    assert_eq!(rt; create(&mut store, &cpu), Ok(TEMP + 56));
-    assert_eq!(rt; create(&mut store, &named), Ok(TEMP + 72));
+    assert!(rt; create(&mut store, &cpu) == Ok(TEMP + 56));
+    assert!(rt; create(&mut store, &named) == Ok(TEMP + 72));
     assert!(rt;
         store.memory.read(TEMP + 56, 56)
             == Some(
@@ -88,14 +88,14 @@ fn hobs_stand_one_behind_another(rt: HostRuntime) -> Result<(), Fail> {
         length: 56,
         next: 56,
     };
-    assert_eq!(rt; first_place(&store), Some(first));
+    assert!(rt; first_place(&store) == Some(first));
     Ok(())
 }
 
 #[test]
 fn a_node_takes_forty_bytes(rt: HostRuntime) -> Result<(), Fail> {
     let mut store = store_over(rt.alloc(), 0x4000, 0).ok().ok_or("memory")?;
-    assert_eq!(rt; node(&mut store), Some(0x40));
+    assert!(rt; node(&mut store) == Some(0x40));
     assert!(rt;
         store.memory.read(TEMP + 40, 24)
             == Some(b"\x68\0\0\x80\0\0\0\0\x60\0\0\x80\0\0\0\0\x07\0\x28\0\0\0\0\0")
@@ -114,7 +114,7 @@ fn the_boot_mode_is_the_second_field_of_the_hand_off(rt: HostRuntime) -> Result<
 #[test]
 fn a_hob_tells_of_an_early_page(rt: HostRuntime) -> Result<(), Fail> {
     let mut store = store_over(rt.alloc(), 0x8000, 0x3000).ok().ok_or("memory")?;
-    assert_eq!(rt; pages(&mut store, 1), Ok(TEMP + 0x7000));
+    assert!(rt; pages(&mut store, 1) == Ok(TEMP + 0x7000));
     assert!(rt;
         store.memory.read(TEMP + 56, 48)
             == Some(

@@ -30,10 +30,10 @@ fn check(
         };
         let mut out = vec![in alloc; 0xaau8; len as usize]?;
         encode_into(hob, out.as_mut_slice());
-        assert_eq!(rt; out.as_slice(), *bytes);
+        assert!(rt; out.as_slice() == *bytes);
         match read_at(bytes, 0) {
             Ok((read, next)) => {
-                assert_eq!(rt; next, bytes.len());
+                assert!(rt; next == bytes.len());
                 assert!(rt; read == *again);
             }
             Err(fault) => panic!(rt; "{fault}"),
@@ -185,8 +185,8 @@ fn the_greatest_lengths_are_encoded(rt: HostRuntime) -> Result<(), Fail> {
     ] {
         let body = vec![in rt.alloc(); 0u8; len]?;
         let body = body.as_slice();
-        assert_eq!(rt; hob_len(&Hob::Pool { body }), pool);
-        assert_eq!(rt; hob_len(&Hob::Named { name: NAME, body }), named);
+        assert!(rt; hob_len(&Hob::Pool { body }) == pool);
+        assert!(rt; hob_len(&Hob::Named { name: NAME, body }) == named);
     }
     Ok(())
 }
@@ -213,7 +213,7 @@ fn faults_come_at_a_place(rt: HostRuntime) {
     for (bytes, at, fault) in rows {
         match read_at(bytes, at) {
             Ok(_) => panic!(rt; "a HOB"),
-            Err(found) => assert_eq!(rt; found, fault),
+            Err(found) => assert!(rt; found == fault),
         }
     }
 }
@@ -252,7 +252,7 @@ fn a_list_is_walked(rt: HostRuntime) -> Result<(), Fail> {
             length: 16,
         },
     ];
-    assert_eq!(rt; places.as_slice(), wants.as_slice());
+    assert!(rt; places.as_slice() == wants.as_slice());
     one_walk();
     let rows: [(&[u8], HobFault); 6] = [
         (b"", HobFault::NoEnd),
@@ -268,7 +268,7 @@ fn a_list_is_walked(rt: HostRuntime) -> Result<(), Fail> {
     for (bytes, fault) in rows {
         match walk(rt.alloc(), bytes) {
             Ok(_) => panic!(rt; "a list"),
-            Err(found) => assert_eq!(rt; found, fault),
+            Err(found) => assert!(rt; found == fault),
         }
     }
     Ok(())

@@ -195,13 +195,13 @@ fn a_queue_is_emptied_and_filled_again(rt: HostRuntime) -> Result<(), Fail> {
     let mut scene = opened(rt.alloc()).ok_or("a scene")?;
     assert!(rt; enter(&mut scene, EntryList::Dispatches));
     assert!(rt; enter(&mut scene, EntryList::Ppis));
-    assert_eq!(rt; queue_all(&mut scene), Some(1));
-    assert_eq!(rt; pending(&scene, 0), Some((NAME, 3)));
-    assert_eq!(rt; leave(&mut scene), Some(QUEUED));
-    assert_eq!(rt; leave(&mut scene), None);
-    assert_eq!(rt; scene.heads.queue_tail, 0);
+    assert!(rt; queue_all(&mut scene) == Some(1));
+    assert!(rt; pending(&scene, 0) == Some((NAME, 3)));
+    assert!(rt; leave(&mut scene) == Some(QUEUED));
+    assert!(rt; leave(&mut scene).is_none());
+    assert!(rt; scene.heads.queue_tail == 0);
     assert!(rt; enter(&mut scene, EntryList::Pendings));
-    assert_eq!(rt; leave(&mut scene), Some(QUEUED));
+    assert!(rt; leave(&mut scene) == Some(QUEUED));
     Ok(())
 }
 
@@ -219,14 +219,14 @@ fn what_is_entered_is_told(rt: HostRuntime) -> Result<(), Fail> {
         by: MAKER,
     };
     assert!(rt; has(&scene, &NAME));
-    assert_eq!(rt; nth(&scene, 1), Some((INSTALLED, 7)));
-    assert_eq!(rt; nth(&scene, 2), None);
-    assert_eq!(rt; ppi(&scene, 1), Some((NAME, 7, MAKER)));
-    assert_eq!(rt; note(&scene, DescKind::Callback, 0), Some((NAME, 5)));
-    assert_eq!(rt; note(&scene, DescKind::Dispatch, 0), None);
-    assert_eq!(rt; first(&scene, EntryList::Ppis), Some(told));
-    assert_eq!(rt; queue_new(&mut scene), Some(2));
-    assert_eq!(rt; pending(&scene, 1), Some((NAME, 3)));
+    assert!(rt; nth(&scene, 1) == Some((INSTALLED, 7)));
+    assert!(rt; nth(&scene, 2).is_none());
+    assert!(rt; ppi(&scene, 1) == Some((NAME, 7, MAKER)));
+    assert!(rt; note(&scene, DescKind::Callback, 0) == Some((NAME, 5)));
+    assert!(rt; note(&scene, DescKind::Dispatch, 0).is_none());
+    assert!(rt; first(&scene, EntryList::Ppis) == Some(told));
+    assert!(rt; queue_new(&mut scene) == Some(2));
+    assert!(rt; pending(&scene, 1) == Some((NAME, 3)));
     Ok(())
 }
 
@@ -234,9 +234,9 @@ fn what_is_entered_is_told(rt: HostRuntime) -> Result<(), Fail> {
 fn a_ppi_in_the_place_of_another_is_told_again(rt: HostRuntime) -> Result<(), Fail> {
     let mut scene = opened(rt.alloc()).ok_or("a scene")?;
     assert!(rt; enter(&mut scene, EntryList::Ppis));
-    assert_eq!(rt; put_other(&mut scene), Some(0));
-    assert_eq!(rt; nth(&scene, 0), Some((OTHER, 8)));
-    assert_eq!(rt; put_other(&mut scene), None);
+    assert!(rt; put_other(&mut scene) == Some(0));
+    assert!(rt; nth(&scene, 0) == Some((OTHER, 8)));
+    assert!(rt; put_other(&mut scene).is_none());
     Ok(())
 }
 
@@ -258,7 +258,7 @@ fn a_sweep_stops_at_each_pair_once(rt: HostRuntime) -> Result<(), Fail> {
         guid: NAME,
         value: 7,
     };
-    assert_eq!(rt; fires(&scene, &mut sweep), Some(told));
-    assert_eq!(rt; fires(&scene, &mut sweep), None);
+    assert!(rt; fires(&scene, &mut sweep) == Some(told));
+    assert!(rt; fires(&scene, &mut sweep).is_none());
     Ok(())
 }

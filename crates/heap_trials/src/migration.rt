@@ -15,14 +15,14 @@ const UPPER: Span = Span {
 #[test]
 fn pages_move_and_bytes_that_look_like_an_address_stay(rt: HostRuntime) -> Result<(), Fail> {
     let mut store = store_over(rt.alloc(), 0x8000, 0x3000).ok().ok_or("memory")?;
-    assert_eq!(rt; pages(&mut store, 1), Ok(TEMP + 0x7000));
+    assert!(rt; pages(&mut store, 1) == Ok(TEMP + 0x7000));
     let named = Hob::Named {
         name: Guid(*b"0123456789abcdef"),
         body: b"\x40\0\0\x80\0\0\0\0",
     };
-    assert_eq!(rt; create(&mut store, &named), Ok(TEMP + 104));
-    assert_eq!(rt; move_to(&mut store, UPPER), Some((TEMP, 0x4001_0000)));
-    assert_eq!(rt; store.heap.span, UPPER);
+    assert!(rt; create(&mut store, &named) == Ok(TEMP + 104));
+    assert!(rt; move_to(&mut store, UPPER) == Some((TEMP, 0x4001_0000)));
+    assert!(rt; store.heap.span == UPPER);
     assert!(rt; store.memory.read(TEMP, 8).is_none());
     // The hand-off HOB: the end of memory, its base, what is free, and the end HOB.
     assert!(rt;
@@ -51,14 +51,14 @@ fn pages_move_and_bytes_that_look_like_an_address_stay(rt: HostRuntime) -> Resul
 fn a_descriptor_moves_with_its_node(rt: HostRuntime) -> Result<(), Fail> {
     let mut store = store_over(rt.alloc(), 0x4000, 0).ok().ok_or("memory")?;
     assert!(rt; install_new(&mut store, INLINE, 0x1234).is_some());
-    assert_eq!(rt; move_to(&mut store, RAM), Some((TEMP, 0x4000_0000)));
-    assert_eq!(rt;
-        bytes_at(&store, 0x4000_0040),
-        *b"\x10\0\0\x80\0\0\0\0\x58\0\0\x40\0\0\0\0\x34\x12\0\0\0\0\0\0\0\0\0\0\0\0\0\0\0\0\0\0\0\0\0\x01"
+    assert!(rt; move_to(&mut store, RAM) == Some((TEMP, 0x4000_0000)));
+    assert!(rt;
+        bytes_at(&store, 0x4000_0040)
+            == *b"\x10\0\0\x80\0\0\0\0\x58\0\0\x40\0\0\0\0\x34\x12\0\0\0\0\0\0\0\0\0\0\0\0\0\0\0\0\0\0\0\0\0\x01"
     );
-    assert_eq!(rt;
-        bytes_at(&store, 0x4000_0070),
-        *b"\0\0\0\0\0\0\0\0\x40\0\0\x40\0\0\0\0\0\0\0\0\0\0\0\0\x09\0\0\0\0\0\0\0\xff\xff\x08\0\0\0\0\0"
+    assert!(rt;
+        bytes_at(&store, 0x4000_0070)
+            == *b"\0\0\0\0\0\0\0\0\x40\0\0\x40\0\0\0\0\0\0\0\0\0\0\0\0\x09\0\0\0\0\0\0\0\xff\xff\x08\0\0\0\0\0"
     );
     Ok(())
 }

@@ -24,19 +24,19 @@ fn try_lists<S: PeiStore + Drop>(rt: &impl Abort, store: S) -> Result<(), Fail>
     let ppis = [Some((NAME, 7, 9)), None];
     let callbacks = [Some((NAME, 5)), None];
     let dispatches = [Some((NAME, 3)), None];
-    assert_eq!(rt; [store.ppi_at(0), store.ppi_at(1)], ppis);
+    assert!(rt; [store.ppi_at(0), store.ppi_at(1)] == ppis);
     let found = [
         store.note_at(DescKind::Callback, 0),
         store.note_at(DescKind::Callback, 1),
     ];
-    assert_eq!(rt; found, callbacks);
+    assert!(rt; found == callbacks);
     let found = [
         store.note_at(DescKind::Dispatch, 0),
         store.note_at(DescKind::Dispatch, 1),
     ];
-    assert_eq!(rt; found, dispatches);
-    assert_eq!(rt; store.note_at(DescKind::Ppi, 0), None);
-    assert_eq!(rt; [store.pending_at(0), store.pending_at(1)], dispatches);
+    assert!(rt; found == dispatches);
+    assert!(rt; store.note_at(DescKind::Ppi, 0).is_none());
+    assert!(rt; [store.pending_at(0), store.pending_at(1)] == dispatches);
     Ok(())
 }
 
@@ -83,7 +83,7 @@ fn try_entries<S: PeiStore + Drop>(rt: &impl Abort, store: S) -> Result<(), Fail
     ];
     for (list, first, second) in rows {
         let found = first_entries(&store, list);
-        assert_eq!(rt; found, (Some(first), second), "{list:?}");
+        assert!(rt; found == (Some(first), second), "{list:?}");
     }
     Ok(())
 }
@@ -110,8 +110,8 @@ fn try_ppis<S: PeiStore + Drop>(rt: &impl Abort, store: S) -> Result<(), Fail>
     requires { Present (S.stands_for store) Anything }
 {
     let mut store = laid(store).ok_or("a scene")?;
-    assert_eq!(rt; descriptor(&store, Of::Other), (NAME, 8));
-    assert_eq!(rt; descriptor(&store, Of::Dispatch), (NAME, 3));
+    assert!(rt; descriptor(&store, Of::Other) == (NAME, 8));
+    assert!(rt; descriptor(&store, Of::Dispatch) == (NAME, 3));
     assert!(rt; install(&mut store, Of::Other).is_ok());
     let rows = [
         (NAME, 0, Some((INSTALLED, 7))),
@@ -120,7 +120,7 @@ fn try_ppis<S: PeiStore + Drop>(rt: &impl Abort, store: S) -> Result<(), Fail>
         (MEMORY_PPI, 0, None),
     ];
     for (guid, n, found) in rows {
-        assert_eq!(rt; nth_ppi(&store, &guid, n), found, "{n}");
+        assert!(rt; nth_ppi(&store, &guid, n) == found, "{n}");
     }
     Ok(())
 }
@@ -171,8 +171,8 @@ fn try_sweep<S: PeiStore + Drop>(rt: &impl Abort, store: S) -> Result<(), Fail>
         value: 8,
     };
     let mut sweep = install(&mut store, Of::Other).ok().ok_or("a sweep")?;
-    assert_eq!(rt; next(&store, &mut sweep), Some(firing));
-    assert_eq!(rt; next(&store, &mut sweep), None);
+    assert!(rt; next(&store, &mut sweep) == Some(firing));
+    assert!(rt; next(&store, &mut sweep).is_none());
     Ok(())
 }
 
@@ -216,9 +216,9 @@ fn try_hobs<S: PeiStore + Drop>(rt: &impl Abort, alloc: Global, store: S) -> Res
         (7, 40, END),
     ];
     let found = spans(alloc, &store, 32)?;
-    assert_eq!(rt; found.len(), rows.len());
+    assert!(rt; found.len() == rows.len());
     for (span, row) in found.as_slice().iter().zip(rows) {
-        assert_eq!(rt; (span.kind, span.length, span.next), row);
+        assert!(rt; (span.kind, span.length, span.next) == row);
     }
     Ok(())
 }
@@ -264,10 +264,10 @@ fn try_writes<S: PeiStore + Drop>(rt: &impl Abort, alloc: Global, store: S) -> R
     requires { Present (S.stands_for store) Anything }
 {
     let mut store = laid(store).ok_or("a scene")?;
-    assert_eq!(rt; write_two(alloc, &mut store, 7)?, (true, false));
+    assert!(rt; write_two(alloc, &mut store, 7)? == (true, false));
     let written = four_at(&store, TEMP + END + 8 + 6);
-    assert_eq!(rt; written, (true, *b"\0ab\0"));
-    assert_eq!(rt; write_two(alloc, &mut store, 8)?, (false, true));
+    assert!(rt; written == (true, *b"\0ab\0"));
+    assert!(rt; write_two(alloc, &mut store, 8)? == (false, true));
     Ok(())
 }
 
@@ -295,7 +295,7 @@ fn try_peeks<S: PeiStore + Drop>(rt: &impl Abort, store: S) -> Result<(), Fail>
     ];
     for (at, told) in rows {
         let want = (told.is_some(), told.unwrap_or([0xff; 4]));
-        assert_eq!(rt; four_at(&store, at), want, "at {at}");
+        assert!(rt; four_at(&store, at) == want, "at {at}");
     }
     Ok(())
 }
@@ -315,10 +315,10 @@ fn boot_mode<S: PeiStore>(store: &S) -> u32
 fn try_mode<S: PeiStore>(rt: &impl Abort, store: &mut S)
     requires { Present (S.stands_for store.old) Anything }
 {
-    assert_eq!(rt; boot_mode(store), 0);
+    assert!(rt; boot_mode(store) == 0);
     set_boot_mode(store, 0x0102_0304);
-    assert_eq!(rt; boot_mode(store), 0x0102_0304);
-    assert_eq!(rt; four_at(store, 0x8000_000c), (true, [4, 3, 2, 1]));
+    assert!(rt; boot_mode(store) == 0x0102_0304);
+    assert!(rt; four_at(store, 0x8000_000c) == (true, [4, 3, 2, 1]));
 }
 
 #[test]

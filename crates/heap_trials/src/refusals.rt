@@ -204,10 +204,9 @@ fn try_named<S: PeiStore + Drop>(
     let before = told(alloc, &store)?;
     let fault = call_named(&mut store, row.1);
     let after = told(alloc, &store)?;
-    assert_eq!(rt; fault, row.2, "{row:?}");
-    assert_eq!(rt;
-        before.as_slice() == after.as_slice(),
-        fault.is_some(),
+    assert!(rt; fault == row.2, "{row:?}");
+    assert!(rt;
+        (before.as_slice() == after.as_slice()) == fault.is_some(),
         "{row:?}"
     );
     Ok(())
@@ -239,10 +238,9 @@ fn try_row<S: PeiStore + Drop>(
     let before = told(alloc, &store)?;
     let fault = call(&mut store, row.2);
     let after = told(alloc, &store)?;
-    assert_eq!(rt; fault, row.3, "{row:?}");
-    assert_eq!(rt;
-        before.as_slice() == after.as_slice(),
-        fault.is_some(),
+    assert!(rt; fault == row.3, "{row:?}");
+    assert!(rt;
+        (before.as_slice() == after.as_slice()) == fault.is_some(),
         "{row:?}"
     );
     Ok(())

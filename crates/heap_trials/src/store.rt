@@ -23,9 +23,9 @@ fn try_pools<S: PeiStore>(rt: &impl Abort, store: &mut S)
         offset: 0x40,
         size: 16_312,
     };
-    assert_eq!(rt; pool(store, 16_312), Ok(whole));
-    assert_eq!(rt; pool(store, 8), Err(StoreFault::Full));
-    assert_eq!(rt; pool(store, 65_528), Err(StoreFault::Full));
+    assert!(rt; pool(store, 16_312) == Ok(whole));
+    assert!(rt; pool(store, 8) == Err(StoreFault::Full));
+    assert!(rt; pool(store, 65_528) == Err(StoreFault::Full));
 }
 
 #[test]
@@ -65,7 +65,7 @@ fn a_pool_fits_to_the_byte(rt: HostRuntime) -> Result<(), Fail> {
     ];
     for (len, size, fits) in rows {
         let found = pool_fits(rt.alloc(), len, size);
-        assert_eq!(rt; found, Some((fits, fits)), "{len} {size}");
+        assert!(rt; found == Some((fits, fits)), "{len} {size}");
     }
     Ok(())
 }
@@ -73,17 +73,14 @@ fn a_pool_fits_to_the_byte(rt: HostRuntime) -> Result<(), Fail> {
 fn try_move<S: PeiStore>(rt: &impl Abort, store: &mut S)
     requires { Present (S.stands_for store.old) Anything }
 {
-    assert_eq!(rt;
-        install_twice(store, INLINE, 0x1234),
-        Some(Desc { offset: 0x40 })
-    );
+    assert!(rt; install_twice(store, INLINE, 0x1234) == Some(Desc { offset: 0x40 }));
     let next = desc(store, DescKind::Ppi, INLINE, 7);
-    assert_eq!(rt; next, Ok(Desc { offset: 0xc0 }));
-    assert_eq!(rt; plan(store, RAM.base, RAM.len), Ok(()));
-    assert_eq!(rt; migrate(store), Some((TEMP, 0x4000_0000)));
-    assert_eq!(rt;
-        bytes_at(store, 0x4000_0040),
-        *b"\x10\0\0\x80\0\0\0\0\x58\0\0\x40\0\0\0\0\x34\x12\0\0\0\0\0\0\0\0\0\0\0\0\0\0\0\0\0\0\0\0\0\x01"
+    assert!(rt; next == Ok(Desc { offset: 0xc0 }));
+    assert!(rt; plan(store, RAM.base, RAM.len).is_ok());
+    assert!(rt; migrate(store) == Some((TEMP, 0x4000_0000)));
+    assert!(rt;
+        bytes_at(store, 0x4000_0040)
+            == *b"\x10\0\0\x80\0\0\0\0\x58\0\0\x40\0\0\0\0\x34\x12\0\0\0\0\0\0\0\0\0\0\0\0\0\0\0\0\0\0\0\0\0\x01"
     );
 }
 
@@ -97,10 +94,10 @@ fn a_descriptor_is_installed_twice_and_moves(rt: HostRuntime) -> Result<(), Fail
 fn try_early_pages<S: PeiStore>(rt: &impl Abort, store: &mut S)
     requires { Present (S.stands_for store.old) Anything }
 {
-    assert_eq!(rt; pages(store, 4), Err(StoreFault::Full));
-    assert_eq!(rt; pages(store, 1), Ok(0x8000_f000));
-    assert_eq!(rt; pages(store, 2), Ok(0x8000_d000));
-    assert_eq!(rt; pages(store, 1), Err(StoreFault::Full));
+    assert!(rt; pages(store, 4) == Err(StoreFault::Full));
+    assert!(rt; pages(store, 1) == Ok(0x8000_f000));
+    assert!(rt; pages(store, 2) == Ok(0x8000_d000));
+    assert!(rt; pages(store, 1) == Err(StoreFault::Full));
 }
 
 #[test]
@@ -114,16 +111,16 @@ fn try_pages<S: PeiStore>(rt: &impl Abort, store: &mut S)
     requires { Present (S.stands_for store.old) Anything }
 {
     // There are none without a region, and no move without a plan.
-    assert_eq!(rt; pages(store, 1), Err(StoreFault::NotYet));
-    assert_eq!(rt; migrate(store), None);
-    assert_eq!(rt; plan(store, 0x4000_0001, 0x1_0000), Err(StoreFault::Bad));
-    assert_eq!(rt; plan(store, 0x4000_0000, 0x1_0000), Ok(()));
-    assert_eq!(rt; plan(store, 0x4000_0000, 0x1_0000), Err(StoreFault::Bad));
-    assert_eq!(rt; migrate(store), Some((TEMP, 0x4000_0000)));
+    assert!(rt; pages(store, 1) == Err(StoreFault::NotYet));
+    assert!(rt; migrate(store).is_none());
+    assert!(rt; plan(store, 0x4000_0001, 0x1_0000) == Err(StoreFault::Bad));
+    assert!(rt; plan(store, 0x4000_0000, 0x1_0000).is_ok());
+    assert!(rt; plan(store, 0x4000_0000, 0x1_0000) == Err(StoreFault::Bad));
+    assert!(rt; migrate(store) == Some((TEMP, 0x4000_0000)));
     assert!(rt; core_install(store).is_ok());
-    assert_eq!(rt; pages(store, 1), Ok(0x4000_f000));
+    assert!(rt; pages(store, 1) == Ok(0x4000_f000));
     let cpu = Hob::Cpu { memory: 48, io: 16 };
-    assert_eq!(rt; create(store, &cpu), Ok(0x4000_00c0));
+    assert!(rt; create(store, &cpu) == Ok(0x4000_00c0));
 }
 
 #[test]
@@ -143,11 +140,11 @@ fn try_queue<S: PeiStore>(rt: &impl Abort, store: &mut S)
         guid: NAME,
         value: 7,
     };
-    assert_eq!(rt; notify_new(store, INLINE, 3), Some(Desc { offset: 0x40 }));
-    assert_eq!(rt; pop(store), None);
-    assert_eq!(rt; install_new(store, INLINE, 7), Some(ppi));
-    assert_eq!(rt; pop(store), Some(firing));
-    assert_eq!(rt; pop(store), None);
+    assert!(rt; notify_new(store, INLINE, 3) == Some(Desc { offset: 0x40 }));
+    assert!(rt; pop(store).is_none());
+    assert!(rt; install_new(store, INLINE, 7) == Some(ppi));
+    assert!(rt; pop(store) == Some(firing));
+    assert!(rt; pop(store).is_none());
 }
 
 #[test]
@@ -163,7 +160,7 @@ fn try_reinstall<S: PeiStore + Drop>(rt: &impl Abort, store: S) -> Result<(), Fa
     let mut store = laid(store).ok_or("a scene")?;
     assert!(rt; reinstall(&mut store, Of::Installed, Of::Other).is_ok());
     let again = reinstall(&mut store, Of::Installed, Of::Other);
-    assert_eq!(rt; again, Err(StoreFault::Missing));
+    assert!(rt; again == Err(StoreFault::Missing));
     Ok(())
 }
 
@@ -195,11 +192,11 @@ fn try_volumes<S: PeiStore>(rt: &impl Abort, store: &mut S) -> Result<(), Fail>
 {
     let none = bases(store).ok_or("memory")?;
     assert!(rt; none.is_empty());
-    assert_eq!(rt; volume_hob(store, 0xfff0_0000), Ok(0x8000_0038));
-    assert_eq!(rt; volume_hob(store, 0xffe0_0000), Ok(0x8000_0050));
+    assert!(rt; volume_hob(store, 0xfff0_0000) == Ok(0x8000_0038));
+    assert!(rt; volume_hob(store, 0xffe0_0000) == Ok(0x8000_0050));
     let found = bases(store).ok_or("memory")?;
     let wants = [0xfff0_0000, 0xffe0_0000];
-    assert_eq!(rt; found.as_slice(), wants.as_slice());
+    assert!(rt; found.as_slice() == wants.as_slice());
     Ok(())
 }
 

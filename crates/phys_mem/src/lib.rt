@@ -7,6 +7,3 @@ mod rom;
 
 pub use memory::PhysMem;
 pub use rom::Rom;
-
-#[cfg(test)]
-mod tests;

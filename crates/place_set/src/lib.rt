@@ -7,6 +7,3 @@ mod search;
 
 pub use place_set::PlaceSet;
 pub use search::MOST_PLACES;
-
-#[cfg(test)]
-mod tests;

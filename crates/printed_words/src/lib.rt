@@ -8,6 +8,3 @@ mod place;
 pub use guid::guid_of;
 pub use number::{decimal_of, hexadecimal_of};
 pub use place::{behind, first_line};
-
-#[cfg(test)]
-mod tests;

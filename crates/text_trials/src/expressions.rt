@@ -142,8 +142,8 @@ const READINGS: [(&[u8], (u8, u32), (u8, u32)); 27] = [
 #[test]
 fn an_expression_is_read_or_refused_at_its_opcode(rt: HostRuntime) {
     for (bytes, dxe, pei) in &READINGS {
-        assert_eq!(rt; told(read_depex(rt.alloc(), bytes, Phase::Dxe)), *dxe);
-        assert_eq!(rt; told(read_depex(rt.alloc(), bytes, Phase::Pei)), *pei);
+        assert!(rt; told(read_depex(rt.alloc(), bytes, Phase::Dxe)) == *dxe);
+        assert!(rt; told(read_depex(rt.alloc(), bytes, Phase::Pei)) == *pei);
     }
 }
 
@@ -152,7 +152,7 @@ fn an_expression_has_at_most_1023_opcodes(rt: HostRuntime) -> Result<(), Fail> {
     // How many NOTs stand between TRUE and END, and what is read.
     for (count, outcome) in [(1022, (TREE, 1023)), (1023, (MALFORMED, 1024))] {
         let bytes = repeated(rt.alloc(), &[6], &[5], count, &[8])?;
-        assert_eq!(rt; told(read_depex(rt.alloc(), &bytes, Phase::Pei)), outcome);
+        assert!(rt; told(read_depex(rt.alloc(), &bytes, Phase::Pei)) == outcome);
     }
     Ok(())
 }
@@ -194,14 +194,13 @@ fn an_expression_is_true_by_the_guids_that_are_there(rt: HostRuntime) -> Result<
     for (code, truths) in &TRUTHS {
         let list = list_of(rt.alloc(), code)?;
         let tree = Tree::from_code(list).ok_or("the opcodes are those of a tree")?;
-        assert_eq!(rt; tree.code(), *code);
-        assert_eq!(rt;
+        assert!(rt; tree.code() == *code);
+        assert!(rt;
             [
                 truth(&rt, &tree, 0),
                 truth(&rt, &tree, 1),
                 truth(&rt, &tree, 2)
-            ],
-            *truths
+            ] == *truths
         );
     }
     Ok(())

@@ -36,14 +36,14 @@ fn expressions_go_both_ways(rt: HostRuntime) {
         let Ok(written) = write_depex(rt.alloc(), &depex) else {
             panic!(rt; "not written");
         };
-        assert_eq!(rt; written.as_slice(), *bytes);
+        assert!(rt; written.as_slice() == *bytes);
         let Ok(read) = read_depex(rt.alloc(), bytes, Phase::Dxe) else {
             panic!(rt; "not read from bytes");
         };
         let Ok(printed) = print_depex(rt.alloc(), &read) else {
             panic!(rt; "not printed");
         };
-        assert_eq!(rt; printed.as_slice(), *text);
+        assert!(rt; printed.as_slice() == *text);
     }
 }
 
@@ -69,7 +69,7 @@ fn what_is_no_expression_is_bad_at_its_line(rt: HostRuntime) {
     for (text, line) in &NO_EXPRESSIONS {
         match parse_depex(rt.alloc(), text) {
             Ok(_) => panic!(rt; "read"),
-            Err(fault) => assert_eq!(rt; fault, TextFault::Bad { line: *line }),
+            Err(fault) => assert!(rt; fault == TextFault::Bad { line: *line }),
         }
     }
 }
@@ -81,7 +81,7 @@ fn a_text_has_at_most_1023_opcodes(rt: HostRuntime) -> Result<(), Fail> {
     let longer = repeated(rt.alloc(), b"", b"not ", 1023, b"true\n")?;
     match parse_depex(rt.alloc(), &longer) {
         Ok(_) => panic!(rt; "read"),
-        Err(fault) => assert_eq!(rt; fault, TextFault::TooLong),
+        Err(fault) => assert!(rt; fault == TextFault::TooLong),
     }
     Ok(())
 }

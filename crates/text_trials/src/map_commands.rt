@@ -56,7 +56,7 @@ const LINES: [(&[u8], Option<Command>); 26] = [
 #[test]
 fn lines_spell_commands(rt: HostRuntime) {
     for (line, want) in &LINES {
-        assert_eq!(rt; read_command(line), *want, "{line:?}");
+        assert!(rt; read_command(line) == *want, "{line:?}");
     }
     one_reading();
 }

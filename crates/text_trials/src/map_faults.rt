@@ -125,7 +125,7 @@ fn the_first_fault_of_hobs_is_answered(rt: HostRuntime) -> Result<(), Fail> {
     let alloc = rt.alloc();
     for (rows, want) in &FAULTS {
         let hobs = hob_list(alloc, rows)?;
-        assert_eq!(rt; fault_of(&rt, alloc, &hobs), Some(*want));
+        assert!(rt; fault_of(&rt, alloc, &hobs) == Some(*want));
     }
     one_space();
     Ok(())
@@ -137,7 +137,7 @@ fn the_first_fault_of_bytes_is_answered(rt: HostRuntime) -> Result<(), Fail> {
     for (front, rest, cause, at) in &LIST_FAULTS {
         assert!(rt; *front <= FRONT.len());
         let hobs = joined(alloc, &[&FRONT[..*front], rest])?;
-        assert_eq!(rt; fault_of(&rt, alloc, &hobs), Some((*cause, *at)));
+        assert!(rt; fault_of(&rt, alloc, &hobs) == Some((*cause, *at)));
     }
     Ok(())
 }

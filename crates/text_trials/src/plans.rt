@@ -27,7 +27,7 @@ fn check(
 ) -> Result<(), AllocError> {
     for (line, want) in rows {
         let text = joined(alloc, &[front, line])?;
-        assert_eq!(rt; fault_of(rt, alloc, &text), *want, "{line:?}");
+        assert!(rt; fault_of(rt, alloc, &text) == *want, "{line:?}");
     }
     Ok(())
 }
@@ -37,20 +37,20 @@ fn a_plan_is_read(rt: HostRuntime) -> Result<(), Fail> {
     let text = b"# a comment\x00\xff\r\n\nram 1073741824 0x4000000\r\nfuel 000007\n#\n\
         pages 0xC000\ntemp   0x00080000000  0x10000\nvolume 0xfff00000 a.fv\nvolume 0x100000 ~!";
     let plan = read_plan(rt.alloc(), text.as_slice()).ok().ok_or("a plan")?;
-    assert_eq!(rt; (plan.temp.base, plan.temp.len), (0x8000_0000, 0x1_0000));
-    assert_eq!(rt; (plan.ram.base, plan.ram.len), (0x4000_0000, 0x400_0000));
-    assert_eq!(rt; (plan.fuel, plan.pages), (7, 0xc000));
-    assert_eq!(rt; plan.volumes.len(), 2);
+    assert!(rt; (plan.temp.base, plan.temp.len) == (0x8000_0000, 0x1_0000));
+    assert!(rt; (plan.ram.base, plan.ram.len) == (0x4000_0000, 0x400_0000));
+    assert!(rt; (plan.fuel, plan.pages) == (7, 0xc000));
+    assert!(rt; plan.volumes.len() == 2);
     let wants = [
         (0xfff0_0000, b"a.fv".as_slice()),
         (0x10_0000, b"~!".as_slice()),
     ];
     for (volume, want) in plan.volumes.as_slice().iter().zip(wants.iter()) {
-        assert_eq!(rt; volume.base, want.0);
-        assert_eq!(rt; volume.name.as_slice(), want.1);
+        assert!(rt; volume.base == want.0);
+        assert!(rt; volume.name.as_slice() == want.1);
     }
     let usual = read_plan(rt.alloc(), USUAL).ok().ok_or("a plan")?;
-    assert_eq!(rt; (usual.fuel, usual.pages), (100_000, 0));
+    assert!(rt; (usual.fuel, usual.pages) == (100_000, 0));
     one_reading();
     Ok(())
 }

@@ -21,8 +21,8 @@ const MEMORY: Guid = Guid([
 fn show(rt: &impl Abort, alloc: Global, rows: &[(Line, &[u8])]) -> Result<(), Fail> {
     for (line, want) in rows {
         let mut sink = empty_sink(alloc)?;
-        assert_eq!(rt; Out { sink: &mut sink }.line(line), Ok(()));
-        assert_eq!(rt; sink.text(), *want);
+        assert!(rt; Out { sink: &mut sink }.line(line).is_ok());
+        assert!(rt; sink.text() == *want);
     }
     Ok(())
 }
@@ -282,7 +282,7 @@ fn numbers_are_words_in_decimal_and_in_hexadecimal(rt: HostRuntime) {
         ),
     ];
     for (number, in_decimal, in_hexadecimal) in rows {
-        assert_eq!(rt; decimal_word(number).as_slice(), in_decimal);
-        assert_eq!(rt; hexadecimal_word(number).as_slice(), in_hexadecimal);
+        assert!(rt; decimal_word(number).as_slice() == in_decimal);
+        assert!(rt; hexadecimal_word(number).as_slice() == in_hexadecimal);
     }
 }

@@ -52,10 +52,7 @@ const PREFIXES: [(u8, u32); 16] = [
 fn each_prefix_of_a_script_is_refused(rt: HostRuntime) {
     for (n, outcome) in PREFIXES.iter().enumerate() {
         assert!(rt; n <= SMALLEST_SCRIPT.len());
-        assert_eq!(rt;
-            told(read_script(rt.alloc(), &SMALLEST_SCRIPT[..n])),
-            *outcome
-        );
+        assert!(rt; told(read_script(rt.alloc(), &SMALLEST_SCRIPT[..n])) == *outcome);
     }
 }
 
@@ -178,7 +175,7 @@ const FAULTS: [(&[u8], (u8, u32)); 24] = [
 #[test]
 fn each_fault_comes_at_its_place(rt: HostRuntime) {
     for (bytes, outcome) in &FAULTS {
-        assert_eq!(rt; told(read_script(rt.alloc(), bytes)), *outcome);
+        assert!(rt; told(read_script(rt.alloc(), bytes)) == *outcome);
     }
 }
 
@@ -237,8 +234,8 @@ fn rewritten(alloc: Global, bytes: &[u8]) -> Option<Seq<u8>> {
 #[test]
 fn each_action_is_written_and_read(rt: HostRuntime) -> Result<(), Fail> {
     let pei = rewritten(rt.alloc(), &PEI_SCRIPT).ok_or("it is a script of PEI")?;
-    assert_eq!(rt; pei.as_slice(), PEI_SCRIPT.as_slice());
+    assert!(rt; pei.as_slice() == PEI_SCRIPT.as_slice());
     let dxe = rewritten(rt.alloc(), &DXE_SCRIPT).ok_or("it is a script of DXE")?;
-    assert_eq!(rt; dxe.as_slice(), DXE_SCRIPT.as_slice());
+    assert!(rt; dxe.as_slice() == DXE_SCRIPT.as_slice());
     Ok(())
 }

@@ -140,14 +140,14 @@ fn actions_go_both_ways(rt: HostRuntime) -> Result<(), Fail> {
         let Ok(written) = assembled(rt.alloc(), &text) else {
             panic!(rt; "not read");
         };
-        assert_eq!(rt; written.as_slice(), bytes.as_slice());
+        assert!(rt; written.as_slice() == bytes.as_slice());
         let Ok(read) = read_script(rt.alloc(), &bytes) else {
             panic!(rt; "not read from bytes");
         };
         let Ok(printed) = print_script(rt.alloc(), &read) else {
             panic!(rt; "not printed");
         };
-        assert_eq!(rt; printed.as_slice(), text.as_slice());
+        assert!(rt; printed.as_slice() == text.as_slice());
     }
     Ok(())
 }
@@ -157,7 +157,7 @@ fn the_smallest_script_is_read(rt: HostRuntime) {
     let Ok(bytes) = assembled(rt.alloc(), b"phase pei\nblock\nlog a\nret Success\n") else {
         panic!(rt; "not read");
     };
-    assert_eq!(rt; bytes.as_slice(), SMALLEST_SCRIPT.as_slice());
+    assert!(rt; bytes.as_slice() == SMALLEST_SCRIPT.as_slice());
 }
 
 /// Texts of no script, and the line with which they go wrong.
@@ -196,7 +196,7 @@ fn what_is_no_script_is_bad_at_its_line(rt: HostRuntime) {
     for (text, line) in &NO_SCRIPTS {
         match parse_script(rt.alloc(), text) {
             Ok(_) => panic!(rt; "read"),
-            Err(fault) => assert_eq!(rt; fault, TextFault::Bad { line: *line }),
+            Err(fault) => assert!(rt; fault == TextFault::Bad { line: *line }),
         }
     }
 }
@@ -248,8 +248,8 @@ fn scripts_keep_within_their_limits(rt: HostRuntime) -> Result<(), Fail> {
     for (front, line, count, behind, bad) in &LIMITS {
         let text = repeated(rt.alloc(), front, line, *count, behind)?;
         match parse_script(rt.alloc(), &text) {
-            Ok(_) => assert_eq!(rt; *bad, 0),
-            Err(fault) => assert_eq!(rt; fault, TextFault::Bad { line: *bad }),
+            Ok(_) => assert!(rt; *bad == 0),
+            Err(fault) => assert!(rt; fault == TextFault::Bad { line: *bad }),
         }
     }
     Ok(())
@@ -270,11 +270,11 @@ fn the_longest_script_is_read(rt: HostRuntime) -> Result<(), Fail> {
     let Ok(bytes) = assembled(rt.alloc(), &longest) else {
         panic!(rt; "not read");
     };
-    assert_eq!(rt; bytes.len(), 65536);
+    assert!(rt; bytes.len() == 65536);
     let longer = repeated(rt.alloc(), PEI_TEXT, LONG, 992, LAST_LONGER)?;
     match parse_script(rt.alloc(), &longer) {
         Ok(_) => panic!(rt; "read"),
-        Err(fault) => assert_eq!(rt; fault, TextFault::TooLong),
+        Err(fault) => assert!(rt; fault == TextFault::TooLong),
     }
     Ok(())
 }

@@ -51,7 +51,7 @@ fn each_form_is_read(rt: HostRuntime) {
     for text in &FORMS {
         assert!(rt; text.len() < MOST_TEXT);
         match read_trace(rt.alloc(), text) {
-            Ok(lines) => assert_eq!(rt; lines.len(), 1, "{text:?}"),
+            Ok(lines) => assert!(rt; lines.len() == 1, "{text:?}"),
             Err(_) => panic!(rt; "not read: {text:?}"),
         }
     }
@@ -125,7 +125,7 @@ fn a_line_has_the_fields_of_its_text(rt: HostRuntime) {
             panic!(rt; "not read: {text:?}");
         };
         match lines.as_slice() {
-            [line] => assert_eq!(rt; told(line), *want),
+            [line] => assert!(rt; told(line) == *want),
             _ => panic!(rt; "one line"),
         }
     }
@@ -170,7 +170,7 @@ fn the_first_line_of_no_form_is_told(rt: HostRuntime) {
         assert!(rt; text.len() < MOST_TEXT);
         match read_trace(rt.alloc(), text) {
             Ok(_) => panic!(rt; "read: {text:?}"),
-            Err(fault) => assert_eq!(rt; fault, TraceFault::Bad { line: *line }, "{text:?}"),
+            Err(fault) => assert!(rt; fault == TraceFault::Bad { line: *line }, "{text:?}"),
         }
     }
 }

@@ -192,9 +192,9 @@ fn what_is_built_is_listed(rt: HostRuntime) -> Result<(), Fail> {
     let volume = ffs2(rt.alloc(), &files, 200).ok().ok_or("a volume")?;
     let found = read(rt.alloc(), &volume).ok_or("a listing")?;
     let rows = [(72, PEIM, 96, 17), (144, FREEFORM, 168, 7)];
-    assert_eq!(rt; found.files.len(), rows.len());
+    assert!(rt; found.files.len() == rows.len());
     for (file, row) in found.files.as_slice().iter().zip(rows) {
-        assert_eq!(rt; (file.at, file.kind, file.body_at, file.body_len), row);
+        assert!(rt; (file.at, file.kind, file.body_at, file.body_len) == row);
     }
     Ok(())
 }
@@ -207,9 +207,9 @@ fn a_volume_is_refused_by_one_byte(rt: HostRuntime) -> Result<(), Fail> {
         need: 115,
         have: 114,
     };
-    assert_eq!(rt; refusal(ffs2(rt.alloc(), &files, 115)), None);
-    assert_eq!(rt; refusal(ffs2(rt.alloc(), &files, 114)), Some(full));
-    assert_eq!(rt; refusal(ffs3(rt.alloc(), &files, 114)), Some(full));
+    assert!(rt; refusal(ffs2(rt.alloc(), &files, 115)).is_none());
+    assert!(rt; refusal(ffs2(rt.alloc(), &files, 114)) == Some(full));
+    assert!(rt; refusal(ffs3(rt.alloc(), &files, 114)) == Some(full));
     Ok(())
 }
 
@@ -231,12 +231,12 @@ fn as_many_files_are_built_as_are_listed(rt: HostRuntime) -> Result<(), Fail> {
         need: 393_288,
         have: 393_287,
     };
-    assert_eq!(rt; refusal(ffs2(rt.alloc(), &files, 393_288)), None);
-    assert_eq!(rt; refusal(ffs2(rt.alloc(), &files, 393_287)), Some(full));
+    assert!(rt; refusal(ffs2(rt.alloc(), &files, 393_288)).is_none());
+    assert!(rt; refusal(ffs2(rt.alloc(), &files, 393_287)) == Some(full));
     // One more, also where there is no room.
     let files = many(rt.alloc(), MOST_FILES + 1)?;
     let built = ffs2(rt.alloc(), &files, 72);
-    assert_eq!(rt; refusal(built), Some(BuildFault::TooMany));
+    assert!(rt; refusal(built) == Some(BuildFault::TooMany));
     Ok(())
 }
 
@@ -280,10 +280,10 @@ fn sizes_at_the_top_of_their_field(rt: HostRuntime) -> Result<(), Fail> {
 #[test]
 fn a_file_of_ffs2_has_less_than_16_mib(rt: HostRuntime) -> Result<(), Fail> {
     let files = [file(rt.alloc(), 1, PEIM, &[0xff_ffe2])?];
-    assert_eq!(rt; refusal(ffs2(rt.alloc(), &files, LONG)), None);
+    assert!(rt; refusal(ffs2(rt.alloc(), &files, LONG)).is_none());
     let files = [file(rt.alloc(), 1, PEIM, &[0xff_ffe3])?];
     let built = ffs2(rt.alloc(), &files, 72);
-    assert_eq!(rt; refusal(built), Some(BuildFault::Size));
+    assert!(rt; refusal(built) == Some(BuildFault::Size));
     Ok(())
 }
 
@@ -308,9 +308,9 @@ fn modules_are_generated_from_their_number(rt: HostRuntime) -> Result<(), Fail> 
 fn the_most_modules_are_generated(rt: HostRuntime) -> Result<(), Fail> {
     let volume = generate(rt.alloc(), MOST_MODULES).ok().ok_or("a volume")?;
     let found = read(rt.alloc(), &volume).ok_or("a listing")?;
-    assert_eq!(rt; found.files.len(), 4096);
+    assert!(rt; found.files.len() == 4096);
     let first = Guid([1, 0, 0, 0, 0, 0, 0, 0, 0, 0, 0, 0, 0, 0, 0x0f, 0xff]);
     let name = found.files.as_slice().iter().next().map(|file| file.name);
-    assert_eq!(rt; name, Some(first));
+    assert!(rt; name == Some(first));
     Ok(())
 }

@@ -122,7 +122,7 @@ fn the_most_sections_are_read(rt: HostRuntime) {
         Ok(sections) => sections.len(),
         Err(_) => 0,
     };
-    assert_eq!(rt; len, 256);
+    assert!(rt; len == 256);
     assert!(rt; fails(rt.alloc(), &bytes, 1024, SecCause::TooMany));
     bytes[1024] = 0;
     assert!(rt; fails(rt.alloc(), &bytes, 1024, SecCause::TooMany));
@@ -137,5 +137,5 @@ fn each_cause_has_its_number(rt: HostRuntime) {
         SecCause::GuidDefined as u8,
         SecCause::TooMany as u8,
     ];
-    assert_eq!(rt; numbers, [20, 21, 22, 23]);
+    assert!(rt; numbers == [20, 21, 22, 23]);
 }

@@ -86,11 +86,11 @@ const NESTED_LEN: u64 = 4096;
 fn expression_of(rt: &impl Abort, alloc: Global, module: &Module<'_>) -> Result<Seq<u8>, Fail> {
     let mut text = Seq::new(alloc);
     if module.expression.is_empty() {
-        assert_eq!(rt; text.append(module.opcodes), Ok(()));
+        assert!(rt; text.append(module.opcodes).is_ok());
         return Ok(text);
     }
-    assert_eq!(rt; text.append(module.expression.as_bytes()), Ok(()));
-    assert_eq!(rt; text.push(b'\n'), Ok(()));
+    assert!(rt; text.append(module.expression.as_bytes()).is_ok());
+    assert!(rt; text.push(b'\n').is_ok());
     let Ok(depex) = parse_depex(alloc, text.as_slice()) else {
         return Err(Fail::new("the text of an expression"));
     };
@@ -126,16 +126,16 @@ fn list_of(rt: &impl Abort, alloc: Global, module: &Module<'_>) -> Result<Seq<u8
     let mut bytes = Seq::new(alloc);
     for name in module.list {
         let guid = guid_of(name)?;
-        assert_eq!(rt; bytes.append(&guid.0), Ok(()));
+        assert!(rt; bytes.append(&guid.0).is_ok());
     }
-    assert_eq!(rt; bytes.append(module.behind), Ok(()));
+    assert!(rt; bytes.append(module.behind).is_ok());
     Ok(bytes)
 }
 
 // Adds a section, unless it is empty.
 fn put_section(rt: &impl Abort, sections: &mut Seq<NewSection>, kind: u8, body: Seq<u8>) {
     if !body.is_empty() {
-        assert_eq!(rt; sections.push(NewSection { kind, body }), Ok(()));
+        assert!(rt; sections.push(NewSection { kind, body }).is_ok());
     }
 }
 
@@ -156,7 +156,7 @@ fn files_of(rt: &impl Abort, alloc: Global, modules: &[Module<'_>]) -> Result<Se
     let mut files = Seq::new(alloc);
     for module in modules {
         let file = file_of(rt, alloc, module)?;
-        assert_eq!(rt; files.push(file), Ok(()));
+        assert!(rt; files.push(file).is_ok());
     }
     Ok(files)
 }
@@ -199,6 +199,6 @@ pub(super) fn nest_of(
         kind: file_type::VOLUME_IMAGE,
         sections,
     };
-    assert_eq!(rt; files.push(nest), Ok(()));
+    assert!(rt; files.push(nest).is_ok());
     built(alloc, files.as_slice(), len)
 }

@@ -1,5 +1,5 @@
 use Rattle.dxe_dispatch.proofs.boot.boot_dxe.Given as goal
 
 -- its steps are counted in the ledger of its blank
-abbrev pub ghosts-boot_with_ledger : goal.ghosts-boot_with_ledger
-ghosts-boot_with_ledger g a = record { name = a.blank.name; parts = a.blank.parts }
+abbrev pub ghosts-run_with_ledger : goal.ghosts-run_with_ledger
+ghosts-run_with_ledger g a = record { name = a.blank.name; parts = a.blank.parts }

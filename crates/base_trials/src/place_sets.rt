@@ -1,4 +1,5 @@
-use super::*;
+// Sets of places, and the first place of one or of two.
+use place_set::{MOST_PLACES, PlaceSet};
 use std::alloc::Global;
 use std::process::Abort;
 use std::test::*;

@@ -1,4 +1,5 @@
-use super::*;
+// The modelled memory: its regions, and what is copied between them.
+use phys_mem::{PhysMem, Rom};
 use pi_base::{Seq, Span};
 use std::test::*;
 

@@ -1,8 +1,8 @@
 // A text that pieces are put into.
 ghost use Rattle.std.specs.Prelude.{◌≡◌, ◌<◌, ◌-◌, ◌^◌, length};
 
-use super::*;
 use boot_io::Sink;
+use free_text::Spelled;
 use std::test::*;
 
 const TEXT: &[u8] = b"ab\ncd\nef";

@@ -1,4 +1,5 @@
-use super::*;
+// Maps by GUID.
+use guid_map::GuidMap;
 use pi_base::Guid;
 use std::test::*;
 
@@ -44,7 +45,7 @@ fn four_thousand_guids_have_room(rt: HostRuntime) -> Result<(), Fail> {
                 .is_ok()
         );
     }
-    assert_eq!(rt; map.get(&guid(0xff, 0x0f)), Some(4095));
-    assert_eq!(rt; map.get(&guid(0, 0x10)), None);
+    assert!(rt; map.get(&guid(0xff, 0x0f)) == Some(4095));
+    assert!(rt; map.get(&guid(0, 0x10)).is_none());
     Ok(())
 }

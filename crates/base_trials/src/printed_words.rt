@@ -1,5 +1,7 @@
-use super::*;
+// Words of printed lines, each read from the one text that stands for it.
 use pi_base::Guid;
+use printed_words::{behind, decimal_of, first_line, guid_of, hexadecimal_of};
+use std::test::*;
 
 /// Words, and the number of which each is the decimal text.
 const DECIMALS: [(&[u8], Option<u64>); 8] = [
@@ -29,10 +31,10 @@ const HEXADECIMALS: [(&[u8], Option<u64>); 9] = [
 #[test]
 fn numbers_are_read_from_their_own_texts_alone(rt: HostRuntime) {
     for (word, number) in &DECIMALS {
-        assert_eq!(rt; decimal_of(word), *number);
+        assert!(rt; decimal_of(word) == *number);
     }
     for (word, number) in &HEXADECIMALS {
-        assert_eq!(rt; hexadecimal_of(word), *number);
+        assert!(rt; hexadecimal_of(word) == *number);
     }
 }
 
@@ -43,13 +45,15 @@ fn guids_are_read_from_their_own_texts_alone(rt: HostRuntime) {
         0x78, 0xe5, 0x8c, 0x8c, 0x3d, 0x8a, 0x1c, 0x4f, 0x99, 0x35, 0x89, 0x61, 0x85, 0xc3, 0x2d,
         0xd3,
     ]);
-    assert_eq!(rt;
-        guid_of(b"8c8ce578-8a3d-4f1c-9935-896185c32dd3"),
-        Some(stored)
-    );
-    assert_eq!(rt; guid_of(b"8C8CE578-8A3D-4F1C-9935-896185C32DD3"), None);
-    assert_eq!(rt; guid_of(b"{8c8ce578-8a3d-4f1c-9935-896185c32dd3}"), None);
-    assert_eq!(rt; guid_of(b"8c8ce5788a3d4f1c9935896185c32dd3"), None);
+    let rows: [(&[u8], Option<Guid>); 4] = [
+        (b"8c8ce578-8a3d-4f1c-9935-896185c32dd3", Some(stored)),
+        (b"8C8CE578-8A3D-4F1C-9935-896185C32DD3", None),
+        (b"{8c8ce578-8a3d-4f1c-9935-896185c32dd3}", None),
+        (b"8c8ce5788a3d4f1c9935896185c32dd3", None),
+    ];
+    for (word, guid) in rows {
+        assert!(rt; guid_of(word) == guid);
+    }
 }
 
 /// Texts, and the first line and the rest of each.
@@ -63,8 +67,8 @@ const LINES: [(&[u8], Option<(&[u8], &[u8])>); 4] = [
 #[test]
 fn texts_are_cut_at_line_feeds_and_fronts(rt: HostRuntime) {
     for (text, cut) in &LINES {
-        assert_eq!(rt; first_line(text), *cut);
+        assert!(rt; first_line(text) == *cut);
     }
-    assert_eq!(rt; behind(b"sor true", b"sor "), Some(b"true".as_slice()));
-    assert_eq!(rt; behind(b"sor", b"sor "), None);
+    assert!(rt; behind(b"sor true", b"sor ") == Some(b"true".as_slice()));
+    assert!(rt; behind(b"sor", b"sor ").is_none());
 }
