@@ -30,8 +30,8 @@ pub struct Ended {
     pub handles: Handles,
 }
 
-// The core at its opening, over a store behind the hand-off.
-fn opening<M: PeiStore>(
+/// The core at its opening, over a store behind the hand-off: the volumes of its FV HOBs have just been discovered. `fuel` is how many actions may be taken in both phases, and `taken` how many PEI took.
+pub fn dxe_at_opening<M: PeiStore>(
     alloc: Global,
     store: &M,
     catalog: &Catalog,
@@ -86,7 +86,7 @@ pub fn boot_dxe<M: PeiStore, S: Sink>(
     ensures few { IfOk result (λ ended. length ended.handles.interfaces < 2 ^ 32) }
     ensures faults { HaltsAfter result (S.faults sink.old) (S.faults sink.new) }
 {
-    let mut dxe = opening(alloc, store, catalog, fuel, taken)?;
+    let mut dxe = dxe_at_opening(alloc, store, catalog, fuel, taken)?;
     let blank = Blank::new(1);
     let end = run_with_ledger::<M, S, Brand>(alloc, &mut dxe, store, catalog, sink, blank)?;
     Ok(Ended {

@@ -9,6 +9,6 @@ mod tell;
 mod turns;
 mod waiting;
 
-pub use boot::{Ended, boot_dxe};
+pub use boot::{Ended, boot_dxe, dxe_at_opening};
 pub use run::run_dxe;
 pub use turns::turn;

@@ -4,6 +4,7 @@ mod Evaluating
 mod Following
 mod Growing
 mod Idle
+mod Left
 mod Runs
 mod Starts
 mod Stops

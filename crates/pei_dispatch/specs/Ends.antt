@@ -50,6 +50,19 @@ Runs stands catalog pei later queue old new result =
     (board : Board) (fuel : ℕ) → IsFor catalog fuel pei → StandsFor stands pei (pei_opening board catalog)
     → RunsTo stands catalog (pei_opening board catalog) pei (pei_end board catalog fuel) later queue old new result
 
+-- the end of a run from the opening, by its answer: the core stands for the last machine, as it was before it ended
+abbrev pub LeavesAt : {M : Type 0} → (M → StoreState → Type 0) → Catalog
+    → PeiMachine → Pei M → PeiMachine → Pei M → Option (List ℕ) → Option (List ℕ) → Result PeiEnd Halt → Type 0
+LeavesAt stands catalog m pei end later old new (Ok how) =
+    HasEnded how end old new × ((sweep : Option Sweep) × StandsFor stands later (record end { ended = None; core_sweep = sweep })) × KeepsLast catalog m pei end later
+LeavesAt stands catalog m pei end later old new (Err halt) = AppendsPart old new (text_of end.lines)
+
+abbrev pub Leaves : {M : Type 0} → (M → StoreState → Type 0) → Catalog
+    → Pei M → Pei M → Option (List ℕ) → Option (List ℕ) → Result PeiEnd Halt → Type 0
+Leaves stands catalog pei later old new result =
+    (board : Board) (fuel : ℕ) → IsFor catalog fuel pei → StandsFor stands pei (pei_opening board catalog)
+    → LeavesAt stands catalog (pei_opening board catalog) pei (pei_end board catalog fuel) later old new result
+
 -- memory is wanting only where the store takes it
 abbrev pub IsWantOfStore : {A : Type 0} → Bool → Result A Halt → Type 0
 IsWantOfStore takes (Ok _) = ⊤

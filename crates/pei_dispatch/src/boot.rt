@@ -1,9 +1,11 @@
 //! PEI over a store that is as it was made.
-ghost use Rattle.std.specs.Prelude.{◌≡◌, ◌≤◌, ◌<◌, length};
+ghost use Rattle.std.specs.Prelude.{◌≡◌, ◌≤◌, ◌<◌, ℕ, length};
 ghost use Rattle.boot_io.specs.Halted.{HaltsAfter};
+ghost use Rattle.boot_model.specs.PeiRun.{pei_opening};
 ghost use Rattle.catalog_model.specs.WellFormed.{IsWellFormed};
 ghost use Rattle.store_model.specs.StoreState.{Board, empty_store};
-ghost use Rattle.pei_dispatch.specs.Ends.{Boots, IsWantedBefore};
+ghost use Rattle.pei_core.specs.Standing.{IsFor, StandsFor};
+ghost use Rattle.pei_dispatch.specs.Ends.{Boots, IsWantedBefore, Leaves};
 
 use crate::run::run_pei;
 use boot_io::{Halt, Sink};
@@ -32,36 +34,27 @@ pub struct Ended<M: PeiStore + Drop> {
     pub last_start: Option<u32>,
 }
 
-// The expressions that are evaluated are counted in the ledger of a blank.
-fn boot_with_ledger<M: PeiStore + Drop, S: Sink, L: Ledger>(
+// PEI from its opening, over a queue that is made for it. The expressions that are evaluated are counted in the ledger of a blank.
+fn run_with_ledger<M: PeiStore + Drop, S: Sink, L: Ledger>(
     alloc: Global,
-    store: M,
+    pei: &mut Pei<M>,
     catalog: &Catalog,
-    fuel: u32,
     sink: &mut S,
     blank: Blank,
-) -> Result<Ended<M>, Halt>
+) -> Result<PeiEnd, Halt>
     requires catalog { IsWellFormed catalog.now }
-    requires some { 1 ≤ length catalog.now.volumes }
-    requires opening { (board : Board) × M.stands_for store (empty_store board) }
+    requires made { (fuel : ℕ) × IsFor catalog.now fuel pei.old }
+    requires opening { (board : Board) × StandsFor M.stands_for pei.old (pei_opening board catalog.now) }
     requires name { blank.name ≡ L.name }
     requires parts { blank.parts ≡ L.parts }
     requires counts { 0 < L.parts }
-    ensures row { Boots M.stands_for catalog.now store fuel (S.text sink.old) (S.text sink.new) result }
+    ensures row { Leaves M.stands_for catalog.now pei.old pei.new (S.text sink.old) (S.text sink.new) result }
     ensures memory { IsWantedBefore M.TAKES_MEMORY (S.text sink.old) (S.text sink.new) result }
     ensures faults { HaltsAfter result (S.faults sink.old) (S.faults sink.new) }
 {
     let mut queue = PeiQueue::build(alloc, catalog)?;
-    let mut pei = Pei::begin(alloc, store, catalog, fuel)?;
     let mut steps = Steps::<L>::new(blank);
-    let end = run_pei(&mut pei, &mut queue, catalog, sink, &mut steps)?;
-    Ok(Ended {
-        end,
-        actions: pei.actions(),
-        starts: pei.starts(),
-        last_start: pei.last_start(),
-        store: pei.into_store(),
-    })
+    run_pei(pei, &mut queue, catalog, sink, &mut steps)
 }
 
 /// The whole of PEI over a store that is as it was made. `fuel` is how many actions may be taken. Where the store takes no memory, want of memory is answered before anything is put.
@@ -79,5 +72,13 @@ pub fn boot_pei<M: PeiStore + Drop, S: Sink>(
     ensures memory { IsWantedBefore M.TAKES_MEMORY (S.text sink.old) (S.text sink.new) result }
     ensures faults { HaltsAfter result (S.faults sink.old) (S.faults sink.new) }
 {
-    boot_with_ledger::<M, S, Brand>(alloc, store, catalog, fuel, sink, Blank::new(1))
+    let mut pei = Pei::begin(alloc, store, catalog, fuel)?;
+    let end = run_with_ledger::<M, S, Brand>(alloc, &mut pei, catalog, sink, Blank::new(1))?;
+    Ok(Ended {
+        end,
+        actions: pei.actions(),
+        starts: pei.starts(),
+        last_start: pei.last_start(),
+        store: pei.into_store(),
+    })
 }

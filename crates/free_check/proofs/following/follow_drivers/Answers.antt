@@ -1,19 +1,17 @@
-use Rattle.std.proofs.Common.{◌≡◌, ◌∙◌, ℕ, List, [], Err, sym, subst}
+use Rattle.std.proofs.Common.{◌≡◌, ℕ, List, Err, sym, subst}
 use Rattle.std.proofs.lemmas.Result.{err_from_is_err_and}
 use Rattle.boot_end.specs.Closing.{closing_text}
 use Rattle.store_model.specs.HandleState.{HandleState}
-use Rattle.store_model.specs.Service.Reading.{fv_bases}
 use Rattle.store_model.specs.StoreState.{StoreState}
-use Rattle.boot_model.specs.Discovery.{discoveries}
 use Rattle.boot_model.specs.DxeMachine.{DxeMachine}
-use Rattle.boot_model.specs.DxeRun.{dxe_opening, dxe_opening_of}
+use Rattle.boot_model.specs.DxeRun.{dxe_opening}
 use Rattle.boot_model.specs.FreeRun.{AreFreeDxeLines, AreFreeLines, AreFreePeiLines}
 use Rattle.boot_model.specs.PeiMachine.{PeiMachine}
 use Rattle.boot_model.specs.Text.{text_of}
 use Rattle.boot_model.specs.declared.line.Line.{Line}
 use Rattle.boot_model.specs.declared.line.RunEnd.{RunEnd}
 use Rattle.boot_model.specs.declared.phase_end.PeiEnd.TheVariants.{Handoff}
-use Rattle.dxe_core.specs.Standing.{DxeCore, IsCoreOf, StandsFor}
+use Rattle.dxe_core.specs.Standing.{DxeCore, StandsFor}
 use Rattle.catalog_model.specs.declared.catalog.Catalog.{Catalog}
 use Rattle.free_text.specs.declared.parted.Parted.{Parted}
 use Rattle.free_text.specs.declared.parted.Parted.TheVariants.{Off, Memory}
@@ -27,24 +25,13 @@ use Rattle.free_check.proofs.EndedInPei.{ends_so}
 use Rattle.free_check.proofs.HandedOff.{begin_with_pei, last_of_dxe, off_behind}
 use Rattle.free_check.proofs.following.follow_drivers.Goals as goal
 
--- the core at the opening behind the hand-off: the volumes at the bases of the store's FV HOBs have just been discovered
-stands_at_opening : {M : Type 0} (stands : M → StoreState → Type 0) (store : M) (catalog : Catalog) (core : DxeCore) (s : StoreState) (actions : ℕ) (bases : List ℕ) → stands store s → bases ≡ fv_bases s
-    → IsCoreOf catalog core (dxe_opening_of catalog s actions (discoveries catalog [] bases)) → StandsFor stands store catalog core (dxe_opening catalog s actions)
-stands_at_opening stands store catalog core s actions bases here are is =
-    let P : List ℕ → Type 0 = λ found. IsCoreOf catalog core (dxe_opening_of catalog s actions (discoveries catalog [] found)) in
-    record { store = here; core = subst P are is }
-
--- the same, told of the machine that handed off
+-- the core at the opening behind the hand-off, told of the machine that handed off
 behind_handoff : {M : Type 0} (stands : M → StoreState → Type 0) (store : M) (catalog : Catalog) (core : DxeCore) (pei : PeiMachine) (actions : ℕ) → actions ≡ pei.actions
     → StandsFor stands store catalog core (dxe_opening catalog pei.store actions) → StandsFor stands store catalog core (dxe_opening catalog pei.store pei.actions)
 behind_handoff stands store catalog core pei actions are here = subst (λ taken. StandsFor stands store catalog core (dxe_opening catalog pei.store taken)) are here
 
-pub run_dxe_by_text-requires-clause-opening : goal.run_dxe_by_text-requires-clause-opening
-run_dxe_by_text-requires-clause-opening g c =
-    let s = c.requires.state.0 in
-    let here = c.requires.state.1 in
-    let bases = c.as_slice.ensures ∙ c.in_ok-bases.ensures.row s here tt in
-    (s, c.args.actions, stands_at_opening g.M.PeiStore.stands_for c.args.store.now c.args.catalog.now c.in_ok-dxe.dxe s c.args.actions c.as_slice.result.now here bases (c.in_ok-dxe.ensures.opening s))
+pub follow_dxe-requires-clause-opening : goal.follow_dxe-requires-clause-opening
+follow_dxe-requires-clause-opening g c = let s = c.requires.state.0 in (s, c.args.actions, c.in_ok-dxe.ensures.row s c.requires.state.1)
 
 -- why DXE was followed no further, told of the whole boot
 parted_up : (Lines : List Line → Type 0) (catalog : Catalog) (fuel : ℕ) (pei : PeiMachine) (opening : DxeMachine) (handles : HandleState) (text : List ℕ) (s : Spelled) (parted : Parted)
@@ -62,16 +49,15 @@ returns-in_err-end g c = record {
       let Start : List Line → Type 0 = AreFreeLines board catalog fuel in
       let Here : List Line → Type 0 = AreFreePeiLines catalog fuel pei in
       let Then : List Line → Type 0 = AreFreeDxeLines catalog fuel pei opening in
-      let bases = c.as_slice.ensures ∙ c.in_ok-bases.ensures.row pei.store behind.store_is tt in
-      let core = stands_at_opening g.M.PeiStore.stands_for c.args.store.now catalog c.in_ok-dxe.dxe pei.store c.args.actions c.as_slice.result.now behind.store_is bases (c.in_ok-dxe.ensures.opening pei.store) in
+      let core = c.in_ok-dxe.ensures.row pei.store behind.store_is in
       let told = c.in_err-end.ensures.row pei.store pei.actions fuel pei text c.in_ok-dxe.ensures.made
       (behind_handoff g.M.PeiStore.stands_for c.args.store.now catalog c.in_ok-dxe.dxe pei c.args.actions behind.actions_are core) behind.followed.held in
       let same = ends_so c.pei_goes_on.ensures.ended catalog fuel pei Handoff behind.ended in
       let grow = begin_with_pei c.dxe_lines_grow.ensures catalog fuel pei opening in
       let there = held_begins c.args.text.now text (text_of pei.lines) behind.followed.held in
-      let shown = c.run_dxe_by_text.new.text in
+      let shown = c.follow_dxe.new.text in
       let p = err_from_is_err_and c.from_residual-in_err-end.result c.from_residual-in_err-end.ensures.1 in
-      rw p.1 (rw p.2 (parted_up Start catalog fuel pei opening c.run_dxe_by_text.new.dxe.services.handles text shown _ (off_behind Start Here Then text pei.lines shown behind.followed.tracks same grow there) told));
+      rw p.1 (rw p.2 (parted_up Start catalog fuel pei opening c.follow_dxe.new.dxe.services.handles text shown _ (off_behind Start Here Then text pei.lines shown behind.followed.tracks same grow there) told));
 }
 
 pub returns : goal.returns
@@ -81,15 +67,14 @@ returns g c = record {
       let fuel = c.args.fuel in
       let pei = behind.pei in
       let opening = dxe_opening catalog pei.store pei.actions in
-      let bases = c.as_slice.ensures ∙ c.in_ok-bases.ensures.row pei.store behind.store_is tt in
-      let core = stands_at_opening g.M.PeiStore.stands_for c.args.store.now catalog c.in_ok-dxe.dxe pei.store c.args.actions c.as_slice.result.now behind.store_is bases (c.in_ok-dxe.ensures.opening pei.store) in
+      let core = c.in_ok-dxe.ensures.row pei.store behind.store_is in
       let told = c.in_ok-end.ensures.row pei.store pei.actions fuel pei text c.in_ok-dxe.ensures.made
       (behind_handoff g.M.PeiStore.stands_for c.args.store.now catalog c.in_ok-dxe.dxe pei c.args.actions behind.actions_are core) behind.followed.held in
       let same = ends_so c.pei_goes_on.ensures.ended catalog fuel pei Handoff behind.ended in
       let grow = begin_with_pei c.dxe_lines_grow.ensures catalog fuel pei opening in
       let Last : HandleState → RunEnd → Type 0 = λ handles end. IsLast (AreFreeLines board catalog fuel) (D.printed_by pei told.end) (closing_text pei.store handles end) in
-      let last = last_of_dxe c.dxe_goes_on.ensures.ended (AreFreeLines board catalog fuel) (AreFreePeiLines catalog fuel pei) catalog fuel text pei opening told.end c.in_ok-end.end c.run_dxe_by_text.new.dxe.services.handles c.run_dxe_by_text.new.text
+      let last = last_of_dxe c.dxe_goes_on.ensures.ended (AreFreeLines board catalog fuel) (AreFreePeiLines catalog fuel pei) catalog fuel text pei opening told.end c.in_ok-end.end c.follow_dxe.new.dxe.services.handles c.follow_dxe.new.text
       behind.followed.tracks same grow told.ended told.has told.followed in
-      let here = subst (λ handles. Last handles c.result_of.result) (sym c.into_handles.ensures) (subst (λ end. Last c.run_dxe_by_text.new.dxe.services.handles end) (sym c.result_of.ensures) last) in
-      c.close-2.ensures.row pei.store behind.store_is tt board catalog fuel text (D.printed_by pei told.end) told.followed.held here;
+      let here = subst (λ handles. Last handles c.result_of.result) (sym c.handles.ensures) (subst (λ end. Last c.follow_dxe.new.dxe.services.handles end) (sym c.result_of.ensures) last) in
+      c.close.ensures.row pei.store behind.store_is tt board catalog fuel text (D.printed_by pei told.end) told.followed.held here;
 }

@@ -11,7 +11,7 @@ use Rattle.free_text.specs.declared.parted.Parted.TheVariants.{Off, Memory}
 use Rattle.free_text.specs.declared.spelled.Spelled.{Spelled}
 use Rattle.free_text.specs.Spelled.{whole}
 use Rattle.free_check.specs.Following.{Follows, IsBehindPei}
-use Rattle.free_check.proofs.following.follow_phases.Goals as goal
+use Rattle.free_check.proofs.following.follow_boot.Goals as goal
 
 -- why PEI was followed no further, told of the whole boot
 parted_up : {M : Type 0} (stands : M → StoreState → Type 0) (board : Board) (catalog : Catalog) (fuel : ℕ) (text : List ℕ) (pei : Pei M) (s : Spelled) (parted : Parted) → RunsTo stands (FromOpening board catalog fuel) catalog fuel text pei s (Err parted)
@@ -29,14 +29,14 @@ returns-in_err-end g c = record {
   row = λ board stands.
       let told = c.in_err-end.ensures.row board c.args.fuel c.in_ok-pei.ensures.made (c.in_ok-pei.ensures.opening board stands) in
       let p = err_from_is_err_and c.from_residual-in_err-end.result c.from_residual-in_err-end.ensures.1 in
-      rw p.1 (rw p.2 (parted_up g.M.PeiStore.stands_for board c.args.catalog.now c.args.fuel (whole c.args.text.now) c.run_pei_by_text.new.pei c.run_pei_by_text.new.text _ told));
+      rw p.1 (rw p.2 (parted_up g.M.PeiStore.stands_for board c.args.catalog.now c.args.fuel (whole c.args.text.now) c.follow_pei.new.pei c.follow_pei.new.text _ told));
 }
 
 pub follow_behind-requires-clause-state : goal.follow_behind-requires-clause-state
 follow_behind-requires-clause-state g c =
     let board = c.requires.opening.0 in
     let told = c.in_ok-end.ensures.row board c.args.fuel c.in_ok-pei.ensures.made (c.in_ok-pei.ensures.opening board c.requires.opening.1) in
-    (told.end.store, c.into_store-store.ensures _ told.core.machine, tt)
+    (told.end.store, c.store.ensures _ told.core.machine, tt)
 
 pub follow_behind-requires-clause-right : goal.follow_behind-requires-clause-right
 follow_behind-requires-clause-right g c =
@@ -48,7 +48,7 @@ pub returns : goal.returns
 returns g c = record {
   row = λ board stands.
       let told = c.in_ok-end.ensures.row board c.args.fuel c.in_ok-pei.ensures.made (c.in_ok-pei.ensures.opening board stands) in
-      let here = c.into_store-store.ensures _ told.core.machine in
+      let here = c.store.ensures _ told.core.machine in
       let are = c.actions-actions.ensures _ told.core.machine in
-      c.follow_behind.ensures.row board (whole c.args.text.now) (behind g.M.PeiStore.stands_for c.into_store-store.result c.actions-actions.result board c.args.catalog.now c.args.fuel (whole c.args.text.now) c.in_ok-end.end c.run_pei_by_text.new.pei c.run_pei_by_text.new.text told here are);
+      c.follow_behind.ensures.row board (whole c.args.text.now) (behind g.M.PeiStore.stands_for c.store.result.now c.actions-actions.result board c.args.catalog.now c.args.fuel (whole c.args.text.now) c.in_ok-end.end c.follow_pei.new.pei c.follow_pei.new.text told here are);
 }

@@ -1,6 +1,6 @@
 use Rattle.std.proofs.Common.{◌∙◌}
 use Rattle.dxe_dispatch.proofs.Openings.{opened}
-use Rattle.dxe_dispatch.proofs.boot.opening.Goals as goal
+use Rattle.dxe_dispatch.proofs.boot.dxe_at_opening.Goals as goal
 
 pub returns-clause-row : goal.returns-clause-row
 returns-clause-row g c =
