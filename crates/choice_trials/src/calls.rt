@@ -273,28 +273,22 @@ fn first_wrong(services: &mut DxeServices, store: &PlainStore, catalog: &Catalog
     None
 }
 
-// What is left where all calls are answered by their rows: the module and the block of the first notification, whether there is a second, and the handles.
-fn left_behind(
-    alloc: Global,
-    store: &PlainStore,
-    catalog: &Catalog,
-) -> Option<(u32, u8, bool, usize)>
+/// What is left behind calls: the module and the block of the first notification, whether there is a second, and the handles.
+type Left = (Option<(u32, u8)>, bool, usize);
+
+fn left_in(services: &DxeServices) -> Left {
+    let handles = services.handles().len();
+    (first_note(services), services.note(1).is_some(), handles)
+}
+
+// The first of the calls, by its number, that is answered in another way, and what is left behind them.
+fn answered(alloc: Global, store: &PlainStore, catalog: &Catalog) -> Option<(Option<usize>, Left)>
     requires catalog { IsWellFormed catalog.now }
     requires state { Present (stands_for store.now) Anything }
 {
     let mut services = services_at(alloc, catalog, &[NESTED[0].0])?;
-    match first_wrong(&mut services, store, catalog) {
-        None => {
-            let (by, block) = first_note(&services)?;
-            Some((
-                by,
-                block,
-                services.note(1).is_some(),
-                services.handles().len(),
-            ))
-        }
-        Some(_) => None,
-    }
+    let wrong = first_wrong(&mut services, store, catalog);
+    Some((wrong, left_in(&services)))
 }
 
 // The module and the block of the first notification.
@@ -308,20 +302,32 @@ fn first_note(services: &DxeServices) -> Option<(u32, u8)> {
 #[test]
 fn protocol_services_answer_by_their_rows(rt: HostRuntime) -> Result<(), Fail> {
     let catalog = catalogue(rt.alloc(), &NESTED, &DRIVERS).ok_or("a catalogue")?;
-    let left = left_behind(rt.alloc(), &store(rt.alloc()), &catalog);
-    assert!(rt; left == Some((3, 3, false, 2)));
+    let found = answered(rt.alloc(), &store(rt.alloc()), &catalog);
+    assert!(rt; found == Some((None, (Some((3, 3)), false, 2))));
     Ok(())
 }
 
 // What a new protocol and a look for it write into registers.
+fn written_by(
+    services: &mut DxeServices,
+    store: &PlainStore,
+    catalog: &Catalog,
+) -> Option<(Writes, Writes)>
+    requires catalog { IsWellFormed catalog.now }
+    requires state { Present (stands_for store.now) Anything }
+    requires served { IsServed catalog.now services.old }
+{
+    let made = reply_of(services, store, catalog, Call::New(10, 0x21, SIX))?;
+    let found = reply_of(services, store, catalog, Call::Locate(11, 12, 0x21))?;
+    Some((made.writes, found.writes))
+}
+
 fn written(alloc: Global, store: &PlainStore, catalog: &Catalog) -> Option<(Writes, Writes)>
     requires catalog { IsWellFormed catalog.now }
     requires state { Present (stands_for store.now) Anything }
 {
     let mut services = services_at(alloc, catalog, &[])?;
-    let made = reply_of(&mut services, store, catalog, Call::New(10, 0x21, SIX))?;
-    let found = reply_of(&mut services, store, catalog, Call::Locate(11, 12, 0x21))?;
-    Some((made.writes, found.writes))
+    written_by(&mut services, store, catalog)
 }
 
 #[test]
@@ -344,22 +350,30 @@ fn results_go_into_registers(rt: HostRuntime) -> Result<(), Fail> {
     Ok(())
 }
 
-// Whether the first two requests of a name are answered so and the third finds none, where the first volume is discovered.
-fn are_answered(
-    alloc: Global,
+// How three requests of a name are answered.
+fn requested_thrice(
+    services: &mut DxeServices,
     store: &PlainStore,
     catalog: &Catalog,
     last: u8,
-    want: Word,
-) -> Option<bool>
+) -> Option<[Word; 3]>
+    requires catalog { IsWellFormed catalog.now }
+    requires state { Present (stands_for store.now) Anything }
+    requires served { IsServed catalog.now services.old }
+{
+    let one = reply_of(services, store, catalog, Call::Schedule(last))?.status;
+    let other = reply_of(services, store, catalog, Call::Schedule(last))?.status;
+    let third = reply_of(services, store, catalog, Call::Schedule(last))?.status;
+    Some([one, other, third])
+}
+
+// The same where the first volume is discovered.
+fn requested(alloc: Global, store: &PlainStore, catalog: &Catalog, last: u8) -> Option<[Word; 3]>
     requires catalog { IsWellFormed catalog.now }
     requires state { Present (stands_for store.now) Anything }
 {
     let mut services = services_at(alloc, catalog, &[NESTED[0].0])?;
-    let one = reply_of(&mut services, store, catalog, Call::Schedule(last))?;
-    let other = reply_of(&mut services, store, catalog, Call::Schedule(last))?;
-    let third = reply_of(&mut services, store, catalog, Call::Schedule(last))?;
-    Some(one.status == want && other.status == want && third.status == Word::NotFound)
+    requested_thrice(&mut services, store, catalog, last)
 }
 
 #[test]
@@ -369,20 +383,37 @@ fn drivers_of_a_name_are_requested_once_each(rt: HostRuntime) -> Result<(), Fail
     // Two that wait, one without SOR, and a name that no file has.
     let rows = [(7, Word::Success), (8, Word::NotFound), (9, Word::NotFound)];
     'rows: for (last, want) in rows {
-        let answered = are_answered(rt.alloc(), &store, &catalog, last, want);
-        assert!(rt; answered == Some(true), "name {last}");
+        let answered = requested(rt.alloc(), &store, &catalog, last);
+        assert!(rt;
+            answered == Some([want, want, Word::NotFound]),
+            "name {last}"
+        );
     }
     Ok(())
 }
 
-// The status of a volume that is processed, and the volumes then, where the nested volume is discovered.
+// The status of a volume that is processed, and the volumes then.
+fn processed_by(
+    services: &mut DxeServices,
+    store: &PlainStore,
+    catalog: &Catalog,
+    v: u8,
+) -> Option<(Word, usize)>
+    requires catalog { IsWellFormed catalog.now }
+    requires state { Present (stands_for store.now) Anything }
+    requires served { IsServed catalog.now services.old }
+{
+    let status = reply_of(services, store, catalog, Call::Process(v))?.status;
+    Some((status, services.order().volumes().len()))
+}
+
+// The same where the nested volume is discovered.
 fn processed(alloc: Global, store: &PlainStore, catalog: &Catalog, v: u8) -> Option<(Word, usize)>
     requires catalog { IsWellFormed catalog.now }
     requires state { Present (stands_for store.now) Anything }
 {
     let mut services = services_at(alloc, catalog, &[NESTED[1].0])?;
-    let reply = reply_of(&mut services, store, catalog, Call::Process(v))?;
-    Some((reply.status, services.order().volumes().len()))
+    processed_by(&mut services, store, catalog, v)
 }
 
 #[test]

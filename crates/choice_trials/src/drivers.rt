@@ -1,8 +1,9 @@
 // The drivers of a small volume: which start, in which order, and by which licences.
-ghost use Rattle.std.specs.Prelude.{◌≡◌, ◌<◌, OnOk};
+ghost use Rattle.std.specs.Prelude.{◌≡◌, ◌<◌, ℕ, List, OnOk};
 ghost use Rattle.boot_model.specs.DxeMachine.{DxeMachine};
 ghost use Rattle.catalog_model.specs.WellFormed.{IsWellFormed};
-ghost use Rattle.dxe_choice.specs.Queue.{IsQueueFor, IsSeen};
+ghost use Rattle.driver_order.specs.Order.{IsOrderOf};
+ghost use Rattle.dxe_choice.specs.Queue.{IsNewQueue, IsQueueFor, IsSeen};
 
 use crate::catalogues::{FIRST, FOURTH, Kind, Needs, ONE, Row, SECOND, THIRD, UNNAMED, catalogue};
 use boot_model::{ARCHITECTURAL, Licence, Scheduled};
@@ -11,7 +12,6 @@ use depex_code::{Opcode, Steps};
 use driver_order::DriverOrder;
 use dxe_choice::DriverQueue;
 use pi_base::{Guid, OutOfMemory, Seq};
-use std::alloc::Global;
 use std::marker::Brand;
 use std::sync::ledger::{Blank, Ledger};
 use std::test::*;
@@ -116,9 +116,33 @@ fn starts_from<L: Ledger>(
     Ok(starts)
 }
 
-// The starts of the drivers of the volume.
-fn starts_of<L: Ledger>(
+// The queue of the volume, as a case has it.
+fn prepare(
+    queue: &mut DriverQueue,
     catalog: &Catalog,
+    order: &DriverOrder,
+    row: &Case,
+) -> Result<(), OutOfMemory>
+    requires catalog { IsWellFormed catalog.now }
+    requires new { IsNewQueue catalog.now queue.old }
+    requires made { IsQueueFor catalog.now queue.old }
+    requires order { (volumes : List ℕ) × IsOrderOf catalog.now volumes order.now }
+    ensures made { OnOk result (IsQueueFor catalog.now queue.new) }
+    ensures seen { OnOk result ((m : DxeMachine) × IsSeen catalog.now m queue.new order.now) }
+{
+    queue.discover(catalog, order, 0)?;
+    install(queue, catalog, order, row.protocols);
+    if row.is_requested {
+        request_first(queue, catalog, order);
+    }
+    Ok(())
+}
+
+// The starts of the drivers of the volume, by a new queue.
+fn starts_by<L: Ledger>(
+    queue: &mut DriverQueue,
+    catalog: &Catalog,
+    order: &DriverOrder,
     row: &Case,
     blank: Blank,
 ) -> Result<Seq<Scheduled>, OutOfMemory>
@@ -126,18 +150,33 @@ fn starts_of<L: Ledger>(
     requires parts { blank.parts ≡ L.parts }
     requires some { 0 < L.parts }
     requires catalog { IsWellFormed catalog.now }
+    requires new { IsNewQueue catalog.now queue.old }
+    requires made { IsQueueFor catalog.now queue.old }
+    requires order { (volumes : List ℕ) × IsOrderOf catalog.now volumes order.now }
 {
-    let alloc = catalog.modules.alloc();
-    let order = DriverOrder::discover(alloc, catalog, &[BASE])?;
-    let mut queue = DriverQueue::new(alloc, catalog)?;
-    queue.discover(catalog, &order, 0)?;
-    install(&mut queue, catalog, &order, row.protocols);
-    if row.is_requested {
-        request_first(&mut queue, catalog, &order);
-    }
+    prepare(queue, catalog, order, row)?;
     let mut steps = Steps::<L>::new(blank);
-    aim_at(&mut queue, catalog, &order, row.aim, &mut steps)?;
-    starts_from(&mut queue, catalog, &order, &mut steps)
+    aim_at(queue, catalog, order, row.aim, &mut steps)?;
+    starts_from(queue, catalog, order, &mut steps)
+}
+
+fn starts_in(
+    catalog: &Catalog,
+    order: &DriverOrder,
+    row: &Case,
+) -> Result<Seq<Scheduled>, OutOfMemory>
+    requires catalog { IsWellFormed catalog.now }
+    requires order { (volumes : List ℕ) × IsOrderOf catalog.now volumes order.now }
+{
+    let mut queue = DriverQueue::new(catalog.modules.alloc(), catalog)?;
+    starts_by::<Brand>(&mut queue, catalog, order, row, Blank::new(1))
+}
+
+fn starts_of(catalog: &Catalog, row: &Case) -> Result<Seq<Scheduled>, OutOfMemory>
+    requires catalog { IsWellFormed catalog.now }
+{
+    let order = DriverOrder::discover(catalog.modules.alloc(), catalog, &[BASE])?;
+    starts_in(catalog, &order, row)
 }
 
 /// Whether the first driver is requested, how many architectural protocols there are, at which driver the first choice is aimed, and the drivers that start.
@@ -153,7 +192,7 @@ struct Case {
 fn starts_so(catalog: &Catalog, row: &Case) -> Result<bool, OutOfMemory>
     requires { IsWellFormed catalog.now }
 {
-    let starts = starts_of::<Brand>(catalog, row, Blank::new(1))?;
+    let starts = starts_of(catalog, row)?;
     let mut is_same = starts.len() == row.starts.len();
     'starts: for (start, (number, licence)) in starts.as_slice().iter().zip(row.starts) {
         is_same = is_same && start.module_number == *number && start.licence == *licence;
@@ -227,18 +266,39 @@ fn all_architectural_protocols_are_asked_for(rt: HostRuntime) -> Result<(), Fail
 }
 
 // Whether the queue is empty and whether a driver waits, before and after the a priori drivers of the volume are scheduled.
-fn standings_of(
-    alloc: Global,
+fn standings_by(
+    queue: &mut DriverQueue,
     catalog: &Catalog,
+    order: &DriverOrder,
     number: u32,
 ) -> Result<[(bool, bool); 2], OutOfMemory>
     requires catalog { IsWellFormed catalog.now }
+    requires new { IsNewQueue catalog.now queue.old }
+    requires made { IsQueueFor catalog.now queue.old }
+    requires order { (volumes : List ℕ) × IsOrderOf catalog.now volumes order.now }
 {
-    let order = DriverOrder::discover(alloc, catalog, &[BASE])?;
-    let mut queue = DriverQueue::new(alloc, catalog)?;
     let before = (queue.is_empty(), queue.is_waiting(number));
-    queue.discover(catalog, &order, 0)?;
+    queue.discover(catalog, order, 0)?;
     Ok([before, (queue.is_empty(), queue.is_waiting(number))])
+}
+
+fn standings_in(
+    catalog: &Catalog,
+    order: &DriverOrder,
+    number: u32,
+) -> Result<[(bool, bool); 2], OutOfMemory>
+    requires catalog { IsWellFormed catalog.now }
+    requires order { (volumes : List ℕ) × IsOrderOf catalog.now volumes order.now }
+{
+    let mut queue = DriverQueue::new(catalog.modules.alloc(), catalog)?;
+    standings_by(&mut queue, catalog, order, number)
+}
+
+fn standings_of(catalog: &Catalog, number: u32) -> Result<[(bool, bool); 2], OutOfMemory>
+    requires catalog { IsWellFormed catalog.now }
+{
+    let order = DriverOrder::discover(catalog.modules.alloc(), catalog, &[BASE])?;
+    standings_in(catalog, &order, number)
 }
 
 #[test]
@@ -252,7 +312,7 @@ fn scheduled_drivers_wait_no_more(rt: HostRuntime) -> Result<(), Fail> {
     ];
     'rows: for (drivers, number, want) in rows {
         let catalog = catalogue(rt.alloc(), &ONE, drivers).ok_or("a catalogue")?;
-        let standings = standings_of(rt.alloc(), &catalog, number)
+        let standings = standings_of(&catalog, number)
             .ok()
             .ok_or("there is memory")?;
         assert!(rt; standings == want, "module {number}");
