@@ -1,6 +1,7 @@
 // Volumes that are discovered in one order or another, and what is found by the names of files.
-ghost use Rattle.std.specs.Prelude.{◌<◌, length};
+ghost use Rattle.std.specs.Prelude.{◌<◌, [], length};
 ghost use Rattle.catalog_model.specs.WellFormed.{IsWellFormed};
+ghost use Rattle.driver_order.specs.Order.{IsOrderOf};
 
 use crate::catalogues::{
     FIRST, FOURTH, Kind, NESTED, Needs, Row, SECOND, THIRD, UNNAMED, catalogue,
@@ -34,80 +35,105 @@ struct Discovered {
     found: [Found; 3],
 }
 
+const DISCOVERED: [Discovered; 2] = [
+    Discovered {
+        bases: &[0x10_0000, 0x20_0000],
+        volumes: &[0, 1, 2],
+        drivers: &[1, 2, 3, 4, 5, 6],
+        found: [
+            (FIRST, Some(1), &[], &[3, 6]),
+            (THIRD, Some(3), &[2, 5], &[]),
+            // No file has this name.
+            (UNNAMED, None, &[], &[]),
+        ],
+    },
+    // The nested volume comes by itself, and the one that it is nested in later. No volume is mapped at the third base.
+    Discovered {
+        bases: &[0x20_0000, 0x10_1000, 0x30_0000, 0x10_0000, 0x10_1000],
+        volumes: &[2, 1, 0],
+        drivers: &[5, 6, 3, 4, 1, 2],
+        found: [
+            (FIRST, Some(4), &[], &[6, 3]),
+            (THIRD, Some(6), &[5, 2], &[]),
+            (SECOND, Some(2), &[], &[]),
+        ],
+    },
+];
+
+// Whether these drivers are found by a name.
+fn has(order: &DriverOrder, found: &Found) -> bool {
+    let (name, first, befores, afters) = found;
+    order.named(name) == *first && order.befores(name) == *befores && order.afters(name) == *afters
+}
+
+fn is_so(order: &DriverOrder, row: &Discovered) -> bool {
+    let [first, second, third] = &row.found;
+    order.volumes() == row.volumes
+        && order.drivers() == row.drivers
+        && has(order, first)
+        && has(order, second)
+        && has(order, third)
+}
+
+fn discovers_so(alloc: Global, catalog: &Catalog, row: &Discovered) -> Result<bool, OutOfMemory>
+    requires { IsWellFormed catalog.now }
+{
+    let order = DriverOrder::discover(alloc, catalog, row.bases)?;
+    Ok(is_so(&order, row))
+}
+
 #[test]
 fn volumes_come_with_their_drivers_and_names(rt: HostRuntime) -> Result<(), Fail> {
     let catalog = catalogue(rt.alloc(), &NESTED, &DRIVERS).ok_or("a catalogue")?;
-    let rows = [
-        Discovered {
-            bases: &[0x10_0000, 0x20_0000],
-            volumes: &[0, 1, 2],
-            drivers: &[1, 2, 3, 4, 5, 6],
-            found: [
-                (FIRST, Some(1), &[], &[3, 6]),
-                (THIRD, Some(3), &[2, 5], &[]),
-                // No file has this name.
-                (UNNAMED, None, &[], &[]),
-            ],
-        },
-        // The nested volume comes by itself, and the one that it is nested in later. No volume is mapped at the third base.
-        Discovered {
-            bases: &[0x20_0000, 0x10_1000, 0x30_0000, 0x10_0000, 0x10_1000],
-            volumes: &[2, 1, 0],
-            drivers: &[5, 6, 3, 4, 1, 2],
-            found: [
-                (FIRST, Some(4), &[], &[6, 3]),
-                (THIRD, Some(6), &[5, 2], &[]),
-                (SECOND, Some(2), &[], &[]),
-            ],
-        },
-    ];
-    'rows: for row in &rows {
-        let order = DriverOrder::discover(rt.alloc(), &catalog, row.bases)
-            .ok()
-            .ok_or("there is memory")?;
-        assert!(rt; order.volumes() == row.volumes);
-        assert!(rt; order.drivers() == row.drivers);
-        'names: for (name, first, befores, afters) in &row.found {
-            assert!(rt; order.named(name) == *first);
-            assert!(rt; order.befores(name) == *befores);
-            assert!(rt; order.afters(name) == *afters);
-        }
+    'rows: for row in &DISCOVERED {
+        assert!(rt; discovers_so(rt.alloc(), &catalog, row) == Ok(true));
     }
     Ok(())
 }
 
-// The order after two volumes that come one after the other.
-fn added(
-    alloc: Global,
+/// Two volumes that come one after the other, the drivers then, and whether the last volume has come.
+type Added = (u32, u32, &'static [u32], bool);
+
+const ADDED: [Added; 3] = [
+    (1, 0, &[3, 4, 1, 2], false),
+    (0, 1, &[1, 2, 3, 4], false),
+    (2, 1, &[5, 6, 3, 4], true),
+];
+
+// Whether an empty order is so behind the two volumes.
+fn is_so_behind(
+    order: &mut DriverOrder,
     catalog: &Catalog,
-    first: u32,
-    second: u32,
-) -> Result<DriverOrder, OutOfMemory>
+    row: &Added,
+) -> Result<bool, OutOfMemory>
     requires catalog { IsWellFormed catalog.now }
-    requires first { first < length catalog.now.volumes }
-    requires second { second < length catalog.now.volumes }
+    requires new { IsOrderOf catalog.now [] order.old }
+    requires first { row.now.0 < length catalog.now.volumes }
+    requires second { row.now.1 < length catalog.now.volumes }
 {
-    let mut order = DriverOrder::discover(alloc, catalog, &[])?;
+    let (first, second, drivers, has_last) = *row;
     order.add(catalog, first)?;
     order.add(catalog, second)?;
-    Ok(order)
+    Ok(order.drivers() == drivers && order.has_volume(2) == has_last)
+}
+
+fn adds_so(alloc: Global, catalog: &Catalog, row: &Added) -> Result<bool, OutOfMemory>
+    requires catalog { IsWellFormed catalog.now }
+    requires first { row.now.0 < length catalog.now.volumes }
+    requires second { row.now.1 < length catalog.now.volumes }
+{
+    let mut order = DriverOrder::discover(alloc, catalog, &[])?;
+    is_so_behind(&mut order, catalog, row)
 }
 
 #[test]
 fn a_volume_comes_once(rt: HostRuntime) -> Result<(), Fail> {
     let catalog = catalogue(rt.alloc(), &NESTED, &DRIVERS).ok_or("a catalogue")?;
-    assert!(rt; catalog.volumes.len() == NESTED.len());
-    let rows: [(u32, u32, &[u32], bool); 3] = [
-        (1, 0, &[3, 4, 1, 2], false),
-        (0, 1, &[1, 2, 3, 4], false),
-        (2, 1, &[5, 6, 3, 4], true),
-    ];
-    'rows: for (first, second, drivers, has_last) in rows {
-        let order = added(rt.alloc(), &catalog, first, second)
-            .ok()
-            .ok_or("there is memory")?;
-        assert!(rt; order.drivers() == drivers);
-        assert!(rt; order.has_volume(2) == has_last);
+    'rows: for row in &ADDED {
+        assert!(rt;
+            (row.0 as usize) < catalog.volumes.len() && (row.1 as usize) < catalog.volumes.len()
+        );
+        assert!(rt; adds_so(rt.alloc(), &catalog, row) == Ok(true));
     }
     Ok(())
 }

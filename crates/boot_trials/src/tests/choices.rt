@@ -128,7 +128,7 @@ const HANDOFF_TEXT: Text<'static> = Text {
 };
 
 /// Which PEIM starts next, and the hand-off: each boot, its text and its status.
-pub(super) const CHOICES: [(Case<'static>, Text<'static>, Status); 6] = [
+pub(super) static CHOICES: [(Case<'static>, Text<'static>, Status); 6] = [
     // The first PEIM waits for a PPI that the second installs; the search goes on with the third, and then from the front.
     (
         Case {

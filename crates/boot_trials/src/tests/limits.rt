@@ -100,7 +100,7 @@ const ONE_PAGE_TEXT: Text<'static> = Text {
 };
 
 /// How much may stand, run and be taken: each boot, its text and its status.
-pub(super) const FRAMES: [(Case<'static>, Text<'static>, Status); 5] = [
+pub(super) static FRAMES: [(Case<'static>, Text<'static>, Status); 5] = [
     // A callback that reinstalls its own PPI, until the fuel is spent.
     (
         Case {

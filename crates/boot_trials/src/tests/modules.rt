@@ -4,7 +4,7 @@ use asm_text::{parse_depex, parse_script, write_depex};
 use fv_build::{HEADER_LEN, MOST_LEN, NewFile, NewSection, build_volume};
 use fv_section::section_type::{DXE_DEPEX, PEI_DEPEX, RAW, VOLUME_IMAGE};
 use fv_volume::file_type;
-use pi_base::{Guid, Seq};
+use pi_base::{Guid, OutOfMemory, Seq};
 use std::alloc::Global;
 use std::process::Abort;
 use std::test::Fail;
@@ -82,22 +82,34 @@ const NEST: &str = "00000000-0000-0000-0000-000000000044";
 
 const NESTED_LEN: u64 = 4096;
 
-// The bytes of a module's expression.
-fn expression_of(rt: &impl Abort, alloc: Global, module: &Module<'_>) -> Result<Seq<u8>, Fail> {
-    let mut text = Seq::new(alloc);
+// Adds the text of a module's expression, or the bytes of one that has no text.
+fn put_expression(text: &mut Seq<u8>, module: &Module<'_>) -> Result<(), OutOfMemory> {
     if module.expression.is_empty() {
-        assert!(rt; text.append(module.opcodes).is_ok());
-        return Ok(text);
+        return text.append(module.opcodes);
     }
-    assert!(rt; text.append(module.expression.as_bytes()).is_ok());
-    assert!(rt; text.push(b'\n').is_ok());
-    let Ok(depex) = parse_depex(alloc, text.as_slice()) else {
+    text.append(module.expression.as_bytes())?;
+    text.push(b'\n')
+}
+
+// The bytes of an expression's text.
+fn depex_of(alloc: Global, text: &[u8]) -> Result<Seq<u8>, Fail> {
+    let Ok(depex) = parse_depex(alloc, text) else {
         return Err(Fail::new("the text of an expression"));
     };
     match write_depex(alloc, &depex) {
         Ok(bytes) => Ok(bytes),
         Err(_) => Err(Fail::new("an expression in its limits")),
     }
+}
+
+// The bytes of a module's expression.
+fn expression_of(rt: &impl Abort, alloc: Global, module: &Module<'_>) -> Result<Seq<u8>, Fail> {
+    let mut text = Seq::new(alloc);
+    assert!(rt; put_expression(&mut text, module).is_ok());
+    if module.expression.is_empty() {
+        return Ok(text);
+    }
+    depex_of(alloc, text.as_slice())
 }
 
 // The bytes of a module's script.
@@ -121,14 +133,19 @@ fn guid_of(text: &str) -> Result<Guid, Fail> {
     }
 }
 
-// The bytes of an a priori list.
-fn list_of(rt: &impl Abort, alloc: Global, module: &Module<'_>) -> Result<Seq<u8>, Fail> {
-    let mut bytes = Seq::new(alloc);
+// Adds the GUIDs of an a priori list and the bytes behind them.
+fn put_list(bytes: &mut Seq<u8>, module: &Module<'_>) -> Result<(), Fail> {
     for name in module.list {
         let guid = guid_of(name)?;
-        assert!(rt; bytes.append(&guid.0).is_ok());
+        bytes.append(&guid.0)?;
     }
-    assert!(rt; bytes.append(module.behind).is_ok());
+    Ok(bytes.append(module.behind)?)
+}
+
+// The bytes of an a priori list.
+fn list_of(alloc: Global, module: &Module<'_>) -> Result<Seq<u8>, Fail> {
+    let mut bytes = Seq::new(alloc);
+    put_list(&mut bytes, module)?;
     Ok(bytes)
 }
 
@@ -144,7 +161,7 @@ fn file_of(rt: &impl Abort, alloc: Global, module: &Module<'_>) -> Result<NewFil
     let expression = expression_of(rt, alloc, module)?;
     put_section(rt, &mut sections, module.depex, expression);
     put_section(rt, &mut sections, RAW, script_of(alloc, module)?);
-    put_section(rt, &mut sections, RAW, list_of(rt, alloc, module)?);
+    put_section(rt, &mut sections, RAW, list_of(alloc, module)?);
     Ok(NewFile {
         name: guid_of(module.name)?,
         kind: module.kind,
@@ -182,6 +199,19 @@ pub(super) fn image_of(
     built(alloc, files.as_slice(), len)
 }
 
+// The file that holds the volume of some files.
+fn nest(rt: &impl Abort, alloc: Global, nested: &[Module<'_>]) -> Result<NewFile, Fail> {
+    let name = guid_of(NEST)?;
+    let body = image_of(rt, alloc, nested, NESTED_LEN)?;
+    let mut sections = Seq::new(alloc);
+    put_section(rt, &mut sections, VOLUME_IMAGE, body);
+    Ok(NewFile {
+        name,
+        kind: file_type::VOLUME_IMAGE,
+        sections,
+    })
+}
+
 /// The volume of some files and, behind them, a file that holds the volume of others.
 pub(super) fn nest_of(
     rt: &impl Abort,
@@ -191,14 +221,7 @@ pub(super) fn nest_of(
     len: u64,
 ) -> Result<Seq<u8>, Fail> {
     let mut files = files_of(rt, alloc, modules)?;
-    let mut sections = Seq::new(alloc);
-    let body = image_of(rt, alloc, nested, NESTED_LEN)?;
-    put_section(rt, &mut sections, VOLUME_IMAGE, body);
-    let nest = NewFile {
-        name: guid_of(NEST)?,
-        kind: file_type::VOLUME_IMAGE,
-        sections,
-    };
+    let nest = nest(rt, alloc, nested)?;
     assert!(rt; files.push(nest).is_ok());
     built(alloc, files.as_slice(), len)
 }

@@ -187,7 +187,7 @@ const EARLY_PAGES_TEXT: Text<'static> = Text {
 };
 
 /// What lies where behind the move: each boot, its text and its status.
-pub(super) const MOVES: [(Case<'static>, Text<'static>, Status); 5] = [
+pub(super) static MOVES: [(Case<'static>, Text<'static>, Status); 5] = [
     // One descriptor is installed twice; the move shifts it once, and what a script peeks is where it lies now.
     (
         Case {

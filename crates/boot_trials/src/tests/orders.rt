@@ -124,7 +124,7 @@ const SCHEDULE_TEXT: Text<'static> = Text {
 };
 
 /// Which driver starts when: each boot, its text and its status.
-pub(super) const ORDERS: [(Case<'static>, Text<'static>, Status); 3] = [
+pub(super) static ORDERS: [(Case<'static>, Text<'static>, Status); 3] = [
     // Drivers before and after another, with a companion of a companion.
     (
         Case {

@@ -95,32 +95,32 @@ const REALISTIC_TEXT: Text<'static> = Text {
     tail: &[],
 };
 
-/// A whole boot, its text and its status.
-pub(super) const REALISTIC: [(Case<'static>, Text<'static>, Status); 1] = [
-    // A reported volume, a nested one, thirteen architectural protocols, and a driver without an expression.
-    (
-        Case {
-            plan: REALISTIC_PLAN,
-            images: &[
-                Image {
-                    name: b"boot.fv",
-                    modules: &BOOT_MODULES,
-                    size: 0x80_0000,
-                    len: 0x80_0000,
-                    ..VOLUME
-                },
-                Image {
-                    name: b"main.fv",
-                    modules: &MAIN_MODULES,
-                    nested: &NESTED_MODULES,
-                    size: 0x10_0000,
-                    len: 0x10_0000,
-                    ..VOLUME
-                },
-            ],
-            ..SMALLEST
+/// A reported volume, a nested one, thirteen architectural protocols, and a driver without an expression.
+pub(super) const WHOLE_BOOT: Case<'static> = Case {
+    plan: REALISTIC_PLAN,
+    images: &[
+        Image {
+            name: b"boot.fv",
+            modules: &BOOT_MODULES,
+            size: 0x80_0000,
+            len: 0x80_0000,
+            ..VOLUME
         },
-        REALISTIC_TEXT,
-        Status::Done,
-    ),
-];
+        Image {
+            name: b"main.fv",
+            modules: &MAIN_MODULES,
+            nested: &NESTED_MODULES,
+            size: 0x10_0000,
+            len: 0x10_0000,
+            ..VOLUME
+        },
+    ],
+    ..SMALLEST
+};
+
+/// A whole boot, its text and its status.
+pub(super) static REALISTIC: [(Case<'static>, Text<'static>, Status); 1] = [(
+    WHOLE_BOOT,
+    REALISTIC_TEXT,
+    Status::Done,
+)];

@@ -81,7 +81,7 @@ const FRAMES_FUEL_75_TEXT: Text<'static> = Text {
 };
 
 /// What drivers call: each boot, its text and its status.
-pub(super) const SERVICES: [(Case<'static>, Text<'static>, Status); 3] = [
+pub(super) static SERVICES: [(Case<'static>, Text<'static>, Status); 3] = [
     // The handle services and a protocol notification inside its call.
     (
         Case {
