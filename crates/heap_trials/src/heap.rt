@@ -1,4 +1,6 @@
 // A heap in temporary RAM, byte by byte.
+ghost use Rattle.std.specs.Prelude.{◌≤◌, ◌+◌};
+ghost use Rattle.boot_plan.specs.declared.limits.TheConstants.{MOST_TEMP};
 ghost use Rattle.store_model.specs.Service.{Present};
 ghost use Rattle.store_model.specs.StoreCall.{Anything};
 ghost use Rattle.mem_store.specs.MemState.{StandsFor};
@@ -8,8 +10,9 @@ use crate::calls::{create, free, pages, pool, set_boot_mode};
 use hob_codec::kind::{HANDOFF, POOL};
 use hob_codec::{Hob, HobPlace, walk};
 use mem_store::MemStore;
-use pi_base::{Guid, Seq};
+use pi_base::Guid;
 use std::alloc::Global;
+use std::process::Abort;
 use std::test::*;
 use store_model::{HobSpan, PeiStore, Pool};
 
@@ -29,97 +32,151 @@ fn first_place(store: &MemStore) -> Option<HobSpan>
     store.hob_at(0)
 }
 
-fn places(alloc: Global, store: &MemStore) -> Option<Seq<HobPlace>>
+// Whether the list has these HOBs.
+fn has_places(alloc: Global, store: &MemStore, wants: &[HobPlace]) -> bool
     requires { Present (StandsFor store.now) Anything }
 {
-    walk(alloc, store.heap.bytes(&store.memory)).ok()
+    match walk(alloc, store.heap.bytes(&store.memory)) {
+        Ok(found) => found.as_slice() == wants,
+        Err(_) => false,
+    }
 }
 
-#[test]
-fn a_pool_of_all_that_is_free_leaves_no_room(rt: HostRuntime) -> Result<(), Fail> {
-    let mut store = store_over(rt.alloc(), 0x4000, 0).ok().ok_or("memory")?;
+// What is tried over a new heap.
+#[derive(Clone, Copy)]
+enum Trial {
+    WholePool,
+    Hobs,
+    Node,
+    BootMode,
+    EarlyPage,
+}
+
+// The hand-off HOB and the pool behind it.
+const WHOLE_PLACES: [HobPlace; 2] = [
+    HobPlace {
+        at: 0,
+        kind: HANDOFF,
+        length: 56,
+    },
+    HobPlace {
+        at: 56,
+        kind: POOL,
+        length: 16_320,
+    },
+];
+
+// The hand-off HOB behind its header: its version, boot mode, memory, what is free, and the end HOB.
+const WHOLE_HANDOFF: &[u8] =
+    b"\x09\0\0\0\0\0\0\0\0\x40\0\x80\0\0\0\0\0\0\0\x80\0\0\0\0\0\x40\0\x80\0\0\0\0\0\x40\0\x80\0\0\0\0\xf8\x3f\0\x80\0\0\0\0";
+
+fn try_whole_pool(rt: &impl Abort, alloc: Global, store: &mut MemStore)
+    requires { Present (StandsFor store.old) Anything }
+{
     let whole = Pool {
         offset: 0x40,
         size: 16_312,
     };
-    assert!(rt; pool(&mut store, 16_312) == Ok(whole));
-    assert!(rt; free(&store) == 0);
-    let found = places(rt.alloc(), &store).ok_or("a list")?;
-    let wants = [
-        HobPlace {
-            at: 0,
-            kind: HANDOFF,
-            length: 56,
-        },
-        HobPlace {
-            at: 56,
-            kind: POOL,
-            length: 16_320,
-        },
-    ];
-    assert!(rt; found.as_slice() == wants.as_slice());
-    assert!(rt;
-        store.memory.read(TEMP + 8, 48)
-            == Some(
-                b"\x09\0\0\0\0\0\0\0\0\x40\0\x80\0\0\0\0\0\0\0\x80\0\0\0\0\0\x40\0\x80\0\0\0\0\0\x40\0\x80\0\0\0\0\xf8\x3f\0\x80\0\0\0\0"
-            )
-    );
-    Ok(())
+    assert!(rt; (pool(store, 16_312), free(store)) == (Ok(whole), 0));
+    let is_whole = store.memory.read(TEMP + 8, 48) == Some(WHOLE_HANDOFF);
+    assert!(rt; (has_places(alloc, store, &WHOLE_PLACES), is_whole) == (true, true));
 }
 
-#[test]
-fn hobs_stand_one_behind_another(rt: HostRuntime) -> Result<(), Fail> {
-    let mut store = store_over(rt.alloc(), 0x4000, 0).ok().ok_or("memory")?;
+// The HOB of a CPU, a GUID HOB with its body padded, and the end HOB.
+const TWO_HOBS: &[u8] =
+    b"\x06\0\x10\0\0\0\0\0\x30\x10\0\0\0\0\0\0\x04\0\x20\0\0\0\0\x000123456789abcdefxyz\0\0\0\0\0\xff\xff\x08\0\0\0\0\0";
+
+fn try_hobs(rt: &impl Abort, store: &mut MemStore)
+    requires { Present (StandsFor store.old) Anything }
+{
     let cpu = Hob::Cpu { memory: 48, io: 16 };
     let named = Hob::Named {
         name: Guid(*b"0123456789abcdef"),
         body: b"xyz",
     };
-    assert!(rt; create(&mut store, &cpu) == Ok(TEMP + 56));
-    assert!(rt; create(&mut store, &named) == Ok(TEMP + 72));
-    assert!(rt;
-        store.memory.read(TEMP + 56, 56)
-            == Some(
-                b"\x06\0\x10\0\0\0\0\0\x30\x10\0\0\0\0\0\0\x04\0\x20\0\0\0\0\x000123456789abcdefxyz\0\0\0\0\0\xff\xff\x08\0\0\0\0\0"
-            )
-    );
     let first = HobSpan {
         kind: HANDOFF,
         length: 56,
         next: 56,
     };
-    assert!(rt; first_place(&store) == Some(first));
+    let made = [create(store, &cpu), create(store, &named)];
+    assert!(rt; (made, first_place(store)) == ([Ok(TEMP + 56), Ok(TEMP + 72)], Some(first)));
+    assert!(rt; store.memory.read(TEMP + 56, 56) == Some(TWO_HOBS));
+}
+
+// What is free from the node on, the end HOB, and the node's header.
+const BEHIND_NODE: &[u8] = b"\x68\0\0\x80\0\0\0\0\x60\0\0\x80\0\0\0\0\x07\0\x28\0\0\0\0\0";
+
+fn try_node(rt: &impl Abort, store: &mut MemStore)
+    requires { Present (StandsFor store.old) Anything }
+{
+    let offset = node(store);
+    let bytes = store.memory.read(TEMP + 40, 24);
+    assert!(rt; (offset, bytes) == (Some(0x40), Some(BEHIND_NODE)));
+}
+
+fn try_boot_mode(rt: &impl Abort, store: &mut MemStore)
+    requires { Present (StandsFor store.old) Anything }
+{
+    set_boot_mode(store, 0x20);
+    assert!(rt; store.memory.read(TEMP + 8, 8) == Some(b"\x09\0\0\0\x20\0\0\0"));
+}
+
+// The HOB of the page.
+const EARLY_PAGE: &[u8] =
+    b"\x02\0\x30\0\0\0\0\0\0\0\0\0\0\0\0\0\0\0\0\0\0\0\0\0\0\x70\0\x80\0\0\0\0\0\x10\0\0\0\0\0\0\x04\0\0\0\0\0\0\0";
+
+fn try_early_page(rt: &impl Abort, store: &mut MemStore)
+    requires { Present (StandsFor store.old) Anything }
+{
+    let page = pages(store, 1);
+    let bytes = store.memory.read(TEMP + 56, 48);
+    assert!(rt; (page, bytes) == (Ok(TEMP + 0x7000), Some(EARLY_PAGE)));
+}
+
+fn run(rt: &impl Abort, alloc: Global, store: &mut MemStore, trial: Trial)
+    requires { Present (StandsFor store.old) Anything }
+{
+    match trial {
+        Trial::WholePool => try_whole_pool(rt, alloc, store),
+        Trial::Hobs => try_hobs(rt, store),
+        Trial::Node => try_node(rt, store),
+        Trial::BootMode => try_boot_mode(rt, store),
+        Trial::EarlyPage => try_early_page(rt, store),
+    }
+}
+
+// One of these over a new heap. Only this function owns the store, with one call behind it: each exit of an owner is dear to prove.
+fn over(rt: &impl Abort, alloc: Global, len: u64, early: u64, trial: Trial) -> Result<(), Fail>
+    requires len { len ≤ MOST_TEMP }
+    requires early { early + 64 ≤ len }
+{
+    let mut store = store_over(alloc, len, early)?;
+    run(rt, alloc, &mut store, trial);
     Ok(())
+}
+
+#[test]
+fn a_pool_of_all_that_is_free_leaves_no_room(rt: HostRuntime) -> Result<(), Fail> {
+    over(&rt, rt.alloc(), 0x4000, 0, Trial::WholePool)
+}
+
+#[test]
+fn hobs_stand_one_behind_another(rt: HostRuntime) -> Result<(), Fail> {
+    over(&rt, rt.alloc(), 0x4000, 0, Trial::Hobs)
 }
 
 #[test]
 fn a_node_takes_forty_bytes(rt: HostRuntime) -> Result<(), Fail> {
-    let mut store = store_over(rt.alloc(), 0x4000, 0).ok().ok_or("memory")?;
-    assert!(rt; node(&mut store) == Some(0x40));
-    assert!(rt;
-        store.memory.read(TEMP + 40, 24)
-            == Some(b"\x68\0\0\x80\0\0\0\0\x60\0\0\x80\0\0\0\0\x07\0\x28\0\0\0\0\0")
-    );
-    Ok(())
+    over(&rt, rt.alloc(), 0x4000, 0, Trial::Node)
 }
 
 #[test]
 fn the_boot_mode_is_the_second_field_of_the_hand_off(rt: HostRuntime) -> Result<(), Fail> {
-    let mut store = store_over(rt.alloc(), 0x4000, 0).ok().ok_or("memory")?;
-    set_boot_mode(&mut store, 0x20);
-    assert!(rt; store.memory.read(TEMP + 8, 8) == Some(b"\x09\0\0\0\x20\0\0\0"));
-    Ok(())
+    over(&rt, rt.alloc(), 0x4000, 0, Trial::BootMode)
 }
 
 #[test]
 fn a_hob_tells_of_an_early_page(rt: HostRuntime) -> Result<(), Fail> {
-    let mut store = store_over(rt.alloc(), 0x8000, 0x3000).ok().ok_or("memory")?;
-    assert!(rt; pages(&mut store, 1) == Ok(TEMP + 0x7000));
-    assert!(rt;
-        store.memory.read(TEMP + 56, 48)
-            == Some(
-                b"\x02\0\x30\0\0\0\0\0\0\0\0\0\0\0\0\0\0\0\0\0\0\0\0\0\0\x70\0\x80\0\0\0\0\0\x10\0\0\0\0\0\0\x04\0\0\0\0\0\0\0"
-            )
-    );
-    Ok(())
+    over(&rt, rt.alloc(), 0x8000, 0x3000, Trial::EarlyPage)
 }

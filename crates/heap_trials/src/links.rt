@@ -18,6 +18,7 @@ use ppi_links::{
     pending_at, pop, ppi_at, push, push_new_pairs, push_pairs, replace,
 };
 use std::alloc::Global;
+use std::process::Abort;
 use std::test::*;
 use store_laws::bodies_stay;
 use store_model::{Desc, DescKind, DescriptorBody, EntryList, EntryTold, Firing, Sweep};
@@ -190,61 +191,81 @@ const QUEUED: Firing = Firing {
     value: 7,
 };
 
-#[test]
-fn a_queue_is_emptied_and_filled_again(rt: HostRuntime) -> Result<(), Fail> {
-    let mut scene = opened(rt.alloc()).ok_or("a scene")?;
-    assert!(rt; enter(&mut scene, EntryList::Dispatches));
-    assert!(rt; enter(&mut scene, EntryList::Ppis));
-    assert!(rt; queue_all(&mut scene) == Some(1));
-    assert!(rt; pending(&scene, 0) == Some((NAME, 3)));
-    assert!(rt; leave(&mut scene) == Some(QUEUED));
-    assert!(rt; leave(&mut scene).is_none());
-    assert!(rt; scene.heads.queue_tail == 0);
-    assert!(rt; enter(&mut scene, EntryList::Pendings));
-    assert!(rt; leave(&mut scene) == Some(QUEUED));
-    Ok(())
+// What is tried over the four descriptors.
+#[derive(Clone, Copy)]
+enum Trial {
+    Queue,
+    Told,
+    Other,
+    Sweep,
 }
 
-#[test]
-fn what_is_entered_is_told(rt: HostRuntime) -> Result<(), Fail> {
-    let mut scene = opened(rt.alloc()).ok_or("a scene")?;
-    assert!(rt; !has(&scene, &NAME));
-    assert!(rt; enter(&mut scene, EntryList::Ppis));
-    assert!(rt; enter(&mut scene, EntryList::Ppis));
-    assert!(rt; enter(&mut scene, EntryList::Callbacks));
+fn try_queue(rt: &impl Abort, scene: &mut MemStore)
+    requires { IsScene scene.old }
+{
+    let entered = [
+        enter(scene, EntryList::Dispatches),
+        enter(scene, EntryList::Ppis),
+    ];
+    let queued = (entered, queue_all(scene), pending(scene, 0));
+    assert!(rt; queued == ([true; 2], Some(1), Some((NAME, 3))));
+    let left = [leave(scene), leave(scene)];
+    assert!(rt; (left, scene.heads.queue_tail) == ([Some(QUEUED), None], 0));
+    let again = enter(scene, EntryList::Pendings);
+    assert!(rt; (again, leave(scene)) == (true, Some(QUEUED)));
+}
+
+// Two PPIs and a callback, as they are told.
+fn try_entered(rt: &impl Abort, scene: &MemStore)
+    requires { IsScene scene.now }
+{
     let told = EntryTold {
         node: 0x100,
         guid: NAME,
         number: 7,
         by: MAKER,
     };
-    assert!(rt; has(&scene, &NAME));
-    assert!(rt; nth(&scene, 1) == Some((INSTALLED, 7)));
-    assert!(rt; nth(&scene, 2).is_none());
-    assert!(rt; ppi(&scene, 1) == Some((NAME, 7, MAKER)));
-    assert!(rt; note(&scene, DescKind::Callback, 0) == Some((NAME, 5)));
-    assert!(rt; note(&scene, DescKind::Dispatch, 0).is_none());
-    assert!(rt; first(&scene, EntryList::Ppis) == Some(told));
-    assert!(rt; queue_new(&mut scene) == Some(2));
-    assert!(rt; pending(&scene, 1) == Some((NAME, 3)));
-    Ok(())
+    let ppis = (has(scene, &NAME), nth(scene, 1), nth(scene, 2));
+    assert!(rt; ppis == (true, Some((INSTALLED, 7)), None));
+    let notes = [
+        note(scene, DescKind::Callback, 0),
+        note(scene, DescKind::Dispatch, 0),
+    ];
+    let places = (ppi(scene, 1), notes, first(scene, EntryList::Ppis));
+    assert!(rt; places == (Some((NAME, 7, MAKER)), [Some((NAME, 5)), None], Some(told)));
 }
 
-#[test]
-fn a_ppi_in_the_place_of_another_is_told_again(rt: HostRuntime) -> Result<(), Fail> {
-    let mut scene = opened(rt.alloc()).ok_or("a scene")?;
-    assert!(rt; enter(&mut scene, EntryList::Ppis));
-    assert!(rt; put_other(&mut scene) == Some(0));
-    assert!(rt; nth(&scene, 0) == Some((OTHER, 8)));
-    assert!(rt; put_other(&mut scene).is_none());
-    Ok(())
+fn try_told(rt: &impl Abort, scene: &mut MemStore)
+    requires { IsScene scene.old }
+{
+    let before = has(scene, &NAME);
+    let entered = [
+        enter(scene, EntryList::Ppis),
+        enter(scene, EntryList::Ppis),
+        enter(scene, EntryList::Callbacks),
+    ];
+    assert!(rt; (before, entered) == (false, [true; 3]));
+    try_entered(rt, scene);
+    let queued = queue_new(scene);
+    assert!(rt; (queued, pending(scene, 1)) == (Some(2), Some((NAME, 3))));
 }
 
-#[test]
-fn a_sweep_stops_at_each_pair_once(rt: HostRuntime) -> Result<(), Fail> {
-    let mut scene = opened(rt.alloc()).ok_or("a scene")?;
-    assert!(rt; enter(&mut scene, EntryList::Ppis));
-    assert!(rt; enter(&mut scene, EntryList::Callbacks));
+fn try_other(rt: &impl Abort, scene: &mut MemStore)
+    requires { IsScene scene.old }
+{
+    let entered = enter(scene, EntryList::Ppis);
+    let put = (entered, put_other(scene), nth(scene, 0));
+    assert!(rt; put == (true, Some(0), Some((OTHER, 8))));
+    assert!(rt; put_other(scene).is_none());
+}
+
+fn try_sweep(rt: &impl Abort, scene: &mut MemStore)
+    requires { IsScene scene.old }
+{
+    let entered = [
+        enter(scene, EntryList::Ppis),
+        enter(scene, EntryList::Callbacks),
+    ];
     let mut sweep = Sweep {
         ppi_to: 1,
         note_from: 0,
@@ -258,7 +279,44 @@ fn a_sweep_stops_at_each_pair_once(rt: HostRuntime) -> Result<(), Fail> {
         guid: NAME,
         value: 7,
     };
-    assert!(rt; fires(&scene, &mut sweep) == Some(told));
-    assert!(rt; fires(&scene, &mut sweep).is_none());
+    let fired = [fires(scene, &mut sweep), fires(scene, &mut sweep)];
+    assert!(rt; (entered, fired) == ([true; 2], [Some(told), None]));
+}
+
+fn run(rt: &impl Abort, scene: &mut MemStore, trial: Trial)
+    requires { IsScene scene.old }
+{
+    match trial {
+        Trial::Queue => try_queue(rt, scene),
+        Trial::Told => try_told(rt, scene),
+        Trial::Other => try_other(rt, scene),
+        Trial::Sweep => try_sweep(rt, scene),
+    }
+}
+
+// One of these over a new scene. Only this function owns it, with one call behind it: each exit of an owner is dear to prove.
+fn over(rt: &impl Abort, alloc: Global, trial: Trial) -> Result<(), Fail> {
+    let mut scene = opened(alloc).ok_or("a scene")?;
+    run(rt, &mut scene, trial);
     Ok(())
+}
+
+#[test]
+fn a_queue_is_emptied_and_filled_again(rt: HostRuntime) -> Result<(), Fail> {
+    over(&rt, rt.alloc(), Trial::Queue)
+}
+
+#[test]
+fn what_is_entered_is_told(rt: HostRuntime) -> Result<(), Fail> {
+    over(&rt, rt.alloc(), Trial::Told)
+}
+
+#[test]
+fn a_ppi_in_the_place_of_another_is_told_again(rt: HostRuntime) -> Result<(), Fail> {
+    over(&rt, rt.alloc(), Trial::Other)
+}
+
+#[test]
+fn a_sweep_stops_at_each_pair_once(rt: HostRuntime) -> Result<(), Fail> {
+    over(&rt, rt.alloc(), Trial::Sweep)
 }

@@ -1,9 +1,15 @@
 // A heap moved to permanent memory, byte by byte.
+ghost use Rattle.store_model.specs.Service.{Present};
+ghost use Rattle.store_model.specs.StoreCall.{Anything};
+ghost use Rattle.mem_store.specs.MemState.{StandsFor};
+
 use crate::board::{RAM, TEMP, store_over};
 use crate::calls::{bytes_at, create, install_new, move_to, pages};
 use crate::scene::INLINE;
 use hob_codec::Hob;
+use mem_store::MemStore;
 use pi_base::{Guid, Span};
+use std::process::Abort;
 use std::test::*;
 
 // Permanent memory in the upper half of RAM.
@@ -12,53 +18,58 @@ const UPPER: Span = Span {
     len: 0x1_0000,
 };
 
-#[test]
-fn pages_move_and_bytes_that_look_like_an_address_stay(rt: HostRuntime) -> Result<(), Fail> {
-    let mut store = store_over(rt.alloc(), 0x8000, 0x3000).ok().ok_or("memory")?;
-    assert!(rt; pages(&mut store, 1) == Ok(TEMP + 0x7000));
+// The list at the new base, of 144 bytes. The hand-off HOB: the end of memory, its base, what is free, and the end HOB. The page's
+// HOB: it lies at the end of the new heap. The GUID HOB with the bytes that look like an address, and the end HOB.
+const MOVED: &[u8] =
+    b"\x01\0\x38\0\0\0\0\0\x09\0\0\0\0\0\0\0\0\0\x02\x40\0\0\0\0\0\0\x01\x40\0\0\0\0\0\xf0\x01\x40\0\0\0\0\x90\0\x01\x40\0\0\0\0\x88\0\x01\x40\0\0\0\0\x02\0\x30\0\0\0\0\0\0\0\0\0\0\0\0\0\0\0\0\0\0\0\0\0\0\xf0\x01\x40\0\0\0\0\0\x10\0\0\0\0\0\0\x04\0\0\0\0\0\0\0\x04\0\x20\0\0\0\0\x000123456789abcdef\x40\0\0\x80\0\0\0\0\xff\xff\x08\0\0\0\0\0";
+
+fn try_pages(rt: &impl Abort, store: &mut MemStore)
+    requires { Present (StandsFor store.old) Anything }
+{
     let named = Hob::Named {
         name: Guid(*b"0123456789abcdef"),
         body: b"\x40\0\0\x80\0\0\0\0",
     };
-    assert!(rt; create(&mut store, &named) == Ok(TEMP + 104));
-    assert!(rt; move_to(&mut store, UPPER) == Some((TEMP, 0x4001_0000)));
-    assert!(rt; store.heap.span == UPPER);
-    assert!(rt; store.memory.read(TEMP, 8).is_none());
-    // The hand-off HOB: the end of memory, its base, what is free, and the end HOB.
-    assert!(rt;
-        store.memory.read(0x4001_0000, 56)
-            == Some(
-                b"\x01\0\x38\0\0\0\0\0\x09\0\0\0\0\0\0\0\0\0\x02\x40\0\0\0\0\0\0\x01\x40\0\0\0\0\0\xf0\x01\x40\0\0\0\0\x90\0\x01\x40\0\0\0\0\x88\0\x01\x40\0\0\0\0"
-            )
+    let made = [pages(store, 1), create(store, &named)];
+    let moved = move_to(store, UPPER);
+    let wants = (
+        [Ok(TEMP + 0x7000), Ok(TEMP + 104)],
+        Some((TEMP, 0x4001_0000)),
     );
-    // The page lies at the end of the new heap.
-    assert!(rt;
-        store.memory.read(0x4001_0038, 48)
-            == Some(
-                b"\x02\0\x30\0\0\0\0\0\0\0\0\0\0\0\0\0\0\0\0\0\0\0\0\0\0\xf0\x01\x40\0\0\0\0\0\x10\0\0\0\0\0\0\x04\0\0\0\0\0\0\0"
-            )
-    );
-    assert!(rt;
-        store.memory.read(0x4001_0068, 40)
-            == Some(
-                b"\x04\0\x20\0\0\0\0\x000123456789abcdef\x40\0\0\x80\0\0\0\0\xff\xff\x08\0\0\0\0\0"
-            )
-    );
+    assert!(rt; (made, moved) == wants);
+    let early = store.memory.read(TEMP, 8);
+    let bytes = store.memory.read(0x4001_0000, 144);
+    assert!(rt; (store.heap.span, early, bytes) == (UPPER, None, Some(MOVED)));
+}
+
+// The descriptor: its flags, where its GUID stands, the value, and the GUID.
+const DESCRIPTOR: [u8; 40] =
+    *b"\x10\0\0\x80\0\0\0\0\x58\0\0\x40\0\0\0\0\x34\x12\0\0\0\0\0\0\0\0\0\0\0\0\0\0\0\0\0\0\0\0\0\x01";
+
+// Its node and the end HOB.
+const NODE: [u8; 40] =
+    *b"\0\0\0\0\0\0\0\0\x40\0\0\x40\0\0\0\0\0\0\0\0\0\0\0\0\x09\0\0\0\0\0\0\0\xff\xff\x08\0\0\0\0\0";
+
+fn try_descriptor(rt: &impl Abort, store: &mut MemStore)
+    requires { Present (StandsFor store.old) Anything }
+{
+    let is_installed = install_new(store, INLINE, 0x1234).is_some();
+    let moved = move_to(store, RAM);
+    assert!(rt; (is_installed, moved) == (true, Some((TEMP, 0x4000_0000))));
+    let found = [bytes_at(store, 0x4000_0040), bytes_at(store, 0x4000_0070)];
+    assert!(rt; found == [DESCRIPTOR, NODE]);
+}
+
+#[test]
+fn pages_move_and_bytes_that_look_like_an_address_stay(rt: HostRuntime) -> Result<(), Fail> {
+    let mut store = store_over(rt.alloc(), 0x8000, 0x3000)?;
+    try_pages(&rt, &mut store);
     Ok(())
 }
 
 #[test]
 fn a_descriptor_moves_with_its_node(rt: HostRuntime) -> Result<(), Fail> {
-    let mut store = store_over(rt.alloc(), 0x4000, 0).ok().ok_or("memory")?;
-    assert!(rt; install_new(&mut store, INLINE, 0x1234).is_some());
-    assert!(rt; move_to(&mut store, RAM) == Some((TEMP, 0x4000_0000)));
-    assert!(rt;
-        bytes_at(&store, 0x4000_0040)
-            == *b"\x10\0\0\x80\0\0\0\0\x58\0\0\x40\0\0\0\0\x34\x12\0\0\0\0\0\0\0\0\0\0\0\0\0\0\0\0\0\0\0\0\0\x01"
-    );
-    assert!(rt;
-        bytes_at(&store, 0x4000_0070)
-            == *b"\0\0\0\0\0\0\0\0\x40\0\0\x40\0\0\0\0\0\0\0\0\0\0\0\0\x09\0\0\0\0\0\0\0\xff\xff\x08\0\0\0\0\0"
-    );
+    let mut store = store_over(rt.alloc(), 0x4000, 0)?;
+    try_descriptor(&rt, &mut store);
     Ok(())
 }

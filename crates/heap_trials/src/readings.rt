@@ -1,13 +1,14 @@
-// Each call that reads, over the scene in both stores, and the calls that write a pool and the boot mode.
-ghost use Rattle.std.specs.Prelude.{◌≡◌, ◌≤◌, true, length, IfOk};
+// Each call that reads, over the scene in both stores, and those that write a pool and the boot mode or put a PPI in the place of another.
+ghost use Rattle.std.specs.Prelude.{◌≡◌, ◌≤◌, ◌+◌, true, length, IfOk};
+ghost use Rattle.boot_plan.specs.declared.limits.TheConstants.{MOST_TEMP};
 ghost use Rattle.store_model.specs.Service.{Present, OfEach};
 ghost use Rattle.store_model.specs.StoreCall.{Anything, HasPool};
 ghost use Rattle.heap_trials.specs.Scene.{IsLaid};
 
 use crate::board::{ROM, TEMP, lists_over, store_over};
 use crate::calls::set_boot_mode;
-use crate::scene::{DISPATCH, END, INSTALLED, NAME, OTHER, Of, desc_of, install, laid};
-use crate::told::told;
+use crate::scene::{END, INSTALLED, NAME, OTHER, Of, desc_of, install, laid, reinstall};
+use crate::told::{tells, told};
 use pi_base::Guid;
 use std::alloc::{AllocError, Global};
 use std::process::Abort;
@@ -17,33 +18,36 @@ use store_model::{
     Sweep,
 };
 
-fn try_lists<S: PeiStore + Drop>(rt: &impl Abort, store: S) -> Result<(), Fail>
-    requires { Present (S.stands_for store) Anything }
+// What is tried over the scene.
+#[derive(Clone, Copy)]
+enum Trial {
+    Lists,
+    Entries,
+    Ppis,
+    Sweep,
+    Hobs,
+    Writes,
+    Peeks,
+    Mode,
+    Reinstall,
+}
+
+fn try_lists<S: PeiStore>(rt: &impl Abort, store: &S)
+    requires { IsLaid (S.stands_for store.now) }
 {
-    let store = laid(store).ok_or("a scene")?;
-    let ppis = [Some((NAME, 7, 9)), None];
-    let callbacks = [Some((NAME, 5)), None];
-    let dispatches = [Some((NAME, 3)), None];
-    assert!(rt; [store.ppi_at(0), store.ppi_at(1)] == ppis);
-    let found = [
+    assert!(rt; [store.ppi_at(0), store.ppi_at(1)] == [Some((NAME, 7, 9)), None]);
+    let callbacks = [
         store.note_at(DescKind::Callback, 0),
         store.note_at(DescKind::Callback, 1),
     ];
-    assert!(rt; found == callbacks);
-    let found = [
+    let dispatches = [
         store.note_at(DescKind::Dispatch, 0),
         store.note_at(DescKind::Dispatch, 1),
     ];
-    assert!(rt; found == dispatches);
+    let pendings = [store.pending_at(0), store.pending_at(1)];
+    let dispatch = [Some((NAME, 3)), None];
+    assert!(rt; [callbacks, dispatches, pendings] == [[Some((NAME, 5)), None], dispatch, dispatch]);
     assert!(rt; store.note_at(DescKind::Ppi, 0).is_none());
-    assert!(rt; [store.pending_at(0), store.pending_at(1)] == dispatches);
-    Ok(())
-}
-
-#[test]
-fn the_lists_are_told_by_place(rt: HostRuntime) -> Result<(), Fail> {
-    try_lists(&rt, lists_over(rt.alloc(), 0x4000, 0)?)?;
-    try_lists(&rt, store_over(rt.alloc(), 0x4000, 0)?)
 }
 
 // The first entry of a list, and the one behind it.
@@ -57,41 +61,72 @@ fn first_entries<S: PeiStore>(store: &S, list: EntryList) -> (Option<EntryTold>,
     }
 }
 
-fn told_of(node: u64, number: u64) -> EntryTold {
-    EntryTold {
-        node,
-        guid: NAME,
-        number,
-        by: 9,
-    }
-}
+// Each entry of the scene, and those that another PPI brings.
+const CALLBACK_TOLD: EntryTold = EntryTold {
+    node: 296,
+    guid: NAME,
+    number: 5,
+    by: 9,
+};
 
-fn try_entries<S: PeiStore + Drop>(rt: &impl Abort, store: S) -> Result<(), Fail>
-    requires { Present (S.stands_for store) Anything }
+const DISPATCH_TOLD: EntryTold = EntryTold {
+    node: 256,
+    guid: NAME,
+    number: 3,
+    by: 9,
+};
+
+const PPI_TOLD: EntryTold = EntryTold {
+    node: 336,
+    guid: NAME,
+    number: 7,
+    by: 9,
+};
+
+const PENDING_TOLD: EntryTold = EntryTold {
+    node: 376,
+    guid: NAME,
+    number: 3,
+    by: 9,
+};
+
+const OTHER_TOLD: EntryTold = EntryTold {
+    node: END + 8,
+    guid: NAME,
+    number: 8,
+    by: 9,
+};
+
+const OTHER_PENDING_TOLD: EntryTold = EntryTold {
+    node: END + 48,
+    guid: NAME,
+    number: 3,
+    by: 9,
+};
+
+const ENTRIES: [(EntryList, (Option<EntryTold>, Option<EntryTold>)); 4] = [
+    (EntryList::Ppis, (Some(PPI_TOLD), Some(OTHER_TOLD))),
+    (EntryList::Callbacks, (Some(CALLBACK_TOLD), None)),
+    (EntryList::Dispatches, (Some(DISPATCH_TOLD), None)),
+    (
+        EntryList::Pendings,
+        (Some(PENDING_TOLD), Some(OTHER_PENDING_TOLD)),
+    ),
+];
+
+fn have_entries<S: PeiStore>(rt: &impl Abort, store: &S)
+    requires { Present (S.stands_for store.now) Anything }
 {
-    let mut store = laid(store).ok_or("a scene")?;
-    assert!(rt; install(&mut store, Of::Other).is_ok());
-    let rows = [
-        (EntryList::Ppis, told_of(336, 7), Some(told_of(END + 8, 8))),
-        (EntryList::Callbacks, told_of(296, 5), None),
-        (EntryList::Dispatches, told_of(256, 3), None),
-        (
-            EntryList::Pendings,
-            told_of(376, 3),
-            Some(told_of(END + 48, 3)),
-        ),
-    ];
-    for (list, first, second) in rows {
-        let found = first_entries(&store, list);
-        assert!(rt; found == (Some(first), second), "{list:?}");
+    for (list, told) in ENTRIES {
+        assert!(rt; first_entries(store, list) == told, "{list:?}");
     }
-    Ok(())
 }
 
-#[test]
-fn entries_are_told_one_behind_the_other(rt: HostRuntime) -> Result<(), Fail> {
-    try_entries(&rt, lists_over(rt.alloc(), 0x4000, 0)?)?;
-    try_entries(&rt, store_over(rt.alloc(), 0x4000, 0)?)
+fn try_entries<S: PeiStore>(rt: &impl Abort, store: &mut S)
+    requires { IsLaid (S.stands_for store.old) }
+{
+    assert!(rt; install(store, Of::Other).is_ok());
+    have_entries(rt, store);
 }
 
 fn descriptor<S: PeiStore>(store: &S, of: Of) -> (Guid, u64)
@@ -106,29 +141,32 @@ fn nth_ppi<S: PeiStore>(store: &S, guid: &Guid, n: u16) -> Option<(Desc, u64)>
     store.nth_ppi(guid, n)
 }
 
-fn try_ppis<S: PeiStore + Drop>(rt: &impl Abort, store: S) -> Result<(), Fail>
-    requires { Present (S.stands_for store) Anything }
+// A GUID, how many PPIs of it are passed over, and the one that is found.
+const FOUND: [(Guid, u16, Option<(Desc, u64)>); 4] = [
+    (NAME, 0, Some((INSTALLED, 7))),
+    (NAME, 1, Some((OTHER, 8))),
+    (NAME, 2, None),
+    (MEMORY_PPI, 0, None),
+];
+
+fn have_ppis<S: PeiStore>(rt: &impl Abort, store: &S)
+    requires { Present (S.stands_for store.now) Anything }
 {
-    let mut store = laid(store).ok_or("a scene")?;
-    assert!(rt; descriptor(&store, Of::Other) == (NAME, 8));
-    assert!(rt; descriptor(&store, Of::Dispatch) == (NAME, 3));
-    assert!(rt; install(&mut store, Of::Other).is_ok());
-    let rows = [
-        (NAME, 0, Some((INSTALLED, 7))),
-        (NAME, 1, Some((OTHER, 8))),
-        (NAME, 2, None),
-        (MEMORY_PPI, 0, None),
-    ];
-    for (guid, n, found) in rows {
-        assert!(rt; nth_ppi(&store, &guid, n) == found, "{n}");
+    for (guid, n, found) in FOUND {
+        assert!(rt; nth_ppi(store, &guid, n) == found, "{n}");
     }
-    Ok(())
 }
 
-#[test]
-fn ppis_are_found_by_guid(rt: HostRuntime) -> Result<(), Fail> {
-    try_ppis(&rt, lists_over(rt.alloc(), 0x4000, 0)?)?;
-    try_ppis(&rt, store_over(rt.alloc(), 0x4000, 0)?)
+fn try_ppis<S: PeiStore>(rt: &impl Abort, store: &mut S)
+    requires { IsLaid (S.stands_for store.old) }
+{
+    let found = [
+        descriptor(store, Of::Other),
+        descriptor(store, Of::Dispatch),
+    ];
+    let is_installed = install(store, Of::Other).is_ok();
+    assert!(rt; (found, is_installed) == ([(NAME, 8), (NAME, 3)], true));
+    have_ppis(rt, store);
 }
 
 // Whether there are so many PPIs.
@@ -160,26 +198,22 @@ fn next<S: PeiStore>(store: &S, sweep: &mut Sweep) -> Option<Firing>
     store.next_match(sweep)
 }
 
-fn try_sweep<S: PeiStore + Drop>(rt: &impl Abort, store: S) -> Result<(), Fail>
-    requires { Present (S.stands_for store) Anything }
+fn try_sweep<S: PeiStore>(rt: &impl Abort, store: &mut S)
+    requires { IsLaid (S.stands_for store.old) }
 {
-    let mut store = laid(store).ok_or("a scene")?;
     let firing = Firing {
         entry: 5,
         ppi: OTHER,
         guid: NAME,
         value: 8,
     };
-    let mut sweep = install(&mut store, Of::Other).ok().ok_or("a sweep")?;
-    assert!(rt; next(&store, &mut sweep) == Some(firing));
-    assert!(rt; next(&store, &mut sweep).is_none());
-    Ok(())
-}
-
-#[test]
-fn a_callback_fires_once_for_a_new_ppi(rt: HostRuntime) -> Result<(), Fail> {
-    try_sweep(&rt, lists_over(rt.alloc(), 0x4000, 0)?)?;
-    try_sweep(&rt, store_over(rt.alloc(), 0x4000, 0)?)
+    match install(store, Of::Other) {
+        Ok(mut sweep) => {
+            let fired = [next(store, &mut sweep), next(store, &mut sweep)];
+            assert!(rt; fired == [Some(firing), None]);
+        }
+        Err(_) => panic!(rt; "no sweep"),
+    }
 }
 
 // The HOBs of a store, at most so many.
@@ -200,33 +234,63 @@ fn spans<S: PeiStore>(alloc: Global, store: &S, most: u32) -> Result<Vec<HobSpan
     Ok(spans)
 }
 
-fn try_hobs<S: PeiStore + Drop>(rt: &impl Abort, alloc: Global, store: S) -> Result<(), Fail>
-    requires { Present (S.stands_for store) Anything }
-{
-    let store = laid(store).ok_or("a scene")?;
-    let rows = [
-        (1, 56, 56),
-        (7, 48, 104),
-        (7, 48, 152),
-        (7, 48, 200),
-        (7, 48, 248),
-        (7, 40, 288),
-        (7, 40, 328),
-        (7, 40, 368),
-        (7, 40, END),
-    ];
-    let found = spans(alloc, &store, 32)?;
-    assert!(rt; found.len() == rows.len());
-    for (span, row) in found.as_slice().iter().zip(rows) {
-        assert!(rt; (span.kind, span.length, span.next) == row);
-    }
-    Ok(())
-}
+// The HOBs of the scene: the hand-off, four descriptors and four nodes.
+const HOBS: [HobSpan; 9] = [
+    HobSpan {
+        kind: 1,
+        length: 56,
+        next: 56,
+    },
+    HobSpan {
+        kind: 7,
+        length: 48,
+        next: 104,
+    },
+    HobSpan {
+        kind: 7,
+        length: 48,
+        next: 152,
+    },
+    HobSpan {
+        kind: 7,
+        length: 48,
+        next: 200,
+    },
+    HobSpan {
+        kind: 7,
+        length: 48,
+        next: 248,
+    },
+    HobSpan {
+        kind: 7,
+        length: 40,
+        next: 288,
+    },
+    HobSpan {
+        kind: 7,
+        length: 40,
+        next: 328,
+    },
+    HobSpan {
+        kind: 7,
+        length: 40,
+        next: 368,
+    },
+    HobSpan {
+        kind: 7,
+        length: 40,
+        next: END,
+    },
+];
 
-#[test]
-fn hobs_are_told_one_behind_the_other(rt: HostRuntime) -> Result<(), Fail> {
-    try_hobs(&rt, rt.alloc(), lists_over(rt.alloc(), 0x4000, 0)?)?;
-    try_hobs(&rt, rt.alloc(), store_over(rt.alloc(), 0x4000, 0)?)
+// Whether a store has the HOBs of the scene, and no more.
+fn has_hobs<S: PeiStore>(alloc: Global, store: &S) -> bool
+    requires { Present (S.stands_for store.now) Anything }
+{
+    match spans(alloc, store, 32) {
+        Ok(found) => found.as_slice() == HOBS.as_slice(),
+        Err(_) => false,
+    }
 }
 
 // A new pool that may be written.
@@ -248,8 +312,7 @@ fn write_two<S: PeiStore>(alloc: Global, store: &mut S, at: u32) -> Result<(bool
     };
     let before = told(alloc, store)?;
     let is_written = store.store(pool, at, b"ab");
-    let after = told(alloc, store)?;
-    Ok((is_written, before.as_slice() == after.as_slice()))
+    Ok((is_written, tells(alloc, store, before.as_slice())?))
 }
 
 // Four bytes at an address, where they are read, and whether nothing was written where not.
@@ -260,50 +323,38 @@ fn four_at<S: PeiStore>(store: &S, at: u64) -> (bool, [u8; 4])
     (store.peek(at, &mut bytes), bytes)
 }
 
-fn try_writes<S: PeiStore + Drop>(rt: &impl Abort, alloc: Global, store: S) -> Result<(), Fail>
-    requires { Present (S.stands_for store) Anything }
+fn try_writes<S: PeiStore>(rt: &impl Abort, alloc: Global, store: &mut S)
+    requires { IsLaid (S.stands_for store.old) }
 {
-    let mut store = laid(store).ok_or("a scene")?;
-    assert!(rt; write_two(alloc, &mut store, 7)? == (true, false));
-    let written = four_at(&store, TEMP + END + 8 + 6);
-    assert!(rt; written == (true, *b"\0ab\0"));
-    assert!(rt; write_two(alloc, &mut store, 8)? == (false, true));
-    Ok(())
+    let first = write_two(alloc, store, 7).ok();
+    let written = four_at(store, TEMP + END + 8 + 6);
+    assert!(rt; (first, written) == (Some((true, false)), (true, [0, b'a', b'b', 0])));
+    assert!(rt; write_two(alloc, store, 8).ok() == Some((false, true)));
 }
 
-#[test]
-fn a_pool_is_written_within_its_size(rt: HostRuntime) -> Result<(), Fail> {
-    try_writes(&rt, rt.alloc(), lists_over(rt.alloc(), 0x4000, 0)?)?;
-    try_writes(&rt, rt.alloc(), store_over(rt.alloc(), 0x4000, 0)?)
-}
+// What is answered where nothing is read: the bytes stay as they were.
+const UNREAD: (bool, [u8; 4]) = (false, [0xff; 4]);
 
-fn try_peeks<S: PeiStore + Drop>(rt: &impl Abort, store: S) -> Result<(), Fail>
-    requires { Present (S.stands_for store) Anything }
+// An address and the answer there: of the volume, temporary RAM, RAM, and the end of the addresses.
+const PEEKS: [(u64, (bool, [u8; 4])); 10] = [
+    (ROM + 12, (true, [0, 0, 0, 1])),
+    (ROM + 13, UNREAD),
+    (ROM - 1, UNREAD),
+    (0x8000_0040, (true, [0x10, 0, 0, 0x80])),
+    (0x8000_4ffc, (true, [0; 4])),
+    (0x8000_4ffd, UNREAD),
+    (0x7fff_ffff, UNREAD),
+    (0x4001_fffc, (true, [0; 4])),
+    (0x4001_fffd, UNREAD),
+    (u64::MAX, UNREAD),
+];
+
+fn try_peeks<S: PeiStore>(rt: &impl Abort, store: &S)
+    requires { Present (S.stands_for store.now) Anything }
 {
-    let store = laid(store).ok_or("a scene")?;
-    let rows = [
-        (ROM + 12, Some(*b"\0\0\0\x01")),
-        (ROM + 13, None),
-        (ROM - 1, None),
-        (0x8000_0040, Some(*b"\x10\0\0\x80")),
-        (0x8000_4ffc, Some([0; 4])),
-        (0x8000_4ffd, None),
-        (0x7fff_ffff, None),
-        (0x4001_fffc, Some([0; 4])),
-        (0x4001_fffd, None),
-        (u64::MAX, None),
-    ];
-    for (at, told) in rows {
-        let want = (told.is_some(), told.unwrap_or([0xff; 4]));
-        assert!(rt; four_at(&store, at) == want, "at {at}");
+    for (at, want) in PEEKS {
+        assert!(rt; four_at(store, at) == want, "at {at}");
     }
-    Ok(())
-}
-
-#[test]
-fn bytes_are_read_in_one_region(rt: HostRuntime) -> Result<(), Fail> {
-    try_peeks(&rt, lists_over(rt.alloc(), 0x5000, 0x1000)?)?;
-    try_peeks(&rt, store_over(rt.alloc(), 0x5000, 0x1000)?)
 }
 
 fn boot_mode<S: PeiStore>(store: &S) -> u32
@@ -313,17 +364,102 @@ fn boot_mode<S: PeiStore>(store: &S) -> u32
 }
 
 fn try_mode<S: PeiStore>(rt: &impl Abort, store: &mut S)
-    requires { Present (S.stands_for store.old) Anything }
+    requires { IsLaid (S.stands_for store.old) }
 {
-    assert!(rt; boot_mode(store) == 0);
+    let before = boot_mode(store);
     set_boot_mode(store, 0x0102_0304);
-    assert!(rt; boot_mode(store) == 0x0102_0304);
-    assert!(rt; four_at(store, 0x8000_000c) == (true, [4, 3, 2, 1]));
+    let modes = (before, boot_mode(store), four_at(store, 0x8000_000c));
+    assert!(rt; modes == (0, 0x0102_0304, (true, [4, 3, 2, 1])));
+}
+
+fn try_reinstall<S: PeiStore>(rt: &impl Abort, store: &mut S)
+    requires { IsLaid (S.stands_for store.old) }
+{
+    let first = reinstall(store, Of::Installed, Of::Other).is_ok();
+    let again = reinstall(store, Of::Installed, Of::Other).err();
+    assert!(rt; (first, again) == (true, Some(StoreFault::Missing)));
+}
+
+fn run<S: PeiStore>(rt: &impl Abort, alloc: Global, store: &mut S, trial: Trial)
+    requires { IsLaid (S.stands_for store.old) }
+{
+    match trial {
+        Trial::Lists => try_lists(rt, store),
+        Trial::Entries => try_entries(rt, store),
+        Trial::Ppis => try_ppis(rt, store),
+        Trial::Sweep => try_sweep(rt, store),
+        Trial::Hobs => assert!(rt; has_hobs(alloc, store)),
+        Trial::Writes => try_writes(rt, alloc, store),
+        Trial::Peeks => try_peeks(rt, store),
+        Trial::Mode => try_mode(rt, store),
+        Trial::Reinstall => try_reinstall(rt, store),
+    }
+}
+
+// One of these over the scene in a store.
+fn over<S: PeiStore + Drop>(
+    rt: &impl Abort,
+    alloc: Global,
+    store: S,
+    trial: Trial,
+) -> Result<(), Fail>
+    requires { Present (S.stands_for store) Anything }
+{
+    let mut store = laid(store).ok_or("a scene")?;
+    run(rt, alloc, &mut store, trial);
+    Ok(())
+}
+
+// The same in both stores. Only these two functions own a store: each exit of an owner is dear to prove.
+fn over_both(rt: &impl Abort, alloc: Global, len: u64, early: u64, trial: Trial) -> Result<(), Fail>
+    requires len { len ≤ MOST_TEMP }
+    requires early { early + 64 ≤ len }
+{
+    over(rt, alloc, lists_over(alloc, len, early)?, trial)?;
+    over(rt, alloc, store_over(alloc, len, early)?, trial)
+}
+
+#[test]
+fn the_lists_are_told_by_place(rt: HostRuntime) -> Result<(), Fail> {
+    over_both(&rt, rt.alloc(), 0x4000, 0, Trial::Lists)
+}
+
+#[test]
+fn entries_are_told_one_behind_the_other(rt: HostRuntime) -> Result<(), Fail> {
+    over_both(&rt, rt.alloc(), 0x4000, 0, Trial::Entries)
+}
+
+#[test]
+fn ppis_are_found_by_guid(rt: HostRuntime) -> Result<(), Fail> {
+    over_both(&rt, rt.alloc(), 0x4000, 0, Trial::Ppis)
+}
+
+#[test]
+fn a_callback_fires_once_for_a_new_ppi(rt: HostRuntime) -> Result<(), Fail> {
+    over_both(&rt, rt.alloc(), 0x4000, 0, Trial::Sweep)
+}
+
+#[test]
+fn hobs_are_told_one_behind_the_other(rt: HostRuntime) -> Result<(), Fail> {
+    over_both(&rt, rt.alloc(), 0x4000, 0, Trial::Hobs)
+}
+
+#[test]
+fn a_pool_is_written_within_its_size(rt: HostRuntime) -> Result<(), Fail> {
+    over_both(&rt, rt.alloc(), 0x4000, 0, Trial::Writes)
+}
+
+#[test]
+fn bytes_are_read_in_one_region(rt: HostRuntime) -> Result<(), Fail> {
+    over_both(&rt, rt.alloc(), 0x5000, 0x1000, Trial::Peeks)
 }
 
 #[test]
 fn the_boot_mode_stands_in_the_hand_off_hob(rt: HostRuntime) -> Result<(), Fail> {
-    try_mode(&rt, &mut lists_over(rt.alloc(), 0x4000, 0)?);
-    try_mode(&rt, &mut store_over(rt.alloc(), 0x4000, 0)?);
-    Ok(())
+    over_both(&rt, rt.alloc(), 0x4000, 0, Trial::Mode)
+}
+
+#[test]
+fn a_ppi_is_put_in_the_place_of_one_that_is_there(rt: HostRuntime) -> Result<(), Fail> {
+    over_both(&rt, rt.alloc(), 0x4000, 0, Trial::Reinstall)
 }

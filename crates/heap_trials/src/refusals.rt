@@ -7,16 +7,15 @@ ghost use Rattle.heap_trials.specs.Scene.{IsLaid};
 use crate::board::{ROM, lists_over, store_over};
 use crate::calls::{core_install, create, desc, move_to, notify_new, pages, plan, pool};
 use crate::scene::{INLINE, Of, fill, install, laid, notify, reinstall};
-use crate::told::told;
+use crate::told::{tells, told};
 use hob_codec::Hob;
 use pi_base::Span;
-use std::alloc::Global;
-use std::process::Abort;
+use std::alloc::{AllocError, Global};
 use std::test::*;
 use store_model::{DescKind, GuidFrom, MEMORY_PPI, PeiStore, StoreFault};
 
 /// A call that names descriptors of the scene.
-#[derive(Clone, Copy, Debug)]
+#[derive(Clone, Copy)]
 enum Named {
     Install(Of),
     Reinstall(Of, Of),
@@ -24,7 +23,7 @@ enum Named {
 }
 
 /// A call that names none.
-#[derive(Clone, Copy, Debug)]
+#[derive(Clone, Copy)]
 enum Service {
     Pool(u32),
     Desc(GuidFrom),
@@ -35,7 +34,7 @@ enum Service {
 }
 
 /// How far the scene has come.
-#[derive(Clone, Copy, Debug)]
+#[derive(Clone, Copy)]
 enum Stage {
     /// As it was laid.
     Laid,
@@ -57,6 +56,9 @@ const PLANNED: Span = Span {
 
 // A stage, the bytes that are free when the call comes, the call, and the fault of its answer.
 type Row = (Stage, u32, Service, Option<StoreFault>);
+
+// The fault of an answer, and whether the store then tells what it told before. None where the scene does not come so far.
+type Answer = Option<(Option<StoreFault>, bool)>;
 
 const PASSES: Option<StoreFault> = None;
 
@@ -190,60 +192,81 @@ fn bring<S: PeiStore>(store: &mut S, stage: Stage) -> bool
     }
 }
 
-// The fault comes, and the store then tells what it told before; or none does, and it tells something else.
-fn try_named<S: PeiStore + Drop>(
-    rt: &impl Abort,
+// A call of the scene: its fault, and whether the store then tells what it told before. None where so little room is not left.
+fn named_answer<S: PeiStore>(
     alloc: Global,
-    store: S,
-    row: &(u32, Named, Option<StoreFault>),
-) -> Result<(), Fail>
-    requires { Present (S.stands_for store) Anything }
+    store: &mut S,
+    left: u32,
+    call: Named,
+) -> Result<Answer, AllocError>
+    requires { IsLaid (S.stands_for store.old) }
 {
-    let mut store = laid(store).ok_or("a scene")?;
-    assert!(rt; fill(&mut store, row.0), "{row:?}");
-    let before = told(alloc, &store)?;
-    let fault = call_named(&mut store, row.1);
-    let after = told(alloc, &store)?;
-    assert!(rt; fault == row.2, "{row:?}");
-    assert!(rt;
-        (before.as_slice() == after.as_slice()) == fault.is_some(),
-        "{row:?}"
-    );
-    Ok(())
+    if !fill(store, left) {
+        return Ok(None);
+    }
+    let before = told(alloc, store)?;
+    let fault = call_named(store, call);
+    Ok(Some((fault, tells(alloc, store, before.as_slice())?)))
 }
 
+// The same over the scene in a store.
+fn over_named<S: PeiStore + Drop>(
+    alloc: Global,
+    store: S,
+    left: u32,
+    call: Named,
+) -> Result<Answer, AllocError>
+    requires { Present (S.stands_for store) Anything }
+{
+    match laid(store) {
+        Some(mut store) => named_answer(alloc, &mut store, left, call),
+        None => Ok(None),
+    }
+}
+
+// The same in both stores.
+fn both_named(alloc: Global, left: u32, call: Named) -> Result<[Answer; 2], Fail> {
+    let lists = over_named(alloc, lists_over(alloc, 0x4000, 0)?, left, call)?;
+    let memory = over_named(alloc, store_over(alloc, 0x4000, 0)?, left, call)?;
+    Ok([lists, memory])
+}
+
+// The fault comes, and the store then tells what it told before; or none does, and it tells something else.
 #[test]
 fn calls_that_name_descriptors_are_refused_in_order_and_change_nothing(
     rt: HostRuntime,
 ) -> Result<(), Fail> {
-    for row in OF_THE_SCENE.iter() {
-        try_named(&rt, rt.alloc(), lists_over(rt.alloc(), 0x4000, 0)?, row)?;
-        try_named(&rt, rt.alloc(), store_over(rt.alloc(), 0x4000, 0)?, row)?;
+    for (n, (left, call, fault)) in OF_THE_SCENE.iter().enumerate() {
+        let want = Some((*fault, fault.is_some()));
+        let found = both_named(rt.alloc(), *left, *call)?;
+        assert!(rt; found == [want, want], "row {n}");
     }
     Ok(())
 }
 
 // The same of a call that names none, at a stage.
-fn try_row<S: PeiStore + Drop>(
-    rt: &impl Abort,
-    alloc: Global,
-    store: S,
-    row: &Row,
-) -> Result<(), Fail>
+fn answer_at<S: PeiStore>(alloc: Global, store: &mut S, row: &Row) -> Result<Answer, AllocError>
+    requires { Present (S.stands_for store.old) Anything }
+{
+    if !bring(store, row.0) {
+        return Ok(None);
+    }
+    if !fill(store, row.1) {
+        return Ok(None);
+    }
+    let before = told(alloc, store)?;
+    let fault = call(store, row.2);
+    Ok(Some((fault, tells(alloc, store, before.as_slice())?)))
+}
+
+// The same over the scene in a store.
+fn over_row<S: PeiStore + Drop>(alloc: Global, store: S, row: &Row) -> Result<Answer, AllocError>
     requires { Present (S.stands_for store) Anything }
 {
-    let mut store = laid(store).ok_or("a scene")?;
-    assert!(rt; bring(&mut store, row.0), "{row:?}");
-    assert!(rt; fill(&mut store, row.1), "{row:?}");
-    let before = told(alloc, &store)?;
-    let fault = call(&mut store, row.2);
-    let after = told(alloc, &store)?;
-    assert!(rt; fault == row.3, "{row:?}");
-    assert!(rt;
-        (before.as_slice() == after.as_slice()) == fault.is_some(),
-        "{row:?}"
-    );
-    Ok(())
+    match laid(store) {
+        Some(mut store) => answer_at(alloc, &mut store, row),
+        None => Ok(None),
+    }
 }
 
 // The bytes of early pages at a stage.
@@ -256,22 +279,21 @@ fn pages_of(stage: Stage) -> u64
     }
 }
 
+// The same in both stores.
+fn both_at(alloc: Global, row: &Row) -> Result<[Answer; 2], Fail> {
+    let early = pages_of(row.0);
+    let len = 0x4000 + early;
+    let lists = over_row(alloc, lists_over(alloc, len, early)?, row)?;
+    let memory = over_row(alloc, store_over(alloc, len, early)?, row)?;
+    Ok([lists, memory])
+}
+
 #[test]
 fn refusals_come_in_their_order_and_change_nothing(rt: HostRuntime) -> Result<(), Fail> {
-    for row in ROWS.iter() {
-        let early = pages_of(row.0);
-        try_row(
-            &rt,
-            rt.alloc(),
-            lists_over(rt.alloc(), 0x4000 + early, early)?,
-            row,
-        )?;
-        try_row(
-            &rt,
-            rt.alloc(),
-            store_over(rt.alloc(), 0x4000 + early, early)?,
-            row,
-        )?;
+    for (n, row) in ROWS.iter().enumerate() {
+        let want = Some((row.3, row.3.is_some()));
+        let found = both_at(rt.alloc(), row)?;
+        assert!(rt; found == [want, want], "row {n}");
     }
     Ok(())
 }

@@ -31,7 +31,7 @@ pub(crate) const OTHER: Desc = Desc { offset: 0xd0 };
 pub(crate) const END: u64 = 408;
 
 /// Which of the four descriptors.
-#[derive(Clone, Copy, Debug)]
+#[derive(Clone, Copy)]
 pub(crate) enum Of {
     Installed,
     Dispatch,

@@ -67,16 +67,34 @@ fn add_heap<S: PeiStore>(alloc: Global, to: &mut Vec<u8>, store: &S) -> Result<(
     to.extend_from_slice(bytes.as_slice())
 }
 
+fn add_all<S: PeiStore>(alloc: Global, to: &mut Vec<u8>, store: &S) -> Result<(), AllocError>
+    requires { Present (S.stands_for store.now) Anything }
+{
+    add(to, store.base())?;
+    add(to, u64::from(store.boot_mode()))?;
+    add(to, u64::from(store.moved()))?;
+    add(to, u64::from(store.memory_due()))?;
+    add_lists(to, store)?;
+    add_heap(alloc, to, store)
+}
+
 /// All of it.
 pub(crate) fn told<S: PeiStore>(alloc: Global, store: &S) -> Result<Vec<u8>, AllocError>
     requires { Present (S.stands_for store.now) Anything }
 {
     let mut told = Vec::new(alloc);
-    add(&mut told, store.base())?;
-    add(&mut told, u64::from(store.boot_mode()))?;
-    add(&mut told, u64::from(store.moved()))?;
-    add(&mut told, u64::from(store.memory_due()))?;
-    add_lists(&mut told, store)?;
-    add_heap(alloc, &mut told, store)?;
+    add_all(alloc, &mut told, store)?;
     Ok(told)
+}
+
+/// Whether a store still tells these bytes.
+pub(crate) fn tells<S: PeiStore>(
+    alloc: Global,
+    store: &S,
+    before: &[u8],
+) -> Result<bool, AllocError>
+    requires { Present (S.stands_for store.now) Anything }
+{
+    let now = told(alloc, store)?;
+    Ok(before == now.as_slice())
 }

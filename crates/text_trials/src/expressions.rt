@@ -5,6 +5,7 @@ ghost use Rattle.depex_code.specs.Tree.{postfix};
 use crate::board::{list_of, repeated};
 use depex_code::{Depex, DepexFault, GuidSet, Opcode, Steps, Tree, read_depex};
 use pi_base::{Guid, Phase};
+use std::alloc::Global;
 use std::marker::Brand;
 use std::process::Abort;
 use std::sync::ledger::{Blank, Ledger};
@@ -147,14 +148,15 @@ fn an_expression_is_read_or_refused_at_its_opcode(rt: HostRuntime) {
     }
 }
 
+// What is read where so many NOTs stand between TRUE and END.
+fn told_of_nots(alloc: Global, count: usize) -> (u8, u32) {
+    told(read_depex(alloc, &repeated(alloc, &[6], &[5], count, &[8]), Phase::Pei))
+}
+
 #[test]
-fn an_expression_has_at_most_1023_opcodes(rt: HostRuntime) -> Result<(), Fail> {
-    // How many NOTs stand between TRUE and END, and what is read.
-    for (count, outcome) in [(1022, (TREE, 1023)), (1023, (MALFORMED, 1024))] {
-        let bytes = repeated(rt.alloc(), &[6], &[5], count, &[8])?;
-        assert!(rt; told(read_depex(rt.alloc(), &bytes, Phase::Pei)) == outcome);
-    }
-    Ok(())
+fn an_expression_has_at_most_1023_opcodes(rt: HostRuntime) {
+    assert!(rt; told_of_nots(rt.alloc(), 1022) == (TREE, 1023));
+    assert!(rt; told_of_nots(rt.alloc(), 1023) == (MALFORMED, 1024));
 }
 
 const ZERO: Opcode = Opcode::Push(Guid([0; 16]));
@@ -189,21 +191,20 @@ const TRUTHS: [(&[Opcode], [bool; 3]); 9] = [
     ),
 ];
 
+// Whether a tree has this code, and where it holds: with no GUID, with the first, and with both.
+fn is_tree(rt: &impl Abort, tree: &Tree, code: &[Opcode], truths: [bool; 3]) -> bool {
+    let held = [truth(rt, tree, 0), truth(rt, tree, 1), truth(rt, tree, 2)];
+    tree.code() == code && held == truths
+}
+
 #[test]
-fn an_expression_is_true_by_the_guids_that_are_there(rt: HostRuntime) -> Result<(), Fail> {
+fn an_expression_is_true_by_the_guids_that_are_there(rt: HostRuntime) {
     for (code, truths) in &TRUTHS {
-        let list = list_of(rt.alloc(), code)?;
-        let tree = Tree::from_code(list).ok_or("the opcodes are those of a tree")?;
-        assert!(rt; tree.code() == *code);
-        assert!(rt;
-            [
-                truth(&rt, &tree, 0),
-                truth(&rt, &tree, 1),
-                truth(&rt, &tree, 2)
-            ] == *truths
-        );
+        match Tree::from_code(list_of(rt.alloc(), code)) {
+            Some(tree) => assert!(rt; is_tree(&rt, &tree, code, *truths)),
+            None => panic!(rt; "the opcodes are those of a tree"),
+        }
     }
-    Ok(())
 }
 
 /// Opcodes of no tree.
@@ -215,10 +216,8 @@ const NO_TREES: [&[Opcode]; 4] = [
 ];
 
 #[test]
-fn what_leaves_no_single_value_is_no_tree(rt: HostRuntime) -> Result<(), Fail> {
+fn what_leaves_no_single_value_is_no_tree(rt: HostRuntime) {
     for code in &NO_TREES {
-        let list = list_of(rt.alloc(), code)?;
-        assert!(rt; Tree::from_code(list).is_none());
+        assert!(rt; Tree::from_code(list_of(rt.alloc(), code)).is_none());
     }
-    Ok(())
 }

@@ -1,8 +1,9 @@
 // Dependency expressions as a person writes them: both ways between their texts and their bytes, and each refusal once.
-use crate::board::repeated;
+use crate::board::{are, repeated};
 use asm_text::{TextFault, parse_depex, print_depex, write_depex};
 use depex_code::read_depex;
-use pi_base::Phase;
+use pi_base::{Phase, Seq};
+use std::alloc::Global;
 use std::test::*;
 
 /// Expressions as text, and their bytes.
@@ -27,23 +28,27 @@ const EXPRESSIONS: [(&[u8], &[u8]); 6] = [
     ),
 ];
 
+// The bytes of the expression whose text this is.
+fn assembled(alloc: Global, text: &[u8]) -> Option<Seq<u8>> {
+    match parse_depex(alloc, text) {
+        Ok(depex) => write_depex(alloc, &depex).ok(),
+        Err(_) => None,
+    }
+}
+
+// The text of the expression whose bytes these are.
+fn disassembled(alloc: Global, bytes: &[u8]) -> Option<Seq<u8>> {
+    match read_depex(alloc, bytes, Phase::Dxe) {
+        Ok(depex) => print_depex(alloc, &depex).ok(),
+        Err(_) => None,
+    }
+}
+
 #[test]
 fn expressions_go_both_ways(rt: HostRuntime) {
     for (text, bytes) in &EXPRESSIONS {
-        let Ok(depex) = parse_depex(rt.alloc(), text) else {
-            panic!(rt; "not read");
-        };
-        let Ok(written) = write_depex(rt.alloc(), &depex) else {
-            panic!(rt; "not written");
-        };
-        assert!(rt; written.as_slice() == *bytes);
-        let Ok(read) = read_depex(rt.alloc(), bytes, Phase::Dxe) else {
-            panic!(rt; "not read from bytes");
-        };
-        let Ok(printed) = print_depex(rt.alloc(), &read) else {
-            panic!(rt; "not printed");
-        };
-        assert!(rt; printed.as_slice() == *text);
+        assert!(rt; are(assembled(rt.alloc(), text), bytes));
+        assert!(rt; are(disassembled(rt.alloc(), bytes), text));
     }
 }
 
@@ -64,24 +69,25 @@ const NO_EXPRESSIONS: [(&[u8], u32); 12] = [
     (b"before 03020100-0504-0706-0809-0A0B0C0D0E0F\n", 1),
 ];
 
-#[test]
-fn what_is_no_expression_is_bad_at_its_line(rt: HostRuntime) {
-    for (text, line) in &NO_EXPRESSIONS {
-        match parse_depex(rt.alloc(), text) {
-            Ok(_) => panic!(rt; "read"),
-            Err(fault) => assert!(rt; fault == TextFault::Bad { line: *line }),
-        }
-    }
+// Why a text is no expression's, none where it is.
+fn fault_of(alloc: Global, text: &[u8]) -> Option<TextFault> {
+    parse_depex(alloc, text).err()
 }
 
 #[test]
-fn a_text_has_at_most_1023_opcodes(rt: HostRuntime) -> Result<(), Fail> {
-    let longest = repeated(rt.alloc(), b"", b"not ", 1022, b"true\n")?;
-    assert!(rt; parse_depex(rt.alloc(), &longest).is_ok());
-    let longer = repeated(rt.alloc(), b"", b"not ", 1023, b"true\n")?;
-    match parse_depex(rt.alloc(), &longer) {
-        Ok(_) => panic!(rt; "read"),
-        Err(fault) => assert!(rt; fault == TextFault::TooLong),
+fn what_is_no_expression_is_bad_at_its_line(rt: HostRuntime) {
+    for (text, line) in &NO_EXPRESSIONS {
+        assert!(rt; fault_of(rt.alloc(), text) == Some(TextFault::Bad { line: *line }));
     }
-    Ok(())
+}
+
+// The fault of TRUE behind so many NOTs.
+fn fault_of_nots(alloc: Global, count: usize) -> Option<TextFault> {
+    fault_of(alloc, &repeated(alloc, b"", b"not ", count, b"true\n"))
+}
+
+#[test]
+fn a_text_has_at_most_1023_opcodes(rt: HostRuntime) {
+    assert!(rt; fault_of_nots(rt.alloc(), 1022).is_none());
+    assert!(rt; fault_of_nots(rt.alloc(), 1023) == Some(TextFault::TooLong));
 }

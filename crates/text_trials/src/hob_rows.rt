@@ -4,7 +4,6 @@ use hob_codec::kind::END;
 use hob_codec::{Handoff, Hob, encode_into, hob_len};
 use pi_base::Guid;
 use std::alloc::Global;
-use std::test::Fail;
 
 /// A HOB behind the hand-off: what a map is made of, with its type, base and length, and what is passed over.
 #[derive(Clone, Copy)]
@@ -44,38 +43,38 @@ fn hob_of(row: &Row) -> Hob<'static> {
     }
 }
 
-fn put_hob(alloc: Global, bytes: &mut Vec<u8>, hob: &Hob<'_>) -> Result<(), Fail> {
+// Adds a HOB's bytes. Where memory runs out they are missing, and the test fails for it.
+fn put_hob(alloc: Global, bytes: &mut Vec<u8>, hob: &Hob<'_>) {
     let Some(len) = hob_len(hob) else {
-        return Err(Fail::new("no length"));
+        return;
     };
-    let mut out = vec![in alloc; 0u8; len as usize]?;
-    encode_into(hob, out.as_mut_slice());
-    bytes.extend_from_slice(&out)?;
-    Ok(())
+    if let Ok(mut out) = vec![in alloc; 0u8; len as usize] {
+        encode_into(hob, out.as_mut_slice());
+        let _ = bytes.extend_from_slice(&out);
+    }
 }
 
+const HANDOFF: Hob<'static> = Hob::Handoff(Handoff {
+    boot_mode: 0,
+    top: 0,
+    bottom: 0,
+    free_top: 0,
+    free_bottom: 0,
+    end: 0,
+});
+
+const LAST: Hob<'static> = Hob::Other {
+    kind: END,
+    body: b"",
+};
+
 /// A hand-off, these HOBs, and an end.
-pub(crate) fn hob_list(alloc: Global, rows: &[Row]) -> Result<Vec<u8>, Fail> {
+pub(crate) fn hob_list(alloc: Global, rows: &[Row]) -> Vec<u8> {
     let mut bytes = Vec::new(alloc);
-    let handoff = Handoff {
-        boot_mode: 0,
-        top: 0,
-        bottom: 0,
-        free_top: 0,
-        free_bottom: 0,
-        end: 0,
-    };
-    put_hob(alloc, &mut bytes, &Hob::Handoff(handoff))?;
+    put_hob(alloc, &mut bytes, &HANDOFF);
     for row in rows {
-        put_hob(alloc, &mut bytes, &hob_of(row))?;
+        put_hob(alloc, &mut bytes, &hob_of(row));
     }
-    put_hob(
-        alloc,
-        &mut bytes,
-        &Hob::Other {
-            kind: END,
-            body: b"",
-        },
-    )?;
-    Ok(bytes)
+    put_hob(alloc, &mut bytes, &LAST);
+    bytes
 }

@@ -2,13 +2,12 @@
 use crate::board::{MOST_TEXT, empty_sink};
 use crate::hob_rows::Row::*;
 use crate::hob_rows::{Row, hob_list};
-use boot_io::{MemSink, SinkFault};
+use boot_io::MemSink;
 use gcd_map::{
-    Answer, Command, CommandFault, GcdKind, MOST_BYTES, from_hobs, one_map, put_answers,
+    Answer, Command, CommandFault, GcdKind, GcdRange, MOST_BYTES, from_hobs, one_map, put_answers,
     put_command_refusal, put_hobs_refusal, put_map, read_commands,
 };
 use std::alloc::Global;
-use std::process::Abort;
 use std::test::*;
 
 /// HOBs behind a hand-off and before an end, the text of commands, and what is printed.
@@ -201,74 +200,107 @@ const CASES: [Case; 13] = [
     },
 ];
 
+// Prints what commands are answered, and a map; whether the sink takes it.
+fn put_run(sink: &mut MemSink, steps: &[(Command, Answer)], ranges: &[GcdRange]) -> bool {
+    put_answers(sink, steps).is_ok() && put_map(sink, ranges).is_ok()
+}
+
 // Prints what commands on the map of a HOB list are answered, and the map after them, or why there is none.
-fn print(
-    rt: &impl Abort,
-    alloc: Global,
-    sink: &mut MemSink,
-    hobs: &[u8],
-    text: &[u8],
-) -> Result<(), SinkFault> {
-    assert!(rt; hobs.len() <= MOST_BYTES && text.len() < MOST_TEXT);
-    let mut map = match from_hobs(alloc, hobs) {
-        Ok(map) => map,
-        Err(fault) => return put_hobs_refusal(sink, fault),
-    };
-    let commands = match read_commands(alloc, text) {
-        Ok(commands) => commands,
-        Err(CommandFault::Bad { line }) => return put_command_refusal(sink, line),
-        Err(CommandFault::Memory) => panic!(rt; "ample memory"),
-    };
-    match map.run(alloc, commands.as_slice()) {
-        Ok(steps) => put_answers(sink, steps.as_slice())?,
-        Err(_) => panic!(rt; "ample memory"),
+fn print_run(alloc: Global, sink: &mut MemSink, hobs: &[u8], commands: &[Command]) -> bool {
+    if hobs.len() > MOST_BYTES {
+        return false;
     }
-    put_map(sink, map.map())
+    match from_hobs(alloc, hobs) {
+        Ok(mut map) => match map.run(alloc, commands) {
+            Ok(steps) => put_run(sink, steps.as_slice(), map.map()),
+            Err(_) => false,
+        },
+        Err(fault) => put_hobs_refusal(sink, fault).is_ok(),
+    }
+}
+
+// Prints which line is no command, where the HOB list has a map.
+fn print_refusal(alloc: Global, sink: &mut MemSink, hobs: &[u8], line: u32) -> bool {
+    hobs.len() <= MOST_BYTES
+        && from_hobs(alloc, hobs).is_ok()
+        && put_command_refusal(sink, line).is_ok()
+}
+
+// Prints either for the text of commands.
+fn print(alloc: Global, sink: &mut MemSink, hobs: &[u8], text: &[u8]) -> bool {
+    if text.len() >= MOST_TEXT {
+        return false;
+    }
+    match read_commands(alloc, text) {
+        Ok(commands) => print_run(alloc, sink, hobs, commands.as_slice()),
+        Err(CommandFault::Bad { line }) => print_refusal(alloc, sink, hobs, line),
+        Err(CommandFault::Memory) => false,
+    }
+}
+
+// Whether what is printed of a case is its text.
+fn is_printed(alloc: Global, case: &Case) -> bool {
+    let hobs = hob_list(alloc, case.hobs);
+    match empty_sink(alloc) {
+        Some(mut sink) => {
+            print(alloc, &mut sink, &hobs, case.commands) && sink.text() == case.text
+        }
+        None => false,
+    }
 }
 
 #[test]
-fn answers_and_maps_are_printed(rt: HostRuntime) -> Result<(), Fail> {
-    let alloc = rt.alloc();
+fn answers_and_maps_are_printed(rt: HostRuntime) {
     for case in &CASES {
-        let hobs = hob_list(alloc, case.hobs)?;
-        let mut sink = empty_sink(alloc)?;
-        assert!(rt; print(&rt, alloc, &mut sink, &hobs, case.commands).is_ok());
-        assert!(rt; sink.text() == case.text);
+        assert!(rt; is_printed(rt.alloc(), case));
     }
     one_map();
-    Ok(())
 }
 
-#[test]
-fn each_service_is_called(rt: HostRuntime) -> Result<(), Fail> {
-    let alloc = rt.alloc();
-    let hobs = hob_list(alloc, &[Cpu(12), Resource(0, 0, 0x800)])?;
-    assert!(rt; hobs.len() <= MOST_BYTES);
-    let Ok(mut map) = from_hobs(alloc, &hobs) else {
-        return Err(Fail::new("a map"));
+// Whether each service is done, and the map is right behind them.
+fn are_done(alloc: Global, hobs: &[u8]) -> bool {
+    if hobs.len() > MOST_BYTES {
+        return false;
+    }
+    let Ok(mut map) = from_hobs(alloc, hobs) else {
+        return false;
     };
-    assert!(rt; map.add(GcdKind::Reserved, 0x800, 0x800).is_ok());
-    assert!(rt; map.allocate(GcdKind::System, 0x100, 0x100).is_ok());
-    assert!(rt; map.top(GcdKind::System, 8, 0x80) == Ok(0x700));
-    assert!(rt; map.free(0x140, 0x40).is_ok());
-    assert!(rt; map.remove(0xfff, 1).is_ok());
     let free = Command::Free {
         base: 0x100,
         len: 0x40,
     };
-    assert!(rt; map.perform(free) == Answer::Done);
-    let want = [
-        (0, 0x180, GcdKind::System, false),
-        (0x180, 0x80, GcdKind::System, true),
-        (0x200, 0x500, GcdKind::System, false),
-        (0x700, 0x80, GcdKind::System, true),
-        (0x780, 0x80, GcdKind::System, false),
-        (0x800, 0x7ff, GcdKind::Reserved, false),
-        (0xfff, 1, GcdKind::NonExistent, false),
+    let done = [
+        map.add(GcdKind::Reserved, 0x800, 0x800).is_ok(),
+        map.allocate(GcdKind::System, 0x100, 0x100).is_ok(),
+        map.top(GcdKind::System, 8, 0x80) == Ok(0x700),
+        map.free(0x140, 0x40).is_ok(),
+        map.remove(0xfff, 1).is_ok(),
+        map.perform(free) == Answer::Done,
     ];
-    assert!(rt; map.map().len() == want.len());
-    for (range, want) in map.map().iter().zip(want.iter()) {
-        assert!(rt; (range.base, range.len, range.kind, range.allocated) == *want);
+    done == [true; 6] && are_ranges(map.map())
+}
+
+/// The ranges behind the services.
+const RANGES: [(u64, u64, GcdKind, bool); 7] = [
+    (0, 0x180, GcdKind::System, false),
+    (0x180, 0x80, GcdKind::System, true),
+    (0x200, 0x500, GcdKind::System, false),
+    (0x700, 0x80, GcdKind::System, true),
+    (0x780, 0x80, GcdKind::System, false),
+    (0x800, 0x7ff, GcdKind::Reserved, false),
+    (0xfff, 1, GcdKind::NonExistent, false),
+];
+
+fn are_ranges(ranges: &[GcdRange]) -> bool {
+    let mut is_right = ranges.len() == RANGES.len();
+    for (range, want) in ranges.iter().zip(&RANGES) {
+        is_right = is_right && (range.base, range.len, range.kind, range.allocated) == *want;
     }
-    Ok(())
+    is_right
+}
+
+#[test]
+fn each_service_is_called(rt: HostRuntime) {
+    let hobs = hob_list(rt.alloc(), &[Cpu(12), Resource(0, 0, 0x800)]);
+    assert!(rt; are_done(rt.alloc(), &hobs));
 }

@@ -1,17 +1,22 @@
 // The text of a boot plan: what is read of it, and the first bad line with its cause.
 use crate::board::{MOST_TEXT, joined, repeated};
 use boot_plan::PlanCause::*;
-use boot_plan::{PlanCause, one_reading, read_plan};
-use std::alloc::{AllocError, Global};
+use boot_plan::{Plan, PlanCause, PlanVolume, one_reading, read_plan};
+use std::alloc::Global;
 use std::process::Abort;
 use std::test::*;
 
 // The usual plan.
 const USUAL: &[u8] = b"temp 0x80000000 0x10000\nram 0x40000000 0x4000000\nvolume 0xfff00000 a.fv\n";
 
-// The fault of a text, none where it is a plan.
-fn fault_of(rt: &impl Abort, alloc: Global, text: &[u8]) -> Option<(u32, PlanCause)> {
-    assert!(rt; text.len() < MOST_TEXT);
+/// The first bad line of a text with its cause, none where it is a plan.
+type Fault = Option<(u32, PlanCause)>;
+
+// The fault of a text; where it is too long, one that no test expects.
+fn fault_of(alloc: Global, text: &[u8]) -> Fault {
+    if text.len() >= MOST_TEXT {
+        return Some((0, Memory));
+    }
     match read_plan(alloc, text) {
         Ok(_) => None,
         Err(fault) => Some((fault.line, fault.cause)),
@@ -19,44 +24,62 @@ fn fault_of(rt: &impl Abort, alloc: Global, text: &[u8]) -> Option<(u32, PlanCau
 }
 
 // Each line behind a text gives this answer.
-fn check(
-    rt: &impl Abort,
-    alloc: Global,
-    front: &[u8],
-    rows: &[(&[u8], Option<(u32, PlanCause)>)],
-) -> Result<(), AllocError> {
+fn check(rt: &impl Abort, alloc: Global, front: &[u8], rows: &[(&[u8], Fault)]) {
     for (line, want) in rows {
-        let text = joined(alloc, &[front, line])?;
-        assert!(rt; fault_of(rt, alloc, &text) == *want, "{line:?}");
+        assert!(rt;
+            fault_of(alloc, &joined(alloc, &[front, line])) == *want,
+            "{line:?}"
+        );
     }
-    Ok(())
+}
+
+/// A plan with all that its text may have.
+const WHOLE: &[u8] = b"# a comment\x00\xff\r\n\nram 1073741824 0x4000000\r\nfuel 000007\n#\n\
+    pages 0xC000\ntemp   0x00080000000  0x10000\nvolume 0xfff00000 a.fv\nvolume 0x100000 ~!";
+
+// The numbers of a plan: its temporary RAM and its RAM, each with its length, its fuel and its pages.
+fn numbers(plan: &Plan) -> [u64; 6] {
+    [
+        plan.temp.base,
+        plan.temp.len,
+        plan.ram.base,
+        plan.ram.len,
+        u64::from(plan.fuel),
+        plan.pages,
+    ]
+}
+
+/// The volumes of that plan.
+const VOLUMES: [(u64, &[u8]); 2] = [(0xfff0_0000, b"a.fv"), (0x10_0000, b"~!")];
+
+fn are_volumes(volumes: &[PlanVolume]) -> bool {
+    let mut is_right = volumes.len() == VOLUMES.len();
+    for (volume, want) in volumes.iter().zip(&VOLUMES) {
+        is_right = is_right && volume.base == want.0 && volume.name.as_slice() == want.1;
+    }
+    is_right
+}
+
+fn is_whole(plan: &Plan) -> bool {
+    numbers(plan) == [0x8000_0000, 0x1_0000, 0x4000_0000, 0x400_0000, 7, 0xc000]
+        && are_volumes(plan.volumes.as_slice())
 }
 
 #[test]
-fn a_plan_is_read(rt: HostRuntime) -> Result<(), Fail> {
-    let text = b"# a comment\x00\xff\r\n\nram 1073741824 0x4000000\r\nfuel 000007\n#\n\
-        pages 0xC000\ntemp   0x00080000000  0x10000\nvolume 0xfff00000 a.fv\nvolume 0x100000 ~!";
-    let plan = read_plan(rt.alloc(), text.as_slice()).ok().ok_or("a plan")?;
-    assert!(rt; (plan.temp.base, plan.temp.len) == (0x8000_0000, 0x1_0000));
-    assert!(rt; (plan.ram.base, plan.ram.len) == (0x4000_0000, 0x400_0000));
-    assert!(rt; (plan.fuel, plan.pages) == (7, 0xc000));
-    assert!(rt; plan.volumes.len() == 2);
-    let wants = [
-        (0xfff0_0000, b"a.fv".as_slice()),
-        (0x10_0000, b"~!".as_slice()),
-    ];
-    for (volume, want) in plan.volumes.as_slice().iter().zip(wants.iter()) {
-        assert!(rt; volume.base == want.0);
-        assert!(rt; volume.name.as_slice() == want.1);
+fn a_plan_is_read(rt: HostRuntime) {
+    match read_plan(rt.alloc(), WHOLE) {
+        Ok(plan) => assert!(rt; is_whole(&plan)),
+        Err(_) => panic!(rt; "a plan"),
     }
-    let usual = read_plan(rt.alloc(), USUAL).ok().ok_or("a plan")?;
-    assert!(rt; (usual.fuel, usual.pages) == (100_000, 0));
+    match read_plan(rt.alloc(), USUAL) {
+        Ok(plan) => assert!(rt; (plan.fuel, plan.pages) == (100_000, 0)),
+        Err(_) => panic!(rt; "a plan"),
+    }
     one_reading();
-    Ok(())
 }
 
 /// Texts, and the first bad line with its cause; none where they are plans.
-const PLANS: [(&[u8], Option<(u32, PlanCause)>); 20] = [
+const PLANS: [(&[u8], Fault); 20] = [
     (USUAL, None),
     (
         b"temp 0x80000000 0x10000\nram 0x80008000 0x100000\nvolume 0xfff00000 a.fv",
@@ -122,13 +145,12 @@ const PLANS: [(&[u8], Option<(u32, PlanCause)>); 20] = [
 ];
 
 #[test]
-fn a_plan_is_refused_at_its_first_bad_line(rt: HostRuntime) -> Result<(), Fail> {
-    check(&rt, rt.alloc(), b"", &PLANS)?;
-    Ok(())
+fn a_plan_is_refused_at_its_first_bad_line(rt: HostRuntime) {
+    check(&rt, rt.alloc(), b"", &PLANS);
 }
 
 /// The same of lines behind the usual plan.
-const LINES: [(&[u8], Option<(u32, PlanCause)>); 44] = [
+const LINES: [(&[u8], Fault); 44] = [
     (b"fuel 1", None),
     (b"fuel 1000000", None),
     (b"fuel 0xF4240", None),
@@ -176,13 +198,12 @@ const LINES: [(&[u8], Option<(u32, PlanCause)>); 44] = [
 ];
 
 #[test]
-fn lines_behind_a_plan_are_read(rt: HostRuntime) -> Result<(), Fail> {
-    check(&rt, rt.alloc(), USUAL, &LINES)?;
-    Ok(())
+fn lines_behind_a_plan_are_read(rt: HostRuntime) {
+    check(&rt, rt.alloc(), USUAL, &LINES);
 }
 
 /// Single lines of memory.
-const MEMORY: [(&[u8], Option<(u32, PlanCause)>); 14] = [
+const MEMORY: [(&[u8], Fault); 14] = [
     (b"temp 0x80000000 0x3000", Some((1, Limit))),
     (b"temp 0x80000000 0x101000", Some((1, Limit))),
     (b"temp 0x80000001 0x4000", Some((1, Limit))),
@@ -200,28 +221,26 @@ const MEMORY: [(&[u8], Option<(u32, PlanCause)>); 14] = [
 ];
 
 #[test]
-fn memory_keeps_within_its_limits(rt: HostRuntime) -> Result<(), Fail> {
-    check(&rt, rt.alloc(), b"", &MEMORY)?;
-    Ok(())
+fn memory_keeps_within_its_limits(rt: HostRuntime) {
+    check(&rt, rt.alloc(), b"", &MEMORY);
 }
 
+/// Lines behind a plan of sixteen volumes.
+const BEHIND_SIXTEEN: [(&[u8], Fault); 4] = [
+    (b"", None),
+    (b"volume 0x100000 a", Some((19, Limit))),
+    (b"volume x a", Some((19, Number))),
+    (b"volume x a b", Some((19, Word))),
+];
+
+/// What stands behind a name of 255 letters.
+const BEHIND_A_NAME: [(&[u8], Fault); 3] = [(b"", None), (b"\n", None), (b"n", Some((4, Word)))];
+
 #[test]
-fn sixteen_volumes_and_long_names_are_read(rt: HostRuntime) -> Result<(), Fail> {
+fn sixteen_volumes_and_long_names_are_read(rt: HostRuntime) {
     let alloc = rt.alloc();
-    let sixteen = repeated(alloc, USUAL, b"volume 0x100000 a\n", 15, b"")?;
-    let rows: [(&[u8], Option<(u32, PlanCause)>); 4] = [
-        (b"", None),
-        (b"volume 0x100000 a", Some((19, Limit))),
-        (b"volume x a", Some((19, Number))),
-        (b"volume x a b", Some((19, Word))),
-    ];
-    check(&rt, alloc, &sixteen, &rows)?;
-    let named = repeated(alloc, USUAL, b"volume 0x100000 ", 1, &[b'n'; 255])?;
-    let rows: [(&[u8], Option<(u32, PlanCause)>); 3] = [
-        (b"", None),
-        (b"\n", None),
-        (b"n", Some((4, Word))),
-    ];
-    check(&rt, alloc, &named, &rows)?;
-    Ok(())
+    let sixteen = repeated(alloc, USUAL, b"volume 0x100000 a\n", 15, b"");
+    check(&rt, alloc, &sixteen, &BEHIND_SIXTEEN);
+    let named = repeated(alloc, USUAL, b"volume 0x100000 ", 1, &[b'n'; 255]);
+    check(&rt, alloc, &named, &BEHIND_A_NAME);
 }

@@ -1,7 +1,11 @@
 // Files of the MP services' machine: what is printed of their runs, which processors have a job left, and the first bad line.
 use crate::board::{MOST_TEXT, empty_sink};
-use mp_core::{events_fit, run};
-use mp_text::{MpFault, each_call_is_answered, one_reading, put_bad_line, put_outcome, read_mp};
+use boot_io::MemSink;
+use mp_core::{MpOutcome, events_fit, run};
+use mp_text::{
+    MpFault, MpFile, each_call_is_answered, one_reading, put_bad_line, put_outcome, read_mp,
+};
+use std::alloc::Global;
 use std::test::*;
 
 /// A file, what is printed of its run, and which processors have a job left.
@@ -81,38 +85,72 @@ const REFUSED: [(&[u8], &[u8]); 18] = [
     (b"mp 2 1\nwho 0 \n", b"refused command 2\n"),
 ];
 
-#[test]
-fn a_run_prints_what_was_reckoned(rt: HostRuntime) -> Result<(), Fail> {
-    for case in &CASES {
-        let mut sink = empty_sink(rt.alloc())?;
-        assert!(rt; case.file.len() < MOST_TEXT);
-        let Ok(file) = read_mp(rt.alloc(), case.file) else {
-            return Err(Fail::new("a file"));
-        };
-        let events = file.events.as_slice();
-        assert!(rt; events_fit(events, file.processors, file.cells));
-        let Ok(outcome) = run(rt.alloc(), file.processors, file.cells, events) else {
-            return Err(Fail::new("ample memory"));
-        };
-        assert!(rt; put_outcome(&mut sink, &file, &outcome).is_ok());
-        assert!(rt; sink.text() == case.printed);
-        assert!(rt; outcome.busy.as_slice() == case.busy);
+// What is read of a file, and the outcome of its run.
+fn outcome_of(alloc: Global, text: &[u8]) -> Option<(MpFile, MpOutcome)> {
+    if text.len() >= MOST_TEXT {
+        return None;
     }
-    each_call_is_answered();
-    Ok(())
+    let Ok(file) = read_mp(alloc, text) else {
+        return None;
+    };
+    match run(alloc, file.processors, file.cells, file.events.as_slice()) {
+        Ok(outcome) => Some((file, outcome)),
+        Err(_) => None,
+    }
+}
+
+// Whether a file's events fit, and this is printed of its run.
+fn is_told(sink: &mut MemSink, file: &MpFile, outcome: &MpOutcome, printed: &[u8]) -> bool {
+    events_fit(file.events.as_slice(), file.processors, file.cells)
+        && put_outcome(sink, file, outcome).is_ok()
+        && sink.text() == printed
+}
+
+// Whether what is printed of a case's file, and its processors with a job, are right.
+fn is_right(alloc: Global, sink: &mut MemSink, case: &Case) -> bool {
+    match outcome_of(alloc, case.file) {
+        Some((file, outcome)) => {
+            is_told(sink, &file, &outcome, case.printed) && outcome.busy.as_slice() == case.busy
+        }
+        None => false,
+    }
 }
 
 #[test]
-fn what_is_no_file_is_refused_at_its_first_bad_line(rt: HostRuntime) -> Result<(), Fail> {
-    for (text, want) in &REFUSED {
-        let mut sink = empty_sink(rt.alloc())?;
-        assert!(rt; text.len() < MOST_TEXT);
-        match read_mp(rt.alloc(), text) {
-            Err(MpFault::Bad { line }) => assert!(rt; put_bad_line(&mut sink, line).is_ok()),
-            _ => panic!(rt; "a bad line"),
+fn a_run_prints_what_was_reckoned(rt: HostRuntime) {
+    for case in &CASES {
+        match empty_sink(rt.alloc()) {
+            Some(mut sink) => assert!(rt; is_right(rt.alloc(), &mut sink, case)),
+            None => panic!(rt; "ample memory"),
         }
-        assert!(rt; sink.text() == *want);
+    }
+    each_call_is_answered();
+}
+
+// The first bad line of a text, 0 where there is none.
+fn bad_line(alloc: Global, text: &[u8]) -> u32 {
+    if text.len() >= MOST_TEXT {
+        return 0;
+    }
+    match read_mp(alloc, text) {
+        Err(MpFault::Bad { line }) => line,
+        _ => 0,
+    }
+}
+
+// Whether this is printed of a bad line.
+fn is_named(sink: &mut MemSink, line: u32, want: &[u8]) -> bool {
+    put_bad_line(sink, line).is_ok() && sink.text() == want
+}
+
+#[test]
+fn what_is_no_file_is_refused_at_its_first_bad_line(rt: HostRuntime) {
+    for (text, want) in &REFUSED {
+        let line = bad_line(rt.alloc(), text);
+        match empty_sink(rt.alloc()) {
+            Some(mut sink) => assert!(rt; is_named(&mut sink, line, want)),
+            None => panic!(rt; "ample memory"),
+        }
     }
     one_reading();
-    Ok(())
 }

@@ -1,6 +1,6 @@
 // The bytes of scripts, made by hand: every action of each phase with its bytes, each prefix of the smallest
 // script, and faults beside their neighbours that pass.
-use crate::board::SMALLEST_SCRIPT;
+use crate::board::{SMALLEST_SCRIPT, are};
 use act_code::{ActCause, ActFault, Script, read_script, write_script};
 use pi_base::Seq;
 use std::alloc::Global;
@@ -232,10 +232,7 @@ fn rewritten(alloc: Global, bytes: &[u8]) -> Option<Seq<u8>> {
 }
 
 #[test]
-fn each_action_is_written_and_read(rt: HostRuntime) -> Result<(), Fail> {
-    let pei = rewritten(rt.alloc(), &PEI_SCRIPT).ok_or("it is a script of PEI")?;
-    assert!(rt; pei.as_slice() == PEI_SCRIPT.as_slice());
-    let dxe = rewritten(rt.alloc(), &DXE_SCRIPT).ok_or("it is a script of DXE")?;
-    assert!(rt; dxe.as_slice() == DXE_SCRIPT.as_slice());
-    Ok(())
+fn each_action_is_written_and_read(rt: HostRuntime) {
+    assert!(rt; are(rewritten(rt.alloc(), &PEI_SCRIPT), &PEI_SCRIPT));
+    assert!(rt; are(rewritten(rt.alloc(), &DXE_SCRIPT), &DXE_SCRIPT));
 }

@@ -1,5 +1,5 @@
 // Scripts as a person writes them: each action both ways between its text and its bytes, each refusal once, and the limits.
-use crate::board::{SMALLEST_SCRIPT, joined, repeated};
+use crate::board::{SMALLEST_SCRIPT, are, joined, repeated};
 use act_code::{read_script, write_script};
 use asm_text::{TextFault, parse_script, print_script};
 use pi_base::{Phase, Seq};
@@ -106,11 +106,18 @@ const ACTIONS: [(Phase, &[u8], &[u8]); 29] = [
 ];
 
 // The bytes of the script whose text this is.
-fn assembled(alloc: Global, text: &[u8]) -> Result<Seq<u8>, TextFault> {
-    let script = parse_script(alloc, text)?;
-    match write_script(alloc, &script) {
-        Ok(bytes) => Ok(bytes),
-        Err(_) => Err(TextFault::Memory),
+fn assembled(alloc: Global, text: &[u8]) -> Option<Seq<u8>> {
+    match parse_script(alloc, text) {
+        Ok(script) => write_script(alloc, &script).ok(),
+        Err(_) => None,
+    }
+}
+
+// The text of the script whose bytes these are.
+fn disassembled(alloc: Global, bytes: &[u8]) -> Option<Seq<u8>> {
+    match read_script(alloc, bytes) {
+        Ok(script) => print_script(alloc, &script).ok(),
+        Err(_) => None,
     }
 }
 
@@ -128,36 +135,36 @@ const DXE_BYTES: &[u8] = &[0x50, 0x49, 0x41, 0x53, 1, 2, 2, 0, 3, 0];
 
 const BYTES_BEHIND: &[u8] = &[19, 0, 19, 0, 1, 0, 19, 0];
 
+// Whether a text and bytes go both ways.
+fn go_both_ways(alloc: Global, text: &[u8], bytes: &[u8]) -> bool {
+    are(assembled(alloc, text), bytes) && are(disassembled(alloc, bytes), text)
+}
+
+// The same of an action in a script.
+fn goes_both_ways(alloc: Global, phase: Phase, line: &[u8], action: &[u8]) -> bool {
+    let (text_front, bytes_front) = match phase {
+        Phase::Pei => (PEI_TEXT, PEI_BYTES),
+        Phase::Dxe => (DXE_TEXT, DXE_BYTES),
+    };
+    let text = joined(alloc, &[text_front, line, TEXT_BEHIND]);
+    let bytes = joined(alloc, &[bytes_front, action, BYTES_BEHIND]);
+    go_both_ways(alloc, &text, &bytes)
+}
+
 #[test]
-fn actions_go_both_ways(rt: HostRuntime) -> Result<(), Fail> {
+fn actions_go_both_ways(rt: HostRuntime) {
     for (phase, line, action) in &ACTIONS {
-        let (text_front, bytes_front) = match phase {
-            Phase::Pei => (PEI_TEXT, PEI_BYTES),
-            Phase::Dxe => (DXE_TEXT, DXE_BYTES),
-        };
-        let text = joined(rt.alloc(), &[text_front, line, TEXT_BEHIND])?;
-        let bytes = joined(rt.alloc(), &[bytes_front, action, BYTES_BEHIND])?;
-        let Ok(written) = assembled(rt.alloc(), &text) else {
-            panic!(rt; "not read");
-        };
-        assert!(rt; written.as_slice() == bytes.as_slice());
-        let Ok(read) = read_script(rt.alloc(), &bytes) else {
-            panic!(rt; "not read from bytes");
-        };
-        let Ok(printed) = print_script(rt.alloc(), &read) else {
-            panic!(rt; "not printed");
-        };
-        assert!(rt; printed.as_slice() == text.as_slice());
+        assert!(rt;
+            goes_both_ways(rt.alloc(), *phase, line, action),
+            "{line:?}"
+        );
     }
-    Ok(())
 }
 
 #[test]
 fn the_smallest_script_is_read(rt: HostRuntime) {
-    let Ok(bytes) = assembled(rt.alloc(), b"phase pei\nblock\nlog a\nret Success\n") else {
-        panic!(rt; "not read");
-    };
-    assert!(rt; bytes.as_slice() == SMALLEST_SCRIPT.as_slice());
+    let bytes = assembled(rt.alloc(), b"phase pei\nblock\nlog a\nret Success\n");
+    assert!(rt; are(bytes, &SMALLEST_SCRIPT));
 }
 
 /// Texts of no script, and the line with which they go wrong.
@@ -191,13 +198,19 @@ const NO_SCRIPTS: [(&[u8], u32); 20] = [
     ),
 ];
 
+// The line with which a text goes wrong, 0 where it is a script's, and none where it is refused otherwise.
+fn bad_line(alloc: Global, text: &[u8]) -> Option<u32> {
+    match parse_script(alloc, text) {
+        Ok(_) => Some(0),
+        Err(TextFault::Bad { line }) => Some(line),
+        Err(_) => None,
+    }
+}
+
 #[test]
 fn what_is_no_script_is_bad_at_its_line(rt: HostRuntime) {
     for (text, line) in &NO_SCRIPTS {
-        match parse_script(rt.alloc(), text) {
-            Ok(_) => panic!(rt; "read"),
-            Err(fault) => assert!(rt; fault == TextFault::Bad { line: *line }),
-        }
+        assert!(rt; bad_line(rt.alloc(), text) == Some(*line));
     }
 }
 
@@ -244,15 +257,11 @@ const LIMITS: [(&[u8], &[u8], usize, &[u8], u32); 8] = [
 ];
 
 #[test]
-fn scripts_keep_within_their_limits(rt: HostRuntime) -> Result<(), Fail> {
+fn scripts_keep_within_their_limits(rt: HostRuntime) {
     for (front, line, count, behind, bad) in &LIMITS {
-        let text = repeated(rt.alloc(), front, line, *count, behind)?;
-        match parse_script(rt.alloc(), &text) {
-            Ok(_) => assert!(rt; *bad == 0),
-            Err(fault) => assert!(rt; fault == TextFault::Bad { line: *bad }),
-        }
+        let text = repeated(rt.alloc(), front, line, *count, behind);
+        assert!(rt; bad_line(rt.alloc(), &text) == Some(*bad));
     }
-    Ok(())
 }
 
 /// A line of 992 that are alike, whose text of 64 characters takes 66 bytes.
@@ -264,17 +273,20 @@ const LAST: &[u8] = b"log 0123456789abcdef0123456789abcdef0123456789abcdef01\nre
 const LAST_LONGER: &[u8] =
     b"log 0123456789abcdef0123456789abcdef0123456789abcdef012\nret Success\n";
 
-#[test]
-fn the_longest_script_is_read(rt: HostRuntime) -> Result<(), Fail> {
-    let longest = repeated(rt.alloc(), PEI_TEXT, LONG, 992, LAST)?;
-    let Ok(bytes) = assembled(rt.alloc(), &longest) else {
-        panic!(rt; "not read");
-    };
-    assert!(rt; bytes.len() == 65536);
-    let longer = repeated(rt.alloc(), PEI_TEXT, LONG, 992, LAST_LONGER)?;
-    match parse_script(rt.alloc(), &longer) {
-        Ok(_) => panic!(rt; "read"),
-        Err(fault) => assert!(rt; fault == TextFault::TooLong),
+// How many bytes the script of a text has, 0 where there is none.
+fn length_of(alloc: Global, text: &[u8]) -> usize {
+    match assembled(alloc, text) {
+        Some(bytes) => bytes.len(),
+        None => 0,
     }
-    Ok(())
+}
+
+#[test]
+fn the_longest_script_is_read(rt: HostRuntime) {
+    let alloc = rt.alloc();
+    assert!(rt; length_of(alloc, &repeated(alloc, PEI_TEXT, LONG, 992, LAST)) == 65536);
+    assert!(rt;
+        parse_script(alloc, &repeated(alloc, PEI_TEXT, LONG, 992, LAST_LONGER)).err()
+            == Some(TextFault::TooLong)
+    );
 }

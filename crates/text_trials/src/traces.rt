@@ -1,7 +1,8 @@
 // The texts of traces: each form, the fields that are read, and the first line of no form.
 use crate::board::MOST_TEXT;
 use boot_model::{CallName, Extra, Licence, Line, Reason, RunEnd};
-use pi_base::Word;
+use pi_base::{Seq, Word};
+use std::alloc::Global;
 use std::test::*;
 use store_model::CORE;
 use trace_reader::{TraceFault, read_trace};
@@ -46,19 +47,31 @@ const FORMS: [&[u8]; 36] = [
     b"refused image 0 50 HeaderSum\n",
 ];
 
+// The lines of a text; where it is too long, a fault that no test expects.
+fn read(alloc: Global, text: &[u8]) -> Result<Seq<Line>, TraceFault> {
+    if text.len() >= MOST_TEXT {
+        return Err(TraceFault::Memory);
+    }
+    read_trace(alloc, text)
+}
+
+// How many lines a text has, none where it is no trace.
+fn count_of(alloc: Global, text: &[u8]) -> Option<usize> {
+    match read(alloc, text) {
+        Ok(lines) => Some(lines.len()),
+        Err(_) => None,
+    }
+}
+
 #[test]
 fn each_form_is_read(rt: HostRuntime) {
     for text in &FORMS {
-        assert!(rt; text.len() < MOST_TEXT);
-        match read_trace(rt.alloc(), text) {
-            Ok(lines) => assert!(rt; lines.len() == 1, "{text:?}"),
-            Err(_) => panic!(rt; "not read: {text:?}"),
-        }
+        assert!(rt; count_of(rt.alloc(), text) == Some(1), "{text:?}");
     }
 }
 
 /// Fields of a line.
-#[derive(Clone, Copy, Debug, PartialEq, Eq)]
+#[derive(Clone, Copy, PartialEq)]
 enum Fields<'a> {
     Start(u32, Licence),
     Number(CallName, Word, u64),
@@ -117,17 +130,26 @@ const LINES: [(&[u8], Fields<'static>); 7] = [
     (b"result Deep\n", Fields::Result(RunEnd::Deep)),
 ];
 
+// Whether there is one line with these fields.
+fn is_one(lines: &[Line], want: &Fields<'_>) -> bool {
+    match lines {
+        [line] => told(line) == *want,
+        _ => false,
+    }
+}
+
+// The same of a text.
+fn has_fields(alloc: Global, text: &[u8], want: &Fields<'_>) -> bool {
+    match read(alloc, text) {
+        Ok(lines) => is_one(lines.as_slice(), want),
+        Err(_) => false,
+    }
+}
+
 #[test]
 fn a_line_has_the_fields_of_its_text(rt: HostRuntime) {
     for (text, want) in &LINES {
-        assert!(rt; text.len() < MOST_TEXT);
-        let Ok(lines) = read_trace(rt.alloc(), text) else {
-            panic!(rt; "not read: {text:?}");
-        };
-        match lines.as_slice() {
-            [line] => assert!(rt; told(line) == *want),
-            _ => panic!(rt; "one line"),
-        }
+        assert!(rt; has_fields(rt.alloc(), text, want), "{text:?}");
     }
 }
 
@@ -167,18 +189,12 @@ const NO_TRACES: [(&[u8], u32); 21] = [
 #[test]
 fn the_first_line_of_no_form_is_told(rt: HostRuntime) {
     for (text, line) in &NO_TRACES {
-        assert!(rt; text.len() < MOST_TEXT);
-        match read_trace(rt.alloc(), text) {
-            Ok(_) => panic!(rt; "read: {text:?}"),
-            Err(fault) => assert!(rt; fault == TraceFault::Bad { line: *line }, "{text:?}"),
-        }
+        let fault = read(rt.alloc(), text).err();
+        assert!(rt; fault == Some(TraceFault::Bad { line: *line }), "{text:?}");
     }
 }
 
 #[test]
 fn no_bytes_are_no_lines(rt: HostRuntime) {
-    match read_trace(rt.alloc(), b"") {
-        Ok(lines) => assert!(rt; lines.is_empty()),
-        Err(_) => panic!(rt; "ample memory"),
-    }
+    assert!(rt; count_of(rt.alloc(), b"") == Some(0));
 }

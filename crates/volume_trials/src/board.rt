@@ -1,6 +1,7 @@
 // One volume byte by byte, and what the tests put others together from.
+use catalog_model::{DXE_APRIORI, PEI_APRIORI};
 use pi_base::{Guid, put_u16, put_u64, sum8, sum16};
-use std::alloc::{AllocError, Global};
+use std::alloc::Global;
 
 /// The one-PEIM volume of 4,096 bytes before its erased bytes.
 pub(crate) const ONE_PEIM: [u8; 115] = [
@@ -47,26 +48,51 @@ pub(crate) fn front(bytes: &[u8], len: usize) -> &[u8] {
     }
 }
 
+/// What stands in a `File` for the name of the list of PEI.
+pub(crate) const PEI_LIST: u8 = 0xf0;
+
+/// The same for DXE.
+pub(crate) const DXE_LIST: u8 = 0xf1;
+
+/// The bytes of the GUIDs with these last bytes.
+pub(crate) const A_BYTES: [u8; 16] = [0, 0, 0, 0, 0, 0, 0, 0, 0, 0, 0, 0, 0, 0, 0, 0x0a];
+
+pub(crate) const B_BYTES: [u8; 16] = [0, 0, 0, 0, 0, 0, 0, 0, 0, 0, 0, 0, 0, 0, 0, 0x0b];
+
+pub(crate) const C_BYTES: [u8; 16] = [0, 0, 0, 0, 0, 0, 0, 0, 0, 0, 0, 0, 0, 0, 0, 0x0c];
+
+/// A file to be put in a volume: its type, the last byte of its name or what stands for a list, and the types and bodies of its sections.
+pub(crate) type File<'a> = (u8, u8, &'a [(u8, &'a [u8])]);
+
+fn name_of(name: u8) -> Guid {
+    if name == PEI_LIST {
+        PEI_APRIORI
+    } else if name == DXE_LIST {
+        DXE_APRIORI
+    } else {
+        guid(name)
+    }
+}
+
+/// Adds bytes. Where memory runs out they are missing, and the test fails for it.
+pub(crate) fn add(to: &mut Vec<u8>, bytes: &[u8]) {
+    let _ = to.extend_from_slice(bytes);
+}
+
 /// Adds a section with its header, up to a multiple of four.
-pub(crate) fn add_section(to: &mut Vec<u8>, kind: u8, body: &[u8]) -> Result<(), AllocError> {
+pub(crate) fn add_section(to: &mut Vec<u8>, kind: u8, body: &[u8]) {
     let size = (body.len() + 4) as u64;
     let [low, middle, high, ..] = size.to_le_bytes();
-    to.extend_from_slice(&[low, middle, high, kind])?;
-    to.extend_from_slice(body)?;
+    add(to, &[low, middle, high, kind]);
+    add(to, body);
     let over = body.len() % 4;
     if over != 0 {
-        to.extend_from_slice(&[0; 4][over..])?;
+        add(to, &[0; 4][over..]);
     }
-    Ok(())
 }
 
 /// Adds a file with its header, up to a multiple of eight.
-pub(crate) fn add_file(
-    to: &mut Vec<u8>,
-    kind: u8,
-    name: Guid,
-    body: &[u8],
-) -> Result<(), AllocError> {
+pub(crate) fn add_file(to: &mut Vec<u8>, kind: u8, name: Guid, body: &[u8]) {
     let size = (body.len() + 24) as u64;
     let [low, middle, high, ..] = size.to_le_bytes();
     let mut header = [0; 24];
@@ -78,51 +104,60 @@ pub(crate) fn add_file(
     header[16] = 0u8.wrapping_sub(sum8(&header));
     header[17] = 0xaa;
     header[23] = 0xf8;
-    to.extend_from_slice(&header)?;
-    to.extend_from_slice(body)?;
+    add(to, &header);
+    add(to, body);
     let over = body.len() % 8;
     if over != 0 {
-        to.extend_from_slice(&[0xff; 8][over..])?;
+        add(to, &[0xff; 8][over..]);
     }
-    Ok(())
 }
 
 /// A volume of these files.
-pub(crate) fn volume(alloc: Global, files: &[u8]) -> Result<Vec<u8>, AllocError> {
+pub(crate) fn volume(alloc: Global, files: &[u8]) -> Vec<u8> {
     let mut header = HEADER;
     put_u64(&mut header, 32, (files.len() + 72) as u64);
     let sum = sum16(&header);
     put_u16(&mut header, 50, 0u16.wrapping_sub(sum));
-    let mut bytes = Vec::from_slice(alloc, &header)?;
-    bytes.extend_from_slice(files)?;
-    Ok(bytes)
+    let mut bytes = Vec::new(alloc);
+    add(&mut bytes, &header);
+    add(&mut bytes, files);
+    bytes
 }
 
-/// So many files without a body.
-pub(crate) fn empty_files(
+/// So many files with the same body.
+pub(crate) fn equal_files(
     alloc: Global,
     count: usize,
     kind: u8,
     name: Guid,
-) -> Result<Vec<u8>, AllocError> {
+    body: &[u8],
+) -> Vec<u8> {
     let mut files = Vec::new(alloc);
     for _ in 0..count {
-        add_file(&mut files, kind, name, &[])?;
+        add_file(&mut files, kind, name, body);
     }
-    Ok(files)
+    files
 }
 
-/// A volume of one file with these sections.
-pub(crate) fn volume_of(
-    alloc: Global,
-    file: u8,
-    list: &[(u8, &[u8])],
-) -> Result<Vec<u8>, AllocError> {
+/// These sections, one behind the other.
+pub(crate) fn sections_of(alloc: Global, list: &[(u8, &[u8])]) -> Vec<u8> {
     let mut sections = Vec::new(alloc);
     for (kind, body) in list {
-        add_section(&mut sections, *kind, body)?;
+        add_section(&mut sections, *kind, body);
     }
+    sections
+}
+
+/// A volume of the files of a list.
+pub(crate) fn volume_of(alloc: Global, list: &[File<'_>]) -> Vec<u8> {
     let mut files = Vec::new(alloc);
-    add_file(&mut files, file, guid(0x0a), &sections)?;
+    for (kind, name, sections) in list {
+        add_file(
+            &mut files,
+            *kind,
+            name_of(*name),
+            &sections_of(alloc, sections),
+        );
+    }
     volume(alloc, &files)
 }

@@ -1,9 +1,10 @@
 // The catalogue of a plan's images, or their fault.
+use crate::board::{File, volume_of};
 use boot_plan::read_plan;
 use catalog_model::{Catalog, ImageCause, ImageFault};
 use mod_catalog::catalog;
 use pi_base::Seq;
-use std::alloc::{AllocError, Global};
+use std::alloc::Global;
 use std::process::Abort;
 use std::test::*;
 
@@ -14,42 +15,62 @@ pub(crate) const OTHER_VERSION: [u8; 12] = [0x50, 0x49, 0x41, 0x53, 2, 1, 1, 0, 
 pub(crate) const ONE: &[u8] =
     b"temp 0x80000000 0x10000\nram 0x40000000 0x4000000\nvolume 0x100000 a\n";
 
+/// What stands for the fault where there is no plan for the images; no test expects it.
+const NO_PLAN: ImageFault = ImageFault {
+    volume: 0,
+    at: 0,
+    cause: ImageCause::Memory,
+};
+
 /// The catalogue of a plan's text and its images, or their fault.
 pub(crate) fn catalog_of(
-    rt: &impl Abort,
     alloc: Global,
     text: &[u8],
     images: &[Seq<u8>],
 ) -> Result<Catalog, ImageFault> {
-    assert!(rt; text.len() < 10_000);
+    if text.len() >= 10_000 {
+        return Err(NO_PLAN);
+    }
     let Ok(plan) = read_plan(alloc, text) else {
-        assert!(rt; false, "a plan");
-        return Err(ImageFault {
-            volume: 0,
-            at: 0,
-            cause: ImageCause::Memory,
-        });
+        return Err(NO_PLAN);
     };
-    assert!(rt; images.len() == plan.volumes.len());
+    if images.len() != plan.volumes.len() {
+        return Err(NO_PLAN);
+    }
     catalog(alloc, &plan, images)
 }
 
-/// The fault of one image, none where it has a catalogue.
-pub(crate) fn fault_of(
-    rt: &impl Abort,
+/// The catalogue of one image, or its fault.
+pub(crate) fn catalog_of_one(
     alloc: Global,
     text: &[u8],
     image: Vec<u8>,
-) -> Result<Option<ImageFault>, AllocError> {
-    let mut images = Vec::new(alloc);
-    images.push(Seq::from_vec(image))?;
-    match catalog_of(rt, alloc, text, &images) {
-        Ok(_) => Ok(None),
-        Err(fault) => Ok(Some(fault)),
+) -> Result<Catalog, ImageFault> {
+    catalog_of(alloc, text, &[Seq::from_vec(image)])
+}
+
+/// The number of a volume, an offset in it, and what is wrong there; none where there is no fault.
+pub(crate) type Fault = Option<(u32, u64, ImageCause)>;
+
+/// The fault of what should be a catalogue.
+pub(crate) fn told(found: Result<Catalog, ImageFault>) -> Fault {
+    match found {
+        Ok(_) => None,
+        Err(fault) => Some((fault.volume, fault.at, fault.cause)),
     }
 }
 
-/// A fault at an offset in a volume.
-pub(crate) const fn fault(volume: u32, at: u64, cause: ImageCause) -> Option<ImageFault> {
-    Some(ImageFault { volume, at, cause })
+/// The fault of one image, none where it has a catalogue.
+pub(crate) fn fault_of(alloc: Global, text: &[u8], image: Vec<u8>) -> Fault {
+    told(catalog_of_one(alloc, text, image))
+}
+
+/// The files of a volume, and its fault.
+pub(crate) type Row = (&'static [File<'static>], Fault);
+
+/// Each volume has its fault, or none.
+pub(crate) fn have_faults(rt: &impl Abort, alloc: Global, rows: &[Row]) {
+    for (files, want) in rows {
+        assert!(rt; fault_of(alloc, ONE, volume_of(alloc, files)) == *want);
+    }
 }

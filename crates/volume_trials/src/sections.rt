@@ -1,5 +1,5 @@
 // Streams of sections that are read, and the first fault of others.
-use crate::board::{ONE_PEIM, front};
+use crate::board::front;
 use fv_section::section_type::{PE32, RAW};
 use fv_section::{SecCause, SecFault, Section, one_reading, read_sections};
 use std::alloc::Global;
@@ -17,18 +17,19 @@ const TWO: [u8; 15] = [
     5, 0, 0, 0x10, 0xaa, 1, 2, 3, 4, 0, 0, 0x19, 0xff, 0xff, 0xff,
 ];
 
-const fn section(kind: u8, body_at: u64, body_len: u64) -> Section {
-    Section {
-        kind,
-        body_at,
-        body_len,
+// Whether these are the sections.
+fn are(found: &[Section], rows: &[Row]) -> bool {
+    let mut is_right = found.len() == rows.len();
+    for (section, row) in found.iter().zip(rows) {
+        is_right = is_right && (section.kind, section.body_at, section.body_len) == *row;
     }
+    is_right
 }
 
 // Whether the bytes are read as these sections.
-fn reads(alloc: Global, bytes: &[u8], sections: &[Section]) -> bool {
+fn reads(alloc: Global, bytes: &[u8], sections: &[Row]) -> bool {
     match read_sections(alloc, bytes) {
-        Ok(found) => found.as_slice() == sections,
+        Ok(found) => are(found.as_slice(), sections),
         Err(_) => false,
     }
 }
@@ -41,23 +42,34 @@ fn fails(alloc: Global, bytes: &[u8], at: u64, cause: SecCause) -> bool {
     }
 }
 
+/// The section of the one-PEIM volume alone.
+const ONE_SECTION: [u8; 19] = [
+    0x13, 0x00, 0x00, 0x19, 0x50, 0x49, 0x41, 0x53, 0x01, 0x01, 0x01, 0x00, 0x02, 0x00, 0x11, 0x01,
+    0x61, 0x13, 0x00,
+];
+
+/// The first of the two sections.
+const FIRST: [u8; 5] = [5, 0, 0, 0x10, 0xaa];
+
+/// The type of a section, where its body stands and how long it is.
+type Row = (u8, u64, u64);
+
+/// Streams, and their sections.
+const STREAMS: [(&[u8], &[Row]); 6] = [
+    // No bytes; a whole section; an extended one, and one of the least size.
+    (&[], &[]),
+    (&ONE_SECTION, &[(RAW, 4, 15)]),
+    (&EXTENDED_RAW, &[(RAW, 8, 15)]),
+    (&[0xff, 0xff, 0xff, 0x10, 8, 0, 0, 0], &[(PE32, 8, 0)]),
+    // The second section begins at the next multiple of four; three bytes may be left at the end.
+    (&TWO, &[(PE32, 4, 1), (RAW, 12, 0)]),
+    // The rounded place may lie behind the end.
+    (&FIRST, &[(PE32, 4, 1)]),
+];
+
 #[test]
 fn sound_streams_are_read(rt: HostRuntime) {
-    let rows: [(&[u8], &[Section]); 6] = [
-        // No bytes; a whole section; an extended one, and one of the least size.
-        (&[], &[]),
-        (&ONE_PEIM[96..], &[section(RAW, 4, 15)]),
-        (&EXTENDED_RAW, &[section(RAW, 8, 15)]),
-        (
-            &[0xff, 0xff, 0xff, 0x10, 8, 0, 0, 0],
-            &[section(PE32, 8, 0)],
-        ),
-        // The second section begins at the next multiple of four; three bytes may be left at the end.
-        (&TWO, &[section(PE32, 4, 1), section(RAW, 12, 0)]),
-        // The rounded place may lie behind the end.
-        (&TWO[..5], &[section(PE32, 4, 1)]),
-    ];
-    for (bytes, sections) in rows {
+    for (bytes, sections) in &STREAMS {
         assert!(rt; reads(rt.alloc(), bytes, sections), "{bytes:?}");
     }
 }
@@ -77,30 +89,32 @@ fn is_cut(rt: &impl Abort, alloc: Global, bytes: &[u8]) {
 
 #[test]
 fn cut_streams_are_refused(rt: HostRuntime) {
-    is_cut(&rt, rt.alloc(), &ONE_PEIM[96..]);
+    is_cut(&rt, rt.alloc(), &ONE_SECTION);
     is_cut(&rt, rt.alloc(), &EXTENDED_RAW);
 }
 
+/// Streams, where they go wrong, and why.
+const FAULTS: [(&[u8], u64, SecCause); 7] = [
+    // A size below its header's length.
+    (&[3, 0, 0, 0x19], 0, SecCause::Size),
+    (&[0xff, 0xff, 0xff, 0x19, 7, 0, 0, 0], 0, SecCause::Size),
+    // The top of both size fields.
+    (&[0xfe, 0xff, 0xff, 0x19, 0, 0, 0, 0], 0, SecCause::Size),
+    (
+        &[0xff, 0xff, 0xff, 0x19, 0xff, 0xff, 0xff, 0xff],
+        0,
+        SecCause::Size,
+    ),
+    // Sections that are not opened, behind a sound one; a wrong size comes before the type.
+    (&[4, 0, 0, 0x19, 4, 0, 0, 1], 4, SecCause::Compressed),
+    (&[4, 0, 0, 0x19, 4, 0, 0, 2], 4, SecCause::GuidDefined),
+    (&[4, 0, 0, 0x19, 5, 0, 0, 1], 4, SecCause::Size),
+];
+
 #[test]
 fn each_fault_comes_at_its_place(rt: HostRuntime) {
-    let rows: [(&[u8], u64, SecCause); 7] = [
-        // A size below its header's length.
-        (&[3, 0, 0, 0x19], 0, SecCause::Size),
-        (&[0xff, 0xff, 0xff, 0x19, 7, 0, 0, 0], 0, SecCause::Size),
-        // The top of both size fields.
-        (&[0xfe, 0xff, 0xff, 0x19, 0, 0, 0, 0], 0, SecCause::Size),
-        (
-            &[0xff, 0xff, 0xff, 0x19, 0xff, 0xff, 0xff, 0xff],
-            0,
-            SecCause::Size,
-        ),
-        // Sections that are not opened, behind a sound one; a wrong size comes before the type.
-        (&[4, 0, 0, 0x19, 4, 0, 0, 1], 4, SecCause::Compressed),
-        (&[4, 0, 0, 0x19, 4, 0, 0, 2], 4, SecCause::GuidDefined),
-        (&[4, 0, 0, 0x19, 5, 0, 0, 1], 4, SecCause::Size),
-    ];
-    for (bytes, at, cause) in rows {
-        assert!(rt; fails(rt.alloc(), bytes, at, cause), "{bytes:?}");
+    for (bytes, at, cause) in &FAULTS {
+        assert!(rt; fails(rt.alloc(), bytes, *at, *cause), "{bytes:?}");
     }
 }
 
@@ -114,15 +128,19 @@ fn many() -> [u8; 1028] {
     bytes
 }
 
+// How many sections are read, 0 where the bytes are refused.
+fn count_of(alloc: Global, bytes: &[u8]) -> usize {
+    match read_sections(alloc, bytes) {
+        Ok(sections) => sections.len(),
+        Err(_) => 0,
+    }
+}
+
 #[test]
 fn the_most_sections_are_read(rt: HostRuntime) {
     let mut bytes = many();
     // 256 sections are read, and the next one is too many, also where it has another fault.
-    let len = match read_sections(rt.alloc(), front(&bytes, 1024)) {
-        Ok(sections) => sections.len(),
-        Err(_) => 0,
-    };
-    assert!(rt; len == 256);
+    assert!(rt; count_of(rt.alloc(), front(&bytes, 1024)) == 256);
     assert!(rt; fails(rt.alloc(), &bytes, 1024, SecCause::TooMany));
     bytes[1024] = 0;
     assert!(rt; fails(rt.alloc(), &bytes, 1024, SecCause::TooMany));

@@ -1,9 +1,10 @@
 // The files that stand in a volume, and the first fault of its header and of its files.
-use crate::board::{ONE_PEIM, empty_files, front, guid, volume};
+use crate::board::{ONE_PEIM, add, equal_files, front, guid, volume};
 use fv_volume::file_type::{PEIM, RAW};
 use fv_volume::{FfsFile, MOST_FILES, VolCause, VolFault, one_reading, places, read_volume};
 use pi_base::{Guid, put_u16, put_u64, sum16};
 use std::alloc::Global;
+use std::process::Abort;
 use std::test::*;
 
 /// The length of the one-PEIM volume.
@@ -51,13 +52,17 @@ fn put(bytes: &mut [u8; LEN], at: usize, text: &[u8]) {
     }
 }
 
-// The one-PEIM volume with these bytes changed.
-fn changed(changes: &[(usize, u8)]) -> [u8; LEN] {
+// The one-PEIM volume with bytes changed: each place, and its byte behind it.
+fn changed(changes: &[u8]) -> [u8; LEN] {
     let mut bytes = [0xff; LEN];
     put(&mut bytes, 0, &ONE_PEIM);
-    for (at, byte) in changes {
-        if *at < LEN {
-            bytes[*at] = *byte;
+    let mut place = LEN;
+    for byte in changes {
+        if place < LEN {
+            bytes[place] = *byte;
+            place = LEN;
+        } else {
+            place = usize::from(*byte);
         }
     }
     bytes
@@ -71,7 +76,13 @@ fn seal(bytes: &mut [u8; LEN]) {
 }
 
 // Whether the bytes are a volume of this length and name with these files.
-fn lists(alloc: Global, bytes: &[u8], len: u64, name: Option<Guid>, files: &[FfsFile]) -> bool {
+pub(crate) fn lists(
+    alloc: Global,
+    bytes: &[u8],
+    len: u64,
+    name: Option<Guid>,
+    files: &[FfsFile],
+) -> bool {
     match read_volume(alloc, bytes) {
         Ok(volume) => volume.len == len && volume.name == name && volume.files.as_slice() == files,
         Err(_) => false,
@@ -86,44 +97,73 @@ fn fails(alloc: Global, bytes: &[u8], at: u64, cause: VolCause) -> bool {
     }
 }
 
+/// Places in the one-PEIM volume, each with the byte that it gets, and the fault.
+type Row = (&'static [u8], u64, VolCause);
+
+// Each changed volume has its fault.
+fn each_fails(rt: &impl Abort, alloc: Global, rows: &[Row]) {
+    for (changes, at, cause) in rows {
+        assert!(rt; fails(alloc, &changed(changes), *at, *cause), "{changes:?}");
+    }
+}
+
+/// Faults of a header.
+const OF_A_HEADER: [Row; 11] = [
+    (&[50, 0xd0], 50, VolCause::HeaderSum),
+    // Each cause with a later one beside it: the first in order is told.
+    (&[40, 0x2d, 55, 1], 40, VolCause::Signature),
+    (&[55, 1, 16, 0], 55, VolCause::Revision),
+    (&[16, 0, 33, 0x11], 16, VolCause::FileSystem),
+    (&[32, 0x01, 48, 0x49], 32, VolCause::Length),
+    (&[39, 0x80], 32, VolCause::Length),
+    // HeaderLength is odd, below 64, above FvLength.
+    (&[48, 0x49], 48, VolCause::HeaderLength),
+    (&[48, 0x3e], 48, VolCause::HeaderLength),
+    (&[48, 0x02, 49, 0x10], 48, VolCause::HeaderLength),
+    // An extended header inside the header, and one whose size passes FvLength.
+    (&[52, 70, 50, 0x8b], 52, VolCause::ExtHeader),
+    (&[52, 96, 50, 0x71], 52, VolCause::ExtHeader),
+];
+
 #[test]
 fn each_fault_of_a_header_comes_in_its_order(rt: HostRuntime) {
     one_reading();
     places();
-    let rows: [(&[(usize, u8)], u64, VolCause); 11] = [
-        (&[(50, 0xd0)], 50, VolCause::HeaderSum),
-        // Each cause with a later one beside it: the first in order is told.
-        (&[(40, 0x2d), (55, 1)], 40, VolCause::Signature),
-        (&[(55, 1), (16, 0)], 55, VolCause::Revision),
-        (&[(16, 0), (33, 0x11)], 16, VolCause::FileSystem),
-        (&[(32, 0x01), (48, 0x49)], 32, VolCause::Length),
-        (&[(39, 0x80)], 32, VolCause::Length),
-        // HeaderLength is odd, below 64, above FvLength.
-        (&[(48, 0x49)], 48, VolCause::HeaderLength),
-        (&[(48, 0x3e)], 48, VolCause::HeaderLength),
-        (&[(48, 0x02), (49, 0x10)], 48, VolCause::HeaderLength),
-        // An extended header inside the header, and one whose size passes FvLength.
-        (&[(52, 70), (50, 0x8b)], 52, VolCause::ExtHeader),
-        (&[(52, 96), (50, 0x71)], 52, VolCause::ExtHeader),
-    ];
-    for (changes, at, cause) in rows {
-        let bytes = changed(changes);
-        assert!(rt; fails(rt.alloc(), &bytes, at, cause), "{changes:?}");
-    }
+    each_fails(&rt, rt.alloc(), &OF_A_HEADER);
 }
+
+/// So many bytes of it, and the fault.
+const ENDS: [(usize, u64, VolCause); 4] = [
+    (4095, 32, VolCause::Length),
+    (64, 32, VolCause::Length),
+    (63, 0, VolCause::Short),
+    (0, 0, VolCause::Short),
+];
 
 #[test]
 fn bytes_that_end_before_their_volume_are_refused(rt: HostRuntime) {
     let bytes = changed(&[]);
     assert!(rt; lists(rt.alloc(), &bytes, 4096, None, &[THE_PEIM]));
-    let rows = [
-        (4095, 32, VolCause::Length),
-        (64, 32, VolCause::Length),
-        (63, 0, VolCause::Short),
-        (0, 0, VolCause::Short),
-    ];
-    for (len, at, cause) in rows {
-        assert!(rt; fails(rt.alloc(), front(&bytes, len), at, cause), "{len}");
+    for (len, at, cause) in &ENDS {
+        assert!(rt;
+            fails(rt.alloc(), front(&bytes, *len), *at, *cause),
+            "{len}"
+        );
+    }
+}
+
+// Whether the one-PEIM volume is read or refused as its length says: the header has 72 bytes, the file's header 24 more, and the file ends at 115.
+fn is_cut(alloc: Global, bytes: &[u8], len: u64) -> bool {
+    if len < 72 {
+        fails(alloc, bytes, 48, VolCause::HeaderLength)
+    } else if len < 96 {
+        lists(alloc, bytes, len, None, &[])
+    } else if len < 115 {
+        fails(alloc, bytes, 72, VolCause::FileSize)
+    } else if len < 4097 {
+        lists(alloc, bytes, len, None, &[THE_PEIM])
+    } else {
+        fails(alloc, bytes, 32, VolCause::Length)
     }
 }
 
@@ -133,73 +173,68 @@ fn each_cut_volume_is_refused(rt: HostRuntime) {
     for len in 0..4098u64 {
         put_u64(&mut bytes, 32, len);
         seal(&mut bytes);
-        // The header has 72 bytes, the file's header 24 more, and the file ends at 115.
-        let is_right = if len < 72 {
-            fails(rt.alloc(), &bytes, 48, VolCause::HeaderLength)
-        } else if len < 96 {
-            lists(rt.alloc(), &bytes, len, None, &[])
-        } else if len < 115 {
-            fails(rt.alloc(), &bytes, 72, VolCause::FileSize)
-        } else if len < 4097 {
-            lists(rt.alloc(), &bytes, len, None, &[THE_PEIM])
-        } else {
-            fails(rt.alloc(), &bytes, 32, VolCause::Length)
-        };
-        assert!(rt; is_right, "FvLength {len}");
+        assert!(rt; is_cut(rt.alloc(), &bytes, len), "FvLength {len}");
     }
+}
+
+/// Places in the one-PEIM volume, each with the byte that it gets, and whether the file is listed.
+const STATES: [(&[u8], bool); 11] = [
+    // Marked for update; bits above 0x20 say nothing.
+    (&[95, 0xf0], true),
+    (&[95, 0xb8], true),
+    // A body with its checksum.
+    (&[88, 0x85, 91, 0x40, 89, 0x1c], true),
+    // Polarity 0, under which the State byte of the other says header invalid.
+    (&[45, 0, 51, 0xd5, 95, 0x07], true),
+    (&[45, 0, 51, 0xd5], false),
+    // Deleted, half-written, in construction, invalid, and with no bit.
+    (&[95, 0xe0, 89, 0xab], false),
+    (&[95, 0xfc, 89, 0xab], false),
+    (&[95, 0xfe, 88, 0], false),
+    (&[95, 0xc0, 88, 0], false),
+    (&[95, 0xff, 88, 0], false),
+    // A pad file.
+    (&[88, 0xdb, 90, 0xf0], false),
+];
+
+// The one file, or none.
+const fn peims(is_listed: bool) -> &'static [FfsFile] {
+    if is_listed { &[THE_PEIM] } else { &[] }
 }
 
 #[test]
 fn files_are_listed_by_their_states(rt: HostRuntime) {
-    // Whether the file is listed.
-    let rows: [(&[(usize, u8)], bool); 11] = [
-        // Marked for update; bits above 0x20 say nothing.
-        (&[(95, 0xf0)], true),
-        (&[(95, 0xb8)], true),
-        // A body with its checksum.
-        (&[(88, 0x85), (91, 0x40), (89, 0x1c)], true),
-        // Polarity 0, under which the State byte of the other says header invalid.
-        (&[(45, 0), (51, 0xd5), (95, 0x07)], true),
-        (&[(45, 0), (51, 0xd5)], false),
-        // Deleted, half-written, in construction, invalid, and with no bit.
-        (&[(95, 0xe0), (89, 0xab)], false),
-        (&[(95, 0xfc), (89, 0xab)], false),
-        (&[(95, 0xfe), (88, 0)], false),
-        (&[(95, 0xc0), (88, 0)], false),
-        (&[(95, 0xff), (88, 0)], false),
-        // A pad file.
-        (&[(88, 0xdb), (90, 0xf0)], false),
-    ];
-    for (changes, is_listed) in rows {
-        let files: &[FfsFile] = if is_listed { &[THE_PEIM] } else { &[] };
-        let bytes = changed(changes);
-        assert!(rt; lists(rt.alloc(), &bytes, 4096, None, files), "{changes:?}");
+    for (changes, is_listed) in &STATES {
+        let files = peims(*is_listed);
+        assert!(rt;
+            lists(rt.alloc(), &changed(changes), 4096, None, files),
+            "{changes:?}"
+        );
     }
 }
 
+/// Faults of the file at 72.
+const OF_A_FILE: [Row; 10] = [
+    (&[88, 0xc4, 89, 0xab], 72, VolCause::FileSum),
+    (&[88, 0xc4, 95, 0xe0], 72, VolCause::FileSum),
+    (&[89, 0xab], 72, VolCause::DataSum),
+    (&[89, 0xab, 95, 0xf0], 72, VolCause::DataSum),
+    (&[88, 0x85, 91, 0x40, 89, 0x1d], 72, VolCause::DataSum),
+    // A pad's checksum is tested too.
+    (&[88, 0xdb, 90, 0xf0, 89, 0xab], 72, VolCause::DataSum),
+    // Size 23; 4,025 of 4,024 bytes; a large file under FFS2.
+    (&[88, 0xd9, 92, 0x17], 72, VolCause::FileSize),
+    (&[88, 0x28, 92, 0xb9, 93, 0x0f], 72, VolCause::FileSize),
+    (&[88, 0xc4, 91, 0x01], 72, VolCause::FileSize),
+    // A deleted file's size is tested.
+    (&[88, 0xd9, 92, 0x17, 95, 0xe0], 72, VolCause::FileSize),
+];
+
 #[test]
 fn each_fault_of_a_file_comes_at_its_place(rt: HostRuntime) {
-    let rows: [(&[(usize, u8)], VolCause); 10] = [
-        (&[(88, 0xc4), (89, 0xab)], VolCause::FileSum),
-        (&[(88, 0xc4), (95, 0xe0)], VolCause::FileSum),
-        (&[(89, 0xab)], VolCause::DataSum),
-        (&[(89, 0xab), (95, 0xf0)], VolCause::DataSum),
-        (&[(88, 0x85), (91, 0x40), (89, 0x1d)], VolCause::DataSum),
-        // A pad's checksum is tested too.
-        (&[(88, 0xdb), (90, 0xf0), (89, 0xab)], VolCause::DataSum),
-        // Size 23; 4,025 of 4,024 bytes; a large file under FFS2.
-        (&[(88, 0xd9), (92, 0x17)], VolCause::FileSize),
-        (&[(88, 0x28), (92, 0xb9), (93, 0x0f)], VolCause::FileSize),
-        (&[(88, 0xc4), (91, 0x01)], VolCause::FileSize),
-        // A deleted file's size is tested.
-        (&[(88, 0xd9), (92, 0x17), (95, 0xe0)], VolCause::FileSize),
-    ];
-    for (changes, cause) in rows {
-        let bytes = changed(changes);
-        assert!(rt; fails(rt.alloc(), &bytes, 72, cause), "{changes:?}");
-    }
+    each_fails(&rt, rt.alloc(), &OF_A_FILE);
     // A file may end with the volume.
-    let whole = changed(&[(88, 0x29), (92, 0xb8), (93, 0x0f)]);
+    let whole = changed(&[88, 0x29, 92, 0xb8, 93, 0x0f]);
     assert!(rt; lists(rt.alloc(), &whole, 4096, None, &[peim(72, 96, 4000)]));
 }
 
@@ -220,14 +255,19 @@ fn a_second_file_is_listed_or_refused(rt: HostRuntime) {
     assert!(rt; fails(rt.alloc(), &bytes, 120, VolCause::FileSum));
 }
 
+/// A pad file, which holds an extended header.
+const EXTENDED: [u8; 48] = [
+    0xff, 0xff, 0xff, 0xff, 0xff, 0xff, 0xff, 0xff, 0xff, 0xff, 0xff, 0xff, 0xff, 0xff, 0xff, 0xff,
+    0xf4, 0xaa, 0xf0, 0x00, 0x2c, 0, 0, 0xf8, //
+    0, 0, 0, 0, 0, 0, 0, 0, 0, 0, 0, 0, 0, 0, 0, 0x33, //
+    20, 0, 0, 0, 0xff, 0xff, 0xff, 0xff,
+];
+
 #[test]
 fn files_stand_behind_the_extended_header(rt: HostRuntime) {
-    // A pad file at 72 holds the extended header, behind which the search begins.
-    let mut bytes = changed(&[(50, 0x71), (52, 96)]);
-    put(&mut bytes, 72, &ERASED);
-    put(&mut bytes, 88, &[0xf4, 0xaa, 0xf0, 0x00, 0x2c, 0, 0, 0xf8]);
-    put(&mut bytes, 96, &guid(0x33).0);
-    put(&mut bytes, 112, &[20, 0, 0, 0, 0xff, 0xff, 0xff, 0xff]);
+    // The pad file stands at 72, and the search begins behind the extended header.
+    let mut bytes = changed(&[50, 0x71, 52, 96]);
+    put(&mut bytes, 72, &EXTENDED);
     put(&mut bytes, 120, &ONE_PEIM[72..]);
     let name = Some(guid(0x33));
     assert!(rt; lists(rt.alloc(), &bytes, 4096, name, &[peim(120, 144, 19)]));
@@ -238,7 +278,7 @@ fn files_stand_behind_the_extended_header(rt: HostRuntime) {
 
 // The one-PEIM volume as FFS3, its file large, with this ExtendedSize, header checksum and FvLength.
 fn large(size: u64, checksum: u8, len: u64) -> [u8; LEN] {
-    let mut bytes = changed(&[(88, checksum), (91, 0x01), (92, 0)]);
+    let mut bytes = changed(&[88, checksum, 91, 0x01, 92, 0]);
     put(&mut bytes, 16, &FFS3);
     put_u64(&mut bytes, 32, len);
     put_u64(&mut bytes, 96, size);
@@ -256,49 +296,69 @@ fn a_file_that_is_not_large_may_stand_under_ffs3(rt: HostRuntime) {
     assert!(rt; lists(rt.alloc(), &bytes, 4096, None, &[THE_PEIM]));
 }
 
-#[test]
-fn large_files_are_listed(rt: HostRuntime) {
-    // ExtendedSize, the header's checksum, FvLength, and the length of the body or the fault of the file.
-    let rows: [(u64, u8, u64, Result<u64, VolCause>); 8] = [
-        // Its Size says nothing.
-        (51, 0xbc, 4096, Ok(19)),
-        // It ends with the volume, and a byte behind it.
-        (51, 0xbc, 123, Ok(19)),
-        (51, 0xbc, 122, Err(VolCause::FileSize)),
-        // Its header ends with the volume, and a byte behind it.
-        (32, 0xcf, 104, Ok(0)),
-        (32, 0xcf, 103, Err(VolCause::FileSize)),
-        // A size below the header, and the top of the field.
-        (31, 0xd0, 4096, Err(VolCause::FileSize)),
-        (u64::MAX, 0xf7, 4096, Err(VolCause::FileSize)),
-        (51, 0xbd, 4096, Err(VolCause::FileSum)),
-    ];
-    for (size, checksum, len, want) in rows {
-        let bytes = large(size, checksum, len);
-        let is_right = match want {
-            Ok(body_len) => lists(rt.alloc(), &bytes, len, None, &[peim(72, 104, body_len)]),
-            Err(cause) => fails(rt.alloc(), &bytes, 72, cause),
-        };
-        assert!(rt; is_right, "{size} of {len}: {want:?}");
+/// ExtendedSize, the header's checksum, FvLength, and the length of the body or the fault of the file.
+const LARGE: [(u64, u8, u64, Result<u64, VolCause>); 8] = [
+    // Its Size says nothing.
+    (51, 0xbc, 4096, Ok(19)),
+    // It ends with the volume, and a byte behind it.
+    (51, 0xbc, 123, Ok(19)),
+    (51, 0xbc, 122, Err(VolCause::FileSize)),
+    // Its header ends with the volume, and a byte behind it.
+    (32, 0xcf, 104, Ok(0)),
+    (32, 0xcf, 103, Err(VolCause::FileSize)),
+    // A size below the header, and the top of the field.
+    (31, 0xd0, 4096, Err(VolCause::FileSize)),
+    (u64::MAX, 0xf7, 4096, Err(VolCause::FileSize)),
+    (51, 0xbd, 4096, Err(VolCause::FileSum)),
+];
+
+// Whether the file of a volume is large with a body of this length, or has this fault.
+fn is_large(alloc: Global, bytes: &[u8], len: u64, want: Result<u64, VolCause>) -> bool {
+    match want {
+        Ok(body_len) => lists(alloc, bytes, len, None, &[peim(72, 104, body_len)]),
+        Err(cause) => fails(alloc, bytes, 72, cause),
     }
 }
 
 #[test]
-fn the_most_files_are_listed(rt: HostRuntime) -> Result<(), Fail> {
-    let mut files = empty_files(rt.alloc(), MOST_FILES, RAW, guid(0))?;
-    assert!(rt; files.starts_with(&EMPTY_FILE));
-    files.extend_from_slice(&ERASED)?;
-    let bytes = volume(rt.alloc(), &files)?;
-    let count = match read_volume(rt.alloc(), &bytes) {
+fn large_files_are_listed(rt: HostRuntime) {
+    for (size, checksum, len, want) in &LARGE {
+        let bytes = large(*size, *checksum, *len);
+        assert!(rt;
+            is_large(rt.alloc(), &bytes, *len, *want),
+            "{size} of {len}"
+        );
+    }
+}
+
+// A volume of so many raw files, and what stands behind them.
+fn raw_files(alloc: Global, count: usize, behind: &[u8]) -> Vec<u8> {
+    let mut files = equal_files(alloc, count, RAW, guid(0), &[]);
+    add(&mut files, behind);
+    volume(alloc, &files)
+}
+
+// How many files are listed, none where the bytes are refused.
+fn count_of(alloc: Global, bytes: &[u8]) -> usize {
+    match read_volume(alloc, bytes) {
         Ok(volume) => volume.files.len(),
         Err(_) => 0,
-    };
-    assert!(rt; count == 16_384);
-    let files = empty_files(rt.alloc(), MOST_FILES + 1, RAW, guid(0))?;
-    let bytes = volume(rt.alloc(), &files)?;
-    assert!(rt; bytes.len() == 393_312 && bytes.as_slice()[50..52] == [0x6b, 0xdd]);
-    assert!(rt; fails(rt.alloc(), &bytes, 393_288, VolCause::TooManyFiles));
-    Ok(())
+    }
+}
+
+// Whether the volume is that of one file too many, which is refused.
+fn is_too_many(alloc: Global, bytes: &[u8]) -> bool {
+    bytes.len() == 393_312
+        && bytes[50..52] == [0x6b, 0xdd]
+        && bytes[72..96] == EMPTY_FILE[..]
+        && fails(alloc, bytes, 393_288, VolCause::TooManyFiles)
+}
+
+#[test]
+fn the_most_files_are_listed(rt: HostRuntime) {
+    let alloc = rt.alloc();
+    assert!(rt; count_of(alloc, &raw_files(alloc, MOST_FILES, &ERASED)) == 16_384);
+    assert!(rt; is_too_many(alloc, &raw_files(alloc, MOST_FILES + 1, &[])));
 }
 
 #[test]
