@@ -16,4 +16,4 @@ mod place_sets;
 #[cfg(test)]
 mod plan_lines;
 #[cfg(test)]
-mod printed_words;
+mod printed_texts;
