@@ -68,7 +68,9 @@ fn run_with_ledger<M: PeiStore, S: Sink, L: Ledger>(
 {
     let mut queue = DriverQueue::new(alloc, catalog)?;
     let mut steps = Steps::<L>::new(blank);
-    run_dxe(dxe, store, &mut queue, catalog, sink, &mut steps)
+    let end = run_dxe(dxe, store, &mut queue, catalog, sink, &mut steps);
+    drop(queue);
+    end
 }
 
 /// The whole of DXE behind the hand-off of a store. `fuel` is how many actions may be taken in both phases, and `taken` how many PEI took. No more interfaces are left than a `u32` counts.
@@ -88,9 +90,7 @@ pub fn boot_dxe<M: PeiStore, S: Sink>(
 {
     let mut dxe = dxe_at_opening(alloc, store, catalog, fuel, taken)?;
     let blank = Blank::new(1);
-    let end = run_with_ledger::<M, S, Brand>(alloc, &mut dxe, store, catalog, sink, blank)?;
-    Ok(Ended {
-        end,
-        handles: dxe.into_handles(),
-    })
+    let end = run_with_ledger::<M, S, Brand>(alloc, &mut dxe, store, catalog, sink, blank);
+    let handles = dxe.into_handles();
+    Ok(Ended { end: end?, handles })
 }

@@ -59,7 +59,9 @@ fn follow_dxe<M: PeiStore, L: Ledger>(
 {
     let mut queue = DriverQueue::new(alloc, catalog)?;
     let mut steps = Steps::<L>::new(blank);
-    run_dxe_by_text(dxe, store, &mut queue, catalog, names, text, &mut steps)
+    let end = run_dxe_by_text(dxe, store, &mut queue, catalog, names, text, &mut steps);
+    drop(queue);
+    end
 }
 
 // DXE behind the hand-off, to the last line.
@@ -83,8 +85,11 @@ fn follow_drivers<M: PeiStore>(
     dxe_lines_grow();
     let mut dxe = dxe_at_opening(alloc, store, catalog, fuel, actions)?;
     let blank = Blank::new(1);
-    let end = follow_dxe::<M, Brand>(alloc, &mut dxe, store, catalog, names, text, blank)?;
-    close(text, store, dxe.handles(), result_of(end))
+    let end = follow_dxe::<M, Brand>(alloc, &mut dxe, store, catalog, names, text, blank);
+    let handles = dxe.into_handles();
+    let closed = close(text, store, &handles, result_of(end?));
+    drop(handles);
+    closed
 }
 
 // The last lines of a boot that ended in PEI, where there are no handles.
@@ -150,7 +155,9 @@ fn follow_pei<M: PeiStore + Drop, L: Ledger>(
 {
     let mut queue = PeiQueue::build(alloc, catalog)?;
     let mut steps = Steps::<L>::new(blank);
-    run_pei_by_text(pei, &mut queue, catalog, names, text, &mut steps)
+    let end = run_pei_by_text(pei, &mut queue, catalog, names, text, &mut steps);
+    drop(queue);
+    end
 }
 
 /// A boot from its first line to its last, held against a text of which nothing was met yet.

@@ -54,7 +54,9 @@ fn run_with_ledger<M: PeiStore + Drop, S: Sink, L: Ledger>(
 {
     let mut queue = PeiQueue::build(alloc, catalog)?;
     let mut steps = Steps::<L>::new(blank);
-    run_pei(pei, &mut queue, catalog, sink, &mut steps)
+    let end = run_pei(pei, &mut queue, catalog, sink, &mut steps);
+    drop(queue);
+    end
 }
 
 /// The whole of PEI over a store that is as it was made. `fuel` is how many actions may be taken. Where the store takes no memory, want of memory is answered before anything is put.

@@ -30,8 +30,8 @@ behind_handoff : {M : Type 0} (stands : M → StoreState → Type 0) (store : M)
     → StandsFor stands store catalog core (dxe_opening catalog pei.store actions) → StandsFor stands store catalog core (dxe_opening catalog pei.store pei.actions)
 behind_handoff stands store catalog core pei actions are here = subst (λ taken. StandsFor stands store catalog core (dxe_opening catalog pei.store taken)) are here
 
-pub follow_dxe-requires-clause-opening : goal.follow_dxe-requires-clause-opening
-follow_dxe-requires-clause-opening g c = let s = c.requires.state.0 in (s, c.args.actions, c.in_ok-dxe.ensures.row s c.requires.state.1)
+pub follow_dxe-end-requires-clause-opening : goal.follow_dxe-end-requires-clause-opening
+follow_dxe-end-requires-clause-opening g c = let s = c.requires.state.0 in (s, c.args.actions, c.in_ok-dxe.ensures.row s c.requires.state.1)
 
 -- why DXE was followed no further, told of the whole boot
 parted_up : (Lines : List Line → Type 0) (catalog : Catalog) (fuel : ℕ) (pei : PeiMachine) (opening : DxeMachine) (handles : HandleState) (text : List ℕ) (s : Spelled) (parted : Parted)
@@ -55,9 +55,9 @@ returns-in_err-end g c = record {
       let same = ends_so c.pei_goes_on.ensures.ended catalog fuel pei Handoff behind.ended in
       let grow = begin_with_pei c.dxe_lines_grow.ensures catalog fuel pei opening in
       let there = held_begins c.args.text.now text (text_of pei.lines) behind.followed.held in
-      let shown = c.follow_dxe.new.text in
+      let shown = c.follow_dxe-end.new.text in
       let p = err_from_is_err_and c.from_residual-in_err-end.result c.from_residual-in_err-end.ensures.1 in
-      rw p.1 (rw p.2 (parted_up Start catalog fuel pei opening c.follow_dxe.new.dxe.services.handles text shown _ (off_behind Start Here Then text pei.lines shown behind.followed.tracks same grow there) told));
+      rw p.1 (rw p.2 (parted_up Start catalog fuel pei opening c.follow_dxe-end.new.dxe.services.handles text shown _ (off_behind Start Here Then text pei.lines shown behind.followed.tracks same grow there) told));
 }
 
 pub returns : goal.returns
@@ -73,8 +73,8 @@ returns g c = record {
       let same = ends_so c.pei_goes_on.ensures.ended catalog fuel pei Handoff behind.ended in
       let grow = begin_with_pei c.dxe_lines_grow.ensures catalog fuel pei opening in
       let Last : HandleState → RunEnd → Type 0 = λ handles end. IsLast (AreFreeLines board catalog fuel) (D.printed_by pei told.end) (closing_text pei.store handles end) in
-      let last = last_of_dxe c.dxe_goes_on.ensures.ended (AreFreeLines board catalog fuel) (AreFreePeiLines catalog fuel pei) catalog fuel text pei opening told.end c.in_ok-end.end c.follow_dxe.new.dxe.services.handles c.follow_dxe.new.text
+      let last = last_of_dxe c.dxe_goes_on.ensures.ended (AreFreeLines board catalog fuel) (AreFreePeiLines catalog fuel pei) catalog fuel text pei opening told.end c.in_ok-end.field-0 c.follow_dxe-end.new.dxe.services.handles c.follow_dxe-end.new.text
       behind.followed.tracks same grow told.ended told.has told.followed in
-      let here = subst (λ handles. Last handles c.result_of.result) (sym c.handles.ensures) (subst (λ end. Last c.follow_dxe.new.dxe.services.handles end) (sym c.result_of.ensures) last) in
-      c.close.ensures.row pei.store behind.store_is tt board catalog fuel text (D.printed_by pei told.end) told.followed.held here;
+      let here = subst (λ handles. Last handles c.result_of.result) (sym c.into_handles-handles.ensures) (subst (λ end. Last c.follow_dxe-end.new.dxe.services.handles end) (sym c.result_of.ensures) last) in
+      c.close-closed.ensures.row pei.store behind.store_is tt board catalog fuel text (D.printed_by pei told.end) told.followed.held here;
 }

@@ -10,8 +10,8 @@ pub returns-clause-row : goal.returns-clause-row
 returns-clause-row g c board fuel made stands =
     let catalog = c.args.catalog.now in
     let text = g.S.Sink.text in
-    left g.M.PeiStore.stands_for catalog (pei_opening board catalog) c.args.pei.now (pei_end board catalog fuel) c.run_pei.new.pei c.run_pei.new.queue (text c.args.sink.now) (text c.run_pei.new.sink) c.run_pei.result
-    (c.run_pei.ensures.row board fuel made stands)
+    left g.M.PeiStore.stands_for catalog (pei_opening board catalog) c.args.pei.now (pei_end board catalog fuel) c.run_pei-end.new.pei c.run_pei-end.new.queue (text c.args.sink.now) (text c.run_pei-end.new.sink) c.run_pei-end.result
+    (c.run_pei-end.ensures.row board fuel made stands)
 
 pub returns-in_err-queue-clause-row : goal.returns-in_err-queue-clause-row
 returns-in_err-queue-clause-row g c board fuel made stands =
