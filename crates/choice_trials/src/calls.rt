@@ -288,7 +288,9 @@ fn answered(alloc: Global, store: &PlainStore, catalog: &Catalog) -> Option<(Opt
 {
     let mut services = services_at(alloc, catalog, &[NESTED[0].0])?;
     let wrong = first_wrong(&mut services, store, catalog);
-    Some((wrong, left_in(&services)))
+    let left = left_in(&services);
+    drop(services);
+    Some((wrong, left))
 }
 
 // The module and the block of the first notification.
@@ -327,7 +329,9 @@ fn written(alloc: Global, store: &PlainStore, catalog: &Catalog) -> Option<(Writ
     requires state { Present (stands_for store.now) Anything }
 {
     let mut services = services_at(alloc, catalog, &[])?;
-    written_by(&mut services, store, catalog)
+    let written = written_by(&mut services, store, catalog);
+    drop(services);
+    written
 }
 
 #[test]
@@ -373,7 +377,9 @@ fn requested(alloc: Global, store: &PlainStore, catalog: &Catalog, last: u8) -> 
     requires state { Present (stands_for store.now) Anything }
 {
     let mut services = services_at(alloc, catalog, &[NESTED[0].0])?;
-    requested_thrice(&mut services, store, catalog, last)
+    let requested = requested_thrice(&mut services, store, catalog, last);
+    drop(services);
+    requested
 }
 
 #[test]
@@ -413,7 +419,9 @@ fn processed(alloc: Global, store: &PlainStore, catalog: &Catalog, v: u8) -> Opt
     requires state { Present (stands_for store.now) Anything }
 {
     let mut services = services_at(alloc, catalog, &[NESTED[1].0])?;
-    processed_by(&mut services, store, catalog, v)
+    let processed = processed_by(&mut services, store, catalog, v);
+    drop(services);
+    processed
 }
 
 #[test]

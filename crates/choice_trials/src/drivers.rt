@@ -169,14 +169,18 @@ fn starts_in(
     requires order { (volumes : List ℕ) × IsOrderOf catalog.now volumes order.now }
 {
     let mut queue = DriverQueue::new(catalog.modules.alloc(), catalog)?;
-    starts_by::<Brand>(&mut queue, catalog, order, row, Blank::new(1))
+    let starts = starts_by::<Brand>(&mut queue, catalog, order, row, Blank::new(1));
+    drop(queue);
+    starts
 }
 
 fn starts_of(catalog: &Catalog, row: &Case) -> Result<Seq<Scheduled>, OutOfMemory>
     requires catalog { IsWellFormed catalog.now }
 {
     let order = DriverOrder::discover(catalog.modules.alloc(), catalog, &[BASE])?;
-    starts_in(catalog, &order, row)
+    let starts = starts_in(catalog, &order, row);
+    drop(order);
+    starts
 }
 
 /// Whether the first driver is requested, how many architectural protocols there are, at which driver the first choice is aimed, and the drivers that start.
@@ -291,14 +295,18 @@ fn standings_in(
     requires order { (volumes : List ℕ) × IsOrderOf catalog.now volumes order.now }
 {
     let mut queue = DriverQueue::new(catalog.modules.alloc(), catalog)?;
-    standings_by(&mut queue, catalog, order, number)
+    let standings = standings_by(&mut queue, catalog, order, number);
+    drop(queue);
+    standings
 }
 
 fn standings_of(catalog: &Catalog, number: u32) -> Result<[(bool, bool); 2], OutOfMemory>
     requires catalog { IsWellFormed catalog.now }
 {
     let order = DriverOrder::discover(catalog.modules.alloc(), catalog, &[BASE])?;
-    standings_in(catalog, &order, number)
+    let standings = standings_in(catalog, &order, number);
+    drop(order);
+    standings
 }
 
 #[test]

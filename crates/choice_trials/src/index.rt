@@ -101,6 +101,26 @@ fn next_from<L: Ledger>(
 }
 
 // The first step, by its number, behind which another module is found.
+fn fails_in<L: Ledger>(
+    index: &mut WaitIndex,
+    catalog: &Catalog,
+    steps: &[Step],
+    evaluated: &mut Steps<L>,
+) -> Option<usize>
+    requires catalog { IsWellFormed catalog.now }
+    requires index { IsIndex catalog.now index.old }
+{
+    'steps: for at in 0..steps.len() {
+        let (deed, cursor, want) = steps[at];
+        apply(index, deed);
+        if next_from(index, catalog, cursor, evaluated) != want {
+            return Some(at);
+        }
+    }
+    None
+}
+
+// The same over an index of these parts.
 fn fails_at<L: Ledger>(
     alloc: Global,
     catalog: &Catalog,
@@ -119,14 +139,9 @@ fn fails_at<L: Ledger>(
     let mut index = WaitIndex::build(alloc, catalog, phase)?;
     index.discover(catalog, parts);
     let mut evaluated = Steps::<L>::new(blank);
-    'steps: for at in 0..steps.len() {
-        let (deed, cursor, want) = steps[at];
-        apply(&mut index, deed);
-        if next_from(&mut index, catalog, cursor, &mut evaluated) != want {
-            return Ok(Some(at));
-        }
-    }
-    Ok(None)
+    let failed = fails_in(&mut index, catalog, steps, &mut evaluated);
+    drop(index);
+    Ok(failed)
 }
 
 // The same over the PEIMs, the one with a rank first.

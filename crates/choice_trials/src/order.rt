@@ -79,7 +79,9 @@ fn discovers_so(alloc: Global, catalog: &Catalog, row: &Discovered) -> Result<bo
     requires { IsWellFormed catalog.now }
 {
     let order = DriverOrder::discover(alloc, catalog, row.bases)?;
-    Ok(is_so(&order, row))
+    let is_so = is_so(&order, row);
+    drop(order);
+    Ok(is_so)
 }
 
 #[test]
@@ -123,7 +125,9 @@ fn adds_so(alloc: Global, catalog: &Catalog, row: &Added) -> Result<bool, OutOfM
     requires second { row.now.1 < length catalog.now.volumes }
 {
     let mut order = DriverOrder::discover(alloc, catalog, &[])?;
-    is_so_behind(&mut order, catalog, row)
+    let is_so = is_so_behind(&mut order, catalog, row);
+    drop(order);
+    is_so
 }
 
 #[test]

@@ -60,6 +60,7 @@ fn first_of<L: Ledger>(
     let first = queue.choose(catalog, &mut steps);
     queue.again(&[]);
     queue.changed(&[FIRST], None, false);
+    drop(queue);
     Ok(first)
 }
 
