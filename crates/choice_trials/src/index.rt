@@ -43,6 +43,8 @@ enum Deed {
     Nothing,
     Installed(Guid),
     Gone(Guid),
+    /// The architectural protocol of this number is installed or gone.
+    Protocol(usize, bool),
     Started(usize),
     Again(usize),
     Opened(usize),
@@ -60,6 +62,11 @@ fn apply(index: &mut WaitIndex, deed: Deed)
         Deed::Nothing => {}
         Deed::Installed(guid) => index.changed(&guid, true),
         Deed::Gone(guid) => index.changed(&guid, false),
+        Deed::Protocol(number, is_there) => {
+            if let Some(guid) = ARCHITECTURAL.get(number) {
+                index.changed(guid, is_there);
+            }
+        }
         Deed::Started(place) => {
             if place < places {
                 index.started(place);
@@ -202,28 +209,30 @@ fn a_driver_may_start_by_its_expression_once_it_is_open(rt: HostRuntime) -> Resu
     Ok(())
 }
 
+// All thirteen architectural protocols, and one of them gone.
+static PROTOCOLS: [Step; 14] = [
+    (Deed::Protocol(0, true), 0, None),
+    (Deed::Protocol(1, true), 0, None),
+    (Deed::Protocol(2, true), 0, None),
+    (Deed::Protocol(3, true), 0, None),
+    (Deed::Protocol(4, true), 0, None),
+    (Deed::Protocol(5, true), 0, None),
+    (Deed::Protocol(6, true), 0, None),
+    (Deed::Protocol(7, true), 0, None),
+    (Deed::Protocol(8, true), 0, None),
+    (Deed::Protocol(9, true), 0, None),
+    (Deed::Protocol(10, true), 0, None),
+    (Deed::Protocol(11, true), 0, None),
+    (Deed::Protocol(12, true), 0, Some(0)),
+    (Deed::Protocol(4, false), 0, None),
+];
+
 #[test]
 fn a_driver_without_an_expression_waits_for_thirteen_protocols(
     rt: HostRuntime,
 ) -> Result<(), Fail> {
     let catalog = catalogue(rt.alloc(), &ONE, &DRIVERS).ok_or("a catalogue")?;
     assert!(rt; catalog.modules.len() == 4);
-    let steps: [Step; 14] = [
-        (Deed::Installed(ARCHITECTURAL[0]), 0, None),
-        (Deed::Installed(ARCHITECTURAL[1]), 0, None),
-        (Deed::Installed(ARCHITECTURAL[2]), 0, None),
-        (Deed::Installed(ARCHITECTURAL[3]), 0, None),
-        (Deed::Installed(ARCHITECTURAL[4]), 0, None),
-        (Deed::Installed(ARCHITECTURAL[5]), 0, None),
-        (Deed::Installed(ARCHITECTURAL[6]), 0, None),
-        (Deed::Installed(ARCHITECTURAL[7]), 0, None),
-        (Deed::Installed(ARCHITECTURAL[8]), 0, None),
-        (Deed::Installed(ARCHITECTURAL[9]), 0, None),
-        (Deed::Installed(ARCHITECTURAL[10]), 0, None),
-        (Deed::Installed(ARCHITECTURAL[11]), 0, None),
-        (Deed::Installed(ARCHITECTURAL[12]), 0, Some(0)),
-        (Deed::Gone(ARCHITECTURAL[4]), 0, None),
-    ];
-    assert!(rt; drivers_fail_at(&catalog, &steps) == Ok(None));
+    assert!(rt; drivers_fail_at(&catalog, &PROTOCOLS) == Ok(None));
     Ok(())
 }
