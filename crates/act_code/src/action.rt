@@ -2,7 +2,7 @@
 use pi_base::{Guid, Seq, Word};
 
 /// Where an action's GUID stands.
-#[derive(Clone, Copy, Debug, PartialEq, Eq)]
+#[derive(Clone, Copy, PartialEq, Eq)]
 pub enum GuidArg {
     /// In the script.
     Inline(Guid),

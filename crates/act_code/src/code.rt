@@ -5,7 +5,7 @@ ghost use Rattle.act_code.specs.Table.{number_of, code_of, is_code_of};
 use pi_base::Phase;
 
 /// The first byte of an action (own).
-#[derive(Clone, Copy, Debug, PartialEq, Eq)]
+#[derive(Clone, Copy, PartialEq, Eq)]
 pub enum Code {
     Set = 0x01,
     Add = 0x02,

@@ -6,7 +6,7 @@ use crate::fault::{ActCause, ActFault};
 use pi_base::Phase;
 
 /// What a script's header says, and how long the script is.
-#[derive(Clone, Copy, Debug, PartialEq, Eq)]
+#[derive(Clone, Copy, PartialEq, Eq)]
 pub struct Header {
     /// The length of the whole script.
     pub size: usize,

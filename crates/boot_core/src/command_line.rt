@@ -6,7 +6,7 @@ use fv_build::MOST_MODULES;
 use pi_base::decimal;
 
 /// What is asked for.
-#[derive(Clone, Copy, Debug, PartialEq, Eq)]
+#[derive(Clone, Copy)]
 pub(crate) enum Command {
     Boot,
     Audit,

@@ -17,7 +17,7 @@ use pi_base::decimal;
 use store_model::PeiStore;
 
 /// A line of the summary: one variant a form, in the order of the lines.
-#[derive(Clone, Copy, Debug, PartialEq, Eq)]
+#[derive(Clone, Copy)]
 pub(crate) enum SummaryLine {
     /// How many modules the generated volume has.
     Modules(u32),

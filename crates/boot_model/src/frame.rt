@@ -12,7 +12,7 @@ pub const REGISTERS: usize = 16;
 pub const BLOCKS: u32 = 64;
 
 /// What a register holds.
-#[derive(Clone, Copy, Debug, PartialEq, Eq)]
+#[derive(Clone, Copy, PartialEq, Eq)]
 pub enum Register {
     Empty,
     Number(u64),
@@ -23,7 +23,7 @@ pub enum Register {
 }
 
 /// A script that runs: where it stands, and what it holds. `W` is what a call of its phase has still to visit.
-#[derive(Clone, Copy, Debug, PartialEq, Eq)]
+#[derive(Clone, Copy, PartialEq, Eq)]
 pub struct Frame<W> {
     /// The number of the module.
     pub module_number: u32,

@@ -1,7 +1,7 @@
 //! Why a module starts.
 
 /// Why a module starts, as its line names it.
-#[derive(Clone, Copy, Debug, PartialEq, Eq)]
+#[derive(Clone, Copy, PartialEq, Eq)]
 pub enum Licence {
     /// Its volume's a priori file lists it (PI 1.8, volumes 1 and 2).
     Apriori,

@@ -3,7 +3,7 @@ ghost use Rattle.std.specs.Prelude.{◌≡◌};
 ghost use Rattle.boot_model.specs.PeimState.{state_at};
 
 /// How far a module has come in PEI: the four states that EDK2's dispatcher keeps for a PEIM.
-#[derive(Clone, Copy, Debug, PartialEq, Eq)]
+#[derive(Clone, Copy, PartialEq, Eq)]
 pub enum PeimState {
     /// It has not started (`PEIM_STATE_NOT_DISPATCHED`).
     NotDispatched,

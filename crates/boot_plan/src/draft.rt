@@ -16,7 +16,7 @@ use pi_base::{OutOfMemory, Seq};
 use std::alloc::Global;
 
 // Memory that a line gives.
-#[derive(Clone, Copy, Debug, PartialEq, Eq)]
+#[derive(Clone, Copy, PartialEq, Eq)]
 pub struct Area {
     pub line: u32,
     pub base: u64,
@@ -24,7 +24,7 @@ pub struct Area {
 }
 
 // A number that a line gives.
-#[derive(Clone, Copy, Debug, PartialEq, Eq)]
+#[derive(Clone, Copy, PartialEq, Eq)]
 pub struct Amount {
     pub line: u32,
     pub value: u64,

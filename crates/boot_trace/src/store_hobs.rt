@@ -50,7 +50,7 @@ pub(crate) fn put_hob_at<S: Sink, M: PeiStore>(
 }
 
 /// The HOB list of a store, counted.
-#[derive(Clone, Copy, Debug, PartialEq, Eq)]
+#[derive(Clone, Copy, PartialEq, Eq)]
 pub struct HobCount {
     /// How many HOBs there are but the end HOB.
     pub hobs: u32,

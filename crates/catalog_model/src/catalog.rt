@@ -13,7 +13,7 @@ pub struct Catalog {
 }
 
 /// A volume, where it is mapped.
-#[derive(Clone, Copy, Debug, PartialEq, Eq)]
+#[derive(Clone, Copy, PartialEq, Eq)]
 pub struct VolumeEntry {
     /// The physical address of its first byte.
     pub base: u64,

@@ -2,7 +2,7 @@
 use crate::read_file::Stretch;
 
 /// Where a volume is mapped, and where it lies in the file of its plan volume.
-#[derive(Clone, Copy, Debug, PartialEq, Eq)]
+#[derive(Clone, Copy, PartialEq, Eq)]
 pub struct Location {
     /// The physical address of its first byte.
     pub base: u64,

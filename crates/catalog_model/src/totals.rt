@@ -2,7 +2,7 @@
 use crate::holding::Holding;
 
 /// How many volumes and modules there are, and how many bytes their scripts have together.
-#[derive(Clone, Copy, Debug, PartialEq, Eq)]
+#[derive(Clone, Copy, PartialEq, Eq)]
 pub struct Totals {
     pub volumes: usize,
     pub modules: usize,

@@ -6,7 +6,7 @@ use crate::opcode::Opcode;
 use pi_base::{GUID_LEN, Guid};
 
 /// An opcode of a dependency expression (PI 1.8, volume 1, "Dependency Expression Instruction Set"; volume 2 has `EFI_DEP_BEFORE`, `EFI_DEP_AFTER` and `EFI_DEP_SOR`).
-#[derive(Clone, Copy, Debug, PartialEq, Eq)]
+#[derive(Clone, Copy, PartialEq, Eq)]
 pub enum Instruction {
     /// Directly before the driver of a file name.
     Before(Guid),

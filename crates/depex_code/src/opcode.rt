@@ -2,7 +2,7 @@
 use pi_base::Guid;
 
 /// An opcode of a tree (PI 1.8, volume 1, "Dependency Expression Instruction Set").
-#[derive(Clone, Copy, Debug, PartialEq, Eq)]
+#[derive(Clone, Copy, PartialEq, Eq)]
 pub enum Opcode {
     /// Whether a GUID is installed.
     Push(Guid),

@@ -6,7 +6,7 @@ use boot_model::DxeEnd;
 use pi_base::Guid;
 
 /// What an event of the machine did, beside its lines.
-#[derive(Clone, Copy, Debug, PartialEq, Eq)]
+#[derive(Clone, Copy, PartialEq, Eq)]
 pub struct Event {
     /// The protocol that it installed or uninstalled.
     pub changed: Option<Guid>,
@@ -17,7 +17,7 @@ pub struct Event {
 }
 
 /// What a step did.
-#[derive(Clone, Copy, Debug, PartialEq, Eq)]
+#[derive(Clone, Copy, PartialEq, Eq)]
 pub enum Stepped {
     /// An event of the machine.
     Went(Event),

@@ -7,14 +7,14 @@ use boot_model::{REGISTERS, Register};
 use store_model::{Desc, Pool};
 
 /// A register that an action writes, and what it then holds. A register that is not there is not written.
-#[derive(Clone, Copy, Debug, PartialEq, Eq)]
+#[derive(Clone, Copy, PartialEq, Eq)]
 pub struct Write {
     pub r: u8,
     pub register: Register,
 }
 
 /// The registers that an action writes, in order.
-#[derive(Clone, Copy, Debug, PartialEq, Eq)]
+#[derive(Clone, Copy, PartialEq, Eq)]
 pub enum Writes {
     Nothing,
     One(Write),

@@ -10,7 +10,7 @@ use free_text::{Parted, Spelled};
 use pi_base::OutOfMemory;
 
 /// What the check of a text answers.
-#[derive(Clone, Copy, Debug, PartialEq, Eq)]
+#[derive(Clone, Copy, PartialEq, Eq)]
 pub enum Verdict {
     /// The text is the whole text of some free boot.
     Yes,

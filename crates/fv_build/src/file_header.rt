@@ -11,7 +11,7 @@ use pi_base::{Guid, OutOfMemory, Seq, checksum8, put_u24, put_u64};
 pub(crate) const WRITTEN: u8 = !(HEADER_CONSTRUCTION | HEADER_VALID | DATA_VALID);
 
 /// What a file's header says, but for its checksums and its State.
-#[derive(Clone, Copy, Debug, PartialEq, Eq)]
+#[derive(Clone, Copy)]
 pub(crate) struct FileHead {
     pub name: Guid,
     pub kind: u8,

@@ -11,7 +11,7 @@ pub(crate) const MOST_SIZE: usize = 0xff_fffe;
 pub(crate) const MOST_EXTENDED_SIZE: usize = 0xffff_ffff;
 
 /// A file system.
-#[derive(Clone, Copy, Debug, PartialEq, Eq)]
+#[derive(Clone, Copy)]
 pub(crate) enum FileSystem {
     /// Sections and files of at most `MOST_SIZE` bytes.
     Ffs2,

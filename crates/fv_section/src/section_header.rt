@@ -27,7 +27,7 @@ pub const TYPE_AT: usize = 3;
 pub const EXTENDED_SIZE_AT: usize = 4;
 
 /// The fields of a section's header.
-#[derive(Clone, Copy, Debug, PartialEq, Eq)]
+#[derive(Clone, Copy)]
 pub(crate) struct SectionHeader {
     /// The Type byte.
     pub kind: u8,

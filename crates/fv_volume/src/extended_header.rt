@@ -12,7 +12,7 @@ use pi_base::{GUID_LEN, Guid, u32_at};
 pub const EXT_HEADER_LEN: usize = 20;
 
 /// What an extended header says.
-#[derive(Clone, Copy, Debug, PartialEq, Eq)]
+#[derive(Clone, Copy)]
 pub(crate) struct ExtendedHeader {
     /// FvName.
     pub name: Guid,

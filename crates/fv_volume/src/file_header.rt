@@ -44,7 +44,7 @@ pub const CHECKSUM: u8 = 0x40;
 pub const FIXED_CHECKSUM: u8 = 0xaa;
 
 /// The fields of a file's header that are read.
-#[derive(Clone, Copy, Debug, PartialEq, Eq)]
+#[derive(Clone, Copy)]
 pub(crate) struct FileHeader {
     pub name: Guid,
     /// The file checksum, that of the body.

@@ -25,7 +25,7 @@ pub const HEADER_INVALID: u8 = 0x20;
 /// How far a file has come, by the highest bit of its state.
 ///
 /// PI 1.8, volume 3, file integrity and state.
-#[derive(Clone, Copy, Debug, PartialEq, Eq)]
+#[derive(Clone, Copy)]
 pub(crate) enum FileState {
     /// No bit is set.
     Blank,

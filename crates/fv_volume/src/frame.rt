@@ -13,7 +13,7 @@ use pi_base::Guid;
 pub const ALIGNMENT: usize = 8;
 
 /// The frame of a volume.
-#[derive(Clone, Copy, Debug, PartialEq, Eq)]
+#[derive(Clone, Copy)]
 pub(crate) struct Frame {
     /// The volume's bytes, headers and all.
     pub len: usize,

@@ -13,7 +13,7 @@ use crate::part::part_of;
 use crate::volume_header::Format;
 
 /// What an item is.
-#[derive(Clone, Copy, Debug, PartialEq, Eq)]
+#[derive(Clone, Copy)]
 pub(crate) enum ItemKind {
     /// A header that is not valid, passed over as 24 bytes (own).
     Dead,
@@ -26,7 +26,7 @@ pub(crate) enum ItemKind {
 }
 
 /// What stands at a place, and the offset of the first byte behind it.
-#[derive(Clone, Copy, Debug, PartialEq, Eq)]
+#[derive(Clone, Copy)]
 pub(crate) struct Item {
     pub kind: ItemKind,
     pub end: usize,

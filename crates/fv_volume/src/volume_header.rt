@@ -58,7 +58,7 @@ pub const FFS3: [u8; 16] = [
 ];
 
 /// A file system by its GUID.
-#[derive(Clone, Copy, Debug, PartialEq, Eq)]
+#[derive(Clone, Copy)]
 pub(crate) enum FileSystem {
     /// Files below 16 MiB.
     Ffs2,
@@ -69,7 +69,7 @@ pub(crate) enum FileSystem {
 }
 
 /// The fields of a volume's header that are read.
-#[derive(Clone, Copy, Debug, PartialEq, Eq)]
+#[derive(Clone, Copy)]
 pub(crate) struct VolumeHeader {
     pub file_system: FileSystem,
     /// FvLength: the volume's bytes, header and all.
@@ -84,7 +84,7 @@ pub(crate) struct VolumeHeader {
 }
 
 /// How files are stored in a volume.
-#[derive(Clone, Copy, Debug, PartialEq, Eq)]
+#[derive(Clone, Copy)]
 pub(crate) struct Format {
     /// Whether the volume may have large files.
     pub large_files: bool,

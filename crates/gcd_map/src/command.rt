@@ -20,7 +20,7 @@ const REMOVE: [u8; 6] = *b"remove";
 pub const ALIGN_END: u64 = 256;
 
 /// A command on the memory space, with what it is called with.
-#[derive(Clone, Copy, Debug, PartialEq, Eq)]
+#[derive(Clone, Copy, PartialEq, Eq)]
 pub enum Command {
     /// Adds memory of a kind.
     Add { kind: GcdKind, base: u64, len: u64 },

@@ -23,7 +23,7 @@ pub const MEMORY_MAPPED_IO_PORT: u32 = 4;
 pub const MEMORY_RESERVED: u32 = 5;
 
 /// A stretch of memory in a HOB, and the HOB's offset.
-#[derive(Clone, Copy, Debug, PartialEq, Eq)]
+#[derive(Clone, Copy)]
 pub(crate) struct HobStretch {
     pub at: usize,
     pub kind: GcdKind,
@@ -32,7 +32,7 @@ pub(crate) struct HobStretch {
 }
 
 /// The bits of an address in a CPU HOB, and the HOB's offset.
-#[derive(Clone, Copy, Debug, PartialEq, Eq)]
+#[derive(Clone, Copy)]
 pub(crate) struct CpuSize {
     pub at: usize,
     pub bits: u8,

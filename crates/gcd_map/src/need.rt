@@ -5,7 +5,7 @@ ghost use Rattle.gcd_map.specs.Tests.{Meets, Misses};
 use crate::state::{GcdKind, SpaceState};
 
 /// What the state of an address has to be.
-#[derive(Clone, Copy, Debug, PartialEq, Eq)]
+#[derive(Clone, Copy)]
 pub(crate) enum Need {
     /// Nothing is there.
     Absent,

@@ -11,7 +11,7 @@ use pi_base::{OutOfMemory, Seq};
 use std::alloc::Global;
 
 /// What a command is answered.
-#[derive(Clone, Copy, Debug, PartialEq, Eq)]
+#[derive(Clone, Copy, PartialEq, Eq)]
 pub enum Answer {
     /// It was done.
     Done,

@@ -3,7 +3,7 @@ ghost use Rattle.std.specs.Prelude.{◌≡◌};
 ghost use Rattle.gcd_map.specs.AddressSpace.{after_effect};
 
 /// What is at an address. PI 1.8, volume 2, `EFI_GCD_MEMORY_TYPE`.
-#[derive(Clone, Copy, Debug, PartialEq, Eq)]
+#[derive(Clone, Copy, PartialEq, Eq)]
 pub enum GcdKind {
     /// Nothing.
     NonExistent,
@@ -16,14 +16,14 @@ pub enum GcdKind {
 }
 
 /// The kind of an address, and whether it is allocated.
-#[derive(Clone, Copy, Debug, PartialEq, Eq)]
+#[derive(Clone, Copy, PartialEq, Eq)]
 pub struct SpaceState {
     pub kind: GcdKind,
     pub allocated: bool,
 }
 
 /// What a change does to each of its addresses.
-#[derive(Clone, Copy, Debug, PartialEq, Eq)]
+#[derive(Clone, Copy)]
 pub(crate) enum Effect {
     /// It has this state from then on.
     Becomes(SpaceState),

@@ -8,7 +8,7 @@ use phys_mem::PhysMem;
 use pi_base::{little_endian, u16_at};
 
 /// A HOB's type and length.
-#[derive(Clone, Copy, Debug, PartialEq, Eq)]
+#[derive(Clone, Copy, PartialEq, Eq)]
 pub struct Header {
     pub kind: u16,
     pub len: u16,

@@ -12,7 +12,7 @@ use pi_base::{Seq, u16_at};
 use std::alloc::Global;
 
 /// A HOB of a list, by its place in the bytes.
-#[derive(Clone, Copy, Debug, PartialEq, Eq)]
+#[derive(Clone, Copy, PartialEq, Eq)]
 pub struct HobPlace {
     /// The offset of its header.
     pub at: usize,

@@ -6,7 +6,7 @@ ghost use Rattle.mp_text.specs.OutcomeText.{keyword_of};
 use mp_core::MpEvent;
 
 /// What an event's line begins with.
-#[derive(Clone, Copy, Debug, PartialEq, Eq)]
+#[derive(Clone, Copy, PartialEq, Eq)]
 pub enum Keyword {
     All,
     This,

@@ -4,7 +4,7 @@ ghost use Rattle.pi_base.specs.Word.{word_number};
 ghost use Rattle.pi_base.specs.WordText.{word_text};
 
 /// What a boot service or a module answers: the `EFI_STATUS` values that occur here (UEFI's appendix of status codes; `NotAvailableYet` is PI 1.8's, volume 1). In a script a word is written by its number, from 0 in this order (own).
-#[derive(Clone, Copy, Debug, PartialEq, Eq)]
+#[derive(Clone, Copy, PartialEq, Eq)]
 pub enum Word {
     /// The service did what was asked.
     Success,

@@ -4,7 +4,7 @@ ghost use Rattle.pitools.specs.declared.command_line.Tool.{Tool};
 ghost use Rattle.pitools.specs.CommandLine.{words_of, tool_words, AskForTool, AskForMap, AskForCheck};
 
 /// A tool of one file.
-#[derive(Clone, Copy, Debug, PartialEq, Eq)]
+#[derive(Clone, Copy)]
 pub(crate) enum Tool {
     /// The bytes of an expression's text.
     AssembleDepex,

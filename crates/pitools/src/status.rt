@@ -1,7 +1,7 @@
 // What the tools answer.
 
 /// What the tools answer, with the number that the program ends with.
-#[derive(Clone, Copy, Debug, PartialEq, Eq)]
+#[derive(Clone, Copy, PartialEq, Eq)]
 pub enum ToolStatus {
     /// The text is the answer.
     Done = 0,

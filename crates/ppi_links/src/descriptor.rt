@@ -16,7 +16,7 @@ use store_laws::{bodies_are_inside, states_fit};
 use store_model::{Desc, DescKind};
 
 /// What a descriptor says.
-#[derive(Clone, Copy, Debug, PartialEq, Eq)]
+#[derive(Clone, Copy, PartialEq, Eq)]
 pub struct DescRead {
     pub kind: DescKind,
     /// Its GUID, which stands behind it or in a volume.

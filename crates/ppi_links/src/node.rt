@@ -10,7 +10,7 @@ use heap_laws::nodes_read;
 use pei_heap::word_in;
 
 /// What a node says. Its places are addresses.
-#[derive(Clone, Copy, Debug, PartialEq, Eq)]
+#[derive(Clone, Copy, PartialEq, Eq)]
 pub struct Node {
     /// Where it stands.
     pub at: u64,

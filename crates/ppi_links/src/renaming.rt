@@ -18,7 +18,7 @@ use store_model::Desc;
 const DESCRIPTOR_AT: u64 = 8;
 
 /// A PPI that is found: its place in the list, and the offset of its node.
-#[derive(Clone, Copy, Debug, PartialEq, Eq)]
+#[derive(Clone, Copy, PartialEq, Eq)]
 pub struct PpiFound {
     pub place: u32,
     pub node: u64,

@@ -6,20 +6,20 @@ ghost use Rattle.store_model.specs.declared.store_handle.StoreFault.TheVariants 
 use pi_base::{Guid, OutOfMemory, Word};
 
 /// A pool: the offset of its body, and the bytes that were asked for.
-#[derive(Clone, Copy, Debug, PartialEq, Eq)]
+#[derive(Clone, Copy, PartialEq, Eq)]
 pub struct Pool {
     pub offset: u64,
     pub size: u32,
 }
 
 /// A descriptor: the offset of its body.
-#[derive(Clone, Copy, Debug, Default, PartialEq, Eq)]
+#[derive(Clone, Copy, Default, PartialEq, Eq)]
 pub struct Desc {
     pub offset: u64,
 }
 
 /// What a descriptor is for (PI 1.8, volume 1, the flags of `EFI_PEI_PPI_DESCRIPTOR` and `EFI_PEI_NOTIFY_DESCRIPTOR`).
-#[derive(Clone, Copy, Debug, PartialEq, Eq)]
+#[derive(Clone, Copy, PartialEq, Eq)]
 pub enum DescKind {
     /// A PPI.
     Ppi,
@@ -30,7 +30,7 @@ pub enum DescKind {
 }
 
 /// The GUID of a descriptor that is made.
-#[derive(Clone, Copy, Debug, PartialEq, Eq)]
+#[derive(Clone, Copy, PartialEq, Eq)]
 pub enum GuidFrom {
     /// It stands behind the descriptor.
     Inline(Guid),
@@ -39,7 +39,7 @@ pub enum GuidFrom {
 }
 
 /// What a call that installs, reinstalls or notifies has still to visit: pairs of a PPI and a callback, in order of PPI and then of registration.
-#[derive(Clone, Copy, Debug, PartialEq, Eq)]
+#[derive(Clone, Copy, PartialEq, Eq)]
 pub struct Sweep {
     /// The place behind the last PPI.
     pub ppi_to: u32,
@@ -54,7 +54,7 @@ pub struct Sweep {
 }
 
 /// What a notification is told: its entry, and the PPI for which it runs with its GUID and value.
-#[derive(Clone, Copy, Debug, PartialEq, Eq)]
+#[derive(Clone, Copy, PartialEq, Eq)]
 pub struct Firing {
     pub entry: u32,
     pub ppi: Desc,
@@ -63,7 +63,7 @@ pub struct Firing {
 }
 
 /// A list of entries, each of which has a node.
-#[derive(Clone, Copy, Debug, PartialEq, Eq)]
+#[derive(Clone, Copy, PartialEq, Eq)]
 pub enum EntryList {
     /// The installed PPIs.
     Ppis,
@@ -76,7 +76,7 @@ pub enum EntryList {
 }
 
 /// What a store tells of an entry.
-#[derive(Clone, Copy, Debug, PartialEq, Eq)]
+#[derive(Clone, Copy, PartialEq, Eq)]
 pub struct EntryTold {
     /// The offset of its node.
     pub node: u64,
@@ -89,7 +89,7 @@ pub struct EntryTold {
 }
 
 /// A HOB's type and length, and the offset of the one behind it.
-#[derive(Clone, Copy, Debug, PartialEq, Eq)]
+#[derive(Clone, Copy, PartialEq, Eq)]
 pub struct HobSpan {
     pub kind: u16,
     /// In bytes, with the header.

@@ -5,7 +5,7 @@ ghost use Rattle.wait_index.specs.Standing.{is_ready, is_later};
 use crate::verdict::Verdict;
 
 /// How the part of a module stands.
-#[derive(Clone, Copy, Debug, PartialEq, Eq)]
+#[derive(Clone, Copy)]
 pub(crate) struct Standing {
     /// Its place, where its volume is known.
     pub(crate) place: Option<u32>,

@@ -16,7 +16,7 @@ use pi_base::Phase;
 use std::sync::ledger::Ledger;
 
 /// Whether a part may start: no, yes, or where all architectural protocols are installed.
-#[derive(Clone, Copy, Debug, PartialEq, Eq)]
+#[derive(Clone, Copy, PartialEq, Eq)]
 pub enum Verdict {
     No,
     Yes,
