@@ -3,14 +3,15 @@ ghost use Rattle.std.specs.Prelude.{◌≡◌, ◌++◌, ◌∷◌, [], Some, On
 ghost use Rattle.pi_base.specs.declared.guid.Guid.{Guid};
 ghost use Rattle.driver_order.specs.Lists.{numbers_of, IsPushed};
 
-use indexmap::IndexMap;
 use pi_base::{Guid, OutOfMemory};
 use std::alloc::Global;
+use std::collections::BTreeMap;
 
 /// For each file name the drivers that give it, in discovered order.
 #[derive(Drop)]
 pub(crate) struct NumberLists {
-    lists: IndexMap<Guid, Vec<u32>>,
+    lists: BTreeMap<Guid, Vec<u32>, Global>,
+    alloc: Global,
 }
 
 // Puts a number at the end.
@@ -29,7 +30,8 @@ impl NumberLists {
         ensures { (name : Guid) → numbers_of result name ≡ [] }
     {
         NumberLists {
-            lists: IndexMap::new(alloc),
+            lists: BTreeMap::new(alloc),
+            alloc,
         }
     }
 
@@ -50,7 +52,7 @@ impl NumberLists {
         match self.lists.get_mut(&name) {
             Some(numbers) => push(numbers, number),
             None => {
-                let mut numbers = Vec::new(*self.lists.allocator());
+                let mut numbers = Vec::new(self.alloc);
                 push(&mut numbers, number)?;
                 match self.lists.insert(name, numbers) {
                     Ok(_) => Ok(()),

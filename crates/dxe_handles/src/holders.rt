@@ -3,14 +3,15 @@ ghost use Rattle.std.specs.Prelude.{◌≡◌, ◌≤◌, [], OnOk, OnErr, lengt
 ghost use Rattle.pi_base.specs.declared.guid.Guid.{Guid};
 ghost use Rattle.dxe_handles.specs.Holders.{holders_of, leading, with_handle, without_handle, HaveStill, HasInstead, Rises};
 
-use indexmap::IndexMap;
 use pi_base::{Guid, OutOfMemory};
 use std::alloc::Global;
+use std::collections::BTreeMap;
 
 /// For each protocol that was ever installed the handles that have it, lowest first.
 #[derive(Drop)]
 pub(crate) struct Holders {
-    lists: IndexMap<Guid, Vec<u32>>,
+    lists: BTreeMap<Guid, Vec<u32>, Global>,
+    alloc: Global,
 }
 
 /// The place of the first handle that is not below this one.
@@ -52,7 +53,8 @@ impl Holders {
         ensures { (guid : Guid) → holders_of result guid ≡ [] }
     {
         Holders {
-            lists: IndexMap::new(alloc),
+            lists: BTreeMap::new(alloc),
+            alloc,
         }
     }
 
@@ -75,7 +77,7 @@ impl Holders {
         match self.lists.get_mut(&guid) {
             Some(handles) => put(handles, handle),
             None => {
-                let mut handles = Vec::new(*self.lists.allocator());
+                let mut handles = Vec::new(self.alloc);
                 put(&mut handles, handle)?;
                 match self.lists.insert(guid, handles) {
                     Ok(_) => Ok(()),
