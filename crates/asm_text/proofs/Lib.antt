@@ -19,7 +19,6 @@ mod OperandLaws
 mod OperandTexts
 mod Paths
 mod PlainWords
-mod Printed
 mod Readables
 mod RegisterLists
 mod ScriptLines

@@ -1,17 +1,13 @@
 // Actions as lines.
-ghost use Rattle.std.specs.Prelude.{◌≡◌, ◌==◌, if◌then◌else◌, ◌++◌, ◌∷◌, [], flat_map, OnOk};
+ghost use Rattle.std.specs.Prelude.{◌≡◌, ◌==◌, if◌then◌else◌, ◌++◌, flat_map, OnOk};
 ghost use Rattle.act_code.specs.Table.{code_of_action};
-ghost use Rattle.asm_text.specs.ActionText.{name_of, small_number, kind_word, guid_words, last_words, operand_words, action_text, spaced};
+ghost use Rattle.asm_text.specs.ActionText.{name_of, operand_words, action_text, spaced};
 ghost use Rattle.asm_text.specs.ScriptText.{action_line};
-ghost use Rattle.asm_text.specs.Numerals.{register};
+ghost use Rattle.asm_text.specs.Operands.{operand_text};
 
-use crate::operand::{Operand, put_operands, put_registers};
-use act_code::{Action, GuidArg};
+use crate::operand::{Operand, put_operands};
+use act_code::Action;
 use pi_base::{OutOfMemory, Seq};
-
-const PPI: u8 = 0;
-
-const CALLBACK: u8 = 1;
 
 const LINE_FEED: u8 = b'\n';
 
@@ -47,180 +43,81 @@ fn name_of(action: &Action) -> &'static [u8]
     }
 }
 
-// One of two words, by a form.
-fn either(form: u8, zero: &'static [u8], other: &'static [u8]) -> &'static [u8]
-    ensures { result.now ≡ if form == 0 then zero.now else other.now }
+// The operands of an action, in the order of its line.
+fn operands<'a>(action: &'a Action) -> [Operand<'a>; 4]
+    ensures { flat_map operand_text result ≡ flat_map spaced (operand_words action.now) }
 {
-    if form == 0 { zero } else { other }
-}
-
-// What a descriptor is of.
-fn kind_word(kind: u8) -> &'static [u8]
-    ensures { result.now ≡ kind_word kind }
-{
-    match kind {
-        PPI => b"ppi",
-        CALLBACK => b"callback",
-        _ => b"dispatch",
-    }
-}
-
-// Adds a descriptor's register, kind and GUID.
-fn put_descriptor(out: &mut Seq<u8>, d: u8, kind: u8, guid: &GuidArg) -> Result<(), OutOfMemory>
-    ensures { OnOk result (out.new ≡ out.old ++ flat_map spaced (register d ∷ kind_word kind ∷ guid_words guid.now)) }
-{
-    match guid {
-        GuidArg::Inline(guid) => put_operands(
-            out,
-            &[
-                Operand::Register(d),
-                Operand::Text(kind_word(kind)),
-                Operand::Guid(guid),
-            ],
-        ),
-        GuidArg::Register(v) => put_operands(
-            out,
-            &[
-                Operand::Register(d),
-                Operand::Text(kind_word(kind)),
-                Operand::Text(b"at"),
-                Operand::Register(*v),
-            ],
-        ),
-    }
-}
-
-// Adds a descriptor's last operand.
-fn put_last(out: &mut Seq<u8>, kind: u8, arg: u8) -> Result<(), OutOfMemory>
-    ensures { OnOk result (out.new ≡ out.old ++ flat_map spaced (last_words kind arg)) }
-{
-    if kind == PPI {
-        put_operands(out, &[Operand::Register(arg)])
-    } else {
-        put_operands(
-            out,
-            &[Operand::Text(b"block"), Operand::Decimal(u16::from(arg))],
-        )
-    }
-}
-
-// Adds the operands of `desc`.
-fn put_desc(out: &mut Seq<u8>, d: u8, kind: u8, guid: &GuidArg, arg: u8) -> Result<(), OutOfMemory>
-    ensures { OnOk result
-        (out.new ≡ out.old ++ flat_map spaced (register d ∷ kind_word kind ∷ (guid_words guid.now ++ last_words kind arg))) }
-{
-    put_descriptor(out, d, kind, guid)?;
-    put_last(out, kind, arg)
-}
-
-// Adds the operands of an action.
-fn put_words(out: &mut Seq<u8>, action: &Action) -> Result<(), OutOfMemory>
-    ensures { OnOk result (out.new ≡ out.old ++ flat_map spaced (operand_words action.now)) }
-{
-    use Operand::{Bytes, Decimal, Hexadecimal, Register, Status, Text};
+    use Operand::{
+        Block, Bytes, GetOrSet, Guid, GuidArg, Kind, Last, NewOrOn, Nothing, Number2, Number4,
+        Number8, Register, Registers, Small, Status, Text,
+    };
     match action {
-        Action::Set { r, n } | Action::Add { r, n } => {
-            put_operands(out, &[Register(*r), Hexadecimal(*n)])
-        }
-        Action::Pool { r, size } => {
-            put_operands(out, &[Register(*r), Hexadecimal(u64::from(*size))])
-        }
-        Action::Store { p, offset, bytes } => put_operands(
-            out,
-            &[
-                Register(*p),
-                Hexadecimal(u64::from(*offset)),
-                Bytes(bytes.as_slice()),
-            ],
-        ),
-        Action::Addr { v, x, offset } => put_operands(
-            out,
-            &[Register(*v), Register(*x), Hexadecimal(u64::from(*offset))],
-        ),
-        Action::Peek { v, n } => put_operands(out, &[Register(*v), Decimal(u16::from(*n))]),
-        Action::Desc { d, kind, guid, arg } => put_desc(out, *d, *kind, guid, *arg),
-        Action::Install { list } | Action::Notify { list } => put_registers(out, list.as_slice()),
+        Action::Set { r, n } | Action::Add { r, n } => [
+            Register(*r),
+            Number8(*n),
+            Nothing,
+            Nothing,
+        ],
+        Action::Pool { r, size } => [Register(*r), Number4(*size), Nothing, Nothing],
+        Action::Store { p, offset, bytes } => [
+            Register(*p),
+            Number4(*offset),
+            Bytes(bytes),
+            Nothing,
+        ],
+        Action::Addr { v, x, offset } => [Register(*v), Register(*x), Number4(*offset), Nothing],
+        Action::Peek { v, n } => [Register(*v), Small(*n), Nothing, Nothing],
+        Action::Desc { d, kind, guid, arg } => [
+            Register(*d),
+            Kind(*kind),
+            GuidArg(guid),
+            Last(*kind, *arg),
+        ],
+        Action::Install { list } | Action::Notify { list } => [
+            Registers(list),
+            Nothing,
+            Nothing,
+            Nothing,
+        ],
         Action::Locate {
             d,
             v,
             guid,
             instance,
-        } => put_operands(
-            out,
-            &[
-                Register(*d),
-                Register(*v),
-                Operand::Guid(guid),
-                Decimal(*instance),
-            ],
-        ),
-        Action::Hob { kind, body } => put_operands(
-            out,
-            &[Decimal(u16::from(*kind)), Bytes(body.as_slice())],
-        ),
+        } => [Register(*d), Register(*v), Guid(guid), Number2(*instance)],
+        Action::Hob { kind, body } => [Small(*kind), Bytes(body), Nothing, Nothing],
         Action::Reinstall { old: a, new: b }
         | Action::Memory {
             begin: a,
             length: b,
-        } => put_operands(out, &[Register(*a), Register(*b)]),
+        } => [Register(*a), Register(*b), Nothing, Nothing],
         Action::Pages {
             r,
             memory_type,
             count,
-        } => put_operands(
-            out,
-            &[
-                Register(*r),
-                Decimal(u16::from(*memory_type)),
-                Hexadecimal(u64::from(*count)),
-            ],
-        ),
-        Action::BootMode { form, r } => {
-            put_operands(out, &[Text(either(*form, b"get", b"set")), Register(*r)])
-        }
-        Action::Log { text } => put_operands(out, &[Text(text.as_slice())]),
-        Action::SkipIf { condition, n } => put_operands(
-            out,
-            &[Decimal(u16::from(*condition)), Decimal(u16::from(*n))],
-        ),
-        Action::Ret { status } => put_operands(out, &[Status(*status)]),
-        Action::DxeInstall { form, h, guid, v } => put_operands(
-            out,
-            &[
-                Text(either(*form, b"new", b"on")),
-                Register(*h),
-                Operand::Guid(guid),
-                Register(*v),
-            ],
-        ),
-        Action::DxeReinstall { h, guid, old, new } => put_operands(
-            out,
-            &[
-                Register(*h),
-                Operand::Guid(guid),
-                Register(*old),
-                Register(*new),
-            ],
-        ),
-        Action::DxeUninstall { h, guid, v } => put_operands(
-            out,
-            &[Register(*h), Operand::Guid(guid), Register(*v)],
-        ),
-        Action::DxeLocate { h, v, guid } => put_operands(
-            out,
-            &[Register(*h), Register(*v), Operand::Guid(guid)],
-        ),
-        Action::DxeNotify { guid, block } => put_operands(
-            out,
-            &[
-                Operand::Guid(guid),
-                Text(b"block"),
-                Decimal(u16::from(*block)),
-            ],
-        ),
-        Action::Schedule { guid } => put_operands(out, &[Operand::Guid(guid)]),
-        Action::Process { v } => put_operands(out, &[Register(*v)]),
-        Action::Shadow | Action::Dispatch => put_operands(out, &[]),
+        } => [Register(*r), Small(*memory_type), Number4(*count), Nothing],
+        Action::BootMode { form, r } => [GetOrSet(*form), Register(*r), Nothing, Nothing],
+        Action::Log { text } => [Text(text), Nothing, Nothing, Nothing],
+        Action::SkipIf { condition, n } => [Small(*condition), Small(*n), Nothing, Nothing],
+        Action::Ret { status } => [Status(*status), Nothing, Nothing, Nothing],
+        Action::DxeInstall { form, h, guid, v } => [
+            NewOrOn(*form),
+            Register(*h),
+            Guid(guid),
+            Register(*v),
+        ],
+        Action::DxeReinstall { h, guid, old, new } => [
+            Register(*h),
+            Guid(guid),
+            Register(*old),
+            Register(*new),
+        ],
+        Action::DxeUninstall { h, guid, v } => [Register(*h), Guid(guid), Register(*v), Nothing],
+        Action::DxeLocate { h, v, guid } => [Register(*h), Register(*v), Guid(guid), Nothing],
+        Action::DxeNotify { guid, block } => [Guid(guid), Block(*block), Nothing, Nothing],
+        Action::Schedule { guid } => [Guid(guid), Nothing, Nothing, Nothing],
+        Action::Process { v } => [Register(*v), Nothing, Nothing, Nothing],
+        Action::Shadow | Action::Dispatch => [Nothing, Nothing, Nothing, Nothing],
     }
 }
 
@@ -229,6 +126,6 @@ pub(crate) fn put_action(out: &mut Seq<u8>, action: &Action) -> Result<(), OutOf
     ensures { OnOk result (out.new ≡ out.old ++ action_line action.now) }
 {
     out.append(name_of(action))?;
-    put_words(out, action)?;
+    put_operands(out, &operands(action))?;
     out.push(LINE_FEED)
 }
