@@ -21,7 +21,7 @@ use Rattle.printed_words.specs.Words.{IsPlain}
 use Rattle.printed_words.proofs.Comparisons.{same}
 use Rattle.asm_text.specs.WordReading.{space_place}
 use Rattle.asm_text.specs.OperandReading.{read, small_word, operands_at}
-use Rattle.asm_text.specs.LineReading.{or_named, common_action, memory_action, pei_action, dxe_action, named_action, action_of}
+use Rattle.asm_text.specs.LineReading.{or_named, common_action, memory_action, pei_action, dispatcher_action, dxe_action, named_action, action_of}
 use Rattle.asm_text.proofs.Fronts.{passed}
 use Rattle.asm_text.proofs.Stacks.{bind_some}
 use Rattle.asm_text.proofs.WordSplits.{Stands, word_end, stands_too}
@@ -95,7 +95,7 @@ name_plain code.Set = refl
 name_plain _ = refl
 
 named_there : (phase : Phase) (c : Code) → is_code_of phase c ≡ true → (text : List ℕ) → named_action phase (name_of c) text ≡ operands_at c text
-unfolding name_of pei_action memory_action common_action dxe_action
+unfolding name_of pei_action memory_action common_action dispatcher_action dxe_action
 named_there Pei code.DxeInstall of_phase text = absurd (false≢true of_phase)
 named_there Pei code.DxeReinstall of_phase text = absurd (false≢true of_phase)
 named_there Pei code.DxeUninstall of_phase text = absurd (false≢true of_phase)
@@ -167,17 +167,21 @@ pei_named name text a e =
     (named_or Pei name text code.BootMode (codes "boot_mode") _ a refl refl
     (named_or Pei name text code.Shadow (codes "shadow") _ a refl refl (memory_named name text a))))))) e
 
+dispatcher_named : (name text : List ℕ) (a : Action) → dispatcher_action name text ≡ Some a → IsNamed Dxe name text a
+unfolding dispatcher_action name_of
+dispatcher_named name text a e =
+    named_or Dxe name text code.DxeNotify (codes "notify") _ a refl refl
+    (named_or Dxe name text code.Schedule (codes "schedule") _ a refl refl
+    (named_or Dxe name text code.Process (codes "process") _ a refl refl
+    (named_or Dxe name text code.Dispatch (codes "dispatch") _ a refl refl (common_named Dxe name text a)))) e
+
 dxe_named : (name text : List ℕ) (a : Action) → dxe_action name text ≡ Some a → IsNamed Dxe name text a
 unfolding dxe_action name_of
 dxe_named name text a e =
     named_or Dxe name text code.DxeInstall (codes "install") _ a refl refl
     (named_or Dxe name text code.DxeReinstall (codes "reinstall") _ a refl refl
     (named_or Dxe name text code.DxeUninstall (codes "uninstall") _ a refl refl
-    (named_or Dxe name text code.DxeLocate (codes "locate") _ a refl refl
-    (named_or Dxe name text code.DxeNotify (codes "notify") _ a refl refl
-    (named_or Dxe name text code.Schedule (codes "schedule") _ a refl refl
-    (named_or Dxe name text code.Process (codes "process") _ a refl refl
-    (named_or Dxe name text code.Dispatch (codes "dispatch") _ a refl refl (common_named Dxe name text a)))))))) e
+    (named_or Dxe name text code.DxeLocate (codes "locate") _ a refl refl (dispatcher_named name text a)))) e
 
 named_were : (phase : Phase) (name text : List ℕ) (a : Action) → named_action phase name text ≡ Some a → IsNamed phase name text a
 named_were Pei name text a e = pei_named name text a e

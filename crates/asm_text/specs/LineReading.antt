@@ -43,17 +43,21 @@ pei_action name text =
     (or_named name text code.BootMode (codes "boot_mode")
     (or_named name text code.Shadow (codes "shadow") (memory_action name text)))))))
 
+-- an action of drivers on notifications and the dispatcher, or one of both phases
+unfoldable pub dispatcher_action : List ℕ → List ℕ → Option Action
+dispatcher_action name text =
+    or_named name text code.DxeNotify (codes "notify")
+    (or_named name text code.Schedule (codes "schedule")
+    (or_named name text code.Process (codes "process")
+    (or_named name text code.Dispatch (codes "dispatch") (common_action name text))))
+
 -- an action of drivers
 unfoldable pub dxe_action : List ℕ → List ℕ → Option Action
 dxe_action name text =
     or_named name text code.DxeInstall (codes "install")
     (or_named name text code.DxeReinstall (codes "reinstall")
     (or_named name text code.DxeUninstall (codes "uninstall")
-    (or_named name text code.DxeLocate (codes "locate")
-    (or_named name text code.DxeNotify (codes "notify")
-    (or_named name text code.Schedule (codes "schedule")
-    (or_named name text code.Process (codes "process")
-    (or_named name text code.Dispatch (codes "dispatch") (common_action name text))))))))
+    (or_named name text code.DxeLocate (codes "locate") (dispatcher_action name text))))
 
 abbrev pub named_action : Phase → List ℕ → List ℕ → Option Action
 named_action Pei name text = pei_action name text

@@ -1,7 +1,7 @@
 // The line of an action, by its name.
 ghost use Rattle.std.specs.Prelude.{◌≡◌};
 ghost use Rattle.asm_text.specs.Reading.{Gives};
-ghost use Rattle.asm_text.specs.LineReading.{common_action, memory_action, pei_action, dxe_action, action_of};
+ghost use Rattle.asm_text.specs.LineReading.{common_action, memory_action, pei_action, dispatcher_action, dxe_action, action_of};
 
 use crate::unread::Unread;
 use crate::word::space_place;
@@ -91,6 +91,26 @@ fn pei_action(alloc: Global, name: &[u8], text: &[u8]) -> Result<Action, Unread>
     memory_action(alloc, name, text)
 }
 
+// An action of drivers on notifications and the dispatcher, or one of both phases.
+#[tactic(auto, unfolding(crate::specs::LineReading::dispatcher_action))]
+fn dispatcher_action(alloc: Global, name: &[u8], text: &[u8]) -> Result<Action, Unread>
+    ensures { Gives (λ x. x) result (dispatcher_action name.now text.now) }
+{
+    if name == b"notify".as_slice() {
+        return dxe_line::notify(text);
+    }
+    if name == b"schedule".as_slice() {
+        return dxe_line::schedule(text);
+    }
+    if name == b"process".as_slice() {
+        return dxe_line::process(text);
+    }
+    if name == b"dispatch".as_slice() {
+        return dxe_line::dispatch(text);
+    }
+    common_action(alloc, name, text)
+}
+
 // An action of drivers.
 #[tactic(auto, unfolding(crate::specs::LineReading::dxe_action))]
 fn dxe_action(alloc: Global, name: &[u8], text: &[u8]) -> Result<Action, Unread>
@@ -108,19 +128,7 @@ fn dxe_action(alloc: Global, name: &[u8], text: &[u8]) -> Result<Action, Unread>
     if name == b"locate".as_slice() {
         return dxe_line::locate(text);
     }
-    if name == b"notify".as_slice() {
-        return dxe_line::notify(text);
-    }
-    if name == b"schedule".as_slice() {
-        return dxe_line::schedule(text);
-    }
-    if name == b"process".as_slice() {
-        return dxe_line::process(text);
-    }
-    if name == b"dispatch".as_slice() {
-        return dxe_line::dispatch(text);
-    }
-    common_action(alloc, name, text)
+    dispatcher_action(alloc, name, text)
 }
 
 /// The action of a phase whose line this is.
