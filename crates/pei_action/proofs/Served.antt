@@ -1,5 +1,5 @@
 -- What a script is told of a service's answer is the reply of the machine.
-use Rattle.std.proofs.Common.{◌≡◌, Bool, ℕ, List, [], refl, ap, sym, subst, ◌∙◌, Option, Some, None, Result, Err}
+use Rattle.std.proofs.Common.{◌≡◌, Bool, ℕ, List, [], ◌+◌, ◌≤◌, refl, ap, sym, subst, ◌∙◌, Option, Some, None, Result, Ok, Err, slice_set}
 use Rattle.std.specs.Option.{option_and_then}
 use Rattle.pi_base.specs.declared.memory.OutOfMemory.{OutOfMemory}
 use Rattle.pi_base.specs.declared.word.Word.TheVariants.{InvalidParameter, NotFound}
@@ -15,11 +15,11 @@ use Rattle.store_model.specs.declared.store_handle.Sweep.{Sweep}
 use Rattle.store_model.specs.declared.store_handle.StoreFault.{StoreFault}
 use Rattle.store_model.specs.declared.store_handle.StoreFault.TheVariants as F
 use Rattle.store_model.specs.MemoryReading.{bytes_at}
-use Rattle.store_model.specs.StoreState.{StoreState}
+use Rattle.store_model.specs.StoreState.{StoreState, end_place}
 use Rattle.store_model.specs.Service.{Service, Answers}
 use Rattle.store_model.specs.Service.Descriptor.{offsets}
 use Rattle.store_model.specs.Service.Pool.{store}
-use Rattle.boot_model.specs.PeiAction.{Effect, Reply, Called, call_where, peek_reply, refusal, reply_where, status_of, store_reply}
+use Rattle.boot_model.specs.PeiAction.{Effect, Reply, Called, answer_reply, call_where, peek_reply, refusal, reply_where, status_of, store_reply}
 use Rattle.boot_model.specs.PeiAction as P
 use Rattle.frames.specs.declared.registers.Writes.{Writes}
 use Rattle.frames.specs.declared.registers.Writes.TheVariants as W
@@ -29,6 +29,7 @@ use Rattle.frames.specs.Writes.{written}
 use Rattle.pei_action.specs.declared.taken.Taken.{Taken}
 use Rattle.pei_action.specs.Taken.{Does, IsTaken, answered, refused, swept, told}
 use Rattle.pei_action.specs.Taken as T
+use Rattle.pei_action.proofs.Made.{Stands}
 
 -- a fault of a service with this reply
 fault_taken : {A : Type 0} (memory : Bool) (name : CallName) (service : Service A) (reply : Service A → Reply) (s new : StoreState) (registers : List Register) (fault : StoreFault)
@@ -51,10 +52,28 @@ refused_taken memory name does service reply s new registers fault taken e tells
 pub given_where : {B : Type 0} (name : CallName) (argument : Option B) (given : B) (reply : B → Reply) (s : StoreState) (frame : Frame) → Some given ≡ argument → call_where name argument reply s frame ≡ Called name (reply given)
 given_where name argument given reply s frame e = ap (λ a. call_where name a reply s frame) (sym e)
 
+-- one whose argument is not there
+pub not_given : {B : Type 0} (name : CallName) (argument : Option B) (reply : B → Reply) (s : StoreState) (frame : Frame) (taken : Taken)
+    → None ≡ argument → taken ≡ T.refusal name InvalidParameter → Does (call_where name argument reply s frame) s frame.registers taken s
+not_given name argument reply s frame taken e t =
+    subst (λ x. Does (call_where name argument reply s frame) s frame.registers x s) (sym t) (ap (λ a. call_where name a reply s frame) (sym e))
+
 -- a success
 pub told_taken : (name : CallName) (does : Effect) (s new : StoreState) (registers : List Register) (extra : Extra) (writes : Writes) (taken : Taken)
     → does ≡ Called name (P.told new (written registers writes) extra) → taken ≡ told name extra writes → Does does s registers taken new
 told_taken name does s new registers extra writes taken e t = subst (λ x. Does does s registers x new) (sym t) e
+
+-- what a service made, at its address
+pub made_taken : {A : Type 0} (name : CallName) (service : Service A) (place : A → ℕ) (register : A → Register) (r : ℕ) (s new : StoreState) (registers : List Register) (made : A) (address : ℕ) (writes : Writes) (taken : Taken)
+    → Stands place s service → service ≡ Ok (made, new) → (place made ≤ end_place new → address ≡ new.base + place made) → writes ≡ W.One (record { r = r; register = register made }) → taken ≡ told name (X.Number address) writes
+    → Does (Called name (answer_reply service (λ a. slice_set registers r (register a)) (λ a. X.Number (s.base + place a)) s registers)) s registers taken new
+made_taken name service place register r s new registers made address writes taken stands e at w t =
+    let here = subst (Stands place s) e stands in
+    told_taken name _ s new registers (X.Number address) writes taken
+    (ap (λ answer. Called name (answer_reply answer (λ a. slice_set registers r (register a)) (λ a. X.Number (s.base + place a)) s registers)) e
+    ∙ ap (λ base. Called name (P.told new (slice_set registers r (register made)) (X.Number (base + place made)))) (sym here.1)
+    ∙ ap (λ n. Called name (P.told new (slice_set registers r (register made)) (X.Number n))) (sym (at here.0))
+    ∙ ap (λ own. Called name (P.told new (written registers own) (X.Number address))) (sym w)) t
 
 pub swept_taken : (name : CallName) (does : Effect) (s new : StoreState) (registers : List Register) (sweep : Sweep) (installs : List Desc) (taken : Taken)
     → does ≡ Called name (record (P.told new registers X.Nothing) { sweep = Some sweep; installs = offsets installs }) → taken ≡ swept name sweep installs → Does does s registers taken new
@@ -75,6 +94,13 @@ not_stored s new frame held pool offset bytes taken at e same t =
     subst (λ x. Does (Called C.Store (store_reply s frame (option_and_then (λ to. store s to offset bytes) held))) s frame.registers x new) (sym t)
     (subst (λ n. Does (Called C.Store (store_reply s frame (option_and_then (λ to. store s to offset bytes) held))) s frame.registers (T.refusal C.Store InvalidParameter) n) (sym same)
     (ap (λ h. Called C.Store (store_reply s frame (option_and_then (λ to. store s to offset bytes) h))) (sym at) ∙ ap (λ r. Called C.Store (store_reply s frame r)) e))
+
+-- one where no register holds the pool
+pub no_pool : (s : StoreState) (frame : Frame) (held : Option Pool) (offset : ℕ) (bytes : List ℕ) (taken : Taken) → None ≡ held → taken ≡ T.refusal C.Store InvalidParameter
+    → Does (Called C.Store (store_reply s frame (option_and_then (λ to. store s to offset bytes) held))) s frame.registers taken s
+no_pool s frame held offset bytes taken e t =
+    subst (λ x. Does (Called C.Store (store_reply s frame (option_and_then (λ to. store s to offset bytes) held))) s frame.registers x s) (sym t)
+    (ap (λ h. Called C.Store (store_reply s frame (option_and_then (λ to. store s to offset bytes) h))) (sym e))
 
 -- bytes that are read
 abbrev shown : StoreState → List Register → Answer → Effect

@@ -1,5 +1,5 @@
 use Rattle.boot_model.proofs.Held.{held_pool}
-use Rattle.pei_action.proofs.Served.{stored, not_stored}
+use Rattle.pei_action.proofs.Served.{no_pool, not_stored, stored}
 use Rattle.pei_action.proofs.pools.write_pool.Goals as goal
 
 pub returns-then-store : goal.returns-then-store
@@ -14,4 +14,14 @@ returns-else-store g c = record {
   row = λ old h.
       let mid = c.if-store.ensures.row old (h.0, held_pool old c.args.frame.now.registers c.args.p c.in-Some.pool h.1 c.in-Some.ensures) in
       (mid.0, not_stored old mid.0 c.args.frame.now _ c.in-Some.pool c.args.offset c.args.bytes.now c.refusal-else-store.result c.in-Some.ensures mid.1.0 mid.1.1 c.refusal-else-store.ensures, mid.2);
+}
+
+pub returns-in-None : goal.returns-in-None
+returns-in-None g c = record {
+  row = λ old h. (old, no_pool old c.args.frame.now _ c.args.offset c.args.bytes.now c.refusal.result c.in-None.ensures c.refusal.ensures, h.0);
+}
+
+pub store-requires : goal.store-requires
+store-requires g c = record {
+  state = let h = c.requires.state in (h.0, h.1, held_pool h.0 c.args.frame.now.registers c.args.p c.in-Some.pool h.2 c.in-Some.ensures);
 }
