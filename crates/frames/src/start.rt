@@ -21,7 +21,6 @@ fn has_block(catalog: &Catalog, phase: Phase, number: u32) -> bool
 }
 
 /// A module's script begins, unless it has no block; whether it has one.
-#[tactic(auto, using(crate::proofs::Blocks::begin, crate::proofs::Blocks::stay))]
 pub fn begin_script<W: Copy>(
     frames: &mut Frames<W>,
     catalog: &Catalog,
