@@ -5,3 +5,4 @@ mod Growing
 mod Handling
 mod Replying
 mod Requested
+mod Taking

@@ -9,13 +9,11 @@ use Rattle.act_code.specs.declared.action.Action.TheVariants as A
 use Rattle.catalog_model.specs.declared.catalog.Catalog.{Catalog}
 use Rattle.catalog_model.specs.Parts.{has_number, part_at, rank_at, module_name}
 use Rattle.boot_model.specs.declared.line.CallName.TheVariants as C
-use Rattle.boot_model.specs.declared.line.Extra.TheVariants as X
 use Rattle.boot_model.specs.DxeMachine.{DxeMachine, DriverFrame}
 use Rattle.boot_model.specs.DxeChoice.{asks_for_request, discovered_order}
 use Rattle.boot_model.specs.DxeAction.{Called, dxe_where, schedule_reply, unrequested_named}
 use Rattle.boot_laws.specs.UnrequestedDrivers.{WaitForRequest}
 use Rattle.boot_model.proofs.ListFacts.{each_found, each_has}
-use Rattle.frames.specs.declared.registers.Writes.TheVariants as W
 use Rattle.dxe_action.specs.declared.reply.Reply.{Reply}
 use Rattle.dxe_action.specs.Answered.{refusal, requests}
 use Rattle.dxe_action.specs.Reply.{IsReply}

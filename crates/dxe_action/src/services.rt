@@ -59,8 +59,9 @@ impl DxeServices {
         ensures made { IfOk result (AreServicesFor catalog.now) }
         ensures counted { IfOk result (AreCounted 0) }
     {
-        let order = DriverOrder::discover(alloc, catalog, bases)?;
+        // The flags first: less is dropped where memory ends.
         let requested = flags_down(alloc, catalog.modules.len())?;
+        let order = DriverOrder::discover(alloc, catalog, bases)?;
         Ok(DxeServices {
             handles: Handles::new(alloc),
             notes: Seq::new(alloc),
