@@ -7,7 +7,7 @@ use Rattle.catalog_model.specs.Parts.{part_at}
 use Rattle.boot_model.specs.declared.driver.Scheduled.{Scheduled}
 use Rattle.boot_model.specs.DxeChoice.{next_driver}
 use Rattle.boot_model.specs.DxeMachine.{DxeMachine}
-use Rattle.boot_model.specs.DxeStep.{dxe_case_in, in_dxe_case, queue_case, dxe_step, driver_started}
+use Rattle.boot_model.specs.DxeStep.{dxe_case_in, in_dxe_case, queue_case, dxe_step, dxe_stopped, driver_started}
 use Rattle.dxe_choice.specs.Queue.{Queue, IsQueueOf, IsDriver, IsNext}
 use Rattle.dxe_core.specs.Steps.{IsIdle}
 
@@ -24,3 +24,6 @@ queue_by catalog m next later chosen (Some part) some = chosen.behind (driver_st
 pub started_queue : (catalog : Catalog) (m : DxeMachine) (next : Scheduled) (later : Queue) (chosen : IsNext catalog m next later) → IsDriver catalog next
     → IsQueueOf catalog (driver_started catalog m next chosen.rest (part_at Dxe catalog next.module_number)) later
 started_queue catalog m next later chosen driver = queue_by catalog m next later chosen (part_at Dxe catalog next.module_number) driver
+
+pub step_stops : (catalog : Catalog) (fuel : ℕ) (m : DxeMachine) → IsIdle m → next_driver catalog m ≡ None → dxe_step catalog fuel m ≡ dxe_stopped catalog m
+step_stops catalog fuel m idle none = ap (in_dxe_case catalog fuel m) (ap (dxe_case_in catalog m) idle ∙ ap queue_case none)

@@ -1,6 +1,6 @@
 -- A turn, from what its parts leave.
 use Rattle.std.proofs.Common.{◌≡◌, ◌≤◌, ℕ, ◌+◌, List, [], ◌++◌, Option, Some, None, Ok, Err, Result, refl, sym, ap, ◌∙◌, subst, length, drop, arith}
-use Rattle.std.specs.Prelude.{OnOk, sum_by}
+use Rattle.std.specs.Prelude.{IsErr, OnOk, sum_by}
 use Rattle.std.specs.Option.{option_to_list}
 use Rattle.std.proofs.lemmas.Grind.{flat_map-append}
 use Rattle.std.proofs.lemmas.List.{append-nil, length-append, drop_at}
@@ -14,24 +14,25 @@ use Rattle.store_model.specs.HandleState.{HandleState}
 use Rattle.store_model.specs.StoreState.{StoreState}
 use Rattle.boot_model.specs.declared.driver.Scheduled.{Scheduled}
 use Rattle.boot_model.specs.declared.phase_end.DxeEnd.{DxeEnd}
+use Rattle.boot_model.specs.declared.phase_end.DxeEnd.TheVariants.{Done}
 use Rattle.boot_model.specs.DxeChoice.{a_priori_drivers, discovered_order, drivers_of}
 use Rattle.boot_model.specs.DxeMachine.{DxeMachine}
-use Rattle.boot_model.specs.DxeStep.{dxe_step, driver_started}
+use Rattle.boot_model.specs.DxeStep.{dxe_step, dxe_stopped, driver_started}
 use Rattle.boot_model.specs.Text.{text_of}
 use Rattle.boot_laws.proofs.DriverGrowth.{driver_steps_grow}
 use Rattle.boot_model.specs.EvaluationBound.{dxe_asked, dxe_guids}
 use Rattle.boot_model.specs.Licence.{AllDiffer}
 use Rattle.driver_order.specs.Order.{Drivers, IsOrderOf}
 use Rattle.wait_index.specs.Index.{order_in}
-use Rattle.dxe_choice.specs.Queue.{AreNew, Discovers, HasVolumes, Queue, IsQueueOf, IsDriver, IsNext}
+use Rattle.dxe_choice.specs.Queue.{AreNew, Discovers, HasVolumes, Queue, IsQueueOf, IsDriver, IsNext, ComesNext}
 use Rattle.dxe_core.specs.declared.event.Event.{Event}
 use Rattle.dxe_core.specs.Standing.{DxeCore, StandsFor}
 use Rattle.dxe_core.specs.Steps.{IsIdle, IsEvent, HasOver, HasStepped, HasEnded}
 use Rattle.dxe_core.specs.Turn.{Texts, Printed, PrintedPart}
 use Rattle.dxe_dispatch.specs.Ends.{IsNow}
 use Rattle.dxe_dispatch.specs.Events.{HasEvent}
-use Rattle.dxe_dispatch.specs.Turns.{AreOf, HasTurned, IsOver, IsWithin, TurnsTo}
-use Rattle.dxe_dispatch.proofs.Idle.{step_starts, started_queue}
+use Rattle.dxe_dispatch.specs.Turns.{AreOf, HasTurned, IsOver, IsWithin, TurnsTo, stop_lines}
+use Rattle.dxe_dispatch.proofs.Idle.{step_starts, step_stops, started_queue}
 use Rattle.dxe_dispatch.proofs.Growing.{step_grew}
 use Rattle.boot_trace.proofs.Lines.{part_none, part_whole}
 use Rattle.dxe_dispatch.proofs.Runs.{discovered_more}
@@ -46,6 +47,23 @@ starts_so catalog fuel later grown m next t chosen idle driver stepped =
     let turned : P (driver_started catalog m next chosen.rest (part_at Dxe catalog next.module_number)) =
     record { printed = stepped.printed; now = record { core = stepped.machine.core; queue = started_queue catalog m next grown chosen driver } } in
     subst P (sym (step_starts catalog fuel m next chosen.rest idle chosen.next_is)) turned
+
+-- where no driver comes next, DXE stops
+pub stops_so : (catalog : Catalog) (fuel : ℕ) (core : DxeCore) (queue grown : Queue) (m : DxeMachine) (t : Texts) → IsIdle m → AreOf catalog core queue m → ComesNext catalog m None grown
+    → Appends t.old t.new (text_of (stop_lines catalog m)) → IsOver (AreOf catalog core grown) m (dxe_step catalog fuel m) Done t
+stops_so catalog fuel core queue grown m t idle are none put =
+    let P : DxeMachine → Type 0 = λ x. IsOver (AreOf catalog core grown) m x Done t in
+    let services = are.core.services in
+    let index = none.1.index in
+    let over : P (dxe_stopped catalog m) = record {
+      ended = refl;
+      printed = record { told = stop_lines catalog m; lines = refl; text = put };
+      now = record {
+        core = record { frames = are.core.frames; services = record { handles = services.handles; notes = services.notes; order = services.order; requested = services.requested }; actions = are.core.actions; running = refl };
+        queue = record { scheduled = none.1.scheduled; waits = none.1.waits; index = record { phase = index.phase; order = index.order; waits = index.waits; opens = index.opens; again = index.again; installed = index.installed }; others = none.1.others };
+      };
+    } in
+    subst P (sym (step_stops catalog fuel m idle none.0)) over
 
 -- the machine behind what an event did, before volumes are discovered
 abbrev pub told : DxeMachine → DxeMachine → DxeMachine
@@ -157,6 +175,11 @@ turns_after stands store catalog fuel m later queue old mid new (Err halt) here 
 pub on_ok : {A E P Q : Type 0} (result : Result A E) → (P → Q) → OnOk result P → OnOk result Q
 on_ok (Ok done) f p = f p
 on_ok (Err fault) f p = tt
+
+-- what is left where a call went well is owed by no refusal
+pub not_ok : {A E : Type 0} (P : Type 0) (result : Result A E) → IsErr result → OnOk result P
+not_ok P (Ok done) e = cc
+not_ok P (Err fault) e = tt
 
 -- nothing was put of a step's lines
 pub none_started : (catalog : Catalog) (fuel : ℕ) (m : DxeMachine) (text : Option (List ℕ)) → PrintedPart m (dxe_step catalog fuel m) (record { old = text; new = text })

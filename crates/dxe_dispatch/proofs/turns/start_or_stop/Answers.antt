@@ -1,5 +1,6 @@
+use Rattle.std.proofs.Common.{sym, ◌∙◌}
 use Rattle.std.proofs.lemmas.Result.{err_from_is_err_and}
-use Rattle.dxe_dispatch.proofs.Turning.{none_started, part_started, starts_so}
+use Rattle.dxe_dispatch.proofs.Turning.{none_started, not_ok, part_started, starts_so, stops_so}
 use Rattle.dxe_dispatch.proofs.turns.start_or_stop.Goals as goal
 
 pub returns-in_err-next-clause-row : goal.returns-in_err-next-clause-row
@@ -19,3 +20,66 @@ returns-in_ok-start-in-Some-clause-row g c m fuel are idle =
     let chosen = rw c.in-Some.is at (c.in_ok-next.ensures.row m are) in
     let driver = rw c.in-Some.is at c.in_ok-next.ensures.driver in
     starts_so c.args.catalog.now fuel c.start.new.self c.choose.new.queue m next _ chosen idle driver (c.in_ok-start-in-Some.ensures.row m chosen.rest are.core)
+
+pub returns-in_err-next-clause-made : goal.returns-in_err-next-clause-made
+returns-in_err-next-clause-made g c = not_ok _ c.from_residual.result c.from_residual.ensures.0
+
+pub returns-in_err-next-clause-queue : goal.returns-in_err-next-clause-queue
+returns-in_err-next-clause-queue g c = not_ok _ c.from_residual.result c.from_residual.ensures.0
+
+pub returns-in_err-next-clause-owes : goal.returns-in_err-next-clause-owes
+returns-in_err-next-clause-owes g c = not_ok _ c.from_residual.result c.from_residual.ensures.0
+
+pub returns-in_err-next-clause-few_steps : goal.returns-in_err-next-clause-few_steps
+returns-in_err-next-clause-few_steps g c = c.in_err-next.ensures.few_steps
+
+pub returns-in_err-start-in-Some-clause-made : goal.returns-in_err-start-in-Some-clause-made
+returns-in_err-start-in-Some-clause-made g c = not_ok _ c.from_residual-in_err-start-in-Some.result c.from_residual-in_err-start-in-Some.ensures.0
+
+pub returns-in_err-start-in-Some-clause-queue : goal.returns-in_err-start-in-Some-clause-queue
+returns-in_err-start-in-Some-clause-queue g c = not_ok _ c.from_residual-in_err-start-in-Some.result c.from_residual-in_err-start-in-Some.ensures.0
+
+pub returns-in_err-start-in-Some-clause-owes : goal.returns-in_err-start-in-Some-clause-owes
+returns-in_err-start-in-Some-clause-owes g c = not_ok _ c.from_residual-in_err-start-in-Some.result c.from_residual-in_err-start-in-Some.ensures.0
+
+pub returns-in_err-start-in-Some-clause-few_steps : goal.returns-in_err-start-in-Some-clause-few_steps
+returns-in_err-start-in-Some-clause-few_steps g c = c.in_ok-next.ensures.few_steps
+
+pub returns-in_err-put_stop-in-None-clause-made : goal.returns-in_err-put_stop-in-None-clause-made
+returns-in_err-put_stop-in-None-clause-made g c = not_ok _ c.from_residual-in_err-put_stop-in-None.result c.from_residual-in_err-put_stop-in-None.ensures.0
+
+pub returns-in_err-put_stop-in-None-clause-queue : goal.returns-in_err-put_stop-in-None-clause-queue
+returns-in_err-put_stop-in-None-clause-queue g c = not_ok _ c.from_residual-in_err-put_stop-in-None.result c.from_residual-in_err-put_stop-in-None.ensures.0
+
+pub returns-in_err-put_stop-in-None-clause-owes : goal.returns-in_err-put_stop-in-None-clause-owes
+returns-in_err-put_stop-in-None-clause-owes g c = not_ok _ c.from_residual-in_err-put_stop-in-None.result c.from_residual-in_err-put_stop-in-None.ensures.0
+
+pub returns-in_err-put_stop-in-None-clause-few_steps : goal.returns-in_err-put_stop-in-None-clause-few_steps
+returns-in_err-put_stop-in-None-clause-few_steps g c = c.in_ok-next.ensures.few_steps
+
+pub returns-in_ok-start-in-Some-clause-made : goal.returns-in_ok-start-in-Some-clause-made
+returns-in_ok-start-in-Some-clause-made g c = c.in_ok-start-in-Some.ensures.made
+
+pub returns-in_ok-start-in-Some-clause-queue : goal.returns-in_ok-start-in-Some-clause-queue
+returns-in_ok-start-in-Some-clause-queue g c = c.in_ok-next.ensures.made
+
+pub returns-in_ok-start-in-Some-clause-faults : goal.returns-in_ok-start-in-Some-clause-faults
+returns-in_ok-start-in-Some-clause-faults g c = c.in_ok-start-in-Some.ensures.faults
+
+pub returns-in_ok-start-in-Some-clause-few_steps : goal.returns-in_ok-start-in-Some-clause-few_steps
+returns-in_ok-start-in-Some-clause-few_steps g c = c.in_ok-next.ensures.few_steps
+
+pub returns-in_ok-start-in-Some-clause-owes : goal.returns-in_ok-start-in-Some-clause-owes
+returns-in_ok-start-in-Some-clause-owes g c = c.in_ok-next.ensures.owes
+
+pub start-requires : goal.start-requires
+start-requires g c =
+    record {
+      idle = sym c.requires.state.1.core.frames ∙ c.requires.state.2;
+      part = rw c.in-Some.is at c.in_ok-next.ensures.driver;
+    }
+
+pub returns-in_ok-put_stop-in-None-clause-row : goal.returns-in_ok-put_stop-in-None-clause-row
+returns-in_ok-put_stop-in-None-clause-row g c m fuel are idle =
+    let none = rw c.in-None.is at (c.in_ok-next.ensures.row m are) in
+    stops_so c.args.catalog.now fuel c.args.dxe.now c.args.queue.now c.choose.new.queue m _ idle are none (c.in_ok-put_stop-in-None.ensures.row m (record { core = are.core; queue = none.1 }))
