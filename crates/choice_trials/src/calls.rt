@@ -18,6 +18,7 @@ use dxe_action::{DxeServices, Reply, take_own};
 use frames::{Write, Writes};
 use pi_base::{Guid, OutOfMemory, Seq, Span, Word};
 use std::alloc::Global;
+use std::process::Abort;
 use std::test::*;
 use store_plain::PlainStore;
 
@@ -26,7 +27,7 @@ const SEVEN: Guid = Guid([0, 0, 0, 0, 0, 0, 0, 0, 0, 0, 0, 0, 0, 0, 0, 7]);
 const EIGHT: Guid = Guid([0, 0, 0, 0, 0, 0, 0, 0, 0, 0, 0, 0, 0, 0, 0, 8]);
 
 /// Three drivers of one name with SOR, the first of them a priori, and one without SOR.
-const DRIVERS: [Row; 4] = [
+static DRIVERS: [Row; 4] = [
     (0, Kind::Driver, SEVEN, Some(0), Needs::Sor(Opcode::True)),
     (0, Kind::Driver, SEVEN, None, Needs::Sor(Opcode::True)),
     (0, Kind::Driver, SEVEN, None, Needs::Sor(Opcode::True)),
@@ -178,7 +179,7 @@ fn services_at(alloc: Global, catalog: &Catalog, bases: &[u64]) -> Option<DxeSer
 }
 
 /// Calls in order, each with its status, the number that its line shows, and up to which notification it visits those of its protocol.
-const CALLS: [(Call, Word, Option<u64>, Option<u32>); 18] = [
+static CALLS: [(Call, Word, Option<u64>, Option<u32>); 18] = [
     (Call::New(LIVE, 0x21, FIVE), Word::Success, Some(1), Some(0)),
     (Call::Notify(0x22, 3), Word::Success, None, None),
     (Call::On(LIVE, 0x22, SIX), Word::Success, None, Some(1)),
@@ -301,12 +302,12 @@ fn first_note(services: &DxeServices) -> Option<(u32, u8)> {
     }
 }
 
-#[test]
-fn protocol_services_answer_by_their_rows(rt: HostRuntime) -> Result<(), Fail> {
-    let catalog = catalogue(rt.alloc(), &NESTED, &DRIVERS).ok_or("a catalogue")?;
-    let found = answered(rt.alloc(), &store(rt.alloc()), &catalog);
+fn try_rows(rt: &impl Abort, alloc: Global, store: &PlainStore, catalog: &Catalog)
+    requires catalog { IsWellFormed catalog.now }
+    requires state { Present (stands_for store.now) Anything }
+{
+    let found = answered(alloc, store, catalog);
     assert!(rt; found == Some((None, (Some((3, 3)), false, 2))));
-    Ok(())
 }
 
 // What a new protocol and a look for it write into registers.
@@ -334,9 +335,10 @@ fn written(alloc: Global, store: &PlainStore, catalog: &Catalog) -> Option<(Writ
     written
 }
 
-#[test]
-fn results_go_into_registers(rt: HostRuntime) -> Result<(), Fail> {
-    let catalog = catalogue(rt.alloc(), &NESTED, &DRIVERS).ok_or("a catalogue")?;
+fn try_registers(rt: &impl Abort, alloc: Global, store: &PlainStore, catalog: &Catalog)
+    requires catalog { IsWellFormed catalog.now }
+    requires state { Present (stands_for store.now) Anything }
+{
     let handle = Write {
         r: 11,
         register: Register::HandleIn(1),
@@ -349,9 +351,7 @@ fn results_go_into_registers(rt: HostRuntime) -> Result<(), Fail> {
         Writes::one(10, Register::HandleIn(1)),
         Writes::Two(handle, value),
     );
-    let got = written(rt.alloc(), &store(rt.alloc()), &catalog);
-    assert!(rt; got == Some(want));
-    Ok(())
+    assert!(rt; written(alloc, store, catalog) == Some(want));
 }
 
 // How three requests of a name are answered.
@@ -382,20 +382,19 @@ fn requested(alloc: Global, store: &PlainStore, catalog: &Catalog, last: u8) -> 
     requested
 }
 
-#[test]
-fn drivers_of_a_name_are_requested_once_each(rt: HostRuntime) -> Result<(), Fail> {
-    let catalog = catalogue(rt.alloc(), &NESTED, &DRIVERS).ok_or("a catalogue")?;
-    let store = store(rt.alloc());
+fn try_names(rt: &impl Abort, alloc: Global, store: &PlainStore, catalog: &Catalog)
+    requires catalog { IsWellFormed catalog.now }
+    requires state { Present (stands_for store.now) Anything }
+{
     // Two that wait, one without SOR, and a name that no file has.
     let rows = [(7, Word::Success), (8, Word::NotFound), (9, Word::NotFound)];
     'rows: for (last, want) in rows {
-        let answered = requested(rt.alloc(), &store, &catalog, last);
+        let answered = requested(alloc, store, catalog, last);
         assert!(rt;
             answered == Some([want, want, Word::NotFound]),
             "name {last}"
         );
     }
-    Ok(())
 }
 
 // The status of a volume that is processed, and the volumes then.
@@ -424,10 +423,10 @@ fn processed(alloc: Global, store: &PlainStore, catalog: &Catalog, v: u8) -> Opt
     processed
 }
 
-#[test]
-fn a_new_volume_is_processed(rt: HostRuntime) -> Result<(), Fail> {
-    let catalog = catalogue(rt.alloc(), &NESTED, &DRIVERS).ok_or("a catalogue")?;
-    let store = store(rt.alloc());
+fn try_volumes(rt: &impl Abort, alloc: Global, store: &PlainStore, catalog: &Catalog)
+    requires catalog { IsWellFormed catalog.now }
+    requires state { Present (stands_for store.now) Anything }
+{
     let rows = [
         (KNOWN, (Word::Success, 2)),
         (OTHER, (Word::Success, 2)),
@@ -436,8 +435,58 @@ fn a_new_volume_is_processed(rt: HostRuntime) -> Result<(), Fail> {
         (LIVE, (Word::InvalidParameter, 1)),
     ];
     'rows: for (v, want) in rows {
-        let got = processed(rt.alloc(), &store, &catalog, v);
+        let got = processed(alloc, store, catalog, v);
         assert!(rt; got == Some(want), "register {v}");
     }
+}
+
+// What is tried over the catalogue of the drivers.
+#[derive(Clone, Copy)]
+enum Trial {
+    Rows,
+    Registers,
+    Names,
+    Volumes,
+}
+
+fn run(rt: &impl Abort, alloc: Global, store: &PlainStore, catalog: &Catalog, trial: Trial)
+    requires catalog { IsWellFormed catalog.now }
+    requires state { Present (stands_for store.now) Anything }
+{
+    match trial {
+        Trial::Rows => try_rows(rt, alloc, store, catalog),
+        Trial::Registers => try_registers(rt, alloc, store, catalog),
+        Trial::Names => try_names(rt, alloc, store, catalog),
+        Trial::Volumes => try_volumes(rt, alloc, store, catalog),
+    }
+}
+
+// One of these. Only this function owns a catalogue and a store: each exit of an owner is dear to prove.
+fn over(rt: &impl Abort, alloc: Global, trial: Trial) -> Result<(), Fail> {
+    let catalog = catalogue(alloc, &NESTED, &DRIVERS).ok_or("a catalogue")?;
+    let store = store(alloc);
+    run(rt, alloc, &store, &catalog, trial);
+    drop(store);
+    drop(catalog);
     Ok(())
+}
+
+#[test]
+fn protocol_services_answer_by_their_rows(rt: HostRuntime) -> Result<(), Fail> {
+    over(&rt, rt.alloc(), Trial::Rows)
+}
+
+#[test]
+fn results_go_into_registers(rt: HostRuntime) -> Result<(), Fail> {
+    over(&rt, rt.alloc(), Trial::Registers)
+}
+
+#[test]
+fn drivers_of_a_name_are_requested_once_each(rt: HostRuntime) -> Result<(), Fail> {
+    over(&rt, rt.alloc(), Trial::Names)
+}
+
+#[test]
+fn a_new_volume_is_processed(rt: HostRuntime) -> Result<(), Fail> {
+    over(&rt, rt.alloc(), Trial::Volumes)
 }

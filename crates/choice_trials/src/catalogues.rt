@@ -51,14 +51,18 @@ pub(crate) const FOURTH: Guid = Guid([4; 16]);
 pub(crate) const UNNAMED: Guid = Guid([0; 16]);
 
 /// One volume, two, and a volume with one nested in it and another volume.
-pub(crate) const ONE: [Volume; 1] = [(0x10_0000, None)];
+pub(crate) static ONE: [Volume; 1] = [(0x10_0000, None)];
 
-pub(crate) const TWO: [Volume; 2] = [(0x10_0000, None), (0x20_0000, None)];
+pub(crate) static TWO: [Volume; 2] = [(0x10_0000, None), (0x20_0000, None)];
 
-pub(crate) const NESTED: [Volume; 3] = [(0x10_0000, None), (0x10_1000, Some(0)), (0x20_0000, None)];
+pub(crate) static NESTED: [Volume; 3] = [
+    (0x10_0000, None),
+    (0x10_1000, Some(0)),
+    (0x20_0000, None),
+];
 
 /// PEIMs of one volume: without an expression, for one PPI and for another, the last a priori too, and with an expression that cannot be read.
-pub(crate) const PEIMS: [Row; 5] = [
+pub(crate) static PEIMS: [Row; 5] = [
     (0, Kind::Peim, UNNAMED, None, Needs::Nothing),
     (
         0,

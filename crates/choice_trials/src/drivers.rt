@@ -12,7 +12,9 @@ use depex_code::{Opcode, Steps};
 use driver_order::DriverOrder;
 use dxe_choice::DriverQueue;
 use pi_base::{Guid, OutOfMemory, Seq};
+use std::alloc::Global;
 use std::marker::Brand;
+use std::process::Abort;
 use std::sync::ledger::{Blank, Ledger};
 use std::test::*;
 
@@ -30,7 +32,7 @@ const CYCLE: Guid = Guid([5; 16]);
 const OTHER_CYCLE: Guid = Guid([6; 16]);
 
 /// A target that holds once it is requested, with companions on both sides, which have companions of their own, and a driver without an expression.
-const COMPANIONS: [Row; 6] = [
+static COMPANIONS: [Row; 6] = [
     (0, Kind::Driver, TARGET, None, Needs::Sor(Opcode::True)),
     (0, Kind::Driver, BEFORE_TARGET, None, Needs::Before(TARGET)),
     (0, Kind::Driver, UNNAMED, None, Needs::Before(BEFORE_TARGET)),
@@ -40,7 +42,7 @@ const COMPANIONS: [Row; 6] = [
 ];
 
 /// One without an expression, two that name each other, one with a place in the a priori list, and one that names it.
-const OTHERS: [Row; 5] = [
+static OTHERS: [Row; 5] = [
     (0, Kind::Driver, UNNAMED, None, Needs::Nothing),
     (0, Kind::Driver, CYCLE, None, Needs::After(OTHER_CYCLE)),
     (0, Kind::Driver, OTHER_CYCLE, None, Needs::After(CYCLE)),
@@ -49,7 +51,7 @@ const OTHERS: [Row; 5] = [
 ];
 
 /// The base of the one volume.
-const BASE: u64 = ONE[0].0;
+const BASE: u64 = 0x10_0000;
 
 // So many of the architectural protocols are installed.
 fn install(queue: &mut DriverQueue, catalog: &Catalog, order: &DriverOrder, protocols: usize)
@@ -184,7 +186,7 @@ fn starts_of(catalog: &Catalog, row: &Case) -> Result<Seq<Scheduled>, OutOfMemor
 }
 
 /// Whether the first driver is requested, how many architectural protocols there are, at which driver the first choice is aimed, and the drivers that start.
-#[derive(Drop)]
+#[derive(Clone, Copy)]
 struct Case {
     is_requested: bool,
     protocols: usize,
@@ -192,81 +194,99 @@ struct Case {
     starts: &'static [(u32, Licence)],
 }
 
+// Whether these are the starts.
+fn are(starts: &[Scheduled], wants: &[(u32, Licence)]) -> bool {
+    let mut are_same = starts.len() == wants.len();
+    'starts: for (start, (number, licence)) in starts.iter().zip(wants) {
+        are_same = are_same && start.module_number == *number && start.licence == *licence;
+    }
+    are_same
+}
+
 // Whether these drivers start, and no others.
 fn starts_so(catalog: &Catalog, row: &Case) -> Result<bool, OutOfMemory>
     requires { IsWellFormed catalog.now }
 {
     let starts = starts_of(catalog, row)?;
-    let mut is_same = starts.len() == row.starts.len();
-    'starts: for (start, (number, licence)) in starts.as_slice().iter().zip(row.starts) {
-        is_same = is_same && start.module_number == *number && start.licence == *licence;
-    }
-    Ok(is_same)
+    let are_same = are(starts.as_slice(), row.starts);
+    drop(starts);
+    Ok(are_same)
 }
+
+// Each case starts so.
+fn start_so(rt: &impl Abort, catalog: &Catalog, rows: &[Case])
+    requires { IsWellFormed catalog.now }
+{
+    'rows: for row in rows {
+        assert!(rt; starts_so(catalog, row) == Ok(true));
+    }
+}
+
+// The same over a catalogue of these drivers.
+fn start_over(rt: &impl Abort, alloc: Global, drivers: &[Row], rows: &[Case]) -> Result<(), Fail> {
+    let catalog = catalogue(alloc, &ONE, drivers).ok_or("a catalogue")?;
+    start_so(rt, &catalog, rows);
+    drop(catalog);
+    Ok(())
+}
+
+static OF_COMPANIONS: [Case; 3] = [
+    Case {
+        is_requested: false,
+        protocols: 12,
+        aim: Some(0),
+        starts: &[],
+    },
+    Case {
+        is_requested: true,
+        protocols: 13,
+        aim: Some(5),
+        starts: &[
+            (5, Licence::Absent),
+            (2, Licence::Before),
+            (1, Licence::Before),
+            (0, Licence::True),
+            (3, Licence::After),
+            (4, Licence::After),
+        ],
+    },
+    Case {
+        is_requested: true,
+        protocols: 0,
+        aim: None,
+        starts: &[
+            (2, Licence::Before),
+            (1, Licence::Before),
+            (0, Licence::True),
+            (3, Licence::After),
+            (4, Licence::After),
+        ],
+    },
+];
 
 #[test]
 fn companions_start_with_their_target(rt: HostRuntime) -> Result<(), Fail> {
-    let catalog = catalogue(rt.alloc(), &ONE, &COMPANIONS).ok_or("a catalogue")?;
-    let rows = [
-        Case {
-            is_requested: false,
-            protocols: 12,
-            aim: Some(0),
-            starts: &[],
-        },
-        Case {
-            is_requested: true,
-            protocols: 13,
-            aim: Some(5),
-            starts: &[
-                (5, Licence::Absent),
-                (2, Licence::Before),
-                (1, Licence::Before),
-                (0, Licence::True),
-                (3, Licence::After),
-                (4, Licence::After),
-            ],
-        },
-        Case {
-            is_requested: true,
-            protocols: 0,
-            aim: None,
-            starts: &[
-                (2, Licence::Before),
-                (1, Licence::Before),
-                (0, Licence::True),
-                (3, Licence::After),
-                (4, Licence::After),
-            ],
-        },
-    ];
-    'rows: for row in &rows {
-        assert!(rt; starts_so(&catalog, row) == Ok(true));
-    }
-    Ok(())
+    start_over(&rt, rt.alloc(), &COMPANIONS, &OF_COMPANIONS)
 }
+
+static OF_OTHERS: [Case; 2] = [
+    Case {
+        is_requested: false,
+        protocols: 12,
+        aim: None,
+        starts: &[(3, Licence::Apriori)],
+    },
+    Case {
+        is_requested: false,
+        protocols: 13,
+        aim: Some(0),
+        starts: &[(3, Licence::Apriori), (0, Licence::Absent)],
+    },
+];
 
 #[test]
 fn all_architectural_protocols_are_asked_for(rt: HostRuntime) -> Result<(), Fail> {
-    let catalog = catalogue(rt.alloc(), &ONE, &OTHERS).ok_or("a catalogue")?;
-    let rows = [
-        Case {
-            is_requested: false,
-            protocols: 12,
-            aim: None,
-            starts: &[(3, Licence::Apriori)],
-        },
-        Case {
-            is_requested: false,
-            protocols: 13,
-            aim: Some(0),
-            starts: &[(3, Licence::Apriori), (0, Licence::Absent)],
-        },
-    ];
-    'rows: for row in &rows {
-        assert!(rt; starts_so(&catalog, row) == Ok(true));
-    }
-    Ok(())
+    start_over(&rt, rt.alloc(), &OTHERS, &OF_OTHERS)
 }
 
 // Whether the queue is empty and whether a driver waits, before and after the a priori drivers of the volume are scheduled.
@@ -309,6 +329,14 @@ fn standings_of(catalog: &Catalog, number: u32) -> Result<[(bool, bool); 2], Out
     standings
 }
 
+// The same over a catalogue of these drivers.
+fn standings_over(alloc: Global, drivers: &[Row], number: u32) -> Option<[(bool, bool); 2]> {
+    let catalog = catalogue(alloc, &ONE, drivers)?;
+    let standings = standings_of(&catalog, number);
+    drop(catalog);
+    standings.ok()
+}
+
 #[test]
 fn scheduled_drivers_wait_no_more(rt: HostRuntime) -> Result<(), Fail> {
     // The last number is no module's. The first catalogue has no a priori driver.
@@ -319,11 +347,8 @@ fn scheduled_drivers_wait_no_more(rt: HostRuntime) -> Result<(), Fail> {
         (&OTHERS, 99, [(true, true), (false, true)]),
     ];
     'rows: for (drivers, number, want) in rows {
-        let catalog = catalogue(rt.alloc(), &ONE, drivers).ok_or("a catalogue")?;
-        let standings = standings_of(&catalog, number)
-            .ok()
-            .ok_or("there is memory")?;
-        assert!(rt; standings == want, "module {number}");
+        let standings = standings_over(rt.alloc(), drivers, number);
+        assert!(rt; standings == Some(want), "module {number}");
     }
     Ok(())
 }

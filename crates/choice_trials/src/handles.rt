@@ -2,6 +2,8 @@
 use crate::catalogues::guid;
 use depex_code::GuidSet;
 use dxe_handles::{HandleFault, Handles};
+use pi_base::Guid;
+use std::process::Abort;
 use std::test::*;
 
 /// A call, and what it answers.
@@ -35,7 +37,7 @@ fn answers(handles: &mut Handles, row: Row) -> bool {
 }
 
 // The calls and the answers of a worked boot that takes each row of the services.
-const ROWS: [Row; 23] = [
+static ROWS: [Row; 23] = [
     Row::New(0x21, 5, 1),
     Row::New(0x21, 6, 2),
     Row::On(1, 0x22, 5, Ok(())),
@@ -62,7 +64,7 @@ const ROWS: [Row; 23] = [
 ];
 
 // The interfaces that the boot lists at its end: handle, GUID and value.
-const LISTED: [(u32, u8, u64); 8] = [
+static LISTED: [(u32, u8, u64); 8] = [
     (1, 0x21, 6),
     (1, 0x23, 6),
     (1, 0x22, 6),
@@ -73,33 +75,52 @@ const LISTED: [(u32, u8, u64); 8] = [
     (6, 0x28, 5),
 ];
 
-#[test]
-fn each_row_of_the_services_answers_as_in_a_worked_boot(rt: HostRuntime) -> Result<(), Fail> {
-    let mut handles = Handles::new(rt.alloc());
+fn try_rows(rt: &impl Abort, handles: &mut Handles) {
     for (n, row) in ROWS.iter().enumerate() {
-        assert!(rt; answers(&mut handles, *row), "row {n}");
+        assert!(rt; answers(handles, *row), "row {n}");
     }
-    assert!(rt; handles.made() == 6);
-    assert!(rt; handles.len() == LISTED.len());
+}
+
+// The handle, the GUID and the value of an interface, by its place.
+fn listed(handles: &Handles, place: u32) -> Option<(u32, Guid, u64)> {
+    match handles.nth(place) {
+        Some(interface) => Some((interface.handle, interface.guid, interface.value)),
+        None => None,
+    }
+}
+
+// What is there behind the rows.
+fn try_listed(rt: &impl Abort, handles: &Handles) {
+    assert!(rt; (handles.made(), handles.len()) == (6, LISTED.len()));
     for (place, (handle, last, value)) in LISTED.iter().enumerate() {
-        let interface = handles.nth(place as u32).expect(&rt, "an interface");
-        assert!(rt; interface.handle == *handle);
-        assert!(rt; interface.guid == guid(*last));
-        assert!(rt; interface.value == *value);
+        assert!(rt; listed(handles, place as u32) == Some((*handle, guid(*last), *value)));
     }
-    assert!(rt; handles.nth(8).is_none());
-    assert!(rt; handles.has(&guid(0x26)) && !handles.has(&guid(0x24)));
-    Ok(())
+    let there = (
+        handles.nth(8).is_none(),
+        handles.has(&guid(0x26)),
+        handles.has(&guid(0x24)),
+    );
+    assert!(rt; there == (true, true, false));
 }
 
 #[test]
-fn the_lowest_of_many_handles_is_located(rt: HostRuntime) -> Result<(), Fail> {
+fn each_row_of_the_services_answers_as_in_a_worked_boot(rt: HostRuntime) -> Result<(), Fail> {
     let mut handles = Handles::new(rt.alloc());
+    try_rows(&rt, &mut handles);
+    try_listed(&rt, &handles);
+    drop(handles);
+    Ok(())
+}
+
+fn make_many(rt: &impl Abort, handles: &mut Handles) {
     for n in 0..500u32 {
         let row = Row::New((n % 5) as u8, u64::from(n), n + 1);
-        assert!(rt; answers(&mut handles, row), "handle {n}");
+        assert!(rt; answers(handles, row), "handle {n}");
     }
-    // The protocol comes last onto the handle that is lowest then.
+}
+
+// The protocol comes last onto the handle that is lowest then.
+fn try_lowest(rt: &impl Abort, handles: &mut Handles) {
     for handle in [400u32, 300, 7, 500] {
         assert!(rt; handles.install(Some(handle), guid(9), 1) == Ok(handle));
     }
@@ -108,5 +129,13 @@ fn the_lowest_of_many_handles_is_located(rt: HostRuntime) -> Result<(), Fail> {
         assert!(rt; handles.uninstall(want, guid(9), 1).is_ok());
     }
     assert!(rt; handles.locate(&guid(9)).is_none());
+}
+
+#[test]
+fn the_lowest_of_many_handles_is_located(rt: HostRuntime) -> Result<(), Fail> {
+    let mut handles = Handles::new(rt.alloc());
+    make_many(&rt, &mut handles);
+    try_lowest(&rt, &mut handles);
+    drop(handles);
     Ok(())
 }

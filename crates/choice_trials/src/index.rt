@@ -13,12 +13,13 @@ use depex_code::{Opcode, Steps};
 use pi_base::{Guid, OutOfMemory, Phase};
 use std::alloc::Global;
 use std::marker::Brand;
+use std::process::Abort;
 use std::sync::ledger::{Blank, Ledger};
 use std::test::*;
 use wait_index::WaitIndex;
 
 /// Without an expression, for a protocol, for the same one once it is requested, and with an expression that cannot be read.
-const DRIVERS: [Row; 4] = [
+static DRIVERS: [Row; 4] = [
     (0, Kind::Driver, UNNAMED, None, Needs::Nothing),
     (
         0,
@@ -171,42 +172,63 @@ fn drivers_fail_at(catalog: &Catalog, steps: &[Step]) -> Result<Option<usize>, O
     fails_at::<Brand>(alloc, catalog, Phase::Dxe, &order, steps, Blank::new(1))
 }
 
-#[test]
-fn a_peim_may_start_by_its_rank_its_expression_or_again(rt: HostRuntime) -> Result<(), Fail> {
-    let catalog = catalogue(rt.alloc(), &ONE, &PEIMS).ok_or("a catalogue")?;
+static OF_PEIMS: [Step; 11] = [
+    (Deed::Nothing, 0, Some(3)),
+    (Deed::Started(0), 1, Some(0)),
+    (Deed::Started(1), 2, None),
+    (Deed::Installed(FIRST), 2, Some(1)),
+    // From the front, where none is left behind the cursor.
+    (Deed::Nothing, 3, Some(1)),
+    (Deed::Gone(FIRST), 2, None),
+    (Deed::Installed(FIRST), 2, Some(1)),
+    (Deed::Started(2), 3, None),
+    (Deed::Again(2), 3, Some(1)),
+    (Deed::Started(2), 3, None),
+    (Deed::Installed(SECOND), 0, Some(2)),
+];
+
+fn try_peims(rt: &impl Abort, catalog: &Catalog)
+    requires { IsWellFormed catalog.now }
+{
     assert!(rt; catalog.modules.len() == 5);
-    let steps: [Step; 11] = [
-        (Deed::Nothing, 0, Some(3)),
-        (Deed::Started(0), 1, Some(0)),
-        (Deed::Started(1), 2, None),
-        (Deed::Installed(FIRST), 2, Some(1)),
-        // From the front, where none is left behind the cursor.
-        (Deed::Nothing, 3, Some(1)),
-        (Deed::Gone(FIRST), 2, None),
-        (Deed::Installed(FIRST), 2, Some(1)),
-        (Deed::Started(2), 3, None),
-        (Deed::Again(2), 3, Some(1)),
-        (Deed::Started(2), 3, None),
-        (Deed::Installed(SECOND), 0, Some(2)),
-    ];
-    assert!(rt; peims_fail_at(&catalog, &steps) == Ok(None));
-    Ok(())
+    assert!(rt; peims_fail_at(catalog, &OF_PEIMS) == Ok(None));
 }
 
 #[test]
-fn a_driver_may_start_by_its_expression_once_it_is_open(rt: HostRuntime) -> Result<(), Fail> {
-    let catalog = catalogue(rt.alloc(), &ONE, &DRIVERS).ok_or("a catalogue")?;
-    assert!(rt; catalog.modules.len() == 4);
-    let steps: [Step; 6] = [
-        (Deed::Nothing, 0, None),
-        (Deed::Installed(FIRST), 0, Some(1)),
-        (Deed::Nothing, 2, Some(1)),
-        (Deed::Started(1), 0, None),
-        (Deed::Opened(2), 0, Some(2)),
-        (Deed::Started(2), 0, None),
-    ];
-    assert!(rt; drivers_fail_at(&catalog, &steps) == Ok(None));
+fn a_peim_may_start_by_its_rank_its_expression_or_again(rt: HostRuntime) -> Result<(), Fail> {
+    let catalog = catalogue(rt.alloc(), &ONE, &PEIMS).ok_or("a catalogue")?;
+    try_peims(&rt, &catalog);
+    drop(catalog);
     Ok(())
+}
+
+fn try_drivers(rt: &impl Abort, catalog: &Catalog, steps: &[Step])
+    requires { IsWellFormed catalog.now }
+{
+    assert!(rt; catalog.modules.len() == 4);
+    assert!(rt; drivers_fail_at(catalog, steps) == Ok(None));
+}
+
+// The steps over a catalogue of the drivers.
+fn over_drivers(rt: &impl Abort, alloc: Global, steps: &[Step]) -> Result<(), Fail> {
+    let catalog = catalogue(alloc, &ONE, &DRIVERS).ok_or("a catalogue")?;
+    try_drivers(rt, &catalog, steps);
+    drop(catalog);
+    Ok(())
+}
+
+static OPENED: [Step; 6] = [
+    (Deed::Nothing, 0, None),
+    (Deed::Installed(FIRST), 0, Some(1)),
+    (Deed::Nothing, 2, Some(1)),
+    (Deed::Started(1), 0, None),
+    (Deed::Opened(2), 0, Some(2)),
+    (Deed::Started(2), 0, None),
+];
+
+#[test]
+fn a_driver_may_start_by_its_expression_once_it_is_open(rt: HostRuntime) -> Result<(), Fail> {
+    over_drivers(&rt, rt.alloc(), &OPENED)
 }
 
 // All thirteen architectural protocols, and one of them gone.
@@ -231,8 +253,5 @@ static PROTOCOLS: [Step; 14] = [
 fn a_driver_without_an_expression_waits_for_thirteen_protocols(
     rt: HostRuntime,
 ) -> Result<(), Fail> {
-    let catalog = catalogue(rt.alloc(), &ONE, &DRIVERS).ok_or("a catalogue")?;
-    assert!(rt; catalog.modules.len() == 4);
-    assert!(rt; drivers_fail_at(&catalog, &PROTOCOLS) == Ok(None));
-    Ok(())
+    over_drivers(&rt, rt.alloc(), &PROTOCOLS)
 }

@@ -10,10 +10,11 @@ use catalog_model::Catalog;
 use driver_order::DriverOrder;
 use pi_base::{Guid, OutOfMemory};
 use std::alloc::Global;
+use std::process::Abort;
 use std::test::*;
 
 /// In the first volume a PEIM of the third name, and drivers; in the nested one and in the other volume twins of some of them.
-const DRIVERS: [Row; 7] = [
+static DRIVERS: [Row; 7] = [
     (0, Kind::Peim, THIRD, None, Needs::Nothing),
     (0, Kind::Driver, FIRST, None, Needs::Nothing),
     (0, Kind::Driver, SECOND, None, Needs::Before(THIRD)),
@@ -27,20 +28,20 @@ const DRIVERS: [Row; 7] = [
 type Found = (Guid, Option<u32>, &'static [u32], &'static [u32]);
 
 /// The bases from which volumes are discovered, and what is found then.
-#[derive(Drop)]
+#[derive(Clone, Copy)]
 struct Discovered {
     bases: &'static [u64],
     volumes: &'static [u32],
     drivers: &'static [u32],
-    found: [Found; 3],
+    found: &'static [Found; 3],
 }
 
-const DISCOVERED: [Discovered; 2] = [
+static DISCOVERED: [Discovered; 2] = [
     Discovered {
         bases: &[0x10_0000, 0x20_0000],
         volumes: &[0, 1, 2],
         drivers: &[1, 2, 3, 4, 5, 6],
-        found: [
+        found: &[
             (FIRST, Some(1), &[], &[3, 6]),
             (THIRD, Some(3), &[2, 5], &[]),
             // No file has this name.
@@ -52,7 +53,7 @@ const DISCOVERED: [Discovered; 2] = [
         bases: &[0x20_0000, 0x10_1000, 0x30_0000, 0x10_0000, 0x10_1000],
         volumes: &[2, 1, 0],
         drivers: &[5, 6, 3, 4, 1, 2],
-        found: [
+        found: &[
             (FIRST, Some(4), &[], &[6, 3]),
             (THIRD, Some(6), &[5, 2], &[]),
             (SECOND, Some(2), &[], &[]),
@@ -67,7 +68,7 @@ fn has(order: &DriverOrder, found: &Found) -> bool {
 }
 
 fn is_so(order: &DriverOrder, row: &Discovered) -> bool {
-    let [first, second, third] = &row.found;
+    let [first, second, third] = row.found;
     order.volumes() == row.volumes
         && order.drivers() == row.drivers
         && has(order, first)
@@ -84,19 +85,26 @@ fn discovers_so(alloc: Global, catalog: &Catalog, row: &Discovered) -> Result<bo
     Ok(is_so)
 }
 
+fn discover_so(rt: &impl Abort, alloc: Global, catalog: &Catalog)
+    requires { IsWellFormed catalog.now }
+{
+    'rows: for row in &DISCOVERED {
+        assert!(rt; discovers_so(alloc, catalog, row) == Ok(true));
+    }
+}
+
 #[test]
 fn volumes_come_with_their_drivers_and_names(rt: HostRuntime) -> Result<(), Fail> {
     let catalog = catalogue(rt.alloc(), &NESTED, &DRIVERS).ok_or("a catalogue")?;
-    'rows: for row in &DISCOVERED {
-        assert!(rt; discovers_so(rt.alloc(), &catalog, row) == Ok(true));
-    }
+    discover_so(&rt, rt.alloc(), &catalog);
+    drop(catalog);
     Ok(())
 }
 
 /// Two volumes that come one after the other, the drivers then, and whether the last volume has come.
 type Added = (u32, u32, &'static [u32], bool);
 
-const ADDED: [Added; 3] = [
+static ADDED: [Added; 3] = [
     (1, 0, &[3, 4, 1, 2], false),
     (0, 1, &[1, 2, 3, 4], false),
     (2, 1, &[5, 6, 3, 4], true),
@@ -130,14 +138,21 @@ fn adds_so(alloc: Global, catalog: &Catalog, row: &Added) -> Result<bool, OutOfM
     is_so
 }
 
-#[test]
-fn a_volume_comes_once(rt: HostRuntime) -> Result<(), Fail> {
-    let catalog = catalogue(rt.alloc(), &NESTED, &DRIVERS).ok_or("a catalogue")?;
+fn add_so(rt: &impl Abort, alloc: Global, catalog: &Catalog)
+    requires { IsWellFormed catalog.now }
+{
     'rows: for row in &ADDED {
         assert!(rt;
             (row.0 as usize) < catalog.volumes.len() && (row.1 as usize) < catalog.volumes.len()
         );
-        assert!(rt; adds_so(rt.alloc(), &catalog, row) == Ok(true));
+        assert!(rt; adds_so(alloc, catalog, row) == Ok(true));
     }
+}
+
+#[test]
+fn a_volume_comes_once(rt: HostRuntime) -> Result<(), Fail> {
+    let catalog = catalogue(rt.alloc(), &NESTED, &DRIVERS).ok_or("a catalogue")?;
+    add_so(&rt, rt.alloc(), &catalog);
+    drop(catalog);
     Ok(())
 }

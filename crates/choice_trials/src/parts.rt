@@ -9,10 +9,11 @@ use phase_parts::{Parts, depex_holds};
 use pi_base::{Guid, OutOfMemory, Phase, Seq};
 use std::alloc::Global;
 use std::marker::Brand;
+use std::process::Abort;
 use std::sync::ledger::{Blank, Ledger};
 use std::test::*;
 
-const MODULES: [Row; 6] = [
+static MODULES: [Row; 6] = [
     (0, Kind::Peim, UNNAMED, None, Needs::Nothing),
     (0, Kind::Driver, UNNAMED, Some(2), Needs::Nothing),
     (0, Kind::Combined, UNNAMED, Some(0), Needs::Nothing),
@@ -35,23 +36,29 @@ fn parts_of(catalog: &Catalog, phase: Phase, first: u32, second: u32) -> Parts
     parts
 }
 
+// A phase, two volumes, and the parts of both.
+static PARTS: [(Phase, u32, u32, &[u32]); 5] = [
+    // No part for DXE has rank 1.
+    (Phase::Dxe, 0, 1, &[2, 1, 3, 4, 5]),
+    (Phase::Dxe, 1, 0, &[5, 4, 1, 2, 3]),
+    (Phase::Pei, 0, 1, &[2, 0, 5]),
+    (Phase::Pei, 1, 0, &[5, 0, 2]),
+    // No volume.
+    (Phase::Pei, 2, 1, &[5]),
+];
+
+fn try_parts(rt: &impl Abort, catalog: &Catalog) {
+    assert!(rt; catalog.modules.len() <= FEW);
+    'rows: for (phase, first, second, want) in &PARTS {
+        assert!(rt; parts_of(catalog, *phase, *first, *second).as_slice() == *want);
+    }
+}
+
 #[test]
 fn ranked_parts_come_first_and_others_by_place(rt: HostRuntime) -> Result<(), Fail> {
     let catalog = catalogue(rt.alloc(), &TWO, &MODULES).ok_or("a catalogue")?;
-    assert!(rt; catalog.modules.len() <= FEW);
-    let rows: [(Phase, u32, u32, &[u32]); 5] = [
-        // No part for DXE has rank 1.
-        (Phase::Dxe, 0, 1, &[2, 1, 3, 4, 5]),
-        (Phase::Dxe, 1, 0, &[5, 4, 1, 2, 3]),
-        (Phase::Pei, 0, 1, &[2, 0, 5]),
-        (Phase::Pei, 1, 0, &[5, 0, 2]),
-        // No volume.
-        (Phase::Pei, 2, 1, &[5]),
-    ];
-    'rows: for (phase, first, second, want) in rows {
-        let parts = parts_of(&catalog, phase, first, second);
-        assert!(rt; parts.as_slice() == want);
-    }
+    try_parts(&rt, &catalog);
+    drop(catalog);
     Ok(())
 }
 
@@ -94,13 +101,29 @@ fn holds_in<L: Ledger>(expression: &Depex, blank: Blank) -> bool
     depex_holds(expression, &FirstAlone, &mut steps)
 }
 
+// Whether an expression holds where the first GUID alone is there.
+fn holds(expression: &Depex) -> bool
+    requires { IsShort expression.now }
+{
+    holds_in::<Brand>(expression, Blank::new(1))
+}
+
+// The same of an expression that pushes a GUID.
+fn holds_pushed(alloc: Global, guid: Guid) -> Result<bool, OutOfMemory> {
+    let expression = pushes(alloc, guid)?;
+    let holds = holds(&expression);
+    drop(expression);
+    Ok(holds)
+}
+
 #[test]
 fn an_expression_holds_by_the_set(rt: HostRuntime) -> Result<(), Fail> {
-    let there = pushes(rt.alloc(), FIRST).ok().ok_or("there is memory")?;
-    let missing = pushes(rt.alloc(), SECOND).ok().ok_or("there is memory")?;
-    assert!(rt; holds_in::<Brand>(&there, Blank::new(1)));
-    assert!(rt; !holds_in::<Brand>(&missing, Blank::new(1)));
-    assert!(rt; !holds_in::<Brand>(&Depex::Before(FIRST), Blank::new(1)));
-    assert!(rt; !holds_in::<Brand>(&Depex::After(FIRST), Blank::new(1)));
+    let pushed = [
+        holds_pushed(rt.alloc(), FIRST),
+        holds_pushed(rt.alloc(), SECOND),
+    ];
+    assert!(rt; pushed == [Ok(true), Ok(false)]);
+    let named = [holds(&Depex::Before(FIRST)), holds(&Depex::After(FIRST))];
+    assert!(rt; named == [false; 2]);
     Ok(())
 }

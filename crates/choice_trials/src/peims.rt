@@ -9,11 +9,12 @@ use pei_choice::PeiQueue;
 use pi_base::OutOfMemory;
 use std::alloc::Global;
 use std::marker::Brand;
+use std::process::Abort;
 use std::sync::ledger::{Blank, Ledger};
 use std::test::*;
 
 /// In each of two volumes PEIMs with and without a rank. In the second one none has rank 1.
-const RANKED: [Row; 6] = [
+static RANKED: [Row; 6] = [
     (0, Kind::Peim, UNNAMED, None, Needs::Nothing),
     (0, Kind::Peim, UNNAMED, Some(1), Needs::Nothing),
     (0, Kind::Peim, UNNAMED, Some(0), Needs::Nothing),
@@ -36,7 +37,9 @@ fn come_so(alloc: Global, catalog: &Catalog, want: &[u32]) -> Result<bool, OutOf
 #[test]
 fn a_priori_parts_come_first_by_rank(rt: HostRuntime) -> Result<(), Fail> {
     let catalog = catalogue(rt.alloc(), &TWO, &RANKED).ok_or("a catalogue")?;
-    assert!(rt; come_so(rt.alloc(), &catalog, &[5, 4, 3, 2, 1, 0]) == Ok(true));
+    let come_so = come_so(rt.alloc(), &catalog, &[5, 4, 3, 2, 1, 0]);
+    drop(catalog);
+    assert!(rt; come_so == Ok(true));
     Ok(())
 }
 
@@ -63,14 +66,21 @@ fn first_of<L: Ledger>(
     Ok(first)
 }
 
-#[test]
-fn an_a_priori_part_or_the_part_behind_the_cursor_comes_first(rt: HostRuntime) -> Result<(), Fail> {
-    let catalog = catalogue(rt.alloc(), &ONE, &PEIMS).ok_or("a catalogue")?;
+fn try_aims(rt: &impl Abort, alloc: Global, catalog: &Catalog)
+    requires { IsWellFormed catalog.now }
+{
     // The first number is no part's, so that the cursor stays.
     let rows = [(5, 3), (0, 0)];
     'rows: for (aimed, want) in rows {
-        let first = first_of::<Brand>(rt.alloc(), &catalog, aimed, Blank::new(1));
+        let first = first_of::<Brand>(alloc, catalog, aimed, Blank::new(1));
         assert!(rt; first == Ok(Some(want)), "aimed at {aimed}");
     }
+}
+
+#[test]
+fn an_a_priori_part_or_the_part_behind_the_cursor_comes_first(rt: HostRuntime) -> Result<(), Fail> {
+    let catalog = catalogue(rt.alloc(), &ONE, &PEIMS).ok_or("a catalogue")?;
+    try_aims(&rt, rt.alloc(), &catalog);
+    drop(catalog);
     Ok(())
 }

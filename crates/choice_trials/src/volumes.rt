@@ -4,11 +4,12 @@ ghost use Rattle.catalog_model.specs.WellFormed.{IsWellFormed};
 
 use crate::catalogues::{Volume, catalogue};
 use catalog_model::Catalog;
+use std::process::Abort;
 use std::test::*;
 use volume_list::VolumeList;
 
 /// A volume with two nested in it, the first of which has one nested in it, and another volume.
-const VOLUMES: [Volume; 5] = [
+static VOLUMES: [Volume; 5] = [
     (0x10_0000, None),
     (0x10_1000, Some(0)),
     (0x10_1100, Some(1)),
@@ -49,38 +50,54 @@ fn discovered(catalog: &Catalog, bases: &[u64]) -> VolumeList
 /// The number of no volume.
 const NONE: u32 = 9;
 
+// Two volumes that come to an empty list one after the other, and what is known then.
+static NESTED: [(u32, u32, &[u32]); 7] = [
+    (NONE, NONE, &[]),
+    (0, NONE, &[0, 1, 2, 3]),
+    (NONE, 4, &[4]),
+    (1, 0, &[1, 2, 0, 3]),
+    (2, 1, &[2, 1]),
+    (0, 1, &[0, 1, 2, 3]),
+    (4, 3, &[4, 3]),
+];
+
+fn try_nested(rt: &impl Abort, catalog: &Catalog)
+    requires { IsWellFormed catalog.now }
+{
+    'rows: for (first, second, known) in &NESTED {
+        assert!(rt; added(catalog, *first, *second).as_slice() == *known);
+    }
+}
+
 #[test]
 fn nested_volumes_stand_behind_their_own(rt: HostRuntime) -> Result<(), Fail> {
     let catalog = catalogue(rt.alloc(), &VOLUMES, &[]).ok_or("a catalogue")?;
-    // Two volumes that come to an empty list one after the other, and what is known then.
-    let rows: [(u32, u32, &[u32]); 7] = [
-        (NONE, NONE, &[]),
-        (0, NONE, &[0, 1, 2, 3]),
-        (NONE, 4, &[4]),
-        (1, 0, &[1, 2, 0, 3]),
-        (2, 1, &[2, 1]),
-        (0, 1, &[0, 1, 2, 3]),
-        (4, 3, &[4, 3]),
-    ];
-    'rows: for (first, second, known) in rows {
-        let list = added(&catalog, first, second);
-        assert!(rt; list.as_slice() == known);
-    }
+    try_nested(&rt, &catalog);
+    drop(catalog);
     Ok(())
+}
+
+// Bases, and what is known then.
+static BASES: [(&[u64], &[u32]); 4] = [
+    (&[], &[]),
+    // At the first volume's second byte no volume is mapped.
+    (&[0x10_0001, 0x20_0000], &[4]),
+    (&[0x10_2000, 0x10_0000], &[3, 0, 1, 2]),
+    (&[0x10_1100, 0x20_0000, 0x10_1100, 0x10_1000], &[2, 4, 1]),
+];
+
+fn try_bases(rt: &impl Abort, catalog: &Catalog)
+    requires { IsWellFormed catalog.now }
+{
+    'rows: for (bases, want) in &BASES {
+        assert!(rt; discovered(catalog, bases).as_slice() == *want);
+    }
 }
 
 #[test]
 fn volumes_are_discovered_base_by_base(rt: HostRuntime) -> Result<(), Fail> {
     let catalog = catalogue(rt.alloc(), &VOLUMES, &[]).ok_or("a catalogue")?;
-    let rows: [(&[u64], &[u32]); 4] = [
-        (&[], &[]),
-        // At the first volume's second byte no volume is mapped.
-        (&[0x10_0001, 0x20_0000], &[4]),
-        (&[0x10_2000, 0x10_0000], &[3, 0, 1, 2]),
-        (&[0x10_1100, 0x20_0000, 0x10_1100, 0x10_1000], &[2, 4, 1]),
-    ];
-    'rows: for (bases, want) in rows {
-        assert!(rt; discovered(&catalog, bases).as_slice() == want);
-    }
+    try_bases(&rt, &catalog);
+    drop(catalog);
     Ok(())
 }
