@@ -2,9 +2,11 @@
 use catalog_model::{DXE_APRIORI, PEI_APRIORI};
 use pi_base::{Guid, put_u16, put_u64, sum8, sum16};
 use std::alloc::Global;
+use std::process::Abort;
+use std::test::*;
 
 /// The one-PEIM volume of 4,096 bytes before its erased bytes.
-pub(crate) const ONE_PEIM: [u8; 115] = [
+pub(crate) static ONE_PEIM: [u8; 115] = [
     // ZeroVector, FileSystemGuid
     0, 0, 0, 0, 0, 0, 0, 0, 0, 0, 0, 0, 0, 0, 0, 0, //
     0x78, 0xe5, 0x8c, 0x8c, 0x3d, 0x8a, 0x1c, 0x4f, 0x99, 0x35, 0x89, 0x61, 0x85, 0xc3, 0x2d, 0xd3,
@@ -74,25 +76,25 @@ fn name_of(name: u8) -> Guid {
     }
 }
 
-/// Adds bytes. Where memory runs out they are missing, and the test fails for it.
-pub(crate) fn add(to: &mut Vec<u8>, bytes: &[u8]) {
-    let _ = to.extend_from_slice(bytes);
+/// Adds bytes. Where memory runs out the test fails.
+pub(crate) fn add(rt: &impl Abort, to: &mut Vec<u8>, bytes: &[u8]) {
+    assert!(rt; to.extend_from_slice(bytes).is_ok());
 }
 
 /// Adds a section with its header, up to a multiple of four.
-pub(crate) fn add_section(to: &mut Vec<u8>, kind: u8, body: &[u8]) {
+pub(crate) fn add_section(rt: &impl Abort, to: &mut Vec<u8>, kind: u8, body: &[u8]) {
     let size = (body.len() + 4) as u64;
     let [low, middle, high, ..] = size.to_le_bytes();
-    add(to, &[low, middle, high, kind]);
-    add(to, body);
+    add(rt, to, &[low, middle, high, kind]);
+    add(rt, to, body);
     let over = body.len() % 4;
     if over != 0 {
-        add(to, &[0; 4][over..]);
+        add(rt, to, &[0; 4][over..]);
     }
 }
 
 /// Adds a file with its header, up to a multiple of eight.
-pub(crate) fn add_file(to: &mut Vec<u8>, kind: u8, name: Guid, body: &[u8]) {
+pub(crate) fn add_file(rt: &impl Abort, to: &mut Vec<u8>, kind: u8, name: Guid, body: &[u8]) {
     let size = (body.len() + 24) as u64;
     let [low, middle, high, ..] = size.to_le_bytes();
     let mut header = [0; 24];
@@ -104,28 +106,29 @@ pub(crate) fn add_file(to: &mut Vec<u8>, kind: u8, name: Guid, body: &[u8]) {
     header[16] = 0u8.wrapping_sub(sum8(&header));
     header[17] = 0xaa;
     header[23] = 0xf8;
-    add(to, &header);
-    add(to, body);
+    add(rt, to, &header);
+    add(rt, to, body);
     let over = body.len() % 8;
     if over != 0 {
-        add(to, &[0xff; 8][over..]);
+        add(rt, to, &[0xff; 8][over..]);
     }
 }
 
 /// A volume of these files.
-pub(crate) fn volume(alloc: Global, files: &[u8]) -> Vec<u8> {
+pub(crate) fn volume(rt: &impl Abort, alloc: Global, files: &[u8]) -> Vec<u8> {
     let mut header = HEADER;
     put_u64(&mut header, 32, (files.len() + 72) as u64);
     let sum = sum16(&header);
     put_u16(&mut header, 50, 0u16.wrapping_sub(sum));
     let mut bytes = Vec::new(alloc);
-    add(&mut bytes, &header);
-    add(&mut bytes, files);
+    add(rt, &mut bytes, &header);
+    add(rt, &mut bytes, files);
     bytes
 }
 
 /// So many files with the same body.
 pub(crate) fn equal_files(
+    rt: &impl Abort,
     alloc: Global,
     count: usize,
     kind: u8,
@@ -134,30 +137,31 @@ pub(crate) fn equal_files(
 ) -> Vec<u8> {
     let mut files = Vec::new(alloc);
     for _ in 0..count {
-        add_file(&mut files, kind, name, body);
+        add_file(rt, &mut files, kind, name, body);
     }
     files
 }
 
 /// These sections, one behind the other.
-pub(crate) fn sections_of(alloc: Global, list: &[(u8, &[u8])]) -> Vec<u8> {
+pub(crate) fn sections_of(rt: &impl Abort, alloc: Global, list: &[(u8, &[u8])]) -> Vec<u8> {
     let mut sections = Vec::new(alloc);
     for (kind, body) in list {
-        add_section(&mut sections, *kind, body);
+        add_section(rt, &mut sections, *kind, body);
     }
     sections
 }
 
 /// A volume of the files of a list.
-pub(crate) fn volume_of(alloc: Global, list: &[File<'_>]) -> Vec<u8> {
+pub(crate) fn volume_of(rt: &impl Abort, alloc: Global, list: &[File<'_>]) -> Vec<u8> {
     let mut files = Vec::new(alloc);
     for (kind, name, sections) in list {
         add_file(
+            rt,
             &mut files,
             *kind,
             name_of(*name),
-            &sections_of(alloc, sections),
+            &sections_of(rt, alloc, sections),
         );
     }
-    volume(alloc, &files)
+    volume(rt, alloc, &files)
 }

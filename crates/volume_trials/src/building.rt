@@ -13,10 +13,11 @@ use fv_volume::file_type::{FREEFORM, PAD, PEIM};
 use fv_volume::{FfsFile, MOST_FILES, read_volume};
 use pi_base::{Guid, Seq};
 use std::alloc::Global;
+use std::process::Abort;
 use std::test::*;
 
 /// The three generated modules from byte 72 on, made by another program from the layout.
-const THREE_MODULES: [u8; 338] = [
+static THREE_MODULES: [u8; 338] = [
     0x01, 0x00, 0x00, 0x00, 0x00, 0x00, 0x00, 0x00, 0x00, 0x00, 0x00, 0x00, 0x00, 0x00, 0x00, 0x02,
     0x73, 0xaa, 0x06, 0x00, 0x84, 0x00, 0x00, 0xf8, 0x16, 0x00, 0x00, 0x1b, 0x02, 0x02, 0x00, 0x00,
     0x00, 0x00, 0x00, 0x00, 0x00, 0x00, 0x00, 0x00, 0x00, 0x00, 0x00, 0x00, 0x00, 0x08, 0x00, 0x00,
@@ -44,7 +45,7 @@ const THREE_MODULES: [u8; 338] = [
 /// A length for a volume with one file of 16 MiB.
 const LONG: u64 = 0x100_0100;
 
-// A raw section with this body. Where memory runs out bytes are missing, and the test fails for it; so it is with what follows.
+// A raw section with this body.
 fn section(body: Vec<u8>) -> NewSection {
     NewSection {
         kind: RAW,
@@ -52,7 +53,7 @@ fn section(body: Vec<u8>) -> NewSection {
     }
 }
 
-// So many bytes, each the same.
+// So many bytes, each the same. Where memory runs out they are missing, and the test fails for it; so it is with what follows.
 fn filled(alloc: Global, len: usize, byte: u8) -> Vec<u8> {
     let mut body = Vec::new(alloc);
     let _ = body.resize(len, byte);
@@ -78,9 +79,9 @@ fn file(alloc: Global, last: u8, kind: u8, lens: &[usize]) -> NewFile {
 }
 
 // The file of the one-PEIM volume.
-fn one_peim(alloc: Global) -> NewFile {
+fn one_peim(rt: &impl Abort, alloc: Global) -> NewFile {
     let mut body = Vec::new(alloc);
-    add(&mut body, &ONE_PEIM[100..]);
+    add(rt, &mut body, &ONE_PEIM[100..]);
     let mut sections = Vec::new(alloc);
     let _ = sections.push(section(body));
     new_file(0x0a, PEIM, sections)
@@ -142,7 +143,7 @@ fn is_built(
 
 #[test]
 fn one_peim_is_built_byte_by_byte(rt: HostRuntime) {
-    let files = [one_peim(rt.alloc())];
+    let files = [one_peim(&rt, rt.alloc())];
     assert!(rt; is_built(ffs2(rt.alloc(), &files, 4096), &[(0, &ONE_PEIM)], 115, 4096));
     // FFS3 differs in its GUID and the header's checksum.
     let parts: [(usize, &[u8]); 3] = [
@@ -169,7 +170,7 @@ fn three_files(alloc: Global) -> Result<Seq<u8>, BuildFault> {
 }
 
 /// What stands in the volume of three files.
-const PLACES: [(usize, &[u8]); 4] = [
+static PLACES: [(usize, &[u8]); 4] = [
     (
         96,
         &[5, 0, 0, 0x19, 0, 0, 0, 0, 4, 0, 0, 0x19, 5, 0, 0, 0x19, 2],
@@ -188,7 +189,7 @@ fn files_and_sections_stand_at_their_places(rt: HostRuntime) {
 }
 
 /// What is listed of it: the pad is no file.
-const LISTED: [FfsFile; 2] = [
+static LISTED: [FfsFile; 2] = [
     FfsFile {
         at: 72,
         name: Guid([0, 0, 0, 0, 0, 0, 0, 0, 0, 0, 0, 0, 0, 0, 0, 1]),
@@ -216,7 +217,7 @@ fn what_is_built_is_listed(rt: HostRuntime) {
 #[test]
 fn a_volume_is_refused_by_one_byte(rt: HostRuntime) {
     // The need equals the room, and passes it by one byte.
-    let files = [one_peim(rt.alloc())];
+    let files = [one_peim(&rt, rt.alloc())];
     let full = BuildFault::NoRoom {
         need: 115,
         have: 114,
@@ -255,7 +256,7 @@ fn as_many_files_are_built_as_are_listed(rt: HostRuntime) {
 }
 
 /// The length of the one section's body, what stands in a volume of FFS3, and where the erased bytes begin.
-const SIZES: [(usize, usize, &[u8], usize); 3] = [
+static SIZES: [(usize, usize, &[u8], usize); 3] = [
     // A file of 0xfffffe bytes.
     (
         0xff_ffe2,

@@ -12,7 +12,7 @@ use std::test::*;
 pub(crate) const OTHER_VERSION: [u8; 12] = [0x50, 0x49, 0x41, 0x53, 2, 1, 1, 0, 1, 0, 0x13, 0];
 
 /// A plan of one volume.
-pub(crate) const ONE: &[u8] =
+pub(crate) static ONE: &[u8] =
     b"temp 0x80000000 0x10000\nram 0x40000000 0x4000000\nvolume 0x100000 a\n";
 
 /// What stands for the fault where there is no plan for the images; no test expects it.
@@ -71,6 +71,6 @@ pub(crate) type Row = (&'static [File<'static>], Fault);
 /// Each volume has its fault, or none.
 pub(crate) fn have_faults(rt: &impl Abort, alloc: Global, rows: &[Row]) {
     for (files, want) in rows {
-        assert!(rt; fault_of(alloc, ONE, volume_of(alloc, files)) == *want);
+        assert!(rt; fault_of(alloc, ONE, volume_of(rt, alloc, files)) == *want);
     }
 }

@@ -55,7 +55,7 @@ const FIRST: [u8; 5] = [5, 0, 0, 0x10, 0xaa];
 type Row = (u8, u64, u64);
 
 /// Streams, and their sections.
-const STREAMS: [(&[u8], &[Row]); 6] = [
+static STREAMS: [(&[u8], &[Row]); 6] = [
     // No bytes; a whole section; an extended one, and one of the least size.
     (&[], &[]),
     (&ONE_SECTION, &[(RAW, 4, 15)]),
@@ -94,7 +94,7 @@ fn cut_streams_are_refused(rt: HostRuntime) {
 }
 
 /// Streams, where they go wrong, and why.
-const FAULTS: [(&[u8], u64, SecCause); 7] = [
+static FAULTS: [(&[u8], u64, SecCause); 7] = [
     // A size below its header's length.
     (&[3, 0, 0, 0x19], 0, SecCause::Size),
     (&[0xff, 0xff, 0xff, 0x19, 7, 0, 0, 0], 0, SecCause::Size),

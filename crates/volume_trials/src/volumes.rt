@@ -11,14 +11,14 @@ use std::test::*;
 const LEN: usize = 4096;
 
 /// A raw file of 24 bytes with a name of zeros.
-const EMPTY_FILE: [u8; 24] = [
+static EMPTY_FILE: [u8; 24] = [
     0, 0, 0, 0, 0, 0, 0, 0, 0, 0, 0, 0, 0, 0, 0, 0, 0xe7, 0xaa, 0x01, 0x00, 0x18, 0, 0, 0xf8,
 ];
 
 const ERASED: [u8; 24] = [0xff; 24];
 
 /// The name of the file system FFS3.
-const FFS3: [u8; 16] = [
+static FFS3: [u8; 16] = [
     0x7a, 0xc0, 0x73, 0x54, 0xcb, 0x3d, 0xca, 0x4d, 0xbd, 0x6f, 0x1e, 0x96, 0x89, 0xe7, 0x34, 0x9a,
 ];
 
@@ -108,7 +108,7 @@ fn each_fails(rt: &impl Abort, alloc: Global, rows: &[Row]) {
 }
 
 /// Faults of a header.
-const OF_A_HEADER: [Row; 11] = [
+static OF_A_HEADER: [Row; 11] = [
     (&[50, 0xd0], 50, VolCause::HeaderSum),
     // Each cause with a later one beside it: the first in order is told.
     (&[40, 0x2d, 55, 1], 40, VolCause::Signature),
@@ -133,7 +133,7 @@ fn each_fault_of_a_header_comes_in_its_order(rt: HostRuntime) {
 }
 
 /// So many bytes of it, and the fault.
-const ENDS: [(usize, u64, VolCause); 4] = [
+static ENDS: [(usize, u64, VolCause); 4] = [
     (4095, 32, VolCause::Length),
     (64, 32, VolCause::Length),
     (63, 0, VolCause::Short),
@@ -178,7 +178,7 @@ fn each_cut_volume_is_refused(rt: HostRuntime) {
 }
 
 /// Places in the one-PEIM volume, each with the byte that it gets, and whether the file is listed.
-const STATES: [(&[u8], bool); 11] = [
+static STATES: [(&[u8], bool); 11] = [
     // Marked for update; bits above 0x20 say nothing.
     (&[95, 0xf0], true),
     (&[95, 0xb8], true),
@@ -214,7 +214,7 @@ fn files_are_listed_by_their_states(rt: HostRuntime) {
 }
 
 /// Faults of the file at 72.
-const OF_A_FILE: [Row; 10] = [
+static OF_A_FILE: [Row; 10] = [
     (&[88, 0xc4, 89, 0xab], 72, VolCause::FileSum),
     (&[88, 0xc4, 95, 0xe0], 72, VolCause::FileSum),
     (&[89, 0xab], 72, VolCause::DataSum),
@@ -256,7 +256,7 @@ fn a_second_file_is_listed_or_refused(rt: HostRuntime) {
 }
 
 /// A pad file, which holds an extended header.
-const EXTENDED: [u8; 48] = [
+static EXTENDED: [u8; 48] = [
     0xff, 0xff, 0xff, 0xff, 0xff, 0xff, 0xff, 0xff, 0xff, 0xff, 0xff, 0xff, 0xff, 0xff, 0xff, 0xff,
     0xf4, 0xaa, 0xf0, 0x00, 0x2c, 0, 0, 0xf8, //
     0, 0, 0, 0, 0, 0, 0, 0, 0, 0, 0, 0, 0, 0, 0, 0x33, //
@@ -297,7 +297,7 @@ fn a_file_that_is_not_large_may_stand_under_ffs3(rt: HostRuntime) {
 }
 
 /// ExtendedSize, the header's checksum, FvLength, and the length of the body or the fault of the file.
-const LARGE: [(u64, u8, u64, Result<u64, VolCause>); 8] = [
+static LARGE: [(u64, u8, u64, Result<u64, VolCause>); 8] = [
     // Its Size says nothing.
     (51, 0xbc, 4096, Ok(19)),
     // It ends with the volume, and a byte behind it.
@@ -332,10 +332,10 @@ fn large_files_are_listed(rt: HostRuntime) {
 }
 
 // A volume of so many raw files, and what stands behind them.
-fn raw_files(alloc: Global, count: usize, behind: &[u8]) -> Vec<u8> {
-    let mut files = equal_files(alloc, count, RAW, guid(0), &[]);
-    add(&mut files, behind);
-    volume(alloc, &files)
+fn raw_files(rt: &impl Abort, alloc: Global, count: usize, behind: &[u8]) -> Vec<u8> {
+    let mut files = equal_files(rt, alloc, count, RAW, guid(0), &[]);
+    add(rt, &mut files, behind);
+    volume(rt, alloc, &files)
 }
 
 // How many files are listed, none where the bytes are refused.
@@ -357,8 +357,8 @@ fn is_too_many(alloc: Global, bytes: &[u8]) -> bool {
 #[test]
 fn the_most_files_are_listed(rt: HostRuntime) {
     let alloc = rt.alloc();
-    assert!(rt; count_of(alloc, &raw_files(alloc, MOST_FILES, &ERASED)) == 16_384);
-    assert!(rt; is_too_many(alloc, &raw_files(alloc, MOST_FILES + 1, &[])));
+    assert!(rt; count_of(alloc, &raw_files(&rt, alloc, MOST_FILES, &ERASED)) == 16_384);
+    assert!(rt; is_too_many(alloc, &raw_files(&rt, alloc, MOST_FILES + 1, &[])));
 }
 
 #[test]
