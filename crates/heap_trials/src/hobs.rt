@@ -21,7 +21,7 @@ const HANDOFF: Handoff = Handoff {
 // A HOB, its bytes, and the HOB with its body padded.
 type Row<'a> = (Hob<'a>, &'a [u8], Hob<'a>);
 
-const ROWS: [Row<'static>; 12] = [
+static ROWS: [Row<'static>; 12] = [
     (
         Hob::Handoff(HANDOFF),
         b"\x01\0\x38\0\0\0\0\0\x09\0\0\0\x11\0\0\0\0\0\x10\x40\0\0\0\0\0\0\0\x40\0\0\0\0\0\xf0\x0f\x40\0\0\0\0\xd8\0\0\x40\0\0\0\0\xd0\0\0\x40\0\0\0\0",
@@ -166,14 +166,11 @@ fn decodes(bytes: &[u8], hob: &Hob<'_>) -> bool {
     }
 }
 
-// Each row both ways. Apart from the test, so that the table does not stand in each step of the loop.
+// Each row both ways.
 fn check(rt: &impl Abort, alloc: Global, rows: &[Row<'_>]) -> Result<(), AllocError> {
     for (hob, bytes, again) in rows {
         let is_encoded = encodes(alloc, hob, bytes)?;
-        assert!(rt;
-            (is_encoded, decodes(bytes, again)) == (true, true),
-            "{hob:?}"
-        );
+        assert!(rt; is_encoded && decodes(bytes, again));
     }
     Ok(())
 }
@@ -213,7 +210,7 @@ fn the_greatest_lengths_are_encoded(rt: HostRuntime) -> Result<(), Fail> {
 }
 
 // Bytes, a place in them, and the fault there.
-const FAULTS: [(&[u8], usize, HobFault); 11] = [
+static FAULTS: [(&[u8], usize, HobFault); 11] = [
     (b"", 0, HobFault::Short),
     (b"\x07\0\x08\0\0\0\0", 0, HobFault::Short),
     (b"\x07\0\x08\0\0\0\0\0", 1, HobFault::Short),
@@ -233,17 +230,17 @@ const FAULTS: [(&[u8], usize, HobFault); 11] = [
 
 #[test]
 fn faults_come_at_a_place(rt: HostRuntime) {
-    for (bytes, at, fault) in FAULTS {
-        assert!(rt; read_at(bytes, at).err() == Some(fault));
+    for (bytes, at, fault) in &FAULTS {
+        assert!(rt; read_at(bytes, *at).err() == Some(*fault));
     }
 }
 
 // The heap of a boot with early pages: the hand-off, two pools, an allocation, a CPU, the end, and zeros.
-const HEAP: &[u8] =
+static HEAP: &[u8] =
     b"\x01\0\x38\0\0\0\0\0\x09\0\0\0\x11\0\0\0\0\0\x10\x40\0\0\0\0\0\0\0\x40\0\0\0\0\0\xf0\x0f\x40\0\0\0\0\xd8\0\0\x40\0\0\0\0\xd0\0\0\x40\0\0\0\0\x07\0\x30\0\0\0\0\0\x10\0\0\x80\0\0\0\0\x58\0\0\x40\0\0\0\0\0\0\0\0\0\0\0\0\x3d\x64\x94\xf8\x49\xc4\xd1\x42\x8e\xa8\x85\xbd\xd8\xc6\x5b\xde\x07\0\x28\0\0\0\0\0\0\0\0\0\0\0\0\0\x40\0\0\x40\0\0\0\0\0\0\0\0\0\0\0\0\xff\xff\xff\xff\0\0\0\0\x02\0\x30\0\0\0\0\0\0\0\0\0\0\0\0\0\0\0\0\0\0\0\0\0\0\xf0\x0f\x40\0\0\0\0\0\x10\0\0\0\0\0\0\x04\0\0\0\0\0\0\0\x06\0\x10\0\0\0\0\0\x30\x10\0\0\0\0\0\0\xff\xff\x08\0\0\0\0\0\0\0\0\0\0\0\0\0";
 
 // Its places.
-const PLACES: [HobPlace; 5] = [
+static PLACES: [HobPlace; 5] = [
     HobPlace {
         at: 0,
         kind: 1,

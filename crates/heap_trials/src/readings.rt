@@ -104,7 +104,7 @@ const OTHER_PENDING_TOLD: EntryTold = EntryTold {
     by: 9,
 };
 
-const ENTRIES: [(EntryList, (Option<EntryTold>, Option<EntryTold>)); 4] = [
+static ENTRIES: [(EntryList, (Option<EntryTold>, Option<EntryTold>)); 4] = [
     (EntryList::Ppis, (Some(PPI_TOLD), Some(OTHER_TOLD))),
     (EntryList::Callbacks, (Some(CALLBACK_TOLD), None)),
     (EntryList::Dispatches, (Some(DISPATCH_TOLD), None)),
@@ -117,8 +117,8 @@ const ENTRIES: [(EntryList, (Option<EntryTold>, Option<EntryTold>)); 4] = [
 fn have_entries<S: PeiStore>(rt: &impl Abort, store: &S)
     requires { Present (S.stands_for store.now) Anything }
 {
-    for (list, told) in ENTRIES {
-        assert!(rt; first_entries(store, list) == told, "{list:?}");
+    for (list, told) in &ENTRIES {
+        assert!(rt; first_entries(store, *list) == *told);
     }
 }
 
@@ -142,7 +142,7 @@ fn nth_ppi<S: PeiStore>(store: &S, guid: &Guid, n: u16) -> Option<(Desc, u64)>
 }
 
 // A GUID, how many PPIs of it are passed over, and the one that is found.
-const FOUND: [(Guid, u16, Option<(Desc, u64)>); 4] = [
+static FOUND: [(Guid, u16, Option<(Desc, u64)>); 4] = [
     (NAME, 0, Some((INSTALLED, 7))),
     (NAME, 1, Some((OTHER, 8))),
     (NAME, 2, None),
@@ -152,8 +152,8 @@ const FOUND: [(Guid, u16, Option<(Desc, u64)>); 4] = [
 fn have_ppis<S: PeiStore>(rt: &impl Abort, store: &S)
     requires { Present (S.stands_for store.now) Anything }
 {
-    for (guid, n, found) in FOUND {
-        assert!(rt; nth_ppi(store, &guid, n) == found, "{n}");
+    for (guid, n, found) in &FOUND {
+        assert!(rt; nth_ppi(store, guid, *n) == *found, "{n}");
     }
 }
 
@@ -235,7 +235,7 @@ fn spans<S: PeiStore>(alloc: Global, store: &S, most: u32) -> Result<Vec<HobSpan
 }
 
 // The HOBs of the scene: the hand-off, four descriptors and four nodes.
-const HOBS: [HobSpan; 9] = [
+static HOBS: [HobSpan; 9] = [
     HobSpan {
         kind: 1,
         length: 56,
@@ -336,7 +336,7 @@ fn try_writes<S: PeiStore>(rt: &impl Abort, alloc: Global, store: &mut S)
 const UNREAD: (bool, [u8; 4]) = (false, [0xff; 4]);
 
 // An address and the answer there: of the volume, temporary RAM, RAM, and the end of the addresses.
-const PEEKS: [(u64, (bool, [u8; 4])); 10] = [
+static PEEKS: [(u64, (bool, [u8; 4])); 10] = [
     (ROM + 12, (true, [0, 0, 0, 1])),
     (ROM + 13, UNREAD),
     (ROM - 1, UNREAD),
@@ -352,8 +352,8 @@ const PEEKS: [(u64, (bool, [u8; 4])); 10] = [
 fn try_peeks<S: PeiStore>(rt: &impl Abort, store: &S)
     requires { Present (S.stands_for store.now) Anything }
 {
-    for (at, want) in PEEKS {
-        assert!(rt; four_at(store, at) == want, "at {at}");
+    for (at, want) in &PEEKS {
+        assert!(rt; four_at(store, *at) == *want, "at {at}");
     }
 }
 

@@ -71,7 +71,7 @@ const MISSING: Option<StoreFault> = Some(StoreFault::Missing);
 const NOT_YET: Option<StoreFault> = Some(StoreFault::NotYet);
 
 /// Over the scene as it was laid, the bytes that are free, the call and its fault.
-const OF_THE_SCENE: [(u32, Named, Option<StoreFault>); 14] = [
+static OF_THE_SCENE: [(u32, Named, Option<StoreFault>); 14] = [
     // A PPI: 40 bytes for it, and 40 for the pair with the dispatch notification.
     (80, Named::Install(Of::Other), PASSES),
     (72, Named::Install(Of::Other), FULL),
@@ -92,7 +92,7 @@ const OF_THE_SCENE: [(u32, Named, Option<StoreFault>); 14] = [
 ];
 
 /// At each stage.
-const ROWS: [Row; 30] = [
+static ROWS: [Row; 30] = [
     // A pool: its bytes up to a multiple of 8, and a header of 8.
     (Stage::Laid, 24, Service::Pool(9), PASSES),
     (Stage::Laid, 16, Service::Pool(9), FULL),

@@ -43,7 +43,7 @@ fn try_pools<S: PeiStore>(rt: &impl Abort, store: &mut S)
 }
 
 // The descriptor that has moved: its flags, where its GUID stands, the value, and the GUID.
-const DESCRIPTOR: [u8; 40] =
+static DESCRIPTOR: [u8; 40] =
     *b"\x10\0\0\x80\0\0\0\0\x58\0\0\x40\0\0\0\0\x34\x12\0\0\0\0\0\0\0\0\0\0\0\0\0\0\0\0\0\0\0\0\0\x01";
 
 fn try_move<S: PeiStore>(rt: &impl Abort, store: &mut S)
@@ -178,7 +178,7 @@ fn pools_are_refused_past_the_room(rt: HostRuntime) -> Result<(), Fail> {
 }
 
 // The length of the heap, the size of a pool, and whether it fits. A pool has at most 65,520 bytes.
-const FITS: [(u64, u32, bool); 6] = [
+static FITS: [(u64, u32, bool); 6] = [
     (80, 8, true),
     (79, 8, false),
     (80, 9, false),
@@ -189,11 +189,11 @@ const FITS: [(u64, u32, bool); 6] = [
 
 #[test]
 fn a_pool_fits_to_the_byte(rt: HostRuntime) -> Result<(), Fail> {
-    for (len, size, fits) in FITS {
-        if len < 64 || len > MOST_TEMP {
+    for (len, size, fits) in &FITS {
+        if *len < 64 || *len > MOST_TEMP {
             return Err("no length of a heap".into());
         }
-        over(&rt, rt.alloc(), len, 0, Trial::Fit(size, fits))?;
+        over(&rt, rt.alloc(), *len, 0, Trial::Fit(*size, *fits))?;
     }
     Ok(())
 }
