@@ -7,7 +7,7 @@ use std::alloc::Global;
 pub(crate) const MOST_TEXT: usize = 10_000;
 
 /// The script of a module of PEI that logs `a` and ends.
-pub(crate) const SMALLEST_SCRIPT: [u8; 15] = [
+pub(crate) static SMALLEST_SCRIPT: [u8; 15] = [
     0x50, 0x49, 0x41, 0x53, 0x01, 0x01, 0x01, 0x00, 0x02, 0x00, 0x11, 0x01, 0x61, 0x13, 0x00,
 ];
 

@@ -68,7 +68,7 @@ const SOR_TREE: u8 = 3;
 const MALFORMED: u8 = 4;
 
 /// Bytes, and what is read from them in DXE and in PEI.
-const READINGS: [(&[u8], (u8, u32), (u8, u32)); 27] = [
+static READINGS: [(&[u8], (u8, u32), (u8, u32)); 27] = [
     // No bytes, and END alone.
     (&[], (MALFORMED, 0), (MALFORMED, 0)),
     (&[8], (MALFORMED, 0), (MALFORMED, 0)),
@@ -164,7 +164,7 @@ const ZERO: Opcode = Opcode::Push(Guid([0; 16]));
 const ONE: Opcode = Opcode::Push(Guid([1; 16]));
 
 /// Postfix opcodes, and whether they hold with no GUID, with the first, and with both.
-const TRUTHS: [(&[Opcode], [bool; 3]); 9] = [
+static TRUTHS: [(&[Opcode], [bool; 3]); 9] = [
     (&[Opcode::True], [true, true, true]),
     (&[Opcode::False], [false, false, false]),
     (&[ZERO], [false, true, true]),
@@ -197,18 +197,23 @@ fn is_tree(rt: &impl Abort, tree: &Tree, code: &[Opcode], truths: [bool; 3]) -> 
     tree.code() == code && held == truths
 }
 
+// Whether there is a tree of this code, and it holds so.
+fn are_true(rt: &impl Abort, alloc: Global, code: &[Opcode], truths: [bool; 3]) -> bool {
+    match Tree::from_code(list_of(alloc, code)) {
+        Some(tree) => is_tree(rt, &tree, code, truths),
+        None => false,
+    }
+}
+
 #[test]
 fn an_expression_is_true_by_the_guids_that_are_there(rt: HostRuntime) {
     for (code, truths) in &TRUTHS {
-        match Tree::from_code(list_of(rt.alloc(), code)) {
-            Some(tree) => assert!(rt; is_tree(&rt, &tree, code, *truths)),
-            None => panic!(rt; "the opcodes are those of a tree"),
-        }
+        assert!(rt; are_true(&rt, rt.alloc(), code, *truths));
     }
 }
 
 /// Opcodes of no tree.
-const NO_TREES: [&[Opcode]; 4] = [
+static NO_TREES: [&[Opcode]; 4] = [
     &[],
     &[Opcode::True, Opcode::True],
     &[Opcode::True, Opcode::And],

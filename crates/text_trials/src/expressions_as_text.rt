@@ -7,7 +7,7 @@ use std::alloc::Global;
 use std::test::*;
 
 /// Expressions as text, and their bytes.
-const EXPRESSIONS: [(&[u8], &[u8]); 6] = [
+static EXPRESSIONS: [(&[u8], &[u8]); 6] = [
     (b"sor true\n", &[9, 6, 8]),
     (b"(true or not false)\n", &[6, 7, 5, 4, 8]),
     (b"((true and false) and true)\n", &[6, 7, 3, 6, 3, 8]),
@@ -53,7 +53,7 @@ fn expressions_go_both_ways(rt: HostRuntime) {
 }
 
 /// Texts of no expression, and the line with which they go wrong.
-const NO_EXPRESSIONS: [(&[u8], u32); 12] = [
+static NO_EXPRESSIONS: [(&[u8], u32); 12] = [
     (b"", 1),
     (b"true", 1),
     (b"true\ntrue\n", 2),

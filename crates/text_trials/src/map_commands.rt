@@ -3,7 +3,7 @@ use gcd_map::{Command, GcdKind, one_reading, read_command};
 use std::test::*;
 
 /// Lines, and the commands that they spell.
-const LINES: [(&[u8], Option<Command>); 26] = [
+static LINES: [(&[u8], Option<Command>); 26] = [
     (
         b"add  mmio 0x1F   010",
         Some(Command::Add {

@@ -7,7 +7,7 @@ use std::alloc::Global;
 use std::test::*;
 
 /// HOBs behind a hand-off and before an end, and the first fault.
-const FAULTS: [(&[Row], (GcdCause, u32)); 17] = [
+static FAULTS: [(&[Row], (GcdCause, u32)); 17] = [
     // No CPU HOB comes before a resource without addresses.
     (&[], (GcdCause::NoCpu, 0)),
     (&[Resource(0, 0, 0)], (GcdCause::NoCpu, 0)),
@@ -86,14 +86,14 @@ const FAULTS: [(&[Row], (GcdCause, u32)); 17] = [
 ];
 
 /// A hand-off, a CPU HOB of 32 bits, and a resource without addresses: the first bytes of lists with faults of their own.
-const FRONT: [u8; 120] = *b"\x01\0\x38\0\0\0\0\0\x09\0\0\0\0\0\0\0\0\0\0\0\0\0\0\0\0\0\0\0\0\0\0\0\
+static FRONT: [u8; 120] = *b"\x01\0\x38\0\0\0\0\0\x09\0\0\0\0\0\0\0\0\0\0\0\0\0\0\0\0\0\0\0\0\0\0\0\
     \0\0\0\0\0\0\0\0\0\0\0\0\0\0\0\0\0\0\0\0\0\0\0\0\
     \x06\0\x10\0\0\0\0\0\x20\x10\0\0\0\0\0\0\
     \x03\0\x30\0\0\0\0\0\0\0\0\0\0\0\0\0\0\0\0\0\0\0\0\0\0\0\0\0\0\0\0\0\
     \0\0\0\0\0\0\0\0\0\0\0\0\0\0\0\0";
 
 /// What stands behind so many bytes of that front, and the fault.
-const LIST_FAULTS: [(usize, &[u8], GcdCause, u32); 9] = [
+static LIST_FAULTS: [(usize, &[u8], GcdCause, u32); 9] = [
     (0, b"", GcdCause::NoEnd, 0),
     (0, b"\xff\xff\x08\0\0\0\0\0", GcdCause::Form, 0),
     (7, b"", GcdCause::Short, 0),

@@ -18,7 +18,7 @@ struct Case {
     text: &'static [u8],
 }
 
-const CASES: [Case; 13] = [
+static CASES: [Case; 13] = [
     // The greatest base, an allocation across what is allocated, and an end behind the space.
     Case {
         hobs: &[Cpu(32), Resource(0, 0x40000000, 0x10000)],
@@ -281,7 +281,7 @@ fn are_done(alloc: Global, hobs: &[u8]) -> bool {
 }
 
 /// The ranges behind the services.
-const RANGES: [(u64, u64, GcdKind, bool); 7] = [
+static RANGES: [(u64, u64, GcdKind, bool); 7] = [
     (0, 0x180, GcdKind::System, false),
     (0x180, 0x80, GcdKind::System, true),
     (0x200, 0x500, GcdKind::System, false),

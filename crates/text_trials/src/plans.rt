@@ -34,7 +34,7 @@ fn check(rt: &impl Abort, alloc: Global, front: &[u8], rows: &[(&[u8], Fault)]) 
 }
 
 /// A plan with all that its text may have.
-const WHOLE: &[u8] = b"# a comment\x00\xff\r\n\nram 1073741824 0x4000000\r\nfuel 000007\n#\n\
+static WHOLE: &[u8] = b"# a comment\x00\xff\r\n\nram 1073741824 0x4000000\r\nfuel 000007\n#\n\
     pages 0xC000\ntemp   0x00080000000  0x10000\nvolume 0xfff00000 a.fv\nvolume 0x100000 ~!";
 
 // The numbers of a plan: its temporary RAM and its RAM, each with its length, its fuel and its pages.
@@ -50,7 +50,7 @@ fn numbers(plan: &Plan) -> [u64; 6] {
 }
 
 /// The volumes of that plan.
-const VOLUMES: [(u64, &[u8]); 2] = [(0xfff0_0000, b"a.fv"), (0x10_0000, b"~!")];
+static VOLUMES: [(u64, &[u8]); 2] = [(0xfff0_0000, b"a.fv"), (0x10_0000, b"~!")];
 
 fn are_volumes(volumes: &[PlanVolume]) -> bool {
     let mut is_right = volumes.len() == VOLUMES.len();
@@ -65,21 +65,31 @@ fn is_whole(plan: &Plan) -> bool {
         && are_volumes(plan.volumes.as_slice())
 }
 
+// Whether it is read.
+fn reads_whole(alloc: Global) -> bool {
+    match read_plan(alloc, WHOLE) {
+        Ok(plan) => is_whole(&plan),
+        Err(_) => false,
+    }
+}
+
+// The fuel and the pages of the usual plan.
+fn usual_numbers(alloc: Global) -> Option<(u32, u64)> {
+    match read_plan(alloc, USUAL) {
+        Ok(plan) => Some((plan.fuel, plan.pages)),
+        Err(_) => None,
+    }
+}
+
 #[test]
 fn a_plan_is_read(rt: HostRuntime) {
-    match read_plan(rt.alloc(), WHOLE) {
-        Ok(plan) => assert!(rt; is_whole(&plan)),
-        Err(_) => panic!(rt; "a plan"),
-    }
-    match read_plan(rt.alloc(), USUAL) {
-        Ok(plan) => assert!(rt; (plan.fuel, plan.pages) == (100_000, 0)),
-        Err(_) => panic!(rt; "a plan"),
-    }
+    assert!(rt; reads_whole(rt.alloc()));
+    assert!(rt; usual_numbers(rt.alloc()) == Some((100_000, 0)));
     one_reading();
 }
 
 /// Texts, and the first bad line with its cause; none where they are plans.
-const PLANS: [(&[u8], Fault); 20] = [
+static PLANS: [(&[u8], Fault); 20] = [
     (USUAL, None),
     (
         b"temp 0x80000000 0x10000\nram 0x80008000 0x100000\nvolume 0xfff00000 a.fv",
@@ -150,7 +160,7 @@ fn a_plan_is_refused_at_its_first_bad_line(rt: HostRuntime) {
 }
 
 /// The same of lines behind the usual plan.
-const LINES: [(&[u8], Fault); 44] = [
+static LINES: [(&[u8], Fault); 44] = [
     (b"fuel 1", None),
     (b"fuel 1000000", None),
     (b"fuel 0xF4240", None),
@@ -203,7 +213,7 @@ fn lines_behind_a_plan_are_read(rt: HostRuntime) {
 }
 
 /// Single lines of memory.
-const MEMORY: [(&[u8], Fault); 14] = [
+static MEMORY: [(&[u8], Fault); 14] = [
     (b"temp 0x80000000 0x3000", Some((1, Limit))),
     (b"temp 0x80000000 0x101000", Some((1, Limit))),
     (b"temp 0x80000001 0x4000", Some((1, Limit))),
@@ -226,7 +236,7 @@ fn memory_keeps_within_its_limits(rt: HostRuntime) {
 }
 
 /// Lines behind a plan of sixteen volumes.
-const BEHIND_SIXTEEN: [(&[u8], Fault); 4] = [
+static BEHIND_SIXTEEN: [(&[u8], Fault); 4] = [
     (b"", None),
     (b"volume 0x100000 a", Some((19, Limit))),
     (b"volume x a", Some((19, Number))),
@@ -234,7 +244,7 @@ const BEHIND_SIXTEEN: [(&[u8], Fault); 4] = [
 ];
 
 /// What stands behind a name of 255 letters.
-const BEHIND_A_NAME: [(&[u8], Fault); 3] = [(b"", None), (b"\n", None), (b"n", Some((4, Word)))];
+static BEHIND_A_NAME: [(&[u8], Fault); 3] = [(b"", None), (b"\n", None), (b"n", Some((4, Word)))];
 
 #[test]
 fn sixteen_volumes_and_long_names_are_read(rt: HostRuntime) {

@@ -16,7 +16,7 @@ struct Case {
     busy: &'static [bool],
 }
 
-const CASES: [Case; 5] = [
+static CASES: [Case; 5] = [
     // A start of all, turns, a start of a busy AP, a caller that is no BSP, and the APs disabled.
     Case {
         file: b"mp 3 1\nall 0 add=0:5 put=7\nturn 2\nthis 0 1 put=1\nturn 1\nturn 1\nturn 2\n\
@@ -57,7 +57,7 @@ const CASES: [Case; 5] = [
 ];
 
 /// Texts that are no files, and the line that is named.
-const REFUSED: [(&[u8], &[u8]); 18] = [
+static REFUSED: [(&[u8], &[u8]); 18] = [
     // No first line `mp N C`.
     (b"", b"refused command 1\n"),
     (b"# none\n\n", b"refused command 3\n"),
@@ -116,13 +116,18 @@ fn is_right(alloc: Global, sink: &mut MemSink, case: &Case) -> bool {
     }
 }
 
+// The same over a new sink.
+fn is_run(alloc: Global, case: &Case) -> bool {
+    match empty_sink(alloc) {
+        Some(mut sink) => is_right(alloc, &mut sink, case),
+        None => false,
+    }
+}
+
 #[test]
 fn a_run_prints_what_was_reckoned(rt: HostRuntime) {
     for case in &CASES {
-        match empty_sink(rt.alloc()) {
-            Some(mut sink) => assert!(rt; is_right(rt.alloc(), &mut sink, case)),
-            None => panic!(rt; "ample memory"),
-        }
+        assert!(rt; is_run(rt.alloc(), case));
     }
     each_call_is_answered();
 }
@@ -143,14 +148,19 @@ fn is_named(sink: &mut MemSink, line: u32, want: &[u8]) -> bool {
     put_bad_line(sink, line).is_ok() && sink.text() == want
 }
 
+// Whether this is printed of a text.
+fn is_refused(alloc: Global, text: &[u8], want: &[u8]) -> bool {
+    let line = bad_line(alloc, text);
+    match empty_sink(alloc) {
+        Some(mut sink) => is_named(&mut sink, line, want),
+        None => false,
+    }
+}
+
 #[test]
 fn what_is_no_file_is_refused_at_its_first_bad_line(rt: HostRuntime) {
     for (text, want) in &REFUSED {
-        let line = bad_line(rt.alloc(), text);
-        match empty_sink(rt.alloc()) {
-            Some(mut sink) => assert!(rt; is_named(&mut sink, line, want)),
-            None => panic!(rt; "ample memory"),
-        }
+        assert!(rt; is_refused(rt.alloc(), text, want));
     }
     one_reading();
 }

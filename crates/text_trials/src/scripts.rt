@@ -29,7 +29,7 @@ fn number(cause: ActCause) -> u8 {
 }
 
 /// What the first n bytes of the smallest script are.
-const PREFIXES: [(u8, u32); 16] = [
+static PREFIXES: [(u8, u32); 16] = [
     (30, 0),
     (30, 0),
     (30, 0),
@@ -57,7 +57,7 @@ fn each_prefix_of_a_script_is_refused(rt: HostRuntime) {
 }
 
 /// Scripts, and what they are: one thing changed in each.
-const FAULTS: [(&[u8], (u8, u32)); 24] = [
+static FAULTS: [(&[u8], (u8, u32)); 24] = [
     // The magic, the version, the phase, the number of blocks and the zero.
     (
         &[0x51, 0x49, 0x41, 0x53, 1, 1, 1, 0, 1, 0, 0x13, 0],
@@ -180,7 +180,7 @@ fn each_fault_comes_at_its_place(rt: HostRuntime) {
 }
 
 /// Every action of PEI, with its bytes from the table of actions.
-const PEI_SCRIPT: [u8; 148] = [
+static PEI_SCRIPT: [u8; 148] = [
     0x50, 0x49, 0x41, 0x53, 1, 1, 1, 0, 20, 0, // header, and 20 actions
     0x01, 1, 0x88, 0x77, 0x66, 0x55, 0x44, 0x33, 0x22, 0x11, // set r1 0x1122334455667788
     0x02, 2, 1, 0, 0, 0, 0, 0, 0, 0, // add r2 1
@@ -205,7 +205,7 @@ const PEI_SCRIPT: [u8; 148] = [
 ];
 
 /// Every action of DXE.
-const DXE_SCRIPT: [u8; 157] = [
+static DXE_SCRIPT: [u8; 157] = [
     0x50, 0x49, 0x41, 0x53, 1, 2, 1, 0, 14, 0, // header, and 14 actions
     0x01, 1, 0x88, 0x77, 0x66, 0x55, 0x44, 0x33, 0x22, 0x11, // set r1 0x1122334455667788
     0x02, 2, 1, 0, 0, 0, 0, 0, 0, 0, // add r2 1

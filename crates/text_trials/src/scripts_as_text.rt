@@ -7,7 +7,7 @@ use std::alloc::Global;
 use std::test::*;
 
 /// Actions as text, and their bytes.
-const ACTIONS: [(Phase, &[u8], &[u8]); 29] = [
+static ACTIONS: [(Phase, &[u8], &[u8]); 29] = [
     (Phase::Pei, b"set r1 0x10", &[1, 1, 16, 0, 0, 0, 0, 0, 0, 0]),
     (
         Phase::Dxe,
@@ -122,18 +122,18 @@ fn disassembled(alloc: Global, bytes: &[u8]) -> Option<Seq<u8>> {
 }
 
 /// What stands in front of the action and behind it: two rets, and another block.
-const PEI_TEXT: &[u8] = b"phase pei\nblock\n";
+static PEI_TEXT: &[u8] = b"phase pei\nblock\n";
 
-const DXE_TEXT: &[u8] = b"phase dxe\nblock\n";
+static DXE_TEXT: &[u8] = b"phase dxe\nblock\n";
 
-const TEXT_BEHIND: &[u8] = b"\nret Success\nret Success\nblock\nret Success\n";
+static TEXT_BEHIND: &[u8] = b"\nret Success\nret Success\nblock\nret Success\n";
 
 /// The bytes of the same.
-const PEI_BYTES: &[u8] = &[0x50, 0x49, 0x41, 0x53, 1, 1, 2, 0, 3, 0];
+static PEI_BYTES: &[u8] = &[0x50, 0x49, 0x41, 0x53, 1, 1, 2, 0, 3, 0];
 
-const DXE_BYTES: &[u8] = &[0x50, 0x49, 0x41, 0x53, 1, 2, 2, 0, 3, 0];
+static DXE_BYTES: &[u8] = &[0x50, 0x49, 0x41, 0x53, 1, 2, 2, 0, 3, 0];
 
-const BYTES_BEHIND: &[u8] = &[19, 0, 19, 0, 1, 0, 19, 0];
+static BYTES_BEHIND: &[u8] = &[19, 0, 19, 0, 1, 0, 19, 0];
 
 // Whether a text and bytes go both ways.
 fn go_both_ways(alloc: Global, text: &[u8], bytes: &[u8]) -> bool {
@@ -168,7 +168,7 @@ fn the_smallest_script_is_read(rt: HostRuntime) {
 }
 
 /// Texts of no script, and the line with which they go wrong.
-const NO_SCRIPTS: [(&[u8], u32); 20] = [
+static NO_SCRIPTS: [(&[u8], u32); 20] = [
     (b"", 1),
     (b"phase mm\n", 1),
     (b"phase pei\n", 2),
@@ -216,7 +216,7 @@ fn what_is_no_script_is_bad_at_its_line(rt: HostRuntime) {
 
 /// Lines, a line and how many times it stands behind them, other lines, and the line with which the text
 /// goes wrong; 0 where it is a script's.
-const LIMITS: [(&[u8], &[u8], usize, &[u8], u32); 8] = [
+static LIMITS: [(&[u8], &[u8], usize, &[u8], u32); 8] = [
     // 1,024 actions
     (b"phase pei\nblock\n", b"log a\n", 1023, b"ret Success\n", 0),
     // and one that is no ret, or one more
@@ -265,12 +265,12 @@ fn scripts_keep_within_their_limits(rt: HostRuntime) {
 }
 
 /// A line of 992 that are alike, whose text of 64 characters takes 66 bytes.
-const LONG: &[u8] = b"log 0123456789abcdef0123456789abcdef0123456789abcdef0123456789abcdef\n";
+static LONG: &[u8] = b"log 0123456789abcdef0123456789abcdef0123456789abcdef0123456789abcdef\n";
 
 /// The last lines of the longest script, and of one that is a byte longer.
-const LAST: &[u8] = b"log 0123456789abcdef0123456789abcdef0123456789abcdef01\nret Success\n";
+static LAST: &[u8] = b"log 0123456789abcdef0123456789abcdef0123456789abcdef01\nret Success\n";
 
-const LAST_LONGER: &[u8] =
+static LAST_LONGER: &[u8] =
     b"log 0123456789abcdef0123456789abcdef0123456789abcdef012\nret Success\n";
 
 // How many bytes the script of a text has, 0 where there is none.

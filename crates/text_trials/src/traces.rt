@@ -8,7 +8,7 @@ use store_model::CORE;
 use trace_reader::{TraceFault, read_trace};
 
 /// A line of each form.
-const FORMS: [&[u8]; 36] = [
+static FORMS: [&[u8]; 36] = [
     b"report 0\n",
     b"pei start 0 00000000-0000-0000-0000-00000000000a shadow\n",
     b"dxe start 2 00000000-0000-0000-0000-00000000000a before\n",
@@ -108,7 +108,7 @@ fn told(line: &Line) -> Fields<'_> {
 }
 
 /// Lines, and what is read of them.
-const LINES: [(&[u8], Fields<'static>); 7] = [
+static LINES: [(&[u8], Fields<'static>); 7] = [
     (
         b"dxe start 2 00000000-0000-0000-0000-00000000000a before\n",
         Fields::Start(2, Licence::Before),
@@ -154,7 +154,7 @@ fn a_line_has_the_fields_of_its_text(rt: HostRuntime) {
 }
 
 /// Texts of no trace, and the first line of no form.
-const NO_TRACES: [(&[u8], u32); 21] = [
+static NO_TRACES: [(&[u8], u32); 21] = [
     (b"\n", 1),
     (b"pei stop", 1),
     (b"pei  stop\n", 1),
