@@ -214,20 +214,23 @@ fn what_is_built_is_listed(rt: HostRuntime) {
     }
 }
 
+// The need equals the room, and passes it by one byte.
+fn faults_of(alloc: Global, files: &[NewFile]) -> [Option<BuildFault>; 3] {
+    [
+        ffs2(alloc, files, 115).err(),
+        ffs2(alloc, files, 114).err(),
+        ffs3(alloc, files, 114).err(),
+    ]
+}
+
 #[test]
 fn a_volume_is_refused_by_one_byte(rt: HostRuntime) {
-    // The need equals the room, and passes it by one byte.
     let files = [one_peim(&rt, rt.alloc())];
     let full = BuildFault::NoRoom {
         need: 115,
         have: 114,
     };
-    let faults = [
-        ffs2(rt.alloc(), &files, 115).err(),
-        ffs2(rt.alloc(), &files, 114).err(),
-        ffs3(rt.alloc(), &files, 114).err(),
-    ];
-    assert!(rt; faults == [None, Some(full), Some(full)]);
+    assert!(rt; faults_of(rt.alloc(), &files) == [None, Some(full), Some(full)]);
 }
 
 // So many files without sections.
@@ -239,6 +242,17 @@ fn many(alloc: Global, count: usize) -> Vec<NewFile> {
     files
 }
 
+// The fault of so many files in a volume of this length.
+fn fault_of_many(alloc: Global, count: usize, len: u64) -> Option<BuildFault>
+    requires header { HEADER_LEN ≤ len }
+    requires most { len ≤ MOST_LEN }
+{
+    let files = many(alloc, count);
+    let fault = ffs2(alloc, &files, len).err();
+    drop(files);
+    fault
+}
+
 #[test]
 fn as_many_files_are_built_as_are_listed(rt: HostRuntime) {
     let alloc = rt.alloc();
@@ -247,10 +261,10 @@ fn as_many_files_are_built_as_are_listed(rt: HostRuntime) {
         have: 393_287,
     };
     let faults = [
-        ffs2(alloc, &many(alloc, MOST_FILES), 393_288).err(),
-        ffs2(alloc, &many(alloc, MOST_FILES), 393_287).err(),
+        fault_of_many(alloc, MOST_FILES, 393_288),
+        fault_of_many(alloc, MOST_FILES, 393_287),
         // One more, also where there is no room.
-        ffs2(alloc, &many(alloc, MOST_FILES + 1), 72).err(),
+        fault_of_many(alloc, MOST_FILES + 1, 72),
     ];
     assert!(rt; faults == [None, Some(full), Some(BuildFault::TooMany)]);
 }
