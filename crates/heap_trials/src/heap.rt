@@ -67,8 +67,8 @@ static WHOLE_PLACES: [HobPlace; 2] = [
 ];
 
 // The hand-off HOB behind its header: its version, boot mode, memory, what is free, and the end HOB.
-static WHOLE_HANDOFF: [u8; 48] =
-    *b"\x09\0\0\0\0\0\0\0\0\x40\0\x80\0\0\0\0\0\0\0\x80\0\0\0\0\0\x40\0\x80\0\0\0\0\0\x40\0\x80\0\0\0\0\xf8\x3f\0\x80\0\0\0\0";
+static WHOLE_HANDOFF: &[u8] =
+    b"\x09\0\0\0\0\0\0\0\0\x40\0\x80\0\0\0\0\0\0\0\x80\0\0\0\0\0\x40\0\x80\0\0\0\0\0\x40\0\x80\0\0\0\0\xf8\x3f\0\x80\0\0\0\0";
 
 fn try_whole_pool(rt: &impl Abort, alloc: Global, store: &mut MemStore)
     requires { Present (StandsFor store.old) Anything }
@@ -78,13 +78,13 @@ fn try_whole_pool(rt: &impl Abort, alloc: Global, store: &mut MemStore)
         size: 16_312,
     };
     assert!(rt; (pool(store, 16_312), free(store)) == (Ok(whole), 0));
-    let is_whole = store.memory.read(TEMP + 8, 48) == Some(WHOLE_HANDOFF.as_slice());
+    let is_whole = store.memory.read(TEMP + 8, 48) == Some(WHOLE_HANDOFF);
     assert!(rt; (has_places(alloc, store, &WHOLE_PLACES), is_whole) == (true, true));
 }
 
 // The HOB of a CPU, a GUID HOB with its body padded, and the end HOB.
-static TWO_HOBS: [u8; 56] =
-    *b"\x06\0\x10\0\0\0\0\0\x30\x10\0\0\0\0\0\0\x04\0\x20\0\0\0\0\x000123456789abcdefxyz\0\0\0\0\0\xff\xff\x08\0\0\0\0\0";
+static TWO_HOBS: &[u8] =
+    b"\x06\0\x10\0\0\0\0\0\x30\x10\0\0\0\0\0\0\x04\0\x20\0\0\0\0\x000123456789abcdefxyz\0\0\0\0\0\xff\xff\x08\0\0\0\0\0";
 
 fn try_hobs(rt: &impl Abort, store: &mut MemStore)
     requires { Present (StandsFor store.old) Anything }
@@ -101,18 +101,18 @@ fn try_hobs(rt: &impl Abort, store: &mut MemStore)
     };
     let made = [create(store, &cpu), create(store, &named)];
     assert!(rt; (made, first_place(store)) == ([Ok(TEMP + 56), Ok(TEMP + 72)], Some(first)));
-    assert!(rt; store.memory.read(TEMP + 56, 56) == Some(TWO_HOBS.as_slice()));
+    assert!(rt; store.memory.read(TEMP + 56, 56) == Some(TWO_HOBS));
 }
 
 // What is free from the node on, the end HOB, and the node's header.
-static BEHIND_NODE: [u8; 24] = *b"\x68\0\0\x80\0\0\0\0\x60\0\0\x80\0\0\0\0\x07\0\x28\0\0\0\0\0";
+static BEHIND_NODE: &[u8] = b"\x68\0\0\x80\0\0\0\0\x60\0\0\x80\0\0\0\0\x07\0\x28\0\0\0\0\0";
 
 fn try_node(rt: &impl Abort, store: &mut MemStore)
     requires { Present (StandsFor store.old) Anything }
 {
     let offset = node(store);
     let bytes = store.memory.read(TEMP + 40, 24);
-    assert!(rt; (offset, bytes) == (Some(0x40), Some(BEHIND_NODE.as_slice())));
+    assert!(rt; (offset, bytes) == (Some(0x40), Some(BEHIND_NODE)));
 }
 
 fn try_boot_mode(rt: &impl Abort, store: &mut MemStore)
@@ -123,15 +123,15 @@ fn try_boot_mode(rt: &impl Abort, store: &mut MemStore)
 }
 
 // The HOB of the page.
-static EARLY_PAGE: [u8; 48] =
-    *b"\x02\0\x30\0\0\0\0\0\0\0\0\0\0\0\0\0\0\0\0\0\0\0\0\0\0\x70\0\x80\0\0\0\0\0\x10\0\0\0\0\0\0\x04\0\0\0\0\0\0\0";
+static EARLY_PAGE: &[u8] =
+    b"\x02\0\x30\0\0\0\0\0\0\0\0\0\0\0\0\0\0\0\0\0\0\0\0\0\0\x70\0\x80\0\0\0\0\0\x10\0\0\0\0\0\0\x04\0\0\0\0\0\0\0";
 
 fn try_early_page(rt: &impl Abort, store: &mut MemStore)
     requires { Present (StandsFor store.old) Anything }
 {
     let page = pages(store, 1);
     let bytes = store.memory.read(TEMP + 56, 48);
-    assert!(rt; (page, bytes) == (Ok(TEMP + 0x7000), Some(EARLY_PAGE.as_slice())));
+    assert!(rt; (page, bytes) == (Ok(TEMP + 0x7000), Some(EARLY_PAGE)));
 }
 
 fn run(rt: &impl Abort, alloc: Global, store: &mut MemStore, trial: Trial)

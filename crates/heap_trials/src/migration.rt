@@ -20,8 +20,8 @@ const UPPER: Span = Span {
 
 // The list at the new base, of 144 bytes. The hand-off HOB: the end of memory, its base, what is free, and the end HOB. The page's
 // HOB: it lies at the end of the new heap. The GUID HOB with the bytes that look like an address, and the end HOB.
-static MOVED: [u8; 144] =
-    *b"\x01\0\x38\0\0\0\0\0\x09\0\0\0\0\0\0\0\0\0\x02\x40\0\0\0\0\0\0\x01\x40\0\0\0\0\0\xf0\x01\x40\0\0\0\0\x90\0\x01\x40\0\0\0\0\x88\0\x01\x40\0\0\0\0\x02\0\x30\0\0\0\0\0\0\0\0\0\0\0\0\0\0\0\0\0\0\0\0\0\0\xf0\x01\x40\0\0\0\0\0\x10\0\0\0\0\0\0\x04\0\0\0\0\0\0\0\x04\0\x20\0\0\0\0\x000123456789abcdef\x40\0\0\x80\0\0\0\0\xff\xff\x08\0\0\0\0\0";
+static MOVED: &[u8] =
+    b"\x01\0\x38\0\0\0\0\0\x09\0\0\0\0\0\0\0\0\0\x02\x40\0\0\0\0\0\0\x01\x40\0\0\0\0\0\xf0\x01\x40\0\0\0\0\x90\0\x01\x40\0\0\0\0\x88\0\x01\x40\0\0\0\0\x02\0\x30\0\0\0\0\0\0\0\0\0\0\0\0\0\0\0\0\0\0\0\0\0\0\xf0\x01\x40\0\0\0\0\0\x10\0\0\0\0\0\0\x04\0\0\0\0\0\0\0\x04\0\x20\0\0\0\0\x000123456789abcdef\x40\0\0\x80\0\0\0\0\xff\xff\x08\0\0\0\0\0";
 
 fn try_pages(rt: &impl Abort, store: &mut MemStore)
     requires { Present (StandsFor store.old) Anything }
@@ -39,7 +39,7 @@ fn try_pages(rt: &impl Abort, store: &mut MemStore)
     assert!(rt; (made, moved) == wants);
     let early = store.memory.read(TEMP, 8);
     let bytes = store.memory.read(0x4001_0000, 144);
-    assert!(rt; (store.heap.span, early, bytes) == (UPPER, None, Some(MOVED.as_slice())));
+    assert!(rt; (store.heap.span, early, bytes) == (UPPER, None, Some(MOVED)));
 }
 
 // The descriptor: its flags, where its GUID stands, the value, and the GUID.
