@@ -3,6 +3,7 @@ use pi_base::{
     Guid, Seq, Span, Word, checksum8, checksum16, decimal, hexadecimal, put_u16, put_u24, put_u32,
     put_u64, sum8, sum16, u16_at, u24_at, u32_at, u64_at,
 };
+use std::process::Abort;
 use std::test::*;
 
 #[test]
@@ -29,20 +30,28 @@ fn guids_have_the_usual_text(rt: HostRuntime) -> Result<(), Fail> {
     Ok(())
 }
 
-#[test]
-fn lists_grow_with_ample_memory(rt: HostRuntime) -> Result<(), Fail> {
-    let mut list = Seq::new(rt.alloc());
-    assert!(rt; list.push(1u8).is_ok());
-    assert!(rt; list.append(b"ab".as_slice()).is_ok());
+fn try_growing(rt: &impl Abort, list: &mut Seq<u8>) {
+    let are_put = [list.push(1u8).is_ok(), list.append(b"ab").is_ok()];
+    assert!(rt; are_put == [true; 2]);
     list.set(0, 7);
     assert!(rt; list.as_slice() == b"\x07ab".as_slice());
     list.truncate(2);
     assert!(rt; list.pop() == Some(b'a'));
+}
+
+fn try_popping(rt: &impl Abort, list: &mut Seq<u8>) {
+    assert!(rt; list.len() == 1);
+    let popped = [list.pop(), list.pop()];
+    assert!(rt; (popped, list.is_empty()) == ([Some(7), None], true));
+}
+
+#[test]
+fn lists_grow_with_ample_memory(rt: HostRuntime) -> Result<(), Fail> {
+    let mut list = Seq::new(rt.alloc());
+    try_growing(&rt, &mut list);
     let mut again = Seq::from_vec(list.into_vec());
-    assert!(rt; again.len() == 1);
-    assert!(rt; again.pop() == Some(7));
-    assert!(rt; again.pop().is_none());
-    assert!(rt; again.is_empty());
+    try_popping(&rt, &mut again);
+    drop(again);
     Ok(())
 }
 

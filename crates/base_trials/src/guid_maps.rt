@@ -1,6 +1,7 @@
 // Maps by GUID.
 use guid_map::GuidMap;
 use pi_base::Guid;
+use std::process::Abort;
 use std::test::*;
 
 fn guid(first: u8, last: u8) -> Guid {
@@ -10,9 +11,17 @@ fn guid(first: u8, last: u8) -> Guid {
     Guid(bytes)
 }
 
-#[test]
-fn each_guid_has_the_value_that_it_was_given_last(rt: HostRuntime) -> Result<(), Fail> {
-    let mut map: GuidMap<u32> = GuidMap::new(rt.alloc());
+// What the three GUIDs have, and whether the first one is there.
+fn held(map: &GuidMap<u32>) -> ([Option<u32>; 3], bool) {
+    let have = [
+        map.get(&guid(0, 0)),
+        map.get(&guid(0, 1)),
+        map.get(&guid(1, 0)),
+    ];
+    (have, map.contains_key(&guid(0, 0)))
+}
+
+fn try_rows(rt: &impl Abort, map: &mut GuidMap<u32>) {
     assert!(rt; map.get(&guid(0, 0)).is_none());
     // What is put in turn, and what the three GUIDs that differ in their first or their last byte alone then have.
     let rows: [(Guid, u32, [Option<u32>; 3]); 6] = [
@@ -25,27 +34,33 @@ fn each_guid_has_the_value_that_it_was_given_last(rt: HostRuntime) -> Result<(),
     ];
     for (put, value, want) in rows {
         assert!(rt; map.insert(put, value).is_ok());
-        let have = [
-            map.get(&guid(0, 0)),
-            map.get(&guid(0, 1)),
-            map.get(&guid(1, 0)),
-        ];
-        assert!(rt; have == want, "{value}");
-        assert!(rt; map.contains_key(&guid(0, 0)) == want[0].is_some());
+        assert!(rt; held(map) == (want, want[0].is_some()), "{value}");
     }
-    Ok(())
 }
 
 #[test]
-fn four_thousand_guids_have_room(rt: HostRuntime) -> Result<(), Fail> {
+fn each_guid_has_the_value_that_it_was_given_last(rt: HostRuntime) -> Result<(), Fail> {
     let mut map: GuidMap<u32> = GuidMap::new(rt.alloc());
+    try_rows(&rt, &mut map);
+    drop(map);
+    Ok(())
+}
+
+fn try_many(rt: &impl Abort, map: &mut GuidMap<u32>) {
     for n in 0..4096u32 {
         assert!(rt;
             map.insert(guid((n % 256) as u8, (n / 256) as u8), n)
                 .is_ok()
         );
     }
-    assert!(rt; map.get(&guid(0xff, 0x0f)) == Some(4095));
-    assert!(rt; map.get(&guid(0, 0x10)).is_none());
+    let last = [map.get(&guid(0xff, 0x0f)), map.get(&guid(0, 0x10))];
+    assert!(rt; last == [Some(4095), None]);
+}
+
+#[test]
+fn four_thousand_guids_have_room(rt: HostRuntime) -> Result<(), Fail> {
+    let mut map: GuidMap<u32> = GuidMap::new(rt.alloc());
+    try_many(&rt, &mut map);
+    drop(map);
     Ok(())
 }

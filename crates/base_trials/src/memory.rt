@@ -2,6 +2,7 @@
 use phys_mem::{PhysMem, Rom};
 use pi_base::{Seq, Span};
 use std::alloc::Global;
+use std::process::Abort;
 use std::test::*;
 
 /// A place and a length, and what is read there.
@@ -100,16 +101,26 @@ fn copies(memory: &mut PhysMem) -> [bool; 5] {
     ]
 }
 
+fn try_memory(rt: &impl Abort, memory: &mut PhysMem) {
+    assert!(rt; reads(memory, &AT_FIRST) && reads_in_volumes(memory, &IN_VOLUMES));
+    assert!(rt; writes(memory) == [true, false, false, true]);
+    assert!(rt; reads(memory, &WRITTEN));
+    assert!(rt; copies(memory) == [true, true, false, false, false]);
+    assert!(rt; reads(memory, &COPIED));
+}
+
+// When temporary RAM is gone.
+fn try_unmapped(rt: &impl Abort, memory: &mut PhysMem) {
+    memory.unmap_temp();
+    assert!(rt; !memory.copy(0x3000, 0x1000, 1) && !memory.write(0x1ffe, &[1]));
+    assert!(rt; reads(memory, &UNMAPPED));
+}
+
 #[test]
 fn memory_is_read_and_written(rt: HostRuntime) -> Result<(), Fail> {
     let mut memory = memory(rt.alloc()).ok_or("memory")?;
-    assert!(rt; reads(&memory, &AT_FIRST) && reads_in_volumes(&memory, &IN_VOLUMES));
-    assert!(rt; writes(&mut memory) == [true, false, false, true]);
-    assert!(rt; reads(&memory, &WRITTEN));
-    assert!(rt; copies(&mut memory) == [true, true, false, false, false]);
-    assert!(rt; reads(&memory, &COPIED));
-    memory.unmap_temp();
-    assert!(rt; !memory.copy(0x3000, 0x1000, 1) && !memory.write(0x1ffe, &[1]));
-    assert!(rt; reads(&memory, &UNMAPPED));
+    try_memory(&rt, &mut memory);
+    try_unmapped(&rt, &mut memory);
+    drop(memory);
     Ok(())
 }

@@ -4,7 +4,7 @@ use printed_words::{behind, decimal_of, first_line, guid_of, hexadecimal_of};
 use std::test::*;
 
 /// Words, and the number of which each is the decimal text.
-const DECIMALS: [(&[u8], Option<u64>); 8] = [
+static DECIMALS: [(&[u8], Option<u64>); 8] = [
     (b"0", Some(0)),
     (b"4096", Some(4096)),
     (b"18446744073709551615", Some(u64::MAX)),
@@ -16,7 +16,7 @@ const DECIMALS: [(&[u8], Option<u64>); 8] = [
 ];
 
 /// Words, and the number of which each is the hexadecimal text.
-const HEXADECIMALS: [(&[u8], Option<u64>); 9] = [
+static HEXADECIMALS: [(&[u8], Option<u64>); 9] = [
     (b"0x0", Some(0)),
     (b"0xfff00000", Some(0xfff0_0000)),
     (b"0xffffffffffffffff", Some(u64::MAX)),
@@ -57,7 +57,7 @@ fn guids_are_read_from_their_own_texts_alone(rt: HostRuntime) {
 }
 
 /// Texts, and the first line and the rest of each.
-const LINES: [(&[u8], Option<(&[u8], &[u8])>); 4] = [
+static LINES: [(&[u8], Option<(&[u8], &[u8])>); 4] = [
     (b"one\ntwo\n", Some((b"one", b"two\n"))),
     (b"\ntwo", Some((b"", b"two"))),
     (b"one\r\n", Some((b"one\r", b""))),
