@@ -1,4 +1,8 @@
 // The actions of scripts.
+ghost use Rattle.std.specs.Prelude.{◌≡◌};
+ghost use Rattle.act_code.specs.Table.{code_of_action};
+
+use crate::code::Code;
 use pi_base::{Guid, Seq, Word};
 
 /// Where an action's GUID stands.
@@ -149,4 +153,41 @@ pub enum Action {
     },
     /// Asks for dispatching while it goes on.
     Dispatch,
+}
+
+impl Action {
+    /// Its code, the first of its bytes.
+    pub fn code(&self) -> Code
+        ensures { result ≡ code_of_action self.now }
+    {
+        match self {
+            Action::Set { .. } => Code::Set,
+            Action::Add { .. } => Code::Add,
+            Action::Pool { .. } => Code::Pool,
+            Action::Store { .. } => Code::Store,
+            Action::Addr { .. } => Code::Addr,
+            Action::Peek { .. } => Code::Peek,
+            Action::Desc { .. } => Code::Desc,
+            Action::Install { .. } => Code::Install,
+            Action::Reinstall { .. } => Code::Reinstall,
+            Action::Notify { .. } => Code::Notify,
+            Action::Locate { .. } => Code::Locate,
+            Action::Hob { .. } => Code::Hob,
+            Action::Memory { .. } => Code::Memory,
+            Action::Pages { .. } => Code::Pages,
+            Action::BootMode { .. } => Code::BootMode,
+            Action::Log { .. } => Code::Log,
+            Action::SkipIf { .. } => Code::SkipIf,
+            Action::Ret { .. } => Code::Ret,
+            Action::Shadow => Code::Shadow,
+            Action::DxeInstall { .. } => Code::DxeInstall,
+            Action::DxeReinstall { .. } => Code::DxeReinstall,
+            Action::DxeUninstall { .. } => Code::DxeUninstall,
+            Action::DxeLocate { .. } => Code::DxeLocate,
+            Action::DxeNotify { .. } => Code::DxeNotify,
+            Action::Schedule { .. } => Code::Schedule,
+            Action::Process { .. } => Code::Process,
+            Action::Dispatch => Code::Dispatch,
+        }
+    }
 }

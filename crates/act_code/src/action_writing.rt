@@ -2,11 +2,9 @@
 ghost use Rattle.std.specs.Prelude.{◌≡◌, ◌<◌, ◌≤◌, ◌++◌, ◌∷◌, [], length, OnOk};
 ghost use Rattle.pi_base.specs.Field.{little_bytes};
 ghost use Rattle.act_code.specs.Format.{spelled, HobBody, Pair, RegisterNumber, Descriptor};
-ghost use Rattle.act_code.specs.Table.{code_of_action};
 ghost use Rattle.act_code.specs.Script.{action_bytes, operand_bytes, IsWritable};
 
 use crate::action::{Action, GuidArg};
-use crate::code::Code;
 use crate::operand::{GUID_FOLLOWS, REGISTER_FOLLOWS};
 use pi_base::{Guid, OutOfMemory, Seq, put_u16, put_u32, put_u64};
 
@@ -94,41 +92,6 @@ fn put_hob(out: &mut Seq<u8>, kind: u8, body: &Seq<u8>) -> Result<(), OutOfMemor
     out.append(body.as_slice())
 }
 
-// The code of an action.
-fn code_of(action: &Action) -> Code
-    ensures { result ≡ code_of_action action.now }
-{
-    match action {
-        Action::Set { .. } => Code::Set,
-        Action::Add { .. } => Code::Add,
-        Action::Pool { .. } => Code::Pool,
-        Action::Store { .. } => Code::Store,
-        Action::Addr { .. } => Code::Addr,
-        Action::Peek { .. } => Code::Peek,
-        Action::Desc { .. } => Code::Desc,
-        Action::Install { .. } => Code::Install,
-        Action::Reinstall { .. } => Code::Reinstall,
-        Action::Notify { .. } => Code::Notify,
-        Action::Locate { .. } => Code::Locate,
-        Action::Hob { .. } => Code::Hob,
-        Action::Memory { .. } => Code::Memory,
-        Action::Pages { .. } => Code::Pages,
-        Action::BootMode { .. } => Code::BootMode,
-        Action::Log { .. } => Code::Log,
-        Action::SkipIf { .. } => Code::SkipIf,
-        Action::Ret { .. } => Code::Ret,
-        Action::Shadow => Code::Shadow,
-        Action::DxeInstall { .. } => Code::DxeInstall,
-        Action::DxeReinstall { .. } => Code::DxeReinstall,
-        Action::DxeUninstall { .. } => Code::DxeUninstall,
-        Action::DxeLocate { .. } => Code::DxeLocate,
-        Action::DxeNotify { .. } => Code::DxeNotify,
-        Action::Schedule { .. } => Code::Schedule,
-        Action::Process { .. } => Code::Process,
-        Action::Dispatch => Code::Dispatch,
-    }
-}
-
 // Adds the operands of an action.
 fn put_operands(out: &mut Seq<u8>, action: &Action) -> Result<(), OutOfMemory>
     requires { IsWritable action.now }
@@ -183,6 +146,6 @@ pub fn put_action(out: &mut Seq<u8>, action: &Action) -> Result<(), OutOfMemory>
     requires { IsWritable action.now }
     ensures { OnOk result (out.new ≡ out.old ++ action_bytes action.now) }
 {
-    out.push(code_of(action).number())?;
+    out.push(action.code().number())?;
     put_operands(out, action)
 }

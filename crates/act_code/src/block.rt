@@ -37,7 +37,7 @@ impl From<OutOfMemory> for Stop {
 }
 
 /// The most actions of a block.
-const MOST_ACTIONS: u16 = 1024;
+pub const MOST_ACTIONS: u16 = 1024;
 
 /// A fault at what is left of a script.
 pub fn fault(header: Header, cause: ActCause, rest: &[u8]) -> ActFault

@@ -4,7 +4,7 @@ ghost use Rattle.act_code.specs.Table.{number_of, code_of, is_code_of};
 
 use pi_base::Phase;
 
-/// The first byte of an action (own).
+/// The code of an action, its first byte (own). Where both phases have an action of one name, that of drivers is here with `Dxe` in front.
 #[derive(Clone, Copy, PartialEq, Eq)]
 pub enum Code {
     Set = 0x01,

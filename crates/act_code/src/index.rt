@@ -5,12 +5,10 @@ ghost use Rattle.act_code.specs.Index.{are_indexed, is_indexed, has_room, is_ret
 ghost use Rattle.act_code.specs.Format.{registers_in, blocks_in, Descriptor, RegisterNumber, Pair};
 
 use crate::action::{Action, GuidArg};
+use crate::descriptor_kind::PPI;
 
 /// How many registers a frame has.
 pub const REGISTERS: u8 = 16;
-
-/// The kind of a descriptor of a PPI.
-const PPI: u8 = 0;
 
 // Whether all numbers are below a limit.
 fn are_below(numbers: &[u8], limit: u8) -> bool

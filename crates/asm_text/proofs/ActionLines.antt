@@ -1,6 +1,6 @@
 -- An action's line is read as it, and as no other.
-use Rattle.std.proofs.Common.{◌≡◌, ℕ, Bool, true, false, List, [], ◌∷◌, ◌++◌, length, take, drop, flat_map, Option, Some, refl, sym, ap, subst, ◌∙◌, arith}
-use Rattle.std.specs.Prelude.{bytes_eq, nat_lt, codes, ◌==◌, if◌then◌else◌}
+use Rattle.std.proofs.Common.{◌≡◌, ℕ, true, List, [], ◌∷◌, ◌++◌, length, take, drop, flat_map, Some, refl, sym, ap, subst, ◌∙◌, arith}
+use Rattle.std.specs.Prelude.{bytes_eq, nat_lt, ◌==◌, ◌&&◌}
 use Rattle.std.specs.List.{list_all}
 use Rattle.std.proofs.lemmas.Bool.{and_parts, and_from, false≢true, eqb-true}
 use Rattle.std.proofs.lemmas.List.{append-nil, take_at, drop_at, take-append-drop}
@@ -21,9 +21,11 @@ use Rattle.printed_words.specs.Words.{IsPlain}
 use Rattle.printed_words.proofs.Comparisons.{same}
 use Rattle.asm_text.specs.WordReading.{space_place}
 use Rattle.asm_text.specs.OperandReading.{read, small_word, operands_at}
-use Rattle.asm_text.specs.LineReading.{or_named, common_action, memory_action, pei_action, dispatcher_action, dxe_action, named_action, action_of}
+use Rattle.asm_text.specs.declared.action_name.TheConstants.{CODES}
+use Rattle.asm_text.specs.LineReading.{code_named, action_of}
 use Rattle.asm_text.proofs.Fronts.{passed}
 use Rattle.asm_text.proofs.Stacks.{bind_some}
+use Rattle.asm_text.proofs.WordLaws.{find_passes}
 use Rattle.asm_text.proofs.WordSplits.{Stands, word_end, stands_too}
 use Rattle.asm_text.proofs.Readables.{IsReadable, most_of, small_shows, formats_known}
 use Rattle.asm_text.proofs.OperandLaws.{Follows, reads}
@@ -94,98 +96,37 @@ unfolding name_of
 name_plain code.Set = refl
 name_plain _ = refl
 
-named_there : (phase : Phase) (c : Code) → is_code_of phase c ≡ true → (text : List ℕ) → named_action phase (name_of c) text ≡ operands_at c text
-unfolding name_of pei_action memory_action common_action dispatcher_action dxe_action
-named_there Pei code.DxeInstall of_phase text = absurd (false≢true of_phase)
-named_there Pei code.DxeReinstall of_phase text = absurd (false≢true of_phase)
-named_there Pei code.DxeUninstall of_phase text = absurd (false≢true of_phase)
-named_there Pei code.DxeLocate of_phase text = absurd (false≢true of_phase)
-named_there Pei code.DxeNotify of_phase text = absurd (false≢true of_phase)
-named_there Pei code.Schedule of_phase text = absurd (false≢true of_phase)
-named_there Pei code.Process of_phase text = absurd (false≢true of_phase)
-named_there Pei code.Dispatch of_phase text = absurd (false≢true of_phase)
-named_there Pei _ of_phase text = refl
-named_there Dxe code.Pool of_phase text = absurd (false≢true of_phase)
-named_there Dxe code.Store of_phase text = absurd (false≢true of_phase)
-named_there Dxe code.Addr of_phase text = absurd (false≢true of_phase)
-named_there Dxe code.Desc of_phase text = absurd (false≢true of_phase)
-named_there Dxe code.Install of_phase text = absurd (false≢true of_phase)
-named_there Dxe code.Reinstall of_phase text = absurd (false≢true of_phase)
-named_there Dxe code.Notify of_phase text = absurd (false≢true of_phase)
-named_there Dxe code.Locate of_phase text = absurd (false≢true of_phase)
-named_there Dxe code.Hob of_phase text = absurd (false≢true of_phase)
-named_there Dxe code.Memory of_phase text = absurd (false≢true of_phase)
-named_there Dxe code.Pages of_phase text = absurd (false≢true of_phase)
-named_there Dxe code.BootMode of_phase text = absurd (false≢true of_phase)
-named_there Dxe code.Shadow of_phase text = absurd (false≢true of_phase)
-named_there Dxe _ of_phase text = refl
+named_there : (phase : Phase) (c : Code) → is_code_of phase c ≡ true → code_named phase (name_of c) ≡ Some c
+unfolding name_of code_named
+named_there Pei code.DxeInstall of_phase = absurd (false≢true of_phase)
+named_there Pei code.DxeReinstall of_phase = absurd (false≢true of_phase)
+named_there Pei code.DxeUninstall of_phase = absurd (false≢true of_phase)
+named_there Pei code.DxeLocate of_phase = absurd (false≢true of_phase)
+named_there Pei code.DxeNotify of_phase = absurd (false≢true of_phase)
+named_there Pei code.Schedule of_phase = absurd (false≢true of_phase)
+named_there Pei code.Process of_phase = absurd (false≢true of_phase)
+named_there Pei code.Dispatch of_phase = absurd (false≢true of_phase)
+named_there Pei _ of_phase = refl
+named_there Dxe code.Pool of_phase = absurd (false≢true of_phase)
+named_there Dxe code.Store of_phase = absurd (false≢true of_phase)
+named_there Dxe code.Addr of_phase = absurd (false≢true of_phase)
+named_there Dxe code.Desc of_phase = absurd (false≢true of_phase)
+named_there Dxe code.Install of_phase = absurd (false≢true of_phase)
+named_there Dxe code.Reinstall of_phase = absurd (false≢true of_phase)
+named_there Dxe code.Notify of_phase = absurd (false≢true of_phase)
+named_there Dxe code.Locate of_phase = absurd (false≢true of_phase)
+named_there Dxe code.Hob of_phase = absurd (false≢true of_phase)
+named_there Dxe code.Memory of_phase = absurd (false≢true of_phase)
+named_there Dxe code.Pages of_phase = absurd (false≢true of_phase)
+named_there Dxe code.BootMode of_phase = absurd (false≢true of_phase)
+named_there Dxe code.Shadow of_phase = absurd (false≢true of_phase)
+named_there Dxe _ of_phase = refl
 
--- the action has the name, and its operands are the text
-pub record IsNamed (phase : Phase) (name text : List ℕ) (a : Action) : Type 0 where
-  pub code : Code
-  pub of_phase : is_code_of phase code ≡ true
-  pub named : name ≡ name_of code
-  pub operands : operands_at code text ≡ Some a
-
-named_by : (phase : Phase) (name text : List ℕ) (c : Code) (own : List ℕ) (others : Option Action) (a : Action) (test : Bool) → bytes_eq name own ≡ test → own ≡ name_of c → is_code_of phase c ≡ true
-    → (others ≡ Some a → IsNamed phase name text a) → (if test then operands_at c text else others) ≡ Some a → IsNamed phase name text a
-named_by phase name text c own others a true is spelled of_phase more e = record { code = c; of_phase = of_phase; named = (same name own).0 is ∙ spelled; operands = e }
-named_by phase name text c own others a false is spelled of_phase more e = more e
-
-named_or : (phase : Phase) (name text : List ℕ) (c : Code) (own : List ℕ) (others : Option Action) (a : Action) → own ≡ name_of c → is_code_of phase c ≡ true
-    → (others ≡ Some a → IsNamed phase name text a) → or_named name text c own others ≡ Some a → IsNamed phase name text a
-named_or phase name text c own others a spelled of_phase more e = named_by phase name text c own others a (bytes_eq name own) refl spelled of_phase more e
-
-common_named : (phase : Phase) (name text : List ℕ) (a : Action) → common_action name text ≡ Some a → IsNamed phase name text a
-unfolding common_action name_of
-common_named phase name text a e =
-    named_or phase name text code.Set (codes "set") _ a refl refl
-    (named_or phase name text code.Add (codes "add") _ a refl refl
-    (named_or phase name text code.Peek (codes "peek") _ a refl refl
-    (named_or phase name text code.Log (codes "log") _ a refl refl
-    (named_or phase name text code.SkipIf (codes "skip_if") _ a refl refl
-    (named_or phase name text code.Ret (codes "ret") _ a refl refl (λ e. absurd cc)))))) e
-
-memory_named : (name text : List ℕ) (a : Action) → memory_action name text ≡ Some a → IsNamed Pei name text a
-unfolding memory_action name_of
-memory_named name text a e =
-    named_or Pei name text code.Pool (codes "pool") _ a refl refl
-    (named_or Pei name text code.Store (codes "store") _ a refl refl
-    (named_or Pei name text code.Addr (codes "addr") _ a refl refl
-    (named_or Pei name text code.Hob (codes "hob") _ a refl refl
-    (named_or Pei name text code.Memory (codes "memory") _ a refl refl
-    (named_or Pei name text code.Pages (codes "pages") _ a refl refl (common_named Pei name text a)))))) e
-
-pei_named : (name text : List ℕ) (a : Action) → pei_action name text ≡ Some a → IsNamed Pei name text a
-unfolding pei_action name_of
-pei_named name text a e =
-    named_or Pei name text code.Desc (codes "desc") _ a refl refl
-    (named_or Pei name text code.Install (codes "install") _ a refl refl
-    (named_or Pei name text code.Reinstall (codes "reinstall") _ a refl refl
-    (named_or Pei name text code.Notify (codes "notify") _ a refl refl
-    (named_or Pei name text code.Locate (codes "locate") _ a refl refl
-    (named_or Pei name text code.BootMode (codes "boot_mode") _ a refl refl
-    (named_or Pei name text code.Shadow (codes "shadow") _ a refl refl (memory_named name text a))))))) e
-
-dispatcher_named : (name text : List ℕ) (a : Action) → dispatcher_action name text ≡ Some a → IsNamed Dxe name text a
-unfolding dispatcher_action name_of
-dispatcher_named name text a e =
-    named_or Dxe name text code.DxeNotify (codes "notify") _ a refl refl
-    (named_or Dxe name text code.Schedule (codes "schedule") _ a refl refl
-    (named_or Dxe name text code.Process (codes "process") _ a refl refl
-    (named_or Dxe name text code.Dispatch (codes "dispatch") _ a refl refl (common_named Dxe name text a)))) e
-
-dxe_named : (name text : List ℕ) (a : Action) → dxe_action name text ≡ Some a → IsNamed Dxe name text a
-unfolding dxe_action name_of
-dxe_named name text a e =
-    named_or Dxe name text code.DxeInstall (codes "install") _ a refl refl
-    (named_or Dxe name text code.DxeReinstall (codes "reinstall") _ a refl refl
-    (named_or Dxe name text code.DxeUninstall (codes "uninstall") _ a refl refl
-    (named_or Dxe name text code.DxeLocate (codes "locate") _ a refl refl (dispatcher_named name text a)))) e
-
-named_were : (phase : Phase) (name text : List ℕ) (a : Action) → named_action phase name text ≡ Some a → IsNamed phase name text a
-named_were Pei name text a e = pei_named name text a e
-named_were Dxe name text a e = dxe_named name text a e
+named_were : (phase : Phase) (name : List ℕ) (c : Code) → code_named phase name ≡ Some c → (is_code_of phase c ≡ true) × (name ≡ name_of c)
+unfolding code_named
+named_were phase name c e =
+    let parts = and_parts (is_code_of phase c) (bytes_eq (name_of c) name) (find_passes (λ code. is_code_of phase code && bytes_eq (name_of code) name) CODES c e) in
+    (parts.0, sym ((same (name_of c) name).0 parts.1))
 
 -- the line of an action is read as it
 pub action_there : (phase : Phase) (a : Action) → IsGoodAction phase a → action_of phase (action_text a) ≡ Some a
@@ -195,7 +136,7 @@ action_there phase a is =
     let name = name_of c in
     let text = flat_map spaced (operand_words a) in
     let stands : Stands text = subst Stands (append-nil text) (stands_too (operand_words a) [] tt) in
-    rw (word_end name text (name_plain c) stands, take_at name text (length name) refl, drop_at name text (length name) refl, named_there phase c is.is.of_phase text)
+    rw (word_end name text (name_plain c) stands, take_at name text (length name) refl, drop_at name text (length name) refl, named_there phase c is.is.of_phase)
     (operands_there a (readable (format_of c) (operands a) (good_operands phase a is)))
 
 -- what is read of a line is the action of which it is the line
@@ -204,9 +145,10 @@ unfolding action_of
 action_was phase line a e =
     let front = take (space_place line) line in
     let rest = drop (space_place line) line in
-    let n = named_were phase front rest a e in
-    let m = operands_were n.code rest a n.operands in
-    let is = made_good phase n.code m.value n.of_phase (good (format_of n.code) m.value (formats_fit n.code) m.is) in
-    let whole : line ≡ action_text (made n.code m.value) =
-    sym (take-append-drop (space_place line) line) ∙ ap (λ t. t ++ rest) n.named ∙ ap (λ t. name_of n.code ++ t) m.here ∙ made_text n.code m.value in
+    let n = bind_some (code_named phase front) (λ c. operands_at c rest) a e in
+    let named = named_were phase front n.0 n.1 in
+    let m = operands_were n.0 rest a n.2 in
+    let is = made_good phase n.0 m.value named.0 (good (format_of n.0) m.value (formats_fit n.0) m.is) in
+    let whole : line ≡ action_text (made n.0 m.value) =
+    sym (take-append-drop (space_place line) line) ∙ ap (λ t. t ++ rest) named.1 ∙ ap (λ t. name_of n.0 ++ t) m.here ∙ made_text n.0 m.value in
     subst (λ (b : Action). IsGoodAction phase b × (line ≡ action_text b)) m.made (is, whole)

@@ -140,7 +140,7 @@ find_by : {X : Type 0} (p : X → Bool) (xs : List X) (x y : X) (test : Bool) �
 find_by p xs x y true is others e = subst (λ z. p z ≡ true) (same_Some x y e) is
 find_by p xs x y false is others e = others y e
 
-find_passes : {X : Type 0} (p : X → Bool) (xs : List X) (y : X) → find p xs ≡ Some y → p y ≡ true
+pub find_passes : {X : Type 0} (p : X → Bool) (xs : List X) (y : X) → find p xs ≡ Some y → p y ≡ true
 find_passes p [] y e = absurd cc
 find_passes p (x ∷ xs) y e = find_by p xs x y (p x) refl (find_passes p xs) e
 

@@ -1,47 +1,14 @@
 // Actions as lines.
 ghost use Rattle.std.specs.Prelude.{◌≡◌, ◌==◌, if◌then◌else◌, ◌++◌, flat_map, OnOk};
-ghost use Rattle.act_code.specs.Table.{code_of_action};
-ghost use Rattle.asm_text.specs.ActionText.{name_of, operand_words, action_text, spaced};
+ghost use Rattle.asm_text.specs.ActionText.{operand_words, action_text, spaced};
 ghost use Rattle.asm_text.specs.ScriptText.{action_line};
 ghost use Rattle.asm_text.specs.Operands.{operand_text};
 
+use crate::action_name::action_name;
 use crate::operand::{Operand, put_operands};
 use act_code::Action;
 use pi_base::{OutOfMemory, Seq};
-
-const LINE_FEED: u8 = b'\n';
-
-// The name of an action.
-#[tactic(auto, unfolding(crate::specs::ActionText::name_of))]
-fn name_of(action: &Action) -> &'static [u8]
-    ensures { result.now ≡ name_of (code_of_action action.now) }
-{
-    match action {
-        Action::Set { .. } => b"set",
-        Action::Add { .. } => b"add",
-        Action::Pool { .. } => b"pool",
-        Action::Store { .. } => b"store",
-        Action::Addr { .. } => b"addr",
-        Action::Peek { .. } => b"peek",
-        Action::Desc { .. } => b"desc",
-        Action::Install { .. } | Action::DxeInstall { .. } => b"install",
-        Action::Reinstall { .. } | Action::DxeReinstall { .. } => b"reinstall",
-        Action::Notify { .. } | Action::DxeNotify { .. } => b"notify",
-        Action::Locate { .. } | Action::DxeLocate { .. } => b"locate",
-        Action::Hob { .. } => b"hob",
-        Action::Memory { .. } => b"memory",
-        Action::Pages { .. } => b"pages",
-        Action::BootMode { .. } => b"boot_mode",
-        Action::Log { .. } => b"log",
-        Action::SkipIf { .. } => b"skip_if",
-        Action::Ret { .. } => b"ret",
-        Action::Shadow => b"shadow",
-        Action::DxeUninstall { .. } => b"uninstall",
-        Action::Schedule { .. } => b"schedule",
-        Action::Process { .. } => b"process",
-        Action::Dispatch => b"dispatch",
-    }
-}
+use printed_words::LINE_FEED;
 
 // The operands of an action, in the order of its line.
 fn operands<'a>(action: &'a Action) -> [Operand<'a>; 4]
@@ -125,7 +92,7 @@ fn operands<'a>(action: &'a Action) -> [Operand<'a>; 4]
 pub(crate) fn put_action(out: &mut Seq<u8>, action: &Action) -> Result<(), OutOfMemory>
     ensures { OnOk result (out.new ≡ out.old ++ action_line action.now) }
 {
-    out.append(name_of(action))?;
+    out.append(action_name(action.code()))?;
     put_operands(out, &operands(action))?;
     out.push(LINE_FEED)
 }

@@ -9,7 +9,6 @@ ghost use Rattle.printed_words.specs.Words.{Finds};
 ghost use Rattle.asm_text.specs.ReadTree.{IsTreeOf, IsExpressionOf};
 ghost use Rattle.asm_text.specs.ReadDepex.{IsDepexOf, IsDepexRefused, GivesBack};
 
-use crate::depex_bytes::opcodes;
 use crate::fault::TextFault;
 use crate::front::{behind, guid_word};
 use crate::tree_reading::tree_of;
@@ -80,7 +79,7 @@ fn read_text(alloc: Global, text: &[u8]) -> Result<Depex, TextFault>
     if !rest.is_empty() {
         return Err(TextFault::Bad { line: 2 });
     }
-    if opcodes(&depex) > MOST_OPCODES {
+    if depex.opcode_count() > MOST_OPCODES {
         return Err(TextFault::TooLong);
     }
     Ok(depex)

@@ -6,9 +6,8 @@ ghost use Rattle.pi_base.specs.WordText.{guid_text};
 use crate::tree_text::tree_text;
 use depex_code::{Depex, Tree};
 use pi_base::{Guid, OutOfMemory, Seq};
+use printed_words::LINE_FEED;
 use std::alloc::Global;
-
-const LINE_FEED: u8 = b'\n';
 
 // A word and the text of a GUID.
 fn guid_line(alloc: Global, front: &[u8], guid: &Guid) -> Result<Seq<u8>, OutOfMemory>

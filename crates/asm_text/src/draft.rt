@@ -10,15 +10,13 @@ ghost use Rattle.asm_text.specs.Walk.{split_last};
 use crate::line_reading::action_of;
 use crate::script_text::block_text;
 use crate::unread::Unread;
+use act_code::descriptor_kind::PPI;
 use act_code::{Action, MOST_BLOCKS, Script};
 use pi_base::{Phase, Seq};
 use std::alloc::Global;
 
-/// The most actions of a block.
-const MOST_ACTIONS: usize = 1024;
-
-/// The kind of a descriptor of a PPI.
-const PPI: u8 = 0;
+// The most actions of a block.
+const MOST_ACTIONS: usize = act_code::MOST_ACTIONS as usize;
 
 // Whether the actions that an action skips may stand behind it and one more, where so many are left with itself.
 fn has_room(action: &Action, left: usize) -> bool

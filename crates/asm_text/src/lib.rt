@@ -1,9 +1,9 @@
 //! Dependency expressions and action scripts as text that a person writes and reads (own).
 #![tactic(auto)]
 
+mod action_name;
 mod action_text;
 mod common_line;
-mod depex_bytes;
 mod depex_reading;
 mod depex_text;
 mod draft;
@@ -24,7 +24,6 @@ mod tree_text;
 mod unread;
 mod word;
 
-pub use depex_bytes::write_depex;
 pub use depex_reading::parse_depex;
 pub use depex_text::print_depex;
 pub use fault::TextFault;

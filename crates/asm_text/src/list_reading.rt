@@ -13,10 +13,10 @@ use pi_base::Seq;
 use std::alloc::Global;
 
 /// The most bytes of a list.
-const MOST_BYTES: usize = 64;
+const MOST_BYTES: usize = act_code::MOST_BYTES as usize;
 
 /// The most registers of a list.
-const MOST_REGISTERS: usize = 8;
+const MOST_REGISTERS: usize = act_code::MOST_REGISTERS as usize;
 
 // Bytes.
 #[tactic(auto, unfolding(crate::specs::OperandReading::bytes_at))]

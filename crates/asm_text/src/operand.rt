@@ -7,7 +7,8 @@ ghost use Rattle.asm_text.specs.ActionText.{spaced, kind_word, guid_words, block
 ghost use Rattle.asm_text.specs.Operands.{operand_text};
 
 use act_code::GuidArg;
-use pi_base::{Guid, OutOfMemory, Seq, Word, decimal, hexadecimal};
+use act_code::descriptor_kind::{CALLBACK, PPI};
+use pi_base::{DECIMAL_LEN, Guid, HEXADECIMAL_LEN, OutOfMemory, Seq, Word, decimal, hexadecimal};
 
 /// An operand, in the form in which it is written.
 #[derive(Clone, Copy)]
@@ -47,14 +48,6 @@ pub(crate) enum Operand<'a> {
     /// The last operand of a descriptor of a kind.
     Last(u8, u8),
 }
-
-const PPI: u8 = 0;
-
-const CALLBACK: u8 = 1;
-
-const DECIMAL_LEN: usize = 20;
-
-const HEXADECIMAL_LEN: usize = 18;
 
 // Adds some bytes, and a number in decimal.
 fn put_decimal(out: &mut Seq<u8>, front: &[u8], n: u64) -> Result<(), OutOfMemory>

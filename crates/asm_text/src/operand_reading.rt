@@ -11,14 +11,12 @@ use crate::unread::Unread;
 use crate::word::{
     choice_word, decimal_word, hexadecimal_word, kind_word, register_word, status_word, word,
 };
-use act_code::{Action, GuidArg};
+use act_code::descriptor_kind::PPI;
+use act_code::{Action, GuidArg, MOST_BLOCKS};
 use pi_base::{Guid, Word};
 
 /// The last number of a block.
-const LAST_BLOCK: u8 = 63;
-
-/// The kind of a descriptor of a PPI.
-const PPI: u8 = 0;
+const LAST_BLOCK: u8 = MOST_BLOCKS - 1;
 
 /// The action, where nothing follows its operands.
 pub(crate) fn ended(action: Action, rest: &[u8]) -> Result<Action, Unread>

@@ -5,9 +5,8 @@ ghost use Rattle.asm_text.specs.ScriptText.{line, phase_text, block_text, block_
 use crate::action_text::put_action;
 use act_code::{Action, Script};
 use pi_base::{OutOfMemory, Phase, Seq};
+use printed_words::LINE_FEED;
 use std::alloc::Global;
-
-const LINE_FEED: u8 = b'\n';
 
 // The text of the line with the phase.
 #[tactic(auto, unfolding(crate::specs::ScriptText::phase_text))]

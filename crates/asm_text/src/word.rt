@@ -7,6 +7,7 @@ ghost use Rattle.asm_text.specs.WordReading.{space_place, word_at, number_word, 
 
 use crate::front::behind;
 use crate::unread::Unread;
+use act_code::descriptor_kind::{CALLBACK, DISPATCH, PPI};
 use hex::FromHexError;
 use line_words::place_of;
 use pi_base::{Seq, Word};
@@ -15,7 +16,7 @@ use std::alloc::Global;
 
 const SPACE: u8 = b' ';
 
-const REGISTERS: u64 = 16;
+const REGISTERS: u64 = act_code::REGISTERS as u64;
 
 const STATUSES: [Word; 7] = [
     Word::Success,
@@ -94,11 +95,11 @@ pub(crate) fn kind_word(word: &[u8]) -> Option<u8>
     ensures { result ≡ kind_word word.now }
 {
     if word == b"ppi".as_slice() {
-        Some(0)
+        Some(PPI)
     } else if word == b"callback".as_slice() {
-        Some(1)
+        Some(CALLBACK)
     } else if word == b"dispatch".as_slice() {
-        Some(2)
+        Some(DISPATCH)
     } else {
         None
     }

@@ -1,7 +1,7 @@
 -- The sweep of the core's own call lies within the lists.
 use Rattle.std.proofs.Common.{◌≡◌, [], ◌∷◌, refl, subst, Ok, Err}
 use Rattle.std.specs.Bool.{⊤}
-use Rattle.store_model.specs.declared.known_guid.TheConstants.{MEMORY_PPI}
+use Rattle.pi_base.specs.declared.known_guid.TheConstants.{MEMORY_PPI}
 use Rattle.store_model.specs.declared.state.TheConstants.{CORE}
 use Rattle.store_model.specs.declared.store_handle.DescKind.TheVariants.{Ppi}
 use Rattle.store_model.specs.declared.store_handle.Desc.{Desc}

@@ -5,7 +5,7 @@ use Rattle.std.specs.Prelude.{nat_lt, not}
 use Rattle.std.specs.List.{list_all}
 use Rattle.std.specs.Option.{option_map}
 use Rattle.pi_base.specs.declared.guid.Guid.{Guid}
-use Rattle.store_model.specs.declared.known_guid.TheConstants.{MEMORY_PPI}
+use Rattle.pi_base.specs.declared.known_guid.TheConstants.{MEMORY_PPI}
 use Rattle.store_model.specs.declared.state.TheConstants.{CORE}
 use Rattle.store_model.specs.declared.state.Body.TheVariants.{Descriptor}
 use Rattle.store_model.specs.declared.state.Entry.{Entry}

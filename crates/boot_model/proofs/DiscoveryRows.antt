@@ -8,7 +8,7 @@ use Rattle.depex_code.specs.Tree as T
 use Rattle.pi_base.specs.Field.{little_bytes}
 use Rattle.act_code.specs.declared.action.Action.TheVariants as A
 use Rattle.boot_model.specs.declared.known_guid.TheConstants.{FILE_SYSTEM2, ARCHITECTURAL}
-use Rattle.store_model.specs.declared.known_guid.TheConstants.{VOLUME_INFO_PPI, MEMORY_PPI, DXE_IPL_PPI}
+use Rattle.pi_base.specs.declared.known_guid.TheConstants.{VOLUME_INFO_PPI, MEMORY_PPI, DXE_IPL_PPI}
 use Rattle.catalog_model.specs.declared.catalog.PartExpr.TheVariants.{Absent, Malformed}
 use Rattle.catalog_model.specs.declared.catalog.Catalog.{Catalog}
 use Rattle.catalog_model.specs.declared.catalog.Module.{Module}

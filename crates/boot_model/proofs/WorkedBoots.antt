@@ -17,7 +17,7 @@ use Rattle.catalog_model.specs.declared.catalog.VolumeEntry.{VolumeEntry}
 use Rattle.catalog_model.specs.declared.catalog.Module.{Module}
 use Rattle.catalog_model.specs.declared.catalog.PartExpr.{PartExpr}
 use Rattle.catalog_model.specs.declared.catalog.PartExpr.TheVariants.{Absent, Held}
-use Rattle.store_model.specs.declared.known_guid.TheConstants.{DXE_IPL_PPI}
+use Rattle.pi_base.specs.declared.known_guid.TheConstants.{DXE_IPL_PPI}
 use Rattle.boot_model.specs.declared.line.Line.{Line}
 use Rattle.boot_model.specs.declared.line.Line.TheVariants as L
 use Rattle.store_model.specs.StoreState.{Board}

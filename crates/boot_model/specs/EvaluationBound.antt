@@ -14,7 +14,7 @@ use Rattle.act_code.specs.declared.action.Action.TheVariants as A
 use Rattle.catalog_model.specs.declared.catalog.Catalog.{Catalog}
 use Rattle.catalog_model.specs.declared.catalog.PartExpr.{PartExpr}
 use Rattle.catalog_model.specs.declared.catalog.PartExpr.TheVariants as E
-use Rattle.store_model.specs.declared.known_guid.TheConstants.{MEMORY_PPI}
+use Rattle.pi_base.specs.declared.known_guid.TheConstants.{MEMORY_PPI}
 use Rattle.store_model.specs.declared.store_handle.Sweep.{Sweep}
 use Rattle.pi_base.specs.Guids.{same_guid}
 use Rattle.pi_base.specs.Lists.{firsts}

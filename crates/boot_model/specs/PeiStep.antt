@@ -13,7 +13,7 @@ use Rattle.catalog_model.specs.declared.catalog.Part.{Part}
 use Rattle.catalog_model.specs.declared.catalog.PartExpr.{PartExpr}
 use Rattle.catalog_model.specs.declared.catalog.PartExpr.TheVariants as E
 use Rattle.boot_model.specs.declared.frame.TheConstants.{MOST_FRAMES, BLOCKS}
-use Rattle.store_model.specs.declared.known_guid.TheConstants.{DXE_IPL_PPI}
+use Rattle.pi_base.specs.declared.known_guid.TheConstants.{DXE_IPL_PPI}
 use Rattle.boot_model.specs.declared.licence.Licence.{Licence}
 use Rattle.boot_model.specs.declared.line.Line.{Line}
 use Rattle.boot_model.specs.declared.line.Line.TheVariants as L

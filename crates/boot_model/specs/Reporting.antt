@@ -7,7 +7,7 @@ use Rattle.pi_base.specs.Field.{little_number}
 use Rattle.std.specs.Prelude.{drop}
 use Rattle.catalog_model.specs.declared.catalog.Catalog.{Catalog}
 use Rattle.boot_model.specs.declared.known_guid.TheConstants.{FILE_SYSTEM2, FILE_SYSTEM3}
-use Rattle.store_model.specs.declared.known_guid.TheConstants.{VOLUME_INFO_PPI}
+use Rattle.pi_base.specs.declared.known_guid.TheConstants.{VOLUME_INFO_PPI}
 use Rattle.pi_base.specs.Guids.{same_guid}
 use Rattle.pi_base.specs.Guids as Guids
 use Rattle.store_model.specs.StoreState.{StoreState}

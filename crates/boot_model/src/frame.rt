@@ -6,10 +6,10 @@ use store_model::{Desc, Pool, Sweep};
 pub const MOST_FRAMES: usize = 64;
 
 /// How many registers a frame has.
-pub const REGISTERS: usize = 16;
+pub const REGISTERS: usize = act_code::REGISTERS as usize;
 
 /// How many blocks an entry counts for one module.
-pub const BLOCKS: u32 = 64;
+pub const BLOCKS: u32 = act_code::MOST_BLOCKS as u32;
 
 /// What a register holds.
 #[derive(Clone, Copy, PartialEq, Eq)]

@@ -2,7 +2,8 @@
 use Rattle.std.specs.Prelude.{◌≡◌, ◌≢◌, ℕ, ◌++◌, ◌∷◌, None, Some, Result, Ok, Err, ◌<◌, ◌≤◌, ◌%◌, List, [], length, All, IfSome}
 use Rattle.std.specs.Option.{option_to_list}
 use Rattle.boot_plan.specs.declared.draft.Draft.{Draft}
-use Rattle.boot_plan.specs.declared.limits.TheConstants.{PAGE_LEN, LEAST_TEMP, MOST_TEMP, LEAST_RAM, MOST_RAM, MOST_FUEL, MOST_PAGES, MOST_PLAN_VOLUMES}
+use Rattle.pi_base.specs.declared.span.TheConstants.{PAGE_LEN}
+use Rattle.boot_plan.specs.declared.limits.TheConstants.{LEAST_TEMP, MOST_TEMP, LEAST_RAM, MOST_RAM, MOST_FUEL, MOST_PAGES, MOST_PLAN_VOLUMES}
 use Rattle.boot_plan.specs.Entry.{Entry, Temp, Ram, Volume, Fuel, Pages}
 use Rattle.boot_plan.specs.declared.fault.PlanFault.{PlanFault}
 use Rattle.boot_plan.specs.declared.fault.PlanCause.TheVariants.{Memory}

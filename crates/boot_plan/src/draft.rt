@@ -8,11 +8,11 @@ use crate::fault::{PlanCause, PlanFault};
 use crate::form::form_of;
 use crate::limits::{
     LEAST_ADDRESS, LEAST_RAM, LEAST_TEMP, MOST_END, MOST_FUEL, MOST_PAGES, MOST_PLAN_VOLUMES,
-    MOST_RAM, MOST_TEMP, PAGE_LEN, VOLUME_ALIGNMENT,
+    MOST_RAM, MOST_TEMP, VOLUME_ALIGNMENT,
 };
 use crate::plan::PlanVolume;
 use line_words::is_passed_over;
-use pi_base::{OutOfMemory, Seq};
+use pi_base::{OutOfMemory, PAGE_LEN, Seq};
 use std::alloc::Global;
 
 // Memory that a line gives.

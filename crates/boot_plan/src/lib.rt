@@ -13,7 +13,7 @@ mod read;
 pub use fault::{PlanCause, PlanFault};
 pub use limits::{
     DEFAULT_FUEL, LEAST_ADDRESS, LEAST_RAM, LEAST_TEMP, MOST_END, MOST_FUEL, MOST_NAME, MOST_PAGES,
-    MOST_PLAN_VOLUMES, MOST_RAM, MOST_TEMP, PAGE_LEN, VOLUME_ALIGNMENT,
+    MOST_PLAN_VOLUMES, MOST_RAM, MOST_TEMP, VOLUME_ALIGNMENT,
 };
 pub use plan::{Plan, PlanVolume};
 pub use read::{one_reading, read_plan};

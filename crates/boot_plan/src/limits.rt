@@ -6,9 +6,6 @@ pub const LEAST_ADDRESS: u64 = 0x10_0000;
 /// The greatest end of temporary RAM and of RAM.
 pub const MOST_END: u64 = 0x100_0000_0000;
 
-/// The bytes of a page: bases and sizes of memory are multiples of it.
-pub const PAGE_LEN: u64 = 0x1000;
-
 /// The base of a volume is a multiple of this.
 pub const VOLUME_ALIGNMENT: u64 = 8;
 

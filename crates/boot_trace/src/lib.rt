@@ -20,7 +20,7 @@ pub use fixed_word::{
     call_name_word, image_cause_word, licence_word, plan_cause_word, reason_word, run_end_word,
 };
 pub use line::{put, put_all};
-pub use number_word::{DECIMAL_LEN, HEXADECIMAL_LEN, decimal_word, hexadecimal_word};
+pub use number_word::{decimal_word, hexadecimal_word};
 pub use out::Out;
 pub use start::put_start;
 pub use store_hobs::{HobCount, count_hobs};

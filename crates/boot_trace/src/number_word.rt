@@ -6,14 +6,8 @@ ghost use Rattle.boot_model.specs.Text.{rank_text, name_text, by_text, expressio
 
 use arrayvec::ArrayVec;
 use boot_model::{ExpressionWord, SHOWN_LEN};
-use pi_base::{Guid, decimal, hexadecimal};
+use pi_base::{DECIMAL_LEN, Guid, HEXADECIMAL_LEN, decimal, hexadecimal};
 use store_model::CORE;
-
-/// How many digits a number below 2^64 has at most in decimal.
-pub const DECIMAL_LEN: usize = 20;
-
-/// How long a number below 2^64 is at most in hexadecimal, with `0x` before it.
-pub const HEXADECIMAL_LEN: usize = 18;
 
 // How long the words of bytes that are shown, of names and of expressions are at most.
 

@@ -15,7 +15,7 @@ use boot_model::Line;
 use store_model::{HobSpan, PeiStore};
 
 // The length of a HOB's header.
-const HEADER_LEN: u16 = 8;
+const HEADER_LEN: u16 = hob_codec::HEADER_LEN as u16;
 
 // A HOB whose type and length are known.
 fn put_span<S: Sink, M: PeiStore>(

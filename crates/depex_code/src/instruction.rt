@@ -3,6 +3,7 @@ ghost use Rattle.std.specs.Prelude.{◌≡◌, option_map};
 ghost use Rattle.depex_code.specs.Reading.{guid_front, instruction_at};
 
 use crate::opcode::Opcode;
+use crate::opcode_byte::{AFTER, AND, BEFORE, END, FALSE, NOT, OR, PUSH, SOR, TRUE};
 use pi_base::{GUID_LEN, Guid};
 
 /// An opcode of a dependency expression (PI 1.8, volume 1, "Dependency Expression Instruction Set"; volume 2 has `EFI_DEP_BEFORE`, `EFI_DEP_AFTER` and `EFI_DEP_SOR`).
@@ -19,26 +20,6 @@ pub enum Instruction {
     /// The driver waits until it is requested.
     Sor,
 }
-
-const BEFORE: u8 = 0x00;
-
-const AFTER: u8 = 0x01;
-
-const PUSH: u8 = 0x02;
-
-const AND: u8 = 0x03;
-
-const OR: u8 = 0x04;
-
-const NOT: u8 = 0x05;
-
-const TRUE: u8 = 0x06;
-
-const FALSE: u8 = 0x07;
-
-const END: u8 = 0x08;
-
-const SOR: u8 = 0x09;
 
 // The GUID at the front of the bytes, and the bytes behind it.
 fn guid_front(bytes: &[u8]) -> Option<(Guid, &[u8])>

@@ -18,7 +18,7 @@ use Rattle.boot_laws.specs.UnrequestedDrivers.{WaitForRequest}
 use Rattle.frames.specs.Deed.{deed}
 use Rattle.frames.specs.Frames.{top_sweep}
 use Rattle.frames.specs.Needs.{IsScriptAction}
-use Rattle.frames.specs.declared.frame.TheConstants.{MOST_ACTIONS}
+use Rattle.act_code.specs.declared.block.TheConstants.{MOST_ACTIONS}
 use Rattle.dxe_action.specs.Reply.{IsInOrder}
 use Rattle.dxe_action.specs.Services.{AreCounted, AreServicesFor}
 use Rattle.dxe_core.specs.declared.event.Event.{Event}

@@ -7,7 +7,7 @@ use Rattle.catalog_model.specs.declared.catalog.Catalog.{Catalog}
 use Rattle.frames.specs.Deed.{deed}
 use Rattle.frames.specs.Found.{action_at}
 use Rattle.frames.specs.Needs.{IsScriptAction}
-use Rattle.frames.specs.declared.frame.TheConstants.{MOST_ACTIONS}
+use Rattle.act_code.specs.declared.block.TheConstants.{MOST_ACTIONS}
 use Rattle.frames.specs.Spent.{HasSpent, IsSpent}
 use Rattle.frames.specs.Took.{HasDone}
 use Rattle.boot_model.specs.declared.frame.Frame.{Frame}

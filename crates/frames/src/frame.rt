@@ -4,11 +4,9 @@ ghost use Rattle.frames.specs.Frames as F;
 ghost use Rattle.frames.specs.Writes.{written};
 
 use crate::registers::{Writes, write_all};
+use act_code::MOST_ACTIONS;
 use boot_model::{Frame, REGISTERS, Register};
 use pi_base::Word;
-
-/// The longest block, in actions.
-pub const MOST_ACTIONS: u16 = 1024;
 
 /// A frame at the first action of a block.
 pub fn frame_at<W>(number: u32, block: u8, registers: [Register; REGISTERS]) -> Frame<W>

@@ -15,7 +15,7 @@ mod start;
 
 pub use actions::{Taken, take_action};
 pub use found::{action_at, part_of};
-pub use frame::{MOST_ACTIONS, frame_at, notified};
+pub use frame::{frame_at, notified};
 pub use fuel::Fuel;
 pub use laws::effects_are_alike;
 pub use names::{name_of, volume_of};

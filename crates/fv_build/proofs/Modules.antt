@@ -11,7 +11,7 @@ use Rattle.act_code.specs.declared.action.Action.{Action}
 use Rattle.act_code.specs.declared.action.Action.TheVariants.{Set, Desc, Install, Memory, Ret}
 use Rattle.act_code.specs.declared.action.GuidArg.TheVariants.{Inline}
 use Rattle.act_code.specs.Script.{IsInGrammar, IsBlock, IsSound, AreSound}
-use Rattle.fv_build.specs.declared.generated.TheConstants.{DXE_IPL_PPI}
+use Rattle.pi_base.specs.declared.known_guid.TheConstants.{DXE_IPL_PPI}
 use Rattle.fv_build.specs.declared.new_file.NewSection.{NewSection}
 use Rattle.fv_build.specs.FileSystems.{Ffs2}
 use Rattle.fv_build.specs.declared.new_file.NewFile.{NewFile}

@@ -13,7 +13,8 @@ use Rattle.act_code.specs.declared.action.Action.TheVariants.{Set, Desc, Install
 use Rattle.act_code.specs.declared.action.GuidArg.TheVariants.{Inline}
 use Rattle.act_code.specs.declared.script.Script.{Script}
 use Rattle.act_code.specs.Script.{script_bytes}
-use Rattle.fv_build.specs.declared.generated.TheConstants.{NAMES, PPIS, VOLUME_LEN, MEMORY_BASE, MEMORY_LEN, DXE_IPL_PPI}
+use Rattle.fv_build.specs.declared.generated.TheConstants.{NAMES, PPIS, VOLUME_LEN, MEMORY_BASE, MEMORY_LEN}
+use Rattle.pi_base.specs.declared.known_guid.TheConstants.{DXE_IPL_PPI}
 use Rattle.fv_build.specs.declared.new_file.NewFile.{NewFile}
 use Rattle.fv_build.specs.declared.new_file.NewSection.{NewSection}
 use Rattle.fv_build.specs.FileSystems.{Ffs2}

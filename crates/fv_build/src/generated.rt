@@ -7,10 +7,12 @@ ghost use Rattle.fv_build.specs.Generated.{numbered, installs, memory_said, acti
 use crate::build::build_volume;
 use crate::fault::BuildFault;
 use crate::new_file::{NewFile, NewSection};
+use act_code::descriptor_kind::PPI;
 use act_code::{Action, GuidArg, Script, write_script};
+use depex_code::opcode_byte::{END, PUSH};
 use fv_section::section_type::{PEI_DEPEX, RAW};
 use fv_volume::file_type::PEIM;
-use pi_base::{Guid, OutOfMemory, Phase, Seq, Word};
+use pi_base::{DXE_IPL_PPI, Guid, OutOfMemory, Phase, Seq, Word};
 use std::alloc::Global;
 
 /// The most modules.
@@ -30,20 +32,6 @@ pub(crate) const MEMORY_BASE: u64 = 0x4000_0000;
 
 /// How much of it there is.
 pub(crate) const MEMORY_LEN: u64 = 0x40_0000;
-
-/// `EFI_DXE_IPL_PPI_GUID`, 0ae8ce5d-e448-4437-a8d7-ebf5f194f731 (PI 1.8, volume 1).
-pub(crate) const DXE_IPL_PPI: Guid = Guid([
-    0x5d, 0xce, 0xe8, 0x0a, 0x48, 0xe4, 0x37, 0x44, 0xa8, 0xd7, 0xeb, 0xf5, 0xf1, 0x94, 0xf7, 0x31,
-]);
-
-/// `EFI_DEP_PUSH` (PI 1.8, volume 1).
-const PUSH: u8 = 0x02;
-
-/// `EFI_DEP_END`.
-const END: u8 = 0x08;
-
-// The kind of a descriptor that is a PPI's.
-const PPI: u8 = 0;
 
 // The GUID 0000000F-0000-0000-0000- and a number in twelve hexadecimal digits.
 fn numbered(family: u8, number: u32) -> Guid

@@ -9,11 +9,7 @@ use crate::perform::Answer;
 use crate::range::GcdRange;
 use crate::text_word::{cause_word, kind_word, name_word, refusal_word, state_word};
 use boot_io::{Sink, SinkFault, put_line};
-use pi_base::{decimal, hexadecimal};
-
-const DECIMAL_LEN: usize = 20;
-
-const HEXADECIMAL_LEN: usize = 18;
+use pi_base::{DECIMAL_LEN, HEXADECIMAL_LEN, decimal, hexadecimal};
 
 // The word of a command that was done.
 #[tactic(auto, unfolding(crate::specs::MapText::success))]

@@ -10,17 +10,14 @@ use crate::course::Course;
 use crate::words::{Words, put_words};
 use heap_laws::handoff_read;
 use hob_codec::HEADER_LEN;
-use pei_heap::{Heap, word_in};
+use pei_heap::{END_AT, Heap, word_in};
 use phys_mem::PhysMem;
 
 // The offset of EfiMemoryTop, behind which EfiMemoryBottom and EfiFreeMemoryTop stand.
 const MEMORY_TOP_AT: u64 = 16;
 
 // The offset of EfiFreeMemoryTop, behind which EfiFreeMemoryBottom and EfiEndOfHobList stand.
-const FREE_TOP_AT: u64 = 32;
-
-// The offset of EfiEndOfHobList.
-const END_AT: usize = 48;
+const FREE_TOP_AT: u64 = pei_heap::FREE_TOP_AT as u64;
 
 /// The offset of the end HOB.
 pub fn end_place(heap: &Heap, memory: &PhysMem) -> u64

@@ -9,13 +9,12 @@ use crate::board::{ROM, TEMP, lists_over, store_over};
 use crate::calls::set_boot_mode;
 use crate::scene::{END, INSTALLED, NAME, OTHER, Of, desc_of, install, laid, reinstall};
 use crate::told::{tells, told};
-use pi_base::Guid;
+use pi_base::{Guid, MEMORY_PPI};
 use std::alloc::{AllocError, Global};
 use std::process::Abort;
 use std::test::*;
 use store_model::{
-    Desc, DescKind, EntryList, EntryTold, Firing, HobSpan, MEMORY_PPI, PeiStore, Pool, StoreFault,
-    Sweep,
+    Desc, DescKind, EntryList, EntryTold, Firing, HobSpan, PeiStore, Pool, StoreFault, Sweep,
 };
 
 // What is tried over the scene.

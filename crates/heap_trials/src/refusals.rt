@@ -9,10 +9,10 @@ use crate::calls::{core_install, create, desc, move_to, notify_new, pages, plan,
 use crate::scene::{INLINE, Of, fill, install, laid, notify, reinstall};
 use crate::told::{tells, told};
 use hob_codec::Hob;
-use pi_base::Span;
+use pi_base::{MEMORY_PPI, Span};
 use std::alloc::{AllocError, Global};
 use std::test::*;
-use store_model::{DescKind, GuidFrom, MEMORY_PPI, PeiStore, StoreFault};
+use store_model::{DescKind, GuidFrom, PeiStore, StoreFault};
 
 /// A call that names descriptors of the scene.
 #[derive(Clone, Copy)]

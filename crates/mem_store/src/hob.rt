@@ -22,7 +22,7 @@ use store_model::{HobSpan, StoreFault};
 const MOST_HOBS: u32 = 1 << 28;
 
 // The offset of a HOB's body.
-const BODY_AT: usize = 8;
+const BODY_AT: usize = hob_codec::HEADER_LEN;
 
 impl MemStore {
     ghost use Rattle.mem_store.specs.MemState.{StandsFor};

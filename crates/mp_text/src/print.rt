@@ -10,11 +10,7 @@ use crate::keyword::{keyword_of, keyword_text};
 use crate::status::{cell_keyword, no_numbers, record_keyword, refused_command, status_text};
 use boot_io::{Sink, SinkFault, put_line};
 use mp_core::{MpEvent, MpOutcome, MpReply};
-use pi_base::{Seq, decimal, hexadecimal};
-
-const DECIMAL_LEN: usize = 20;
-
-const HEXADECIMAL_LEN: usize = 18;
+use pi_base::{DECIMAL_LEN, HEXADECIMAL_LEN, Seq, decimal, hexadecimal};
 
 // Puts the line of a call and its reply.
 fn put_reply<S: Sink>(sink: &mut S, event: &MpEvent, reply: MpReply) -> Result<(), SinkFault>

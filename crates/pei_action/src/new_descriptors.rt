@@ -11,6 +11,7 @@ ghost use Rattle.pei_action.specs.Taken.{Acts};
 use crate::address::address;
 use crate::taken::Taken;
 use act_code::GuidArg;
+use act_code::descriptor_kind::{CALLBACK, PPI};
 use boot_model::{BLOCKS, CallName, Extra, PeiFrame, REGISTERS, Register};
 use frames::{Writes, number_in};
 use pi_base::{OutOfMemory, Word};
@@ -21,8 +22,8 @@ fn kind_of(number: u8) -> DescKind
     ensures { result ≡ P.kind_number number }
 {
     match number {
-        0 => DescKind::Ppi,
-        1 => DescKind::Callback,
+        PPI => DescKind::Ppi,
+        CALLBACK => DescKind::Callback,
         _ => DescKind::Dispatch,
     }
 }

@@ -12,7 +12,7 @@ use Rattle.act_code.specs.declared.action.Action.TheVariants as A
 use Rattle.catalog_model.specs.declared.catalog.Catalog.{Catalog}
 use Rattle.catalog_model.specs.declared.catalog.Part.{Part}
 use Rattle.catalog_model.specs.Parts.{has_number, part_at}
-use Rattle.store_model.specs.declared.known_guid.TheConstants.{MEMORY_PPI}
+use Rattle.pi_base.specs.declared.known_guid.TheConstants.{MEMORY_PPI}
 use Rattle.store_model.specs.declared.state.Body.{Body}
 use Rattle.store_model.specs.declared.state.Body.TheVariants.{Bytes, Descriptor, Node, Allocation}
 use Rattle.store_model.specs.declared.state.DescriptorBody.{DescriptorBody}

@@ -27,7 +27,7 @@ use Rattle.boot_model.specs.declared.line.Line.{Line}
 use Rattle.boot_model.specs.declared.line.Line.TheVariants as L
 use Rattle.frames.specs.Deed.{deed}
 use Rattle.frames.specs.Needs.{IsScriptAction}
-use Rattle.frames.specs.declared.frame.TheConstants.{MOST_ACTIONS}
+use Rattle.act_code.specs.declared.block.TheConstants.{MOST_ACTIONS}
 use Rattle.pei_action.specs.Taken.{reply_in}
 use Rattle.pei_action.specs.declared.guids.Changes.{Changes}
 use Rattle.pei_action.specs.declared.taken.Reply.{Reply}

@@ -12,8 +12,8 @@ use crate::reports::print;
 use boot_io::{Halt, Sink};
 use boot_model::Line;
 use pei_action::Changes;
-use pi_base::Word;
-use store_model::{MEMORY_PPI, PeiStore};
+use pi_base::{MEMORY_PPI, Word};
+use store_model::PeiStore;
 
 impl<M: PeiStore + Drop> Pei<M> {
     // The core installs the PPI of permanent memory, and its sweep is open.

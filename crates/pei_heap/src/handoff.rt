@@ -13,14 +13,14 @@ use store_laws::services_keep_facts;
 // The offset of BootMode.
 const BOOT_MODE_AT: usize = 12;
 
-// The offset of EfiFreeMemoryTop.
-pub(crate) const FREE_TOP_AT: usize = 32;
+/// The offset of EfiFreeMemoryTop in the hand-off HOB.
+pub const FREE_TOP_AT: usize = 32;
 
 // The offset of EfiFreeMemoryBottom.
 const FREE_BOTTOM_AT: usize = 40;
 
-// The offset of EfiEndOfHobList.
-const END_AT: usize = 48;
+/// The offset of EfiEndOfHobList in the hand-off HOB.
+pub const END_AT: usize = 48;
 
 impl Heap {
     ghost use Rattle.pei_heap.specs.HeapMemory.{HasState, IsHeapOf};

@@ -12,5 +12,6 @@ mod place;
 mod pool;
 mod word;
 
+pub use handoff::{END_AT, FREE_TOP_AT};
 pub use heap::Heap;
 pub use word::{half_word_in, short_in, word_in};

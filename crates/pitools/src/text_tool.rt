@@ -9,8 +9,8 @@ use crate::command_line::Tool;
 use crate::mp_tool::mp_report;
 use crate::report::Report;
 use act_code::{ActCause, WriteFault, read_script, write_script};
-use asm_text::{TextFault, parse_depex, parse_script, print_depex, print_script, write_depex};
-use depex_code::{DepexFault, read_depex};
+use asm_text::{TextFault, parse_depex, parse_script, print_depex, print_script};
+use depex_code::{DepexFault, read_depex, write_depex};
 use pi_base::{OutOfMemory, Phase, Seq};
 use std::alloc::Global;
 
@@ -39,11 +39,7 @@ fn assemble_depex(alloc: Global, text: &[u8]) -> Result<Report, OutOfMemory>
         Err(TextFault::TooLong) => return Ok(Report::TextLong),
         Err(TextFault::Memory) => return Err(OutOfMemory),
     };
-    match write_depex(alloc, &depex) {
-        Ok(bytes) => hex_answer(alloc, bytes.as_slice()),
-        Err(WriteFault::TooLong) => Ok(Report::TextLong),
-        Err(WriteFault::Memory) => Err(OutOfMemory),
-    }
+    hex_answer(alloc, write_depex(alloc, &depex)?.as_slice())
 }
 
 // The bytes of the text of a script.

@@ -25,12 +25,6 @@ pub struct DescRead {
     pub number: u64,
 }
 
-// The flags of a PPI, with the mark of the last descriptor of a list.
-const PPI_FLAGS: u64 = 0x8000_0010;
-
-// The flags of a callback, with that mark.
-const CALLBACK_FLAGS: u64 = 0x8000_0020;
-
 // The offset of a descriptor's pointer to its GUID.
 const GUID_AT: usize = 8;
 
@@ -41,9 +35,9 @@ const NUMBER_AT: usize = 16;
 fn kind_of(flags: u64) -> DescKind
     ensures { (kind : OfKind) → flags ≡ kind_flags kind → result ≡ kind }
 {
-    if flags == PPI_FLAGS {
+    if flags == DescKind::Ppi.flags() {
         DescKind::Ppi
-    } else if flags == CALLBACK_FLAGS {
+    } else if flags == DescKind::Callback.flags() {
         DescKind::Callback
     } else {
         DescKind::Dispatch

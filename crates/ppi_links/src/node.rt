@@ -23,7 +23,7 @@ pub struct Node {
 }
 
 // The offsets of a node's fields behind the first, which is the next node's address.
-const DESCRIPTOR_AT: usize = 8;
+pub(crate) const DESCRIPTOR_AT: usize = 8;
 
 const SECOND_AT: usize = 16;
 

@@ -13,10 +13,10 @@ use heap_laws::{bodies_changed, heads_moved, image_facts, nodes_read};
 use pei_heap::{Heap, word_in};
 use phys_mem::PhysMem;
 use store_laws::{named_are_there, services_keep_facts};
-use store_model::{Desc, Firing};
+use store_model::{Desc, Firing, NODE_LEN};
 
 // The bytes of a node that no list has.
-const NO_NODE: [u8; 32] = [0; 32];
+const NO_NODE: [u8; NODE_LEN as usize] = [0; NODE_LEN as usize];
 
 // The node of the first queued pair becomes zeros, and the next pair is the first.
 fn unlink_first(heap: &Heap, memory: &mut PhysMem, heads: &mut Heads)

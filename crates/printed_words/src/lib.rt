@@ -7,4 +7,4 @@ mod place;
 
 pub use guid::guid_of;
 pub use number::{decimal_of, hexadecimal_of};
-pub use place::{behind, first_line};
+pub use place::{LINE_FEED, behind, first_line};

@@ -5,16 +5,12 @@ ghost use Rattle.pi_base.specs.WordText.{hexadecimal};
 ghost use Rattle.printed_words.specs.Words.{Finds};
 
 use crate::place::behind;
-use pi_base::{decimal, hexadecimal};
+use pi_base::{DECIMAL_LEN, HEXADECIMAL_LEN, decimal, hexadecimal};
 use std::str;
 
 const DECIMAL: u32 = 10;
 
-const DECIMAL_LEN: usize = 20;
-
 const HEXADECIMAL: u32 = 16;
-
-const HEXADECIMAL_LEN: usize = 18;
 
 // The number whose digits these are, if they are a number's.
 fn value_of(text: &[u8], base: u32) -> Option<u64>

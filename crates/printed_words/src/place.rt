@@ -4,7 +4,8 @@ ghost use Rattle.printed_words.specs.Words.{Lacks};
 
 use line_words::place_of;
 
-const LINE_FEED: u8 = b'\n';
+/// What ends a printed line.
+pub const LINE_FEED: u8 = b'\n';
 
 /// What follows a front of the bytes. None where they do not begin so.
 pub fn behind<'a>(bytes: &'a [u8], front: &[u8]) -> Option<&'a [u8]>

@@ -21,7 +21,7 @@ use Rattle.store_model.specs.declared.state.DescriptorBody.{DescriptorBody}
 use Rattle.store_model.specs.declared.state.Body.{Body}
 use Rattle.store_model.specs.declared.state.Body.TheVariants.{Allocation, Bytes, Descriptor, Node}
 use Rattle.store_model.specs.declared.state.HobEntry.{HobEntry}
-use Rattle.store_model.specs.declared.known_guid.TheConstants.{MEMORY_PPI}
+use Rattle.pi_base.specs.declared.known_guid.TheConstants.{MEMORY_PPI}
 use Rattle.store_model.specs.declared.state.TheConstants.{CORE}
 use Rattle.store_model.specs.MemoryReading.{rom_bytes}
 use Rattle.store_model.specs.StoreState.{Board, Range, StoreState, appended, descriptor_len, empty_store, end_place, free, handoff_len, hob_len, next_body, page_bytes, pool_of, rounded}

@@ -3,7 +3,7 @@
 
 mod handle_laws;
 mod interface;
-mod known_guid;
+mod layout;
 mod limits;
 mod state;
 mod store;
@@ -11,7 +11,7 @@ mod store_handle;
 
 pub use handle_laws::{handle_services_keep_facts, located_handle_is_lowest};
 pub use interface::Interface;
-pub use known_guid::{DXE_IPL_PPI, MEMORY_PPI, VOLUME_INFO_PPI};
+pub use layout::{DESCRIPTOR_LEN, INLINE_DESCRIPTOR_LEN, NODE_LEN};
 pub use limits::NOTE_NUMBERS;
 pub use state::{AllocationBody, Body, CORE, DescriptorBody, Entry, HobEntry, Pending};
 pub use store::PeiStore;

@@ -1,5 +1,6 @@
 //! What a store hands out. An offset counts from the heap's base.
 ghost use Rattle.std.specs.Prelude.{◌≡◌};
+ghost use Rattle.store_model.specs.HeapImage.{kind_flags};
 ghost use Rattle.store_model.specs.Service.{fault_status};
 ghost use Rattle.store_model.specs.declared.store_handle.StoreFault.TheVariants as F;
 
@@ -27,6 +28,26 @@ pub enum DescKind {
     Callback,
     /// A notification that is queued and runs after the PEIM has returned.
     Dispatch,
+}
+
+// The flags of each kind, with `EFI_PEI_PPI_DESCRIPTOR_TERMINATE_LIST`, the mark of the last descriptor of a list.
+const PPI_FLAGS: u64 = 0x8000_0010;
+
+const CALLBACK_FLAGS: u64 = 0x8000_0020;
+
+const DISPATCH_FLAGS: u64 = 0x8000_0040;
+
+impl DescKind {
+    /// The flags of a descriptor of the kind that is the last of its list.
+    pub fn flags(self) -> u64
+        ensures { result ≡ kind_flags self }
+    {
+        match self {
+            DescKind::Ppi => PPI_FLAGS,
+            DescKind::Callback => CALLBACK_FLAGS,
+            DescKind::Dispatch => DISPATCH_FLAGS,
+        }
+    }
 }
 
 /// The GUID of a descriptor that is made.

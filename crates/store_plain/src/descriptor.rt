@@ -13,11 +13,8 @@ use crate::plain_hob::{PlainBody, PlainHob};
 use crate::store::PlainStore;
 use hob_codec::kind::POOL;
 use phys_mem::Rom;
-use pi_base::Guid;
+use pi_base::{GUID_LEN, Guid};
 use store_model::{Desc, DescKind, DescriptorBody, GuidFrom, StoreFault};
-
-// The length of a GUID.
-const GUID_LEN: usize = 16;
 
 // The bytes of a descriptor's GUID, or none.
 fn guid_bytes(found: &Option<DescriptorBody>) -> &[u8]

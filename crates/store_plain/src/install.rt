@@ -11,8 +11,8 @@ ghost use Rattle.store_model.specs.declared.store_handle.Desc.{Desc};
 use crate::nodes::sweep_from;
 use crate::pairs::{descriptors, offsets};
 use crate::store::PlainStore;
-use pi_base::OutOfMemory;
-use store_model::{CORE, Desc, DescKind, GuidFrom, MEMORY_PPI, StoreFault, Sweep};
+use pi_base::{MEMORY_PPI, OutOfMemory};
+use store_model::{CORE, Desc, DescKind, GuidFrom, StoreFault, Sweep};
 
 impl PlainStore {
     ghost use Rattle.store_plain.specs.Nodes.{HasNodes};

@@ -2,28 +2,24 @@
 ghost use Rattle.std.specs.Prelude.{◌≡◌};
 ghost use Rattle.store_model.specs.StoreState.{descriptor_len, rounded};
 
+use store_model::{DESCRIPTOR_LEN, INLINE_DESCRIPTOR_LEN};
+
 /// Of a HOB's header, and of the end HOB.
 pub(crate) const HEADER_LEN: u64 = hob_codec::HEADER_LEN as u64;
 
 /// Of the hand-off HOB, its header included.
-pub(crate) const HANDOFF_LEN: u64 = 56;
-
-/// Of a node's body.
-pub(crate) const NODE_LEN: u64 = 32;
+pub(crate) const HANDOFF_LEN: u64 = hob_codec::HANDOFF_LEN as u64;
 
 /// Of the body of a HOB of allocated pages.
-pub(crate) const ALLOCATION_LEN: u64 = 40;
-
-/// Of a page.
-pub(crate) const PAGE_LEN: u64 = 4096;
+pub(crate) const ALLOCATION_LEN: u64 = hob_codec::ALLOCATION_LEN as u64 - HEADER_LEN;
 
 // Of a descriptor, by the address of its GUID.
 pub(crate) fn descriptor_len(stands: Option<u64>) -> u64
     ensures { result ≡ descriptor_len stands }
 {
     match stands {
-        None => 40,
-        Some(_) => 24,
+        None => INLINE_DESCRIPTOR_LEN,
+        Some(_) => DESCRIPTOR_LEN,
     }
 }
 

@@ -4,11 +4,11 @@ ghost use Rattle.store_model.specs.StoreState.{free, page_bytes};
 ghost use Rattle.store_model.specs.Service.{Answers};
 ghost use Rattle.store_model.specs.Service.Memory.{set_memory, pages, is_memory, pages_taken, early_pages, with_boot_mode};
 
-use crate::length::{ALLOCATION_LEN, HEADER_LEN, PAGE_LEN};
+use crate::length::{ALLOCATION_LEN, HEADER_LEN};
 use crate::plain_hob::{PlainBody, PlainHob};
 use crate::store::PlainStore;
 use hob_codec::kind::ALLOCATION;
-use pi_base::Span;
+use pi_base::{PAGE_LEN, Span};
 use store_model::{AllocationBody, StoreFault};
 
 impl PlainStore {

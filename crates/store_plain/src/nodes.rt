@@ -3,12 +3,12 @@ ghost use Rattle.std.specs.Prelude.{◌≡◌, ◌≤◌, ◌<◌, ◌+◌, ◌*
 ghost use Rattle.store_model.specs.StoreState.{free};
 ghost use Rattle.store_model.specs.Service.Install.{node_need, with_node, with_ppi, with_pending};
 
-use crate::length::{HEADER_LEN, NODE_LEN};
+use crate::length::HEADER_LEN;
 use crate::plain_hob::{PlainBody, PlainHob};
 use crate::store::PlainStore;
 use hob_codec::kind::POOL;
 use pi_base::OutOfMemory;
-use store_model::{Desc, Entry, Pending, Sweep};
+use store_model::{Desc, Entry, NODE_LEN, Pending, Sweep};
 
 // What a node takes.
 const NODE_NEED: u64 = NODE_LEN + HEADER_LEN;

@@ -7,10 +7,10 @@ ghost use Rattle.store_model.specs.declared.state.Body.TheVariants.{Node};
 ghost use Rattle.store_plain.specs.PlainBody.{body_of, role_body, IsBytes, forgotten, renumbered};
 ghost use Rattle.store_model.specs.Service.Descriptor.{descriptor_of};
 
-use crate::length::{ALLOCATION_LEN, HEADER_LEN, NODE_LEN, descriptor_len};
+use crate::length::{ALLOCATION_LEN, HEADER_LEN, descriptor_len};
 use crate::word_bytes::{descriptor_words, long_bytes, short_bytes};
 use std::marker::Model;
-use store_model::{AllocationBody, DescriptorBody};
+use store_model::{AllocationBody, DescriptorBody, NODE_LEN};
 
 /// A body. The bytes of a node that left its list, and of a descriptor that was forgotten, lie in arrays, since the calls that leave them there take no memory.
 #[derive(Drop)]

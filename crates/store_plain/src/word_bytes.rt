@@ -1,19 +1,10 @@
 // Numbers of 8 bytes, one after another, and the bytes of a descriptor.
 ghost use Rattle.std.specs.Prelude.{◌≡◌, ◌≤◌, ◌<◌, ◌+◌, ◌*◌, ◌++◌, ◌^◌, length, take};
-ghost use Rattle.store_model.specs.HeapImage.{guid_address, kind_flags};
+ghost use Rattle.store_model.specs.HeapImage.{guid_address};
 ghost use Rattle.store_plain.specs.Words.{words_bytes, descriptor_words};
 
 use pi_base::put_u64;
-use store_model::{DescKind, DescriptorBody};
-
-const PPI_FLAGS: u64 = 0x8000_0010;
-
-const CALLBACK_FLAGS: u64 = 0x8000_0020;
-
-const DISPATCH_FLAGS: u64 = 0x8000_0040;
-
-// The place of the GUID behind a descriptor.
-const GUID_PLACE: u64 = 24;
+use store_model::{DESCRIPTOR_LEN, DescriptorBody};
 
 // Writes numbers to the front.
 pub(crate) fn put_words(out: &mut [u8], words: &[u64])
@@ -25,24 +16,13 @@ pub(crate) fn put_words(out: &mut [u8], words: &[u64])
     }
 }
 
-// The flags of a descriptor, which is the last of its list.
-fn kind_flags(kind: DescKind) -> u64
-    ensures { result ≡ kind_flags kind }
-{
-    match kind {
-        DescKind::Ppi => PPI_FLAGS,
-        DescKind::Callback => CALLBACK_FLAGS,
-        DescKind::Dispatch => DISPATCH_FLAGS,
-    }
-}
-
 // Where the GUID of the descriptor at a place stands.
 fn guid_address(base: u64, place: u64, stands: Option<u64>) -> u64
     requires { base + place + 24 < 2 ^ 64 }
     ensures { result ≡ guid_address base place stands }
 {
     match stands {
-        None => base + place + GUID_PLACE,
+        None => base + place + DESCRIPTOR_LEN,
         Some(address) => address,
     }
 }
@@ -53,7 +33,7 @@ pub(crate) fn descriptor_words(base: u64, place: u64, d: &DescriptorBody) -> [u6
     ensures { result ≡ descriptor_words base place d.now }
 {
     [
-        kind_flags(d.kind),
+        d.kind.flags(),
         guid_address(base, place, d.stands),
         d.number,
     ]

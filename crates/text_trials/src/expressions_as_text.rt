@@ -1,7 +1,7 @@
 // Dependency expressions as a person writes them: both ways between their texts and their bytes, and each refusal once.
 use crate::board::{are, repeated};
-use asm_text::{TextFault, parse_depex, print_depex, write_depex};
-use depex_code::read_depex;
+use asm_text::{TextFault, parse_depex, print_depex};
+use depex_code::{read_depex, write_depex};
 use pi_base::{Phase, Seq};
 use std::alloc::Global;
 use std::test::*;

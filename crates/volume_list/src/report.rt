@@ -14,8 +14,8 @@ use crate::list::VolumeList;
 use crate::mapped::volume_at;
 use boot_model::{FILE_SYSTEM2, FILE_SYSTEM3};
 use catalog_model::Catalog;
-use pi_base::{Guid, u64_at};
-use store_model::{Desc, PeiStore, VOLUME_INFO_PPI};
+use pi_base::{Guid, VOLUME_INFO_PPI, u64_at};
+use store_model::{Desc, PeiStore};
 
 /// The length of the PPI of the volume information.
 const INFO_LEN: usize = 48;

@@ -1,6 +1,7 @@
 // Volumes as a person writes them: their files, with expressions and scripts as text.
 use act_code::write_script;
-use asm_text::{parse_depex, parse_script, write_depex};
+use asm_text::{parse_depex, parse_script};
+use depex_code::write_depex;
 use fv_build::{HEADER_LEN, MOST_LEN, NewFile, NewSection, build_volume};
 use fv_section::section_type::{DXE_DEPEX, PEI_DEPEX, RAW, VOLUME_IMAGE};
 use fv_volume::file_type;
@@ -98,7 +99,7 @@ fn depex_of(alloc: Global, text: &[u8]) -> Result<Seq<u8>, Fail> {
     };
     match write_depex(alloc, &depex) {
         Ok(bytes) => Ok(bytes),
-        Err(_) => Err(Fail::new("an expression in its limits")),
+        Err(_) => Err(Fail::new("memory for an expression")),
     }
 }
 

@@ -5,7 +5,7 @@ use Rattle.std.specs.Prelude.{ℕ, ◌+◌, ◌*◌, Bool, ◌==◌, not, if◌t
 use Rattle.std.specs.List.{list_any, list_all}
 use Rattle.pi_base.specs.declared.guid.Guid.{Guid}
 use Rattle.store_model.specs.declared.state.TheConstants.{CORE}
-use Rattle.store_model.specs.declared.known_guid.TheConstants.{MEMORY_PPI}
+use Rattle.pi_base.specs.declared.known_guid.TheConstants.{MEMORY_PPI}
 use Rattle.store_model.specs.declared.store_handle.DescKind.TheVariants.{Ppi}
 use Rattle.store_model.specs.declared.store_handle.Desc.{Desc}
 use Rattle.store_model.specs.declared.store_handle.Sweep.{Sweep}

@@ -1,5 +1,5 @@
 //! The PPIs that the PEI core knows, as their GUIDs are stored.
-use pi_base::Guid;
+use crate::guid::Guid;
 
 /// The PPI that tells of a volume, `EFI_PEI_FIRMWARE_VOLUME_INFO_PPI_GUID`, 49edb1c1-bf21-4761-bb12-eb0031aabb39 (PI 1.8, volume 1).
 pub const VOLUME_INFO_PPI: Guid = Guid([

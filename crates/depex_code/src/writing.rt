@@ -1,35 +1,16 @@
-// The one spelling of an expression.
-ghost use Rattle.std.specs.Prelude.{◌≡◌, ◌<◌, ◌≤◌, ◌++◌, ◌∷◌, [], length, map, OnOk, IfOk, IfErr};
+// Writing an expression: its one spelling.
+ghost use Rattle.std.specs.Prelude.{◌≡◌, ◌++◌, ◌∷◌, [], map, OnOk, IfOk};
 ghost use Rattle.depex_code.specs.declared.depex.Depex.TheVariants as depex;
 ghost use Rattle.depex_code.specs.declared.instruction.Instruction.TheVariants as instruction;
 ghost use Rattle.depex_code.specs.Expression.{bytes_of, instructions, sor_front};
 ghost use Rattle.depex_code.specs.Instruction.{instruction_bytes};
-ghost use Rattle.act_code.specs.declared.fault.WriteFault.TheVariants as write_fault;
 
-use act_code::WriteFault;
-use depex_code::{Depex, MOST_OPCODES, Opcode, Tree};
+use crate::depex::Depex;
+use crate::opcode::Opcode;
+use crate::opcode_byte::{AFTER, AND, BEFORE, END, FALSE, NOT, OR, PUSH, SOR, TRUE};
+use crate::tree::Tree;
 use pi_base::{Guid, OutOfMemory, Seq};
 use std::alloc::Global;
-
-const BEFORE: u8 = 0x00;
-
-const AFTER: u8 = 0x01;
-
-const PUSH: u8 = 0x02;
-
-const AND: u8 = 0x03;
-
-const OR: u8 = 0x04;
-
-const NOT: u8 = 0x05;
-
-const TRUE: u8 = 0x06;
-
-const FALSE: u8 = 0x07;
-
-const END: u8 = 0x08;
-
-const SOR: u8 = 0x09;
 
 // Adds an opcode that has a GUID.
 fn put_guid(out: &mut Seq<u8>, code: u8, guid: &Guid) -> Result<(), OutOfMemory>
@@ -61,16 +42,6 @@ fn put_code(out: &mut Seq<u8>, code: &[Opcode]) -> Result<(), OutOfMemory>
         put_opcode(out, opcode)?;
     }
     Ok(())
-}
-
-/// How many opcodes an expression has, SOR and END among them.
-pub(crate) fn opcodes(depex: &Depex) -> usize
-    ensures { result ≡ length (instructions depex.now) }
-{
-    match depex {
-        Depex::Before(_) | Depex::After(_) => 2,
-        Depex::Expr { sor, tree } => usize::from(*sor) + tree.code().len() + 1,
-    }
 }
 
 // SOR in front of a tree.
@@ -108,15 +79,10 @@ fn put_depex(out: &mut Seq<u8>, depex: &Depex) -> Result<(), OutOfMemory>
     }
 }
 
-/// The one spelling of an expression, which `read_depex` reads as the expression again. TooLong exactly where it has more than 1,024 opcodes, SOR and END among them.
-pub fn write_depex(alloc: Global, depex: &Depex) -> Result<Seq<u8>, WriteFault>
-    ensures written { IfOk result (λ bytes. bytes ≡ bytes_of (instructions depex.now)) }
-    ensures few { IfOk result (λ bytes. length (instructions depex.now) ≤ 1024) }
-    ensures too_long { IfErr result (λ fault. fault ≡ write_fault.TooLong → 1024 < length (instructions depex.now)) }
+/// The one spelling of an expression, which `read_depex` reads as the expression again where it has at most `MOST_OPCODES` opcodes.
+pub fn write_depex(alloc: Global, depex: &Depex) -> Result<Seq<u8>, OutOfMemory>
+    ensures { IfOk result (λ bytes. bytes ≡ bytes_of (instructions depex.now)) }
 {
-    if opcodes(depex) > MOST_OPCODES {
-        return Err(WriteFault::TooLong);
-    }
     let mut out = Seq::new(alloc);
     put_depex(&mut out, depex)?;
     Ok(out)
