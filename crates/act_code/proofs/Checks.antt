@@ -13,7 +13,8 @@ use Rattle.act_code.specs.Format.{is_within}
 use Rattle.act_code.specs.Index.{is_indexed, has_room}
 use Rattle.act_code.specs.Reading.{action_at}
 use Rattle.act_code.specs.ScriptReading.{fault_at, checked, checked_at, count_at}
-use Rattle.act_code.specs.Script.{action_bytes, Begins, IsAction, IsSound, IsActionFault, HasNoCount}
+use Rattle.act_code.specs.Script.{action_bytes, IsAction, IsSound, IsActionFault, HasNoCount}
+use Rattle.pi_base.specs.Lists.{Begins}
 use Rattle.act_code.proofs.Fields.{little_reads, little_back, length-little}
 use Rattle.act_code.proofs.Formats.{Takes, within_small, long_enough, long_tested, AreBytes-drop}
 use Rattle.act_code.proofs.Codes.{action_takes, action_again}

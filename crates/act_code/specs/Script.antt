@@ -14,6 +14,7 @@ use Rattle.act_code.specs.Table.{number_of, is_code_of, format_of, code_of_actio
 use Rattle.act_code.specs.Index.{is_indexed, has_room}
 use Rattle.act_code.specs.Header.{header_bytes, header_at}
 use Rattle.act_code.specs.ScriptReading.{fault_at, ends_in_ret}
+use Rattle.pi_base.specs.Lists.{Begins}
 
 -- the operands of an action
 abbrev pub operand_bytes : Action → List ℕ
@@ -30,10 +31,6 @@ block_bytes actions = little_bytes 2 (length actions) ++ flat_map action_bytes a
 -- a script: its header and its blocks
 abbrev pub script_bytes : Script → List ℕ
 script_bytes script = header_bytes script.phase (length script.blocks) ++ flat_map block_bytes script.blocks
-
--- the bytes begin with a text
-abbrev pub Begins : List ℕ → List ℕ → Type 0
-Begins bytes text = (rest : List ℕ) × (bytes ≡ text ++ rest)
 
 -- an action of the phase whose operands keep their ranges
 pub record IsAction (phase : Phase) (action : Action) : Type 0 where

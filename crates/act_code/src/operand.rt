@@ -9,7 +9,7 @@ use crate::action::GuidArg;
 use pi_base::{GUID_LEN, Guid, OutOfMemory, Seq, Word, u16_at, u32_at, u64_at};
 use std::alloc::Global;
 
-/// Why an action was not read.
+/// Why an action was not read, from bytes or from a line of text.
 pub enum Unread {
     /// No action of the phase stands there.
     Malformed,

@@ -10,7 +10,7 @@ mod Fronts
 mod GoodOperands
 mod Guids
 mod LineFeeds
-mod LineTexts
+pub mod LineTexts
 mod OneBadLine
 mod OneScript
 mod OneText

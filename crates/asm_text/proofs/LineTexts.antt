@@ -44,7 +44,7 @@ spaced_lack : (words : List (List ℕ)) → AllByRecursion (Lacks 10) words → 
 spaced_lack [] all = refl
 spaced_lack (word ∷ words) all = both_lack word (flat_map spaced words) all.0 (spaced_lack words all.1)
 
-all_both : (xs ys : List (List ℕ)) → AllByRecursion (Lacks 10) xs → AllByRecursion (Lacks 10) ys → AllByRecursion (Lacks 10) (xs ++ ys)
+pub all_both : (xs ys : List (List ℕ)) → AllByRecursion (Lacks 10) xs → AllByRecursion (Lacks 10) ys → AllByRecursion (Lacks 10) (xs ++ ys)
 all_both [] ys a b = b
 all_both (x ∷ xs) ys a b = (a.0, all_both xs ys a.1 b)
 

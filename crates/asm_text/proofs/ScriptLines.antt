@@ -19,7 +19,7 @@ use Rattle.asm_text.specs.ScriptText.{phase_text, block_text, line, action_line,
 use Rattle.asm_text.specs.WordReading.{space_place}
 use Rattle.asm_text.proofs.WordSplits.{Stands, word_end, stands_too}
 use Rattle.asm_text.proofs.ActionLines.{IsGoodAction, name_plain}
-use Rattle.asm_text.proofs.LineTexts.{action_lacks}
+use Rattle.asm_text.proofs.LineTexts.{action_lacks, all_both}
 use Rattle.asm_text.proofs.Blocks.{IsClosedBlock, well_made}
 
 abbrev pub lines_of_block : List Action → List (List ℕ)
@@ -58,10 +58,6 @@ phase_lacks Dxe = refl
 block_lacks : Lacks 10 block_text
 unfolding block_text
 block_lacks = refl
-
-all_both : (xs ys : List (List ℕ)) → AllByRecursion (Lacks 10) xs → AllByRecursion (Lacks 10) ys → AllByRecursion (Lacks 10) (xs ++ ys)
-all_both [] ys a b = b
-all_both (x ∷ xs) ys a b = (a.0, all_both xs ys a.1 b)
 
 actions_lack : (phase : Phase) (actions : List Action) → AllByRecursion (IsGoodAction phase) actions → AllByRecursion (Lacks 10) (map action_text actions)
 actions_lack phase [] good = tt

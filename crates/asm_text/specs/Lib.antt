@@ -10,7 +10,6 @@ pub mod Operands
 pub mod ReadDepex
 pub mod ReadScript
 pub mod ReadTree
-pub mod Reading
 pub mod ScriptText
 pub mod Texts
 pub mod Walk

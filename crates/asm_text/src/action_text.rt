@@ -1,6 +1,6 @@
 // Actions as lines.
-ghost use Rattle.std.specs.Prelude.{◌≡◌, ◌==◌, if◌then◌else◌, ◌++◌, flat_map, OnOk};
-ghost use Rattle.asm_text.specs.ActionText.{operand_words, action_text, spaced};
+ghost use Rattle.std.specs.Prelude.{◌≡◌, ◌++◌, flat_map, OnOk};
+ghost use Rattle.asm_text.specs.ActionText.{operand_words, spaced};
 ghost use Rattle.asm_text.specs.ScriptText.{action_line};
 ghost use Rattle.asm_text.specs.Operands.{operand_text};
 

@@ -1,14 +1,13 @@
 // The operands of the actions of both phases, each a line's text behind the name.
 #![tactic(auto, unfolding(crate::specs::OperandReading::operands_at))]
 
-ghost use Rattle.asm_text.specs.Reading.{Gives};
+ghost use Rattle.act_code.specs.Reading.{Gives};
 ghost use Rattle.asm_text.specs.OperandReading.{operands_at};
 ghost use Rattle.act_code.specs.declared.code.Code.TheVariants as Code;
 
 use crate::list_reading::logged;
 use crate::operand_reading::{ended, number_8, register, small, status};
-use crate::unread::Unread;
-use act_code::Action;
+use act_code::{Action, Unread};
 use std::alloc::Global;
 
 pub(crate) fn set(text: &[u8]) -> Result<Action, Unread>

@@ -1,5 +1,5 @@
 // Reading the text of an expression.
-ghost use Rattle.std.specs.Prelude.{◌≡◌, ◌≤◌, ◌<◌, ◌++◌, length, codes, option_map, Option, IfOk, IfErr};
+ghost use Rattle.std.specs.Prelude.{◌≡◌, ◌≤◌, ◌<◌, length, option_map, Option, IfOk, IfErr};
 ghost use Rattle.depex_code.specs.declared.depex.Depex.{Depex};
 ghost use Rattle.depex_code.specs.declared.depex.Depex.TheVariants as depex;
 ghost use Rattle.depex_code.specs.Expression.{instructions};

@@ -1,17 +1,16 @@
 // A script that is put together line by line. Its last block may go on.
 ghost use Rattle.std.specs.Prelude.{◌≡◌, ◌-◌, ◌&&◌, length, nat_lt};
 ghost use Rattle.std.specs.List.{list_all};
-ghost use Rattle.act_code.specs.Index.{has_room, is_ret};
+ghost use Rattle.act_code.specs.Index.{has_room};
 ghost use Rattle.act_code.specs.ScriptReading.{ends_in_ret};
-ghost use Rattle.asm_text.specs.Reading.{Gives};
+ghost use Rattle.act_code.specs.Reading.{Gives};
 ghost use Rattle.asm_text.specs.Drafts.{have_room, is_closed, may_end, may_stand, with_block, pushed, extended, with_line, names_below, is_whole};
 ghost use Rattle.asm_text.specs.Walk.{split_last};
 
 use crate::line_reading::action_of;
 use crate::script_text::block_text;
-use crate::unread::Unread;
 use act_code::descriptor_kind::PPI;
-use act_code::{Action, MOST_BLOCKS, Script};
+use act_code::{Action, MOST_BLOCKS, Script, Unread, is_ret};
 use pi_base::{Phase, Seq};
 use std::alloc::Global;
 
@@ -25,16 +24,6 @@ fn has_room(action: &Action, left: usize) -> bool
     match action {
         Action::SkipIf { n, .. } => usize::from(*n) + 2 <= left,
         _ => true,
-    }
-}
-
-// Whether an action ends its frame.
-fn is_ret(action: &Action) -> bool
-    ensures { result ≡ is_ret action.now }
-{
-    match action {
-        Action::Ret { .. } => true,
-        _ => false,
     }
 }
 

@@ -1,13 +1,12 @@
 // The operands of the actions of drivers, each a line's text behind the name.
 #![tactic(auto, unfolding(crate::specs::OperandReading::operands_at))]
 
-ghost use Rattle.asm_text.specs.Reading.{Gives};
+ghost use Rattle.act_code.specs.Reading.{Gives};
 ghost use Rattle.asm_text.specs.OperandReading.{operands_at};
 ghost use Rattle.act_code.specs.declared.code.Code.TheVariants as Code;
 
 use crate::operand_reading::{block, choice, ended, guid, register};
-use crate::unread::Unread;
-use act_code::Action;
+use act_code::{Action, Unread};
 
 pub(crate) fn install(text: &[u8]) -> Result<Action, Unread>
     ensures { Gives (λ x. x) result (operands_at Code.DxeInstall text.now) }

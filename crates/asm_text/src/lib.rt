@@ -21,7 +21,6 @@ mod text_law;
 mod token;
 mod tree_reading;
 mod tree_text;
-mod unread;
 mod word;
 
 pub use depex_reading::parse_depex;

@@ -1,13 +1,12 @@
 // The line of an action: its name, and its operands.
-ghost use Rattle.asm_text.specs.Reading.{Gives};
+ghost use Rattle.act_code.specs.Reading.{Gives};
 ghost use Rattle.asm_text.specs.OperandReading.{operands_at};
 ghost use Rattle.asm_text.specs.LineReading.{action_of};
 
 use crate::action_name::code_named;
-use crate::unread::Unread;
 use crate::word::space_place;
 use crate::{common_line, dxe_line, pei_line};
-use act_code::{Action, Code};
+use act_code::{Action, Code, Unread};
 use pi_base::Phase;
 use std::alloc::Global;
 

@@ -2,13 +2,13 @@
 ghost use Rattle.std.specs.Prelude.{◌≡◌};
 ghost use Rattle.std.specs.List.{list_all};
 ghost use Rattle.act_code.specs.Format.{is_within, is_hob};
-ghost use Rattle.asm_text.specs.Reading.{Gives};
+ghost use Rattle.act_code.specs.Reading.{Gives};
 ghost use Rattle.asm_text.specs.OperandReading.{bytes_at, counted_at, text_at, registers_within, registers_at, hob_at};
 
 use crate::front::behind;
 use crate::operand_reading::{register, small};
-use crate::unread::Unread;
 use crate::word::{bytes_word, word};
+use act_code::Unread;
 use pi_base::Seq;
 use std::alloc::Global;
 

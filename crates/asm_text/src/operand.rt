@@ -1,7 +1,7 @@
 // The operands of actions as words.
-ghost use Rattle.std.specs.Prelude.{◌≡◌, ◌≤◌, ◌==◌, if◌then◌else◌, ◌++◌, ◌∷◌, length, map, flat_map, decimal, OnOk, take};
+ghost use Rattle.std.specs.Prelude.{◌≡◌, ◌==◌, if◌then◌else◌, ◌++◌, ◌∷◌, map, flat_map, decimal, OnOk};
 ghost use Rattle.hex.specs.Hex.{encode_lower};
-ghost use Rattle.pi_base.specs.WordText.{hexadecimal, guid_text};
+ghost use Rattle.pi_base.specs.WordText.{hexadecimal};
 ghost use Rattle.asm_text.specs.Numerals.{register};
 ghost use Rattle.asm_text.specs.ActionText.{spaced, kind_word, guid_words, block_words, last_words};
 ghost use Rattle.asm_text.specs.Operands.{operand_text};

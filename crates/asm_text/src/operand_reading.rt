@@ -1,18 +1,16 @@
 // The operands of actions, each behind a space. A reader gives a value and what follows it.
 ghost use Rattle.std.specs.Prelude.{◌≡◌, ◌==◌, length};
 ghost use Rattle.act_code.specs.Format.{is_within};
-ghost use Rattle.act_code.specs.Reading.{only_if};
-ghost use Rattle.asm_text.specs.Reading.{Gives};
+ghost use Rattle.act_code.specs.Reading.{Gives, only_if};
 ghost use Rattle.asm_text.specs.WordReading.{number_word, choice_word};
 ghost use Rattle.asm_text.specs.OperandReading.{register_at, within_at, little_at, guid_at, status_at, block_at, guid_arg_at, last_at, descriptor_at};
 
 use crate::front::guid_word;
-use crate::unread::Unread;
 use crate::word::{
     choice_word, decimal_word, hexadecimal_word, kind_word, register_word, status_word, word,
 };
 use act_code::descriptor_kind::PPI;
-use act_code::{Action, GuidArg, MOST_BLOCKS};
+use act_code::{Action, GuidArg, MOST_BLOCKS, Unread};
 use pi_base::{Guid, Word};
 
 /// The last number of a block.

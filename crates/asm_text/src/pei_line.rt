@@ -1,7 +1,7 @@
 // The operands of the actions of PEIMs, each a line's text behind the name.
 #![tactic(auto, unfolding(crate::specs::OperandReading::operands_at))]
 
-ghost use Rattle.asm_text.specs.Reading.{Gives};
+ghost use Rattle.act_code.specs.Reading.{Gives};
 ghost use Rattle.asm_text.specs.OperandReading.{operands_at};
 ghost use Rattle.act_code.specs.declared.code.Code.TheVariants as Code;
 
@@ -9,8 +9,7 @@ use crate::list_reading::{counted, hob, registers};
 use crate::operand_reading::{
     choice, descriptor, ended, guid, number_2, number_4, register, small,
 };
-use crate::unread::Unread;
-use act_code::Action;
+use act_code::{Action, Unread};
 use std::alloc::Global;
 
 pub(crate) fn pool(text: &[u8]) -> Result<Action, Unread>

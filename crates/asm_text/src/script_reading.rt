@@ -9,8 +9,7 @@ ghost use Rattle.asm_text.specs.ReadScript.{IsScriptOf, IsScriptRefused, GivesSc
 use crate::draft::{is_whole, with_line};
 use crate::fault::TextFault;
 use crate::script_text::phase_text;
-use crate::unread::Unread;
-use act_code::{Script, WriteFault, write_script};
+use act_code::{Script, Unread, WriteFault, write_script};
 use pi_base::{Phase, Seq};
 use printed_words::first_line;
 use std::alloc::Global;

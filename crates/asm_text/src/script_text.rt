@@ -1,5 +1,5 @@
 // The text of a script.
-ghost use Rattle.std.specs.Prelude.{◌≡◌, ◌++◌, ◌∷◌, flat_map, OnOk, IfOk};
+ghost use Rattle.std.specs.Prelude.{◌≡◌, ◌++◌, flat_map, OnOk, IfOk};
 ghost use Rattle.asm_text.specs.ScriptText.{line, phase_text, block_text, block_lines, script_text};
 
 use crate::action_text::put_action;

@@ -1,12 +1,11 @@
 // The words of a line, each as the value that it shows. A word is read only where it is what is printed of the value.
 ghost use Rattle.std.specs.Prelude.{◌≡◌, ◌≤◌, length, bytes_eq};
 ghost use Rattle.hex.specs.Hex.{encode_lower};
-ghost use Rattle.act_code.specs.Reading.{only_if};
-ghost use Rattle.asm_text.specs.Reading.{Gives};
+ghost use Rattle.act_code.specs.Reading.{Gives, only_if};
 ghost use Rattle.asm_text.specs.WordReading.{space_place, word_at, number_word, hexadecimal_word, register_word, choice_word, kind_word, status_word, bytes_word};
 
 use crate::front::behind;
-use crate::unread::Unread;
+use act_code::Unread;
 use act_code::descriptor_kind::{CALLBACK, DISPATCH, PPI};
 use hex::FromHexError;
 use line_words::place_of;

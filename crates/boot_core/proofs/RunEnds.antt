@@ -28,7 +28,8 @@ use Rattle.boot_core.specs.declared.boot_run.Ran.{Ran}
 use Rattle.boot_core.specs.declared.plan_boot.Booted.{Booted}
 use Rattle.boot_core.specs.declared.status.Status.TheVariants as V
 use Rattle.boot_core.specs.Handing.{HandsBack, IsBooted, IsWhereRan, StandsWhere}
-use Rattle.boot_core.specs.Running.{RunsTo, Texts}
+use Rattle.boot_core.specs.Running.{RunsTo}
+use Rattle.boot_trace.specs.Printing.{Texts}
 use Rattle.boot_io.specs.Halted.{HaltsAfter}
 
 -- each boot has a result

@@ -4,7 +4,8 @@ use Rattle.std.specs.Io.KnownBytes.{Appends}
 use Rattle.boot_io.specs.Sink.{AppendsPart}
 use Rattle.boot_io.proofs.PutsLaws.{appends_then, part_then, part_of_more}
 use Rattle.boot_io.specs.declared.halt.Halt.{Halt}
-use Rattle.boot_core.specs.Running.{Tells, Texts}
+use Rattle.boot_core.specs.Running.{Tells}
+use Rattle.boot_trace.specs.Printing.{Texts}
 
 -- the same text, and what the answer says
 pub tells_same : {A : Type 0} (ran : Result A Halt) (Is Then : A → Type 0) (a whole : List ℕ) (t : Texts) → a ≡ whole → ((answer : A) → Is answer → Then answer) → Tells Is a t ran → Tells Then whole t ran

@@ -16,7 +16,7 @@ use Rattle.boot_core.specs.declared.plan_boot.Booted.{Booted}
 use Rattle.boot_core.specs.declared.status.Status.{Status}
 use Rattle.boot_core.specs.Handing.{IsBooted}
 use Rattle.boot_core.specs.Outcome.{EndsBy, Kind, OfFiles, OfSink, OfMemory, OfAnswer, Trail, kind_of}
-use Rattle.boot_core.specs.Running.{Texts}
+use Rattle.boot_trace.specs.Printing.{Texts}
 use Rattle.boot_core.specs.Wanting.{IsWantedOutsidePei, WantsOutsidePei}
 use Rattle.boot_core.proofs.Causes.{none_of}
 use Rattle.boot_core.proofs.RunEnds.{answer_of}

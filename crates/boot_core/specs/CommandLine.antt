@@ -1,13 +1,8 @@
 -- The words of a command line: what is asked for, and the name of a plan's file, or the number of modules of a generated volume.
-use Rattle.std.specs.Prelude.{◌≡◌, ◌≢◌, ◌≤◌, ℕ, List, [], ◌∷◌, codes, decimal, map, String, string_bytes}
-use Rattle.std.specs.declared.alloc.Global.{Global}
+use Rattle.std.specs.Prelude.{◌≡◌, ◌≢◌, ◌≤◌, ℕ, List, [], ◌∷◌, codes, decimal}
 use Rattle.fv_build.specs.declared.generated.TheConstants.{MOST_MODULES}
 use Rattle.boot_core.specs.declared.command_line.Command.{Command}
 use Rattle.boot_core.specs.declared.command_line.Command.TheVariants.{Boot, Audit}
-
--- the bytes of each word
-abbrev pub words_of : List (String Global) → List (List ℕ)
-words_of words = map string_bytes words
 
 -- the word that asks for it
 abbrev pub verb_of : Command → List ℕ

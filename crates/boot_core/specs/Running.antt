@@ -23,11 +23,7 @@ use Rattle.pei_dispatch.specs.Ends.{IsLeft}
 use Rattle.boot_end.specs.Closing.{closing}
 use Rattle.boot_core.specs.declared.boot_run.Ran.{Ran}
 use Rattle.boot_core.specs.BootEnd.{end_after, end_of, boot_text}
-
--- a sink's text before and after
-pub record Texts : Type 0 where
-  pub old : Option (List ℕ)
-  pub new : Option (List ℕ)
+use Rattle.boot_trace.specs.Printing.{Texts}
 
 -- by the answer: a value that is as it should be with the whole text, or a part of the text
 abbrev pub Tells : {A : Type 0} → (A → Type 0) → List ℕ → Texts → Result A Halt → Type 0

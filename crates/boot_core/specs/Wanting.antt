@@ -12,7 +12,7 @@ use Rattle.boot_model.specs.PeiRun.{pei_end}
 use Rattle.boot_model.specs.PlanBoard.{board_of}
 use Rattle.boot_model.specs.Text.{text_of}
 use Rattle.boot_core.specs.Outcome.{Kind, OfFiles, OfSink, OfMemory, OfAnswer}
-use Rattle.boot_core.specs.Running.{Texts}
+use Rattle.boot_trace.specs.Printing.{Texts}
 
 -- nothing was put; or all lines of PEI were, and then a part of what follows
 abbrev pub IsOutsidePei : Board → Catalog → ℕ → Texts → Type 0

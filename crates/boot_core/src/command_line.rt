@@ -1,6 +1,7 @@
 // The words of a command line.
 ghost use Rattle.std.specs.Prelude.{◌≡◌, ◌≢◌, ◌↔◌, ℕ, List, [], ◌∷◌, codes, decimal, IfSome, IfNone, IsTrue};
-ghost use Rattle.boot_core.specs.CommandLine.{AskFor, AskForGenerated, IsCount, NameNoPlan, words_of, verb_of};
+ghost use Rattle.boot_core.specs.CommandLine.{AskFor, AskForGenerated, IsCount, NameNoPlan, verb_of};
+ghost use Rattle.boot_io.specs.Words.{words_of};
 
 use fv_build::MOST_MODULES;
 use pi_base::decimal;

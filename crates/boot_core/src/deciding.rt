@@ -1,6 +1,6 @@
 // What the words and the files come to, before anything is put.
 ghost use Rattle.std.specs.Prelude.{◌≡◌, IfOk};
-ghost use Rattle.boot_core.specs.CommandLine.{words_of};
+ghost use Rattle.boot_io.specs.Words.{words_of};
 ghost use Rattle.boot_core.specs.Deciding.{CanBeDone, IsAsked, IsRefused, IsSoundJob, Names, asked_of};
 ghost use Rattle.plan_files.specs.Reading.{Reads};
 

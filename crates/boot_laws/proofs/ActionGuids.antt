@@ -1,5 +1,5 @@
 -- What an action of PEI changes of the GUIDs that are installed.
-use Rattle.std.proofs.Common.{◌≡◌, ℕ, zero, suc, ◌∙◌, ap, Bool, true, false, cond, List, [], ◌∷◌, Option, Some, None, refl, Ok, Err, map, ◌||◌, ◌++◌, subst}
+use Rattle.std.proofs.Common.{◌≡◌, ℕ, zero, suc, ◌∙◌, ap, Bool, true, false, cond, List, [], ◌∷◌, Option, Some, None, refl, Ok, Err, map, ◌||◌, ◌++◌}
 use Rattle.std.specs.Bool.{⊤}
 use Rattle.std.specs.Option.{option_and_then, option_to_list}
 use Rattle.std.specs.Prelude.{◌+◌, ◌%◌, ◌^◌, ◌==◌, ◌&&◌, not, nat_lt, option_map, slice_set, unwrap_or, length}
@@ -14,7 +14,7 @@ use Rattle.boot_model.specs.declared.line.Extra.{Extra}
 use Rattle.boot_model.specs.declared.line.Extra.TheVariants as X
 use Rattle.boot_model.specs.PeiMachine.{Frame}
 use Rattle.boot_model.specs.declared.frame.Register.{Register}
-use Rattle.boot_model.specs.declared.frame.Register.TheVariants.{Empty, Number, PoolIn, DescriptorIn, HandleIn}
+use Rattle.boot_model.specs.declared.frame.Register.TheVariants.{Number}
 use Rattle.store_model.specs.declared.store_handle.Desc.{Desc}
 use Rattle.store_model.specs.declared.store_handle.Pool.{Pool}
 use Rattle.store_model.specs.declared.store_handle.Sweep.{Sweep}
@@ -29,10 +29,10 @@ use Rattle.store_model.specs.Service.Install.{has_ppi, install_pairs, install_sw
 use Rattle.store_model.specs.Service.Memory.{pages, with_boot_mode}
 use Rattle.store_model.specs.Service.Pool.{store}
 use Rattle.store_model.specs.Service.Reading.{nth_ppi}
-use Rattle.boot_model.specs.Registers.{number_in, pool_in, pool_of, descriptor_in, offset_of, register, both, descriptors_in, is_success}
+use Rattle.boot_model.specs.Registers.{number_in, pool_in, descriptor_in, offset_of, register, both, descriptors_in, is_success}
 use Rattle.boot_model.specs.PeiAction.{Reply, Effect, Wrote, Called, Own, Shadowed, Logged, Skipped, Returned, effect, answer_reply, sweep_reply, reply_where, store_reply, peek_reply, desc_argument, kind_number, desc_reply, install_reply, reinstall_reply, notify_reply, locate_reply, hob_reply, memory_reply, pages_reply, is_memory_type, set_mode_reply, mode_reply, number_written, told, refusal}
 use Rattle.boot_model.specs.EvaluationBound.{is_called, action_guids}
-use Rattle.boot_model.specs.MachineFacts.{HoldRegisters, IsHeld}
+use Rattle.boot_model.specs.MachineFacts.{HoldRegisters}
 use Rattle.boot_laws.specs.ChangedGuids.{is_among}
 use Rattle.boot_model.specs.EventGuids.{placed, placed_guids}
 use Rattle.boot_laws.proofs.GuidLists.{each_among, or_false}
@@ -40,6 +40,7 @@ use Rattle.boot_laws.proofs.InstalledGuids.{AreThere, installed_has, ppi_is, ppi
 use Rattle.boot_laws.proofs.LastingGuids.{IsQuiet, named, quiet_has, quiet_self}
 use Rattle.boot_laws.proofs.QuietServices.{KeepsQuiet, OptionQuiet, pool_quiet, desc_quiet, notify_quiet, hob_quiet, memory_quiet, pages_quiet, store_quiet}
 use Rattle.boot_model.proofs.ListFacts.{each_more, has_later}
+use Rattle.boot_model.proofs.Held.{pool_is, is_held as held_at}
 
 -- what changes from one state to another, and what is there then
 pub record Puts (s new : StoreState) (changed placed : List Guid) : Type 0 where
@@ -137,19 +138,6 @@ pages_keep s frame r memory_type count =
 written_keeps : (s : StoreState) (registers : List Register) (r : ℕ) (n : Option ℕ) → EffectQuiet s (number_written registers r n)
 written_keeps s registers r None = tt
 written_keeps s registers r (Some n) = tt
-
--- a pool in a register is there
-held_at : (s : StoreState) (registers : List Register) (r : ℕ) → HoldRegisters registers s → IsHeld s (register registers r)
-held_at s [] r each = tt
-held_at s (x ∷ xs) zero each = each.0
-held_at s (x ∷ xs) (suc r) each = held_at s xs r each.1
-
-pool_is : (s : StoreState) (held : Register) (pool : Pool) → IsHeld s held → pool_of held ≡ Some pool → IsPool s pool
-pool_is s Empty pool is e = cc
-pool_is s (Number n) pool is e = cc
-pool_is s (PoolIn own) pool is e = let same : own ≡ pool = cc in subst (λ p. IsPool s p) same is
-pool_is s (DescriptorIn d) pool is e = cc
-pool_is s (HandleIn handle) pool is e = cc
 
 held_pool : (s : StoreState) (registers : List Register) (r : ℕ) (pool : Pool) → HoldRegisters registers s → pool_in registers r ≡ Some pool → IsPool s pool
 held_pool s registers r pool each e = pool_is s (register registers r) pool (held_at s registers r each) e

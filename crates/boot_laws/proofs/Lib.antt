@@ -21,7 +21,7 @@ pub mod GroupUnfolds
 pub mod DxeStopsIdle
 pub mod DriverCalls
 pub mod DriverGrowth
-mod Unrequested
+pub mod Unrequested
 mod DxeLicences
 pub mod MovedHobs
 mod Unmoved

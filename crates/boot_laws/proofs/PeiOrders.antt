@@ -34,7 +34,7 @@ volume_distinct catalog volume =
     (each_cross (λ n. is_some (rank_of n) ≡ true) (λ n. is_none (rank_of n) ≡ true) (λ x y. x ≢ y) (ranked rank_of all) (filter (λ n. is_none (rank_of n)) all) (differ_by_rank rank_of)
     (have_rank rank_of all) (passed (λ n. is_none (rank_of n) ≡ true) (λ n. is_none (rank_of n)) all (λ n h. h)))
 
-volume_parts_are : (catalog : Catalog) (volume : ℕ) → Each (IsPartOfVolume Pei catalog volume) (volume_order catalog volume)
+pub volume_parts_are : (catalog : Catalog) (volume : ℕ) → Each (IsPartOfVolume Pei catalog volume) (volume_order catalog volume)
 volume_parts_are catalog volume =
     let all = parts_in Pei catalog volume in
     let rank_of = rank_at Pei catalog in

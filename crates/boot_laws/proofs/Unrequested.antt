@@ -57,7 +57,7 @@ abbrev IsSettled : Catalog → DxeMachine → Type 0
 IsSettled catalog m = AreSettled catalog m.discovered m.requested (gone m)
 
 -- more requests
-still_asks : (a old new : Bool) → (old ≡ true → new ≡ true) → (a && not new) ≡ true → (a && not old) ≡ true
+pub still_asks : (a old new : Bool) → (old ≡ true → new ≡ true) → (a && not new) ≡ true → (a && not old) ≡ true
 still_asks true true true f h = h
 still_asks true true false f h = let yes = f refl in cc
 still_asks true false new f h = refl
@@ -68,7 +68,7 @@ needs_more catalog old new number b h asks =
     h (still_asks (asks_for_request (part_at Dxe catalog number)) (has_number old number) (has_number new number) (λ has. subst (λ l. has_number l number ≡ true) (sym b.1) (has_front old b.0 number has)) asks)
 
 -- a rank among the volumes
-some_rank : (o : Option ℕ) → is_some o ≡ true → (r : ℕ) × (o ≡ Some r)
+pub some_rank : (o : Option ℕ) → is_some o ≡ true → (r : ℕ) × (o ≡ Some r)
 some_rank None h = cc
 some_rank (Some r) h = (r, refl)
 
@@ -299,12 +299,12 @@ find_filtered_step : (p : ℕ → Bool) (x : ℕ) (xs : List ℕ) (b : Bool) (fo
 find_filtered_step p x xs true found e = ap (λ f. cond (p x) (Some x) f) e
 find_filtered_step p x xs false found e = e
 
-find_filtered : (p q r : ℕ → Bool) (xs : List ℕ) → Each (λ x. (q x && p x) ≡ (r x && p x)) xs → find p (filter q xs) ≡ find (λ x. r x && p x) xs
+pub find_filtered : (p q r : ℕ → Bool) (xs : List ℕ) → Each (λ x. (q x && p x) ≡ (r x && p x)) xs → find p (filter q xs) ≡ find (λ x. r x && p x) xs
 find_filtered p q r [] e = refl
 find_filtered p q r (x ∷ xs) e =
     find_filtered_step p x (filter q xs) (q x) (find (λ x. r x && p x) xs) (find_filtered p q r xs e.1) ∙ ap (λ b. cond b (Some x) (find (λ x. r x && p x) xs)) e.0
 
-alike : (unrequested same waits none : Bool) → (unrequested ≡ true → waits ≡ none) → (waits && (unrequested && same)) ≡ (none && (unrequested && same))
+pub alike : (unrequested same waits none : Bool) → (unrequested ≡ true → waits ≡ none) → (waits && (unrequested && same)) ≡ (none && (unrequested && same))
 alike true same waits none f = ap (λ b. b && same) (f refl)
 alike false same waits none f = both_false waits none
   where

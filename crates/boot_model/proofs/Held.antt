@@ -29,7 +29,7 @@ body_before (first ∷ hobs) at place body h =
     (λ t. let e : at + 8 ≡ place = grind (arith, nat_tests, t) in omega (arith, e, c))
     (λ later. let le : place < at + hob_len first + sum_by hob_len hobs + 1 = body_before hobs (at + hob_len first) place body later in omega (arith, le, c)) h
 
-is_held : (s : StoreState) (registers : List Register) (r : ℕ) → HoldRegisters registers s → IsHeld s (register registers r)
+pub is_held : (s : StoreState) (registers : List Register) (r : ℕ) → HoldRegisters registers s → IsHeld s (register registers r)
 is_held s [] r each = tt
 is_held s (x ∷ xs) zero each = each.0
 is_held s (x ∷ xs) (suc r) each = is_held s xs r each.1
@@ -46,7 +46,7 @@ place_of s (HandleIn handle) place is e = cc
 pub held_place : (s : StoreState) (registers : List Register) (r place : ℕ) → HoldRegisters registers s → Some place ≡ offset_of (register registers r) → place ≤ end_place s
 held_place s registers r place each e = place_of s (register registers r) place (is_held s registers r each) (sym e)
 
-pool_is : (s : StoreState) (held : Register) (pool : Pool) → IsHeld s held → pool_of held ≡ Some pool → IsPool s pool
+pub pool_is : (s : StoreState) (held : Register) (pool : Pool) → IsHeld s held → pool_of held ≡ Some pool → IsPool s pool
 pool_is s Empty pool is e = cc
 pool_is s (Number n) pool is e = cc
 pool_is s (PoolIn own) pool is e = let same : own ≡ pool = cc in subst (λ p. IsPool s p) same is

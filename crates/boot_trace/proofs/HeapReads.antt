@@ -5,6 +5,7 @@ use Rattle.std.proofs.lemmas.List.{append-nil, drop_more, length-append}
 use Rattle.std.proofs.lemmas.List.Sums.{sum_by-cons}
 use Rattle.std.proofs.lemmas.Option.{same_Some, unwrap_or-slice_get}
 use Rattle.std.proofs.lemmas.Bool.Decides.{nat_tests}
+use Rattle.std.specs.Option.{option_or}
 use Rattle.phys_mem.specs.Region.{is_inside}
 use Rattle.hob_codec.specs.declared.kind.TheConstants.{END}
 use Rattle.store_model.specs.declared.state.DescriptorBody.{DescriptorBody}
@@ -14,7 +15,7 @@ use Rattle.store_model.specs.declared.state.HobEntry.{HobEntry}
 use Rattle.pi_base.specs.Lists.{Each, numbers}
 use Rattle.store_model.specs.StoreState.{StoreState, Range, hob_len, body_len, descriptor_len, end_place}
 use Rattle.store_model.specs.StateFacts.{IsStoreState, IsGuidOf, IsBodyOf, IsHobEntry, IsHeap, IsPlanned}
-use Rattle.store_model.specs.HeapImage.{Links, links_bytes, guid_behind, header_bytes, body_bytes, hobs_bytes, hob_list, or_else}
+use Rattle.store_model.specs.HeapImage.{Links, links_bytes, guid_behind, header_bytes, body_bytes, hobs_bytes, hob_list}
 use Rattle.store_model.specs.StoreCall.{Peeks}
 use Rattle.store_model.specs.MemoryReading.{rom_bytes, heap_byte, region_bytes, bytes_at}
 use Rattle.boot_trace.specs.HobLines.{handoff_hob, all_hobs}
@@ -120,12 +121,12 @@ region_is s region at n low high = let t = inside region.base region.len at n lo
 
 -- the heap lies in temporary RAM, and after the move in RAM
 mapped : (s : StoreState) (moved : Bool) (at n : ℕ) (other : Option (List ℕ)) → IsHeap s moved → IfSome s.planned (IsPlanned s.board) → s.base ≤ at → at + n ≤ s.base + s.len
-    → or_else (if moved then None else region_bytes s s.board.temp at n) (or_else (region_bytes s s.board.ram at n) other) ≡ Some (map (heap_byte s) (numbers at n))
-mapped s false at n other h p low high = ap (λ (o : Option (List ℕ)). or_else o (or_else (region_bytes s s.board.ram at n) other)) (region_is s s.board.temp at n (omega (arith, h.0, low)) (omega (arith, h.0, h.1, high)))
+    → option_or (if moved then None else region_bytes s s.board.temp at n) (option_or (region_bytes s s.board.ram at n) other) ≡ Some (map (heap_byte s) (numbers at n))
+mapped s false at n other h p low high = ap (λ (o : Option (List ℕ)). option_or o (option_or (region_bytes s s.board.ram at n) other)) (region_is s s.board.temp at n (omega (arith, h.0, low)) (omega (arith, h.0, h.1, high)))
 mapped s true at n other h p low high =
     let P : Option Range → Type 0 = λ planned. IfSome planned (IsPlanned s.board) in
     let q : IsPlanned s.board (record { base = s.base; len = s.len }) = subst P h.0 p in
-    ap (λ (o : Option (List ℕ)). or_else o other) (region_is s s.board.ram at n (omega (arith, q.0, low)) (omega (arith, q.1, high)))
+    ap (λ (o : Option (List ℕ)). option_or o other) (region_is s s.board.ram at n (omega (arith, q.0, low)) (omega (arith, q.1, high)))
 
 pub list_length : (s : StoreState) → IsStoreState s → length (hob_list s) ≡ end_place s + 8
 list_length s h =

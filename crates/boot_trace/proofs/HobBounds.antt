@@ -1,11 +1,10 @@
 -- How many HOBs a store has at most, and how high its heap ends.
-use Rattle.std.proofs.Common.{◌≡◌, ◌+◌, ◌*◌, ◌≤◌, ◌<◌, Bool, true, false, List, [], ◌∷◌, length, arith, subst, Option, sum_by, IfSome}
-use Rattle.std.proofs.lemmas.List.Sums.{sum_by-cons}
-use Rattle.store_model.specs.declared.state.HobEntry.{HobEntry}
-use Rattle.store_model.specs.StoreState.{StoreState, Range, hob_len, end_place}
+use Rattle.std.proofs.Common.{◌+◌, ◌≤◌, ◌<◌, Bool, true, false, length, arith, subst, Option, IfSome}
+use Rattle.store_model.specs.StoreState.{StoreState, Range, end_place}
 use Rattle.store_model.specs.StateFacts.{IsStoreState, IsBoard, IsHeap, IsPlanned}
 use Rattle.boot_trace.specs.HobLines.{all_hobs}
 use Rattle.boot_trace.proofs.HobPlaces.{end_is}
+use Rattle.store_laws.proofs.Fits.{hobs_len}
 
 -- the heap is no longer than RAM may be
 heap_len : (s : StoreState) (moved : Bool) → IsHeap s moved → IfSome s.planned (IsPlanned s.board) → IsBoard s.board → s.len ≤ 0x10000000
@@ -17,11 +16,6 @@ heap_len s true h p b =
 
 pub small_heap : (s : StoreState) → IsStoreState s → end_place s + 8 ≤ 0x10000000
 small_heap s h = let len = heap_len s s.moved h.heap h.planned h.board in omega (arith, len, h.room)
-
--- so that there are few HOBs
-hobs_len : (hobs : List HobEntry) → length hobs * 8 ≤ sum_by hob_len hobs
-hobs_len [] = omega arith
-hobs_len (hob ∷ hobs) = let c : sum_by hob_len (hob ∷ hobs) ≡ hob_len hob + sum_by hob_len hobs = sum_by-cons hob_len hob hobs in omega (arith, c, hobs_len hobs)
 
 pub few_hobs : (s : StoreState) → IsStoreState s → length (all_hobs s) < 0x10000000
 few_hobs s h = omega (arith, hobs_len (all_hobs s), end_is s, small_heap s h)

@@ -8,7 +8,8 @@ use Rattle.pi_base.specs.declared.phase.Phase.{Phase}
 use Rattle.depex_code.specs.declared.instruction.Instruction.{Instruction}
 use Rattle.depex_code.specs.declared.depex.Depex.{Depex}
 use Rattle.depex_code.specs.Instruction.{instruction_bytes, IsWhole}
-use Rattle.depex_code.specs.Expression.{instructions, IsOfPhase, GoesOn, bytes_of, Begins, Reads, IsMalformed}
+use Rattle.depex_code.specs.Expression.{instructions, IsOfPhase, GoesOn, bytes_of, Reads, IsMalformed}
+use Rattle.pi_base.specs.Lists.{Begins}
 use Rattle.depex_code.specs.Reading.{instruction_at}
 use Rattle.depex_code.proofs.Instructions.{instruction_again}
 use Rattle.depex_code.proofs.TreeWalk.{bytes_of-append}

@@ -16,7 +16,8 @@ use Rattle.depex_code.specs.declared.fault.DepexFault.TheVariants.{Malformed, Me
 use Rattle.depex_code.specs.Tree.{DepexTree, postfix}
 use Rattle.depex_code.specs.TreeCode.{stack_after}
 use Rattle.depex_code.specs.Instruction.{instruction_bytes, IsWhole}
-use Rattle.depex_code.specs.Expression.{instructions, sor_front, GoesOn, bytes_of, Begins, Reads, IsMalformed, IsRefused}
+use Rattle.depex_code.specs.Expression.{instructions, sor_front, GoesOn, bytes_of, Reads, IsMalformed, IsRefused}
+use Rattle.pi_base.specs.Lists.{Begins}
 use Rattle.depex_code.specs.Reading.{instruction_at, Blocks, IsStuck, IsTreeRead, IsTreeDepex, IsBeside, from_of}
 use Rattle.depex_code.proofs.Instructions.{instruction_takes, instruction_again, length-instruction_bytes}
 use Rattle.depex_code.proofs.TreeWalk.{bytes_of-append, all-append}

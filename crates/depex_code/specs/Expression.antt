@@ -11,6 +11,7 @@ use Rattle.depex_code.specs.declared.fault.DepexFault.{DepexFault}
 use Rattle.depex_code.specs.declared.fault.DepexFault.TheVariants.{Malformed, Memory}
 use Rattle.depex_code.specs.Tree.{postfix}
 use Rattle.depex_code.specs.Instruction.{instruction_bytes, IsWhole}
+use Rattle.pi_base.specs.Lists.{Begins}
 
 -- SOR in front, where it is there
 abbrev pub sor_front : Bool → List Instruction
@@ -33,10 +34,6 @@ IsOfPhase Dxe expression = ⊤
 -- the bytes of opcodes
 abbrev pub bytes_of : List Instruction → List ℕ
 bytes_of = flat_map instruction_bytes
-
--- the bytes begin with a text
-abbrev pub Begins : List ℕ → List ℕ → Type 0
-Begins bytes text = (rest : List ℕ) × (bytes ≡ text ++ rest)
 
 -- an expression of the phase stands at the front of the bytes: its one spelling, of at most 1,024 opcodes
 pub record Reads (phase : Phase) (bytes : List ℕ) (expression : Depex) : Type 0 where

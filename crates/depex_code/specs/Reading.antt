@@ -17,7 +17,8 @@ use Rattle.depex_code.specs.Depth.{depth_after}
 use Rattle.depex_code.specs.Tree.{DepexTree, postfix}
 use Rattle.depex_code.specs.TreeCode.{built, stack_after}
 use Rattle.depex_code.specs.Instruction.{IsWhole}
-use Rattle.depex_code.specs.Expression.{bytes_of, Begins}
+use Rattle.depex_code.specs.Expression.{bytes_of}
+use Rattle.pi_base.specs.Lists.{Begins}
 
 -- the GUID at the front, and the bytes behind it
 abbrev pub guid_front : List ℕ → Option (Guid × List ℕ)

@@ -22,7 +22,8 @@ use Rattle.dxe_core.specs.declared.event.Stepped.TheVariants.{Went, Idle, Ended}
 use Rattle.dxe_core.specs.Parts.{FiresNext, HasDiscovered, RunsWith, next_of_top}
 use Rattle.dxe_core.specs.Standing.{DxeCore, StandsFor}
 use Rattle.dxe_core.specs.Steps.{HasOver, HasStayed, HasStepped, IsCut, IsIdle, StepsTo}
-use Rattle.dxe_core.specs.Turn.{Texts, PrintedPart}
+use Rattle.dxe_core.specs.Turn.{PrintedPart}
+use Rattle.boot_trace.specs.Printing.{Texts}
 use Rattle.dxe_core.proofs.ProtocolChanges.{protocols_change}
 
 -- by what the top frame's sweep gives

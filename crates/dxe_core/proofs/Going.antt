@@ -16,7 +16,8 @@ use Rattle.dxe_core.specs.declared.event.Event.{Event}
 use Rattle.dxe_core.specs.declared.event.Stepped.{Stepped}
 use Rattle.dxe_core.specs.Parts.{TakesTo, acted_to}
 use Rattle.dxe_core.specs.Steps.{HasStepped, StepsTo}
-use Rattle.dxe_core.specs.Turn.{Texts, Printed, PrintedPart}
+use Rattle.dxe_core.specs.Turn.{Printed, PrintedPart}
+use Rattle.boot_trace.specs.Printing.{Texts}
 
 abbrev pub texts : Option (List ℕ) → Option (List ℕ) → Texts
 texts old new = record { old = old; new = new }

@@ -25,7 +25,8 @@ use Rattle.dxe_core.specs.declared.event.Event.{Event}
 use Rattle.dxe_core.specs.declared.event.Stepped.{Stepped}
 use Rattle.dxe_core.specs.Standing.{DxeCore, IsCoreOf, IsFor, StandsFor}
 use Rattle.dxe_core.specs.Steps.{HasOver, HasStepped, StepsTo}
-use Rattle.dxe_core.specs.Turn.{Texts, PrintedPart}
+use Rattle.dxe_core.specs.Turn.{PrintedPart}
+use Rattle.boot_trace.specs.Printing.{Texts}
 
 -- this notification of a frame's sweep begins next, with that sweep behind it, or none does
 abbrev pub FiresNext : Option (ProtocolNote × ProtocolSweep) → DxeMachine → DriverFrame → Type 0

@@ -25,7 +25,8 @@ use Rattle.dxe_core.specs.declared.event.Event.{Event}
 use Rattle.dxe_core.specs.declared.event.Stepped.{Stepped}
 use Rattle.dxe_core.specs.declared.event.Stepped.TheVariants.{Went, Idle, Ended}
 use Rattle.dxe_core.specs.Standing.{DxeCore, IsCoreOf, IsFor, StandsFor}
-use Rattle.dxe_core.specs.Turn.{Texts, Printed, PrintedPart}
+use Rattle.dxe_core.specs.Turn.{Printed, PrintedPart}
+use Rattle.boot_trace.specs.Printing.{Texts}
 
 -- no script runs: a start or the end is left
 abbrev pub IsIdle : DxeMachine → Type 0

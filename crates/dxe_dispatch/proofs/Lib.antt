@@ -6,4 +6,4 @@ mod Standing
 mod Told
 mod Turning
 mod Waits
-mod Ways
+pub mod Ways

@@ -28,7 +28,8 @@ use Rattle.dxe_choice.specs.Queue.{AreNew, Discovers, HasVolumes, Queue, IsQueue
 use Rattle.dxe_core.specs.declared.event.Event.{Event}
 use Rattle.dxe_core.specs.Standing.{DxeCore, StandsFor}
 use Rattle.dxe_core.specs.Steps.{IsIdle, IsEvent, HasOver, HasStepped, HasEnded}
-use Rattle.dxe_core.specs.Turn.{Texts, Printed, PrintedPart}
+use Rattle.dxe_core.specs.Turn.{Printed, PrintedPart}
+use Rattle.boot_trace.specs.Printing.{Texts}
 use Rattle.dxe_dispatch.specs.Ends.{IsNow}
 use Rattle.dxe_dispatch.specs.Events.{HasEvent}
 use Rattle.dxe_dispatch.specs.Turns.{AreOf, HasTurned, IsOver, IsWithin, TurnsTo, stop_lines}

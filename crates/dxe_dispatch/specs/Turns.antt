@@ -21,7 +21,8 @@ use Rattle.boot_laws.specs.UnrequestedDrivers.{WaitForRequest}
 use Rattle.dxe_choice.specs.Queue.{Queue, IsQueueOf, ComesNext}
 use Rattle.dxe_core.specs.Standing.{DxeCore, IsCoreOf, IsFor}
 use Rattle.dxe_core.specs.Steps.{IsIdle}
-use Rattle.dxe_core.specs.Turn.{Texts, Printed, PrintedPart}
+use Rattle.dxe_core.specs.Turn.{Printed, PrintedPart}
+use Rattle.boot_trace.specs.Printing.{Texts}
 use Rattle.dxe_dispatch.specs.Ends.{IsNow}
 
 -- the core and the queue stand for a machine, whatever its store

@@ -10,5 +10,5 @@ mod turns;
 mod waiting;
 
 pub use boot::{Ended, boot_dxe, dxe_at_opening};
-pub use run::run_dxe;
+pub use run::{bound, run_dxe};
 pub use turns::turn;

@@ -19,8 +19,8 @@ use dxe_core::{Dxe, put_volumes};
 use std::sync::ledger::Ledger;
 use store_model::PeiStore;
 
-// How many steps a run has at most.
-fn bound(catalog: &Catalog, fuel: u32) -> u64
+/// How many steps a run of DXE has at most.
+pub fn bound(catalog: &Catalog, fuel: u32) -> u64
     requires { length catalog.now.modules ≤ MOST_MODULES }
     ensures { result ≡ dxe_bound catalog.now fuel }
 {

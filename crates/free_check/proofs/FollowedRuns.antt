@@ -9,7 +9,7 @@ use Rattle.store_model.specs.StoreState.{StoreState}
 use Rattle.boot_model.specs.declared.line.Line.{Line}
 use Rattle.boot_model.specs.declared.phase_end.DxeEnd.{DxeEnd}
 use Rattle.boot_model.specs.Discovery.{discovery_lines}
-use Rattle.boot_model.specs.DxeChoice.{a_priori_drivers, discovered_order, drivers_of}
+use Rattle.boot_model.specs.DxeChoice.{a_priori_drivers}
 use Rattle.boot_model.specs.DxeMachine.{DxeMachine}
 use Rattle.boot_model.specs.DxeRun.{dxe_bound, dxe_opening}
 use Rattle.boot_model.specs.FreeRun.{AreFreeDxeLines}
@@ -17,9 +17,7 @@ use Rattle.boot_model.specs.PeiMachine.{PeiMachine}
 use Rattle.boot_model.specs.Text.{text_of}
 use Rattle.boot_laws.specs.UnrequestedDrivers.{UnrequestedDriversWait}
 use Rattle.store_model.specs.HandleState.{HandleState, no_handles}
-use Rattle.boot_model.specs.Licence.{AllDiffer}
-use Rattle.driver_order.specs.Order.{Drivers, IsOrderOf}
-use Rattle.dxe_choice.specs.Queue.{AreNew, Discovers, HasVolumes, IsNewQueue, IsQueueOf, Queue}
+use Rattle.dxe_choice.specs.Queue.{Discovers, HasVolumes, IsNewQueue, IsQueueOf, Queue}
 use Rattle.dxe_core.specs.Standing.{DxeCore, IsCoreOf, IsFor, StandsFor}
 use Rattle.dxe_dispatch.specs.Ends.{IsNow}
 use Rattle.free_laws.specs.DxeFree.{DxeEndsFreely, DxeLinesGrow}
@@ -181,14 +179,6 @@ one_left counter bound all below is = omega (arith, below, is)
 
 pub none_left : (counter bound all : ℕ) → all ≤ counter → all ≡ bound → bound - counter ≡ 0
 none_left counter bound all above is = omega (arith, above, is)
-
--- the drivers of the opening are those of its volumes, each once
-pub opening_drivers : (catalog : Catalog) (queue : Queue) (order : Drivers) (opening : DxeMachine) → IsNewQueue catalog queue → IsOrderOf catalog opening.discovered order → AllDiffer (discovered_order catalog opening) → AreNew catalog queue order 0
-opening_drivers catalog queue order opening new o once = record {
-  within = omega arith;
-  drivers = o.drivers_are ∙ ap (drivers_of catalog) (sym o.volumes_are) ∙ ap (λ xs. xs ++ drivers_of catalog (drop 0 order.volumes)) (sym new.order);
-  differ = subst AllDiffer (sym o.drivers_are) once;
-}
 
 -- the text is off, or memory was wanting
 pub followed_err : (On Now : DxeMachine → Type 0) (boot : Boot) (m : DxeMachine) (handles : HandleState) (text : Spelled) (parted : Parted) → TurnsTo On Now boot m text (Err parted)

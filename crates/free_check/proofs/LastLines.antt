@@ -1,9 +1,8 @@
 -- The last lines of a boot against a text.
-use Rattle.std.proofs.Common.{◌≡◌, ℕ, ◌+◌, ◌-◌, ◌^◌, List, [], ◌++◌, refl, sym, ap, ◌∙◌, arith, inl, Some}
-use Rattle.std.specs.Prelude.{min}
+use Rattle.std.proofs.Common.{◌≡◌, ℕ, ◌+◌, ◌-◌, List, [], ◌++◌, refl, sym, ◌∙◌, inl, Some}
 use Rattle.std.proofs.lemmas.List.{append-nil}
 use Rattle.std.specs.Io.KnownBytes.{Appends}
-use Rattle.boot_io.specs.Faults.{IsPrefix, Rose}
+use Rattle.boot_io.specs.Faults.{IsPrefix}
 use Rattle.boot_io.specs.Sink.{AppendsPart}
 use Rattle.boot_model.specs.declared.line.Line.{Line}
 use Rattle.boot_model.specs.Text.{text_of}
@@ -14,12 +13,6 @@ use Rattle.free_text.specs.Spelled.{IsHeld, IsRight, met, spoken}
 use Rattle.free_text.proofs.Fronts.{prefix_then}
 use Rattle.free_text.proofs.Telling.{failed, goes_on, held_on, off}
 use Rattle.free_check.specs.Following.{IsLast, IsWhole}
-
--- a text that failed once is not right
-pub not_right : (before now : ℕ) → before ≡ 0 → Rose before now → now ≡ 0 → ⊥
-not_right before now none rose is =
-    let least : min (before + 1) (2 ^ 64 - 1) ≡ 1 = ap (λ n. min (n + 1) (2 ^ 64 - 1)) none in
-    omega (arith, least, rose, is)
 
 -- the last lines were met
 pub whole_by : (Lines : List Line → Type 0) (old new : Spelled) (text printed last : List ℕ) → IsHeld old text printed → IsLast Lines printed last → IsRight new → Appends (Some (spoken old)) (Some (spoken new)) last

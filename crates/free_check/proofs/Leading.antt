@@ -1,10 +1,6 @@
 -- From the text's next line to the driver of the group that it starts.
-use Rattle.std.proofs.Common.{◌≡◌, ℕ, zero, suc, ◌<◌, ◌≤◌, ◌+◌, ◌-◌, Bool, true, false, ◌&&◌, not, List, [], ◌∷◌, ◌++◌, Option, Some, None, length, refl, sym, ap, ◌∙◌, subst, arith, is_some}
+use Rattle.std.proofs.Common.{◌≡◌, ℕ, zero, suc, ◌<◌, ◌≤◌, ◌+◌, ◌-◌, true, List, [], ◌∷◌, Option, Some, None, length, refl, sym, ap, ◌∙◌, subst, arith, is_some}
 use Rattle.std.specs.Prelude.{slice_get, unwrap_or, option_map}
-use Rattle.std.specs.List.{list_all}
-use Rattle.boot_io.specs.Faults.{IsPrefix}
-use Rattle.boot_io.specs.Line.{spaced}
-use Rattle.std.specs.Prelude.{flat_map}
 use Rattle.pi_base.specs.declared.guid.Guid.{Guid}
 use Rattle.pi_base.specs.declared.phase.Phase.TheVariants.{Dxe}
 use Rattle.pi_base.specs.Lists.{Each}
@@ -13,24 +9,17 @@ use Rattle.catalog_model.specs.declared.catalog.Module.{Module}
 use Rattle.catalog_model.specs.Parts.{module_name, module_volume, part_at, part_of}
 use Rattle.catalog_model.specs.WellFormed.{IsWellFormed}
 use Rattle.boot_model.specs.declared.driver.Scheduled.{Scheduled}
-use Rattle.boot_model.specs.declared.line.Line.{Line}
 use Rattle.boot_model.specs.DriverLicence.{numbers_of, target_of}
 use Rattle.boot_model.specs.DxeChoice.{companion_group, driver_licence, group_scheduled, schedule_of}
 use Rattle.boot_model.specs.DxeMachine.{DxeMachine}
 use Rattle.boot_model.specs.FreeRun.{MaySchedule}
-use Rattle.boot_model.specs.Text.{keyword, line_text, words}
 use Rattle.boot_model.proofs.ListFacts.{within}
 use Rattle.free_laws.specs.DxeAim.{GroupsAreAimed, IsChoosing, NamesLeadToRoot, follows}
 use Rattle.free_laws.specs.DxeUnderWay.{FewDriversWait, IsDriverOf, IsUnderWay}
 use Rattle.free_text.specs.declared.spelled.Spelled.{Spelled}
-use Rattle.free_text.specs.Lines.{BeginsWithLine, Lacks, is_feed}
 use Rattle.free_text.specs.Spelled.{IsRight, left}
 use Rattle.module_names.specs.Named.{AreGuids, AreNames, IsNamed}
 use Rattle.printed_words.specs.Words.{IsGuid}
-use Rattle.trace_reader.specs.Readable.{IsLineOf, IsReadable}
-use Rattle.printed_words.proofs.LineFeeds.{same_line}
-use Rattle.trace_reader.proofs.LineBodies.{body_lacks, line_then}
-use Rattle.trace_reader.proofs.OneReading.{text_one}
 use Rattle.free_check.specs.DxeAim.{BeginsWithStart, LeadsTo, NamesNext}
 use Rattle.free_check.proofs.FreeSteps.{AreReadable}
 
@@ -117,31 +106,6 @@ pub leads_nowhere : (laws : LeadLaws) (catalog : Catalog) (m : DxeMachine) (name
     → AreNames catalog (length catalog.modules) names → AreGuids catalog → IsUnderWay catalog m → IsChoosing m → IsRight text → LeadsTo catalog m (left text) None
 leads_nowhere laws catalog m names text found none next well are guids way choosing right other first rest may group begins =
     absurd (no_number first.module_number (sym none ∙ number_next laws catalog m names text found other first rest next well are guids way choosing right may group begins))
-
--- a line feed is there
-lacks_none : (front rest : List ℕ) → Lacks (front ++ 10 ∷ rest) → ⊥
-lacks_none [] rest lacks = let e : (not (is_feed 10) && list_all (λ byte. not (is_feed byte)) rest) ≡ false = refl in cc
-lacks_none (x ∷ xs) rest lacks = lacks_none xs rest (second (not (is_feed x)) _ lacks)
-  where
-    second : (a b : Bool) → (a && b) ≡ true → b ≡ true
-    second true b e = e
-    second false b e = absurd (cc)
-
--- a text that goes on with a line has a next line
-pub line_there : (line : Line) (bytes : List ℕ) → IsPrefix (line_text line) bytes → Lacks bytes → ⊥
-line_there line bytes begins lacks = lacks_none (keyword line ++ flat_map spaced (words line)) begins.0 (subst Lacks (begins.1 ∙ line_then line begins.0) lacks)
-
--- which is that one
-pub next_is : (line : Line) (bytes read : List ℕ) → IsReadable line → IsPrefix (line_text line) bytes → BeginsWithLine bytes read → IsLineOf read line
-next_is line bytes read readable begins next =
-    (readable, same_line read (keyword line ++ flat_map spaced (words line)) next.rest begins.0 next.lacks (body_lacks line readable) (sym next.is ∙ begins.1 ∙ line_then line begins.0))
-
--- and is read as it
-pub read_is : (line found : Line) (bytes : List ℕ) → IsLineOf bytes line → IsLineOf bytes found → found ≡ line
-read_is line found bytes is read = text_one found line read.0 is.0 (ap (λ b. b ++ 10 ∷ []) (sym read.1 ∙ is.1))
-
-pub same_pair : (a b : ℕ × Guid) → Some a ≡ Some b → (a.0 ≡ b.0) × (a.1 ≡ b.1)
-same_pair a b e = let same : a ≡ b = cc in (ap (λ p. p.0) same, ap (λ p. p.1) same)
 
 -- one name nearer to the root
 pub follows_left : (catalog : Catalog) (m : DxeMachine) (all counter number target : ℕ) → counter < all → target_of catalog m number ≡ Some target → follows catalog m (all - counter) number ≡ follows catalog m (all - (counter + 1)) target

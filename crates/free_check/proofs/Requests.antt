@@ -1,6 +1,6 @@
 -- In each machine of a free boot a driver with SOR that nobody requested waits, unless its volume's a priori list has it.
 use Rattle.std.proofs.Common.{◌≡◌, ℕ, zero, suc, ◌==◌, Bool, true, false, not, ◌&&◌, ◌||◌, cond, List, [], ◌∷◌, ◌++◌, length, Option, Some, None, refl, sym, ap, ◌∙◌, subst, inl, inr, is_some, nat_le}
-use Rattle.std.specs.Prelude.{◌≢◌, find, filter, is_none}
+use Rattle.std.specs.Prelude.{◌≢◌, is_none}
 use Rattle.std.specs.Option.{option_and_then}
 use Rattle.std.specs.List.{list_any}
 use Rattle.std.proofs.lemmas.List.Folds.{list_any-append}
@@ -36,28 +36,11 @@ use Rattle.boot_laws.proofs.DxeOnce.{priori_numbers}
 use Rattle.boot_laws.proofs.Groups.{all_stand}
 use Rattle.free_laws.specs.DxeFree.{IsOwnCase}
 use Rattle.free_laws.specs.DxeUnderWay.{IsDriverOf, IsUnderWay}
+use Rattle.boot_laws.proofs.Unrequested.{find_filtered, still_asks, alike, some_rank}
 
 -- what is said of one driver after the other
 abbrev Waits : Catalog → DxeMachine → Type 0
 Waits catalog m = (number : ℕ) → IsDiscovered catalog m number → is_unrequested catalog m number ≡ true → is_waiting m number ≡ is_none (rank_at Dxe catalog number)
-
--- the first that waits is the first of those without a rank
-find_filtered_step : (p : ℕ → Bool) (x : ℕ) (xs : List ℕ) (b : Bool) (found : Option ℕ) → find p xs ≡ found → find p (cond b (x ∷ xs) xs) ≡ cond (b && p x) (Some x) found
-find_filtered_step p x xs true found e = ap (λ f. cond (p x) (Some x) f) e
-find_filtered_step p x xs false found e = e
-
-find_filtered : (p q r : ℕ → Bool) (xs : List ℕ) → Each (λ x. (q x && p x) ≡ (r x && p x)) xs → find p (filter q xs) ≡ find (λ x. r x && p x) xs
-find_filtered p q r [] e = refl
-find_filtered p q r (x ∷ xs) e =
-    find_filtered_step p x (filter q xs) (q x) (find (λ x. r x && p x) xs) (find_filtered p q r xs e.1) ∙ ap (λ b. cond b (Some x) (find (λ x. r x && p x) xs)) e.0
-
-alike : (unrequested same waits none : Bool) → (unrequested ≡ true → waits ≡ none) → (waits && (unrequested && same)) ≡ (none && (unrequested && same))
-alike true same waits none f = ap (λ b. b && same) (f refl)
-alike false same waits none f = none_is waits ∙ sym (none_is none)
-  where
-    none_is : (b : Bool) → (b && false) ≡ false
-    none_is true = refl
-    none_is false = refl
 
 -- the driver of a name is found without the queue
 whole : (catalog : Catalog) (m : DxeMachine) → Waits catalog m → WaitForRequest catalog m
@@ -71,13 +54,6 @@ whole catalog m waits = record {
       (λ number is. alike (is_unrequested catalog m number) (same_guid (module_name catalog number) name) (is_waiting m number) (Unranked number) (waits number is))
       (known_of catalog (parts_in Dxe catalog) (drivers_are catalog) m.discovered));
 }
-
--- more requests
-still_asks : (a old new : Bool) → (old ≡ true → new ≡ true) → (a && not new) ≡ true → (a && not old) ≡ true
-still_asks true true true f h = h
-still_asks true true false f h = let yes = f refl in cc
-still_asks true false new f h = refl
-still_asks false old new f h = h
 
 was_unrequested : (catalog : Catalog) (m later : DxeMachine) (number : ℕ) → BeginsWith m.requested later.requested → is_unrequested catalog later number ≡ true → is_unrequested catalog m number ≡ true
 was_unrequested catalog m later number more asks =
@@ -110,10 +86,6 @@ waits_more m later added n scheduled started =
     ap (λ xs. not (is_in xs n) && not (has_number later.started n)) scheduled ∙ ap (λ ns. not (is_in (m.scheduled ++ added) n) && not (has_number ns n)) started
     ∙ ap (λ b. not b && not (has_number m.started n)) (list_any-append (λ (next : Scheduled). next.module_number == n) m.scheduled added)
     ∙ neither (is_in m.scheduled n) (is_in added n) (not (has_number m.started n))
-
-some_rank : (o : Option ℕ) → is_some o ≡ true → (r : ℕ) × (o ≡ Some r)
-some_rank None h = cc
-some_rank (Some r) h = (r, refl)
 
 -- a driver in the list of one of these volumes is scheduled by them
 scheduled_by : (catalog : Catalog) (volumes : List ℕ) (number : ℕ) → IsWellFormed catalog → is_some (part_at Dxe catalog number) ≡ true → has_number volumes (module_volume catalog number) ≡ true

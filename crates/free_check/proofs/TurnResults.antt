@@ -20,7 +20,8 @@ use Rattle.boot_laws.specs.UnrequestedDrivers.{WaitForRequest}
 use Rattle.boot_laws.proofs.EachDriver.{has_each_once}
 use Rattle.dxe_choice.specs.Queue.{IsQueueOf, Queue}
 use Rattle.dxe_core.specs.Standing.{DxeCore}
-use Rattle.dxe_core.specs.Turn.{Printed, PrintedPart, Texts}
+use Rattle.dxe_core.specs.Turn.{Printed, PrintedPart}
+use Rattle.boot_trace.specs.Printing.{Texts}
 use Rattle.dxe_dispatch.specs.Ends.{IsNow}
 use Rattle.dxe_dispatch.specs.Turns.{IsReady, TurnsTo as StepsTo}
 use Rattle.dxe_dispatch.proofs.Growing.{step_grew}

@@ -1,5 +1,5 @@
 // The choice that is aimed at the driver that a text starts next.
-ghost use Rattle.std.specs.Prelude.{◌≡◌, ◌≤◌, ◌+◌, ◌↔◌, [], IsTrue, OnOk, length};
+ghost use Rattle.std.specs.Prelude.{◌≡◌, ◌↔◌, [], IsTrue, OnOk, length};
 ghost use Rattle.boot_model.specs.DxeMachine.{DxeMachine};
 ghost use Rattle.catalog_model.specs.WellFormed.{IsWellFormed};
 ghost use Rattle.dxe_choice.specs.Queue.{IsQueueFor};
@@ -7,7 +7,7 @@ ghost use Rattle.dxe_dispatch.specs.Turns.{AreOf};
 ghost use Rattle.free_check.specs.DxeAim.{AimsByText, LeadsByText};
 ghost use Rattle.module_names.specs.Named.{AreGuids, AreNames};
 
-use crate::dxe_next::next_start;
+use crate::dxe_next::next_driver;
 use crate::dxe_target::root_of;
 use catalog_model::Catalog;
 use depex_code::Steps;
@@ -35,7 +35,7 @@ fn next_root(
     names_lead_to_root();
     few_drivers_wait();
     groups_are_aimed();
-    match next_start(names, text) {
+    match next_driver(names, text) {
         Some(number) => Some(root_of(catalog, order, number)),
         None => None,
     }

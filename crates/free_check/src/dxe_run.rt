@@ -1,7 +1,5 @@
 // DXE as a text has it.
-ghost use Rattle.std.specs.Prelude.{◌≡◌, ◌≤◌, ◌<◌, ◌^◌, ℕ, OnOk, length};
-ghost use Rattle.boot_model.specs.DxeRun.{dxe_bound};
-ghost use Rattle.catalog_model.specs.declared.limits.TheConstants.{MOST_MODULES};
+ghost use Rattle.std.specs.Prelude.{◌<◌, ◌^◌, ℕ, OnOk, length};
 ghost use Rattle.catalog_model.specs.WellFormed.{IsWellFormed};
 ghost use Rattle.dxe_choice.specs.Queue.{IsNewQueue, IsQueueFor};
 ghost use Rattle.dxe_core.specs.Standing.{IsFor};
@@ -12,24 +10,17 @@ ghost use Rattle.module_names.specs.Named.{AreNames};
 
 use crate::dxe_turn::turn_by_text;
 use boot_laws::{discovered_order_has_each_once, unrequested_drivers_wait};
-use boot_model::{DxeEnd, MOST_FRAMES};
+use boot_model::DxeEnd;
 use catalog_model::Catalog;
 use depex_code::Steps;
 use dxe_choice::DriverQueue;
 use dxe_core::{Dxe, put_volumes};
+use dxe_dispatch::bound;
 use free_laws::{dxe_ends, dxe_lines_grow, dxe_opens};
 use free_text::{Parted, Spelled, text_tells};
 use module_names::{Names, names_are_guids};
 use std::sync::ledger::Ledger;
 use store_model::PeiStore;
-
-// How many steps a free run has at most.
-fn bound(catalog: &Catalog, fuel: u32) -> u64
-    requires { length catalog.now.modules ≤ MOST_MODULES }
-    ensures { result ≡ dxe_bound catalog.now fuel }
-{
-    2 * u64::from(fuel) + MOST_FRAMES as u64 + catalog.modules.len() as u64 + 1
-}
 
 /// DXE as a text has it, from the opening to its end: the lines of the volumes that were discovered, and then a step at a time. `dxe` is the core at its opening, and `queue` is new. The text is off where no free boot of the plan goes on as it does.
 pub(crate) fn run_dxe_by_text<M: PeiStore, L: Ledger>(

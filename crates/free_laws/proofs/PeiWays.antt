@@ -1,13 +1,12 @@
 -- A free boot in PEI stays under way, and each free step brings its end nearer.
 use Rattle.std.proofs.Common.{◌≡◌, ℕ, ◌+◌, ◌≤◌, ◌<◌, Bool, true, false, not, ◌&&◌, cond, List, [], ◌∷◌, Option, Some, None, refl, sym, ap, subst, ◌∙◌, Ok, Err, nat_le, length, arith, is_some}
-use Rattle.std.specs.Prelude.{filter, is_none}
 use Rattle.std.specs.Option.{option_and_then}
 use Rattle.pi_base.specs.declared.phase.Phase.TheVariants.{Pei}
 use Rattle.pi_base.specs.Lists.{Each, numbers}
 use Rattle.act_code.specs.declared.action.Action.{Action}
 use Rattle.catalog_model.specs.declared.catalog.Catalog.{Catalog}
 use Rattle.catalog_model.specs.declared.catalog.Part.{Part}
-use Rattle.catalog_model.specs.Parts.{has_number, part_of, part_at, rank_at, parts_in}
+use Rattle.catalog_model.specs.Parts.{has_number, part_of, part_at}
 use Rattle.store_model.specs.declared.store_handle.Sweep.{Sweep}
 use Rattle.store_model.specs.Service.{Service}
 use Rattle.store_model.specs.Service.Sweep.{next_match}
@@ -17,19 +16,20 @@ use Rattle.store_model.specs.Migration.{migration}
 use Rattle.boot_model.specs.declared.line.Line.TheVariants as L
 use Rattle.boot_model.specs.declared.phase_end.PeiEnd.TheVariants.{Spent, Deep}
 use Rattle.boot_model.specs.Eligible.{is_eligible, may_start_again}
-use Rattle.boot_model.specs.PeiChoice.{ranked, volume_order, pei_order, rotated, next_peim}
+use Rattle.boot_model.specs.PeiChoice.{volume_order, pei_order, rotated, next_peim}
 use Rattle.boot_model.specs.PeiMachine.{PeiMachine, Frame, printed}
 use Rattle.boot_model.specs.PeiAction.{Effect, Wrote, Called, Own, Shadowed, Logged, Skipped, Returned, effect}
 use Rattle.boot_model.specs.PeiStep.{PeiCase, Fires, Acts, Moves, Pops, Starts, Stops, case_of, in_case, pei_step, started, callback_begun, action_at, after_effect, core_called, started_part, start_frames, open_sweep, swept}
 use Rattle.boot_model.specs.FreeRun.{MayStart, IsFreeIn}
-use Rattle.boot_model.proofs.ListFacts.{each_append, each_filter, each_flat, each_more, each_at, each_has, each_found, within}
+use Rattle.boot_model.proofs.ListFacts.{each_flat, each_more, each_at, each_has, each_found, within}
 use Rattle.boot_laws.proofs.Counting as C
-use Rattle.boot_laws.proofs.PartLists.{IsPartOfVolume, parts_are, each_ranked, each_of}
+use Rattle.boot_laws.proofs.PartLists.{IsPartOfVolume, each_of}
 use Rattle.boot_laws.proofs.PeiCases.{fires_from, acts_from, starts_from}
 use Rattle.boot_laws.proofs.PeiSteps as P
 use Rattle.free_laws.specs.PeiUnderWay.{SweepsAreLater, IsUnderWay, between_actions, steps_before_end, steps_left, PeiOpensUnderWay, PeiStepsRunOut, PeiHasEnded}
 use Rattle.free_laws.proofs.Begun.{not_begun, not_zero}
 use Rattle.free_laws.proofs.NumberLists.{one_if_same, missing_same, each_rotated}
+use Rattle.boot_laws.proofs.PeiOrders.{volume_parts_are}
 
 -- the facts of a run are those of the laws of the machine's own run
 sweeps_to : (frames : List Frame) → SweepsAreLater frames → P.SweepsAreLater frames
@@ -64,15 +64,6 @@ left_same catalog fuel m =
       | Some end ↦ refl
       | None ↦ before_end_same catalog fuel m
     ]
-
--- each part of the PEI order is one
-volume_parts_are : (catalog : Catalog) (volume : ℕ) → Each (IsPartOfVolume Pei catalog volume) (volume_order catalog volume)
-volume_parts_are catalog volume =
-    let all = parts_in Pei catalog volume in
-    let rank_of = rank_at Pei catalog in
-    let are = parts_are Pei catalog volume in
-    each_append (IsPartOfVolume Pei catalog volume) (ranked rank_of all) (filter (λ n. is_none (rank_of n)) all) (each_ranked (IsPartOfVolume Pei catalog volume) rank_of all are)
-    (each_filter (IsPartOfVolume Pei catalog volume) (λ n. is_none (rank_of n)) all are)
 
 order_parts : (catalog : Catalog) (reported : List ℕ) → Each (P.HasPart Pei catalog) (pei_order catalog reported)
 order_parts catalog reported =

@@ -27,7 +27,8 @@ use Rattle.pei_core.specs.declared.pei.Pei.{Pei}
 use Rattle.pei_choice.specs.declared.queue.PeiQueue.{PeiQueue}
 use Rattle.pei_core.specs.Standing.{Has, StandsFor}
 use Rattle.pei_core.specs.Steps.{IsIdle}
-use Rattle.pei_core.specs.Turn.{Texts, Printed, PrintedPart}
+use Rattle.pei_core.specs.Turn.{Printed, PrintedPart}
+use Rattle.boot_trace.specs.Printing.{Texts}
 use Rattle.pei_dispatch.specs.declared.going.Progress.{Progress}
 use Rattle.pei_dispatch.specs.Turns.{GoesTo, HasTurned, IsOver}
 use Rattle.free_text.specs.Parted.{parted_by}

@@ -1,7 +1,7 @@
 mod Choosing
 mod Facts
-mod Going
+pub mod Going
 pub mod Lines
-mod Reading
+pub mod Reading
 mod Runs
 mod Starts

@@ -4,6 +4,8 @@
 mod aim;
 mod opening;
 mod run;
+mod text_start;
 mod turn;
 
 pub use run::run_pei_by_text;
+pub use text_start::next_start;

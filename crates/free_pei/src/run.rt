@@ -1,8 +1,7 @@
 //! PEI by a text, to its end.
-ghost use Rattle.std.specs.Prelude.{◌≡◌, ◌≤◌, ℕ, [], length};
-ghost use Rattle.boot_model.specs.PeiRun.{pei_opening, pei_bound};
+ghost use Rattle.std.specs.Prelude.{◌≡◌, ℕ, [], length};
+ghost use Rattle.boot_model.specs.PeiRun.{pei_opening};
 ghost use Rattle.catalog_model.specs.WellFormed.{IsWellFormed};
-ghost use Rattle.catalog_model.specs.declared.limits.TheConstants.{MOST_MODULES};
 ghost use Rattle.store_model.specs.StoreState.{Board};
 ghost use Rattle.free_text.specs.Spelled.{IsRight, met};
 ghost use Rattle.module_names.specs.Named.{AreNames, HasNoTwins};
@@ -12,7 +11,7 @@ ghost use Rattle.free_pei.specs.ByText.{Runs};
 
 use crate::opening::open_queue;
 use crate::turn::turn_by_text;
-use boot_model::{MOST_FRAMES, PeiEnd};
+use boot_model::PeiEnd;
 use catalog_model::Catalog;
 use depex_code::Steps;
 use free_laws::{pei_ends, pei_lines_grow, pei_opens};
@@ -20,16 +19,9 @@ use free_text::{Parted, Spelled, text_tells};
 use module_names::{Names, names_are_guids};
 use pei_choice::PeiQueue;
 use pei_core::{Pei, put_reports};
+use pei_dispatch::bound;
 use std::sync::ledger::Ledger;
 use store_model::PeiStore;
-
-// How many steps a run has at most.
-fn bound(catalog: &Catalog, fuel: u32) -> u64
-    requires { length catalog.now.modules ≤ MOST_MODULES }
-    ensures { result ≡ pei_bound catalog.now fuel }
-{
-    2 * u64::from(fuel) + MOST_FRAMES as u64 + 2 * catalog.modules.len() as u64 + 2
-}
 
 /// PEI as a text has it, from its opening to its end: the lines of the opening, then a step at a time, and where a PEIM is chosen, the one that the text starts next. `queue` is the one of which no volume is reported yet, and nothing of the text was met.
 /// At the end some free boot has come so far, all of which stands in the text. Where the text is off, some free boot prints what was met, and none prints a line more of the text, or the text itself.

@@ -1,5 +1,6 @@
 -- The memory space that a HOB list tells: its resources, one after another, and then its allocations. PI 1.8, volume 3, "HOB Code Definitions". Resources of other types are passed over (own).
 use Rattle.std.specs.Prelude.{◌≡◌, ℕ, ◌+◌, ◌^◌, ◌<◌, ◌≤◌, ◌==◌, ◌||◌, if◌then◌else◌, List, [], ◌∷◌, Option, Some, None, option_map, Result, Ok, Err}
+use Rattle.std.specs.Option.{option_or}
 use Rattle.hob_codec.specs.declared.fault.HobFault.{HobFault}
 use Rattle.hob_codec.specs.declared.list.HobPlace.{HobPlace}
 use Rattle.hob_codec.specs.HobValue.{HobValue, ResourceHob, AllocationHob, CpuHob}
@@ -65,14 +66,10 @@ abbrev pub allocations : List ℕ → List HobPlace → List HobStretch
 allocations bytes [] = []
 allocations bytes (place ∷ places) = with_first (allocation_at bytes place.at) (allocations bytes places)
 
-abbrev pub or_else : Option CpuSize → Option CpuSize → Option CpuSize
-or_else None later = later
-or_else (Some cpu) later = Some cpu
-
 -- the first CPU HOB
 abbrev pub first_cpu : List ℕ → List HobPlace → Option CpuSize
 first_cpu bytes [] = None
-first_cpu bytes (place ∷ places) = or_else (cpu_at bytes place.at) (first_cpu bytes places)
+first_cpu bytes (place ∷ places) = option_or (cpu_at bytes place.at) (first_cpu bytes places)
 
 abbrev pub AreBits : ℕ → Type 0
 AreBits bits = (LEAST_BITS ≤ bits) × (bits ≤ MOST_BITS)

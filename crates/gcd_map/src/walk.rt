@@ -1,5 +1,5 @@
 // The places of a HOB list, or its own fault with its place.
-ghost use Rattle.std.specs.Prelude.{◌≡◌, ◌≢◌, ◌<◌, ◌≤◌, ◌+◌, ◌^◌, length, None, Some, IfOk, IfErr, MatchResult};
+ghost use Rattle.std.specs.Prelude.{◌≡◌, ◌≢◌, ◌<◌, ◌≤◌, ◌+◌, ◌^◌, length, None, IfOk, IfErr, MatchResult};
 ghost use Rattle.pi_base.specs.Lists.{Each};
 ghost use Rattle.hob_codec.specs.HobList.{AreHobs, fault_at, place_at};
 ghost use Rattle.gcd_map.specs.declared.fault.GcdCause.TheVariants.{Memory};
@@ -8,9 +8,9 @@ ghost use Rattle.gcd_map.specs.Places.{IsNear, IsPlaceFault};
 
 use crate::fault::{GcdCause, GcdFault};
 use crate::hobs::MOST_BYTES;
-use hob_codec::kind::{END, HANDOFF};
-use hob_codec::{HobFault, HobPlace, read_at};
-use pi_base::{Seq, u16_at};
+use hob_codec::kind::END;
+use hob_codec::{HobFault, HobPlace};
+use pi_base::Seq;
 use std::alloc::Global;
 
 fn walk_cause(fault: HobFault) -> GcdCause
@@ -25,27 +25,7 @@ fn walk_cause(fault: HobFault) -> GcdCause
     }
 }
 
-// The HOB at a place of a list, or the list's fault there.
-fn hob_place(bytes: &[u8], at: usize) -> Result<HobPlace, HobFault>
-    ensures { MatchResult result
-        (λ place. (fault_at bytes.now at ≡ None) × (place ≡ place_at bytes.now at) × (8 ≤ place.length)
-        × (at + place.length ≤ length bytes.now))
-        (λ fault. fault_at bytes.now at ≡ Some fault) }
-{
-    if at >= bytes.len() {
-        return Err(HobFault::NoEnd);
-    }
-    read_at(bytes, at)?;
-    let kind = u16_at(bytes, at);
-    let length = u16_at(bytes, at + 2);
-    if at == 0 && kind != HANDOFF {
-        Err(HobFault::Form)
-    } else {
-        Ok(HobPlace { at, kind, length })
-    }
-}
-
-// The same, with the fault at its place.
+// The HOB at a place of a list, or the list's fault there, with its place.
 fn place_or_fault(bytes: &[u8], at: usize) -> Result<HobPlace, GcdFault>
     requires { at < 2 ^ 32 }
     ensures { MatchResult result
@@ -53,7 +33,7 @@ fn place_or_fault(bytes: &[u8], at: usize) -> Result<HobPlace, GcdFault>
         × (at + place.length ≤ length bytes.now))
         (IsPlaceFault bytes.now at) }
 {
-    match hob_place(bytes, at) {
+    match HobPlace::at(bytes, at) {
         Ok(place) => Ok(place),
         Err(fault) => Err(GcdFault {
             cause: walk_cause(fault),

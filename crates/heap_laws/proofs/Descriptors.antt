@@ -1,6 +1,7 @@
 -- What is read from a descriptor in the image.
 use Rattle.std.proofs.Common.{◌≡◌, ◌⊎◌, ℕ, ◌+◌, ◌-◌, ◌≤◌, ◌<◌, ◌^◌, Bool, true, false, cond, List, [], ◌∷◌, length, take, drop, arith, ap, refl, sym, ◌∙◌, Option, Some, None}
 use Rattle.std.specs.Prelude.{unwrap_or, IfSome}
+use Rattle.std.specs.Option.{option_or}
 use Rattle.std.proofs.lemmas.Bool.Decides.{nat_tests}
 use Rattle.std.proofs.lemmas.List.{take_at}
 use Rattle.pi_base.specs.declared.guid.Guid.{Guid}
@@ -14,7 +15,7 @@ use Rattle.store_model.specs.declared.store_handle.DescKind.TheVariants.{Ppi, Ca
 use Rattle.pi_base.specs.Lists.{Each}
 use Rattle.store_model.specs.StoreState.{StoreState, body_at, body_len, descriptor_len, end_place}
 use Rattle.store_model.specs.StateFacts.{IsStoreState, IsGuidOf}
-use Rattle.store_model.specs.HeapImage.{heap_image, kind_flags, guid_address, guid_behind, descriptor_bytes, or_else}
+use Rattle.store_model.specs.HeapImage.{heap_image, kind_flags, guid_address, guid_behind, descriptor_bytes}
 use Rattle.store_model.specs.MemoryReading.{rom_bytes}
 use Rattle.store_laws.specs.Fitting.{IsFittingDescriptor}
 use Rattle.store_laws.proofs.Fits.{all_fit, body_is_of}
@@ -74,7 +75,7 @@ outside_by base len start size address le fits (◌⊎◌.inr h) = let more : ba
 
 -- bytes of a volume are none of the heap
 outside_on : (base len : ℕ) (rom : Rom) (address : ℕ) (b : Bool) (rest : Option (List ℕ)) (bytes : List ℕ) → is_inside rom.base (length rom.bytes) address 16 ≡ b
-    → (rom.base + length rom.bytes ≤ base) ⊎ (base + len ≤ rom.base) → or_else (cond b (Some (take 16 (drop (address - rom.base) rom.bytes))) None) rest ≡ Some bytes
+    → (rom.base + length rom.bytes ≤ base) ⊎ (base + len ≤ rom.base) → option_or (cond b (Some (take 16 (drop (address - rom.base) rom.bytes))) None) rest ≡ Some bytes
     → (rest ≡ Some bytes → is_inside base len address 16 ≡ false) → is_inside base len address 16 ≡ false
 outside_on base len rom address true rest bytes e apart h f =
     let le : rom.base ≤ address = grind (arith, nat_tests, e) in

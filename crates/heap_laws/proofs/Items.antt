@@ -1,12 +1,13 @@
 -- The node at a place, by a search among the items of the four lists.
 use Rattle.std.proofs.Common.{◌≡◌, ◌≢◌, ℕ, zero, suc, true, false, cond, List, [], ◌∷◌, ◌++◌, drop, arith, ap, refl, sym, subst, ◌∙◌, Option, Some, None, ◌==◌}
 use Rattle.std.specs.Prelude.{map}
+use Rattle.std.specs.Option.{option_or}
 use Rattle.std.proofs.lemmas.Bool.Decides.{nat_tests}
 use Rattle.store_model.specs.declared.state.Entry.{Entry}
 use Rattle.store_model.specs.declared.state.Pending.{Pending}
 use Rattle.pi_base.specs.Lists.{Each, Ordered}
 use Rattle.store_model.specs.StoreState.{StoreState}
-use Rattle.store_model.specs.HeapImage.{Links, links_in, pending_links_in, links_at, first_node, first_pending, or_else}
+use Rattle.store_model.specs.HeapImage.{Links, links_in, pending_links_in, links_at, first_node, first_pending}
 use Rattle.store_model.specs.declared.store_handle.EntryList.{EntryList}
 use Rattle.store_model.specs.declared.store_handle.EntryList.TheVariants.{Ppis, Callbacks, Dispatches, Pendings}
 use Rattle.heap_laws.specs.Items.{Item, item_of, queued_item, items, first_address, links_before, links_among, links_of_lists, all_lists, earlier_lists, later_lists}
@@ -39,7 +40,7 @@ queued_is base place (pending ∷ pendings) =
     ap (λ n. cond (pending.node == place) (Some (links_before (queued_item base pending) n)) (pending_links_in base place pendings)) (first_queued_is base pendings)
     ∙ ap (λ x. cond (pending.node == place) (Some (links_before (queued_item base pending) (first_address base (map (queued_item base) pendings)))) x) (queued_is base place pendings)
 
-or_none : (x : Option Links) → or_else x None ≡ x
+or_none : (x : Option Links) → option_or x None ≡ x
 or_none None = refl
 or_none (Some x) = refl
 
@@ -48,11 +49,11 @@ links_are s place =
     let a = among_is s.base place s.ppis in
     let b = among_is s.base place s.callbacks in
     let c = among_is s.base place s.dispatches in
-    let d : pending_links_in s.base place s.pendings ≡ or_else (links_among s.base place (items s Pendings)) None = queued_is s.base place s.pendings ∙ sym (or_none (links_among s.base place (items s Pendings))) in
-    ap (λ x. or_else x (or_else (links_in s.base place s.callbacks) (or_else (links_in s.base place s.dispatches) (pending_links_in s.base place s.pendings)))) a
-    ∙ ap (λ x. or_else (links_among s.base place (items s Ppis)) (or_else x (or_else (links_in s.base place s.dispatches) (pending_links_in s.base place s.pendings)))) b
-    ∙ ap (λ x. or_else (links_among s.base place (items s Ppis)) (or_else (links_among s.base place (items s Callbacks)) (or_else x (pending_links_in s.base place s.pendings)))) c
-    ∙ ap (λ x. or_else (links_among s.base place (items s Ppis)) (or_else (links_among s.base place (items s Callbacks)) (or_else (links_among s.base place (items s Dispatches)) x))) d
+    let d : pending_links_in s.base place s.pendings ≡ option_or (links_among s.base place (items s Pendings)) None = queued_is s.base place s.pendings ∙ sym (or_none (links_among s.base place (items s Pendings))) in
+    ap (λ x. option_or x (option_or (links_in s.base place s.callbacks) (option_or (links_in s.base place s.dispatches) (pending_links_in s.base place s.pendings)))) a
+    ∙ ap (λ x. option_or (links_among s.base place (items s Ppis)) (option_or x (option_or (links_in s.base place s.dispatches) (pending_links_in s.base place s.pendings)))) b
+    ∙ ap (λ x. option_or (links_among s.base place (items s Ppis)) (option_or (links_among s.base place (items s Callbacks)) (option_or x (pending_links_in s.base place s.pendings)))) c
+    ∙ ap (λ x. option_or (links_among s.base place (items s Ppis)) (option_or (links_among s.base place (items s Callbacks)) (option_or (links_among s.base place (items s Dispatches)) x))) d
 
 -- no item of a list has its node there
 abbrev pub Lacks : ℕ → List Item → Type 0
@@ -65,19 +66,19 @@ none_among base place (item ∷ list) h = rw (other_is item.node place h.0) (non
 -- one list in the place of another
 pub lists_same : (base place : ℕ) (before after : List (List Item)) (xs ys : List Item) → links_among base place xs ≡ links_among base place ys
     → links_of_lists base place (before ++ xs ∷ after) ≡ links_of_lists base place (before ++ ys ∷ after)
-lists_same base place [] after xs ys e = ap (λ x. or_else x (links_of_lists base place after)) e
-lists_same base place (list ∷ before) after xs ys e = ap (or_else (links_among base place list)) (lists_same base place before after xs ys e)
+lists_same base place [] after xs ys e = ap (λ x. option_or x (links_of_lists base place after)) e
+lists_same base place (list ∷ before) after xs ys e = ap (option_or (links_among base place list)) (lists_same base place before after xs ys e)
 
 -- found in a list, and not in those before it
 pub lists_here : (base place : ℕ) (before after : List (List Item)) (xs : List Item) (links : Links) → Each (Lacks place) before → links_among base place xs ≡ Some links
     → links_of_lists base place (before ++ xs ∷ after) ≡ Some links
-lists_here base place [] after xs links h e = ap (λ x. or_else x (links_of_lists base place after)) e
+lists_here base place [] after xs links h e = ap (λ x. option_or x (links_of_lists base place after)) e
 lists_here base place (list ∷ before) after xs links h e =
-    ap (λ x. or_else x (links_of_lists base place (before ++ xs ∷ after))) (none_among base place list h.0) ∙ lists_here base place before after xs links h.1 e
+    ap (λ x. option_or x (links_of_lists base place (before ++ xs ∷ after))) (none_among base place list h.0) ∙ lists_here base place before after xs links h.1 e
 
 pub lists_none : (base place : ℕ) (lists : List (List Item)) → Each (Lacks place) lists → links_of_lists base place lists ≡ None
 lists_none base place [] h = refl
-lists_none base place (list ∷ lists) h = ap (λ x. or_else x (links_of_lists base place lists)) (none_among base place list h.0) ∙ lists_none base place lists h.1
+lists_none base place (list ∷ lists) h = ap (λ x. option_or x (links_of_lists base place lists)) (none_among base place list h.0) ∙ lists_none base place lists h.1
 
 pub split_lists : (s : StoreState) (list : EntryList) → all_lists s ≡ earlier_lists s list ++ items s list ∷ later_lists s list
 split_lists s Ppis = refl

@@ -1,6 +1,7 @@
 -- What memory reads where its heap is the image of a state.
 use Rattle.std.proofs.Common.{◌≡◌, ◌⊎◌, ℕ, zero, suc, ◌+◌, ◌-◌, ◌≤◌, ◌<◌, Bool, true, false, cond, List, [], ◌∷◌, ◌++◌, length, take, drop, get_or, arith, ap, refl, sym, ◌∙◌, Option, Some, None, length-append}
 use Rattle.std.specs.Prelude.{⊤, replicate, map, slice_get, unwrap_or, nat_lt}
+use Rattle.std.specs.Option.{option_or}
 use Rattle.std.proofs.lemmas.Bool.Decides.{nat_tests}
 use Rattle.std.proofs.lemmas.List.{length-replicate, get_or_append_left, get_or-append_right}
 use Rattle.phys_mem.specs.Region.{is_inside, part_of}
@@ -16,15 +17,10 @@ use Rattle.heap_laws.specs.Mapped.{layout_of, regions_by, IsPlacedBy}
 use Rattle.store_model.specs.StateFacts.{AreApart, IsHeap}
 use Rattle.heap_laws.specs.Peeking.{MemoryIsRead}
 
--- two words for one thing
-same_else : (a b : Option (List ℕ)) → R.or_else a b ≡ H.or_else a b
-same_else None b = refl
-same_else (Some a) b = refl
-
 pub roms_same : (roms : List Rom) (at n : ℕ) → R.bytes_at (map rom_region roms) at n ≡ rom_bytes roms at n
 roms_same [] at n = refl
 roms_same (rom ∷ roms) at n =
-    ap (R.or_else (part_of rom.base rom.bytes at n)) (roms_same roms at n) ∙ same_else (part_of rom.base rom.bytes at n) (rom_bytes roms at n)
+    ap (option_or (part_of rom.base rom.bytes at n)) (roms_same roms at n)
 
 byte_is : (xs : List ℕ) (i : ℕ) → get_or xs i 0 ≡ unwrap_or (slice_get xs i) 0
 byte_is [] zero = refl
@@ -133,8 +129,8 @@ moved_on s image base m k i false false e f len are at =
     let all : length (replicate m 0 ++ image) ≡ m + s.len = length-append (replicate m 0) image ∙ omega (arith, size, len) in
     get_or-append_right (replicate m 0 ++ image) (replicate k 0) (m + s.len) i 0 all le ∙ zero_byte k (i - (m + s.len)) ∙ sym (byte_out s (base + i) (◌⊎◌.inr (omega (arith, le, at))))
 
-both_else : (a b : Option (List ℕ)) (c d : Option (List ℕ)) → a ≡ b → c ≡ d → R.or_else a c ≡ H.or_else b d
-both_else a b c d e f = same_else a c ∙ ap (λ x. H.or_else x c) e ∙ ap (H.or_else b) f
+both_else : (a b : Option (List ℕ)) (c d : Option (List ℕ)) → a ≡ b → c ≡ d → option_or a c ≡ option_or b d
+both_else a b c d e f = ap (λ x. option_or x c) e ∙ ap (option_or b) f
 
 apart_from : (s : StoreState) → AreApart s.board.temp s.board.ram → s.base ≡ s.board.temp.base → s.len + s.board.pages ≡ s.board.temp.len → (s.base + s.len ≤ s.board.ram.base) ⊎ (s.board.ram.base + s.board.ram.len ≤ s.base)
 apart_from s (◌⊎◌.inl h) base len = ◌⊎◌.inl (omega (arith, h, base, len))
@@ -149,7 +145,7 @@ whole_temp s false heap = heap.1
 whole_temp s true heap = tt
 
 read_by : (s : StoreState) (image : List ℕ) (moved : Bool) (at n : ℕ) → IsPlacedBy (layout_of s) moved → length image ≡ s.len → AreHeapBytes s image → AreApart s.board.temp s.board.ram → IsWholeTemp s moved
-    → R.bytes_at (regions_by (layout_of s) moved image) at n ≡ H.or_else (cond moved None (region_bytes s s.board.temp at n)) (H.or_else (region_bytes s s.board.ram at n) (rom_bytes s.board.roms at n))
+    → R.bytes_at (regions_by (layout_of s) moved image) at n ≡ option_or (cond moved None (region_bytes s s.board.temp at n)) (option_or (region_bytes s s.board.ram at n) (rom_bytes s.board.roms at n))
 read_by s image false at n placed len are apart whole =
     let k = s.board.temp.len - s.len in
     let zeros = replicate k 0 in

@@ -14,10 +14,10 @@ moved base len page_end pages to_base to_len n =
     else n
 
 -- outside temporary RAM nothing is shifted
-outside : (base len page_end pages to_base to_len n : ℕ) → base + len + pages ≡ page_end → (n < base) ⊎ (page_end ≤ n) → moved base len page_end pages to_base to_len n ≡ n
+pub outside : (base len page_end pages to_base to_len n : ℕ) → base + len + pages ≡ page_end → (n < base) ⊎ (page_end ≤ n) → moved base len page_end pages to_base to_len n ≡ n
 outside base len page_end pages to_base to_len n e h = grind (arith, nat_tests, e, h)
 
-is_in_heap : (base len page_end pages to_base to_len n : ℕ) → base ≤ n → n < base + len → moved base len page_end pages to_base to_len n ≡ n - base + to_base
+pub is_in_heap : (base len page_end pages to_base to_len n : ℕ) → base ≤ n → n < base + len → moved base len page_end pages to_base to_len n ≡ n - base + to_base
 is_in_heap base len page_end pages to_base to_len n le less = grind (arith, nat_tests, le, less)
 
 is_in_pages : (base len page_end pages to_base to_len n : ℕ) → base + len + pages ≡ page_end → base + len ≤ n → n < page_end → moved base len page_end pages to_base to_len n ≡ to_base + to_len - (page_end - n)

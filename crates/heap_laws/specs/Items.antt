@@ -1,10 +1,11 @@
 -- The entries of the four lists as one kind of item, which has the fields that its node spells, and a search among them.
 -- Own.
 use Rattle.std.specs.Prelude.{ℕ, ◌+◌, ◌==◌, if◌then◌else◌, List, [], ◌∷◌, map, Option, Some, None}
+use Rattle.std.specs.Option.{option_or}
 use Rattle.store_model.specs.declared.state.Entry.{Entry}
 use Rattle.store_model.specs.declared.state.Pending.{Pending}
 use Rattle.store_model.specs.StoreState.{StoreState}
-use Rattle.store_model.specs.HeapImage.{Links, or_else}
+use Rattle.store_model.specs.HeapImage.{Links}
 use Rattle.store_model.specs.declared.store_handle.EntryList.{EntryList}
 use Rattle.store_model.specs.declared.store_handle.EntryList.TheVariants.{Ppis, Callbacks, Dispatches, Pendings}
 
@@ -48,7 +49,7 @@ links_among base place (item ∷ list) = if item.node == place then Some (links_
 
 abbrev pub links_of_lists : ℕ → ℕ → List (List Item) → Option Links
 links_of_lists base place [] = None
-links_of_lists base place (list ∷ lists) = or_else (links_among base place list) (links_of_lists base place lists)
+links_of_lists base place (list ∷ lists) = option_or (links_among base place list) (links_of_lists base place lists)
 
 -- the four lists in order, and those before one of them
 abbrev pub all_lists : StoreState → List (List Item)

@@ -25,8 +25,8 @@ pub struct HobPlace {
 impl HobPlace {
     ghost use Rattle.hob_codec.specs.HobList.{place_at, fault_at};
 
-    // The HOB at a place of a list, or the list's fault there.
-    fn at(bytes: &[u8], at: usize) -> Result<HobPlace, HobFault>
+    /// The HOB at a place of a list, or the list's fault there.
+    pub fn at(bytes: &[u8], at: usize) -> Result<HobPlace, HobFault>
         ensures { MatchResult result
             (λ place. (fault_at bytes.now at ≡ None) × (place ≡ place_at bytes.now at) × (8 ≤ place.length)
             × (at + place.length ≤ length bytes.now)) (λ fault. fault_at bytes.now at ≡ Some fault) }

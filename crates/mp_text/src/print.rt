@@ -1,9 +1,9 @@
 // Printing outcomes and refusals.
-ghost use Rattle.std.specs.Prelude.{◌≡◌, map, ℕ, List, decimal};
-ghost use Rattle.std.specs.List.{flat_map, enumerate_from};
+ghost use Rattle.std.specs.Prelude.{◌≡◌, map, decimal};
+ghost use Rattle.std.specs.List.{flat_map};
 ghost use Rattle.boot_io.specs.Line.{spaced};
 ghost use Rattle.boot_io.specs.Sink.{Puts, SinkFaultsAfter};
-ghost use Rattle.mp_text.specs.OutcomeText.{is_turn, reply_line, replies_text, cell_line, cells_text, number_words, record_line, records_text, outcome_text, bad_line};
+ghost use Rattle.mp_text.specs.OutcomeText.{is_turn, reply_line, replies_text, cell_line, cells_text, record_line, records_text, outcome_text, bad_line};
 
 use crate::file::MpFile;
 use crate::keyword::{keyword_of, keyword_text};

@@ -1,6 +1,6 @@
 -- Which case of a step applies, and what the step's answer then says.
-use Rattle.std.proofs.Common.{◌≡◌, ℕ, Bool, true, false, cond, ◌&&◌, List, [], ◌∷◌, length, Option, Some, None, refl, sym, ap, ◌∙◌, subst, is_some, not, Ok, Err}
-use Rattle.std.specs.Option.{option_map, option_and_then}
+use Rattle.std.proofs.Common.{◌≡◌, ℕ, Bool, true, false, cond, ◌&&◌, List, [], ◌∷◌, length, Option, Some, None, refl, sym, ap, ◌∙◌, subst, is_some, not, Ok}
+use Rattle.std.specs.Option.{option_map}
 use Rattle.catalog_model.specs.declared.catalog.Catalog.{Catalog}
 use Rattle.store_model.specs.declared.store_handle.Firing.{Firing}
 use Rattle.store_model.specs.declared.store_handle.Sweep.{Sweep}
@@ -8,17 +8,17 @@ use Rattle.store_model.specs.StoreState.{StoreState, Range}
 use Rattle.store_model.specs.Migration.{migration, migrated_to}
 use Rattle.store_model.specs.Service.Queue.{queue_pop}
 use Rattle.store_model.specs.Service.Reading.{memory_due}
-use Rattle.store_model.specs.Service.Sweep.{next_match}
 use Rattle.boot_model.specs.declared.phase_end.PeiEnd.{PeiEnd}
 use Rattle.boot_model.specs.EventGuids.{case_placed, case_taken}
 use Rattle.boot_model.specs.PeiMachine.{Frame, PeiMachine}
-use Rattle.boot_model.specs.PeiStep.{PeiCase, Fires, Acts, Moves, Pops, case_of, first_that_applies, acts, starts, open_sweep, in_case, pei_step}
+use Rattle.boot_model.specs.PeiStep.{PeiCase, Fires, Acts, Moves, Pops, case_of, first_that_applies, acts, starts, in_case, pei_step}
 use Rattle.pei_action.specs.declared.guids.Changes.{Changes}
 use Rattle.pei_core.specs.declared.event.Stepped.{Stepped}
 use Rattle.pei_core.specs.declared.event.Stepped.TheVariants.{Went, Ended}
 use Rattle.pei_core.specs.Parts.{FiresNext}
 use Rattle.pei_core.specs.Steps.{HasStayed, HasStepped, IsCut, IsIdle, StepsTo}
-use Rattle.pei_core.specs.Turn.{Texts, PrintedPart}
+use Rattle.pei_core.specs.Turn.{PrintedPart}
+use Rattle.boot_trace.specs.Printing.{Texts}
 
 -- the first that applies, by what the store and the frames give
 abbrev by : Catalog → PeiMachine → Option (Firing × Sweep) → List Frame → Option StoreState → Option (Firing × StoreState) → PeiCase

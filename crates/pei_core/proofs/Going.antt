@@ -1,5 +1,5 @@
 -- What a part of a step leaves, from what its pieces put.
-use Rattle.std.proofs.Common.{◌≡◌, ℕ, Bool, true, false, List, [], ◌∷◌, ◌++◌, refl, sym, ap, ◌∙◌, subst, append_assoc, Option, Some, None, Result, Ok, Err}
+use Rattle.std.proofs.Common.{◌≡◌, ℕ, Bool, true, List, [], ◌∷◌, ◌++◌, refl, sym, ap, ◌∙◌, subst, append_assoc, Option, Result, Ok, Err}
 use Rattle.std.specs.Result.{IsErr, IsErrAnd}
 use Rattle.std.specs.Io.KnownBytes.{Appends}
 use Rattle.std.proofs.lemmas.List.{append-nil}
@@ -19,7 +19,8 @@ use Rattle.pei_core.specs.declared.event.Stepped.{Stepped}
 use Rattle.pei_core.specs.Parts.{Goal, GoesTo, Reaches}
 use Rattle.pei_core.specs.Steps.{HasStepped, IsIdle, StartsTo, StepsTo}
 use Rattle.boot_model.specs.PeiStep.{pei_step}
-use Rattle.pei_core.specs.Turn.{Texts, Printed, PrintedPart}
+use Rattle.pei_core.specs.Turn.{Printed, PrintedPart}
+use Rattle.boot_trace.specs.Printing.{Texts}
 
 abbrev pub texts : Option (List ℕ) → Option (List ℕ) → Texts
 texts old new = record { old = old; new = new }

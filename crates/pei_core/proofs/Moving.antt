@@ -1,5 +1,5 @@
 -- The core's own call, behind the move.
-use Rattle.std.proofs.Common.{◌≡◌, ℕ, Bool, true, List, [], ◌∷◌, ◌++◌, refl, sym, ap, ◌∙◌, subst, append_assoc, Option, Some, None, Result, Ok, Err}
+use Rattle.std.proofs.Common.{◌≡◌, ℕ, Bool, true, List, [], ◌∷◌, ◌++◌, refl, ap, Some, None, Ok, Err}
 use Rattle.pi_base.specs.declared.word.Word.{Word}
 use Rattle.pi_base.specs.declared.word.Word.TheVariants.{Success}
 use Rattle.store_model.specs.declared.store_handle.Sweep.{Sweep}
@@ -14,8 +14,6 @@ use Rattle.boot_model.specs.PeiMachine.{PeiMachine, printed}
 use Rattle.boot_model.specs.PeiStep.{core_called}
 use Rattle.pei_core.specs.declared.core_state.Core.{Core}
 use Rattle.pei_core.specs.Standing.{IsCoreOf}
-use Rattle.pei_core.specs.Turn.{Texts, PrintedPart}
-use Rattle.pei_core.proofs.Going.{none_put, texts}
 use Rattle.pei_core.proofs.PeimStates.{same_states}
 
 -- the machine behind a call that installed the PPI, and behind one that was refused

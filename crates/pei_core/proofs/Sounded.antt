@@ -22,7 +22,7 @@ use Rattle.pei_core.specs.declared.pei.Pei.{Pei as OfPei}
 use Rattle.pei_core.specs.Standing.{Has, StandsFor}
 use Rattle.pei_core.specs.Started.{RunsStarted}
 use Rattle.pei_core.specs.Steps.{HasStayed, HasStepped, StepsTo}
-use Rattle.pei_core.specs.Turn.{Texts}
+use Rattle.boot_trace.specs.Printing.{Texts}
 use Rattle.pei_core.proofs.Acting.{found}
 
 -- an action of a script names blocks below 64

@@ -1,5 +1,5 @@
 -- Only modules that have started run scripts: so it is at the opening, and after each step and each start.
-use Rattle.std.proofs.Common.{◌≡◌, ℕ, zero, suc, ◌+◌, ◌/◌, ◌==◌, ◌||◌, Bool, true, false, cond, List, [], ◌∷◌, sym, refl, ap, subst, arith, length, Option, Some, None, Ok, Err, nat_le}
+use Rattle.std.proofs.Common.{◌≡◌, ℕ, zero, suc, ◌+◌, ◌/◌, ◌==◌, Bool, true, false, cond, List, [], ◌∷◌, sym, refl, ap, subst, arith, length, Option, Some, None, Ok, Err, nat_le}
 use Rattle.std.specs.Bool.{⊤}
 use Rattle.std.specs.Prelude.{slice_get, unwrap_or}
 use Rattle.std.specs.Option.{option_map, option_and_then}
@@ -26,7 +26,7 @@ use Rattle.store_model.specs.declared.store_handle.DescKind.TheVariants.{Ppi, Ca
 use Rattle.store_model.specs.declared.store_handle.Firing.{Firing}
 use Rattle.store_model.specs.declared.store_handle.GuidFrom.TheVariants.{Inline}
 use Rattle.store_model.specs.declared.store_handle.Sweep.{Sweep}
-use Rattle.store_model.specs.StoreState.{StoreState, Board, Range, body_from, hob_len, pool_of}
+use Rattle.store_model.specs.StoreState.{StoreState, Board, Range, body_from, hob_len}
 use Rattle.store_model.specs.StateFacts.{IsStoreState, IsDescriptorAt, IsEntry, IsPending}
 use Rattle.store_model.specs.Migration.{migration, migrated_to, moved_body, moved_hobs, moved_value}
 use Rattle.store_model.specs.Service.{Service}
@@ -41,7 +41,7 @@ use Rattle.boot_model.specs.PeiRun.{pei_opening}
 use Rattle.boot_model.specs.PeiAction.{Effect, Wrote, Called, Own, Shadowed, Logged, Skipped, Returned, effect}
 use Rattle.boot_model.specs.PeiChoice.{next_peim}
 use Rattle.boot_model.specs.PeiStep.{PeiCase, Fires, Acts, Moves, Pops, Starts, Stops, case_of, in_case, pei_step, callback_begun, open_sweep, action_at, after_effect, core_called, started as started_at, started_part, start_frames, swept}
-use Rattle.boot_model.proofs.ListFacts.{each_more, each_push, has_here, has_later}
+use Rattle.boot_model.proofs.ListFacts.{each_more, has_here, has_later}
 use Rattle.boot_laws.proofs.PeiCases.{cases}
 use Rattle.pei_core.specs.Started.{HasStarted, IsEntryOf, IsBodyOf, AreOfStarted, RunsStarted}
 use Rattle.pei_core.proofs.StartedHobs.{AreHobsOf, IsStoreOf, LeavesStore, action_leaves, changed_keeps, desc_keeps, install_keeps, Keeps}

@@ -1,6 +1,6 @@
 -- What a part of a step leaves: the later machine with the lines that were put and the GUIDs that were changed, or why there is none.
 -- Own.
-use Rattle.std.specs.Prelude.{◌≡◌, ℕ, ◌<◌, Bool, true, false, List, [], ◌∷◌, length, Option, Some, None, Result, Ok, Err, ⊤}
+use Rattle.std.specs.Prelude.{◌≡◌, ℕ, ◌<◌, Bool, true, List, [], ◌∷◌, length, Option, Some, None, Result, Ok, Err, ⊤}
 use Rattle.std.specs.Option.{option_and_then}
 use Rattle.boot_io.specs.declared.halt.Halt.{Halt}
 use Rattle.boot_io.specs.declared.halt.Halt.TheVariants as H
@@ -23,7 +23,6 @@ use Rattle.boot_model.specs.EventGuids.{placed_guids, taken_guid}
 use Rattle.boot_model.specs.PeiAction.{effect}
 use Rattle.boot_model.specs.PeiMachine.{PeiMachine, Frame}
 use Rattle.boot_model.specs.PeiStep.{after_call, after_effect, core_called, open_sweep, shadowed}
-use Rattle.boot_model.specs.declared.line.Line.{Line}
 use Rattle.boot_model.specs.declared.line.Line.TheVariants as L
 use Rattle.frames.specs.Deed.{deed}
 use Rattle.frames.specs.Needs.{IsScriptAction}
@@ -36,7 +35,8 @@ use Rattle.pei_core.specs.declared.pei.Pei.{Pei as OfPei}
 use Rattle.pei_core.specs.Standing.{Has, IsCoreOf, IsFor, StandsFor}
 use Rattle.pei_core.specs.Started.{HasStarted}
 use Rattle.pei_core.specs.Steps.{HasStepped, StartsTo, StepsTo}
-use Rattle.pei_core.specs.Turn.{Texts, PrintedPart}
+use Rattle.pei_core.specs.Turn.{PrintedPart}
+use Rattle.boot_trace.specs.Printing.{Texts}
 
 -- this pair of the open sweep fires, or none does
 abbrev pub FiresNext : Option (Firing × Sweep) → PeiMachine → Type 0

@@ -26,7 +26,8 @@ use Rattle.pei_core.specs.declared.event.Stepped.{Stepped}
 use Rattle.pei_core.specs.declared.event.Stepped.TheVariants.{Went, Idle, Ended}
 use Rattle.pei_core.specs.declared.pei.Pei.{Pei}
 use Rattle.pei_core.specs.Standing.{IsFor, StandsFor}
-use Rattle.pei_core.specs.Turn.{Texts, Printed, PrintedPart}
+use Rattle.pei_core.specs.Turn.{Printed, PrintedPart}
+use Rattle.boot_trace.specs.Printing.{Texts}
 
 -- no script runs, no pair of the open sweep fires, no move is due and no pair is queued: a start or the end is left
 pub record IsIdle (m : PeiMachine) : Type 0 where

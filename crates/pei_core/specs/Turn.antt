@@ -1,25 +1,12 @@
--- The sink's text before a step, or a part of one, and after it; and the lines that were put.
+-- The lines that a step, or a part of one, puts.
 -- Own.
-use Rattle.std.specs.Prelude.{◌≡◌, ℕ, List, ◌++◌, Option}
-use Rattle.std.specs.Io.KnownBytes.{Appends}
-use Rattle.boot_io.specs.Sink.{AppendsPart}
-use Rattle.boot_model.specs.declared.line.Line.{Line}
 use Rattle.boot_model.specs.PeiMachine.{PeiMachine}
-use Rattle.boot_model.specs.Text.{text_of}
-
--- a sink's text before and after
-pub record Texts : Type 0 where
-  pub old : Option (List ℕ)
-  pub new : Option (List ℕ)
+use Rattle.boot_trace.specs.Printing.{ArePut, ArePutInPart, Texts}
 
 -- the lines that a later machine has more than this one were put
-pub record Printed (m later : PeiMachine) (t : Texts) : Type 0 where
-  pub told : List Line
-  pub lines : later.lines ≡ m.lines ++ told
-  pub text : Appends t.old t.new (text_of told)
+abbrev pub Printed : PeiMachine → PeiMachine → Texts → Type 0
+Printed m later t = ArePut m.lines later.lines t
 
 -- a part of their text was put
-pub record PrintedPart (m later : PeiMachine) (t : Texts) : Type 0 where
-  pub told : List Line
-  pub lines : later.lines ≡ m.lines ++ told
-  pub text : AppendsPart t.old t.new (text_of told)
+abbrev pub PrintedPart : PeiMachine → PeiMachine → Texts → Type 0
+PrintedPart m later t = ArePutInPart m.lines later.lines t

@@ -1,5 +1,5 @@
 -- A turn, from what its parts leave.
-use Rattle.std.proofs.Common.{◌≡◌, ◌≤◌, ◌<◌, ℕ, zero, suc, ◌+◌, Bool, true, List, [], ◌∷◌, ◌++◌, Option, Some, None, Ok, Err, Result, refl, sym, ap, ◌∙◌, subst, length, take, drop, arith}
+use Rattle.std.proofs.Common.{◌≡◌, ◌≤◌, ◌<◌, ℕ, zero, suc, ◌+◌, Bool, List, [], ◌∷◌, ◌++◌, Option, Some, None, Ok, Err, Result, refl, sym, ap, ◌∙◌, subst, length, drop, arith}
 use Rattle.std.specs.Prelude.{slice_get}
 use Rattle.std.proofs.lemmas.List.{length-append, drop_at}
 use Rattle.std.proofs.lemmas.Grind.{flat_map-append}
@@ -22,10 +22,11 @@ use Rattle.pei_core.specs.declared.event.Event.{Event}
 use Rattle.pei_core.specs.declared.pei.Pei.{Pei}
 use Rattle.pei_core.specs.Standing.{IsFor, StandsFor, last_start}
 use Rattle.pei_core.specs.Steps.{IsEvent, IsIdle, StepsTo}
-use Rattle.pei_core.specs.Turn.{Texts, PrintedPart}
+use Rattle.pei_core.specs.Turn.{PrintedPart}
+use Rattle.boot_trace.specs.Printing.{Texts}
 use Rattle.pei_dispatch.specs.Ends.{KeepsLast, IsWantOfStore}
 use Rattle.pei_dispatch.specs.Following.{Follows}
-use Rattle.pei_dispatch.specs.LastStart.{just_before, last_started}
+use Rattle.pei_dispatch.specs.LastStart.{just_before}
 use Rattle.pei_dispatch.specs.Turns.{GoesTo, IsNow, TurnsTo}
 use Rattle.pei_dispatch.proofs.Growing.{step_grew}
 use Rattle.pei_dispatch.proofs.Idle.{step_quiet}

@@ -1,5 +1,5 @@
 -- The run so far, and what is left of it.
-use Rattle.std.proofs.Common.{◌≡◌, ◌<◌, ◌≤◌, ℕ, suc, ◌+◌, ◌-◌, arith, true, false, List, [], ◌++◌, Option, None, refl, sym, ap, ◌∙◌, subst, append_assoc, is_some, length}
+use Rattle.std.proofs.Common.{◌≡◌, ◌<◌, ◌≤◌, ℕ, suc, ◌+◌, ◌-◌, arith, true, false, List, ◌++◌, Option, None, sym, ap, ◌∙◌, subst, append_assoc, is_some, length}
 use Rattle.std.specs.Io.KnownBytes.{Appends}
 use Rattle.boot_io.proofs.PutsLaws.{appends_then, part_then}
 use Rattle.boot_io.specs.Sink.{AppendsPart}
@@ -14,11 +14,11 @@ use Rattle.boot_model.specs.PeiChoice.{pei_order}
 use Rattle.boot_model.specs.PeiStep.{pei_step, report_lines}
 use Rattle.boot_model.specs.Text.{text_of}
 use Rattle.pei_choice.specs.declared.queue.PeiQueue.{PeiQueue}
-use Rattle.pei_choice.specs.Queue.{IsNewQueue, Shows, AreNew, owed_by}
+use Rattle.pei_choice.specs.Queue.{IsNewQueue, Shows, owed_by}
 use Rattle.pei_choice.specs.View.{View, AreAlike, first_view, view_of, with_volumes}
 use Rattle.pei_core.specs.declared.pei.Pei.{Pei}
 use Rattle.pei_core.specs.Standing.{StandsFor}
-use Rattle.pei_core.specs.Turn.{Texts, PrintedPart}
+use Rattle.pei_core.specs.Turn.{PrintedPart}
 use Rattle.pei_dispatch.specs.Ends.{HasEnded, StandsAtEnd, KeepsLast}
 use Rattle.pei_dispatch.specs.Turns.{IsNow, HasTurned, IsOver}
 use Rattle.pei_dispatch.specs.Evaluations.{FewEvaluations}

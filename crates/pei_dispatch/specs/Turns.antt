@@ -22,7 +22,8 @@ use Rattle.pei_choice.specs.Queue.{IsQueueOf, parts_in}
 use Rattle.pei_core.specs.declared.pei.Pei.{Pei}
 use Rattle.pei_core.specs.Standing.{StandsFor, IsFor, last_start}
 use Rattle.pei_core.specs.Steps.{IsIdle}
-use Rattle.pei_core.specs.Turn.{Texts, Printed, PrintedPart}
+use Rattle.pei_core.specs.Turn.{Printed, PrintedPart}
+use Rattle.boot_trace.specs.Printing.{Texts}
 use Rattle.pei_dispatch.specs.declared.going.Progress.{Progress}
 use Rattle.pei_dispatch.specs.declared.going.Progress.TheVariants.{Went, Idle, Ended}
 use Rattle.pei_dispatch.specs.Ends.{StandsAtEnd, KeepsLast}

@@ -14,6 +14,6 @@ mod waiting;
 pub use boot::{Ended, boot_pei};
 pub use going::{Progress, go_on};
 pub use next::choose;
-pub use run::run_pei;
+pub use run::{bound, run_pei};
 pub use starting::start;
 pub use stop::stop_pei;

@@ -20,8 +20,8 @@ use pei_core::{Pei, put_reports};
 use std::sync::ledger::Ledger;
 use store_model::PeiStore;
 
-// How many steps a run has at most.
-fn bound(catalog: &Catalog, fuel: u32) -> u64
+/// How many steps a run of PEI has at most.
+pub fn bound(catalog: &Catalog, fuel: u32) -> u64
     requires { length catalog.now.modules ≤ MOST_MODULES }
     ensures { result ≡ pei_bound catalog.now fuel }
 {

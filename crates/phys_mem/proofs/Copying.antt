@@ -1,13 +1,13 @@
 -- A copy goes from one region to another.
 use Rattle.std.proofs.Common.{◌≡◌, ℕ, ◌+◌, ◌-◌, ◌≤◌, Bool, true, false, cond, ◌&&◌, ◌||◌, List, [], ◌∷◌, ◌++◌, length, take, drop, Option, Some, None, refl, sym, ap, ◌∙◌, arith, length-take, length-drop}
 use Rattle.std.specs.Prelude.{map}
-use Rattle.std.specs.Option.{option_map, option_to_list}
+use Rattle.std.specs.Option.{option_map, option_to_list, option_or}
 use Rattle.std.proofs.lemmas.Option.{cond_some, same_Some}
 use Rattle.std.proofs.lemmas.Bool.Decides.{nat_tests}
 use Rattle.phys_mem.specs.declared.rom.Rom.{Rom}
 use Rattle.phys_mem.specs.declared.bank.Bank.{Bank}
 use Rattle.phys_mem.specs.Region.{Region, is_inside, part_of, replaced}
-use Rattle.phys_mem.specs.Regions.{written, rom_region, ram_region, Becomes, takes, share, copied, copy_of, bytes_at, or_else}
+use Rattle.phys_mem.specs.Regions.{written, rom_region, ram_region, Becomes, takes, share, copied, copy_of, bytes_at}
 use Rattle.phys_mem.proofs.Writing.{roms_take_none}
 
 inside_is : (base len at n : ℕ) → is_inside base len at n ≡ true → (base ≤ at) × (at + n ≤ base + len)
@@ -19,7 +19,7 @@ part_len base bytes at n text h =
     let i = inside_is base (length bytes) at n c.0 in
     sym (ap length c.1) ∙ omega (arith, i.0, i.1, length-take n (drop (at - base) bytes), length-drop (at - base) bytes)
 
-first_len : (o rest : Option (List ℕ)) (n : ℕ) (text : List ℕ) → or_else o rest ≡ Some text → ((t : List ℕ) → o ≡ Some t → length t ≡ n) → ((t : List ℕ) → rest ≡ Some t → length t ≡ n) → length text ≡ n
+first_len : (o rest : Option (List ℕ)) (n : ℕ) (text : List ℕ) → option_or o rest ≡ Some text → ((t : List ℕ) → o ≡ Some t → length t ≡ n) → ((t : List ℕ) → rest ≡ Some t → length t ≡ n) → length text ≡ n
 first_len None rest n text h p q = q text h
 first_len (Some t) rest n text h p q = p text h
 
@@ -88,7 +88,7 @@ none_taken ram to n (Some text) long out = rw (long text refl, out) refl
 -- RAM in front of the volumes
 ram_source : (o source : Option (List ℕ)) (ram : Bank) (roms : List Rom) (to n : ℕ) → ((text : List ℕ) → o ≡ Some text → (length text ≡ n) × (is_inside ram.base (length ram.bytes.items) to n ≡ false))
     → ((text : List ℕ) → source ≡ Some text → length text ≡ n)
-    → copy_of (ram_region ram ∷ map rom_region roms) to (or_else o source) ≡ option_map (λ x. x ++ map rom_region roms) (copy_of (ram_region ram ∷ []) to source)
+    → copy_of (ram_region ram ∷ map rom_region roms) to (option_or o source) ≡ option_map (λ x. x ++ map rom_region roms) (copy_of (ram_region ram ∷ []) to source)
 ram_source None None ram roms to n here long = refl
 ram_source None (Some text) ram roms to n here long = write_first (ram_region ram) (map rom_region roms) to text (roms_take_none roms to text)
 ram_source (Some text) source ram roms to n here long =
@@ -116,8 +116,8 @@ behind_temp temp others to (Some text) h = let passes = not_taken (takes (ram_re
 temp_source : (o : Option (List ℕ)) (temp ram : Bank) (roms : List Rom) (from to n : ℕ) → share (ram_region ram ∷ map rom_region roms) from to n ≡ false
     → ((text : List ℕ) → o ≡ Some text → (length text ≡ n) × (is_inside temp.base (length temp.bytes.items) to n ≡ false))
     → copy_of (ram_region temp ∷ []) to (bytes_at (ram_region ram ∷ map rom_region roms) from n) ≡ None
-    → copy_of (ram_region temp ∷ (ram_region ram ∷ map rom_region roms)) to (or_else o (bytes_at (ram_region ram ∷ map rom_region roms) from n))
-    ≡ option_map (λ x. ram_region temp ∷ (x ++ map rom_region roms)) (copy_of (ram_region ram ∷ []) to (or_else o (bytes_at (map rom_region roms) from n)))
+    → copy_of (ram_region temp ∷ (ram_region ram ∷ map rom_region roms)) to (option_or o (bytes_at (ram_region ram ∷ map rom_region roms) from n))
+    ≡ option_map (λ x. ram_region temp ∷ (x ++ map rom_region roms)) (copy_of (ram_region ram ∷ []) to (option_or o (bytes_at (map rom_region roms) from n)))
 temp_source None temp ram roms from to n alone here none =
     behind_temp temp (ram_region ram ∷ map rom_region roms) to (bytes_at (ram_region ram ∷ map rom_region roms) from n) none
     ∙ ap (option_map (λ rest. ram_region temp ∷ rest)) (ram_alone ram roms from to n alone)

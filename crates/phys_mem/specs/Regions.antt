@@ -1,6 +1,6 @@
 -- What memory reads, and what a write or a copy leaves, over the list of its regions.
 use Rattle.std.specs.Prelude.{◌≡◌, ℕ, ◌-◌, Bool, true, false, ◌&&◌, ◌||◌, if◌then◌else◌, List, [], ◌∷◌, ◌++◌, length, map, Option, Some, None, option_map}
-use Rattle.std.specs.Option.{option_and_then, option_to_list}
+use Rattle.std.specs.Option.{option_and_then, option_to_list, option_or}
 use Rattle.phys_mem.specs.declared.bank.Bank.{Bank}
 use Rattle.phys_mem.specs.declared.rom.Rom.{Rom}
 use Rattle.phys_mem.specs.declared.memory.PhysMem.{PhysMem}
@@ -29,15 +29,10 @@ fixed_regions memory = ram_region memory.ram ∷ rom_regions memory
 abbrev pub regions : PhysMem → List Region
 regions memory = temps memory ++ fixed_regions memory
 
--- the first, or else the second
-abbrev pub or_else : Option (List ℕ) → Option (List ℕ) → Option (List ℕ)
-or_else None second = second
-or_else (Some first) second = Some first
-
 -- the n bytes at an address, where all of them lie in one region
 abbrev pub bytes_at : List Region → ℕ → ℕ → Option (List ℕ)
 bytes_at [] at n = None
-bytes_at (region ∷ others) at n = or_else (part_of region.base region.bytes at n) (bytes_at others at n)
+bytes_at (region ∷ others) at n = option_or (part_of region.base region.bytes at n) (bytes_at others at n)
 
 -- the region can take so many bytes at an address
 abbrev pub takes : Region → ℕ → ℕ → Bool

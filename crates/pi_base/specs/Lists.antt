@@ -1,5 +1,9 @@
--- What definitions say of lists: of each item, of each with those behind it, and of two lists item by item.
-use Rattle.std.specs.Prelude.{ℕ, zero, suc, ◌+◌, Bool, not, List, [], ◌∷◌, filter, ⊤}
+-- What definitions say of lists: how one begins, of each item, of each with those behind it, and of two lists item by item.
+use Rattle.std.specs.Prelude.{◌≡◌, ℕ, zero, suc, ◌+◌, Bool, not, List, [], ◌∷◌, ◌++◌, filter, ⊤}
+
+-- the bytes begin with a text
+abbrev pub Begins : List ℕ → List ℕ → Type 0
+Begins bytes text = (rest : List ℕ) × (bytes ≡ text ++ rest)
 
 -- each item on the left has a fact with the item at its place on the right, and there are as many of both
 abbrev pub EachPair : {A B : Type 0} → (A → B → Type 0) → List A → List B → Type 0

@@ -1,7 +1,8 @@
 // The words of a command line.
 ghost use Rattle.std.specs.Prelude.{◌≡◌, ◌↔◌, ℕ, List, [], ◌∷◌, codes, IfSome, IfNone, IsTrue};
 ghost use Rattle.pitools.specs.declared.command_line.Tool.{Tool};
-ghost use Rattle.pitools.specs.CommandLine.{words_of, tool_words, AskForTool, AskForMap, AskForCheck};
+ghost use Rattle.pitools.specs.CommandLine.{tool_words, AskForTool, AskForMap, AskForCheck};
+ghost use Rattle.boot_io.specs.Words.{words_of};
 
 /// A tool of one file.
 #[derive(Clone, Copy)]

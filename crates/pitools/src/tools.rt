@@ -1,6 +1,6 @@
 // The top call.
-ghost use Rattle.std.specs.Prelude.{◌≡◌, ◌≤◌, ℕ, List, IfOk, OnErr};
-ghost use Rattle.pitools.specs.CommandLine.{words_of};
+ghost use Rattle.std.specs.Prelude.{◌≡◌, ◌≤◌, IfOk, OnErr};
+ghost use Rattle.boot_io.specs.Words.{words_of};
 ghost use Rattle.pitools.specs.Ends.{Ends, Reports, status_after};
 ghost use Rattle.pitools.specs.Outcome.{limit_of, MapNames, MapOutcome, Names, Outcome, ToolOutcome};
 

@@ -67,7 +67,7 @@ heap_on s true h p b =
     record { len = omega (arith, low, high, long); end = omega (arith, high, end); pages = omega (arith, last); pages_end = omega (arith, high, last, end) }
 
 -- HOBs have headers
-hobs_len : (hobs : List HobEntry) → length hobs * 8 ≤ sum_by hob_len hobs
+pub hobs_len : (hobs : List HobEntry) → length hobs * 8 ≤ sum_by hob_len hobs
 hobs_len [] = omega arith
 hobs_len (hob ∷ hobs) = let c : sum_by hob_len (hob ∷ hobs) ≡ hob_len hob + sum_by hob_len hobs = sum_by-cons hob_len hob hobs in omega (arith, c, hobs_len hobs)
 

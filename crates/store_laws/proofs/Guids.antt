@@ -1,6 +1,7 @@
 -- Each GUID has sixteen bytes: one behind its descriptor by what holds of every state, and one in a volume since sixteen were read there; and its address is low.
 use Rattle.std.proofs.Common.{◌≡◌, ℕ, ◌+◌, ◌-◌, ◌≤◌, ◌<◌, ◌^◌, true, List, [], ◌∷◌, length, take, drop, Option, Some, None, sym, ap, refl, ◌∙◌, arith, length-take, length-drop}
 use Rattle.std.specs.Prelude.{IfSome}
+use Rattle.std.specs.Option.{option_or}
 use Rattle.std.proofs.lemmas.Option.{cond_some}
 use Rattle.std.proofs.lemmas.Bool.Decides.{nat_tests}
 use Rattle.boot_plan.specs.declared.limits.TheConstants.{MOST_END}
@@ -11,7 +12,7 @@ use Rattle.store_model.specs.declared.store_handle.DescKind.{DescKind}
 use Rattle.store_model.specs.declared.store_handle.DescKind.TheVariants.{Ppi, Callback, Dispatch}
 use Rattle.store_model.specs.declared.state.DescriptorBody.{DescriptorBody}
 use Rattle.store_model.specs.declared.state.Body.TheVariants.{Descriptor}
-use Rattle.store_model.specs.HeapImage.{descriptor_bytes, guid_behind, or_else}
+use Rattle.store_model.specs.HeapImage.{descriptor_bytes, guid_behind}
 use Rattle.store_model.specs.MemoryReading.{rom_bytes}
 use Rattle.store_model.specs.StoreState.{Board, descriptor_len}
 use Rattle.store_model.specs.StateFacts.{IsBoard, IsBodyOf, IsGuidOf, IsMapped, IsNumberOf}
@@ -31,7 +32,7 @@ part_read rom at n text h =
     let i = inside_is rom.base (length rom.bytes) at n c.0 in
     record { long = sym (ap length c.1) ∙ omega (arith, i.0, i.1, length-take n (drop (at - rom.base) rom.bytes), length-drop (at - rom.base) rom.bytes); low = i.1 }
 
-first_has : (P : List ℕ → Type 0) (o rest : Option (List ℕ)) (text : List ℕ) → or_else o rest ≡ Some text → ((t : List ℕ) → o ≡ Some t → P t) → ((t : List ℕ) → rest ≡ Some t → P t) → P text
+first_has : (P : List ℕ → Type 0) (o rest : Option (List ℕ)) (text : List ℕ) → option_or o rest ≡ Some text → ((t : List ℕ) → o ≡ Some t → P t) → ((t : List ℕ) → rest ≡ Some t → P t) → P text
 first_has P None rest text h p q = q text h
 first_has P (Some t) rest text h p q = p text h
 

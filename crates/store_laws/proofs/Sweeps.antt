@@ -1,29 +1,29 @@
 -- The first pair of two lists that fires, and how the pairs that are left go on.
 use Rattle.std.proofs.Common.{◌≡◌, ℕ, zero, suc, ◌+◌, ◌-◌, ◌≤◌, ◌<◌, Bool, true, false, cond, List, [], ◌∷◌, ◌++◌, length, arith, sym, refl, ap, ◌∙◌, Option, Some, None, nat_le}
 use Rattle.std.specs.Prelude.{map, flat_map, slice_get, slice_index_or, is_some}
+use Rattle.std.specs.Option.{option_or}
 use Rattle.std.proofs.lemmas.Bool.Decides.{nat_tests}
 use Rattle.store_model.specs.declared.store_handle.Sweep.{Sweep}
 use Rattle.store_model.specs.declared.store_handle.Firing.{Firing}
 use Rattle.store_model.specs.declared.state.Entry.{Entry}
 use Rattle.pi_base.specs.Guids.{same_guid}
 use Rattle.store_model.specs.Service.Descriptor.{guid_at}
-use Rattle.store_model.specs.HeapImage.{or_else}
 use Rattle.pi_base.specs.Lists.{numbers}
 use Rattle.store_model.specs.StoreState.{StoreState}
 use Rattle.store_laws.specs.Sweeps.{SweepsGoOn, standing}
 use Rattle.store_model.specs.Service.Sweep.{first_firing, firing_at, have_one_guid, places_at, pairs_left, pairs_with, firing_of}
 
 found_on : (s : StoreState) (sweep : Sweep) (pair : ℕ × ℕ) (places : Option (ℕ × ℕ)) → places_at s pair ≡ places → have_one_guid s places ≡ true
-    → (later : Option (Firing × Sweep)) → or_else (firing_at s sweep pair) later ≡ firing_at s sweep pair
+    → (later : Option (Firing × Sweep)) → option_or (firing_at s sweep pair) later ≡ firing_at s sweep pair
 found_on s sweep pair None e h later = cc
 found_on s sweep pair (Some places) e h later = rw e refl
 
-one_more : (s : StoreState) (sweep : Sweep) (pair : ℕ × ℕ) (b : Bool) → have_one_guid s (places_at s pair) ≡ b → (then later all : Option (Firing × Sweep)) → all ≡ or_else then later
-    → cond b (firing_at s sweep pair) all ≡ or_else (cond b (firing_at s sweep pair) then) later
+one_more : (s : StoreState) (sweep : Sweep) (pair : ℕ × ℕ) (b : Bool) → have_one_guid s (places_at s pair) ≡ b → (then later all : Option (Firing × Sweep)) → all ≡ option_or then later
+    → cond b (firing_at s sweep pair) all ≡ option_or (cond b (firing_at s sweep pair) then) later
 one_more s sweep pair true h then later all e = sym (found_on s sweep pair (places_at s pair) refl h later)
 one_more s sweep pair false h then later all e = e
 
-pub firing_of_both : (s : StoreState) (sweep : Sweep) (xs ys : List (ℕ × ℕ)) → first_firing s sweep (xs ++ ys) ≡ or_else (first_firing s sweep xs) (first_firing s sweep ys)
+pub firing_of_both : (s : StoreState) (sweep : Sweep) (xs ys : List (ℕ × ℕ)) → first_firing s sweep (xs ++ ys) ≡ option_or (first_firing s sweep xs) (first_firing s sweep ys)
 firing_of_both s sweep [] ys = refl
 firing_of_both s sweep (pair ∷ xs) ys =
     one_more s sweep pair (have_one_guid s (places_at s pair)) refl (first_firing s sweep xs) (first_firing s sweep ys) (first_firing s sweep (xs ++ ys)) (firing_of_both s sweep xs ys)
@@ -69,7 +69,7 @@ pub fires_at : (s : StoreState) (sweep : Sweep) (ppi note : ℕ) (p n : Entry) �
     → firing_at s sweep (ppi, note) ≡ Some (firing_of s p.descriptor n.descriptor, record sweep { ppi_at = ppi; note_at = note + 1 })
 fires_at s sweep ppi note p n e f = rw e (rw f refl)
 
-first_is : (a b : Option (Firing × Sweep)) → is_some a ≡ true → or_else a b ≡ a
+first_is : (a b : Option (Firing × Sweep)) → is_some a ≡ true → option_or a b ≡ a
 first_is None b h = cc
 first_is (Some a) b h = refl
 
@@ -79,7 +79,7 @@ pub found_here : (s : StoreState) (sweep : Sweep) (ppi from : ℕ) (all : Option
 found_here s sweep ppi from all pair below e here fires =
     let both = ap (first_firing s sweep) (pairs_go_on sweep ppi from below) ∙ firing_of_both s sweep (pairs_with sweep from ppi) (pairs_left (standing sweep (ppi + 1) sweep.note_from)) in
     let later = first_firing s sweep (pairs_left (standing sweep (ppi + 1) sweep.note_from)) in
-    sym e ∙ both ∙ ap (λ a. or_else a later) here ∙ first_is (firing_at s sweep pair) later fires
+    sym e ∙ both ∙ ap (λ a. option_or a later) here ∙ first_is (firing_at s sweep pair) later fires
 
 pub none_here : (s : StoreState) (sweep : Sweep) (ppi from : ℕ) (all : Option (Firing × Sweep)) → ppi < sweep.ppi_to
     → first_firing s sweep (pairs_left (standing sweep ppi from)) ≡ all → first_firing s sweep (pairs_with sweep from ppi) ≡ None
@@ -87,7 +87,7 @@ pub none_here : (s : StoreState) (sweep : Sweep) (ppi from : ℕ) (all : Option 
 none_here s sweep ppi from all below e here =
     let both = ap (first_firing s sweep) (pairs_go_on sweep ppi from below) ∙ firing_of_both s sweep (pairs_with sweep from ppi) (pairs_left (standing sweep (ppi + 1) sweep.note_from)) in
     let later = first_firing s sweep (pairs_left (standing sweep (ppi + 1) sweep.note_from)) in
-    sym (ap (λ a. or_else a later) here) ∙ sym both ∙ e
+    sym (ap (λ a. option_or a later) here) ∙ sym both ∙ e
 
 pub all_go_on : SweepsGoOn
 all_go_on = record { both = firing_of_both; next_ppi = pairs_go_on; next_note = pair_more; none_left = none_left }

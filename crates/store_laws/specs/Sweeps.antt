@@ -1,8 +1,8 @@
 -- How a sweep goes on: from pair to pair of one PPI, and from that PPI to the next.
 -- Own.
 use Rattle.std.specs.Prelude.{◌≡◌, ℕ, ◌+◌, ◌<◌, ◌≤◌, List, ◌∷◌, ◌++◌, None}
+use Rattle.std.specs.Option.{option_or}
 use Rattle.store_model.specs.declared.store_handle.Sweep.{Sweep}
-use Rattle.store_model.specs.HeapImage.{or_else}
 use Rattle.store_model.specs.StoreState.{StoreState}
 use Rattle.store_model.specs.Service.Sweep.{first_firing, pairs_left, pairs_with}
 
@@ -12,7 +12,7 @@ standing sweep ppi note = record sweep { ppi_at = ppi; note_at = note }
 
 pub record SweepsGoOn : Type 0 where
   pub both : (s : StoreState) (sweep : Sweep) (xs ys : List (ℕ × ℕ))
-      → first_firing s sweep (xs ++ ys) ≡ or_else (first_firing s sweep xs) (first_firing s sweep ys)
+      → first_firing s sweep (xs ++ ys) ≡ option_or (first_firing s sweep xs) (first_firing s sweep ys)
   pub next_ppi : (sweep : Sweep) (ppi from : ℕ) → ppi < sweep.ppi_to
       → pairs_left (standing sweep ppi from) ≡ pairs_with sweep from ppi ++ pairs_left (standing sweep (ppi + 1) sweep.note_from)
   pub next_note : (sweep : Sweep) (ppi from : ℕ) → from < sweep.note_to

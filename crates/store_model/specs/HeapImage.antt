@@ -2,6 +2,7 @@
 -- A node is four numbers: the address of the next node of its list or 0, that of its descriptor, that of the PPI's descriptor in a queued pair or 0, and the number of the module.
 -- PI 1.8, volume 3 (`EFI_HOB_GENERIC_HEADER` and its HOBs) and volume 1 (`EFI_PEI_PPI_DESCRIPTOR`); the nodes are own.
 use Rattle.std.specs.Prelude.{ℕ, ◌+◌, ◌-◌, ◌==◌, if◌then◌else◌, List, [], ◌∷◌, ◌++◌, length, replicate, Option, Some, None}
+use Rattle.std.specs.Option.{option_or}
 use Rattle.pi_base.specs.Field.{little_bytes}
 use Rattle.hob_codec.specs.declared.kind.TheConstants.{HANDOFF, END}
 use Rattle.hob_codec.specs.declared.hob.Handoff.{Handoff}
@@ -68,14 +69,10 @@ pending_links_in base place (pending ∷ pendings) =
     })
     else pending_links_in base place pendings
 
-abbrev pub or_else : {A : Type 0} → Option A → Option A → Option A
-or_else None other = other
-or_else (Some a) other = Some a
-
 abbrev pub links_at : StoreState → ℕ → Option Links
 links_at s place =
-    or_else (links_in s.base place s.ppis)
-    (or_else (links_in s.base place s.callbacks) (or_else (links_in s.base place s.dispatches) (pending_links_in s.base place s.pendings)))
+    option_or (links_in s.base place s.ppis)
+    (option_or (links_in s.base place s.callbacks) (option_or (links_in s.base place s.dispatches) (pending_links_in s.base place s.pendings)))
 
 abbrev pub links_bytes : Option Links → List ℕ
 links_bytes None = replicate node_len 0

@@ -2,15 +2,16 @@
 -- Bytes are read only where all of them lie in one of these.
 -- Own; the modelled memory is no part of PI.
 use Rattle.std.specs.Prelude.{ℕ, ◌-◌, if◌then◌else◌, List, [], ◌∷◌, map, Option, Some, None, unwrap_or, slice_get}
+use Rattle.std.specs.Option.{option_or}
 use Rattle.phys_mem.specs.Region.{is_inside, part_of}
 use Rattle.pi_base.specs.Lists.{numbers}
 use Rattle.store_model.specs.StoreState.{Range, Rom, StoreState}
-use Rattle.store_model.specs.HeapImage.{hob_list, or_else}
+use Rattle.store_model.specs.HeapImage.{hob_list}
 
 -- the n bytes at an address, where they lie in one of these volumes
 abbrev pub rom_bytes : List Rom → ℕ → ℕ → Option (List ℕ)
 rom_bytes [] at n = None
-rom_bytes (rom ∷ roms) at n = or_else (part_of rom.base rom.bytes at n) (rom_bytes roms at n)
+rom_bytes (rom ∷ roms) at n = option_or (part_of rom.base rom.bytes at n) (rom_bytes roms at n)
 
 -- the byte at an address: the heap's, and 0 behind the HOB list and outside the heap
 abbrev pub heap_byte : StoreState → ℕ → ℕ
@@ -23,5 +24,5 @@ region_bytes s region at n = if is_inside region.base region.len at n then Some 
 -- the n bytes at an address, where they lie in one mapped region
 abbrev pub bytes_at : StoreState → ℕ → ℕ → Option (List ℕ)
 bytes_at s at n =
-    or_else (if s.moved then None else region_bytes s s.board.temp at n)
-    (or_else (region_bytes s s.board.ram at n) (rom_bytes s.board.roms at n))
+    option_or (if s.moved then None else region_bytes s s.board.temp at n)
+    (option_or (region_bytes s s.board.ram at n) (rom_bytes s.board.roms at n))

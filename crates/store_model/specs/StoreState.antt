@@ -3,6 +3,7 @@
 -- PI 1.8, volume 1 (PPIs and notifications) and volume 3 (HOBs); the record of lists is own.
 use Rattle.std.specs.Prelude.{ℕ, ◌+◌, ◌-◌, ◌*◌, ◌/◌, Bool, ◌==◌, if◌then◌else◌, List, [], ◌∷◌, ◌++◌, length, sum_by, Option, Some, None}
 use Rattle.hob_codec.specs.declared.kind.TheConstants.{POOL}
+use Rattle.pi_base.specs.declared.span.Span.{Span}
 pub use Rattle.phys_mem.specs.declared.rom.Rom.{Rom}
 pub use Rattle.store_model.specs.declared.state.Entry.{Entry}
 pub use Rattle.store_model.specs.declared.state.Pending.{Pending}
@@ -16,6 +17,10 @@ pub use Rattle.store_model.specs.declared.state.HobEntry.{HobEntry}
 pub record Range : Type 0 where
   pub base : ℕ
   pub len : ℕ
+
+-- the memory of a span
+abbrev pub range_of : Span → Range
+range_of span = record { base = span.base; len = span.len }
 
 -- the memory of the board: temporary RAM, of which the last `pages` bytes are the page region, RAM, and the mapped volumes
 pub record Board : Type 0 where

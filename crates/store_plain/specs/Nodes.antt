@@ -1,9 +1,7 @@
 -- What the adding of entries and queued pairs needs: room in the heap for their nodes, and memory in the lists.
 -- Own.
-use Rattle.std.specs.Prelude.{ℕ, ◌+◌, ◌*◌, ◌≤◌, List, map, filter, vec_len, vec_capacity}
-use Rattle.pi_base.specs.Guids.{same_guid}
-use Rattle.store_model.specs.StoreState.{StoreState, free}
-use Rattle.store_model.specs.Service.Descriptor.{guid_at}
+use Rattle.std.specs.Prelude.{ℕ, ◌+◌, ◌*◌, ◌≤◌, vec_len, vec_capacity}
+use Rattle.store_model.specs.StoreState.{free}
 use Rattle.store_plain.specs.declared.store.PlainStore.{PlainStore}
 use Rattle.store_plain.specs.PlainState.{state_of}
 
@@ -16,7 +14,3 @@ abbrev pub HasEntries : PlainStore → ℕ → Type 0
 HasEntries p n =
     (vec_len p.ppis + n ≤ vec_capacity p.ppis) × (vec_len p.callbacks + n ≤ vec_capacity p.callbacks)
     × (vec_len p.dispatches + n ≤ vec_capacity p.dispatches)
-
--- the pairs of one PPI
-abbrev pub row_of : StoreState → ℕ → List ℕ → List (ℕ × ℕ)
-row_of s ppi notes = map (λ note. (ppi, note)) (filter (λ note. same_guid (guid_at s ppi) (guid_at s note)) notes)

@@ -1,13 +1,9 @@
 -- The one state that a plain store stands for: its own lists and numbers.
 -- Own.
 use Rattle.std.specs.Prelude.{◌≡◌, option_map}
-use Rattle.pi_base.specs.declared.span.Span.{Span}
 use Rattle.store_plain.specs.declared.store.PlainStore.{PlainStore}
-use Rattle.store_model.specs.StoreState.{StoreState, Range}
+use Rattle.store_model.specs.StoreState.{StoreState, range_of}
 use Rattle.store_model.specs.StateFacts.{IsStoreState}
-
-abbrev pub range_of : Span → Range
-range_of span = record { base = span.base; len = span.len }
 
 abbrev pub state_of : PlainStore → StoreState
 state_of p = record {

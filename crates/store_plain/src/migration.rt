@@ -3,7 +3,7 @@ ghost use Rattle.std.specs.Prelude.{◌≡◌, ◌≤◌, ◌<◌, ◌+◌, ◌=
 ghost use Rattle.store_model.specs.declared.state.HobEntry.{HobEntry};
 ghost use Rattle.std.specs.List.{list_any};
 ghost use Rattle.store_model.specs.StateFacts.{IsStoreState};
-ghost use Rattle.store_model.specs.StoreState.{handoff_len};
+ghost use Rattle.store_model.specs.StoreState.{handoff_len, range_of};
 ghost use Rattle.store_model.specs.StoreCall.{Migrates, IsDue};
 ghost use Rattle.store_model.specs.Service.Descriptor.{is_named, descriptors};
 ghost use Rattle.store_model.specs.Migration.{moved_number, moved_value, moved_hobs};
@@ -26,7 +26,7 @@ fn names(entries: &[Entry], place: u64) -> bool
 }
 
 impl PlainStore {
-    ghost use Rattle.store_plain.specs.PlainState.{state_of, range_of};
+    ghost use Rattle.store_plain.specs.PlainState.{state_of};
     ghost use Rattle.store_plain.specs.Moves.{FitsInto, SameLists, moved_hob};
 
     // Whether a queued pair names the descriptor at a place.

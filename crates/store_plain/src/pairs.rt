@@ -1,7 +1,7 @@
 // The pairs of PPIs and notifications with equal GUIDs, by the places of their descriptors.
 ghost use Rattle.std.specs.Prelude.{◌≡◌, ◌++◌, IfOk, OnOk};
 ghost use Rattle.store_model.specs.Service.Descriptor.{offsets, descriptors};
-ghost use Rattle.store_model.specs.Service.Install.{pairs_of};
+ghost use Rattle.store_model.specs.Service.Install.{pairs_of, row_of};
 ghost use Rattle.store_model.specs.Service.Notify.{new_dispatches};
 
 use crate::store::PlainStore;
@@ -33,7 +33,6 @@ pub(crate) fn descriptors(alloc: Global, entries: &[Entry]) -> Result<Vec<u64>, 
 
 impl PlainStore {
     ghost use Rattle.store_plain.specs.PlainState.{state_of};
-    ghost use Rattle.store_plain.specs.Nodes.{row_of};
 
     // The places of those of a list that are dispatch notifications.
     pub(crate) fn dispatches_of(&self, list: &[Desc]) -> Result<Vec<u64>, OutOfMemory>

@@ -1,6 +1,6 @@
 // A store over lists.
 ghost use Rattle.std.specs.Prelude.{◌≡◌, ◌+◌, ◌≤◌, sum_by, if◌then◌else◌};
-ghost use Rattle.store_model.specs.StoreState.{handoff_len, header_len, hob_len, page_bytes};
+ghost use Rattle.store_model.specs.StoreState.{handoff_len, header_len, hob_len, page_bytes, range_of};
 ghost use Rattle.boot_plan.specs.declared.limits.TheConstants.{MOST_END};
 ghost use Rattle.store_model.specs.StateFacts.{IsBoard, IsStoreState};
 ghost use Rattle.store_model.specs.StoreState.{empty_store};
@@ -42,7 +42,7 @@ pub struct PlainStore {
 }
 
 impl PlainStore {
-    ghost use Rattle.store_plain.specs.PlainState.{range_of, state_of};
+    ghost use Rattle.store_plain.specs.PlainState.{state_of};
 
     /// The store at the start of a boot: the heap in temporary RAM, without the last `pages` bytes, from which early pages are taken.
     pub fn new(alloc: Global, temp: Span, pages: u64, ram: Span, roms: Seq<Rom>) -> PlainStore

@@ -28,9 +28,13 @@ with_node s = appended s (pool_of Node)
 abbrev pub with_ppi : ℕ → StoreState → Desc → StoreState
 with_ppi by s d = record (with_node s) { ppis = s.ppis ++ record { node = next_body s; descriptor = d.offset; by = by } ∷ [] }
 
--- the pairs of a PPI and a notification with equal GUIDs, by the places of their descriptors, in order of PPI and then of registration
+-- the pairs of one PPI with the notifications of its GUID, by the places of their descriptors
+abbrev pub row_of : StoreState → ℕ → List ℕ → List (ℕ × ℕ)
+row_of s ppi notes = map (λ note. (ppi, note)) (filter (λ note. same_guid (guid_at s ppi) (guid_at s note)) notes)
+
+-- the pairs of all PPIs, in order of PPI and then of registration
 abbrev pub pairs_of : StoreState → List ℕ → List ℕ → List (ℕ × ℕ)
-pairs_of s ppis notes = flat_map (λ ppi. map (λ note. (ppi, note)) (filter (λ note. same_guid (guid_at s ppi) (guid_at s note)) notes)) ppis
+pairs_of s ppis notes = flat_map (λ ppi. row_of s ppi notes) ppis
 
 -- one queued pair more
 abbrev pub with_pending : ℕ → StoreState → (ℕ × ℕ) → StoreState

@@ -1,4 +1,5 @@
-use Rattle.boot_core.specs.CommandLine.{words_of, AskForBoot}
+use Rattle.boot_core.specs.CommandLine.{AskForBoot}
+use Rattle.boot_io.specs.Words.{words_of}
 use Rattle.boot_core.specs.Deciding.{IsBoot, IsRefused, Names}
 use Rattle.boot_core.specs.Outcome.{AskedOutcome, Outcome, asked_done, kind_of}
 use Rattle.boot_core.proofs.Asking.{boots_of, due_of_words}

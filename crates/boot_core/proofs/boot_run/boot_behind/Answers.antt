@@ -5,7 +5,8 @@ use Rattle.boot_model.specs.declared.phase_end.PeiEnd.TheVariants as M
 use Rattle.boot_core.specs.BootEnd.{end_after}
 use Rattle.store_model.specs.HandleState.{no_handles}
 use Rattle.boot_end.specs.Closing.{closing_text}
-use Rattle.boot_core.specs.Running.{BootsDxe, IsResult, Texts, dxe_text, text_behind, behind}
+use Rattle.boot_core.specs.Running.{BootsDxe, IsResult, dxe_text, text_behind, behind}
+use Rattle.boot_trace.specs.Printing.{Texts}
 use Rattle.boot_core.proofs.BootTexts.{handed_off, done_after, ended_text}
 use Rattle.boot_core.proofs.Telling.{tells_same}
 use Rattle.boot_core.proofs.boot_run.boot_behind.Goals as goal

@@ -1,7 +1,8 @@
 use Rattle.std.proofs.Common.{◌≡◌, subst}
 use Rattle.store_model.specs.HandleState.{HandleState}
 use Rattle.boot_end.specs.Closing.{closing_text}
-use Rattle.boot_core.specs.Running.{Tells, Texts}
+use Rattle.boot_core.specs.Running.{Tells}
+use Rattle.boot_trace.specs.Printing.{Texts}
 use Rattle.boot_core.proofs.boot_run.close_pei.Goals as goal
 
 pub returns-clause-row : goal.returns-clause-row

@@ -1,11 +1,10 @@
 use Rattle.std.proofs.Common.{subst, sym, drop, length, ◌≤◌, ◌+◌, arith}
 use Rattle.std.proofs.lemmas.Result.{err_from_is_err_and}
-use Rattle.boot_io.specs.Halted.{HaltsAfter}
 use Rattle.boot_model.specs.DxeChoice.{drivers_of}
 use Rattle.boot_model.specs.DxeStep.{dxe_step}
 use Rattle.driver_order.specs.Order.{Drivers, IsOrderOf}
 use Rattle.dxe_choice.specs.Queue.{Discovers, owed}
-use Rattle.dxe_dispatch.proofs.Turning.{event_owes, on_ok, event_so, has_event, new_drivers, not_ok, owes_still, told, whole_part, ends_so, turns_after}
+use Rattle.dxe_dispatch.proofs.Turning.{event_owes, on_ok, event_so, has_event, new_drivers, owes_still, told, whole_part, ends_so, turns_after}
 use Rattle.dxe_dispatch.proofs.turns.turn.Goals as goal
 
 pub discover-requires-clause-new : goal.discover-requires-clause-new
@@ -25,7 +24,7 @@ pub returns-in_err-discover-in-Went-clause-row : goal.returns-in_err-discover-in
 returns-in_err-discover-in-Went-clause-row g c m fuel made ready =
     let went = rw c.in-Went.is at (c.in_ok-event.ensures.row m fuel made ready.now.machine ready.waits) in
     let p = err_from_is_err_and c.from_residual-in_err-discover-in-Went.result c.from_residual-in_err-discover-in-Went.ensures.1 in
-    rw p.1 (whole_part m _ _ went.2.printed)
+    rw p.1 (whole_part m (dxe_step c.args.catalog.now fuel m) _ went.2.printed)
 
 pub start_or_stop-requires-clause-state : goal.start_or_stop-requires-clause-state
 start_or_stop-requires-clause-state g c =
@@ -71,60 +70,3 @@ returns-in-Ended-clause-owes g c m fuel made ready = owes_still c.args.catalog.n
 
 pub returns-in-Idle-clause-made : goal.returns-in-Idle-clause-made
 returns-in-Idle-clause-made g c = on_ok c.start_or_stop.result (λ keeps fuel for. keeps fuel (c.in_ok-event.ensures.made fuel for)) c.start_or_stop.ensures.made
-
-pub returns-in_err-event-clause-made : goal.returns-in_err-event-clause-made
-returns-in_err-event-clause-made g c = not_ok _ c.from_residual.result c.from_residual.ensures.0
-
-pub returns-in_err-event-clause-queue : goal.returns-in_err-event-clause-queue
-returns-in_err-event-clause-queue g c = not_ok _ c.from_residual.result c.from_residual.ensures.0
-
-pub returns-in_err-event-clause-owes : goal.returns-in_err-event-clause-owes
-returns-in_err-event-clause-owes g c = not_ok _ c.from_residual.result c.from_residual.ensures.0
-
-pub returns-in_err-event-clause-few_steps : goal.returns-in_err-event-clause-few_steps
-returns-in_err-event-clause-few_steps g c = omega arith
-
-pub returns-in_err-discover-in-Went-clause-made : goal.returns-in_err-discover-in-Went-clause-made
-returns-in_err-discover-in-Went-clause-made g c = not_ok _ c.from_residual-in_err-discover-in-Went.result c.from_residual-in_err-discover-in-Went.ensures.0
-
-pub returns-in_err-discover-in-Went-clause-queue : goal.returns-in_err-discover-in-Went-clause-queue
-returns-in_err-discover-in-Went-clause-queue g c = not_ok _ c.from_residual-in_err-discover-in-Went.result c.from_residual-in_err-discover-in-Went.ensures.0
-
-pub returns-in_err-discover-in-Went-clause-owes : goal.returns-in_err-discover-in-Went-clause-owes
-returns-in_err-discover-in-Went-clause-owes g c = not_ok _ c.from_residual-in_err-discover-in-Went.result c.from_residual-in_err-discover-in-Went.ensures.0
-
-pub returns-in_err-discover-in-Went-clause-few_steps : goal.returns-in_err-discover-in-Went-clause-few_steps
-returns-in_err-discover-in-Went-clause-few_steps g c = omega arith
-
-pub returns-in_ok-discover-in-Went-clause-made : goal.returns-in_ok-discover-in-Went-clause-made
-returns-in_ok-discover-in-Went-clause-made g c = c.in_ok-event.ensures.made
-
-pub returns-in_ok-discover-in-Went-clause-queue : goal.returns-in_ok-discover-in-Went-clause-queue
-returns-in_ok-discover-in-Went-clause-queue g c = c.in_ok-discover-in-Went.ensures.made
-
-pub returns-in_ok-discover-in-Went-clause-faults : goal.returns-in_ok-discover-in-Went-clause-faults
-returns-in_ok-discover-in-Went-clause-faults g c = c.in_ok-event.ensures.faults
-
-pub returns-in_ok-discover-in-Went-clause-few_steps : goal.returns-in_ok-discover-in-Went-clause-few_steps
-returns-in_ok-discover-in-Went-clause-few_steps g c = omega arith
-
-pub returns-in-Idle-clause-queue : goal.returns-in-Idle-clause-queue
-returns-in-Idle-clause-queue g c = c.start_or_stop.ensures.queue
-
-pub returns-in-Idle-clause-few_steps : goal.returns-in-Idle-clause-few_steps
-returns-in-Idle-clause-few_steps g c = c.start_or_stop.ensures.few_steps
-
-pub returns-in-Idle-clause-faults : goal.returns-in-Idle-clause-faults
-returns-in-Idle-clause-faults g c = subst (λ n. HaltsAfter c.start_or_stop.result n (g.S.Sink.faults c.start_or_stop.new.sink)) c.in_ok-event.ensures.faults c.start_or_stop.ensures.faults
-
-pub returns-in-Ended-clause-made : goal.returns-in-Ended-clause-made
-returns-in-Ended-clause-made g c = c.in_ok-event.ensures.made
-
-pub returns-in-Ended-clause-queue : goal.returns-in-Ended-clause-queue
-returns-in-Ended-clause-queue g c = c.requires.queue
-
-pub returns-in-Ended-clause-faults : goal.returns-in-Ended-clause-faults
-returns-in-Ended-clause-faults g c = c.in_ok-event.ensures.faults
-
-pub returns-in-Ended-clause-few_steps : goal.returns-in-Ended-clause-few_steps
-returns-in-Ended-clause-few_steps g c = omega arith

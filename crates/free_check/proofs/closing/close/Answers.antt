@@ -3,7 +3,8 @@ use Rattle.std.proofs.lemmas.Result.{err_from_is_err_and}
 use Rattle.boot_model.specs.FreeRun.{AreFreeLines}
 use Rattle.boot_end.specs.Closing.{closing_text}
 use Rattle.free_check.specs.Following.{Follows}
-use Rattle.free_check.proofs.LastLines.{not_right, off_by, whole_by}
+use Rattle.free_pei.proofs.Going.{not_right}
+use Rattle.free_check.proofs.LastLines.{off_by, whole_by}
 use Rattle.free_check.proofs.closing.close.Goals as goal
 
 pub returns-in_err-put_closing : goal.returns-in_err-put_closing

@@ -4,8 +4,9 @@ use Rattle.boot_model.specs.DxeRun.{dxe_bound, dxe_opening}
 use Rattle.driver_order.specs.Order.{Drivers, IsOrderOf}
 use Rattle.dxe_choice.specs.Queue.{Discovers}
 use Rattle.dxe_dispatch.specs.Ends.{IsNow}
+use Rattle.dxe_dispatch.proofs.Ways.{opening_drivers}
 use Rattle.free_check.specs.DxeTurn.{IsOnWay}
-use Rattle.free_check.proofs.FollowedRuns.{few_left, followed_err, following_on, following_over, going_done, going_on, none_left, not_right, one_left, opening_drivers, opening_followed, opening_going, opening_off}
+use Rattle.free_check.proofs.FollowedRuns.{few_left, followed_err, following_on, following_over, going_done, going_on, none_left, not_right, one_left, opening_followed, opening_going, opening_off}
 use Rattle.free_check.proofs.dxe_run.run_dxe_by_text.Goals as goal
 
 pub discover-requires-clause-new : goal.discover-requires-clause-new

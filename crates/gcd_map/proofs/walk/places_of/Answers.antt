@@ -1,7 +1,8 @@
 use Rattle.std.proofs.Common.{arith, rules, ap, ◌∙◌}
 use Rattle.hob_codec.specs.declared.list.HobPlace.{HobPlace}
 use Rattle.gcd_map.specs.Places.{IsNear}
-use Rattle.gcd_map.proofs.Walking.{leads_more, each_more}
+use Rattle.hob_codec.proofs.ListLemmas.{leads_more}
+use Rattle.gcd_map.proofs.Walking.{each_more}
 use Rattle.gcd_map.proofs.walk.places_of.Goals as goal
 
 pub walk-preserved : goal.walk-preserved

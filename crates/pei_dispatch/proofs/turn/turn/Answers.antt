@@ -3,7 +3,7 @@ use Rattle.std.proofs.lemmas.Result.{err_from_is_err_and}
 use Rattle.boot_model.specs.declared.phase_end.PeiEnd.{PeiEnd}
 use Rattle.boot_model.specs.PeiStep.{pei_step}
 use Rattle.pei_choice.specs.Queue.{owed_by}
-use Rattle.pei_core.specs.Turn.{Texts}
+use Rattle.boot_trace.specs.Printing.{Texts}
 use Rattle.pei_dispatch.specs.declared.going.Progress.{Progress}
 use Rattle.pei_dispatch.proofs.Evaluating.{few_still, few_with}
 use Rattle.pei_dispatch.proofs.Turning.{turns_after, part_of_going, want_as}

@@ -1,4 +1,4 @@
-use Rattle.pitools.specs.CommandLine.{words_of}
+use Rattle.boot_io.specs.Words.{words_of}
 use Rattle.pitools.specs.Outcome.{Names, Outcome}
 use Rattle.pitools.proofs.Ending.{put_ends}
 use Rattle.pitools.proofs.tools.tools_main.Goals as goal

@@ -1,5 +1,5 @@
 use Rattle.std.proofs.Common.{◌≡◌}
-use Rattle.pitools.specs.CommandLine.{words_of}
+use Rattle.boot_io.specs.Words.{words_of}
 use Rattle.pitools.specs.CheckReport.{CheckNames, CheckOutcome}
 use Rattle.pitools.specs.Outcome.{MapNames, MapOutcome, Names, Outcome, ToolOutcome, of_check, of_map, of_tool, words_ask_check, words_ask_map, words_ask_tool}
 use Rattle.pitools.proofs.Ending.{reports_ok}

@@ -1,6 +1,6 @@
 use Rattle.std.proofs.Common.{◌≡◌, ◌++◌, drop}
 use Rattle.store_plain.specs.PlainState.{state_of}
-use Rattle.store_plain.specs.Nodes.{row_of}
+use Rattle.store_model.specs.Service.Install.{row_of}
 use Rattle.store_plain.proofs.store.PlainStore.add_row.Given as goal
 
 abbrev pub invariant-notes : goal.invariant-notes

@@ -1,8 +1,8 @@
 use Rattle.std.proofs.Common.{◌≡◌, ◌+◌, ◌++◌, drop, take, length}
 use Rattle.std.specs.Prelude.{sum_by}
-use Rattle.store_model.specs.StoreState.{hob_len}
+use Rattle.store_model.specs.StoreState.{hob_len, range_of}
 use Rattle.store_model.specs.Migration.{moved_hobs}
-use Rattle.store_plain.specs.PlainState.{state_of, range_of}
+use Rattle.store_plain.specs.PlainState.{state_of}
 use Rattle.store_plain.specs.Moves.{SameLists}
 use Rattle.store_plain.proofs.store.PlainStore.move_hobs.Given as goal
 

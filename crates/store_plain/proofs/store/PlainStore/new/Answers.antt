@@ -1,4 +1,4 @@
-use Rattle.store_plain.specs.PlainState.{range_of}
+use Rattle.store_model.specs.StoreState.{range_of}
 use Rattle.store_laws.proofs.Services.{all_keep}
 use Rattle.store_plain.proofs.store.PlainStore.new.Goals as goal
 

@@ -1,7 +1,0 @@
-use Rattle.boot_model.specs.declared.line.Line.TheVariants as L
-use Rattle.free_pei.proofs.Reading.{line_is}
-use Rattle.free_pei.proofs.aim.start_in.Goals as goal
-
-pub returns-in-Some : goal.returns-in-Some
-returns-in-Some c volume name licence is =
-    c.named_start.ensures volume name licence (line_is c.one_reading.ensures.lines (L.PeiStart volume name licence) c.in-Some.found c.args.line.now is c.in-Some.ensures.read)
