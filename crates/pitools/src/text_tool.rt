@@ -39,7 +39,8 @@ fn assemble_depex(alloc: Global, text: &[u8]) -> Result<Report, OutOfMemory>
         Err(TextFault::TooLong) => return Ok(Report::TextLong),
         Err(TextFault::Memory) => return Err(OutOfMemory),
     };
-    hex_answer(alloc, write_depex(alloc, &depex)?.as_slice())
+    let bytes = write_depex(alloc, &depex)?;
+    hex_answer(alloc, bytes.as_slice())
 }
 
 // The bytes of the text of a script.

@@ -12,8 +12,8 @@ returns-in-Err-TooLong c =
     let refused = rw c.in-Err-TooLong.field-0-is at c.in-Err-TooLong.ensures.refused in
     (long refused.0 refused.1 refused.2 refl refl, refl)
 
-pub returns-in-Ok-write_depex : goal.returns-in-Ok-write_depex
-returns-in-Ok-write_depex c =
+pub returns : goal.returns
+returns c =
     let depex = c.in-Ok.depex in
     answered c.hex_answer.result (DepexReport c.args.text.now) (hex_line (bytes_of (instructions depex)))
-    (rw (c.as_slice.ensures ∙ c.in-Ok-write_depex.ensures.written) at c.hex_answer.ensures) (spelled depex c.in-Ok.ensures.read c.in-Ok.ensures.few refl refl)
+    (rw (c.as_slice.ensures ∙ c.in_ok-bytes.ensures) at c.hex_answer.ensures) (spelled depex c.in-Ok.ensures.read c.in-Ok.ensures.few refl refl)
