@@ -195,6 +195,10 @@ impl Catalog {
 
 impl Module {
     pub fn part(&self, phase: Phase) -> Option<&Part> {
-        if phase == Phase::Pei { self.pei.as_ref() } else { self.dxe.as_ref() }
+        if phase == Phase::Pei {
+            self.pei.as_ref()
+        } else {
+            self.dxe.as_ref()
+        }
     }
 }

@@ -148,7 +148,11 @@ fn read_file(name: &str, most: u64) -> Result<Vec<u8>, Refusal> {
     let file = std::fs::File::open(name).map_err(fault)?;
     let mut bytes = Vec::with_capacity(file.metadata().map_or(0, |it| it.len().min(most) as usize + 1));
     file.take(most + 1).read_to_end(&mut bytes).map_err(fault)?;
-    if bytes.len() as u64 > most { Err(Refusal(format!("refused long {name}"), TOO_LONG)) } else { Ok(bytes) }
+    if bytes.len() as u64 > most {
+        Err(Refusal(format!("refused long {name}"), TOO_LONG))
+    } else {
+        Ok(bytes)
+    }
 }
 
 /// A plan and the images of its volumes.

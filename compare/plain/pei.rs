@@ -291,10 +291,12 @@ impl<'a> Pei<'a> {
             Action::Desc(to, kind, place, argument) => self.desc(frame, *to, *kind, place, *argument),
             Action::Install(registers) => self.install(frame, registers, by, &mut swept),
             Action::Reinstall(old, new) => self.reinstall(frame, *old, *new, by, &mut swept),
-            Action::Notify(registers) => descs_in(&self.store, frame, registers, |kind| kind != PPI).and_then(|descs| self.store.notify(&descs, by)).map(|sweep| {
-                swept = Some((sweep, 0, 0));
-                Shown::Nothing
-            }),
+            Action::Notify(registers) => {
+                descs_in(&self.store, frame, registers, |kind| kind != PPI).and_then(|descs| self.store.notify(&descs, by)).map(|sweep| {
+                    swept = Some((sweep, 0, 0));
+                    Shown::Nothing
+                })
+            }
             Action::Locate(to, value, guid, instance) => match self.store.ppis_of.of(guid).get(*instance as usize) {
                 None => Err(Status::NotFound),
                 Some(ppi) => {

@@ -20,8 +20,13 @@ pub enum Status {
 }
 
 pub const STATUSES: [Status; 7] = [
-    Status::Success, Status::InvalidParameter, Status::NotFound, Status::OutOfResources,
-    Status::NotAvailableYet, Status::AlreadyStarted, Status::AccessDenied,
+    Status::Success,
+    Status::InvalidParameter,
+    Status::NotFound,
+    Status::OutOfResources,
+    Status::NotAvailableYet,
+    Status::AlreadyStarted,
+    Status::AccessDenied,
 ];
 
 #[derive(Clone, Copy, PartialEq, Debug)]
@@ -97,7 +102,11 @@ pub fn read(bytes: &[u8]) -> Result<Script, Fault> {
         blocks.push(block);
         at = end;
     }
-    if at < bytes.len() { Err(Fault("Count", at)) } else { Ok(Script { phase, blocks }) }
+    if at < bytes.len() {
+        Err(Fault("Count", at))
+    } else {
+        Ok(Script { phase, blocks })
+    }
 }
 
 fn read_block(bytes: &[u8], start: usize, phase: Phase, blocks: usize) -> Result<(Vec<Action>, usize), Fault> {
@@ -121,7 +130,11 @@ fn read_block(bytes: &[u8], start: usize, phase: Phase, blocks: usize) -> Result
         actions.push(action);
         at = operands.at;
     }
-    if matches!(actions.last(), Some(Action::Ret(_))) { Ok((actions, at)) } else { Err(Fault("Block", start)) }
+    if matches!(actions.last(), Some(Action::Ret(_))) {
+        Ok((actions, at))
+    } else {
+        Err(Fault("Block", start))
+    }
 }
 
 /// The operands of one action, taken one after another; none where a byte is missing or out of its range.

@@ -192,7 +192,11 @@ pub fn asm_script(text: &[u8]) -> Result<Vec<u8>, Refused> {
         return Err(Refused::Line(end));
     }
     let bytes = reading.bytes();
-    if bytes.len() > MOST_BYTES { Err(Refused::Long) } else { Ok(bytes) }
+    if bytes.len() > MOST_BYTES {
+        Err(Refused::Long)
+    } else {
+        Ok(bytes)
+    }
 }
 
 struct Reading {
@@ -264,7 +268,11 @@ struct Words<'a> {
 
 impl<'a> Words<'a> {
     fn word(&mut self) -> Option<&'a [u8]> {
-        if self.left.is_empty() { None } else { Some(self.left.remove(0)) }
+        if self.left.is_empty() {
+            None
+        } else {
+            Some(self.left.remove(0))
+        }
     }
 
     fn register(&mut self) -> Option<u8> {
