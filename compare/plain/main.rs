@@ -163,7 +163,7 @@ fn read_boot(name: &str) -> Result<(Plan, Vec<Vec<u8>>), Refusal> {
     Ok((plan, images))
 }
 
-fn examined(plan: &Plan, images: &[Vec<u8>]) -> Result<Catalog, Refusal> {
+fn examined<'a>(plan: &Plan, images: &'a [Vec<u8>]) -> Result<Catalog<'a>, Refusal> {
     catalog(plan, images).map_err(|(volume, Fault(cause, at))| Refusal(format!("refused image {volume} {at} {cause}"), IMAGE_REFUSED))
 }
 
