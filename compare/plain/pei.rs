@@ -1,0 +1,422 @@
+//! The PEI phase (docs/BOOT-MACHINE.md, "PEI").
+use crate::bytes::{u64_at, Guid};
+use crate::catalog::Catalog;
+use crate::depex::Expr;
+use crate::frame::{put_call, Frame, Reg, Shown, DEEPEST};
+use crate::guids::{DXE_IPL, FFS2, FFS3, MEMORY, VOLUME_INFO};
+use crate::out::{Halt, Out};
+use crate::put;
+use crate::script::{Action, Phase, Status, Where};
+use crate::store::{Store, Sweep, PPI};
+use crate::waiting::Waiting;
+use std::collections::HashMap;
+
+#[derive(Clone, Copy, PartialEq)]
+enum State {
+    Waits,
+    Started,
+    Registered,
+    Done,
+}
+
+#[derive(Clone, Copy, PartialEq, Debug)]
+pub enum End {
+    Done,
+    NoMemory,
+    NoIpl,
+    Spent,
+    Deep,
+}
+
+pub struct Pei<'a> {
+    pub catalog: &'a Catalog,
+    pub images: &'a [Vec<u8>],
+    pub store: Store,
+    pub fuel: u64,
+    pub actions: u64,
+    /// How many starts there were, and the module of the last.
+    pub starts: (usize, Option<usize>),
+    reported: Vec<bool>,
+    states: Vec<State>,
+    waiting: Waiting,
+    cursor: usize,
+    frames: Vec<Frame<Sweep>>,
+    core_sweep: Option<Sweep>,
+    by_name: HashMap<(usize, Guid), usize>,
+}
+
+impl<'a> Pei<'a> {
+    pub fn new(catalog: &'a Catalog, images: &'a [Vec<u8>], store: Store, fuel: u64) -> Self {
+        let by_name = catalog.modules.iter().enumerate().map(|(number, module)| ((module.volume, module.name), number)).collect();
+        Pei {
+            catalog,
+            images,
+            store,
+            fuel,
+            actions: 0,
+            starts: (0, None),
+            reported: vec![false; catalog.volumes.len()],
+            states: vec![State::Waits; catalog.modules.len()],
+            waiting: Waiting::default(),
+            cursor: 0,
+            frames: Vec::new(),
+            core_sweep: None,
+            by_name,
+        }
+    }
+
+    pub fn run(&mut self, out: &mut Out) -> Result<End, Halt> {
+        self.report(0, out)?;
+        loop {
+            if let Some((ppi, callback)) = self.fire() {
+                if self.frames.len() == DEEPEST {
+                    return Ok(End::Deep);
+                }
+                self.begin_notification("callback", callback, ppi, out)?;
+            } else if !self.frames.is_empty() {
+                if self.actions == self.fuel {
+                    return Ok(End::Spent);
+                }
+                self.actions += 1;
+                self.act(out)?;
+            } else if self.store.planned.is_some() && !self.store.moved {
+                self.move_memory(out)?;
+            } else if let Some(pending) = self.store.pop() {
+                self.core_sweep = None;
+                self.begin_notification("dispatch", pending.desc, pending.ppi, out)?;
+            } else if let Some(place) = self.next(out) {
+                self.core_sweep = None;
+                self.start(place, out)?;
+            } else {
+                return self.stop(out);
+            }
+        }
+    }
+
+    fn fire(&mut self) -> Option<(usize, usize)> {
+        let sweep = match self.frames.last_mut() {
+            Some(frame) => &mut frame.sweep,
+            None => &mut self.core_sweep,
+        };
+        let fired = self.store.fire(sweep.as_mut()?);
+        if fired.is_none() {
+            *sweep = None;
+        }
+        fired
+    }
+
+    /// Reports a volume and those nested in it.
+    fn report(&mut self, volume: usize, out: &mut Out) -> Result<(), Halt> {
+        for volume in self.catalog.tree(volume) {
+            if std::mem::replace(&mut self.reported[volume], true) {
+                continue;
+            }
+            put!(out, "report {volume}")?;
+            for module in self.catalog.in_order(volume, Phase::Pei) {
+                let place = self.waiting.push(module, self.catalog.modules[module].pei.as_ref().unwrap().expr.pushed());
+                self.weigh(place);
+            }
+        }
+        Ok(())
+    }
+
+    /// Enters a part among those that may start, or takes it out.
+    fn weigh(&mut self, place: usize) {
+        let module = self.waiting.order[place];
+        let part = self.catalog.modules[module].pei.as_ref().unwrap();
+        let may = match self.states[module] {
+            State::Waits => {
+                part.rank.is_some()
+                    || match &part.expr {
+                        Expr::Absent => true,
+                        Expr::Tree { ops, .. } => self.waiting.holds(ops),
+                        _ => false,
+                    }
+            }
+            State::Registered => self.store.moved,
+            _ => false,
+        };
+        if may {
+            self.waiting.ready.insert(place);
+        } else {
+            self.waiting.ready.remove(&place);
+        }
+    }
+
+    fn next(&mut self, out: &Out) -> Option<usize> {
+        for place in self.waiting.stale() {
+            self.weigh(place);
+        }
+        let named = out.named("pei").and_then(|name| self.by_name.get(&name)).and_then(|module| self.waiting.place_of.get(module));
+        if let Some(place) = named.filter(|place| self.waiting.ready.contains(place)) {
+            return Some(*place);
+        }
+        let ready = &self.waiting.ready;
+        ready.range(self.cursor..).next().or(ready.first()).copied()
+    }
+
+    fn start(&mut self, place: usize, out: &mut Out) -> Result<(), Halt> {
+        let number = self.waiting.order[place];
+        let module = &self.catalog.modules[number];
+        let part = module.pei.as_ref().unwrap();
+        let (licence, state) = match self.states[number] {
+            State::Registered => ("shadow", State::Done),
+            _ if part.rank.is_some() => ("apriori", State::Started),
+            _ if matches!(part.expr, Expr::Absent) => ("absent", State::Started),
+            _ => ("true", State::Started),
+        };
+        self.states[number] = state;
+        self.waiting.ready.remove(&place);
+        self.cursor = place + 1;
+        self.starts = (self.starts.0 + 1, Some(number));
+        put!(out, "pei start {} {} {licence}", module.volume, module.name)?;
+        match &part.script {
+            None => put!(out, "end Success"),
+            Some(script) => {
+                self.frames.push(Frame::new(number, script.clone(), 0));
+                Ok(())
+            }
+        }
+    }
+
+    fn begin_notification(&mut self, kind: &str, notification: usize, ppi: usize, out: &mut Out) -> Result<(), Halt> {
+        let entry = self.store.descs[notification].number;
+        let number = (entry / 64) as usize;
+        let module = &self.catalog.modules[number];
+        let ppi_desc = &self.store.descs[ppi];
+        put!(out, "notify {kind} {} {} {}", module.volume, module.name, ppi_desc.guid)?;
+        let mut frame = Frame::new(number, module.pei.as_ref().unwrap().script.clone().unwrap(), (entry % 64) as usize);
+        frame.regs[0] = Reg::Number(ppi_desc.number);
+        frame.regs[1] = Reg::Desc(ppi);
+        self.frames.push(frame);
+        Ok(())
+    }
+
+    fn move_memory(&mut self, out: &mut Out) -> Result<(), Halt> {
+        let (old, new) = self.store.migrate();
+        put!(out, "migrate {old:#x} {new:#x}")?;
+        for place in 0..self.waiting.order.len() {
+            if self.states[self.waiting.order[place]] == State::Registered {
+                self.waiting.ready.insert(place);
+            }
+        }
+        match self.store.install_memory_ppi() {
+            Ok(sweep) => {
+                self.core_sweep = Some(sweep);
+                self.waiting.came(MEMORY);
+                put!(out, "core install Success")
+            }
+            Err(status) => put!(out, "core install {status:?}"),
+        }
+    }
+
+    fn stop(&mut self, out: &mut Out) -> Result<End, Halt> {
+        put!(out, "pei stop")?;
+        for &number in &self.waiting.order {
+            let module = &self.catalog.modules[number];
+            let reason = match (self.states[number], &module.pei.as_ref().unwrap().expr) {
+                (State::Registered, _) => "shadow",
+                (State::Waits, Expr::Malformed(_)) => "malformed",
+                (State::Waits, _) => "false",
+                _ => continue,
+            };
+            put!(out, "waiting {} {} {reason}", module.volume, module.name)?;
+        }
+        if !self.store.moved {
+            return Ok(End::NoMemory);
+        }
+        if self.store.ppis_of.of(&DXE_IPL).is_empty() {
+            return Ok(End::NoIpl);
+        }
+        put!(out, "handoff {:#x}", self.store.address(0))?;
+        Ok(End::Done)
+    }
+
+    /// Takes the next action of the top frame.
+    fn act(&mut self, out: &mut Out) -> Result<(), Halt> {
+        let mut frame = self.frames.pop().unwrap();
+        let script = frame.script.clone();
+        let action = &script.blocks[frame.block][frame.at];
+        frame.at += 1;
+        frame.sweep = None;
+        match frame.take_common(action, &self.store, self.images, out)? {
+            Some(true) => return Ok(()),
+            Some(false) => {}
+            None => {
+                let name = name_of(action);
+                let sweep = self.serve(&mut frame, action, name, out)?;
+                if let Some((sweep, first, count)) = sweep {
+                    for ppi in first..first + count {
+                        self.look_at(ppi, out)?;
+                    }
+                    frame.sweep = Some(sweep);
+                }
+            }
+        }
+        self.frames.push(frame);
+        Ok(())
+    }
+
+    /// Answers a service's action; a sweep, with the PPIs that the call installed, where it begins one.
+    fn serve(&mut self, frame: &mut Frame<Sweep>, action: &Action, name: &str, out: &mut Out) -> Result<Option<(Sweep, usize, usize)>, Halt> {
+        let mut swept = None;
+        let by = frame.module as u32;
+        let answer = match action {
+            Action::Addr(to, from, offset) => {
+                let place = match frame.regs[*from as usize] {
+                    Reg::Pool { place, .. } => Some(place),
+                    Reg::Desc(desc) => Some(self.store.descs[desc].place),
+                    _ => None,
+                };
+                frame.last = match place {
+                    Some(place) => {
+                        frame.set(*to, Reg::Number(self.store.address(place).wrapping_add(*offset as u64)));
+                        Status::Success
+                    }
+                    None => Status::InvalidParameter,
+                };
+                return Ok(None);
+            }
+            Action::Pool(to, size) => self.store.pool(*size).map(|place| {
+                frame.set(*to, Reg::Pool { place, size: *size });
+                Shown::Hex(self.store.address(place))
+            }),
+            Action::Store(pool, offset, bytes) => match frame.regs[*pool as usize] {
+                Reg::Pool { place, size } if *offset as u64 + bytes.len() as u64 <= size as u64 => {
+                    self.store.store(place + *offset as usize, bytes);
+                    Ok(Shown::Nothing)
+                }
+                _ => Err(Status::InvalidParameter),
+            },
+            Action::Desc(to, kind, place, argument) => self.desc(frame, *to, *kind, place, *argument),
+            Action::Install(registers) => self.install(frame, registers, by, &mut swept),
+            Action::Reinstall(old, new) => self.reinstall(frame, *old, *new, by, &mut swept),
+            Action::Notify(registers) => descs_in(&self.store, frame, registers, |kind| kind != PPI).and_then(|descs| self.store.notify(&descs, by)).map(|sweep| {
+                swept = Some((sweep, 0, 0));
+                Shown::Nothing
+            }),
+            Action::Locate(to, value, guid, instance) => match self.store.ppis_of.of(guid).get(*instance as usize) {
+                None => Err(Status::NotFound),
+                Some(ppi) => {
+                    let desc = self.store.ppis[*ppi].desc;
+                    let number = self.store.descs[desc].number;
+                    frame.set(*to, Reg::Desc(desc));
+                    frame.set(*value, Reg::Number(number));
+                    Ok(Shown::Hex(number))
+                }
+            },
+            Action::Hob(kind, body) => self.store.hob(*kind, body).map(|place| Shown::Hex(self.store.address(place))),
+            Action::Memory(begin, len) => frame
+                .number(*begin)
+                .and_then(|begin| Ok((begin, frame.number(*len)?)))
+                .and_then(|(begin, len)| self.store.plan_memory(begin, len))
+                .map(|()| Shown::Nothing),
+            Action::Pages(to, kind, count) => self.store.pages(*kind, *count).map(|address| {
+                frame.set(*to, Reg::Number(address));
+                Shown::Hex(address)
+            }),
+            Action::BootMode(0, to) => {
+                frame.set(*to, Reg::Number(self.store.boot_mode as u64));
+                Ok(Shown::Hex(self.store.boot_mode as u64))
+            }
+            Action::BootMode(_, from) => match frame.number(*from).map(u32::try_from) {
+                Ok(Ok(mode)) => {
+                    self.store.set_boot_mode(mode);
+                    Ok(Shown::Nothing)
+                }
+                _ => Err(Status::InvalidParameter),
+            },
+            Action::Shadow => self.shadow(frame.module),
+            _ => unreachable!("an action of DXE"),
+        };
+        frame.last = put_call(out, name, answer)?;
+        Ok(swept)
+    }
+
+    fn desc(&mut self, frame: &mut Frame<Sweep>, to: u8, kind: u8, place: &Where, argument: u8) -> Result<Shown, Status> {
+        let number = if kind == PPI { frame.number(argument)? } else { frame.module as u64 * 64 + argument as u64 };
+        let (guid, at) = match place {
+            Where::Here(guid) => (*guid, None),
+            Where::At(register) => {
+                let at = frame.number(*register)?;
+                let bytes = self.store.read_volumes(self.images, at, 16).ok_or(Status::InvalidParameter)?;
+                (Guid::at(&bytes, 0), Some(at))
+            }
+        };
+        let desc = self.store.desc(kind, guid, at, number)?;
+        frame.set(to, Reg::Desc(desc));
+        Ok(Shown::Hex(self.store.address(self.store.descs[desc].place)))
+    }
+
+    fn install(&mut self, frame: &Frame<Sweep>, registers: &[u8], by: u32, swept: &mut Option<(Sweep, usize, usize)>) -> Result<Shown, Status> {
+        let descs = descs_in(&self.store, frame, registers, |kind| kind == PPI)?;
+        let first = self.store.ppis.len();
+        *swept = Some((self.store.install(&descs, by)?, first, descs.len()));
+        for desc in descs {
+            self.waiting.came(self.store.descs[desc].guid);
+        }
+        Ok(Shown::Nothing)
+    }
+
+    fn reinstall(&mut self, frame: &Frame<Sweep>, old: u8, new: u8, by: u32, swept: &mut Option<(Sweep, usize, usize)>) -> Result<Shown, Status> {
+        let old = descs_in(&self.store, frame, &[old], |_| true)?[0];
+        let new = descs_in(&self.store, frame, &[new], |kind| kind == PPI)?[0];
+        let sweep = self.store.reinstall(old, new, by)?;
+        let place = sweep.first();
+        self.waiting.went(self.store.descs[old].guid);
+        self.waiting.came(self.store.descs[new].guid);
+        *swept = Some((sweep, place, 1));
+        Ok(Shown::Nothing)
+    }
+
+    fn shadow(&mut self, module: usize) -> Result<Shown, Status> {
+        if self.states[module] != State::Started {
+            return Err(Status::AlreadyStarted);
+        }
+        self.states[module] = State::Registered;
+        if self.store.moved {
+            self.waiting.ready.insert(self.waiting.place_of[&module]);
+        }
+        Ok(Shown::Nothing)
+    }
+
+    /// Reports the volume that an installed PPI tells of.
+    fn look_at(&mut self, ppi: usize, out: &mut Out) -> Result<(), Halt> {
+        let desc = &self.store.descs[self.store.ppis[ppi].desc];
+        if desc.guid != VOLUME_INFO {
+            return Ok(());
+        }
+        let Some(bytes) = self.store.read(self.images, desc.number, 48) else { return Ok(()) };
+        let system = Guid::at(&bytes, 0);
+        match self.catalog.volume_at(u64_at(&bytes, 16)) {
+            Some(volume) if (system == FFS2 || system == FFS3) && !self.reported[volume] => self.report(volume, out),
+            _ => Ok(()),
+        }
+    }
+}
+
+fn descs_in(store: &Store, frame: &Frame<Sweep>, registers: &[u8], wanted: impl Fn(u8) -> bool) -> Result<Vec<usize>, Status> {
+    let desc = |register: &u8| match frame.regs[*register as usize] {
+        Reg::Desc(desc) if wanted(store.descs[desc].kind) => Ok(desc),
+        _ => Err(Status::InvalidParameter),
+    };
+    registers.iter().map(desc).collect()
+}
+
+fn name_of(action: &Action) -> &'static str {
+    match action {
+        Action::Pool(..) => "pool",
+        Action::Store(..) => "store",
+        Action::Desc(..) => "desc",
+        Action::Install(..) => "install",
+        Action::Reinstall(..) => "reinstall",
+        Action::Notify(..) => "notify",
+        Action::Locate(..) => "locate",
+        Action::Hob(..) => "hob",
+        Action::Memory(..) => "memory",
+        Action::Pages(..) => "pages",
+        Action::BootMode(..) => "boot_mode",
+        Action::Shadow => "shadow",
+        _ => "addr",
+    }
+}
