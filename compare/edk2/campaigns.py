@@ -25,7 +25,7 @@ from random_boots import CAMPAIGNS, Boot, plan_of  # noqa: E402
 from traces import Trace, first_difference, read  # noqa: E402
 
 OUT = f"{HERE}/out"
-PLAIN = f"{HERE}/../plain/out/plain"
+PLAIN = os.environ.get("PLAIN", f"{HERE}/../plain/out/plain")
 PEI, DXE = f"{OUT}/edk2-pei", f"{OUT}/edk2-dxe"
 ROOT = os.path.normpath(f"{HERE}/../..")
 PIBOOT = os.environ.get("PIBOOT", f"{ROOT}/crates/piboot/out/piboot")
@@ -39,15 +39,12 @@ RULES = [
     "shadow-current-alone",
     "shadow-at-once",
     "shadow-not-on-s3",
-    "dispatch-by-notification",
-    "dispatch-matched-late",
-    "reinstall-fires-no-dispatch",
-    "list-by-notification",
+    "dispatch-by-lists",
+    "callbacks-by-notification",
     "batch",
     "push-sticky",
     "types-in-turn",
     "process-none-corrupted",
-    "nested-in-turn",
 ]
 
 
@@ -103,11 +100,11 @@ def compare(folder: str) -> Outcome:
     if printed and printed[0].startswith("refused"):
         return Outcome("refused", printed[0])
     ours, theirs = read(printed, audit), edk2(folder, audit)
-    if ours.is_cut_short() or theirs.is_cut_short():
-        return Outcome("cut short")
     difference = first_difference(ours, theirs)
     if difference is None:
         return Outcome("same")
+    if ours.is_cut_short() or theirs.is_cut_short():
+        return Outcome("cut short", difference)
     rules = explained_by(folder, audit, theirs)
     return Outcome(" + ".join(rules) or "unexplained", difference)
 

@@ -6,10 +6,11 @@ use crate::frame::{put_call, Frame, Reg, Shown, DEEPEST};
 use crate::guids::{DXE_IPL, FFS2, FFS3, MEMORY, VOLUME_INFO};
 use crate::out::{Halt, Out};
 use crate::put;
+use crate::rules::rules;
 use crate::script::{Action, Phase, Status, Where};
 use crate::store::{Store, Sweep, PPI};
 use crate::waiting::Waiting;
-use std::collections::HashMap;
+use std::collections::{HashMap, VecDeque};
 
 #[derive(Clone, Copy, PartialEq)]
 enum State {
@@ -43,7 +44,12 @@ pub struct Pei<'a> {
     frames: Vec<Frame<Sweep>>,
     core_sweep: Option<Sweep>,
     by_name: HashMap<(usize, Guid), usize>,
+    /// By EDK2's rule: the places whose second starts come next.
+    second: VecDeque<usize>,
 }
+
+/// The boot mode of a resume from S3.
+const ON_S3_RESUME: u32 = 0x11;
 
 impl<'a> Pei<'a> {
     pub fn new(catalog: &'a Catalog, images: &'a [Vec<u8>], store: Store, fuel: u64) -> Self {
@@ -62,6 +68,7 @@ impl<'a> Pei<'a> {
             frames: Vec::new(),
             core_sweep: None,
             by_name,
+            second: VecDeque::new(),
         }
     }
 
@@ -84,6 +91,13 @@ impl<'a> Pei<'a> {
             } else if let Some(pending) = self.store.pop() {
                 self.core_sweep = None;
                 self.begin_notification("dispatch", pending.desc, pending.ppi, out)?;
+            } else if let Some((ppi, notification)) = self.next_dispatch() {
+                self.core_sweep = None;
+                self.begin_notification("dispatch", notification, ppi, out)?;
+            } else if let Some(place) = self.next_second() {
+                let cursor = self.cursor;
+                self.start(place, out)?;
+                self.cursor = cursor;
             } else if let Some(place) = self.next(out) {
                 self.core_sweep = None;
                 self.start(place, out)?;
@@ -103,6 +117,24 @@ impl<'a> Pei<'a> {
             *sweep = None;
         }
         fired
+    }
+
+    fn next_dispatch(&mut self) -> Option<(usize, usize)> {
+        if rules().dispatch_by_lists { self.store.next_dispatch() } else { None }
+    }
+
+    /// EDK2 starts all that registered right behind the move, and one that registers later right behind its first start.
+    fn next_second(&mut self) -> Option<usize> {
+        if !rules().shadow_at_once || !self.store.moved || self.is_without_second_starts() {
+            self.second.clear();
+            return None;
+        }
+        let last = self.starts.1.filter(|module| self.states[*module] == State::Registered);
+        self.second.pop_front().or(last.map(|module| self.waiting.place_of[&module]))
+    }
+
+    fn is_without_second_starts(&self) -> bool {
+        rules().shadow_not_on_s3 && self.store.boot_mode == ON_S3_RESUME
     }
 
     /// Reports a volume and those nested in it.
@@ -133,7 +165,7 @@ impl<'a> Pei<'a> {
                         _ => false,
                     }
             }
-            State::Registered => self.store.moved,
+            State::Registered => self.store.moved && !rules().shadow_at_once && !self.is_without_second_starts(),
             _ => false,
         };
         if may {
@@ -197,7 +229,8 @@ impl<'a> Pei<'a> {
         put!(out, "migrate {old:#x} {new:#x}")?;
         for place in 0..self.waiting.order.len() {
             if self.states[self.waiting.order[place]] == State::Registered {
-                self.waiting.ready.insert(place);
+                self.second.push_back(place);
+                self.weigh(place);
             }
         }
         match self.store.install_memory_ppi() {
@@ -370,13 +403,14 @@ impl<'a> Pei<'a> {
     }
 
     fn shadow(&mut self, module: usize) -> Result<Shown, Status> {
+        if rules().shadow_current_alone && self.starts.1 != Some(module) {
+            return Err(Status::NotFound);
+        }
         if self.states[module] != State::Started {
             return Err(Status::AlreadyStarted);
         }
         self.states[module] = State::Registered;
-        if self.store.moved {
-            self.waiting.ready.insert(self.waiting.place_of[&module]);
-        }
+        self.weigh(self.waiting.place_of[&module]);
         Ok(Shown::Nothing)
     }
 

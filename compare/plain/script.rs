@@ -17,6 +17,8 @@ pub enum Status {
     NotAvailableYet,
     AlreadyStarted,
     AccessDenied,
+    /// EDK2's alone.
+    VolumeCorrupted,
 }
 
 pub const STATUSES: [Status; 7] = [
