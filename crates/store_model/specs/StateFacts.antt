@@ -1,7 +1,7 @@
 -- What holds of every state of a store: each entry names a node of its own and a descriptor of its list's kind, all of it has room, and numbers fit their fields.
 -- Own; the state that stands for linked nodes in byte memory.
 use Rattle.std.specs.Prelude.{◌≡◌, ◌≢◌, ◌⊎◌, ℕ, ◌+◌, ◌%◌, ◌^◌, ◌<◌, ◌≤◌, Bool, true, false, List, ◌++◌, length, map, Option, Some, None, AllPairs, IfSome, ⊤}
-use Rattle.hob_codec.specs.declared.kind.TheConstants.{HANDOFF, POOL, ALLOCATION, VOLUME, END}
+use Rattle.hob_codec.specs.declared.kind.TheConstants.{HANDOFF, ALLOCATION, RESOURCE, NAMED, VOLUME, CPU, POOL, VOLUME2, END}
 use Rattle.boot_plan.specs.declared.limits.TheConstants.{MOST_TEMP, MOST_RAM, MOST_END}
 use Rattle.pi_base.specs.Lists.{Each, Ordered}
 use Rattle.store_model.specs.declared.limits.TheConstants.{NOTE_NUMBERS}
@@ -56,14 +56,22 @@ IsBodyOf board taken kind (Descriptor d) = (kind ≡ POOL) × IsGuidOf board d d
 IsBodyOf board taken kind Node = kind ≡ POOL
 IsBodyOf board taken kind (Allocation a) = (kind ≡ ALLOCATION) × IsAllocation taken a
 
--- a HOB behind the hand-off HOB: its type is not that one's nor the end HOB's, its length is a multiple of 8 that fits, and a volume's HOB has a base and a length
+-- a body is as long as the fields of its HOB's type; that of pages is so by what it is, and other types have any length
+pub record HasTypesLength (kind len : ℕ) : Type 0 where
+  pub resource : kind ≡ RESOURCE → len ≡ 40
+  pub named : kind ≡ NAMED → 16 ≤ len
+  pub volume : kind ≡ VOLUME → len ≡ 16
+  pub cpu : kind ≡ CPU → len ≡ 8
+  pub volume2 : kind ≡ VOLUME2 → len ≡ 48
+
+-- a HOB behind the hand-off HOB: its type is not that one's nor the end HOB's, its length is a multiple of 8 that fits, and its body is as long as its type asks
 pub record IsHobEntry (board : Board) (taken : ℕ) (hob : HobEntry) : Type 0 where
   pub kind : hob.kind < 2 ^ 16
   pub not_handoff : hob.kind ≢ HANDOFF
   pub not_end : hob.kind ≢ END
   pub len : hob_len hob ≤ most_hob
   pub aligned : hob_len hob % 8 ≡ 0
-  pub volume : hob.kind ≡ VOLUME → body_len hob.body ≡ 16
+  pub typed : HasTypesLength hob.kind (body_len hob.body)
   pub body : IsBodyOf board taken hob.kind hob.body
 
 -- before the move no more pages are taken than the region has
