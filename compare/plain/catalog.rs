@@ -5,21 +5,21 @@ use crate::guids::{DXE_APRIORI, PEI_APRIORI};
 use crate::plan::{Plan, Span, TOP};
 use crate::script::{self, Phase, Script};
 use crate::volume::{read_sections, read_volume, Fault, File, Section};
-use std::collections::{HashMap, HashSet};
+use std::collections::HashMap;
 use std::rc::Rc;
 
-pub struct Part {
+pub struct Part<'a> {
     pub rank: Option<u32>,
     pub expr: Expr,
-    pub script: Option<Rc<Script>>,
+    pub script: Option<Rc<Script<'a>>>,
 }
 
-pub struct Module {
+pub struct Module<'a> {
     pub volume: usize,
     pub name: Guid,
     pub kind: u8,
-    pub pei: Option<Part>,
-    pub dxe: Option<Part>,
+    pub pei: Option<Part<'a>>,
+    pub dxe: Option<Part<'a>>,
 }
 
 pub struct Mapped {
@@ -30,16 +30,16 @@ pub struct Mapped {
 }
 
 #[derive(Default)]
-pub struct Catalog {
+pub struct Catalog<'a> {
     pub volumes: Vec<Mapped>,
-    pub modules: Vec<Module>,
+    pub modules: Vec<Module<'a>>,
     /// The modules of each volume, by place.
     pub of_volume: Vec<Vec<usize>>,
     by_base: HashMap<u64, usize>,
     parts: usize,
     script_bytes: usize,
     /// Modules by volume, until all volumes are known.
-    found: Vec<Vec<Module>>,
+    found: Vec<Vec<Module<'a>>>,
 }
 
 const MOST_VOLUMES: usize = 256;
@@ -48,7 +48,7 @@ const MOST_SCRIPT_BYTES: usize = 16 << 20;
 const DEEPEST: usize = 4;
 
 /// The catalogue, or the plan's volume and the fault of the first image that has one.
-pub fn catalog(plan: &Plan, images: &[Vec<u8>]) -> Result<Catalog, (usize, Fault)> {
+pub fn catalog<'a>(plan: &Plan, images: &'a [Vec<u8>]) -> Result<Catalog<'a>, (usize, Fault)> {
     let mut catalog = Catalog::default();
     for (number, image) in images.iter().enumerate() {
         catalog.add_volume(plan, number, image, 0, image.len(), None, 0).map_err(|fault| (number, fault))?;
@@ -62,7 +62,7 @@ pub fn catalog(plan: &Plan, images: &[Vec<u8>]) -> Result<Catalog, (usize, Fault
     Ok(catalog)
 }
 
-impl Catalog {
+impl<'a> Catalog<'a> {
     pub fn volume_at(&self, base: u64) -> Option<usize> {
         self.by_base.get(&base).copied()
     }
@@ -77,7 +77,7 @@ impl Catalog {
     }
 
     #[allow(clippy::too_many_arguments)]
-    fn add_volume(&mut self, plan: &Plan, number: usize, image: &[u8], at: usize, end: usize, nested_in: Option<usize>, depth: usize) -> Result<(), Fault> {
+    fn add_volume(&mut self, plan: &Plan, number: usize, image: &'a [u8], at: usize, end: usize, nested_in: Option<usize>, depth: usize) -> Result<(), Fault> {
         if depth > DEEPEST {
             return Err(Fault("Nesting", at));
         }
@@ -101,7 +101,7 @@ impl Catalog {
         let own = self.volumes.len();
         self.volumes.push(Mapped { base, length: volume.length, name: volume.name, nested_in });
         self.found.push(Vec::new());
-        let mut lists: [Option<Vec<Guid>>; 2] = [None, None];
+        let mut lists: [Option<&[u8]>; 2] = [None, None];
         for file in &volume.files {
             let begin = at + file.begin;
             let body = &image[begin..at + file.end];
@@ -126,7 +126,7 @@ impl Catalog {
                     if let Some(which) = [PEI_APRIORI, DXE_APRIORI].iter().position(|name| *name == file.name).filter(|which| lists[*which].is_none()) {
                         let sections = read_sections(body).map_err(fault_in)?;
                         let list = sections.iter().find(|section| section.kind == 0x19).map_or(&body[..0], |section| &body[section.begin..section.end]);
-                        lists[which] = Some(list.chunks_exact(16).map(|bytes| Guid::at(bytes, 0)).collect());
+                        lists[which] = Some(list);
                     }
                 }
                 _ => {}
@@ -137,8 +137,8 @@ impl Catalog {
         Ok(())
     }
 
-    fn module(&mut self, volume: usize, file: &File, body: &[u8], sections: &[Section]) -> Result<Module, Fault> {
-        let mut scripts: [Option<Rc<Script>>; 2] = [None, None];
+    fn module(&mut self, volume: usize, file: &File, body: &'a [u8], sections: &[Section]) -> Result<Module<'a>, Fault> {
+        let mut scripts: [Option<Rc<Script<'a>>>; 2] = [None, None];
         for section in sections.iter().filter(|section| section.kind == 0x19) {
             let bytes = &body[section.begin..section.end];
             if bytes.starts_with(b"PIAS") {
@@ -155,7 +155,7 @@ impl Catalog {
             Some(section) => depex::read(&body[section.begin..section.end], phase),
         };
         let [pei, dxe] = scripts;
-        let part = |is_there: bool, expr: Expr, script: Option<Rc<Script>>| is_there.then_some(Part { rank: None, expr, script });
+        let part = |is_there: bool, expr: Expr, script: Option<Rc<Script<'a>>>| is_there.then_some(Part { rank: None, expr, script });
         Ok(Module {
             volume,
             name: file.name,
@@ -166,18 +166,18 @@ impl Catalog {
     }
 
     /// Gives the parts of a volume their ranks in an a priori list.
-    fn rank(&mut self, volume: usize, phase: Phase, list: Vec<Guid>) {
-        let mut first: HashMap<Guid, usize> = HashMap::new();
+    fn rank(&mut self, volume: usize, phase: Phase, list: &[u8]) {
+        // The first file of each name, until it has its rank.
+        let mut first: HashMap<Guid, Option<usize>> = HashMap::new();
         for (number, module) in self.found[volume].iter().enumerate() {
             if module.part(phase).is_some() {
-                first.entry(module.name).or_insert(number);
+                first.entry(module.name).or_insert(Some(number));
             }
         }
-        let mut seen = HashSet::new();
         let mut next = 0;
-        for name in list {
-            if let Some(number) = first.get(&name).filter(|_| seen.insert(name)) {
-                let module = &mut self.found[volume][*number];
+        for name in list.chunks_exact(16) {
+            if let Some(number) = first.get_mut(&Guid::at(name, 0)).and_then(Option::take) {
+                let module = &mut self.found[volume][number];
                 let part = if phase == Phase::Pei { &mut module.pei } else { &mut module.dxe };
                 part.as_mut().unwrap().rank = Some(next);
                 next += 1;
@@ -193,8 +193,12 @@ impl Catalog {
     }
 }
 
-impl Module {
-    pub fn part(&self, phase: Phase) -> Option<&Part> {
-        if phase == Phase::Pei { self.pei.as_ref() } else { self.dxe.as_ref() }
+impl<'a> Module<'a> {
+    pub fn part(&self, phase: Phase) -> Option<&Part<'a>> {
+        if phase == Phase::Pei {
+            self.pei.as_ref()
+        } else {
+            self.dxe.as_ref()
+        }
     }
 }

@@ -17,7 +17,10 @@ pub enum Expr {
     Absent,
     Malformed(usize),
     /// The postfix opcodes without END, and whether SOR stands in front.
-    Tree { sor: bool, ops: Vec<Op> },
+    Tree {
+        sor: bool,
+        ops: Vec<Op>,
+    },
     Before(Guid),
     After(Guid),
 }

@@ -23,7 +23,7 @@ pub struct Sweep {
 }
 
 pub struct Dxe<'a> {
-    catalog: &'a Catalog,
+    catalog: &'a Catalog<'a>,
     images: &'a [Vec<u8>],
     store: &'a Store,
     fuel: u64,
@@ -38,7 +38,7 @@ pub struct Dxe<'a> {
     named: HashMap<Guid, Vec<usize>>,
     before: HashMap<Guid, Vec<usize>>,
     after: HashMap<Guid, Vec<usize>>,
-    frames: Vec<Frame<Sweep>>,
+    frames: Vec<Frame<'a, Sweep>>,
     notifications: HashMap<Guid, Vec<(usize, usize)>>,
     pub handles: BTreeMap<u32, Vec<(Guid, u64)>>,
     holders: HashMap<Guid, BTreeSet<u32>>,
@@ -109,7 +109,7 @@ impl Events {
 }
 
 impl<'a> Dxe<'a> {
-    pub fn new(catalog: &'a Catalog, images: &'a [Vec<u8>], store: &'a Store, actions: u64, fuel: u64) -> Self {
+    pub fn new(catalog: &'a Catalog<'a>, images: &'a [Vec<u8>], store: &'a Store, actions: u64, fuel: u64) -> Self {
         Dxe {
             catalog,
             images,
@@ -386,21 +386,26 @@ impl<'a> Dxe<'a> {
     }
 
     fn act(&mut self, out: &mut Out) -> Result<(), Halt> {
-        let mut frame = self.frames.pop().unwrap();
+        let frame = self.frames.last_mut().unwrap();
         let script = frame.script.clone();
         let action = &script.blocks[frame.block][frame.at];
         frame.at += 1;
         frame.sweep = None;
         match frame.take_common(action, self.store, self.images, out)? {
-            Some(true) => return Ok(()),
             Some(false) => {}
-            None => self.serve(&mut frame, action, out)?,
+            Some(true) => {
+                self.frames.pop();
+            }
+            None => {
+                let mut frame = self.frames.pop().unwrap();
+                self.serve(&mut frame, action, out)?;
+                self.frames.push(frame);
+            }
         }
-        self.frames.push(frame);
         Ok(())
     }
 
-    fn serve(&mut self, frame: &mut Frame<Sweep>, action: &Action, out: &mut Out) -> Result<(), Halt> {
+    fn serve(&mut self, frame: &mut Frame<'a, Sweep>, action: &Action, out: &mut Out) -> Result<(), Halt> {
         let mut volume = None;
         let (name, answer) = match action {
             Action::InstallInterface(on, handle, guid, value) => ("install", self.install(frame, *on == 1, *handle, *guid, *value)),
@@ -430,7 +435,7 @@ impl<'a> Dxe<'a> {
     }
 
     /// The live handle that a register holds.
-    fn handle(&self, frame: &Frame<Sweep>, register: u8) -> Result<u32, Status> {
+    fn handle(&self, frame: &Frame<'a, Sweep>, register: u8) -> Result<u32, Status> {
         match frame.regs[register as usize] {
             Reg::Handle(handle) if self.handles.contains_key(&handle) => Ok(handle),
             _ => Err(Status::InvalidParameter),
@@ -441,7 +446,7 @@ impl<'a> Dxe<'a> {
         Sweep { guid, next: 0, end: self.notifications.get(&guid).map_or(0, Vec::len), value, handle }
     }
 
-    fn install(&mut self, frame: &mut Frame<Sweep>, on: bool, register: u8, guid: Guid, value: u8) -> Result<Shown, Status> {
+    fn install(&mut self, frame: &mut Frame<'a, Sweep>, on: bool, register: u8, guid: Guid, value: u8) -> Result<Shown, Status> {
         let (handle, shown) = if on { (self.handle(frame, register)?, Shown::Nothing) } else { (self.next_handle, Shown::Hex(self.next_handle as u64)) };
         let value = frame.number(value)?;
         if on && self.handles[&handle].iter().any(|(other, _)| *other == guid) {
@@ -459,7 +464,7 @@ impl<'a> Dxe<'a> {
         Ok(shown)
     }
 
-    fn reinstall(&mut self, frame: &mut Frame<Sweep>, register: u8, guid: Guid, old: u8, new: u8) -> Result<Shown, Status> {
+    fn reinstall(&mut self, frame: &mut Frame<'a, Sweep>, register: u8, guid: Guid, old: u8, new: u8) -> Result<Shown, Status> {
         let handle = self.handle(frame, register)?;
         let (old, new) = (frame.number(old)?, frame.number(new)?);
         let interfaces = self.handles.get_mut(&handle).unwrap();
@@ -471,7 +476,7 @@ impl<'a> Dxe<'a> {
         Ok(Shown::Nothing)
     }
 
-    fn uninstall(&mut self, frame: &Frame<Sweep>, register: u8, guid: Guid, value: u8) -> Result<Shown, Status> {
+    fn uninstall(&mut self, frame: &Frame<'a, Sweep>, register: u8, guid: Guid, value: u8) -> Result<Shown, Status> {
         let handle = self.handle(frame, register)?;
         let value = frame.number(value)?;
         let interfaces = self.handles.get_mut(&handle).unwrap();
@@ -486,7 +491,7 @@ impl<'a> Dxe<'a> {
         Ok(Shown::Nothing)
     }
 
-    fn locate(&self, frame: &mut Frame<Sweep>, to: u8, value_to: u8, guid: Guid) -> Result<Shown, Status> {
+    fn locate(&self, frame: &mut Frame<'a, Sweep>, to: u8, value_to: u8, guid: Guid) -> Result<Shown, Status> {
         let lowest = self.holders.get(&guid).and_then(|holders| holders.first()).copied();
         let first = if rules().locate_first_installed { self.events.first(&guid) } else { lowest };
         let handle = first.ok_or(Status::NotFound)?;

@@ -18,9 +18,9 @@ pub enum Reg {
 pub const DEEPEST: usize = 64;
 
 /// `W` is what the frame's last call has still to visit.
-pub struct Frame<W> {
+pub struct Frame<'a, W> {
     pub module: usize,
-    pub script: Rc<Script>,
+    pub script: Rc<Script<'a>>,
     pub block: usize,
     pub at: usize,
     pub regs: [Reg; 16],
@@ -28,8 +28,8 @@ pub struct Frame<W> {
     pub sweep: Option<W>,
 }
 
-impl<W> Frame<W> {
-    pub fn new(module: usize, script: Rc<Script>, block: usize) -> Self {
+impl<'a, W> Frame<'a, W> {
+    pub fn new(module: usize, script: Rc<Script<'a>>, block: usize) -> Self {
         Frame { module, script, block, at: 0, regs: [Reg::Empty; 16], last: Status::Success, sweep: None }
     }
 

@@ -153,7 +153,11 @@ fn read_file(name: &str, most: u64) -> Result<Vec<u8>, Refusal> {
     let file = std::fs::File::open(name).map_err(fault)?;
     let mut bytes = Vec::with_capacity(file.metadata().map_or(0, |it| it.len().min(most) as usize + 1));
     file.take(most + 1).read_to_end(&mut bytes).map_err(fault)?;
-    if bytes.len() as u64 > most { Err(Refusal(format!("refused long {name}"), TOO_LONG)) } else { Ok(bytes) }
+    if bytes.len() as u64 > most {
+        Err(Refusal(format!("refused long {name}"), TOO_LONG))
+    } else {
+        Ok(bytes)
+    }
 }
 
 /// A plan and the images of its volumes.
@@ -164,7 +168,7 @@ fn read_boot(name: &str) -> Result<(Plan, Vec<Vec<u8>>), Refusal> {
     Ok((plan, images))
 }
 
-fn examined(plan: &Plan, images: &[Vec<u8>]) -> Result<Catalog, Refusal> {
+fn examined<'a>(plan: &Plan, images: &'a [Vec<u8>]) -> Result<Catalog<'a>, Refusal> {
     catalog(plan, images).map_err(|(volume, Fault(cause, at))| Refusal(format!("refused image {volume} {at} {cause}"), IMAGE_REFUSED))
 }
 

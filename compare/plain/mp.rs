@@ -45,7 +45,11 @@ pub fn read(text: &[u8]) -> Result<Events, usize> {
 
 /// A decimal number below 2^64.
 fn number(word: &[u8]) -> Option<u64> {
-    if word.iter().all(u8::is_ascii_digit) { crate::plan::number(word) } else { None }
+    if word.iter().all(u8::is_ascii_digit) {
+        crate::plan::number(word)
+    } else {
+        None
+    }
 }
 
 impl Events {

@@ -30,7 +30,7 @@ pub enum End {
 }
 
 pub struct Pei<'a> {
-    pub catalog: &'a Catalog,
+    pub catalog: &'a Catalog<'a>,
     pub images: &'a [Vec<u8>],
     pub store: Store,
     pub fuel: u64,
@@ -41,7 +41,7 @@ pub struct Pei<'a> {
     states: Vec<State>,
     waiting: Waiting,
     cursor: usize,
-    frames: Vec<Frame<Sweep>>,
+    frames: Vec<Frame<'a, Sweep>>,
     core_sweep: Option<Sweep>,
     by_name: HashMap<(usize, Guid), usize>,
     /// By EDK2's rule: the places whose second starts come next.
@@ -52,7 +52,7 @@ pub struct Pei<'a> {
 const ON_S3_RESUME: u32 = 0x11;
 
 impl<'a> Pei<'a> {
-    pub fn new(catalog: &'a Catalog, images: &'a [Vec<u8>], store: Store, fuel: u64) -> Self {
+    pub fn new(catalog: &'a Catalog<'a>, images: &'a [Vec<u8>], store: Store, fuel: u64) -> Self {
         let by_name = catalog.modules.iter().enumerate().map(|(number, module)| ((module.volume, module.name), number)).collect();
         Pei {
             catalog,
@@ -267,31 +267,32 @@ impl<'a> Pei<'a> {
 
     /// Takes the next action of the top frame.
     fn act(&mut self, out: &mut Out) -> Result<(), Halt> {
-        let mut frame = self.frames.pop().unwrap();
+        let frame = self.frames.last_mut().unwrap();
         let script = frame.script.clone();
         let action = &script.blocks[frame.block][frame.at];
         frame.at += 1;
         frame.sweep = None;
         match frame.take_common(action, &self.store, self.images, out)? {
-            Some(true) => return Ok(()),
-            Some(false) => {}
-            None => {
-                let name = name_of(action);
-                let sweep = self.serve(&mut frame, action, name, out)?;
-                if let Some((sweep, first, count)) = sweep {
-                    for ppi in first..first + count {
-                        self.look_at(ppi, out)?;
-                    }
-                    frame.sweep = Some(sweep);
-                }
+            Some(false) => return Ok(()),
+            Some(true) => {
+                self.frames.pop();
+                return Ok(());
             }
+            None => {}
+        }
+        let mut frame = self.frames.pop().unwrap();
+        if let Some((sweep, first, count)) = self.serve(&mut frame, action, name_of(action), out)? {
+            for ppi in first..first + count {
+                self.look_at(ppi, out)?;
+            }
+            frame.sweep = Some(sweep);
         }
         self.frames.push(frame);
         Ok(())
     }
 
     /// Answers a service's action; a sweep, with the PPIs that the call installed, where it begins one.
-    fn serve(&mut self, frame: &mut Frame<Sweep>, action: &Action, name: &str, out: &mut Out) -> Result<Option<(Sweep, usize, usize)>, Halt> {
+    fn serve(&mut self, frame: &mut Frame<'a, Sweep>, action: &Action, name: &str, out: &mut Out) -> Result<Option<(Sweep, usize, usize)>, Halt> {
         let mut swept = None;
         let by = frame.module as u32;
         let answer = match action {
@@ -324,10 +325,12 @@ impl<'a> Pei<'a> {
             Action::Desc(to, kind, place, argument) => self.desc(frame, *to, *kind, place, *argument),
             Action::Install(registers) => self.install(frame, registers, by, &mut swept),
             Action::Reinstall(old, new) => self.reinstall(frame, *old, *new, by, &mut swept),
-            Action::Notify(registers) => descs_in(&self.store, frame, registers, |kind| kind != PPI).and_then(|descs| self.store.notify(&descs, by)).map(|sweep| {
-                swept = Some((sweep, 0, 0));
-                Shown::Nothing
-            }),
+            Action::Notify(registers) => {
+                descs_in(&self.store, frame, registers, |kind| kind != PPI).and_then(|descs| self.store.notify(&descs, by)).map(|sweep| {
+                    swept = Some((sweep, 0, 0));
+                    Shown::Nothing
+                })
+            }
             Action::Locate(to, value, guid, instance) => match self.store.ppis_of.of(guid).get(*instance as usize) {
                 None => Err(Status::NotFound),
                 Some(ppi) => {
@@ -366,7 +369,7 @@ impl<'a> Pei<'a> {
         Ok(swept)
     }
 
-    fn desc(&mut self, frame: &mut Frame<Sweep>, to: u8, kind: u8, place: &Where, argument: u8) -> Result<Shown, Status> {
+    fn desc(&mut self, frame: &mut Frame<'a, Sweep>, to: u8, kind: u8, place: &Where, argument: u8) -> Result<Shown, Status> {
         let number = if kind == PPI { frame.number(argument)? } else { frame.module as u64 * 64 + argument as u64 };
         let (guid, at) = match place {
             Where::Here(guid) => (*guid, None),
@@ -381,7 +384,7 @@ impl<'a> Pei<'a> {
         Ok(Shown::Hex(self.store.address(self.store.descs[desc].place)))
     }
 
-    fn install(&mut self, frame: &Frame<Sweep>, registers: &[u8], by: u32, swept: &mut Option<(Sweep, usize, usize)>) -> Result<Shown, Status> {
+    fn install(&mut self, frame: &Frame<'a, Sweep>, registers: &[u8], by: u32, swept: &mut Option<(Sweep, usize, usize)>) -> Result<Shown, Status> {
         let descs = descs_in(&self.store, frame, registers, |kind| kind == PPI)?;
         let first = self.store.ppis.len();
         *swept = Some((self.store.install(&descs, by)?, first, descs.len()));
@@ -391,7 +394,7 @@ impl<'a> Pei<'a> {
         Ok(Shown::Nothing)
     }
 
-    fn reinstall(&mut self, frame: &Frame<Sweep>, old: u8, new: u8, by: u32, swept: &mut Option<(Sweep, usize, usize)>) -> Result<Shown, Status> {
+    fn reinstall(&mut self, frame: &Frame<'a, Sweep>, old: u8, new: u8, by: u32, swept: &mut Option<(Sweep, usize, usize)>) -> Result<Shown, Status> {
         let old = descs_in(&self.store, frame, &[old], |_| true)?[0];
         let new = descs_in(&self.store, frame, &[new], |kind| kind == PPI)?[0];
         let sweep = self.store.reinstall(old, new, by)?;
@@ -429,7 +432,7 @@ impl<'a> Pei<'a> {
     }
 }
 
-fn descs_in(store: &Store, frame: &Frame<Sweep>, registers: &[u8], wanted: impl Fn(u8) -> bool) -> Result<Vec<usize>, Status> {
+fn descs_in(store: &Store, frame: &Frame<'_, Sweep>, registers: &[u8], wanted: impl Fn(u8) -> bool) -> Result<Vec<usize>, Status> {
     let desc = |register: &u8| match frame.regs[*register as usize] {
         Reg::Desc(desc) if wanted(store.descs[desc].kind) => Ok(desc),
         _ => Err(Status::InvalidParameter),

@@ -1,6 +1,7 @@
 //! Action scripts (docs/FORMATS.md, "Action scripts").
 use crate::bytes::*;
 use crate::volume::Fault;
+use std::borrow::Cow;
 
 #[derive(Clone, Copy, PartialEq, Debug)]
 pub enum Phase {
@@ -22,8 +23,13 @@ pub enum Status {
 }
 
 pub const STATUSES: [Status; 7] = [
-    Status::Success, Status::InvalidParameter, Status::NotFound, Status::OutOfResources,
-    Status::NotAvailableYet, Status::AlreadyStarted, Status::AccessDenied,
+    Status::Success,
+    Status::InvalidParameter,
+    Status::NotFound,
+    Status::OutOfResources,
+    Status::NotAvailableYet,
+    Status::AlreadyStarted,
+    Status::AccessDenied,
 ];
 
 #[derive(Clone, Copy, PartialEq, Debug)]
@@ -32,26 +38,26 @@ pub enum Where {
     At(u8),
 }
 
-/// An action; registers are numbers from 0 to 15.
+/// An action; registers are numbers from 0 to 15. Bytes stay where they were read.
 #[derive(Clone, PartialEq, Debug)]
-pub enum Action {
+pub enum Action<'a> {
     Set(u8, u64),
     Add(u8, u64),
     Pool(u8, u32),
-    Store(u8, u32, Vec<u8>),
+    Store(u8, u32, Cow<'a, [u8]>),
     Addr(u8, u8, u32),
     Peek(u8, u8),
     /// Register, kind (0 PPI, 1 callback, 2 dispatch), GUID, register or block.
     Desc(u8, u8, Where, u8),
-    Install(Vec<u8>),
+    Install(Cow<'a, [u8]>),
     Reinstall(u8, u8),
-    Notify(Vec<u8>),
+    Notify(Cow<'a, [u8]>),
     Locate(u8, u8, Guid, u16),
-    Hob(u8, Vec<u8>),
+    Hob(u8, Cow<'a, [u8]>),
     Memory(u8, u8),
     Pages(u8, u8, u32),
     BootMode(u8, u8),
-    Log(Vec<u8>),
+    Log(Cow<'a, [u8]>),
     SkipIf(u8, u8),
     Ret(u8),
     Shadow,
@@ -65,16 +71,16 @@ pub enum Action {
     Dispatch,
 }
 
-pub struct Script {
+pub struct Script<'a> {
     pub phase: Phase,
-    pub blocks: Vec<Vec<Action>>,
+    pub blocks: Vec<Vec<Action<'a>>>,
 }
 
 pub const MOST_BYTES: usize = 65_536;
 pub const MOST_BLOCKS: usize = 64;
 pub const MOST_ACTIONS: usize = 1_024;
 
-pub fn read(bytes: &[u8]) -> Result<Script, Fault> {
+pub fn read(bytes: &[u8]) -> Result<Script<'_>, Fault> {
     if bytes.len() < 8 || &bytes[..4] != b"PIAS" {
         return Err(Fault("Magic", 0));
     }
@@ -99,10 +105,14 @@ pub fn read(bytes: &[u8]) -> Result<Script, Fault> {
         blocks.push(block);
         at = end;
     }
-    if at < bytes.len() { Err(Fault("Count", at)) } else { Ok(Script { phase, blocks }) }
+    if at < bytes.len() {
+        Err(Fault("Count", at))
+    } else {
+        Ok(Script { phase, blocks })
+    }
 }
 
-fn read_block(bytes: &[u8], start: usize, phase: Phase, blocks: usize) -> Result<(Vec<Action>, usize), Fault> {
+fn read_block(bytes: &[u8], start: usize, phase: Phase, blocks: usize) -> Result<(Vec<Action<'_>>, usize), Fault> {
     if start + 2 > bytes.len() {
         return Err(Fault("Block", start));
     }
@@ -123,7 +133,11 @@ fn read_block(bytes: &[u8], start: usize, phase: Phase, blocks: usize) -> Result
         actions.push(action);
         at = operands.at;
     }
-    if matches!(actions.last(), Some(Action::Ret(_))) { Ok((actions, at)) } else { Err(Fault("Block", start)) }
+    if matches!(actions.last(), Some(Action::Ret(_))) {
+        Ok((actions, at))
+    } else {
+        Err(Fault("Block", start))
+    }
 }
 
 /// The operands of one action, taken one after another; none where a byte is missing or out of its range.
@@ -135,8 +149,8 @@ struct Operands<'a> {
     blocks: usize,
 }
 
-impl Operands<'_> {
-    fn take(&mut self, count: usize) -> Option<&[u8]> {
+impl<'a> Operands<'a> {
+    fn take(&mut self, count: usize) -> Option<&'a [u8]> {
         let taken = self.bytes.get(self.at..self.at + count)?;
         self.at += count;
         Some(taken)
@@ -178,17 +192,19 @@ impl Operands<'_> {
         self.take(16).map(|bytes| Guid::at(bytes, 0))
     }
 
-    fn bytes(&mut self) -> Option<Vec<u8>> {
+    fn bytes(&mut self) -> Option<Cow<'a, [u8]>> {
         let count = self.within(1, 64)? as usize;
-        self.take(count).map(<[u8]>::to_vec)
+        self.take(count).map(Cow::Borrowed)
     }
 
-    fn registers(&mut self) -> Option<Vec<u8>> {
-        let count = self.within(1, 8)?;
-        (0..count).map(|_| self.register()).collect()
+    fn registers(&mut self) -> Option<Cow<'a, [u8]>> {
+        let count = self.within(1, 8)? as usize;
+        let registers = self.take(count)?;
+        self.sound &= registers.iter().all(|register| *register < 16);
+        Some(Cow::Borrowed(registers))
     }
 
-    fn action(&mut self, phase: Phase) -> Option<Action> {
+    fn action(&mut self, phase: Phase) -> Option<Action<'a>> {
         let code = self.byte()?;
         match (code, phase) {
             (0x01, _) => Some(Action::Set(self.register()?, self.long()?)),
@@ -202,7 +218,7 @@ impl Operands<'_> {
         }
     }
 
-    fn pei_action(&mut self, code: u8) -> Option<Action> {
+    fn pei_action(&mut self, code: u8) -> Option<Action<'a>> {
         Some(match code {
             0x03 => Action::Pool(self.register()?, self.number()?),
             0x04 => Action::Store(self.register()?, self.number()?, self.bytes()?),
@@ -221,7 +237,7 @@ impl Operands<'_> {
                 if !is_hob_body(kind, length) {
                     return None;
                 }
-                Action::Hob(kind, self.take(length)?.to_vec())
+                Action::Hob(kind, Cow::Borrowed(self.take(length)?))
             }
             0x0E => Action::Memory(self.register()?, self.register()?),
             0x0F => Action::Pages(self.register()?, self.byte()?, self.number()?),
@@ -231,7 +247,7 @@ impl Operands<'_> {
         })
     }
 
-    fn dxe_action(&mut self, code: u8) -> Option<Action> {
+    fn dxe_action(&mut self, code: u8) -> Option<Action<'a>> {
         Some(match code {
             0x20 => Action::InstallInterface(self.within(0, 1)?, self.register()?, self.guid()?, self.register()?),
             0x21 => Action::ReinstallInterface(self.register()?, self.guid()?, self.register()?, self.register()?),

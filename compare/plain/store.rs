@@ -201,7 +201,11 @@ impl Store {
 
     /// FreeMemoryTop less the heap's base.
     fn free_top(&self) -> u64 {
-        if self.moved { self.cap - self.taken } else { self.cap }
+        if self.moved {
+            self.cap - self.taken
+        } else {
+            self.cap
+        }
     }
 
     fn free(&self) -> u64 {

@@ -192,25 +192,29 @@ pub fn asm_script(text: &[u8]) -> Result<Vec<u8>, Refused> {
         return Err(Refused::Line(end));
     }
     let bytes = reading.bytes();
-    if bytes.len() > MOST_BYTES { Err(Refused::Long) } else { Ok(bytes) }
+    if bytes.len() > MOST_BYTES {
+        Err(Refused::Long)
+    } else {
+        Ok(bytes)
+    }
 }
 
-struct Reading {
+struct Reading<'a> {
     phase: Phase,
-    blocks: Vec<Vec<(Action, Vec<u8>)>>,
+    blocks: Vec<Vec<(Action<'a>, Vec<u8>)>>,
     most_block: u8,
     /// How many actions of the block a `skip_if` still asks for.
     owed: usize,
 }
 
-impl Reading {
+impl<'a> Reading<'a> {
     /// Whether the last block is whole.
     fn may_end(&self) -> bool {
         let last = self.blocks.last().and_then(|block| block.last());
         matches!(last, Some((Action::Ret(_), _))) && self.owed == 0
     }
 
-    fn line(&mut self, number: usize, line: &[u8]) -> Option<()> {
+    fn line(&mut self, number: usize, line: &'a [u8]) -> Option<()> {
         match (number, line) {
             (0, b"phase pei") => Some(()),
             (0, b"phase dxe") => {
@@ -226,7 +230,7 @@ impl Reading {
         }
     }
 
-    fn action(&mut self, line: &[u8]) -> Option<()> {
+    fn action(&mut self, line: &'a [u8]) -> Option<()> {
         let (action, bytes) = read_action(line, self.phase)?;
         if let Action::Desc(_, 1 | 2, _, block) | Action::NotifyProtocol(_, block) = action {
             if block as usize >= MOST_BLOCKS {
@@ -264,7 +268,11 @@ struct Words<'a> {
 
 impl<'a> Words<'a> {
     fn word(&mut self) -> Option<&'a [u8]> {
-        if self.left.is_empty() { None } else { Some(self.left.remove(0)) }
+        if self.left.is_empty() {
+            None
+        } else {
+            Some(self.left.remove(0))
+        }
     }
 
     fn register(&mut self) -> Option<u8> {
@@ -328,10 +336,10 @@ fn shortest(word: &[u8], hex: bool) -> Option<u64> {
     (spelled.as_bytes() == word).then_some(number)
 }
 
-fn read_action(line: &[u8], phase: Phase) -> Option<(Action, Vec<u8>)> {
+fn read_action(line: &[u8], phase: Phase) -> Option<(Action<'_>, Vec<u8>)> {
     if let Some(text) = line.strip_prefix(b"log ") {
         let printable = text.iter().all(|byte| (0x20..=0x7e).contains(byte)) && (1..=64).contains(&text.len());
-        return printable.then(|| (Action::Log(text.to_vec()), [&[0x11, text.len() as u8], text].concat()));
+        return printable.then(|| (Action::Log(text.into()), [&[0x11, text.len() as u8], text].concat()));
     }
     let mut words = Words { left: line.split(|byte| *byte == b' ').collect(), bytes: vec![0] };
     let name = words.word()?;
@@ -351,7 +359,7 @@ fn read_action(line: &[u8], phase: Phase) -> Option<(Action, Vec<u8>)> {
     words.left.is_empty().then_some((action, words.bytes))
 }
 
-fn pei_action(name: &[u8], words: &mut Words) -> Option<(u8, Action)> {
+fn pei_action<'a>(name: &[u8], words: &mut Words<'a>) -> Option<(u8, Action<'a>)> {
     Some(match name {
         b"pool" => (0x03, Action::Pool(words.register()?, words.number(true, 4)? as u32)),
         b"store" => {
@@ -361,7 +369,7 @@ fn pei_action(name: &[u8], words: &mut Words) -> Option<(u8, Action)> {
             }
             words.bytes.push(bytes.len() as u8);
             words.bytes.extend(&bytes);
-            (0x04, Action::Store(register, offset, bytes))
+            (0x04, Action::Store(register, offset, bytes.into()))
         }
         b"addr" => (0x06, Action::Addr(words.register()?, words.register()?, words.number(true, 4)? as u32)),
         b"desc" => {
@@ -377,9 +385,9 @@ fn pei_action(name: &[u8], words: &mut Words) -> Option<(u8, Action)> {
             let last = if kind == 0 { words.register()? } else { words.block()? };
             (0x08, Action::Desc(register, kind, place, last))
         }
-        b"install" => (0x09, Action::Install(words.registers()?)),
+        b"install" => (0x09, Action::Install(words.registers()?.into())),
         b"reinstall" => (0x0A, Action::Reinstall(words.register()?, words.register()?)),
-        b"notify" => (0x0B, Action::Notify(words.registers()?)),
+        b"notify" => (0x0B, Action::Notify(words.registers()?.into())),
         b"locate" => (0x0C, Action::Locate(words.register()?, words.register()?, words.guid()?, words.number(false, 2)? as u16)),
         b"hob" => {
             let (kind, body) = (words.number(false, 1)? as u8, words.hex_bytes()?);
@@ -388,7 +396,7 @@ fn pei_action(name: &[u8], words: &mut Words) -> Option<(u8, Action)> {
             }
             words.bytes.extend((body.len() as u16).to_le_bytes());
             words.bytes.extend(&body);
-            (0x0D, Action::Hob(kind, body))
+            (0x0D, Action::Hob(kind, body.into()))
         }
         b"memory" => (0x0E, Action::Memory(words.register()?, words.register()?)),
         b"pages" => (0x0F, Action::Pages(words.register()?, words.number(false, 1)? as u8, words.number(true, 4)? as u32)),
@@ -398,7 +406,7 @@ fn pei_action(name: &[u8], words: &mut Words) -> Option<(u8, Action)> {
     })
 }
 
-fn dxe_action(name: &[u8], words: &mut Words) -> Option<(u8, Action)> {
+fn dxe_action<'a>(name: &[u8], words: &mut Words<'a>) -> Option<(u8, Action<'a>)> {
     Some(match name {
         b"install" => (0x20, Action::InstallInterface(words.one_of(&[b"new", b"on"])?, words.register()?, words.guid()?, words.register()?)),
         b"reinstall" => (0x21, Action::ReinstallInterface(words.register()?, words.guid()?, words.register()?, words.register()?)),

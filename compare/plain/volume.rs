@@ -62,7 +62,11 @@ pub fn read_volume(bytes: &[u8]) -> Result<Volume, Fault> {
 
 /// A volume whose FvLength is below a header's has a HeaderLength above it.
 fn bytes_or_header(bytes: &[u8], least: usize) -> Result<&[u8], Fault> {
-    if bytes.len() < least { Err(Fault("HeaderLength", 48)) } else { Ok(bytes) }
+    if bytes.len() < least {
+        Err(Fault("HeaderLength", 48))
+    } else {
+        Ok(bytes)
+    }
 }
 
 /// The volume's name, and where the extended header ends.
