@@ -45,6 +45,8 @@ RULES = [
     "push-sticky",
     "types-in-turn",
     "process-none-corrupted",
+    "nested-in-turn",
+    "left-over-holds",
 ]
 
 

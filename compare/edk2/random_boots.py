@@ -262,7 +262,8 @@ class Boot:
     def nested(self, number: int, files: list[str]) -> list[str]:
         if "nested" not in self.campaign.marks or not self.chance(0.7):
             return []
-        return [f"file volume-image {module_name(number)}", f"volume {0x1000}"] + files + ["end"]
+        # The empty section lets the volume begin at a multiple of 8: EDK2 copies one that does not, which then has another address.
+        return [f"file volume-image {module_name(number)}", "raw", f"volume {0x1000}"] + files + ["end"]
 
     def pei_volume(self, first: int, count: int, is_first: bool) -> str:
         numbers = list(range(first, first + count))

@@ -139,22 +139,62 @@ impl<'a> Pei<'a> {
 
     /// Reports a volume and those nested in it.
     fn report(&mut self, volume: usize, out: &mut Out) -> Result<(), Halt> {
-        for volume in self.catalog.tree(volume) {
+        let told = if rules().nested_in_turn { volume..volume + 1 } else { self.catalog.tree(volume) };
+        for volume in told {
             if std::mem::replace(&mut self.reported[volume], true) {
                 continue;
             }
             put!(out, "report {volume}")?;
-            for module in self.catalog.in_order(volume, Phase::Pei) {
-                let place = self.waiting.push(module, self.catalog.modules[module].pei.as_ref().unwrap().expr.pushed());
+            for number in self.parts_of(volume) {
+                let expr = self.catalog.modules.get(number).map(|module| &module.pei.as_ref().unwrap().expr);
+                let place = self.waiting.push(number, expr.into_iter().flat_map(|expr| expr.pushed()));
                 self.weigh(place);
             }
         }
         Ok(())
     }
 
+    /// The parts of a volume in order. By EDK2's rule the files of nested volumes stand among them, with the numbers behind the modules'.
+    fn parts_of(&self, volume: usize) -> Vec<usize> {
+        let mut parts = self.catalog.in_order(volume, Phase::Pei);
+        if rules().nested_in_turn {
+            let first = self.catalog.of_volume[volume].first().copied().unwrap_or(0);
+            for (nested, mapped) in self.catalog.volumes.iter().enumerate().filter(|(_, mapped)| mapped.nested_in == Some(volume)) {
+                let is_behind = |number: &usize| *number >= first + mapped.modules_before && *number < self.catalog.modules.len();
+                let is_unranked = |number: &usize| self.catalog.modules[*number].pei.as_ref().unwrap().rank.is_none();
+                let at = parts.iter().position(|number| is_behind(number) && is_unranked(number)).unwrap_or(parts.len());
+                parts.insert(at, self.catalog.modules.len() + nested);
+            }
+        }
+        parts
+    }
+
+    /// The FV and FV2 HOBs of a nested volume.
+    fn tell_nested(&mut self, volume: usize) {
+        let mapped = &self.catalog.volumes[volume];
+        let mut body = [mapped.base.to_le_bytes(), mapped.length.to_le_bytes()].concat();
+        let _ = self.store.hob(5, &body);
+        body.extend(mapped.name.map_or([0; 16], |name| name.0));
+        body.extend(mapped.file_name.map_or([0; 16], |name| name.0));
+        let _ = self.store.hob(9, &body);
+    }
+
+    /// The nested volume whose file stands among the parts under this number.
+    fn nested_at(&self, number: usize) -> Option<usize> {
+        number.checked_sub(self.catalog.modules.len())
+    }
+
     /// Enters a part among those that may start, or takes it out.
     fn weigh(&mut self, place: usize) {
         let module = self.waiting.order[place];
+        if let Some(volume) = self.nested_at(module) {
+            if self.reported[volume] {
+                self.waiting.ready.remove(&place);
+            } else {
+                self.waiting.ready.insert(place);
+            }
+            return;
+        }
         let part = self.catalog.modules[module].pei.as_ref().unwrap();
         let may = match self.states[module] {
             State::Waits => {
@@ -189,6 +229,13 @@ impl<'a> Pei<'a> {
 
     fn start(&mut self, place: usize, out: &mut Out) -> Result<(), Halt> {
         let number = self.waiting.order[place];
+        if let Some(volume) = self.nested_at(number) {
+            self.report(volume, out)?;
+            self.tell_nested(volume);
+            self.weigh(place);
+            self.cursor = place + 1;
+            return Ok(());
+        }
         let module = &self.catalog.modules[number];
         let part = module.pei.as_ref().unwrap();
         let (licence, state) = match self.states[number] {
@@ -228,7 +275,7 @@ impl<'a> Pei<'a> {
         let (old, new) = self.store.migrate();
         put!(out, "migrate {old:#x} {new:#x}")?;
         for place in 0..self.waiting.order.len() {
-            if self.states[self.waiting.order[place]] == State::Registered {
+            if self.states.get(self.waiting.order[place]) == Some(&State::Registered) {
                 self.second.push_back(place);
                 self.weigh(place);
             }
@@ -245,7 +292,7 @@ impl<'a> Pei<'a> {
 
     fn stop(&mut self, out: &mut Out) -> Result<End, Halt> {
         put!(out, "pei stop")?;
-        for &number in &self.waiting.order {
+        for &number in self.waiting.order.iter().filter(|number| self.nested_at(**number).is_none()) {
             let module = &self.catalog.modules[number];
             let reason = match (self.states[number], &module.pei.as_ref().unwrap().expr) {
                 (State::Registered, _) => "shadow",

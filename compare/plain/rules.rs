@@ -22,8 +22,12 @@ pub struct Rules {
     pub batch: bool,
     /// A GUID that was once there when an expression was evaluated stays there for it.
     pub push_sticky: bool,
+    /// An expression of DXE that leaves values over is worth its last one.
+    pub left_over_holds: bool,
     /// The drivers of a volume are discovered by type: 07, 0C, 08.
     pub types_in_turn: bool,
+    /// A nested volume is reported at its file's turn in the order of its parent, as a PEIM is started, and gets an FV and an FV2 HOB.
+    pub nested_in_turn: bool,
     /// `process` of an address without a volume is VolumeCorrupted.
     pub process_none_corrupted: bool,
 }
@@ -48,7 +52,9 @@ pub fn take(words: &mut Vec<String>) -> Result<(), String> {
             "callbacks-by-notification" => &mut rules.callbacks_by_notification,
             "batch" => &mut rules.batch,
             "push-sticky" => &mut rules.push_sticky,
+            "left-over-holds" => &mut rules.left_over_holds,
             "types-in-turn" => &mut rules.types_in_turn,
+            "nested-in-turn" => &mut rules.nested_in_turn,
             "process-none-corrupted" => &mut rules.process_none_corrupted,
             _ => return Err(word),
         };

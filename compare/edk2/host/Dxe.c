@@ -156,6 +156,28 @@ CoreAllEfiServicesAvailable (
 //
 // Volumes.
 //
+
+/** The number of a volume where it lies, or of the one with the same bytes: the core copies nested volumes. **/
+static int
+VolumeLike (
+  UINT64  Address
+  )
+{
+  int    Number;
+  int    Like;
+  UINTN  Length;
+
+  Number = VolumeAt (Address);
+  Length = ((EFI_FIRMWARE_VOLUME_HEADER *)Address)->FvLength;
+  for (Like = 0; Number < 0 && Like < (int)gPlan.CatalogCount; Like++) {
+    if (CompareMem ((VOID *)Address, (VOID *)gPlan.CatalogBase[Like], Length) == 0) {
+      Number = Like;
+    }
+  }
+
+  return Number;
+}
+
 static int
 VolumeOf (
   EFI_HANDLE  Handle
@@ -169,7 +191,7 @@ VolumeOf (
   }
 
   Block->GetPhysicalAddress (Block, &Address);
-  return VolumeAt (Address);
+  return VolumeLike (Address);
 }
 
 /** Tells of the volumes that the core has discovered since. **/
