@@ -27,6 +27,10 @@ pub struct Mapped {
     pub length: u64,
     pub name: Option<Guid>,
     pub nested_in: Option<usize>,
+    /// How many modules of the volume that it is nested in stand before its file.
+    pub modules_before: usize,
+    /// The name of the file that it is nested in.
+    pub file_name: Option<Guid>,
 }
 
 #[derive(Default)]
@@ -51,7 +55,7 @@ const DEEPEST: usize = 4;
 pub fn catalog<'a>(plan: &Plan, images: &'a [Vec<u8>]) -> Result<Catalog<'a>, (usize, Fault)> {
     let mut catalog = Catalog::default();
     for (number, image) in images.iter().enumerate() {
-        catalog.add_volume(plan, number, image, 0, image.len(), None, 0).map_err(|fault| (number, fault))?;
+        catalog.add_volume(plan, number, image, 0, image.len(), None, None, 0).map_err(|fault| (number, fault))?;
     }
     for modules in std::mem::take(&mut catalog.found) {
         let first = catalog.modules.len();
@@ -77,7 +81,7 @@ impl<'a> Catalog<'a> {
     }
 
     #[allow(clippy::too_many_arguments)]
-    fn add_volume(&mut self, plan: &Plan, number: usize, image: &'a [u8], at: usize, end: usize, nested_in: Option<usize>, depth: usize) -> Result<(), Fault> {
+    fn add_volume(&mut self, plan: &Plan, number: usize, image: &'a [u8], at: usize, end: usize, nested_in: Option<usize>, file_name: Option<Guid>, depth: usize) -> Result<(), Fault> {
         if depth > DEEPEST {
             return Err(Fault("Nesting", at));
         }
@@ -99,7 +103,7 @@ impl<'a> Catalog<'a> {
             }
         }
         let own = self.volumes.len();
-        self.volumes.push(Mapped { base, length: volume.length, name: volume.name, nested_in });
+        self.volumes.push(Mapped { base, length: volume.length, name: volume.name, nested_in, modules_before: nested_in.map_or(0, |parent| self.found[parent].len()), file_name });
         self.found.push(Vec::new());
         let mut lists: [Option<&[u8]>; 2] = [None, None];
         for file in &volume.files {
@@ -119,7 +123,7 @@ impl<'a> Catalog<'a> {
                 0x0B => {
                     let sections = read_sections(body).map_err(fault_in)?;
                     for section in sections.iter().filter(|section| section.kind == 0x17) {
-                        self.add_volume(plan, number, image, begin + section.begin, begin + section.end, Some(own), depth + 1)?;
+                        self.add_volume(plan, number, image, begin + section.begin, begin + section.end, Some(own), Some(file.name), depth + 1)?;
                     }
                 }
                 0x02 => {

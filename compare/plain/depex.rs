@@ -1,5 +1,6 @@
 //! Dependency expressions (docs/FORMATS.md, "Dependency expressions").
 use crate::bytes::Guid;
+use crate::rules::rules;
 use crate::script::Phase;
 
 #[derive(Clone, Copy, PartialEq, Debug)]
@@ -68,7 +69,7 @@ pub fn read(bytes: &[u8], phase: Phase) -> Expr {
                 ops.push(if opcode == 6 { Op::True } else { Op::False });
                 depth += 1;
             }
-            (8, _) if depth == 1 => return Expr::Tree { sor, ops },
+            (8, _) if depth == 1 || depth > 1 && phase == Phase::Dxe && rules().left_over_holds => return Expr::Tree { sor, ops },
             (9, _) if first => sor = true,
             _ => return Expr::Malformed(at),
         }
@@ -103,5 +104,5 @@ pub fn holds(ops: &[Op], installed: impl Fn(&Guid) -> bool) -> bool {
             }
         }
     }
-    stack[0]
+    stack.pop().unwrap()
 }

@@ -7,10 +7,11 @@ use crate::guids::ARCHITECTURAL;
 use crate::out::{Halt, Out};
 use crate::pei::End;
 use crate::put;
+use crate::rules::rules;
 use crate::script::{Action, Phase, Status};
 use crate::store::Store;
 use crate::waiting::Waiting;
-use std::collections::{BTreeMap, BTreeSet, HashMap, VecDeque};
+use std::collections::{BTreeMap, BTreeSet, HashMap, HashSet, VecDeque};
 
 /// The notifications of a protocol that a call has still to run.
 pub struct Sweep {
@@ -42,6 +43,69 @@ pub struct Dxe<'a> {
     pub handles: BTreeMap<u32, Vec<(Guid, u64)>>,
     holders: HashMap<Guid, BTreeSet<u32>>,
     next_handle: u32,
+    /// By EDK2's rules: the GUIDs that were there when the expression at a place was evaluated, and the events of notifications.
+    once_there: HashSet<(usize, Guid)>,
+    events: Events,
+}
+
+/// EDK2's notifications: an event each, which waits in a queue and then runs for each interface behind its position.
+#[derive(Default)]
+struct Events {
+    /// The interfaces of a protocol in the order of their installing: a number of its own, the handle.
+    interfaces: HashMap<Guid, Vec<(u64, u32)>>,
+    next_interface: u64,
+    /// Each registered event: protocol, module, block, and the number of the interface at which it stands.
+    registered: Vec<(Guid, usize, usize, u64)>,
+    queue: VecDeque<usize>,
+    running: Option<usize>,
+}
+
+impl Events {
+    fn install(&mut self, guid: Guid, handle: u32) {
+        self.next_interface += 1;
+        self.interfaces.entry(guid).or_default().push((self.next_interface, handle));
+        for (event, registered) in self.registered.iter().enumerate() {
+            if registered.0 == guid && !self.queue.contains(&event) {
+                self.queue.push_back(event);
+            }
+        }
+    }
+
+    /// The interface goes, and who stands at it stands at the one before it.
+    fn remove(&mut self, guid: Guid, handle: u32) {
+        let interfaces = self.interfaces.get_mut(&guid).unwrap();
+        let at = interfaces.iter().position(|(_, other)| *other == handle).unwrap();
+        let before = if at == 0 { 0 } else { interfaces[at - 1].0 };
+        let (gone, _) = interfaces.remove(at);
+        for registered in self.registered.iter_mut().filter(|registered| registered.0 == guid && registered.3 == gone) {
+            registered.3 = before;
+        }
+    }
+
+    fn register(&mut self, guid: Guid, module: usize, block: usize) {
+        let last = self.interfaces.get(&guid).and_then(|interfaces| interfaces.last()).map_or(0, |(number, _)| *number);
+        self.registered.push((guid, module, block, last));
+    }
+
+    fn first(&self, guid: &Guid) -> Option<u32> {
+        self.interfaces.get(guid).and_then(|interfaces| interfaces.first()).map(|(_, handle)| *handle)
+    }
+
+    /// The next notification: module, block, protocol and handle.
+    fn next(&mut self) -> Option<(usize, usize, Guid, u32)> {
+        loop {
+            let event = self.running.or_else(|| self.queue.pop_front())?;
+            self.running = Some(event);
+            let (guid, module, block, position) = self.registered[event];
+            let behind = self.interfaces.get(&guid).map_or(&[][..], Vec::as_slice);
+            let at = behind.iter().position(|(number, _)| *number == position).map_or(0, |at| at + 1);
+            if let Some(&(number, handle)) = behind.get(at) {
+                self.registered[event].3 = number;
+                return Some((module, block, guid, handle));
+            }
+            self.running = None;
+        }
+    }
 }
 
 impl<'a> Dxe<'a> {
@@ -65,6 +129,8 @@ impl<'a> Dxe<'a> {
             handles: BTreeMap::new(),
             holders: HashMap::new(),
             next_handle: 1,
+            once_there: HashSet::new(),
+            events: Events::default(),
         }
     }
 
@@ -81,6 +147,8 @@ impl<'a> Dxe<'a> {
                     return Ok(End::Deep);
                 }
                 self.begin_notification(module, block, out)?;
+            } else if let Some((module, block, guid, handle)) = self.next_event() {
+                self.begin_event(module, block, guid, handle, out)?;
             } else if !self.frames.is_empty() {
                 if self.actions == self.fuel {
                     return Ok(End::Spent);
@@ -101,7 +169,7 @@ impl<'a> Dxe<'a> {
                 continue;
             }
             put!(out, "dxe volume {volume}")?;
-            for &number in &self.catalog.of_volume[volume] {
+            for &number in &in_discovered_order(self.catalog, volume) {
                 let module = &self.catalog.modules[number];
                 let Some(part) = &module.dxe else { continue };
                 let all: &[Guid] = if matches!(part.expr, Expr::Absent) { &ARCHITECTURAL } else { &[] };
@@ -138,7 +206,7 @@ impl<'a> Dxe<'a> {
         let number = self.waiting.order[place];
         let holds = match self.expr(place) {
             Expr::Absent => ARCHITECTURAL.iter().all(|guid| self.waiting.is_installed(guid)),
-            Expr::Tree { sor, ops } => (!sor || self.requested[number]) && self.waiting.holds(ops),
+            Expr::Tree { sor, ops } => (!sor || self.requested[number]) && self.waiting.holds_with(ops, |guid| self.once_there.contains(&(place, *guid))),
             _ => false,
         };
         if holds && self.waits[number] {
@@ -153,6 +221,12 @@ impl<'a> Dxe<'a> {
         for place in self.waiting.stale() {
             self.weigh(place);
         }
+        if rules().push_sticky {
+            self.evaluate_all();
+        }
+        if rules().batch {
+            return self.schedule_all();
+        }
         let aimed = out.named("dxe").and_then(|name| self.head_of(name));
         let Some(place) = aimed.or(self.waiting.ready.first().copied()) else { return false };
         let mut group = Vec::new();
@@ -161,6 +235,37 @@ impl<'a> Dxe<'a> {
             self.enqueue(place);
         }
         true
+    }
+
+    /// By EDK2's rule: each expression that is evaluated keeps the GUIDs that are there.
+    fn evaluate_all(&mut self) {
+        for place in 0..self.waiting.order.len() {
+            let is_evaluated = match self.expr(place) {
+                Expr::Tree { sor, .. } => !sor || self.requested[self.waiting.order[place]],
+                _ => false,
+            };
+            if is_evaluated && self.waits[self.waiting.order[place]] {
+                for guid in self.expr(place).pushed().filter(|guid| self.waiting.is_installed(guid)) {
+                    self.once_there.insert((place, guid));
+                }
+                self.weigh(place);
+            }
+        }
+    }
+
+    /// By EDK2's rule: every driver that may start, in discovered order, each with its companions.
+    fn schedule_all(&mut self) -> bool {
+        let ready: Vec<usize> = self.waiting.ready.iter().copied().collect();
+        for place in &ready {
+            if self.waits[self.waiting.order[*place]] {
+                let mut group = Vec::new();
+                self.gather(*place, &mut group);
+                for place in group {
+                    self.enqueue(place);
+                }
+            }
+        }
+        !ready.is_empty()
     }
 
     /// The driver that may start and whose group begins with the named one.
@@ -240,7 +345,27 @@ impl<'a> Dxe<'a> {
         Ok(End::Done)
     }
 
+    /// By EDK2's rule events run while no notification does.
+    fn next_event(&mut self) -> Option<(usize, usize, Guid, u32)> {
+        if rules().notify_behind_the_running && self.frames.len() == 1 { self.events.next() } else { None }
+    }
+
+    fn begin_event(&mut self, number: usize, block: usize, guid: Guid, handle: u32, out: &mut Out) -> Result<(), Halt> {
+        let module = &self.catalog.modules[number];
+        put!(out, "notify protocol {} {} {guid}", module.volume, module.name)?;
+        let interfaces = self.handles.get(&handle).map_or(&[][..], Vec::as_slice);
+        let value = interfaces.iter().find(|(other, _)| *other == guid).map_or(0, |(_, value)| *value);
+        let mut frame = Frame::new(number, module.dxe.as_ref().unwrap().script.clone().unwrap(), block);
+        frame.regs[0] = Reg::Number(value);
+        frame.regs[1] = Reg::Handle(handle);
+        self.frames.push(frame);
+        Ok(())
+    }
+
     fn fire(&mut self) -> Option<(usize, usize)> {
+        if rules().notify_behind_the_running {
+            return None;
+        }
         let sweep = self.frames.last_mut()?.sweep.as_mut()?;
         if sweep.next == sweep.end {
             return None;
@@ -289,12 +414,13 @@ impl<'a> Dxe<'a> {
             Action::LocateProtocol(handle, value, guid) => ("locate", self.locate(frame, *handle, *value, *guid)),
             Action::NotifyProtocol(guid, block) => {
                 self.notifications.entry(*guid).or_default().push((frame.module, *block as usize));
+                self.events.register(*guid, frame.module, *block as usize);
                 ("notify", Ok(Shown::Nothing))
             }
             Action::Schedule(guid) => ("schedule", self.request(*guid)),
             Action::Process(base) => (
                 "process",
-                frame.number(*base).and_then(|base| self.catalog.volume_at(base).ok_or(Status::NotFound)).and_then(|found| {
+                frame.number(*base).and_then(|base| self.catalog.volume_at(base).ok_or(status_of_no_volume())).and_then(|found| {
                     if self.discovered[found] {
                         return Err(Status::AlreadyStarted);
                     }
@@ -333,6 +459,7 @@ impl<'a> Dxe<'a> {
         self.handles.entry(handle).or_default().push((guid, value));
         self.holders.entry(guid).or_default().insert(handle);
         self.waiting.came(guid);
+        self.events.install(guid, handle);
         frame.sweep = Some(self.sweep(guid, value, handle));
         Ok(shown)
     }
@@ -343,6 +470,8 @@ impl<'a> Dxe<'a> {
         let interfaces = self.handles.get_mut(&handle).unwrap();
         let interface = interfaces.iter_mut().find(|interface| **interface == (guid, old)).ok_or(Status::NotFound)?;
         interface.1 = new;
+        self.events.remove(guid, handle);
+        self.events.install(guid, handle);
         frame.sweep = Some(self.sweep(guid, new, handle));
         Ok(Shown::Nothing)
     }
@@ -358,11 +487,14 @@ impl<'a> Dxe<'a> {
         }
         self.holders.get_mut(&guid).unwrap().remove(&handle);
         self.waiting.went(guid);
+        self.events.remove(guid, handle);
         Ok(Shown::Nothing)
     }
 
     fn locate(&self, frame: &mut Frame<'a, Sweep>, to: u8, value_to: u8, guid: Guid) -> Result<Shown, Status> {
-        let &handle = self.holders.get(&guid).and_then(|holders| holders.first()).ok_or(Status::NotFound)?;
+        let lowest = self.holders.get(&guid).and_then(|holders| holders.first()).copied();
+        let first = if rules().locate_first_installed { self.events.first(&guid) } else { lowest };
+        let handle = first.ok_or(Status::NotFound)?;
         let value = self.handles[&handle].iter().find(|(other, _)| *other == guid).unwrap().1;
         frame.set(to, Reg::Handle(handle));
         frame.set(value_to, Reg::Number(value));
@@ -380,4 +512,17 @@ impl<'a> Dxe<'a> {
         self.weigh(place);
         Ok(Shown::Nothing)
     }
+}
+
+fn status_of_no_volume() -> Status {
+    if rules().process_none_corrupted { Status::VolumeCorrupted } else { Status::NotFound }
+}
+
+/// The modules of a volume by place; by EDK2's rule by type, and of one type by place.
+fn in_discovered_order(catalog: &Catalog, volume: usize) -> Vec<usize> {
+    let mut numbers = catalog.of_volume[volume].clone();
+    if rules().types_in_turn {
+        numbers.sort_by_key(|number| [0x07, 0x0C, 0x08].iter().position(|kind| *kind == catalog.modules[*number].kind));
+    }
+    numbers
 }

@@ -13,6 +13,7 @@ mod mp;
 mod out;
 mod pei;
 mod plan;
+mod rules;
 mod script;
 mod store;
 mod text;
@@ -55,7 +56,11 @@ const MIB_1: u64 = 1 << 20;
 const MIB_64: u64 = 64 << 20;
 
 fn main() {
-    let words: Vec<String> = std::env::args_os().skip(1).map(|word| word.into_string().unwrap_or_default()).collect();
+    let mut words: Vec<String> = std::env::args_os().skip(1).map(|word| word.into_string().unwrap_or_default()).collect();
+    if let Err(word) = rules::take(&mut words) {
+        eprintln!("plain: {word} is no rule of EDK2 (compare/plain/rules.rs)");
+        std::process::exit(USAGE);
+    }
     // An expression's text may be nested as deep as it is long.
     let run = std::thread::Builder::new().stack_size(1 << 30).spawn(move || answer(&words)).unwrap();
     std::process::exit(run.join().unwrap());

@@ -6,10 +6,11 @@ use crate::frame::{put_call, Frame, Reg, Shown, DEEPEST};
 use crate::guids::{DXE_IPL, FFS2, FFS3, MEMORY, VOLUME_INFO};
 use crate::out::{Halt, Out};
 use crate::put;
+use crate::rules::rules;
 use crate::script::{Action, Phase, Status, Where};
 use crate::store::{Store, Sweep, PPI};
 use crate::waiting::Waiting;
-use std::collections::HashMap;
+use std::collections::{HashMap, VecDeque};
 
 #[derive(Clone, Copy, PartialEq)]
 enum State {
@@ -43,7 +44,12 @@ pub struct Pei<'a> {
     frames: Vec<Frame<'a, Sweep>>,
     core_sweep: Option<Sweep>,
     by_name: HashMap<(usize, Guid), usize>,
+    /// By EDK2's rule: the places whose second starts come next.
+    second: VecDeque<usize>,
 }
+
+/// The boot mode of a resume from S3.
+const ON_S3_RESUME: u32 = 0x11;
 
 impl<'a> Pei<'a> {
     pub fn new(catalog: &'a Catalog<'a>, images: &'a [Vec<u8>], store: Store, fuel: u64) -> Self {
@@ -62,6 +68,7 @@ impl<'a> Pei<'a> {
             frames: Vec::new(),
             core_sweep: None,
             by_name,
+            second: VecDeque::new(),
         }
     }
 
@@ -84,6 +91,13 @@ impl<'a> Pei<'a> {
             } else if let Some(pending) = self.store.pop() {
                 self.core_sweep = None;
                 self.begin_notification("dispatch", pending.desc, pending.ppi, out)?;
+            } else if let Some((ppi, notification)) = self.next_dispatch() {
+                self.core_sweep = None;
+                self.begin_notification("dispatch", notification, ppi, out)?;
+            } else if let Some(place) = self.next_second() {
+                let cursor = self.cursor;
+                self.start(place, out)?;
+                self.cursor = cursor;
             } else if let Some(place) = self.next(out) {
                 self.core_sweep = None;
                 self.start(place, out)?;
@@ -105,24 +119,82 @@ impl<'a> Pei<'a> {
         fired
     }
 
+    fn next_dispatch(&mut self) -> Option<(usize, usize)> {
+        if rules().dispatch_by_lists { self.store.next_dispatch() } else { None }
+    }
+
+    /// EDK2 starts all that registered right behind the move, and one that registers later right behind its first start.
+    fn next_second(&mut self) -> Option<usize> {
+        if !rules().shadow_at_once || !self.store.moved || self.is_without_second_starts() {
+            self.second.clear();
+            return None;
+        }
+        let last = self.starts.1.filter(|module| self.states[*module] == State::Registered);
+        self.second.pop_front().or(last.map(|module| self.waiting.place_of[&module]))
+    }
+
+    fn is_without_second_starts(&self) -> bool {
+        rules().shadow_not_on_s3 && self.store.boot_mode == ON_S3_RESUME
+    }
+
     /// Reports a volume and those nested in it.
     fn report(&mut self, volume: usize, out: &mut Out) -> Result<(), Halt> {
-        for volume in self.catalog.tree(volume) {
+        let told = if rules().nested_in_turn { volume..volume + 1 } else { self.catalog.tree(volume) };
+        for volume in told {
             if std::mem::replace(&mut self.reported[volume], true) {
                 continue;
             }
             put!(out, "report {volume}")?;
-            for module in self.catalog.in_order(volume, Phase::Pei) {
-                let place = self.waiting.push(module, self.catalog.modules[module].pei.as_ref().unwrap().expr.pushed());
+            for number in self.parts_of(volume) {
+                let expr = self.catalog.modules.get(number).map(|module| &module.pei.as_ref().unwrap().expr);
+                let place = self.waiting.push(number, expr.into_iter().flat_map(|expr| expr.pushed()));
                 self.weigh(place);
             }
         }
         Ok(())
     }
 
+    /// The parts of a volume in order. By EDK2's rule the files of nested volumes stand among them, with the numbers behind the modules'.
+    fn parts_of(&self, volume: usize) -> Vec<usize> {
+        let mut parts = self.catalog.in_order(volume, Phase::Pei);
+        if rules().nested_in_turn {
+            let first = self.catalog.of_volume[volume].first().copied().unwrap_or(0);
+            for (nested, mapped) in self.catalog.volumes.iter().enumerate().filter(|(_, mapped)| mapped.nested_in == Some(volume)) {
+                let is_behind = |number: &usize| *number >= first + mapped.modules_before && *number < self.catalog.modules.len();
+                let is_unranked = |number: &usize| self.catalog.modules[*number].pei.as_ref().unwrap().rank.is_none();
+                let at = parts.iter().position(|number| is_behind(number) && is_unranked(number)).unwrap_or(parts.len());
+                parts.insert(at, self.catalog.modules.len() + nested);
+            }
+        }
+        parts
+    }
+
+    /// The FV and FV2 HOBs of a nested volume.
+    fn tell_nested(&mut self, volume: usize) {
+        let mapped = &self.catalog.volumes[volume];
+        let mut body = [mapped.base.to_le_bytes(), mapped.length.to_le_bytes()].concat();
+        let _ = self.store.hob(5, &body);
+        body.extend(mapped.name.map_or([0; 16], |name| name.0));
+        body.extend(mapped.file_name.map_or([0; 16], |name| name.0));
+        let _ = self.store.hob(9, &body);
+    }
+
+    /// The nested volume whose file stands among the parts under this number.
+    fn nested_at(&self, number: usize) -> Option<usize> {
+        number.checked_sub(self.catalog.modules.len())
+    }
+
     /// Enters a part among those that may start, or takes it out.
     fn weigh(&mut self, place: usize) {
         let module = self.waiting.order[place];
+        if let Some(volume) = self.nested_at(module) {
+            if self.reported[volume] {
+                self.waiting.ready.remove(&place);
+            } else {
+                self.waiting.ready.insert(place);
+            }
+            return;
+        }
         let part = self.catalog.modules[module].pei.as_ref().unwrap();
         let may = match self.states[module] {
             State::Waits => {
@@ -133,7 +205,7 @@ impl<'a> Pei<'a> {
                         _ => false,
                     }
             }
-            State::Registered => self.store.moved,
+            State::Registered => self.store.moved && !rules().shadow_at_once && !self.is_without_second_starts(),
             _ => false,
         };
         if may {
@@ -157,6 +229,13 @@ impl<'a> Pei<'a> {
 
     fn start(&mut self, place: usize, out: &mut Out) -> Result<(), Halt> {
         let number = self.waiting.order[place];
+        if let Some(volume) = self.nested_at(number) {
+            self.report(volume, out)?;
+            self.tell_nested(volume);
+            self.weigh(place);
+            self.cursor = place + 1;
+            return Ok(());
+        }
         let module = &self.catalog.modules[number];
         let part = module.pei.as_ref().unwrap();
         let (licence, state) = match self.states[number] {
@@ -196,8 +275,9 @@ impl<'a> Pei<'a> {
         let (old, new) = self.store.migrate();
         put!(out, "migrate {old:#x} {new:#x}")?;
         for place in 0..self.waiting.order.len() {
-            if self.states[self.waiting.order[place]] == State::Registered {
-                self.waiting.ready.insert(place);
+            if self.states.get(self.waiting.order[place]) == Some(&State::Registered) {
+                self.second.push_back(place);
+                self.weigh(place);
             }
         }
         match self.store.install_memory_ppi() {
@@ -212,7 +292,7 @@ impl<'a> Pei<'a> {
 
     fn stop(&mut self, out: &mut Out) -> Result<End, Halt> {
         put!(out, "pei stop")?;
-        for &number in &self.waiting.order {
+        for &number in self.waiting.order.iter().filter(|number| self.nested_at(**number).is_none()) {
             let module = &self.catalog.modules[number];
             let reason = match (self.states[number], &module.pei.as_ref().unwrap().expr) {
                 (State::Registered, _) => "shadow",
@@ -373,13 +453,14 @@ impl<'a> Pei<'a> {
     }
 
     fn shadow(&mut self, module: usize) -> Result<Shown, Status> {
+        if rules().shadow_current_alone && self.starts.1 != Some(module) {
+            return Err(Status::NotFound);
+        }
         if self.states[module] != State::Started {
             return Err(Status::AlreadyStarted);
         }
         self.states[module] = State::Registered;
-        if self.store.moved {
-            self.waiting.ready.insert(self.waiting.place_of[&module]);
-        }
+        self.weigh(self.waiting.place_of[&module]);
         Ok(Shown::Nothing)
     }
 

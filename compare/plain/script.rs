@@ -18,6 +18,8 @@ pub enum Status {
     NotAvailableYet,
     AlreadyStarted,
     AccessDenied,
+    /// EDK2's alone.
+    VolumeCorrupted,
 }
 
 pub const STATUSES: [Status; 7] = [

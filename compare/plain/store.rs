@@ -1,5 +1,6 @@
 //! The heap, its lists, and the services that read and write them (docs/SERVICES.md, docs/HEAP.md).
 //! The bytes of the HOB list are kept up to its end; behind it the heap is zeros. Beside them stand vectors and maps.
+use crate::rules::rules;
 use crate::bytes::*;
 use crate::catalog::Catalog;
 use crate::guids::MEMORY;
@@ -78,6 +79,7 @@ impl<K: Hash + Eq> Index<K> {
 
 /// The pairs that a call has still to visit: PPI by PPI, and for each the callbacks from `least` to `most`.
 pub struct Sweep {
+    first_ppi: usize,
     ppi: usize,
     last_ppi: usize,
     callback: usize,
@@ -92,7 +94,54 @@ impl Sweep {
     }
 }
 
+/// EDK2's ranges of dispatch notifications and PPIs: new notifications meet the PPIs that were there, and new PPIs the notifications.
+#[derive(Clone, Copy, Default)]
+struct Walk {
+    seen_ppis: usize,
+    seen_notifications: usize,
+    /// What is walked over: from where to where, and at which pair.
+    ppis: (usize, usize),
+    notifications: (usize, usize),
+    ppi: usize,
+    /// What counts as seen when the walk ends.
+    then: (usize, usize),
+}
+
+impl Walk {
+    fn next(&mut self, ppis: &[Entry], notifications: &[Entry], descs: &[Desc]) -> Option<(usize, usize)> {
+        while self.notifications.0 < self.notifications.1 {
+            let notification = notifications[self.notifications.0].desc;
+            while self.ppi < self.ppis.1 {
+                let ppi = ppis[self.ppi].desc;
+                self.ppi += 1;
+                if descs[ppi].guid == descs[notification].guid {
+                    return Some((ppi, notification));
+                }
+            }
+            (self.ppi, self.notifications.0) = (self.ppis.0, self.notifications.0 + 1);
+        }
+        (self.seen_ppis, self.seen_notifications) = self.then;
+        None
+    }
+
+    /// Begins the next walk; false where nothing is new.
+    fn begin(&mut self, ppis: usize, notifications: usize) -> bool {
+        if self.seen_notifications < notifications {
+            (self.ppis, self.notifications) = ((0, self.seen_ppis), (self.seen_notifications, notifications));
+            self.then = (self.seen_ppis, notifications);
+        } else if self.seen_ppis < ppis {
+            (self.ppis, self.notifications) = ((self.seen_ppis, ppis), (0, self.seen_notifications));
+            self.then = (ppis, self.seen_notifications);
+        } else {
+            return false;
+        }
+        self.ppi = self.ppis.0;
+        true
+    }
+}
+
 pub struct Store {
+    walk: Walk,
     temp: Span,
     ram: Span,
     /// The plan's volumes: where each is mapped, and the number of its image.
@@ -122,6 +171,7 @@ impl Store {
         let outer = catalog.volumes.iter().filter(|volume| volume.nested_in.is_none());
         let roms = outer.enumerate().map(|(image, volume)| (Span { base: volume.base, len: volume.length }, image)).collect();
         let mut store = Store {
+            walk: Walk::default(),
             temp: plan.temp,
             ram: plan.ram,
             roms,
@@ -266,10 +316,16 @@ impl Store {
 
     /// How many pairs of a new PPI with the dispatch notifications there are.
     fn dispatches_for(&self, ppi: usize) -> usize {
+        if rules().dispatch_by_lists {
+            return 0;
+        }
         self.dispatches_of.of(&self.descs[ppi].guid).len()
     }
 
     fn queue_pairs_of(&mut self, ppi: usize, by: u32) {
+        if rules().dispatch_by_lists {
+            return;
+        }
         for number in self.dispatches_of.of(&self.descs[ppi].guid).to_vec() {
             self.push_pending(self.dispatches[number].desc, ppi, by);
         }
@@ -290,7 +346,7 @@ impl Store {
         for &desc in descs {
             self.queue_pairs_of(desc, by);
         }
-        Ok(Sweep { ppi: first, last_ppi: self.ppis.len(), callback: 0, least: 0, most: self.callbacks.len() })
+        Ok(Sweep { first_ppi: first, ppi: first, last_ppi: self.ppis.len(), callback: 0, least: 0, most: self.callbacks.len() })
     }
 
     pub fn reinstall(&mut self, old: usize, new: usize, by: u32) -> Result<Sweep, Status> {
@@ -306,13 +362,13 @@ impl Store {
         let (node, address) = (self.ppis[place].node, self.address(self.descs[new].place));
         put_u64(&mut self.bytes, node + 8, address);
         self.queue_pairs_of(new, by);
-        Ok(Sweep { ppi: place, last_ppi: place + 1, callback: 0, least: 0, most: self.callbacks.len() })
+        Ok(Sweep { first_ppi: place, ppi: place, last_ppi: place + 1, callback: 0, least: 0, most: self.callbacks.len() })
     }
 
     pub fn notify(&mut self, descs: &[usize], by: u32) -> Result<Sweep, Status> {
         let queued: Vec<usize> = descs.iter().copied().filter(|desc| self.descs[*desc].kind == DISPATCH).collect();
         let mut pairs: Vec<(usize, usize)> = Vec::new();
-        for (order, desc) in queued.iter().enumerate() {
+        for (order, desc) in queued.iter().enumerate().filter(|_| !rules().dispatch_by_lists) {
             pairs.extend(self.ppis_of.of(&self.descs[*desc].guid).iter().map(|ppi| (*ppi, order)));
         }
         pairs.sort_unstable();
@@ -335,11 +391,14 @@ impl Store {
         for (ppi, order) in pairs {
             self.push_pending(queued[order], self.ppis[ppi].desc, by);
         }
-        Ok(Sweep { ppi: 0, last_ppi: self.ppis.len(), callback: least, least, most: self.callbacks.len() })
+        Ok(Sweep { first_ppi: 0, ppi: 0, last_ppi: self.ppis.len(), callback: least, least, most: self.callbacks.len() })
     }
 
     /// The next pair of a sweep that fires: the PPI and the callback, by their descriptors.
     pub fn fire(&self, sweep: &mut Sweep) -> Option<(usize, usize)> {
+        if rules().callbacks_by_notification {
+            return self.fire_by_notification(sweep);
+        }
         while sweep.ppi < sweep.last_ppi && sweep.least < sweep.most {
             let desc = self.ppis[sweep.ppi].desc;
             if let Some(callback) = self.callbacks_of.next(&self.descs[desc].guid, sweep.callback).filter(|number| *number < sweep.most) {
@@ -353,9 +412,41 @@ impl Store {
         None
     }
 
+    /// EDK2's order: notification by notification, and for each the PPIs of the call.
+    fn fire_by_notification(&self, sweep: &mut Sweep) -> Option<(usize, usize)> {
+        sweep.callback = sweep.callback.max(sweep.least);
+        while sweep.callback < sweep.most {
+            let callback = self.callbacks[sweep.callback].desc;
+            while sweep.ppi < sweep.last_ppi {
+                let ppi = self.ppis[sweep.ppi].desc;
+                sweep.ppi += 1;
+                if self.descs[ppi].guid == self.descs[callback].guid {
+                    return Some((ppi, callback));
+                }
+            }
+            (sweep.ppi, sweep.callback) = (sweep.first_ppi, sweep.callback + 1);
+        }
+        None
+    }
+
     fn next_met(&self, sweep: &Sweep) -> usize {
         let guids = self.callbacks[sweep.least..sweep.most].iter().map(|entry| self.descs[entry.desc].guid);
         guids.filter_map(|guid| self.ppis_of.next(&guid, sweep.ppi + 1)).min().unwrap_or(sweep.last_ppi)
+    }
+
+    /// EDK2's way in the place of a queue: which PPI meets which dispatch notification next, by their descriptors.
+    pub fn next_dispatch(&mut self) -> Option<(usize, usize)> {
+        let mut walk = self.walk;
+        let next = loop {
+            if let Some(pair) = walk.next(&self.ppis, &self.dispatches, &self.descs) {
+                break Some(pair);
+            }
+            if !walk.begin(self.ppis.len(), self.dispatches.len()) {
+                break None;
+            }
+        };
+        self.walk = walk;
+        next
     }
 
     pub fn pop(&mut self) -> Option<Pending> {

@@ -37,6 +37,11 @@ impl Waiting {
         holds(ops, |guid| self.is_installed(guid))
     }
 
+    /// The same with GUIDs that count as installed beside those that are.
+    pub fn holds_with(&self, ops: &[Op], also: impl Fn(&Guid) -> bool) -> bool {
+        holds(ops, |guid| self.is_installed(guid) || also(guid))
+    }
+
     pub fn came(&mut self, guid: Guid) {
         let count = self.installed.entry(guid).or_default();
         *count += 1;

@@ -1,5 +1,5 @@
 // The modelled memory: its regions, and what is copied between them.
-use phys_mem::{PhysMem, Rom};
+use phys_mem::{PhysMem, Rom, Stretch};
 use pi_base::{Seq, Span};
 use std::alloc::Global;
 use std::process::Abort;
@@ -64,10 +64,29 @@ fn memory(alloc: Global) -> Option<PhysMem> {
     PhysMem::new(alloc, temp, ram, volumes(alloc)?).ok()
 }
 
+// Whether the stretch is these bytes.
+fn is_stretch(stretch: &Stretch<'_>, want: &[u8]) -> bool {
+    let mut bytes = [0u8; 8];
+    let n = stretch.len();
+    if n > bytes.len() {
+        return false;
+    }
+    stretch.copy_to(&mut bytes.as_mut_slice()[..n]);
+    &bytes.as_slice()[..n] == want
+}
+
+fn is_read(read: &Option<Stretch<'_>>, want: Option<&[u8]>) -> bool {
+    match (read, want) {
+        (Some(stretch), Some(want)) => is_stretch(stretch, want),
+        (None, None) => true,
+        _ => false,
+    }
+}
+
 fn reads(memory: &PhysMem, rows: &[Read]) -> bool {
     let mut are_read = true;
     for (at, n, want) in rows {
-        are_read = are_read && memory.read(*at, *n) == *want;
+        are_read = are_read && is_read(&memory.read(*at, *n), *want);
     }
     are_read
 }
@@ -114,6 +133,38 @@ fn try_unmapped(rt: &impl Abort, memory: &mut PhysMem) {
     memory.unmap_temp();
     assert!(rt; !memory.copy(0x3000, 0x1000, 1) && !memory.write(0x1ffe, &[1]));
     assert!(rt; reads(memory, &UNMAPPED));
+}
+
+// Writes into RAM in an order in which what is kept of it grows downwards and upwards, with zeros between.
+fn writes_apart(memory: &mut PhysMem) -> [bool; 5] {
+    [
+        memory.write(0x2800, &[1, 2]),
+        memory.write(0x2100, &[3]),
+        memory.write(0x2ffe, &[4, 5]),
+        memory.write(0x20fe, &[6, 7, 8]),
+        memory.write(0x27ff, &[9, 10, 11, 12]),
+    ]
+}
+
+static APART: [Read; 9] = [
+    (0x20fd, 5, Some(&[0, 6, 7, 8, 0])),
+    (0x2000, 3, Some(&[0, 0, 0])),
+    (0x27fe, 6, Some(&[0, 9, 10, 11, 12, 0])),
+    (0x2ffd, 3, Some(&[0, 4, 5])),
+    (0x2ffe, 3, None),
+    (0x2400, 2, Some(&[0, 0])),
+    (0x20fe, 0, Some(&[])),
+    (0x20fc, 2, Some(&[0, 0])),
+    (0x1000, 2, Some(&[0, 0])),
+];
+
+#[test]
+fn writes_anywhere_are_read_back(rt: HostRuntime) -> Result<(), Fail> {
+    let mut memory = memory(rt.alloc()).ok_or("memory")?;
+    assert!(rt; writes_apart(&mut memory) == [true, true, true, true, true]);
+    assert!(rt; reads(&memory, &APART));
+    drop(memory);
+    Ok(())
 }
 
 #[test]

@@ -102,3 +102,24 @@ namesakes_text : dxe_text namesakes ≡ printed (
     ∷ "result Done" ∷ [])
 unfolding digits by_index encode_with keyword word_text licence_text call_text reason_text end_text
 namesakes_text = refl
+
+-- the driver of a name is the first one also where it has started: a companion of an a priori driver waits, and does not come with a later driver of that name
+abbrev started_namesake : List Module
+started_namesake =
+    opener
+    ∷ driver 1 (Some 0) (held T.False) []
+    ∷ driver 1 None (held T.True) []
+    ∷ driver 2 None (after 1) [] ∷ []
+
+started_namesake_text : dxe_text started_namesake ≡ printed (
+    "dxe volume 0"
+    ∷ "dxe start 0 00000000-0000-0000-0000-000000000001 apriori"
+    ∷ "end Success"
+    ∷ "dxe start 0 00000000-0000-0000-0000-000000000001 true"
+    ∷ "end Success"
+    ∷ "dxe stop"
+    ∷ "waiting 0 00000000-0000-0000-0000-000000000002 after"
+    ∷ opener_listing ++ "handles 0"
+    ∷ "result Done" ∷ [])
+unfolding digits by_index encode_with keyword word_text licence_text call_text reason_text end_text
+started_namesake_text = refl

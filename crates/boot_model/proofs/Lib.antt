@@ -14,3 +14,5 @@ pub mod ScriptHobs
 mod PeiRows
 mod WorkedBoots
 pub mod Texts
+mod NotificationRows
+mod ServiceRows

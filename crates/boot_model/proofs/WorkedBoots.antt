@@ -23,6 +23,7 @@ use Rattle.boot_model.specs.declared.line.Line.TheVariants as L
 use Rattle.store_model.specs.StoreState.{Board}
 use Rattle.boot_model.specs.Text.{text_of}
 use Rattle.boot_model.specs.BootRun.{boot_lines}
+use Rattle.boot_model.specs.PeiRun.{pei_end}
 
 -- the GUID that ends in a byte and is zero before it
 abbrev pub guid : ℕ → Guid
@@ -94,6 +95,10 @@ fuel = 1000000
 -- the text of a boot of modules in one volume
 abbrev pub boot_text : Board → List Module → List ℕ
 boot_text on modules = text_of (boot_lines on (one_volume modules) fuel)
+
+-- the text of PEI alone, to its stop or its hand-off
+abbrev pub pei_text : Board → Catalog → List ℕ
+pei_text on catalog = text_of (pei_end on catalog fuel).lines
 
 -- a text of these lines
 abbrev pub printed : List String → List ℕ

@@ -37,6 +37,7 @@ abbrev pub part_word : Option Part → ExpressionWord
 part_word None = V.NoPart
 part_word (Some part) = expression_word part.expr
 
+-- its place in its volume's a priori list
 abbrev pub part_rank : Option Part → Option ℕ
 part_rank None = None
 part_rank (Some part) = part.rank
@@ -53,5 +54,6 @@ module_line m = L.Module m.number m.item.volume m.item.name m.item.kind (part_ra
 abbrev pub volume_lines : List (Numbered Module) → Numbered VolumeEntry → List Line
 volume_lines modules v = volume_line v ∷ map module_line (filter (λ m. m.item.volume == v.number) modules)
 
+-- all lines of an audit
 abbrev pub audit_lines : Catalog → List Line
 audit_lines catalog = flat_map (volume_lines (numbered 0 catalog.modules)) (numbered 0 catalog.volumes) ++ L.Result Done ∷ []

@@ -22,6 +22,7 @@ use Rattle.boot_model.specs.DxeRun.{dxe_end}
 abbrev pub handle_lines : HandleState → List Line
 handle_lines h = L.Handles (length h.interfaces) ∷ map (λ i. L.Handle i.handle i.guid i.value) h.interfaces
 
+-- the result of a boot by how DXE ends
 abbrev pub dxe_result : DxeEnd → RunEnd
 dxe_result DxeEnds.Done = E.Done
 dxe_result DxeEnds.Spent = E.Spent
@@ -35,6 +36,7 @@ closing_lines pei handles end = store_lines pei.store ++ handle_lines handles ++
 abbrev pub pei_lines : PeiMachine → RunEnd → List Line
 pei_lines pei end = pei.lines ++ closing_lines pei no_handles end
 
+-- of a boot that handed off: the lines of both phases, and the last lines where DXE has ended
 abbrev pub both_lines : PeiMachine → DxeMachine → Option DxeEnd → List Line
 both_lines pei dxe None = pei.lines ++ dxe.lines
 both_lines pei dxe (Some end) = pei.lines ++ dxe.lines ++ closing_lines pei dxe.handles (dxe_result end)

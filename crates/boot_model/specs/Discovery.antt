@@ -13,5 +13,6 @@ discoveries catalog known [] = []
 discoveries catalog known (base ∷ bases) =
     newcomers catalog known (volume_at catalog base) ++ discoveries catalog (known ++ newcomers catalog known (volume_at catalog base)) bases
 
+-- a line for each volume that is discovered
 abbrev pub discovery_lines : List ℕ → List Line
 discovery_lines volumes = map (λ volume. L.DxeVolume volume) volumes

@@ -27,10 +27,12 @@ use Rattle.boot_model.specs.DxeStep.{dxe_case_of, DxeStops}
 abbrev pub named_by : (PartExpr → Option Guid) → Catalog → DxeMachine → ℕ → Option ℕ
 named_by form catalog m number = option_and_then (driver_named catalog m) (name_by form catalog number)
 
+-- the first of two that is there
 abbrev pub first_of : Option ℕ → Option ℕ → Option ℕ
 first_of (Some a) other = Some a
 first_of None other = other
 
+-- the driver that a driver is a companion of: an expression has one of the two forms
 abbrev pub target_of : Catalog → DxeMachine → ℕ → Option ℕ
 target_of catalog m number = first_of (named_by before_of catalog m number) (named_by after_of catalog m number)
 
@@ -68,9 +70,11 @@ IsDriverLicensed catalog m queue number part G.Shadow = ⊥
 IsDriverLicensed catalog m queue number part G.Before = IsBeforeNamed catalog m queue number
 IsDriverLicensed catalog m queue number part G.After = IsAfterNamed catalog m queue number
 
+-- the modules of a queue
 abbrev pub numbers_of : List Scheduled → List ℕ
 numbers_of queue = map (λ next. next.module_number) queue
 
+-- a driver of a queue is one of the catalogue, and has its licence in this machine
 abbrev pub IsMember : Catalog → DxeMachine → List Scheduled → Scheduled → Type 0
 IsMember catalog m queue next =
     (part : Part) × (part_at Dxe catalog next.module_number ≡ Some part) × IsDriverLicensed catalog m (numbers_of queue) next.module_number part next.licence
@@ -88,5 +92,6 @@ pub record IsIdle (catalog : Catalog) (m : DxeMachine) : Type 0 where
   pub scheduled : m.scheduled ≡ []
   pub waits : (number : ℕ) → IsDiscovered catalog m number → has_number m.started number ≡ false → is_eligible_driver catalog m number ≡ false
 
+-- a stop of DXE leaves no driver that may start
 abbrev pub DxeStopsIdle : Catalog → DxeMachine → Type 0
 DxeStopsIdle catalog m = dxe_case_of catalog m ≡ DxeStops → IsIdle catalog m

@@ -43,10 +43,12 @@ dxe_told m registers extra = record { status = Success; extra = extra; machine =
 abbrev pub dxe_refusal : DxeMachine → DriverFrame → Word → DxeReply
 dxe_refusal m frame status = record (dxe_told m frame.registers X.Nothing) { status = status }
 
+-- the answer that an argument has, where there is one, and else a refusal
 abbrev pub dxe_where : {A : Type 0} → Option A → (A → DxeReply) → DxeMachine → DriverFrame → Word → DxeReply
 dxe_where None reply m frame status = dxe_refusal m frame status
 dxe_where (Some argument) reply m frame status = reply argument
 
+-- the machine with these handles
 abbrev pub with_handles : DxeMachine → HandleState → DxeMachine
 with_handles m handles = record m { handles = handles }
 
@@ -61,6 +63,7 @@ installed_on m frame zero h guid value handle new =
 installed_on m frame (suc form) h guid value handle new =
     record (dxe_told (with_handles m new) frame.registers X.Nothing) { sweep = Some (protocol_sweep m guid value handle) }
 
+-- the answer of `InstallProtocolInterface()`, by what the handles said
 abbrev pub install_answer : HandleService ℕ → DxeMachine → DriverFrame → ℕ → ℕ → Guid → ℕ → DxeReply
 install_answer (Ok (handle, new)) m frame form h guid value = installed_on m frame form h guid value handle new
 install_answer (Err status) m frame form h guid value = dxe_refusal m frame status
@@ -70,24 +73,30 @@ abbrev pub install_target : DriverFrame → ℕ → ℕ → Option (Option ℕ)
 install_target frame zero h = Some None
 install_target frame (suc form) h = option_map (λ handle. Some handle) (handle_in frame.registers h)
 
+-- the same of a handle, or of none, and a value
 abbrev pub install_reply : DxeMachine → DriverFrame → ℕ → ℕ → Guid → (Option ℕ × ℕ) → DxeReply
 install_reply m frame form h guid argument = install_answer (install_interface m.handles argument.0 guid argument.1) m frame form h guid argument.1
 
+-- the answer of `ReinstallProtocolInterface()`: the notifications of the protocol are visited
 abbrev pub reinstall_answer : HandleService (Unit {0}) → DxeMachine → DriverFrame → ProtocolSweep → DxeReply
 reinstall_answer (Ok (done, new)) m frame sweep = record (dxe_told (with_handles m new) frame.registers X.Nothing) { sweep = Some sweep }
 reinstall_answer (Err status) m frame sweep = dxe_refusal m frame status
 
+-- the same of a handle, an old value and a new one
 abbrev pub reinstall_reply : DxeMachine → DriverFrame → Guid → (ℕ × (ℕ × ℕ)) → DxeReply
 reinstall_reply m frame guid argument =
     reinstall_answer (reinstall_interface m.handles argument.0 guid argument.1.0 argument.1.1) m frame (protocol_sweep m guid argument.1.1 argument.0)
 
+-- the answer of `UninstallProtocolInterface()`: no notification is visited
 abbrev pub uninstall_answer : HandleService (Unit {0}) → DxeMachine → DriverFrame → DxeReply
 uninstall_answer (Ok (done, new)) m frame = dxe_told (with_handles m new) frame.registers X.Nothing
 uninstall_answer (Err status) m frame = dxe_refusal m frame status
 
+-- the same of a handle and a value
 abbrev pub uninstall_reply : DxeMachine → DriverFrame → Guid → (ℕ × ℕ) → DxeReply
 uninstall_reply m frame guid argument = uninstall_answer (uninstall_interface m.handles argument.0 guid argument.1) m frame
 
+-- the answer of `LocateProtocol()`: the handle is written first, then the value
 abbrev pub locate_reply : DxeMachine → DriverFrame → ℕ → ℕ → (ℕ × ℕ) → DxeReply
 locate_reply m frame h v found = dxe_told m (slice_set (slice_set frame.registers h (HandleIn found.0)) v (Number found.1)) (X.Number found.1)
 
@@ -100,6 +109,7 @@ notify_reply m frame guid block =
 abbrev pub unrequested_named : Catalog → DxeMachine → Guid → Option ℕ
 unrequested_named catalog m name = find (λ number. is_unrequested catalog m number && same_guid (module_name catalog number) name) (waiting catalog m)
 
+-- the answer of `Schedule()`: the driver is requested, and starts when its expression holds
 abbrev pub schedule_reply : DxeMachine → DriverFrame → ℕ → DxeReply
 schedule_reply m frame number = dxe_told (record m { requested = m.requested ++ number ∷ [] }) frame.registers X.Nothing
 
@@ -107,16 +117,20 @@ schedule_reply m frame number = dxe_told (record m { requested = m.requested ++ 
 abbrev pub with_volumes : Catalog → DxeMachine → List ℕ → DxeMachine
 with_volumes catalog m volumes = record m { discovered = m.discovered ++ volumes; scheduled = m.scheduled ++ a_priori_drivers catalog volumes }
 
+-- the answer of `ProcessFirmwareVolume()` that discovers these volumes
 abbrev pub processed : Catalog → DxeMachine → DriverFrame → List ℕ → DxeReply
 processed catalog m frame volumes = record (dxe_told (with_volumes catalog m volumes) frame.registers X.Nothing) { volumes = volumes }
 
+-- the same of a volume, unless it was discovered before
 abbrev pub process_volume : Catalog → DxeMachine → DriverFrame → ℕ → DxeReply
 process_volume catalog m frame volume =
     if has_number m.discovered volume then dxe_refusal m frame AlreadyStarted else processed catalog m frame (newcomers catalog m.discovered (Some volume))
 
+-- the same of the base of a volume
 abbrev pub process_reply : Catalog → DxeMachine → DriverFrame → ℕ → DxeReply
 process_reply catalog m frame base = dxe_where (volume_at catalog base) (process_volume catalog m frame) m frame NotFound
 
+-- the answer of a read of memory: the bytes at an address, where they lie in one region
 abbrev pub peek_reply : DxeMachine → DriverFrame → ℕ → ℕ → DxeReply
 peek_reply m frame n at = dxe_where (bytes_at m.store at n) (λ bytes. dxe_told m frame.registers (X.Bytes (record { items = bytes }))) m frame NotFound
 
@@ -138,5 +152,6 @@ own_dxe_effect catalog m frame (A.Process v) = dxe_call_where C.Process (number_
 own_dxe_effect catalog m frame A.Dispatch = Called C.Dispatch (dxe_refusal m frame AlreadyStarted)
 own_dxe_effect catalog m frame _ = Skipped 0
 
+-- what an action does in a frame, one of both phases or of DXE
 abbrev pub dxe_effect : Catalog → DxeMachine → DriverFrame → Action → DxeEffect
 dxe_effect catalog m frame action = effect_by (own_dxe_effect catalog m frame) frame action

@@ -35,9 +35,11 @@ a_priori_drivers catalog volumes =
 abbrev pub discovered_order : Catalog → DxeMachine → List ℕ
 discovered_order catalog m = drivers_of catalog m.discovered
 
+-- whether a driver stands in the queue
 abbrev pub is_scheduled : DxeMachine → ℕ → Bool
 is_scheduled m number = list_any (λ next. next.module_number == number) m.scheduled
 
+-- whether a driver neither stands in the queue nor has started
 abbrev pub is_waiting : DxeMachine → ℕ → Bool
 is_waiting m number = not (is_scheduled m number) && not (has_number m.started number)
 
@@ -50,6 +52,7 @@ is_sor (D.Before name) = false
 is_sor (D.After name) = false
 is_sor (D.Expr sor node) = sor
 
+-- whether the expression of a driver begins with SOR
 abbrev pub asks_for_request : Option Part → Bool
 asks_for_request None = false
 asks_for_request (Some part) = elim part.expr [ E.Absent ↦ false | E.Malformed at ↦ false | E.Held expression ↦ is_sor expression ]
@@ -64,10 +67,12 @@ lets_driver_start h E.Absent = list_all (has_protocol h) ARCHITECTURAL
 lets_driver_start h (E.Malformed at) = false
 lets_driver_start h (E.Held expression) = depex_holds (has_protocol h) expression
 
+-- whether a driver's expression lets it start
 abbrev pub driver_may_start : HandleState → Option Part → Bool
 driver_may_start h None = false
 driver_may_start h (Some part) = lets_driver_start h part.expr
 
+-- whether a driver may start: one with SOR must have been requested
 abbrev pub is_eligible_driver : Catalog → DxeMachine → ℕ → Bool
 is_eligible_driver catalog m number = not (is_unrequested catalog m number) && driver_may_start m.handles (part_at Dxe catalog number)
 
@@ -79,17 +84,27 @@ driver_named catalog m name = find (λ number. same_guid (module_name catalog nu
 abbrev pub before_of : PartExpr → Option Guid
 before_of E.Absent = None
 before_of (E.Malformed at) = None
-before_of (E.Held expression) = elim expression [ D.Before name ↦ Some name | D.After name ↦ None | D.Expr sor node ↦ None ]
+before_of (E.Held (D.Before name)) = Some name
+before_of (E.Held (D.After name)) = None
+before_of (E.Held (D.Expr sor node)) = None
 
 abbrev pub after_of : PartExpr → Option Guid
 after_of E.Absent = None
 after_of (E.Malformed at) = None
-after_of (E.Held expression) = elim expression [ D.Before name ↦ None | D.After name ↦ Some name | D.Expr sor node ↦ None ]
+after_of (E.Held (D.Before name)) = None
+after_of (E.Held (D.After name)) = Some name
+after_of (E.Held (D.Expr sor node)) = None
+
+-- whether a driver that was found is this one
+abbrev pub is_that : ℕ → Option ℕ → Bool
+is_that target None = false
+is_that target (Some number) = number == target
 
 -- whether the name that an expression gives is that of this driver
 abbrev pub targets : Catalog → DxeMachine → ℕ → Option Guid → Bool
-targets catalog m target name = elim (option_and_then (driver_named catalog m) name) [ None ↦ false | Some number ↦ number == target ]
+targets catalog m target name = is_that target (option_and_then (driver_named catalog m) name)
 
+-- the name that a driver's expression gives by one of the two forms
 abbrev pub name_by : (PartExpr → Option Guid) → Catalog → ℕ → Option Guid
 name_by form catalog number = option_and_then (λ part. form part.expr) (part_at Dxe catalog number)
 
@@ -114,12 +129,16 @@ companion_group catalog m number = group_within catalog m (length (waiting catal
 abbrev pub licence_in_group : PartExpr → Licence
 licence_in_group E.Absent = G.Absent
 licence_in_group (E.Malformed at) = G.True
-licence_in_group (E.Held expression) = elim expression [ D.Before name ↦ G.Before | D.After name ↦ G.After | D.Expr sor node ↦ G.True ]
+licence_in_group (E.Held (D.Before name)) = G.Before
+licence_in_group (E.Held (D.After name)) = G.After
+licence_in_group (E.Held (D.Expr sor node)) = G.True
 
+-- the licence of a driver with this part
 abbrev pub driver_licence : Option Part → Licence
 driver_licence None = G.True
 driver_licence (Some part) = licence_in_group part.expr
 
+-- these drivers, each with its licence
 abbrev pub schedule_of : Catalog → List ℕ → List Scheduled
 schedule_of catalog numbers = map (λ number. record { module_number = number; licence = driver_licence (part_at Dxe catalog number) }) numbers
 
@@ -128,16 +147,20 @@ abbrev pub queue_from : List Scheduled → List Scheduled → List Scheduled
 queue_from [] group = group
 queue_from (first ∷ rest) group = first ∷ rest
 
+-- the first driver in discovered order that waits and may start
 abbrev pub first_eligible : Catalog → DxeMachine → Option ℕ
 first_eligible catalog m = find (is_eligible_driver catalog m) (waiting catalog m)
 
+-- what is scheduled with it: its group, and nothing where there is none
 abbrev pub group_scheduled : Catalog → DxeMachine → Option ℕ → List Scheduled
 group_scheduled catalog m None = []
 group_scheduled catalog m (Some number) = schedule_of catalog (companion_group catalog m number)
 
+-- what starts from here on
 abbrev pub driver_queue : Catalog → DxeMachine → List Scheduled
 driver_queue catalog m = queue_from m.scheduled (group_scheduled catalog m (first_eligible catalog m))
 
+-- the first of a queue and the rest
 abbrev pub head_of : List Scheduled → Option (Scheduled × List Scheduled)
 head_of [] = None
 head_of (first ∷ rest) = Some (first, rest)

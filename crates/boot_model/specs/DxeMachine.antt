@@ -35,5 +35,6 @@ pub record DxeMachine : Type 0 where
 abbrev pub protocol_frame : ProtocolSweep → ProtocolNote → DriverFrame
 protocol_frame sweep note = notified note.module_number note.block (Number sweep.interface) (HandleIn sweep.handle)
 
+-- lines more
 abbrev pub dxe_printed : DxeMachine → List Line → DxeMachine
 dxe_printed m lines = record m { lines = m.lines ++ lines }

@@ -52,20 +52,25 @@ next_note m sweep = option_and_then (λ place. option_map (λ note. (note, recor
 abbrev pub frame_case : DxeMachine → DriverFrame → List DriverFrame → DxeCase
 frame_case m frame below = elim (option_and_then (next_note m) frame.sweep) [ None ↦ DxeActs frame below | Some pair ↦ DxeFires pair.0 pair.1 frame below ]
 
+-- where no script runs: the next driver starts, or DXE stops
 abbrev pub queue_case : Option (Scheduled × List Scheduled) → DxeCase
 queue_case None = DxeStops
 queue_case (Some pair) = DxeStarts pair.0 pair.1
 
+-- the case by the frames that stand
 abbrev pub dxe_case_in : Catalog → DxeMachine → List DriverFrame → DxeCase
 dxe_case_in catalog m [] = queue_case (next_driver catalog m)
 dxe_case_in catalog m (frame ∷ below) = frame_case m frame below
 
+-- what comes next from a machine
 abbrev pub dxe_case_of : Catalog → DxeMachine → DxeCase
 dxe_case_of catalog m = dxe_case_in catalog m m.frames
 
+-- the line of a notification: its module, and the protocol
 abbrev pub protocol_line : Catalog → ProtocolSweep → ProtocolNote → Line
 protocol_line catalog sweep note = L.NotifyProtocol (module_volume catalog note.module_number) (module_name catalog note.module_number) sweep.guid
 
+-- a notification begins, and the sweep stands behind it
 abbrev pub protocol_begun : Catalog → DxeMachine → ProtocolNote → ProtocolSweep → DriverFrame → List DriverFrame → DxeMachine
 protocol_begun catalog m note sweep frame below =
     record (dxe_printed m (protocol_line catalog sweep note ∷ [])) { frames = protocol_frame sweep note ∷ swept (frame ∷ below) sweep }
@@ -95,6 +100,7 @@ after_dxe_effect m frame below (Own own) = absurd own
 abbrev pub dxe_action_at : Catalog → DriverFrame → Action
 dxe_action_at catalog frame = unwrap_or (slice_get (block_of Dxe catalog frame.module_number frame.block) frame.position) (Ret Success)
 
+-- an action is counted
 abbrev pub with_action : DxeMachine → DxeMachine
 with_action m = record m { actions = m.actions + 1 }
 
@@ -104,6 +110,7 @@ dxe_acted catalog fuel m frame below =
     if nat_le fuel m.actions then record m { ended = Some DxeEnds.Spent }
     else after_dxe_effect (with_action m) frame below (dxe_effect catalog (with_action m) frame (dxe_action_at catalog frame))
 
+-- the line of a driver's start
 abbrev pub dxe_start_line : Catalog → ℕ → Licence → Line
 dxe_start_line catalog number licence = L.DxeStart (module_volume catalog number) (module_name catalog number) licence
 
@@ -116,6 +123,7 @@ driver_started_by catalog m next queue part =
       frames = start_frames next.module_number part.script.blocks;
     }
 
+-- a number without a driver leaves the queue alone
 abbrev pub driver_started : Catalog → DxeMachine → Scheduled → List Scheduled → Option Part → DxeMachine
 driver_started catalog m next queue None = record m { scheduled = queue }
 driver_started catalog m next queue (Some part) = driver_started_by catalog m next queue part
@@ -124,14 +132,19 @@ driver_started catalog m next queue (Some part) = driver_started_by catalog m ne
 abbrev pub tree_reason : Bool → Reason
 tree_reason unrequested = if unrequested then R.Unrequested else R.False
 
+-- the same by the expression: a companion waits for the driver that it names
 abbrev pub driver_reason_by : Bool → PartExpr → Reason
 driver_reason_by unrequested E.Absent = R.Absent
 driver_reason_by unrequested (E.Malformed at) = R.Malformed
-driver_reason_by unrequested (E.Held expression) = elim expression [ D.Before name ↦ R.Before | D.After name ↦ R.After | D.Expr sor node ↦ tree_reason unrequested ]
+driver_reason_by unrequested (E.Held (D.Before name)) = R.Before
+driver_reason_by unrequested (E.Held (D.After name)) = R.After
+driver_reason_by unrequested (E.Held (D.Expr sor node)) = tree_reason unrequested
 
+-- the same of a driver by its number
 abbrev pub driver_reason : Catalog → DxeMachine → ℕ → Reason
 driver_reason catalog m number = unwrap_or (option_map (λ part. driver_reason_by (is_unrequested catalog m number) part.expr) (part_at Dxe catalog number)) R.False
 
+-- the line of a driver that waits
 abbrev pub driver_waiting_line : Catalog → DxeMachine → ℕ → Line
 driver_waiting_line catalog m number = L.Waiting (module_volume catalog number) (module_name catalog number) (driver_reason catalog m number)
 
@@ -139,6 +152,7 @@ driver_waiting_line catalog m number = L.Waiting (module_volume catalog number) 
 abbrev pub driver_waiting_lines : Catalog → DxeMachine → List Line
 driver_waiting_lines catalog m = map (driver_waiting_line catalog m) (waiting catalog m)
 
+-- DXE stops, and its end is Done
 abbrev pub dxe_stopped : Catalog → DxeMachine → DxeMachine
 dxe_stopped catalog m = record (dxe_printed m (L.DxeStop ∷ driver_waiting_lines catalog m)) { ended = Some DxeEnds.Done }
 

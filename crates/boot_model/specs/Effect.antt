@@ -12,6 +12,7 @@ use Rattle.boot_model.specs.declared.frame.Register.TheVariants.{Number}
 use Rattle.boot_model.specs.declared.line.CallName.{CallName}
 use Rattle.boot_model.specs.Registers.{number_in, skipped}
 
+-- what an action does: it wrote registers and has a status, called a service, logged, skips so many actions, returned, or is the phase's own
 pub data Effect (R O : Type 0) : Type 0 where
   Wrote : (registers : List Register) (status : Word) → Effect R O
   Called : (name : CallName) (reply : R) → Effect R O

@@ -29,6 +29,7 @@ lets_start s E.Absent = true
 lets_start s (E.Malformed at) = false
 lets_start s (E.Held expression) = depex_holds (has_ppi s) expression
 
+-- whether a part that has not started may start: one of the a priori list always
 abbrev pub may_start : StoreState → Option Part → Bool
 may_start s None = false
 may_start s (Some part) = is_some part.rank || lets_start s part.expr
@@ -37,6 +38,7 @@ may_start s (Some part) = is_some part.rank || lets_start s part.expr
 abbrev pub may_start_again : PeiMachine → ℕ → Bool
 may_start_again m number = has_number m.shadows number && not (has_number m.again number) && m.store.moved
 
+-- whether a part may start from here, for the first time or again
 abbrev pub is_eligible : Catalog → PeiMachine → ℕ → Bool
 is_eligible catalog m number = if has_number m.started number then may_start_again m number else may_start m.store (part_at Pei catalog number)
 

@@ -42,11 +42,15 @@ tree_pushes guid (Not node) = tree_pushes guid node
 tree_pushes guid (And first second) = tree_pushes guid first || tree_pushes guid second
 tree_pushes guid (Or first second) = tree_pushes guid first || tree_pushes guid second
 
+-- whether an expression does; BEFORE and AFTER push none
 abbrev pub expression_pushes : Guid → PartExpr → Bool
 expression_pushes guid E.Absent = false
 expression_pushes guid (E.Malformed at) = false
-expression_pushes guid (E.Held expression) = elim expression [ D.Before name ↦ false | D.After name ↦ false | D.Expr sor node ↦ tree_pushes guid node ]
+expression_pushes guid (E.Held (D.Before name)) = false
+expression_pushes guid (E.Held (D.After name)) = false
+expression_pushes guid (E.Held (D.Expr sor node)) = tree_pushes guid node
 
+-- whether the expression of a module's part does
 abbrev pub part_pushes : Phase → Catalog → Guid → ℕ → Bool
 part_pushes phase catalog guid number = unwrap_or (option_map (λ part. expression_pushes guid part.expr) (part_at phase catalog number)) false
 
@@ -54,6 +58,7 @@ part_pushes phase catalog guid number = unwrap_or (option_map (λ part. expressi
 abbrev pub each_once : List Guid → List Guid
 each_once guids = firsts same_guid guids
 
+-- whether an action of PEI is a call that succeeds
 abbrev pub is_called : Effect → Bool
 is_called (Wrote registers status) = false
 is_called (Called name reply) = is_success reply.status
@@ -72,6 +77,7 @@ changed_places frame _ = []
 abbrev pub action_guids : StoreState → Frame → Action → List Guid
 action_guids s frame action = if is_called (effect s frame action) then map (guid_at s) (changed_places frame action) else []
 
+-- the GUID that the core's install puts in, where it succeeds
 abbrev pub core_guids : Service Sweep → List Guid
 core_guids (Ok done) = MEMORY_PPI ∷ []
 core_guids (Err fault) = []
@@ -105,6 +111,7 @@ pei_changes catalog fuel (suc n) m = elim m.ended [
 abbrev pub pei_evaluations : Catalog → ℕ → ℕ → PeiMachine → PeiMachine → ℕ
 pei_evaluations catalog fuel n m last = length (pei_order catalog last.reported) + pei_changes catalog fuel n m
 
+-- whether an action of DXE is a call that succeeds
 abbrev pub is_dxe_called : DxeEffect → Bool
 is_dxe_called (Wrote registers status) = false
 is_dxe_called (Called name reply) = is_success reply.status
@@ -119,15 +126,18 @@ changed_protocols (A.DxeInstall form h guid v) = guid ∷ []
 changed_protocols (A.DxeUninstall h guid v) = guid ∷ []
 changed_protocols _ = []
 
+-- the GUIDs of an action of DXE that succeeds
 abbrev pub dxe_action_guids : Catalog → DxeMachine → DriverFrame → Action → List Guid
 dxe_action_guids catalog m frame action = if is_dxe_called (dxe_effect catalog m frame action) then changed_protocols action else []
 
+-- the GUIDs of a case
 abbrev pub dxe_case_guids : Catalog → ℕ → DxeMachine → DxeCase → List Guid
 dxe_case_guids catalog fuel m (DxeFires note sweep frame below) = []
 dxe_case_guids catalog fuel m (DxeActs frame below) = if nat_le fuel m.actions then [] else dxe_action_guids catalog (with_action m) frame (dxe_action_at catalog frame)
 dxe_case_guids catalog fuel m (DxeStarts next queue) = []
 dxe_case_guids catalog fuel m DxeStops = []
 
+-- the GUIDs of the event from here
 abbrev pub dxe_guids : Catalog → ℕ → DxeMachine → List Guid
 dxe_guids catalog fuel m = dxe_case_guids catalog fuel m (dxe_case_of catalog m)
 

@@ -25,6 +25,7 @@ placed frame _ = []
 abbrev pub placed_guids : StoreState → Frame → Action → List Guid
 placed_guids s frame action = if is_called (effect s frame action) then map (guid_at s) (placed frame action) else []
 
+-- the GUIDs that a case puts in
 abbrev pub case_placed : Catalog → ℕ → PeiMachine → PeiCase → List Guid
 case_placed catalog fuel m (Fires firing sweep) = []
 case_placed catalog fuel m (Acts frame below) = if nat_le fuel m.actions then [] else placed_guids m.store frame (action_at catalog frame)
@@ -46,6 +47,7 @@ taken_place frame _ = None
 abbrev pub taken_guid : StoreState → Frame → Action → Option Guid
 taken_guid s frame action = if is_called (effect s frame action) then option_map (guid_at s) (taken_place frame action) else None
 
+-- the GUID that a case takes away
 abbrev pub case_taken : Catalog → ℕ → PeiMachine → PeiCase → Option Guid
 case_taken catalog fuel m (Fires firing sweep) = None
 case_taken catalog fuel m (Acts frame below) = if nat_le fuel m.actions then None else taken_guid m.store frame (action_at catalog frame)

@@ -8,6 +8,7 @@ use Rattle.boot_model.specs.declared.frame.Register.{Register}
 use Rattle.boot_model.specs.declared.frame.Register.TheVariants.{Empty}
 use Rattle.boot_model.specs.declared.frame.Frame.{Frame}
 
+-- sixteen registers that hold nothing
 abbrev pub no_registers : List Register
 no_registers = replicate REGISTERS Empty
 

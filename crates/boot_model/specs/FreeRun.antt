@@ -24,6 +24,7 @@ use Rattle.boot_model.specs.DxeStep.{DxeCase, DxeFires, DxeActs, DxeStarts, DxeS
 abbrev pub MayStart : Catalog → PeiMachine → ℕ → Type 0
 MayStart catalog m number = (has_number (pei_order catalog m.reported) number ≡ true) × (is_eligible catalog m number ≡ true)
 
+-- a machine that may come behind a case: where a PEIM starts it may be any that may, and each other case has one outcome
 abbrev pub IsFreeIn : Catalog → ℕ → PeiMachine → PeiCase → PeiMachine → Type 0
 IsFreeIn catalog fuel m (Fires firing sweep) later = later ≡ in_case catalog fuel m (Fires firing sweep)
 IsFreeIn catalog fuel m (Acts frame below) later = later ≡ in_case catalog fuel m (Acts frame below)
@@ -32,6 +33,7 @@ IsFreeIn catalog fuel m (Pops firing new) later = later ≡ in_case catalog fuel
 IsFreeIn catalog fuel m (Starts first) later = (number : ℕ) × MayStart catalog m number × (later ≡ started catalog m number)
 IsFreeIn catalog fuel m Stops later = later ≡ in_case catalog fuel m Stops
 
+-- a machine that may come next
 abbrev pub IsFreePeiStep : Catalog → ℕ → PeiMachine → PeiMachine → Type 0
 IsFreePeiStep catalog fuel m later = IsFreeIn catalog fuel m (case_of catalog m) later
 
@@ -44,6 +46,7 @@ IsFreePeiRun catalog fuel m (later ∷ rest) = (m.ended ≡ None) × IsFreePeiSt
 abbrev pub MaySchedule : Catalog → DxeMachine → ℕ → Type 0
 MaySchedule catalog m number = (has_number (waiting catalog m) number ≡ true) × (is_eligible_driver catalog m number ≡ true)
 
+-- the first of a queue has started
 abbrev pub IsStarted : Catalog → DxeMachine → List Scheduled → DxeMachine → Type 0
 IsStarted catalog m [] later = ⊥
 IsStarted catalog m (next ∷ queue) later = later ≡ driver_started catalog m next queue (part_at Dxe catalog next.module_number)
@@ -53,6 +56,7 @@ abbrev pub IsFreeStart : Catalog → DxeMachine → List Scheduled → DxeMachin
 IsFreeStart catalog m [] later = (number : ℕ) × MaySchedule catalog m number × IsStarted catalog m (group_scheduled catalog m (Some number)) later
 IsFreeStart catalog m (next ∷ queue) later = IsStarted catalog m (next ∷ queue) later
 
+-- a machine of DXE that may come behind a case
 abbrev pub IsFreeInDxe : Catalog → ℕ → DxeMachine → DxeCase → DxeMachine → Type 0
 IsFreeInDxe catalog fuel m (DxeFires note sweep frame below) later = later ≡ in_dxe_case catalog fuel m (DxeFires note sweep frame below)
 IsFreeInDxe catalog fuel m (DxeActs frame below) later = later ≡ in_dxe_case catalog fuel m (DxeActs frame below)
@@ -64,6 +68,7 @@ abbrev pub IsFreeDxeRun : Catalog → ℕ → DxeMachine → List DxeMachine →
 IsFreeDxeRun catalog fuel m [] = is_some m.ended ≡ true
 IsFreeDxeRun catalog fuel m (later ∷ rest) = (m.ended ≡ None) × IsFreeInDxe catalog fuel m (dxe_case_of catalog m) later × IsFreeDxeRun catalog fuel later rest
 
+-- the last machine of a run of DXE
 abbrev pub last_of_dxe : DxeMachine → List DxeMachine → DxeMachine
 last_of_dxe m [] = m
 last_of_dxe m (later ∷ rest) = last_of_dxe later rest

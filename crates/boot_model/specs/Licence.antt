@@ -35,6 +35,7 @@ pub record AreStartedOnce (started again shadows : List ℕ) (moved : Bool) : Ty
   pub shadowed : Each (λ number. has_number shadows number ≡ true) again
   pub after : again ≢ [] → moved ≡ true
 
+-- the same of a machine of PEI
 abbrev pub StartedOnce : PeiMachine → Type 0
 StartedOnce m = AreStartedOnce m.started m.again m.shadows m.store.moved
 
@@ -69,6 +70,7 @@ abbrev pub StopsIdle : Catalog → PeiMachine → Type 0
 StopsIdle catalog m =
     case_of catalog m ≡ Stops → (number : ℕ) → IsPartAmong Pei catalog m.reported number → is_eligible catalog m number ≡ false
 
+-- what a step from here does is licensed
 pub record IsLicensedStep (catalog : Catalog) (m : PeiMachine) : Type 0 where
   pub starts : StartsLicensed catalog m
   pub moves : MovesUnchanged catalog m
@@ -79,10 +81,12 @@ abbrev pub AlongRun : Catalog → ℕ → (PeiMachine → Type 0) → ℕ → Pe
 AlongRun catalog fuel P zero m = ⊤
 AlongRun catalog fuel P (suc n) m = elim m.ended [ Some end ↦ ⊤ | None ↦ P m × AlongRun catalog fuel P n (pei_step catalog fuel m) ]
 
+-- every run of PEI over a well-formed catalogue is licensed at each step
 abbrev pub IsLicensedRun : Type 0
 IsLicensedRun =
     (catalog : Catalog) (board : Board) → IsWellFormed catalog → IsBoard board
     → (fuel n : ℕ) → AlongRun catalog fuel (IsLicensedStep catalog) n (pei_opening board catalog)
 
+-- in every run of PEI no part starts twice, but those that registered for shadow
 abbrev pub StartsAtMostOnce : Type 0
 StartsAtMostOnce = (catalog : Catalog) (fuel n : ℕ) (board : Board) → StartedOnce (pei_run catalog fuel n (pei_opening board catalog))

@@ -12,27 +12,35 @@ use Rattle.store_model.specs.declared.state.Pending.{Pending}
 use Rattle.store_model.specs.HeapImage.{handoff_body, body_bytes}
 use Rattle.store_model.specs.Service.Descriptor.{guid_at, number_at}
 
+-- a PPI: its maker, its GUID and its value
 abbrev pub ppi_line : StoreState → Entry → Line
 ppi_line s entry = L.Ppi entry.by (guid_at s entry.descriptor) (number_at s entry.descriptor)
 
+-- a callback: its GUID, and the module and the block that it runs
 abbrev pub callback_line : StoreState → Entry → Line
 callback_line s entry = L.Callback (guid_at s entry.descriptor) (number_at s entry.descriptor / BLOCKS) (number_at s entry.descriptor % BLOCKS)
 
+-- a dispatch notification, in the same way
 abbrev pub dispatch_line : StoreState → Entry → Line
 dispatch_line s entry = L.Dispatch (guid_at s entry.descriptor) (number_at s entry.descriptor / BLOCKS) (number_at s entry.descriptor % BLOCKS)
 
+-- a queued pair: the PPI's GUID, and the module and the block of the notification
 abbrev pub pending_line : StoreState → Pending → Line
 pending_line s pending = L.Pending (guid_at s pending.ppi) (number_at s pending.descriptor / BLOCKS) (number_at s pending.descriptor % BLOCKS)
 
+-- the PPIs in order of installing
 abbrev pub ppi_lines : StoreState → List Line
 ppi_lines s = L.Ppis (length s.ppis) ∷ map (ppi_line s) s.ppis
 
+-- the callbacks in order of registration
 abbrev pub callback_lines : StoreState → List Line
 callback_lines s = L.Callbacks (length s.callbacks) ∷ map (callback_line s) s.callbacks
 
+-- the dispatch notifications in order of registration
 abbrev pub dispatch_lines : StoreState → List Line
 dispatch_lines s = L.Dispatches (length s.dispatches) ∷ map (dispatch_line s) s.dispatches
 
+-- the queued pairs, first in first
 abbrev pub pending_lines : StoreState → List Line
 pending_lines s = L.Pendings (length s.pendings) ∷ map (pending_line s) s.pendings
 

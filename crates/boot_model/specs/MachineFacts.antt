@@ -20,6 +20,7 @@ IsHeld s (PoolIn held) = IsPool s held
 IsHeld s (DescriptorIn d) = IsDesc s d
 IsHeld s (HandleIn handle) = ⊤
 
+-- the same of all registers of a frame
 abbrev pub HoldRegisters : List Register → StoreState → Type 0
 HoldRegisters registers s = Each (IsHeld s) registers
 
@@ -27,6 +28,7 @@ HoldRegisters registers s = Each (IsHeld s) registers
 abbrev pub IsModuleNumber : ℕ → Type 0
 IsModuleNumber number = number < MOST_MODULES
 
+-- what every machine of a run of PEI keeps
 pub record IsSound (m : PeiMachine) : Type 0 where
   pub held : Each (λ frame. HoldRegisters frame.registers m.store) m.frames
   pub modules : Each (λ frame. IsModuleNumber frame.module_number) m.frames

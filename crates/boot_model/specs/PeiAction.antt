@@ -55,6 +55,7 @@ pub data PeiOwn : Type 0 where
 abbrev pub Effect : Type 0
 Effect = OfEach Reply PeiOwn
 
+-- the status that a refused service is to its script
 abbrev pub status_of : StoreFault → Word
 status_of F.Full = OutOfResources
 status_of F.Bad = InvalidParameter
@@ -84,21 +85,26 @@ abbrev pub reply_where : {A : Type 0} → Option A → (A → Reply) → StoreSt
 reply_where None reply s registers status = refusal s registers status
 reply_where (Some argument) reply s registers status = reply argument
 
+-- `AllocatePool()`: the register holds the pool, and the address of its body is shown
 abbrev pub pool_reply : StoreState → Frame → ℕ → ℕ → Reply
 pool_reply s frame r size =
     answer_reply (pool s size) (λ made. slice_set frame.registers r (PoolIn made)) (λ made. X.Number (s.base + made.offset)) s frame.registers
 
+-- a write into a pool, where the pool has so many bytes
 abbrev pub store_reply : StoreState → Frame → Option StoreState → Reply
 store_reply s frame new = reply_where new (λ after. told after frame.registers X.Nothing) s frame.registers InvalidParameter
 
+-- a read of memory: the bytes at an address, where they lie in one region
 abbrev pub peek_reply : StoreState → Frame → ℕ → ℕ → Reply
 peek_reply s frame n at = reply_where (bytes_at s at n) (λ bytes. told s frame.registers (X.Bytes (record { items = bytes }))) s frame.registers NotFound
 
+-- the kind of a descriptor by its number in a script
 abbrev pub kind_number : ℕ → DescKind
 kind_number zero = Ppi
 kind_number (suc zero) = Callback
 kind_number (suc (suc n)) = Dispatch
 
+-- where the GUID of a descriptor comes from, if the register of its address holds a number
 abbrev pub guid_arg : List Register → GuidArg → Option GuidFrom
 guid_arg registers (G.Inline guid) = Some (Inline guid)
 guid_arg registers (G.Register v) = option_map (λ address. At address) (number_in registers v)
@@ -109,28 +115,36 @@ desc_number number registers Ppi arg = number_in registers arg
 desc_number number registers Callback arg = Some (number * BLOCKS + arg)
 desc_number number registers Dispatch arg = Some (number * BLOCKS + arg)
 
+-- a descriptor is made: the register holds it, and its address is shown
 abbrev pub desc_reply : StoreState → Frame → ℕ → DescKind → (GuidFrom × ℕ) → Reply
 desc_reply s frame d kind argument =
     answer_reply (desc s kind argument.0 argument.1) (λ made. slice_set frame.registers d (DescriptorIn made)) (λ made. X.Number (s.base + made.offset)) s frame.registers
 
+-- what a descriptor is made of: its GUID and its number
 abbrev pub desc_argument : Frame → DescKind → GuidArg → ℕ → Option (GuidFrom × ℕ)
 desc_argument frame kind guid arg = both (guid_arg frame.registers guid) (desc_number frame.module_number frame.registers kind arg)
 
+-- `InstallPpi()`: the callbacks are visited, and the PPIs may tell of volumes
 abbrev pub install_reply : StoreState → Frame → List Desc → Reply
 install_reply s frame list = sweep_reply (install s list frame.module_number) (offsets list) s frame.registers
 
+-- `ReInstallPpi()`: the same of the new descriptor
 abbrev pub reinstall_reply : StoreState → Frame → (Desc × Desc) → Reply
 reinstall_reply s frame pair = sweep_reply (reinstall s pair.0 pair.1 frame.module_number) (pair.1.offset ∷ []) s frame.registers
 
+-- `NotifyPpi()`: the new callbacks are visited with the PPIs that are there
 abbrev pub notify_reply : StoreState → Frame → List Desc → Reply
 notify_reply s frame list = sweep_reply (notify s list frame.module_number) [] s frame.registers
 
+-- `LocatePpi()`: the descriptor is written first, then the value, which is shown
 abbrev pub locate_reply : StoreState → Frame → ℕ → ℕ → (Desc × ℕ) → Reply
 locate_reply s frame d v found = told s (slice_set (slice_set frame.registers d (DescriptorIn found.0)) v (Number found.1)) (X.Number found.1)
 
+-- `CreateHob()`: the address of the HOB is shown
 abbrev pub hob_reply : StoreState → Frame → HobValue → Reply
 hob_reply s frame hob = answer_reply (create_hob s hob) (λ _. frame.registers) (λ address. X.Number address) s frame.registers
 
+-- `InstallPeiMemory()` with this beginning and length
 abbrev pub memory_reply : StoreState → Frame → (ℕ × ℕ) → Reply
 memory_reply s frame span = answer_reply (set_memory s span.0 span.1) (λ _. frame.registers) (λ _. X.Nothing) s frame.registers
 
@@ -138,15 +152,18 @@ memory_reply s frame span = answer_reply (set_memory s span.0 span.1) (λ _. fra
 abbrev pub is_memory_type : ℕ → Bool
 is_memory_type memory_type = nat_le memory_type 6 || memory_type == 9 || memory_type == 10
 
+-- `AllocatePages()`: the register holds the address of the lowest page, which is shown
 abbrev pub pages_reply : StoreState → Frame → ℕ → ℕ → ℕ → Reply
 pages_reply s frame r memory_type count =
     if is_memory_type memory_type && not (count == 0)
     then answer_reply (pages s memory_type count) (λ address. slice_set frame.registers r (Number address)) (λ address. X.Number address) s frame.registers
     else refusal s frame.registers InvalidParameter
 
+-- `SetBootMode()`: a mode has 32 bits
 abbrev pub set_mode_reply : StoreState → Frame → ℕ → Reply
 set_mode_reply s frame mode = if nat_lt mode (2 ^ 32) then told (with_boot_mode s mode) frame.registers X.Nothing else refusal s frame.registers InvalidParameter
 
+-- `GetBootMode()` in form 0, and `SetBootMode()` in form 1
 abbrev pub mode_reply : StoreState → Frame → ℕ → ℕ → Reply
 mode_reply s frame zero r = told s (slice_set frame.registers r (Number s.boot_mode)) (X.Number s.boot_mode)
 mode_reply s frame (suc form) r = reply_where (number_in frame.registers r) (set_mode_reply s frame) s frame.registers InvalidParameter
@@ -173,5 +190,6 @@ own_effect s frame (A.BootMode form r) = Called C.BootMode (mode_reply s frame f
 own_effect s frame A.Shadow = Own Shadowed
 own_effect s frame _ = Skipped 0
 
+-- what an action does in a frame, one of both phases or of PEI
 abbrev pub effect : StoreState → Frame → Action → Effect
 effect s frame action = effect_by (own_effect s frame) frame action

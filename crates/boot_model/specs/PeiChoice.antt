@@ -9,6 +9,7 @@ use Rattle.boot_model.specs.PeiMachine.{PeiMachine}
 use Rattle.catalog_model.specs.Parts.{parts_in, rank_at}
 use Rattle.boot_model.specs.Eligible.{is_eligible}
 
+-- whether a place in an a priori list is this one
 abbrev pub is_rank : Option ℕ → ℕ → Bool
 is_rank None rank = false
 is_rank (Some other) rank = other == rank
@@ -29,6 +30,7 @@ pei_order catalog reported = flat_map (volume_order catalog) reported
 abbrev pub rotated : {A : Type 0} → ℕ → List A → List A
 rotated cursor order = drop cursor order ++ take cursor order
 
+-- the next PEIM, if one may start
 abbrev pub next_peim : Catalog → PeiMachine → Option ℕ
 next_peim catalog m = find (is_eligible catalog m) (rotated m.cursor (pei_order catalog m.reported))
 

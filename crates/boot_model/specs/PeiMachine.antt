@@ -35,5 +35,6 @@ pub record PeiMachine : Type 0 where
 abbrev pub notified_frame : ℕ → ℕ → Firing → Frame
 notified_frame number block firing = notified number block (Number firing.value) (DescriptorIn firing.ppi)
 
+-- lines more
 abbrev pub printed : PeiMachine → List Line → PeiMachine
 printed m lines = record m { lines = m.lines ++ lines }

@@ -30,6 +30,7 @@ abbrev pub IsPeiRun : Catalog → ℕ → PeiMachine → List PeiMachine → Typ
 IsPeiRun catalog fuel m [] = is_some m.ended ≡ true
 IsPeiRun catalog fuel m (later ∷ rest) = (m.ended ≡ None) × (later ≡ pei_step catalog fuel m) × IsPeiRun catalog fuel later rest
 
+-- the last machine of a run
 abbrev pub last_machine : PeiMachine → List PeiMachine → PeiMachine
 last_machine m [] = m
 last_machine m (later ∷ rest) = last_machine later rest

@@ -53,27 +53,34 @@ abbrev pub open_sweep : PeiMachine → List Frame → Option Sweep
 open_sweep m [] = m.core_sweep
 open_sweep m (frame ∷ below) = frame.sweep
 
+-- the next pair of the open sweep that fires begins a callback
 abbrev pub fires : PeiMachine → Option PeiCase
 fires m = option_map (λ pair. Fires pair.0 pair.1) (option_and_then (next_match m.store) (open_sweep m m.frames))
 
+-- the top frame takes its next action
 abbrev pub acts : List Frame → Option PeiCase
 acts [] = None
 acts (frame ∷ below) = Some (Acts frame below)
 
+-- memory is due, and the store moves
 abbrev pub moves : PeiMachine → Option PeiCase
 moves m = option_map (λ new. Moves new) (migration m.store)
 
+-- the first queued pair leaves the queue
 abbrev pub pops : PeiMachine → Option PeiCase
 pops m = option_map (λ pair. Pops pair.0 pair.1) (queue_pop m.store)
 
+-- the next PEIM starts
 abbrev pub starts : Catalog → PeiMachine → Option PeiCase
 starts catalog m = option_map (λ number. Starts number) (next_peim catalog m)
 
+-- the first of these that applies; where none does, PEI stops
 abbrev pub first_that_applies : List (Option PeiCase) → PeiCase
 first_that_applies [] = Stops
 first_that_applies (Some case ∷ others) = case
 first_that_applies (None ∷ others) = first_that_applies others
 
+-- what comes next from a machine
 abbrev pub case_of : Catalog → PeiMachine → PeiCase
 case_of catalog m = first_that_applies (fires m ∷ acts m.frames ∷ moves m ∷ pops m ∷ starts catalog m ∷ [])
 
@@ -81,15 +88,19 @@ case_of catalog m = first_that_applies (fires m ∷ acts m.frames ∷ moves m �
 abbrev pub module_of : Firing → ℕ
 module_of firing = firing.entry / BLOCKS
 
+-- the frame of a notification that begins
 abbrev pub notification_frame : Firing → Frame
 notification_frame firing = notified_frame (module_of firing) (firing.entry % BLOCKS) firing
 
+-- the line of a callback: its module, and the GUID that it was told of
 abbrev pub callback_line : Catalog → Firing → Line
 callback_line catalog firing = L.NotifyCallback (module_volume catalog (module_of firing)) (module_name catalog (module_of firing)) firing.guid
 
+-- and that of a dispatch notification
 abbrev pub dispatch_line : Catalog → Firing → Line
 dispatch_line catalog firing = L.NotifyDispatch (module_volume catalog (module_of firing)) (module_name catalog (module_of firing)) firing.guid
 
+-- where no frame stands the core's sweep is the open one, and stands behind what was visited
 abbrev pub core_swept : List Frame → Sweep → Option Sweep → Option Sweep
 core_swept [] sweep old = Some sweep
 core_swept (frame ∷ below) sweep old = old
@@ -106,6 +117,7 @@ callback_begun catalog m firing sweep =
 abbrev pub fired : Catalog → PeiMachine → Firing → Sweep → PeiMachine
 fired catalog m firing sweep = if nat_le MOST_FRAMES (length m.frames) then record m { ended = Some Deep } else callback_begun catalog m firing sweep
 
+-- a line for each volume that is reported
 abbrev pub report_lines : List ℕ → List Line
 report_lines volumes = map (λ volume. L.Report volume) volumes
 
@@ -172,6 +184,7 @@ with_start m number = record m {
   again = if has_number m.started number then number ∷ m.again else m.again;
 }
 
+-- the line of a PEIM's start
 abbrev pub start_line : Catalog → PeiMachine → ℕ → Licence → Line
 start_line catalog m number licence = L.PeiStart (module_volume catalog number) (module_name catalog number) licence
 
@@ -184,10 +197,12 @@ started_by catalog m number part licence =
       frames = start_frames number part.script.blocks;
     }
 
+-- the same of a part that is there
 abbrev pub started_part : Catalog → PeiMachine → ℕ → Option Part → PeiMachine
 started_part catalog m number None = m
 started_part catalog m number (Some part) = started_by catalog m number part (licence_at m number part)
 
+-- a part starts by its number
 abbrev pub started : Catalog → PeiMachine → ℕ → PeiMachine
 started catalog m number = started_part catalog m number (part_at Pei catalog number)
 
@@ -204,6 +219,7 @@ reason_of catalog m number =
     then (if has_number m.shadows number && not (has_number m.again number) then Some R.Shadow else None)
     else option_map (λ part. reason_by part.expr) (part_at Pei catalog number)
 
+-- the line of a part that waits
 abbrev pub waiting_line : Catalog → PeiMachine → ℕ → Option Line
 waiting_line catalog m number = option_map (λ reason. L.Waiting (module_volume catalog number) (module_name catalog number) reason) (reason_of catalog m number)
 
@@ -215,6 +231,7 @@ waiting_lines catalog m = flat_map (λ number. option_to_list (waiting_line cata
 abbrev pub outcome_of : StoreState → PeiEnd
 outcome_of s = if s.moved then (if has_ppi s DXE_IPL_PPI then Handoff else NoIpl) else NoMemory
 
+-- the line of a hand-off: the address of the HOB list
 abbrev pub handoff_lines : StoreState → PeiEnd → List Line
 handoff_lines s Handoff = L.Handoff s.base ∷ []
 handoff_lines s NoMemory = []
@@ -222,6 +239,7 @@ handoff_lines s NoIpl = []
 handoff_lines s Spent = []
 handoff_lines s Deep = []
 
+-- PEI stops, and its end is known
 abbrev pub stopped : Catalog → PeiMachine → PeiMachine
 stopped catalog m =
     record (printed m (L.PeiStop ∷ (waiting_lines catalog m ++ handoff_lines m.store (outcome_of m.store)))) { ended = Some (outcome_of m.store); core_sweep = None }

@@ -24,6 +24,7 @@ abbrev pub roms_of : List VolumeEntry → List (List ℕ) → List Rom
 roms_of [] images = []
 roms_of (entry ∷ entries) images = mapped entry entry.parent images ++ roms_of entries (left_by entry.parent images)
 
+-- the board of a plan whose images are catalogued
 abbrev pub board_of : Plan → Catalog → List (List ℕ) → Board
 board_of plan catalog images = record {
   temp = record { base = plan.temp.base; len = plan.temp.len };

@@ -7,9 +7,11 @@ use Rattle.store_model.specs.declared.store_handle.Desc.{Desc}
 use Rattle.store_model.specs.declared.store_handle.Pool.{Pool}
 use Rattle.boot_model.specs.PeiMachine.{Register, Empty, Number, PoolIn, DescriptorIn, HandleIn}
 
+-- what the register of a number holds
 abbrev pub register : List Register → ℕ → Register
 register registers r = unwrap_or (slice_get registers r) Empty
 
+-- the number that a register holds
 abbrev pub number_of : Register → Option ℕ
 number_of Empty = None
 number_of (Number n) = Some n
@@ -17,6 +19,7 @@ number_of (PoolIn held) = None
 number_of (DescriptorIn d) = None
 number_of (HandleIn handle) = None
 
+-- the pool that a register holds
 abbrev pub pool_of : Register → Option Pool
 pool_of Empty = None
 pool_of (Number n) = None
@@ -24,6 +27,7 @@ pool_of (PoolIn held) = Some held
 pool_of (DescriptorIn d) = None
 pool_of (HandleIn handle) = None
 
+-- the descriptor that a register holds
 abbrev pub descriptor_of : Register → Option Desc
 descriptor_of Empty = None
 descriptor_of (Number n) = None
@@ -31,6 +35,7 @@ descriptor_of (PoolIn held) = None
 descriptor_of (DescriptorIn d) = Some d
 descriptor_of (HandleIn handle) = None
 
+-- the handle that a register holds
 abbrev pub handle_of : Register → Option ℕ
 handle_of Empty = None
 handle_of (Number n) = None
@@ -59,6 +64,7 @@ descriptor_in registers r = descriptor_of (register registers r)
 abbrev pub handle_in : List Register → ℕ → Option ℕ
 handle_in registers r = handle_of (register registers r)
 
+-- both of two, where both are there
 abbrev pub both : {A B : Type 0} → Option A → Option B → Option (A × B)
 both None other = None
 both (Some a) None = None
@@ -69,6 +75,7 @@ abbrev pub descriptors_in : List Register → List ℕ → Option (List Desc)
 descriptors_in registers [] = Some []
 descriptors_in registers (r ∷ rs) = option_map (λ pair. pair.0 ∷ pair.1) (both (descriptor_in registers r) (descriptors_in registers rs))
 
+-- whether a status is Success
 abbrev pub is_success : Word → Bool
 is_success Success = true
 is_success InvalidParameter = false

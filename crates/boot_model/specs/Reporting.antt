@@ -22,6 +22,7 @@ volume_info_len = 48
 abbrev pub volume_info_at : ℕ
 volume_info_at = 16
 
+-- whether FvFormat is that of FFS2 or FFS3
 abbrev pub is_file_system : Guid → Bool
 is_file_system guid = same_guid guid FILE_SYSTEM2 || same_guid guid FILE_SYSTEM3
 

@@ -30,21 +30,26 @@ use Rattle.catalog_model.specs.declared.image_fault.ImageCause.TheVariants as I
 abbrev pub dash : List ℕ
 dash = 45 ∷ []
 
+-- a place in an a priori list
 abbrev pub rank_text : Option ℕ → List ℕ
 rank_text None = dash
 rank_text (Some rank) = decimal rank
 
+-- the name of a volume
 abbrev pub name_text : Option Guid → List ℕ
 name_text None = dash
 name_text (Some name) = guid_text name
 
+-- bytes in hexadecimal
 abbrev pub bytes_text : List ℕ → List ℕ
 bytes_text [] = dash
 bytes_text (byte ∷ bytes) = encode_lower (byte ∷ bytes)
 
+-- who made a PPI: the core, or a module by its number
 abbrev pub by_text : ℕ → List ℕ
 by_text by = if by == CORE then codes "core" else decimal by
 
+-- the word of a licence
 unfoldable pub licence_text : Licence → List ℕ
 licence_text G.Apriori = codes "apriori"
 licence_text G.Absent = codes "absent"
@@ -53,6 +58,7 @@ licence_text G.Shadow = codes "shadow"
 licence_text G.Before = codes "before"
 licence_text G.After = codes "after"
 
+-- the word of a call
 unfoldable pub call_text : CallName → List ℕ
 call_text C.Pool = codes "pool"
 call_text C.Store = codes "store"
@@ -72,6 +78,7 @@ call_text C.Schedule = codes "schedule"
 call_text C.Process = codes "process"
 call_text C.Dispatch = codes "dispatch"
 
+-- the word of a reason to wait
 unfoldable pub reason_text : Reason → List ℕ
 reason_text R.Malformed = codes "malformed"
 reason_text R.False = codes "false"
@@ -81,6 +88,7 @@ reason_text R.Before = codes "before"
 reason_text R.After = codes "after"
 reason_text R.Absent = codes "absent"
 
+-- the word of a result
 unfoldable pub end_text : RunEnd → List ℕ
 end_text X.Done = codes "Done"
 end_text X.NoMemory = codes "NoMemory"
@@ -88,6 +96,7 @@ end_text X.NoIpl = codes "NoIpl"
 end_text X.Spent = codes "Spent"
 end_text X.Deep = codes "Deep"
 
+-- the word of what is wrong with a plan
 unfoldable pub plan_cause_text : PlanCause → List ℕ
 plan_cause_text P.Word = codes "Word"
 plan_cause_text P.Number = codes "Number"
@@ -98,6 +107,7 @@ plan_cause_text P.Limit = codes "Limit"
 plan_cause_text P.Room = codes "Room"
 plan_cause_text P.Memory = codes "Memory"
 
+-- the word of what is wrong with an image
 unfoldable pub image_cause_text : ImageCause → List ℕ
 image_cause_text I.Short = codes "Short"
 image_cause_text I.Signature = codes "Signature"
@@ -140,6 +150,7 @@ expression_text V.Sor = codes "sor"
 expression_text (V.Before name) = codes "before=" ++ guid_text name
 expression_text (V.After name) = codes "after=" ++ guid_text name
 
+-- what a call shows
 abbrev pub extra_words : Extra → List (List ℕ)
 extra_words E.Nothing = []
 extra_words (E.Number n) = hexadecimal n ∷ []

@@ -4,12 +4,12 @@ use Rattle.std.specs.Prelude.{◌≡◌, ℕ, suc, ◌<◌, ◌==◌, nat_lt, Bo
 use Rattle.pi_base.specs.declared.guid.Guid.{Guid}
 use Rattle.pi_base.specs.Guids.{same_guid}
 use Rattle.pi_base.specs.Lists.{Ordered}
-use Rattle.guid_map.specs.GuidMap.{value_of}
+use Rattle.indexmap.specs.IndexMap.{get_by}
 use Rattle.dxe_handles.specs.declared.holders.Holders.{Holders}
 
 -- the handles that have a protocol
 abbrev pub holders_of : Holders → Guid → List ℕ
-holders_of h guid = elim (value_of h.lists.entries guid) [ None ↦ [] | Some handles ↦ handles.items ]
+holders_of h guid = elim (get_by (same_guid guid) h.lists) [ None ↦ [] | Some handles ↦ handles.items ]
 
 -- each protocol has the handles that it had
 abbrev pub HaveStill : Holders → Holders → Type 0

@@ -3,15 +3,14 @@ ghost use Rattle.std.specs.Prelude.{◌≡◌, ◌≤◌, [], OnOk, OnErr, lengt
 ghost use Rattle.pi_base.specs.declared.guid.Guid.{Guid};
 ghost use Rattle.dxe_handles.specs.Holders.{holders_of, leading, with_handle, without_handle, HaveStill, HasInstead, Rises};
 
+use indexmap::IndexMap;
 use pi_base::{Guid, OutOfMemory};
 use std::alloc::Global;
-use std::collections::BTreeMap;
 
 /// For each protocol that was ever installed the handles that have it, lowest first.
 #[derive(Drop)]
 pub(crate) struct Holders {
-    lists: BTreeMap<Guid, Vec<u32>, Global>,
-    alloc: Global,
+    lists: IndexMap<Guid, Vec<u32>>,
 }
 
 /// The place of the first handle that is not below this one.
@@ -53,8 +52,7 @@ impl Holders {
         ensures { (guid : Guid) → holders_of result guid ≡ [] }
     {
         Holders {
-            lists: BTreeMap::new(alloc),
-            alloc,
+            lists: IndexMap::new(alloc),
         }
     }
 
@@ -77,7 +75,7 @@ impl Holders {
         match self.lists.get_mut(&guid) {
             Some(handles) => put(handles, handle),
             None => {
-                let mut handles = Vec::new(self.alloc);
+                let mut handles = Vec::new(*self.lists.allocator());
                 put(&mut handles, handle)?;
                 match self.lists.insert(guid, handles) {
                     Ok(_) => Ok(()),

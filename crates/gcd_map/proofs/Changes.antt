@@ -2,14 +2,14 @@
 use Rattle.std.proofs.Common.{◌≡◌, inl, inr, ℕ, ◌+◌, ◌-◌, ◌<◌, ◌≤◌, List, [], ◌∷◌, ◌++◌, length, take, drop, refl, sym, ap, ◌∙◌, subst, arith, min, max}
 use Rattle.std.specs.Prelude.{Result, Ok, Err, OnOk}
 use Rattle.std.proofs.lemmas.Bool.Decides.{nat_tests}
-use Rattle.std.proofs.lemmas.List.{take-append-drop}
+use Rattle.std.proofs.lemmas.List.{take-append-drop, same_from_push}
 use Rattle.gcd_map.specs.declared.state.SpaceState.{SpaceState}
 use Rattle.gcd_map.specs.declared.state.Effect.{Effect}
 use Rattle.gcd_map.specs.declared.range.GcdRange.{GcdRange}
 use Rattle.gcd_map.specs.AddressSpace.{after_effect}
 use Rattle.gcd_map.specs.Stretch.{AllIn}
 use Rattle.gcd_map.specs.Ranges.{Cover, Differ, BeginsOther, state_of}
-use Rattle.gcd_map.specs.Growing.{EndsOther, EndsWith, Opens, Extends, ExtendsBy, ExtendsByAll, after}
+use Rattle.gcd_map.specs.Growing.{EndsOther, EndsWith, BeginsWith, Opens, Extends, ExtendsBy, Replaces, after}
 use Rattle.gcd_map.specs.Tests.{base_at}
 use Rattle.gcd_map.proofs.Covers.{below_or, cover_append, Split, cover_split, cover_same, cover_more, base_here}
 use Rattle.gcd_map.proofs.Neighbours.{differ_more, differ_last, differ_append, differ_front, differ_back}
@@ -33,39 +33,65 @@ changed_inside space base end effect n low high = grind (arith, nat_tests)
 
 pub not_extended : (old : List GcdRange) (from to : ℕ) (state : SpaceState) → from ≡ to → Extends old from to state old
 not_extended old from to state e = record {
-  covers = λ space c all. subst (λ (n : ℕ). Cover space 0 old n) e c;
+  covers = λ space start c all. subst (λ (n : ℕ). Cover space start old n) e c;
   differ = λ d. d;
   ends = λ less. absurd (omega (arith, less, e));
+  keeps = λ first b. b;
+  begins = λ less. absurd (omega (arith, less, e));
+  nothing = λ _. refl;
 }
 
 -- what a range that is taken off covered has the state
-reopened : (old mid : List GcdRange) (from to base : ℕ) (state : SpaceState) (last : GcdRange) (space : ℕ → SpaceState) → from < to → old ≡ mid ++ last ∷ [] → base ≡ last.base → state_of last ≡ state
-    → Cover space 0 old from → AllIn space from to (λ s. s ≡ state) → Cover space 0 (mid ++ record { base = base; len = to - base; kind = state.kind; allocated = state.allocated } ∷ []) to
-reopened old mid from to base state last space less is here same c all =
-    let cut : Split space 0 from mid (last ∷ []) = cover_split space 0 from mid (last ∷ []) (subst (λ (l : List GcdRange). Cover space 0 l from) is c) in
+reopened : (old mid : List GcdRange) (from to base : ℕ) (state : SpaceState) (last : GcdRange) (space : ℕ → SpaceState) (start : ℕ) → from < to → old ≡ mid ++ last ∷ [] → base ≡ last.base → state_of last ≡ state
+    → Cover space start old from → AllIn space from to (λ s. s ≡ state) → Cover space start (mid ++ record { base = base; len = to - base; kind = state.kind; allocated = state.allocated } ∷ []) to
+reopened old mid from to base state last space start less is here same c all =
+    let cut : Split space start from mid (last ∷ []) = cover_split space start from mid (last ∷ []) (subst (λ (l : List GcdRange). Cover space start l from) is c) in
     let begins : base ≡ cut.mid = here ∙ cut.back.0 in
     let ends : cut.mid + last.len ≡ from = cut.back.3 in
     let some : 0 < last.len = cut.back.1 in
-    cover_more space base to state mid (omega (arith, begins, ends, less)) (subst (λ (n : ℕ). Cover space 0 mid n) (sym begins) cut.front)
+    cover_more space start base to state mid (omega (arith, begins, ends, less)) (subst (λ (n : ℕ). Cover space start mid n) (sym begins) cut.front)
     (λ n low high. elim (below_or n from) [
       | inl h ↦ cut.back.2 n (omega (arith, begins, low)) (omega (arith, ends, h)) ∙ same
       | inr h ↦ all n h high
     ])
 
+pub begins_more : (xs ys : List GcdRange) (first : SpaceState) → BeginsWith xs first → BeginsWith (xs ++ ys) first
+begins_more [] ys first b = absurd b
+begins_more (x ∷ xs) ys first b = b
+
+begins_alone : (xs : List GcdRange) (r : GcdRange) → [] ≡ xs → BeginsWith (xs ++ r ∷ []) (state_of r)
+begins_alone [] r e = refl
+begins_alone (x ∷ xs) r e = absurd (cc)
+
+-- another last range of the same state
+begins_last : (xs : List GcdRange) (a b : GcdRange) (first : SpaceState) → state_of a ≡ state_of b → BeginsWith (xs ++ a ∷ []) first → BeginsWith (xs ++ b ∷ []) first
+begins_last [] a b first same h = sym same ∙ h
+begins_last (x ∷ xs) a b first same h = h
+
+not_empty : (xs : List GcdRange) (r : GcdRange) → [] ≡ xs ++ r ∷ [] → ⊥
+not_empty [] r e = cc
+not_empty (x ∷ xs) r e = cc
+
 pub extended : (old : List GcdRange) (from to : ℕ) (state : SpaceState) (mid : List GcdRange) (base : ℕ) → from < to → Opens old from state mid base
     → Extends old from to state (mid ++ record { base = base; len = to - base; kind = state.kind; allocated = state.allocated } ∷ [])
 extended old from to state mid base less (inl p) = record {
-  covers = λ space c all.
+  covers = λ space start c all.
       let begins : base ≡ from = p.1 in
-      cover_more space base to state mid (omega (arith, begins, less))
-      (subst (λ (n : ℕ). Cover space 0 mid n) (sym begins) (subst (λ (l : List GcdRange). Cover space 0 l from) p.0 c)) (λ n low high. all n (omega (arith, begins, low)) high);
+      cover_more space start base to state mid (omega (arith, begins, less))
+      (subst (λ (n : ℕ). Cover space start mid n) (sym begins) (subst (λ (l : List GcdRange). Cover space start l from) p.0 c)) (λ n low high. all n (omega (arith, begins, low)) high);
   differ = λ d. differ_more mid _ (subst Differ p.0 d) (subst (λ (l : List GcdRange). EndsOther l state) p.0 p.2);
   ends = λ _. (mid, _, refl, refl);
+  keeps = λ first b. begins_more mid _ first (subst (λ (l : List GcdRange). BeginsWith l first) p.0 b);
+  begins = λ _ empty. begins_alone mid (record { base = base; len = to - base; kind = state.kind; allocated = state.allocated }) (sym empty ∙ p.0);
+  nothing = λ same. absurd (omega (arith, less, same));
 }
 extended old from to state mid base less (inr p) = record {
-  covers = λ space c all. reopened old mid from to base state p.0 space less p.1 p.2 p.3 c all;
+  covers = λ space start c all. reopened old mid from to base state p.0 space start less p.1 p.2 p.3 c all;
   differ = λ d. differ_last mid p.0 _ p.3 (subst Differ p.1 d);
   ends = λ _. (mid, _, refl, refl);
+  keeps = λ first b. begins_last mid p.0 _ first p.3 (subst (λ (l : List GcdRange). BeginsWith l first) p.1 b);
+  begins = λ _ empty. absurd (not_empty mid p.0 (sym empty ∙ p.1));
+  nothing = λ same. absurd (omega (arith, less, same));
 }
 
 -- a range with a change, in three parts
@@ -74,75 +100,64 @@ pub extended_by : (old a b new : List GcdRange) (range : GcdRange) (base end to 
     → Extends old range.base low (state_of range) a → Extends a low high (after_effect effect (state_of range)) b → Extends b high to (state_of range) new
     → ExtendsBy old range base end effect new
 extended_by old a b new range base end to low high effect order is low_is high_is front middle back = record {
-  covers = λ space c all.
+  covers = λ space start c all.
       let s : ℕ → SpaceState = after space base end effect in
-      let one : Cover s 0 a low = front.covers s c (λ n l h. unchanged_below space base end effect n (omega (arith, l, h, low_is, is)) ∙ all n l (omega (arith, h, low_is, is))) in
-      let two : Cover s 0 b high = middle.covers s one (λ n l h. changed_inside space base end effect n (omega (arith, l, h, low_is, high_is, is)) (omega (arith, l, h, low_is, high_is, is))
+      let one : Cover s start a low = front.covers s start c (λ n l h. unchanged_below space base end effect n (omega (arith, l, h, low_is, is)) ∙ all n l (omega (arith, h, low_is, is))) in
+      let two : Cover s start b high = middle.covers s start one (λ n l h. changed_inside space base end effect n (omega (arith, l, h, low_is, high_is, is)) (omega (arith, l, h, low_is, high_is, is))
       ∙ ap (after_effect effect) (all n (omega (arith, l, h, low_is, is)) (omega (arith, h, high_is, is)))) in
-      let three : Cover s 0 new to = back.covers s two (λ n l h. unchanged_behind space base end effect n order (omega (arith, l, h, high_is, is)) ∙ all n (omega (arith, l, high_is, is)) (omega (arith, h, is))) in
-      subst (λ (n : ℕ). Cover s 0 new n) is three;
+      let three : Cover s start new to = back.covers s start two (λ n l h. unchanged_behind space base end effect n order (omega (arith, l, h, high_is, is)) ∙ all n (omega (arith, l, high_is, is)) (omega (arith, h, is))) in
+      subst (λ (n : ℕ). Cover s start new n) is three;
   differ = λ d. back.differ (middle.differ (front.differ d));
   ends = λ some less. back.ends (omega (arith, some, less, high_is, is));
+  keeps = λ first b. back.keeps first (middle.keeps first (front.keeps first b));
+  begins = λ some less empty.
+      let one : BeginsWith a (state_of range) = front.begins (omega (arith, some, less, low_is, is)) empty in
+      back.keeps (state_of range) (middle.keeps (state_of range) one);
 }
 
--- how far the change of some ranges has come: `new` stands for those before `rest`
-pub record Came (space : ℕ → SpaceState) (limit : ℕ) (base end : ℕ) (effect : Effect) (new rest : List GcdRange) (Before : Type 0) : Type 0 where
-  pub at : ℕ
-  pub done : Cover (after space base end effect) 0 new at
-  pub todo : Cover space at rest limit
-  pub differ : Before → Differ new × Differ rest
-  pub joins : Before → end < at → (state : SpaceState) × EndsWith new state × BeginsOther state rest
-
-abbrev pub Comes : List GcdRange → List GcdRange → ℕ → ℕ → Effect → List GcdRange → List GcdRange → Type 0
-Comes old more base end effect new rest =
-    (space : ℕ → SpaceState) (from limit : ℕ) → from ≤ end → Cover (after space base end effect) 0 old from → Cover space from more limit
-    → Came space limit base end effect new rest (Differ old × Differ more)
-
-pub comes_first : (old more : List GcdRange) (base end : ℕ) (effect : Effect) → Comes old more base end effect old more
-comes_first old more base end effect space from limit order done todo = record {
-  at = from;
-  done = done;
-  todo = todo;
-  differ = λ d. d;
-  joins = λ d less. absurd (omega (arith, less, order));
+-- no range is replaced so far
+pub replaced_none : (base end : ℕ) (effect : Effect) → Replaces [] base end effect []
+replaced_none base end effect = record {
+  covers = λ space from to c. c;
+  differ = tt;
+  begins = λ first rest e. absurd (cc);
+  ends = λ front last e. absurd (not_empty front last e);
+  nothing = λ _. refl;
 }
 
-came_more : (space : ℕ → SpaceState) (limit base end : ℕ) (effect : Effect) (new : List GcdRange) (range : GcdRange) (rest new' : List GcdRange) (Before : Type 0)
-    → Came space limit base end effect new (range ∷ rest) Before → ExtendsBy new range base end effect new' → Came space limit base end effect new' rest Before
-came_more space limit base end effect new range rest new' Before came by =
-    let here : range.base ≡ came.at = came.todo.0 in
-    record {
-      at = range.base + range.len;
-      done = by.covers space (subst (λ (n : ℕ). Cover (after space base end effect) 0 new n) (sym here) came.done)
-          (λ n low high. came.todo.2 n (omega (arith, here, low)) (omega (arith, here, high)));
-      todo = subst (λ (n : ℕ). Cover space (n + range.len) rest limit) (sym here) came.todo.3;
-      differ = λ before. let d : Differ new × Differ (range ∷ rest) = came.differ before in (by.differ d.0, d.1.1);
-      joins = λ before less. let d : Differ new × Differ (range ∷ rest) = came.differ before in (state_of range, by.ends came.todo.1 less, d.1.0);
-    }
+same_first : (a b : GcdRange) (xs ys : List GcdRange) → a ∷ xs ≡ b ∷ ys → a ≡ b
+same_first a b xs ys e = cc
 
-pub comes_more : (old more : List GcdRange) (base end : ℕ) (effect : Effect) (new : List GcdRange) (range : GcdRange) (rest new' : List GcdRange)
-    → Comes old more base end effect new (range ∷ rest) → ExtendsBy new range base end effect new' → Comes old more base end effect new' rest
-comes_more old more base end effect new range rest new' comes by space from limit order done todo =
-    came_more space limit base end effect new range rest new' (Differ old × Differ more) (comes space from limit order done todo) by
+replaced_first : (done new new' : List GcdRange) (range : GcdRange) (base end : ℕ) (effect : Effect) (first : GcdRange) (rest : List GcdRange)
+    → Replaces done base end effect new → ExtendsBy new range base end effect new' → done ++ range ∷ [] ≡ first ∷ rest → 0 < first.len → first.base < base → BeginsWith new' (state_of first)
+replaced_first [] new new' range base end effect first rest so by e some less =
+    let is : range ≡ first = same_first range first [] rest e in
+    subst (λ (r : GcdRange). BeginsWith new' (state_of r)) is
+    (by.begins (subst (λ (r : GcdRange). 0 < r.len) (sym is) some) (subst (λ (r : GcdRange). r.base < base) (sym is) less) (so.nothing refl))
+replaced_first (x ∷ done) new new' range base end effect first rest so by e some less =
+    let is : x ≡ first = same_first x first (done ++ range ∷ []) rest e in
+    by.keeps (state_of first) (so.begins first done (ap (λ (r : GcdRange). r ∷ done) is) some less)
 
--- the ranges behind the change are as they were
-pub comes_rest : (old more : List GcdRange) (base end : ℕ) (effect : Effect) (new : List GcdRange) (range : GcdRange) (rest : List GcdRange)
-    → base ≤ end → end < range.base → Comes old more base end effect new (range ∷ rest) → ExtendsByAll old more base end effect (new ++ range ∷ rest)
-comes_rest old more base end effect new range rest order behind comes space from limit begins done todo =
-    let came : Came space limit base end effect new (range ∷ rest) (Differ old × Differ more) = comes space from limit begins done todo in
-    let here : range.base ≡ came.at = came.todo.0 in
-    let s : ℕ → SpaceState = after space base end effect in (
-      cover_append s 0 came.at limit new (range ∷ rest) came.done
-          (cover_same space s came.at limit (range ∷ rest) (λ n low high. unchanged_behind space base end effect n order (omega (arith, here, behind, low))) came.todo),
-      λ a b. let d : Differ new × Differ (range ∷ rest) = came.differ (a, b) in
-          let joins = came.joins (a, b) (omega (arith, here, behind)) in differ_append new (range ∷ rest) joins.0 joins.1 joins.2 d.0 d.1,
-    )
-
--- no range is behind it
-pub comes_all : (old more : List GcdRange) (base end : ℕ) (effect : Effect) (new : List GcdRange) → Comes old more base end effect new [] → ExtendsByAll old more base end effect new
-comes_all old more base end effect new comes space from limit begins done todo =
-    let came : Came space limit base end effect new [] (Differ old × Differ more) = comes space from limit begins done todo in
-    (subst (λ (n : ℕ). Cover (after space base end effect) 0 new n) came.todo came.done, λ a b. (came.differ (a, b)).0)
+-- one range more is replaced
+pub replaced_more : (done new new' : List GcdRange) (range : GcdRange) (base end : ℕ) (effect : Effect)
+    → Replaces done base end effect new → ExtendsBy new range base end effect new' → Replaces (done ++ range ∷ []) base end effect new'
+replaced_more done new new' range base end effect so by = record {
+  covers = λ space from to c.
+      let s : ℕ → SpaceState = after space base end effect in
+      let cut : Split space from to done (range ∷ []) = cover_split space from to done (range ∷ []) c in
+      let here : range.base ≡ cut.mid = cut.back.0 in
+      let ends : cut.mid + range.len ≡ to = cut.back.3 in
+      subst (λ (n : ℕ). Cover s from new' n) (ap (λ (n : ℕ). n + range.len) here ∙ ends)
+      (by.covers space from (subst (λ (n : ℕ). Cover s from new n) (sym here) (so.covers space from cut.mid cut.front))
+      (λ n low high. cut.back.2 n (omega (arith, here, low)) (omega (arith, here, high))));
+  differ = by.differ so.differ;
+  begins = λ first rest e some less. replaced_first done new new' range base end effect first rest so by e some less;
+  ends = λ front last e some less.
+      let is : range ≡ last = (same_from_push done front range last e).1 in
+      subst (λ (r : GcdRange). EndsWith new' (state_of r)) is
+      (by.ends (subst (λ (r : GcdRange). 0 < r.len) (sym is) some) (subst (λ (r : GcdRange). end < r.base + r.len) (sym is) less));
+  nothing = λ e. absurd (not_empty done range (sym e));
+}
 
 pub record Parts (space : ℕ → SpaceState) (limit base : ℕ) (ranges : List GcdRange) (at : ℕ) : Type 0 where
   pub mid : ℕ
@@ -156,15 +171,3 @@ parts space limit base ranges at c less order =
     let P : List GcdRange → Type 0 = λ l. Cover space 0 l limit in
     let cut : Split space 0 limit (take at ranges) (drop at ranges) = cover_split space 0 limit (take at ranges) (drop at ranges) (subst P (sym (take-append-drop at ranges)) c) in
     record { mid = cut.mid; front = cut.front; back = cut.back; order = omega (arith, order, base_here space cut.mid limit ranges at less cut.back) }
-
-pub changed_covers : (space : ℕ → SpaceState) (limit base end : ℕ) (effect : Effect) (ranges : List GcdRange) (at : ℕ) (new : List GcdRange) → base < end → Cover space 0 ranges limit → at < length ranges
-    → base_at ranges at ≤ base → ExtendsByAll (take at ranges) (drop at ranges) base end effect new → Cover (after space base end effect) 0 new limit × (Differ ranges → Differ new)
-changed_covers space limit base end effect ranges at new order c less here by =
-    let cut : Parts space limit base ranges at = parts space limit base ranges at c less here in
-    let front : Cover (after space base end effect) 0 (take at ranges) cut.mid =
-    cover_same space (after space base end effect) 0 cut.mid (take at ranges) (λ n low high. unchanged_below space base end effect n (omega (arith, high, cut.order))) cut.front in
-    let whole = by space cut.mid limit (omega (arith, order, cut.order)) front cut.back in (
-      whole.0,
-      λ d. let e : Differ (take at ranges ++ drop at ranges) = subst Differ (sym (take-append-drop at ranges)) d in
-          whole.1 (differ_front (take at ranges) (drop at ranges) e) (differ_back (take at ranges) (drop at ranges) e),
-    )

@@ -37,10 +37,10 @@ cover_same a b from to (x ∷ xs) same c =
     (c.0, c.1, (λ n low high. same n low (omega (arith, high, order)) ∙ c.2 n low high), cover_same a b (from + x.len) to xs (λ n low high. same n (omega (arith, low)) high) c.3)
 
 -- one range more
-pub cover_more : (space : ℕ → SpaceState) (base to : ℕ) (state : SpaceState) (xs : List GcdRange) → base < to → Cover space 0 xs base → AllIn space base to (λ s. s ≡ state)
-    → Cover space 0 (xs ++ record { base = base; len = to - base; kind = state.kind; allocated = state.allocated } ∷ []) to
-cover_more space base to state xs less c all =
-    cover_append space 0 base to xs _ c (refl, omega (arith, less), (λ n low high. all n low (omega (arith, high, less))), omega (arith, less))
+pub cover_more : (space : ℕ → SpaceState) (start base to : ℕ) (state : SpaceState) (xs : List GcdRange) → base < to → Cover space start xs base → AllIn space base to (λ s. s ≡ state)
+    → Cover space start (xs ++ record { base = base; len = to - base; kind = state.kind; allocated = state.allocated } ∷ []) to
+cover_more space start base to state xs less c all =
+    cover_append space start base to xs _ c (refl, omega (arith, less), (λ n low high. all n low (omega (arith, high, less))), omega (arith, less))
 
 -- a range's base is where the ranges from it on begin
 pub base_here : (space : ℕ → SpaceState) (from to : ℕ) (xs : List GcdRange) (at : ℕ) → at < length xs → Cover space from (drop at xs) to → base_at xs at ≡ from
@@ -69,3 +69,13 @@ base_is (x ∷ xs) (suc at) d less = base_is xs at d (omega (arith, less))
 pub begins_low : (space : ℕ → SpaceState) (to : ℕ) (xs : List GcdRange) (address : ℕ) → Cover space 0 xs to → base_at xs 0 ≤ address
 begins_low space to [] address c = omega arith
 begins_low space to (x ∷ xs) address c = omega (arith, c.0)
+
+pub begins_at_zero : (space : ℕ → SpaceState) (to : ℕ) (xs : List GcdRange) → Cover space 0 xs to → base_at xs 0 ≡ 0
+begins_at_zero space to [] c = refl
+begins_at_zero space to (x ∷ xs) c = c.0
+
+pub base_drop : (xs : List GcdRange) (at : ℕ) → base_at (drop at xs) 0 ≡ base_at xs at
+base_drop [] zero = refl
+base_drop [] (suc at) = refl
+base_drop (x ∷ xs) zero = refl
+base_drop (x ∷ xs) (suc at) = base_drop xs at

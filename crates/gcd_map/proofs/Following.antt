@@ -5,35 +5,34 @@ use Rattle.gcd_map.specs.declared.state.GcdKind.TheVariants.{NonExistent, System
 use Rattle.gcd_map.specs.declared.word.GcdWord.{GcdWord}
 use Rattle.gcd_map.specs.declared.word.GcdWord.TheVariants as word
 use Rattle.gcd_map.specs.declared.hob.HobStretch.{HobStretch}
-use Rattle.gcd_map.specs.declared.map.GcdMap.{GcdMap}
 use Rattle.gcd_map.specs.declared.fault.GcdCause.{GcdCause}
 use Rattle.gcd_map.specs.declared.fault.GcdCause.TheVariants.{Memory}
 use Rattle.gcd_map.specs.declared.fault.GcdFault.{GcdFault}
 use Rattle.gcd_map.specs.AddressSpace.{MemorySpace}
 use Rattle.gcd_map.specs.Commands.{AddRow, AllocateRow}
-use Rattle.gcd_map.specs.SpaceMap.{Shows}
+use Rattle.gcd_map.specs.SpaceMap.{MapState, Shows}
 use Rattle.gcd_map.specs.HobMap.{Follow, with_first}
 use Rattle.gcd_map.specs.HobFaults.{ComesNot, IsNotTaken, Stops}
 use Rattle.gcd_map.specs.Places.{resource_cause, allocation_cause, IsFaultOf, Step, IsStepFault}
 
 -- what follows from the space that a map now shows, follows from the first
 pub record Gone (May : MemorySpace → HobStretch → Type 0) (next : MemorySpace → HobStretch → MemorySpace) (Not : MemorySpace → HobStretch → GcdCause → Type 0)
-    (space : MemorySpace) (all : List HobStretch) (map : GcdMap) (rest : List HobStretch) : Type 0 where
+    (space : MemorySpace) (all : List HobStretch) (map : MapState) (rest : List HobStretch) : Type 0 where
   pub now : MemorySpace
   pub shows : Shows map now
   pub ends : (end : MemorySpace) → Follow May next now rest end → Follow May next space all end
   pub stops : (fault : GcdFault) → Stops May next Not now rest fault → Stops May next Not space all fault
 
 abbrev pub Goes : (MemorySpace → HobStretch → Type 0) → (MemorySpace → HobStretch → MemorySpace) → (MemorySpace → HobStretch → GcdCause → Type 0)
-    → GcdMap → List HobStretch → GcdMap → List HobStretch → Type 0
+    → MapState → List HobStretch → MapState → List HobStretch → Type 0
 Goes May next Not before all map rest = (space : MemorySpace) → Shows before space → Gone May next Not space all map rest
 
 pub goes_first : (May : MemorySpace → HobStretch → Type 0) (next : MemorySpace → HobStretch → MemorySpace) (Not : MemorySpace → HobStretch → GcdCause → Type 0)
-    (map : GcdMap) (all : List HobStretch) → Goes May next Not map all map all
+    (map : MapState) (all : List HobStretch) → Goes May next Not map all map all
 goes_first May next Not map all space shows = record { now = space; shows = shows; ends = λ end f. f; stops = λ fault s. s }
 
 pub goes_more : (May : MemorySpace → HobStretch → Type 0) (next : MemorySpace → HobStretch → MemorySpace) (Not : MemorySpace → HobStretch → GcdCause → Type 0)
-    (before : GcdMap) (all : List HobStretch) (map map' : GcdMap) (s : HobStretch) (rest : List HobStretch) → Goes May next Not before all map (s ∷ rest)
+    (before : MapState) (all : List HobStretch) (map map' : MapState) (s : HobStretch) (rest : List HobStretch) → Goes May next Not before all map (s ∷ rest)
     → ((space : MemorySpace) → Shows map space → May space s × Shows map' (next space s)) → Goes May next Not before all map' rest
 goes_more May next Not before all map map' s rest goes step space shows =
     let gone : Gone May next Not space all map (s ∷ rest) = goes space shows in
@@ -62,7 +61,7 @@ allocate_fault space new s word.NotFound fault row at is = λ _. (at, subst (IsN
 allocate_fault space new s word.Memory fault row at is = λ other. absurd (other is)
 
 pub goes_step : (May : MemorySpace → HobStretch → Type 0) (next : MemorySpace → HobStretch → MemorySpace) (Not : MemorySpace → HobStretch → GcdCause → Type 0)
-    (before : GcdMap) (all : List HobStretch) (map map' : GcdMap) (s : Option HobStretch) (rest : List HobStretch) → Goes May next Not before all map (with_first s rest)
+    (before : MapState) (all : List HobStretch) (map map' : MapState) (s : Option HobStretch) (rest : List HobStretch) → Goes May next Not before all map (with_first s rest)
     → ((space : MemorySpace) → Shows map space → Step May next space s map') → Goes May next Not before all map' rest
 goes_step May next Not before all map map' None rest goes step = λ space shows.
     let gone : Gone May next Not space all map rest = goes space shows in record { now = gone.now; shows = step gone.now gone.shows; ends = gone.ends; stops = gone.stops }
@@ -70,7 +69,7 @@ goes_step May next Not before all map map' (Some s) rest goes step = goes_more M
 
 -- a fault at the next step is the first
 pub step_stops : (May : MemorySpace → HobStretch → Type 0) (next : MemorySpace → HobStretch → MemorySpace) (Not : MemorySpace → HobStretch → GcdCause → Type 0)
-    (space : MemorySpace) (all : List HobStretch) (map : GcdMap) (s : Option HobStretch) (rest : List HobStretch) (fault : GcdFault)
+    (space : MemorySpace) (all : List HobStretch) (map : MapState) (s : Option HobStretch) (rest : List HobStretch) (fault : GcdFault)
     → (gone : Gone May next Not space all map (with_first s rest)) → IsStepFault Not gone.now s fault → fault.cause ≢ Memory → Stops May next Not space all fault
 step_stops May next Not space all map None rest fault gone is other = absurd is
 step_stops May next Not space all map (Some s) rest fault gone is other = gone.stops fault (inl (is other))

@@ -1,6 +1,10 @@
+mod Rows
 pub mod Covers
 pub mod Neighbours
 pub mod Changes
+pub mod Splices
+pub mod Drained
+pub mod Shown
 pub mod Stretches
 pub mod Highest
 pub mod Tops

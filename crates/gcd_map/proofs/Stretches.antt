@@ -1,5 +1,5 @@
 -- What tests of ranges tell of the addresses of a stretch.
-use Rattle.std.proofs.Common.{inl, inr, ℕ, zero, suc, ◌+◌, ◌<◌, ◌≤◌, ◌^◌, Bool, true, false, MatchBool, List, [], ◌∷◌, length, drop, get_or, sym, subst, arith}
+use Rattle.std.proofs.Common.{inl, inr, ℕ, zero, suc, ◌+◌, ◌<◌, ◌≤◌, ◌^◌, Bool, true, false, MatchBool, List, [], ◌∷◌, length, take, drop, get_or, sym, subst, arith}
 use Rattle.pi_base.specs.Lists.{Each}
 use Rattle.gcd_map.specs.declared.state.SpaceState.{SpaceState}
 use Rattle.gcd_map.specs.declared.need.Need.{Need}
@@ -71,3 +71,9 @@ pub each_at : (P : GcdRange → Type 0) (xs : List GcdRange) (at : ℕ) (d : Gcd
 each_at P [] at d less e = absurd (omega (arith, less))
 each_at P (x ∷ xs) zero d less e = e.0
 each_at P (x ∷ xs) (suc at) d less e = each_at P xs at d (omega (arith, less)) e.1
+
+pub each_take : (P : GcdRange → Type 0) (xs : List GcdRange) (at : ℕ) → Each P xs → Each P (take at xs)
+each_take P [] zero e = tt
+each_take P [] (suc at) e = tt
+each_take P (x ∷ xs) zero e = tt
+each_take P (x ∷ xs) (suc at) e = (e.0, each_take P xs at e.1)

@@ -1,4 +1,4 @@
--- Lists of ranges that grow at their end.
+-- Lists of ranges that grow at their end, and lists that come in the place of others.
 use Rattle.std.specs.Prelude.{◌≡◌, ◌≢◌, ◌⊎◌, ℕ, ◌+◌, ◌-◌, ◌<◌, ◌≤◌, List, [], ◌∷◌, ◌++◌}
 use Rattle.gcd_map.specs.declared.state.SpaceState.{SpaceState}
 use Rattle.gcd_map.specs.declared.state.Effect.{Effect}
@@ -15,6 +15,11 @@ EndsOther ranges state = (front : List GcdRange) (last : GcdRange) → ranges �
 abbrev pub EndsWith : List GcdRange → SpaceState → Type 0
 EndsWith ranges state = (front : List GcdRange) × (last : GcdRange) × (ranges ≡ front ++ last ∷ []) × (state_of last ≡ state)
 
+-- the first range has this state
+abbrev pub BeginsWith : List GcdRange → SpaceState → Type 0
+BeginsWith [] state = ⊥
+BeginsWith (range ∷ ranges) state = state_of range ≡ state
+
 -- the last range of the list is taken off where it has this state
 abbrev pub Opens : List GcdRange → ℕ → SpaceState → List GcdRange → ℕ → Type 0
 Opens old from state new base =
@@ -23,9 +28,12 @@ Opens old from state new base =
 
 -- the list goes on from one address to another with a state
 pub record Extends (old : List GcdRange) (from to : ℕ) (state : SpaceState) (new : List GcdRange) : Type 0 where
-  pub covers : (space : ℕ → SpaceState) → Cover space 0 old from → AllIn space from to (λ s. s ≡ state) → Cover space 0 new to
+  pub covers : (space : ℕ → SpaceState) (start : ℕ) → Cover space start old from → AllIn space from to (λ s. s ≡ state) → Cover space start new to
   pub differ : Differ old → Differ new
   pub ends : from < to → EndsWith new state
+  pub keeps : (first : SpaceState) → BeginsWith old first → BeginsWith new first
+  pub begins : from < to → old ≡ [] → BeginsWith new state
+  pub nothing : from ≡ to → new ≡ old
 
 -- the states after the addresses from one on below another have changed
 abbrev pub after : (ℕ → SpaceState) → ℕ → ℕ → Effect → ℕ → SpaceState
@@ -33,13 +41,17 @@ after space base end effect = changed space (record { base = base; len = end - b
 
 -- the list goes on with a range in which those addresses have changed
 pub record ExtendsBy (old : List GcdRange) (range : GcdRange) (base end : ℕ) (effect : Effect) (new : List GcdRange) : Type 0 where
-  pub covers : (space : ℕ → SpaceState) → Cover (after space base end effect) 0 old range.base
-      → AllIn space range.base (range.base + range.len) (λ s. s ≡ state_of range) → Cover (after space base end effect) 0 new (range.base + range.len)
+  pub covers : (space : ℕ → SpaceState) (start : ℕ) → Cover (after space base end effect) start old range.base
+      → AllIn space range.base (range.base + range.len) (λ s. s ≡ state_of range) → Cover (after space base end effect) start new (range.base + range.len)
   pub differ : Differ old → Differ new
   pub ends : 0 < range.len → end < range.base + range.len → EndsWith new (state_of range)
+  pub keeps : (first : SpaceState) → BeginsWith old first → BeginsWith new first
+  pub begins : 0 < range.len → range.base < base → old ≡ [] → BeginsWith new (state_of range)
 
--- the list goes on with ranges, of which the first is not behind the change
-abbrev pub ExtendsByAll : List GcdRange → List GcdRange → ℕ → ℕ → Effect → List GcdRange → Type 0
-ExtendsByAll old ranges base end effect new =
-    (space : ℕ → SpaceState) (from limit : ℕ) → from ≤ end → Cover (after space base end effect) 0 old from → Cover space from ranges limit
-    → Cover (after space base end effect) 0 new limit × (Differ old → Differ ranges → Differ new)
+-- ranges in the place of others in which those addresses have changed: the first and the last keep their states, where they begin before the change and end behind it
+pub record Replaces (old : List GcdRange) (base end : ℕ) (effect : Effect) (new : List GcdRange) : Type 0 where
+  pub covers : (space : ℕ → SpaceState) (from to : ℕ) → Cover space from old to → Cover (after space base end effect) from new to
+  pub differ : Differ new
+  pub begins : (first : GcdRange) (rest : List GcdRange) → old ≡ first ∷ rest → 0 < first.len → first.base < base → BeginsWith new (state_of first)
+  pub ends : (front : List GcdRange) (last : GcdRange) → old ≡ front ++ last ∷ [] → 0 < last.len → end < last.base + last.len → EndsWith new (state_of last)
+  pub nothing : old ≡ [] → new ≡ []

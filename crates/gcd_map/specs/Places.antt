@@ -10,8 +10,7 @@ use Rattle.gcd_map.specs.declared.word.GcdWord.TheVariants as word
 use Rattle.gcd_map.specs.declared.fault.GcdCause.{GcdCause}
 use Rattle.gcd_map.specs.declared.fault.GcdCause.TheVariants.{Memory, Range, Overlap, Outside}
 use Rattle.gcd_map.specs.declared.fault.GcdFault.{GcdFault}
-use Rattle.gcd_map.specs.declared.map.GcdMap.{GcdMap}
-use Rattle.gcd_map.specs.SpaceMap.{Shows}
+use Rattle.gcd_map.specs.SpaceMap.{MapState, Shows}
 use Rattle.gcd_map.specs.AddressSpace.{MemorySpace}
 
 -- the place fits a fault
@@ -43,7 +42,7 @@ abbrev pub IsPlaceFault : List ℕ → ℕ → GcdFault → Type 0
 IsPlaceFault bytes at fault = (cause : HobFault) × (fault.at ≡ at) × (fault_at bytes at ≡ Some cause) × (fault.cause ≡ walk_cause cause)
 
 -- a stretch, if there is one, has followed
-abbrev pub Step : (MemorySpace → HobStretch → Type 0) → (MemorySpace → HobStretch → MemorySpace) → MemorySpace → Option HobStretch → GcdMap → Type 0
+abbrev pub Step : (MemorySpace → HobStretch → Type 0) → (MemorySpace → HobStretch → MemorySpace) → MemorySpace → Option HobStretch → MapState → Type 0
 Step May next space None new = Shows new space
 Step May next space (Some s) new = May space s × Shows new (next space s)
 

@@ -1,7 +1,6 @@
 -- The memory space map of a memory space: the one list of ranges from 0 to the limit that shows its states.
-use Rattle.std.specs.Prelude.{◌≡◌, ◌^◌, ◌<◌, ◌≤◌, List}
+use Rattle.std.specs.Prelude.{◌≡◌, ℕ, ◌^◌, ◌<◌, ◌≤◌, List}
 use Rattle.gcd_map.specs.declared.range.GcdRange.{GcdRange}
-use Rattle.gcd_map.specs.declared.map.GcdMap.{GcdMap}
 use Rattle.gcd_map.specs.AddressSpace.{MemorySpace, state_at}
 use Rattle.gcd_map.specs.Ranges.{Cover, Differ}
 
@@ -9,13 +8,22 @@ pub record IsSpaceMap (space : MemorySpace) (ranges : List GcdRange) : Type 0 wh
   pub covered : Cover (state_at space) 0 ranges space.limit
   pub merged : Differ ranges
 
+-- what the map of the code is: the address behind the last, and the ranges
+pub record MapState : Type 0 where
+  pub limit : ℕ
+  pub ranges : List GcdRange
+
 -- the map shows that space, which has an address at least, and 2 ^ 52 at most
-pub record Shows (map : GcdMap) (space : MemorySpace) : Type 0 where
+pub record Shows (map : MapState) (space : MemorySpace) : Type 0 where
   pub limit : map.limit ≡ space.limit
   pub some : 0 < space.limit
   pub most : space.limit ≤ 2 ^ 52
   pub ranges : IsSpaceMap space map.ranges
 
+-- every map shows some space
+abbrev pub ShowsSome : MapState → Type 0
+ShowsSome map = (space : MemorySpace) × Shows map space
+
 -- what a call that took memory spaces that its map shows leaves
-abbrev pub AfterEach : GcdMap → GcdMap → (MemorySpace → MemorySpace → Type 0) → Type 0
+abbrev pub AfterEach : MapState → MapState → (MemorySpace → MemorySpace → Type 0) → Type 0
 AfterEach before now R = (old : MemorySpace) → Shows before old → (new : MemorySpace) × R old new × Shows now new

@@ -1,12 +1,13 @@
 // The ranges of a space after a change.
-ghost use Rattle.std.specs.Prelude.{◌≡◌, ◌<◌, ◌≤◌, ◌+◌, ◌^◌, ℕ, length, take, [], IfOk, OnOk};
+ghost use Rattle.std.specs.Prelude.{◌≡◌, ◌<◌, ◌≤◌, ◌+◌, ◌^◌, ℕ, length, take, IfOk, OnOk, OnErr};
+ghost use Rattle.std.specs.List.{splice};
 ghost use Rattle.gcd_map.specs.declared.state.SpaceState.{SpaceState};
 ghost use Rattle.gcd_map.specs.Ranges.{Cover, Differ, DoesFit};
 ghost use Rattle.pi_base.specs.Lists.{Each};
-ghost use Rattle.gcd_map.specs.Growing.{Opens, Extends, ExtendsBy, ExtendsByAll, after};
+ghost use Rattle.gcd_map.specs.Growing.{Opens, Extends, ExtendsBy, Replaces, after};
 
 use crate::range::GcdRange;
-use crate::search::{from_index, index_of};
+use crate::search::{first_meeting, from_index, index_of};
 use crate::state::{Effect, SpaceState};
 use pi_base::{OutOfMemory, Seq};
 use std::alloc::Global;
@@ -70,37 +71,25 @@ fn extend_by(
     extend(ranges, high, to, state)
 }
 
-// Lets the list go on with ranges in which the addresses from `base` on below `end` change. Ranges behind them are copied.
-fn extend_by_all(
-    ranges: &mut Seq<GcdRange>,
-    more: &[GcdRange],
+// The ranges that come in the place of some where the addresses from `base` on below `end` change.
+fn replacement(
+    alloc: Global,
+    met: &[GcdRange],
     base: u64,
     end: u64,
     effect: Effect,
-) -> Result<(), OutOfMemory>
+) -> Result<Seq<GcdRange>, OutOfMemory>
     requires order { base ≤ end }
-    requires fit { Each DoesFit more.now }
-    ensures { OnOk result (ExtendsByAll ranges.old more.now base end effect ranges.new) }
+    requires fit { Each DoesFit met.now }
+    ensures { IfOk result (Replaces met.now base end effect) }
 {
-    let mut rest = more;
-    'more: while let Some((range, after)) = rest.split_first() {
-        if range.base > end {
-            return ranges.append(rest);
-        }
-        extend_by(ranges, *range, base, end, effect)?;
+    let mut new = Seq::new(alloc);
+    let mut rest = met;
+    'met: while let Some((range, after)) = rest.split_first() {
+        extend_by(&mut new, *range, base, end, effect)?;
         rest = after;
     }
-    Ok(())
-}
-
-// An empty list with room for so many ranges.
-fn with_room(alloc: Global, room: usize) -> Result<Seq<GcdRange>, OutOfMemory>
-    ensures { IfOk result (λ ranges. ranges ≡ []) }
-{
-    match Vec::with_capacity(alloc, room) {
-        Ok(ranges) => Ok(Seq::from_vec(ranges)),
-        Err(_) => Err(OutOfMemory),
-    }
+    Ok(new)
 }
 
 // The ranges before an index.
@@ -111,23 +100,44 @@ fn before_index(ranges: &[GcdRange], at: usize) -> &[GcdRange]
     &ranges[..at]
 }
 
-// The ranges after the addresses from `base` on below `end` have changed.
-pub(crate) fn changed(
-    ranges: &Seq<GcdRange>,
+// Puts a list in the place of the `count` ranges from an index on. Where memory is wanting the ranges are as they were.
+fn put(
+    ranges: &mut Vec<GcdRange>,
+    at: usize,
+    count: usize,
+    new: Vec<GcdRange>,
+) -> Result<(), OutOfMemory>
+    requires { at + count ≤ length ranges.old.items }
+    ensures ok { OnOk result (ranges.new.items ≡ splice ranges.old.items at (at + count) new.items) }
+    ensures err { OnErr result (ranges.new.items ≡ ranges.old.items) }
+{
+    match ranges.splice(at..at + count, new) {
+        Ok(_) => Ok(()),
+        Err(_) => Err(OutOfMemory),
+    }
+}
+
+// Changes the addresses from `base` on below `end`. Where memory is wanting the ranges are as they were.
+//
+// The ranges that the change meets are replaced, with the one before it, which may become one with it; all others stay.
+pub(crate) fn change(
+    ranges: &mut Vec<GcdRange>,
     base: u64,
     end: u64,
     effect: Effect,
-) -> Result<Seq<GcdRange>, OutOfMemory>
+) -> Result<(), OutOfMemory>
     requires order { base < end }
-    requires covered { (space : ℕ → SpaceState) × (limit : ℕ) × Cover space 0 ranges.now limit × (end ≤ limit) × (limit < 2 ^ 64) }
-    ensures covers { IfOk result (λ new. (space : ℕ → SpaceState) (limit : ℕ) → Cover space 0 ranges.now limit → end ≤ limit
-        → Cover (after space base end effect) 0 new limit) }
-    ensures differ { IfOk result (λ new. Differ ranges.now → Differ new) }
+    requires covered { (space : ℕ → SpaceState) × (limit : ℕ) × Cover space 0 ranges.old.items limit × (end ≤ limit) × (limit < 2 ^ 64) }
+    ensures covers { OnOk result ((space : ℕ → SpaceState) (limit : ℕ) → Cover space 0 ranges.old.items limit → end ≤ limit
+        → Cover (after space base end effect) 0 ranges.new.items limit) }
+    ensures differ { OnOk result (Differ ranges.old.items → Differ ranges.new.items) }
+    ensures same { OnErr result (ranges.new.items ≡ ranges.old.items) }
 {
     let old = ranges.as_slice();
-    let first = index_of(old, base);
-    let mut new = with_room(ranges.alloc(), old.len().saturating_add(2))?;
-    new.append(before_index(old, first))?;
-    extend_by_all(&mut new, from_index(old, first), base, end, effect)?;
-    Ok(new)
+    let at = first_meeting(old, base);
+    let rest = from_index(old, at);
+    let count = index_of(rest, end) + 1;
+    let met = before_index(rest, count);
+    let new = replacement(*ranges.allocator(), met, base, end, effect)?;
+    put(ranges, at, count, new.into_vec())
 }

@@ -37,7 +37,6 @@ fn allocation_cause(word: GcdWord) -> GcdCause
 
 // Adds a resource.
 fn add_resource(map: &mut GcdMap, resource: HobStretch) -> Result<(), GcdFault>
-    requires shown { (space : MemorySpace) × Shows map.old space }
     requires used { resource.kind ≢ NonExistent }
     requires near { resource.at < 2 ^ 32 }
     ensures { (space : MemorySpace) → Shows map.old space
@@ -55,7 +54,6 @@ fn add_resource(map: &mut GcdMap, resource: HobStretch) -> Result<(), GcdFault>
 
 // Allocates what an allocation HOB tells.
 fn take_allocation(map: &mut GcdMap, allocation: HobStretch) -> Result<(), GcdFault>
-    requires shown { (space : MemorySpace) × Shows map.old space }
     requires near { allocation.at < 2 ^ 32 }
     ensures { (space : MemorySpace) → Shows map.old space
         → MatchResult result (λ _. MayBeTaken space allocation × Shows map.new (taken space allocation))
@@ -72,7 +70,6 @@ fn take_allocation(map: &mut GcdMap, allocation: HobStretch) -> Result<(), GcdFa
 
 // Adds the resource at a place, if one is there.
 fn add_at(map: &mut GcdMap, bytes: &[u8], at: usize) -> Result<(), GcdFault>
-    requires shown { (space : MemorySpace) × Shows map.old space }
     requires near { at < 2 ^ 32 }
     ensures { (space : MemorySpace) → Shows map.old space
         → MatchResult result (λ _. Step MayCome came space (resource_at bytes.now at) map.new)
@@ -86,7 +83,6 @@ fn add_at(map: &mut GcdMap, bytes: &[u8], at: usize) -> Result<(), GcdFault>
 
 // Allocates what the HOB at a place tells, if it is an allocation.
 fn take_at(map: &mut GcdMap, bytes: &[u8], at: usize) -> Result<(), GcdFault>
-    requires shown { (space : MemorySpace) × Shows map.old space }
     requires near { at < 2 ^ 32 }
     ensures { (space : MemorySpace) → Shows map.old space
         → MatchResult result (λ _. Step MayBeTaken taken space (allocation_at bytes.now at) map.new)
@@ -100,7 +96,6 @@ fn take_at(map: &mut GcdMap, bytes: &[u8], at: usize) -> Result<(), GcdFault>
 
 // Adds the resources in order.
 fn add_resources(map: &mut GcdMap, bytes: &[u8], places: &[HobPlace]) -> Result<(), GcdFault>
-    requires shown { (space : MemorySpace) × Shows map.old space }
     requires near { Each IsNear places.now }
     ensures { (space : MemorySpace) → Shows map.old space
         → MatchResult result
@@ -117,7 +112,6 @@ fn add_resources(map: &mut GcdMap, bytes: &[u8], places: &[HobPlace]) -> Result<
 
 // Allocates the allocations in order.
 fn take_allocations(map: &mut GcdMap, bytes: &[u8], places: &[HobPlace]) -> Result<(), GcdFault>
-    requires shown { (space : MemorySpace) × Shows map.old space }
     requires near { Each IsNear places.now }
     ensures { (space : MemorySpace) → Shows map.old space
         → MatchResult result
@@ -134,7 +128,6 @@ fn take_allocations(map: &mut GcdMap, bytes: &[u8], places: &[HobPlace]) -> Resu
 
 // Adds the resources in order, and then allocates the allocations in order.
 pub(crate) fn fill(map: &mut GcdMap, bytes: &[u8], places: &[HobPlace]) -> Result<(), GcdFault>
-    requires shown { (space : MemorySpace) × Shows map.old space }
     requires near { Each IsNear places.now }
     ensures { (space : MemorySpace) → Shows map.old space
         → MatchResult result (λ _. (end : MemorySpace) × IsFilled bytes.now places.now space end × Shows map.new end)

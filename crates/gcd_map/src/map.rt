@@ -8,14 +8,15 @@ ghost use Rattle.gcd_map.specs.Commands.{AddRow, AllocateRow, TopRow, FreeRow, R
 ghost use Rattle.gcd_map.specs.SpaceMap.{IsSpaceMap, Shows, AfterEach};
 ghost use Rattle.gcd_map.specs.OneMap.{OneMap};
 
-use crate::change::changed;
+use crate::change::change;
 use crate::need::Need;
 use crate::range::GcdRange;
 use crate::search::{all_meet, highest};
 use crate::state::{Effect, GcdKind, SpaceState};
 use crate::word::GcdWord;
-use pi_base::{OutOfMemory, Seq};
+use pi_base::OutOfMemory;
 use std::alloc::Global;
+use std::marker::Model;
 
 /// The greatest alignment that `top` takes, as a power of 2.
 pub const MOST_ALIGN: u8 = 52;
@@ -31,7 +32,17 @@ pub const MOST_BITS: u8 = 52;
 pub struct GcdMap {
     // The address behind the last.
     limit: u64,
-    ranges: Seq<GcdRange>,
+    ranges: Vec<GcdRange>,
+}
+
+impl Model for GcdMap {
+    ghost use Rattle.gcd_map.specs.SpaceMap.{MapState, ShowsSome};
+
+    ghost Value = { MapState };
+
+    ghost view = { λ m. record { limit = m.limit; ranges = m.ranges.items } };
+
+    ghost invariant = { λ m. ShowsSome (record { limit = m.limit; ranges = m.ranges.items }) };
 }
 
 impl GcdMap {
@@ -41,14 +52,16 @@ impl GcdMap {
         ensures { IfOk result (λ map. Shows map (empty_space (2 ^ bits))) }
     {
         let limit = unit_of(bits);
-        let mut ranges = Seq::new(alloc);
-        ranges.push(GcdRange {
+        let nothing = GcdRange {
             base: 0,
             len: limit,
             kind: GcdKind::NonExistent,
             allocated: false,
-        })?;
-        Ok(GcdMap { limit, ranges })
+        };
+        match Vec::from_slice(alloc, &[nothing]) {
+            Ok(ranges) => Ok(GcdMap { limit, ranges }),
+            Err(_) => Err(OutOfMemory),
+        }
     }
 
     // The address behind a stretch that lies in the memory space.
@@ -64,7 +77,6 @@ impl GcdMap {
 
     // Whether each address from `base` on below `end` is as needed.
     fn all_meet(&self, base: u64, end: u64, need: Need) -> bool
-        requires shown { (space : MemorySpace) × Shows self.now space }
         requires some { base < end }
         requires within { end ≤ self.now.limit }
         ensures { (space : MemorySpace) → Shows self.now space
@@ -75,14 +87,13 @@ impl GcdMap {
 
     // Changes the `len` addresses from `base` on.
     fn change(&mut self, base: u64, len: u64, effect: Effect) -> Result<(), GcdWord>
-        requires shown { (space : MemorySpace) × Shows self.old space }
         requires some { 0 < len }
         requires within { base + len ≤ self.old.limit }
         ensures { (space : MemorySpace) → Shows self.old space
             → MatchResult result (λ _. Shows self.new (with_change space (record { base = base; len = len; effect = effect })))
             (λ word. (word ≡ Memory) × Shows self.new space) }
     {
-        self.ranges = changed(&self.ranges, base, base + len, effect)?;
+        change(&mut self.ranges, base, base + len, effect)?;
         Ok(())
     }
 
@@ -91,7 +102,6 @@ impl GcdMap {
     /// A refused call changes nothing, here and in the other calls. `InvalidParameter`: no address, or no kind. `Unsupported`: the
     /// addresses end behind the memory space. `AccessDenied`: something is at some address. PI 1.8, volume 2, `AddMemorySpace()`.
     pub fn add(&mut self, kind: GcdKind, base: u64, len: u64) -> Result<(), GcdWord>
-        requires { (space : MemorySpace) × Shows self.old space }
         ensures row { AfterEach self.old self.new (λ old new. AddRow kind base len old result new) }
     {
         if len == 0 || kind == GcdKind::NonExistent {
@@ -115,7 +125,6 @@ impl GcdMap {
     /// `InvalidParameter`: no address, or no kind. `NotFound`: the addresses end behind the memory space, or some is not of the kind
     /// and free. PI 1.8, volume 2, `AllocateMemorySpace()`, `EfiGcdAllocateAddress`.
     pub fn allocate(&mut self, kind: GcdKind, base: u64, len: u64) -> Result<(), GcdWord>
-        requires { (space : MemorySpace) × Shows self.old space }
         ensures row { AfterEach self.old self.new (λ old new. AllocateRow kind base len old result new) }
     {
         if len == 0 || kind == GcdKind::NonExistent {
@@ -139,7 +148,6 @@ impl GcdMap {
     /// `InvalidParameter`: no address, no kind, or `align` above `MOST_ALIGN`. `NotFound`: there is no such base.
     /// PI 1.8, volume 2, `AllocateMemorySpace()`, `EfiGcdAllocateAnySearchTopDown`.
     pub fn top(&mut self, kind: GcdKind, align: u8, len: u64) -> Result<u64, GcdWord>
-        requires { (space : MemorySpace) × Shows self.old space }
         ensures row { AfterEach self.old self.new (λ old new. TopRow kind align len old result new) }
     {
         if len == 0 || kind == GcdKind::NonExistent || align > MOST_ALIGN {
@@ -165,7 +173,6 @@ impl GcdMap {
     /// `InvalidParameter`: no address. `Unsupported`: the addresses end behind the memory space. `NotFound`: some address is not allocated.
     /// PI 1.8, volume 2, `FreeMemorySpace()`.
     pub fn free(&mut self, base: u64, len: u64) -> Result<(), GcdWord>
-        requires { (space : MemorySpace) × Shows self.old space }
         ensures row { AfterEach self.old self.new (λ old new. FreeRow base len old result new) }
     {
         if len == 0 {
@@ -185,7 +192,6 @@ impl GcdMap {
     /// `InvalidParameter`: no address. `Unsupported`: the addresses end behind the memory space. `NotFound`: nothing is at some address.
     /// `AccessDenied`: some address is allocated. PI 1.8, volume 2, `RemoveMemorySpace()`.
     pub fn remove(&mut self, base: u64, len: u64) -> Result<(), GcdWord>
-        requires { (space : MemorySpace) × Shows self.old space }
         ensures row { AfterEach self.old self.new (λ old new. RemoveRow base len old result new) }
     {
         if len == 0 {

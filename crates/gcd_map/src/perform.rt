@@ -1,7 +1,6 @@
 // Doing commands.
 ghost use Rattle.std.specs.Prelude.{◌≡◌, map, IfOk};
-ghost use Rattle.gcd_map.specs.AddressSpace.{MemorySpace};
-ghost use Rattle.gcd_map.specs.SpaceMap.{Shows, AfterEach};
+ghost use Rattle.gcd_map.specs.SpaceMap.{AfterEach};
 ghost use Rattle.gcd_map.specs.Run.{CommandRow, IsRun};
 
 use crate::command::Command;
@@ -24,7 +23,6 @@ pub enum Answer {
 impl GcdMap {
     /// Does a command, by the call of its name.
     pub fn perform(&mut self, command: Command) -> Answer
-        requires { (space : MemorySpace) × Shows self.old space }
         ensures row { AfterEach self.old self.new (λ old new. CommandRow command old result new) }
     {
         let done = match command {
@@ -51,10 +49,8 @@ impl GcdMap {
         alloc: Global,
         commands: &[Command],
     ) -> Result<Seq<(Command, Answer)>, OutOfMemory>
-        requires { (space : MemorySpace) × Shows self.old space }
         ensures commands { IfOk result (λ steps. map (λ step. step.0) steps ≡ commands.now) }
         ensures run { IfOk result (λ steps. AfterEach self.old self.new (λ old new. IsRun old steps new)) }
-        ensures shown { (space : MemorySpace) × Shows self.new space }
     {
         let mut steps = Seq::new(alloc);
         'commands: for command in commands {

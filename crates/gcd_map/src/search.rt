@@ -1,5 +1,5 @@
 // Look-ups and tests of ranges.
-ghost use Rattle.std.specs.Prelude.{◌≡◌, ◌<◌, ◌≤◌, ◌+◌, ◌^◌, ℕ, List, length, drop, MatchBool};
+ghost use Rattle.std.specs.Prelude.{◌≡◌, ◌⊎◌, ◌<◌, ◌≤◌, ◌+◌, ◌^◌, ℕ, List, length, drop, MatchBool};
 ghost use Rattle.gcd_map.specs.declared.state.SpaceState.{SpaceState};
 ghost use Rattle.gcd_map.specs.Ranges.{Cover, DoesFit};
 ghost use Rattle.gcd_map.specs.Stretch.{AllIn, SomeIn};
@@ -27,6 +27,20 @@ pub(crate) fn index_of(ranges: &[GcdRange], address: u64) -> usize
         }
     }
     low
+}
+
+// The index of the range that holds the address before this one, or the first.
+pub(crate) fn first_meeting(ranges: &[GcdRange], address: u64) -> usize
+    requires some { 0 < length ranges.now }
+    requires first { base_at ranges.now 0 ≡ 0 }
+    ensures within { result < length ranges.now }
+    ensures before { (result ≡ 0) ⊎ (base_at ranges.now result < address) }
+{
+    if address == 0 {
+        0
+    } else {
+        index_of(ranges, address - 1)
+    }
 }
 
 // The ranges from an index on.

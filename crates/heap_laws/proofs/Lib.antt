@@ -35,3 +35,4 @@ pub mod Heads
 pub mod Shifts
 pub mod Moving
 pub mod Peeking
+mod HobWalk

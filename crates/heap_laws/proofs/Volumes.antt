@@ -78,7 +78,7 @@ walk s heap tail (hob ∷ hobs) (suc fuel) at law end e spelt fits le =
     let later : bases_of s hobs ≡ volumes_told fuel heap (at + hob_len hob) = walk s heap tail hobs fuel (at + hob_len hob) law end behind spelt.1 fits.1 (omega (arith, le)) in
     let number : (hob.kind == VOLUME) ≡ true → little_number 8 (body_bytes s 0 hob.body) ≡ word_in heap (at + 8) = λ t.
     let kind : hob.kind ≡ VOLUME = grind (arith, nat_tests, t) in
-    let sixteen = fits.0.volume kind in
+    let sixteen = fits.0.typed.volume kind in
     let long : 8 ≤ length body = omega (arith, size, sixteen) in
     let text : take 8 (drop (at + 8) heap) ≡ take 8 body = ap (take 8) (sym (drop-drop 8 at heap)) ∙ ap (λ x. take 8 (drop 8 x)) whole ∙ body_at_8 header body rest refl long in
     ap (little_number 8) (sym (same_number s hob.kind (at + 8) hob.body kind fits.0.body)) ∙ sym (number_of body long) ∙ ap (little_number 8) (sym text) in

@@ -18,3 +18,4 @@ pub mod Changes
 pub mod Heads
 pub mod Moving
 pub mod Peeking
+pub mod HobWalk

@@ -9,6 +9,7 @@ mod link_laws;
 mod memory_laws;
 mod move_laws;
 mod read_laws;
+mod walk_laws;
 
 pub use answer_laws::lists_told;
 pub use change_laws::bodies_changed;
@@ -18,3 +19,4 @@ pub use link_laws::{heads_moved, nodes_linked};
 pub use memory_laws::memory_read;
 pub use move_laws::heap_shifted;
 pub use read_laws::{descriptors_read, handoff_read, hobs_told, nodes_read};
+pub use walk_laws::walks_give_hobs;

@@ -23,10 +23,14 @@ pub fn header_at(memory: &PhysMem, at: u64) -> Header
 {
     little_endian();
     match memory.read(at, 8) {
-        Some(bytes) => Header {
-            kind: u16_at(bytes, 0),
-            len: u16_at(bytes, 2),
-        },
+        Some(stretch) => {
+            let mut bytes = [0u8; 8];
+            stretch.copy_to(bytes.as_mut_slice());
+            Header {
+                kind: u16_at(bytes.as_slice(), 0),
+                len: u16_at(bytes.as_slice(), 2),
+            }
+        }
         None => unreachable!(),
     }
 }

@@ -10,6 +10,7 @@ use crate::calls::{create, free, pages, pool, set_boot_mode};
 use hob_codec::kind::{HANDOFF, POOL};
 use hob_codec::{Hob, HobPlace, walk};
 use mem_store::MemStore;
+use phys_mem::PhysMem;
 use pi_base::Guid;
 use std::alloc::Global;
 use std::process::Abort;
@@ -32,11 +33,36 @@ fn first_place(store: &MemStore) -> Option<HobSpan>
     store.hob_at(0)
 }
 
+/// Whether memory has these bytes at an address.
+pub(crate) fn has_bytes(memory: &PhysMem, at: u64, want: &[u8]) -> bool {
+    let mut bytes = [0u8; 144];
+    let n = want.len();
+    if n > bytes.len() {
+        return false;
+    }
+    match memory.read(at, n) {
+        Some(stretch) => {
+            let into = &mut bytes.as_mut_slice()[..n];
+            if stretch.len() != n {
+                return false;
+            }
+            stretch.copy_to(into);
+            &bytes.as_slice()[..n] == want
+        }
+        None => false,
+    }
+}
+
 // Whether the list has these HOBs.
 fn has_places(alloc: Global, store: &MemStore, wants: &[HobPlace]) -> bool
     requires { Present (StandsFor store.now) Anything }
 {
-    match walk(alloc, store.heap.bytes(&store.memory)) {
+    let stretch = store.heap.bytes(&store.memory);
+    let Ok(mut bytes) = vec![in alloc; 0u8; stretch.len()] else {
+        return false;
+    };
+    stretch.copy_to(bytes.as_mut_slice());
+    match walk(alloc, bytes.as_slice()) {
         Ok(found) => found.as_slice() == wants,
         Err(_) => false,
     }
@@ -78,7 +104,7 @@ fn try_whole_pool(rt: &impl Abort, alloc: Global, store: &mut MemStore)
         size: 16_312,
     };
     assert!(rt; (pool(store, 16_312), free(store)) == (Ok(whole), 0));
-    let is_whole = store.memory.read(TEMP + 8, 48) == Some(WHOLE_HANDOFF);
+    let is_whole = has_bytes(&store.memory, TEMP + 8, WHOLE_HANDOFF);
     assert!(rt; (has_places(alloc, store, &WHOLE_PLACES), is_whole) == (true, true));
 }
 
@@ -101,7 +127,7 @@ fn try_hobs(rt: &impl Abort, store: &mut MemStore)
     };
     let made = [create(store, &cpu), create(store, &named)];
     assert!(rt; (made, first_place(store)) == ([Ok(TEMP + 56), Ok(TEMP + 72)], Some(first)));
-    assert!(rt; store.memory.read(TEMP + 56, 56) == Some(TWO_HOBS));
+    assert!(rt; has_bytes(&store.memory, TEMP + 56, TWO_HOBS));
 }
 
 // What is free from the node on, the end HOB, and the node's header.
@@ -111,15 +137,15 @@ fn try_node(rt: &impl Abort, store: &mut MemStore)
     requires { Present (StandsFor store.old) Anything }
 {
     let offset = node(store);
-    let bytes = store.memory.read(TEMP + 40, 24);
-    assert!(rt; (offset, bytes) == (Some(0x40), Some(BEHIND_NODE)));
+    let is_there = has_bytes(&store.memory, TEMP + 40, BEHIND_NODE);
+    assert!(rt; (offset, is_there) == (Some(0x40), true));
 }
 
 fn try_boot_mode(rt: &impl Abort, store: &mut MemStore)
     requires { Present (StandsFor store.old) Anything }
 {
     set_boot_mode(store, 0x20);
-    assert!(rt; store.memory.read(TEMP + 8, 8) == Some(b"\x09\0\0\0\x20\0\0\0"));
+    assert!(rt; has_bytes(&store.memory, TEMP + 8, b"\x09\0\0\0\x20\0\0\0"));
 }
 
 // The HOB of the page.
@@ -130,8 +156,8 @@ fn try_early_page(rt: &impl Abort, store: &mut MemStore)
     requires { Present (StandsFor store.old) Anything }
 {
     let page = pages(store, 1);
-    let bytes = store.memory.read(TEMP + 56, 48);
-    assert!(rt; (page, bytes) == (Ok(TEMP + 0x7000), Some(EARLY_PAGE)));
+    let is_there = has_bytes(&store.memory, TEMP + 56, EARLY_PAGE);
+    assert!(rt; (page, is_there) == (Ok(TEMP + 0x7000), true));
 }
 
 fn run(rt: &impl Abort, alloc: Global, store: &mut MemStore, trial: Trial)

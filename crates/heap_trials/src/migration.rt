@@ -5,6 +5,7 @@ ghost use Rattle.mem_store.specs.MemState.{StandsFor};
 
 use crate::board::{RAM, TEMP, store_over};
 use crate::calls::{bytes_at, create, install_new, move_to, pages};
+use crate::heap::has_bytes;
 use crate::scene::INLINE;
 use hob_codec::Hob;
 use mem_store::MemStore;
@@ -37,9 +38,9 @@ fn try_pages(rt: &impl Abort, store: &mut MemStore)
         Some((TEMP, 0x4001_0000)),
     );
     assert!(rt; (made, moved) == wants);
-    let early = store.memory.read(TEMP, 8);
-    let bytes = store.memory.read(0x4001_0000, 144);
-    assert!(rt; (store.heap.span, early, bytes) == (UPPER, None, Some(MOVED)));
+    let is_unmapped = store.memory.read(TEMP, 8).is_none();
+    let is_there = has_bytes(&store.memory, 0x4001_0000, MOVED);
+    assert!(rt; (store.heap.span, is_unmapped, is_there) == (UPPER, true, true));
 }
 
 // The descriptor: its flags, where its GUID stands, the value, and the GUID.

@@ -3,7 +3,7 @@ ghost use Rattle.std.specs.Prelude.{◌≡◌, ◌≤◌, ◌+◌, ℕ, List, le
 ghost use Rattle.phys_mem.specs.Region.{replaced};
 ghost use Rattle.heap_laws.specs.Mapped.{Layout};
 
-use phys_mem::PhysMem;
+use phys_mem::{PhysMem, Stretch};
 use pi_base::Span;
 
 /// The heap, by its addresses. Its bytes lie in the memory that each call takes; an offset counts from its base.
@@ -17,9 +17,9 @@ impl Heap {
     ghost use Rattle.pei_heap.specs.HeapMemory.{Holds};
 
     /// The bytes of the heap.
-    pub fn bytes<'m>(&self, memory: &'m PhysMem) -> &'m [u8]
+    pub fn bytes<'m>(&self, memory: &'m PhysMem) -> Stretch<'m>
         requires heap { (l : Layout) × (bytes : List ℕ) × Holds self.now memory.now l bytes }
-        ensures { (l : Layout) (bytes : List ℕ) → Holds self.now memory.now l bytes → result.now ≡ bytes }
+        ensures { (l : Layout) (bytes : List ℕ) → Holds self.now memory.now l bytes → result ≡ bytes }
     {
         match memory.read(self.span.base, self.span.len as usize) {
             Some(bytes) => bytes,

@@ -4,6 +4,9 @@
 mod bank;
 mod memory;
 mod rom;
+mod stretch;
+mod window;
 
 pub use memory::PhysMem;
 pub use rom::Rom;
+pub use stretch::Stretch;

@@ -6,6 +6,7 @@ ghost use Rattle.std.specs.Option.{option_to_list};
 
 use crate::bank::{Bank, is_inside, part_of};
 use crate::rom::Rom;
+use crate::stretch::Stretch;
 use pi_base::{OutOfMemory, Seq, Span};
 use std::alloc::Global;
 
@@ -42,18 +43,15 @@ impl PhysMem {
     }
 
     /// The `n` bytes at an address, if all of them lie in one mapped region.
-    pub fn read(&self, at: u64, n: usize) -> Option<&[u8]>
-        ensures { option_map (λ bytes. bytes.now) result ≡ bytes_at (regions self.now) at n }
+    pub fn read(&self, at: u64, n: usize) -> Option<Stretch<'_>>
+        ensures { result ≡ bytes_at (regions self.now) at n }
     {
         if let Some(temp) = &self.temp {
-            if let Some(bytes) = part_of(temp.base, temp.bytes.as_slice(), at, n) {
+            if let Some(bytes) = temp.part(at, n) {
                 return Some(bytes);
             }
         }
-        match part_of(self.ram.base, self.ram.bytes.as_slice(), at, n) {
-            Some(bytes) => Some(bytes),
-            None => read_roms(self.roms.as_slice(), at, n),
-        }
+        read_fixed(&self.ram, self.roms.as_slice(), at, n)
     }
 
     /// The `n` bytes at an address, if all of them lie in one volume.
@@ -64,7 +62,7 @@ impl PhysMem {
     }
 
     // Writes the bytes into temporary RAM, if they all lie there.
-    fn put_temp(&mut self, at: u64, bytes: &[u8]) -> bool
+    fn put_temp(&mut self, at: u64, bytes: &Stretch<'_>) -> bool
         ensures put { Becomes (written (temps self.old) at bytes.now) (temps self.old) result (temps self.new) }
         ensures ram { self.new.ram ≡ self.old.ram }
         ensures roms { self.new.roms ≡ self.old.roms }
@@ -79,10 +77,11 @@ impl PhysMem {
     pub fn write(&mut self, at: u64, bytes: &[u8]) -> bool
         ensures { Becomes (written (regions self.old) at bytes.now) (regions self.old) result (regions self.new) }
     {
-        if self.put_temp(at, bytes) {
+        let bytes = Stretch::of(bytes);
+        if self.put_temp(at, &bytes) {
             true
         } else {
-            self.ram.put(at, bytes)
+            self.ram.put(at, &bytes)
         }
     }
 
@@ -91,12 +90,11 @@ impl PhysMem {
         ensures { result ≡ share (regions self.now) from to n }
     {
         if let Some(temp) = &self.temp {
-            if has_both(temp.base, temp.bytes.len(), from, to, n) {
+            if temp.has_both(from, to, n) {
                 return true;
             }
         }
-        has_both(self.ram.base, self.ram.bytes.len(), from, to, n)
-            || roms_share(self.roms.as_slice(), from, to, n)
+        self.ram.has_both(from, to, n) || roms_share(self.roms.as_slice(), from, to, n)
     }
 
     // Copies into temporary RAM from outside it.
@@ -162,6 +160,16 @@ fn read_roms(roms: &[Rom], at: u64, n: usize) -> Option<&[u8]>
     None
 }
 
+// So as a stretch.
+fn stretch_of_roms(roms: &[Rom], at: u64, n: usize) -> Option<Stretch<'_>>
+    ensures { result ≡ bytes_at (map rom_region roms.now) at n }
+{
+    match read_roms(roms, at, n) {
+        Some(bytes) => Some(Stretch::of(bytes)),
+        None => None,
+    }
+}
+
 // Whether both ranges lie among these addresses.
 fn has_both(base: u64, len: usize, from: u64, to: u64, n: usize) -> bool
     ensures { result ≡ (is_inside base len from n && is_inside base len to n) }
@@ -182,33 +190,38 @@ fn roms_share(roms: &[Rom], from: u64, to: u64, n: usize) -> bool
 }
 
 // The `n` bytes at an address, if all of them lie in RAM or in one volume.
-fn read_fixed<'a>(ram: &'a Bank, roms: &'a [Rom], at: u64, n: usize) -> Option<&'a [u8]>
-    ensures { option_map (λ bytes. bytes.now) result ≡ bytes_at (ram_region ram.now ∷ map rom_region roms.now) at n }
+fn read_fixed<'a>(ram: &'a Bank, roms: &'a [Rom], at: u64, n: usize) -> Option<Stretch<'a>>
+    ensures { result ≡ bytes_at (ram_region ram.now ∷ map rom_region roms.now) at n }
 {
-    match part_of(ram.base, ram.bytes.as_slice(), at, n) {
+    match ram.part(at, n) {
         Some(bytes) => Some(bytes),
-        None => read_roms(roms, at, n),
+        None => stretch_of_roms(roms, at, n),
     }
 }
 
 // The `n` bytes at an address, if all of them lie in temporary RAM or in one volume.
-fn read_movable<'a>(temp: &'a Option<Bank>, roms: &'a [Rom], at: u64, n: usize) -> Option<&'a [u8]>
-    ensures { option_map (λ bytes. bytes.now) result
+fn read_movable<'a>(
+    temp: &'a Option<Bank>,
+    roms: &'a [Rom],
+    at: u64,
+    n: usize,
+) -> Option<Stretch<'a>>
+    ensures { result
         ≡ bytes_at (option_to_list (option_map ram_region temp.now) ++ map rom_region roms.now) at n }
 {
     match temp {
         Some(temp) => read_fixed(temp, roms, at, n),
-        None => read_roms(roms, at, n),
+        None => stretch_of_roms(roms, at, n),
     }
 }
 
 // Writes what was read, if anything, at an address.
-fn copy_into(bank: &mut Bank, to: u64, source: Option<&[u8]>) -> bool
-    ensures { Becomes (copy_of (ram_region bank.old ∷ []) to (option_map (λ bytes. bytes.now) source.entry)) (ram_region bank.old ∷ [])
+fn copy_into(bank: &mut Bank, to: u64, source: Option<Stretch<'_>>) -> bool
+    ensures { Becomes (copy_of (ram_region bank.old ∷ []) to source.entry) (ram_region bank.old ∷ [])
         result (ram_region bank.new ∷ []) }
 {
     match source {
-        Some(bytes) => bank.put(to, bytes),
+        Some(bytes) => bank.put(to, &bytes),
         None => false,
     }
 }

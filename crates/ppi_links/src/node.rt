@@ -8,6 +8,7 @@ ghost use Rattle.ppi_links.specs.Node.{node_of};
 
 use heap_laws::nodes_read;
 use pei_heap::word_in;
+use phys_mem::Stretch;
 
 /// What a node says. Its places are addresses.
 #[derive(Clone, Copy, PartialEq, Eq)]
@@ -30,7 +31,7 @@ const SECOND_AT: usize = 16;
 const NUMBER_AT: usize = 24;
 
 // The address of the node in a place of a list, by its first node's address or 0. None past the last.
-pub(crate) fn nth_address(heap: &[u8], base: u64, head: u64, place: u32) -> Option<u64>
+pub(crate) fn nth_address(heap: &Stretch<'_>, base: u64, head: u64, place: u32) -> Option<u64>
     requires { (s : StoreState) × (list : EntryList) × IsHeaded s list heap.now base head }
     ensures { (s : StoreState) (list : EntryList) → IsHeaded s list heap.now base head
         → result ≡ option_map (λ (item : Item). s.base + item.node) (slice_get (items s list) place) }
@@ -49,7 +50,7 @@ pub(crate) fn nth_address(heap: &[u8], base: u64, head: u64, place: u32) -> Opti
 }
 
 // The node of an item.
-pub(crate) fn read_node(heap: &[u8], base: u64, at: u64) -> Node
+pub(crate) fn read_node(heap: &Stretch<'_>, base: u64, at: u64) -> Node
     requires { (s : StoreState) × (list : EntryList) × (place : ℕ) × (item : Item) × (head : ℕ)
         × IsHeaded s list heap.now base head × (slice_get (items s list) place ≡ Some item) × (at ≡ s.base + item.node) }
     ensures { (s : StoreState) (list : EntryList) (place : ℕ) (item : Item) (head : ℕ) → IsHeaded s list heap.now base head
@@ -66,7 +67,7 @@ pub(crate) fn read_node(heap: &[u8], base: u64, at: u64) -> Node
 }
 
 /// The node in a place of a list, by its first node's address or 0. None past the last.
-pub fn nth_node(heap: &[u8], base: u64, head: u64, place: u32) -> Option<Node>
+pub fn nth_node(heap: &Stretch<'_>, base: u64, head: u64, place: u32) -> Option<Node>
     requires { (s : StoreState) × (list : EntryList) × IsHeaded s list heap.now base head }
     ensures { (s : StoreState) (list : EntryList) → IsHeaded s list heap.now base head
         → result ≡ option_map (node_of s.base) (slice_get (items s list) place) }

@@ -13,7 +13,7 @@ use Rattle.store_model.specs.declared.state.Body.{Body}
 use Rattle.store_model.specs.declared.state.Body.TheVariants.{Bytes, Descriptor, Node}
 use Rattle.store_model.specs.declared.state.HobEntry.{HobEntry}
 use Rattle.store_model.specs.StoreState.{Board, StoreState, body_at, body_len, handoff_len, header_len, hob_len, with_body}
-use Rattle.store_model.specs.StateFacts.{IsBodyOf, IsDescriptorAt, IsEntry, IsHobEntry, IsNodeAt, IsPending, IsPool}
+use Rattle.store_model.specs.StateFacts.{HasTypesLength, IsBodyOf, IsDescriptorAt, IsEntry, IsHobEntry, IsNodeAt, IsPending, IsPool}
 use Rattle.store_model.specs.Service.Pool.{written}
 use Rattle.store_model.specs.Service.Queue.{zeroed}
 use Rattle.store_laws.specs.Bodies.{changed}
@@ -54,7 +54,7 @@ bytes_entry board taken hob old new bytes is then long kind h =
       not_end = h.not_end;
       len = omega (arith, whole, most);
       aligned = ap (λ n. n % 8) whole ∙ h.aligned;
-      volume = λ e. size ∙ h.volume e;
+      typed = subst (HasTypesLength hob.kind) (sym size) h.typed;
       body = subst (IsBodyOf board taken hob.kind) (sym then) kind;
     }
 

@@ -1,19 +1,38 @@
 -- The HOBs that calls make are HOBs of a state: pools, descriptors, pages, and those of scripts.
-use Rattle.std.proofs.Common.{◌≡◌, ◌≢◌, ℕ, ◌+◌, ◌*◌, ◌/◌, ◌%◌, ◌≤◌, ◌<◌, ◌^◌, List, length, replicate, arith, refl, ap, ◌∙◌, Option, Some, None}
+use Rattle.std.proofs.Common.{◌≡◌, ◌≢◌, ℕ, ◌+◌, ◌-◌, ◌*◌, ◌/◌, ◌%◌, ◌≤◌, ◌<◌, ◌^◌, List, length, replicate, arith, refl, ap, subst, ◌∙◌, Option, Some, None}
 use Rattle.std.proofs.lemmas.List.{length-replicate}
-use Rattle.hob_codec.specs.declared.kind.TheConstants.{HANDOFF, ALLOCATION, VOLUME, END}
+use Rattle.hob_codec.specs.declared.kind.TheConstants.{HANDOFF, ALLOCATION, POOL, END}
 use Rattle.hob_codec.specs.HobValue.{HobValue, HandoffHob, AllocationHob, ResourceHob, NamedHob, VolumeHob, CpuHob, PoolHob, Volume2Hob, OtherHob}
 use Rattle.hob_codec.specs.HobValue as V
 use Rattle.hob_codec.specs.HobBytes.{length_of}
 use Rattle.store_model.specs.declared.state.Body.TheVariants.{Bytes, Descriptor}
 use Rattle.store_model.specs.declared.state.DescriptorBody.{DescriptorBody}
-use Rattle.store_model.specs.StoreState.{Board, descriptor_len, header_len, hob_len, most_hob, pool_of, rounded}
-use Rattle.store_model.specs.StateFacts.{IsGuidOf, IsHobEntry, IsNumberOf}
+use Rattle.store_model.specs.StoreState.{Board, body_len, descriptor_len, header_len, hob_len, most_hob, pool_of, rounded}
+use Rattle.store_model.specs.StateFacts.{HasTypesLength, IsGuidOf, IsHobEntry, IsNumberOf}
 use Rattle.store_model.specs.StoreCall.{IsScriptHob}
 use Rattle.store_model.specs.Service.Pool.{most_pool}
 use Rattle.store_model.specs.Service.Hob.{hob_entry}
 use Rattle.store_model.specs.Service.Memory.{allocation_hob, page_len}
 use Rattle.store_laws.specs.Keeping.{IsScripted, IsWord}
+
+-- a pool and pages are of types whose body has any length
+pub of_pool : (len : ℕ) → HasTypesLength POOL len
+of_pool len = record {
+  resource = λ e. absurd (omega (arith, e));
+  named = λ e. absurd (omega (arith, e));
+  volume = λ e. absurd (omega (arith, e));
+  cpu = λ e. absurd (omega (arith, e));
+  volume2 = λ e. absurd (omega (arith, e));
+}
+
+of_pages : (len : ℕ) → HasTypesLength ALLOCATION len
+of_pages len = record {
+  resource = λ e. absurd (omega (arith, e));
+  named = λ e. absurd (omega (arith, e));
+  volume = λ e. absurd (omega (arith, e));
+  cpu = λ e. absurd (omega (arith, e));
+  volume2 = λ e. absurd (omega (arith, e));
+}
 
 -- zeros in a pool
 abbrev pub zeros : ℕ → List ℕ
@@ -37,7 +56,7 @@ pool_entry board taken size le =
       not_end = λ e. absurd (omega (arith, e));
       len = omega (arith, len, le);
       aligned = ap (λ n. (8 + n) % 8) len ∙ eight_more ((size + 7) / 8);
-      volume = λ e. absurd (omega (arith, e));
+      typed = of_pool (length (zeros size));
       body = λ e. absurd (omega (arith, e));
     }
 
@@ -57,7 +76,7 @@ descriptor_entry board taken d guid number = record {
   not_end = λ e. absurd (omega (arith, e));
   len = descriptor_most d.stands;
   aligned = descriptor_aligned d.stands;
-  volume = λ e. absurd (omega (arith, e));
+  typed = of_pool (descriptor_len d.stands);
   body = (refl, guid, number);
 }
 
@@ -69,7 +88,7 @@ pages_entry board memory_type len taken word fits = record {
   not_end = λ e. absurd (omega (arith, e));
   len = omega arith;
   aligned = refl;
-  volume = λ e. absurd (omega (arith, e));
+  typed = of_pages 40;
   body = (refl, record { memory_type = word; len = fits; below = omega arith });
 }
 
@@ -84,7 +103,7 @@ record IsScriptKind (hob : HobValue) : Type 0 where
   not_pages : V.kind_of hob ≢ ALLOCATION
   most : length_of hob ≤ most_hob
   aligned : length_of hob % 8 ≡ 0
-  volume : V.kind_of hob ≡ VOLUME → length_of hob ≡ 24
+  typed : HasTypesLength (V.kind_of hob) (length_of hob - header_len)
 
 named_aligned : (n : ℕ) → (24 + n * 8) % 8 ≡ 0
 named_aligned n = omega arith
@@ -99,7 +118,13 @@ script_kind (ResourceHob owner kind attributes start len) h = record {
   not_pages = λ e. absurd (omega (arith, e));
   most = omega arith;
   aligned = refl;
-  volume = λ e. absurd (omega (arith, e));
+  typed = record {
+    resource = λ e. refl;
+    named = λ e. absurd (omega (arith, e));
+    volume = λ e. absurd (omega (arith, e));
+    cpu = λ e. absurd (omega (arith, e));
+    volume2 = λ e. absurd (omega (arith, e));
+  };
 }
 script_kind (NamedHob name body) h = record {
   kind = omega arith;
@@ -108,7 +133,13 @@ script_kind (NamedHob name body) h = record {
   not_pages = λ e. absurd (omega (arith, e));
   most = h;
   aligned = named_aligned ((length body + 7) / 8);
-  volume = λ e. absurd (omega (arith, e));
+  typed = record {
+    resource = λ e. absurd (omega (arith, e));
+    named = λ e. omega arith;
+    volume = λ e. absurd (omega (arith, e));
+    cpu = λ e. absurd (omega (arith, e));
+    volume2 = λ e. absurd (omega (arith, e));
+  };
 }
 script_kind (VolumeHob base len) h = record {
   kind = omega arith;
@@ -117,7 +148,13 @@ script_kind (VolumeHob base len) h = record {
   not_pages = λ e. absurd (omega (arith, e));
   most = omega arith;
   aligned = refl;
-  volume = λ e. refl;
+  typed = record {
+    resource = λ e. absurd (omega (arith, e));
+    named = λ e. absurd (omega (arith, e));
+    volume = λ e. refl;
+    cpu = λ e. absurd (omega (arith, e));
+    volume2 = λ e. absurd (omega (arith, e));
+  };
 }
 script_kind (CpuHob memory io) h = record {
   kind = omega arith;
@@ -126,7 +163,13 @@ script_kind (CpuHob memory io) h = record {
   not_pages = λ e. absurd (omega (arith, e));
   most = omega arith;
   aligned = refl;
-  volume = λ e. absurd (omega (arith, e));
+  typed = record {
+    resource = λ e. absurd (omega (arith, e));
+    named = λ e. absurd (omega (arith, e));
+    volume = λ e. absurd (omega (arith, e));
+    cpu = λ e. refl;
+    volume2 = λ e. absurd (omega (arith, e));
+  };
 }
 script_kind (PoolHob body) h = absurd h
 script_kind (Volume2Hob base len volume file) h = record {
@@ -136,7 +179,13 @@ script_kind (Volume2Hob base len volume file) h = record {
   not_pages = λ e. absurd (omega (arith, e));
   most = omega arith;
   aligned = refl;
-  volume = λ e. absurd (omega (arith, e));
+  typed = record {
+    resource = λ e. absurd (omega (arith, e));
+    named = λ e. absurd (omega (arith, e));
+    volume = λ e. absurd (omega (arith, e));
+    cpu = λ e. absurd (omega (arith, e));
+    volume2 = λ e. refl;
+  };
 }
 script_kind (OtherHob kind body) h = absurd h
 
@@ -145,12 +194,13 @@ script_entry board taken hob is =
     let k = script_kind hob is.script in
     let len : hob_len (hob_entry hob) ≡ length_of hob = is.len in
     let most = k.most in
+    let body : length_of hob - header_len ≡ body_len (hob_entry hob).body = omega (arith, len) in
     record {
       kind = k.kind;
       not_handoff = k.not_handoff;
       not_end = k.not_end;
       len = omega (arith, len, most);
       aligned = ap (λ n. n % 8) len ∙ k.aligned;
-      volume = λ e. let long = k.volume e in omega (arith, len, long);
+      typed = subst (HasTypesLength (V.kind_of hob)) body k.typed;
       body = k.not_pages;
     }

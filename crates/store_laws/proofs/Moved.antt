@@ -1,5 +1,5 @@
 -- The move keeps what holds of every state.
-use Rattle.std.proofs.Common.{◌≡◌, ℕ, ◌+◌, ◌-◌, ◌%◌, ◌≤◌, ◌<◌, ◌^◌, Bool, true, false, cond, List, [], ◌∷◌, ◌++◌, length, arith, sym, refl, ap, ◌∙◌, Option, Some, None, ◌==◌, sum_by}
+use Rattle.std.proofs.Common.{◌≡◌, ℕ, ◌+◌, ◌-◌, ◌%◌, ◌≤◌, ◌<◌, ◌^◌, Bool, true, false, cond, List, [], ◌∷◌, ◌++◌, length, arith, sym, refl, ap, subst, ◌∙◌, Option, Some, None, ◌==◌, sum_by}
 use Rattle.std.specs.Prelude.{option_map, ◌||◌, ◌&&◌, if◌then◌else◌, nat_le, nat_lt}
 use Rattle.std.specs.List.{list_any}
 use Rattle.std.proofs.lemmas.Bool.Decides.{nat_tests}
@@ -18,7 +18,7 @@ use Rattle.store_model.specs.declared.state.Body.TheVariants.{Bytes, Descriptor,
 use Rattle.store_model.specs.declared.state.HobEntry.{HobEntry}
 use Rattle.store_model.specs.HeapImage.{descriptor_bytes}
 use Rattle.store_model.specs.StoreState.{Board, StoreState, Range, body_from, body_len, handoff_len, header_len, hob_len}
-use Rattle.store_model.specs.StateFacts.{IsBoard, IsBodyOf, IsDescriptorAt, IsEntry, IsGuidOf, IsHeap, IsHobEntry, IsNodeAt, IsNumberOf, IsPending, IsPlanned}
+use Rattle.store_model.specs.StateFacts.{HasTypesLength, IsBoard, IsBodyOf, IsDescriptorAt, IsEntry, IsGuidOf, IsHeap, IsHobEntry, IsNodeAt, IsNumberOf, IsPending, IsPlanned}
 use Rattle.store_model.specs.Service.Descriptor.{is_named, descriptors}
 use Rattle.store_model.specs.Migration.{migrated_to, moved_body, moved_descriptor, moved_hobs, moved_value}
 use Rattle.store_laws.specs.Fitting.{IsFittingDescriptor}
@@ -175,7 +175,7 @@ hob_moves s to place hob board way h =
       not_end = h.not_end;
       len = omega (arith, whole, most);
       aligned = ap (λ n. n % 8) whole ∙ h.aligned;
-      volume = λ e. long ∙ h.volume e;
+      typed = subst (HasTypesLength hob.kind) (sym long) h.typed;
       body = body_moves s to hob.kind place hob.body way h.body;
     }
 

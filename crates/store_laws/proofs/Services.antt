@@ -213,7 +213,7 @@ entry_of_more board taken more hob h = record {
   not_end = h.not_end;
   len = h.len;
   aligned = h.aligned;
-  volume = h.volume;
+  typed = h.typed;
   body = body_of_more board taken more hob.kind hob.body h.body;
 }
 

@@ -17,6 +17,7 @@ use Rattle.store_laws.specs.Bodies.{IsGrown}
 use Rattle.store_laws.specs.Keeping.{IsWord}
 use Rattle.store_laws.specs.Steps.{IsPair}
 use Rattle.store_laws.proofs.Bodies.{grown_by, new_body}
+use Rattle.store_laws.proofs.Hobs.{of_pool}
 use Rattle.store_laws.proofs.Sound.{Differ, IsSound, all_new, appended_sound, callback_sound, descriptor_grows, dispatch_sound, node_of, pending_node, pending_sound, ppi_sound}
 
 -- a node
@@ -33,7 +34,7 @@ node_entry board taken = record {
   not_end = λ e. absurd (omega (arith, e));
   len = omega arith;
   aligned = refl;
-  volume = λ e. absurd (omega (arith, e));
+  typed = of_pool 32;
   body = refl;
 }
 

@@ -6,6 +6,7 @@ use Rattle.pi_base.specs.Guids.{same_guid}
 use Rattle.pi_base.specs.Lists.{Each, Ordered}
 use Rattle.store_model.specs.HandleState.{Interface, HandleState, HandleService, no_handles, is_on, install_interface, reinstall_interface, uninstall_interface, locate_handle}
 
+-- one interface stands before another or on the same handle
 abbrev pub IsNotBehind : Interface → Interface → Type 0
 IsNotBehind a b = a.handle ≤ b.handle
 
@@ -13,9 +14,11 @@ IsNotBehind a b = a.handle ≤ b.handle
 abbrev pub AreOfOthers : Interface → Interface → Type 0
 AreOfOthers a b = (is_on b.handle b.guid a ≡ false) × (is_on a.handle a.guid b ≡ false)
 
+-- the handle of an interface is one of those that were made, which are numbered from 1
 abbrev pub WasMade : ℕ → Interface → Type 0
 WasMade made i = (1 ≤ i.handle) × (i.handle ≤ made)
 
+-- what the handles keep in every state
 pub record IsHandleState (h : HandleState) : Type 0 where
   pub in_order : Ordered IsNotBehind h.interfaces
   pub once : Ordered AreOfOthers h.interfaces

@@ -9,16 +9,20 @@ use Rattle.pi_base.specs.declared.word.Word.TheVariants.{InvalidParameter, NotFo
 use Rattle.pi_base.specs.Guids.{same_guid}
 pub use Rattle.store_model.specs.declared.interface.Interface.{Interface}
 
+-- `made` counts all handles that were ever made, also those that are gone
 pub record HandleState : Type 0 where
   pub interfaces : List Interface
   pub made : ℕ
 
+-- the handles at the beginning of DXE
 abbrev pub no_handles : HandleState
 no_handles = record { interfaces = []; made = 0 }
 
+-- what a service answers with the state after it, or its status
 abbrev pub HandleService : Type 0 → Type 0
 HandleService A = Result (A × HandleState) Word
 
+-- whether a handle has an interface
 abbrev pub is_live : HandleState → ℕ → Bool
 is_live h handle = list_any (λ i. i.handle == handle) h.interfaces
 
@@ -49,6 +53,7 @@ install_on h handle guid value =
     if not (is_live h handle) || list_any (is_on handle guid) h.interfaces then Err InvalidParameter
     else Ok (handle, record h { interfaces = placed (record { handle = handle; guid = guid; value = value }) h.interfaces })
 
+-- `InstallProtocolInterface()`: on a new handle where none is given, else on that one
 abbrev pub install_interface : HandleState → Option ℕ → Guid → ℕ → HandleService ℕ
 install_interface h None guid value = install_new h guid value
 install_interface h (Some handle) guid value = install_on h handle guid value
@@ -70,9 +75,11 @@ change_of h handle guid value changed =
     else if list_any (is_on_with handle guid value) h.interfaces then Ok (tt, record h { interfaces = changed })
     else Err NotFound
 
+-- `ReinstallProtocolInterface()`: the interface keeps its place and has the new value
 abbrev pub reinstall_interface : HandleState → ℕ → Guid → ℕ → ℕ → HandleService (Unit {0})
 reinstall_interface h handle guid old new = change_of h handle guid old (with_value (is_on_with handle guid old) new h.interfaces)
 
+-- `UninstallProtocolInterface()`: the interface is gone, and with its last one the handle
 abbrev pub uninstall_interface : HandleState → ℕ → Guid → ℕ → HandleService (Unit {0})
 uninstall_interface h handle guid value = change_of h handle guid value (without (is_on_with handle guid value) h.interfaces)
 

@@ -30,6 +30,7 @@ abbrev pub guid_address : ℕ → ℕ → Option ℕ → ℕ
 guid_address base place None = base + place + 24
 guid_address base place (Some address) = address
 
+-- the sixteen bytes of the GUID behind the descriptor, where it stands in no volume
 abbrev pub guid_behind : DescriptorBody → Option ℕ → List ℕ
 guid_behind d None = d.guid.0
 guid_behind d (Some address) = []
@@ -45,6 +46,7 @@ abbrev pub first_node : ℕ → List Entry → ℕ
 first_node base [] = 0
 first_node base (entry ∷ entries) = base + entry.node
 
+-- and of the first node of these queued pairs
 abbrev pub first_pending : ℕ → List Pending → ℕ
 first_pending base [] = 0
 first_pending base (pending ∷ pendings) = base + pending.node
@@ -57,6 +59,7 @@ links_in base place (entry ∷ entries) =
     then Some (record { next = first_node base entries; descriptor = base + entry.descriptor; second = 0; number = entry.by })
     else links_in base place entries
 
+-- and where a queued pair of these has it: its second descriptor is the PPI's
 abbrev pub pending_links_in : ℕ → ℕ → List Pending → Option Links
 pending_links_in base place [] = None
 pending_links_in base place (pending ∷ pendings) =
@@ -69,11 +72,13 @@ pending_links_in base place (pending ∷ pendings) =
     })
     else pending_links_in base place pendings
 
+-- of the node at a place, whichever of the four lists has it; none where none has
 abbrev pub links_at : StoreState → ℕ → Option Links
 links_at s place =
     option_or (links_in s.base place s.ppis)
     (option_or (links_in s.base place s.callbacks) (option_or (links_in s.base place s.dispatches) (pending_links_in s.base place s.pendings)))
 
+-- the four fields, or zeros where no list has the node
 abbrev pub links_bytes : Option Links → List ℕ
 links_bytes None = replicate node_len 0
 links_bytes (Some links) =
@@ -94,6 +99,7 @@ body_bytes s place (Descriptor d) = descriptor_bytes s.base place d
 body_bytes s place Node = node_bytes s place
 body_bytes s place (Allocation a) = allocation_bytes s.page_end a
 
+-- the generic header of a HOB: type, length, and four reserved bytes
 abbrev pub header_bytes : ℕ → ℕ → List ℕ
 header_bytes kind len = joined (header_fields kind len)
 

@@ -21,6 +21,7 @@ moved_value s to Ppi number = moved_number s to number
 moved_value s to Callback number = number
 moved_value s to Dispatch number = number
 
+-- a descriptor keeps its kind and its GUID, and its number moves as a value or stays as an entry
 abbrev pub moved_descriptor : StoreState → Range → DescriptorBody → DescriptorBody
 moved_descriptor s to d = record d { number = moved_value s to d.kind d.number }
 
@@ -32,11 +33,13 @@ moved_body s to place (Bytes bytes) = Bytes bytes
 moved_body s to place Node = Node
 moved_body s to place (Allocation a) = Allocation a
 
+-- the HOBs, of which the first stands at `at`: each keeps its type and its length
 abbrev pub moved_hobs : StoreState → Range → ℕ → List HobEntry → List HobEntry
 moved_hobs s to at [] = []
 moved_hobs s to at (hob ∷ hobs) =
     record hob { body = moved_body s to (at + header_len) hob.body } ∷ moved_hobs s to (at + hob_len hob) hobs
 
+-- the state in this permanent memory: the pages' end is the heap's end
 abbrev pub migrated_to : StoreState → Range → StoreState
 migrated_to s to =
     record s { base = to.base; len = to.len; page_end = to.base + to.len; moved = true; hobs = moved_hobs s to handoff_len s.hobs }

@@ -17,6 +17,7 @@ use Rattle.store_model.specs.declared.store_handle.StoreFault.{StoreFault}
 use Rattle.store_model.specs.declared.store_handle.StoreFault.TheVariants as F
 use Rattle.store_model.specs.StoreState.{StoreState, free}
 
+-- the answer with the state after it, or a fault, behind which the state is the one before
 abbrev pub Service : Type 0 → Type 0
 Service A = Result (A × StoreState) StoreFault
 
@@ -71,5 +72,6 @@ Performs takes Before Now service result = AfterEach Before Now (λ old new. Ans
 abbrev pub in_room : {A : Type 0} → StoreState → ℕ → Service A → Service A
 in_room s need service = if nat_lt (free s) need then Err F.Full else service
 
+-- refused for an argument that is of the wrong kind or out of range
 abbrev pub unless_bad : {A : Type 0} → Bool → Service A → Service A
 unless_bad bad service = if bad then Err F.Bad else service

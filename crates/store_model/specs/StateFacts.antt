@@ -1,7 +1,7 @@
 -- What holds of every state of a store: each entry names a node of its own and a descriptor of its list's kind, all of it has room, and numbers fit their fields.
 -- Own; the state that stands for linked nodes in byte memory.
 use Rattle.std.specs.Prelude.{◌≡◌, ◌≢◌, ◌⊎◌, ℕ, ◌+◌, ◌%◌, ◌^◌, ◌<◌, ◌≤◌, Bool, true, false, List, ◌++◌, length, map, Option, Some, None, AllPairs, IfSome, ⊤}
-use Rattle.hob_codec.specs.declared.kind.TheConstants.{HANDOFF, POOL, ALLOCATION, VOLUME, END}
+use Rattle.hob_codec.specs.declared.kind.TheConstants.{HANDOFF, ALLOCATION, RESOURCE, NAMED, VOLUME, CPU, POOL, VOLUME2, END}
 use Rattle.boot_plan.specs.declared.limits.TheConstants.{MOST_TEMP, MOST_RAM, MOST_END}
 use Rattle.pi_base.specs.Lists.{Each, Ordered}
 use Rattle.store_model.specs.declared.limits.TheConstants.{NOTE_NUMBERS}
@@ -13,9 +13,11 @@ use Rattle.store_model.specs.declared.store_handle.Sweep.{Sweep}
 use Rattle.store_model.specs.StoreState.{StoreState, Board, Range, Rom, Entry, Pending, DescriptorBody, AllocationBody, Body, Bytes, Descriptor, Node, Allocation, HobEntry, body_at, body_len, hob_len, most_hob, end_place, header_len, handoff_len, page_bytes}
 use Rattle.store_model.specs.MemoryReading.{rom_bytes}
 
+-- a node stands at a place
 abbrev pub IsNodeAt : StoreState → ℕ → Type 0
 IsNodeAt s place = body_at s place ≡ Some Node
 
+-- a descriptor of a kind stands at a place
 abbrev pub IsDescriptorAt : StoreState → DescKind → ℕ → Type 0
 IsDescriptorAt s kind place = (d : DescriptorBody) × (body_at s place ≡ Some (Descriptor d)) × (d.kind ≡ kind)
 
@@ -56,14 +58,23 @@ IsBodyOf board taken kind (Descriptor d) = (kind ≡ POOL) × IsGuidOf board d d
 IsBodyOf board taken kind Node = kind ≡ POOL
 IsBodyOf board taken kind (Allocation a) = (kind ≡ ALLOCATION) × IsAllocation taken a
 
--- a HOB behind the hand-off HOB: its type is not that one's nor the end HOB's, its length is a multiple of 8 that fits, and a volume's HOB has a base and a length
+-- a body is as long as the fields of its HOB's type; that of pages is so by what it is, and other types have any length
+pub record HasTypesLength (kind len : ℕ) : Type 0 where
+  pub resource : kind ≡ RESOURCE → len ≡ 40
+  pub named : kind ≡ NAMED → 16 ≤ len
+  pub volume : kind ≡ VOLUME → len ≡ 16
+  pub cpu : kind ≡ CPU → len ≡ 8
+  pub volume2 : kind ≡ VOLUME2 → len ≡ 48
+
+-- a HOB behind the hand-off HOB: its type is not that one's nor the end HOB's, its length is a multiple of 8 that fits,
+-- and its body is as long as its type asks
 pub record IsHobEntry (board : Board) (taken : ℕ) (hob : HobEntry) : Type 0 where
   pub kind : hob.kind < 2 ^ 16
   pub not_handoff : hob.kind ≢ HANDOFF
   pub not_end : hob.kind ≢ END
   pub len : hob_len hob ≤ most_hob
   pub aligned : hob_len hob % 8 ≡ 0
-  pub volume : hob.kind ≡ VOLUME → body_len hob.body ≡ 16
+  pub typed : HasTypesLength hob.kind (body_len hob.body)
   pub body : IsBodyOf board taken hob.kind hob.body
 
 -- before the move no more pages are taken than the region has
@@ -85,7 +96,8 @@ pub record IsMapped (board : Board) (rom : Rom) : Type 0 where
   pub temp : AreApart board.temp (rom_range rom)
   pub ram : AreApart board.ram (rom_range rom)
 
--- temporary RAM and RAM are as long and end as high as a plan lets them, and the page region leaves room for an empty heap; no two of temporary RAM, RAM and the volumes have an address in common, and address 0 is in no heap
+-- temporary RAM and RAM are as long and end as high as a plan lets them, and the page region leaves room for an empty heap;
+-- no two of temporary RAM, RAM and the volumes have an address in common, and address 0 is in no heap
 pub record IsBoard (board : Board) : Type 0 where
   pub temp_len : board.temp.len ≤ MOST_TEMP
   pub ram_len : board.ram.len ≤ MOST_RAM
@@ -107,7 +119,8 @@ IsHeap s false =
     (s.base ≡ s.board.temp.base) × (s.len + s.board.pages ≡ s.board.temp.len) × (s.page_end ≡ s.board.temp.base + s.board.temp.len)
 IsHeap s true = (s.planned ≡ Some (record { base = s.base; len = s.len })) × (s.page_end ≡ s.base + s.len)
 
--- all lists name what is there, each node once; the HOBs and pages have room, and every number fits its field, so that the bytes of the heap tell all of it
+-- all lists name what is there, each node once; the HOBs and pages have room, and every number fits its field,
+-- so that the bytes of the heap tell all of it
 pub record IsStoreState (s : StoreState) : Type 0 where
   pub ppis : Each (IsEntry s Ppi) s.ppis
   pub callbacks : Each (IsEntry s Callback) s.callbacks

@@ -27,6 +27,7 @@ AreFew list = (1 ≤ length list) × (length list ≤ 8)
 abbrev pub AreDescs : List Desc → StoreState → Type 0
 AreDescs list s = Each (IsDesc s) list
 
+-- both of two are
 abbrev pub AreBothDescs : Desc → Desc → StoreState → Type 0
 AreBothDescs old new s = IsDesc s old × IsDesc s new
 

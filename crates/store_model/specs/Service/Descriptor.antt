@@ -19,6 +19,7 @@ abbrev pub guid_from : StoreState → GuidFrom → Option (Guid × Option ℕ)
 guid_from s (Inline guid) = Some (guid, None)
 guid_from s (At address) = option_map (λ bytes. (record { 0 = bytes }, Some address)) (rom_bytes s.board.roms address 16)
 
+-- the same with a GUID that was found, or none
 abbrev pub desc_of : StoreState → DescKind → ℕ → Option (Guid × Option ℕ) → Service Desc
 desc_of s kind number None = Err Bad
 desc_of s kind number (Some (guid, stands)) =
@@ -32,12 +33,14 @@ desc_of s kind number (Some (guid, stands)) =
 abbrev pub desc : StoreState → DescKind → GuidFrom → ℕ → Service Desc
 desc s kind guid number = desc_of s kind number (guid_from s guid)
 
+-- the descriptor that a body is
 abbrev pub descriptor_of : Body → Option DescriptorBody
 descriptor_of (Descriptor d) = Some d
 descriptor_of (Bytes bytes) = None
 descriptor_of Node = None
 descriptor_of (Allocation a) = None
 
+-- and that a body is, where there is one
 abbrev pub descriptor_in : Option Body → Option DescriptorBody
 descriptor_in None = None
 descriptor_in (Some body) = descriptor_of body
@@ -46,11 +49,13 @@ descriptor_in (Some body) = descriptor_of body
 abbrev pub descriptor_at : StoreState → ℕ → Option DescriptorBody
 descriptor_at s place = descriptor_in (body_at s place)
 
+-- whether a descriptor is a PPI's
 abbrev pub is_ppi : DescKind → Bool
 is_ppi Ppi = true
 is_ppi Callback = false
 is_ppi Dispatch = false
 
+-- whether a descriptor is a callback's
 abbrev pub is_callback : DescKind → Bool
 is_callback Ppi = false
 is_callback Callback = true
@@ -60,12 +65,15 @@ is_callback Dispatch = false
 abbrev pub kind_at : StoreState → ℕ → DescKind
 kind_at s place = unwrap_or (option_map (λ d. d.kind) (descriptor_at s place)) Dispatch
 
+-- what is said where no descriptor stands
 abbrev pub no_guid : Guid
 no_guid = record { 0 = [] }
 
+-- the GUID of the descriptor at a place
 abbrev pub guid_at : StoreState → ℕ → Guid
 guid_at s place = unwrap_or (option_map (λ d. d.guid) (descriptor_at s place)) no_guid
 
+-- the value of the PPI, or the entry of the notification, whose descriptor stands at a place
 abbrev pub number_at : StoreState → ℕ → ℕ
 number_at s place = unwrap_or (option_map (λ d. d.number) (descriptor_at s place)) 0
 

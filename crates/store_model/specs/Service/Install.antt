@@ -55,9 +55,11 @@ install_sweep s list = record {
   note_at = 0;
 }
 
+-- the state with these PPIs, and with their pairs behind those that are queued
 abbrev pub installed : StoreState → List Desc → ℕ → StoreState
 installed s list by = fold (with_pending by) (fold (with_ppi by) s list) (install_pairs s list)
 
+-- `InstallPpi()`: Bad where one of these is no PPI's descriptor, then Full, where the nodes of the PPIs and of the pairs have no room
 abbrev pub install : StoreState → List Desc → ℕ → Service Sweep
 install s list by =
     unless_bad (not (list_all (λ d. is_ppi (kind_at s d.offset)) list))
@@ -78,6 +80,7 @@ place_of (entry ∷ entries) old = if entry.descriptor == old then 0 else 1 + pl
 abbrev pub reinstall_pairs : StoreState → Desc → List (ℕ × ℕ)
 reinstall_pairs s new = pairs_of s (new.offset ∷ []) (descriptors s.dispatches)
 
+-- the callbacks that meet the PPI in its place
 abbrev pub reinstall_sweep : StoreState → Desc → Sweep
 reinstall_sweep s old = record {
   ppi_to = place_of s.ppis old.offset + 1;
@@ -87,12 +90,15 @@ reinstall_sweep s old = record {
   note_at = 0;
 }
 
+-- the state with the new descriptor in the place of the old one, and with its pairs queued
 abbrev pub reinstalled : StoreState → Desc → Desc → ℕ → StoreState
 reinstalled s old new by = fold (with_pending by) (record s { ppis = renamed s.ppis old.offset new.offset }) (reinstall_pairs s new)
 
+-- whether a PPI names a descriptor
 abbrev pub is_installed : StoreState → Desc → Bool
 is_installed s d = list_any (λ place. place == d.offset) (descriptors s.ppis)
 
+-- `ReInstallPpi()`: Bad where the new one is no PPI's descriptor, Missing where no PPI names the old one, then Full
 abbrev pub reinstall : StoreState → Desc → Desc → ℕ → Service Sweep
 reinstall s old new by =
     unless_bad (not (is_ppi (kind_at s new.offset)))
@@ -104,10 +110,12 @@ abbrev pub both_or_full : Service Sweep → Service Sweep
 both_or_full (Ok done) = Ok done
 both_or_full (Err fault) = Err Full
 
+-- the second part of the core's call, behind the descriptor
 abbrev pub core_of : Service Desc → Service Sweep
 core_of (Err fault) = Err Full
 core_of (Ok (d, made)) = both_or_full (install made (d ∷ []) CORE)
 
+-- the core's call: the PPI of permanent memory, with the value 0; its maker is the core
 abbrev pub core_install : StoreState → Service Sweep
 core_install s = core_of (desc s Ppi (Inline MEMORY_PPI) 0)
 

@@ -21,6 +21,7 @@ is_memory s begin len =
     begin % page_len == 0 && len % page_len == 0 && is_inside s.board.ram.base s.board.ram.len begin len
     && nat_le s.board.temp.len len && is_none s.planned
 
+-- `InstallPeiMemory()`: the span is planned, and the heap moves there once no script runs
 abbrev pub set_memory : StoreState → ℕ → ℕ → Service (Unit {0})
 set_memory s begin len =
     unless_bad (not (is_memory s begin len)) (Ok (tt, record s { planned = Some (record { base = begin; len = len }) }))
@@ -30,6 +31,7 @@ abbrev pub allocation_hob : ℕ → ℕ → ℕ → HobEntry
 allocation_hob memory_type len below =
     record { kind = ALLOCATION; body = Allocation (record { memory_type = memory_type; len = len; below = below }) }
 
+-- so many bytes of pages are taken, and the HOB that tells of them stands behind the others
 abbrev pub with_pages : StoreState → ℕ → ℕ → StoreState
 with_pages s memory_type len = record (appended s (allocation_hob memory_type len (s.taken + len))) { taken = s.taken + len }
 
@@ -44,6 +46,7 @@ early_pages s memory_type len =
     else if nat_lt (s.board.pages - s.taken) len then Err Full
     else in_room s allocation_len (pages_taken s memory_type len)
 
+-- `AllocatePages()`: so many pages, of the heap's end after the move and of the page region before it
 abbrev pub pages : StoreState → ℕ → ℕ → Service ℕ
 pages s memory_type count =
     if s.moved then in_room s (allocation_len + page_len * count) (pages_taken s memory_type (page_len * count))

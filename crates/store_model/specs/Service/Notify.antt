@@ -11,6 +11,7 @@ use Rattle.store_model.specs.Service.{Service, in_room, unless_bad}
 use Rattle.store_model.specs.Service.Descriptor.{kind_at, is_ppi, is_callback, descriptors, offsets}
 use Rattle.store_model.specs.Service.Install.{with_node, with_pending, pairs_of, node_need}
 
+-- the entry of a notification that takes the next node
 abbrev pub note_entry : StoreState → Desc → ℕ → Entry
 note_entry s d by = record { node = next_body s; descriptor = d.offset; by = by }
 
@@ -20,6 +21,7 @@ with_note_of Ppi by s d = s
 with_note_of Callback by s d = record (with_node s) { callbacks = s.callbacks ++ note_entry s d by ∷ [] }
 with_note_of Dispatch by s d = record (with_node s) { dispatches = s.dispatches ++ note_entry s d by ∷ [] }
 
+-- the same by the descriptor's kind
 abbrev pub with_note : ℕ → StoreState → Desc → StoreState
 with_note by s d = with_note_of (kind_at s d.offset) by s d
 
@@ -44,9 +46,11 @@ notify_sweep s list = record {
   note_at = length s.callbacks;
 }
 
+-- the state with these notifications, and with their pairs behind those that are queued
 abbrev pub notified : StoreState → List Desc → ℕ → StoreState
 notified s list by = fold (with_pending by) (fold (with_note by) s list) (notify_pairs s list)
 
+-- `NotifyPpi()`: Bad where one of these is a PPI's descriptor, then Full, where the nodes of the notifications and of the pairs have no room
 abbrev pub notify : StoreState → List Desc → ℕ → Service Sweep
 notify s list by =
     unless_bad (list_any (λ d. is_ppi (kind_at s d.offset)) list)

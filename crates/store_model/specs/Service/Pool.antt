@@ -10,6 +10,7 @@ use Rattle.store_model.specs.Service.{Service, in_room}
 abbrev pub most_pool : ℕ
 most_pool = 65520
 
+-- `AllocatePool()`: zeros of the size, rounded up to a multiple of 8
 abbrev pub pool : StoreState → ℕ → Service Pool
 pool s size =
     if nat_lt most_pool size then Err Full

@@ -5,9 +5,11 @@ use Rattle.store_model.specs.declared.store_handle.Firing.{Firing}
 use Rattle.store_model.specs.StoreState.{StoreState, Pending, Body, Bytes, with_body, handoff_len, node_len}
 use Rattle.store_model.specs.Service.Sweep.{firing_of}
 
+-- what a node becomes whose pair has left the queue
 abbrev pub zeroed : Body → Body
 zeroed body = Bytes (replicate node_len 0)
 
+-- the first of these pairs, and the state without it; none where there is none
 abbrev pub popped : StoreState → List Pending → Option (Firing × StoreState)
 popped s [] = None
 popped s (first ∷ rest) =
@@ -16,5 +18,6 @@ popped s (first ∷ rest) =
       record s { hobs = with_body zeroed handoff_len s.hobs first.node; pendings = rest },
     )
 
+-- the first of all queued pairs
 abbrev pub queue_pop : StoreState → Option (Firing × StoreState)
 queue_pop s = popped s s.pendings

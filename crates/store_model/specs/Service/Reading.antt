@@ -28,6 +28,7 @@ nth_ppi s guid n = option_map (λ entry. (record { offset = entry.descriptor }, 
 abbrev pub ppi_at : StoreState → ℕ → Option (Guid × ℕ × ℕ)
 ppi_at s place = option_map (λ entry. (guid_at s entry.descriptor, number_at s entry.descriptor, entry.by)) (slice_get s.ppis place)
 
+-- the list of the notifications of a kind
 abbrev pub notes_of : StoreState → DescKind → List Entry
 notes_of s Ppi = []
 notes_of s Callback = s.callbacks
@@ -95,5 +96,6 @@ hob_at s offset =
 abbrev pub volume_hobs : StoreState → List HobEntry
 volume_hobs s = filter (λ hob. hob.kind == VOLUME) s.hobs
 
+-- those bases, in order of the HOBs
 abbrev pub fv_bases : StoreState → List ℕ
 fv_bases s = map (λ hob. little_number 8 (body_bytes s 0 hob.body)) (volume_hobs s)

@@ -30,6 +30,7 @@ places_at s pair =
     option_and_then (λ ppi. option_map (λ note. (ppi.descriptor, note.descriptor)) (slice_get s.callbacks pair.1))
     (slice_get s.ppis pair.0)
 
+-- whether the PPI and the callback at two places have one GUID
 abbrev pub have_one_guid : StoreState → Option (ℕ × ℕ) → Bool
 have_one_guid s None = false
 have_one_guid s (Some places) = same_guid (guid_at s places.0) (guid_at s places.1)
@@ -44,5 +45,6 @@ abbrev pub first_firing : StoreState → Sweep → List (ℕ × ℕ) → Option 
 first_firing s sweep [] = None
 first_firing s sweep (pair ∷ pairs) = if have_one_guid s (places_at s pair) then firing_at s sweep pair else first_firing s sweep pairs
 
+-- the next pair of a sweep that fires, and the sweep behind it; none where the sweep is over
 abbrev pub next_match : StoreState → Sweep → Option (Firing × Sweep)
 next_match s sweep = first_firing s sweep (pairs_left sweep)

@@ -29,15 +29,10 @@ len_is law header bytes is fits = ap (λ (x : List ℕ). little_number 2 (drop 2
 same_header : (header : Header) (a b : ℕ) → a ≡ header.kind → b ≡ header.len → record { kind = a; len = b } ≡ header
 same_header header a b x y = ap (λ n. record { kind = n; len = b }) x ∙ ap (λ n. record { kind = header.kind; len = n }) y
 
-pub u16_at-requires : goal.u16_at-requires
-u16_at-requires c =
+pub copy_to-requires : goal.copy_to-requires
+copy_to-requires c =
     let h = c.requires.heap in
-    let len = read_len h.0 h.1 c.args.memory.now c.args.at c.in-Some.bytes.now c.in-Some.ensures h.2 h.3 h.4 in omega (arith, len)
-
-pub u16_at-requires-in-Some : goal.u16_at-requires-in-Some
-u16_at-requires-in-Some c =
-    let h = c.requires.heap in
-    let len = read_len h.0 h.1 c.args.memory.now c.args.at c.in-Some.bytes.now c.in-Some.ensures h.2 h.3 h.4 in omega (arith, len)
+    let len = read_len h.0 h.1 c.args.memory.now c.args.at c.in-Some.stretch c.in-Some.ensures h.2 h.3 h.4 in omega (arith, len, ap length c.as_mut_slice.ensures.value)
 
 pub unreachable-requires : goal.unreachable-requires
 unreachable-requires c =
@@ -49,7 +44,8 @@ unreachable-requires c =
 pub returns : goal.returns
 returns c l heap header has le fits is a b =
     let found = has_read l heap c.args.memory.now c.args.at 8 has le fits in
-    let told : Some c.in-Some.bytes.now ≡ bytes_at (regions c.args.memory.now) c.args.at 8 = c.in-Some.ensures in
-    let same : c.in-Some.bytes.now ≡ header_bytes header.kind header.len = same_some _ _ (told ∙ found) ∙ is in
+    let told : Some c.in-Some.stretch ≡ bytes_at (regions c.args.memory.now) c.args.at 8 = c.in-Some.ensures in
+    let same : c.copy_to.new.into ≡ header_bytes header.kind header.len = c.copy_to.ensures ∙ same_some _ _ (told ∙ found) ∙ is in
     let law = c.little_endian.ensures.read in
-    same_header header c.u16_at.result c.u16_at-in-Some.result (c.u16_at.ensures ∙ kind_is law header c.in-Some.bytes.now same a) (c.u16_at-in-Some.ensures ∙ len_is law header c.in-Some.bytes.now same b)
+    same_header header c.u16_at.result c.u16_at-in-Some.result (c.u16_at.ensures ∙ kind_is law header c.as_slice.result.now (c.as_slice.ensures ∙ same) a)
+    (c.u16_at-in-Some.ensures ∙ len_is law header c.as_slice-in-Some.result.now (c.as_slice-in-Some.ensures ∙ same) b)
