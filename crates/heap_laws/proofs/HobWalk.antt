@@ -176,9 +176,13 @@ walk s heap tail (hob ∷ hobs) at law later e spelt are =
     let to : at + hob_len hob + sum_by hob_len hobs ≡ at + sum_by hob_len (hob ∷ hobs) = omega (arith, c) in
     let from : at + hob_len hob ≡ at + length_at heap at = ap (λ n. at + n) (sym one.length_is) in
     record {
-      leads = (one.place, one.fault, one.goes_on,
-          subst (λ n. Leads heap n (places_from (at + hob_len hob) hobs) (at + sum_by hob_len (hob ∷ hobs))) from
-          (subst (Leads heap (at + hob_len hob) (places_from (at + hob_len hob) hobs)) to rest.leads));
+      leads = (
+        one.place,
+        one.fault,
+        one.goes_on,
+        subst (λ n. Leads heap n (places_from (at + hob_len hob) hobs) (at + sum_by hob_len (hob ∷ hobs))) from
+            (subst (Leads heap (at + hob_len hob) (places_from (at + hob_len hob) hobs)) to rest.leads),
+      );
       bodies = (one.body_is, rest.bodies);
     }
 
