@@ -48,7 +48,8 @@ in_order catalog started = map (named catalog) (reverse started)
 abbrev pub StartsArePrinted : Type 0
 StartsArePrinted =
     (catalog : Catalog) (board : Board) (fuel n : ℕ)
-    → let m = pei_run catalog fuel n (pei_opening board catalog) in TellStarts m.lines (in_order catalog m.started) (in_order catalog m.again) []
+    → let m = pei_run catalog fuel n (pei_opening board catalog) in
+    TellStarts m.lines (in_order catalog m.started) (in_order catalog m.again) []
 
 abbrev pub DriverStartsArePrinted : Type 0
 DriverStartsArePrinted =
@@ -69,4 +70,5 @@ abbrev pub BootsPrintStarts : Type 0
 BootsPrintStarts =
     (board : Board) (catalog : Catalog) (fuel : ℕ)
     → let pei = pei_end board catalog fuel in
-    TellStarts (boot_lines board catalog fuel) (in_order catalog pei.started) (in_order catalog pei.again) (in_order catalog (drivers_behind catalog fuel pei pei.ended))
+    let drivers = drivers_behind catalog fuel pei pei.ended in
+    TellStarts (boot_lines board catalog fuel) (in_order catalog pei.started) (in_order catalog pei.again) (in_order catalog drivers)

@@ -1,5 +1,6 @@
 -- The scheduled queue keeps its order. A step puts new drivers behind those that stand in it, or its head leaves it and starts.
--- So what stands in a queue starts in that order, one driver next to the other, whatever is discovered meanwhile; and a companion starts beside the driver that it names, with nothing but companions of either between them.
+-- So what stands in a queue starts in that order, one driver next to the other, whatever is discovered meanwhile.
+-- A companion starts beside the driver that it names, with nothing but companions of either between them.
 -- PI 1.8, volume 2, "DXE Dispatcher", and BEFORE and AFTER in "Dependency Expressions".
 use Rattle.std.specs.Prelude.{◌≡◌, ◌⊎◌, ℕ, true, List, [], ◌∷◌, ◌++◌, reverse}
 use Rattle.catalog_model.specs.declared.catalog.Catalog.{Catalog}
@@ -68,7 +69,8 @@ QueuesStartInOrder =
     (catalog : Catalog) → AreNumbered 0 catalog.volumes → (fuel steps more : ℕ) (s : StoreState) (actions : ℕ)
     → let m = machine_after catalog fuel steps s actions in StartsInOrder m.scheduled m (dxe_run catalog fuel more m)
 
--- two drivers that stand beside one another in the group that a machine schedules start so: wherever the second has started later, the first has started before it, and between them only companions of either
+-- two drivers that stand beside one another in the group that a machine schedules start so:
+-- wherever the second has started later, the first has started before it, and between them only companions of either
 abbrev pub CompanionsStartBeside : Type 0
 CompanionsStartBeside =
     (catalog : Catalog) → AreNumbered 0 catalog.volumes → (fuel steps more : ℕ) (s : StoreState) (actions first second : ℕ)

@@ -1,4 +1,4 @@
--- A call of a PEI script that is refused changes nothing: no HOB, PPI, notification or queued pair, no register, and nothing else that the machine keeps.
+-- A call of a PEI script that is refused changes no HOB, PPI, notification or queued pair, no register, and nothing else of the machine.
 -- The action is counted, the call's line is printed with its status alone, and the script goes on behind it with that status.
 -- PI 1.8, volume 1, "PEI Services": what a service's status codes leave.
 use Rattle.std.specs.Prelude.{◌≡◌, ◌≢◌, ℕ, ◌+◌, false, true, List, [], ◌∷◌, ◌++◌, nat_le, ⊤}
@@ -25,7 +25,8 @@ pub record HasStoreOf (old new : StoreState) : Type 0 where
   pub others : new ≡ old
 
 -- what a refused call leaves, of a machine whose top frame called
-pub record IsRefusedCall (old : PeiMachine) (frame : Frame) (below : List Frame) (name : CallName) (status : Word) (new : PeiMachine) : Type 0 where
+pub record IsRefusedCall (old : PeiMachine) (frame : Frame) (below : List Frame) (name : CallName) (status : Word)
+    (new : PeiMachine) : Type 0 where
   pub store : HasStoreOf old.store new.store
   pub volumes : new.reported ≡ old.reported
   pub starts : (new.started ≡ old.started) × (new.shadows ≡ old.shadows) × (new.again ≡ old.again) × (new.cursor ≡ old.cursor)
@@ -35,7 +36,8 @@ pub record IsRefusedCall (old : PeiMachine) (frame : Frame) (below : List Frame)
   pub line : new.lines ≡ old.lines ++ L.Call name status X.Nothing ∷ []
   pub goes_on : new.ended ≡ old.ended
 
--- the same by what the action does: a call of the store is refused by another status than Success, and a registration for shadow where the module has registered
+-- the same by what the action does: a call of the store is refused by another status than Success,
+-- and a registration for shadow where the module has registered
 abbrev pub LeavesIfRefused : PeiMachine → Frame → List Frame → Effect → PeiMachine → Type 0
 LeavesIfRefused old frame below (Called name reply) new = reply.status ≢ Success → IsRefusedCall old frame below name reply.status new
 LeavesIfRefused old frame below (Own Shadowed) new =
