@@ -1,3 +1,4 @@
+mod Bearers
 mod EachFacts
 mod Files
 mod HeldScripts

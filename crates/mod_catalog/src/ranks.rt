@@ -1,90 +1,132 @@
 // The ranks of a volume's files, which an a priori list gives them.
-ghost use Rattle.std.specs.Prelude.{◌≡◌, ◌≤◌, ◌<◌, ◌++◌, ◌∷◌, [], List, length, IfOk, OnOk};
+ghost use Rattle.std.specs.Prelude.{◌≡◌, ◌≤◌, ◌<◌, ◌+◌, ◌++◌, ◌∷◌, ℕ, [], None, List, length, replicate, slice_index_or, IfOk, OnOk};
 ghost use Rattle.pi_base.specs.declared.guid.Guid.{Guid as Name};
 ghost use Rattle.pi_base.specs.declared.phase.Phase.{Phase as OfPhase};
 ghost use Rattle.fv_volume.specs.declared.file.FfsFile.{FfsFile as File};
 ghost use Rattle.fv_volume.specs.declared.search.TheConstants.{MOST_FILES};
 ghost use Rattle.catalog_model.specs.APriori.{guids_in, rank_of};
-ghost use Rattle.mod_catalog.specs.Ranks.{AreBearers, AreFew, ArePlaces, AreKept, HoldRanks, GiveRanks, known, bears};
+ghost use Rattle.mod_catalog.specs.Ranks.{AreBearers, AreOfSome, AreKept, HoldRanks, GiveRanks};
 
 use crate::file_type::has_part;
 use fv_volume::FfsFile;
 use guid_map::GuidMap;
-use pi_base::{GUID_LEN, Guid, OutOfMemory, Phase};
+use pi_base::{GUID_LEN, Guid, OutOfMemory, Phase, Seq};
 use std::alloc::Global;
 
-/// The files that names stand for, and the names that an a priori list keeps.
-#[derive(Drop)]
-pub(crate) struct Ranks {
-    /// Of each name, the offset of the file that it stands for.
-    pub(crate) bearers: GuidMap<u64>,
-    /// Of each name that is kept, its place among them.
-    pub(crate) places: GuidMap<u32>,
+/// The file that a name stands for.
+#[derive(Clone, Copy)]
+pub(crate) struct Bearer {
+    /// Its index among the volume's files.
+    pub(crate) index: u32,
+    /// Its offset in the volume.
+    pub(crate) at: u64,
 }
 
-/// The names of a list that are kept so far.
+/// The files that names stand for, and which of them an a priori list gives a rank.
+#[derive(Drop)]
+pub(crate) struct Ranks {
+    /// Of each name, the file that it stands for.
+    pub(crate) bearers: GuidMap<Bearer>,
+    /// Of each file by index, its place among the names that are kept.
+    pub(crate) places: Seq<Option<u32>>,
+}
+
+/// The names of a list that are kept so far: of each file by index the place of its name.
 #[derive(Drop)]
 pub(crate) struct Kept {
-    pub(crate) places: GuidMap<u32>,
+    pub(crate) places: Seq<Option<u32>>,
     pub(crate) count: u32,
 }
 
 // A file before others: its name stands for it, where it has a part.
-fn add_bearer(bearers: &mut GuidMap<u64>, file: &FfsFile, phase: Phase) -> Result<(), OutOfMemory>
-    ensures { OnOk result ((files : List File) → AreBearers phase files bearers.old → AreBearers phase (file.now ∷ files) bearers.new) }
+fn add_bearer(
+    bearers: &mut GuidMap<Bearer>,
+    file: &FfsFile,
+    index: u32,
+    phase: Phase,
+) -> Result<(), OutOfMemory>
+    ensures { OnOk result ((files : List File) → AreBearers phase (index + 1) files bearers.old
+        → AreBearers phase index (file.now ∷ files) bearers.new) }
 {
     if has_part(phase, file.kind) {
-        bearers.insert(file.name, file.at)
+        let bearer = Bearer { index, at: file.at };
+        bearers.insert(file.name, bearer)
     } else {
         Ok(())
     }
 }
 
 // The files that names stand for.
-fn bearers_of(alloc: Global, files: &[FfsFile], phase: Phase) -> Result<GuidMap<u64>, OutOfMemory>
-    ensures { IfOk result (AreBearers phase files.now) }
+fn bearers_of(
+    alloc: Global,
+    files: &[FfsFile],
+    phase: Phase,
+) -> Result<GuidMap<Bearer>, OutOfMemory>
+    requires { length files.now ≤ MOST_FILES }
+    ensures { IfOk result (AreBearers phase 0 files.now) }
 {
     let mut bearers = GuidMap::new(alloc);
     let mut index = files.len();
     'files: while index > 0 {
         index -= 1;
-        add_bearer(&mut bearers, &files[index], phase)?;
+        add_bearer(&mut bearers, &files[index], index as u32, phase)?;
     }
     Ok(bearers)
 }
 
-// One name of a list more: it is kept where it stands for a file, for the first time.
-fn keep(kept: &mut Kept, bearers: &GuidMap<u64>, name: Guid) -> Result<(), OutOfMemory>
-    requires { kept.old.count < u32.MAX }
-    ensures { OnOk result ((list : List Name) → AreKept (known bearers.now) list kept.old
-        → AreKept (known bearers.now) (list ++ name ∷ []) kept.new) }
+// A table in which no file has a place.
+fn no_places(alloc: Global, files: usize) -> Result<Seq<Option<u32>>, OutOfMemory>
+    ensures { IfOk result (λ places. places ≡ replicate files None) }
 {
-    if !bearers.contains_key(&name) {
-        return Ok(());
+    match vec![in alloc; None; files] {
+        Ok(places) => Ok(Seq::from_vec(places)),
+        Err(_) => Err(OutOfMemory),
     }
-    if kept.places.contains_key(&name) {
-        return Ok(());
-    }
-    kept.places.insert(name, kept.count)?;
-    kept.count += 1;
-    Ok(())
 }
 
-// The places of the names that a list keeps.
+// The place that a table has at an index.
+fn place_at(places: &[Option<u32>], index: u32) -> Option<u32>
+    ensures { result ≡ slice_index_or places.now index None }
+{
+    match places.get(index as usize) {
+        Some(place) => *place,
+        None => None,
+    }
+}
+
+// One name of a list more: the file that it stands for has the next place, where it has none yet.
+fn keep(kept: &mut Kept, bearers: &GuidMap<Bearer>, name: Guid)
+    requires few { kept.old.count < u32.MAX }
+    requires borne { AreOfSome bearers.now (length kept.old.places) }
+    ensures kept { (list : List Name) → AreKept bearers.now list kept.old → AreKept bearers.now (list ++ name ∷ []) kept.new }
+    ensures len { length kept.new.places ≡ length kept.old.places }
+{
+    let Some(bearer) = bearers.get(&name) else {
+        return;
+    };
+    if place_at(kept.places.as_slice(), bearer.index).is_some() {
+        return;
+    }
+    kept.places.set(bearer.index as usize, Some(kept.count));
+    kept.count += 1;
+}
+
+// The places that a list gives so many files.
 fn places_of(
     alloc: Global,
-    bearers: &GuidMap<u64>,
+    bearers: &GuidMap<Bearer>,
+    files: usize,
     list: &[u8],
-) -> Result<GuidMap<u32>, OutOfMemory>
-    requires { AreFew bearers.now }
-    ensures { IfOk result (ArePlaces (known bearers.now) (guids_in list.now)) }
+) -> Result<Seq<Option<u32>>, OutOfMemory>
+    requires borne { AreOfSome bearers.now files }
+    ensures { IfOk result (λ places. (count : ℕ) × AreKept bearers.now (guids_in list.now) (record { places = places; count = count })) }
 {
     let mut kept = Kept {
-        places: GuidMap::new(alloc),
+        places: no_places(alloc, files)?,
         count: 0,
     };
     'names: for index in 0..list.len() / GUID_LEN {
-        keep(&mut kept, bearers, Guid::at(list, GUID_LEN * index))?;
+        keep(&mut kept, bearers, Guid::at(list, GUID_LEN * index));
     }
     Ok(kept.places)
 }
@@ -103,30 +145,21 @@ pub(crate) fn ranks_of(
         return Ok(None);
     }
     let bearers = bearers_of(alloc, files, phase)?;
-    let places = places_of(alloc, &bearers, list)?;
+    let places = places_of(alloc, &bearers, files.len(), list)?;
     Ok(Some(Ranks { bearers, places }))
 }
 
 impl Ranks {
-    // Whether the name of a file stands for it.
-    fn bears(&self, file: &FfsFile) -> bool
-        ensures { result ≡ bears self.now.bearers file.now }
-    {
-        match self.bearers.get(&file.name) {
-            Some(at) => at == file.at,
-            None => false,
-        }
-    }
-
-    // The rank of a file of the volume.
+    // The rank of a file of the volume: the place of its name, where the name stands for it.
     fn rank_of(&self, file: &FfsFile) -> Option<u32>
         ensures { (phase : OfPhase) (files : List File) (list : List Name) → HoldRanks phase files list self.now
             → result ≡ rank_of phase files list file.now }
     {
-        if self.bears(file) {
-            self.places.get(&file.name)
-        } else {
-            None
+        match self.bearers.get(&file.name) {
+            Some(bearer) if bearer.at == file.at => {
+                place_at(self.places.as_slice(), bearer.index)
+            }
+            _ => None,
         }
     }
 }
