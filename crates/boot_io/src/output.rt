@@ -32,7 +32,7 @@ fn flush_whole<W: Write + Drop>(buffer: &mut BufWriter<W>) -> Result<(), SinkFau
 impl<W: Write + Drop> RealSink<BufWriter<W>> {
     /// A sink whose text leaves by `to` in pieces of 64 KiB, and the last of it with `finish`.
     pub fn buffered(alloc: Global, to: W) -> Result<RealSink<BufWriter<W>>, OutOfMemory>
-        ensures text { IfOk result (λ sink. Keeps (W.contents to) (writer_contents W.contents sink.to)) }
+        ensures text { IfOk result (λ sink. writer_contents W.contents sink.to ≡ W.contents to) }
         ensures faults { IfOk result (λ sink. sink.faults ≡ 0) }
     {
         match BufWriter::with_capacity(alloc, PIECE_LEN, to) {

@@ -53,3 +53,6 @@ mod EffectFacts
 mod RunFacts
 mod PeiLicences
 mod PlanBoards
+mod RefusedCalls
+mod QueueOrder
+mod PrintedStarts

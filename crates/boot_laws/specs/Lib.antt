@@ -13,3 +13,6 @@ pub mod RunFacts
 pub mod Boards
 pub mod DriverSteps
 pub mod UnrequestedDrivers
+pub mod RefusedCalls
+pub mod QueueOrder
+pub mod PrintedStarts

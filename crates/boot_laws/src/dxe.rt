@@ -4,6 +4,8 @@ ghost use Rattle.boot_laws.specs.DriverLicences.{DriversStartLicensed};
 ghost use Rattle.boot_laws.specs.DriverStarts.{DriversStartOnce};
 ghost use Rattle.boot_laws.specs.DriverSteps.{DriverStepsGrow, DriversAreFew, RefusedCallsChangeNothing};
 ghost use Rattle.boot_laws.specs.GroupUnfolds.{GroupsAreSmall, GroupsUnfold};
+ghost use Rattle.boot_laws.specs.PrintedStarts.{DriverStartsArePrinted};
+ghost use Rattle.boot_laws.specs.QueueOrder.{CompanionsStartBeside, QueuesKeepTheirOrder, QueuesStartInOrder};
 ghost use Rattle.boot_laws.specs.RunsEnd.{DxeRunsEnd};
 ghost use Rattle.boot_laws.specs.UnrequestedDrivers.{UnrequestedDriversWait};
 
@@ -55,4 +57,24 @@ pub fn drivers_are_few()
 /// In a run of DXE a driver with SOR that nobody requested waits, unless it has a place in its volume's a priori list.
 pub fn unrequested_drivers_wait()
     ensures { UnrequestedDriversWait }
+{}
+
+/// In a run of DXE a step puts new drivers behind those that are scheduled, or the head of the queue leaves it and starts.
+pub fn queues_keep_their_order()
+    ensures { QueuesKeepTheirOrder }
+{}
+
+/// So what stands in the queue starts in that order, and nothing starts between.
+pub fn queues_start_in_order()
+    ensures { QueuesStartInOrder }
+{}
+
+/// A companion starts beside the driver that its BEFORE or AFTER names: between the two start only companions of either.
+pub fn companions_start_beside()
+    ensures { CompanionsStartBeside }
+{}
+
+/// The lines of a run of DXE tell the starts of its machine, in their order.
+pub fn driver_starts_are_printed()
+    ensures { DriverStartsArePrinted }
 {}

@@ -11,8 +11,9 @@ mod whole_boot;
 
 pub use boards::{boards_are_sound, boots_are_licensed, boots_have_facts};
 pub use dxe::{
-    discovered_order_has_each_once, driver_steps_grow, drivers_are_few, drivers_start_licensed,
-    drivers_start_once, dxe_runs_end, groups_are_small, groups_unfold,
+    companions_start_beside, discovered_order_has_each_once, driver_starts_are_printed,
+    driver_steps_grow, drivers_are_few, drivers_start_licensed, drivers_start_once, dxe_runs_end,
+    groups_are_small, groups_unfold, queues_keep_their_order, queues_start_in_order,
     refused_calls_change_nothing, unrequested_drivers_wait,
 };
 pub use guids::{guids_are_there, guids_are_these, guids_change};
@@ -21,11 +22,12 @@ pub use order::{
     reported_volumes_differ,
 };
 pub use pei::{
-    licensed_run, moves_change_nothing, opening_has_facts, pei_runs_end, run_has_facts,
-    starts_at_most_once, step_has_facts,
+    licensed_run, moves_change_nothing, opening_has_facts, pei_runs_end,
+    refused_pei_calls_change_nothing, run_has_facts, starts_are_printed, starts_at_most_once,
+    step_has_facts,
 };
 pub use sound::{
     actions_are_sound, core_sweeps_are_sound, matches_are_sound, opening_is_sound, pops_are_sound,
     replies_are_sound, starts_keep_sound, steps_keep_sound, sweeps_stay,
 };
-pub use whole_boot::boots_end;
+pub use whole_boot::{boots_end, boots_print_starts};

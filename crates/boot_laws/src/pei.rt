@@ -1,5 +1,7 @@
 //! Laws of the machine of PEI, each on a function without a body.
 ghost use Rattle.boot_laws.specs.Moves.{MovesChangeNothing};
+ghost use Rattle.boot_laws.specs.PrintedStarts.{StartsArePrinted};
+ghost use Rattle.boot_laws.specs.RefusedCalls.{RefusedPeiCallsChangeNothing};
 ghost use Rattle.boot_laws.specs.RunFacts.{OpeningHasFacts, StepHasFacts, RunHasFacts};
 ghost use Rattle.boot_laws.specs.RunsEnd.{PeiRunsEnd};
 ghost use Rattle.boot_model.specs.Licence.{IsLicensedRun, StartsAtMostOnce};
@@ -55,4 +57,14 @@ pub fn licensed_run()
 /// In a run of PEI no part starts twice, but one that registered for shadow, and that one after the move.
 pub fn starts_at_most_once()
     ensures { StartsAtMostOnce }
+{}
+
+/// A call of a PEI script that is refused changes no HOB, PPI, notification, queued pair or register: its line is printed, and the script has its status.
+pub fn refused_pei_calls_change_nothing()
+    ensures { RefusedPeiCallsChangeNothing }
+{}
+
+/// The lines of a run of PEI tell the starts of its machine, first and second ones, in their order.
+pub fn starts_are_printed()
+    ensures { StartsArePrinted }
 {}

@@ -15,7 +15,7 @@ use Rattle.catalog_model.specs.declared.catalog.Module.{Module}
 use Rattle.catalog_model.specs.declared.catalog.PartExpr.TheVariants.{Absent}
 use Rattle.pi_base.specs.WordText.{word_text}
 use Rattle.boot_model.specs.Text.{keyword, licence_text, call_text, reason_text, end_text}
-use Rattle.boot_model.proofs.WorkedBoots.{guid, board, one_volume, peim, script, memory_at, ppi_desc, pei_text, printed}
+use Rattle.boot_model.proofs.WorkedBoots.{guid, board, one_volume, peim, memory_at, ppi_desc, pei_text, printed}
 
 -- a descriptor of a callback and one of a dispatch notification, which run a block
 abbrev callback_desc : ℕ → Guid → ℕ → Action

@@ -1,5 +1,5 @@
 -- The bytes of a state's heap are a HOB list: each HOB is read at its place without a fault, and the next stands behind it.
-use Rattle.std.proofs.Common.{◌≡◌, ◌≢◌, ℕ, ◌+◌, ◌-◌, ◌%◌, ◌≤◌, ◌<◌, ◌^◌, Bool, true, false, cond, List, [], ◌∷◌, ◌++◌, length, take, drop, arith, ap, refl, sym, subst, ◌∙◌, Option, Some, None, Result, Ok, Err, ◌==◌, ◌&&◌, ◌||◌, append_assoc, length-append, length-drop, length-take, sum_by}
+use Rattle.std.proofs.Common.{◌≡◌, ◌≢◌, ℕ, ◌+◌, ◌-◌, ◌%◌, ◌≤◌, ◌<◌, ◌^◌, Bool, true, false, cond, List, [], ◌∷◌, ◌++◌, length, take, drop, arith, ap, refl, sym, subst, ◌∙◌, Option, Some, None, Ok, ◌==◌, ◌&&◌, ◌||◌, append_assoc, length-append, length-drop, length-take, sum_by}
 use Rattle.std.specs.Prelude.{replicate, not, is_some, nat_lt, nat_le}
 use Rattle.std.proofs.lemmas.Bool.Decides.{nat_tests}
 use Rattle.std.proofs.lemmas.List.{drop_at, drop-drop, take_at, take-append-drop}
@@ -7,8 +7,7 @@ use Rattle.std.proofs.lemmas.List.Sums.{sum_by-cons}
 use Rattle.pi_base.proofs.FieldLaws.{little_number-append}
 use Rattle.pi_base.specs.Field.{little_number, ReadsWhatItSpells}
 use Rattle.pi_base.specs.Lists.{Each}
-use Rattle.hob_codec.specs.declared.fault.HobFault.{HobFault}
-use Rattle.hob_codec.specs.declared.fault.HobFault.TheVariants.{Short, Length, Form, NoEnd}
+use Rattle.hob_codec.specs.declared.fault.HobFault.TheVariants.{Short, Length, Form}
 use Rattle.hob_codec.specs.declared.kind.TheConstants.{HANDOFF, ALLOCATION, RESOURCE, NAMED, VOLUME, CPU, POOL, VOLUME2, END}
 use Rattle.hob_codec.specs.declared.list.HobPlace.{HobPlace}
 use Rattle.hob_codec.specs.HobValue.{HobValue}
@@ -22,10 +21,9 @@ use Rattle.store_model.specs.StateFacts.{HasTypesLength, IsBodyOf, IsHobEntry, I
 use Rattle.store_model.specs.HeapImage.{body_bytes, handoff_body, header_bytes, heap_image, hob_list, hobs_bytes}
 use Rattle.heap_laws.specs.Spelling.{AreSpelled, spelled}
 use Rattle.heap_laws.specs.Growing.{front_bytes}
-use Rattle.heap_laws.specs.Word.{short_in}
-use Rattle.heap_laws.specs.HobWalk.{places_from, hob_places, HaveBodies, IsHobListOf, WalksGiveHobs}
+use Rattle.heap_laws.specs.HobWalk.{places_from, hob_places, HaveBodies, WalksGiveHobs}
 use Rattle.heap_laws.proofs.Bodies.{is_spelled}
-use Rattle.heap_laws.proofs.Facts.{bodies_are_spelled, bodies_len, has_room, images_fill}
+use Rattle.heap_laws.proofs.Facts.{bodies_are_spelled, bodies_len}
 use Rattle.heap_laws.proofs.Hobs.{header_tells}
 use Rattle.heap_laws.proofs.Items.{other_is}
 
@@ -176,9 +174,13 @@ walk s heap tail (hob ∷ hobs) at law later e spelt are =
     let to : at + hob_len hob + sum_by hob_len hobs ≡ at + sum_by hob_len (hob ∷ hobs) = omega (arith, c) in
     let from : at + hob_len hob ≡ at + length_at heap at = ap (λ n. at + n) (sym one.length_is) in
     record {
-      leads = (one.place, one.fault, one.goes_on,
-          subst (λ n. Leads heap n (places_from (at + hob_len hob) hobs) (at + sum_by hob_len (hob ∷ hobs))) from
-          (subst (Leads heap (at + hob_len hob) (places_from (at + hob_len hob) hobs)) to rest.leads));
+      leads = (
+        one.place,
+        one.fault,
+        one.goes_on,
+        subst (λ n. Leads heap n (places_from (at + hob_len hob) hobs) (at + sum_by hob_len (hob ∷ hobs))) from
+            (subst (Leads heap (at + hob_len hob) (places_from (at + hob_len hob) hobs)) to rest.leads),
+      );
       bodies = (one.body_is, rest.bodies);
     }
 

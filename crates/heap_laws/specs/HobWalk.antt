@@ -1,4 +1,5 @@
--- The walk over the heap's bytes as over any HOB list: it gives the HOBs of the state and nothing else, the hand-off HOB first, and ends at the end HOB.
+-- The walk over the heap's bytes, as over any HOB list: it gives the HOBs of the state and nothing else, the hand-off HOB first,
+-- and ends at the end HOB.
 -- PI 1.8, volume 3, "HOB List".
 use Rattle.std.specs.Prelude.{◌≡◌, ℕ, ◌+◌, List, [], ◌∷◌, None, ⊤}
 use Rattle.hob_codec.specs.declared.kind.TheConstants.{HANDOFF, END}
@@ -22,7 +23,8 @@ hob_places s = record { at = 0; kind = HANDOFF; length = handoff_len } ∷ place
 -- at each place stands the HOB's body
 abbrev pub HaveBodies : StoreState → List ℕ → ℕ → List HobEntry → Type 0
 HaveBodies s heap at [] = ⊤
-HaveBodies s heap at (hob ∷ hobs) = (body_at heap at ≡ body_bytes s (at + header_len) hob.body) × HaveBodies s heap (at + hob_len hob) hobs
+HaveBodies s heap at (hob ∷ hobs) =
+    (body_at heap at ≡ body_bytes s (at + header_len) hob.body) × HaveBodies s heap (at + hob_len hob) hobs
 
 -- the bytes are a HOB list, whose HOBs are those of the state
 pub record IsHobListOf (s : StoreState) (heap : List ℕ) : Type 0 where

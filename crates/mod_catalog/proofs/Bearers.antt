@@ -1,6 +1,7 @@
 -- The file that a name stands for, as it is looked up.
-use Rattle.std.proofs.Common.{◌≡◌, ◌<◌, ◌≤◌, ℕ, suc, ◌+◌, Bool, true, false, cond, ◌&&◌, ◌==◌, List, [], ◌∷◌, length, find, position, Option, Some, None, is_some, option_map, refl, sym, ap, ◌∙◌, arith}
+use Rattle.std.proofs.Common.{◌≡◌, ◌<◌, ◌≤◌, ℕ, suc, ◌+◌, Bool, true, false, cond, ◌&&◌, ◌==◌, List, [], ◌∷◌, length, position, Option, Some, None, is_some, option_map, refl, sym, ap, ◌∙◌, arith}
 use Rattle.std.specs.Prelude.{slice_index_or}
+use Rattle.std.proofs.lemmas.Bool.Decides.{nat_tests}
 use Rattle.std.proofs.lemmas.Cmp.{nat_list_eq_equiv}
 use Rattle.pi_base.specs.declared.guid.Guid.{Guid}
 use Rattle.pi_base.specs.declared.phase.Phase.{Phase}
@@ -54,7 +55,7 @@ both_left false q e = e
 pub one_name : (phase : Phase) (a c : Guid) (n : ℕ) (files : List FfsFile) (x y : Bearer) → bearer_from phase a n files ≡ Some x → bearer_from phase c n files ≡ Some y → x.index ≡ y.index → same_guid a c ≡ true
 one_name phase a c n [] x y e f same = absurd cc
 one_name phase a c n (file ∷ files) x y e f same =
-    by (same_guid file.name a && has_part phase file.kind) (same_guid file.name c && has_part phase file.kind) refl refl e f
+    by (same_guid file.name a && has_part phase file.kind) (same_guid file.name c && has_part phase file.kind) refl refl (λ p q. one_name phase a c (n + 1) files x y p q same) e f
   where
     made : Bearer
     made = record { index = n; at = file.at }
@@ -66,14 +67,15 @@ one_name phase a c n (file ∷ files) x y e f same =
         omega (arith, first, behind, level)
 
     by : (s t : Bool) → (same_guid file.name a && has_part phase file.kind) ≡ s → (same_guid file.name c && has_part phase file.kind) ≡ t
+        → (bearer_from phase a (n + 1) files ≡ Some x → bearer_from phase c (n + 1) files ≡ Some y → same_guid a c ≡ true)
         → cond s (Some made) (bearer_from phase a (n + 1) files) ≡ Some x → cond t (Some made) (bearer_from phase c (n + 1) files) ≡ Some y → same_guid a c ≡ true
-    by true true p q e f =
+    by true true p q later e f =
         let first : same_guid file.name a ≡ true = both_left (same_guid file.name a) (has_part phase file.kind) p in
         let second : same_guid file.name c ≡ true = both_left (same_guid file.name c) (has_part phase file.kind) q in
         sym (nat_list_eq_equiv.congr file.name.0 a.0 c.0 first) ∙ second
-    by true false p q e f = let is : made ≡ x = cc in absurd (apart c x y is f same)
-    by false true p q e f = let is : made ≡ y = cc in absurd (apart a y x is e (sym same))
-    by false false p q e f = one_name phase a c (n + 1) files x y e f same
+    by true false p q later e f = let is : made ≡ x = cc in absurd (apart c x y is f same)
+    by false true p q later e f = let is : made ≡ y = cc in absurd (apart a y x is e (sym same))
+    by false false p q later e f = later e f
 
 -- whether the file is the one that its name stands for
 borne : (o : Option FfsFile) (b : Option Bearer) (file : FfsFile) → option_map (λ (b : Bearer). b.at) b ≡ option_map (λ (file : FfsFile). file.at) o
@@ -97,3 +99,17 @@ ranked phase files list ranks file (Some b) hold is =
     let test : is_file (bearer phase files file.name) file ≡ (b.at == file.at) = borne (bearer phase files file.name) (Some b) file at in
     let place : slice_index_or ranks.places b.index None ≡ position (same_guid file.name) (kept_names phase files list) = hold.places file.name b is in
     ap (λ t. cond t (position (same_guid file.name) (kept_names phase files list)) None) test ∙ ap (λ p. cond (b.at == file.at) p None) (sym place)
+
+module _ (phase : Phase) (files : List FfsFile) (list : List Guid) (ranks : Ranks) (file : FfsFile) (hold : HoldRanks phase files list ranks) where
+  pub ranked_here : (b : Bearer) → Some b ≡ value_of ranks.bearers file.name → b.at ≡ file.at → slice_index_or ranks.places b.index None ≡ rank_of phase files list file
+  ranked_here b is same =
+      let test : (b.at == file.at) ≡ true = grind (arith, nat_tests) in
+      sym (ranked phase files list ranks file (Some b) hold (sym is) ∙ ap (λ t. cond t (slice_index_or ranks.places b.index None) None) test)
+
+  pub ranked_other : (b : Bearer) → Some b ≡ value_of ranks.bearers file.name → (b.at ≡ file.at → ⊥) → None ≡ rank_of phase files list file
+  ranked_other b is other =
+      let test : (b.at == file.at) ≡ false = grind (arith, nat_tests) in
+      sym (ranked phase files list ranks file (Some b) hold (sym is) ∙ ap (λ t. cond t (slice_index_or ranks.places b.index None) None) test)
+
+  pub ranked_unknown : None ≡ value_of ranks.bearers file.name → None ≡ rank_of phase files list file
+  ranked_unknown is = sym (ranked phase files list ranks file None hold (sym is))

@@ -17,7 +17,7 @@ use Rattle.pi_base.specs.declared.phase.Phase.{Phase}
 use Rattle.catalog_model.specs.FileType.{has_part}
 use Rattle.catalog_model.specs.APriori.{bearer, kept_names}
 use Rattle.catalog_model.proofs.BorneNames.{few_kept as few_kept_names}
-use Rattle.mod_catalog.specs.Ranks.{kept_of, known, AreKept, AreBearers, AreOfSome}
+use Rattle.mod_catalog.specs.Ranks.{kept_of, known, AreKept, ArePlaces, AreBearers, AreOfSome}
 use Rattle.mod_catalog.specs.declared.ranks.Bearer.{Bearer}
 use Rattle.mod_catalog.specs.declared.ranks.Kept.{Kept}
 use Rattle.mod_catalog.proofs.Bearers.{same_some, within_files, one_name}
@@ -215,6 +215,10 @@ same_filter p q (x ∷ xs) same = ap (λ b. cond b (x ∷ filter p xs) (filter p
 pub kept_are : (phase : Phase) (files : List FfsFile) (bearers : List (Guid × Bearer)) (list : List Guid) → AreBearers phase 0 files bearers → kept_of (known bearers) list ≡ kept_names phase files list
 kept_are phase files bearers list are =
     ap (firsts same_guid) (same_filter (known bearers) (λ name. is_some (bearer phase files name)) list (λ name. ap is_some (are name) ∙ same_some phase name 0 files))
+
+pub held : (phase : Phase) (files : List FfsFile) (bearers : List (Guid × Bearer)) (list : List Guid) (kept : Kept) → AreBearers phase 0 files bearers → AreKept bearers list kept
+    → ArePlaces bearers (kept_names phase files list) kept.places
+held phase files bearers list kept are so name b is = so.places name b is ∙ ap (position (same_guid name)) (kept_are phase files bearers list are)
 
 length-filter : {A : Type 0} (p : A → Bool) (xs : List A) → length (filter p xs) ≤ length xs
 length-filter p [] = omega arith

@@ -1,4 +1,4 @@
-use Rattle.std.proofs.Common.{◌≡◌, ◌≤◌, ℕ, ◌*◌, ◌++◌, ◌∷◌, [], List, length, map, sym, ap, ◌∙◌, subst, arith}
+use Rattle.std.proofs.Common.{◌≤◌, ℕ, ◌*◌, ◌++◌, ◌∷◌, [], List, length, map, sym, ap, ◌∙◌, subst, arith}
 use Rattle.pi_base.specs.Guids.{guid_at}
 use Rattle.pi_base.specs.Lists.{numbers}
 use Rattle.pi_base.specs.declared.guid.Guid.{Guid}
@@ -8,7 +8,7 @@ use Rattle.mod_catalog.proofs.ranks.places_of.Goals as goal
 
 pub keep-requires-clause-few : goal.keep-requires-clause-few
 keep-requires-clause-few c =
-    let borne = c.requires in
+    let borne = c.requires.borne in
     let names : List Guid = map (λ index. guid_at c.args.list.now (16 * index)) (numbers 0 c.names.index) in
     let few : length (kept_of (known c.args.bearers.now) names) ≤ length borne.1 = few_kept borne.0 borne.1 c.args.bearers.now names borne.2 in
     omega (arith, c.names.invariant.kept.count, few, borne.3, borne.4)
