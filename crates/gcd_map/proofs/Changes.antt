@@ -8,11 +8,11 @@ use Rattle.gcd_map.specs.declared.state.Effect.{Effect}
 use Rattle.gcd_map.specs.declared.range.GcdRange.{GcdRange}
 use Rattle.gcd_map.specs.AddressSpace.{after_effect}
 use Rattle.gcd_map.specs.Stretch.{AllIn}
-use Rattle.gcd_map.specs.Ranges.{Cover, Differ, BeginsOther, state_of}
+use Rattle.gcd_map.specs.Ranges.{Cover, Differ, state_of}
 use Rattle.gcd_map.specs.Growing.{EndsOther, EndsWith, BeginsWith, Opens, Extends, ExtendsBy, Replaces, after}
 use Rattle.gcd_map.specs.Tests.{base_at}
-use Rattle.gcd_map.proofs.Covers.{below_or, cover_append, Split, cover_split, cover_same, cover_more, base_here}
-use Rattle.gcd_map.proofs.Neighbours.{differ_more, differ_last, differ_append, differ_front, differ_back}
+use Rattle.gcd_map.proofs.Covers.{below_or, Split, cover_split, cover_more, base_here}
+use Rattle.gcd_map.proofs.Neighbours.{differ_more, differ_last}
 
 pub on_ok : {A E : Type 0} (r : Result A E) (P Q : Type 0) → (P → Q) → OnOk r P → OnOk r Q
 on_ok (Ok a) P Q f p = f p

@@ -1,7 +1,7 @@
 -- Ranges in the place of some that a change meets.
-use Rattle.std.proofs.Common.{◌≡◌, ◌⊎◌, inl, inr, ℕ, zero, suc, ◌+◌, ◌<◌, ◌≤◌, List, [], ◌∷◌, ◌++◌, length, take, drop, refl, sym, ap, ◌∙◌, subst, arith}
+use Rattle.std.proofs.Common.{◌≡◌, ◌⊎◌, inl, inr, ℕ, suc, ◌+◌, ◌<◌, ◌≤◌, List, [], ◌∷◌, ◌++◌, length, take, drop, refl, sym, ap, ◌∙◌, subst, arith}
 use Rattle.std.specs.List.{splice}
-use Rattle.std.proofs.lemmas.List.{take-append-drop, drop-drop, drop_all, append-nil, length-drop}
+use Rattle.std.proofs.lemmas.List.{take-append-drop, drop-drop, drop_all, append-nil}
 use Rattle.gcd_map.specs.declared.state.SpaceState.{SpaceState}
 use Rattle.gcd_map.specs.declared.state.Effect.{Effect}
 use Rattle.gcd_map.specs.declared.range.GcdRange.{GcdRange}
@@ -9,7 +9,7 @@ use Rattle.gcd_map.specs.Ranges.{Cover, Differ, BeginsOther, state_of}
 use Rattle.gcd_map.specs.Growing.{BeginsWith, EndsWith, Replaces, after}
 use Rattle.gcd_map.specs.Tests.{base_at, IsRangeOf}
 use Rattle.gcd_map.proofs.Covers.{below_or, cover_append, Split, cover_split, cover_same, base_here, base_drop, begins_low}
-use Rattle.gcd_map.proofs.Neighbours.{differ_append, differ_front, differ_back}
+use Rattle.gcd_map.proofs.Neighbours.{differ_append, differ_back}
 use Rattle.gcd_map.proofs.Changes.{unchanged_below, unchanged_behind, begins_more, Parts, parts}
 
 -- a list that has a last item

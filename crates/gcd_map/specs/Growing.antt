@@ -1,5 +1,5 @@
 -- Lists of ranges that grow at their end, and lists that come in the place of others.
-use Rattle.std.specs.Prelude.{◌≡◌, ◌≢◌, ◌⊎◌, ℕ, ◌+◌, ◌-◌, ◌<◌, ◌≤◌, List, [], ◌∷◌, ◌++◌}
+use Rattle.std.specs.Prelude.{◌≡◌, ◌≢◌, ◌⊎◌, ℕ, ◌+◌, ◌-◌, ◌<◌, List, [], ◌∷◌, ◌++◌}
 use Rattle.gcd_map.specs.declared.state.SpaceState.{SpaceState}
 use Rattle.gcd_map.specs.declared.state.Effect.{Effect}
 use Rattle.gcd_map.specs.declared.range.GcdRange.{GcdRange}
@@ -28,7 +28,8 @@ Opens old from state new base =
 
 -- the list goes on from one address to another with a state
 pub record Extends (old : List GcdRange) (from to : ℕ) (state : SpaceState) (new : List GcdRange) : Type 0 where
-  pub covers : (space : ℕ → SpaceState) (start : ℕ) → Cover space start old from → AllIn space from to (λ s. s ≡ state) → Cover space start new to
+  pub covers : (space : ℕ → SpaceState) (start : ℕ) → Cover space start old from → AllIn space from to (λ s. s ≡ state)
+      → Cover space start new to
   pub differ : Differ old → Differ new
   pub ends : from < to → EndsWith new state
   pub keeps : (first : SpaceState) → BeginsWith old first → BeginsWith new first
@@ -42,16 +43,20 @@ after space base end effect = changed space (record { base = base; len = end - b
 -- the list goes on with a range in which those addresses have changed
 pub record ExtendsBy (old : List GcdRange) (range : GcdRange) (base end : ℕ) (effect : Effect) (new : List GcdRange) : Type 0 where
   pub covers : (space : ℕ → SpaceState) (start : ℕ) → Cover (after space base end effect) start old range.base
-      → AllIn space range.base (range.base + range.len) (λ s. s ≡ state_of range) → Cover (after space base end effect) start new (range.base + range.len)
+      → AllIn space range.base (range.base + range.len) (λ s. s ≡ state_of range)
+      → Cover (after space base end effect) start new (range.base + range.len)
   pub differ : Differ old → Differ new
   pub ends : 0 < range.len → end < range.base + range.len → EndsWith new (state_of range)
   pub keeps : (first : SpaceState) → BeginsWith old first → BeginsWith new first
   pub begins : 0 < range.len → range.base < base → old ≡ [] → BeginsWith new (state_of range)
 
--- ranges in the place of others in which those addresses have changed: the first and the last keep their states, where they begin before the change and end behind it
+-- ranges in the place of others in which those addresses have changed; where the first of the others begins before the change, or the last
+-- ends behind it, its state stands there still
 pub record Replaces (old : List GcdRange) (base end : ℕ) (effect : Effect) (new : List GcdRange) : Type 0 where
   pub covers : (space : ℕ → SpaceState) (from to : ℕ) → Cover space from old to → Cover (after space base end effect) from new to
   pub differ : Differ new
-  pub begins : (first : GcdRange) (rest : List GcdRange) → old ≡ first ∷ rest → 0 < first.len → first.base < base → BeginsWith new (state_of first)
-  pub ends : (front : List GcdRange) (last : GcdRange) → old ≡ front ++ last ∷ [] → 0 < last.len → end < last.base + last.len → EndsWith new (state_of last)
+  pub begins : (first : GcdRange) (rest : List GcdRange) → old ≡ first ∷ rest → 0 < first.len → first.base < base
+      → BeginsWith new (state_of first)
+  pub ends : (front : List GcdRange) (last : GcdRange) → old ≡ front ++ last ∷ [] → 0 < last.len → end < last.base + last.len
+      → EndsWith new (state_of last)
   pub nothing : old ≡ [] → new ≡ []

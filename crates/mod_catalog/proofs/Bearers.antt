@@ -90,12 +90,12 @@ pub ranked : (phase : Phase) (files : List FfsFile) (list : List Guid) (ranks : 
     → rank_of phase files list file ≡ elim found [ None ↦ None | Some b ↦ cond (b.at == file.at) (slice_index_or ranks.places b.index None) None ]
 ranked phase files list ranks file None hold is =
     let at : option_map (λ (b : Bearer). b.at) None ≡ option_map (λ (file : FfsFile). file.at) (bearer phase files file.name) =
-        ap (option_map (λ (b : Bearer). b.at)) (sym is ∙ hold.bearers file.name) ∙ bearer_at phase file.name 0 files in
+    ap (option_map (λ (b : Bearer). b.at)) (sym is ∙ hold.bearers file.name) ∙ bearer_at phase file.name 0 files in
     let no : is_file (bearer phase files file.name) file ≡ false = borne (bearer phase files file.name) None file at in
     ap (λ t. cond t (position (same_guid file.name) (kept_names phase files list)) None) no
 ranked phase files list ranks file (Some b) hold is =
     let at : option_map (λ (b : Bearer). b.at) (Some b) ≡ option_map (λ (file : FfsFile). file.at) (bearer phase files file.name) =
-        ap (option_map (λ (b : Bearer). b.at)) (sym is ∙ hold.bearers file.name) ∙ bearer_at phase file.name 0 files in
+    ap (option_map (λ (b : Bearer). b.at)) (sym is ∙ hold.bearers file.name) ∙ bearer_at phase file.name 0 files in
     let test : is_file (bearer phase files file.name) file ≡ (b.at == file.at) = borne (bearer phase files file.name) (Some b) file at in
     let place : slice_index_or ranks.places b.index None ≡ position (same_guid file.name) (kept_names phase files list) = hold.places file.name b is in
     ap (λ t. cond t (position (same_guid file.name) (kept_names phase files list)) None) test ∙ ap (λ p. cond (b.at == file.at) p None) (sym place)

@@ -1,10 +1,9 @@
-use Rattle.std.proofs.Common.{◌≡◌, ◌⊎◌, ◌+◌, ◌<◌, ◌≤◌, List, length, take, drop, sym, ap, ◌∙◌, subst, arith}
+use Rattle.std.proofs.Common.{◌≡◌, ◌⊎◌, ◌+◌, ◌<◌, List, length, take, drop, sym, ap, ◌∙◌, subst, arith}
 use Rattle.std.specs.List.{splice}
 use Rattle.gcd_map.specs.declared.range.GcdRange.{GcdRange}
 use Rattle.gcd_map.specs.Ranges.{Cover, Differ, DoesFit}
 use Rattle.gcd_map.specs.Growing.{Replaces, after}
 use Rattle.gcd_map.specs.Tests.{base_at, IsRangeOf}
-use Rattle.pi_base.specs.Lists.{Each}
 use Rattle.gcd_map.proofs.Covers.{begins_at_zero}
 use Rattle.gcd_map.proofs.Stretches.{covers_fit, each_drop, each_take}
 use Rattle.gcd_map.proofs.Changes.{on_ok}

@@ -1,4 +1,4 @@
-use Rattle.std.proofs.Common.{◌≤◌, ap, arith}
+use Rattle.std.proofs.Common.{ap, arith}
 use Rattle.gcd_map.specs.SpaceMap.{MapState}
 use Rattle.gcd_map.specs.AddressSpace.{with_change}
 use Rattle.gcd_map.proofs.Shown.{shows_change}

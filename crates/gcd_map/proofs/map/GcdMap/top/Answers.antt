@@ -1,5 +1,4 @@
-use Rattle.std.proofs.Common.{◌≡◌, ◌^◌, List, Some, None, refl, ap, ◌∙◌, arith, rules}
-use Rattle.gcd_map.specs.declared.range.GcdRange.{GcdRange}
+use Rattle.std.proofs.Common.{◌≡◌, ◌^◌, Some, None, refl, ap, ◌∙◌, arith, rules}
 use Rattle.gcd_map.specs.AddressSpace.{state_at, free_of, with_change, allocate_change}
 use Rattle.gcd_map.specs.SpaceMap.{MapState}
 use Rattle.gcd_map.proofs.Highest.{IsTop}
