@@ -1,9 +1,8 @@
 -- The order in which opcodes are written (EDK2, `GenDepex`): an operator waits until all that it binds stands before it. What waits stands on a stack, the last one first.
-use Rattle.std.specs.Prelude.{◌≡◌, ⊤, List, [], ◌∷◌, ◌++◌, Option, Some, None, Result, Ok, Err}
+use Rattle.std.specs.Prelude.{◌≡◌, ◌+◌, ◌≤◌, List, [], ◌∷◌, ◌++◌, Option, Some, None, Result, Ok, Err}
 use Rattle.depex_code.specs.declared.opcode.Opcode.{Opcode}
 use Rattle.depex_code.specs.declared.opcode.Opcode.TheVariants as opcode
 use Rattle.depex_words.specs.declared.fault.ExpressionFault.{ExpressionFault}
-use Rattle.depex_words.specs.declared.fault.ExpressionFault.TheVariants.{Memory}
 use Rattle.depex_words.specs.declared.stack.Waiting.{Waiting}
 use Rattle.depex_words.specs.declared.stack.Waiting.TheVariants as waiting
 use Rattle.depex_words.specs.declared.walk.Stage.{Stage}
@@ -15,7 +14,7 @@ use Rattle.depex_words.specs.declared.token.Operator.{Operator as OperatorWord}
 use Rattle.depex_words.specs.declared.token.Operator.TheVariants as operator
 use Rattle.depex_words.specs.declared.token.Token.{Token}
 use Rattle.depex_words.specs.declared.token.Token.TheVariants.{Leaf, Not, Open, Close, Operator, First, End, Other}
-use Rattle.depex_words.specs.Cause.{tree_cause}
+use Rattle.depex_words.specs.Cause.{IsCause, tree_cause}
 
 abbrev pub leaf_opcode : LeafWord → Opcode
 leaf_opcode leaf.True = opcode.True
@@ -72,13 +71,11 @@ emitted stack Over _ = operators stack
 -- a word more was gone through, or it is the one at fault
 abbrev pub Steps : Walk → Token → Result (Unit {0}) ExpressionFault → Walk → Type 0
 Steps old token (Ok _) new =
-    (rest : List Token) → (tree_cause old.open old.stage (token ∷ rest) ≡ tree_cause new.open new.stage rest)
-    × (old.code ++ emitted old.waiting old.stage (token ∷ rest) ≡ new.code ++ emitted new.waiting new.stage rest)
-Steps old token (Err Memory) new = ⊤
-Steps old token (Err fault) new = (rest : List Token) → tree_cause old.open old.stage (token ∷ rest) ≡ Some fault
+    (new.depth ≤ old.depth + 1) × ((rest : List Token) → (tree_cause old.depth old.stage (token ∷ rest) ≡ tree_cause new.depth new.stage rest)
+    × (old.code ++ emitted old.waiting old.stage (token ∷ rest) ≡ new.code ++ emitted new.waiting new.stage rest))
+Steps old token (Err fault) new = (rest : List Token) → IsCause (tree_cause old.depth old.stage (token ∷ rest)) fault
 
 -- no word is left
 abbrev pub Finishes : Walk → Result (List Opcode) ExpressionFault → Type 0
-Finishes walk (Ok code) = (tree_cause walk.open walk.stage [] ≡ None) × (code ≡ walk.code ++ emitted walk.waiting walk.stage [])
-Finishes walk (Err Memory) = ⊤
-Finishes walk (Err fault) = tree_cause walk.open walk.stage [] ≡ Some fault
+Finishes walk (Ok code) = (tree_cause walk.depth walk.stage [] ≡ None) × (code ≡ walk.code ++ emitted walk.waiting walk.stage [])
+Finishes walk (Err fault) = IsCause (tree_cause walk.depth walk.stage []) fault

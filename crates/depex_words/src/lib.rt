@@ -5,6 +5,7 @@
 mod expression;
 mod fault;
 mod law;
+mod stack;
 mod token;
 mod tree;
 mod walk;

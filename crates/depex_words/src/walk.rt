@@ -1,5 +1,5 @@
 // Going through the words of a tree from left to right.
-ghost use Rattle.std.specs.Prelude.{◌≡◌, ◌+◌, ◌<◌, ◌^◌, [], Some, None, IfOk};
+ghost use Rattle.std.specs.Prelude.{◌≡◌, ◌+◌, ◌≤◌, ◌<◌, ◌^◌, [], Some, None, IfOk};
 ghost use Rattle.depex_words.specs.declared.walk.Stage.TheVariants.{Due, Ended};
 ghost use Rattle.depex_words.specs.declared.fault.ExpressionFault.TheVariants.{Extra};
 ghost use Rattle.depex_words.specs.Emission.{Steps, Finishes, leaf_opcode};
@@ -26,7 +26,7 @@ pub(crate) enum Stage {
 #[derive(Drop)]
 pub(crate) struct Walk {
     waiting: Stack,
-    open: usize,
+    depth: usize,
     stage: Stage,
     code: Seq<Opcode>,
 }
@@ -46,13 +46,13 @@ impl Walk {
     /// No words.
     pub(crate) fn new(alloc: Global) -> Walk
         ensures waiting { result.waiting ≡ [] }
-        ensures open { result.open ≡ 0 }
+        ensures depth { result.depth ≡ 0 }
         ensures stage { result.stage ≡ Due }
         ensures code { result.code ≡ [] }
     {
         Walk {
             waiting: Stack::new(alloc),
-            open: 0,
+            depth: 0,
             stage: Stage::Due,
             code: Seq::new(alloc),
         }
@@ -61,7 +61,7 @@ impl Walk {
     // A word where an operand is due.
     fn begin(&mut self, token: Token) -> Result<(), ExpressionFault>
         requires due { self.old.stage ≡ Due }
-        requires few { self.old.open + 1 < 2 ^ 64 }
+        requires few { self.old.depth + 1 < 2 ^ 64 }
         ensures { Steps self.old token result self.new }
     {
         match token {
@@ -76,7 +76,7 @@ impl Walk {
             }
             Token::Open => {
                 self.waiting.push(Waiting::Bracket)?;
-                self.open += 1;
+                self.depth += 1;
                 Ok(())
             }
             Token::Close | Token::Operator(_) | Token::End => Err(ExpressionFault::NoOperand),
@@ -101,11 +101,11 @@ impl Walk {
         requires ended { self.old.stage ≡ Ended }
         ensures { Steps self.old Token.Close result self.new }
     {
-        if self.open == 0 {
+        if self.depth == 0 {
             return Err(ExpressionFault::Bracket);
         }
         put_operators(&mut self.waiting, &mut self.code)?;
-        self.open -= 1;
+        self.depth -= 1;
         Ok(())
     }
 
@@ -114,7 +114,7 @@ impl Walk {
         requires ended { self.old.stage ≡ Ended }
         ensures { Steps self.old Token.End result self.new }
     {
-        if self.open > 0 {
+        if self.depth > 0 {
             return Err(ExpressionFault::Bracket);
         }
         self.stage = Stage::Over;
@@ -136,9 +136,8 @@ impl Walk {
 
     /// Takes the next word.
     pub(crate) fn take(&mut self, token: Token) -> Result<(), ExpressionFault>
-        requires { self.old.open + 1 < 2 ^ 64 }
+        requires { self.old.depth + 1 < 2 ^ 64 }
         ensures { Steps self.old token result self.new }
-        ensures open { self.new.open ≤ self.old.open + 1 }
     {
         match self.stage {
             Stage::Due => self.begin(token),
@@ -153,13 +152,13 @@ impl Walk {
     {
         let Walk {
             mut waiting,
-            open,
+            depth,
             stage,
             mut code,
         } = self;
         match stage {
             Stage::Due => return Err(ExpressionFault::NoOperand),
-            Stage::Ended if open > 0 => return Err(ExpressionFault::Bracket),
+            Stage::Ended if depth > 0 => return Err(ExpressionFault::Bracket),
             _ => {}
         }
         put_operators(&mut waiting, &mut code)?;
