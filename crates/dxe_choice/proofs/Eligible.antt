@@ -4,7 +4,6 @@ use Rattle.std.specs.Prelude.{◌↔◌, filter, find, slice_get}
 use Rattle.std.specs.Option.{option_and_then, option_eq}
 use Rattle.std.proofs.lemmas.Bool.Decides.{nat_tests}
 use Rattle.catalog_model.specs.declared.catalog.Catalog.{Catalog}
-use Rattle.catalog_model.specs.declared.catalog.PartExpr.TheVariants as E
 use Rattle.catalog_model.specs.Parts.{has_number}
 use Rattle.boot_model.specs.DxeChoice.{is_eligible_driver, is_waiting}
 use Rattle.boot_model.specs.DxeMachine.{DxeMachine}

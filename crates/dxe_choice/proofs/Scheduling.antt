@@ -27,7 +27,7 @@ use Rattle.wait_index.specs.declared.index.WaitIndex.{WaitIndex}
 use Rattle.driver_order.specs.Order.{Drivers}
 use Rattle.wait_index.specs.Index.{IsIndex, IsSame, IsSet, asked, order_in}
 use Rattle.dxe_choice.specs.Choosing.{AllWait, Come, IsNumberOf, Schedules, as_apriori}
-use Rattle.dxe_choice.specs.Index.{IsRequested, Leaves, WaitNoMore, is_among}
+use Rattle.dxe_choice.specs.Index.{IsRequested, Leaves, is_among}
 use Rattle.dxe_choice.specs.Queue.{AreNew, HasProtocol, HasRequest, Queue, HasVolumes, IsDriver, IsQueueFor, IsQueueOf, owed, waits_at}
 use Rattle.dxe_choice.proofs.Machines.{none_before, stands_changed, stands_come, stands_requested, stands_scheduled, stands_settled, untouched_changed, untouched_requested, waiting_same}
 use Rattle.dxe_choice.proofs.Waiting.{leave_then, neither, none_leave}

@@ -1,7 +1,7 @@
 -- A module that has started registers for shadow.
 use Rattle.std.proofs.Common.{◌≡◌, ℕ, ◌<◌, Bool, true, false, cond, List, [], ◌∷◌, ◌++◌, length, refl, sym, ap, ◌∙◌, subst, None}
 use Rattle.pi_base.specs.declared.word.Word.{Word}
-use Rattle.pi_base.specs.declared.word.Word.TheVariants.{Success, AlreadyStarted}
+use Rattle.pi_base.specs.declared.word.Word.TheVariants.{AlreadyStarted}
 use Rattle.std.proofs.lemmas.List.{length-set}
 use Rattle.catalog_model.specs.Parts.{has_number}
 use Rattle.catalog_model.specs.declared.catalog.Catalog.{Catalog}
@@ -13,7 +13,7 @@ use Rattle.boot_model.specs.declared.peim_state.PeimState.{PeimState}
 use Rattle.boot_model.specs.declared.peim_state.PeimState.TheVariants.{NotDispatched, Dispatched, RegisteredForShadow, Done}
 use Rattle.boot_model.specs.PeiMachine.{Frame, PeiMachine, printed}
 use Rattle.boot_model.specs.PeiStep.{past, shadowed}
-use Rattle.boot_model.specs.PeimState.{ArePeimStates, IsPeimState, has_started, state_at}
+use Rattle.boot_model.specs.PeimState.{ArePeimStates, IsPeimState, state_at}
 use Rattle.frames.specs.Frames.{answered}
 use Rattle.pei_core.specs.Cores.{register_status, with_registered}
 use Rattle.pei_core.specs.declared.core_state.Core.{Core}

@@ -1,9 +1,8 @@
 -- No action makes a notification of a module that has not started.
 use Rattle.std.proofs.Common.{◌≡◌, ℕ, zero, suc, ◌+◌, ◌*◌, ◌/◌, ◌^◌, ◌<◌, ◌==◌, ◌&&◌, Bool, true, false, cond, List, [], ◌∷◌, ◌++◌, length, replicate, arith, sym, refl, subst, Option, Some, None, Ok, Err}
 use Rattle.std.specs.Bool.{⊤}
-use Rattle.std.specs.Prelude.{fold, slice_set, nat_lt, not}
+use Rattle.std.specs.Prelude.{fold, nat_lt, not}
 use Rattle.std.specs.Option.{option_and_then}
-use Rattle.std.specs.List.{list_all}
 use Rattle.pi_base.specs.declared.guid.Guid.{Guid}
 use Rattle.pi_base.specs.declared.word.Word.{Word}
 use Rattle.pi_base.specs.declared.word.Word.TheVariants.{InvalidParameter, NotFound}
@@ -11,10 +10,8 @@ use Rattle.pi_base.specs.Lists.{Each}
 use Rattle.act_code.specs.Index.{is_indexed}
 use Rattle.act_code.specs.declared.action.Action.{Action}
 use Rattle.act_code.specs.declared.action.Action.TheVariants as A
-use Rattle.act_code.specs.declared.action.GuidArg.{GuidArg}
 use Rattle.store_model.specs.declared.state.Body.{Body}
 use Rattle.store_model.specs.declared.state.Body.TheVariants.{Bytes, Descriptor, Node, Allocation}
-use Rattle.store_model.specs.declared.state.DescriptorBody.{DescriptorBody}
 use Rattle.store_model.specs.declared.state.HobEntry.{HobEntry}
 use Rattle.store_model.specs.declared.store_handle.Desc.{Desc}
 use Rattle.store_model.specs.declared.store_handle.DescKind.{DescKind}
@@ -25,9 +22,9 @@ use Rattle.store_model.specs.declared.store_handle.StoreFault.{StoreFault}
 use Rattle.store_model.specs.declared.store_handle.Sweep.{Sweep}
 use Rattle.store_model.specs.StoreState.{StoreState, appended, end_place, hob_len, next_body, pool_of, rounded, with_body}
 use Rattle.store_model.specs.MemoryReading.{bytes_at}
-use Rattle.store_model.specs.Service.{Service, in_room}
+use Rattle.store_model.specs.Service.{Service}
 use Rattle.store_model.specs.Service.Pool.{pool, store, written}
-use Rattle.store_model.specs.Service.Descriptor.{desc, desc_of, guid_from, kind_at, offsets}
+use Rattle.store_model.specs.Service.Descriptor.{desc, desc_of, guid_from, kind_at}
 use Rattle.store_model.specs.Service.Install.{install, reinstall, installed, reinstalled, with_ppi, with_pending, install_pairs, install_sweep, reinstall_pairs, reinstall_sweep, renamed}
 use Rattle.store_model.specs.Service.Notify.{notify, notified, with_note, with_note_of, notify_pairs, notify_sweep}
 use Rattle.store_model.specs.Service.Reading.{nth_ppi}
@@ -37,7 +34,7 @@ use Rattle.boot_model.specs.declared.frame.Register.{Register}
 use Rattle.boot_model.specs.declared.line.Extra.{Extra}
 use Rattle.boot_model.specs.PeiMachine.{Frame}
 use Rattle.boot_model.specs.Registers.{pool_in, number_in, descriptor_in, descriptors_in, both}
-use Rattle.boot_model.specs.PeiAction.{Reply, Effect, Wrote, Called, Own, Shadowed, Logged, Skipped, Returned, effect, number_written, answer_reply, sweep_reply, reply_where, set_mode_reply, mode_reply, peek_reply, desc_reply, desc_number, guid_arg, kind_number, install_reply, reinstall_reply, notify_reply, locate_reply, hob_reply, memory_reply, is_memory_type}
+use Rattle.boot_model.specs.PeiAction.{Reply, Effect, Wrote, Called, Own, Logged, Skipped, Returned, effect, number_written, answer_reply, sweep_reply, reply_where, set_mode_reply, mode_reply, peek_reply, desc_reply, desc_number, guid_arg, kind_number, install_reply, reinstall_reply, notify_reply, locate_reply, hob_reply, memory_reply, is_memory_type}
 use Rattle.boot_model.proofs.ListFacts.{each_push}
 use Rattle.pei_action.specs.Needs.{IsArgument}
 use Rattle.pei_action.proofs.Grammar.{block}

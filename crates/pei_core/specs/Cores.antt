@@ -1,6 +1,6 @@
 -- The core behind what it does: a callback or a dispatch notification begins, a module registers for shadow, or starts.
 -- Own.
-use Rattle.std.specs.Prelude.{◌≡◌, ℕ, ◌+◌, ◌-◌, ◌^◌, min, List, [], ◌∷◌, slice_set, Some, None}
+use Rattle.std.specs.Prelude.{ℕ, ◌+◌, ◌-◌, ◌^◌, min, List, [], ◌∷◌, slice_set, Some, None}
 use Rattle.pi_base.specs.declared.word.Word.{Word}
 use Rattle.pi_base.specs.declared.word.Word.TheVariants.{Success, AlreadyStarted}
 use Rattle.store_model.specs.declared.store_handle.Firing.{Firing}
@@ -9,7 +9,6 @@ use Rattle.act_code.specs.declared.action.Action.{Action}
 use Rattle.boot_model.specs.declared.peim_state.PeimState.{PeimState}
 use Rattle.boot_model.specs.declared.peim_state.PeimState.TheVariants.{NotDispatched, Dispatched, RegisteredForShadow, Done}
 use Rattle.boot_model.specs.PeiStep.{core_swept, notification_frame, start_frames, swept}
-use Rattle.boot_model.specs.PeimState.{state_at}
 use Rattle.pei_core.specs.declared.core_state.Core.{Core}
 
 abbrev pub with_callback : Core → Firing → Sweep → Core

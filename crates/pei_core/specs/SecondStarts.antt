@@ -23,7 +23,7 @@ lets_again later All number = awaits_second later number
 abbrev pub IsAgain : PeiMachine → PeiMachine → Again → Type 0
 IsAgain m later again = (number : ℕ) → may_start_again later number ≡ (may_start_again m number || lets_again later again number)
 
--- a part in a state registers for shadow, once memory has moved or before: the first time it comes to await its second start, and once memory has moved it may start again
+-- a module in a state registers for shadow: the first time, and once memory has moved, it may start again
 abbrev pub registered_again : PeimState → Bool → ℕ → Again
 registered_again NotDispatched moved number = Nobody
 registered_again Dispatched true number = One number

@@ -23,7 +23,7 @@ pub enum Again {
 }
 
 impl Again {
-    // What it comes to that a module in a state registers, once memory has moved or before.
+    // Whether a module in a state that registers for shadow may start again: the first time, and once memory has moved.
     pub(crate) fn by_registering(state: PeimState, is_moved: bool, number: u32) -> Again
         ensures { result ≡ registered_again state is_moved number }
     {

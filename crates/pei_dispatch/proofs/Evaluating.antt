@@ -1,5 +1,5 @@
 -- How many expressions are evaluated in a turn, and in a run.
-use Rattle.std.proofs.Common.{◌≡◌, ◌≤◌, ℕ, zero, suc, ◌+◌, arith, Option, Some, None, refl, sym, ap, ◌∙◌, length}
+use Rattle.std.proofs.Common.{◌≡◌, ◌≤◌, ℕ, zero, suc, ◌+◌, arith, Option, Some, None, ap, ◌∙◌, length}
 use Rattle.std.specs.Prelude.{sum_by}
 use Rattle.catalog_model.specs.declared.catalog.Catalog.{Catalog}
 use Rattle.boot_model.specs.declared.phase_end.PeiEnd.{PeiEnd}

@@ -4,9 +4,9 @@ use Rattle.wait_index.specs.Index.{order_in}
 use Rattle.dxe_choice.proofs.Waiting.{not_there, place_within, requested_none}
 use Rattle.dxe_choice.proofs.index.admit.Goals as goal
 
-pub gate-requires-clause-within : goal.gate-requires-clause-within
-gate-requires-clause-within c =
-    let at = (c.place_of.ensures.at c.in-Some.place).0 c.in-Some.is in place_within (order_in c.args.index.now) c.in-Some.place c.args.number at
+pub gate-requires : goal.gate-requires
+gate-requires c =
+    let at = (c.place_of.ensures.at c.in-Some.place).0 c.in-Some.is in record { within = place_within (order_in c.args.index.now) c.in-Some.place c.args.number at }
 
 pub returns-in_default : goal.returns-in_default
 returns-in_default c =

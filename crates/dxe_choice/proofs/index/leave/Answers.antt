@@ -4,9 +4,9 @@ use Rattle.wait_index.specs.Index.{order_in}
 use Rattle.dxe_choice.proofs.Waiting.{leaves_none, not_there, place_within}
 use Rattle.dxe_choice.proofs.index.leave.Goals as goal
 
-pub started-requires-clause-within : goal.started-requires-clause-within
-started-requires-clause-within c =
-    let at = (c.place_of.ensures.at c.in-Some.place).0 c.in-Some.is in place_within (order_in c.args.index.now) c.in-Some.place c.args.number at
+pub started-requires : goal.started-requires
+started-requires c =
+    let at = (c.place_of.ensures.at c.in-Some.place).0 c.in-Some.is in record { within = place_within (order_in c.args.index.now) c.in-Some.place c.args.number at }
 
 pub returns-in_default : goal.returns-in_default
 returns-in_default c =

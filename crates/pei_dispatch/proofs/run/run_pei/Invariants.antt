@@ -3,7 +3,7 @@ use Rattle.store_model.specs.StoreState.{Board}
 use Rattle.boot_model.specs.EvaluationBound.{pei_changes}
 use Rattle.boot_model.specs.PeiRun.{pei_opening, pei_bound, pei_end}
 use Rattle.pei_core.specs.Standing.{StandsFor, IsFor}
-use Rattle.pei_dispatch.proofs.Ways.{Run, IsOnTheWay}
+use Rattle.pei_dispatch.proofs.Ways.{IsOnTheWay}
 use Rattle.pei_dispatch.proofs.run.run_pei.Given as goal
 
 -- the core and the queue stand for a machine of the run

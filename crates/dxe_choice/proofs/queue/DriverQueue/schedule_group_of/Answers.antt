@@ -6,12 +6,12 @@ use Rattle.dxe_choice.proofs.Filling.{found_group, group_drivers, group_flags, o
 use Rattle.dxe_choice.proofs.Scheduling.{still_for}
 use Rattle.dxe_choice.proofs.queue.DriverQueue.schedule_group_of.Goals as goal
 
-pub schedule_group-requires-clause-numbers : goal.schedule_group-requires-clause-numbers
-schedule_group-requires-clause-numbers c =
+pub schedule_group-requires : goal.schedule_group-requires
+schedule_group-requires c =
     let m = c.requires.root.0 in
     let flags = c.as_slice.ensures ∙ ap (λ (q : Queue). q.waits) c.self.view_is in
     let found = found_group c.args.catalog.now m c.args.self.now c.args.order.now c.as_slice.result.now c.args.root c.in_ok-group.group c.requires.root.1 flags c.in_ok-group.ensures in
-    group_flags c.args.catalog.now m c.args.self.now c.args.root c.in_ok-group.group found c.requires.made.flags
+    record { numbers = group_flags c.args.catalog.now m c.args.self.now c.args.root c.in_ok-group.group found c.requires.made.flags }
 
 pub returns-clause-row : goal.returns-clause-row
 returns-clause-row c =

@@ -1,9 +1,7 @@
-use Rattle.std.proofs.Common.{◌≡◌, ◌<◌, ℕ, List, [], ◌∷◌, length, refl, sym, ap, ◌∙◌, subst, Err, None}
+use Rattle.std.proofs.Common.{◌≡◌, [], refl, sym, ap, ◌∙◌, subst, None}
 use Rattle.std.specs.Prelude.{map, option_map, if◌then◌else◌}
 use Rattle.store_model.specs.Service.Descriptor.{guid_at}
-use Rattle.pi_base.specs.Lists.{Each}
 use Rattle.boot_model.specs.EventGuids.{placed, taken_place}
-use Rattle.boot_model.specs.MachineFacts.{HoldRegisters}
 use Rattle.boot_model.specs.PeiAction.{Called, Own, Shadowed, Wrote, effect}
 use Rattle.boot_model.specs.PeimState.{state_at}
 use Rattle.boot_model.specs.Registers.{is_success}
@@ -16,7 +14,7 @@ use Rattle.pei_core.proofs.Going.{acts_fail, acts_want, again_as, none_put, part
 use Rattle.pei_core.proofs.SecondStarts.{nobody}
 use Rattle.pei_core.proofs.Shadowing.{shadowed_lets}
 use Rattle.boot_laws.proofs.ActionMoved.{EffectKeeps, effect_keeps}
-use Rattle.boot_model.specs.PeiStep.{after_effect, shadowed}
+use Rattle.boot_model.specs.PeiStep.{after_effect}
 use Rattle.store_model.specs.StoreState.{StoreState}
 use Rattle.pei_core.proofs.Owned.{effect_prints, goal_by, goal_is, installed_are, top_held, top_is, top_started, wrote, wrote_core}
 use Rattle.pei_core.proofs.pei.Pei.act_own.Goals as goal

@@ -1,4 +1,4 @@
-use Rattle.std.proofs.Common.{refl, ap, sym, subst, ◌∙◌, [], ◌∷◌, None, Err}
+use Rattle.std.proofs.Common.{refl, ap, sym, subst, ◌∙◌, []}
 use Rattle.pi_base.specs.declared.word.Word.TheVariants.{Success}
 use Rattle.boot_model.specs.declared.line.Line.TheVariants as L
 use Rattle.boot_model.specs.PeiAction.{status_of}

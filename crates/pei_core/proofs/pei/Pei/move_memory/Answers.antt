@@ -1,7 +1,7 @@
-use Rattle.std.proofs.Common.{append_assoc, refl, ap, sym, subst, ◌∙◌, length, [], ◌∷◌, Err}
+use Rattle.std.proofs.Common.{append_assoc, refl, ap, sym, subst, ◌∙◌, length, [], ◌∷◌}
 use Rattle.std.specs.Io.KnownBytes.{Appends}
 use Rattle.boot_model.specs.declared.line.Line.TheVariants as L
-use Rattle.boot_model.specs.PeiStep.{Moves, core_called, in_case, moved_to}
+use Rattle.boot_model.specs.PeiStep.{Moves, in_case, moved_to}
 use Rattle.boot_model.specs.Text.{line_text}
 use Rattle.store_model.specs.Service.Install.{core_install}
 use Rattle.pei_core.specs.Parts.{called_goal}

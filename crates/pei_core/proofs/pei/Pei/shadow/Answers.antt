@@ -1,4 +1,4 @@
-use Rattle.std.proofs.Common.{ℕ, ◌≡◌, true, refl, ap, sym, subst, ◌∙◌, length, [], ◌∷◌}
+use Rattle.std.proofs.Common.{refl, ap, sym, subst, ◌∙◌, [], ◌∷◌}
 use Rattle.catalog_model.specs.Parts.{has_number}
 use Rattle.boot_io.specs.Sink as Sinks
 use Rattle.boot_model.specs.declared.line.Line.TheVariants as L
@@ -6,7 +6,6 @@ use Rattle.boot_model.specs.declared.line.CallName.TheVariants as C
 use Rattle.boot_model.specs.declared.line.Extra.TheVariants as X
 use Rattle.boot_model.specs.PeimState.{IsPeimState, state_at}
 use Rattle.boot_model.specs.Text.{line_text}
-use Rattle.pei_core.specs.Cores.{with_registered}
 use Rattle.pei_core.specs.Standing.{Has, IsCoreFor}
 use Rattle.pei_core.specs.Steps.{StartsTo}
 use Rattle.pei_core.specs.declared.core_state.Core.{Core}
