@@ -1,2 +1,3 @@
 mod LineLemmas
+mod ReadLemmas
 pub mod PutsLaws
