@@ -1,11 +1,11 @@
 -- The images of volumes, and what stands of a file that is refused.
-use Rattle.std.proofs.Common.{◌≡◌, ◌⊎◌, ◌≤◌, ◌<◌, ℕ, suc, ◌+◌, List, [], ◌∷◌, ◌++◌, length, Option, Some, None, Err, replicate, inl, inr, arith, refl, sym, ap, ◌∙◌, take, drop, get_or, subst}
+use Rattle.std.proofs.Common.{◌≡◌, ◌⊎◌, ◌≤◌, ◌<◌, ℕ, suc, ◌+◌, List, [], ◌∷◌, ◌++◌, length, Option, Some, None, Result, Ok, Err, replicate, inl, inr, arith, refl, sym, ap, ◌∙◌, take, drop, get_or, subst}
 use Rattle.std.specs.Prelude.{All, IfSome}
 use Rattle.std.proofs.lemmas.List.{length-replicate, take_more, drop_more, take-append-drop}
 use Rattle.std.proofs.lemmas.List.Elements.{All-nil, All-cons}
 use Rattle.boot_plan.specs.declared.plan.PlanVolume.{PlanVolume}
 use Rattle.pi_base.specs.Lists.{EachPair}
-use Rattle.plan_files.specs.Reading.{IsRead, IsLong, AreImages, IsMissed, FilesTrail, Lacks}
+use Rattle.plan_files.specs.Reading.{IsRead, IsLong, AreImages, IsMissed, FilesTrail, Lacks, Reads}
 use Rattle.plan_files.specs.declared.reading.NoJob.{NoJob}
 use Rattle.plan_files.specs.declared.reading.NoJob.TheVariants.{Refused, Memory}
 use Rattle.boot_model.specs.declared.line.Line.{Line}
@@ -70,3 +70,10 @@ lacks_up Near Far Names Named start mid now missed Memory up names same h = h �
 pub lacks_fault : (text : List ℕ) (Far : Line → Type 0) (Named : List ℕ → Type 0) (t : FilesTrail) (none : NoJob) → ((line : Line) → IsFaultLine text line → Far line) → t.now ≡ t.before → Parses text (Err none) → Lacks Far Named t none
 lacks_fault text Far Named t (Refused line) up same h = inl (up line h, same)
 lacks_fault text Far Named t Memory up same h = same
+
+-- a reading, told of a longer way
+pub reads_up : {A : Type 0} (Good Whole : A → Type 0) (Near Far : Line → Type 0) (Names Named : List ℕ → Type 0) (start mid now : ℕ) (missed : Option (List ℕ)) (result : Result A NoJob)
+    → ((value : A) → Good value → Whole value) → ((line : Line) → Near line → Far line) → ((name : List ℕ) → Names name → Named name) → mid ≡ start
+    → Reads Good Near Names (record { before = mid; now = now; missed = missed }) result → Reads Whole Far Named (record { before = start; now = now; missed = missed }) result
+reads_up Good Whole Near Far Names Named start mid now missed (Ok value) whole up names same h = (whole value h.0, h.1 ∙ same)
+reads_up Good Whole Near Far Names Named start mid now missed (Err none) whole up names same h = lacks_up Near Far Names Named start mid now missed none up names same h

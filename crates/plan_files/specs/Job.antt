@@ -9,6 +9,20 @@ use Rattle.boot_model.specs.declared.line.Line.TheVariants as L
 use Rattle.plan_files.specs.declared.job.Job.{Job}
 use Rattle.plan_files.specs.Reading.{plan_limit, IsRead, IsLongFile, IsLongVolume, IsReached, AreImages}
 
+-- a plan by its text and the images of its volumes as they are told
+pub record IsJobOf (told : List ℕ → Option (List ℕ)) (text : List ℕ) (job : Job) : Type 0 where
+  pub plan_is : IsPlan text job.plan
+  pub images_are : AreImages told job.plan.volumes job.images
+
+-- the line of the first refusal of a plan's text: its first fault, or the first volume whose file is too long
+pub data IsTextRefusal (told : List ℕ → Option (List ℕ)) (text : List ℕ) (line : Line) : Type 0 where
+  text_refused : (fault : PlanFault) → IsPlanFault text fault → line ≡ L.RefusedPlan fault.line fault.cause → IsTextRefusal told text line
+  text_long : (plan : Plan) → IsPlan text plan → IsLongVolume told plan.volumes line → IsTextRefusal told text line
+
+-- a name of a volume's file to which the reading behind a plan's text comes
+abbrev pub IsNamedIn : (List ℕ → Option (List ℕ)) → List ℕ → List ℕ → Type 0
+IsNamedIn told text name = (plan : Plan) × IsPlan text plan × IsReached told plan.volumes name
+
 -- a plan by its file and the images of its volumes, all as they are told
 pub record IsJob (told : List ℕ → Option (List ℕ)) (name : List ℕ) (job : Job) : Type 0 where
   pub content : List ℕ

@@ -3,7 +3,7 @@ ghost use Rattle.std.specs.Prelude.{◌≡◌, ◌≤◌, ℕ, List, All, IfOk, 
 ghost use Rattle.boot_plan.specs.PlanText.{IsPlan, IsPlanFault};
 ghost use Rattle.boot_plan.specs.Range.{IsName, IsPlanInRange, IsVolumeInRange};
 ghost use Rattle.boot_plan.specs.declared.fault.PlanFault.{PlanFault as OfPlanFault};
-ghost use Rattle.plan_files.specs.Job.{IsJob, IsNamed, IsRefusal};
+ghost use Rattle.plan_files.specs.Job.{IsJob, IsJobOf, IsNamed, IsNamedIn, IsRefusal, IsTextRefusal};
 ghost use Rattle.plan_files.specs.Parsing.{Parses};
 ghost use Rattle.plan_files.specs.Reading.{AreImages, IsLongVolume, IsReached, Reads};
 
@@ -16,7 +16,7 @@ use std::alloc::Global;
 use std::str;
 
 /// The longest plan, in bytes.
-const PLAN_LIMIT: usize = 0x1_0000;
+pub const PLAN_LIMIT: usize = 0x1_0000;
 
 /// The longest file of a volume, in bytes.
 const VOLUME_LIMIT: usize = 0x400_0000;
@@ -83,6 +83,21 @@ fn read_volumes<F: Files>(
     Ok(images)
 }
 
+/// The plan that a text spells, with the images of its volumes, whose files are read in their order. Or the first refusal on that way.
+pub fn job_of<F: Files>(alloc: Global, text: &[u8], files: &mut F) -> Result<Job, NoJob>
+    requires { length text.now ≤ 0x10000 }
+    ensures same { (other : List ℕ) → F.told files.new other ≡ F.told files.old other }
+    ensures row { Reads (IsJobOf (F.told files.old) text.now) (IsTextRefusal (F.told files.old) text.now) (IsNamedIn (F.told files.old) text.now)
+        (record { before = F.faults files.old; now = F.faults files.new; missed = F.missed files.new }) result }
+    ensures range { IfOk result (λ job. IsPlanInRange job.plan) }
+    ensures as_many { IfOk result (λ job. length job.images ≡ length job.plan.volumes) }
+    ensures short { IfOk result (λ job. All (λ image. length image ≤ 0x4000000) job.images) }
+{
+    let plan = plan_of(alloc, text)?;
+    let images = read_volumes(alloc, plan.volumes.as_slice(), files)?;
+    Ok(Job { plan, images })
+}
+
 /// The plan of this name with the images of its volumes: the plan's file is read and then, if it is a plan, the volumes' files in their order, all before any is examined. Or the first refusal on that way.
 pub fn read_job<F: Files>(alloc: Global, name: &str, files: &mut F) -> Result<Job, NoJob>
     ensures same { (other : List ℕ) → F.told files.new other ≡ F.told files.old other }
@@ -93,7 +108,5 @@ pub fn read_job<F: Files>(alloc: Global, name: &str, files: &mut F) -> Result<Jo
     ensures short { IfOk result (λ job. All (λ image. length image ≤ 0x4000000) job.images) }
 {
     let text = read_file(alloc, name, PLAN_LIMIT, files)?;
-    let plan = plan_of(alloc, text.as_slice())?;
-    let images = read_volumes(alloc, plan.volumes.as_slice(), files)?;
-    Ok(Job { plan, images })
+    job_of(alloc, text.as_slice(), files)
 }

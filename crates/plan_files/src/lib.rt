@@ -4,5 +4,5 @@
 mod job;
 mod reading;
 
-pub use job::{Job, read_job};
+pub use job::{Job, PLAN_LIMIT, job_of, read_job};
 pub use reading::{NoJob, read_file};
