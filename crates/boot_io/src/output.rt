@@ -15,7 +15,7 @@ use std::time::{Clock, Duration};
 const PIECE_LEN: usize = 64 * 1024;
 
 // Hands on what a buffer holds back. A call that was interrupted or would have blocked is made again.
-fn flush_whole<W: Write + Drop>(buffer: &mut BufWriter<W>) -> Result<(), SinkFault>
+fn flush_buffer<W: Write + Drop>(buffer: &mut BufWriter<W>) -> Result<(), SinkFault>
     ensures text { Keeps (writer_contents W.contents buffer.old) (writer_contents W.contents buffer.new) }
     ensures empty { OnOk result (writer_buffer buffer.new ≡ []) }
 {
@@ -46,7 +46,7 @@ impl<W: Write + Drop> RealSink<BufWriter<W>> {
         ensures { HasLeftBy result.1 (writer_contents W.contents self.to) (W.contents result.0) }
     {
         let mut buffer = self.into_writer();
-        let flushed = flush_whole(&mut buffer);
+        let flushed = flush_buffer(&mut buffer);
         let (to, _) = buffer.into_parts();
         (to, flushed)
     }

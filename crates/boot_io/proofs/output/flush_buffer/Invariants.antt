@@ -1,6 +1,6 @@
 use Rattle.std.specs.Io.Buffered.{writer_contents}
 use Rattle.std.specs.Io.KnownBytes.{Keeps}
-use Rattle.boot_io.proofs.output.flush_whole.Given as goal
+use Rattle.boot_io.proofs.output.flush_buffer.Given as goal
 
 -- nothing was written meanwhile
 abbrev pub invariant-flushes : goal.invariant-flushes
