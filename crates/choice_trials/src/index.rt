@@ -8,7 +8,7 @@ ghost use Rattle.wait_index.specs.Index.{IsIndex};
 
 use crate::catalogues::{FIRST, Kind, Needs, ONE, PEIMS, Row, SECOND, UNNAMED, catalogue};
 use boot_model::ARCHITECTURAL;
-use catalog_model::{Catalog, well_formed_expressions_are_short};
+use catalog_model::Catalog;
 use depex_code::{Opcode, Steps};
 use pi_base::{Guid, OutOfMemory, Phase};
 use std::alloc::Global;
@@ -55,7 +55,6 @@ enum Deed {
 type Step = (Deed, usize, Option<u32>);
 
 fn apply(index: &mut WaitIndex, deed: Deed)
-    requires { (catalog : OfCatalog) × IsIndex catalog index.old }
     ensures { (catalog : OfCatalog) → IsIndex catalog index.old → IsIndex catalog index.new }
 {
     let places = index.order().len();
@@ -97,7 +96,6 @@ fn next_from<L: Ledger>(
     requires index { IsIndex catalog.now index.old }
     ensures { IsIndex catalog.now index.new }
 {
-    well_formed_expressions_are_short();
     index.settle(catalog, steps);
     if cursor > index.order().len() {
         return None;

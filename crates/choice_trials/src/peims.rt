@@ -60,7 +60,8 @@ fn first_of<L: Ledger>(
     let mut steps = Steps::<L>::new(blank);
     queue.aim(aimed);
     let first = queue.choose(catalog, &mut steps);
-    queue.again(&[]);
+    queue.again(aimed);
+    queue.again_all(&[]);
     queue.changed(&[FIRST], None, false);
     drop(queue);
     Ok(first)

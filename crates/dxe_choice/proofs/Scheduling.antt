@@ -26,7 +26,7 @@ use Rattle.boot_laws.proofs.Queue.{has_behind}
 use Rattle.wait_index.specs.declared.index.WaitIndex.{WaitIndex}
 use Rattle.driver_order.specs.Order.{Drivers}
 use Rattle.wait_index.specs.Index.{IsIndex, IsSame, IsSet, asked, order_in}
-use Rattle.dxe_choice.specs.Choosing.{AllWait, Come, HasIndex, IsNumberOf, Schedules, as_apriori}
+use Rattle.dxe_choice.specs.Choosing.{AllWait, Come, IsNumberOf, Schedules, as_apriori}
 use Rattle.dxe_choice.specs.Index.{IsRequested, Leaves, WaitNoMore, is_among}
 use Rattle.dxe_choice.specs.Queue.{AreNew, HasProtocol, HasRequest, Queue, HasVolumes, IsDriver, IsQueueFor, IsQueueOf, owed, waits_at}
 use Rattle.dxe_choice.proofs.Machines.{none_before, stands_changed, stands_come, stands_requested, stands_scheduled, stands_settled, untouched_changed, untouched_requested, waiting_same}
@@ -283,7 +283,3 @@ changed_owes catalog m guid view queue later is few same =
   where
     sums : (now queue view asks bound : ℕ) → queue ≡ view → now ≤ queue + asks → asks ≡ bound → now ≤ view + bound
     sums now queue view asks bound before few same = omega (arith, before, few, same)
-
--- the index is still that of its catalogue
-pub still_index : (queue later : Queue) {left : ℕ → Bool} → HasIndex queue → WaitNoMore left queue.index later.index → HasIndex later
-still_index queue later h w = (h.0, w.kept h.0 h.1)

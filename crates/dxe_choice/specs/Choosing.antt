@@ -11,7 +11,6 @@ use Rattle.boot_model.specs.DxeMachine.{DxeMachine}
 use Rattle.boot_laws.specs.GroupUnfolds.{IsRoot}
 use Rattle.driver_order.specs.Order.{Drivers, IsOrderOf, first_of, befores_of, afters_of}
 use Rattle.wait_index.specs.Discovery.{HaveCome}
-use Rattle.wait_index.specs.Index.{IsIndex}
 use Rattle.dxe_choice.specs.declared.group.Item.{Item}
 use Rattle.dxe_choice.specs.declared.group.Item.TheVariants as I
 use Rattle.boot_model.specs.declared.licence.Licence.TheVariants as G
@@ -66,10 +65,6 @@ AllWait waits = (number : ℕ) → waits_at waits number ≡ true
 -- there is a flag for this number
 abbrev pub IsNumberOf : Queue → ℕ → Type 0
 IsNumberOf queue number = number < length queue.waits
-
--- the index is that of some catalogue
-abbrev pub HasIndex : Queue → Type 0
-HasIndex queue = (catalog : Catalog) × IsIndex catalog queue.index
 
 -- these drivers wait in the index, and the queue is as before
 pub record Come (catalog : Catalog) (drivers : List ℕ) (old new : Queue) : Type 0 where

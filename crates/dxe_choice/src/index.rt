@@ -1,7 +1,6 @@
 // What the index of the waiting drivers is told of one driver, and what it tells.
 ghost use Rattle.std.specs.Prelude.{◌≡◌, ◌≤◌, ◌+◌};
 ghost use Rattle.catalog_model.specs.WellFormed.{IsWellFormed};
-ghost use Rattle.catalog_model.specs.declared.catalog.Catalog.{Catalog as OfCatalog};
 ghost use Rattle.pi_base.specs.declared.phase.Phase.TheVariants.{Dxe};
 ghost use Rattle.boot_model.specs.DxeChoice as C;
 ghost use Rattle.boot_model.specs.DxeMachine.{DxeMachine};
@@ -10,14 +9,13 @@ ghost use Rattle.wait_index.specs.Index.{IsIndex, IsSame, owed};
 ghost use Rattle.dxe_choice.specs.Aim.{may_be_next};
 ghost use Rattle.dxe_choice.specs.Index.{IsRequested, Leaves};
 
-use catalog_model::{Catalog, well_formed_expressions_are_short};
+use catalog_model::Catalog;
 use depex_code::Steps;
 use std::sync::ledger::Ledger;
 use wait_index::{WaitIndex, next_is_the_first_eligible_driver};
 
 /// A driver waits no more.
 pub(crate) fn leave(index: &mut WaitIndex, number: u32)
-    requires { (catalog : OfCatalog) × IsIndex catalog index.old }
     ensures { Leaves number index.old index.new }
 {
     if let Some(place) = index.place_of(number) {
@@ -27,7 +25,6 @@ pub(crate) fn leave(index: &mut WaitIndex, number: u32)
 
 /// A driver is requested.
 pub(crate) fn admit(index: &mut WaitIndex, number: u32)
-    requires { (catalog : OfCatalog) × IsIndex catalog index.old }
     ensures { IsRequested number index.old index.new }
 {
     if let Some(place) = index.place_of(number) {
@@ -49,7 +46,6 @@ pub(crate) fn first_that_may_start<L: Ledger>(
     ensures same { IsSame index.old index.new }
     ensures few_steps { steps.new + owed index.new ≤ steps.old + owed index.old }
 {
-    well_formed_expressions_are_short();
     next_is_the_first_eligible_driver();
     index.settle(catalog, steps);
     match index.next(0) {
@@ -73,7 +69,6 @@ pub(crate) fn may_start<L: Ledger>(
     ensures same { IsSame index.old index.new }
     ensures few_steps { steps.new + owed index.new ≤ steps.old + owed index.old }
 {
-    well_formed_expressions_are_short();
     index.settle(catalog, steps);
     match index.place_of(number) {
         Some(place) => index.next(place as usize) == Some(place as usize),

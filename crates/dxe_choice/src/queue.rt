@@ -7,7 +7,7 @@ ghost use Rattle.boot_model.specs.DxeChoice.{a_priori_drivers, companion_group, 
 ghost use Rattle.boot_model.specs.DxeChoice as C;
 ghost use Rattle.boot_model.specs.DxeMachine.{DxeMachine};
 ghost use Rattle.dxe_choice.specs.Aim.{aimed, may_be_next};
-ghost use Rattle.dxe_choice.specs.Choosing.{AllWait, Come, HasIndex, IsFilled, IsNumberOf, IsSeenRoot, Schedules, Takes, as_apriori};
+ghost use Rattle.dxe_choice.specs.Choosing.{AllWait, Come, IsFilled, IsNumberOf, IsSeenRoot, Schedules, Takes, as_apriori};
 ghost use Rattle.dxe_choice.specs.Queue.{AreNew, Changes, ComesNext, Discovers, IsDriver, IsNewQueue, IsQueueFor, IsQueueOf, IsSeen, OwesFor, Requests, owed, waits_at};
 ghost use Rattle.boot_model.specs.Licence.{AllDiffer};
 ghost use Rattle.wait_index.specs.Index.{order_in};
@@ -83,7 +83,6 @@ impl DriverQueue {
     // Schedules one driver, which waits no more.
     fn schedule(&mut self, number: u32, licence: Licence) -> Result<(), OutOfMemory>
         requires number { number < length self.old.waits }
-        requires index { HasIndex self.old }
         ensures { OnOk result (Schedules self.old (record { module_number = number; licence = licence } ∷ []) self.new) }
     {
         self.items.push(Scheduled {
@@ -98,7 +97,6 @@ impl DriverQueue {
     // Schedules drivers by their places in an a priori list.
     fn schedule_ranked(&mut self, numbers: &[u32]) -> Result<(), OutOfMemory>
         requires numbers { Each (IsNumberOf self.old) numbers.now }
-        requires index { HasIndex self.old }
         ensures { OnOk result (Schedules self.old (map as_apriori numbers.now) self.new) }
     {
         'numbers: for number in numbers {
@@ -111,7 +109,6 @@ impl DriverQueue {
     fn schedule_volume(&mut self, catalog: &Catalog, volume: u32) -> Result<(), OutOfMemory>
         requires catalog { IsWellFormed catalog.now }
         requires flags { length self.old.waits ≡ length catalog.now.modules }
-        requires index { HasIndex self.old }
         ensures { OnOk result (Schedules self.old (a_priori_drivers catalog.now (volume ∷ [])) self.new) }
     {
         let mut parts = Parts::new();
@@ -123,7 +120,6 @@ impl DriverQueue {
     fn schedule_a_priori(&mut self, catalog: &Catalog, volumes: &[u32]) -> Result<(), OutOfMemory>
         requires catalog { IsWellFormed catalog.now }
         requires flags { length self.old.waits ≡ length catalog.now.modules }
-        requires index { HasIndex self.old }
         ensures { OnOk result (Schedules self.old (a_priori_drivers catalog.now volumes.now) self.new) }
     {
         'volumes: for volume in volumes {
@@ -166,7 +162,6 @@ impl DriverQueue {
 
     /// A driver of a discovered volume is requested: one with SOR starts from now on as its expression lets it.
     pub fn request(&mut self, number: u32)
-        requires made { (catalog : OfCatalog) × IsQueueFor catalog self.old }
         ensures row { (catalog : OfCatalog) → IsQueueFor catalog self.old → Requests catalog self.old number self.new }
         ensures made { (catalog : OfCatalog) → IsQueueFor catalog self.old → IsQueueFor catalog self.new }
         ensures owes { owed self.new ≡ owed self.old }
@@ -176,7 +171,6 @@ impl DriverQueue {
 
     /// A protocol is on a handle now, or on none.
     pub fn change(&mut self, guid: &Guid, there: bool)
-        requires made { (catalog : OfCatalog) × IsQueueFor catalog self.old }
         ensures row { (catalog : OfCatalog) → IsQueueFor catalog self.old → Changes catalog self.old guid.now there self.new }
         ensures made { (catalog : OfCatalog) → IsQueueFor catalog self.old → IsQueueFor catalog self.new }
         ensures owes { (catalog : OfCatalog) → IsQueueFor catalog self.old → OwesFor catalog self.old guid.now self.new }
@@ -188,7 +182,6 @@ impl DriverQueue {
     // Schedules a group, which is given last driver first, by the expressions of its drivers.
     fn schedule_group(&mut self, catalog: &Catalog, mut group: Seq<u32>) -> Result<(), OutOfMemory>
         requires numbers { Each (IsNumberOf self.old) group }
-        requires index { HasIndex self.old }
         ensures { OnOk result (Schedules self.old (schedule_of catalog.now (reverse group)) self.new) }
     {
         'group: while let Some(number) = group.pop() {

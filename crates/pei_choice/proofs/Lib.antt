@@ -1,3 +1,4 @@
+mod Awaiting
 mod Room
 mod Differing
 pub mod Numbers

@@ -1,6 +1,6 @@
 -- An index is told of one GUID more; and what the queue shows behind all that an event changed.
 use Rattle.std.proofs.Common.{◌≡◌, ℕ, zero, suc, ◌+◌, ◌≤◌, ◌<◌, get_or, take, Bool, true, false, ◌||◌, ◌&&◌, cond, List, [], ◌∷◌, ◌++◌, length, Option, Some, None, arith, refl, ap, sym, subst, ◌∙◌, inl, inr, append_assoc}
-use Rattle.std.specs.Prelude.{◌⊎◌, filter, sum_by, slice_get, unwrap_or, if◌then◌else◌, IfSome}
+use Rattle.std.specs.Prelude.{◌⊎◌, filter, sum_by, slice_get, unwrap_or, IfSome}
 use Rattle.std.specs.Option.{option_to_list}
 use Rattle.std.proofs.lemmas.List.{append-nil}
 use Rattle.std.proofs.lemmas.List.Sums.{sum_by_push}
@@ -17,7 +17,7 @@ use Rattle.boot_model.specs.PeiMachine.{PeiMachine}
 use Rattle.boot_laws.specs.ChangedGuids.{is_among}
 use Rattle.wait_index.specs.declared.index.WaitIndex.{WaitIndex}
 use Rattle.wait_index.specs.declared.standing.Standing.{Standing}
-use Rattle.wait_index.specs.Index.{IsIndex, IsKnown, IsSet, order_in, waits_in, is_open_in, again_in, has_in, owed, asked}
+use Rattle.wait_index.specs.Index.{IsIndex, IsKnown, IsSet, order_in, has_in, owed, asked}
 use Rattle.wait_index.specs.Places.{standing_of, unknown}
 use Rattle.pei_choice.specs.declared.queue.PeiQueue.{PeiQueue}
 use Rattle.pei_choice.specs.Noted.{AreKnown, IsNoted}

@@ -1,7 +1,6 @@
 -- What the queue shows of the machine, behind each of its calls.
-use Rattle.std.proofs.Common.{◌≡◌, ℕ, ◌+◌, ◌≤◌, Bool, true, false, ◌||◌, ◌&&◌, List, [], ◌∷◌, ◌++◌, length, Option, Some, None, arith, refl, ap, sym, subst, ◌∙◌, inl, inr, append_assoc}
+use Rattle.std.proofs.Common.{◌≡◌, ℕ, Bool, true, false, ◌||◌, ◌&&◌, List, [], ◌∷◌, ◌++◌, Some, refl, ap, sym, subst, ◌∙◌, inl, inr, append_assoc}
 use Rattle.std.specs.Prelude.{◌==◌, ◌⊎◌, not, slice_get}
-use Rattle.std.proofs.lemmas.List.{append-nil}
 use Rattle.std.proofs.lemmas.Bool.Decides.{eqb_tells}
 use Rattle.pi_base.specs.declared.guid.Guid.{Guid}
 use Rattle.pi_base.specs.declared.phase.Phase.{Phase}
@@ -23,9 +22,9 @@ use Rattle.wait_index.specs.Index.{IsIndex, IsSame, Changes, order_in, has_in}
 use Rattle.wait_index.specs.Installed.{is_there}
 use Rattle.wait_index.specs.Places.{standing_of}
 use Rattle.pei_choice.specs.declared.queue.PeiQueue.{PeiQueue}
-use Rattle.pei_choice.specs.Queue.{Shows, IsQueueOf, IsInOrder, AreNew, HasStarted}
-use Rattle.pei_choice.specs.View.{View, view_of, first_view, parts_of, with_again, with_guids, with_start, with_volumes}
-use Rattle.pei_choice.proofs.Numbers.{or_right, has_append, has_front, apart}
+use Rattle.pei_choice.specs.Queue.{Shows, IsInOrder, AreNew, HasStarted}
+use Rattle.pei_choice.specs.View.{View, view_of, first_view, is_number, parts_of, with_again, with_start, with_volumes}
+use Rattle.pei_choice.proofs.Numbers.{has_append, has_front, apart}
 use Rattle.pei_choice.proofs.Room.{order_more}
 
 none_in : (xs : List ℕ) (n : ℕ) → xs ≡ [] → has_number xs n ≡ true → ⊥
@@ -168,7 +167,7 @@ shows_started catalog old new view number place shows among at index changes =
 
 -- may start again: where the part has a place
 pub shows_again : (catalog : Catalog) (old new : PeiQueue) (view : View) (number place : ℕ) → Shows catalog old view → HasStarted number view → slice_get (order_in old.index) place ≡ Some number
-    → IsIndex catalog new.index → Changes C.again place old.index new.index → Shows catalog new (with_again (number ∷ []) view)
+    → IsIndex catalog new.index → Changes C.again place old.index new.index → Shows catalog new (with_again (is_number number) view)
 shows_again catalog old new view number place shows started at index changes =
     let turn = turned C.again number place old.index new.index at changes in
     let before : (n : ℕ) → has_number (order_in new.index) n ≡ true → has_number (order_in old.index) n ≡ true = λ n h. ap (λ xs. has_number xs n) (sym turn.order) ∙ h in
@@ -186,7 +185,7 @@ shows_again catalog old new view number place shows started at index changes =
       ];
       allowed = λ n h. elim (eqb_tells number n) [
         | inl same ↦
-            let both : (view.started n && (view.again n || has_number (number ∷ []) n)) ≡ true = all_true (view.started n) (view.again n) (number == n) (ap view.started (sym same.1) ∙ started) same.0 in
+            let both : (view.started n && (view.again n || (number == n))) ≡ true = all_true (view.started n) (view.again n) (number == n) (ap view.started (sym same.1) ∙ started) same.0 in
             ap (λ k. (standing_of new.index.places k).again) (sym same.1) ∙ ap (λ (s : Standing). s.again) turn.here ∙ sym both
         | inr other ↦ ap (λ (s : Standing). s.again) (turn.others n other.1) ∙ shows.allowed n (before n h) ∙ nothing_more (view.started n) (view.again n) (number == n) other.0
       ];
@@ -194,21 +193,20 @@ shows_again catalog old new view number place shows started at index changes =
       within = shows.within;
     }
   where
-    all_true : (s a b : Bool) → s ≡ true → b ≡ true → (s && (a || (b || false))) ≡ true
+    all_true : (s a b : Bool) → s ≡ true → b ≡ true → (s && (a || b)) ≡ true
     all_true true true true e f = refl
     all_true true false true e f = refl
-    all_true true true false e f = refl
-    all_true true false false e f = f
+    all_true true a false e f = absurd (cc)
     all_true false a b e f = absurd (cc)
 
-    nothing_more : (s a b : Bool) → b ≡ false → (s && a) ≡ (s && (a || (b || false)))
+    nothing_more : (s a b : Bool) → b ≡ false → (s && a) ≡ (s && (a || b))
     nothing_more s a true e = absurd (cc)
     nothing_more true true false e = refl
     nothing_more true false false e = refl
     nothing_more false a false e = refl
 
 -- and where it has none, nothing is asked of it
-pub shows_without : (catalog : Catalog) (queue : PeiQueue) (view : View) (number : ℕ) → Shows catalog queue view → (has_number (order_in queue.index) number ≡ true → ⊥) → Shows catalog queue (with_again (number ∷ []) view)
+pub shows_without : (catalog : Catalog) (queue : PeiQueue) (view : View) (number : ℕ) → Shows catalog queue view → (has_number (order_in queue.index) number ≡ true → ⊥) → Shows catalog queue (with_again (is_number number) view)
 shows_without catalog queue view number shows absent = record {
   of_catalog = shows.of_catalog;
   phase = shows.phase;
@@ -223,22 +221,37 @@ shows_without catalog queue view number shows absent = record {
   within = shows.within;
 }
   where
-    nothing_more : (s a b : Bool) → b ≡ false → (s && a) ≡ (s && (a || (b || false)))
+    nothing_more : (s a b : Bool) → b ≡ false → (s && a) ≡ (s && (a || b))
     nothing_more s a true e = absurd (cc)
     nothing_more true true false e = refl
     nothing_more true false false e = refl
     nothing_more false a false e = refl
 
 -- behind the parts so far, one more
-pub again_more : (catalog : Catalog) (queue : PeiQueue) (view : View) (numbers : List ℕ) (number : ℕ) → Shows catalog queue (with_again (number ∷ []) (with_again numbers view))
-    → Shows catalog queue (with_again (numbers ++ number ∷ []) view)
-again_more catalog queue view numbers number shows =
-    shows_alike catalog queue (with_again (number ∷ []) (with_again numbers view)) (with_again (numbers ++ number ∷ []) view) shows refl (λ n. refl)
-    (λ n h. assoc (view.again n) (has_number numbers n) (has_number (number ∷ []) n) ∙ ap (λ b. view.again n || b) (sym (has_append numbers (number ∷ []) n))) (λ guid. refl)
+pub again_more : (catalog : Catalog) (queue : PeiQueue) (view : View) (these more all : ℕ → Bool) → Shows catalog queue (with_again more (with_again these view))
+    → ((n : ℕ) → view.started n ≡ true → (these n || more n) ≡ all n) → Shows catalog queue (with_again all view)
+again_more catalog queue view these more all shows are =
+    shows_alike catalog queue (with_again more (with_again these view)) (with_again all view) shows refl (λ n. refl)
+    (λ n h. assoc (view.again n) (these n) (more n) ∙ ap (λ b. view.again n || b) (are n h)) (λ guid. refl)
   where
     assoc : (a b c : Bool) → ((a || b) || c) ≡ (a || (b || c))
     assoc true b c = refl
     assoc false b c = refl
+
+-- the same parts, by another test
+pub again_same : (catalog : Catalog) (queue : PeiQueue) (view : View) (these all : ℕ → Bool) → Shows catalog queue (with_again these view) → ((n : ℕ) → view.started n ≡ true → these n ≡ all n) → Shows catalog queue (with_again all view)
+again_same catalog queue view these all shows are =
+    shows_alike catalog queue (with_again these view) (with_again all view) shows refl (λ n. refl) (λ n h. ap (λ b. view.again n || b) (are n h)) (λ guid. refl)
+
+-- and where there are none, as before
+pub again_none : (catalog : Catalog) (queue : PeiQueue) (view : View) (these : ℕ → Bool) → Shows catalog queue view → ((n : ℕ) → these n ≡ false) → Shows catalog queue (with_again these view)
+again_none catalog queue view these shows none =
+    shows_alike catalog queue view (with_again these view) shows refl (λ n. refl) (λ n h. or_nothing (view.again n) (these n) (none n)) (λ guid. refl)
+  where
+    or_nothing : (a b : Bool) → b ≡ false → a ≡ (a || b)
+    or_nothing a true e = absurd (cc)
+    or_nothing true false e = refl
+    or_nothing false false e = refl
 
 -- and one volume more behind those so far
 pub volumes_more : (catalog : Catalog) (queue : PeiQueue) (view : View) (volumes : List ℕ) (volume : ℕ) → Shows catalog queue (with_volumes (volume ∷ []) (with_volumes volumes view))

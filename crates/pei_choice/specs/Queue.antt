@@ -1,8 +1,7 @@
 -- The parts of PEI as they are kept, in the index of those that wait, and the cursor.
 -- Own.
-use Rattle.std.specs.Prelude.{◌≡◌, ℕ, ◌+◌, ◌≤◌, Bool, true, not, ◌&&◌, List, ◌++◌, length, sum_by, Option, Some}
+use Rattle.std.specs.Prelude.{◌≡◌, ℕ, ◌+◌, ◌≤◌, Bool, true, not, ◌&&◌, List, ◌++◌, sum_by, Some}
 use Rattle.pi_base.specs.declared.guid.Guid.{Guid}
-use Rattle.pi_base.specs.Lists.{Each}
 use Rattle.pi_base.specs.declared.phase.Phase.TheVariants.{Pei}
 use Rattle.guid_map.specs.GuidMap.{value_of}
 use Rattle.catalog_model.specs.declared.catalog.Catalog.{Catalog}
@@ -11,11 +10,10 @@ use Rattle.boot_model.specs.EvaluationBound.{each_once, pei_asked}
 use Rattle.boot_model.specs.Licence.{AllDiffer}
 use Rattle.boot_model.specs.PeiChoice.{pei_order}
 use Rattle.boot_model.specs.PeiMachine.{PeiMachine}
-use Rattle.boot_laws.specs.ChangedGuids.{is_among}
-use Rattle.wait_index.specs.declared.index.WaitIndex.{WaitIndex}
+use Rattle.boot_model.specs.declared.peim_state.PeimState.{PeimState}
 use Rattle.wait_index.specs.Index.{IsIndex, order_in, waits_in, is_open_in, again_in, has_in, owed}
 use Rattle.pei_choice.specs.declared.queue.PeiQueue.{PeiQueue}
-use Rattle.pei_choice.specs.View.{View, first_view, view_of, parts_of}
+use Rattle.pei_choice.specs.View.{View, awaits_again, first_view, view_of, parts_of}
 
 -- how many expressions have to be evaluated before the next PEIM is told
 abbrev pub owed_by : PeiQueue → ℕ
@@ -54,12 +52,15 @@ pub record IsPlaced (catalog : Catalog) (m : PeiMachine) (queue : PeiQueue) : Ty
 abbrev pub AreNew : List ℕ → View → Type 0
 AreNew volumes view = AllDiffer (view.reported ++ volumes)
 
--- the part has started, or all of these have
+-- the part has started; it has where it awaits its second start; or all of these have
 abbrev pub HasStarted : ℕ → View → Type 0
 HasStarted number view = view.started number ≡ true
 
-abbrev pub HaveStarted : List ℕ → View → Type 0
-HaveStarted numbers view = Each (λ number. view.started number ≡ true) numbers
+abbrev pub HasStartedBy : ℕ → PeimState → View → Type 0
+HasStartedBy number state view = awaits_again state ≡ true → view.started number ≡ true
+
+abbrev pub HaveStarted : (ℕ → Bool) → View → Type 0
+HaveStarted these view = (number : ℕ) → these number ≡ true → view.started number ≡ true
 
 -- the part is in the order
 abbrev pub IsInOrder : Catalog → ℕ → View → Type 0

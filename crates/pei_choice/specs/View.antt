@@ -10,6 +10,9 @@ use Rattle.store_model.specs.Service.Install.{has_ppi}
 use Rattle.boot_model.specs.Eligible.{may_start_again}
 use Rattle.boot_model.specs.PeiChoice.{pei_order}
 use Rattle.boot_model.specs.PeiMachine.{PeiMachine}
+use Rattle.boot_model.specs.PeimState.{state_at}
+use Rattle.boot_model.specs.declared.peim_state.PeimState.{PeimState}
+use Rattle.boot_model.specs.declared.peim_state.PeimState.TheVariants.{NotDispatched, Dispatched, RegisteredForShadow, Done}
 use Rattle.boot_laws.specs.ChangedGuids.{is_among}
 
 -- modules and volumes by their numbers; `again` tells of one that has started whether it may start again
@@ -35,8 +38,26 @@ abbrev pub with_guids : (Guid → Bool) → View → View
 with_guids installed view = record view { has = installed }
 
 -- these parts may start again
-abbrev pub with_again : List ℕ → View → View
-with_again numbers view = record view { again = λ number. view.again number || has_number numbers number }
+abbrev pub with_again : (ℕ → Bool) → View → View
+with_again these view = record view { again = λ number. view.again number || these number }
+
+-- whether a module in a state awaits its second start
+abbrev pub awaits_again : PeimState → Bool
+awaits_again NotDispatched = false
+awaits_again Dispatched = false
+awaits_again RegisteredForShadow = true
+awaits_again Done = false
+
+-- the parts that await their second start, by how far each module has come
+abbrev pub awaits_at : List PeimState → ℕ → Bool
+awaits_at states number = awaits_again (state_at states number)
+
+-- one part, and one where it awaits its second start
+abbrev pub is_number : ℕ → ℕ → Bool
+is_number number other = number == other
+
+abbrev pub is_number_by : ℕ → PeimState → ℕ → Bool
+is_number_by number state other = (number == other) && awaits_again state
 
 -- a part starts, and may not start again
 abbrev pub with_start : ℕ → View → View

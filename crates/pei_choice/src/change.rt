@@ -17,7 +17,6 @@ use wait_index::{WaitIndex, asked_are_those_of_the_bound_in_pei};
 
 // A GUID is installed still, or not any more, if one is given.
 fn take_away(index: &mut WaitIndex, gone: Option<Guid>, is_still_there: bool)
-    requires { (catalog : OfCatalog) × IsIndex catalog index.old }
     ensures { (catalog : OfCatalog) (has : OfGuid → Bool) → IsIndex catalog index.old → IfSome gone (λ guid. has guid ≡ is_still_there)
         → IsNoted catalog has [] (option_to_list gone) index.old index.new }
 {
@@ -28,7 +27,6 @@ fn take_away(index: &mut WaitIndex, gone: Option<Guid>, is_still_there: bool)
 
 // GUIDs are installed.
 fn put_in(index: &mut WaitIndex, guids: &[Guid])
-    requires { (catalog : OfCatalog) × IsIndex catalog index.old }
     ensures { (catalog : OfCatalog) (has : OfGuid → Bool) (before : List OfGuid) → IsIndex catalog index.old
         → Each (λ guid. has guid ≡ true) guids.now
         → AreKnown has before index.old → IsNoted catalog has before guids.now index.old index.new }
@@ -41,7 +39,6 @@ fn put_in(index: &mut WaitIndex, guids: &[Guid])
 impl PeiQueue {
     /// PPIs of these GUIDs are installed now. `gone` is the GUID of a PPI that was taken away, if one was, and `is_still_there` tells whether another PPI has it still.
     pub fn changed(&mut self, there: &[Guid], gone: Option<Guid>, is_still_there: bool)
-        requires { (catalog : OfCatalog) × (view : View) × Shows catalog self.old view }
         ensures shows { (catalog : OfCatalog) (has : OfGuid → Bool)
             → ShowsBehind catalog self.old self.new (λ view. IsEventOf view.has has gone is_still_there there.now) (with_guids has) }
         ensures cursor { self.new.cursor ≡ self.old.cursor }

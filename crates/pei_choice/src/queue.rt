@@ -1,16 +1,16 @@
 //! The parts of PEI that wait, and the next PEIM.
 ghost use Rattle.std.specs.Prelude.{◌≡◌, ◌≤◌, ◌+◌, ◌∷◌, [], true, false, Some, IfOk, length, slice_get};
 ghost use Rattle.catalog_model.specs.declared.catalog.Catalog.{Catalog as OfCatalog};
-ghost use Rattle.catalog_model.specs.declared.limits.TheConstants.{MOST_MODULES};
 ghost use Rattle.catalog_model.specs.Parts.{has_number};
 ghost use Rattle.catalog_model.specs.WellFormed.{IsWellFormed};
 ghost use Rattle.boot_model.specs.PeiChoice.{cursor_behind, next_peim, pei_order, volume_order};
 ghost use Rattle.boot_model.specs.PeiMachine.{PeiMachine};
-ghost use Rattle.pei_choice.specs.Queue.{AreNew, HasStarted, HaveStarted, IsInOrder, IsNewQueue, IsQueueOf, Shows, ShowsBehind, owed_by, parts_in};
-ghost use Rattle.pei_choice.specs.View.{View, with_again, with_start, with_volumes};
+ghost use Rattle.pei_choice.specs.Queue.{AreNew, HasStarted, HasStartedBy, HaveStarted, IsInOrder, IsNewQueue, IsQueueOf, Shows, ShowsBehind, owed_by, parts_in};
+ghost use Rattle.pei_choice.specs.View.{View, awaits_again, awaits_at, is_number, is_number_by, with_again, with_start, with_volumes};
 
 use boot_laws::order_is_of_modules;
-use catalog_model::{Catalog, well_formed_expressions_are_short};
+use boot_model::{PeimState, state_of};
+use catalog_model::Catalog;
 use depex_code::Steps;
 use phase_parts::Parts;
 use pi_base::{OutOfMemory, Phase};
@@ -25,10 +25,20 @@ pub struct PeiQueue {
     pub(crate) cursor: usize,
 }
 
+// Whether a module that has come so far awaits its second start.
+fn awaits_again(state: PeimState) -> bool
+    ensures { result ≡ awaits_again state }
+{
+    match state {
+        PeimState::RegisteredForShadow => true,
+        _ => false,
+    }
+}
+
 impl PeiQueue {
     /// The queue where no volume is reported and nothing has started. It alone takes memory.
     pub fn build(alloc: Global, catalog: &Catalog) -> Result<PeiQueue, OutOfMemory>
-        requires few { length catalog.now.modules ≤ MOST_MODULES }
+        requires catalog { IsWellFormed catalog.now }
         ensures { IfOk result (IsNewQueue catalog.now) }
     {
         Ok(PeiQueue {
@@ -39,7 +49,7 @@ impl PeiQueue {
 
     // One more volume: its ranked parts by rank, then the others by place.
     fn report_one(&mut self, catalog: &Catalog, volume: u32)
-        requires few { length catalog.now.modules ≤ MOST_MODULES }
+        requires catalog { IsWellFormed catalog.now }
         requires new { (view : View) × Shows catalog.now self.old view × AreNew (volume ∷ []) view }
         ensures shows { ShowsBehind catalog.now self.old self.new (AreNew (volume ∷ [])) (with_volumes (volume ∷ [])) }
         ensures cursor { self.new.cursor ≡ self.old.cursor }
@@ -54,7 +64,7 @@ impl PeiQueue {
 
     /// Volumes are reported that were not yet: each with its ranked parts by rank, then its others by place.
     pub fn report(&mut self, catalog: &Catalog, volumes: &[u32])
-        requires few { length catalog.now.modules ≤ MOST_MODULES }
+        requires catalog { IsWellFormed catalog.now }
         requires new { (view : View) × Shows catalog.now self.old view × AreNew volumes.now view }
         ensures shows { ShowsBehind catalog.now self.old self.new (AreNew volumes.now) (with_volumes volumes.now) }
         ensures cursor { self.new.cursor ≡ self.old.cursor }
@@ -67,7 +77,7 @@ impl PeiQueue {
 
     /// A part starts: it waits no more, and the cursor comes to stand behind it.
     pub fn started(&mut self, number: u32)
-        requires { (catalog : OfCatalog) × (view : View) × Shows catalog self.old view × IsInOrder catalog number view }
+        requires { has_number (parts_in self.old) number ≡ true }
         ensures shows { (catalog : OfCatalog) → ShowsBehind catalog self.old self.new (IsInOrder catalog number) (with_start number) }
         ensures cursor { self.new.cursor ≡ cursor_behind (parts_in self.old) number }
         ensures owed { owed_by self.new ≤ owed_by self.old }
@@ -81,7 +91,6 @@ impl PeiQueue {
 
     /// The cursor comes to stand before a part, so that this part is looked at first. Where the part is not in the order, the cursor stays.
     pub fn aim(&mut self, number: u32)
-        requires { (catalog : OfCatalog) × (view : View) × Shows catalog self.old view }
         ensures shows { (catalog : OfCatalog) (view : View) → Shows catalog self.old view → Shows catalog self.new view }
         ensures parts { parts_in self.new ≡ parts_in self.old }
         ensures owed { owed_by self.new ≡ owed_by self.old }
@@ -94,10 +103,10 @@ impl PeiQueue {
         }
     }
 
-    // A part that has started may start again.
-    fn again_one(&mut self, number: u32)
-        requires { (catalog : OfCatalog) × (view : View) × Shows catalog self.old view × HasStarted number view }
-        ensures shows { (catalog : OfCatalog) → ShowsBehind catalog self.old self.new (HasStarted number) (with_again (number ∷ [])) }
+    /// A part that has started may start again.
+    pub fn again(&mut self, number: u32)
+        ensures shows { (catalog : OfCatalog) → ShowsBehind catalog self.old self.new (HasStarted number) (with_again (is_number number)) }
+        ensures parts { parts_in self.new ≡ parts_in self.old }
         ensures cursor { self.new.cursor ≡ self.old.cursor }
         ensures owed { owed_by self.new ≡ owed_by self.old }
     {
@@ -106,15 +115,29 @@ impl PeiQueue {
         }
     }
 
-    /// Parts that have started may start again.
-    pub fn again(&mut self, numbers: &[u32])
-        requires { (catalog : OfCatalog) × (view : View) × Shows catalog self.old view × HaveStarted numbers.now view }
-        ensures shows { (catalog : OfCatalog) → ShowsBehind catalog self.old self.new (HaveStarted numbers.now) (with_again numbers.now) }
+    // A part that has come so far may start again, where it awaits its second start.
+    fn again_by(&mut self, number: u32, state: PeimState)
+        ensures shows { (catalog : OfCatalog) → ShowsBehind catalog self.old self.new (HasStartedBy number state)
+            (with_again (is_number_by number state)) }
+        ensures parts { parts_in self.new ≡ parts_in self.old }
         ensures cursor { self.new.cursor ≡ self.old.cursor }
         ensures owed { owed_by self.new ≡ owed_by self.old }
     {
-        'parts: for number in numbers {
-            self.again_one(*number);
+        if awaits_again(state) {
+            self.again(number);
+        }
+    }
+
+    /// All parts that await their second start, by how far each module has come, may start again.
+    pub fn again_all(&mut self, states: &[PeimState])
+        ensures shows { (catalog : OfCatalog) → ShowsBehind catalog self.old self.new (HaveStarted (awaits_at states.now))
+            (with_again (awaits_at states.now)) }
+        ensures cursor { self.new.cursor ≡ self.old.cursor }
+        ensures owed { owed_by self.new ≡ owed_by self.old }
+    {
+        'parts: for place in 0..self.index.order().len() {
+            let number = self.index.order()[place];
+            self.again_by(number, state_of(states, number));
         }
     }
 
@@ -129,7 +152,6 @@ impl PeiQueue {
         ensures next { (m : PeiMachine) → IsQueueOf catalog.now m self.old → result ≡ next_peim catalog.now m }
         ensures few_steps { steps.new + owed_by self.new ≤ steps.old + owed_by self.old }
     {
-        well_formed_expressions_are_short();
         next_is_the_next_peim();
         self.index.settle(catalog, steps);
         match self.index.next(self.cursor) {

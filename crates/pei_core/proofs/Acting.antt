@@ -34,9 +34,12 @@ use Rattle.frames.specs.Took.{HasDone}
 use Rattle.frames.specs.declared.fuel.Fuel.{Fuel}
 use Rattle.pei_core.specs.declared.core_state.Core.{Core}
 use Rattle.pei_core.specs.Parts.{TakesOwn, action_goal}
+use Rattle.pei_core.specs.SecondStarts.{IsAgain}
+use Rattle.pei_core.specs.declared.event.Again.TheVariants.{Nobody}
 use Rattle.pei_core.specs.Standing.{IsCoreFor, IsCoreOf}
 use Rattle.pei_core.specs.Started.{RunsStarted}
 use Rattle.pei_core.proofs.PeimStates.{same_states}
+use Rattle.pei_core.proofs.SecondStarts.{nobody}
 
 -- the machine in which an action more was counted
 abbrev pub counted : PeiMachine → PeiMachine
@@ -97,7 +100,6 @@ stood m core fuel frames new lines of spent is = record {
   sweep = of.sweep;
   reported = of.reported;
   states = same_states m (record (counted m) { frames = frames; lines = lines }) core.states refl refl refl of.states;
-  shadows = of.shadows;
   actions = ap (λ n. n + 1) of.actions ∙ sym (ap (λ (x : Fuel). x.taken) spent.counted);
   starts = of.starts;
   running = of.running;
@@ -116,6 +118,12 @@ deed_store (Logged text) catalog m frame below = refl
 deed_store (Skipped n) catalog m frame below = refl
 deed_store (Returned status) catalog m frame below = refl
 
+deed_again : (does : Deed) (catalog : Catalog) (m : PeiMachine) (frame : Frame) (below : List Frame) → IsAgain m (after_effect catalog (counted m) frame below (as_effect does)) Nobody
+deed_again (Wrote registers status) catalog m frame below = nobody m (after_effect catalog (counted m) frame below (as_effect (Wrote registers status))) refl refl refl
+deed_again (Logged text) catalog m frame below = nobody m (after_effect catalog (counted m) frame below (as_effect (Logged text))) refl refl refl
+deed_again (Skipped n) catalog m frame below = nobody m (after_effect catalog (counted m) frame below (as_effect (Skipped n))) refl refl refl
+deed_again (Returned status) catalog m frame below = nobody m (after_effect catalog (counted m) frame below (as_effect (Returned status))) refl refl refl
+
 deed_lines : (does : Deed) (catalog : Catalog) (m : PeiMachine) (frame : Frame) (below : List Frame) → (after_effect catalog (counted m) frame below (as_effect does)).lines ≡ m.lines ++ lines_of does
 deed_lines (Wrote registers status) catalog m frame below = sym (append-nil m.lines)
 deed_lines (Logged text) catalog m frame below = refl
@@ -131,6 +139,7 @@ pub record Done (catalog : Catalog) (fuel : ℕ) (m : PeiMachine) (frame : Frame
   pub printed : later.lines ≡ m.lines ++ lines
   pub there : case_placed catalog fuel m (Acts frame below) ≡ []
   pub gone : case_taken catalog fuel m (Acts frame below) ≡ None
+  pub again : IsAgain m later Nobody
 
 pub done : (law : AreAlike Sweep Reply PeiOwn) (catalog : Catalog) (fuel : ℕ) (m : PeiMachine) (frame : Frame) (below : List Frame) (core : Core) (later : Fuel) (new : List Frame) (lines : List Line)
     → IsCoreOf core m → core.fuel.limit ≡ fuel → HasSpent core.fuel later → HasDone frame below (action_at Pei catalog frame) lines new
@@ -146,6 +155,7 @@ done law catalog fuel m frame below core later new lines of limit spent has =
       printed = deed_lines has.does catalog m frame below ∙ ap (λ more. m.lines ++ more) has.told;
       there = acted_places catalog fuel m frame below left ∙ places_none m.store frame (action_at Pei catalog frame) (ap is_called is ∙ no_call has.does);
       gone = acted_takes catalog fuel m frame below left ∙ takes_none m.store frame (action_at Pei catalog frame) (ap is_called is ∙ no_call has.does);
+      again = deed_again has.does catalog m frame below;
     }
 
 -- an action of PEI's own is left
@@ -180,6 +190,5 @@ pub for_counted : (catalog : Catalog) (fuel : ℕ) (core : Core) (later : Fuel) 
 for_counted catalog fuel core later new spent for = record {
   states = for.states;
   known = for.known;
-  shadows = for.shadows;
   fuelled = ap (λ (x : Fuel). x.limit) spent.counted ∙ for.fuelled;
 }

@@ -19,10 +19,9 @@ use Rattle.boot_model.specs.PeimState.{IsPeimState, awaits_start, state_at}
 use Rattle.boot_model.specs.PeiStep.{start_line, start_lines, started, started_by, started_part}
 use Rattle.frames.specs.Found.{has_block}
 use Rattle.pei_core.specs.declared.core_state.Core.{Core}
-use Rattle.pei_core.specs.Cores.{state_behind, shadows_behind, with_started}
+use Rattle.pei_core.specs.Cores.{state_behind, with_started}
 use Rattle.boot_trace.specs.StartLines.{started_lines}
 use Rattle.pei_core.specs.Standing.{IsCoreFor, IsCoreOf}
-use Rattle.pei_core.proofs.Awaited.{starts_again, starts_kept, awaits}
 use Rattle.pei_core.proofs.PeimStates.{first_states, second_states}
 
 -- one start more
@@ -47,7 +46,6 @@ begun_core NotDispatched catalog m number part licence core waits e inside of =
       sweep = refl;
       reported = of.reported;
       states = first_states m later core.states number inside of.states e (ap (λ b. cond b m.started (number ∷ m.started)) own.started) refl (ap (λ b. cond b (number ∷ m.again) m.again) own.started);
-      shadows = ap (λ again. awaits again m.shadows) (ap (λ b. cond b (number ∷ m.again) m.again) own.started) ∙ of.shadows;
       actions = of.actions;
       starts = counted core.starts (length m.started + length m.again) _ of.starts (first_more (has_number m.started number) number m.started m.again own.started);
       running = of.running;
@@ -61,7 +59,6 @@ begun_core RegisteredForShadow catalog m number part licence core waits e inside
       sweep = refl;
       reported = of.reported;
       states = second_states m later core.states number inside of.states e (ap (λ b. cond b m.started (number ∷ m.started)) own.started) refl (ap (λ b. cond b (number ∷ m.again) m.again) own.started);
-      shadows = ap (λ again. awaits again m.shadows) (ap (λ b. cond b (number ∷ m.again) m.again) own.started) ∙ starts_again m.again m.shadows number ∙ ap (filter (λ other. not (other == number))) of.shadows;
       actions = of.actions;
       starts = counted core.starts (length m.started + length m.again) _ of.starts (second_more (has_number m.started number) number m.started m.again own.started);
       running = of.running;
@@ -106,7 +103,6 @@ pub begun_for : (catalog : Catalog) (fuel : ℕ) (state : PeimState) (number : �
 begun_for catalog fuel state number blocks core e inside for = record {
   states = length-set core.states number (state_behind state) ∙ for.states;
   known = for.known;
-  shadows = starts_kept state core.states number core.shadows e inside for.shadows;
   fuelled = for.fuelled;
 }
 

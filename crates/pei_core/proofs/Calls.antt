@@ -34,7 +34,6 @@ replied_core m catalog frame below reply new core frames reported of top more = 
   sweep = of.sweep;
   reported = ap (λ xs. xs ++ new_volumes catalog new xs reply) of.reported ∙ sym more;
   states = same_states m (after_reply catalog m frame below reply new) core.states refl refl refl of.states;
-  shadows = of.shadows;
   actions = of.actions;
   starts = of.starts;
   running = of.running;

@@ -16,7 +16,9 @@ use Rattle.boot_model.specs.Text.{line_text, text_of}
 use Rattle.boot_model.proofs.Texts.{text_of-append}
 use Rattle.pei_action.specs.declared.guids.Changes.{Changes}
 use Rattle.pei_core.specs.declared.event.Stepped.{Stepped}
-use Rattle.pei_core.specs.Parts.{Goal, GoesTo, Reaches}
+use Rattle.pei_core.specs.declared.event.Again.{Again}
+use Rattle.pei_core.specs.Parts.{ActsTo, Goal, GoesTo, Reaches}
+use Rattle.pei_core.specs.SecondStarts.{IsAgain}
 use Rattle.pei_core.specs.Steps.{HasStepped, IsIdle, StartsTo, StepsTo}
 use Rattle.boot_model.specs.PeiStep.{pei_step}
 use Rattle.pei_core.specs.Turn.{Printed, PrintedPart}
@@ -89,6 +91,20 @@ goes_fail memory Stands m goal t r h part = subst (λ x. GoesTo memory Stands m 
 -- memory that was wanting
 pub goes_want : (memory : Bool) (Stands : PeiMachine → Type 0) (m : PeiMachine) (goal : Goal) (t : Texts) (r : Result Changes Halt) → IsErrAnd r (λ halt. halt ≡ H.Memory) → memory ≡ true → PrintedPart m goal.to t → GoesTo memory Stands m goal t r
 goes_want memory Stands m goal t r h takes part = subst (λ x. GoesTo memory Stands m goal t x) (sym (same_err H.Memory r h)) (takes, part)
+
+-- the same of an action
+pub acts_fail : (memory : Bool) (Stands : PeiMachine → Type 0) (m : PeiMachine) (goal : Goal) (t : Texts) (r : Result (Changes × Again) Halt) → IsErrAnd r (λ halt. halt ≡ H.Sink) → PrintedPart m goal.to t → ActsTo memory Stands m goal t r
+acts_fail memory Stands m goal t r h part = subst (λ x. ActsTo memory Stands m goal t x) (sym (is_sink r h)) part
+
+pub acts_want : (memory : Bool) (Stands : PeiMachine → Type 0) (m : PeiMachine) (goal : Goal) (t : Texts) (r : Result (Changes × Again) Halt) → IsErrAnd r (λ halt. halt ≡ H.Memory) → memory ≡ true → PrintedPart m goal.to t → ActsTo memory Stands m goal t r
+acts_want memory Stands m goal t r h takes part = subst (λ x. ActsTo memory Stands m goal t x) (sym (same_err H.Memory r h)) (takes, part)
+
+pub acts_halt : (halt : Halt) (memory : Bool) (Stands : PeiMachine → Type 0) (m : PeiMachine) (goal : Goal) (t : Texts) → ActsTo memory Stands m goal t (Err halt) → GoesTo memory Stands m goal t (Err halt)
+acts_halt H.Sink memory Stands m goal t h = h
+acts_halt H.Memory memory Stands m goal t h = h
+
+pub again_as : (m : PeiMachine) (goal other : Goal) (again : Again) → goal ≡ other → IsAgain m other.to again → IsAgain m goal.to again
+again_as m goal other again e h = subst (λ (x : Goal). IsAgain m x.to again) (sym e) h
 
 pub starts_fail : (Stands : PeiMachine → Type 0) (m later : PeiMachine) (t : Texts) (r : Result (Unit {0}) SinkFault) → IsErr r → PrintedPart m later t → StartsTo Stands m later t r
 starts_fail Stands m later t (Ok done) h part = cc

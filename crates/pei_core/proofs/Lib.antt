@@ -1,5 +1,4 @@
 mod Acting
-mod Awaited
 mod Begun
 mod Calls
 mod Cases
@@ -10,6 +9,7 @@ mod Opened
 mod Owned
 mod PeimStates
 mod Reported
+mod SecondStarts
 mod Sounded
 mod StartedHobs
 mod StartedSteps

@@ -1,5 +1,5 @@
 -- The core's own call, behind the move.
-use Rattle.std.proofs.Common.{◌≡◌, ℕ, Bool, true, List, [], ◌∷◌, ◌++◌, refl, ap, Some, None, Ok, Err}
+use Rattle.std.proofs.Common.{◌≡◌, ℕ, Bool, true, List, [], ◌∷◌, ◌++◌, refl, ap, ◌∙◌, subst, Some, None, Ok, Err}
 use Rattle.pi_base.specs.declared.word.Word.{Word}
 use Rattle.pi_base.specs.declared.word.Word.TheVariants.{Success}
 use Rattle.store_model.specs.declared.store_handle.Sweep.{Sweep}
@@ -11,10 +11,17 @@ use Rattle.boot_model.specs.declared.line.Line.{Line}
 use Rattle.boot_model.specs.declared.line.Line.TheVariants as L
 use Rattle.boot_model.specs.PeiAction.{status_of}
 use Rattle.boot_model.specs.PeiMachine.{PeiMachine, printed}
-use Rattle.boot_model.specs.PeiStep.{core_called}
+use Rattle.boot_model.specs.PeiStep.{core_called, moved_to}
+use Rattle.boot_laws.proofs.PeiCases.{Migrated, migrated_is}
+use Rattle.boot_laws.proofs.StoreMoved.{KeepsMoved, core_moved}
+use Rattle.store_model.specs.Migration.{migration}
+use Rattle.store_model.specs.Service.Install.{core_install}
 use Rattle.pei_core.specs.declared.core_state.Core.{Core}
+use Rattle.pei_core.specs.declared.event.Again.TheVariants.{All}
+use Rattle.pei_core.specs.SecondStarts.{IsAgain}
 use Rattle.pei_core.specs.Standing.{IsCoreOf}
 use Rattle.pei_core.proofs.PeimStates.{same_states}
+use Rattle.pei_core.proofs.SecondStarts.{all_again}
 
 -- the machine behind a call that installed the PPI, and behind one that was refused
 abbrev pub behind : PeiMachine → Sweep → StoreState → PeiMachine
@@ -29,7 +36,6 @@ behind_core m sweep new core of = record {
   sweep = refl;
   reported = of.reported;
   states = same_states m (behind m sweep new) core.states refl refl refl of.states;
-  shadows = of.shadows;
   actions = of.actions;
   starts = of.starts;
   running = of.running;
@@ -41,7 +47,6 @@ refused_core m status core of = record {
   sweep = refl;
   reported = of.reported;
   states = same_states m (refused m status) core.states refl refl refl of.states;
-  shadows = of.shadows;
   actions = of.actions;
   starts = of.starts;
   running = of.running;
@@ -83,11 +88,20 @@ moved_core m new core of = record {
   sweep = of.sweep;
   reported = of.reported;
   states = same_states m (moved m new) core.states refl refl refl of.states;
-  shadows = of.shadows;
   actions = of.actions;
   starts = of.starts;
   running = of.running;
 }
+
+-- where memory moves, all that await their second start may start again
+called_moved : (m : PeiMachine) (service : Service Sweep) → KeepsMoved m.store service → (core_called m service).store.moved ≡ m.store.moved
+called_moved m (Ok pair) k = k
+called_moved m (Err fault) k = refl
+
+pub moved_lets : (m : PeiMachine) (new : StoreState) → migration m.store ≡ Some new → IsAgain m (moved_to m new) All
+moved_lets m new is =
+    let k = subst (Migrated m.store) is (migrated_is m.store) in
+    all_again m (moved_to m new) k.1 (called_moved (moved m new) (core_install new) (core_moved new) ∙ k.0)
 
 pub migrate_line : (bases : ℕ × ℕ) (s new : StoreState) → bases ≡ (s.base, new.base) → L.Migrate bases.0 bases.1 ≡ L.Migrate s.base new.base
 migrate_line bases s new e = ap (λ (b : ℕ × ℕ). L.Migrate b.0 b.1) e

@@ -73,7 +73,6 @@ wrote_core m frame below registers status core frames of top = record {
   sweep = of.sweep;
   reported = of.reported;
   states = same_states m (wrote m frame below registers status) core.states refl refl refl of.states;
-  shadows = of.shadows;
   actions = of.actions;
   starts = of.starts;
   running = of.running;

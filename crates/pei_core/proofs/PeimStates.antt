@@ -28,7 +28,7 @@ pub same : (n k : ℕ) → (n == k) ≡ true → n ≡ k
 same n k t = grind (arith, nat_tests, t)
 
 -- a number is itself, and no other
-same_number : (n : ℕ) → (n == n) ≡ true
+pub same_number : (n : ℕ) → (n == n) ≡ true
 same_number n = grind (arith, nat_tests)
 
 other_number : (n k : ℕ) → n ≢ k → (n == k) ≡ false
@@ -50,7 +50,7 @@ or_true : (b : Bool) → (b || true) ≡ true
 or_true true = refl
 or_true false = refl
 
-has_behind : (list : List ℕ) (n k : ℕ) → has_number (list ++ n ∷ []) k ≡ (has_number list k || (n == k))
+pub has_behind : (list : List ℕ) (n k : ℕ) → has_number (list ++ n ∷ []) k ≡ (has_number list k || (n == k))
 has_behind [] n k = or_false (n == k)
 has_behind (first ∷ rest) n k = ap (λ b. (first == k) || b) (has_behind rest n k) ∙ or_assoc (first == k) (has_number rest k) (n == k)
 

@@ -13,14 +13,15 @@ use Rattle.boot_model.specs.declared.peim_state.PeimState.{PeimState}
 use Rattle.boot_model.specs.declared.peim_state.PeimState.TheVariants.{NotDispatched, Dispatched, RegisteredForShadow, Done}
 use Rattle.boot_model.specs.PeiMachine.{Frame, PeiMachine, printed}
 use Rattle.boot_model.specs.PeiStep.{past, shadowed}
-use Rattle.boot_model.specs.PeimState.{IsPeimState, has_started, state_at}
+use Rattle.boot_model.specs.PeimState.{ArePeimStates, IsPeimState, has_started, state_at}
 use Rattle.frames.specs.Frames.{answered}
-use Rattle.pei_core.specs.Awaiting.{AreShadows}
 use Rattle.pei_core.specs.Cores.{register_status, with_registered}
 use Rattle.pei_core.specs.declared.core_state.Core.{Core}
+use Rattle.pei_core.specs.declared.event.Again.{Again}
+use Rattle.pei_core.specs.SecondStarts.{IsAgain, registered_again}
 use Rattle.pei_core.specs.Standing.{IsCoreFor, IsCoreOf}
-use Rattle.pei_core.proofs.Awaited.{one_registers, registers_kept}
 use Rattle.pei_core.proofs.PeimStates.{registered_states, same_states}
+use Rattle.pei_core.proofs.SecondStarts.{nobody, one_registers}
 
 -- the list of those that registered, behind it
 abbrev shadows_of : PeimState → List ℕ → ℕ → List ℕ
@@ -50,6 +51,25 @@ shadowed_is Dispatched m frame below is started = by m frame below false is.regi
 shadowed_is RegisteredForShadow m frame below is started = by m frame below true is.registered
 shadowed_is Done m frame below is started = by m frame below true is.registered
 
+-- the parts that it lets start again
+registered_lets : (state : PeimState) (m : PeiMachine) (frame : Frame) (below : List Frame) → IsPeimState m frame.module_number state
+    → IsAgain m (behind m frame below state) (registered_again state m.store.moved frame.module_number)
+registered_lets NotDispatched m frame below is = nobody m (behind m frame below NotDispatched) refl refl refl
+registered_lets Dispatched m frame below is = one_registers m (behind m frame below Dispatched) frame.module_number is.again refl refl refl
+registered_lets RegisteredForShadow m frame below is = nobody m (behind m frame below RegisteredForShadow) refl refl refl
+registered_lets Done m frame below is = nobody m (behind m frame below Done) refl refl refl
+
+pub shadowed_lets : (m : PeiMachine) (frame : Frame) (below : List Frame) (states : List PeimState) (state : PeimState) (moved : Bool) (number : ℕ) (again : Again) → ArePeimStates m states → has_number m.started frame.module_number ≡ true
+    → frame.module_number ≡ number → state ≡ state_at states number → moved ≡ m.store.moved → again ≡ registered_again state moved number → IsAgain m (shadowed m frame below) again
+shadowed_lets m frame below states state moved number again are started same at is told =
+    let own = state_at states frame.module_number in
+    let all : again ≡ registered_again own m.store.moved frame.module_number =
+    told ∙ ap (λ s. registered_again s moved number) at ∙ ap (λ b. registered_again (state_at states number) b number) is
+    ∙ ap (λ n. registered_again (state_at states n) m.store.moved n) (sym same) in
+    subst (λ x. IsAgain m (shadowed m frame below) x) (sym all)
+    (subst (λ x. IsAgain m x (registered_again own m.store.moved frame.module_number)) (sym (shadowed_is own m frame below (are frame.module_number) started))
+    (registered_lets own m frame below (are frame.module_number)))
+
 -- the core behind it
 abbrev pub with_shadow : Core → Frame → List Frame → PeimState → Core
 with_shadow core frame below state = record (with_registered state frame.module_number core) { frames = answered frame frame.registers (register_status state) None ∷ below }
@@ -62,7 +82,6 @@ same_core m frame below core of = record {
   sweep = of.sweep;
   reported = of.reported;
   states = same_states m (behind m frame below Done) core.states refl refl refl of.states;
-  shadows = of.shadows;
   actions = of.actions;
   starts = of.starts;
   running = of.running;
@@ -78,7 +97,6 @@ shadowed_core Dispatched m frame below core of inside e =
       sweep = of.sweep;
       reported = of.reported;
       states = registered_states m (behind m frame below Dispatched) core.states frame.module_number inside of.states e refl refl refl;
-      shadows = one_registers m.again m.shadows frame.module_number own.again ∙ ap (λ xs. xs ++ frame.module_number ∷ []) of.shadows;
       actions = of.actions;
       starts = of.starts;
       running = of.running;
@@ -104,7 +122,6 @@ registered_for NotDispatched catalog fuel number core inside e for = for
 registered_for Dispatched catalog fuel number core inside e for = record {
   states = length-set core.states number RegisteredForShadow ∙ for.states;
   known = for.known;
-  shadows = registers_kept core.states number core.shadows inside e for.shadows;
   fuelled = for.fuelled;
 }
 registered_for RegisteredForShadow catalog fuel number core inside e for = for

@@ -1,6 +1,6 @@
 -- The core behind what it does: a callback or a dispatch notification begins, a module registers for shadow, or starts.
 -- Own.
-use Rattle.std.specs.Prelude.{◌≡◌, ℕ, ◌==◌, ◌+◌, ◌-◌, ◌^◌, min, not, List, [], ◌∷◌, ◌++◌, filter, slice_set, Some, None}
+use Rattle.std.specs.Prelude.{◌≡◌, ℕ, ◌+◌, ◌-◌, ◌^◌, min, List, [], ◌∷◌, slice_set, Some, None}
 use Rattle.pi_base.specs.declared.word.Word.{Word}
 use Rattle.pi_base.specs.declared.word.Word.TheVariants.{Success, AlreadyStarted}
 use Rattle.store_model.specs.declared.store_handle.Firing.{Firing}
@@ -30,7 +30,7 @@ register_status Done = AlreadyStarted
 
 abbrev pub with_registered : PeimState → ℕ → Core → Core
 with_registered NotDispatched number core = core
-with_registered Dispatched number core = record core { states = slice_set core.states number RegisteredForShadow; shadows = core.shadows ++ number ∷ [] }
+with_registered Dispatched number core = record core { states = slice_set core.states number RegisteredForShadow }
 with_registered RegisteredForShadow number core = core
 with_registered Done number core = core
 
@@ -41,14 +41,8 @@ state_behind Dispatched = Done
 state_behind RegisteredForShadow = Done
 state_behind Done = Done
 
-abbrev pub shadows_behind : PeimState → ℕ → List ℕ → List ℕ
-shadows_behind NotDispatched number shadows = shadows
-shadows_behind Dispatched number shadows = shadows
-shadows_behind RegisteredForShadow number shadows = filter (λ other. not (other == number)) shadows
-shadows_behind Done number shadows = shadows
-
 abbrev pub with_dispatched : PeimState → ℕ → Core → Core
-with_dispatched state number core = record core { states = slice_set core.states number (state_behind state); shadows = shadows_behind state number core.shadows }
+with_dispatched state number core = record core { states = slice_set core.states number (state_behind state) }
 
 -- and its script begins
 abbrev pub with_started : PeimState → ℕ → List (List Action) → Core → Core

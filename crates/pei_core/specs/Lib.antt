@@ -1,6 +1,6 @@
-pub mod Awaiting
 pub mod Cores
 pub mod Parts
+pub mod SecondStarts
 pub mod Standing
 pub mod Started
 pub mod Steps

@@ -30,8 +30,10 @@ use Rattle.act_code.specs.declared.block.TheConstants.{MOST_ACTIONS}
 use Rattle.pei_action.specs.Taken.{reply_in}
 use Rattle.pei_action.specs.declared.guids.Changes.{Changes}
 use Rattle.pei_action.specs.declared.taken.Reply.{Reply}
+use Rattle.pei_core.specs.declared.event.Again.{Again}
 use Rattle.pei_core.specs.declared.event.Stepped.{Stepped}
 use Rattle.pei_core.specs.declared.pei.Pei.{Pei as OfPei}
+use Rattle.pei_core.specs.SecondStarts.{IsAgain}
 use Rattle.pei_core.specs.Standing.{Has, IsCoreOf, IsFor, StandsFor}
 use Rattle.pei_core.specs.Started.{HasStarted}
 use Rattle.pei_core.specs.Steps.{HasStepped, StartsTo, StepsTo}
@@ -128,6 +130,12 @@ GoesTo memory Stands m goal t (Ok changes) = Reaches Stands m goal t changes
 GoesTo memory Stands m goal t (Err H.Sink) = PrintedPart m goal.to t
 GoesTo memory Stands m goal t (Err H.Memory) = (memory ≡ true) × PrintedPart m goal.to t
 
+-- the event of an action, by its answer, and the part that it lets start again
+abbrev pub ActsTo : Bool → (PeiMachine → Type 0) → PeiMachine → Goal → Texts → Result (Changes × Again) Halt → Type 0
+ActsTo memory Stands m goal t (Ok done) = Reaches Stands m goal t done.0 × IsAgain m goal.to done.1
+ActsTo memory Stands m goal t (Err H.Sink) = PrintedPart m goal.to t
+ActsTo memory Stands m goal t (Err H.Memory) = (memory ≡ true) × PrintedPart m goal.to t
+
 -- the core's own call, from each machine that the core has
 abbrev pub CoreCalls : {M : Type 0} → Bool → (M → StoreState → Type 0) → OfPei M → OfPei M → Option (List ℕ) → Option (List ℕ) → Result Changes Halt → Type 0
 CoreCalls memory stands pei later old new result =
@@ -135,10 +143,10 @@ CoreCalls memory stands pei later old new result =
     → GoesTo memory (Has stands later) m (called_goal m (core_install m.store)) (record { old = old; new = new }) result
 
 -- an action of PEI's own, from each machine that the core stands for and in whose top frame it stands
-abbrev pub Acts : {M : Type 0} → Bool → (M → StoreState → Type 0) → Catalog → Action → OfPei M → OfPei M → Option (List ℕ) → Option (List ℕ) → Result Changes Halt → Type 0
+abbrev pub Acts : {M : Type 0} → Bool → (M → StoreState → Type 0) → Catalog → Action → OfPei M → OfPei M → Option (List ℕ) → Option (List ℕ) → Result (Changes × Again) Halt → Type 0
 Acts memory stands catalog action pei later old new result =
     (m : PeiMachine) → StandsFor stands pei m → (own : TakesOwn catalog action m)
-    → GoesTo memory (Has stands later) m (action_goal catalog m own.top own.below action) (record { old = old; new = new }) result
+    → ActsTo memory (Has stands later) m (action_goal catalog m own.top own.below action) (record { old = old; new = new }) result
 
 -- the module of the top frame, which has started, registers for shadow
 abbrev pub Registers : {M : Type 0} → (M → StoreState → Type 0) → OfPei M → ℕ → OfPei M → Option (List ℕ) → Option (List ℕ) → Result (Unit {0}) SinkFault → Type 0

@@ -8,7 +8,6 @@ use Rattle.boot_model.specs.PeiMachine.{PeiMachine}
 use Rattle.boot_model.specs.PeiRun.{pei_opening}
 use Rattle.boot_model.specs.PeimState.{ArePeimStates}
 use Rattle.volume_list.specs.Known.{AreKnown}
-use Rattle.pei_core.specs.Awaiting.{awaiting, AreShadows}
 use Rattle.pei_core.specs.Started.{RunsStarted}
 use Rattle.pei_core.specs.declared.core_state.Core.{Core}
 use Rattle.pei_core.specs.declared.pei.Pei.{Pei}
@@ -19,16 +18,14 @@ pub record IsCoreOf (core : Core) (m : PeiMachine) : Type 0 where
   pub sweep : m.core_sweep ≡ core.sweep
   pub reported : m.reported ≡ core.reported
   pub states : ArePeimStates m core.states
-  pub shadows : awaiting m ≡ core.shadows
   pub actions : m.actions ≡ core.fuel.taken
   pub starts : core.starts ≡ min (length m.started + length m.again) (2 ^ 32 - 1)
   pub running : m.ended ≡ None
 
--- what a core keeps for a catalogue and its fuel: a state for each module, volumes that differ, and modules that registered
+-- what a core keeps for a catalogue and its fuel: a state for each module, and volumes that differ
 pub record IsCoreFor (catalog : Catalog) (fuel : ℕ) (core : Core) : Type 0 where
   pub states : length core.states ≡ length catalog.modules
   pub known : AreKnown catalog core.reported
-  pub shadows : AreShadows core.states core.shadows
   pub fuelled : core.fuel.limit ≡ fuel
 
 -- a core over its store has what the machine has

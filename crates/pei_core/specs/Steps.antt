@@ -25,6 +25,7 @@ use Rattle.pei_core.specs.declared.event.Event.{Event}
 use Rattle.pei_core.specs.declared.event.Stepped.{Stepped}
 use Rattle.pei_core.specs.declared.event.Stepped.TheVariants.{Went, Idle, Ended}
 use Rattle.pei_core.specs.declared.pei.Pei.{Pei}
+use Rattle.pei_core.specs.SecondStarts.{IsAgain}
 use Rattle.pei_core.specs.Standing.{IsFor, StandsFor}
 use Rattle.pei_core.specs.Turn.{Printed, PrintedPart}
 use Rattle.boot_trace.specs.Printing.{Texts}
@@ -36,10 +37,11 @@ pub record IsIdle (m : PeiMachine) : Type 0 where
   pub moves : migration m.store ≡ None
   pub pops : queue_pop m.store ≡ None
 
--- what the event from a machine did: the GUIDs that it put in, the one that it took away, and how many volumes were reported before it
+-- what the event from a machine did: the GUIDs that it put in, the one that it took away, the parts that it lets start again, and how many volumes were reported before it
 pub record IsEvent (catalog : Catalog) (fuel : ℕ) (m : PeiMachine) (event : Event) : Type 0 where
   pub there : event.there.items ≡ pei_placed catalog fuel m
   pub gone : event.gone ≡ pei_taken catalog fuel m
+  pub again : IsAgain m (pei_step catalog fuel m) event.again
   pub known : event.known ≡ length m.reported
 
 -- the machine is the later one now, and its lines were put

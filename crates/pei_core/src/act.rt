@@ -10,17 +10,16 @@ ghost use Rattle.store_model.specs.StateFacts.{IsDesc};
 ghost use Rattle.store_model.specs.Service.{Present};
 ghost use Rattle.volume_list.specs.Known.{AreKnown};
 ghost use Rattle.frames.specs.Needs.{IsWithin};
-ghost use Rattle.pei_core.specs.Awaiting.{AreShadows};
 ghost use Rattle.pei_core.specs.Parts.{Acts, Registers, Replies, RunsScript, StepsScript, TakesOwn};
 ghost use Rattle.pei_core.specs.Standing.{IsFor, KeepsFor, StandsFor, last_start};
 
-use crate::event::Stepped;
+use crate::event::{Again, Stepped};
 use crate::pei::Pei;
 use crate::reports::{print, put_reports};
 use act_code::Action;
 use boot_io::{Halt, Sink, SinkFault};
 use boot_laws::replies_are_sound;
-use boot_model::{CallName, Extra, Line, PeiEnd};
+use boot_model::{CallName, Extra, Line, PeiEnd, state_of};
 use catalog_model::Catalog;
 use frames::{Acted, Writes, act, effects_are_alike};
 use pei_action::{Changes, Reply, Taken, changes_of, take_own};
@@ -32,7 +31,6 @@ impl<M: PeiStore + Drop> Pei<M> {
     fn shadow<S: Sink>(&mut self, number: u32, sink: &mut S) -> Result<(), SinkFault>
         requires within { IsWithin self.old.core.frames }
         requires here { number < length self.old.core.states }
-        requires shadows { AreShadows self.old.core.states self.old.core.shadows }
         ensures row { Registers M.stands_for self.old number self.new (S.text sink.old) (S.text sink.new) result }
         ensures kept { (catalog : OfCatalog) → KeepsFor catalog self.old self.new (last_start self.old) }
         ensures faults { SinkFaultsAfter result (S.faults sink.old) (S.faults sink.new) }
@@ -88,13 +86,13 @@ impl<M: PeiStore + Drop> Pei<M> {
         put_reports(sink, self.core.reported.as_slice().split_at(known).1)
     }
 
-    // The top frame takes an action of PEI's own, which was counted.
+    // The top frame takes an action of PEI's own, which was counted. The GUIDs that it changes, and the part that it lets start again.
     fn act_own<S: Sink>(
         &mut self,
         catalog: &Catalog,
         action: &Action,
         sink: &mut S,
-    ) -> Result<Changes, Halt>
+    ) -> Result<(Changes, Again), Halt>
         requires catalog { IsWellFormed catalog.now }
         requires made { (fuel : ℕ) × IsFor catalog.now fuel self.old }
         requires state { (m : PeiMachine) × StandsFor M.stands_for self.old m × TakesOwn catalog.now action.now m }
@@ -111,16 +109,18 @@ impl<M: PeiStore + Drop> Pei<M> {
         match take_own(&mut self.store, frame, action)? {
             Taken::Wrote { status, writes } => {
                 self.core.frames.answer(&writes, status, None);
-                Ok(Changes::none())
+                Ok((Changes::none(), Again::Nobody))
             }
             Taken::Called(reply) => {
                 let status = reply.status;
                 self.answer(catalog, reply, sink)?;
-                Ok(changes.of_call(status))
+                Ok((changes.of_call(status), Again::Nobody))
             }
             Taken::Shadowed => {
+                let state = state_of(self.core.states.as_slice(), number);
+                let again = Again::by_registering(state, self.store.moved(), number);
                 self.shadow(number, sink)?;
-                Ok(Changes::none())
+                Ok((Changes::none(), again))
             }
         }
     }
@@ -143,14 +143,14 @@ impl<M: PeiStore + Drop> Pei<M> {
             Phase::Pei,
         ) {
             Acted::Spent => Ok(Stepped::Ended(PeiEnd::Spent)),
-            Acted::Silent => Ok(Stepped::by(Changes::none(), known)),
+            Acted::Silent => Ok(Stepped::by(Changes::none(), Again::Nobody, known)),
             Acted::Prints(line) => {
                 print(sink, line)?;
-                Ok(Stepped::by(Changes::none(), known))
+                Ok(Stepped::by(Changes::none(), Again::Nobody, known))
             }
             Acted::Own(action) => {
-                let changes = self.act_own(catalog, action, sink)?;
-                Ok(Stepped::by(changes, known))
+                let (changes, again) = self.act_own(catalog, action, sink)?;
+                Ok(Stepped::by(changes, again, known))
             }
         }
     }

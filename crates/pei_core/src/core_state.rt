@@ -1,5 +1,4 @@
 //! What the core keeps beside the store.
-use crate::shadows::Shadows;
 use boot_model::PeimState;
 use frames::{Frames, Fuel};
 use pi_base::Seq;
@@ -17,8 +16,6 @@ pub struct Core {
     pub(crate) reported: VolumeList,
     /// How far each module has come.
     pub(crate) states: Seq<PeimState>,
-    /// The modules that await their second start.
-    pub(crate) shadows: Shadows,
     /// The actions that were taken, and how many may be.
     pub(crate) fuel: Fuel,
     /// The number of starts, and the module that started last.

@@ -10,7 +10,7 @@ ghost use Rattle.pei_core.specs.Parts.{FiresNext, StepsFired};
 ghost use Rattle.pei_core.specs.Standing.{IsCoreOf, KeepsFor, StandsFor, last_start};
 
 use crate::core_state::Core;
-use crate::event::Stepped;
+use crate::event::{Again, Stepped};
 use crate::names::callback_line;
 use crate::pei::Pei;
 use crate::reports::print;
@@ -95,6 +95,6 @@ impl<M: PeiStore + Drop> Pei<M> {
             return Ok(Stepped::Ended(PeiEnd::Deep));
         }
         print(sink, callback_line(catalog, &firing))?;
-        Ok(Stepped::by(Changes::none(), known))
+        Ok(Stepped::by(Changes::none(), Again::Nobody, known))
     }
 }

@@ -10,11 +10,10 @@ mod names;
 mod pei;
 mod queue;
 mod reports;
-mod shadows;
 mod start;
 mod states;
 mod step;
 
-pub use event::{Event, MOST_INSTALLED, Stepped};
+pub use event::{Again, Event, MOST_INSTALLED, Stepped};
 pub use pei::Pei;
 pub use reports::put_reports;

@@ -6,7 +6,7 @@ ghost use Rattle.store_model.specs.StoreCall.{Anything, IsDue};
 ghost use Rattle.pei_core.specs.Parts.{CoreCalls, StepsMove};
 ghost use Rattle.pei_core.specs.Standing.{KeepsFor, last_start};
 
-use crate::event::Stepped;
+use crate::event::{Again, Stepped};
 use crate::pei::Pei;
 use crate::reports::print;
 use boot_io::{Halt, Sink};
@@ -43,7 +43,7 @@ impl<M: PeiStore + Drop> Pei<M> {
         }
     }
 
-    // The store moves, and the core installs the PPI of permanent memory.
+    // The store moves, and the core installs the PPI of permanent memory. The parts that await their second start may start again.
     pub(crate) fn move_memory<S: Sink>(&mut self, sink: &mut S) -> Result<Stepped, Halt>
         requires state { Present (M.stands_for self.old.store) IsDue }
         ensures row { StepsMove M.TAKES_MEMORY M.stands_for self.old self.new (S.text sink.old) (S.text sink.new) result }
@@ -54,6 +54,6 @@ impl<M: PeiStore + Drop> Pei<M> {
         let (from, to) = self.store.migrate();
         print(sink, Line::Migrate { from, to })?;
         let changes = self.install_memory(sink)?;
-        Ok(Stepped::by(changes, known))
+        Ok(Stepped::by(changes, Again::All, known))
     }
 }

@@ -8,14 +8,12 @@ ghost use Rattle.catalog_model.specs.declared.catalog.Catalog.{Catalog as OfCata
 ghost use Rattle.pi_base.specs.declared.phase.Phase.TheVariants.{Pei as InPei};
 ghost use Rattle.boot_model.specs.PeiMachine.{PeiMachine};
 ghost use Rattle.boot_model.specs.PeimState.{ArePeimStates, awaits_start, peim_state};
-ghost use Rattle.pei_core.specs.Awaiting.{awaiting};
 ghost use Rattle.pei_core.specs.Standing.{IsFor, KeepsFor, Opens, StandsFor, last_start};
 ghost use Rattle.pei_core.specs.Steps.{IsIdle, Steps, Starts};
 
 use crate::core_state::Core;
 use crate::event::Stepped;
 use crate::names::start_line;
-use crate::shadows::Shadows;
 use crate::states::none_started;
 use boot_io::{Halt, Sink, SinkFault};
 use boot_laws::{opening_is_sound, starts_keep_sound, steps_keep_sound};
@@ -59,7 +57,6 @@ impl<M: PeiStore + Drop> Pei<M> {
                 sweep: None,
                 reported,
                 states: none_started(alloc, catalog.modules.len())?,
-                shadows: Shadows::new(),
                 fuel: Fuel {
                     taken: 0,
                     limit: fuel,
@@ -130,13 +127,6 @@ impl<M: PeiStore + Drop> Pei<M> {
         ensures { (m : PeiMachine) → StandsFor M.stands_for self.now m → ArePeimStates m result.now }
     {
         self.core.states.as_slice()
-    }
-
-    /// The modules that registered for shadow and have not started again, in the order in which they registered.
-    pub fn shadows(&self) -> &[u32]
-        ensures { (m : PeiMachine) → StandsFor M.stands_for self.now m → result.now ≡ awaiting m }
-    {
-        self.core.shadows.as_slice()
     }
 
     /// The actions that were taken.

@@ -7,7 +7,7 @@ ghost use Rattle.pei_core.specs.Parts.{Pops, StepsIn};
 ghost use Rattle.pei_core.specs.Standing.{KeepsFor, StandsFor, last_start};
 
 use crate::core_state::Core;
-use crate::event::Stepped;
+use crate::event::{Again, Stepped};
 use crate::fire::notification_frame;
 use crate::names::dispatch_line;
 use crate::pei::Pei;
@@ -47,7 +47,7 @@ impl<M: PeiStore + Drop> Pei<M> {
             Some(firing) => {
                 self.core.begin_dispatch(&firing);
                 print(sink, dispatch_line(catalog, &firing))?;
-                Ok(Stepped::by(Changes::none(), known))
+                Ok(Stepped::by(Changes::none(), Again::Nobody, known))
             }
         }
     }

@@ -3,7 +3,6 @@ ghost use Rattle.std.specs.Prelude.{◌≡◌, ◌<◌, length, if◌then◌else
 ghost use Rattle.pi_base.specs.declared.word.Word.{Word as OfWord};
 ghost use Rattle.boot_model.specs.PeimState.{state_at};
 ghost use Rattle.boot_model.specs.declared.peim_state.PeimState.TheVariants.{NotDispatched};
-ghost use Rattle.pei_core.specs.Awaiting.{AreShadows};
 ghost use Rattle.pei_core.specs.Cores as C;
 
 use crate::core_state::Core;
@@ -35,14 +34,12 @@ fn state_behind(state: PeimState) -> PeimState
 impl Core {
     /// A module that has started registers for shadow: once, and it then awaits its second start. What its script is told.
     pub(crate) fn register(&mut self, number: u32) -> Word
-        requires here { number < length self.old.states }
-        requires shadows { AreShadows self.old.states self.old.shadows }
+        requires { number < length self.old.states }
         ensures status { result ≡ C.register_status (state_at self.old.states number) }
         ensures core { self.new ≡ C.with_registered (state_at self.old.states number) number self.old }
     {
         match state_of(self.states.as_slice(), number) {
             PeimState::Dispatched => {
-                self.shadows.push(number);
                 self.states
                     .set(number as usize, PeimState::RegisteredForShadow);
                 Word::Success
@@ -53,13 +50,10 @@ impl Core {
 
     /// A module starts, for the first or for the second time: it then has another state, and awaits no second start.
     pub(crate) fn dispatch(&mut self, number: u32)
-        requires here { number < length self.old.states }
-        ensures core { self.new ≡ C.with_dispatched (state_at self.old.states number) number self.old }
+        requires { number < length self.old.states }
+        ensures { self.new ≡ C.with_dispatched (state_at self.old.states number) number self.old }
     {
         let state = state_of(self.states.as_slice(), number);
         self.states.set(number as usize, state_behind(state));
-        if state == PeimState::RegisteredForShadow {
-            self.shadows.remove(number);
-        }
     }
 }

@@ -13,7 +13,7 @@ use Rattle.wait_index.specs.declared.index.WaitIndex.{WaitIndex}
 use Rattle.wait_index.specs.Discovery.{new_standing, opens, IsNew, HaveCome}
 use Rattle.wait_index.specs.Index.{AreWatched, IsIndex}
 use Rattle.wait_index.specs.Installed.{is_there}
-use Rattle.wait_index.specs.Places.{order_of, standing_of, IsInOrder, AreJudged}
+use Rattle.wait_index.specs.Places.{order_of, standing_of, AreJudged}
 use Rattle.wait_index.specs.Verdict.{verdict_of}
 use Rattle.wait_index.proofs.Arrivals.{differs_from}
 
@@ -97,14 +97,13 @@ come_more phase catalog parts i old mid new is_open less opened come order here 
     subst (λ (xs : List ℕ). HaveCome phase catalog xs old new) (sym (take_more parts i less))
     (one_more phase catalog (take i parts) (get_or parts i 0) old mid new is_open opened come order here others as_many)
 
-pub index_from : (catalog : Catalog) (old new : WaitIndex) → new.phase ≡ old.phase → new.installed ≡ old.installed → new.watchers ≡ old.watchers → IsIndex catalog old → IsInOrder new.places
+pub index_from : (catalog : Catalog) (old new : WaitIndex) → new.phase ≡ old.phase → new.installed ≡ old.installed → new.watchers ≡ old.watchers → IsIndex catalog old
     → AreJudged (verdict_of old.phase catalog (is_there old.installed)) new.places → length new.places.standings ≡ length old.places.standings → IsIndex catalog new
-index_from catalog old new phase installed watchers is in_order judged as_many = record {
+index_from catalog old new phase installed watchers is judged as_many = record {
   watched =
       subst (λ (p : Phase). AreWatched p catalog new.installed new.watchers) (sym phase)
       (subst (λ (i : Installed). AreWatched old.phase catalog i new.watchers) (sym installed)
       (subst (λ (w : List (List ℕ)). AreWatched old.phase catalog old.installed w) (sym watchers) is.watched));
-  in_order = in_order;
   judged =
       subst (λ (p : Phase). AreJudged (verdict_of p catalog (is_there new.installed)) new.places) (sym phase)
       (subst (λ (i : Installed). AreJudged (verdict_of old.phase catalog (is_there i)) new.places) (sym installed) judged);

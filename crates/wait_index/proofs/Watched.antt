@@ -134,11 +134,11 @@ judged_still catalog old new places guid slot there is here slots set to place n
     let waited : (standing_of old.places number).waits ≡ true = ap (λ s. s.waits) (sym stood) ∙ waits in
     elim (either_way (part_pushes old.phase catalog guid number)) [
       | inl pushes ↦
-          let less : number < length catalog.modules = omega (arith, is_within old.places place number is.in_order was, is.as_many) in
+          let less : number < length catalog.modules = omega (arith, is_within old.places place number old.in_order was, is.as_many) in
           let watches : has_number (watchers_at old.watchers slot) number ≡ true =
           ap (λ xs. has_number xs number) (is.watched.watched guid slot here)
           ∙ has_filtered (part_pushes old.phase catalog guid) (numbers 0 (length catalog.modules)) number (number_in 0 (length catalog.modules) number (omega arith) (omega (arith, less))) pushes in
-          let no : true ≡ false = sym (to.roused number place watches waited (is.in_order.placed place number was)) ∙ fresh in
+          let no : true ≡ false = sym (to.roused number place watches waited (old.in_order.placed place number was)) ∙ fresh in
           absurd (cc)
       | inr silent ↦
           ap (λ s. s.verdict) stood ∙ is.judged place number was waited (to.still place fresh)
@@ -221,6 +221,6 @@ asked_few catalog index guid is =
     let inner = both_true (is_member nat_eq all number) (pushes number) (sym (member_filtered pushes all number) ∙ outer.0) in
     let stands = both_true (standing_of index.places number).waits (is_some (standing_of index.places number).place) outer.1 in
     let place = the_place (standing_of index.places number).place stands.1 in
-    let at = is.in_order.known number place.0 place.1 in
+    let at = index.in_order.known number place.0 place.1 in
     member_filtered both (order_in index) number
     ∙ and_true (is_member nat_eq (order_in index) number) (both number) (member_at (order_in index) place.0 number at) (and_true (waits_in index number) (pushes number) stands.0 inner.1))

@@ -4,7 +4,7 @@ use Rattle.pi_base.specs.declared.guid.Guid.{Guid}
 use Rattle.pi_base.specs.declared.phase.Phase.{Phase}
 use Rattle.pi_base.specs.declared.phase.Phase.TheVariants.{Dxe}
 use Rattle.guid_map.specs.GuidMap.{value_of}
-use Rattle.place_set.specs.Places.{count}
+use Rattle.place_set.specs.Places.{flag, count}
 use Rattle.boot_model.specs.declared.known_guid.TheConstants.{ARCHITECTURAL}
 use Rattle.catalog_model.specs.declared.catalog.Catalog.{Catalog}
 use Rattle.catalog_model.specs.declared.catalog.Part.{Part}
@@ -17,7 +17,7 @@ use Rattle.wait_index.specs.declared.standing.Standing.{Standing}
 use Rattle.wait_index.specs.declared.index.WaitIndex.{WaitIndex}
 use Rattle.wait_index.specs.Change.{IsChanged}
 use Rattle.wait_index.specs.Installed.{is_there}
-use Rattle.wait_index.specs.Places.{order_of, standing_of, IsInOrder, IsKept, AreJudged}
+use Rattle.wait_index.specs.Places.{order_of, standing_of, IsKept, AreJudged}
 use Rattle.wait_index.specs.Verdict.{verdict_in, verdict_of, lets, holds_by}
 
 -- the modules by place
@@ -45,6 +45,10 @@ has_in index guid = is_there index.installed guid
 abbrev pub owed : WaitIndex → ℕ
 owed index = count index.places.stale
 
+-- whether that of the part at a place has to be
+abbrev pub is_owed : WaitIndex → ℕ → Bool
+is_owed index place = flag index.places.stale place
+
 -- the modules whose expressions push a GUID
 abbrev pub watchers_of : Phase → Catalog → Guid → List ℕ
 watchers_of phase catalog guid = filter (part_pushes phase catalog guid) (numbers 0 (length catalog.modules))
@@ -63,7 +67,6 @@ pub record AreWatched (phase : Phase) (catalog : Catalog) (installed : Installed
 -- the index stands for these: its parts are those of the catalogue, and what it knows of their expressions is what they say, unless they have to be evaluated
 pub record IsIndex (catalog : Catalog) (index : WaitIndex) : Type 0 where
   pub watched : AreWatched index.phase catalog index.installed index.watchers
-  pub in_order : IsInOrder index.places
   pub judged : AreJudged (verdict_of index.phase catalog (is_there index.installed)) index.places
   pub as_many : length index.places.standings ≡ length catalog.modules
 

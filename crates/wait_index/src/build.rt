@@ -2,6 +2,7 @@
 ghost use Rattle.std.specs.Prelude.{◌≡◌, ◌≤◌, [], false, length, replicate, IfOk, OnOk};
 ghost use Rattle.pi_base.specs.declared.guid.Guid.{Guid};
 ghost use Rattle.boot_model.specs.declared.known_guid.TheConstants.{ARCHITECTURAL};
+ghost use Rattle.catalog_model.specs.WellFormed.{IsWellFormed};
 ghost use Rattle.catalog_model.specs.declared.limits.TheConstants.{MOST_MODULES};
 ghost use Rattle.pi_base.specs.Lists.{EachPair};
 ghost use Rattle.guid_map.specs.GuidMap.{value_of};
@@ -70,7 +71,7 @@ fn watched(
 impl WaitIndex {
     /// The index of a catalogue's parts of a phase, where no volume is known and nothing is installed.
     pub fn build(alloc: Global, catalog: &Catalog, phase: Phase) -> Result<WaitIndex, OutOfMemory>
-        requires { length catalog.now.modules ≤ MOST_MODULES }
+        requires { IsWellFormed catalog.now }
         ensures index { IfOk result (IsIndex catalog.now) }
         ensures phase { IfOk result (λ index. index.phase ≡ phase) }
         ensures empty { IfOk result (λ index. order_in index ≡ []) }

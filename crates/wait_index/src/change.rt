@@ -1,6 +1,6 @@
 // A part starts, may start again, or is opened or closed.
 ghost use Rattle.std.specs.Prelude.{◌≡◌, ◌≤◌, ◌<◌, ℕ, true, false, length};
-ghost use Rattle.place_set.specs.Places.{count};
+ghost use Rattle.place_set.specs.Places.{count, flag};
 ghost use Rattle.wait_index.specs.declared.verdict.Verdict.{Verdict as OfVerdict};
 ghost use Rattle.wait_index.specs.Places.{order_of, IsInOrder, AreJudged};
 ghost use Rattle.wait_index.specs.Change.{IsChanged, started, again, gated};
@@ -15,6 +15,7 @@ impl Places {
         ensures in_order { IsInOrder self.new }
         ensures changed { IsChanged started place self.old self.new }
         ensures judged { (judge : ℕ → OfVerdict) → AreJudged judge self.old → AreJudged judge self.new }
+        ensures asked { flag self.new.stale place ≡ false }
         ensures owed { count self.new.stale ≤ count self.old.stale }
     {
         let number = self.number_at(place);

@@ -1,6 +1,6 @@
 // The parts of a volume come.
 ghost use Rattle.std.specs.Prelude.{◌≡◌, ◌≤◌, ◌<◌, ◌+◌, ◌++◌, Some, length};
-ghost use Rattle.catalog_model.specs.declared.limits.TheConstants.{MOST_MODULES};
+ghost use Rattle.catalog_model.specs.WellFormed.{IsWellFormed};
 ghost use Rattle.boot_model.specs.DxeChoice.{is_sor};
 ghost use Rattle.boot_model.specs.Licence.{AllDiffer};
 ghost use Rattle.pi_base.specs.Lists.{Each};
@@ -53,7 +53,7 @@ impl WaitIndex {
     /// These parts come, behind the others: those of a volume, in the order in which the phase reads them. Nothing is evaluated yet.
     pub fn discover(&mut self, catalog: &Catalog, parts: &[u32])
         requires index { IsIndex catalog.now self.old }
-        requires few { length catalog.now.modules ≤ MOST_MODULES }
+        requires catalog { IsWellFormed catalog.now }
         requires known { Each (λ number. number < length catalog.now.modules) parts.now }
         requires differ { AllDiffer (order_in self.old ++ parts.now) }
         ensures index { IsIndex catalog.now self.new }

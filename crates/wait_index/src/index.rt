@@ -1,19 +1,13 @@
 // The index of the parts that wait.
-ghost use Rattle.std.specs.Prelude.{◌≡◌, ◌≤◌, ◌<◌, ◌+◌, ℕ, Some, length, find, slice_get, ◌↔◌};
-ghost use Rattle.std.specs.Option.{option_and_then};
-ghost use Rattle.catalog_model.specs.declared.catalog.Catalog.{Catalog as OfCatalog};
-ghost use Rattle.boot_model.specs.PeiChoice.{rotated};
-ghost use Rattle.wait_index.specs.Change.{started, again, gated};
-ghost use Rattle.wait_index.specs.Index.{IsIndex, IsSet, Changes, IsKnown, IsSame, Tells, order_in, owed, asked, is_eligible_in, place_in, watchers_at};
+ghost use Rattle.std.proofs.Props.{props};
+ghost use Rattle.wait_index.specs.Installed.{HasRoom};
 ghost use Rattle.wait_index.specs.Places.{IsInOrder};
-ghost use Rattle.wait_index.specs.Rouse.{IsRoused};
-ghost use Rattle.catalog_model.specs.WellFormed.{AreShort};
 
 use crate::installed::Installed;
 use crate::next::next;
 use crate::places::Places;
 use crate::settle::settle;
-use catalog_model::Catalog;
+use catalog_model::{Catalog, well_formed_expressions_are_short};
 use depex_code::Steps;
 use pi_base::{Guid, Phase, Seq};
 use std::sync::ledger::Ledger;
@@ -26,19 +20,30 @@ pub struct WaitIndex {
     /// Of each slot, the modules of which the expression pushes its GUID.
     pub(crate) watchers: Seq<Seq<u32>>,
     pub(crate) places: Places,
+    ghost in_order: { IsInOrder places } by { Prim.hlevel props },
+    ghost room: { HasRoom installed } by { Prim.hlevel props },
 }
 
 impl WaitIndex {
+    ghost use Rattle.std.specs.Prelude.{◌≡◌, ◌≤◌, ◌<◌, ◌+◌, ℕ, false, Some, length, find, slice_get, ◌↔◌};
+    ghost use Rattle.std.specs.Option.{option_and_then};
+    ghost use Rattle.catalog_model.specs.declared.catalog.Catalog.{Catalog as OfCatalog};
+    ghost use Rattle.catalog_model.specs.WellFormed.{IsWellFormed};
+    ghost use Rattle.boot_model.specs.PeiChoice.{rotated};
+    ghost use Rattle.wait_index.specs.Change.{started, again, gated};
+    ghost use Rattle.wait_index.specs.Index.{IsIndex, IsSet, Changes, IsKnown, IsSame, Tells, order_in, owed, is_owed, asked, is_eligible_in, place_in};
+
     /// Evaluates the expressions that may say something new, each once: those of the parts that came, and those that push a GUID that came or went.
     pub fn settle<L: Ledger>(&mut self, catalog: &Catalog, steps: &mut Steps<L>)
         requires index { IsIndex catalog.now self.old }
-        requires short { AreShort self.old.phase catalog.now }
+        requires catalog { IsWellFormed catalog.now }
         ensures index { IsIndex catalog.now self.new }
         ensures same { IsSame self.old self.new }
         ensures settled { owed self.new ≡ 0 }
         ensures counted { steps.old ≤ steps.new }
         ensures few_steps { steps.new ≤ steps.old + owed self.old }
     {
+        well_formed_expressions_are_short();
         settle(
             &mut self.places,
             self.phase,
@@ -67,7 +72,6 @@ impl WaitIndex {
 
     /// The first place from the cursor on, and then from the front, of which the part may start: again, or where it waits, is open, and its rank or its expression lets it.
     pub fn next(&self, cursor: usize) -> Option<usize>
-        requires index { (catalog : OfCatalog) × IsIndex catalog self.now }
         requires settled { owed self.now ≡ 0 }
         requires cursor { cursor ≤ length (order_in self.now) }
         ensures { (catalog : OfCatalog) → IsIndex catalog self.now
@@ -79,7 +83,6 @@ impl WaitIndex {
 
     /// A GUID is installed now, or is not. Where the index knows that, nothing changes.
     pub fn changed(&mut self, guid: &Guid, there: bool)
-        requires { (catalog : OfCatalog) × IsIndex catalog self.old }
         ensures index { (catalog : OfCatalog) → IsIndex catalog self.old → IsIndex catalog self.new }
         ensures set { (catalog : OfCatalog) → IsIndex catalog self.old → IsSet catalog guid.now there self.old self.new }
         ensures owed { (catalog : OfCatalog) → IsIndex catalog self.old → owed self.new ≤ owed self.old + asked catalog self.old guid.now }
@@ -90,16 +93,16 @@ impl WaitIndex {
         };
         if self.installed.says(slot) != there {
             self.installed.put(slot, there);
-            rouse_watchers(&mut self.places, self.watchers.as_slice(), slot);
+            self.places.rouse_watchers(self.watchers.as_slice(), slot);
         }
     }
 
-    /// The part at a place has started, for the first time or again.
+    /// The part at a place has started, for the first time or again. Its expression is asked no more.
     pub fn started(&mut self, place: usize)
-        requires index { (catalog : OfCatalog) × IsIndex catalog self.old }
         requires within { place < length (order_in self.old) }
         ensures index { (catalog : OfCatalog) → IsIndex catalog self.old → IsIndex catalog self.new }
         ensures changes { Changes started place self.old self.new }
+        ensures asked { is_owed self.new place ≡ false }
         ensures owed { owed self.new ≤ owed self.old }
     {
         self.places.start(place);
@@ -107,7 +110,6 @@ impl WaitIndex {
 
     /// The part at a place may start again.
     pub fn again(&mut self, place: usize)
-        requires index { (catalog : OfCatalog) × IsIndex catalog self.old }
         requires within { place < length (order_in self.old) }
         ensures index { (catalog : OfCatalog) → IsIndex catalog self.old → IsIndex catalog self.new }
         ensures changes { Changes again place self.old self.new }
@@ -118,7 +120,6 @@ impl WaitIndex {
 
     /// The part at a place is opened or closed: a driver with SOR is closed until it is requested.
     pub fn gate(&mut self, place: usize, is_open: bool)
-        requires index { (catalog : OfCatalog) × IsIndex catalog self.old }
         requires within { place < length (order_in self.old) }
         ensures index { (catalog : OfCatalog) → IsIndex catalog self.old → IsIndex catalog self.new }
         ensures changes { Changes (gated is_open) place self.old self.new }
@@ -137,20 +138,8 @@ impl WaitIndex {
     /// The place of a module. None where its volume is not known, or it has no part.
     pub fn place_of(&self, number: u32) -> Option<u32>
         ensures place { result ≡ place_in self.now number }
-        ensures at { (catalog : OfCatalog) → IsIndex catalog self.now → (place : ℕ)
-            → (result ≡ Some place) ↔ (slice_get (order_in self.now) place ≡ Some number) }
+        ensures at { (place : ℕ) → (result ≡ Some place) ↔ (slice_get (order_in self.now) place ≡ Some number) }
     {
         self.places.standing(number).place
-    }
-}
-
-// The expressions of the modules that watch a slot are stale.
-fn rouse_watchers(places: &mut Places, watchers: &[Seq<u32>], slot: usize)
-    requires { IsInOrder places.old }
-    ensures in_order { IsInOrder places.new }
-    ensures roused { IsRoused (watchers_at watchers.now slot) places.old places.new }
-{
-    if let Some(numbers) = watchers.get(slot) {
-        places.rouse_all(numbers.as_slice());
     }
 }

@@ -1,9 +1,11 @@
 // A GUID came or went: the expressions that ask for it are stale.
 ghost use Rattle.std.specs.Prelude.{[], ◌∷◌};
+ghost use Rattle.wait_index.specs.Index.{watchers_at};
 ghost use Rattle.wait_index.specs.Places.{IsInOrder};
 ghost use Rattle.wait_index.specs.Rouse.{IsRoused};
 
 use crate::places::Places;
+use pi_base::Seq;
 
 impl Places {
     /// The expression of a module is stale, where its part has a place and waits.
@@ -29,6 +31,17 @@ impl Places {
     {
         'numbers: for number in numbers {
             self.rouse(*number);
+        }
+    }
+
+    /// The expressions of the modules that watch a slot are stale, where their parts have places and wait.
+    pub(crate) fn rouse_watchers(&mut self, watchers: &[Seq<u32>], slot: usize)
+        requires { IsInOrder self.old }
+        ensures in_order { IsInOrder self.new }
+        ensures roused { IsRoused (watchers_at watchers.now slot) self.old self.new }
+    {
+        if let Some(numbers) = watchers.get(slot) {
+            self.rouse_all(numbers.as_slice());
         }
     }
 }

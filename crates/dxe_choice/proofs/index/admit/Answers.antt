@@ -6,9 +6,9 @@ use Rattle.dxe_choice.proofs.index.admit.Goals as goal
 
 pub gate-requires-clause-within : goal.gate-requires-clause-within
 gate-requires-clause-within c =
-    let at = (c.place_of.ensures.at c.requires.0 c.requires.1 c.in-Some.place).0 c.in-Some.is in place_within (order_in c.args.index.now) c.in-Some.place c.args.number at
+    let at = (c.place_of.ensures.at c.in-Some.place).0 c.in-Some.is in place_within (order_in c.args.index.now) c.in-Some.place c.args.number at
 
 pub returns-in_default : goal.returns-in_default
 returns-in_default c =
     requested_none c.args.number c.args.index.now
-    (not_there c.place_of.result (λ place. slice_get (order_in c.args.index.now) place ≡ Some c.args.number) c.in_default.is (λ place at. (c.place_of.ensures.at c.requires.0 c.requires.1 place).1 at))
+    (not_there c.place_of.result (λ place. slice_get (order_in c.args.index.now) place ≡ Some c.args.number) c.in_default.is (λ place at. (c.place_of.ensures.at place).1 at))

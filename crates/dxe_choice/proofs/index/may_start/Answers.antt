@@ -8,7 +8,7 @@ use Rattle.dxe_choice.proofs.index.may_start.Goals as goal
 
 pub next-requires-clause-cursor : goal.next-requires-clause-cursor
 next-requires-clause-cursor g c =
-    let at = (c.place_of.ensures.at c.args.catalog.now c.settle.ensures.index c.in-Some.place).0 c.in-Some.is in
+    let at = (c.place_of.ensures.at c.in-Some.place).0 c.in-Some.is in
     let below : c.in-Some.place < length (order_in c.settle.new.self) = place_within (order_in c.settle.new.self) c.in-Some.place c.args.number at in
     omega (arith, below)
 
@@ -19,9 +19,9 @@ returns-in-Some-clause-may g c m stands =
     let place = c.in-Some.place in
     let number = c.args.number in
     let index = c.settle.ensures.index in
-    let at = (c.place_of.ensures.at catalog index place).0 c.in-Some.is in
+    let at = (c.place_of.ensures.at place).0 c.in-Some.is in
     let here = stands_settled catalog m c.args.index.now new stands c.settle.ensures.same in
-    let once : (other : ℕ) → slice_get (order_in new) other ≡ Some number → other ≡ place = λ other there. one_place other place (sym ((c.place_of.ensures.at catalog index other).1 there) ∙ c.in-Some.is) in
+    let once : (other : ℕ) → slice_get (order_in new) other ≡ Some number → other ≡ place = λ other there. one_place other place (sym ((c.place_of.ensures.at other).1 there) ∙ c.in-Some.is) in
     next_with_place catalog m new place number index here at
     ∙ sym (c.eq.ensures ∙ is_same_place c.next.result place (is_eligible_in catalog new number) (first_from_place (is_eligible_in catalog new) (order_in new) place number c.next.result at once (c.next.ensures catalog index)))
 
@@ -31,4 +31,4 @@ returns-in-None-clause-may g c m stands =
     let new = c.settle.new.self in
     let here = stands_settled catalog m c.args.index.now new stands c.settle.ensures.same in
     none_without_place catalog m new c.args.number here
-    (not_there c.place_of.result (λ place. slice_get (order_in new) place ≡ Some c.args.number) c.in-None.is (λ place at. (c.place_of.ensures.at catalog c.settle.ensures.index place).1 at))
+    (not_there c.place_of.result (λ place. slice_get (order_in new) place ≡ Some c.args.number) c.in-None.is (λ place at. (c.place_of.ensures.at place).1 at))

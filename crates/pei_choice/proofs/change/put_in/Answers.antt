@@ -1,4 +1,4 @@
-use Rattle.std.proofs.Common.{◌≡◌, ◌+◌, ◌++◌, ◌∷◌, [], List, true, get_or, take, subst, sym}
+use Rattle.std.proofs.Common.{◌≡◌, [], List, true, get_or, take, subst, sym}
 use Rattle.std.proofs.lemmas.List.{take_more}
 use Rattle.pi_base.specs.declared.guid.Guid.{Guid}
 use Rattle.pei_choice.specs.Noted.{IsNoted}

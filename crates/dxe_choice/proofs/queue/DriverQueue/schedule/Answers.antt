@@ -1,12 +1,9 @@
 use Rattle.std.proofs.Common.{◌≡◌, ◌<◌, length, drop, subst, sym, ◌∷◌, []}
 use Rattle.boot_model.specs.declared.driver.Scheduled.{Scheduled}
 use Rattle.dxe_choice.specs.Queue.{Queue}
-use Rattle.dxe_choice.specs.Choosing.{HasIndex, Schedules}
+use Rattle.dxe_choice.specs.Choosing.{Schedules}
 use Rattle.dxe_choice.proofs.Scheduling.{one_scheduled}
 use Rattle.dxe_choice.proofs.queue.DriverQueue.schedule.Goals as goal
-
-pub leave-requires : goal.leave-requires
-leave-requires c = subst HasIndex (sym c.self.view_is) c.requires.index
 
 pub returns : goal.returns
 returns c =

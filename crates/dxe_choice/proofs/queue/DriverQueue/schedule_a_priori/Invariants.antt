@@ -1,6 +1,6 @@
 use Rattle.std.proofs.Common.{◌≡◌, drop, length}
 use Rattle.boot_model.specs.DxeChoice.{a_priori_drivers}
-use Rattle.dxe_choice.specs.Choosing.{HasIndex, Schedules}
+use Rattle.dxe_choice.specs.Choosing.{Schedules}
 use Rattle.dxe_choice.specs.Queue.{Queue}
 use Rattle.dxe_choice.proofs.queue.DriverQueue.schedule_a_priori.Given as goal
 
@@ -8,6 +8,5 @@ use Rattle.dxe_choice.proofs.queue.DriverQueue.schedule_a_priori.Given as goal
 abbrev pub invariant-volumes : goal.invariant-volumes
 invariant-volumes l = record {
   flags : length l.self.waits ≡ length l.fn.self.waits;
-  index : HasIndex l.self;
   on : (later : Queue) → Schedules l.self (a_priori_drivers l.fn.catalog (drop l.volume-index l.volumes)) later → Schedules l.fn.self (a_priori_drivers l.fn.catalog l.volumes) later;
 }

@@ -1,6 +1,6 @@
 use Rattle.std.proofs.Common.{◌≡◌, drop, length, map}
 use Rattle.pi_base.specs.Lists.{Each}
-use Rattle.dxe_choice.specs.Choosing.{HasIndex, IsNumberOf, Schedules, as_apriori}
+use Rattle.dxe_choice.specs.Choosing.{IsNumberOf, Schedules, as_apriori}
 use Rattle.dxe_choice.specs.Queue.{Queue}
 use Rattle.dxe_choice.proofs.queue.DriverQueue.schedule_ranked.Given as goal
 
@@ -8,7 +8,6 @@ use Rattle.dxe_choice.proofs.queue.DriverQueue.schedule_ranked.Given as goal
 abbrev pub invariant-numbers : goal.invariant-numbers
 invariant-numbers l = record {
   flags : length l.self.waits ≡ length l.fn.self.waits;
-  index : HasIndex l.self;
   left : Each (IsNumberOf l.fn.self) (drop l.number-index l.numbers);
   on : (later : Queue) → Schedules l.self (map as_apriori (drop l.number-index l.numbers)) later → Schedules l.fn.self (map as_apriori l.numbers) later;
 }

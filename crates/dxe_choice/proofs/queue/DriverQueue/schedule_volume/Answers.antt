@@ -7,6 +7,5 @@ push_ranked-requires-clause-room c = ranked_room c.args.catalog.now c.args.volum
 
 pub schedule_ranked-requires : goal.schedule_ranked-requires
 schedule_ranked-requires c = record {
-  index = c.requires.index;
   numbers = ranked_numbers c.args.catalog.now c.args.volume c.args.self.now c.new-parts.result c.push_ranked.new.self c.as_slice.result.now c.new-parts.ensures c.push_ranked.ensures c.as_slice.ensures c.requires.flags;
 }

@@ -1,13 +1,8 @@
 use Rattle.std.specs.Option.{option_to_list}
 use Rattle.pei_choice.specs.declared.queue.PeiQueue.{PeiQueue}
-use Rattle.pei_choice.proofs.Notes.{noted_shows, noted_owes, told_still}
+use Rattle.pei_choice.proofs.Notes.{noted_shows, noted_owes}
 use Rattle.pei_choice.proofs.Views.{stands_so}
 use Rattle.pei_choice.proofs.queue.PeiQueue.changed.Goals as goal
-
-pub put_in-requires : goal.put_in-requires
-put_in-requires c =
-    let catalog = c.requires.0 in
-    (catalog, (c.take_away.ensures catalog (λ guid. c.args.is_still_there) c.requires.2.of_catalog (told_still c.args.gone c.args.is_still_there)).of_catalog)
 
 pub returns-clause-shows : goal.returns-clause-shows
 returns-clause-shows c catalog has view shows event =

@@ -2,7 +2,7 @@ use Rattle.std.proofs.Common.{arith, ◌≡◌, ◌+◌, ℕ, List, [], ◌∷�
 use Rattle.std.proofs.lemmas.List.{append-nil, take_more, length-append}
 use Rattle.boot_model.specs.PeiChoice.{pei_order, volume_order}
 use Rattle.pei_choice.specs.Queue.{Shows}
-use Rattle.pei_choice.specs.View.{View, with_volumes}
+use Rattle.pei_choice.specs.View.{with_volumes}
 use Rattle.pei_choice.proofs.Differing.{next_differs}
 use Rattle.pei_choice.proofs.Room.{order_more}
 use Rattle.pei_choice.proofs.Views.{shows_alike, volumes_more}

@@ -17,7 +17,7 @@ push_ranked-requires-clause-room c =
     let ranked = ranked_parts Pei catalog c.args.volume in
     let others = unranked_parts Pei catalog c.args.volume in
     front_fits (c.new-parts.result ++ ranked) others MOST_MODULES
-    (room_for c.order_is_of_modules.ensures catalog [] c.new-parts.result ranked others c.args.volume MOST_MODULES c.requires.few refl c.new-parts.ensures (refl, tt))
+    (room_for c.order_is_of_modules.ensures catalog [] c.new-parts.result ranked others c.args.volume MOST_MODULES c.requires.catalog.few_modules refl c.new-parts.ensures (refl, tt))
 
 pub push_unranked-requires-clause-room : goal.push_unranked-requires-clause-room
 push_unranked-requires-clause-room c =
@@ -25,7 +25,7 @@ push_unranked-requires-clause-room c =
     let ranked = ranked_parts Pei catalog c.args.volume in
     let others = unranked_parts Pei catalog c.args.volume in
     subst (λ (xs : List ℕ). length (xs ++ others) ≤ MOST_MODULES) (sym c.push_ranked.ensures)
-    (room_for c.order_is_of_modules.ensures catalog [] c.new-parts.result ranked others c.args.volume MOST_MODULES c.requires.few refl c.new-parts.ensures (refl, tt))
+    (room_for c.order_is_of_modules.ensures catalog [] c.new-parts.result ranked others c.args.volume MOST_MODULES c.requires.catalog.few_modules refl c.new-parts.ensures (refl, tt))
 
 pub discover-requires-clause-known : goal.discover-requires-clause-known
 discover-requires-clause-known c =

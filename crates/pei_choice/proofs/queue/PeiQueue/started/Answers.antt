@@ -1,26 +1,24 @@
-use Rattle.std.proofs.Common.{◌≡◌, ℕ, Some, None, sym, ◌∙◌, ap, subst}
-use Rattle.std.specs.Prelude.{slice_get}
-use Rattle.catalog_model.specs.Parts.{has_number}
+use Rattle.std.proofs.Common.{◌≡◌, Some, sym, ◌∙◌}
 use Rattle.pei_choice.proofs.Places.{found_place, place_within, behind_place}
 use Rattle.pei_choice.proofs.queue.PeiQueue.started.Goals as goal
 
 pub unreachable-requires : goal.unreachable-requires
 unreachable-requires c =
     let order = c.args.self.now.index.places.order.items in
-    let there = found_place order c.args.number (ap (λ xs. has_number xs c.args.number) c.requires.2.order ∙ c.requires.3) in
-    c.in_default.not-Some there.0 ((c.place_of.ensures.at c.requires.0 c.requires.2.of_catalog there.0).1 there.1)
+    let there = found_place order c.args.number c.requires in
+    c.in_default.not-Some there.0 ((c.place_of.ensures.at there.0).1 there.1)
 
-pub started-requires-clause-within : goal.started-requires-clause-within
-started-requires-clause-within c =
+pub started-requires : goal.started-requires
+started-requires c =
     let order = c.args.self.now.index.places.order.items in
-    place_within order c.args.number c.in-Some.place ((c.place_of.ensures.at c.requires.0 c.requires.2.of_catalog c.in-Some.place).0 c.in-Some.is)
+    record { within = place_within order c.args.number c.in-Some.place ((c.place_of.ensures.at c.in-Some.place).0 c.in-Some.is) }
 
 pub returns-clause-cursor : goal.returns-clause-cursor
 returns-clause-cursor c =
     let order = c.args.self.now.index.places.order.items in
     let place = c.in-Some.place in
-    let at = (c.place_of.ensures.at c.requires.0 c.requires.2.of_catalog place).0 c.in-Some.is in
+    let at = (c.place_of.ensures.at place).0 c.in-Some.is in
     sym (behind_place order c.args.number place at (λ other e.
-    let is : c.place_of.result ≡ Some other = (c.place_of.ensures.at c.requires.0 c.requires.2.of_catalog other).1 e in
+    let is : c.place_of.result ≡ Some other = (c.place_of.ensures.at other).1 e in
     let one : Some other ≡ Some place = sym is ∙ c.in-Some.is in
     cc))

@@ -7,7 +7,7 @@ use Rattle.pei_core.specs.Standing.{Has, StandsFor}
 use Rattle.pei_core.specs.Steps.{IsIdle}
 use Rattle.pei_core.proofs.Acting.{counted, counted_sound, counted_started, done, for_counted, fuel_left, left_core, own_leads, own_places, own_takes, takes_own}
 use Rattle.pei_core.proofs.Cases.{case_acts, cons_nil, part, went}
-use Rattle.pei_core.proofs.Going.{first_part, goes_on, same_err, stepped_from, steps_fail, stepped_none, stepped_one, texts}
+use Rattle.pei_core.proofs.Going.{acts_halt, first_part, goes_on, same_err, stepped_from, steps_fail, stepped_none, stepped_one, texts}
 use Rattle.pei_core.proofs.pei.Pei.act.Goals as goal
 
 pub returns-in_err-print-in-Prints-clause-row : goal.returns-in_err-print-in-Prints-clause-row
@@ -53,7 +53,7 @@ returns-in_err-changes-in-Own-clause-row g c m fuel for h runs =
     (takes_own catalog m runs.top runs.below action c.act.new.frames runs.frames has.1) in
     goes_on c.in_err-changes-in-Own.field-0.0 g.M.PeiStore.TAKES_MEMORY (Has g.M.PeiStore.stands_for c.act_own.new.self) _ catalog fuel m (counted m) (action_goal catalog (counted m) runs.top runs.below action) []
     (T c.args.sink.now) (T c.args.sink.now) (T c.act_own.new.sink) c.from_residual-in_err-changes-in-Own.result (same_err _ c.from_residual-in_err-changes-in-Own.result c.from_residual-in_err-changes-in-Own.ensures.1) (λ (idle : IsIdle m). cons_nil _ _ _ runs.frames idle.frames)
-    (ap (in_case catalog fuel m) is ∙ own_leads catalog fuel m runs.top runs.below action left has.1.is) (sym (append-nil m.lines)) (appends_none (T c.args.sink.now)) goes
+    (ap (in_case catalog fuel m) is ∙ own_leads catalog fuel m runs.top runs.below action left has.1.is) (sym (append-nil m.lines)) (appends_none (T c.args.sink.now)) (acts_halt c.in_err-changes-in-Own.field-0.0 g.M.PeiStore.TAKES_MEMORY (Has g.M.PeiStore.stands_for c.act_own.new.self) (counted m) (action_goal catalog (counted m) runs.top runs.below action) (texts (T c.args.sink.now) (T c.act_own.new.sink)) goes)
 
 pub returns-in_err-changes-in-Own-clause-kept : goal.returns-in_err-changes-in-Own-clause-kept
 returns-in_err-changes-in-Own-clause-kept g c =
@@ -68,8 +68,8 @@ returns-in-Silent-clause-row g c m fuel for h runs =
     let catalog = c.args.catalog.now in
     let has = c.in-Silent.ensures runs.top runs.below (sym h.has.fields.frames ∙ runs.frames) in
     let d = done c.effects_are_alike.ensures.pei catalog fuel m runs.top runs.below c.args.self.now.core c.act.new.fuel c.act.new.frames [] h.has.fields for.fuelled has.0 has.1 in
-    went g.M.PeiStore.TAKES_MEMORY _ catalog fuel m d.later (Acts runs.top runs.below) c.none.result _ c.by.result (texts (T c.args.sink.now) (T c.args.sink.now)) (case_acts catalog m runs.top runs.below runs.quiet runs.frames) d.is
-    (λ (idle : IsIdle m). cons_nil _ _ _ runs.frames idle.frames) (c.none.ensures.there ∙ sym d.there) (c.none.ensures.gone ∙ sym d.gone) (ap length c.as_slice-known.ensures ∙ ap length (sym h.has.fields.reported)) c.by.ensures
+    went g.M.PeiStore.TAKES_MEMORY _ catalog fuel m d.later (Acts runs.top runs.below) c.none.result _ _ c.by.result (texts (T c.args.sink.now) (T c.args.sink.now)) (case_acts catalog m runs.top runs.below runs.quiet runs.frames) d.is
+    (λ (idle : IsIdle m). cons_nil _ _ _ runs.frames idle.frames) (c.none.ensures.there ∙ sym d.there) (c.none.ensures.gone ∙ sym d.gone) d.again (ap length c.as_slice-known.ensures ∙ ap length (sym h.has.fields.reported)) c.by.ensures
     (stepped_none _ m d.later (T c.args.sink.now) (d.printed ∙ append-nil m.lines) (record { store = subst (g.M.PeiStore.stands_for c.args.self.now.store) (sym d.store) h.has.store; fields = d.fields }))
 
 pub returns-in-Silent-clause-kept : goal.returns-in-Silent-clause-kept
@@ -85,8 +85,8 @@ returns-in_ok-print-in-Prints-clause-row g c m fuel for h runs =
     let line = c.in-Prints.line in
     let has = c.in-Prints.ensures runs.top runs.below (sym h.has.fields.frames ∙ runs.frames) in
     let d = done c.effects_are_alike.ensures.pei catalog fuel m runs.top runs.below c.args.self.now.core c.act.new.fuel c.act.new.frames (line ∷ []) h.has.fields for.fuelled has.0 has.1 in
-    went g.M.PeiStore.TAKES_MEMORY _ catalog fuel m d.later (Acts runs.top runs.below) c.none-in-Prints.result _ c.by-in-Prints.result (texts (T c.args.sink.now) (T c.print.new.sink)) (case_acts catalog m runs.top runs.below runs.quiet runs.frames) d.is
-    (λ (idle : IsIdle m). cons_nil _ _ _ runs.frames idle.frames) (c.none-in-Prints.ensures.there ∙ sym d.there) (c.none-in-Prints.ensures.gone ∙ sym d.gone) (ap length c.as_slice-known.ensures ∙ ap length (sym h.has.fields.reported)) c.by-in-Prints.ensures
+    went g.M.PeiStore.TAKES_MEMORY _ catalog fuel m d.later (Acts runs.top runs.below) c.none-in-Prints.result _ _ c.by-in-Prints.result (texts (T c.args.sink.now) (T c.print.new.sink)) (case_acts catalog m runs.top runs.below runs.quiet runs.frames) d.is
+    (λ (idle : IsIdle m). cons_nil _ _ _ runs.frames idle.frames) (c.none-in-Prints.ensures.there ∙ sym d.there) (c.none-in-Prints.ensures.gone ∙ sym d.gone) d.again (ap length c.as_slice-known.ensures ∙ ap length (sym h.has.fields.reported)) c.by-in-Prints.ensures
     (stepped_one _ m d.later line line (T c.args.sink.now) (T c.print.new.sink) d.printed refl c.in_ok-print-in-Prints.ensures.text (record { store = subst (g.M.PeiStore.stands_for c.args.self.now.store) (sym d.store) h.has.store; fields = d.fields }))
 
 pub returns-in_ok-print-in-Prints-clause-kept : goal.returns-in_ok-print-in-Prints-clause-kept
@@ -108,11 +108,11 @@ returns-in_ok-changes-in-Own-clause-row g c m fuel for h runs =
     let reached = c.in_ok-changes-in-Own.ensures.row (counted m) (record { has = record { store = h.has.store; fields = fields }; sound = counted_sound m h.sound; started = counted_started m h.started }) own in
     let to = action_goal catalog (counted m) runs.top runs.below action in
     let t = texts (T c.args.sink.now) (T c.act_own.new.sink) in
-    went g.M.PeiStore.TAKES_MEMORY _ catalog fuel m to.to (Acts runs.top runs.below) c.in_ok-changes-in-Own.changes _ c.by-in-Own.result t (case_acts catalog m runs.top runs.below runs.quiet runs.frames)
+    went g.M.PeiStore.TAKES_MEMORY _ catalog fuel m to.to (Acts runs.top runs.below) c.in_ok-changes-in-Own.changes _ _ c.by-in-Own.result t (case_acts catalog m runs.top runs.below runs.quiet runs.frames)
     (own_leads catalog fuel m runs.top runs.below action left has.1.is)
-    (λ (idle : IsIdle m). cons_nil _ _ _ runs.frames idle.frames) (reached.there ∙ sym (own_places catalog fuel m runs.top runs.below action left has.1.is)) (reached.gone ∙ sym (own_takes catalog fuel m runs.top runs.below action left has.1.is))
+    (λ (idle : IsIdle m). cons_nil _ _ _ runs.frames idle.frames) (reached.0.there ∙ sym (own_places catalog fuel m runs.top runs.below action left has.1.is)) (reached.0.gone ∙ sym (own_takes catalog fuel m runs.top runs.below action left has.1.is)) reached.1
     (ap length c.as_slice-known.ensures ∙ ap length (sym h.has.fields.reported)) c.by-in-Own.ensures
-    (stepped_from _ (counted m) m to.to t refl reached.stepped)
+    (stepped_from _ (counted m) m to.to t refl reached.0.stepped)
 
 pub returns-in_ok-changes-in-Own-clause-kept : goal.returns-in_ok-changes-in-Own-clause-kept
 returns-in_ok-changes-in-Own-clause-kept g c =

@@ -15,7 +15,6 @@ returns-clause-opening g c board stand =
           sweep = refl;
           reported = first_family catalog c.new-reported.result c.add.new.self c.new-reported.ensures c.add.ensures.added;
           states = first_states board catalog c.in_ok-none_started.field-0 c.len.result states;
-          shadows = sym c.new-2.ensures;
           actions = refl;
           starts = refl;
           running = refl;

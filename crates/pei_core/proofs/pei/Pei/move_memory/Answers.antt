@@ -9,7 +9,7 @@ use Rattle.pei_core.specs.Standing.{Has}
 use Rattle.pei_core.specs.Steps.{IsIdle}
 use Rattle.pei_core.proofs.Cases.{case_moves, part, some_none, went}
 use Rattle.pei_core.proofs.Going.{first_part, goes_on, one_text, same_err, steps_fail, stepped_after, texts}
-use Rattle.pei_core.proofs.Moving.{call_prints, migrate_line, moved, moved_core}
+use Rattle.pei_core.proofs.Moving.{call_prints, migrate_line, moved, moved_core, moved_lets}
 use Rattle.pei_core.proofs.pei.Pei.move_memory.Goals as goal
 
 pub returns-in_err-print-clause-row : goal.returns-in_err-print-clause-row
@@ -51,6 +51,6 @@ returns-clause-row g c catalog m fuel for h moves =
     let line = L.Migrate m.store.base a.0.base in
     let first = subst (λ l. Appends (T c.args.sink.now) (T c.print.new.sink) l) (ap line_text (migrate_line c.migrate-from.result m.store a.0 a.1.1) ∙ sym (one_text line)) c.in_ok-print.ensures.text in
     let reached = c.in_ok-changes.ensures.row mid (record { store = a.2; fields = moved_core m a.0 c.args.self.now.core h.has.fields }) in
-    went g.M.PeiStore.TAKES_MEMORY _ catalog fuel m (moved_to m a.0) (Moves a.0) c.in_ok-changes.changes _ c.by.result (texts (T c.args.sink.now) (T c.install_memory.new.sink)) is refl
-    (λ (idle : IsIdle m). some_none _ _ a.1.0 idle.moves) reached.there reached.gone (ap length c.as_slice-known.ensures ∙ ap length (sym h.has.fields.reported)) c.by.ensures
+    went g.M.PeiStore.TAKES_MEMORY _ catalog fuel m (moved_to m a.0) (Moves a.0) c.in_ok-changes.changes _ _ c.by.result (texts (T c.args.sink.now) (T c.install_memory.new.sink)) is refl
+    (λ (idle : IsIdle m). some_none _ _ a.1.0 idle.moves) reached.there reached.gone (moved_lets m a.0 a.1.0) (ap length c.as_slice-known.ensures ∙ ap length (sym h.has.fields.reported)) c.by.ensures
     (stepped_after _ m mid (moved_to m a.0) (line ∷ []) (T c.args.sink.now) (T c.print.new.sink) (T c.install_memory.new.sink) refl first reached.stepped)

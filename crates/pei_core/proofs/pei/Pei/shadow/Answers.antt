@@ -36,6 +36,6 @@ returns-clause-kept g c catalog =
     let state = state_at core.states c.args.number in
     record {
       made = λ fuel for. let later = subst (λ x. IsCoreFor catalog fuel x) (sym c.register-status.ensures.core) (registered_for state catalog fuel c.args.number core c.requires.here refl for) in
-          record { states = later.states; known = later.known; shadows = later.shadows; fuelled = later.fuelled };
+          record { states = later.states; known = later.known; fuelled = later.fuelled };
       started = ap (λ (x : Core). x.last_start) c.register-status.ensures.core ∙ same_start state c.args.number core;
     }

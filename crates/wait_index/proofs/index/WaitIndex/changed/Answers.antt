@@ -11,9 +11,8 @@ returns-then-says-there-clause-index c catalog is =
     let here = sym c.get.ensures ∙ c.in-Some.is in
     record {
       watched = watched_still old.phase catalog old.watchers old.installed c.put.new.self c.in-Some.slot c.args.there is.watched c.put.ensures.slots c.put.ensures.there c.put.ensures.protocols;
-      in_order = c.rouse_watchers.ensures.in_order;
-      judged = judged_still catalog old c.put.new.self c.rouse_watchers.new.places c.args.guid.now c.in-Some.slot c.args.there is here c.put.ensures.slots c.put.ensures.there
-          (subst (λ (lists : List (List ℕ)). IsRoused (watchers_at lists c.in-Some.slot) old.places c.rouse_watchers.new.places) c.as_slice.ensures c.rouse_watchers.ensures.roused);
+      judged = judged_still catalog old c.put.new.self c.rouse_watchers.new.self c.args.guid.now c.in-Some.slot c.args.there is here c.put.ensures.slots c.put.ensures.there
+          (subst (λ (lists : List (List ℕ)). IsRoused (watchers_at lists c.in-Some.slot) old.places c.rouse_watchers.new.self) c.as_slice.ensures c.rouse_watchers.ensures.roused);
       as_many = ap length c.rouse_watchers.ensures.roused.standings ∙ is.as_many;
     }
 

@@ -19,7 +19,7 @@ add-requires-clause-within c =
     omega (arith, less, c.parts.invariant.come.as_many, c.requires.index.as_many)
 
 pub add-requires-clause-few : goal.add-requires-clause-few
-add-requires-clause-few c = omega (arith, c.requires.few, c.parts.invariant.come.as_many, c.requires.index.as_many)
+add-requires-clause-few c = omega (arith, c.requires.catalog.few_modules, c.parts.invariant.come.as_many, c.requires.index.as_many)
 
 pub parts-preserved : goal.parts-preserved
 parts-preserved c =
@@ -29,7 +29,6 @@ parts-preserved c =
       phase = c.parts.invariant.phase;
       installed = c.parts.invariant.installed;
       watchers = c.parts.invariant.watchers;
-      in_order = c.add.ensures.in_order;
       judged = c.add.ensures.judged (verdict_of index.phase c.args.catalog.now (is_there index.installed)) c.parts.invariant.judged;
       come = come_more index.phase c.args.catalog.now c.args.parts.now c.parts.number-index index.places c.parts.self.places c.add.new.self c.opens-is_open.result c.parts-test.true
           (c.opens-is_open.ensures ∙ ap (λ (p : Phase). opens p (part_at p c.args.catalog.now item)) c.parts.invariant.phase) c.parts.invariant.come
@@ -42,7 +41,7 @@ returns c =
     let index = c.args.self.now in
     let come = subst (λ (xs : List ℕ). HaveCome index.phase c.args.catalog.now xs index.places c.parts.self.places) (take_all c.args.parts.now c.parts.number-index c.parts-test.false) c.parts.invariant.come in
     record {
-      index = index_from c.args.catalog.now index c.parts.self c.parts.invariant.phase c.parts.invariant.installed c.parts.invariant.watchers c.requires.index c.parts.invariant.in_order
+      index = index_from c.args.catalog.now index c.parts.self c.parts.invariant.phase c.parts.invariant.installed c.parts.invariant.watchers c.requires.index
           c.parts.invariant.judged c.parts.invariant.come.as_many;
       come = come;
       phase = c.parts.invariant.phase;

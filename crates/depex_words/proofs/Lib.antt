@@ -1,0 +1,7 @@
+mod Depths
+mod Codes
+mod Passing
+mod Writing
+mod Parts
+mod Trees
+mod Says

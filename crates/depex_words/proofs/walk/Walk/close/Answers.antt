@@ -1,0 +1,15 @@
+use Rattle.std.proofs.Common.{◌≡◌, ◌+◌, ◌-◌, ◌++◌, ◌∷◌, arith, ap, sym, ◌∙◌}
+use Rattle.depex_words.specs.declared.walk.Stage.TheVariants.{Ended}
+use Rattle.depex_words.specs.declared.token.Token.TheVariants.{Close}
+use Rattle.depex_words.specs.Emission.{emitted, operators, below_bracket}
+use Rattle.depex_words.proofs.Depths.{closes}
+use Rattle.depex_words.proofs.Codes.{written}
+use Rattle.depex_words.proofs.walk.Walk.close.Goals as goal
+
+pub returns : goal.returns
+returns c =
+    let old = c.args.self.now in
+    (omega arith, (λ rest.
+    let less : old.depth ≡ (old.depth - 1) + 1 = omega arith in
+    (rw c.requires.ended (closes old.depth (old.depth - 1) rest less),
+    rw c.requires.ended (written old.code c.put_operators.new.code old.waiting c.put_operators.new.stack rest c.in_ok-put_operators.ensures.code c.in_ok-put_operators.ensures.stack))))
