@@ -287,7 +287,7 @@ def write_gcd(folder: Path, count: int) -> None:
 
 def rows() -> list[Row]:
     found = [Row("refused words", "piboot", ["boot"], nothing)]
-    found += [booted("one PEIM, KiB of RAM", lambda: logs(1, 1), size, ram=size * KIB) for size in (4, 65536, 262144)]
+    found += [booted("one PEIM in so many KiB of RAM", lambda: logs(1, 1), size, ram=size * KIB) for size in (4, 65536, 262144)]
     found += [booted("PEIMs of ten logs", lambda n=size: logs(n, 10), size) for size in (64, 1024, 4096)]
     found += [booted("a tree of PEIMs", lambda n=size: tree(n), size) for size in (1024, 4096)]
     found += [booted("a line of PEIMs", lambda n=size: line(n), size) for size in (1024, 4096)]
