@@ -9,7 +9,7 @@ from collections.abc import Callable, Iterable
 from dataclasses import dataclass
 from pathlib import Path
 
-from meeting_guids import meeting_guid
+from meeting_guids import meeting_guids
 
 KIB, MIB = 1 << 10, 1 << 20
 FFS3 = uuid.UUID("5473c07a-3dcb-4dca-bd6f-1e9689e7349a").bytes_le
@@ -212,15 +212,16 @@ def drivers_on_request(count: int) -> list[bytes]:
     return [hand_off()] + [driver(n, (SOR if n else b"") + TRUE + END, request[n]) for n in range(count - 1, -1, -1)]
 
 
-def protocols(count: int, name: Callable[[int], bytes]) -> list[bytes]:
-    """Drivers that install so many protocols, each on a handle of its own."""
-    installed = [bytes([0x20, 0, 2]) + name(n) + b"\x01" for n in range(count)]
+def protocols(names: list[bytes]) -> list[bytes]:
+    """Drivers that install these protocols, each on a handle of its own."""
+    installed = [bytes([0x20, 0, 2]) + name + b"\x01" for name in names]
     room = 1000
-    return [hand_off()] + [driver(first, TRUE + END, [set_to(1, 0), *installed[first : first + room]]) for first in range(0, count, room)]
+    return [hand_off()] + [driver(n, TRUE + END, [set_to(1, 0), *installed[n : n + room]]) for n in range(0, len(names), room)]
 
 
-def meeting(number: int) -> bytes:
-    return uuid.UUID(meeting_guid(number)).bytes_le
+def meeting(count: int) -> list[bytes]:
+    """GUIDs that meet in the hash table of the handles."""
+    return [uuid.UUID(text).bytes_le for text in meeting_guids(count)]
 
 
 def many_files() -> list[bytes]:
@@ -287,7 +288,7 @@ def write_gcd(folder: Path, count: int) -> None:
 
 def rows() -> list[Row]:
     found = [Row("refused words", "piboot", ["boot"], nothing)]
-    found += [booted("one PEIM, KiB of RAM", lambda: logs(1, 1), size, ram=size * KIB) for size in (4, 65536, 262144)]
+    found += [booted("one PEIM in so many KiB of RAM", lambda: logs(1, 1), size, ram=size * KIB) for size in (4, 65536, 262144)]
     found += [booted("PEIMs of ten logs", lambda n=size: logs(n, 10), size) for size in (64, 1024, 4096)]
     found += [booted("a tree of PEIMs", lambda n=size: tree(n), size) for size in (1024, 4096)]
     found += [booted("a line of PEIMs", lambda n=size: line(n), size) for size in (1024, 4096)]
@@ -304,8 +305,8 @@ def rows() -> list[Row]:
     found += [booted("drivers in a line", lambda n=size: drivers_in_line(n), size) for size in (1000, 4000)]
     found += [booted("drivers, each AFTER another", lambda n=size: drivers_after(n), size) for size in (1000, 4000)]
     found += [booted("drivers, each requested by another", lambda n=size: drivers_on_request(n), size) for size in (1000, 4000)]
-    found += [booted("protocols", lambda n=size: protocols(n, lambda number: guid(5, number)), size) for size in (1000, 4000, 16000)]
-    found += [booted("protocols whose GUIDs meet in a hash table", lambda n=size: protocols(n, meeting), size) for size in (1000, 4000, 16000)]
+    found += [booted("protocols", lambda n=size: protocols([guid(5, number) for number in range(n)]), size) for size in (1000, 4000)]
+    found += [booted("protocols whose GUIDs meet in a hash table", lambda n=size: protocols(meeting(n)), size) for size in (1000, 4000)]
     found += [Row(f"generate {size}", "piboot", ["generate", str(size)], nothing, "generate", size) for size in (256, 1024, 4096)]
     found += [audited("16,384 files in 64 MiB", many_files, 64 * MIB), audited("256 scripts of 64 KiB", lambda: large_scripts(250))]
     found += [audited("4 million a priori names of nobody", lambda: a_priori(4000000, 0)), audited("4 million of 4,096 PEIMs", lambda: a_priori(4000000, 4096))]

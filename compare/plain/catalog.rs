@@ -81,7 +81,17 @@ impl<'a> Catalog<'a> {
     }
 
     #[allow(clippy::too_many_arguments)]
-    fn add_volume(&mut self, plan: &Plan, number: usize, image: &'a [u8], at: usize, end: usize, nested_in: Option<usize>, file_name: Option<Guid>, depth: usize) -> Result<(), Fault> {
+    fn add_volume(
+        &mut self,
+        plan: &Plan,
+        number: usize,
+        image: &'a [u8],
+        at: usize,
+        end: usize,
+        nested_in: Option<usize>,
+        file_name: Option<Guid>,
+        depth: usize,
+    ) -> Result<(), Fault> {
         if depth > DEEPEST {
             return Err(Fault("Nesting", at));
         }
@@ -103,7 +113,14 @@ impl<'a> Catalog<'a> {
             }
         }
         let own = self.volumes.len();
-        self.volumes.push(Mapped { base, length: volume.length, name: volume.name, nested_in, modules_before: nested_in.map_or(0, |parent| self.found[parent].len()), file_name });
+        self.volumes.push(Mapped {
+            base,
+            length: volume.length,
+            name: volume.name,
+            nested_in,
+            modules_before: nested_in.map_or(0, |parent| self.found[parent].len()),
+            file_name,
+        });
         self.found.push(Vec::new());
         let mut lists: [Option<&[u8]>; 2] = [None, None];
         for file in &volume.files {

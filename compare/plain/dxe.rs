@@ -347,7 +347,11 @@ impl<'a> Dxe<'a> {
 
     /// By EDK2's rule events run while no notification does.
     fn next_event(&mut self) -> Option<(usize, usize, Guid, u32)> {
-        if rules().notify_behind_the_running && self.frames.len() == 1 { self.events.next() } else { None }
+        if rules().notify_behind_the_running && self.frames.len() == 1 {
+            self.events.next()
+        } else {
+            None
+        }
     }
 
     fn begin_event(&mut self, number: usize, block: usize, guid: Guid, handle: u32, out: &mut Out) -> Result<(), Halt> {
@@ -515,7 +519,11 @@ impl<'a> Dxe<'a> {
 }
 
 fn status_of_no_volume() -> Status {
-    if rules().process_none_corrupted { Status::VolumeCorrupted } else { Status::NotFound }
+    if rules().process_none_corrupted {
+        Status::VolumeCorrupted
+    } else {
+        Status::NotFound
+    }
 }
 
 /// The modules of a volume by place; by EDK2's rule by type, and of one type by place.

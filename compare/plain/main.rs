@@ -162,8 +162,12 @@ fn read_file(name: &str, most: u64) -> Result<Vec<u8>, Refusal> {
 
 /// A plan and the images of its volumes.
 fn read_boot(name: &str) -> Result<(Plan, Vec<Vec<u8>>), Refusal> {
-    let text = read_file(name, KIB_64)?;
-    let plan = plan::read(&text).map_err(|(line, cause)| Refusal(format!("refused plan {line} {cause}"), PLAN_REFUSED))?;
+    read_images(&read_file(name, KIB_64)?)
+}
+
+/// The plan that a text is, and the images of its volumes.
+fn read_images(text: &[u8]) -> Result<(Plan, Vec<Vec<u8>>), Refusal> {
+    let plan = plan::read(text).map_err(|(line, cause)| Refusal(format!("refused plan {line} {cause}"), PLAN_REFUSED))?;
     let images = plan.volumes.iter().map(|(_, name)| read_file(name, MIB_64)).collect::<Result<_, _>>()?;
     Ok((plan, images))
 }
@@ -257,8 +261,8 @@ fn generated(count: usize, out: &mut Out) -> Result<i32, Refusal> {
 }
 
 fn check(name: &str, trace: &str, out: &mut Out) -> Result<i32, Refusal> {
-    let (plan, images) = read_boot(name)?;
-    let trace = read_file(trace, MIB_64)?;
+    let (text, trace) = (read_file(name, KIB_64)?, read_file(trace, MIB_64)?);
+    let (plan, images) = read_images(&text)?;
     let catalog = examined(&plan, &images)?;
     let mut names = HashSet::new();
     if let Some(twin) = catalog.modules.iter().find(|module| !names.insert((module.volume, module.name))) {

@@ -120,7 +120,11 @@ impl<'a> Pei<'a> {
     }
 
     fn next_dispatch(&mut self) -> Option<(usize, usize)> {
-        if rules().dispatch_by_lists { self.store.next_dispatch() } else { None }
+        if rules().dispatch_by_lists {
+            self.store.next_dispatch()
+        } else {
+            None
+        }
     }
 
     /// EDK2 starts all that registered right behind the move, and one that registers later right behind its first start.

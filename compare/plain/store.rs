@@ -1,12 +1,12 @@
 //! The heap, its lists, and the services that read and write them (docs/SERVICES.md, docs/HEAP.md).
 //! The bytes of the HOB list are kept up to its end; behind it the heap is zeros. Beside them stand vectors and maps.
-use crate::rules::rules;
 use crate::bytes::*;
 use crate::catalog::Catalog;
 use crate::guids::MEMORY;
 use crate::out::{Halt, Out};
 use crate::plan::{Plan, Span};
 use crate::put;
+use crate::rules::rules;
 use crate::script::Status;
 use std::collections::{HashMap, VecDeque};
 use std::hash::Hash;
