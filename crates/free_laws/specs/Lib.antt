@@ -4,3 +4,4 @@ pub mod PeiAim
 pub mod DxeUnderWay
 pub mod DxeFree
 pub mod DxeAim
+pub mod Naming

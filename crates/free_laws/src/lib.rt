@@ -1,9 +1,11 @@
-//! Laws of free boots: what the lines of all of them are from a machine on, and how the machine is made to choose what a boot chose.
+//! A choice that is handed in, and the laws of free boots: what the lines of all of them are from a machine on, and how the machine is made to choose what a boot chose.
 #![tactic(auto)]
 
+mod choice;
 mod dxe;
 mod pei;
 
+pub use choice::{Choice, FirstEligible};
 pub use dxe::{
     dxe_chooses_by_groups, dxe_ends, dxe_goes_on, dxe_lines_grow, dxe_opens, dxe_starts_freely,
     few_drivers_wait, groups_are_aimed, names_lead_to_root,
