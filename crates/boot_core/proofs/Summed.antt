@@ -35,5 +35,5 @@ lacks_of_summed n N.Memory r = refl
 pub refused_up : (n : ℕ) (plan : Plan) (images : List (List ℕ)) (none : NoJob) → IsJob n plan images → AreRefused plan images none → SumsUp n (Err none)
 refused_up n plan images (N.Refused line) job r =
     let P : Plan → List (List ℕ) → Type 0 = λ p x. AreRefused p x (N.Refused line) in
-    record { of_bytes = job.sized.of_bytes; refused = subst (λ p. P p (generated_images n)) job.plan_is (subst (P plan) job.images_are r) }
+    record { of_bytes = job.of_bytes; refused = subst (λ p. P p (generated_images n)) job.plan_is (subst (P plan) job.images_are r) }
 refused_up n plan images N.Memory job r = tt

@@ -1,6 +1,6 @@
 -- What a command line comes to, by the files that are read, before anything is put: what is asked for, with all that it takes, or the line of a refusal.
 -- Own.
-use Rattle.std.specs.Prelude.{◌≡◌, ℕ, ◌≤◌, List, Option, All, length, ⊤}
+use Rattle.std.specs.Prelude.{◌≡◌, ℕ, ◌≤◌, List, Option, length, ⊤}
 use Rattle.fv_build.specs.declared.generated.TheConstants.{MOST_MODULES}
 use Rattle.boot_plan.specs.Range.{IsPlanInRange}
 use Rattle.boot_model.specs.declared.line.Line.{Line}
@@ -38,11 +38,10 @@ IsBoot (A.Boot job) = ⊤
 IsBoot (A.Audit job) = ⊥
 IsBoot (A.Generate n) = ⊥
 
--- a plan in range, with an image of at most 64 MiB for each of its volumes
+-- a plan in range, with an image for each of its volumes
 pub record IsSoundJob (job : Job) : Type 0 where
   pub in_range : IsPlanInRange job.plan
   pub as_many : length job.images ≡ length job.plan.volumes
-  pub short : All (λ image. length image ≤ 0x4000000) job.images
 
 -- it can be done
 abbrev pub CanBeDone : Asked → Type 0

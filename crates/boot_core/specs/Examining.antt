@@ -41,13 +41,8 @@ abbrev pub IsFaultTold : ImageFault → NoJob → Type 0
 IsFaultTold fault (Refused line) = (fault.cause ≢ I.Memory) × (line ≡ image_line fault)
 IsFaultTold fault Memory = ⊤
 
--- a list of bytes that a file of a volume may have
-pub record IsSized (image : List ℕ) : Type 0 where
-  pub of_bytes : AreBytes image
-  pub short : length image ≤ 0x4000000
-
 -- the plan and the images of the generated volume of n modules
 pub record IsJob (n : ℕ) (plan : Plan) (images : List (List ℕ)) : Type 0 where
   pub plan_is : plan ≡ generated_plan
   pub images_are : images ≡ generated_images n
-  pub sized : IsSized (generated n)
+  pub of_bytes : AreBytes (generated n)

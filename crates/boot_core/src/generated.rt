@@ -1,7 +1,7 @@
 // The boot of a generated volume.
 ghost use Rattle.std.specs.Prelude.{◌≡◌, ◌≤◌, None, IfOk};
 ghost use Rattle.pi_base.specs.Field.{AreBytes};
-ghost use Rattle.boot_core.specs.Examining.{IsExamined, IsJob, IsSized};
+ghost use Rattle.boot_core.specs.Examining.{IsExamined, IsJob};
 ghost use Rattle.boot_core.specs.GeneratedOutcome.{GeneratedOutcome, generated_images, generated_plan};
 ghost use Rattle.boot_core.specs.Outcome.{Ends};
 ghost use Rattle.boot_core.specs.Summing.{IsSummary, SumsUp};
@@ -75,7 +75,7 @@ fn generated_images(alloc: Global, n: u32) -> Result<Seq<Seq<u8>>, OutOfMemory>
     requires some { 1 ≤ n }
     requires most { n ≤ MOST_MODULES }
     ensures images { IfOk result (λ images. images ≡ generated_images n) }
-    ensures sized { IfOk result (λ _. IsSized (generated n)) }
+    ensures of_bytes { IfOk result (λ _. AreBytes (generated n)) }
 {
     let mut images = Seq::new(alloc);
     match generate(alloc, n) {

@@ -1,5 +1,5 @@
 // The images of a plan: examined, and then booted or audited.
-ghost use Rattle.std.specs.Prelude.{◌≡◌, ◌≤◌, None, All, IfOk, IfErr, length, ⊤};
+ghost use Rattle.std.specs.Prelude.{◌≡◌, None, IfOk, IfErr, length, ⊤};
 ghost use Rattle.boot_plan.specs.Range.{IsPlanInRange};
 ghost use Rattle.boot_core.specs.declared.command_line.Command.TheVariants.{Audit, Boot};
 ghost use Rattle.boot_core.specs.Examining.{AreRefused, IsExamined, IsFaultTold};
@@ -40,7 +40,6 @@ fn refusal_of(fault: ImageFault) -> NoJob
 pub fn examine(alloc: Global, plan: &Plan, images: &[Seq<u8>]) -> Result<Catalog, NoJob>
     requires in_range { IsPlanInRange plan.now }
     requires as_many { length images.now ≡ length plan.now.volumes }
-    requires short { All (λ image. length image ≤ 0x4000000) images.now }
     ensures found { IfOk result (IsExamined plan.now images.now) }
     ensures refused { IfErr result (AreRefused plan.now images.now) }
 {
@@ -53,7 +52,7 @@ pub fn examine(alloc: Global, plan: &Plan, images: &[Seq<u8>]) -> Result<Catalog
 }
 
 /// Boots a plan over its images: their first fault is refused, or the lines of the boot of their catalogue are put, and the status is that of the run.
-/// There are as many images as volumes of the plan, each of at most 64 MiB. The store is that of the last machine, where the boot came to its end: its memory is the image of that machine's state. Memory is wanting before anything is put or behind all lines of PEI, and never in it.
+/// There are as many images as volumes of the plan. The store is that of the last machine, where the boot came to its end: its memory is the image of that machine's state. Memory is wanting before anything is put or behind all lines of PEI, and never in it.
 pub fn boot_images<S: Sink>(
     alloc: Global,
     plan: &Plan,
@@ -62,7 +61,6 @@ pub fn boot_images<S: Sink>(
 ) -> Booted
     requires in_range { IsPlanInRange plan.now }
     requires as_many { length images ≡ length plan.now.volumes }
-    requires short { All (λ image. length image ≤ 0x4000000) images }
     ensures ends { Ends (ImagesOutcome (CommandOutcome Boot plan.now images) plan.now images) (λ _. ⊥) ⊤ result.status (record {
       old = S.text sink.old;
       new = S.text sink.new;
@@ -95,7 +93,6 @@ pub(crate) fn audit_images<S: Sink>(
 ) -> Status
     requires in_range { IsPlanInRange plan.now }
     requires as_many { length images.now ≡ length plan.now.volumes }
-    requires short { All (λ image. length image ≤ 0x4000000) images.now }
     ensures { Ends (ImagesOutcome (CommandOutcome Audit plan.now images.now) plan.now images.now) (λ _. ⊥) ⊥ result (record {
       old = S.text sink.old;
       new = S.text sink.new;

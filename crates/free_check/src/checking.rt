@@ -1,5 +1,5 @@
 //! The check of a text.
-ghost use Rattle.std.specs.Prelude.{◌≡◌, ◌≤◌, [], All, IfOk, length};
+ghost use Rattle.std.specs.Prelude.{◌≡◌, ◌≤◌, [], IfOk, length};
 ghost use Rattle.boot_model.specs.FreeRun.{AreFreeLines};
 ghost use Rattle.boot_model.specs.PlanBoard.{board_of};
 ghost use Rattle.boot_plan.specs.Range.{IsPlanInRange};
@@ -96,7 +96,7 @@ fn check_catalog(
 }
 
 /// Whether a text is the trace of a boot of a plan and its images in which the dispatchers chose freely: any eligible PEIM in the place of the first, and any eligible driver with its group.
-/// There are as many images as volumes of the plan, each of at most 64 MiB, and so has the text. The images' first fault comes first, then the first volume with two modules of one name.
+/// There are as many images as volumes of the plan, and the text has at most 64 MiB. The images' first fault comes first, then the first volume with two modules of one name.
 pub fn check(
     alloc: Global,
     plan: &Plan,
@@ -105,7 +105,6 @@ pub fn check(
 ) -> Result<Verdict, CheckFault>
     requires in_range { IsPlanInRange plan.now }
     requires as_many { length images ≡ length plan.now.volumes }
-    requires short { All (λ image. length image ≤ 0x4000000) images }
     requires text { length text.now ≤ 0x4000000 }
     ensures { Checks plan.now images text.now result }
 {

@@ -2,17 +2,16 @@
 use Rattle.std.proofs.Common.{◌≡◌, ◌⊎◌, ℕ, List, Option, inl, inr, refl, sym, subst}
 use Rattle.boot_model.specs.declared.line.Line.{Line}
 use Rattle.boot_model.specs.declared.line.Line.TheVariants as L
-use Rattle.plan_files.specs.Job.{IsNamed, IsRefusal, plan_long, plan_refused, volume_long}
+use Rattle.plan_files.specs.Job.{IsNamedIn, IsTextRefusal, text_long, text_refused}
 use Rattle.plan_files.specs.Reading.{FilesTrail, IsLongFile, Lacks}
 use Rattle.plan_files.specs.declared.reading.NoJob.TheVariants.{Refused}
 use Rattle.pitools.specs.declared.report.Report.{Report}
 use Rattle.pitools.specs.declared.report.Report.TheVariants as R
 use Rattle.pitools.specs.declared.status.ToolStatus.{ToolStatus}
-use Rattle.pitools.specs.CheckReport.{CheckNames, CheckOutcome, JobReport, job_long, job_plan, no_job, of_job}
+use Rattle.pitools.specs.CheckReport.{JobReport, TextsOutcome, job_long, job_plan, no_job}
 use Rattle.pitools.specs.Ends.{Failing, Reports, ReportsBy, Tells}
 use Rattle.pitools.specs.FileReading.{LongOutcome}
 use Rattle.pitools.specs.FileRefusal.{IsFileRefusal, IsReportOf, of_file, of_long, of_plan, reports_file, reports_long, reports_plan}
-use Rattle.pitools.proofs.Ending.{reports_up}
 
 -- why there is nothing is told by a line that has a report
 pub lacks_refusal : (Refuses : Line → Type 0) (Named : List ℕ → Type 0) (t : FilesTrail) (line : Line) → (Refuses line → IsFileRefusal line) → Lacks Refuses Named t (Refused line) → IsFileRefusal line
@@ -54,29 +53,26 @@ pub file_reports : (told : Option (List ℕ)) (limit : ℕ) (name : List ℕ) (t
 file_reports told limit name t line report lacks is =
     lacks_reports (IsLongFile told limit name) (λ n. n ≡ name) (LongOutcome told limit name) t line report (long_tells told limit name line report is) lacks is
 
--- the line of the first refusal on the way to a plan and its images
-refusal_line : (told : List ℕ → Option (List ℕ)) (name : List ℕ) (line : Line) → IsRefusal told name line → IsFileRefusal line
-refusal_line told name line (plan_long long) = of_long name long.line_is
-refusal_line told name line (plan_refused content read fault f e) = of_plan fault.line fault.cause e
-refusal_line told name line (volume_long content read plan is long) = of_long long.volume.name long.long.line_is
+-- the line of the first refusal of a plan's text
+refusal_line : (told : List ℕ → Option (List ℕ)) (text : List ℕ) (line : Line) → IsTextRefusal told text line → IsFileRefusal line
+refusal_line told text line (text_refused fault f e) = of_plan fault.line fault.cause e
+refusal_line told text line (text_long plan is long) = of_long long.volume.name long.long.line_is
 
 -- it is none of a file that could not be read
-not_file : (told : List ℕ → Option (List ℕ)) (name : List ℕ) (line : Line) (file : List ℕ) → IsRefusal told name line → line ≡ L.RefusedFile file → ⊥
-not_file told name line file (plan_long long) e = let is = long.line_is in cc
-not_file told name line file (plan_refused content read fault f is) e = cc
-not_file told name line file (volume_long content read plan p long) e = let is = long.long.line_is in cc
+not_file : (told : List ℕ → Option (List ℕ)) (text : List ℕ) (line : Line) (file : List ℕ) → IsTextRefusal told text line → line ≡ L.RefusedFile file → ⊥
+not_file told text line file (text_refused fault f is) e = cc
+not_file told text line file (text_long plan p long) e = let is = long.long.line_is in cc
 
-job_tells : (told : List ℕ → Option (List ℕ)) (name : List ℕ) (line : Line) (report : Report) → IsReportOf line report → IsRefusal told name line → Tells (JobReport line) report
-job_tells told name line report (reports_file file e r) refusal = absurd (not_file told name line file refusal e)
-job_tells told name line report (reports_long file e r) refusal = subst (Tells (JobReport line)) (sym r) (job_long file e refl refl, refl)
-job_tells told name line report (reports_plan at cause e r) refusal = subst (Tells (JobReport line)) (sym r) (job_plan (record { line = at; cause = cause }) e refl refl, refl)
+job_tells : (told : List ℕ → Option (List ℕ)) (text : List ℕ) (line : Line) (report : Report) → IsReportOf line report → IsTextRefusal told text line → Tells (JobReport line) report
+job_tells told text line report (reports_file file e r) refusal = absurd (not_file told text line file refusal e)
+job_tells told text line report (reports_long file e r) refusal = subst (Tells (JobReport line)) (sym r) (job_long file e refl refl, refl)
+job_tells told text line report (reports_plan at cause e r) refusal = subst (Tells (JobReport line)) (sym r) (job_plan (record { line = at; cause = cause }) e refl refl, refl)
 
-pub job_refusal : (told : List ℕ → Option (List ℕ)) (name : List ℕ) (t : FilesTrail) (line : Line) → Lacks (IsRefusal told name) (IsNamed told name) t (Refused line) → IsFileRefusal line
-job_refusal told name t line lacks = lacks_refusal (IsRefusal told name) (IsNamed told name) t line (refusal_line told name line) lacks
+pub job_refusal : (told : List ℕ → Option (List ℕ)) (text : List ℕ) (t : FilesTrail) (line : Line) → Lacks (IsTextRefusal told text) (IsNamedIn told text) t (Refused line) → IsFileRefusal line
+job_refusal told text t line lacks = lacks_refusal (IsTextRefusal told text) (IsNamedIn told text) t line (refusal_line told text line) lacks
 
-pub job_reports : (told : List ℕ → Option (List ℕ)) (plan trace : List ℕ) (t : FilesTrail) (line : Line) (report : Report) → Lacks (IsRefusal told plan) (IsNamed told plan) t (Refused line)
-    → IsReportOf line report → Reports (CheckOutcome told plan trace) (CheckNames told plan trace) report t
-job_reports told plan trace t line report lacks is =
-    let up : IsRefusal told plan line → Tells (CheckOutcome told plan trace) report = λ refusal. let tells = job_tells told plan line report is refusal in (no_job line refusal tells.0, tells.1) in
-    reports_up (CheckOutcome told plan trace) (CheckOutcome told plan trace) (IsNamed told plan) (CheckNames told plan trace) report t (λ s text o. o) (λ n named. of_job named)
-    (lacks_reports (IsRefusal told plan) (IsNamed told plan) (CheckOutcome told plan trace) t line report up lacks is)
+pub job_reports : (told : List ℕ → Option (List ℕ)) (content text : List ℕ) (t : FilesTrail) (line : Line) (report : Report) → Lacks (IsTextRefusal told content) (IsNamedIn told content) t (Refused line)
+    → IsReportOf line report → Reports (TextsOutcome told content text) (IsNamedIn told content) report t
+job_reports told content text t line report lacks is =
+    let up : IsTextRefusal told content line → Tells (TextsOutcome told content text) report = λ refusal. let tells = job_tells told content line report is refusal in (no_job line refusal tells.0, tells.1) in
+    lacks_reports (IsTextRefusal told content) (IsNamedIn told content) (TextsOutcome told content text) t line report up lacks is

@@ -14,7 +14,8 @@ use Rattle.boot_model.specs.declared.line.Line.TheVariants as L
 use Rattle.free_check.specs.Verdict.{IsBoot, IsFirstOff}
 use Rattle.module_names.specs.Named.{HasNoTwins, IsFirstWithTwins}
 use Rattle.plan_files.specs.declared.job.Job.{Job}
-use Rattle.plan_files.specs.Job.{IsJob, IsNamed, IsRefusal}
+use Rattle.plan_files.specs.Job.{IsJobOf, IsNamedIn, IsTextRefusal}
+use Rattle.plan_files.specs.Reading.{plan_limit}
 use Rattle.pitools.specs.declared.status.ToolStatus.{ToolStatus}
 use Rattle.pitools.specs.declared.status.ToolStatus.TheVariants.{Done, TooLong, PlanRefused, ImageRefused, No, Twins}
 use Rattle.pitools.specs.FileReading.{IsRead, LongOutcome}
@@ -42,14 +43,22 @@ pub data JobReport (line : Line) (status : ToolStatus) (out : List ℕ) : Type 0
   job_long : (name : List ℕ) → line ≡ L.RefusedLong name → status ≡ TooLong → out ≡ long_line name → JobReport line status out
   job_plan : (fault : PlanFault) → line ≡ L.RefusedPlan fault.line fault.cause → status ≡ PlanRefused → out ≡ plan_line fault → JobReport line status out
 
--- what the files of a plan and of a trace lead to: the plan's volumes are read before the trace
+-- what the texts of a plan and of a trace lead to: the volumes that the plan names are read behind its examination
+pub data TextsOutcome (told : List ℕ → Option (List ℕ)) (content text : List ℕ) (status : ToolStatus) (out : List ℕ) : Type 0 where
+  no_job : (line : Line) → IsTextRefusal told content line → JobReport line status out → TextsOutcome told content text status out
+  job_read : (job : Job) → IsJobOf told content job → CheckReport job.plan job.images text status out → TextsOutcome told content text status out
+
+-- what the files of a plan and of a trace lead to: both are read before the plan is examined
 pub data CheckOutcome (told : List ℕ → Option (List ℕ)) (plan trace : List ℕ) (status : ToolStatus) (out : List ℕ) : Type 0 where
-  no_job : (line : Line) → IsRefusal told plan line → JobReport line status out → CheckOutcome told plan trace status out
-  trace_long : (job : Job) → IsJob told plan job → LongOutcome (told trace) trace_limit trace status out → CheckOutcome told plan trace status out
-  trace_read : (job : Job) → IsJob told plan job → (text : List ℕ) → IsRead (told trace) trace_limit text → CheckReport job.plan job.images text status out
+  plan_long : LongOutcome (told plan) plan_limit plan status out → CheckOutcome told plan trace status out
+  trace_long : (content : List ℕ) → IsRead (told plan) plan_limit content → LongOutcome (told trace) trace_limit trace status out
+      → CheckOutcome told plan trace status out
+  both_read : (content text : List ℕ) → IsRead (told plan) plan_limit content → IsRead (told trace) trace_limit text → TextsOutcome told content text status out
       → CheckOutcome told plan trace status out
 
--- a name of a file to which the reading comes
+-- a name of a file to which the reading comes: the plan's, then the trace's, and then those of the volumes
 pub data CheckNames (told : List ℕ → Option (List ℕ)) (plan trace name : List ℕ) : Type 0 where
-  of_job : IsNamed told plan name → CheckNames told plan trace name
-  of_trace : (job : Job) → IsJob told plan job → name ≡ trace → CheckNames told plan trace name
+  is_plan : name ≡ plan → CheckNames told plan trace name
+  is_trace : (content : List ℕ) → IsRead (told plan) plan_limit content → name ≡ trace → CheckNames told plan trace name
+  is_volume : (content text : List ℕ) → IsRead (told plan) plan_limit content → IsRead (told trace) trace_limit text → IsNamedIn told content name
+      → CheckNames told plan trace name

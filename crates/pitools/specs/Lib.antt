@@ -9,3 +9,4 @@ pub mod CheckReport
 pub mod TextReport
 pub mod Outcome
 pub mod Ends
+pub mod Leaving

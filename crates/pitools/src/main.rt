@@ -15,10 +15,10 @@ mod tools;
 
 use crate::meaning::meaning_of;
 use crate::status::ToolStatus;
-use crate::tools::tools_main;
-use boot_io::{RealFiles, RealSink, SinkFault, flush_whole};
+use crate::tools::tools_and_print;
+use boot_io::{PatientWriter, RealFiles};
 use std::env;
-use std::io::{self, BufWriter, ErrorKind, IsTerminal};
+use std::io::{self, ErrorKind, IsTerminal};
 use std::process::ExitCode;
 
 // The words after the program's name. Where one is not UTF-8 there are none, which is no form of a command line.
@@ -36,17 +36,13 @@ fn words_of(rt: &HostRuntime) -> io::Result<Vec<String>> {
     }
 }
 
-// Does what the words ask for. The text is handed on in pieces, and one that can't be is the sink's fault.
+// Does what the words ask for, over the machine's files and standard output.
 fn run(rt: &HostRuntime) -> io::Result<ToolStatus> {
     let words = words_of(rt)?;
     let mut files = RealFiles::new(rt);
-    let mut out = BufWriter::new(rt.alloc(), io::writer(rt))?;
-    let mut sink = RealSink::new(&mut out);
-    let status = tools_main(rt.alloc(), words.as_slice(), &mut files, &mut sink);
-    match flush_whole(&mut out) {
-        Ok(()) => Ok(status),
-        Err(SinkFault) => Ok(ToolStatus::SinkFault),
-    }
+    let to = PatientWriter::new(io::writer(rt), rt);
+    let (_, status) = tools_and_print(rt.alloc(), words.as_slice(), &mut files, to);
+    Ok(status)
 }
 
 // Tells a person what a status means.
@@ -60,7 +56,7 @@ fn tell(rt: &HostRuntime, status: ToolStatus) {
 fn main(rt: HostRuntime) -> ExitCode {
     let status = match run(&rt) {
         Ok(status) => status,
-        // The words and the buffer want memory, and nothing else.
+        // The words want memory, and nothing else.
         Err(_) => ToolStatus::Memory,
     };
     // A program that reads the status needs no words.

@@ -1,7 +1,9 @@
 // The top call.
-ghost use Rattle.std.specs.Prelude.{◌≡◌, ◌≤◌, IfOk, OnErr};
+ghost use Rattle.std.specs.Prelude.{◌≡◌, ◌≤◌, IfNone, IfOk, IfSome, OnErr};
 ghost use Rattle.boot_io.specs.Words.{words_of};
+ghost use Rattle.mp_core.specs.OneAfterAnother.{CompletesInOrder, IdlesInOrder};
 ghost use Rattle.pitools.specs.Ends.{Ends, Reports, status_after};
+ghost use Rattle.pitools.specs.Leaving.{HasLeft, HasPut};
 ghost use Rattle.pitools.specs.Outcome.{limit_of, MapNames, MapOutcome, Names, Outcome, ToolOutcome};
 
 use crate::check_tool::with_check;
@@ -12,9 +14,11 @@ use crate::reading::{Reading, read_file};
 use crate::report::Report;
 use crate::status::ToolStatus;
 use crate::text_tool::content_report;
-use boot_io::{Files, Sink, SinkFault};
+use boot_io::{Files, RealSink, Sink, SinkFault};
+use mp_core::jobs_in_order;
 use pi_base::OutOfMemory;
 use std::alloc::Global;
+use std::io::Write;
 
 // The most bytes of a HOB list, of a text and of bytes that are read.
 const FILE_LIMIT: usize = 0x10_0000;
@@ -108,7 +112,7 @@ fn answer(put: Result<(), SinkFault>, status: ToolStatus) -> ToolStatus
 }
 
 /// Does what the words of a command line ask for: `check PLAN TRACE`, `gcd HOBS COMMANDS`, `mp FILE`, `asm depex FILE`, `asm script FILE`, `dis pei FILE`,
-/// `dis dxe FILE` or `dis script FILE`. All files are read before any is examined, those of a plan's volumes behind the plan's examination, and all is decided before anything is put.
+/// `dis dxe FILE` or `dis script FILE`. The files that the words name are read in their order before any is examined, those of a plan's volumes behind the plan's examination, and all is decided before anything is put.
 pub fn tools_main<F: Files, S: Sink>(
     alloc: Global,
     words: &[String],
@@ -117,14 +121,18 @@ pub fn tools_main<F: Files, S: Sink>(
 ) -> ToolStatus
     // The text and the status are those that the words lead to by the files that are read; or the files failed, and the text names the file;
     // or the sink failed, behind a part of such a text; or memory was wanting, and nothing was put.
-    ensures { Ends (Outcome (F.told files.old) (words_of words.now)) (Names (F.told files.old) (words_of words.now)) result (record {
+    ensures ends { Ends (Outcome (F.told files.old) (words_of words.now)) (Names (F.told files.old) (words_of words.now)) result (record {
       old = S.text sink.old;
       new = S.text sink.new;
       before = S.faults sink.old;
       now = S.faults sink.new;
       files = record { before = F.faults files.old; now = F.faults files.new; missed = F.missed files.new };
     }) }
+    // Whatever the events of an MP file, what processors have done with what is to come are the jobs one after another, and where none is busy, what they have done is.
+    ensures any_moment { CompletesInOrder }
+    ensures idle { IdlesInOrder }
 {
+    jobs_in_order();
     match with_words(alloc, words, files) {
         Ok(report) => {
             let put = put_report(sink, &report);
@@ -132,4 +140,26 @@ pub fn tools_main<F: Files, S: Sink>(
         }
         Err(OutOfMemory) => ToolStatus::Memory,
     }
+}
+
+/// Does what the words of a command line ask for, as `tools_main`, and hands the text on to an output in pieces of 64 KiB. The output is given back; where memory was wanting for the pieces there is none, and nothing was done.
+pub fn tools_and_print<F: Files, W: Write + Drop>(
+    alloc: Global,
+    words: &[String],
+    files: &mut F,
+    to: W,
+) -> (Option<W>, ToolStatus)
+    // The output holds the whole text, or with the sink's fault a beginning of it.
+    ensures left { IfSome result.0 (λ output. HasLeft (HasPut (F.told files.old) (words_of words.now)
+        (record { before = F.faults files.old; now = F.faults files.new; missed = F.missed files.new }) (W.contents to))
+        (W.contents output) result.1) }
+    ensures none { IfNone result.0 ((result.1 ≡ ToolStatus.Memory) × (F.faults files.new ≡ F.faults files.old)) }
+{
+    let mut sink = match RealSink::buffered(alloc, to) {
+        Ok(sink) => sink,
+        Err(OutOfMemory) => return (None, ToolStatus::Memory),
+    };
+    let ran = tools_main(alloc, words, files, &mut sink);
+    let (output, handed) = sink.finish();
+    (Some(output), answer(handed, ran))
 }

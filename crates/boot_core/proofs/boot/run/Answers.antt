@@ -1,10 +1,24 @@
+use Rattle.boot_core.specs.declared.deciding.Asked.TheVariants as A
+use Rattle.boot_core.specs.Outcome.{AskedOutcome}
+use Rattle.boot_core.proofs.Causes.{memory_kept}
+use Rattle.boot_core.proofs.WantOfMemory.{wanted_in_boot}
 use Rattle.boot_core.proofs.boot.run.Goals as goal
 
-pub returns-in-Boot : goal.returns-in-Boot
-returns-in-Boot g c = rw c.in-Boot.is c.boot_images.ensures.ends
+pub returns-in-Boot-clause-ends : goal.returns-in-Boot-clause-ends
+returns-in-Boot-clause-ends g c = rw c.in-Boot.is c.boot_images.ensures.ends
 
-pub returns-in-Audit : goal.returns-in-Audit
-returns-in-Audit g c = rw c.in-Audit.is (rw c.as_slice.ensures at c.audit_images.ensures)
+pub returns-in-Boot-clause-memory : goal.returns-in-Boot-clause-memory
+returns-in-Boot-clause-memory g c = λ is.
+    rw c.in-Boot.is (wanted_in_boot c.in-Boot.plan c.in-Boot.images c.boot_images.result.status _ c.boot_images.ensures.ends c.boot_images.ensures.memory is)
 
-pub returns-in-Generate : goal.returns-in-Generate
-returns-in-Generate g c = rw c.in-Generate.is c.boot_generated.ensures
+pub returns-in-Audit-clause-ends : goal.returns-in-Audit-clause-ends
+returns-in-Audit-clause-ends g c = rw c.in-Audit.is (rw c.as_slice.ensures at c.audit_images.ensures)
+
+pub returns-in-Audit-clause-memory : goal.returns-in-Audit-clause-memory
+returns-in-Audit-clause-memory g c = λ is. rw c.in-Audit.is (memory_kept _ (λ _. ⊥) ⊥ c.audit_images.result _ c.audit_images.ensures (λ begun. begun) is)
+
+pub returns-in-Generate-clause-ends : goal.returns-in-Generate-clause-ends
+returns-in-Generate-clause-ends g c = rw c.in-Generate.is c.boot_generated.ensures
+
+pub returns-in-Generate-clause-memory : goal.returns-in-Generate-clause-memory
+returns-in-Generate-clause-memory g c = λ is. rw c.in-Generate.is (memory_kept _ (λ _. ⊥) ⊥ c.boot_generated.result _ c.boot_generated.ensures (λ begun. begun) is)

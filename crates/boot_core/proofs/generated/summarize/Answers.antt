@@ -26,4 +26,4 @@ returns c =
     let job : IsJob n plan c.in_ok-plan.images = c.in_ok-plan.ensures in
     let P : Plan → List (List ℕ) → Type 0 = λ plan images. IsCatalogue plan images catalog in
     let sound = subst (λ p. P p (generated_images n)) job.plan_is (subst (P plan) job.images_are (subst (P plan) c.as_slice.ensures c.in_ok-catalog.ensures.found.sound)) in
-    record { of_bytes = job.sized.of_bytes; catalog = catalog; sound = sound; summed = c.in_ok-summary.ensures }
+    record { of_bytes = job.of_bytes; catalog = catalog; sound = sound; summed = c.in_ok-summary.ensures }

@@ -1,56 +1,47 @@
-use Rattle.std.proofs.Common.{◌≡◌, ℕ, List, Option, ◌∙◌, subst}
-use Rattle.plan_files.specs.Reading.{FilesTrail}
+use Rattle.std.proofs.Common.{◌≡◌, ℕ, List, Option, IfOk, ◌∙◌, subst}
+use Rattle.plan_files.specs.Job.{IsNamedIn}
+use Rattle.plan_files.specs.Reading.{plan_limit}
 use Rattle.pitools.specs.FileReading.{IsRead, LongOutcome}
 use Rattle.pitools.specs.Ends.{Reports}
-use Rattle.pitools.specs.CheckReport.{CheckNames, CheckOutcome, CheckReport, of_trace, trace_limit, trace_long, trace_read}
-use Rattle.pitools.proofs.Ending.{reports_behind, reports_up, told_reports}
-use Rattle.pitools.proofs.FileReports.{job_refusal, job_reports}
+use Rattle.pitools.specs.CheckReport.{CheckNames, CheckOutcome, TextsOutcome, both_read, is_plan, is_trace, is_volume, plan_long, trace_limit, trace_long}
+use Rattle.pitools.proofs.Ending.{reports_behind, reports_ok, reports_up}
 use Rattle.pitools.proofs.check_tool.with_check.Goals as goal
 
-pub report_of-requires : goal.report_of-requires
-report_of-requires g c =
-    let F = g.F.Files.faults in
-    let told = g.F.Files.told c.args.files.now in
-    let t : FilesTrail = record { before = F c.args.files.now; now = F c.read_job.new.files; missed = g.F.Files.missed c.read_job.new.files } in
-    rw c.in-Err-Refused.line-is (job_refusal told c.args.plan.now t c.in-Err-Refused.line (rw c.in-Err-Refused.field-0-is at c.in-Err-Refused.ensures.row))
-
-pub returns-in-Err-Refused-clause-report : goal.returns-in-Err-Refused-clause-report
-returns-in-Err-Refused-clause-report g c =
-    let F = g.F.Files.faults in
-    let told = g.F.Files.told c.args.files.now in
-    let t : FilesTrail = record { before = F c.args.files.now; now = F c.read_job.new.files; missed = g.F.Files.missed c.read_job.new.files } in
-    job_reports told c.args.plan.now c.args.trace.now t c.in-Err-Refused.line c.report_of.result
-    (rw c.in-Err-Refused.field-0-is at c.in-Err-Refused.ensures.row) (rw c.in-Err-Refused.line-is at c.report_of.ensures)
-
-pub returns-in-Refused-clause-report : goal.returns-in-Refused-clause-report
-returns-in-Refused-clause-report g c =
+pub returns-in-Refused-2-clause-report : goal.returns-in-Refused-2-clause-report
+returns-in-Refused-2-clause-report g c =
     let F = g.F.Files.faults in
     let told = g.F.Files.told c.args.files.now in
     let plan = c.args.plan.now in
     let trace = c.args.trace.now in
-    let missed = g.F.Files.missed c.read_file.new.files in
-    let report = c.in-Refused.report in
-    let job = c.in-Ok.job in
-    let row = c.in-Ok.ensures.row in
-    let P : Option (List ℕ) → Type 0 = λ content. Reports (LongOutcome content trace_limit trace) (λ n. n ≡ trace) report
-    (record { before = F c.read_job.new.files; now = F c.read_file.new.files; missed = missed }) in
-    let refused = subst P (c.read_job.ensures.same trace) (rw c.in-Refused.is at c.in_ok-text.ensures.reading) in
-    reports_up (LongOutcome (told trace) trace_limit trace) (CheckOutcome told plan trace) (λ n. n ≡ trace) (CheckNames told plan trace) report
-    (record { before = F c.args.files.now; now = F c.read_file.new.files; missed = missed })
-    (λ s t o. trace_long job row.0 o) (λ n e. of_trace job row.0 e)
-    (reports_behind (LongOutcome (told trace) trace_limit trace) (λ n. n ≡ trace) report (F c.args.files.now) (F c.read_job.new.files) (F c.read_file.new.files) missed row.1 refused)
+    let missed = g.F.Files.missed c.read_file-2.new.files in
+    let content : IsRead (told plan) plan_limit c.in-Content.content × (F c.read_file.new.files ≡ F c.args.files.now) = rw c.in-Content.is at c.in_ok-content.ensures.reading in
+    let P : Option (List ℕ) → Type 0 = λ told. Reports (LongOutcome told trace_limit trace) (λ n. n ≡ trace) c.in-Refused-2.report
+    (record { before = F c.read_file.new.files; now = F c.read_file-2.new.files; missed = missed }) in
+    let refused = subst P (c.read_file.ensures.same trace) (rw c.in-Refused-2.is at c.in_ok-text.ensures.reading) in
+    reports_up (LongOutcome (told trace) trace_limit trace) (CheckOutcome told plan trace) (λ n. n ≡ trace) (CheckNames told plan trace) c.in-Refused-2.report
+    (record { before = F c.args.files.now; now = F c.read_file-2.new.files; missed = missed })
+    (λ s t o. trace_long c.in-Content.content content.0 o) (λ n e. is_trace c.in-Content.content content.0 e)
+    (reports_behind (LongOutcome (told trace) trace_limit trace) (λ n. n ≡ trace) c.in-Refused-2.report (F c.args.files.now) (F c.read_file.new.files) (F c.read_file-2.new.files) missed content.1 refused)
 
 pub returns-clause-report : goal.returns-clause-report
 returns-clause-report g c =
     let F = g.F.Files.faults in
     let told = g.F.Files.told c.args.files.now in
+    let mid = g.F.Files.told c.read_file-2.new.files in
     let plan = c.args.plan.now in
     let trace = c.args.trace.now in
-    let text = c.in-Content.text in
-    let job = c.in-Ok.job in
-    let row = c.in-Ok.ensures.row in
-    let P : Option (List ℕ) → Type 0 = λ content. IsRead content trace_limit text × (F c.read_file.new.files ≡ F c.read_job.new.files) in
-    let read = subst P (c.read_job.ensures.same trace) (rw c.in-Content.is at c.in_ok-text.ensures.reading) in
-    told_reports c.check_report.result (CheckReport job.plan job.images text) (CheckOutcome told plan trace) (CheckNames told plan trace)
-    (record { before = F c.args.files.now; now = F c.read_file.new.files; missed = g.F.Files.missed c.read_file.new.files })
-    (λ s t o. trace_read job row.0 text read.0 o) (read.1 ∙ row.1) (rw c.as_slice.ensures at c.check_report.ensures)
+    let texts = c.with_texts.result in
+    let now = F c.with_texts.new.files in
+    let missed = g.F.Files.missed c.with_texts.new.files in
+    let told_same : mid ≡ told = λ j other. (c.read_file-2.ensures.same other ∙ c.read_file.ensures.same other) j in
+    let content : IsRead (told plan) plan_limit c.in-Content.content × (F c.read_file.new.files ≡ F c.args.files.now) = rw c.in-Content.is at c.in_ok-content.ensures.reading in
+    let P : Option (List ℕ) → Type 0 = λ content. IsRead content trace_limit c.in-Content-2.text × (F c.read_file-2.new.files ≡ F c.read_file.new.files) in
+    let text = subst P (c.read_file.ensures.same trace) (rw c.in-Content-2.is at c.in_ok-text.ensures.reading) in
+    let Q : (List ℕ → Option (List ℕ)) → Type 0 = λ t. IfOk texts (λ report. Reports (TextsOutcome t c.in-Content.content c.in-Content-2.text) (IsNamedIn t c.in-Content.content) report
+    (record { before = F c.read_file-2.new.files; now = now; missed = missed })) in
+    let here = subst Q told_same (rw c.as_slice.ensures at (rw c.as_slice-2.ensures at c.with_texts.ensures.report)) in
+    let up = reports_ok texts (TextsOutcome told c.in-Content.content c.in-Content-2.text) (CheckOutcome told plan trace) (IsNamedIn told c.in-Content.content) (CheckNames told plan trace)
+    (record { before = F c.read_file-2.new.files; now = now; missed = missed })
+    (λ s t o. both_read c.in-Content.content c.in-Content-2.text content.0 text.0 o) (λ n m. is_volume c.in-Content.content c.in-Content-2.text content.0 text.0 m) here in
+    let R : ℕ → Type 0 = λ n. IfOk texts (λ report. Reports (CheckOutcome told plan trace) (CheckNames told plan trace) report (record { before = n; now = now; missed = missed })) in
+    subst R (text.1 ∙ content.1) up

@@ -3,8 +3,8 @@ use Rattle.pitools.specs.Outcome.{Names, Outcome}
 use Rattle.pitools.proofs.Ending.{put_ends}
 use Rattle.pitools.proofs.tools.tools_main.Goals as goal
 
-pub returns-in-Ok : goal.returns-in-Ok
-returns-in-Ok g c =
+pub returns-in-Ok-clause-ends : goal.returns-in-Ok-clause-ends
+returns-in-Ok-clause-ends g c =
     let T = g.S.Sink.text in
     let N = g.S.Sink.faults in
     let F = g.F.Files.faults in

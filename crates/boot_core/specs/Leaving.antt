@@ -1,0 +1,31 @@
+-- What leaves the program of the text that a call has put, by its status.
+-- Own.
+use Rattle.std.specs.Prelude.{◌≡◌, ℕ, List, Option, Result}
+use Rattle.boot_io.specs.declared.sink.SinkFault.{SinkFault}
+use Rattle.boot_io.specs.Output.{HasLeftBy}
+use Rattle.plan_files.specs.Reading.{FilesTrail}
+use Rattle.boot_core.specs.declared.status.Status.{Status}
+use Rattle.boot_core.specs.Causes.{ComesExactly}
+use Rattle.boot_core.specs.CommandLine.{AskForBoot}
+use Rattle.boot_core.specs.Deciding.{Names}
+use Rattle.boot_core.specs.Outcome.{Ends, OfAnswer, Outcome, kind_of}
+use Rattle.boot_core.specs.Refusing.{status_after}
+
+-- what the words lead to was put behind a text, into a sink that had counted no fault
+abbrev pub HasPut : (List ℕ → Option (List ℕ)) → List (List ℕ) → FilesTrail → Option (List ℕ) → Option (List ℕ) → Status → Type 0
+HasPut told words files old new status =
+    (faults : ℕ) × Ends (Outcome told words) (Names told words) (AskForBoot words) status
+      (record { old = old; new = new; sink_before = 0; sink_now = faults; files_before = files.before; files_now = files.now; missed = files.missed })
+
+-- all that was put has left, with its status; or where the output failed a beginning of it, with the sink's fault
+pub record HasLeft (Put : Option (List ℕ) → Status → Type 0) (left : Option (List ℕ)) (status : Status) : Type 0 where
+  pub text : Option (List ℕ)
+  pub ran : Status
+  pub put : Put text ran
+  pub handed : Result (Unit {0}) SinkFault
+  pub left_is : HasLeftBy handed text left
+  pub status_is : status ≡ status_after handed ran
+
+-- each answer comes exactly where the words lead to it
+abbrev pub EachComesExactly : (List ℕ → Option (List ℕ)) → List (List ℕ) → Status → Type 0
+EachComesExactly told words status = (due : Status) → kind_of due ≡ OfAnswer → ComesExactly told words due status
