@@ -1,5 +1,4 @@
-// The loops that write a whole piece and hand it on, at any writer of std.
-ghost use Rattle.std.specs.Io.KnownBytes.{Keeps};
+// The loop that writes a whole piece, at any writer of std.
 ghost use Rattle.boot_io.specs.Sink.{Puts};
 
 use crate::SinkFault;
@@ -25,18 +24,4 @@ pub fn write_whole<W: Write>(writer: &mut W, piece: &[u8]) -> Result<(), SinkFau
         }
     }
     Ok(())
-}
-
-/// Hands on what a writer still holds back. It fails where the writer answers an error; a call that was interrupted or would have blocked is made again and is no error.
-pub fn flush_whole<W: Write>(writer: &mut W) -> Result<(), SinkFault>
-    ensures { Keeps (W.contents writer.old) (W.contents writer.new) }
-{
-    let mut tries = TRIES;
-    'flushes: loop {
-        match writer.flush() {
-            Ok(()) => return Ok(()),
-            Err(fault) if tries > 0 && may_get_through(&fault) => tries -= 1,
-            Err(_) => return Err(SinkFault),
-        }
-    }
 }
