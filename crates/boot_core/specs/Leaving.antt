@@ -15,7 +15,7 @@ use Rattle.boot_core.specs.Refusing.{status_after}
 abbrev pub HasPut : (List ℕ → Option (List ℕ)) → List (List ℕ) → FilesTrail → Option (List ℕ) → Option (List ℕ) → Status → Type 0
 HasPut told words files old new status =
     (faults : ℕ) × Ends (Outcome told words) (Names told words) (AskForBoot words) status
-      (record { old = old; new = new; sink_before = 0; sink_now = faults; files_before = files.before; files_now = files.now; missed = files.missed })
+    (record { old = old; new = new; sink_before = 0; sink_now = faults; files_before = files.before; files_now = files.now; missed = files.missed })
 
 -- all that was put has left, with its status; or where the output failed a beginning of it, with the sink's fault
 pub record HasLeft (Put : Option (List ℕ) → Status → Type 0) (left : Option (List ℕ)) (status : Status) : Type 0 where
