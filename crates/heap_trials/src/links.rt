@@ -111,6 +111,7 @@ fn queue_all(scene: &mut MemStore) -> Option<u64>
         &mut scene.heads,
         list.as_slice(),
         MAKER,
+        count,
     );
     Some(count)
 }
@@ -131,6 +132,7 @@ fn queue_new(scene: &mut MemStore) -> Option<u64>
         &mut scene.heads,
         list.as_slice(),
         MAKER,
+        count,
     );
     Some(count)
 }

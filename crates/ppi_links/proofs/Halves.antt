@@ -1,5 +1,5 @@
 -- Sixteen bytes are the same where both their numbers of eight bytes are.
-use Rattle.std.proofs.Common.{◌≡◌, ◌==◌, ◌∙◌, ◌+◌, ◌≤◌, ℕ, Bool, true, false, List, ◌++◌, length, take, drop, ap, ap₂, sym, refl, arith, length-drop, Decides}
+use Rattle.std.proofs.Common.{◌≡◌, ◌==◌, ◌∙◌, ◌+◌, ◌≤◌, ℕ, List, ◌++◌, length, take, drop, ap, ap₂, sym, arith, length-drop, Decides}
 use Rattle.std.specs.Prelude.{bytes_eq}
 use Rattle.std.proofs.lemmas.Bool.Decides.{Decides-eqb, same_from_decides}
 use Rattle.std.proofs.lemmas.List.{take-append-drop, take_all}

@@ -23,4 +23,4 @@ returns c =
     let fits : c.count_pairs-count.result ≤ free s / 40 = subst (λ n. c.count_pairs-count.result ≤ n / 40) (c.free.ensures s h.heap_is) c.if-free-count.false in
     let room = room_for_all (free s) c.count_pairs-count.result (install_pairs s c.as_slice-2.result.now) count fits in
     queued_scene c.args.scene.now.heap c.push_pairs.new.memory c.push_pairs.new.heads s 9 (install_pairs s c.as_slice-2.result.now) there
-    (c.push_pairs.ensures s h (record { ppis = subst (Each (IsDescOf s Ppi)) (sym two) (d, tt); room = room }))
+    (c.push_pairs.ensures s h (record { ppis = subst (Each (IsDescOf s Ppi)) (sym two) (d, tt); count_is = count; room = room }))

@@ -24,4 +24,4 @@ returns c =
     let fits : c.count_new_pairs-count.result ≤ free s / 40 = subst (λ n. c.count_new_pairs-count.result ≤ n / 40) (c.free.ensures s h.heap_is) c.if-free-count.false in
     let room = room_for_all (free s) c.count_new_pairs-count.result (notify_pairs s c.as_slice-2.result.now) count fits in
     queued_scene c.args.scene.now.heap c.push_new_pairs.new.memory c.push_new_pairs.new.heads s 9 (notify_pairs s c.as_slice-2.result.now) there
-    (c.push_new_pairs.ensures s h (record { descs = subst (Each (IsDesc s)) (sym two) ((d.0, d.1), tt); notes = subst (λ (l : List Desc). list_any (λ d. is_ppi (kind_at s d.offset)) l ≡ false) (sym two) (no_ppi s there); room = room }))
+    (c.push_new_pairs.ensures s h (record { descs = subst (Each (IsDesc s)) (sym two) ((d.0, d.1), tt); notes = subst (λ (l : List Desc). list_any (λ d. is_ppi (kind_at s d.offset)) l ≡ false) (sym two) (no_ppi s there); count_is = count; room = room }))

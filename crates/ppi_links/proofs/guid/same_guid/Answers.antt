@@ -1,4 +1,4 @@
-use Rattle.std.proofs.Common.{arith, rules, ◌∙◌, ap, drop, length}
+use Rattle.std.proofs.Common.{arith, rules, ◌∙◌, ap, drop}
 use Rattle.pi_base.specs.Field.{little_number}
 use Rattle.ppi_links.proofs.Halves.{second_decides}
 use Rattle.ppi_links.proofs.guid.same_guid.Goals as goal
