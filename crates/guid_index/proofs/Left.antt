@@ -57,12 +57,13 @@ left_none (x ∷ xs) guid zero none =
 left_none (x ∷ xs) guid (suc from) none = left_none xs guid from (λ other low. none (suc other) (omega (arith, low)))
 
 -- whether one is left at all
+any_on : (b t : Bool) (x : Indexed) (rest : List Indexed) → is_some (slice_get rest 0) ≡ t → is_some (slice_get (cond b (x ∷ rest) rest) 0) ≡ cond b true t
+any_on true t x rest e = refl
+any_on false t x rest e = e
+
 any_of : (guid : Guid) (list : List Indexed) → is_some (slice_get (filter (has_guid guid) list) 0) ≡ list_any (has_guid guid) list
 any_of guid [] = refl
-any_of guid (x ∷ xs) = elim (has_guid guid x) as (λ b. is_some (slice_get (cond b (x ∷ filter (has_guid guid) xs) (filter (has_guid guid) xs)) 0) ≡ cond b true (list_any (has_guid guid) xs)) [
-  | true ↦ refl
-  | false ↦ any_of guid xs
-]
+any_of guid (x ∷ xs) = any_on (has_guid guid x) (list_any (has_guid guid) xs) x (filter (has_guid guid) xs) (any_of guid xs)
 
 pub any_is : (list : List Indexed) (guid : Guid) (next : Option ℕ) → IsNext list guid 0 next → is_some next ≡ list_any (has_guid guid) list
 any_is list guid None none = ap (λ l. is_some (slice_get l 0)) (sym (left_none list guid 0 none)) ∙ any_of guid list
