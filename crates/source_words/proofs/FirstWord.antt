@@ -40,7 +40,6 @@ inner_first (x ∷ (next ∷ rest)) (suc n) within inner end =
     inner_head x (next ∷ rest) (inner 0 (omega arith)) ∙ ap (joined x (next ∷ rest)) less
     ∙ together x next rest (take (suc n) (next ∷ rest)) (words (drop (suc n) (next ∷ rest))) (inner 1 (omega arith))
 
-
 -- the length of the word is given
 pub inner_word : (line : List ℕ) (n : ℕ) → 0 < length line → is_blank (get_or line 0 0) ≡ false → is_bracket (get_or line 0 0) ≡ false → n ≤ length line
     → ((k : ℕ) → k < n → is_inner (get_or line k 0) ≡ true) → (n < length line → is_inner (get_or line n 0) ≡ false) → words line ≡ take n line ∷ words (drop n line)

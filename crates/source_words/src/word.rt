@@ -64,7 +64,11 @@ pub fn next_word(line: &[u8]) -> Option<(&[u8], &[u8])>
     match rest {
         [] => None,
         [first, ..] => {
-            let len = if is_bracket(*first) { 1 } else { inner_len(rest) };
+            let len = if is_bracket(*first) {
+                1
+            } else {
+                inner_len(rest)
+            };
             Some(rest.split_at(len))
         }
     }
