@@ -1,0 +1,14 @@
+// The text of a line behind the name of its action.
+ghost use Rattle.std.specs.Prelude.{◌≡◌};
+ghost use Rattle.script_words.specs.Line.{unindented};
+
+/// The line without the blanks at its front.
+pub(crate) fn unindented(line: &[u8]) -> &[u8]
+    ensures { result.now ≡ unindented line.now }
+{
+    let mut rest = line;
+    'blanks: while let [b' ' | b'\t', after @ ..] = rest {
+        rest = after;
+    }
+    rest
+}
