@@ -1,3 +1,0 @@
-mod Words
-mod Guids
-mod Texts
