@@ -1,5 +1,5 @@
 -- The opcodes that a closing bracket writes.
-use Rattle.std.proofs.Common.{◌≡◌, List, ◌∷◌, ◌++◌, sym, ap, ◌∙◌}
+use Rattle.std.proofs.Common.{◌≡◌, List, ◌∷◌, ◌++◌, sym}
 use Rattle.std.proofs.lemmas.List.{append_assoc}
 use Rattle.depex_code.specs.declared.opcode.Opcode.{Opcode}
 use Rattle.depex_words.specs.declared.stack.Waiting.{Waiting}

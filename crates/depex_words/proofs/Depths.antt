@@ -1,6 +1,5 @@
 -- How many brackets are open.
-use Rattle.std.proofs.Common.{◌≡◌, ℕ, zero, suc, ◌+◌, ◌-◌, ◌<◌, List, ◌∷◌, Some, ap, sym, ◌∙◌, arith}
-use Rattle.depex_words.specs.declared.fault.ExpressionFault.TheVariants.{Bracket}
+use Rattle.std.proofs.Common.{◌≡◌, ℕ, zero, suc, ◌+◌, List, ◌∷◌, ap, arith}
 use Rattle.depex_words.specs.declared.walk.Stage.TheVariants.{Ended}
 use Rattle.depex_words.specs.declared.token.Token.{Token}
 use Rattle.depex_words.specs.declared.token.Token.TheVariants.{Close}

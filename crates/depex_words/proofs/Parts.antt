@@ -1,15 +1,13 @@
 -- Words with which nothing is wrong are those of an expression.
-use Rattle.std.proofs.Common.{◌≡◌, ◌⊎◌, inl, inr, ℕ, zero, suc, ◌+◌, ◌<◌, ◌&&◌, Bool, true, false, List, [], ◌∷◌, ◌++◌, length, Some, None, refl, sym, ap, ◌∙◌, arith}
-use Rattle.std.specs.Prelude.{⊤}
-use Rattle.std.proofs.lemmas.List.{append_assoc, length-append}
-use Rattle.depex_words.specs.declared.walk.Stage.TheVariants.{Due, Ended, Over}
+use Rattle.std.proofs.Common.{◌≡◌, inl, inr, ℕ, zero, suc, ◌+◌, ◌<◌, true, List, [], ◌∷◌, ◌++◌, length, None, refl, sym, ap, ◌∙◌, arith}
+use Rattle.std.proofs.lemmas.List.{append_assoc}
+use Rattle.depex_words.specs.declared.walk.Stage.TheVariants.{Due, Ended}
 use Rattle.depex_words.specs.declared.token.Operator.{Operator}
 use Rattle.depex_words.specs.declared.token.Token.{Token}
 use Rattle.depex_words.specs.declared.token.Token.TheVariants as token
 use Rattle.depex_words.specs.Written.{Written, Alone, Negated, Bracketed, Joined, is_operand, is_grouped, tokens_of}
 use Rattle.depex_words.specs.Cause.{tree_cause, end_cause}
 use Rattle.depex_words.specs.Expression.{IsEnd}
-use Rattle.depex_words.proofs.Depths.{closes}
 use Rattle.depex_words.proofs.Writing.{IsClosing}
 
 -- an expression at the front of the words

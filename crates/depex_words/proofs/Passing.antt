@@ -1,5 +1,5 @@
 -- Nothing is wrong with the words of an expression.
-use Rattle.std.proofs.Common.{◌≡◌, ℕ, zero, suc, ◌+◌, List, [], ◌∷◌, ◌++◌, None, refl, ap, ◌∙◌}
+use Rattle.std.proofs.Common.{◌≡◌, ℕ, ◌+◌, List, [], ◌∷◌, ◌++◌, refl, ap, ◌∙◌}
 use Rattle.std.proofs.lemmas.List.{append_assoc}
 use Rattle.depex_words.specs.declared.walk.Stage.TheVariants.{Due, Ended}
 use Rattle.depex_words.specs.declared.token.Token.{Token}

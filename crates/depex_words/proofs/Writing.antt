@@ -1,8 +1,7 @@
 -- The opcodes that are written of an expression are those of its tree.
-use Rattle.std.proofs.Common.{◌≡◌, ◌⊎◌, inl, inr, ℕ, ◌&&◌, Bool, true, false, List, [], ◌∷◌, ◌++◌, refl, sym, ap, ◌∙◌}
+use Rattle.std.proofs.Common.{◌≡◌, ◌⊎◌, inl, inr, ◌&&◌, Bool, true, false, List, [], ◌∷◌, ◌++◌, refl, sym, ap, ◌∙◌}
 use Rattle.std.specs.Prelude.{⊤}
-use Rattle.std.proofs.lemmas.List.{append_assoc, append-nil}
-use Rattle.depex_code.specs.declared.opcode.Opcode.{Opcode}
+use Rattle.std.proofs.lemmas.List.{append_assoc}
 use Rattle.depex_code.specs.declared.opcode.Opcode.TheVariants as opcode
 use Rattle.depex_code.specs.Tree.{DepexTree, postfix}
 use Rattle.depex_words.specs.declared.stack.Waiting.{Waiting}

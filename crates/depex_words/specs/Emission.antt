@@ -13,7 +13,7 @@ use Rattle.depex_words.specs.declared.token.Leaf.TheVariants as leaf
 use Rattle.depex_words.specs.declared.token.Operator.{Operator as OperatorWord}
 use Rattle.depex_words.specs.declared.token.Operator.TheVariants as operator
 use Rattle.depex_words.specs.declared.token.Token.{Token}
-use Rattle.depex_words.specs.declared.token.Token.TheVariants.{Leaf, Not, Open, Close, Operator, First, End, Other}
+use Rattle.depex_words.specs.declared.token.Token.TheVariants.{Leaf, Not, Open, Close, Operator}
 use Rattle.depex_words.specs.Cause.{IsCause, tree_cause}
 
 abbrev pub leaf_opcode : LeafWord → Opcode

@@ -1,7 +1,4 @@
-use Rattle.std.proofs.Common.{◌≡◌, ◌+◌, ◌-◌, ◌++◌, ◌∷◌, arith, ap, sym, ◌∙◌}
-use Rattle.depex_words.specs.declared.walk.Stage.TheVariants.{Ended}
-use Rattle.depex_words.specs.declared.token.Token.TheVariants.{Close}
-use Rattle.depex_words.specs.Emission.{emitted, operators, below_bracket}
+use Rattle.std.proofs.Common.{◌≡◌, ◌+◌, ◌-◌, arith}
 use Rattle.depex_words.proofs.Depths.{closes}
 use Rattle.depex_words.proofs.Codes.{written}
 use Rattle.depex_words.proofs.walk.Walk.close.Goals as goal
