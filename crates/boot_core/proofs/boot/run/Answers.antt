@@ -9,7 +9,7 @@ returns-in-Boot-clause-ends g c = rw c.in-Boot.is c.boot_images.ensures.ends
 
 pub returns-in-Boot-clause-memory : goal.returns-in-Boot-clause-memory
 returns-in-Boot-clause-memory g c = λ is.
-    rw c.in-Boot.is (wanted_in_boot c.in-Boot.plan c.in-Boot.images c.boot_images.result.status _ c.boot_images.ensures.ends c.boot_images.ensures.memory is)
+    rw c.in-Boot.is (wanted_in_boot c.in-Boot.field-0.plan c.in-Boot.field-0.images c.boot_images.result.status _ c.boot_images.ensures.ends c.boot_images.ensures.memory is)
 
 pub returns-in-Audit-clause-ends : goal.returns-in-Audit-clause-ends
 returns-in-Audit-clause-ends g c = rw c.in-Audit.is (rw c.as_slice.ensures at c.audit_images.ensures)

@@ -14,24 +14,24 @@ returns-clause-left g c =
     let F = g.F.Files.faults in
     let told = g.F.Files.told c.args.files.now in
     let words = words_of c.args.words.now in
-    let text = writer_contents W c.boot_main.new.sink.to in
-    let E : Option (List ℕ) → ℕ → Type 0 = λ old before. Ends (Outcome told words) (Names told words) (AskForBoot words) c.boot_main.result (record {
+    let text = writer_contents W c.boot_main-ran.new.sink.to in
+    let E : Option (List ℕ) → ℕ → Type 0 = λ old before. Ends (Outcome told words) (Names told words) (AskForBoot words) c.boot_main-ran.result (record {
       old = old;
       new = text;
       sink_before = before;
-      sink_now = c.boot_main.new.sink.faults;
+      sink_now = c.boot_main-ran.new.sink.faults;
       files_before = F c.args.files.now;
-      files_now = F c.boot_main.new.files;
-      missed = g.F.Files.missed c.boot_main.new.files;
+      files_now = F c.boot_main-ran.new.files;
+      missed = g.F.Files.missed c.boot_main-ran.new.files;
     }) in
     let start = c.in-Ok.ensures in
-    let ends = subst (λ old. E old 0) start.text (subst (E (writer_contents W c.in-Ok.sink.to)) start.faults c.boot_main.ensures.ends) in
+    let ends = subst (λ old. E old 0) start.text (subst (E (writer_contents W c.in-Ok.sink.to)) start.faults c.boot_main-ran.ensures.ends) in
     record {
       text = text;
-      ran = c.boot_main.result;
-      put = (c.boot_main.new.sink.faults, ends);
-      handed = c.finish.result.1;
-      left_is = c.finish.ensures;
+      ran = c.boot_main-ran.result;
+      put = (c.boot_main-ran.new.sink.faults, ends);
+      handed = c.finish-output.result.1;
+      left_is = c.finish-output.ensures;
       status_is = c.answer.ensures;
     }
 
@@ -45,8 +45,8 @@ returns-clause-exactly g c = λ due answer.
       catalogues = c.one_catalogue.ensures.catalogues;
       catalogue_or_fault = c.one_catalogue.ensures.apart;
     } in
-    handed_comes c.finish.result.1 told words due c.boot_main.result c.answer.result answer c.answer.ensures
-    (comes_exactly laws told words (Names told words) (AskForBoot words) c.boot_main.result due _ answer c.boot_main.ensures.ends)
+    handed_comes c.finish-output.result.1 told words due c.boot_main-ran.result c.answer.result answer c.answer.ensures
+    (comes_exactly laws told words (Names told words) (AskForBoot words) c.boot_main-ran.result due _ answer c.boot_main-ran.ensures.ends)
 
 pub returns-in-Err-clause-exactly : goal.returns-in-Err-clause-exactly
 returns-in-Err-clause-exactly g c = λ due answer. stopped_comes _ _ due _ answer tt
