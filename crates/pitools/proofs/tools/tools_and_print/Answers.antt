@@ -11,21 +11,21 @@ returns-clause-left g c =
     let F = g.F.Files.faults in
     let told = g.F.Files.told c.args.files.now in
     let words = words_of c.args.words.now in
-    let text = writer_contents W c.tools_main.new.sink.to in
-    let E : Option (List ℕ) → ℕ → Type 0 = λ old before. Ends (Outcome told words) (Names told words) c.tools_main.result (record {
+    let text = writer_contents W c.tools_main-ran.new.sink.to in
+    let E : Option (List ℕ) → ℕ → Type 0 = λ old before. Ends (Outcome told words) (Names told words) c.tools_main-ran.result (record {
       old = old;
       new = text;
       before = before;
-      now = c.tools_main.new.sink.faults;
-      files = record { before = F c.args.files.now; now = F c.tools_main.new.files; missed = g.F.Files.missed c.tools_main.new.files };
+      now = c.tools_main-ran.new.sink.faults;
+      files = record { before = F c.args.files.now; now = F c.tools_main-ran.new.files; missed = g.F.Files.missed c.tools_main-ran.new.files };
     }) in
     let start = c.in-Ok.ensures in
-    let ends = subst (λ old. E old 0) start.text (subst (E (writer_contents W c.in-Ok.sink.to)) start.faults c.tools_main.ensures.ends) in
+    let ends = subst (λ old. E old 0) start.text (subst (E (writer_contents W c.in-Ok.sink.to)) start.faults c.tools_main-ran.ensures.ends) in
     record {
       text = text;
-      ran = c.tools_main.result;
-      put = (c.tools_main.new.sink.faults, ends);
-      handed = c.finish.result.1;
-      left_is = c.finish.ensures;
+      ran = c.tools_main-ran.result;
+      put = (c.tools_main-ran.new.sink.faults, ends);
+      handed = c.finish-output.result.1;
+      left_is = c.finish-output.ensures;
       status_is = c.answer.ensures;
     }
