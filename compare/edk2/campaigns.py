@@ -29,7 +29,7 @@ PLAIN = os.environ.get("PLAIN", f"{HERE}/../plain/out/plain")
 PEI, DXE = f"{OUT}/edk2-pei", f"{OUT}/edk2-dxe"
 ROOT = os.path.normpath(f"{HERE}/../..")
 PIBOOT = os.environ.get("PIBOOT", f"{ROOT}/crates/piboot/out/piboot")
-PITOOLS = os.environ.get("PITOOLS", f"{ROOT}/crates/pitools/out/pitools")
+MAKE_VOLUME = f"{ROOT}/scripts/make-volume"
 SECONDS = 20
 
 # Each known difference, by the word that gives the plain program EDK2's rule for it; docs/COMPARISON.md has a row for each.
@@ -75,8 +75,7 @@ def write(folder: str, texts: list[str], plan: str | None = None) -> None:
     for number, text in enumerate(texts):
         with open(f"{folder}/v{number}.volume", "w", encoding="utf-8") as file:
             file.write(text)
-        with open(f"{folder}/v{number}.fv", "wb") as file:
-            subprocess.run([PITOOLS, "volume", f"v{number}.volume"], cwd=folder, stdout=file, check=True, timeout=SECONDS)
+        subprocess.run([MAKE_VOLUME, f"{folder}/v{number}.volume"], capture_output=True, check=True, timeout=SECONDS)
 
 
 def edk2(folder: str, audit: list[str]) -> Trace:
