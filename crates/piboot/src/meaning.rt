@@ -1,4 +1,6 @@
 // What a person is told of an exit status.
+ghost use Rattle.std.specs.Prelude.{◌≡◌, ◌≢◌, [], IfNone, IfSome};
+
 use boot_core::Status;
 
 // The version, and the forms of a command line.
@@ -6,7 +8,10 @@ const USAGE: &str =
     "version 0.1; usage: piboot boot PLAN | piboot audit PLAN | piboot generate N, with N from 1 to 4096";
 
 /// A line on an exit status: what happened, and where to read on. None of Done.
-pub(crate) fn meaning_of(status: Status) -> Option<&'static str> {
+pub(crate) fn meaning_of(status: Status) -> Option<&'static str>
+    ensures told { IfSome result (λ line. (status ≢ Status.Done) × (line.now ≢ [])) }
+    ensures silent { IfNone result (status ≡ Status.Done) }
+{
     match status {
         Status::Done => None,
         Status::Usage => Some(USAGE),
