@@ -27,9 +27,10 @@ class Span(NamedTuple):
 
 
 class Told(NamedTuple):
-    """What a log tells: both memories, as far as it does, and the volumes, the boot volume first."""
+    """What a log tells: both memories, the boot volume, and other volumes, as far as it does."""
 
     memories: dict[str, Span]
+    boot_volume: Span | None
     volumes: list[Span]
 
 
@@ -45,12 +46,12 @@ def told_by(boot: Boot) -> Told:
         stack, heap = (Span(first[kind].number(0), first[kind].number(1)) for kind in ("stack", "heap"))
         if stack.end() == heap.base or heap.end() == stack.base:
             memories["temp"] = Span(min(stack.base, heap.base), stack.length + heap.length)
-    volumes = sorted((event for event in boot.events if event.kind == "volume"), key=lambda event: int(event.words[0]))
-    spans = [Span(event.number(1), event.number(2)) for event in volumes]
+    volumes = {int(event.words[0]): Span(event.number(1), event.number(2)) for event in reversed(boot.events) if event.kind == "volume"}
+    spans = [span for number, span in sorted(volumes.items()) if number]
     spans += [Span(event.number(0), event.number(1) + 1 - event.number(0)) for event in boot.events if event.kind == "fv_hob"]
     if first["begin"] and first["begin"].words and FLASH_END > first["begin"].number(0) >= FLASH_END // 2:
         spans.append(Span(first["begin"].number(0), FLASH_END - first["begin"].number(0)))
-    return Told(memories, list(dict.fromkeys(spans)))
+    return Told(memories, volumes.get(0), [span for span in dict.fromkeys(spans) if span != volumes.get(0)])
 
 
 class Places:
@@ -92,12 +93,13 @@ class Places:
             self.notes.append(f"{MEMORIES[word]} is not at {told}, as the log tells: {why}")
         return self.free(own.length) if self.why_not(own, PAGE) else self.take(own)
 
-    def volumes(self, told: list[Span], own: list[Span]) -> list[Span]:
-        """The place of each volume: what the log tells of the first volume of this length, else the plan's own."""
+    def volumes(self, told: Told, own: list[Span]) -> list[Span]:
+        """The place of each volume: of the first one what the log tells of the boot volume, of another what it tells of this length, else the plan's own."""
         places: dict[int, Span] = {}
-        for span in told:
-            number = next((number for number, volume in enumerate(own) if volume.length == span.length and number not in places), None)
-            if number is None:
+        for span in [told.boot_volume] * bool(told.boot_volume) + told.volumes:
+            first = 0 if span is told.boot_volume else 1
+            number = next((number for number in range(first, len(own)) if own[number].length == span.length and number not in places), None)
+            if number is None or span is told.boot_volume and number:
                 continue
             if why := self.why_not(span, 8):
                 self.notes.append(f"volume {number} is not at {span}, as the log tells: {why}")
