@@ -17,7 +17,7 @@ FORMS = {
     "peim": rf"{WORD}Loading PEIM {GUID}",
     "image": rf"{WORD}Loading (PEIM|driver) at {HEX} EntryPoint={HEX}(?: (\S+))?",
     "driver": rf"{WORD}Loading driver {GUID}",
-    "waits": rf"{WORD}Driver {GUID} was discovered but not loaded",
+    "waits": rf"{WORD}(?<!MM )Driver {GUID} was discovered but not loaded",
     "ppi": rf"{WORD}Install PPI: {GUID}",
     "refused": rf"{WORD}InstallProtocolInterface: {GUID} ([0-9A-F]+) failed with",
     "protocol": rf"{WORD}InstallProtocolInterface: {GUID} ([0-9A-F]+)",
@@ -28,7 +28,7 @@ FORMS = {
     "heap": rf"Temp Heap *: BaseAddress={HEX} Length={HEX}",
     "move": rf"TemporaryRamMigration\({HEX}, {HEX}, {HEX}\)",
     "bds": r"\[Bds\] ?Entry",
-    "spoiled": rf"{WORD}(?:Loading (?:PEIM|driver)(?! at )|Install PPI:|InstallProtocolInterface:)",
+    "spoiled": rf"{WORD}(?:Loading (?:PEIM|driver)(?! at )|Install PPI:|InstallProtocolInterface:(?! input handle))",
 }
 FORM = re.compile("|".join(f"(?P<{kind}>{form})" for kind, form in FORMS.items()), re.IGNORECASE)
 # Of a terminal's codes those for colours stand inside a word, and the others between two.
