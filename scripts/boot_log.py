@@ -45,7 +45,7 @@ STAGES = ["started no module", "reached PEI", "reached DXE", "reached the end of
 LACKING = [
     ({"begin", "boot volume"}, "SecCoreStartup ..` or `The 0th FV start address ..", "what came before its first line is not known"),
     ({"ppi"}, "Install PPI: ..", "no PEIM installs a PPI, and no expression over one holds"),
-    ({"boot volume", "volume"}, "The Nth FV start address is ..", "the plan's first volume is taken for the boot volume, and no other one is reported"),
+    ({"boot volume", "volume"}, "The Nth FV start address is ..", "the plan's first volume is taken for the boot volume, and no other is reported"),
     (MEMORY_KINDS, "PeiInstallPeiMemory ..` or `Temp Stack ..", "no module installs memory, and the boot ends with PEI"),
     ({"driver"}, "Loading driver ..", "no driver starts, and DXE stops at once"),
     ({"protocol"}, "InstallProtocolInterface: ..", "no driver installs a protocol, and no expression over one holds"),

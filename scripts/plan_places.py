@@ -94,7 +94,7 @@ class Places:
         return self.free(own.length) if self.why_not(own, PAGE) else self.take(own)
 
     def volumes(self, told: Told, own: list[Span]) -> list[Span]:
-        """The place of each volume: of the first one what the log tells of the boot volume, of another what it tells of this length, else the plan's own."""
+        """The place of each volume: of the first what the log tells of the boot volume, of another what it tells of this length, else its own."""
         places: dict[int, Span] = {}
         for span in [told.boot_volume] * bool(told.boot_volume) + told.volumes:
             first = 0 if span is told.boot_volume else 1
