@@ -96,10 +96,10 @@ class Places:
     def volumes(self, told: Told, own: list[Span]) -> list[Span]:
         """The place of each volume: of the first what the log tells of the boot volume, of another what it tells of this length, else its own."""
         places: dict[int, Span] = {}
-        for span in [told.boot_volume] * bool(told.boot_volume) + told.volumes:
-            first = 0 if span is told.boot_volume else 1
-            number = next((number for number in range(first, len(own)) if own[number].length == span.length and number not in places), None)
-            if number is None or span is told.boot_volume and number:
+        for span in ([told.boot_volume] if told.boot_volume else []) + told.volumes:
+            open_places = [0] if span is told.boot_volume else range(1, len(own))
+            number = next((number for number in open_places if own[number].length == span.length and number not in places), None)
+            if number is None:
                 continue
             if why := self.why_not(span, 8):
                 self.notes.append(f"volume {number} is not at {span}, as the log tells: {why}")
