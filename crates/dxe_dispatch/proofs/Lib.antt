@@ -1,9 +1,15 @@
+pub mod Chosen
+pub mod ChosenWays
+pub mod FirstStarts
+mod FirstRuns
+mod Followed
 pub mod Growing
 mod Idle
 mod Openings
+mod Requests
 mod Runs
 mod Standing
+pub mod Targets
 mod Told
 mod Turning
 mod Waits
-pub mod Ways

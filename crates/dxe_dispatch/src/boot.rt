@@ -7,7 +7,7 @@ ghost use Rattle.store_model.specs.StoreCall.{Anything};
 ghost use Rattle.dxe_core.specs.Standing.{IsFor};
 ghost use Rattle.dxe_dispatch.specs.Ends.{Boots, IsAtOpening, IsOpened, Leaves};
 
-use crate::run::run_dxe;
+use crate::run::run_first;
 use boot_io::{Halt, Sink};
 use boot_model::DxeEnd;
 use catalog_model::Catalog;
@@ -68,7 +68,7 @@ fn run_with_ledger<M: PeiStore, S: Sink, L: Ledger>(
 {
     let mut queue = DriverQueue::new(alloc, catalog)?;
     let mut steps = Steps::<L>::new(blank);
-    let end = run_dxe(dxe, store, &mut queue, catalog, sink, &mut steps);
+    let end = run_first(dxe, store, &mut queue, catalog, sink, &mut steps);
     drop(queue);
     end
 }

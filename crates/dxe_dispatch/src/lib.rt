@@ -1,8 +1,10 @@
 //! DXE from its opening to its end (PI 1.8, volume 2, "DXE Dispatcher"): the core's steps, and where it has none left the next driver, or the stop.
 #![tactic(auto)]
 
+mod aim;
 mod boot;
 mod choose;
+mod root;
 mod run;
 mod stop;
 mod tell;
@@ -10,5 +12,4 @@ mod turns;
 mod waiting;
 
 pub use boot::{Ended, boot_dxe, dxe_at_opening};
-pub use run::{bound, run_dxe};
-pub use turns::turn;
+pub use run::{bound, run_dxe, run_first};

@@ -6,9 +6,10 @@ ghost use Rattle.catalog_model.specs.WellFormed.{IsWellFormed};
 ghost use Rattle.catalog_model.specs.declared.limits.TheConstants.{MOST_MODULES};
 ghost use Rattle.dxe_choice.specs.Queue.{IsNewQueue, IsQueueFor};
 ghost use Rattle.dxe_core.specs.Standing.{IsFor};
+ghost use Rattle.dxe_dispatch.specs.Choices.{EvaluatesFewByChoice, RunsByChoice};
 ghost use Rattle.dxe_dispatch.specs.Ends.{EvaluatesFew, IsAtOpening, Runs};
 
-use crate::turns::turn;
+use crate::turns::turn_by;
 use boot_io::{Halt, Sink};
 use boot_laws::{discovered_order_has_each_once, dxe_runs_end, unrequested_drivers_wait};
 use boot_model::{DxeEnd, MOST_FRAMES};
@@ -16,6 +17,9 @@ use catalog_model::Catalog;
 use depex_code::Steps;
 use dxe_choice::DriverQueue;
 use dxe_core::{Dxe, put_volumes};
+use free_laws::{
+    Choice, FirstEligible, dxe_chooses_by_groups, dxe_goes_on, dxe_opens, groups_are_aimed,
+};
 use std::sync::ledger::Ledger;
 use store_model::PeiStore;
 
@@ -27,9 +31,48 @@ pub fn bound(catalog: &Catalog, fuel: u32) -> u64
     2 * u64::from(fuel) + MOST_FRAMES as u64 + catalog.modules.len() as u64 + 1
 }
 
-/// DXE from the opening to its end: the a priori drivers of the volumes that were discovered are scheduled, the lines of these volumes are put, and then a step of the machine at a time, up to the stop. `dxe` is the core at its opening, and `queue` is new.
-/// Behind its end the core beside its store, and the queue, are those of the last machine. No more expressions are evaluated than the bound on evaluations lets: one for each driver of a discovered volume, and one for each driver that waits for a protocol when that is installed or uninstalled. No more interfaces are left than a `u32` counts, if no more actions were taken before.
-pub fn run_dxe<M: PeiStore, S: Sink, L: Ledger>(
+/// DXE from the opening to its end, where a choice may name the driver that starts: the a priori drivers of the volumes that were discovered are scheduled, the lines of these volumes are put, and then a step of the machine at a time, up to the stop. `dxe` is the core at its opening, and `queue` is new.
+/// What it leaves is a run of the machine whose choices are these; behind its end the core beside its store, and the queue, are those of the last machine. No more expressions are evaluated than the drivers and the protocols of that run let. No more interfaces are left than a `u32` counts, if no more actions were taken before.
+pub fn run_dxe<M: PeiStore, S: Sink, C: Choice<S>, L: Ledger>(
+    dxe: &mut Dxe,
+    store: &M,
+    queue: &mut DriverQueue,
+    choice: &C,
+    catalog: &Catalog,
+    sink: &mut S,
+    steps: &mut Steps<L>,
+) -> Result<DxeEnd, Halt>
+    requires catalog { IsWellFormed catalog.now }
+    requires made { (fuel : ℕ) × IsFor catalog.now fuel dxe.old }
+    requires new { IsNewQueue catalog.now queue.old }
+    requires queue { IsQueueFor catalog.now queue.old }
+    requires opening { IsAtOpening M.stands_for store.now catalog.now dxe.old }
+    ensures row { RunsByChoice (C.drivers choice.now) S.text S.faults M.stands_for store.now catalog.now
+        dxe.old sink.old dxe.new queue.new sink.new result }
+    ensures few { dxe.old.fuel.taken < 2 ^ 32 → OnOk result (length dxe.new.services.handles.interfaces < 2 ^ 32) }
+    ensures faults { HaltsAfter result (S.faults sink.old) (S.faults sink.new) }
+    ensures few_steps { EvaluatesFewByChoice (C.drivers choice.now) S.text S.faults M.stands_for store.now catalog.now
+        dxe.old sink.old steps.old steps.new }
+{
+    dxe_opens();
+    dxe_goes_on();
+    dxe_chooses_by_groups();
+    groups_are_aimed();
+    unrequested_drivers_wait();
+    discovered_order_has_each_once();
+    queue.discover(catalog, dxe.order(), 0)?;
+    put_volumes(sink, dxe.order().volumes())?;
+    'turns: for _ in 0..bound(catalog, dxe.fuel()) {
+        if let Some(end) = turn_by(dxe, store, queue, choice, catalog, sink, steps)? {
+            return Ok(end);
+        }
+    }
+    unreachable!()
+}
+
+/// DXE from the opening to its end where the first driver that may start does, with its group: the run of the machine.
+/// No more expressions are evaluated than the bound on evaluations lets: one for each driver of a discovered volume, and one for each driver that waits for a protocol when that is installed or uninstalled.
+pub fn run_first<M: PeiStore, S: Sink, L: Ledger>(
     dxe: &mut Dxe,
     store: &M,
     queue: &mut DriverQueue,
@@ -48,14 +91,5 @@ pub fn run_dxe<M: PeiStore, S: Sink, L: Ledger>(
     ensures few_steps { EvaluatesFew M.stands_for store.now catalog.now dxe.old steps.old steps.new }
 {
     dxe_runs_end();
-    unrequested_drivers_wait();
-    discovered_order_has_each_once();
-    queue.discover(catalog, dxe.order(), 0)?;
-    put_volumes(sink, dxe.order().volumes())?;
-    'turns: for _ in 0..bound(catalog, dxe.fuel()) {
-        if let Some(end) = turn(dxe, store, queue, catalog, sink, steps)? {
-            return Ok(end);
-        }
-    }
-    unreachable!()
+    run_dxe(dxe, store, queue, &FirstEligible, catalog, sink, steps)
 }

@@ -23,7 +23,7 @@ use Rattle.free_text.specs.Spelled.{met}
 use Rattle.free_text.proofs.Fronts.{prefix_then, shorter_front}
 use Rattle.free_text.proofs.Telling.{met_begins}
 use Rattle.free_pei.proofs.Lines.{lines_end}
-use Rattle.free_check.specs.DxeTurn as D
+use Rattle.free_check.specs.DxeFollowed as D
 use Rattle.free_check.specs.Following.{IsLast}
 
 -- of the boots that go on from here, those from the start of what follows

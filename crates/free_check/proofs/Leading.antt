@@ -9,7 +9,7 @@ use Rattle.catalog_model.specs.declared.catalog.Module.{Module}
 use Rattle.catalog_model.specs.Parts.{module_name, module_volume, part_at, part_of}
 use Rattle.catalog_model.specs.WellFormed.{IsWellFormed}
 use Rattle.boot_model.specs.declared.driver.Scheduled.{Scheduled}
-use Rattle.boot_model.specs.DriverLicence.{numbers_of, target_of}
+use Rattle.boot_model.specs.DriverLicence.{numbers_of}
 use Rattle.boot_model.specs.DxeChoice.{companion_group, driver_licence, group_scheduled, schedule_of}
 use Rattle.boot_model.specs.DxeMachine.{DxeMachine}
 use Rattle.boot_model.specs.FreeRun.{MaySchedule}
@@ -18,18 +18,13 @@ use Rattle.free_laws.specs.DxeAim.{GroupsAreAimed, IsChoosing, NamesLeadToRoot, 
 use Rattle.free_laws.specs.DxeUnderWay.{FewDriversWait, IsDriverOf, IsUnderWay}
 use Rattle.free_text.specs.declared.spelled.Spelled.{Spelled}
 use Rattle.free_text.specs.Spelled.{IsRight, left}
-use Rattle.module_names.specs.Named.{AreGuids, AreNames, IsNamed}
+use Rattle.module_names.specs.Named.{AreGuids, AreNames}
 use Rattle.printed_words.specs.Words.{IsGuid}
-use Rattle.free_check.specs.DxeAim.{BeginsWithStart, LeadsTo, NamesNext}
+use Rattle.dxe_dispatch.specs.Choices.{root_of}
+use Rattle.dxe_dispatch.proofs.Targets.{Leading}
+use Rattle.free_pei.specs.Starting.{NamesNext}
+use Rattle.free_check.specs.DxeAim.{BeginsWithStart, LeadsTo}
 use Rattle.free_check.proofs.FreeSteps.{AreReadable}
-
--- a step on the way to the root
-pub follows_more : (catalog : Catalog) (m : DxeMachine) (n number target : ℕ) → target_of catalog m number ≡ Some target → follows catalog m (suc n) number ≡ follows catalog m n target
-follows_more catalog m n number target is = ap (λ o. elim o as (λ _. ℕ) [ None ↦ number | Some t ↦ follows catalog m n t ]) is
-
-pub follows_end : (catalog : Catalog) (m : DxeMachine) (n number : ℕ) → target_of catalog m number ≡ None → follows catalog m n number ≡ number
-follows_end catalog m zero number is = refl
-follows_end catalog m (suc n) number is = ap (λ o. elim o as (λ _. ℕ) [ None ↦ number | Some t ↦ follows catalog m n t ]) is
 
 -- the start of a driver is a readable line
 guid_at : (ms : List Module) (number : ℕ) → Each (λ m. IsGuid m.name) ms → number < length ms → (found : Module) × (slice_get ms number ≡ Some found) × IsGuid found.name
@@ -66,9 +61,6 @@ group_first catalog m root first rest is = by (companion_group catalog m root) r
     by [] e f = cc
     by (x ∷ xs) e f = (xs, e ∙ ap (λ n. n ∷ xs) (first_is x xs f))
 
-no_number : (n : ℕ) → None ≡ Some n → ⊥
-no_number n e = cc
-
 one_number : (a b : ℕ) → Some a ≡ Some b → a ≡ b
 one_number a b e = cc
 
@@ -84,40 +76,36 @@ pub record LeadLaws : Type 0 where
   pub few : FewDriversWait
   pub groups : GroupsAreAimed
 
-number_next : (laws : LeadLaws) (catalog : Catalog) (m : DxeMachine) (names : List (List (Guid × ℕ))) (text : Spelled) (found : Option ℕ) (other : ℕ) (first : Scheduled) (rest : List Scheduled) → NamesNext names text found → IsWellFormed catalog
+number_next : (laws : LeadLaws) (catalog : Catalog) (m : DxeMachine) (names : List (List (Guid × ℕ))) (text : Spelled) (found : Option ℕ) (other : ℕ) (first : Scheduled) (rest : List Scheduled) → NamesNext Dxe names text found → IsWellFormed catalog
     → AreNames catalog (length catalog.modules) names → AreGuids catalog → IsUnderWay catalog m → IsChoosing m → IsRight text → MaySchedule catalog m other → group_scheduled catalog m (Some other) ≡ first ∷ rest → BeginsWithStart catalog first (left text)
     → found ≡ Some first.module_number
 number_next laws catalog m names text found other first rest next well are guids way choosing right may group begins =
     let driver = first_known catalog m other first rest laws.groups way choosing may group in
-    next catalog first are (starts_readable catalog well guids first driver) right (within (part_of Dxe) catalog.modules first.module_number driver) begins
+    next right catalog are first.module_number (record {
+      licence = first.licence;
+      named = record { is_module = within (part_of Dxe) catalog.modules first.module_number driver; in_volume = refl; of_name = refl };
+      readable = starts_readable catalog well guids first driver;
+      next = (begins.more, begins.is);
+    })
 
 -- a module is named
-pub leads_on : (laws : LeadLaws) (catalog : Catalog) (m : DxeMachine) (names : List (List (Guid × ℕ))) (text : Spelled) (found : Option ℕ) (number root : ℕ) → found ≡ Some number → NamesNext names text found → IsWellFormed catalog
-    → AreNames catalog (length catalog.modules) names → AreGuids catalog → IsUnderWay catalog m → IsChoosing m → IsRight text → root ≡ follows catalog m (length catalog.modules) number → LeadsTo catalog m (left text) (Some root)
-leads_on laws catalog m names text found number root is next well are guids way choosing right root_is other first rest may group begins =
+leads_on : (laws : LeadLaws) (catalog : Catalog) (m : DxeMachine) (names : List (List (Guid × ℕ))) (text : Spelled) (found : Option ℕ) (number : ℕ) → found ≡ Some number → NamesNext Dxe names text found → IsWellFormed catalog
+    → AreNames catalog (length catalog.modules) names → AreGuids catalog → IsUnderWay catalog m → IsChoosing m → IsRight text → LeadsTo catalog m (left text) (Some (root_of catalog m number))
+leads_on laws catalog m names text found number is next well are guids way choosing right other first rest may group begins =
     let named = number_next laws catalog m names text found other first rest next well are guids way choosing right may group begins in
     let same : number ≡ first.module_number = one_number number first.module_number (sym is ∙ named) in
     let members = group_first catalog m other first rest group in
     let leads = laws.roots catalog m other first.module_number members.0 may members.1 in
-    ap Some (root_is ∙ ap (follows catalog m (length catalog.modules)) same ∙ leads.leads (length catalog.modules) (laws.few catalog m way).waiting)
+    ap Some (ap (follows catalog m (length catalog.modules)) same ∙ leads.leads (length catalog.modules) (laws.few catalog m way).waiting)
 
--- none is
-pub leads_nowhere : (laws : LeadLaws) (catalog : Catalog) (m : DxeMachine) (names : List (List (Guid × ℕ))) (text : Spelled) (found : Option ℕ) → found ≡ None → NamesNext names text found → IsWellFormed catalog
-    → AreNames catalog (length catalog.modules) names → AreGuids catalog → IsUnderWay catalog m → IsChoosing m → IsRight text → LeadsTo catalog m (left text) None
-leads_nowhere laws catalog m names text found none next well are guids way choosing right other first rest may group begins =
-    absurd (no_number first.module_number (sym none ∙ number_next laws catalog m names text found other first rest next well are guids way choosing right may group begins))
-
--- one name nearer to the root
-pub follows_left : (catalog : Catalog) (m : DxeMachine) (all counter number target : ℕ) → counter < all → target_of catalog m number ≡ Some target → follows catalog m (all - counter) number ≡ follows catalog m (all - (counter + 1)) target
-follows_left catalog m all counter number target below is =
-    let one : all - counter ≡ suc (all - (counter + 1)) = omega (arith, below) in ap (λ n. follows catalog m n number) one ∙ follows_more catalog m (all - (counter + 1)) number target is
-
-pub none_left : (catalog : Catalog) (m : DxeMachine) (all counter number : ℕ) → all ≤ counter → follows catalog m (all - counter) number ≡ number
-none_left catalog m all counter number out = let none : all - counter ≡ 0 = omega (arith, out) in ap (λ n. follows catalog m n number) none
-
-pub nothing_there : (a : ℕ × Guid) → None ≡ Some a → ⊥
-nothing_there a e = cc
-
--- the module is named by the volume and the name that were read
-pub named_so : (catalog : Catalog) (number volume : ℕ) (name : Guid) → number < length catalog.modules → module_volume catalog number ≡ volume → module_name catalog number ≡ name → IsNamed catalog volume name number
-named_so catalog number volume name below same named = record { is_module = below; in_volume = same; of_name = named }
+-- the driver that a text names leads to the one whose group the text starts next, if it starts any
+pub leading_by : (laws : LeadLaws) (catalog : Catalog) (m : DxeMachine) (names : List (List (Guid × ℕ))) (text : Spelled) (found : Option ℕ) → NamesNext Dxe names text found → IsWellFormed catalog
+    → AreNames catalog (length catalog.modules) names → AreGuids catalog → IsUnderWay catalog m → IsChoosing m → IsRight text → Leading catalog m (λ root. LeadsTo catalog m (left text) (Some root)) found
+leading_by laws catalog m names text found next well are guids way choosing right = record {
+  some = λ number is may. leads_on laws catalog m names text found number is next well are guids way choosing right;
+  none = λ never some_other some_may other first rest may group begins.
+      let is = number_next laws catalog m names text found other first rest next well are guids way choosing right may group begins in
+      let leads = leads_on laws catalog m names text found first.module_number is next well are guids way choosing right other first rest may group begins in
+      let same : root_of catalog m first.module_number ≡ other = one_number (root_of catalog m first.module_number) other leads in
+      absurd (never first.module_number is (subst (MaySchedule catalog m) (sym same) may));
+}

@@ -1,10 +1,6 @@
-mod Aims
-mod FollowedRuns
+mod DriverTextRuns
 mod FreeSteps
 mod Leading
-mod Requests
-mod Targets
-mod TurnResults
 mod FirstOff
 mod LastLines
 mod EndedInPei

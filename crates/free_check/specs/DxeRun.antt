@@ -16,7 +16,7 @@ use Rattle.free_text.specs.declared.parted.Parted.TheVariants.{Memory, Off}
 use Rattle.free_text.specs.declared.spelled.Spelled.{Spelled}
 use Rattle.free_text.specs.Putting.{IsOffHere}
 use Rattle.free_text.specs.Spelled.{IsHeld}
-use Rattle.free_check.specs.DxeTurn.{IsFollowed}
+use Rattle.free_check.specs.DxeFollowed.{IsFollowed}
 
 -- the text was met as far as an end of DXE from its opening, which has these handles
 pub record HasFollowed (catalog : Catalog) (fuel : ℕ) (pei : PeiMachine) (opening : DxeMachine) (how : DxeEnd) (handles : HandleState) (whole : List ℕ) (text : Spelled) : Type 0 where

@@ -1,5 +1,5 @@
 pub mod DxeAim
-pub mod DxeTurn
+pub mod DxeFollowed
 pub mod DxeRun
 pub mod Following
 pub mod Verdict

@@ -8,15 +8,17 @@ ghost use Rattle.free_check.specs.DxeRun.{FollowsDxe};
 ghost use Rattle.free_text.specs.Spelled.{IsRight};
 ghost use Rattle.module_names.specs.Named.{AreNames};
 
-use crate::dxe_turn::turn_by_text;
-use boot_laws::{discovered_order_has_each_once, unrequested_drivers_wait};
 use boot_model::DxeEnd;
 use catalog_model::Catalog;
 use depex_code::Steps;
 use dxe_choice::DriverQueue;
-use dxe_core::{Dxe, put_volumes};
-use dxe_dispatch::bound;
-use free_laws::{dxe_ends, dxe_lines_grow, dxe_opens};
+use dxe_core::Dxe;
+use dxe_dispatch::run_dxe;
+use free_laws::{
+    dxe_chooses_by_groups, dxe_ends, dxe_goes_on, dxe_lines_grow, dxe_opens, dxe_starts_freely,
+    few_drivers_wait, groups_are_aimed, names_lead_to_root,
+};
+use free_pei::ByText;
 use free_text::{Parted, Spelled, text_tells};
 use module_names::{Names, names_are_guids};
 use std::sync::ledger::Ledger;
@@ -42,19 +44,17 @@ pub(crate) fn run_dxe_by_text<M: PeiStore, L: Ledger>(
     ensures row { FollowsDxe M.stands_for store.now catalog.now dxe.old dxe.new text.old text.new result }
     ensures few { dxe.old.fuel.taken < 2 ^ 32 → OnOk result (length dxe.new.services.handles.interfaces < 2 ^ 32) }
 {
-    dxe_opens();
-    dxe_ends();
-    dxe_lines_grow();
-    unrequested_drivers_wait();
-    discovered_order_has_each_once();
-    text_tells();
     names_are_guids(catalog);
-    queue.discover(catalog, dxe.order(), 0)?;
-    put_volumes(text, dxe.order().volumes())?;
-    'turns: for _ in 0..bound(catalog, dxe.fuel()) {
-        if let Some(end) = turn_by_text(dxe, store, queue, catalog, names, text, steps)? {
-            return Ok(end);
-        }
-    }
-    unreachable!()
+    dxe_opens();
+    dxe_goes_on();
+    dxe_starts_freely();
+    dxe_chooses_by_groups();
+    groups_are_aimed();
+    names_lead_to_root();
+    few_drivers_wait();
+    dxe_lines_grow();
+    dxe_ends();
+    text_tells();
+    let choice = ByText { names };
+    Ok(run_dxe(dxe, store, queue, &choice, catalog, text, steps)?)
 }

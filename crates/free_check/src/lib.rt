@@ -3,11 +3,7 @@
 
 mod checking;
 mod closing;
-mod dxe_aim;
-mod dxe_next;
 mod dxe_run;
-mod dxe_target;
-mod dxe_turn;
 mod following;
 mod verdict;
 

@@ -9,4 +9,4 @@ returns-in_err-queue-clause-row g c s actions fuel made stands =
     rw p.1 (part_none (g.S.Sink.text c.args.sink.now) _)
 
 pub returns-clause-row : goal.returns-clause-row
-returns-clause-row g c s actions fuel made stands = left _ c.args.store.now c.args.catalog.now _ _ _ _ _ _ (c.run_dxe-end.ensures.row s actions fuel made stands)
+returns-clause-row g c s actions fuel made stands = left _ c.args.store.now c.args.catalog.now _ _ _ _ _ _ (c.run_first-end.ensures.row s actions fuel made stands)

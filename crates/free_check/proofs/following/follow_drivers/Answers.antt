@@ -19,7 +19,7 @@ use Rattle.free_text.specs.declared.spelled.Spelled.{Spelled}
 use Rattle.free_text.specs.Putting.{IsOffHere}
 use Rattle.free_text.proofs.Telling.{held_begins}
 use Rattle.free_check.specs.DxeRun.{FollowsTo}
-use Rattle.free_check.specs.DxeTurn as D
+use Rattle.free_check.specs.DxeFollowed as D
 use Rattle.free_check.specs.Following.{Follows, IsLast}
 use Rattle.free_check.proofs.EndedInPei.{ends_so}
 use Rattle.free_check.proofs.HandedOff.{begin_with_pei, last_of_dxe, off_behind}

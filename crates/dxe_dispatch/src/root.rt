@@ -3,7 +3,7 @@ ghost use Rattle.std.specs.Prelude.{◌≡◌, length};
 ghost use Rattle.boot_model.specs.DriverLicence as Of;
 ghost use Rattle.boot_model.specs.DxeMachine.{DxeMachine};
 ghost use Rattle.driver_order.specs.Order.{IsOrderOf};
-ghost use Rattle.free_check.specs.DxeAim.{given_by};
+ghost use Rattle.dxe_dispatch.specs.Roots.{given_by};
 ghost use Rattle.free_laws.specs.DxeAim.{follows};
 
 use catalog_model::{Catalog, PartExpr};

@@ -2,7 +2,7 @@ use Rattle.std.proofs.Common.{◌≡◌, ◌-◌, length}
 use Rattle.boot_model.specs.DxeMachine.{DxeMachine}
 use Rattle.driver_order.specs.Order.{IsOrderOf}
 use Rattle.free_laws.specs.DxeAim.{follows}
-use Rattle.free_check.proofs.dxe_target.root_of.Given as goal
+use Rattle.dxe_dispatch.proofs.root.root_of.Given as goal
 
 -- the names that are left lead on to the driver
 abbrev pub invariant-names : goal.invariant-names

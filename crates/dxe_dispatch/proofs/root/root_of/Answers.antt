@@ -1,7 +1,7 @@
 use Rattle.std.proofs.Common.{◌<◌, ◌≤◌, length, sym, ◌∙◌, arith}
 use Rattle.std.proofs.lemmas.Bool.Decides.{nat_tests}
-use Rattle.free_check.proofs.Leading.{follows_end, follows_left, none_left}
-use Rattle.free_check.proofs.dxe_target.root_of.Goals as goal
+use Rattle.dxe_dispatch.proofs.Followed.{follows_end, follows_left, none_left}
+use Rattle.dxe_dispatch.proofs.root.root_of.Goals as goal
 
 pub names-preserved : goal.names-preserved
 names-preserved c m order =

@@ -1,0 +1,28 @@
+use Rattle.std.proofs.Common.{◌≡◌, ℕ, Ok, Err, Result, sym, subst}
+use Rattle.std.specs.Prelude.{OnOk}
+use Rattle.catalog_model.specs.declared.catalog.Catalog.{Catalog}
+use Rattle.boot_model.specs.DxeMachine.{DxeMachine}
+use Rattle.driver_order.specs.Order.{Drivers, IsOrderOf}
+use Rattle.dxe_choice.specs.Aim.{aimed}
+use Rattle.dxe_choice.specs.Queue.{IsQueueOf, IsSeen, Queue}
+use Rattle.dxe_core.specs.Standing.{DxeCore}
+use Rattle.dxe_dispatch.specs.Choices.{Aims, root_of}
+use Rattle.dxe_dispatch.specs.Turns.{AreOf}
+use Rattle.dxe_dispatch.proofs.Chosen.{order_of, seen_of}
+use Rattle.dxe_dispatch.proofs.Turning.{on_ok}
+use Rattle.dxe_dispatch.proofs.aim.aim.Goals as goal
+
+pub returns-in-Some-clause-row : goal.returns-in-Some-clause-row
+returns-in-Some-clause-row g c =
+    let catalog = c.args.catalog.now in
+    let core = c.args.dxe.now in
+    let queue = c.args.queue.now in
+    subst (λ o. OnOk c.aim.result (Aims catalog core queue o c.aim.new.self)) (sym c.in-Some.is)
+    (on_ok c.aim.result
+    (λ row m are.
+      let root : c.root_of-root.result ≡ root_of catalog m c.in-Some.number = c.root_of-root.ensures m (order_of catalog core queue m c.order.result.now c.order.ensures are) in
+      subst (λ n. IsQueueOf catalog (aimed catalog m n) c.aim.new.self) root (row m (seen_of catalog core queue m c.order-in-Some.result.now c.order-in-Some.ensures are)))
+    c.aim.ensures.row)
+
+pub returns-in-None-clause-row : goal.returns-in-None-clause-row
+returns-in-None-clause-row g c = subst (λ o. Aims c.args.catalog.now c.args.dxe.now c.args.queue.now o c.args.queue.now) (sym c.in-None.is) (λ m are. are.queue)
