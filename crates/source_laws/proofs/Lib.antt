@@ -1,0 +1,7 @@
+mod Words
+mod Inner
+mod Guids
+mod Numbers
+mod Operands
+mod Lines
+mod Texts

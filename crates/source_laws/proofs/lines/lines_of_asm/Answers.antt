@@ -1,0 +1,5 @@
+use Rattle.source_laws.proofs.Lines.{line_says}
+use Rattle.source_laws.proofs.lines.lines_of_asm.Goals as goal
+
+pub returns : goal.returns
+returns c = line_says
