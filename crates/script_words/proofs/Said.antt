@@ -1,6 +1,6 @@
 -- What a line says keeps its ranges.
 use Rattle.std.proofs.Common.{◌≡◌, ℕ, suc, zero, ◌+◌, ◌-◌, ◌<◌, ◌≤◌, ◌^◌, ◌&&◌, Bool, true, false, eqb, ltb, List, [], ◌∷◌, ◌++◌, length, Option, Some, None, Result, Ok, Err, refl, sym, ap, subst, ◌∙◌, arith}
-use Rattle.std.specs.Prelude.{⊤, nat_le, nat_lt, ◌==◌, if◌then◌else◌, codes, option_map, bytes_eq}
+use Rattle.std.specs.Prelude.{⊤, nat_le, nat_lt, ◌==◌, if◌then◌else◌, codes, option_map, bytes_eq, IfOk}
 use Rattle.std.specs.Option.{option_and_then}
 use Rattle.std.specs.List.{list_all, find}
 use Rattle.std.proofs.lemmas.Bool.{and_parts, and_from, eqb-true}
@@ -34,7 +34,8 @@ use Rattle.source_words.specs.Words.{is_keyword, words}
 use Rattle.source_words.specs.GuidWord.{guid_of, guid_spelled, unbraced}
 use Rattle.script_words.specs.declared.fault.LineFault.{LineFault}
 use Rattle.script_words.specs.declared.fault.LineFault.TheVariants as fault
-use Rattle.script_words.specs.Reading.{◌>>=◌, only_if, there}
+use Rattle.script_words.specs.declared.fault.Stop.{Stop}
+use Rattle.script_words.specs.Reading.{◌>>=◌, only_if, there, Gives}
 use Rattle.script_words.specs.Word.{word_at, register_of, register_below, choice_of, kind_of, status_of, bytes_at}
 use Rattle.script_words.specs.Operands.{read, register_at, within_at, choice_at, little_at, guid_at, status_at, counted_at, registers_within, registers_at, block_at, guid_arg_at, last_at, descriptor_at, hob_at, small_at, operands_at}
 use Rattle.script_words.specs.Action.{action_of, code_of_name, code_or_fault, other_phase, log_of, logged, is_logged}
@@ -407,3 +408,7 @@ line_by phase line (w ∷ ws) action e = name_by phase (bytes_eq w (codes "log")
 pub action_said : (phase : Phase) (line : List ℕ) (action : Action) → action_of phase line ≡ Ok action → IsSaid phase action
 unfolding action_of
 action_said phase line action e = line_by phase line (words line) action e
+
+pub said_result : (phase : Phase) (line : List ℕ) (r : Result Action Stop) → Gives (λ x. x) r (action_of phase line) → IfOk r (IsSaid phase)
+said_result phase line (Ok action) gives = action_said phase line action gives
+said_result phase line (Err e) gives = tt

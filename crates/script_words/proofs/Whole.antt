@@ -20,7 +20,7 @@ use Rattle.act_code.specs.ScriptReading.{ends_in_ret}
 use Rattle.script_words.specs.declared.script.ScriptCause.{ScriptCause}
 use Rattle.script_words.specs.declared.script.ScriptCause.TheVariants.{NoBlock, NoRet, Jump, NoSuchBlock, Full}
 use Rattle.script_words.specs.Script.{IsSaid, AreSaid, names_below, action_cause, action_causes, may_end, block_cause, end_cause, causes_behind, line_causes, first_fault}
-use Rattle.script_words.proofs.Faults.{behind_sound, few_actions, as_many}
+use Rattle.script_words.proofs.Faults.{within_is, few_actions}
 
 -- what the tests of an action say together
 tests_by : (full room named : Bool) → (if full then Some Full else if not room then Some Jump else if not named then Some NoSuchBlock else None) ≡ None → (room ≡ true) × (named ≡ true)
@@ -46,16 +46,19 @@ sound_actions phase place count before [] said none = tt
 sound_actions phase place count before (action ∷ actions) said none =
     let parts = none_by (action_cause count before (length actions + 1) action) place (action_causes count (before + 1) actions) none in
     let here : IsSound phase count (length actions + 1) action = sound_action phase count before (length actions + 1) action said.0 parts.0 in
-    (subst (λ n. IsSound phase count n action) (omega arith) here, sound_actions phase (place + 1) count (before + 1) actions said.1 parts.1)
+    let long : length actions + 1 ≡ suc (length actions) = omega arith in
+    let left : length actions ≡ suc (length actions) - 1 = omega arith in
+    let behind : Each (IsSound phase count) (length actions) actions = sound_actions phase (place + 1) count (before + 1) actions said.1 parts.1 in
+    (subst (λ n. IsSound phase count n action) long here, subst (λ n. Each (IsSound phase count) n actions) left behind)
 
 -- the last block of some
 last_of : (before : List (List Action)) (actions : List Action) → slice_get (before ++ actions ∷ []) (length (before ++ actions ∷ []) - 1) ≡ Some actions
 last_of before actions =
     let place : length (before ++ actions ∷ []) - 1 ≡ length before = omega (arith, length-append before (actions ∷ [])) in
-    rw place (slice_get-get_or (before ++ actions ∷ []) (length before) actions (omega (arith, length-append before (actions ∷ []))) ∙ ap Some (get_or-append_seam before actions [] actions))
+    ap (slice_get (before ++ actions ∷ [])) place ∙ (slice_get-get_or (before ++ actions ∷ []) (length before) actions (omega (arith, length-append before (actions ∷ []))) ∙ ap Some (get_or-append_seam before actions [] actions))
 
 last_ends : (before : List (List Action)) (actions : List Action) → may_end (before ++ actions ∷ []) ≡ ends_in_ret actions
-last_ends before actions = rw (last_of before actions) refl
+last_ends before actions = ap (λ o. option_map_or ends_in_ret o true) (last_of before actions)
 
 block_by : (ended full : Bool) (n : ℕ) → nat_le 64 n ≡ full → (if not ended then Some NoRet else if full then Some Full else None) ≡ None → (ended ≡ true) × (n < 64)
 block_by true true n is none = absurd cc
@@ -90,20 +93,22 @@ sound_block : (phase : Phase) (place count : ℕ) (actions : List Action) → Al
 sound_block phase place count actions said none ret =
     let few = few_actions place count 0 actions none (omega arith) in
     let some : 1 ≤ length actions = not_empty actions ret in
-    record { number = grind (arith, nat_tests); sound = sound_actions phase place count 0 actions said none; ret = ret }
+    record { number = within_is 1 1024 (length actions) some (omega arith); sound = sound_actions phase place count 0 actions said none; ret = ret }
 
 -- the lines of a block and those behind it
 split_none : (place : ℕ) (xs ys : List (Option ScriptCause)) → first_fault place (xs ++ ys) ≡ None → (first_fault place xs ≡ None) × (first_fault (place + length xs) ys ≡ None)
-split_none place [] ys none = (refl, ap (λ n. first_fault n ys) (omega arith) ∙ none)
+split_none place [] ys none = let e : place + 0 ≡ place = omega arith in (refl, ap (λ n. first_fault n ys) e ∙ none)
 split_none place (None ∷ xs) ys none =
     let parts = split_none (place + 1) xs ys none in
-    (parts.0, ap (λ n. first_fault n ys) (omega arith) ∙ parts.1)
+    let e : place + suc (length xs) ≡ place + 1 + length xs = omega arith in
+    (parts.0, ap (λ n. first_fault n ys) e ∙ parts.1)
 split_none place (Some cause ∷ xs) ys none = absurd cc
 
 stand : (phase : Phase) (place count : ℕ) (before blocks : List (List Action)) → AllByRecursion (All (IsSaid phase)) blocks → first_fault place (causes_behind count before blocks) ≡ None → MayStand phase count before blocks
 stand phase place count before [] said none =
     let parts = none_by (end_cause before) place [] none in
     let tests = end_by (length before == 0) (may_end before) parts.0 in
+    let e = tests.0 in
     record { ended = tests.1; some = grind (arith, nat_tests); few = λ never. absurd (never refl); are = λ n. tt }
 stand phase place count before (actions ∷ blocks) said none =
     let parts = none_by (block_cause before) place (action_causes count 0 actions ++ causes_behind count (before ++ actions ∷ []) blocks) none in
@@ -124,5 +129,5 @@ pub in_grammar : (draft : Script) → AreSaid draft → first_fault 0 (line_caus
 in_grammar draft said none =
     let all = stand draft.phase 0 (length draft.blocks) [] draft.blocks (recursion_from_All (All (IsSaid draft.phase)) draft.blocks said) none in
     let some = all.some in
-    let few : length draft.blocks ≤ 64 = all.few (λ e. omega (arith, some, e)) in
-    record { number = grind (arith, nat_tests); blocks = all.are (length draft.blocks) }
+    let few = all.few (λ e. omega (arith, some, e)) in
+    record { number = within_is 1 64 (length draft.blocks) (omega arith) (omega arith); blocks = all.are (length draft.blocks) }

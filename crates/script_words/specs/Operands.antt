@@ -32,9 +32,9 @@ within_at low high words = do
 
 -- one of two words
 unfoldable pub choice_at : List ℕ → List ℕ → List (List ℕ) → Result (ℕ × List (List ℕ)) LineFault
-choice_at zero one words = do
+choice_at first second words = do
   w ← word_at words
-  n ← there fault.Word (choice_of zero one w.0)
+  n ← there fault.Word (choice_of first second w.0)
   Ok (n, w.1)
 
 -- a number of so many bytes

@@ -50,10 +50,14 @@ block_cause before = if not (may_end before) then Some NoRet else if nat_le 64 (
 abbrev pub end_cause : List (List Action) → Option ScriptCause
 end_cause blocks = if length blocks == 0 then Some NoBlock else if not (may_end blocks) then Some NoRet else None
 
--- what is wrong at each line of blocks that stand behind others, in a script of so many: at each block's own line and at those of its actions, and last at the script's end
+-- what is wrong at each line of a block behind these, in a script of so many blocks: at its own line and at those of its actions
+abbrev pub block_causes : ℕ → List (List Action) → List Action → List (Option ScriptCause)
+block_causes count before actions = block_cause before ∷ action_causes count 0 actions
+
+-- what is wrong at each line of blocks behind others, and last at the script's end
 abbrev pub causes_behind : ℕ → List (List Action) → List (List Action) → List (Option ScriptCause)
 causes_behind count before [] = end_cause before ∷ []
-causes_behind count before (actions ∷ blocks) = block_cause before ∷ (action_causes count 0 actions ++ causes_behind count (before ++ actions ∷ []) blocks)
+causes_behind count before (actions ∷ blocks) = block_causes count before actions ++ causes_behind count (before ++ actions ∷ []) blocks
 
 -- what is wrong at each line of a draft, and at its end
 abbrev pub line_causes : Script → List (Option ScriptCause)

@@ -127,16 +127,10 @@ fn operands(alloc: Global, code: Code, text: &[u8]) -> Result<Action, Stop>
     }
 }
 
-/// The action of a phase that a line says: its name and its operands, or `log` and a text of 1 to 64 printable characters to the end of the line.
-///
-/// Blanks may stand in front; behind `log` stands one, and all else is its text. Numbers are decimal or have `0x` in front, GUIDs are those of `source_words::guid_of`, and bytes are
-/// hexadecimal digits to the end of the line.
+// The action of a phase that a line says.
 #[tactic(auto, unfolding(crate::specs::Action::action_of))]
-pub fn read_action(alloc: Global, phase: Phase, line: &[u8]) -> Result<Action, Stop>
-    // The answer is the action that the line says, or what is wrong with the first of its words with which none goes on, unless memory ran out.
-    ensures read { Gives (λ x. x) result (action_of phase line.now) }
-    // What is read is an action of the phase, with its operands in their ranges, registers below 16 and blocks below 64.
-    ensures said { IfOk result (IsSaid phase) }
+fn action_of(alloc: Global, phase: Phase, line: &[u8]) -> Result<Action, Stop>
+    ensures { Gives (λ x. x) result (action_of phase line.now) }
 {
     let (name, rest) = word(line)?;
     if name == b"log".as_slice() {
@@ -145,4 +139,17 @@ pub fn read_action(alloc: Global, phase: Phase, line: &[u8]) -> Result<Action, S
         let code = code_of_name(phase, name)?;
         operands(alloc, code, rest)
     }
+}
+
+/// The action of a phase that a line says: its name and its operands, or `log` and a text of 1 to 64 printable characters to the end of the line.
+///
+/// Blanks may stand in front; behind `log` stands one, and all else is its text. Numbers are decimal or have `0x` in front, GUIDs are those of `source_words::guid_of`, and bytes are
+/// hexadecimal digits to the end of the line.
+pub fn read_action(alloc: Global, phase: Phase, line: &[u8]) -> Result<Action, Stop>
+    // The answer is the action that the line says, or what is wrong with the first of its words with which none goes on, unless memory ran out.
+    ensures read { Gives (λ x. x) result (action_of phase line.now) }
+    // What is read is an action of the phase, with its operands in their ranges, registers below 16 and blocks below 64.
+    ensures said { IfOk result (IsSaid phase) }
+{
+    action_of(alloc, phase, line)
 }

@@ -8,9 +8,7 @@ ghost use Rattle.act_code.specs.declared.code.Code.TheVariants as Code;
 
 use crate::fault::Stop;
 use crate::list::{counted, hob, registers};
-use crate::operand::{
-    choice, descriptor, ended, guid, number_2, number_4, register, small,
-};
+use crate::operand::{choice, descriptor, ended, guid, number_2, number_4, register, small};
 use act_code::Action;
 use std::alloc::Global;
 

@@ -4,7 +4,7 @@ ghost use Rattle.std.specs.List.{list_all};
 ghost use Rattle.act_code.specs.ScriptReading.{ends_in_ret};
 ghost use Rattle.act_code.specs.Index.{has_room};
 ghost use Rattle.act_code.specs.Script.{IsScript};
-ghost use Rattle.script_words.specs.Script.{AreSaid, IsUnfit, names_below, action_cause, action_causes, may_end, block_cause, end_cause, causes_behind, first_fault};
+ghost use Rattle.script_words.specs.Script.{AreSaid, IsUnfit, names_below, action_cause, action_causes, may_end, block_cause, block_causes, end_cause, causes_behind, first_fault};
 
 use act_code::descriptor_kind::PPI;
 use act_code::{Action, Script, WriteFault, is_ret, write_script};
@@ -157,20 +157,35 @@ fn end_cause(blocks: &[Seq<Action>]) -> Option<ScriptCause>
     }
 }
 
+// The first line of a block behind these at which something is wrong, its own line the first.
+fn block_fault(
+    count: usize,
+    before: &[Seq<Action>],
+    actions: &[Action],
+) -> Option<(usize, ScriptCause)>
+    ensures first { result ≡ first_fault 0 (block_causes count before.now actions.now) }
+    ensures near { IfSome result (λ fault. fault.0 ≤ 1025) }
+{
+    if let Some(cause) = block_cause(before) {
+        return Some((0, cause));
+    }
+    match action_fault(count, actions) {
+        Some((within, cause)) => Some((1 + within, cause)),
+        None => None,
+    }
+}
+
 // The first line of a draft at which something is wrong.
 fn line_fault(blocks: &[Seq<Action>]) -> Option<(usize, ScriptCause)>
     ensures { result ≡ first_fault 0 (causes_behind (length blocks.now) [] blocks.now) }
 {
     let mut place = 0usize;
-    'blocks: for (index, actions) in blocks.iter().enumerate() {
+    'search: for (index, actions) in blocks.iter().enumerate() {
         let (before, _) = blocks.split_at(index);
-        if let Some(cause) = block_cause(before) {
-            return Some((place, cause));
+        match block_fault(blocks.len(), before, actions.as_slice()) {
+            Some((within, cause)) => return Some((place + within, cause)),
+            None => place += 1 + actions.len(),
         }
-        if let Some((within, cause)) = action_fault(blocks.len(), actions.as_slice()) {
-            return Some((place + 1 + within, cause));
-        }
-        place += 1 + actions.len();
     }
     match end_cause(blocks) {
         Some(cause) => Some((place, cause)),
@@ -188,12 +203,12 @@ pub fn whole_script(alloc: Global, draft: &Script) -> Result<Seq<u8>, ScriptFaul
     // Where nothing is, this is the first line at which something is wrong, or the script is too long, or memory ran out.
     ensures refused { IfErr result (IsUnfit draft.now) }
 {
-    if let Some((place, cause)) = line_fault(draft.blocks.as_slice()) {
-        return Err(ScriptFault::Bad { place, cause });
-    }
-    match write_script(alloc, draft) {
-        Ok(bytes) => Ok(bytes),
-        Err(WriteFault::TooLong) => Err(ScriptFault::TooLong),
-        Err(WriteFault::Memory) => Err(ScriptFault::Memory),
+    match line_fault(draft.blocks.as_slice()) {
+        Some((place, cause)) => Err(ScriptFault::Bad { place, cause }),
+        None => match write_script(alloc, draft) {
+            Ok(bytes) => Ok(bytes),
+            Err(WriteFault::TooLong) => Err(ScriptFault::TooLong),
+            Err(WriteFault::Memory) => Err(ScriptFault::Memory),
+        },
     }
 }

@@ -52,18 +52,34 @@ spelled word guid is text =
 pub named : (word : List ℕ) (guid : Guid) → IsGuid guid → word ≡ guid_text guid → length word ≡ 36 → guid_of word ≡ Some guid
 unfolding guid_of
 named word guid is text long =
-    rw (other_text word (codes "pei-apriori") (λ e. omega (arith, long, e)), other_text word (codes "dxe-apriori") (λ e. omega (arith, long, e)),
-    other_text word (codes "volume-info-ppi") (λ e. omega (arith, long, e)), other_text word (codes "memory-ppi") (λ e. omega (arith, long, e)),
-    other_text word (codes "dxe-ipl-ppi") (λ e. omega (arith, long, e)), other_text word (codes "ffs2") (λ e. omega (arith, long, e)), other_text word (codes "ffs3") (λ e. omega (arith, long, e)))
+    rw (
+      other_text word (codes "pei-apriori") (λ e. omega (arith, long, e)),
+      other_text word (codes "dxe-apriori") (λ e. omega (arith, long, e)),
+      other_text word (codes "volume-info-ppi") (λ e. omega (arith, long, e)),
+      other_text word (codes "memory-ppi") (λ e. omega (arith, long, e)),
+      other_text word (codes "dxe-ipl-ppi") (λ e. omega (arith, long, e)),
+      other_text word (codes "ffs2") (λ e. omega (arith, long, e)),
+      other_text word (codes "ffs3") (λ e. omega (arith, long, e)),
+    )
     (spelled word guid is text)
 
 token_by : (word : List ℕ) (guid : Guid) → length word ≡ 36 → guid_of word ≡ Some guid → token_of word ≡ token.Leaf (leaf.Push guid)
 unfolding token_of
 token_by word guid long read =
-    rw (other_keyword word (codes "(") (λ e. omega (arith, long, e)), other_keyword word (codes ")") (λ e. omega (arith, long, e)), other_keyword word (codes "not") (λ e. omega (arith, long, e)),
-    other_keyword word (codes "and") (λ e. omega (arith, long, e)), other_keyword word (codes "or") (λ e. omega (arith, long, e)), other_keyword word (codes "true") (λ e. omega (arith, long, e)),
-    other_keyword word (codes "false") (λ e. omega (arith, long, e)), other_keyword word (codes "end") (λ e. omega (arith, long, e)), other_keyword word (codes "sor") (λ e. omega (arith, long, e)),
-    other_keyword word (codes "before") (λ e. omega (arith, long, e)), other_keyword word (codes "after") (λ e. omega (arith, long, e)), read) refl
+    rw (
+      other_keyword word (codes "(") (λ e. omega (arith, long, e)),
+      other_keyword word (codes ")") (λ e. omega (arith, long, e)),
+      other_keyword word (codes "not") (λ e. omega (arith, long, e)),
+      other_keyword word (codes "and") (λ e. omega (arith, long, e)),
+      other_keyword word (codes "or") (λ e. omega (arith, long, e)),
+      other_keyword word (codes "true") (λ e. omega (arith, long, e)),
+      other_keyword word (codes "false") (λ e. omega (arith, long, e)),
+      other_keyword word (codes "end") (λ e. omega (arith, long, e)),
+      other_keyword word (codes "sor") (λ e. omega (arith, long, e)),
+      other_keyword word (codes "before") (λ e. omega (arith, long, e)),
+      other_keyword word (codes "after") (λ e. omega (arith, long, e)),
+      read,
+    ) refl
 
 pub guid_token_of : (guid : Guid) → IsGuid guid → token_of (guid_text guid) ≡ token.Leaf (leaf.Push guid)
 guid_token_of guid is = token_by (guid_text guid) guid (guid_long guid) (named (guid_text guid) guid is refl (guid_long guid))

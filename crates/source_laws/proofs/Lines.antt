@@ -231,21 +231,27 @@ operands_there a worded is =
     let here : read c (format_of c) (operand_words a) ≡ Ok (operands a, []) = ap (read c (format_of c)) (sym (append-nil (operand_words a))) ∙ there in
     rw here (ap Ok (made_operands a))
 
+worded_by : (phase : Phase) (line name : List ℕ) (ws : List (List ℕ)) (c : Code) (a : Action) → words line ≡ name ∷ ws → bytes_eq name (codes "log") ≡ false → code_of_name phase name ≡ Ok c
+    → operands_at c ws ≡ Ok a → action_of phase line ≡ Ok a
+unfolding action_of
+worded_by phase line name ws c a split other named there = rw (split, other, named) there
+
 worded_line : (phase : Phase) (a : Action) → is_worded (code_of_action a) ≡ true → is_code_of phase (code_of_action a) ≡ true → IsReadable (format_of (code_of_action a)) (operands a)
     → action_of phase (action_text a) ≡ Ok a
-unfolding action_of
 worded_line phase a worded of_phase is =
     let c = code_of_action a in
     let split = line_words (name_of c) (operand_words a) (name_word c) (words_are c (format_of c) (operands a) (known_format c worded) is) in
-    rw (split, not_log c worded, name_there phase c of_phase) (operands_there a worded is)
+    worded_by phase (action_text a) (name_of c) (operand_words a) c a split (not_log c worded) (name_there phase c of_phase) (operands_there a worded is)
+
+log_by : (phase : Phase) (line text : List ℕ) (ws : List (List ℕ)) → words line ≡ codes "log" ∷ ws → logged line ≡ text → is_logged text ≡ true → action_of phase line ≡ Ok (Log text)
+unfolding action_of
+log_by phase line text ws split behind test = rw (split, behind, test) refl
 
 log_line : (phase : Phase) (text : List ℕ) → is_logged text ≡ true → action_of phase (action_text (Log text)) ≡ Ok (Log text)
-unfolding action_of name_of
+unfolding name_of
 log_line phase text test =
-    let behind : flat_map spaced (text ∷ []) ≡ 32 ∷ text = append-nil (32 ∷ text) in
-    let line : codes "log" ++ flat_map spaced (text ∷ []) ≡ codes "log" ++ (32 ∷ text) = ap (λ t. codes "log" ++ t) behind in
-    let split : words (codes "log" ++ (32 ∷ text)) ≡ codes "log" ∷ words (32 ∷ text) = first_word (codes "log") (32 ∷ text) (record { inner = refl; some = omega arith }) refl in
-    rw (line, split, test) refl
+    let split : words (codes "log" ++ (32 ∷ (text ++ []))) ≡ codes "log" ∷ words (32 ∷ (text ++ [])) = first_word (codes "log") (32 ∷ (text ++ [])) (record { inner = refl; some = omega arith }) refl in
+    log_by phase (action_text (Log text)) text (words (32 ∷ (text ++ []))) split (append-nil text) test
 
 -- the operands of an action that a line says can be read back
 good : (phase : Phase) (a : Action) → IsSaid phase a → IsBytes (operand_bytes a) → IsReadable (format_of (code_of_action a)) (operands a)

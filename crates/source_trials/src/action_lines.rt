@@ -9,7 +9,10 @@ use std::test::*;
 /// Lines of PEI, and each one's text in `asm`.
 static PEI_LINES: [(&str, &str); 24] = [
     ("set r0 7", "set r0 0x7"),
-    ("\tadd\tr15  0xFFffffffffffffff ", "add r15 0xffffffffffffffff"),
+    (
+        "\tadd\tr15  0xFFffffffffffffff ",
+        "add r15 0xffffffffffffffff",
+    ),
     ("pool r1 4294967295", "pool r1 0xffffffff"),
     ("store r2 0 AA bb0c", "store r2 0x0 aabb0c"),
     ("addr r3 r4 16", "addr r3 r4 0x10"),
@@ -22,8 +25,14 @@ static PEI_LINES: [(&str, &str); 24] = [
         "desc r1 Callback memory-ppi block 63",
         "desc r1 callback f894643d-c449-42d1-8ea8-85bdd8c65bde block 63",
     ),
-    ("desc r1 dispatch at r2 Block 0x1", "desc r1 dispatch at r2 block 1"),
-    ("install r1 r2 r3 r4 r5 r6 r7 r8", "install r1 r2 r3 r4 r5 r6 r7 r8"),
+    (
+        "desc r1 dispatch at r2 Block 0x1",
+        "desc r1 dispatch at r2 block 1",
+    ),
+    (
+        "install r1 r2 r3 r4 r5 r6 r7 r8",
+        "install r1 r2 r3 r4 r5 r6 r7 r8",
+    ),
     ("reinstall r1 r2", "reinstall r1 r2"),
     ("notify r9", "notify r9"),
     (

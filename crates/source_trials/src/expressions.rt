@@ -23,7 +23,11 @@ fn spelled_out(alloc: Global, words: &[u8]) -> Result<Seq<u8>, OutOfMemory> {
 
 // The digit that stands for a GUID.
 fn digit(guid: &Guid) -> u8 {
-    if guid.0[0] < 10 { b'0' + guid.0[0] } else { b'?' }
+    if guid.0[0] < 10 {
+        b'0' + guid.0[0]
+    } else {
+        b'?'
+    }
 }
 
 // The sign of an opcode.
@@ -156,7 +160,9 @@ fn fault_behind(alloc: Global, words: &[u8], count: usize, end: &[u8]) -> Option
 #[test]
 fn depth_costs_no_stack_and_length_has_a_limit(rt: HostRuntime) {
     assert!(rt; fault_behind(rt.alloc(), b"(", 100_000, b"TRUE") == Some(ExpressionFault::Bracket));
-    assert!(rt; fault_behind(rt.alloc(), b"not ", 100_000, b"TRUE") == Some(ExpressionFault::TooLong));
+    assert!(rt;
+        fault_behind(rt.alloc(), b"not ", 100_000, b"TRUE") == Some(ExpressionFault::TooLong)
+    );
     assert!(rt; fault_behind(rt.alloc(), b"NOT ", 1022, b"TRUE").is_none());
     assert!(rt; fault_behind(rt.alloc(), b"NOT ", 1023, b"TRUE") == Some(ExpressionFault::TooLong));
 }

@@ -44,7 +44,13 @@ fn blocks_of(alloc: Global, blocks: &[&[&str]], times: usize) -> Option<Seq<Seq<
 // What is wrong with the script of these blocks, so many times. None where nothing is, or memory ran out.
 fn fault_of(alloc: Global, blocks: &[&[&str]], times: usize) -> Option<(usize, ScriptCause)> {
     let blocks = blocks_of(alloc, blocks, times)?;
-    match whole_script(alloc, &Script { phase: Phase::Pei, blocks }) {
+    match whole_script(
+        alloc,
+        &Script {
+            phase: Phase::Pei,
+            blocks,
+        },
+    ) {
         Err(ScriptFault::Bad { place, cause }) => Some((place, cause)),
         _ => None,
     }
@@ -59,10 +65,21 @@ static FAULTY: [(&[&[&str]], usize, ScriptCause); 11] = [
     (&[&["shadow"], &["ret Success"]], 2, ScriptCause::NoRet),
     (&[&["ret Success"], &[]], 3, ScriptCause::NoRet),
     (&[&["skip_if 0 1", "ret Success"]], 1, ScriptCause::Jump),
-    (&[&["shadow", "skip_if 1 2", "shadow", "ret Success"]], 2, ScriptCause::Jump),
-    (&[&["desc r1 callback memory-ppi block 1", "ret Success"]], 1, ScriptCause::NoSuchBlock),
     (
-        &[&["ret Success"], &["desc r1 dispatch at r2 block 2", "shadow"]],
+        &[&["shadow", "skip_if 1 2", "shadow", "ret Success"]],
+        2,
+        ScriptCause::Jump,
+    ),
+    (
+        &[&["desc r1 callback memory-ppi block 1", "ret Success"]],
+        1,
+        ScriptCause::NoSuchBlock,
+    ),
+    (
+        &[
+            &["ret Success"],
+            &["desc r1 dispatch at r2 block 2", "shadow"],
+        ],
         3,
         ScriptCause::NoSuchBlock,
     ),
@@ -91,13 +108,26 @@ fn ended(alloc: Global, lines: &[&str], times: usize) -> Option<ScriptFault> {
     }
     let mut blocks = Seq::new(alloc);
     blocks.push(actions).ok()?;
-    whole_script(alloc, &Script { phase: Phase::Pei, blocks }).err()
+    whole_script(
+        alloc,
+        &Script {
+            phase: Phase::Pei,
+            blocks,
+        },
+    )
+    .err()
 }
 
 #[test]
 fn a_block_has_1024_actions_at_most(rt: HostRuntime) {
     assert!(rt; ended(rt.alloc(), &["shadow"], 1023).is_none());
-    assert!(rt; ended(rt.alloc(), &["shadow"], 1024) == Some(ScriptFault::Bad { place: 1025, cause: ScriptCause::Full }));
+    assert!(rt;
+        ended(rt.alloc(), &["shadow"], 1024)
+            == Some(ScriptFault::Bad {
+                place: 1025,
+                cause: ScriptCause::Full
+            })
+    );
 }
 
 /// A line of 66 bytes.
@@ -112,13 +142,24 @@ fn a_script_has_65536_bytes_at_most(rt: HostRuntime) {
 // The bytes of a script of these blocks.
 fn bytes_of(alloc: Global, blocks: &[&[&str]]) -> Option<Seq<u8>> {
     let blocks = blocks_of(alloc, blocks, 1)?;
-    whole_script(alloc, &Script { phase: Phase::Pei, blocks }).ok()
+    whole_script(
+        alloc,
+        &Script {
+            phase: Phase::Pei,
+            blocks,
+        },
+    )
+    .ok()
 }
 
 #[test]
 fn a_whole_script_has_the_bytes_of_its_actions(rt: HostRuntime) {
-    let wanted = b"PIAS\x01\x01\x02\0\x04\0\x01\x02\x07\0\0\0\0\0\0\0\x12\0\x01\x14\x13\0\x01\0\x13\x06";
-    let lines: &[&[&str]] = &[&["set r2 7", "skip_if 0 1", "shadow", "ret Success"], &["ret AccessDenied"]];
+    let wanted =
+        b"PIAS\x01\x01\x02\0\x04\0\x01\x02\x07\0\0\0\0\0\0\0\x12\0\x01\x14\x13\0\x01\0\x13\x06";
+    let lines: &[&[&str]] = &[
+        &["set r2 7", "skip_if 0 1", "shadow", "ret Success"],
+        &["ret AccessDenied"],
+    ];
     match bytes_of(rt.alloc(), lines) {
         Some(bytes) => assert!(rt; bytes.as_slice() == wanted.as_slice()),
         None => assert!(rt; false),
