@@ -2,7 +2,7 @@
 use Rattle.std.proofs.Common.{◌≡◌, ℕ, suc, zero, ◌+◌, ◌-◌, ◌*◌, ◌<◌, ◌≤◌, Bool, true, false, cond, not, List, [], ◌∷◌, ◌++◌, length, take, drop, length-drop, get_or, Option, Some, None, refl, sym, ap, subst, ◌∙◌, arith, append_assoc}
 use Rattle.std.specs.Prelude.{nat_le, nat_lt, if◌then◌else◌}
 use Rattle.std.proofs.lemmas.Bool.Decides.{nat_tests}
-use Rattle.std.proofs.lemmas.List.{take_more, drop_more, drop_all, take_all}
+use Rattle.std.proofs.lemmas.List.{append-nil, take_more, drop_more, drop_all, take_all}
 use Rattle.act_code.specs.declared.action.Action.{Action}
 use Rattle.act_code.specs.Format.{is_within}
 use Rattle.act_code.specs.Index.{has_room}
@@ -118,3 +118,16 @@ few_lines count before actions none =
     let test : nat_le 64 (length before) ≡ false = not_full_block (may_end before) (nat_le 64 (length before)) parts.0 in
     let few = few_actions 1 count 0 actions parts.1 (omega arith) in
     (grind (arith, nat_tests), omega arith)
+
+-- behind a block's own line, at which nothing is wrong
+pub block_found : (count within : ℕ) (cause : ScriptCause) (before : List (List Action)) (actions : List Action) → block_cause before ≡ None → Some (within, cause) ≡ first_fault 0 (action_causes count 0 actions)
+    → Some (1 + within, cause) ≡ first_fault 0 (block_causes count before actions)
+block_found count within cause before actions none here =
+    let xs = action_causes count 0 actions in
+    sym (ap (λ o. first_fault 0 (o ∷ xs)) none ∙ ap (first_fault 1) (sym (append-nil xs)) ∙ among 1 0 within cause xs [] (sym here))
+
+pub block_sound : (count : ℕ) (before : List (List Action)) (actions : List Action) → block_cause before ≡ None → None ≡ first_fault 0 (action_causes count 0 actions)
+    → None ≡ first_fault 0 (block_causes count before actions)
+block_sound count before actions none sound =
+    let xs = action_causes count 0 actions in
+    sym (ap (λ o. first_fault 0 (o ∷ xs)) none ∙ ap (first_fault 1) (sym (append-nil xs)) ∙ behind_sound 1 0 xs [] (sym sound))

@@ -12,9 +12,6 @@ use Rattle.uuid.specs.Text.{parsed_hyphenated}
 use Rattle.pi_base.specs.GuidText.{swap_fields}
 use Rattle.pi_base.specs.declared.phase.Phase.{Phase}
 use Rattle.pi_base.specs.declared.phase.Phase.TheVariants.{Pei, Dxe}
-use Rattle.pi_base.specs.declared.known_guid.TheConstants.{VOLUME_INFO_PPI, MEMORY_PPI, DXE_IPL_PPI}
-use Rattle.fv_volume.specs.declared.volume_header.TheConstants.{FFS2, FFS3}
-use Rattle.source_words.specs.declared.guid.TheConstants.{PEI_APRIORI, DXE_APRIORI}
 use Rattle.asm_text.specs.declared.action_name.TheConstants.{CODES}
 use Rattle.asm_text.specs.ActionText.{name_of}
 use Rattle.asm_text.specs.LineReading.{code_named}
@@ -153,22 +150,24 @@ spelled_by : (o : Option (List ℕ)) (g : Guid) → option_map of_bytes (option_
 spelled_by None g e = absurd cc
 spelled_by (Some bytes) g e = subst (λ (h : Guid). length h.0 ≡ 16) (same_Some (of_bytes (swap_fields bytes)) g e) refl
 
-named_by : (a b c d e f h : Bool) (o : Option (List ℕ)) (g : Guid)
-    → (if a then Some PEI_APRIORI else if b then Some DXE_APRIORI else if c then Some VOLUME_INFO_PPI else if d then Some MEMORY_PPI else if e then Some DXE_IPL_PPI else if f then Some (of_bytes FFS2) else if h then Some (of_bytes FFS3) else option_map of_bytes (option_map swap_fields o)) ≡ Some g → length g.0 ≡ 16
-named_by true b c d e f h o g is = subst (λ (x : Guid). length x.0 ≡ 16) (same_Some PEI_APRIORI g is) refl
-named_by false true c d e f h o g is = subst (λ (x : Guid). length x.0 ≡ 16) (same_Some DXE_APRIORI g is) refl
-named_by false false true d e f h o g is = subst (λ (x : Guid). length x.0 ≡ 16) (same_Some VOLUME_INFO_PPI g is) refl
-named_by false false false true e f h o g is = subst (λ (x : Guid). length x.0 ≡ 16) (same_Some MEMORY_PPI g is) refl
-named_by false false false false true f h o g is = subst (λ (x : Guid). length x.0 ≡ 16) (same_Some DXE_IPL_PPI g is) refl
-named_by false false false false false true h o g is = subst (λ (x : Guid). length x.0 ≡ 16) (same_Some (of_bytes FFS2) g is) refl
-named_by false false false false false false true o g is = subst (λ (x : Guid). length x.0 ≡ 16) (same_Some (of_bytes FFS3) g is) refl
-named_by false false false false false false false o g is = spelled_by o g is
+-- one of seven GUIDs, or the one that is spelled
+named_by : {p q r s t u v : Guid} (a b c d e f h : Bool) (o : Option (List ℕ)) (g : Guid)
+    → (if a then Some p else if b then Some q else if c then Some r else if d then Some s else if e then Some t else if f then Some u else if h then Some v else option_map of_bytes (option_map swap_fields o)) ≡ Some g
+    → length p.0 ≡ 16 → length q.0 ≡ 16 → length r.0 ≡ 16 → length s.0 ≡ 16 → length t.0 ≡ 16 → length u.0 ≡ 16 → length v.0 ≡ 16 → length g.0 ≡ 16
+named_by true b c d e f h o g is k1 k2 k3 k4 k5 k6 k7 = subst (λ (x : Guid). length x.0 ≡ 16) (same_Some _ g is) k1
+named_by false true c d e f h o g is k1 k2 k3 k4 k5 k6 k7 = subst (λ (x : Guid). length x.0 ≡ 16) (same_Some _ g is) k2
+named_by false false true d e f h o g is k1 k2 k3 k4 k5 k6 k7 = subst (λ (x : Guid). length x.0 ≡ 16) (same_Some _ g is) k3
+named_by false false false true e f h o g is k1 k2 k3 k4 k5 k6 k7 = subst (λ (x : Guid). length x.0 ≡ 16) (same_Some _ g is) k4
+named_by false false false false true f h o g is k1 k2 k3 k4 k5 k6 k7 = subst (λ (x : Guid). length x.0 ≡ 16) (same_Some _ g is) k5
+named_by false false false false false true h o g is k1 k2 k3 k4 k5 k6 k7 = subst (λ (x : Guid). length x.0 ≡ 16) (same_Some _ g is) k6
+named_by false false false false false false true o g is k1 k2 k3 k4 k5 k6 k7 = subst (λ (x : Guid). length x.0 ≡ 16) (same_Some _ g is) k7
+named_by false false false false false false false o g is k1 k2 k3 k4 k5 k6 k7 = spelled_by o g is
 
 guid_said : (word : List ℕ) (g : Guid) → guid_of word ≡ Some g → length g.0 ≡ 16
 unfolding guid_of
 guid_said word g is =
     named_by (bytes_eq word (codes "pei-apriori")) (bytes_eq word (codes "dxe-apriori")) (bytes_eq word (codes "volume-info-ppi")) (bytes_eq word (codes "memory-ppi")) (bytes_eq word (codes "dxe-ipl-ppi")) (bytes_eq word (codes "ffs2")) (bytes_eq word (codes "ffs3"))
-    (parsed_hyphenated (unbraced word)) g is
+    (parsed_hyphenated (unbraced word)) g is refl refl refl refl refl refl refl
 
 guid_at_by : (o : Option Guid) (ws : List (List ℕ)) (x : At Guid) → ((g : Guid) → o ≡ Some g → length g.0 ≡ 16)
     → (there fault.Guid o >>= λ g. let pair : At Guid = (g, ws) in Ok pair) ≡ Ok x → length x.0.0 ≡ 16
