@@ -1,13 +1,13 @@
 -- The first line at which something is wrong, looked for line by line.
-use Rattle.std.proofs.Common.{◌≡◌, ℕ, suc, zero, ◌+◌, ◌-◌, ◌*◌, ◌<◌, ◌≤◌, Bool, true, false, cond, not, List, [], ◌∷◌, ◌++◌, length, take, drop, length-drop, get_or, Option, Some, None, refl, sym, ap, subst, ◌∙◌, arith, append_assoc}
-use Rattle.std.specs.Prelude.{nat_le, nat_lt, if◌then◌else◌}
+use Rattle.std.proofs.Common.{◌≡◌, ℕ, suc, ◌+◌, ◌-◌, ◌<◌, ◌≤◌, Bool, true, false, not, List, [], ◌∷◌, ◌++◌, length, take, drop, length-drop, get_or, Option, Some, None, refl, sym, ap, ◌∙◌, arith}
+use Rattle.std.specs.Prelude.{nat_le, if◌then◌else◌}
 use Rattle.std.proofs.lemmas.Bool.Decides.{nat_tests}
 use Rattle.std.proofs.lemmas.List.{append-nil, take_more, drop_more, drop_all, take_all}
 use Rattle.act_code.specs.declared.action.Action.{Action}
 use Rattle.act_code.specs.Format.{is_within}
 use Rattle.act_code.specs.Index.{has_room}
 use Rattle.script_words.specs.declared.script.ScriptCause.{ScriptCause}
-use Rattle.script_words.specs.declared.script.ScriptCause.TheVariants.{NoBlock, NoRet, Jump, NoSuchBlock, Full}
+use Rattle.script_words.specs.declared.script.ScriptCause.TheVariants.{NoRet, Jump, NoSuchBlock, Full}
 use Rattle.script_words.specs.Script.{names_below, action_cause, action_causes, may_end, block_cause, block_causes, end_cause, causes_behind, first_fault}
 
 pub within_is : (low high n : ℕ) → low ≤ n → n ≤ high → is_within low high n ≡ true

@@ -1,6 +1,6 @@
 -- What a line says keeps its ranges.
-use Rattle.std.proofs.Common.{◌≡◌, ℕ, suc, zero, ◌+◌, ◌-◌, ◌<◌, ◌≤◌, ◌^◌, ◌&&◌, Bool, true, false, eqb, ltb, List, [], ◌∷◌, ◌++◌, length, Option, Some, None, Result, Ok, Err, refl, sym, ap, subst, ◌∙◌, arith}
-use Rattle.std.specs.Prelude.{⊤, nat_le, nat_lt, ◌==◌, if◌then◌else◌, codes, option_map, bytes_eq, IfOk}
+use Rattle.std.proofs.Common.{◌≡◌, ℕ, suc, zero, ◌<◌, ◌≤◌, ◌^◌, ◌&&◌, Bool, true, false, eqb, ltb, List, [], ◌∷◌, ◌++◌, length, Option, Some, None, Result, Ok, Err, refl, subst, ◌∙◌, arith}
+use Rattle.std.specs.Prelude.{nat_le, nat_lt, ◌==◌, if◌then◌else◌, codes, option_map, bytes_eq, IfOk}
 use Rattle.std.specs.Option.{option_and_then}
 use Rattle.std.specs.List.{list_all, find}
 use Rattle.std.proofs.lemmas.Bool.{and_parts, and_from, eqb-true}
@@ -12,29 +12,25 @@ use Rattle.uuid.specs.Text.{parsed_hyphenated}
 use Rattle.pi_base.specs.GuidText.{swap_fields}
 use Rattle.pi_base.specs.declared.phase.Phase.{Phase}
 use Rattle.pi_base.specs.declared.phase.Phase.TheVariants.{Pei, Dxe}
-use Rattle.asm_text.specs.declared.action_name.TheConstants.{CODES}
 use Rattle.asm_text.specs.ActionText.{name_of}
 use Rattle.asm_text.specs.LineReading.{code_named}
 use Rattle.pi_base.specs.declared.guid.Guid.{Guid}
-use Rattle.pi_base.specs.declared.word.Word.{Word}
 use Rattle.act_code.specs.declared.action.Action.{Action}
-use Rattle.act_code.specs.declared.action.Action.TheVariants.{Log, Set}
+use Rattle.act_code.specs.declared.action.Action.TheVariants.{Log}
 use Rattle.act_code.specs.declared.action.GuidArg.{GuidArg}
 use Rattle.act_code.specs.declared.action.GuidArg.TheVariants.{Inline, Register}
 use Rattle.act_code.specs.declared.code.Code.{Code}
 use Rattle.act_code.specs.declared.code.Code.TheVariants as code
 use Rattle.act_code.specs.Format.{Format, Value, is_within, is_hob, IsInRange, IsGuidArg, registers_in, blocks_in, guid_arg_registers, Nothing, Byte, Within, RegisterNumber, BlockNumber, Little, GuidBytes, WordNumber, Counted, Text, Registers, Descriptor, HobBody, Pair}
-use Rattle.act_code.specs.Index.{is_indexed}
-use Rattle.act_code.specs.Script.{IsAction}
-use Rattle.act_code.specs.Table.{is_code_of, format_of, made, code_of_action, operands}
+use Rattle.act_code.specs.Table.{is_code_of, format_of, made}
 use Rattle.source_words.specs.Words.{is_keyword, words}
-use Rattle.source_words.specs.GuidWord.{guid_of, guid_spelled, unbraced}
+use Rattle.source_words.specs.GuidWord.{guid_of, unbraced}
 use Rattle.script_words.specs.declared.fault.LineFault.{LineFault}
 use Rattle.script_words.specs.declared.fault.LineFault.TheVariants as fault
 use Rattle.script_words.specs.declared.fault.Stop.{Stop}
 use Rattle.script_words.specs.Reading.{◌>>=◌, only_if, there, Gives}
-use Rattle.script_words.specs.Word.{word_at, register_of, register_below, choice_of, kind_of, status_of, bytes_at}
-use Rattle.script_words.specs.Operands.{read, register_at, within_at, choice_at, little_at, guid_at, status_at, counted_at, registers_within, registers_at, block_at, guid_arg_at, last_at, descriptor_at, hob_at, small_at, operands_at}
+use Rattle.script_words.specs.Word.{word_at, register_of, register_below, choice_of, kind_of, bytes_at}
+use Rattle.script_words.specs.Operands.{read, register_at, within_at, choice_at, little_at, guid_at, counted_at, registers_within, registers_at, block_at, guid_arg_at, last_at, descriptor_at, hob_at, small_at, operands_at}
 use Rattle.script_words.specs.Action.{action_of, code_of_name, code_or_fault, other_phase, log_of, logged, is_logged}
 use Rattle.script_words.specs.Script.{IsSaid}
 
@@ -127,10 +123,10 @@ choice_by : (o : Option ℕ) (ws : List (List ℕ)) (x : At ℕ) → ((n : ℕ) 
 choice_by None ws x small e = absurd cc
 choice_by (Some n) ws x small e = subst (λ (y : At ℕ). y.0 < 2) (same_Ok (n, ws) x e) (small n refl)
 
-choice_said : (zero one : List ℕ) (ws : List (List ℕ)) (x : At ℕ) → choice_at zero one ws ≡ Ok x → x.0 < 2
+choice_said : (none one : List ℕ) (ws : List (List ℕ)) (x : At ℕ) → choice_at none one ws ≡ Ok x → x.0 < 2
 unfolding choice_at choice_of
-choice_said zero one [] x e = absurd cc
-choice_said zero one (w ∷ ws) x e = choice_by (choice_of zero one w) ws x (λ n is. choice_small (is_keyword w zero) (is_keyword w one) n is) e
+choice_said none one [] x e = absurd cc
+choice_said none one (w ∷ ws) x e = choice_by (choice_of none one w) ws x (λ n is. choice_small (is_keyword w none) (is_keyword w one) n is) e
 
 kind_small : (a b c : Bool) (n : ℕ) → (if a then Some 0 else if b then Some 1 else if c then Some 2 else None) ≡ Some n → n < 3
 kind_small true b c n e = subst (λ (m : ℕ). m < 3) (same_Some 0 n e) (omega arith)
@@ -151,22 +147,22 @@ spelled_by None g e = absurd cc
 spelled_by (Some bytes) g e = subst (λ (h : Guid). length h.0 ≡ 16) (same_Some (of_bytes (swap_fields bytes)) g e) refl
 
 -- one of seven GUIDs, or the one that is spelled
-named_by : {p q r s t u v : Guid} (a b c d e f h : Bool) (o : Option (List ℕ)) (g : Guid)
+named_by : (p q r s t u v : Guid) (a b c d e f h : Bool) (o : Option (List ℕ)) (g : Guid)
     → (if a then Some p else if b then Some q else if c then Some r else if d then Some s else if e then Some t else if f then Some u else if h then Some v else option_map of_bytes (option_map swap_fields o)) ≡ Some g
     → length p.0 ≡ 16 → length q.0 ≡ 16 → length r.0 ≡ 16 → length s.0 ≡ 16 → length t.0 ≡ 16 → length u.0 ≡ 16 → length v.0 ≡ 16 → length g.0 ≡ 16
-named_by true b c d e f h o g is k1 k2 k3 k4 k5 k6 k7 = subst (λ (x : Guid). length x.0 ≡ 16) (same_Some _ g is) k1
-named_by false true c d e f h o g is k1 k2 k3 k4 k5 k6 k7 = subst (λ (x : Guid). length x.0 ≡ 16) (same_Some _ g is) k2
-named_by false false true d e f h o g is k1 k2 k3 k4 k5 k6 k7 = subst (λ (x : Guid). length x.0 ≡ 16) (same_Some _ g is) k3
-named_by false false false true e f h o g is k1 k2 k3 k4 k5 k6 k7 = subst (λ (x : Guid). length x.0 ≡ 16) (same_Some _ g is) k4
-named_by false false false false true f h o g is k1 k2 k3 k4 k5 k6 k7 = subst (λ (x : Guid). length x.0 ≡ 16) (same_Some _ g is) k5
-named_by false false false false false true h o g is k1 k2 k3 k4 k5 k6 k7 = subst (λ (x : Guid). length x.0 ≡ 16) (same_Some _ g is) k6
-named_by false false false false false false true o g is k1 k2 k3 k4 k5 k6 k7 = subst (λ (x : Guid). length x.0 ≡ 16) (same_Some _ g is) k7
-named_by false false false false false false false o g is k1 k2 k3 k4 k5 k6 k7 = spelled_by o g is
+named_by p q r s t u v true b c d e f h o x is k1 k2 k3 k4 k5 k6 k7 = subst (λ (y : Guid). length y.0 ≡ 16) (same_Some _ x is) k1
+named_by p q r s t u v false true c d e f h o x is k1 k2 k3 k4 k5 k6 k7 = subst (λ (y : Guid). length y.0 ≡ 16) (same_Some _ x is) k2
+named_by p q r s t u v false false true d e f h o x is k1 k2 k3 k4 k5 k6 k7 = subst (λ (y : Guid). length y.0 ≡ 16) (same_Some _ x is) k3
+named_by p q r s t u v false false false true e f h o x is k1 k2 k3 k4 k5 k6 k7 = subst (λ (y : Guid). length y.0 ≡ 16) (same_Some _ x is) k4
+named_by p q r s t u v false false false false true f h o x is k1 k2 k3 k4 k5 k6 k7 = subst (λ (y : Guid). length y.0 ≡ 16) (same_Some _ x is) k5
+named_by p q r s t u v false false false false false true h o x is k1 k2 k3 k4 k5 k6 k7 = subst (λ (y : Guid). length y.0 ≡ 16) (same_Some _ x is) k6
+named_by p q r s t u v false false false false false false true o x is k1 k2 k3 k4 k5 k6 k7 = subst (λ (y : Guid). length y.0 ≡ 16) (same_Some _ x is) k7
+named_by p q r s t u v false false false false false false false o x is k1 k2 k3 k4 k5 k6 k7 = spelled_by o x is
 
 guid_said : (word : List ℕ) (g : Guid) → guid_of word ≡ Some g → length g.0 ≡ 16
 unfolding guid_of
 guid_said word g is =
-    named_by (bytes_eq word (codes "pei-apriori")) (bytes_eq word (codes "dxe-apriori")) (bytes_eq word (codes "volume-info-ppi")) (bytes_eq word (codes "memory-ppi")) (bytes_eq word (codes "dxe-ipl-ppi")) (bytes_eq word (codes "ffs2")) (bytes_eq word (codes "ffs3"))
+    named_by _ _ _ _ _ _ _ (bytes_eq word (codes "pei-apriori")) (bytes_eq word (codes "dxe-apriori")) (bytes_eq word (codes "volume-info-ppi")) (bytes_eq word (codes "memory-ppi")) (bytes_eq word (codes "dxe-ipl-ppi")) (bytes_eq word (codes "ffs2")) (bytes_eq word (codes "ffs3"))
     (parsed_hyphenated (unbraced word)) g is refl refl refl refl refl refl refl
 
 guid_at_by : (o : Option Guid) (ws : List (List ℕ)) (x : At Guid) → ((g : Guid) → o ≡ Some g → length g.0 ≡ 16)
@@ -370,9 +366,15 @@ find_passes : {X : Type 0} (p : X → Bool) (xs : List X) (y : X) → find p xs 
 find_passes p [] y e = absurd cc
 find_passes p (x ∷ xs) y e = find_by p xs x y (p x) refl (find_passes p xs) e
 
+-- the codes in the order of `asm_text`'s names
+abbrev all_codes : List Code
+all_codes =
+    code.Set ∷ code.Add ∷ code.Pool ∷ code.Store ∷ code.Addr ∷ code.Peek ∷ code.Desc ∷ code.Install ∷ code.Reinstall ∷ code.Notify ∷ code.Locate ∷ code.Hob ∷ code.Memory ∷ code.Pages
+    ∷ code.BootMode ∷ code.Log ∷ code.SkipIf ∷ code.Ret ∷ code.Shadow ∷ code.DxeInstall ∷ code.DxeReinstall ∷ code.DxeUninstall ∷ code.DxeLocate ∷ code.DxeNotify ∷ code.Schedule ∷ code.Process ∷ code.Dispatch ∷ []
+
 named_said : (phase : Phase) (name : List ℕ) (c : Code) → code_named phase name ≡ Some c → is_code_of phase c ≡ true
 unfolding code_named
-named_said phase name c e = (and_parts (is_code_of phase c) (bytes_eq (name_of c) name) (find_passes (λ code. is_code_of phase code && bytes_eq (name_of code) name) CODES c e)).0
+named_said phase name c e = (and_parts (is_code_of phase c) (bytes_eq (name_of c) name) (find_passes (λ code. is_code_of phase code && bytes_eq (name_of code) name) all_codes c e)).0
 
 code_by : (phase : Phase) (o others : Option Code) (c : Code) → ((c : Code) → o ≡ Some c → is_code_of phase c ≡ true) → code_or_fault o others ≡ Ok c → is_code_of phase c ≡ true
 code_by phase (Some found) others c is e = subst (λ (d : Code). is_code_of phase d ≡ true) (same_Ok found c e) (is found refl)

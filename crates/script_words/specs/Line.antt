@@ -1,5 +1,5 @@
 -- The text of a line behind the name of its action (own).
-use Rattle.std.specs.Prelude.{ℕ, if◌then◌else◌, List, [], ◌∷◌, drop}
+use Rattle.std.specs.Prelude.{ℕ, if◌then◌else◌, List, [], ◌∷◌}
 use Rattle.source_words.specs.Words.{is_blank}
 
 -- a line without the blanks at its front

@@ -1,5 +1,5 @@
 -- The words of a line, each as the value that it shows (own).
-use Rattle.std.specs.Prelude.{ℕ, ◌==◌, nat_lt, bytes_eq, if◌then◌else◌, codes, List, [], ◌∷◌, Option, Some, None, Result, Ok, Err}
+use Rattle.std.specs.Prelude.{ℕ, ◌==◌, nat_lt, if◌then◌else◌, codes, List, [], ◌∷◌, Option, Some, None, Result, Ok, Err}
 use Rattle.std.specs.Option.{option_and_then}
 use Rattle.std.specs.List.{find, flat_map}
 use Rattle.hex.specs.Hex.{decode_of}

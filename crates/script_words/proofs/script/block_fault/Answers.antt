@@ -1,4 +1,4 @@
-use Rattle.std.proofs.Common.{◌≡◌, ◌∙◌, sym}
+use Rattle.std.proofs.Common.{◌∙◌, sym}
 use Rattle.script_words.proofs.Faults.{block_found, block_sound}
 use Rattle.script_words.proofs.script.block_fault.Goals as goal
 

@@ -1,4 +1,4 @@
-use Rattle.std.proofs.Common.{◌≡◌, ◌∙◌, ◌∷◌, [], sym, ap, arith, length}
+use Rattle.std.proofs.Common.{◌∙◌, ◌∷◌, [], sym, ap, arith, length}
 use Rattle.script_words.specs.Script.{first_fault}
 use Rattle.script_words.proofs.Faults.{next_block, here_block, at_end, few_lines}
 use Rattle.script_words.proofs.script.line_fault.Goals as goal

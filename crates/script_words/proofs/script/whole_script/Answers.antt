@@ -1,4 +1,4 @@
-use Rattle.std.proofs.Common.{◌≡◌, refl, sym}
+use Rattle.std.proofs.Common.{refl, sym}
 use Rattle.script_words.proofs.Whole.{in_grammar}
 use Rattle.script_words.proofs.script.whole_script.Goals as goal
 
