@@ -3,5 +3,5 @@ mod Inner
 mod Guids
 mod Numbers
 mod Operands
-mod Lines
+mod ActionLines
 mod Texts

@@ -1,4 +1,4 @@
-use Rattle.source_laws.proofs.Lines.{line_says}
+use Rattle.source_laws.proofs.ActionLines.{line_says}
 use Rattle.source_laws.proofs.lines.lines_of_asm.Goals as goal
 
 pub returns : goal.returns
