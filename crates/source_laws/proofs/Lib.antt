@@ -1,7 +1,0 @@
-mod Words
-mod Inner
-mod Guids
-mod Numbers
-mod Operands
-mod ActionLines
-mod Texts
