@@ -68,9 +68,9 @@ pub(crate) fn action_name(code: Code) -> &'static [u8]
     }
 }
 
-/// The code of the action of a phase that has a name.
+/// The code of the action of a phase that has a name, as lines of actions begin.
 #[tactic(auto, unfolding(crate::specs::LineReading::code_named))]
-pub(crate) fn code_named(phase: Phase, name: &[u8]) -> Option<Code>
+pub fn code_named(phase: Phase, name: &[u8]) -> Option<Code>
     ensures { result ≡ code_named phase name.now }
 {
     CODES

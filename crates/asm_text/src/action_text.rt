@@ -88,8 +88,8 @@ fn operands<'a>(action: &'a Action) -> [Operand<'a>; 4]
     }
 }
 
-/// Adds the line of an action.
-pub(crate) fn put_action(out: &mut Seq<u8>, action: &Action) -> Result<(), OutOfMemory>
+/// Adds the line of an action, as it stands in the text of a script.
+pub fn put_action(out: &mut Seq<u8>, action: &Action) -> Result<(), OutOfMemory>
     ensures { OnOk result (out.new ≡ out.old ++ action_line action.now) }
 {
     out.append(action_name(action.code()))?;

@@ -23,6 +23,8 @@ mod tree_reading;
 mod tree_text;
 mod word;
 
+pub use action_name::code_named;
+pub use action_text::put_action;
 pub use depex_reading::parse_depex;
 pub use depex_text::print_depex;
 pub use fault::TextFault;

@@ -1,0 +1,4 @@
+mod RegisterLists
+mod Said
+mod Faults
+mod Whole

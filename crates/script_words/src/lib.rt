@@ -1,0 +1,17 @@
+//! Actions of scripts in the words of a volume's text (own format): numbers in decimal or hexadecimal, GUIDs as people write them, and for each line that is none its cause.
+#![tactic(auto)]
+
+mod action;
+mod common;
+mod dxe;
+mod fault;
+mod line;
+mod list;
+mod operand;
+mod pei;
+mod script;
+mod word;
+
+pub use action::read_action;
+pub use fault::{LineFault, Stop};
+pub use script::{ScriptCause, ScriptFault, whole_script};
