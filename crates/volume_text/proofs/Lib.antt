@@ -1,0 +1,4 @@
+mod Lasts
+mod GuidLists
+mod Going
+mod Saying
