@@ -1,13 +1,22 @@
 -- Going through the lines of a text, one by one.
-use Rattle.std.proofs.Common.{◌≡◌, ℕ, ◌+◌, Bool, true, false, List, [], ◌∷◌, ◌++◌, length, Result, Ok, Err, refl, sym, ap, subst, ◌∙◌, append_assoc, arith}
-use Rattle.std.specs.Prelude.{if◌then◌else◌, ◌⊎◌}
+use Rattle.std.proofs.Common.{◌≡◌, ℕ, ◌+◌, Bool, true, false, List, [], ◌∷◌, ◌++◌, length, Result, Ok, Err, refl, sym, ap, subst, ◌∙◌, append_assoc, arith, ◌⊎◌, inl, inr}
+use Rattle.std.specs.Prelude.{if◌then◌else◌}
 use Rattle.std.proofs.lemmas.List.{append-nil}
 use Rattle.line_words.specs.Line.{lines}
 use Rattle.volume_text.specs.declared.fault.Fault.{Fault}
 use Rattle.volume_text.specs.declared.step.State.{State}
 use Rattle.volume_text.specs.declared.step.State.TheVariants.{Begin}
+use Rattle.volume_text.specs.declared.fault.TextFault.{TextFault}
+use Rattle.volume_text.specs.declared.fault.TextFault.TheVariants as text_fault
+use Rattle.volume_text.specs.Reading.{StopsText}
 use Rattle.volume_text.specs.Step.{Steps}
-use Rattle.volume_text.specs.Text.{is_passed_over, counted, numbered, Goes, IsBadLine}
+use Rattle.volume_text.specs.Text.{is_passed_over, counted, numbered, Goes, Moves, IsBadLine, IsEndCause, IsRefused}
+
+same_Ok : {A E : Type 0} (x y : A) → ◌≡◌ {A = Result A E} (Ok x) (Ok y) → x ≡ y
+same_Ok x y e = cc
+
+no_Err : (fault : Fault) (state : State) → ◌≡◌ {A = Result State Fault} (Err fault) (Ok state) → ⊥
+no_Err fault state e = absurd cc
 
 -- this is open behind the lines before the rest
 pub record Reached (text : List ℕ) (state : State) (number : ℕ) (rest : List ℕ) : Type 0 where
@@ -79,3 +88,24 @@ at_last text rest state number r none =
 
 pub count_last : (text rest : List ℕ) (state : State) (number : ℕ) → Reached text state number rest → rest ≡ [] → number ≡ length (lines text) + 1
 count_last text rest state number r none = let empty : length (lines rest) ≡ 0 = ap (λ t. length (lines t)) none in omega (arith, r.count)
+
+-- a line more, which may be passed over
+pub moved : (text rest line after : List ℕ) (state next : State) (number : ℕ) → Reached text state number rest → lines rest ≡ line ∷ lines after → Moves state number line (Ok next)
+    → Reached text next (number + 1) after
+moved text rest line after state next number r is (inl over) =
+    subst (λ (s : State). Reached text s (number + 1) after) (sym (same_Ok next state over.1)) (passed text rest line after state number r is over.0)
+moved text rest line after state next number r is (inr counts_too) = stepped text rest line after state next number r is counts_too.0 counts_too.1
+
+pub moved_not : (text rest line after : List ℕ) (state : State) (number : ℕ) (fault : Fault) → Reached text state number rest → lines rest ≡ line ∷ lines after → Moves state number line (Err fault)
+    → IsBadLine text fault
+moved_not text rest line after state number fault r is (inl over) = absurd (no_Err fault state over.1)
+moved_not text rest line after state number fault r is (inr counts_too) = stopped text rest line after state number fault r is counts_too.0 counts_too.1
+
+pub refused : (text rest line after : List ℕ) (state : State) (number : ℕ) (why : TextFault) → Reached text state number rest → lines rest ≡ line ∷ lines after → StopsText (Moves state number line) why
+    → IsRefused text why
+refused text rest line after state number text_fault.Memory r is t = tt
+refused text rest line after state number (text_fault.Bad fault) r is t = inl (moved_not text rest line after state number fault r is t)
+
+-- more lines have to come
+pub cut_short : (text : List ℕ) (state : State) (fault : Fault) → Goes Begin (numbered text) state → fault.line ≡ length (lines text) + 1 → IsEndCause state fault.cause → IsRefused text (text_fault.Bad fault)
+cut_short text state fault goes line wrong = inr (record { open_there = state; goes = goes; line = line; wrong = wrong })

@@ -52,7 +52,7 @@ Stands lines (Writing below top one numbers) = WritesIn lines below top one
 Stands lines (Done bytes) = SaysVolume lines bytes
 
 -- answers of calls
-same_Ok : {A E : Type 0} (x y : A) → Ok {E = E} x ≡ Ok y → x ≡ y
+same_Ok : {A E : Type 0} (x y : A) → ◌≡◌ {A = Result A E} (Ok x) (Ok y) → x ≡ y
 same_Ok x y e = cc
 
 bound : {A B : Type 0} (r : Result A Cause) (f : A → Result B Cause) (b : B) → (r >>= f) ≡ Ok b → (a : A) × (r ≡ Ok a) × (f a ≡ Ok b)
@@ -60,7 +60,7 @@ bound (Ok a) f b e = (a, refl, e)
 bound (Err c) f b e = absurd cc
 
 at_ok : (line : ℕ) (r : Result State Cause) (to : State) → Ok to ≡ at line r → r ≡ Ok to
-at_ok line (Ok x) to e = sym e
+at_ok line (Ok x) to e = ap Ok (sym (same_Ok to x e))
 at_ok line (Err c) to e = absurd cc
 
 passes : (test : Bool) (c : Cause) (x : Unit {0}) → only_if test c tt ≡ Ok x → test ≡ true

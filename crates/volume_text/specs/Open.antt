@@ -1,6 +1,7 @@
 -- What is open behind some lines of a text (own): a volume with its files so far, of which the last may get sections.
-use Rattle.std.specs.Prelude.{ℕ, Bool, ◌&&◌, ◌==◌, not, take, bytes_eq, if◌then◌else◌, List, [], ◌∷◌, ◌++◌, Option, Some, None, Result, Ok, Err}
+use Rattle.std.specs.Prelude.{◌≡◌, ℕ, Bool, ◌&&◌, ◌==◌, not, take, bytes_eq, if◌then◌else◌, List, [], ◌∷◌, ◌++◌, Option, Some, None, Result, Ok, Err}
 use Rattle.std.specs.List.{list_any}
+use Rattle.std.specs.Borrow.{Bor}
 use Rattle.pi_base.specs.declared.guid.Guid.{Guid}
 use Rattle.pi_base.specs.declared.phase.Phase.{Phase}
 use Rattle.pi_base.specs.declared.phase.Phase.TheVariants.{Pei, Dxe}
@@ -75,9 +76,20 @@ is_script_of phase section = (section.kind == RAW) && bytes_eq (take 6 section.b
 abbrev pub has_script : Phase → NewFile → Bool
 has_script phase file = list_any (is_script_of phase) file.sections
 
+-- the last of the files, where there is one
+abbrev pub IsLastFile : Option (Bor NewFile) → List NewFile → Type 0
+IsLastFile None files = last_of files ≡ None
+IsLastFile (Some last) files = (front : List NewFile) × (last_of files ≡ Some (front, last.now))
+
+abbrev pub only_with_part : Phase → NewFile → Result (Unit {0}) Cause
+only_with_part phase file = only_if (has_part file.kind phase) cause.NoPart tt
+
+abbrev pub only_without_script : Phase → NewFile → Result (Unit {0}) Cause
+only_without_script phase file = only_if (not (has_script phase file)) cause.TwoScripts tt
+
 abbrev pub only_part : Phase → Option (List NewFile × NewFile) → Result (Unit {0}) Cause
 only_part phase None = Err cause.NoFile
-only_part phase (Some parts) = only_if (has_part parts.1.kind phase) cause.NoPart tt
+only_part phase (Some parts) = only_with_part phase parts.1
 
 -- the last file has a part for a phase
 abbrev pub part_checked : Phase → OpenVolume → Result (Unit {0}) Cause
@@ -85,7 +97,7 @@ part_checked phase volume = only_part phase (last_of volume.files)
 
 abbrev pub only_first : Phase → Option (List NewFile × NewFile) → Result (Unit {0}) Cause
 only_first phase None = Err cause.NoFile
-only_first phase (Some parts) = only_if (not (has_script phase parts.1)) cause.TwoScripts tt
+only_first phase (Some parts) = only_without_script phase parts.1
 
 -- the last file may get a script of a phase
 abbrev pub script_checked : Phase → OpenVolume → Result (Unit {0}) Cause

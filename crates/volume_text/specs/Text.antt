@@ -1,5 +1,5 @@
 -- A text: its lines that count, the volume that they say, and the line at fault where they say none (own).
-use Rattle.std.specs.Prelude.{◌≡◌, ◌⊎◌, ℕ, ◌+◌, ⊤, Bool, true, ◌==◌, if◌then◌else◌, List, [], ◌∷◌, ◌++◌, length, map, Result, Ok, Err}
+use Rattle.std.specs.Prelude.{◌≡◌, ◌⊎◌, ℕ, ◌+◌, ⊤, Bool, true, false, ◌==◌, if◌then◌else◌, List, [], ◌∷◌, ◌++◌, length, map, Result, Ok, Err}
 use Rattle.line_words.specs.Line.{lines}
 use Rattle.source_words.specs.Words.{words}
 use Rattle.volume_text.specs.declared.fault.Cause.{Cause}
@@ -35,6 +35,10 @@ numbered text = counted 1 (lines text)
 -- the text describes the volume of these bytes
 abbrev pub Says : List ℕ → List ℕ → Type 0
 Says text bytes = SaysVolume (map (λ line. line.1) (numbered text)) bytes
+
+-- behind a line more, which may be passed over, this is open, or this is at fault
+abbrev pub Moves : State → ℕ → List ℕ → Result State Fault → Type 0
+Moves state number line taken = ((is_passed_over line ≡ true) × (taken ≡ Ok state)) ⊎ ((is_passed_over line ≡ false) × Steps state number line taken)
 
 -- behind these lines this is open
 abbrev pub Goes : State → List (ℕ × List ℕ) → State → Type 0

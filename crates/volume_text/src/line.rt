@@ -51,6 +51,7 @@ fn expression(alloc: Global, of: Phase, text: &[u8]) -> Result<Seq<u8>, Stop>
 }
 
 // `depex PHASE EXPRESSION`.
+#[tactic(auto, using(crate::proofs::Expressions::depex_stops, crate::proofs::Expressions::depex_there))]
 fn depex(alloc: Global, text: &[u8]) -> Result<Statement, Stop>
     ensures { Meets (ReadsDepex (words text.now)) result }
 {

@@ -210,6 +210,7 @@ struct OpenScript {
 }
 
 // A script ends.
+#[tactic(auto, using(crate::proofs::Ending::ended_stops, crate::proofs::Ending::ended_there, crate::proofs::Ending::ended_not))]
 fn script_ended(alloc: Global, held: OpenScript, number: u64) -> Result<State, TextFault>
     requires said { AreSaid held.script }
     ensures ended { Answers (EndsScript held.below held.top held.script held.lines number) result }
@@ -329,6 +330,7 @@ fn taken(
 }
 
 /// What is open behind one line more.
+#[tactic(auto, using(crate::proofs::Ending::steps_by, crate::proofs::Ending::steps_not))]
 pub(crate) fn step(
     alloc: Global,
     state: State,

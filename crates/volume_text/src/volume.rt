@@ -1,7 +1,11 @@
 // What is open behind some lines of a text: volumes, one in a file of the other, and in the last file of the innermost maybe a script.
 ghost use Rattle.std.specs.Prelude.{◌≡◌, Ok, take};
+ghost use Rattle.std.specs.Prelude.{◌≤◌, None, IfOk, IfErr, OnOk};
+ghost use Rattle.fv_build.specs.declared.volume_header.TheConstants.{HEADER_LEN};
+ghost use Rattle.fv_build.specs.declared.build.TheConstants.{MOST_LEN};
+ghost use Rattle.fv_build.specs.Building.{built, fault_of, IsRefusal};
 ghost use Rattle.volume_text.specs.Reading.{Gives};
-ghost use Rattle.volume_text.specs.Open.{last_of, holding, with_section, with_file, depex_type, has_part, script_front, is_script_of, has_script, part_checked, script_checked, stop_of, built_of};
+ghost use Rattle.volume_text.specs.Open.{last_of, holding, with_section, with_file, depex_type, has_part, script_front, is_script_of, has_script, IsLastFile, only_with_part, only_without_script, part_checked, only_first, script_checked, stop_of, built_of};
 
 use crate::fault::{Cause, Stop};
 use crate::word::is_length;
@@ -154,19 +158,55 @@ fn has_script(file: &NewFile, phase: Phase) -> bool
         .any(|section| is_script_of(section, phase))
 }
 
+// The last of the files.
+fn last_file(files: &[NewFile]) -> Option<&NewFile>
+    ensures { IsLastFile result files.now }
+{
+    match files {
+        [.., last] => Some(last),
+        [] => None,
+    }
+}
+
+// That a file has a part for a phase.
+fn only_with_part(file: &NewFile, phase: Phase) -> Result<(), Stop>
+    ensures { Gives (λ x. x) result (only_with_part phase file.now) }
+{
+    if has_part(file.kind, phase) {
+        Ok(())
+    } else {
+        Err(Stop::Fault(Cause::NoPart))
+    }
+}
+
+// That a file has no script of a phase.
+fn only_without_script(file: &NewFile, phase: Phase) -> Result<(), Stop>
+    ensures { Gives (λ x. x) result (only_without_script phase file.now) }
+{
+    if has_script(file, phase) {
+        Err(Stop::Fault(Cause::TwoScripts))
+    } else {
+        Ok(())
+    }
+}
+
 /// That the last file has a part for a phase.
 pub(crate) fn part_checked(volume: &OpenVolume, phase: Phase) -> Result<(), Stop>
     ensures { Gives (λ x. x) result (part_checked phase volume.now) }
 {
-    match volume.files.as_slice() {
-        [.., last] => {
-            if has_part(last.kind, phase) {
-                Ok(())
-            } else {
-                Err(Stop::Fault(Cause::NoPart))
-            }
-        }
-        [] => Err(Stop::Fault(Cause::NoFile)),
+    match last_file(volume.files.as_slice()) {
+        Some(last) => only_with_part(last, phase),
+        None => Err(Stop::Fault(Cause::NoFile)),
+    }
+}
+
+// That the last file has no script of a phase.
+fn first_checked(volume: &OpenVolume, phase: Phase) -> Result<(), Stop>
+    ensures { Gives (λ x. x) result (only_first phase (last_of volume.now.files)) }
+{
+    match last_file(volume.files.as_slice()) {
+        Some(last) => only_without_script(last, phase),
+        None => Err(Stop::Fault(Cause::NoFile)),
     }
 }
 
@@ -175,16 +215,7 @@ pub(crate) fn script_checked(volume: &OpenVolume, phase: Phase) -> Result<(), St
     ensures { Gives (λ x. x) result (script_checked phase volume.now) }
 {
     part_checked(volume, phase)?;
-    match volume.files.as_slice() {
-        [.., last] => {
-            if has_script(last, phase) {
-                Err(Stop::Fault(Cause::TwoScripts))
-            } else {
-                Ok(())
-            }
-        }
-        [] => Err(Stop::Fault(Cause::NoFile)),
-    }
+    first_checked(volume, phase)
 }
 
 // What stands against a volume, as what is wrong with its `end`.
@@ -199,19 +230,34 @@ fn stop_of(fault: BuildFault) -> Stop
     }
 }
 
+// A volume of one of the file systems.
+fn build(
+    alloc: Global,
+    file_system: FileSystem,
+    files: &[NewFile],
+    len: u64,
+) -> Result<Seq<u8>, BuildFault>
+    requires header { HEADER_LEN ≤ len }
+    requires most { len ≤ MOST_LEN }
+    ensures sound { OnOk result (fault_of file_system files.now len ≡ None) }
+    ensures built { IfOk result (λ volume. volume ≡ built file_system files.now len) }
+    ensures refused { IfErr result (IsRefusal file_system files.now len) }
+{
+    match file_system {
+        FileSystem::Ffs2 => build_volume(alloc, files, len),
+        FileSystem::Ffs3 => build_volume3(alloc, files, len),
+    }
+}
+
 /// The bytes of a volume at its `end`.
+#[tactic(auto, using(crate::proofs::Building::built_there, crate::proofs::Building::refused_there))]
 pub(crate) fn built_of(alloc: Global, volume: &OpenVolume) -> Result<Seq<u8>, Stop>
     ensures { Gives (λ x. x) result (built_of volume.now) }
 {
     if !is_length(volume.len) {
         return Err(Stop::Fault(Cause::Range));
     }
-    let files = volume.files.as_slice();
-    let built = match volume.file_system {
-        FileSystem::Ffs2 => build_volume(alloc, files, volume.len),
-        FileSystem::Ffs3 => build_volume3(alloc, files, volume.len),
-    };
-    match built {
+    match build(alloc, volume.file_system, volume.files.as_slice(), volume.len) {
         Ok(bytes) => Ok(bytes),
         Err(fault) => Err(stop_of(fault)),
     }
