@@ -77,7 +77,7 @@ opened_more : (lines : List (List ℕ)) (below : List OpenVolume) (top : OpenVol
 opened_more lines below top more files (outer line inner _ begins say) on = outer line (inner ++ more) (with_files top files) begins (on inner say)
 opened_more lines below top more files (nested front under parent line inner _ opened begins say) on =
     subst (λ (ls : List (List ℕ)). Opened ls (under ++ parent ∷ []) (with_files top files)) (sym (append_assoc front (line ∷ inner) more))
-      (nested front under parent line (inner ++ more) (with_files top files) opened begins (on inner say))
+    (nested front under parent line (inner ++ more) (with_files top files) opened begins (on inner say))
 
 -- a section more
 held : (top next : OpenVolume) (one : NewSection) (o : Option (List NewFile × NewFile)) → last_of top.files ≡ o → with_last top one o ≡ Ok next
@@ -93,7 +93,7 @@ filled_more lines more below top one to opened e on =
     let parts = held top with_it.0 one (last_of top.files) refl with_it.1 in
     let files = parts.0 ++ holding one parts.1 ∷ [] in
     let told : Opened (lines ++ more) below (with_files top files) =
-        opened_more lines below top more files opened (λ inner say. on inner parts.0 parts.1 parts.2 (subst (λ (fs : List NewFile). SayFiles inner fs) parts.2 say)) in
+    opened_more lines below top more files opened (λ inner say. on inner parts.0 parts.1 parts.2 (subst (λ (fs : List NewFile). SayFiles inner fs) parts.2 say)) in
     let there : Opened (lines ++ more) below with_it.0 = subst (λ (v : OpenVolume). Opened (lines ++ more) below v) parts.3 told in
     subst (λ (s : State). Stands (lines ++ more) s) (same_Ok (Filling below with_it.0) to with_it.2) there
 
@@ -117,32 +117,32 @@ ends lines below top line bytes to (outer own inner _ begins say) end built e =
 ends lines below top line bytes to (nested front under parent own inner _ opened begins say) end built e =
     let found = ap (closed_in bytes) (sym (last_push under parent)) ∙ e in
     subst (λ (ls : List (List ℕ)). Stands ls to) (sym (append_assoc front (own ∷ inner) (line ∷ [])))
-      (filled_more front (own ∷ (inner ++ line ∷ [])) under parent (section_of VOLUME_IMAGE bytes) to opened found
-        (λ before files last is told. volume before files last own inner top line bytes told begins say end built))
+    (filled_more front (own ∷ (inner ++ line ∷ [])) under parent (section_of VOLUME_IMAGE bytes) to opened found
+    (λ before files last is told. volume before files last own inner top line bytes told begins say end built))
 
 begins_nested : (files : List NewFile) (lines : List (List ℕ)) (below : List OpenVolume) (top : OpenVolume) (line : List ℕ) (file_system : FileSystem) (len : ℕ) (to : State)
     → Opened lines below top → SaysLine line (said.Volume file_system len) → nested_in files below top file_system len ≡ Ok to → Stands (lines ++ line ∷ []) to
 begins_nested [] lines below top line file_system len to opened says e = absurd cc
 begins_nested (one ∷ files) lines below top line file_system len to opened says e =
     subst (λ (s : State). Stands (lines ++ line ∷ []) s) (same_Ok (Filling (below ++ top ∷ []) (new_volume file_system len)) to e)
-      (nested lines below top line [] (new_volume file_system len) opened says no_file)
+    (nested lines below top line [] (new_volume file_system len) opened says no_file)
 
 in_volume : (lines : List (List ℕ)) (below : List OpenVolume) (top : OpenVolume) (line : List ℕ) (one : Statement) (to : State) → Opened lines below top → SaysLine line one
     → filled below top one ≡ Ok to → Stands (lines ++ line ∷ []) to
 in_volume lines below top line (said.Volume file_system len) to opened says e = begins_nested top.files lines below top line file_system len to opened says e
 in_volume lines below top line (said.File kind name) to opened says e =
     subst (λ (s : State). Stands (lines ++ line ∷ []) s) (same_Ok (Filling below (with_files top (top.files ++ new_file kind name ∷ []))) to e)
-      (opened_more lines below top (line ∷ []) (top.files ++ new_file kind name ∷ []) opened (λ inner say. file inner top.files line kind name say says))
+    (opened_more lines below top (line ∷ []) (top.files ++ new_file kind name ∷ []) opened (λ inner say. file inner top.files line kind name say says))
 in_volume lines below top line (said.Section kind body) to opened says e =
     filled_more lines (line ∷ []) below top (section_of kind body) to opened e (λ inner files last is say. section inner files last line kind body say says)
 in_volume lines below top line (said.Depex phase body) to opened says e =
     let parts = bound (part_checked phase top) (λ _. filling below top (section_of (depex_type phase) body)) to e in
     filled_more lines (line ∷ []) below top (section_of (depex_type phase) body) to opened parts.2
-      (λ inner files last is say. depex inner files last line phase body say says (has_it top files last phase parts.0 is parts.1))
+    (λ inner files last is say. depex inner files last line phase body say says (has_it top files last phase parts.0 is parts.1))
 in_volume lines below top line (said.Script phase) to opened says e =
     let parts = bound (script_checked phase top) (λ _. Ok (Writing below top (script_of phase []) [])) to e in
     subst (λ (s : State). Stands (lines ++ line ∷ []) s) (same_Ok (Writing below top (script_of phase []) []) to parts.2)
-      (record { front = lines; line = line; inner = []; here = refl; opened = opened; begins = says; checked = parts.1; blocks = no_block })
+    (record { front = lines; line = line; inner = []; here = refl; opened = opened; begins = says; checked = parts.1; blocks = no_block })
 in_volume lines below top line said.End to opened says e =
     let parts = bound (built_of top) (λ bytes. closed_in bytes (last_of below)) to e in
     ends lines below top line parts.0 to opened says parts.1 parts.2
@@ -170,14 +170,14 @@ acts lines below top one next line text (Some parts) is w says e =
     let found = bound (action_at one.phase text) (λ a. Ok (script_of one.phase (parts.0 ++ (parts.1 ++ a ∷ []) ∷ []))) next e in
     let blocks = parts.0 ++ (parts.1 ++ found.0 ∷ []) ∷ [] in
     subst (λ (s : Script). WritesIn (lines ++ line ∷ []) below top s) (same_Ok (script_of one.phase blocks) next found.2)
-      (writes_more lines below top one line blocks w
-        (λ inner say. action inner parts.0 parts.1 line text found.0 (subst (λ (bs : List (List Action)). SayBlocks one.phase inner bs) (last_is one.blocks parts is) say) says found.1))
+    (writes_more lines below top one line blocks w
+    (λ inner say. action inner parts.0 parts.1 line text found.0 (subst (λ (bs : List (List Action)). SayBlocks one.phase inner bs) (last_is one.blocks parts is) say) says found.1))
 
 wrote : (lines : List (List ℕ)) (below : List OpenVolume) (top : OpenVolume) (one next : Script) (line : List ℕ) (what : Statement) → WritesIn lines below top one → SaysLine line what
     → written one what ≡ Ok next → WritesIn (lines ++ line ∷ []) below top next
 wrote lines below top one next line said.Block w says e =
     subst (λ (s : Script). WritesIn (lines ++ line ∷ []) below top s) (same_Ok (script_of one.phase (one.blocks ++ [] ∷ [])) next e)
-      (writes_more lines below top one line (one.blocks ++ [] ∷ []) w (λ inner say. block inner one.blocks line say says))
+    (writes_more lines below top one line (one.blocks ++ [] ∷ []) w (λ inner say. block inner one.blocks line say says))
 wrote lines below top one next line (said.Action text) w says e = acts lines below top one next line text (last_of one.blocks) refl w says e
 wrote lines below top one next line (said.Volume file_system len) w says e = absurd cc
 wrote lines below top one next line (said.File kind name) w says e = absurd cc
@@ -199,9 +199,9 @@ ended lines below top one numbers number line to (Ok bytes) w says is e =
     let parts = bound (part_checked one.phase top) (λ _. only_first one.phase (last_of top.files)) tt w.checked in
     let all = ap (λ ls. ls ++ line ∷ []) w.here ∙ append_assoc w.front (w.line ∷ w.inner) (line ∷ []) in
     subst (λ (ls : List (List ℕ)). Stands ls to) (sym all)
-      (filled_more w.front (w.line ∷ (w.inner ++ line ∷ [])) below top (section_of RAW bytes) to w.opened (at_ok number _ to e)
-        (λ before files last held say. script before files last w.line one.phase w.inner one.blocks line bytes say w.begins
-          (has_it top files last one.phase parts.0 held parts.1) (first_script top files last one.phase tt held parts.2) w.blocks says is))
+    (filled_more w.front (w.line ∷ (w.inner ++ line ∷ [])) below top (section_of RAW bytes) to w.opened (at_ok number _ to e)
+    (λ before files last held say. script before files last w.line one.phase w.inner one.blocks line bytes say w.begins
+    (has_it top files last one.phase parts.0 held parts.1) (first_script top files last one.phase tt held parts.2) w.blocks says is))
 
 in_script : (lines : List (List ℕ)) (below : List OpenVolume) (top : OpenVolume) (one : Script) (numbers : List ℕ) (number : ℕ) (line : List ℕ) (what : Statement) (to : State) → WritesIn lines below top one → SaysLine line what
     → TakesInScript below top one numbers number what (Ok to) → Stands (lines ++ line ∷ []) to
@@ -218,7 +218,7 @@ in_script lines below top one numbers number line (said.Script phase) to w says 
 first : (lines : List (List ℕ)) (line : List ℕ) (what : Statement) (to : State) → lines ≡ [] → SaysLine line what → begun what ≡ Ok to → Stands (lines ++ line ∷ []) to
 first lines line (said.Volume file_system len) to none says e =
     subst (λ (ls : List (List ℕ)). Stands (ls ++ line ∷ []) to) (sym none)
-      (subst (λ (s : State). Stands (line ∷ []) s) (same_Ok (Filling [] (new_volume file_system len)) to e) (outer line [] (new_volume file_system len) says no_file))
+    (subst (λ (s : State). Stands (line ∷ []) s) (same_Ok (Filling [] (new_volume file_system len)) to e) (outer line [] (new_volume file_system len) says no_file))
 first lines line (said.File kind name) to none says e = absurd cc
 first lines line (said.Section kind body) to none says e = absurd cc
 first lines line (said.Depex phase body) to none says e = absurd cc
@@ -242,7 +242,7 @@ stands_behind before from [] to stands goes =
     subst (λ (ls : List (List ℕ)). Stands ls to) (sym (append-nil before)) (subst (λ (s : State). Stands before s) goes stands)
 stands_behind before from (line ∷ lines) to stands goes =
     subst (λ (ls : List (List ℕ)). Stands ls to) (append_assoc before (line.1 ∷ []) (map (λ one. one.1) lines))
-      (stands_behind (before ++ line.1 ∷ []) goes.0 lines to (takes_read before from line.0 line.1 goes.0 goes.1.0 stands goes.1.1 goes.1.2) goes.2)
+    (stands_behind (before ++ line.1 ∷ []) goes.0 lines to (takes_read before from line.0 line.1 goes.0 goes.1.0 stands goes.1.1 goes.1.2) goes.2)
 
 -- behind all lines the volume has ended, so they say it
 pub says : (text bytes : List ℕ) → Goes Begin (numbered text) (Done bytes) → Says text bytes

@@ -5,11 +5,11 @@ mod bytes;
 mod fault;
 mod keyword;
 mod line;
-mod volume;
 mod script;
 mod statement;
 mod step;
 mod text;
+mod volume;
 mod word;
 
 pub use fault::{Cause, Fault, TextFault};

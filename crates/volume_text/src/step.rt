@@ -6,9 +6,11 @@ ghost use Rattle.script_words.specs.Script.{AreSaid};
 
 use crate::fault::{Cause, Fault, Stop, TextFault};
 use crate::line::read_line;
-use crate::volume::{OpenVolume, built_of, depex_type, part_checked, script_checked, with_file, with_section};
 use crate::script::{script_body, with_action, with_block};
 use crate::statement::Statement;
+use crate::volume::{
+    OpenVolume, built_of, depex_type, part_checked, script_checked, with_file, with_section,
+};
 use act_code::Script;
 use fv_build::{FileSystem, NewSection};
 use fv_section::section_type::{RAW, VOLUME_IMAGE};
@@ -33,7 +35,9 @@ pub(crate) enum State {
         lines: Seq<u64>,
     },
     /// Nothing more: the volume has ended.
-    Done { bytes: Seq<u8> },
+    Done {
+        bytes: Seq<u8>,
+    },
 }
 
 // The first volume.
@@ -278,11 +282,7 @@ fn in_script(
 }
 
 // A line more outside of scripts.
-fn outside(
-    alloc: Global,
-    state: State,
-    statement: Statement,
-) -> Result<State, Stop>
+fn outside(alloc: Global, state: State, statement: Statement) -> Result<State, Stop>
     ensures made { Gives (λ x. x) result (outside state statement) }
     ensures said { IfOk result IsSaidState }
 {
@@ -295,12 +295,7 @@ fn outside(
 }
 
 // A statement more.
-fn taken(
-    alloc: Global,
-    state: State,
-    number: u64,
-    statement: Statement,
-) -> Result<State, TextFault>
+fn taken(alloc: Global, state: State, number: u64, statement: Statement) -> Result<State, TextFault>
     requires said { IsSaidState state }
     ensures made { Answers (Takes state number statement) result }
     ensures said { IfOk result IsSaidState }

@@ -257,7 +257,12 @@ pub(crate) fn built_of(alloc: Global, volume: &OpenVolume) -> Result<Seq<u8>, St
     if !is_length(volume.len) {
         return Err(Stop::Fault(Cause::Range));
     }
-    match build(alloc, volume.file_system, volume.files.as_slice(), volume.len) {
+    match build(
+        alloc,
+        volume.file_system,
+        volume.files.as_slice(),
+        volume.len,
+    ) {
         Ok(bytes) => Ok(bytes),
         Err(fault) => Err(stop_of(fault)),
     }

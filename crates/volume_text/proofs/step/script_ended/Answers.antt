@@ -10,4 +10,4 @@ pub returns-clause-ended : goal.returns-clause-ended
 returns-clause-ended c =
     let h = c.args.held in
     rw c.at.ensures
-      (ended_not h.below h.top h.script c.as_slice.result.now h.lines c.args.number c.in_ok-body.body c.in-Err.stop c.as_slice.ensures c.in_ok-body.ensures c.in-Err.ensures)
+    (ended_not h.below h.top h.script c.as_slice.result.now h.lines c.args.number c.in_ok-body.body c.in-Err.stop c.as_slice.ensures c.in_ok-body.ensures c.in-Err.ensures)
