@@ -12,7 +12,7 @@ pub(crate) const MOST_EXTENDED_SIZE: usize = 0xffff_ffff;
 
 /// A file system.
 #[derive(Clone, Copy)]
-pub(crate) enum FileSystem {
+pub enum FileSystem {
     /// Sections and files of at most `MOST_SIZE` bytes.
     Ffs2,
     /// Longer ones are extended sections and large files.

@@ -15,6 +15,7 @@ mod volume_header;
 
 pub use build::{MOST_LEN, build_volume, build_volume3};
 pub use fault::BuildFault;
+pub use file_system::FileSystem;
 pub use generated::{MOST_MODULES, VOLUME_LEN, generate};
 pub use new_file::{NewFile, NewSection};
 pub use volume_header::HEADER_LEN;

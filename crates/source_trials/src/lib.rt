@@ -1,4 +1,4 @@
-//! What a volume's text says word by word, tried row by row: expressions as GenDepex of EDK2 spells them, the lines of actions, and scripts of such lines.
+//! What a volume's text says, tried row by row: expressions as GenDepex of EDK2 spells them, the lines of actions, scripts of such lines, and whole texts.
 #![tactic(auto)]
 
 #[cfg(test)]
@@ -9,3 +9,5 @@ mod expressions;
 mod gendepex;
 #[cfg(test)]
 mod scripts;
+#[cfg(test)]
+mod volume_texts;

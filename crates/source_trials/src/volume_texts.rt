@@ -1,0 +1,416 @@
+// Texts of volumes: the bytes of those that the examples have, and each mistake with its line and its cause.
+use depex_words::ExpressionFault;
+use pi_base::Seq;
+use script_words::{LineFault, ScriptCause};
+use std::alloc::Global;
+use std::test::*;
+use volume_text::{Cause, Fault, TextFault, volume_of};
+
+/// `examples/every-service/late.volume`.
+static EVERY_SERVICE_LATE_TEXT: &str = "# A volume that a driver processes.\n\
+volume 1024\n\
+\n\
+file driver 00000001-0000-4000-8000-000000000014\n\
+depex dxe true\n\
+script dxe\n\
+    block\n\
+    log in a processed volume\n\
+    ret Success\n\
+end\n\
+\n\
+end\n\
+";
+
+/// `examples/every-service/late.fv`, without the bytes 0xff at its end.
+static EVERY_SERVICE_LATE_FRONT: [u8; 143] = [
+    0, 0, 0, 0, 0, 0, 0, 0, 0, 0, 0, 0, 0, 0, 0, 0, 120, 229, 140, 140, 61, 138, 28, 79, 153, 53,
+    137, 97, 133, 195, 45, 211, 0, 4, 0, 0, 0, 0, 0, 0, 95, 70, 86, 72, 0, 8, 0, 0, 72, 0, 209,
+    229, 0, 0, 0, 2, 1, 0, 0, 0, 0, 4, 0, 0, 0, 0, 0, 0, 0, 0, 0, 0, 1, 0, 0, 0, 0, 0, 0, 64, 128,
+    0, 0, 0, 0, 0, 0, 20, 221, 170, 7, 0, 71, 0, 0, 248, 6, 0, 0, 19, 6, 8, 0, 0, 39, 0, 0, 25, 80,
+    73, 65, 83, 1, 2, 1, 0, 2, 0, 17, 21, 105, 110, 32, 97, 32, 112, 114, 111, 99, 101, 115, 115,
+    101, 100, 32, 118, 111, 108, 117, 109, 101, 19, 0,
+];
+
+/// `examples/script-booted/boot.volume`.
+static SCRIPT_BOOTED_BOOT_TEXT: &str =
+    "# The script is what `pitools asm script` prints of ../script-as-text/script.txt.\n\
+volume 4096\n\
+file peim 00000001-0000-4000-8000-000000000001\n\
+raw 5049415301010100060001000700000000000000080100000200000000000040800000000000000100090101120001110e69742077617320726566757365641300\n\
+end\n\
+";
+
+/// `examples/script-booted/boot.fv`, without the bytes 0xff at its end.
+static SCRIPT_BOOTED_BOOT_FRONT: [u8; 165] = [
+    0, 0, 0, 0, 0, 0, 0, 0, 0, 0, 0, 0, 0, 0, 0, 0, 120, 229, 140, 140, 61, 138, 28, 79, 153, 53,
+    137, 97, 133, 195, 45, 211, 0, 16, 0, 0, 0, 0, 0, 0, 95, 70, 86, 72, 0, 8, 0, 0, 72, 0, 209,
+    205, 0, 0, 0, 2, 1, 0, 0, 0, 0, 16, 0, 0, 0, 0, 0, 0, 0, 0, 0, 0, 1, 0, 0, 0, 0, 0, 0, 64, 128,
+    0, 0, 0, 0, 0, 0, 1, 219, 170, 6, 0, 93, 0, 0, 248, 69, 0, 0, 25, 80, 73, 65, 83, 1, 1, 1, 0,
+    6, 0, 1, 0, 7, 0, 0, 0, 0, 0, 0, 0, 8, 1, 0, 0, 2, 0, 0, 0, 0, 0, 0, 64, 128, 0, 0, 0, 0, 0, 0,
+    1, 0, 9, 1, 1, 18, 0, 1, 17, 14, 105, 116, 32, 119, 97, 115, 32, 114, 101, 102, 117, 115, 101,
+    100, 19, 0,
+];
+
+/// `examples/memory-move/boot.volume`.
+static MEMORY_MOVE_BOOT_TEXT: &str =
+    "# One PEIM that installs a PPI with a notification waiting for it, and says where permanent memory is.\n\
+# The notification is queued before the memory moves, and runs after it.\n\
+volume 4096\n\
+\n\
+file peim 00000000-0000-0000-0000-00000000000a\n\
+script pei\n\
+    block\n\
+    set r0 7\n\
+    desc r1 dispatch 00000000-0000-0000-0000-000000000001 block 1\n\
+    notify r1\n\
+    desc r2 ppi 00000000-0000-0000-0000-000000000001 r0\n\
+    install r2\n\
+    set r4 0x40000000\n\
+    set r5 0x100000\n\
+    memory r4 r5\n\
+    ret Success\n\
+    block\n\
+    log n\n\
+    ret Success\n\
+end\n\
+\n\
+end\n\
+";
+
+/// `examples/memory-move/boot.fv`, without the bytes 0xff at its end.
+static MEMORY_MOVE_BOOT_FRONT: [u8; 200] = [
+    0, 0, 0, 0, 0, 0, 0, 0, 0, 0, 0, 0, 0, 0, 0, 0, 120, 229, 140, 140, 61, 138, 28, 79, 153, 53,
+    137, 97, 133, 195, 45, 211, 0, 16, 0, 0, 0, 0, 0, 0, 95, 70, 86, 72, 0, 8, 0, 0, 72, 0, 209,
+    205, 0, 0, 0, 2, 1, 0, 0, 0, 0, 16, 0, 0, 0, 0, 0, 0, 0, 0, 0, 0, 0, 0, 0, 0, 0, 0, 0, 0, 0, 0,
+    0, 0, 0, 0, 0, 10, 112, 170, 6, 0, 128, 0, 0, 248, 104, 0, 0, 25, 80, 73, 65, 83, 1, 1, 2, 0,
+    9, 0, 1, 0, 7, 0, 0, 0, 0, 0, 0, 0, 8, 1, 2, 0, 0, 0, 0, 0, 0, 0, 0, 0, 0, 0, 0, 0, 0, 0, 0, 1,
+    1, 11, 1, 1, 8, 2, 0, 0, 0, 0, 0, 0, 0, 0, 0, 0, 0, 0, 0, 0, 0, 0, 0, 1, 0, 9, 1, 2, 1, 4, 0,
+    0, 0, 64, 0, 0, 0, 0, 1, 5, 0, 0, 16, 0, 0, 0, 0, 0, 14, 4, 5, 19, 0, 2, 0, 17, 1, 110, 19, 0,
+];
+
+/// `examples/audit/main.volume`.
+static AUDIT_MAIN_TEXT: &str =
+    "# A main volume: drivers with each form of expression that DXE alone has, and a volume in a file.\n\
+volume 8192\n\
+\n\
+file driver 11a6edf6-a9be-426d-a6cc-b22fe51d9224\n\
+depex dxe sor true\n\
+\n\
+file driver 93022f8c-1f09-47ef-bbb2-5814ff609df5\n\
+depex dxe after 11a6edf6-a9be-426d-a6cc-b22fe51d9224\n\
+\n\
+file volume-image 9e21fd93-9c72-4c15-8c4b-e77f1db2d792\n\
+volume 1024\n\
+    file driver a210f973-229d-4f4d-aa37-9895e6c9eaba\n\
+    script dxe\n\
+        block\n\
+        log inside\n\
+        ret Success\n\
+    end\n\
+end\n\
+\n\
+file driver f80697e9-7fd6-4665-8646-88e33ef71dfc\n\
+depex dxe before 93022f8c-1f09-47ef-bbb2-5814ff609df5\n\
+\n\
+end\n\
+";
+
+/// `examples/audit/main.fv`, without the bytes 0xff at its end.
+static AUDIT_MAIN_FRONT: [u8; 1254] = [
+    0, 0, 0, 0, 0, 0, 0, 0, 0, 0, 0, 0, 0, 0, 0, 0, 120, 229, 140, 140, 61, 138, 28, 79, 153, 53,
+    137, 97, 133, 195, 45, 211, 0, 32, 0, 0, 0, 0, 0, 0, 95, 70, 86, 72, 0, 8, 0, 0, 72, 0, 209,
+    173, 0, 0, 0, 2, 1, 0, 0, 0, 0, 32, 0, 0, 0, 0, 0, 0, 0, 0, 0, 0, 246, 237, 166, 17, 190, 169,
+    109, 66, 166, 204, 178, 47, 229, 29, 146, 36, 31, 170, 7, 0, 31, 0, 0, 248, 7, 0, 0, 19, 9, 6,
+    8, 255, 140, 47, 2, 147, 9, 31, 239, 71, 187, 178, 88, 20, 255, 96, 157, 245, 83, 170, 7, 0,
+    46, 0, 0, 248, 22, 0, 0, 19, 1, 246, 237, 166, 17, 190, 169, 109, 66, 166, 204, 178, 47, 229,
+    29, 146, 36, 8, 255, 255, 147, 253, 33, 158, 114, 156, 21, 76, 140, 75, 231, 127, 29, 178, 215,
+    146, 162, 170, 11, 0, 28, 4, 0, 248, 4, 4, 0, 23, 0, 0, 0, 0, 0, 0, 0, 0, 0, 0, 0, 0, 0, 0, 0,
+    0, 120, 229, 140, 140, 61, 138, 28, 79, 153, 53, 137, 97, 133, 195, 45, 211, 0, 4, 0, 0, 0, 0,
+    0, 0, 95, 70, 86, 72, 0, 8, 0, 0, 72, 0, 209, 229, 0, 0, 0, 2, 1, 0, 0, 0, 0, 4, 0, 0, 0, 0, 0,
+    0, 0, 0, 0, 0, 115, 249, 16, 162, 157, 34, 77, 79, 170, 55, 152, 149, 230, 201, 234, 186, 239,
+    170, 7, 0, 48, 0, 0, 248, 24, 0, 0, 25, 80, 73, 65, 83, 1, 2, 1, 0, 2, 0, 17, 6, 105, 110, 115,
+    105, 100, 101, 19, 0, 255, 255, 255, 255, 255, 255, 255, 255, 255, 255, 255, 255, 255, 255,
+    255, 255, 255, 255, 255, 255, 255, 255, 255, 255, 255, 255, 255, 255, 255, 255, 255, 255, 255,
+    255, 255, 255, 255, 255, 255, 255, 255, 255, 255, 255, 255, 255, 255, 255, 255, 255, 255, 255,
+    255, 255, 255, 255, 255, 255, 255, 255, 255, 255, 255, 255, 255, 255, 255, 255, 255, 255, 255,
+    255, 255, 255, 255, 255, 255, 255, 255, 255, 255, 255, 255, 255, 255, 255, 255, 255, 255, 255,
+    255, 255, 255, 255, 255, 255, 255, 255, 255, 255, 255, 255, 255, 255, 255, 255, 255, 255, 255,
+    255, 255, 255, 255, 255, 255, 255, 255, 255, 255, 255, 255, 255, 255, 255, 255, 255, 255, 255,
+    255, 255, 255, 255, 255, 255, 255, 255, 255, 255, 255, 255, 255, 255, 255, 255, 255, 255, 255,
+    255, 255, 255, 255, 255, 255, 255, 255, 255, 255, 255, 255, 255, 255, 255, 255, 255, 255, 255,
+    255, 255, 255, 255, 255, 255, 255, 255, 255, 255, 255, 255, 255, 255, 255, 255, 255, 255, 255,
+    255, 255, 255, 255, 255, 255, 255, 255, 255, 255, 255, 255, 255, 255, 255, 255, 255, 255, 255,
+    255, 255, 255, 255, 255, 255, 255, 255, 255, 255, 255, 255, 255, 255, 255, 255, 255, 255, 255,
+    255, 255, 255, 255, 255, 255, 255, 255, 255, 255, 255, 255, 255, 255, 255, 255, 255, 255, 255,
+    255, 255, 255, 255, 255, 255, 255, 255, 255, 255, 255, 255, 255, 255, 255, 255, 255, 255, 255,
+    255, 255, 255, 255, 255, 255, 255, 255, 255, 255, 255, 255, 255, 255, 255, 255, 255, 255, 255,
+    255, 255, 255, 255, 255, 255, 255, 255, 255, 255, 255, 255, 255, 255, 255, 255, 255, 255, 255,
+    255, 255, 255, 255, 255, 255, 255, 255, 255, 255, 255, 255, 255, 255, 255, 255, 255, 255, 255,
+    255, 255, 255, 255, 255, 255, 255, 255, 255, 255, 255, 255, 255, 255, 255, 255, 255, 255, 255,
+    255, 255, 255, 255, 255, 255, 255, 255, 255, 255, 255, 255, 255, 255, 255, 255, 255, 255, 255,
+    255, 255, 255, 255, 255, 255, 255, 255, 255, 255, 255, 255, 255, 255, 255, 255, 255, 255, 255,
+    255, 255, 255, 255, 255, 255, 255, 255, 255, 255, 255, 255, 255, 255, 255, 255, 255, 255, 255,
+    255, 255, 255, 255, 255, 255, 255, 255, 255, 255, 255, 255, 255, 255, 255, 255, 255, 255, 255,
+    255, 255, 255, 255, 255, 255, 255, 255, 255, 255, 255, 255, 255, 255, 255, 255, 255, 255, 255,
+    255, 255, 255, 255, 255, 255, 255, 255, 255, 255, 255, 255, 255, 255, 255, 255, 255, 255, 255,
+    255, 255, 255, 255, 255, 255, 255, 255, 255, 255, 255, 255, 255, 255, 255, 255, 255, 255, 255,
+    255, 255, 255, 255, 255, 255, 255, 255, 255, 255, 255, 255, 255, 255, 255, 255, 255, 255, 255,
+    255, 255, 255, 255, 255, 255, 255, 255, 255, 255, 255, 255, 255, 255, 255, 255, 255, 255, 255,
+    255, 255, 255, 255, 255, 255, 255, 255, 255, 255, 255, 255, 255, 255, 255, 255, 255, 255, 255,
+    255, 255, 255, 255, 255, 255, 255, 255, 255, 255, 255, 255, 255, 255, 255, 255, 255, 255, 255,
+    255, 255, 255, 255, 255, 255, 255, 255, 255, 255, 255, 255, 255, 255, 255, 255, 255, 255, 255,
+    255, 255, 255, 255, 255, 255, 255, 255, 255, 255, 255, 255, 255, 255, 255, 255, 255, 255, 255,
+    255, 255, 255, 255, 255, 255, 255, 255, 255, 255, 255, 255, 255, 255, 255, 255, 255, 255, 255,
+    255, 255, 255, 255, 255, 255, 255, 255, 255, 255, 255, 255, 255, 255, 255, 255, 255, 255, 255,
+    255, 255, 255, 255, 255, 255, 255, 255, 255, 255, 255, 255, 255, 255, 255, 255, 255, 255, 255,
+    255, 255, 255, 255, 255, 255, 255, 255, 255, 255, 255, 255, 255, 255, 255, 255, 255, 255, 255,
+    255, 255, 255, 255, 255, 255, 255, 255, 255, 255, 255, 255, 255, 255, 255, 255, 255, 255, 255,
+    255, 255, 255, 255, 255, 255, 255, 255, 255, 255, 255, 255, 255, 255, 255, 255, 255, 255, 255,
+    255, 255, 255, 255, 255, 255, 255, 255, 255, 255, 255, 255, 255, 255, 255, 255, 255, 255, 255,
+    255, 255, 255, 255, 255, 255, 255, 255, 255, 255, 255, 255, 255, 255, 255, 255, 255, 255, 255,
+    255, 255, 255, 255, 255, 255, 255, 255, 255, 255, 255, 255, 255, 255, 255, 255, 255, 255, 255,
+    255, 255, 255, 255, 255, 255, 255, 255, 255, 255, 255, 255, 255, 255, 255, 255, 255, 255, 255,
+    255, 255, 255, 255, 255, 255, 255, 255, 255, 255, 255, 255, 255, 255, 255, 255, 255, 255, 255,
+    255, 255, 255, 255, 255, 255, 255, 255, 255, 255, 255, 255, 255, 255, 255, 255, 255, 255, 255,
+    255, 255, 255, 255, 255, 255, 255, 255, 255, 255, 255, 255, 255, 255, 255, 255, 255, 255, 255,
+    255, 255, 255, 255, 255, 255, 255, 255, 255, 255, 255, 255, 255, 255, 255, 255, 255, 255, 255,
+    255, 255, 255, 255, 255, 255, 255, 255, 255, 255, 255, 255, 255, 255, 255, 255, 255, 255, 255,
+    255, 255, 255, 255, 255, 255, 255, 255, 255, 255, 255, 255, 255, 255, 255, 255, 255, 255, 255,
+    255, 255, 255, 255, 255, 255, 255, 255, 255, 255, 255, 255, 255, 255, 255, 255, 255, 255, 255,
+    255, 233, 151, 6, 248, 214, 127, 101, 70, 134, 70, 136, 227, 62, 247, 29, 252, 200, 170, 7, 0,
+    46, 0, 0, 248, 22, 0, 0, 19, 0, 140, 47, 2, 147, 9, 31, 239, 71, 187, 178, 88, 20, 255, 96,
+    157, 245, 8,
+];
+
+/// Texts with a mistake, its line and its cause.
+static MISTAKES: [(&str, u64, Cause); 45] = [
+    ("", 1, Cause::NoVolume), // no line
+    ("\n# nothing\n", 3, Cause::NoVolume), // comments alone
+    (
+        "file peim 00000001-0000-4000-8000-000000000001\n",
+        1,
+        Cause::NoVolume,
+    ), // a file first
+    ("volume\n", 1, Cause::Missing), // no length
+    ("volume 4K\n", 1, Cause::Number), // no number
+    ("volume 71\n", 1, Cause::Range), // shorter than its header
+    ("volume 0x4000001\n", 1, Cause::Range), // longer than 64 MiB
+    ("volume 4096 ffs4\n", 1, Cause::Word), // no file system
+    ("volume 4096 ffs3 x\n", 1, Cause::Extra), // a word too many
+    ("volume 4096\n", 2, Cause::NoEnd), // no `end`
+    ("volume 4096\nend\nend\n", 3, Cause::BehindEnd), // text behind the end
+    ("volume 4096\nraw 00\nend\n", 2, Cause::NoFile), // a section before the first file
+    ("volume 4096\nvolume 96\n", 2, Cause::NoFile), // a volume before the first file
+    (
+        "volume 4096\nfile pei 00000001-0000-4000-8000-000000000001\n",
+        2,
+        Cause::FileType,
+    ), // no type of a file
+    ("volume 4096\nfile peim here\n", 2, Cause::Guid), // no GUID
+    ("volume 4096\nfile peim\n", 2, Cause::Missing), // no name
+    (
+        "volume 4096\nfile peim 00000001-0000-4000-8000-000000000001 x\n",
+        2,
+        Cause::Extra,
+    ), // a word behind the name
+    (
+        "volume 4096\nfile peim 00000001-0000-4000-8000-000000000001\nsection 1 00\n",
+        3,
+        Cause::SectionType,
+    ), // no type of a section
+    (
+        "volume 4096\nfile peim 00000001-0000-4000-8000-000000000001\nraw 0\n",
+        3,
+        Cause::Bytes,
+    ), // half a byte
+    (
+        "volume 4096\nfile peim 00000001-0000-4000-8000-000000000001\nguids here\n",
+        3,
+        Cause::Guid,
+    ), // no GUID in a list
+    (
+        "volume 4096\nfile peim 00000001-0000-4000-8000-000000000001\nlogg x\n",
+        3,
+        Cause::UnknownLine,
+    ), // no line
+    (
+        "volume 4096\nfile peim 00000001-0000-4000-8000-000000000001\nblock\n",
+        3,
+        Cause::NoScript,
+    ), // a block outside of a script
+    (
+        "volume 4096\nfile peim 00000001-0000-4000-8000-000000000001\ndepex dxe true\n",
+        3,
+        Cause::NoPart,
+    ), // an expression for DXE in a PEIM
+    (
+        "volume 4096\nfile peim 00000001-0000-4000-8000-000000000001\nscript dxe\n",
+        3,
+        Cause::NoPart,
+    ), // a script for DXE in a PEIM
+    (
+        "volume 4096\nfile peim 00000001-0000-4000-8000-000000000001\ndepex smm true\n",
+        3,
+        Cause::Word,
+    ), // no phase
+    (
+        "volume 4096\nfile peim 00000001-0000-4000-8000-000000000001\ndepex pei true true\n",
+        3,
+        Cause::Expression(ExpressionFault::Extra),
+    ), // a word behind an operand
+    (
+        "volume 4096\nfile peim 00000001-0000-4000-8000-000000000001\ndepex pei (true\n",
+        3,
+        Cause::Expression(ExpressionFault::Bracket),
+    ), // an open bracket
+    (
+        "volume 4096\nfile peim 00000001-0000-4000-8000-000000000001\ndepex pei true AND\n",
+        3,
+        Cause::Expression(ExpressionFault::NoOperand),
+    ), // no second operand
+    (
+        "volume 4096\nfile peim 00000001-0000-4000-8000-000000000001\ndepex pei gEfiPei\n",
+        3,
+        Cause::Expression(ExpressionFault::NoGuid),
+    ), // no GUID in an expression
+    (
+        "volume 4096\nfile peim 00000001-0000-4000-8000-000000000001\ndepex pei sor true\n",
+        3,
+        Cause::Expression(ExpressionFault::OtherPhase),
+    ), // SOR in PEI
+    (
+        "volume 4096\nfile peim 00000001-0000-4000-8000-000000000001\nscript pei\nblock\nlogg x\n",
+        5,
+        Cause::Action(LineFault::UnknownAction),
+    ), // no action
+    (
+        "volume 4096\nfile peim 00000001-0000-4000-8000-000000000001\nscript pei\nblock\nschedule 00000001-0000-4000-8000-000000000001\n",
+        5,
+        Cause::Action(LineFault::OtherPhase),
+    ), // an action of DXE
+    (
+        "volume 4096\nfile peim 00000001-0000-4000-8000-000000000001\nscript pei\nblock\nset r0\n",
+        5,
+        Cause::Action(LineFault::Missing),
+    ), // an operand is missing
+    (
+        "volume 4096\nfile peim 00000001-0000-4000-8000-000000000001\nscript pei\nblock\nset r0 1 2\n",
+        5,
+        Cause::Action(LineFault::Extra),
+    ), // an operand too many
+    (
+        "volume 4096\nfile peim 00000001-0000-4000-8000-000000000001\nscript pei\nblock\nset r16 1\n",
+        5,
+        Cause::Action(LineFault::Register),
+    ), // no register
+    (
+        "volume 4096\nfile peim 00000001-0000-4000-8000-000000000001\nscript pei\nblock\nret Good\n",
+        5,
+        Cause::Action(LineFault::Status),
+    ), // no status
+    (
+        "volume 4096\nfile peim 00000001-0000-4000-8000-000000000001\nscript pei\nblock\nlog xxxxxxxxxxxxxxxxxxxxxxxxxxxxxxxxxxxxxxxxxxxxxxxxxxxxxxxxxxxxxxxxx\n",
+        5,
+        Cause::Action(LineFault::Log),
+    ), // a log of 65 bytes
+    (
+        "volume 4096\nfile peim 00000001-0000-4000-8000-000000000001\nscript pei\nblock\nhob 2 00\n",
+        5,
+        Cause::Action(LineFault::Hob),
+    ), // no HOB of a script
+    (
+        "volume 4096\nfile peim 00000001-0000-4000-8000-000000000001\nscript pei\nret Success\n",
+        4,
+        Cause::Script(ScriptCause::NoBlock),
+    ), // no `block`
+    (
+        "volume 4096\nfile peim 00000001-0000-4000-8000-000000000001\nscript pei\nblock\nlog x\nend\n",
+        6,
+        Cause::Script(ScriptCause::NoRet),
+    ), // no `ret`
+    (
+        "volume 4096\nfile peim 00000001-0000-4000-8000-000000000001\nscript pei\nblock\nskip_if 0 1\nret Success\nend\nend\n",
+        5,
+        Cause::Script(ScriptCause::Jump),
+    ), // it skips too far
+    (
+        "volume 4096\nfile peim 00000001-0000-4000-8000-000000000001\nscript pei\nblock\ndesc r1 callback 00000001-0000-4000-8000-000000000001 block 1\nret Success\nend\nend\n",
+        5,
+        Cause::Script(ScriptCause::NoSuchBlock),
+    ), // no such block
+    (
+        "volume 4096\nfile peim 00000001-0000-4000-8000-000000000001\nscript pei\nblock\nret Success\nfile peim 00000001-0000-4000-8000-000000000001\n",
+        6,
+        Cause::InScript,
+    ), // a script without its `end`
+    (
+        "volume 4096\nfile peim 00000001-0000-4000-8000-000000000001\nscript pei\nblock\nret Success\nend\nscript pei\n",
+        7,
+        Cause::TwoScripts,
+    ), // a second script of the phase
+    (
+        "volume 96\nfile raw 00000001-0000-4000-8000-000000000001\nraw 00\nend\n",
+        4,
+        Cause::NoRoom { need: 101 },
+    ), // too small a volume
+];
+
+// Whether bytes begin with a front, have a length, and are 0xff behind the front.
+fn is_filled(bytes: &[u8], len: usize, front: &[u8]) -> bool {
+    bytes.len() == len
+        && front.len() <= len
+        && bytes.iter().take(front.len()).eq(front.iter())
+        && bytes.iter().skip(front.len()).all(|byte| *byte == 0xff)
+}
+
+// Whether a text makes a volume of a length with such a front.
+fn makes(alloc: Global, text: &str, len: usize, front: &[u8]) -> bool {
+    match volume_of(alloc, text.as_bytes()) {
+        Ok(bytes) => is_filled(bytes.as_slice(), len, front),
+        Err(_) => false,
+    }
+}
+
+#[test]
+fn texts_of_the_examples_make_their_volumes(rt: HostRuntime) {
+    assert!(rt;
+        makes(
+            rt.alloc(),
+            EVERY_SERVICE_LATE_TEXT,
+            1024,
+            &EVERY_SERVICE_LATE_FRONT
+        )
+    );
+    assert!(rt;
+        makes(
+            rt.alloc(),
+            SCRIPT_BOOTED_BOOT_TEXT,
+            4096,
+            &SCRIPT_BOOTED_BOOT_FRONT
+        )
+    );
+    assert!(rt;
+        makes(
+            rt.alloc(),
+            MEMORY_MOVE_BOOT_TEXT,
+            4096,
+            &MEMORY_MOVE_BOOT_FRONT
+        )
+    );
+    assert!(rt; makes(rt.alloc(), AUDIT_MAIN_TEXT, 8192, &AUDIT_MAIN_FRONT));
+}
+
+#[test]
+fn each_mistake_is_told_with_its_line_and_cause(rt: HostRuntime) {
+    for (text, line, cause) in &MISTAKES {
+        let fault = Fault {
+            line: *line,
+            cause: *cause,
+        };
+        let is_told = match volume_of(rt.alloc(), text.as_bytes()) {
+            Ok(_) => false,
+            Err(told) => told == TextFault::Bad(fault),
+        };
+        assert!(rt; is_told);
+    }
+}

@@ -1,0 +1,66 @@
+-- What calls answer, put together.
+use Rattle.std.proofs.Common.{◌≡◌, ℕ, List, [], ◌∷◌, ◌++◌, Some, Result, Ok, Err, refl, sym, ap, subst, ◌∙◌}
+use Rattle.std.specs.Prelude.{All}
+use Rattle.std.specs.List.{AllByRecursion}
+use Rattle.std.proofs.lemmas.List.Elements.{All-nil, All-cons, All-append, All-from_recursion, recursion_from_All}
+use Rattle.pi_base.specs.declared.phase.Phase.{Phase}
+use Rattle.fv_section.specs.declared.section_type.TheConstants.{RAW}
+use Rattle.act_code.specs.declared.action.Action.{Action}
+use Rattle.act_code.specs.declared.script.Script.{Script}
+use Rattle.script_words.specs.Script.{IsSaid, AreSaid}
+use Rattle.volume_text.specs.declared.fault.Stop.{Stop}
+use Rattle.volume_text.specs.declared.fault.Stop.TheVariants as stop
+use Rattle.volume_text.specs.declared.fault.TextFault.{TextFault}
+use Rattle.volume_text.specs.declared.fault.TextFault.TheVariants as text_fault
+use Rattle.volume_text.specs.declared.statement.Statement.{Statement}
+use Rattle.volume_text.specs.declared.volume.OpenVolume.{OpenVolume}
+use Rattle.volume_text.specs.declared.step.State.{State}
+use Rattle.volume_text.specs.Reading.{Stops, StopsAs, StopsText, Answers, at}
+use Rattle.volume_text.specs.Line.{Reads}
+use Rattle.volume_text.specs.Script.{last_block, script_of, IsScriptBody}
+use Rattle.volume_text.specs.Step.{section_of, filling, at_line, EndsScript, Takes, Steps}
+use Rattle.volume_text.proofs.Lasts.{last_is}
+
+-- the last of a list, and the others
+parts : {A : Type 0} (P : A → Type 0) (xs : List A) (y : A) → AllByRecursion P (xs ++ y ∷ []) → AllByRecursion P xs × P y
+parts P [] y all = (tt, all.0)
+parts P (x ∷ xs) y all = let p = parts P xs y all.1 in ((all.0, p.0), p.1)
+
+said_more : (P : Action → Type 0) (others : List (List Action)) (last : List Action) (one : Action) → All (All P) (others ++ last ∷ []) → P one → All (All P) (others ++ (last ++ one ∷ []) ∷ [])
+said_more P others last one all is =
+    let both = parts (All P) others last (recursion_from_All (All P) (others ++ last ∷ []) all) in
+    let longer = All-append P last (one ∷ []) both.1 (All-cons P one [] is (All-nil P)) in
+    All-append (All P) others ((last ++ one ∷ []) ∷ []) (All-from_recursion (All P) others both.0) (All-cons (All P) (last ++ one ∷ []) [] longer (All-nil (All P)))
+
+-- the actions of a script with one more are such as lines say
+pub with_said : (script : Script) (others blocks : List (List Action)) (last longer : List Action) (one : Action) → last_block script.blocks ≡ Some (others, last) → AreSaid script → IsSaid script.phase one
+    → longer ≡ last ++ one ∷ [] → blocks ≡ others ++ longer ∷ [] → AreSaid (script_of script.phase blocks)
+with_said script others blocks last longer one found said is more all =
+    let whole = subst (All (All (IsSaid script.phase))) (last_is script.blocks (others, last) found) said in
+    rw (all, more) (said_more (IsSaid script.phase) others last one whole is)
+
+-- the end of a script
+pub ended_stops : (below : List OpenVolume) (top : OpenVolume) (script : Script) (slice lines : List ℕ) (line : ℕ) (why : TextFault) → slice ≡ lines → StopsText (IsScriptBody script slice line) why
+    → StopsText (EndsScript below top script lines line) why
+ended_stops below top script slice lines line (text_fault.Bad fault) same told = (Err fault, subst (λ (ls : List ℕ). IsScriptBody script ls line (Err fault)) same told, refl)
+ended_stops below top script slice lines line text_fault.Memory same told = tt
+
+pub ended_there : (below : List OpenVolume) (top : OpenVolume) (script : Script) (slice lines : List ℕ) (line : ℕ) (body : List ℕ) (state : State) → slice ≡ lines → IsScriptBody script slice line (Ok body)
+    → filling below top (section_of RAW body) ≡ Ok state → EndsScript below top script lines line (Ok state)
+ended_there below top script slice lines line body state same told is = (Ok body, subst (λ (ls : List ℕ). IsScriptBody script ls line (Ok body)) same told, ap (at line) (sym is))
+
+pub ended_not : (below : List OpenVolume) (top : OpenVolume) (script : Script) (slice lines : List ℕ) (line : ℕ) (body : List ℕ) (why : Stop) → slice ≡ lines → IsScriptBody script slice line (Ok body)
+    → Stops why (filling below top (section_of RAW body)) → StopsText (EndsScript below top script lines line) (at_line line why)
+ended_not below top script slice lines line body (stop.Fault cause) same told is = (Ok body, subst (λ (ls : List ℕ). IsScriptBody script ls line (Ok body)) same told, ap (at line) (sym is))
+ended_not below top script slice lines line body stop.Memory same told is = tt
+
+-- a line
+pub steps_by : (state : State) (number : ℕ) (line : List ℕ) (said : Statement) (result : Result State TextFault) → Reads line (Ok said) → Answers (Takes state number said) result
+    → Answers (Steps state number line) result
+steps_by state number line said (Ok next) reads takes = (Ok said, reads, takes)
+steps_by state number line said (Err (text_fault.Bad fault)) reads takes = (Ok said, reads, takes)
+steps_by state number line said (Err text_fault.Memory) reads takes = tt
+
+pub steps_not : (state : State) (number : ℕ) (line : List ℕ) (why : Stop) → StopsAs (Reads line) why → StopsText (Steps state number line) (at_line number why)
+steps_not state number line (stop.Fault cause) told = (Err cause, told, refl)
+steps_not state number line stop.Memory told = tt

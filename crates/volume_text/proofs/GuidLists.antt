@@ -1,0 +1,32 @@
+-- GUIDs to the end of a line, read one by one.
+use Rattle.std.proofs.Common.{◌≡◌, ℕ, List, [], ◌∷◌, ◌++◌, Option, Some, None, Result, Ok, Err, refl, sym, ap, ◌∙◌, append_assoc}
+use Rattle.std.proofs.lemmas.List.{append-nil}
+use Rattle.pi_base.specs.declared.guid.Guid.{Guid}
+use Rattle.source_words.specs.GuidWord.{guid_of}
+use Rattle.volume_text.specs.declared.fault.Cause.{Cause}
+use Rattle.volume_text.specs.declared.fault.Cause.TheVariants as cause
+use Rattle.volume_text.specs.Reading.{◌>>=◌, there}
+use Rattle.volume_text.specs.Bytes.{guids_of}
+
+-- bytes in front of others
+abbrev pub in_front : List ℕ → Result (List ℕ) Cause → Result (List ℕ) Cause
+in_front list (Ok others) = Ok (list ++ others)
+in_front list (Err e) = Err e
+
+regrouped : (list guid : List ℕ) (others : Result (List ℕ) Cause) → in_front list (others >>= (λ xs. Ok (guid ++ xs))) ≡ in_front (list ++ guid) others
+regrouped list guid (Ok xs) = ap Ok (sym (append_assoc list guid xs))
+regrouped list guid (Err e) = refl
+
+pub one_more : (list word : List ℕ) (others : List (List ℕ)) (guid : Guid) → guid_of word ≡ Some guid
+    → in_front list (guids_of (word ∷ others)) ≡ in_front (list ++ guid.0) (guids_of others)
+one_more list word others guid read = rw read (regrouped list guid.0 (guids_of others))
+
+pub no_guid : (list word : List ℕ) (others : List (List ℕ)) → guid_of word ≡ None → in_front list (guids_of (word ∷ others)) ≡ Err cause.Guid
+no_guid list word others read = rw read refl
+
+pub all_read : (list : List ℕ) → in_front list (guids_of []) ≡ Ok list
+all_read list = ap Ok (append-nil list)
+
+pub from_nothing : (read : Result (List ℕ) Cause) → in_front [] read ≡ read
+from_nothing (Ok xs) = refl
+from_nothing (Err e) = refl

@@ -1,0 +1,7 @@
+mod Lasts
+mod GuidLists
+mod Building
+mod Going
+mod Saying
+mod Expressions
+mod Ending

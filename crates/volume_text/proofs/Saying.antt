@@ -1,0 +1,249 @@
+-- What is open behind lines is what they say so far.
+use Rattle.std.proofs.Common.{◌≡◌, ℕ, Bool, true, false, List, [], ◌∷◌, ◌++◌, map, Option, Some, None, Result, Ok, Err, refl, sym, ap, subst, ◌∙◌, append_assoc}
+use Rattle.std.specs.Prelude.{not}
+use Rattle.std.proofs.lemmas.List.{append-nil}
+use Rattle.pi_base.specs.declared.guid.Guid.{Guid}
+use Rattle.pi_base.specs.declared.phase.Phase.{Phase}
+use Rattle.fv_section.specs.declared.section_type.TheConstants.{RAW, VOLUME_IMAGE}
+use Rattle.fv_build.specs.declared.new_file.NewFile.{NewFile}
+use Rattle.fv_build.specs.declared.new_file.NewSection.{NewSection}
+use Rattle.act_code.specs.declared.action.Action.{Action}
+use Rattle.act_code.specs.declared.script.Script.{Script}
+use Rattle.volume_text.specs.declared.fault.Cause.{Cause}
+use Rattle.volume_text.specs.declared.fault.Cause.TheVariants as cause
+use Rattle.volume_text.specs.declared.fault.Fault.{Fault}
+use Rattle.fv_build.specs.declared.file_system.FileSystem.{FileSystem}
+use Rattle.volume_text.specs.declared.statement.Statement.{Statement}
+use Rattle.volume_text.specs.declared.statement.Statement.TheVariants as said
+use Rattle.volume_text.specs.declared.volume.OpenVolume.{OpenVolume}
+use Rattle.volume_text.specs.declared.step.State.{State}
+use Rattle.volume_text.specs.declared.step.State.TheVariants.{Begin, Filling, Writing, Done}
+use Rattle.volume_text.specs.Reading.{◌>>=◌, at, onward, only_if}
+use Rattle.volume_text.specs.Line.{Reads}
+use Rattle.volume_text.specs.Open.{last_of, holding, with_files, with_last, with_section, new_file, depex_type, has_part, has_script, only_part, part_checked, only_first, script_checked, built_of}
+use Rattle.volume_text.specs.Script.{script_of, with_action, into_last, action_at, IsScriptBody}
+use Rattle.volume_text.specs.Step.{section_of, new_volume, begun, filling, nested_in, closed_in, filled, written, goes_on, EndsScript, outside, TakesInScript, Takes, TakesRead, Steps}
+use Rattle.volume_text.specs.Volume.{SaysLine, SayBlocks, no_block, block, action, SayFiles, no_file, file, section, depex, script, volume, SaysVolume}
+use Rattle.volume_text.specs.Text.{numbered, Goes, Says}
+use Rattle.volume_text.proofs.Lasts.{last_push, last_is}
+
+-- volumes that are open behind lines, the innermost apart
+data Opened : List (List ℕ) → List OpenVolume → OpenVolume → Type 0 where
+  outer : (line : List ℕ) (inner : List (List ℕ)) (top : OpenVolume)
+      → SaysLine line (said.Volume top.file_system top.len) → SayFiles inner top.files → Opened (line ∷ inner) [] top
+  nested : (front : List (List ℕ)) (below : List OpenVolume) (parent : OpenVolume) (line : List ℕ) (inner : List (List ℕ)) (top : OpenVolume)
+      → Opened front below parent → SaysLine line (said.Volume top.file_system top.len) → SayFiles inner top.files
+      → Opened (front ++ line ∷ inner) (below ++ parent ∷ []) top
+
+record WritesIn (lines : List (List ℕ)) (below : List OpenVolume) (top : OpenVolume) (one : Script) : Type 0 where
+  front : List (List ℕ)
+  line : List ℕ
+  inner : List (List ℕ)
+  here : lines ≡ front ++ line ∷ inner
+  opened : Opened front below top
+  begins : SaysLine line (said.Script one.phase)
+  checked : script_checked one.phase top ≡ Ok tt
+  blocks : SayBlocks one.phase inner one.blocks
+
+abbrev Stands : List (List ℕ) → State → Type 0
+Stands lines Begin = lines ≡ []
+Stands lines (Filling below top) = Opened lines below top
+Stands lines (Writing below top one numbers) = WritesIn lines below top one
+Stands lines (Done bytes) = SaysVolume lines bytes
+
+-- answers of calls
+same_Ok : {A E : Type 0} (x y : A) → ◌≡◌ {A = Result A E} (Ok x) (Ok y) → x ≡ y
+same_Ok x y e = cc
+
+bound : {A B : Type 0} (r : Result A Cause) (f : A → Result B Cause) (b : B) → (r >>= f) ≡ Ok b → (a : A) × (r ≡ Ok a) × (f a ≡ Ok b)
+bound (Ok a) f b e = (a, refl, e)
+bound (Err c) f b e = absurd cc
+
+at_ok : (line : ℕ) (r : Result State Cause) (to : State) → Ok to ≡ at line r → r ≡ Ok to
+at_ok line (Ok x) to e = ap Ok (sym (same_Ok to x e))
+at_ok line (Err c) to e = absurd cc
+
+passes : (test : Bool) (c : Cause) (x : Unit {0}) → only_if test c tt ≡ Ok x → test ≡ true
+passes true c x e = refl
+passes false c x e = absurd cc
+
+not_true : (test : Bool) → not test ≡ true → test ≡ false
+not_true true e = absurd cc
+not_true false e = refl
+
+-- a volume with other files, of which more lines tell
+opened_more : (lines : List (List ℕ)) (below : List OpenVolume) (top : OpenVolume) (more : List (List ℕ)) (files : List NewFile) → Opened lines below top
+    → ((inner : List (List ℕ)) → SayFiles inner top.files → SayFiles (inner ++ more) files) → Opened (lines ++ more) below (with_files top files)
+opened_more lines below top more files (outer line inner _ begins say) on = outer line (inner ++ more) (with_files top files) begins (on inner say)
+opened_more lines below top more files (nested front under parent line inner _ opened begins say) on =
+    subst (λ (ls : List (List ℕ)). Opened ls (under ++ parent ∷ []) (with_files top files)) (sym (append_assoc front (line ∷ inner) more))
+    (nested front under parent line (inner ++ more) (with_files top files) opened begins (on inner say))
+
+-- a section more
+held : (top next : OpenVolume) (one : NewSection) (o : Option (List NewFile × NewFile)) → last_of top.files ≡ o → with_last top one o ≡ Ok next
+    → (files : List NewFile) × (last : NewFile) × (top.files ≡ files ++ last ∷ []) × (with_files top (files ++ holding one last ∷ []) ≡ next)
+held top next one None is e = absurd cc
+held top next one (Some parts) is e = (parts.0, parts.1, last_is top.files parts is, same_Ok _ next e)
+
+filled_more : (lines more : List (List ℕ)) (below : List OpenVolume) (top : OpenVolume) (one : NewSection) (to : State) → Opened lines below top → filling below top one ≡ Ok to
+    → ((inner : List (List ℕ)) (files : List NewFile) (last : NewFile) → top.files ≡ files ++ last ∷ [] → SayFiles inner (files ++ last ∷ []) → SayFiles (inner ++ more) (files ++ holding one last ∷ []))
+    → Stands (lines ++ more) to
+filled_more lines more below top one to opened e on =
+    let with_it = bound (with_section top one) (λ next. Ok (Filling below next)) to e in
+    let parts = held top with_it.0 one (last_of top.files) refl with_it.1 in
+    let files = parts.0 ++ holding one parts.1 ∷ [] in
+    let told : Opened (lines ++ more) below (with_files top files) =
+    opened_more lines below top more files opened (λ inner say. on inner parts.0 parts.1 parts.2 (subst (λ (fs : List NewFile). SayFiles inner fs) parts.2 say)) in
+    let there : Opened (lines ++ more) below with_it.0 = subst (λ (v : OpenVolume). Opened (lines ++ more) below v) parts.3 told in
+    subst (λ (s : State). Stands (lines ++ more) s) (same_Ok (Filling below with_it.0) to with_it.2) there
+
+-- what was looked at in the last file
+has_it : (top : OpenVolume) (files : List NewFile) (last : NewFile) (phase : Phase) (x : Unit {0}) → top.files ≡ files ++ last ∷ [] → part_checked phase top ≡ Ok x → has_part last.kind phase ≡ true
+has_it top files last phase x is e =
+    let found : last_of top.files ≡ Some (files, last) = ap last_of is ∙ last_push files last in
+    passes (has_part last.kind phase) cause.NoPart x (ap (only_part phase) (sym found) ∙ e)
+
+first_script : (top : OpenVolume) (files : List NewFile) (last : NewFile) (phase : Phase) (x : Unit {0}) → top.files ≡ files ++ last ∷ [] → only_first phase (last_of top.files) ≡ Ok x → has_script phase last ≡ false
+first_script top files last phase x is e =
+    let found : last_of top.files ≡ Some (files, last) = ap last_of is ∙ last_push files last in
+    not_true (has_script phase last) (passes (not (has_script phase last)) cause.TwoScripts x (ap (only_first phase) (sym found) ∙ e))
+
+-- a statement more in a volume
+ends : (lines : List (List ℕ)) (below : List OpenVolume) (top : OpenVolume) (line bytes : List ℕ) (to : State) → Opened lines below top → SaysLine line said.End → built_of top ≡ Ok bytes
+    → closed_in bytes (last_of below) ≡ Ok to → Stands (lines ++ line ∷ []) to
+ends lines below top line bytes to (outer own inner _ begins say) end built e =
+    let told : SaysVolume (own ∷ (inner ++ line ∷ [])) bytes = record { line = own; inner = inner; end = line; volume = top; here = refl; begins = begins; files = say; ends = end; built = built } in
+    subst (λ (s : State). Stands (own ∷ (inner ++ line ∷ [])) s) (same_Ok (Done bytes) to e) told
+ends lines below top line bytes to (nested front under parent own inner _ opened begins say) end built e =
+    let found = ap (closed_in bytes) (sym (last_push under parent)) ∙ e in
+    subst (λ (ls : List (List ℕ)). Stands ls to) (sym (append_assoc front (own ∷ inner) (line ∷ [])))
+    (filled_more front (own ∷ (inner ++ line ∷ [])) under parent (section_of VOLUME_IMAGE bytes) to opened found
+    (λ before files last is told. volume before files last own inner top line bytes told begins say end built))
+
+begins_nested : (files : List NewFile) (lines : List (List ℕ)) (below : List OpenVolume) (top : OpenVolume) (line : List ℕ) (file_system : FileSystem) (len : ℕ) (to : State)
+    → Opened lines below top → SaysLine line (said.Volume file_system len) → nested_in files below top file_system len ≡ Ok to → Stands (lines ++ line ∷ []) to
+begins_nested [] lines below top line file_system len to opened says e = absurd cc
+begins_nested (one ∷ files) lines below top line file_system len to opened says e =
+    subst (λ (s : State). Stands (lines ++ line ∷ []) s) (same_Ok (Filling (below ++ top ∷ []) (new_volume file_system len)) to e)
+    (nested lines below top line [] (new_volume file_system len) opened says no_file)
+
+in_volume : (lines : List (List ℕ)) (below : List OpenVolume) (top : OpenVolume) (line : List ℕ) (one : Statement) (to : State) → Opened lines below top → SaysLine line one
+    → filled below top one ≡ Ok to → Stands (lines ++ line ∷ []) to
+in_volume lines below top line (said.Volume file_system len) to opened says e = begins_nested top.files lines below top line file_system len to opened says e
+in_volume lines below top line (said.File kind name) to opened says e =
+    subst (λ (s : State). Stands (lines ++ line ∷ []) s) (same_Ok (Filling below (with_files top (top.files ++ new_file kind name ∷ []))) to e)
+    (opened_more lines below top (line ∷ []) (top.files ++ new_file kind name ∷ []) opened (λ inner say. file inner top.files line kind name say says))
+in_volume lines below top line (said.Section kind body) to opened says e =
+    filled_more lines (line ∷ []) below top (section_of kind body) to opened e (λ inner files last is say. section inner files last line kind body say says)
+in_volume lines below top line (said.Depex phase body) to opened says e =
+    let parts = bound (part_checked phase top) (λ _. filling below top (section_of (depex_type phase) body)) to e in
+    filled_more lines (line ∷ []) below top (section_of (depex_type phase) body) to opened parts.2
+    (λ inner files last is say. depex inner files last line phase body say says (has_it top files last phase parts.0 is parts.1))
+in_volume lines below top line (said.Script phase) to opened says e =
+    let parts = bound (script_checked phase top) (λ _. Ok (Writing below top (script_of phase []) [])) to e in
+    subst (λ (s : State). Stands (lines ++ line ∷ []) s) (same_Ok (Writing below top (script_of phase []) []) to parts.2)
+    (record { front = lines; line = line; inner = []; here = refl; opened = opened; begins = says; checked = parts.1; blocks = no_block })
+in_volume lines below top line said.End to opened says e =
+    let parts = bound (built_of top) (λ bytes. closed_in bytes (last_of below)) to e in
+    ends lines below top line parts.0 to opened says parts.1 parts.2
+in_volume lines below top line said.Block to opened says e = absurd cc
+in_volume lines below top line (said.Action text) to opened says e = absurd cc
+
+-- a statement more in a script
+writes_more : (lines : List (List ℕ)) (below : List OpenVolume) (top : OpenVolume) (one : Script) (line : List ℕ) (blocks : List (List Action)) → WritesIn lines below top one
+    → ((inner : List (List ℕ)) → SayBlocks one.phase inner one.blocks → SayBlocks one.phase (inner ++ line ∷ []) blocks) → WritesIn (lines ++ line ∷ []) below top (script_of one.phase blocks)
+writes_more lines below top one line blocks w on = record {
+  front = w.front;
+  line = w.line;
+  inner = w.inner ++ line ∷ [];
+  here = ap (λ ls. ls ++ line ∷ []) w.here ∙ append_assoc w.front (w.line ∷ w.inner) (line ∷ []);
+  opened = w.opened;
+  begins = w.begins;
+  checked = w.checked;
+  blocks = on w.inner w.blocks;
+}
+
+acts : (lines : List (List ℕ)) (below : List OpenVolume) (top : OpenVolume) (one next : Script) (line text : List ℕ) (o : Option (List (List Action) × List Action)) → last_of one.blocks ≡ o
+    → WritesIn lines below top one → SaysLine line (said.Action text) → into_last one.phase text o ≡ Ok next → WritesIn (lines ++ line ∷ []) below top next
+acts lines below top one next line text None is w says e = absurd cc
+acts lines below top one next line text (Some parts) is w says e =
+    let found = bound (action_at one.phase text) (λ a. Ok (script_of one.phase (parts.0 ++ (parts.1 ++ a ∷ []) ∷ []))) next e in
+    let blocks = parts.0 ++ (parts.1 ++ found.0 ∷ []) ∷ [] in
+    subst (λ (s : Script). WritesIn (lines ++ line ∷ []) below top s) (same_Ok (script_of one.phase blocks) next found.2)
+    (writes_more lines below top one line blocks w
+    (λ inner say. action inner parts.0 parts.1 line text found.0 (subst (λ (bs : List (List Action)). SayBlocks one.phase inner bs) (last_is one.blocks parts is) say) says found.1))
+
+wrote : (lines : List (List ℕ)) (below : List OpenVolume) (top : OpenVolume) (one next : Script) (line : List ℕ) (what : Statement) → WritesIn lines below top one → SaysLine line what
+    → written one what ≡ Ok next → WritesIn (lines ++ line ∷ []) below top next
+wrote lines below top one next line said.Block w says e =
+    subst (λ (s : Script). WritesIn (lines ++ line ∷ []) below top s) (same_Ok (script_of one.phase (one.blocks ++ [] ∷ [])) next e)
+    (writes_more lines below top one line (one.blocks ++ [] ∷ []) w (λ inner say. block inner one.blocks line say says))
+wrote lines below top one next line (said.Action text) w says e = acts lines below top one next line text (last_of one.blocks) refl w says e
+wrote lines below top one next line (said.Volume file_system len) w says e = absurd cc
+wrote lines below top one next line (said.File kind name) w says e = absurd cc
+wrote lines below top one next line (said.Section kind body) w says e = absurd cc
+wrote lines below top one next line (said.Depex phase body) w says e = absurd cc
+wrote lines below top one next line (said.Script phase) w says e = absurd cc
+wrote lines below top one next line said.End w says e = absurd cc
+
+went_on : (lines : List (List ℕ)) (below : List OpenVolume) (top : OpenVolume) (one : Script) (numbers : List ℕ) (number : ℕ) (line : List ℕ) (what : Statement) (to : State) → WritesIn lines below top one → SaysLine line what
+    → Ok to ≡ goes_on below top one numbers number what → Stands (lines ++ line ∷ []) to
+went_on lines below top one numbers number line what to w says e =
+    let parts = bound (written one what) (λ next. Ok (Writing below top next (numbers ++ number ∷ []))) to (at_ok number _ to e) in
+    subst (λ (s : State). Stands (lines ++ line ∷ []) s) (same_Ok (Writing below top parts.0 (numbers ++ number ∷ [])) to parts.2) (wrote lines below top one parts.0 line what w says parts.1)
+
+ended : (lines : List (List ℕ)) (below : List OpenVolume) (top : OpenVolume) (one : Script) (numbers : List ℕ) (number : ℕ) (line : List ℕ) (to : State) (body : Result (List ℕ) Fault) → WritesIn lines below top one → SaysLine line said.End
+    → IsScriptBody one numbers number body → Ok to ≡ onward body (λ bytes. at number (filling below top (section_of RAW bytes))) → Stands (lines ++ line ∷ []) to
+ended lines below top one numbers number line to (Err fault) w says is e = absurd cc
+ended lines below top one numbers number line to (Ok bytes) w says is e =
+    let parts = bound (part_checked one.phase top) (λ _. only_first one.phase (last_of top.files)) tt w.checked in
+    let all = ap (λ ls. ls ++ line ∷ []) w.here ∙ append_assoc w.front (w.line ∷ w.inner) (line ∷ []) in
+    subst (λ (ls : List (List ℕ)). Stands ls to) (sym all)
+    (filled_more w.front (w.line ∷ (w.inner ++ line ∷ [])) below top (section_of RAW bytes) to w.opened (at_ok number _ to e)
+    (λ before files last held say. script before files last w.line one.phase w.inner one.blocks line bytes say w.begins
+    (has_it top files last one.phase parts.0 held parts.1) (first_script top files last one.phase tt held parts.2) w.blocks says is))
+
+in_script : (lines : List (List ℕ)) (below : List OpenVolume) (top : OpenVolume) (one : Script) (numbers : List ℕ) (number : ℕ) (line : List ℕ) (what : Statement) (to : State) → WritesIn lines below top one → SaysLine line what
+    → TakesInScript below top one numbers number what (Ok to) → Stands (lines ++ line ∷ []) to
+in_script lines below top one numbers number line said.End to w says t = ended lines below top one numbers number line to t.0 w says t.1 t.2
+in_script lines below top one numbers number line said.Block to w says t = went_on lines below top one numbers number line said.Block to w says t
+in_script lines below top one numbers number line (said.Action text) to w says t = went_on lines below top one numbers number line (said.Action text) to w says t
+in_script lines below top one numbers number line (said.Volume file_system len) to w says t = went_on lines below top one numbers number line (said.Volume file_system len) to w says t
+in_script lines below top one numbers number line (said.File kind name) to w says t = went_on lines below top one numbers number line (said.File kind name) to w says t
+in_script lines below top one numbers number line (said.Section kind body) to w says t = went_on lines below top one numbers number line (said.Section kind body) to w says t
+in_script lines below top one numbers number line (said.Depex phase body) to w says t = went_on lines below top one numbers number line (said.Depex phase body) to w says t
+in_script lines below top one numbers number line (said.Script phase) to w says t = went_on lines below top one numbers number line (said.Script phase) to w says t
+
+-- the first line
+first : (lines : List (List ℕ)) (line : List ℕ) (what : Statement) (to : State) → lines ≡ [] → SaysLine line what → begun what ≡ Ok to → Stands (lines ++ line ∷ []) to
+first lines line (said.Volume file_system len) to none says e =
+    subst (λ (ls : List (List ℕ)). Stands (ls ++ line ∷ []) to) (sym none)
+    (subst (λ (s : State). Stands (line ∷ []) s) (same_Ok (Filling [] (new_volume file_system len)) to e) (outer line [] (new_volume file_system len) says no_file))
+first lines line (said.File kind name) to none says e = absurd cc
+first lines line (said.Section kind body) to none says e = absurd cc
+first lines line (said.Depex phase body) to none says e = absurd cc
+first lines line (said.Script phase) to none says e = absurd cc
+first lines line said.Block to none says e = absurd cc
+first lines line said.End to none says e = absurd cc
+first lines line (said.Action text) to none says e = absurd cc
+
+takes : (lines : List (List ℕ)) (from : State) (number : ℕ) (line : List ℕ) (what : Statement) (to : State) → Stands lines from → SaysLine line what → Takes from number what (Ok to) → Stands (lines ++ line ∷ []) to
+takes lines Begin number line what to stands says t = first lines line what to stands says (at_ok number (begun what) to t)
+takes lines (Filling below top) number line what to stands says t = in_volume lines below top line what to stands says (at_ok number (filled below top what) to t)
+takes lines (Writing below top one numbers) number line what to stands says t = in_script lines below top one numbers number line what to stands says t
+takes lines (Done bytes) number line what to stands says t = absurd cc
+
+takes_read : (lines : List (List ℕ)) (from : State) (number : ℕ) (line : List ℕ) (to : State) (read : Result Statement Cause) → Stands lines from → Reads line read → TakesRead from number read (Ok to) → Stands (lines ++ line ∷ []) to
+takes_read lines from number line to (Ok what) stands reads t = takes lines from number line what to stands reads t
+takes_read lines from number line to (Err c) stands reads t = absurd cc
+
+stands_behind : (before : List (List ℕ)) (from : State) (lines : List (ℕ × List ℕ)) (to : State) → Stands before from → Goes from lines to → Stands (before ++ map (λ line. line.1) lines) to
+stands_behind before from [] to stands goes =
+    subst (λ (ls : List (List ℕ)). Stands ls to) (sym (append-nil before)) (subst (λ (s : State). Stands before s) goes stands)
+stands_behind before from (line ∷ lines) to stands goes =
+    subst (λ (ls : List (List ℕ)). Stands ls to) (append_assoc before (line.1 ∷ []) (map (λ one. one.1) lines))
+    (stands_behind (before ++ line.1 ∷ []) goes.0 lines to (takes_read before from line.0 line.1 goes.0 goes.1.0 stands goes.1.1 goes.1.2) goes.2)
+
+-- behind all lines the volume has ended, so they say it
+pub says : (text bytes : List ℕ) → Goes Begin (numbered text) (Done bytes) → Says text bytes
+says text bytes goes = stands_behind [] Begin (numbered text) (Done bytes) refl goes

@@ -1,0 +1,10 @@
+pub mod Reading
+pub mod Keywords
+pub mod Words
+pub mod Bytes
+pub mod Line
+pub mod Open
+pub mod Script
+pub mod Step
+pub mod Volume
+pub mod Text

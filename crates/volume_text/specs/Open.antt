@@ -1,0 +1,122 @@
+-- What is open behind some lines of a text (own): a volume with its files so far, of which the last may get sections.
+use Rattle.std.specs.Prelude.{◌≡◌, ℕ, Bool, ◌&&◌, ◌==◌, not, take, bytes_eq, if◌then◌else◌, List, [], ◌∷◌, ◌++◌, Option, Some, None, Result, Ok, Err}
+use Rattle.std.specs.List.{list_any}
+use Rattle.std.specs.Borrow.{Bor}
+use Rattle.pi_base.specs.declared.guid.Guid.{Guid}
+use Rattle.pi_base.specs.declared.phase.Phase.{Phase}
+use Rattle.pi_base.specs.declared.phase.Phase.TheVariants.{Pei, Dxe}
+use Rattle.fv_volume.specs.declared.file_type.TheConstants.{PEIM, DRIVER, COMBINED_MM_DXE}
+use Rattle.fv_section.specs.declared.section_type.TheConstants.{RAW, PEI_DEPEX, DXE_DEPEX}
+use Rattle.fv_build.specs.declared.new_file.NewFile.{NewFile}
+use Rattle.fv_build.specs.declared.new_file.NewSection.{NewSection}
+use Rattle.fv_build.specs.declared.fault.BuildFault.{BuildFault}
+use Rattle.fv_build.specs.declared.fault.BuildFault.TheVariants as build_fault
+use Rattle.fv_build.specs.Building.{built, fault_of}
+use Rattle.volume_text.specs.declared.fault.Cause.{Cause}
+use Rattle.volume_text.specs.declared.fault.Cause.TheVariants as cause
+use Rattle.volume_text.specs.declared.fault.Stop.{Stop}
+use Rattle.volume_text.specs.declared.fault.Stop.TheVariants as stop
+use Rattle.volume_text.specs.declared.volume.OpenVolume.{OpenVolume}
+use Rattle.volume_text.specs.Reading.{◌>>=◌, only_if}
+use Rattle.volume_text.specs.Words.{is_length}
+
+abbrev pub with_first : {A : Type 0} → A → Option (List A × A) → Option (List A × A)
+with_first first None = Some ([], first)
+with_first first (Some parts) = Some (first ∷ parts.0, parts.1)
+
+-- all things of a list but the last, and the last
+abbrev pub last_of : {A : Type 0} → List A → Option (List A × A)
+last_of [] = None
+last_of (first ∷ others) = with_first first (last_of others)
+
+-- the file with one more section
+abbrev pub holding : NewSection → NewFile → NewFile
+holding section file = record { name = file.name; kind = file.kind; sections = file.sections ++ section ∷ [] }
+
+abbrev pub with_files : OpenVolume → List NewFile → OpenVolume
+with_files volume files = record { file_system = volume.file_system; len = volume.len; files = files }
+
+abbrev pub with_last : OpenVolume → NewSection → Option (List NewFile × NewFile) → Result OpenVolume Cause
+with_last volume section None = Err cause.NoFile
+with_last volume section (Some parts) = Ok (with_files volume (parts.0 ++ holding section parts.1 ∷ []))
+
+-- the volume with one more section in its last file
+abbrev pub with_section : OpenVolume → NewSection → Result OpenVolume Cause
+with_section volume section = with_last volume section (last_of volume.files)
+
+abbrev pub new_file : ℕ → Guid → NewFile
+new_file kind name = record { name = name; kind = kind; sections = [] }
+
+-- the volume with one more file
+abbrev pub with_file : OpenVolume → ℕ → Guid → OpenVolume
+with_file volume kind name = with_files volume (volume.files ++ new_file kind name ∷ [])
+
+-- the type of the section with the expression for a phase
+abbrev pub depex_type : Phase → ℕ
+depex_type Pei = PEI_DEPEX
+depex_type Dxe = DXE_DEPEX
+
+-- a PEIM has a part for PEI alone, a driver and an MM module of DXE one for DXE alone (PI 1.8, volume 3, file types)
+abbrev pub has_part : ℕ → Phase → Bool
+has_part kind Pei = not (kind == DRIVER) && not (kind == COMBINED_MM_DXE)
+has_part kind Dxe = not (kind == PEIM)
+
+abbrev pub phase_byte : Phase → ℕ
+phase_byte Pei = 1
+phase_byte Dxe = 2
+
+-- what a script of a phase begins with: the magic, the version and the phase
+abbrev pub script_front : Phase → List ℕ
+script_front phase = 80 ∷ (73 ∷ (65 ∷ (83 ∷ (1 ∷ (phase_byte phase ∷ [])))))
+
+-- the section is a script of a phase
+abbrev pub is_script_of : Phase → NewSection → Bool
+is_script_of phase section = (section.kind == RAW) && bytes_eq (take 6 section.body) (script_front phase)
+
+abbrev pub has_script : Phase → NewFile → Bool
+has_script phase file = list_any (is_script_of phase) file.sections
+
+-- the last of the files, where there is one
+abbrev pub IsLastFile : Option (Bor NewFile) → List NewFile → Type 0
+IsLastFile None files = last_of files ≡ None
+IsLastFile (Some last) files = (front : List NewFile) × (last_of files ≡ Some (front, last.now))
+
+abbrev pub only_with_part : Phase → NewFile → Result (Unit {0}) Cause
+only_with_part phase file = only_if (has_part file.kind phase) cause.NoPart tt
+
+abbrev pub only_without_script : Phase → NewFile → Result (Unit {0}) Cause
+only_without_script phase file = only_if (not (has_script phase file)) cause.TwoScripts tt
+
+abbrev pub only_part : Phase → Option (List NewFile × NewFile) → Result (Unit {0}) Cause
+only_part phase None = Err cause.NoFile
+only_part phase (Some parts) = only_with_part phase parts.1
+
+-- the last file has a part for a phase
+abbrev pub part_checked : Phase → OpenVolume → Result (Unit {0}) Cause
+part_checked phase volume = only_part phase (last_of volume.files)
+
+abbrev pub only_first : Phase → Option (List NewFile × NewFile) → Result (Unit {0}) Cause
+only_first phase None = Err cause.NoFile
+only_first phase (Some parts) = only_without_script phase parts.1
+
+-- the last file may get a script of a phase
+abbrev pub script_checked : Phase → OpenVolume → Result (Unit {0}) Cause
+script_checked phase volume = part_checked phase volume >>= (λ _. only_first phase (last_of volume.files))
+
+-- what stands against a volume, as what is wrong with its `end`
+abbrev pub stop_of : BuildFault → Stop
+stop_of build_fault.TooMany = stop.Fault cause.TooMany
+stop_of build_fault.Size = stop.Fault cause.Size
+stop_of (build_fault.NoRoom need have) = stop.Fault (cause.NoRoom need)
+stop_of build_fault.Memory = stop.Memory
+
+abbrev pub refused_by : OpenVolume → Option BuildFault → Result (List ℕ) Cause
+refused_by volume None = Ok (built volume.file_system volume.files volume.len)
+refused_by volume (Some build_fault.TooMany) = Err cause.TooMany
+refused_by volume (Some build_fault.Size) = Err cause.Size
+refused_by volume (Some (build_fault.NoRoom need have)) = Err (cause.NoRoom need)
+refused_by volume (Some build_fault.Memory) = Ok (built volume.file_system volume.files volume.len)
+
+-- the bytes of a volume at its `end`
+abbrev pub built_of : OpenVolume → Result (List ℕ) Cause
+built_of volume = if is_length volume.len then refused_by volume (fault_of volume.file_system volume.files volume.len) else Err cause.Range

@@ -1,0 +1,64 @@
+-- What lines say, as whole lists (own): the blocks of a script, the files of a volume, and a volume.
+use Rattle.std.specs.Prelude.{◌≡◌, ℕ, true, false, List, [], ◌∷◌, ◌++◌, Result, Ok, Err}
+use Rattle.pi_base.specs.declared.guid.Guid.{Guid}
+use Rattle.pi_base.specs.declared.phase.Phase.{Phase}
+use Rattle.fv_section.specs.declared.section_type.TheConstants.{RAW, VOLUME_IMAGE}
+use Rattle.fv_build.specs.declared.new_file.NewFile.{NewFile}
+use Rattle.act_code.specs.declared.action.Action.{Action}
+use Rattle.act_code.specs.Script.{IsScript}
+use Rattle.fv_build.specs.declared.file_system.FileSystem.{FileSystem}
+use Rattle.volume_text.specs.declared.statement.Statement.{Statement}
+use Rattle.volume_text.specs.declared.statement.Statement.TheVariants.{Volume, File, Section, Depex, Script, Block, End, Action as ActionLine}
+use Rattle.volume_text.specs.declared.volume.OpenVolume.{OpenVolume}
+use Rattle.volume_text.specs.Line.{Reads}
+use Rattle.volume_text.specs.Open.{holding, new_file, depex_type, has_part, has_script, built_of}
+use Rattle.volume_text.specs.Script.{action_at, script_of}
+use Rattle.volume_text.specs.Step.{section_of}
+
+-- the line says this
+abbrev pub SaysLine : List ℕ → Statement → Type 0
+SaysLine line said = Reads line (Ok said)
+
+-- the lines of a script of a phase, between its own and its `end`, say these blocks
+pub data SayBlocks (phase : Phase) : List (List ℕ) → List (List Action) → Type 0 where
+  no_block : SayBlocks phase [] []
+  block : (lines : List (List ℕ)) (blocks : List (List Action)) (line : List ℕ)
+      → SayBlocks phase lines blocks → SaysLine line Block
+      → SayBlocks phase (lines ++ line ∷ []) (blocks ++ [] ∷ [])
+  action : (lines : List (List ℕ)) (blocks : List (List Action)) (actions : List Action) (line text : List ℕ) (one : Action)
+      → SayBlocks phase lines (blocks ++ actions ∷ []) → SaysLine line (ActionLine text) → action_at phase text ≡ Ok one
+      → SayBlocks phase (lines ++ line ∷ []) (blocks ++ (actions ++ one ∷ []) ∷ [])
+
+-- the lines of a volume, between its own and its `end`, say these files; what is in a file stands behind the file's own line
+pub data SayFiles : List (List ℕ) → List NewFile → Type 0 where
+  no_file : SayFiles [] []
+  file : (lines : List (List ℕ)) (files : List NewFile) (line : List ℕ) (kind : ℕ) (name : Guid)
+      → SayFiles lines files → SaysLine line (File kind name)
+      → SayFiles (lines ++ line ∷ []) (files ++ new_file kind name ∷ [])
+  section : (lines : List (List ℕ)) (files : List NewFile) (last : NewFile) (line : List ℕ) (kind : ℕ) (body : List ℕ)
+      → SayFiles lines (files ++ last ∷ []) → SaysLine line (Section kind body)
+      → SayFiles (lines ++ line ∷ []) (files ++ holding (section_of kind body) last ∷ [])
+  depex : (lines : List (List ℕ)) (files : List NewFile) (last : NewFile) (line : List ℕ) (phase : Phase) (body : List ℕ)
+      → SayFiles lines (files ++ last ∷ []) → SaysLine line (Depex phase body) → has_part last.kind phase ≡ true
+      → SayFiles (lines ++ line ∷ []) (files ++ holding (section_of (depex_type phase) body) last ∷ [])
+  script : (lines : List (List ℕ)) (files : List NewFile) (last : NewFile) (line : List ℕ) (phase : Phase)
+      (inner : List (List ℕ)) (blocks : List (List Action)) (end body : List ℕ)
+      → SayFiles lines (files ++ last ∷ []) → SaysLine line (Script phase) → has_part last.kind phase ≡ true → has_script phase last ≡ false
+      → SayBlocks phase inner blocks → SaysLine end End → IsScript body (script_of phase blocks)
+      → SayFiles (lines ++ line ∷ (inner ++ end ∷ [])) (files ++ holding (section_of RAW body) last ∷ [])
+  volume : (lines : List (List ℕ)) (files : List NewFile) (last : NewFile) (line : List ℕ) (inner : List (List ℕ)) (one : OpenVolume) (end body : List ℕ)
+      → SayFiles lines (files ++ last ∷ []) → SaysLine line (Volume one.file_system one.len)
+      → SayFiles inner one.files → SaysLine end End → built_of one ≡ Ok body
+      → SayFiles (lines ++ line ∷ (inner ++ end ∷ [])) (files ++ holding (section_of VOLUME_IMAGE body) last ∷ [])
+
+-- the lines, which are a volume's own, those of its files and its `end`, say the volume of these bytes
+pub record SaysVolume (lines : List (List ℕ)) (bytes : List ℕ) : Type 0 where
+  pub line : List ℕ
+  pub inner : List (List ℕ)
+  pub end : List ℕ
+  pub volume : OpenVolume
+  pub here : lines ≡ line ∷ (inner ++ end ∷ [])
+  pub begins : SaysLine line (Volume volume.file_system volume.len)
+  pub files : SayFiles inner volume.files
+  pub ends : SaysLine end End
+  pub built : built_of volume ≡ Ok bytes

@@ -1,0 +1,65 @@
+-- The words of a line, each as the value that it shows, and the words behind it (own).
+use Rattle.std.specs.Prelude.{ℕ, Bool, nat_le, ◌&&◌, List, [], ◌∷◌, Result, Ok, Err}
+use Rattle.pi_base.specs.declared.guid.Guid.{Guid}
+use Rattle.pi_base.specs.declared.phase.Phase.{Phase}
+use Rattle.fv_build.specs.declared.volume_header.TheConstants.{HEADER_LEN}
+use Rattle.fv_build.specs.declared.build.TheConstants.{MOST_LEN}
+use Rattle.line_words.specs.Number.{number_of}
+use Rattle.source_words.specs.GuidWord.{guid_of}
+use Rattle.volume_text.specs.declared.fault.Cause.{Cause}
+use Rattle.volume_text.specs.declared.fault.Cause.TheVariants as cause
+use Rattle.fv_build.specs.declared.file_system.FileSystem.{FileSystem}
+use Rattle.fv_build.specs.declared.file_system.FileSystem.TheVariants.{Ffs2}
+use Rattle.volume_text.specs.Keywords.{phase_of, system_of, file_type_of, byte_of}
+use Rattle.volume_text.specs.Reading.{◌>>=◌, only_if, there}
+
+-- the first word, and the others
+abbrev pub word_at : List (List ℕ) → Result (List ℕ × List (List ℕ)) Cause
+word_at [] = Err cause.Missing
+word_at (word ∷ words) = Ok (word, words)
+
+abbrev pub none_left : List (List ℕ) → Result (Unit {0}) Cause
+none_left [] = Ok tt
+none_left (word ∷ words) = Err cause.Extra
+
+unfoldable pub guid_at : List (List ℕ) → Result (Guid × List (List ℕ)) Cause
+guid_at words = do
+  w ← word_at words
+  guid ← there cause.Guid (guid_of w.0)
+  Ok (guid, w.1)
+
+unfoldable pub phase_at : List (List ℕ) → Result (Phase × List (List ℕ)) Cause
+phase_at words = do
+  w ← word_at words
+  phase ← there cause.Word (phase_of w.0)
+  Ok (phase, w.1)
+
+-- a volume has a length from that of its header to 64 MiB
+abbrev pub is_length : ℕ → Bool
+is_length len = nat_le HEADER_LEN len && nat_le len MOST_LEN
+
+unfoldable pub length_at : List (List ℕ) → Result (ℕ × List (List ℕ)) Cause
+length_at words = do
+  w ← word_at words
+  len ← there cause.Number (number_of w.0)
+  only_if (is_length len) cause.Range (len, w.1)
+
+-- the file system that the last word names, FFS2 where there is none
+unfoldable pub system_at : List (List ℕ) → Result FileSystem Cause
+system_at [] = Ok Ffs2
+system_at (word ∷ words) = do
+  system ← there cause.Word (system_of word)
+  _ ← none_left words
+  Ok system
+
+unfoldable pub file_type_at : List (List ℕ) → Result (ℕ × List (List ℕ)) Cause
+file_type_at words = do
+  w ← word_at words
+  kind ← there cause.FileType (file_type_of w.0)
+  Ok (kind, w.1)
+
+unfoldable pub section_type_at : List (List ℕ) → Result (ℕ × List (List ℕ)) Cause
+section_type_at words = do
+  w ← word_at words
+  kind ← there cause.SectionType (byte_of w.0)
+  Ok (kind, w.1)

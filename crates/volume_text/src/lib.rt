@@ -1,0 +1,17 @@
+//! Firmware volumes from texts that people write (own format): what each line says, and the bytes of the volume that the lines describe, or the first line at fault.
+#![tactic(auto)]
+
+mod bytes;
+mod fault;
+mod keyword;
+mod line;
+mod script;
+mod statement;
+mod step;
+mod text;
+mod volume;
+mod word;
+
+pub use fault::{Cause, Fault, TextFault};
+pub use statement::Statement;
+pub use text::volume_of;

@@ -1,0 +1,98 @@
+// A script whose lines are read one by one.
+ghost use Rattle.std.specs.Prelude.{◌≡◌, Ok, IfOk};
+ghost use Rattle.script_words.specs.Script.{AreSaid, IsSaid};
+ghost use Rattle.volume_text.specs.Reading.{Gives, Answers};
+ghost use Rattle.volume_text.specs.Script.{last_block, with_block, action_at, with_action, line_at, IsScriptBody};
+
+use crate::fault::{Cause, Fault, Stop, TextFault};
+use act_code::{Action, Script};
+use pi_base::{Phase, Seq};
+use script_words::{ScriptCause, ScriptFault, read_action, whole_script};
+use std::alloc::Global;
+
+// All blocks but the last, and the last.
+fn last_block(mut blocks: Seq<Seq<Action>>) -> Option<(Seq<Seq<Action>>, Seq<Action>)>
+    ensures { result ≡ last_block blocks }
+{
+    match blocks.pop() {
+        Some(last) => Some((blocks, last)),
+        None => None,
+    }
+}
+
+/// The script with one more block.
+pub(crate) fn with_block(alloc: Global, script: Script) -> Result<Script, Stop>
+    requires said { AreSaid script }
+    ensures made { Gives (λ x. x) result (Ok (with_block script)) }
+    ensures said { IfOk result AreSaid }
+{
+    let Script { phase, mut blocks } = script;
+    blocks.push(Seq::new(alloc))?;
+    Ok(Script { phase, blocks })
+}
+
+// The action that a line of a script of a phase says.
+fn action(alloc: Global, phase: Phase, line: &[u8]) -> Result<Action, Stop>
+    ensures made { Gives (λ x. x) result (action_at phase line.now) }
+    ensures said { IfOk result (IsSaid phase) }
+{
+    match read_action(alloc, phase, line) {
+        Ok(action) => Ok(action),
+        Err(script_words::Stop::Fault(fault)) => Err(Stop::Fault(Cause::Action(fault))),
+        Err(script_words::Stop::Memory) => Err(Stop::Memory),
+    }
+}
+
+/// The script with one more action in its last block.
+#[tactic(auto, using(crate::proofs::Ending::with_said))]
+pub(crate) fn with_action(alloc: Global, script: Script, line: &[u8]) -> Result<Script, Stop>
+    requires said { AreSaid script }
+    ensures made { Gives (λ x. x) result (with_action script line.now) }
+    ensures said { IfOk result AreSaid }
+{
+    let Script { phase, blocks } = script;
+    let Some((mut others, mut last)) = last_block(blocks) else {
+        return Err(Stop::Fault(Cause::Script(ScriptCause::NoBlock)));
+    };
+    let action = action(alloc, phase, line)?;
+    last.push(action)?;
+    others.push(last)?;
+    Ok(Script {
+        phase,
+        blocks: others,
+    })
+}
+
+// The text's line of a script's line at a place: the script's end stands behind its lines.
+fn line_at(lines: &[u64], end: u64, place: usize) -> u64
+    ensures { result ≡ line_at lines.now end place }
+{
+    match lines.get(place) {
+        Some(line) => *line,
+        None => end,
+    }
+}
+
+/// The bytes of a script at its `end`.
+pub(crate) fn script_body(
+    alloc: Global,
+    script: &Script,
+    lines: &[u64],
+    end: u64,
+) -> Result<Seq<u8>, TextFault>
+    requires { AreSaid script.now }
+    ensures { Answers (IsScriptBody script.now lines.now end) result }
+{
+    match whole_script(alloc, script) {
+        Ok(bytes) => Ok(bytes),
+        Err(ScriptFault::Bad { place, cause }) => Err(TextFault::Bad(Fault {
+            line: line_at(lines, end, place),
+            cause: Cause::Script(cause),
+        })),
+        Err(ScriptFault::TooLong) => Err(TextFault::Bad(Fault {
+            line: end,
+            cause: Cause::ScriptTooLong,
+        })),
+        Err(ScriptFault::Memory) => Err(TextFault::Memory),
+    }
+}

@@ -1,0 +1,24 @@
+// What a line says.
+use fv_build::FileSystem;
+use pi_base::{Guid, Phase, Seq};
+
+/// What a line says.
+#[derive(Drop)]
+pub enum Statement {
+    /// A volume of this length begins.
+    Volume { file_system: FileSystem, len: u64 },
+    /// A file begins.
+    File { kind: u8, name: Guid },
+    /// A section of the file.
+    Section { kind: u8, body: Seq<u8> },
+    /// The file's expression for a phase, as its bytes.
+    Depex { phase: Phase, body: Seq<u8> },
+    /// A script of the file begins.
+    Script { phase: Phase },
+    /// A block of the script begins.
+    Block,
+    /// The last volume or script that began ends.
+    End,
+    /// An action of the script, if the line is one.
+    Action { line: Seq<u8> },
+}

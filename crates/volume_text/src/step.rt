@@ -1,0 +1,343 @@
+// One line more of a text.
+ghost use Rattle.std.specs.Prelude.{◌≡◌, IfOk};
+ghost use Rattle.volume_text.specs.Reading.{Gives, Answers};
+ghost use Rattle.volume_text.specs.Step.{IsSaidState, begun, filling, nested, with_depex, with_script, last_volume, closed, filled, written, at_line, EndsScript, goes_on, TakesInScript, outside, Takes, Steps};
+ghost use Rattle.script_words.specs.Script.{AreSaid};
+
+use crate::fault::{Cause, Fault, Stop, TextFault};
+use crate::line::read_line;
+use crate::script::{script_body, with_action, with_block};
+use crate::statement::Statement;
+use crate::volume::{
+    OpenVolume, built_of, depex_type, part_checked, script_checked, with_file, with_section,
+};
+use act_code::Script;
+use fv_build::{FileSystem, NewSection};
+use fv_section::section_type::{RAW, VOLUME_IMAGE};
+use pi_base::{Phase, Seq};
+use std::alloc::Global;
+
+/// What is open behind some lines of a text.
+#[derive(Drop)]
+pub(crate) enum State {
+    /// Nothing: no line has come.
+    Begin,
+    /// Volumes, each in the last file of the one before. `top` is the innermost.
+    Filling {
+        below: Seq<OpenVolume>,
+        top: OpenVolume,
+    },
+    /// A script in the last file of the innermost volume, and the text's lines that it has so far.
+    Writing {
+        below: Seq<OpenVolume>,
+        top: OpenVolume,
+        script: Script,
+        lines: Seq<u64>,
+    },
+    /// Nothing more: the volume has ended.
+    Done {
+        bytes: Seq<u8>,
+    },
+}
+
+// The first volume.
+fn begun(alloc: Global, statement: &Statement) -> Result<State, Stop>
+    ensures { Gives (λ x. x) result (begun statement.now) }
+{
+    match statement {
+        Statement::Volume { file_system, len } => Ok(State::Filling {
+            below: Seq::new(alloc),
+            top: OpenVolume {
+                file_system: *file_system,
+                len: *len,
+                files: Seq::new(alloc),
+            },
+        }),
+        _ => Err(Stop::Fault(Cause::NoVolume)),
+    }
+}
+
+// A section more in the last file.
+fn filling(below: Seq<OpenVolume>, top: OpenVolume, section: NewSection) -> Result<State, Stop>
+    ensures { Gives (λ x. x) result (filling below top section) }
+{
+    let top = with_section(top, section)?;
+    Ok(State::Filling { below, top })
+}
+
+// A volume in the last file begins.
+fn nested(
+    alloc: Global,
+    mut below: Seq<OpenVolume>,
+    top: OpenVolume,
+    file_system: FileSystem,
+    len: u64,
+) -> Result<State, Stop>
+    ensures { Gives (λ x. x) result (nested below top file_system len) }
+{
+    if top.files.is_empty() {
+        return Err(Stop::Fault(Cause::NoFile));
+    }
+    below.push(top)?;
+    Ok(State::Filling {
+        below,
+        top: OpenVolume {
+            file_system,
+            len,
+            files: Seq::new(alloc),
+        },
+    })
+}
+
+// The expression of the last file for a phase.
+fn with_depex(
+    below: Seq<OpenVolume>,
+    top: OpenVolume,
+    phase: Phase,
+    body: Seq<u8>,
+) -> Result<State, Stop>
+    ensures { Gives (λ x. x) result (with_depex below top phase body) }
+{
+    part_checked(&top, phase)?;
+    let kind = depex_type(phase);
+    filling(below, top, NewSection { kind, body })
+}
+
+// A script of the last file begins.
+fn with_script(
+    alloc: Global,
+    below: Seq<OpenVolume>,
+    top: OpenVolume,
+    phase: Phase,
+) -> Result<State, Stop>
+    ensures made { Gives (λ x. x) result (with_script below top phase) }
+    ensures said { IfOk result IsSaidState }
+{
+    script_checked(&top, phase)?;
+    Ok(State::Writing {
+        below,
+        top,
+        script: Script {
+            phase,
+            blocks: Seq::new(alloc),
+        },
+        lines: Seq::new(alloc),
+    })
+}
+
+// All volumes but the innermost, and that one.
+fn last_volume(mut below: Seq<OpenVolume>) -> Option<(Seq<OpenVolume>, OpenVolume)>
+    ensures { result ≡ last_volume below }
+{
+    match below.pop() {
+        Some(last) => Some((below, last)),
+        None => None,
+    }
+}
+
+// The innermost volume ends.
+fn closed(alloc: Global, below: Seq<OpenVolume>, top: &OpenVolume) -> Result<State, Stop>
+    ensures { Gives (λ x. x) result (closed below top.now) }
+{
+    let bytes = built_of(alloc, top)?;
+    match last_volume(below) {
+        None => Ok(State::Done { bytes }),
+        Some((below, top)) => filling(
+            below,
+            top,
+            NewSection {
+                kind: VOLUME_IMAGE,
+                body: bytes,
+            },
+        ),
+    }
+}
+
+// A line more in a volume.
+fn filled(
+    alloc: Global,
+    below: Seq<OpenVolume>,
+    top: OpenVolume,
+    statement: Statement,
+) -> Result<State, Stop>
+    ensures made { Gives (λ x. x) result (filled below top statement) }
+    ensures said { IfOk result IsSaidState }
+{
+    match statement {
+        Statement::Volume { file_system, len } => nested(alloc, below, top, file_system, len),
+        Statement::File { kind, name } => {
+            let top = with_file(alloc, top, kind, name)?;
+            Ok(State::Filling { below, top })
+        }
+        Statement::Section { kind, body } => filling(below, top, NewSection { kind, body }),
+        Statement::Depex { phase, body } => with_depex(below, top, phase, body),
+        Statement::Script { phase } => with_script(alloc, below, top, phase),
+        Statement::End => closed(alloc, below, &top),
+        Statement::Block => Err(Stop::Fault(Cause::NoScript)),
+        Statement::Action { .. } => Err(Stop::Fault(Cause::UnknownLine)),
+    }
+}
+
+// A line of a script, which is not its `end`.
+fn written(alloc: Global, script: Script, statement: &Statement) -> Result<Script, Stop>
+    requires said { AreSaid script }
+    ensures made { Gives (λ x. x) result (written script statement.now) }
+    ensures said { IfOk result AreSaid }
+{
+    match statement {
+        Statement::Block => with_block(alloc, script),
+        Statement::Action { line } => with_action(alloc, script, line.as_slice()),
+        _ => Err(Stop::Fault(Cause::InScript)),
+    }
+}
+
+// What stopped a line.
+fn at(number: u64, stop: Stop) -> TextFault
+    ensures { result ≡ at_line number stop }
+{
+    match stop {
+        Stop::Fault(cause) => TextFault::Bad(Fault {
+            line: number,
+            cause,
+        }),
+        Stop::Memory => TextFault::Memory,
+    }
+}
+
+// A script in the last file of the innermost volume.
+#[derive(Drop)]
+struct OpenScript {
+    below: Seq<OpenVolume>,
+    top: OpenVolume,
+    script: Script,
+    lines: Seq<u64>,
+}
+
+// A script ends.
+#[tactic(auto, using(crate::proofs::Ending::ended_stops, crate::proofs::Ending::ended_there, crate::proofs::Ending::ended_not))]
+fn script_ended(alloc: Global, held: OpenScript, number: u64) -> Result<State, TextFault>
+    requires said { AreSaid held.script }
+    ensures ended { Answers (EndsScript held.below held.top held.script held.lines number) result }
+    ensures said { IfOk result IsSaidState }
+{
+    let OpenScript {
+        below,
+        top,
+        script,
+        lines,
+    } = held;
+    let body = script_body(alloc, &script, lines.as_slice(), number)?;
+    match filling(below, top, NewSection { kind: RAW, body }) {
+        Ok(state) => Ok(state),
+        Err(stop) => Err(at(number, stop)),
+    }
+}
+
+// A script goes on.
+fn script_goes_on(
+    alloc: Global,
+    held: OpenScript,
+    number: u64,
+    statement: &Statement,
+) -> Result<State, TextFault>
+    requires said { AreSaid held.script }
+    ensures made { Answers (λ r. r ≡ goes_on held.below held.top held.script held.lines number statement.now) result }
+    ensures said { IfOk result IsSaidState }
+{
+    let OpenScript {
+        below,
+        top,
+        script,
+        mut lines,
+    } = held;
+    match written(alloc, script, statement) {
+        Ok(script) => {
+            lines.push(number)?;
+            Ok(State::Writing {
+                below,
+                top,
+                script,
+                lines,
+            })
+        }
+        Err(stop) => Err(at(number, stop)),
+    }
+}
+
+// A line more in a script.
+fn in_script(
+    alloc: Global,
+    held: OpenScript,
+    number: u64,
+    statement: &Statement,
+) -> Result<State, TextFault>
+    requires said { AreSaid held.script }
+    ensures made { Answers (TakesInScript held.below held.top held.script held.lines number statement.now) result }
+    ensures said { IfOk result IsSaidState }
+{
+    match statement {
+        Statement::End => script_ended(alloc, held, number),
+        _ => script_goes_on(alloc, held, number, statement),
+    }
+}
+
+// A line more outside of scripts.
+fn outside(alloc: Global, state: State, statement: Statement) -> Result<State, Stop>
+    ensures made { Gives (λ x. x) result (outside state statement) }
+    ensures said { IfOk result IsSaidState }
+{
+    match state {
+        State::Begin => begun(alloc, &statement),
+        State::Filling { below, top } => filled(alloc, below, top, statement),
+        State::Writing { .. } => Err(Stop::Fault(Cause::InScript)),
+        State::Done { .. } => Err(Stop::Fault(Cause::BehindEnd)),
+    }
+}
+
+// A statement more.
+fn taken(alloc: Global, state: State, number: u64, statement: Statement) -> Result<State, TextFault>
+    requires said { IsSaidState state }
+    ensures made { Answers (Takes state number statement) result }
+    ensures said { IfOk result IsSaidState }
+{
+    match state {
+        State::Writing {
+            below,
+            top,
+            script,
+            lines,
+        } => in_script(
+            alloc,
+            OpenScript {
+                below,
+                top,
+                script,
+                lines,
+            },
+            number,
+            &statement,
+        ),
+        other => match outside(alloc, other, statement) {
+            Ok(state) => Ok(state),
+            Err(stop) => Err(at(number, stop)),
+        },
+    }
+}
+
+/// What is open behind one line more.
+#[tactic(auto, using(crate::proofs::Ending::steps_by, crate::proofs::Ending::steps_not))]
+pub(crate) fn step(
+    alloc: Global,
+    state: State,
+    number: u64,
+    line: &[u8],
+) -> Result<State, TextFault>
+    requires said { IsSaidState state }
+    ensures made { Answers (Steps state number line.now) result }
+    ensures said { IfOk result IsSaidState }
+{
+    match read_line(alloc, line) {
+        Ok(statement) => taken(alloc, state, number, statement),
+        Err(stop) => Err(at(number, stop)),
+    }
+}

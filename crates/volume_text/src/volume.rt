@@ -1,0 +1,269 @@
+// What is open behind some lines of a text: volumes, one in a file of the other, and in the last file of the innermost maybe a script.
+ghost use Rattle.std.specs.Prelude.{◌≡◌, Ok, take};
+ghost use Rattle.std.specs.Prelude.{◌≤◌, None, IfOk, IfErr, OnOk};
+ghost use Rattle.fv_build.specs.declared.volume_header.TheConstants.{HEADER_LEN};
+ghost use Rattle.fv_build.specs.declared.build.TheConstants.{MOST_LEN};
+ghost use Rattle.fv_build.specs.Building.{built, fault_of, IsRefusal};
+ghost use Rattle.volume_text.specs.Reading.{Gives};
+ghost use Rattle.volume_text.specs.Open.{last_of, holding, with_section, with_file, depex_type, has_part, script_front, is_script_of, has_script, IsLastFile, only_with_part, only_without_script, part_checked, only_first, script_checked, stop_of, built_of};
+
+use crate::fault::{Cause, Stop};
+use crate::word::is_length;
+use fv_build::{BuildFault, FileSystem, NewFile, NewSection, build_volume, build_volume3};
+use fv_section::section_type::{DXE_DEPEX, PEI_DEPEX, RAW};
+use fv_volume::file_type::{COMBINED_MM_DXE, DRIVER, PEIM};
+use pi_base::{Guid, Phase, Seq};
+use std::alloc::Global;
+
+/// A volume whose `end` has not come yet.
+#[derive(Drop)]
+pub struct OpenVolume {
+    /// Its file system.
+    pub file_system: FileSystem,
+    /// Its length.
+    pub len: u64,
+    /// Its files so far. The last one may get sections.
+    pub files: Seq<NewFile>,
+}
+
+// All files but the last, and the last.
+fn last_of(mut files: Seq<NewFile>) -> Option<(Seq<NewFile>, NewFile)>
+    ensures { result ≡ last_of files }
+{
+    match files.pop() {
+        Some(last) => Some((files, last)),
+        None => None,
+    }
+}
+
+// A file with one more section.
+fn holding(file: NewFile, section: NewSection) -> Result<NewFile, Stop>
+    ensures { Gives (λ x. x) result (Ok (holding section file)) }
+{
+    let NewFile {
+        name,
+        kind,
+        mut sections,
+    } = file;
+    sections.push(section)?;
+    Ok(NewFile {
+        name,
+        kind,
+        sections,
+    })
+}
+
+/// The volume with one more section in its last file.
+pub(crate) fn with_section(volume: OpenVolume, section: NewSection) -> Result<OpenVolume, Stop>
+    ensures { Gives (λ x. x) result (with_section volume section) }
+{
+    let OpenVolume {
+        file_system,
+        len,
+        files,
+    } = volume;
+    let Some((mut files, last)) = last_of(files) else {
+        return Err(Stop::Fault(Cause::NoFile));
+    };
+    let last = holding(last, section)?;
+    files.push(last)?;
+    Ok(OpenVolume {
+        file_system,
+        len,
+        files,
+    })
+}
+
+/// The volume with one more file.
+pub(crate) fn with_file(
+    alloc: Global,
+    volume: OpenVolume,
+    kind: u8,
+    name: Guid,
+) -> Result<OpenVolume, Stop>
+    ensures { Gives (λ x. x) result (Ok (with_file volume kind name)) }
+{
+    let OpenVolume {
+        file_system,
+        len,
+        mut files,
+    } = volume;
+    files.push(NewFile {
+        name,
+        kind,
+        sections: Seq::new(alloc),
+    })?;
+    Ok(OpenVolume {
+        file_system,
+        len,
+        files,
+    })
+}
+
+/// The type of the section with the expression for a phase.
+pub(crate) fn depex_type(phase: Phase) -> u8
+    ensures { result ≡ depex_type phase }
+{
+    match phase {
+        Phase::Pei => PEI_DEPEX,
+        Phase::Dxe => DXE_DEPEX,
+    }
+}
+
+// Whether a file of a type has a part for a phase.
+fn has_part(kind: u8, phase: Phase) -> bool
+    ensures { result ≡ has_part kind phase }
+{
+    match phase {
+        Phase::Pei => kind != DRIVER && kind != COMBINED_MM_DXE,
+        Phase::Dxe => kind != PEIM,
+    }
+}
+
+// The first bytes, as many as tell a script.
+fn front_of(body: &[u8]) -> &[u8]
+    ensures { result.now ≡ take 6 body.now }
+{
+    if body.len() < 6 {
+        return body;
+    }
+    let (front, _) = body.split_at(6);
+    front
+}
+
+// What a script of a phase begins with.
+fn script_front(phase: Phase) -> [u8; 6]
+    ensures { result ≡ script_front phase }
+{
+    match phase {
+        Phase::Pei => *b"PIAS\x01\x01",
+        Phase::Dxe => *b"PIAS\x01\x02",
+    }
+}
+
+// Whether a section is a script of a phase.
+fn is_script_of(section: &NewSection, phase: Phase) -> bool
+    ensures { result ≡ is_script_of phase section.now }
+{
+    section.kind == RAW && front_of(section.body.as_slice()) == script_front(phase).as_slice()
+}
+
+// Whether a file has a script of a phase.
+fn has_script(file: &NewFile, phase: Phase) -> bool
+    ensures { result ≡ has_script phase file.now }
+{
+    file.sections
+        .as_slice()
+        .iter()
+        .any(|section| is_script_of(section, phase))
+}
+
+// The last of the files.
+fn last_file(files: &[NewFile]) -> Option<&NewFile>
+    ensures { IsLastFile result files.now }
+{
+    match files {
+        [.., last] => Some(last),
+        [] => None,
+    }
+}
+
+// That a file has a part for a phase.
+fn only_with_part(file: &NewFile, phase: Phase) -> Result<(), Stop>
+    ensures { Gives (λ x. x) result (only_with_part phase file.now) }
+{
+    if has_part(file.kind, phase) {
+        Ok(())
+    } else {
+        Err(Stop::Fault(Cause::NoPart))
+    }
+}
+
+// That a file has no script of a phase.
+fn only_without_script(file: &NewFile, phase: Phase) -> Result<(), Stop>
+    ensures { Gives (λ x. x) result (only_without_script phase file.now) }
+{
+    if has_script(file, phase) {
+        Err(Stop::Fault(Cause::TwoScripts))
+    } else {
+        Ok(())
+    }
+}
+
+/// That the last file has a part for a phase.
+pub(crate) fn part_checked(volume: &OpenVolume, phase: Phase) -> Result<(), Stop>
+    ensures { Gives (λ x. x) result (part_checked phase volume.now) }
+{
+    match last_file(volume.files.as_slice()) {
+        Some(last) => only_with_part(last, phase),
+        None => Err(Stop::Fault(Cause::NoFile)),
+    }
+}
+
+// That the last file has no script of a phase.
+fn first_checked(volume: &OpenVolume, phase: Phase) -> Result<(), Stop>
+    ensures { Gives (λ x. x) result (only_first phase (last_of volume.now.files)) }
+{
+    match last_file(volume.files.as_slice()) {
+        Some(last) => only_without_script(last, phase),
+        None => Err(Stop::Fault(Cause::NoFile)),
+    }
+}
+
+/// That the last file may get a script of a phase.
+pub(crate) fn script_checked(volume: &OpenVolume, phase: Phase) -> Result<(), Stop>
+    ensures { Gives (λ x. x) result (script_checked phase volume.now) }
+{
+    part_checked(volume, phase)?;
+    first_checked(volume, phase)
+}
+
+// What stands against a volume, as what is wrong with its `end`.
+fn stop_of(fault: BuildFault) -> Stop
+    ensures { result ≡ stop_of fault }
+{
+    match fault {
+        BuildFault::TooMany => Stop::Fault(Cause::TooMany),
+        BuildFault::Size => Stop::Fault(Cause::Size),
+        BuildFault::NoRoom { need, .. } => Stop::Fault(Cause::NoRoom { need }),
+        BuildFault::Memory => Stop::Memory,
+    }
+}
+
+// A volume of one of the file systems.
+fn build(
+    alloc: Global,
+    file_system: FileSystem,
+    files: &[NewFile],
+    len: u64,
+) -> Result<Seq<u8>, BuildFault>
+    requires header { HEADER_LEN ≤ len }
+    requires most { len ≤ MOST_LEN }
+    ensures sound { OnOk result (fault_of file_system files.now len ≡ None) }
+    ensures built { IfOk result (λ volume. volume ≡ built file_system files.now len) }
+    ensures refused { IfErr result (IsRefusal file_system files.now len) }
+{
+    match file_system {
+        FileSystem::Ffs2 => build_volume(alloc, files, len),
+        FileSystem::Ffs3 => build_volume3(alloc, files, len),
+    }
+}
+
+/// The bytes of a volume at its `end`.
+#[tactic(auto, using(crate::proofs::Building::built_there, crate::proofs::Building::refused_there))]
+pub(crate) fn built_of(alloc: Global, volume: &OpenVolume) -> Result<Seq<u8>, Stop>
+    ensures { Gives (λ x. x) result (built_of volume.now) }
+{
+    if !is_length(volume.len) {
+        return Err(Stop::Fault(Cause::Range));
+    }
+    match build(
+        alloc,
+        volume.file_system,
+        volume.files.as_slice(),
+        volume.len,
+    ) {
+        Ok(bytes) => Ok(bytes),
+        Err(fault) => Err(stop_of(fault)),
+    }
+}

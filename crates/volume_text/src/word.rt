@@ -1,0 +1,120 @@
+// The words of a line, each as the value that it shows.
+ghost use Rattle.std.specs.Prelude.{◌≡◌};
+ghost use Rattle.source_words.specs.Words.{words};
+ghost use Rattle.volume_text.specs.Reading.{Gives};
+ghost use Rattle.volume_text.specs.Words.{word_at, none_left, guid_at, phase_at, is_length, length_at, system_at, file_type_at, section_type_at};
+
+use crate::fault::{Cause, Stop};
+use crate::keyword::{byte_of, file_type_of, phase_of, system_of};
+use fv_build::{FileSystem, HEADER_LEN, MOST_LEN};
+use line_words::number_of;
+use pi_base::{Guid, Phase};
+use source_words::{guid_of, next_word};
+
+/// The first word, and what follows it.
+pub(crate) fn word(text: &[u8]) -> Result<(&[u8], &[u8]), Stop>
+    ensures { Gives (λ x. (x.0.now, words x.1.now)) result (word_at (words text.now)) }
+{
+    match next_word(text) {
+        Some((word, rest)) => Ok((word, rest)),
+        None => Err(Stop::Fault(Cause::Missing)),
+    }
+}
+
+/// That no word is left.
+pub(crate) fn none_left(text: &[u8]) -> Result<(), Stop>
+    ensures { Gives (λ x. x) result (none_left (words text.now)) }
+{
+    match next_word(text) {
+        None => Ok(()),
+        Some(_) => Err(Stop::Fault(Cause::Extra)),
+    }
+}
+
+/// A GUID.
+#[tactic(auto, unfolding(crate::specs::Words::guid_at))]
+pub(crate) fn guid(text: &[u8]) -> Result<(Guid, &[u8]), Stop>
+    ensures { Gives (λ x. (x.0, words x.1.now)) result (guid_at (words text.now)) }
+{
+    let (word, rest) = word(text)?;
+    match guid_of(word) {
+        Some(guid) => Ok((guid, rest)),
+        None => Err(Stop::Fault(Cause::Guid)),
+    }
+}
+
+/// A phase.
+#[tactic(auto, unfolding(crate::specs::Words::phase_at))]
+pub(crate) fn phase(text: &[u8]) -> Result<(Phase, &[u8]), Stop>
+    ensures { Gives (λ x. (x.0, words x.1.now)) result (phase_at (words text.now)) }
+{
+    let (word, rest) = word(text)?;
+    match phase_of(word) {
+        Some(phase) => Ok((phase, rest)),
+        None => Err(Stop::Fault(Cause::Word)),
+    }
+}
+
+/// The length of a volume.
+#[tactic(auto, unfolding(crate::specs::Words::length_at))]
+pub(crate) fn length(text: &[u8]) -> Result<(u64, &[u8]), Stop>
+    ensures { Gives (λ x. (x.0, words x.1.now)) result (length_at (words text.now)) }
+{
+    let (word, rest) = word(text)?;
+    let Some(len) = number_of(word) else {
+        return Err(Stop::Fault(Cause::Number));
+    };
+    if is_length(len) {
+        Ok((len, rest))
+    } else {
+        Err(Stop::Fault(Cause::Range))
+    }
+}
+
+/// Whether a volume may be of this length.
+pub(crate) fn is_length(len: u64) -> bool
+    ensures { result ≡ is_length len }
+{
+    HEADER_LEN as u64 <= len && len <= MOST_LEN
+}
+
+/// The file system that the last word names, FFS2 where there is none.
+#[tactic(auto, unfolding(crate::specs::Words::system_at))]
+pub(crate) fn system(text: &[u8]) -> Result<FileSystem, Stop>
+    ensures { Gives (λ x. x) result (system_at (words text.now)) }
+{
+    let Some((word, rest)) = next_word(text) else {
+        return Ok(FileSystem::Ffs2);
+    };
+    match system_of(word) {
+        Some(system) => {
+            none_left(rest)?;
+            Ok(system)
+        }
+        None => Err(Stop::Fault(Cause::Word)),
+    }
+}
+
+/// The type of a file.
+#[tactic(auto, unfolding(crate::specs::Words::file_type_at))]
+pub(crate) fn file_type(text: &[u8]) -> Result<(u8, &[u8]), Stop>
+    ensures { Gives (λ x. (x.0, words x.1.now)) result (file_type_at (words text.now)) }
+{
+    let (word, rest) = word(text)?;
+    match file_type_of(word) {
+        Some(kind) => Ok((kind, rest)),
+        None => Err(Stop::Fault(Cause::FileType)),
+    }
+}
+
+/// The type of a section.
+#[tactic(auto, unfolding(crate::specs::Words::section_type_at))]
+pub(crate) fn section_type(text: &[u8]) -> Result<(u8, &[u8]), Stop>
+    ensures { Gives (λ x. (x.0, words x.1.now)) result (section_type_at (words text.now)) }
+{
+    let (word, rest) = word(text)?;
+    match byte_of(word) {
+        Some(kind) => Ok((kind, rest)),
+        None => Err(Stop::Fault(Cause::SectionType)),
+    }
+}
