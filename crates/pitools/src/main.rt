@@ -22,7 +22,7 @@ use boot_io::{MemFiles, PatientWriter, RealFiles};
 use overheard::{KeptFiles, KeptText};
 use pi_base::Seq;
 use std::env;
-use std::io::{self, ErrorKind, IsTerminal};
+use std::io::{self, ErrorKind, IsTerminal, Write};
 use std::process::ExitCode;
 
 // The words after the program's name. Where one is not UTF-8 there are none, which is no form of a command line.
@@ -51,25 +51,35 @@ fn is_heard(rt: &HostRuntime) -> bool {
     }
 }
 
+// What left by an output, where there was one that kept it.
+fn text_in<W: Write + Drop>(output: &Option<KeptText<W>>) -> Option<&[u8]> {
+    match output {
+        Some(output) => output.text(),
+        None => None,
+    }
+}
+
 // Does what the words ask for, over the machine's files and standard output, and tells a person what came of it.
 fn run(rt: &HostRuntime, words: &[String], tells: bool) -> ToolStatus {
     let alloc = rt.alloc();
     let mut files = KeptFiles::new(alloc, RealFiles::new(rt), tells);
     let to = KeptText::new(alloc, PatientWriter::new(io::writer(rt), rt), tells);
     let (output, status) = tools_and_print(alloc, words, &mut files, to);
+    let (kept, refused) = files.into_kept();
+    let mut files = MemFiles::new(kept, Seq::new(alloc));
+    let mut heard = Heard {
+        files: &mut files,
+        refused,
+        text: text_in(&output),
+    };
     if tells {
-        let (kept, refused) = files.into_kept();
-        let text = match &output {
-            Some(output) => output.text(),
-            None => None,
-        };
-        let mut files = MemFiles::new(kept, Seq::new(alloc));
-        tell(rt, words, status, &mut Heard { files: &mut files, refused, text });
+        tell(rt, words, status, &mut heard);
     }
     status
 }
 
 // What a person asks for in a word that is no tool.
+#[derive(Clone, Copy)]
 enum Asked {
     // The forms of a command line.
     Forms,

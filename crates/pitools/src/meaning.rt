@@ -25,7 +25,8 @@ const SHOWN_LIMIT: usize = 0x400_0000;
 // The most bytes of a line that is shown.
 const SHOWN_LEN: usize = 60;
 
-const USAGE: &str = "usage: pitools check PLAN TRACE | pitools gcd HOBS COMMANDS | pitools mp FILE | pitools asm depex|script FILE | pitools dis pei|dxe|script FILE";
+const USAGE: &str =
+    "usage: pitools check PLAN TRACE | pitools gcd HOBS COMMANDS | pitools mp FILE | pitools asm depex|script FILE | pitools dis pei|dxe|script FILE";
 
 // Bytes as text, where they are one.
 fn text_of(bytes: &[u8]) -> &str {
@@ -77,12 +78,22 @@ fn tell_file(rt: &HostRuntime, refused: &Option<Refused>, is_long: bool) {
             let name = text_of(name.as_slice());
             let limit = *limit;
             if is_long {
-                let _ = eprintln!(rt; "pitools: {name}: the file is longer than {limit} bytes, its limit");
+                let _ = eprintln!(rt;
+                    "pitools: {name}: the file is longer than {limit} bytes, its limit"
+                );
             } else {
-                put(rt, name, "no file of this name can be read; names of volumes are looked up in the folder in which pitools runs");
+                put(
+                    rt,
+                    name,
+                    "no file of this name can be read; names of volumes are looked up in the folder in which pitools runs",
+                );
             }
         }
-        None => put(rt, "a file", "it could not be read, or is too long; standard output names it"),
+        None => put(
+            rt,
+            "a file",
+            "it could not be read, or is too long; standard output names it",
+        ),
     }
 }
 
@@ -127,7 +138,9 @@ fn tell_line(rt: &HostRuntime, name: &str, heard: &mut Heard<'_>, why: &str) -> 
             let _ = eprintln!(rt; "pitools: {name}: line {number}: {shown:?} {why}");
         }
         None => {
-            let _ = eprintln!(rt; "pitools: {name}: line {number}, where the file ends: what is there {why}");
+            let _ = eprintln!(rt;
+                "pitools: {name}: line {number}, where the file ends: what is there {why}"
+            );
         }
     }
     Some(())
@@ -200,10 +213,19 @@ fn tell_text(rt: &HostRuntime, words: &[String], heard: &mut Heard<'_>) -> Optio
         return tell_place(rt, name, heard.text, false);
     }
     if heard.text == Some(b"refused text long\n".as_slice()) {
-        put(rt, name, "the text is right, but has more than 1024 opcodes, or 65536 bytes of a script");
+        put(
+            rt,
+            name,
+            "the text is right, but has more than 1024 opcodes, or 65536 bytes of a script",
+        );
         return Some(());
     }
-    tell_line(rt, name, heard, "goes on no text; docs/TOOLS.md has the forms: single spaces, lower case, no indentation, and a line feed at the end")
+    tell_line(
+        rt,
+        name,
+        heard,
+        "goes on no text; docs/TOOLS.md has the forms: single spaces, lower case, no indentation, and a line feed at the end",
+    )
 }
 
 // What a line of commands or of events may be.
@@ -216,7 +238,12 @@ fn command_words(words: &[String]) -> &'static str {
 }
 
 // What is told of a status that names a place of a file, where the files and the text were kept.
-fn tell_fault(rt: &HostRuntime, words: &[String], status: ToolStatus, heard: &mut Heard<'_>) -> Option<()> {
+fn tell_fault(
+    rt: &HostRuntime,
+    words: &[String],
+    status: ToolStatus,
+    heard: &mut Heard<'_>,
+) -> Option<()> {
     let first = word_at(words, 1);
     match status {
         ToolStatus::PlanRefused => tell_plan(rt, first, heard.files),
@@ -261,7 +288,11 @@ pub(crate) fn tell(rt: &HostRuntime, words: &[String], status: ToolStatus, heard
         ToolStatus::Memory => put(rt, word_at(words, 1), "memory was wanting"),
         _ => {
             if tell_fault(rt, words, status, heard).is_none() {
-                put(rt, word_at(words, 1), "it is refused at the place above; docs/TOOLS.md has the causes");
+                put(
+                    rt,
+                    word_at(words, 1),
+                    "it is refused at the place above; docs/TOOLS.md has the causes",
+                );
             }
         }
     }

@@ -1,10 +1,10 @@
 // Which program this is.
-use std::env;
-use std::fs;
 use std::io::{self, ErrorKind};
+use std::{env, fs};
 
 /// The forms of a command line.
-pub(crate) const HELP: &str = "usage: pitools check PLAN TRACE       yes, or the first line of TRACE that no boot of PLAN prints there
+pub(crate) const HELP: &str =
+    "usage: pitools check PLAN TRACE       yes, or the first line of TRACE that no boot of PLAN prints there
        pitools gcd HOBS COMMANDS      the memory space map of a HOB list
        pitools mp FILE                what the MP services answer and leave
        pitools asm depex|script FILE  the bytes of a text, in hexadecimal
@@ -36,7 +36,9 @@ pub(crate) fn put_version(rt: &HostRuntime) {
             }
         }
         Err(_) => {
-            let _ = eprintln!(rt; "it is of no package: in its checkout `git log -1` and `rt version` tell the commit and the kit");
+            let _ = eprintln!(rt;
+                "it is of no package: in its checkout `git log -1` and `rt version` tell the commit and the kit"
+            );
         }
     }
 }
