@@ -1,37 +1,299 @@
-// What a person is told of an exit status.
+// What a person is told of a run: what is at fault, and what to do.
 use crate::status::ToolStatus;
+use boot_io::MemFiles;
+use boot_plan::read_plan;
+use fault_words::{image_words, line_at, mistake_in};
+use mod_catalog::catalog;
+use overheard::Refused;
+use plan_files::{Job, PLAN_LIMIT, read_file, read_job};
+use std::str;
 
-// The version, and the forms of a command line.
+/// What was overheard of a run.
+#[derive(Drop)]
+pub(crate) struct Heard<'a> {
+    /// The files that were read.
+    pub(crate) files: &'a mut MemFiles,
+    /// The file that was not.
+    pub(crate) refused: Option<Refused>,
+    /// The printed text, where it was kept.
+    pub(crate) text: Option<&'a [u8]>,
+}
+
+// The most bytes of a file of which a line is shown.
+const SHOWN_LIMIT: usize = 0x400_0000;
+
+// The most bytes of a line that is shown.
+const SHOWN_LEN: usize = 60;
+
 const USAGE: &str =
-    "version 0.1; usage: pitools check PLAN TRACE | pitools gcd HOBS COMMANDS | pitools mp FILE | pitools asm depex|script FILE | pitools dis pei|dxe|script FILE";
+    "usage: pitools check PLAN TRACE | pitools gcd HOBS COMMANDS | pitools mp FILE | pitools asm depex|script FILE | pitools dis pei|dxe|script FILE";
 
-/// A line on an exit status: what happened, and where to read on. None of Done.
-pub(crate) fn meaning_of(status: ToolStatus) -> Option<&'static str> {
-    match status {
-        ToolStatus::Done => None,
-        ToolStatus::Usage => Some(USAGE),
-        ToolStatus::FileFault => Some("a file could not be read; its name stands above"),
-        ToolStatus::TooLong => Some("a file is longer than its limit (docs/TOOLS.md)"),
-        ToolStatus::PlanRefused => {
-            Some("the plan is refused at the line above (docs/FORMATS.md has the causes)")
+// Bytes as text, where they are one.
+fn text_of(bytes: &[u8]) -> &str {
+    match str::from_utf8(bytes) {
+        Ok(text) => text,
+        Err(_) => "what is no UTF-8",
+    }
+}
+
+// Writes a line to standard error. The exit status says it all where nothing can be written there.
+fn put(rt: &HostRuntime, what: &str, why: &str) {
+    let _ = eprintln!(rt; "pitools: {what}: {why}");
+}
+
+// The word behind so many words.
+fn word_at(words: &[String], place: usize) -> &str {
+    match words.get(place) {
+        Some(word) => word.as_str(),
+        None => "a file",
+    }
+}
+
+// The words that have no form.
+fn tell_usage(rt: &HostRuntime, words: &[String]) {
+    match words {
+        [] => put(rt, "no word is given, or one that is no UTF-8", USAGE),
+        [verb, ..] => {
+            let verb = verb.as_str();
+            let fault = if verb == "check" || verb == "gcd" {
+                "takes the names of two files behind it"
+            } else if verb == "mp" {
+                "takes the name of a file behind it"
+            } else if verb == "asm" {
+                "takes depex or script behind it, and the name of a file"
+            } else if verb == "dis" {
+                "takes pei, dxe or script behind it, and the name of a file"
+            } else {
+                "is no tool"
+            };
+            let _ = eprintln!(rt; "pitools: {verb:?} {fault}; {USAGE}");
         }
-        ToolStatus::ImageRefused => {
-            Some("an image is refused at the offset above (docs/FORMATS.md has the causes)")
+    }
+}
+
+// The file that was not read.
+fn tell_file(rt: &HostRuntime, refused: &Option<Refused>, is_long: bool) {
+    match refused {
+        Some(Refused { name, limit }) => {
+            let name = text_of(name.as_slice());
+            let limit = *limit;
+            if is_long {
+                let _ = eprintln!(rt;
+                    "pitools: {name}: the file is longer than {limit} bytes, its limit"
+                );
+            } else {
+                put(
+                    rt,
+                    name,
+                    "no file of this name can be read; names of volumes are looked up in the folder in which pitools runs",
+                );
+            }
         }
-        ToolStatus::No => Some(
-            "the trace is no free boot's from the line above on (docs/CHECK.md)",
+        None => put(
+            rt,
+            "a file",
+            "it could not be read, or is too long; standard output names it",
         ),
-        ToolStatus::Twins => Some("the volume above has two modules of one name (docs/CHECK.md)"),
-        ToolStatus::SinkFault => Some("standard output failed, and the text above may be cut"),
-        ToolStatus::Memory => Some("memory was wanting"),
-        ToolStatus::HobsRefused => {
-            Some("the HOB list is refused at the offset above (docs/TOOLS.md has the causes)")
+    }
+}
+
+// The line of a plan that is at fault.
+fn tell_plan(rt: &HostRuntime, plan: &str, files: &mut MemFiles) -> Option<()> {
+    let text = read_file(rt.alloc(), plan, PLAN_LIMIT, files).ok()?;
+    let text = text.as_slice();
+    if text.len() > PLAN_LIMIT {
+        return None;
+    }
+    let fault = read_plan(rt.alloc(), text).err()?;
+    let line = fault.line;
+    let mistake = mistake_in(text, fault)?;
+    let _ = eprintln!(rt; "pitools: {plan}: line {line}: {mistake}");
+    Some(())
+}
+
+// The place of a volume's file that is at fault.
+fn tell_image(rt: &HostRuntime, plan: &str, files: &mut MemFiles) -> Option<()> {
+    let Job { plan, images } = read_job(rt.alloc(), plan, files).ok()?;
+    let fault = catalog(rt.alloc(), &plan, images.as_slice()).err()?;
+    let volume = plan.volumes.as_slice().get(fault.volume as usize)?;
+    let name = text_of(volume.name.as_slice());
+    let at = fault.at;
+    let why = image_words(fault.cause);
+    let _ = eprintln!(rt; "pitools: {name}: at {at}: {why}");
+    Some(())
+}
+
+// The line of a file that a refusal names last, and why it is refused.
+fn tell_line(rt: &HostRuntime, name: &str, heard: &mut Heard<'_>, why: &str) -> Option<()> {
+    let refusal = str::from_utf8(heard.text?).ok()?;
+    let number = refusal.split_whitespace().last()?.parse::<u32>().ok()?;
+    let content = read_file(rt.alloc(), name, SHOWN_LIMIT, heard.files).ok()?;
+    match line_at(content.as_slice(), number) {
+        Some(line) => {
+            let shown = match line.get(..SHOWN_LEN) {
+                Some(front) => front,
+                None => line,
+            };
+            let shown = text_of(shown);
+            let _ = eprintln!(rt; "pitools: {name}: line {number}: {shown:?} {why}");
         }
+        None => {
+            let _ = eprintln!(rt;
+                "pitools: {name}: line {number}, where the file ends: what is there {why}"
+            );
+        }
+    }
+    Some(())
+}
+
+// What the cause of a HOB list means.
+fn hobs_words(cause: &str) -> &'static str {
+    if cause == "Short" {
+        "fewer than 8 bytes are left for a HOB's header"
+    } else if cause == "Length" {
+        "a HOB's length is below 8, no multiple of 8, or more than is left"
+    } else if cause == "Form" {
+        "a HOB of a known type has another length, or the list begins with no hand-off HOB of version 9"
+    } else if cause == "NoEnd" {
+        "the list has no end HOB"
+    } else if cause == "NoCpu" {
+        "the list has no CPU HOB (type 6), which says how many bits an address has"
+    } else if cause == "Bits" {
+        "the CPU HOB's memory bits are not 12 to 52"
+    } else if cause == "Range" {
+        "a resource has length 0, or ends behind the address space"
+    } else if cause == "Overlap" {
+        "a resource meets an earlier one"
+    } else {
+        "an allocation has length 0, or an address that is not free system memory"
+    }
+}
+
+// What the cause of bytes means that are no expression or script.
+fn bytes_words(cause: &str) -> &'static str {
+    if cause == "Malformed" {
+        "no expression goes on there: the opcode is unknown, cut short or of the other phase, or it leaves another number of values than one"
+    } else if cause == "Magic" {
+        "the script is shorter than 8 bytes, or does not begin with PIAS; what asm prints becomes bytes by xxd -r -p"
+    } else if cause == "Version" {
+        "the script's version is not 1"
+    } else if cause == "Phase" {
+        "the script's phase is neither 1 (PEI) nor 2 (DXE)"
+    } else if cause == "Count" {
+        "the script has no block or more than 64, or bytes behind its last block"
+    } else if cause == "Block" {
+        "a block has no action or more than 1024, or its last one is no ret"
+    } else if cause == "Action" {
+        "the action is none of the phase, is cut short, or an operand is out of its range"
+    } else if cause == "Jump" {
+        "skip_if passes the end of its block; an action has to stand behind those that it skips"
+    } else {
+        "a register is above r15, or the script has no block of this number"
+    }
+}
+
+// The offset of a file that a refusal names last, behind its cause.
+fn tell_place(rt: &HostRuntime, name: &str, text: Option<&[u8]>, of_hobs: bool) -> Option<()> {
+    let mut words = str::from_utf8(text?).ok()?.split_whitespace().skip(2);
+    let cause = words.next()?;
+    let at = words.next()?;
+    let why = if of_hobs {
+        hobs_words(cause)
+    } else {
+        bytes_words(cause)
+    };
+    let _ = eprintln!(rt; "pitools: {name}: at {at}: {why}");
+    Some(())
+}
+
+// A text or bytes that are refused: a text by its line, unless it is too long, and bytes by their offset.
+fn tell_text(rt: &HostRuntime, words: &[String], heard: &mut Heard<'_>) -> Option<()> {
+    let name = word_at(words, 2);
+    if word_at(words, 0) == "dis" {
+        return tell_place(rt, name, heard.text, false);
+    }
+    if heard.text == Some(b"refused text long\n".as_slice()) {
+        put(
+            rt,
+            name,
+            "the text is right, but has more than 1024 opcodes, or 65536 bytes of a script",
+        );
+        return Some(());
+    }
+    tell_line(
+        rt,
+        name,
+        heard,
+        "goes on no text; docs/TOOLS.md has the forms: single spaces, lower case, no indentation, and a line feed at the end",
+    )
+}
+
+// What a line of commands or of events may be.
+fn command_words(words: &[String]) -> &'static str {
+    if word_at(words, 0) == "mp" {
+        "is none of: mp N C first, then all BY OP.., this BY P OP.., enable BY P, disable BY P, switch BY P on|off, who BY, turn P; OP is add=CELL:N or put=N"
+    } else {
+        "is none of: add KIND BASE LEN, allocate KIND BASE LEN, top KIND ALIGN LEN, free BASE LEN, remove BASE LEN; KIND is system, mmio, reserved or nonexistent"
+    }
+}
+
+// What is told of a status that names a place of a file, where the files and the text were kept.
+fn tell_fault(
+    rt: &HostRuntime,
+    words: &[String],
+    status: ToolStatus,
+    heard: &mut Heard<'_>,
+) -> Option<()> {
+    let first = word_at(words, 1);
+    match status {
+        ToolStatus::PlanRefused => tell_plan(rt, first, heard.files),
+        ToolStatus::ImageRefused => tell_image(rt, first, heard.files),
+        ToolStatus::No => tell_line(
+            rt,
+            word_at(words, 2),
+            heard,
+            "is printed there by no boot of the plan that the rules allow; docs/CHECK.md says how to read it",
+        ),
+        ToolStatus::HobsRefused => tell_place(rt, first, heard.text, true),
         ToolStatus::CommandRefused => {
-            Some("the line above has no form (docs/TOOLS.md has the forms)")
+            let name = if word_at(words, 0) == "mp" {
+                first
+            } else {
+                word_at(words, 2)
+            };
+            tell_line(rt, name, heard, command_words(words))
         }
-        ToolStatus::TextRefused => {
-            Some("the text or the bytes are refused at the place above (docs/TOOLS.md)")
+        ToolStatus::TextRefused => tell_text(rt, words, heard),
+        _ => None,
+    }
+}
+
+/// Tells a person what came of a run: a line for each status but Done.
+pub(crate) fn tell(rt: &HostRuntime, words: &[String], status: ToolStatus, heard: &mut Heard<'_>) {
+    match status {
+        ToolStatus::Done => {}
+        ToolStatus::Usage => tell_usage(rt, words),
+        ToolStatus::FileFault => tell_file(rt, &heard.refused, false),
+        ToolStatus::TooLong => tell_file(rt, &heard.refused, true),
+        ToolStatus::Twins => put(
+            rt,
+            word_at(words, 1),
+            "the volume above has two modules of one name; give one of them another, since a start line names a module by volume and name",
+        ),
+        ToolStatus::SinkFault => put(
+            rt,
+            "standard output",
+            "it failed, so the text is cut; is a disk full, or a pipe closed?",
+        ),
+        ToolStatus::Memory => put(rt, word_at(words, 1), "memory was wanting"),
+        _ => {
+            if tell_fault(rt, words, status, heard).is_none() {
+                put(
+                    rt,
+                    word_at(words, 1),
+                    "it is refused at the place above; docs/TOOLS.md has the causes",
+                );
+            }
         }
     }
 }

@@ -1,0 +1,10 @@
+//! A run overheard: copies of the files that it read and of the text that it printed, from which a person is told more than the text says.
+#![tactic(auto)]
+
+mod files;
+mod starts;
+mod text;
+
+pub use files::{KeptFiles, Refused};
+pub use starts::{Starts, has_no_script, starts_in};
+pub use text::KeptText;
