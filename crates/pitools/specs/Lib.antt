@@ -9,4 +9,5 @@ pub mod CheckReport
 pub mod TextReport
 pub mod Outcome
 pub mod Ends
+pub mod OneOutcome
 pub mod Leaving

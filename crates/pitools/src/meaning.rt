@@ -1,4 +1,6 @@
 // What a person is told of an exit status.
+ghost use Rattle.std.specs.Prelude.{◌≡◌, ◌≢◌, [], IfNone, IfSome};
+
 use crate::status::ToolStatus;
 
 // The version, and the forms of a command line.
@@ -6,7 +8,10 @@ const USAGE: &str =
     "version 0.1; usage: pitools check PLAN TRACE | pitools gcd HOBS COMMANDS | pitools mp FILE | pitools asm depex|script FILE | pitools dis pei|dxe|script FILE";
 
 /// A line on an exit status: what happened, and where to read on. None of Done.
-pub(crate) fn meaning_of(status: ToolStatus) -> Option<&'static str> {
+pub(crate) fn meaning_of(status: ToolStatus) -> Option<&'static str>
+    ensures told { IfSome result (λ line. (status ≢ ToolStatus.Done) × (line.now ≢ [])) }
+    ensures silent { IfNone result (status ≡ ToolStatus.Done) }
+{
     match status {
         ToolStatus::Done => None,
         ToolStatus::Usage => Some(USAGE),
