@@ -13,8 +13,8 @@ use Rattle.boot_model.specs.PeiMachine.{PeiMachine}
 use Rattle.boot_model.specs.PeiRun.{pei_end}
 use Rattle.boot_model.specs.PlanBoard.{board_of}
 use Rattle.store_model.specs.HeapImage.{hob_list}
-use Rattle.boot_core.specs.declared.hand_off.HandOff.{HandOff}
-use Rattle.boot_core.specs.declared.hand_off.HandOff.TheVariants.{Hobs, Ended}
+use Rattle.boot_core.specs.declared.handing_on.HandOff.{HandOff}
+use Rattle.boot_core.specs.declared.handing_on.HandOff.TheVariants.{Hobs, Ended}
 
 -- the result of a boot whose PEI ended so, where it handed nothing on
 abbrev pub result_of : PeiEnd → Option RunEnd

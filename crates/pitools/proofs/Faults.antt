@@ -10,11 +10,16 @@ use Rattle.pitools.specs.declared.command_line.Tool.{Tool}
 use Rattle.pitools.specs.declared.command_line.Tool.TheVariants.{AssembleDepex, AssembleScript, ReadPei, ReadDxe, ReadScript, Mp}
 use Rattle.pitools.specs.declared.status.ToolStatus.{ToolStatus}
 use Rattle.pitools.specs.declared.status.ToolStatus.TheVariants as S
-use Rattle.pitools.specs.CheckReport.{CheckReport, JobReport, TextsOutcome, VerdictReport, both_read, checked, image_refused, job_long, job_plan, job_read, no, no_job, plan_long, trace_long, twins, yes}
+use Rattle.pitools.specs.CheckReport.{CheckReport, VerdictReport, both_read, checked, image_refused, no, plan_long, trace_long, twins, yes}
+use Rattle.boot_model.specs.declared.line.RunEnd.{RunEnd}
+use Rattle.boot_model.specs.declared.line.RunEnd.TheVariants as E
+use Rattle.pitools.specs.HobsReport.{HobsReport, bad_image, ended, handed, plan_read, too_long}
+use Rattle.pitools.specs.JobOutcome.{JobOutcome, JobReport, job_long, job_plan, job_read, no_job}
+use Rattle.pitools.specs.ReportText.{end_status}
 use Rattle.pitools.specs.Ends.{Answered, Ends, IsDue, NoMemory, SinkFailed, Trail, outcome, unread}
 use Rattle.pitools.specs.GcdReport.{GcdReport, command_refused, done, hobs_refused}
 use Rattle.pitools.specs.MpReport.{MpReport, ran, refused}
-use Rattle.pitools.specs.Outcome.{ContentReport, Names, Outcome, both, commands_long, content, hobs_long, long, usage, words_ask_check, words_ask_map, words_ask_tool}
+use Rattle.pitools.specs.Outcome.{ContentReport, Names, Outcome, both, commands_long, content, hobs_long, long, usage, words_ask_check, words_ask_hobs, words_ask_map, words_ask_tool}
 use Rattle.pitools.specs.TextReport.{AssemblyReport, DepexReport, ExpressionReport, ScriptReport, assembled, bad, faulty, long as long_depex, long_script, malformed, no_script, read, spelled, stands}
 
 -- an outcome is no fault of the files
@@ -84,9 +89,22 @@ job_tells : (line : Line) → Tells (JobReport line)
 job_tells line status out (job_long name p is t) = long_tells status is
 job_tells line status out (job_plan fault p is t) = other status S.PlanRefused (λ (e : S.PlanRefused ≡ S.FileFault). absurd (cc)) is
 
-texts_tell : (told : List ℕ → Option (List ℕ)) (bytes text : List ℕ) → Tells (TextsOutcome told bytes text)
-texts_tell told bytes text status out (no_job line p o) = job_tells line status out o
-texts_tell told bytes text status out (job_read job p o) = check_tells job.plan job.images text status out o
+-- neither is the result of a boot
+end_tells : (end : RunEnd) (status : ToolStatus) → status ≡ end_status end → status ≡ S.FileFault → ⊥
+end_tells E.Done status is = done_tells status is
+end_tells E.NoMemory status is = other status S.NoHandoff (λ (e : S.NoHandoff ≡ S.FileFault). absurd (cc)) is
+end_tells E.NoIpl status is = other status S.NoHandoff (λ (e : S.NoHandoff ≡ S.FileFault). absurd (cc)) is
+end_tells E.Spent status is = other status S.Spent (λ (e : S.Spent ≡ S.FileFault). absurd (cc)) is
+end_tells E.Deep status is = other status S.Deep (λ (e : S.Deep ≡ S.FileFault). absurd (cc)) is
+
+hobs_tell : (plan : Plan) (images : List (List ℕ)) → Tells (HobsReport plan images)
+hobs_tell plan images status out (bad_image fault p is t) = other status S.ImageRefused (λ (e : S.ImageRefused ≡ S.FileFault). absurd (cc)) is
+hobs_tell plan images status out (handed hobs p is t) = done_tells status is
+hobs_tell plan images status out (ended end p is t) = end_tells end status is
+
+texts_tell : (Of : Plan → List (List ℕ) → ToolStatus → List ℕ → Type 0) → ((plan : Plan) (images : List (List ℕ)) → Tells (Of plan images)) → (told : List ℕ → Option (List ℕ)) (bytes : List ℕ) → Tells (JobOutcome Of told bytes)
+texts_tell Of each told bytes status out (no_job line p o) = job_tells line status out o
+texts_tell Of each told bytes status out (job_read job p o) = each job.plan job.images status out o
 
 no_outcome : (told : List ℕ → Option (List ℕ)) (words : List (List ℕ)) → Tells (Outcome told words)
 no_outcome told words status text (usage p is t) = other status S.Usage (λ (e : S.Usage ≡ S.FileFault). absurd (cc)) is
@@ -95,7 +113,9 @@ no_outcome told words status text (words_ask_map hobs commands p (commands_long 
 no_outcome told words status text (words_ask_map hobs commands p (both bytes lines q r o)) = map_tells bytes lines status text o
 no_outcome told words status text (words_ask_check plan trace p (plan_long o)) = long_tells status o.status_is
 no_outcome told words status text (words_ask_check plan trace p (trace_long bytes q o)) = long_tells status o.status_is
-no_outcome told words status text (words_ask_check plan trace p (both_read bytes lines q r o)) = texts_tell told bytes lines status text o
+no_outcome told words status text (words_ask_check plan trace p (both_read bytes lines q r o)) = texts_tell (λ plan images. CheckReport plan images lines) (λ plan images. check_tells plan images lines) told bytes status text o
+no_outcome told words status text (words_ask_hobs plan p (too_long o)) = long_tells status o.status_is
+no_outcome told words status text (words_ask_hobs plan p (plan_read bytes q o)) = texts_tell HobsReport hobs_tell told bytes status text o
 no_outcome told words status text (words_ask_tool tool file p (long o)) = long_tells status o.status_is
 no_outcome told words status text (words_ask_tool tool file p (content bytes q o)) = content_tells tool bytes status text o
 

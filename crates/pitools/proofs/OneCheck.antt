@@ -1,5 +1,6 @@
--- The texts of a plan and of a trace have one report.
-use Rattle.std.proofs.Common.{◌≡◌, ℕ, List, Option, inl, inr, sym, ap, ◌∙◌, subst, arith}
+-- The texts of a plan and of a trace have one report, and so has the text of a plan whose HOB list is asked for.
+use Rattle.std.proofs.Common.{◌≡◌, ℕ, List, Option, Some, None, inl, inr, sym, ap, ◌∙◌, subst, arith}
+use Rattle.std.specs.Option.{option_and_then}
 use Rattle.std.proofs.lemmas.Bool.{cases_lt}
 use Rattle.boot_plan.specs.declared.plan.Plan.{Plan}
 use Rattle.boot_plan.specs.declared.fault.PlanFault.{PlanFault}
@@ -20,9 +21,20 @@ use Rattle.pi_base.specs.Lists.{Each}
 use Rattle.plan_files.specs.declared.job.Job.{Job}
 use Rattle.plan_files.specs.Job.{IsJobOf, IsNamedIn, IsTextRefusal, text_long, text_refused}
 use Rattle.plan_files.specs.Reading.{AreImages, IsLongVolume}
-use Rattle.pitools.specs.CheckReport.{CheckReport, JobReport, TextsOutcome, VerdictReport, checked, image_refused, job_long, job_plan, job_read, no, no_job, twins, yes}
+use Rattle.pitools.specs.CheckReport.{CheckReport, TextsOutcome, VerdictReport, checked, image_refused, no, twins, yes}
+use Rattle.boot_core.specs.declared.handing_on.HandOff.TheVariants.{Hobs, Ended}
+use Rattle.boot_core.specs.HandOff.{HandsOn, IsHandOff, result_of}
+use Rattle.boot_model.specs.PeiMachine.{PeiMachine}
+use Rattle.boot_model.specs.PeiRun.{pei_end}
+use Rattle.boot_model.specs.declared.line.RunEnd.{RunEnd}
+use Rattle.boot_model.specs.declared.phase_end.PeiEnd.{PeiEnd}
+use Rattle.boot_model.specs.declared.phase_end.PeiEnd.TheVariants as P
+use Rattle.pitools.specs.HobsReport.{HobsReport, bad_image, ended, handed}
+use Rattle.pitools.specs.JobOutcome.{JobOutcome, JobReport, job_long, job_plan, job_read, no_job}
+use Rattle.pitools.specs.ReportText.{end_status}
+use Rattle.pitools.specs.declared.status.ToolStatus.{ToolStatus}
 use Rattle.pitools.specs.OneOutcome.{AreAllTold, IsOne}
-use Rattle.pitools.specs.Refusals.{image_line, long_line, no_line, plan_line, twins_line}
+use Rattle.pitools.specs.Refusals.{end_line, image_line, long_line, no_line, plan_line, twins_line}
 use Rattle.pitools.proofs.ToldFiles.{VolumesTold, images_bytes, long_told, one_images, one_long_volume}
 
 -- what the crates of plans and images say: a text has one plan, or one fault; images have one catalogue, or one fault; and never both
@@ -117,13 +129,58 @@ job_or_refusal laws told content all job line is (text_long plan p o) =
     let P : Plan → Type 0 = λ x. IsLongVolume told x.volumes line in
     long_told told job.plan.volumes line (named_told told content job.plan all is.plan_is) (subst P (laws.plans content plan job.plan p is.plan_is) o) job.images is.images_are
 
-pub one_check : Laws → (told : List ℕ → Option (List ℕ)) (content text : List ℕ) → AreAllTold told (IsNamedIn told content) → IsOne (TextsOutcome told content text)
-one_check laws told content text all a b s t (no_job line p o) (no_job other q u) =
+-- what a plan's text leads to is one, where what a plan and its images lead to is
+one_of_job : Laws → (Of : Plan → List (List ℕ) → ToolStatus → List ℕ → Type 0) → ((plan : Plan) (images : List (List ℕ)) → Each AreBytes images → IsOne (Of plan images)) → (told : List ℕ → Option (List ℕ)) (content : List ℕ)
+    → AreAllTold told (IsNamedIn told content) → IsOne (JobOutcome Of told content)
+one_of_job laws Of each told content all a b s t (no_job line p o) (no_job other q u) =
     let P : Line → Type 0 = λ x. JobReport x b t in
     one_line line a b s t o (subst P (one_refusal laws told content all other line q p) u)
-one_check laws told content text all a b s t (no_job line p o) (job_read job is u) = absurd (job_or_refusal laws told content all job line is p)
-one_check laws told content text all a b s t (job_read job is o) (no_job line q u) = absurd (job_or_refusal laws told content all job line is q)
-one_check laws told content text all a b s t (job_read job is o) (job_read other also u) =
-    let P : Job → Type 0 = λ x. CheckReport x.plan x.images text b t in
+one_of_job laws Of each told content all a b s t (no_job line p o) (job_read job is u) = absurd (job_or_refusal laws told content all job line is p)
+one_of_job laws Of each told content all a b s t (job_read job is o) (no_job line q u) = absurd (job_or_refusal laws told content all job line is q)
+one_of_job laws Of each told content all a b s t (job_read job is o) (job_read other also u) =
+    let P : Job → Type 0 = λ x. Of x.plan x.images b t in
     let are = images_bytes told job.plan.volumes (named_told told content job.plan all is.plan_is) job.images is.images_are in
-    one_report laws job.plan job.images text are a b s t o (subst P (one_job laws told content all other job also is) u)
+    each job.plan job.images are a b s t o (subst P (one_job laws told content all other job also is) u)
+
+pub one_check : Laws → (told : List ℕ → Option (List ℕ)) (content text : List ℕ) → AreAllTold told (IsNamedIn told content) → IsOne (TextsOutcome told content text)
+one_check laws told content text all = one_of_job laws (λ plan images. CheckReport plan images text) (λ plan images are. one_report laws plan images text are) told content all
+
+-- a machine hands one list on
+one_list : (m : PeiMachine) (a b : List ℕ) → HandsOn m (Hobs a) → HandsOn m (Hobs b) → a ≡ b
+one_list m a b p q = p.1 ∙ sym q.1
+
+one_end : (m : PeiMachine) (a b : RunEnd) → HandsOn m (Ended a) → HandsOn m (Ended b) → a ≡ b
+one_end m a b p q = let same : Some a ≡ Some b = sym p ∙ q in cc
+
+list_or_end : (m : PeiMachine) (a : List ℕ) (b : RunEnd) → HandsOn m (Hobs a) → HandsOn m (Ended b) → ⊥
+list_or_end m a b p q =
+    let none : option_and_then result_of m.ended ≡ None = ap (λ (o : Option PeiEnd). option_and_then result_of o) p.0 in
+    let same : None ≡ Some b = sym none ∙ q in
+    cc
+
+-- the last machine of PEI, whatever the catalogue of the images
+of_one : Laws → (plan : Plan) (images : List (List ℕ)) (a b : Catalog) → IsCatalogue plan images a → IsCatalogue plan images b → pei_end (board_of plan b images) b plan.fuel ≡ pei_end (board_of plan a images) a plan.fuel
+of_one laws plan images a b p q = ap (λ (x : Catalog). pei_end (board_of plan x images) x plan.fuel) (laws.catalogues plan images b a q p)
+
+one_hobs_report : Laws → (plan : Plan) (images : List (List ℕ)) → Each AreBytes images → IsOne (HobsReport plan images)
+one_hobs_report laws plan images are a b s t (bad_image f p e u) (bad_image g q h v) = (e ∙ sym h, u ∙ ap image_line (laws.image_faults plan images f g are p q) ∙ sym v)
+one_hobs_report laws plan images are a b s t (bad_image f p e u) (handed hobs q h v) = absurd (laws.catalogue_or_fault plan images q.catalog f are q.sound p)
+one_hobs_report laws plan images are a b s t (bad_image f p e u) (ended end q h v) = absurd (laws.catalogue_or_fault plan images q.catalog f are q.sound p)
+one_hobs_report laws plan images are a b s t (handed hobs p e u) (bad_image g q h v) = absurd (laws.catalogue_or_fault plan images p.catalog g are p.sound q)
+one_hobs_report laws plan images are a b s t (ended end p e u) (bad_image g q h v) = absurd (laws.catalogue_or_fault plan images p.catalog g are p.sound q)
+one_hobs_report laws plan images are a b s t (handed hobs p e u) (handed others q h v) =
+    let here = subst (λ (m : PeiMachine). HandsOn m (Hobs others)) (of_one laws plan images p.catalog q.catalog p.sound q.sound) q.is in
+    (e ∙ sym h, u ∙ one_list (pei_end (board_of plan p.catalog images) p.catalog plan.fuel) hobs others p.is here ∙ sym v)
+one_hobs_report laws plan images are a b s t (handed hobs p e u) (ended end q h v) =
+    let here = subst (λ (m : PeiMachine). HandsOn m (Ended end)) (of_one laws plan images p.catalog q.catalog p.sound q.sound) q.is in
+    absurd (list_or_end (pei_end (board_of plan p.catalog images) p.catalog plan.fuel) hobs end p.is here)
+one_hobs_report laws plan images are a b s t (ended end p e u) (handed others q h v) =
+    let here = subst (λ (m : PeiMachine). HandsOn m (Hobs others)) (of_one laws plan images p.catalog q.catalog p.sound q.sound) q.is in
+    absurd (list_or_end (pei_end (board_of plan p.catalog images) p.catalog plan.fuel) others end here p.is)
+one_hobs_report laws plan images are a b s t (ended end p e u) (ended other q h v) =
+    let here = subst (λ (m : PeiMachine). HandsOn m (Ended other)) (of_one laws plan images p.catalog q.catalog p.sound q.sound) q.is in
+    let same : end ≡ other = one_end (pei_end (board_of plan p.catalog images) p.catalog plan.fuel) end other p.is here in
+    (e ∙ ap end_status same ∙ sym h, u ∙ ap end_line same ∙ sym v)
+
+pub one_hobs : Laws → (told : List ℕ → Option (List ℕ)) (content : List ℕ) → AreAllTold told (IsNamedIn told content) → IsOne (JobOutcome HobsReport told content)
+one_hobs laws told content all = one_of_job laws HobsReport (one_hobs_report laws) told content all

@@ -11,17 +11,20 @@ use Rattle.pitools.specs.declared.command_line.Tool.TheVariants.{AssembleDepex, 
 use Rattle.pitools.specs.declared.status.ToolStatus.{ToolStatus}
 use Rattle.pitools.specs.declared.status.ToolStatus.TheVariants as S
 use Rattle.pitools.specs.CheckReport.{CheckNames, CheckOutcome, TextsOutcome, both_read, is_plan, is_trace, is_volume, plan_long, trace_limit, trace_long}
-use Rattle.pitools.specs.CommandLine.{AskForCheck, AskForMap, AskForTool, tool_words}
+use Rattle.pitools.specs.CommandLine.{AskForCheck, AskForHobs, AskForMap, AskForTool, tool_words}
 use Rattle.pitools.specs.Ends.{EndsBy, Ends, IsDue, Kind, OfMemory, OfSink, OfText, Trail, kind_of, outcome, status_after, unread}
 use Rattle.pitools.specs.GcdReport.{GcdReport}
+use Rattle.pitools.specs.HobsReport.{HobsNames, HobsOutcome, HobsReport, plan_read, too_long, of_plan, of_volume}
+use Rattle.pitools.specs.JobOutcome.{JobOutcome}
 use Rattle.pitools.specs.OneOutcome.{AnswersExactly, AreAllTold, AreTold, IsOne, IsStoppedBy, IsToldAsBytes}
-use Rattle.pitools.specs.Outcome.{ContentReport, MapNames, MapOutcome, Names, Outcome, ToolOutcome, both, commands_limit, commands_long, content, file_limit, hobs_long, limit_of, long, of_check, of_map, of_tool, usage, words_ask_check, words_ask_map, words_ask_tool}
+use Rattle.pitools.specs.Outcome.{ContentReport, MapNames, MapOutcome, Names, Outcome, ToolOutcome, both, commands_limit, commands_long, content, file_limit, hobs_long, limit_of, long, of_check, of_hobs, of_map, of_tool, usage, words_ask_check, words_ask_hobs, words_ask_map, words_ask_tool}
 use Rattle.pitools.proofs.ToldFiles.{one_content, one_long, told_bytes, within_or_over}
 
 -- the laws of the tools: what is read leads to one report
 pub record Laws : Type 0 where
   pub maps : (bytes lines : List ℕ) → IsOne (GcdReport bytes lines)
   pub contents : (tool : Tool) (content : List ℕ) → AreBytes content → IsOne (ContentReport tool content)
+  pub hobs : (told : List ℕ → Option (List ℕ)) (content : List ℕ) → AreAllTold told (IsNamedIn told content) → IsOne (JobOutcome HobsReport told content)
   pub checks : (told : List ℕ → Option (List ℕ)) (content text : List ℕ) → AreAllTold told (IsNamedIn told content) → IsOne (TextsOutcome told content text)
 
 -- words ask for one thing: they are told apart by the first byte of the first word and of the second
@@ -51,6 +54,16 @@ map_or_tool words hobs commands tool file p q = let e = ap first (sym p.0 ∙ q.
 check_or_tool : (words : List (List ℕ)) (plan trace : List ℕ) (tool : Tool) (file : List ℕ) → AskForCheck words plan trace → AskForTool words tool file → ⊥
 check_or_tool words plan trace Mp file p q = let e = ap first (sym p.0 ∙ q.0) in omega (arith, e)
 check_or_tool words plan trace tool file p q = let e = ap first (sym p.0 ∙ q.0) in omega (arith, e)
+
+hobs_or_map : (words : List (List ℕ)) (plan hobs commands : List ℕ) → AskForHobs words plan → AskForMap words hobs commands → ⊥
+hobs_or_map words plan hobs commands p q = let e = ap first (sym p.0 ∙ q.0) in omega (arith, e)
+
+hobs_or_check : (words : List (List ℕ)) (plan other trace : List ℕ) → AskForHobs words plan → AskForCheck words other trace → ⊥
+hobs_or_check words plan other trace p q = let e = ap first (sym p.0 ∙ q.0) in omega (arith, e)
+
+hobs_or_tool : (words : List (List ℕ)) (plan : List ℕ) (tool : Tool) (file : List ℕ) → AskForHobs words plan → AskForTool words tool file → ⊥
+hobs_or_tool words plan Mp file p q = let e = ap first (sym p.0 ∙ q.0) in omega (arith, e)
+hobs_or_tool words plan tool file p q = let e = ap first (sym p.0 ∙ q.0) in omega (arith, e)
 
 abbrev tool_in : List (List ℕ) → Tool
 tool_in words =
@@ -126,6 +139,16 @@ one_of_check laws told plan trace all a b s t (both_read c text p r o) (both_rea
     let Q : List ℕ → Type 0 = λ x. TextsOutcome told c x b t in
     laws.checks told c text (λ name named. all name (is_volume c text p r named)) a b s t o (subst Q texts (subst P contents u))
 
+-- and that of a plan whose HOB list is asked for
+one_of_hobs : Laws → (told : List ℕ → Option (List ℕ)) (plan : List ℕ) → AreAllTold told (HobsNames told plan) → IsOne (HobsOutcome told plan)
+one_of_hobs laws told plan all a b s t (too_long p) (too_long q) = one_long (told plan) plan_limit plan a b s t p q
+one_of_hobs laws told plan all a b s t (too_long p) (plan_read d q o) = absurd (within_or_over (told plan) plan_limit (all plan (of_plan refl)) p.content d p.long q)
+one_of_hobs laws told plan all a b s t (plan_read c p o) (too_long q) = absurd (within_or_over (told plan) plan_limit (all plan (of_plan refl)) q.content c q.long p)
+one_of_hobs laws told plan all a b s t (plan_read c p o) (plan_read d q u) =
+    let contents : d ≡ c = one_content (told plan) (all plan (of_plan refl)) d c q.as_told p.as_told in
+    let P : List ℕ → Type 0 = λ x. JobOutcome HobsReport told x b t in
+    laws.hobs told c (λ name named. all name (of_volume c p named)) a b s t o (subst P contents u)
+
 abbrev second : List (List ℕ) → List ℕ
 second words = head (rest words)
 
@@ -146,6 +169,17 @@ one_outcome laws told words all a b s t (words_ask_check plan trace p o) (words_
 one_outcome laws told words all a b s t (words_ask_check plan trace p o) (words_ask_tool tool file q u) = absurd (check_or_tool words plan trace tool file p q)
 one_outcome laws told words all a b s t (words_ask_tool tool file p o) (words_ask_map hobs commands q u) = absurd (map_or_tool words hobs commands tool file q p)
 one_outcome laws told words all a b s t (words_ask_tool tool file p o) (words_ask_check plan trace q u) = absurd (check_or_tool words plan trace tool file q p)
+one_outcome laws told words all a b s t (usage none e u) (words_ask_hobs plan q o) = absurd (none.no_hobs plan q)
+one_outcome laws told words all a b s t (words_ask_hobs plan p o) (usage none f v) = absurd (none.no_hobs plan p)
+one_outcome laws told words all a b s t (words_ask_hobs plan p o) (words_ask_map hobs commands q u) = absurd (hobs_or_map words plan hobs commands p q)
+one_outcome laws told words all a b s t (words_ask_hobs plan p o) (words_ask_check other trace q u) = absurd (hobs_or_check words plan other trace p q)
+one_outcome laws told words all a b s t (words_ask_hobs plan p o) (words_ask_tool tool file q u) = absurd (hobs_or_tool words plan tool file p q)
+one_outcome laws told words all a b s t (words_ask_map hobs commands p o) (words_ask_hobs plan q u) = absurd (hobs_or_map words plan hobs commands q p)
+one_outcome laws told words all a b s t (words_ask_check other trace p o) (words_ask_hobs plan q u) = absurd (hobs_or_check words plan other trace q p)
+one_outcome laws told words all a b s t (words_ask_tool tool file p o) (words_ask_hobs plan q u) = absurd (hobs_or_tool words plan tool file q p)
+one_outcome laws told words all a b s t (words_ask_hobs plan p o) (words_ask_hobs other q u) =
+    let P : List ℕ → Type 0 = λ x. HobsOutcome told x b t in
+    one_of_hobs laws told plan (λ name named. all name (of_hobs plan p named)) a b s t o (subst P (ap second (sym q.0 ∙ p.0)) u)
 one_outcome laws told words all a b s t (words_ask_map hobs commands p o) (words_ask_map bytes lines q u) =
     let P : List ℕ → Type 0 = λ x. MapOutcome told x lines b t in
     let Q : List ℕ → Type 0 = λ x. MapOutcome told hobs x b t in

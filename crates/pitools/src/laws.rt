@@ -4,6 +4,8 @@ ghost use Rattle.pi_base.specs.Field.{AreBytes};
 ghost use Rattle.plan_files.specs.Job.{IsNamedIn};
 ghost use Rattle.pitools.specs.declared.command_line.Tool.{Tool};
 ghost use Rattle.pitools.specs.CheckReport.{TextsOutcome};
+ghost use Rattle.pitools.specs.HobsReport.{HobsReport};
+ghost use Rattle.pitools.specs.JobOutcome.{JobOutcome};
 ghost use Rattle.pitools.specs.GcdReport.{GcdReport};
 ghost use Rattle.pitools.specs.OneOutcome.{AreAllTold, AreTold, IsOne};
 ghost use Rattle.pitools.specs.Outcome.{ContentReport, Outcome};
@@ -38,11 +40,21 @@ pub(crate) fn one_check_report()
     catalog_model::one_catalogue();
 }
 
+/// The text of a plan whose HOB list is asked for leads to one report, where the files of the plan's volumes are told.
+pub(crate) fn one_hobs_report()
+    ensures { (told : List ℕ → Option (List ℕ)) (content : List ℕ) → AreAllTold told (IsNamedIn told content)
+        → IsOne (JobOutcome HobsReport told content) }
+{
+    boot_plan::one_reading();
+    catalog_model::one_catalogue();
+}
+
 /// Words and told files have one outcome: one status, and one text.
 pub fn one_outcome()
     ensures { (told : List ℕ → Option (List ℕ)) (words : List (List ℕ)) → AreTold told words → IsOne (Outcome told words) }
 {
     one_map_report();
     one_content_report();
+    one_hobs_report();
     one_check_report();
 }

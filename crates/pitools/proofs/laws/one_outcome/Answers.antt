@@ -6,6 +6,7 @@ returns c =
     let laws : Laws = record {
       maps = c.one_map_report.ensures;
       contents = c.one_content_report.ensures;
+      hobs = c.one_hobs_report.ensures;
       checks = c.one_check_report.ensures;
     } in
     one_outcome laws
