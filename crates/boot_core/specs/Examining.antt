@@ -39,7 +39,7 @@ AreRefused plan images Memory = ⊤
 -- a fault is told by its line; want of memory is none
 abbrev pub IsFaultTold : ImageFault → NoJob → Type 0
 IsFaultTold fault (Refused line) = (fault.cause ≢ I.Memory) × (line ≡ image_line fault)
-IsFaultTold fault Memory = ⊤
+IsFaultTold fault Memory = fault.cause ≡ I.Memory
 
 -- the plan and the images of the generated volume of n modules
 pub record IsJob (n : ℕ) (plan : Plan) (images : List (List ℕ)) : Type 0 where

@@ -1,7 +1,7 @@
 -- What is read of the heap: the bytes of the HOB list, and of one HOB in it.
 use lib.Seq.{take-append-add, drop-append-add}
 use Rattle.std.proofs.Common.{◌≡◌, ℕ, zero, suc, ◌+◌, ◌-◌, ◌≤◌, ◌<◌, Bool, true, false, nat_le, if◌then◌else◌, List, [], ◌∷◌, ◌++◌, length, take, drop, get_or, map, arith, sym, refl, ap, subst, ◌∙◌, append_assoc, Option, Some, None, IfSome, slice_get, sum_by}
-use Rattle.std.proofs.lemmas.List.{append-nil, drop_more, length-append}
+use Rattle.std.proofs.lemmas.List.{append-nil, drop_more, length-append, take_all}
 use Rattle.std.proofs.lemmas.List.Sums.{sum_by-cons}
 use Rattle.std.proofs.lemmas.Option.{same_Some, unwrap_or-slice_get}
 use Rattle.std.proofs.lemmas.Bool.Decides.{nat_tests}
@@ -142,6 +142,15 @@ heap_read s at n h part =
     let read : map (heap_byte s) (numbers at n) ≡ heap_part s at n = read_is (heap_byte s) (hob_list s) n at (at - s.base) (omega (arith, part.0, part.1, end))
     (λ i lt. heap_byte_is s (at + i) (at - s.base + i) (omega (arith, part.0)) (omega (arith, part.0, lt, high))) in
     mapped s s.moved at n (rom_bytes s.board.roms at n) h.heap h.planned part.0 high ∙ ap Some read
+
+-- the whole list
+pub list_read : (s : StoreState) (n : ℕ) → IsStoreState s → n ≡ end_place s + 8 → bytes_at s s.base n ≡ Some (hob_list s)
+list_read s n h e =
+    let end = list_length s h in
+    let high : s.base + n ≤ s.base + s.len = omega (arith, e, h.room) in
+    let read : map (heap_byte s) (numbers s.base n) ≡ take n (hob_list s) = read_is (heap_byte s) (hob_list s) n s.base 0 (omega (arith, e, end))
+    (λ i lt. heap_byte_is s (s.base + i) (0 + i) (omega arith) (omega (arith, lt, high))) in
+    mapped s s.moved s.base n (rom_bytes s.board.roms s.base n) h.heap h.planned (omega arith) high ∙ ap Some (read ∙ take_all n (hob_list s) (omega (arith, e, end)))
 
 -- the part of the heap that is a HOB's body
 pub body_part : (s : StoreState) (n offset : ℕ) (hob : HobEntry) → IsStoreState s → offset ≡ place_of (all_hobs s) n → slice_get (all_hobs s) n ≡ Some hob

@@ -6,6 +6,7 @@ mod call_line;
 mod entry_list;
 mod fixed_word;
 mod heap_bytes;
+mod hob_bytes;
 mod hob_line;
 mod line;
 mod number_word;
@@ -19,6 +20,7 @@ pub use entry_list::count_ppis;
 pub use fixed_word::{
     call_name_word, image_cause_word, licence_word, plan_cause_word, reason_word, run_end_word,
 };
+pub use hob_bytes::hob_list;
 pub use line::{put, put_all};
 pub use number_word::{decimal_word, hexadecimal_word};
 pub use out::Out;

@@ -1,8 +1,10 @@
 -- What a plan, its images and a text lead to: the images' first fault, the first volume with two modules of one name, or the verdict on the text.
 -- Own.
-use Rattle.std.specs.Prelude.{ℕ, List, Result, Ok, Err, ⊤}
+use Rattle.std.specs.Prelude.{◌≡◌, ◌≢◌, ℕ, List, Result, Ok, Err, ⊤}
 use Rattle.boot_plan.specs.declared.plan.Plan.{Plan}
 use Rattle.catalog_model.specs.declared.catalog.Catalog.{Catalog}
+use Rattle.catalog_model.specs.declared.image_fault.ImageFault.{ImageFault}
+use Rattle.catalog_model.specs.declared.image_fault.ImageCause.TheVariants as I
 use Rattle.catalog_model.specs.Catalogue.{IsCatalogue}
 use Rattle.catalog_model.specs.ImageFault.{IsImageFault}
 use Rattle.boot_model.specs.FreeRun.{AreFreeLines}
@@ -12,6 +14,12 @@ use Rattle.free_check.specs.declared.checking.CheckFault.{CheckFault}
 use Rattle.free_check.specs.declared.checking.CheckFault.TheVariants.{Image, Twins, Memory}
 use Rattle.free_check.specs.declared.verdict.Verdict.{Verdict}
 use Rattle.free_check.specs.Verdict.{IsVerdict}
+
+-- a fault of images is told as it is; want of memory is none
+abbrev pub IsFaultTold : ImageFault → CheckFault → Type 0
+IsFaultTold fault (Image told) = (fault.cause ≢ I.Memory) × (told ≡ fault)
+IsFaultTold fault (Twins volume) = ⊥
+IsFaultTold fault Memory = fault.cause ≡ I.Memory
 
 -- over a catalogue: the verdict, or its first volume with two modules of one name
 abbrev pub ChecksCatalog : Plan → Catalog → List (List ℕ) → List ℕ → Result Verdict CheckFault → Type 0

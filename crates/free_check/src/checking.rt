@@ -6,7 +6,7 @@ ghost use Rattle.boot_plan.specs.Range.{IsPlanInRange};
 ghost use Rattle.catalog_model.specs.WellFormed.{IsWellFormed};
 ghost use Rattle.store_model.specs.StateFacts.{IsBoard};
 ghost use Rattle.module_names.specs.Named.{AreNames, HasNoTwins};
-ghost use Rattle.free_check.specs.Checking.{Checks, ChecksCatalog};
+ghost use Rattle.free_check.specs.Checking.{Checks, ChecksCatalog, IsFaultTold};
 ghost use Rattle.free_check.specs.Verdict.{IsVerdict};
 
 use crate::following::follow_boot;
@@ -46,6 +46,16 @@ impl From<OutOfMemory> for CheckFault {
     fn from(_want: OutOfMemory) -> CheckFault {
         CheckFault::Memory
     }
+}
+
+// The first fault of the images, or want of memory.
+fn fault_of(fault: ImageFault) -> CheckFault
+    ensures { IsFaultTold fault result }
+{
+    if fault.cause == ImageCause::Memory {
+        return CheckFault::Memory;
+    }
+    CheckFault::Image(fault)
 }
 
 // The verdict on a text over the catalogue of a plan whose volumes are mapped so.
@@ -112,12 +122,7 @@ pub fn check(
     catalogues_are_well_formed();
     let catalog = match catalog(alloc, plan, images.as_slice()) {
         Ok(catalog) => catalog,
-        Err(fault) => {
-            if fault.cause == ImageCause::Memory {
-                return Err(CheckFault::Memory);
-            }
-            return Err(CheckFault::Image(fault));
-        }
+        Err(fault) => return Err(fault_of(fault)),
     };
     check_catalog(alloc, plan, &catalog, images, text)
 }

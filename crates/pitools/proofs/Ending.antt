@@ -9,6 +9,7 @@ use Rattle.pitools.specs.declared.report.Report.{Report}
 use Rattle.pitools.specs.declared.report.Report.TheVariants as R
 use Rattle.pitools.specs.declared.status.ToolStatus.{ToolStatus}
 use Rattle.pitools.specs.declared.status.ToolStatus.TheVariants.{Done}
+use Rattle.boot_model.specs.declared.line.RunEnd.TheVariants as E
 use Rattle.free_check.specs.declared.verdict.Verdict.TheVariants.{Yes, No}
 use Rattle.pitools.specs.FileReading.{FilesTrail}
 use Rattle.pitools.specs.Ends.{Answered, At, Ends, EndsBy, Failing, IsDue, Kind, Nowhere, OfText, Reports, ReportsBy, SinkFailed, Tells, Trail, failing, kind_of, outcome, status_after, unread}
@@ -69,6 +70,7 @@ due_of Out Named (R.Malformed at) t r = outcome r.0 r.1
 due_of Out Named (R.Bytes fault) t r = outcome r.0 r.1
 due_of Out Named (R.Map steps map) t r = outcome r.0 r.1
 due_of Out Named (R.Mp file left) t r = outcome r.0 r.1
+due_of Out Named (R.Ended end) t r = outcome r.0 r.1
 due_of Out Named (R.Answer text) t r = outcome r.0 r.1
 
 text_kind : (report : Report) → kind_of (report_status report) ≡ OfText
@@ -89,6 +91,11 @@ text_kind (R.Malformed at) = refl
 text_kind (R.Bytes fault) = refl
 text_kind (R.Map steps map) = refl
 text_kind (R.Mp file left) = refl
+text_kind (R.Ended E.Done) = refl
+text_kind (R.Ended E.NoMemory) = refl
+text_kind (R.Ended E.NoIpl) = refl
+text_kind (R.Ended E.Spent) = refl
+text_kind (R.Ended E.Deep) = refl
 text_kind (R.Answer text) = refl
 
 -- a report that was put

@@ -8,7 +8,8 @@ use Rattle.plan_files.specs.declared.reading.NoJob.TheVariants.{Refused}
 use Rattle.pitools.specs.declared.report.Report.{Report}
 use Rattle.pitools.specs.declared.report.Report.TheVariants as R
 use Rattle.pitools.specs.declared.status.ToolStatus.{ToolStatus}
-use Rattle.pitools.specs.CheckReport.{JobReport, TextsOutcome, job_long, job_plan, no_job}
+use Rattle.boot_plan.specs.declared.plan.Plan.{Plan}
+use Rattle.pitools.specs.JobOutcome.{JobOutcome, JobReport, job_long, job_plan, no_job}
 use Rattle.pitools.specs.Ends.{Failing, Reports, ReportsBy, Tells}
 use Rattle.pitools.specs.FileReading.{LongOutcome}
 use Rattle.pitools.specs.FileRefusal.{IsFileRefusal, IsReportOf, of_file, of_long, of_plan, reports_file, reports_long, reports_plan}
@@ -71,8 +72,8 @@ job_tells told text line report (reports_plan at cause e r) refusal = subst (Tel
 pub job_refusal : (told : List ℕ → Option (List ℕ)) (text : List ℕ) (t : FilesTrail) (line : Line) → Lacks (IsTextRefusal told text) (IsNamedIn told text) t (Refused line) → IsFileRefusal line
 job_refusal told text t line lacks = lacks_refusal (IsTextRefusal told text) (IsNamedIn told text) t line (refusal_line told text line) lacks
 
-pub job_reports : (told : List ℕ → Option (List ℕ)) (content text : List ℕ) (t : FilesTrail) (line : Line) (report : Report) → Lacks (IsTextRefusal told content) (IsNamedIn told content) t (Refused line)
-    → IsReportOf line report → Reports (TextsOutcome told content text) (IsNamedIn told content) report t
-job_reports told content text t line report lacks is =
-    let up : IsTextRefusal told content line → Tells (TextsOutcome told content text) report = λ refusal. let tells = job_tells told content line report is refusal in (no_job line refusal tells.0, tells.1) in
-    lacks_reports (IsTextRefusal told content) (IsNamedIn told content) (TextsOutcome told content text) t line report up lacks is
+pub job_reports : (Of : Plan → List (List ℕ) → ToolStatus → List ℕ → Type 0) (told : List ℕ → Option (List ℕ)) (content : List ℕ) (t : FilesTrail) (line : Line) (report : Report) → Lacks (IsTextRefusal told content) (IsNamedIn told content) t (Refused line)
+    → IsReportOf line report → Reports (JobOutcome Of told content) (IsNamedIn told content) report t
+job_reports Of told content t line report lacks is =
+    let up : IsTextRefusal told content line → Tells (JobOutcome Of told content) report = λ refusal. let tells = job_tells told content line report is refusal in (no_job line refusal tells.0, tells.1) in
+    lacks_reports (IsTextRefusal told content) (IsNamedIn told content) (JobOutcome Of told content) t line report up lacks is

@@ -1,2 +1,9 @@
 mod Ending
 mod FileReports
+mod Faults
+mod OneRun
+mod OneMapReport
+mod OneContent
+mod ToldFiles
+mod OneCheck
+mod OneOutcome

@@ -8,18 +8,15 @@ use Rattle.catalog_model.specs.Catalogue.{IsCatalogue}
 use Rattle.catalog_model.specs.ImageFault.{IsImageFault}
 use Rattle.boot_model.specs.FreeRun.{AreFreeLines}
 use Rattle.boot_model.specs.PlanBoard.{board_of}
-use Rattle.boot_plan.specs.declared.fault.PlanFault.{PlanFault}
-use Rattle.boot_model.specs.declared.line.Line.{Line}
-use Rattle.boot_model.specs.declared.line.Line.TheVariants as L
 use Rattle.free_check.specs.Verdict.{IsBoot, IsFirstOff}
 use Rattle.module_names.specs.Named.{HasNoTwins, IsFirstWithTwins}
-use Rattle.plan_files.specs.declared.job.Job.{Job}
-use Rattle.plan_files.specs.Job.{IsJobOf, IsNamedIn, IsTextRefusal}
+use Rattle.plan_files.specs.Job.{IsNamedIn}
 use Rattle.plan_files.specs.Reading.{plan_limit}
 use Rattle.pitools.specs.declared.status.ToolStatus.{ToolStatus}
-use Rattle.pitools.specs.declared.status.ToolStatus.TheVariants.{Done, TooLong, PlanRefused, ImageRefused, No, Twins}
+use Rattle.pitools.specs.declared.status.ToolStatus.TheVariants.{Done, ImageRefused, No, Twins}
 use Rattle.pitools.specs.FileReading.{IsRead, LongOutcome}
-use Rattle.pitools.specs.Refusals.{image_line, long_line, no_line, plan_line, twins_line, yes_line}
+use Rattle.pitools.specs.JobOutcome.{JobOutcome}
+use Rattle.pitools.specs.Refusals.{image_line, no_line, twins_line, yes_line}
 
 -- how many bytes a trace may have
 abbrev pub trace_limit : ℕ
@@ -38,15 +35,9 @@ pub data CheckReport (plan : Plan) (images : List (List ℕ)) (text : List ℕ) 
       → CheckReport plan images text status out
   checked : (catalog : Catalog) → IsCatalogue plan images catalog → HasNoTwins catalog → VerdictReport plan images catalog text status out → CheckReport plan images text status out
 
--- the line of the reading's refusal with its status
-pub data JobReport (line : Line) (status : ToolStatus) (out : List ℕ) : Type 0 where
-  job_long : (name : List ℕ) → line ≡ L.RefusedLong name → status ≡ TooLong → out ≡ long_line name → JobReport line status out
-  job_plan : (fault : PlanFault) → line ≡ L.RefusedPlan fault.line fault.cause → status ≡ PlanRefused → out ≡ plan_line fault → JobReport line status out
-
--- what the texts of a plan and of a trace lead to: the volumes that the plan names are read behind its examination
-pub data TextsOutcome (told : List ℕ → Option (List ℕ)) (content text : List ℕ) (status : ToolStatus) (out : List ℕ) : Type 0 where
-  no_job : (line : Line) → IsTextRefusal told content line → JobReport line status out → TextsOutcome told content text status out
-  job_read : (job : Job) → IsJobOf told content job → CheckReport job.plan job.images text status out → TextsOutcome told content text status out
+-- what the texts of a plan and of a trace lead to
+abbrev pub TextsOutcome : (List ℕ → Option (List ℕ)) → List ℕ → List ℕ → ToolStatus → List ℕ → Type 0
+TextsOutcome told content text = JobOutcome (λ plan images. CheckReport plan images text) told content
 
 -- what the files of a plan and of a trace lead to: both are read before the plan is examined
 pub data CheckOutcome (told : List ℕ → Option (List ℕ)) (plan trace : List ℕ) (status : ToolStatus) (out : List ℕ) : Type 0 where

@@ -37,6 +37,7 @@ failing (R.Malformed at) = Nowhere
 failing (R.Bytes fault) = Nowhere
 failing (R.Map steps map) = Nowhere
 failing (R.Mp file outcome) = Nowhere
+failing (R.Ended end) = Nowhere
 failing (R.Answer text) = Nowhere
 
 -- a report is that of an outcome, or of a file that could not be read
@@ -103,6 +104,9 @@ kind_of S.FileFault = OfText
 kind_of S.TooLong = OfText
 kind_of S.PlanRefused = OfText
 kind_of S.ImageRefused = OfText
+kind_of S.NoHandoff = OfText
+kind_of S.Spent = OfText
+kind_of S.Deep = OfText
 kind_of S.SinkFault = OfSink
 kind_of S.Memory = OfMemory
 kind_of S.No = OfText

@@ -5,8 +5,11 @@ pub mod Refusals
 pub mod ReportText
 pub mod GcdReport
 pub mod MpReport
+pub mod JobOutcome
 pub mod CheckReport
+pub mod HobsReport
 pub mod TextReport
 pub mod Outcome
 pub mod Ends
+pub mod OneOutcome
 pub mod Leaving

@@ -7,6 +7,7 @@ use Rattle.catalog_model.specs.declared.image_fault.ImageFault.{ImageFault}
 use Rattle.free_check.specs.declared.verdict.Verdict.{Verdict}
 use Rattle.free_check.specs.declared.verdict.Verdict.TheVariants.{Yes, No}
 use Rattle.boot_model.specs.declared.line.Line.TheVariants as L
+use Rattle.boot_model.specs.declared.line.RunEnd.{RunEnd}
 use Rattle.boot_model.specs.Text.{line_text, refused_file_text, refused_long_text}
 use Rattle.act_code.specs.declared.fault.ActCause.{ActCause}
 use Rattle.act_code.specs.declared.fault.ActCause.TheVariants as A
@@ -30,6 +31,10 @@ plan_line fault = line_text (L.RefusedPlan fault.line fault.cause)
 -- the first fault of the images of a plan's volumes
 unfoldable pub image_line : ImageFault → List ℕ
 image_line fault = line_text (L.RefusedImage fault.volume fault.at fault.cause)
+
+-- how a boot ends that hands nothing on
+unfoldable pub end_line : RunEnd → List ℕ
+end_line end = line_text (L.Result end)
 
 unfoldable pub refused_twins : List ℕ
 refused_twins = codes "refused twins"

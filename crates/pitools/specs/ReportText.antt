@@ -3,13 +3,15 @@
 use Rattle.std.specs.Prelude.{ℕ, List, ◌++◌}
 use Rattle.gcd_map.specs.MapText.{answers_text, map_text, hobs_refusal, command_refusal}
 use Rattle.mp_text.specs.OutcomeText.{bad_line, outcome_text}
+use Rattle.boot_model.specs.declared.line.RunEnd.{RunEnd}
+use Rattle.boot_model.specs.declared.line.RunEnd.TheVariants as E
 use Rattle.free_check.specs.declared.verdict.Verdict.{Verdict}
 use Rattle.free_check.specs.declared.verdict.Verdict.TheVariants.{Yes, No}
 use Rattle.pitools.specs.declared.status.ToolStatus.{ToolStatus}
 use Rattle.pitools.specs.declared.status.ToolStatus.TheVariants as S
 use Rattle.pitools.specs.declared.report.Report.{Report}
 use Rattle.pitools.specs.declared.report.Report.TheVariants as R
-use Rattle.pitools.specs.Refusals.{usage_line, file_line, long_line, plan_line, image_line, twins_line, verdict_line, text_line, text_long_line, malformed_line, bytes_line}
+use Rattle.pitools.specs.Refusals.{usage_line, file_line, long_line, plan_line, image_line, twins_line, end_line, verdict_line, text_line, text_long_line, malformed_line, bytes_line}
 
 abbrev pub report_text : Report → List ℕ
 report_text R.Usage = usage_line
@@ -28,11 +30,20 @@ report_text (R.Malformed at) = malformed_line at
 report_text (R.Bytes fault) = bytes_line fault.cause fault.at
 report_text (R.Map steps map) = answers_text steps ++ map_text map.ranges
 report_text (R.Mp file outcome) = outcome_text file.events outcome
+report_text (R.Ended end) = end_line end
 report_text (R.Answer text) = text
 
 abbrev pub verdict_status : Verdict → ToolStatus
 verdict_status Yes = S.Done
 verdict_status (No line) = S.No
+
+-- the status of a boot that ends so
+abbrev pub end_status : RunEnd → ToolStatus
+end_status E.Done = S.Done
+end_status E.NoMemory = S.NoHandoff
+end_status E.NoIpl = S.NoHandoff
+end_status E.Spent = S.Spent
+end_status E.Deep = S.Deep
 
 abbrev pub report_status : Report → ToolStatus
 report_status R.Usage = S.Usage
@@ -51,4 +62,5 @@ report_status (R.Malformed at) = S.TextRefused
 report_status (R.Bytes fault) = S.TextRefused
 report_status (R.Map steps map) = S.Done
 report_status (R.Mp file outcome) = S.Done
+report_status (R.Ended end) = end_status end
 report_status (R.Answer text) = S.Done

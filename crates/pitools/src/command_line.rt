@@ -1,7 +1,7 @@
 // The words of a command line.
 ghost use Rattle.std.specs.Prelude.{◌≡◌, ◌↔◌, ℕ, List, [], ◌∷◌, codes, IfSome, IfNone, IsTrue};
 ghost use Rattle.pitools.specs.declared.command_line.Tool.{Tool};
-ghost use Rattle.pitools.specs.CommandLine.{tool_words, AskForTool, AskForMap, AskForCheck};
+ghost use Rattle.pitools.specs.CommandLine.{tool_words, AskForTool, AskForMap, AskForCheck, AskForHobs};
 ghost use Rattle.boot_io.specs.Words.{words_of};
 
 /// A tool of one file.
@@ -117,6 +117,34 @@ fn asks_for_check(verb: &str) -> bool
     ensures { IsTrue result ↔ (verb.now ≡ codes "check") }
 {
     verb == "check"
+}
+
+// Whether a word asks for the HOB list of a boot.
+fn asks_for_hobs(verb: &str) -> bool
+    ensures { IsTrue result ↔ (verb.now ≡ codes "hobs") }
+{
+    verb == "hobs"
+}
+
+/// The name of a plan's file, where the words ask for the HOB list that its PEI hands on.
+pub(crate) fn asked_hobs(words: &[String]) -> Option<&str>
+    ensures found { IfSome result (λ plan. AskForHobs (words_of words.now) plan.now) }
+    ensures none { IfNone result ((plan : List ℕ) → AskForHobs (words_of words.now) plan → ⊥) }
+{
+    match words {
+        [verb, plan] => {
+            let plan = plan.as_str();
+            if plan.is_empty() {
+                return None;
+            }
+            if asks_for_hobs(verb.as_str()) {
+                Some(plan)
+            } else {
+                None
+            }
+        }
+        _ => None,
+    }
 }
 
 /// The names of the files of a plan and of a trace, where the words ask whether the trace is a free boot's.

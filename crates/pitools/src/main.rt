@@ -4,6 +4,8 @@
 mod check_tool;
 mod command_line;
 mod gcd_tool;
+mod hobs_tool;
+mod laws;
 mod meaning;
 mod mp_tool;
 mod print;

@@ -26,7 +26,7 @@ const SHOWN_LIMIT: usize = 0x400_0000;
 const SHOWN_LEN: usize = 60;
 
 const USAGE: &str =
-    "usage: pitools check PLAN TRACE | pitools gcd HOBS COMMANDS | pitools mp FILE | pitools asm depex|script FILE | pitools dis pei|dxe|script FILE";
+    "usage: pitools check PLAN TRACE | pitools hobs PLAN | pitools gcd HOBS COMMANDS | pitools mp FILE | pitools asm depex|script FILE | pitools dis pei|dxe|script FILE";
 
 // Bytes as text, where they are one.
 fn text_of(bytes: &[u8]) -> &str {
@@ -57,7 +57,7 @@ fn tell_usage(rt: &HostRuntime, words: &[String]) {
             let verb = verb.as_str();
             let fault = if verb == "check" || verb == "gcd" {
                 "takes the names of two files behind it"
-            } else if verb == "mp" {
+            } else if verb == "mp" || verb == "hobs" {
                 "takes the name of a file behind it"
             } else if verb == "asm" {
                 "takes depex or script behind it, and the name of a file"
@@ -279,6 +279,16 @@ pub(crate) fn tell(rt: &HostRuntime, words: &[String], status: ToolStatus, heard
             rt,
             word_at(words, 1),
             "the volume above has two modules of one name; give one of them another, since a start line names a module by volume and name",
+        ),
+        ToolStatus::NoHandoff => put(
+            rt,
+            word_at(words, 1),
+            "PEI ended without a hand-off, so there is no HOB list to print; boot it with piboot to see why",
+        ),
+        ToolStatus::Spent | ToolStatus::Deep => put(
+            rt,
+            word_at(words, 1),
+            "PEI was given up before the hand-off, since its fuel was spent or its frames are nested too deep",
         ),
         ToolStatus::SinkFault => put(
             rt,

@@ -2,14 +2,14 @@
 ghost use Rattle.std.specs.Prelude.{◌≡◌};
 ghost use Rattle.boot_io.specs.Sink.{Puts, SinkFaultsAfter};
 ghost use Rattle.pitools.specs.Refusals.{bytes_line, cause_text, file_line, image_line, long_line, plan_line, text_line, text_long_line, usage_line};
-ghost use Rattle.pitools.specs.Refusals.{no_text, refused_twins, twins_line, verdict_line, yes_text};
+ghost use Rattle.pitools.specs.Refusals.{end_line, no_text, refused_twins, twins_line, verdict_line, yes_text};
 ghost use Rattle.pitools.specs.Refusals.{malformed_line, malformed_text, refused_bytes, refused_text, refused_text_long};
 ghost use Rattle.pitools.specs.ReportText.{report_text};
 
 use crate::report::Report;
 use act_code::{ActCause, ActFault};
 use boot_io::{Sink, SinkFault, put_line};
-use boot_model::Line;
+use boot_model::{Line, RunEnd};
 use boot_plan::PlanFault;
 use boot_trace::{Out, decimal_word, put};
 use catalog_model::ImageFault;
@@ -67,6 +67,15 @@ fn put_image<S: Sink>(sink: &mut S, fault: ImageFault) -> Result<(), SinkFault>
     let at = fault.at;
     let cause = fault.cause;
     put(sink, &Line::RefusedImage { volume, at, cause })
+}
+
+// How a boot ends.
+#[tactic(auto, unfolding(crate::specs::Refusals::end_line))]
+fn put_end<S: Sink>(sink: &mut S, end: RunEnd) -> Result<(), SinkFault>
+    ensures text { Puts result (S.text sink.old) (S.text sink.new) (end_line end) }
+    ensures cause { SinkFaultsAfter result (S.faults sink.old) (S.faults sink.new) }
+{
+    put(sink, &Line::Result { outcome: end })
 }
 
 // The first words of lines.
@@ -225,6 +234,7 @@ pub(crate) fn put_report<S: Sink>(sink: &mut S, report: &Report) -> Result<(), S
             put_map(sink, map.map())
         }
         Report::Mp { file, outcome } => put_outcome(sink, file, outcome),
+        Report::Ended(end) => put_end(sink, *end),
         Report::Answer(text) => sink.put(text.as_slice()),
     }
 }

@@ -1,9 +1,10 @@
 // What is printed of a command line.
 ghost use Rattle.std.specs.Prelude.{◌≡◌};
-ghost use Rattle.pitools.specs.ReportText.{report_status};
+ghost use Rattle.pitools.specs.ReportText.{end_status, report_status};
 
 use crate::status::ToolStatus;
 use act_code::ActFault;
+use boot_model::RunEnd;
 use boot_plan::PlanFault;
 use catalog_model::ImageFault;
 use free_check::Verdict;
@@ -53,8 +54,22 @@ pub(crate) enum Report {
         file: MpFile,
         outcome: MpOutcome,
     },
-    /// A text.
+    /// How a boot ends whose PEI hands nothing on.
+    Ended(RunEnd),
+    /// A text, or the bytes of a HOB list.
     Answer(Seq<u8>),
+}
+
+// The status of a boot that ends so.
+fn end_status(end: RunEnd) -> ToolStatus
+    ensures { result ≡ end_status end }
+{
+    match end {
+        RunEnd::Done => ToolStatus::Done,
+        RunEnd::NoMemory | RunEnd::NoIpl => ToolStatus::NoHandoff,
+        RunEnd::Spent => ToolStatus::Spent,
+        RunEnd::Deep => ToolStatus::Deep,
+    }
 }
 
 impl Report {
@@ -75,6 +90,7 @@ impl Report {
             Report::Command(_) | Report::Event(_) => ToolStatus::CommandRefused,
             Report::Text(_) | Report::TextLong => ToolStatus::TextRefused,
             Report::Malformed(_) | Report::Bytes(_) => ToolStatus::TextRefused,
+            Report::Ended(end) => end_status(*end),
             Report::Map { .. } | Report::Mp { .. } | Report::Answer(_) => ToolStatus::Done,
         }
     }

@@ -15,6 +15,12 @@ pub enum ToolStatus {
     PlanRefused = 4,
     /// An image of the plan's volumes has a fault.
     ImageRefused = 5,
+    /// The boot ends in PEI, which hands nothing on.
+    NoHandoff = 6,
+    /// The boot's fuel is spent.
+    Spent = 7,
+    /// The boot's frames are nested too deep.
+    Deep = 8,
     /// The text could not be put.
     SinkFault = 9,
     /// Want of memory.

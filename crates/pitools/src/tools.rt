@@ -1,14 +1,18 @@
 // The top call.
-ghost use Rattle.std.specs.Prelude.{◌≡◌, ◌≤◌, IfNone, IfOk, IfSome, OnErr};
+ghost use Rattle.std.specs.Prelude.{◌≡◌, ◌⊎◌, ◌<◌, ◌≤◌, IfNone, IfOk, IfSome, OnErr};
+ghost use Rattle.boot_io.specs.Faults.{Rose};
 ghost use Rattle.boot_io.specs.Words.{words_of};
 ghost use Rattle.mp_core.specs.OneAfterAnother.{CompletesInOrder, IdlesInOrder};
 ghost use Rattle.pitools.specs.Ends.{Ends, Reports, status_after};
 ghost use Rattle.pitools.specs.Leaving.{HasLeft, HasPut};
+ghost use Rattle.pitools.specs.OneOutcome.{AnswersExactly};
 ghost use Rattle.pitools.specs.Outcome.{limit_of, MapNames, MapOutcome, Names, Outcome, ToolOutcome};
 
 use crate::check_tool::with_check;
-use crate::command_line::{Tool, asked_check, asked_map, asked_tool};
+use crate::command_line::{Tool, asked_check, asked_hobs, asked_map, asked_tool};
 use crate::gcd_tool::map_report;
+use crate::hobs_tool::with_hobs;
+use crate::laws::one_outcome;
 use crate::print::put_report;
 use crate::reading::{Reading, read_file};
 use crate::report::Report;
@@ -95,6 +99,9 @@ fn with_words<F: Files>(
     if let Some((plan, trace)) = asked_check(words) {
         return with_check(alloc, plan, trace, files);
     }
+    if let Some(plan) = asked_hobs(words) {
+        return with_hobs(alloc, plan, files);
+    }
     match asked_tool(words) {
         Some((tool, file)) => with_tool(alloc, tool, file, files),
         None => Ok(Report::Usage),
@@ -111,7 +118,31 @@ fn answer(put: Result<(), SinkFault>, status: ToolStatus) -> ToolStatus
     }
 }
 
-/// Does what the words of a command line ask for: `check PLAN TRACE`, `gcd HOBS COMMANDS`, `mp FILE`, `asm depex FILE`, `asm script FILE`, `dis pei FILE`,
+// Does what the words ask for.
+fn run_words<F: Files, S: Sink>(
+    alloc: Global,
+    words: &[String],
+    files: &mut F,
+    sink: &mut S,
+) -> ToolStatus
+    ensures { Ends (Outcome (F.told files.old) (words_of words.now)) (Names (F.told files.old) (words_of words.now)) result (record {
+      old = S.text sink.old;
+      new = S.text sink.new;
+      before = S.faults sink.old;
+      now = S.faults sink.new;
+      files = record { before = F.faults files.old; now = F.faults files.new; missed = F.missed files.new };
+    }) }
+{
+    match with_words(alloc, words, files) {
+        Ok(report) => {
+            let put = put_report(sink, &report);
+            answer(put, report.status())
+        }
+        Err(OutOfMemory) => ToolStatus::Memory,
+    }
+}
+
+/// Does what the words of a command line ask for: `check PLAN TRACE`, `hobs PLAN`, `gcd HOBS COMMANDS`, `mp FILE`, `asm depex FILE`, `asm script FILE`, `dis pei FILE`,
 /// `dis dxe FILE` or `dis script FILE`. The files that the words name are read in their order before any is examined, those of a plan's volumes behind the plan's examination, and all is decided before anything is put.
 pub fn tools_main<F: Files, S: Sink>(
     alloc: Global,
@@ -128,18 +159,22 @@ pub fn tools_main<F: Files, S: Sink>(
       now = S.faults sink.new;
       files = record { before = F.faults files.old; now = F.faults files.new; missed = F.missed files.new };
     }) }
+    // Where files and sink do not fail and there is memory, the status and the text are those to which the words lead, and no others: told files have one outcome.
+    ensures exactly { AnswersExactly (F.told files.old) (words_of words.now) (S.text sink.old) (S.text sink.new) result }
+    // The files' fault is answered where their count rose, and a count that rose is answered as a fault.
+    ensures file_fault { result ≡ ToolStatus.FileFault → Rose (F.faults files.old) (F.faults files.new) }
+    ensures files_rose { F.faults files.old < F.faults files.new → (result ≡ ToolStatus.FileFault) ⊎ (result ≡ ToolStatus.SinkFault) }
+    // So is the sink's, which wins; and want of memory leaves nothing.
+    ensures sink_fault { result ≡ ToolStatus.SinkFault → Rose (S.faults sink.old) (S.faults sink.new) }
+    ensures sink_rose { S.faults sink.old < S.faults sink.new → result ≡ ToolStatus.SinkFault }
+    ensures memory { result ≡ ToolStatus.Memory → S.text sink.new ≡ S.text sink.old }
     // Whatever the events of an MP file, what processors have done with what is to come are the jobs one after another, and where none is busy, what they have done is.
     ensures any_moment { CompletesInOrder }
     ensures idle { IdlesInOrder }
 {
     jobs_in_order();
-    match with_words(alloc, words, files) {
-        Ok(report) => {
-            let put = put_report(sink, &report);
-            answer(put, report.status())
-        }
-        Err(OutOfMemory) => ToolStatus::Memory,
-    }
+    one_outcome();
+    run_words(alloc, words, files, sink)
 }
 
 /// Does what the words of a command line ask for, as `tools_main`, and hands the text on to an output in pieces of 64 KiB. The output is given back; where memory was wanting for the pieces there is none, and nothing was done.
@@ -152,6 +187,9 @@ pub fn tools_and_print<F: Files, W: Write + Drop>(
     // The output holds the whole text, or with the sink's fault a beginning of it.
     ensures left { IfSome result.0 (λ output. HasLeft (HasPut (F.told files.old) (words_of words.now)
         (record { before = F.faults files.old; now = F.faults files.new; missed = F.missed files.new }) (W.contents to))
+        (W.contents output) result.1) }
+    // It is the outcome of the words, where neither files nor output fail and there is memory.
+    ensures exactly { IfSome result.0 (λ output. AnswersExactly (F.told files.old) (words_of words.now) (W.contents to)
         (W.contents output) result.1) }
     ensures none { IfNone result.0 ((result.1 ≡ ToolStatus.Memory) × (F.faults files.new ≡ F.faults files.old)) }
 {

@@ -1,7 +1,8 @@
 use Rattle.std.proofs.Common.{◌≡◌}
 use Rattle.plan_files.specs.Job.{IsNamedIn}
 use Rattle.plan_files.specs.Reading.{FilesTrail}
-use Rattle.pitools.specs.CheckReport.{CheckReport, TextsOutcome, job_read}
+use Rattle.pitools.specs.CheckReport.{CheckReport, TextsOutcome}
+use Rattle.pitools.specs.JobOutcome.{job_read}
 use Rattle.pitools.proofs.Ending.{told_reports}
 use Rattle.pitools.proofs.FileReports.{job_refusal, job_reports}
 use Rattle.pitools.proofs.check_tool.with_texts.Goals as goal
@@ -18,7 +19,7 @@ returns-in-Err-Refused-clause-report g c =
     let F = g.F.Files.faults in
     let told = g.F.Files.told c.args.files.now in
     let t : FilesTrail = record { before = F c.args.files.now; now = F c.job_of.new.files; missed = g.F.Files.missed c.job_of.new.files } in
-    job_reports told c.args.content.now c.args.text.now t c.in-Err-Refused.line c.report_of.result
+    job_reports (λ plan images. CheckReport plan images c.args.text.now) told c.args.content.now t c.in-Err-Refused.line c.report_of.result
     (rw c.in-Err-Refused.field-0-is at c.in-Err-Refused.ensures.row) (rw c.in-Err-Refused.line-is at c.report_of.ensures)
 
 pub returns-in-Ok-clause-report : goal.returns-in-Ok-clause-report

@@ -2,7 +2,9 @@ use Rattle.std.proofs.Common.{ℕ, List, Option, subst}
 use Rattle.std.specs.Io.Buffered.{writer_contents}
 use Rattle.boot_io.specs.Words.{words_of}
 use Rattle.pitools.specs.Ends.{Ends}
+use Rattle.pitools.specs.OneOutcome.{AnswersExactly}
 use Rattle.pitools.specs.Outcome.{Names, Outcome}
+use Rattle.pitools.proofs.OneOutcome.{handed_on}
 use Rattle.pitools.proofs.tools.tools_and_print.Goals as goal
 
 pub returns-clause-left : goal.returns-clause-left
@@ -29,3 +31,13 @@ returns-clause-left g c =
       left_is = c.finish-output.ensures;
       status_is = c.answer.ensures;
     }
+
+pub returns-clause-exactly : goal.returns-clause-exactly
+returns-clause-exactly g c =
+    let W = g.W.Write.contents in
+    let told = g.F.Files.told c.args.files.now in
+    let words = words_of c.args.words.now in
+    let text = writer_contents W c.tools_main-ran.new.sink.to in
+    let E : Option (List ℕ) → Type 0 = λ old. AnswersExactly told words old text c.tools_main-ran.result in
+    handed_on c.finish-output.result.1 told words (W c.args.to) text (W c.finish-output.result.0) c.tools_main-ran.result c.answer.result c.finish-output.ensures c.answer.ensures
+    (subst E c.in-Ok.ensures.text c.tools_main-ran.ensures.exactly)

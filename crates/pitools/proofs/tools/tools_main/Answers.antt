@@ -1,21 +1,34 @@
 use Rattle.boot_io.specs.Words.{words_of}
+use Rattle.pitools.specs.Ends.{Trail}
 use Rattle.pitools.specs.Outcome.{Names, Outcome}
-use Rattle.pitools.proofs.Ending.{put_ends}
+use Rattle.pitools.proofs.Faults.{file_fault, files_rose, nothing_put, sink_fault, sink_rose}
+use Rattle.pitools.proofs.OneOutcome.{answers_exactly}
 use Rattle.pitools.proofs.tools.tools_main.Goals as goal
 
-pub returns-in-Ok-clause-ends : goal.returns-in-Ok-clause-ends
-returns-in-Ok-clause-ends g c =
+pub returns : goal.returns
+returns g c =
     let T = g.S.Sink.text in
     let N = g.S.Sink.faults in
     let F = g.F.Files.faults in
-    let words = words_of c.args.words.now in
-    let told = g.F.Files.told c.args.files.now in
-    put_ends c.put_report-put.result (Outcome told words) (Names told words) c.in-Ok.report c.answer.result
-    (record {
+    let trail : Trail = record {
       old = T c.args.sink.now;
-      new = T c.put_report-put.new.sink;
+      new = T c.run_words.new.sink;
       before = N c.args.sink.now;
-      now = N c.put_report-put.new.sink;
-      files = record { before = F c.args.files.now; now = F c.with_words.new.files; missed = g.F.Files.missed c.with_words.new.files };
-    })
-    c.in-Ok.ensures.report (rw c.status.ensures at c.answer.ensures) c.put_report-put.ensures.text c.put_report-put.ensures.cause
+      now = N c.run_words.new.sink;
+      files = record { before = F c.args.files.now; now = F c.run_words.new.files; missed = g.F.Files.missed c.run_words.new.files };
+    } in
+    let told = g.F.Files.told c.args.files.now in
+    let words = words_of c.args.words.now in
+    let status = c.run_words.result in
+    let ends = c.run_words.ensures in
+    record {
+      ends = ends;
+      exactly = answers_exactly c.one_outcome.ensures told words status trail ends;
+      file_fault = file_fault told words status trail ends;
+      files_rose = files_rose (Outcome told words) (Names told words) status trail ends;
+      sink_fault = sink_fault (Outcome told words) (Names told words) status trail ends;
+      sink_rose = sink_rose (Outcome told words) (Names told words) status trail ends;
+      memory = nothing_put (Outcome told words) (Names told words) status trail ends;
+      any_moment = c.jobs_in_order.ensures.any_moment;
+      idle = c.jobs_in_order.ensures.idle;
+    }

@@ -1,7 +1,8 @@
 use Rattle.std.proofs.Common.{◌≡◌}
 use Rattle.boot_io.specs.Words.{words_of}
 use Rattle.pitools.specs.CheckReport.{CheckNames, CheckOutcome}
-use Rattle.pitools.specs.Outcome.{MapNames, MapOutcome, Names, Outcome, ToolOutcome, of_check, of_map, of_tool, words_ask_check, words_ask_map, words_ask_tool}
+use Rattle.pitools.specs.HobsReport.{HobsNames, HobsOutcome}
+use Rattle.pitools.specs.Outcome.{MapNames, MapOutcome, Names, Outcome, ToolOutcome, of_check, of_hobs, of_map, of_tool, words_ask_check, words_ask_hobs, words_ask_map, words_ask_tool}
 use Rattle.pitools.proofs.Ending.{reports_ok}
 use Rattle.pitools.proofs.tools.with_words.Goals as goal
 
@@ -37,3 +38,13 @@ returns-in-Some-asked_check-clause-report g c =
     reports_ok c.with_check.result (CheckOutcome told plan trace) (Outcome told words) (CheckNames told plan trace) (Names told words)
     (record { before = F c.args.files.now; now = F c.with_check.new.files; missed = g.F.Files.missed c.with_check.new.files })
     (λ s t o. words_ask_check plan trace c.in-Some-asked_check.ensures.found o) (λ n m. of_check plan trace c.in-Some-asked_check.ensures.found m) c.with_check.ensures.report
+
+pub returns-in-Some-asked_hobs-clause-report : goal.returns-in-Some-asked_hobs-clause-report
+returns-in-Some-asked_hobs-clause-report g c =
+    let F = g.F.Files.faults in
+    let told = g.F.Files.told c.args.files.now in
+    let words = words_of c.args.words.now in
+    let plan = c.in-Some-asked_hobs.plan.now in
+    reports_ok c.with_hobs.result (HobsOutcome told plan) (Outcome told words) (HobsNames told plan) (Names told words)
+    (record { before = F c.args.files.now; now = F c.with_hobs.new.files; missed = g.F.Files.missed c.with_hobs.new.files })
+    (λ s t o. words_ask_hobs plan c.in-Some-asked_hobs.ensures.found o) (λ n m. of_hobs plan c.in-Some-asked_hobs.ensures.found m) c.with_hobs.ensures.report

@@ -1,0 +1,93 @@
+// What PEI hands on in the boot of a plan's images.
+ghost use Rattle.std.specs.Prelude.{◌≡◌, ◌≤◌, Some, IfOk, IfErr, length};
+ghost use Rattle.boot_model.specs.PeiMachine.{PeiMachine};
+ghost use Rattle.boot_model.specs.PeiRun.{pei_end};
+ghost use Rattle.boot_model.specs.PlanBoard.{board_of};
+ghost use Rattle.boot_plan.specs.Range.{IsPlanInRange};
+ghost use Rattle.catalog_model.specs.WellFormed.{IsWellFormed};
+ghost use Rattle.mem_store.specs.MemState.{StandsFor};
+ghost use Rattle.store_model.specs.Service.{Present};
+ghost use Rattle.store_model.specs.StateFacts.{IsBoard};
+ghost use Rattle.store_model.specs.StoreCall.{Anything};
+ghost use Rattle.boot_core.specs.Examining.{AreRefused};
+ghost use Rattle.boot_core.specs.HandOff.{result_of, HandsOn, IsHandOff};
+
+use crate::images::examine;
+use crate::nowhere::Nowhere;
+use boot_io::Halt;
+use boot_model::{PeiEnd, RunEnd};
+use boot_plan::Plan;
+use boot_trace::hob_list;
+use catalog_model::Catalog;
+use mem_store::MemStore;
+use pei_dispatch::{Ended, boot_pei};
+use pi_base::{OutOfMemory, Seq};
+use plan_board::roms;
+use plan_files::NoJob;
+use std::alloc::Global;
+
+/// What PEI leaves at its end.
+#[derive(Drop)]
+pub enum HandOff {
+    /// The bytes of the HOB list that it hands to DXE, from the hand-off HOB to the end HOB.
+    Hobs(Seq<u8>),
+    /// The result of a boot that ended in PEI.
+    Ended(RunEnd),
+}
+
+// The result of a boot whose PEI ended so, where it handed nothing on.
+fn result_of(end: PeiEnd) -> Option<RunEnd>
+    ensures { result ≡ result_of end }
+{
+    match end {
+        PeiEnd::Handoff => None,
+        PeiEnd::NoMemory => Some(RunEnd::NoMemory),
+        PeiEnd::NoIpl => Some(RunEnd::NoIpl),
+        PeiEnd::Spent => Some(RunEnd::Spent),
+        PeiEnd::Deep => Some(RunEnd::Deep),
+    }
+}
+
+// What a PEI that has ended hands on.
+fn handed_by(alloc: Global, pei: &Ended<MemStore>) -> Result<HandOff, OutOfMemory>
+    requires state { Present (StandsFor pei.now.store) Anything }
+    ensures { IfOk result (λ handed. (m : PeiMachine) → StandsFor pei.now.store m.store → m.ended ≡ Some pei.now.end → HandsOn m handed) }
+{
+    match result_of(pei.end) {
+        Some(end) => Ok(HandOff::Ended(end)),
+        None => Ok(HandOff::Hobs(hob_list(alloc, &pei.store)?)),
+    }
+}
+
+// PEI over a catalogue of the images.
+fn run_pei(
+    alloc: Global,
+    plan: &Plan,
+    catalog: &Catalog,
+    images: Seq<Seq<u8>>,
+) -> Result<HandOff, OutOfMemory>
+    requires board { IsBoard (board_of plan.now catalog.now images) }
+    requires catalog { IsWellFormed catalog.now }
+    requires some { 1 ≤ length catalog.now.volumes }
+    ensures { IfOk result (HandsOn (pei_end (board_of plan.now catalog.now images) catalog.now plan.now.fuel)) }
+{
+    let roms = roms(alloc, catalog.volumes.as_slice(), images)?;
+    let store = MemStore::new(alloc, plan.temp, plan.pages, plan.ram, roms)?;
+    match boot_pei(alloc, store, catalog, plan.fuel, &mut Nowhere) {
+        Ok(ended) => handed_by(alloc, &ended),
+        Err(Halt::Sink) => unreachable!(),
+        Err(Halt::Memory) => Err(OutOfMemory),
+    }
+}
+
+/// What PEI hands to DXE in the boot of a plan and its images: the HOB list, or the result of a boot that ends in PEI. Nothing is put.
+/// There are as many images as volumes of the plan.
+pub fn hand_off(alloc: Global, plan: &Plan, images: Seq<Seq<u8>>) -> Result<HandOff, NoJob>
+    requires in_range { IsPlanInRange plan.now }
+    requires as_many { length images ≡ length plan.now.volumes }
+    ensures handed { IfOk result (IsHandOff plan.now images) }
+    ensures refused { IfErr result (AreRefused plan.now images) }
+{
+    let catalog = examine(alloc, plan, images.as_slice())?;
+    Ok(run_pei(alloc, plan, &catalog, images)?)
+}

@@ -1,0 +1,248 @@
+-- Words and told files have one outcome, and it is answered.
+use Rattle.std.proofs.Common.{◌≡◌, ◌⊎◌, ℕ, ◌+◌, ◌==◌, if◌then◌else◌, List, [], ◌∷◌, ◌++◌, Option, Some, None, Result, Ok, Err, inl, inr, refl, sym, ap, ◌∙◌, subst, arith}
+use Rattle.std.specs.Io.KnownBytes.{Appends, Keeps}
+use Rattle.boot_io.specs.Output.{HasLeftBy}
+use Rattle.boot_io.specs.declared.sink.SinkFault.{SinkFault}
+use Rattle.pi_base.specs.Field.{AreBytes}
+use Rattle.plan_files.specs.Job.{IsNamedIn}
+use Rattle.plan_files.specs.Reading.{plan_limit}
+use Rattle.pitools.specs.declared.command_line.Tool.{Tool}
+use Rattle.pitools.specs.declared.command_line.Tool.TheVariants.{AssembleDepex, AssembleScript, ReadPei, ReadDxe, ReadScript, Mp}
+use Rattle.pitools.specs.declared.status.ToolStatus.{ToolStatus}
+use Rattle.pitools.specs.declared.status.ToolStatus.TheVariants as S
+use Rattle.pitools.specs.CheckReport.{CheckNames, CheckOutcome, TextsOutcome, both_read, is_plan, is_trace, is_volume, plan_long, trace_limit, trace_long}
+use Rattle.pitools.specs.CommandLine.{AskForCheck, AskForHobs, AskForMap, AskForTool, tool_words}
+use Rattle.pitools.specs.Ends.{EndsBy, Ends, IsDue, Kind, OfMemory, OfSink, OfText, Trail, kind_of, outcome, status_after, unread}
+use Rattle.pitools.specs.GcdReport.{GcdReport}
+use Rattle.pitools.specs.HobsReport.{HobsNames, HobsOutcome, HobsReport, plan_read, too_long, of_plan, of_volume}
+use Rattle.pitools.specs.JobOutcome.{JobOutcome}
+use Rattle.pitools.specs.OneOutcome.{AnswersExactly, AreAllTold, AreTold, IsOne, IsStoppedBy, IsToldAsBytes}
+use Rattle.pitools.specs.Outcome.{ContentReport, MapNames, MapOutcome, Names, Outcome, ToolOutcome, both, commands_limit, commands_long, content, file_limit, hobs_long, limit_of, long, of_check, of_hobs, of_map, of_tool, usage, words_ask_check, words_ask_hobs, words_ask_map, words_ask_tool}
+use Rattle.pitools.proofs.ToldFiles.{one_content, one_long, told_bytes, within_or_over}
+
+-- the laws of the tools: what is read leads to one report
+pub record Laws : Type 0 where
+  pub maps : (bytes lines : List ℕ) → IsOne (GcdReport bytes lines)
+  pub contents : (tool : Tool) (content : List ℕ) → AreBytes content → IsOne (ContentReport tool content)
+  pub hobs : (told : List ℕ → Option (List ℕ)) (content : List ℕ) → AreAllTold told (IsNamedIn told content) → IsOne (JobOutcome HobsReport told content)
+  pub checks : (told : List ℕ → Option (List ℕ)) (content text : List ℕ) → AreAllTold told (IsNamedIn told content) → IsOne (TextsOutcome told content text)
+
+-- words ask for one thing: they are told apart by the first byte of the first word and of the second
+abbrev byte_of : List ℕ → ℕ
+byte_of [] = 0
+byte_of (byte ∷ word) = byte
+
+abbrev first : List (List ℕ) → ℕ
+first [] = 0
+first (word ∷ words) = byte_of word
+
+abbrev rest : List (List ℕ) → List (List ℕ)
+rest [] = []
+rest (word ∷ words) = words
+
+abbrev head : List (List ℕ) → List ℕ
+head [] = []
+head (word ∷ words) = word
+
+map_or_check : (words : List (List ℕ)) (hobs commands plan trace : List ℕ) → AskForMap words hobs commands → AskForCheck words plan trace → ⊥
+map_or_check words hobs commands plan trace p q = let e = ap first (sym p.0 ∙ q.0) in omega (arith, e)
+
+map_or_tool : (words : List (List ℕ)) (hobs commands : List ℕ) (tool : Tool) (file : List ℕ) → AskForMap words hobs commands → AskForTool words tool file → ⊥
+map_or_tool words hobs commands Mp file p q = let e = ap first (sym p.0 ∙ q.0) in omega (arith, e)
+map_or_tool words hobs commands tool file p q = let e = ap first (sym p.0 ∙ q.0) in omega (arith, e)
+
+check_or_tool : (words : List (List ℕ)) (plan trace : List ℕ) (tool : Tool) (file : List ℕ) → AskForCheck words plan trace → AskForTool words tool file → ⊥
+check_or_tool words plan trace Mp file p q = let e = ap first (sym p.0 ∙ q.0) in omega (arith, e)
+check_or_tool words plan trace tool file p q = let e = ap first (sym p.0 ∙ q.0) in omega (arith, e)
+
+hobs_or_map : (words : List (List ℕ)) (plan hobs commands : List ℕ) → AskForHobs words plan → AskForMap words hobs commands → ⊥
+hobs_or_map words plan hobs commands p q = let e = ap first (sym p.0 ∙ q.0) in omega (arith, e)
+
+hobs_or_check : (words : List (List ℕ)) (plan other trace : List ℕ) → AskForHobs words plan → AskForCheck words other trace → ⊥
+hobs_or_check words plan other trace p q = let e = ap first (sym p.0 ∙ q.0) in omega (arith, e)
+
+hobs_or_tool : (words : List (List ℕ)) (plan : List ℕ) (tool : Tool) (file : List ℕ) → AskForHobs words plan → AskForTool words tool file → ⊥
+hobs_or_tool words plan Mp file p q = let e = ap first (sym p.0 ∙ q.0) in omega (arith, e)
+hobs_or_tool words plan tool file p q = let e = ap first (sym p.0 ∙ q.0) in omega (arith, e)
+
+abbrev tool_in : List (List ℕ) → Tool
+tool_in words =
+    if first words == 109 then Mp
+    else if first words == 97 then (if first (rest words) == 100 then AssembleDepex else AssembleScript)
+    else if first (rest words) == 112 then ReadPei
+    else if first (rest words) == 100 then ReadDxe
+    else ReadScript
+
+tool_is : (tool : Tool) (file : List ℕ) → tool_in (tool_words tool ++ file ∷ []) ≡ tool
+tool_is Mp file = refl
+tool_is tool file = refl
+
+one_tool : (words : List (List ℕ)) (tool other : Tool) (file name : List ℕ) → AskForTool words tool file → AskForTool words other name → other ≡ tool
+one_tool words tool other file name p q = sym (tool_is other name) ∙ ap tool_in (sym q.0 ∙ p.0) ∙ tool_is tool file
+
+-- the file's name stands last
+abbrev file_in : Tool → List (List ℕ) → List ℕ
+file_in Mp words = head (rest words)
+file_in tool words = head (rest (rest words))
+
+file_is : (tool : Tool) (file : List ℕ) → file_in tool (tool_words tool ++ file ∷ []) ≡ file
+file_is Mp file = refl
+file_is tool file = refl
+
+one_file : (words : List (List ℕ)) (tool : Tool) (file name : List ℕ) → AskForTool words tool file → AskForTool words tool name → name ≡ file
+one_file words tool file name p q = sym (file_is tool name) ∙ ap (file_in tool) (sym q.0 ∙ p.0) ∙ file_is tool file
+
+-- a tool's file has one outcome
+one_of_tool : Laws → (told : Option (List ℕ)) (tool : Tool) (file : List ℕ) → IsToldAsBytes told → IsOne (ToolOutcome told tool file)
+one_of_tool laws told tool file are a b s t (long p) (long q) = one_long told (limit_of tool) file a b s t p q
+one_of_tool laws told tool file are a b s t (long p) (content d q u) = absurd (within_or_over told (limit_of tool) are p.content d p.long q)
+one_of_tool laws told tool file are a b s t (content c p o) (long q) = absurd (within_or_over told (limit_of tool) are q.content c q.long p)
+one_of_tool laws told tool file are a b s t (content c p o) (content d q u) =
+    let P : List ℕ → Type 0 = λ x. ContentReport tool x b t in
+    laws.contents tool c (told_bytes told are c p.as_told) a b s t o (subst P (one_content told are d c q.as_told p.as_told) u)
+
+-- so have the files of a HOB list and of commands
+one_of_map : Laws → (told : List ℕ → Option (List ℕ)) (hobs commands : List ℕ) → AreAllTold told (MapNames told hobs commands) → IsOne (MapOutcome told hobs commands)
+one_of_map laws told hobs commands all a b s t (hobs_long p) (hobs_long q) = one_long (told hobs) file_limit hobs a b s t p q
+one_of_map laws told hobs commands all a b s t (hobs_long p) (commands_long d q o) = absurd (within_or_over (told hobs) file_limit (all hobs (inl refl)) p.content d p.long q)
+one_of_map laws told hobs commands all a b s t (hobs_long p) (both d lines q r u) = absurd (within_or_over (told hobs) file_limit (all hobs (inl refl)) p.content d p.long q)
+one_of_map laws told hobs commands all a b s t (commands_long c p o) (hobs_long q) = absurd (within_or_over (told hobs) file_limit (all hobs (inl refl)) q.content c q.long p)
+one_of_map laws told hobs commands all a b s t (commands_long c p o) (commands_long d q u) = one_long (told commands) commands_limit commands a b s t o u
+one_of_map laws told hobs commands all a b s t (commands_long c p o) (both d lines q r u) =
+    absurd (within_or_over (told commands) commands_limit (all commands (inr (c, p, refl))) o.content lines o.long r)
+one_of_map laws told hobs commands all a b s t (both c lines p r o) (hobs_long q) = absurd (within_or_over (told hobs) file_limit (all hobs (inl refl)) q.content c q.long p)
+one_of_map laws told hobs commands all a b s t (both c lines p r o) (commands_long d q u) =
+    absurd (within_or_over (told commands) commands_limit (all commands (inr (c, p, refl))) u.content lines u.long r)
+one_of_map laws told hobs commands all a b s t (both c lines p r o) (both d others q z u) =
+    let bytes : d ≡ c = one_content (told hobs) (all hobs (inl refl)) d c q.as_told p.as_told in
+    let texts : others ≡ lines = one_content (told commands) (all commands (inr (c, p, refl))) others lines z.as_told r.as_told in
+    let P : List ℕ → Type 0 = λ x. GcdReport x others b t in
+    let Q : List ℕ → Type 0 = λ x. GcdReport c x b t in
+    laws.maps c lines a b s t o (subst Q texts (subst P bytes u))
+
+-- and those of a plan and of a trace
+one_of_check : Laws → (told : List ℕ → Option (List ℕ)) (plan trace : List ℕ) → AreAllTold told (CheckNames told plan trace) → IsOne (CheckOutcome told plan trace)
+one_of_check laws told plan trace all a b s t (plan_long p) (plan_long q) = one_long (told plan) plan_limit plan a b s t p q
+one_of_check laws told plan trace all a b s t (plan_long p) (trace_long d q o) = absurd (within_or_over (told plan) plan_limit (all plan (is_plan refl)) p.content d p.long q)
+one_of_check laws told plan trace all a b s t (plan_long p) (both_read d text q r u) = absurd (within_or_over (told plan) plan_limit (all plan (is_plan refl)) p.content d p.long q)
+one_of_check laws told plan trace all a b s t (trace_long c p o) (plan_long q) = absurd (within_or_over (told plan) plan_limit (all plan (is_plan refl)) q.content c q.long p)
+one_of_check laws told plan trace all a b s t (trace_long c p o) (trace_long d q u) = one_long (told trace) trace_limit trace a b s t o u
+one_of_check laws told plan trace all a b s t (trace_long c p o) (both_read d text q r u) =
+    absurd (within_or_over (told trace) trace_limit (all trace (is_trace c p refl)) o.content text o.long r)
+one_of_check laws told plan trace all a b s t (both_read c text p r o) (plan_long q) = absurd (within_or_over (told plan) plan_limit (all plan (is_plan refl)) q.content c q.long p)
+one_of_check laws told plan trace all a b s t (both_read c text p r o) (trace_long d q u) =
+    absurd (within_or_over (told trace) trace_limit (all trace (is_trace c p refl)) u.content text u.long r)
+one_of_check laws told plan trace all a b s t (both_read c text p r o) (both_read d other q z u) =
+    let contents : d ≡ c = one_content (told plan) (all plan (is_plan refl)) d c q.as_told p.as_told in
+    let texts : other ≡ text = one_content (told trace) (all trace (is_trace c p refl)) other text z.as_told r.as_told in
+    let P : List ℕ → Type 0 = λ x. TextsOutcome told x other b t in
+    let Q : List ℕ → Type 0 = λ x. TextsOutcome told c x b t in
+    laws.checks told c text (λ name named. all name (is_volume c text p r named)) a b s t o (subst Q texts (subst P contents u))
+
+-- and that of a plan whose HOB list is asked for
+one_of_hobs : Laws → (told : List ℕ → Option (List ℕ)) (plan : List ℕ) → AreAllTold told (HobsNames told plan) → IsOne (HobsOutcome told plan)
+one_of_hobs laws told plan all a b s t (too_long p) (too_long q) = one_long (told plan) plan_limit plan a b s t p q
+one_of_hobs laws told plan all a b s t (too_long p) (plan_read d q o) = absurd (within_or_over (told plan) plan_limit (all plan (of_plan refl)) p.content d p.long q)
+one_of_hobs laws told plan all a b s t (plan_read c p o) (too_long q) = absurd (within_or_over (told plan) plan_limit (all plan (of_plan refl)) q.content c q.long p)
+one_of_hobs laws told plan all a b s t (plan_read c p o) (plan_read d q u) =
+    let contents : d ≡ c = one_content (told plan) (all plan (of_plan refl)) d c q.as_told p.as_told in
+    let P : List ℕ → Type 0 = λ x. JobOutcome HobsReport told x b t in
+    laws.hobs told c (λ name named. all name (of_volume c p named)) a b s t o (subst P contents u)
+
+abbrev second : List (List ℕ) → List ℕ
+second words = head (rest words)
+
+abbrev third : List (List ℕ) → List ℕ
+third words = head (rest (rest words))
+
+pub one_outcome : Laws → (told : List ℕ → Option (List ℕ)) (words : List (List ℕ)) → AreTold told words → IsOne (Outcome told words)
+one_outcome laws told words all a b s t (usage none e u) (usage other f v) = (e ∙ sym f, u ∙ sym v)
+one_outcome laws told words all a b s t (usage none e u) (words_ask_map hobs commands q o) = absurd (none.no_map hobs commands q)
+one_outcome laws told words all a b s t (usage none e u) (words_ask_check plan trace q o) = absurd (none.no_check plan trace q)
+one_outcome laws told words all a b s t (usage none e u) (words_ask_tool tool file q o) = absurd (none.no_tool tool file q)
+one_outcome laws told words all a b s t (words_ask_map hobs commands p o) (usage none f v) = absurd (none.no_map hobs commands p)
+one_outcome laws told words all a b s t (words_ask_check plan trace p o) (usage none f v) = absurd (none.no_check plan trace p)
+one_outcome laws told words all a b s t (words_ask_tool tool file p o) (usage none f v) = absurd (none.no_tool tool file p)
+one_outcome laws told words all a b s t (words_ask_map hobs commands p o) (words_ask_check plan trace q u) = absurd (map_or_check words hobs commands plan trace p q)
+one_outcome laws told words all a b s t (words_ask_map hobs commands p o) (words_ask_tool tool file q u) = absurd (map_or_tool words hobs commands tool file p q)
+one_outcome laws told words all a b s t (words_ask_check plan trace p o) (words_ask_map hobs commands q u) = absurd (map_or_check words hobs commands plan trace q p)
+one_outcome laws told words all a b s t (words_ask_check plan trace p o) (words_ask_tool tool file q u) = absurd (check_or_tool words plan trace tool file p q)
+one_outcome laws told words all a b s t (words_ask_tool tool file p o) (words_ask_map hobs commands q u) = absurd (map_or_tool words hobs commands tool file q p)
+one_outcome laws told words all a b s t (words_ask_tool tool file p o) (words_ask_check plan trace q u) = absurd (check_or_tool words plan trace tool file q p)
+one_outcome laws told words all a b s t (usage none e u) (words_ask_hobs plan q o) = absurd (none.no_hobs plan q)
+one_outcome laws told words all a b s t (words_ask_hobs plan p o) (usage none f v) = absurd (none.no_hobs plan p)
+one_outcome laws told words all a b s t (words_ask_hobs plan p o) (words_ask_map hobs commands q u) = absurd (hobs_or_map words plan hobs commands p q)
+one_outcome laws told words all a b s t (words_ask_hobs plan p o) (words_ask_check other trace q u) = absurd (hobs_or_check words plan other trace p q)
+one_outcome laws told words all a b s t (words_ask_hobs plan p o) (words_ask_tool tool file q u) = absurd (hobs_or_tool words plan tool file p q)
+one_outcome laws told words all a b s t (words_ask_map hobs commands p o) (words_ask_hobs plan q u) = absurd (hobs_or_map words plan hobs commands q p)
+one_outcome laws told words all a b s t (words_ask_check other trace p o) (words_ask_hobs plan q u) = absurd (hobs_or_check words plan other trace q p)
+one_outcome laws told words all a b s t (words_ask_tool tool file p o) (words_ask_hobs plan q u) = absurd (hobs_or_tool words plan tool file q p)
+one_outcome laws told words all a b s t (words_ask_hobs plan p o) (words_ask_hobs other q u) =
+    let P : List ℕ → Type 0 = λ x. HobsOutcome told x b t in
+    one_of_hobs laws told plan (λ name named. all name (of_hobs plan p named)) a b s t o (subst P (ap second (sym q.0 ∙ p.0)) u)
+one_outcome laws told words all a b s t (words_ask_map hobs commands p o) (words_ask_map bytes lines q u) =
+    let P : List ℕ → Type 0 = λ x. MapOutcome told x lines b t in
+    let Q : List ℕ → Type 0 = λ x. MapOutcome told hobs x b t in
+    let here = subst Q (ap third (sym q.0 ∙ p.0)) (subst P (ap second (sym q.0 ∙ p.0)) u) in
+    one_of_map laws told hobs commands (λ name named. all name (of_map hobs commands p named)) a b s t o here
+one_outcome laws told words all a b s t (words_ask_check plan trace p o) (words_ask_check text lines q u) =
+    let P : List ℕ → Type 0 = λ x. CheckOutcome told x lines b t in
+    let Q : List ℕ → Type 0 = λ x. CheckOutcome told plan x b t in
+    let here = subst Q (ap third (sym q.0 ∙ p.0)) (subst P (ap second (sym q.0 ∙ p.0)) u) in
+    one_of_check laws told plan trace (λ name named. all name (of_check plan trace p named)) a b s t o here
+one_outcome laws told words all a b s t (words_ask_tool tool file p o) (words_ask_tool other name q u) =
+    let same : other ≡ tool = one_tool words tool other file name p q in
+    let asks : AskForTool words tool name = subst (λ (x : Tool). AskForTool words x name) same q in
+    let P : Tool → Type 0 = λ x. ToolOutcome (told name) x name b t in
+    let Q : List ℕ → Type 0 = λ x. ToolOutcome (told x) tool x b t in
+    one_of_tool laws (told file) tool file (all file (of_tool tool file p refl)) a b s t o (subst Q (one_file words tool file name p asks) (subst P same u))
+
+-- what is due is answered
+abbrev OneOutcome : Type 0
+OneOutcome = (told : List ℕ → Option (List ℕ)) (words : List (List ℕ)) → AreTold told words → IsOne (Outcome told words)
+
+only_by : (k : Kind) (told : List ℕ → Option (List ℕ)) (words : List (List ℕ)) (status : ToolStatus) (t : Trail) → EndsBy k (Outcome told words) (Names told words) status t → (IsStoppedBy k status → ⊥)
+    → (text : List ℕ) × Outcome told words status text × Appends t.old t.new text
+only_by OfSink told words status t e real = absurd (real tt)
+only_by OfMemory told words status t e real = absurd (real tt)
+only_by OfText told words status t e real = by e.text e.due e.whole
+  where
+    by : (text : List ℕ) → IsDue (Outcome told words) (Names told words) status text t.files → Appends t.old t.new text → (text : List ℕ) × Outcome told words status text × Appends t.old t.new text
+    by text (outcome o same) whole = (text, o, whole)
+    by text (unread name failed is line) whole = absurd (real is)
+
+whenever_by : (k : Kind) → OneOutcome → (told : List ℕ → Option (List ℕ)) (words : List (List ℕ)) (status : ToolStatus) (t : Trail) → EndsBy k (Outcome told words) (Names told words) status t → AreTold told words
+    → (due : ToolStatus) (text : List ℕ) → Outcome told words due text → ((status ≡ due) × Appends t.old t.new text) ⊎ IsStoppedBy k status
+whenever_by OfSink one told words status t e all due text leads = inr tt
+whenever_by OfMemory one told words status t e all due text leads = inr tt
+whenever_by OfText one told words status t e all due text leads = by e.text e.due e.whole
+  where
+    by : (put : List ℕ) → IsDue (Outcome told words) (Names told words) status put t.files → Appends t.old t.new put → ((status ≡ due) × Appends t.old t.new text) ⊎ (IsStoppedBy OfText status)
+    by put (outcome o kept) whole = let same = one told words all status due put text o leads in inl (same.0, subst (λ x. Appends t.old t.new x) same.1 whole)
+    by put (unread name failed is line) whole = inr is
+
+pub answers_exactly : OneOutcome → (told : List ℕ → Option (List ℕ)) (words : List (List ℕ)) (status : ToolStatus) (t : Trail) → Ends (Outcome told words) (Names told words) status t → AnswersExactly told words t.old t.new status
+answers_exactly one told words status t e = record {
+  only = only_by (kind_of status) told words status t e;
+  whenever = whenever_by (kind_of status) one told words status t e;
+}
+
+-- what is kept of a text that was appended to
+kept : (old text left : Option (List ℕ)) (bytes : List ℕ) → Keeps text left → Appends old text bytes → Appends old left bytes
+kept None text left bytes same p = tt
+kept (Some x) None left bytes same p = absurd p
+kept (Some x) (Some y) None bytes same p = absurd same
+kept (Some x) (Some y) (Some z) bytes same p = same ∙ p
+
+-- so is what is handed on to an output, unless that fails
+pub handed_on : (handed : Result (Unit {0}) SinkFault) (told : List ℕ → Option (List ℕ)) (words : List (List ℕ)) (old text left : Option (List ℕ)) (ran status : ToolStatus) → HasLeftBy handed text left
+    → status ≡ status_after handed ran → AnswersExactly told words old text ran → AnswersExactly told words old left status
+handed_on (Ok u) told words old text left ran status same is e =
+    let exactly : AnswersExactly told words old left ran = record {
+      only = λ real. let put = e.only real in (put.0, put.1, kept old text left put.0 same put.2);
+      whenever = λ all due bytes leads. elim (e.whenever all due bytes leads) [ inl h ↦ inl (h.0, kept old text left bytes same h.1) | inr h ↦ inr h ];
+    } in
+    subst (λ (s : ToolStatus). AnswersExactly told words old left s) (sym is) exactly
+handed_on (Err fault) told words old text left ran status begun is e =
+    let stopped : AnswersExactly told words old left S.SinkFault = record { only = λ real. absurd (real tt); whenever = λ all due bytes leads. inr tt } in
+    subst (λ (s : ToolStatus). AnswersExactly told words old left s) (sym is) stopped

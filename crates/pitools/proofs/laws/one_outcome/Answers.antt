@@ -1,0 +1,12 @@
+use Rattle.pitools.proofs.OneOutcome.{Laws, one_outcome}
+use Rattle.pitools.proofs.laws.one_outcome.Goals as goal
+
+pub returns : goal.returns
+returns c =
+    let laws : Laws = record {
+      maps = c.one_map_report.ensures;
+      contents = c.one_content_report.ensures;
+      hobs = c.one_hobs_report.ensures;
+      checks = c.one_check_report.ensures;
+    } in
+    one_outcome laws

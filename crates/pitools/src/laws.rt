@@ -1,0 +1,60 @@
+// What holds of all files.
+ghost use Rattle.std.specs.Prelude.{ℕ, List, Option};
+ghost use Rattle.pi_base.specs.Field.{AreBytes};
+ghost use Rattle.plan_files.specs.Job.{IsNamedIn};
+ghost use Rattle.pitools.specs.declared.command_line.Tool.{Tool};
+ghost use Rattle.pitools.specs.CheckReport.{TextsOutcome};
+ghost use Rattle.pitools.specs.HobsReport.{HobsReport};
+ghost use Rattle.pitools.specs.JobOutcome.{JobOutcome};
+ghost use Rattle.pitools.specs.GcdReport.{GcdReport};
+ghost use Rattle.pitools.specs.OneOutcome.{AreAllTold, AreTold, IsOne};
+ghost use Rattle.pitools.specs.Outcome.{ContentReport, Outcome};
+
+/// A HOB list and a text of commands lead to one report.
+pub(crate) fn one_map_report()
+    ensures { (bytes lines : List ℕ) → IsOne (GcdReport bytes lines) }
+{
+    gcd_map::one_space();
+    gcd_map::one_reading();
+    gcd_map::one_map();
+}
+
+/// The content of a tool's file leads to one report.
+pub(crate) fn one_content_report()
+    ensures { (tool : Tool) (content : List ℕ) → AreBytes content → IsOne (ContentReport tool content) }
+{
+    asm_text::one_expression();
+    asm_text::one_script();
+    asm_text::one_bad_line();
+    depex_code::one_reading();
+    act_code::one_outcome();
+    mp_text::one_reading();
+}
+
+/// The texts of a plan and of a trace lead to one report, where the files of the plan's volumes are told.
+pub(crate) fn one_check_report()
+    ensures { (told : List ℕ → Option (List ℕ)) (content text : List ℕ) → AreAllTold told (IsNamedIn told content)
+        → IsOne (TextsOutcome told content text) }
+{
+    boot_plan::one_reading();
+    catalog_model::one_catalogue();
+}
+
+/// The text of a plan whose HOB list is asked for leads to one report, where the files of the plan's volumes are told.
+pub(crate) fn one_hobs_report()
+    ensures { (told : List ℕ → Option (List ℕ)) (content : List ℕ) → AreAllTold told (IsNamedIn told content)
+        → IsOne (JobOutcome HobsReport told content) }
+{
+    boot_plan::one_reading();
+    catalog_model::one_catalogue();
+}
+
+/// Words and told files have one outcome: one status, and one text.
+pub fn one_outcome()
+    ensures { (told : List ℕ → Option (List ℕ)) (words : List (List ℕ)) → AreTold told words → IsOne (Outcome told words) }
+{
+    one_map_report();
+    one_content_report();
+    one_hobs_report();
+    one_check_report();
+}
