@@ -8,6 +8,7 @@ use crate::action::Action;
 use crate::operand::{self, MOST_BYTES, Unread, byte, byte_within, number_8};
 use std::alloc::Global;
 
+/// The operands: a register and a number; and what stands behind them.
 pub fn set(bytes: &[u8]) -> Result<(Action, &[u8]), Unread>
     ensures { Gives (λ x. (x.0, x.1.now)) result (operands_at Code.Set bytes.now) }
 {
@@ -16,6 +17,7 @@ pub fn set(bytes: &[u8]) -> Result<(Action, &[u8]), Unread>
     Ok((Action::Set { r, n }, rest))
 }
 
+/// The operands: a register and a number; and what stands behind them.
 pub fn add(bytes: &[u8]) -> Result<(Action, &[u8]), Unread>
     ensures { Gives (λ x. (x.0, x.1.now)) result (operands_at Code.Add bytes.now) }
 {
@@ -24,6 +26,7 @@ pub fn add(bytes: &[u8]) -> Result<(Action, &[u8]), Unread>
     Ok((Action::Add { r, n }, rest))
 }
 
+/// The operands: the register of an address, and how many bytes; and what stands behind them.
 pub fn peek(bytes: &[u8]) -> Result<(Action, &[u8]), Unread>
     ensures { Gives (λ x. (x.0, x.1.now)) result (operands_at Code.Peek bytes.now) }
 {
@@ -32,6 +35,7 @@ pub fn peek(bytes: &[u8]) -> Result<(Action, &[u8]), Unread>
     Ok((Action::Peek { v, n }, rest))
 }
 
+/// The operands: a text behind its length; and what stands behind them.
 pub fn log(alloc: Global, bytes: &[u8]) -> Result<(Action, &[u8]), Unread>
     ensures { Gives (λ x. (x.0, x.1.now)) result (operands_at Code.Log bytes.now) }
 {
@@ -39,6 +43,7 @@ pub fn log(alloc: Global, bytes: &[u8]) -> Result<(Action, &[u8]), Unread>
     Ok((Action::Log { text }, rest))
 }
 
+/// The operands: a condition, and how many actions; and what stands behind them.
 pub fn skip_if(bytes: &[u8]) -> Result<(Action, &[u8]), Unread>
     ensures { Gives (λ x. (x.0, x.1.now)) result (operands_at Code.SkipIf bytes.now) }
 {
@@ -47,6 +52,7 @@ pub fn skip_if(bytes: &[u8]) -> Result<(Action, &[u8]), Unread>
     Ok((Action::SkipIf { condition, n }, rest))
 }
 
+/// The operands: a status; and what stands behind them.
 pub fn ret(bytes: &[u8]) -> Result<(Action, &[u8]), Unread>
     ensures { Gives (λ x. (x.0, x.1.now)) result (operands_at Code.Ret bytes.now) }
 {

@@ -1,4 +1,6 @@
 //! Action scripts: their bytes, read and written (own).
+//!
+//! Tried in `text_trials`: `scripts`.
 #![tactic(auto)]
 
 mod action;

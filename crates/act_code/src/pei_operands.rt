@@ -11,6 +11,7 @@ use crate::operand::{
 };
 use std::alloc::Global;
 
+/// The operands: a register and a size in bytes; and what stands behind them.
 pub fn pool(bytes: &[u8]) -> Result<(Action, &[u8]), Unread>
     ensures { Gives (λ x. (x.0, x.1.now)) result (operands_at Code.Pool bytes.now) }
 {
@@ -19,6 +20,7 @@ pub fn pool(bytes: &[u8]) -> Result<(Action, &[u8]), Unread>
     Ok((Action::Pool { r, size }, rest))
 }
 
+/// The operands: the register of a pool, an offset in its body, and bytes behind their length; and what stands behind them.
 pub fn store(alloc: Global, bytes: &[u8]) -> Result<(Action, &[u8]), Unread>
     ensures { Gives (λ x. (x.0, x.1.now)) result (operands_at Code.Store bytes.now) }
 {
@@ -35,6 +37,7 @@ pub fn store(alloc: Global, bytes: &[u8]) -> Result<(Action, &[u8]), Unread>
     ))
 }
 
+/// The operands: a register, the one of a body, and an offset in it; and what stands behind them.
 pub fn addr(bytes: &[u8]) -> Result<(Action, &[u8]), Unread>
     ensures { Gives (λ x. (x.0, x.1.now)) result (operands_at Code.Addr bytes.now) }
 {
@@ -44,6 +47,7 @@ pub fn addr(bytes: &[u8]) -> Result<(Action, &[u8]), Unread>
     Ok((Action::Addr { v, x, offset }, rest))
 }
 
+/// The operands: a register, the kind, the GUID or the register of its address, and the value's register or a block; and what stands behind them.
 #[tactic(auto, unfolding(crate::specs::Reading::operands_at, crate::specs::Reading::descriptor_at))]
 pub fn desc(bytes: &[u8]) -> Result<(Action, &[u8]), Unread>
     ensures { Gives (λ x. (x.0, x.1.now)) result (operands_at Code.Desc bytes.now) }
@@ -55,6 +59,7 @@ pub fn desc(bytes: &[u8]) -> Result<(Action, &[u8]), Unread>
     Ok((Action::Desc { d, kind, guid, arg }, rest))
 }
 
+/// The operands: registers of descriptors behind their count; and what stands behind them.
 pub fn install(alloc: Global, bytes: &[u8]) -> Result<(Action, &[u8]), Unread>
     ensures { Gives (λ x. (x.0, x.1.now)) result (operands_at Code.Install bytes.now) }
 {
@@ -62,6 +67,7 @@ pub fn install(alloc: Global, bytes: &[u8]) -> Result<(Action, &[u8]), Unread>
     Ok((Action::Install { list }, rest))
 }
 
+/// The operands: the registers of the old and of the new descriptor; and what stands behind them.
 pub fn reinstall(bytes: &[u8]) -> Result<(Action, &[u8]), Unread>
     ensures { Gives (λ x. (x.0, x.1.now)) result (operands_at Code.Reinstall bytes.now) }
 {
@@ -70,6 +76,7 @@ pub fn reinstall(bytes: &[u8]) -> Result<(Action, &[u8]), Unread>
     Ok((Action::Reinstall { old, new }, rest))
 }
 
+/// The operands: registers of descriptors behind their count; and what stands behind them.
 pub fn notify(alloc: Global, bytes: &[u8]) -> Result<(Action, &[u8]), Unread>
     ensures { Gives (λ x. (x.0, x.1.now)) result (operands_at Code.Notify bytes.now) }
 {
@@ -77,6 +84,7 @@ pub fn notify(alloc: Global, bytes: &[u8]) -> Result<(Action, &[u8]), Unread>
     Ok((Action::Notify { list }, rest))
 }
 
+/// The operands: the registers for the descriptor and the value, the GUID, and the number of the instance; and what stands behind them.
 pub fn locate(bytes: &[u8]) -> Result<(Action, &[u8]), Unread>
     ensures { Gives (λ x. (x.0, x.1.now)) result (operands_at Code.Locate bytes.now) }
 {
@@ -95,6 +103,7 @@ pub fn locate(bytes: &[u8]) -> Result<(Action, &[u8]), Unread>
     ))
 }
 
+/// The operands: a HOB's type, and its body behind the length; and what stands behind them.
 pub fn make_hob(alloc: Global, bytes: &[u8]) -> Result<(Action, &[u8]), Unread>
     ensures { Gives (λ x. (x.0, x.1.now)) result (operands_at Code.Hob bytes.now) }
 {
@@ -102,6 +111,7 @@ pub fn make_hob(alloc: Global, bytes: &[u8]) -> Result<(Action, &[u8]), Unread>
     Ok((Action::Hob { kind, body }, rest))
 }
 
+/// The operands: the registers of the begin and of the length; and what stands behind them.
 pub fn memory(bytes: &[u8]) -> Result<(Action, &[u8]), Unread>
     ensures { Gives (λ x. (x.0, x.1.now)) result (operands_at Code.Memory bytes.now) }
 {
@@ -110,6 +120,7 @@ pub fn memory(bytes: &[u8]) -> Result<(Action, &[u8]), Unread>
     Ok((Action::Memory { begin, length }, rest))
 }
 
+/// The operands: a register, the memory type, and how many pages; and what stands behind them.
 pub fn pages(bytes: &[u8]) -> Result<(Action, &[u8]), Unread>
     ensures { Gives (λ x. (x.0, x.1.now)) result (operands_at Code.Pages bytes.now) }
 {
@@ -126,6 +137,7 @@ pub fn pages(bytes: &[u8]) -> Result<(Action, &[u8]), Unread>
     ))
 }
 
+/// The operands: whether the mode is got or set, and a register; and what stands behind them.
 pub fn boot_mode(bytes: &[u8]) -> Result<(Action, &[u8]), Unread>
     ensures { Gives (λ x. (x.0, x.1.now)) result (operands_at Code.BootMode bytes.now) }
 {
@@ -134,6 +146,7 @@ pub fn boot_mode(bytes: &[u8]) -> Result<(Action, &[u8]), Unread>
     Ok((Action::BootMode { form, r }, rest))
 }
 
+/// The operands: none; and what stands behind them.
 pub fn shadow(bytes: &[u8]) -> Result<(Action, &[u8]), Unread>
     ensures { Gives (λ x. (x.0, x.1.now)) result (operands_at Code.Shadow bytes.now) }
 {

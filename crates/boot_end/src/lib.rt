@@ -1,4 +1,6 @@
 //! The end of a boot: its last lines.
+//!
+//! Tried in `boot_trials`: `tests`.
 #![tactic(auto)]
 
 mod closing;

@@ -1,4 +1,6 @@
 //! The printed lines of a boot, put to a sink.
+//!
+//! Tried in `text_trials`: `printed_lines`.
 #![tactic(auto)]
 
 mod audit_line;

@@ -1,4 +1,6 @@
 //! What a set of firmware volume images is: the catalogue of its volumes and modules, and the first fault where it has none.
+//!
+//! Tried in `volume_trials`: `catalogues`.
 #![tactic(auto)]
 
 mod a_priori_name;

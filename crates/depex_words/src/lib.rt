@@ -1,5 +1,7 @@
 //! Dependency expressions in the words of an INF file (`[Depex]`), read as EDK2's GenDepex reads them: NOT binds first, AND and OR alike and
 //! grouped from the right, so that `A AND B OR C` is `A AND (B OR C)`.
+//!
+//! Tried in `source_trials`: `expressions`.
 #![tactic(auto)]
 
 mod expression;

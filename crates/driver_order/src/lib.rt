@@ -1,4 +1,6 @@
 //! The drivers of the discovered volumes: in discovered order, by the names of their files, and with those that name them in BEFORE and AFTER (PI 1.8, volume 2, "DXE Dispatcher").
+//!
+//! Tried in `choice_trials`: `order`.
 #![tactic(auto)]
 
 mod lists;

@@ -1,4 +1,6 @@
 //! What an action of DXE's own does: the protocol services, the notifications, and the DXE services (PI 1.8, volume 2, "Protocol Handler Services" and "DXE Services").
+//!
+//! Tried in `choice_trials`: `calls`.
 #![tactic(auto)]
 
 mod action;

@@ -1,4 +1,6 @@
 //! DXE from its opening to its end (PI 1.8, volume 2, "DXE Dispatcher"): the core's steps, and where it has none left the next driver, or the stop.
+//!
+//! Tried in `boot_trials`: `tests`.
 #![tactic(auto)]
 
 mod aim;

@@ -1,4 +1,6 @@
 //! What a person is told beside a refusal: of a plan the word at fault, the rule that it breaks and what is allowed, and of an image what its cause means.
+//!
+//! Tried by `scripts/check-words`.
 #![tactic(auto)]
 
 mod image;

@@ -1,4 +1,6 @@
 //! The scripts that run in a phase, whatever its calls have still to visit: what the machines of PEI and DXE do alike.
+//!
+//! Tried in `boot_trials`: `tests`.
 #![tactic(auto)]
 
 mod actions;

@@ -1,4 +1,6 @@
 //! Whether a text is the trace of a boot of a plan in which the dispatchers chose freely.
+//!
+//! Tried by `scripts/check-traces`.
 #![tactic(auto)]
 
 mod checking;

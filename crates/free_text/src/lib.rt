@@ -1,4 +1,6 @@
 //! A text that a boot is held against: it takes what the boot prints, a piece at a time, up to the first byte that does not stand there.
+//!
+//! Tried in `base_trials`: `held_text`.
 #![tactic(auto)]
 
 mod bytes;

@@ -1,4 +1,6 @@
 //! Firmware volumes from lists of files, which the readers of volumes and sections read back.
+//!
+//! Tried in `volume_trials`: `building`.
 #![tactic(auto)]
 
 mod build;

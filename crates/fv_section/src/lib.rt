@@ -1,4 +1,6 @@
 //! Sections of a firmware file: what stands in a stream of them, or the first thing that is wrong.
+//!
+//! Tried in `volume_trials`: `sections`.
 #![tactic(auto)]
 
 mod fault;

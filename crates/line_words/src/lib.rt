@@ -1,4 +1,6 @@
 //! Texts of lines that are written by hand (own format): their lines, of which some are passed over, the words of a line, and numbers.
+//!
+//! Tried in `base_trials`: `plan_lines`.
 #![tactic(auto)]
 
 mod line;

@@ -1,4 +1,6 @@
 //! The modules of a catalogue by volume and file name.
+//!
+//! Tried by `scripts/check-traces`.
 #![tactic(auto)]
 
 mod guids;

@@ -1,5 +1,7 @@
 //! The MP services of PI 1.8, volume 2, "MP Services Protocol", as a machine over a list of events: what each call answers, and what the
 //! jobs of the application processors leave in memory, whatever the order in which the processors get on.
+//!
+//! Tried in `text_trials`: `processors`.
 #![tactic(auto)]
 
 mod event;

@@ -1,5 +1,7 @@
 //! The text of an MP file, which has the numbers of processors and of cells and the events of the MP services' machine, and the text of
 //! what the machine answers and leaves (own).
+//!
+//! Tried in `text_trials`: `processors`.
 #![tactic(auto)]
 
 mod event;

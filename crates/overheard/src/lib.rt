@@ -1,4 +1,6 @@
 //! A run overheard: copies of the files that it read and of the text that it printed, from which a person is told more than the text says.
+//!
+//! Tried by `scripts/check-words`.
 #![tactic(auto)]
 
 mod files;

@@ -1,4 +1,6 @@
 //! What an action of PEI's own does, over any store.
+//!
+//! Tried in `boot_trials`: `tests`.
 #![tactic(auto)]
 
 mod action;

@@ -1,4 +1,6 @@
 //! The PEI core over any store: a step of the boot machine at a time, with the lines that it prints (PI 1.8, volume 1, "PEI Foundation").
+//!
+//! Tried in `boot_trials`: `tests`.
 #![tactic(auto)]
 
 mod act;

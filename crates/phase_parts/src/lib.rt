@@ -1,4 +1,6 @@
 //! The parts of a phase: their order in a volume, and whether an expression holds over a set of GUIDs.
+//!
+//! Tried in `choice_trials`: `parts`.
 #![tactic(auto)]
 
 mod expression;

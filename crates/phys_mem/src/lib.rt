@@ -1,4 +1,6 @@
 //! Physical memory as regions of bytes: temporary RAM, RAM, and volumes that are read only. Where two regions overlap, the first of them serves.
+//!
+//! Tried in `base_trials`: `memory`.
 #![tactic(auto)]
 
 mod bank;

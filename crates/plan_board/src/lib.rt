@@ -1,4 +1,6 @@
 //! The board of a plan: its volumes where they are mapped.
+//!
+//! Tried in `boot_trials`: `tests`.
 #![tactic(auto)]
 
 mod board;

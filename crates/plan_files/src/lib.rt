@@ -1,4 +1,6 @@
 //! A plan and its volumes, from their files.
+//!
+//! Tried in `boot_trials`: `tests`.
 #![tactic(auto)]
 
 mod job;

@@ -1,4 +1,6 @@
 //! The words of a printed text, read back, each as the value of which it is the print (own): numbers and GUIDs, and the lines that line feeds end.
+//!
+//! Tried in `base_trials`: `printed_texts`.
 #![tactic(auto)]
 
 mod guid;

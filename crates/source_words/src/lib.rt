@@ -1,4 +1,6 @@
 //! The words of a volume's text (own format): what stands between blanks and brackets, GUIDs as people write them, and keywords in any case.
+//!
+//! Tried in `source_trials`: `action_lines`.
 #![tactic(auto)]
 
 mod guid;

@@ -1,5 +1,7 @@
 //! Which parts wait, by the GUIDs that they wait for: the parts of the volumes that are known, each with its place, and the first of them that may start.
 //! An expression is evaluated when its part comes, and again only where one of its GUIDs came or went.
+//!
+//! Tried in `choice_trials`: `index`.
 #![tactic(auto)]
 
 mod add;
