@@ -20,8 +20,8 @@ returns-in-Some-clause-row g c =
     subst (λ o. OnOk c.aim.result (Aims catalog core queue o c.aim.new.self)) (sym c.in-Some.is)
     (on_ok c.aim.result
     (λ row m are.
-      let root : c.root_of-root.result ≡ root_of catalog m c.in-Some.number = c.root_of-root.ensures m (order_of catalog core queue m c.order.result.now c.order.ensures are) in
-      subst (λ n. IsQueueOf catalog (aimed catalog m n) c.aim.new.self) root (row m (seen_of catalog core queue m c.order-in-Some.result.now c.order-in-Some.ensures are)))
+    let root : c.root_of-root.result ≡ root_of catalog m c.in-Some.number = c.root_of-root.ensures m (order_of catalog core queue m c.order.result.now c.order.ensures are) in
+    subst (λ n. IsQueueOf catalog (aimed catalog m n) c.aim.new.self) root (row m (seen_of catalog core queue m c.order-in-Some.result.now c.order-in-Some.ensures are)))
     c.aim.ensures.row)
 
 pub returns-in-None-clause-row : goal.returns-in-None-clause-row
