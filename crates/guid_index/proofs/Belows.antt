@@ -89,10 +89,19 @@ last_holds t n e last is more = end_holds t n last (sym is ∙ sym more ∙ omeg
 pub last_counted : (t : ℕ → Bool) (n e last : ℕ) → e ≡ end_below t n → last + 1 ≡ e → count_below t n ≡ suc (count_below t last)
 last_counted t n e last is more = count_end t n last (sym is ∙ sym more ∙ omega arith)
 
+some_on : (e k c : ℕ) → (e ≡ 0 → k ≡ 0) → c < k → 0 < e
+some_on zero k c none more = absurd (let z : k ≡ 0 = none refl in omega (arith, z, more))
+some_on (suc e) k c none more = omega arith
+
 -- where some are counted, one is the last
 pub some_end : (t : ℕ → Bool) (n c : ℕ) → c < count_below t n → 0 < end_below t n
 some_end t n c more = some_on (end_below t n) (count_below t n) c (count_none t n) more
-where
-  some_on : (e k c : ℕ) → (e ≡ 0 → k ≡ 0) → c < k → 0 < e
-  some_on zero k c none more = absurd (let z : k ≡ 0 = none refl in omega (arith, z, more))
-  some_on (suc e) k c none more = omega arith
+
+few_on : (b : Bool) (n e c : ℕ) → c ≤ e → c ≤ n → cond b (suc c) c ≤ cond b (suc n) e
+few_on true n e c le few = omega (arith, few)
+few_on false n e c le few = le
+
+-- no more are counted than the end says
+pub count_few : (t : ℕ → Bool) (n : ℕ) → count_below t n ≤ end_below t n
+count_few t zero = omega arith
+count_few t (suc n) = few_on (t n) n (end_below t n) (count_below t n) (count_few t n) (count_le t n)

@@ -3,12 +3,13 @@ use Rattle.std.proofs.Common.{◌≡◌, ℕ, zero, suc, ◌+◌, ◌≤◌, ◌
 use Rattle.std.specs.Prelude.{filter, slice_get, slice_set, nat_lt}
 use Rattle.std.specs.List.{list_any}
 use Rattle.std.proofs.lemmas.Option.{slice_get_past}
+use Rattle.std.proofs.lemmas.Bool.{cases_lt}
 use Rattle.std.proofs.lemmas.Slice.Eq.{bytes_eq-Decides}
 use Rattle.pi_base.specs.declared.guid.Guid.{Guid}
 use Rattle.pi_base.specs.Guids.{same_guid}
 use Rattle.guid_index.specs.declared.guid_index.Indexed.{Indexed}
 use Rattle.guid_index.specs.Entries.{IsNext, count_below, end_below, entries_of, has_at, has_guid}
-use Rattle.guid_index.proofs.Belows.{count_front, end_holds, end_le, end_none}
+use Rattle.guid_index.proofs.Belows.{count_few, count_front, end_holds, end_none, last_counted, last_holds}
 
 pub has_past : (list : List Indexed) (guid : Guid) (place : ℕ) → length list ≤ place → has_at list guid place ≡ false
 has_past [] guid place le = refl
@@ -89,13 +90,10 @@ any_none (x ∷ xs) guid none = ap (λ b. b || list_any (has_guid guid) xs) (non
 
 -- none has the GUID from the end on
 pub none_on : (list : List Indexed) (guid : Guid) (from : ℕ) → end_below (has_at list guid) (length list) ≤ from → IsNext list guid from None
-none_on list guid from le other on = elim (side other (length list)) [
+none_on list guid from le other on = elim (cases_lt other (length list)) [
   | inl less ↦ end_none (has_at list guid) (length list) other (omega (arith, le, on)) less
   | inr past ↦ has_past list guid other past
 ]
-where
-  side : (a b : ℕ) → (a < b) ⊎ (b ≤ a)
-  side a b = grind arith
 
 pub contains_is : (list : List Indexed) (guid : Guid) (end : ℕ) → end ≡ end_below (has_at list guid) (length list) → nat_lt 0 end ≡ list_any (has_guid guid) list
 contains_is list guid zero e = sym (any_none list guid (λ place. none_on list guid 0 (omega (arith, e)) place (omega arith)))
@@ -105,3 +103,19 @@ contains_is list guid (suc p) e = sym (any_from list guid p (end_holds (has_at l
 pub next_is : (list : List Indexed) (guid : Guid) (from at before : ℕ) → from ≤ at → has_at list guid at ≡ true → before ≡ end_below (has_at list guid) at → before ≤ from
     → IsNext list guid from (Some at)
 next_is list guid from at before on has is le = (on, has, λ other low high. end_none (has_at list guid) at other (omega (arith, is, le, low)) high)
+
+-- the entry before the end has it
+pub last_has : (list : List Indexed) (guid : Guid) (last : ℕ) → last + 1 ≡ end_below (has_at list guid) (length list) → has_at list guid last ≡ true
+last_has list guid last more = last_holds (has_at list guid) (length list) (end_below (has_at list guid) (length list)) last refl more
+
+-- and all that have it are one more than those before it
+pub last_count : (list : List Indexed) (guid : Guid) (last : ℕ) → last + 1 ≡ end_below (has_at list guid) (length list)
+    → length (entries_of list guid) ≡ suc (count_below (has_at list guid) last)
+last_count list guid last more =
+    filter_count list guid ∙ last_counted (has_at list guid) (length list) (end_below (has_at list guid) (length list)) last refl more
+
+pub entries_few : (list : List Indexed) (guid : Guid) → length (entries_of list guid) ≤ end_below (has_at list guid) (length list)
+entries_few list guid =
+    let len = filter_count list guid in
+    let few = count_few (has_at list guid) (length list) in
+    omega (arith, len, few)

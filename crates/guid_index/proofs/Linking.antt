@@ -1,5 +1,5 @@
 -- Links and ends, where an entry comes.
-use Rattle.std.proofs.Common.{◌≡◌, ◌⊎◌, ℕ, zero, suc, ◌+◌, ◌≤◌, ◌<◌, Bool, true, false, cond, List, [], ◌∷◌, ◌++◌, length, arith, ap, refl, sym, subst, ◌∙◌, Option, Some, None, inl, inr, length-append}
+use Rattle.std.proofs.Common.{◌≡◌, ◌⊎◌, ℕ, zero, suc, ◌+◌, ◌≤◌, ◌<◌, Bool, true, false, not, cond, List, [], ◌∷◌, ◌++◌, length, arith, ap, refl, sym, subst, ◌∙◌, Option, Some, None, inl, inr, length-append}
 use Rattle.std.specs.Prelude.{slice_get, slice_set, unwrap_or}
 use Rattle.std.proofs.lemmas.Bool.Decides.{eqb_tells}
 use Rattle.indexmap.specs.IndexMap.{IndexMap, get_by}
@@ -9,7 +9,7 @@ use Rattle.guid_index.specs.declared.guid_index.Indexed.{Indexed}
 use Rattle.guid_index.specs.declared.link.Link.{Link}
 use Rattle.guid_index.specs.Entries.{count_below, end_below, has_at, has_guid}
 use Rattle.guid_index.specs.Links.{AreEnds, AreLinked, IsLink, IsNextLink}
-use Rattle.guid_index.proofs.Belows.{count_same, end_le, end_same}
+use Rattle.guid_index.proofs.Belows.{count_same, end_same}
 use Rattle.guid_index.proofs.Having.{has_last, has_push, has_set, has_within, same_is, same_self}
 
 pub link_of : (list items : List Indexed) (links : List Link) (guid : Guid) (place : ℕ) (link : Link) → list ≡ items → AreLinked items links
@@ -127,3 +127,28 @@ ends_set list ends old entry at there same are guid =
     are guid
     ∙ end_same (has_at list guid) (has_at new guid) (length list) (λ j below. sym (has_set list old entry at guid j there g))
     ∙ ap (end_below (has_at new guid)) (sym (length_set list at entry))
+
+pub put_keeps : {S : Type 0} (now list more : List Indexed) (links linked : List Link) (old new : IndexMap Guid ℕ S) (entry : Indexed) (link : Link) (end : ℕ) → now ≡ list
+    → AreLinked list links → AreEnds list old → IsNextLink now entry.guid link → end ≡ length now + 1 → more ≡ list ++ entry ∷ [] → linked ≡ links ++ link ∷ []
+    → ((other : Guid) → get_by (same_guid other) new ≡ cond (same_guid entry.guid other) (Some end) (get_by (same_guid other) old))
+    → AreLinked more linked × AreEnds more new
+put_keeps now list more links linked old new entry link end e are ends next is em el writes =
+    let here : IsNextLink list entry.guid link = subst (λ l. IsNextLink l entry.guid link) e next in
+    let long : end ≡ length list + 1 = subst (λ l. end ≡ length l + 1) e is in
+    let one = subst (λ l. AreLinked (list ++ entry ∷ []) l) (sym el) (linked_push list links entry link are here) in
+    let two = ends_push list entry old new end ends long writes in
+    (subst (λ l. AreLinked l linked) (sym em) one, subst (λ l. AreEnds l new) (sym em) two)
+
+pub not_same : (b : Bool) → not b ≡ false → b ≡ true
+not_same true e = refl
+not_same false e = absurd (let no : true ≡ false = e in cc)
+
+pub set_keeps : {S : Type 0} (now list more : List Indexed) (links : List Link) (ends : IndexMap Guid ℕ S) (old entry : Indexed) (at : ℕ) → now ≡ list
+    → slice_get now at ≡ Some old → same_guid old.guid entry.guid ≡ true → AreLinked list links → AreEnds list ends → more ≡ slice_set list at entry
+    → AreLinked more links × AreEnds more ends
+set_keeps now list more links ends old entry at e there same are known em =
+    let here : slice_get list at ≡ Some old = subst (λ l. slice_get l at ≡ Some old) e there in
+    (
+      subst (λ l. AreLinked l links) (sym em) (linked_set list links old entry at here same are),
+      subst (λ l. AreEnds l ends) (sym em) (ends_set list ends old entry at here same known),
+    )

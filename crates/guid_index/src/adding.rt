@@ -1,21 +1,21 @@
 // An entry comes behind the others, or in the place of one.
-ghost use Rattle.std.specs.Prelude.{◌≡◌, ◌<◌, ◌++◌, ◌∷◌, [], true, false, length, slice_set, Some, if◌then◌else◌};
+ghost use Rattle.std.specs.Prelude.{◌≡◌, ◌<◌, ◌+◌, ◌++◌, ◌∷◌, [], true, false, not, length, slice_set, Some, IfSome, if◌then◌else◌};
 ghost use Rattle.pi_base.specs.declared.guid.Guid.{Guid as OfGuid};
 ghost use Rattle.pi_base.specs.Guids as G;
-ghost use Rattle.indexmap.specs.IndexMap.{get_by, IsEmpty};
+ghost use Rattle.indexmap.specs.IndexMap.{get_by};
 ghost use Rattle.guid_index.specs.Entries.{has_at};
-ghost use Rattle.guid_index.specs.Links.{IsLink, IsNextLink};
+ghost use Rattle.guid_index.specs.Links.{IsNextLink};
 
 use crate::guid_index::{GuidIndex, Indexed};
 use crate::link::Link;
 use indexmap::IndexMap;
 use pi_base::{Guid, Seq};
 
-// Whether two GUIDs are the same.
-fn same_guid(a: &Guid, b: &Guid) -> bool
-    ensures { result ≡ G.same_guid a.now b.now }
+// Whether two GUIDs differ.
+fn differ(a: &Guid, b: &Guid) -> bool
+    ensures { result ≡ not (G.same_guid a.now b.now) }
 {
-    *a == *b
+    *a != *b
 }
 
 // Each of these answers whether there was room.
@@ -48,9 +48,15 @@ fn put_end(ends: &mut IndexMap<Guid, usize>, guid: Guid, end: usize) -> bool
 }
 
 impl GuidIndex {
-    // Whether one more entry, and one more GUID, have room.
-    fn has_room(&self) -> bool {
-        self.entries.len() < self.most && self.ends.len() < self.ends.capacity()
+    // The place behind one entry more. None where that, or one GUID more, has no room.
+    fn next_end(&self) -> Option<usize>
+        ensures { IfSome result (λ end. end ≡ length self.now + 1) }
+    {
+        let len = self.entries.len();
+        if len < self.most && self.ends.len() < self.ends.capacity() {
+            return Some(len + 1);
+        }
+        None
     }
 
     // A place of the GUID for a long way: as far off as the two ways before it together where those are as long as each other, else the last one's.
@@ -96,12 +102,12 @@ impl GuidIndex {
     }
 
     // An entry comes behind the others, with its link. False where no memory was left for it; then no entry is.
-    fn put(&mut self, entry: Indexed, link: Link) -> bool
-        requires { IsNextLink self.old entry.guid link }
+    fn put(&mut self, entry: Indexed, link: Link, end: usize) -> bool
+        requires link { IsNextLink self.old entry.guid link }
+        requires end { end ≡ length self.old + 1 }
         ensures put { result ≡ true → self.new ≡ self.old ++ entry ∷ [] }
         ensures gone { result ≡ false → self.new ≡ [] }
     {
-        let end = self.entries.len() + 1;
         if put_link(&mut self.links, link)
             && put_entry(&mut self.entries, entry)
             && put_end(&mut self.ends, entry.guid, end)
@@ -119,12 +125,15 @@ impl GuidIndex {
         ensures pushed { result ≡ true → self.new ≡ self.old ++ entry ∷ [] }
         ensures gone { result ≡ false → self.new ≡ [] }
     {
-        if !self.has_room() {
-            self.clear();
-            return false;
-        }
+        let end = match self.next_end() {
+            Some(end) => end,
+            None => {
+                self.clear();
+                return false;
+            }
+        };
         let link = self.next_link(&entry.guid);
-        self.put(entry, link)
+        self.put(entry, link, end)
     }
 
     /// Puts an entry in the place of another of its GUID. False where the GUIDs differ; then no entry is left.
@@ -137,7 +146,7 @@ impl GuidIndex {
             Some(old) => old,
             None => unreachable!(),
         };
-        if !same_guid(&old.guid, &entry.guid) {
+        if differ(&old.guid, &entry.guid) {
             self.clear();
             return false;
         }

@@ -24,21 +24,24 @@ impl GuidIndex {
         if end == 0 {
             return 0;
         }
-        self.link(guid, end - 1).rank + 1
+        let last = end - 1;
+        let count = self.link(guid, last).rank + 1;
+        count
     }
 
-    // A place of the GUID before the one with this link, from a place on: a far one, or else the one just before.
-    fn before_in(&self, guid: &Guid, link: Link, from: usize) -> usize
-        requires link { (place : ℕ) × IsLink self.now guid.now place link }
+    // A place of the GUID before `at`, which has this link, from a place on: a far one, or else the last.
+    fn before_in(&self, guid: &Guid, at: usize, link: Link, from: usize) -> usize
+        requires link { IsLink self.now guid.now at link }
         requires more { from < link.before }
         ensures has { has_at self.now guid.now result ≡ true }
         ensures on { from ≤ result }
-        ensures less { result < link.before }
+        ensures less { result < at }
     {
-        if link.far >= from && link.far < link.before {
+        if link.far >= from && link.far < at {
             return link.far;
         }
-        link.before - 1
+        let last = link.before - 1;
+        last
     }
 
     /// The place of the first entry with a GUID, from a place on. None where there is none.
@@ -49,45 +52,46 @@ impl GuidIndex {
         if end <= from {
             return None;
         }
-        let mut at = end - 1;
-        let mut link = self.link(guid, at);
+        let last = end - 1;
+        let mut at = last;
+        let mut link = self.link(guid, last);
         'steps: while link.before > from {
-            at = self.before_in(guid, link, from);
+            at = self.before_in(guid, at, link, from);
             link = self.link(guid, at);
         }
         Some(at)
     }
 
-    // A place of the GUID before the one with this link, before which still `n` of the GUID stand: a far one, or else the one just before.
-    fn before_of(&self, guid: &Guid, link: Link, n: usize) -> usize
-        requires link { (place : ℕ) × IsLink self.now guid.now place link }
+    // A place of the GUID before `at`, which has this link, with still `n` of the GUID before it: a far one, or else the last.
+    fn before_of(&self, guid: &Guid, at: usize, link: Link, n: usize) -> usize
+        requires link { IsLink self.now guid.now at link }
         requires more { n < link.rank }
         ensures has { has_at self.now guid.now result ≡ true }
         ensures rank { n ≤ count_below (has_at self.now guid.now) result }
-        ensures less { result < link.before }
+        ensures less { result < at }
     {
         let far = self.link(guid, link.far);
-        if far.rank >= n && link.far < link.before {
+        if far.rank >= n && link.far < at {
             return link.far;
         }
-        link.before - 1
+        let last = link.before - 1;
+        last
     }
 
     /// The n-th entry with a GUID, from 0. None past the last of them.
     pub fn nth(&self, guid: &Guid, n: usize) -> Option<Indexed>
         ensures { result ≡ slice_get (entries_of self.now guid.now) n }
     {
+        let count = self.count(guid);
+        if count <= n {
+            return None;
+        }
         let end = self.end(guid);
-        if end == 0 {
-            return None;
-        }
-        let mut at = end - 1;
-        let mut link = self.link(guid, at);
-        if link.rank < n {
-            return None;
-        }
+        let last = end - 1;
+        let mut at = last;
+        let mut link = self.link(guid, last);
         'steps: while link.rank > n {
-            at = self.before_of(guid, link, n);
+            at = self.before_of(guid, at, link, n);
             link = self.link(guid, at);
         }
         self.get(at)

@@ -1,7 +1,7 @@
 use Rattle.std.proofs.Common.{◌≡◌, ◌≤◌, true}
 use Rattle.guid_index.specs.Entries.{has_at}
 use Rattle.guid_index.specs.Links.{IsLink}
-use Rattle.guid_index.proofs.reading.GuidIndex.nth.Given as goal
+use Rattle.guid_index.proofs.guid_index.GuidIndex.nth.Given as goal
 
 abbrev pub invariant-steps : goal.invariant-steps
 invariant-steps l = record {
