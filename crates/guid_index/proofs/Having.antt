@@ -4,6 +4,7 @@ use Rattle.std.specs.Prelude.{filter, slice_get, slice_set, nat_lt}
 use Rattle.std.specs.List.{list_any}
 use Rattle.std.proofs.lemmas.Option.{slice_get_past}
 use Rattle.std.proofs.lemmas.Bool.{cases_lt}
+use Rattle.std.proofs.lemmas.Bool.Decides.{nat_tests}
 use Rattle.std.proofs.lemmas.Slice.Eq.{bytes_eq-Decides}
 use Rattle.pi_base.specs.declared.guid.Guid.{Guid}
 use Rattle.pi_base.specs.Guids.{same_guid}
@@ -95,9 +96,12 @@ none_on list guid from le other on = elim (cases_lt other (length list)) [
   | inr past ↦ has_past list guid other past
 ]
 
+some_is : (p : ℕ) → nat_lt 0 (suc p) ≡ true
+some_is p = grind (arith, nat_tests)
+
 pub contains_is : (list : List Indexed) (guid : Guid) (end : ℕ) → end ≡ end_below (has_at list guid) (length list) → nat_lt 0 end ≡ list_any (has_guid guid) list
 contains_is list guid zero e = sym (any_none list guid (λ place. none_on list guid 0 (omega (arith, e)) place (omega arith)))
-contains_is list guid (suc p) e = sym (any_from list guid p (end_holds (has_at list guid) (length list) p (sym e)))
+contains_is list guid (suc p) e = some_is p ∙ sym (any_from list guid p (end_holds (has_at list guid) (length list) p (sym e)))
 
 -- the last step of a search
 pub next_is : (list : List Indexed) (guid : Guid) (from at before : ℕ) → from ≤ at → has_at list guid at ≡ true → before ≡ end_below (has_at list guid) at → before ≤ from

@@ -4,11 +4,11 @@ use Rattle.guid_index.proofs.Belows.{count_le}
 use Rattle.guid_index.proofs.Having.{entries_few, last_count, last_has}
 use Rattle.guid_index.proofs.guid_index.GuidIndex.count.Goals as goal
 
-pub returns-then-end : goal.returns-then-end
-returns-then-end c = let few = entries_few c.args.self.now c.args.guid.now in omega (arith, few)
+pub returns-then-end-eq0 : goal.returns-then-end-eq0
+returns-then-end-eq0 c = let few = entries_few c.args.self.now c.args.guid.now in omega (arith, few)
 
-pub link-requires : goal.link-requires
-link-requires c =
+pub link-count-requires : goal.link-count-requires
+link-count-requires c =
     let more : c.end-end.result - 1 + 1 ≡ end_below (has_at c.args.self.now c.args.guid.now) (length c.args.self.now) = omega arith in
     last_has c.args.self.now c.args.guid.now (c.end-end.result - 1) more
 

@@ -6,8 +6,8 @@ use Rattle.guid_index.proofs.guid_index.GuidIndex.next.Goals as goal
 pub returns-then-end-from : goal.returns-then-end-from
 returns-then-end-from c = none_on c.args.self.now c.args.guid.now c.args.from (omega arith)
 
-pub link-requires : goal.link-requires
-link-requires c =
+pub link-link-requires : goal.link-link-requires
+link-link-requires c =
     let more : c.end-end.result - 1 + 1 ≡ end_below (has_at c.args.self.now c.args.guid.now) (length c.args.self.now) = omega arith in
     last_has c.args.self.now c.args.guid.now (c.end-end.result - 1) more
 

@@ -4,18 +4,18 @@ use Rattle.guid_index.proofs.Belows.{count_few, count_le, last_counted}
 use Rattle.guid_index.proofs.Having.{has_within, last_has}
 use Rattle.guid_index.proofs.guid_index.GuidIndex.next_link.Goals as goal
 
-pub returns-then-before : goal.returns-then-before
-returns-then-before c =
+pub returns-then-before-eq0 : goal.returns-then-before-eq0
+returns-then-before-eq0 c =
     let few = count_few (has_at c.args.self.now c.args.guid.now) (length c.args.self.now) in
     record { before = c.end-before.ensures; far = omega arith; far_has = inl c.len-far.ensures; rank = omega (arith, few) }
 
-pub far_before-requires : goal.far_before-requires
-far_before-requires c =
+pub far_before-far-requires : goal.far_before-far-requires
+far_before-far-requires c =
     let more : c.end-before.result - 1 + 1 ≡ end_below (has_at c.args.self.now c.args.guid.now) (length c.args.self.now) = omega arith in
     last_has c.args.self.now c.args.guid.now (c.end-before.result - 1) more
 
-pub link-requires : goal.link-requires
-link-requires c =
+pub link-rank-requires : goal.link-rank-requires
+link-rank-requires c =
     let more : c.end-before.result - 1 + 1 ≡ end_below (has_at c.args.self.now c.args.guid.now) (length c.args.self.now) = omega arith in
     last_has c.args.self.now c.args.guid.now (c.end-before.result - 1) more
 

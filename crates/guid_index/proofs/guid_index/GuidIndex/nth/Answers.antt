@@ -11,8 +11,8 @@ returns-then-count-n c = sym (slice_get_past (entries_of c.args.self.now c.args.
 pub overflow_sub-last : goal.overflow_sub-last
 overflow_sub-last c = let few = entries_few c.args.self.now c.args.guid.now in omega (arith, few)
 
-pub link-requires : goal.link-requires
-link-requires c =
+pub link-link-requires : goal.link-link-requires
+link-link-requires c =
     let few = entries_few c.args.self.now c.args.guid.now in
     let more : c.end-end.result - 1 + 1 ≡ end_below (has_at c.args.self.now c.args.guid.now) (length c.args.self.now) = omega (arith, few) in
     last_has c.args.self.now c.args.guid.now (c.end-end.result - 1) more

@@ -1,0 +1,14 @@
+-- What an index says of a list of a state: of each entry the GUID of its descriptor, and where that stands.
+-- Own.
+use Rattle.std.specs.Prelude.{ℕ, List, map}
+use Rattle.guid_index.specs.declared.guid_index.Indexed.{Indexed}
+use Rattle.store_model.specs.StoreState.{Entry, StoreState}
+use Rattle.store_model.specs.Service.Descriptor.{descriptors, guid_at}
+
+-- the row of the descriptor at a place
+abbrev pub row_at : StoreState → ℕ → Indexed
+row_at s place = record { guid = guid_at s place; at = place }
+
+-- those of a list, in order
+abbrev pub rows_of : StoreState → List Entry → List Indexed
+rows_of s entries = map (row_at s) (descriptors entries)

@@ -1,0 +1,17 @@
+// What follows from the definitions alone.
+ghost use Rattle.index_laws.specs.Answering.{RowsAnswer};
+ghost use Rattle.index_laws.specs.Staying.{RowsStay};
+
+use store_laws::bodies_stay;
+
+/// What a state says of a GUID is what the rows of its lists say.
+pub fn rows_answer()
+    ensures { RowsAnswer }
+{}
+
+/// The rows of entries are the same behind another body, where one that is no descriptor changes, and where the store moves.
+pub fn rows_stay()
+    ensures { RowsStay }
+{
+    bodies_stay();
+}
