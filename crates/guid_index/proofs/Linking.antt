@@ -1,5 +1,5 @@
 -- Links and ends, where an entry comes.
-use Rattle.std.proofs.Common.{◌≡◌, ◌⊎◌, ℕ, zero, suc, ◌+◌, ◌≤◌, ◌<◌, Bool, true, false, not, cond, List, [], ◌∷◌, ◌++◌, length, arith, ap, refl, sym, subst, ◌∙◌, Option, Some, None, inl, inr, length-append}
+use Rattle.std.proofs.Common.{◌≡◌, ℕ, zero, suc, ◌+◌, ◌<◌, Bool, true, false, not, cond, List, [], ◌∷◌, ◌++◌, length, arith, ap, refl, sym, subst, ◌∙◌, Option, Some, inl, inr, length-append}
 use Rattle.std.specs.Prelude.{slice_get, slice_set, unwrap_or}
 use Rattle.std.proofs.lemmas.Bool.Decides.{eqb_tells}
 use Rattle.indexmap.specs.IndexMap.{IndexMap, get_by}
@@ -7,7 +7,7 @@ use Rattle.pi_base.specs.declared.guid.Guid.{Guid}
 use Rattle.pi_base.specs.Guids.{same_guid}
 use Rattle.guid_index.specs.declared.guid_index.Indexed.{Indexed}
 use Rattle.guid_index.specs.declared.link.Link.{Link}
-use Rattle.guid_index.specs.Entries.{count_below, end_below, has_at, has_guid}
+use Rattle.guid_index.specs.Entries.{end_below, has_at, has_guid}
 use Rattle.guid_index.specs.Links.{AreEnds, AreLinked, IsLink, IsNextLink}
 use Rattle.guid_index.proofs.Belows.{count_same, end_same}
 use Rattle.guid_index.proofs.Having.{has_last, has_push, has_set, has_within, same_is, same_self}
@@ -64,20 +64,20 @@ linked_push list links entry link linked next =
       same = length_push links link ∙ ap suc len ∙ sym (length_push list entry);
       link = λ guid place met has there. elim (eqb_tells place (length list)) [
         | inl last ↦
-          let here : has_guid guid entry ≡ true = sym (has_last list entry guid) ∙ sym (ap (has_at (list ++ entry ∷ []) guid) last.1) ∙ has in
-          let g : entry.guid ≡ guid = same_is entry.guid guid here in
-          let at : place ≡ length links = last.1 ∙ sym len in
-          let e : Some link ≡ Some met = sym (get_last links link) ∙ sym (ap (slice_get (links ++ link ∷ [])) at) ∙ there in
-          let m : link ≡ met = cc in
-          let one = subst (λ k. IsLink (list ++ entry ∷ []) entry.guid k link) (sym last.1) (at_end list entry link next) in
-          let two = subst (λ k. IsLink (list ++ entry ∷ []) k place link) g one in
-          subst (λ k. IsLink (list ++ entry ∷ []) guid place k) m two
+            let here : has_guid guid entry ≡ true = sym (has_last list entry guid) ∙ sym (ap (has_at (list ++ entry ∷ []) guid) last.1) ∙ has in
+            let g : entry.guid ≡ guid = same_is entry.guid guid here in
+            let at : place ≡ length links = last.1 ∙ sym len in
+            let e : Some link ≡ Some met = sym (get_last links link) ∙ sym (ap (slice_get (links ++ link ∷ [])) at) ∙ there in
+            let m : link ≡ met = cc in
+            let one = subst (λ k. IsLink (list ++ entry ∷ []) entry.guid k link) (sym last.1) (at_end list entry link next) in
+            let two = subst (λ k. IsLink (list ++ entry ∷ []) k place link) g one in
+            subst (λ k. IsLink (list ++ entry ∷ []) guid place k) m two
         | inr apart ↦
-          let within = has_within (list ++ entry ∷ []) guid place has in
-          let total = length_push list entry in
-          let less : place < length list = omega (arith, within, total, apart.1) in
-          let in_links : place < length links = omega (arith, less, len) in
-          lifted list entry guid place met less (linked.link guid place met (sym (has_push list entry guid place less) ∙ has) (sym (get_push links link place in_links) ∙ there))
+            let within = has_within (list ++ entry ∷ []) guid place has in
+            let total = length_push list entry in
+            let less : place < length list = omega (arith, within, total, apart.1) in
+            let in_links : place < length links = omega (arith, less, len) in
+            lifted list entry guid place met less (linked.link guid place met (sym (has_push list entry guid place less) ∙ has) (sym (get_push links link place in_links) ∙ there))
       ];
     }
 
@@ -147,8 +147,7 @@ pub set_keeps : {S : Type 0} (now list more : List Indexed) (links : List Link) 
     → slice_get now at ≡ Some old → same_guid old.guid entry.guid ≡ true → AreLinked list links → AreEnds list ends → more ≡ slice_set list at entry
     → AreLinked more links × AreEnds more ends
 set_keeps now list more links ends old entry at e there same are known em =
-    let here : slice_get list at ≡ Some old = subst (λ l. slice_get l at ≡ Some old) e there in
-    (
+    let here : slice_get list at ≡ Some old = subst (λ l. slice_get l at ≡ Some old) e there in (
       subst (λ l. AreLinked l links) (sym em) (linked_set list links old entry at here same are),
       subst (λ l. AreEnds l ends) (sym em) (ends_set list ends old entry at here same known),
     )

@@ -1,6 +1,6 @@
 -- Entries in order, those of a GUID among them, and the next of these from a place on.
 -- Own.
-use Rattle.std.specs.Prelude.{◌≡◌, ℕ, zero, suc, ◌<◌, ◌≤◌, ◌+◌, Bool, true, false, if◌then◌else◌, List, filter, Option, Some, None, option_map, unwrap_or, slice_get}
+use Rattle.std.specs.Prelude.{◌≡◌, ℕ, zero, suc, ◌<◌, ◌≤◌, Bool, true, false, if◌then◌else◌, List, filter, Option, Some, None, option_map, unwrap_or, slice_get}
 use Rattle.pi_base.specs.declared.guid.Guid.{Guid}
 use Rattle.pi_base.specs.Guids.{same_guid}
 use Rattle.guid_index.specs.declared.guid_index.Indexed.{Indexed}

@@ -37,10 +37,10 @@ impl GuidIndex {
         ensures on { from ≤ result }
         ensures less { result < at }
     {
+        let last = link.before - 1;
         if link.far >= from && link.far < at {
             return link.far;
         }
-        let last = link.before - 1;
         last
     }
 
@@ -71,10 +71,10 @@ impl GuidIndex {
         ensures less { result < at }
     {
         let far = self.link(guid, link.far);
+        let last = link.before - 1;
         if far.rank >= n && link.far < at {
             return link.far;
         }
-        let last = link.before - 1;
         last
     }
 

@@ -1,5 +1,5 @@
-use Rattle.std.proofs.Common.{◌≡◌, ◌<◌, ◌+◌, ◌-◌, arith}
-use Rattle.guid_index.specs.Entries.{end_below, has_at}
+use Rattle.std.proofs.Common.{◌≡◌, ◌+◌, ◌-◌, arith}
+use Rattle.guid_index.specs.Entries.{has_at}
 use Rattle.guid_index.proofs.Belows.{end_le, last_counted, last_holds, some_end}
 use Rattle.guid_index.proofs.guid_index.GuidIndex.before_of.Goals as goal
 
