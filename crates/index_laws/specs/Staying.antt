@@ -1,20 +1,26 @@
--- The rows of entries stay where the GUIDs of their descriptors do.
+-- The rows of entries stay where the GUIDs of their descriptors do: behind another body, where one changes that is no descriptor, and in the move.
 -- Own.
-use Rattle.std.specs.Prelude.{◌≡◌, ◌≢◌, ℕ, true, List}
+use Rattle.std.specs.Prelude.{◌≡◌, ◌≢◌, ℕ, List}
 use Rattle.pi_base.specs.Lists.{Each}
 use Rattle.store_model.specs.declared.state.Body.{Body}
+use Rattle.store_model.specs.declared.state.Body.TheVariants.{Descriptor}
+use Rattle.store_model.specs.declared.state.DescriptorBody.{DescriptorBody}
+use Rattle.store_model.specs.declared.state.Entry.{Entry}
 use Rattle.store_model.specs.declared.store_handle.DescKind.{DescKind}
-use Rattle.store_model.specs.StoreState.{DescriptorBody, Descriptor, Entry, HobEntry, StoreState, appended, body_at}
-use Rattle.store_model.specs.StateFacts.{IsEntry}
+use Rattle.store_model.specs.StoreState.{Range, StoreState}
+use Rattle.store_model.specs.StateFacts.{IsEntry, IsStoreState}
+use Rattle.store_model.specs.Migration.{migrated_to}
 use Rattle.store_laws.specs.Bodies.{IsGrown, KeepsLength, changed}
 use Rattle.index_laws.specs.Rows.{rows_of}
 
--- the entries of a list stand in the state
-abbrev pub AreThere : StoreState → DescKind → List Entry → Type 0
-AreThere s kind entries = Each (IsEntry s kind) entries
+-- the rows of each list that has descriptors of its own
+pub record RowsAre (s t : StoreState) : Type 0 where
+  pub ppis : rows_of t s.ppis ≡ rows_of s s.ppis
+  pub callbacks : rows_of t s.callbacks ≡ rows_of s s.callbacks
+  pub dispatches : rows_of t s.dispatches ≡ rows_of s s.dispatches
 
 pub record RowsStay : Type 0 where
-  pub grown : (s t : StoreState) (kind : DescKind) (entries : List Entry) → IsGrown s t → AreThere s kind entries → rows_of t entries ≡ rows_of s entries
-  pub changed : (change : Body → Body) (s : StoreState) (place : ℕ) (body : Body) (kind : DescKind) (entries : List Entry)
-      → KeepsLength change s place body → ((d : DescriptorBody) → body ≢ Descriptor d) → AreThere s kind entries
-      → rows_of (changed change s place) entries ≡ rows_of s entries
+  pub grown : (s t : StoreState) → IsStoreState s → IsGrown s t → RowsAre s t
+  pub changed : (change : Body → Body) (s : StoreState) (place : ℕ) (body : Body) → IsStoreState s → KeepsLength change s place body
+      → ((d : DescriptorBody) → body ≢ Descriptor d) → RowsAre s (changed change s place)
+  pub moved : (s : StoreState) (to : Range) → IsStoreState s → RowsAre s (migrated_to s to)
