@@ -20,7 +20,7 @@ use Rattle.index_laws.specs.Rows.{row_at, rows_of}
 use Rattle.index_laws.specs.Staying.{RowsAre}
 
 -- the GUID that a body tells
-abbrev guid_in : Option Body → Guid
+abbrev pub guid_in : Option Body → Guid
 guid_in body = unwrap_or (option_map (λ d. d.guid) (descriptor_in body)) no_guid
 
 -- an entry's descriptor has the GUID that it had

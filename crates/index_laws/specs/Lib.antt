@@ -2,3 +2,4 @@
 pub mod Rows
 pub mod Answering
 pub mod Staying
+pub mod Serving

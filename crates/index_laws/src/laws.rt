@@ -1,5 +1,6 @@
 // What follows from the definitions alone.
 ghost use Rattle.index_laws.specs.Answering.{RowsAnswer};
+ghost use Rattle.index_laws.specs.Serving.{ServicesKeepRows};
 ghost use Rattle.index_laws.specs.Staying.{RowsStay};
 
 use store_laws::bodies_stay;
@@ -12,6 +13,13 @@ pub fn rows_answer()
 /// The rows of entries are the same behind another body, where one that is no descriptor changes, and where the store moves.
 pub fn rows_stay()
     ensures { RowsStay }
+{
+    bodies_stay();
+}
+
+/// The services leave the rows of a store's lists as they are, and an install adds those of its PPIs.
+pub fn services_keep_rows()
+    ensures { ServicesKeepRows }
 {
     bodies_stay();
 }

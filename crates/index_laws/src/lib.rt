@@ -4,4 +4,4 @@
 
 mod laws;
 
-pub use laws::{rows_answer, rows_stay};
+pub use laws::{rows_answer, rows_stay, services_keep_rows};

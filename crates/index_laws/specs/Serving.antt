@@ -1,0 +1,50 @@
+-- What the services leave of the rows: those of the three lists as they were, and behind them those of what is installed.
+-- PI 1.8, volume 1, "PEI Services".
+use Rattle.std.specs.Prelude.{◌≡◌, ℕ, List, ◌++◌, map, Ok, Err, IfSome, ⊤}
+use Rattle.pi_base.specs.Lists.{Each}
+use Rattle.hob_codec.specs.HobValue.{HobValue}
+use Rattle.store_model.specs.declared.store_handle.Desc.{Desc}
+use Rattle.store_model.specs.declared.store_handle.DescKind.{DescKind}
+use Rattle.store_model.specs.declared.store_handle.GuidFrom.{GuidFrom}
+use Rattle.store_model.specs.declared.store_handle.Pool.{Pool}
+use Rattle.store_model.specs.StoreState.{StoreState}
+use Rattle.store_model.specs.StateFacts.{IsDesc, IsPool, IsStoreState}
+use Rattle.store_model.specs.Migration.{migration}
+use Rattle.store_model.specs.Service.{Service}
+use Rattle.store_model.specs.Service.Descriptor as D
+use Rattle.store_model.specs.Service.Hob as H
+use Rattle.store_model.specs.Service.Install as I
+use Rattle.store_model.specs.Service.Memory as M
+use Rattle.store_model.specs.Service.Pool as P
+use Rattle.store_model.specs.Service.Queue as Q
+use Rattle.index_laws.specs.Rows.{row_at, rows_of}
+
+-- the rows of the three lists are the same
+pub record RowsSame (s t : StoreState) : Type 0 where
+  pub ppis : rows_of t t.ppis ≡ rows_of s s.ppis
+  pub callbacks : rows_of t t.callbacks ≡ rows_of s s.callbacks
+  pub dispatches : rows_of t t.dispatches ≡ rows_of s s.dispatches
+
+-- with those of PPIs that are installed behind the others
+pub record RowsInstalled (s t : StoreState) (list : List Desc) : Type 0 where
+  pub ppis : rows_of t t.ppis ≡ rows_of s s.ppis ++ map (row_at s) (D.offsets list)
+  pub callbacks : rows_of t t.callbacks ≡ rows_of s s.callbacks
+  pub dispatches : rows_of t t.dispatches ≡ rows_of s s.dispatches
+
+-- where a service answers, the state after it is so
+abbrev pub After : {A : Type 0} → (StoreState → Type 0) → Service A → Type 0
+After P (Ok answer) = P answer.1
+After P (Err fault) = ⊤
+
+pub record ServicesKeepRows : Type 0 where
+  pub pool : (s : StoreState) (size : ℕ) → IsStoreState s → After (RowsSame s) (P.pool s size)
+  pub store : (s : StoreState) (to : Pool) (at : ℕ) (bytes : List ℕ) → IsStoreState s → IsPool s to → IfSome (P.store s to at bytes) (RowsSame s)
+  pub desc : (s : StoreState) (kind : DescKind) (guid : GuidFrom) (number : ℕ) → IsStoreState s → After (RowsSame s) (D.desc s kind guid number)
+  pub install : (s : StoreState) (list : List Desc) (by : ℕ) → IsStoreState s → Each (IsDesc s) list
+      → After (λ t. RowsInstalled s t list) (I.install s list by)
+  pub queue_pop : (s : StoreState) → IsStoreState s → IfSome (Q.queue_pop s) (λ told. RowsSame s told.1)
+  pub create_hob : (s : StoreState) (hob : HobValue) → IsStoreState s → After (RowsSame s) (H.create_hob s hob)
+  pub set_memory : (s : StoreState) (begin len : ℕ) → IsStoreState s → After (RowsSame s) (M.set_memory s begin len)
+  pub pages : (s : StoreState) (memory_type count : ℕ) → IsStoreState s → After (RowsSame s) (M.pages s memory_type count)
+  pub boot_mode : (s : StoreState) (mode : ℕ) → IsStoreState s → RowsSame s (M.with_boot_mode s mode)
+  pub move : (s : StoreState) → IsStoreState s → IfSome (migration s) (RowsSame s)
