@@ -1,6 +1,6 @@
 -- Rows that stay as they are.
-use Rattle.std.proofs.Common.{◌≡◌, ◌≢◌, ℕ, Bool, true, false, cond, ◌||◌, ◌==◌, List, [], ◌∷◌, ◌++◌, ap, refl, sym, ◌∙◌, Option, Some, None, eq-eqb}
-use Rattle.std.specs.Prelude.{map, option_map, unwrap_or}
+use Rattle.std.proofs.Common.{◌≡◌, ◌≢◌, ℕ, Bool, true, false, cond, ◌||◌, ◌==◌, List, [], ◌∷◌, ◌++◌, ap, refl, sym, ◌∙◌, Option, Some, eq-eqb}
+use Rattle.std.specs.Prelude.{option_map, unwrap_or}
 use Rattle.std.specs.List.{list_any}
 use Rattle.pi_base.specs.declared.guid.Guid.{Guid}
 use Rattle.pi_base.specs.Lists.{Each}
@@ -50,9 +50,9 @@ changed_still : BodiesStay → (change : Body → Body) (s : StoreState) (place 
     → ((d : DescriptorBody) → body ≢ Descriptor d) → (entry : Entry) → IsEntry s kind entry → HasStill s (changed change s place) entry
 changed_still stay change s place body kind keeps other entry is =
     ap guid_in (stay.elsewhere change s place entry.descriptor body keeps (λ same.
-        let one : Some body ≡ Some (Descriptor is.1.0) = sym keeps.there ∙ ap (body_at s) (sym same) ∙ is.1.1 in
-        let eq : body ≡ Descriptor is.1.0 = cc in
-        other is.1.0 eq))
+    let one : Some body ≡ Some (Descriptor is.1.0) = sym keeps.there ∙ ap (body_at s) (sym same) ∙ is.1.1 in
+    let eq : body ≡ Descriptor is.1.0 = cc in
+    other is.1.0 eq))
 
 -- an entry whose descriptor is named keeps its GUID in the move
 moved_still : BodiesStay → (s : StoreState) (to : Range) (kind : DescKind) → IsStoreState s → (entry : Entry) → IsEntry s kind entry
@@ -95,7 +95,7 @@ own [] = tt
 own (x ∷ xs) = (
   or_first (x.descriptor == x.descriptor) (names xs x.descriptor) (eq-eqb x.descriptor x.descriptor refl),
   each_map (λ entry. names xs entry.descriptor ≡ true) (λ entry. names (x ∷ xs) entry.descriptor ≡ true)
-  (λ entry e. or_true (x.descriptor == entry.descriptor) (names xs entry.descriptor) e) xs (own xs),
+      (λ entry e. or_true (x.descriptor == entry.descriptor) (names xs entry.descriptor) e) xs (own xs),
 )
 
 -- an entry of one of the three lists names its descriptor
@@ -103,7 +103,7 @@ named_in : (s : StoreState) (list : List Entry) → ((place : ℕ) → names lis
     → Each (λ entry. is_named s entry.descriptor ≡ true) list
 named_in s list among = each_map (λ entry. names list entry.descriptor ≡ true) (λ entry. is_named s entry.descriptor ≡ true)
     (λ entry e. or_first (names (s.ppis ++ s.callbacks ++ s.dispatches) entry.descriptor)
-      (list_any (λ pending. pending.descriptor == entry.descriptor || pending.ppi == entry.descriptor) s.pendings) (among entry.descriptor e))
+    (list_any (λ pending. pending.descriptor == entry.descriptor || pending.ppi == entry.descriptor) s.pendings) (among entry.descriptor e))
     list (own list)
 
 -- what holds of the entries of each list holds of the rows
@@ -125,7 +125,7 @@ moved_list : BodiesStay → (s : StoreState) (to : Range) (kind : DescKind) (lis
     → ((place : ℕ) → names list place ≡ true → names (s.ppis ++ s.callbacks ++ s.dispatches) place ≡ true) → rows_of (migrated_to s to) list ≡ rows_of s list
 moved_list stay s to kind list state there among = same_rows s (migrated_to s to) list
     (each_both (IsEntry s kind) (λ entry. is_named s entry.descriptor ≡ true) (HasStill s (migrated_to s to)) (moved_still stay s to kind state) list there
-      (named_in s list among))
+    (named_in s list among))
 
 pub moved_rows : BodiesStay → (s : StoreState) (to : Range) → IsStoreState s → RowsAre s (migrated_to s to)
 moved_rows stay s to state = record {

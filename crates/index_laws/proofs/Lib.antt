@@ -1,3 +1,5 @@
 pub mod Telling
 pub mod Keeping
 pub mod Services
+pub mod Reinstalls
+pub mod Notifies

@@ -1,5 +1,5 @@
 -- The services, one by one.
-use Rattle.std.proofs.Common.{◌≡◌, ◌≢◌, ℕ, zero, suc, ◌+◌, ◌-◌, ◌*◌, ◌≤◌, ◌==◌, Bool, true, false, not, cond, List, [], ◌∷◌, ◌++◌, length, take, drop, ap, refl, sym, subst, ◌∙◌, arith, Option, Some, None, Ok, Err, length-append, length-drop}
+use Rattle.std.proofs.Common.{◌≡◌, ◌≢◌, ℕ, ◌+◌, ◌-◌, ◌*◌, ◌≤◌, ◌==◌, Bool, true, false, not, cond, List, [], ◌∷◌, ◌++◌, length, take, drop, ap, refl, sym, ◌∙◌, arith, Option, Some, None, Ok, Err, length-append, length-drop}
 use Rattle.std.specs.Prelude.{IfSome, fold, map, nat_lt, option_map, replicate}
 use Rattle.std.proofs.lemmas.Bool.Decides.{nat_tests}
 use Rattle.std.proofs.lemmas.List.{length-take}
@@ -8,7 +8,6 @@ use Rattle.pi_base.specs.Lists.{Each}
 use Rattle.hob_codec.specs.HobValue.{HobValue}
 use Rattle.hob_codec.specs.HobBytes.{length_of}
 use Rattle.std.specs.List.{list_all}
-use Rattle.store_model.specs.declared.state.Body.{Body}
 use Rattle.store_model.specs.declared.state.Body.TheVariants.{Bytes, Descriptor, Node}
 use Rattle.store_model.specs.declared.state.DescriptorBody.{DescriptorBody}
 use Rattle.store_model.specs.declared.state.Entry.{Entry}
@@ -20,7 +19,7 @@ use Rattle.store_model.specs.declared.store_handle.GuidFrom.{GuidFrom}
 use Rattle.store_model.specs.declared.store_handle.Pool.{Pool}
 use Rattle.store_model.specs.declared.store_handle.StoreFault.{StoreFault}
 use Rattle.store_model.specs.declared.store_handle.StoreFault.TheVariants as F
-use Rattle.store_model.specs.StoreState.{Range, StoreState, appended, body_at, body_len, descriptor_len, end_place, free, header_len, next_body, pool_of, rounded}
+use Rattle.store_model.specs.StoreState.{Range, StoreState, appended, descriptor_len, end_place, free, header_len, next_body, pool_of, rounded}
 use Rattle.store_model.specs.StateFacts.{IsDesc, IsPending, IsPool, IsStoreState}
 use Rattle.store_model.specs.Migration.{migrated_to, migration}
 use Rattle.store_model.specs.Service.{Service, in_room}
@@ -37,7 +36,7 @@ use Rattle.index_laws.specs.Rows.{row_at, rows_of}
 use Rattle.index_laws.specs.Serving.{After, RowsInstalled, RowsSame}
 use Rattle.index_laws.proofs.Keeping.{changed_rows, grown_rows, guid_in, moved_rows}
 
-refused_or : {A : Type 0} (P : StoreState → Type 0) (b : Bool) (fault : StoreFault) (service : Service A) → After P service → After P (cond b (Err fault) service)
+pub refused_or : {A : Type 0} (P : StoreState → Type 0) (b : Bool) (fault : StoreFault) (service : Service A) → After P service → After P (cond b (Err fault) service)
 refused_or P true fault service h = tt
 refused_or P false fault service h = h
 
@@ -45,7 +44,7 @@ either_of : {A : Type 0} (P : StoreState → Type 0) (b : Bool) (one two : Servi
 either_of P true one two h k = h
 either_of P false one two h k = k
 
-made_in_room : {A : Type 0} (s : StoreState) (P : StoreState → Type 0) (need : ℕ) (answer : A) (t : StoreState) → P t → After P (in_room s need (Ok (answer, t)))
+pub made_in_room : {A : Type 0} (s : StoreState) (P : StoreState → Type 0) (need : ℕ) (answer : A) (t : StoreState) → P t → After P (in_room s need (Ok (answer, t)))
 made_in_room s P need answer t h = refused_or P (nat_lt (free s) need) F.Full (Ok (answer, t)) h
 
 appended_same : BodiesStay → (s : StoreState) (hob : HobEntry) → IsStoreState s → RowsSame s (appended s hob)
@@ -105,7 +104,7 @@ pages_keep stay s memory_type count state =
     either_of P s.moved (in_room s (M.allocation_len + len) done) (M.early_pages s memory_type len)
     (refused_or P (nat_lt (free s) (M.allocation_len + len)) F.Full done same)
     (refused_or P (s.board.pages == 0) F.NotYet (cond (nat_lt (s.board.pages - s.taken) len) (Err F.Full) early)
-      (refused_or P (nat_lt (s.board.pages - s.taken) len) F.Full early (refused_or P (nat_lt (free s) M.allocation_len) F.Full done same)))
+    (refused_or P (nat_lt (s.board.pages - s.taken) len) F.Full early (refused_or P (nat_lt (free s) M.allocation_len) F.Full done same)))
 
 bytes_other : (bytes : List ℕ) (d : DescriptorBody) → Bytes bytes ≢ Descriptor d
 bytes_other bytes d e = absurd (cc)
@@ -161,15 +160,15 @@ record IsLonger (s t : StoreState) (more : List ℕ) : Type 0 where
   callbacks : t.callbacks ≡ s.callbacks
   dispatches : t.dispatches ≡ s.dispatches
 
-map_append : {A B : Type 0} (f : A → B) (xs ys : List A) → map f (xs ++ ys) ≡ map f xs ++ map f ys
+pub map_append : {A B : Type 0} (f : A → B) (xs ys : List A) → map f (xs ++ ys) ≡ map f xs ++ map f ys
 map_append f [] ys = refl
 map_append f (x ∷ xs) ys = ap (λ l. f x ∷ l) (map_append f xs ys)
 
-joined : {A : Type 0} (xs : List A) (y : A) (zs : List A) → (xs ++ y ∷ []) ++ zs ≡ xs ++ (y ∷ zs)
+pub joined : {A : Type 0} (xs : List A) (y : A) (zs : List A) → (xs ++ y ∷ []) ++ zs ≡ xs ++ (y ∷ zs)
 joined [] y zs = refl
 joined (x ∷ xs) y zs = ap (λ l. x ∷ l) (joined xs y zs)
 
-nothing_more : {A : Type 0} (xs : List A) → xs ++ [] ≡ xs
+pub nothing_more : {A : Type 0} (xs : List A) → xs ++ [] ≡ xs
 nothing_more [] = refl
 nothing_more (x ∷ xs) = ap (λ l. x ∷ l) (nothing_more xs)
 

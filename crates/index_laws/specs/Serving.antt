@@ -1,6 +1,6 @@
--- What the services leave of the rows: those of the three lists as they were, and behind them those of what is installed.
+-- What the services leave of the rows: those of the three lists as they were, behind them those of what is installed or registered, and another where a PPI takes the place of one.
 -- PI 1.8, volume 1, "PEI Services".
-use Rattle.std.specs.Prelude.{◌≡◌, ℕ, List, ◌++◌, map, Ok, Err, IfSome, ⊤}
+use Rattle.std.specs.Prelude.{◌≡◌, ℕ, List, ◌++◌, map, Ok, Err, IfSome, slice_set, ⊤}
 use Rattle.pi_base.specs.Lists.{Each}
 use Rattle.hob_codec.specs.HobValue.{HobValue}
 use Rattle.store_model.specs.declared.store_handle.Desc.{Desc}
@@ -15,6 +15,7 @@ use Rattle.store_model.specs.Service.Descriptor as D
 use Rattle.store_model.specs.Service.Hob as H
 use Rattle.store_model.specs.Service.Install as I
 use Rattle.store_model.specs.Service.Memory as M
+use Rattle.store_model.specs.Service.Notify as N
 use Rattle.store_model.specs.Service.Pool as P
 use Rattle.store_model.specs.Service.Queue as Q
 use Rattle.index_laws.specs.Rows.{row_at, rows_of}
@@ -31,6 +32,18 @@ pub record RowsInstalled (s t : StoreState) (list : List Desc) : Type 0 where
   pub callbacks : rows_of t t.callbacks ≡ rows_of s s.callbacks
   pub dispatches : rows_of t t.dispatches ≡ rows_of s s.dispatches
 
+-- with that of another descriptor in the place of one
+pub record RowsReplaced (s t : StoreState) (place : ℕ) (new : Desc) : Type 0 where
+  pub ppis : rows_of t t.ppis ≡ slice_set (rows_of s s.ppis) place (row_at s new.offset)
+  pub callbacks : rows_of t t.callbacks ≡ rows_of s s.callbacks
+  pub dispatches : rows_of t t.dispatches ≡ rows_of s s.dispatches
+
+-- with those of new notifications behind the others of their kinds
+pub record RowsNotified (s t : StoreState) (list : List Desc) : Type 0 where
+  pub ppis : rows_of t t.ppis ≡ rows_of s s.ppis
+  pub callbacks : rows_of t t.callbacks ≡ rows_of s s.callbacks ++ map (row_at s) (N.new_callbacks s list)
+  pub dispatches : rows_of t t.dispatches ≡ rows_of s s.dispatches ++ map (row_at s) (N.new_dispatches s list)
+
 -- where a service answers, the state after it is so
 abbrev pub After : {A : Type 0} → (StoreState → Type 0) → Service A → Type 0
 After P (Ok answer) = P answer.1
@@ -42,6 +55,10 @@ pub record ServicesKeepRows : Type 0 where
   pub desc : (s : StoreState) (kind : DescKind) (guid : GuidFrom) (number : ℕ) → IsStoreState s → After (RowsSame s) (D.desc s kind guid number)
   pub install : (s : StoreState) (list : List Desc) (by : ℕ) → IsStoreState s → Each (IsDesc s) list
       → After (λ t. RowsInstalled s t list) (I.install s list by)
+  pub reinstall : (s : StoreState) (old new : Desc) (by : ℕ) → IsStoreState s → IsDesc s new
+      → After (λ t. RowsReplaced s t (I.place_of s.ppis old.offset) new) (I.reinstall s old new by)
+  pub notify : (s : StoreState) (list : List Desc) (by : ℕ) → IsStoreState s → Each (IsDesc s) list
+      → After (λ t. RowsNotified s t list) (N.notify s list by)
   pub queue_pop : (s : StoreState) → IsStoreState s → IfSome (Q.queue_pop s) (λ told. RowsSame s told.1)
   pub create_hob : (s : StoreState) (hob : HobValue) → IsStoreState s → After (RowsSame s) (H.create_hob s hob)
   pub set_memory : (s : StoreState) (begin len : ℕ) → IsStoreState s → After (RowsSame s) (M.set_memory s begin len)

@@ -1,14 +1,11 @@
 -- The rows of entries stay where the GUIDs of their descriptors do: behind another body, where one changes that is no descriptor, and in the move.
 -- Own.
-use Rattle.std.specs.Prelude.{◌≡◌, ◌≢◌, ℕ, List}
-use Rattle.pi_base.specs.Lists.{Each}
+use Rattle.std.specs.Prelude.{◌≡◌, ◌≢◌, ℕ}
 use Rattle.store_model.specs.declared.state.Body.{Body}
 use Rattle.store_model.specs.declared.state.Body.TheVariants.{Descriptor}
 use Rattle.store_model.specs.declared.state.DescriptorBody.{DescriptorBody}
-use Rattle.store_model.specs.declared.state.Entry.{Entry}
-use Rattle.store_model.specs.declared.store_handle.DescKind.{DescKind}
 use Rattle.store_model.specs.StoreState.{Range, StoreState}
-use Rattle.store_model.specs.StateFacts.{IsEntry, IsStoreState}
+use Rattle.store_model.specs.StateFacts.{IsStoreState}
 use Rattle.store_model.specs.Migration.{migrated_to}
 use Rattle.store_laws.specs.Bodies.{IsGrown, KeepsLength, changed}
 use Rattle.index_laws.specs.Rows.{rows_of}

@@ -3,7 +3,7 @@ ghost use Rattle.index_laws.specs.Answering.{RowsAnswer};
 ghost use Rattle.index_laws.specs.Serving.{ServicesKeepRows};
 ghost use Rattle.index_laws.specs.Staying.{RowsStay};
 
-use store_laws::bodies_stay;
+use store_laws::{bodies_stay, steps_keep_facts};
 
 /// What a state says of a GUID is what the rows of its lists say.
 pub fn rows_answer()
@@ -17,9 +17,11 @@ pub fn rows_stay()
     bodies_stay();
 }
 
-/// The services leave the rows of a store's lists as they are, and an install adds those of its PPIs.
+/// The services leave the rows of a store's lists as they are; a call that installs or registers puts its own behind them, and a reinstall one in the
+/// place of another.
 pub fn services_keep_rows()
     ensures { ServicesKeepRows }
 {
     bodies_stay();
+    steps_keep_facts();
 }
