@@ -3,3 +3,4 @@ pub mod Keeping
 pub mod Services
 pub mod Reinstalls
 pub mod Notifies
+pub mod Cores

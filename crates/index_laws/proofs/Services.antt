@@ -47,7 +47,7 @@ either_of P false one two h k = k
 pub made_in_room : {A : Type 0} (s : StoreState) (P : StoreState → Type 0) (need : ℕ) (answer : A) (t : StoreState) → P t → After P (in_room s need (Ok (answer, t)))
 made_in_room s P need answer t h = refused_or P (nat_lt (free s) need) F.Full (Ok (answer, t)) h
 
-appended_same : BodiesStay → (s : StoreState) (hob : HobEntry) → IsStoreState s → RowsSame s (appended s hob)
+pub appended_same : BodiesStay → (s : StoreState) (hob : HobEntry) → IsStoreState s → RowsSame s (appended s hob)
 appended_same stay s hob state =
     let are = grown_rows s (appended s hob) state (stay.grown s hob) in
     record { ppis = are.ppis; callbacks = are.callbacks; dispatches = are.dispatches }

@@ -1,13 +1,15 @@
--- What the services leave of the rows: those of the three lists as they were, behind them those of what is installed or registered, and another where a PPI takes the place of one.
+-- What the services leave of the rows: those of the three lists as they were, behind them those of what is installed or registered,
+-- and another where a PPI takes the place of one.
 -- PI 1.8, volume 1, "PEI Services".
-use Rattle.std.specs.Prelude.{◌≡◌, ℕ, List, ◌++◌, map, Ok, Err, IfSome, slice_set, ⊤}
+use Rattle.std.specs.Prelude.{◌≡◌, ℕ, List, [], ◌∷◌, ◌++◌, map, Ok, Err, IfSome, slice_set, ⊤}
 use Rattle.pi_base.specs.Lists.{Each}
+use Rattle.pi_base.specs.declared.known_guid.TheConstants.{MEMORY_PPI}
 use Rattle.hob_codec.specs.HobValue.{HobValue}
 use Rattle.store_model.specs.declared.store_handle.Desc.{Desc}
 use Rattle.store_model.specs.declared.store_handle.DescKind.{DescKind}
 use Rattle.store_model.specs.declared.store_handle.GuidFrom.{GuidFrom}
 use Rattle.store_model.specs.declared.store_handle.Pool.{Pool}
-use Rattle.store_model.specs.StoreState.{StoreState}
+use Rattle.store_model.specs.StoreState.{StoreState, next_body}
 use Rattle.store_model.specs.StateFacts.{IsDesc, IsPool, IsStoreState}
 use Rattle.store_model.specs.Migration.{migration}
 use Rattle.store_model.specs.Service.{Service}
@@ -38,6 +40,12 @@ pub record RowsReplaced (s t : StoreState) (place : ℕ) (new : Desc) : Type 0 w
   pub callbacks : rows_of t t.callbacks ≡ rows_of s s.callbacks
   pub dispatches : rows_of t t.dispatches ≡ rows_of s s.dispatches
 
+-- with that of the PPI of permanent memory behind the others, whose descriptor is the next body
+pub record RowsOfCore (s t : StoreState) : Type 0 where
+  pub ppis : rows_of t t.ppis ≡ rows_of s s.ppis ++ record { guid = MEMORY_PPI; at = next_body s } ∷ []
+  pub callbacks : rows_of t t.callbacks ≡ rows_of s s.callbacks
+  pub dispatches : rows_of t t.dispatches ≡ rows_of s s.dispatches
+
 -- with those of new notifications behind the others of their kinds
 pub record RowsNotified (s t : StoreState) (list : List Desc) : Type 0 where
   pub ppis : rows_of t t.ppis ≡ rows_of s s.ppis
@@ -59,6 +67,7 @@ pub record ServicesKeepRows : Type 0 where
       → After (λ t. RowsReplaced s t (I.place_of s.ppis old.offset) new) (I.reinstall s old new by)
   pub notify : (s : StoreState) (list : List Desc) (by : ℕ) → IsStoreState s → Each (IsDesc s) list
       → After (λ t. RowsNotified s t list) (N.notify s list by)
+  pub core_install : (s : StoreState) → IsStoreState s → After (RowsOfCore s) (I.core_install s)
   pub queue_pop : (s : StoreState) → IsStoreState s → IfSome (Q.queue_pop s) (λ told. RowsSame s told.1)
   pub create_hob : (s : StoreState) (hob : HobValue) → IsStoreState s → After (RowsSame s) (H.create_hob s hob)
   pub set_memory : (s : StoreState) (begin len : ℕ) → IsStoreState s → After (RowsSame s) (M.set_memory s begin len)

@@ -3,7 +3,7 @@ ghost use Rattle.index_laws.specs.Answering.{RowsAnswer};
 ghost use Rattle.index_laws.specs.Serving.{ServicesKeepRows};
 ghost use Rattle.index_laws.specs.Staying.{RowsStay};
 
-use store_laws::{bodies_stay, steps_keep_facts};
+use store_laws::{bodies_stay, services_keep_facts, steps_keep_facts};
 
 /// What a state says of a GUID is what the rows of its lists say.
 pub fn rows_answer()
@@ -23,5 +23,6 @@ pub fn services_keep_rows()
     ensures { ServicesKeepRows }
 {
     bodies_stay();
+    services_keep_facts();
     steps_keep_facts();
 }

@@ -1,3 +1,4 @@
+use Rattle.index_laws.proofs.Cores.{core_keeps}
 use Rattle.index_laws.proofs.Notifies.{notify_keeps}
 use Rattle.index_laws.proofs.Reinstalls.{reinstall_keeps}
 use Rattle.index_laws.proofs.Services.{boot_mode_keeps, desc_keeps, hob_keeps, install_keeps, move_keeps, pages_keep, pool_keeps, pop_keeps, set_memory_keeps, store_keeps}
@@ -13,6 +14,7 @@ returns c =
       install = install_keeps stay;
       reinstall = reinstall_keeps stay c.steps_keep_facts.ensures;
       notify = notify_keeps stay;
+      core_install = core_keeps stay c.services_keep_facts.ensures;
       queue_pop = λ s state. pop_keeps stay s s.pendings state state.pendings;
       create_hob = hob_keeps stay;
       set_memory = set_memory_keeps;
