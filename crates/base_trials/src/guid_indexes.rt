@@ -11,16 +11,28 @@ fn guid(last: u8) -> Guid {
     Guid(bytes)
 }
 
-// The last bytes of ten GUIDs. The entry in the place p stands at 100 + p.
-static GUIDS: [u8; 10] = *b"ABACABBDAB";
+// The last bytes of ten GUIDs, and where each entry stands.
+static ENTRIES: [(u8, u64); 10] = [
+    (b'A', 100),
+    (b'B', 101),
+    (b'A', 102),
+    (b'C', 103),
+    (b'A', 104),
+    (b'B', 105),
+    (b'B', 106),
+    (b'D', 107),
+    (b'A', 108),
+    (b'B', 109),
+];
 
 fn index_of(rt: &impl Abort, alloc: Global) -> GuidIndex {
     let mut index = GuidIndex::new(alloc, 16, 8).expect(rt, "ample memory");
-    let mut at = 100;
-    for last in &GUIDS {
-        let guid = guid(*last);
-        assert!(rt; index.push(Indexed { guid, at }));
-        at += 1;
+    for (last, at) in &ENTRIES {
+        let entry = Indexed {
+            guid: guid(*last),
+            at: *at,
+        };
+        assert!(rt; index.push(entry));
     }
     index
 }
@@ -67,7 +79,10 @@ fn at_nth(index: &GuidIndex, last: u8, n: usize) -> Option<u64> {
 
 fn try_index(rt: &impl Abort, index: &GuidIndex) {
     for (last, from, want) in &NEXTS {
-        assert!(rt; index.next(&guid(*last), *from) == *want, "{last} from {from}");
+        assert!(rt;
+            index.next(&guid(*last), *from) == *want,
+            "{last} from {from}"
+        );
     }
     for (last, n, want) in &NTHS {
         assert!(rt; at_nth(index, *last, *n) == *want, "{last}, number {n}");
@@ -130,7 +145,10 @@ fn try_many(rt: &impl Abort, index: &mut GuidIndex) {
     for place in 0..4095usize {
         let other = guid(((place + 1) % 2) as u8);
         assert!(rt; index.next(&other, place) == Some(place + 1), "{place}");
-        assert!(rt; at_nth(index, (place % 2) as u8, place / 2) == Some(place as u64), "{place}");
+        assert!(rt;
+            at_nth(index, (place % 2) as u8, place / 2) == Some(place as u64),
+            "{place}"
+        );
     }
 }
 
