@@ -1,8 +1,9 @@
 // Values by GUID.
-ghost use Rattle.std.specs.Prelude.{◌≡◌, [], is_some, OnOk, OnErr};
-ghost use Rattle.guid_map.specs.GuidMap.{value_of, IsPut};
+ghost use Rattle.std.specs.Prelude.{◌≡◌, ◌<◌, ◌^◌, [], is_some, OnOk, OnErr};
+ghost use Rattle.guid_map.specs.GuidMap.{value_of, spelled, IsPut};
 
-use pi_base::{Guid, OutOfMemory};
+use byteorder::{ByteOrder, LittleEndian};
+use pi_base::{Guid, OutOfMemory, little_endian};
 use std::alloc::Global;
 use std::collections::BTreeMap;
 use std::marker::Model;
@@ -10,16 +11,31 @@ use std::marker::Model;
 /// Values by GUID, at most one for each.
 #[derive(Drop)]
 pub struct GuidMap<V> {
-    values: BTreeMap<Guid, V, Global>,
+    /// By the number that a GUID's bytes spell: two numbers compare in one step, and two lists of bytes byte by byte.
+    values: BTreeMap<u128, V, Global>,
 }
 
 impl<V> Model for GuidMap<V> {
     ghost use Rattle.std.specs.Prelude.{List};
     ghost use Rattle.pi_base.specs.declared.guid.Guid.{Guid};
+    ghost use Rattle.pi_base.specs.Lists.{Each};
+    ghost use Rattle.guid_map.specs.GuidMap.{entries_of, IsNumbered};
 
     ghost Value = { List (Guid × V) };
 
-    ghost view = { λ map. map.values.entries };
+    ghost view = { λ m. entries_of m.values.entries };
+
+    ghost invariant = { λ m. Each IsNumbered m.values.entries };
+}
+
+// The number that a GUID's sixteen bytes spell.
+fn number_of(guid: &Guid) -> u128
+    ensures spelled { spelled result ≡ guid.now }
+    ensures fits { result < 256 ^ 16 }
+{
+    little_endian();
+    let bytes = guid.0.as_slice();
+    LittleEndian::read_u128(bytes)
 }
 
 impl<V: Copy> GuidMap<V> {
@@ -36,7 +52,8 @@ impl<V: Copy> GuidMap<V> {
     pub fn get(&self, guid: &Guid) -> Option<V>
         ensures { result ≡ value_of self.now guid.now }
     {
-        self.values.get(guid).copied()
+        let number = number_of(guid);
+        self.values.get(&number).copied()
     }
 
     /// Whether a GUID has a value.
@@ -51,7 +68,8 @@ impl<V: Copy> GuidMap<V> {
         ensures ok { OnOk result (IsPut self.old guid value self.new) }
         ensures err { OnErr result (self.new ≡ self.old) }
     {
-        match self.values.insert(guid, value) {
+        let number = number_of(&guid);
+        match self.values.insert(number, value) {
             Ok(_) => Ok(()),
             Err(_) => Err(OutOfMemory),
         }

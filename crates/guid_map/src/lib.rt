@@ -1,4 +1,4 @@
-//! A map from GUIDs, in the order of their bytes: images choose their GUIDs, so that a hash would be no guard against many that meet.
+//! A map from GUIDs, in the order of the numbers that their bytes spell: images choose their GUIDs, so that a hash would be no guard against many that meet.
 #![tactic(auto)]
 
 mod guid_map;

@@ -1,8 +1,10 @@
-use Rattle.std.proofs.Common.{◌∙◌}
-use Rattle.guid_map.specs.GuidMap.{value_of}
-use Rattle.guid_map.proofs.Ordered.{lookup-is_level}
+use Rattle.std.proofs.Common.{◌∙◌, ap}
+use Rattle.guid_map.specs.GuidMap.{value_of, entries_of}
+use Rattle.guid_map.proofs.Numbered.{found}
 use Rattle.guid_map.proofs.guid_map.GuidMap.get.Goals as goal
 
 pub returns : goal.returns
 returns g c =
-    c.copied.ensures ∙ c.get.ensures.value ∙ lookup-is_level c.self.inside.values.entries c.args.guid.now ∙ (λ j. value_of (c.self.view_is j) c.args.guid.now)
+    let entries = c.self.inside.values.entries in
+    c.copied.ensures ∙ c.get.ensures.value ∙ found entries c.number_of-number.result c.number_of-number.ensures.fits c.self.invariant
+    ∙ ap (value_of (entries_of entries)) c.number_of-number.ensures.spelled ∙ ap (λ m. value_of m c.args.guid.now) c.self.view_is
