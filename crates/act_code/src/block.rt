@@ -1,5 +1,5 @@
 // The blocks of a script, read action by action.
-ghost use Rattle.std.specs.Prelude.{◌≡◌, ◌≤◌, ◌-◌};
+ghost use Rattle.std.specs.Prelude.{◌≡◌, ◌≤◌, ◌-◌, [], IfOk};
 ghost use Rattle.act_code.specs.ScriptReading.{Gives, fault_at, checked_at, many, count_at, block_at, ends_in_ret};
 ghost use Rattle.act_code.specs.declared.block.Stop.TheVariants as stop;
 
@@ -71,7 +71,17 @@ fn checked(alloc: Global, header: Header, left: u16, bytes: &[u8]) -> Result<(Ac
     }
 }
 
-// So many actions.
+// A list with room for so many items.
+fn room_for<T>(alloc: Global, count: usize) -> Result<Seq<T>, OutOfMemory>
+    ensures { IfOk result (λ items. items ≡ []) }
+{
+    match Vec::with_capacity(alloc, count) {
+        Ok(items) => Ok(Seq::from_vec(items)),
+        Err(_) => Err(OutOfMemory),
+    }
+}
+
+// So many actions. They have their room at once, however a script ends: a count is at most 1,024.
 fn actions_of(
     alloc: Global,
     header: Header,
@@ -81,7 +91,7 @@ fn actions_of(
     requires { header.size ≤ 65536 }
     ensures { Gives (λ x. (x.0, x.1.now)) result (many (checked_at header) count bytes.now) }
 {
-    let mut actions = Seq::new(alloc);
+    let mut actions = room_for(alloc, count as usize)?;
     let mut rest = bytes;
     for done in 0..count {
         let (action, after) = checked(alloc, header, count - done, rest)?;
@@ -142,7 +152,7 @@ pub fn blocks_of(
     requires { header.size ≤ 65536 }
     ensures { Gives (λ x. (x.0, x.1.now)) result (many (λ _. block_at header) header.blocks bytes.now) }
 {
-    let mut blocks = Seq::new(alloc);
+    let mut blocks = room_for(alloc, header.blocks as usize)?;
     let mut rest = bytes;
     for _ in 0..header.blocks {
         let (actions, after) = block(alloc, header, rest)?;
