@@ -1,6 +1,6 @@
 //! Actions of scripts in the words of a volume's text (own format): numbers in decimal or hexadecimal, GUIDs as people write them, and for each line that is none its cause.
 //!
-//! Tried in `source_trials`: `action_lines`, `scripts`.
+//! Tried in `source_trials`: `action_lines`, `volume_texts`.
 #![tactic(auto)]
 
 mod action;

@@ -1,8 +1,8 @@
 // Expressions and what GenDepex of EDK2 2022.11 (`BaseTools/Source/Python/AutoGen/GenDepex.py`) makes of them. A digit stands for a GUID in both; the opcodes are `&` AND,
 // `|` OR, `!` NOT, `T` TRUE, `F` FALSE, `S` SOR, `<` BEFORE, `>` AFTER and `.` END. Keywords stand in several cases, which GenDepex was given in upper case.
 
-/// Whether the expression is a driver's, its words, and its opcodes.
-pub static ROWS: [(bool, &str, &str); 200] = [
+/// Whether the expression is a driver's, its words, and its opcodes: the first forty.
+pub static FIRST: [(bool, &str, &str); 40] = [
     (false, "2 AND 3", "23&."),
     (true, "(4) OR 1 END", "41|."),
     (false, "not 6", "6!."),
@@ -51,6 +51,10 @@ pub static ROWS: [(bool, &str, &str); 200] = [
     (true, "( 7 ) End", "7."),
     (true, "(6 and 6 or 3 or 3) end", "6633||&."),
     (false, "Not ( 1 And 7 ) Or 2 And 4", "17&!24&|."),
+];
+
+/// Whether the expression is a driver's, its words, and its opcodes: the second forty.
+pub static SECOND: [(bool, &str, &str); 40] = [
     (false, "False Or ( 6 And 4 And 5 Or 6 )", "F6456|&&|."),
     (false, "not not 6 end", "6!!."),
     (true, "2 Or 7 And ( 7 And 2 )", "2772&&|."),
@@ -103,6 +107,10 @@ pub static ROWS: [(bool, &str, &str); 200] = [
     (true, "AFTER 6 END", ">6."),
     (false, "NOT NOT 1", "1!!."),
     (true, "6 OR (2) AND (1) OR 3", "6213|&|."),
+];
+
+/// Whether the expression is a driver's, its words, and its opcodes: the third forty.
+pub static THIRD: [(bool, &str, &str); 40] = [
     (true, "5 Or 1 End", "51|."),
     (true, "(6 or 2) and 7 and 1", "62|71&&."),
     (true, "2 and (5)", "25&."),
@@ -155,6 +163,10 @@ pub static ROWS: [(bool, &str, &str); 200] = [
     (false, "5 AND TRUE OR 5", "5T5|&."),
     (false, "(3) or 4", "34|."),
     (false, "6 and 2 and ((7))", "627&&."),
+];
+
+/// Whether the expression is a driver's, its words, and its opcodes: the fourth forty.
+pub static FOURTH: [(bool, &str, &str); 40] = [
     (true, "( Not Not 7 Or 1 ) And Not Not 7", "7!!1|7!!&."),
     (true, "not 1 or not 5", "1!5!|."),
     (false, "(2 and not 1)", "21!&."),
@@ -223,6 +235,10 @@ pub static ROWS: [(bool, &str, &str); 200] = [
     (false, "((not 4)) end", "4!."),
     (true, "2 AND (1 OR 3)", "213|&."),
     (true, "not 1 and 6 or false", "1!6F|&."),
+];
+
+/// Whether the expression is a driver's, its words, and its opcodes: the fifth forty.
+pub static FIFTH: [(bool, &str, &str); 40] = [
     (true, "sor not (1)", "S1!."),
     (false, "NOT NOT 7", "7!!."),
     (false, "not ((3 and 1 and 7)) and true and 1", "317&&!T1&&."),

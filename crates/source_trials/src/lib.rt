@@ -1,4 +1,4 @@
-//! What a volume's text says, tried row by row: expressions as GenDepex of EDK2 spells them, the lines of actions, scripts of such lines, and whole texts.
+//! What a volume's text says, tried row by row: expressions as GenDepex of EDK2 spells them, the lines of actions, and whole texts with their scripts.
 #![tactic(auto)]
 
 #[cfg(test)]
@@ -7,7 +7,5 @@ mod action_lines;
 mod expressions;
 #[cfg(test)]
 mod gendepex;
-#[cfg(test)]
-mod scripts;
 #[cfg(test)]
 mod volume_texts;
