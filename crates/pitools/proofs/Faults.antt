@@ -27,7 +27,7 @@ abbrev Tells : (ToolStatus → List ℕ → Type 0) → Type 0
 Tells Out = (status : ToolStatus) (text : List ℕ) → Out status text → status ≡ S.FileFault → ⊥
 
 other : (status answer : ToolStatus) → (answer ≡ S.FileFault → ⊥) → status ≡ answer → status ≡ S.FileFault → ⊥
-other status answer no is fault = no (sym is ∙ fault)
+other status answer apart is fault = apart (sym is ∙ fault)
 
 done_tells : (status : ToolStatus) → status ≡ S.Done → status ≡ S.FileFault → ⊥
 done_tells status is = other status S.Done (λ (e : S.Done ≡ S.FileFault). absurd (cc)) is
