@@ -4,43 +4,25 @@
     scripts/meeting_guids.py COUNT BASE [other]     the text of a volume at BASE for make-volume: so many protocols, each on a handle
                                                     of its own; `other`: as many GUIDs that do not meet
 
-The hasher's seed is fixed, so whoever writes a volume can search for such GUIDs. Here they agree in the low bits of the hash, which say
-where a look-up begins in a table of up to 2^PLACE_BITS groups of nine entries each; it then goes through group after group.
+The hasher's seed is fixed, so whoever writes a volume can search for such GUIDs; `compare/meeting_guids.rs` does, built by `rustc`. They agree
+in the place at which a look-up begins and in the tag by which it tells entries apart, so that it goes through all of them.
 """
+import subprocess
 import sys
+import tempfile
 import uuid
+from pathlib import Path
 
-SEED, MULTIPLIER = 0x243F6A8885A308D3, 0x9E3779B97F4A7C15
-PLACE_BITS = 10
+SEARCH = Path(__file__).resolve().parent.parent / "compare/meeting_guids.rs"
 INSTALLS = 1000  # in a driver
 
 
-def step(state, number, length):
-    """The hasher's state after `length` bytes, of which `number` is the short reading."""
-    product = (state ^ number) * (MULTIPLIER ^ 2 * length)
-    return (product ^ product >> 64) & (1 << 64) - 1
-
-
-def after_byte(state, byte):
-    return step(state, byte * 0x010101, 1)
-
-
 def meeting_guids(count):
-    """So many GUIDs, found by trying the last two bytes of one front after another."""
-    found, number = [], 0
-    while len(found) < count:
-        front = number.to_bytes(14, "little")
-        number += 1
-        state = step(SEED, 16, 8)
-        for byte in front:
-            state = after_byte(state, byte)
-        for low in range(256):
-            before = after_byte(state, low)
-            for high in range(256):
-                last = after_byte(before, high)
-                if (last ^ last >> 32) & (1 << PLACE_BITS) - 1 == 0:
-                    found.append(str(uuid.UUID(bytes_le=front + bytes([low, high]))))
-    return found[:count]
+    """So many GUIDs that meet."""
+    with tempfile.TemporaryDirectory() as folder:
+        program = Path(folder) / "meeting_guids"
+        subprocess.run(["rustc", "--edition", "2021", "-O", "-o", program, SEARCH], check=True)
+        return subprocess.run([program, str(count)], stdout=subprocess.PIPE, text=True, check=True).stdout.split()
 
 
 def other_guids(count):
