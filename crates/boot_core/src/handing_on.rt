@@ -51,7 +51,8 @@ fn result_of(end: PeiEnd) -> Option<RunEnd>
 // What a PEI that has ended hands on.
 fn handed_by(alloc: Global, pei: &Ended<MemStore>) -> Result<HandOff, OutOfMemory>
     requires state { Present (StandsFor pei.now.store) Anything }
-    ensures { IfOk result (λ handed. (m : PeiMachine) → StandsFor pei.now.store m.store → m.ended ≡ Some pei.now.end → HandsOn m handed) }
+    ensures { IfOk result
+        (λ handed. (m : PeiMachine) → StandsFor pei.now.store m.store → m.ended ≡ Some pei.now.end → HandsOn m handed) }
 {
     match result_of(pei.end) {
         Some(end) => Ok(HandOff::Ended(end)),

@@ -32,7 +32,8 @@ fn unprintable(line: &[u8]) -> Option<&[u8]>
 
 // How many words a line has, as far as it may have any.
 fn count_of(shape: Shape<'_>) -> usize
-    ensures { (all : List (List ℕ)) → HasShape all shape.entry → (result < 4 → length all ≡ result) × (3 < result → 3 < length all) }
+    ensures { (all : List (List ℕ)) → HasShape all shape.entry
+        → (result < 4 → length all ≡ result) × (3 < result → 3 < length all) }
 {
     match shape {
         Shape::Empty => 0,

@@ -56,7 +56,8 @@ impl<'a> Shape<'a> {
 
     /// The first word.
     pub(crate) fn first(self) -> Option<&'a [u8]>
-        ensures { IfSome result (λ word. (all : List (List ℕ)) → HasShape all self.entry → (rest : List (List ℕ)) × (all ≡ word.now ∷ rest)) }
+        ensures { IfSome result
+            (λ word. (all : List (List ℕ)) → HasShape all self.entry → (rest : List (List ℕ)) × (all ≡ word.now ∷ rest)) }
     {
         match self {
             Shape::Empty => None,

@@ -163,7 +163,8 @@ pub fn tools_main<F: Files, S: Sink>(
     ensures exactly { AnswersExactly (F.told files.old) (words_of words.now) (S.text sink.old) (S.text sink.new) result }
     // The files' fault is answered where their count rose, and a count that rose is answered as a fault.
     ensures file_fault { result ≡ ToolStatus.FileFault → Rose (F.faults files.old) (F.faults files.new) }
-    ensures files_rose { F.faults files.old < F.faults files.new → (result ≡ ToolStatus.FileFault) ⊎ (result ≡ ToolStatus.SinkFault) }
+    ensures files_rose { F.faults files.old < F.faults files.new
+        → (result ≡ ToolStatus.FileFault) ⊎ (result ≡ ToolStatus.SinkFault) }
     // So is the sink's, which wins; and want of memory leaves nothing.
     ensures sink_fault { result ≡ ToolStatus.SinkFault → Rose (S.faults sink.old) (S.faults sink.new) }
     ensures sink_rose { S.faults sink.old < S.faults sink.new → result ≡ ToolStatus.SinkFault }
