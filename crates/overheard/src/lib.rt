@@ -4,9 +4,11 @@
 #![tactic(auto)]
 
 mod files;
+mod heard;
 mod starts;
 mod text;
 
 pub use files::{KeptFiles, Refused};
+pub use heard::Heard;
 pub use starts::{Starts, has_no_script, starts_in};
 pub use text::KeptText;

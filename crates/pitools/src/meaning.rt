@@ -1,23 +1,11 @@
 // What a person is told of a run: what is at fault, and what to do.
+use crate::forms::PROGRAM;
 use crate::status::ToolStatus;
-use boot_io::MemFiles;
-use boot_plan::read_plan;
-use fault_words::{image_words, line_at, mistake_in};
-use mod_catalog::catalog;
-use overheard::Refused;
-use plan_files::{Job, PLAN_LIMIT, read_file, read_job};
+use fault_words::line_at;
+use overheard::Heard;
+use plan_files::read_file;
+use program_edge::text_of;
 use std::str;
-
-/// What was overheard of a run.
-#[derive(Drop)]
-pub(crate) struct Heard<'a> {
-    /// The files that were read.
-    pub(crate) files: &'a mut MemFiles,
-    /// The file that was not.
-    pub(crate) refused: Option<Refused>,
-    /// The printed text, where it was kept.
-    pub(crate) text: Option<&'a [u8]>,
-}
 
 // The most bytes of a file of which a line is shown.
 const SHOWN_LIMIT: usize = 0x400_0000;
@@ -27,19 +15,6 @@ const SHOWN_LEN: usize = 60;
 
 const USAGE: &str =
     "usage: pitools check PLAN TRACE | pitools hobs PLAN | pitools gcd HOBS COMMANDS | pitools mp FILE | pitools asm depex|script FILE | pitools dis pei|dxe|script FILE";
-
-// Bytes as text, where they are one.
-fn text_of(bytes: &[u8]) -> &str {
-    match str::from_utf8(bytes) {
-        Ok(text) => text,
-        Err(_) => "what is no UTF-8",
-    }
-}
-
-// Writes a line to standard error. The exit status says it all where nothing can be written there.
-fn put(rt: &HostRuntime, what: &str, why: &str) {
-    let _ = eprintln!(rt; "pitools: {what}: {why}");
-}
 
 // The word behind so many words.
 fn word_at(words: &[String], place: usize) -> &str {
@@ -52,7 +27,7 @@ fn word_at(words: &[String], place: usize) -> &str {
 // The words that have no form.
 fn tell_usage(rt: &HostRuntime, words: &[String]) {
     match words {
-        [] => put(rt, "no word is given, or one that is no UTF-8", USAGE),
+        [] => PROGRAM.put(rt, "no word is given, or one that is no UTF-8", USAGE),
         [verb, ..] => {
             let verb = verb.as_str();
             let fault = if verb == "check" || verb == "gcd" {
@@ -71,63 +46,11 @@ fn tell_usage(rt: &HostRuntime, words: &[String]) {
     }
 }
 
-// The file that was not read.
-fn tell_file(rt: &HostRuntime, refused: &Option<Refused>, is_long: bool) {
-    match refused {
-        Some(Refused { name, limit }) => {
-            let name = text_of(name.as_slice());
-            let limit = *limit;
-            if is_long {
-                let _ = eprintln!(rt;
-                    "pitools: {name}: the file is longer than {limit} bytes, its limit"
-                );
-            } else {
-                put(
-                    rt,
-                    name,
-                    "no file of this name can be read; names of volumes are looked up in the folder in which pitools runs",
-                );
-            }
-        }
-        None => put(
-            rt,
-            "a file",
-            "it could not be read, or is too long; standard output names it",
-        ),
-    }
-}
-
-// The line of a plan that is at fault.
-fn tell_plan(rt: &HostRuntime, plan: &str, files: &mut MemFiles) -> Option<()> {
-    let text = read_file(rt.alloc(), plan, PLAN_LIMIT, files).ok()?;
-    let text = text.as_slice();
-    if text.len() > PLAN_LIMIT {
-        return None;
-    }
-    let fault = read_plan(rt.alloc(), text).err()?;
-    let line = fault.line;
-    let mistake = mistake_in(text, fault)?;
-    let _ = eprintln!(rt; "pitools: {plan}: line {line}: {mistake}");
-    Some(())
-}
-
-// The place of a volume's file that is at fault.
-fn tell_image(rt: &HostRuntime, plan: &str, files: &mut MemFiles) -> Option<()> {
-    let Job { plan, images } = read_job(rt.alloc(), plan, files).ok()?;
-    let fault = catalog(rt.alloc(), &plan, images.as_slice()).err()?;
-    let volume = plan.volumes.as_slice().get(fault.volume as usize)?;
-    let name = text_of(volume.name.as_slice());
-    let at = fault.at;
-    let why = image_words(fault.cause);
-    let _ = eprintln!(rt; "pitools: {name}: at {at}: {why}");
-    Some(())
-}
-
 // The line of a file that a refusal names last, and why it is refused.
 fn tell_line(rt: &HostRuntime, name: &str, heard: &mut Heard<'_>, why: &str) -> Option<()> {
     let refusal = str::from_utf8(heard.text?).ok()?;
     let number = refusal.split_whitespace().last()?.parse::<u32>().ok()?;
-    let content = read_file(rt.alloc(), name, SHOWN_LIMIT, heard.files).ok()?;
+    let content = read_file(rt.alloc(), name, SHOWN_LIMIT, &mut heard.files).ok()?;
     match line_at(content.as_slice(), number) {
         Some(line) => {
             let shown = match line.get(..SHOWN_LEN) {
@@ -213,7 +136,7 @@ fn tell_text(rt: &HostRuntime, words: &[String], heard: &mut Heard<'_>) -> Optio
         return tell_place(rt, name, heard.text, false);
     }
     if heard.text == Some(b"refused text long\n".as_slice()) {
-        put(
+        PROGRAM.put(
             rt,
             name,
             "the text is right, but has more than 1024 opcodes, or 65536 bytes of a script",
@@ -246,8 +169,8 @@ fn tell_fault(
 ) -> Option<()> {
     let first = word_at(words, 1);
     match status {
-        ToolStatus::PlanRefused => tell_plan(rt, first, heard.files),
-        ToolStatus::ImageRefused => tell_image(rt, first, heard.files),
+        ToolStatus::PlanRefused => PROGRAM.tell_plan(rt, first, &mut heard.files),
+        ToolStatus::ImageRefused => PROGRAM.tell_image(rt, first, &mut heard.files),
         ToolStatus::No => tell_line(
             rt,
             word_at(words, 2),
@@ -268,41 +191,34 @@ fn tell_fault(
     }
 }
 
+// What a status means, whatever the files.
+fn meaning_of(status: ToolStatus) -> &'static str {
+    match status {
+        ToolStatus::Twins => {
+            "the volume above has two modules of one name; give one of them another, since a start line names a module by volume and name"
+        }
+        ToolStatus::NoHandoff => {
+            "PEI ended without a hand-off, so there is no HOB list to print; boot it with piboot to see why"
+        }
+        ToolStatus::Spent | ToolStatus::Deep => {
+            "PEI was given up before the hand-off, since its fuel was spent or its frames are nested too deep"
+        }
+        ToolStatus::Memory => "memory was wanting",
+        _ => "it is refused at the place above; docs/TOOLS.md has the causes",
+    }
+}
+
 /// Tells a person what came of a run: a line for each status but Done.
 pub(crate) fn tell(rt: &HostRuntime, words: &[String], status: ToolStatus, heard: &mut Heard<'_>) {
     match status {
         ToolStatus::Done => {}
         ToolStatus::Usage => tell_usage(rt, words),
-        ToolStatus::FileFault => tell_file(rt, &heard.refused, false),
-        ToolStatus::TooLong => tell_file(rt, &heard.refused, true),
-        ToolStatus::Twins => put(
-            rt,
-            word_at(words, 1),
-            "the volume above has two modules of one name; give one of them another, since a start line names a module by volume and name",
-        ),
-        ToolStatus::NoHandoff => put(
-            rt,
-            word_at(words, 1),
-            "PEI ended without a hand-off, so there is no HOB list to print; boot it with piboot to see why",
-        ),
-        ToolStatus::Spent | ToolStatus::Deep => put(
-            rt,
-            word_at(words, 1),
-            "PEI was given up before the hand-off, since its fuel was spent or its frames are nested too deep",
-        ),
-        ToolStatus::SinkFault => put(
-            rt,
-            "standard output",
-            "it failed, so the text is cut; is a disk full, or a pipe closed?",
-        ),
-        ToolStatus::Memory => put(rt, word_at(words, 1), "memory was wanting"),
+        ToolStatus::FileFault => PROGRAM.tell_file(rt, &heard.refused, false),
+        ToolStatus::TooLong => PROGRAM.tell_file(rt, &heard.refused, true),
+        ToolStatus::SinkFault => PROGRAM.tell_output(rt),
         _ => {
             if tell_fault(rt, words, status, heard).is_none() {
-                put(
-                    rt,
-                    word_at(words, 1),
-                    "it is refused at the place above; docs/TOOLS.md has the causes",
-                );
+                PROGRAM.put(rt, word_at(words, 1), meaning_of(status));
             }
         }
     }

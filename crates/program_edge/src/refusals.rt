@@ -1,0 +1,66 @@
+// What is told of files, plans and images that are refused, and of an output that failed.
+use crate::program::{Program, text_of};
+use boot_io::MemFiles;
+use boot_plan::read_plan;
+use fault_words::{image_words, mistake_in};
+use mod_catalog::catalog;
+use overheard::Refused;
+use plan_files::{Job, PLAN_LIMIT, read_file, read_job};
+
+impl Program {
+    /// Tells of the file that was not read.
+    pub fn tell_file(&self, rt: &HostRuntime, refused: &Option<Refused>, is_long: bool) {
+        let program = self.name;
+        let Some(Refused { name, limit }) = refused else {
+            let why = "it could not be read, or is too long; standard output names it";
+            return self.put(rt, "a file", why);
+        };
+        let name = text_of(name.as_slice());
+        if is_long {
+            let _ = eprintln!(rt;
+                "{program}: {name}: the file is longer than {limit} bytes, its limit"
+            );
+        } else {
+            let _ = eprintln!(rt;
+                "{program}: {name}: no file of this name can be read; names of volumes are looked up in the folder in which {program} runs"
+            );
+        }
+    }
+
+    /// Tells of the line of a plan that is at fault, where the plan was kept.
+    pub fn tell_plan(&self, rt: &HostRuntime, plan: &str, files: &mut MemFiles) -> Option<()> {
+        let text = read_file(rt.alloc(), plan, PLAN_LIMIT, files).ok()?;
+        let text = text.as_slice();
+        if text.len() > PLAN_LIMIT {
+            return None;
+        }
+        let fault = read_plan(rt.alloc(), text).err()?;
+        let line = fault.line;
+        let mistake = mistake_in(text, fault)?;
+        let program = self.name;
+        let _ = eprintln!(rt; "{program}: {plan}: line {line}: {mistake}");
+        Some(())
+    }
+
+    /// Tells of the place of a volume's file that is at fault, where the plan and its volumes were kept.
+    pub fn tell_image(&self, rt: &HostRuntime, plan: &str, files: &mut MemFiles) -> Option<()> {
+        let Job { plan, images } = read_job(rt.alloc(), plan, files).ok()?;
+        let fault = catalog(rt.alloc(), &plan, images.as_slice()).err()?;
+        let volume = plan.volumes.as_slice().get(fault.volume as usize)?;
+        let name = text_of(volume.name.as_slice());
+        let at = fault.at;
+        let why = image_words(fault.cause);
+        let program = self.name;
+        let _ = eprintln!(rt; "{program}: {name}: at {at}: {why}");
+        Some(())
+    }
+
+    /// Tells that standard output failed.
+    pub fn tell_output(&self, rt: &HostRuntime) {
+        self.put(
+            rt,
+            "standard output",
+            "it failed, so the text is cut; is a disk full, or a pipe closed?",
+        );
+    }
+}
