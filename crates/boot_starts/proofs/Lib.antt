@@ -1,0 +1,5 @@
+pub mod Fronts
+pub mod Modules
+pub mod PeiSteps
+pub mod DxeSteps
+pub mod Runs
