@@ -19,7 +19,7 @@ use Rattle.free_laws.proofs.DxeWays.{groups_are_aimed, started_is}
 use Rattle.free_laws.proofs.GroupRoots.{names_lead}
 use Rattle.free_laws.proofs.Starts.{dxe_prints}
 use Rattle.module_names.specs.Named.{HasNoTwins, IsNamed}
-use Rattle.boot_starts.specs.declared.start.Start.{Start}
+use Rattle.start_order.specs.declared.line.Start.{Start}
 use Rattle.boot_starts.specs.Starts.{ComeFirst, module_start, starts}
 use Rattle.boot_starts.specs.OneStep.{IsFreeDxeStep, OneDxeStep}
 use Rattle.boot_starts.proofs.Fronts.{next_of_fronts, starts_then}

@@ -3,7 +3,7 @@ use Rattle.std.proofs.Common.{◌≡◌, ℕ, List, [], ◌∷◌, ◌++◌, Opt
 use Rattle.std.proofs.lemmas.List.{append_cancel_left}
 use Rattle.std.specs.Option.{option_to_list}
 use Rattle.boot_model.specs.declared.line.Line.{Line}
-use Rattle.boot_starts.specs.declared.start.Start.{Start}
+use Rattle.start_order.specs.declared.line.Start.{Start}
 use Rattle.boot_starts.specs.Starts.{ComeFirst, start_of, starts}
 
 pub starts-append : (xs ys : List Line) → starts (xs ++ ys) ≡ starts xs ++ starts ys

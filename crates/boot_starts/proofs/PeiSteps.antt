@@ -11,7 +11,7 @@ use Rattle.boot_model.proofs.ListFacts.{within}
 use Rattle.free_laws.proofs.PeiWays.{may_has_part}
 use Rattle.free_laws.proofs.Starts.{pei_prints}
 use Rattle.module_names.specs.Named.{HasNoTwins, IsNamed}
-use Rattle.boot_starts.specs.declared.start.Start.{Start}
+use Rattle.start_order.specs.declared.line.Start.{Start}
 use Rattle.boot_starts.specs.Starts.{ComeFirst, module_start, starts}
 use Rattle.boot_starts.specs.OneStep.{OnePeiStep}
 use Rattle.boot_starts.proofs.Fronts.{next_of_fronts, starts_then}

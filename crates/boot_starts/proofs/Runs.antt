@@ -17,7 +17,7 @@ use Rattle.free_laws.proofs.PeiRuns as Pei
 use Rattle.free_laws.proofs.DxeRuns as Dxe
 use Rattle.free_laws.proofs.DxeWays.{opens_under_way, steps_run_out}
 use Rattle.module_names.specs.Named.{HasNoTwins}
-use Rattle.boot_starts.specs.declared.start.Start.{Start}
+use Rattle.start_order.specs.declared.line.Start.{Start}
 use Rattle.boot_starts.specs.Starts.{ComeFirst, starts}
 use Rattle.boot_starts.specs.OneStep.{IsFreeDxeStep}
 use Rattle.boot_starts.specs.Leading.{PeiComesTo, DxeComesTo, PeiStartsLead, DxeStartsLead}

@@ -8,7 +8,7 @@ use Rattle.boot_model.specs.DxeMachine.{DxeMachine}
 use Rattle.boot_model.specs.DxeStep.{dxe_case_of}
 use Rattle.free_laws.specs.DxeUnderWay.{IsUnderWay}
 use Rattle.module_names.specs.Named.{HasNoTwins}
-use Rattle.boot_starts.specs.declared.start.Start.{Start}
+use Rattle.start_order.specs.declared.line.Start.{Start}
 use Rattle.boot_starts.specs.Starts.{ComeFirst, starts}
 
 abbrev pub OnePeiStep : Type 0

@@ -8,7 +8,7 @@ use Rattle.catalog_model.specs.declared.catalog.Catalog.{Catalog}
 use Rattle.catalog_model.specs.Parts.{module_name, module_volume}
 use Rattle.boot_model.specs.declared.line.Line.{Line}
 use Rattle.boot_model.specs.declared.line.Line.TheVariants as L
-use Rattle.boot_starts.specs.declared.start.Start.{Start}
+use Rattle.start_order.specs.declared.line.Start.{Start}
 
 -- the start of a module in a phase
 abbrev pub module_start : Phase → Catalog → ℕ → Start

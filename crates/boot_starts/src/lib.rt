@@ -2,7 +2,7 @@
 #![tactic(auto)]
 
 mod laws;
-mod start;
+mod line;
 
 pub use laws::{one_dxe_step, one_pei_step, starts_lead};
-pub use start::{Start, start_of};
+pub use line::start_of;
