@@ -1,5 +1,5 @@
 // What a person asks for beside what a program does.
-ghost use Rattle.std.specs.Prelude.{ℕ, List, IfSome, IfNone};
+ghost use Rattle.std.specs.Prelude.{IfSome, IfNone};
 ghost use Rattle.boot_io.specs.Words.{words_of};
 ghost use Rattle.program_edge.specs.declared.asked.Asked.{Asked as OfAsked};
 ghost use Rattle.program_edge.specs.Asked.{AskFor, IsWordFor};
