@@ -23,38 +23,44 @@ sys.path.insert(0, HERE)
 
 from random_boots import CAMPAIGNS, Boot, plan_of  # noqa: E402
 from traces import Trace, first_difference, read  # noqa: E402
+from volumes import made  # noqa: E402
 
 OUT = f"{HERE}/out"
 PLAIN = os.environ.get("PLAIN", f"{HERE}/../plain/out/plain")
 PEI, DXE = f"{OUT}/edk2-pei", f"{OUT}/edk2-dxe"
 ROOT = os.path.normpath(f"{HERE}/../..")
 PIBOOT = os.environ.get("PIBOOT", f"{ROOT}/crates/piboot/out/piboot")
-MAKE_VOLUME = f"{ROOT}/scripts/make-volume"
 SECONDS = 20
 
-# Each known difference, by the word that gives the plain program EDK2's rule for it; docs/COMPARISON.md has a row for each.
-RULES = [
-    "locate-first-installed",
-    "notify-behind-the-running",
-    "shadow-current-alone",
-    "shadow-at-once",
-    "shadow-not-on-s3",
-    "dispatch-by-lists",
-    "callbacks-by-notification",
-    "batch",
-    "push-sticky",
-    "types-in-turn",
-    "process-none-corrupted",
-    "nested-in-turn",
-    "left-over-holds",
-]
+# Each known difference, by the word that gives the plain program EDK2's rule for it, under the phases whose boots can show it;
+# docs/COMPARISON.md has a row for each.
+RULES = {
+    "pei": (
+        "shadow-current-alone",
+        "shadow-at-once",
+        "shadow-not-on-s3",
+        "dispatch-by-lists",
+        "callbacks-by-notification",
+        "nested-in-turn",
+    ),
+    "dxe": (
+        "batch",
+        "push-sticky",
+        "left-over-holds",
+        "types-in-turn",
+        "locate-first-installed",
+        "notify-behind-the-running",
+        "process-none-corrupted",
+    ),
+}
+MOST_RULES = 3
 
 
 @dataclass(frozen=True)
 class Outcome:
     """How a boot compared."""
 
-    word: str  # "same", "refused", "cut short", "unexplained", or the rules that explain it
+    word: str  # "same", "refused", "unexplained", or the rules that explain it
     difference: str = ""
 
 
@@ -75,25 +81,27 @@ def write(folder: str, texts: list[str], plan: str | None = None) -> None:
     for number, text in enumerate(texts):
         with open(f"{folder}/v{number}.volume", "w", encoding="utf-8") as file:
             file.write(text)
-        subprocess.run([MAKE_VOLUME, f"{folder}/v{number}.volume"], capture_output=True, check=True, timeout=SECONDS)
+        with open(f"{folder}/v{number}.fv", "wb") as volume:
+            volume.write(made(text))
 
 
 def edk2(folder: str, audit: list[str]) -> Trace:
     return read(output([PEI, "plan", "audit", DXE], folder), audit)
 
 
-def explained_by(folder: str, audit: list[str], theirs: Trace) -> tuple[str, ...]:
+def explained_by(folder: str, audit: list[str], theirs: Trace, phase: str) -> tuple[str, ...]:
     """The fewest rules of EDK2's with which the plain program's trace is EDK2's; () where none do."""
-    for count in range(1, 4):
-        for rules in itertools.combinations(RULES, count):
+    known = RULES.get(phase, RULES["pei"] + RULES["dxe"])
+    for count in range(1, MOST_RULES + 1):
+        for rules in itertools.combinations(known, count):
             words = [PLAIN, "boot", "plan"] + [f"--edk2={rule}" for rule in rules]
             if first_difference(read(output(words, folder), audit), theirs) is None:
                 return rules
     return ()
 
 
-def compare(folder: str) -> Outcome:
-    """Boots a folder's volumes on both and compares the traces."""
+def compare(folder: str, phase: str = "") -> Outcome:
+    """Boots a folder's volumes on both and compares the traces. With a phase only the rules of that one are asked for a difference."""
     audit = output([PIBOOT, "audit", "plan"], folder)
     with open(f"{folder}/audit", "w", encoding="utf-8") as file:
         file.write("\n".join(audit) + "\n")
@@ -104,9 +112,7 @@ def compare(folder: str) -> Outcome:
     difference = first_difference(ours, theirs)
     if difference is None:
         return Outcome("same")
-    if ours.is_cut_short() or theirs.is_cut_short():
-        return Outcome("cut short", difference)
-    rules = explained_by(folder, audit, theirs)
+    rules = explained_by(folder, audit, theirs, phase)
     return Outcome(" + ".join(rules) or "unexplained", difference)
 
 
@@ -119,7 +125,7 @@ def is_still(folder: str, texts: list[str], wanted: str) -> bool:
     """Whether volumes differ as the larger ones did."""
     try:
         write(folder, texts)
-    except subprocess.CalledProcessError:
+    except ValueError:
         return False
     outcome = compare(folder)
     return outcome.word == "unexplained" and kind(outcome.difference) == wanted
@@ -151,7 +157,7 @@ def boot(name: str, seed: int) -> tuple[str, int, Outcome]:
     """One random boot of a campaign."""
     folder = f"{OUT}/run/{name}-{os.getpid()}"
     write(folder, Boot(CAMPAIGNS[name], f"{name} {seed}").volumes())
-    return name, seed, compare(folder)
+    return name, seed, compare(folder, CAMPAIGNS[name].phase)
 
 
 def keep(name: str, seed: int, outcome: Outcome) -> None:

@@ -3,6 +3,7 @@ use crate::bytes::Guid;
 use crate::depex::{self, Expr};
 use crate::guids::{DXE_APRIORI, PEI_APRIORI};
 use crate::plan::{Plan, Span, TOP};
+use crate::rules::rules;
 use crate::script::{self, Phase, Script};
 use crate::volume::{read_sections, read_volume, Fault, File, Section};
 use std::collections::HashMap;
@@ -31,6 +32,8 @@ pub struct Mapped {
     pub modules_before: usize,
     /// The name of the file that it is nested in.
     pub file_name: Option<Guid>,
+    pub pei_asserts: bool,
+    pub dxe_refuses: bool,
 }
 
 #[derive(Default)]
@@ -120,6 +123,8 @@ impl<'a> Catalog<'a> {
             nested_in,
             modules_before: nested_in.map_or(0, |parent| self.found[parent].len()),
             file_name,
+            pei_asserts: volume.pei_asserts,
+            dxe_refuses: volume.dxe_refuses,
         });
         self.found.push(Vec::new());
         let mut lists: [Option<&[u8]>; 2] = [None, None];
@@ -144,7 +149,9 @@ impl<'a> Catalog<'a> {
                     }
                 }
                 0x02 => {
-                    if let Some(which) = [PEI_APRIORI, DXE_APRIORI].iter().position(|name| *name == file.name).filter(|which| lists[*which].is_none()) {
+                    let which = [PEI_APRIORI, DXE_APRIORI].iter().position(|name| *name == file.name);
+                    let counts = |which: &usize| file.found[*which] && (lists[*which].is_none() || (*which == 0 && rules().apriori_last));
+                    if let Some(which) = which.filter(counts) {
                         let sections = read_sections(body).map_err(fault_in)?;
                         let list = sections.iter().find(|section| section.kind == 0x19).map_or(&body[..0], |section| &body[section.begin..section.end]);
                         lists[which] = Some(list);
@@ -181,8 +188,8 @@ impl<'a> Catalog<'a> {
             volume,
             name: file.name,
             kind: file.kind,
-            pei: part([0x06, 0x08].contains(&file.kind), expr(0x1B, Phase::Pei), pei),
-            dxe: part(file.kind != 0x06, expr(0x13, Phase::Dxe), dxe),
+            pei: part([0x06, 0x08].contains(&file.kind) && file.found[0], expr(0x1B, Phase::Pei), pei),
+            dxe: part(file.kind != 0x06 && file.found[1], expr(0x13, Phase::Dxe), dxe),
         })
     }
 

@@ -149,6 +149,9 @@ impl<'a> Pei<'a> {
                 continue;
             }
             put!(out, "report {volume}")?;
+            if self.catalog.volumes[volume].pei_asserts {
+                put!(out, "assert FwVol.c ((BOOLEAN)(0==1))")?;
+            }
             for number in self.parts_of(volume) {
                 let expr = self.catalog.modules.get(number).map(|module| &module.pei.as_ref().unwrap().expr);
                 let place = self.waiting.push(number, expr.into_iter().flat_map(|expr| expr.pushed()));

@@ -300,7 +300,7 @@ InstallOnNew (
   EFI_STATUS  Status;
 
   // Notifications that run within the call make handles behind this one.
-  Line             = ReserveLine ();
+  Line             = ReserveLine ("call install");
   Number           = mHandleCount++;
   mHandle[Number]  = NULL;
   Status           = CoreInstallProtocolInterface (&mHandle[Number], Protocol, EFI_NATIVE_INTERFACE, Interface);
@@ -337,7 +337,7 @@ Install (
   } else if (IsNew) {
     InstallOnNew (Frame, &Protocol, (VOID *)Interface->Value);
   } else {
-    Line        = ReserveLine ();
+    Line        = ReserveLine ("call install");
     Handle      = (EFI_HANDLE)Register->Value;
     Frame->Last = CoreInstallProtocolInterface (&Handle, &Protocol, EFI_NATIVE_INTERFACE, (VOID *)Interface->Value);
     FillLine (Line, "call install %s", StatusName (Frame->Last));
@@ -362,7 +362,7 @@ Reinstall (
     return;
   }
 
-  Line        = ReserveLine ();
+  Line        = ReserveLine ("call reinstall");
   Frame->Last = CoreReinstallProtocolInterface (
                   (EFI_HANDLE)Handle->Value,
                   (EFI_GUID *)(Frame->Action + 2),
@@ -570,7 +570,6 @@ RunScript (
   UINTN  Block
   )
 {
-  EnterFrame ();
   if (gModule[Frame->Module].Script == NULL) {
     PrintLine ("end Success");
   } else {
@@ -603,6 +602,7 @@ RunNotified (
       return;
     }
 
+    EnterFrame ();
     Interface = NULL;
     CoreHandleProtocol (Handle, &Notification->Protocol, &Interface);
     PrintLine (
@@ -691,6 +691,7 @@ CoreStartImage (
     Module->Script = FindScript (Driver);
   }
 
+  EnterFrame ();
   PrintLine ("dxe start %d %s%s", Module->Volume, GuidText (&Module->Name), Module->Starts++ != 0 ? " again" : "");
   Frame = (FRAME){ .Module = Number };
   RunScript (&Frame, 0);
@@ -756,16 +757,17 @@ PrintHandles (
 
 VOID
 FinishBoot (
-  VOID
+  CONST CHAR8  *Result
   )
 {
-  if (!LastLineBegins ("result")) {
+  if (Result == NULL) {
     PrintLine ("dxe stop");
     PrintWaiting ();
-    PrintHandles ();
-    PrintLine ("result Done");
+    Result = "Done";
   }
 
+  PrintHandles ();
+  PrintLine ("result %s", Result);
   FlushLines ();
   exit (0);
 }
@@ -795,5 +797,5 @@ main (
   CoreInitializeDispatcher ();
   PrintVolumes ();
   CoreDispatcher ();
-  FinishBoot ();
+  FinishBoot (NULL);
 }

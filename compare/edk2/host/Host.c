@@ -32,8 +32,8 @@ Fail (
   exit (2);
 }
 
-UINTN
-ReserveLine (
+static UINTN
+NextLine (
   VOID
   )
 {
@@ -41,7 +41,6 @@ ReserveLine (
     Fail ("more than %d lines", MOST_LINES);
   }
 
-  mLine[mLineCount] = NULL;
   return mLineCount++;
 }
 
@@ -80,15 +79,16 @@ PrintLine (
   va_list  List;
 
   va_start (List, Format);
-  FillLineV (ReserveLine (), Format, List);
+  FillLineV (NextLine (), Format, List);
 }
 
-BOOLEAN
-LastLineBegins (
-  CONST CHAR8  *Text
+UINTN
+ReserveLine (
+  CONST CHAR8  *Call
   )
 {
-  return mLineCount != 0 && mLine[mLineCount - 1] != NULL && strncmp (mLine[mLineCount - 1], Text, strlen (Text)) == 0;
+  PrintLine ("%s unfinished", Call);
+  return mLineCount - 1;
 }
 
 VOID
@@ -101,7 +101,7 @@ DropLines (
 
   Kept = 0;
   for (From = 0; From < mLineCount; From++) {
-    if (mLine[From] == NULL || strncmp (mLine[From], Text, strlen (Text)) != 0) {
+    if (strncmp (mLine[From], Text, strlen (Text)) != 0) {
       mLine[Kept++] = mLine[From];
     }
   }
@@ -117,7 +117,7 @@ FlushLines (
   UINTN  Line;
 
   for (Line = 0; Line < mLineCount; Line++) {
-    puts (mLine[Line] != NULL ? mLine[Line] : "call unfinished");
+    puts (mLine[Line]);
   }
 
   fflush (stdout);
@@ -464,8 +464,7 @@ TakeFuel (
   )
 {
   if (gPlan.Fuel == 0) {
-    PrintLine ("result Spent");
-    FinishBoot ();
+    FinishBoot ("Spent");
   }
 
   gPlan.Fuel--;
@@ -478,7 +477,6 @@ EnterFrame (
 {
   gFrames++;
   if (gFrames > MOST_FRAMES) {
-    PrintLine ("result Deep");
-    FinishBoot ();
+    FinishBoot ("Deep");
   }
 }

@@ -85,10 +85,11 @@ ModuleOf (
   CONST EFI_GUID  *Name
   );
 
-/** A line is kept until the end; one that is reserved is filled in later, where what it tells of comes behind its place. **/
+/** A line is kept until the end; one that is reserved is filled in later, since what runs within its call prints behind its place.
+    Until then it is the call's name and `unfinished`. **/
 UINTN
 ReserveLine (
-  VOID
+  CONST CHAR8  *Call
   );
 
 VOID
@@ -102,12 +103,6 @@ VOID
 PrintLine (
   CONST CHAR8  *Format,
   ...
-  );
-
-/** Whether the last line begins so. **/
-BOOLEAN
-LastLineBegins (
-  CONST CHAR8  *Text
   );
 
 /** Drops the lines that begin so. **/
@@ -144,7 +139,7 @@ TakeFuel (
   VOID
   );
 
-/** A script begins: one too deep ends the boot. **/
+/** A script is about to begin: one too deep ends the boot. **/
 VOID
 EnterFrame (
   VOID
@@ -157,10 +152,10 @@ HexText (
   UINTN        Length
   );
 
-/** The end of the boot, with its last lines: each host has its own. **/
+/** The end of the boot, with its last lines: each host has its own. Result is NULL where the core came to its end. **/
 VOID
 FinishBoot (
-  VOID
+  CONST CHAR8  *Result
   ) __attribute__ ((noreturn));
 
 #endif

@@ -49,7 +49,7 @@ CpuDeadLoop (
   )
 {
   PrintLine ("deadloop");
-  FinishBoot ();
+  FinishBoot (NULL);
 }
 
 VOID *EFIAPI CopyMem (VOID *To, CONST VOID *From, UINTN Length) { return memmove (To, From, Length); }

@@ -102,7 +102,7 @@ HostLocatePpi (
   EFI_STATUS  Status;
 
   if (CompareGuid (Guid, &gEfiDxeIplPpiGuid)) {
-    FinishBoot ();
+    FinishBoot (NULL);
   }
 
   Status = PeiLocatePpi (mServices, Guid, Instance, Descriptor, Ppi);
@@ -120,7 +120,7 @@ HostInstallPpi (
 
   mMaker[Core ()->PpiData.PpiList.CurrentCount] = MAKER_CORE;
 
-  Line   = ReserveLine ();
+  Line   = ReserveLine ("core install");
   Status = PeiInstallPpi (mServices, Descriptor);
   FillLine (Line, "core install %s", StatusName (Status));
   return Status;
@@ -463,7 +463,7 @@ Install (
 
   First  = Core ()->PpiData.PpiList.CurrentCount;
   Status = DescriptorsOf (Frame, &List);
-  Line   = ReserveLine ();
+  Line   = ReserveLine ("call install");
   if (!EFI_ERROR (Status)) {
     for (Index = 0; Index < Frame->Action[1]; Index++) {
       mMaker[First + Index] = (int)Frame->Module;
@@ -516,7 +516,7 @@ Reinstall (
   Old    = &Frame->Register[Frame->Action[1]];
   New    = &Frame->Register[Frame->Action[2]];
   Status = EFI_INVALID_PARAMETER;
-  Line   = ReserveLine ();
+  Line   = ReserveLine ("call reinstall");
   if (Old->Kind == RegisterDescriptor && New->Kind == RegisterDescriptor) {
     Status = PeiReInstallPpi (
                mServices,
@@ -538,7 +538,7 @@ Notify (
   UINTN                   Line;
 
   Status = DescriptorsOf (Frame, &List);
-  Line   = ReserveLine ();
+  Line   = ReserveLine ("call notify");
   if (!EFI_ERROR (Status)) {
     Status = PeiNotifyPpi (mServices, (EFI_PEI_NOTIFY_DESCRIPTOR *)List);
   }
@@ -739,7 +739,6 @@ RunScript (
   UINTN  Block
   )
 {
-  EnterFrame ();
   if (gModule[Frame->Module].Script == NULL) {
     PrintLine ("end Success");
   } else {
@@ -788,6 +787,7 @@ RunNotified (
 
   Block  = &mNotified[(UINT32)Number];
   Module = &gModule[Block->Module];
+  EnterFrame ();
   PrintReports ();
   PrintLine (
     "notify %s %d %s %s",
@@ -839,6 +839,7 @@ StartModule (
   Module         = &gModule[Number];
   Licence        = LicenceOf (Module, File);
   Module->Script = FindScript (File);
+  EnterFrame ();
   PrintLine ("pei start %d %s %s", Module->Volume, GuidText (&Module->Name), Licence);
   Frame = (FRAME){ .Module = Number, .File = File };
   RunScript (&Frame, 0);
@@ -1020,22 +1021,18 @@ HandOff (
 
 VOID
 FinishBoot (
-  VOID
+  CONST CHAR8  *Result
   )
 {
-  CONST CHAR8  *Result;
-
   PrintReports ();
-  if (LastLineBegins ("result")) {
-    FlushLines ();
-    exit (0);
+  if (Result == NULL) {
+    // The core asserts that there is a DXE IPL where PEI stops.
+    DropLines ("assert PeiMain.c");
+    PrintLine ("pei stop");
+    PrintWaiting ();
+    Result = ResultOfStop ();
   }
 
-  // The core asserts that there is a DXE IPL where PEI stops.
-  DropLines ("assert PeiMain.c");
-  PrintLine ("pei stop");
-  PrintWaiting ();
-  Result = ResultOfStop ();
   if (strcmp (Result, "Handoff") == 0 && mDxeProgram != NULL) {
     PrintLine ("handoff");
     PrintLists ();
