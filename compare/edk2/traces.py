@@ -78,7 +78,8 @@ def read(lines: list[str], audit: list[str]) -> Trace:
         if not words or words[0] in COUNTS:
             continue
         if words[0] == "assert":
-            trace.asserts.append(line)
+            # Without the number of the source's line.
+            trace.asserts.append(" ".join([words[0], words[1].split(":")[0], *words[2:]]))
         elif words[0] in LISTS:
             shown = entry(words, modules)
             trace.lists += [shown] if shown else []
@@ -93,12 +94,22 @@ def is_same(ours: str, theirs: str) -> bool:
     return ours == theirs or theirs.endswith(" unfinished") and ours.startswith(theirs.removesuffix("unfinished"))
 
 
+def without_unfinished(ours: Trace, theirs: Trace) -> list[str]:
+    """Our lists without the handles that EDK2 was still making when the boot ended: it has not told their numbers."""
+    pairs = zip(ours.run, theirs.run)
+    numbers = {int(left.split()[3], 16) for left, right in pairs if right.endswith(" unfinished") and len(left.split()) > 3}
+    return [line for line in ours.lists if not (line.startswith("handle ") and int(line.split()[1]) in numbers)]
+
+
 def first_difference(ours: Trace, theirs: Trace) -> str | None:
     """The first line in which two traces differ, in the run and then in the lists; or what EDK2 asserted where no line does."""
-    for place, one, other in (("line", ours.run, theirs.run), ("lists", ours.lists, theirs.lists)):
+    lists = without_unfinished(ours, theirs)
+    for place, one, other in (("line", ours.run, theirs.run), ("lists", lists, theirs.lists)):
         for at in range(max(len(one), len(other))):
             left = one[at] if at < len(one) else "-"
             right = other[at] if at < len(other) else "-"
             if not is_same(left, right):
                 return f"{place} {at + 1}: here `{left}`, EDK2 `{right}`"
-    return f"EDK2: {theirs.asserts[0]}" if theirs.asserts else None
+    if set(ours.asserts) != set(theirs.asserts):
+        return f"EDK2: {' '.join(sorted(set(theirs.asserts)))}"
+    return None

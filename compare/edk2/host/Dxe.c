@@ -2,7 +2,7 @@
   EDK2's DXE handle database, events, dispatcher, volume drivers and section reader over the HOB list that the PEI host left.
   CoreLoadImage and CoreStartImage are the interpreter below.
 
-  usage: edk2-dxe PLAN AUDIT RAM-FILE HOB-LIST
+  usage: edk2-dxe PLAN AUDIT RAM-FILE HOB-LIST FUEL
 **/
 #include "DxeMain.h"
 #include "Handle.h"
@@ -781,12 +781,13 @@ main (
   static EFI_LOADED_IMAGE_PROTOCOL  CoreImage;
   static EFI_DEVICE_PATH_PROTOCOL   EndOfPath = { END_DEVICE_PATH_TYPE, END_ENTIRE_DEVICE_PATH_SUBTYPE, { 4, 0 } };
 
-  if (Count < 5) {
-    Fail ("usage: edk2-dxe PLAN AUDIT RAM-FILE HOB-LIST");
+  if (Count < 6) {
+    Fail ("usage: edk2-dxe PLAN AUDIT RAM-FILE HOB-LIST FUEL");
   }
 
   ReadPlan (Words[1], Words[2], FALSE, atoi (Words[3]));
   gHobList            = (VOID *)strtoull (Words[4], NULL, 0);
+  gPlan.Fuel          = strtoull (Words[5], NULL, 0);
   CoreImage.FilePath  = &EndOfPath;
   gDxeCoreLoadedImage = &CoreImage;
   InitializeListHead (&gRuntime->EventHead);

@@ -1004,7 +1004,7 @@ ResultOfStop (
   return EFI_ERROR (PeiLocatePpi (mServices, &gEfiDxeIplPpiGuid, 0, NULL, &Ppi)) ? "NoIpl" : "Handoff";
 }
 
-/** Hands RAM and the HOB list to the DXE host, which takes the place of this program. **/
+/** Hands RAM, the HOB list and the fuel that is left to the DXE host, which takes the place of this program. **/
 static VOID
 HandOff (
   VOID
@@ -1012,10 +1012,12 @@ HandOff (
 {
   CHAR8  RamFile[20];
   CHAR8  HobList[40];
+  CHAR8  Fuel[40];
 
   sprintf (RamFile, "%d", gPlan.RamFile);
   sprintf (HobList, "0x%llx", (UINT64)(UINTN)Core ()->HobList.Raw);
-  execl (mDxeProgram, mDxeProgram, mWords[1], mWords[2], RamFile, HobList, (CHAR8 *)NULL);
+  sprintf (Fuel, "%llu", gPlan.Fuel);
+  execl (mDxeProgram, mDxeProgram, mWords[1], mWords[2], RamFile, HobList, Fuel, (CHAR8 *)NULL);
   Fail ("%s can't be run", mDxeProgram);
 }
 
