@@ -81,6 +81,9 @@ CAMPAIGNS: dict[str, Campaign] = {
     ),
     "pei-nested": Campaign("pei", PEI, marks=marked("nested"), absent=0.5),
     "pei-malformed": Campaign("pei", PEI, marks=marked("malformed"), absent=0.2),
+    "pei-states": Campaign("pei", PEI, marks=marked("states", "apriori")),
+    "pei-sums": Campaign("pei", PEI, marks=marked("sums", "apriori")),
+    "pei-apriori-files": Campaign("pei", PEI, marks=marked("apriori", "apriori-again"), absent=0.2),
     "dxe-plain": Campaign("dxe", DXE + ("locate", "wrong", "log", "dispatch")),
     "dxe-process": Campaign("dxe", ("install", "install", "process", "process", "log"), volumes=2, told=1, drivers=5),
     "dxe-uninstall": Campaign("dxe", ("install", "install", "on", "on", "locate", "locate", "uninstall", "uninstall", "uninstall", "wrong")),
@@ -95,6 +98,9 @@ CAMPAIGNS: dict[str, Campaign] = {
     "dxe-types": Campaign("dxe", ("install",) * 3 + ("log",), by_expression=True, drivers=5, types=("driver", "combined", "mm-dxe")),
     "dxe-nested": Campaign("dxe", ("install",) * 3 + ("log",), marks=marked("nested"), drivers=5),
     "dxe-malformed": Campaign("dxe", ("install",) * 3 + ("log",), marks=marked("malformed"), by_expression=True, drivers=5),
+    "dxe-states": Campaign("dxe", ("install",) * 3 + ("log", "process"), marks=marked("states"), volumes=2, drivers=6),
+    "dxe-sums": Campaign("dxe", ("install",) * 3 + ("log", "process"), marks=marked("sums"), volumes=2, drivers=6),
+    "dxe-apriori-files": Campaign("dxe", DXE + ("log",), drivers=6, marks=marked("apriori", "apriori-again"), by_expression=True),
     "dxe-all": Campaign(
         "dxe",
         DXE + ("notify", "notify", "uninstall", "reinstall", "locate", "locate", "log", "wrong", "process", "dispatch", "schedule"),
@@ -104,6 +110,9 @@ CAMPAIGNS: dict[str, Campaign] = {
         drivers=5,
     ),
 }
+
+# States of a file in a volume of erase polarity 1: sound ones, ones with bits beside the highest, dead ones, and ones of no meaning.
+STATES = ["f8", "f0", "f9", "fb", "f4", "e8", "ef", "fd", "fe", "fc", "fa", "ff", "d8", "de", "b8", "78", "38", "00"]
 
 # Expressions as bytes that neither reader takes: an operator without operands, a value left over, a GUID that is cut, an unknown
 # opcode, SOR in the midst, no END.
@@ -139,6 +148,17 @@ class Boot:
         if "malformed" in self.campaign.marks and self.chance(0.3):
             return [f"section {section} {self.draw.choice(MALFORMED)}"]
         return None
+
+    def file(self, line: str) -> list[str]:
+        """The line that begins a file, and what of its header is otherwise than it should be."""
+        lines, marks = [line], self.campaign.marks
+        if "states" in marks and self.chance(0.25):
+            lines.append(f"# state {self.draw.choice(STATES)}")
+        if "sums" in marks and self.chance(0.3):
+            lines.append("# sum counted")
+        if "sums" in marks and self.chance(0.12):
+            lines.append(f"# sum {self.draw.choice(['header', 'file'])}")
+        return lines
 
     # PEI.
 
@@ -235,7 +255,7 @@ class Boot:
         return lines + [f"ret {self.draw.choice(['Success', 'NotFound'])}"]
 
     def peim(self, number: int) -> list[str]:
-        lines = [f"file peim {module_name(number)}"]
+        lines = self.file(f"file peim {module_name(number)}")
         if self.draw.random() > self.campaign.absent:
             lines += self.malformed("1b") or ["depex pei " + self.expression(PPIS + ["memory-ppi"])]
         blocks = self.draw.choice([1, 2, 3]) if self.campaign.kinds else 1
@@ -247,8 +267,11 @@ class Boot:
     def a_priori(self, name: str, numbers: list[int], share: float) -> list[str]:
         if "all-apriori" not in self.campaign.marks and "apriori" not in self.campaign.marks or not self.chance(share):
             return []
-        drawn = self.draw.sample(numbers, self.draw.randint(1, len(numbers)))
-        return [f"file freeform {name}", "guids " + " ".join(module_name(i) for i in drawn)]
+        lines: list[str] = []
+        for _ in range(2 if "apriori-again" in self.campaign.marks and self.chance(0.6) else 1):
+            drawn = self.draw.sample(numbers, self.draw.randint(1, len(numbers)))
+            lines += self.file(f"file freeform {name}") + ["guids " + " ".join(module_name(i) for i in drawn)]
+        return lines
 
     def last_peims(self) -> list[str]:
         """The DXE IPL's PPI behind the move, and memory where no other module gives it."""
@@ -343,7 +366,8 @@ class Boot:
         return self.malformed("13") or ["depex dxe " + self.expression(PROTOCOLS)]
 
     def driver(self, number: int) -> list[str]:
-        lines = [f"file {self.draw.choice(self.campaign.types)} {module_name(number)}"] + self.driver_expression() + ["script dxe"]
+        lines = self.file(f"file {self.draw.choice(self.campaign.types)} {module_name(number)}")
+        lines += self.driver_expression() + ["script dxe"]
         blocks = self.draw.choice([1, 2, 3]) if "notify" in self.campaign.actions else 1
         for block in range(blocks):
             lines += self.dxe_block(blocks, block > 0)

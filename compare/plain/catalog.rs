@@ -3,7 +3,6 @@ use crate::bytes::Guid;
 use crate::depex::{self, Expr};
 use crate::guids::{DXE_APRIORI, PEI_APRIORI};
 use crate::plan::{Plan, Span, TOP};
-use crate::rules::rules;
 use crate::script::{self, Phase, Script};
 use crate::volume::{read_sections, read_volume, Fault, File, Section};
 use std::collections::HashMap;
@@ -150,8 +149,7 @@ impl<'a> Catalog<'a> {
                 }
                 0x02 => {
                     let which = [PEI_APRIORI, DXE_APRIORI].iter().position(|name| *name == file.name);
-                    let counts = |which: &usize| file.found[*which] && (lists[*which].is_none() || (*which == 0 && rules().apriori_last));
-                    if let Some(which) = which.filter(counts) {
+                    if let Some(which) = which.filter(|which| file.found[*which] && lists[*which].is_none()) {
                         let sections = read_sections(body).map_err(fault_in)?;
                         let list = sections.iter().find(|section| section.kind == 0x19).map_or(&body[..0], |section| &body[section.begin..section.end]);
                         lists[which] = Some(list);

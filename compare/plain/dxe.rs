@@ -165,7 +165,7 @@ impl<'a> Dxe<'a> {
 
     fn discover(&mut self, volume: usize, out: &mut Out) -> Result<(), Halt> {
         for volume in self.catalog.tree(volume) {
-            if self.catalog.volumes[volume].dxe_refuses || std::mem::replace(&mut self.discovered[volume], true) {
+            if std::mem::replace(&mut self.discovered[volume], true) || self.catalog.volumes[volume].dxe_refuses {
                 continue;
             }
             put!(out, "dxe volume {volume}")?;
@@ -429,6 +429,7 @@ impl<'a> Dxe<'a> {
                         return Err(Status::AlreadyStarted);
                     }
                     if self.catalog.volumes[found].dxe_refuses {
+                        self.discovered[found] = true;
                         return Err(Status::VolumeCorrupted);
                     }
                     volume = Some(found);

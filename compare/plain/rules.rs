@@ -32,8 +32,6 @@ pub struct Rules {
     pub process_none_corrupted: bool,
     /// A wrong sum, or a State with another highest bit, ends PEI's search for files there, and DXE refuses the volume.
     pub file_walk: bool,
-    /// In PEI the last a priori file of a volume counts.
-    pub apriori_last: bool,
 }
 
 static RULES: OnceLock<Rules> = OnceLock::new();
@@ -61,7 +59,6 @@ pub fn take(words: &mut Vec<String>) -> Result<(), String> {
             "nested-in-turn" => &mut rules.nested_in_turn,
             "process-none-corrupted" => &mut rules.process_none_corrupted,
             "file-walk" => &mut rules.file_walk,
-            "apriori-last" => &mut rules.apriori_last,
             _ => return Err(word),
         };
         *rule = true;
