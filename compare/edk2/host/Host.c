@@ -6,6 +6,8 @@
 #define MOST_LINES        400000
 #define VOLUME_GRANULE    0x10000ULL
 #define HOST_PAGE         0x1000ULL
+/// What a boot may take of the processor: a core that runs on has an endless loop.
+#define MOST_SECONDS      5
 /// EFI_FVB2_READ_ENABLED_CAP, READ_STATUS and MEMORY_MAPPED: EDK2's DXE core reads no volume without READ_STATUS.
 #define READ_ATTRIBUTES   0x406
 #define READ_STATUS       0x004
@@ -124,7 +126,7 @@ FlushLines (
   mLineCount = 0;
 }
 
-/** A fault of the processor in a core or in the host: what was printed, and where it was. **/
+/** A fault of the processor in a core, or a core that comes to no end: what was printed, and which it is. **/
 static VOID
 Crashed (
   int        Signal,
@@ -133,7 +135,12 @@ Crashed (
   )
 {
   FlushLines ();
-  printf ("crash signal %d at %p\n", Signal, Info->si_addr);
+  if (Signal == SIGVTALRM) {
+    printf ("no end within %d s of the processor\n", MOST_SECONDS);
+  } else {
+    printf ("crash signal %d at %p\n", Signal, Info->si_addr);
+  }
+
   fflush (stdout);
   _exit (3);
 }
@@ -144,8 +151,9 @@ CatchCrashes (
   )
 {
   static CHAR8      Stack[65536];
-  static CONST int  Signals[] = { SIGSEGV, SIGBUS, SIGFPE, SIGILL, SIGABRT };
+  static CONST int  Signals[] = { SIGSEGV, SIGBUS, SIGFPE, SIGILL, SIGABRT, SIGVTALRM };
   stack_t           Alternate = { Stack, 0, sizeof Stack };
+  struct itimerval  Limit     = { { 0, 0 }, { MOST_SECONDS, 0 } };
   struct sigaction  Action;
   UINTN             Index;
 
@@ -156,6 +164,8 @@ CatchCrashes (
   for (Index = 0; Index < sizeof Signals / sizeof Signals[0]; Index++) {
     sigaction (Signals[Index], &Action, NULL);
   }
+
+  setitimer (ITIMER_VIRTUAL, &Limit, NULL);
 }
 
 /** Maps memory at an address of the plan. **/
