@@ -58,12 +58,12 @@ def output(words: list[str], folder: str, **more: str) -> list[str]:
     """The lines that a program prints in a folder."""
     try:
         done = subprocess.run(
-            words, cwd=folder, capture_output=True, text=True, errors="replace",
-            timeout=SECONDS, env=os.environ | more,
+            words, cwd=folder, stdout=subprocess.PIPE, stderr=subprocess.DEVNULL,
+            timeout=SECONDS, env=os.environ | more if more else None,
         )
     except subprocess.TimeoutExpired:
         return ["timeout"]
-    return done.stdout.split("\n")[:-1]
+    return done.stdout.decode(errors="replace").split("\n")[:-1]
 
 
 def write(folder: str, texts: list[str], plan: str | None = None) -> None:

@@ -27,6 +27,7 @@ from random_boots import CAMPAIGNS, Boot  # noqa: E402
 from smallest import shrink  # noqa: E402
 
 CHUNK = 5
+MEMORY = "/dev/shm"  # a file system without a disk
 
 
 @dataclass
@@ -63,16 +64,18 @@ def keep(name: str, seed: int, difference: str) -> None:
     """Keeps an unexplained boot in its smallest form."""
     folder = f"{OUT}/found/{name}-{seed}"
     shutil.rmtree(folder, ignore_errors=True)
-    shrink(folder, volumes_of(name, seed), kind(difference))
+    phase = CAMPAIGNS[name].phase
+    shrink(folder, volumes_of(name, seed), kind(difference), phase)
     with open(f"{folder}/difference", "w", encoding="utf-8") as file:
-        file.write(compare(folder).difference + "\n")
+        file.write(compare(folder, phase).difference + "\n")
 
 
 def run(names: list[str], boots: int, seed: int, jobs: int) -> int:
     """Runs campaigns; the number of unexplained boots."""
     total, begun = Result(), time.monotonic()
     seeds = range(seed, seed + boots)
-    with tempfile.TemporaryDirectory(prefix="edk2-boots-") as folder, ProcessPoolExecutor(jobs) as pool:
+    place = MEMORY if os.path.isdir(MEMORY) else None
+    with tempfile.TemporaryDirectory(prefix="edk2-boots-", dir=place) as folder, ProcessPoolExecutor(jobs) as pool:
         for name in names:
             own = Result()
             outcomes = pool.map(boot, [name] * boots, seeds, [folder] * boots, chunksize=CHUNK)

@@ -7,6 +7,7 @@ from boots import HERE, SAME, compare, write
 from traces import Trace
 
 CASES = f"{HERE}/cases"
+ROW_BARS = 7
 PAGE = os.path.normpath(f"{HERE}/../../docs/COMPARISON.md")
 
 
@@ -45,17 +46,21 @@ def faults_of(name: str, is_new: bool) -> list[str]:
     return faults
 
 
-def named_by_rows() -> set[str]:
-    """The cases that the rows of docs/COMPARISON.md name."""
-    rows = [line for line in read_file(PAGE).split("\n") if line.startswith("| ")]
-    return {word for row in rows for word in re.findall(r"`([a-z0-9-]+)`", row)}
+def faults_of_page() -> list[str]:
+    """The rows of docs/COMPARISON.md without a case, and the cases without a row."""
+    rows = [line for line in read_file(PAGE).split("\n") if line.count("|") == ROW_BARS]
+    rows = [row for row in rows if not row.startswith(("| Matter", "|--"))]
+    named = [set(re.findall(r"`([a-z0-9-]+)`", row)) for row in rows]
+    known = set(every())
+    faults = [f"a row of COMPARISON without an example: {row[:60]}" for row, words in zip(rows, named) if not words & known]
+    return faults + [f"{name}: no row of COMPARISON names it" for name in sorted(known.difference(*named))]
 
 
 def check(names: list[str], is_new: bool = False) -> int:
     """Boots cases, all where none is named, and prints what is otherwise than expected: the number of faults."""
     faults = [fault for name in names or every() for fault in faults_of(name, is_new)]
     if not names:
-        faults += [f"{name}: no row of COMPARISON names it" for name in every() if name not in named_by_rows()]
+        faults += faults_of_page()
     for fault in faults:
         print(f"fault: {fault}")
     return len(faults)

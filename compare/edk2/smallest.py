@@ -4,13 +4,13 @@ from boots import UNEXPLAINED, compare, kind, write
 CUTS = (12, 6, 3, 2, 1)
 
 
-def is_still(folder: str, texts: list[str], wanted: str) -> bool:
+def is_still(folder: str, texts: list[str], wanted: str, phase: str) -> bool:
     """Whether volumes differ as the larger ones did."""
     try:
         write(folder, texts)
     except (ValueError, IndexError):
         return False
-    outcome = compare(folder)
+    outcome = compare(folder, phase)
     return outcome.word == UNEXPLAINED and kind(outcome.difference) == wanted
 
 
@@ -26,10 +26,10 @@ def smaller(texts: list[str]) -> list[list[str]]:
     return found
 
 
-def shrink(folder: str, texts: list[str], wanted: str) -> None:
+def shrink(folder: str, texts: list[str], wanted: str, phase: str) -> None:
     """Writes the smallest volumes found that still differ so: as long as some lines can go, they go."""
-    least = next((less for less in smaller(texts) if is_still(folder, less, wanted)), None)
+    least = next((less for less in smaller(texts) if is_still(folder, less, wanted, phase)), None)
     while least is not None:
         texts = least
-        least = next((less for less in smaller(texts) if is_still(folder, less, wanted)), None)
+        least = next((less for less in smaller(texts) if is_still(folder, less, wanted, phase)), None)
     write(folder, texts)
