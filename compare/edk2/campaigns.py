@@ -94,7 +94,7 @@ def main() -> int:
     parser = argparse.ArgumentParser(description="Compares boots with EDK2's own cores.")
     commands = parser.add_subparsers(dest="command", required=True)
     campaigns = commands.add_parser("run")
-    campaigns.add_argument("--boots", type=int, default=300)
+    campaigns.add_argument("--boots", type=int, default=260)
     campaigns.add_argument("--seed", type=int, default=1)
     campaigns.add_argument("--only", default="")
     campaigns.add_argument("--jobs", type=int, default=os.cpu_count() or 1)
