@@ -50,8 +50,6 @@ class Outcome:
 
     word: str  # SAME, UNEXPLAINED, or the rules that explain it
     difference: str
-    ours: Trace
-    theirs: Trace
 
 
 def output(words: list[str], folder: str, **more: str) -> list[str]:
@@ -96,26 +94,36 @@ def edk2(folder: str, audit: list[str]) -> Trace:
     return read(output([PEI, "plan", "audit", DXE], folder, **more), audit)
 
 
+def both(folder: str) -> tuple[list[str], Trace, Trace]:
+    """The audit of a folder's boot, this machine's trace, and EDK2's."""
+    audit = audit_of(folder)
+    return audit, read(output([PIBOOT, "boot", "plan"], folder), audit), edk2(folder, audit)
+
+
+def is_explained(folder: str, audit: list[str], theirs: Trace, rules: tuple[str, ...]) -> bool:
+    """Whether the plain program prints EDK2's trace with some of EDK2's rules."""
+    words = [PLAIN, "boot", "plan"] + [f"--edk2={rule}" for rule in rules]
+    return first_difference(read(output(words, folder), audit), theirs) is None
+
+
 def explained_by(folder: str, audit: list[str], theirs: Trace, phase: str) -> tuple[str, ...]:
     """The fewest rules of EDK2's with which the plain program's trace is EDK2's; () where none do."""
     known = RULES.get(phase, tuple(dict.fromkeys(RULES["pei"] + RULES["dxe"])))
     for count in range(1, MOST_RULES + 1):
         for rules in itertools.combinations(known, count):
-            words = [PLAIN, "boot", "plan"] + [f"--edk2={rule}" for rule in rules]
-            if first_difference(read(output(words, folder), audit), theirs) is None:
+            if is_explained(folder, audit, theirs, rules):
                 return rules
     return ()
 
 
 def compare(folder: str, phase: str = "") -> Outcome:
     """Boots a folder's volumes on both. With a phase only the rules of that one are asked for a difference."""
-    audit = audit_of(folder)
-    ours, theirs = read(output([PIBOOT, "boot", "plan"], folder), audit), edk2(folder, audit)
+    audit, ours, theirs = both(folder)
     difference = first_difference(ours, theirs)
     if difference is None:
-        return Outcome(SAME, "", ours, theirs)
+        return Outcome(SAME, "")
     rules = explained_by(folder, audit, theirs, phase)
-    return Outcome(" + ".join(rules) or UNEXPLAINED, difference, ours, theirs)
+    return Outcome(" + ".join(rules) or UNEXPLAINED, difference)
 
 
 def kind(difference: str) -> str:

@@ -8,7 +8,7 @@
 #define HOST_PAGE         0x1000ULL
 /// What a boot may take of the processor: a core that runs on has an endless loop.
 #define MOST_SECONDS      5
-/// EFI_FVB2_READ_ENABLED_CAP, READ_STATUS and MEMORY_MAPPED: EDK2's DXE core reads no volume without READ_STATUS.
+/// EFI_FVB2_READ_ENABLED_CAP, READ_STATUS and MEMORY_MAPPED.
 #define READ_ATTRIBUTES   0x406
 #define READ_STATUS       0x004
 
@@ -126,7 +126,7 @@ FlushLines (
   mLineCount = 0;
 }
 
-/** A fault of the processor in a core, or a core that comes to no end: what was printed, and which it is. **/
+/** A fault of the processor in a core, or a core without an end: what was printed, and which. **/
 static VOID
 Crashed (
   int        Signal,
@@ -179,7 +179,8 @@ MapAt (
   int   Flags;
   VOID  *Mapped;
 
-  Flags  = MAP_FIXED_NOREPLACE | MAP_NORESERVE | (File < 0 ? MAP_PRIVATE | MAP_ANONYMOUS : MAP_SHARED);
+  Flags  = MAP_FIXED_NOREPLACE | MAP_NORESERVE;
+  Flags |= File < 0 ? MAP_PRIVATE | MAP_ANONYMOUS : MAP_SHARED;
   Mapped = mmap ((VOID *)Base, Length, PROT_READ | PROT_WRITE, Flags, File, 0);
   if (Mapped != (VOID *)Base) {
     Fail ("no memory can be mapped at 0x%llx", Base);
@@ -265,7 +266,8 @@ ReadLines (
   fclose (File);
 }
 
-/** Gives a volume the attributes without which EDK2's DXE core reads none of it, and its sum again. AS_BUILT leaves volumes as they are. **/
+/** Gives a volume the attributes without which EDK2's DXE core reads none of it, and its sum
+    again. AS_BUILT leaves volumes as they are. **/
 static VOID
 LetBeRead (
   EFI_FIRMWARE_VOLUME_HEADER  *Header
@@ -342,7 +344,9 @@ IsInRange (
   UINT64  Length
   )
 {
-  return Address >= Range.Base && Length <= Range.Length && Address - Range.Base <= Range.Length - Length;
+  return Address >= Range.Base
+         && Length <= Range.Length
+         && Address - Range.Base <= Range.Length - Length;
 }
 
 BOOLEAN
@@ -423,7 +427,8 @@ ScriptStatusName (
   )
 {
   static CONST CHAR8  *Names[] = {
-    "Success", "InvalidParameter", "NotFound", "OutOfResources", "NotAvailableYet", "AlreadyStarted", "AccessDenied"
+    "Success",         "InvalidParameter", "NotFound",    "OutOfResources",
+    "NotAvailableYet", "AlreadyStarted",   "AccessDenied"
   };
 
   return Names[Code];

@@ -1,5 +1,6 @@
 /** @file
-  What both hosts have: the plan, its memory at its own addresses, printed lines, and modules with their scripts.
+  What both hosts have: the plan, its memory at its own addresses, printed lines, and modules with
+  their scripts.
 **/
 #ifndef HOST_H_
 #define HOST_H_
@@ -20,7 +21,7 @@ typedef struct {
 typedef struct {
   RANGE     Temp;
   RANGE     Ram;
-  int       RamFile;                         ///< RAM's memory, handed from PEI to DXE; -1 where there is none yet.
+  int       RamFile;                         ///< RAM's memory, handed from PEI to DXE; -1 before.
   UINT64    Fuel;
   UINTN     VolumeCount;
   RANGE     Volume[MOST_PLAN_VOLUMES];
@@ -49,7 +50,8 @@ Fail (
   ...
   ) __attribute__ ((noreturn));
 
-/** Reads the plan and maps its volumes, and with a first phase its memory. Audit is what `piboot audit PLAN` prints: it numbers the volumes. **/
+/** Reads the plan and maps its volumes, and with a first phase its memory. Audit is what
+    `piboot audit PLAN` prints: it numbers the volumes. **/
 VOID
 ReadPlan (
   CONST CHAR8  *Plan,
@@ -85,8 +87,8 @@ ModuleOf (
   CONST EFI_GUID  *Name
   );
 
-/** A line is kept until the end; one that is reserved is filled in later, since what runs within its call prints behind its place.
-    Until then it is the call's name and `unfinished`. **/
+/** A line is kept until the end; one that is reserved is filled in later, since what runs within
+    its call prints behind its place. Until then it is the call's name and `unfinished`. **/
 UINTN
 ReserveLine (
   CONST CHAR8  *Call
@@ -152,7 +154,8 @@ HexText (
   UINTN        Length
   );
 
-/** The end of the boot, with its last lines: each host has its own. Result is NULL where the core came to its end. **/
+/** The end of the boot, with its last lines: each host has its own. Result is NULL where the core
+    came to its end. **/
 VOID
 FinishBoot (
   CONST CHAR8  *Result
