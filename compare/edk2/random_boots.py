@@ -67,7 +67,7 @@ CAMPAIGNS: dict[str, Campaign] = {
     "pei-apriori": Campaign("pei", PEI, marks=marked("apriori"), absent=0.2),
     "pei-apriori-volumes": Campaign("pei", PEI, marks=marked("apriori", "all-apriori"), absent=0.2, volumes=3),
     "pei-shadow": Campaign("pei", PEI + ("shadow",) * 3),
-    "pei-shadow-callback": Campaign("pei", PEI + ("notify", "notify", "shadow"), kinds=("callback",), absent=0.5),
+    "pei-shadow-callback": Campaign("pei", PEI + ("notify", "shadow") * 3, kinds=("callback",), absent=0.5),
     "pei-s3": Campaign("pei", PEI + ("shadow", "shadow", "s3")),
     "pei-dispatch": Campaign("pei", PEI + NOTIFY, kinds=("dispatch",)),
     "pei-memory-dispatch": Campaign("pei", PEI + ("memory", "notify", "notify", "value", "peek"), kinds=("dispatch",)),
@@ -95,6 +95,7 @@ CAMPAIGNS: dict[str, Campaign] = {
     "dxe-companions": Campaign("dxe", ("install",) * 3 + ("log",), marks=marked("companions"), by_expression=True, drivers=5),
     "dxe-requests": Campaign("dxe", ("install",) * 3 + ("schedule",) * 2, marks=marked("sor"), by_expression=True, drivers=5),
     "dxe-batch": Campaign("dxe", ("install",) * 3 + ("log",), by_expression=True, drivers=5),
+    "dxe-comings": Campaign("dxe", ("install",) * 3 + ("uninstall",) * 3, by_expression=True, drivers=6),
     "dxe-types": Campaign("dxe", ("install",) * 3 + ("log",), by_expression=True, drivers=5, types=("driver", "combined", "mm-dxe")),
     "dxe-nested": Campaign("dxe", ("install",) * 3 + ("log",), marks=marked("nested"), drivers=5),
     "dxe-malformed": Campaign("dxe", ("install",) * 3 + ("log",), marks=marked("malformed"), by_expression=True, drivers=5),
@@ -341,7 +342,9 @@ class Boot:
         return ["dispatch"]
 
     def dxe_process(self, blocks: int) -> list[str]:
-        return [f"set r12 {volume_base(self.draw.randrange(3)):#x}", "process r12"]
+        # Behind a volume's begin lies none.
+        base = volume_base(self.draw.randrange(3)) + (0x40 if self.chance(0.05) else 0)
+        return [f"set r12 {base:#x}", "process r12"]
 
     def dxe_log(self, blocks: int) -> list[str]:
         return [f"log n{self.draw.randint(0, 99)}"]
