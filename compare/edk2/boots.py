@@ -23,6 +23,7 @@ RULES = {
         "shadow-current-alone",
         "shadow-at-once",
         "shadow-not-on-s3",
+        "memory-again",
         "dispatch-by-lists",
         "callbacks-by-notification",
         "nested-in-turn",

@@ -217,6 +217,9 @@ class Boot:
         return [f"hob {kind} {self.draw.randbytes(length).hex()}"]
 
     def pei_pages(self, blocks: int, is_notified: bool) -> list[str]:
+        if is_notified:
+            # One that runs often would want more pages than a plan has.
+            return []
         return [f"pages r9 {self.draw.choice([0, 1, 4, 4, 6, 7, 9, 10, 11, 14])} {self.draw.choice([1, 1, 2, 3])}"]
 
     def pei_mode(self, blocks: int, is_notified: bool) -> list[str]:

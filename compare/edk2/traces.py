@@ -97,7 +97,8 @@ def is_same(ours: str, theirs: str) -> bool:
 def without_unfinished(ours: Trace, theirs: Trace) -> list[str]:
     """Our lists without the handles that EDK2 was still making when the boot ended: it has not told their numbers."""
     pairs = zip(ours.run, theirs.run)
-    numbers = {int(left.split()[3], 16) for left, right in pairs if right.endswith(" unfinished") and len(left.split()) > 3}
+    answers = [left.split()[3:] for left, right in pairs if right.endswith(" unfinished") and is_same(left, right)]
+    numbers = {int(answer[0], 16) for answer in answers if answer}
     return [line for line in ours.lists if not (line.startswith("handle ") and int(line.split()[1]) in numbers)]
 
 

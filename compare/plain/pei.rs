@@ -356,6 +356,9 @@ impl<'a> Pei<'a> {
     fn serve(&mut self, frame: &mut Frame<'a, Sweep>, action: &Action, name: &str, out: &mut Out) -> Result<Option<(Sweep, usize, usize)>, Halt> {
         let mut swept = None;
         let by = frame.module as u32;
+        if rules().memory_again && self.store.moved && matches!(action, Action::Memory(..)) {
+            put!(out, "assert MemoryServices.c ((BOOLEAN)(0==1))")?;
+        }
         let answer = match action {
             Action::Addr(to, from, offset) => {
                 let place = match frame.regs[*from as usize] {

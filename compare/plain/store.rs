@@ -490,7 +490,11 @@ impl Store {
     }
 
     pub fn plan_memory(&mut self, begin: u64, len: u64) -> Result<(), Status> {
-        let sound = begin % PAGE == 0 && len % PAGE == 0 && self.ram.has(begin, len) && len >= self.temp.len && self.planned.is_none();
+        if rules().memory_again && self.moved {
+            return Ok(());
+        }
+        let is_first = self.planned.is_none() || rules().memory_again;
+        let sound = begin % PAGE == 0 && len % PAGE == 0 && self.ram.has(begin, len) && len >= self.temp.len && is_first;
         if !sound {
             return Err(Status::InvalidParameter);
         }
