@@ -6,6 +6,7 @@ A comment behind a line `file` or `pad` of the outermost volume, which scripts/m
     # sum header    a wrong header checksum
     # sum file      a wrong file checksum
     # sum counted   the attribute 0x40, and the checksum of the body that it asks for
+    # size HH       its Size, in hexadecimal, with a header checksum to it
 """
 import os
 from importlib.machinery import SourceFileLoader
@@ -39,7 +40,7 @@ def changes(text: str) -> list[tuple[int, list[str]]]:
             depth -= 1
         elif words[0] in ("file", "pad") and depth == 1:
             files += 1
-        elif words[0] == "#" and words[1:2] and words[1] in ("state", "sum") and files:
+        elif words[0] == "#" and words[1:2] and words[1] in ("state", "sum", "size") and files:
             found.append((files - 1, words[1:]))
     return found
 
@@ -60,6 +61,10 @@ def change(volume: bytearray, at: int, words: list[str]) -> None:
     size = int.from_bytes(volume[at + SIZE:at + STATE], "little")
     if words[0] == "state":
         volume[at + STATE] = int(words[1], 16)
+    elif words[0] == "size":
+        other = int(words[1], 16).to_bytes(3, "little")
+        volume[at + HEADER_SUM] = (volume[at + HEADER_SUM] + sum(volume[at + SIZE:at + STATE]) - sum(other)) % 256
+        volume[at + SIZE:at + STATE] = other
     elif words[1] == "header":
         volume[at + HEADER_SUM] ^= 0x55
     elif words[1] == "file":

@@ -40,7 +40,7 @@ fn found_in_pei(bytes: &[u8], mut at: usize, erased: u8) -> (Vec<usize>, bool) {
                 found.push(at);
                 at = behind(bytes, at);
             }
-            0x10 => at = behind(bytes, at),
+            0x10 if behind(bytes, at) > at => at = behind(bytes, at),
             _ => break,
         }
     }
@@ -54,7 +54,7 @@ fn found_in_dxe(bytes: &[u8], mut at: usize, erased: u8) -> Option<Vec<usize>> {
         let state = highest_bit(bytes[at + 23] ^ erased);
         match state {
             0x01 | 0x20 => at += header_length(bytes, at),
-            0x04 | 0x08 | 0x10 if header_holds(bytes, at) && body_holds(bytes, at) => {
+            0x04 | 0x08 | 0x10 if behind(bytes, at) > at && header_holds(bytes, at) && body_holds(bytes, at) => {
                 if state != 0x10 {
                     found.push(at);
                 }
@@ -78,6 +78,7 @@ fn header_length(bytes: &[u8], at: usize) -> usize {
     }
 }
 
+/// Where the next file begins. Of a deleted file of size 0 EDK2's cores come to no end.
 fn behind(bytes: &[u8], at: usize) -> usize {
     round_up(at + u24_at(bytes, at + 20), 8)
 }

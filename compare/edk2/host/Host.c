@@ -7,7 +7,7 @@
 #define VOLUME_GRANULE    0x10000ULL
 #define HOST_PAGE         0x1000ULL
 /// What a boot may take of the processor: a core that runs on has an endless loop.
-#define MOST_SECONDS      5
+#define MOST_SECONDS      2
 /// EFI_FVB2_READ_ENABLED_CAP, READ_STATUS and MEMORY_MAPPED.
 #define READ_ATTRIBUTES   0x406
 #define READ_STATUS       0x004
@@ -136,7 +136,7 @@ Crashed (
 {
   FlushLines ();
   if (Signal == SIGVTALRM) {
-    printf ("no end within %d s of the processor\n", MOST_SECONDS);
+    printf ("no end\n");
   } else {
     printf ("crash signal %d at %p\n", Signal, Info->si_addr);
   }
