@@ -1,215 +1,109 @@
 #!/usr/bin/env python3
 """Random boots on this project's machine and on EDK2's own cores, compared line by line.
 
-  campaigns.py run [--boots N] [--seed S] [--only WORD] [--jobs N]   all campaigns, N boots each
-  campaigns.py case FOLDER ..                                        folders with v0.volume, v1.volume .. (and a plan, where it is another)
+  campaigns.py run [--boots N] [--seed S] [--only WORD] [--jobs N]   N boots of each campaign whose name has WORD
+  campaigns.py case [--new] [NAME ..]                                the smallest boot of each known difference
 
-A boot that differs is explained by the known differences (RULES) that make the plain program (compare/plain) print EDK2's trace when it
-takes EDK2's rule for them. One that none explains is made smaller, kept in out/found, and a failure.
+A boot that differs is explained by the known differences (boots.py, RULES) with whose rules of EDK2's the
+plain program (compare/plain) prints EDK2's trace. One that none explains is made smaller, kept in out/found,
+and a failure. `case` compares both traces with the kept ones, or writes them with --new.
 """
 import argparse
-import itertools
 import os
-import re
 import shutil
-import subprocess
 import sys
+import tempfile
+import time
 from collections import Counter
 from concurrent.futures import ProcessPoolExecutor
-from dataclasses import dataclass
+from dataclasses import dataclass, field
 
 HERE = os.path.dirname(os.path.abspath(__file__))
 sys.path.insert(0, HERE)
 
-from random_boots import CAMPAIGNS, Boot, plan_of  # noqa: E402
-from traces import Trace, first_difference, read  # noqa: E402
+import cases  # noqa: E402
+from boots import OUT, UNEXPLAINED, compare, kind, write  # noqa: E402
+from random_boots import CAMPAIGNS, Boot  # noqa: E402
+from smallest import shrink  # noqa: E402
 
-OUT = f"{HERE}/out"
-PLAIN = os.environ.get("PLAIN", f"{HERE}/../plain/out/plain")
-PEI, DXE = f"{OUT}/edk2-pei", f"{OUT}/edk2-dxe"
-ROOT = os.path.normpath(f"{HERE}/../..")
-PIBOOT = os.environ.get("PIBOOT", f"{ROOT}/crates/piboot/out/piboot")
-MAKE_VOLUME = f"{ROOT}/scripts/make-volume"
-SECONDS = 20
-
-# Each known difference, by the word that gives the plain program EDK2's rule for it; docs/COMPARISON.md has a row for each.
-RULES = [
-    "locate-first-installed",
-    "notify-behind-the-running",
-    "shadow-current-alone",
-    "shadow-at-once",
-    "shadow-not-on-s3",
-    "dispatch-by-lists",
-    "callbacks-by-notification",
-    "batch",
-    "push-sticky",
-    "types-in-turn",
-    "process-none-corrupted",
-    "nested-in-turn",
-    "left-over-holds",
-]
+CHUNK = 5
+MEMORY = "/dev/shm"  # a file system without a disk
 
 
-@dataclass(frozen=True)
-class Outcome:
-    """How a boot compared."""
+@dataclass
+class Result:
+    """What came of boots: how often each word, and one unexplained boot of each kind."""
 
-    word: str  # "same", "refused", "cut short", "unexplained", or the rules that explain it
-    difference: str = ""
+    words: Counter[str] = field(default_factory=Counter)
+    unexplained: dict[str, tuple[str, int, str]] = field(default_factory=dict)
 
+    def add(self, name: str, seed: int, word: str, difference: str) -> None:
+        self.words[word] += 1
+        if word == UNEXPLAINED:
+            self.unexplained.setdefault(kind(difference), (name, seed, difference))
 
-def output(words: list[str], folder: str) -> list[str]:
-    """The lines that a program prints in a folder."""
-    try:
-        done = subprocess.run(words, cwd=folder, capture_output=True, text=True, errors="replace", timeout=SECONDS)
-    except subprocess.TimeoutExpired:
-        return ["timeout"]
-    return done.stdout.split("\n")[:-1]
-
-
-def write(folder: str, texts: list[str], plan: str | None = None) -> None:
-    """Writes a boot: its plan, and each volume as text and as bytes."""
-    os.makedirs(folder, exist_ok=True)
-    with open(f"{folder}/plan", "w", encoding="utf-8") as file:
-        file.write(plan or plan_of(len(texts)))
-    for number, text in enumerate(texts):
-        with open(f"{folder}/v{number}.volume", "w", encoding="utf-8") as file:
-            file.write(text)
-        subprocess.run([MAKE_VOLUME, f"{folder}/v{number}.volume"], capture_output=True, check=True, timeout=SECONDS)
+    def text(self) -> str:
+        told = ", ".join(f"{word} {count}" for word, count in self.words.most_common())
+        return f"{self.words.total()} boots, {told}"
 
 
-def edk2(folder: str, audit: list[str]) -> Trace:
-    return read(output([PEI, "plan", "audit", DXE], folder), audit)
+def volumes_of(name: str, seed: int) -> list[str]:
+    """The texts of a campaign's boot."""
+    return Boot(CAMPAIGNS[name], f"{name} {seed}").volumes()
 
 
-def explained_by(folder: str, audit: list[str], theirs: Trace) -> tuple[str, ...]:
-    """The fewest rules of EDK2's with which the plain program's trace is EDK2's; () where none do."""
-    for count in range(1, 4):
-        for rules in itertools.combinations(RULES, count):
-            words = [PLAIN, "boot", "plan"] + [f"--edk2={rule}" for rule in rules]
-            if first_difference(read(output(words, folder), audit), theirs) is None:
-                return rules
-    return ()
+def boot(name: str, seed: int, folder: str) -> tuple[str, str]:
+    """One random boot of a campaign: the word and the difference."""
+    own = f"{folder}/{name}-{os.getpid()}"
+    write(own, volumes_of(name, seed))
+    outcome = compare(own, CAMPAIGNS[name].phase)
+    return outcome.word, outcome.difference
 
 
-def compare(folder: str) -> Outcome:
-    """Boots a folder's volumes on both and compares the traces."""
-    audit = output([PIBOOT, "audit", "plan"], folder)
-    with open(f"{folder}/audit", "w", encoding="utf-8") as file:
-        file.write("\n".join(audit) + "\n")
-    printed = output([PIBOOT, "boot", "plan"], folder)
-    if printed and printed[0].startswith("refused"):
-        return Outcome("refused", printed[0])
-    ours, theirs = read(printed, audit), edk2(folder, audit)
-    difference = first_difference(ours, theirs)
-    if difference is None:
-        return Outcome("same")
-    if ours.is_cut_short() or theirs.is_cut_short():
-        return Outcome("cut short", difference)
-    rules = explained_by(folder, audit, theirs)
-    return Outcome(" + ".join(rules) or "unexplained", difference)
-
-
-def kind(difference: str) -> str:
-    """A difference without its line, numbers and GUIDs: two boots of one kind differ in the same way."""
-    return re.sub(r" n\d+| 0x[0-9a-f]+| \d+", " ", re.sub(r"[0-9a-f]{8}-[-0-9a-f]*", "G", difference))
-
-
-def is_still(folder: str, texts: list[str], wanted: str) -> bool:
-    """Whether volumes differ as the larger ones did."""
-    try:
-        write(folder, texts)
-    except subprocess.CalledProcessError:
-        return False
-    outcome = compare(folder)
-    return outcome.word == "unexplained" and kind(outcome.difference) == wanted
-
-
-def smaller(texts: list[str]) -> list[list[str]]:
-    """The volumes with some lines less, many first."""
-    found = []
-    for number, text in enumerate(texts):
-        lines = text.strip().split("\n")
-        for count in (12, 6, 3, 2, 1):
-            for at in range(1, len(lines) - count):
-                less = "\n".join(lines[:at] + lines[at + count :]) + "\n"
-                found.append(texts[:number] + [less] + texts[number + 1 :])
-    return found
-
-
-def shrink(folder: str, texts: list[str], wanted: str) -> list[str]:
-    """The smallest volumes found that still differ so: as long as some lines can go, they go."""
-    least = next((less for less in smaller(texts) if is_still(folder, less, wanted)), None)
-    while least is not None:
-        texts = least
-        least = next((less for less in smaller(texts) if is_still(folder, less, wanted)), None)
-    write(folder, texts)
-    return texts
-
-
-def boot(name: str, seed: int) -> tuple[str, int, Outcome]:
-    """One random boot of a campaign."""
-    folder = f"{OUT}/run/{name}-{os.getpid()}"
-    write(folder, Boot(CAMPAIGNS[name], f"{name} {seed}").volumes())
-    return name, seed, compare(folder)
-
-
-def keep(name: str, seed: int, outcome: Outcome) -> None:
+def keep(name: str, seed: int, difference: str) -> None:
     """Keeps an unexplained boot in its smallest form."""
     folder = f"{OUT}/found/{name}-{seed}"
     shutil.rmtree(folder, ignore_errors=True)
-    shrink(folder, Boot(CAMPAIGNS[name], f"{name} {seed}").volumes(), kind(outcome.difference))
+    phase = CAMPAIGNS[name].phase
+    shrink(folder, volumes_of(name, seed), kind(difference), phase)
     with open(f"{folder}/difference", "w", encoding="utf-8") as file:
-        file.write(compare(folder).difference + "\n")
+        file.write(compare(folder, phase).difference + "\n")
 
 
 def run(names: list[str], boots: int, seed: int, jobs: int) -> int:
     """Runs campaigns; the number of unexplained boots."""
-    counts = {name: Counter[str]() for name in names}
-    unexplained: dict[str, tuple[str, int, Outcome]] = {}
-    shutil.rmtree(f"{OUT}/run", ignore_errors=True)
-    with ProcessPoolExecutor(jobs) as pool:
-        every = [(name, seed + number) for name in names for number in range(boots)]
-        for name, number, outcome in pool.map(boot, *zip(*every), chunksize=10):
-            counts[name][outcome.word] += 1
-            if outcome.word == "unexplained":
-                unexplained.setdefault(kind(outcome.difference), (name, number, outcome))
-    for name in names:
-        print(f"{name}: {boots} boots, " + ", ".join(f"{word} {count}" for word, count in counts[name].most_common()), flush=True)
-    for name, number, outcome in unexplained.values():
-        print(f"unexplained: {name} {number}: {outcome.difference}", flush=True)
-        keep(name, number, outcome)
-    total = sum(counts.values(), Counter[str]())
-    print(f"all: {boots * len(names)} boots, " + ", ".join(f"{word} {count}" for word, count in total.most_common()))
-    return total["unexplained"]
-
-
-def case(folder: str) -> None:
-    """Compares a folder's boot and prints how the two differ."""
-    count = len([name for name in os.listdir(folder) if name.endswith(".volume")])
-    texts = [open(f"{folder}/v{number}.volume", encoding="utf-8").read() for number in range(count)]
-    plan = open(f"{folder}/plan", encoding="utf-8").read() if os.path.exists(f"{folder}/plan") else None
-    there = f"{OUT}/run/{os.path.basename(os.path.normpath(folder))}"
-    write(there, texts, plan)
-    outcome = compare(there)
-    print(f"{os.path.basename(os.path.normpath(folder))}: {outcome.word}" + (f": {outcome.difference}" if outcome.difference else ""), flush=True)
+    total, begun = Result(), time.monotonic()
+    seeds = range(seed, seed + boots)
+    place = MEMORY if os.path.isdir(MEMORY) else None
+    with tempfile.TemporaryDirectory(prefix="edk2-boots-", dir=place) as folder, ProcessPoolExecutor(jobs) as pool:
+        for name in names:
+            own = Result()
+            outcomes = pool.map(boot, [name] * boots, seeds, [folder] * boots, chunksize=CHUNK)
+            for number, (word, difference) in zip(seeds, outcomes):
+                own.add(name, number, word, difference)
+                total.add(name, number, word, difference)
+            print(f"{name}: {own.text()}", flush=True)
+    print(f"all: {total.text()}, in {time.monotonic() - begun:.0f} s", flush=True)
+    for name, number, difference in total.unexplained.values():
+        print(f"unexplained: {name} {number}: {difference}", flush=True)
+        keep(name, number, difference)
+    return total.words[UNEXPLAINED]
 
 
 def main() -> int:
-    parser = argparse.ArgumentParser(description="Compares random boots with EDK2's own cores.")
+    parser = argparse.ArgumentParser(description="Compares boots with EDK2's own cores.")
     commands = parser.add_subparsers(dest="command", required=True)
     campaigns = commands.add_parser("run")
-    campaigns.add_argument("--boots", type=int, default=300)
+    campaigns.add_argument("--boots", type=int, default=260)
     campaigns.add_argument("--seed", type=int, default=1)
     campaigns.add_argument("--only", default="")
     campaigns.add_argument("--jobs", type=int, default=os.cpu_count() or 1)
-    cases = commands.add_parser("case")
-    cases.add_argument("folders", nargs="+")
+    case = commands.add_parser("case")
+    case.add_argument("--new", action="store_true")
+    case.add_argument("names", nargs="*")
     words = parser.parse_args()
     if words.command == "case":
-        for folder in words.folders:
-            case(folder)
-        return 0
+        return 1 if cases.check(words.names, words.new) else 0
     names = [name for name in CAMPAIGNS if words.only in name]
     return 1 if run(names, words.boots, words.seed, words.jobs) else 0
 

@@ -6,7 +6,7 @@ TEMP = "temp 0x80000000 0x80000"
 RAM_BASE, RAM_SIZE = 0x40000000, 0x4000000
 FUEL = 2000
 FIRST_VOLUME, VOLUME_STEP = 0xFF000000, 0x100000
-VOLUME_LENGTH = 0x10000
+VOLUME_LENGTH = 0x8000
 
 PPIS = [f"00000002-0000-4000-8000-0000000000{i:02x}" for i in range(1, 6)]
 PROTOCOLS = [f"00000003-0000-4000-8000-0000000000{i:02x}" for i in range(1, 5)]
@@ -67,7 +67,7 @@ CAMPAIGNS: dict[str, Campaign] = {
     "pei-apriori": Campaign("pei", PEI, marks=marked("apriori"), absent=0.2),
     "pei-apriori-volumes": Campaign("pei", PEI, marks=marked("apriori", "all-apriori"), absent=0.2, volumes=3),
     "pei-shadow": Campaign("pei", PEI + ("shadow",) * 3),
-    "pei-shadow-callback": Campaign("pei", PEI + ("notify", "notify", "shadow"), kinds=("callback",), absent=0.5),
+    "pei-shadow-callback": Campaign("pei", PEI + ("notify", "shadow") * 3, kinds=("callback",), absent=0.5),
     "pei-s3": Campaign("pei", PEI + ("shadow", "shadow", "s3")),
     "pei-dispatch": Campaign("pei", PEI + NOTIFY, kinds=("dispatch",)),
     "pei-memory-dispatch": Campaign("pei", PEI + ("memory", "notify", "notify", "value", "peek"), kinds=("dispatch",)),
@@ -81,6 +81,9 @@ CAMPAIGNS: dict[str, Campaign] = {
     ),
     "pei-nested": Campaign("pei", PEI, marks=marked("nested"), absent=0.5),
     "pei-malformed": Campaign("pei", PEI, marks=marked("malformed"), absent=0.2),
+    "pei-states": Campaign("pei", PEI, marks=marked("states", "apriori")),
+    "pei-sums": Campaign("pei", PEI, marks=marked("sums", "apriori")),
+    "pei-apriori-files": Campaign("pei", PEI, marks=marked("apriori", "apriori-again"), absent=0.2),
     "dxe-plain": Campaign("dxe", DXE + ("locate", "wrong", "log", "dispatch")),
     "dxe-process": Campaign("dxe", ("install", "install", "process", "process", "log"), volumes=2, told=1, drivers=5),
     "dxe-uninstall": Campaign("dxe", ("install", "install", "on", "on", "locate", "locate", "uninstall", "uninstall", "uninstall", "wrong")),
@@ -92,9 +95,13 @@ CAMPAIGNS: dict[str, Campaign] = {
     "dxe-companions": Campaign("dxe", ("install",) * 3 + ("log",), marks=marked("companions"), by_expression=True, drivers=5),
     "dxe-requests": Campaign("dxe", ("install",) * 3 + ("schedule",) * 2, marks=marked("sor"), by_expression=True, drivers=5),
     "dxe-batch": Campaign("dxe", ("install",) * 3 + ("log",), by_expression=True, drivers=5),
+    "dxe-comings": Campaign("dxe", ("install",) * 3 + ("uninstall",) * 3, by_expression=True, drivers=6),
     "dxe-types": Campaign("dxe", ("install",) * 3 + ("log",), by_expression=True, drivers=5, types=("driver", "combined", "mm-dxe")),
     "dxe-nested": Campaign("dxe", ("install",) * 3 + ("log",), marks=marked("nested"), drivers=5),
     "dxe-malformed": Campaign("dxe", ("install",) * 3 + ("log",), marks=marked("malformed"), by_expression=True, drivers=5),
+    "dxe-states": Campaign("dxe", ("install",) * 3 + ("log", "process"), marks=marked("states"), volumes=2, drivers=6),
+    "dxe-sums": Campaign("dxe", ("install",) * 3 + ("log", "process"), marks=marked("sums"), volumes=2, drivers=6),
+    "dxe-apriori-files": Campaign("dxe", DXE + ("log",), drivers=6, marks=marked("apriori", "apriori-again"), by_expression=True),
     "dxe-all": Campaign(
         "dxe",
         DXE + ("notify", "notify", "uninstall", "reinstall", "locate", "locate", "log", "wrong", "process", "dispatch", "schedule"),
@@ -104,6 +111,9 @@ CAMPAIGNS: dict[str, Campaign] = {
         drivers=5,
     ),
 }
+
+# States of a file in a volume of erase polarity 1: sound ones, ones with bits beside the highest, dead ones, and ones of no meaning.
+STATES = ["f8", "f0", "f9", "fb", "f4", "e8", "ef", "fd", "fe", "fc", "fa", "ff", "d8", "de", "b8", "78", "38", "00"]
 
 # Expressions as bytes that neither reader takes: an operator without operands, a value left over, a GUID that is cut, an unknown
 # opcode, SOR in the midst, no END.
@@ -139,6 +149,17 @@ class Boot:
         if "malformed" in self.campaign.marks and self.chance(0.3):
             return [f"section {section} {self.draw.choice(MALFORMED)}"]
         return None
+
+    def file(self, line: str) -> list[str]:
+        """The line that begins a file, and what of its header is otherwise than it should be."""
+        lines, marks = [line], self.campaign.marks
+        if "states" in marks and self.chance(0.25):
+            lines.append(f"# state {self.draw.choice(STATES)}")
+        if "sums" in marks and self.chance(0.3):
+            lines.append("# sum counted")
+        if "sums" in marks and self.chance(0.12):
+            lines.append(f"# sum {self.draw.choice(['header', 'file'])}")
+        return lines
 
     # PEI.
 
@@ -196,6 +217,9 @@ class Boot:
         return [f"hob {kind} {self.draw.randbytes(length).hex()}"]
 
     def pei_pages(self, blocks: int, is_notified: bool) -> list[str]:
+        if is_notified:
+            # One that runs often would want more pages than a plan has.
+            return []
         return [f"pages r9 {self.draw.choice([0, 1, 4, 4, 6, 7, 9, 10, 11, 14])} {self.draw.choice([1, 1, 2, 3])}"]
 
     def pei_mode(self, blocks: int, is_notified: bool) -> list[str]:
@@ -235,7 +259,7 @@ class Boot:
         return lines + [f"ret {self.draw.choice(['Success', 'NotFound'])}"]
 
     def peim(self, number: int) -> list[str]:
-        lines = [f"file peim {module_name(number)}"]
+        lines = self.file(f"file peim {module_name(number)}")
         if self.draw.random() > self.campaign.absent:
             lines += self.malformed("1b") or ["depex pei " + self.expression(PPIS + ["memory-ppi"])]
         blocks = self.draw.choice([1, 2, 3]) if self.campaign.kinds else 1
@@ -247,8 +271,11 @@ class Boot:
     def a_priori(self, name: str, numbers: list[int], share: float) -> list[str]:
         if "all-apriori" not in self.campaign.marks and "apriori" not in self.campaign.marks or not self.chance(share):
             return []
-        drawn = self.draw.sample(numbers, self.draw.randint(1, len(numbers)))
-        return [f"file freeform {name}", "guids " + " ".join(module_name(i) for i in drawn)]
+        lines: list[str] = []
+        for _ in range(2 if "apriori-again" in self.campaign.marks and self.chance(0.6) else 1):
+            drawn = self.draw.sample(numbers, self.draw.randint(1, len(numbers)))
+            lines += self.file(f"file freeform {name}") + ["guids " + " ".join(module_name(i) for i in drawn)]
+        return lines
 
     def last_peims(self) -> list[str]:
         """The DXE IPL's PPI behind the move, and memory where no other module gives it."""
@@ -318,7 +345,9 @@ class Boot:
         return ["dispatch"]
 
     def dxe_process(self, blocks: int) -> list[str]:
-        return [f"set r12 {volume_base(self.draw.randrange(3)):#x}", "process r12"]
+        # Behind a volume's begin lies none.
+        base = volume_base(self.draw.randrange(3)) + (0x40 if self.chance(0.05) else 0)
+        return [f"set r12 {base:#x}", "process r12"]
 
     def dxe_log(self, blocks: int) -> list[str]:
         return [f"log n{self.draw.randint(0, 99)}"]
@@ -343,7 +372,8 @@ class Boot:
         return self.malformed("13") or ["depex dxe " + self.expression(PROTOCOLS)]
 
     def driver(self, number: int) -> list[str]:
-        lines = [f"file {self.draw.choice(self.campaign.types)} {module_name(number)}"] + self.driver_expression() + ["script dxe"]
+        lines = self.file(f"file {self.draw.choice(self.campaign.types)} {module_name(number)}")
+        lines += self.driver_expression() + ["script dxe"]
         blocks = self.draw.choice([1, 2, 3]) if "notify" in self.campaign.actions else 1
         for block in range(blocks):
             lines += self.dxe_block(blocks, block > 0)

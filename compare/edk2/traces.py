@@ -8,7 +8,6 @@ LISTS = ("ppi", "callback", "dispatch", "hob", "handle")
 COUNTS = ("ppis", "callbacks", "dispatches", "pendings", "pending", "hobs", "handles")
 SHOWN_ADDRESSES = ("pool", "desc", "hob", "pages", "memory")
 SHOWN_HOBS = {3, 4, 5, 6, 9}
-CUT_SHORT = {"result Spent", "result Deep"}
 
 
 @dataclass
@@ -18,9 +17,6 @@ class Trace:
     run: list[str] = field(default_factory=list)
     lists: list[str] = field(default_factory=list)
     asserts: list[str] = field(default_factory=list)
-
-    def is_cut_short(self) -> bool:
-        return any(line in CUT_SHORT for line in self.run)
 
 
 def number(word: str) -> str:
@@ -82,7 +78,8 @@ def read(lines: list[str], audit: list[str]) -> Trace:
         if not words or words[0] in COUNTS:
             continue
         if words[0] == "assert":
-            trace.asserts.append(line)
+            # Without the number of the source's line.
+            trace.asserts.append(" ".join([words[0], words[1].split(":")[0], *words[2:]]))
         elif words[0] in LISTS:
             shown = entry(words, modules)
             trace.lists += [shown] if shown else []
@@ -92,12 +89,28 @@ def read(lines: list[str], audit: list[str]) -> Trace:
     return trace
 
 
+def is_same(ours: str, theirs: str) -> bool:
+    """Whether two lines are one. A call of EDK2's in which the boot ended has no status."""
+    return ours == theirs or theirs.endswith(" unfinished") and ours.startswith(theirs.removesuffix("unfinished"))
+
+
+def without_unfinished(ours: Trace, theirs: Trace) -> list[str]:
+    """Our lists without the handles that EDK2 was still making when the boot ended: it has not told their numbers."""
+    pairs = zip(ours.run, theirs.run)
+    answers = [left.split()[3:] for left, right in pairs if right.endswith(" unfinished") and is_same(left, right)]
+    numbers = {int(answer[0], 16) for answer in answers if answer}
+    return [line for line in ours.lists if not (line.startswith("handle ") and int(line.split()[1]) in numbers)]
+
+
 def first_difference(ours: Trace, theirs: Trace) -> str | None:
     """The first line in which two traces differ, in the run and then in the lists; or what EDK2 asserted where no line does."""
-    for place, one, other in (("line", ours.run, theirs.run), ("lists", ours.lists, theirs.lists)):
+    lists = without_unfinished(ours, theirs)
+    for place, one, other in (("line", ours.run, theirs.run), ("lists", lists, theirs.lists)):
         for at in range(max(len(one), len(other))):
             left = one[at] if at < len(one) else "-"
             right = other[at] if at < len(other) else "-"
-            if left != right:
+            if not is_same(left, right):
                 return f"{place} {at + 1}: here `{left}`, EDK2 `{right}`"
-    return f"EDK2: {theirs.asserts[0]}" if theirs.asserts else None
+    if set(ours.asserts) != set(theirs.asserts):
+        return f"EDK2: {' '.join(sorted(set(theirs.asserts)))}"
+    return None

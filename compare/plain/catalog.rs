@@ -31,6 +31,8 @@ pub struct Mapped {
     pub modules_before: usize,
     /// The name of the file that it is nested in.
     pub file_name: Option<Guid>,
+    pub pei_asserts: bool,
+    pub dxe_refuses: bool,
 }
 
 #[derive(Default)]
@@ -120,6 +122,8 @@ impl<'a> Catalog<'a> {
             nested_in,
             modules_before: nested_in.map_or(0, |parent| self.found[parent].len()),
             file_name,
+            pei_asserts: volume.pei_asserts,
+            dxe_refuses: volume.dxe_refuses,
         });
         self.found.push(Vec::new());
         let mut lists: [Option<&[u8]>; 2] = [None, None];
@@ -144,7 +148,8 @@ impl<'a> Catalog<'a> {
                     }
                 }
                 0x02 => {
-                    if let Some(which) = [PEI_APRIORI, DXE_APRIORI].iter().position(|name| *name == file.name).filter(|which| lists[*which].is_none()) {
+                    let which = [PEI_APRIORI, DXE_APRIORI].iter().position(|name| *name == file.name);
+                    if let Some(which) = which.filter(|which| file.found[*which] && lists[*which].is_none()) {
                         let sections = read_sections(body).map_err(fault_in)?;
                         let list = sections.iter().find(|section| section.kind == 0x19).map_or(&body[..0], |section| &body[section.begin..section.end]);
                         lists[which] = Some(list);
@@ -181,8 +186,8 @@ impl<'a> Catalog<'a> {
             volume,
             name: file.name,
             kind: file.kind,
-            pei: part([0x06, 0x08].contains(&file.kind), expr(0x1B, Phase::Pei), pei),
-            dxe: part(file.kind != 0x06, expr(0x13, Phase::Dxe), dxe),
+            pei: part([0x06, 0x08].contains(&file.kind) && file.found[0], expr(0x1B, Phase::Pei), pei),
+            dxe: part(file.kind != 0x06 && file.found[1], expr(0x13, Phase::Dxe), dxe),
         })
     }
 

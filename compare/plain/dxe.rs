@@ -165,7 +165,7 @@ impl<'a> Dxe<'a> {
 
     fn discover(&mut self, volume: usize, out: &mut Out) -> Result<(), Halt> {
         for volume in self.catalog.tree(volume) {
-            if std::mem::replace(&mut self.discovered[volume], true) {
+            if std::mem::replace(&mut self.discovered[volume], true) || self.catalog.volumes[volume].dxe_refuses {
                 continue;
             }
             put!(out, "dxe volume {volume}")?;
@@ -427,6 +427,10 @@ impl<'a> Dxe<'a> {
                 frame.number(*base).and_then(|base| self.catalog.volume_at(base).ok_or(status_of_no_volume())).and_then(|found| {
                     if self.discovered[found] {
                         return Err(Status::AlreadyStarted);
+                    }
+                    if self.catalog.volumes[found].dxe_refuses {
+                        self.discovered[found] = true;
+                        return Err(Status::VolumeCorrupted);
                     }
                     volume = Some(found);
                     Ok(Shown::Nothing)

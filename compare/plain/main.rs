@@ -19,6 +19,7 @@ mod store;
 mod text;
 mod volume;
 mod waiting;
+mod walk;
 
 use bytes::Hex;
 use catalog::{catalog, Catalog, Part};

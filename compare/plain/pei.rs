@@ -46,6 +46,7 @@ pub struct Pei<'a> {
     by_name: HashMap<(usize, Guid), usize>,
     /// By EDK2's rule: the places whose second starts come next.
     second: VecDeque<usize>,
+    second_begun: bool,
 }
 
 /// The boot mode of a resume from S3.
@@ -69,6 +70,7 @@ impl<'a> Pei<'a> {
             core_sweep: None,
             by_name,
             second: VecDeque::new(),
+            second_begun: false,
         }
     }
 
@@ -129,11 +131,16 @@ impl<'a> Pei<'a> {
 
     /// EDK2 starts all that registered right behind the move, and one that registers later right behind its first start.
     fn next_second(&mut self) -> Option<usize> {
-        if !rules().shadow_at_once || !self.store.moved || self.is_without_second_starts() {
+        if !rules().shadow_at_once || !self.store.moved {
             self.second.clear();
             return None;
         }
-        let last = self.starts.1.filter(|module| self.states[*module] == State::Registered);
+        // The boot mode counts where the second starts begin, and then where one comes behind its first start.
+        if !std::mem::replace(&mut self.second_begun, true) && self.is_without_second_starts() {
+            self.second.clear();
+        }
+        let waits = |module: &usize| self.states[*module] == State::Registered && !self.is_without_second_starts();
+        let last = self.starts.1.filter(waits);
         self.second.pop_front().or(last.map(|module| self.waiting.place_of[&module]))
     }
 
@@ -149,6 +156,9 @@ impl<'a> Pei<'a> {
                 continue;
             }
             put!(out, "report {volume}")?;
+            if self.catalog.volumes[volume].pei_asserts {
+                put!(out, "assert FwVol.c ((BOOLEAN)(0==1))")?;
+            }
             for number in self.parts_of(volume) {
                 let expr = self.catalog.modules.get(number).map(|module| &module.pei.as_ref().unwrap().expr);
                 let place = self.waiting.push(number, expr.into_iter().flat_map(|expr| expr.pushed()));
@@ -346,6 +356,9 @@ impl<'a> Pei<'a> {
     fn serve(&mut self, frame: &mut Frame<'a, Sweep>, action: &Action, name: &str, out: &mut Out) -> Result<Option<(Sweep, usize, usize)>, Halt> {
         let mut swept = None;
         let by = frame.module as u32;
+        if rules().memory_again && self.store.moved && matches!(action, Action::Memory(..)) {
+            put!(out, "assert MemoryServices.c ((BOOLEAN)(0==1))")?;
+        }
         let answer = match action {
             Action::Addr(to, from, offset) => {
                 let place = match frame.regs[*from as usize] {

@@ -12,6 +12,8 @@ pub struct Rules {
     pub shadow_current_alone: bool,
     /// All second starts come right behind the move, and later ones right behind the first start.
     pub shadow_at_once: bool,
+    /// A second `memory` is no fault: before the move the last one counts, behind it none does, and the core asserts.
+    pub memory_again: bool,
     /// With boot mode 0x11 there are no second starts.
     pub shadow_not_on_s3: bool,
     /// Dispatch notifications are matched when no PEIM runs, notification by notification; a reinstall makes none.
@@ -30,6 +32,8 @@ pub struct Rules {
     pub nested_in_turn: bool,
     /// `process` of an address without a volume is VolumeCorrupted.
     pub process_none_corrupted: bool,
+    /// A wrong sum, or a State with another highest bit, ends PEI's search for files there, and DXE refuses the volume.
+    pub file_walk: bool,
 }
 
 static RULES: OnceLock<Rules> = OnceLock::new();
@@ -47,6 +51,7 @@ pub fn take(words: &mut Vec<String>) -> Result<(), String> {
             "notify-behind-the-running" => &mut rules.notify_behind_the_running,
             "shadow-current-alone" => &mut rules.shadow_current_alone,
             "shadow-at-once" => &mut rules.shadow_at_once,
+            "memory-again" => &mut rules.memory_again,
             "shadow-not-on-s3" => &mut rules.shadow_not_on_s3,
             "dispatch-by-lists" => &mut rules.dispatch_by_lists,
             "callbacks-by-notification" => &mut rules.callbacks_by_notification,
@@ -56,6 +61,7 @@ pub fn take(words: &mut Vec<String>) -> Result<(), String> {
             "types-in-turn" => &mut rules.types_in_turn,
             "nested-in-turn" => &mut rules.nested_in_turn,
             "process-none-corrupted" => &mut rules.process_none_corrupted,
+            "file-walk" => &mut rules.file_walk,
             _ => return Err(word),
         };
         *rule = true;

@@ -105,6 +105,8 @@ struct Walk {
     ppi: usize,
     /// What counts as seen when the walk ends.
     then: (usize, usize),
+    /// The last walk was one of new PPIs: these go on until there are none.
+    is_of_ppis: bool,
 }
 
 impl Walk {
@@ -126,10 +128,12 @@ impl Walk {
 
     /// Begins the next walk; false where nothing is new.
     fn begin(&mut self, ppis: usize, notifications: usize) -> bool {
-        if self.seen_notifications < notifications {
+        let (is_notified, is_installed) = (self.seen_notifications < notifications, self.seen_ppis < ppis);
+        self.is_of_ppis = is_installed && (self.is_of_ppis || !is_notified);
+        if is_notified && !self.is_of_ppis {
             (self.ppis, self.notifications) = ((0, self.seen_ppis), (self.seen_notifications, notifications));
             self.then = (self.seen_ppis, notifications);
-        } else if self.seen_ppis < ppis {
+        } else if is_installed {
             (self.ppis, self.notifications) = ((self.seen_ppis, ppis), (0, self.seen_notifications));
             self.then = (ppis, self.seen_notifications);
         } else {
@@ -486,7 +490,11 @@ impl Store {
     }
 
     pub fn plan_memory(&mut self, begin: u64, len: u64) -> Result<(), Status> {
-        let sound = begin % PAGE == 0 && len % PAGE == 0 && self.ram.has(begin, len) && len >= self.temp.len && self.planned.is_none();
+        if rules().memory_again && self.moved {
+            return Ok(());
+        }
+        let is_first = self.planned.is_none() || rules().memory_again;
+        let sound = begin % PAGE == 0 && len % PAGE == 0 && self.ram.has(begin, len) && len >= self.temp.len && is_first;
         if !sound {
             return Err(Status::InvalidParameter);
         }

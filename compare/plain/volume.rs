@@ -1,6 +1,8 @@
 //! Firmware volumes, their files, and the sections of a file (docs/FORMATS.md, "Firmware volume", "Files", "Sections").
 use crate::bytes::*;
 use crate::guids::{FFS2, FFS3};
+use crate::rules::rules;
+use crate::walk::{walk, Walks};
 
 /// A fault's cause, and its offset in the bytes that were read.
 #[derive(Debug)]
@@ -12,18 +14,23 @@ pub struct File {
     pub kind: u8,
     pub begin: usize,
     pub end: usize,
+    /// Whether PEI and DXE find it.
+    pub found: [bool; 2],
 }
 
 pub struct Volume {
     pub length: u64,
     pub name: Option<Guid>,
     pub files: Vec<File>,
+    /// By EDK2's rule: PEI asserts where its search ends, and DXE refuses the volume.
+    pub pei_asserts: bool,
+    pub dxe_refuses: bool,
 }
 
 const MOST_FILES: usize = 16_384;
 const PAD: u8 = 0xF0;
 
-fn sum8(bytes: &[u8]) -> u8 {
+pub fn sum8(bytes: &[u8]) -> u8 {
     bytes.iter().fold(0, |sum, byte| sum.wrapping_add(*byte))
 }
 
@@ -56,8 +63,13 @@ pub fn read_volume(bytes: &[u8]) -> Result<Volume, Fault> {
     let extended = u16_at(bytes, 52) as usize;
     let (name, first) = if extended == 0 { (None, header) } else { extended_header(bytes, header, extended)? };
     let erased = if u32_at(bytes, 44) & 0x800 != 0 { 0xFF } else { 0 };
-    let files = read_files(bytes, round_up(first, 8), erased, system == FFS3)?;
-    Ok(Volume { length, name, files })
+    let first = round_up(first, 8);
+    let Walks { files, pei_asserts, dxe_refuses } = if rules().file_walk {
+        walk(bytes, first, erased)
+    } else {
+        Walks { files: read_files(bytes, first, erased, system == FFS3)?, pei_asserts: false, dxe_refuses: false }
+    };
+    Ok(Volume { length, name, files, pei_asserts, dxe_refuses })
 }
 
 /// A volume whose FvLength is below a header's has a HeaderLength above it.
@@ -101,7 +113,7 @@ fn read_files(bytes: &[u8], mut at: usize, erased: u8, ffs3: bool) -> Result<Vec
                 if files.len() == MOST_FILES {
                     return Err(Fault("TooManyFiles", at));
                 }
-                files.push(File { at, name: Guid::at(bytes, at), kind: bytes[at + 18], begin, end });
+                files.push(File { at, name: Guid::at(bytes, at), kind: bytes[at + 18], begin, end, found: [true; 2] });
             }
         }
         at = round_up(end, 8);

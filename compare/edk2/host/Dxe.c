@@ -1,8 +1,8 @@
 /** @file
-  EDK2's DXE handle database, events, dispatcher, volume drivers and section reader over the HOB list that the PEI host left.
-  CoreLoadImage and CoreStartImage are the interpreter below.
+  EDK2's DXE handle database, events, dispatcher, volume drivers and section reader over the HOB
+  list that the PEI host left. CoreLoadImage and CoreStartImage are the interpreter below.
 
-  usage: edk2-dxe PLAN AUDIT RAM-FILE HOB-LIST
+  usage: edk2-dxe PLAN AUDIT RAM-FILE HOB-LIST FUEL
 **/
 #include "DxeMain.h"
 #include "Handle.h"
@@ -62,8 +62,6 @@ static UINTN       mVolumesSeen;
 VOID *EFIAPI AllocatePool (UINTN Length) { return malloc (Length + 16); }
 VOID *EFIAPI AllocateZeroPool (UINTN Length) { return calloc (1, Length + 16); }
 VOID *EFIAPI AllocateRuntimeZeroPool (UINTN Length) { return calloc (1, Length + 16); }
-VOID *EFIAPI AllocateCopyPool (UINTN Length, CONST VOID *Buffer) { return memcpy (malloc (Length + 16), Buffer, Length); }
-VOID *EFIAPI AllocateAlignedPages (UINTN Pages, UINTN Alignment) { return aligned_alloc (MAX (Alignment, EFI_PAGE_SIZE), Pages * EFI_PAGE_SIZE); }
 VOID EFIAPI FreeAlignedPages (VOID *Buffer, UINTN Pages) { }
 VOID EFIAPI FreePool (VOID *Buffer) { }
 EFI_STATUS EFIAPI CoreFreePool (VOID *Buffer) { return EFI_SUCCESS; }
@@ -71,7 +69,32 @@ VOID CoreInitializeTimer (VOID) { }
 VOID CoreUpdateDebugTableCrc32 (VOID) { }
 VOID CalculateEfiHdrCrc (EFI_TABLE_HEADER *Header) { }
 VOID EFIAPI EfiEventEmptyFunction (EFI_EVENT Event, VOID *Context) { }
-INTN EFIAPI HighBitSet64 (UINT64 Operand) { return Operand != 0 ? 63 - __builtin_clzll (Operand) : -1; }
+
+VOID *EFIAPI
+AllocateCopyPool (
+  UINTN       Length,
+  CONST VOID  *Buffer
+  )
+{
+  return memcpy (malloc (Length + 16), Buffer, Length);
+}
+
+VOID *EFIAPI
+AllocateAlignedPages (
+  UINTN  Pages,
+  UINTN  Alignment
+  )
+{
+  return aligned_alloc (MAX (Alignment, EFI_PAGE_SIZE), Pages * EFI_PAGE_SIZE);
+}
+
+INTN EFIAPI
+HighBitSet64 (
+  UINT64  Operand
+  )
+{
+  return Operand != 0 ? 63 - __builtin_clzll (Operand) : -1;
+}
 
 EFI_STATUS EFIAPI
 CoreAllocatePool (
@@ -126,14 +149,23 @@ EfiCreateProtocolNotifyEvent (
 }
 
 //
-// EDK2 keeps a flag for each architectural protocol, which nothing clears, and calls through the interfaces at once. Scripts install
-// numbers, so here the protocols are asked for.
+// EDK2 keeps a flag for each architectural protocol, which nothing clears, and calls through the
+// interfaces at once. Scripts install numbers, so here the protocols are asked for.
 //
 static EFI_GUID  *CONST  mArchitectural[] = {
-  &gEfiSecurityArchProtocolGuid, &gEfiCpuArchProtocolGuid, &gEfiMetronomeArchProtocolGuid, &gEfiTimerArchProtocolGuid,
-  &gEfiBdsArchProtocolGuid, &gEfiWatchdogTimerArchProtocolGuid, &gEfiRuntimeArchProtocolGuid, &gEfiVariableArchProtocolGuid,
-  &gEfiVariableWriteArchProtocolGuid, &gEfiCapsuleArchProtocolGuid, &gEfiMonotonicCounterArchProtocolGuid,
-  &gEfiResetArchProtocolGuid, &gEfiRealTimeClockArchProtocolGuid
+  &gEfiSecurityArchProtocolGuid,
+  &gEfiCpuArchProtocolGuid,
+  &gEfiMetronomeArchProtocolGuid,
+  &gEfiTimerArchProtocolGuid,
+  &gEfiBdsArchProtocolGuid,
+  &gEfiWatchdogTimerArchProtocolGuid,
+  &gEfiRuntimeArchProtocolGuid,
+  &gEfiVariableArchProtocolGuid,
+  &gEfiVariableWriteArchProtocolGuid,
+  &gEfiCapsuleArchProtocolGuid,
+  &gEfiMonotonicCounterArchProtocolGuid,
+  &gEfiResetArchProtocolGuid,
+  &gEfiRealTimeClockArchProtocolGuid
 };
 
 EFI_STATUS
@@ -157,7 +189,8 @@ CoreAllEfiServicesAvailable (
 // Volumes.
 //
 
-/** The number of a volume where it lies, or of the one with the same bytes: the core copies nested volumes. **/
+/** The number of a volume where it lies, or of the one with the same bytes, since the core copies
+    nested ones. **/
 static int
 VolumeLike (
   UINT64  Address
@@ -185,13 +218,29 @@ VolumeOf (
 {
   EFI_FIRMWARE_VOLUME_BLOCK_PROTOCOL  *Block;
   EFI_PHYSICAL_ADDRESS                Address;
+  EFI_STATUS                          Status;
 
-  if (EFI_ERROR (CoreHandleProtocol (Handle, &gEfiFirmwareVolumeBlockProtocolGuid, (VOID **)&Block))) {
+  Status = CoreHandleProtocol (Handle, &gEfiFirmwareVolumeBlockProtocolGuid, (VOID **)&Block);
+  if (EFI_ERROR (Status)) {
     return -1;
   }
 
   Block->GetPhysicalAddress (Block, &Address);
   return VolumeLike (Address);
+}
+
+/** The handles with a protocol, and how many they are: none where there are none. **/
+static UINTN
+HandlesOf (
+  EFI_GUID    *Protocol,
+  EFI_HANDLE  **Handles
+  )
+{
+  UINTN       Count;
+  EFI_STATUS  Status;
+
+  Status = CoreLocateHandleBuffer (ByProtocol, Protocol, NULL, &Count, Handles);
+  return EFI_ERROR (Status) ? 0 : Count;
 }
 
 /** Tells of the volumes that the core has discovered since. **/
@@ -203,10 +252,7 @@ PrintVolumes (
   UINTN       Count;
   EFI_HANDLE  *Handles;
 
-  if (EFI_ERROR (CoreLocateHandleBuffer (ByProtocol, &gEfiFirmwareVolume2ProtocolGuid, NULL, &Count, &Handles))) {
-    return;
-  }
-
+  Count = HandlesOf (&gEfiFirmwareVolume2ProtocolGuid, &Handles);
   for ( ; mVolumesSeen < Count; mVolumesSeen++) {
     PrintLine ("dxe volume %d", VolumeOf (Handles[mVolumesSeen]));
   }
@@ -272,7 +318,8 @@ Peek (
   }
 }
 
-/** A protocol as it is installed: the core calls at once through the two of a volume, so these get another name. **/
+/** A protocol as it is installed: the core calls at once through a volume's two, which get another
+    name. **/
 static EFI_GUID
 InstalledName (
   CONST UINT8  *Bytes
@@ -281,7 +328,8 @@ InstalledName (
   EFI_GUID  Name;
 
   Name = *(CONST EFI_GUID *)Bytes;
-  if (CompareGuid (&Name, &gEfiFirmwareVolumeBlockProtocolGuid) || CompareGuid (&Name, &gEfiFirmwareVolume2ProtocolGuid)) {
+  if (CompareGuid (&Name, &gEfiFirmwareVolumeBlockProtocolGuid)
+      || CompareGuid (&Name, &gEfiFirmwareVolume2ProtocolGuid)) {
     Name.Data1 ^= 1;
   }
 
@@ -300,11 +348,16 @@ InstallOnNew (
   EFI_STATUS  Status;
 
   // Notifications that run within the call make handles behind this one.
-  Line             = ReserveLine ();
-  Number           = mHandleCount++;
-  mHandle[Number]  = NULL;
-  Status           = CoreInstallProtocolInterface (&mHandle[Number], Protocol, EFI_NATIVE_INTERFACE, Interface);
-  Frame->Last      = Status;
+  Line            = ReserveLine ("call install");
+  Number          = mHandleCount++;
+  mHandle[Number] = NULL;
+  Status          = CoreInstallProtocolInterface (
+                      &mHandle[Number],
+                      Protocol,
+                      EFI_NATIVE_INTERFACE,
+                      Interface
+                      );
+  Frame->Last     = Status;
   if (EFI_ERROR (Status)) {
     FillLine (Line, "call install %s", StatusName (Status));
     return;
@@ -337,9 +390,14 @@ Install (
   } else if (IsNew) {
     InstallOnNew (Frame, &Protocol, (VOID *)Interface->Value);
   } else {
-    Line        = ReserveLine ();
+    Line        = ReserveLine ("call install");
     Handle      = (EFI_HANDLE)Register->Value;
-    Frame->Last = CoreInstallProtocolInterface (&Handle, &Protocol, EFI_NATIVE_INTERFACE, (VOID *)Interface->Value);
+    Frame->Last = CoreInstallProtocolInterface (
+                    &Handle,
+                    &Protocol,
+                    EFI_NATIVE_INTERFACE,
+                    (VOID *)Interface->Value
+                    );
     FillLine (Line, "call install %s", StatusName (Frame->Last));
   }
 }
@@ -357,12 +415,14 @@ Reinstall (
   Handle = &Frame->Register[Frame->Action[1]];
   Old    = &Frame->Register[Frame->Action[18]];
   New    = &Frame->Register[Frame->Action[19]];
-  if (Handle->Kind != RegisterHandle || Old->Kind != RegisterNumber || New->Kind != RegisterNumber) {
+  if (Handle->Kind != RegisterHandle
+      || Old->Kind != RegisterNumber
+      || New->Kind != RegisterNumber) {
     EndCall (Frame, "reinstall", EFI_INVALID_PARAMETER);
     return;
   }
 
-  Line        = ReserveLine ();
+  Line        = ReserveLine ("call reinstall");
   Frame->Last = CoreReinstallProtocolInterface (
                   (EFI_HANDLE)Handle->Value,
                   (EFI_GUID *)(Frame->Action + 2),
@@ -426,6 +486,21 @@ RunNotified (
   VOID       *Context
   );
 
+/** The next handle that has come since the notification was asked last; FALSE where none is. **/
+static BOOLEAN
+HasCome (
+  NOTIFICATION  *Notification,
+  EFI_HANDLE    *Handle
+  )
+{
+  UINTN       Length;
+  EFI_STATUS  Status;
+
+  Length = sizeof *Handle;
+  Status = CoreLocateHandle (ByRegisterNotify, NULL, Notification->Registration, &Length, Handle);
+  return !EFI_ERROR (Status);
+}
+
 static VOID
 Notify (
   FRAME  *Frame
@@ -434,7 +509,6 @@ Notify (
   NOTIFICATION  *Notification;
   EFI_EVENT     Event;
   EFI_HANDLE    Handle;
-  UINTN         Length;
   EFI_STATUS    Status;
 
   Notification         = calloc (1, sizeof *Notification);
@@ -443,14 +517,15 @@ Notify (
   CopyGuid (&Notification->Protocol, (CONST EFI_GUID *)(Frame->Action + 1));
   Status = CoreCreateEvent (EVT_NOTIFY_SIGNAL, TPL_CALLBACK, RunNotified, Notification, &Event);
   if (!EFI_ERROR (Status)) {
-    Status = CoreRegisterProtocolNotify (&Notification->Protocol, Event, &Notification->Registration);
+    Status = CoreRegisterProtocolNotify (
+               &Notification->Protocol,
+               Event,
+               &Notification->Registration
+               );
   }
 
   // What is there already is passed over, as by drivers that wait for what comes.
-  if (!EFI_ERROR (Status)) {
-    do {
-      Length = sizeof Handle;
-    } while (!EFI_ERROR (CoreLocateHandle (ByRegisterNotify, NULL, Notification->Registration, &Length, &Handle)));
+  while (!EFI_ERROR (Status) && HasCome (Notification, &Handle)) {
   }
 
   EndCall (Frame, "notify", Status);
@@ -467,10 +542,9 @@ Schedule (
   EFI_STATUS  Status;
 
   Status = EFI_NOT_FOUND;
-  if (!EFI_ERROR (CoreLocateHandleBuffer (ByProtocol, &gEfiFirmwareVolume2ProtocolGuid, NULL, &Count, &Handles))) {
-    for (Index = 0; Index < Count && EFI_ERROR (Status); Index++) {
-      Status = CoreSchedule (Handles[Index], (EFI_GUID *)(Frame->Action + 1));
-    }
+  Count  = HandlesOf (&gEfiFirmwareVolume2ProtocolGuid, &Handles);
+  for (Index = 0; Index < Count && EFI_ERROR (Status); Index++) {
+    Status = CoreSchedule (Handles[Index], (EFI_GUID *)(Frame->Action + 1));
   }
 
   EndCall (Frame, "schedule", Status);
@@ -570,7 +644,6 @@ RunScript (
   UINTN  Block
   )
 {
-  EnterFrame ();
   if (gModule[Frame->Module].Script == NULL) {
     PrintLine ("end Success");
   } else {
@@ -592,17 +665,12 @@ RunNotified (
 {
   NOTIFICATION  *Notification;
   EFI_HANDLE    Handle;
-  UINTN         Length;
   VOID          *Interface;
   FRAME         Frame;
 
   Notification = Context;
-  for ( ; ; ) {
-    Length = sizeof Handle;
-    if (EFI_ERROR (CoreLocateHandle (ByRegisterNotify, NULL, Notification->Registration, &Length, &Handle))) {
-      return;
-    }
-
+  while (HasCome (Notification, &Handle)) {
+    EnterFrame ();
     Interface = NULL;
     CoreHandleProtocol (Handle, &Notification->Protocol, &Interface);
     PrintLine (
@@ -648,17 +716,25 @@ FindScript (
   EFI_CORE_DRIVER_ENTRY  *Driver
   )
 {
-  UINTN   Instance;
-  VOID    *Section;
-  UINTN   Length;
-  UINT32  Authentication;
+  UINTN       Instance;
+  VOID        *Section;
+  UINTN       Length;
+  UINT32      Authentication;
+  EFI_STATUS  Status;
 
   for (Instance = 0; ; Instance++) {
     Section = NULL;
     Length  = 0;
-    if (EFI_ERROR (
-          Driver->Fv->ReadSection (Driver->Fv, &Driver->FileName, EFI_SECTION_RAW, Instance, &Section, &Length, &Authentication)
-          )) {
+    Status  = Driver->Fv->ReadSection (
+                            Driver->Fv,
+                            &Driver->FileName,
+                            EFI_SECTION_RAW,
+                            Instance,
+                            &Section,
+                            &Length,
+                            &Authentication
+                            );
+    if (EFI_ERROR (Status)) {
       return NULL;
     }
 
@@ -681,7 +757,9 @@ CoreStartImage (
   MODULE                 *Module;
   FRAME                  Frame;
 
-  for (Link = mDiscoveredList.ForwardLink; DriverOf (Link)->ImageHandle != Image; Link = Link->ForwardLink) {
+  Link = mDiscoveredList.ForwardLink;
+  while (DriverOf (Link)->ImageHandle != Image) {
+    Link = Link->ForwardLink;
   }
 
   Driver = DriverOf (Link);
@@ -691,7 +769,13 @@ CoreStartImage (
     Module->Script = FindScript (Driver);
   }
 
-  PrintLine ("dxe start %d %s%s", Module->Volume, GuidText (&Module->Name), Module->Starts++ != 0 ? " again" : "");
+  EnterFrame ();
+  PrintLine (
+    "dxe start %d %s%s",
+    Module->Volume,
+    GuidText (&Module->Name),
+    Module->Starts++ != 0 ? " again" : ""
+    );
   Frame = (FRAME){ .Module = Number };
   RunScript (&Frame, 0);
   return EFI_SUCCESS;
@@ -756,16 +840,17 @@ PrintHandles (
 
 VOID
 FinishBoot (
-  VOID
+  CONST CHAR8  *Result
   )
 {
-  if (!LastLineBegins ("result")) {
+  if (Result == NULL) {
     PrintLine ("dxe stop");
     PrintWaiting ();
-    PrintHandles ();
-    PrintLine ("result Done");
+    Result = "Done";
   }
 
+  PrintHandles ();
+  PrintLine ("result %s", Result);
   FlushLines ();
   exit (0);
 }
@@ -777,14 +862,17 @@ main (
   )
 {
   static EFI_LOADED_IMAGE_PROTOCOL  CoreImage;
-  static EFI_DEVICE_PATH_PROTOCOL   EndOfPath = { END_DEVICE_PATH_TYPE, END_ENTIRE_DEVICE_PATH_SUBTYPE, { 4, 0 } };
+  static EFI_DEVICE_PATH_PROTOCOL   EndOfPath = {
+    END_DEVICE_PATH_TYPE, END_ENTIRE_DEVICE_PATH_SUBTYPE, { 4, 0 }
+  };
 
-  if (Count < 5) {
-    Fail ("usage: edk2-dxe PLAN AUDIT RAM-FILE HOB-LIST");
+  if (Count < 6) {
+    Fail ("usage: edk2-dxe PLAN AUDIT RAM-FILE HOB-LIST FUEL");
   }
 
   ReadPlan (Words[1], Words[2], FALSE, atoi (Words[3]));
   gHobList            = (VOID *)strtoull (Words[4], NULL, 0);
+  gPlan.Fuel          = strtoull (Words[5], NULL, 0);
   CoreImage.FilePath  = &EndOfPath;
   gDxeCoreLoadedImage = &CoreImage;
   InitializeListHead (&gRuntime->EventHead);
@@ -795,5 +883,5 @@ main (
   CoreInitializeDispatcher ();
   PrintVolumes ();
   CoreDispatcher ();
-  FinishBoot ();
+  FinishBoot (NULL);
 }

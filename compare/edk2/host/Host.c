@@ -6,7 +6,9 @@
 #define MOST_LINES        400000
 #define VOLUME_GRANULE    0x10000ULL
 #define HOST_PAGE         0x1000ULL
-/// EFI_FVB2_READ_ENABLED_CAP, READ_STATUS and MEMORY_MAPPED: EDK2's DXE core reads no volume without READ_STATUS.
+/// What a boot may take of the processor: a core that runs on has an endless loop.
+#define MOST_SECONDS      2
+/// EFI_FVB2_READ_ENABLED_CAP, READ_STATUS and MEMORY_MAPPED.
 #define READ_ATTRIBUTES   0x406
 #define READ_STATUS       0x004
 
@@ -32,8 +34,8 @@ Fail (
   exit (2);
 }
 
-UINTN
-ReserveLine (
+static UINTN
+NextLine (
   VOID
   )
 {
@@ -41,7 +43,6 @@ ReserveLine (
     Fail ("more than %d lines", MOST_LINES);
   }
 
-  mLine[mLineCount] = NULL;
   return mLineCount++;
 }
 
@@ -80,15 +81,16 @@ PrintLine (
   va_list  List;
 
   va_start (List, Format);
-  FillLineV (ReserveLine (), Format, List);
+  FillLineV (NextLine (), Format, List);
 }
 
-BOOLEAN
-LastLineBegins (
-  CONST CHAR8  *Text
+UINTN
+ReserveLine (
+  CONST CHAR8  *Call
   )
 {
-  return mLineCount != 0 && mLine[mLineCount - 1] != NULL && strncmp (mLine[mLineCount - 1], Text, strlen (Text)) == 0;
+  PrintLine ("%s unfinished", Call);
+  return mLineCount - 1;
 }
 
 VOID
@@ -101,7 +103,7 @@ DropLines (
 
   Kept = 0;
   for (From = 0; From < mLineCount; From++) {
-    if (mLine[From] == NULL || strncmp (mLine[From], Text, strlen (Text)) != 0) {
+    if (strncmp (mLine[From], Text, strlen (Text)) != 0) {
       mLine[Kept++] = mLine[From];
     }
   }
@@ -117,14 +119,14 @@ FlushLines (
   UINTN  Line;
 
   for (Line = 0; Line < mLineCount; Line++) {
-    puts (mLine[Line] != NULL ? mLine[Line] : "call unfinished");
+    puts (mLine[Line]);
   }
 
   fflush (stdout);
   mLineCount = 0;
 }
 
-/** A fault of the processor in a core or in the host: what was printed, and where it was. **/
+/** A fault of the processor in a core, or a core without an end: what was printed, and which. **/
 static VOID
 Crashed (
   int        Signal,
@@ -133,7 +135,12 @@ Crashed (
   )
 {
   FlushLines ();
-  printf ("crash signal %d at %p\n", Signal, Info->si_addr);
+  if (Signal == SIGVTALRM) {
+    printf ("no end\n");
+  } else {
+    printf ("crash signal %d at %p\n", Signal, Info->si_addr);
+  }
+
   fflush (stdout);
   _exit (3);
 }
@@ -144,8 +151,9 @@ CatchCrashes (
   )
 {
   static CHAR8      Stack[65536];
-  static CONST int  Signals[] = { SIGSEGV, SIGBUS, SIGFPE, SIGILL, SIGABRT };
+  static CONST int  Signals[] = { SIGSEGV, SIGBUS, SIGFPE, SIGILL, SIGABRT, SIGVTALRM };
   stack_t           Alternate = { Stack, 0, sizeof Stack };
+  struct itimerval  Limit     = { { 0, 0 }, { MOST_SECONDS, 0 } };
   struct sigaction  Action;
   UINTN             Index;
 
@@ -156,6 +164,8 @@ CatchCrashes (
   for (Index = 0; Index < sizeof Signals / sizeof Signals[0]; Index++) {
     sigaction (Signals[Index], &Action, NULL);
   }
+
+  setitimer (ITIMER_VIRTUAL, &Limit, NULL);
 }
 
 /** Maps memory at an address of the plan. **/
@@ -169,7 +179,8 @@ MapAt (
   int   Flags;
   VOID  *Mapped;
 
-  Flags  = MAP_FIXED_NOREPLACE | MAP_NORESERVE | (File < 0 ? MAP_PRIVATE | MAP_ANONYMOUS : MAP_SHARED);
+  Flags  = MAP_FIXED_NOREPLACE | MAP_NORESERVE;
+  Flags |= File < 0 ? MAP_PRIVATE | MAP_ANONYMOUS : MAP_SHARED;
   Mapped = mmap ((VOID *)Base, Length, PROT_READ | PROT_WRITE, Flags, File, 0);
   if (Mapped != (VOID *)Base) {
     Fail ("no memory can be mapped at 0x%llx", Base);
@@ -255,7 +266,8 @@ ReadLines (
   fclose (File);
 }
 
-/** Gives a volume the attributes without which EDK2's DXE core reads none of it, and its sum again. AS_BUILT leaves volumes as they are. **/
+/** Gives a volume the attributes without which EDK2's DXE core reads none of it, and its sum
+    again. AS_BUILT leaves volumes as they are. **/
 static VOID
 LetBeRead (
   EFI_FIRMWARE_VOLUME_HEADER  *Header
@@ -332,7 +344,9 @@ IsInRange (
   UINT64  Length
   )
 {
-  return Address >= Range.Base && Length <= Range.Length && Address - Range.Base <= Range.Length - Length;
+  return Address >= Range.Base
+         && Length <= Range.Length
+         && Address - Range.Base <= Range.Length - Length;
 }
 
 BOOLEAN
@@ -413,7 +427,8 @@ ScriptStatusName (
   )
 {
   static CONST CHAR8  *Names[] = {
-    "Success", "InvalidParameter", "NotFound", "OutOfResources", "NotAvailableYet", "AlreadyStarted", "AccessDenied"
+    "Success",         "InvalidParameter", "NotFound",    "OutOfResources",
+    "NotAvailableYet", "AlreadyStarted",   "AccessDenied"
   };
 
   return Names[Code];
@@ -464,8 +479,7 @@ TakeFuel (
   )
 {
   if (gPlan.Fuel == 0) {
-    PrintLine ("result Spent");
-    FinishBoot ();
+    FinishBoot ("Spent");
   }
 
   gPlan.Fuel--;
@@ -478,7 +492,6 @@ EnterFrame (
 {
   gFrames++;
   if (gFrames > MOST_FRAMES) {
-    PrintLine ("result Deep");
-    FinishBoot ();
+    FinishBoot ("Deep");
   }
 }

@@ -1,5 +1,6 @@
 /** @file
-  What both hosts have: the plan, its memory at its own addresses, printed lines, and modules with their scripts.
+  What both hosts have: the plan, its memory at its own addresses, printed lines, and modules with
+  their scripts.
 **/
 #ifndef HOST_H_
 #define HOST_H_
@@ -20,7 +21,7 @@ typedef struct {
 typedef struct {
   RANGE     Temp;
   RANGE     Ram;
-  int       RamFile;                         ///< RAM's memory, handed from PEI to DXE; -1 where there is none yet.
+  int       RamFile;                         ///< RAM's memory, handed from PEI to DXE; -1 before.
   UINT64    Fuel;
   UINTN     VolumeCount;
   RANGE     Volume[MOST_PLAN_VOLUMES];
@@ -49,7 +50,8 @@ Fail (
   ...
   ) __attribute__ ((noreturn));
 
-/** Reads the plan and maps its volumes, and with a first phase its memory. Audit is what `piboot audit PLAN` prints: it numbers the volumes. **/
+/** Reads the plan and maps its volumes, and with a first phase its memory. Audit is what
+    `piboot audit PLAN` prints: it numbers the volumes. **/
 VOID
 ReadPlan (
   CONST CHAR8  *Plan,
@@ -85,10 +87,11 @@ ModuleOf (
   CONST EFI_GUID  *Name
   );
 
-/** A line is kept until the end; one that is reserved is filled in later, where what it tells of comes behind its place. **/
+/** A line is kept until the end; one that is reserved is filled in later, since what runs within
+    its call prints behind its place. Until then it is the call's name and `unfinished`. **/
 UINTN
 ReserveLine (
-  VOID
+  CONST CHAR8  *Call
   );
 
 VOID
@@ -102,12 +105,6 @@ VOID
 PrintLine (
   CONST CHAR8  *Format,
   ...
-  );
-
-/** Whether the last line begins so. **/
-BOOLEAN
-LastLineBegins (
-  CONST CHAR8  *Text
   );
 
 /** Drops the lines that begin so. **/
@@ -144,7 +141,7 @@ TakeFuel (
   VOID
   );
 
-/** A script begins: one too deep ends the boot. **/
+/** A script is about to begin: one too deep ends the boot. **/
 VOID
 EnterFrame (
   VOID
@@ -157,10 +154,11 @@ HexText (
   UINTN        Length
   );
 
-/** The end of the boot, with its last lines: each host has its own. **/
+/** The end of the boot, with its last lines: each host has its own. Result is NULL where the core
+    came to its end. **/
 VOID
 FinishBoot (
-  VOID
+  CONST CHAR8  *Result
   ) __attribute__ ((noreturn));
 
 #endif

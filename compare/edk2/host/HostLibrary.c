@@ -1,5 +1,6 @@
 /** @file
-  The libraries that EDK2's cores are linked with: DebugLib, BaseMemoryLib, and what else they call of BaseLib.
+  The libraries that EDK2's cores are linked with: DebugLib, BaseMemoryLib, and what else they call
+  of BaseLib.
 **/
 #include "Host.h"
 #include <Library/BaseLib.h>
@@ -49,15 +50,65 @@ CpuDeadLoop (
   )
 {
   PrintLine ("deadloop");
-  FinishBoot ();
+  FinishBoot (NULL);
 }
 
-VOID *EFIAPI CopyMem (VOID *To, CONST VOID *From, UINTN Length) { return memmove (To, From, Length); }
-VOID *EFIAPI ZeroMem (VOID *Buffer, UINTN Length) { return memset (Buffer, 0, Length); }
-VOID *EFIAPI SetMem (VOID *Buffer, UINTN Length, UINT8 Value) { return memset (Buffer, Value, Length); }
-INTN EFIAPI CompareMem (CONST VOID *One, CONST VOID *Other, UINTN Length) { return memcmp (One, Other, Length); }
-BOOLEAN EFIAPI CompareGuid (CONST GUID *One, CONST GUID *Other) { return memcmp (One, Other, sizeof (GUID)) == 0; }
-GUID *EFIAPI CopyGuid (GUID *To, CONST GUID *From) { return memmove (To, From, sizeof (GUID)); }
+VOID *EFIAPI
+CopyMem (
+  VOID        *To,
+  CONST VOID  *From,
+  UINTN       Length
+  )
+{
+  return memmove (To, From, Length);
+}
+
+VOID *EFIAPI
+ZeroMem (
+  VOID   *Buffer,
+  UINTN  Length
+  )
+{
+  return memset (Buffer, 0, Length);
+}
+
+VOID *EFIAPI
+SetMem (
+  VOID   *Buffer,
+  UINTN  Length,
+  UINT8  Value
+  )
+{
+  return memset (Buffer, Value, Length);
+}
+
+INTN EFIAPI
+CompareMem (
+  CONST VOID  *One,
+  CONST VOID  *Other,
+  UINTN       Length
+  )
+{
+  return memcmp (One, Other, Length);
+}
+
+BOOLEAN EFIAPI
+CompareGuid (
+  CONST GUID  *One,
+  CONST GUID  *Other
+  )
+{
+  return memcmp (One, Other, sizeof (GUID)) == 0;
+}
+
+GUID *EFIAPI
+CopyGuid (
+  GUID        *To,
+  CONST GUID  *From
+  )
+{
+  return memmove (To, From, sizeof (GUID));
+}
 
 BOOLEAN EFIAPI
 IsZeroGuid (
@@ -120,12 +171,41 @@ CalculateSum16 (
   return Sum;
 }
 
-UINT8 EFIAPI CalculateCheckSum8 (CONST UINT8 *Buffer, UINTN Length) { return -CalculateSum8 (Buffer, Length); }
+UINT8 EFIAPI
+CalculateCheckSum8 (
+  CONST UINT8  *Buffer,
+  UINTN        Length
+  )
+{
+  return -CalculateSum8 (Buffer, Length);
+}
+
 UINT64 EFIAPI LShiftU64 (UINT64 Operand, UINTN Count) { return Operand << Count; }
 UINT64 EFIAPI RShiftU64 (UINT64 Operand, UINTN Count) { return Operand >> Count; }
 UINT64 EFIAPI MultU64x32 (UINT64 Operand, UINT32 By) { return Operand * By; }
 UINT64 EFIAPI MultU64x64 (UINT64 Operand, UINT64 By) { return Operand * By; }
 UINT64 EFIAPI DivU64x32 (UINT64 Operand, UINT32 By) { return Operand / By; }
-UINT16 EFIAPI ReadUnaligned16 (CONST UINT16 *Buffer) { return (UINT16)ReadNumber ((CONST UINT8 *)Buffer, 2); }
-UINT32 EFIAPI ReadUnaligned32 (CONST UINT32 *Buffer) { return (UINT32)ReadNumber ((CONST UINT8 *)Buffer, 4); }
-UINT64 EFIAPI ReadUnaligned64 (CONST UINT64 *Buffer) { return ReadNumber ((CONST UINT8 *)Buffer, 8); }
+
+UINT16 EFIAPI
+ReadUnaligned16 (
+  CONST UINT16  *Buffer
+  )
+{
+  return (UINT16)ReadNumber ((CONST UINT8 *)Buffer, sizeof *Buffer);
+}
+
+UINT32 EFIAPI
+ReadUnaligned32 (
+  CONST UINT32  *Buffer
+  )
+{
+  return (UINT32)ReadNumber ((CONST UINT8 *)Buffer, sizeof *Buffer);
+}
+
+UINT64 EFIAPI
+ReadUnaligned64 (
+  CONST UINT64  *Buffer
+  )
+{
+  return (UINT64)ReadNumber ((CONST UINT8 *)Buffer, sizeof *Buffer);
+}

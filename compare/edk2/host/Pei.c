@@ -1,6 +1,6 @@
 /** @file
-  EDK2's whole PEI core over a plan's volumes. PeiLoadImage, weakened in its object, answers the interpreter below as the entry of
-  every module; all else is EDK2's own.
+  EDK2's whole PEI core over a plan's volumes. PeiLoadImage, weakened in its object, answers the
+  interpreter below as the entry of every module; all else is EDK2's own.
 
   usage: edk2-pei PLAN AUDIT [EDK2-DXE], with AUDIT what `piboot audit PLAN` prints
 **/
@@ -52,10 +52,31 @@ static CHAR8                   *mDxeProgram;
 // What the core is linked with.
 //
 CONST EFI_PEI_SERVICES **EFIAPI GetPeiServicesTablePointer (VOID) { return mServices; }
-VOID EFIAPI SetPeiServicesTablePointer (CONST EFI_PEI_SERVICES **Services) { mServices = Services; }
 VOID EFIAPI MigratePeiServicesTablePointer (VOID) { }
-VOID EFIAPI ProcessLibraryConstructorList (EFI_PEI_FILE_HANDLE File, CONST EFI_PEI_SERVICES **Services) { }
-VOID EFIAPI _ModuleEntryPoint (CONST EFI_SEC_PEI_HAND_OFF *SecCoreData, CONST EFI_PEI_PPI_DESCRIPTOR *PpiList) { }
+
+VOID EFIAPI
+SetPeiServicesTablePointer (
+  CONST EFI_PEI_SERVICES  **Services
+  )
+{
+  mServices = Services;
+}
+
+VOID EFIAPI
+ProcessLibraryConstructorList (
+  EFI_PEI_FILE_HANDLE     File,
+  CONST EFI_PEI_SERVICES  **Services
+  )
+{
+}
+
+VOID EFIAPI
+_ModuleEntryPoint (
+  CONST EFI_SEC_PEI_HAND_OFF    *SecCoreData,
+  CONST EFI_PEI_PPI_DESCRIPTOR  *PpiList
+  )
+{
+}
 
 VOID EFIAPI
 SwitchStack (
@@ -90,7 +111,8 @@ PrintReports (
   }
 }
 
-/** What the core itself locates. It asks for the DXE IPL where PEI stops, and calls through no number that a script installed. **/
+/** What the core itself locates. It asks for the DXE IPL where PEI stops, and calls through no
+    number that a script installed. **/
 EFI_STATUS EFIAPI
 HostLocatePpi (
   CONST EFI_GUID          *Guid,
@@ -102,7 +124,7 @@ HostLocatePpi (
   EFI_STATUS  Status;
 
   if (CompareGuid (Guid, &gEfiDxeIplPpiGuid)) {
-    FinishBoot ();
+    FinishBoot (NULL);
   }
 
   Status = PeiLocatePpi (mServices, Guid, Instance, Descriptor, Ppi);
@@ -120,7 +142,7 @@ HostInstallPpi (
 
   mMaker[Core ()->PpiData.PpiList.CurrentCount] = MAKER_CORE;
 
-  Line   = ReserveLine ();
+  Line   = ReserveLine ("core install");
   Status = PeiInstallPpi (mServices, Descriptor);
   FillLine (Line, "core install %s", StatusName (Status));
   return Status;
@@ -131,12 +153,21 @@ FindScript (
   EFI_PEI_FILE_HANDLE  File
   )
 {
-  UINTN   Instance;
-  UINT8   *Section;
-  UINT32  Authentication;
+  UINTN       Instance;
+  UINT8       *Section;
+  UINT32      Authentication;
+  EFI_STATUS  Status;
 
   for (Instance = 0; ; Instance++) {
-    if (EFI_ERROR (PeiFfsFindSectionData3 (mServices, EFI_SECTION_RAW, Instance, File, (VOID **)&Section, &Authentication))) {
+    Status = PeiFfsFindSectionData3 (
+               mServices,
+               EFI_SECTION_RAW,
+               Instance,
+               File,
+               (VOID **)&Section,
+               &Authentication
+               );
+    if (EFI_ERROR (Status)) {
       return NULL;
     }
 
@@ -159,7 +190,8 @@ IsMapped (
 }
 
 //
-// Notifications. EDK2 calls the address in a descriptor, so each block that is notified gets an entry that knows its number.
+// Notifications. EDK2 calls the address in a descriptor, so each block that is notified gets an
+// entry that knows its number.
 //
 static EFI_STATUS
 RunNotified (
@@ -302,8 +334,10 @@ Addr (
     return;
   }
 
-  Frame->Register[Frame->Action[1]] = (REGISTER){ RegisterNumber, Of->Value + ReadNumber (Frame->Action + 3, 4), 0 };
   Frame->Last                       = EFI_SUCCESS;
+  Frame->Register[Frame->Action[1]] = (REGISTER){
+    RegisterNumber, Of->Value + ReadNumber (Frame->Action + 3, 4), 0
+  };
 }
 
 static VOID
@@ -356,7 +390,9 @@ Desc (
   )
 {
   static CONST UINTN      Flags[] = {
-    EFI_PEI_PPI_DESCRIPTOR_PPI, EFI_PEI_PPI_DESCRIPTOR_NOTIFY_CALLBACK, EFI_PEI_PPI_DESCRIPTOR_NOTIFY_DISPATCH
+    EFI_PEI_PPI_DESCRIPTOR_PPI,
+    EFI_PEI_PPI_DESCRIPTOR_NOTIFY_CALLBACK,
+    EFI_PEI_PPI_DESCRIPTOR_NOTIFY_DISPATCH
   };
   UINT8                   Kind;
   UINT8                   Argument;
@@ -387,14 +423,19 @@ Desc (
       CopyGuid (Descriptor->Guid, (CONST EFI_GUID *)(Frame->Action + 4));
     }
 
-    Descriptor->Ppi = Kind == 0 ? (VOID *)Frame->Register[Argument].Value : EntryOf (Frame->Module, Argument);
+    if (Kind == 0) {
+      Descriptor->Ppi = (VOID *)Frame->Register[Argument].Value;
+    } else {
+      Descriptor->Ppi = EntryOf (Frame->Module, Argument);
+    }
+
     Frame->Register[Frame->Action[1]] = (REGISTER){ RegisterDescriptor, (UINTN)Descriptor, 0 };
   }
 
   EndCall (Frame, "desc", Status);
 }
 
-/** The descriptors of an action's list: the one itself, or copies of several one behind the other. **/
+/** The descriptors of an action's list: the one itself, or copies of several in a row. **/
 static EFI_STATUS
 DescriptorsOf (
   FRAME                   *Frame,
@@ -463,7 +504,7 @@ Install (
 
   First  = Core ()->PpiData.PpiList.CurrentCount;
   Status = DescriptorsOf (Frame, &List);
-  Line   = ReserveLine ();
+  Line   = ReserveLine ("call install");
   if (!EFI_ERROR (Status)) {
     for (Index = 0; Index < Frame->Action[1]; Index++) {
       mMaker[First + Index] = (int)Frame->Module;
@@ -475,7 +516,7 @@ Install (
   EndCallAt (Frame, Line, "install", Status);
 }
 
-/** The descriptor in the core's list that a register's stands for: itself, or the copy of a list. **/
+/** The descriptor in the core's list that a register's stands for: itself, or a list's copy. **/
 static UINT64
 InstalledFor (
   UINT64  Descriptor
@@ -516,7 +557,7 @@ Reinstall (
   Old    = &Frame->Register[Frame->Action[1]];
   New    = &Frame->Register[Frame->Action[2]];
   Status = EFI_INVALID_PARAMETER;
-  Line   = ReserveLine ();
+  Line   = ReserveLine ("call reinstall");
   if (Old->Kind == RegisterDescriptor && New->Kind == RegisterDescriptor) {
     Status = PeiReInstallPpi (
                mServices,
@@ -538,7 +579,7 @@ Notify (
   UINTN                   Line;
 
   Status = DescriptorsOf (Frame, &List);
-  Line   = ReserveLine ();
+  Line   = ReserveLine ("call notify");
   if (!EFI_ERROR (Status)) {
     Status = PeiNotifyPpi (mServices, (EFI_PEI_NOTIFY_DESCRIPTOR *)List);
   }
@@ -579,18 +620,18 @@ Hob (
   FRAME  *Frame
   )
 {
-  UINT8       Type;
-  UINTN       Length;
-  UINT8       *Made;
-  EFI_STATUS  Status;
+  UINT8                   Type;
+  UINTN                   Length;
+  EFI_HOB_GENERIC_HEADER  *Made;
+  EFI_STATUS              Status;
 
   Type   = Frame->Action[1];
   Length = ReadNumber (Frame->Action + 2, 2);
-  Status = PeiCreateHob (mServices, Type, sizeof (EFI_HOB_GENERIC_HEADER) + Length, (VOID **)&Made);
+  Status = PeiCreateHob (mServices, Type, sizeof *Made + Length, (VOID **)&Made);
   if (!EFI_ERROR (Status)) {
-    memset (Made + sizeof (EFI_HOB_GENERIC_HEADER), 0, ((EFI_HOB_GENERIC_HEADER *)Made)->HobLength - sizeof (EFI_HOB_GENERIC_HEADER));
+    memset (Made + 1, 0, Made->HobLength - sizeof *Made);
     // A CPU HOB has two sizes, and six bytes that are reserved.
-    memcpy (Made + sizeof (EFI_HOB_GENERIC_HEADER), Frame->Action + 4, Type == EFI_HOB_TYPE_CPU ? 2 : Length);
+    memcpy (Made + 1, Frame->Action + 4, Type == EFI_HOB_TYPE_CPU ? 2 : Length);
   }
 
   EndCall (Frame, "hob", Status);
@@ -621,10 +662,12 @@ Pages (
   )
 {
   EFI_PHYSICAL_ADDRESS  Address;
+  UINTN                 Count;
   EFI_STATUS            Status;
 
   Address = 0;
-  Status  = PeiAllocatePages (mServices, Frame->Action[2], ReadNumber (Frame->Action + 3, 4), &Address);
+  Count   = ReadNumber (Frame->Action + 3, 4);
+  Status  = PeiAllocatePages (mServices, Frame->Action[2], Count, &Address);
   if (!EFI_ERROR (Status)) {
     Frame->Register[Frame->Action[1]] = (REGISTER){ RegisterNumber, Address, 0 };
   }
@@ -739,7 +782,6 @@ RunScript (
   UINTN  Block
   )
 {
-  EnterFrame ();
   if (gModule[Frame->Module].Script == NULL) {
     PrintLine ("end Success");
   } else {
@@ -784,10 +826,13 @@ RunNotified (
 {
   NOTIFIED_BLOCK  *Block;
   MODULE          *Module;
+  UINT64          Descriptor;
   FRAME           Frame;
 
-  Block  = &mNotified[(UINT32)Number];
-  Module = &gModule[Block->Module];
+  Block      = &mNotified[(UINT32)Number];
+  Module     = &gModule[Block->Module];
+  Descriptor = DescriptorOfPpi (Notification->Guid, Ppi);
+  EnterFrame ();
   PrintReports ();
   PrintLine (
     "notify %s %d %s %s",
@@ -798,7 +843,7 @@ RunNotified (
     );
   Frame             = (FRAME){ .Module = Block->Module, .File = Module->File };
   Frame.Register[0] = (REGISTER){ RegisterNumber, (UINTN)Ppi, 0 };
-  Frame.Register[1] = (REGISTER){ RegisterDescriptor, DescriptorOfPpi (Notification->Guid, Ppi), 0 };
+  Frame.Register[1] = (REGISTER){ RegisterDescriptor, Descriptor, 0 };
   RunScript (&Frame, Block->Block);
   return EFI_SUCCESS;
 }
@@ -809,7 +854,8 @@ LicenceOf (
   EFI_PEI_FILE_HANDLE  File
   )
 {
-  VOID  *Expression;
+  VOID        *Expression;
+  EFI_STATUS  Status;
 
   if (Module->Starts++ != 0) {
     return "shadow";
@@ -819,7 +865,8 @@ LicenceOf (
     return "apriori";
   }
 
-  return EFI_ERROR (PeiServicesFfsFindSectionData (EFI_SECTION_PEI_DEPEX, File, &Expression)) ? "absent" : "true";
+  Status = PeiServicesFfsFindSectionData (EFI_SECTION_PEI_DEPEX, File, &Expression);
+  return EFI_ERROR (Status) ? "absent" : "true";
 }
 
 /** The entry of every module. **/
@@ -829,16 +876,19 @@ StartModule (
   CONST EFI_PEI_SERVICES  **Services
   )
 {
-  UINTN        Number;
-  MODULE       *Module;
-  CONST CHAR8  *Licence;
-  FRAME        Frame;
+  EFI_PEI_FV_HANDLE  Volume;
+  UINTN              Number;
+  MODULE             *Module;
+  CONST CHAR8        *Licence;
+  FRAME              Frame;
 
   PrintReports ();
-  Number         = ModuleOf (File, VolumeAt ((UINTN)Core ()->Fv[Core ()->CurrentPeimFvCount].FvHandle), (CONST EFI_GUID *)File);
+  Volume         = Core ()->Fv[Core ()->CurrentPeimFvCount].FvHandle;
+  Number         = ModuleOf (File, VolumeAt ((UINTN)Volume), (CONST EFI_GUID *)File);
   Module         = &gModule[Number];
   Licence        = LicenceOf (Module, File);
   Module->Script = FindScript (File);
+  EnterFrame ();
   PrintLine ("pei start %d %s %s", Module->Volume, GuidText (&Module->Name), Licence);
   Frame = (FRAME){ .Module = Number, .File = File };
   RunScript (&Frame, 0);
@@ -945,7 +995,8 @@ PrintHobs (
   for (Hob.Raw = Core ()->HobList.Raw; !END_OF_HOB_LIST (Hob); Hob.Raw = GET_NEXT_HOB (Hob)) {
     Type   = Hob.Header->HobType;
     Length = MIN (Hob.Header->HobLength, MOST_HOB_TEXT) - sizeof (EFI_HOB_GENERIC_HEADER);
-    if ((Type == EFI_HOB_TYPE_MEMORY_ALLOCATION && IsZeroGuid (&Hob.MemoryAllocation->AllocDescriptor.Name))
+    if ((Type == EFI_HOB_TYPE_MEMORY_ALLOCATION
+         && IsZeroGuid (&Hob.MemoryAllocation->AllocDescriptor.Name))
         || (Type >= EFI_HOB_TYPE_RESOURCE_DESCRIPTOR && Type <= EFI_HOB_TYPE_CPU)
         || Type == EFI_HOB_TYPE_FV2) {
       PrintLine ("hob %d %s", Type, HexText (Hob.Raw + sizeof (EFI_HOB_GENERIC_HEADER), Length));
@@ -963,28 +1014,41 @@ PrintLists (
   PrintHobs ();
 }
 
+/** Tells of a PEIM that waits for its start, or for its second one. **/
+static VOID
+PrintIfWaiting (
+  PEI_CORE_FV_HANDLE  *Volume,
+  UINTN               Index
+  )
+{
+  UINT8  State;
+
+  State = Volume->PeimState[Index];
+  if (Volume->FvFileHandles[Index] == NULL) {
+    return;
+  }
+
+  if (State == PEIM_STATE_NOT_DISPATCHED || State == PEIM_STATE_REGISTER_FOR_SHADOW) {
+    PrintLine (
+      "waiting %d %s %s",
+      VolumeAt ((UINTN)Volume->FvHandle),
+      GuidText ((EFI_GUID *)Volume->FvFileHandles[Index]),
+      State == PEIM_STATE_NOT_DISPATCHED ? "unmet" : "shadow"
+      );
+  }
+}
+
 static VOID
 PrintWaiting (
   VOID
   )
 {
-  PEI_CORE_FV_HANDLE  *Volume;
-  UINTN               Number;
-  UINTN               Index;
-  UINT8               State;
+  UINTN  Number;
+  UINTN  Index;
 
   for (Number = 0; Number < Core ()->FvCount; Number++) {
-    Volume = &Core ()->Fv[Number];
-    for (Index = 0; Index < Volume->PeimCount; Index++) {
-      State = Volume->PeimState[Index];
-      if (Volume->FvFileHandles[Index] != NULL && (State == PEIM_STATE_NOT_DISPATCHED || State == PEIM_STATE_REGISTER_FOR_SHADOW)) {
-        PrintLine (
-          "waiting %d %s %s",
-          VolumeAt ((UINTN)Volume->FvHandle),
-          GuidText ((EFI_GUID *)Volume->FvFileHandles[Index]),
-          State == PEIM_STATE_NOT_DISPATCHED ? "unmet" : "shadow"
-          );
-      }
+    for (Index = 0; Index < Core ()->Fv[Number].PeimCount; Index++) {
+      PrintIfWaiting (&Core ()->Fv[Number], Index);
     }
   }
 }
@@ -994,16 +1058,18 @@ ResultOfStop (
   VOID
   )
 {
-  VOID  *Ppi;
+  VOID        *Ppi;
+  EFI_STATUS  Status;
 
   if (!Core ()->PeiMemoryInstalled) {
     return "NoMemory";
   }
 
-  return EFI_ERROR (PeiLocatePpi (mServices, &gEfiDxeIplPpiGuid, 0, NULL, &Ppi)) ? "NoIpl" : "Handoff";
+  Status = PeiLocatePpi (mServices, &gEfiDxeIplPpiGuid, 0, NULL, &Ppi);
+  return EFI_ERROR (Status) ? "NoIpl" : "Handoff";
 }
 
-/** Hands RAM and the HOB list to the DXE host, which takes the place of this program. **/
+/** Hands RAM, the HOB list and the fuel that is left to the DXE host, which takes over. **/
 static VOID
 HandOff (
   VOID
@@ -1011,31 +1077,29 @@ HandOff (
 {
   CHAR8  RamFile[20];
   CHAR8  HobList[40];
+  CHAR8  Fuel[40];
 
   sprintf (RamFile, "%d", gPlan.RamFile);
   sprintf (HobList, "0x%llx", (UINT64)(UINTN)Core ()->HobList.Raw);
-  execl (mDxeProgram, mDxeProgram, mWords[1], mWords[2], RamFile, HobList, (CHAR8 *)NULL);
+  sprintf (Fuel, "%llu", gPlan.Fuel);
+  execl (mDxeProgram, mDxeProgram, mWords[1], mWords[2], RamFile, HobList, Fuel, (CHAR8 *)NULL);
   Fail ("%s can't be run", mDxeProgram);
 }
 
 VOID
 FinishBoot (
-  VOID
+  CONST CHAR8  *Result
   )
 {
-  CONST CHAR8  *Result;
-
   PrintReports ();
-  if (LastLineBegins ("result")) {
-    FlushLines ();
-    exit (0);
+  if (Result == NULL) {
+    // The core asserts that there is a DXE IPL where PEI stops.
+    DropLines ("assert PeiMain.c");
+    PrintLine ("pei stop");
+    PrintWaiting ();
+    Result = ResultOfStop ();
   }
 
-  // The core asserts that there is a DXE IPL where PEI stops.
-  DropLines ("assert PeiMain.c");
-  PrintLine ("pei stop");
-  PrintWaiting ();
-  Result = ResultOfStop ();
   if (strcmp (Result, "Handoff") == 0 && mDxeProgram != NULL) {
     PrintLine ("handoff");
     PrintLists ();

@@ -1,5 +1,6 @@
 /** @file
-  Action scripts as bytes (docs/FORMATS.md): what both hosts interpret in the place of machine code.
+  Action scripts as bytes (docs/FORMATS.md): what both hosts interpret in the place of machine
+  code.
 **/
 #ifndef SCRIPT_H_
 #define SCRIPT_H_

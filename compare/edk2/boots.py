@@ -1,0 +1,133 @@
+"""One boot on this project's machine and on EDK2's cores: its files, both traces, and what explains a difference."""
+import itertools
+import os
+import re
+import subprocess
+from dataclasses import dataclass
+
+from random_boots import plan_of
+from traces import Trace, first_difference, read
+from volumes import made
+
+HERE = os.path.dirname(os.path.abspath(__file__))
+OUT = f"{HERE}/out"
+PLAIN = os.environ.get("PLAIN", f"{HERE}/../plain/out/plain")
+PEI, DXE = f"{OUT}/edk2-pei", f"{OUT}/edk2-dxe"
+PIBOOT = os.environ.get("PIBOOT", os.path.normpath(f"{HERE}/../../crates/piboot/out/piboot"))
+SECONDS = 60
+
+# Each known difference, by the word that gives the plain program EDK2's rule for it, under the
+# phases whose boots can show it; docs/COMPARISON.md has a row for each.
+RULES = {
+    "pei": (
+        "shadow-current-alone",
+        "shadow-at-once",
+        "shadow-not-on-s3",
+        "memory-again",
+        "dispatch-by-lists",
+        "callbacks-by-notification",
+        "nested-in-turn",
+        "file-walk",
+    ),
+    "dxe": (
+        "batch",
+        "push-sticky",
+        "left-over-holds",
+        "types-in-turn",
+        "locate-first-installed",
+        "notify-behind-the-running",
+        "process-none-corrupted",
+        "file-walk",
+    ),
+}
+MOST_RULES = 3
+SAME, UNEXPLAINED = "same", "unexplained"
+AS_BUILT = "# as built"
+
+
+@dataclass(frozen=True)
+class Outcome:
+    """How a boot compared."""
+
+    word: str  # SAME, UNEXPLAINED, or the rules that explain it
+    difference: str
+
+
+def output(words: list[str], folder: str, **more: str) -> list[str]:
+    """The lines that a program prints in a folder."""
+    try:
+        done = subprocess.run(
+            words, cwd=folder, stdout=subprocess.PIPE, stderr=subprocess.DEVNULL,
+            timeout=SECONDS, env=os.environ | more if more else None,
+        )
+    except subprocess.TimeoutExpired:
+        return ["timeout"]
+    return done.stdout.decode(errors="replace").split("\n")[:-1]
+
+
+def write(folder: str, texts: list[str], plan: str | None = None) -> None:
+    """Writes a boot: its plan, and each volume as text and as bytes."""
+    os.makedirs(folder, exist_ok=True)
+    with open(f"{folder}/plan", "w", encoding="utf-8") as file:
+        file.write(plan or plan_of(len(texts)))
+    for number, text in enumerate(texts):
+        with open(f"{folder}/v{number}.volume", "w", encoding="utf-8") as file:
+            file.write(text)
+        with open(f"{folder}/v{number}.fv", "wb") as volume:
+            volume.write(made(text))
+
+
+def audit_of(folder: str) -> list[str]:
+    """What `piboot audit` prints, which numbers the volumes and modules."""
+    audit = output([PIBOOT, "audit", "plan"], folder)
+    if audit[-1:] != ["result Done"]:
+        # EDK2 refuses no image as a whole: by its rule for files the volumes have their numbers.
+        audit = output([PLAIN, "audit", "plan", "--edk2=file-walk"], folder)
+    with open(f"{folder}/audit", "w", encoding="utf-8") as file:
+        file.write("\n".join(audit) + "\n")
+    return audit
+
+
+def edk2(folder: str, audit: list[str]) -> Trace:
+    """EDK2's trace. Its DXE core gets readable volumes, unless the boot asks for them as they are built."""
+    with open(f"{folder}/v0.volume", encoding="utf-8") as file:
+        more = {"AS_BUILT": "1"} if AS_BUILT in file.read() else {}
+    return read(output([PEI, "plan", "audit", DXE], folder, **more), audit)
+
+
+def both(folder: str) -> tuple[list[str], Trace, Trace]:
+    """The audit of a folder's boot, this machine's trace, and EDK2's."""
+    audit = audit_of(folder)
+    return audit, read(output([PIBOOT, "boot", "plan"], folder), audit), edk2(folder, audit)
+
+
+def is_explained(folder: str, audit: list[str], theirs: Trace, rules: tuple[str, ...]) -> bool:
+    """Whether the plain program prints EDK2's trace with some of EDK2's rules."""
+    words = [PLAIN, "boot", "plan"] + [f"--edk2={rule}" for rule in rules]
+    return first_difference(read(output(words, folder), audit), theirs) is None
+
+
+def explained_by(folder: str, audit: list[str], theirs: Trace, phase: str) -> tuple[str, ...]:
+    """The fewest rules of EDK2's with which the plain program's trace is EDK2's; () where none do."""
+    known = RULES.get(phase, tuple(dict.fromkeys(RULES["pei"] + RULES["dxe"])))
+    for count in range(1, MOST_RULES + 1):
+        for rules in itertools.combinations(known, count):
+            if is_explained(folder, audit, theirs, rules):
+                return rules
+    return ()
+
+
+def compare(folder: str, phase: str = "") -> Outcome:
+    """Boots a folder's volumes on both. With a phase only the rules of that one are asked for a difference."""
+    audit, ours, theirs = both(folder)
+    difference = first_difference(ours, theirs)
+    if difference is None:
+        return Outcome(SAME, "")
+    rules = explained_by(folder, audit, theirs, phase)
+    return Outcome(" + ".join(rules) or UNEXPLAINED, difference)
+
+
+def kind(difference: str) -> str:
+    """A difference without its line, numbers and GUIDs: two boots of one kind differ in the same way."""
+    without_names = re.sub(r"[0-9a-f]{8}-[-0-9a-f]*", "G", difference)
+    return re.sub(r" n\d+| 0x[0-9a-f]+| \d+", " ", without_names)
