@@ -27,7 +27,8 @@ use Rattle.boot_core.specs.GeneratedOutcome.{GeneratedOutcome, SummaryOutcome, g
 use Rattle.boot_core.specs.Refusing.{refusal_status}
 use Rattle.boot_core.specs.declared.generated.TheConstants.{FUEL}
 use Rattle.std.proofs.lemmas.Fmt.{decimal_injective}
-use Rattle.boot_core.specs.BootEnd.{end_of, status_of}
+use Rattle.boot_core.specs.BootEnd.{status_of}
+use Rattle.whole_boot.specs.BootEnd.{end_of}
 use Rattle.boot_core.specs.Causes.{AreTold, IsToldAsBytes, IsVolumeName, TextNames, LeadsTo, IsStopped, ComesExactly}
 use Rattle.pi_base.specs.Lists.{Each}
 use Rattle.pi_base.specs.Field.{AreBytes}

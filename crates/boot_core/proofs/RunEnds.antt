@@ -19,16 +19,17 @@ use Rattle.boot_laws.specs.RunsEnd.{PeiRunsEnd, DxeRunsEnd}
 use Rattle.boot_core.specs.declared.status.Status.{Status}
 use Rattle.boot_io.specs.declared.halt.Halt.{Halt}
 use Rattle.boot_io.specs.declared.halt.Halt.TheVariants as H
-use Rattle.boot_core.specs.BootEnd.{end_after, end_of, boot_text, status_of}
+use Rattle.boot_core.specs.BootEnd.{status_of}
+use Rattle.whole_boot.specs.BootEnd.{end_after, end_of, boot_text}
 use Rattle.boot_core.specs.Outcome.{Kind, OfAnswer, EndsBy, Ends, Answered, SinkFailed, Begun, BootOutcome, Trail, IsOfRun, kind_of}
 use Rattle.boot_core.specs.Outcome as O
 use Rattle.mem_store.specs.declared.store.MemStore.{MemStore}
 use Rattle.mem_store.specs.MemState.{StandsFor}
-use Rattle.boot_core.specs.declared.boot_run.Ran.{Ran}
+use Rattle.whole_boot.specs.declared.boot.Ran.{Ran}
 use Rattle.boot_core.specs.declared.plan_boot.Booted.{Booted}
 use Rattle.boot_core.specs.declared.status.Status.TheVariants as V
 use Rattle.boot_core.specs.Handing.{HandsBack, IsBooted, IsWhereRan, StandsWhere}
-use Rattle.boot_core.specs.Running.{RunsTo}
+use Rattle.whole_boot.specs.FirstBoot.{RunsTo}
 use Rattle.boot_trace.specs.Printing.{Texts}
 use Rattle.boot_io.specs.Halted.{HaltsAfter}
 

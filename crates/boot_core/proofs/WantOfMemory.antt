@@ -1,5 +1,5 @@
 -- Want of memory, from the boot of images up to the words.
-use Rattle.std.proofs.Common.{◌≡◌, ◌⊎◌, ℕ, List, [], ◌++◌, Option, inl, inr, subst}
+use Rattle.std.proofs.Common.{◌≡◌, ◌⊎◌, ℕ, List, [], Option, inl, inr, subst}
 use Rattle.std.specs.Prelude.{⊤}
 use Rattle.std.specs.Io.KnownBytes.{Appends}
 use Rattle.boot_plan.specs.declared.plan.Plan.{Plan}
@@ -17,8 +17,9 @@ use Rattle.boot_core.specs.declared.status.Status.TheVariants.{Memory}
 use Rattle.boot_core.specs.CommandLine.{AskFor}
 use Rattle.boot_core.specs.Deciding.{IsAsked, asked_of, job_asked, number_asked}
 use Rattle.boot_core.specs.Outcome.{Begun, CommandOutcome, Ends, ImagesOutcome, IsOfRun, NoMemory, Trail, image_refused, images_sound, kind_of}
-use Rattle.boot_core.specs.Wanting.{IsOutsidePei, IsWantedOutsidePei, IsWantedOutsidePeiOf}
-use Rattle.boot_core.specs.WantOfMemory.{HasPeiPut, IsPeiPut, IsWantedIn, IsWantedOutside}
+use Rattle.boot_core.specs.Wanting.{IsWantedOutsidePeiOf}
+use Rattle.whole_boot.specs.FirstBoot.{IsOutsidePei}
+use Rattle.boot_core.specs.WantOfMemory.{IsPeiPut, IsWantedIn, IsWantedOutside}
 
 -- the texts that a call left
 abbrev pub texts_of : Trail → Texts

@@ -1,39 +1,21 @@
 -- Where memory is wanting in a boot.
-use Rattle.std.proofs.Common.{ℕ, Bool, false, List, Option, Result, Ok, Err, IfErr, refl, sym, subst, inl, inr}
-use Rattle.std.specs.Io.KnownBytes.{Appends}
+use Rattle.std.proofs.Common.{ℕ, Bool, false, List, Option, Result, Ok, Err, IfErr, refl, sym, subst, inl}
 use Rattle.boot_io.specs.declared.halt.Halt.{Halt}
 use Rattle.boot_io.specs.declared.halt.Halt.TheVariants as H
-use Rattle.boot_io.specs.Sink.{AppendsPart}
-use Rattle.boot_io.proofs.PutsLaws.{appends_none, appends_then}
+use Rattle.boot_io.proofs.PutsLaws.{appends_none}
 use Rattle.catalog_model.specs.declared.catalog.Catalog.{Catalog}
 use Rattle.store_model.specs.StoreState.{Board}
-use Rattle.boot_model.specs.PeiRun.{pei_end}
-use Rattle.boot_model.specs.Text.{text_of}
-use Rattle.pei_dispatch.specs.Ends.{IsWantedBefore}
 use Rattle.mem_store.specs.declared.store.MemStore.{MemStore}
-use Rattle.boot_core.specs.declared.boot_run.Ran.{Ran}
 use Rattle.boot_core.specs.declared.plan_boot.Booted.{Booted}
 use Rattle.boot_core.specs.declared.status.Status.{Status}
 use Rattle.boot_core.specs.Handing.{IsBooted}
 use Rattle.boot_core.specs.Outcome.{EndsBy, Kind, OfFiles, OfSink, OfMemory, OfAnswer, Trail, kind_of}
 use Rattle.boot_trace.specs.Printing.{Texts}
-use Rattle.boot_core.specs.Wanting.{IsWantedOutsidePei, WantsOutsidePei}
+use Rattle.boot_core.specs.Wanting.{IsWantedOutsidePei}
+use Rattle.whole_boot.specs.declared.boot.Ran.{Ran}
+use Rattle.whole_boot.specs.FirstBoot.{WantsOutsidePei}
 use Rattle.boot_core.proofs.Causes.{none_of}
 use Rattle.boot_core.proofs.RunEnds.{answer_of}
-
--- behind all lines of PEI
-pub behind_pei : (takes : Bool) (board : Board) (catalog : Catalog) (fuel : ℕ) (old mid new : Option (List ℕ)) (text : List ℕ) (halt : Halt)
-    → Appends old mid (text_of (pei_end board catalog fuel).lines) → AppendsPart mid new text
-    → WantsOutsidePei takes board catalog fuel (record { old = old; new = new }) halt
-behind_pei takes board catalog fuel old mid new text H.Sink put part = tt
-behind_pei takes board catalog fuel old mid new text H.Memory put part = λ takes_none.
-    inr (part.0, appends_then old mid new (text_of (pei_end board catalog fuel).lines) part.0 put part.2)
-
--- before PEI
-pub before_pei : (A : Type 0) (takes : Bool) (board : Board) (catalog : Catalog) (fuel : ℕ) (old new : Option (List ℕ)) (halt : Halt)
-    → IsWantedBefore {A = A} takes old new (Err halt) → WantsOutsidePei takes board catalog fuel (record { old = old; new = new }) halt
-before_pei A takes board catalog fuel old new H.Sink wanted = tt
-before_pei A takes board catalog fuel old new H.Memory wanted = λ takes_none. inl (wanted takes_none)
 
 -- nothing was put
 pub at_once : (takes : Bool) (board : Board) (catalog : Catalog) (fuel : ℕ) (old : Option (List ℕ))

@@ -19,7 +19,8 @@ use Rattle.boot_core.specs.declared.generated.TheConstants.{TEMP_BASE, TEMP_LEN,
 use Rattle.boot_core.specs.declared.status.Status.{Status}
 use Rattle.boot_core.specs.declared.summary.SummaryLine.{SummaryLine}
 use Rattle.boot_core.specs.declared.summary.SummaryLine.TheVariants as S
-use Rattle.boot_core.specs.BootEnd.{end_of, status_of}
+use Rattle.boot_core.specs.BootEnd.{status_of}
+use Rattle.whole_boot.specs.BootEnd.{end_of}
 use Rattle.boot_core.specs.ImagesOutcome.{ImagesOutcome}
 
 -- the plan of a generated volume: memory, the volume, and the fuel

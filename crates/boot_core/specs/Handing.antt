@@ -11,7 +11,7 @@ use Rattle.boot_model.specs.PlanBoard.{board_of}
 use Rattle.store_model.specs.StoreState.{StoreState}
 use Rattle.mem_store.specs.declared.store.MemStore.{MemStore}
 use Rattle.mem_store.specs.MemState.{StandsFor}
-use Rattle.boot_core.specs.declared.boot_run.Ran.{Ran}
+use Rattle.whole_boot.specs.declared.boot.Ran.{Ran}
 use Rattle.boot_core.specs.declared.plan_boot.Booted.{Booted}
 use Rattle.boot_core.specs.declared.status.Status.{Status}
 use Rattle.boot_core.specs.declared.status.Status.TheVariants as V

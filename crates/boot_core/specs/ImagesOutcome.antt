@@ -13,7 +13,8 @@ use Rattle.boot_core.specs.declared.status.Status.TheVariants.{Done, ImageRefuse
 use Rattle.boot_core.specs.declared.command_line.Command.{Command}
 use Rattle.boot_core.specs.declared.command_line.Command.TheVariants.{Boot, Audit}
 use Rattle.boot_core.specs.AuditText.{audit_text}
-use Rattle.boot_core.specs.BootEnd.{end_of, boot_text, status_of}
+use Rattle.boot_core.specs.BootEnd.{status_of}
+use Rattle.whole_boot.specs.BootEnd.{end_of, boot_text}
 use Rattle.boot_core.specs.Refusing.{image_line}
 
 -- what a boot leads to: its result and its whole text, by the plan's board

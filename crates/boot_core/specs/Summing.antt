@@ -11,7 +11,7 @@ use Rattle.plan_files.specs.declared.reading.NoJob.{NoJob}
 use Rattle.plan_files.specs.declared.reading.NoJob.TheVariants.{Refused, Memory}
 use Rattle.boot_core.specs.declared.generated.Summary.{Summary}
 use Rattle.boot_core.specs.declared.generated.TheConstants.{FUEL}
-use Rattle.boot_core.specs.BootEnd.{end_of}
+use Rattle.whole_boot.specs.BootEnd.{end_of}
 use Rattle.boot_core.specs.Examining.{IsImageRefusal}
 use Rattle.boot_core.specs.GeneratedOutcome.{generated_board, generated_images, generated_plan, summary_lines}
 

@@ -6,11 +6,10 @@ ghost use Rattle.boot_model.specs.PlanBoard.{board_of};
 ghost use Rattle.catalog_model.specs.WellFormed.{IsWellFormed};
 ghost use Rattle.boot_core.specs.Handing.{HandsBack, IsBooted};
 ghost use Rattle.boot_core.specs.Outcome.{Ends, BootOutcome, kind_of};
-ghost use Rattle.boot_core.specs.Running.{RunsTo};
-ghost use Rattle.boot_core.specs.Wanting.{IsWantedOutsidePei, WantsOutsidePei};
+ghost use Rattle.boot_core.specs.Wanting.{IsWantedOutsidePei};
+ghost use Rattle.whole_boot.specs.FirstBoot.{RunsTo, WantsOutsidePei};
 ghost use Rattle.boot_io.specs.Halted.{HaltsAfter};
 
-use crate::boot_run::{Ran, boot_store};
 use crate::status::{Status, status_of};
 use boot_io::{Halt, Sink};
 use boot_laws::{dxe_runs_end, pei_runs_end};
@@ -19,8 +18,8 @@ use catalog_model::Catalog;
 use mem_store::MemStore;
 use phys_mem::Rom;
 use pi_base::Seq;
-use plan_board::roms;
 use std::alloc::Global;
+use whole_boot::{Ran, boot_store, roms};
 
 /// What a boot answers.
 #[derive(Drop)]

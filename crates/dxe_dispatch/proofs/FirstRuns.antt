@@ -9,12 +9,11 @@ use Rattle.boot_model.specs.declared.line.Line.{Line}
 use Rattle.boot_model.specs.declared.phase_end.DxeEnd.{DxeEnd}
 use Rattle.boot_model.specs.DxeChoice.{discovered_order}
 use Rattle.boot_model.specs.DxeMachine.{DxeMachine}
-use Rattle.boot_model.specs.DxeRun.{dxe_bound, dxe_opening, dxe_run}
+use Rattle.boot_model.specs.DxeRun.{dxe_run}
 use Rattle.boot_model.specs.DxeStep.{dxe_step}
 use Rattle.boot_model.specs.EvaluationBound.{dxe_asked, dxe_changes, dxe_evaluations, dxe_guids}
 use Rattle.boot_model.specs.Text.{text_of}
 use Rattle.boot_trace.proofs.Lines.{part_of_longer}
-use Rattle.free_laws.specs.DxeAim.{IsChoosing}
 use Rattle.dxe_choice.specs.Queue.{Queue}
 use Rattle.dxe_core.specs.Standing.{DxeCore}
 use Rattle.dxe_dispatch.specs.Choices.{EvaluatesFewBy, IsAimedBy, IsRunBy, RunsBy, aimed_at, came, changes_of}
@@ -74,21 +73,32 @@ end_ahead Names catalog fuel bound opening earlier own ends run =
     ap (λ k. dxe_run catalog fuel k opening) far ∙ steps_then catalog fuel bound (length earlier) opening ∙ stays catalog fuel (length earlier) (dxe_run catalog fuel bound opening) over.0 over.1 in
     sym there ∙ run_goes Names catalog fuel bound opening earlier own run
 
+-- where it ended, the run of the machine did
+pub first_end : (Names : DxeMachine → Option ℕ → Type 0) (catalog : Catalog) (fuel bound : ℕ) (opening : DxeMachine) (earlier : List DxeMachine) (how : DxeEnd) → NamesNone Names → is_some (dxe_run catalog fuel bound opening).ended ≡ true
+    → IsRunBy Names catalog fuel opening earlier → (came catalog fuel opening earlier).ended ≡ Some how → came catalog fuel opening earlier ≡ dxe_run catalog fuel bound opening
+first_end Names catalog fuel bound opening earlier how own ends run ended =
+    sym (end_ahead Names catalog fuel bound opening earlier own ends run ∙ stays catalog fuel bound (came catalog fuel opening earlier) how ended)
+
+-- the lines of the run of the machine begin with those of each machine of it
+pub first_lines : (Names : DxeMachine → Option ℕ → Type 0) (catalog : Catalog) (fuel bound : ℕ) (opening : DxeMachine) (earlier : List DxeMachine) → NamesNone Names → is_some (dxe_run catalog fuel bound opening).ended ≡ true
+    → IsRunBy Names catalog fuel opening earlier → (more : List Line) × ((dxe_run catalog fuel bound opening).lines ≡ (came catalog fuel opening earlier).lines ++ more)
+first_lines Names catalog fuel bound opening earlier own ends run =
+    let more = run_tells catalog fuel bound (came catalog fuel opening earlier) in
+    (more.0, ap (λ (x : DxeMachine). x.lines) (end_ahead Names catalog fuel bound opening earlier own ends run) ∙ more.1)
+
 -- what such a run leaves is what the run of the machine leaves
 pub first_leaves : {M : Type 0} (Names : DxeMachine → Option ℕ → Type 0) (stands : M → StoreState → Type 0) (store : M) (catalog : Catalog) (fuel bound : ℕ) (opening : DxeMachine) (later : DxeCore) (queue : Queue) (old new : Option (List ℕ)) (result : Result DxeEnd Halt)
     → NamesNone Names → is_some (dxe_run catalog fuel bound opening).ended ≡ true → RunsBy Names stands store catalog fuel opening later queue old new result
     → RunsTo stands store catalog (dxe_run catalog fuel bound opening) later queue old new result
 first_leaves Names stands store catalog fuel bound opening later queue old new (Ok how) own ends by =
     let m = came catalog fuel opening by.earlier in
-    let is : m ≡ dxe_run catalog fuel bound opening = sym (end_ahead Names catalog fuel bound opening by.earlier own ends by.run ∙ stays catalog fuel bound m how by.ended.ended) in
     let P : DxeMachine → Type 0 = λ end. HasEnded how end old new × StandsAtEnd stands store catalog later queue end in
     let all : P m = (by.ended, by.now) in
-    subst P is all
+    subst P (first_end Names catalog fuel bound opening by.earlier how own ends by.run by.ended.ended) all
 first_leaves Names stands store catalog fuel bound opening later queue old new (Err halt) own ends by =
-    let m = came catalog fuel opening by.earlier in
-    let more = run_tells catalog fuel bound m in
+    let more = first_lines Names catalog fuel bound opening by.earlier own ends by.run in
     let P : List Line → Type 0 = λ lines. AppendsPart old new (text_of lines) in
-    subst P (sym (ap (λ (x : DxeMachine). x.lines) (end_ahead Names catalog fuel bound opening by.earlier own ends by.run) ∙ more.1)) (part_of_longer old new m.lines more.0 by.part)
+    subst P (sym more.1) (part_of_longer old new (came catalog fuel opening by.earlier).lines more.0 by.part)
 
 abbrev changes_by : Catalog → ℕ → ℕ → DxeMachine → Option DxeEnd → ℕ
 changes_by catalog fuel n m o = elim o [ Some end ↦ 0 | None ↦ sum_by (dxe_asked catalog m) (dxe_guids catalog fuel m) + dxe_changes catalog fuel n (dxe_step catalog fuel m) ]

@@ -1,7 +1,7 @@
 pub mod Chosen
 pub mod ChosenWays
 pub mod FirstStarts
-mod FirstRuns
+pub mod FirstRuns
 mod Followed
 pub mod Growing
 mod Idle

@@ -2,6 +2,7 @@
 use Rattle.std.proofs.Common.{◌≡◌, ℕ, List, [], Option, Result, Ok, Err, subst}
 use Rattle.std.specs.Prelude.{IfOk}
 use Rattle.boot_io.specs.declared.halt.Halt.{Halt}
+use Rattle.boot_trace.proofs.Lines.{part_none}
 use Rattle.catalog_model.specs.declared.catalog.Catalog.{Catalog}
 use Rattle.store_model.specs.Service.Reading.{fv_bases}
 use Rattle.store_model.specs.StoreState.{StoreState}
@@ -11,7 +12,8 @@ use Rattle.boot_model.specs.declared.phase_end.DxeEnd.{DxeEnd}
 use Rattle.boot_model.specs.DxeMachine.{DxeMachine}
 use Rattle.dxe_choice.specs.Queue.{Queue}
 use Rattle.dxe_core.specs.Standing.{DxeCore, IsCoreOf, StandsFor}
-use Rattle.dxe_dispatch.specs.Ends.{IsOpened, LeavesAt, RunsTo}
+use Rattle.dxe_dispatch.specs.Choices.{LeavesBy, RunsBy, StopsShort}
+use Rattle.dxe_dispatch.specs.Ends.{IsOpened}
 
 -- the volumes at the bases of the store's FV HOBs have just been discovered
 pub stands_at_opening : {M : Type 0} (stands : M → StoreState → Type 0) (store : M) (catalog : Catalog) (core : DxeCore) (s : StoreState) (actions : ℕ) (bases : List ℕ) → stands store s → bases ≡ fv_bases s
@@ -27,7 +29,11 @@ opened stands store catalog taken bases are (Ok core) is = λ s here. stands_at_
 opened stands store catalog taken bases are (Err fault) is = tt
 
 -- the handles of the last machine are those of the core
-pub left : {M : Type 0} (stands : M → StoreState → Type 0) (store : M) (catalog : Catalog) (end : DxeMachine) (core : DxeCore) (queue : Queue) (old new : Option (List ℕ)) (result : Result DxeEnd Halt)
-    → RunsTo stands store catalog end core queue old new result → LeavesAt end core old new result
-left stands store catalog end core queue old new (Ok how) run = (run.0, run.1.machine.core.services.handles)
-left stands store catalog end core queue old new (Err halt) run = run
+pub left : {M : Type 0} (Names : DxeMachine → Option ℕ → Type 0) (stands : M → StoreState → Type 0) (store : M) (catalog : Catalog) (fuel : ℕ) (opening : DxeMachine) (core : DxeCore) (queue : Queue) (old new : Option (List ℕ)) (result : Result DxeEnd Halt)
+    → RunsBy Names stands store catalog fuel opening core queue old new result → LeavesBy Names catalog fuel opening core.services.handles old new result
+left Names stands store catalog fuel opening core queue old new (Ok how) run = record { earlier = run.earlier; run = run.run; ended = run.ended; has = run.now.machine.core.services.handles }
+left Names stands store catalog fuel opening core queue old new (Err halt) run = run
+
+-- memory is wanting before anything ran
+pub none_ran : (Names : DxeMachine → Option ℕ → Type 0) (catalog : Catalog) (fuel : ℕ) (opening : DxeMachine) (old : Option (List ℕ)) → StopsShort Names catalog fuel opening old old
+none_ran Names catalog fuel opening old = record { earlier = []; run = tt; part = part_none old _ }

@@ -1,9 +1,10 @@
 -- A run of DXE by choices: where a driver is to be chosen, the choices may name one. The group is scheduled of the driver to which BEFORE and AFTER lead from it, where that one waits and may start; then, as everywhere, the machine takes its own step.
 -- Own; PI 1.8, volume 2, "DXE Dispatcher", leaves the order to the dispatcher.
-use Rattle.std.specs.Prelude.{◌≡◌, ◌≤◌, ◌<◌, ◌+◌, ℕ, length, sum_by, List, [], ◌∷◌, Option, Some, None, Result, Ok, Err, OnOk, ⊤}
+use Rattle.std.specs.Prelude.{◌≡◌, ◌≤◌, ◌+◌, ℕ, length, sum_by, List, [], ◌∷◌, Option, Some, None, Result, Ok, Err, OnOk, ⊤}
 use Rattle.boot_io.specs.declared.halt.Halt.{Halt}
 use Rattle.boot_io.specs.Sink.{AppendsPart}
 use Rattle.catalog_model.specs.declared.catalog.Catalog.{Catalog}
+use Rattle.store_model.specs.HandleState.{HandleState}
 use Rattle.store_model.specs.StoreState.{StoreState}
 use Rattle.boot_model.specs.declared.phase_end.DxeEnd.{DxeEnd}
 use Rattle.boot_model.specs.DxeChoice.{discovered_order}
@@ -20,6 +21,7 @@ use Rattle.free_laws.specs.Naming.{HasPut, MayName}
 use Rattle.dxe_choice.specs.Aim.{aimed}
 use Rattle.dxe_choice.specs.Queue.{IsQueueOf, Queue}
 use Rattle.dxe_core.specs.Standing.{DxeCore, IsFor, StandsFor}
+use Rattle.dxe_dispatch.specs.declared.boot.Ended.{Ended}
 use Rattle.dxe_dispatch.specs.Ends.{HasEnded, IsNow, StandsAtEnd}
 use Rattle.dxe_dispatch.specs.Turns.{AreOf, IsWithin, TurnsTo}
 
@@ -118,6 +120,38 @@ abbrev pub RunsByChoice : {M S : Type 0} → (S → Option ℕ → Type 0) → (
 RunsByChoice names text faults stands store catalog core sink later queue shown result =
     (s : StoreState) (actions fuel : ℕ) → IsFor catalog fuel core → StandsFor stands store catalog core (dxe_opening catalog s actions)
     → RunsBy (NamesDrivers names text faults sink) stands store catalog fuel (dxe_opening catalog s actions) later queue (text sink) (text shown) result
+
+-- a run by choices that has come to its end, with these handles
+pub record HasCome (Names : DxeMachine → Option ℕ → Type 0) (catalog : Catalog) (fuel : ℕ)
+    (opening : DxeMachine) (how : DxeEnd) (handles : HandleState) (old new : Option (List ℕ)) : Type 0 where
+  pub earlier : List DxeMachine
+  pub run : IsRunBy Names catalog fuel opening earlier
+  pub ended : HasEnded how (came catalog fuel opening earlier) old new
+  pub has : (came catalog fuel opening earlier).handles ≡ handles
+
+-- by its answer, with the handles that it leaves
+abbrev pub LeavesBy : (DxeMachine → Option ℕ → Type 0) → Catalog → ℕ
+    → DxeMachine → HandleState → Option (List ℕ) → Option (List ℕ) → Result DxeEnd Halt → Type 0
+LeavesBy Names catalog fuel opening handles old new (Ok how) = HasCome Names catalog fuel opening how handles old new
+LeavesBy Names catalog fuel opening handles old new (Err halt) = StopsShort Names catalog fuel opening old new
+
+-- the run from the opening over each state, with the actions and the fuel for which the core was made
+abbrev pub LeavesByChoice : {M S : Type 0} → (S → Option ℕ → Type 0) → (S → Option (List ℕ)) → (S → ℕ) → (M → StoreState → Type 0) → M → Catalog
+    → DxeCore → S → DxeCore → S → Result DxeEnd Halt → Type 0
+LeavesByChoice names text faults stands store catalog core sink later shown result =
+    (s : StoreState) (actions fuel : ℕ) → IsFor catalog fuel core → StandsFor stands store catalog core (dxe_opening catalog s actions)
+    → LeavesBy (NamesDrivers names text faults sink) catalog fuel (dxe_opening catalog s actions) later.services.handles (text sink) (text shown) result
+
+-- a whole run by choices, which hands its handles on
+abbrev pub BootsBy : (DxeMachine → Option ℕ → Type 0) → Catalog → ℕ → DxeMachine → Option (List ℕ) → Option (List ℕ) → Result Ended Halt → Type 0
+BootsBy Names catalog fuel opening old new (Ok left) = HasCome Names catalog fuel opening left.«end» left.handles old new
+BootsBy Names catalog fuel opening old new (Err halt) = StopsShort Names catalog fuel opening old new
+
+-- from the hand-off of a store, with the actions that PEI took
+abbrev pub BootsByChoice : {S : Type 0} → (S → Option ℕ → Type 0) → (S → Option (List ℕ)) → (S → ℕ) → Catalog → ℕ → ℕ
+    → S → S → Result Ended Halt → StoreState → Type 0
+BootsByChoice names text faults catalog fuel taken sink shown result s =
+    BootsBy (NamesDrivers names text faults sink) catalog fuel (dxe_opening catalog s taken) (text sink) (text shown) result
 
 -- the evaluations that the steps from these machines allow
 abbrev pub changes_of : Catalog → ℕ → List DxeMachine → ℕ

@@ -13,7 +13,6 @@ use Rattle.boot_model.specs.EvaluationBound.{dxe_evaluations}
 use Rattle.boot_model.specs.Text.{text_of}
 use Rattle.dxe_choice.specs.Queue.{Queue, IsQueueOf}
 use Rattle.dxe_core.specs.Standing.{DxeCore, IsFor, StandsFor}
-use Rattle.dxe_dispatch.specs.declared.boot.Ended.{Ended}
 
 -- the run has ended so, and all of its lines were put
 pub record HasEnded (how : DxeEnd) (end : DxeMachine) (old new : Option (List ℕ)) : Type 0 where
@@ -53,31 +52,9 @@ Runs stands store catalog core later queue old new result =
 abbrev pub IsOpened : {M : Type 0} → (M → StoreState → Type 0) → M → Catalog → ℕ → DxeCore → Type 0
 IsOpened stands store catalog taken core = (s : StoreState) → stands store s → StandsFor stands store catalog core (dxe_opening catalog s taken)
 
--- a run to an end, by its answer, and the handles that it leaves
-abbrev pub LeavesAt : DxeMachine → DxeCore → Option (List ℕ) → Option (List ℕ) → Result DxeEnd Halt → Type 0
-LeavesAt end core old new (Ok how) = HasEnded how end old new × (end.handles ≡ core.services.handles)
-LeavesAt end core old new (Err halt) = AppendsPart old new (text_of end.lines)
-
--- the same of the run from the opening over each state, with the actions and the fuel for which the core was made
-abbrev pub Leaves : {M : Type 0} → (M → StoreState → Type 0) → M → Catalog
-    → DxeCore → DxeCore → Option (List ℕ) → Option (List ℕ) → Result DxeEnd Halt → Type 0
-Leaves stands store catalog core later old new result =
-    (s : StoreState) (actions fuel : ℕ) → IsFor catalog fuel core
-    → StandsFor stands store catalog core (dxe_opening catalog s actions)
-    → LeavesAt (dxe_end catalog fuel s actions) later old new result
-
 -- no more expressions are evaluated than the bound of the run lets
 abbrev pub EvaluatesFew : {M : Type 0} → (M → StoreState → Type 0) → M → Catalog → DxeCore → ℕ → ℕ → Type 0
 EvaluatesFew stands store catalog core before now =
     (s : StoreState) (actions fuel : ℕ) → IsFor catalog fuel core
     → StandsFor stands store catalog core (dxe_opening catalog s actions)
     → now ≤ before + dxe_evaluations catalog fuel (dxe_bound catalog fuel) (dxe_opening catalog s actions) (dxe_end catalog fuel s actions)
-
--- a whole run to an end, which hands its handles on
-abbrev pub BootsTo : DxeMachine → Option (List ℕ) → Option (List ℕ) → Result Ended Halt → Type 0
-BootsTo end old new (Ok ended) = HasEnded ended.end end old new × (end.handles ≡ ended.handles)
-BootsTo end old new (Err halt) = AppendsPart old new (text_of end.lines)
-
--- from the hand-off of a store, with the actions that PEI took
-abbrev pub Boots : Catalog → ℕ → ℕ → Option (List ℕ) → Option (List ℕ) → Result Ended Halt → StoreState → Type 0
-Boots catalog fuel taken old new result s = BootsTo (dxe_end catalog fuel s taken) old new result

@@ -5,9 +5,10 @@ ghost use Rattle.catalog_model.specs.WellFormed.{IsWellFormed};
 ghost use Rattle.store_model.specs.Service.{Present, OfEach};
 ghost use Rattle.store_model.specs.StoreCall.{Anything};
 ghost use Rattle.dxe_core.specs.Standing.{IsFor};
-ghost use Rattle.dxe_dispatch.specs.Ends.{Boots, IsAtOpening, IsOpened, Leaves};
+ghost use Rattle.dxe_dispatch.specs.Choices.{BootsByChoice, LeavesByChoice};
+ghost use Rattle.dxe_dispatch.specs.Ends.{IsAtOpening, IsOpened};
 
-use crate::run::run_first;
+use crate::run::run_dxe;
 use boot_io::{Halt, Sink};
 use boot_model::DxeEnd;
 use catalog_model::Catalog;
@@ -15,6 +16,7 @@ use depex_code::Steps;
 use dxe_choice::DriverQueue;
 use dxe_core::Dxe;
 use dxe_handles::Handles;
+use free_laws::Choice;
 use pi_base::OutOfMemory;
 use std::alloc::Global;
 use std::marker::Brand;
@@ -48,10 +50,11 @@ pub fn dxe_at_opening<M: PeiStore>(
 }
 
 // DXE from its opening, over a queue that is made for it. The expressions that are evaluated are counted in the ledger of a blank.
-fn run_with_ledger<M: PeiStore, S: Sink, L: Ledger>(
+fn run_with_ledger<M: PeiStore, S: Sink, C: Choice<S>, L: Ledger>(
     alloc: Global,
     dxe: &mut Dxe,
     store: &M,
+    choice: &C,
     catalog: &Catalog,
     sink: &mut S,
     blank: Blank,
@@ -62,35 +65,40 @@ fn run_with_ledger<M: PeiStore, S: Sink, L: Ledger>(
     requires name { blank.name ≡ L.name }
     requires parts { blank.parts ≡ L.parts }
     requires counts { 0 < L.parts }
-    ensures row { Leaves M.stands_for store.now catalog.now dxe.old dxe.new (S.text sink.old) (S.text sink.new) result }
+    ensures row { LeavesByChoice (C.drivers choice.now) S.text S.faults M.stands_for store.now catalog.now
+        dxe.old sink.old dxe.new sink.new result }
     ensures few { dxe.old.fuel.taken < 2 ^ 32 → OnOk result (length dxe.new.services.handles.interfaces < 2 ^ 32) }
     ensures faults { HaltsAfter result (S.faults sink.old) (S.faults sink.new) }
 {
     let mut queue = DriverQueue::new(alloc, catalog)?;
     let mut steps = Steps::<L>::new(blank);
-    let end = run_first(dxe, store, &mut queue, catalog, sink, &mut steps);
+    let end = run_dxe(dxe, store, &mut queue, choice, catalog, sink, &mut steps);
     drop(queue);
     end
 }
 
-/// The whole of DXE behind the hand-off of a store. `fuel` is how many actions may be taken in both phases, and `taken` how many PEI took. No more interfaces are left than a `u32` counts.
-pub fn boot_dxe<M: PeiStore, S: Sink>(
+/// The whole of DXE behind the hand-off of a store, where a choice may name the driver that starts. `fuel` is how many actions may be taken in both phases, and `taken` how many PEI took. No more interfaces are left than a `u32` counts.
+pub fn boot_dxe<M: PeiStore, S: Sink, C: Choice<S>>(
     alloc: Global,
     store: &M,
     catalog: &Catalog,
     fuel: u32,
     taken: u32,
+    choice: &C,
     sink: &mut S,
 ) -> Result<Ended, Halt>
     requires catalog { IsWellFormed catalog.now }
     requires state { Present (M.stands_for store.now) Anything }
-    ensures row { OfEach (M.stands_for store.now) Anything (Boots catalog.now fuel taken (S.text sink.old) (S.text sink.new) result) }
+    ensures row { OfEach (M.stands_for store.now) Anything (BootsByChoice (C.drivers choice.now) S.text S.faults catalog.now fuel taken
+        sink.old sink.new result) }
     ensures few { IfOk result (λ ended. length ended.handles.interfaces < 2 ^ 32) }
     ensures faults { HaltsAfter result (S.faults sink.old) (S.faults sink.new) }
 {
     let mut dxe = dxe_at_opening(alloc, store, catalog, fuel, taken)?;
     let blank = Blank::new(1);
-    let end = run_with_ledger::<M, S, Brand>(alloc, &mut dxe, store, catalog, sink, blank);
+    let end = run_with_ledger::<M, S, C, Brand>(
+        alloc, &mut dxe, store, choice, catalog, sink, blank,
+    );
     let handles = dxe.into_handles();
     Ok(Ended { end: end?, handles })
 }

@@ -1,19 +1,15 @@
 -- A run of DXE by the choices of a text: as far as the text has its lines, the free boots that begin so go on from it; and where the text has them no more, no free boot goes on as the text does.
-use Rattle.std.proofs.Common.{◌≡◌, ◌≤◌, ◌<◌, ℕ, ◌+◌, List, [], ◌∷◌, ◌++◌, Option, Some, None, Ok, Err, Result, refl, sym, ap, ◌∙◌, subst, length, arith, inl, inr}
+use Rattle.std.proofs.Common.{◌≡◌, ◌≤◌, ◌<◌, ℕ, ◌+◌, List, [], ◌∷◌, ◌++◌, Option, Some, None, refl, sym, ap, ◌∙◌, subst, length, arith, inl, inr}
 use Rattle.std.specs.Prelude.{◌⊎◌}
 use Rattle.std.proofs.lemmas.Bool.{cases_lt}
 use Rattle.std.proofs.lemmas.List.{take-append-drop}
-use Rattle.boot_io.specs.Faults.{IsPrefix, Rose}
-use Rattle.boot_io.specs.Halted.{HaltsAfter}
-use Rattle.boot_io.specs.declared.halt.Halt.{Halt}
-use Rattle.boot_io.specs.declared.halt.Halt.TheVariants as H
+use Rattle.boot_io.specs.Faults.{IsPrefix}
 use Rattle.pi_base.specs.declared.guid.Guid.{Guid}
 use Rattle.pi_base.specs.declared.phase.Phase.TheVariants.{Dxe}
 use Rattle.catalog_model.specs.declared.catalog.Catalog.{Catalog}
 use Rattle.catalog_model.specs.WellFormed.{IsWellFormed}
 use Rattle.store_model.specs.StoreState.{StoreState}
 use Rattle.boot_model.specs.declared.line.Line.{Line}
-use Rattle.boot_model.specs.declared.phase_end.DxeEnd.{DxeEnd}
 use Rattle.boot_model.specs.DxeMachine.{DxeMachine}
 use Rattle.boot_model.specs.DxeRun.{dxe_opening}
 use Rattle.boot_model.specs.DxeStep.{dxe_step}
@@ -21,28 +17,25 @@ use Rattle.boot_model.specs.FreeRun.{AreFreeDxeLines}
 use Rattle.boot_model.specs.PeiMachine.{PeiMachine}
 use Rattle.boot_model.specs.Text.{text_of}
 use Rattle.boot_model.proofs.Texts.{text_of-append}
-use Rattle.free_laws.specs.DxeAim.{AimIsFree, DxeStartsFreely, IsChoosing, NamesLeadToRoot}
+use Rattle.free_laws.specs.DxeAim.{AimIsFree, DxeStartsFreely, NamesLeadToRoot}
 use Rattle.free_laws.specs.DxeFree.{DxeEndsFreely, DxeGoesOn, DxeLinesGrow}
 use Rattle.free_laws.specs.DxeUnderWay.{DxeOpensUnderWay, FewDriversWait, IsUnderWay}
 use Rattle.free_laws.specs.Naming.{HasPut}
-use Rattle.free_text.specs.Parted.{parted_by}
 use Rattle.free_text.specs.declared.spelled.Spelled.{Spelled}
 use Rattle.free_text.specs.Following.{Tracks}
 use Rattle.free_text.specs.Putting.{HasParted, IsOffHere, PutsGoOn, PutsPart}
 use Rattle.free_text.specs.Spelled.{IsHeld, IsRight, faults_of, left, met, spoken, told, whole}
 use Rattle.free_text.proofs.Fronts.{prefix_then, shorter_front}
-use Rattle.free_text.proofs.Telling.{held_begins, held_on, met_begins, off, tracks_on}
+use Rattle.free_text.proofs.Telling.{held_on, met_begins, off, tracks_on}
 use Rattle.module_names.specs.Named.{AreGuids, AreNames}
-use Rattle.dxe_choice.specs.Queue.{Queue}
-use Rattle.dxe_core.specs.Standing.{DxeCore}
-use Rattle.dxe_dispatch.specs.Choices.{IsAimedBy, IsRunBy, NamesDrivers, RunsBy, came}
+use Rattle.dxe_dispatch.specs.Choices.{IsAimedBy, IsRunBy, came}
 use Rattle.dxe_dispatch.proofs.Chosen.{Any, StepLaws, nearer_by, same_lines, target_at}
 use Rattle.dxe_dispatch.proofs.Growing.{step_grew}
 use Rattle.dxe_dispatch.proofs.Targets.{Aimed, Doing, First, HasScheduled, IsTarget, MayChoose, Own, RunsScript, busy_owns, doing, first_step, none_aimed, none_named, scheduled_owns, target_is}
-use Rattle.free_pei.specs.Starting.{NamesNext}
+use Rattle.whole_boot.specs.ByChoice.{NamesBehind}
+use Rattle.free_check.specs.Starting.{NamesNext}
 use Rattle.free_check.specs.DxeAim.{LeadsTo}
 use Rattle.free_check.specs.DxeFollowed.{printed_by}
-use Rattle.free_check.specs.DxeRun.{FollowsTo, HasFollowed}
 use Rattle.free_check.proofs.FreeSteps.{IsByText, all_print, begins_printed, by_aimed_step, by_own_step, printed_more, tracks_by}
 use Rattle.free_check.proofs.Leading.{LeadLaws, leading_by, starts_readable}
 
@@ -70,34 +63,34 @@ pub record DriverRun : Type 0 where
   pub well : IsWellFormed catalog
   pub guids : AreGuids catalog
   pub are : AreNames catalog (length catalog.modules) names
-  pub held : IsHeld first text (text_of pei.lines)
+  pub held : IsHeld first text []
 
 abbrev pub told_by : Spelled → Option (List ℕ)
 told_by s = Some (spoken s)
 
 abbrev pub TextNames : DriverRun → DxeMachine → Option ℕ → Type 0
-TextNames r = NamesDrivers (NamesNext Dxe r.names) told_by faults_of r.first
+TextNames r = NamesBehind (NamesNext Dxe r.names) told_by faults_of r.first r.pei
 
-abbrev opening : DriverRun → DxeMachine
+abbrev pub opening : DriverRun → DxeMachine
 opening r = dxe_opening r.catalog r.s r.actions
 
-abbrev come : DriverRun → List DxeMachine → DxeMachine
+abbrev pub come : DriverRun → List DxeMachine → DxeMachine
 come r earlier = came r.catalog r.fuel (opening r) earlier
 
-abbrev Here : DriverRun → DxeMachine → List Line → Type 0
+abbrev pub Here : DriverRun → DxeMachine → List Line → Type 0
 Here r m = AreFreeDxeLines r.catalog r.fuel r.pei m
 
-abbrev IsRun : DriverRun → List DxeMachine → Type 0
+abbrev pub IsRun : DriverRun → List DxeMachine → Type 0
 IsRun r earlier = IsRunBy (TextNames r) r.catalog r.fuel (opening r) earlier
 
 both : (r : DriverRun) (m : DxeMachine) → printed_by r.pei m ≡ text_of r.pei.lines ++ text_of m.lines
 both r m = text_of-append r.pei.lines m.lines
 
 -- a sink that has the lines of a machine has met them
-held_at : (r : DriverRun) (m : DxeMachine) (s : Spelled) → HasPut told_by faults_of r.first m.lines s → IsHeld s r.text (printed_by r.pei m)
+held_at : (r : DriverRun) (m : DxeMachine) (s : Spelled) → HasPut told_by faults_of r.first (r.pei.lines ++ m.lines) s → IsHeld s r.text (printed_by r.pei m)
 held_at r m s has =
     let still : IsRight s = has.right ∙ r.held.right in
-    subst (IsHeld s r.text) (sym (both r m)) (held_on r.first s r.text (text_of r.pei.lines) (text_of m.lines) r.held (r.puts r.first s (text_of m.lines) has.put r.held.right still) still)
+    held_on r.first s r.text [] (printed_by r.pei m) r.held (r.puts r.first s (printed_by r.pei m) has.put r.held.right still) still
 
 -- what was met stands in the text, and then what is left
 held_whole : (text printed : List ℕ) (s : Spelled) → IsHeld s text printed → text ≡ printed ++ left s
@@ -152,7 +145,7 @@ step_leads r m target going way by =
     record { told = grew.told; lines = grew.lines ∙ ap (λ xs. xs ++ grew.told) same; by = by_step r m target going way by }
 
 -- As far as the text has the lines of the run, the free boots from the opening whose text begins so are those from here.
-tracks_at : (r : DriverRun) (earlier : List DxeMachine) → IsRun r earlier → IsPrefix (printed_by r.pei (come r earlier)) r.text → Tracks (Here r (opening r)) (Here r (come r earlier)) (printed_by r.pei (come r earlier))
+pub tracks_at : (r : DriverRun) (earlier : List DxeMachine) → IsRun r earlier → IsPrefix (printed_by r.pei (come r earlier)) r.text → Tracks (Here r (opening r)) (Here r (come r earlier)) (printed_by r.pei (come r earlier))
 tracks_at r [] run there = record { back = λ lines are. are; on = λ lines are begins. are }
 tracks_at r (target ∷ earlier) run there =
     let m = come r earlier in
@@ -166,7 +159,7 @@ tracks_at r (target ∷ earlier) run there =
     (λ lines are begins. on.on lines are (subst (λ t. IsPrefix t (text_of lines)) (sym is) begins)))
 
 -- the text parts from the lines of a machine
-abbrev Parts : DriverRun → Spelled → DxeMachine → Type 0
+abbrev pub Parts : DriverRun → Spelled → DxeMachine → Type 0
 Parts r s m = HasParted s r.text (text_of r.pei.lines) (text_of m.lines)
 
 -- it is off in the last step, or was before it
@@ -215,7 +208,7 @@ off_by r s target earlier run parted (inl short) was =
     })
 
 -- Where the text has the lines of the run no more, no free boot goes on as the text does: it is off in the step in which they part.
-off_at : (r : DriverRun) (s : Spelled) (earlier : List DxeMachine) → IsRun r earlier → Parts r s (come r earlier) → IsOffHere (Here r (opening r)) r.text s
+pub off_at : (r : DriverRun) (s : Spelled) (earlier : List DxeMachine) → IsRun r earlier → Parts r s (come r earlier) → IsOffHere (Here r (opening r)) r.text s
 off_at r s [] run parted =
     let o = opening r in
     let some = r.ends r.catalog r.fuel r.pei o r.well.parents (way_at r [] run) in
@@ -223,27 +216,3 @@ off_at r s [] run parted =
     off (Here r o) (Here r o) s r.text (text_of r.pei.lines) (text_of o.lines) parted (record { back = λ lines are. are; on = λ lines are begins. are })
     (record { some = (some.0, some.1, prints some.0 some.1); each = λ lines are. inl (prints lines are) })
 off_at r s (target ∷ earlier) run parted = off_by r s target earlier run parted (cases_lt (length (met s)) (length (printed_by r.pei (come r earlier)))) (off_at r s earlier run.2)
-
--- what a run by a text leaves, from what it leaves as a run by choices
-pub text_leaves : {M : Type 0} (r : DriverRun) (stands : M → StoreState → Type 0) (store : M) (later : DxeCore) (queue : Queue) (new : Spelled) (how : DxeEnd)
-    → RunsBy (TextNames r) stands store r.catalog r.fuel (opening r) later queue (told_by r.first) (told_by new) (Ok how) → faults_of new ≡ faults_of r.first
-    → HasFollowed r.catalog r.fuel r.pei (opening r) how later.services.handles r.text new
-text_leaves r stands store later queue new how by same =
-    let end = come r by.earlier in
-    let held = held_at r end new (record { put = by.ended.text; right = same }) in
-    record {
-      «end» = end;
-      ended = by.ended.ended;
-      followed = record { tracks = tracks_at r by.earlier by.run (held_begins new r.text (printed_by r.pei end) held); held = held };
-      has = by.now.machine.core.services.handles;
-    }
-
-not_right : (old new : Spelled) → IsRight old → Rose (faults_of old) (faults_of new) → IsRight new → ⊥
-not_right old new was rose right = let rises : Rose 0 (faults_of new) = subst (λ n. Rose n (faults_of new)) was rose in absurd (omega (arith, rises, right))
-
-pub text_halts : {M : Type 0} (r : DriverRun) (stands : M → StoreState → Type 0) (store : M) (later : DxeCore) (queue : Queue) (new : Spelled) (halt : Halt)
-    → RunsBy (TextNames r) stands store r.catalog r.fuel (opening r) later queue (told_by r.first) (told_by new) (Err halt) → HaltsAfter {A = DxeEnd} (Err halt) (faults_of r.first) (faults_of new)
-    → FollowsTo r.catalog r.fuel r.pei (opening r) later.services.handles r.text new (Err (parted_by halt))
-text_halts r stands store later queue new H.Memory by count = tt
-text_halts r stands store later queue new H.Sink by count =
-    off_at r new by.earlier by.run (r.parts r.first new r.text (text_of r.pei.lines) (text_of (come r by.earlier).lines) r.held (not_right r.first new r.held.right count.1) by.part)

@@ -1,32 +1,23 @@
 -- The free boots from a machine and those from its next one, by the line with which the text goes on.
-use Rattle.std.proofs.Common.{◌≡◌, ◌⊎◌, ℕ, ◌==◌, Bool, true, false, List, [], ◌∷◌, ◌++◌, Option, Some, None, refl, sym, ap, ◌∙◌, subst, append_assoc, inl, inr, is_some, arith}
-use Rattle.std.specs.Prelude.{flat_map}
-use Rattle.std.proofs.lemmas.List.{append-nil}
-use Rattle.act_code.specs.declared.action.Action.{Action}
+use Rattle.std.proofs.Common.{◌≡◌, ◌⊎◌, ℕ, ◌==◌, Bool, true, false, List, [], ◌∷◌, ◌++◌, Some, None, refl, sym, ap, ◌∙◌, subst, append_assoc, inl, inr, is_some, arith}
 use Rattle.pi_base.specs.declared.phase.Phase.TheVariants.{Dxe}
-use Rattle.pi_base.specs.Lists.{Each}
 use Rattle.boot_io.specs.Faults.{IsPrefix}
-use Rattle.boot_io.specs.Line.{spaced}
 use Rattle.catalog_model.specs.declared.catalog.Catalog.{Catalog}
-use Rattle.catalog_model.specs.declared.catalog.Part.{Part}
 use Rattle.catalog_model.specs.Parts.{part_at}
 use Rattle.boot_model.specs.declared.driver.Scheduled.{Scheduled}
 use Rattle.boot_model.specs.declared.line.Line.{Line}
-use Rattle.boot_model.specs.DxeChoice.{group_scheduled}
 use Rattle.boot_model.specs.DxeMachine.{DxeMachine}
-use Rattle.boot_model.specs.DxeStep.{DxeStarts, dxe_case_of, dxe_start_line, dxe_step, driver_started, in_dxe_case}
-use Rattle.boot_model.specs.DriverLicence.{numbers_of}
+use Rattle.boot_model.specs.DxeStep.{dxe_case_of, dxe_start_line, dxe_step}
 use Rattle.boot_model.specs.FreeRun.{AreFreeDxeLines, MaySchedule}
 use Rattle.boot_model.specs.PeiMachine.{PeiMachine}
-use Rattle.boot_model.specs.PeiStep.{start_lines}
-use Rattle.boot_model.specs.Text.{keyword, line_text, text_of, words}
+use Rattle.boot_model.specs.Text.{line_text, text_of}
 use Rattle.boot_model.proofs.Texts.{text_of-append}
 use Rattle.std.proofs.lemmas.Bool.Decides.{nat_tests}
 use Rattle.boot_laws.proofs.PartLists.{is_equal}
 use Rattle.free_laws.specs.DxeAim.{AimIsFree, DxeStartsFreely, FirstEligibleMayStart, GroupsAreAimed, IsChoosing, aimed}
 use Rattle.free_laws.specs.DxeFree.{DxeGoesOn, DxeLinesGrow, IsOwnCase}
-use Rattle.free_laws.specs.DxeUnderWay.{IsDriverOf, IsUnderWay}
-use Rattle.free_text.specs.Following.{EndsLine, Tracks}
+use Rattle.free_laws.specs.DxeUnderWay.{IsUnderWay}
+use Rattle.free_text.specs.Following.{Tracks}
 use Rattle.free_text.specs.Putting.{AllPrint, PartsByLine}
 use Rattle.free_text.proofs.Fronts.{has_line, prefix_then, same_behind}
 use Rattle.trace_reader.specs.Readable.{IsReadable}
@@ -34,6 +25,7 @@ use Rattle.trace_reader.proofs.LineBodies.{body_lacks}
 use Rattle.dxe_dispatch.proofs.FirstStarts.{StartsFirst, aimed_owns, starts_first}
 use Rattle.free_check.specs.DxeAim.{LeadsTo}
 use Rattle.free_check.specs.DxeFollowed.{printed_by}
+use Rattle.free_check.proofs.Lines.{body, lines_end}
 
 -- the start of a driver is a readable line
 abbrev pub AreReadable : Catalog → Type 0
@@ -61,16 +53,12 @@ begins_printed catalog fuel pei m lines grow are =
 pub by_own_step : (catalog : Catalog) (fuel : ℕ) (pei : PeiMachine) (m : DxeMachine) (text : List ℕ) → DxeGoesOn → m.ended ≡ None → IsOwnCase (dxe_case_of catalog m) m.scheduled → IsByText catalog fuel pei m (dxe_step catalog fuel m) text
 by_own_step catalog fuel pei m text on going own = record { back = λ lines are. (on catalog fuel pei m going own lines).1 are; each = λ lines are. inl ((on catalog fuel pei m going own lines).0 are) }
 
--- what a start line is without its line feed
-abbrev body_of : Line → List ℕ
-body_of line = keyword line ++ flat_map spaced (words line)
-
 -- A boot that starts the group of another driver prints a start that is not the text's: else the text's next line would have led to that driver.
 another_parts : (catalog : Catalog) (fuel : ℕ) (pei : PeiMachine) (m : DxeMachine) (root other : ℕ) (text left : List ℕ) (lines : List Line) → DxeLinesGrow → StartsFirst catalog fuel m other → AreReadable catalog
     → text ≡ printed_by pei m ++ left → LeadsTo catalog m left (Some root) → MaySchedule catalog m other → (root == other) ≡ false → AreFreeDxeLines catalog fuel pei (dxe_step catalog fuel (aimed catalog m other)) lines
     → PartsByLine text (printed_by pei m) lines
 another_parts catalog fuel pei m root other text left lines grow s readable whole leads may apart are = record {
-  line = body_of start;
+  line = body start;
   lacks = body_lacks start (readable s.first s.driver);
   prints = prints;
   other = other_line;
@@ -127,12 +115,6 @@ by_aimed_step catalog fuel pei m root text left on starts aims first groups grow
         let later = (on catalog fuel pei (aimed catalog m other) choosing.going (aimed_owns catalog fuel m other t) lines).0 are in
         inr (another_parts catalog fuel pei m root other text left lines grow t readable whole leads free e later, (_, s.rest, s.lines))
 
--- the text of a line and others ends with a line feed
-text_ends : (line : Line) (rest : List Line) → EndsLine (text_of (line ∷ rest))
-text_ends line [] = (body_of line, append-nil (line_text line))
-text_ends line (next ∷ rest) =
-    let later = text_ends next rest in (line_text line ++ later.0, ap (λ t. line_text line ++ t) later.1 ∙ sym (append_assoc (line_text line) later.0 (10 ∷ [])))
-
 -- where the text goes on with all that the later machine printed, the free boots from there are those whose text begins so
 pub tracks_by : (catalog : Catalog) (fuel : ℕ) (pei : PeiMachine) (m later : DxeMachine) (text : List ℕ) (told : List Line) → later.lines ≡ m.lines ++ told → IsByText catalog fuel pei m later text → IsPrefix (printed_by pei later) text
     → Tracks (AreFreeDxeLines catalog fuel pei m) (AreFreeDxeLines catalog fuel pei later) (printed_by pei later)
@@ -148,7 +130,7 @@ tracks_by catalog fuel pei m later text told lines_are is stands = record { back
         let behind : text_of (more.0 ∷ more.1) ++ begins.0 ≡ (p.line ++ 10 ∷ []) ++ p.prints.0 =
         same_behind printed (text_of (more.0 ∷ more.1) ++ begins.0) ((p.line ++ 10 ∷ []) ++ p.prints.0)
         (sym (append_assoc printed (text_of (more.0 ∷ more.1)) begins.0) ∙ ap (λ t. t ++ begins.0) (sym all) ∙ sym begins.1 ∙ p.prints.1 ∙ append_assoc printed (p.line ++ 10 ∷ []) p.prints.0) in
-        let line = has_line p.line (text_of (more.0 ∷ more.1)) ((p.line ++ 10 ∷ []) ++ p.prints.0) p.lacks (begins.0, sym behind) (p.prints.0, refl) (text_ends more.0 more.1) in
+        let line = has_line p.line (text_of (more.0 ∷ more.1)) ((p.line ++ 10 ∷ []) ++ p.prints.0) p.lacks (begins.0, sym behind) (p.prints.0, refl) (lines_end more.0 more.1) in
         let front : IsPrefix (printed ++ (p.line ++ 10 ∷ [])) (printed_by pei later) =
         (line.0, all ∙ ap (λ t. printed ++ t) line.1 ∙ sym (append_assoc printed (p.line ++ 10 ∷ []) line.0)) in
         p.other (prefix_then (printed ++ (p.line ++ 10 ∷ [])) (printed_by pei later) text front stands)

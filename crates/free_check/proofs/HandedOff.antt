@@ -1,29 +1,32 @@
--- A boot that goes on to DXE, along a text.
+-- A boot behind its PEI, along a text.
 use Rattle.std.proofs.Common.{◌≡◌, ◌≤◌, ◌<◌, ℕ, List, [], ◌∷◌, ◌++◌, Some, is_some, refl, sym, ap, ◌∙◌, subst, append_assoc, arith, inl, inr, length}
 use Rattle.std.specs.Prelude.{◌↔◌, ◌⊎◌}
 use Rattle.std.proofs.lemmas.Bool.{cases_lt}
 use Rattle.std.proofs.lemmas.Grind.{flat_map-append}
 use Rattle.boot_io.specs.Faults.{IsPrefix}
 use Rattle.catalog_model.specs.declared.catalog.Catalog.{Catalog}
-use Rattle.store_model.specs.HandleState.{HandleState}
-use Rattle.boot_end.specs.Closing.{closing, closing_text}
-use Rattle.boot_end.proofs.ClosingTexts.{closing_is}
-use Rattle.boot_model.specs.BootRun.{both_lines, dxe_result}
+use Rattle.store_model.specs.HandleState.{no_handles}
+use Rattle.whole_boot.specs.Closing.{closing}
+use Rattle.boot_model.specs.BootRun.{both_lines, dxe_result, pei_lines}
 use Rattle.boot_model.specs.DxeMachine.{DxeMachine}
-use Rattle.boot_model.specs.FreeRun.{AreFreeDxeLines}
+use Rattle.boot_model.specs.FreeRun.{AreFreeDxeLines, AreFreeLinesAfter, AreFreePeiLines}
 use Rattle.boot_model.specs.PeiMachine.{PeiMachine}
 use Rattle.boot_model.specs.Text.{line_text, text_of}
 use Rattle.boot_model.specs.declared.line.Line.{Line}
+use Rattle.boot_model.specs.declared.line.RunEnd.{RunEnd}
 use Rattle.boot_model.specs.declared.phase_end.DxeEnd.{DxeEnd}
+use Rattle.boot_model.specs.declared.phase_end.PeiEnd.{PeiEnd}
+use Rattle.boot_model.proofs.Texts.{text_of-append}
 use Rattle.free_laws.specs.DxeFree.{DxeEndsSo, DxeLinesGrow}
+use Rattle.free_laws.specs.PeiFree.{PeiEndsSo}
 use Rattle.free_text.specs.declared.spelled.Spelled.{Spelled}
 use Rattle.free_text.specs.Following.{EndsLine, IsOff, Tracks}
 use Rattle.free_text.specs.Putting.{IsOffHere}
 use Rattle.free_text.specs.Spelled.{met}
 use Rattle.free_text.proofs.Fronts.{prefix_then, shorter_front}
 use Rattle.free_text.proofs.Telling.{met_begins}
-use Rattle.free_pei.proofs.Lines.{lines_end}
-use Rattle.free_check.specs.DxeFollowed as D
+use Rattle.free_check.proofs.Lines.{lines_end}
+use Rattle.free_check.specs.DxeFollowed.{printed_by}
 use Rattle.free_check.specs.Following.{IsLast}
 
 -- of the boots that go on from here, those from the start of what follows
@@ -72,21 +75,35 @@ begin_with_pei law catalog fuel pei m lines boots =
     let rest = m.lines ++ behind.rest in
     (text_of rest, ap text_of (behind.printed_first ∙ append_assoc pei.lines m.lines behind.rest) ∙ flat_map-append line_text pei.lines rest)
 
+-- where PEI has ended so no other lines follow than those behind that end
+pub ends_so : PeiEndsSo → (catalog : Catalog) (fuel : ℕ) (pei : PeiMachine) (how : PeiEnd) → pei.ended ≡ Some how → (lines : List Line) → AreFreePeiLines catalog fuel pei lines ↔ AreFreeLinesAfter catalog fuel pei (Some how) lines
+ends_so law catalog fuel pei how ended lines = subst (λ o. AreFreePeiLines catalog fuel pei lines ↔ AreFreeLinesAfter catalog fuel pei o lines) ended (law catalog fuel pei (ap is_some ended) lines)
+
+-- behind the lines of PEI come the last ones
+pub last_of_pei : (Start Here : List Line → Type 0) (pei : PeiMachine) (end : RunEnd) → Tracks Start Here (text_of pei.lines) → ((lines : List Line) → Here lines ↔ (lines ≡ pei_lines pei end))
+    → IsLast Start (text_of pei.lines) (text_of (closing pei.store no_handles end))
+last_of_pei Start Here pei end tracks ends = record {
+  all = pei_lines pei end;
+  boots = tracks.back (pei_lines pei end) ((ends (pei_lines pei end)).1 refl);
+  text_is = text_of-append pei.lines (closing pei.store no_handles end);
+  only = λ others boots begins. ap text_of ((ends others).0 (tracks.on others boots begins));
+}
+
 -- behind the lines of both phases come the last ones
-pub last_of_dxe : DxeEndsSo → (Start Here : List Line → Type 0) (catalog : Catalog) (fuel : ℕ) (text : List ℕ) (pei : PeiMachine) (opening end : DxeMachine) (how : DxeEnd) (handles : HandleState) (s : Spelled)
-    → Tracks Start Here (text_of pei.lines) → Same Here (AreFreeDxeLines catalog fuel pei opening) → ((others : List Line) → AreFreeDxeLines catalog fuel pei opening others → IsPrefix (text_of pei.lines) (text_of others))
-    → end.ended ≡ Some how → end.handles ≡ handles → D.IsFollowed catalog fuel pei opening end text s → IsLast Start (D.printed_by pei end) (closing_text pei.store handles (dxe_result how))
-last_of_dxe law Start Here catalog fuel text pei opening end how handles s tracks same grow ended has followed =
-    let all : List Line = (pei.lines ++ end.lines) ++ closing pei.store handles (dxe_result how) in
-    let whole_is : both_lines pei end end.ended ≡ all =
-    ap (both_lines pei end) ended ∙ ap (λ h. pei.lines ++ end.lines ++ closing pei.store h (dxe_result how)) has in
+pub last_of_dxe : DxeEndsSo → (Start Here : List Line → Type 0) (catalog : Catalog) (fuel : ℕ) (pei : PeiMachine) (opening end : DxeMachine) (how : DxeEnd)
+    → Tracks Start Here (text_of pei.lines) → Same Here (AreFreeDxeLines catalog fuel pei opening) → Tracks (AreFreeDxeLines catalog fuel pei opening) (AreFreeDxeLines catalog fuel pei end) (printed_by pei end)
+    → end.ended ≡ Some how → IsLast Start (printed_by pei end) (text_of (closing pei.store end.handles (dxe_result how)))
+last_of_dxe law Start Here catalog fuel pei opening end how tracks same followed ended =
+    let last = closing pei.store end.handles (dxe_result how) in
+    let all : List Line = (pei.lines ++ end.lines) ++ last in
+    let whole_is : both_lines pei end end.ended ≡ all = ap (both_lines pei end) ended in
     let ends : (lines : List Line) → AreFreeDxeLines catalog fuel pei end lines ↔ (lines ≡ both_lines pei end end.ended) = law catalog fuel pei end (ap is_some ended) in
-    let begins : IsPrefix (text_of pei.lines) (D.printed_by pei end) = (text_of end.lines, flat_map-append line_text pei.lines end.lines) in
+    let begins : IsPrefix (text_of pei.lines) (printed_by pei end) = (text_of end.lines, text_of-append pei.lines end.lines) in
     record {
       all = all;
-      boots = tracks.back all ((same all).1 (followed.tracks.back all ((ends all).1 (sym whole_is))));
-      text_is = flat_map-append line_text (pei.lines ++ end.lines) (closing pei.store handles (dxe_result how)) ∙ ap (λ t. D.printed_by pei end ++ t) (closing_is pei.store handles (dxe_result how));
+      boots = tracks.back all ((same all).1 (followed.back all ((ends all).1 (sym whole_is))));
+      text_is = text_of-append (pei.lines ++ end.lines) last;
       only = λ others boots prints.
-          let here = tracks.on others boots (prefix_then (text_of pei.lines) (D.printed_by pei end) (text_of others) begins prints) in
-          ap text_of ((ends others).0 (followed.tracks.on others ((same others).0 here) prints) ∙ whole_is);
+          let here = tracks.on others boots (prefix_then (text_of pei.lines) (printed_by pei end) (text_of others) begins prints) in
+          ap text_of ((ends others).0 (followed.on others ((same others).0 here) prints) ∙ whole_is);
     }

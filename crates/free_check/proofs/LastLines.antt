@@ -1,7 +1,6 @@
 -- The last lines of a boot against a text.
 use Rattle.std.proofs.Common.{◌≡◌, ℕ, ◌+◌, ◌-◌, List, [], ◌++◌, refl, sym, ◌∙◌, inl, Some}
 use Rattle.std.proofs.lemmas.List.{append-nil}
-use Rattle.std.specs.Io.KnownBytes.{Appends}
 use Rattle.boot_io.specs.Faults.{IsPrefix}
 use Rattle.boot_io.specs.Sink.{AppendsPart}
 use Rattle.boot_model.specs.declared.line.Line.{Line}
@@ -11,22 +10,20 @@ use Rattle.free_text.specs.Following.{Tracks}
 use Rattle.free_text.specs.Putting.{AllPrint, IsOffHere}
 use Rattle.free_text.specs.Spelled.{IsHeld, IsRight, met, spoken}
 use Rattle.free_text.proofs.Fronts.{prefix_then}
-use Rattle.free_text.proofs.Telling.{failed, goes_on, held_on, off}
+use Rattle.free_text.proofs.Telling.{failed, off}
 use Rattle.free_check.specs.Following.{IsLast, IsWhole}
 
--- the last lines were met
-pub whole_by : (Lines : List Line → Type 0) (old new : Spelled) (text printed last : List ℕ) → IsHeld old text printed → IsLast Lines printed last → IsRight new → Appends (Some (spoken old)) (Some (spoken new)) last
-    → IsWhole Lines text (met new) new
-whole_by Lines old new text printed last held is right puts =
-    let here = held_on old new text printed last held (goes_on old new last puts held.right right) right in
-    let all : met new ≡ text_of is.all = here.met_is ∙ sym is.text_is in
+-- the whole boot was met
+pub whole_by : (Lines : List Line → Type 0) (s : Spelled) (text printed last : List ℕ) → IsHeld s text (printed ++ last) → IsLast Lines printed last → IsWhole Lines text (met s) s
+whole_by Lines s text printed last held is =
+    let all : met s ≡ text_of is.all = held.met_is ∙ sym is.text_is in
     record {
-      held = record { whole_is = here.whole_is; met_is = refl; right = right };
+      held = record { whole_is = held.whole_is; met_is = refl; right = held.right };
       lines = is.all;
       boots = is.boots;
       is = all;
       only = λ others boots begins.
-          let more : IsPrefix printed (text_of others) = prefix_then printed (met new) (text_of others) (last, here.met_is) begins in
+          let more : IsPrefix printed (text_of others) = prefix_then printed (met s) (text_of others) (last, held.met_is) begins in
           is.only others boots more ∙ sym all;
     }
 

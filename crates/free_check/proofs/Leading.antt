@@ -1,5 +1,5 @@
 -- From the text's next line to the driver of the group that it starts.
-use Rattle.std.proofs.Common.{◌≡◌, ℕ, zero, suc, ◌<◌, ◌≤◌, ◌+◌, ◌-◌, true, List, [], ◌∷◌, Option, Some, None, length, refl, sym, ap, ◌∙◌, subst, arith, is_some}
+use Rattle.std.proofs.Common.{◌≡◌, ℕ, zero, suc, ◌<◌, ◌-◌, true, List, [], ◌∷◌, Option, Some, length, refl, sym, ap, ◌∙◌, subst, arith, is_some}
 use Rattle.std.specs.Prelude.{slice_get, unwrap_or, option_map}
 use Rattle.pi_base.specs.declared.guid.Guid.{Guid}
 use Rattle.pi_base.specs.declared.phase.Phase.TheVariants.{Dxe}
@@ -22,7 +22,7 @@ use Rattle.module_names.specs.Named.{AreGuids, AreNames}
 use Rattle.printed_words.specs.Words.{IsGuid}
 use Rattle.dxe_dispatch.specs.Choices.{root_of}
 use Rattle.dxe_dispatch.proofs.Targets.{Leading}
-use Rattle.free_pei.specs.Starting.{NamesNext}
+use Rattle.free_check.specs.Starting.{NamesNext}
 use Rattle.free_check.specs.DxeAim.{BeginsWithStart, LeadsTo}
 use Rattle.free_check.proofs.FreeSteps.{AreReadable}
 

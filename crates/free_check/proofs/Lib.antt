@@ -1,7 +1,13 @@
+mod Choosing
 mod DriverTextRuns
-mod FreeSteps
-mod Leading
+mod Facts
 mod FirstOff
-mod LastLines
-mod EndedInPei
+mod FreeSteps
+mod Going
 mod HandedOff
+mod LastLines
+mod Leading
+mod Lines
+mod Reading
+mod TextRuns
+mod WholeTexts

@@ -1,6 +1,7 @@
 pub mod DxeAim
 pub mod DxeFollowed
-pub mod DxeRun
 pub mod Following
+pub mod StartLine
+pub mod Starting
 pub mod Verdict
 pub mod Checking

@@ -20,8 +20,8 @@ use mod_catalog::catalog;
 use module_names::{Names, NamesFault};
 use phys_mem::Rom;
 use pi_base::{OutOfMemory, Seq};
-use plan_board::roms;
 use std::alloc::Global;
+use whole_boot::roms;
 
 /// Why a text is not checked.
 #[derive(Clone, Copy, Debug, PartialEq, Eq)]

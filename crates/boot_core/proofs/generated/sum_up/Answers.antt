@@ -5,7 +5,7 @@ use Rattle.boot_model.specs.PeiRun.{pei_end}
 use Rattle.boot_model.specs.PlanBoard.{board_of}
 use Rattle.boot_core.specs.declared.generated.TheConstants.{FUEL}
 use Rattle.boot_core.specs.GeneratedOutcome.{generated_board, generated_images}
-use Rattle.boot_core.specs.Running.{IsRun}
+use Rattle.whole_boot.specs.FirstBoot.{IsRun}
 use Rattle.boot_core.proofs.generated.sum_up.Goals as goal
 
 pub returns-in-Ok : goal.returns-in-Ok

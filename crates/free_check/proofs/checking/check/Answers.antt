@@ -7,7 +7,7 @@ use Rattle.catalog_model.specs.ImageFault.{IsImageFault}
 use Rattle.free_check.specs.declared.checking.CheckFault.{CheckFault}
 use Rattle.free_check.specs.declared.checking.CheckFault.TheVariants.{Image, Twins, Memory}
 use Rattle.free_check.specs.Checking.{Checks, IsFaultTold}
-use Rattle.plan_board.proofs.SomeVolume.{some_volume}
+use Rattle.whole_boot.proofs.SomeVolume.{some_volume}
 use Rattle.free_check.proofs.checking.check.Goals as goal
 
 -- a fault that is told as it is, is the images' first

@@ -1,2 +1,0 @@
-pub mod ClosingTexts
-mod ClosingLines

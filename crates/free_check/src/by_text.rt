@@ -1,0 +1,42 @@
+//! The choice that a text has: the module that starts next is the one of which the text's next line says so.
+ghost use Rattle.free_check.specs.Starting.{NamesNext};
+
+use crate::text_start::next_start;
+use free_laws::Choice;
+use free_text::Spelled;
+use module_names::Names;
+use pi_base::Phase;
+
+/// The module whose start is the next line of the text that the boot is held against.
+#[derive(Clone, Copy)]
+pub struct ByText<'n> {
+    /// The names of the modules.
+    pub names: &'n Names,
+}
+
+// The module whose start in a phase is the next line of a text.
+fn named_next(names: &Names, text: &Spelled<'_>, phase: Phase) -> Option<u32>
+    ensures { NamesNext phase names.now.volumes.items text.now result }
+{
+    match next_start(text, phase) {
+        Some((volume, name)) => names.number_of(volume, &name),
+        None => None,
+    }
+}
+
+impl<'t> Choice<Spelled<'t>> for ByText<'_> {
+    ghost use Rattle.pi_base.specs.declared.phase.Phase.TheVariants.{Pei, Dxe};
+    ghost use Rattle.free_check.specs.Starting.{NamesNext};
+
+    ghost peims = { λ by text named. NamesNext Pei by.names.now.volumes.items text named };
+
+    ghost drivers = { λ by text named. NamesNext Dxe by.names.now.volumes.items text named };
+
+    fn peim(&self, sink: &Spelled<'t>) -> Option<u32> {
+        named_next(self.names, sink, Phase::Pei)
+    }
+
+    fn driver(&self, sink: &Spelled<'t>) -> Option<u32> {
+        named_next(self.names, sink, Phase::Dxe)
+    }
+}

@@ -1,0 +1,5 @@
+pub mod Behind
+pub mod BootEnd
+pub mod ByChoice
+pub mod Closing
+pub mod FirstBoot

@@ -1,0 +1,14 @@
+//! A boot over a store, from its first line to its last: PEI, DXE behind a hand-off, the lists, the handles and the result; where several modules may start, a choice that is handed in says which.
+//!
+//! Tried in `boot_trials`: `tests`.
+#![tactic(auto)]
+
+mod board;
+mod boot;
+mod closing;
+mod first;
+
+pub use board::roms;
+pub use boot::{Ran, boot_by_choice};
+pub use closing::put_closing;
+pub use first::boot_store;
