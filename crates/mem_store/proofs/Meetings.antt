@@ -66,16 +66,16 @@ first_none s sweep ppi from (suc count) none =
 
 first_met : (s : StoreState) (sweep : Sweep) (ppi from count note : ℕ) → from ≤ note → note < from + count → one s ppi note ≡ true
     → ((other : ℕ) → from ≤ other → other < note → one s ppi other ≡ false) → first_firing s sweep (map (with ppi) (numbers from count)) ≡ firing_at s sweep (ppi, note)
-first_met s sweep ppi from zero note low high yes none = absurd (omega (arith, low, high))
-first_met s sweep ppi from (suc count) note low high yes none =
+first_met s sweep ppi from zero note low high met none = absurd (omega (arith, low, high))
+first_met s sweep ppi from (suc count) note low high met none =
     let rest : List (ℕ × ℕ) = map (with ppi) (numbers (from + 1) count) in
     let step : Bool → Option (Firing × Sweep) = λ b. cond b (firing_at s sweep (ppi, from)) (first_firing s sweep rest) in
     elim (eqb_tells from note) [
-      | inl same ↦ ap step (ap (one s ppi) same.1 ∙ yes) ∙ ap (λ n. firing_at s sweep (ppi, n)) same.1
+      | inl same ↦ ap step (ap (one s ppi) same.1 ∙ met) ∙ ap (λ n. firing_at s sweep (ppi, n)) same.1
       | inr apart ↦
           let less : from < note = omega (arith, low, apart.1) in
           ap step (none from (omega arith) less)
-          ∙ first_met s sweep ppi (from + 1) count note (omega (arith, less)) (omega (arith, high)) yes (λ other l h. none other (omega (arith, l)) h)
+          ∙ first_met s sweep ppi (from + 1) count note (omega (arith, less)) (omega (arith, high)) met (λ other l h. none other (omega (arith, l)) h)
     ]
 
 meets_one : (s : StoreState) (rows : Rows) (ppi note : ℕ) (b : Bool) → rows ≡ all_rows s → meets rows ppi note ≡ b → one s ppi note ≡ b
@@ -93,8 +93,8 @@ pub row_first : (s : StoreState) (rows : Rows) (sweep : Sweep) (ppi from note : 
 row_first s rows sweep ppi from note are met =
     let low = met.0 in
     let high = met.1 in
-    first_met s sweep ppi from (sweep.note_to - from) note low (omega (arith, low, high)) (meets_one s rows ppi note true are met.2.0)
-    (λ other l h. meets_one s rows ppi other false are (met.2.1 other l h))
+    first_met s sweep ppi from (sweep.note_to - from) note low (omega (arith, low, high)) (meets_one s rows ppi note true are met.2)
+    (λ other l h. meets_one s rows ppi other false are (met.3 other l h))
 
 -- PPIs that meet none are passed over
 pub passed : (s : StoreState) (rows : Rows) (sweep : Sweep) (all : Option (Firing × Sweep)) (count from to : ℕ) → rows ≡ all_rows s → to ≡ from + count → to ≤ sweep.ppi_to

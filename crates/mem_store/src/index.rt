@@ -9,6 +9,7 @@ ghost use Rattle.store_model.specs.StoreCall.{Anything, AreDescs};
 ghost use Rattle.index_laws.specs.Rows.{row_at};
 ghost use Rattle.heap_store.specs.HeapState as H;
 ghost use Rattle.mem_store.specs.Indexed.{Becomes, BecomesCore, held};
+ghost use Rattle.mem_store.specs.Picked.{is_picked, picked_of};
 
 use guid_index::{GuidIndex, Indexed};
 use heap_store::HeapStore;
@@ -41,30 +42,45 @@ pub(crate) fn row_of(behind: &HeapStore, d: Desc) -> Indexed
     }
 }
 
-// Puts the rows of descriptors behind the others. False where one has no room.
-fn put_rows(rows: &mut GuidIndex, behind: &HeapStore, list: &[Desc]) -> bool
-    requires { Present (H.StandsFor behind.now) (AreDescs list.now) }
-    ensures { OfEach (H.StandsFor behind.now) (AreDescs list.now)
-        (λ s. result ≡ true → rows.new ≡ rows.old ++ map (row_at s) (offsets list.now)) }
+// Which of the descriptors that are handed in have their rows put into a list.
+#[derive(Clone, Copy)]
+pub(crate) enum Which {
+    All,
+    Callbacks,
+    Others,
+}
+
+// Whether a descriptor is one of these.
+fn is_one(which: Which, is_callback: bool) -> bool
+    ensures { result ≡ is_picked which is_callback }
 {
-    'descs: for d in list {
-        let row = row_of(behind, *d);
-        if !rows.push(row) {
-            return false;
-        }
+    match which {
+        Which::All => true,
+        Which::Callbacks => is_callback,
+        Which::Others => !is_callback,
+    }
+}
+
+// Puts a row behind the others, where that is due. False where it has no room.
+fn put_if(rows: &mut GuidIndex, due: bool, row: Indexed) -> bool
+    ensures { result ≡ true → rows.new ≡ rows.old ++ (if due then row ∷ [] else []) }
+{
+    if due {
+        return rows.push(row);
     }
     true
 }
 
-// Puts the rows of the callbacks among descriptors, or of the others, behind those that are there. False where one has no room.
-fn put_notes(rows: &mut GuidIndex, behind: &HeapStore, list: &[Desc], callbacks: bool) -> bool
+// Puts the rows of these descriptors of a list behind the others. False where one has no room.
+fn put_rows(rows: &mut GuidIndex, behind: &HeapStore, list: &[Desc], which: Which) -> bool
     requires { Present (H.StandsFor behind.now) (AreDescs list.now) }
-    ensures { OfEach (H.StandsFor behind.now) (AreDescs list.now) (λ s. result ≡ true
-        → rows.new ≡ rows.old ++ map (row_at s) (if callbacks then new_callbacks s list.now else new_dispatches s list.now)) }
+    ensures { OfEach (H.StandsFor behind.now) (AreDescs list.now)
+        (λ s. result ≡ true → rows.new ≡ rows.old ++ map (row_at s) (picked_of which s list.now)) }
 {
     'descs: for d in list {
         let row = row_of(behind, *d);
-        if behind.is_callback(*d) == callbacks && !rows.push(row) {
+        let due = is_one(which, behind.is_callback(*d));
+        if !put_if(rows, due, row) {
             return false;
         }
     }
@@ -88,18 +104,18 @@ impl Index {
     }
 
     // PPIs are installed.
-    pub(crate) fn install(&mut self, behind: &HeapStore, list: &[Desc])
+    pub(crate) fn put_ppis(&mut self, behind: &HeapStore, list: &[Desc])
         requires { Present (H.StandsFor behind.now) (AreDescs list.now) }
         ensures { OfEach (H.StandsFor behind.now) (AreDescs list.now)
             (λ s. Becomes self.old self.new (record (held self.old) { ppis = self.old.ppis ++ map (row_at s) (offsets list.now) })) }
     {
         if self.right {
-            self.right = put_rows(&mut self.ppis, behind, list);
+            self.right = put_rows(&mut self.ppis, behind, list, Which::All);
         }
     }
 
     // Notifications are registered.
-    pub(crate) fn notify(&mut self, behind: &HeapStore, list: &[Desc])
+    pub(crate) fn put_notifications(&mut self, behind: &HeapStore, list: &[Desc])
         requires { Present (H.StandsFor behind.now) (AreDescs list.now) }
         ensures { OfEach (H.StandsFor behind.now) (AreDescs list.now) (λ s. Becomes self.old self.new (record (held self.old) {
           callbacks = self.old.callbacks ++ map (row_at s) (new_callbacks s list.now);
@@ -107,13 +123,13 @@ impl Index {
         })) }
     {
         if self.right {
-            self.right = put_notes(&mut self.callbacks, behind, list, true)
-                && put_notes(&mut self.dispatches, behind, list, false);
+            self.right = put_rows(&mut self.callbacks, behind, list, Which::Callbacks)
+                && put_rows(&mut self.dispatches, behind, list, Which::Others);
         }
     }
 
     // A PPI is put in the place of another.
-    pub(crate) fn reinstall(&mut self, place: u32, row: Indexed)
+    pub(crate) fn put_other(&mut self, place: u32, row: Indexed)
         ensures { Becomes self.old self.new (record (held self.old) { ppis = slice_set self.old.ppis place row }) }
     {
         if self.right {
@@ -123,7 +139,7 @@ impl Index {
     }
 
     // The PPI of permanent memory is installed.
-    pub(crate) fn install_core(&mut self, behind: &HeapStore)
+    pub(crate) fn put_core(&mut self, behind: &HeapStore)
         requires { Present (H.StandsFor behind.now) Anything }
         ensures { OfEach (H.StandsFor behind.now) Anything (λ s. BecomesCore self.old self.new s) }
     {

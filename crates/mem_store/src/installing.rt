@@ -23,7 +23,7 @@ impl MemStore {
         services_keep_rows();
         match self.behind.install(list, by) {
             Ok(sweep) => {
-                self.index.install(&self.behind, list);
+                self.index.put_ppis(&self.behind, list);
                 Ok(sweep)
             }
             Err(fault) => Err(fault),
@@ -45,7 +45,7 @@ impl MemStore {
         let row = row_of(&self.behind, new);
         match self.behind.reinstall(old, new, by) {
             Ok(sweep) => {
-                self.index.reinstall(sweep.ppi_at, row);
+                self.index.put_other(sweep.ppi_at, row);
                 Ok(sweep)
             }
             Err(fault) => Err(fault),
@@ -62,7 +62,7 @@ impl MemStore {
         services_keep_rows();
         match self.behind.notify(list, by) {
             Ok(sweep) => {
-                self.index.notify(&self.behind, list);
+                self.index.put_notifications(&self.behind, list);
                 Ok(sweep)
             }
             Err(fault) => Err(fault),
@@ -78,7 +78,7 @@ impl MemStore {
         rows_answer();
         match self.behind.core_install() {
             Ok(sweep) => {
-                self.index.install_core(&self.behind);
+                self.index.put_core(&self.behind);
                 Ok(sweep)
             }
             Err(fault) => Err(fault),

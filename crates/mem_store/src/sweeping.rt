@@ -72,11 +72,13 @@ impl Index {
         let mut ppi = sweep.ppi_at;
         let mut from = sweep.note_at;
         'ppis: while ppi < sweep.ppi_to {
-            if let Some(note) = self.note_of(ppi, from, sweep.note_to) {
-                return Some((ppi, note));
+            match self.note_of(ppi, from, sweep.note_to) {
+                Some(note) => return Some((ppi, note)),
+                None => {
+                    ppi = self.ppi_from(sweep, ppi + 1);
+                    from = sweep.note_from;
+                }
             }
-            ppi = self.ppi_from(sweep, ppi + 1);
-            from = sweep.note_from;
         }
         None
     }
