@@ -9,7 +9,7 @@ ghost use Rattle.store_model.specs.StateFacts.{IsDesc};
 ghost use Rattle.store_model.specs.StoreCall.{Anything, AreBothDescs, AreDescs, AreFew};
 ghost use Rattle.store_model.specs.declared.store_handle.Desc.{Desc as OfDesc};
 ghost use Rattle.ppi_links.specs.Linked.{IsLinked};
-ghost use Rattle.heap_store.specs.Made.{CanMakePpis, IsMade};
+ghost use Rattle.heap_store.specs.Made.{CanMakePpis, HavePairs, IsMade};
 
 use crate::store::HeapStore;
 use hob_codec::HEADER_LEN;
@@ -96,18 +96,22 @@ impl HeapStore {
         }
     }
 
-    // Installs PPIs, in the order of the list.
-    pub(crate) fn install_ppis(&mut self, list: &[Desc], by: u32) -> Result<Sweep, StoreFault>
-        requires state { Present (StandsFor self.old) (AreDescs list.now) }
+    /// Installs PPIs, in the order of the list, that make so many pairs with the dispatch notifications. Where they make none, no list is walked.
+    pub fn install_counted(
+        &mut self,
+        list: &[Desc],
+        by: u32,
+        pairs: u64,
+    ) -> Result<Sweep, StoreFault>
+        requires state { Present (StandsFor self.old) (HavePairs list.now pairs) }
         requires few { AreFew list.now }
-        ensures { Performs false (And (StandsFor self.old) (AreDescs list.now)) (StandsFor self.new)
+        ensures { Performs false (And (StandsFor self.old) (HavePairs list.now pairs)) (StandsFor self.new)
             (λ s. install s list.now by) result }
     {
         pairs_stay();
         if !self.are_ppis(list) {
             return Err(StoreFault::Bad);
         }
-        let pairs = count_pairs(&self.heap, &self.memory, &self.heads, list);
         if self.is_full(list.len() as u64, pairs) {
             return Err(StoreFault::Full);
         }
@@ -122,6 +126,17 @@ impl HeapStore {
             pairs,
         );
         Ok(sweep)
+    }
+
+    // Installs PPIs, in the order of the list.
+    pub(crate) fn install_ppis(&mut self, list: &[Desc], by: u32) -> Result<Sweep, StoreFault>
+        requires state { Present (StandsFor self.old) (AreDescs list.now) }
+        requires few { AreFew list.now }
+        ensures { Performs false (And (StandsFor self.old) (AreDescs list.now)) (StandsFor self.new)
+            (λ s. install s list.now by) result }
+    {
+        let pairs = count_pairs(&self.heap, &self.memory, &self.heads, list);
+        self.install_counted(list, by, pairs)
     }
 
     // A PPI that is found with all callbacks.

@@ -8,7 +8,7 @@ ghost use Rattle.store_model.specs.Service.Notify.{new_callbacks, notify, notify
 ghost use Rattle.store_model.specs.StateFacts.{IsDesc};
 ghost use Rattle.store_model.specs.StoreCall.{AreDescs, AreFew};
 ghost use Rattle.ppi_links.specs.Linked.{IsLinked};
-ghost use Rattle.heap_store.specs.Made.{CanMakeNotes, IsMade, note_list as list_of};
+ghost use Rattle.heap_store.specs.Made.{CanMakeNotes, HaveNewPairs, IsMade, note_list as list_of};
 
 use crate::store::HeapStore;
 use pei_heap::Heap;
@@ -108,18 +108,22 @@ impl HeapStore {
         }
     }
 
-    // Registers notifications, in the order of the list.
-    pub(crate) fn register(&mut self, list: &[Desc], by: u32) -> Result<Sweep, StoreFault>
-        requires state { Present (StandsFor self.old) (AreDescs list.now) }
+    /// Registers notifications, in the order of the list, that make so many pairs with the PPIs. Where they make none, no list is walked.
+    pub fn register_counted(
+        &mut self,
+        list: &[Desc],
+        by: u32,
+        pairs: u64,
+    ) -> Result<Sweep, StoreFault>
+        requires state { Present (StandsFor self.old) (HaveNewPairs list.now pairs) }
         requires few { AreFew list.now }
-        ensures { Performs false (And (StandsFor self.old) (AreDescs list.now)) (StandsFor self.new)
+        ensures { Performs false (And (StandsFor self.old) (HaveNewPairs list.now pairs)) (StandsFor self.new)
             (λ s. notify s list.now by) result }
     {
         pairs_stay();
         if self.any_ppi(list) {
             return Err(StoreFault::Bad);
         }
-        let pairs = count_new_pairs(&self.heap, &self.memory, &self.heads, list);
         if self.is_full(list.len() as u64, pairs) {
             return Err(StoreFault::Full);
         }
@@ -134,5 +138,16 @@ impl HeapStore {
             pairs,
         );
         Ok(sweep)
+    }
+
+    // Registers notifications, in the order of the list.
+    pub(crate) fn register(&mut self, list: &[Desc], by: u32) -> Result<Sweep, StoreFault>
+        requires state { Present (StandsFor self.old) (AreDescs list.now) }
+        requires few { AreFew list.now }
+        ensures { Performs false (And (StandsFor self.old) (AreDescs list.now)) (StandsFor self.new)
+            (λ s. notify s list.now by) result }
+    {
+        let pairs = count_new_pairs(&self.heap, &self.memory, &self.heads, list);
+        self.register_counted(list, by, pairs)
     }
 }

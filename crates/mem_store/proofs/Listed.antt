@@ -15,12 +15,12 @@ each_at P [] i d le h = absurd (omega (arith, le))
 each_at P (x ∷ xs) zero d le h = h.0
 each_at P (x ∷ xs) (suc i) d le h = each_at P xs i d (omega (arith, le)) h.1
 
-drop_on : {A : Type 0} (xs : List A) (i : ℕ) (d : A) → i < length xs → drop i xs ≡ get_or xs i d ∷ drop (i + 1) xs
+pub drop_on : {A : Type 0} (xs : List A) (i : ℕ) (d : A) → i < length xs → drop i xs ≡ get_or xs i d ∷ drop (i + 1) xs
 drop_on [] i d le = absurd (omega (arith, le))
 drop_on (x ∷ xs) zero d le = refl
 drop_on (x ∷ xs) (suc i) d le = let next : suc i + 1 ≡ suc (i + 1) = omega arith in rw next (drop_on xs i d (omega (arith, le)))
 
-drop_all : {A : Type 0} (xs : List A) (i : ℕ) → length xs ≤ i → drop i xs ≡ []
+pub drop_all : {A : Type 0} (xs : List A) (i : ℕ) → length xs ≤ i → drop i xs ≡ []
 drop_all [] zero le = refl
 drop_all [] (suc i) le = refl
 drop_all (x ∷ xs) zero le = absurd (omega (arith, le))

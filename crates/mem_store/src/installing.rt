@@ -3,15 +3,45 @@ ghost use Rattle.std.specs.Prelude.{◌≡◌, false};
 ghost use Rattle.store_model.specs.Service.{And, Performs, Present};
 ghost use Rattle.store_model.specs.Service.Install.{core_install, install, reinstall};
 ghost use Rattle.store_model.specs.Service.Notify.{notify};
+ghost use Rattle.heap_store.specs.HeapState as H;
 ghost use Rattle.store_model.specs.StoreCall.{Anything, AreBothDescs, AreDescs, AreFew};
 
 use crate::index::row_of;
+use crate::pairs::are_callbacks;
 use crate::store::MemStore;
 use index_laws::{rows_answer, services_keep_rows};
 use store_model::{Desc, PeiStore, StoreFault, Sweep};
 
 impl MemStore {
     ghost use Rattle.mem_store.specs.MemState.{StandsFor};
+
+    // Installs PPIs in memory. Where the index tells that none of them makes a pair, the dispatch notifications are not walked.
+    fn install_behind(&mut self, list: &[Desc], by: u32) -> Result<Sweep, StoreFault>
+        requires state { Present (StandsFor self.old) (AreDescs list.now) }
+        requires few { AreFew list.now }
+        ensures index { self.new.index ≡ self.old.index }
+        ensures row { Performs false (And (StandsFor self.old) (AreDescs list.now)) (H.StandsFor self.new.behind)
+            (λ s. install s list.now by) result }
+    {
+        if self.index.are_alone(&self.behind, list) {
+            return self.behind.install_counted(list, by, 0);
+        }
+        self.behind.install(list, by)
+    }
+
+    // Registers notifications in memory. Where they are callbacks, which make no pair, the PPIs are not walked.
+    fn register_behind(&mut self, list: &[Desc], by: u32) -> Result<Sweep, StoreFault>
+        requires state { Present (StandsFor self.old) (AreDescs list.now) }
+        requires few { AreFew list.now }
+        ensures index { self.new.index ≡ self.old.index }
+        ensures row { Performs false (And (StandsFor self.old) (AreDescs list.now)) (H.StandsFor self.new.behind)
+            (λ s. notify s list.now by) result }
+    {
+        if are_callbacks(&self.behind, list) {
+            return self.behind.register_counted(list, by, 0);
+        }
+        self.behind.notify(list, by)
+    }
 
     // Installs PPIs, in the order of the list.
     pub(crate) fn install_ppis(&mut self, list: &[Desc], by: u32) -> Result<Sweep, StoreFault>
@@ -21,7 +51,7 @@ impl MemStore {
             (λ s. install s list.now by) result }
     {
         services_keep_rows();
-        match self.behind.install(list, by) {
+        match self.install_behind(list, by) {
             Ok(sweep) => {
                 self.index.put_ppis(&self.behind, list);
                 Ok(sweep)
@@ -60,7 +90,7 @@ impl MemStore {
             (λ s. notify s list.now by) result }
     {
         services_keep_rows();
-        match self.behind.notify(list, by) {
+        match self.register_behind(list, by) {
             Ok(sweep) => {
                 self.index.put_notifications(&self.behind, list);
                 Ok(sweep)
