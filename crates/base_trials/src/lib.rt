@@ -6,6 +6,8 @@ mod base;
 #[cfg(test)]
 mod devices;
 #[cfg(test)]
+mod guid_indexes;
+#[cfg(test)]
 mod guid_maps;
 #[cfg(test)]
 mod held_text;

@@ -8,8 +8,6 @@ use Rattle.store_model.specs.StoreState.{Board, StoreState}
 use Rattle.store_model.specs.StateFacts.{IsBoard}
 use Rattle.store_model.specs.StoreCall.{Anything}
 use Rattle.store_model.specs.Service.{Present}
-use Rattle.mem_store.specs.declared.store.MemStore.{MemStore}
-use Rattle.mem_store.specs.MemState.{StandsFor}
 use Rattle.heap_trials.specs.Volumes.{AreVolumes}
 
 abbrev pub board : (len pages : ℕ) → List Rom → Board
@@ -32,6 +30,7 @@ pub test_board : (len pages : ℕ) (roms : List Rom) → len ≤ MOST_TEMP → p
 test_board len pages roms most fits are =
     subst (λ x. IsBoard (board len pages x)) (sym are.2) (with_volume len pages are.0 most fits are.1)
 
-pub stands : (s : StoreState) (result : Result MemStore OutOfMemory) → IfOk result (λ m. StandsFor m s) → IfOk result (λ m. Present (StandsFor m) Anything)
-stands s (Ok m) h = (s, h, tt)
-stands s (Err want) h = tt
+pub stands : {M : Type 0} (Stands : M → StoreState → Type 0) (s : StoreState) (result : Result M OutOfMemory) → IfOk result (λ m. Stands m s)
+    → IfOk result (λ m. Present (Stands m) Anything)
+stands Stands s (Ok m) h = (s, h, tt)
+stands Stands s (Err want) h = tt

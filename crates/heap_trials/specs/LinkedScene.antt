@@ -5,14 +5,14 @@ use Rattle.store_model.specs.declared.store_handle.EntryList.{EntryList}
 use Rattle.store_model.specs.declared.store_handle.EntryList.TheVariants.{Ppis, Callbacks, Dispatches, Pendings}
 use Rattle.store_model.specs.StoreState.{StoreState}
 use Rattle.ppi_links.specs.Linked.{IsLinked}
-use Rattle.mem_store.specs.declared.store.MemStore.{MemStore}
+use Rattle.heap_store.specs.declared.store.HeapStore.{HeapStore}
 use Rattle.heap_trials.specs.Scene.{AreThere}
 
 -- its memory has the image of a state, and its heads are that state's
-abbrev pub IsLinkedStore : MemStore → StoreState → Type 0
+abbrev pub IsLinkedStore : HeapStore → StoreState → Type 0
 IsLinkedStore store s = IsLinked store.heap store.memory store.heads s
 
-abbrev pub IsScene : MemStore → Type 0
+abbrev pub IsScene : HeapStore → Type 0
 IsScene store = (s : StoreState) × IsLinkedStore store s × AreThere s
 
 -- the place of the descriptor that is entered in a list

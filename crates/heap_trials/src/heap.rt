@@ -3,13 +3,13 @@ ghost use Rattle.std.specs.Prelude.{◌≤◌, ◌+◌};
 ghost use Rattle.boot_plan.specs.declared.limits.TheConstants.{MOST_TEMP};
 ghost use Rattle.store_model.specs.Service.{Present};
 ghost use Rattle.store_model.specs.StoreCall.{Anything};
-ghost use Rattle.mem_store.specs.MemState.{StandsFor};
+ghost use Rattle.heap_store.specs.HeapState.{StandsFor};
 
-use crate::board::{NODE_LEN, TEMP, store_over};
+use crate::board::{NODE_LEN, TEMP, heap_over};
 use crate::calls::{create, free, pages, pool, set_boot_mode};
 use hob_codec::kind::{HANDOFF, POOL};
 use hob_codec::{Hob, HobPlace, walk};
-use mem_store::MemStore;
+use heap_store::HeapStore;
 use phys_mem::PhysMem;
 use pi_base::Guid;
 use std::alloc::Global;
@@ -18,7 +18,7 @@ use std::test::*;
 use store_model::{HobSpan, PeiStore, Pool};
 
 // Makes a node and answers its offset. None without room.
-fn node(store: &mut MemStore) -> Option<u64>
+fn node(store: &mut HeapStore) -> Option<u64>
     requires { Present (StandsFor store.old) Anything }
 {
     if store.heap.free(&store.memory) < NODE_LEN {
@@ -27,7 +27,7 @@ fn node(store: &mut MemStore) -> Option<u64>
     Some(store.heap.node(&mut store.memory))
 }
 
-fn first_place(store: &MemStore) -> Option<HobSpan>
+fn first_place(store: &HeapStore) -> Option<HobSpan>
     requires { Present (StandsFor store.now) Anything }
 {
     store.hob_at(0)
@@ -54,7 +54,7 @@ pub(crate) fn has_bytes(memory: &PhysMem, at: u64, want: &[u8]) -> bool {
 }
 
 // Whether the list has these HOBs.
-fn has_places(alloc: Global, store: &MemStore, wants: &[HobPlace]) -> bool
+fn has_places(alloc: Global, store: &HeapStore, wants: &[HobPlace]) -> bool
     requires { Present (StandsFor store.now) Anything }
 {
     let stretch = store.heap.bytes(&store.memory);
@@ -96,7 +96,7 @@ static WHOLE_PLACES: [HobPlace; 2] = [
 static WHOLE_HANDOFF: &[u8] =
     b"\x09\0\0\0\0\0\0\0\0\x40\0\x80\0\0\0\0\0\0\0\x80\0\0\0\0\0\x40\0\x80\0\0\0\0\0\x40\0\x80\0\0\0\0\xf8\x3f\0\x80\0\0\0\0";
 
-fn try_whole_pool(rt: &impl Abort, alloc: Global, store: &mut MemStore)
+fn try_whole_pool(rt: &impl Abort, alloc: Global, store: &mut HeapStore)
     requires { Present (StandsFor store.old) Anything }
 {
     let whole = Pool {
@@ -112,7 +112,7 @@ fn try_whole_pool(rt: &impl Abort, alloc: Global, store: &mut MemStore)
 static TWO_HOBS: &[u8] =
     b"\x06\0\x10\0\0\0\0\0\x30\x10\0\0\0\0\0\0\x04\0\x20\0\0\0\0\x000123456789abcdefxyz\0\0\0\0\0\xff\xff\x08\0\0\0\0\0";
 
-fn try_hobs(rt: &impl Abort, store: &mut MemStore)
+fn try_hobs(rt: &impl Abort, store: &mut HeapStore)
     requires { Present (StandsFor store.old) Anything }
 {
     let cpu = Hob::Cpu { memory: 48, io: 16 };
@@ -133,7 +133,7 @@ fn try_hobs(rt: &impl Abort, store: &mut MemStore)
 // What is free from the node on, the end HOB, and the node's header.
 static BEHIND_NODE: &[u8] = b"\x68\0\0\x80\0\0\0\0\x60\0\0\x80\0\0\0\0\x07\0\x28\0\0\0\0\0";
 
-fn try_node(rt: &impl Abort, store: &mut MemStore)
+fn try_node(rt: &impl Abort, store: &mut HeapStore)
     requires { Present (StandsFor store.old) Anything }
 {
     let offset = node(store);
@@ -141,7 +141,7 @@ fn try_node(rt: &impl Abort, store: &mut MemStore)
     assert!(rt; (offset, is_there) == (Some(0x40), true));
 }
 
-fn try_boot_mode(rt: &impl Abort, store: &mut MemStore)
+fn try_boot_mode(rt: &impl Abort, store: &mut HeapStore)
     requires { Present (StandsFor store.old) Anything }
 {
     set_boot_mode(store, 0x20);
@@ -152,7 +152,7 @@ fn try_boot_mode(rt: &impl Abort, store: &mut MemStore)
 static EARLY_PAGE: &[u8] =
     b"\x02\0\x30\0\0\0\0\0\0\0\0\0\0\0\0\0\0\0\0\0\0\0\0\0\0\x70\0\x80\0\0\0\0\0\x10\0\0\0\0\0\0\x04\0\0\0\0\0\0\0";
 
-fn try_early_page(rt: &impl Abort, store: &mut MemStore)
+fn try_early_page(rt: &impl Abort, store: &mut HeapStore)
     requires { Present (StandsFor store.old) Anything }
 {
     let page = pages(store, 1);
@@ -160,7 +160,7 @@ fn try_early_page(rt: &impl Abort, store: &mut MemStore)
     assert!(rt; (page, is_there) == (Ok(TEMP + 0x7000), true));
 }
 
-fn run(rt: &impl Abort, alloc: Global, store: &mut MemStore, trial: Trial)
+fn run(rt: &impl Abort, alloc: Global, store: &mut HeapStore, trial: Trial)
     requires { Present (StandsFor store.old) Anything }
 {
     match trial {
@@ -177,7 +177,7 @@ fn over(rt: &impl Abort, alloc: Global, len: u64, early: u64, trial: Trial) -> R
     requires len { len ≤ MOST_TEMP }
     requires early { early + 64 ≤ len }
 {
-    let mut store = store_over(alloc, len, early)?;
+    let mut store = heap_over(alloc, len, early)?;
     run(rt, alloc, &mut store, trial);
     Ok(())
 }

@@ -8,10 +8,10 @@ ghost use Rattle.store_laws.specs.Bodies.{IsGrown};
 ghost use Rattle.heap_trials.specs.LinkedScene as S;
 ghost use Rattle.heap_trials.specs.LinkedScene.{IsScene};
 
-use crate::board::{NODE_LEN, store_over};
+use crate::board::{NODE_LEN, heap_over};
 use crate::calls::MAKER;
 use crate::scene::{CALLBACK, DISPATCH, INSTALLED, NAME, OTHER, makes_all};
-use mem_store::MemStore;
+use heap_store::HeapStore;
 use pi_base::Guid;
 use ppi_links::{
     NewEntry, count_new_pairs, count_pairs, entry_behind, has_ppi, next_match, note_at, nth_ppi,
@@ -24,10 +24,10 @@ use store_laws::bodies_stay;
 use store_model::{Desc, DescKind, DescriptorBody, EntryList, EntryTold, Firing, Sweep};
 
 // A store with the four descriptors, none of them named.
-fn opened(alloc: Global) -> Option<MemStore>
+fn opened(alloc: Global) -> Option<HeapStore>
     ensures { IfSome result IsScene }
 {
-    let mut store = match store_over(alloc, 0x4000, 0) {
+    let mut store = match heap_over(alloc, 0x4000, 0) {
         Ok(store) => store,
         Err(_) => return None,
     };
@@ -50,7 +50,7 @@ fn place_for(list: EntryList) -> u64
 }
 
 // Enters a descriptor in its list. False without room.
-fn enter(scene: &mut MemStore, list: EntryList) -> bool
+fn enter(scene: &mut HeapStore, list: EntryList) -> bool
     requires { IsScene scene.old }
     ensures { IsScene scene.new }
 {
@@ -73,7 +73,7 @@ fn enter(scene: &mut MemStore, list: EntryList) -> bool
 }
 
 // The first pair leaves the queue.
-fn leave(scene: &mut MemStore) -> Option<Firing>
+fn leave(scene: &mut HeapStore) -> Option<Firing>
     requires { IsScene scene.old }
     ensures { IsScene scene.new }
 {
@@ -82,7 +82,7 @@ fn leave(scene: &mut MemStore) -> Option<Firing>
 }
 
 // The other PPI comes into the place of the first.
-fn put_other(scene: &mut MemStore) -> Option<u32>
+fn put_other(scene: &mut HeapStore) -> Option<u32>
     requires { IsScene scene.old }
     ensures { IsScene scene.new }
 {
@@ -96,7 +96,7 @@ fn put_other(scene: &mut MemStore) -> Option<u32>
 }
 
 // Queues the PPI's pairs, and answers how many. None without room.
-fn queue_all(scene: &mut MemStore) -> Option<u64>
+fn queue_all(scene: &mut HeapStore) -> Option<u64>
     requires { IsScene scene.old }
     ensures { IsScene scene.new }
 {
@@ -117,7 +117,7 @@ fn queue_all(scene: &mut MemStore) -> Option<u64>
 }
 
 // Queues the pairs of all PPIs with the notification, and answers how many. None without room.
-fn queue_new(scene: &mut MemStore) -> Option<u64>
+fn queue_new(scene: &mut HeapStore) -> Option<u64>
     requires { IsScene scene.old }
     ensures { IsScene scene.new }
 {
@@ -138,7 +138,7 @@ fn queue_new(scene: &mut MemStore) -> Option<u64>
 }
 
 // The next callback that fires of a sweep over what is there. None where it is over more.
-fn fires(scene: &MemStore, sweep: &mut Sweep) -> Option<Firing>
+fn fires(scene: &HeapStore, sweep: &mut Sweep) -> Option<Firing>
     requires { IsScene scene.now }
 {
     if sweep.ppi_to > scene.heads.ppis {
@@ -150,37 +150,37 @@ fn fires(scene: &MemStore, sweep: &mut Sweep) -> Option<Firing>
     next_match(&scene.heap, &scene.memory, &scene.heads, sweep)
 }
 
-fn has(scene: &MemStore, guid: &Guid) -> bool
+fn has(scene: &HeapStore, guid: &Guid) -> bool
     requires { IsScene scene.now }
 {
     has_ppi(&scene.heap, &scene.memory, &scene.heads, guid)
 }
 
-fn nth(scene: &MemStore, n: u16) -> Option<(Desc, u64)>
+fn nth(scene: &HeapStore, n: u16) -> Option<(Desc, u64)>
     requires { IsScene scene.now }
 {
     nth_ppi(&scene.heap, &scene.memory, &scene.heads, &NAME, n)
 }
 
-fn ppi(scene: &MemStore, place: u32) -> Option<(Guid, u64, u32)>
+fn ppi(scene: &HeapStore, place: u32) -> Option<(Guid, u64, u32)>
     requires { IsScene scene.now }
 {
     ppi_at(&scene.heap, &scene.memory, &scene.heads, place)
 }
 
-fn note(scene: &MemStore, kind: DescKind, place: u32) -> Option<(Guid, u32)>
+fn note(scene: &HeapStore, kind: DescKind, place: u32) -> Option<(Guid, u32)>
     requires { IsScene scene.now }
 {
     note_at(&scene.heap, &scene.memory, &scene.heads, kind, place)
 }
 
-fn pending(scene: &MemStore, place: u32) -> Option<(Guid, u32)>
+fn pending(scene: &HeapStore, place: u32) -> Option<(Guid, u32)>
     requires { IsScene scene.now }
 {
     pending_at(&scene.heap, &scene.memory, &scene.heads, place)
 }
 
-fn first(scene: &MemStore, list: EntryList) -> Option<EntryTold>
+fn first(scene: &HeapStore, list: EntryList) -> Option<EntryTold>
     requires { IsScene scene.now }
 {
     entry_behind(&scene.heap, &scene.memory, &scene.heads, list, None)
@@ -202,7 +202,7 @@ enum Trial {
     Sweep,
 }
 
-fn try_queue(rt: &impl Abort, scene: &mut MemStore)
+fn try_queue(rt: &impl Abort, scene: &mut HeapStore)
     requires { IsScene scene.old }
 {
     let entered = [
@@ -218,7 +218,7 @@ fn try_queue(rt: &impl Abort, scene: &mut MemStore)
 }
 
 // Two PPIs and a callback, as they are told.
-fn try_entered(rt: &impl Abort, scene: &MemStore)
+fn try_entered(rt: &impl Abort, scene: &HeapStore)
     requires { IsScene scene.now }
 {
     let told = EntryTold {
@@ -237,7 +237,7 @@ fn try_entered(rt: &impl Abort, scene: &MemStore)
     assert!(rt; places == (Some((NAME, 7, MAKER)), [Some((NAME, 5)), None], Some(told)));
 }
 
-fn try_told(rt: &impl Abort, scene: &mut MemStore)
+fn try_told(rt: &impl Abort, scene: &mut HeapStore)
     requires { IsScene scene.old }
 {
     let before = has(scene, &NAME);
@@ -252,7 +252,7 @@ fn try_told(rt: &impl Abort, scene: &mut MemStore)
     assert!(rt; (queued, pending(scene, 1)) == (Some(2), Some((NAME, 3))));
 }
 
-fn try_other(rt: &impl Abort, scene: &mut MemStore)
+fn try_other(rt: &impl Abort, scene: &mut HeapStore)
     requires { IsScene scene.old }
 {
     let entered = enter(scene, EntryList::Ppis);
@@ -261,7 +261,7 @@ fn try_other(rt: &impl Abort, scene: &mut MemStore)
     assert!(rt; put_other(scene).is_none());
 }
 
-fn try_sweep(rt: &impl Abort, scene: &mut MemStore)
+fn try_sweep(rt: &impl Abort, scene: &mut HeapStore)
     requires { IsScene scene.old }
 {
     let entered = [
@@ -285,7 +285,7 @@ fn try_sweep(rt: &impl Abort, scene: &mut MemStore)
     assert!(rt; (entered, fired) == ([true; 2], [Some(told), None]));
 }
 
-fn run(rt: &impl Abort, scene: &mut MemStore, trial: Trial)
+fn run(rt: &impl Abort, scene: &mut HeapStore, trial: Trial)
     requires { IsScene scene.old }
 {
     match trial {

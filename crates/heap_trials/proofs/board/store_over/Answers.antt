@@ -1,3 +1,4 @@
+use Rattle.mem_store.specs.MemState.{StandsFor}
 use Rattle.heap_trials.proofs.Boards.{stands, test_board}
 use Rattle.heap_trials.proofs.board.store_over.Goals as goal
 
@@ -5,4 +6,4 @@ pub new-requires : goal.new-requires
 new-requires c = test_board c.args.len c.args.pages c.in_ok-roms.roms c.requires.len c.requires.pages c.in_ok-roms.ensures
 
 pub returns : goal.returns
-returns c = stands _ c.new.result c.new.ensures
+returns c = stands StandsFor _ c.new.result c.new.ensures

@@ -1,5 +1,5 @@
 use Rattle.std.proofs.Common.{sym}
-use Rattle.mem_store.proofs.NextHobs.{next_placed}
+use Rattle.heap_store.proofs.NextHobs.{next_placed}
 use Rattle.heap_trials.proofs.readings.spans.Goals as goal
 
 pub hob_at-requires : goal.hob_at-requires

@@ -1,0 +1,3 @@
+pub mod Belows
+pub mod Having
+pub mod Linking

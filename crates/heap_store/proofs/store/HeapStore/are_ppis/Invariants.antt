@@ -1,0 +1,11 @@
+use Rattle.std.proofs.Common.{◌≡◌, drop}
+use Rattle.std.specs.List.{list_all}
+use Rattle.store_model.specs.StoreState.{StoreState}
+use Rattle.store_model.specs.StoreCall.{AreDescs}
+use Rattle.store_model.specs.Service.Descriptor.{is_ppi, kind_at}
+use Rattle.heap_store.specs.HeapState.{StandsFor}
+use Rattle.heap_store.proofs.store.HeapStore.are_ppis.Given as goal
+
+abbrev pub invariant-descs : goal.invariant-descs
+invariant-descs l = (s : StoreState) → StandsFor l.self s → AreDescs l.list s
+    → list_all (λ d. is_ppi (kind_at s d.offset)) (drop l.d-index l.list) ≡ list_all (λ d. is_ppi (kind_at s d.offset)) l.list

@@ -1,0 +1,7 @@
+pub mod Telling
+pub mod Keeping
+pub mod Descs
+pub mod Services
+pub mod Reinstalls
+pub mod Notifies
+pub mod Cores
