@@ -45,6 +45,10 @@ abbrev pub Goes : State → List (ℕ × List ℕ) → State → Type 0
 Goes from [] to = from ≡ to
 Goes from (line ∷ lines) to = (next : State) × Steps from line.0 line.1 (Ok next) × Goes next lines to
 
+-- the lines of the text lead to the volume of these bytes
+abbrev pub Leads : List ℕ → List ℕ → Type 0
+Leads text bytes = Goes Begin (numbered text) (Done bytes)
+
 -- all lines before one of the text can stand as they do, and that one cannot
 pub record IsBadLine (text : List ℕ) (fault : Fault) : Type 0 where
   pub before : List (ℕ × List ℕ)
