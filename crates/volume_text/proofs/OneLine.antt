@@ -1,5 +1,5 @@
 -- A line says one thing, and leads to one state or one fault.
-use Rattle.std.proofs.Common.{◌≡◌, ◌⊎◌, inl, inr, ℕ, ◌<◌, ◌≤◌, List, [], ◌∷◌, length, map, Option, Some, None, Result, Ok, Err, refl, sym, ap, ◌∙◌, subst, arith}
+use Rattle.std.proofs.Common.{◌≡◌, ◌⊎◌, inl, inr, ℕ, ◌<◌, ◌≤◌, List, [], ◌∷◌, length, map, Option, Some, None, Result, Ok, Err, sym, ap, ◌∙◌, subst, arith}
 use Rattle.pi_base.specs.declared.phase.Phase.{Phase}
 use Rattle.depex_code.specs.declared.depex.Depex.{Depex}
 use Rattle.depex_code.specs.Expression.{instructions, bytes_of as opcode_bytes}
@@ -27,7 +27,7 @@ use Rattle.volume_text.specs.declared.step.State.{State}
 use Rattle.volume_text.specs.declared.step.State.TheVariants.{Begin, Filling, Writing, Done}
 use Rattle.volume_text.specs.Keywords.{keyword_of}
 use Rattle.volume_text.specs.Reading.{◌>>=◌, at, onward}
-use Rattle.volume_text.specs.Line.{IsExpression, IsNoExpression, IsBody, ReadsExpression, ReadsBy, ReadsFirst, Reads}
+use Rattle.volume_text.specs.Line.{IsExpression, IsNoExpression, IsBody, ReadsExpression, ReadsBy, ReadsFirst}
 use Rattle.volume_text.specs.Words.{phase_at}
 use Rattle.volume_text.specs.Script.{placed, IsScriptBody}
 use Rattle.volume_text.specs.Step.{section_of, filling, EndsScript, TakesInScript, Takes, TakesRead, Steps}

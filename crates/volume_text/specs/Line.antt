@@ -18,7 +18,7 @@ use Rattle.volume_text.specs.declared.statement.Statement.{Statement}
 use Rattle.volume_text.specs.declared.statement.Statement.TheVariants as statement
 use Rattle.volume_text.specs.Keywords.{keyword_of}
 use Rattle.volume_text.specs.Reading.{◌>>=◌}
-use Rattle.volume_text.specs.Words.{word_at, none_left, guid_at, phase_at, length_at, pad_length_at, system_at, file_type_at, section_type_at}
+use Rattle.volume_text.specs.Words.{none_left, guid_at, phase_at, length_at, pad_length_at, system_at, file_type_at, section_type_at}
 use Rattle.volume_text.specs.Bytes.{bytes_of, guids_of}
 
 -- each of these is of the words behind the first

@@ -8,7 +8,7 @@ use Rattle.volume_text.specs.declared.fault.Fault.{Fault}
 use Rattle.volume_text.specs.declared.fault.TextFault.{TextFault}
 use Rattle.volume_text.specs.declared.fault.TextFault.TheVariants as text_fault
 use Rattle.volume_text.specs.declared.step.State.{State}
-use Rattle.volume_text.specs.declared.step.State.TheVariants.{Begin, Filling, Writing, Done}
+use Rattle.volume_text.specs.declared.step.State.TheVariants.{Begin, Done}
 use Rattle.volume_text.specs.Step.{Steps}
 use Rattle.volume_text.specs.Volume.{SaysVolume}
 

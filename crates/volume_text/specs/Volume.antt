@@ -1,12 +1,11 @@
 -- What lines say, as whole lists (own): the blocks of a script, the files of a volume, and a volume.
-use Rattle.std.specs.Prelude.{◌≡◌, ℕ, true, false, List, [], ◌∷◌, ◌++◌, Option, Some, None, Result, Ok, Err}
+use Rattle.std.specs.Prelude.{◌≡◌, ℕ, true, false, List, [], ◌∷◌, ◌++◌, Option, Some, None, Ok}
 use Rattle.pi_base.specs.declared.guid.Guid.{Guid}
 use Rattle.pi_base.specs.declared.phase.Phase.{Phase}
 use Rattle.fv_section.specs.declared.section_type.TheConstants.{RAW, VOLUME_IMAGE}
 use Rattle.fv_build.specs.declared.new_file.NewFile.{NewFile}
 use Rattle.act_code.specs.declared.action.Action.{Action}
 use Rattle.act_code.specs.Script.{IsScript}
-use Rattle.fv_build.specs.declared.file_system.FileSystem.{FileSystem}
 use Rattle.volume_text.specs.declared.statement.Statement.{Statement}
 use Rattle.volume_text.specs.declared.statement.Statement.TheVariants.{Volume, Name, File, Pad, Section, Depex, Script, Block, End, Action as ActionLine}
 use Rattle.volume_text.specs.declared.volume.OpenVolume.{OpenVolume}
