@@ -4,4 +4,4 @@ mod Passing
 mod Writing
 mod Parts
 mod Trees
-mod Says
+pub mod Says

@@ -36,7 +36,7 @@ plain_cause phase (token.Other ∷ rest) none = none
 guid_passes : (rest : List Token) (guid : Guid) → IsGuidOf rest guid → beside_cause rest ≡ None
 guid_passes rest guid is = ap beside_cause is.2 ∙ end_has_no_cause is.0 is.1
 
-are_pass : (phase : Phase) (words : List Token) (expression : Depex) → IsOfPhase phase expression → AreOf words expression → expression_cause phase words ≡ None
+pub are_pass : (phase : Phase) (words : List Token) (expression : Depex) → IsOfPhase phase expression → AreOf words expression → expression_cause phase words ≡ None
 are_pass Pei words (depex.Before guid) suits are = absurd suits
 are_pass Pei words (depex.After guid) suits are = absurd suits
 are_pass Pei words (depex.Expr true node) suits are = absurd cc
@@ -54,7 +54,7 @@ one_guid rest more a b e is other =
     let all : token.Leaf (leaf.Push a) ∷ is.0 ≡ token.Leaf (leaf.Push b) ∷ other.0 = sym is.2 ∙ e ∙ other.2 in
     cc
 
-are_one : (words : List Token) (a b : Depex) → AreOf words a → AreOf words b → a ≡ b
+pub are_one : (words : List Token) (a b : Depex) → AreOf words a → AreOf words b → a ≡ b
 are_one words (depex.Before x) (depex.Before y) a b = let e : a.0 ≡ b.0 = cc (a.1, b.1) in ap depex.Before (one_guid a.0 b.0 x y e a.2 b.2)
 are_one words (depex.After x) (depex.After y) a b = let e : a.0 ≡ b.0 = cc (a.1, b.1) in ap depex.After (one_guid a.0 b.0 x y e a.2 b.2)
 are_one words (depex.Expr true x) (depex.Expr true y) a b = let e : a.0 ≡ b.0 = cc (a.1, b.1) in ap (depex.Expr true) (one_tree a.0 x y a.2 (subst (λ r. IsTreeOf r y) (sym e) b.2))

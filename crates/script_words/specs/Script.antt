@@ -8,7 +8,7 @@ use Rattle.act_code.specs.declared.script.Script.{Script}
 use Rattle.act_code.specs.Format.{blocks_in}
 use Rattle.act_code.specs.Table.{format_of, code_of_action, operands}
 use Rattle.act_code.specs.Index.{is_indexed, has_room}
-use Rattle.act_code.specs.Script.{IsAction, IsInGrammar, script_bytes}
+use Rattle.act_code.specs.Script.{IsAction, IsInGrammar, IsScript, script_bytes}
 use Rattle.act_code.specs.ScriptReading.{ends_in_ret}
 use Rattle.script_words.specs.declared.script.ScriptCause.{ScriptCause}
 use Rattle.script_words.specs.declared.script.ScriptCause.TheVariants.{NoBlock, NoRet, Jump, NoSuchBlock, Full}
@@ -69,8 +69,16 @@ first_fault place [] = None
 first_fault place (None ∷ causes) = first_fault (place + 1) causes
 first_fault place (Some cause ∷ causes) = Some (place, cause)
 
+-- nothing is wrong with a draft but maybe its length
+abbrev pub HasNoFault : Script → Type 0
+HasNoFault draft = first_fault 0 (line_causes draft) ≡ None
+
+-- the bytes are those of a draft with which nothing is wrong
+abbrev pub IsWhole : Script → List ℕ → Type 0
+IsWhole draft bytes = HasNoFault draft × IsScript bytes draft
+
 -- why a draft is no script
 abbrev pub IsUnfit : Script → ScriptFault → Type 0
 IsUnfit draft (Bad place cause) = first_fault 0 (line_causes draft) ≡ Some (place, cause)
-IsUnfit draft TooLong = IsInGrammar draft × (65536 < length (script_bytes draft))
+IsUnfit draft TooLong = HasNoFault draft × IsInGrammar draft × (65536 < length (script_bytes draft))
 IsUnfit draft Memory = ⊤

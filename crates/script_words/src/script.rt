@@ -3,8 +3,7 @@ ghost use Rattle.std.specs.Prelude.{◌≡◌, ◌≤◌, [], length, nat_lt, If
 ghost use Rattle.std.specs.List.{list_all};
 ghost use Rattle.act_code.specs.ScriptReading.{ends_in_ret};
 ghost use Rattle.act_code.specs.Index.{has_room};
-ghost use Rattle.act_code.specs.Script.{IsScript};
-ghost use Rattle.script_words.specs.Script.{AreSaid, IsUnfit, names_below, action_cause, action_causes, may_end, block_cause, block_causes, end_cause, causes_behind, first_fault};
+ghost use Rattle.script_words.specs.Script.{AreSaid, IsUnfit, IsWhole, names_below, action_cause, action_causes, may_end, block_cause, block_causes, end_cause, causes_behind, first_fault};
 
 use act_code::descriptor_kind::PPI;
 use act_code::{Action, Script, WriteFault, is_ret, write_script};
@@ -199,7 +198,7 @@ fn line_fault(blocks: &[Seq<Action>]) -> Option<(usize, ScriptCause)>
 pub fn whole_script(alloc: Global, draft: &Script) -> Result<Seq<u8>, ScriptFault>
     requires { AreSaid draft.now }
     // What is answered spells the draft, which is a script.
-    ensures whole { IfOk result (λ bytes. IsScript bytes draft.now) }
+    ensures whole { IfOk result (IsWhole draft.now) }
     // Where nothing is, this is the first line at which something is wrong, or the script is too long, or memory ran out.
     ensures refused { IfErr result (IsUnfit draft.now) }
 {

@@ -33,10 +33,18 @@ static EVERY_SERVICE_LATE_FRONT: [u8; 143] = [
 
 /// `examples/script-booted/boot.volume`.
 static SCRIPT_BOOTED_BOOT_TEXT: &str =
-    "# The script is what `pitools asm script` prints of ../script-as-text/script.txt.\n\
+    "# One PEIM without an expression, with the script of ../script-as-text/script.txt.\n\
 volume 4096\n\
 file peim 00000001-0000-4000-8000-000000000001\n\
-raw 5049415301010100060001000700000000000000080100000200000000000040800000000000000100090101120001110e69742077617320726566757365641300\n\
+script pei\n\
+    block\n\
+    set r0 7\n\
+    desc r1 ppi 00000002-0000-4000-8000-000000000001 r0\n\
+    install r1\n\
+    skip_if 0 1\n\
+    log it was refused\n\
+    ret Success\n\
+end\n\
 end\n\
 ";
 
@@ -86,6 +94,42 @@ static MEMORY_MOVE_BOOT_FRONT: [u8; 200] = [
     9, 0, 1, 0, 7, 0, 0, 0, 0, 0, 0, 0, 8, 1, 2, 0, 0, 0, 0, 0, 0, 0, 0, 0, 0, 0, 0, 0, 0, 0, 0, 1,
     1, 11, 1, 1, 8, 2, 0, 0, 0, 0, 0, 0, 0, 0, 0, 0, 0, 0, 0, 0, 0, 0, 0, 1, 0, 9, 1, 2, 1, 4, 0,
     0, 0, 64, 0, 0, 0, 0, 1, 5, 0, 0, 16, 0, 0, 0, 0, 0, 14, 4, 5, 19, 0, 2, 0, 17, 1, 110, 19, 0,
+];
+
+/// A volume of FFS3 with a name, as other spellings of words have it.
+static NAMED_TEXT: &str = "# A volume with a name, of FFS3.\r\n\
+volume 512 ffs3\r\n\
+  name B5A1C0DE-93f0-4a5d-8d11-6e2f40715c33\r\n\
+\tfile peim {00000001-0000-4000-8000-000000000001}\r\n\
+  depex pei A2A2A2A2-0000-4000-8000-000000000002 And not true END\r\n\
+end";
+
+/// Its bytes, without the bytes 0xff at their end, by the tables of `docs/FORMATS.md`.
+static NAMED_FRONT: [u8; 169] = [
+    0, 0, 0, 0, 0, 0, 0, 0, 0, 0, 0, 0, 0, 0, 0, 0, 122, 192, 115, 84, 203, 61, 202, 77, 189, 111,
+    30, 150, 137, 231, 52, 154, 0, 2, 0, 0, 0, 0, 0, 0, 95, 70, 86, 72, 0, 8, 0, 0, 72, 0, 136, 58,
+    96, 0, 0, 2, 1, 0, 0, 0, 0, 2, 0, 0, 0, 0, 0, 0, 0, 0, 0, 0, 255, 255, 255, 255, 255, 255, 255,
+    255, 255, 255, 255, 255, 255, 255, 255, 255, 255, 255, 255, 255, 255, 255, 255, 255, 222, 192,
+    161, 181, 240, 147, 93, 74, 141, 17, 110, 47, 64, 113, 92, 51, 20, 0, 0, 0, 255, 255, 255, 255,
+    1, 0, 0, 0, 0, 0, 0, 64, 128, 0, 0, 0, 0, 0, 0, 1, 7, 170, 6, 0, 49, 0, 0, 248, 25, 0, 0, 27,
+    2, 162, 162, 162, 162, 0, 0, 0, 64, 128, 0, 0, 0, 0, 0, 0, 2, 6, 5, 3, 8,
+];
+
+/// A volume with a pad file.
+static PADDED_TEXT: &str = "volume 256\n\
+pad 8\n\
+file raw 00000001-0000-4000-8000-000000000001\n\
+raw 0102\n\
+end\n";
+
+/// Its bytes, without the bytes 0xff at their end, by the tables of `docs/FORMATS.md`: the pad file's body is one section.
+static PADDED_FRONT: [u8; 134] = [
+    0, 0, 0, 0, 0, 0, 0, 0, 0, 0, 0, 0, 0, 0, 0, 0, 120, 229, 140, 140, 61, 138, 28, 79, 153, 53,
+    137, 97, 133, 195, 45, 211, 0, 1, 0, 0, 0, 0, 0, 0, 95, 70, 86, 72, 0, 8, 0, 0, 72, 0, 209,
+    235, 0, 0, 0, 2, 1, 0, 0, 0, 0, 1, 0, 0, 0, 0, 0, 0, 0, 0, 0, 0, 255, 255, 255, 255, 255, 255,
+    255, 255, 255, 255, 255, 255, 255, 255, 255, 255, 0, 170, 240, 0, 32, 0, 0, 248, 8, 0, 0, 255,
+    255, 255, 255, 255, 1, 0, 0, 0, 0, 0, 0, 64, 128, 0, 0, 0, 0, 0, 0, 1, 31, 170, 1, 0, 30, 0, 0,
+    248, 6, 0, 0, 25, 1, 2,
 ];
 
 /// `examples/audit/main.volume`.
@@ -183,7 +227,7 @@ static AUDIT_MAIN_FRONT: [u8; 1254] = [
 ];
 
 /// Texts with a mistake, its line and its cause.
-static MISTAKES: [(&str, u64, Cause); 45] = [
+static MISTAKES: [(&str, u64, Cause); 53] = [
     ("", 1, Cause::NoVolume), // no line
     ("\n# nothing\n", 3, Cause::NoVolume), // comments alone
     (
@@ -353,6 +397,26 @@ static MISTAKES: [(&str, u64, Cause); 45] = [
         4,
         Cause::NoRoom { need: 101 },
     ), // too small a volume
+    (
+        "volume 4096\nname 00000001-0000-4000-8000-000000000001\nname 00000001-0000-4000-8000-000000000001\n",
+        3,
+        Cause::TwoNames,
+    ), // a second name
+    ("volume 4096\nname\n", 2, Cause::Missing), // no name
+    ("volume 4096\npad -7\n", 2, Cause::Number), // no number
+    ("volume 4096\npad 3\n", 2, Cause::Range), // no section of a pad file
+    ("volume 4096\npad 0xffffe7\n", 2, Cause::Range), // longer than a file of FFS2
+    ("volume 4096\npad 8 8\n", 2, Cause::Extra), // a word behind the length
+    (
+        "volume 119\nname 00000001-0000-4000-8000-000000000001\nend\n",
+        3,
+        Cause::NoRoom { need: 120 },
+    ), // no room for a name
+    (
+        "volume 144\nname 00000001-0000-4000-8000-000000000001\nfile raw 00000001-0000-4000-8000-000000000001\nraw 00\nend\n",
+        5,
+        Cause::NoRoom { need: 149 },
+    ), // too small a volume with a name
 ];
 
 // Whether bytes begin with a front, have a length, and are 0xff behind the front.
@@ -398,6 +462,12 @@ fn texts_of_the_examples_make_their_volumes(rt: HostRuntime) {
         )
     );
     assert!(rt; makes(rt.alloc(), AUDIT_MAIN_TEXT, 8192, &AUDIT_MAIN_FRONT));
+}
+
+#[test]
+fn names_and_pads_have_their_bytes(rt: HostRuntime) {
+    assert!(rt; makes(rt.alloc(), NAMED_TEXT, 512, &NAMED_FRONT));
+    assert!(rt; makes(rt.alloc(), PADDED_TEXT, 256, &PADDED_FRONT));
 }
 
 #[test]

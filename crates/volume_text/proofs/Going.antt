@@ -1,16 +1,16 @@
 -- Going through the lines of a text, one by one.
-use Rattle.std.proofs.Common.{◌≡◌, ℕ, ◌+◌, Bool, true, false, List, [], ◌∷◌, ◌++◌, length, Result, Ok, Err, refl, sym, ap, subst, ◌∙◌, append_assoc, arith, ◌⊎◌, inl, inr}
+use Rattle.std.proofs.Common.{◌≡◌, ℕ, ◌+◌, Bool, true, false, List, [], ◌∷◌, ◌++◌, length, Result, Ok, Err, refl, sym, ap, subst, ◌∙◌, append_assoc, arith, inl, inr}
 use Rattle.std.specs.Prelude.{if◌then◌else◌}
 use Rattle.std.proofs.lemmas.List.{append-nil}
 use Rattle.line_words.specs.Line.{lines}
 use Rattle.volume_text.specs.declared.fault.Fault.{Fault}
 use Rattle.volume_text.specs.declared.step.State.{State}
-use Rattle.volume_text.specs.declared.step.State.TheVariants.{Begin}
+use Rattle.volume_text.specs.declared.step.State.TheVariants.{Begin, Done}
 use Rattle.volume_text.specs.declared.fault.TextFault.{TextFault}
 use Rattle.volume_text.specs.declared.fault.TextFault.TheVariants as text_fault
 use Rattle.volume_text.specs.Reading.{StopsText}
 use Rattle.volume_text.specs.Step.{Steps}
-use Rattle.volume_text.specs.Text.{is_passed_over, counted, numbered, Goes, Moves, IsBadLine, IsEndCause, IsRefused}
+use Rattle.volume_text.specs.Text.{is_passed_over, counted, numbered, Goes, Leads, Moves, IsBadLine, IsEndCause, IsRefused}
 
 same_Ok : {A E : Type 0} (x y : A) → ◌≡◌ {A = Result A E} (Ok x) (Ok y) → x ≡ y
 same_Ok x y e = cc
@@ -109,3 +109,7 @@ refused text rest line after state number (text_fault.Bad fault) r is t = inl (m
 -- more lines have to come
 pub cut_short : (text : List ℕ) (state : State) (fault : Fault) → Goes Begin (numbered text) state → fault.line ≡ length (lines text) + 1 → IsEndCause state fault.cause → IsRefused text (text_fault.Bad fault)
 cut_short text state fault goes line wrong = inr (record { open_there = state; goes = goes; line = line; wrong = wrong })
+
+-- the lines lead to the volume
+pub leads : (text bytes : List ℕ) → Goes Begin (numbered text) (Done bytes) → Leads text bytes
+leads text bytes goes = goes

@@ -1,11 +1,11 @@
 -- GUIDs to the end of a line, read one by one.
-use Rattle.std.proofs.Common.{◌≡◌, ℕ, List, [], ◌∷◌, ◌++◌, Option, Some, None, Result, Ok, Err, refl, sym, ap, ◌∙◌, append_assoc}
+use Rattle.std.proofs.Common.{◌≡◌, ℕ, List, [], ◌∷◌, ◌++◌, Some, None, Result, Ok, Err, refl, sym, ap, append_assoc}
 use Rattle.std.proofs.lemmas.List.{append-nil}
 use Rattle.pi_base.specs.declared.guid.Guid.{Guid}
 use Rattle.source_words.specs.GuidWord.{guid_of}
 use Rattle.volume_text.specs.declared.fault.Cause.{Cause}
 use Rattle.volume_text.specs.declared.fault.Cause.TheVariants as cause
-use Rattle.volume_text.specs.Reading.{◌>>=◌, there}
+use Rattle.volume_text.specs.Reading.{◌>>=◌}
 use Rattle.volume_text.specs.Bytes.{guids_of}
 
 -- bytes in front of others

@@ -5,3 +5,6 @@ mod Going
 mod Saying
 mod Expressions
 mod Ending
+mod OneLine
+mod OneText
+mod ReadBack

@@ -20,19 +20,19 @@ use Rattle.volume_text.specs.declared.step.State.{State}
 use Rattle.volume_text.specs.declared.step.State.TheVariants.{Begin, Filling, Writing, Done}
 use Rattle.volume_text.specs.Reading.{◌>>=◌, at, onward, only_if}
 use Rattle.volume_text.specs.Line.{Reads}
-use Rattle.volume_text.specs.Open.{last_of, holding, with_files, with_last, with_section, new_file, depex_type, has_part, has_script, only_part, part_checked, only_first, script_checked, built_of}
-use Rattle.volume_text.specs.Script.{script_of, with_action, into_last, action_at, IsScriptBody}
-use Rattle.volume_text.specs.Step.{section_of, new_volume, begun, filling, nested_in, closed_in, filled, written, goes_on, EndsScript, outside, TakesInScript, Takes, TakesRead, Steps}
-use Rattle.volume_text.specs.Volume.{SaysLine, SayBlocks, no_block, block, action, SayFiles, no_file, file, section, depex, script, volume, SaysVolume}
+use Rattle.volume_text.specs.Open.{last_of, holding, with_parts, with_files, with_last, with_section, new_file, pad_file, named_over, with_name, depex_type, has_part, has_script, only_part, part_checked, only_first, script_checked, built_of}
+use Rattle.volume_text.specs.Script.{script_of, into_last, action_at, IsScriptBody}
+use Rattle.volume_text.specs.Step.{section_of, new_volume, begun, filling, nested_in, closed_in, filled, written, goes_on, TakesInScript, Takes, TakesRead}
+use Rattle.volume_text.specs.Volume.{SaysLine, SayBlocks, no_block, block, action, SayFiles, no_file, named, padded, file, section, depex, script, volume, SaysVolume}
 use Rattle.volume_text.specs.Text.{numbered, Goes, Says}
 use Rattle.volume_text.proofs.Lasts.{last_push, last_is}
 
 -- volumes that are open behind lines, the innermost apart
 data Opened : List (List ℕ) → List OpenVolume → OpenVolume → Type 0 where
   outer : (line : List ℕ) (inner : List (List ℕ)) (top : OpenVolume)
-      → SaysLine line (said.Volume top.file_system top.len) → SayFiles inner top.files → Opened (line ∷ inner) [] top
+      → SaysLine line (said.Volume top.file_system top.len) → SayFiles inner top.name top.files → Opened (line ∷ inner) [] top
   nested : (front : List (List ℕ)) (below : List OpenVolume) (parent : OpenVolume) (line : List ℕ) (inner : List (List ℕ)) (top : OpenVolume)
-      → Opened front below parent → SaysLine line (said.Volume top.file_system top.len) → SayFiles inner top.files
+      → Opened front below parent → SaysLine line (said.Volume top.file_system top.len) → SayFiles inner top.name top.files
       → Opened (front ++ line ∷ inner) (below ++ parent ∷ []) top
 
 record WritesIn (lines : List (List ℕ)) (below : List OpenVolume) (top : OpenVolume) (one : Script) : Type 0 where
@@ -71,13 +71,13 @@ not_true : (test : Bool) → not test ≡ true → test ≡ false
 not_true true e = absurd cc
 not_true false e = refl
 
--- a volume with other files, of which more lines tell
-opened_more : (lines : List (List ℕ)) (below : List OpenVolume) (top : OpenVolume) (more : List (List ℕ)) (files : List NewFile) → Opened lines below top
-    → ((inner : List (List ℕ)) → SayFiles inner top.files → SayFiles (inner ++ more) files) → Opened (lines ++ more) below (with_files top files)
-opened_more lines below top more files (outer line inner _ begins say) on = outer line (inner ++ more) (with_files top files) begins (on inner say)
-opened_more lines below top more files (nested front under parent line inner _ opened begins say) on =
-    subst (λ (ls : List (List ℕ)). Opened ls (under ++ parent ∷ []) (with_files top files)) (sym (append_assoc front (line ∷ inner) more))
-    (nested front under parent line (inner ++ more) (with_files top files) opened begins (on inner say))
+-- a volume with another name and other files, of which more lines tell
+opened_more : (lines : List (List ℕ)) (below : List OpenVolume) (top : OpenVolume) (more : List (List ℕ)) (called : Option Guid) (files : List NewFile) → Opened lines below top
+    → ((inner : List (List ℕ)) → SayFiles inner top.name top.files → SayFiles (inner ++ more) called files) → Opened (lines ++ more) below (with_parts top called files)
+opened_more lines below top more called files (outer line inner _ begins say) on = outer line (inner ++ more) (with_parts top called files) begins (on inner say)
+opened_more lines below top more called files (nested front under parent line inner _ opened begins say) on =
+    subst (λ (ls : List (List ℕ)). Opened ls (under ++ parent ∷ []) (with_parts top called files)) (sym (append_assoc front (line ∷ inner) more))
+    (nested front under parent line (inner ++ more) (with_parts top called files) opened begins (on inner say))
 
 -- a section more
 held : (top next : OpenVolume) (one : NewSection) (o : Option (List NewFile × NewFile)) → last_of top.files ≡ o → with_last top one o ≡ Ok next
@@ -86,14 +86,14 @@ held top next one None is e = absurd cc
 held top next one (Some parts) is e = (parts.0, parts.1, last_is top.files parts is, same_Ok _ next e)
 
 filled_more : (lines more : List (List ℕ)) (below : List OpenVolume) (top : OpenVolume) (one : NewSection) (to : State) → Opened lines below top → filling below top one ≡ Ok to
-    → ((inner : List (List ℕ)) (files : List NewFile) (last : NewFile) → top.files ≡ files ++ last ∷ [] → SayFiles inner (files ++ last ∷ []) → SayFiles (inner ++ more) (files ++ holding one last ∷ []))
+    → ((inner : List (List ℕ)) (files : List NewFile) (last : NewFile) → top.files ≡ files ++ last ∷ [] → SayFiles inner top.name (files ++ last ∷ []) → SayFiles (inner ++ more) top.name (files ++ holding one last ∷ []))
     → Stands (lines ++ more) to
 filled_more lines more below top one to opened e on =
     let with_it = bound (with_section top one) (λ next. Ok (Filling below next)) to e in
     let parts = held top with_it.0 one (last_of top.files) refl with_it.1 in
     let files = parts.0 ++ holding one parts.1 ∷ [] in
     let told : Opened (lines ++ more) below (with_files top files) =
-    opened_more lines below top more files opened (λ inner say. on inner parts.0 parts.1 parts.2 (subst (λ (fs : List NewFile). SayFiles inner fs) parts.2 say)) in
+    opened_more lines below top more top.name files opened (λ inner say. on inner parts.0 parts.1 parts.2 (subst (λ (fs : List NewFile). SayFiles inner top.name fs) parts.2 say)) in
     let there : Opened (lines ++ more) below with_it.0 = subst (λ (v : OpenVolume). Opened (lines ++ more) below v) parts.3 told in
     subst (λ (s : State). Stands (lines ++ more) s) (same_Ok (Filling below with_it.0) to with_it.2) there
 
@@ -118,7 +118,13 @@ ends lines below top line bytes to (nested front under parent own inner _ opened
     let found = ap (closed_in bytes) (sym (last_push under parent)) ∙ e in
     subst (λ (ls : List (List ℕ)). Stands ls to) (sym (append_assoc front (own ∷ inner) (line ∷ [])))
     (filled_more front (own ∷ (inner ++ line ∷ [])) under parent (section_of VOLUME_IMAGE bytes) to opened found
-    (λ before files last is told. volume before files last own inner top line bytes told begins say end built))
+    (λ before files last is told. volume before parent.name files last own inner top line bytes told begins say end built))
+
+-- a volume that has no name yet gets one
+named_then : (top : OpenVolume) (name : Guid) (next : OpenVolume) (o : Option Guid) → top.name ≡ o → named_over top name o ≡ Ok next
+    → (top.name ≡ None) × (with_parts top (Some name) top.files ≡ next)
+named_then top name next None is e = (is, same_Ok (with_parts top (Some name) top.files) next e)
+named_then top name next (Some other) is e = absurd cc
 
 begins_nested : (files : List NewFile) (lines : List (List ℕ)) (below : List OpenVolume) (top : OpenVolume) (line : List ℕ) (file_system : FileSystem) (len : ℕ) (to : State)
     → Opened lines below top → SaysLine line (said.Volume file_system len) → nested_in files below top file_system len ≡ Ok to → Stands (lines ++ line ∷ []) to
@@ -130,15 +136,25 @@ begins_nested (one ∷ files) lines below top line file_system len to opened say
 in_volume : (lines : List (List ℕ)) (below : List OpenVolume) (top : OpenVolume) (line : List ℕ) (one : Statement) (to : State) → Opened lines below top → SaysLine line one
     → filled below top one ≡ Ok to → Stands (lines ++ line ∷ []) to
 in_volume lines below top line (said.Volume file_system len) to opened says e = begins_nested top.files lines below top line file_system len to opened says e
+in_volume lines below top line (said.Name name) to opened says e =
+    let parts = bound (with_name top name) (λ next. Ok (Filling below next)) to e in
+    let is = named_then top name parts.0 top.name refl parts.1 in
+    let told : Opened (lines ++ line ∷ []) below (with_parts top (Some name) top.files) = opened_more lines below top (line ∷ []) (Some name) top.files opened
+    (λ inner say. named inner top.files line name (subst (λ (o : Option Guid). SayFiles inner o top.files) is.0 say) says) in
+    let there : Opened (lines ++ line ∷ []) below parts.0 = subst (λ (v : OpenVolume). Opened (lines ++ line ∷ []) below v) is.1 told in
+    subst (λ (s : State). Stands (lines ++ line ∷ []) s) (same_Ok (Filling below parts.0) to parts.2) there
+in_volume lines below top line (said.Pad len) to opened says e =
+    subst (λ (s : State). Stands (lines ++ line ∷ []) s) (same_Ok (Filling below (with_files top (top.files ++ pad_file len ∷ []))) to e)
+    (opened_more lines below top (line ∷ []) top.name (top.files ++ pad_file len ∷ []) opened (λ inner say. padded inner top.name top.files line len say says))
 in_volume lines below top line (said.File kind name) to opened says e =
     subst (λ (s : State). Stands (lines ++ line ∷ []) s) (same_Ok (Filling below (with_files top (top.files ++ new_file kind name ∷ []))) to e)
-    (opened_more lines below top (line ∷ []) (top.files ++ new_file kind name ∷ []) opened (λ inner say. file inner top.files line kind name say says))
+    (opened_more lines below top (line ∷ []) top.name (top.files ++ new_file kind name ∷ []) opened (λ inner say. file inner top.name top.files line kind name say says))
 in_volume lines below top line (said.Section kind body) to opened says e =
-    filled_more lines (line ∷ []) below top (section_of kind body) to opened e (λ inner files last is say. section inner files last line kind body say says)
+    filled_more lines (line ∷ []) below top (section_of kind body) to opened e (λ inner files last is say. section inner top.name files last line kind body say says)
 in_volume lines below top line (said.Depex phase body) to opened says e =
     let parts = bound (part_checked phase top) (λ _. filling below top (section_of (depex_type phase) body)) to e in
     filled_more lines (line ∷ []) below top (section_of (depex_type phase) body) to opened parts.2
-    (λ inner files last is say. depex inner files last line phase body say says (has_it top files last phase parts.0 is parts.1))
+    (λ inner files last is say. depex inner top.name files last line phase body say says (has_it top files last phase parts.0 is parts.1))
 in_volume lines below top line (said.Script phase) to opened says e =
     let parts = bound (script_checked phase top) (λ _. Ok (Writing below top (script_of phase []) [])) to e in
     subst (λ (s : State). Stands (lines ++ line ∷ []) s) (same_Ok (Writing below top (script_of phase []) []) to parts.2)
@@ -180,6 +196,8 @@ wrote lines below top one next line said.Block w says e =
     (writes_more lines below top one line (one.blocks ++ [] ∷ []) w (λ inner say. block inner one.blocks line say says))
 wrote lines below top one next line (said.Action text) w says e = acts lines below top one next line text (last_of one.blocks) refl w says e
 wrote lines below top one next line (said.Volume file_system len) w says e = absurd cc
+wrote lines below top one next line (said.Name name) w says e = absurd cc
+wrote lines below top one next line (said.Pad len) w says e = absurd cc
 wrote lines below top one next line (said.File kind name) w says e = absurd cc
 wrote lines below top one next line (said.Section kind body) w says e = absurd cc
 wrote lines below top one next line (said.Depex phase body) w says e = absurd cc
@@ -200,8 +218,8 @@ ended lines below top one numbers number line to (Ok bytes) w says is e =
     let all = ap (λ ls. ls ++ line ∷ []) w.here ∙ append_assoc w.front (w.line ∷ w.inner) (line ∷ []) in
     subst (λ (ls : List (List ℕ)). Stands ls to) (sym all)
     (filled_more w.front (w.line ∷ (w.inner ++ line ∷ [])) below top (section_of RAW bytes) to w.opened (at_ok number _ to e)
-    (λ before files last held say. script before files last w.line one.phase w.inner one.blocks line bytes say w.begins
-    (has_it top files last one.phase parts.0 held parts.1) (first_script top files last one.phase tt held parts.2) w.blocks says is))
+    (λ before files last held say. script before top.name files last w.line one.phase w.inner one.blocks line bytes say w.begins
+    (has_it top files last one.phase parts.0 held parts.1) (first_script top files last one.phase tt held parts.2) w.blocks says is.1))
 
 in_script : (lines : List (List ℕ)) (below : List OpenVolume) (top : OpenVolume) (one : Script) (numbers : List ℕ) (number : ℕ) (line : List ℕ) (what : Statement) (to : State) → WritesIn lines below top one → SaysLine line what
     → TakesInScript below top one numbers number what (Ok to) → Stands (lines ++ line ∷ []) to
@@ -209,6 +227,8 @@ in_script lines below top one numbers number line said.End to w says t = ended l
 in_script lines below top one numbers number line said.Block to w says t = went_on lines below top one numbers number line said.Block to w says t
 in_script lines below top one numbers number line (said.Action text) to w says t = went_on lines below top one numbers number line (said.Action text) to w says t
 in_script lines below top one numbers number line (said.Volume file_system len) to w says t = went_on lines below top one numbers number line (said.Volume file_system len) to w says t
+in_script lines below top one numbers number line (said.Name name) to w says t = went_on lines below top one numbers number line (said.Name name) to w says t
+in_script lines below top one numbers number line (said.Pad len) to w says t = went_on lines below top one numbers number line (said.Pad len) to w says t
 in_script lines below top one numbers number line (said.File kind name) to w says t = went_on lines below top one numbers number line (said.File kind name) to w says t
 in_script lines below top one numbers number line (said.Section kind body) to w says t = went_on lines below top one numbers number line (said.Section kind body) to w says t
 in_script lines below top one numbers number line (said.Depex phase body) to w says t = went_on lines below top one numbers number line (said.Depex phase body) to w says t
@@ -219,6 +239,8 @@ first : (lines : List (List ℕ)) (line : List ℕ) (what : Statement) (to : Sta
 first lines line (said.Volume file_system len) to none says e =
     subst (λ (ls : List (List ℕ)). Stands (ls ++ line ∷ []) to) (sym none)
     (subst (λ (s : State). Stands (line ∷ []) s) (same_Ok (Filling [] (new_volume file_system len)) to e) (outer line [] (new_volume file_system len) says no_file))
+first lines line (said.Name name) to none says e = absurd cc
+first lines line (said.Pad len) to none says e = absurd cc
 first lines line (said.File kind name) to none says e = absurd cc
 first lines line (said.Section kind body) to none says e = absurd cc
 first lines line (said.Depex phase body) to none says e = absurd cc

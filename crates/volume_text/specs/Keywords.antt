@@ -13,7 +13,9 @@ use Rattle.fv_build.specs.declared.file_system.FileSystem.TheVariants.{Ffs2, Ffs
 unfoldable pub keyword_of : List ℕ → Option Keyword
 keyword_of word =
     if bytes_eq word (codes "volume") then Some keyword.Volume
+    else if bytes_eq word (codes "name") then Some keyword.Name
     else if bytes_eq word (codes "file") then Some keyword.File
+    else if bytes_eq word (codes "pad") then Some keyword.Pad
     else if bytes_eq word (codes "depex") then Some keyword.Depex
     else if bytes_eq word (codes "script") then Some keyword.Script
     else if bytes_eq word (codes "guids") then Some keyword.Guids

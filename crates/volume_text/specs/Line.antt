@@ -18,7 +18,7 @@ use Rattle.volume_text.specs.declared.statement.Statement.{Statement}
 use Rattle.volume_text.specs.declared.statement.Statement.TheVariants as statement
 use Rattle.volume_text.specs.Keywords.{keyword_of}
 use Rattle.volume_text.specs.Reading.{◌>>=◌}
-use Rattle.volume_text.specs.Words.{word_at, none_left, guid_at, phase_at, length_at, system_at, file_type_at, section_type_at}
+use Rattle.volume_text.specs.Words.{none_left, guid_at, phase_at, length_at, pad_length_at, system_at, file_type_at, section_type_at}
 use Rattle.volume_text.specs.Bytes.{bytes_of, guids_of}
 
 -- each of these is of the words behind the first
@@ -27,6 +27,18 @@ volume_at others = do
   len ← length_at others
   system ← system_at len.1
   Ok (statement.Volume system len.0)
+
+unfoldable pub name_at : List (List ℕ) → Result Statement Cause
+name_at others = do
+  name ← guid_at others
+  _ ← none_left name.1
+  Ok (statement.Name name.0)
+
+unfoldable pub pad_at : List (List ℕ) → Result Statement Cause
+pad_at others = do
+  len ← pad_length_at others
+  _ ← none_left len.1
+  Ok (statement.Pad len.0)
 
 unfoldable pub file_at : List (List ℕ) → Result Statement Cause
 file_at others = do
@@ -83,6 +95,8 @@ ReadsDepex others read = ReadsExpression (phase_at others) read
 -- a line with this keyword in front of these words says this
 abbrev pub ReadsBy : Option Keyword → List ℕ → List (List ℕ) → Result Statement Cause → Type 0
 ReadsBy (Some keyword.Volume) line others read = read ≡ volume_at others
+ReadsBy (Some keyword.Name) line others read = read ≡ name_at others
+ReadsBy (Some keyword.Pad) line others read = read ≡ pad_at others
 ReadsBy (Some keyword.File) line others read = read ≡ file_at others
 ReadsBy (Some keyword.Depex) line others read = ReadsDepex others read
 ReadsBy (Some keyword.Script) line others read = read ≡ script_at others

@@ -1,17 +1,19 @@
 -- What is open behind some lines of a text (own): a volume with its files so far, of which the last may get sections.
-use Rattle.std.specs.Prelude.{◌≡◌, ℕ, Bool, ◌&&◌, ◌==◌, not, take, bytes_eq, if◌then◌else◌, List, [], ◌∷◌, ◌++◌, Option, Some, None, Result, Ok, Err}
+use Rattle.std.specs.Prelude.{◌≡◌, ℕ, ◌-◌, Bool, ◌&&◌, ◌==◌, not, nat_lt, replicate, take, bytes_eq, if◌then◌else◌, List, [], ◌∷◌, ◌++◌, Option, Some, None, Result, Ok, Err}
 use Rattle.std.specs.List.{list_any}
 use Rattle.std.specs.Borrow.{Bor}
 use Rattle.pi_base.specs.declared.guid.Guid.{Guid}
 use Rattle.pi_base.specs.declared.phase.Phase.{Phase}
 use Rattle.pi_base.specs.declared.phase.Phase.TheVariants.{Pei, Dxe}
-use Rattle.fv_volume.specs.declared.file_type.TheConstants.{PEIM, DRIVER, COMBINED_MM_DXE}
+use Rattle.fv_volume.specs.declared.file_type.TheConstants.{PEIM, DRIVER, COMBINED_MM_DXE, PAD}
 use Rattle.fv_section.specs.declared.section_type.TheConstants.{RAW, PEI_DEPEX, DXE_DEPEX}
 use Rattle.fv_build.specs.declared.new_file.NewFile.{NewFile}
 use Rattle.fv_build.specs.declared.new_file.NewSection.{NewSection}
 use Rattle.fv_build.specs.declared.fault.BuildFault.{BuildFault}
 use Rattle.fv_build.specs.declared.fault.BuildFault.TheVariants as build_fault
-use Rattle.fv_build.specs.Building.{built, fault_of}
+use Rattle.fv_named.specs.Named.{volume_bytes, volume_fault}
+use Rattle.volume_text.specs.declared.volume.TheConstants.{ERASED}
+use Rattle.volume_text.specs.declared.word.TheConstants.{SECTION_HEADER_LEN}
 use Rattle.volume_text.specs.declared.fault.Cause.{Cause}
 use Rattle.volume_text.specs.declared.fault.Cause.TheVariants as cause
 use Rattle.volume_text.specs.declared.fault.Stop.{Stop}
@@ -33,8 +35,12 @@ last_of (first ∷ others) = with_first first (last_of others)
 abbrev pub holding : NewSection → NewFile → NewFile
 holding section file = record { name = file.name; kind = file.kind; sections = file.sections ++ section ∷ [] }
 
+-- the volume with another name and other files
+abbrev pub with_parts : OpenVolume → Option Guid → List NewFile → OpenVolume
+with_parts volume name files = record { file_system = volume.file_system; len = volume.len; name = name; files = files }
+
 abbrev pub with_files : OpenVolume → List NewFile → OpenVolume
-with_files volume files = record { file_system = volume.file_system; len = volume.len; files = files }
+with_files volume files = with_parts volume volume.name files
 
 abbrev pub with_last : OpenVolume → NewSection → Option (List NewFile × NewFile) → Result OpenVolume Cause
 with_last volume section None = Err cause.NoFile
@@ -48,8 +54,31 @@ abbrev pub new_file : ℕ → Guid → NewFile
 new_file kind name = record { name = name; kind = kind; sections = [] }
 
 -- the volume with one more file
+abbrev pub with_new_file : OpenVolume → NewFile → OpenVolume
+with_new_file volume file = with_files volume (volume.files ++ file ∷ [])
+
+-- the volume with one more file, which has no section yet
 abbrev pub with_file : OpenVolume → ℕ → Guid → OpenVolume
-with_file volume kind name = with_files volume (volume.files ++ new_file kind name ∷ [])
+with_file volume kind name = with_new_file volume (new_file kind name)
+
+-- the body of a pad file: a section that looks erased but for its size, or nothing
+abbrev pub pad_sections : ℕ → List NewSection
+pad_sections len = if nat_lt 0 len then record { kind = ERASED; body = replicate (len - SECTION_HEADER_LEN) ERASED } ∷ [] else []
+
+-- a pad file with a body of so many bytes
+abbrev pub pad_file : ℕ → NewFile
+pad_file len = record { name = record { 0 = replicate 16 ERASED }; kind = PAD; sections = pad_sections len }
+
+abbrev pub with_pad : OpenVolume → ℕ → OpenVolume
+with_pad volume len = with_new_file volume (pad_file len)
+
+abbrev pub named_over : OpenVolume → Guid → Option Guid → Result OpenVolume Cause
+named_over volume name None = Ok (with_parts volume (Some name) volume.files)
+named_over volume name (Some other) = Err cause.TwoNames
+
+-- the volume with this name, if it has none yet
+abbrev pub with_name : OpenVolume → Guid → Result OpenVolume Cause
+with_name volume name = named_over volume name volume.name
 
 -- the type of the section with the expression for a phase
 abbrev pub depex_type : Phase → ℕ
@@ -111,12 +140,12 @@ stop_of (build_fault.NoRoom need have) = stop.Fault (cause.NoRoom need)
 stop_of build_fault.Memory = stop.Memory
 
 abbrev pub refused_by : OpenVolume → Option BuildFault → Result (List ℕ) Cause
-refused_by volume None = Ok (built volume.file_system volume.files volume.len)
+refused_by volume None = Ok (volume_bytes volume.file_system volume.name volume.files volume.len)
 refused_by volume (Some build_fault.TooMany) = Err cause.TooMany
 refused_by volume (Some build_fault.Size) = Err cause.Size
 refused_by volume (Some (build_fault.NoRoom need have)) = Err (cause.NoRoom need)
-refused_by volume (Some build_fault.Memory) = Ok (built volume.file_system volume.files volume.len)
+refused_by volume (Some build_fault.Memory) = Ok (volume_bytes volume.file_system volume.name volume.files volume.len)
 
 -- the bytes of a volume at its `end`
 abbrev pub built_of : OpenVolume → Result (List ℕ) Cause
-built_of volume = if is_length volume.len then refused_by volume (fault_of volume.file_system volume.files volume.len) else Err cause.Range
+built_of volume = if is_length volume.len then refused_by volume (volume_fault volume.file_system volume.name volume.files volume.len) else Err cause.Range

@@ -1,15 +1,14 @@
 -- A script of which some lines are read, and the bytes that it has at its `end` (own).
-use Rattle.std.specs.Prelude.{◌≡◌, ℕ, ◌<◌, List, [], ◌∷◌, ◌++◌, slice_get, Option, Some, None, Result, Ok, Err}
+use Rattle.std.specs.Prelude.{◌≡◌, ℕ, List, [], ◌∷◌, ◌++◌, slice_get, Option, Some, None, Result, Ok, Err}
 use Rattle.pi_base.specs.declared.phase.Phase.{Phase}
 use Rattle.act_code.specs.declared.action.Action.{Action}
 use Rattle.act_code.specs.declared.script.Script.{Script}
-use Rattle.act_code.specs.Script.{IsScript}
 use Rattle.script_words.specs.declared.fault.LineFault.{LineFault}
 use Rattle.script_words.specs.declared.script.ScriptCause.TheVariants.{NoBlock}
 use Rattle.script_words.specs.declared.script.ScriptFault.{ScriptFault}
 use Rattle.script_words.specs.declared.script.ScriptFault.TheVariants.{Bad, TooLong, Memory}
 use Rattle.script_words.specs.Action.{action_of}
-use Rattle.script_words.specs.Script.{IsUnfit}
+use Rattle.script_words.specs.Script.{IsUnfit, IsWhole}
 use Rattle.volume_text.specs.declared.fault.Cause.{Cause}
 use Rattle.volume_text.specs.declared.fault.Cause.TheVariants as cause
 use Rattle.volume_text.specs.declared.fault.Fault.{Fault}
@@ -58,5 +57,5 @@ placed lines end Memory = None
 
 -- the bytes of a script at its `end`; or why there are none, at the first of its lines at which something is wrong
 abbrev pub IsScriptBody : Script → List ℕ → ℕ → Result (List ℕ) Fault → Type 0
-IsScriptBody script lines end (Ok body) = IsScript body script
+IsScriptBody script lines end (Ok body) = IsWhole script body
 IsScriptBody script lines end (Err fault) = (why : ScriptFault) × IsUnfit script why × (placed lines end why ≡ Some fault)

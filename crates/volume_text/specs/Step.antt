@@ -1,5 +1,5 @@
 -- What is open behind one line more (own), and what is wrong with a line where it stands.
-use Rattle.std.specs.Prelude.{◌≡◌, ℕ, ⊤, Bool, if◌then◌else◌, List, [], ◌∷◌, ◌++◌, Option, Some, None, Result, Ok, Err}
+use Rattle.std.specs.Prelude.{◌≡◌, ℕ, ⊤, List, [], ◌∷◌, ◌++◌, Option, Some, None, Result, Ok, Err}
 use Rattle.pi_base.specs.declared.phase.Phase.{Phase}
 use Rattle.fv_section.specs.declared.section_type.TheConstants.{RAW, VOLUME_IMAGE}
 use Rattle.fv_build.specs.declared.new_file.NewFile.{NewFile}
@@ -21,7 +21,7 @@ use Rattle.volume_text.specs.declared.step.State.{State}
 use Rattle.volume_text.specs.declared.step.State.TheVariants.{Begin, Filling, Writing, Done}
 use Rattle.volume_text.specs.Reading.{◌>>=◌, at, onward}
 use Rattle.volume_text.specs.Line.{Reads}
-use Rattle.volume_text.specs.Open.{last_of, with_section, with_file, depex_type, part_checked, script_checked, built_of}
+use Rattle.volume_text.specs.Open.{last_of, with_section, with_file, with_pad, with_name, depex_type, part_checked, script_checked, built_of}
 use Rattle.volume_text.specs.Script.{script_of, with_block, with_action, IsScriptBody}
 
 -- the actions of the script that is open are such as lines say
@@ -33,7 +33,7 @@ abbrev pub section_of : ℕ → List ℕ → NewSection
 section_of kind body = record { kind = kind; body = body }
 
 abbrev pub new_volume : FileSystem → ℕ → OpenVolume
-new_volume file_system len = record { file_system = file_system; len = len; files = [] }
+new_volume file_system len = record { file_system = file_system; len = len; name = None; files = [] }
 
 -- the first line is a volume's
 abbrev pub begun : Statement → Result State Cause
@@ -72,6 +72,8 @@ closed below top = built_of top >>= (λ bytes. closed_in bytes (last_volume belo
 -- a statement more in a volume
 abbrev pub filled : List OpenVolume → OpenVolume → Statement → Result State Cause
 filled below top (statement.Volume file_system len) = nested below top file_system len
+filled below top (statement.Name name) = with_name top name >>= (λ top. Ok (Filling below top))
+filled below top (statement.Pad len) = Ok (Filling below (with_pad top len))
 filled below top (statement.File kind name) = Ok (Filling below (with_file top kind name))
 filled below top (statement.Section kind body) = filling below top (section_of kind body)
 filled below top (statement.Depex phase body) = with_depex below top phase body

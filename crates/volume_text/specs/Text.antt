@@ -8,7 +8,7 @@ use Rattle.volume_text.specs.declared.fault.Fault.{Fault}
 use Rattle.volume_text.specs.declared.fault.TextFault.{TextFault}
 use Rattle.volume_text.specs.declared.fault.TextFault.TheVariants as text_fault
 use Rattle.volume_text.specs.declared.step.State.{State}
-use Rattle.volume_text.specs.declared.step.State.TheVariants.{Begin, Filling, Writing, Done}
+use Rattle.volume_text.specs.declared.step.State.TheVariants.{Begin, Done}
 use Rattle.volume_text.specs.Step.{Steps}
 use Rattle.volume_text.specs.Volume.{SaysVolume}
 
@@ -44,6 +44,10 @@ Moves state number line taken = ((is_passed_over line ≡ true) × (taken ≡ Ok
 abbrev pub Goes : State → List (ℕ × List ℕ) → State → Type 0
 Goes from [] to = from ≡ to
 Goes from (line ∷ lines) to = (next : State) × Steps from line.0 line.1 (Ok next) × Goes next lines to
+
+-- the lines of the text lead to the volume of these bytes
+abbrev pub Leads : List ℕ → List ℕ → Type 0
+Leads text bytes = Goes Begin (numbered text) (Done bytes)
 
 -- all lines before one of the text can stand as they do, and that one cannot
 pub record IsBadLine (text : List ℕ) (fault : Fault) : Type 0 where

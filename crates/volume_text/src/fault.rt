@@ -26,7 +26,7 @@ pub enum Cause {
     /// A word is no number below 2^64.
     #[error("Number")]
     Number,
-    /// The length of a volume is below that of its header or above 64 MiB.
+    /// The length of a volume is below that of its header or above 64 MiB, or that of a pad file's body is none of a section in FFS2.
     #[error("Range")]
     Range,
     /// A word is neither a GUID nor a name of one.
@@ -71,6 +71,9 @@ pub enum Cause {
     /// The file has a script of the phase already.
     #[error("TwoScripts")]
     TwoScripts,
+    /// The volume has a name already.
+    #[error("TwoNames")]
+    TwoNames,
     /// A line behind the end of the volume.
     #[error("BehindEnd")]
     BehindEnd,

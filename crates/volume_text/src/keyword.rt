@@ -13,7 +13,9 @@ use pi_base::Phase;
 #[derive(Clone, Copy)]
 pub(crate) enum Keyword {
     Volume,
+    Name,
     File,
+    Pad,
     Depex,
     Script,
     Guids,
@@ -30,8 +32,12 @@ pub(crate) fn keyword_of(word: &[u8]) -> Option<Keyword>
 {
     if word == b"volume".as_slice() {
         Some(Keyword::Volume)
+    } else if word == b"name".as_slice() {
+        Some(Keyword::Name)
     } else if word == b"file".as_slice() {
         Some(Keyword::File)
+    } else if word == b"pad".as_slice() {
+        Some(Keyword::Pad)
     } else if word == b"depex".as_slice() {
         Some(Keyword::Depex)
     } else if word == b"script".as_slice() {

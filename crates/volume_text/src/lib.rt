@@ -6,6 +6,7 @@
 mod bytes;
 mod fault;
 mod keyword;
+mod law;
 mod line;
 mod script;
 mod statement;
@@ -15,5 +16,6 @@ mod volume;
 mod word;
 
 pub use fault::{Cause, Fault, TextFault};
+pub use law::{again, one_volume};
 pub use statement::Statement;
 pub use text::volume_of;

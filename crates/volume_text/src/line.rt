@@ -2,13 +2,15 @@
 ghost use Rattle.std.specs.Prelude.{◌≡◌, Ok};
 ghost use Rattle.source_words.specs.Words.{words};
 ghost use Rattle.volume_text.specs.Reading.{Gives, Meets};
-ghost use Rattle.volume_text.specs.Line.{volume_at, file_at, script_at, guids_at, raw_at, section_at, alone, Reads, ReadsBy, ReadsDepex, ReadsExpression, IsBody};
+ghost use Rattle.volume_text.specs.Line.{volume_at, name_at, file_at, pad_at, script_at, guids_at, raw_at, section_at, alone, Reads, ReadsBy, ReadsDepex, ReadsExpression, IsBody};
 
 use crate::bytes::{bytes, guids};
 use crate::fault::{Cause, Stop};
 use crate::keyword::{Keyword, keyword_of};
 use crate::statement::Statement;
-use crate::word::{file_type, guid, length, none_left, phase, section_type, system, word};
+use crate::word::{
+    file_type, guid, length, none_left, pad_length, phase, section_type, system, word,
+};
 use depex_code::write_depex;
 use depex_words::{ExpressionFault, read_expression};
 use fv_section::section_type::RAW;
@@ -23,6 +25,26 @@ fn volume(text: &[u8]) -> Result<Statement, Stop>
     let (len, rest) = length(text)?;
     let file_system = system(rest)?;
     Ok(Statement::Volume { file_system, len })
+}
+
+// `name GUID`.
+#[tactic(auto, unfolding(crate::specs::Line::name_at))]
+fn name(text: &[u8]) -> Result<Statement, Stop>
+    ensures { Gives (λ x. x) result (name_at (words text.now)) }
+{
+    let (name, rest) = guid(text)?;
+    none_left(rest)?;
+    Ok(Statement::Name { name })
+}
+
+// `pad LENGTH`.
+#[tactic(auto, unfolding(crate::specs::Line::pad_at))]
+fn pad(text: &[u8]) -> Result<Statement, Stop>
+    ensures { Gives (λ x. x) result (pad_at (words text.now)) }
+{
+    let (len, rest) = pad_length(text)?;
+    none_left(rest)?;
+    Ok(Statement::Pad { len })
 }
 
 // `file TYPE GUID`.
@@ -134,7 +156,9 @@ fn by_keyword(
 {
     match keyword {
         Some(Keyword::Volume) => volume(rest),
+        Some(Keyword::Name) => name(rest),
         Some(Keyword::File) => file(rest),
+        Some(Keyword::Pad) => pad(rest),
         Some(Keyword::Depex) => depex(alloc, rest),
         Some(Keyword::Script) => script(rest),
         Some(Keyword::Guids) => guid_section(alloc, rest),

@@ -7,8 +7,12 @@ use pi_base::{Guid, Phase, Seq};
 pub enum Statement {
     /// A volume of this length begins.
     Volume { file_system: FileSystem, len: u64 },
+    /// The volume has this name.
+    Name { name: Guid },
     /// A file begins.
     File { kind: u8, name: Guid },
+    /// A pad file with a body of so many bytes.
+    Pad { len: u64 },
     /// A section of the file.
     Section { kind: u8, body: Seq<u8> },
     /// The file's expression for a phase, as its bytes.

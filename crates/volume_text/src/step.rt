@@ -9,7 +9,8 @@ use crate::line::read_line;
 use crate::script::{script_body, with_action, with_block};
 use crate::statement::Statement;
 use crate::volume::{
-    OpenVolume, built_of, depex_type, part_checked, script_checked, with_file, with_section,
+    OpenVolume, built_of, depex_type, part_checked, script_checked, with_file, with_name, with_pad,
+    with_section,
 };
 use act_code::Script;
 use fv_build::{FileSystem, NewSection};
@@ -50,6 +51,7 @@ fn begun(alloc: Global, statement: &Statement) -> Result<State, Stop>
             top: OpenVolume {
                 file_system: *file_system,
                 len: *len,
+                name: None,
                 files: Seq::new(alloc),
             },
         }),
@@ -84,6 +86,7 @@ fn nested(
         top: OpenVolume {
             file_system,
             len,
+            name: None,
             files: Seq::new(alloc),
         },
     })
@@ -165,6 +168,14 @@ fn filled(
 {
     match statement {
         Statement::Volume { file_system, len } => nested(alloc, below, top, file_system, len),
+        Statement::Name { name } => {
+            let top = with_name(top, name)?;
+            Ok(State::Filling { below, top })
+        }
+        Statement::Pad { len } => {
+            let top = with_pad(alloc, top, len)?;
+            Ok(State::Filling { below, top })
+        }
         Statement::File { kind, name } => {
             let top = with_file(alloc, top, kind, name)?;
             Ok(State::Filling { below, top })

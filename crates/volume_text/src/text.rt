@@ -1,7 +1,7 @@
 // A text, line by line.
 ghost use Rattle.std.specs.Prelude.{◌≡◌, ◌+◌, ◌<◌, ◌^◌, length, IfOk, IfErr};
 ghost use Rattle.line_words.specs.Line.{lines};
-ghost use Rattle.volume_text.specs.Text.{is_comment, is_passed_over, numbered, Says, Goes, Moves, IsRefused};
+ghost use Rattle.volume_text.specs.Text.{is_comment, is_passed_over, numbered, Says, Leads, Goes, Moves, IsRefused};
 ghost use Rattle.volume_text.specs.Reading.{Answers};
 ghost use Rattle.volume_text.specs.Step.{IsSaidState};
 
@@ -72,11 +72,12 @@ fn ends_open(alloc: Global, text: &[u8]) -> Result<(State, u64), TextFault>
 ///
 /// Spaces and tabs stand in front of lines and between words, and a carriage return before a line feed is dropped. Lines without a word, and those
 /// whose first word begins with `#`, are passed over.
-#[tactic(auto, using(crate::proofs::Saying::says, crate::proofs::Going::cut_short))]
+#[tactic(auto, using(crate::proofs::Saying::says, crate::proofs::Going::leads, crate::proofs::Going::cut_short))]
 pub fn volume_of(alloc: Global, text: &[u8]) -> Result<Seq<u8>, TextFault>
     requires { length text.now < 2 ^ 63 }
     // The bytes are those of a volume whose files the lines say.
     ensures said { IfOk result (Says text.now) }
+    ensures leads { IfOk result (Leads text.now) }
     // Where there are none, this is the first line at fault, behind others that can stand as they do, or the text ends too early, or memory ran out.
     ensures refused { IfErr result (IsRefused text.now) }
 {

@@ -1,19 +1,19 @@
 // What is open behind some lines of a text: volumes, one in a file of the other, and in the last file of the innermost maybe a script.
-ghost use Rattle.std.specs.Prelude.{◌≡◌, Ok, take};
-ghost use Rattle.std.specs.Prelude.{◌≤◌, None, IfOk, IfErr, OnOk};
-ghost use Rattle.fv_build.specs.declared.volume_header.TheConstants.{HEADER_LEN};
-ghost use Rattle.fv_build.specs.declared.build.TheConstants.{MOST_LEN};
-ghost use Rattle.fv_build.specs.Building.{built, fault_of, IsRefusal};
+ghost use Rattle.std.specs.Prelude.{◌≡◌, Ok, IfOk, replicate, take};
 ghost use Rattle.volume_text.specs.Reading.{Gives};
-ghost use Rattle.volume_text.specs.Open.{last_of, holding, with_section, with_file, depex_type, has_part, script_front, is_script_of, has_script, IsLastFile, only_with_part, only_without_script, part_checked, only_first, script_checked, stop_of, built_of};
+ghost use Rattle.volume_text.specs.Open.{last_of, holding, with_section, with_new_file, with_file, pad_sections, with_pad, with_name, depex_type, has_part, script_front, is_script_of, has_script, IsLastFile, only_with_part, only_without_script, part_checked, only_first, script_checked, stop_of, built_of};
 
 use crate::fault::{Cause, Stop};
-use crate::word::is_length;
-use fv_build::{BuildFault, FileSystem, NewFile, NewSection, build_volume, build_volume3};
+use crate::word::{SECTION_HEADER_LEN, is_length};
+use fv_build::{BuildFault, FileSystem, NewFile, NewSection};
+use fv_named::build;
 use fv_section::section_type::{DXE_DEPEX, PEI_DEPEX, RAW};
-use fv_volume::file_type::{COMBINED_MM_DXE, DRIVER, PEIM};
-use pi_base::{Guid, Phase, Seq};
+use fv_volume::file_type::{COMBINED_MM_DXE, DRIVER, PAD, PEIM};
+use pi_base::{Guid, OutOfMemory, Phase, Seq};
 use std::alloc::Global;
+
+// What stands in the body of a pad file.
+const ERASED: u8 = 0xff;
 
 /// A volume whose `end` has not come yet.
 #[derive(Drop)]
@@ -22,6 +22,8 @@ pub struct OpenVolume {
     pub file_system: FileSystem,
     /// Its length.
     pub len: u64,
+    /// Its name, if a line has told one.
+    pub name: Option<Guid>,
     /// Its files so far. The last one may get sections.
     pub files: Seq<NewFile>,
 }
@@ -60,6 +62,7 @@ pub(crate) fn with_section(volume: OpenVolume, section: NewSection) -> Result<Op
     let OpenVolume {
         file_system,
         len,
+        name,
         files,
     } = volume;
     let Some((mut files, last)) = last_of(files) else {
@@ -70,11 +73,31 @@ pub(crate) fn with_section(volume: OpenVolume, section: NewSection) -> Result<Op
     Ok(OpenVolume {
         file_system,
         len,
+        name,
         files,
     })
 }
 
-/// The volume with one more file.
+// The volume with one more file.
+fn with_new_file(volume: OpenVolume, file: NewFile) -> Result<OpenVolume, Stop>
+    ensures { Gives (λ x. x) result (Ok (with_new_file volume file)) }
+{
+    let OpenVolume {
+        file_system,
+        len,
+        name,
+        mut files,
+    } = volume;
+    files.push(file)?;
+    Ok(OpenVolume {
+        file_system,
+        len,
+        name,
+        files,
+    })
+}
+
+/// The volume with one more file, which has no section yet.
 pub(crate) fn with_file(
     alloc: Global,
     volume: OpenVolume,
@@ -83,21 +106,67 @@ pub(crate) fn with_file(
 ) -> Result<OpenVolume, Stop>
     ensures { Gives (λ x. x) result (Ok (with_file volume kind name)) }
 {
-    let OpenVolume {
-        file_system,
-        len,
-        mut files,
-    } = volume;
-    files.push(NewFile {
-        name,
-        kind,
-        sections: Seq::new(alloc),
-    })?;
-    Ok(OpenVolume {
-        file_system,
-        len,
-        files,
-    })
+    with_new_file(
+        volume,
+        NewFile {
+            name,
+            kind,
+            sections: Seq::new(alloc),
+        },
+    )
+}
+
+// So many erased bytes.
+fn erased(alloc: Global, len: usize) -> Result<Seq<u8>, OutOfMemory>
+    ensures { IfOk result (λ bytes. bytes ≡ replicate len ERASED) }
+{
+    match vec![in alloc; ERASED; len] {
+        Ok(bytes) => Ok(Seq::from_vec(bytes)),
+        Err(_) => Err(OutOfMemory),
+    }
+}
+
+// What is the body of a pad file: a section that looks erased but for its size, or nothing.
+fn pad_sections(alloc: Global, len: u64) -> Result<Seq<NewSection>, OutOfMemory>
+    ensures { IfOk result (λ sections. sections ≡ pad_sections len) }
+{
+    let mut sections = Seq::new(alloc);
+    if len > 0 {
+        let body_len = len.saturating_sub(SECTION_HEADER_LEN) as usize;
+        sections.push(NewSection {
+            kind: ERASED,
+            body: erased(alloc, body_len)?,
+        })?;
+    }
+    Ok(sections)
+}
+
+/// The volume with one more pad file.
+pub(crate) fn with_pad(alloc: Global, volume: OpenVolume, len: u64) -> Result<OpenVolume, Stop>
+    ensures { Gives (λ x. x) result (Ok (with_pad volume len)) }
+{
+    let sections = pad_sections(alloc, len)?;
+    with_new_file(
+        volume,
+        NewFile {
+            name: Guid([ERASED; 16]),
+            kind: PAD,
+            sections,
+        },
+    )
+}
+
+/// The volume with this name, if it has none yet.
+pub(crate) fn with_name(volume: OpenVolume, name: Guid) -> Result<OpenVolume, Stop>
+    ensures { Gives (λ x. x) result (with_name volume name) }
+{
+    match volume.name {
+        Some(_) => Err(Stop::Fault(Cause::TwoNames)),
+        None => Ok(OpenVolume {
+            name: Some(name),
+            ..volume
+        }),
+    }
 }
 
 /// The type of the section with the expression for a phase.
@@ -230,25 +299,6 @@ fn stop_of(fault: BuildFault) -> Stop
     }
 }
 
-// A volume of one of the file systems.
-fn build(
-    alloc: Global,
-    file_system: FileSystem,
-    files: &[NewFile],
-    len: u64,
-) -> Result<Seq<u8>, BuildFault>
-    requires header { HEADER_LEN ≤ len }
-    requires most { len ≤ MOST_LEN }
-    ensures sound { OnOk result (fault_of file_system files.now len ≡ None) }
-    ensures built { IfOk result (λ volume. volume ≡ built file_system files.now len) }
-    ensures refused { IfErr result (IsRefusal file_system files.now len) }
-{
-    match file_system {
-        FileSystem::Ffs2 => build_volume(alloc, files, len),
-        FileSystem::Ffs3 => build_volume3(alloc, files, len),
-    }
-}
-
 /// The bytes of a volume at its `end`.
 #[tactic(auto, using(crate::proofs::Building::built_there, crate::proofs::Building::refused_there))]
 pub(crate) fn built_of(alloc: Global, volume: &OpenVolume) -> Result<Seq<u8>, Stop>
@@ -260,6 +310,7 @@ pub(crate) fn built_of(alloc: Global, volume: &OpenVolume) -> Result<Seq<u8>, St
     match build(
         alloc,
         volume.file_system,
+        volume.name,
         volume.files.as_slice(),
         volume.len,
     ) {

@@ -2,7 +2,7 @@
 ghost use Rattle.std.specs.Prelude.{◌≡◌};
 ghost use Rattle.source_words.specs.Words.{words};
 ghost use Rattle.volume_text.specs.Reading.{Gives};
-ghost use Rattle.volume_text.specs.Words.{word_at, none_left, guid_at, phase_at, is_length, length_at, system_at, file_type_at, section_type_at};
+ghost use Rattle.volume_text.specs.Words.{word_at, none_left, guid_at, phase_at, is_length, length_at, is_pad_length, pad_length_at, system_at, file_type_at, section_type_at};
 
 use crate::fault::{Cause, Stop};
 use crate::keyword::{byte_of, file_type_of, phase_of, system_of};
@@ -10,6 +10,12 @@ use fv_build::{FileSystem, HEADER_LEN, MOST_LEN};
 use line_words::number_of;
 use pi_base::{Guid, Phase};
 use source_words::{guid_of, next_word};
+
+/// The bytes of a section's header.
+pub(crate) const SECTION_HEADER_LEN: u64 = 4;
+
+/// The longest body of a file in FFS2.
+const MOST_PAD: u64 = 0xff_ffe6;
 
 /// The first word, and what follows it.
 pub(crate) fn word(text: &[u8]) -> Result<(&[u8], &[u8]), Stop>
@@ -76,6 +82,29 @@ pub(crate) fn is_length(len: u64) -> bool
     ensures { result ≡ is_length len }
 {
     HEADER_LEN as u64 <= len && len <= MOST_LEN
+}
+
+/// Whether the body of a pad file may be of this length: it is one section, or empty.
+fn is_pad_length(len: u64) -> bool
+    ensures { result ≡ is_pad_length len }
+{
+    len == 0 || SECTION_HEADER_LEN <= len && len <= MOST_PAD
+}
+
+/// The length of a pad file's body.
+#[tactic(auto, unfolding(crate::specs::Words::pad_length_at))]
+pub(crate) fn pad_length(text: &[u8]) -> Result<(u64, &[u8]), Stop>
+    ensures { Gives (λ x. (x.0, words x.1.now)) result (pad_length_at (words text.now)) }
+{
+    let (word, rest) = word(text)?;
+    let Some(len) = number_of(word) else {
+        return Err(Stop::Fault(Cause::Number));
+    };
+    if is_pad_length(len) {
+        Ok((len, rest))
+    } else {
+        Err(Stop::Fault(Cause::Range))
+    }
 }
 
 /// The file system that the last word names, FFS2 where there is none.

@@ -7,4 +7,8 @@ write_script-requires c = in_grammar c.args.draft.now c.requires (sym (rw c.as_s
 
 pub returns-in-Err-TooLong-clause-refused : goal.returns-in-Err-TooLong-clause-refused
 returns-in-Err-TooLong-clause-refused c =
-    (in_grammar c.args.draft.now c.requires (sym (rw c.as_slice.ensures at c.in-None.ensures)), (rw c.in-Err-TooLong.field-0-is at c.in-Err-TooLong.ensures.too_long) refl)
+    let none = sym (rw c.as_slice.ensures at c.in-None.ensures) in
+    (none, in_grammar c.args.draft.now c.requires none, (rw c.in-Err-TooLong.field-0-is at c.in-Err-TooLong.ensures.too_long) refl)
+
+pub returns-in-Ok-clause-whole : goal.returns-in-Ok-clause-whole
+returns-in-Ok-clause-whole c = (sym (rw c.as_slice.ensures at c.in-None.ensures), c.in-Ok.ensures.script)

@@ -1,5 +1,4 @@
-use Rattle.std.proofs.Common.{◌≡◌, ◌+◌, ◌++◌, ◌≤◌, ℕ, List, length}
-use Rattle.line_words.specs.Line.{lines}
+use Rattle.std.proofs.Common.{◌+◌, ◌≤◌, length}
 use Rattle.volume_text.specs.Step.{IsSaidState}
 use Rattle.volume_text.proofs.Going.{Reached}
 use Rattle.volume_text.proofs.text.ends_open.Given as goal

@@ -1,4 +1,4 @@
-use Rattle.volume_text.proofs.volume.build.Goals as goal
+use Rattle.fv_named.proofs.volume.build_plain.Goals as goal
 
 pub returns-in-Ffs2-clause-built : goal.returns-in-Ffs2-clause-built
 returns-in-Ffs2-clause-built c = rw c.in-Ffs2.is c.build_volume.ensures.built
