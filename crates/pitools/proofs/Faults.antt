@@ -7,7 +7,7 @@ use Rattle.catalog_model.specs.declared.catalog.Catalog.{Catalog}
 use Rattle.pi_base.specs.declared.phase.Phase.{Phase}
 use Rattle.pi_base.specs.declared.phase.Phase.TheVariants.{Pei, Dxe}
 use Rattle.pitools.specs.declared.command_line.Tool.{Tool}
-use Rattle.pitools.specs.declared.command_line.Tool.TheVariants.{AssembleDepex, AssembleScript, ReadPei, ReadDxe, ReadScript, Mp}
+use Rattle.pitools.specs.declared.command_line.Tool.TheVariants.{AssembleDepex, AssembleScript, ReadPei, ReadDxe, ReadScript, Mp, Volume}
 use Rattle.pitools.specs.declared.status.ToolStatus.{ToolStatus}
 use Rattle.pitools.specs.declared.status.ToolStatus.TheVariants as S
 use Rattle.pitools.specs.CheckReport.{CheckReport, VerdictReport, both_read, checked, image_refused, no, plan_long, trace_long, twins, yes}
@@ -20,6 +20,7 @@ use Rattle.pitools.specs.Ends.{Answered, Ends, IsDue, NoMemory, SinkFailed, Trai
 use Rattle.pitools.specs.GcdReport.{GcdReport, command_refused, done, hobs_refused}
 use Rattle.pitools.specs.MpReport.{MpReport, ran, refused}
 use Rattle.pitools.specs.Outcome.{ContentReport, Names, Outcome, both, commands_long, content, hobs_long, long, usage, words_ask_check, words_ask_hobs, words_ask_map, words_ask_tool}
+use Rattle.pitools.specs.VolumeReport.{VolumeReport, at_fault, built}
 use Rattle.pitools.specs.TextReport.{AssemblyReport, DepexReport, ExpressionReport, ScriptReport, assembled, bad, faulty, long as long_depex, long_script, malformed, no_script, read, spelled, stands}
 
 -- an outcome is no fault of the files
@@ -63,6 +64,10 @@ mp_tells : (text : List ℕ) → Tells (MpReport text)
 mp_tells text status out (refused line p is t) = line_tells status is
 mp_tells text status out (ran file p left of is t) = done_tells status is
 
+volume_tells : (text : List ℕ) → Tells (VolumeReport text)
+volume_tells text status out (built bytes p q is t) = done_tells status is
+volume_tells text status out (at_fault fault p is t) = text_tells status is
+
 content_tells : (tool : Tool) (bytes : List ℕ) → Tells (ContentReport tool bytes)
 content_tells AssembleDepex bytes = depex_tells bytes
 content_tells AssembleScript bytes = assembly_tells bytes
@@ -70,6 +75,7 @@ content_tells ReadPei bytes = expression_tells Pei bytes
 content_tells ReadDxe bytes = expression_tells Dxe bytes
 content_tells ReadScript bytes = script_tells bytes
 content_tells Mp bytes = mp_tells bytes
+content_tells Volume bytes = volume_tells bytes
 
 map_tells : (bytes text : List ℕ) → Tells (GcdReport bytes text)
 map_tells bytes text status out (hobs_refused fault real p is t) = other status S.HobsRefused (λ (e : S.HobsRefused ≡ S.FileFault). absurd (cc)) is

@@ -21,11 +21,16 @@ use Rattle.mp_text.specs.declared.file.MpFile.{MpFile}
 use Rattle.mp_text.specs.FileText.{IsFirstBad, IsMpFile}
 use Rattle.mp_text.specs.OutcomeText.{bad_line, outcome_text, replies_text, cells_text, records_text}
 use Rattle.pitools.specs.declared.command_line.Tool.{Tool}
-use Rattle.pitools.specs.declared.command_line.Tool.TheVariants.{AssembleDepex, AssembleScript, ReadPei, ReadDxe, ReadScript, Mp}
+use Rattle.pitools.specs.declared.command_line.Tool.TheVariants.{AssembleDepex, AssembleScript, ReadPei, ReadDxe, ReadScript, Mp, Volume}
 use Rattle.pitools.specs.MpReport.{IsOutcomeOf, MpReport, ran, refused}
 use Rattle.pitools.specs.OneOutcome.{IsOne}
 use Rattle.pitools.specs.Outcome.{ContentReport}
 use Rattle.pitools.specs.Refusals.{text_line, malformed_line, bytes_line}
+use Rattle.volume_text.specs.declared.fault.Fault.{Fault}
+use Rattle.volume_text.specs.declared.fault.TextFault.TheVariants.{Bad}
+use Rattle.volume_text.specs.Text.{Leads, IsRefused}
+use Rattle.pitools.specs.SourceRefusal.{source_line}
+use Rattle.pitools.specs.VolumeReport.{VolumeReport, at_fault, built}
 use Rattle.pitools.specs.TextReport.{AssemblyReport, DepexReport, ExpressionReport, ScriptReport, hex_line, bad, long, spelled, malformed, read, faulty, stands, no_script, long_script, assembled}
 
 -- what the crates of the texts say: a text or bytes have one reading, or one refusal, and never both
@@ -42,6 +47,9 @@ pub record Laws : Type 0 where
   pub code_or_fault : (bytes : List ℕ) (a : Script) (f : ActFault) → AreBytes bytes → IsScript bytes a → IsFault bytes f → ⊥
   pub files : (text : List ℕ) (a b : MpFile) → IsMpFile text a → IsMpFile text b → a ≡ b
   pub bad_lines : (text : List ℕ) (m n : ℕ) → IsFirstBad text m → IsFirstBad text n → m ≡ n
+  pub volumes : (text a b : List ℕ) → Leads text a → Leads text b → a ≡ b
+  pub volume_faults : (text : List ℕ) (a b : Fault) → IsRefused text (Bad a) → IsRefused text (Bad b) → a ≡ b
+  pub volume_or_fault : (text bytes : List ℕ) (fault : Fault) → Leads text bytes → IsRefused text (Bad fault) → ⊥
   pub file_or_line : (text : List ℕ) (a : MpFile) (n : ℕ) → IsMpFile text a → IsFirstBad text n → ⊥
 
 abbrev opcodes : Depex → ℕ
@@ -109,6 +117,12 @@ one_mp laws text a b s t (ran file p left is e u) (refused n q f v) = absurd (la
 one_mp laws text a b s t (ran file p left is e u) (ran other q more also f v) =
     (e ∙ sym f, u ∙ text_is file left is ∙ ap told_text (laws.files text file other p q) ∙ sym (text_is other more also) ∙ sym v)
 
+one_volume : Laws → (text : List ℕ) → IsOne (VolumeReport text)
+one_volume laws text a b s t (built c p m e u) (built d q n f v) = (e ∙ sym f, u ∙ laws.volumes text c d m n ∙ sym v)
+one_volume laws text a b s t (built c p m e u) (at_fault g q f v) = absurd (laws.volume_or_fault text c g m q)
+one_volume laws text a b s t (at_fault g p e u) (built c q n f v) = absurd (laws.volume_or_fault text c g n p)
+one_volume laws text a b s t (at_fault g p e u) (at_fault h q f v) = (e ∙ sym f, u ∙ ap source_line (laws.volume_faults text g h p q) ∙ sym v)
+
 pub one_content : Laws → (tool : Tool) (content : List ℕ) → AreBytes content → IsOne (ContentReport tool content)
 one_content laws AssembleDepex content are = one_depex laws content
 one_content laws AssembleScript content are = one_assembly laws content
@@ -116,3 +130,4 @@ one_content laws ReadPei content are = one_expression laws Pei content
 one_content laws ReadDxe content are = one_expression laws Dxe content
 one_content laws ReadScript content are = one_script laws content are
 one_content laws Mp content are = one_mp laws content
+one_content laws Volume content are = one_volume laws content

@@ -2,7 +2,7 @@
 -- Own.
 use Rattle.std.specs.Prelude.{◌≡◌, ◌≢◌, ℕ, List, [], ◌∷◌, ◌++◌, codes, map}
 use Rattle.pitools.specs.declared.command_line.Tool.{Tool}
-use Rattle.pitools.specs.declared.command_line.Tool.TheVariants.{AssembleDepex, AssembleScript, ReadPei, ReadDxe, ReadScript, Mp}
+use Rattle.pitools.specs.declared.command_line.Tool.TheVariants.{AssembleDepex, AssembleScript, ReadPei, ReadDxe, ReadScript, Mp, Volume}
 
 -- the words that ask for a tool of one file
 abbrev pub tool_words : Tool → List (List ℕ)
@@ -12,6 +12,7 @@ tool_words ReadPei = codes "dis" ∷ codes "pei" ∷ []
 tool_words ReadDxe = codes "dis" ∷ codes "dxe" ∷ []
 tool_words ReadScript = codes "dis" ∷ codes "script" ∷ []
 tool_words Mp = codes "mp" ∷ []
+tool_words Volume = codes "volume" ∷ []
 
 -- the words ask for this tool with the file of this name
 abbrev pub AskForTool : List (List ℕ) → Tool → List ℕ → Type 0

@@ -32,6 +32,7 @@ failing (R.Hobs fault) = Nowhere
 failing (R.Command line) = Nowhere
 failing (R.Event line) = Nowhere
 failing (R.Text line) = Nowhere
+failing (R.Source fault) = Nowhere
 failing R.TextLong = Nowhere
 failing (R.Malformed at) = Nowhere
 failing (R.Bytes fault) = Nowhere

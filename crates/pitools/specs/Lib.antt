@@ -9,6 +9,8 @@ pub mod JobOutcome
 pub mod CheckReport
 pub mod HobsReport
 pub mod TextReport
+pub mod SourceRefusal
+pub mod VolumeReport
 pub mod Outcome
 pub mod Ends
 pub mod OneOutcome

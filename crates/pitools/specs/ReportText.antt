@@ -12,6 +12,7 @@ use Rattle.pitools.specs.declared.status.ToolStatus.TheVariants as S
 use Rattle.pitools.specs.declared.report.Report.{Report}
 use Rattle.pitools.specs.declared.report.Report.TheVariants as R
 use Rattle.pitools.specs.Refusals.{usage_line, file_line, long_line, plan_line, image_line, twins_line, end_line, verdict_line, text_line, text_long_line, malformed_line, bytes_line}
+use Rattle.pitools.specs.SourceRefusal.{source_line}
 
 abbrev pub report_text : Report → List ℕ
 report_text R.Usage = usage_line
@@ -25,6 +26,7 @@ report_text (R.Hobs fault) = hobs_refusal fault
 report_text (R.Command line) = command_refusal line
 report_text (R.Event line) = bad_line line
 report_text (R.Text line) = text_line line
+report_text (R.Source fault) = source_line fault
 report_text R.TextLong = text_long_line
 report_text (R.Malformed at) = malformed_line at
 report_text (R.Bytes fault) = bytes_line fault.cause fault.at
@@ -57,6 +59,7 @@ report_status (R.Hobs fault) = S.HobsRefused
 report_status (R.Command line) = S.CommandRefused
 report_status (R.Event line) = S.CommandRefused
 report_status (R.Text line) = S.TextRefused
+report_status (R.Source fault) = S.TextRefused
 report_status R.TextLong = S.TextRefused
 report_status (R.Malformed at) = S.TextRefused
 report_status (R.Bytes fault) = S.TextRefused

@@ -19,6 +19,8 @@ pub(crate) enum Tool {
     ReadScript,
     /// The MP services over an MP file.
     Mp,
+    /// The bytes of a volume's text.
+    Volume,
 }
 
 // The tool that makes bytes of such a text.
@@ -70,7 +72,13 @@ fn short_tool_of(verb: &str) -> Option<Tool>
     ensures found { IfSome result (λ tool. tool_words tool ≡ verb.now ∷ []) }
     ensures none { IfNone result ((tool : Tool) → tool_words tool ≡ verb.now ∷ [] → ⊥) }
 {
-    if verb == "mp" { Some(Tool::Mp) } else { None }
+    if verb == "mp" {
+        Some(Tool::Mp)
+    } else if verb == "volume" {
+        Some(Tool::Volume)
+    } else {
+        None
+    }
 }
 
 // The tool that words name which stand before a file's name.

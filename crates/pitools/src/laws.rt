@@ -29,6 +29,7 @@ pub(crate) fn one_content_report()
     depex_code::one_reading();
     act_code::one_outcome();
     mp_text::one_reading();
+    volume_text::one_volume();
 }
 
 /// The texts of a plan and of a trace lead to one report, where the files of the plan's volumes are told.

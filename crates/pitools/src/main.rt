@@ -1,6 +1,7 @@
-//! The tools beside the boot: the check of a trace with free choice, the memory space map, the MP services, and expressions and scripts as text.
+//! The tools beside the boot: the check of a trace with free choice, the memory space map, the MP services, expressions and scripts as text, and volumes from their texts.
 #![tactic(auto)]
 
+mod cause_meaning;
 mod check_tool;
 mod command_line;
 mod gcd_tool;
@@ -11,10 +12,13 @@ mod mp_tool;
 mod print;
 mod reading;
 mod report;
+mod source_meaning;
+mod source_refusal;
 mod status;
 mod text_tool;
 mod tools;
 mod version;
+mod volume_tool;
 
 use crate::meaning::{Heard, tell};
 use crate::status::ToolStatus;

@@ -1,4 +1,6 @@
 // What a person is told of a run: what is at fault, and what to do.
+use crate::cause_meaning::source_words;
+use crate::source_meaning::tell_readings;
 use crate::status::ToolStatus;
 use boot_io::MemFiles;
 use boot_plan::read_plan;
@@ -26,7 +28,7 @@ const SHOWN_LIMIT: usize = 0x400_0000;
 const SHOWN_LEN: usize = 60;
 
 const USAGE: &str =
-    "usage: pitools check PLAN TRACE | pitools hobs PLAN | pitools gcd HOBS COMMANDS | pitools mp FILE | pitools asm depex|script FILE | pitools dis pei|dxe|script FILE";
+    "usage: pitools check PLAN TRACE | pitools hobs PLAN | pitools gcd HOBS COMMANDS | pitools mp FILE | pitools volume TEXT | pitools asm depex|script FILE | pitools dis pei|dxe|script FILE";
 
 // Bytes as text, where they are one.
 fn text_of(bytes: &[u8]) -> &str {
@@ -57,7 +59,7 @@ fn tell_usage(rt: &HostRuntime, words: &[String]) {
             let verb = verb.as_str();
             let fault = if verb == "check" || verb == "gcd" {
                 "takes the names of two files behind it"
-            } else if verb == "mp" || verb == "hobs" {
+            } else if verb == "mp" || verb == "hobs" || verb == "volume" {
                 "takes the name of a file behind it"
             } else if verb == "asm" {
                 "takes depex or script behind it, and the name of a file"
@@ -123,11 +125,15 @@ fn tell_image(rt: &HostRuntime, plan: &str, files: &mut MemFiles) -> Option<()> 
     Some(())
 }
 
-// The line of a file that a refusal names last, and why it is refused.
-fn tell_line(rt: &HostRuntime, name: &str, heard: &mut Heard<'_>, why: &str) -> Option<()> {
-    let refusal = str::from_utf8(heard.text?).ok()?;
-    let number = refusal.split_whitespace().last()?.parse::<u32>().ok()?;
-    let content = read_file(rt.alloc(), name, SHOWN_LIMIT, heard.files).ok()?;
+// A line of a file, and why it is refused.
+fn tell_numbered(
+    rt: &HostRuntime,
+    name: &str,
+    files: &mut MemFiles,
+    number: u32,
+    why: &str,
+) -> Option<()> {
+    let content = read_file(rt.alloc(), name, SHOWN_LIMIT, files).ok()?;
     match line_at(content.as_slice(), number) {
         Some(line) => {
             let shown = match line.get(..SHOWN_LEN) {
@@ -144,6 +150,21 @@ fn tell_line(rt: &HostRuntime, name: &str, heard: &mut Heard<'_>, why: &str) -> 
         }
     }
     Some(())
+}
+
+// The line of a file that a refusal names last, and why it is refused.
+fn tell_line(rt: &HostRuntime, name: &str, heard: &mut Heard<'_>, why: &str) -> Option<()> {
+    let refusal = str::from_utf8(heard.text?).ok()?;
+    let number = refusal.split_whitespace().last()?.parse::<u32>().ok()?;
+    tell_numbered(rt, name, heard.files, number, why)
+}
+
+// The line of a volume's text that a refusal names before its cause.
+fn tell_source(rt: &HostRuntime, name: &str, heard: &mut Heard<'_>) -> Option<()> {
+    let mut words = str::from_utf8(heard.text?).ok()?.split_whitespace().skip(2);
+    let number = words.next()?.parse::<u32>().ok()?;
+    let why = source_words(words.next()?);
+    tell_numbered(rt, name, heard.files, number, why)
 }
 
 // What the cause of a HOB list means.
@@ -208,6 +229,9 @@ fn tell_place(rt: &HostRuntime, name: &str, text: Option<&[u8]>, of_hobs: bool) 
 
 // A text or bytes that are refused: a text by its line, unless it is too long, and bytes by their offset.
 fn tell_text(rt: &HostRuntime, words: &[String], heard: &mut Heard<'_>) -> Option<()> {
+    if word_at(words, 0) == "volume" {
+        return tell_source(rt, word_at(words, 1), heard);
+    }
     let name = word_at(words, 2);
     if word_at(words, 0) == "dis" {
         return tell_place(rt, name, heard.text, false);
@@ -268,10 +292,17 @@ fn tell_fault(
     }
 }
 
-/// Tells a person what came of a run: a line for each status but Done.
+// What is told of a run that is done: how the expressions of a volume's text are read. Where the text was not kept, nothing is.
+fn tell_done(rt: &HostRuntime, words: &[String], files: &mut MemFiles) {
+    if word_at(words, 0) == "volume" {
+        let _ = tell_readings(rt, word_at(words, 1), files);
+    }
+}
+
+/// Tells a person what came of a run: a line for each status but Done, and for Done how expressions are read that mix AND and OR.
 pub(crate) fn tell(rt: &HostRuntime, words: &[String], status: ToolStatus, heard: &mut Heard<'_>) {
     match status {
-        ToolStatus::Done => {}
+        ToolStatus::Done => tell_done(rt, words, heard.files),
         ToolStatus::Usage => tell_usage(rt, words),
         ToolStatus::FileFault => tell_file(rt, &heard.refused, false),
         ToolStatus::TooLong => tell_file(rt, &heard.refused, true),

@@ -11,7 +11,7 @@ use std::alloc::Global;
 
 /// What an MP file leads to.
 pub(crate) fn mp_report(alloc: Global, text: &[u8]) -> Result<Report, OutOfMemory>
-    requires { length text.now ≤ 0x100000 }
+    requires { length text.now ≤ 0x4000000 }
     ensures { IfOk result (Tells (MpReport text.now)) }
 {
     let file = match read_mp(alloc, text) {

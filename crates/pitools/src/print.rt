@@ -7,6 +7,7 @@ ghost use Rattle.pitools.specs.Refusals.{malformed_line, malformed_text, refused
 ghost use Rattle.pitools.specs.ReportText.{report_text};
 
 use crate::report::Report;
+use crate::source_refusal::put_source;
 use act_code::{ActCause, ActFault};
 use boot_io::{Sink, SinkFault, put_line};
 use boot_model::{Line, RunEnd};
@@ -101,7 +102,7 @@ fn no_text() -> &'static [u8]
 }
 
 #[tactic(auto, unfolding(crate::specs::Refusals::refused_text))]
-fn refused_text() -> &'static [u8]
+pub(crate) fn refused_text() -> &'static [u8]
     ensures { result.now ≡ refused_text }
 {
     b"refused text"
@@ -226,6 +227,7 @@ pub(crate) fn put_report<S: Sink>(sink: &mut S, report: &Report) -> Result<(), S
         Report::Command(line) => put_command_refusal(sink, *line),
         Report::Event(line) => put_bad_line(sink, *line),
         Report::Text(line) => put_text(sink, *line),
+        Report::Source(fault) => put_source(sink, *fault),
         Report::TextLong => put_text_long(sink),
         Report::Malformed(at) => put_malformed(sink, *at),
         Report::Bytes(fault) => put_bytes(sink, fault),

@@ -12,6 +12,7 @@ use gcd_map::{Answer, Command, GcdFault, GcdMap};
 use mp_core::MpOutcome;
 use mp_text::MpFile;
 use pi_base::Seq;
+use volume_text::Fault;
 
 /// What is printed of a command line.
 #[derive(Drop)]
@@ -38,6 +39,8 @@ pub(crate) enum Report {
     Event(u32),
     /// The line, from 1, with which a text goes wrong.
     Text(u32),
+    /// The first fault of a volume's text.
+    Source(Fault),
     /// A text whose bytes pass their limit.
     TextLong,
     /// The place from which on bytes are no expression.
@@ -56,7 +59,7 @@ pub(crate) enum Report {
     },
     /// How a boot ends whose PEI hands nothing on.
     Ended(RunEnd),
-    /// A text, or the bytes of a HOB list.
+    /// A text, or the bytes of a HOB list or of a volume.
     Answer(Seq<u8>),
 }
 
@@ -88,7 +91,7 @@ impl Report {
             Report::Verdict(Verdict::No { .. }) => ToolStatus::No,
             Report::Hobs(_) => ToolStatus::HobsRefused,
             Report::Command(_) | Report::Event(_) => ToolStatus::CommandRefused,
-            Report::Text(_) | Report::TextLong => ToolStatus::TextRefused,
+            Report::Text(_) | Report::Source(_) | Report::TextLong => ToolStatus::TextRefused,
             Report::Malformed(_) | Report::Bytes(_) => ToolStatus::TextRefused,
             Report::Ended(end) => end_status(*end),
             Report::Map { .. } | Report::Mp { .. } | Report::Answer(_) => ToolStatus::Done,

@@ -8,6 +8,7 @@ ghost use Rattle.pitools.specs.TextReport.{AssemblyReport, DepexReport, Expressi
 use crate::command_line::Tool;
 use crate::mp_tool::mp_report;
 use crate::report::Report;
+use crate::volume_tool::volume_report;
 use act_code::{ActCause, WriteFault, read_script, write_script};
 use asm_text::{TextFault, parse_depex, parse_script, print_depex, print_script};
 use depex_code::{DepexFault, read_depex, write_depex};
@@ -92,7 +93,7 @@ pub(crate) fn content_report(
     tool: Tool,
     content: &[u8],
 ) -> Result<Report, OutOfMemory>
-    requires { length content.now ≤ 0x100000 }
+    requires { length content.now ≤ 0x4000000 }
     ensures { IfOk result (Tells (ContentReport tool content.now)) }
 {
     match tool {
@@ -102,5 +103,6 @@ pub(crate) fn content_report(
         Tool::ReadDxe => read_expression(alloc, content, Phase::Dxe),
         Tool::ReadScript => script_report(alloc, content),
         Tool::Mp => mp_report(alloc, content),
+        Tool::Volume => volume_report(alloc, content),
     }
 }

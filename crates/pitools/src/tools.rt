@@ -30,13 +30,17 @@ const FILE_LIMIT: usize = 0x10_0000;
 // The most bytes of a file of commands and of an MP file.
 const COMMANDS_LIMIT: usize = 0x1_0000;
 
+// The most bytes of a volume's text.
+const SOURCE_LIMIT: usize = 0x400_0000;
+
 // The most bytes of a tool's file.
 fn limit_of(tool: Tool) -> usize
     ensures limit { result ≡ limit_of tool }
-    ensures most { result ≤ FILE_LIMIT }
+    ensures most { result ≤ SOURCE_LIMIT }
 {
     match tool {
         Tool::Mp => COMMANDS_LIMIT,
+        Tool::Volume => SOURCE_LIMIT,
         _ => FILE_LIMIT,
     }
 }
@@ -142,7 +146,7 @@ fn run_words<F: Files, S: Sink>(
     }
 }
 
-/// Does what the words of a command line ask for: `check PLAN TRACE`, `hobs PLAN`, `gcd HOBS COMMANDS`, `mp FILE`, `asm depex FILE`, `asm script FILE`, `dis pei FILE`,
+/// Does what the words of a command line ask for: `check PLAN TRACE`, `hobs PLAN`, `gcd HOBS COMMANDS`, `mp FILE`, `volume TEXT`, `asm depex FILE`, `asm script FILE`, `dis pei FILE`,
 /// `dis dxe FILE` or `dis script FILE`. The files that the words name are read in their order before any is examined, those of a plan's volumes behind the plan's examination, and all is decided before anything is put.
 pub fn tools_main<F: Files, S: Sink>(
     alloc: Global,

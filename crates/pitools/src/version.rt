@@ -8,6 +8,7 @@ pub(crate) const HELP: &str =
        pitools hobs PLAN              the bytes of the HOB list that the boot of PLAN hands to DXE
        pitools gcd HOBS COMMANDS      the memory space map of a HOB list
        pitools mp FILE                what the MP services answer and leave
+       pitools volume TEXT            the bytes of the volume that a text describes
        pitools asm depex|script FILE  the bytes of a text, in hexadecimal
        pitools dis pei|dxe|script FILE  the text of bytes
        pitools --help, -h             prints this; --version says which program it is

@@ -16,6 +16,9 @@ returns c =
       code_or_fault = c.one_outcome.ensures.apart;
       files = c.one_reading-2.ensures.files;
       bad_lines = c.one_reading-2.ensures.lines;
+      volumes = c.one_volume.ensures.volume;
+      volume_faults = c.one_volume.ensures.fault;
+      volume_or_fault = c.one_volume.ensures.apart;
       file_or_line = c.one_reading-2.ensures.apart;
     } in
     one_content laws
