@@ -7,9 +7,9 @@ ghost use Rattle.heap_store.specs.HeapState.{StandsFor};
 
 use crate::board::{NODE_LEN, TEMP, heap_over};
 use crate::calls::{create, free, pages, pool, set_boot_mode};
+use heap_store::HeapStore;
 use hob_codec::kind::{HANDOFF, POOL};
 use hob_codec::{Hob, HobPlace, walk};
-use heap_store::HeapStore;
 use phys_mem::PhysMem;
 use pi_base::Guid;
 use std::alloc::Global;
