@@ -5,17 +5,20 @@ use Rattle.boot_io.specs.declared.sink.SinkFault.{SinkFault}
 use Rattle.boot_io.specs.Output.{HasLeftBy}
 use Rattle.plan_files.specs.Reading.{FilesTrail}
 use Rattle.boot_core.specs.declared.status.Status.{Status}
+use Rattle.boot_core.specs.declared.status.Status.TheVariants.{Memory}
 use Rattle.boot_core.specs.Causes.{ComesExactly}
 use Rattle.boot_core.specs.CommandLine.{AskForBoot}
 use Rattle.boot_core.specs.Deciding.{Names}
 use Rattle.boot_core.specs.Outcome.{Ends, OfAnswer, Outcome, kind_of}
 use Rattle.boot_core.specs.Refusing.{status_after}
+use Rattle.boot_core.specs.WantOfMemory.{IsWantedOutside}
 
--- what the words lead to was put behind a text, into a sink that had counted no fault
-abbrev pub HasPut : (List ℕ → Option (List ℕ)) → List (List ℕ) → FilesTrail → Option (List ℕ) → Option (List ℕ) → Status → Type 0
-HasPut told words files old new status =
-    (faults : ℕ) × Ends (Outcome told words) (Names told words) (AskForBoot words) status
-    (record { old = old; new = new; sink_before = 0; sink_now = faults; files_before = files.before; files_now = files.now; missed = files.missed })
+-- what the words lead to was put behind a text, into a sink that had counted no fault; where memory was wanting, nothing or all lines of a boot's PEI
+pub record HasPut (told : List ℕ → Option (List ℕ)) (words : List (List ℕ)) (files : FilesTrail) (old new : Option (List ℕ)) (status : Status) : Type 0 where
+  pub faults : ℕ
+  pub ends : Ends (Outcome told words) (Names told words) (AskForBoot words) status
+      (record { old = old; new = new; sink_before = 0; sink_now = faults; files_before = files.before; files_now = files.now; missed = files.missed })
+  pub memory : status ≡ Memory → IsWantedOutside told words (record { old = old; new = new })
 
 -- all that was put has left, with its status; or where the output failed a beginning of it, with the sink's fault
 pub record HasLeft (Put : Option (List ℕ) → Status → Type 0) (left : Option (List ℕ)) (status : Status) : Type 0 where

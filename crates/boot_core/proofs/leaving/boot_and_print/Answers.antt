@@ -4,6 +4,7 @@ use Rattle.boot_io.specs.Words.{words_of}
 use Rattle.boot_core.specs.CommandLine.{AskForBoot}
 use Rattle.boot_core.specs.Deciding.{Names}
 use Rattle.boot_core.specs.Outcome.{Ends, Outcome}
+use Rattle.boot_core.specs.WantOfMemory.{IsWantedOutside}
 use Rattle.boot_core.proofs.LeftBy.{handed_comes, stopped_comes}
 use Rattle.boot_core.proofs.OneStatus.{Laws, comes_exactly}
 use Rattle.boot_core.proofs.leaving.boot_and_print.Goals as goal
@@ -29,7 +30,11 @@ returns-clause-left g c =
     record {
       text = text;
       ran = c.boot_main-ran.result;
-      put = (c.boot_main-ran.new.sink.faults, ends);
+      put = record {
+        faults = c.boot_main-ran.new.sink.faults;
+        ends = ends;
+        memory = λ is. subst (λ old. IsWantedOutside told words (record { old = old; new = text })) start.text (c.boot_main-ran.ensures.memory is);
+      };
       handed = c.finish-output.result.1;
       left_is = c.finish-output.ensures;
       status_is = c.answer.ensures;
