@@ -10,6 +10,8 @@ mod heap;
 #[cfg(test)]
 mod hobs;
 #[cfg(test)]
+mod indexed;
+#[cfg(test)]
 mod links;
 #[cfg(test)]
 mod migration;
