@@ -47,6 +47,8 @@ pub struct Pei<'a> {
     /// By EDK2's rule: the places whose second starts come next.
     second: VecDeque<usize>,
     second_begun: bool,
+    /// By the same: dispatch notifications run, and no memory moves before they have.
+    lists_under_way: bool,
 }
 
 /// The boot mode of a resume from S3.
@@ -71,6 +73,7 @@ impl<'a> Pei<'a> {
             by_name,
             second: VecDeque::new(),
             second_begun: false,
+            lists_under_way: false,
         }
     }
 
@@ -88,14 +91,17 @@ impl<'a> Pei<'a> {
                 }
                 self.actions += 1;
                 self.act(out)?;
-            } else if self.store.planned.is_some() && !self.store.moved {
+            } else if self.store.planned.is_some() && !self.store.moved && !self.lists_under_way {
                 self.move_memory(out)?;
             } else if let Some(pending) = self.store.pop() {
                 self.core_sweep = None;
                 self.begin_notification("dispatch", pending.desc, pending.ppi, out)?;
             } else if let Some((ppi, notification)) = self.next_dispatch() {
                 self.core_sweep = None;
+                self.lists_under_way = true;
                 self.begin_notification("dispatch", notification, ppi, out)?;
+            } else if std::mem::take(&mut self.lists_under_way) {
+                // The lists are through: memory that was planned meanwhile moves now.
             } else if let Some(place) = self.next_second() {
                 let cursor = self.cursor;
                 self.start(place, out)?;
