@@ -5,7 +5,7 @@ mod choice;
 mod dxe;
 mod pei;
 
-pub use choice::{Choice, FirstEligible};
+pub use choice::{Choice, FirstEligible, Reached};
 pub use dxe::{
     dxe_chooses_by_groups, dxe_ends, dxe_goes_on, dxe_lines_grow, dxe_opens, dxe_starts_freely,
     few_drivers_wait, groups_are_aimed, names_lead_to_root,
