@@ -1,0 +1,5 @@
+-- In the order in which to read them.
+pub mod Starts
+pub mod OneStep
+pub mod Leading
+pub mod Counted

@@ -1,0 +1,4 @@
+pub mod ByOrder
+pub mod Against
+pub mod Code
+pub mod Finding
