@@ -125,7 +125,7 @@ pub record BarsInDxe (by : Choices) (catalog : Catalog) (fuel : ℕ) (pei : PeiM
   pub comes : ComesInDxe by catalog fuel pei dxe
   pub running : dxe.ended ≡ None
   pub due : D.IsDue (by.drivers pei) catalog dxe barred.number
-  pub bars : by.lets_driver pei dxe barred.number ≡ false
+  pub bars : by.lets_driver pei due.target barred.number ≡ false
   pub text : Appends old new (text_of (pei.lines ++ dxe.lines))
   pub handles_are : barred.handles ≡ dxe.handles
   pub starts_are : barred.starts ≡ starts_of pei dxe
