@@ -16,7 +16,7 @@ returns-in_err-ended-clause-row g c board stands =
     let text = g.S.Sink.text in
     let Names = NamesPeims (λ sink starts named. named ≡ None) text g.S.Sink.faults c.args.sink.now in
     let p = err_from_is_err_and c.from_residual.result c.from_residual.ensures.1 in
-    rw (p.1, p.2) (first_boot_halts c.pei_runs_end.ensures Names (λ m number. true) g.M.PeiStore.stands_for board c.args.catalog.now c.args.fuel (text c.args.sink.now) (text c.boot_pei.new.sink) c.in_err-ended.field-0.0
+    rw p.1 (first_boot_halts c.pei_runs_end.ensures Names (λ m number. true) g.M.PeiStore.stands_for board c.args.catalog.now c.args.fuel (text c.args.sink.now) (text c.boot_pei.new.sink) c.in_err-ended.field-0.0
     (λ m named is. is.is) (c.in_err-ended.ensures.row board stands))
 
 -- each PEIM is let
