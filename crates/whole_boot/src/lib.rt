@@ -3,12 +3,15 @@
 //! Tried in `boot_trials`: `tests`.
 #![tactic(auto)]
 
+mod behind;
 mod board;
 mod boot;
 mod closing;
 mod first;
+mod free;
 
 pub use board::roms;
-pub use boot::{Ran, boot_by_choice};
+pub use boot::{Booted, Ran, boot_by_choice};
 pub use closing::put_closing;
 pub use first::boot_store;
+pub use free::choices_are_free;
