@@ -27,6 +27,7 @@ use Rattle.boot_model.specs.PeiChoice.{pei_order}
 use Rattle.boot_model.specs.PeiMachine.{PeiMachine, Frame, printed}
 use Rattle.boot_model.specs.PeiRun.{pei_opening}
 use Rattle.boot_model.specs.PeiStep.{PeiCase, Fires, Acts, Moves, Pops, Starts, Stops, action_at, after_effect, callback_begun, callback_line, case_of, core_called, dispatch_line, handoff_lines, in_case, outcome_of, past, reason_of, popped_to, report_lines, start_line, start_lines, started, started_by, started_part, stopped, waiting_line, waiting_lines}
+use Rattle.free_laws.specs.PeiFree.{IsOwnCase}
 use Rattle.free_laws.proofs.PeiWays.{may_has_part}
 use Rattle.free_laws.proofs.Starts.{pei_prints}
 use Rattle.start_order.specs.declared.line.Start.{Start}
@@ -133,23 +134,30 @@ pub data Added (catalog : Catalog) (m later : PeiMachine) : Type 0 where
   AddsNone : Adds m later [] → Added catalog m later
   AddsOne : (number : ℕ) → Adds m later (module_start Pei catalog number ∷ []) → Added catalog m later
 
-own_adds : (catalog : Catalog) (fuel : ℕ) (m later : PeiMachine) (case : PeiCase) → Adds m (in_case catalog fuel m case) [] → later ≡ in_case catalog fuel m case → Added catalog m later
-own_adds catalog fuel m later case adds is = AddsNone (subst (λ x. Adds m x []) (sym is) adds)
-
-pub free_adds : (catalog : Catalog) (fuel : ℕ) (m later : PeiMachine) (case : PeiCase) → IsFreeIn catalog fuel m case later → Added catalog m later
-free_adds catalog fuel m later (Fires firing sweep) h =
-    own_adds catalog fuel m later (Fires firing sweep)
-    (either_adds m (nat_le 64 (length m.frames)) (record m { ended = Some Deep }) (callback_begun catalog m firing sweep) (stays m (record m { ended = Some Deep }) refl refl refl) (says m (callback_begun catalog m firing sweep) (callback_line catalog firing ∷ []) refl refl refl refl)) h
-free_adds catalog fuel m later (Acts frame below) h =
+-- a step that leaves no choice adds none
+pub case_adds : (catalog : Catalog) (fuel : ℕ) (m : PeiMachine) (case : PeiCase) → IsOwnCase case → Adds m (in_case catalog fuel m case) []
+case_adds catalog fuel m (Fires firing sweep) own =
+    either_adds m (nat_le 64 (length m.frames)) (record m { ended = Some Deep }) (callback_begun catalog m firing sweep) (stays m (record m { ended = Some Deep }) refl refl refl)
+    (says m (callback_begun catalog m firing sweep) (callback_line catalog firing ∷ []) refl refl refl refl)
+case_adds catalog fuel m (Acts frame below) own =
     let does : Effect = effect m.store frame (action_at catalog frame) in
     let acts = effect_adds catalog (counted m) frame below does in
-    own_adds catalog fuel m later (Acts frame below)
-    (either_adds m (nat_le fuel m.actions) (record m { ended = Some Spent }) (after_effect catalog (counted m) frame below does) (stays m (record m { ended = Some Spent }) refl refl refl) (record { lines = acts.lines; count = acts.count })) h
-free_adds catalog fuel m later (Moves new) h = own_adds catalog fuel m later (Moves new) (core_adds m (L.Migrate m.store.base new.base) new (core_install new) refl) h
-free_adds catalog fuel m later (Pops firing new) h = own_adds catalog fuel m later (Pops firing new) (says m (popped_to catalog m firing new) (dispatch_line catalog firing ∷ []) refl refl refl refl) h
+    either_adds m (nat_le fuel m.actions) (record m { ended = Some Spent }) (after_effect catalog (counted m) frame below does) (stays m (record m { ended = Some Spent }) refl refl refl) (record { lines = acts.lines; count = acts.count })
+case_adds catalog fuel m (Moves new) own = core_adds m (L.Migrate m.store.base new.base) new (core_install new) refl
+case_adds catalog fuel m (Pops firing new) own = says m (popped_to catalog m firing new) (dispatch_line catalog firing ∷ []) refl refl refl refl
+case_adds catalog fuel m (Starts first) own = absurd own
+case_adds catalog fuel m Stops own = says m (stopped catalog m) (L.PeiStop ∷ (waiting_lines catalog m ++ handoff_lines m.store (outcome_of m.store))) refl (stop_quiet catalog m) refl refl
+
+own_adds : (catalog : Catalog) (fuel : ℕ) (m later : PeiMachine) (case : PeiCase) → IsOwnCase case → later ≡ in_case catalog fuel m case → Added catalog m later
+own_adds catalog fuel m later case own is = AddsNone (subst (λ x. Adds m x []) (sym is) (case_adds catalog fuel m case own))
+
+pub free_adds : (catalog : Catalog) (fuel : ℕ) (m later : PeiMachine) (case : PeiCase) → IsFreeIn catalog fuel m case later → Added catalog m later
+free_adds catalog fuel m later (Fires firing sweep) h = own_adds catalog fuel m later (Fires firing sweep) tt h
+free_adds catalog fuel m later (Acts frame below) h = own_adds catalog fuel m later (Acts frame below) tt h
+free_adds catalog fuel m later (Moves new) h = own_adds catalog fuel m later (Moves new) tt h
+free_adds catalog fuel m later (Pops firing new) h = own_adds catalog fuel m later (Pops firing new) tt h
 free_adds catalog fuel m later (Starts first) h = AddsOne h.0 (subst (λ x. Adds m x (module_start Pei catalog h.0 ∷ [])) (sym h.2) (started_adds catalog m h.0 h.1))
-free_adds catalog fuel m later Stops h =
-    own_adds catalog fuel m later Stops (says m (stopped catalog m) (L.PeiStop ∷ (waiting_lines catalog m ++ handoff_lines m.store (outcome_of m.store))) refl (stop_quiet catalog m) refl refl) h
+free_adds catalog fuel m later Stops h = own_adds catalog fuel m later Stops tt h
 
 pub counted_by : (m later : PeiMachine) (more : List Start) → Adds m later more → length (starts m.lines) ≡ length m.started + length m.again → length (starts later.lines) ≡ length later.started + length later.again
 counted_by m later more adds is =

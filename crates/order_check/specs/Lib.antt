@@ -2,3 +2,4 @@ pub mod ByOrder
 pub mod Against
 pub mod Code
 pub mod Finding
+pub mod Following

@@ -58,18 +58,18 @@ fn is_among(start: &Start, made: &[AskedStart]) -> bool
 }
 
 /// What stands against a start behind those of these lines.
-pub(crate) fn against<M: PeiStore>(
+pub(crate) fn cause_against<M: PeiStore>(
     alloc: Global,
     catalog: &Catalog,
     names: &Names,
-    installed: Installed<'_, M>,
+    installed: &Installed<'_, M>,
     made: &[AskedStart],
     start: &Start,
 ) -> Result<Against, OutOfMemory>
     requires names { AreNames catalog.now (length catalog.now.modules) names.now.volumes.items }
-    requires state { Present (M.stands_for installed.store.now) Anything }
-    ensures { OfEach (M.stands_for installed.store.now) Anything
-        (λ s. IfOk result (StandsAgainst catalog.now (starts_of made.now) s installed.handles.now start.now)) }
+    requires state { Present (M.stands_for installed.now.store.now) Anything }
+    ensures { OfEach (M.stands_for installed.now.store.now) Anything
+        (λ s. IfOk result (StandsAgainst catalog.now (starts_of made.now) s installed.now.handles.now start.now)) }
 {
     match part_asked(catalog, names, start) {
         None => Ok(Against::Unknown),

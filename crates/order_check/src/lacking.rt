@@ -14,7 +14,6 @@ use std::alloc::Global;
 use store_model::PeiStore;
 
 /// What is installed where a boot stands: its PPIs are in the store, its protocols on the handles.
-#[derive(Clone, Copy)]
 pub(crate) struct Installed<'i, M> {
     /// The store.
     pub(crate) store: &'i M,
@@ -23,9 +22,9 @@ pub(crate) struct Installed<'i, M> {
 }
 
 // Whether a GUID is installed for modules of a phase.
-fn is_installed<M: PeiStore>(installed: Installed<'_, M>, phase: Phase, guid: &Guid) -> bool
-    requires state { Present (M.stands_for installed.store.now) Anything }
-    ensures { OfEach (M.stands_for installed.store.now) Anything (λ s. result ≡ is_installed phase s installed.handles.now guid.now) }
+fn is_installed<M: PeiStore>(installed: &Installed<'_, M>, phase: Phase, guid: &Guid) -> bool
+    requires state { Present (M.stands_for installed.now.store.now) Anything }
+    ensures { OfEach (M.stands_for installed.now.store.now) Anything (λ s. result ≡ is_installed phase s installed.now.handles.now guid.now) }
 {
     match phase {
         Phase::Pei => installed.store.nth_ppi(guid, 0).is_some(),
@@ -58,13 +57,13 @@ fn note(found: &mut Seq<Guid>, guid: &Guid) -> Result<(), OutOfMemory>
 // Notes the GUID that an opcode pushes, where it is not installed.
 fn note_pushed<M: PeiStore>(
     found: &mut Seq<Guid>,
-    installed: Installed<'_, M>,
+    installed: &Installed<'_, M>,
     phase: Phase,
     opcode: &Opcode,
 ) -> Result<(), OutOfMemory>
-    requires state { Present (M.stands_for installed.store.now) Anything }
-    ensures { OfEach (M.stands_for installed.store.now) Anything
-        (λ s. OnOk result (found.new ≡ more_lacking (is_installed phase s installed.handles.now) found.old opcode.now)) }
+    requires state { Present (M.stands_for installed.now.store.now) Anything }
+    ensures { OfEach (M.stands_for installed.now.store.now) Anything
+        (λ s. OnOk result (found.new ≡ more_lacking (is_installed phase s installed.now.handles.now) found.old opcode.now)) }
 {
     if let Opcode::Push(guid) = opcode {
         if !is_installed(installed, phase, guid) {
@@ -90,13 +89,13 @@ fn code_in(expr: &PartExpr) -> &[Opcode]
 // The GUIDs that opcodes push and that are not installed.
 fn lacking_in<M: PeiStore>(
     alloc: Global,
-    installed: Installed<'_, M>,
+    installed: &Installed<'_, M>,
     phase: Phase,
     code: &[Opcode],
 ) -> Result<Seq<Guid>, OutOfMemory>
-    requires state { Present (M.stands_for installed.store.now) Anything }
-    ensures { OfEach (M.stands_for installed.store.now) Anything
-        (λ s. IfOk result (λ found. found ≡ lacking (is_installed phase s installed.handles.now) (pushed_by_code code.now))) }
+    requires state { Present (M.stands_for installed.now.store.now) Anything }
+    ensures { OfEach (M.stands_for installed.now.store.now) Anything
+        (λ s. IfOk result (λ found. found ≡ lacking (is_installed phase s installed.now.handles.now) (pushed_by_code code.now))) }
 {
     let mut found = Seq::new(alloc);
     let mut rest = code;
@@ -110,13 +109,13 @@ fn lacking_in<M: PeiStore>(
 /// The GUIDs that an expression pushes and that are not installed for modules of a phase, once each, in the order in which it first mentions them.
 pub(crate) fn lacking<M: PeiStore>(
     alloc: Global,
-    installed: Installed<'_, M>,
+    installed: &Installed<'_, M>,
     phase: Phase,
     expr: &PartExpr,
 ) -> Result<Seq<Guid>, OutOfMemory>
-    requires state { Present (M.stands_for installed.store.now) Anything }
-    ensures { OfEach (M.stands_for installed.store.now) Anything
-        (λ s. IfOk result (λ found. found ≡ lacking (is_installed phase s installed.handles.now) (pushed_in expr.now))) }
+    requires state { Present (M.stands_for installed.now.store.now) Anything }
+    ensures { OfEach (M.stands_for installed.now.store.now) Anything
+        (λ s. IfOk result (λ found. found ≡ lacking (is_installed phase s installed.now.handles.now) (pushed_in expr.now))) }
 {
     lacking_in(alloc, installed, phase, code_in(expr))
 }

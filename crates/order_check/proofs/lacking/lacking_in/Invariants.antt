@@ -9,7 +9,7 @@ use Rattle.order_check.proofs.lacking.lacking_in.Given as goal
 abbrev pub invariant-opcodes : goal.invariant-opcodes
 invariant-opcodes g l =
     (before : List Opcode) × (l.code ≡ before ++ l.rest)
-    × ((s : StoreState) → g.M.PeiStore.stands_for l.installed.store.now s → l.found ≡ lacking (is_installed l.phase s l.installed.handles.now) (pushed_by_code before))
+    × ((s : StoreState) → g.M.PeiStore.stands_for l.installed.now.store.now s → l.found ≡ lacking (is_installed l.phase s l.installed.now.handles.now) (pushed_by_code before))
 
 abbrev pub decreases-opcodes : goal.decreases-opcodes
 decreases-opcodes g l = length l.rest

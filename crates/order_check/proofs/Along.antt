@@ -1,0 +1,214 @@
+-- The starts of a boot beside those of an order, one behind the other.
+use Rattle.std.proofs.Common.{◌≡◌, ℕ, zero, suc, ◌+◌, ◌-◌, ◌<◌, ◌≤◌, ◌==◌, ◌^◌, min, Bool, true, false, true≢false, ◌&&◌, cond, List, [], ◌∷◌, ◌++◌, map, length, Option, Some, None, is_none, is_some, refl, sym, ap, ◌∙◌, subst, inl, inr, arith, append_assoc}
+use Rattle.std.specs.Prelude.{◌⊎◌, slice_get, unwrap_or, option_map}
+use Rattle.std.proofs.lemmas.Bool.Decides.{bytes_eq-Decides, eqb_tells}
+use Rattle.std.proofs.lemmas.Cmp.{nat_list_eq_equiv}
+use Rattle.std.proofs.lemmas.List.{append-nil, length-append}
+use Rattle.pi_base.specs.declared.guid.Guid.{Guid}
+use Rattle.pi_base.specs.declared.phase.Phase.{Phase}
+use Rattle.pi_base.specs.declared.phase.Phase.TheVariants.{Pei, Dxe}
+use Rattle.pi_base.specs.Guids.{same_guid}
+use Rattle.catalog_model.specs.declared.catalog.Catalog.{Catalog}
+use Rattle.catalog_model.specs.declared.catalog.Module.{Module}
+use Rattle.catalog_model.specs.Parts.{module_name, module_volume}
+use Rattle.start_order.specs.declared.line.AskedStart.{AskedStart}
+use Rattle.start_order.specs.declared.line.Start.{Start}
+use Rattle.start_order.specs.declared.lines.StartOrder.{StartOrder}
+use Rattle.boot_starts.specs.Starts.{ComeFirst, module_start}
+use Rattle.order_check.specs.ByOrder.{is_of, is_start_of, lets_asked, lets_by, same_phase, starts_of}
+
+-- starts are made as an order asks: they are the first of its starts, or they come behind all of them, which it does not stop at
+abbrev pub IsAlong : StartOrder → List Start → Type 0
+IsAlong order made = ComeFirst made (starts_of order.starts) ⊎ ((order.stop ≡ None) × ComeFirst (starts_of order.starts) made)
+
+-- this is how many starts there were, or both are no fewer than those of the order
+abbrev pub IsIndex : StartOrder → List Start → ℕ → Type 0
+IsIndex order made index = (index ≡ length made) ⊎ ((length order.starts ≤ index) × (length order.starts ≤ length made))
+
+-- what an order asks for behind these starts: it asks for this one next
+pub record AsksNext (order : StartOrder) (made : List Start) (asked : AskedStart) : Type 0 where
+  pub before : List AskedStart
+  pub behind : List AskedStart
+  pub are : order.starts ≡ before ++ asked ∷ behind
+  pub made_are : starts_of before ≡ made
+
+get_below : {A : Type 0} (xs : List A) (n : ℕ) (x : A) → slice_get xs n ≡ Some x → n < length xs
+get_below [] n x e = cc
+get_below (y ∷ xs) zero x e = omega arith
+get_below (y ∷ xs) (suc n) x e = let less = get_below xs n x e in omega (arith, less)
+
+get_none : {A : Type 0} (xs : List A) (n : ℕ) → slice_get xs n ≡ None → length xs ≤ n
+get_none [] n e = omega arith
+get_none (y ∷ xs) zero e = cc
+get_none (y ∷ xs) (suc n) e = let more = get_none xs n e in omega (arith, more)
+
+starts_length : (asked : List AskedStart) → length (starts_of asked) ≡ length asked
+starts_length [] = refl
+starts_length (a ∷ asked) = ap suc (starts_length asked)
+
+head_is : (a b : Start) (xs ys : List Start) → a ∷ xs ≡ b ∷ ys → a ≡ b
+head_is a b xs ys e = cc
+
+tail_is : (a b : Start) (xs ys : List Start) → a ∷ xs ≡ b ∷ ys → xs ≡ ys
+tail_is a b xs ys e = cc
+
+-- the order is those that were made, what it asks for next, and others
+pub record Splits (asked : List AskedStart) (made : List Start) (next : AskedStart) : Type 0 where
+  pub before : List AskedStart
+  pub behind : List AskedStart
+  pub are : asked ≡ before ++ next ∷ behind
+  pub made_are : starts_of before ≡ made
+
+first_splits : (asked : List AskedStart) (next : AskedStart) → slice_get asked 0 ≡ Some next → Splits asked [] next
+first_splits [] next e = cc
+first_splits (a ∷ asked) next e = let same : a ≡ next = cc in record { before = []; behind = asked; are = ap (λ x. x ∷ asked) same; made_are = refl }
+
+splits : (asked : List AskedStart) (made rest : List Start) (next : AskedStart) → slice_get asked (length made) ≡ Some next → starts_of asked ≡ made ++ rest → Splits asked made next
+splits asked [] rest next e is = first_splits asked next e
+splits [] (s ∷ made) rest next e is = cc
+splits (a ∷ asked) (s ∷ made) rest next e is =
+    let on = splits asked made rest next e (tail_is a.start s (starts_of asked) (made ++ rest) is) in
+    record {
+      before = a ∷ on.before;
+      behind = on.behind;
+      are = ap (λ x. a ∷ x) on.are;
+      made_are = ap (λ x. x ∷ starts_of on.before) (head_is a.start s (starts_of asked) (made ++ rest) is) ∙ ap (λ x. s ∷ x) on.made_are;
+    }
+
+-- where the order asks for a start there, those that were made are those before it
+pub asks_next : (order : StartOrder) (made : List Start) (index : ℕ) (asked : AskedStart) → IsAlong order made → IsIndex order made index → slice_get order.starts index ≡ Some asked → AsksNext order made asked
+asks_next order made index asked along at e = by along at
+  where
+    below : index < length order.starts
+    below = get_below order.starts index asked e
+
+    by : IsAlong order made → IsIndex order made index → AsksNext order made asked
+    by along (inr far) = let less = below in let more = far.0 in absurd (omega (arith, less, more))
+    by (inl first) (inl is) =
+        let s = splits order.starts made first.0 asked (subst (λ n. slice_get order.starts n ≡ Some asked) is e) first.1 in
+        record { before = s.before; behind = s.behind; are = s.are; made_are = s.made_are }
+    by (inr on) (inl is) =
+        let less = below in
+        let all = starts_length order.starts in
+        let more = ap length on.1.1 ∙ length-append (starts_of order.starts) on.1.0 in
+        absurd (omega (arith, less, is, all, more))
+
+-- where it asks for none there, they are no fewer than its own
+pub asks_none : (order : StartOrder) (made : List Start) (index : ℕ) → IsIndex order made index → slice_get order.starts index ≡ None → length order.starts ≤ length made
+asks_none order made index (inl is) e = let more = get_none order.starts index e in omega (arith, is, more)
+asks_none order made index (inr far) e = far.1
+
+nothing_left : (rest : List Start) (n m : ℕ) → n + length rest ≡ m → m ≤ n → rest ≡ []
+nothing_left [] n m e le = refl
+nothing_left (r ∷ rest) n m e le = absurd (omega (arith, e, le))
+
+-- then all of its starts were made
+pub all_made : (order : StartOrder) (made : List Start) → IsAlong order made → length order.starts ≤ length made → ComeFirst (starts_of order.starts) made
+all_made order made (inr on) le = on.1
+all_made order made (inl first) le =
+    let all = starts_length order.starts in
+    let sum = ap length first.1 ∙ length-append made first.0 in
+    let none = nothing_left first.0 (length made) (length (starts_of order.starts)) (sym sum) (omega (arith, all, le)) in
+    ([], sym (append-nil (starts_of order.starts) ∙ first.1 ∙ ap (λ x. made ++ x) none ∙ append-nil made))
+
+-- and where it stops there, no others
+pub stops_there : (order : StartOrder) (made : List Start) → IsAlong order made → length order.starts ≤ length made → is_some order.stop ≡ true → made ≡ starts_of order.starts
+stops_there order made (inr on) le some = let gone : false ≡ true = ap is_some (sym on.0) ∙ some in cc
+stops_there order made (inl first) le some =
+    let all = starts_length order.starts in
+    let sum = ap length first.1 ∙ length-append made first.0 in
+    let none = nothing_left first.0 (length made) (length (starts_of order.starts)) (sym sum) (omega (arith, all, le)) in
+    sym (first.1 ∙ ap (λ x. made ++ x) none ∙ append-nil made)
+
+-- a start is that of a module in a phase
+same_phases : (a b : Phase) → same_phase a b ≡ true → a ≡ b
+same_phases Pei Pei e = refl
+same_phases Dxe Dxe e = refl
+same_phases Pei Dxe e = cc
+same_phases Dxe Pei e = cc
+
+pub phase_self : (a : Phase) → same_phase a a ≡ true
+phase_self Pei = refl
+phase_self Dxe = refl
+
+and_both : (a b : Bool) → (a && b) ≡ true → (a ≡ true) × (b ≡ true)
+and_both true b e = (refl, e)
+and_both false b e = cc
+
+nats_same : (a b : ℕ) → (a == b) ≡ true → a ≡ b
+nats_same a b e = elim (eqb_tells a b) [
+  | inl same ↦ same.1
+  | inr other ↦ absurd (true≢false (sym e ∙ other.0))
+]
+
+nat_self : (a : ℕ) → (a == a) ≡ true
+nat_self a = elim (eqb_tells a a) [
+  | inl same ↦ same.0
+  | inr other ↦ absurd (other.1 refl)
+]
+
+made_of : (phase : Phase) (start : Start) (m : Module) → is_of phase start (Some m) ≡ true → start ≡ record { phase = phase; volume = m.volume; name = m.name }
+made_of phase start m e =
+    let one = and_both (same_phase start.phase phase) (m.volume == start.volume && same_guid m.name start.name) e in
+    let two = and_both (m.volume == start.volume) (same_guid m.name start.name) one.1 in
+    let of : (Phase × ℕ × Guid) → Start = λ t. record { phase = t.0; volume = t.1; name = t.2 } in
+    let here : Phase × ℕ × Guid = (start.phase, start.volume, start.name) in
+    let there : Phase × ℕ × Guid = (phase, m.volume, m.name) in
+    let p : start.phase ≡ phase = same_phases start.phase phase one.0 in
+    let v : m.volume ≡ start.volume = nats_same m.volume start.volume two.0 in
+    let n : m.name ≡ start.name = ap (λ bytes. record { 0 = bytes }) ((bytes_eq-Decides m.name.0 start.name.0).0 two.1) in
+    let same : here ≡ there = cc in
+    ap of same
+
+pub start_is : (catalog : Catalog) (phase : Phase) (number : ℕ) (start : Start) → is_start_of catalog phase number start ≡ true → start ≡ module_start phase catalog number
+start_is catalog phase number start e = by (slice_get catalog.modules number) refl e
+  where
+    by : (o : Option Module) → slice_get catalog.modules number ≡ o → is_of phase start o ≡ true → start ≡ module_start phase catalog number
+    by None is e = cc
+    by (Some m) is e =
+        let volume : module_volume catalog number ≡ m.volume = ap (λ o. unwrap_or (option_map (λ (x : Module). x.volume) o) 0) is in
+        let name : module_name catalog number ≡ m.name = ap (λ o. unwrap_or (option_map (λ (x : Module). x.name) o) (module_name (record catalog { modules = [] }) 0)) is in
+        made_of phase start m e ∙ ap (λ v. record { phase = phase; volume = v; name = m.name }) (sym volume) ∙ ap (λ n. record { phase = phase; volume = module_volume catalog number; name = n }) (sym name)
+
+self_is : (phase : Phase) (m : Module) → is_of phase (record { phase = phase; volume = m.volume; name = m.name }) (Some m) ≡ true
+self_is phase m = ap (λ b. b && (m.volume == m.volume && same_guid m.name m.name)) (phase_self phase) ∙ ap (λ b. b && same_guid m.name m.name) (nat_self m.volume) ∙ nat_list_eq_equiv.refl m.name.0
+
+get_some : {A : Type 0} (xs : List A) (n : ℕ) → n < length xs → (x : A) × (slice_get xs n ≡ Some x)
+get_some [] n less = absurd (omega (arith, less))
+get_some (x ∷ xs) zero less = (x, refl)
+get_some (x ∷ xs) (suc n) less = get_some xs n (omega (arith, less))
+
+pub is_start : (catalog : Catalog) (phase : Phase) (number : ℕ) (start : Start) → number < length catalog.modules → start ≡ module_start phase catalog number → is_start_of catalog phase number start ≡ true
+is_start catalog phase number start below is =
+    let found = get_some catalog.modules number below in
+    let m = found.0 in
+    let volume : module_volume catalog number ≡ m.volume = ap (λ o. unwrap_or (option_map (λ (x : Module). x.volume) o) 0) found.1 in
+    let name : module_name catalog number ≡ m.name = ap (λ o. unwrap_or (option_map (λ (x : Module). x.name) o) (module_name (record catalog { modules = [] }) 0)) found.1 in
+    let here : start ≡ record { phase = phase; volume = m.volume; name = m.name } = is ∙ ap (λ v. record { phase = phase; volume = v; name = module_name catalog number }) volume ∙ ap (λ n. record { phase = phase; volume = m.volume; name = n }) name in
+    ap (λ s. is_of phase s (slice_get catalog.modules number)) here ∙ ap (is_of phase (record { phase = phase; volume = m.volume; name = m.name })) found.1 ∙ self_is phase m
+
+pub starts_split : (xs ys : List AskedStart) → starts_of (xs ++ ys) ≡ starts_of xs ++ starts_of ys
+starts_split [] ys = refl
+starts_split (x ∷ xs) ys = ap (λ s. x.start ∷ s) (starts_split xs ys)
+
+-- a start that is let is made as the order asks
+pub let_goes_on : (catalog : Catalog) (order : StartOrder) (phase : Phase) (made : List Start) (index number : ℕ) → IsAlong order made → IsIndex order made index → lets_by catalog order phase index number ≡ true
+    → IsAlong order (made ++ module_start phase catalog number ∷ [])
+let_goes_on catalog order phase made index number along at passes = by (slice_get order.starts index) refl passes
+  where
+    next : Start
+    next = module_start phase catalog number
+
+    no_stop : (stop : Option ℕ) → is_none stop ≡ true → stop ≡ None
+    no_stop None e = refl
+    no_stop (Some n) e = cc
+
+    by : (o : Option AskedStart) → slice_get order.starts index ≡ o → lets_asked catalog phase order.stop o number ≡ true → IsAlong order (made ++ next ∷ [])
+    by None is e =
+        let all = all_made order made along (asks_none order made index at is) in
+        inr (no_stop order.stop e, (all.0 ++ next ∷ [], ap (λ x. x ++ next ∷ []) all.1 ∙ append_assoc (starts_of order.starts) all.0 (next ∷ [])))
+    by (Some asked) is e =
+        let next_is = asks_next order made index asked along at is in
+        let start = start_is catalog phase number asked.start e in
+        let all : starts_of order.starts ≡ made ++ (asked.start ∷ starts_of next_is.behind) = ap starts_of next_is.are ∙ starts_split next_is.before (asked ∷ next_is.behind) ∙ ap (λ x. x ++ (asked.start ∷ starts_of next_is.behind)) next_is.made_are in
+        inl (starts_of next_is.behind, all ∙ ap (λ s. made ++ (s ∷ starts_of next_is.behind)) start ∙ sym (append_assoc made (next ∷ []) (starts_of next_is.behind)))
