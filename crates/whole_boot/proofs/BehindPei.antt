@@ -54,6 +54,10 @@ comes_in_dxe : (choices : Choices) (Names : DxeMachine → Option ℕ → Type 0
 comes_in_dxe choices Names catalog fuel pei earlier more run =
     record { earlier = earlier; run = renamed Names (choices.drivers pei) (choices.lets_driver pei) catalog fuel (dxe_opening catalog pei.store pei.actions) earlier more run; is = refl }
 
+-- what holds with the counts of what PEI left holds with those of its last machine
+pub by_counts : (P : ℕ → ℕ → Type 0) (starts actions : ℕ) (pei : PeiMachine) → starts ≡ pei_starts pei → actions ≡ pei.actions → P starts actions → P (pei_starts pei) pei.actions
+by_counts P starts actions pei a b holds = subst (P (pei_starts pei)) b (subst (λ n. P n actions) a holds)
+
 -- behind a sink into which the lines of PEI were put a choice may name what it may in the whole boot
 pub names_behind : {S : Type 0} (drivers : S → ℕ → Option ℕ → Type 0) (text : S → Option (List ℕ)) (faults : S → ℕ) (pei : PeiMachine) (first sink : S) → HasPut text faults first pei.lines sink
     → MayNameMore (D.NamesDrivers drivers text faults (pei_starts pei) sink) (NamesBehind drivers text faults first pei)

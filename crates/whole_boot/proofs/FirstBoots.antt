@@ -1,5 +1,5 @@
 -- A boot by choices that name no module is the boot of the machine.
-use Rattle.std.proofs.Common.{◌≡◌, ℕ, Bool, true, true≢false, List, ◌++◌, Option, Some, Ok, Err, option_map, sym, ap, ◌∙◌, append_assoc, subst, inl, inr}
+use Rattle.std.proofs.Common.{◌≡◌, ℕ, Bool, true, List, ◌++◌, Option, Some, None, Ok, Err, option_map, sym, ap, ◌∙◌, append_assoc, subst, inl, inr}
 use Rattle.std.specs.Io.KnownBytes.{Appends}
 use Rattle.boot_io.proofs.PutsLaws.{appends_then, part_then}
 use Rattle.boot_io.specs.declared.halt.Halt.{Halt}
@@ -26,24 +26,23 @@ use Rattle.boot_model.proofs.Texts.{text_of-append}
 use Rattle.pei_dispatch.specs.Ends.{IsLeft}
 use Rattle.pei_dispatch.proofs.FirstRuns as P
 use Rattle.dxe_dispatch.proofs.FirstRuns as D
-use Rattle.pei_dispatch.specs.declared.boot.Barred as P
-use Rattle.pei_dispatch.specs.declared.boot.Ended.{Ended}
-use Rattle.dxe_dispatch.specs.declared.boot.Barred.{Barred}
-use Rattle.whole_boot.specs.declared.boot.Booted.TheVariants as B
 use Rattle.whole_boot.specs.declared.boot.Ran.{Ran}
 use Rattle.whole_boot.specs.BootEnd.{boot_text, end_after, end_of}
-use Rattle.whole_boot.specs.ByChoice.{BootBy, BootsTo, ComesInDxe, EndsAfter, HasCome, HasRun, PutsPartBehind, StopsBehind, StopsBehindPei, all_lines, stops_at_last, stops_in_dxe}
-use Rattle.whole_boot.specs.Choices.{Choices}
+use Rattle.whole_boot.specs.ByChoice.{BootBy, BootsTo, ComesInDxe, EndsAfter, HasRun, PutsPartBehind, StopsBehind, StopsBehindPei, all_lines, stops_at_last, stops_in_dxe}
+use Rattle.whole_boot.specs.Choices.{Choices, choices_of}
 use Rattle.whole_boot.specs.Closing.{closing}
 use Rattle.whole_boot.specs.FirstBoot.{RunsTo, WantsOutsidePei}
 use Rattle.whole_boot.proofs.BootLines.{begins_with_pei, both_first, pei_first, same_whole, whole_of_pei}
 
+-- the choices of the machine itself
+abbrev pub first_choices : {S : Type 0} → (S → Option (List ℕ)) → (S → ℕ) → S → Choices
+first_choices text faults first =
+    choices_of (λ sink starts named. named ≡ None) (λ starts number. true) (λ sink starts named. named ≡ None) (λ starts number. true) text faults first
+
 -- what is known of such a boot
 pub record NamesNone (choices : Choices) (catalog : Catalog) : Type 0 where
   pub peims : P.NamesNone choices.peims
-  pub lets_peim : (m : PeiMachine) (number : ℕ) → choices.lets_peim m number ≡ true
   pub drivers : (pei : PeiMachine) → D.NamesNone (choices.drivers pei)
-  pub lets_driver : (pei : PeiMachine) (m : DxeMachine) (number : ℕ) → choices.lets_driver pei m number ≡ true
   pub pei_ends : PeiRunsEnd
   pub dxe_ends : DxeRunsEnd
   pub numbered : AreNumbered 0 catalog.volumes
@@ -161,15 +160,6 @@ first_halts choices text faults stands takes board catalog fuel sink shown H.Mem
     let last = pei_end board catalog fuel in
     part_of_boot board catalog fuel last.lines (text sink) (text shown) (pei_first catalog fuel last last.ended) (P.first_wants own.pei_ends choices.peims choices.lets_peim board catalog fuel (text sink) (text shown) own.peims by.stops)
 first_halts choices text faults stands takes board catalog fuel sink shown H.Memory own (inr by) = behind_part choices text faults board catalog fuel sink shown own by
-
--- it is never left before a start
-pub never_in_pei : {M : Type 0} (choices : Choices) (stands : M → StoreState → Type 0) (board : Board) (catalog : Catalog) (fuel : ℕ) (barred : P.Barred M) (old new : Option (List ℕ)) → NamesNone choices catalog
-    → HasCome choices stands board catalog fuel old new (B.BarredInPei barred) → ⊥
-never_in_pei choices stands board catalog fuel barred old new own by = true≢false (sym (own.lets_peim by.m barred.number) ∙ by.bars.barred)
-
-pub never_in_dxe : {M : Type 0} (choices : Choices) (stands : M → StoreState → Type 0) (board : Board) (catalog : Catalog) (fuel : ℕ) (left : Ended M) (barred : Barred) (old new : Option (List ℕ)) → NamesNone choices catalog
-    → HasCome choices stands board catalog fuel old new (B.BarredInDxe left barred) → ⊥
-never_in_dxe choices stands board catalog fuel left barred old new own by = true≢false (sym (own.lets_driver by.pei by.bars.dxe barred.number) ∙ by.bars.bars)
 
 -- all lines of PEI were put, and then a part of what follows
 outside_pei : {S : Type 0} (choices : Choices) (text : S → Option (List ℕ)) (faults : S → ℕ) (board : Board) (catalog : Catalog) (fuel : ℕ) (first shown : S) → NamesNone choices catalog
