@@ -22,9 +22,9 @@ no_start a q e = cc
 
 -- it is let
 pub passes : (lets : ℕ → Bool) (catalog : Catalog) (m : DxeMachine) (next : Scheduled) (rest : List Scheduled) → IsIdle m → next_driver catalog m ≡ Some (next, rest) → lets next.module_number ≡ true → PassesStart lets catalog m
-passes lets catalog m next rest idle found yes number s =
+passes lets catalog m next rest idle found may number s =
     let same = same_start s.next next s.queue rest (sym s.starts ∙ case_starts catalog m next rest idle found) in
-    ap lets (s.is ∙ ap (λ (x : Scheduled). x.module_number) same) ∙ yes
+    ap lets (s.is ∙ ap (λ (x : Scheduled). x.module_number) same) ∙ may
 
 -- none starts at the stop
 pub stop_passes : (lets : ℕ → Bool) (catalog : Catalog) (m : DxeMachine) → IsIdle m → next_driver catalog m ≡ None → PassesStart lets catalog m

@@ -46,10 +46,10 @@ use Rattle.dxe_dispatch.proofs.Standing.{now_still}
 pub starts_so : (lets : ℕ → Bool) (catalog : Catalog) (fuel : ℕ) (later : DxeCore) (grown : Queue) (m : DxeMachine) (next : Scheduled) (t : Texts) (chosen : IsNext catalog m next grown) → IsIdle m → IsDriver catalog next → lets next.module_number ≡ true
     → HasStepped (HasOver catalog later m) m (driver_started catalog m next chosen.rest (part_at Dxe catalog next.module_number)) t
     → HasTurned lets (AreOf catalog later grown) catalog m (dxe_step catalog fuel m) t
-starts_so lets catalog fuel later grown m next t chosen idle driver yes stepped =
+starts_so lets catalog fuel later grown m next t chosen idle driver may stepped =
     let P : DxeMachine → Type 0 = λ x. HasTurned lets (AreOf catalog later grown) catalog m x t in
     let turned : P (driver_started catalog m next chosen.rest (part_at Dxe catalog next.module_number)) = record {
-      passes = passes lets catalog m next chosen.rest idle chosen.next_is yes;
+      passes = passes lets catalog m next chosen.rest idle chosen.next_is may;
       printed = stepped.printed;
       now = record { core = stepped.machine.core; queue = started_queue catalog m next grown chosen driver };
     } in
@@ -58,9 +58,9 @@ starts_so lets catalog fuel later grown m next t chosen idle driver yes stepped 
 -- it is not let, and has left the queue
 pub stays_so : (lets : ℕ → Bool) (catalog : Catalog) (core : DxeCore) (queue grown : Queue) (m : DxeMachine) (next : Scheduled) (text : Option (List ℕ)) (chosen : IsNext catalog m next grown) → IsIdle m → AreOf catalog core queue m → lets next.module_number ≡ false
     → IsHeldBack lets (AreLeft catalog core grown) catalog m next.module_number (record { old = text; new = text })
-stays_so lets catalog core queue grown m next text chosen idle are no = record {
+stays_so lets catalog core queue grown m next text chosen idle are barred = record {
   starting = starting catalog m next chosen.rest idle chosen.next_is;
-  barred = no;
+  barred = barred;
   text = appends_none text;
   left = record { core = are.core; left = left_queue catalog m next grown chosen };
 }
@@ -215,9 +215,9 @@ not_ok P (Err fault) e = tt
 -- a start that is let was put in part
 pub part_started : (lets : ℕ → Bool) (catalog : Catalog) (fuel : ℕ) (m : DxeMachine) (next : Scheduled) (grown : Queue) (t : Texts) (chosen : IsNext catalog m next grown) → IsIdle m → lets next.module_number ≡ true
     → PrintedPart m (driver_started catalog m next chosen.rest (part_at Dxe catalog next.module_number)) t → IsGivenUp lets catalog m (dxe_step catalog fuel m) t
-part_started lets catalog fuel m next grown t chosen idle yes part =
+part_started lets catalog fuel m next grown t chosen idle may part =
     let P : DxeMachine → Type 0 = λ x. PrintedPart m x t in
-    inr (passes lets catalog m next chosen.rest idle chosen.next_is yes, subst P (sym (step_starts catalog fuel m next chosen.rest idle chosen.next_is)) part)
+    inr (passes lets catalog m next chosen.rest idle chosen.next_is may, subst P (sym (step_starts catalog fuel m next chosen.rest idle chosen.next_is)) part)
 
 -- the stop was put in part
 pub part_stopped : (lets : ℕ → Bool) (catalog : Catalog) (fuel : ℕ) (m : DxeMachine) (grown : Queue) (t : Texts) → IsIdle m → ComesNext catalog m None grown → AppendsPart t.old t.new (text_of (stop_lines catalog m)) → IsGivenUp lets catalog m (dxe_step catalog fuel m) t

@@ -50,8 +50,8 @@ returns-in_ok-discover-in-Went-clause-owes g c before m fuel made ready =
     event_owes catalog fuel m c.in-Went.event c.step.new.self.services.order.volumes before (owed c.args.queue.now) (owed c.tell.new.queue) (owed c.discover.new.self) went.1
     went.2.machine.core.services.order.volumes_are (c.tell.ensures.owes catalog c.requires.queue m ready.now.queue) owes
 
-pub unreachable-in-Idle-requires : goal.unreachable-in-Idle-requires
-unreachable-in-Idle-requires g c =
+pub unreachable-requires : goal.unreachable-requires
+unreachable-requires g c =
     let m = c.requires.state.0 in
     let ready = c.requires.state.3 in
     let idle = rw c.in-Idle.is at (c.in_ok-event.ensures.row m c.requires.state.1 c.requires.state.2 ready.now.machine ready.waits) in

@@ -13,14 +13,14 @@ pub returns-in_err-start-in-Some-clause-row : goal.returns-in_err-start-in-Some-
 returns-in_err-start-in-Some-clause-row g c m fuel are idle =
     let chosen = rw c.in-Some.is at (c.in_ok-next.ensures.row m are) in
     let p = err_from_is_err_and c.from_residual-in_err-start-in-Some.result c.from_residual-in_err-start-in-Some.ensures.1 in
-    rw p.1 (part_started (g.C.Choice.lets_in_dxe c.args.choice.now c.args.starts) c.args.catalog.now fuel m c.in-Some.next c.choose.new.queue _ chosen idle (sym c.lets_driver-in-Some.ensures ∙ c.if-not-lets_driver-in-Some.false) (c.in_err-start-in-Some.ensures.row m chosen.rest are.core))
+    rw p.1 (part_started (g.C.Choice.lets_in_dxe c.args.choice.now c.args.starts) c.args.catalog.now fuel m c.in-Some.next c.choose.new.queue _ chosen idle (sym c.lets_driver.ensures ∙ c.if-not-lets_driver.false) (c.in_err-start-in-Some.ensures.row m chosen.rest are.core))
 
 pub returns-in_ok-start-in-Some-clause-row : goal.returns-in_ok-start-in-Some-clause-row
 returns-in_ok-start-in-Some-clause-row g c m fuel are idle =
     let next = c.in-Some.next in
     let chosen = rw c.in-Some.is at (c.in_ok-next.ensures.row m are) in
     let driver = rw c.in-Some.is at c.in_ok-next.ensures.driver in
-    starts_so (g.C.Choice.lets_in_dxe c.args.choice.now c.args.starts) c.args.catalog.now fuel c.start.new.self c.choose.new.queue m next _ chosen idle driver (sym c.lets_driver-in-Some.ensures ∙ c.if-not-lets_driver-in-Some.false) (c.in_ok-start-in-Some.ensures.row m chosen.rest are.core)
+    starts_so (g.C.Choice.lets_in_dxe c.args.choice.now c.args.starts) c.args.catalog.now fuel c.start.new.self c.choose.new.queue m next _ chosen idle driver (sym c.lets_driver.ensures ∙ c.if-not-lets_driver.false) (c.in_ok-start-in-Some.ensures.row m chosen.rest are.core)
 
 pub returns-in_err-next-clause-made : goal.returns-in_err-next-clause-made
 returns-in_err-next-clause-made g c = not_ok _ c.from_residual.result c.from_residual.ensures.0
@@ -85,10 +85,10 @@ returns-in_ok-put_stop-in-None-clause-row g c m fuel are idle =
     let none = rw c.in-None.is at (c.in_ok-next.ensures.row m are) in
     stops_so (g.C.Choice.lets_in_dxe c.args.choice.now c.args.starts) c.args.catalog.now fuel c.args.dxe.now c.args.queue.now c.choose.new.queue m _ idle are none (c.in_ok-put_stop-in-None.ensures.row m (record { core = are.core; queue = none.1 }))
 
-pub returns-then-not-lets_driver-in-Some-clause-row : goal.returns-then-not-lets_driver-in-Some-clause-row
-returns-then-not-lets_driver-in-Some-clause-row g c m fuel are idle =
+pub returns-then-not-lets_driver-clause-row : goal.returns-then-not-lets_driver-clause-row
+returns-then-not-lets_driver-clause-row g c m fuel are idle =
     let chosen = rw c.in-Some.is at (c.in_ok-next.ensures.row m are) in
-    stays_so (g.C.Choice.lets_in_dxe c.args.choice.now c.args.starts) c.args.catalog.now c.args.dxe.now c.args.queue.now c.choose.new.queue m c.in-Some.next _ chosen idle are (sym c.lets_driver-in-Some.ensures ∙ c.if-not-lets_driver-in-Some.true)
+    stays_so (g.C.Choice.lets_in_dxe c.args.choice.now c.args.starts) c.args.catalog.now c.args.dxe.now c.args.queue.now c.choose.new.queue m c.in-Some.next _ chosen idle are (sym c.lets_driver.ensures ∙ c.if-not-lets_driver.true)
 
 pub returns-in_err-put_stop-in-None-clause-row : goal.returns-in_err-put_stop-in-None-clause-row
 returns-in_err-put_stop-in-None-clause-row g c m fuel are idle =

@@ -10,8 +10,8 @@ use Rattle.dxe_dispatch.proofs.Chosen.{Any, StepLaws, aim_by, few_started, has_a
 use Rattle.dxe_dispatch.proofs.Turning.{on_ok}
 use Rattle.dxe_dispatch.proofs.turns.turn_by.Goals as goal
 
-pub starts-requires : goal.starts-requires
-starts-requires g c =
+pub starts-starts-requires : goal.starts-starts-requires
+starts-starts-requires g c =
     let on = c.requires.state.3 in
     let few = few_started c.args.catalog.now c.requires.state.0 on.way in
     let left = on.now.queue.left in
