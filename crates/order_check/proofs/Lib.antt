@@ -1,2 +1,3 @@
 mod Along
-mod Lacking
+mod Pushing
+mod PeiOrder
