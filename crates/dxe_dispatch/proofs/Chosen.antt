@@ -1,5 +1,5 @@
 -- A turn by choices, from the machine's own step.
-use Rattle.std.proofs.Common.{◌≡◌, ◌≤◌, ◌<◌, ℕ, ◌+◌, arith, Bool, true, false, true≢false, List, [], length, Option, Some, None, Ok, Err, Result, refl, sym, ap, ◌∙◌, subst}
+use Rattle.std.proofs.Common.{◌≡◌, ◌≤◌, ◌<◌, ℕ, ◌+◌, arith, Bool, true, false, true≢false, List, [], length, Option, None, Err, Result, refl, sym, ap, ◌∙◌, subst}
 use Rattle.std.specs.Prelude.{◌↔◌, IsTrue, OnOk}
 use Rattle.boot_io.specs.declared.halt.Halt.{Halt}
 use Rattle.catalog_model.specs.declared.catalog.Catalog.{Catalog}
@@ -8,7 +8,6 @@ use Rattle.catalog_model.specs.WellFormed.{IsWellFormed}
 use Rattle.pi_base.specs.declared.phase.Phase.TheVariants.{Dxe}
 use Rattle.store_model.specs.StoreState.{StoreState}
 use Rattle.boot_model.specs.declared.phase_end.DxeEnd.{DxeEnd}
-use Rattle.boot_model.specs.DxeChoice.{discovered_order}
 use Rattle.boot_model.specs.DxeMachine.{DxeMachine}
 use Rattle.boot_model.specs.DxeStep.{dxe_step}
 use Rattle.boot_laws.specs.UnrequestedDrivers.{WaitForRequest}
@@ -19,7 +18,7 @@ use Rattle.boot_trace.specs.Printing.{Texts}
 use Rattle.driver_order.specs.Order.{Drivers, IsOrderOf}
 use Rattle.dxe_choice.specs.Queue.{IsQueueOf, IsSeen, Queue}
 use Rattle.dxe_core.specs.Standing.{DxeCore}
-use Rattle.free_laws.specs.DxeAim.{FirstEligibleMayStart, GroupsAreAimed, IsChoosing, aimed}
+use Rattle.free_laws.specs.DxeAim.{FirstEligibleMayStart, GroupsAreAimed, aimed}
 use Rattle.free_laws.specs.DxeFree.{OwnDxeStepsAreFree}
 use Rattle.free_laws.specs.DxeUnderWay.{DxeStepsRunOut, IsDriverOf, IsNearerEnd, IsUnderWay}
 use Rattle.free_laws.specs.declared.choice.Reached.{Reached}

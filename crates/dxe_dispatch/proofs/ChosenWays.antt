@@ -1,6 +1,5 @@
 -- The run by choices so far.
-use Rattle.std.proofs.Common.{◌≡◌, ◌≤◌, ◌<◌, ℕ, suc, ◌+◌, ◌-◌, arith, Bool, true, false, inl, inr, drop, List, [], ◌∷◌, ◌++◌, Option, Some, None, Ok, Err, refl, sym, ap, ◌∙◌, subst, is_some, length}
-use Rattle.std.specs.Prelude.{OnOk, sum_by}
+use Rattle.std.proofs.Common.{◌≡◌, ◌≤◌, ◌<◌, ℕ, ◌+◌, arith, Bool, false, inl, inr, drop, List, [], ◌∷◌, ◌++◌, Option, Some, None, Ok, Err, refl, sym, ap, ◌∙◌, subst, is_some, length}
 use Rattle.std.proofs.lemmas.List.{append-nil}
 use Rattle.std.specs.Io.KnownBytes.{Appends}
 use Rattle.boot_io.proofs.PutsLaws.{appends_then, part_then}
@@ -21,7 +20,6 @@ use Rattle.boot_model.specs.Licence.{AllDiffer}
 use Rattle.boot_model.specs.Text.{text_of}
 use Rattle.boot_model.proofs.Texts.{text_of-append}
 use Rattle.boot_trace.proofs.Lines.{part_none, part_whole}
-use Rattle.boot_trace.specs.Printing.{Texts}
 use Rattle.boot_laws.specs.UnrequestedDrivers.{UnrequestedDriversWait}
 use Rattle.driver_order.specs.Order.{Drivers, IsOrderOf}
 use Rattle.dxe_choice.specs.Queue.{AreNew, Discovers, HasVolumes, IsNewQueue, IsQueueOf, Queue, owed}
@@ -32,7 +30,7 @@ use Rattle.free_laws.specs.declared.choice.Reached.TheVariants as R
 use Rattle.free_laws.specs.DxeAim.{FirstEligibleMayStart}
 use Rattle.free_laws.specs.Naming.{HasPut}
 use Rattle.dxe_dispatch.specs.Choices.{BarsBy, EndsBy, EvaluatesFewBy, IsOnWay, IsRunBy, RunsBy, StopsShort, TurnsBy, came, changes_of}
-use Rattle.dxe_dispatch.specs.Ends.{HasEnded, IsNow}
+use Rattle.dxe_dispatch.specs.Ends.{IsNow}
 use Rattle.dxe_dispatch.specs.Turns.{IsGivenUp, IsLeft, IsWithin}
 use Rattle.dxe_dispatch.proofs.Chosen.{Any, StepLaws, TakesFew, few_by, few_started, nearer_by, same_discovered, same_lines, target_at, waits_behind}
 use Rattle.dxe_dispatch.proofs.Targets.{left_before}

@@ -20,9 +20,7 @@ use catalog_model::Catalog;
 use depex_code::Steps;
 use dxe_choice::DriverQueue;
 use dxe_core::{Dxe, Stepped};
-use free_laws::{
-    Choice, Reached, dxe_chooses_by_groups, dxe_goes_on, dxe_opens, groups_are_aimed,
-};
+use free_laws::{Choice, Reached, dxe_chooses_by_groups, dxe_goes_on, dxe_opens, groups_are_aimed};
 use std::sync::ledger::Ledger;
 use store_model::PeiStore;
 

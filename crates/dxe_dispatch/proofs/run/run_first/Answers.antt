@@ -1,4 +1,4 @@
-use Rattle.std.proofs.Common.{◌≡◌, ℕ, true, None, true≢false}
+use Rattle.std.proofs.Common.{◌≡◌, true, None, true≢false}
 use Rattle.std.proofs.lemmas.Result.{err_from_is_err_and}
 use Rattle.boot_model.specs.DxeRun.{dxe_bound, dxe_opening}
 use Rattle.dxe_dispatch.specs.Choices.{LetsDrivers, NamesDrivers}

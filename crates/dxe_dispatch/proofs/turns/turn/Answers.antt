@@ -1,4 +1,4 @@
-use Rattle.std.proofs.Common.{◌≡◌, [], ◌∙◌, true≢false, sym}
+use Rattle.std.proofs.Common.{◌∙◌, true≢false, sym}
 use Rattle.dxe_dispatch.proofs.Turning.{on_ok, owes_still, turns_over}
 use Rattle.dxe_dispatch.proofs.turns.turn.Goals as goal
 
