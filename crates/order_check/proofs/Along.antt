@@ -1,7 +1,8 @@
 -- The starts of a boot beside those of an order, one behind the other.
 use Rattle.std.proofs.Common.{◌≡◌, ℕ, zero, suc, ◌+◌, ◌-◌, ◌<◌, ◌≤◌, ◌==◌, ◌^◌, min, Bool, true, false, true≢false, ◌&&◌, cond, List, [], ◌∷◌, ◌++◌, map, length, Option, Some, None, is_none, is_some, refl, sym, ap, ◌∙◌, subst, inl, inr, arith, append_assoc}
-use Rattle.std.specs.Prelude.{◌⊎◌, slice_get, unwrap_or, option_map}
-use Rattle.std.proofs.lemmas.Bool.Decides.{bytes_eq-Decides, eqb_tells}
+use Rattle.std.specs.Prelude.{◌⊎◌, slice_get, take, unwrap_or, option_map}
+use Rattle.std.proofs.lemmas.Bool.Decides.{eqb_tells}
+use Rattle.std.proofs.lemmas.Slice.Eq.{bytes_eq-Decides}
 use Rattle.std.proofs.lemmas.Cmp.{nat_list_eq_equiv}
 use Rattle.std.proofs.lemmas.List.{append-nil, length-append}
 use Rattle.pi_base.specs.declared.guid.Guid.{Guid}
@@ -15,24 +16,19 @@ use Rattle.start_order.specs.declared.line.AskedStart.{AskedStart}
 use Rattle.start_order.specs.declared.line.Start.{Start}
 use Rattle.start_order.specs.declared.lines.StartOrder.{StartOrder}
 use Rattle.boot_starts.specs.Starts.{ComeFirst, module_start}
+use Rattle.order_check.specs.Along.{IsAlong, IsIndex}
+use Rattle.order_check.specs.Finding.{same_start}
 use Rattle.order_check.specs.ByOrder.{is_of, is_start_of, lets_asked, lets_by, same_phase, starts_of}
 
--- starts are made as an order asks: they are the first of its starts, or they come behind all of them, which it does not stop at
-abbrev pub IsAlong : StartOrder → List Start → Type 0
-IsAlong order made = ComeFirst made (starts_of order.starts) ⊎ ((order.stop ≡ None) × ComeFirst (starts_of order.starts) made)
-
--- this is how many starts there were, or both are no fewer than those of the order
-abbrev pub IsIndex : StartOrder → List Start → ℕ → Type 0
-IsIndex order made index = (index ≡ length made) ⊎ ((length order.starts ≤ index) × (length order.starts ≤ length made))
-
--- what an order asks for behind these starts: it asks for this one next
-pub record AsksNext (order : StartOrder) (made : List Start) (asked : AskedStart) : Type 0 where
+-- what an order asks for behind these starts: it asks for this one next, behind as many
+pub record AsksNext (order : StartOrder) (made : List Start) (index : ℕ) (asked : AskedStart) : Type 0 where
   pub before : List AskedStart
   pub behind : List AskedStart
   pub are : order.starts ≡ before ++ asked ∷ behind
   pub made_are : starts_of before ≡ made
+  pub front : starts_of (take index order.starts) ≡ made
 
-get_below : {A : Type 0} (xs : List A) (n : ℕ) (x : A) → slice_get xs n ≡ Some x → n < length xs
+pub get_below : {A : Type 0} (xs : List A) (n : ℕ) (x : A) → slice_get xs n ≡ Some x → n < length xs
 get_below [] n x e = cc
 get_below (y ∷ xs) zero x e = omega arith
 get_below (y ∷ xs) (suc n) x e = let less = get_below xs n x e in omega (arith, less)
@@ -75,18 +71,25 @@ splits (a ∷ asked) (s ∷ made) rest next e is =
       made_are = ap (λ x. x ∷ starts_of on.before) (head_is a.start s (starts_of asked) (made ++ rest) is) ∙ ap (λ x. s ∷ x) on.made_are;
     }
 
+-- as many of the lines have those starts
+take_made : (asked : List AskedStart) (made rest : List Start) → starts_of asked ≡ made ++ rest → starts_of (take (length made) asked) ≡ made
+take_made asked [] rest is = refl
+take_made [] (s ∷ made) rest is = cc
+take_made (a ∷ asked) (s ∷ made) rest is =
+    ap (λ x. x ∷ starts_of (take (length made) asked)) (head_is a.start s (starts_of asked) (made ++ rest) is) ∙ ap (λ x. s ∷ x) (take_made asked made rest (tail_is a.start s (starts_of asked) (made ++ rest) is))
+
 -- where the order asks for a start there, those that were made are those before it
-pub asks_next : (order : StartOrder) (made : List Start) (index : ℕ) (asked : AskedStart) → IsAlong order made → IsIndex order made index → slice_get order.starts index ≡ Some asked → AsksNext order made asked
+pub asks_next : (order : StartOrder) (made : List Start) (index : ℕ) (asked : AskedStart) → IsAlong order made → IsIndex order made index → slice_get order.starts index ≡ Some asked → AsksNext order made index asked
 asks_next order made index asked along at e = by along at
   where
     below : index < length order.starts
     below = get_below order.starts index asked e
 
-    by : IsAlong order made → IsIndex order made index → AsksNext order made asked
+    by : IsAlong order made → IsIndex order made index → AsksNext order made index asked
     by along (inr far) = let less = below in let more = far.0 in absurd (omega (arith, less, more))
     by (inl first) (inl is) =
         let s = splits order.starts made first.0 asked (subst (λ n. slice_get order.starts n ≡ Some asked) is e) first.1 in
-        record { before = s.before; behind = s.behind; are = s.are; made_are = s.made_are }
+        record { before = s.before; behind = s.behind; are = s.are; made_are = s.made_are; front = ap (λ n. starts_of (take n order.starts)) is ∙ take_made order.starts made first.0 first.1 }
     by (inr on) (inl is) =
         let less = below in
         let all = starts_length order.starts in
@@ -141,11 +144,24 @@ nats_same a b e = elim (eqb_tells a b) [
   | inr other ↦ absurd (true≢false (sym e ∙ other.0))
 ]
 
-nat_self : (a : ℕ) → (a == a) ≡ true
+pub nat_self : (a : ℕ) → (a == a) ≡ true
 nat_self a = elim (eqb_tells a a) [
   | inl same ↦ same.0
   | inr other ↦ absurd (other.1 refl)
 ]
+
+pub same_starts : (one other : Start) → same_start one other ≡ true → one ≡ other
+same_starts one other e =
+    let first = and_both (same_phase one.phase other.phase) (one.volume == other.volume && same_guid one.name other.name) e in
+    let second = and_both (one.volume == other.volume) (same_guid one.name other.name) first.1 in
+    let of : (Phase × ℕ × Guid) → Start = λ t. record { phase = t.0; volume = t.1; name = t.2 } in
+    let here : Phase × ℕ × Guid = (one.phase, one.volume, one.name) in
+    let there : Phase × ℕ × Guid = (other.phase, other.volume, other.name) in
+    let p : one.phase ≡ other.phase = same_phases one.phase other.phase first.0 in
+    let v : one.volume ≡ other.volume = nats_same one.volume other.volume second.0 in
+    let n : one.name ≡ other.name = ap (λ bytes. record { 0 = bytes }) ((bytes_eq-Decides one.name.0 other.name.0).0 second.1) in
+    let same : here ≡ there = cc in
+    ap of same
 
 made_of : (phase : Phase) (start : Start) (m : Module) → is_of phase start (Some m) ≡ true → start ≡ record { phase = phase; volume = m.volume; name = m.name }
 made_of phase start m e =
@@ -212,3 +228,11 @@ let_goes_on catalog order phase made index number along at passes = by (slice_ge
         let start = start_is catalog phase number asked.start e in
         let all : starts_of order.starts ≡ made ++ (asked.start ∷ starts_of next_is.behind) = ap starts_of next_is.are ∙ starts_split next_is.before (asked ∷ next_is.behind) ∙ ap (λ x. x ++ (asked.start ∷ starts_of next_is.behind)) next_is.made_are in
         inl (starts_of next_is.behind, all ∙ ap (λ s. made ++ (s ∷ starts_of next_is.behind)) start ∙ sym (append_assoc made (next ∷ []) (starts_of next_is.behind)))
+
+-- where the order asks for nothing and a start is not let, it stops
+pub lets_stop : (catalog : Catalog) (order : StartOrder) (phase : Phase) (index number : ℕ) → lets_by catalog order phase index number ≡ false → slice_get order.starts index ≡ None → is_some order.stop ≡ true
+lets_stop catalog order phase index number barred none = some order.stop (sym (ap (λ o. lets_asked catalog phase order.stop o number) none) ∙ barred)
+  where
+    some : (stop : Option ℕ) → is_none stop ≡ false → is_some stop ≡ true
+    some None e = cc
+    some (Some n) e = refl

@@ -1,3 +1,4 @@
 mod Along
+mod Among
 mod Pushing
 mod PeiOrder

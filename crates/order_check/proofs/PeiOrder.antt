@@ -37,7 +37,8 @@ use Rattle.pei_dispatch.specs.Ends.{pei_starts}
 use Rattle.pei_dispatch.proofs.Chosen.{idle_starts, some_first, start_is_free, step_is_free}
 use Rattle.order_check.specs.ByOrder.{NamesAsked, lets_asked, lets_by}
 use Rattle.order_check.specs.Following.{IsBeforeStart}
-use Rattle.order_check.proofs.Along.{IsAlong, IsIndex, is_start, let_goes_on}
+use Rattle.order_check.specs.Along.{IsAlong, IsIndex}
+use Rattle.order_check.proofs.Along.{is_start, let_goes_on}
 
 -- A boot along an order: what is known of it.
 pub record OrderBoot : Type 0 where

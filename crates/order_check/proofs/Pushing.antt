@@ -1,6 +1,8 @@
 -- What an expression lacks, found opcode by opcode.
-use Rattle.std.proofs.Common.{◌≡◌, ℕ, Bool, true, false, ◌||◌, not, cond, List, [], ◌∷◌, ◌++◌, filter, flat_map, Option, Some, None, is_some, refl, sym, ap, ◌∙◌}
-use Rattle.std.specs.Prelude.{list_any, slice_get}
+use Rattle.std.proofs.Common.{◌≡◌, ℕ, Bool, true, false, ◌||◌, not, cond, List, [], ◌∷◌, ◌++◌, filter, flat_map, Option, Some, None, is_some, refl, sym, ap, ◌∙◌, append_assoc}
+use Rattle.std.specs.List.{list_any}
+use Rattle.std.specs.Prelude.{slice_get}
+use Rattle.std.proofs.lemmas.Cmp.{nat_list_eq_equiv}
 use Rattle.std.proofs.lemmas.List.{append-nil}
 use Rattle.std.proofs.lemmas.Grind.{flat_map-append}
 use Rattle.pi_base.specs.declared.guid.Guid.{Guid}
@@ -16,9 +18,8 @@ use Rattle.store_model.specs.StoreState.{StoreState}
 use Rattle.store_model.specs.Service.Install.{has_ppi}
 use Rattle.store_model.specs.Service.Reading.{nth_ppi}
 use Rattle.boot_laws.specs.ChangedGuids.{is_among}
-use Rattle.boot_laws.proofs.GuidLists.{among_firsts}
 use Rattle.order_check.specs.Against.{lacking, pushed_by, pushed_in}
-use Rattle.order_check.specs.Code.{code_in, more_lacking, once_more, pushed_by_code, pushed_one}
+use Rattle.order_check.specs.Code.{code_in, lacking_from, more_lacking, once_more, pushed_by_code, pushed_one}
 
 -- a list has a first element that passes where any does
 first_any : {A : Type 0} (test : A → Bool) (xs : List A) → is_some (slice_get (filter test xs) 0) ≡ list_any test xs
@@ -62,11 +63,33 @@ firsts_more (a ∷ xs) x =
     by false false e = ap (λ ys. a ∷ ys) (filter_more (λ b. not (same_guid a b)) (firsts same_guid xs) x
         ∙ ap (λ t. cond (not t) (filter (λ b. not (same_guid a b)) (firsts same_guid xs) ++ x ∷ []) (filter (λ b. not (same_guid a b)) (firsts same_guid xs))) e)
 
+-- one that another is not may be left out
+left_out : (a guid : Guid) (others : List Guid) → same_guid a guid ≡ false → is_among guid (filter (λ b. not (same_guid a b)) others) ≡ is_among guid others
+left_out a guid [] differ = refl
+left_out a guid (b ∷ others) differ = by (same_guid a b) refl (left_out a guid others differ)
+  where
+    by : (t : Bool) → same_guid a b ≡ t → is_among guid (filter (λ c. not (same_guid a c)) others) ≡ is_among guid others
+        → is_among guid (cond (not t) (b ∷ filter (λ c. not (same_guid a c)) others) (filter (λ c. not (same_guid a c)) others)) ≡ same_guid b guid || is_among guid others
+    by false e rest = ap (λ more. same_guid b guid || more) rest
+    by true e rest =
+        let apart : same_guid b guid ≡ false = sym (nat_list_eq_equiv.congr a.0 b.0 guid.0 e) ∙ differ in
+        rest ∙ ap (λ t. t || is_among guid others) (sym apart)
+
+-- each once, the same are among them
+among_firsts : (guid : Guid) (guids : List Guid) → is_among guid (firsts same_guid guids) ≡ is_among guid guids
+among_firsts guid [] = refl
+among_firsts guid (a ∷ rest) = by (same_guid a guid) refl (among_firsts guid rest)
+  where
+    by : (t : Bool) → same_guid a guid ≡ t → is_among guid (firsts same_guid rest) ≡ is_among guid rest
+        → (t || is_among guid (filter (λ b. not (same_guid a b)) (firsts same_guid rest))) ≡ (t || is_among guid rest)
+    by true e more = refl
+    by false e more = left_out a guid (firsts same_guid rest) e ∙ more
+
 once_first : (xs : List Guid) (x : Guid) → once_more (firsts same_guid xs) x ≡ firsts same_guid (xs ++ x ∷ [])
 once_first xs x = ap (λ b. cond b (firsts same_guid xs) (firsts same_guid xs ++ x ∷ [])) (among_firsts x xs) ∙ sym (firsts_more xs x)
 
 -- with one opcode more
-pub one_more : (has : Guid → Bool) (code : List Opcode) (opcode : Opcode) → more_lacking has (lacking has (pushed_by_code code)) opcode ≡ lacking has (pushed_by_code (code ++ opcode ∷ []))
+one_more : (has : Guid → Bool) (code : List Opcode) (opcode : Opcode) → more_lacking has (lacking has (pushed_by_code code)) opcode ≡ lacking has (pushed_by_code (code ++ opcode ∷ []))
 one_more has code opcode = by opcode ∙ ap (lacking has) (sym (flat_map-append pushed_one code (opcode ∷ [])))
   where
     guids : List Guid
@@ -88,23 +111,32 @@ one_more has code opcode = by opcode ∙ ap (lacking has) (sym (flat_map-append 
     by O.False = none
 
 -- the opcodes of a tree push what the tree does
+of_both : {first second : List Opcode} (guids more : List Guid) (last : Opcode) → pushed_one last ≡ [] → pushed_by_code first ≡ guids → pushed_by_code second ≡ more → pushed_by_code (first ++ (second ++ last ∷ [])) ≡ guids ++ more
+of_both {first = first} {second = second} guids more last none is also =
+    flat_map-append pushed_one first (second ++ last ∷ [])
+    ∙ ap (λ xs. pushed_by_code first ++ xs) (flat_map-append pushed_one second (last ∷ []) ∙ ap (λ xs. pushed_by_code second ++ (xs ++ [])) none ∙ append-nil (pushed_by_code second))
+    ∙ ap (λ xs. xs ++ pushed_by_code second) is ∙ ap (λ xs. guids ++ xs) also
+
 tree_code : (node : DepexTree) → pushed_by_code (postfix node) ≡ pushed_by node
 tree_code True = refl
 tree_code False = refl
 tree_code (Push guid) = refl
 tree_code (Not node) = flat_map-append pushed_one (postfix node) (O.Not ∷ []) ∙ append-nil (pushed_by_code (postfix node)) ∙ tree_code node
-tree_code (And first second) = both first second O.And refl
-tree_code (Or first second) = both first second O.Or refl
+tree_code (And first second) = of_both (pushed_by first) (pushed_by second) O.And refl (tree_code first) (tree_code second)
+tree_code (Or first second) = of_both (pushed_by first) (pushed_by second) O.Or refl (tree_code first) (tree_code second)
 
-both : (first second : DepexTree) (last : Opcode) → pushed_one last ≡ [] → pushed_by_code (postfix first ++ (postfix second ++ last ∷ [])) ≡ pushed_by first ++ pushed_by second
-both first second last none =
-    flat_map-append pushed_one (postfix first) (postfix second ++ last ∷ [])
-    ∙ ap (λ xs. pushed_by_code (postfix first) ++ xs) (flat_map-append pushed_one (postfix second) (last ∷ []) ∙ ap (λ xs. pushed_by_code (postfix second) ++ (xs ++ [])) none ∙ append-nil (pushed_by_code (postfix second)))
-    ∙ ap (λ xs. xs ++ pushed_by_code (postfix second)) (tree_code first) ∙ ap (λ xs. pushed_by first ++ xs) (tree_code second)
-
-pub expression_code : (expr : PartExpr) → pushed_by_code (code_in expr) ≡ pushed_in expr
+expression_code : (expr : PartExpr) → pushed_by_code (code_in expr) ≡ pushed_in expr
 expression_code E.Absent = refl
 expression_code (E.Malformed at) = refl
 expression_code (E.Held (D.Before name)) = refl
 expression_code (E.Held (D.After name)) = refl
 expression_code (E.Held (D.Expr sor node)) = tree_code node
+
+-- found opcode by opcode it is the same
+from_is : (has : Guid → Bool) (before code : List Opcode) → lacking_from has (lacking has (pushed_by_code before)) code ≡ lacking has (pushed_by_code (before ++ code))
+from_is has before [] = ap (λ xs. lacking has (pushed_by_code xs)) (sym (append-nil before))
+from_is has before (opcode ∷ code) =
+    ap (λ found. lacking_from has found code) (one_more has before opcode) ∙ from_is has (before ++ opcode ∷ []) code ∙ ap (λ xs. lacking has (pushed_by_code xs)) (append_assoc before (opcode ∷ []) code)
+
+pub lacking_is : (has : Guid → Bool) (expr : PartExpr) → lacking_from has [] (code_in expr) ≡ lacking has (pushed_in expr)
+lacking_is has expr = from_is has [] (code_in expr) ∙ ap (lacking has) (expression_code expr)

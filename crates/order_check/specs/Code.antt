@@ -42,3 +42,8 @@ more_lacking has found O.Or = found
 more_lacking has found O.Not = found
 more_lacking has found O.True = found
 more_lacking has found O.False = found
+
+-- with what opcodes push and is not there, one behind the other
+abbrev pub lacking_from : (Guid → Bool) → List Guid → List Opcode → List Guid
+lacking_from has found [] = found
+lacking_from has found (opcode ∷ code) = lacking_from has (more_lacking has found opcode) code

@@ -1,6 +1,7 @@
 -- How the module of a start is found, and a start among others.
 -- Own.
-use Rattle.std.specs.Prelude.{◌==◌, ◌&&◌, Bool, List, Option, Some, None, list_any}
+use Rattle.std.specs.Prelude.{◌==◌, ◌&&◌, Bool, List, Option, Some, None}
+use Rattle.std.specs.List.{list_any}
 use Rattle.pi_base.specs.Guids.{same_guid}
 use Rattle.catalog_model.specs.declared.catalog.Catalog.{Catalog}
 use Rattle.catalog_model.specs.declared.catalog.Part.{Part}

@@ -6,6 +6,8 @@ use Rattle.catalog_model.specs.declared.catalog.Catalog.{Catalog}
 use Rattle.store_model.specs.HandleState.{HandleState, no_handles}
 use Rattle.store_model.specs.StoreState.{Board, StoreState}
 use Rattle.boot_model.specs.declared.line.Line.{Line}
+use Rattle.boot_model.specs.declared.line.Line.TheVariants as L
+use Rattle.boot_model.specs.declared.line.RunEnd.{RunEnd}
 use Rattle.boot_model.specs.declared.phase_end.PeiEnd.TheVariants.{Handoff}
 use Rattle.boot_model.specs.DxeMachine.{DxeMachine}
 use Rattle.boot_model.specs.DxeRun.{dxe_opening}
@@ -34,9 +36,10 @@ pub record IsBeforeStart (board : Board) (catalog : Catalog) (fuel : ℕ) (print
   pub are : lines ≡ printed ++ line ∷ rest
 
 -- a boot that came to its end: its starts are those of the order, and others only where that does not stop
-pub record HasEnded (board : Board) (catalog : Catalog) (fuel : ℕ) (order : StartOrder) (t : Texts) : Type 0 where
+pub record HasEnded (board : Board) (catalog : Catalog) (fuel : ℕ) (order : StartOrder) (end : RunEnd) (t : Texts) : Type 0 where
   pub lines : List Line
   pub boots : AreFreeLines board catalog fuel lines
+  pub result : (before : List Line) × (lines ≡ before ++ L.Result end ∷ [])
   pub made : ComeFirst (starts_of order.starts) (starts lines)
   pub no_more : is_some order.stop ≡ true → starts lines ≡ starts_of order.starts
   pub text : Appends t.old t.new (text_of lines)

@@ -1,4 +1,5 @@
 pub mod ByOrder
+pub mod Along
 pub mod Against
 pub mod Code
 pub mod Finding

@@ -49,10 +49,12 @@ fn same_start(one: &Start, other: &Start) -> bool
 fn is_among(start: &Start, made: &[AskedStart]) -> bool
     ensures { result ≡ is_among_asked start.now made.now }
 {
-    'made: for asked in made {
+    let mut rest = made;
+    'made: while let [asked, after @ ..] = rest {
         if same_start(start, &asked.start) {
             return true;
         }
+        rest = after;
     }
     false
 }

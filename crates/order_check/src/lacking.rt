@@ -1,10 +1,10 @@
 // The GUIDs that a dependency expression pushes and that are not installed.
-ghost use Rattle.std.specs.Prelude.{◌≡◌, ◌++◌, ◌∷◌, [], if◌then◌else◌, IfOk, OnOk};
+ghost use Rattle.std.specs.Prelude.{◌≡◌, [], IfOk, OnOk};
 ghost use Rattle.store_model.specs.Service.{Present, OfEach};
 ghost use Rattle.store_model.specs.StoreCall.{Anything};
 ghost use Rattle.boot_laws.specs.ChangedGuids.{is_among};
 ghost use Rattle.order_check.specs.Against.{is_installed, lacking, pushed_in};
-ghost use Rattle.order_check.specs.Code.{code_in, more_lacking, once_more, pushed_by_code};
+ghost use Rattle.order_check.specs.Code.{code_in, lacking_from, more_lacking, once_more};
 
 use catalog_model::PartExpr;
 use depex_code::{Depex, GuidSet, Opcode};
@@ -36,10 +36,12 @@ fn is_installed<M: PeiStore>(installed: &Installed<'_, M>, phase: Phase, guid: &
 fn is_among(guid: &Guid, guids: &[Guid]) -> bool
     ensures { result ≡ is_among guid.now guids.now }
 {
-    'guids: for other in guids {
+    let mut rest = guids;
+    'guids: while let [other, after @ ..] = rest {
         if *other == *guid {
             return true;
         }
+        rest = after;
     }
     false
 }
@@ -95,7 +97,7 @@ fn lacking_in<M: PeiStore>(
 ) -> Result<Seq<Guid>, OutOfMemory>
     requires state { Present (M.stands_for installed.now.store.now) Anything }
     ensures { OfEach (M.stands_for installed.now.store.now) Anything
-        (λ s. IfOk result (λ found. found ≡ lacking (is_installed phase s installed.now.handles.now) (pushed_by_code code.now))) }
+        (λ s. IfOk result (λ found. found ≡ lacking_from (is_installed phase s installed.now.handles.now) [] code.now)) }
 {
     let mut found = Seq::new(alloc);
     let mut rest = code;

@@ -1,15 +1,14 @@
-use Rattle.std.proofs.Common.{◌≡◌, ◌++◌, List, length}
-use Rattle.depex_code.specs.declared.opcode.Opcode.{Opcode}
+use Rattle.std.proofs.Common.{◌≡◌, [], length}
 use Rattle.store_model.specs.StoreState.{StoreState}
-use Rattle.order_check.specs.Against.{is_installed, lacking}
-use Rattle.order_check.specs.Code.{pushed_by_code}
+use Rattle.order_check.specs.Against.{is_installed}
+use Rattle.order_check.specs.Code.{lacking_from}
 use Rattle.order_check.proofs.lacking.lacking_in.Given as goal
 
--- what the opcodes so far lack
+-- what was found, with what the opcodes that are left add, is the whole
 abbrev pub invariant-opcodes : goal.invariant-opcodes
 invariant-opcodes g l =
-    (before : List Opcode) × (l.code ≡ before ++ l.rest)
-    × ((s : StoreState) → g.M.PeiStore.stands_for l.installed.now.store.now s → l.found ≡ lacking (is_installed l.phase s l.installed.now.handles.now) (pushed_by_code before))
+    (s : StoreState) → g.M.PeiStore.stands_for l.installed.store.now s
+    → lacking_from (is_installed l.phase s l.installed.handles.now) l.found l.rest ≡ lacking_from (is_installed l.phase s l.installed.handles.now) [] l.code
 
 abbrev pub decreases-opcodes : goal.decreases-opcodes
 decreases-opcodes g l = length l.rest
