@@ -1,6 +1,6 @@
 -- A run of DXE by choices: where a driver is to be chosen, the choices may name one. The group is scheduled of the driver to which BEFORE and AFTER lead from it, where that one waits and may start; then, as everywhere, the machine takes its own step. Before a driver starts, also one of a group that is scheduled already, they let it, or the run is left there.
 -- Own; PI 1.8, volume 2, "DXE Dispatcher", leaves the order to the dispatcher.
-use Rattle.std.specs.Prelude.{◌≡◌, ◌≤◌, ◌+◌, ℕ, Bool, true, false, length, sum_by, List, [], ◌∷◌, Option, Some, None, Result, Ok, Err, OnOk, ⊤}
+use Rattle.std.specs.Prelude.{◌≡◌, ◌≤◌, ◌+◌, ℕ, Bool, false, length, sum_by, List, [], ◌∷◌, Option, Some, None, Result, Ok, Err, OnOk, ⊤}
 use Rattle.std.specs.Io.KnownBytes.{Appends}
 use Rattle.boot_io.specs.declared.halt.Halt.{Halt}
 use Rattle.boot_io.specs.Sink.{AppendsPart}
@@ -103,8 +103,8 @@ TurnsByChoice {S = S} names lets text faults in_pei stands store catalog core qu
     (m : DxeMachine) (fuel : ℕ) (first : S) → IsFor catalog fuel core → IsOnWay stands store catalog core queue m
     → HasPut text faults first m.lines sink
     → TurnsBy (NamesDrivers names text faults in_pei first) (LetsDrivers lets in_pei)
-        (IsNow stands store catalog later grown) (IsLeft stands store catalog later grown) catalog fuel m
-        (record { old = text sink; new = text shown }) before now result
+    (IsNow stands store catalog later grown) (IsLeft stands store catalog later grown) catalog fuel m
+    (record { old = text sink; new = text shown }) before now result
 
 -- a run by choices from an opening that has come to its end
 pub record EndsBy {M : Type 0} (Names : DxeMachine → Option ℕ → Type 0) (Lets : DxeMachine → ℕ → Bool) (stands : M → StoreState → Type 0) (store : M)
@@ -159,7 +159,7 @@ abbrev pub RunsByChoice : {M S : Type 0} → (S → ℕ → Option ℕ → Type 
 RunsByChoice names lets text faults in_pei stands store catalog core sink later queue shown result =
     (s : StoreState) (actions fuel : ℕ) → IsFor catalog fuel core → StandsFor stands store catalog core (dxe_opening catalog s actions)
     → RunsBy (NamesDrivers names text faults in_pei sink) (LetsDrivers lets in_pei) stands store catalog fuel (dxe_opening catalog s actions)
-        later queue (text sink) (text shown) result
+    later queue (text sink) (text shown) result
 
 -- a whole run by choices that has come to its end, and hands its handles on
 pub record HasBooted (Names : DxeMachine → Option ℕ → Type 0) (Lets : DxeMachine → ℕ → Bool) (catalog : Catalog) (fuel : ℕ)
@@ -190,7 +190,7 @@ abbrev pub BootsByChoice : {S : Type 0} → (S → ℕ → Option ℕ → Type 0
     → Catalog → ℕ → ℕ → S → S → Result Left Halt → StoreState → Type 0
 BootsByChoice names lets text faults in_pei catalog fuel taken sink shown result s =
     BootsBy (NamesDrivers names text faults in_pei sink) (LetsDrivers lets in_pei) catalog fuel (dxe_opening catalog s taken) in_pei
-        (text sink) (text shown) result
+    (text sink) (text shown) result
 
 -- the handles that a whole run leaves
 abbrev pub handles_of : Left → HandleState

@@ -105,7 +105,7 @@ abbrev pub Turns : {M : Type 0} → (ℕ → Bool) → (M → StoreState → Typ
 Turns lets stands store catalog core queue later grown old new result =
     (m : DxeMachine) (fuel : ℕ) → IsFor catalog fuel core → IsReady stands store catalog fuel core queue m
     → TurnsTo lets (IsNow stands store catalog later grown) (IsLeft stands store catalog later grown) catalog m (dxe_step catalog fuel m)
-        (record { old = old; new = new }) result
+    (record { old = old; new = new }) result
 
 -- the same from each one that is idle, whatever the store
 abbrev pub TurnsIdle : (ℕ → Bool) → Catalog

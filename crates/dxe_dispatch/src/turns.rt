@@ -1,5 +1,5 @@
 // A turn of the run: a step of the machine.
-ghost use Rattle.std.specs.Prelude.{◌≡◌, ◌≤◌, ◌+◌, ℕ, Bool, [], OnOk};
+ghost use Rattle.std.specs.Prelude.{◌≢◌, ◌≤◌, ◌+◌, ℕ, Bool, [], OnOk};
 ghost use Rattle.boot_io.specs.Halted.{HaltsAfter};
 ghost use Rattle.boot_model.specs.DxeMachine.{DxeMachine};
 ghost use Rattle.catalog_model.specs.WellFormed.{IsWellFormed};
@@ -20,9 +20,7 @@ use catalog_model::Catalog;
 use depex_code::Steps;
 use dxe_choice::DriverQueue;
 use dxe_core::{Dxe, Stepped};
-use free_laws::{
-    Choice, Reached, dxe_chooses_by_groups, dxe_goes_on, dxe_opens, groups_are_aimed,
-};
+use free_laws::{Choice, Reached, dxe_chooses_by_groups, dxe_goes_on, dxe_opens, groups_are_aimed};
 use std::sync::ledger::Ledger;
 use store_model::PeiStore;
 
