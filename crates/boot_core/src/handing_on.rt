@@ -15,14 +15,12 @@ ghost use Rattle.boot_core.specs.HandOff.{result_of, HandsOn, IsHandOff};
 use crate::images::examine;
 use crate::nowhere::Nowhere;
 use boot_io::Halt;
-use boot_laws::pei_runs_end;
 use boot_model::{PeiEnd, RunEnd};
 use boot_plan::Plan;
 use boot_trace::hob_list;
 use catalog_model::Catalog;
-use free_laws::FirstEligible;
 use mem_store::MemStore;
-use pei_dispatch::{Ended, boot_pei};
+use pei_dispatch::{Ended, boot_first_pei};
 use pi_base::{OutOfMemory, Seq};
 use plan_files::NoJob;
 use std::alloc::Global;
@@ -74,17 +72,9 @@ fn run_pei(
     requires some { 1 ≤ length catalog.now.volumes }
     ensures { IfOk result (HandsOn (pei_end (board_of plan.now catalog.now images) catalog.now plan.now.fuel)) }
 {
-    pei_runs_end();
     let roms = roms(alloc, catalog.volumes.as_slice(), images)?;
     let store = MemStore::new(alloc, plan.temp, plan.pages, plan.ram, roms)?;
-    match boot_pei(
-        alloc,
-        store,
-        catalog,
-        plan.fuel,
-        &FirstEligible,
-        &mut Nowhere,
-    ) {
+    match boot_first_pei(alloc, store, catalog, plan.fuel, &mut Nowhere) {
         Ok(ended) => handed_by(alloc, &ended),
         Err(Halt::Sink) => unreachable!(),
         Err(Halt::Memory) => Err(OutOfMemory),

@@ -1,5 +1,5 @@
 -- Where nothing is scheduled, the group of the first eligible driver is, or of the one at which the choice is aimed; and the head of the queue comes next.
-use Rattle.std.proofs.Common.{◌≡◌, ℕ, ◌-◌, ◌<◌, ◌≤◌, ◌==◌, Bool, true, false, true≢false, ◌&&◌, ◌||◌, not, cond, List, [], ◌∷◌, ◌++◌, Option, Some, None, length, drop, reverse, refl, sym, subst, ap, ◌∙◌, arith}
+use Rattle.std.proofs.Common.{◌≡◌, ℕ, suc, ◌+◌, ◌-◌, ◌<◌, ◌≤◌, ◌==◌, Bool, true, false, true≢false, ◌&&◌, ◌||◌, not, cond, List, [], ◌∷◌, ◌++◌, Option, Some, None, length, drop, reverse, refl, sym, subst, ap, ◌∙◌, arith}
 use Rattle.std.proofs.lemmas.List.{length-drop, reverse-append, reverse-reverse}
 use Rattle.std.proofs.Math.ListN.{drop_of_length-le}
 use Rattle.std.proofs.lemmas.Bool.{eqb-true}
@@ -79,13 +79,13 @@ comes_next catalog m queue later (Some next) q t =
     record {
       rest = later.scheduled;
       next_is = ap head_of whole;
-      behind = λ new h. started_row catalog (with_queue m (driver_queue catalog m)) new queue later next q whole t.1 t.2
+      behind = λ new h. started_row catalog (with_queue m (driver_queue catalog m)) new queue later next q whole t.1 t.2 t.3
           (record { scheduled = h.scheduled; started = h.started; discovered = h.discovered; requested = h.requested; handles = h.handles });
     }
   where
-    started_row : (catalog : Catalog) (m new : DxeMachine) (queue later : Queue) (next : Scheduled) → IsQueueOf catalog m queue → m.scheduled ≡ next ∷ later.scheduled → later.waits ≡ queue.waits → later.index ≡ queue.index
+    started_row : (catalog : Catalog) (m new : DxeMachine) (queue later : Queue) (next : Scheduled) → IsQueueOf catalog m queue → m.scheduled ≡ next ∷ later.scheduled → later.left ≡ queue.left + 1 → later.waits ≡ queue.waits → later.index ≡ queue.index
         → HasStarted next.module_number later.scheduled m new → IsQueueOf catalog new later
-    started_row catalog m new queue later next q whole flags same h =
+    started_row catalog m new queue later next q whole left flags same h =
         let is : ℕ → Scheduled → Bool = λ n x. x.module_number == n in
         let gone : (n : ℕ) → is_waiting m n ≡ is_waiting new n =
         λ n. ap (λ xs. not (list_any (is n) xs) && not (has_number m.started n)) whole
@@ -95,6 +95,7 @@ comes_next catalog m queue later (Some next) q t =
         let stands : StandsForDxe catalog new queue.index = stands_scheduled catalog m new [] queue.index queue.index q.index (none_leave queue.index) h.discovered h.requested h.handles (λ n. sym (gone n)) in
         record {
           scheduled = h.scheduled;
+          left = let begun : length new.started ≡ suc (length m.started) = ap length h.started in let was = q.left in omega (arith, left, begun, was);
           waits = λ n. ap (λ fs. waits_at fs n) flags ∙ q.waits n ∙ gone n;
           index = subst (StandsForDxe catalog new) (sym same) stands;
           others = λ n none.
@@ -162,10 +163,10 @@ takes_for catalog queue later None q t = subst (IsQueueFor catalog) (sym t.1) q
 takes_for catalog queue later (Some next) q t =
     let drivers : Each (IsDriver catalog) (next ∷ later.scheduled) = subst (λ xs. Each (IsDriver catalog) xs) t.0 q.drivers in
     record {
-      flags = ap length t.1 ∙ q.flags;
+      flags = ap length t.2 ∙ q.flags;
       drivers = drivers.1;
-      index = subst (IsIndex catalog) (sym t.2) q.index;
-      phase = ap (λ (i : WaitIndex). i.phase) t.2 ∙ q.phase;
+      index = subst (IsIndex catalog) (sym t.3) q.index;
+      phase = ap (λ (i : WaitIndex). i.phase) t.3 ∙ q.phase;
     }
 
 pub takes_driver : (catalog : Catalog) (queue later : Queue) (next : Option Scheduled) → IsQueueFor catalog queue → Takes queue next later → IfSome next (IsDriver catalog)
@@ -174,7 +175,7 @@ takes_driver catalog queue later (Some next) q t = let drivers : Each (IsDriver 
 
 pub takes_owes : (queue later : Queue) (next : Option Scheduled) → Takes queue next later → owed later ≡ owed queue
 takes_owes queue later None t = ap (λ q. owed q) t.1
-takes_owes queue later (Some next) t = ap (λ (i : WaitIndex). W.owed i) t.2
+takes_owes queue later (Some next) t = ap (λ (i : WaitIndex). W.owed i) t.3
 
 -- where the choice is aimed
 aim_by : (catalog : Catalog) (m : DxeMachine) (root : ℕ) (b : Bool) → (is_free m.scheduled && may_be_next catalog m root) ≡ b → aimed catalog m root ≡ cond b (with_queue m (group_scheduled catalog m (Some root))) m

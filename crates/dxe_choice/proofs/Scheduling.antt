@@ -33,11 +33,12 @@ use Rattle.dxe_choice.proofs.Machines.{none_before, stands_changed, stands_come,
 use Rattle.dxe_choice.proofs.Waiting.{leave_then, neither, none_leave}
 
 pub none_scheduled : (queue : Queue) → Schedules queue [] queue
-none_scheduled queue = record { scheduled = sym (append-nil queue.scheduled); waits = λ n. refl; flags = refl; index = none_leave queue.index }
+none_scheduled queue = record { scheduled = sym (append-nil queue.scheduled); left = refl; waits = λ n. refl; flags = refl; index = none_leave queue.index }
 
 pub scheduled_then : (queue mid later : Queue) (a b : List Scheduled) → Schedules queue a mid → Schedules mid b later → Schedules queue (a ++ b) later
 scheduled_then queue mid later a b f g = record {
   scheduled = g.scheduled ∙ ap (λ xs. xs ++ b) f.scheduled ∙ append_assoc queue.scheduled a b;
+  left = g.left ∙ f.left;
   waits = λ n. g.waits n ∙ ap (λ w. not (is_among b n) && w) (f.waits n) ∙ neither (is_among a n) (is_among b n) (waits_at queue.waits n)
       ∙ ap (λ t. not t && waits_at queue.waits n) (sym (list_any-append (λ (next : Scheduled). next.module_number == n) a b));
   flags = g.flags ∙ f.flags;
@@ -62,9 +63,10 @@ clear_at (flag ∷ flags) (suc k) (suc n) h =
 -- one driver behind all that were ever scheduled
 pub one_scheduled : (items new : List Scheduled) (head : ℕ) (flags later : List Bool) (index left : WaitIndex) (x : Scheduled) → head ≤ length items → x.module_number < length flags → new ≡ items ++ x ∷ []
     → later ≡ slice_set flags x.module_number false → Leaves x.module_number index left
-    → Schedules (record { scheduled = drop head items; waits = flags; index = index }) (x ∷ []) (record { scheduled = drop head new; waits = later; index = left })
+    → Schedules (record { scheduled = drop head items; left = head; waits = flags; index = index }) (x ∷ []) (record { scheduled = drop head new; left = head; waits = later; index = left })
 one_scheduled items new head flags later index left x within number more cleared leaves = record {
   scheduled = ap (drop head) more ∙ drop-append-le head items (x ∷ []) within;
+  left = refl;
   waits = λ n. ap (λ fs. waits_at fs n) cleared ∙ clear_at flags x.module_number n number;
   flags = ap length cleared ∙ length-set flags x.module_number false;
   index = leaves;
@@ -104,6 +106,7 @@ scheduled_row catalog m new added queue later q g s t discovered requested handl
     let before : (n : ℕ) → has_number (discovered_order catalog new) n ≡ false → has_number (discovered_order catalog m) n ≡ false = λ n h. ap (λ volumes. has_number (drivers_of catalog volumes) n) (sym discovered) ∙ h in
     record {
       scheduled = s ∙ ap (λ xs. xs ++ added) q.scheduled ∙ sym g.scheduled;
+      left = g.left ∙ q.left ∙ ap length (sym t);
       waits = λ n. g.waits n ∙ ap (λ w. not (is_among added n) && w) (q.waits n) ∙ gone n;
       index = stands_scheduled catalog m new added queue.index later.index q.index g.index discovered requested handles (λ n. sym (gone n));
       others = λ n h. (
@@ -140,6 +143,7 @@ discovers_row catalog m new volumes drivers queue mid later q come g are differ 
     let between : DxeMachine = record m { discovered = m.discovered ++ volumes } in
     let here : IsQueueOf catalog between mid = record {
       scheduled = q.scheduled ∙ sym come.scheduled;
+      left = come.left ∙ q.left;
       waits = λ n. ap (λ fs. waits_at fs n) come.waits ∙ q.waits n;
       index = stands_come catalog m between volumes drivers queue.index mid.index q.index q.others come.phase come.installed come.come are differ refl refl refl (λ n. refl);
       others = λ n h. q.others n (none_before catalog m.discovered volumes n h).0;
@@ -217,29 +221,32 @@ ranked_numbers catalog volume queue none parts numbers empty pushed are flags =
     (subst (λ (n : ℕ). Each (λ k. k < n) (ranked_in catalog volume)) (sym flags) (ranked_below catalog volume))
 
 -- a driver was requested
-pub request_row : (catalog : Catalog) (m new : DxeMachine) (number : ℕ) (queue later : Queue) → later.scheduled ≡ queue.scheduled → later.waits ≡ queue.waits → IsRequested number queue.index later.index
+pub request_row : (catalog : Catalog) (m new : DxeMachine) (number : ℕ) (queue later : Queue) → later.scheduled ≡ queue.scheduled → later.left ≡ queue.left → later.waits ≡ queue.waits → IsRequested number queue.index later.index
     → IsQueueOf catalog m queue → HasRequest catalog number m new → IsQueueOf catalog new later
-request_row catalog m new number queue later scheduled flags is q has = record {
+request_row catalog m new number queue later scheduled left flags is q has = record {
   scheduled = has.scheduled ∙ q.scheduled ∙ sym scheduled;
+  left = left ∙ q.left ∙ ap length (sym has.started);
   waits = λ n. ap (λ fs. waits_at fs n) flags ∙ q.waits n ∙ sym (waiting_same m new has.scheduled has.started n);
   index = stands_requested catalog m new number queue.index later.index q.index is has;
   others = untouched_requested catalog m new number q.others has;
 }
 
 -- a protocol is on a handle now, or on none
-pub change_row : (catalog : Catalog) (m new : DxeMachine) (guid : Guid) (there : Bool) (queue later : Queue) → later.scheduled ≡ queue.scheduled → later.waits ≡ queue.waits → IsSet catalog guid there queue.index later.index
+pub change_row : (catalog : Catalog) (m new : DxeMachine) (guid : Guid) (there : Bool) (queue later : Queue) → later.scheduled ≡ queue.scheduled → later.left ≡ queue.left → later.waits ≡ queue.waits → IsSet catalog guid there queue.index later.index
     → IsQueueOf catalog m queue → HasProtocol guid there m new → IsQueueOf catalog new later
-change_row catalog m new guid there queue later scheduled flags is q has = record {
+change_row catalog m new guid there queue later scheduled left flags is q has = record {
   scheduled = has.scheduled ∙ q.scheduled ∙ sym scheduled;
+  left = left ∙ q.left ∙ ap length (sym has.started);
   waits = λ n. ap (λ fs. waits_at fs n) flags ∙ q.waits n ∙ sym (waiting_same m new has.scheduled has.started n);
   index = stands_changed catalog m new guid there queue.index later.index q.index is has;
   others = untouched_changed catalog m new guid there q.others has;
 }
 
 -- expressions were evaluated
-pub settle_row : (catalog : Catalog) (m : DxeMachine) (queue later : Queue) → later.scheduled ≡ queue.scheduled → later.waits ≡ queue.waits → IsSame queue.index later.index → IsQueueOf catalog m queue → IsQueueOf catalog m later
-settle_row catalog m queue later scheduled flags is q = record {
+pub settle_row : (catalog : Catalog) (m : DxeMachine) (queue later : Queue) → later.scheduled ≡ queue.scheduled → later.left ≡ queue.left → later.waits ≡ queue.waits → IsSame queue.index later.index → IsQueueOf catalog m queue → IsQueueOf catalog m later
+settle_row catalog m queue later scheduled left flags is q = record {
   scheduled = q.scheduled ∙ sym scheduled;
+  left = left ∙ q.left;
   waits = λ n. ap (λ fs. waits_at fs n) flags ∙ q.waits n;
   index = stands_settled catalog m queue.index later.index q.index is;
   others = q.others;

@@ -49,6 +49,7 @@ Turns items stack group (I.Driver number) stack_later group_later = (stack_later
 -- these come to the queue's end, and wait no more
 pub record Schedules (queue : Queue) (added : List Scheduled) (later : Queue) : Type 0 where
   pub scheduled : later.scheduled ≡ queue.scheduled ++ added
+  pub left : later.left ≡ queue.left
   pub waits : (number : ℕ) → waits_at later.waits number ≡ (not (is_among added number) && waits_at queue.waits number)
   pub flags : length later.waits ≡ length queue.waits
   pub index : WaitNoMore (is_among added) queue.index later.index
@@ -56,7 +57,8 @@ pub record Schedules (queue : Queue) (added : List Scheduled) (later : Queue) : 
 -- the head leaves the queue, if there is one
 abbrev pub Takes : Queue → Option Scheduled → Queue → Type 0
 Takes queue None later = (queue.scheduled ≡ []) × (later ≡ queue)
-Takes queue (Some next) later = (queue.scheduled ≡ next ∷ later.scheduled) × (later.waits ≡ queue.waits) × (later.index ≡ queue.index)
+Takes queue (Some next) later =
+    (queue.scheduled ≡ next ∷ later.scheduled) × (later.left ≡ queue.left + 1) × (later.waits ≡ queue.waits) × (later.index ≡ queue.index)
 
 -- all flags are up
 abbrev pub AllWait : List Bool → Type 0
@@ -69,6 +71,7 @@ IsNumberOf queue number = number < length queue.waits
 -- these drivers wait in the index, and the queue is as before
 pub record Come (catalog : Catalog) (drivers : List ℕ) (old new : Queue) : Type 0 where
   pub scheduled : new.scheduled ≡ old.scheduled
+  pub left : new.left ≡ old.left
   pub waits : new.waits ≡ old.waits
   pub phase : new.index.phase ≡ old.index.phase
   pub installed : new.index.installed ≡ old.index.installed

@@ -1,4 +1,4 @@
--- The scheduled queue, and which drivers wait: those that are neither scheduled nor started. Those of the discovered volumes stand in the index, with what they wait for.
+-- The scheduled queue, how many drivers have left it to start, and which drivers wait: those that are neither scheduled nor started. Those of the discovered volumes stand in the index, with what they wait for.
 -- Own; PI 1.8, volume 2, "DXE Dispatcher".
 use Rattle.std.specs.Prelude.{◌≡◌, ◌≤◌, ℕ, ◌+◌, Bool, true, false, List, [], ◌∷◌, ◌++◌, drop, length, Option, Some, None, is_some, slice_get, unwrap_or}
 use Rattle.pi_base.specs.declared.guid.Guid.{Guid}
@@ -18,9 +18,10 @@ use Rattle.wait_index.specs.declared.index.WaitIndex.{WaitIndex}
 use Rattle.wait_index.specs.Dispatch.{StandsForDxe}
 use Rattle.wait_index.specs.Index as W
 
--- what is kept: the queue, by number which drivers wait, and the index of those of the discovered volumes
+-- what is kept: the queue, how many drivers have left it, by number which drivers wait, and the index of those of the discovered volumes
 pub record Queue : Type 0 where
   pub scheduled : List Scheduled
+  pub left : ℕ
   pub waits : List Bool
   pub index : WaitIndex
 
@@ -40,6 +41,7 @@ AreUntouched catalog m =
 -- what is kept is what the machine has
 pub record IsQueueOf (catalog : Catalog) (m : DxeMachine) (queue : Queue) : Type 0 where
   pub scheduled : m.scheduled ≡ queue.scheduled
+  pub left : queue.left ≡ length m.started
   pub waits : (number : ℕ) → waits_at queue.waits number ≡ is_waiting m number
   pub index : StandsForDxe catalog m queue.index
   pub others : AreUntouched catalog m

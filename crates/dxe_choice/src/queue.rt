@@ -46,7 +46,7 @@ impl Model for DriverQueue {
 
     ghost Value = { Queue };
 
-    ghost view = { λ s. record { scheduled = drop s.head s.items; waits = s.waits; index = s.index } };
+    ghost view = { λ s. record { scheduled = drop s.head s.items; left = s.head; waits = s.waits; index = s.index } };
 
     ghost invariant = { λ s. s.head ≤ length s.items };
 }
@@ -197,6 +197,13 @@ impl DriverQueue {
         self.head == self.items.len()
     }
 
+    /// How many drivers have left the queue.
+    pub fn left_count(&self) -> usize
+        ensures { result ≡ self.now.left }
+    {
+        self.head
+    }
+
     /// Whether a driver is neither scheduled nor started.
     pub fn is_waiting(&self, number: u32) -> bool
         ensures { result ≡ waits_at self.now.waits number }
@@ -261,6 +268,7 @@ impl DriverQueue {
         ensures queue { (m : DxeMachine) → IsQueueOf catalog.now m self.old → IsQueueOf catalog.now m self.new }
         ensures made { IsQueueFor catalog.now self.new }
         ensures same { self.new.scheduled ≡ self.old.scheduled }
+        ensures left { self.new.left ≡ self.old.left }
         ensures owes { steps.new + owed self.new ≤ steps.old + owed self.old }
     {
         first_that_may_start(&mut self.index, catalog, steps)
@@ -279,6 +287,7 @@ impl DriverQueue {
         ensures queue { (m : DxeMachine) → IsQueueOf catalog.now m self.old → IsQueueOf catalog.now m self.new }
         ensures made { IsQueueFor catalog.now self.new }
         ensures same { self.new.scheduled ≡ self.old.scheduled }
+        ensures left { self.new.left ≡ self.old.left }
         ensures owes { steps.new + owed self.new ≤ steps.old + owed self.old }
     {
         may_start(&mut self.index, catalog, number, steps)

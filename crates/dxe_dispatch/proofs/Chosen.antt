@@ -1,33 +1,35 @@
 -- A turn by choices, from the machine's own step.
-use Rattle.std.proofs.Common.{◌≡◌, ◌≤◌, ◌<◌, ℕ, ◌+◌, arith, Bool, true, false, true≢false, List, [], ◌++◌, Option, Some, None, Ok, Err, Result, refl, sym, ap, ◌∙◌, subst}
+use Rattle.std.proofs.Common.{◌≡◌, ◌≤◌, ◌<◌, ℕ, ◌+◌, arith, Bool, true, false, true≢false, List, [], length, Option, None, Err, Result, refl, sym, ap, ◌∙◌, subst}
 use Rattle.std.specs.Prelude.{◌↔◌, IsTrue, OnOk}
 use Rattle.boot_io.specs.declared.halt.Halt.{Halt}
 use Rattle.catalog_model.specs.declared.catalog.Catalog.{Catalog}
+use Rattle.catalog_model.specs.Parts.{part_of}
 use Rattle.catalog_model.specs.WellFormed.{IsWellFormed}
+use Rattle.pi_base.specs.declared.phase.Phase.TheVariants.{Dxe}
 use Rattle.store_model.specs.StoreState.{StoreState}
-use Rattle.boot_model.specs.declared.line.Line.{Line}
 use Rattle.boot_model.specs.declared.phase_end.DxeEnd.{DxeEnd}
-use Rattle.boot_model.specs.DxeChoice.{discovered_order}
 use Rattle.boot_model.specs.DxeMachine.{DxeMachine}
 use Rattle.boot_model.specs.DxeStep.{dxe_step}
 use Rattle.boot_laws.specs.UnrequestedDrivers.{WaitForRequest}
 use Rattle.boot_laws.proofs.EachDriver.{has_each_once}
+use Rattle.boot_model.proofs.Distinct.{all_differ, few_below}
+use Rattle.boot_model.proofs.ListFacts.{each_more, within}
 use Rattle.boot_trace.specs.Printing.{Texts}
 use Rattle.driver_order.specs.Order.{Drivers, IsOrderOf}
 use Rattle.dxe_choice.specs.Queue.{IsQueueOf, IsSeen, Queue}
 use Rattle.dxe_core.specs.Standing.{DxeCore}
-use Rattle.dxe_core.specs.Turn.{Printed, PrintedPart}
-use Rattle.free_laws.specs.DxeAim.{FirstEligibleMayStart, GroupsAreAimed, IsChoosing, aimed}
+use Rattle.free_laws.specs.DxeAim.{FirstEligibleMayStart, GroupsAreAimed, aimed}
 use Rattle.free_laws.specs.DxeFree.{OwnDxeStepsAreFree}
-use Rattle.free_laws.specs.DxeUnderWay.{DxeStepsRunOut, IsNearerEnd, IsUnderWay}
+use Rattle.free_laws.specs.DxeUnderWay.{DxeStepsRunOut, IsDriverOf, IsNearerEnd, IsUnderWay}
+use Rattle.free_laws.specs.declared.choice.Reached.{Reached}
 use Rattle.dxe_dispatch.specs.Choices.{Asks, IsAimedBy, IsOnWay, TurnsBy, aimed_at}
 use Rattle.dxe_dispatch.specs.Ends.{IsNow}
-use Rattle.dxe_dispatch.specs.Turns.{AreOf, IsReady, IsWithin, TurnsTo}
+use Rattle.dxe_dispatch.specs.Turns.{AreOf, IsLeft, IsReady, IsWithin, TurnsTo}
 use Rattle.dxe_dispatch.proofs.FirstStarts.{aimed_owns, starts_first}
 use Rattle.dxe_dispatch.proofs.Growing.{step_grew}
 use Rattle.dxe_dispatch.proofs.Requests.{aim_waits, step_waits}
 use Rattle.dxe_dispatch.proofs.Targets.{Aimed, First, IsChosen, IsTarget, Own, first_step, target_is, target_stands}
-use Rattle.dxe_dispatch.proofs.Turning.{none_started}
+use Rattle.dxe_dispatch.proofs.Turning.{none_put}
 
 -- the laws of free steps on which a turn stands
 pub record StepLaws : Type 0 where
@@ -77,6 +79,11 @@ same_lines catalog m target Leads (Own own) = refl
 same_lines catalog m target Leads (First root found c) = refl
 same_lines catalog m target Leads (Aimed root c) = refl
 
+pub same_started : (catalog : Catalog) (m target : DxeMachine) (Leads : ℕ → Type 0) → IsTarget catalog m Leads target → target.started ≡ m.started
+same_started catalog m target Leads (Own own) = refl
+same_started catalog m target Leads (First root found c) = refl
+same_started catalog m target Leads (Aimed root c) = refl
+
 same_actions : (catalog : Catalog) (m target : DxeMachine) (Leads : ℕ → Type 0) → IsTarget catalog m Leads target → target.actions ≡ m.actions
 same_actions catalog m target Leads (Own own) = refl
 same_actions catalog m target Leads (First root found c) = refl
@@ -116,38 +123,28 @@ has_aimed laws Names stands store catalog fuel core kept aim m target well on by
     let is = target_at Names catalog m target laws.first on.now.machine.core.running by in
     record { target = target; aimed = by; is = is; ready = target_ready laws stands store catalog fuel core kept aim m target well on is queue }
 
--- the lines of the target are those of the machine
-printed_from : (m target later : DxeMachine) (t : Texts) → target.lines ≡ m.lines → Printed target later t → Printed m later t
-printed_from m target later t same printed = record { told = printed.told; lines = printed.lines ∙ ap (λ xs. xs ++ printed.told) same; text = printed.text }
-
-part_from : (m target later : DxeMachine) (t : Texts) → target.lines ≡ m.lines → PrintedPart target later t → PrintedPart m later t
-part_from m target later t same part = record { told = part.told; lines = part.lines ∙ ap (λ xs. xs ++ part.told) same; text = part.text }
-
-turned_from : (Now : DxeMachine → Type 0) (m target later : DxeMachine) (t : Texts) (result : Result (Option DxeEnd) Halt) → target.lines ≡ m.lines → TurnsTo Now target later t result → TurnsTo Now m later t result
-turned_from Now m target later t (Ok None) same turned = record { printed = printed_from m target later t same turned.printed; now = turned.now }
-turned_from Now m target later t (Ok (Some how)) same over = record { ended = over.ended; printed = printed_from m target later t same over.printed; now = over.now }
-turned_from Now m target later t (Err halt) same part = part_from m target later t same part
-
 -- the turn that the machine took from there
-pub turned_by : {M : Type 0} (Names : DxeMachine → Option ℕ → Type 0) (stands : M → StoreState → Type 0) (store : M) (catalog : Catalog) (fuel : ℕ) (core later : DxeCore) (aim grown : Queue) (m : DxeMachine) (t : Texts) (before now : ℕ) (result : Result (Option DxeEnd) Halt)
-    → (has : HasAimed Names stands store catalog fuel core aim m) → TurnsTo (IsNow stands store catalog later grown) has.target (dxe_step catalog fuel has.target) t result → OnOk result (IsWithin catalog fuel has.target before now)
-    → TurnsBy Names (IsNow stands store catalog later grown) catalog fuel m t before now result
-turned_by Names stands store catalog fuel core later aim grown m t before now result has turned few = record {
-  target = has.target;
-  aimed = has.aimed;
-  turned = turned_from (IsNow stands store catalog later grown) m has.target (dxe_step catalog fuel has.target) t result (same_lines catalog m has.target Any has.is) turned;
-  few = few;
-}
+pub turned_by : {M : Type 0} (Names : DxeMachine → Option ℕ → Type 0) (Lets : DxeMachine → ℕ → Bool) (stands : M → StoreState → Type 0) (store : M) (catalog : Catalog) (fuel : ℕ) (core later : DxeCore) (aim grown : Queue) (m : DxeMachine) (t : Texts) (before now : ℕ) (result : Result (Option (Reached DxeEnd)) Halt)
+    → (has : HasAimed Names stands store catalog fuel core aim m) → TurnsTo (Lets has.target) (IsNow stands store catalog later grown) (IsLeft stands store catalog later grown) catalog has.target (dxe_step catalog fuel has.target) t result
+    → OnOk result (IsWithin catalog fuel has.target before now) → TurnsBy Names Lets (IsNow stands store catalog later grown) (IsLeft stands store catalog later grown) catalog fuel m t before now result
+turned_by Names Lets stands store catalog fuel core later aim grown m t before now result has turned few = record { target = has.target; aimed = has.aimed; turned = turned; few = few }
 
 -- memory was wanting before it
-pub not_aimed : (Names : DxeMachine → Option ℕ → Type 0) (Now : DxeMachine → Type 0) (catalog : Catalog) (fuel : ℕ) (m target : DxeMachine) (text : Option (List ℕ)) (before now : ℕ) (halt : Halt) → FirstEligibleMayStart → m.ended ≡ None → IsAimedBy Names catalog m target
-    → TurnsBy Names Now catalog fuel m (record { old = text; new = text }) before now (Err halt)
-not_aimed Names Now catalog fuel m target text before now halt law going by = record {
-  target = target;
-  aimed = by;
-  turned = part_from m target (dxe_step catalog fuel target) (record { old = text; new = text }) (same_lines catalog m target Any (target_at Names catalog m target law going by)) (none_started catalog fuel target text);
-  few = tt;
-}
+pub not_aimed : (Names : DxeMachine → Option ℕ → Type 0) (Lets : DxeMachine → ℕ → Bool) (Now Left : DxeMachine → Type 0) (catalog : Catalog) (fuel : ℕ) (m target : DxeMachine) (text : Option (List ℕ)) (before now : ℕ) (halt : Halt) → IsAimedBy Names catalog m target
+    → TurnsBy Names Lets Now Left catalog fuel m (record { old = text; new = text }) before now (Err halt)
+not_aimed Names Lets Now Left catalog fuel m target text before now halt by =
+    record { target = target; aimed = by; turned = none_put (Lets target) catalog target (dxe_step catalog fuel target) text; few = tt }
+
+-- how many starts there were
+pub starts_are : (in_pei : ℕ) (catalog : Catalog) (m target : DxeMachine) (Leads : ℕ → Type 0) (queue : Queue) (starts : ℕ) → starts ≡ in_pei + queue.left → IsQueueOf catalog m queue → IsTarget catalog m Leads target → starts ≡ in_pei + length target.started
+starts_are in_pei catalog m target Leads queue starts counted is aim =
+    counted ∙ ap (λ n. in_pei + n) (is.left ∙ sym (ap length (same_started catalog m target Leads aim)))
+
+-- no more than there are modules
+pub few_started : (catalog : Catalog) (m : DxeMachine) → IsUnderWay catalog m → length m.started ≤ length catalog.modules
+few_started catalog m way =
+    few_below m.started (length catalog.modules) (all_differ m.started way.started_differ)
+    (each_more (IsDriverOf catalog m.discovered) (λ n. n < length catalog.modules) m.started (λ n is. within (part_of Dxe) catalog.modules n is.0) way.started_known)
 
 -- by the order of the core
 pub order_of : (catalog : Catalog) (core : DxeCore) (queue : Queue) (m : DxeMachine) (order : Drivers) → order ≡ core.services.order → AreOf catalog core queue m → IsOrderOf catalog m.discovered order

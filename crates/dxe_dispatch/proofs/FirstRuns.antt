@@ -1,8 +1,7 @@
 -- A run by choices that name none is the run of the machine.
-use Rattle.std.proofs.Common.{◌≡◌, ◌≤◌, ℕ, zero, suc, ◌+◌, arith, true, List, [], ◌∷◌, ◌++◌, Option, Some, None, Ok, Err, Result, refl, sym, ap, ◌∙◌, subst, is_some, length}
+use Rattle.std.proofs.Common.{◌≡◌, ◌≤◌, ℕ, zero, suc, ◌+◌, arith, Bool, true, List, [], ◌∷◌, ◌++◌, Option, Some, None, Ok, refl, sym, ap, ◌∙◌, subst, is_some, length}
 use Rattle.std.specs.Prelude.{sum_by}
 use Rattle.boot_io.specs.Sink.{AppendsPart}
-use Rattle.boot_io.specs.declared.halt.Halt.{Halt}
 use Rattle.catalog_model.specs.declared.catalog.Catalog.{Catalog}
 use Rattle.store_model.specs.StoreState.{StoreState}
 use Rattle.boot_model.specs.declared.line.Line.{Line}
@@ -16,7 +15,7 @@ use Rattle.boot_model.specs.Text.{text_of}
 use Rattle.boot_trace.proofs.Lines.{part_of_longer}
 use Rattle.dxe_choice.specs.Queue.{Queue}
 use Rattle.dxe_core.specs.Standing.{DxeCore}
-use Rattle.dxe_dispatch.specs.Choices.{EvaluatesFewBy, IsAimedBy, IsRunBy, RunsBy, aimed_at, came, changes_of}
+use Rattle.dxe_dispatch.specs.Choices.{EndsBy, EvaluatesFewBy, IsAimedBy, IsRunBy, StopsShort, aimed_at, came, changes_of}
 use Rattle.dxe_dispatch.specs.Ends.{HasEnded, RunsTo, StandsAtEnd}
 use Rattle.dxe_dispatch.proofs.Runs.{goes, run_discovers, run_tells, stays}
 
@@ -48,15 +47,15 @@ steps_then catalog fuel (suc a) b m =
     by None e rest = goes catalog fuel (a + b) m e ∙ rest ∙ ap (dxe_run catalog fuel b) (sym (goes catalog fuel a m e))
 
 -- the machine is that of the run behind as many steps
-run_goes : (Names : DxeMachine → Option ℕ → Type 0) (catalog : Catalog) (fuel n : ℕ) (opening : DxeMachine) (earlier : List DxeMachine) → NamesNone Names → IsRunBy Names catalog fuel opening earlier
+run_goes : (Names : DxeMachine → Option ℕ → Type 0) (Lets : DxeMachine → ℕ → Bool) (catalog : Catalog) (fuel n : ℕ) (opening : DxeMachine) (earlier : List DxeMachine) → NamesNone Names → IsRunBy Names Lets catalog fuel opening earlier
     → dxe_run catalog fuel (length earlier + n) opening ≡ dxe_run catalog fuel n (came catalog fuel opening earlier)
-run_goes Names catalog fuel n opening [] own run =
+run_goes Names Lets catalog fuel n opening [] own run =
     let none : length {A = DxeMachine} [] + n ≡ n = omega arith in
     ap (λ k. dxe_run catalog fuel k opening) none
-run_goes Names catalog fuel n opening (target ∷ earlier) own run =
+run_goes Names Lets catalog fuel n opening (target ∷ earlier) own run =
     let m = came catalog fuel opening earlier in
     let more : length (target ∷ earlier) + n ≡ length earlier + suc n = omega arith in
-    ap (λ k. dxe_run catalog fuel k opening) more ∙ run_goes Names catalog fuel (suc n) opening earlier own run.2 ∙ goes catalog fuel n m run.1
+    ap (λ k. dxe_run catalog fuel k opening) more ∙ run_goes Names Lets catalog fuel (suc n) opening earlier own run.3 ∙ goes catalog fuel n m run.2
     ∙ ap (λ x. dxe_run catalog fuel n (dxe_step catalog fuel x)) (sym (own_target Names catalog m target own run.0))
 
 some : (o : Option DxeEnd) → is_some o ≡ true → (how : DxeEnd) × (o ≡ Some how)
@@ -64,39 +63,42 @@ some None e = absurd (cc)
 some (Some how) e = (how, refl)
 
 -- and the end of the run is ahead of it
-end_ahead : (Names : DxeMachine → Option ℕ → Type 0) (catalog : Catalog) (fuel bound : ℕ) (opening : DxeMachine) (earlier : List DxeMachine) → NamesNone Names → is_some (dxe_run catalog fuel bound opening).ended ≡ true → IsRunBy Names catalog fuel opening earlier
+end_ahead : (Names : DxeMachine → Option ℕ → Type 0) (Lets : DxeMachine → ℕ → Bool) (catalog : Catalog) (fuel bound : ℕ) (opening : DxeMachine) (earlier : List DxeMachine) → NamesNone Names → is_some (dxe_run catalog fuel bound opening).ended ≡ true → IsRunBy Names Lets catalog fuel opening earlier
     → dxe_run catalog fuel bound opening ≡ dxe_run catalog fuel bound (came catalog fuel opening earlier)
-end_ahead Names catalog fuel bound opening earlier own ends run =
+end_ahead Names Lets catalog fuel bound opening earlier own ends run =
     let over = some (dxe_run catalog fuel bound opening).ended ends in
     let far : length earlier + bound ≡ bound + length earlier = omega arith in
     let there : dxe_run catalog fuel (length earlier + bound) opening ≡ dxe_run catalog fuel bound opening =
     ap (λ k. dxe_run catalog fuel k opening) far ∙ steps_then catalog fuel bound (length earlier) opening ∙ stays catalog fuel (length earlier) (dxe_run catalog fuel bound opening) over.0 over.1 in
-    sym there ∙ run_goes Names catalog fuel bound opening earlier own run
+    sym there ∙ run_goes Names Lets catalog fuel bound opening earlier own run
 
 -- where it ended, the run of the machine did
-pub first_end : (Names : DxeMachine → Option ℕ → Type 0) (catalog : Catalog) (fuel bound : ℕ) (opening : DxeMachine) (earlier : List DxeMachine) (how : DxeEnd) → NamesNone Names → is_some (dxe_run catalog fuel bound opening).ended ≡ true
-    → IsRunBy Names catalog fuel opening earlier → (came catalog fuel opening earlier).ended ≡ Some how → came catalog fuel opening earlier ≡ dxe_run catalog fuel bound opening
-first_end Names catalog fuel bound opening earlier how own ends run ended =
-    sym (end_ahead Names catalog fuel bound opening earlier own ends run ∙ stays catalog fuel bound (came catalog fuel opening earlier) how ended)
+pub first_end : (Names : DxeMachine → Option ℕ → Type 0) (Lets : DxeMachine → ℕ → Bool) (catalog : Catalog) (fuel bound : ℕ) (opening : DxeMachine) (earlier : List DxeMachine) (how : DxeEnd) → NamesNone Names → is_some (dxe_run catalog fuel bound opening).ended ≡ true
+    → IsRunBy Names Lets catalog fuel opening earlier → (came catalog fuel opening earlier).ended ≡ Some how → came catalog fuel opening earlier ≡ dxe_run catalog fuel bound opening
+first_end Names Lets catalog fuel bound opening earlier how own ends run ended =
+    sym (end_ahead Names Lets catalog fuel bound opening earlier own ends run ∙ stays catalog fuel bound (came catalog fuel opening earlier) how ended)
 
 -- the lines of the run of the machine begin with those of each machine of it
-pub first_lines : (Names : DxeMachine → Option ℕ → Type 0) (catalog : Catalog) (fuel bound : ℕ) (opening : DxeMachine) (earlier : List DxeMachine) → NamesNone Names → is_some (dxe_run catalog fuel bound opening).ended ≡ true
-    → IsRunBy Names catalog fuel opening earlier → (more : List Line) × ((dxe_run catalog fuel bound opening).lines ≡ (came catalog fuel opening earlier).lines ++ more)
-first_lines Names catalog fuel bound opening earlier own ends run =
+pub first_lines : (Names : DxeMachine → Option ℕ → Type 0) (Lets : DxeMachine → ℕ → Bool) (catalog : Catalog) (fuel bound : ℕ) (opening : DxeMachine) (earlier : List DxeMachine) → NamesNone Names → is_some (dxe_run catalog fuel bound opening).ended ≡ true
+    → IsRunBy Names Lets catalog fuel opening earlier → (more : List Line) × ((dxe_run catalog fuel bound opening).lines ≡ (came catalog fuel opening earlier).lines ++ more)
+first_lines Names Lets catalog fuel bound opening earlier own ends run =
     let more = run_tells catalog fuel bound (came catalog fuel opening earlier) in
-    (more.0, ap (λ (x : DxeMachine). x.lines) (end_ahead Names catalog fuel bound opening earlier own ends run) ∙ more.1)
+    (more.0, ap (λ (x : DxeMachine). x.lines) (end_ahead Names Lets catalog fuel bound opening earlier own ends run) ∙ more.1)
 
 -- what such a run leaves is what the run of the machine leaves
-pub first_leaves : {M : Type 0} (Names : DxeMachine → Option ℕ → Type 0) (stands : M → StoreState → Type 0) (store : M) (catalog : Catalog) (fuel bound : ℕ) (opening : DxeMachine) (later : DxeCore) (queue : Queue) (old new : Option (List ℕ)) (result : Result DxeEnd Halt)
-    → NamesNone Names → is_some (dxe_run catalog fuel bound opening).ended ≡ true → RunsBy Names stands store catalog fuel opening later queue old new result
-    → RunsTo stands store catalog (dxe_run catalog fuel bound opening) later queue old new result
-first_leaves Names stands store catalog fuel bound opening later queue old new (Ok how) own ends by =
+pub first_ends : {M : Type 0} (Names : DxeMachine → Option ℕ → Type 0) (Lets : DxeMachine → ℕ → Bool) (stands : M → StoreState → Type 0) (store : M) (catalog : Catalog) (fuel bound : ℕ) (opening : DxeMachine) (later : DxeCore) (queue : Queue) (how : DxeEnd) (old new : Option (List ℕ))
+    → NamesNone Names → is_some (dxe_run catalog fuel bound opening).ended ≡ true → EndsBy Names Lets stands store catalog fuel opening later queue how old new
+    → RunsTo stands store catalog (dxe_run catalog fuel bound opening) later queue old new (Ok how)
+first_ends Names Lets stands store catalog fuel bound opening later queue how old new own ends by =
     let m = came catalog fuel opening by.earlier in
     let P : DxeMachine → Type 0 = λ end. HasEnded how end old new × StandsAtEnd stands store catalog later queue end in
     let all : P m = (by.ended, by.now) in
-    subst P (first_end Names catalog fuel bound opening by.earlier how own ends by.run by.ended.ended) all
-first_leaves Names stands store catalog fuel bound opening later queue old new (Err halt) own ends by =
-    let more = first_lines Names catalog fuel bound opening by.earlier own ends by.run in
+    subst P (first_end Names Lets catalog fuel bound opening by.earlier how own ends by.run by.ended.ended) all
+
+pub first_halts : (Names : DxeMachine → Option ℕ → Type 0) (Lets : DxeMachine → ℕ → Bool) (catalog : Catalog) (fuel bound : ℕ) (opening : DxeMachine) (old new : Option (List ℕ)) → NamesNone Names → is_some (dxe_run catalog fuel bound opening).ended ≡ true
+    → StopsShort Names Lets catalog fuel opening old new → AppendsPart old new (text_of (dxe_run catalog fuel bound opening).lines)
+first_halts Names Lets catalog fuel bound opening old new own ends by =
+    let more = first_lines Names Lets catalog fuel bound opening by.earlier own ends by.run in
     let P : List Line → Type 0 = λ lines. AppendsPart old new (text_of lines) in
     subst P (sym more.1) (part_of_longer old new (came catalog fuel opening by.earlier).lines more.0 by.part)
 
@@ -130,30 +132,30 @@ changes_stay catalog fuel (suc b) j m over =
         changes_go catalog fuel (b + j) m e ∙ ap (λ n. sum_by (dxe_asked catalog m) (dxe_guids catalog fuel m) + n) (rest later) ∙ sym (changes_go catalog fuel b m e)
 
 -- those of the machines before are among the first
-changes_so_far : (Names : DxeMachine → Option ℕ → Type 0) (catalog : Catalog) (fuel n : ℕ) (opening : DxeMachine) (earlier : List DxeMachine) → NamesNone Names → IsRunBy Names catalog fuel opening earlier
+changes_so_far : (Names : DxeMachine → Option ℕ → Type 0) (Lets : DxeMachine → ℕ → Bool) (catalog : Catalog) (fuel n : ℕ) (opening : DxeMachine) (earlier : List DxeMachine) → NamesNone Names → IsRunBy Names Lets catalog fuel opening earlier
     → dxe_changes catalog fuel (length earlier + n) opening ≡ changes_of catalog fuel earlier + dxe_changes catalog fuel n (came catalog fuel opening earlier)
-changes_so_far Names catalog fuel n opening [] own run =
+changes_so_far Names Lets catalog fuel n opening [] own run =
     let none : length {A = DxeMachine} [] + n ≡ n = omega arith in
     let all = ap (λ k. dxe_changes catalog fuel k opening) none in
     omega (arith, all)
-changes_so_far Names catalog fuel n opening (target ∷ earlier) own run =
+changes_so_far Names Lets catalog fuel n opening (target ∷ earlier) own run =
     let m = came catalog fuel opening earlier in
     let more : length (target ∷ earlier) + n ≡ length earlier + suc n = omega arith in
-    let rest = changes_so_far Names catalog fuel (suc n) opening earlier own run.2 in
-    let one = changes_go catalog fuel n m run.1 in
+    let rest = changes_so_far Names Lets catalog fuel (suc n) opening earlier own run.3 in
+    let one = changes_go catalog fuel n m run.2 in
     let is = own_target Names catalog m target own run.0 in
     let here = ap (λ x. sum_by (dxe_asked catalog x) (dxe_guids catalog fuel x)) is in
     let there = ap (λ x. dxe_changes catalog fuel n (dxe_step catalog fuel x)) is in
     let all = ap (λ k. dxe_changes catalog fuel k opening) more in
     omega (arith, all, rest, one, here, there)
 
-pub first_few : (Names : DxeMachine → Option ℕ → Type 0) (catalog : Catalog) (fuel bound : ℕ) (opening : DxeMachine) (before now : ℕ) → NamesNone Names → is_some (dxe_run catalog fuel bound opening).ended ≡ true → EvaluatesFewBy Names catalog fuel opening before now
+pub first_few : (Names : DxeMachine → Option ℕ → Type 0) (Lets : DxeMachine → ℕ → Bool) (catalog : Catalog) (fuel bound : ℕ) (opening : DxeMachine) (before now : ℕ) → NamesNone Names → is_some (dxe_run catalog fuel bound opening).ended ≡ true → EvaluatesFewBy Names Lets catalog fuel opening before now
     → now ≤ before + dxe_evaluations catalog fuel bound opening (dxe_run catalog fuel bound opening)
-first_few Names catalog fuel bound opening before now own ends by =
+first_few Names Lets catalog fuel bound opening before now own ends by =
     let m = came catalog fuel opening by.earlier in
     let longer = run_discovers catalog fuel bound m in
-    let end_is = ap (λ (x : DxeMachine). length (discovered_order catalog x)) (end_ahead Names catalog fuel bound opening by.earlier own ends by.run) in
+    let end_is = ap (λ (x : DxeMachine). length (discovered_order catalog x)) (end_ahead Names Lets catalog fuel bound opening by.earlier own ends by.run) in
     let far : length by.earlier + bound ≡ bound + length by.earlier = omega arith in
-    let all = sym (changes_so_far Names catalog fuel bound opening by.earlier own by.run) ∙ ap (λ k. dxe_changes catalog fuel k opening) far ∙ changes_stay catalog fuel bound (length by.earlier) opening ends in
+    let all = sym (changes_so_far Names Lets catalog fuel bound opening by.earlier own by.run) ∙ ap (λ k. dxe_changes catalog fuel k opening) far ∙ changes_stay catalog fuel bound (length by.earlier) opening ends in
     let few = by.few in
     omega (arith, longer, end_is, all, few)

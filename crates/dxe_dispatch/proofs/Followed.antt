@@ -1,5 +1,5 @@
 -- The way from a driver to the one to which its names lead.
-use Rattle.std.proofs.Common.{◌≡◌, ℕ, zero, suc, ◌<◌, ◌≤◌, ◌+◌, ◌-◌, Option, Some, None, refl, ap, ◌∙◌, arith}
+use Rattle.std.proofs.Common.{◌≡◌, ℕ, zero, suc, ◌<◌, ◌≤◌, ◌+◌, ◌-◌, Some, None, refl, ap, ◌∙◌, arith}
 use Rattle.catalog_model.specs.declared.catalog.Catalog.{Catalog}
 use Rattle.boot_model.specs.DriverLicence.{target_of}
 use Rattle.boot_model.specs.DxeMachine.{DxeMachine}

@@ -6,6 +6,7 @@ mod Followed
 pub mod Growing
 mod Idle
 mod Openings
+mod Passing
 mod Requests
 mod Runs
 mod Standing

@@ -1,10 +1,10 @@
 -- The core at the opening behind a hand-off.
-use Rattle.std.proofs.Common.{◌≡◌, ℕ, List, [], Option, Result, Ok, Err, subst}
+use Rattle.std.proofs.Common.{◌≡◌, ℕ, ◌+◌, ◌-◌, Bool, List, [], Option, Result, Ok, Err, sym, ◌∙◌, subst, arith}
 use Rattle.std.specs.Prelude.{IfOk}
-use Rattle.boot_io.specs.declared.halt.Halt.{Halt}
 use Rattle.boot_trace.proofs.Lines.{part_none}
 use Rattle.catalog_model.specs.declared.catalog.Catalog.{Catalog}
 use Rattle.store_model.specs.Service.Reading.{fv_bases}
+use Rattle.store_model.specs.HandleState.{HandleState}
 use Rattle.store_model.specs.StoreState.{StoreState}
 use Rattle.boot_model.specs.Discovery.{discoveries}
 use Rattle.boot_model.specs.DxeRun.{dxe_opening, dxe_opening_of}
@@ -12,7 +12,7 @@ use Rattle.boot_model.specs.declared.phase_end.DxeEnd.{DxeEnd}
 use Rattle.boot_model.specs.DxeMachine.{DxeMachine}
 use Rattle.dxe_choice.specs.Queue.{Queue}
 use Rattle.dxe_core.specs.Standing.{DxeCore, IsCoreOf, StandsFor}
-use Rattle.dxe_dispatch.specs.Choices.{LeavesBy, RunsBy, StopsShort}
+use Rattle.dxe_dispatch.specs.Choices.{BarsBy, EndsBy, HasBooted, HasStayed, StopsShort}
 use Rattle.dxe_dispatch.specs.Ends.{IsOpened}
 
 -- the volumes at the bases of the store's FV HOBs have just been discovered
@@ -29,11 +29,19 @@ opened stands store catalog taken bases are (Ok core) is = λ s here. stands_at_
 opened stands store catalog taken bases are (Err fault) is = tt
 
 -- the handles of the last machine are those of the core
-pub left : {M : Type 0} (Names : DxeMachine → Option ℕ → Type 0) (stands : M → StoreState → Type 0) (store : M) (catalog : Catalog) (fuel : ℕ) (opening : DxeMachine) (core : DxeCore) (queue : Queue) (old new : Option (List ℕ)) (result : Result DxeEnd Halt)
-    → RunsBy Names stands store catalog fuel opening core queue old new result → LeavesBy Names catalog fuel opening core.services.handles old new result
-left Names stands store catalog fuel opening core queue old new (Ok how) run = record { earlier = run.earlier; run = run.run; ended = run.ended; has = run.now.machine.core.services.handles }
-left Names stands store catalog fuel opening core queue old new (Err halt) run = run
+pub booted : {M : Type 0} (Names : DxeMachine → Option ℕ → Type 0) (Lets : DxeMachine → ℕ → Bool) (stands : M → StoreState → Type 0) (store : M) (catalog : Catalog) (fuel : ℕ) (opening : DxeMachine) (core : DxeCore) (queue : Queue) (how : DxeEnd) (handles : HandleState) (old new : Option (List ℕ))
+    → handles ≡ core.services.handles → EndsBy Names Lets stands store catalog fuel opening core queue how old new → HasBooted Names Lets catalog fuel opening (record { «end» = how; handles = handles }) old new
+booted Names Lets stands store catalog fuel opening core queue how handles old new same run =
+    record { earlier = run.earlier; run = run.run; ended = run.ended; has = run.now.machine.core.services.handles ∙ sym same }
+
+-- and so are those before a start that is not let; the driver has left the queue
+pub stayed : {M : Type 0} (Names : DxeMachine → Option ℕ → Type 0) (Lets : DxeMachine → ℕ → Bool) (stands : M → StoreState → Type 0) (store : M) (catalog : Catalog) (fuel : ℕ) (opening : DxeMachine) (core : DxeCore) (queue : Queue) (number : ℕ) (handles : HandleState) (in_pei starts : ℕ) (old new : Option (List ℕ))
+    → handles ≡ core.services.handles → starts ≡ in_pei + queue.left → BarsBy Names Lets stands store catalog fuel opening core queue number old new
+    → HasStayed Names Lets catalog fuel opening in_pei (record { number = number; handles = handles; starts = starts - 1 }) old new
+stayed Names Lets stands store catalog fuel opening core queue number handles in_pei starts old new same counted run =
+    let left = run.left.left in
+    record { earlier = run.earlier; run = run.run; bars = run.bars; has = run.left.machine.core.services.handles ∙ sym same; starts_are = omega (arith, counted, left) }
 
 -- memory is wanting before anything ran
-pub none_ran : (Names : DxeMachine → Option ℕ → Type 0) (catalog : Catalog) (fuel : ℕ) (opening : DxeMachine) (old : Option (List ℕ)) → StopsShort Names catalog fuel opening old old
-none_ran Names catalog fuel opening old = record { earlier = []; run = tt; part = part_none old _ }
+pub none_ran : (Names : DxeMachine → Option ℕ → Type 0) (Lets : DxeMachine → ℕ → Bool) (catalog : Catalog) (fuel : ℕ) (opening : DxeMachine) (old : Option (List ℕ)) → StopsShort Names Lets catalog fuel opening old old
+none_ran Names Lets catalog fuel opening old = record { earlier = []; run = tt; part = part_none old _ }

@@ -1,5 +1,5 @@
 -- The machine for which the core and the queue stand, seen by what chooses the next driver, and with other lines.
-use Rattle.std.proofs.Common.{◌≡◌, ℕ, ◌==◌, ◌&&◌, not, List, None, refl, sym, ap, ◌∙◌, subst}
+use Rattle.std.proofs.Common.{◌≡◌, ℕ, ◌==◌, ◌&&◌, not, List, length, None, refl, sym, ap, ◌∙◌, subst}
 use Rattle.std.specs.List.{list_any}
 use Rattle.pi_base.specs.declared.guid.Guid.{Guid}
 use Rattle.pi_base.specs.declared.phase.Phase.TheVariants.{Dxe}
@@ -33,6 +33,7 @@ queue_same catalog queue m later is discovered requested scheduled started proto
     ∙ ap (λ ns. not (list_any (λ (next : Scheduled). next.module_number == n) m.scheduled) && not (has_number ns n)) started in
     record {
       scheduled = scheduled ∙ is.scheduled;
+      left = is.left ∙ ap length (sym started);
       waits = λ n. is.waits n ∙ sym (waiting n);
       index = record {
         phase = stands.phase;

@@ -17,7 +17,9 @@ use Rattle.dxe_choice.specs.Aim.{aimed as aimed_if, is_free, may_be_next}
 use Rattle.dxe_core.specs.Standing.{DxeCore, IsCoreOf, StandsFor}
 use Rattle.free_laws.specs.DxeAim.{FirstEligibleMayStart, GroupsAreAimed, IsChoosing, aimed}
 use Rattle.free_laws.specs.DxeFree.{IsOwnCase}
+use Rattle.dxe_choice.specs.Queue.{Queue}
 use Rattle.dxe_dispatch.specs.Choices.{IsAimedBy, aimed_at, root_of}
+use Rattle.dxe_dispatch.specs.Turns.{IsLeft}
 
 -- a driver is chosen that may be scheduled, and of which this is so
 pub record IsChosen (catalog : Catalog) (m : DxeMachine) (Leads : ℕ → Type 0) (root : ℕ) : Type 0 where
@@ -161,6 +163,22 @@ pub target_stands : {M : Type 0} (stands : M → StoreState → Type 0) (store :
 target_stands stands store catalog core m target Leads (Own own) s = s
 target_stands stands store catalog core m target Leads (First root found chosen) s = s
 target_stands stands store catalog core m target Leads (Aimed root chosen) s = record { store = s.store; core = core_aimed catalog core m (group_scheduled catalog m (Some root)) s.core }
+
+-- and back
+core_before : (catalog : Catalog) (core : DxeCore) (m : DxeMachine) (scheduled : List Scheduled) → IsCoreOf catalog core (record m { scheduled = scheduled }) → IsCoreOf catalog core m
+core_before catalog core m scheduled is = record {
+  frames = is.frames;
+  services = record { handles = is.services.handles; notes = is.services.notes; order = is.services.order; requested = is.services.requested };
+  actions = is.actions;
+  running = is.running;
+}
+
+pub left_before : {M : Type 0} (stands : M → StoreState → Type 0) (store : M) (catalog : Catalog) (core : DxeCore) (queue : Queue) (m target : DxeMachine) (Leads : ℕ → Type 0) → IsTarget catalog m Leads target → IsLeft stands store catalog core queue target
+    → IsLeft stands store catalog core queue m
+left_before stands store catalog core queue m target Leads (Own own) s = s
+left_before stands store catalog core queue m target Leads (First root found chosen) s = s
+left_before stands store catalog core queue m target Leads (Aimed root chosen) s =
+    record { machine = record { store = s.machine.store; core = core_before catalog core m (group_scheduled catalog m (Some root)) s.machine.core }; left = s.left }
 
 -- the first eligible driver starts as if the choice were aimed at it
 start_same : (catalog : Catalog) (m : DxeMachine) (scheduled : List Scheduled) (next : Scheduled) (queue : List Scheduled) (part : Option Part)

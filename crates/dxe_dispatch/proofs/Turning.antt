@@ -1,11 +1,12 @@
 -- A turn, from what its parts leave.
-use Rattle.std.proofs.Common.{◌≡◌, ◌≤◌, ℕ, ◌+◌, List, [], ◌++◌, Option, Some, None, Ok, Err, Result, refl, sym, ap, ◌∙◌, subst, length, drop, arith}
+use Rattle.std.proofs.Common.{◌≡◌, ◌≤◌, ℕ, ◌+◌, Bool, true, false, List, [], ◌++◌, Option, Some, None, Ok, Err, Result, refl, sym, ap, ◌∙◌, subst, length, drop, arith, inl, inr}
 use Rattle.std.specs.Prelude.{IsErr, OnOk, sum_by}
 use Rattle.std.specs.Option.{option_to_list}
 use Rattle.std.proofs.lemmas.Grind.{flat_map-append}
 use Rattle.std.proofs.lemmas.List.{append-nil, length-append, drop_at}
 use Rattle.std.specs.Io.KnownBytes.{Appends}
-use Rattle.boot_io.proofs.PutsLaws.{appends_then, part_then}
+use Rattle.boot_io.proofs.PutsLaws.{appends_none}
+use Rattle.boot_io.specs.Sink.{AppendsPart}
 use Rattle.boot_io.specs.declared.halt.Halt.{Halt}
 use Rattle.pi_base.specs.declared.phase.Phase.TheVariants.{Dxe}
 use Rattle.catalog_model.specs.declared.catalog.Catalog.{Catalog}
@@ -30,38 +31,54 @@ use Rattle.dxe_core.specs.Standing.{DxeCore, StandsFor}
 use Rattle.dxe_core.specs.Steps.{IsIdle, IsEvent, HasOver, HasStepped, HasEnded}
 use Rattle.dxe_core.specs.Turn.{Printed, PrintedPart}
 use Rattle.boot_trace.specs.Printing.{Texts}
+use Rattle.free_laws.specs.declared.choice.Reached.{Reached}
+use Rattle.free_laws.specs.declared.choice.Reached.TheVariants as R
 use Rattle.dxe_dispatch.specs.Ends.{IsNow}
 use Rattle.dxe_dispatch.specs.Events.{HasEvent}
-use Rattle.dxe_dispatch.specs.Turns.{AreOf, HasTurned, IsOver, IsWithin, TurnsTo, stop_lines}
-use Rattle.dxe_dispatch.proofs.Idle.{step_starts, step_stops, started_queue}
-use Rattle.dxe_dispatch.proofs.Growing.{step_grew}
-use Rattle.boot_trace.proofs.Lines.{part_none, part_whole}
+use Rattle.dxe_dispatch.specs.Turns.{AreLeft, AreOf, HasTurned, IsGivenUp, IsHeldBack, IsLeft, IsOver, IsWithin, TurnsTo, stop_lines}
+use Rattle.dxe_dispatch.proofs.Idle.{left_queue, step_starts, step_stops, started_queue}
+use Rattle.dxe_dispatch.proofs.Passing.{busy_passes, passes, starting, stop_passes}
+use Rattle.boot_trace.proofs.Lines.{part_whole}
 use Rattle.dxe_dispatch.proofs.Runs.{discovered_more}
 use Rattle.dxe_dispatch.proofs.Standing.{now_still}
 
--- the start of the driver that comes next
-pub starts_so : (catalog : Catalog) (fuel : ℕ) (later : DxeCore) (grown : Queue) (m : DxeMachine) (next : Scheduled) (t : Texts) (chosen : IsNext catalog m next grown) → IsIdle m → IsDriver catalog next
+-- the start of the driver that comes next, which is let
+pub starts_so : (lets : ℕ → Bool) (catalog : Catalog) (fuel : ℕ) (later : DxeCore) (grown : Queue) (m : DxeMachine) (next : Scheduled) (t : Texts) (chosen : IsNext catalog m next grown) → IsIdle m → IsDriver catalog next → lets next.module_number ≡ true
     → HasStepped (HasOver catalog later m) m (driver_started catalog m next chosen.rest (part_at Dxe catalog next.module_number)) t
-    → HasTurned (AreOf catalog later grown) m (dxe_step catalog fuel m) t
-starts_so catalog fuel later grown m next t chosen idle driver stepped =
-    let P : DxeMachine → Type 0 = λ x. HasTurned (AreOf catalog later grown) m x t in
-    let turned : P (driver_started catalog m next chosen.rest (part_at Dxe catalog next.module_number)) =
-    record { printed = stepped.printed; now = record { core = stepped.machine.core; queue = started_queue catalog m next grown chosen driver } } in
+    → HasTurned lets (AreOf catalog later grown) catalog m (dxe_step catalog fuel m) t
+starts_so lets catalog fuel later grown m next t chosen idle driver may stepped =
+    let P : DxeMachine → Type 0 = λ x. HasTurned lets (AreOf catalog later grown) catalog m x t in
+    let turned : P (driver_started catalog m next chosen.rest (part_at Dxe catalog next.module_number)) = record {
+      passes = passes lets catalog m next chosen.rest idle chosen.next_is may;
+      printed = stepped.printed;
+      now = record { core = stepped.machine.core; queue = started_queue catalog m next grown chosen driver };
+    } in
     subst P (sym (step_starts catalog fuel m next chosen.rest idle chosen.next_is)) turned
 
+-- it is not let, and has left the queue
+pub stays_so : (lets : ℕ → Bool) (catalog : Catalog) (core : DxeCore) (queue grown : Queue) (m : DxeMachine) (next : Scheduled) (text : Option (List ℕ)) (chosen : IsNext catalog m next grown) → IsIdle m → AreOf catalog core queue m → lets next.module_number ≡ false
+    → IsHeldBack lets (AreLeft catalog core grown) catalog m next.module_number (record { old = text; new = text })
+stays_so lets catalog core queue grown m next text chosen idle are barred = record {
+  starting = starting catalog m next chosen.rest idle chosen.next_is;
+  barred = barred;
+  text = appends_none text;
+  left = record { core = are.core; left = left_queue catalog m next grown chosen };
+}
+
 -- where no driver comes next, DXE stops
-pub stops_so : (catalog : Catalog) (fuel : ℕ) (core : DxeCore) (queue grown : Queue) (m : DxeMachine) (t : Texts) → IsIdle m → AreOf catalog core queue m → ComesNext catalog m None grown
-    → Appends t.old t.new (text_of (stop_lines catalog m)) → IsOver (AreOf catalog core grown) m (dxe_step catalog fuel m) Done t
-stops_so catalog fuel core queue grown m t idle are none put =
-    let P : DxeMachine → Type 0 = λ x. IsOver (AreOf catalog core grown) m x Done t in
+pub stops_so : (lets : ℕ → Bool) (catalog : Catalog) (fuel : ℕ) (core : DxeCore) (queue grown : Queue) (m : DxeMachine) (t : Texts) → IsIdle m → AreOf catalog core queue m → ComesNext catalog m None grown
+    → Appends t.old t.new (text_of (stop_lines catalog m)) → IsOver lets (AreOf catalog core grown) catalog m (dxe_step catalog fuel m) Done t
+stops_so lets catalog fuel core queue grown m t idle are none put =
+    let P : DxeMachine → Type 0 = λ x. IsOver lets (AreOf catalog core grown) catalog m x Done t in
     let services = are.core.services in
     let index = none.1.index in
     let over : P (dxe_stopped catalog m) = record {
+      passes = stop_passes lets catalog m idle none.0;
       ended = refl;
       printed = record { told = stop_lines catalog m; lines = refl; text = put };
       now = record {
         core = record { frames = are.core.frames; services = record { handles = services.handles; notes = services.notes; order = services.order; requested = services.requested }; actions = are.core.actions; running = refl };
-        queue = record { scheduled = none.1.scheduled; waits = none.1.waits; index = record { phase = index.phase; order = index.order; waits = index.waits; opens = index.opens; again = index.again; installed = index.installed }; others = none.1.others };
+        queue = record { scheduled = none.1.scheduled; left = none.1.left; waits = none.1.waits; index = record { phase = index.phase; order = index.order; waits = index.waits; opens = index.opens; again = index.again; installed = index.installed }; others = none.1.others };
       };
     } in
     subst P (sym (step_stops catalog fuel m idle none.0)) over
@@ -94,10 +111,10 @@ new_drivers catalog fuel m event queue order is o here once =
     }
 
 -- the event behind which the core stands for the later machine, with the queue that was told of it
-pub event_so : {M : Type 0} (stands : M → StoreState → Type 0) (store : M) (catalog : Catalog) (fuel : ℕ) (later : DxeCore) (mid grown : Queue) (m : DxeMachine) (event : Event) (t : Texts)
-    → IsEvent catalog fuel m event → HasStepped (StandsFor stands store catalog later) m (dxe_step catalog fuel m) t → IsQueueOf catalog (told m (dxe_step catalog fuel m)) mid
-    → Discovers catalog mid (drop event.known later.services.order.volumes) grown → HasTurned (IsNow stands store catalog later grown) m (dxe_step catalog fuel m) t
-event_so stands store catalog fuel later mid grown m event t is stepped here discovers =
+pub event_so : {M : Type 0} (lets : ℕ → Bool) (stands : M → StoreState → Type 0) (store : M) (catalog : Catalog) (fuel : ℕ) (later : DxeCore) (mid grown : Queue) (m : DxeMachine) (event : Event) (t : Texts)
+    → (IsIdle m → ⊥) → IsEvent catalog fuel m event → HasStepped (StandsFor stands store catalog later) m (dxe_step catalog fuel m) t → IsQueueOf catalog (told m (dxe_step catalog fuel m)) mid
+    → Discovers catalog mid (drop event.known later.services.order.volumes) grown → HasTurned lets (IsNow stands store catalog later grown) catalog m (dxe_step catalog fuel m) t
+event_so lets stands store catalog fuel later mid grown m event t busy is stepped here discovers =
     let step : DxeMachine = dxe_step catalog fuel m in
     let new = behind later.services.order.volumes m step event.known is.volumes stepped.machine.core.services.order.volumes_are is.known is.discovered in
     let has : HasVolumes catalog (drop event.known later.services.order.volumes) (told m step) step = record {
@@ -107,7 +124,7 @@ event_so stands store catalog fuel later mid grown m event t is stepped here dis
       requested = refl;
       handles = refl;
     } in
-    record { printed = stepped.printed; now = record { machine = stepped.machine; queue = discovers (told m step) step here has } }
+    record { passes = busy_passes lets catalog m busy; printed = stepped.printed; now = record { machine = stepped.machine; queue = discovers (told m step) step here has } }
 
 -- what has to be evaluated behind it
 pub event_owes : (catalog : Catalog) (fuel : ℕ) (m : DxeMachine) (event : Event) (volumes : List ℕ) (steps before told_owes now : ℕ) → IsEvent catalog fuel m event → volumes ≡ (dxe_step catalog fuel m).discovered
@@ -135,16 +152,19 @@ owes_still catalog fuel m before now few =
     sums : (before now here there by_step : ℕ) → now ≤ before → here ≤ there → now + here ≤ before + (there + by_step)
     sums before now here there by_step few more = omega (arith, few, more)
 
--- all that was put is a part
-pub whole_part : (m later : DxeMachine) (t : Texts) → Printed m later t → PrintedPart m later t
-whole_part m later t printed = record { told = printed.told; lines = printed.lines; text = part_whole t.old t.new (text_of printed.told) printed.text }
+-- all of a step of a script was put, which is a part
+pub whole_part : (lets : ℕ → Bool) (catalog : Catalog) (m later : DxeMachine) (t : Texts) → (IsIdle m → ⊥) → Printed m later t → IsGivenUp lets catalog m later t
+whole_part lets catalog m later t busy printed =
+    inr (busy_passes lets catalog m busy, record { told = printed.told; lines = printed.lines; text = part_whole t.old t.new (text_of printed.told) printed.text })
 
 -- the machine ends and nothing else changes
-pub ends_so : {M : Type 0} (stands : M → StoreState → Type 0) (store : M) (catalog : Catalog) (fuel : ℕ) (later : DxeCore) (queue : Queue) (m : DxeMachine) (end : DxeEnd) (t : Texts)
-    → HasEnded (StandsFor stands store catalog later) catalog fuel m end t → IsQueueOf catalog m queue → IsOver (IsNow stands store catalog later queue) m (dxe_step catalog fuel m) end t
-ends_so stands store catalog fuel later queue m end t ended was =
-    let P : DxeMachine → Type 0 = λ x. IsOver (IsNow stands store catalog later queue) m x end t in
+pub ends_so : {M : Type 0} (lets : ℕ → Bool) (stands : M → StoreState → Type 0) (store : M) (catalog : Catalog) (fuel : ℕ) (later : DxeCore) (queue : Queue) (m : DxeMachine) (end : DxeEnd) (t : Texts)
+    → (IsIdle m → ⊥) → HasEnded (StandsFor stands store catalog later) catalog fuel m end t → IsQueueOf catalog m queue
+    → IsOver lets (IsNow stands store catalog later queue) catalog m (dxe_step catalog fuel m) end t
+ends_so lets stands store catalog fuel later queue m end t busy ended was =
+    let P : DxeMachine → Type 0 = λ x. IsOver lets (IsNow stands store catalog later queue) catalog m x end t in
     let over : P (record m { ended = Some end }) = record {
+      passes = busy_passes lets catalog m busy;
       ended = refl;
       printed = record { told = []; lines = sym (append-nil m.lines); text = ended.stayed.text };
       now = now_still stands store catalog later queue m m.lines (record { machine = ended.stayed.machine; queue = was });
@@ -157,21 +177,31 @@ now_over : {M : Type 0} (stands : M → StoreState → Type 0) (store : M) (cata
 now_over stands store catalog core queue m later here same are =
     record { machine = record { store = let P : StoreState → Type 0 = λ s. stands store s in subst P (sym same) here; core = are.core }; queue = are.queue }
 
--- nothing was put before a start or the stop
-pub turns_after : {M : Type 0} (stands : M → StoreState → Type 0) (store : M) (catalog : Catalog) (fuel : ℕ) (m : DxeMachine) (later : DxeCore) (queue : Queue) (old mid new : Option (List ℕ)) (r : Result (Option DxeEnd) Halt)
-    → stands store m.store → Appends old mid [] → TurnsTo (AreOf catalog later queue) m (dxe_step catalog fuel m) (record { old = mid; new = new }) r
-    → TurnsTo (IsNow stands store catalog later queue) m (dxe_step catalog fuel m) (record { old = old; new = new }) r
-turns_after stands store catalog fuel m later queue old mid new (Ok None) here f turned = record {
-  printed = record { told = turned.printed.told; lines = turned.printed.lines; text = appends_then old mid new [] (text_of turned.printed.told) f turned.printed.text };
+left_over : {M : Type 0} (stands : M → StoreState → Type 0) (store : M) (catalog : Catalog) (core : DxeCore) (queue : Queue) (m : DxeMachine) → stands store m.store → AreLeft catalog core queue m → IsLeft stands store catalog core queue m
+left_over stands store catalog core queue m here are = record { machine = record { store = here; core = are.core }; left = are.left }
+
+-- a start or the stop leaves the store
+pub turns_over : {M : Type 0} (lets : ℕ → Bool) (stands : M → StoreState → Type 0) (store : M) (catalog : Catalog) (fuel : ℕ) (m : DxeMachine) (later : DxeCore) (queue : Queue) (t : Texts) (r : Result (Option (Reached DxeEnd)) Halt)
+    → stands store m.store → TurnsTo lets (AreOf catalog later queue) (AreLeft catalog later queue) catalog m (dxe_step catalog fuel m) t r
+    → TurnsTo lets (IsNow stands store catalog later queue) (IsLeft stands store catalog later queue) catalog m (dxe_step catalog fuel m) t r
+turns_over lets stands store catalog fuel m later queue t (Ok None) here turned = record {
+  passes = turned.passes;
+  printed = turned.printed;
   now = now_over stands store catalog later queue m (dxe_step catalog fuel m) here (driver_steps_grow catalog fuel m).store turned.now;
 }
-turns_after stands store catalog fuel m later queue old mid new (Ok (Some how)) here f over = record {
+turns_over lets stands store catalog fuel m later queue t (Ok (Some (R.End how))) here over = record {
+  passes = over.passes;
   ended = over.ended;
-  printed = record { told = over.printed.told; lines = over.printed.lines; text = appends_then old mid new [] (text_of over.printed.told) f over.printed.text };
+  printed = over.printed;
   now = now_over stands store catalog later queue m (record (dxe_step catalog fuel m) { ended = None }) here (driver_steps_grow catalog fuel m).store over.now;
 }
-turns_after stands store catalog fuel m later queue old mid new (Err halt) here f part =
-    record { told = part.told; lines = part.lines; text = part_then old mid new [] (text_of part.told) f part.text }
+turns_over lets stands store catalog fuel m later queue t (Ok (Some (R.Barred number))) here held = record {
+  starting = held.starting;
+  barred = held.barred;
+  text = held.text;
+  left = left_over stands store catalog later queue m here held.left;
+}
+turns_over lets stands store catalog fuel m later queue t (Err halt) here up = up
 
 pub on_ok : {A E P Q : Type 0} (result : Result A E) → (P → Q) → OnOk result P → OnOk result Q
 on_ok (Ok done) f p = f p
@@ -182,16 +212,24 @@ pub not_ok : {A E : Type 0} (P : Type 0) (result : Result A E) → IsErr result 
 not_ok P (Ok done) e = cc
 not_ok P (Err fault) e = tt
 
--- nothing was put of a step's lines
-pub none_started : (catalog : Catalog) (fuel : ℕ) (m : DxeMachine) (text : Option (List ℕ)) → PrintedPart m (dxe_step catalog fuel m) (record { old = text; new = text })
-none_started catalog fuel m text =
-    let most : ℕ = fuel + m.actions + 1 in
-    let grew = step_grew catalog fuel most m (omega arith) (omega arith) in
-    record { told = grew.told; lines = grew.lines; text = part_none text (text_of grew.told) }
-
--- a start was put in part
-pub part_started : (catalog : Catalog) (fuel : ℕ) (m : DxeMachine) (next : Scheduled) (grown : Queue) (t : Texts) (chosen : IsNext catalog m next grown) → IsIdle m
-    → PrintedPart m (driver_started catalog m next chosen.rest (part_at Dxe catalog next.module_number)) t → PrintedPart m (dxe_step catalog fuel m) t
-part_started catalog fuel m next grown t chosen idle part =
+-- a start that is let was put in part
+pub part_started : (lets : ℕ → Bool) (catalog : Catalog) (fuel : ℕ) (m : DxeMachine) (next : Scheduled) (grown : Queue) (t : Texts) (chosen : IsNext catalog m next grown) → IsIdle m → lets next.module_number ≡ true
+    → PrintedPart m (driver_started catalog m next chosen.rest (part_at Dxe catalog next.module_number)) t → IsGivenUp lets catalog m (dxe_step catalog fuel m) t
+part_started lets catalog fuel m next grown t chosen idle may part =
     let P : DxeMachine → Type 0 = λ x. PrintedPart m x t in
-    subst P (sym (step_starts catalog fuel m next chosen.rest idle chosen.next_is)) part
+    inr (passes lets catalog m next chosen.rest idle chosen.next_is may, subst P (sym (step_starts catalog fuel m next chosen.rest idle chosen.next_is)) part)
+
+-- the stop was put in part
+pub part_stopped : (lets : ℕ → Bool) (catalog : Catalog) (fuel : ℕ) (m : DxeMachine) (grown : Queue) (t : Texts) → IsIdle m → ComesNext catalog m None grown → AppendsPart t.old t.new (text_of (stop_lines catalog m)) → IsGivenUp lets catalog m (dxe_step catalog fuel m) t
+part_stopped lets catalog fuel m grown t idle none put =
+    let P : DxeMachine → Type 0 = λ x. PrintedPart m x t in
+    let part : P (dxe_stopped catalog m) = record { told = stop_lines catalog m; lines = refl; text = put } in
+    inr (stop_passes lets catalog m idle none.0, subst P (sym (step_stops catalog fuel m idle none.0)) part)
+
+-- a step of a script that runs was put in part
+pub part_acted : (lets : ℕ → Bool) (catalog : Catalog) (fuel : ℕ) (m : DxeMachine) (t : Texts) → (IsIdle m → ⊥) → PrintedPart m (dxe_step catalog fuel m) t → IsGivenUp lets catalog m (dxe_step catalog fuel m) t
+part_acted lets catalog fuel m t busy part = inr (busy_passes lets catalog m busy, part)
+
+-- nothing was put
+pub none_put : (lets : ℕ → Bool) (catalog : Catalog) (m later : DxeMachine) (text : Option (List ℕ)) → IsGivenUp lets catalog m later (record { old = text; new = text })
+none_put lets catalog m later text = inl (appends_none text)

@@ -1,6 +1,7 @@
--- A run of DXE by choices: where a driver is to be chosen, the choices may name one. The group is scheduled of the driver to which BEFORE and AFTER lead from it, where that one waits and may start; then, as everywhere, the machine takes its own step.
+-- A run of DXE by choices: where a driver is to be chosen, the choices may name one. The group is scheduled of the driver to which BEFORE and AFTER lead from it, where that one waits and may start; then, as everywhere, the machine takes its own step. Before a driver starts, also one of a group that is scheduled already, they let it, or the run is left there.
 -- Own; PI 1.8, volume 2, "DXE Dispatcher", leaves the order to the dispatcher.
-use Rattle.std.specs.Prelude.{◌≡◌, ◌≤◌, ◌+◌, ℕ, length, sum_by, List, [], ◌∷◌, Option, Some, None, Result, Ok, Err, OnOk, ⊤}
+use Rattle.std.specs.Prelude.{◌≡◌, ◌≤◌, ◌+◌, ℕ, Bool, false, length, sum_by, List, [], ◌∷◌, Option, Some, None, Result, Ok, Err, OnOk, ⊤}
+use Rattle.std.specs.Io.KnownBytes.{Appends}
 use Rattle.boot_io.specs.declared.halt.Halt.{Halt}
 use Rattle.boot_io.specs.Sink.{AppendsPart}
 use Rattle.catalog_model.specs.declared.catalog.Catalog.{Catalog}
@@ -17,13 +18,18 @@ use Rattle.boot_laws.specs.UnrequestedDrivers.{WaitForRequest}
 use Rattle.boot_trace.specs.Printing.{Texts}
 use Rattle.free_laws.specs.DxeAim.{IsChoosing, follows}
 use Rattle.free_laws.specs.DxeUnderWay.{IsUnderWay}
+use Rattle.free_laws.specs.declared.choice.Reached.{Reached}
+use Rattle.free_laws.specs.declared.choice.Reached.TheVariants as R
 use Rattle.free_laws.specs.Naming.{HasPut, MayName}
 use Rattle.dxe_choice.specs.Aim.{aimed}
 use Rattle.dxe_choice.specs.Queue.{IsQueueOf, Queue}
 use Rattle.dxe_core.specs.Standing.{DxeCore, IsFor, StandsFor}
+use Rattle.dxe_dispatch.specs.declared.boot.Barred.{Barred}
 use Rattle.dxe_dispatch.specs.declared.boot.Ended.{Ended}
+use Rattle.dxe_dispatch.specs.declared.boot.Left.{Left}
+use Rattle.dxe_dispatch.specs.declared.boot.Left.TheVariants as V
 use Rattle.dxe_dispatch.specs.Ends.{HasEnded, IsNow, StandsAtEnd}
-use Rattle.dxe_dispatch.specs.Turns.{AreOf, IsWithin, TurnsTo}
+use Rattle.dxe_dispatch.specs.Turns.{AreOf, IsLeft, IsStarting, IsWithin, PassesStart, TurnsTo}
 
 -- the driver to which BEFORE and AFTER lead from this one
 abbrev pub root_of : Catalog → DxeMachine → ℕ → ℕ
@@ -46,16 +52,21 @@ abbrev pub came : Catalog → ℕ → DxeMachine → List DxeMachine → DxeMach
 came catalog fuel opening [] = opening
 came catalog fuel opening (target ∷ earlier) = dxe_step catalog fuel target
 
--- the steps of a run are taken from these machines, the last of them first
-abbrev pub IsRunBy : (DxeMachine → Option ℕ → Type 0) → Catalog → ℕ → DxeMachine → List DxeMachine → Type 0
-IsRunBy Names catalog fuel opening [] = ⊤
-IsRunBy Names catalog fuel opening (target ∷ earlier) =
-    IsAimedBy Names catalog (came catalog fuel opening earlier) target × ((came catalog fuel opening earlier).ended ≡ None)
-    × IsRunBy Names catalog fuel opening earlier
+-- the steps of a run are taken from these machines, the last of them first; each driver that starts is let
+abbrev pub IsRunBy : (DxeMachine → Option ℕ → Type 0) → (DxeMachine → ℕ → Bool) → Catalog → ℕ → DxeMachine → List DxeMachine → Type 0
+IsRunBy Names Lets catalog fuel opening [] = ⊤
+IsRunBy Names Lets catalog fuel opening (target ∷ earlier) =
+    IsAimedBy Names catalog (came catalog fuel opening earlier) target × PassesStart (Lets target) catalog target
+    × ((came catalog fuel opening earlier).ended ≡ None) × IsRunBy Names Lets catalog fuel opening earlier
 
--- the drivers that a choice may name that looks into the sink
-abbrev pub NamesDrivers : {S : Type 0} → (S → Option ℕ → Type 0) → (S → Option (List ℕ)) → (S → ℕ) → S → DxeMachine → Option ℕ → Type 0
-NamesDrivers names text faults first m named = MayName names text faults first m.lines named
+-- the drivers that a choice may name that looks into the sink and knows how many starts there were, those in PEI with them
+abbrev pub NamesDrivers : {S : Type 0} → (S → ℕ → Option ℕ → Type 0) → (S → Option (List ℕ)) → (S → ℕ) → ℕ → S → DxeMachine → Option ℕ → Type 0
+NamesDrivers names text faults in_pei first m named =
+    MayName (λ sink other. names sink (in_pei + length m.started) other) text faults first m.lines named
+
+-- whether it lets a driver start
+abbrev pub LetsDrivers : (ℕ → ℕ → Bool) → ℕ → DxeMachine → ℕ → Bool
+LetsDrivers lets in_pei m number = lets (in_pei + length m.started) number
 
 -- a machine that is under way, for which the core beside its store and the queue stand, and in which drivers wait for their request
 pub record IsOnWay {M : Type 0} (stands : M → StoreState → Type 0) (beside : M) (catalog : Catalog)
@@ -76,82 +87,115 @@ pub record IsAsked (names : Option ℕ → Type 0) (catalog : Catalog) (m : DxeM
 abbrev pub Asks : (Option ℕ → Type 0) → Catalog → DxeCore → Queue → Option ℕ → Type 0
 Asks names catalog core queue named = (m : DxeMachine) → AreOf catalog core queue m → IsAsked names catalog m named
 
--- a turn by choices, by its answer: a step from a machine at which the choice is aimed; with the expressions that were evaluated or have to be, before and now
-pub record TurnsBy (Names : DxeMachine → Option ℕ → Type 0) (Now : DxeMachine → Type 0) (catalog : Catalog) (fuel : ℕ)
-    (m : DxeMachine) (t : Texts) (before now : ℕ) (result : Result (Option DxeEnd) Halt) : Type 0 where
+-- a turn by choices, by its answer: a step from a machine at which the choice is aimed, if a driver that starts is let; with the expressions that were evaluated or have to be, before and now
+pub record TurnsBy (Names : DxeMachine → Option ℕ → Type 0) (Lets : DxeMachine → ℕ → Bool) (Now Left : DxeMachine → Type 0) (catalog : Catalog) (fuel : ℕ)
+    (m : DxeMachine) (t : Texts) (before now : ℕ) (result : Result (Option (Reached DxeEnd)) Halt) : Type 0 where
   pub target : DxeMachine
   pub aimed : IsAimedBy Names catalog m target
-  pub turned : TurnsTo Now m (dxe_step catalog fuel target) t result
+  pub turned : TurnsTo (Lets target) Now Left catalog target (dxe_step catalog fuel target) t result
   pub few : OnOk result (IsWithin catalog fuel target before now)
 
 -- from each machine on its way whose lines were put
-abbrev pub TurnsByChoice : {M S : Type 0} → (S → Option ℕ → Type 0) → (S → Option (List ℕ)) → (S → ℕ) → (M → StoreState → Type 0) → M → Catalog
-    → DxeCore → Queue → S → DxeCore → Queue → S → ℕ → ℕ → Result (Option DxeEnd) Halt → Type 0
-TurnsByChoice {S = S} names text faults stands store catalog core queue sink later grown shown before now result =
+abbrev pub TurnsByChoice : {M S : Type 0} → (S → ℕ → Option ℕ → Type 0) → (ℕ → ℕ → Bool) → (S → Option (List ℕ)) → (S → ℕ) → ℕ
+    → (M → StoreState → Type 0) → M → Catalog
+    → DxeCore → Queue → S → DxeCore → Queue → S → ℕ → ℕ → Result (Option (Reached DxeEnd)) Halt → Type 0
+TurnsByChoice {S = S} names lets text faults in_pei stands store catalog core queue sink later grown shown before now result =
     (m : DxeMachine) (fuel : ℕ) (first : S) → IsFor catalog fuel core → IsOnWay stands store catalog core queue m
     → HasPut text faults first m.lines sink
-    → TurnsBy (NamesDrivers names text faults first) (IsNow stands store catalog later grown) catalog fuel m
+    → TurnsBy (NamesDrivers names text faults in_pei first) (LetsDrivers lets in_pei)
+    (IsNow stands store catalog later grown) (IsLeft stands store catalog later grown) catalog fuel m
     (record { old = text sink; new = text shown }) before now result
 
 -- a run by choices from an opening that has come to its end
-pub record EndsBy {M : Type 0} (Names : DxeMachine → Option ℕ → Type 0) (stands : M → StoreState → Type 0) (store : M) (catalog : Catalog) (fuel : ℕ)
-    (opening : DxeMachine) (later : DxeCore) (queue : Queue) (how : DxeEnd) (old new : Option (List ℕ)) : Type 0 where
+pub record EndsBy {M : Type 0} (Names : DxeMachine → Option ℕ → Type 0) (Lets : DxeMachine → ℕ → Bool) (stands : M → StoreState → Type 0) (store : M)
+    (catalog : Catalog) (fuel : ℕ) (opening : DxeMachine) (later : DxeCore) (queue : Queue) (how : DxeEnd) (old new : Option (List ℕ)) : Type 0 where
   pub earlier : List DxeMachine
-  pub run : IsRunBy Names catalog fuel opening earlier
+  pub run : IsRunBy Names Lets catalog fuel opening earlier
   pub ended : HasEnded how (came catalog fuel opening earlier) old new
   pub now : StandsAtEnd stands store catalog later queue (came catalog fuel opening earlier)
 
+-- a driver is due by choices: the machine at which they are aimed starts it next
+pub record IsDue (Names : DxeMachine → Option ℕ → Type 0) (catalog : Catalog) (m : DxeMachine) (number : ℕ) : Type 0 where
+  pub target : DxeMachine
+  pub aimed : IsAimedBy Names catalog m target
+  pub starting : IsStarting catalog target number
+
+-- in this machine, which runs, a driver is due that they do not let, and all of its lines were put
+pub record IsBarred (Names : DxeMachine → Option ℕ → Type 0) (Lets : DxeMachine → ℕ → Bool) (catalog : Catalog)
+    (m : DxeMachine) (number : ℕ) (old new : Option (List ℕ)) : Type 0 where
+  pub running : m.ended ≡ None
+  pub due : IsDue Names catalog m number
+  pub barred : Lets due.target number ≡ false
+  pub text : Appends old new (text_of m.lines)
+
+-- or to such a machine, and is left there
+pub record BarsBy {M : Type 0} (Names : DxeMachine → Option ℕ → Type 0) (Lets : DxeMachine → ℕ → Bool) (stands : M → StoreState → Type 0) (store : M)
+    (catalog : Catalog) (fuel : ℕ) (opening : DxeMachine) (later : DxeCore) (queue : Queue) (number : ℕ) (old new : Option (List ℕ)) : Type 0 where
+  pub earlier : List DxeMachine
+  pub run : IsRunBy Names Lets catalog fuel opening earlier
+  pub bars : IsBarred Names Lets catalog (came catalog fuel opening earlier) number old new
+  pub left : IsLeft stands store catalog later queue (came catalog fuel opening earlier)
+
 -- or to a machine of whose lines a part was put
-pub record StopsShort (Names : DxeMachine → Option ℕ → Type 0) (catalog : Catalog) (fuel : ℕ)
+pub record StopsShort (Names : DxeMachine → Option ℕ → Type 0) (Lets : DxeMachine → ℕ → Bool) (catalog : Catalog) (fuel : ℕ)
     (opening : DxeMachine) (old new : Option (List ℕ)) : Type 0 where
   pub earlier : List DxeMachine
-  pub run : IsRunBy Names catalog fuel opening earlier
+  pub run : IsRunBy Names Lets catalog fuel opening earlier
   pub part : AppendsPart old new (text_of (came catalog fuel opening earlier).lines)
 
 -- by its answer
-abbrev pub RunsBy : {M : Type 0} → (DxeMachine → Option ℕ → Type 0) → (M → StoreState → Type 0) → M → Catalog → ℕ
-    → DxeMachine → DxeCore → Queue → Option (List ℕ) → Option (List ℕ) → Result DxeEnd Halt → Type 0
-RunsBy Names stands store catalog fuel opening later queue old new (Ok how) = EndsBy Names stands store catalog fuel opening later queue how old new
-RunsBy Names stands store catalog fuel opening later queue old new (Err halt) = StopsShort Names catalog fuel opening old new
+abbrev pub RunsBy : {M : Type 0} → (DxeMachine → Option ℕ → Type 0) → (DxeMachine → ℕ → Bool) → (M → StoreState → Type 0) → M → Catalog → ℕ
+    → DxeMachine → DxeCore → Queue → Option (List ℕ) → Option (List ℕ) → Result (Reached DxeEnd) Halt → Type 0
+RunsBy Names Lets stands store catalog fuel opening later queue old new (Ok (R.End how)) =
+    EndsBy Names Lets stands store catalog fuel opening later queue how old new
+RunsBy Names Lets stands store catalog fuel opening later queue old new (Ok (R.Barred number)) =
+    BarsBy Names Lets stands store catalog fuel opening later queue number old new
+RunsBy Names Lets stands store catalog fuel opening later queue old new (Err halt) = StopsShort Names Lets catalog fuel opening old new
 
--- the run from the opening over each state, with the actions and the fuel for which the core was made
-abbrev pub RunsByChoice : {M S : Type 0} → (S → Option ℕ → Type 0) → (S → Option (List ℕ)) → (S → ℕ) → (M → StoreState → Type 0) → M → Catalog
-    → DxeCore → S → DxeCore → Queue → S → Result DxeEnd Halt → Type 0
-RunsByChoice names text faults stands store catalog core sink later queue shown result =
+-- the run from the opening over each state, with the actions and the fuel for which the core was made, behind so many starts in PEI
+abbrev pub RunsByChoice : {M S : Type 0} → (S → ℕ → Option ℕ → Type 0) → (ℕ → ℕ → Bool) → (S → Option (List ℕ)) → (S → ℕ) → ℕ
+    → (M → StoreState → Type 0) → M → Catalog
+    → DxeCore → S → DxeCore → Queue → S → Result (Reached DxeEnd) Halt → Type 0
+RunsByChoice names lets text faults in_pei stands store catalog core sink later queue shown result =
     (s : StoreState) (actions fuel : ℕ) → IsFor catalog fuel core → StandsFor stands store catalog core (dxe_opening catalog s actions)
-    → RunsBy (NamesDrivers names text faults sink) stands store catalog fuel (dxe_opening catalog s actions) later queue (text sink) (text shown) result
+    → RunsBy (NamesDrivers names text faults in_pei sink) (LetsDrivers lets in_pei) stands store catalog fuel (dxe_opening catalog s actions)
+    later queue (text sink) (text shown) result
 
--- a run by choices that has come to its end, with these handles
-pub record HasCome (Names : DxeMachine → Option ℕ → Type 0) (catalog : Catalog) (fuel : ℕ)
-    (opening : DxeMachine) (how : DxeEnd) (handles : HandleState) (old new : Option (List ℕ)) : Type 0 where
+-- a whole run by choices that has come to its end, and hands its handles on
+pub record HasBooted (Names : DxeMachine → Option ℕ → Type 0) (Lets : DxeMachine → ℕ → Bool) (catalog : Catalog) (fuel : ℕ)
+    (opening : DxeMachine) (left : Ended) (old new : Option (List ℕ)) : Type 0 where
   pub earlier : List DxeMachine
-  pub run : IsRunBy Names catalog fuel opening earlier
-  pub ended : HasEnded how (came catalog fuel opening earlier) old new
-  pub has : (came catalog fuel opening earlier).handles ≡ handles
+  pub run : IsRunBy Names Lets catalog fuel opening earlier
+  pub ended : HasEnded left.«end» (came catalog fuel opening earlier) old new
+  pub has : (came catalog fuel opening earlier).handles ≡ left.handles
 
--- by its answer, with the handles that it leaves
-abbrev pub LeavesBy : (DxeMachine → Option ℕ → Type 0) → Catalog → ℕ
-    → DxeMachine → HandleState → Option (List ℕ) → Option (List ℕ) → Result DxeEnd Halt → Type 0
-LeavesBy Names catalog fuel opening handles old new (Ok how) = HasCome Names catalog fuel opening how handles old new
-LeavesBy Names catalog fuel opening handles old new (Err halt) = StopsShort Names catalog fuel opening old new
+-- one that was left before a start that is not let, behind so many starts, those in PEI with them
+pub record HasStayed (Names : DxeMachine → Option ℕ → Type 0) (Lets : DxeMachine → ℕ → Bool) (catalog : Catalog) (fuel : ℕ)
+    (opening : DxeMachine) (in_pei : ℕ) (left : Barred) (old new : Option (List ℕ)) : Type 0 where
+  pub earlier : List DxeMachine
+  pub run : IsRunBy Names Lets catalog fuel opening earlier
+  pub bars : IsBarred Names Lets catalog (came catalog fuel opening earlier) left.number old new
+  pub has : (came catalog fuel opening earlier).handles ≡ left.handles
+  pub starts_are : left.starts ≡ in_pei + length (came catalog fuel opening earlier).started
 
--- the run from the opening over each state, with the actions and the fuel for which the core was made
-abbrev pub LeavesByChoice : {M S : Type 0} → (S → Option ℕ → Type 0) → (S → Option (List ℕ)) → (S → ℕ) → (M → StoreState → Type 0) → M → Catalog
-    → DxeCore → S → DxeCore → S → Result DxeEnd Halt → Type 0
-LeavesByChoice names text faults stands store catalog core sink later shown result =
-    (s : StoreState) (actions fuel : ℕ) → IsFor catalog fuel core → StandsFor stands store catalog core (dxe_opening catalog s actions)
-    → LeavesBy (NamesDrivers names text faults sink) catalog fuel (dxe_opening catalog s actions) later.services.handles (text sink) (text shown) result
+-- a whole run by choices, by its answer
+abbrev pub BootsBy : (DxeMachine → Option ℕ → Type 0) → (DxeMachine → ℕ → Bool) → Catalog → ℕ → DxeMachine → ℕ
+    → Option (List ℕ) → Option (List ℕ) → Result Left Halt → Type 0
+BootsBy Names Lets catalog fuel opening in_pei old new (Ok (V.Ended left)) = HasBooted Names Lets catalog fuel opening left old new
+BootsBy Names Lets catalog fuel opening in_pei old new (Ok (V.Barred left)) = HasStayed Names Lets catalog fuel opening in_pei left old new
+BootsBy Names Lets catalog fuel opening in_pei old new (Err halt) = StopsShort Names Lets catalog fuel opening old new
 
--- a whole run by choices, which hands its handles on
-abbrev pub BootsBy : (DxeMachine → Option ℕ → Type 0) → Catalog → ℕ → DxeMachine → Option (List ℕ) → Option (List ℕ) → Result Ended Halt → Type 0
-BootsBy Names catalog fuel opening old new (Ok left) = HasCome Names catalog fuel opening left.«end» left.handles old new
-BootsBy Names catalog fuel opening old new (Err halt) = StopsShort Names catalog fuel opening old new
+-- from the hand-off of a store, with the actions that PEI took and its starts
+abbrev pub BootsByChoice : {S : Type 0} → (S → ℕ → Option ℕ → Type 0) → (ℕ → ℕ → Bool) → (S → Option (List ℕ)) → (S → ℕ) → ℕ
+    → Catalog → ℕ → ℕ → S → S → Result Left Halt → StoreState → Type 0
+BootsByChoice names lets text faults in_pei catalog fuel taken sink shown result s =
+    BootsBy (NamesDrivers names text faults in_pei sink) (LetsDrivers lets in_pei) catalog fuel (dxe_opening catalog s taken) in_pei
+    (text sink) (text shown) result
 
--- from the hand-off of a store, with the actions that PEI took
-abbrev pub BootsByChoice : {S : Type 0} → (S → Option ℕ → Type 0) → (S → Option (List ℕ)) → (S → ℕ) → Catalog → ℕ → ℕ
-    → S → S → Result Ended Halt → StoreState → Type 0
-BootsByChoice names text faults catalog fuel taken sink shown result s =
-    BootsBy (NamesDrivers names text faults sink) catalog fuel (dxe_opening catalog s taken) (text sink) (text shown) result
+-- the handles that a whole run leaves
+abbrev pub handles_of : Left → HandleState
+handles_of (V.Ended left) = left.handles
+handles_of (V.Barred left) = left.handles
 
 -- the evaluations that the steps from these machines allow
 abbrev pub changes_of : Catalog → ℕ → List DxeMachine → ℕ
@@ -159,13 +203,15 @@ changes_of catalog fuel [] = 0
 changes_of catalog fuel (target ∷ earlier) = sum_by (dxe_asked catalog target) (dxe_guids catalog fuel target) + changes_of catalog fuel earlier
 
 -- no more expressions were evaluated than one for each driver that was discovered, and those that the steps allow, up to a machine of the run
-pub record EvaluatesFewBy (Names : DxeMachine → Option ℕ → Type 0) (catalog : Catalog) (fuel : ℕ) (opening : DxeMachine) (before now : ℕ) : Type 0 where
+pub record EvaluatesFewBy (Names : DxeMachine → Option ℕ → Type 0) (Lets : DxeMachine → ℕ → Bool) (catalog : Catalog) (fuel : ℕ)
+    (opening : DxeMachine) (before now : ℕ) : Type 0 where
   pub earlier : List DxeMachine
-  pub run : IsRunBy Names catalog fuel opening earlier
+  pub run : IsRunBy Names Lets catalog fuel opening earlier
   pub few : now ≤ before + (length (discovered_order catalog (came catalog fuel opening earlier)) + changes_of catalog fuel earlier)
 
-abbrev pub EvaluatesFewByChoice : {M S : Type 0} → (S → Option ℕ → Type 0) → (S → Option (List ℕ)) → (S → ℕ) → (M → StoreState → Type 0) → M → Catalog
+abbrev pub EvaluatesFewByChoice : {M S : Type 0} → (S → ℕ → Option ℕ → Type 0) → (ℕ → ℕ → Bool) → (S → Option (List ℕ)) → (S → ℕ) → ℕ
+    → (M → StoreState → Type 0) → M → Catalog
     → DxeCore → S → ℕ → ℕ → Type 0
-EvaluatesFewByChoice names text faults stands store catalog core sink before now =
+EvaluatesFewByChoice names lets text faults in_pei stands store catalog core sink before now =
     (s : StoreState) (actions fuel : ℕ) → IsFor catalog fuel core → StandsFor stands store catalog core (dxe_opening catalog s actions)
-    → EvaluatesFewBy (NamesDrivers names text faults sink) catalog fuel (dxe_opening catalog s actions) before now
+    → EvaluatesFewBy (NamesDrivers names text faults in_pei sink) (LetsDrivers lets in_pei) catalog fuel (dxe_opening catalog s actions) before now

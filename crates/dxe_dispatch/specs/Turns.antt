@@ -1,6 +1,7 @@
--- What the parts of a run leave, by their answers. A turn of the run is a step of the machine: what the core does by itself, a start, or the stop.
+-- What the parts of a run leave, by their answers. A turn of the run is a step of the machine: what the core does by itself, a start, or the stop. A driver that is about to start is let, or the run is left there.
 -- Own.
-use Rattle.std.specs.Prelude.{◌≡◌, ◌≤◌, ◌+◌, ℕ, length, sum_by, List, ◌∷◌, Option, Some, None, Result, Ok, Err, IfOk}
+use Rattle.std.specs.Prelude.{◌≡◌, ◌⊎◌, ◌≤◌, ◌+◌, ℕ, Bool, true, false, length, sum_by, List, [], ◌∷◌, Option, Some, None, Result, Ok, Err, IfOk}
+use Rattle.std.specs.Io.KnownBytes.{Appends}
 use Rattle.boot_io.specs.Sink.{Puts}
 use Rattle.boot_io.specs.declared.halt.Halt.{Halt}
 use Rattle.boot_io.specs.declared.sink.SinkFault.{SinkFault}
@@ -13,16 +14,18 @@ use Rattle.boot_model.specs.declared.line.Line.TheVariants as L
 use Rattle.boot_model.specs.declared.phase_end.DxeEnd.{DxeEnd}
 use Rattle.boot_model.specs.DxeChoice.{discovered_order}
 use Rattle.boot_model.specs.DxeMachine.{DxeMachine}
-use Rattle.boot_model.specs.DxeStep.{dxe_step, driver_waiting_lines}
+use Rattle.boot_model.specs.DxeStep.{DxeStarts, dxe_case_of, dxe_step, driver_waiting_lines}
 use Rattle.boot_model.specs.EvaluationBound.{dxe_asked, dxe_guids}
 use Rattle.boot_model.specs.Licence.{AllDiffer}
 use Rattle.boot_model.specs.Text.{text_of}
 use Rattle.boot_laws.specs.UnrequestedDrivers.{WaitForRequest}
 use Rattle.dxe_choice.specs.Queue.{Queue, IsQueueOf, ComesNext}
-use Rattle.dxe_core.specs.Standing.{DxeCore, IsCoreOf, IsFor}
+use Rattle.dxe_core.specs.Standing.{DxeCore, IsCoreOf, IsFor, StandsFor}
 use Rattle.dxe_core.specs.Steps.{IsIdle}
 use Rattle.dxe_core.specs.Turn.{Printed, PrintedPart}
 use Rattle.boot_trace.specs.Printing.{Texts}
+use Rattle.free_laws.specs.declared.choice.Reached.{Reached}
+use Rattle.free_laws.specs.declared.choice.Reached.TheVariants as R
 use Rattle.dxe_dispatch.specs.Ends.{IsNow}
 
 -- the core and the queue stand for a machine, whatever its store
@@ -35,22 +38,59 @@ abbrev pub Chooses : Catalog → DxeCore → Queue → Queue → Result (Option 
 Chooses catalog core queue later result =
     (m : DxeMachine) → AreOf catalog core queue m → IfOk result (λ next. ComesNext catalog m next later)
 
+-- the next step of the machine starts this driver
+pub record IsStarting (catalog : Catalog) (m : DxeMachine) (number : ℕ) : Type 0 where
+  pub next : Scheduled
+  pub queue : List Scheduled
+  pub starts : dxe_case_of catalog m ≡ DxeStarts next queue
+  pub is : number ≡ next.module_number
+
+-- a driver that it starts is let
+abbrev pub PassesStart : (ℕ → Bool) → Catalog → DxeMachine → Type 0
+PassesStart lets catalog m = (number : ℕ) → IsStarting catalog m number → lets number ≡ true
+
 -- the machine goes on as the later one, for which all stands now, and its lines were put
-pub record HasTurned (Now : DxeMachine → Type 0) (m later : DxeMachine) (t : Texts) : Type 0 where
+pub record HasTurned (lets : ℕ → Bool) (Now : DxeMachine → Type 0) (catalog : Catalog) (m later : DxeMachine) (t : Texts) : Type 0 where
+  pub passes : PassesStart lets catalog m
   pub printed : Printed m later t
   pub now : Now later
 
 -- the later machine has ended, all stands for it as it was before it ended, and its lines were put
-pub record IsOver (Now : DxeMachine → Type 0) (m end : DxeMachine) (how : DxeEnd) (t : Texts) : Type 0 where
+pub record IsOver (lets : ℕ → Bool) (Now : DxeMachine → Type 0) (catalog : Catalog) (m end : DxeMachine) (how : DxeEnd) (t : Texts) : Type 0 where
+  pub passes : PassesStart lets catalog m
   pub ended : end.ended ≡ Some how
   pub printed : Printed m end t
   pub now : Now (record end { ended = None })
 
--- a turn from a machine to the later one, by its answer
-abbrev pub TurnsTo : (DxeMachine → Type 0) → DxeMachine → DxeMachine → Texts → Result (Option DxeEnd) Halt → Type 0
-TurnsTo Now m later t (Ok None) = HasTurned Now m later t
-TurnsTo Now m later t (Ok (Some how)) = IsOver Now m later how t
-TurnsTo Now m later t (Err halt) = PrintedPart m later t
+-- the machine is left before the start of a driver that is not let, and nothing was put
+pub record IsHeldBack (lets : ℕ → Bool) (Left : DxeMachine → Type 0) (catalog : Catalog) (m : DxeMachine) (number : ℕ) (t : Texts) : Type 0 where
+  pub starting : IsStarting catalog m number
+  pub barred : lets number ≡ false
+  pub text : Appends t.old t.new []
+  pub left : Left m
+
+-- nothing was put, or a part of the lines of a step in which a driver that starts is let
+abbrev pub IsGivenUp : (ℕ → Bool) → Catalog → DxeMachine → DxeMachine → Texts → Type 0
+IsGivenUp lets catalog m later t = Appends t.old t.new [] ⊎ (PassesStart lets catalog m × PrintedPart m later t)
+
+-- a turn from a machine to the later one, by its answer: what stands for the later one now, and what for the machine where the run is left
+abbrev pub TurnsTo : (ℕ → Bool) → (DxeMachine → Type 0) → (DxeMachine → Type 0) → Catalog → DxeMachine → DxeMachine → Texts
+    → Result (Option (Reached DxeEnd)) Halt → Type 0
+TurnsTo lets Now Left catalog m later t (Ok None) = HasTurned lets Now catalog m later t
+TurnsTo lets Now Left catalog m later t (Ok (Some (R.End how))) = IsOver lets Now catalog m later how t
+TurnsTo lets Now Left catalog m later t (Ok (Some (R.Barred number))) = IsHeldBack lets Left catalog m number t
+TurnsTo lets Now Left catalog m later t (Err halt) = IsGivenUp lets catalog m later t
+
+-- the core stands for the machine, and one driver more has left the queue: that which did not start
+pub record AreLeft (catalog : Catalog) (kept : DxeCore) (queued : Queue) (m : DxeMachine) : Type 0 where
+  pub core : IsCoreOf catalog kept m
+  pub left : queued.left ≡ length m.started + 1
+
+-- the same of the core beside its store
+pub record IsLeft {M : Type 0} (stands : M → StoreState → Type 0) (beside : M) (catalog : Catalog)
+    (core : DxeCore) (kept : Queue) (m : DxeMachine) : Type 0 where
+  pub machine : StandsFor stands beside catalog core m
+  pub left : kept.left ≡ length m.started + 1
 
 -- the machine for which the core and the queue stand now; in it drivers wait for their request, and behind its next step no driver was discovered twice
 pub record IsReady {M : Type 0} (stands : M → StoreState → Type 0) (beside : M) (catalog : Catalog) (most : ℕ)
@@ -59,19 +99,20 @@ pub record IsReady {M : Type 0} (stands : M → StoreState → Type 0) (beside :
   pub waits : WaitForRequest catalog m
   pub once : AllDiffer (discovered_order catalog (dxe_step catalog most m))
 
--- a turn from each machine for which the core and the queue stand, and in which drivers wait for their request: a step of it
-abbrev pub Turns : {M : Type 0} → (M → StoreState → Type 0) → M → Catalog
-    → DxeCore → Queue → DxeCore → Queue → Option (List ℕ) → Option (List ℕ) → Result (Option DxeEnd) Halt → Type 0
-Turns stands store catalog core queue later grown old new result =
+-- a turn from each machine for which the core and the queue stand, and in which drivers wait for their request: a step of it, if a driver that starts is let
+abbrev pub Turns : {M : Type 0} → (ℕ → Bool) → (M → StoreState → Type 0) → M → Catalog
+    → DxeCore → Queue → DxeCore → Queue → Option (List ℕ) → Option (List ℕ) → Result (Option (Reached DxeEnd)) Halt → Type 0
+Turns lets stands store catalog core queue later grown old new result =
     (m : DxeMachine) (fuel : ℕ) → IsFor catalog fuel core → IsReady stands store catalog fuel core queue m
-    → TurnsTo (IsNow stands store catalog later grown) m (dxe_step catalog fuel m) (record { old = old; new = new }) result
+    → TurnsTo lets (IsNow stands store catalog later grown) (IsLeft stands store catalog later grown) catalog m (dxe_step catalog fuel m)
+    (record { old = old; new = new }) result
 
 -- the same from each one that is idle, whatever the store
-abbrev pub TurnsIdle : Catalog
-    → DxeCore → Queue → DxeCore → Queue → Option (List ℕ) → Option (List ℕ) → Result (Option DxeEnd) Halt → Type 0
-TurnsIdle catalog core queue later grown old new result =
+abbrev pub TurnsIdle : (ℕ → Bool) → Catalog
+    → DxeCore → Queue → DxeCore → Queue → Option (List ℕ) → Option (List ℕ) → Result (Option (Reached DxeEnd)) Halt → Type 0
+TurnsIdle lets catalog core queue later grown old new result =
     (m : DxeMachine) (fuel : ℕ) → AreOf catalog core queue m → IsIdle m
-    → TurnsTo (AreOf catalog later grown) m (dxe_step catalog fuel m) (record { old = old; new = new }) result
+    → TurnsTo lets (AreOf catalog later grown) (AreLeft catalog later grown) catalog m (dxe_step catalog fuel m) (record { old = old; new = new }) result
 
 -- no more expressions were evaluated, or have to be, than had to be, those of the drivers that the step discovered, and those that the bound lets for its protocols
 abbrev pub IsWithin : Catalog → ℕ → DxeMachine → ℕ → ℕ → Type 0

@@ -23,17 +23,18 @@ fn is_choice(dxe: &Dxe, queue: &DriverQueue) -> bool
     dxe.is_idle() && queue.is_empty()
 }
 
-/// The driver that is named, where one is to be chosen.
+/// The driver that is named, where one is to be chosen. `starts` is how many starts there were.
 pub(crate) fn named<S, C: Choice<S>>(
     dxe: &Dxe,
     queue: &DriverQueue,
     choice: &C,
+    starts: u64,
     sink: &S,
 ) -> Option<u32>
-    ensures { (catalog : OfCatalog) → Asks (C.drivers choice.now sink.now) catalog dxe.now queue.now result }
+    ensures { (catalog : OfCatalog) → Asks (C.drivers choice.now sink.now starts) catalog dxe.now queue.now result }
 {
     if is_choice(dxe, queue) {
-        choice.driver(sink)
+        choice.driver(sink, starts)
     } else {
         None
     }

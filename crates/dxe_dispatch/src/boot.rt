@@ -5,10 +5,12 @@ ghost use Rattle.catalog_model.specs.WellFormed.{IsWellFormed};
 ghost use Rattle.store_model.specs.Service.{Present, OfEach};
 ghost use Rattle.store_model.specs.StoreCall.{Anything};
 ghost use Rattle.dxe_core.specs.Standing.{IsFor};
-ghost use Rattle.dxe_dispatch.specs.Choices.{BootsByChoice, LeavesByChoice};
+ghost use Rattle.dxe_choice.specs.Queue.{IsNewQueue, IsQueueFor};
+ghost use Rattle.dxe_dispatch.specs.Choices.{BootsByChoice, RunsByChoice, handles_of};
 ghost use Rattle.dxe_dispatch.specs.Ends.{IsAtOpening, IsOpened};
 
 use crate::run::run_dxe;
+use crate::starts::starts;
 use boot_io::{Halt, Sink};
 use boot_model::DxeEnd;
 use catalog_model::Catalog;
@@ -16,7 +18,7 @@ use depex_code::Steps;
 use dxe_choice::DriverQueue;
 use dxe_core::Dxe;
 use dxe_handles::Handles;
-use free_laws::Choice;
+use free_laws::{Choice, Reached};
 use pi_base::OutOfMemory;
 use std::alloc::Global;
 use std::marker::Brand;
@@ -30,6 +32,26 @@ pub struct Ended {
     pub end: DxeEnd,
     /// The handles, with their interfaces.
     pub handles: Handles,
+}
+
+/// What DXE leaves before the start of a driver that the choice does not let.
+#[derive(Drop)]
+pub struct Barred {
+    /// The number of the driver, which was not started.
+    pub number: u32,
+    /// The handles as they are there, with their interfaces.
+    pub handles: Handles,
+    /// How many starts there were, those in PEI with them.
+    pub starts: u64,
+}
+
+/// What DXE leaves.
+#[derive(Drop)]
+pub enum Left {
+    /// At its end.
+    Ended(Ended),
+    /// Before the start of a driver that the choice does not let.
+    Barred(Barred),
 }
 
 /// The core at its opening, over a store behind the hand-off: the volumes of its FV HOBs have just been discovered. `fuel` is how many actions may be taken in both phases, and `taken` how many PEI took.
@@ -49,56 +71,69 @@ pub fn dxe_at_opening<M: PeiStore>(
     Dxe::begin(alloc, catalog, bases.as_slice(), fuel, taken)
 }
 
-// DXE from its opening, over a queue that is made for it. The expressions that are evaluated are counted in the ledger of a blank.
+// DXE from its opening. The expressions that are evaluated are counted in the ledger of a blank.
 fn run_with_ledger<M: PeiStore, S: Sink, C: Choice<S>, L: Ledger>(
-    alloc: Global,
     dxe: &mut Dxe,
     store: &M,
+    queue: &mut DriverQueue,
     choice: &C,
+    in_pei: u32,
     catalog: &Catalog,
     sink: &mut S,
     blank: Blank,
-) -> Result<DxeEnd, Halt>
+) -> Result<Reached<DxeEnd>, Halt>
     requires catalog { IsWellFormed catalog.now }
     requires made { (fuel : ℕ) × IsFor catalog.now fuel dxe.old }
+    requires new { IsNewQueue catalog.now queue.old }
+    requires queue { IsQueueFor catalog.now queue.old }
     requires opening { IsAtOpening M.stands_for store.now catalog.now dxe.old }
     requires name { blank.name ≡ L.name }
     requires parts { blank.parts ≡ L.parts }
     requires counts { 0 < L.parts }
-    ensures row { LeavesByChoice (C.drivers choice.now) S.text S.faults M.stands_for store.now catalog.now
-        dxe.old sink.old dxe.new sink.new result }
+    ensures row { RunsByChoice (C.drivers choice.now) (C.lets_in_dxe choice.now) S.text S.faults in_pei M.stands_for store.now catalog.now
+        dxe.old sink.old dxe.new queue.new sink.new result }
     ensures few { dxe.old.fuel.taken < 2 ^ 32 → OnOk result (length dxe.new.services.handles.interfaces < 2 ^ 32) }
+    ensures few_starts { OnOk result (queue.new.left < 2 ^ 32) }
     ensures faults { HaltsAfter result (S.faults sink.old) (S.faults sink.new) }
 {
-    let mut queue = DriverQueue::new(alloc, catalog)?;
     let mut steps = Steps::<L>::new(blank);
-    let end = run_dxe(dxe, store, &mut queue, choice, catalog, sink, &mut steps);
-    drop(queue);
-    end
+    run_dxe(dxe, store, queue, choice, in_pei, catalog, sink, &mut steps)
 }
 
-/// The whole of DXE behind the hand-off of a store, where a choice may name the driver that starts. `fuel` is how many actions may be taken in both phases, and `taken` how many PEI took. No more interfaces are left than a `u32` counts.
+/// The whole of DXE behind the hand-off of a store, where a choice may name the driver that starts, and says whether it does. `fuel` is how many actions may be taken in both phases, `taken` how many PEI took, and `in_pei` how many starts there were in it. No more interfaces are left than a `u32` counts.
 pub fn boot_dxe<M: PeiStore, S: Sink, C: Choice<S>>(
     alloc: Global,
     store: &M,
     catalog: &Catalog,
     fuel: u32,
     taken: u32,
+    in_pei: u32,
     choice: &C,
     sink: &mut S,
-) -> Result<Ended, Halt>
+) -> Result<Left, Halt>
     requires catalog { IsWellFormed catalog.now }
     requires state { Present (M.stands_for store.now) Anything }
-    ensures row { OfEach (M.stands_for store.now) Anything (BootsByChoice (C.drivers choice.now) S.text S.faults catalog.now fuel taken
-        sink.old sink.new result) }
-    ensures few { IfOk result (λ ended. length ended.handles.interfaces < 2 ^ 32) }
+    ensures row { OfEach (M.stands_for store.now) Anything (BootsByChoice (C.drivers choice.now) (C.lets_in_dxe choice.now) S.text S.faults in_pei
+        catalog.now fuel taken sink.old sink.new result) }
+    ensures few { IfOk result (λ left. length (handles_of left).interfaces < 2 ^ 32) }
     ensures faults { HaltsAfter result (S.faults sink.old) (S.faults sink.new) }
 {
     let mut dxe = dxe_at_opening(alloc, store, catalog, fuel, taken)?;
+    let mut queue = DriverQueue::new(alloc, catalog)?;
     let blank = Blank::new(1);
-    let end = run_with_ledger::<M, S, C, Brand>(
-        alloc, &mut dxe, store, choice, catalog, sink, blank,
-    );
-    let handles = dxe.into_handles();
-    Ok(Ended { end: end?, handles })
+    let reached = run_with_ledger::<M, S, C, Brand>(
+        &mut dxe, store, &mut queue, choice, in_pei, catalog, sink, blank,
+    )?;
+    match reached {
+        Reached::End(end) => Ok(Left::Ended(Ended {
+            end,
+            handles: dxe.into_handles(),
+        })),
+        Reached::Barred(number) => Ok(Left::Barred(Barred {
+            number,
+            handles: dxe.into_handles(),
+            // The driver that was not let has left the queue.
+            starts: starts(in_pei, &queue) - 1,
+        })),
+    }
 }

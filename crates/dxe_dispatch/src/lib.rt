@@ -1,4 +1,4 @@
-//! DXE from its opening to its end (PI 1.8, volume 2, "DXE Dispatcher"): the core's steps, and where it has none left the next driver, or the stop.
+//! DXE from its opening to its end (PI 1.8, volume 2, "DXE Dispatcher"): the core's steps, and where it has none left the next driver, or the stop. A choice that is handed in may name the driver, and may bar one.
 //!
 //! Tried in `boot_trials`: `tests`.
 #![tactic(auto)]
@@ -8,10 +8,11 @@ mod boot;
 mod choose;
 mod root;
 mod run;
+mod starts;
 mod stop;
 mod tell;
 mod turns;
 mod waiting;
 
-pub use boot::{Ended, boot_dxe, dxe_at_opening};
+pub use boot::{Barred, Ended, Left, boot_dxe, dxe_at_opening};
 pub use run::{bound, run_dxe, run_first};

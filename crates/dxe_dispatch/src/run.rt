@@ -18,7 +18,7 @@ use depex_code::Steps;
 use dxe_choice::DriverQueue;
 use dxe_core::{Dxe, put_volumes};
 use free_laws::{
-    Choice, FirstEligible, dxe_chooses_by_groups, dxe_goes_on, dxe_opens, groups_are_aimed,
+    Choice, FirstEligible, Reached, dxe_chooses_by_groups, dxe_goes_on, dxe_opens, groups_are_aimed,
 };
 use std::sync::ledger::Ledger;
 use store_model::PeiStore;
@@ -31,27 +31,29 @@ pub fn bound(catalog: &Catalog, fuel: u32) -> u64
     2 * u64::from(fuel) + MOST_FRAMES as u64 + catalog.modules.len() as u64 + 1
 }
 
-/// DXE from the opening to its end, where a choice may name the driver that starts: the a priori drivers of the volumes that were discovered are scheduled, the lines of these volumes are put, and then a step of the machine at a time, up to the stop. `dxe` is the core at its opening, and `queue` is new.
-/// What it leaves is a run of the machine whose choices are these; behind its end the core beside its store, and the queue, are those of the last machine. No more expressions are evaluated than the drivers and the protocols of that run let. No more interfaces are left than a `u32` counts, if no more actions were taken before.
+/// DXE from the opening to its end, where a choice may name the driver that starts, or to the start of one that it does not let: the a priori drivers of the volumes that were discovered are scheduled, the lines of these volumes are put, and then a step of the machine at a time, up to the stop. `dxe` is the core at its opening, `queue` is new, and `in_pei` is how many starts there were in PEI.
+/// What it leaves is a run of the machine whose choices are these; behind its end the core beside its store, and the queue, are those of the last machine. Before a start that is not let the core is that of the machine there, and the driver has left the queue. No more expressions are evaluated than the drivers and the protocols of that run let. No more interfaces are left than a `u32` counts, if no more actions were taken before, and no more drivers have left the queue.
 pub fn run_dxe<M: PeiStore, S: Sink, C: Choice<S>, L: Ledger>(
     dxe: &mut Dxe,
     store: &M,
     queue: &mut DriverQueue,
     choice: &C,
+    in_pei: u32,
     catalog: &Catalog,
     sink: &mut S,
     steps: &mut Steps<L>,
-) -> Result<DxeEnd, Halt>
+) -> Result<Reached<DxeEnd>, Halt>
     requires catalog { IsWellFormed catalog.now }
     requires made { (fuel : ℕ) × IsFor catalog.now fuel dxe.old }
     requires new { IsNewQueue catalog.now queue.old }
     requires queue { IsQueueFor catalog.now queue.old }
     requires opening { IsAtOpening M.stands_for store.now catalog.now dxe.old }
-    ensures row { RunsByChoice (C.drivers choice.now) S.text S.faults M.stands_for store.now catalog.now
+    ensures row { RunsByChoice (C.drivers choice.now) (C.lets_in_dxe choice.now) S.text S.faults in_pei M.stands_for store.now catalog.now
         dxe.old sink.old dxe.new queue.new sink.new result }
     ensures few { dxe.old.fuel.taken < 2 ^ 32 → OnOk result (length dxe.new.services.handles.interfaces < 2 ^ 32) }
+    ensures few_starts { OnOk result (queue.new.left < 2 ^ 32) }
     ensures faults { HaltsAfter result (S.faults sink.old) (S.faults sink.new) }
-    ensures few_steps { EvaluatesFewByChoice (C.drivers choice.now) S.text S.faults M.stands_for store.now catalog.now
+    ensures few_steps { EvaluatesFewByChoice (C.drivers choice.now) (C.lets_in_dxe choice.now) S.text S.faults in_pei M.stands_for store.now catalog.now
         dxe.old sink.old steps.old steps.new }
 {
     dxe_opens();
@@ -63,8 +65,8 @@ pub fn run_dxe<M: PeiStore, S: Sink, C: Choice<S>, L: Ledger>(
     queue.discover(catalog, dxe.order(), 0)?;
     put_volumes(sink, dxe.order().volumes())?;
     'turns: for _ in 0..bound(catalog, dxe.fuel()) {
-        if let Some(end) = turn_by(dxe, store, queue, choice, catalog, sink, steps)? {
-            return Ok(end);
+        if let Some(reached) = turn_by(dxe, store, queue, choice, in_pei, catalog, sink, steps)? {
+            return Ok(reached);
         }
     }
     unreachable!()
@@ -91,5 +93,8 @@ pub fn run_first<M: PeiStore, S: Sink, L: Ledger>(
     ensures few_steps { EvaluatesFew M.stands_for store.now catalog.now dxe.old steps.old steps.new }
 {
     dxe_runs_end();
-    run_dxe(dxe, store, queue, &FirstEligible, catalog, sink, steps)
+    match run_dxe(dxe, store, queue, &FirstEligible, 0, catalog, sink, steps)? {
+        Reached::End(end) => Ok(end),
+        Reached::Barred(_) => unreachable!(),
+    }
 }

@@ -1,5 +1,5 @@
 // A turn of the run: a step of the machine.
-ghost use Rattle.std.specs.Prelude.{◌≤◌, ◌+◌, ℕ, OnOk};
+ghost use Rattle.std.specs.Prelude.{◌≢◌, ◌≤◌, ◌+◌, ℕ, Bool, [], OnOk};
 ghost use Rattle.boot_io.specs.Halted.{HaltsAfter};
 ghost use Rattle.boot_model.specs.DxeMachine.{DxeMachine};
 ghost use Rattle.catalog_model.specs.WellFormed.{IsWellFormed};
@@ -11,6 +11,7 @@ ghost use Rattle.dxe_dispatch.specs.Turns.{AreOf, IsReady, OwesBehind, Turns, Tu
 
 use crate::aim::{aim, named};
 use crate::choose::choose;
+use crate::starts::starts;
 use crate::stop::put_stop;
 use crate::tell::tell;
 use boot_io::{Halt, Sink};
@@ -19,22 +20,25 @@ use catalog_model::Catalog;
 use depex_code::Steps;
 use dxe_choice::DriverQueue;
 use dxe_core::{Dxe, Stepped};
-use free_laws::{Choice, dxe_chooses_by_groups, dxe_goes_on, dxe_opens, groups_are_aimed};
+use free_laws::{Choice, Reached, dxe_chooses_by_groups, dxe_goes_on, dxe_opens, groups_are_aimed};
 use std::sync::ledger::Ledger;
 use store_model::PeiStore;
 
-// The next driver starts, or DXE stops.
-fn start_or_stop<S: Sink, L: Ledger>(
+// The next driver starts, if the choice lets it, or DXE stops. `starts` is how many starts there were.
+fn start_or_stop<S: Sink, C: Choice<S>, L: Ledger>(
     dxe: &mut Dxe,
     queue: &mut DriverQueue,
+    choice: &C,
+    starts: u64,
     catalog: &Catalog,
     sink: &mut S,
     steps: &mut Steps<L>,
-) -> Result<Option<DxeEnd>, Halt>
+) -> Result<Option<Reached<DxeEnd>>, Halt>
     requires catalog { IsWellFormed catalog.now }
     requires made { IsQueueFor catalog.now queue.old }
     requires state { (m : DxeMachine) × AreOf catalog.now dxe.old queue.old m × IsIdle m }
-    ensures row { TurnsIdle catalog.now dxe.old queue.old dxe.new queue.new (S.text sink.old) (S.text sink.new) result }
+    ensures row { TurnsIdle (C.lets_in_dxe choice.now starts) catalog.now
+        dxe.old queue.old dxe.new queue.new (S.text sink.old) (S.text sink.new) result }
     ensures made { OnOk result ((fuel : ℕ) → IsFor catalog.now fuel dxe.old → IsFor catalog.now fuel dxe.new) }
     ensures queue { OnOk result (IsQueueFor catalog.now queue.new) }
     ensures faults { HaltsAfter result (S.faults sink.old) (S.faults sink.new) }
@@ -43,36 +47,39 @@ fn start_or_stop<S: Sink, L: Ledger>(
 {
     match choose(dxe, queue, catalog, steps)? {
         Some(next) => {
+            if !choice.lets_driver(starts, next.module_number) {
+                return Ok(Some(Reached::Barred(next.module_number)));
+            }
             dxe.start(catalog, next, sink)?;
             Ok(None)
         }
         None => {
             put_stop(dxe, queue, catalog, sink)?;
-            Ok(Some(DxeEnd::Done))
+            Ok(Some(Reached::End(DxeEnd::Done)))
         }
     }
 }
 
-// The core takes a step; where it has none left the next driver starts, or DXE stops. The queue is told what the step did: the a priori drivers of the volumes that it discovered are scheduled.
-fn turn<M: PeiStore, S: Sink, L: Ledger>(
+// The core's own step, where a script runs, so that no driver starts. The queue is told what it did: the a priori drivers of the volumes that it discovered are scheduled.
+fn act<M: PeiStore, S: Sink>(
     dxe: &mut Dxe,
     store: &M,
     queue: &mut DriverQueue,
     catalog: &Catalog,
     sink: &mut S,
-    steps: &mut Steps<L>,
-) -> Result<Option<DxeEnd>, Halt>
+) -> Result<Option<Reached<DxeEnd>>, Halt>
     requires catalog { IsWellFormed catalog.now }
     requires queue { IsQueueFor catalog.now queue.old }
+    requires busy { dxe.old.frames ≢ [] }
     requires state { (m : DxeMachine) × (fuel : ℕ) × IsFor catalog.now fuel dxe.old
         × IsReady M.stands_for store.now catalog.now fuel dxe.old queue.old m }
-    ensures row { Turns M.stands_for store.now catalog.now dxe.old queue.old dxe.new queue.new (S.text sink.old) (S.text sink.new) result }
+    ensures row { (lets : ℕ → Bool) → Turns lets M.stands_for store.now catalog.now
+        dxe.old queue.old dxe.new queue.new (S.text sink.old) (S.text sink.new) result }
     ensures made { OnOk result ((fuel : ℕ) → IsFor catalog.now fuel dxe.old → IsFor catalog.now fuel dxe.new) }
     ensures queue { OnOk result (IsQueueFor catalog.now queue.new) }
     ensures faults { HaltsAfter result (S.faults sink.old) (S.faults sink.new) }
-    ensures few_steps { steps.new ≤ steps.old + owed queue.old }
-    ensures owes { OnOk result (OwesBehind M.stands_for store.now catalog.now dxe.old queue.old
-        (steps.old + owed queue.old) (steps.new + owed queue.new)) }
+    ensures owes { OnOk result ((before : ℕ) → OwesBehind M.stands_for store.now catalog.now dxe.old queue.old
+        (before + owed queue.old) (before + owed queue.new)) }
 {
     match dxe.step(store, catalog, sink)? {
         Stepped::Went(event) => {
@@ -80,26 +87,58 @@ fn turn<M: PeiStore, S: Sink, L: Ledger>(
             queue.discover(catalog, dxe.order(), event.known)?;
             Ok(None)
         }
-        Stepped::Idle => start_or_stop(dxe, queue, catalog, sink, steps),
-        Stepped::Ended(end) => Ok(Some(end)),
+        Stepped::Idle => unreachable!(),
+        Stepped::Ended(end) => Ok(Some(Reached::End(end))),
     }
 }
 
-/// A step of the machine; where a driver is to be chosen, a choice may name one first.
+// The core takes a step; where it has none left the next driver starts, if the choice lets it, or DXE stops. `starts` is how many starts there were.
+fn turn<M: PeiStore, S: Sink, C: Choice<S>, L: Ledger>(
+    dxe: &mut Dxe,
+    store: &M,
+    queue: &mut DriverQueue,
+    choice: &C,
+    starts: u64,
+    catalog: &Catalog,
+    sink: &mut S,
+    steps: &mut Steps<L>,
+) -> Result<Option<Reached<DxeEnd>>, Halt>
+    requires catalog { IsWellFormed catalog.now }
+    requires queue { IsQueueFor catalog.now queue.old }
+    requires state { (m : DxeMachine) × (fuel : ℕ) × IsFor catalog.now fuel dxe.old
+        × IsReady M.stands_for store.now catalog.now fuel dxe.old queue.old m }
+    ensures row { Turns (C.lets_in_dxe choice.now starts) M.stands_for store.now catalog.now
+        dxe.old queue.old dxe.new queue.new (S.text sink.old) (S.text sink.new) result }
+    ensures made { OnOk result ((fuel : ℕ) → IsFor catalog.now fuel dxe.old → IsFor catalog.now fuel dxe.new) }
+    ensures queue { OnOk result (IsQueueFor catalog.now queue.new) }
+    ensures faults { HaltsAfter result (S.faults sink.old) (S.faults sink.new) }
+    ensures few_steps { steps.new ≤ steps.old + owed queue.old }
+    ensures owes { OnOk result (OwesBehind M.stands_for store.now catalog.now dxe.old queue.old
+        (steps.old + owed queue.old) (steps.new + owed queue.new)) }
+{
+    if dxe.is_idle() {
+        start_or_stop(dxe, queue, choice, starts, catalog, sink, steps)
+    } else {
+        act(dxe, store, queue, catalog, sink)
+    }
+}
+
+/// A step of the machine; where a driver is to be chosen, a choice may name one first, and a driver starts only if it lets it. `in_pei` is how many starts there were in PEI.
 pub(crate) fn turn_by<M: PeiStore, S: Sink, C: Choice<S>, L: Ledger>(
     dxe: &mut Dxe,
     store: &M,
     queue: &mut DriverQueue,
     choice: &C,
+    in_pei: u32,
     catalog: &Catalog,
     sink: &mut S,
     steps: &mut Steps<L>,
-) -> Result<Option<DxeEnd>, Halt>
+) -> Result<Option<Reached<DxeEnd>>, Halt>
     requires catalog { IsWellFormed catalog.now }
     requires queue { IsQueueFor catalog.now queue.old }
     requires state { (m : DxeMachine) × (fuel : ℕ) × IsFor catalog.now fuel dxe.old
         × IsOnWay M.stands_for store.now catalog.now dxe.old queue.old m }
-    ensures row { TurnsByChoice (C.drivers choice.now) S.text S.faults M.stands_for store.now catalog.now
+    ensures row { TurnsByChoice (C.drivers choice.now) (C.lets_in_dxe choice.now) S.text S.faults in_pei M.stands_for store.now catalog.now
         dxe.old queue.old sink.old dxe.new queue.new sink.new (steps.old + owed queue.old) (steps.new + owed queue.new) result }
     ensures made { OnOk result ((fuel : ℕ) → IsFor catalog.now fuel dxe.old → IsFor catalog.now fuel dxe.new) }
     ensures queue { OnOk result (IsQueueFor catalog.now queue.new) }
@@ -110,7 +149,8 @@ pub(crate) fn turn_by<M: PeiStore, S: Sink, C: Choice<S>, L: Ledger>(
     dxe_goes_on();
     dxe_chooses_by_groups();
     groups_are_aimed();
-    let driver = named(dxe, queue, choice, sink);
+    let starts = starts(in_pei, queue);
+    let driver = named(dxe, queue, choice, starts, sink);
     aim(dxe, queue, catalog, driver, steps)?;
-    turn(dxe, store, queue, catalog, sink, steps)
+    turn(dxe, store, queue, choice, starts, catalog, sink, steps)
 }

@@ -1,5 +1,5 @@
 -- A run of DXE by the choices of a text: as far as the text has its lines, the free boots that begin so go on from it; and where the text has them no more, no free boot goes on as the text does.
-use Rattle.std.proofs.Common.{◌≡◌, ◌≤◌, ◌<◌, ℕ, ◌+◌, List, [], ◌∷◌, ◌++◌, Option, Some, None, refl, sym, ap, ◌∙◌, subst, length, arith, inl, inr}
+use Rattle.std.proofs.Common.{◌≡◌, ◌≤◌, ◌<◌, Bool, true, ℕ, ◌+◌, List, [], ◌∷◌, ◌++◌, Option, Some, None, refl, sym, ap, ◌∙◌, subst, length, arith, inl, inr}
 use Rattle.std.specs.Prelude.{◌⊎◌}
 use Rattle.std.proofs.lemmas.Bool.{cases_lt}
 use Rattle.std.proofs.lemmas.List.{take-append-drop}
@@ -28,11 +28,12 @@ use Rattle.free_text.specs.Spelled.{IsHeld, IsRight, faults_of, left, met, spoke
 use Rattle.free_text.proofs.Fronts.{prefix_then, shorter_front}
 use Rattle.free_text.proofs.Telling.{held_on, met_begins, off, tracks_on}
 use Rattle.module_names.specs.Named.{AreGuids, AreNames}
-use Rattle.dxe_dispatch.specs.Choices.{IsAimedBy, IsRunBy, came}
+use Rattle.pei_dispatch.specs.Ends.{pei_starts}
+use Rattle.dxe_dispatch.specs.Choices.{IsAimedBy, IsRunBy, LetsDrivers, came}
 use Rattle.dxe_dispatch.proofs.Chosen.{Any, StepLaws, nearer_by, same_lines, target_at}
 use Rattle.dxe_dispatch.proofs.Growing.{step_grew}
 use Rattle.dxe_dispatch.proofs.Targets.{Aimed, Doing, First, HasScheduled, IsTarget, MayChoose, Own, RunsScript, busy_owns, doing, first_step, none_aimed, none_named, scheduled_owns, target_is}
-use Rattle.whole_boot.specs.ByChoice.{NamesBehind}
+use Rattle.whole_boot.specs.Choices.{NamesBehind}
 use Rattle.free_check.specs.Starting.{NamesNext}
 use Rattle.free_check.specs.DxeAim.{LeadsTo}
 use Rattle.free_check.specs.DxeFollowed.{printed_by}
@@ -69,7 +70,11 @@ abbrev pub told_by : Spelled → Option (List ℕ)
 told_by s = Some (spoken s)
 
 abbrev pub TextNames : DriverRun → DxeMachine → Option ℕ → Type 0
-TextNames r = NamesBehind (NamesNext Dxe r.names) told_by faults_of r.first r.pei
+TextNames r = NamesBehind (λ text starts named. NamesNext Dxe r.names text named) told_by faults_of r.first r.pei
+
+-- a text lets each driver
+abbrev pub TextLets : DriverRun → DxeMachine → ℕ → Bool
+TextLets r = LetsDrivers (λ starts number. true) (pei_starts r.pei)
 
 abbrev pub opening : DriverRun → DxeMachine
 opening r = dxe_opening r.catalog r.s r.actions
@@ -81,7 +86,7 @@ abbrev pub Here : DriverRun → DxeMachine → List Line → Type 0
 Here r m = AreFreeDxeLines r.catalog r.fuel r.pei m
 
 abbrev pub IsRun : DriverRun → List DxeMachine → Type 0
-IsRun r earlier = IsRunBy (TextNames r) r.catalog r.fuel (opening r) earlier
+IsRun r earlier = IsRunBy (TextNames r) (TextLets r) r.catalog r.fuel (opening r) earlier
 
 both : (r : DriverRun) (m : DxeMachine) → printed_by r.pei m ≡ text_of r.pei.lines ++ text_of m.lines
 both r m = text_of-append r.pei.lines m.lines
@@ -101,7 +106,7 @@ way_at : (r : DriverRun) (earlier : List DxeMachine) → IsRun r earlier → IsU
 way_at r [] run = (r.opens r.catalog r.fuel r.s r.actions r.well.parents).way
 way_at r (target ∷ earlier) run =
     let m = come r earlier in
-    (nearer_by r.steps r.catalog r.fuel m target Any r.well run.1 (way_at r earlier run.2) (target_at (TextNames r) r.catalog m target r.steps.first run.1 run.0)).way
+    (nearer_by r.steps r.catalog r.fuel m target Any r.well run.2 (way_at r earlier run.3) (target_at (TextNames r) r.catalog m target r.steps.first run.2 run.0)).way
 
 -- the free boots over a step at which the choice is aimed
 aimed_by_text : (r : DriverRun) (m target : DxeMachine) (rest : List ℕ) → m.ended ≡ None → IsUnderWay r.catalog m → r.text ≡ printed_by r.pei m ++ rest → IsTarget r.catalog m (λ root. LeadsTo r.catalog m rest (Some root)) target
@@ -150,12 +155,12 @@ tracks_at r [] run there = record { back = λ lines are. are; on = λ lines are 
 tracks_at r (target ∷ earlier) run there =
     let m = come r earlier in
     let later = dxe_step r.catalog r.fuel target in
-    let k = step_leads r m target run.1 (way_at r earlier run.2) run.0 in
+    let k = step_leads r m target run.2 (way_at r earlier run.3) run.0 in
     let is = printed_more r.pei m later k.told k.lines in
     let before : IsPrefix (printed_by r.pei m) r.text = prefix_then (printed_by r.pei m) (printed_by r.pei later) r.text (text_of k.told, is) there in
     let on = tracks_by r.catalog r.fuel r.pei m later r.text k.told k.lines k.by there in
     subst (Tracks (Here r (opening r)) (Here r later)) (sym is)
-    (tracks_on (Here r (opening r)) (Here r m) (Here r later) (printed_by r.pei m) (text_of k.told) (tracks_at r earlier run.2 before) k.by.back
+    (tracks_on (Here r (opening r)) (Here r m) (Here r later) (printed_by r.pei m) (text_of k.told) (tracks_at r earlier run.3 before) k.by.back
     (λ lines are begins. on.on lines are (subst (λ t. IsPrefix t (text_of lines)) (sym is) begins)))
 
 -- the text parts from the lines of a machine
@@ -169,7 +174,7 @@ off_by : (r : DriverRun) (s : Spelled) (target : DxeMachine) (earlier : List Dxe
 off_by r s target earlier run parted (inr far) was =
     let m = come r earlier in
     let later = dxe_step r.catalog r.fuel target in
-    let k = step_leads r m target run.1 (way_at r earlier run.2) run.0 in
+    let k = step_leads r m target run.2 (way_at r earlier run.3) run.0 in
     let printed = printed_by r.pei m in
     let is = printed_more r.pei m later k.told k.lines in
     let long = parted.told_long in
@@ -187,11 +192,11 @@ off_by r s target earlier run parted (inr far) was =
       longer = far;
     } in
     let some = r.ends r.catalog r.fuel r.pei later r.well.parents (way_at r (target ∷ earlier) run) in
-    off (Here r (opening r)) (Here r m) s r.text printed (text_of k.told) here (tracks_at r earlier run.2 there) (all_print r.catalog r.fuel r.pei m later r.text k.told r.grow k.lines k.by some)
+    off (Here r (opening r)) (Here r m) s r.text printed (text_of k.told) here (tracks_at r earlier run.3 there) (all_print r.catalog r.fuel r.pei m later r.text k.told r.grow k.lines k.by some)
 off_by r s target earlier run parted (inl short) was =
     let m = come r earlier in
     let later = dxe_step r.catalog r.fuel target in
-    let k = step_leads r m target run.1 (way_at r earlier run.2) run.0 in
+    let k = step_leads r m target run.2 (way_at r earlier run.3) run.0 in
     let printed = printed_by r.pei m in
     let is = printed_more r.pei m later k.told k.lines in
     let long = parted.told_long in
@@ -215,4 +220,4 @@ off_at r s [] run parted =
     let prints : (lines : List Line) → Here r o lines → IsPrefix (text_of r.pei.lines ++ text_of o.lines) (text_of lines) = λ lines are. subst (λ t. IsPrefix t (text_of lines)) (both r o) (begins_printed r.catalog r.fuel r.pei o lines r.grow are) in
     off (Here r o) (Here r o) s r.text (text_of r.pei.lines) (text_of o.lines) parted (record { back = λ lines are. are; on = λ lines are begins. are })
     (record { some = (some.0, some.1, prints some.0 some.1); each = λ lines are. inl (prints lines are) })
-off_at r s (target ∷ earlier) run parted = off_by r s target earlier run parted (cases_lt (length (met s)) (length (printed_by r.pei (come r earlier)))) (off_at r s earlier run.2)
+off_at r s (target ∷ earlier) run parted = off_by r s target earlier run parted (cases_lt (length (met s)) (length (printed_by r.pei (come r earlier)))) (off_at r s earlier run.3)

@@ -1,5 +1,5 @@
 -- A run by the choices of a text: as far as the text has its lines, the free boots that begin so go on from it; and where the text has them no more, no free boot goes on as the text does.
-use Rattle.std.proofs.Common.{◌≡◌, ◌≤◌, ◌<◌, ℕ, zero, suc, ◌+◌, List, [], ◌∷◌, ◌++◌, Option, Some, None, refl, sym, ap, ◌∙◌, subst, length, arith, inl, inr}
+use Rattle.std.proofs.Common.{◌≡◌, ◌≤◌, ◌<◌, Bool, true, ℕ, zero, suc, ◌+◌, List, [], ◌∷◌, ◌++◌, Option, Some, None, refl, sym, ap, ◌∙◌, subst, length, arith, inl, inr}
 use Rattle.std.specs.Prelude.{◌⊎◌}
 use Rattle.boot_io.specs.Faults.{IsPrefix}
 use Rattle.pi_base.specs.declared.guid.Guid.{Guid}
@@ -27,7 +27,7 @@ use Rattle.free_text.specs.Spelled.{IsHeld, IsRight, faults_of, met, spoken, tol
 use Rattle.free_text.proofs.Fronts.{prefix_then, shorter_front}
 use Rattle.free_text.proofs.Telling.{held_on, met_begins, off, tracks_on}
 use Rattle.module_names.specs.Named.{AreGuids, AreNames}
-use Rattle.pei_dispatch.specs.Choices.{NamesPeims, IsRunBy, IsStepBy}
+use Rattle.pei_dispatch.specs.Choices.{LetsPeims, NamesPeims, IsRunBy, IsStepBy}
 use Rattle.pei_dispatch.proofs.Chosen.{idle_starts, some_first, step_is_free}
 use Rattle.pei_dispatch.proofs.Growing.{step_grew}
 use Rattle.free_check.specs.Starting.{NamesNext, start_of}
@@ -56,7 +56,11 @@ abbrev pub told_by : Spelled → Option (List ℕ)
 told_by s = Some (spoken s)
 
 abbrev pub TextNames : TextRun → PeiMachine → Option ℕ → Type 0
-TextNames r = NamesPeims (NamesNext InPei r.names) told_by faults_of r.first
+TextNames r = NamesPeims (λ text starts named. NamesNext InPei r.names text named) told_by faults_of r.first
+
+-- a text lets each module
+abbrev pub TextLets : PeiMachine → ℕ → Bool
+TextLets = LetsPeims (λ starts number. true)
 
 abbrev pub Start : TextRun → List Line → Type 0
 Start r = AreFreeLines r.board r.catalog r.fuel
@@ -77,10 +81,10 @@ held_at r m s has =
     held_on r.first s (whole r.first) [] (text_of m.lines) (held_first r) (r.laws.puts r.first s (text_of m.lines) has.put r.right still) still
 
 -- each machine of the run is under way
-pub way_at : (r : TextRun) (m : PeiMachine) (earlier : List PeiMachine) → IsRunBy (TextNames r) r.catalog r.fuel (opening r) earlier m → IsUnderWay r.catalog m
+pub way_at : (r : TextRun) (m : PeiMachine) (earlier : List PeiMachine) → IsRunBy (TextNames r) TextLets r.catalog r.fuel (opening r) earlier m → IsUnderWay r.catalog m
 way_at r m [] run = subst (λ x. IsUnderWay r.catalog x) (sym run) (r.opens r.board r.catalog r.fuel).way
 way_at r m (before ∷ earlier) run =
-    (r.nearer r.catalog r.fuel before m run.0 (way_at r before earlier run.2) (step_is_free r.aims r.laws.own (TextNames r) r.catalog r.fuel before m run.1)).way
+    (r.nearer r.catalog r.fuel before m run.0 (way_at r before earlier run.2) (step_is_free r.aims r.laws.own (TextNames r) TextLets r.catalog r.fuel before m run.1)).way
 
 -- What a step printed, and how the free boots go on over it.
 pub record Leads (r : TextRun) (m later : PeiMachine) : Type 0 where
@@ -88,7 +92,7 @@ pub record Leads (r : TextRun) (m later : PeiMachine) : Type 0 where
   pub leads : LeadsOn r.catalog r.fuel (whole r.first) m later told
   pub onward : GoOnFrom r.catalog r.fuel (whole r.first) m later told
 
-pub step_leads : (r : TextRun) (m later : PeiMachine) → m.ended ≡ None → IsUnderWay r.catalog m → IsStepBy (TextNames r) r.catalog r.fuel m later → Leads r m later
+pub step_leads : (r : TextRun) (m later : PeiMachine) → m.ended ≡ None → IsUnderWay r.catalog m → IsStepBy (TextNames r) TextLets r.catalog r.fuel m later → Leads r m later
 step_leads r m later running way (inl step) =
     let grew = step_grew r.catalog r.fuel m in
     let same = r.laws.goes r.catalog r.fuel m running step.own in
@@ -99,19 +103,20 @@ step_leads r m later running way (inl step) =
     } in
     subst (λ x. Leads r m x) (sym step.is) all
 step_leads r m later running way (inr step) =
-    let aim = r.aims r.catalog m step.cursor in
-    let found = step.next in
+    let due = step.due in
+    let aim = r.aims r.catalog m due.cursor in
+    let found = due.next in
     let may = aim.chosen step.number found in
-    let first = some_first r.catalog m step.cursor step.number aim.none found in
-    let starts = r.starts r.catalog r.fuel m first.0 running (idle_starts r.catalog m first.0 step.idle first.1) in
-    let held = held_at r m step.allowed.sink step.allowed.has in
-    let c : Choice = record { catalog = r.catalog; fuel = r.fuel; m = m; cursor = step.cursor; s = step.allowed.sink; text = whole r.first; number = step.number } in
+    let first = some_first r.catalog m due.cursor step.number aim.none found in
+    let starts = r.starts r.catalog r.fuel m first.0 running (idle_starts r.catalog m first.0 due.idle first.1) in
+    let held = held_at r m due.allowed.sink due.allowed.has in
+    let c : Choice = record { catalog = r.catalog; fuel = r.fuel; m = m; cursor = due.cursor; s = due.allowed.sink; text = whole r.first; number = step.number } in
     let is : IsChoice c = record {
       well = r.well;
       guids = r.guids;
       way = way;
       held = held;
-      aimed = aimed_at r.catalog r.names step.allowed.sink (pei_order r.catalog m.reported) m.cursor step.cursor step.named step.allowed.is held.right r.are step.place;
+      aimed = aimed_at r.catalog r.names due.allowed.sink (pei_order r.catalog m.reported) m.cursor due.cursor due.named due.allowed.is held.right r.are due.place;
       aims = aim;
       found = found;
     } in
@@ -134,7 +139,7 @@ printed_is : (r : TextRun) (m later : PeiMachine) (k : Leads r m later) → text
 printed_is r m later k = ap text_of k.leads.lines ∙ text_of-append m.lines k.told
 
 -- As far as the text has the lines of the run, the free boots from the opening whose text begins so are those from here.
-pub tracks_at : (r : TextRun) (m : PeiMachine) (earlier : List PeiMachine) → IsRunBy (TextNames r) r.catalog r.fuel (opening r) earlier m → IsPrefix (text_of m.lines) (whole r.first) → Tracks (Start r) (Here r m) (text_of m.lines)
+pub tracks_at : (r : TextRun) (m : PeiMachine) (earlier : List PeiMachine) → IsRunBy (TextNames r) TextLets r.catalog r.fuel (opening r) earlier m → IsPrefix (text_of m.lines) (whole r.first) → Tracks (Start r) (Here r m) (text_of m.lines)
 tracks_at r m [] run there =
     let all : Tracks (Start r) (Here r (opening r)) (text_of (opening r).lines) = record { back = λ lines start. start; on = λ lines start begins. start } in
     subst (λ x. Tracks (Start r) (Here r x) (text_of x.lines)) (sym run) all
@@ -172,7 +177,7 @@ all_print r m later k way =
     by lines (inr parts) = inr parts
 
 -- the text is off in the last step, or was before it
-off_by : (r : TextRun) (s : Spelled) (m before : PeiMachine) (earlier : List PeiMachine) → IsRunBy (TextNames r) r.catalog r.fuel (opening r) (before ∷ earlier) m → HasParted s (whole r.first) [] (text_of m.lines)
+off_by : (r : TextRun) (s : Spelled) (m before : PeiMachine) (earlier : List PeiMachine) → IsRunBy (TextNames r) TextLets r.catalog r.fuel (opening r) (before ∷ earlier) m → HasParted s (whole r.first) [] (text_of m.lines)
     → (length (text_of before.lines) ≤ length (met s)) ⊎ (length (met s) < length (text_of before.lines))
     → (HasParted s (whole r.first) [] (text_of before.lines) → IsOffHere (Start r) (whole r.first) s) → IsOffHere (Start r) (whole r.first) s
 off_by r s m before earlier run parted (inl far) was =
@@ -213,7 +218,7 @@ off_by r s m before earlier run parted (inr short) was =
     })
 
 -- Where the text has the lines of the run no more, no free boot goes on as the text does: it is off in the step in which they part.
-pub off_at : (r : TextRun) (s : Spelled) (m : PeiMachine) (earlier : List PeiMachine) → IsRunBy (TextNames r) r.catalog r.fuel (opening r) earlier m → HasParted s (whole r.first) [] (text_of m.lines) → IsOffHere (Start r) (whole r.first) s
+pub off_at : (r : TextRun) (s : Spelled) (m : PeiMachine) (earlier : List PeiMachine) → IsRunBy (TextNames r) TextLets r.catalog r.fuel (opening r) earlier m → HasParted s (whole r.first) [] (text_of m.lines) → IsOffHere (Start r) (whole r.first) s
 off_at r s m [] run parted =
     let o = opening r in
     let text = whole r.first in

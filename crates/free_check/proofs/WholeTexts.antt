@@ -1,11 +1,11 @@
 -- A boot by the choices of a text: where it came to its end the text has all its lines, and where it was given up the text is off.
-use Rattle.std.proofs.Common.{◌≡◌, ℕ, Bool, List, [], ◌++◌, Option, Some, Result, Ok, Err, sym, ap, ◌∙◌, subst, inl, inr}
+use Rattle.std.proofs.Common.{◌≡◌, ℕ, Bool, true, true≢false, List, [], ◌++◌, Option, Some, Result, Ok, Err, sym, ap, ◌∙◌, subst, inl, inr}
 use Rattle.std.specs.Prelude.{◌↔◌}
 use Rattle.boot_io.specs.Faults.{IsPrefix}
 use Rattle.boot_io.specs.Halted.{HaltsAfter}
 use Rattle.boot_io.specs.declared.halt.Halt.{Halt}
 use Rattle.boot_io.specs.declared.halt.Halt.TheVariants as H
-use Rattle.pi_base.specs.declared.phase.Phase.TheVariants.{Dxe}
+use Rattle.pi_base.specs.declared.phase.Phase.TheVariants.{Pei, Dxe}
 use Rattle.store_model.specs.HandleState.{HandleState, no_handles}
 use Rattle.store_model.specs.StoreState.{StoreState}
 use Rattle.boot_model.specs.declared.line.Line.{Line}
@@ -36,8 +36,11 @@ use Rattle.free_text.proofs.Telling.{held_begins, held_on}
 use Rattle.pei_dispatch.specs.Choices.{ComesTo}
 use Rattle.dxe_dispatch.specs.Choices.{came}
 use Rattle.dxe_dispatch.proofs.Chosen.{StepLaws}
+use Rattle.whole_boot.specs.declared.boot.Booted.{Booted}
+use Rattle.whole_boot.specs.declared.boot.Booted.TheVariants as B
 use Rattle.whole_boot.specs.declared.boot.Ran.{Ran}
-use Rattle.whole_boot.specs.ByChoice.{BootsTo, EndsAfter, HasRun, NamesBehind, StopsBehind, StopsBehindPei, all_lines, last_lines, stops_at_last, stops_in_dxe}
+use Rattle.whole_boot.specs.Choices.{Choices, choices_of}
+use Rattle.whole_boot.specs.ByChoice.{BootsTo, EndsAfter, HasRun, StopsBehind, StopsBehindPei, all_lines, last_lines, stops_at_last, stops_in_dxe}
 use Rattle.whole_boot.specs.Closing.{closing}
 use Rattle.free_check.specs.DxeFollowed.{printed_by}
 use Rattle.free_check.specs.Following.{Follows, IsFollowed, IsLast}
@@ -96,15 +99,17 @@ behind b pei = record {
   held = held_first b.run;
 }
 
-abbrev pub TextDrivers : TextBoot → PeiMachine → DxeMachine → Option ℕ → Type 0
-TextDrivers b = NamesBehind (NamesNext Dxe b.run.names) told_by faults_of b.run.first
+abbrev pub TextChoices : TextBoot → Choices
+TextChoices b =
+    choices_of (λ text starts named. NamesNext Pei b.run.names text named) (λ starts number. true) (λ text starts named. NamesNext Dxe b.run.names text named) (λ starts number. true)
+    told_by faults_of b.run.first
 
 abbrev Opening : TextBoot → PeiMachine → List Line → Type 0
 Opening b pei = AreFreeDxeLines b.run.catalog b.run.fuel pei (dxe_opening b.run.catalog pei.store pei.actions)
 
 -- the run of PEI comes to this machine
 abbrev Comes : TextBoot → PeiMachine → Type 0
-Comes b pei = ComesTo (P.TextNames b.run) b.run.catalog b.run.fuel (pei_opening b.run.board b.run.catalog) pei
+Comes b pei = ComesTo (P.TextNames b.run) P.TextLets b.run.catalog b.run.fuel (pei_opening b.run.board b.run.catalog) pei
 
 -- a sink that has lines has met them
 held_lines : (b : TextBoot) (lines : List Line) (s : Spelled) → HasPut told_by faults_of b.run.first lines s → IsHeld s (text_in b) (text_of lines)
@@ -125,7 +130,7 @@ IsLastOf b pei lines handles end = IsLast (P.Start b.run) (text_of lines) (text_
 last_in_pei : (b : TextBoot) (pei : PeiMachine) (so : RunEnd) (lines : List Line) (handles : HandleState) (end : RunEnd) → lines ≡ pei.lines → handles ≡ no_handles → end ≡ so → IsLastOf b pei pei.lines no_handles so → IsLastOf b pei lines handles end
 last_in_pei b pei so lines handles end a c d is = subst (λ l. IsLastOf b pei l handles end) (sym a) (subst (λ h. IsLastOf b pei pei.lines h end) (sym c) (subst (λ e. IsLastOf b pei pei.lines no_handles e) (sym d) is))
 
-last_of : (b : TextBoot) (pei : PeiMachine) (how : PeiEnd) (lines : List Line) (handles : HandleState) (end : RunEnd) → Comes b pei → pei.ended ≡ Some how → EndsAfter (TextDrivers b) b.run.catalog b.run.fuel pei how lines handles end → IsPrefix (text_of lines) (text_in b)
+last_of : (b : TextBoot) (pei : PeiMachine) (how : PeiEnd) (lines : List Line) (handles : HandleState) (end : RunEnd) → Comes b pei → pei.ended ≡ Some how → EndsAfter (TextChoices b) b.run.catalog b.run.fuel pei how lines handles end → IsPrefix (text_of lines) (text_in b)
     → IsLastOf b pei lines handles end
 last_of b pei Handoff lines handles end comes ended ends there =
     let r = behind b pei in
@@ -152,7 +157,7 @@ last_of b pei Deep lines handles end comes ended ends there =
     last_in_pei b pei E.Deep lines handles end ends.lines_are ends.handles_are ends.end_is (last_of_pei (P.Start b.run) (P.Here b.run pei) pei E.Deep (tracks_pei b pei comes first) (ends_pei b pei Deep ended))
 
 -- the boot came to its end
-text_ran : {M : Type 0} (b : TextBoot) (stands : M → StoreState → Type 0) (ran : Ran M) (s : Spelled) → HasRun (P.TextNames b.run) (TextDrivers b) stands b.run.board b.run.catalog b.run.fuel ran (told_by b.run.first) (told_by s) → faults_of s ≡ faults_of b.run.first
+text_ran : {M : Type 0} (b : TextBoot) (stands : M → StoreState → Type 0) (ran : Ran M) (s : Spelled) → HasRun (TextChoices b) stands b.run.board b.run.catalog b.run.fuel ran (told_by b.run.first) (told_by s) → faults_of s ≡ faults_of b.run.first
     → Follows (P.Start b.run) (text_in b) s (Ok tt)
 text_ran b stands ran s by same =
     let boot = by.boot in
@@ -163,10 +168,10 @@ text_ran b stands ran s by same =
     (last_of b boot.pei boot.how boot.lines boot.handles boot.result boot.comes boot.ended boot.ends there)
 
 -- it was given up behind its PEI
-off_behind_pei : (b : TextBoot) (s : Spelled) → (IsRight s → ⊥) → StopsBehindPei (P.TextNames b.run) (TextDrivers b) told_by faults_of b.run.board b.run.catalog b.run.fuel b.run.first s → IsOffHere (P.Start b.run) (text_in b) s
+off_behind_pei : (b : TextBoot) (s : Spelled) → (IsRight s → ⊥) → StopsBehindPei (TextChoices b) told_by faults_of b.run.board b.run.catalog b.run.fuel b.run.first s → IsOffHere (P.Start b.run) (text_in b) s
 off_behind_pei b s wrong by = stage by.stops
   where
-    stage : StopsBehind (TextDrivers b) told_by faults_of b.run.catalog b.run.fuel by.pei by.how b.run.first s → IsOffHere (P.Start b.run) (text_in b) s
+    stage : StopsBehind (TextChoices b) told_by faults_of b.run.catalog b.run.fuel by.pei by.how b.run.first s → IsOffHere (P.Start b.run) (text_in b) s
     stage (stops_in_dxe m handed comes put) =
         let r = behind b by.pei in
         let held = held_lines b by.pei.lines put.sink put.has in
@@ -181,16 +186,18 @@ off_behind_pei b s wrong by = stage by.stops
         off_by (P.Start b.run) put.sink s (text_in b) (text_of lines) (text_of (closing by.pei.store handles end)) held (last_of b by.pei by.how lines handles end by.comes by.ended ends there) wrong put.part
 
 -- it was given up
-text_stopped : {M : Type 0} (b : TextBoot) (stands : M → StoreState → Type 0) (takes : Bool) (s : Spelled) (halt : Halt) → BootsTo (P.TextNames b.run) (TextDrivers b) told_by faults_of stands takes b.run.board b.run.catalog b.run.fuel b.run.first s (Err halt)
-    → HaltsAfter {A = Ran M} (Err halt) (faults_of b.run.first) (faults_of s) → Follows (P.Start b.run) (text_in b) s (Err (parted_by halt))
+text_stopped : {M : Type 0} (b : TextBoot) (stands : M → StoreState → Type 0) (takes : Bool) (s : Spelled) (halt : Halt) → BootsTo (TextChoices b) told_by faults_of stands takes b.run.board b.run.catalog b.run.fuel b.run.first s (Err halt)
+    → HaltsAfter {A = Booted M} (Err halt) (faults_of b.run.first) (faults_of s) → Follows (P.Start b.run) (text_in b) s (Err (parted_by halt))
 text_stopped b stands takes s H.Memory by count = tt
 text_stopped b stands takes s H.Sink (inl by) count =
     let wrong = not_right (faults_of b.run.first) (faults_of s) b.run.right count.1 in
     P.off_at b.run s by.m by.comes.earlier by.comes.run (b.run.laws.parts b.run.first s (text_in b) [] (text_of by.m.lines) (held_first b.run) wrong by.part)
 text_stopped b stands takes s H.Sink (inr by) count = off_behind_pei b s (not_right (faults_of b.run.first) (faults_of s) b.run.right count.1) by
 
--- what following it comes to
-pub text_follows : {M : Type 0} (b : TextBoot) (stands : M → StoreState → Type 0) (takes : Bool) (s : Spelled) (ran : Result (Ran M) Halt) (followed : Result (Unit {0}) Parted) → BootsTo (P.TextNames b.run) (TextDrivers b) told_by faults_of stands takes b.run.board b.run.catalog b.run.fuel b.run.first s ran
-    → HaltsAfter ran (faults_of b.run.first) (faults_of s) → IsFollowed ran followed → Follows (P.Start b.run) (text_in b) s followed
-text_follows b stands takes s (Ok ran) followed by count is = subst (Follows (P.Start b.run) (text_in b) s) (sym is) (text_ran b stands ran s by count)
+-- what following it comes to; each module is let
+pub text_follows : {M : Type 0} (b : TextBoot) (stands : M → StoreState → Type 0) (takes : Bool) (s : Spelled) (booted : Result (Booted M) Halt) (followed : Result (Unit {0}) Parted) → BootsTo (TextChoices b) told_by faults_of stands takes b.run.board b.run.catalog b.run.fuel b.run.first s booted
+    → HaltsAfter booted (faults_of b.run.first) (faults_of s) → IsFollowed booted followed → Follows (P.Start b.run) (text_in b) s followed
+text_follows b stands takes s (Ok (B.Ended ran)) followed by count is = subst (Follows (P.Start b.run) (text_in b) s) (sym is) (text_ran b stands ran s by count)
+text_follows b stands takes s (Ok (B.BarredInPei barred)) followed by count is = absurd (true≢false by.bars.barred)
+text_follows b stands takes s (Ok (B.BarredInDxe left barred)) followed by count is = absurd (true≢false by.bars.bars)
 text_follows b stands takes s (Err halt) followed by count is = subst (Follows (P.Start b.run) (text_in b) s) (sym is) (text_stopped b stands takes s halt by count)

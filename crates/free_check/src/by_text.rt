@@ -1,4 +1,4 @@
-//! The choice that a text has: the module that starts next is the one of which the text's next line says so.
+//! The choice that a text has: the module that starts next is the one of which the text's next line says so, and each is let.
 ghost use Rattle.free_check.specs.Starting.{NamesNext};
 
 use crate::text_start::next_start;
@@ -25,18 +25,35 @@ fn named_next(names: &Names, text: &Spelled<'_>, phase: Phase) -> Option<u32>
 }
 
 impl<'t> Choice<Spelled<'t>> for ByText<'_> {
+    ghost use Rattle.std.specs.Prelude.{◌≡◌, true};
     ghost use Rattle.pi_base.specs.declared.phase.Phase.TheVariants.{Pei, Dxe};
     ghost use Rattle.free_check.specs.Starting.{NamesNext};
 
-    ghost peims = { λ by text named. NamesNext Pei by.names.now.volumes.items text named };
+    ghost peims = { λ by text starts named. NamesNext Pei by.names.now.volumes.items text named };
 
-    ghost drivers = { λ by text named. NamesNext Dxe by.names.now.volumes.items text named };
+    ghost drivers = { λ by text starts named. NamesNext Dxe by.names.now.volumes.items text named };
 
-    fn peim(&self, sink: &Spelled<'t>) -> Option<u32> {
+    ghost lets_in_pei = { λ by starts number. true };
+
+    ghost lets_in_dxe = { λ by starts number. true };
+
+    fn peim(&self, sink: &Spelled<'t>, _starts: u64) -> Option<u32> {
         named_next(self.names, sink, Phase::Pei)
     }
 
-    fn driver(&self, sink: &Spelled<'t>) -> Option<u32> {
+    fn driver(&self, sink: &Spelled<'t>, _starts: u64) -> Option<u32> {
         named_next(self.names, sink, Phase::Dxe)
+    }
+
+    fn lets_peim(&self, _starts: u64, _number: u32) -> bool
+        ensures { result ≡ true }
+    {
+        true
+    }
+
+    fn lets_driver(&self, _starts: u64, _number: u32) -> bool
+        ensures { result ≡ true }
+    {
+        true
     }
 }

@@ -18,13 +18,13 @@ use free_text::{Parted, Spelled, text_tells};
 use module_names::{Names, names_are_guids};
 use std::alloc::Global;
 use store_model::PeiStore;
-use whole_boot::{Ran, boot_by_choice};
+use whole_boot::{Booted, boot_by_choice};
 
 // What following a boot comes to, by how the boot ended or why it was given up.
-fn followed<M: PeiStore + Drop>(ran: Result<Ran<M>, Halt>) -> Result<(), Parted>
-    ensures { IsFollowed ran result }
+fn followed<M: PeiStore + Drop>(booted: Result<Booted<M>, Halt>) -> Result<(), Parted>
+    ensures { IsFollowed booted result }
 {
-    ran?;
+    booted?;
     Ok(())
 }
 
@@ -63,6 +63,6 @@ pub(crate) fn follow_boot<M: PeiStore + Drop>(
     few_drivers_wait();
     dxe_lines_grow();
     dxe_ends();
-    let ran = boot_by_choice(alloc, store, catalog, fuel, &ByText { names }, text);
-    followed(ran)
+    let booted = boot_by_choice(alloc, store, catalog, fuel, &ByText { names }, text);
+    followed(booted)
 }

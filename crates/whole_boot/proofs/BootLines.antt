@@ -15,6 +15,7 @@ use Rattle.boot_model.specs.DxeMachine.{DxeMachine}
 use Rattle.boot_model.specs.DxeRun.{dxe_end}
 use Rattle.boot_model.specs.PeiMachine.{PeiMachine}
 use Rattle.whole_boot.specs.ByChoice.{EndsAfter, EndsInPei}
+use Rattle.whole_boot.specs.Choices.{Choices}
 use Rattle.whole_boot.specs.Closing.{closing}
 
 -- the same lines, handles and result
@@ -27,13 +28,13 @@ pub whole_of_pei : (so : RunEnd) (pei : PeiMachine) (lines : List Line) (handles
 whole_of_pei so pei lines handles end ends = same_whole pei.store lines pei.lines handles no_handles end so ends.lines_are ends.handles_are ends.end_is
 
 -- all lines but the last ones begin with those of PEI
-pub begins_with_pei : (Drivers : PeiMachine → DxeMachine → Option ℕ → Type 0) (catalog : Catalog) (fuel : ℕ) (pei : PeiMachine) (how : PeiEnd) (lines : List Line) (handles : HandleState) (end : RunEnd) → EndsAfter Drivers catalog fuel pei how lines handles end
+pub begins_with_pei : (choices : Choices) (catalog : Catalog) (fuel : ℕ) (pei : PeiMachine) (how : PeiEnd) (lines : List Line) (handles : HandleState) (end : RunEnd) → EndsAfter choices catalog fuel pei how lines handles end
     → (more : List Line) × (lines ≡ pei.lines ++ more)
-begins_with_pei Drivers catalog fuel pei Handoff lines handles end ends = (ends.dxe.lines, ends.lines_are)
-begins_with_pei Drivers catalog fuel pei NoMemory lines handles end ends = ([], ends.lines_are ∙ sym (append-nil pei.lines))
-begins_with_pei Drivers catalog fuel pei NoIpl lines handles end ends = ([], ends.lines_are ∙ sym (append-nil pei.lines))
-begins_with_pei Drivers catalog fuel pei Spent lines handles end ends = ([], ends.lines_are ∙ sym (append-nil pei.lines))
-begins_with_pei Drivers catalog fuel pei Deep lines handles end ends = ([], ends.lines_are ∙ sym (append-nil pei.lines))
+begins_with_pei choices catalog fuel pei Handoff lines handles end ends = (ends.dxe.lines, ends.lines_are)
+begins_with_pei choices catalog fuel pei NoMemory lines handles end ends = ([], ends.lines_are ∙ sym (append-nil pei.lines))
+begins_with_pei choices catalog fuel pei NoIpl lines handles end ends = ([], ends.lines_are ∙ sym (append-nil pei.lines))
+begins_with_pei choices catalog fuel pei Spent lines handles end ends = ([], ends.lines_are ∙ sym (append-nil pei.lines))
+begins_with_pei choices catalog fuel pei Deep lines handles end ends = ([], ends.lines_are ∙ sym (append-nil pei.lines))
 
 -- the lines of a boot that handed off begin with those of both phases
 pub both_first : (pei : PeiMachine) (dxe : DxeMachine) (o : Option DxeEnd) → (rest : List Line) × (both_lines pei dxe o ≡ (pei.lines ++ dxe.lines) ++ rest)

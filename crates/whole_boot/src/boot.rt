@@ -1,107 +1,20 @@
 //! A boot over a store that is as it was made, where a choice says which module starts.
-ghost use Rattle.std.specs.Prelude.{◌≡◌, ◌≤◌, ◌<◌, ◌^◌, IfOk, length};
-ghost use Rattle.boot_model.specs.declared.phase_end.PeiEnd.TheVariants.{Handoff};
-ghost use Rattle.store_model.specs.Service.{Present, OfEach};
-ghost use Rattle.store_model.specs.StoreCall.{Anything};
-ghost use Rattle.store_model.specs.HandleState.{no_handles};
-ghost use Rattle.store_model.specs.StoreState.{Board, empty_store};
-ghost use Rattle.catalog_model.specs.WellFormed.{IsWellFormed};
+ghost use Rattle.std.specs.Prelude.{◌≤◌, IfOk, length};
 ghost use Rattle.boot_io.specs.Halted.{HaltsAfter};
-ghost use Rattle.whole_boot.specs.Behind.{BootsBehind};
-ghost use Rattle.whole_boot.specs.ByChoice.{BootsByChoice, PutsFreeBoot};
-ghost use Rattle.whole_boot.specs.Closing.{closing_text};
-ghost use Rattle.whole_boot.specs.FirstBoot.{Tells};
+ghost use Rattle.catalog_model.specs.WellFormed.{IsWellFormed};
+ghost use Rattle.store_model.specs.StoreState.{Board, empty_store};
+ghost use Rattle.whole_boot.specs.ByChoice.{BootsByChoice};
+ghost use Rattle.whole_boot.specs.FreeWay.{GoesFreely};
 
-use crate::closing::{put_closing, result_of};
+use crate::behind::{Behind, boot_behind};
+use crate::free::choices_are_free;
 use boot_io::{Halt, Sink};
-use boot_model::{PeiEnd, RunEnd};
+use boot_model::RunEnd;
 use catalog_model::Catalog;
-use dxe_dispatch::boot_dxe;
-use dxe_handles::Handles;
-use free_laws::{
-    Choice, cursor_aims, dxe_chooses_by_groups, dxe_goes_on, groups_are_aimed, pei_starts_freely,
-};
-use pei_dispatch::{Ended, boot_pei};
+use free_laws::Choice;
+use pei_dispatch::{Barred, Ended, Left, boot_pei};
 use std::alloc::Global;
 use store_model::PeiStore;
-
-// Puts the last lines, and answers the result.
-fn close<M: PeiStore, S: Sink>(
-    store: &M,
-    handles: &Handles,
-    end: RunEnd,
-    sink: &mut S,
-) -> Result<RunEnd, Halt>
-    requires state { Present (M.stands_for store.now) Anything }
-    requires few { length handles.now.interfaces < 2 ^ 32 }
-    ensures row { OfEach (M.stands_for store.now) Anything (λ s. Tells (λ answer. answer ≡ end) (closing_text s handles.now end)
-        (record { old = S.text sink.old; new = S.text sink.new }) result) }
-    ensures faults { HaltsAfter result (S.faults sink.old) (S.faults sink.new) }
-{
-    put_closing(sink, store, handles, end)?;
-    Ok(end)
-}
-
-// DXE behind the hand-off, to the last line.
-fn boot_drivers<M: PeiStore, S: Sink, C: Choice<S>>(
-    alloc: Global,
-    store: &M,
-    catalog: &Catalog,
-    fuel: u32,
-    taken: u32,
-    choice: &C,
-    sink: &mut S,
-) -> Result<RunEnd, Halt>
-    requires catalog { IsWellFormed catalog.now }
-    requires state { Present (M.stands_for store.now) Anything }
-    ensures row { BootsBehind (C.drivers choice.now) S.text S.faults M.stands_for store.now Handoff taken catalog.now fuel
-        sink.old sink.new result }
-    ensures faults { HaltsAfter result (S.faults sink.old) (S.faults sink.new) }
-{
-    let ended = boot_dxe(alloc, store, catalog, fuel, taken, choice, sink)?;
-    close(store, &ended.handles, result_of(ended.end), sink)
-}
-
-// The last lines of a boot that ended in PEI, where there are no handles.
-fn close_pei<M: PeiStore, S: Sink>(
-    alloc: Global,
-    store: &M,
-    end: RunEnd,
-    sink: &mut S,
-) -> Result<RunEnd, Halt>
-    requires state { Present (M.stands_for store.now) Anything }
-    ensures row { OfEach (M.stands_for store.now) Anything (λ s. Tells (λ answer. answer ≡ end) (closing_text s no_handles end)
-        (record { old = S.text sink.old; new = S.text sink.new }) result) }
-    ensures faults { HaltsAfter result (S.faults sink.old) (S.faults sink.new) }
-{
-    close(store, &Handles::new(alloc), end, sink)
-}
-
-// What follows PEI, to the last line.
-fn boot_behind<M: PeiStore + Drop, S: Sink, C: Choice<S>>(
-    alloc: Global,
-    pei: &Ended<M>,
-    catalog: &Catalog,
-    fuel: u32,
-    choice: &C,
-    sink: &mut S,
-) -> Result<RunEnd, Halt>
-    requires catalog { IsWellFormed catalog.now }
-    requires state { Present (M.stands_for pei.now.store) Anything }
-    ensures row { BootsBehind (C.drivers choice.now) S.text S.faults M.stands_for pei.now.store pei.now.end pei.now.actions catalog.now fuel
-        sink.old sink.new result }
-    ensures faults { HaltsAfter result (S.faults sink.old) (S.faults sink.new) }
-{
-    match pei.end {
-        PeiEnd::Handoff => {
-            boot_drivers(alloc, &pei.store, catalog, fuel, pei.actions, choice, sink)
-        }
-        PeiEnd::NoMemory => close_pei(alloc, &pei.store, RunEnd::NoMemory, sink),
-        PeiEnd::NoIpl => close_pei(alloc, &pei.store, RunEnd::NoIpl, sink),
-        PeiEnd::Spent => close_pei(alloc, &pei.store, RunEnd::Spent, sink),
-        PeiEnd::Deep => close_pei(alloc, &pei.store, RunEnd::Deep, sink),
-    }
-}
 
 /// What a boot leaves at its end.
 #[derive(Drop)]
@@ -112,7 +25,23 @@ pub struct Ran<M: PeiStore + Drop> {
     pub pei: Ended<M>,
 }
 
-/// A boot from its first line to its last: PEI, DXE behind a hand-off, the lists, the handles and the result; where several modules may start, a choice says which. `fuel` is how many actions may be taken.
+/// What a boot by a choice came to.
+#[derive(Drop)]
+pub enum Booted<M: PeiStore + Drop> {
+    /// Its end, and its last line was put.
+    Ended(Ran<M>),
+    /// The start of a PEIM that the choice does not let.
+    BarredInPei(Barred<M>),
+    /// The start of a driver that it does not let.
+    BarredInDxe {
+        /// The end of PEI, with the store, which DXE changes no more.
+        pei: Ended<M>,
+        /// The driver, and the handles as they are there.
+        barred: dxe_dispatch::Barred,
+    },
+}
+
+/// A boot from its first line to its last: PEI, DXE behind a hand-off, the lists, the handles and the result; where several modules may start, a choice says which. Before the start of a module that the choice does not let the boot is left. `fuel` is how many actions may be taken.
 /// What it puts are the lines of a boot whose choices are these, which is a free one. Over a store that takes no memory, memory is wanting before anything is put, or behind all lines of PEI.
 pub fn boot_by_choice<M: PeiStore + Drop, S: Sink, C: Choice<S>>(
     alloc: Global,
@@ -121,22 +50,23 @@ pub fn boot_by_choice<M: PeiStore + Drop, S: Sink, C: Choice<S>>(
     fuel: u32,
     choice: &C,
     sink: &mut S,
-) -> Result<Ran<M>, Halt>
+) -> Result<Booted<M>, Halt>
     requires catalog { IsWellFormed catalog.now }
     requires some { 1 ≤ length catalog.now.volumes }
     requires opening { (board : Board) × M.stands_for store (empty_store board) }
-    ensures row { BootsByChoice (C.peims choice.now) (C.drivers choice.now) S.text S.faults M.stands_for M.TAKES_MEMORY catalog.now fuel
-        store sink.old sink.new result }
+    ensures row { BootsByChoice (C.peims choice.now) (C.lets_in_pei choice.now) (C.drivers choice.now) (C.lets_in_dxe choice.now)
+        S.text S.faults M.stands_for M.TAKES_MEMORY catalog.now fuel store sink.old sink.new result }
     ensures free { (board : Board) → M.stands_for store (empty_store board)
-        → IfOk result (λ _. PutsFreeBoot board catalog.now fuel (record { old = S.text sink.old; new = S.text sink.new })) }
+        → IfOk result (GoesFreely board catalog.now fuel (record { old = S.text sink.old; new = S.text sink.new })) }
     ensures faults { HaltsAfter result (S.faults sink.old) (S.faults sink.new) }
 {
-    cursor_aims();
-    pei_starts_freely();
-    dxe_goes_on();
-    dxe_chooses_by_groups();
-    groups_are_aimed();
-    let pei = boot_pei(alloc, store, catalog, fuel, choice, sink)?;
-    let end = boot_behind(alloc, &pei, catalog, fuel, choice, sink)?;
-    Ok(Ran { end, pei })
+    choices_are_free::<S, C>(choice);
+    let pei = match boot_pei(alloc, store, catalog, fuel, choice, sink)? {
+        Left::Ended(ended) => ended,
+        Left::Barred(barred) => return Ok(Booted::BarredInPei(barred)),
+    };
+    match boot_behind(alloc, &pei, catalog, fuel, choice, sink)? {
+        Behind::Closed(end) => Ok(Booted::Ended(Ran { end, pei })),
+        Behind::Barred(barred) => Ok(Booted::BarredInDxe { pei, barred }),
+    }
 }

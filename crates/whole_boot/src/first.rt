@@ -5,7 +5,7 @@ ghost use Rattle.catalog_model.specs.WellFormed.{IsWellFormed};
 ghost use Rattle.store_model.specs.StoreState.{Board, empty_store};
 ghost use Rattle.whole_boot.specs.FirstBoot.{RunsTo, WantsOutsidePei};
 
-use crate::boot::{Ran, boot_by_choice};
+use crate::boot::{Booted, Ran, boot_by_choice};
 use boot_io::{Halt, Sink};
 use boot_laws::{dxe_runs_end, pei_runs_end};
 use catalog_model::Catalog;
@@ -32,5 +32,8 @@ pub fn boot_store<M: PeiStore + Drop, S: Sink>(
 {
     pei_runs_end();
     dxe_runs_end();
-    boot_by_choice(alloc, store, catalog, fuel, &FirstEligible, sink)
+    match boot_by_choice(alloc, store, catalog, fuel, &FirstEligible, sink)? {
+        Booted::Ended(ran) => Ok(ran),
+        Booted::BarredInPei(_) | Booted::BarredInDxe { .. } => unreachable!(),
+    }
 }

@@ -1,9 +1,8 @@
-use Rattle.std.proofs.Common.{◌≡◌, IfOk, List, [], Result, Ok, Err, Some, ap, ◌∙◌, sym, subst}
+use Rattle.std.proofs.Common.{◌≡◌, IfOk, List, [], Result, Ok, Err, Some, subst}
 use Rattle.boot_model.specs.PeiMachine.{PeiMachine}
 use Rattle.boot_model.specs.PeiRun.{pei_end}
 use Rattle.boot_model.specs.PlanBoard.{board_of, roms_of}
 use Rattle.mem_store.specs.MemState.{StandsFor}
-use Rattle.pei_dispatch.proofs.FirstRuns.{first_end}
 use Rattle.pi_base.specs.declared.memory.OutOfMemory.{OutOfMemory}
 use Rattle.phys_mem.specs.declared.rom.Rom.{Rom}
 use Rattle.store_model.specs.StoreState.{Board}
@@ -26,8 +25,9 @@ handed_by-requires c =
     let plan = c.args.plan.now in
     let catalog = c.args.catalog.now in
     let board : Board = record (board_of plan catalog []) { roms = c.in_ok-roms.roms } in
+    let end = pei_end board catalog plan.fuel in
     let row = c.in-Ok.ensures.row board c.in_ok-store.ensures in
-    record { state = (row.«end».store, row.is_left.store_is, tt) }
+    record { state = (end.store, row.1.store_is, tt) }
 
 pub returns-in-Ok : goal.returns-in-Ok
 returns-in-Ok c =
@@ -39,10 +39,7 @@ returns-in-Ok c =
     let row = c.in-Ok.ensures.row board c.in_ok-store.ensures in
     let Of : HandOff → PeiMachine → Type 0 = λ one m. StandsFor c.in-Ok.ended.store m.store → m.ended ≡ Some c.in-Ok.ended.«end» → HandsOn m one in
     let each : IfOk c.handed_by.result (λ one. Of one end) = of_each c.handed_by.result (λ one m. StandsFor c.in-Ok.ended.store m.store → m.ended ≡ Some c.in-Ok.ended.«end» → HandsOn m one) end c.handed_by.ensures in
-    let is : row.«end» ≡ end = first_end c.pei_runs_end.ensures _ board catalog plan.fuel row.«end» c.in-Ok.ended.«end» (λ m named is. is.is) row.comes row.ended.ended in
-    let stands = subst (λ (m : PeiMachine). StandsFor c.in-Ok.ended.store m.store) is row.is_left.store_is in
-    let ended = ap (λ (m : PeiMachine). m.ended) (sym is) ∙ row.ended.ended in
-    let here : IfOk c.handed_by.result (HandsOn end) = handed c.handed_by.result Of end (λ one up. up stands ended) each in
+    let here : IfOk c.handed_by.result (HandsOn end) = handed c.handed_by.result Of end (λ one up. up row.1.store_is row.0.ended) each in
     let same : roms ≡ roms_of catalog.volumes c.args.images = rw c.as_slice.ensures at c.in_ok-roms.ensures in
     let P : List Rom → Type 0 = λ x. IfOk c.handed_by.result (HandsOn (pei_end (record (board_of plan catalog []) { roms = x }) catalog plan.fuel)) in
     subst P same here

@@ -1,13 +1,8 @@
-use Rattle.std.proofs.Common.{◌≡◌, ℕ, Ok, Err, Result, sym, subst}
+use Rattle.std.proofs.Common.{◌≡◌, sym, subst}
 use Rattle.std.specs.Prelude.{OnOk}
-use Rattle.catalog_model.specs.declared.catalog.Catalog.{Catalog}
-use Rattle.boot_model.specs.DxeMachine.{DxeMachine}
-use Rattle.driver_order.specs.Order.{Drivers, IsOrderOf}
 use Rattle.dxe_choice.specs.Aim.{aimed}
-use Rattle.dxe_choice.specs.Queue.{IsQueueOf, IsSeen, Queue}
-use Rattle.dxe_core.specs.Standing.{DxeCore}
+use Rattle.dxe_choice.specs.Queue.{IsQueueOf}
 use Rattle.dxe_dispatch.specs.Choices.{Aims, root_of}
-use Rattle.dxe_dispatch.specs.Turns.{AreOf}
 use Rattle.dxe_dispatch.proofs.Chosen.{order_of, seen_of}
 use Rattle.dxe_dispatch.proofs.Turning.{on_ok}
 use Rattle.dxe_dispatch.proofs.aim.aim.Goals as goal

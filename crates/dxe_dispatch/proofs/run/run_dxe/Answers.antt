@@ -1,12 +1,12 @@
-use Rattle.std.proofs.Common.{arith, ◌≡◌, ◌<◌, ◌≤◌, ◌+◌, ◌^◌, ℕ, List, drop, length, sym, ap, ◌∙◌, subst}
+use Rattle.std.proofs.Common.{arith, ◌≡◌, ◌<◌, ◌≤◌, ◌+◌, ◌^◌, drop, length, sym, ap, ◌∙◌, subst}
 use Rattle.std.proofs.lemmas.Result.{err_from_is_err_and}
 use Rattle.boot_model.specs.DxeChoice.{drivers_of}
 use Rattle.boot_model.specs.DxeRun.{dxe_opening, dxe_bound}
 use Rattle.driver_order.specs.Order.{Drivers, IsOrderOf}
 use Rattle.dxe_choice.specs.Queue.{Discovers, owed}
-use Rattle.dxe_dispatch.specs.Choices.{NamesDrivers, came}
+use Rattle.dxe_dispatch.specs.Choices.{LetsDrivers, NamesDrivers, came}
 use Rattle.dxe_dispatch.proofs.Chosen.{StepLaws}
-use Rattle.dxe_dispatch.proofs.ChosenWays.{coming_few, coming_halts, coming_on, coming_over, few_over, none_evaluated, opening_comes, opening_drivers, opening_halts, opening_part, turn_to_come}
+use Rattle.dxe_dispatch.proofs.ChosenWays.{coming_few, coming_halts, coming_on, coming_to, few_left, few_over, none_evaluated, opening_comes, opening_drivers, opening_halts, opening_part, turn_to_come}
 use Rattle.dxe_dispatch.proofs.run.run_dxe.Goals as goal
 
 pub discover-requires-clause-new : goal.discover-requires-clause-new
@@ -22,26 +22,28 @@ pub returns-in_err-discover-clause-row : goal.returns-in_err-discover-clause-row
 returns-in_err-discover-clause-row g c s actions fuel made stands =
     let T = g.S.Sink.text in
     let catalog = c.args.catalog.now in
-    let Names = NamesDrivers (g.C.Choice.drivers c.args.choice.now) T g.S.Sink.faults c.args.sink.now in
+    let Names = NamesDrivers (g.C.Choice.drivers c.args.choice.now) T g.S.Sink.faults c.args.in_pei c.args.sink.now in
+    let Lets = LetsDrivers (g.C.Choice.lets_in_dxe c.args.choice.now) c.args.in_pei in
     let p = err_from_is_err_and c.from_residual.result c.from_residual.ensures.1 in
-    rw p.1 (opening_part Names catalog fuel s actions (T c.args.sink.now))
+    rw p.1 (opening_part Names Lets catalog fuel s actions (T c.args.sink.now))
 
 pub returns-in_err-discover-clause-few_steps : goal.returns-in_err-discover-clause-few_steps
 returns-in_err-discover-clause-few_steps g c s actions fuel made stands =
-    none_evaluated (NamesDrivers (g.C.Choice.drivers c.args.choice.now) g.S.Sink.text g.S.Sink.faults c.args.sink.now) c.args.catalog.now fuel (dxe_opening c.args.catalog.now s actions) c.args.steps.now
+    none_evaluated (NamesDrivers (g.C.Choice.drivers c.args.choice.now) g.S.Sink.text g.S.Sink.faults c.args.in_pei c.args.sink.now) (LetsDrivers (g.C.Choice.lets_in_dxe c.args.choice.now) c.args.in_pei) c.args.catalog.now fuel (dxe_opening c.args.catalog.now s actions) c.args.steps.now
 
 pub returns-in_err-put_volumes-clause-row : goal.returns-in_err-put_volumes-clause-row
 returns-in_err-put_volumes-clause-row g c s actions fuel made stands =
     let T = g.S.Sink.text in
     let catalog = c.args.catalog.now in
-    let Names = NamesDrivers (g.C.Choice.drivers c.args.choice.now) T g.S.Sink.faults c.args.sink.now in
+    let Names = NamesDrivers (g.C.Choice.drivers c.args.choice.now) T g.S.Sink.faults c.args.in_pei c.args.sink.now in
+    let Lets = LetsDrivers (g.C.Choice.lets_in_dxe c.args.choice.now) c.args.in_pei in
     let shown = c.volumes.ensures ∙ ap (λ order. order.volumes) c.order-2.ensures ∙ stands.core.services.order.volumes_are in
     let p = err_from_is_err_and c.from_residual-in_err-put_volumes.result c.from_residual-in_err-put_volumes.ensures.1 in
-    rw p.1 (opening_halts Names catalog fuel s actions c.volumes.result.now (T c.args.sink.now) (T c.put_volumes.new.sink) shown c.in_err-put_volumes.ensures.text)
+    rw p.1 (opening_halts Names Lets catalog fuel s actions c.volumes.result.now (T c.args.sink.now) (T c.put_volumes.new.sink) shown c.in_err-put_volumes.ensures.text)
 
 pub returns-in_err-put_volumes-clause-few_steps : goal.returns-in_err-put_volumes-clause-few_steps
 returns-in_err-put_volumes-clause-few_steps g c s actions fuel made stands =
-    none_evaluated (NamesDrivers (g.C.Choice.drivers c.args.choice.now) g.S.Sink.text g.S.Sink.faults c.args.sink.now) c.args.catalog.now fuel (dxe_opening c.args.catalog.now s actions) c.args.steps.now
+    none_evaluated (NamesDrivers (g.C.Choice.drivers c.args.choice.now) g.S.Sink.text g.S.Sink.faults c.args.in_pei c.args.sink.now) (LetsDrivers (g.C.Choice.lets_in_dxe c.args.choice.now) c.args.in_pei) c.args.catalog.now fuel (dxe_opening c.args.catalog.now s actions) c.args.steps.now
 
 pub turns-init : goal.turns-init
 turns-init g c = record {
@@ -49,11 +51,12 @@ turns-init g c = record {
       let T = g.S.Sink.text in
       let F = g.S.Sink.faults in
       let catalog = c.args.catalog.now in
-      let Names = NamesDrivers (g.C.Choice.drivers c.args.choice.now) T F c.args.sink.now in
+      let Names = NamesDrivers (g.C.Choice.drivers c.args.choice.now) T F c.args.in_pei c.args.sink.now in
+      let Lets = LetsDrivers (g.C.Choice.lets_in_dxe c.args.choice.now) c.args.in_pei in
       let shown = c.volumes.ensures ∙ ap (λ order. order.volumes) c.order-2.ensures ∙ stands.core.services.order.volumes_are in
       let row = subst (λ (order : Drivers). Discovers catalog c.args.queue.now (drop 0 order.volumes) c.discover.new.self) c.order.ensures c.in_ok-discover.ensures.row in
       let owes = subst (λ (order : Drivers). owed c.discover.new.self ≤ owed c.args.queue.now + length (drivers_of catalog (drop 0 order.volumes))) c.order.ensures c.in_ok-discover.ensures.owes in
-      opening_comes c.dxe_opens.ensures.opens c.unrequested_drivers_wait.ensures Names T F g.M.PeiStore.stands_for c.args.store.now catalog fuel s actions c.args.sink.now c.args.dxe.now c.args.queue.now c.discover.new.self c.volumes.result.now c.put_volumes.new.sink c.args.steps.now
+      opening_comes c.dxe_opens.ensures.opens c.unrequested_drivers_wait.ensures Names Lets T F g.M.PeiStore.stands_for c.args.store.now catalog fuel s actions c.args.sink.now c.args.dxe.now c.args.queue.now c.discover.new.self c.volumes.result.now c.put_volumes.new.sink c.args.steps.now
       c.requires.catalog stands c.requires.new row owes shown c.in_ok-put_volumes.ensures.text c.in_ok-put_volumes.ensures.cause;
   made = λ fuel made. made;
   queue = c.in_ok-discover.ensures.made;
@@ -72,14 +75,15 @@ turns-preserved g c = record {
       let F = g.S.Sink.faults in
       let catalog = c.args.catalog.now in
       let laws : StepLaws = record { nearer = c.dxe_opens.ensures.nearer; own = c.dxe_goes_on.ensures.own; first = c.dxe_chooses_by_groups.ensures; groups = c.groups_are_aimed.ensures } in
-      let Names = NamesDrivers (g.C.Choice.drivers c.args.choice.now) T F c.args.sink.now in
+      let Names = NamesDrivers (g.C.Choice.drivers c.args.choice.now) T F c.args.in_pei c.args.sink.now in
+      let Lets = LetsDrivers (g.C.Choice.lets_in_dxe c.args.choice.now) c.args.in_pei in
       let way = c.turns.invariant.way s actions fuel made stands in
-      let row = rw c.in_default.is at (c.in_ok-end.ensures.row _ fuel c.args.sink.now (c.turns.invariant.made fuel made) way.on way.has) in
-      coming_on laws Names T F g.M.PeiStore.stands_for c.args.store.now catalog fuel (dxe_opening catalog s actions) c.args.sink.now c.turns.counter c.turns.dxe c.turn_by.new.dxe c.turns.queue c.turn_by.new.queue c.turns.sink c.turn_by.new.sink
-      c.args.steps.now (c.turns.steps + owed c.turns.queue) (c.turn_by.new.steps + owed c.turn_by.new.queue) c.requires.catalog way row c.in_ok-end.ensures.faults;
-  made = λ fuel made. c.in_ok-end.ensures.made fuel (c.turns.invariant.made fuel made);
-  queue = c.in_ok-end.ensures.queue;
-  count = c.in_ok-end.ensures.faults ∙ c.turns.invariant.count;
+      let row = rw c.in_default.is at (c.in_ok-reached.ensures.row _ fuel c.args.sink.now (c.turns.invariant.made fuel made) way.on way.has) in
+      coming_on laws Names Lets T F g.M.PeiStore.stands_for c.args.store.now catalog fuel (dxe_opening catalog s actions) c.args.sink.now c.turns.counter c.turns.dxe c.turn_by.new.dxe c.turns.queue c.turn_by.new.queue c.turns.sink c.turn_by.new.sink
+      c.args.steps.now (c.turns.steps + owed c.turns.queue) (c.turn_by.new.steps + owed c.turn_by.new.queue) c.requires.catalog way row c.in_ok-reached.ensures.faults;
+  made = λ fuel made. c.in_ok-reached.ensures.made fuel (c.turns.invariant.made fuel made);
+  queue = c.in_ok-reached.ensures.queue;
+  count = c.in_ok-reached.ensures.faults ∙ c.turns.invariant.count;
 }
 
 pub returns-in-Some-clause-row : goal.returns-in-Some-clause-row
@@ -87,11 +91,31 @@ returns-in-Some-clause-row g c s actions fuel made stands =
     let T = g.S.Sink.text in
     let F = g.S.Sink.faults in
     let catalog = c.args.catalog.now in
-    let Names = NamesDrivers (g.C.Choice.drivers c.args.choice.now) T F c.args.sink.now in
+    let Names = NamesDrivers (g.C.Choice.drivers c.args.choice.now) T F c.args.in_pei c.args.sink.now in
+    let Lets = LetsDrivers (g.C.Choice.lets_in_dxe c.args.choice.now) c.args.in_pei in
     let way = c.turns.invariant.way s actions fuel made stands in
-    coming_over Names T F g.M.PeiStore.stands_for c.args.store.now catalog fuel (dxe_opening catalog s actions) c.args.sink.now c.turns.counter c.turns.dxe c.turn_by.new.dxe c.turns.queue c.turn_by.new.queue c.turns.sink c.turn_by.new.sink
-    c.args.steps.now (c.turns.steps + owed c.turns.queue) (c.turn_by.new.steps + owed c.turn_by.new.queue) c.in-Some.end way
-    (rw c.in-Some.is at (c.in_ok-end.ensures.row _ fuel c.args.sink.now (c.turns.invariant.made fuel made) way.on way.has))
+    coming_to c.dxe_chooses_by_groups.ensures Names Lets T F g.M.PeiStore.stands_for c.args.store.now catalog fuel (dxe_opening catalog s actions) c.args.sink.now c.turns.counter c.turns.dxe c.turn_by.new.dxe c.turns.queue c.turn_by.new.queue c.turns.sink c.turn_by.new.sink
+    c.args.steps.now (c.turns.steps + owed c.turns.queue) (c.turn_by.new.steps + owed c.turn_by.new.queue) c.in-Some.reached way
+    (rw c.in-Some.is at (c.in_ok-reached.ensures.row _ fuel c.args.sink.now (c.turns.invariant.made fuel made) way.on way.has))
+
+pub returns-in-Some-clause-few_starts : goal.returns-in-Some-clause-few_starts
+returns-in-Some-clause-few_starts g c =
+    let T = g.S.Sink.text in
+    let F = g.S.Sink.faults in
+    let catalog = c.args.catalog.now in
+    let laws : StepLaws = record { nearer = c.dxe_opens.ensures.nearer; own = c.dxe_goes_on.ensures.own; first = c.dxe_chooses_by_groups.ensures; groups = c.groups_are_aimed.ensures } in
+    let Names = NamesDrivers (g.C.Choice.drivers c.args.choice.now) T F c.args.in_pei c.args.sink.now in
+    let Lets = LetsDrivers (g.C.Choice.lets_in_dxe c.args.choice.now) c.args.in_pei in
+    let s = c.requires.opening.0 in
+    let actions = c.requires.opening.1 in
+    let fuel = c.requires.made.0 in
+    let made = c.requires.made.1 in
+    let way = c.turns.invariant.way s actions fuel made c.requires.opening.2 in
+    let few = few_left laws Names Lets T F g.M.PeiStore.stands_for c.args.store.now catalog fuel (dxe_opening catalog s actions) c.args.sink.now c.turns.counter c.turns.dxe c.turn_by.new.dxe c.turns.queue c.turn_by.new.queue c.turns.sink c.turn_by.new.sink
+    c.args.steps.now (c.turns.steps + owed c.turns.queue) (c.turn_by.new.steps + owed c.turn_by.new.queue) c.in-Some.reached c.requires.catalog way
+    (rw c.in-Some.is at (c.in_ok-reached.ensures.row _ fuel c.args.sink.now (c.turns.invariant.made fuel made) way.on way.has)) in
+    let modules = c.requires.catalog.few_modules in
+    omega (arith, few, modules)
 
 pub returns-in-Some-clause-few : goal.returns-in-Some-clause-few
 returns-in-Some-clause-few g c few =
@@ -99,7 +123,8 @@ returns-in-Some-clause-few g c few =
     let F = g.S.Sink.faults in
     let catalog = c.args.catalog.now in
     let laws : StepLaws = record { nearer = c.dxe_opens.ensures.nearer; own = c.dxe_goes_on.ensures.own; first = c.dxe_chooses_by_groups.ensures; groups = c.groups_are_aimed.ensures } in
-    let Names = NamesDrivers (g.C.Choice.drivers c.args.choice.now) T F c.args.sink.now in
+    let Names = NamesDrivers (g.C.Choice.drivers c.args.choice.now) T F c.args.in_pei c.args.sink.now in
+    let Lets = LetsDrivers (g.C.Choice.lets_in_dxe c.args.choice.now) c.args.in_pei in
     let s = c.requires.opening.0 in
     let actions = c.requires.opening.1 in
     let stands = c.requires.opening.2 in
@@ -109,51 +134,55 @@ returns-in-Some-clause-few g c few =
     let is : c.fuel.result ≡ fuel = c.fuel.ensures ∙ made.fuelled in
     let fits = c.fuel.type_inv in
     let below : fuel < 2 ^ 32 = omega (arith, is, fits) in
-    few_over laws Names T F g.M.PeiStore.stands_for c.args.store.now catalog fuel (dxe_opening catalog s actions) c.args.sink.now c.turns.counter c.args.dxe.now c.turns.dxe c.turn_by.new.dxe c.turns.queue c.turn_by.new.queue c.turns.sink c.turn_by.new.sink
-    c.args.steps.now (c.turns.steps + owed c.turns.queue) (c.turn_by.new.steps + owed c.turn_by.new.queue) (2 ^ 32) c.in-Some.end below few stands.core (c.in_ok-end.ensures.made fuel (c.turns.invariant.made fuel made)) way
-    (rw c.in-Some.is at (c.in_ok-end.ensures.row _ fuel c.args.sink.now (c.turns.invariant.made fuel made) way.on way.has))
+    few_over laws Names Lets T F g.M.PeiStore.stands_for c.args.store.now catalog fuel (dxe_opening catalog s actions) c.args.sink.now c.turns.counter c.args.dxe.now c.turns.dxe c.turn_by.new.dxe c.turns.queue c.turn_by.new.queue c.turns.sink c.turn_by.new.sink
+    c.args.steps.now (c.turns.steps + owed c.turns.queue) (c.turn_by.new.steps + owed c.turn_by.new.queue) (2 ^ 32) c.in-Some.reached below few stands.core (c.in_ok-reached.ensures.made fuel (c.turns.invariant.made fuel made)) way
+    (rw c.in-Some.is at (c.in_ok-reached.ensures.row _ fuel c.args.sink.now (c.turns.invariant.made fuel made) way.on way.has))
 
 pub returns-in-Some-clause-few_steps : goal.returns-in-Some-clause-few_steps
 returns-in-Some-clause-few_steps g c s actions fuel made stands =
     let T = g.S.Sink.text in
     let F = g.S.Sink.faults in
     let catalog = c.args.catalog.now in
-    let Names = NamesDrivers (g.C.Choice.drivers c.args.choice.now) T F c.args.sink.now in
-    coming_few Names T F g.M.PeiStore.stands_for c.args.store.now catalog fuel (dxe_opening catalog s actions) c.args.sink.now c.turns.counter c.turns.dxe c.turns.queue c.turns.sink c.args.steps.now (c.turns.steps + owed c.turns.queue) c.turn_by.new.steps
-    (c.turns.invariant.way s actions fuel made stands) c.in_ok-end.ensures.few_steps
+    let Names = NamesDrivers (g.C.Choice.drivers c.args.choice.now) T F c.args.in_pei c.args.sink.now in
+    let Lets = LetsDrivers (g.C.Choice.lets_in_dxe c.args.choice.now) c.args.in_pei in
+    coming_few Names Lets T F g.M.PeiStore.stands_for c.args.store.now catalog fuel (dxe_opening catalog s actions) c.args.sink.now c.turns.counter c.turns.dxe c.turns.queue c.turns.sink c.args.steps.now (c.turns.steps + owed c.turns.queue) c.turn_by.new.steps
+    (c.turns.invariant.way s actions fuel made stands) c.in_ok-reached.ensures.few_steps
 
-pub returns-in_err-end-clause-row : goal.returns-in_err-end-clause-row
-returns-in_err-end-clause-row g c s actions fuel made stands =
+pub returns-in_err-reached-clause-row : goal.returns-in_err-reached-clause-row
+returns-in_err-reached-clause-row g c s actions fuel made stands =
     let T = g.S.Sink.text in
     let F = g.S.Sink.faults in
     let catalog = c.args.catalog.now in
-    let Names = NamesDrivers (g.C.Choice.drivers c.args.choice.now) T F c.args.sink.now in
+    let Names = NamesDrivers (g.C.Choice.drivers c.args.choice.now) T F c.args.in_pei c.args.sink.now in
+    let Lets = LetsDrivers (g.C.Choice.lets_in_dxe c.args.choice.now) c.args.in_pei in
     let way = c.turns.invariant.way s actions fuel made stands in
-    let p = err_from_is_err_and c.from_residual-in_err-end.result c.from_residual-in_err-end.ensures.1 in
-    rw p.1 (coming_halts Names T F g.M.PeiStore.stands_for c.args.store.now catalog fuel (dxe_opening catalog s actions) c.args.sink.now c.turns.counter c.turns.dxe c.turn_by.new.dxe c.turns.queue c.turn_by.new.queue c.turns.sink c.turn_by.new.sink
+    let p = err_from_is_err_and c.from_residual-in_err-reached.result c.from_residual-in_err-reached.ensures.1 in
+    rw p.1 (coming_halts c.dxe_chooses_by_groups.ensures Names Lets T F g.M.PeiStore.stands_for c.args.store.now catalog fuel (dxe_opening catalog s actions) c.args.sink.now c.turns.counter c.turns.dxe c.turn_by.new.dxe c.turns.queue c.turn_by.new.queue c.turns.sink c.turn_by.new.sink
     c.args.steps.now (c.turns.steps + owed c.turns.queue) (c.turn_by.new.steps + owed c.turn_by.new.queue) _ way
-    (c.in_err-end.ensures.row _ fuel c.args.sink.now (c.turns.invariant.made fuel made) way.on way.has))
+    (c.in_err-reached.ensures.row _ fuel c.args.sink.now (c.turns.invariant.made fuel made) way.on way.has))
 
-pub returns-in_err-end-clause-few_steps : goal.returns-in_err-end-clause-few_steps
-returns-in_err-end-clause-few_steps g c s actions fuel made stands =
+pub returns-in_err-reached-clause-few_steps : goal.returns-in_err-reached-clause-few_steps
+returns-in_err-reached-clause-few_steps g c s actions fuel made stands =
     let T = g.S.Sink.text in
     let F = g.S.Sink.faults in
     let catalog = c.args.catalog.now in
-    let Names = NamesDrivers (g.C.Choice.drivers c.args.choice.now) T F c.args.sink.now in
-    coming_few Names T F g.M.PeiStore.stands_for c.args.store.now catalog fuel (dxe_opening catalog s actions) c.args.sink.now c.turns.counter c.turns.dxe c.turns.queue c.turns.sink c.args.steps.now (c.turns.steps + owed c.turns.queue) c.turn_by.new.steps
-    (c.turns.invariant.way s actions fuel made stands) c.in_err-end.ensures.few_steps
+    let Names = NamesDrivers (g.C.Choice.drivers c.args.choice.now) T F c.args.in_pei c.args.sink.now in
+    let Lets = LetsDrivers (g.C.Choice.lets_in_dxe c.args.choice.now) c.args.in_pei in
+    coming_few Names Lets T F g.M.PeiStore.stands_for c.args.store.now catalog fuel (dxe_opening catalog s actions) c.args.sink.now c.turns.counter c.turns.dxe c.turns.queue c.turns.sink c.args.steps.now (c.turns.steps + owed c.turns.queue) c.turn_by.new.steps
+    (c.turns.invariant.way s actions fuel made stands) c.in_err-reached.ensures.few_steps
 
 pub unreachable-requires : goal.unreachable-requires
 unreachable-requires g c =
     let T = g.S.Sink.text in
     let F = g.S.Sink.faults in
     let catalog = c.args.catalog.now in
-    let Names = NamesDrivers (g.C.Choice.drivers c.args.choice.now) T F c.args.sink.now in
+    let Names = NamesDrivers (g.C.Choice.drivers c.args.choice.now) T F c.args.in_pei c.args.sink.now in
+    let Lets = LetsDrivers (g.C.Choice.lets_in_dxe c.args.choice.now) c.args.in_pei in
     let s = c.requires.opening.0 in
     let actions = c.requires.opening.1 in
     let fuel = c.requires.made.0 in
     let made = c.requires.made.1 in
     let all : c.bound-end.result ≡ dxe_bound catalog fuel = c.bound-end.ensures ∙ ap (dxe_bound catalog) (c.fuel.ensures ∙ made.fuelled) in
     let done = c.turns-test.false in
-    turn_to_come c.dxe_opens.ensures.ended Names T F g.M.PeiStore.stands_for c.args.store.now catalog fuel (dxe_opening catalog s actions) c.args.sink.now c.turns.counter c.turns.dxe c.turns.queue c.turns.sink c.args.steps.now (c.turns.steps + owed c.turns.queue)
+    turn_to_come c.dxe_opens.ensures.ended Names Lets T F g.M.PeiStore.stands_for c.args.store.now catalog fuel (dxe_opening catalog s actions) c.args.sink.now c.turns.counter c.turns.dxe c.turns.queue c.turns.sink c.args.steps.now (c.turns.steps + owed c.turns.queue)
     (c.turns.invariant.way s actions fuel made c.requires.opening.2) (omega (arith, all, done))

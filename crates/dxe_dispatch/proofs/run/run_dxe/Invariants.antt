@@ -3,7 +3,7 @@ use Rattle.store_model.specs.StoreState.{StoreState}
 use Rattle.boot_model.specs.DxeRun.{dxe_opening}
 use Rattle.dxe_choice.specs.Queue.{IsQueueFor, owed}
 use Rattle.dxe_core.specs.Standing.{IsFor, StandsFor}
-use Rattle.dxe_dispatch.specs.Choices.{NamesDrivers}
+use Rattle.dxe_dispatch.specs.Choices.{LetsDrivers, NamesDrivers}
 use Rattle.dxe_dispatch.proofs.ChosenWays.{IsComing}
 use Rattle.dxe_dispatch.proofs.run.run_dxe.Given as goal
 
@@ -11,7 +11,7 @@ use Rattle.dxe_dispatch.proofs.run.run_dxe.Given as goal
 abbrev pub invariant-turns : goal.invariant-turns
 invariant-turns g l = record {
   way : (s : StoreState) (actions fuel : ℕ) → IsFor l.fn.catalog fuel l.fn.dxe → StandsFor g.M.PeiStore.stands_for l.fn.store l.fn.catalog l.fn.dxe (dxe_opening l.fn.catalog s actions)
-      → IsComing (NamesDrivers (g.C.Choice.drivers l.fn.choice) g.S.Sink.text g.S.Sink.faults l.fn.sink) g.S.Sink.text g.S.Sink.faults g.M.PeiStore.stands_for l.fn.store l.fn.catalog fuel
+      → IsComing (NamesDrivers (g.C.Choice.drivers l.fn.choice) g.S.Sink.text g.S.Sink.faults l.fn.in_pei l.fn.sink) (LetsDrivers (g.C.Choice.lets_in_dxe l.fn.choice) l.fn.in_pei) g.S.Sink.text g.S.Sink.faults g.M.PeiStore.stands_for l.fn.store l.fn.catalog fuel
       (dxe_opening l.fn.catalog s actions) l.fn.sink l.counter l.dxe l.queue l.sink l.fn.steps (l.steps + owed l.queue);
   made : (fuel : ℕ) → IsFor l.fn.catalog fuel l.fn.dxe → IsFor l.fn.catalog fuel l.dxe;
   queue : IsQueueFor l.fn.catalog l.queue;

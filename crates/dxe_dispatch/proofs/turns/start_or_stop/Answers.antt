@@ -1,25 +1,26 @@
 use Rattle.std.proofs.Common.{sym, ◌∙◌}
 use Rattle.std.proofs.lemmas.Result.{err_from_is_err_and}
-use Rattle.dxe_dispatch.proofs.Turning.{none_started, not_ok, part_started, starts_so, stops_so}
+use Rattle.boot_model.specs.DxeStep.{dxe_step}
+use Rattle.dxe_dispatch.proofs.Turning.{none_put, not_ok, part_started, part_stopped, starts_so, stays_so, stops_so}
 use Rattle.dxe_dispatch.proofs.turns.start_or_stop.Goals as goal
 
 pub returns-in_err-next-clause-row : goal.returns-in_err-next-clause-row
 returns-in_err-next-clause-row g c m fuel are idle =
     let p = err_from_is_err_and c.from_residual.result c.from_residual.ensures.1 in
-    rw p.1 (none_started c.args.catalog.now fuel m (g.S.Sink.text c.args.sink.now))
+    rw p.1 (none_put (g.C.Choice.lets_in_dxe c.args.choice.now c.args.starts) c.args.catalog.now m (dxe_step c.args.catalog.now fuel m) (g.S.Sink.text c.args.sink.now))
 
 pub returns-in_err-start-in-Some-clause-row : goal.returns-in_err-start-in-Some-clause-row
 returns-in_err-start-in-Some-clause-row g c m fuel are idle =
     let chosen = rw c.in-Some.is at (c.in_ok-next.ensures.row m are) in
     let p = err_from_is_err_and c.from_residual-in_err-start-in-Some.result c.from_residual-in_err-start-in-Some.ensures.1 in
-    rw p.1 (part_started c.args.catalog.now fuel m c.in-Some.next c.choose.new.queue _ chosen idle (c.in_err-start-in-Some.ensures.row m chosen.rest are.core))
+    rw p.1 (part_started (g.C.Choice.lets_in_dxe c.args.choice.now c.args.starts) c.args.catalog.now fuel m c.in-Some.next c.choose.new.queue _ chosen idle (sym c.lets_driver.ensures ∙ c.if-not-lets_driver.false) (c.in_err-start-in-Some.ensures.row m chosen.rest are.core))
 
 pub returns-in_ok-start-in-Some-clause-row : goal.returns-in_ok-start-in-Some-clause-row
 returns-in_ok-start-in-Some-clause-row g c m fuel are idle =
     let next = c.in-Some.next in
     let chosen = rw c.in-Some.is at (c.in_ok-next.ensures.row m are) in
     let driver = rw c.in-Some.is at c.in_ok-next.ensures.driver in
-    starts_so c.args.catalog.now fuel c.start.new.self c.choose.new.queue m next _ chosen idle driver (c.in_ok-start-in-Some.ensures.row m chosen.rest are.core)
+    starts_so (g.C.Choice.lets_in_dxe c.args.choice.now c.args.starts) c.args.catalog.now fuel c.start.new.self c.choose.new.queue m next _ chosen idle driver (sym c.lets_driver.ensures ∙ c.if-not-lets_driver.false) (c.in_ok-start-in-Some.ensures.row m chosen.rest are.core)
 
 pub returns-in_err-next-clause-made : goal.returns-in_err-next-clause-made
 returns-in_err-next-clause-made g c = not_ok _ c.from_residual.result c.from_residual.ensures.0
@@ -82,4 +83,15 @@ start-requires g c =
 pub returns-in_ok-put_stop-in-None-clause-row : goal.returns-in_ok-put_stop-in-None-clause-row
 returns-in_ok-put_stop-in-None-clause-row g c m fuel are idle =
     let none = rw c.in-None.is at (c.in_ok-next.ensures.row m are) in
-    stops_so c.args.catalog.now fuel c.args.dxe.now c.args.queue.now c.choose.new.queue m _ idle are none (c.in_ok-put_stop-in-None.ensures.row m (record { core = are.core; queue = none.1 }))
+    stops_so (g.C.Choice.lets_in_dxe c.args.choice.now c.args.starts) c.args.catalog.now fuel c.args.dxe.now c.args.queue.now c.choose.new.queue m _ idle are none (c.in_ok-put_stop-in-None.ensures.row m (record { core = are.core; queue = none.1 }))
+
+pub returns-then-not-lets_driver-clause-row : goal.returns-then-not-lets_driver-clause-row
+returns-then-not-lets_driver-clause-row g c m fuel are idle =
+    let chosen = rw c.in-Some.is at (c.in_ok-next.ensures.row m are) in
+    stays_so (g.C.Choice.lets_in_dxe c.args.choice.now c.args.starts) c.args.catalog.now c.args.dxe.now c.args.queue.now c.choose.new.queue m c.in-Some.next _ chosen idle are (sym c.lets_driver.ensures ∙ c.if-not-lets_driver.true)
+
+pub returns-in_err-put_stop-in-None-clause-row : goal.returns-in_err-put_stop-in-None-clause-row
+returns-in_err-put_stop-in-None-clause-row g c m fuel are idle =
+    let none = rw c.in-None.is at (c.in_ok-next.ensures.row m are) in
+    let p = err_from_is_err_and c.from_residual-in_err-put_stop-in-None.result c.from_residual-in_err-put_stop-in-None.ensures.1 in
+    rw p.1 (part_stopped (g.C.Choice.lets_in_dxe c.args.choice.now c.args.starts) c.args.catalog.now fuel m c.choose.new.queue _ idle none (c.in_err-put_stop-in-None.ensures.row m (record { core = are.core; queue = none.1 })))

@@ -1,72 +1,25 @@
-use Rattle.std.proofs.Common.{subst, sym, drop, length, ◌≤◌, ◌+◌, arith}
-use Rattle.std.proofs.lemmas.Result.{err_from_is_err_and}
-use Rattle.boot_model.specs.DxeChoice.{drivers_of}
-use Rattle.boot_model.specs.DxeStep.{dxe_step}
-use Rattle.driver_order.specs.Order.{Drivers, IsOrderOf}
-use Rattle.dxe_choice.specs.Queue.{Discovers, owed}
-use Rattle.dxe_dispatch.proofs.Turning.{event_owes, on_ok, event_so, has_event, new_drivers, owes_still, told, whole_part, ends_so, turns_after}
+use Rattle.std.proofs.Common.{◌∙◌, true≢false, sym}
+use Rattle.dxe_dispatch.proofs.Turning.{on_ok, owes_still, turns_over}
 use Rattle.dxe_dispatch.proofs.turns.turn.Goals as goal
-
-pub discover-requires-clause-new : goal.discover-requires-clause-new
-discover-requires-clause-new g c =
-    let catalog = c.args.catalog.now in
-    let m = c.requires.state.0 in
-    let fuel = c.requires.state.1 in
-    let made = c.requires.state.2 in
-    let ready = c.requires.state.3 in
-    let went = rw c.in-Went.is at (c.in_ok-event.ensures.row m fuel made ready.now.machine ready.waits) in
-    let core = went.2.machine.core in
-    let here = c.tell.ensures.row catalog c.requires.queue m (told m (dxe_step catalog fuel m)) ready.now.queue (has_event catalog fuel m c.in-Went.event c.step.new.self.services.handles went.1 core.services.handles) in
-    let order = subst (IsOrderOf catalog _) (sym c.order.ensures) core.services.order in
-    new_drivers catalog fuel m c.in-Went.event c.tell.new.queue c.order.result.now went.1 order here.index.order ready.once
-
-pub returns-in_err-discover-in-Went-clause-row : goal.returns-in_err-discover-in-Went-clause-row
-returns-in_err-discover-in-Went-clause-row g c m fuel made ready =
-    let went = rw c.in-Went.is at (c.in_ok-event.ensures.row m fuel made ready.now.machine ready.waits) in
-    let p = err_from_is_err_and c.from_residual-in_err-discover-in-Went.result c.from_residual-in_err-discover-in-Went.ensures.1 in
-    rw p.1 (whole_part m (dxe_step c.args.catalog.now fuel m) _ went.2.printed)
 
 pub start_or_stop-requires-clause-state : goal.start_or_stop-requires-clause-state
 start_or_stop-requires-clause-state g c =
-    let m = c.requires.state.0 in
     let ready = c.requires.state.3 in
-    let idle = rw c.in-Idle.is at (c.in_ok-event.ensures.row m c.requires.state.1 c.requires.state.2 ready.now.machine ready.waits) in
-    (m, record { core = idle.1.machine.core; queue = ready.now.queue }, idle.0)
+    (c.requires.state.0, record { core = ready.now.machine.core; queue = ready.now.queue }, ready.now.machine.core.frames ∙ c.is_idle.ensures.0 c.if-is_idle.true)
 
-pub returns-in_ok-discover-in-Went-clause-row : goal.returns-in_ok-discover-in-Went-clause-row
-returns-in_ok-discover-in-Went-clause-row g c m fuel made ready =
-    let catalog = c.args.catalog.now in
-    let went = rw c.in-Went.is at (c.in_ok-event.ensures.row m fuel made ready.now.machine ready.waits) in
-    let core = went.2.machine.core in
-    let here = c.tell.ensures.row catalog c.requires.queue m (told m (dxe_step catalog fuel m)) ready.now.queue (has_event catalog fuel m c.in-Went.event c.step.new.self.services.handles went.1 core.services.handles) in
-    let row = subst (λ (order : Drivers). Discovers catalog c.tell.new.queue (drop c.in-Went.event.known order.volumes) c.discover.new.self) c.order.ensures c.in_ok-discover-in-Went.ensures.row in
-    event_so g.M.PeiStore.stands_for c.args.store.now catalog fuel c.step.new.self c.tell.new.queue c.discover.new.self m c.in-Went.event _ went.1 went.2 here row
+pub act-requires-clause-busy : goal.act-requires-clause-busy
+act-requires-clause-busy g c idle = true≢false (sym (c.is_idle.ensures.1 idle) ∙ c.if-is_idle.false)
 
-pub returns-in_ok-discover-in-Went-clause-owes : goal.returns-in_ok-discover-in-Went-clause-owes
-returns-in_ok-discover-in-Went-clause-owes g c m fuel made ready =
-    let catalog = c.args.catalog.now in
-    let went = rw c.in-Went.is at (c.in_ok-event.ensures.row m fuel made ready.now.machine ready.waits) in
-    let owes = subst (λ (order : Drivers). owed c.discover.new.self ≤ owed c.tell.new.queue + length (drivers_of catalog (drop c.in-Went.event.known order.volumes))) c.order.ensures c.in_ok-discover-in-Went.ensures.owes in
-    event_owes catalog fuel m c.in-Went.event c.step.new.self.services.order.volumes c.args.steps.now (owed c.args.queue.now) (owed c.tell.new.queue) (owed c.discover.new.self) went.1
-    went.2.machine.core.services.order.volumes_are (c.tell.ensures.owes catalog c.requires.queue m ready.now.queue) owes
+pub returns-then-is_idle-clause-row : goal.returns-then-is_idle-clause-row
+returns-then-is_idle-clause-row g c m fuel made ready =
+    turns_over (g.C.Choice.lets_in_dxe c.args.choice.now c.args.starts) g.M.PeiStore.stands_for c.args.store.now c.args.catalog.now fuel m c.start_or_stop.new.dxe c.start_or_stop.new.queue _ c.start_or_stop.result ready.now.machine.store
+    (c.start_or_stop.ensures.row m fuel (record { core = ready.now.machine.core; queue = ready.now.queue }) (ready.now.machine.core.frames ∙ c.is_idle.ensures.0 c.if-is_idle.true))
 
-pub returns-in-Idle-clause-row : goal.returns-in-Idle-clause-row
-returns-in-Idle-clause-row g c m fuel made ready =
-    let T = g.S.Sink.text in
-    let idle = rw c.in-Idle.is at (c.in_ok-event.ensures.row m fuel made ready.now.machine ready.waits) in
-    turns_after g.M.PeiStore.stands_for c.args.store.now c.args.catalog.now fuel m c.start_or_stop.new.dxe c.start_or_stop.new.queue (T c.args.sink.now) (T c.step.new.sink) (T c.start_or_stop.new.sink) c.start_or_stop.result
-    ready.now.machine.store idle.1.text (c.start_or_stop.ensures.row m fuel (record { core = idle.1.machine.core; queue = ready.now.queue }) idle.0)
+pub returns-then-is_idle-clause-owes : goal.returns-then-is_idle-clause-owes
+returns-then-is_idle-clause-owes g c = on_ok c.start_or_stop.result (λ few m fuel made ready. owes_still c.args.catalog.now fuel m _ _ few) c.start_or_stop.ensures.owes
 
-pub returns-in-Idle-clause-owes : goal.returns-in-Idle-clause-owes
-returns-in-Idle-clause-owes g c = on_ok c.start_or_stop.result (λ few m fuel made ready. owes_still c.args.catalog.now fuel m _ _ few) c.start_or_stop.ensures.owes
+pub returns-else-is_idle-clause-row : goal.returns-else-is_idle-clause-row
+returns-else-is_idle-clause-row g c = c.act.ensures.row (g.C.Choice.lets_in_dxe c.args.choice.now c.args.starts)
 
-pub returns-in-Ended-clause-row : goal.returns-in-Ended-clause-row
-returns-in-Ended-clause-row g c m fuel made ready =
-    let ended = rw c.in-Ended.is at (c.in_ok-event.ensures.row m fuel made ready.now.machine ready.waits) in
-    ends_so g.M.PeiStore.stands_for c.args.store.now c.args.catalog.now fuel c.step.new.self c.args.queue.now m c.in-Ended.end _ ended ready.now.queue
-
-pub returns-in-Ended-clause-owes : goal.returns-in-Ended-clause-owes
-returns-in-Ended-clause-owes g c m fuel made ready = owes_still c.args.catalog.now fuel m _ _ (omega arith)
-
-pub returns-in-Idle-clause-made : goal.returns-in-Idle-clause-made
-returns-in-Idle-clause-made g c = on_ok c.start_or_stop.result (λ keeps fuel for. keeps fuel (c.in_ok-event.ensures.made fuel for)) c.start_or_stop.ensures.made
+pub returns-else-is_idle-clause-owes : goal.returns-else-is_idle-clause-owes
+returns-else-is_idle-clause-owes g c = on_ok c.act.result (λ owes. owes c.args.steps.now) c.act.ensures.owes

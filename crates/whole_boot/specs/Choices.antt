@@ -1,0 +1,35 @@
+-- What the choices of a boot may name, and which starts they let.
+-- Own; PI 1.8, volumes 1 and 2, leave the order of the modules that may start to the dispatchers.
+use Rattle.std.specs.Prelude.{◌+◌, ℕ, Bool, length, List, ◌++◌, Option}
+use Rattle.boot_model.specs.DxeMachine.{DxeMachine}
+use Rattle.boot_model.specs.PeiMachine.{PeiMachine}
+use Rattle.free_laws.specs.Naming.{MayName}
+use Rattle.pei_dispatch.specs.Choices.{LetsPeims, NamesPeims}
+use Rattle.pei_dispatch.specs.Ends.{pei_starts}
+use Rattle.dxe_dispatch.specs.Choices.{LetsDrivers}
+
+-- in a machine of PEI, and in one of DXE behind the last one of PEI
+pub record Choices : Type 1 where
+  pub peims : PeiMachine → Option ℕ → Type 0
+  pub lets_peim : PeiMachine → ℕ → Bool
+  pub drivers : PeiMachine → DxeMachine → Option ℕ → Type 0
+  pub lets_driver : PeiMachine → DxeMachine → ℕ → Bool
+
+-- how many starts there were in both phases
+abbrev pub starts_of : PeiMachine → DxeMachine → ℕ
+starts_of pei m = pei_starts pei + length m.started
+
+-- the drivers that a choice may name that looks into the sink, which has the lines of both phases, and knows how many starts there were
+abbrev pub NamesBehind : {S : Type 0} → (S → ℕ → Option ℕ → Type 0) → (S → Option (List ℕ)) → (S → ℕ) → S
+    → PeiMachine → DxeMachine → Option ℕ → Type 0
+NamesBehind names text faults first pei m named = MayName (λ sink other. names sink (starts_of pei m) other) text faults first (pei.lines ++ m.lines) named
+
+-- those of a choice: what it may name in each phase, and what it lets
+abbrev pub choices_of : {S : Type 0} → (S → ℕ → Option ℕ → Type 0) → (ℕ → ℕ → Bool) → (S → ℕ → Option ℕ → Type 0) → (ℕ → ℕ → Bool)
+    → (S → Option (List ℕ)) → (S → ℕ) → S → Choices
+choices_of peims lets_in_pei drivers lets_in_dxe text faults first = record {
+  peims = NamesPeims peims text faults first;
+  lets_peim = LetsPeims lets_in_pei;
+  drivers = NamesBehind drivers text faults first;
+  lets_driver = λ pei. LetsDrivers lets_in_dxe (pei_starts pei);
+}
