@@ -2,7 +2,7 @@ use Rattle.std.proofs.Common.{◌≡◌, ◌+◌, length, take, sym, ap, ◌∙�
 use Rattle.fv_build.specs.Sections.{body_bytes, section_size}
 use Rattle.fv_build.specs.Placing.{gap}
 use Rattle.fv_build.proofs.Sizes.{saturated, take_one, length-body_more}
-use Rattle.fv_build.proofs.size.body_len.Goals as goal
+use Rattle.fv_build.proofs.size.sections_len.Goals as goal
 
 pub loop-section-preserved : goal.loop-section-preserved
 loop-section-preserved c =
