@@ -1,5 +1,5 @@
 //! Volumes built from files.
-ghost use Rattle.std.specs.Prelude.{◌≡◌, ◌≤◌, None, Some, IfOk, IfErr, OnOk};
+ghost use Rattle.std.specs.Prelude.{◌≡◌, ◌≤◌, ◌<◌, ◌^◌, None, Some, IfOk, IfErr, OnOk};
 ghost use Rattle.fv_build.specs.FileSystems.{Ffs2, Ffs3};
 ghost use Rattle.fv_build.specs.Building.{built, built_as, fault_of, IsRefusal};
 ghost use Rattle.fv_build.specs.Reading.{IsReadBack};
@@ -61,6 +61,13 @@ fn write(
     Ok(volume)
 }
 
+// The law of a number of 32 bits.
+fn fits(attributes: u32)
+    ensures { attributes < 2 ^ 32 }
+{
+    let _attributes = attributes;
+}
+
 /// A volume of this form and of `len` bytes with these files, in order.
 ///
 /// Behind its header of 72 bytes each file stands at the next multiple of 8, with a fixed checksum of its body and State 0xF8, and in it each
@@ -81,6 +88,7 @@ pub fn build_as(
 {
     check(form.file_system, files, len)?;
     have_whole_names(files);
+    fits(form.attributes);
     let volume = write(alloc, form, files, len)?;
     Ok(volume)
 }
