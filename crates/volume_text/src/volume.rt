@@ -233,8 +233,8 @@ pub(crate) fn depex_type(phase: Phase) -> u8
     }
 }
 
-// Whether a file of a type has a part for a phase.
-fn has_part(kind: u8, phase: Phase) -> bool
+/// Whether a file of a type has a part for a phase: an expression and a script.
+pub fn has_part(kind: u8, phase: Phase) -> bool
     ensures { result ≡ has_part kind phase }
 {
     match phase {
@@ -264,11 +264,18 @@ fn script_front(phase: Phase) -> [u8; 6]
     }
 }
 
+/// Whether a section of this type and with this body is told as a script of a phase, by its first bytes.
+pub fn is_script(kind: u8, body: &[u8], phase: Phase) -> bool
+    ensures { result ≡ is_script_of phase (record { kind = kind; body = body.now }) }
+{
+    kind == RAW && front_of(body) == script_front(phase).as_slice()
+}
+
 // Whether a section is a script of a phase.
 fn is_script_of(section: &NewSection, phase: Phase) -> bool
     ensures { result ≡ is_script_of phase section.now }
 {
-    section.kind == RAW && front_of(section.body.as_slice()) == script_front(phase).as_slice()
+    is_script(section.kind, section.body.as_slice(), phase)
 }
 
 // Whether a file has a script of a phase.
