@@ -22,7 +22,7 @@ use Rattle.depex_code.specs.Expression.{Reads}
 use Rattle.act_code.specs.declared.script.Script.{Script}
 use Rattle.act_code.specs.Script.{IsScript}
 use Rattle.volume_text.specs.Open.{depex_type}
-use Rattle.volume_print.specs.Spelling.{IsExpressionOf, SaysExpression, SaysScript, expression_line, script_lines, IsSectionText, expression, script, bytes, AreSectionTexts, whole, IsBodyText, head_line, IsFileText, volume_line, name_line, IsVolumeText}
+use Rattle.volume_print.specs.Spelling.{IsExpressionOf, SaysExpression, SaysScript, expression_line, script_lines, IsSectionText, as_expression, as_script, as_bytes, AreSectionTexts, whole, IsBodyText, head_line, IsFileText, volume_line, name_line, IsVolumeText}
 use Rattle.volume_print.specs.Description.{section_in, IsBodyIn, IsFileIn, form_in, IsTextOf}
 use Rattle.volume_print.specs.Finding.{depex_phase}
 use Rattle.volume_print.proofs.Forms.{phase_of, no_phase}
@@ -47,15 +47,15 @@ not_both : (kind : ℕ) (before : List NewSection) (section : NewSection) (p : P
 not_both kind before section p e s x y = no_phase section.kind p (ap depex_phase y.kind_is) (phase_of kind section p e x)
 
 section_one : Laws → (kind : ℕ) (before : List NewSection) (section : NewSection) (a b : List ℕ) → IsSectionText kind before section a → IsSectionText kind before section b → a ≡ b
-section_one laws kind before section a b (expression p e x i) (expression q f y j) = i ∙ one_expression laws kind section p q e f x y ∙ sym j
-section_one laws kind before section a b (expression p e x i) (script s y j) = absurd (not_both kind before section p e s x y)
-section_one laws kind before section a b (expression p e x i) (bytes n m j) = absurd (n p e x)
-section_one laws kind before section a b (script s x i) (expression q f y j) = absurd (not_both kind before section q f s y x)
-section_one laws kind before section a b (script s x i) (script t y j) = i ∙ ap script_lines (laws.script section.body s t x.bytes y.bytes) ∙ sym j
-section_one laws kind before section a b (script s x i) (bytes n m j) = absurd (m s x)
-section_one laws kind before section a b (bytes n m i) (expression q f y j) = absurd (n q f y)
-section_one laws kind before section a b (bytes n m i) (script t y j) = absurd (m t y)
-section_one laws kind before section a b (bytes n m i) (bytes o k j) = i ∙ sym j
+section_one laws kind before section a b (as_expression p e x i) (as_expression q f y j) = i ∙ one_expression laws kind section p q e f x y ∙ sym j
+section_one laws kind before section a b (as_expression p e x i) (as_script s y j) = absurd (not_both kind before section p e s x y)
+section_one laws kind before section a b (as_expression p e x i) (as_bytes n m j) = absurd (n p e x)
+section_one laws kind before section a b (as_script s x i) (as_expression q f y j) = absurd (not_both kind before section q f s y x)
+section_one laws kind before section a b (as_script s x i) (as_script t y j) = i ∙ ap script_lines (laws.script section.body s t x.bytes y.bytes) ∙ sym j
+section_one laws kind before section a b (as_script s x i) (as_bytes n m j) = absurd (m s x)
+section_one laws kind before section a b (as_bytes n m i) (as_expression q f y j) = absurd (n q f y)
+section_one laws kind before section a b (as_bytes n m i) (as_script t y j) = absurd (m t y)
+section_one laws kind before section a b (as_bytes n m i) (as_bytes o k j) = i ∙ sym j
 
 cons : {A : Type 0} (x y : A) (xs ys : List A) → x ≡ y → xs ≡ ys → x ∷ xs ≡ y ∷ ys
 cons x y xs ys e f = ap (λ z. z ∷ xs) e ∙ ap (λ zs. y ∷ zs) f

@@ -8,7 +8,7 @@ use Rattle.fv_build.specs.declared.new_file.Body.{Body}
 use Rattle.fv_build.specs.declared.new_file.Body.TheVariants.{Sections, Bytes}
 use Rattle.volume_print.specs.declared.form.Form.{Form}
 use Rattle.volume_print.specs.declared.form.Form.TheVariants as form
-use Rattle.volume_print.specs.Spelling.{expression, script, bytes, expression_line, script_lines, section_line, body_line, whole, IsSectionText}
+use Rattle.volume_print.specs.Spelling.{as_expression, as_script, as_bytes, expression_line, script_lines, section_line, body_line, whole, IsSectionText}
 use Rattle.volume_print.specs.Description.{section_in, IsStream, IsBodyIn}
 use Rattle.volume_print.specs.Finding.{IsForm, AddsSection, AddsSections, AddsBody}
 
@@ -19,9 +19,9 @@ form_text section (form.Script s) = script_lines s
 form_text section form.Bytes = section_line section
 
 pub in_form : (kind : ℕ) (before : List NewSection) (section : NewSection) (f : Form) → IsForm kind before section f → IsSectionText kind before section (form_text section f)
-in_form kind before section (form.Expression phase e) is = expression phase e is refl
-in_form kind before section (form.Script s) is = script s is refl
-in_form kind before section form.Bytes is = bytes is.0 is.1 refl
+in_form kind before section (form.Expression phase e) is = as_expression phase e is refl
+in_form kind before section (form.Script s) is = as_script s is refl
+in_form kind before section form.Bytes is = as_bytes is.0 is.1 refl
 
 -- a section's text was put
 pub added : (kind : ℕ) (before : List NewSection) (section : NewSection) (f : Form) (old new : List ℕ) → IsForm kind before section f → new ≡ old ++ form_text section f

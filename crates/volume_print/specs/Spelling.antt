@@ -75,10 +75,10 @@ section_line section = line (codes "section " ++ (encode_lower (section.kind ∷
 
 -- the text of a section behind others of a file of a type: an expression or a script where it is one, and its bytes where it is neither
 pub data IsSectionText (kind : ℕ) (before : List NewSection) (section : NewSection) (text : List ℕ) : Type 0 where
-  expression : (phase : Phase) (expression : Depex) → SaysExpression kind section phase expression → text ≡ expression_line phase expression
+  as_expression : (phase : Phase) (expression : Depex) → SaysExpression kind section phase expression → text ≡ expression_line phase expression
       → IsSectionText kind before section text
-  script : (script : Script) → SaysScript kind before section script → text ≡ script_lines script → IsSectionText kind before section text
-  bytes : ((phase : Phase) (expression : Depex) → SaysExpression kind section phase expression → ⊥)
+  as_script : (script : Script) → SaysScript kind before section script → text ≡ script_lines script → IsSectionText kind before section text
+  as_bytes : ((phase : Phase) (expression : Depex) → SaysExpression kind section phase expression → ⊥)
       → ((script : Script) → SaysScript kind before section script → ⊥) → text ≡ section_line section → IsSectionText kind before section text
 
 -- the texts of sections behind others

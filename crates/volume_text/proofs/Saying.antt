@@ -23,7 +23,7 @@ use Rattle.volume_text.specs.Line.{Reads}
 use Rattle.volume_text.specs.Open.{last_of, holding, with_bytes, with_parts, with_files, with_last, with_section, new_file, pad_file, named_over, with_name, depex_type, has_part, has_script, only_part, part_checked, only_first, script_checked, built_of}
 use Rattle.volume_text.specs.Script.{script_of, into_last, action_at, IsScriptBody}
 use Rattle.volume_text.specs.Step.{section_of, new_volume, begun, filling, nested_in, closed_in, filled, written, goes_on, TakesInScript, Takes, TakesRead}
-use Rattle.volume_text.specs.Volume.{SaysLine, SayBlocks, no_block, block, action, SayFiles, no_file, named, padded, file, bytes, section, depex, script, volume, SaysVolume}
+use Rattle.volume_text.specs.Volume.{SaysLine, SayBlocks, no_block, block, action, SayFiles, no_file, named, padded, file, bodied, section, depex, script, volume, SaysVolume}
 use Rattle.volume_text.specs.Text.{numbered, Goes, Says}
 use Rattle.volume_text.proofs.Lasts.{last_push, last_is}
 
@@ -162,7 +162,7 @@ in_volume lines below top line (said.File kind name attributes) to opened says e
     subst (λ (s : State). Stands (lines ++ line ∷ []) s) (same_Ok (Filling below (with_files top (top.files ++ new_file kind name attributes ∷ []))) to e)
     (opened_more lines below top (line ∷ []) top.name (top.files ++ new_file kind name attributes ∷ []) opened (λ inner say. file inner top.name top.files line kind name attributes say says))
 in_volume lines below top line (said.Body body) to opened says e =
-    changed_more lines (line ∷ []) below top (with_bytes body) to opened e (λ inner files last new is holds say. bytes inner top.name files last new line body say says holds)
+    changed_more lines (line ∷ []) below top (with_bytes body) to opened e (λ inner files last new is holds say. bodied inner top.name files last new line body say says holds)
 in_volume lines below top line (said.Section kind body) to opened says e =
     filled_more lines (line ∷ []) below top (section_of kind body) to opened e (λ inner files last new is holds say. section inner top.name files last new line kind body say says holds)
 in_volume lines below top line (said.Depex phase body) to opened says e =

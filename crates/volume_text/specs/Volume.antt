@@ -41,7 +41,7 @@ pub data SayFiles : List (List ℕ) → Option Guid → List NewFile → Type 0 
   file : (lines : List (List ℕ)) (called : Option Guid) (files : List NewFile) (line : List ℕ) (kind : ℕ) (name : Guid) (attributes : FileAttributes)
       → SayFiles lines called files → SaysLine line (File kind name attributes)
       → SayFiles (lines ++ line ∷ []) called (files ++ new_file kind name attributes ∷ [])
-  bytes : (lines : List (List ℕ)) (called : Option Guid) (files : List NewFile) (last next : NewFile) (line body : List ℕ)
+  bodied : (lines : List (List ℕ)) (called : Option Guid) (files : List NewFile) (last next : NewFile) (line body : List ℕ)
       → SayFiles lines called (files ++ last ∷ []) → SaysLine line (Body body) → with_bytes body last ≡ Ok next
       → SayFiles (lines ++ line ∷ []) called (files ++ next ∷ [])
   section : (lines : List (List ℕ)) (called : Option Guid) (files : List NewFile) (last next : NewFile) (line : List ℕ) (kind : ℕ) (body : List ℕ)

@@ -1,5 +1,6 @@
 // What is open behind some lines of a text: volumes, one in a file of the other, and in the last file of the innermost maybe a script.
 ghost use Rattle.std.specs.Prelude.{◌≡◌, ◌<◌, ◌^◌, Ok, IfOk, replicate, take};
+ghost use Rattle.std.specs.List.{list_any};
 ghost use Rattle.volume_text.specs.Reading.{Gives, only_if};
 ghost use Rattle.volume_text.specs.Open.{last_of, holding, is_empty, with_bytes, with_section, with_last_body, with_new_file, with_file, pad_sections, with_pad, with_name, depex_type, has_part, script_front, is_script_of, has_script, IsLastFile, only_with_part, only_without_script, part_checked, only_first, script_checked, stop_of, built_of};
 
@@ -278,15 +279,19 @@ fn is_script_of(section: &NewSection, phase: Phase) -> bool
     is_script(section.kind, section.body.as_slice(), phase)
 }
 
+// Whether one of the sections is a script of a phase.
+fn is_one_script(sections: &[NewSection], phase: Phase) -> bool
+    ensures { result ≡ list_any (is_script_of phase) sections.now }
+{
+    sections.iter().any(|section| is_script_of(section, phase))
+}
+
 // Whether a file has a script of a phase.
 fn has_script(file: &NewFile, phase: Phase) -> bool
     ensures { result ≡ has_script phase file.now }
 {
     match &file.body {
-        Body::Sections(sections) => sections
-            .as_slice()
-            .iter()
-            .any(|section| is_script_of(section, phase)),
+        Body::Sections(sections) => is_one_script(sections.as_slice(), phase),
         Body::Bytes(_) => false,
     }
 }
