@@ -2,7 +2,7 @@
 use Rattle.std.proofs.Common.{◌≡◌, ℕ, Bool, true, false, List, Option, Some, None, refl, sym, ap, ◌∙◌, subst, arith}
 use Rattle.std.proofs.lemmas.Bool.Decides.{nat_tests}
 use Rattle.std.proofs.lemmas.Option.{same_Some}
-use Rattle.std.specs.Prelude.{◌==◌, if◌then◌else◌}
+use Rattle.std.specs.Prelude.{◌==◌, bytes_eq, if◌then◌else◌}
 use Rattle.std.specs.List.{list_any}
 use Rattle.pi_base.specs.declared.phase.Phase.{Phase}
 use Rattle.pi_base.specs.declared.phase.Phase.TheVariants.{Pei, Dxe}
@@ -12,6 +12,7 @@ use Rattle.depex_code.specs.Expression.{Reads, IsMalformed, instructions, bytes_
 use Rattle.act_code.specs.declared.script.Script.{Script}
 use Rattle.act_code.specs.Script.{IsScript}
 use Rattle.volume_text.specs.Open.{depex_type, has_part, is_script_of}
+use Rattle.printed_words.proofs.Comparisons.{not_same}
 use Rattle.volume_print.specs.Spelling.{IsExpressionOf, SaysExpression, SaysScript}
 use Rattle.volume_print.specs.Finding.{depex_phase, FindsExpression, FindsScript, TellsExpression, TellsScript}
 
@@ -96,3 +97,7 @@ not_first kind before section script one is earlier = λ other says.
 pub told_script : (kind : ℕ) (before : List NewSection) (section : NewSection) (script : Script) → (section.kind == 25) ≡ true → IsScript section.body script
     → has_part kind script.phase ≡ true → list_any (is_script_of script.phase) before ≡ false → TellsScript kind before section (Some script)
 told_script kind before section script raw is part first = record { kind_is = grind (arith, nat_tests); part = part; first = first; bytes = is }
+
+-- texts that a test tells apart
+pub unequal : (a b : List ℕ) (test : Bool) → test ≡ bytes_eq a b → test ≡ false → a ≡ b → ⊥
+unequal a b test is fails same = not_same a b test is fails same

@@ -1,5 +1,5 @@
 -- Lists with one thing more.
-use Rattle.std.proofs.Common.{◌≡◌, ℕ, ◌+◌, ◌<◌, suc, Bool, true, false, List, [], ◌∷◌, ◌++◌, length, map, take, get_or, flat_map, refl, sym, ap, ◌∙◌, subst, append_assoc}
+use Rattle.std.proofs.Common.{◌≡◌, ℕ, ◌+◌, ◌<◌, zero, suc, arith, Bool, true, false, List, [], ◌∷◌, ◌++◌, length, map, take, get_or, flat_map, refl, sym, ap, ◌∙◌, subst, append_assoc}
 use Rattle.std.proofs.lemmas.Grind.{flat_map-append}
 use Rattle.std.proofs.lemmas.List.{append-nil, map-append, take_more}
 use Rattle.std.proofs.lemmas.List.Folds.{list_any-append}
@@ -33,8 +33,8 @@ whole_more old now new text texts before grown =
     ∙ ap (λ xs. old ++ xs) (sym (flat_map-append (λ t. t) texts (text ∷ [])))
 
 -- the items up to one more, each seen by a function
-pub map_more : {X Y : Type 0} (f : X → Y) (xs : List X) (i : ℕ) (x : X) → i < length xs → x ≡ get_or xs i x → map f (take (i + 1) xs) ≡ map f (take i xs) ++ f x ∷ []
-map_more f xs i x within is = ap (map f) (take_more xs i x within ∙ ap (λ y. take i xs ++ y ∷ []) (sym is)) ∙ map-append f (take i xs) (x ∷ [])
+pub map_more : {X Y : Type 0} (f : X → Y) (xs : List X) (i : ℕ) (d : X) → i < length xs → map f (take (i + 1) xs) ≡ map f (take i xs) ++ f (get_or xs i d) ∷ []
+map_more f xs i d within = ap (map f) (take_more xs i d within) ∙ map-append f (take i xs) (get_or xs i d ∷ [])
 
 or_false : (a b : Bool) → a ≡ false → b ≡ false → (a || (b || false)) ≡ false
 or_false a b p q = rw (p, q) refl
@@ -42,3 +42,13 @@ or_false a b p q = rw (p, q) refl
 -- a test that no item passed so far, nor one more
 pub none_more : {X : Type 0} (test : X → Bool) (xs : List X) (x : X) → list_any test xs ≡ false → test x ≡ false → list_any test (xs ++ x ∷ []) ≡ false
 none_more test xs x none is = list_any-append test xs (x ∷ []) ∙ or_false (list_any test xs) (test x) none is
+
+or_true : (b : Bool) → (b || true) ≡ true
+or_true true = refl
+or_true false = refl
+
+-- a test that one item passes
+pub some_at : {X Y : Type 0} (test : Y → Bool) (f : X → Y) (xs : List X) (i : ℕ) (d : X) → i < length xs → test (f (get_or xs i d)) ≡ true → list_any test (map f xs) ≡ true
+some_at test f [] i d within passes = absurd (omega arith)
+some_at test f (y ∷ xs) zero d within passes = rw passes refl
+some_at test f (y ∷ xs) (suc i) d within passes = rw (some_at test f xs i d (omega arith) passes) (or_true (test (f y)))

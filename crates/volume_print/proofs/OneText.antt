@@ -60,14 +60,14 @@ section_one laws kind before section a b (as_bytes n m i) (as_bytes o k j) = i �
 cons : {A : Type 0} (x y : A) (xs ys : List A) → x ≡ y → xs ≡ ys → x ∷ xs ≡ y ∷ ys
 cons x y xs ys e f = ap (λ z. z ∷ xs) e ∙ ap (λ zs. y ∷ zs) f
 
-sections_one : Laws → (kind : ℕ) (before sections : List NewSection) (as bs : List (List ℕ)) → AreSectionTexts kind before sections as → AreSectionTexts kind before sections bs → as ≡ bs
+sections_one : Laws → (kind : ℕ) (before sections : List NewSection) (xs bs : List (List ℕ)) → AreSectionTexts kind before sections xs → AreSectionTexts kind before sections bs → xs ≡ bs
 sections_one laws kind before [] [] [] x y = refl
-sections_one laws kind before [] (a ∷ as) bs x y = absurd x
+sections_one laws kind before [] (a ∷ xs) bs x y = absurd x
 sections_one laws kind before [] [] (b ∷ bs) x y = absurd y
 sections_one laws kind before (s ∷ sections) [] bs x y = absurd x
-sections_one laws kind before (s ∷ sections) (a ∷ as) [] x y = absurd y
-sections_one laws kind before (s ∷ sections) (a ∷ as) (b ∷ bs) x y =
-    cons a b as bs (section_one laws kind before s a b x.0 y.0) (sections_one laws kind (before ++ s ∷ []) sections as bs x.1 y.1)
+sections_one laws kind before (s ∷ sections) (a ∷ xs) [] x y = absurd y
+sections_one laws kind before (s ∷ sections) (a ∷ xs) (b ∷ bs) x y =
+    cons a b xs bs (section_one laws kind before s a b x.0 y.0) (sections_one laws kind (before ++ s ∷ []) sections xs bs x.1 y.1)
 
 body_text_one : Laws → (kind : ℕ) (body : Body) (a b : List ℕ) → IsBodyText kind body a → IsBodyText kind body b → a ≡ b
 body_text_one laws kind (Sections sections) a b x y = x.2 ∙ ap whole (sections_one laws kind [] sections x.0 y.0 x.1 y.1) ∙ sym y.2
@@ -86,9 +86,9 @@ no_stream laws kind stream read other are (inl is) = raw_or_not kind other is
 no_stream laws kind stream read other are (inr wrong) = laws.apart stream read wrong.0 are wrong.1
 
 body_one : Laws → (kind : ℕ) (stream : List ℕ) (a b : Body) → IsBodyIn kind stream a → IsBodyIn kind stream b → a ≡ b
-body_one laws kind stream (Sections as) (Sections bs) x y =
+body_one laws kind stream (Sections xs) (Sections bs) x y =
     ap Sections (x.1.2 ∙ ap (map (section_in stream)) (laws.sections stream x.1.0 y.1.0 x.1.1 y.1.1) ∙ sym y.1.2)
-body_one laws kind stream (Sections as) (Bytes b) x y = absurd (no_stream laws kind stream x.1.0 x.0 x.1.1 y.1)
+body_one laws kind stream (Sections xs) (Bytes b) x y = absurd (no_stream laws kind stream x.1.0 x.0 x.1.1 y.1)
 body_one laws kind stream (Bytes a) (Sections bs) x y = absurd (no_stream laws kind stream y.1.0 y.0 y.1.1 x.1)
 body_one laws kind stream (Bytes a) (Bytes b) x y = ap Bytes (x.0 ∙ sym y.0)
 

@@ -13,7 +13,7 @@ use Rattle.fv_volume.specs.declared.file.FfsFile.{FfsFile}
 use Rattle.fv_build.specs.declared.new_file.NewFile.{NewFile}
 use Rattle.fv_build.specs.declared.new_file.Body.{Body}
 use Rattle.fv_build.specs.Reading.{AreEach}
-use Rattle.volume_print.specs.Spelling.{IsExpressionOf, SaysExpression, SaysScript, IsSectionText, AreSectionTexts, IsBodyText, IsFileText, whole}
+use Rattle.volume_print.specs.Spelling.{IsExpressionOf, SaysExpression, SaysScript, IsSectionText, AreSectionTexts, IsBodyText, IsFileText, expression_line, script_lines, section_line, whole}
 use Rattle.volume_print.specs.Description.{IsBodyIn, IsFileIn}
 
 -- the expression that bytes are, or none
@@ -45,6 +45,12 @@ abbrev pub IsForm : ℕ → List NewSection → NewSection → Form → Type 0
 IsForm kind before section (form.Expression phase expression) = SaysExpression kind section phase expression
 IsForm kind before section (form.Script script) = SaysScript kind before section script
 IsForm kind before section form.Bytes = TellsExpression kind section None × TellsScript kind before section None
+
+-- the text of a section in a form
+abbrev pub form_text : NewSection → Form → List ℕ
+form_text section (form.Expression phase expression) = expression_line phase expression
+form_text section (form.Script script) = script_lines script
+form_text section form.Bytes = section_line section
 
 -- the text of a section behind others is added
 abbrev pub AddsSection : ℕ → List NewSection → NewSection → List ℕ → List ℕ → Type 0

@@ -1,5 +1,5 @@
 // The lines of files.
-ghost use Rattle.std.specs.Prelude.{◌≡◌, ◌≤◌, ◌<◌, ◌+◌, ◌++◌, length, slice_index, OnOk, IfOk};
+ghost use Rattle.std.specs.Prelude.{◌≡◌, ◌≤◌, ◌<◌, ◌+◌, ◌++◌, length, slice_index, take, drop, OnOk, IfOk};
 ghost use Rattle.fv_volume.specs.Places.{AreInside};
 ghost use Rattle.fv_build.specs.Attributes.{attributes_in};
 ghost use Rattle.volume_print.specs.Spelling.{fixed_words, alignment_words, body_line, head_line};
@@ -48,6 +48,7 @@ fn put_plain_body(out: &mut Seq<u8>, body: &[u8]) -> Result<(), OutOfMemory>
 }
 
 // Adds the lines of a file's body.
+#[tactic(auto, using(crate::proofs::Putting::sections_added, crate::proofs::Putting::bytes_added))]
 fn put_body(alloc: Global, out: &mut Seq<u8>, kind: u8, body: &[u8]) -> Result<(), OutOfMemory>
     ensures { OnOk result (AddsBody kind body.now out.old out.new) }
 {
@@ -106,7 +107,17 @@ fn attributes_at(bytes: &[u8], at: usize) -> FileAttributes
     }
 }
 
+// The bytes behind a file's header.
+fn body_of<'a>(bytes: &'a [u8], file: &FfsFile) -> &'a [u8]
+    requires { file.now.body_at + file.now.body_len ≤ length bytes.now }
+    ensures { result.now ≡ take file.now.body_len (drop file.now.body_at bytes.now) }
+{
+    let at = file.body_at as usize;
+    &bytes[at..at + file.body_len as usize]
+}
+
 // Adds the lines of a file.
+#[tactic(auto, using(crate::proofs::Putting::file_added))]
 fn put_file(
     alloc: Global,
     out: &mut Seq<u8>,
@@ -117,14 +128,13 @@ fn put_file(
     requires inside { file.now.body_at + file.now.body_len ≤ length bytes.now }
     ensures { OnOk result (AddsFile bytes.now file.now out.old out.new) }
 {
-    let at = file.body_at as usize;
-    let body = &bytes[at..at + file.body_len as usize];
     let attributes = attributes_at(bytes, file.at as usize);
     put_head(out, file.kind, &file.name, attributes)?;
-    put_body(alloc, out, file.kind, body)
+    put_body(alloc, out, file.kind, body_of(bytes, file))
 }
 
 /// Adds the lines of files.
+#[tactic(auto, using(crate::proofs::Putting::no_files, crate::proofs::Putting::files_more))]
 pub(crate) fn put_files(
     alloc: Global,
     out: &mut Seq<u8>,

@@ -79,6 +79,7 @@ fn depex_phase(kind: u8) -> Option<Phase>
 }
 
 // The expression that a section of a file of a type is told as.
+#[tactic(auto, using(crate::proofs::Forms::no_type, crate::proofs::Forms::no_part, crate::proofs::Forms::no_bytes, crate::proofs::Forms::told))]
 fn told_expression(
     alloc: Global,
     kind: u8,
@@ -99,13 +100,21 @@ fn told_expression(
     }
 }
 
+// Whether a section is a script of a phase.
+fn is_script_of(stream: &[u8], section: &Section, phase: Phase) -> bool
+    requires { section.now.body_at + section.now.body_len ≤ length stream.now }
+    ensures { result ≡ is_script_of phase (section_in stream.now section.now) }
+{
+    is_script(section.kind, body_of(stream, section), phase)
+}
+
 // Whether one of the sections is a script of a phase.
 fn has_script(stream: &[u8], sections: &[Section], phase: Phase) -> bool
     requires { AreInside stream.now sections.now }
     ensures { result ≡ list_any (is_script_of phase) (map (section_in stream.now) sections.now) }
 {
     'sections: for section in sections {
-        if is_script(section.kind, body_of(stream, section), phase) {
+        if is_script_of(stream, section, phase) {
             return true;
         }
     }
@@ -113,6 +122,7 @@ fn has_script(stream: &[u8], sections: &[Section], phase: Phase) -> bool
 }
 
 // The script that a section behind others of a file of a type is told as.
+#[tactic(auto, using(crate::proofs::Forms::not_raw, crate::proofs::Forms::no_script, crate::proofs::Forms::no_part_for, crate::proofs::Forms::not_first, crate::proofs::Forms::told_script))]
 fn told_script(
     alloc: Global,
     kind: u8,

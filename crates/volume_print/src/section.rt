@@ -4,7 +4,7 @@ ghost use Rattle.fv_section.specs.Stream.{AreInside};
 ghost use Rattle.asm_text.specs.ScriptText.{line};
 ghost use Rattle.volume_print.specs.Description.{section_in};
 ghost use Rattle.volume_print.specs.Spelling.{expression_line, script_lines, section_line};
-ghost use Rattle.volume_print.specs.Finding.{AddsSection, AddsSections};
+ghost use Rattle.volume_print.specs.Finding.{form_text, AddsSection, AddsSections};
 
 use crate::form::{Form, body_of, form_of};
 use crate::word::{phase_word, put_bytes};
@@ -14,6 +14,9 @@ use depex_code::Depex;
 use fv_section::Section;
 use pi_base::{OutOfMemory, Phase, Seq};
 use std::alloc::Global;
+
+/// The length of the line with which the text of a script by itself begins: it names the phase.
+const PHASE_LINE_LEN: usize = 10;
 
 // Adds the line of an expression.
 fn put_expression(
@@ -39,8 +42,8 @@ fn put_script(alloc: Global, out: &mut Seq<u8>, script: &Script) -> Result<(), O
     out.append(b"script ")?;
     out.append(phase_word(script.phase))?;
     out.append(b"\n")?;
-    // The text of a script by itself begins with a line that names the phase.
-    out.append(&text.as_slice()[b"phase pei\n".len()..])?;
+    let (_, blocks) = text.as_slice().split_at(PHASE_LINE_LEN);
+    out.append(blocks)?;
     out.append(b"end\n")
 }
 
@@ -53,6 +56,23 @@ fn put_plain(out: &mut Seq<u8>, kind: u8, bytes: &[u8]) -> Result<(), OutOfMemor
     out.append(b" ")?;
     put_bytes(out, bytes)?;
     out.append(b"\n")
+}
+
+// Adds the lines of a section in a form.
+fn put_form(
+    alloc: Global,
+    out: &mut Seq<u8>,
+    form: &Form,
+    kind: u8,
+    bytes: &[u8],
+) -> Result<(), OutOfMemory>
+    ensures { OnOk result (out.new ≡ out.old ++ form_text (record { kind = kind; body = bytes.now }) form.now) }
+{
+    match form {
+        Form::Expression(phase, expression) => put_expression(alloc, out, *phase, expression),
+        Form::Script(script) => put_script(alloc, out, script),
+        Form::Bytes => put_plain(out, kind, bytes),
+    }
 }
 
 // Adds the lines of a section behind others of a file of a type.
@@ -68,11 +88,8 @@ fn put_section(
     requires inside { section.now.body_at + section.now.body_len ≤ length stream.now }
     ensures { OnOk result (AddsSection kind (map (section_in stream.now) before.now) (section_in stream.now section.now) out.old out.new) }
 {
-    match form_of(alloc, kind, stream, before, section)? {
-        Form::Expression(phase, expression) => put_expression(alloc, out, phase, &expression),
-        Form::Script(script) => put_script(alloc, out, &script),
-        Form::Bytes => put_plain(out, section.kind, body_of(stream, section)),
-    }
+    let form = form_of(alloc, kind, stream, before, section)?;
+    put_form(alloc, out, &form, section.kind, body_of(stream, section))
 }
 
 /// Adds the lines of the sections of a file of a type.

@@ -86,6 +86,7 @@ fn put_name(out: &mut Seq<u8>, name: Option<Guid>) -> Result<(), OutOfMemory>
 /// the first script of a phase as text, all others by their bytes; of a raw file, and of one whose sections cannot be read, the body's bytes. What has no
 /// text is passed over: pads, dead headers and files that are skipped, where files stand and what stands between them, an erase polarity of zeros, file
 /// checksums, and bytes behind FvLength.
+#[tactic(auto, using(crate::proofs::Putting::text_put))]
 pub fn text_of(alloc: Global, bytes: &[u8]) -> Result<Seq<u8>, VolFault>
     ensures text { IfOk result (IsTextOf bytes.now) }
     // There is none where the bytes are no volume, and this is the first fault; or memory ran out.
