@@ -25,7 +25,7 @@ use Rattle.whole_boot.specs.declared.behind.Behind.{Behind}
 use Rattle.whole_boot.specs.declared.behind.Behind.TheVariants.{Closed}
 use Rattle.whole_boot.specs.Behind.{ComesBehind, HasClosed, HasComeBehind}
 use Rattle.whole_boot.specs.ByChoice.{BarsInDxe, ComesInDxe, EndsAfter, StopsBehind, stops_at_last, stops_in_dxe}
-use Rattle.whole_boot.specs.Choices.{Choices, NamesBehind, choices_of}
+use Rattle.whole_boot.specs.Choices.{Choices, NamesBehind}
 use Rattle.whole_boot.specs.Closing.{closing, closing_text}
 use Rattle.whole_boot.specs.FirstBoot.{Tells}
 use Rattle.whole_boot.proofs.ClosingTexts.{closing_is}

@@ -1,6 +1,6 @@
 -- A boot by choices is a free one: free steps alone lead from the opening of a phase to each machine to which it comes.
 -- Own; PI 1.8, volumes 1 and 2, leave to the dispatchers which of the eligible modules starts, and nothing else.
-use Rattle.std.specs.Prelude.{◌≡◌, ℕ, List, [], ◌∷◌, ◌++◌, Option, Some, None}
+use Rattle.std.specs.Prelude.{◌≡◌, ℕ, List, [], ◌∷◌, ◌++◌, Some, None}
 use Rattle.std.specs.Io.KnownBytes.{Appends}
 use Rattle.boot_trace.specs.Printing.{Texts}
 use Rattle.catalog_model.specs.declared.catalog.Catalog.{Catalog}

@@ -59,8 +59,8 @@ fn boot_drivers<M: PeiStore + Drop, S: Sink, C: Choice<S>>(
 ) -> Result<Behind, Halt>
     requires catalog { IsWellFormed catalog.now }
     requires state { Present (M.stands_for pei.now.store) Anything }
-    ensures row { BootsBehind (C.peims choice.now) (C.lets_in_pei choice.now) (C.drivers choice.now) (C.lets_in_dxe choice.now) S.text S.faults
-        M.stands_for pei.now Handoff catalog.now fuel sink.old sink.new result }
+    ensures row { BootsBehind (C.peims choice.now) (C.lets_in_pei choice.now) (C.drivers choice.now) (C.lets_in_dxe choice.now)
+        S.text S.faults M.stands_for pei.now Handoff catalog.now fuel sink.old sink.new result }
     ensures faults { HaltsAfter result (S.faults sink.old) (S.faults sink.new) }
 {
     match boot_dxe(
@@ -104,8 +104,8 @@ pub(crate) fn boot_behind<M: PeiStore + Drop, S: Sink, C: Choice<S>>(
 ) -> Result<Behind, Halt>
     requires catalog { IsWellFormed catalog.now }
     requires state { Present (M.stands_for pei.now.store) Anything }
-    ensures row { BootsBehind (C.peims choice.now) (C.lets_in_pei choice.now) (C.drivers choice.now) (C.lets_in_dxe choice.now) S.text S.faults
-        M.stands_for pei.now pei.now.end catalog.now fuel sink.old sink.new result }
+    ensures row { BootsBehind (C.peims choice.now) (C.lets_in_pei choice.now) (C.drivers choice.now) (C.lets_in_dxe choice.now)
+        S.text S.faults M.stands_for pei.now pei.now.end catalog.now fuel sink.old sink.new result }
     ensures faults { HaltsAfter result (S.faults sink.old) (S.faults sink.new) }
 {
     match pei.end {

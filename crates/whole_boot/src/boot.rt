@@ -54,8 +54,8 @@ pub fn boot_by_choice<M: PeiStore + Drop, S: Sink, C: Choice<S>>(
     requires catalog { IsWellFormed catalog.now }
     requires some { 1 ≤ length catalog.now.volumes }
     requires opening { (board : Board) × M.stands_for store (empty_store board) }
-    ensures row { BootsByChoice (C.peims choice.now) (C.lets_in_pei choice.now) (C.drivers choice.now) (C.lets_in_dxe choice.now) S.text S.faults
-        M.stands_for M.TAKES_MEMORY catalog.now fuel store sink.old sink.new result }
+    ensures row { BootsByChoice (C.peims choice.now) (C.lets_in_pei choice.now) (C.drivers choice.now) (C.lets_in_dxe choice.now)
+        S.text S.faults M.stands_for M.TAKES_MEMORY catalog.now fuel store sink.old sink.new result }
     ensures free { (board : Board) → M.stands_for store (empty_store board)
         → IfOk result (GoesFreely board catalog.now fuel (record { old = S.text sink.old; new = S.text sink.new })) }
     ensures faults { HaltsAfter result (S.faults sink.old) (S.faults sink.new) }

@@ -1,4 +1,4 @@
-//! A boot over a store, from its first line to its last: PEI, DXE behind a hand-off, the lists, the handles and the result; where several modules may start, a choice that is handed in says which.
+//! A boot over a store, from its first line to its last: PEI, DXE behind a hand-off, the lists, the handles and the result; where several modules may start, a choice that is handed in says which, and a module that it does not let starts nothing: the boot is left there.
 //!
 //! Tried in `boot_trials`: `tests`.
 #![tactic(auto)]

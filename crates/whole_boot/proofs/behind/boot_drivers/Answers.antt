@@ -1,4 +1,4 @@
-use Rattle.std.proofs.Common.{ℕ, Err, Ok, refl, subst}
+use Rattle.std.proofs.Common.{ℕ, Ok, refl, subst}
 use Rattle.std.proofs.lemmas.Result.{err_from_is_err_and}
 use Rattle.boot_model.specs.DxeRun.{dxe_opening}
 use Rattle.dxe_dispatch.specs.declared.boot.Left.{Left}
