@@ -2,3 +2,8 @@ mod Along
 mod Among
 mod Pushing
 mod PeiOrder
+mod DxeOrder
+mod ClosingStarts
+mod Comings
+mod Reaching
+mod Calls

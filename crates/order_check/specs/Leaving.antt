@@ -23,13 +23,17 @@ pub record IsRefused (catalog : Catalog) (order : StartOrder) (index : ℕ) (s :
   pub line_is : line ≡ asked.line
   pub stood : StandsAgainst catalog (starts_of (take index order.starts)) s h asked.start against
 
--- behind so many starts, where the boot has ended so or is left before the next one
+-- where the order asks for no start more
+abbrev pub IsReached : Option RunEnd → Followed → Type 0
+IsReached end (Ended so) = end ≡ Some so
+IsReached end Stopped = end ≡ None
+IsReached end (No line against) = ⊥
+
+-- behind so many starts, where the boot has ended so, or is left before the next one
 abbrev pub ComesTo : Catalog → StartOrder → ℕ → StoreState → HandleState → Option RunEnd → Followed → Type 0
-ComesTo catalog order index s h (Some so) (Ended end) = (end ≡ so) × (slice_get order.starts index ≡ None)
-ComesTo catalog order index s h None (Ended end) = ⊥
-ComesTo catalog order index s h (Some so) Stopped = ⊥
-ComesTo catalog order index s h None Stopped = slice_get order.starts index ≡ None
-ComesTo catalog order index s h so (No line against) = IsRefused catalog order index s h line against
+ComesTo catalog order index s h end (Ended so) = (end ≡ Some so) × (slice_get order.starts index ≡ None)
+ComesTo catalog order index s h end Stopped = (end ≡ None) × (slice_get order.starts index ≡ None)
+ComesTo catalog order index s h end (No line against) = IsRefused catalog order index s h line against
 
 -- what a whole boot comes to, by its answer
 abbrev pub FollowsTo : Board → Catalog → ℕ → StartOrder → Texts → Result Followed Halt → Type 0

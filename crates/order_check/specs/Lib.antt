@@ -4,3 +4,7 @@ pub mod Against
 pub mod Code
 pub mod Finding
 pub mod Following
+pub mod Leaving
+pub mod Drivers
+pub mod Behind
+pub mod Follow

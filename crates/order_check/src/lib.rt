@@ -5,7 +5,12 @@
 
 mod against;
 mod by_order;
+mod drivers;
+mod images;
+mod following;
 mod lacking;
 
 pub use against::Against;
 pub use by_order::ByOrder;
+pub use images::{FollowFault, follow};
+pub use following::Followed;

@@ -1,0 +1,152 @@
+-- What the parts of a boot along an order leave, put together.
+use Rattle.std.proofs.Common.{◌≡◌, ℕ, ◌+◌, ◌-◌, Bool, arith, List, [], ◌∷◌, ◌++◌, length, Option, Some, None, Result, Ok, Err, IfOk, refl, sym, ap, ◌∙◌, subst}
+use Rattle.std.specs.Prelude.{slice_get}
+use Rattle.std.proofs.lemmas.List.{append-nil}
+use Rattle.std.specs.Io.KnownBytes.{Appends}
+use Rattle.boot_io.specs.declared.halt.Halt.{Halt}
+use Rattle.boot_io.proofs.PutsLaws.{appends_then}
+use Rattle.catalog_model.specs.declared.catalog.Catalog.{Catalog}
+use Rattle.store_model.specs.HandleState.{HandleState, no_handles}
+use Rattle.store_model.specs.StoreState.{StoreState}
+use Rattle.boot_model.specs.declared.line.Line.{Line}
+use Rattle.boot_model.specs.declared.line.RunEnd.{RunEnd}
+use Rattle.boot_model.specs.declared.phase_end.DxeEnd.{DxeEnd}
+use Rattle.boot_model.specs.declared.phase_end.PeiEnd.{PeiEnd}
+use Rattle.boot_model.specs.declared.phase_end.PeiEnd.TheVariants.{Handoff, NoMemory, NoIpl, Spent, Deep}
+use Rattle.boot_model.specs.BootRun.{dxe_result}
+use Rattle.boot_model.specs.DxeMachine.{DxeMachine}
+use Rattle.boot_model.specs.PeiMachine.{PeiMachine}
+use Rattle.boot_model.specs.Text.{text_of}
+use Rattle.boot_model.proofs.Texts.{text_of-append}
+use Rattle.boot_trace.specs.Printing.{Texts}
+use Rattle.start_order.specs.declared.lines.StartOrder.{StartOrder}
+use Rattle.boot_starts.specs.Starts.{starts}
+use Rattle.pei_dispatch.specs.Ends.{pei_starts}
+use Rattle.dxe_choice.specs.Queue.{Queue}
+use Rattle.dxe_core.specs.Standing.{DxeCore}
+use Rattle.dxe_dispatch.specs.Choices.{BarsBy, EndsBy}
+use Rattle.whole_boot.specs.Closing.{closing, closing_text}
+use Rattle.whole_boot.proofs.ClosingTexts.{closing_is}
+use Rattle.order_check.specs.declared.following.Followed.{Followed}
+use Rattle.order_check.specs.declared.following.Followed.TheVariants.{Ended, Stopped, No}
+use Rattle.order_check.specs.Along.{IsAlong}
+use Rattle.order_check.specs.Behind.{FinishesTo, last_lines, last_text, pei_result}
+use Rattle.order_check.specs.Drivers.{HasRun, StandsSo}
+use Rattle.order_check.specs.declared.drivers.Drivers.{Drivers}
+use Rattle.order_check.specs.Leaving.{ComesTo, FollowsTo, IsReached}
+use Rattle.order_check.proofs.PeiOrder.{Comes, OrderBoot, PeiBar}
+use Rattle.order_check.proofs.DxeOrder.{DxeBar, DxeCome, Handed, NamesDriver, all_starts, came, comes_in_dxe, dxe_along, lets_driver, opening}
+use Rattle.order_check.proofs.Reaching.{dxe_bars, dxe_ends, pei_bars, pei_ends}
+
+-- where the order asks for no start more
+pub reached_comes : (catalog : Catalog) (order : StartOrder) (index : ℕ) (s : StoreState) (h : HandleState) (end : Option RunEnd) (followed : Followed) → slice_get order.starts index ≡ None → IsReached end followed → ComesTo catalog order index s h end followed
+reached_comes catalog order index s h end (Ended so) none is = (is, none)
+reached_comes catalog order index s h end Stopped none is = (is, none)
+reached_comes catalog order index s h end (No line against) none is = absurd is
+
+-- the text of the last lines
+last_is : (s : StoreState) (h : HandleState) (end : Option RunEnd) → last_text s h end ≡ text_of (last_lines s h end)
+last_is s h None = refl
+last_is s h (Some end) = sym (closing_is s h end)
+
+-- the last lines were put, and this is what the boot comes to
+pub finishes : (catalog : Catalog) (order : StartOrder) (index : ℕ) (s : StoreState) (h : HandleState) (end : Option RunEnd) (t : Texts) (followed : Followed) → Appends t.old t.new (last_text s h end)
+    → ComesTo catalog order index s h end followed → FinishesTo catalog order index s h end t (Ok followed)
+finishes catalog order index s h end t followed text comes = (subst (Appends t.old t.new) (last_is s h end) text, comes)
+
+-- numbers by other words
+pub counts : (P : ℕ → ℕ → Type 0) (a b c d : ℕ) → a ≡ c → b ≡ d → P a b → P c d
+counts P a b c d e f p = subst (P c) f (subst (λ x. P x b) e p)
+
+-- only a hand-off has no result
+pub handed_off : (how : PeiEnd) → pei_result how ≡ None → how ≡ Handoff
+handed_off Handoff e = refl
+handed_off NoMemory e = cc
+handed_off NoIpl e = cc
+handed_off Spent e = cc
+handed_off Deep e = cc
+
+-- texts one behind the other
+pub two_texts : (first mid new : Option (List ℕ)) (a b : List Line) → Appends first mid (text_of a) → Appends mid new (text_of b) → Appends first new (text_of (a ++ b))
+two_texts first mid new a b f g = subst (Appends first new) (sym (text_of-append a b)) (appends_then first mid new (text_of a) (text_of b) f g)
+
+-- PEI ended the boot
+pub pei_closes : (b : OrderBoot) (earlier : List PeiMachine) (m : PeiMachine) (how : PeiEnd) (so : RunEnd) (first mid new : Option (List ℕ)) (index : ℕ) (result : Result Followed Halt) → Comes b earlier m → IsAlong b.order (starts m.lines) → m.ended ≡ Some how → pei_result how ≡ Some so
+    → Appends first mid (text_of m.lines) → index ≡ pei_starts m → FinishesTo b.catalog b.order index m.store no_handles (Some so) (record { old = mid; new = new }) result
+    → FollowsTo b.board b.catalog b.fuel b.order (record { old = first; new = new }) result
+pei_closes b earlier m how so first mid new index (Ok followed) come far ended is text at finished =
+    pei_ends b earlier m how so (record { old = first; new = new }) followed come far ended is (two_texts first mid new m.lines (closing m.store no_handles so) text finished.0)
+    (subst (λ n. ComesTo b.catalog b.order n m.store no_handles (Some so) followed) at finished.1)
+pei_closes b earlier m how so first mid new index (Err halt) come far ended is text at finished = tt
+
+-- PEI is left before a start that is not let
+pub pei_stays : (b : OrderBoot) (Names : PeiMachine → Option ℕ → Type 0) (m : PeiMachine) (number : ℕ) (bar : PeiBar b Names m number) (t : Texts) (index : ℕ) (result : Result Followed Halt) → Appends t.old t.new (text_of m.lines) → index ≡ pei_starts m
+    → IfOk result (ComesTo b.catalog b.order index m.store no_handles None) → FollowsTo b.board b.catalog b.fuel b.order t result
+pei_stays b Names m number bar t index (Ok followed) text at comes = pei_bars b Names m number bar t followed text (subst (λ n. ComesTo b.catalog b.order n m.store no_handles None followed) at comes)
+pei_stays b Names m number bar t index (Err halt) text at comes = tt
+
+-- what DXE comes to behind the hand-off
+pub dxe_finishes : (b : OrderBoot) (h : Handed b) (Names : DxeMachine → Option ℕ → Type 0) (drivers : Drivers) (first old mid new : Option (List ℕ)) (result : Result Followed Halt) → NamesDriver b h Names
+    → HasRun Names (lets_driver b h) b.catalog b.fuel (opening h) (pei_starts h.pei) drivers old mid → Appends first old (text_of h.pei.lines)
+    → FinishesTo b.catalog b.order drivers.starts h.pei.store drivers.handles drivers.«end» (record { old = mid; new = new }) result → FollowsTo b.board b.catalog b.fuel b.order (record { old = first; new = new }) result
+dxe_finishes b h Names drivers first old mid new (Err halt) names run text finished = tt
+dxe_finishes b h Names drivers first old mid new (Ok followed) names run text finished = by drivers.«end» run.stands here
+  where
+    m : DxeMachine
+    m = came b h run.earlier
+
+    index : ℕ
+    index = pei_starts h.pei + length m.started
+
+    come : DxeCome b h m
+    come = comes_in_dxe b h Names run.earlier run.run
+
+    far : IsAlong b.order (all_starts h m)
+    far = dxe_along b h Names run.earlier run.run
+
+    t : Texts
+    t = record { old = mid; new = new }
+
+    here : FinishesTo b.catalog b.order index h.pei.store m.handles drivers.«end» t (Ok followed)
+    here = subst (λ held. FinishesTo b.catalog b.order index h.pei.store held drivers.«end» t (Ok followed)) (sym run.has)
+        (subst (λ n. FinishesTo b.catalog b.order n h.pei.store drivers.handles drivers.«end» t (Ok followed)) run.starts_are finished)
+
+    both : Appends first mid (text_of (h.pei.lines ++ m.lines))
+    both = two_texts first old mid h.pei.lines m.lines text run.text
+
+    by : (end : Option RunEnd) → StandsSo Names (lets_driver b h) b.catalog m end old mid → FinishesTo b.catalog b.order index h.pei.store m.handles end t (Ok followed) → FollowsTo b.board b.catalog b.fuel b.order (record { old = first; new = new }) (Ok followed)
+    by (Some so) stands last =
+        let this : FinishesTo b.catalog b.order index h.pei.store m.handles (Some (dxe_result stands.0)) t (Ok followed) = subst (λ e. FinishesTo b.catalog b.order index h.pei.store m.handles (Some e) t (Ok followed)) stands.2 last in
+        dxe_ends b h m stands.0 (record { old = first; new = new }) followed come far stands.1 (two_texts first mid new (h.pei.lines ++ m.lines) (closing h.pei.store m.handles (dxe_result stands.0)) both this.0) this.1
+    by None stands last =
+        let bars = stands.1 in
+        let bar : DxeBar b h Names m stands.0 = record { names = names; come = come; going = bars.running; due = bars.due; barred = bars.barred } in
+        dxe_bars b h Names m stands.0 bar (record { old = first; new = new }) followed far (subst (Appends first new) (ap text_of (append-nil (h.pei.lines ++ m.lines))) (two_texts first mid new (h.pei.lines ++ m.lines) [] both last.0)) last.1
+
+-- what ran in DXE, from what the run leaves: it has ended
+pub has_ended : {M : Type 0} (Names : DxeMachine → Option ℕ → Type 0) (Lets : DxeMachine → ℕ → Bool) (stands : M → StoreState → Type 0) (store : M) (catalog : Catalog) (fuel : ℕ) (opening : DxeMachine) (core : DxeCore) (queue : Queue) (how : DxeEnd) (so : RunEnd) (handles : HandleState) (in_pei starts : ℕ) (old new : Option (List ℕ))
+    → handles ≡ core.services.handles → starts ≡ in_pei + queue.left → so ≡ dxe_result how → EndsBy Names Lets stands store catalog fuel opening core queue how old new
+    → HasRun Names Lets catalog fuel opening in_pei (record { «end» = Some so; handles = handles; starts = starts }) old new
+has_ended Names Lets stands store catalog fuel opening core queue how so handles in_pei starts old new same counted is run = record {
+  earlier = run.earlier;
+  run = run.run;
+  text = run.ended.text;
+  has = run.now.machine.core.services.handles ∙ sym same;
+  starts_are = counted ∙ ap (λ n. in_pei + n) run.now.queue.left;
+  stands = (how, run.ended.ended, is);
+}
+
+-- or it is left before a start that is not let; the driver has left the queue
+pub has_stayed : {M : Type 0} (Names : DxeMachine → Option ℕ → Type 0) (Lets : DxeMachine → ℕ → Bool) (stands : M → StoreState → Type 0) (store : M) (catalog : Catalog) (fuel : ℕ) (opening : DxeMachine) (core : DxeCore) (queue : Queue) (number : ℕ) (handles : HandleState) (in_pei starts : ℕ) (old new : Option (List ℕ))
+    → handles ≡ core.services.handles → starts ≡ in_pei + queue.left → BarsBy Names Lets stands store catalog fuel opening core queue number old new
+    → HasRun Names Lets catalog fuel opening in_pei (record { «end» = None; handles = handles; starts = starts - 1 }) old new
+has_stayed Names Lets stands store catalog fuel opening core queue number handles in_pei starts old new same counted run =
+    let left = run.left.left in
+    record {
+      earlier = run.earlier;
+      run = run.run;
+      text = run.bars.text;
+      has = run.left.machine.core.services.handles ∙ sym same;
+      starts_are = omega (arith, counted, left);
+      stands = (number, run.bars);
+    }
