@@ -33,7 +33,7 @@ use Rattle.start_order.specs.declared.line.AskedStart.{AskedStart}
 use Rattle.start_order.specs.declared.line.Start.{Start}
 use Rattle.boot_starts.specs.Starts.{ComeFirst, module_start, starts}
 use Rattle.boot_starts.specs.Leading.{DxeComesTo}
-use Rattle.boot_starts.proofs.DxeCounts.{adds_of, case_adds, opening_quiet, started_adds, starts_count}
+use Rattle.boot_starts.proofs.DxeCounts.{case_adds, opening_quiet, started_adds, starts_count}
 use Rattle.boot_starts.proofs.Fronts.{first_of_first, next_of_fronts, starts-append, starts_then}
 use Rattle.boot_starts.proofs.PeiCounts as PeiCounts
 use Rattle.boot_starts.proofs.Runs.{dxe_leads, pei_leads}

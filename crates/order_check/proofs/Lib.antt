@@ -7,3 +7,4 @@ mod ClosingStarts
 mod Comings
 mod Reaching
 mod Calls
+mod Faults

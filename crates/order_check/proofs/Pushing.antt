@@ -111,8 +111,8 @@ one_more has code opcode = by opcode ∙ ap (lacking has) (sym (flat_map-append 
     by O.False = none
 
 -- the opcodes of a tree push what the tree does
-of_both : {first second : List Opcode} (guids more : List Guid) (last : Opcode) → pushed_one last ≡ [] → pushed_by_code first ≡ guids → pushed_by_code second ≡ more → pushed_by_code (first ++ (second ++ last ∷ [])) ≡ guids ++ more
-of_both {first = first} {second = second} guids more last none is also =
+of_both : (first second : List Opcode) (guids more : List Guid) (last : Opcode) → pushed_one last ≡ [] → pushed_by_code first ≡ guids → pushed_by_code second ≡ more → pushed_by_code (first ++ (second ++ last ∷ [])) ≡ guids ++ more
+of_both first second guids more last none is also =
     flat_map-append pushed_one first (second ++ last ∷ [])
     ∙ ap (λ xs. pushed_by_code first ++ xs) (flat_map-append pushed_one second (last ∷ []) ∙ ap (λ xs. pushed_by_code second ++ (xs ++ [])) none ∙ append-nil (pushed_by_code second))
     ∙ ap (λ xs. xs ++ pushed_by_code second) is ∙ ap (λ xs. guids ++ xs) also
@@ -122,8 +122,8 @@ tree_code True = refl
 tree_code False = refl
 tree_code (Push guid) = refl
 tree_code (Not node) = flat_map-append pushed_one (postfix node) (O.Not ∷ []) ∙ append-nil (pushed_by_code (postfix node)) ∙ tree_code node
-tree_code (And first second) = of_both (pushed_by first) (pushed_by second) O.And refl (tree_code first) (tree_code second)
-tree_code (Or first second) = of_both (pushed_by first) (pushed_by second) O.Or refl (tree_code first) (tree_code second)
+tree_code (And first second) = of_both (postfix first) (postfix second) (pushed_by first) (pushed_by second) O.And refl (tree_code first) (tree_code second)
+tree_code (Or first second) = of_both (postfix first) (postfix second) (pushed_by first) (pushed_by second) O.Or refl (tree_code first) (tree_code second)
 
 expression_code : (expr : PartExpr) → pushed_by_code (code_in expr) ≡ pushed_in expr
 expression_code E.Absent = refl

@@ -42,7 +42,7 @@ use Rattle.order_check.proofs.DxeOrder as D
 use Rattle.order_check.proofs.DxeOrder.{DxeBar, DxeCome, Handed, all_starts, back_from, goes_from}
 
 -- a machine of PEI
-pei_stand : (b : OrderBoot) (earlier : List PeiMachine) (m : PeiMachine) → Comes b earlier m → IsAlong b.order (starts m.lines) → Stand
+abbrev pei_stand : (b : OrderBoot) (earlier : List PeiMachine) (m : PeiMachine) → Comes b earlier m → IsAlong b.order (starts m.lines) → Stand
 pei_stand b earlier m come far = record {
   board = b.board;
   catalog = b.catalog;
@@ -105,7 +105,7 @@ pei_ends b earlier m how so t followed come far ended is text c =
     (last_is m.lines m.store no_handles so) text followed c
 
 -- a machine of DXE
-dxe_stand : (b : OrderBoot) (h : Handed b) (m : DxeMachine) → DxeCome b h m → IsAlong b.order (all_starts h m) → Stand
+abbrev dxe_stand : (b : OrderBoot) (h : Handed b) (m : DxeMachine) → DxeCome b h m → IsAlong b.order (all_starts h m) → Stand
 dxe_stand b h m come far = record {
   board = b.board;
   catalog = b.catalog;

@@ -14,6 +14,7 @@ use std::alloc::Global;
 use store_model::PeiStore;
 
 /// What is installed where a boot stands: its PPIs are in the store, its protocols on the handles.
+#[derive(Drop)]
 pub(crate) struct Installed<'i, M> {
     /// The store.
     pub(crate) store: &'i M,

@@ -8,4 +8,4 @@ returns-in-Some g c s stands any =
 
 pub returns-in_ok-lacking-in-Some-2 : goal.returns-in_ok-lacking-in-Some-2
 returns-in_ok-lacking-in-Some-2 g c s stands any =
-    (not_among c.args.start.now c.args.made.now (sym c.is_among.ensures ∙ c.if-is_among.false), (c.in-Some-2.part.now, c.in-Some-2.ensures, c.in_ok-lacking-in-Some-2.ensures s stands any))
+    (not_among c.args.start.now c.args.made.now (sym c.is_among.ensures ∙ c.if-is_among.false), (c.in-Some.field-0.now, c.in-Some.ensures, c.in_ok-lacking-in-Some-2.ensures s stands any))

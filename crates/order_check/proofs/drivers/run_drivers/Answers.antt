@@ -30,8 +30,8 @@ returns-in-End-clause-row g c s here any =
     let catalog = by.catalog.now in
     let Names = named_by T g.S.Sink.faults by.order.now by.names.now.volumes.items from.starts c.args.sink.now in
     let Lets = let_by catalog by.order.now from.starts in
-    has_ended Names Lets g.M.PeiStore.stands_for from.store catalog c.args.fuel (dxe_opening catalog s from.actions) c.run_with_ledger.new.dxe c.run_with_ledger.new.queue c.in-End.end c.dxe_result.result c.into_handles.result from.starts c.starts.result
-    (T c.args.sink.now) (T c.run_with_ledger.new.sink) c.into_handles.ensures c.starts.ensures c.dxe_result.ensures
+    has_ended Names Lets g.M.PeiStore.stands_for from.store catalog c.args.fuel (dxe_opening catalog s from.actions) c.run_with_ledger.new.dxe c.run_with_ledger.new.queue c.in-End.end c.dxe_result.result c.into_handles.result from.starts c.starts-counted.result
+    (T c.args.sink.now) (T c.run_with_ledger.new.sink) c.into_handles.ensures c.starts-counted.ensures c.dxe_result.ensures
     (rw c.in-End.is at (c.in_ok-reached.ensures.row s from.actions c.args.fuel c.in_ok-dxe.ensures.made (c.in_ok-dxe.ensures.row s here)))
 
 pub overflow_sub-result : goal.overflow_sub-result
@@ -40,7 +40,7 @@ overflow_sub-result g c =
     let from = c.args.pei.now in
     let bars = rw c.in-Barred.is at (c.in_ok-reached.ensures.row s from.actions c.args.fuel c.in_ok-dxe.ensures.made (c.in_ok-dxe.ensures.row s c.requires.state.1)) in
     let left = bars.left.left in
-    let counted = c.starts.ensures in
+    let counted = c.starts-counted.ensures in
     omega (arith, left, counted)
 
 pub returns-clause-row : goal.returns-clause-row
@@ -51,6 +51,6 @@ returns-clause-row g c s here any =
     let catalog = by.catalog.now in
     let Names = named_by T g.S.Sink.faults by.order.now by.names.now.volumes.items from.starts c.args.sink.now in
     let Lets = let_by catalog by.order.now from.starts in
-    has_stayed Names Lets g.M.PeiStore.stands_for from.store catalog c.args.fuel (dxe_opening catalog s from.actions) c.run_with_ledger.new.dxe c.run_with_ledger.new.queue c.in-Barred.field-0 c.into_handles-in-Barred.result from.starts c.starts.result
-    (T c.args.sink.now) (T c.run_with_ledger.new.sink) c.into_handles-in-Barred.ensures c.starts.ensures
+    has_stayed Names Lets g.M.PeiStore.stands_for from.store catalog c.args.fuel (dxe_opening catalog s from.actions) c.run_with_ledger.new.dxe c.run_with_ledger.new.queue c.in-Barred.field-0 c.into_handles-in-Barred.result from.starts c.starts-counted.result
+    (T c.args.sink.now) (T c.run_with_ledger.new.sink) c.into_handles-in-Barred.ensures c.starts-counted.ensures
     (rw c.in-Barred.is at (c.in_ok-reached.ensures.row s from.actions c.args.fuel c.in_ok-dxe.ensures.made (c.in_ok-dxe.ensures.row s here)))
