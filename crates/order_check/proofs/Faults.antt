@@ -1,4 +1,4 @@
--- Why a boot along an order was given up.
+-- The first fault of images, as it is told.
 use Rattle.std.proofs.Common.{◌≡◌, ◌≢◌, ◌≤◌, ℕ, List, [], Option, Err, Result, sym, subst}
 use Rattle.std.specs.Io.KnownBytes.{Appends}
 use Rattle.boot_io.proofs.PutsLaws.{appends_none}
@@ -16,20 +16,6 @@ use Rattle.order_check.specs.declared.following.Followed.{Followed}
 use Rattle.order_check.specs.declared.images.FollowFault.{FollowFault}
 use Rattle.order_check.specs.declared.images.FollowFault.TheVariants.{Image, Twins, Sink, Memory}
 use Rattle.order_check.specs.Follow.{FaultsAfter, Follows, FollowsCatalog, IsFaultTold, IsHaltTold}
-
-pub halt_follows : (plan : Plan) (catalog : Catalog) (images : List (List ℕ)) (order : StartOrder) (t : Texts) (halt : Halt) (fault : FollowFault) → IsHaltTold halt fault → FollowsCatalog plan catalog images order t (Err fault)
-halt_follows plan catalog images order t halt (Image told) is = absurd is
-halt_follows plan catalog images order t halt (Twins volume) is = absurd is
-halt_follows plan catalog images order t halt Sink is = tt
-halt_follows plan catalog images order t halt Memory is = tt
-
-pub halt_faults : {A : Type 0} (halt : Halt) (fault : FollowFault) (before now : ℕ) → IsHaltTold halt fault → HaltsAfter {A} (Err halt) before now → FaultsAfter (Err fault) before now
-halt_faults halt (Image told) before now is after = absurd is
-halt_faults halt (Twins volume) before now is after = absurd is
-halt_faults H.Sink Sink before now is after = after
-halt_faults H.Memory Sink before now is after = cc
-halt_faults H.Sink Memory before now is after = cc
-halt_faults H.Memory Memory before now is after = after
 
 -- a fault that is told as it is, is the images' first
 pub told_fault : (plan : Plan) (images : List (List ℕ)) (order : StartOrder) (text : Option (List ℕ)) (fault : ImageFault) (out : FollowFault) → IsFaultTold fault out → (fault.cause ≢ I.Memory → IsImageFault plan images fault)
