@@ -4,7 +4,6 @@ use Rattle.std.specs.Prelude.{if◌then◌else◌, filter, find}
 use Rattle.pi_base.specs.declared.guid.Guid.{Guid}
 use Rattle.pi_base.specs.Guids.{same_guid}
 use Rattle.catalog_model.specs.declared.catalog.Catalog.{Catalog}
-use Rattle.catalog_model.specs.declared.catalog.PartExpr.{PartExpr}
 use Rattle.catalog_model.specs.Parts.{module_name}
 use Rattle.guid_map.specs.GuidMap.{value_of}
 use Rattle.boot_model.specs.DxeChoice.{before_of, after_of, name_by}
