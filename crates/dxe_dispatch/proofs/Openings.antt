@@ -1,5 +1,5 @@
 -- The core at the opening behind a hand-off.
-use Rattle.std.proofs.Common.{◌≡◌, ℕ, ◌+◌, ◌≤◌, Bool, List, [], Option, Result, Ok, Err, refl, sym, ◌∙◌, subst, arith}
+use Rattle.std.proofs.Common.{◌≡◌, ℕ, ◌≤◌, Bool, List, [], Option, Result, Ok, Err, refl, sym, ◌∙◌, subst, arith}
 use Rattle.std.specs.Prelude.{IfOk}
 use Rattle.boot_trace.proofs.Lines.{part_none}
 use Rattle.catalog_model.specs.declared.catalog.Catalog.{Catalog}

@@ -2,7 +2,7 @@ use Rattle.std.proofs.Common.{◌<◌, ◌^◌, arith, length, subst, sym}
 use Rattle.std.proofs.lemmas.Result.{err_from_is_err_and}
 use Rattle.store_model.specs.HandleState.{HandleState}
 use Rattle.boot_model.specs.DxeRun.{dxe_opening}
-use Rattle.dxe_dispatch.specs.Choices.{BootsBy, LetsDrivers, NamesDrivers, handles_of}
+use Rattle.dxe_dispatch.specs.Choices.{LetsDrivers, NamesDrivers}
 use Rattle.dxe_dispatch.proofs.Openings.{boots, handles_are, none_ran, some_left}
 use Rattle.dxe_dispatch.proofs.boot.boot_dxe.Goals as goal
 
