@@ -1,4 +1,4 @@
-use Rattle.std.proofs.Common.{◌≡◌, ◌<◌, arith, ◌∙◌}
+use Rattle.std.proofs.Common.{◌<◌, arith, ◌∙◌}
 use Rattle.line_words.specs.Line.{lines}
 use Rattle.fault_words.proofs.Passing.{line_behind, no_line, one_on}
 use Rattle.fault_words.proofs.plan_mistake.line_at.Goals as goal
