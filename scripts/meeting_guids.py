@@ -1,8 +1,8 @@
 #!/usr/bin/env python3
 """Protocols whose GUIDs meet in the hash table in which the handles of a protocol are found.
 
-    scripts/meeting_guids.py COUNT BASE [other]     the text of a volume at BASE for make-volume: so many protocols, each on a handle
-                                                    of its own; `other`: as many GUIDs that do not meet
+    scripts/meeting_guids.py COUNT BASE [other]     the text of a volume at BASE: so many protocols, each on a handle of its own;
+                                                    `other`: as many GUIDs that do not meet
 
 The hasher's seed is fixed, so whoever writes a volume can search for such GUIDs; `compare/meeting_guids.rs` does, built by `rustc`. They agree
 in the place at which a look-up begins and in the tag by which it tells entries apart, so that it goes through all of them.

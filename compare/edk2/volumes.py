@@ -1,6 +1,6 @@
-"""Volumes as bytes: what scripts/make-volume makes of a text, and then what the text's comments ask for.
+"""Volumes as bytes: what `pitools volume` makes of a text, and then what the text's comments ask for.
 
-A comment behind a line `file` or `pad` of the outermost volume, which scripts/make-volume passes over, changes that file's header:
+A comment behind a line `file` or `pad` of the outermost volume, which `pitools volume` passes over, changes that file's header:
 
     # state HH      its State byte, in hexadecimal
     # sum header    a wrong header checksum
@@ -9,24 +9,12 @@ A comment behind a line `file` or `pad` of the outermost volume, which scripts/m
     # size HH       its Size, in hexadecimal, with a header checksum to it
 """
 import os
-from importlib.machinery import SourceFileLoader
-from types import ModuleType
+import subprocess
+import tempfile
 
-MAKE_VOLUME = os.path.normpath(f"{os.path.dirname(os.path.abspath(__file__))}/../../scripts/make-volume")
+PITOOLS = os.environ.get("PITOOLS", "pitools")
 HEADER_LENGTH, HEADER_SUM, FILE_SUM, ATTRIBUTES, SIZE, STATE = 24, 16, 17, 19, 20, 23
 EXTENDED_HEADER, FIXED_SUM, COUNTED = 52, 0xAA, 0x40
-
-_loaded: list[ModuleType] = []
-
-
-def maker() -> ModuleType:
-    """scripts/make-volume, loaded once: a program for each volume would take longer than the boots."""
-    if not _loaded:
-        loader = SourceFileLoader("make_volume", MAKE_VOLUME)
-        module = ModuleType(loader.name)
-        loader.exec_module(module)
-        _loaded.append(module)
-    return _loaded[0]
 
 
 def changes(text: str) -> list[tuple[int, list[str]]]:
@@ -75,13 +63,20 @@ def change(volume: bytearray, at: int, words: list[str]) -> None:
         volume[at + FILE_SUM] = -sum(volume[at + HEADER_LENGTH:at + size]) % 256
 
 
+def built(text: str) -> bytes:
+    """The bytes that `pitools volume` makes of a text; ValueError where it refuses it."""
+    with tempfile.NamedTemporaryFile(mode="w", encoding="utf-8") as file:
+        file.write(text)
+        file.flush()
+        ran = subprocess.run([PITOOLS, "volume", file.name], stdout=subprocess.PIPE, check=False)
+    if ran.returncode:
+        raise ValueError(ran.stdout.decode().strip())
+    return ran.stdout
+
+
 def made(text: str) -> bytes:
     """The bytes of a volume's text; ValueError where it is none."""
-    lines = maker().Text(text)
-    word, *words = lines.next().split()
-    if word != "volume":
-        raise ValueError("the text begins with no line `volume`")
-    volume = bytearray(lines.volume(words))
+    volume = bytearray(built(text))
     places = file_places(volume)
     for number, asked in changes(text):
         change(volume, places[number], asked)

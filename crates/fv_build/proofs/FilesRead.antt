@@ -4,20 +4,23 @@ use Rattle.std.proofs.lemmas.Bool.Decides.{nat_tests}
 use Rattle.std.proofs.lemmas.List.{length-replicate}
 use Rattle.std.proofs.lemmas.List.Elements.{All-tail}
 use Rattle.std.proofs.lemmas.List.Sums.{sum_by-append}
-use Rattle.std.specs.Prelude.{◌==◌, not}
-use Rattle.std.specs.List.{list_any}
+use Rattle.std.specs.Prelude.{◌==◌, not, slice_index}
 use Rattle.pi_base.specs.Field.{little_bytes}
 use Rattle.fv_volume.specs.declared.file.FfsFile.{FfsFile}
 use Rattle.fv_volume.specs.Frame.{aligned}
-use Rattle.fv_volume.proofs.Spelled.{Lists, lists_none, lists_file, IsSpelled, listed_file}
+use Rattle.fv_build.specs.Attributes.{attributes_byte, attributes_in}
+use Rattle.fv_build.proofs.AttributeBytes.{are_attributes, attributes_back}
+use Rattle.fv_volume.proofs.Spelled.{Lists, lists_none, lists_file, IsSpelled, listed_file, stands_attributes}
 use Rattle.fv_build.specs.declared.file_header.FileHead.{FileHead}
 use Rattle.fv_build.specs.declared.new_file.NewFile.{NewFile}
 use Rattle.fv_build.specs.FileSystems.{FileSystem, Ffs2, Ffs3}
 use Rattle.fv_build.specs.Placing.{gap, laid}
 use Rattle.fv_build.specs.Checksum.{checksum8}
-use Rattle.fv_build.specs.Sections.{body_bytes, is_section_too_long}
-use Rattle.fv_build.specs.Files.{is_large, short_fields, extended_size, header_with, file_header, file_bytes, is_past_size, is_file_too_long, HasWholeName}
-use Rattle.fv_build.specs.Reading.{AreEach, IsFileRead, AreSectionsRead, listed}
+use Rattle.fv_build.specs.declared.new_file.Body.{Body}
+use Rattle.fv_build.specs.declared.new_file.Body.TheVariants.{Sections, Bytes}
+use Rattle.fv_build.specs.Sections.{is_section_too_long}
+use Rattle.fv_build.specs.Files.{bytes_in, has_long_section, is_large, short_fields, extended_size, header_with, file_header, file_bytes, is_past_size, is_file_too_long, HasWholeName}
+use Rattle.fv_build.specs.Reading.{AreEach, IsBodyRead, IsFileRead, AreSectionsRead, listed}
 use Rattle.fv_build.proofs.Flags.{or_first, none_pass}
 use Rattle.fv_build.proofs.Parts.{drop_behind, room_at, drop_text, take_text}
 use Rattle.fv_build.proofs.Sizes.{not_past}
@@ -45,20 +48,21 @@ header_sum name kind attributes size extended =
 
 -- what a header with this Attributes says
 abbrev pub head_with : Bool → NewFile → ℕ → FileHead
-head_with wide file len = record { name = file.name; kind = file.kind; large = wide; size = cond wide 32 24 + len }
+head_with wide file len = record { name = file.name; kind = file.kind; attributes = file.attributes; large = wide; size = cond wide 32 24 + len }
 
 -- a built file is spelled out
 spelled : (image : List ℕ) (large wide : Bool) (at : ℕ) (file : NewFile) (body rest : List ℕ)
     → drop at image ≡ (file_header (head_with wide file (length body)) ++ body) ++ rest → HasWholeName file
     → cond wide (32 + length body < 2 ^ 64) (24 + length body < 2 ^ 24) → (wide ≡ true → large ≡ true)
-    → IsSpelled image large wide at file.name.0 (checksum8 (header_with (head_with wide file (length body)) 0 0 0)) file.kind body rest
+    → IsSpelled image large wide at file.name.0 (checksum8 (header_with (head_with wide file (length body)) 0 0 0)) file.kind (attributes_byte file.attributes wide) body rest
 spelled image large true at file body rest here whole fits allowed =
     let head = head_with true file (length body) in
     let text = short_fields head (checksum8 (header_with head 0 0 0)) 0xaa 0xf8 in
     record {
       here = here ∙ append_assoc (file_header head) body rest ∙ append_assoc file.name.0 (text ++ extended_size head) (body ++ rest);
       whole = whole;
-      sum_is = header_sum file.name.0 file.kind 1 0 (little_bytes 8 (32 + length body));
+      are = are_attributes file.attributes true;
+      sum_is = header_sum file.name.0 file.kind (attributes_byte file.attributes true) 0 (little_bytes 8 (32 + length body));
       fits = fits;
       allowed = allowed;
     }
@@ -68,7 +72,8 @@ spelled image large false at file body rest here whole fits allowed =
     record {
       here = here ∙ append_assoc (file_header head) body rest ∙ append_assoc file.name.0 (text ++ extended_size head) (body ++ rest);
       whole = whole;
-      sum_is = header_sum file.name.0 file.kind 0 (24 + length body) [];
+      are = are_attributes file.attributes false;
+      sum_is = header_sum file.name.0 file.kind (attributes_byte file.attributes false) (24 + length body) [];
       fits = fits;
       allowed = allowed;
     }
@@ -108,16 +113,22 @@ pub record Found (image : List ℕ) (large : Bool) (from : ℕ) (files : List Ne
   pub each : AreEach (IsFileRead image) (listed files) found
   pub few : length found ≤ length files
 
--- the sections of a file that is found are those that were handed in
+-- the body of a file that is found is the one that was handed in
+body_found : (file_system : FileSystem) (body : Body) (bytes : List ℕ) → bytes ≡ bytes_in file_system body → has_long_section file_system body ≡ false → IsBodyRead bytes body
+body_found file_system (Sections sections) bytes is short =
+    λ readable. subst (λ b. AreSectionsRead b sections) (sym is) (sections_read file_system sections (none_pass (is_section_too_long file_system) sections short) readable)
+body_found file_system (Bytes body) bytes is short = is
+
+-- a file that is found is the one that was handed in
 found_file : (file_system : FileSystem) (image : List ℕ) (wide : Bool) (at : ℕ) (file : NewFile)
-    → take (length (body_bytes file_system file.sections)) (drop (at + cond wide 32 24) image) ≡ body_bytes file_system file.sections
-    → is_file_too_long file_system file ≡ false
-    → IsFileRead image file (listed_file wide at file.name.0 file.kind (length (body_bytes file_system file.sections)))
-found_file file_system image wide at file inside short = record {
+    → take (length (bytes_in file_system file.body)) (drop (at + cond wide 32 24) image) ≡ bytes_in file_system file.body
+    → slice_index image (at + 19) ≡ attributes_byte file.attributes wide → is_file_too_long file_system file ≡ false
+    → IsFileRead image file (listed_file wide at file.name.0 file.kind (length (bytes_in file_system file.body)))
+found_file file_system image wide at file inside attributes short = record {
   name = refl;
   kind = refl;
-  sections = λ readable. subst (λ body. AreSectionsRead body file.sections) (sym inside)
-      (sections_read file_system file.sections (none_pass (is_section_too_long file_system) file.sections (or_first (list_any (is_section_too_long file_system) file.sections) _ short)) readable);
+  attributes = ap attributes_in attributes ∙ attributes_back file.attributes wide;
+  body = body_found file_system file.body _ inside (or_first (has_long_section file_system file.body) _ short);
 }
 
 pub files_found : (file_system : FileSystem) (files : List NewFile) (image : List ℕ) (from left : ℕ)
@@ -134,7 +145,7 @@ files_found file_system [] image from left here below whole short =
     }
 files_found file_system (file ∷ rest) image from left here below whole short =
     let large = has_large file_system in
-    let body = body_bytes file_system file.sections in
+    let body = bytes_in file_system file.body in
     let wide = is_large file_system (length body) in
     let header = file_header (head_with wide file (length body)) in
     let text = header ++ body in
@@ -154,7 +165,7 @@ files_found file_system (file ∷ rest) image from left here below whole short =
     let text_len : length text ≡ cond wide 32 24 + length body = length-append header body ∙ ap (λ n. n + length body) header_len in
     let small : length body < 2 ^ 32 = omega (arith, room, length-append header body, below) in
     let fits = size_fits file_system (length body) (not_past file_system file right) small in
-    let is : IsSpelled image large wide at file.name.0 _ file.kind body (behind ++ erased) =
+    let is : IsSpelled image large wide at file.name.0 _ file.kind (attributes_byte file.attributes wide) body (behind ++ erased) =
     spelled image large wide at file body (behind ++ erased) first named fits (large_allowed file_system (length body)) in
     let after : drop next image ≡ behind ++ erased = drop_behind (length text) at image _ first ∙ drop_text (length text) text (behind ++ erased) refl in
     let more : Found image large next rest = files_found file_system rest image next left after below
@@ -164,13 +175,13 @@ files_found file_system (file ∷ rest) image from left here below whole short =
     ap (take (length body)) (drop_behind (cond wide 32 24) at image _ (first ∙ append_assoc header body (behind ++ erased))
     ∙ drop_text (cond wide 32 24) header (body ++ (behind ++ erased)) (sym header_len))
     ∙ take_text (length body) body (behind ++ erased) refl in
-    let one = found_file file_system image wide at file inside right in
+    let one = found_file file_system image wide at file inside (stands_attributes image large wide at file.name.0 _ file.kind (attributes_byte file.attributes wide) body (behind ++ erased) is) right in
     let found = listed_file wide at file.name.0 file.kind (length body) in
     let pad = file.kind == 240 in
     record {
       found = cond pad more.found (found ∷ more.found);
       lists = subst (λ p. Lists image large p (cond pad more.found (found ∷ more.found))) on
-          (lists_file image large wide pad at file.name.0 _ file.kind body (behind ++ erased) more.found is refl
+          (lists_file image large wide pad at file.name.0 _ file.kind (attributes_byte file.attributes wide) body (behind ++ erased) more.found is refl
           (subst (λ p. Lists image large (aligned p) more.found) place more.lists));
       each = first_found pad image file (listed rest) found more.found one more.each;
       few = most_found pad found more.found (length rest) more.few;

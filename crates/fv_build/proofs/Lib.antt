@@ -4,6 +4,7 @@ pub mod Sizes
 pub mod Outcomes
 pub mod Headers
 pub mod Parts
+pub mod AttributeBytes
 pub mod SectionsRead
 pub mod FilesRead
 pub mod VolumesRead

@@ -11,7 +11,7 @@ use Rattle.fv_build.specs.declared.new_file.NewSection.{NewSection}
 use Rattle.fv_build.specs.FileSystems.{FileSystem, Ffs2, Ffs3}
 use Rattle.fv_build.specs.Placing.{gap, laid}
 use Rattle.fv_build.specs.Sections.{is_extended, section_size, section_bytes, body_bytes, is_section_too_long}
-use Rattle.fv_build.specs.Files.{is_large, file_size, file_header, head_of, file_with, file_bytes, is_past_size, is_file_too_long}
+use Rattle.fv_build.specs.Files.{bytes_in, has_long_section, is_large, file_size, file_header, head_of, file_with, file_bytes, is_past_size, is_file_too_long}
 use Rattle.fv_build.specs.Building.{need}
 use Rattle.fv_build.proofs.Flags.{or_second}
 use Rattle.fv_build.proofs.Placings.{length-laid_more}
@@ -61,16 +61,16 @@ length-body_more file_system sections section =
 pub take_one : {X : Type 0} (xs : List X) (i : ℕ) (x : X) → i < length xs → x ≡ get_or xs i x → take (i + 1) xs ≡ take i xs ++ x ∷ []
 take_one xs i x within is = take_more xs i x within ∙ ap (λ y. take i xs ++ y ∷ []) (sym is)
 
-file_len : (large : Bool) (name : List ℕ) (kind size checksum : ℕ) (body : List ℕ) → length name ≡ 16
-    → length ((name ++ ((checksum ∷ (0xaa ∷ (kind ∷ ((if large then 1 else 0) ∷ (little_bytes 3 (if large then 0 else size) ++ 0xf8 ∷ []))))) ++ (if large then little_bytes 8 size else []))) ++ body)
+file_len : (large : Bool) (name : List ℕ) (kind attributes size checksum : ℕ) (body : List ℕ) → length name ≡ 16
+    → length ((name ++ ((checksum ∷ (0xaa ∷ (kind ∷ (attributes ∷ (little_bytes 3 (if large then 0 else size) ++ 0xf8 ∷ []))))) ++ (if large then little_bytes 8 size else []))) ++ body)
     ≡ (if large then 32 else 24) + length body
-file_len true name kind size checksum body n = omega (arith, length-append {A = ℕ})
-file_len false name kind size checksum body n = omega (arith, length-append {A = ℕ})
+file_len true name kind attributes size checksum body n = omega (arith, length-append {A = ℕ})
+file_len false name kind attributes size checksum body n = omega (arith, length-append {A = ℕ})
 
 -- a file has its size
 pub length-file_with : (file_system : FileSystem) (file : NewFile) (body : List ℕ) → length file.name.0 ≡ 16
     → length (file_with file_system file body) ≡ file_size file_system (length body)
-length-file_with file_system file body whole = file_len (is_large file_system (length body)) file.name.0 file.kind _ _ body whole
+length-file_with file_system file body whole = file_len (is_large file_system (length body)) file.name.0 file.kind _ _ _ body whole
 
 -- one file more
 pub length-files_more : (file_system : FileSystem) (files : List NewFile) (file : NewFile)
@@ -116,24 +116,24 @@ size_below file_system len = header_most (is_large file_system len) len
 
 -- a file that is not too long does not pass the Size field of FFS2
 pub not_past : (file_system : FileSystem) (file : NewFile) → is_file_too_long file_system file ≡ false
-    → is_past_size file_system (length (body_bytes file_system file.sections)) ≡ false
+    → is_past_size file_system (length (bytes_in file_system file.body)) ≡ false
 not_past file_system file short =
-    or_second (list_any (is_section_too_long file_system) file.sections) (is_past_size file_system (length (body_bytes file_system file.sections))) short
+    or_second (has_long_section file_system file.body) (is_past_size file_system (length (bytes_in file_system file.body))) short
 
 -- a file's body is no longer than all files
 pub body_fits : (file_system : FileSystem) (files : List NewFile) (from i : ℕ) (file : NewFile) → i < length files → file ≡ get_or files i file
-    → length (body_bytes file_system file.sections) ≤ length (laid 8 255 from (map (file_bytes file_system) files))
+    → length (bytes_in file_system file.body) ≤ length (laid 8 255 from (map (file_bytes file_system) files))
 body_fits file_system [] from i file within is = absurd (omega arith)
 body_fits file_system (first ∷ rest) from zero file within is =
     let text = file_bytes file_system first in
     let next = laid 8 255 (from + gap 8 from + length text) (map (file_bytes file_system) rest) in
-    let same = ap (λ f. length (body_bytes file_system f.sections)) is in
+    let same = ap (λ f. length (bytes_in file_system f.body)) is in
     omega (
       arith,
       same,
       length-append (replicate (gap 8 from) 255) (text ++ next),
       length-append text next,
-      length-append (file_header (head_of file_system first (length (body_bytes file_system first.sections)))) (body_bytes file_system first.sections),
+      length-append (file_header (head_of file_system first (length (bytes_in file_system first.body)))) (bytes_in file_system first.body),
     )
 body_fits file_system (first ∷ rest) from (suc i) file within is =
     let text = file_bytes file_system first in

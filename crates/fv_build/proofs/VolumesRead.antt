@@ -3,7 +3,8 @@ use Rattle.std.proofs.Common.{◌≡◌, ℕ, zero, suc, ◌+◌, ◌-◌, ◌*�
 use Rattle.std.proofs.lemmas.Bool.Decides.{nat_tests}
 use Rattle.std.proofs.lemmas.List.{length-replicate}
 use Rattle.std.proofs.lemmas.List.Sums.{sum_by-append, sum_by-cons}
-use Rattle.std.specs.Prelude.{nat_lt}
+use Rattle.std.proofs.lemmas.Nat.{and_or_self, or_lt}
+use Rattle.std.specs.Prelude.{bit_and, bit_or, nat_lt, ◌==◌}
 use Rattle.std.specs.List.{list_any}
 use Rattle.pi_base.specs.Field.{little_bytes, words_of}
 use Rattle.fv_volume.proofs.SpelledHeaders.{spelled_header, volume_read}
@@ -11,13 +12,17 @@ use Rattle.fv_build.specs.declared.fault.BuildFault.{BuildFault}
 use Rattle.fv_build.specs.declared.new_file.NewFile.{NewFile}
 use Rattle.fv_build.specs.FileSystems.{FileSystem, Ffs2, Ffs3}
 use Rattle.fv_build.specs.Checksum.{checksum16}
-use Rattle.fv_build.specs.Header.{header_with, volume_header}
+use Rattle.fv_build.specs.declared.volume_header.VolumeForm.{VolumeForm}
+use Rattle.fv_build.specs.Header.{head_of, header_with, volume_header}
 use Rattle.fv_build.specs.Files.{is_file_too_long, HasWholeName}
-use Rattle.fv_build.specs.Building.{files_bytes, need, built, fault_of}
+use Rattle.fv_build.specs.Building.{files_bytes, need, built_as, fault_of}
 use Rattle.fv_build.specs.Reading.{IsReadBack}
 use Rattle.fv_build.proofs.Flags.{none_pass}
 use Rattle.fv_build.proofs.Parts.{drop_text, take_text}
 use Rattle.fv_build.proofs.FilesRead.{has_large, Found, files_found}
+
+abbrev form_of : FileSystem → ℕ → VolumeForm
+form_of file_system attributes = record { file_system = file_system; attributes = attributes }
 
 -- the words of an even number of bytes, and of those behind them
 words_append : (n : ℕ) (front behind : List ℕ) → length front ≡ 2 * n → words_of (front ++ behind) ≡ words_of front ++ words_of behind
@@ -41,18 +46,19 @@ sealed n front behind even =
     omega (arith, plain, sum_of_word n front behind c even (omega arith))
 
 -- the words of a built header sum to 0
-header_sum : (file_system : FileSystem) (len : ℕ) → sum (words_of (volume_header file_system len)) % 65536 ≡ 0
-header_sum Ffs2 len = sealed 25 (take 50 (header_with Ffs2 len 0)) (drop 52 (header_with Ffs2 len 0)) refl
-header_sum Ffs3 len = sealed 25 (take 50 (header_with Ffs3 len 0)) (drop 52 (header_with Ffs3 len 0)) refl
+header_sum : (file_system : FileSystem) (attributes len : ℕ) → sum (words_of (volume_header (head_of (form_of file_system attributes) 0 len))) % 65536 ≡ 0
+header_sum Ffs2 attributes len = sealed 25 (take 50 (header_with (head_of (form_of Ffs2 attributes) 0 len) 0)) (drop 52 (header_with (head_of (form_of Ffs2 attributes) 0 len) 0)) refl
+header_sum Ffs3 attributes len = sealed 25 (take 50 (header_with (head_of (form_of Ffs3 attributes) 0 len) 0)) (drop 52 (header_with (head_of (form_of Ffs3 attributes) 0 len) 0)) refl
 
-length-header : (file_system : FileSystem) (len : ℕ) → length (volume_header file_system len) ≡ 72
-length-header Ffs2 len = refl
-length-header Ffs3 len = refl
+length-header : (file_system : FileSystem) (attributes len : ℕ) → length (volume_header (head_of (form_of file_system attributes) 0 len)) ≡ 72
+length-header Ffs2 attributes len = refl
+length-header Ffs3 attributes len = refl
 
 -- it is the header that the reader's law speaks of
-is_spelled : (file_system : FileSystem) (len checksum : ℕ) → header_with file_system len checksum ≡ spelled_header (has_large file_system) len checksum
-is_spelled Ffs2 len checksum = refl
-is_spelled Ffs3 len checksum = refl
+is_spelled : (file_system : FileSystem) (attributes len checksum : ℕ)
+    → header_with (head_of (form_of file_system attributes) 0 len) checksum ≡ spelled_header (has_large file_system) (bit_or attributes 2048) len checksum
+is_spelled Ffs2 attributes len checksum = refl
+is_spelled Ffs3 attributes len checksum = refl
 
 -- where nothing stands against the volume
 record Sound (file_system : FileSystem) (files : List NewFile) (len : ℕ) : Type 0 where
@@ -73,27 +79,34 @@ sound file_system files len none =
     let room = tests.2 in
     record { few = grind (arith, nat_tests); short = none_pass (is_file_too_long file_system) files tests.1; room = grind (arith, nat_tests) }
 
+-- the erase polarity is set
+erases_to_ones : (attributes : ℕ) → (bit_and (bit_or attributes 2048) 2048 == 0) ≡ false
+erases_to_ones attributes = ap (λ n. n == 0) (and_or_self 2048 attributes)
+
 -- a volume against which nothing stands is read as the files that were handed in
-pub read_back : (file_system : FileSystem) (files : List NewFile) (len : ℕ) → fault_of file_system files len ≡ None → All HasWholeName files → 72 ≤ len → len < 2 ^ 32
-    → IsReadBack files (built file_system files len)
-read_back file_system files len none whole least below =
+pub read_back : (form : VolumeForm) (files : List NewFile) (len : ℕ) → form.attributes < 2 ^ 32 → fault_of form.file_system files len ≡ None → All HasWholeName files → 72 ≤ len → len < 2 ^ 32
+    → IsReadBack files (built_as form files len)
+read_back form files len small none whole least below =
+    let file_system = form.file_system in
     let s = sound file_system files len none in
-    let header = volume_header file_system len in
+    let header = volume_header (head_of form 0 len) in
+    let header_len = length-header file_system form.attributes len in
     let texts = files_bytes file_system files in
     let erased : List ℕ = replicate (len - need file_system files) 255 in
-    let bytes = built file_system files len in
+    let bytes = built_as form files len in
     let long : length bytes ≡ len =
-    length-append header (texts ++ erased) ∙ omega (arith, length-header file_system len, length-append texts erased, length-replicate {A = ℕ} (len - need file_system files) 255, s.room) in
-    let files_at : drop 72 bytes ≡ texts ++ erased = drop_text 72 header (texts ++ erased) (sym (length-header file_system len)) in
-    let front : take 72 bytes ≡ header = take_text 72 header (texts ++ erased) (sym (length-header file_system len)) in
-    let zero_sum : sum (words_of (take 72 bytes)) % 65536 ≡ 0 = ap (λ xs. sum (words_of xs) % 65536) front ∙ header_sum file_system len in
-    let checksum = checksum16 (header_with file_system len 0) in
+    length-append header (texts ++ erased) ∙ omega (arith, header_len, length-append texts erased, length-replicate {A = ℕ} (len - need file_system files) 255, s.room) in
+    let files_at : drop 72 bytes ≡ texts ++ erased = drop_text 72 header (texts ++ erased) (sym header_len) in
+    let front : take 72 bytes ≡ header = take_text 72 header (texts ++ erased) (sym header_len) in
+    let zero_sum : sum (words_of (take 72 bytes)) % 65536 ≡ 0 = ap (λ xs. sum (words_of xs) % 65536) front ∙ header_sum file_system form.attributes len in
+    let checksum = checksum16 (header_with (head_of form 0 len) 0) in
     let found : Found bytes (has_large file_system) 72 files =
     files_found file_system files bytes 72 (len - need file_system files) files_at (omega (arith, long, below)) whole s.short in
     record {
       volume = record { len = len; name = None; files = found.found };
-      is_volume = volume_read (has_large file_system) len checksum (texts ++ erased) bytes found.found (ap (λ h. h ++ (texts ++ erased)) (is_spelled file_system len checksum))
-          long least (omega (arith, below)) zero_sum found.lists (omega (arith, found.few, s.few));
+      is_volume = volume_read (has_large file_system) (bit_or form.attributes 2048) len checksum (texts ++ erased) bytes found.found
+          (ap (λ h. h ++ (texts ++ erased)) (is_spelled file_system form.attributes len checksum))
+          long (or_lt 32 form.attributes 2048 small (omega arith)) (erases_to_ones form.attributes) least (omega (arith, below)) zero_sum found.lists (omega (arith, found.few, s.few));
       len = sym long;
       no_name = refl;
       are_files = found.each;

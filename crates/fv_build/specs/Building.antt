@@ -10,7 +10,8 @@ use Rattle.fv_build.specs.declared.new_file.NewFile.{NewFile}
 use Rattle.fv_build.specs.FileSystems.{FileSystem}
 use Rattle.fv_build.specs.Placing.{laid}
 use Rattle.fv_build.specs.Files.{file_bytes, is_file_too_long}
-use Rattle.fv_build.specs.Header.{volume_header}
+use Rattle.fv_build.specs.declared.volume_header.VolumeForm.{VolumeForm}
+use Rattle.fv_build.specs.Header.{head_of, plain, volume_header}
 
 -- the files behind the header, each at the next multiple of 8, with erased bytes between
 abbrev pub files_bytes : FileSystem → List NewFile → List ℕ
@@ -20,10 +21,14 @@ files_bytes file_system files = laid ALIGNMENT ERASED HEADER_LEN (map (file_byte
 abbrev pub need : FileSystem → List NewFile → ℕ
 need file_system files = HEADER_LEN + length (files_bytes file_system files)
 
--- a volume of this length: its header, its files and erased bytes
+-- a volume of this form and length: its header, its files and erased bytes
+abbrev pub built_as : VolumeForm → List NewFile → ℕ → List ℕ
+built_as form files len =
+    volume_header (head_of form 0 len) ++ (files_bytes form.file_system files ++ replicate (len - need form.file_system files) ERASED)
+
+-- one that tells of no attributes but its erase polarity
 abbrev pub built : FileSystem → List NewFile → ℕ → List ℕ
-built file_system files len =
-    volume_header file_system len ++ (files_bytes file_system files ++ replicate (len - need file_system files) ERASED)
+built file_system files len = built_as (plain file_system) files len
 
 -- what stands first against a volume of this length, in this order; nothing where it can be built
 abbrev pub fault_of : FileSystem → List NewFile → ℕ → Option BuildFault

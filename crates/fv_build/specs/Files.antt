@@ -2,12 +2,15 @@
 use Rattle.std.specs.Prelude.{◌≡◌, ℕ, ◌+◌, List, [], ◌∷◌, ◌++◌, length, Bool, false, if◌then◌else◌, nat_lt, ◌||◌}
 use Rattle.std.specs.List.{list_any}
 use Rattle.pi_base.specs.Field.{little_bytes}
-use Rattle.fv_volume.specs.declared.file_header.TheConstants.{HEADER_LEN, LARGE_HEADER_LEN, LARGE_FILE, FIXED_CHECKSUM}
+use Rattle.fv_volume.specs.declared.file_header.TheConstants.{HEADER_LEN, LARGE_HEADER_LEN, FIXED_CHECKSUM}
 use Rattle.fv_build.specs.declared.file_system.TheConstants.{MOST_SIZE}
 use Rattle.fv_build.specs.declared.file_header.TheConstants.{WRITTEN}
 use Rattle.fv_build.specs.declared.file_header.FileHead.{FileHead}
 use Rattle.fv_build.specs.declared.new_file.NewFile.{NewFile}
+use Rattle.fv_build.specs.declared.new_file.Body.{Body}
+use Rattle.fv_build.specs.declared.new_file.Body.TheVariants.{Sections, Bytes}
 use Rattle.fv_build.specs.FileSystems.{FileSystem, Ffs2, Ffs3}
+use Rattle.fv_build.specs.Attributes.{attributes_byte}
 use Rattle.fv_build.specs.Checksum.{checksum8}
 use Rattle.fv_build.specs.Sections.{body_bytes, is_section_too_long}
 
@@ -20,14 +23,10 @@ is_large Ffs3 body_len = nat_lt MOST_SIZE (HEADER_LEN + body_len)
 abbrev pub file_size : FileSystem → ℕ → ℕ
 file_size file_system body_len = (if is_large file_system body_len then LARGE_HEADER_LEN else HEADER_LEN) + body_len
 
--- Attributes
-abbrev pub attributes : FileHead → ℕ
-attributes head = if head.large then LARGE_FILE else 0
-
 -- the eight bytes behind the name: header checksum, file checksum, Type, Attributes, Size and State
 abbrev pub short_fields : FileHead → ℕ → ℕ → ℕ → List ℕ
 short_fields head header_checksum file_checksum state =
-    header_checksum ∷ (file_checksum ∷ (head.kind ∷ (attributes head ∷ (little_bytes 3 (if head.large then 0 else head.size) ++ state ∷ []))))
+    header_checksum ∷ (file_checksum ∷ (head.kind ∷ (attributes_byte head.attributes head.large ∷ (little_bytes 3 (if head.large then 0 else head.size) ++ state ∷ []))))
 
 -- ExtendedSize
 abbrev pub extended_size : FileHead → List ℕ
@@ -44,15 +43,20 @@ file_header head = header_with head (checksum8 (header_with head 0 0 0)) FIXED_C
 -- what the header of a file with so many bytes of body says
 abbrev pub head_of : FileSystem → NewFile → ℕ → FileHead
 head_of file_system file body_len =
-    record { name = file.name; kind = file.kind; large = is_large file_system body_len; size = file_size file_system body_len }
+    record { name = file.name; kind = file.kind; attributes = file.attributes; large = is_large file_system body_len; size = file_size file_system body_len }
 
 -- a file with this body
 abbrev pub file_with : FileSystem → NewFile → List ℕ → List ℕ
 file_with file_system file body = file_header (head_of file_system file (length body)) ++ body
 
+-- what stands behind a file's header
+abbrev pub bytes_in : FileSystem → Body → List ℕ
+bytes_in file_system (Sections sections) = body_bytes file_system sections
+bytes_in file_system (Bytes bytes) = bytes
+
 -- a file: its header and its body
 abbrev pub file_bytes : FileSystem → NewFile → List ℕ
-file_bytes file_system file = file_with file_system file (body_bytes file_system file.sections)
+file_bytes file_system file = file_with file_system file (bytes_in file_system file.body)
 
 -- a name has sixteen bytes
 abbrev pub HasWholeName : NewFile → Type 0
@@ -63,7 +67,11 @@ abbrev pub is_past_size : FileSystem → ℕ → Bool
 is_past_size Ffs2 body_len = nat_lt MOST_SIZE (HEADER_LEN + body_len)
 is_past_size Ffs3 body_len = false
 
+-- a size field cannot tell the size of one of the sections
+abbrev pub has_long_section : FileSystem → Body → Bool
+has_long_section file_system (Sections sections) = list_any (is_section_too_long file_system) sections
+has_long_section file_system (Bytes bytes) = false
+
 -- a size field cannot tell the size of one of the sections, or of the file
 abbrev pub is_file_too_long : FileSystem → NewFile → Bool
-is_file_too_long file_system file =
-    list_any (is_section_too_long file_system) file.sections || is_past_size file_system (length (body_bytes file_system file.sections))
+is_file_too_long file_system file = has_long_section file_system file.body || is_past_size file_system (length (bytes_in file_system file.body))

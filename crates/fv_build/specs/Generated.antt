@@ -17,6 +17,8 @@ use Rattle.fv_build.specs.declared.generated.TheConstants.{NAMES, PPIS, VOLUME_L
 use Rattle.pi_base.specs.declared.known_guid.TheConstants.{DXE_IPL_PPI}
 use Rattle.fv_build.specs.declared.new_file.NewFile.{NewFile}
 use Rattle.fv_build.specs.declared.new_file.NewSection.{NewSection}
+use Rattle.fv_build.specs.declared.new_file.Body.TheVariants.{Sections}
+use Rattle.fv_build.specs.Attributes.{plain_attributes}
 use Rattle.fv_build.specs.FileSystems.{Ffs2}
 use Rattle.fv_build.specs.Building.{built}
 
@@ -56,7 +58,8 @@ abbrev pub module_of : ℕ → ℕ → NewFile
 module_of n i = record {
   name = numbered NAMES i;
   kind = PEIM;
-  sections = expression_of (i == 0) i ++ record { kind = RAW; body = script_bytes (script_of (i == 0) (i + 1 == n) i) } ∷ [];
+  attributes = plain_attributes;
+  body = Sections (expression_of (i == 0) i ++ record { kind = RAW; body = script_bytes (script_of (i == 0) (i + 1 == n) i) } ∷ []);
 }
 
 -- the numbers below n, downwards

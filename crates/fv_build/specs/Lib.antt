@@ -1,6 +1,7 @@
 pub mod Placing
 pub mod Checksum
 pub mod FileSystems
+pub mod Attributes
 pub mod Sections
 pub mod Files
 pub mod Header

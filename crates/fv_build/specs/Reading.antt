@@ -1,5 +1,5 @@
 -- What the readers of volumes and sections read of a built volume.
-use Rattle.std.specs.Prelude.{◌≡◌, ◌≢◌, ◌≤◌, ℕ, ⊤, not, ◌==◌, List, [], ◌∷◌, length, take, drop, filter, None, All}
+use Rattle.std.specs.Prelude.{◌≡◌, ◌≢◌, ◌≤◌, ℕ, ◌+◌, ⊤, not, slice_index, ◌==◌, List, [], ◌∷◌, length, take, drop, filter, None, All}
 use Rattle.fv_volume.specs.declared.file.FfsFile.{FfsFile}
 use Rattle.fv_volume.specs.declared.file_type.TheConstants.{PAD}
 use Rattle.fv_volume.specs.declared.volume.Volume.{Volume}
@@ -10,6 +10,10 @@ use Rattle.fv_section.specs.declared.stream.TheConstants.{MOST_SECTIONS}
 use Rattle.fv_section.specs.Stream.{AreSections}
 use Rattle.fv_build.specs.declared.new_file.NewFile.{NewFile}
 use Rattle.fv_build.specs.declared.new_file.NewSection.{NewSection}
+use Rattle.fv_build.specs.declared.new_file.Body.{Body}
+use Rattle.fv_build.specs.declared.new_file.Body.TheVariants.{Sections, Bytes}
+use Rattle.fv_build.specs.Attributes.{attributes_in}
+use Rattle.fv_volume.specs.declared.file_header.TheConstants.{ATTRIBUTES_AT}
 
 -- as many things of one list as of the other, each pair of them related
 abbrev pub AreEach : {A B : Type 0} → (A → B → Type 0) → List A → List B → Type 0
@@ -30,11 +34,17 @@ AreReadable sections = (length sections ≤ MOST_SECTIONS) × All (λ section. (
 abbrev pub AreSectionsRead : List ℕ → List NewSection → Type 0
 AreSectionsRead body sections = (read : List Section) × AreSections body read × AreEach (IsSectionRead body) sections read
 
--- a file that was read has the name, the type and the sections of the one that was handed in
+-- the bytes behind a file's header are those that were handed in, or its sections are
+abbrev pub IsBodyRead : List ℕ → Body → Type 0
+IsBodyRead bytes (Sections sections) = AreReadable sections → AreSectionsRead bytes sections
+IsBodyRead bytes (Bytes body) = bytes ≡ body
+
+-- a file that was read has the name, the type, the attributes and the body of the one that was handed in
 pub record IsFileRead (bytes : List ℕ) (file : NewFile) (read : FfsFile) : Type 0 where
   pub name : read.name ≡ file.name
   pub kind : read.kind ≡ file.kind
-  pub sections : AreReadable file.sections → AreSectionsRead (take read.body_len (drop read.body_at bytes)) file.sections
+  pub attributes : attributes_in (slice_index bytes (read.at + ATTRIBUTES_AT)) ≡ file.attributes
+  pub body : IsBodyRead (take read.body_len (drop read.body_at bytes)) file.body
 
 -- the files that a reader lists: all but the pads
 abbrev pub listed : List NewFile → List NewFile

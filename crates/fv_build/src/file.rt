@@ -1,36 +1,46 @@
 //! Files as bytes.
 ghost use Rattle.std.specs.Prelude.{◌≡◌, ◌<◌, ◌^◌, ◌++◌, length, OnOk, false, All};
-ghost use Rattle.fv_build.specs.Sections.{body_bytes};
-ghost use Rattle.fv_build.specs.Files.{file_bytes, is_file_too_long};
+ghost use Rattle.fv_build.specs.Files.{bytes_in, file_bytes, has_long_section, is_file_too_long};
 ghost use Rattle.fv_build.specs.Building.{files_bytes};
 ghost use Rattle.fv_build.specs.declared.volume_header.TheConstants.{HEADER_LEN};
 
 use crate::file_header::{FileHead, put_file_header};
 use crate::file_system::FileSystem;
 use crate::fill::{fill, gap};
-use crate::new_file::NewFile;
+use crate::new_file::{Body, NewFile};
 use crate::section::put_sections;
 use crate::size::{body_len, file_size, is_large};
 use crate::volume_header::ERASED;
 use fv_volume::ALIGNMENT;
 use pi_base::{OutOfMemory, Seq};
 
+// Adds what stands behind a file's header.
+fn put_body(out: &mut Seq<u8>, file_system: FileSystem, body: &Body) -> Result<(), OutOfMemory>
+    requires { has_long_section file_system body.now ≡ false }
+    ensures { OnOk result (out.new ≡ out.old ++ bytes_in file_system body.now) }
+{
+    match body {
+        Body::Sections(sections) => put_sections(out, file_system, sections.as_slice()),
+        Body::Bytes(bytes) => out.append(bytes.as_slice()),
+    }
+}
+
 // Adds a file.
 fn put_file(out: &mut Seq<u8>, file_system: FileSystem, file: &NewFile) -> Result<(), OutOfMemory>
     requires short { is_file_too_long file_system file.now ≡ false }
-    requires fits { length (body_bytes file_system file.now.sections) < 2 ^ 32 }
+    requires fits { length (bytes_in file_system file.now.body) < 2 ^ 32 }
     ensures { OnOk result (out.new ≡ out.old ++ file_bytes file_system file.now) }
 {
-    let sections = file.sections.as_slice();
-    let body_len = body_len(file_system, sections);
+    let body_len = body_len(file_system, &file.body);
     let head = FileHead {
         name: file.name,
         kind: file.kind,
+        attributes: file.attributes,
         large: is_large(file_system, body_len),
         size: file_size(file_system, body_len) as u64,
     };
     put_file_header(out, &head)?;
-    put_sections(out, file_system, sections)
+    put_body(out, file_system, &file.body)
 }
 
 /// Adds the files of a volume behind its header, the erased bytes between them too.

@@ -3,7 +3,8 @@ ghost use Rattle.std.specs.Prelude.{◌≡◌, ◌<◌, ◌^◌, ◌++◌, OnOk}
 ghost use Rattle.std.specs.Bool.{OnFalse};
 ghost use Rattle.fv_build.specs.Files.{short_fields, extended_size, file_header};
 
-use fv_volume::file_header::{FIXED_CHECKSUM, LARGE_FILE};
+use crate::attributes::FileAttributes;
+use fv_volume::file_header::FIXED_CHECKSUM;
 use fv_volume::file_state::{DATA_VALID, HEADER_CONSTRUCTION, HEADER_VALID};
 use pi_base::{Guid, OutOfMemory, Seq, checksum8, put_u24, put_u64};
 
@@ -15,6 +16,8 @@ pub(crate) const WRITTEN: u8 = !(HEADER_CONSTRUCTION | HEADER_VALID | DATA_VALID
 pub(crate) struct FileHead {
     pub name: Guid,
     pub kind: u8,
+    /// The attributes that the file's writer chose.
+    pub attributes: FileAttributes,
     /// Whether the file is large: its size then stands in ExtendedSize, and Size is 0.
     pub large: bool,
     /// The file's size, its header in it.
@@ -26,7 +29,6 @@ fn short_fields(head: &FileHead, header_checksum: u8, file_checksum: u8, state: 
     requires { OnFalse head.now.large (head.now.size < 2 ^ 24) }
     ensures { result ≡ short_fields head.now header_checksum file_checksum state }
 {
-    let attributes = if head.large { LARGE_FILE } else { 0 };
     let mut size = [0; 3];
     if !head.large {
         put_u24(&mut size, 0, head.size as u32);
@@ -36,7 +38,7 @@ fn short_fields(head: &FileHead, header_checksum: u8, file_checksum: u8, state: 
         header_checksum,
         file_checksum,
         head.kind,
-        attributes,
+        head.attributes.byte(head.large),
         low,
         middle,
         high,

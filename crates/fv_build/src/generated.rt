@@ -4,9 +4,10 @@ ghost use Rattle.act_code.specs.Script.{script_bytes};
 ghost use Rattle.fv_build.specs.declared.fault.BuildFault.TheVariants.{Memory};
 ghost use Rattle.fv_build.specs.Generated.{numbered, installs, memory_said, actions_of, script_of, waits_for, expression_of, module_of, generated_files, generated};
 
+use crate::attributes::FileAttributes;
 use crate::build::build_volume;
 use crate::fault::BuildFault;
-use crate::new_file::{NewFile, NewSection};
+use crate::new_file::{Body, NewFile, NewSection};
 use act_code::descriptor_kind::PPI;
 use act_code::{Action, GuidArg, Script, write_script};
 use depex_code::opcode_byte::{END, PUSH};
@@ -164,7 +165,8 @@ fn module(alloc: Global, n: u32, i: u32) -> Result<NewFile, OutOfMemory>
     Ok(NewFile {
         name: numbered(NAMES, i),
         kind: PEIM,
-        sections,
+        attributes: FileAttributes::new(),
+        body: Body::Sections(sections),
     })
 }
 

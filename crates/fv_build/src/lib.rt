@@ -3,6 +3,7 @@
 //! Tried in `volume_trials`: `building`.
 #![tactic(auto)]
 
+mod attributes;
 mod build;
 mod fault;
 mod file;
@@ -15,9 +16,10 @@ mod section;
 mod size;
 mod volume_header;
 
-pub use build::{MOST_LEN, build_volume, build_volume3};
+pub use attributes::{ALIGNMENTS, Alignment, FileAttributes};
+pub use build::{MOST_LEN, build_as, build_volume, build_volume3};
 pub use fault::BuildFault;
 pub use file_system::FileSystem;
 pub use generated::{MOST_MODULES, VOLUME_LEN, generate};
-pub use new_file::{NewFile, NewSection};
-pub use volume_header::HEADER_LEN;
+pub use new_file::{Body, NewFile, NewSection};
+pub use volume_header::{HEADER_LEN, VolumeForm, VolumeHead, put_volume_header};

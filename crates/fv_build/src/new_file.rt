@@ -1,4 +1,5 @@
 //! What a volume is built from.
+use crate::attributes::FileAttributes;
 use pi_base::{Guid, Seq};
 
 /// A file to be written. PI 1.8, volume 3, `EFI_FFS_FILE_HEADER`.
@@ -8,8 +9,19 @@ pub struct NewFile {
     pub name: Guid,
     /// The Type byte, one of `fv_volume::file_type` or any other.
     pub kind: u8,
-    /// The sections, in order.
-    pub sections: Seq<NewSection>,
+    /// The attributes that its writer chose.
+    pub attributes: FileAttributes,
+    /// What stands behind its header.
+    pub body: Body,
+}
+
+/// What stands behind the header of a file.
+#[derive(Drop)]
+pub enum Body {
+    /// Sections, in order.
+    Sections(Seq<NewSection>),
+    /// Bytes as they are, as in a file of type `EFI_FV_FILETYPE_RAW`.
+    Bytes(Seq<u8>),
 }
 
 /// A section to be written. PI 1.8, volume 3, `EFI_COMMON_SECTION_HEADER`.

@@ -2,12 +2,12 @@
 ghost use Rattle.std.specs.Prelude.{◌≡◌, ◌-◌, ◌^◌, length, min, All};
 ghost use Rattle.std.specs.List.{list_any};
 ghost use Rattle.fv_build.specs.Sections.{is_extended, section_size, body_bytes, is_section_too_long};
-ghost use Rattle.fv_build.specs.Files.{is_large, file_size, is_past_size, is_file_too_long, HasWholeName};
+ghost use Rattle.fv_build.specs.Files.{bytes_in, has_long_section, is_large, file_size, is_past_size, is_file_too_long, HasWholeName};
 ghost use Rattle.fv_build.specs.Building.{need};
 
 use crate::file_system::{FileSystem, MOST_EXTENDED_SIZE, MOST_SIZE};
 use crate::fill::gap;
-use crate::new_file::{NewFile, NewSection};
+use crate::new_file::{Body, NewFile, NewSection};
 use crate::volume_header::HEADER_LEN;
 use fv_section::section_header;
 use fv_volume::file_header;
@@ -42,8 +42,8 @@ fn is_section_too_long(file_system: FileSystem, section: &NewSection) -> bool
     section_size(file_system, section.body.len()) > most
 }
 
-/// The bytes of a file's sections, those between them too.
-pub(crate) fn body_len(file_system: FileSystem, sections: &[NewSection]) -> usize
+// The bytes of a file's sections, those between them too.
+fn sections_len(file_system: FileSystem, sections: &[NewSection]) -> usize
     ensures { result ≡ min (length (body_bytes file_system sections.now)) (2 ^ 64 - 1) }
 {
     let mut end = 0usize;
@@ -53,6 +53,16 @@ pub(crate) fn body_len(file_system: FileSystem, sections: &[NewSection]) -> usiz
             .saturating_add(section_size(file_system, section.body.len()));
     }
     end
+}
+
+/// The bytes behind a file's header.
+pub(crate) fn body_len(file_system: FileSystem, body: &Body) -> usize
+    ensures { result ≡ min (length (bytes_in file_system body.now)) (2 ^ 64 - 1) }
+{
+    match body {
+        Body::Sections(sections) => sections_len(file_system, sections.as_slice()),
+        Body::Bytes(bytes) => bytes.len(),
+    }
 }
 
 /// Whether a file with so many bytes of body is large.
@@ -82,7 +92,7 @@ fn is_past_size(file_system: FileSystem, body_len: usize) -> bool
 }
 
 // Whether no size field can tell the size of one of the sections.
-fn has_long_section(file_system: FileSystem, sections: &[NewSection]) -> bool
+fn is_one_too_long(file_system: FileSystem, sections: &[NewSection]) -> bool
     ensures { result ≡ list_any (is_section_too_long file_system) sections.now }
 {
     sections
@@ -90,13 +100,22 @@ fn has_long_section(file_system: FileSystem, sections: &[NewSection]) -> bool
         .any(|section| is_section_too_long(file_system, section))
 }
 
+// Whether no size field can tell the size of one of the sections of a body.
+fn has_long_section(file_system: FileSystem, body: &Body) -> bool
+    ensures { result ≡ has_long_section file_system body.now }
+{
+    match body {
+        Body::Sections(sections) => is_one_too_long(file_system, sections.as_slice()),
+        Body::Bytes(_) => false,
+    }
+}
+
 // Whether no size field can tell the size of one of a file's sections, or the file's.
 fn is_file_too_long(file_system: FileSystem, file: &NewFile) -> bool
     ensures { result ≡ is_file_too_long file_system file.now }
 {
-    let sections = file.sections.as_slice();
-    has_long_section(file_system, sections)
-        || is_past_size(file_system, body_len(file_system, sections))
+    has_long_section(file_system, &file.body)
+        || is_past_size(file_system, body_len(file_system, &file.body))
 }
 
 /// Whether no size field can tell the size of one of the sections or files.
@@ -129,7 +148,7 @@ pub(crate) fn need(file_system: FileSystem, files: &[NewFile]) -> usize
     let mut end = HEADER_LEN;
     for file in files {
         has_sixteen(&file.name.0);
-        let body_len = body_len(file_system, file.sections.as_slice());
+        let body_len = body_len(file_system, &file.body);
         end = end
             .saturating_add(gap(fv_volume::ALIGNMENT, end))
             .saturating_add(file_size(file_system, body_len));

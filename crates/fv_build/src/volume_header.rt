@@ -1,10 +1,10 @@
 //! The header of a built volume as bytes.
 ghost use Rattle.std.specs.Prelude.{◌≡◌, ◌<◌, ◌^◌, ◌++◌, OnOk};
-ghost use Rattle.fv_build.specs.Header.{header_with, volume_header};
+ghost use Rattle.fv_build.specs.Header.{header_with, plain, volume_header};
 
 use crate::file_system::{FileSystem, file_system_guid};
 use fv_volume::volume_header::{
-    ATTRIBUTES_AT, CHECKSUM_AT, ERASE_POLARITY, FILE_SYSTEM_AT, HEADER_LENGTH_AT, LEAST_LEN,
+    ATTRIBUTES_AT, CHECKSUM_AT, ERASE_POLARITY, EXT_HEADER_OFFSET_AT, FILE_SYSTEM_AT, HEADER_LENGTH_AT, LEAST_LEN,
     LENGTH_AT, REVISION, REVISION_AT, SIGNATURE, SIGNATURE_AT,
 };
 use pi_base::{GUID_LEN, OutOfMemory, Seq, checksum16, put_u16, put_u32, put_u64};
@@ -15,35 +15,63 @@ pub const HEADER_LEN: usize = 72;
 /// What stands where nothing was written: the volume is erased to ones (own).
 pub(crate) const ERASED: u8 = 0xff;
 
+/// How a volume is made, whatever its files.
+#[derive(Clone, Copy)]
+pub struct VolumeForm {
+    /// The file system.
+    pub file_system: FileSystem,
+    /// Attributes, `EFI_FVB_ATTRIBUTES_2`. The erase polarity is set in any case.
+    pub attributes: u32,
+}
+
+impl VolumeForm {
+    /// A volume of this file system that tells of no attributes but its erase polarity.
+    pub fn new(file_system: FileSystem) -> VolumeForm
+        ensures { result ≡ plain file_system }
+    {
+        VolumeForm {
+            file_system,
+            attributes: 0,
+        }
+    }
+}
+
+/// What a volume's header says, but for its checksum.
+#[derive(Clone, Copy)]
+pub struct VolumeHead {
+    /// The file system and the attributes.
+    pub form: VolumeForm,
+    /// ExtHeaderOffset, 0 where there is no extended header.
+    pub ext_header_at: u16,
+    /// FvLength.
+    pub len: u64,
+}
+
 // The header with a checksum.
-fn header_with(file_system: FileSystem, len: u64, checksum: u16) -> [u8; HEADER_LEN]
-    requires { len < 2 ^ 32 }
-    ensures { result ≡ header_with file_system len checksum }
+fn header_with(head: &VolumeHead, checksum: u16) -> [u8; HEADER_LEN]
+    requires { head.now.len < 2 ^ 32 }
+    ensures { result ≡ header_with head.now checksum }
 {
     let mut header = [0; HEADER_LEN];
-    header[FILE_SYSTEM_AT..FILE_SYSTEM_AT + GUID_LEN].copy_from_slice(&file_system_guid(
-        file_system,
-    ));
-    put_u64(&mut header, LENGTH_AT, len);
+    let guid = file_system_guid(head.form.file_system);
+    header[FILE_SYSTEM_AT..FILE_SYSTEM_AT + GUID_LEN].copy_from_slice(&guid);
+    put_u64(&mut header, LENGTH_AT, head.len);
     put_u32(&mut header, SIGNATURE_AT, SIGNATURE);
-    put_u32(&mut header, ATTRIBUTES_AT, ERASE_POLARITY);
+    put_u32(&mut header, ATTRIBUTES_AT, head.form.attributes | ERASE_POLARITY);
     put_u16(&mut header, HEADER_LENGTH_AT, HEADER_LEN as u16);
     put_u16(&mut header, CHECKSUM_AT, checksum);
+    put_u16(&mut header, EXT_HEADER_OFFSET_AT, head.ext_header_at);
     header[REVISION_AT] = REVISION;
     put_u32(&mut header, LEAST_LEN, 1);
-    put_u32(&mut header, LEAST_LEN + 4, len as u32);
+    put_u32(&mut header, LEAST_LEN + 4, head.len as u32);
     header
 }
 
-/// Adds the header of a volume of this length.
-pub(crate) fn put_volume_header(
-    out: &mut Seq<u8>,
-    file_system: FileSystem,
-    len: u64,
-) -> Result<(), OutOfMemory>
-    requires { len < 2 ^ 32 }
-    ensures { OnOk result (out.new ≡ out.old ++ volume_header file_system len) }
+/// Adds the header of a volume.
+pub fn put_volume_header(out: &mut Seq<u8>, head: &VolumeHead) -> Result<(), OutOfMemory>
+    requires { head.now.len < 2 ^ 32 }
+    ensures { OnOk result (out.new ≡ out.old ++ volume_header head.now) }
 {
-    let checksum = checksum16(&header_with(file_system, len, 0));
-    out.append(&header_with(file_system, len, checksum))
+    let checksum = checksum16(&header_with(head, 0));
+    out.append(&header_with(head, checksum))
 }

@@ -1,37 +1,29 @@
 -- A built volume with a name, and what stands against one. (PI 1.8, volume 3, `EFI_FIRMWARE_VOLUME_EXT_HEADER`; the layout is own.)
-use Rattle.std.specs.Prelude.{◌≡◌, ℕ, ◌+◌, ◌-◌, ◌^◌, List, ◌++◌, take, drop, replicate, min, Option, Some, None, if◌then◌else◌, nat_lt}
+use Rattle.std.specs.Prelude.{◌≡◌, ℕ, ◌+◌, ◌-◌, ◌^◌, List, ◌++◌, replicate, min, Option, Some, None, if◌then◌else◌, nat_lt}
 use Rattle.pi_base.specs.declared.guid.Guid.{Guid}
 use Rattle.pi_base.specs.Field.{little_bytes}
-use Rattle.fv_volume.specs.declared.volume_header.TheConstants.{EXT_HEADER_OFFSET_AT}
 use Rattle.fv_build.specs.declared.fault.BuildFault.{BuildFault}
 use Rattle.fv_build.specs.declared.fault.BuildFault.TheVariants.{TooMany, Size, NoRoom, Memory}
 use Rattle.fv_build.specs.declared.new_file.NewFile.{NewFile}
 use Rattle.fv_build.specs.declared.file_system.FileSystem.{FileSystem}
-use Rattle.fv_build.specs.Checksum.{checksum16}
-use Rattle.fv_build.specs.Header.{header_with as plain_header}
-use Rattle.fv_build.specs.Building.{files_bytes, need, built, fault_of, IsRefusal as IsPlainRefusal}
+use Rattle.fv_build.specs.declared.volume_header.VolumeForm.{VolumeForm}
+use Rattle.fv_build.specs.Header.{head_of, volume_header}
+use Rattle.fv_build.specs.Building.{files_bytes, need, built_as, fault_of}
 use Rattle.fv_named.specs.declared.volume.TheConstants.{EXT_AT, NAME_LEN, NAMED_LEN, ERASED}
 
--- a header with ExtHeaderOffset
-abbrev pub with_offset : ℕ → List ℕ → List ℕ
-with_offset at header = take EXT_HEADER_OFFSET_AT header ++ (little_bytes 2 at ++ drop (EXT_HEADER_OFFSET_AT + 2) header)
-
--- the header with a checksum
-abbrev pub header_with : FileSystem → ℕ → ℕ → List ℕ
-header_with file_system len checksum = with_offset EXT_AT (plain_header file_system len checksum)
-
--- the header: its 16-bit words sum to 0
-abbrev pub named_header : FileSystem → ℕ → List ℕ
-named_header file_system len = header_with file_system len (checksum16 (header_with file_system len 0))
+-- the header of a volume with a name
+abbrev pub named_header : VolumeForm → ℕ → List ℕ
+named_header form len = volume_header (head_of form EXT_AT len)
 
 -- what stands between the header and the files: erased bytes; FvName and ExtHeaderSize; erased bytes up to a multiple of 8
 abbrev pub name_bytes : Guid → List ℕ
 name_bytes name = replicate 24 ERASED ++ (name.0 ++ (little_bytes 4 20 ++ replicate 4 ERASED))
 
 -- a volume of this length: its header, its name, its files and erased bytes
-abbrev pub built_named : FileSystem → Guid → List NewFile → ℕ → List ℕ
-built_named file_system name files len =
-    named_header file_system len ++ (name_bytes name ++ (files_bytes file_system files ++ replicate (len - NAME_LEN - need file_system files) ERASED))
+abbrev pub built_named : VolumeForm → Guid → List NewFile → ℕ → List ℕ
+built_named form name files len =
+    named_header form len
+    ++ (name_bytes name ++ (files_bytes form.file_system files ++ replicate (len - NAME_LEN - need form.file_system files) ERASED))
 
 -- what stands against a volume without its name, as what stands against it
 abbrev pub longer : ℕ → BuildFault → BuildFault
@@ -52,9 +44,9 @@ IsNamedRefusal file_system files len Memory = named_fault file_system files len 
 IsNamedRefusal file_system files len fault = named_fault file_system files len ≡ Some fault
 
 -- a volume with this name or with none
-abbrev pub volume_bytes : FileSystem → Option Guid → List NewFile → ℕ → List ℕ
-volume_bytes file_system None files len = built file_system files len
-volume_bytes file_system (Some name) files len = built_named file_system name files len
+abbrev pub volume_bytes : VolumeForm → Option Guid → List NewFile → ℕ → List ℕ
+volume_bytes form None files len = built_as form files len
+volume_bytes form (Some name) files len = built_named form name files len
 
 -- what stands first against it
 abbrev pub volume_fault : FileSystem → Option Guid → List NewFile → ℕ → Option BuildFault

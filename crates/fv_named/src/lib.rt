@@ -3,7 +3,6 @@
 //! Tried in `source_trials`: `volume_texts`.
 #![tactic(auto)]
 
-mod header;
 mod volume;
 
 pub use volume::{EXT_AT, NAME_LEN, NAMED_LEN, build};

@@ -2,12 +2,12 @@
 ghost use Rattle.std.specs.Prelude.{◌≡◌, ◌≤◌, ◌<◌, ◌^◌, ◌++◌, None, length, drop, IfOk, IfErr, OnOk};
 ghost use Rattle.fv_build.specs.declared.volume_header.TheConstants.{HEADER_LEN};
 ghost use Rattle.fv_build.specs.declared.build.TheConstants.{MOST_LEN};
-ghost use Rattle.fv_build.specs.Building.{built, fault_of, IsRefusal as IsPlainRefusal};
 ghost use Rattle.fv_build.specs.Reading.{IsReadBack};
 ghost use Rattle.fv_named.specs.Named.{name_bytes, named_header, built_named, named_fault, longer, IsNamedRefusal, volume_bytes, volume_fault, IsRefusal};
 
-use crate::header::put_header;
-use fv_build::{BuildFault, FileSystem, HEADER_LEN, NewFile, build_volume, build_volume3};
+use fv_build::{
+    BuildFault, HEADER_LEN, NewFile, VolumeForm, VolumeHead, build_as, put_volume_header,
+};
 use pi_base::{Guid, OutOfMemory, Seq};
 use std::alloc::Global;
 
@@ -35,41 +35,26 @@ fn put_name(out: &mut Seq<u8>, name: &Guid) -> Result<(), OutOfMemory>
 // The volume with the name, by the bytes of one without it.
 fn named(
     alloc: Global,
-    file_system: FileSystem,
+    form: &VolumeForm,
     name: &Guid,
     plain: &[u8],
     len: u64,
 ) -> Result<Seq<u8>, OutOfMemory>
     requires plain { HEADER_LEN ≤ length plain.now }
     requires most { len < 2 ^ 32 }
-    ensures { IfOk result (λ volume. volume ≡ named_header file_system len ++ (name_bytes name.now ++ drop HEADER_LEN plain.now)) }
+    ensures { IfOk result (λ volume. volume ≡ named_header form.now len ++ (name_bytes name.now ++ drop HEADER_LEN plain.now)) }
 {
+    let head = VolumeHead {
+        form: *form,
+        ext_header_at: EXT_AT,
+        len,
+    };
     let mut volume = Seq::new(alloc);
-    put_header(&mut volume, file_system, len)?;
+    put_volume_header(&mut volume, &head)?;
     put_name(&mut volume, name)?;
     let (_, files) = plain.split_at(HEADER_LEN);
     volume.append(files)?;
     Ok(volume)
-}
-
-// A volume without a name.
-fn build_plain(
-    alloc: Global,
-    file_system: FileSystem,
-    files: &[NewFile],
-    len: u64,
-) -> Result<Seq<u8>, BuildFault>
-    requires header { HEADER_LEN ≤ len }
-    requires most { len ≤ MOST_LEN }
-    ensures sound { OnOk result (fault_of file_system files.now len ≡ None) }
-    ensures built { IfOk result (λ volume. volume ≡ built file_system files.now len) }
-    ensures read { IfOk result (IsReadBack files.now) }
-    ensures refused { IfErr result (IsPlainRefusal file_system files.now len) }
-{
-    match file_system {
-        FileSystem::Ffs2 => build_volume(alloc, files, len),
-        FileSystem::Ffs3 => build_volume3(alloc, files, len),
-    }
 }
 
 // What stands against a volume with a name, by what stands against one without it and so much shorter.
@@ -89,15 +74,15 @@ fn longer(fault: BuildFault, len: u64) -> BuildFault
 #[tactic(auto, using(crate::proofs::Volumes::no_fault))]
 fn build_named(
     alloc: Global,
-    file_system: FileSystem,
+    form: &VolumeForm,
     name: &Guid,
     files: &[NewFile],
     len: u64,
 ) -> Result<Seq<u8>, BuildFault>
     requires most { len ≤ MOST_LEN }
-    ensures sound { OnOk result (named_fault file_system files.now len ≡ None) }
-    ensures built { IfOk result (λ volume. volume ≡ built_named file_system name.now files.now len) }
-    ensures refused { IfErr result (IsNamedRefusal file_system files.now len) }
+    ensures sound { OnOk result (named_fault form.now.file_system files.now len ≡ None) }
+    ensures built { IfOk result (λ volume. volume ≡ built_named form.now name.now files.now len) }
+    ensures refused { IfErr result (IsNamedRefusal form.now.file_system files.now len) }
 {
     if len < NAMED_LEN {
         return Err(BuildFault::NoRoom {
@@ -105,35 +90,35 @@ fn build_named(
             have: len,
         });
     }
-    let plain = match build_plain(alloc, file_system, files, len - NAME_LEN) {
+    let plain = match build_as(alloc, form, files, len - NAME_LEN) {
         Ok(plain) => plain,
         Err(fault) => return Err(longer(fault, len)),
     };
-    match named(alloc, file_system, name, plain.as_slice(), len) {
+    match named(alloc, form, name, plain.as_slice(), len) {
         Ok(volume) => Ok(volume),
         Err(OutOfMemory) => Err(BuildFault::Memory),
     }
 }
 
-/// A volume of `len` bytes with these files, in order, and with this name if there is one: as `build_volume` and `build_volume3` build it, but that
+/// A volume of this form and of `len` bytes with these files, in order, and with this name if there is one: as `build_as` builds it, but that
 /// a name stands in an extended header at 96, and the files begin at 120.
 pub fn build(
     alloc: Global,
-    file_system: FileSystem,
+    form: &VolumeForm,
     name: Option<Guid>,
     files: &[NewFile],
     len: u64,
 ) -> Result<Seq<u8>, BuildFault>
     requires header { HEADER_LEN ≤ len }
     requires most { len ≤ MOST_LEN }
-    ensures sound { OnOk result (volume_fault file_system name files.now len ≡ None) }
-    ensures built { IfOk result (λ volume. volume ≡ volume_bytes file_system name files.now len) }
+    ensures sound { OnOk result (volume_fault form.now.file_system name files.now len ≡ None) }
+    ensures built { IfOk result (λ volume. volume ≡ volume_bytes form.now name files.now len) }
     // Where it has no name, a reader finds the files that were handed in.
     ensures read { IfOk result (λ volume. name ≡ None → IsReadBack files.now volume) }
-    ensures refused { IfErr result (IsRefusal file_system name files.now len) }
+    ensures refused { IfErr result (IsRefusal form.now.file_system name files.now len) }
 {
     match name {
-        None => build_plain(alloc, file_system, files, len),
-        Some(name) => build_named(alloc, file_system, &name, files, len),
+        None => build_as(alloc, form, files, len),
+        Some(name) => build_named(alloc, form, &name, files, len),
     }
 }

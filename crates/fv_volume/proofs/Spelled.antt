@@ -1,4 +1,4 @@
--- Files and headers that are spelled out are read as themselves. Callers who write volumes cite this.
+-- Files that are spelled out are read as themselves. Callers who write volumes cite this.
 use Rattle.std.proofs.Common.{◌≡◌, ◌≢◌, ℕ, zero, suc, ◌+◌, ◌-◌, ◌*◌, ◌%◌, ◌<◌, ◌≤◌, ◌^◌, Bool, true, false, cond, List, [], ◌∷◌, ◌++◌, length, take, drop, sum, replicate, Option, Some, None, Result, Ok, Err, refl, sym, ap, ◌∙◌, arith, subst, append_assoc, get_or-drop, length-drop, length-append}
 use Rattle.std.proofs.lemmas.Bool.Decides.{nat_tests}
 use Rattle.std.proofs.lemmas.List.{drop-drop, append-nil, get_or-append-add, length-replicate, drop-replicate, take-replicate}
@@ -6,7 +6,7 @@ use Rattle.std.proofs.lemmas.List.Concat.{flat_map-cons}
 use Rattle.std.proofs.lemmas.List.Folds.{list_all-append}
 use Rattle.std.proofs.lemmas.List.Sums.{sum_by-append, sum_by-cons}
 use Rattle.std.proofs.Math.Seq.{drop-append_seam, drop-append-add, take-append_seam, take-append-add}
-use Rattle.std.specs.Prelude.{bit_and, nat_lt, ◌==◌, ◌&&◌, not, slice_index}
+use Rattle.std.specs.Prelude.{bit_and, nat_lt, ◌==◌, ◌&&◌, ◌||◌, not, slice_index}
 use Rattle.std.specs.List.{list_all}
 use Rattle.pi_base.specs.declared.guid.Guid.{Guid}
 use Rattle.pi_base.specs.Field.{little_number, little_bytes, words_of}
@@ -82,26 +82,31 @@ and_false : (b : Bool) → (b && false) ≡ false
 and_false true = refl
 and_false false = refl
 
+-- an Attributes byte of a file that is large or not, and has no file checksum
+pub record AreAttributes (attributes : ℕ) (wide : Bool) : Type 0 where
+  pub size : nat_lt 0 (bit_and attributes 1) ≡ wide
+  pub sum : nat_lt 0 (bit_and attributes 64) ≡ false
+
 -- the header of a file that is not large
-small_header : (image : List ℕ) (large : Bool) (at : ℕ) (name : List ℕ) (checksum kind size : ℕ) (behind : List ℕ) → StandsAt image at name checksum kind 0 size behind
-    → size < 16777216 → file_header image (ones large) at ≡ Some (said name 0xaa kind 0 24 size)
-small_header image large at name checksum kind size behind s short =
+small_header : (image : List ℕ) (large : Bool) (at : ℕ) (name : List ℕ) (checksum kind a size : ℕ) (behind : List ℕ) → StandsAt image at name checksum kind a size behind
+    → AreAttributes a false → size < 16777216 → file_header image (ones large) at ≡ Some (said name 0xaa kind a 24 size)
+small_header image large at name checksum kind a size behind s are short =
     let not_large : is_large image (ones large) at ≡ false =
-    ap (λ x. large && nat_lt 0 (bit_and x 1)) (field_at image at name checksum kind 0 size behind s 19 3 refl) ∙ and_false large in
+    ap (λ x. large && nat_lt 0 (bit_and x 1)) (field_at image at name checksum kind a size behind s 19 3 refl) ∙ ap (λ b. large && b) are.size ∙ and_false large in
     let number : little_number 3 (drop (at + 20) image) ≡ size =
     ap (little_number 3) (drop_behind 20 at image _ s.here ∙ drop_text 20 4 name _ (omega (arith, s.whole)))
     ∙ little_number-little_bytes 3 size (0xf8 ∷ behind) short in
     ap (λ (b : Bool). cond (not b) (Some (fields_at image at 24 (little_number 3 (drop (at + 20) image))))
     (cond (nat_lt (length image) (at + 32)) None (Some (fields_at image at 32 (little_number 8 (drop (at + 24) image)))))) not_large
-    ∙ ap (λ h. Some h) (fields_read image at name checksum kind 0 size behind s 24 (little_number 3 (drop (at + 20) image))
-    ∙ ap (said name 0xaa kind 0 24) number)
+    ∙ ap (λ h. Some h) (fields_read image at name checksum kind a size behind s 24 (little_number 3 (drop (at + 20) image))
+    ∙ ap (said name 0xaa kind a 24) number)
 
 -- the header of a large file
-large_header : (image : List ℕ) (at : ℕ) (name : List ℕ) (checksum kind size : ℕ) (behind : List ℕ)
-    → StandsAt image at name checksum kind 1 0 (little_bytes 8 size ++ behind) → size < 2 ^ 64
-    → file_header image (ones true) at ≡ Some (said name 0xaa kind 1 32 size)
-large_header image at name checksum kind size behind s fits =
-    let is : is_large image (ones true) at ≡ true = ap (λ x. nat_lt 0 (bit_and x 1)) (field_at image at name checksum kind 1 0 _ s 19 3 refl) in
+large_header : (image : List ℕ) (at : ℕ) (name : List ℕ) (checksum kind a size : ℕ) (behind : List ℕ)
+    → StandsAt image at name checksum kind a 0 (little_bytes 8 size ++ behind) → AreAttributes a true → size < 2 ^ 64
+    → file_header image (ones true) at ≡ Some (said name 0xaa kind a 32 size)
+large_header image at name checksum kind a size behind s are fits =
+    let is : is_large image (ones true) at ≡ true = ap (λ x. nat_lt 0 (bit_and x 1)) (field_at image at name checksum kind a 0 _ s 19 3 refl) ∙ are.size in
     let long : length image - at ≡ 32 + length behind = sym (length-drop at image) ∙ ap length s.here ∙ length-append name _ ∙ omega (arith, s.whole) in
     let room : nat_lt (length image) (at + 32) ≡ false = grind (arith, nat_tests) in
     let number : little_number 8 (drop (at + 24) image) ≡ size =
@@ -110,8 +115,8 @@ large_header image at name checksum kind size behind s fits =
     ap (λ (b : Bool). cond (not b) (Some (fields_at image at 24 (little_number 3 (drop (at + 20) image))))
     (cond (nat_lt (length image) (at + 32)) None (Some (fields_at image at 32 (little_number 8 (drop (at + 24) image)))))) is
     ∙ ap (λ (b : Bool). cond b None (Some (fields_at image at 32 (little_number 8 (drop (at + 24) image))))) room
-    ∙ ap (λ h. Some h) (fields_read image at name checksum kind 1 0 _ s 32 (little_number 8 (drop (at + 24) image))
-    ∙ ap (said name 0xaa kind 1 32) number)
+    ∙ ap (λ h. Some h) (fields_read image at name checksum kind a 0 _ s 32 (little_number 8 (drop (at + 24) image))
+    ∙ ap (said name 0xaa kind a 32) number)
 
 -- the bytes of a header sum to 0
 sum_read : (name : List ℕ) (checksum kind attributes size : ℕ) (extended : List ℕ) → length name ≡ 16
@@ -141,39 +146,35 @@ by_pad : (pad : Bool) (at : ℕ) (name : List ℕ) (kind len size : ℕ) → ◌
 by_pad true at name kind len size = refl
 by_pad false at name kind len size = refl
 
--- Attributes of a large file, or of one that is not
-abbrev pub attributes_of : Bool → ℕ
-attributes_of wide = cond wide 1 0
+right_size : (large wide : Bool) (a at len size room : ℕ) (name : List ℕ) (kind : ℕ) → AreAttributes a wide → (wide ≡ true → large ≡ true) → len ≤ size → size ≤ room
+    → size_is_wrong (ones large) room (said name 0xaa kind a len size) ≡ false
+right_size true wide a at len size room name kind are allowed least most = grind (arith, nat_tests)
+right_size false true a at len size room name kind are allowed least most = absurd (let no : false ≡ true = allowed refl in cc)
+right_size false false a at len size room name kind are allowed least most =
+    ap (λ b. (true && b) || nat_lt size len || nat_lt room size) are.size ∙ grind (arith, nat_tests)
 
-right_size : (large wide : Bool) (at len size room : ℕ) (name : List ℕ) (kind : ℕ) → (wide ≡ true → large ≡ true) → len ≤ size → size ≤ room
-    → size_is_wrong (ones large) room (said name 0xaa kind (attributes_of wide) len size) ≡ false
-right_size true wide at len size room name kind allowed least most = grind (arith, nat_tests)
-right_size false true at len size room name kind allowed least most = absurd (let no : false ≡ true = allowed refl in cc)
-right_size false false at len size room name kind allowed least most = grind (arith, nat_tests)
-
-right_data : (wide : Bool) (name : List ℕ) (kind len size : ℕ) (body : List ℕ) → data_is_wrong (said name 0xaa kind (attributes_of wide) len size) body ≡ false
-right_data true name kind len size body = refl
-right_data false name kind len size body = refl
+right_data : (wide : Bool) (a : ℕ) (name : List ℕ) (kind len size : ℕ) (body : List ℕ) → AreAttributes a wide → data_is_wrong (said name 0xaa kind a len size) body ≡ false
+right_data wide a name kind len size body are = ap (λ b. cond b (not ((sum body + 0xaa) % 256 == 0)) (not (0xaa == 0xaa))) are.sum
 
 -- a file is read as itself
-item_read : (image : List ℕ) (large wide pad : Bool) (at : ℕ) (name : List ℕ) (checksum kind field len size : ℕ) (behind : List ℕ)
-    → StandsAt image at name checksum kind (attributes_of wide) field behind
-    → file_header image (ones large) at ≡ Some (said name 0xaa kind (attributes_of wide) len size)
+item_read : (image : List ℕ) (large wide pad : Bool) (at : ℕ) (name : List ℕ) (checksum kind a field len size : ℕ) (behind : List ℕ)
+    → StandsAt image at name checksum kind a field behind → AreAttributes a wide
+    → file_header image (ones large) at ≡ Some (said name 0xaa kind a len size)
     → header_sum (take len (drop at image)) ≡ 0 → (wide ≡ true → large ≡ true) → len ≤ size → size ≤ length image - at → (kind == 240) ≡ pad
     → item_at image (ones large) at ≡ Ok (found pad at name kind len size)
-item_read image large wide pad at name checksum kind field len size behind s header sound allowed least most is_pad =
-    let H = said name 0xaa kind (attributes_of wide) len size in
+item_read image large wide pad at name checksum kind a field len size behind s are header sound allowed least most is_pad =
+    let H = said name 0xaa kind a len size in
     let format = ones large in
-    let state = field_at image at name checksum kind (attributes_of wide) field behind s 23 7 refl in
+    let state = field_at image at name checksum kind a field behind s 23 7 refl in
     let zero_sum : (header_sum (take len (drop at image)) == 0) ≡ true = ap (λ n. n == 0) sound in
     ap (λ byte. cond (is_dead (file_state 0xff byte)) (Ok (record { kind = Dead; end = at + 24 }))
     (item_or_cause image format at (file_state 0xff byte) (file_header image format at))) state
     ∙ ap (item_or_cause image format at DataValid) header
     ∙ ap (λ b. cond (not b) (Err FileSum) (cond (size_is_wrong format (length image - at) H) (Err FileSize) (sound_item image at DataValid H))) zero_sum
-    ∙ ap (λ b. cond b (Err FileSize) (sound_item image at DataValid H)) (right_size large wide at len size (length image - at) name kind allowed least most)
+    ∙ ap (λ b. cond b (Err FileSize) (sound_item image at DataValid H)) (right_size large wide a at len size (length image - at) name kind are allowed least most)
     ∙ ap (λ b. cond b (Err DataSum) (cond (kind == 240) (Ok (record { kind = Pad; end = at + size }))
     (Ok (record { kind = Listed (record { at = at; name = record { 0 = name }; kind = kind; body_at = at + len; body_len = size - len }); end = at + size }))))
-    (right_data wide name kind len size (take (size - len) (drop (at + len) image)))
+    (right_data wide a name kind len size (take (size - len) (drop (at + len) image)) are)
     ∙ ap (λ b. cond b (Ok (record { kind = Pad; end = at + size }))
     (Ok (record { kind = Listed (record { at = at; name = record { 0 = name }; kind = kind; body_at = at + len; body_len = size - len }); end = at + size }))) is_pad
     ∙ by_pad pad at name kind len size
@@ -233,10 +234,11 @@ lists_more image large pad at name kind len size files on here more = record {
 }
 
 -- a file whose header is spelled out, its size in Size or in ExtendedSize
-pub record IsSpelled (image : List ℕ) (large wide : Bool) (at : ℕ) (name : List ℕ) (checksum kind : ℕ) (body rest : List ℕ) : Type 0 where
-  pub here : drop at image ≡ name ++ (fields checksum kind (attributes_of wide) (cond wide 0 (24 + length body)) ++ (cond wide (little_bytes 8 (32 + length body)) [] ++ (body ++ rest)))
+pub record IsSpelled (image : List ℕ) (large wide : Bool) (at : ℕ) (name : List ℕ) (checksum kind attributes : ℕ) (body rest : List ℕ) : Type 0 where
+  pub here : drop at image ≡ name ++ (fields checksum kind attributes (cond wide 0 (24 + length body)) ++ (cond wide (little_bytes 8 (32 + length body)) [] ++ (body ++ rest)))
+  pub are : AreAttributes attributes wide
   pub whole : length name ≡ 16
-  pub sum_is : (sum name + (checksum + (kind + (attributes_of wide + (sum (little_bytes 3 (cond wide 0 (24 + length body))) + sum (cond wide (little_bytes 8 (32 + length body)) [])))))) % 256 ≡ 0
+  pub sum_is : (sum name + (checksum + (kind + (attributes + (sum (little_bytes 3 (cond wide 0 (24 + length body))) + sum (cond wide (little_bytes 8 (32 + length body)) [])))))) % 256 ≡ 0
   pub fits : cond wide (32 + length body < 2 ^ 64) (24 + length body < 2 ^ 24)
   pub allowed : wide ≡ true → large ≡ true
 
@@ -253,44 +255,50 @@ is_listed false false at name kind body_len files =
     ap (λ n. let f : FfsFile = record { at = at; name = record { 0 = name }; kind = kind; body_at = at + 24; body_len = n } in f ∷ files) (omega arith)
 
 -- a small file and those behind it
-lists_small : (image : List ℕ) (large pad : Bool) (at : ℕ) (name : List ℕ) (checksum kind : ℕ) (body rest : List ℕ) (files : List FfsFile)
-    → IsSpelled image large false at name checksum kind body rest → (kind == 240) ≡ pad → Lists image large (aligned (at + (24 + length body))) files
+lists_small : (image : List ℕ) (large pad : Bool) (at : ℕ) (name : List ℕ) (checksum kind a : ℕ) (body rest : List ℕ) (files : List FfsFile)
+    → IsSpelled image large false at name checksum kind a body rest → (kind == 240) ≡ pad → Lists image large (aligned (at + (24 + length body))) files
     → Lists image large at (cond pad files (listed_file false at name kind (length body) ∷ files))
-lists_small image large pad at name checksum kind body rest files f is_pad more =
+lists_small image large pad at name checksum kind a body rest files f is_pad more =
     let size = 24 + length body in
-    let s : StandsAt image at name checksum kind 0 size (body ++ rest) = record { here = f.here; whole = f.whole } in
-    let header = small_header image large at name checksum kind size (body ++ rest) s f.fits in
-    let bytes : take 24 (drop at image) ≡ name ++ (fields checksum kind 0 size ++ []) =
-    ap (take 24) f.here ∙ take_text 24 8 name (fields checksum kind 0 size ++ (body ++ rest)) (omega (arith, f.whole)) in
-    let sound = ap header_sum bytes ∙ sum_read name checksum kind 0 size [] f.whole f.sum_is in
+    let s : StandsAt image at name checksum kind a size (body ++ rest) = record { here = f.here; whole = f.whole } in
+    let header = small_header image large at name checksum kind a size (body ++ rest) s f.are f.fits in
+    let bytes : take 24 (drop at image) ≡ name ++ (fields checksum kind a size ++ []) =
+    ap (take 24) f.here ∙ take_text 24 8 name (fields checksum kind a size ++ (body ++ rest)) (omega (arith, f.whole)) in
+    let sound = ap header_sum bytes ∙ sum_read name checksum kind a size [] f.whole f.sum_is in
     let long : length image - at ≡ 24 + length body + length rest =
     sym (length-drop at image) ∙ ap length f.here ∙ length-append name _ ∙ omega (arith, f.whole, length-append body rest) in
-    let item = item_read image large false pad at name checksum kind size 24 size (body ++ rest) s header sound f.allowed (omega arith) (omega (arith, long)) is_pad in
+    let item = item_read image large false pad at name checksum kind a size 24 size (body ++ rest) s f.are header sound f.allowed (omega arith) (omega (arith, long)) is_pad in
     subst (Lists image large at) (is_listed pad false at name kind (length body) files)
-    (lists_more image large pad at name kind 24 size files (goes_on image large at name checksum kind 0 size (body ++ rest) s) item more)
+    (lists_more image large pad at name kind 24 size files (goes_on image large at name checksum kind a size (body ++ rest) s) item more)
 
 -- a large file and those behind it
-lists_large : (image : List ℕ) (pad : Bool) (at : ℕ) (name : List ℕ) (checksum kind : ℕ) (body rest : List ℕ) (files : List FfsFile)
-    → IsSpelled image true true at name checksum kind body rest → (kind == 240) ≡ pad → Lists image true (aligned (at + (32 + length body))) files
+lists_large : (image : List ℕ) (pad : Bool) (at : ℕ) (name : List ℕ) (checksum kind a : ℕ) (body rest : List ℕ) (files : List FfsFile)
+    → IsSpelled image true true at name checksum kind a body rest → (kind == 240) ≡ pad → Lists image true (aligned (at + (32 + length body))) files
     → Lists image true at (cond pad files (listed_file true at name kind (length body) ∷ files))
-lists_large image pad at name checksum kind body rest files f is_pad more =
+lists_large image pad at name checksum kind a body rest files f is_pad more =
     let size = 32 + length body in
     let extended = little_bytes 8 size in
-    let s : StandsAt image at name checksum kind 1 0 (extended ++ (body ++ rest)) = record { here = f.here; whole = f.whole } in
-    let header = large_header image at name checksum kind size (body ++ rest) s f.fits in
-    let bytes : take 32 (drop at image) ≡ name ++ (fields checksum kind 1 0 ++ extended) =
-    ap (take 32) f.here ∙ take_text 32 16 name (fields checksum kind 1 0 ++ (extended ++ (body ++ rest))) (omega (arith, f.whole)) in
-    let sound = ap header_sum bytes ∙ sum_read name checksum kind 1 0 extended f.whole f.sum_is in
+    let s : StandsAt image at name checksum kind a 0 (extended ++ (body ++ rest)) = record { here = f.here; whole = f.whole } in
+    let header = large_header image at name checksum kind a size (body ++ rest) s f.are f.fits in
+    let bytes : take 32 (drop at image) ≡ name ++ (fields checksum kind a 0 ++ extended) =
+    ap (take 32) f.here ∙ take_text 32 16 name (fields checksum kind a 0 ++ (extended ++ (body ++ rest))) (omega (arith, f.whole)) in
+    let sound = ap header_sum bytes ∙ sum_read name checksum kind a 0 extended f.whole f.sum_is in
     let long : length image - at ≡ 32 + length body + length rest =
     sym (length-drop at image) ∙ ap length f.here ∙ length-append name _ ∙ omega (arith, f.whole, length-append body rest) in
-    let item = item_read image true true pad at name checksum kind 0 32 size (extended ++ (body ++ rest)) s header sound f.allowed (omega arith) (omega (arith, long)) is_pad in
+    let item = item_read image true true pad at name checksum kind a 0 32 size (extended ++ (body ++ rest)) s f.are header sound f.allowed (omega arith) (omega (arith, long)) is_pad in
     subst (Lists image true at) (is_listed pad true at name kind (length body) files)
-    (lists_more image true pad at name kind 32 size files (goes_on image true at name checksum kind 1 0 (extended ++ (body ++ rest)) s) item more)
+    (lists_more image true pad at name kind 32 size files (goes_on image true at name checksum kind a 0 (extended ++ (body ++ rest)) s) item more)
 
 -- a file that is spelled out and those behind it; a pad is not listed
-pub lists_file : (image : List ℕ) (large wide pad : Bool) (at : ℕ) (name : List ℕ) (checksum kind : ℕ) (body rest : List ℕ) (files : List FfsFile)
-    → IsSpelled image large wide at name checksum kind body rest → (kind == 240) ≡ pad → Lists image large (aligned (at + (cond wide 32 24 + length body))) files
+pub lists_file : (image : List ℕ) (large wide pad : Bool) (at : ℕ) (name : List ℕ) (checksum kind a : ℕ) (body rest : List ℕ) (files : List FfsFile)
+    → IsSpelled image large wide at name checksum kind a body rest → (kind == 240) ≡ pad → Lists image large (aligned (at + (cond wide 32 24 + length body))) files
     → Lists image large at (cond pad files (listed_file wide at name kind (length body) ∷ files))
-lists_file image large false pad at name checksum kind body rest files f is_pad more = lists_small image large pad at name checksum kind body rest files f is_pad more
-lists_file image true true pad at name checksum kind body rest files f is_pad more = lists_large image pad at name checksum kind body rest files f is_pad more
-lists_file image false true pad at name checksum kind body rest files f is_pad more = absurd (let no : false ≡ true = f.allowed refl in cc)
+lists_file image large false pad at name checksum kind a body rest files f is_pad more = lists_small image large pad at name checksum kind a body rest files f is_pad more
+lists_file image true true pad at name checksum kind a body rest files f is_pad more = lists_large image pad at name checksum kind a body rest files f is_pad more
+lists_file image false true pad at name checksum kind a body rest files f is_pad more = absurd (let no : false ≡ true = f.allowed refl in cc)
+
+-- its Attributes byte
+pub stands_attributes : (image : List ℕ) (large wide : Bool) (at : ℕ) (name : List ℕ) (checksum kind a : ℕ) (body rest : List ℕ) → IsSpelled image large wide at name checksum kind a body rest
+    → slice_index image (at + 19) ≡ a
+stands_attributes image large wide at name checksum kind a body rest f =
+    field_at image at name checksum kind a (cond wide 0 (24 + length body)) (cond wide (little_bytes 8 (32 + length body)) [] ++ (body ++ rest)) (record { here = f.here; whole = f.whole }) 19 3 refl

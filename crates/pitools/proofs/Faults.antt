@@ -7,7 +7,7 @@ use Rattle.catalog_model.specs.declared.catalog.Catalog.{Catalog}
 use Rattle.pi_base.specs.declared.phase.Phase.{Phase}
 use Rattle.pi_base.specs.declared.phase.Phase.TheVariants.{Pei, Dxe}
 use Rattle.pitools.specs.declared.command_line.Tool.{Tool}
-use Rattle.pitools.specs.declared.command_line.Tool.TheVariants.{AssembleDepex, AssembleScript, ReadPei, ReadDxe, ReadScript, Mp, Volume}
+use Rattle.pitools.specs.declared.command_line.Tool.TheVariants.{AssembleDepex, AssembleScript, ReadPei, ReadDxe, ReadScript, Mp, Volume, ReadVolume}
 use Rattle.pitools.specs.declared.status.ToolStatus.{ToolStatus}
 use Rattle.pitools.specs.declared.status.ToolStatus.TheVariants as S
 use Rattle.pitools.specs.CheckReport.{CheckReport, VerdictReport, both_read, checked, image_refused, no, plan_long, trace_long, twins, yes}
@@ -20,6 +20,7 @@ use Rattle.pitools.specs.Ends.{Answered, Ends, IsDue, NoMemory, SinkFailed, Trai
 use Rattle.pitools.specs.GcdReport.{GcdReport, command_refused, done, hobs_refused}
 use Rattle.pitools.specs.MpReport.{MpReport, ran, refused}
 use Rattle.pitools.specs.Outcome.{ContentReport, Names, Outcome, both, commands_long, content, hobs_long, long, usage, words_ask_check, words_ask_hobs, words_ask_map, words_ask_tool}
+use Rattle.pitools.specs.PrintReport.{PrintReport, printed, no_volume}
 use Rattle.pitools.specs.VolumeReport.{VolumeReport, at_fault, built}
 use Rattle.pitools.specs.TextReport.{AssemblyReport, DepexReport, ExpressionReport, ScriptReport, assembled, bad, faulty, long as long_depex, long_script, malformed, no_script, read, spelled, stands}
 
@@ -68,6 +69,10 @@ volume_tells : (text : List ℕ) → Tells (VolumeReport text)
 volume_tells text status out (built bytes p q is t) = done_tells status is
 volume_tells text status out (at_fault fault p is t) = text_tells status is
 
+print_tells : (image : List ℕ) → Tells (PrintReport image)
+print_tells image status out (printed text p is t) = done_tells status is
+print_tells image status out (no_volume fault real p is t) = other status S.ImageRefused (λ (e : S.ImageRefused ≡ S.FileFault). absurd (cc)) is
+
 content_tells : (tool : Tool) (bytes : List ℕ) → Tells (ContentReport tool bytes)
 content_tells AssembleDepex bytes = depex_tells bytes
 content_tells AssembleScript bytes = assembly_tells bytes
@@ -76,6 +81,7 @@ content_tells ReadDxe bytes = expression_tells Dxe bytes
 content_tells ReadScript bytes = script_tells bytes
 content_tells Mp bytes = mp_tells bytes
 content_tells Volume bytes = volume_tells bytes
+content_tells ReadVolume bytes = print_tells bytes
 
 map_tells : (bytes text : List ℕ) → Tells (GcdReport bytes text)
 map_tells bytes text status out (hobs_refused fault real p is t) = other status S.HobsRefused (λ (e : S.HobsRefused ≡ S.FileFault). absurd (cc)) is

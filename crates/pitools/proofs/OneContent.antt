@@ -21,7 +21,7 @@ use Rattle.mp_text.specs.declared.file.MpFile.{MpFile}
 use Rattle.mp_text.specs.FileText.{IsFirstBad, IsMpFile}
 use Rattle.mp_text.specs.OutcomeText.{bad_line, outcome_text, replies_text, cells_text, records_text}
 use Rattle.pitools.specs.declared.command_line.Tool.{Tool}
-use Rattle.pitools.specs.declared.command_line.Tool.TheVariants.{AssembleDepex, AssembleScript, ReadPei, ReadDxe, ReadScript, Mp, Volume}
+use Rattle.pitools.specs.declared.command_line.Tool.TheVariants.{AssembleDepex, AssembleScript, ReadPei, ReadDxe, ReadScript, Mp, Volume, ReadVolume}
 use Rattle.pitools.specs.MpReport.{IsOutcomeOf, MpReport, ran, refused}
 use Rattle.pitools.specs.OneOutcome.{IsOne}
 use Rattle.pitools.specs.Outcome.{ContentReport}
@@ -30,6 +30,10 @@ use Rattle.volume_text.specs.declared.fault.Fault.{Fault}
 use Rattle.volume_text.specs.declared.fault.TextFault.TheVariants.{Bad}
 use Rattle.volume_text.specs.Text.{Leads, IsRefused}
 use Rattle.pitools.specs.SourceRefusal.{source_line}
+use Rattle.fv_volume.specs.declared.fault.VolFault.{VolFault}
+use Rattle.fv_volume.specs.Volume.{IsFirstFault}
+use Rattle.volume_print.specs.Description.{IsTextOf}
+use Rattle.pitools.specs.PrintReport.{PrintReport, fault_line, printed, no_volume}
 use Rattle.pitools.specs.VolumeReport.{VolumeReport, at_fault, built}
 use Rattle.pitools.specs.TextReport.{AssemblyReport, DepexReport, ExpressionReport, ScriptReport, hex_line, bad, long, spelled, malformed, read, faulty, stands, no_script, long_script, assembled}
 
@@ -50,6 +54,9 @@ pub record Laws : Type 0 where
   pub volumes : (text a b : List ℕ) → Leads text a → Leads text b → a ≡ b
   pub volume_faults : (text : List ℕ) (a b : Fault) → IsRefused text (Bad a) → IsRefused text (Bad b) → a ≡ b
   pub volume_or_fault : (text bytes : List ℕ) (fault : Fault) → Leads text bytes → IsRefused text (Bad fault) → ⊥
+  pub volume_texts : (image a b : List ℕ) → IsTextOf image a → IsTextOf image b → a ≡ b
+  pub text_or_fault : (image text : List ℕ) (fault : VolFault) → IsTextOf image text → IsFirstFault image fault → ⊥
+  pub image_faults : (image : List ℕ) (a b : VolFault) → IsFirstFault image a → IsFirstFault image b → a ≡ b
   pub file_or_line : (text : List ℕ) (a : MpFile) (n : ℕ) → IsMpFile text a → IsFirstBad text n → ⊥
 
 abbrev opcodes : Depex → ℕ
@@ -123,6 +130,12 @@ one_volume laws text a b s t (built c p m e u) (at_fault g q f v) = absurd (laws
 one_volume laws text a b s t (at_fault g p e u) (built c q n f v) = absurd (laws.volume_or_fault text c g n p)
 one_volume laws text a b s t (at_fault g p e u) (at_fault h q f v) = (e ∙ sym f, u ∙ ap source_line (laws.volume_faults text g h p q) ∙ sym v)
 
+one_print : Laws → (image : List ℕ) → IsOne (PrintReport image)
+one_print laws image a b s t (printed c p e u) (printed d q f v) = (e ∙ sym f, u ∙ laws.volume_texts image c d p q ∙ sym v)
+one_print laws image a b s t (printed c p e u) (no_volume g real q f v) = absurd (laws.text_or_fault image c g p q)
+one_print laws image a b s t (no_volume g real p e u) (printed c q f v) = absurd (laws.text_or_fault image c g q p)
+one_print laws image a b s t (no_volume g real p e u) (no_volume h also q f v) = (e ∙ sym f, u ∙ ap fault_line (laws.image_faults image g h p q) ∙ sym v)
+
 pub one_content : Laws → (tool : Tool) (content : List ℕ) → AreBytes content → IsOne (ContentReport tool content)
 one_content laws AssembleDepex content are = one_depex laws content
 one_content laws AssembleScript content are = one_assembly laws content
@@ -131,3 +144,4 @@ one_content laws ReadDxe content are = one_expression laws Dxe content
 one_content laws ReadScript content are = one_script laws content are
 one_content laws Mp content are = one_mp laws content
 one_content laws Volume content are = one_volume laws content
+one_content laws ReadVolume content are = one_print laws content

@@ -7,7 +7,7 @@ use Rattle.pi_base.specs.Field.{AreBytes}
 use Rattle.plan_files.specs.Job.{IsNamedIn}
 use Rattle.plan_files.specs.Reading.{plan_limit}
 use Rattle.pitools.specs.declared.command_line.Tool.{Tool}
-use Rattle.pitools.specs.declared.command_line.Tool.TheVariants.{AssembleDepex, AssembleScript, ReadPei, ReadDxe, ReadScript, Mp, Volume}
+use Rattle.pitools.specs.declared.command_line.Tool.TheVariants.{AssembleDepex, AssembleScript, ReadPei, ReadDxe, ReadScript, Mp, Volume, ReadVolume}
 use Rattle.pitools.specs.declared.status.ToolStatus.{ToolStatus}
 use Rattle.pitools.specs.declared.status.ToolStatus.TheVariants as S
 use Rattle.pitools.specs.CheckReport.{CheckNames, CheckOutcome, TextsOutcome, both_read, is_plan, is_trace, is_volume, plan_long, trace_limit, trace_long}
@@ -50,11 +50,13 @@ map_or_check words hobs commands plan trace p q = let e = ap first (sym p.0 ∙ 
 map_or_tool : (words : List (List ℕ)) (hobs commands : List ℕ) (tool : Tool) (file : List ℕ) → AskForMap words hobs commands → AskForTool words tool file → ⊥
 map_or_tool words hobs commands Mp file p q = let e = ap first (sym p.0 ∙ q.0) in omega (arith, e)
 map_or_tool words hobs commands Volume file p q = let e = ap first (sym p.0 ∙ q.0) in omega (arith, e)
+map_or_tool words hobs commands ReadVolume file p q = let e = ap first (sym p.0 ∙ q.0) in omega (arith, e)
 map_or_tool words hobs commands tool file p q = let e = ap first (sym p.0 ∙ q.0) in omega (arith, e)
 
 check_or_tool : (words : List (List ℕ)) (plan trace : List ℕ) (tool : Tool) (file : List ℕ) → AskForCheck words plan trace → AskForTool words tool file → ⊥
 check_or_tool words plan trace Mp file p q = let e = ap first (sym p.0 ∙ q.0) in omega (arith, e)
 check_or_tool words plan trace Volume file p q = let e = ap first (sym p.0 ∙ q.0) in omega (arith, e)
+check_or_tool words plan trace ReadVolume file p q = let e = ap first (sym p.0 ∙ q.0) in omega (arith, e)
 check_or_tool words plan trace tool file p q = let e = ap first (sym p.0 ∙ q.0) in omega (arith, e)
 
 hobs_or_map : (words : List (List ℕ)) (plan hobs commands : List ℕ) → AskForHobs words plan → AskForMap words hobs commands → ⊥
@@ -66,12 +68,14 @@ hobs_or_check words plan other trace p q = let e = ap first (sym p.0 ∙ q.0) in
 hobs_or_tool : (words : List (List ℕ)) (plan : List ℕ) (tool : Tool) (file : List ℕ) → AskForHobs words plan → AskForTool words tool file → ⊥
 hobs_or_tool words plan Mp file p q = let e = ap first (sym p.0 ∙ q.0) in omega (arith, e)
 hobs_or_tool words plan Volume file p q = let e = ap first (sym p.0 ∙ q.0) in omega (arith, e)
+hobs_or_tool words plan ReadVolume file p q = let e = ap first (sym p.0 ∙ q.0) in omega (arith, e)
 hobs_or_tool words plan tool file p q = let e = ap first (sym p.0 ∙ q.0) in omega (arith, e)
 
 abbrev tool_in : List (List ℕ) → Tool
 tool_in words =
     if first words == 109 then Mp
     else if first words == 118 then Volume
+    else if first words == 116 then ReadVolume
     else if first words == 97 then (if first (rest words) == 100 then AssembleDepex else AssembleScript)
     else if first (rest words) == 112 then ReadPei
     else if first (rest words) == 100 then ReadDxe
@@ -80,6 +84,7 @@ tool_in words =
 tool_is : (tool : Tool) (file : List ℕ) → tool_in (tool_words tool ++ file ∷ []) ≡ tool
 tool_is Mp file = refl
 tool_is Volume file = refl
+tool_is ReadVolume file = refl
 tool_is tool file = refl
 
 one_tool : (words : List (List ℕ)) (tool other : Tool) (file name : List ℕ) → AskForTool words tool file → AskForTool words other name → other ≡ tool
@@ -89,11 +94,13 @@ one_tool words tool other file name p q = sym (tool_is other name) ∙ ap tool_i
 abbrev file_in : Tool → List (List ℕ) → List ℕ
 file_in Mp words = head (rest words)
 file_in Volume words = head (rest words)
+file_in ReadVolume words = head (rest words)
 file_in tool words = head (rest (rest words))
 
 file_is : (tool : Tool) (file : List ℕ) → file_in tool (tool_words tool ++ file ∷ []) ≡ file
 file_is Mp file = refl
 file_is Volume file = refl
+file_is ReadVolume file = refl
 file_is tool file = refl
 
 one_file : (words : List (List ℕ)) (tool : Tool) (file name : List ℕ) → AskForTool words tool file → AskForTool words tool name → name ≡ file

@@ -2,7 +2,7 @@
 -- Own.
 use Rattle.std.specs.Prelude.{◌≡◌, ◌≢◌, ℕ, List, [], ◌∷◌, ◌++◌, codes, map}
 use Rattle.pitools.specs.declared.command_line.Tool.{Tool}
-use Rattle.pitools.specs.declared.command_line.Tool.TheVariants.{AssembleDepex, AssembleScript, ReadPei, ReadDxe, ReadScript, Mp, Volume}
+use Rattle.pitools.specs.declared.command_line.Tool.TheVariants.{AssembleDepex, AssembleScript, ReadPei, ReadDxe, ReadScript, Mp, Volume, ReadVolume}
 
 -- the words that ask for a tool of one file
 abbrev pub tool_words : Tool → List (List ℕ)
@@ -13,6 +13,7 @@ tool_words ReadDxe = codes "dis" ∷ codes "dxe" ∷ []
 tool_words ReadScript = codes "dis" ∷ codes "script" ∷ []
 tool_words Mp = codes "mp" ∷ []
 tool_words Volume = codes "volume" ∷ []
+tool_words ReadVolume = codes "text" ∷ []
 
 -- the words ask for this tool with the file of this name
 abbrev pub AskForTool : List (List ℕ) → Tool → List ℕ → Type 0

@@ -11,6 +11,7 @@ pub mod HobsReport
 pub mod TextReport
 pub mod SourceRefusal
 pub mod VolumeReport
+pub mod PrintReport
 pub mod Outcome
 pub mod Ends
 pub mod OneOutcome

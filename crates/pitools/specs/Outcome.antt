@@ -3,7 +3,7 @@
 use Rattle.std.specs.Prelude.{◌≡◌, ◌⊎◌, ℕ, List, Option}
 use Rattle.pi_base.specs.declared.phase.Phase.TheVariants.{Pei, Dxe}
 use Rattle.pitools.specs.declared.command_line.Tool.{Tool}
-use Rattle.pitools.specs.declared.command_line.Tool.TheVariants.{AssembleDepex, AssembleScript, ReadPei, ReadDxe, ReadScript, Mp, Volume}
+use Rattle.pitools.specs.declared.command_line.Tool.TheVariants.{AssembleDepex, AssembleScript, ReadPei, ReadDxe, ReadScript, Mp, Volume, ReadVolume}
 use Rattle.pitools.specs.declared.status.ToolStatus.{ToolStatus}
 use Rattle.pitools.specs.declared.status.ToolStatus.TheVariants.{Usage}
 use Rattle.pitools.specs.CommandLine.{AskForCheck, AskForHobs, AskForMap, AskForNothing, AskForTool}
@@ -13,6 +13,7 @@ use Rattle.pitools.specs.CheckReport.{CheckNames, CheckOutcome}
 use Rattle.pitools.specs.HobsReport.{HobsNames, HobsOutcome}
 use Rattle.pitools.specs.GcdReport.{GcdReport}
 use Rattle.pitools.specs.MpReport.{MpReport}
+use Rattle.pitools.specs.PrintReport.{PrintReport}
 use Rattle.pitools.specs.VolumeReport.{VolumeReport}
 use Rattle.pitools.specs.TextReport.{AssemblyReport, DepexReport, ExpressionReport, ScriptReport}
 
@@ -23,7 +24,7 @@ file_limit = 0x100000
 abbrev pub commands_limit : ℕ
 commands_limit = 0x10000
 
--- how many bytes the text of a volume may have
+-- how many bytes a volume and its text may have
 abbrev pub source_limit : ℕ
 source_limit = 0x4000000
 
@@ -35,6 +36,7 @@ limit_of ReadDxe = file_limit
 limit_of ReadScript = file_limit
 limit_of Mp = commands_limit
 limit_of Volume = source_limit
+limit_of ReadVolume = source_limit
 
 -- what the content of a tool's file leads to
 abbrev pub ContentReport : Tool → List ℕ → ToolStatus → List ℕ → Type 0
@@ -45,6 +47,7 @@ ContentReport ReadDxe content = ExpressionReport Dxe content
 ContentReport ReadScript content = ScriptReport content
 ContentReport Mp content = MpReport content
 ContentReport Volume content = VolumeReport content
+ContentReport ReadVolume content = PrintReport content
 
 -- what a tool's file leads to
 pub data ToolOutcome (told : Option (List ℕ)) (tool : Tool) (file : List ℕ) (status : ToolStatus) (text : List ℕ) : Type 0 where

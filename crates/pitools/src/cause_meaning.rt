@@ -1,10 +1,10 @@
 // What the cause of a volume's text means.
 
 // The causes, and what each means for the line at fault.
-static SOURCE_WORDS: [(&str, &str); 38] = [
+static SOURCE_WORDS: [(&str, &str); 39] = [
     (
         "UnknownLine",
-        "begins no line of a volume; volume, name, file, pad, depex, script, guids, raw, section, end do",
+        "begins no line of a volume; volume, name, file, pad, depex, script, guids, raw, section, body, end do",
     ),
     ("Missing", "lacks a word"),
     ("Extra", "has a word too many"),
@@ -103,6 +103,7 @@ static SOURCE_WORDS: [(&str, &str); 38] = [
         "TwoScripts",
         "begins a second script of the phase in one file",
     ),
+    ("TwoBodies", "gives a file a body that has one, or sections beside a body"),
     ("TwoNames", "names a volume that has a name"),
     ("BehindEnd", "stands behind the end of the volume"),
     (

@@ -21,6 +21,8 @@ pub(crate) enum Tool {
     Mp,
     /// The bytes of a volume's text.
     Volume,
+    /// The text of a volume.
+    ReadVolume,
 }
 
 // The tool that makes bytes of such a text.
@@ -76,6 +78,8 @@ fn short_tool_of(verb: &str) -> Option<Tool>
         Some(Tool::Mp)
     } else if verb == "volume" {
         Some(Tool::Volume)
+    } else if verb == "text" {
+        Some(Tool::ReadVolume)
     } else {
         None
     }

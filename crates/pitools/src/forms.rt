@@ -9,6 +9,7 @@ pub(crate) const PROGRAM: Program = Program {
        pitools gcd HOBS COMMANDS      the memory space map of a HOB list
        pitools mp FILE                what the MP services answer and leave
        pitools volume TEXT            the bytes of the volume that a text describes
+       pitools text VOLUME            the text of a volume, which `volume` reads
        pitools asm depex|script FILE  the bytes of a text, in hexadecimal
        pitools dis pei|dxe|script FILE  the text of bytes
        pitools --help, -h             prints this; --version says which program it is

@@ -30,6 +30,8 @@ pub(crate) fn one_content_report()
     act_code::one_outcome();
     mp_text::one_reading();
     volume_text::one_volume();
+    volume_print::one_text();
+    fv_volume::one_reading();
 }
 
 /// The texts of a plan and of a trace lead to one report, where the files of the plan's volumes are told.

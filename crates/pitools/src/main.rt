@@ -1,4 +1,4 @@
-//! The tools beside the boot: the check of a trace with free choice, the memory space map, the MP services, expressions and scripts as text, and volumes from their texts.
+//! The tools beside the boot: the check of a trace with free choice, the memory space map, the MP services, expressions and scripts as text, volumes from their texts, and texts of volumes.
 #![tactic(auto)]
 
 mod cause_meaning;

@@ -88,6 +88,7 @@ fn source_word(cause: Cause) -> &'static [u8]
         Cause::InScript => b"InScript",
         Cause::NoPart => b"NoPart",
         Cause::TwoScripts => b"TwoScripts",
+        Cause::TwoBodies => b"TwoBodies",
         Cause::TwoNames => b"TwoNames",
         Cause::BehindEnd => b"BehindEnd",
         Cause::NoEnd => b"NoEnd",

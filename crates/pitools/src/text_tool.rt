@@ -8,7 +8,7 @@ ghost use Rattle.pitools.specs.TextReport.{AssemblyReport, DepexReport, Expressi
 use crate::command_line::Tool;
 use crate::mp_tool::mp_report;
 use crate::report::Report;
-use crate::volume_tool::volume_report;
+use crate::volume_tool::{print_report, volume_report};
 use act_code::{ActCause, WriteFault, read_script, write_script};
 use asm_text::{TextFault, parse_depex, parse_script, print_depex, print_script};
 use depex_code::{DepexFault, read_depex, write_depex};
@@ -104,5 +104,6 @@ pub(crate) fn content_report(
         Tool::ReadScript => script_report(alloc, content),
         Tool::Mp => mp_report(alloc, content),
         Tool::Volume => volume_report(alloc, content),
+        Tool::ReadVolume => print_report(alloc, content),
     }
 }

@@ -30,7 +30,7 @@ const FILE_LIMIT: usize = 0x10_0000;
 // The most bytes of a file of commands and of an MP file.
 const COMMANDS_LIMIT: usize = 0x1_0000;
 
-// The most bytes of a volume's text.
+// The most bytes of a volume, and of a volume's text.
 const SOURCE_LIMIT: usize = 0x400_0000;
 
 // The most bytes of a tool's file.
@@ -40,7 +40,7 @@ fn limit_of(tool: Tool) -> usize
 {
     match tool {
         Tool::Mp => COMMANDS_LIMIT,
-        Tool::Volume => SOURCE_LIMIT,
+        Tool::Volume | Tool::ReadVolume => SOURCE_LIMIT,
         _ => FILE_LIMIT,
     }
 }
@@ -146,7 +146,7 @@ fn run_words<F: Files, S: Sink>(
     }
 }
 
-/// Does what the words of a command line ask for: `check PLAN TRACE`, `hobs PLAN`, `gcd HOBS COMMANDS`, `mp FILE`, `volume TEXT`, `asm depex FILE`, `asm script FILE`, `dis pei FILE`,
+/// Does what the words of a command line ask for: `check PLAN TRACE`, `hobs PLAN`, `gcd HOBS COMMANDS`, `mp FILE`, `volume TEXT`, `text VOLUME`, `asm depex FILE`, `asm script FILE`, `dis pei FILE`,
 /// `dis dxe FILE` or `dis script FILE`. The files that the words name are read in their order before any is examined, those of a plan's volumes behind the plan's examination, and all is decided before anything is put.
 pub fn tools_main<F: Files, S: Sink>(
     alloc: Global,

@@ -1,11 +1,16 @@
-// Volumes from their texts.
+// Volumes from their texts, and texts of volumes.
 ghost use Rattle.std.specs.Prelude.{◌≤◌, length, IfOk};
 ghost use Rattle.pitools.specs.Ends.{Tells};
+ghost use Rattle.pitools.specs.PrintReport.{PrintReport};
 ghost use Rattle.pitools.specs.VolumeReport.{VolumeReport};
 
 use crate::report::Report;
+use catalog_model::ImageFault;
+use fv_volume::VolCause;
+use mod_catalog::volume_cause;
 use pi_base::OutOfMemory;
 use std::alloc::Global;
+use volume_print::text_of;
 use volume_text::{TextFault, volume_of};
 
 /// What the text of a volume leads to.
@@ -17,5 +22,25 @@ pub(crate) fn volume_report(alloc: Global, text: &[u8]) -> Result<Report, OutOfM
         Ok(bytes) => Ok(Report::Answer(bytes)),
         Err(TextFault::Bad(fault)) => Ok(Report::Source(fault)),
         Err(TextFault::Memory) => Err(OutOfMemory),
+    }
+}
+
+/// What the bytes of a volume lead to.
+#[tactic(auto, using(crate::proofs::Prints::tells_text, crate::proofs::Prints::tells_fault))]
+pub(crate) fn print_report(alloc: Global, bytes: &[u8]) -> Result<Report, OutOfMemory>
+    ensures { IfOk result (Tells (PrintReport bytes.now)) }
+{
+    match text_of(alloc, bytes) {
+        Ok(text) => Ok(Report::Answer(text)),
+        Err(fault) => {
+            if fault.cause == VolCause::Memory {
+                return Err(OutOfMemory);
+            }
+            Ok(Report::Image(ImageFault {
+                volume: 0,
+                at: fault.at,
+                cause: volume_cause(fault.cause),
+            }))
+        }
     }
 }

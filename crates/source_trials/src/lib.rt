@@ -1,4 +1,4 @@
-//! What a volume's text says, tried row by row: expressions as GenDepex of EDK2 spells them, the lines of actions, and whole texts with their scripts.
+//! What a volume's text says, tried row by row: expressions as GenDepex of EDK2 spells them, the lines of actions, whole texts with their scripts, and the texts that are printed of volumes.
 #![tactic(auto)]
 
 #[cfg(test)]
@@ -7,5 +7,7 @@ mod action_lines;
 mod expressions;
 #[cfg(test)]
 mod gendepex;
+#[cfg(test)]
+mod printed_volumes;
 #[cfg(test)]
 mod volume_texts;

@@ -132,6 +132,17 @@ static PADDED_FRONT: [u8; 134] = [
     248, 6, 0, 0, 25, 1, 2,
 ];
 
+/// A volume with attributes, and a file with attributes whose body is no sections.
+static MARKED_TEXT: &str = "volume 256 ffs2 attributes 0x4feff\n\
+file raw 00000001-0000-4000-8000-000000000001 fixed align 128\n\
+body 01020304 05\n\
+end\n";
+
+/// Its bytes, without the bytes 0xff at their end, by the tables of `docs/FORMATS.md`: 0x04 is `fixed`, and 0x10 an alignment of 128.
+static MARKED_FRONT: [u8; 101] = [
+    0, 0, 0, 0, 0, 0, 0, 0, 0, 0, 0, 0, 0, 0, 0, 0, 120, 229, 140, 140, 61, 138, 28, 79, 153, 53, 137, 97, 133, 195, 45, 211, 0, 1, 0, 0, 0, 0, 0, 0, 95, 70, 86, 72, 255, 254, 4, 0, 72, 0, 206, 244, 0, 0, 0, 2, 1, 0, 0, 0, 0, 1, 0, 0, 0, 0, 0, 0, 0, 0, 0, 0, 1, 0, 0, 0, 0, 0, 0, 64, 128, 0, 0, 0, 0, 0, 0, 1, 12, 170, 1, 20, 29, 0, 0, 248, 1, 2, 3, 4, 5,
+];
+
 /// `examples/audit/main.volume`.
 static AUDIT_MAIN_TEXT: &str =
     "# A main volume: drivers with each form of expression that DXE alone has, and a volume in a file.\n\
@@ -227,7 +238,7 @@ static AUDIT_MAIN_FRONT: [u8; 1254] = [
 ];
 
 /// Texts with a mistake, its line and its cause.
-static MISTAKES: [(&str, u64, Cause); 53] = [
+static MISTAKES: [(&str, u64, Cause); 61] = [
     ("", 1, Cause::NoVolume), // no line
     ("\n# nothing\n", 3, Cause::NoVolume), // comments alone
     (
@@ -417,6 +428,38 @@ static MISTAKES: [(&str, u64, Cause); 53] = [
         5,
         Cause::NoRoom { need: 149 },
     ), // too small a volume with a name
+    (
+        "volume 4096 ffs2 attributes 0x100000000\n",
+        1,
+        Cause::Range,
+    ), // attributes of 33 bits
+    ("volume 4096 ffs2 attributes\n", 1, Cause::Missing), // no attributes
+    (
+        "volume 4096\nfile raw 00000001-0000-4000-8000-000000000001 align 3\n",
+        2,
+        Cause::Range,
+    ), // no alignment of a file
+    (
+        "volume 4096\nfile raw 00000001-0000-4000-8000-000000000001 align 16 fixed\n",
+        2,
+        Cause::Extra,
+    ), // `fixed` behind the alignment
+    (
+        "volume 4096\nfile raw 00000001-0000-4000-8000-000000000001\nbody 00\nbody 00\n",
+        4,
+        Cause::TwoBodies,
+    ), // a second body
+    (
+        "volume 4096\nfile raw 00000001-0000-4000-8000-000000000001\nbody 00\nraw 00\n",
+        4,
+        Cause::TwoBodies,
+    ), // a section behind a body
+    (
+        "volume 4096\nfile raw 00000001-0000-4000-8000-000000000001\nraw 00\nbody 00\n",
+        4,
+        Cause::TwoBodies,
+    ), // a body behind a section
+    ("volume 4096\nbody 00\n", 2, Cause::NoFile), // a body before the first file
 ];
 
 // Whether bytes begin with a front, have a length, and are 0xff behind the front.
@@ -468,6 +511,11 @@ fn texts_of_the_examples_make_their_volumes(rt: HostRuntime) {
 fn names_and_pads_have_their_bytes(rt: HostRuntime) {
     assert!(rt; makes(rt.alloc(), NAMED_TEXT, 512, &NAMED_FRONT));
     assert!(rt; makes(rt.alloc(), PADDED_TEXT, 256, &PADDED_FRONT));
+}
+
+#[test]
+fn attributes_and_bodies_have_their_bytes(rt: HostRuntime) {
+    assert!(rt; makes(rt.alloc(), MARKED_TEXT, 256, &MARKED_FRONT));
 }
 
 #[test]

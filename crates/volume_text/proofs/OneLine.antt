@@ -90,6 +90,7 @@ one_by (Some keyword.Script) line others a b x y = x ∙ sym y
 one_by (Some keyword.Guids) line others a b x y = x ∙ sym y
 one_by (Some keyword.Raw) line others a b x y = x ∙ sym y
 one_by (Some keyword.Section) line others a b x y = x ∙ sym y
+one_by (Some keyword.Body) line others a b x y = x ∙ sym y
 one_by (Some keyword.Block) line others a b x y = x ∙ sym y
 one_by (Some keyword.End) line others a b x y = x ∙ sym y
 one_by None line others a b x y = x ∙ sym y
@@ -145,9 +146,10 @@ one_end below top script numbers line a b x y =
 one_in_script : (below : List OpenVolume) (top : OpenVolume) (script : Script) (numbers : List ℕ) (line : ℕ) (what : Statement) (a b : Result State Fault)
     → TakesInScript below top script numbers line what a → TakesInScript below top script numbers line what b → a ≡ b
 one_in_script below top script numbers line said.End a b x y = one_end below top script numbers line a b x y
-one_in_script below top script numbers line (said.Volume file_system len) a b x y = x ∙ sym y
+one_in_script below top script numbers line (said.Volume form len) a b x y = x ∙ sym y
 one_in_script below top script numbers line (said.Name name) a b x y = x ∙ sym y
-one_in_script below top script numbers line (said.File kind name) a b x y = x ∙ sym y
+one_in_script below top script numbers line (said.File kind name attributes) a b x y = x ∙ sym y
+one_in_script below top script numbers line (said.Body bytes) a b x y = x ∙ sym y
 one_in_script below top script numbers line (said.Pad len) a b x y = x ∙ sym y
 one_in_script below top script numbers line (said.Section kind body) a b x y = x ∙ sym y
 one_in_script below top script numbers line (said.Depex phase body) a b x y = x ∙ sym y

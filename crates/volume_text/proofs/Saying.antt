@@ -12,7 +12,7 @@ use Rattle.act_code.specs.declared.script.Script.{Script}
 use Rattle.volume_text.specs.declared.fault.Cause.{Cause}
 use Rattle.volume_text.specs.declared.fault.Cause.TheVariants as cause
 use Rattle.volume_text.specs.declared.fault.Fault.{Fault}
-use Rattle.fv_build.specs.declared.file_system.FileSystem.{FileSystem}
+use Rattle.fv_build.specs.declared.volume_header.VolumeForm.{VolumeForm}
 use Rattle.volume_text.specs.declared.statement.Statement.{Statement}
 use Rattle.volume_text.specs.declared.statement.Statement.TheVariants as said
 use Rattle.volume_text.specs.declared.volume.OpenVolume.{OpenVolume}
@@ -20,19 +20,19 @@ use Rattle.volume_text.specs.declared.step.State.{State}
 use Rattle.volume_text.specs.declared.step.State.TheVariants.{Begin, Filling, Writing, Done}
 use Rattle.volume_text.specs.Reading.{◌>>=◌, at, onward, only_if}
 use Rattle.volume_text.specs.Line.{Reads}
-use Rattle.volume_text.specs.Open.{last_of, holding, with_parts, with_files, with_last, with_section, new_file, pad_file, named_over, with_name, depex_type, has_part, has_script, only_part, part_checked, only_first, script_checked, built_of}
+use Rattle.volume_text.specs.Open.{last_of, holding, with_bytes, with_parts, with_files, with_last, with_section, new_file, pad_file, named_over, with_name, depex_type, has_part, has_script, only_part, part_checked, only_first, script_checked, built_of}
 use Rattle.volume_text.specs.Script.{script_of, into_last, action_at, IsScriptBody}
 use Rattle.volume_text.specs.Step.{section_of, new_volume, begun, filling, nested_in, closed_in, filled, written, goes_on, TakesInScript, Takes, TakesRead}
-use Rattle.volume_text.specs.Volume.{SaysLine, SayBlocks, no_block, block, action, SayFiles, no_file, named, padded, file, section, depex, script, volume, SaysVolume}
+use Rattle.volume_text.specs.Volume.{SaysLine, SayBlocks, no_block, block, action, SayFiles, no_file, named, padded, file, bodied, section, depex, script, volume, SaysVolume}
 use Rattle.volume_text.specs.Text.{numbered, Goes, Says}
 use Rattle.volume_text.proofs.Lasts.{last_push, last_is}
 
 -- volumes that are open behind lines, the innermost apart
 data Opened : List (List ℕ) → List OpenVolume → OpenVolume → Type 0 where
   outer : (line : List ℕ) (inner : List (List ℕ)) (top : OpenVolume)
-      → SaysLine line (said.Volume top.file_system top.len) → SayFiles inner top.name top.files → Opened (line ∷ inner) [] top
+      → SaysLine line (said.Volume top.form top.len) → SayFiles inner top.name top.files → Opened (line ∷ inner) [] top
   nested : (front : List (List ℕ)) (below : List OpenVolume) (parent : OpenVolume) (line : List ℕ) (inner : List (List ℕ)) (top : OpenVolume)
-      → Opened front below parent → SaysLine line (said.Volume top.file_system top.len) → SayFiles inner top.name top.files
+      → Opened front below parent → SaysLine line (said.Volume top.form top.len) → SayFiles inner top.name top.files
       → Opened (front ++ line ∷ inner) (below ++ parent ∷ []) top
 
 record WritesIn (lines : List (List ℕ)) (below : List OpenVolume) (top : OpenVolume) (one : Script) : Type 0 where
@@ -79,23 +79,35 @@ opened_more lines below top more called files (nested front under parent line in
     subst (λ (ls : List (List ℕ)). Opened ls (under ++ parent ∷ []) (with_parts top called files)) (sym (append_assoc front (line ∷ inner) more))
     (nested front under parent line (inner ++ more) (with_parts top called files) opened begins (on inner say))
 
--- a section more
-held : (top next : OpenVolume) (one : NewSection) (o : Option (List NewFile × NewFile)) → last_of top.files ≡ o → with_last top one o ≡ Ok next
-    → (files : List NewFile) × (last : NewFile) × (top.files ≡ files ++ last ∷ []) × (with_files top (files ++ holding one last ∷ []) ≡ next)
-held top next one None is e = absurd cc
-held top next one (Some parts) is e = (parts.0, parts.1, last_is top.files parts is, same_Ok _ next e)
+-- the last file changed
+held : (top next : OpenVolume) (changed : NewFile → Result NewFile Cause) (o : Option (List NewFile × NewFile)) → last_of top.files ≡ o → with_last top changed o ≡ Ok next
+    → (files : List NewFile) × (last : NewFile) × (new : NewFile) × (top.files ≡ files ++ last ∷ []) × (changed last ≡ Ok new) × (with_files top (files ++ new ∷ []) ≡ next)
+held top next changed None is e = absurd cc
+held top next changed (Some parts) is e =
+    let new = bound (changed parts.1) (λ last. Ok (with_files top (parts.0 ++ last ∷ []))) next e in
+    (parts.0, parts.1, new.0, last_is top.files parts is, new.1, same_Ok (with_files top (parts.0 ++ new.0 ∷ [])) next new.2)
 
-filled_more : (lines more : List (List ℕ)) (below : List OpenVolume) (top : OpenVolume) (one : NewSection) (to : State) → Opened lines below top → filling below top one ≡ Ok to
-    → ((inner : List (List ℕ)) (files : List NewFile) (last : NewFile) → top.files ≡ files ++ last ∷ [] → SayFiles inner top.name (files ++ last ∷ []) → SayFiles (inner ++ more) top.name (files ++ holding one last ∷ []))
+changed_more : (lines more : List (List ℕ)) (below : List OpenVolume) (top : OpenVolume) (changed : NewFile → Result NewFile Cause) (to : State) → Opened lines below top
+    → (with_last top changed (last_of top.files) >>= (λ next. Ok (Filling below next))) ≡ Ok to
+    → ((inner : List (List ℕ)) (files : List NewFile) (last new : NewFile) → top.files ≡ files ++ last ∷ [] → changed last ≡ Ok new → SayFiles inner top.name (files ++ last ∷ [])
+    → SayFiles (inner ++ more) top.name (files ++ new ∷ []))
     → Stands (lines ++ more) to
-filled_more lines more below top one to opened e on =
-    let with_it = bound (with_section top one) (λ next. Ok (Filling below next)) to e in
-    let parts = held top with_it.0 one (last_of top.files) refl with_it.1 in
-    let files = parts.0 ++ holding one parts.1 ∷ [] in
+changed_more lines more below top changed to opened e on =
+    let with_it = bound (with_last top changed (last_of top.files)) (λ next. Ok (Filling below next)) to e in
+    let parts = held top with_it.0 changed (last_of top.files) refl with_it.1 in
+    let files = parts.0 ++ parts.2 ∷ [] in
     let told : Opened (lines ++ more) below (with_files top files) =
-    opened_more lines below top more top.name files opened (λ inner say. on inner parts.0 parts.1 parts.2 (subst (λ (fs : List NewFile). SayFiles inner top.name fs) parts.2 say)) in
-    let there : Opened (lines ++ more) below with_it.0 = subst (λ (v : OpenVolume). Opened (lines ++ more) below v) parts.3 told in
+    opened_more lines below top more top.name files opened
+    (λ inner say. on inner parts.0 parts.1 parts.2 parts.3 parts.4 (subst (λ (fs : List NewFile). SayFiles inner top.name fs) parts.3 say)) in
+    let there : Opened (lines ++ more) below with_it.0 = subst (λ (v : OpenVolume). Opened (lines ++ more) below v) parts.5 told in
     subst (λ (s : State). Stands (lines ++ more) s) (same_Ok (Filling below with_it.0) to with_it.2) there
+
+-- a section more
+filled_more : (lines more : List (List ℕ)) (below : List OpenVolume) (top : OpenVolume) (one : NewSection) (to : State) → Opened lines below top → filling below top one ≡ Ok to
+    → ((inner : List (List ℕ)) (files : List NewFile) (last new : NewFile) → top.files ≡ files ++ last ∷ [] → holding one last ≡ Ok new → SayFiles inner top.name (files ++ last ∷ [])
+    → SayFiles (inner ++ more) top.name (files ++ new ∷ []))
+    → Stands (lines ++ more) to
+filled_more lines more below top one to opened e on = changed_more lines more below top (holding one) to opened e on
 
 -- what was looked at in the last file
 has_it : (top : OpenVolume) (files : List NewFile) (last : NewFile) (phase : Phase) (x : Unit {0}) → top.files ≡ files ++ last ∷ [] → part_checked phase top ≡ Ok x → has_part last.kind phase ≡ true
@@ -118,7 +130,7 @@ ends lines below top line bytes to (nested front under parent own inner _ opened
     let found = ap (closed_in bytes) (sym (last_push under parent)) ∙ e in
     subst (λ (ls : List (List ℕ)). Stands ls to) (sym (append_assoc front (own ∷ inner) (line ∷ [])))
     (filled_more front (own ∷ (inner ++ line ∷ [])) under parent (section_of VOLUME_IMAGE bytes) to opened found
-    (λ before files last is told. volume before parent.name files last own inner top line bytes told begins say end built))
+    (λ before files last new is holds told. volume before parent.name files last new own inner top line bytes told begins say end built holds))
 
 -- a volume that has no name yet gets one
 named_then : (top : OpenVolume) (name : Guid) (next : OpenVolume) (o : Option Guid) → top.name ≡ o → named_over top name o ≡ Ok next
@@ -126,16 +138,16 @@ named_then : (top : OpenVolume) (name : Guid) (next : OpenVolume) (o : Option Gu
 named_then top name next None is e = (is, same_Ok (with_parts top (Some name) top.files) next e)
 named_then top name next (Some other) is e = absurd cc
 
-begins_nested : (files : List NewFile) (lines : List (List ℕ)) (below : List OpenVolume) (top : OpenVolume) (line : List ℕ) (file_system : FileSystem) (len : ℕ) (to : State)
-    → Opened lines below top → SaysLine line (said.Volume file_system len) → nested_in files below top file_system len ≡ Ok to → Stands (lines ++ line ∷ []) to
-begins_nested [] lines below top line file_system len to opened says e = absurd cc
-begins_nested (one ∷ files) lines below top line file_system len to opened says e =
-    subst (λ (s : State). Stands (lines ++ line ∷ []) s) (same_Ok (Filling (below ++ top ∷ []) (new_volume file_system len)) to e)
-    (nested lines below top line [] (new_volume file_system len) opened says no_file)
+begins_nested : (files : List NewFile) (lines : List (List ℕ)) (below : List OpenVolume) (top : OpenVolume) (line : List ℕ) (form : VolumeForm) (len : ℕ) (to : State)
+    → Opened lines below top → SaysLine line (said.Volume form len) → nested_in files below top form len ≡ Ok to → Stands (lines ++ line ∷ []) to
+begins_nested [] lines below top line form len to opened says e = absurd cc
+begins_nested (one ∷ files) lines below top line form len to opened says e =
+    subst (λ (s : State). Stands (lines ++ line ∷ []) s) (same_Ok (Filling (below ++ top ∷ []) (new_volume form len)) to e)
+    (nested lines below top line [] (new_volume form len) opened says no_file)
 
 in_volume : (lines : List (List ℕ)) (below : List OpenVolume) (top : OpenVolume) (line : List ℕ) (one : Statement) (to : State) → Opened lines below top → SaysLine line one
     → filled below top one ≡ Ok to → Stands (lines ++ line ∷ []) to
-in_volume lines below top line (said.Volume file_system len) to opened says e = begins_nested top.files lines below top line file_system len to opened says e
+in_volume lines below top line (said.Volume form len) to opened says e = begins_nested top.files lines below top line form len to opened says e
 in_volume lines below top line (said.Name name) to opened says e =
     let parts = bound (with_name top name) (λ next. Ok (Filling below next)) to e in
     let is = named_then top name parts.0 top.name refl parts.1 in
@@ -146,15 +158,17 @@ in_volume lines below top line (said.Name name) to opened says e =
 in_volume lines below top line (said.Pad len) to opened says e =
     subst (λ (s : State). Stands (lines ++ line ∷ []) s) (same_Ok (Filling below (with_files top (top.files ++ pad_file len ∷ []))) to e)
     (opened_more lines below top (line ∷ []) top.name (top.files ++ pad_file len ∷ []) opened (λ inner say. padded inner top.name top.files line len say says))
-in_volume lines below top line (said.File kind name) to opened says e =
-    subst (λ (s : State). Stands (lines ++ line ∷ []) s) (same_Ok (Filling below (with_files top (top.files ++ new_file kind name ∷ []))) to e)
-    (opened_more lines below top (line ∷ []) top.name (top.files ++ new_file kind name ∷ []) opened (λ inner say. file inner top.name top.files line kind name say says))
+in_volume lines below top line (said.File kind name attributes) to opened says e =
+    subst (λ (s : State). Stands (lines ++ line ∷ []) s) (same_Ok (Filling below (with_files top (top.files ++ new_file kind name attributes ∷ []))) to e)
+    (opened_more lines below top (line ∷ []) top.name (top.files ++ new_file kind name attributes ∷ []) opened (λ inner say. file inner top.name top.files line kind name attributes say says))
+in_volume lines below top line (said.Body body) to opened says e =
+    changed_more lines (line ∷ []) below top (with_bytes body) to opened e (λ inner files last new is holds say. bodied inner top.name files last new line body say says holds)
 in_volume lines below top line (said.Section kind body) to opened says e =
-    filled_more lines (line ∷ []) below top (section_of kind body) to opened e (λ inner files last is say. section inner top.name files last line kind body say says)
+    filled_more lines (line ∷ []) below top (section_of kind body) to opened e (λ inner files last new is holds say. section inner top.name files last new line kind body say says holds)
 in_volume lines below top line (said.Depex phase body) to opened says e =
     let parts = bound (part_checked phase top) (λ _. filling below top (section_of (depex_type phase) body)) to e in
     filled_more lines (line ∷ []) below top (section_of (depex_type phase) body) to opened parts.2
-    (λ inner files last is say. depex inner top.name files last line phase body say says (has_it top files last phase parts.0 is parts.1))
+    (λ inner files last new is holds say. depex inner top.name files last new line phase body say says (has_it top files last phase parts.0 is parts.1) holds)
 in_volume lines below top line (said.Script phase) to opened says e =
     let parts = bound (script_checked phase top) (λ _. Ok (Writing below top (script_of phase []) [])) to e in
     subst (λ (s : State). Stands (lines ++ line ∷ []) s) (same_Ok (Writing below top (script_of phase []) []) to parts.2)
@@ -195,10 +209,11 @@ wrote lines below top one next line said.Block w says e =
     subst (λ (s : Script). WritesIn (lines ++ line ∷ []) below top s) (same_Ok (script_of one.phase (one.blocks ++ [] ∷ [])) next e)
     (writes_more lines below top one line (one.blocks ++ [] ∷ []) w (λ inner say. block inner one.blocks line say says))
 wrote lines below top one next line (said.Action text) w says e = acts lines below top one next line text (last_of one.blocks) refl w says e
-wrote lines below top one next line (said.Volume file_system len) w says e = absurd cc
+wrote lines below top one next line (said.Volume form len) w says e = absurd cc
 wrote lines below top one next line (said.Name name) w says e = absurd cc
 wrote lines below top one next line (said.Pad len) w says e = absurd cc
-wrote lines below top one next line (said.File kind name) w says e = absurd cc
+wrote lines below top one next line (said.Body bytes) w says e = absurd cc
+wrote lines below top one next line (said.File kind name attributes) w says e = absurd cc
 wrote lines below top one next line (said.Section kind body) w says e = absurd cc
 wrote lines below top one next line (said.Depex phase body) w says e = absurd cc
 wrote lines below top one next line (said.Script phase) w says e = absurd cc
@@ -218,30 +233,32 @@ ended lines below top one numbers number line to (Ok bytes) w says is e =
     let all = ap (λ ls. ls ++ line ∷ []) w.here ∙ append_assoc w.front (w.line ∷ w.inner) (line ∷ []) in
     subst (λ (ls : List (List ℕ)). Stands ls to) (sym all)
     (filled_more w.front (w.line ∷ (w.inner ++ line ∷ [])) below top (section_of RAW bytes) to w.opened (at_ok number _ to e)
-    (λ before files last held say. script before top.name files last w.line one.phase w.inner one.blocks line bytes say w.begins
-    (has_it top files last one.phase parts.0 held parts.1) (first_script top files last one.phase tt held parts.2) w.blocks says is.1))
+    (λ before files last new held holds say. script before top.name files last new w.line one.phase w.inner one.blocks line bytes say w.begins
+    (has_it top files last one.phase parts.0 held parts.1) (first_script top files last one.phase tt held parts.2) w.blocks says is.1 holds))
 
 in_script : (lines : List (List ℕ)) (below : List OpenVolume) (top : OpenVolume) (one : Script) (numbers : List ℕ) (number : ℕ) (line : List ℕ) (what : Statement) (to : State) → WritesIn lines below top one → SaysLine line what
     → TakesInScript below top one numbers number what (Ok to) → Stands (lines ++ line ∷ []) to
 in_script lines below top one numbers number line said.End to w says t = ended lines below top one numbers number line to t.0 w says t.1 t.2
 in_script lines below top one numbers number line said.Block to w says t = went_on lines below top one numbers number line said.Block to w says t
 in_script lines below top one numbers number line (said.Action text) to w says t = went_on lines below top one numbers number line (said.Action text) to w says t
-in_script lines below top one numbers number line (said.Volume file_system len) to w says t = went_on lines below top one numbers number line (said.Volume file_system len) to w says t
+in_script lines below top one numbers number line (said.Volume form len) to w says t = went_on lines below top one numbers number line (said.Volume form len) to w says t
 in_script lines below top one numbers number line (said.Name name) to w says t = went_on lines below top one numbers number line (said.Name name) to w says t
 in_script lines below top one numbers number line (said.Pad len) to w says t = went_on lines below top one numbers number line (said.Pad len) to w says t
-in_script lines below top one numbers number line (said.File kind name) to w says t = went_on lines below top one numbers number line (said.File kind name) to w says t
+in_script lines below top one numbers number line (said.Body bytes) to w says t = went_on lines below top one numbers number line (said.Body bytes) to w says t
+in_script lines below top one numbers number line (said.File kind name attributes) to w says t = went_on lines below top one numbers number line (said.File kind name attributes) to w says t
 in_script lines below top one numbers number line (said.Section kind body) to w says t = went_on lines below top one numbers number line (said.Section kind body) to w says t
 in_script lines below top one numbers number line (said.Depex phase body) to w says t = went_on lines below top one numbers number line (said.Depex phase body) to w says t
 in_script lines below top one numbers number line (said.Script phase) to w says t = went_on lines below top one numbers number line (said.Script phase) to w says t
 
 -- the first line
 first : (lines : List (List ℕ)) (line : List ℕ) (what : Statement) (to : State) → lines ≡ [] → SaysLine line what → begun what ≡ Ok to → Stands (lines ++ line ∷ []) to
-first lines line (said.Volume file_system len) to none says e =
+first lines line (said.Volume form len) to none says e =
     subst (λ (ls : List (List ℕ)). Stands (ls ++ line ∷ []) to) (sym none)
-    (subst (λ (s : State). Stands (line ∷ []) s) (same_Ok (Filling [] (new_volume file_system len)) to e) (outer line [] (new_volume file_system len) says no_file))
+    (subst (λ (s : State). Stands (line ∷ []) s) (same_Ok (Filling [] (new_volume form len)) to e) (outer line [] (new_volume form len) says no_file))
 first lines line (said.Name name) to none says e = absurd cc
 first lines line (said.Pad len) to none says e = absurd cc
-first lines line (said.File kind name) to none says e = absurd cc
+first lines line (said.Body bytes) to none says e = absurd cc
+first lines line (said.File kind name attributes) to none says e = absurd cc
 first lines line (said.Section kind body) to none says e = absurd cc
 first lines line (said.Depex phase body) to none says e = absurd cc
 first lines line (said.Script phase) to none says e = absurd cc

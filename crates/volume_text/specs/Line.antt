@@ -18,7 +18,7 @@ use Rattle.volume_text.specs.declared.statement.Statement.{Statement}
 use Rattle.volume_text.specs.declared.statement.Statement.TheVariants as statement
 use Rattle.volume_text.specs.Keywords.{keyword_of}
 use Rattle.volume_text.specs.Reading.{◌>>=◌}
-use Rattle.volume_text.specs.Words.{none_left, guid_at, phase_at, length_at, pad_length_at, system_at, file_type_at, section_type_at}
+use Rattle.volume_text.specs.Words.{none_left, guid_at, phase_at, length_at, pad_length_at, system_at, attributes_at, chosen_at, file_type_at, section_type_at}
 use Rattle.volume_text.specs.Bytes.{bytes_of, guids_of}
 
 -- each of these is of the words behind the first
@@ -26,7 +26,8 @@ unfoldable pub volume_at : List (List ℕ) → Result Statement Cause
 volume_at others = do
   len ← length_at others
   system ← system_at len.1
-  Ok (statement.Volume system len.0)
+  attributes ← attributes_at system.1
+  Ok (statement.Volume (record { file_system = system.0; attributes = attributes }) len.0)
 
 unfoldable pub name_at : List (List ℕ) → Result Statement Cause
 name_at others = do
@@ -44,8 +45,8 @@ unfoldable pub file_at : List (List ℕ) → Result Statement Cause
 file_at others = do
   kind ← file_type_at others
   name ← guid_at kind.1
-  _ ← none_left name.1
-  Ok (statement.File kind.0 name.0)
+  attributes ← chosen_at name.1
+  Ok (statement.File kind.0 name.0 attributes)
 
 unfoldable pub script_at : List (List ℕ) → Result Statement Cause
 script_at others = do
@@ -64,6 +65,9 @@ section_at others = do
   kind ← section_type_at others
   body ← bytes_of kind.1
   Ok (statement.Section kind.0 body)
+
+unfoldable pub body_at : List (List ℕ) → Result Statement Cause
+body_at others = bytes_of others >>= (λ bytes. Ok (statement.Body bytes))
 
 abbrev pub alone : Statement → List (List ℕ) → Result Statement Cause
 alone said others = none_left others >>= (λ _. Ok said)
@@ -103,6 +107,7 @@ ReadsBy (Some keyword.Script) line others read = read ≡ script_at others
 ReadsBy (Some keyword.Guids) line others read = read ≡ guids_at others
 ReadsBy (Some keyword.Raw) line others read = read ≡ raw_at others
 ReadsBy (Some keyword.Section) line others read = read ≡ section_at others
+ReadsBy (Some keyword.Body) line others read = read ≡ body_at others
 ReadsBy (Some keyword.Block) line others read = read ≡ alone statement.Block others
 ReadsBy (Some keyword.End) line others read = read ≡ alone statement.End others
 ReadsBy None line others read = read ≡ Ok (statement.Action line)

@@ -1,5 +1,5 @@
 -- What is open behind some lines of a text (own): a volume with its files so far, of which the last may get sections.
-use Rattle.std.specs.Prelude.{◌≡◌, ℕ, ◌-◌, Bool, ◌&&◌, ◌==◌, not, nat_lt, replicate, take, bytes_eq, if◌then◌else◌, List, [], ◌∷◌, ◌++◌, Option, Some, None, Result, Ok, Err}
+use Rattle.std.specs.Prelude.{◌≡◌, ℕ, ◌-◌, ◌^◌, Bool, false, ◌&&◌, ◌==◌, not, nat_lt, replicate, take, bytes_eq, if◌then◌else◌, List, [], ◌∷◌, ◌++◌, length, Option, Some, None, Result, Ok, Err}
 use Rattle.std.specs.List.{list_any}
 use Rattle.std.specs.Borrow.{Bor}
 use Rattle.pi_base.specs.declared.guid.Guid.{Guid}
@@ -9,6 +9,10 @@ use Rattle.fv_volume.specs.declared.file_type.TheConstants.{PEIM, DRIVER, COMBIN
 use Rattle.fv_section.specs.declared.section_type.TheConstants.{RAW, PEI_DEPEX, DXE_DEPEX}
 use Rattle.fv_build.specs.declared.new_file.NewFile.{NewFile}
 use Rattle.fv_build.specs.declared.new_file.NewSection.{NewSection}
+use Rattle.fv_build.specs.declared.new_file.Body.{Body}
+use Rattle.fv_build.specs.declared.new_file.Body.TheVariants.{Sections, Bytes}
+use Rattle.fv_build.specs.declared.attributes.FileAttributes.{FileAttributes}
+use Rattle.fv_build.specs.Attributes.{plain_attributes}
 use Rattle.fv_build.specs.declared.fault.BuildFault.{BuildFault}
 use Rattle.fv_build.specs.declared.fault.BuildFault.TheVariants as build_fault
 use Rattle.fv_named.specs.Named.{volume_bytes, volume_fault}
@@ -31,35 +35,57 @@ abbrev pub last_of : {A : Type 0} → List A → Option (List A × A)
 last_of [] = None
 last_of (first ∷ others) = with_first first (last_of others)
 
--- the file with one more section
-abbrev pub holding : NewSection → NewFile → NewFile
-holding section file = record { name = file.name; kind = file.kind; sections = file.sections ++ section ∷ [] }
+-- the file with another body
+abbrev pub with_body : NewFile → Body → NewFile
+with_body file body = record { name = file.name; kind = file.kind; attributes = file.attributes; body = body }
+
+abbrev pub held_in : NewSection → NewFile → Body → Result NewFile Cause
+held_in section file (Sections sections) = Ok (with_body file (Sections (sections ++ section ∷ [])))
+held_in section file (Bytes bytes) = Err cause.TwoBodies
+
+-- the file with one more section, unless its body is bytes
+abbrev pub holding : NewSection → NewFile → Result NewFile Cause
+holding section file = held_in section file file.body
+
+-- a body has nothing yet
+abbrev pub is_empty : Body → Bool
+is_empty (Sections sections) = length sections == 0
+is_empty (Bytes bytes) = false
+
+-- the file with these bytes as its body, unless it has sections or bytes
+abbrev pub with_bytes : List ℕ → NewFile → Result NewFile Cause
+with_bytes bytes file = only_if (is_empty file.body) cause.TwoBodies (with_body file (Bytes bytes))
 
 -- the volume with another name and other files
 abbrev pub with_parts : OpenVolume → Option Guid → List NewFile → OpenVolume
-with_parts volume name files = record { file_system = volume.file_system; len = volume.len; name = name; files = files }
+with_parts volume name files = record { form = volume.form; len = volume.len; name = name; files = files }
 
 abbrev pub with_files : OpenVolume → List NewFile → OpenVolume
 with_files volume files = with_parts volume volume.name files
 
-abbrev pub with_last : OpenVolume → NewSection → Option (List NewFile × NewFile) → Result OpenVolume Cause
-with_last volume section None = Err cause.NoFile
-with_last volume section (Some parts) = Ok (with_files volume (parts.0 ++ holding section parts.1 ∷ []))
+-- the volume with its last file changed
+abbrev pub with_last : OpenVolume → (NewFile → Result NewFile Cause) → Option (List NewFile × NewFile) → Result OpenVolume Cause
+with_last volume changed None = Err cause.NoFile
+with_last volume changed (Some parts) = changed parts.1 >>= (λ last. Ok (with_files volume (parts.0 ++ last ∷ [])))
 
 -- the volume with one more section in its last file
 abbrev pub with_section : OpenVolume → NewSection → Result OpenVolume Cause
-with_section volume section = with_last volume section (last_of volume.files)
+with_section volume section = with_last volume (holding section) (last_of volume.files)
 
-abbrev pub new_file : ℕ → Guid → NewFile
-new_file kind name = record { name = name; kind = kind; sections = [] }
+-- the volume with these bytes as its last file's body
+abbrev pub with_last_body : OpenVolume → List ℕ → Result OpenVolume Cause
+with_last_body volume bytes = with_last volume (with_bytes bytes) (last_of volume.files)
+
+abbrev pub new_file : ℕ → Guid → FileAttributes → NewFile
+new_file kind name attributes = record { name = name; kind = kind; attributes = attributes; body = Sections [] }
 
 -- the volume with one more file
 abbrev pub with_new_file : OpenVolume → NewFile → OpenVolume
 with_new_file volume file = with_files volume (volume.files ++ file ∷ [])
 
 -- the volume with one more file, which has no section yet
-abbrev pub with_file : OpenVolume → ℕ → Guid → OpenVolume
-with_file volume kind name = with_new_file volume (new_file kind name)
+abbrev pub with_file : OpenVolume → ℕ → Guid → FileAttributes → OpenVolume
+with_file volume kind name attributes = with_new_file volume (new_file kind name attributes)
 
 -- the body of a pad file: a section that looks erased but for its size, or nothing
 abbrev pub pad_sections : ℕ → List NewSection
@@ -67,7 +93,7 @@ pad_sections len = if nat_lt 0 len then record { kind = ERASED; body = replicate
 
 -- a pad file with a body of so many bytes
 abbrev pub pad_file : ℕ → NewFile
-pad_file len = record { name = record { 0 = replicate 16 ERASED }; kind = PAD; sections = pad_sections len }
+pad_file len = record { name = record { 0 = replicate 16 ERASED }; kind = PAD; attributes = plain_attributes; body = Sections (pad_sections len) }
 
 abbrev pub with_pad : OpenVolume → ℕ → OpenVolume
 with_pad volume len = with_new_file volume (pad_file len)
@@ -102,8 +128,12 @@ script_front phase = 80 ∷ (73 ∷ (65 ∷ (83 ∷ (1 ∷ (phase_byte phase ∷
 abbrev pub is_script_of : Phase → NewSection → Bool
 is_script_of phase section = (section.kind == RAW) && bytes_eq (take 6 section.body) (script_front phase)
 
+abbrev pub is_script_in : Phase → Body → Bool
+is_script_in phase (Sections sections) = list_any (is_script_of phase) sections
+is_script_in phase (Bytes bytes) = false
+
 abbrev pub has_script : Phase → NewFile → Bool
-has_script phase file = list_any (is_script_of phase) file.sections
+has_script phase file = is_script_in phase file.body
 
 -- the last of the files, where there is one
 abbrev pub IsLastFile : Option (Bor NewFile) → List NewFile → Type 0
@@ -140,12 +170,16 @@ stop_of (build_fault.NoRoom need have) = stop.Fault (cause.NoRoom need)
 stop_of build_fault.Memory = stop.Memory
 
 abbrev pub refused_by : OpenVolume → Option BuildFault → Result (List ℕ) Cause
-refused_by volume None = Ok (volume_bytes volume.file_system volume.name volume.files volume.len)
+refused_by volume None = Ok (volume_bytes volume.form volume.name volume.files volume.len)
 refused_by volume (Some build_fault.TooMany) = Err cause.TooMany
 refused_by volume (Some build_fault.Size) = Err cause.Size
 refused_by volume (Some (build_fault.NoRoom need have)) = Err (cause.NoRoom need)
-refused_by volume (Some build_fault.Memory) = Ok (volume_bytes volume.file_system volume.name volume.files volume.len)
+refused_by volume (Some build_fault.Memory) = Ok (volume_bytes volume.form volume.name volume.files volume.len)
+
+-- its length and its attributes are in their ranges
+abbrev pub is_in_range : OpenVolume → Bool
+is_in_range volume = is_length volume.len && nat_lt volume.form.attributes (2 ^ 32)
 
 -- the bytes of a volume at its `end`
 abbrev pub built_of : OpenVolume → Result (List ℕ) Cause
-built_of volume = if is_length volume.len then refused_by volume (volume_fault volume.file_system volume.name volume.files volume.len) else Err cause.Range
+built_of volume = if is_in_range volume then refused_by volume (volume_fault volume.form.file_system volume.name volume.files volume.len) else Err cause.Range

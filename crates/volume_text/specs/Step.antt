@@ -13,7 +13,7 @@ use Rattle.volume_text.specs.declared.fault.Stop.{Stop}
 use Rattle.volume_text.specs.declared.fault.Stop.TheVariants as stop
 use Rattle.volume_text.specs.declared.fault.TextFault.{TextFault}
 use Rattle.volume_text.specs.declared.fault.TextFault.TheVariants as text_fault
-use Rattle.fv_build.specs.declared.file_system.FileSystem.{FileSystem}
+use Rattle.fv_build.specs.declared.volume_header.VolumeForm.{VolumeForm}
 use Rattle.volume_text.specs.declared.statement.Statement.{Statement}
 use Rattle.volume_text.specs.declared.statement.Statement.TheVariants as statement
 use Rattle.volume_text.specs.declared.volume.OpenVolume.{OpenVolume}
@@ -21,7 +21,7 @@ use Rattle.volume_text.specs.declared.step.State.{State}
 use Rattle.volume_text.specs.declared.step.State.TheVariants.{Begin, Filling, Writing, Done}
 use Rattle.volume_text.specs.Reading.{◌>>=◌, at, onward}
 use Rattle.volume_text.specs.Line.{Reads}
-use Rattle.volume_text.specs.Open.{last_of, with_section, with_file, with_pad, with_name, depex_type, part_checked, script_checked, built_of}
+use Rattle.volume_text.specs.Open.{last_of, with_section, with_last_body, with_file, with_pad, with_name, depex_type, part_checked, script_checked, built_of}
 use Rattle.volume_text.specs.Script.{script_of, with_block, with_action, IsScriptBody}
 
 -- the actions of the script that is open are such as lines say
@@ -32,12 +32,12 @@ IsSaidState _ = ⊤
 abbrev pub section_of : ℕ → List ℕ → NewSection
 section_of kind body = record { kind = kind; body = body }
 
-abbrev pub new_volume : FileSystem → ℕ → OpenVolume
-new_volume file_system len = record { file_system = file_system; len = len; name = None; files = [] }
+abbrev pub new_volume : VolumeForm → ℕ → OpenVolume
+new_volume form len = record { form = form; len = len; name = None; files = [] }
 
 -- the first line is a volume's
 abbrev pub begun : Statement → Result State Cause
-begun (statement.Volume file_system len) = Ok (Filling [] (new_volume file_system len))
+begun (statement.Volume form len) = Ok (Filling [] (new_volume form len))
 begun _ = Err cause.NoVolume
 
 -- a section more in the last file
@@ -45,12 +45,12 @@ abbrev pub filling : List OpenVolume → OpenVolume → NewSection → Result St
 filling below top section = with_section top section >>= (λ top. Ok (Filling below top))
 
 -- a volume in the last file
-abbrev pub nested_in : List NewFile → List OpenVolume → OpenVolume → FileSystem → ℕ → Result State Cause
-nested_in [] below top file_system len = Err cause.NoFile
-nested_in (file ∷ files) below top file_system len = Ok (Filling (below ++ top ∷ []) (new_volume file_system len))
+abbrev pub nested_in : List NewFile → List OpenVolume → OpenVolume → VolumeForm → ℕ → Result State Cause
+nested_in [] below top form len = Err cause.NoFile
+nested_in (file ∷ files) below top form len = Ok (Filling (below ++ top ∷ []) (new_volume form len))
 
-abbrev pub nested : List OpenVolume → OpenVolume → FileSystem → ℕ → Result State Cause
-nested below top file_system len = nested_in top.files below top file_system len
+abbrev pub nested : List OpenVolume → OpenVolume → VolumeForm → ℕ → Result State Cause
+nested below top form len = nested_in top.files below top form len
 
 abbrev pub with_depex : List OpenVolume → OpenVolume → Phase → List ℕ → Result State Cause
 with_depex below top phase body = part_checked phase top >>= (λ _. filling below top (section_of (depex_type phase) body))
@@ -71,10 +71,11 @@ closed below top = built_of top >>= (λ bytes. closed_in bytes (last_volume belo
 
 -- a statement more in a volume
 abbrev pub filled : List OpenVolume → OpenVolume → Statement → Result State Cause
-filled below top (statement.Volume file_system len) = nested below top file_system len
+filled below top (statement.Volume form len) = nested below top form len
 filled below top (statement.Name name) = with_name top name >>= (λ top. Ok (Filling below top))
 filled below top (statement.Pad len) = Ok (Filling below (with_pad top len))
-filled below top (statement.File kind name) = Ok (Filling below (with_file top kind name))
+filled below top (statement.File kind name attributes) = Ok (Filling below (with_file top kind name attributes))
+filled below top (statement.Body bytes) = with_last_body top bytes >>= (λ top. Ok (Filling below top))
 filled below top (statement.Section kind body) = filling below top (section_of kind body)
 filled below top (statement.Depex phase body) = with_depex below top phase body
 filled below top (statement.Script phase) = with_script below top phase

@@ -4,13 +4,14 @@ use Rattle.pi_base.specs.declared.guid.Guid.{Guid}
 use Rattle.pi_base.specs.declared.phase.Phase.{Phase}
 use Rattle.fv_section.specs.declared.section_type.TheConstants.{RAW, VOLUME_IMAGE}
 use Rattle.fv_build.specs.declared.new_file.NewFile.{NewFile}
+use Rattle.fv_build.specs.declared.attributes.FileAttributes.{FileAttributes}
 use Rattle.act_code.specs.declared.action.Action.{Action}
 use Rattle.act_code.specs.Script.{IsScript}
 use Rattle.volume_text.specs.declared.statement.Statement.{Statement}
-use Rattle.volume_text.specs.declared.statement.Statement.TheVariants.{Volume, Name, File, Pad, Section, Depex, Script, Block, End, Action as ActionLine}
+use Rattle.volume_text.specs.declared.statement.Statement.TheVariants.{Volume, Name, File, Pad, Body, Section, Depex, Script, Block, End, Action as ActionLine}
 use Rattle.volume_text.specs.declared.volume.OpenVolume.{OpenVolume}
 use Rattle.volume_text.specs.Line.{Reads}
-use Rattle.volume_text.specs.Open.{holding, new_file, pad_file, depex_type, has_part, has_script, built_of}
+use Rattle.volume_text.specs.Open.{holding, with_bytes, new_file, pad_file, depex_type, has_part, has_script, built_of}
 use Rattle.volume_text.specs.Script.{action_at, script_of}
 use Rattle.volume_text.specs.Step.{section_of}
 
@@ -37,24 +38,30 @@ pub data SayFiles : List (List ℕ) → Option Guid → List NewFile → Type 0 
   padded : (lines : List (List ℕ)) (called : Option Guid) (files : List NewFile) (line : List ℕ) (len : ℕ)
       → SayFiles lines called files → SaysLine line (Pad len)
       → SayFiles (lines ++ line ∷ []) called (files ++ pad_file len ∷ [])
-  file : (lines : List (List ℕ)) (called : Option Guid) (files : List NewFile) (line : List ℕ) (kind : ℕ) (name : Guid)
-      → SayFiles lines called files → SaysLine line (File kind name)
-      → SayFiles (lines ++ line ∷ []) called (files ++ new_file kind name ∷ [])
-  section : (lines : List (List ℕ)) (called : Option Guid) (files : List NewFile) (last : NewFile) (line : List ℕ) (kind : ℕ) (body : List ℕ)
-      → SayFiles lines called (files ++ last ∷ []) → SaysLine line (Section kind body)
-      → SayFiles (lines ++ line ∷ []) called (files ++ holding (section_of kind body) last ∷ [])
-  depex : (lines : List (List ℕ)) (called : Option Guid) (files : List NewFile) (last : NewFile) (line : List ℕ) (phase : Phase) (body : List ℕ)
+  file : (lines : List (List ℕ)) (called : Option Guid) (files : List NewFile) (line : List ℕ) (kind : ℕ) (name : Guid) (attributes : FileAttributes)
+      → SayFiles lines called files → SaysLine line (File kind name attributes)
+      → SayFiles (lines ++ line ∷ []) called (files ++ new_file kind name attributes ∷ [])
+  bodied : (lines : List (List ℕ)) (called : Option Guid) (files : List NewFile) (last next : NewFile) (line body : List ℕ)
+      → SayFiles lines called (files ++ last ∷ []) → SaysLine line (Body body) → with_bytes body last ≡ Ok next
+      → SayFiles (lines ++ line ∷ []) called (files ++ next ∷ [])
+  section : (lines : List (List ℕ)) (called : Option Guid) (files : List NewFile) (last next : NewFile) (line : List ℕ) (kind : ℕ) (body : List ℕ)
+      → SayFiles lines called (files ++ last ∷ []) → SaysLine line (Section kind body) → holding (section_of kind body) last ≡ Ok next
+      → SayFiles (lines ++ line ∷ []) called (files ++ next ∷ [])
+  depex : (lines : List (List ℕ)) (called : Option Guid) (files : List NewFile) (last next : NewFile) (line : List ℕ) (phase : Phase) (body : List ℕ)
       → SayFiles lines called (files ++ last ∷ []) → SaysLine line (Depex phase body) → has_part last.kind phase ≡ true
-      → SayFiles (lines ++ line ∷ []) called (files ++ holding (section_of (depex_type phase) body) last ∷ [])
-  script : (lines : List (List ℕ)) (called : Option Guid) (files : List NewFile) (last : NewFile) (line : List ℕ) (phase : Phase)
+      → holding (section_of (depex_type phase) body) last ≡ Ok next
+      → SayFiles (lines ++ line ∷ []) called (files ++ next ∷ [])
+  script : (lines : List (List ℕ)) (called : Option Guid) (files : List NewFile) (last next : NewFile) (line : List ℕ) (phase : Phase)
       (inner : List (List ℕ)) (blocks : List (List Action)) (end body : List ℕ)
       → SayFiles lines called (files ++ last ∷ []) → SaysLine line (Script phase) → has_part last.kind phase ≡ true → has_script phase last ≡ false
       → SayBlocks phase inner blocks → SaysLine end End → IsScript body (script_of phase blocks)
-      → SayFiles (lines ++ line ∷ (inner ++ end ∷ [])) called (files ++ holding (section_of RAW body) last ∷ [])
-  volume : (lines : List (List ℕ)) (called : Option Guid) (files : List NewFile) (last : NewFile) (line : List ℕ) (inner : List (List ℕ)) (one : OpenVolume) (end body : List ℕ)
-      → SayFiles lines called (files ++ last ∷ []) → SaysLine line (Volume one.file_system one.len)
+      → holding (section_of RAW body) last ≡ Ok next
+      → SayFiles (lines ++ line ∷ (inner ++ end ∷ [])) called (files ++ next ∷ [])
+  volume : (lines : List (List ℕ)) (called : Option Guid) (files : List NewFile) (last next : NewFile) (line : List ℕ) (inner : List (List ℕ)) (one : OpenVolume) (end body : List ℕ)
+      → SayFiles lines called (files ++ last ∷ []) → SaysLine line (Volume one.form one.len)
       → SayFiles inner one.name one.files → SaysLine end End → built_of one ≡ Ok body
-      → SayFiles (lines ++ line ∷ (inner ++ end ∷ [])) called (files ++ holding (section_of VOLUME_IMAGE body) last ∷ [])
+      → holding (section_of VOLUME_IMAGE body) last ≡ Ok next
+      → SayFiles (lines ++ line ∷ (inner ++ end ∷ [])) called (files ++ next ∷ [])
 
 -- the lines, which are a volume's own, those of its files and its `end`, say the volume of these bytes
 pub record SaysVolume (lines : List (List ℕ)) (bytes : List ℕ) : Type 0 where
@@ -63,7 +70,7 @@ pub record SaysVolume (lines : List (List ℕ)) (bytes : List ℕ) : Type 0 wher
   pub end : List ℕ
   pub volume : OpenVolume
   pub here : lines ≡ line ∷ (inner ++ end ∷ [])
-  pub begins : SaysLine line (Volume volume.file_system volume.len)
+  pub begins : SaysLine line (Volume volume.form volume.len)
   pub files : SayFiles inner volume.name volume.files
   pub ends : SaysLine end End
   pub built : built_of volume ≡ Ok bytes

@@ -1,7 +1,11 @@
 -- The words of a line, each as the value that it shows, and the words behind it (own).
-use Rattle.std.specs.Prelude.{ℕ, Bool, nat_le, ◌==◌, ◌||◌, ◌&&◌, List, [], ◌∷◌, Result, Ok, Err}
+use Rattle.std.specs.Prelude.{ℕ, ◌^◌, Bool, true, false, nat_le, nat_lt, bytes_eq, codes, if◌then◌else◌, ◌==◌, ◌||◌, ◌&&◌, List, [], ◌∷◌, Result, Ok, Err}
 use Rattle.pi_base.specs.declared.guid.Guid.{Guid}
 use Rattle.pi_base.specs.declared.phase.Phase.{Phase}
+use Rattle.fv_build.specs.declared.attributes.Alignment.{Alignment}
+use Rattle.fv_build.specs.declared.attributes.Alignment.TheVariants.{Byte}
+use Rattle.fv_build.specs.declared.attributes.FileAttributes.{FileAttributes}
+use Rattle.fv_build.specs.Attributes.{alignment_of}
 use Rattle.fv_build.specs.declared.volume_header.TheConstants.{HEADER_LEN}
 use Rattle.fv_build.specs.declared.build.TheConstants.{MOST_LEN}
 use Rattle.line_words.specs.Number.{number_of}
@@ -55,13 +59,47 @@ pad_length_at words = do
   len ← there cause.Number (number_of w.0)
   only_if (is_pad_length len) cause.Range (len, w.1)
 
--- the file system that the last word names, FFS2 where there is none
-unfoldable pub system_at : List (List ℕ) → Result FileSystem Cause
-system_at [] = Ok Ffs2
-system_at (word ∷ words) = do
-  system ← there cause.Word (system_of word)
-  _ ← none_left words
-  Ok system
+-- the file system that the first word names, FFS2 where there is none
+unfoldable pub system_at : List (List ℕ) → Result (FileSystem × List (List ℕ)) Cause
+system_at [] = Ok (Ffs2, [])
+system_at (word ∷ words) = there cause.Word (system_of word) >>= (λ system. Ok (system, words))
+
+-- a number of 32 bits, and no more
+unfoldable pub last_number : List (List ℕ) → Result ℕ Cause
+last_number words = do
+  w ← word_at words
+  n ← there cause.Number (number_of w.0)
+  fits ← only_if (nat_lt n (2 ^ 32)) cause.Range n
+  _ ← none_left w.1
+  Ok fits
+
+-- the attributes of a volume behind the word `attributes`, and none where it is not there
+unfoldable pub attributes_at : List (List ℕ) → Result ℕ Cause
+attributes_at [] = Ok 0
+attributes_at (word ∷ words) = if bytes_eq word (codes "attributes") then last_number words else Err cause.Extra
+
+-- whether the word `fixed` stands first, and the words behind it
+unfoldable pub fixed_at : List (List ℕ) → Bool × List (List ℕ)
+fixed_at [] = (false, [])
+fixed_at (word ∷ words) = if bytes_eq word (codes "fixed") then (true, words) else (false, word ∷ words)
+
+-- an alignment by its number of bytes, and no more
+unfoldable pub last_alignment : List (List ℕ) → Result Alignment Cause
+last_alignment words = do
+  w ← word_at words
+  n ← there cause.Number (number_of w.0)
+  alignment ← there cause.Range (alignment_of n)
+  _ ← none_left w.1
+  Ok alignment
+
+-- the alignment behind the word `align`, and a byte where it is not there
+unfoldable pub alignment_at : List (List ℕ) → Result Alignment Cause
+alignment_at [] = Ok Byte
+alignment_at (word ∷ words) = if bytes_eq word (codes "align") then last_alignment words else Err cause.Extra
+
+-- the attributes of a file: `fixed`, and `align` with a number, or one of them or none
+unfoldable pub chosen_at : List (List ℕ) → Result FileAttributes Cause
+chosen_at words = alignment_at (fixed_at words).1 >>= (λ alignment. Ok (record { fixed = (fixed_at words).0; alignment = alignment }))
 
 unfoldable pub file_type_at : List (List ℕ) → Result (ℕ × List (List ℕ)) Cause
 file_type_at words = do

@@ -26,7 +26,8 @@ pub enum Cause {
     /// A word is no number below 2^64.
     #[error("Number")]
     Number,
-    /// The length of a volume is below that of its header or above 64 MiB, or that of a pad file's body is none of a section in FFS2.
+    /// The length of a volume is below that of its header or above 64 MiB, or that of a pad file's body is none of a section in FFS2, or attributes are
+    /// no number of 32 bits, or no file is aligned to such a number.
     #[error("Range")]
     Range,
     /// A word is neither a GUID nor a name of one.
@@ -71,6 +72,9 @@ pub enum Cause {
     /// The file has a script of the phase already.
     #[error("TwoScripts")]
     TwoScripts,
+    /// The file has a body or sections already, and cannot have both, nor two bodies.
+    #[error("TwoBodies")]
+    TwoBodies,
     /// The volume has a name already.
     #[error("TwoNames")]
     TwoNames,

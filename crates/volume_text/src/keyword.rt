@@ -21,6 +21,7 @@ pub(crate) enum Keyword {
     Guids,
     Raw,
     Section,
+    Body,
     Block,
     End,
 }
@@ -48,6 +49,8 @@ pub(crate) fn keyword_of(word: &[u8]) -> Option<Keyword>
         Some(Keyword::Raw)
     } else if word == b"section".as_slice() {
         Some(Keyword::Section)
+    } else if word == b"body".as_slice() {
+        Some(Keyword::Body)
     } else if word == b"block".as_slice() {
         Some(Keyword::Block)
     } else if word == b"end".as_slice() {

@@ -19,3 +19,4 @@ pub use fault::{Cause, Fault, TextFault};
 pub use law::{again, one_volume};
 pub use statement::Statement;
 pub use text::volume_of;
+pub use volume::{has_part, is_script};

@@ -2,29 +2,35 @@
 ghost use Rattle.std.specs.Prelude.{◌≡◌, Ok};
 ghost use Rattle.source_words.specs.Words.{words};
 ghost use Rattle.volume_text.specs.Reading.{Gives, Meets};
-ghost use Rattle.volume_text.specs.Line.{volume_at, name_at, file_at, pad_at, script_at, guids_at, raw_at, section_at, alone, Reads, ReadsBy, ReadsDepex, ReadsExpression, IsBody};
+ghost use Rattle.volume_text.specs.Line.{volume_at, name_at, file_at, pad_at, script_at, guids_at, raw_at, section_at, body_at, alone, Reads, ReadsBy, ReadsDepex, ReadsExpression, IsBody};
 
 use crate::bytes::{bytes, guids};
 use crate::fault::{Cause, Stop};
 use crate::keyword::{Keyword, keyword_of};
 use crate::statement::Statement;
 use crate::word::{
-    file_type, guid, length, none_left, pad_length, phase, section_type, system, word,
+    attributes, chosen, file_type, guid, length, none_left, pad_length, phase, section_type, system, word,
 };
 use depex_code::write_depex;
 use depex_words::{ExpressionFault, read_expression};
+use fv_build::VolumeForm;
 use fv_section::section_type::RAW;
 use pi_base::{OutOfMemory, Phase, Seq};
 use std::alloc::Global;
 
-// `volume LENGTH`, `volume LENGTH ffs3`, behind the first word, as in all that follow.
+// `volume LENGTH`, `volume LENGTH ffs3`, `volume LENGTH ffs3 attributes NUMBER`, behind the first word, as in all that follow.
 #[tactic(auto, unfolding(crate::specs::Line::volume_at))]
 fn volume(text: &[u8]) -> Result<Statement, Stop>
     ensures { Gives (λ x. x) result (volume_at (words text.now)) }
 {
     let (len, rest) = length(text)?;
-    let file_system = system(rest)?;
-    Ok(Statement::Volume { file_system, len })
+    let (file_system, rest) = system(rest)?;
+    let attributes = attributes(rest)?;
+    let form = VolumeForm {
+        file_system,
+        attributes,
+    };
+    Ok(Statement::Volume { form, len })
 }
 
 // `name GUID`.
@@ -47,15 +53,19 @@ fn pad(text: &[u8]) -> Result<Statement, Stop>
     Ok(Statement::Pad { len })
 }
 
-// `file TYPE GUID`.
+// `file TYPE GUID`, `file TYPE GUID fixed align NUMBER`.
 #[tactic(auto, unfolding(crate::specs::Line::file_at))]
 fn file(text: &[u8]) -> Result<Statement, Stop>
     ensures { Gives (λ x. x) result (file_at (words text.now)) }
 {
     let (kind, rest) = file_type(text)?;
     let (name, rest) = guid(rest)?;
-    none_left(rest)?;
-    Ok(Statement::File { kind, name })
+    let attributes = chosen(rest)?;
+    Ok(Statement::File {
+        kind,
+        name,
+        attributes,
+    })
 }
 
 // The bytes of the expression that words say.
@@ -120,6 +130,15 @@ fn section(alloc: Global, text: &[u8]) -> Result<Statement, Stop>
     Ok(Statement::Section { kind, body })
 }
 
+// `body HEX`.
+#[tactic(auto, unfolding(crate::specs::Line::body_at))]
+fn body(alloc: Global, text: &[u8]) -> Result<Statement, Stop>
+    ensures { Gives (λ x. x) result (body_at (words text.now)) }
+{
+    let bytes = bytes(alloc, text)?;
+    Ok(Statement::Body { bytes })
+}
+
 // `block`.
 fn block(text: &[u8]) -> Result<Statement, Stop>
     ensures { Gives (λ x. x) result (alone Statement.Block (words text.now)) }
@@ -164,6 +183,7 @@ fn by_keyword(
         Some(Keyword::Guids) => guid_section(alloc, rest),
         Some(Keyword::Raw) => raw_section(alloc, rest),
         Some(Keyword::Section) => section(alloc, rest),
+        Some(Keyword::Body) => body(alloc, rest),
         Some(Keyword::Block) => block(rest),
         Some(Keyword::End) => end(rest),
         None => action(alloc, line),

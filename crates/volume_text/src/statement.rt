@@ -1,18 +1,24 @@
 // What a line says.
-use fv_build::FileSystem;
+use fv_build::{FileAttributes, VolumeForm};
 use pi_base::{Guid, Phase, Seq};
 
 /// What a line says.
 #[derive(Drop)]
 pub enum Statement {
-    /// A volume of this length begins.
-    Volume { file_system: FileSystem, len: u64 },
+    /// A volume of this form and length begins.
+    Volume { form: VolumeForm, len: u64 },
     /// The volume has this name.
     Name { name: Guid },
     /// A file begins.
-    File { kind: u8, name: Guid },
+    File {
+        kind: u8,
+        name: Guid,
+        attributes: FileAttributes,
+    },
     /// A pad file with a body of so many bytes.
     Pad { len: u64 },
+    /// The file's body, which is no sections.
+    Body { bytes: Seq<u8> },
     /// A section of the file.
     Section { kind: u8, body: Seq<u8> },
     /// The file's expression for a phase, as its bytes.

@@ -9,11 +9,11 @@ use crate::line::read_line;
 use crate::script::{script_body, with_action, with_block};
 use crate::statement::Statement;
 use crate::volume::{
-    OpenVolume, built_of, depex_type, part_checked, script_checked, with_file, with_name, with_pad,
+    OpenVolume, built_of, depex_type, part_checked, script_checked, with_file, with_last_body, with_name, with_pad,
     with_section,
 };
 use act_code::Script;
-use fv_build::{FileSystem, NewSection};
+use fv_build::{NewSection, VolumeForm};
 use fv_section::section_type::{RAW, VOLUME_IMAGE};
 use pi_base::{Phase, Seq};
 use std::alloc::Global;
@@ -46,10 +46,10 @@ fn begun(alloc: Global, statement: &Statement) -> Result<State, Stop>
     ensures { Gives (λ x. x) result (begun statement.now) }
 {
     match statement {
-        Statement::Volume { file_system, len } => Ok(State::Filling {
+        Statement::Volume { form, len } => Ok(State::Filling {
             below: Seq::new(alloc),
             top: OpenVolume {
-                file_system: *file_system,
+                form: *form,
                 len: *len,
                 name: None,
                 files: Seq::new(alloc),
@@ -72,10 +72,10 @@ fn nested(
     alloc: Global,
     mut below: Seq<OpenVolume>,
     top: OpenVolume,
-    file_system: FileSystem,
+    form: VolumeForm,
     len: u64,
 ) -> Result<State, Stop>
-    ensures { Gives (λ x. x) result (nested below top file_system len) }
+    ensures { Gives (λ x. x) result (nested below top form len) }
 {
     if top.files.is_empty() {
         return Err(Stop::Fault(Cause::NoFile));
@@ -84,7 +84,7 @@ fn nested(
     Ok(State::Filling {
         below,
         top: OpenVolume {
-            file_system,
+            form,
             len,
             name: None,
             files: Seq::new(alloc),
@@ -167,7 +167,7 @@ fn filled(
     ensures said { IfOk result IsSaidState }
 {
     match statement {
-        Statement::Volume { file_system, len } => nested(alloc, below, top, file_system, len),
+        Statement::Volume { form, len } => nested(alloc, below, top, form, len),
         Statement::Name { name } => {
             let top = with_name(top, name)?;
             Ok(State::Filling { below, top })
@@ -176,8 +176,16 @@ fn filled(
             let top = with_pad(alloc, top, len)?;
             Ok(State::Filling { below, top })
         }
-        Statement::File { kind, name } => {
-            let top = with_file(alloc, top, kind, name)?;
+        Statement::File {
+            kind,
+            name,
+            attributes,
+        } => {
+            let top = with_file(alloc, top, kind, name, attributes)?;
+            Ok(State::Filling { below, top })
+        }
+        Statement::Body { bytes } => {
+            let top = with_last_body(top, bytes)?;
             Ok(State::Filling { below, top })
         }
         Statement::Section { kind, body } => filling(below, top, NewSection { kind, body }),

@@ -1,11 +1,12 @@
 // What is open behind some lines of a text: volumes, one in a file of the other, and in the last file of the innermost maybe a script.
-ghost use Rattle.std.specs.Prelude.{◌≡◌, Ok, IfOk, replicate, take};
-ghost use Rattle.volume_text.specs.Reading.{Gives};
-ghost use Rattle.volume_text.specs.Open.{last_of, holding, with_section, with_new_file, with_file, pad_sections, with_pad, with_name, depex_type, has_part, script_front, is_script_of, has_script, IsLastFile, only_with_part, only_without_script, part_checked, only_first, script_checked, stop_of, built_of};
+ghost use Rattle.std.specs.Prelude.{◌≡◌, ◌<◌, ◌^◌, Ok, IfOk, replicate, take};
+ghost use Rattle.std.specs.List.{list_any};
+ghost use Rattle.volume_text.specs.Reading.{Gives, only_if};
+ghost use Rattle.volume_text.specs.Open.{last_of, holding, is_empty, with_bytes, with_section, with_last_body, with_new_file, with_file, pad_sections, with_pad, with_name, depex_type, has_part, script_front, is_script_of, has_script, IsLastFile, only_with_part, only_without_script, part_checked, only_first, script_checked, stop_of, built_of};
 
 use crate::fault::{Cause, Stop};
 use crate::word::{SECTION_HEADER_LEN, is_length};
-use fv_build::{BuildFault, FileSystem, NewFile, NewSection};
+use fv_build::{Body, BuildFault, FileAttributes, NewFile, NewSection, VolumeForm};
 use fv_named::build;
 use fv_section::section_type::{DXE_DEPEX, PEI_DEPEX, RAW};
 use fv_volume::file_type::{COMBINED_MM_DXE, DRIVER, PAD, PEIM};
@@ -18,8 +19,8 @@ const ERASED: u8 = 0xff;
 /// A volume whose `end` has not come yet.
 #[derive(Drop)]
 pub struct OpenVolume {
-    /// Its file system.
-    pub file_system: FileSystem,
+    /// Its file system and its attributes.
+    pub form: VolumeForm,
     /// Its length.
     pub len: u64,
     /// Its name, if a line has told one.
@@ -38,20 +39,48 @@ fn last_of(mut files: Seq<NewFile>) -> Option<(Seq<NewFile>, NewFile)>
     }
 }
 
-// A file with one more section.
+// A file with one more section, unless its body is bytes.
 fn holding(file: NewFile, section: NewSection) -> Result<NewFile, Stop>
-    ensures { Gives (λ x. x) result (Ok (holding section file)) }
+    ensures { Gives (λ x. x) result (holding section file) }
 {
     let NewFile {
         name,
         kind,
-        mut sections,
+        attributes,
+        body,
     } = file;
+    let Body::Sections(mut sections) = body else {
+        return Err(Stop::Fault(Cause::TwoBodies));
+    };
     sections.push(section)?;
     Ok(NewFile {
         name,
         kind,
-        sections,
+        attributes,
+        body: Body::Sections(sections),
+    })
+}
+
+// That a body has nothing yet.
+fn only_empty(body: &Body) -> Result<(), Stop>
+    ensures { Gives (λ x. x) result (only_if (is_empty body.now) Cause.TwoBodies tt) }
+{
+    match body {
+        Body::Sections(sections) if sections.is_empty() => Ok(()),
+        _ => Err(Stop::Fault(Cause::TwoBodies)),
+    }
+}
+
+// A file with these bytes as its body, unless it has sections or bytes.
+fn with_bytes(file: NewFile, bytes: Seq<u8>) -> Result<NewFile, Stop>
+    ensures { Gives (λ x. x) result (with_bytes bytes file) }
+{
+    only_empty(&file.body)?;
+    Ok(NewFile {
+        name: file.name,
+        kind: file.kind,
+        attributes: file.attributes,
+        body: Body::Bytes(bytes),
     })
 }
 
@@ -60,7 +89,7 @@ pub(crate) fn with_section(volume: OpenVolume, section: NewSection) -> Result<Op
     ensures { Gives (λ x. x) result (with_section volume section) }
 {
     let OpenVolume {
-        file_system,
+        form,
         len,
         name,
         files,
@@ -71,7 +100,30 @@ pub(crate) fn with_section(volume: OpenVolume, section: NewSection) -> Result<Op
     let last = holding(last, section)?;
     files.push(last)?;
     Ok(OpenVolume {
-        file_system,
+        form,
+        len,
+        name,
+        files,
+    })
+}
+
+/// The volume with these bytes as the body of its last file.
+pub(crate) fn with_last_body(volume: OpenVolume, bytes: Seq<u8>) -> Result<OpenVolume, Stop>
+    ensures { Gives (λ x. x) result (with_last_body volume bytes) }
+{
+    let OpenVolume {
+        form,
+        len,
+        name,
+        files,
+    } = volume;
+    let Some((mut files, last)) = last_of(files) else {
+        return Err(Stop::Fault(Cause::NoFile));
+    };
+    let last = with_bytes(last, bytes)?;
+    files.push(last)?;
+    Ok(OpenVolume {
+        form,
         len,
         name,
         files,
@@ -83,14 +135,14 @@ fn with_new_file(volume: OpenVolume, file: NewFile) -> Result<OpenVolume, Stop>
     ensures { Gives (λ x. x) result (Ok (with_new_file volume file)) }
 {
     let OpenVolume {
-        file_system,
+        form,
         len,
         name,
         mut files,
     } = volume;
     files.push(file)?;
     Ok(OpenVolume {
-        file_system,
+        form,
         len,
         name,
         files,
@@ -103,15 +155,17 @@ pub(crate) fn with_file(
     volume: OpenVolume,
     kind: u8,
     name: Guid,
+    attributes: FileAttributes,
 ) -> Result<OpenVolume, Stop>
-    ensures { Gives (λ x. x) result (Ok (with_file volume kind name)) }
+    ensures { Gives (λ x. x) result (Ok (with_file volume kind name attributes)) }
 {
     with_new_file(
         volume,
         NewFile {
             name,
             kind,
-            sections: Seq::new(alloc),
+            attributes,
+            body: Body::Sections(Seq::new(alloc)),
         },
     )
 }
@@ -151,7 +205,8 @@ pub(crate) fn with_pad(alloc: Global, volume: OpenVolume, len: u64) -> Result<Op
         NewFile {
             name: Guid([ERASED; 16]),
             kind: PAD,
-            sections,
+            attributes: FileAttributes::new(),
+            body: Body::Sections(sections),
         },
     )
 }
@@ -179,8 +234,8 @@ pub(crate) fn depex_type(phase: Phase) -> u8
     }
 }
 
-// Whether a file of a type has a part for a phase.
-fn has_part(kind: u8, phase: Phase) -> bool
+/// Whether a file of a type has a part for a phase: an expression and a script.
+pub fn has_part(kind: u8, phase: Phase) -> bool
     ensures { result ≡ has_part kind phase }
 {
     match phase {
@@ -210,21 +265,35 @@ fn script_front(phase: Phase) -> [u8; 6]
     }
 }
 
+/// Whether a section of this type and with this body is told as a script of a phase, by its first bytes.
+pub fn is_script(kind: u8, body: &[u8], phase: Phase) -> bool
+    ensures { result ≡ is_script_of phase (record { kind = kind; body = body.now }) }
+{
+    kind == RAW && front_of(body) == script_front(phase).as_slice()
+}
+
 // Whether a section is a script of a phase.
 fn is_script_of(section: &NewSection, phase: Phase) -> bool
     ensures { result ≡ is_script_of phase section.now }
 {
-    section.kind == RAW && front_of(section.body.as_slice()) == script_front(phase).as_slice()
+    is_script(section.kind, section.body.as_slice(), phase)
+}
+
+// Whether one of the sections is a script of a phase.
+fn is_one_script(sections: &[NewSection], phase: Phase) -> bool
+    ensures { result ≡ list_any (is_script_of phase) sections.now }
+{
+    sections.iter().any(|section| is_script_of(section, phase))
 }
 
 // Whether a file has a script of a phase.
 fn has_script(file: &NewFile, phase: Phase) -> bool
     ensures { result ≡ has_script phase file.now }
 {
-    file.sections
-        .as_slice()
-        .iter()
-        .any(|section| is_script_of(section, phase))
+    match &file.body {
+        Body::Sections(sections) => is_one_script(sections.as_slice(), phase),
+        Body::Bytes(_) => false,
+    }
 }
 
 // The last of the files.
@@ -299,17 +368,25 @@ fn stop_of(fault: BuildFault) -> Stop
     }
 }
 
+// The law of a number of 32 bits.
+fn fits(attributes: u32)
+    ensures { attributes < 2 ^ 32 }
+{
+    let _attributes = attributes;
+}
+
 /// The bytes of a volume at its `end`.
-#[tactic(auto, using(crate::proofs::Building::built_there, crate::proofs::Building::refused_there))]
+#[tactic(auto, using(crate::proofs::Building::built_there, crate::proofs::Building::refused_there, crate::proofs::Building::out_of_range))]
 pub(crate) fn built_of(alloc: Global, volume: &OpenVolume) -> Result<Seq<u8>, Stop>
     ensures { Gives (λ x. x) result (built_of volume.now) }
 {
+    fits(volume.form.attributes);
     if !is_length(volume.len) {
         return Err(Stop::Fault(Cause::Range));
     }
     match build(
         alloc,
-        volume.file_system,
+        &volume.form,
         volume.name,
         volume.files.as_slice(),
         volume.len,

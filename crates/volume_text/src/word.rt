@@ -2,11 +2,11 @@
 ghost use Rattle.std.specs.Prelude.{◌≡◌};
 ghost use Rattle.source_words.specs.Words.{words};
 ghost use Rattle.volume_text.specs.Reading.{Gives};
-ghost use Rattle.volume_text.specs.Words.{word_at, none_left, guid_at, phase_at, is_length, length_at, is_pad_length, pad_length_at, system_at, file_type_at, section_type_at};
+ghost use Rattle.volume_text.specs.Words.{word_at, none_left, guid_at, phase_at, is_length, length_at, is_pad_length, pad_length_at, system_at, last_number, attributes_at, fixed_at, last_alignment, alignment_at, chosen_at, file_type_at, section_type_at};
 
 use crate::fault::{Cause, Stop};
 use crate::keyword::{byte_of, file_type_of, phase_of, system_of};
-use fv_build::{FileSystem, HEADER_LEN, MOST_LEN};
+use fv_build::{Alignment, FileAttributes, FileSystem, HEADER_LEN, MOST_LEN};
 use line_words::number_of;
 use pi_base::{Guid, Phase};
 use source_words::{guid_of, next_word};
@@ -16,6 +16,9 @@ pub(crate) const SECTION_HEADER_LEN: u64 = 4;
 
 /// The longest body of a file in FFS2.
 const MOST_PAD: u64 = 0xff_ffe6;
+
+/// How many numbers 32 bits can tell.
+const NUMBERS_OF_32_BITS: u64 = 0x1_0000_0000;
 
 /// The first word, and what follows it.
 pub(crate) fn word(text: &[u8]) -> Result<(&[u8], &[u8]), Stop>
@@ -107,21 +110,107 @@ pub(crate) fn pad_length(text: &[u8]) -> Result<(u64, &[u8]), Stop>
     }
 }
 
-/// The file system that the last word names, FFS2 where there is none.
+/// The file system that the first word names, FFS2 where there is none, and what follows it.
 #[tactic(auto, unfolding(crate::specs::Words::system_at))]
-pub(crate) fn system(text: &[u8]) -> Result<FileSystem, Stop>
-    ensures { Gives (λ x. x) result (system_at (words text.now)) }
+pub(crate) fn system(text: &[u8]) -> Result<(FileSystem, &[u8]), Stop>
+    ensures { Gives (λ x. (x.0, words x.1.now)) result (system_at (words text.now)) }
 {
     let Some((word, rest)) = next_word(text) else {
-        return Ok(FileSystem::Ffs2);
+        return Ok((FileSystem::Ffs2, text));
     };
     match system_of(word) {
-        Some(system) => {
-            none_left(rest)?;
-            Ok(system)
-        }
+        Some(system) => Ok((system, rest)),
         None => Err(Stop::Fault(Cause::Word)),
     }
+}
+
+// A number of 32 bits, and no more.
+#[tactic(auto, unfolding(crate::specs::Words::last_number))]
+fn last_number(text: &[u8]) -> Result<u32, Stop>
+    ensures { Gives (λ x. x) result (last_number (words text.now)) }
+{
+    let (word, rest) = word(text)?;
+    let Some(n) = number_of(word) else {
+        return Err(Stop::Fault(Cause::Number));
+    };
+    if n >= NUMBERS_OF_32_BITS {
+        return Err(Stop::Fault(Cause::Range));
+    }
+    none_left(rest)?;
+    Ok(n as u32)
+}
+
+/// The attributes of a volume behind the word `attributes`, and none where it is not there.
+#[tactic(auto, unfolding(crate::specs::Words::attributes_at))]
+pub(crate) fn attributes(text: &[u8]) -> Result<u32, Stop>
+    ensures { Gives (λ x. x) result (attributes_at (words text.now)) }
+{
+    let Some((word, rest)) = next_word(text) else {
+        return Ok(0);
+    };
+    if word == b"attributes".as_slice() {
+        last_number(rest)
+    } else {
+        Err(Stop::Fault(Cause::Extra))
+    }
+}
+
+// Whether the word `fixed` stands first, and what follows it.
+#[tactic(auto, unfolding(crate::specs::Words::fixed_at))]
+fn fixed(text: &[u8]) -> (bool, &[u8])
+    ensures { (result.0, words result.1.now) ≡ fixed_at (words text.now) }
+{
+    match next_word(text) {
+        None => (false, text),
+        Some((word, rest)) => {
+            if word == b"fixed".as_slice() {
+                (true, rest)
+            } else {
+                (false, text)
+            }
+        }
+    }
+}
+
+// An alignment by its number of bytes, and no more.
+#[tactic(auto, unfolding(crate::specs::Words::last_alignment))]
+fn last_alignment(text: &[u8]) -> Result<Alignment, Stop>
+    ensures { Gives (λ x. x) result (last_alignment (words text.now)) }
+{
+    let (word, rest) = word(text)?;
+    let Some(n) = number_of(word) else {
+        return Err(Stop::Fault(Cause::Number));
+    };
+    let Some(alignment) = Alignment::of_len(n) else {
+        return Err(Stop::Fault(Cause::Range));
+    };
+    none_left(rest)?;
+    Ok(alignment)
+}
+
+// The alignment behind the word `align`, and a byte where it is not there.
+#[tactic(auto, unfolding(crate::specs::Words::alignment_at))]
+fn alignment(text: &[u8]) -> Result<Alignment, Stop>
+    ensures { Gives (λ x. x) result (alignment_at (words text.now)) }
+{
+    let Some((word, rest)) = next_word(text) else {
+        return Ok(Alignment::Byte);
+    };
+    if word == b"align".as_slice() {
+        last_alignment(rest)
+    } else {
+        Err(Stop::Fault(Cause::Extra))
+    }
+}
+
+/// The attributes of a file: `fixed`, and `align` with a number, or one of them or none.
+#[tactic(auto, unfolding(crate::specs::Words::chosen_at))]
+pub(crate) fn chosen(text: &[u8]) -> Result<FileAttributes, Stop>
+    ensures { Gives (λ x. x) result (chosen_at (words text.now)) }
+{
+    let (fixed, rest) = fixed(text);
+    let alignment = alignment(rest)?;
+    Ok(FileAttributes { fixed, alignment })
 }
 
 /// The type of a file.

@@ -6,7 +6,7 @@ ghost use Rattle.fv_build.specs.declared.volume_header.TheConstants.{HEADER_LEN}
 use crate::board::{ONE_PEIM, add, guid};
 use crate::volumes::lists;
 use fv_build::{
-    BuildFault, MOST_MODULES, NewFile, NewSection, build_volume, build_volume3, generate,
+    Body, BuildFault, FileAttributes, MOST_MODULES, NewFile, NewSection, build_volume, build_volume3, generate,
 };
 use fv_section::section_type::RAW;
 use fv_volume::file_type::{FREEFORM, PAD, PEIM};
@@ -64,7 +64,8 @@ fn new_file(last: u8, kind: u8, sections: Vec<NewSection>) -> NewFile {
     NewFile {
         name: guid(last),
         kind,
-        sections: Seq::from_vec(sections),
+        attributes: FileAttributes::new(),
+        body: Body::Sections(Seq::from_vec(sections)),
     }
 }
 

@@ -2,7 +2,7 @@
 use act_code::write_script;
 use asm_text::{parse_depex, parse_script};
 use depex_code::write_depex;
-use fv_build::{HEADER_LEN, MOST_LEN, NewFile, NewSection, build_volume};
+use fv_build::{Body, FileAttributes, HEADER_LEN, MOST_LEN, NewFile, NewSection, build_volume};
 use fv_section::section_type::{DXE_DEPEX, PEI_DEPEX, RAW, VOLUME_IMAGE};
 use fv_volume::file_type;
 use pi_base::{Guid, OutOfMemory, Seq};
@@ -166,7 +166,8 @@ fn file_of(rt: &impl Abort, alloc: Global, module: &Module<'_>) -> Result<NewFil
     Ok(NewFile {
         name: guid_of(module.name)?,
         kind: module.kind,
-        sections,
+        attributes: FileAttributes::new(),
+        body: Body::Sections(sections),
     })
 }
 
@@ -209,7 +210,8 @@ fn nest(rt: &impl Abort, alloc: Global, nested: &[Module<'_>]) -> Result<NewFile
     Ok(NewFile {
         name,
         kind: file_type::VOLUME_IMAGE,
-        sections,
+        attributes: FileAttributes::new(),
+        body: Body::Sections(sections),
     })
 }
 

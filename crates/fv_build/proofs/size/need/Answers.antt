@@ -1,6 +1,5 @@
 use Rattle.std.proofs.Common.{◌≡◌, ◌+◌, length, take, sym, ap, ◌∙◌, arith, min}
-use Rattle.fv_build.specs.Sections.{body_bytes}
-use Rattle.fv_build.specs.Files.{file_size, file_bytes}
+use Rattle.fv_build.specs.Files.{bytes_in, file_size, file_bytes}
 use Rattle.fv_build.specs.Placing.{gap}
 use Rattle.fv_build.specs.Building.{need}
 use Rattle.fv_build.proofs.Sizes.{saturated, take_one, size_of, length-file_with, length-files_more}
@@ -13,8 +12,8 @@ loop-file-preserved c =
     let before = take c.loop-file.file-index c.args.files.now in
     let more = ap (need system) (take_one c.args.files.now c.loop-file.file-index file c.loop-file-test.true c.file-item.is) ∙ length-files_more system before file in
     let place : c.saturating_add.result ≡ min (c.loop-file.end + gap 8 c.loop-file.end) 18446744073709551615 = c.saturating_add.ensures ∙ ap (λ n. min (c.loop-file.end + n) 18446744073709551615) c.gap.ensures in
-    let body = body_bytes system file.sections in
-    let len : c.body_len-body_len.result ≡ min (length body) 18446744073709551615 = c.body_len-body_len.ensures ∙ ap (λ xs. min (length (body_bytes system xs)) 18446744073709551615) c.as_slice.ensures in
+    let body = bytes_in system file.body in
+    let len : c.body_len-body_len.result ≡ min (length body) 18446744073709551615 = c.body_len-body_len.ensures in
     let size : c.file_size.result ≡ min (length (file_bytes system file)) 18446744073709551615 =
     c.file_size.ensures ∙ ap (λ n. min (file_size system n) 18446744073709551615) len ∙ size_of system (length body) 18446744073709551615 (omega arith)
     ∙ ap (λ n. min n 18446744073709551615) (sym (length-file_with system file body c.has_sixteen.ensures)) in

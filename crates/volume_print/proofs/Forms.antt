@@ -1,0 +1,103 @@
+-- In which form a section is told.
+use Rattle.std.proofs.Common.{◌≡◌, ℕ, Bool, true, false, List, Option, Some, None, refl, sym, ap, ◌∙◌, subst, arith}
+use Rattle.std.proofs.lemmas.Bool.Decides.{nat_tests}
+use Rattle.std.proofs.lemmas.Option.{same_Some}
+use Rattle.std.specs.Prelude.{◌==◌, bytes_eq, if◌then◌else◌}
+use Rattle.std.specs.List.{list_any}
+use Rattle.pi_base.specs.declared.phase.Phase.{Phase}
+use Rattle.pi_base.specs.declared.phase.Phase.TheVariants.{Pei, Dxe}
+use Rattle.fv_build.specs.declared.new_file.NewSection.{NewSection}
+use Rattle.depex_code.specs.declared.depex.Depex.{Depex}
+use Rattle.depex_code.specs.Expression.{Reads, IsMalformed, instructions, bytes_of}
+use Rattle.act_code.specs.declared.script.Script.{Script}
+use Rattle.act_code.specs.Script.{IsScript}
+use Rattle.volume_text.specs.Open.{depex_type, has_part, is_script_of}
+use Rattle.printed_words.proofs.Comparisons.{not_same}
+use Rattle.volume_print.specs.Spelling.{IsExpressionOf, SaysExpression, SaysScript}
+use Rattle.volume_print.specs.Finding.{depex_phase, FindsExpression, FindsScript, TellsExpression, TellsScript}
+
+phase_back : (phase : Phase) → depex_phase (depex_type phase) ≡ Some phase
+phase_back Pei = refl
+phase_back Dxe = refl
+
+-- the phase of a section that is told as an expression
+pub phase_of : (kind : ℕ) (section : NewSection) (phase : Phase) (expression : Depex) → SaysExpression kind section phase expression → depex_phase section.kind ≡ Some phase
+phase_of kind section phase expression says = ap depex_phase says.kind_is ∙ phase_back phase
+
+first_is : (a b : Bool) → ◌≡◌ {A = Option Phase} (if a then Some Pei else if b then Some Dxe else None) (Some Pei) → a ≡ true
+first_is true b e = refl
+first_is false true e = absurd cc
+first_is false false e = absurd cc
+
+second_is : (a b : Bool) → ◌≡◌ {A = Option Phase} (if a then Some Pei else if b then Some Dxe else None) (Some Dxe) → b ≡ true
+second_is true b e = absurd cc
+second_is false true e = refl
+second_is false false e = absurd cc
+
+-- the type of sections with expressions of a phase
+type_of : (kind : ℕ) (phase : Phase) → depex_phase kind ≡ Some phase → kind ≡ depex_type phase
+type_of kind Pei is = let e : (kind == 27) ≡ true = first_is (kind == 27) (kind == 19) is in grind (arith, nat_tests)
+type_of kind Dxe is = let e : (kind == 19) ≡ true = second_is (kind == 27) (kind == 19) is in grind (arith, nat_tests)
+
+pub no_phase : (kind : ℕ) (phase : Phase) → depex_phase kind ≡ None → depex_phase kind ≡ Some phase → ⊥
+no_phase kind phase none some = let e : ◌≡◌ {A = Option Phase} None (Some phase) = sym none ∙ some in absurd cc
+
+both : (b : Bool) → b ≡ true → b ≡ false → ⊥
+both true e f = absurd cc
+both false e f = absurd cc
+
+-- a section is told as an expression, or as none
+pub no_type : (kind : ℕ) (section : NewSection) → depex_phase section.kind ≡ None → TellsExpression kind section None
+no_type kind section none = λ phase expression says. no_phase section.kind phase none (phase_of kind section phase expression says)
+
+pub no_part : (kind : ℕ) (section : NewSection) (phase : Phase) → depex_phase section.kind ≡ Some phase → has_part kind phase ≡ false → TellsExpression kind section None
+no_part kind section phase is none = λ other expression says.
+    let same : other ≡ phase = same_Some other phase (sym (phase_of kind section other expression says) ∙ is) in
+    both (has_part kind phase) (ap (has_part kind) (sym same) ∙ says.part) none
+
+pub no_bytes : (kind : ℕ) (section : NewSection) (phase : Phase) → depex_phase section.kind ≡ Some phase → FindsExpression phase section.body None → TellsExpression kind section None
+no_bytes kind section phase is none = λ other expression says.
+    let same : other ≡ phase = same_Some other phase (sym (phase_of kind section other expression says) ∙ is) in
+    none expression (subst (λ (p : Phase). IsExpressionOf p section.body expression) same says.bytes)
+
+pub told : (kind : ℕ) (section : NewSection) (phase : Phase) (expression : Depex) → depex_phase section.kind ≡ Some phase → has_part kind phase ≡ true
+    → FindsExpression phase section.body (Some expression) → TellsExpression kind section (Some (phase, expression))
+told kind section phase expression is part found = record { kind_is = type_of section.kind phase is; part = part; bytes = found }
+
+-- bytes are an expression, or none
+pub malformed : (phase : Phase) (bytes : List ℕ) (at : ℕ) → ((p : Phase) (b : List ℕ) (e : Depex) (n : ℕ) → Reads p b e → IsMalformed p b n → ⊥) → IsMalformed phase bytes at
+    → FindsExpression phase bytes None
+malformed phase bytes at apart is = λ expression found. apart phase bytes expression at found.0 is
+
+pub unlike : (phase : Phase) (bytes spelled : List ℕ) (expression : Depex) → ((p : Phase) (b : List ℕ) (e f : Depex) → Reads p b e → Reads p b f → e ≡ f) → Reads phase bytes expression
+    → spelled ≡ bytes_of (instructions expression) → (spelled ≡ bytes → ⊥) → FindsExpression phase bytes None
+unlike phase bytes spelled expression one reads is differ = λ other found.
+    differ (is ∙ ap (λ e. bytes_of (instructions e)) (one phase bytes expression other reads found.0) ∙ sym found.1)
+
+-- a section is told as a script, or as none
+pub not_raw : (kind : ℕ) (before : List NewSection) (section : NewSection) → (section.kind == 25) ≡ false → TellsScript kind before section None
+not_raw kind before section other = λ script says. both (section.kind == 25) (ap (λ k. k == 25) says.kind_is) other
+
+pub no_script : (kind : ℕ) (before : List NewSection) (section : NewSection) → FindsScript section.body None → TellsScript kind before section None
+no_script kind before section none = λ script says. none script says.bytes
+
+abbrev pub OneScript : Type 0
+OneScript = (bytes : List ℕ) (s t : Script) → IsScript bytes s → IsScript bytes t → s ≡ t
+
+pub no_part_for : (kind : ℕ) (before : List NewSection) (section : NewSection) (script : Script) → OneScript → IsScript section.body script → has_part kind script.phase ≡ false
+    → TellsScript kind before section None
+no_part_for kind before section script one is none = λ other says.
+    both (has_part kind script.phase) (ap (λ s. has_part kind s.phase) (one section.body script other is says.bytes) ∙ says.part) none
+
+pub not_first : (kind : ℕ) (before : List NewSection) (section : NewSection) (script : Script) → OneScript → IsScript section.body script
+    → list_any (is_script_of script.phase) before ≡ true → TellsScript kind before section None
+not_first kind before section script one is earlier = λ other says.
+    both (list_any (is_script_of script.phase) before) earlier (ap (λ s. list_any (is_script_of s.phase) before) (one section.body script other is says.bytes) ∙ says.first)
+
+pub told_script : (kind : ℕ) (before : List NewSection) (section : NewSection) (script : Script) → (section.kind == 25) ≡ true → IsScript section.body script
+    → has_part kind script.phase ≡ true → list_any (is_script_of script.phase) before ≡ false → TellsScript kind before section (Some script)
+told_script kind before section script raw is part first = record { kind_is = grind (arith, nat_tests); part = part; first = first; bytes = is }
+
+-- texts that a test tells apart
+pub unequal : (a b : List ℕ) (test : Bool) → test ≡ bytes_eq a b → test ≡ false → a ≡ b → ⊥
+unequal a b test is fails same = not_same a b test is fails same

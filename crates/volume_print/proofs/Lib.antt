@@ -1,0 +1,4 @@
+mod Lists
+mod Forms
+mod Putting
+mod OneText

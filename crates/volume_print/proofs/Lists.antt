@@ -1,0 +1,54 @@
+-- Lists with one thing more.
+use Rattle.std.proofs.Common.{◌≡◌, ℕ, ◌+◌, ◌<◌, zero, suc, arith, Bool, true, false, List, [], ◌∷◌, ◌++◌, length, map, take, get_or, flat_map, refl, sym, ap, ◌∙◌, subst, append_assoc}
+use Rattle.std.proofs.lemmas.Grind.{flat_map-append}
+use Rattle.std.proofs.lemmas.List.{append-nil, map-append, take_more}
+use Rattle.std.proofs.lemmas.List.Folds.{list_any-append}
+use Rattle.std.specs.List.{list_any}
+use Rattle.std.specs.Prelude.{◌||◌}
+use Rattle.fv_build.specs.declared.new_file.NewSection.{NewSection}
+use Rattle.fv_build.specs.Reading.{AreEach}
+use Rattle.volume_print.specs.Spelling.{IsSectionText, AreSectionTexts, whole}
+
+-- each pair, and one more
+pub each_more : {A B : Type 0} (Is : A → B → Type 0) (xs : List A) (ys : List B) (x : A) (y : B) → AreEach Is xs ys → Is x y → AreEach Is (xs ++ x ∷ []) (ys ++ y ∷ [])
+each_more Is [] [] x y all is = (is, tt)
+each_more Is [] (b ∷ ys) x y all is = absurd all
+each_more Is (a ∷ xs) [] x y all is = absurd all
+each_more Is (a ∷ xs) (b ∷ ys) x y all is = (all.0, each_more Is xs ys x y all.1 is)
+
+-- the texts of sections, and of one more
+pub texts_more : (kind : ℕ) (before sections : List NewSection) (section : NewSection) (texts : List (List ℕ)) (text : List ℕ) → AreSectionTexts kind before sections texts
+    → IsSectionText kind (before ++ sections) section text → AreSectionTexts kind before (sections ++ section ∷ []) (texts ++ text ∷ [])
+texts_more kind before [] section [] text all is = (subst (λ (b : List NewSection). IsSectionText kind b section text) (append-nil before) is, tt)
+texts_more kind before [] section (t ∷ texts) text all is = absurd all
+texts_more kind before (s ∷ sections) section [] text all is = absurd all
+texts_more kind before (s ∷ sections) section (t ∷ texts) text all is =
+    (all.0, texts_more kind (before ++ s ∷ []) sections section texts text all.1
+    (subst (λ (b : List NewSection). IsSectionText kind b section text) (sym (append_assoc before (s ∷ []) sections)) is))
+
+-- texts one behind the other, and one more
+pub whole_more : (old now new text : List ℕ) (texts : List (List ℕ)) → now ≡ old ++ whole texts → new ≡ now ++ text → new ≡ old ++ whole (texts ++ text ∷ [])
+whole_more old now new text texts before grown =
+    grown ∙ ap (λ xs. xs ++ text) before ∙ append_assoc old (whole texts) text ∙ ap (λ xs. old ++ (whole texts ++ xs)) (sym (append-nil text))
+    ∙ ap (λ xs. old ++ xs) (sym (flat_map-append (λ t. t) texts (text ∷ [])))
+
+-- the items up to one more, each seen by a function
+pub map_more : {X Y : Type 0} (f : X → Y) (xs : List X) (i : ℕ) (d : X) → i < length xs → map f (take (i + 1) xs) ≡ map f (take i xs) ++ f (get_or xs i d) ∷ []
+map_more f xs i d within = ap (map f) (take_more xs i d within) ∙ map-append f (take i xs) (get_or xs i d ∷ [])
+
+or_false : (a b : Bool) → a ≡ false → b ≡ false → (a || (b || false)) ≡ false
+or_false a b p q = rw (p, q) refl
+
+-- a test that no item passed so far, nor one more
+pub none_more : {X : Type 0} (test : X → Bool) (xs : List X) (x : X) → list_any test xs ≡ false → test x ≡ false → list_any test (xs ++ x ∷ []) ≡ false
+none_more test xs x none is = list_any-append test xs (x ∷ []) ∙ or_false (list_any test xs) (test x) none is
+
+or_true : (b : Bool) → (b || true) ≡ true
+or_true true = refl
+or_true false = refl
+
+-- a test that one item passes
+pub some_at : {X Y : Type 0} (test : Y → Bool) (f : X → Y) (xs : List X) (i : ℕ) (d : X) → i < length xs → test (f (get_or xs i d)) ≡ true → list_any test (map f xs) ≡ true
+some_at test f [] i d within passes = absurd (omega arith)
+some_at test f (y ∷ xs) zero d within passes = rw passes refl
+some_at test f (y ∷ xs) (suc i) d within passes = rw (some_at test f xs i d (omega arith) passes) (or_true (test (f y)))

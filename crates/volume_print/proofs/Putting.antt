@@ -1,0 +1,151 @@
+-- Texts that are put.
+use Rattle.std.proofs.Common.{◌≡◌, ◌⊎◌, inl, inr, ℕ, zero, suc, ◌+◌, ◌<◌, ◌≤◌, Bool, true, false, List, [], ◌∷◌, ◌++◌, length, map, take, drop, get_or, flat_map, Option, Some, None, refl, sym, ap, ◌∙◌, subst, append_assoc, arith}
+use Rattle.std.proofs.lemmas.Bool.Decides.{nat_tests}
+use Rattle.std.proofs.lemmas.List.{append-nil, take_more}
+use Rattle.std.specs.Prelude.{◌==◌, if◌then◌else◌, codes, slice_index}
+use Rattle.pi_base.specs.declared.phase.Phase.{Phase}
+use Rattle.pi_base.specs.declared.phase.Phase.TheVariants.{Pei, Dxe}
+use Rattle.pi_base.specs.WordText.{hexadecimal}
+use Rattle.act_code.specs.declared.script.Script.{Script}
+use Rattle.asm_text.specs.ScriptText.{line, phase_text, block_lines, script_text}
+use Rattle.fv_volume.specs.declared.file.FfsFile.{FfsFile}
+use Rattle.fv_volume.specs.declared.volume.Volume.{Volume}
+use Rattle.fv_volume.specs.Volume.{IsVolume}
+use Rattle.fv_build.specs.declared.attributes.FileAttributes.{FileAttributes}
+use Rattle.fv_build.specs.Attributes.{attributes_in}
+use Rattle.fv_build.specs.Reading.{AreEach}
+use Rattle.volume_print.proofs.Lists.{each_more, texts_more, whole_more, map_more}
+use Rattle.pi_base.specs.declared.guid.Guid.{Guid}
+use Rattle.fv_section.specs.declared.section.Section.{Section}
+use Rattle.fv_build.specs.declared.new_file.NewFile.{NewFile}
+use Rattle.fv_build.specs.declared.new_file.NewSection.{NewSection}
+use Rattle.fv_build.specs.declared.new_file.Body.{Body}
+use Rattle.fv_build.specs.declared.new_file.Body.TheVariants.{Sections, Bytes}
+use Rattle.volume_print.specs.declared.form.Form.{Form}
+use Rattle.volume_print.specs.declared.form.Form.TheVariants as form
+use Rattle.volume_print.specs.Spelling.{as_expression, as_script, as_bytes, body_line, head_line, name_line, volume_line, attribute_words, whole, IsSectionText, AreSectionTexts, IsFileText}
+use Rattle.volume_print.specs.Description.{section_in, form_in, IsStream, IsBodyIn, IsFileIn, IsTextOf}
+use Rattle.volume_print.specs.Finding.{form_text, IsForm, AddsSection, AddsSections, AddsBody, AddsFile, AddsFiles}
+
+pub in_form : (kind : ℕ) (before : List NewSection) (section : NewSection) (f : Form) → IsForm kind before section f → IsSectionText kind before section (form_text section f)
+in_form kind before section (form.Expression phase e) is = as_expression phase e is refl
+in_form kind before section (form.Script s) is = as_script s is refl
+in_form kind before section form.Bytes is = as_bytes is.0 is.1 refl
+
+-- a section's text was put
+pub added : (kind : ℕ) (before : List NewSection) (section : NewSection) (f : Form) (old new : List ℕ) → IsForm kind before section f → new ≡ old ++ form_text section f
+    → AddsSection kind before section old new
+added kind before section f old new is grown = (form_text section f, in_form kind before section f is, grown)
+
+-- the texts of sections so far, and of one more
+pub sections_more : (kind : ℕ) (stream : List ℕ) (all : List Section) (place : ℕ) (d : Section) (old now new : List ℕ) → place < length all
+    → AddsSections kind (map (section_in stream) (take place all)) old now → AddsSection kind (map (section_in stream) (take place all)) (section_in stream (get_or all place d)) now new
+    → AddsSections kind (map (section_in stream) (take (place + 1) all)) old new
+sections_more kind stream all place d old now new within told adds =
+    let before = map (section_in stream) (take place all) in
+    let texts = told.0 ++ adds.0 ∷ [] in
+    (texts,
+    subst (λ (ss : List NewSection). AreSectionTexts kind [] ss texts) (sym (map_more (section_in stream) all place d within))
+    (texts_more kind [] before (section_in stream (get_or all place d)) told.0 adds.0 told.1 adds.1),
+    whole_more old now new adds.0 told.0 told.2 adds.2)
+
+-- a body's text was put
+pub sections_added : (kind : ℕ) (stream : List ℕ) (read : List Section) (old new : List ℕ) → IsStream kind stream (Some read)
+    → AddsSections kind (map (section_in stream) read) old new → AddsBody kind stream old new
+sections_added kind stream read old new is adds =
+    (Sections (map (section_in stream) read), (is.0, (read, is.1, refl)), (whole adds.0, (adds.0, adds.1, refl), adds.2))
+
+pub bytes_added : (kind : ℕ) (stream old new : List ℕ) → IsStream kind stream None → new ≡ old ++ body_line stream → AddsBody kind stream old new
+bytes_added kind stream old new is grown = (Bytes stream, (refl, is), (body_line stream, refl, grown))
+
+-- a file's text was put
+pub file_added : (image : List ℕ) (found : FfsFile) (attributes : FileAttributes) (stream old mid new : List ℕ) → attributes ≡ attributes_in (slice_index image (found.at + 19))
+    → stream ≡ take found.body_len (drop found.body_at image) → mid ≡ old ++ head_line found.kind found.name attributes → AddsBody found.kind stream mid new → AddsFile image found old new
+file_added image found attributes stream old mid new are is head adds =
+    let file : NewFile = record { name = found.name; kind = found.kind; attributes = attributes; body = adds.0 } in
+    let text = head_line found.kind found.name attributes ++ adds.2.0 in
+    (file,
+    record { name = refl; kind = refl; attributes = are; body = subst (λ (s : List ℕ). IsBodyIn found.kind s adds.0) is adds.1 },
+    (text, (adds.2.0, adds.2.1, refl),
+    adds.2.2 ∙ ap (λ xs. xs ++ adds.2.0) head ∙ append_assoc old (head_line found.kind found.name attributes) adds.2.0))
+
+-- no file's text was put yet
+pub no_files : (image old : List ℕ) → AddsFiles image [] old old
+no_files image old = record { files = []; texts = []; are = tt; told = tt; grown = sym (append-nil old) }
+
+-- the texts of files so far, and of one more
+pub files_more : (image : List ℕ) (all : List FfsFile) (place : ℕ) (d : FfsFile) (old now new : List ℕ) → place < length all
+    → AddsFiles image (take place all) old now → AddsFile image (get_or all place d) now new → AddsFiles image (take (place + 1) all) old new
+files_more image all place d old now new within told adds =
+    let found = get_or all place d in
+    record {
+      files = told.files ++ adds.0 ∷ [];
+      texts = told.texts ++ adds.2.0 ∷ [];
+      are = subst (λ (fs : List FfsFile). AreEach (IsFileIn image) fs (told.files ++ adds.0 ∷ [])) (sym (take_more all place d within))
+          (each_more (IsFileIn image) (take place all) told.files found adds.0 told.are adds.1);
+      told = each_more IsFileText told.files told.texts adds.0 adds.2.0 told.told adds.2.1;
+      grown = whole_more old now new adds.2.0 told.texts told.grown adds.2.2;
+    }
+
+-- six texts one behind the other, the last a line feed
+pub six : (old a b c d e f first second third fourth fifth sixth : List ℕ) → a ≡ old ++ first → b ≡ a ++ second → c ≡ b ++ third → d ≡ c ++ fourth → e ≡ d ++ fifth → f ≡ e ++ sixth
+    → f ≡ old ++ ((first ++ (second ++ (third ++ (fourth ++ fifth)))) ++ sixth)
+six old a b c d e f first second third fourth fifth sixth p q r s t u =
+    let line = first ++ (second ++ (third ++ (fourth ++ fifth))) in
+    u ∙ ap (λ x. x ++ sixth)
+    (t ∙ ap (λ x. x ++ fifth) (s ∙ ap (λ x. x ++ fourth) (r ∙ ap (λ x. x ++ third) (q ∙ ap (λ x. x ++ second) p)))
+    ∙ append_assoc (((old ++ first) ++ second) ++ third) fourth fifth ∙ append_assoc ((old ++ first) ++ second) third (fourth ++ fifth)
+    ∙ append_assoc (old ++ first) second (third ++ (fourth ++ fifth)) ∙ append_assoc old first (second ++ (third ++ (fourth ++ fifth))))
+    ∙ append_assoc old line sixth
+
+some_left : (n : ℕ) → (n ≡ 0 → ⊥) → (n == 0) ≡ false
+some_left zero other = absurd (other refl)
+some_left (suc n) other = grind (arith, nat_tests)
+
+-- the attributes of a volume are told
+pub attributes_put : (attributes : ℕ) (old mid new : List ℕ) → (attributes ≡ 0 → ⊥) → mid ≡ old ++ codes " attributes " → new ≡ mid ++ hexadecimal attributes → new ≡ old ++ attribute_words attributes
+attributes_put attributes old mid new some first second =
+    rw (some_left attributes some) (second ∙ ap (λ x. x ++ hexadecimal attributes) first ∙ append_assoc old (codes " attributes ") (hexadecimal attributes))
+
+-- the text of a script begins with a line that names its phase
+abbrev blocks_in : Script → List ℕ
+blocks_in script = flat_map block_lines script.blocks
+
+phase_line : (phase : Phase) (rest : List ℕ) → drop 10 (line (phase_text phase) ++ rest) ≡ rest
+unfolding phase_text
+phase_line Pei rest = refl
+phase_line Dxe rest = refl
+
+phase_long : (phase : Phase) (rest : List ℕ) → 10 ≤ length (line (phase_text phase) ++ rest)
+unfolding phase_text
+phase_long Pei rest = omega arith
+phase_long Dxe rest = omega arith
+
+pub script_long : (script : Script) (text slice : List ℕ) → text ≡ script_text script → slice ≡ text → 10 ≤ length slice
+script_long script text slice is same = rw (same, is) (phase_long script.phase (blocks_in script))
+
+pub script_rest : (script : Script) (text slice : List ℕ) → text ≡ script_text script → slice ≡ text → drop 10 slice ≡ flat_map block_lines script.blocks
+script_rest script text slice is same = ap (drop 10) (same ∙ is) ∙ phase_line script.phase (blocks_in script)
+
+-- five texts one behind the other
+pub five : (old a b c d e first second third fourth fifth : List ℕ) → a ≡ old ++ first → b ≡ a ++ second → c ≡ b ++ third → d ≡ c ++ fourth → e ≡ d ++ fifth
+    → e ≡ old ++ (((first ++ second) ++ third) ++ (fourth ++ fifth))
+five old a b c d e first second third fourth fifth p q r s t =
+    t ∙ ap (λ x. x ++ fifth) (s ∙ ap (λ x. x ++ fourth) (r ∙ ap (λ x. x ++ third) (q ∙ ap (λ x. x ++ second) p)))
+    ∙ append_assoc (((old ++ first) ++ second) ++ third) fourth fifth
+    ∙ ap (λ x. x ++ (fourth ++ fifth)) (append_assoc (old ++ first) second third ∙ append_assoc old first (second ++ third) ∙ ap (λ x. old ++ x) (sym (append_assoc first second third)))
+    ∙ append_assoc old ((first ++ second) ++ third) (fourth ++ fifth)
+
+-- the text of a volume was put
+pub text_put : (image : List ℕ) (volume : Volume) (head named filed new : List ℕ) → IsVolume image volume → head ≡ [] ++ volume_line (form_in image) volume.len → named ≡ head ++ name_line volume.name
+    → AddsFiles image volume.files named filed → new ≡ filed ++ codes "end\n" → IsTextOf image new
+text_put image volume head named filed new is first second files last = record {
+  volume = volume;
+  is = is;
+  files = files.files;
+  are = files.are;
+  spelled = (files.texts, files.told,
+      last ∙ ap (λ x. x ++ codes "end\n") (files.grown ∙ ap (λ x. x ++ whole files.texts) (second ∙ ap (λ x. x ++ name_line volume.name) first))
+      ∙ append_assoc (volume_line (form_in image) volume.len ++ name_line volume.name) (whole files.texts) (codes "end\n")
+      ∙ append_assoc (volume_line (form_in image) volume.len) (name_line volume.name) (whole files.texts ++ codes "end\n"));
+}

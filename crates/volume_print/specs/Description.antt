@@ -1,0 +1,67 @@
+-- What a text says of a volume that a reader accepts.
+use Rattle.std.specs.Prelude.{◌≡◌, ◌⊎◌, ℕ, ◌+◌, ◌==◌, false, nat_lt, bit_and, bit_xor, bytes_eq, if◌then◌else◌, List, length, map, take, drop, slice_index, Option, Some, None}
+use Rattle.pi_base.specs.Field.{little_number}
+use Rattle.fv_volume.specs.declared.file.FfsFile.{FfsFile}
+use Rattle.fv_volume.specs.declared.file_header.TheConstants.{ATTRIBUTES_AT as FILE_ATTRIBUTES_AT}
+use Rattle.fv_volume.specs.declared.file_type.TheConstants.{RAW}
+use Rattle.fv_volume.specs.declared.volume.Volume.{Volume}
+use Rattle.fv_volume.specs.declared.volume_header.TheConstants.{ATTRIBUTES_AT, ERASE_POLARITY, FFS3, FILE_SYSTEM_AT, LEAST_LEN}
+use Rattle.fv_volume.specs.Volume.{IsVolume}
+use Rattle.fv_section.specs.declared.section.Section.{Section}
+use Rattle.fv_section.specs.declared.fault.SecFault.{SecFault}
+use Rattle.fv_section.specs.Stream.{AreInside, AreSections, IsFirstFault}
+use Rattle.fv_build.specs.declared.file_system.FileSystem.{FileSystem}
+use Rattle.fv_build.specs.declared.file_system.FileSystem.TheVariants.{Ffs2, Ffs3}
+use Rattle.fv_build.specs.declared.volume_header.VolumeForm.{VolumeForm}
+use Rattle.fv_build.specs.declared.new_file.NewFile.{NewFile}
+use Rattle.fv_build.specs.declared.new_file.NewSection.{NewSection}
+use Rattle.fv_build.specs.declared.new_file.Body.{Body}
+use Rattle.fv_build.specs.declared.new_file.Body.TheVariants.{Sections, Bytes}
+use Rattle.fv_build.specs.Attributes.{attributes_in}
+use Rattle.fv_build.specs.Header.{plain}
+use Rattle.pi_base.specs.declared.guid.TheConstants.{GUID_LEN}
+use Rattle.fv_build.specs.Reading.{AreEach}
+use Rattle.volume_print.specs.Spelling.{IsVolumeText}
+
+-- the section with its bytes
+abbrev pub section_in : List ℕ → Section → NewSection
+section_in body section = record { kind = section.kind; body = take section.body_len (drop section.body_at body) }
+
+-- the sections of a body of a file that is no raw one, or none where they cannot be read
+abbrev pub IsStream : ℕ → List ℕ → Option (List Section) → Type 0
+IsStream kind bytes (Some read) = ((kind == RAW) ≡ false) × AreSections bytes read × AreInside bytes read
+IsStream kind bytes None = (kind ≡ RAW) ⊎ ((fault : SecFault) × IsFirstFault bytes fault)
+
+-- the body of a file that is no raw one is its sections, where all can be read; else it is bytes
+abbrev pub IsBodyIn : ℕ → List ℕ → Body → Type 0
+IsBodyIn kind bytes (Sections sections) = ((kind == RAW) ≡ false) × ((read : List Section) × AreSections bytes read × (sections ≡ map (section_in bytes) read))
+IsBodyIn kind bytes (Bytes body) = (body ≡ bytes) × ((kind ≡ RAW) ⊎ ((fault : SecFault) × IsFirstFault bytes fault))
+
+-- a file of a volume with its name, type, attributes and body
+pub record IsFileIn (bytes : List ℕ) (found : FfsFile) (file : NewFile) : Type 0 where
+  pub name : file.name ≡ found.name
+  pub kind : file.kind ≡ found.kind
+  pub attributes : file.attributes ≡ attributes_in (slice_index bytes (found.at + FILE_ATTRIBUTES_AT))
+  pub body : IsBodyIn found.kind (take found.body_len (drop found.body_at bytes)) file.body
+
+-- the file system that a header names, which is one of two
+abbrev pub file_system_in : List ℕ → FileSystem
+file_system_in bytes = if bytes_eq (take GUID_LEN (drop FILE_SYSTEM_AT bytes)) FFS3 then Ffs3 else Ffs2
+
+-- the attributes of a volume that is erased to ones, beside its erase polarity; those of another have no text
+abbrev pub told_attributes : ℕ → ℕ
+told_attributes attributes = if bit_and attributes ERASE_POLARITY == 0 then 0 else bit_xor attributes ERASE_POLARITY
+
+-- the form of a volume, as its header says
+abbrev pub form_in : List ℕ → VolumeForm
+form_in bytes =
+    if nat_lt (length bytes) LEAST_LEN then plain Ffs2
+    else record { file_system = file_system_in bytes; attributes = told_attributes (little_number 4 (drop ATTRIBUTES_AT bytes)) }
+
+-- the text of the volume that stands at the start of the bytes
+pub record IsTextOf (bytes text : List ℕ) : Type 0 where
+  pub volume : Volume
+  pub is : IsVolume bytes volume
+  pub files : List NewFile
+  pub are : AreEach (IsFileIn bytes) volume.files files
+  pub spelled : IsVolumeText (form_in bytes) volume.len volume.name files text

@@ -1,0 +1,170 @@
+// In which form the text tells a section.
+ghost use Rattle.std.specs.Prelude.{◌≡◌, ◌≤◌, ◌+◌, length, map, IfOk};
+ghost use Rattle.std.specs.List.{list_any};
+ghost use Rattle.fv_section.specs.Stream.{AreInside};
+ghost use Rattle.volume_text.specs.Open.{is_script_of};
+ghost use Rattle.volume_print.specs.Description.{section_in};
+ghost use Rattle.volume_print.specs.Finding.{depex_phase, FindsExpression, FindsScript, IsForm, TellsExpression, TellsScript};
+
+use act_code::{ActCause, Script, one_outcome, read_script};
+use depex_code::{Depex, DepexFault, one_reading, read_depex, write_depex};
+use fv_section::Section;
+use fv_section::section_type::{DXE_DEPEX, PEI_DEPEX, RAW};
+use pi_base::{OutOfMemory, Phase};
+use std::alloc::Global;
+use volume_text::{has_part, is_script};
+
+/// In which form a section is told.
+#[derive(Drop)]
+pub(crate) enum Form {
+    /// As an expression for a phase.
+    Expression(Phase, Depex),
+    /// As a script.
+    Script(Script),
+    /// As its bytes.
+    Bytes,
+}
+
+/// The bytes of a section.
+pub(crate) fn body_of<'a>(stream: &'a [u8], section: &Section) -> &'a [u8]
+    requires { section.now.body_at + section.now.body_len ≤ length stream.now }
+    ensures { result.now ≡ (section_in stream.now section.now).body }
+{
+    let at = section.body_at as usize;
+    &stream[at..at + section.body_len as usize]
+}
+
+// The expression that bytes are, if they are one and nothing more.
+fn expression_in(alloc: Global, phase: Phase, bytes: &[u8]) -> Result<Option<Depex>, OutOfMemory>
+    ensures { IfOk result (FindsExpression phase bytes.now) }
+{
+    one_reading();
+    let expression = match read_depex(alloc, bytes, phase) {
+        Ok(expression) => expression,
+        Err(DepexFault::Malformed(_)) => return Ok(None),
+        Err(DepexFault::Memory) => return Err(OutOfMemory),
+    };
+    let spelled = write_depex(alloc, &expression)?;
+    if spelled.as_slice() == bytes {
+        Ok(Some(expression))
+    } else {
+        Ok(None)
+    }
+}
+
+// The script that bytes are, if they are one.
+fn script_in(alloc: Global, bytes: &[u8]) -> Result<Option<Script>, OutOfMemory>
+    ensures { IfOk result (FindsScript bytes.now) }
+{
+    match read_script(alloc, bytes) {
+        Ok(script) => Ok(Some(script)),
+        Err(fault) => {
+            if fault.cause == ActCause::Memory {
+                return Err(OutOfMemory);
+            }
+            Ok(None)
+        }
+    }
+}
+
+// The phase whose expressions have sections of a type.
+fn depex_phase(kind: u8) -> Option<Phase>
+    ensures { result ≡ depex_phase kind }
+{
+    match kind {
+        PEI_DEPEX => Some(Phase::Pei),
+        DXE_DEPEX => Some(Phase::Dxe),
+        _ => None,
+    }
+}
+
+// The expression that a section of a file of a type is told as.
+#[tactic(auto, using(crate::proofs::Forms::no_type, crate::proofs::Forms::no_part, crate::proofs::Forms::no_bytes, crate::proofs::Forms::told))]
+fn told_expression(
+    alloc: Global,
+    kind: u8,
+    section_kind: u8,
+    bytes: &[u8],
+) -> Result<Option<(Phase, Depex)>, OutOfMemory>
+    ensures { IfOk result (TellsExpression kind (record { kind = section_kind; body = bytes.now })) }
+{
+    let Some(phase) = depex_phase(section_kind) else {
+        return Ok(None);
+    };
+    if !has_part(kind, phase) {
+        return Ok(None);
+    }
+    match expression_in(alloc, phase, bytes)? {
+        Some(expression) => Ok(Some((phase, expression))),
+        None => Ok(None),
+    }
+}
+
+// Whether a section is a script of a phase.
+fn is_script_of(stream: &[u8], section: &Section, phase: Phase) -> bool
+    requires { section.now.body_at + section.now.body_len ≤ length stream.now }
+    ensures { result ≡ is_script_of phase (section_in stream.now section.now) }
+{
+    is_script(section.kind, body_of(stream, section), phase)
+}
+
+// Whether one of the sections is a script of a phase.
+fn has_script(stream: &[u8], sections: &[Section], phase: Phase) -> bool
+    requires { AreInside stream.now sections.now }
+    ensures { result ≡ list_any (is_script_of phase) (map (section_in stream.now) sections.now) }
+{
+    'sections: for section in sections {
+        if is_script_of(stream, section, phase) {
+            return true;
+        }
+    }
+    false
+}
+
+// The script that a section behind others of a file of a type is told as.
+#[tactic(auto, using(crate::proofs::Forms::not_raw, crate::proofs::Forms::no_script, crate::proofs::Forms::no_part_for, crate::proofs::Forms::not_first, crate::proofs::Forms::told_script))]
+fn told_script(
+    alloc: Global,
+    kind: u8,
+    stream: &[u8],
+    before: &[Section],
+    section: &Section,
+) -> Result<Option<Script>, OutOfMemory>
+    requires before { AreInside stream.now before.now }
+    requires inside { section.now.body_at + section.now.body_len ≤ length stream.now }
+    ensures { IfOk result (TellsScript kind (map (section_in stream.now) before.now) (section_in stream.now section.now)) }
+{
+    one_outcome();
+    if section.kind != RAW {
+        return Ok(None);
+    }
+    let Some(script) = script_in(alloc, body_of(stream, section))? else {
+        return Ok(None);
+    };
+    if !has_part(kind, script.phase) || has_script(stream, before, script.phase) {
+        return Ok(None);
+    }
+    Ok(Some(script))
+}
+
+/// In which form a section behind others of a file of a type is told.
+pub(crate) fn form_of(
+    alloc: Global,
+    kind: u8,
+    stream: &[u8],
+    before: &[Section],
+    section: &Section,
+) -> Result<Form, OutOfMemory>
+    requires before { AreInside stream.now before.now }
+    requires inside { section.now.body_at + section.now.body_len ≤ length stream.now }
+    ensures { IfOk result (IsForm kind (map (section_in stream.now) before.now) (section_in stream.now section.now)) }
+{
+    let expression = told_expression(alloc, kind, section.kind, body_of(stream, section))?;
+    if let Some((phase, expression)) = expression {
+        return Ok(Form::Expression(phase, expression));
+    }
+    match told_script(alloc, kind, stream, before, section)? {
+        Some(script) => Ok(Form::Script(script)),
+        None => Ok(Form::Bytes),
+    }
+}

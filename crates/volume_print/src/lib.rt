@@ -1,0 +1,14 @@
+//! The text of a volume that a reader accepts (own format, that of `volume_text`): what each line says of it.
+//!
+//! Tried in `source_trials`: `printed_volumes`.
+#![tactic(auto)]
+
+mod file;
+mod form;
+mod law;
+mod section;
+mod volume;
+mod word;
+
+pub use law::one_text;
+pub use volume::text_of;
