@@ -7,7 +7,7 @@ from dataclasses import dataclass
 
 from random_boots import plan_of
 from traces import Trace, first_difference, read
-from volumes import PITOOLS, made
+from volumes import made
 
 HERE = os.path.dirname(os.path.abspath(__file__))
 OUT = f"{HERE}/out"
@@ -15,7 +15,6 @@ PLAIN = os.environ.get("PLAIN", f"{HERE}/../plain/out/plain")
 PEI, DXE = f"{OUT}/edk2-pei", f"{OUT}/edk2-dxe"
 PIBOOT = os.environ.get("PIBOOT", os.path.normpath(f"{HERE}/../../crates/piboot/out/piboot"))
 SECONDS = 60
-NO, REFUSALS = 11, (1, 2, 3, 4, 5, 12)  # statuses of `pitools follow`: the order is none of a boot, or files, images or names are refused
 
 # Each known difference, by the word that gives the plain program EDK2's rule for it, under the
 # phases whose boots can show it; docs/COMPARISON.md has a row for each.
@@ -52,7 +51,6 @@ class Outcome:
 
     word: str  # SAME, UNEXPLAINED, or the rules that explain it
     difference: str
-    is_followed: bool  # whether the machine boots in the order of EDK2's starts, and then starts no more
 
 
 def output(words: list[str], folder: str, **more: str) -> list[str]:
@@ -103,16 +101,6 @@ def both(folder: str) -> tuple[list[str], Trace, Trace]:
     return audit, read(output([PIBOOT, "boot", "plan"], folder), audit), edk2(folder, audit)
 
 
-def is_followed(folder: str, theirs: Trace) -> bool:
-    """Whether the machine's dispatchers may start what EDK2's started, in its order. Where EDK2 stopped the machine may go on."""
-    starts = [line.split() for line in theirs.run if line.startswith(("pei start ", "dxe start "))]
-    with open(f"{folder}/order", "w", encoding="utf-8") as file:
-        file.writelines(f"{phase} {volume} {name}\n" for phase, _, volume, name, *_ in starts)
-        file.write("stop\n")
-    done = subprocess.run([PITOOLS, "follow", "plan", "order"], cwd=folder, stdout=subprocess.DEVNULL, stderr=subprocess.DEVNULL, timeout=SECONDS, check=False)
-    return done.returncode not in (NO, *REFUSALS)
-
-
 def is_explained(folder: str, audit: list[str], theirs: Trace, rules: tuple[str, ...]) -> bool:
     """Whether the plain program prints EDK2's trace with some of EDK2's rules."""
     words = [PLAIN, "boot", "plan"] + [f"--edk2={rule}" for rule in rules]
@@ -134,9 +122,9 @@ def compare(folder: str, phase: str = "") -> Outcome:
     audit, ours, theirs = both(folder)
     difference = first_difference(ours, theirs)
     if difference is None:
-        return Outcome(SAME, "", is_followed(folder, theirs))
+        return Outcome(SAME, "")
     rules = explained_by(folder, audit, theirs, phase)
-    return Outcome(" + ".join(rules) or UNEXPLAINED, difference, is_followed(folder, theirs))
+    return Outcome(" + ".join(rules) or UNEXPLAINED, difference)
 
 
 def kind(difference: str) -> str:

@@ -22,7 +22,7 @@ HERE = os.path.dirname(os.path.abspath(__file__))
 sys.path.insert(0, HERE)
 
 import cases  # noqa: E402
-from boots import OUT, UNEXPLAINED, Outcome, compare, kind, write  # noqa: E402
+from boots import OUT, UNEXPLAINED, compare, kind, write  # noqa: E402
 from random_boots import CAMPAIGNS, Boot  # noqa: E402
 from smallest import shrink  # noqa: E402
 
@@ -35,19 +35,16 @@ class Result:
     """What came of boots: how often each word, and one unexplained boot of each kind."""
 
     words: Counter[str] = field(default_factory=Counter)
-    not_followed: Counter[str] = field(default_factory=Counter)
     unexplained: dict[str, tuple[str, int, str]] = field(default_factory=dict)
 
-    def add(self, name: str, seed: int, word: str, difference: str, is_followed: bool) -> None:
+    def add(self, name: str, seed: int, word: str, difference: str) -> None:
         self.words[word] += 1
-        self.not_followed[word] += not is_followed
         if word == UNEXPLAINED:
             self.unexplained.setdefault(kind(difference), (name, seed, difference))
 
     def text(self) -> str:
         told = ", ".join(f"{word} {count}" for word, count in self.words.most_common())
-        left = ", ".join(f"{word} {count}" for word, count in self.not_followed.most_common() if count)
-        return f"{self.words.total()} boots, {told}; not followed: {left or 'none'}"
+        return f"{self.words.total()} boots, {told}"
 
 
 def volumes_of(name: str, seed: int) -> list[str]:
@@ -55,11 +52,12 @@ def volumes_of(name: str, seed: int) -> list[str]:
     return Boot(CAMPAIGNS[name], f"{name} {seed}").volumes()
 
 
-def boot(name: str, seed: int, folder: str) -> Outcome:
-    """One random boot of a campaign, compared."""
+def boot(name: str, seed: int, folder: str) -> tuple[str, str]:
+    """One random boot of a campaign: the word and the difference."""
     own = f"{folder}/{name}-{os.getpid()}"
     write(own, volumes_of(name, seed))
-    return compare(own, CAMPAIGNS[name].phase)
+    outcome = compare(own, CAMPAIGNS[name].phase)
+    return outcome.word, outcome.difference
 
 
 def keep(name: str, seed: int, difference: str) -> None:
@@ -81,9 +79,9 @@ def run(names: list[str], boots: int, seed: int, jobs: int) -> int:
         for name in names:
             own = Result()
             outcomes = pool.map(boot, [name] * boots, seeds, [folder] * boots, chunksize=CHUNK)
-            for number, outcome in zip(seeds, outcomes):
-                for result in (own, total):
-                    result.add(name, number, outcome.word, outcome.difference, outcome.is_followed)
+            for number, (word, difference) in zip(seeds, outcomes):
+                own.add(name, number, word, difference)
+                total.add(name, number, word, difference)
             print(f"{name}: {own.text()}", flush=True)
     print(f"all: {total.text()}, in {time.monotonic() - begun:.0f} s", flush=True)
     for name, number, difference in total.unexplained.values():

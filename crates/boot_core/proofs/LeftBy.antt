@@ -3,7 +3,7 @@ use Rattle.std.proofs.Common.{◌≡◌, ℕ, List, Option, Result, Ok, Err, sym
 use Rattle.boot_io.specs.declared.sink.SinkFault.{SinkFault}
 use Rattle.boot_core.specs.declared.status.Status.{Status}
 use Rattle.boot_core.specs.Causes.{ComesExactly, IsStopped}
-use Rattle.boot_core.specs.Outcome.{Kind, OfAnswer, kind_of}
+use Rattle.boot_core.specs.Outcome.{OfAnswer, kind_of}
 use Rattle.boot_core.specs.Refusing.{status_after}
 
 -- a fault or want of memory is no answer, and may stand in the place of one

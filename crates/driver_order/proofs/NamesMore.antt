@@ -4,7 +4,6 @@ use Rattle.std.specs.Prelude.{if◌then◌else◌, filter, find}
 use Rattle.pi_base.specs.declared.guid.Guid.{Guid}
 use Rattle.pi_base.specs.Guids.{same_guid}
 use Rattle.catalog_model.specs.declared.catalog.Catalog.{Catalog}
-use Rattle.catalog_model.specs.declared.catalog.PartExpr.{PartExpr}
 use Rattle.catalog_model.specs.Parts.{module_name}
 use Rattle.guid_map.specs.GuidMap.{value_of}
 use Rattle.boot_model.specs.DxeChoice.{before_of, after_of, name_by}
@@ -12,7 +11,7 @@ use Rattle.driver_order.specs.declared.lists.NumberLists.{NumberLists}
 use Rattle.driver_order.specs.declared.names.Names.{Names}
 use Rattle.driver_order.specs.Lists.{numbers_of, IsPushed}
 use Rattle.driver_order.specs.Names.{IsFirst, NamesGrow, first_named}
-use Rattle.driver_order.specs.Order.{gives, givers}
+use Rattle.driver_order.specs.Order.{gives, name_asked}
 
 -- what is found in front, or else the one behind
 abbrev or_last : Option ℕ → Option ℕ → Option ℕ
@@ -34,13 +33,16 @@ filter_more : (test : ℕ → Bool) (xs : List ℕ) (n : ℕ) → filter test xs
 filter_more test [] n = refl
 filter_more test (x ∷ xs) n = kept_step (test x) x (filter test xs) (if test n then n ∷ [] else []) (filter test (xs ++ n ∷ [])) (filter_more test xs n)
 
-givers_more : (catalog : Catalog) (form : PartExpr → Option Guid) (drivers : List ℕ) (number : ℕ) (old new : NumberLists) (given : Option Guid)
-    → given ≡ name_by form catalog number → IsPushed old given number new → ((name : Guid) → numbers_of old name ≡ givers form catalog drivers name)
-    → (name : Guid) → numbers_of new name ≡ givers form catalog (drivers ++ number ∷ []) name
-givers_more catalog form drivers number old new given is pushed are name =
+-- those of some drivers that give a name, whatever name each gives
+abbrev giving : (ℕ → Option Guid) → List ℕ → Guid → List ℕ
+giving of drivers name = filter (λ number. gives name (of number)) drivers
+
+giving_more : (of : ℕ → Option Guid) (drivers : List ℕ) (number : ℕ) (old new : NumberLists) (given : Option Guid) → given ≡ of number → IsPushed old given number new
+    → ((name : Guid) → numbers_of old name ≡ giving of drivers name) → (name : Guid) → numbers_of new name ≡ giving of (drivers ++ number ∷ []) name
+giving_more of drivers number old new given is pushed are name =
     pushed name ∙ ap (λ xs. xs ++ (if gives name given then number ∷ [] else [])) (are name)
-    ∙ ap (λ g. givers form catalog drivers name ++ (if gives name g then number ∷ [] else [])) is
-    ∙ filter_more (λ n. gives name (name_by form catalog n)) drivers number
+    ∙ ap (λ g. giving of drivers name ++ (if gives name g then number ∷ [] else [])) is
+    ∙ filter_more (λ n. gives name (of n)) drivers number
 
 first_more : (catalog : Catalog) (drivers : List ℕ) (number : ℕ) (old new : List (Guid × ℕ)) → IsFirst old (module_name catalog number) number new
     → ((name : Guid) → value_of old name ≡ first_named catalog drivers name) → (name : Guid) → value_of new name ≡ first_named catalog (drivers ++ number ∷ []) name
@@ -48,11 +50,12 @@ first_more catalog drivers number old new first are name =
     let last : Option ℕ = if same_guid (module_name catalog number) name then Some number else None in
     first name ∙ ap (λ found. or_last found last) (are name) ∙ found_more (λ n. same_guid (module_name catalog n) name) drivers number
 
-pub names_more : (catalog : Catalog) (number : ℕ) (old new : Names) (before after : Option Guid) → before ≡ name_by before_of catalog number → after ≡ name_by after_of catalog number
-    → IsFirst old.first (module_name catalog number) number new.first → IsPushed old.befores before number new.befores → IsPushed old.afters after number new.afters
-    → NamesGrow catalog old (number ∷ []) new
-names_more catalog number old new before after b a first befores afters drivers are = record {
+pub names_more : (catalog : Catalog) (number : ℕ) (old new : Names) (before after asked : Option Guid) → before ≡ name_by before_of catalog number → after ≡ name_by after_of catalog number
+    → asked ≡ name_asked catalog number → IsFirst old.first (module_name catalog number) number new.first → IsPushed old.befores before number new.befores → IsPushed old.afters after number new.afters
+    → IsPushed old.asking asked number new.asking → NamesGrow catalog old (number ∷ []) new
+names_more catalog number old new before after asked b a k first befores afters asking drivers are = record {
   first_is = first_more catalog drivers number old.first new.first first are.first_is;
-  befores_are = givers_more catalog before_of drivers number old.befores new.befores before b befores are.befores_are;
-  afters_are = givers_more catalog after_of drivers number old.afters new.afters after a afters are.afters_are;
+  befores_are = giving_more (name_by before_of catalog) drivers number old.befores new.befores before b befores are.befores_are;
+  afters_are = giving_more (name_by after_of catalog) drivers number old.afters new.afters after a afters are.afters_are;
+  asking_are = giving_more (name_asked catalog) drivers number old.asking new.asking asked k asking are.asking_are;
 }

@@ -56,7 +56,7 @@ room_more catalog volumes more new now drivers most few known is same are =
     omega (arith, fits, few, long)
 
 pub names_of : (catalog : Catalog) (volumes listed drivers : List ℕ) (names : Names) → IsOrderOf catalog volumes (order_by listed drivers names) → AreNames catalog (drivers_of catalog volumes) names
-names_of catalog volumes listed drivers names is = record { first_is = is.first_is; befores_are = is.befores_are; afters_are = is.afters_are }
+names_of catalog volumes listed drivers names is = record { first_is = is.first_is; befores_are = is.befores_are; afters_are = is.afters_are; asking_are = is.asking_are }
 
 pub order_more : (catalog : Catalog) (volumes more listed now drivers grown numbers : List ℕ) (old new : Names) → AreKnown catalog now → now ≡ volumes ++ more
     → grown ≡ drivers ++ drivers_of catalog more → numbers ≡ drivers_of catalog more → NamesGrow catalog old numbers new
@@ -72,4 +72,5 @@ order_more catalog volumes more listed now drivers grown numbers old new known i
       first_is = later.first_is;
       befores_are = later.befores_are;
       afters_are = later.afters_are;
+      asking_are = later.asking_are;
     }

@@ -9,7 +9,7 @@ use Rattle.catalog_model.specs.Parts.{module_name}
 use Rattle.boot_model.specs.DxeChoice.{before_of, after_of}
 use Rattle.driver_order.specs.declared.names.Names.{Names}
 use Rattle.driver_order.specs.Lists.{entries_of, numbers_of}
-use Rattle.driver_order.specs.Order.{Drivers, givers}
+use Rattle.driver_order.specs.Order.{Drivers, givers, askers}
 
 -- the first of these drivers that has a file name
 abbrev pub first_named : Catalog → List ℕ → Guid → Option ℕ
@@ -26,6 +26,7 @@ pub record AreNames (catalog : Catalog) (drivers : List ℕ) (names : Names) : T
   pub first_is : (name : Guid) → value_of names.first name ≡ first_named catalog drivers name
   pub befores_are : (name : Guid) → numbers_of names.befores name ≡ givers before_of catalog drivers name
   pub afters_are : (name : Guid) → numbers_of names.afters name ≡ givers after_of catalog drivers name
+  pub asking_are : (name : Guid) → numbers_of names.asking name ≡ askers catalog drivers name
 
 -- the names of some drivers have become those of these drivers and others behind them
 abbrev pub NamesGrow : Catalog → Names → List ℕ → Names → Type 0
@@ -39,4 +40,5 @@ order_by volumes drivers names = record {
   first = names.first;
   befores = entries_of names.befores;
   afters = entries_of names.afters;
+  asking = entries_of names.asking;
 }

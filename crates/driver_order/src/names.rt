@@ -1,23 +1,25 @@
 // What is kept of drivers by the names of files.
-ghost use Rattle.std.specs.Prelude.{◌≡◌, ◌∷◌, [], OnOk};
+ghost use Rattle.std.specs.Prelude.{◌≡◌, ◌&&◌, ◌∷◌, [], OnOk, Some, is_none};
 ghost use Rattle.boot_model.specs.DxeChoice as C;
 ghost use Rattle.driver_order.specs.Names.{AreNames, IsFirst, NamesGrow};
+ghost use Rattle.driver_order.specs.Order.{name_asked};
 ghost use Rattle.catalog_model.specs.declared.catalog.Catalog.{Catalog};
 
 use crate::lists::NumberLists;
-use catalog_model::{Catalog, PartExpr};
+use catalog_model::{Catalog, Part, PartExpr};
 use depex_code::Depex;
 use frames::{name_of, part_of};
 use guid_map::GuidMap;
 use pi_base::{Guid, OutOfMemory, Phase};
 use std::alloc::Global;
 
-/// For each file name its first driver, and the drivers whose BEFORE and whose AFTER gives it, each in discovered order.
+/// For each file name its first driver, the drivers whose BEFORE and whose AFTER gives it, and those of this name that a request is waited for, each in discovered order.
 #[derive(Drop)]
 pub(crate) struct Names {
     pub(crate) first: GuidMap<u32>,
     pub(crate) befores: NumberLists,
     pub(crate) afters: NumberLists,
+    pub(crate) asking: NumberLists,
 }
 
 // The name that an expression gives in BEFORE.
@@ -51,6 +53,39 @@ fn given_by(catalog: &Catalog, number: u32) -> (Option<Guid>, Option<Guid>)
     }
 }
 
+// Whether a driver starts only on request: its expression begins with SOR (PI 1.8, volume 2, "Dependency Expressions").
+fn asks_for_request(part: &Part) -> bool
+    ensures { result ≡ C.asks_for_request (Some part.now) }
+{
+    match &part.expr {
+        PartExpr::Held(Depex::Expr { sor, .. }) => *sor,
+        _ => false,
+    }
+}
+
+// Whether a driver starts on request alone: one that its volume's a priori list has is scheduled without.
+fn waits_for_request(part: &Part) -> bool
+    ensures { result ≡ (is_none part.now.rank && C.asks_for_request (Some part.now)) }
+{
+    part.rank.is_none() && asks_for_request(part)
+}
+
+// The file name of a driver that a request is waited for.
+fn name_asked(catalog: &Catalog, number: u32) -> Option<Guid>
+    ensures { result ≡ name_asked catalog.now number }
+{
+    match part_of(catalog, Phase::Dxe, number) {
+        Some(part) => {
+            if waits_for_request(part) {
+                Some(name_of(catalog, number))
+            } else {
+                None
+            }
+        }
+        None => None,
+    }
+}
+
 // Gives a name its first number, if it has none.
 fn put_first(first: &mut GuidMap<u32>, name: Guid, number: u32) -> Result<(), OutOfMemory>
     ensures { OnOk result (IsFirst first.old name number first.new) }
@@ -71,6 +106,7 @@ impl Names {
             first: GuidMap::new(alloc),
             befores: NumberLists::new(alloc),
             afters: NumberLists::new(alloc),
+            asking: NumberLists::new(alloc),
         }
     }
 
@@ -81,7 +117,8 @@ impl Names {
         let (before, after) = given_by(catalog, number);
         put_first(&mut self.first, name_of(catalog, number), number)?;
         self.befores.push_under(before, number)?;
-        self.afters.push_under(after, number)
+        self.afters.push_under(after, number)?;
+        self.asking.push_under(name_asked(catalog, number), number)
     }
 
     /// These drivers more, one after the other.

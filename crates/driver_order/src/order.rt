@@ -6,7 +6,7 @@ ghost use Rattle.catalog_model.specs.Parts.{has_number};
 ghost use Rattle.catalog_model.specs.WellFormed.{IsWellFormed};
 ghost use Rattle.boot_model.specs.Discovery.{discoveries};
 ghost use Rattle.boot_model.specs.DxeChoice.{drivers_of};
-ghost use Rattle.driver_order.specs.Order.{IsOrderOf, OrderGrows, first_of, befores_of, afters_of};
+ghost use Rattle.driver_order.specs.Order.{IsOrderOf, OrderGrows, first_of, befores_of, afters_of, asking_of};
 
 use crate::names::Names;
 use catalog_model::Catalog;
@@ -130,5 +130,12 @@ impl DriverOrder {
         ensures { result.now ≡ afters_of self.now name.now }
     {
         self.names.afters.of(name)
+    }
+
+    /// The drivers of a file name that a request is waited for: they start on request alone, and their volumes' a priori lists have them not.
+    pub fn asking(&self, name: &Guid) -> &[u32]
+        ensures { result.now ≡ asking_of self.now name.now }
+    {
+        self.names.asking.of(name)
     }
 }

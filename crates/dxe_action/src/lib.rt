@@ -15,5 +15,5 @@ mod services;
 
 pub use action::take_own;
 pub use reply::Reply;
-pub use requests::{asks_for_request, is_requested};
+pub use requests::is_requested;
 pub use services::DxeServices;

@@ -3,49 +3,51 @@ ghost use Rattle.std.specs.Prelude.{◌≡◌, ◌<◌, length, Some, IfSome, Is
 ghost use Rattle.act_code.specs.declared.action.Action.TheVariants as A;
 ghost use Rattle.boot_model.specs.DxeMachine.{DriverFrame};
 ghost use Rattle.dxe_action.specs.Answered.{GrowByOne};
-ghost use Rattle.dxe_action.specs.Requests.{Requests, asked_for, is_asked_for, waits_for_request};
+ghost use Rattle.driver_order.specs.Order.{asking_of};
+ghost use Rattle.dxe_action.specs.Requests.{Requests, first_down, is_down};
 ghost use Rattle.dxe_action.specs.Services.{AreServicesFor};
 
 use crate::reply::Reply;
-use crate::requests::{asks_for_request, is_requested};
+use crate::requests::is_requested;
 use crate::services::DxeServices;
 use boot_model::CallName;
-use catalog_model::{Catalog, Module};
+use catalog_model::Catalog;
 use pi_base::{Guid, Word};
 
-// Whether the driver of a module asks for a request, and has no place in its volume's a priori list.
-fn waits(driver: &Module) -> bool
-    ensures { result ≡ waits_for_request driver.now }
-{
-    match &driver.dxe {
-        Some(part) => part.rank.is_none() && asks_for_request(part),
-        None => false,
-    }
-}
-
-// Whether a driver is one of this file name that a request is waited for.
-fn is_asked_for(catalog: &Catalog, requested: &[bool], name: &Guid, number: u32) -> bool
-    ensures asked { result ≡ is_asked_for catalog.now requested.now name.now number }
+// Whether a driver was not requested yet.
+fn is_down(catalog: &Catalog, requested: &[bool], number: u32) -> bool
+    ensures down { result ≡ is_down catalog.now requested.now number }
     ensures within { IsTrue result → number < length catalog.now.modules }
 {
     match catalog.modules.as_slice().get(number as usize) {
-        Some(found) => waits(found) && !is_requested(requested, number) && found.name == *name,
+        Some(_) => !is_requested(requested, number),
         None => false,
     }
 }
 
-// The first driver of this file name, in discovered order, that a request is waited for.
-fn asked_for(services: &DxeServices, catalog: &Catalog, name: &Guid) -> Option<u32>
-    ensures first { result ≡ asked_for catalog.now services.now.requested name.now services.now.order.drivers }
+// The first of these drivers that was not requested yet.
+fn first_down(catalog: &Catalog, requested: &[bool], asking: &[u32]) -> Option<u32>
+    ensures first { result ≡ first_down catalog.now requested.now asking.now }
     ensures within { IfSome result (λ number. number < length catalog.now.modules) }
 {
-    let requested = services.requested.as_slice();
-    'drivers: for number in services.order.drivers() {
-        if is_asked_for(catalog, requested, name, *number) {
+    'drivers: for number in asking {
+        if is_down(catalog, requested, *number) {
             return Some(*number);
         }
     }
     None
+}
+
+// The first driver of this file name, in discovered order, that a request is waited for.
+fn asked_for(services: &DxeServices, catalog: &Catalog, name: &Guid) -> Option<u32>
+    ensures first { result ≡ first_down catalog.now services.now.requested (asking_of services.now.order name.now) }
+    ensures within { IfSome result (λ number. number < length catalog.now.modules) }
+{
+    first_down(
+        catalog,
+        services.requested.as_slice(),
+        services.order.asking(name),
+    )
 }
 
 /// The action `schedule`: the first driver of a file name that waits for a request is requested.

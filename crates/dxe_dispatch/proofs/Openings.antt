@@ -1,5 +1,5 @@
 -- The core at the opening behind a hand-off.
-use Rattle.std.proofs.Common.{◌≡◌, ℕ, ◌+◌, ◌-◌, Bool, List, [], Option, Result, Ok, Err, sym, ◌∙◌, subst, arith}
+use Rattle.std.proofs.Common.{◌≡◌, ℕ, ◌≤◌, Bool, List, [], Option, Result, Ok, Err, refl, sym, ◌∙◌, subst, arith}
 use Rattle.std.specs.Prelude.{IfOk}
 use Rattle.boot_trace.proofs.Lines.{part_none}
 use Rattle.catalog_model.specs.declared.catalog.Catalog.{Catalog}
@@ -12,8 +12,11 @@ use Rattle.boot_model.specs.declared.phase_end.DxeEnd.{DxeEnd}
 use Rattle.boot_model.specs.DxeMachine.{DxeMachine}
 use Rattle.dxe_choice.specs.Queue.{Queue}
 use Rattle.dxe_core.specs.Standing.{DxeCore, IsCoreOf, StandsFor}
-use Rattle.dxe_dispatch.specs.Choices.{BarsBy, EndsBy, HasBooted, HasStayed, StopsShort}
+use Rattle.dxe_dispatch.specs.Choices.{BarsBy, BootsBy, LeavesBy, RunsBy, StopsShort, handles_of, leaves}
+use Rattle.dxe_dispatch.specs.declared.boot.Run.{Run}
 use Rattle.dxe_dispatch.specs.Ends.{IsOpened}
+use Rattle.free_laws.specs.declared.choice.Reached.{Reached}
+use Rattle.free_laws.specs.declared.choice.Reached.TheVariants as R
 
 -- the volumes at the bases of the store's FV HOBs have just been discovered
 pub stands_at_opening : {M : Type 0} (stands : M → StoreState → Type 0) (store : M) (catalog : Catalog) (core : DxeCore) (s : StoreState) (actions : ℕ) (bases : List ℕ) → stands store s → bases ≡ fv_bases s
@@ -28,19 +31,34 @@ pub opened : {M E : Type 0} (stands : M → StoreState → Type 0) (store : M) (
 opened stands store catalog taken bases are (Ok core) is = λ s here. stands_at_opening stands store catalog core s taken bases here (are s here) (is s)
 opened stands store catalog taken bases are (Err fault) is = tt
 
--- the handles of the last machine are those of the core
-pub booted : {M : Type 0} (Names : DxeMachine → Option ℕ → Type 0) (Lets : DxeMachine → ℕ → Bool) (stands : M → StoreState → Type 0) (store : M) (catalog : Catalog) (fuel : ℕ) (opening : DxeMachine) (core : DxeCore) (queue : Queue) (how : DxeEnd) (handles : HandleState) (old new : Option (List ℕ))
-    → handles ≡ core.services.handles → EndsBy Names Lets stands store catalog fuel opening core queue how old new → HasBooted Names Lets catalog fuel opening (record { «end» = how; handles = handles }) old new
-booted Names Lets stands store catalog fuel opening core queue how handles old new same run =
-    record { earlier = run.earlier; run = run.run; ended = run.ended; has = run.now.machine.core.services.handles ∙ sym same }
+-- the queue is gone
+pub left_behind : {M : Type 0} (Names : DxeMachine → Option ℕ → Type 0) (Lets : DxeMachine → ℕ → Bool) (stands : M → StoreState → Type 0) (store : M) (catalog : Catalog) (fuel : ℕ) (opening : DxeMachine) (core : DxeCore) (queue : Queue) (reached : Reached DxeEnd) (left : ℕ) (old new : Option (List ℕ))
+    → left ≡ queue.left → RunsBy Names Lets stands store catalog fuel opening core queue old new (Ok reached) → LeavesBy Names Lets stands store catalog fuel opening core old new (Ok (record { reached = reached; left = left }))
+left_behind Names Lets stands store catalog fuel opening core queue reached left old new same run = (queue, same, run)
 
--- and so are those before a start that is not let; the driver has left the queue
-pub stayed : {M : Type 0} (Names : DxeMachine → Option ℕ → Type 0) (Lets : DxeMachine → ℕ → Bool) (stands : M → StoreState → Type 0) (store : M) (catalog : Catalog) (fuel : ℕ) (opening : DxeMachine) (core : DxeCore) (queue : Queue) (number : ℕ) (handles : HandleState) (in_pei starts : ℕ) (old new : Option (List ℕ))
-    → handles ≡ core.services.handles → starts ≡ in_pei + queue.left → BarsBy Names Lets stands store catalog fuel opening core queue number old new
-    → HasStayed Names Lets catalog fuel opening in_pei (record { number = number; handles = handles; starts = starts - 1 }) old new
-stayed Names Lets stands store catalog fuel opening core queue number handles in_pei starts old new same counted run =
-    let left = run.left.left in
-    record { earlier = run.earlier; run = run.run; bars = run.bars; has = run.left.machine.core.services.handles ∙ sym same; starts_are = omega (arith, counted, left) }
+-- a driver that was not let has left it
+pub some_left : {M : Type 0} (Names : DxeMachine → Option ℕ → Type 0) (Lets : DxeMachine → ℕ → Bool) (stands : M → StoreState → Type 0) (store : M) (catalog : Catalog) (fuel : ℕ) (opening : DxeMachine) (core : DxeCore) (run : Run) (old new : Option (List ℕ))
+    → LeavesBy Names Lets stands store catalog fuel opening core old new (Ok run) → (number : ℕ) → run.reached ≡ R.Barred number → 1 ≤ run.left
+some_left Names Lets stands store catalog fuel opening core run old new by number is =
+    let bars : BarsBy Names Lets stands store catalog fuel opening core by.0 number old new = subst (λ r. RunsBy Names Lets stands store catalog fuel opening core by.0 old new (Ok r)) is by.2 in
+    let left = bars.left.left in
+    let same = by.1 in
+    omega (arith, left, same)
+
+-- the handles of the last machine are those of the core
+pub boots : {M : Type 0} (Names : DxeMachine → Option ℕ → Type 0) (Lets : DxeMachine → ℕ → Bool) (stands : M → StoreState → Type 0) (store : M) (catalog : Catalog) (fuel : ℕ) (opening : DxeMachine) (core : DxeCore) (queue : Queue) (reached : Reached DxeEnd) (handles : HandleState) (in_pei left : ℕ) (old new : Option (List ℕ))
+    → handles ≡ core.services.handles → left ≡ queue.left → RunsBy Names Lets stands store catalog fuel opening core queue old new (Ok reached)
+    → BootsBy Names Lets catalog fuel opening in_pei old new (Ok (leaves in_pei handles left reached))
+boots Names Lets stands store catalog fuel opening core queue (R.End how) handles in_pei left old new same counted run =
+    record { earlier = run.earlier; run = run.run; ended = run.ended; has = run.now.machine.core.services.handles ∙ sym same }
+boots Names Lets stands store catalog fuel opening core queue (R.Barred number) handles in_pei left old new same counted run =
+    let started = run.left.left in
+    record { earlier = run.earlier; run = run.run; bars = run.bars; has = run.left.machine.core.services.handles ∙ sym same; starts_are = omega (arith, counted, started) }
+
+-- either way these handles are left
+pub handles_are : (in_pei : ℕ) (handles : HandleState) (left : ℕ) (reached : Reached DxeEnd) → handles_of (leaves in_pei handles left reached) ≡ handles
+handles_are in_pei handles left (R.End how) = refl
+handles_are in_pei handles left (R.Barred number) = refl
 
 -- memory is wanting before anything ran
 pub none_ran : (Names : DxeMachine → Option ℕ → Type 0) (Lets : DxeMachine → ℕ → Bool) (catalog : Catalog) (fuel : ℕ) (opening : DxeMachine) (old : Option (List ℕ)) → StopsShort Names Lets catalog fuel opening old old

@@ -1,6 +1,6 @@
 -- A run of DXE by choices: where a driver is to be chosen, the choices may name one. The group is scheduled of the driver to which BEFORE and AFTER lead from it, where that one waits and may start; then, as everywhere, the machine takes its own step. Before a driver starts, also one of a group that is scheduled already, they let it, or the run is left there.
 -- Own; PI 1.8, volume 2, "DXE Dispatcher", leaves the order to the dispatcher.
-use Rattle.std.specs.Prelude.{◌≡◌, ◌≤◌, ◌+◌, ℕ, Bool, false, length, sum_by, List, [], ◌∷◌, Option, Some, None, Result, Ok, Err, OnOk, ⊤}
+use Rattle.std.specs.Prelude.{◌≡◌, ◌≤◌, ◌+◌, ◌-◌, ℕ, Bool, false, length, sum_by, List, [], ◌∷◌, Option, Some, None, Result, Ok, Err, OnOk, ⊤}
 use Rattle.std.specs.Io.KnownBytes.{Appends}
 use Rattle.boot_io.specs.declared.halt.Halt.{Halt}
 use Rattle.boot_io.specs.Sink.{AppendsPart}
@@ -28,6 +28,7 @@ use Rattle.dxe_dispatch.specs.declared.boot.Barred.{Barred}
 use Rattle.dxe_dispatch.specs.declared.boot.Ended.{Ended}
 use Rattle.dxe_dispatch.specs.declared.boot.Left.{Left}
 use Rattle.dxe_dispatch.specs.declared.boot.Left.TheVariants as V
+use Rattle.dxe_dispatch.specs.declared.boot.Run.{Run}
 use Rattle.dxe_dispatch.specs.Ends.{HasEnded, IsNow, StandsAtEnd}
 use Rattle.dxe_dispatch.specs.Turns.{AreOf, IsLeft, IsStarting, IsWithin, PassesStart, TurnsTo}
 
@@ -160,6 +161,26 @@ RunsByChoice names lets text faults in_pei stands store catalog core sink later 
     (s : StoreState) (actions fuel : ℕ) → IsFor catalog fuel core → StandsFor stands store catalog core (dxe_opening catalog s actions)
     → RunsBy (NamesDrivers names text faults in_pei sink) (LetsDrivers lets in_pei) stands store catalog fuel (dxe_opening catalog s actions)
     later queue (text sink) (text shown) result
+
+-- the same where the queue is gone, of which is kept how many drivers have left it
+abbrev pub LeavesBy : {M : Type 0} → (DxeMachine → Option ℕ → Type 0) → (DxeMachine → ℕ → Bool) → (M → StoreState → Type 0) → M → Catalog → ℕ
+    → DxeMachine → DxeCore → Option (List ℕ) → Option (List ℕ) → Result Run Halt → Type 0
+LeavesBy Names Lets stands store catalog fuel opening later old new (Ok run) =
+    (queue : Queue) × (run.left ≡ queue.left) × RunsBy Names Lets stands store catalog fuel opening later queue old new (Ok run.reached)
+LeavesBy Names Lets stands store catalog fuel opening later old new (Err halt) = StopsShort Names Lets catalog fuel opening old new
+
+abbrev pub LeavesByChoice : {M S : Type 0} → (S → ℕ → Option ℕ → Type 0) → (ℕ → ℕ → Bool) → (S → Option (List ℕ)) → (S → ℕ) → ℕ
+    → (M → StoreState → Type 0) → M → Catalog
+    → DxeCore → S → DxeCore → S → Result Run Halt → Type 0
+LeavesByChoice names lets text faults in_pei stands store catalog core sink later shown result =
+    (s : StoreState) (actions fuel : ℕ) → IsFor catalog fuel core → StandsFor stands store catalog core (dxe_opening catalog s actions)
+    → LeavesBy (NamesDrivers names text faults in_pei sink) (LetsDrivers lets in_pei) stands store catalog fuel (dxe_opening catalog s actions)
+    later (text sink) (text shown) result
+
+-- what is left behind it, by what it came to; a driver that was not let has left the queue too
+abbrev pub leaves : ℕ → HandleState → ℕ → Reached DxeEnd → Left
+leaves in_pei handles left (R.End how) = V.Ended (record { «end» = how; handles = handles })
+leaves in_pei handles left (R.Barred number) = V.Barred (record { number = number; handles = handles; starts = in_pei + (left - 1) })
 
 -- a whole run by choices that has come to its end, and hands its handles on
 pub record HasBooted (Names : DxeMachine → Option ℕ → Type 0) (Lets : DxeMachine → ℕ → Bool) (catalog : Catalog) (fuel : ℕ)

@@ -1,16 +1,15 @@
 //! DXE behind a hand-off.
-ghost use Rattle.std.specs.Prelude.{◌≡◌, ◌<◌, ◌^◌, ℕ, IfOk, OnOk, length};
+ghost use Rattle.std.specs.Prelude.{◌≡◌, ◌≤◌, ◌<◌, ◌^◌, ℕ, IfOk, OnOk, length};
 ghost use Rattle.boot_io.specs.Halted.{HaltsAfter};
 ghost use Rattle.catalog_model.specs.WellFormed.{IsWellFormed};
 ghost use Rattle.store_model.specs.Service.{Present, OfEach};
 ghost use Rattle.store_model.specs.StoreCall.{Anything};
 ghost use Rattle.dxe_core.specs.Standing.{IsFor};
-ghost use Rattle.dxe_choice.specs.Queue.{IsNewQueue, IsQueueFor};
-ghost use Rattle.dxe_dispatch.specs.Choices.{BootsByChoice, RunsByChoice, handles_of};
+ghost use Rattle.free_laws.specs.declared.choice.Reached.TheVariants as R;
+ghost use Rattle.dxe_dispatch.specs.Choices.{BootsByChoice, LeavesByChoice, handles_of, leaves};
 ghost use Rattle.dxe_dispatch.specs.Ends.{IsAtOpening, IsOpened};
 
 use crate::run::run_dxe;
-use crate::starts::starts;
 use boot_io::{Halt, Sink};
 use boot_model::DxeEnd;
 use catalog_model::Catalog;
@@ -71,33 +70,63 @@ pub fn dxe_at_opening<M: PeiStore>(
     Dxe::begin(alloc, catalog, bases.as_slice(), fuel, taken)
 }
 
-// DXE from its opening. The expressions that are evaluated are counted in the ledger of a blank.
+// What a run came to, and how many drivers have left its queue.
+#[derive(Clone, Copy)]
+struct Run {
+    reached: Reached<DxeEnd>,
+    left: usize,
+}
+
+// DXE from its opening, over a queue that is made for it. The expressions that are evaluated are counted in the ledger of a blank.
 fn run_with_ledger<M: PeiStore, S: Sink, C: Choice<S>, L: Ledger>(
+    alloc: Global,
     dxe: &mut Dxe,
     store: &M,
-    queue: &mut DriverQueue,
     choice: &C,
     in_pei: u32,
     catalog: &Catalog,
     sink: &mut S,
     blank: Blank,
-) -> Result<Reached<DxeEnd>, Halt>
+) -> Result<Run, Halt>
     requires catalog { IsWellFormed catalog.now }
     requires made { (fuel : ℕ) × IsFor catalog.now fuel dxe.old }
-    requires new { IsNewQueue catalog.now queue.old }
-    requires queue { IsQueueFor catalog.now queue.old }
     requires opening { IsAtOpening M.stands_for store.now catalog.now dxe.old }
     requires name { blank.name ≡ L.name }
     requires parts { blank.parts ≡ L.parts }
     requires counts { 0 < L.parts }
-    ensures row { RunsByChoice (C.drivers choice.now) (C.lets_in_dxe choice.now) S.text S.faults in_pei M.stands_for store.now catalog.now
-        dxe.old sink.old dxe.new queue.new sink.new result }
+    ensures row { LeavesByChoice (C.drivers choice.now) (C.lets_in_dxe choice.now) S.text S.faults in_pei M.stands_for store.now
+        catalog.now dxe.old sink.old dxe.new sink.new result }
     ensures few { dxe.old.fuel.taken < 2 ^ 32 → OnOk result (length dxe.new.services.handles.interfaces < 2 ^ 32) }
-    ensures few_starts { OnOk result (queue.new.left < 2 ^ 32) }
+    ensures few_starts { IfOk result (λ run. run.left < 2 ^ 32) }
     ensures faults { HaltsAfter result (S.faults sink.old) (S.faults sink.new) }
 {
+    let mut queue = DriverQueue::new(alloc, catalog)?;
     let mut steps = Steps::<L>::new(blank);
-    run_dxe(dxe, store, queue, choice, in_pei, catalog, sink, &mut steps)
+    let reached = run_dxe(
+        dxe, store, &mut queue, choice, in_pei, catalog, sink, &mut steps,
+    );
+    let left = queue.left_count();
+    drop(queue);
+    Ok(Run {
+        reached: reached?,
+        left,
+    })
+}
+
+// What DXE leaves behind a run, with these handles. A driver that was not let has left the queue too.
+fn left_by(run: Run, in_pei: u32, handles: Handles) -> Left
+    requires few { run.left < 2 ^ 32 }
+    requires some { (number : ℕ) → run.reached ≡ R.Barred number → 1 ≤ run.left }
+    ensures { result ≡ leaves in_pei handles run.left run.reached }
+{
+    match run.reached {
+        Reached::End(end) => Left::Ended(Ended { end, handles }),
+        Reached::Barred(number) => Left::Barred(Barred {
+            number,
+            handles,
+            starts: u64::from(in_pei) + (run.left - 1) as u64,
+        }),
+    }
 }
 
 /// The whole of DXE behind the hand-off of a store, where a choice may name the driver that starts, and says whether it does. `fuel` is how many actions may be taken in both phases, `taken` how many PEI took, and `in_pei` how many starts there were in it. No more interfaces are left than a `u32` counts.
@@ -113,27 +142,16 @@ pub fn boot_dxe<M: PeiStore, S: Sink, C: Choice<S>>(
 ) -> Result<Left, Halt>
     requires catalog { IsWellFormed catalog.now }
     requires state { Present (M.stands_for store.now) Anything }
-    ensures row { OfEach (M.stands_for store.now) Anything (BootsByChoice (C.drivers choice.now) (C.lets_in_dxe choice.now) S.text S.faults in_pei
-        catalog.now fuel taken sink.old sink.new result) }
+    ensures row { OfEach (M.stands_for store.now) Anything (BootsByChoice (C.drivers choice.now) (C.lets_in_dxe choice.now)
+        S.text S.faults in_pei catalog.now fuel taken sink.old sink.new result) }
     ensures few { IfOk result (λ left. length (handles_of left).interfaces < 2 ^ 32) }
     ensures faults { HaltsAfter result (S.faults sink.old) (S.faults sink.new) }
 {
     let mut dxe = dxe_at_opening(alloc, store, catalog, fuel, taken)?;
-    let mut queue = DriverQueue::new(alloc, catalog)?;
     let blank = Blank::new(1);
-    let reached = run_with_ledger::<M, S, C, Brand>(
-        &mut dxe, store, &mut queue, choice, in_pei, catalog, sink, blank,
-    )?;
-    match reached {
-        Reached::End(end) => Ok(Left::Ended(Ended {
-            end,
-            handles: dxe.into_handles(),
-        })),
-        Reached::Barred(number) => Ok(Left::Barred(Barred {
-            number,
-            handles: dxe.into_handles(),
-            // The driver that was not let has left the queue.
-            starts: starts(in_pei, &queue) - 1,
-        })),
-    }
+    let run = run_with_ledger::<M, S, C, Brand>(
+        alloc, &mut dxe, store, choice, in_pei, catalog, sink, blank,
+    );
+    let handles = dxe.into_handles();
+    Ok(left_by(run?, in_pei, handles))
 }

@@ -8,7 +8,6 @@ mod boot;
 mod choose;
 mod root;
 mod run;
-mod starts;
 mod stop;
 mod tell;
 mod turns;

@@ -53,8 +53,8 @@ pub fn run_dxe<M: PeiStore, S: Sink, C: Choice<S>, L: Ledger>(
     ensures few { dxe.old.fuel.taken < 2 ^ 32 → OnOk result (length dxe.new.services.handles.interfaces < 2 ^ 32) }
     ensures few_starts { OnOk result (queue.new.left < 2 ^ 32) }
     ensures faults { HaltsAfter result (S.faults sink.old) (S.faults sink.new) }
-    ensures few_steps { EvaluatesFewByChoice (C.drivers choice.now) (C.lets_in_dxe choice.now) S.text S.faults in_pei M.stands_for store.now catalog.now
-        dxe.old sink.old steps.old steps.new }
+    ensures few_steps { EvaluatesFewByChoice (C.drivers choice.now) (C.lets_in_dxe choice.now) S.text S.faults in_pei M.stands_for store.now
+        catalog.now dxe.old sink.old steps.old steps.new }
 {
     dxe_opens();
     dxe_goes_on();

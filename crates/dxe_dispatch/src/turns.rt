@@ -1,5 +1,5 @@
 // A turn of the run: a step of the machine.
-ghost use Rattle.std.specs.Prelude.{◌≢◌, ◌≤◌, ◌+◌, ℕ, Bool, [], OnOk};
+ghost use Rattle.std.specs.Prelude.{◌≡◌, ◌≢◌, ◌≤◌, ◌<◌, ◌+◌, ◌^◌, ℕ, Bool, [], OnOk};
 ghost use Rattle.boot_io.specs.Halted.{HaltsAfter};
 ghost use Rattle.boot_model.specs.DxeMachine.{DxeMachine};
 ghost use Rattle.catalog_model.specs.WellFormed.{IsWellFormed};
@@ -11,7 +11,6 @@ ghost use Rattle.dxe_dispatch.specs.Turns.{AreOf, IsReady, OwesBehind, Turns, Tu
 
 use crate::aim::{aim, named};
 use crate::choose::choose;
-use crate::starts::starts;
 use crate::stop::put_stop;
 use crate::tell::tell;
 use boot_io::{Halt, Sink};
@@ -23,6 +22,14 @@ use dxe_core::{Dxe, Stepped};
 use free_laws::{Choice, Reached, dxe_chooses_by_groups, dxe_goes_on, dxe_opens, groups_are_aimed};
 use std::sync::ledger::Ledger;
 use store_model::PeiStore;
+
+// How many starts there were: those in PEI, and one for each driver that has left the queue.
+fn starts(in_pei: u32, queue: &DriverQueue) -> u64
+    requires few { queue.now.left < 2 ^ 32 }
+    ensures { result ≡ in_pei + queue.now.left }
+{
+    u64::from(in_pei) + queue.left_count() as u64
+}
 
 // The next driver starts, if the choice lets it, or DXE stops. `starts` is how many starts there were.
 fn start_or_stop<S: Sink, C: Choice<S>, L: Ledger>(

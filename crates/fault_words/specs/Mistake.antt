@@ -1,5 +1,5 @@
 -- Mistakes of a plan's lines (own): a word of the line, and the rule that it breaks. What is said of a mistake is true of its line.
-use Rattle.std.specs.Prelude.{◌≡◌, ◌≢◌, ◌⊎◌, ◌<◌, ◌+◌, ◌-◌, ◌%◌, ℕ, List, [], ◌∷◌, Contains, codes, length, slice_index, Some, None}
+use Rattle.std.specs.Prelude.{◌≡◌, ◌≢◌, ◌⊎◌, ◌<◌, ◌+◌, ◌%◌, ℕ, List, [], ◌∷◌, Contains, codes, length, slice_index, Some, None}
 use Rattle.pi_base.specs.declared.span.TheConstants.{PAGE_LEN}
 use Rattle.boot_plan.specs.declared.limits.TheConstants.{LEAST_ADDRESS, MOST_END, VOLUME_ALIGNMENT, LEAST_TEMP, MOST_TEMP, LEAST_RAM, MOST_RAM, MOST_FUEL, MOST_PAGES, MOST_NAME}
 use Rattle.line_words.specs.Words.{words}

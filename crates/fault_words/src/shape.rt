@@ -51,13 +51,14 @@ pub(crate) fn shape_of(line: &[u8]) -> Shape<'_>
 }
 
 impl<'a> Shape<'a> {
-    ghost use Rattle.std.specs.Prelude.{◌≡◌, ◌∷◌, ℕ, List, IfSome};
+    ghost use Rattle.std.specs.Prelude.{◌≡◌, ◌∷◌, [], ℕ, List, IfSome, IsNone};
     ghost use Rattle.fault_words.specs.Shape.{HasShape};
 
     /// The first word.
     pub(crate) fn first(self) -> Option<&'a [u8]>
-        ensures { IfSome result
+        ensures found { IfSome result
             (λ word. (all : List (List ℕ)) → HasShape all self.entry → (rest : List (List ℕ)) × (all ≡ word.now ∷ rest)) }
+        ensures none { IsNone result → (all : List (List ℕ)) → HasShape all self.entry → all ≡ [] }
     {
         match self {
             Shape::Empty => None,

@@ -12,7 +12,6 @@ use Rattle.boot_model.specs.Text.{text_of}
 use Rattle.free_laws.specs.PeiFree.{AreLinesBehind, IsOwnCase, OwnPeiStepsAreFree, PeiEndsFreely, PeiGoesOn, PeiLinesGrow}
 use Rattle.free_text.specs.Following.{EndsLine}
 use Rattle.free_text.specs.Putting.{PartsByLine, PutsGoOn, PutsPart}
-use Rattle.free_text.specs.Spelled.{met}
 use Rattle.free_text.proofs.Telling.{not_parted}
 use Rattle.free_check.proofs.Lines.{begins_with, ends_after, lines_end}
 

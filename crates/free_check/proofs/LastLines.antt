@@ -1,5 +1,5 @@
 -- The last lines of a boot against a text.
-use Rattle.std.proofs.Common.{◌≡◌, ℕ, ◌+◌, ◌-◌, List, [], ◌++◌, refl, sym, ◌∙◌, inl, Some}
+use Rattle.std.proofs.Common.{◌≡◌, ℕ, List, [], ◌++◌, refl, sym, ◌∙◌, inl, Some}
 use Rattle.std.proofs.lemmas.List.{append-nil}
 use Rattle.boot_io.specs.Faults.{IsPrefix}
 use Rattle.boot_io.specs.Sink.{AppendsPart}

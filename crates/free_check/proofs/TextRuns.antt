@@ -1,5 +1,5 @@
 -- A run by the choices of a text: as far as the text has its lines, the free boots that begin so go on from it; and where the text has them no more, no free boot goes on as the text does.
-use Rattle.std.proofs.Common.{◌≡◌, ◌≤◌, ◌<◌, Bool, true, ℕ, zero, suc, ◌+◌, List, [], ◌∷◌, ◌++◌, Option, Some, None, refl, sym, ap, ◌∙◌, subst, length, arith, inl, inr}
+use Rattle.std.proofs.Common.{◌≡◌, ◌≤◌, ◌<◌, Bool, true, ℕ, zero, suc, List, [], ◌∷◌, ◌++◌, Option, Some, None, refl, sym, ap, ◌∙◌, subst, length, arith, inl, inr}
 use Rattle.std.specs.Prelude.{◌⊎◌}
 use Rattle.boot_io.specs.Faults.{IsPrefix}
 use Rattle.pi_base.specs.declared.guid.Guid.{Guid}

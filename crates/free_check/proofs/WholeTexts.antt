@@ -1,5 +1,5 @@
 -- A boot by the choices of a text: where it came to its end the text has all its lines, and where it was given up the text is off.
-use Rattle.std.proofs.Common.{◌≡◌, ℕ, Bool, true, true≢false, List, [], ◌++◌, Option, Some, Result, Ok, Err, sym, ap, ◌∙◌, subst, inl, inr}
+use Rattle.std.proofs.Common.{◌≡◌, ℕ, Bool, true, true≢false, List, [], ◌++◌, Some, Result, Ok, Err, sym, ap, ◌∙◌, subst, inl, inr}
 use Rattle.std.specs.Prelude.{◌↔◌}
 use Rattle.boot_io.specs.Faults.{IsPrefix}
 use Rattle.boot_io.specs.Halted.{HaltsAfter}
@@ -30,11 +30,10 @@ use Rattle.free_text.specs.declared.parted.Parted.{Parted}
 use Rattle.free_text.specs.declared.spelled.Spelled.{Spelled}
 use Rattle.free_text.specs.Following.{Tracks}
 use Rattle.free_text.specs.Putting.{HasParted, IsOffHere}
-use Rattle.free_text.specs.Spelled.{IsHeld, IsRight, faults_of, met, whole}
+use Rattle.free_text.specs.Spelled.{IsHeld, IsRight, faults_of, whole}
 use Rattle.free_text.proofs.Fronts.{prefix_then}
 use Rattle.free_text.proofs.Telling.{held_begins, held_on}
 use Rattle.pei_dispatch.specs.Choices.{ComesTo}
-use Rattle.dxe_dispatch.specs.Choices.{came}
 use Rattle.dxe_dispatch.proofs.Chosen.{StepLaws}
 use Rattle.whole_boot.specs.declared.boot.Booted.{Booted}
 use Rattle.whole_boot.specs.declared.boot.Booted.TheVariants as B

@@ -139,6 +139,7 @@ impl GuidIndex {
     /// Puts an entry in the place of another of its GUID. False where the GUIDs differ; then no entry is left.
     pub fn replace(&mut self, place: usize, entry: Indexed) -> bool
         requires { place < length self.old }
+        ensures same { result ≡ has_at self.old entry.guid place }
         ensures replaced { result ≡ true → self.new ≡ slice_set self.old place entry }
         ensures gone { result ≡ false → self.new ≡ [] }
     {

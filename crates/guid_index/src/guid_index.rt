@@ -1,5 +1,5 @@
 // Entries in order, found by their GUID.
-ghost use Rattle.std.specs.Prelude.{◌≡◌, [], true, length, slice_get, Some, IfOk};
+ghost use Rattle.std.specs.Prelude.{◌≡◌, ◌↔◌, IsTrue, [], true, length, slice_get, Some, IfOk};
 ghost use Rattle.guid_index.specs.Entries.{has_at, end_below};
 ghost use Rattle.guid_index.specs.Links.{IsLink};
 
@@ -81,7 +81,7 @@ impl GuidIndex {
 
     /// Whether there is no entry.
     pub fn is_empty(&self) -> bool
-        ensures { result ≡ true → self.now ≡ [] }
+        ensures { IsTrue result ↔ (self.now ≡ []) }
     {
         self.entries.is_empty()
     }

@@ -4,6 +4,7 @@ mod Faults
 mod OneRun
 mod OneMapReport
 mod OneContent
+mod Prints
 mod ToldFiles
 mod OneCheck
 mod OneOutcome

@@ -54,8 +54,8 @@ pub record Laws : Type 0 where
   pub volumes : (text a b : List ℕ) → Leads text a → Leads text b → a ≡ b
   pub volume_faults : (text : List ℕ) (a b : Fault) → IsRefused text (Bad a) → IsRefused text (Bad b) → a ≡ b
   pub volume_or_fault : (text bytes : List ℕ) (fault : Fault) → Leads text bytes → IsRefused text (Bad fault) → ⊥
-  pub printed : (image a b : List ℕ) → IsTextOf image a → IsTextOf image b → a ≡ b
-  pub printed_or_fault : (image text : List ℕ) (fault : VolFault) → IsTextOf image text → IsFirstFault image fault → ⊥
+  pub volume_texts : (image a b : List ℕ) → IsTextOf image a → IsTextOf image b → a ≡ b
+  pub text_or_fault : (image text : List ℕ) (fault : VolFault) → IsTextOf image text → IsFirstFault image fault → ⊥
   pub image_faults : (image : List ℕ) (a b : VolFault) → IsFirstFault image a → IsFirstFault image b → a ≡ b
   pub file_or_line : (text : List ℕ) (a : MpFile) (n : ℕ) → IsMpFile text a → IsFirstBad text n → ⊥
 
@@ -131,9 +131,9 @@ one_volume laws text a b s t (at_fault g p e u) (built c q n f v) = absurd (laws
 one_volume laws text a b s t (at_fault g p e u) (at_fault h q f v) = (e ∙ sym f, u ∙ ap source_line (laws.volume_faults text g h p q) ∙ sym v)
 
 one_print : Laws → (image : List ℕ) → IsOne (PrintReport image)
-one_print laws image a b s t (printed c p e u) (printed d q f v) = (e ∙ sym f, u ∙ laws.printed image c d p q ∙ sym v)
-one_print laws image a b s t (printed c p e u) (no_volume g real q f v) = absurd (laws.printed_or_fault image c g p q)
-one_print laws image a b s t (no_volume g real p e u) (printed c q f v) = absurd (laws.printed_or_fault image c g q p)
+one_print laws image a b s t (printed c p e u) (printed d q f v) = (e ∙ sym f, u ∙ laws.volume_texts image c d p q ∙ sym v)
+one_print laws image a b s t (printed c p e u) (no_volume g real q f v) = absurd (laws.text_or_fault image c g p q)
+one_print laws image a b s t (no_volume g real p e u) (printed c q f v) = absurd (laws.text_or_fault image c g q p)
 one_print laws image a b s t (no_volume g real p e u) (no_volume h also q f v) = (e ∙ sym f, u ∙ ap fault_line (laws.image_faults image g h p q) ∙ sym v)
 
 pub one_content : Laws → (tool : Tool) (content : List ℕ) → AreBytes content → IsOne (ContentReport tool content)

@@ -1,5 +1,3 @@
-use Rattle.boot_core.specs.declared.deciding.Asked.TheVariants as A
-use Rattle.boot_core.specs.Outcome.{AskedOutcome}
 use Rattle.boot_core.proofs.Causes.{memory_kept}
 use Rattle.boot_core.proofs.WantOfMemory.{wanted_in_boot}
 use Rattle.boot_core.proofs.boot.run.Goals as goal

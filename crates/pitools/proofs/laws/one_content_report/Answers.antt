@@ -19,8 +19,8 @@ returns c =
       volumes = c.one_volume.ensures.volume;
       volume_faults = c.one_volume.ensures.fault;
       volume_or_fault = c.one_volume.ensures.apart;
-      printed = c.one_text.ensures.one;
-      printed_or_fault = c.one_text.ensures.apart;
+      volume_texts = c.one_text.ensures.one;
+      text_or_fault = c.one_text.ensures.apart;
       image_faults = c.one_reading-3.ensures.faults;
       file_or_line = c.one_reading-2.ensures.apart;
     } in

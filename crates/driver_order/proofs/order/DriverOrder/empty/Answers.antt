@@ -10,4 +10,5 @@ returns c catalog =
       first_is = names.first_is;
       befores_are = names.befores_are;
       afters_are = names.afters_are;
+      asking_are = names.asking_are;
     }
