@@ -26,7 +26,6 @@ pub(crate) fn volume_report(alloc: Global, text: &[u8]) -> Result<Report, OutOfM
 }
 
 /// What the bytes of a volume lead to.
-#[tactic(auto, using(crate::proofs::Prints::tells_text, crate::proofs::Prints::tells_fault))]
 pub(crate) fn print_report(alloc: Global, bytes: &[u8]) -> Result<Report, OutOfMemory>
     ensures { IfOk result (Tells (PrintReport bytes.now)) }
 {
