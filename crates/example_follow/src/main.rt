@@ -49,8 +49,7 @@ fn main(rt: HostRuntime) -> io::Result<()> {
     let Ok(Job { plan, images }) = read_job(rt.alloc(), "plan", &mut RealFiles::new(&rt)) else {
         return println!(rt; "no plan");
     };
-    let Ok(mut sink) =
-        RealSink::buffered(rt.alloc(), PatientWriter::new(io::writer(&rt), &rt))
+    let Ok(mut sink) = RealSink::buffered(rt.alloc(), PatientWriter::new(io::writer(&rt), &rt))
     else {
         return println!(rt; "no memory");
     };
