@@ -1,12 +1,12 @@
 -- A start among those of lines of an order.
-use Rattle.std.proofs.Common.{◌≡◌, ℕ, ◌==◌, Bool, true, false, true≢false, ◌&&◌, ◌||◌, List, [], ◌∷◌, ◌++◌, refl, sym, ap, ◌∙◌, subst, inl, inr}
+use Rattle.std.proofs.Common.{◌≡◌, ◌==◌, Bool, true, false, true≢false, ◌&&◌, ◌||◌, List, [], ◌∷◌, ◌++◌, refl, sym, ap, ◌∙◌, inl, inr}
 use Rattle.std.specs.Prelude.{◌⊎◌}
 use Rattle.std.proofs.lemmas.Cmp.{nat_list_eq_equiv}
 use Rattle.pi_base.specs.Guids.{same_guid}
 use Rattle.start_order.specs.declared.line.AskedStart.{AskedStart}
 use Rattle.start_order.specs.declared.line.Start.{Start}
 use Rattle.order_check.specs.Against.{IsAmong}
-use Rattle.order_check.specs.ByOrder.{same_phase, starts_of}
+use Rattle.order_check.specs.ByOrder.{starts_of}
 use Rattle.order_check.specs.Finding.{is_among_asked, same_start}
 use Rattle.order_check.proofs.Along.{nat_self, phase_self, same_starts}
 

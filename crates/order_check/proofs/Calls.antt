@@ -1,5 +1,5 @@
 -- What the parts of a boot along an order leave, put together.
-use Rattle.std.proofs.Common.{◌≡◌, ℕ, ◌+◌, ◌-◌, Bool, arith, List, [], ◌∷◌, ◌++◌, length, Option, Some, None, Result, Ok, Err, IfOk, refl, sym, ap, ◌∙◌, subst}
+use Rattle.std.proofs.Common.{◌≡◌, ℕ, ◌+◌, ◌-◌, Bool, arith, List, [], ◌++◌, length, Option, Some, None, Result, Ok, Err, IfOk, refl, sym, ap, ◌∙◌, subst}
 use Rattle.std.specs.Prelude.{slice_get}
 use Rattle.std.proofs.lemmas.List.{append-nil}
 use Rattle.std.specs.Io.KnownBytes.{Appends}
@@ -25,7 +25,7 @@ use Rattle.pei_dispatch.specs.Ends.{pei_starts}
 use Rattle.dxe_choice.specs.Queue.{Queue}
 use Rattle.dxe_core.specs.Standing.{DxeCore}
 use Rattle.dxe_dispatch.specs.Choices.{BarsBy, EndsBy}
-use Rattle.whole_boot.specs.Closing.{closing, closing_text}
+use Rattle.whole_boot.specs.Closing.{closing}
 use Rattle.whole_boot.proofs.ClosingTexts.{closing_is}
 use Rattle.order_check.specs.declared.following.Followed.{Followed}
 use Rattle.order_check.specs.declared.following.Followed.TheVariants.{Ended, Stopped, No}

@@ -1,5 +1,5 @@
 -- What a boot along an order comes to, from what is known of the free boots there.
-use Rattle.std.proofs.Common.{◌≡◌, ℕ, suc, ◌+◌, ◌≤◌, Bool, true, false, List, [], ◌∷◌, ◌++◌, length, Option, Some, None, Ok, is_some, refl, sym, ap, ◌∙◌, subst, inl, inr, arith}
+use Rattle.std.proofs.Common.{◌≡◌, ℕ, true, List, [], ◌∷◌, ◌++◌, length, Some, None, Ok, is_some, refl, sym, ap, ◌∙◌, subst, inl, inr, arith}
 use Rattle.std.specs.Prelude.{◌⊎◌, slice_get}
 use Rattle.std.specs.Io.KnownBytes.{Appends}
 use Rattle.std.proofs.lemmas.List.{append-nil, length-append}
@@ -25,7 +25,7 @@ use Rattle.order_check.specs.Against.{StandsAgainst}
 use Rattle.order_check.specs.ByOrder.{starts_of}
 use Rattle.order_check.specs.Following.{IsBeforeStart, IsNo, StandsAt, StandsBehind}
 use Rattle.order_check.specs.Leaving.{ComesTo, FollowsTo, IsRefused}
-use Rattle.order_check.proofs.Along.{AsksNext, all_made, asks_next, asks_none, stops_there}
+use Rattle.order_check.proofs.Along.{all_made, asks_next, asks_none, stops_there}
 
 -- Where a boot along an order stands: what was printed, and how many starts there were.
 pub record Stand : Type 0 where
@@ -132,6 +132,6 @@ ended_comes p t last end quiet boots only result text (No line against) r =
     let same : starts all ≡ starts p.lines = starts-append p.lines last ∙ ap (λ x. starts p.lines ++ x) quiet ∙ append-nil (starts p.lines) in
     no_line p last all line against t r refl quiet
     (λ others free first.
-        let is = only others free (first_of_first (starts p.lines) (starts p.lines ++ r.asked.start ∷ []) (starts others) (r.asked.start ∷ [], refl) first) in
-        no_more (starts p.lines) r.asked.start (starts others) (ap starts is ∙ same) first)
+    let is = only others free (first_of_first (starts p.lines) (starts p.lines ++ r.asked.start ∷ []) (starts others) (r.asked.start ∷ [], refl) first) in
+    no_more (starts p.lines) r.asked.start (starts others) (ap starts is ∙ same) first)
     (inl boots) text

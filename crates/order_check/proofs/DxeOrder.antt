@@ -9,26 +9,23 @@ use Rattle.catalog_model.specs.declared.catalog.Part.{Part}
 use Rattle.catalog_model.specs.Parts.{part_at, part_of}
 use Rattle.boot_model.specs.declared.driver.Scheduled.{Scheduled}
 use Rattle.boot_model.specs.declared.line.Line.{Line}
-use Rattle.boot_model.specs.declared.phase_end.PeiEnd.{PeiEnd}
 use Rattle.boot_model.specs.declared.phase_end.PeiEnd.TheVariants.{Handoff}
-use Rattle.boot_model.specs.DriverLicence.{numbers_of}
-use Rattle.boot_model.specs.DxeChoice.{companion_group, driver_queue, first_eligible, group_scheduled, queue_from}
+use Rattle.boot_model.specs.DxeChoice.{driver_queue, first_eligible, group_scheduled, queue_from}
 use Rattle.boot_model.specs.DxeMachine.{DriverFrame, DxeMachine}
 use Rattle.boot_model.specs.DxeRun.{dxe_opening}
-use Rattle.boot_model.specs.DxeStep.{DxeCase, DxeFires, DxeActs, DxeStarts, DxeStops, dxe_case_in, dxe_case_of, dxe_start_line, dxe_step, driver_started, in_dxe_case}
-use Rattle.boot_model.specs.FreeRun.{AreFreeDxeLines, AreFreeLines, AreFreeLinesAfter, AreFreePeiLines, IsFreeInDxe, IsFreeStart, IsStarted, MaySchedule}
+use Rattle.boot_model.specs.DxeStep.{DxeCase, DxeFires, DxeActs, DxeStarts, DxeStops, dxe_case_of, dxe_start_line, dxe_step, driver_started, in_dxe_case}
+use Rattle.boot_model.specs.FreeRun.{AreFreeDxeLines, AreFreeLines, AreFreeLinesAfter, AreFreePeiLines, IsFreeInDxe, MaySchedule}
 use Rattle.boot_model.specs.PeiMachine.{PeiMachine}
 use Rattle.boot_model.proofs.ListFacts.{within}
 use Rattle.boot_laws.proofs.DxeCases.{starts_from}
 use Rattle.free_laws.specs.DxeAim.{IsAimed, IsChoosing, aimed}
 use Rattle.free_laws.specs.DxeFree.{IsOwnCase}
-use Rattle.free_laws.specs.DxeUnderWay.{IsDriverOf, IsUnderWay}
+use Rattle.free_laws.specs.DxeUnderWay.{IsUnderWay}
 use Rattle.free_laws.proofs.DxeRuns as Runs
 use Rattle.free_laws.proofs.DxeWays as Ways
 use Rattle.free_laws.proofs.GroupRoots.{names_lead}
 use Rattle.free_laws.proofs.PeiRuns as PeiRuns
 use Rattle.free_laws.proofs.Starts.{dxe_prints}
-use Rattle.pi_base.specs.Lists.{Each}
 use Rattle.start_order.specs.declared.line.AskedStart.{AskedStart}
 use Rattle.start_order.specs.declared.line.Start.{Start}
 use Rattle.boot_starts.specs.Starts.{ComeFirst, module_start, starts}
@@ -46,7 +43,7 @@ use Rattle.order_check.specs.ByOrder.{NamesAsked, lets_asked, lets_by}
 use Rattle.order_check.specs.Following.{IsBeforeStart}
 use Rattle.order_check.specs.Along.{IsAlong, IsIndex}
 use Rattle.order_check.proofs.Along.{is_start, let_goes_on, lets_stop}
-use Rattle.order_check.proofs.PeiOrder.{Comes, IsRun, OrderBoot, along, comes}
+use Rattle.order_check.proofs.PeiOrder.{Comes, OrderBoot}
 
 -- A boot that has come over its hand-off.
 pub record Handed (b : OrderBoot) : Type 0 where

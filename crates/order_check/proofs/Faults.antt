@@ -1,21 +1,14 @@
 -- The first fault of images, as it is told.
-use Rattle.std.proofs.Common.{◌≡◌, ◌≢◌, ◌≤◌, ℕ, List, [], Option, Err, Result, sym, subst}
-use Rattle.std.specs.Io.KnownBytes.{Appends}
+use Rattle.std.proofs.Common.{◌≢◌, ℕ, List, Option, Err, sym, subst}
 use Rattle.boot_io.proofs.PutsLaws.{appends_none}
-use Rattle.boot_io.specs.declared.halt.Halt.{Halt}
-use Rattle.boot_io.specs.declared.halt.Halt.TheVariants as H
-use Rattle.boot_io.specs.Halted.{HaltsAfter}
 use Rattle.boot_plan.specs.declared.plan.Plan.{Plan}
-use Rattle.boot_trace.specs.Printing.{Texts}
-use Rattle.catalog_model.specs.declared.catalog.Catalog.{Catalog}
 use Rattle.catalog_model.specs.declared.image_fault.ImageFault.{ImageFault}
 use Rattle.catalog_model.specs.declared.image_fault.ImageCause.TheVariants as I
 use Rattle.catalog_model.specs.ImageFault.{IsImageFault}
 use Rattle.start_order.specs.declared.lines.StartOrder.{StartOrder}
-use Rattle.order_check.specs.declared.following.Followed.{Followed}
 use Rattle.order_check.specs.declared.images.FollowFault.{FollowFault}
 use Rattle.order_check.specs.declared.images.FollowFault.TheVariants.{Image, Twins, Sink, Memory}
-use Rattle.order_check.specs.Follow.{FaultsAfter, Follows, FollowsCatalog, IsFaultTold, IsHaltTold}
+use Rattle.order_check.specs.Follow.{Follows, IsFaultTold}
 
 -- a fault that is told as it is, is the images' first
 pub told_fault : (plan : Plan) (images : List (List ℕ)) (order : StartOrder) (text : Option (List ℕ)) (fault : ImageFault) (out : FollowFault) → IsFaultTold fault out → (fault.cause ≢ I.Memory → IsImageFault plan images fault)

@@ -1,23 +1,22 @@
 -- PEI along an order.
-use Rattle.std.proofs.Common.{◌≡◌, ℕ, ◌+◌, ◌-◌, ◌^◌, ◌<◌, ◌≤◌, min, Bool, true, false, true≢false, List, [], ◌∷◌, ◌++◌, length, Option, Some, None, is_some, refl, sym, ap, ◌∙◌, subst, inl, inr, arith, append_assoc}
+use Rattle.std.proofs.Common.{◌≡◌, ℕ, ◌+◌, ◌-◌, ◌^◌, ◌<◌, ◌≤◌, min, Bool, true, false, true≢false, List, [], ◌∷◌, ◌++◌, length, Option, Some, None, refl, sym, ap, ◌∙◌, subst, inl, inr, arith, append_assoc}
 use Rattle.std.specs.Prelude.{◌⊎◌, slice_get}
 use Rattle.std.proofs.lemmas.Bool.{cases_lt}
 use Rattle.std.proofs.lemmas.List.{append-nil}
 use Rattle.pi_base.specs.declared.guid.Guid.{Guid}
 use Rattle.pi_base.specs.declared.phase.Phase.TheVariants.{Pei}
 use Rattle.catalog_model.specs.declared.catalog.Catalog.{Catalog}
-use Rattle.catalog_model.specs.Parts.{has_number, part_of}
+use Rattle.catalog_model.specs.Parts.{part_of}
 use Rattle.catalog_model.specs.WellFormed.{IsWellFormed}
 use Rattle.store_model.specs.StoreState.{Board}
 use Rattle.boot_model.specs.declared.line.Line.{Line}
 use Rattle.boot_model.specs.Eligible.{licence_at}
 use Rattle.boot_model.specs.FreeRun.{AreFreeLines, AreFreePeiLines, IsFreePeiStep, MayStart}
-use Rattle.boot_model.specs.PeiChoice.{next_peim, pei_order}
+use Rattle.boot_model.specs.PeiChoice.{pei_order}
 use Rattle.boot_model.specs.PeiMachine.{PeiMachine}
 use Rattle.boot_model.specs.PeiRun.{pei_opening}
-use Rattle.boot_model.specs.PeiStep.{PeiCase, Starts, case_of, start_line, started}
+use Rattle.boot_model.specs.PeiStep.{Starts, case_of, start_line, started}
 use Rattle.boot_model.proofs.ListFacts.{within}
-use Rattle.free_laws.specs.PeiAim.{with_cursor}
 use Rattle.free_laws.specs.PeiUnderWay.{IsUnderWay}
 use Rattle.free_laws.proofs.Cursors as Cursors
 use Rattle.free_laws.proofs.PeiRuns as Runs
@@ -25,7 +24,6 @@ use Rattle.free_laws.proofs.PeiWays as Ways
 use Rattle.free_laws.proofs.Starts.{pei_prints}
 use Rattle.module_names.specs.Named.{AreNames, HasNoTwins}
 use Rattle.start_order.specs.declared.line.AskedStart.{AskedStart}
-use Rattle.start_order.specs.declared.line.Start.{Start}
 use Rattle.start_order.specs.declared.lines.StartOrder.{StartOrder}
 use Rattle.boot_starts.specs.Starts.{ComeFirst, module_start, starts}
 use Rattle.boot_starts.specs.Leading.{PeiComesTo}

@@ -1,6 +1,5 @@
 -- Where a boot along an order is left or ends: in PEI, and in DXE.
-use Rattle.std.proofs.Common.{◌≡◌, ℕ, ◌+◌, Bool, true, false, List, [], ◌∷◌, ◌++◌, length, Option, Some, None, Ok, is_none, is_some, refl, sym, ap, ◌∙◌, subst, append_assoc}
-use Rattle.std.specs.Prelude.{slice_get}
+use Rattle.std.proofs.Common.{◌≡◌, ℕ, ◌+◌, List, [], ◌∷◌, ◌++◌, length, Option, Some, None, Ok, is_some, refl, sym, ap, ◌∙◌, subst, append_assoc}
 use Rattle.std.specs.Io.KnownBytes.{Appends}
 use Rattle.pi_base.specs.declared.phase.Phase.TheVariants.{Pei}
 use Rattle.catalog_model.specs.declared.catalog.Catalog.{Catalog}
@@ -15,16 +14,14 @@ use Rattle.boot_model.specs.declared.phase_end.PeiEnd.{PeiEnd}
 use Rattle.boot_model.specs.declared.phase_end.PeiEnd.TheVariants.{Handoff, NoMemory, NoIpl, Spent, Deep}
 use Rattle.boot_model.specs.BootRun.{both_lines, dxe_result, handle_lines}
 use Rattle.boot_model.specs.DxeMachine.{DxeMachine}
-use Rattle.boot_model.specs.FreeRun.{AreFreeLines, AreFreeLinesAfter, AreFreePeiLines}
+use Rattle.boot_model.specs.FreeRun.{AreFreeLinesAfter, AreFreePeiLines}
 use Rattle.boot_model.specs.Listing.{store_lines}
 use Rattle.boot_model.specs.PeiMachine.{PeiMachine}
 use Rattle.boot_model.specs.Text.{text_of}
 use Rattle.boot_trace.specs.Printing.{Texts}
 use Rattle.free_laws.proofs.DxeRuns as DxeRuns
 use Rattle.free_laws.proofs.PeiRuns as PeiRuns
-use Rattle.start_order.specs.declared.line.AskedStart.{AskedStart}
-use Rattle.start_order.specs.declared.lines.StartOrder.{StartOrder}
-use Rattle.boot_starts.specs.Starts.{ComeFirst, starts}
+use Rattle.boot_starts.specs.Starts.{starts}
 use Rattle.boot_starts.proofs.Runs.{pei_leads}
 use Rattle.pei_dispatch.specs.Ends.{pei_starts}
 use Rattle.whole_boot.specs.Closing.{closing}
@@ -99,9 +96,9 @@ pei_ends b earlier m how so t followed come far ended is text c =
     let here : AreFreePeiLines b.catalog b.fuel m all = (PeiRuns.ends_so b.catalog b.fuel m (ap is_some ended) all).1 (subst (λ o. AreFreeLinesAfter b.catalog b.fuel m o all) (sym ended) (after_end b.catalog b.fuel m how so all is refl)) in
     ended_comes (pei_stand b earlier m come far) t last so (closing_quiet m.store no_handles so) ((pei_leads b.board b.catalog b.fuel earlier m b.apart come all).1 here)
     (λ others free first.
-        let on : AreFreePeiLines b.catalog b.fuel m others = (pei_leads b.board b.catalog b.fuel earlier m b.apart come others).0 free first in
-        let after = (PeiRuns.ends_so b.catalog b.fuel m (ap is_some ended) others).0 on in
-        end_after b.catalog b.fuel m how so others is (subst (λ o. AreFreeLinesAfter b.catalog b.fuel m o others) ended after))
+    let on : AreFreePeiLines b.catalog b.fuel m others = (pei_leads b.board b.catalog b.fuel earlier m b.apart come others).0 free first in
+    let after = (PeiRuns.ends_so b.catalog b.fuel m (ap is_some ended) others).0 on in
+    end_after b.catalog b.fuel m how so others is (subst (λ o. AreFreeLinesAfter b.catalog b.fuel m o others) ended after))
     (last_is m.lines m.store no_handles so) text followed c
 
 -- a machine of DXE

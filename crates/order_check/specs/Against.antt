@@ -1,6 +1,6 @@
 -- What stands against a start that an order asks for: no module has that name and a part of the phase; it has started and may not again; or it may not start yet, with the GUIDs that its dependency expression names and that are not installed.
 -- PI 1.8, volumes 1 and 2, "Dependency Expressions"; the causes are own.
-use Rattle.std.specs.Prelude.{◌≡◌, ◌++◌, ℕ, Bool, true, false, not, List, [], ◌∷◌, Some, None, filter, flat_map, is_some}
+use Rattle.std.specs.Prelude.{◌≡◌, ◌++◌, ℕ, Bool, not, List, [], ◌∷◌, Some, filter}
 use Rattle.pi_base.specs.declared.guid.Guid.{Guid}
 use Rattle.pi_base.specs.declared.phase.Phase.{Phase}
 use Rattle.pi_base.specs.declared.phase.Phase.TheVariants.{Pei, Dxe}

@@ -1,6 +1,6 @@
 -- What a boot along an order comes to: its end, a place where the order stops, or the start of a line that no free boot makes behind those of the lines before.
 -- Own; PI 1.8, volumes 1 and 2, leave to the dispatchers which of the modules that may start does, and nothing else.
-use Rattle.std.specs.Prelude.{◌≡◌, ◌⊎◌, ℕ, true, List, [], ◌∷◌, ◌++◌, Option, Some, None, is_some}
+use Rattle.std.specs.Prelude.{◌≡◌, ◌⊎◌, ℕ, true, List, [], ◌∷◌, ◌++◌, Some, is_some}
 use Rattle.std.specs.Io.KnownBytes.{Appends}
 use Rattle.catalog_model.specs.declared.catalog.Catalog.{Catalog}
 use Rattle.store_model.specs.HandleState.{HandleState, no_handles}

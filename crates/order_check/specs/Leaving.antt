@@ -1,10 +1,10 @@
 -- What a boot along an order comes to where it is left before a start, or has ended, by what the order asks for behind so many starts.
 -- Own.
-use Rattle.std.specs.Prelude.{◌≡◌, ℕ, List, Option, Some, None, Result, Ok, Err, slice_get, take, ⊤}
+use Rattle.std.specs.Prelude.{◌≡◌, ℕ, Option, Some, None, Result, Ok, Err, slice_get, take, ⊤}
 use Rattle.boot_io.specs.declared.halt.Halt.{Halt}
 use Rattle.catalog_model.specs.declared.catalog.Catalog.{Catalog}
 use Rattle.store_model.specs.HandleState.{HandleState}
-use Rattle.store_model.specs.StoreState.{Board, StoreState, empty_store}
+use Rattle.store_model.specs.StoreState.{Board, StoreState}
 use Rattle.boot_model.specs.declared.line.RunEnd.{RunEnd}
 use Rattle.boot_trace.specs.Printing.{Texts}
 use Rattle.start_order.specs.declared.line.AskedStart.{AskedStart}

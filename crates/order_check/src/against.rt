@@ -76,11 +76,6 @@ pub(crate) fn cause_against<M: PeiStore>(
     match part_asked(catalog, names, start) {
         None => Ok(Against::Unknown),
         Some(_) if is_among(start, made) => Ok(Against::Started),
-        Some(part) => Ok(Against::NotEligible(lacking(
-            alloc,
-            installed,
-            start.phase,
-            &part.expr,
-        )?)),
+        Some(part) => Ok(Against::NotEligible(lacking(alloc, installed, start.phase, &part.expr)?)),
     }
 }

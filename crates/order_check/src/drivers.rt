@@ -77,8 +77,8 @@ fn run_with_ledger<M: PeiStore, S: Sink, L: Ledger>(
     requires parts { blank.parts ≡ L.parts }
     requires counts { 0 < L.parts }
     ensures row { RunsByChoice (λ sink starts named. NamesAsked InDxe by.now.names.now.volumes.items by.now.order.now starts named)
-        (λ starts number. lets_by by.now.catalog.now by.now.order.now InDxe starts number) S.text S.faults in_pei M.stands_for store.now by.now.catalog.now
-        dxe.old sink.old dxe.new queue.new sink.new result }
+        (λ starts number. lets_by by.now.catalog.now by.now.order.now InDxe starts number) S.text S.faults in_pei M.stands_for store.now
+        by.now.catalog.now dxe.old sink.old dxe.new queue.new sink.new result }
     ensures few { dxe.old.fuel.taken < 2 ^ 32 → OnOk result (length dxe.new.services.handles.interfaces < 2 ^ 32) }
     ensures few_starts { OnOk result (queue.new.left < 2 ^ 32) }
     ensures faults { HaltsAfter result (S.faults sink.old) (S.faults sink.new) }
@@ -97,8 +97,8 @@ pub(crate) fn run_drivers<M: PeiStore + Drop, S: Sink>(
 ) -> Result<Drivers, Halt>
     requires catalog { IsWellFormed by.now.catalog.now }
     requires state { Present (M.stands_for pei.now.store) Anything }
-    ensures row { OfEach (M.stands_for pei.now.store) Anything (RunsDrivers S.text S.faults by.now.catalog.now by.now.order.now by.now.names.now.volumes.items
-        fuel pei.now.actions pei.now.starts sink.old sink.new result) }
+    ensures row { OfEach (M.stands_for pei.now.store) Anything (RunsDrivers S.text S.faults by.now.catalog.now by.now.order.now
+        by.now.names.now.volumes.items fuel pei.now.actions pei.now.starts sink.old sink.new result) }
     ensures few { OnFew result }
     ensures faults { HaltsAfter result (S.faults sink.old) (S.faults sink.new) }
 {
@@ -106,13 +106,7 @@ pub(crate) fn run_drivers<M: PeiStore + Drop, S: Sink>(
     let mut queue = DriverQueue::new(alloc, by.catalog)?;
     let blank = Blank::new(1);
     let reached = run_with_ledger::<M, S, Brand>(
-        &mut dxe,
-        &pei.store,
-        &mut queue,
-        by,
-        pei.starts,
-        sink,
-        blank,
+        &mut dxe, &pei.store, &mut queue, by, pei.starts, sink, blank,
     )?;
     let counted = starts(pei.starts, &queue);
     match reached {

@@ -14,8 +14,8 @@ ghost use Rattle.order_check.specs.Behind.{FinishesTo, FollowsBehind, last_text,
 
 use crate::against::{Against, cause_against};
 use crate::by_order::{ByOrder, asked_behind};
-use crate::lacking::Installed;
 use crate::drivers::run_drivers;
+use crate::lacking::Installed;
 use boot_io::{Halt, Sink, SinkFault};
 use boot_model::{PeiEnd, RunEnd};
 use dxe_handles::Handles;
@@ -197,7 +197,14 @@ fn follow_behind<M: PeiStore + Drop, S: Sink>(
                 store: &pei.store,
                 handles: &none,
             };
-            finish(alloc, by, &installed, u64::from(pei.starts), Some(end), sink)
+            finish(
+                alloc,
+                by,
+                &installed,
+                u64::from(pei.starts),
+                Some(end),
+                sink,
+            )
         }
     }
 }

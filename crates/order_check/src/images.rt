@@ -85,8 +85,8 @@ fn follow_over<S: Sink>(
     requires apart { HasNoTwins by.now.catalog.now }
     requires names { AreNames by.now.catalog.now (length by.now.catalog.now.modules) by.now.names.now.volumes.items }
     requires few { length by.now.order.now.starts ≤ 2 ^ 32 - 1 }
-    ensures row { FollowsTo (record (board_of plan.now by.now.catalog.now []) { roms = roms }) by.now.catalog.now plan.now.fuel by.now.order.now
-        (record { old = S.text sink.old; new = S.text sink.new }) result }
+    ensures row { FollowsTo (record (board_of plan.now by.now.catalog.now []) { roms = roms }) by.now.catalog.now plan.now.fuel
+        by.now.order.now (record { old = S.text sink.old; new = S.text sink.new }) result }
     ensures faults { HaltsAfter result (S.faults sink.old) (S.faults sink.new) }
 {
     let store = MemStore::new(alloc, plan.temp, plan.pages, plan.ram, roms)?;

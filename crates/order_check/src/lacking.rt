@@ -25,7 +25,8 @@ pub(crate) struct Installed<'i, M> {
 // Whether a GUID is installed for modules of a phase.
 fn is_installed<M: PeiStore>(installed: &Installed<'_, M>, phase: Phase, guid: &Guid) -> bool
     requires state { Present (M.stands_for installed.now.store.now) Anything }
-    ensures { OfEach (M.stands_for installed.now.store.now) Anything (λ s. result ≡ is_installed phase s installed.now.handles.now guid.now) }
+    ensures { OfEach (M.stands_for installed.now.store.now) Anything
+        (λ s. result ≡ is_installed phase s installed.now.handles.now guid.now) }
 {
     match phase {
         Phase::Pei => installed.store.nth_ppi(guid, 0).is_some(),

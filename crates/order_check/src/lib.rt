@@ -6,11 +6,11 @@
 mod against;
 mod by_order;
 mod drivers;
-mod images;
 mod following;
+mod images;
 mod lacking;
 
 pub use against::Against;
 pub use by_order::ByOrder;
-pub use images::{FollowFault, follow};
 pub use following::Followed;
+pub use images::{FollowFault, follow};

@@ -12,6 +12,7 @@ enum Read {
     Bad(u32),
     Memory,
 }
+
 use Read::*;
 
 // An order that does not stop.
@@ -42,9 +43,18 @@ static ORDERS: [(&[u8], Read); 27] = [
     (b"pei 0 11223344-5566-7788-99aa-bbccddeeff00\r\n", starts(1)),
     (b"dxe 0xA 11223344-5566-7788-99AA-BBCCDDEEFF00\n", starts(1)),
     // The largest number of a volume, and the first that is none.
-    (b"dxe 4294967295 11223344-5566-7788-99aa-bbccddeeff00\n", starts(1)),
-    (b"dxe 4294967296 11223344-5566-7788-99aa-bbccddeeff00\n", Bad(1)),
-    (b"dxe 0x100000000 11223344-5566-7788-99aa-bbccddeeff00\n", Bad(1)),
+    (
+        b"dxe 4294967295 11223344-5566-7788-99aa-bbccddeeff00\n",
+        starts(1),
+    ),
+    (
+        b"dxe 4294967296 11223344-5566-7788-99aa-bbccddeeff00\n",
+        Bad(1),
+    ),
+    (
+        b"dxe 0x100000000 11223344-5566-7788-99aa-bbccddeeff00\n",
+        Bad(1),
+    ),
     // Twice the same start, and words apart by more than one space.
     (
         b"pei 1 11223344-5566-7788-99aa-bbccddeeff00\npei   1  11223344-5566-7788-99aa-bbccddeeff00\n",
@@ -55,15 +65,33 @@ static ORDERS: [(&[u8], Read); 27] = [
         b"dxe 1 11223344-5566-7788-99aa-bbccddeeff00\n\npei 1 11223344-5566-7788-99aa-bbccddeeff00\n",
         starts(2),
     ),
-    (b"stop", Order { starts: 0, stop: Some(1) }),
-    (b"# none\nstop\n\n# behind\n", Order { starts: 0, stop: Some(2) }),
+    (
+        b"stop",
+        Order {
+            starts: 0,
+            stop: Some(1),
+        },
+    ),
+    (
+        b"# none\nstop\n\n# behind\n",
+        Order {
+            starts: 0,
+            stop: Some(2),
+        },
+    ),
     (
         b"pei 1 11223344-5566-7788-99aa-bbccddeeff00\n\nstop\n",
-        Order { starts: 1, stop: Some(3) },
+        Order {
+            starts: 1,
+            stop: Some(3),
+        },
     ),
     // Nothing follows the stop.
     (b"stop\nstop\n", Bad(2)),
-    (b"stop\n\npei 1 11223344-5566-7788-99aa-bbccddeeff00\n", Bad(3)),
+    (
+        b"stop\n\npei 1 11223344-5566-7788-99aa-bbccddeeff00\n",
+        Bad(3),
+    ),
     (b"stop now\n", Bad(1)),
     (b"stops\n", Bad(1)),
     (b"Stop\n", Bad(1)),
@@ -108,7 +136,8 @@ fn is(asked: Option<&AskedStart>, line: u32, phase: Phase, volume: u32) -> bool 
 
 // Whether an order asks for these two starts.
 fn asks_for_both(alloc: Global) -> bool {
-    let text = b"#\npei 3 11223344-5566-7788-99aa-bbccddeeff00\n\ndxe 0x10 11223344-5566-7788-99AA-bbccddeeff00";
+    let text =
+        b"#\npei 3 11223344-5566-7788-99aa-bbccddeeff00\n\ndxe 0x10 11223344-5566-7788-99AA-bbccddeeff00";
     match read_order(alloc, text) {
         Ok(order) => {
             let starts = order.starts.as_slice();

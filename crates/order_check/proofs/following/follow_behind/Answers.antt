@@ -1,4 +1,4 @@
-use Rattle.std.proofs.Common.{◌≡◌, Some, subst, sym, ◌∙◌}
+use Rattle.std.proofs.Common.{Some, subst, sym, ◌∙◌}
 use Rattle.boot_model.specs.declared.phase_end.PeiEnd.{PeiEnd}
 use Rattle.store_model.specs.HandleState.{HandleState}
 use Rattle.order_check.specs.Behind.{FinishesTo, FollowsBehind}
