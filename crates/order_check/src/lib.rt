@@ -1,6 +1,6 @@
 //! A boot with its order of starts handed in: the order's next module starts, and behind the last line the first that may; where the next module may not start the boot is left there, with what stands against it.
 //!
-//! Tried in `boot_trials`: `orders`.
+//! Tried by `example_follow`.
 #![tactic(auto)]
 
 mod against;

@@ -1,6 +1,6 @@
 //! The text of an order of starts (own): which module starts first, which next and so on, each in its phase by its volume and file name, and whether the boot is followed no further behind the last.
 //!
-//! Tried in `text_trials`: `orders`.
+//! Tried by `example_follow`.
 #![tactic(auto)]
 
 mod fault;

@@ -16,8 +16,6 @@ mod map_faults;
 #[cfg(test)]
 mod memory_map;
 #[cfg(test)]
-mod orders;
-#[cfg(test)]
 mod plans;
 #[cfg(test)]
 mod printed_lines;
