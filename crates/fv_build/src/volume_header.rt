@@ -4,8 +4,8 @@ ghost use Rattle.fv_build.specs.Header.{header_with, plain, volume_header};
 
 use crate::file_system::{FileSystem, file_system_guid};
 use fv_volume::volume_header::{
-    ATTRIBUTES_AT, CHECKSUM_AT, ERASE_POLARITY, EXT_HEADER_OFFSET_AT, FILE_SYSTEM_AT, HEADER_LENGTH_AT, LEAST_LEN,
-    LENGTH_AT, REVISION, REVISION_AT, SIGNATURE, SIGNATURE_AT,
+    ATTRIBUTES_AT, CHECKSUM_AT, ERASE_POLARITY, EXT_HEADER_OFFSET_AT, FILE_SYSTEM_AT,
+    HEADER_LENGTH_AT, LEAST_LEN, LENGTH_AT, REVISION, REVISION_AT, SIGNATURE, SIGNATURE_AT,
 };
 use pi_base::{GUID_LEN, OutOfMemory, Seq, checksum16, put_u16, put_u32, put_u64};
 
@@ -57,7 +57,11 @@ fn header_with(head: &VolumeHead, checksum: u16) -> [u8; HEADER_LEN]
     header[FILE_SYSTEM_AT..FILE_SYSTEM_AT + GUID_LEN].copy_from_slice(&guid);
     put_u64(&mut header, LENGTH_AT, head.len);
     put_u32(&mut header, SIGNATURE_AT, SIGNATURE);
-    put_u32(&mut header, ATTRIBUTES_AT, head.form.attributes | ERASE_POLARITY);
+    put_u32(
+        &mut header,
+        ATTRIBUTES_AT,
+        head.form.attributes | ERASE_POLARITY,
+    );
     put_u16(&mut header, HEADER_LENGTH_AT, HEADER_LEN as u16);
     put_u16(&mut header, CHECKSUM_AT, checksum);
     put_u16(&mut header, EXT_HEADER_OFFSET_AT, head.ext_header_at);

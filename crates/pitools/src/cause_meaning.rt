@@ -103,7 +103,10 @@ static SOURCE_WORDS: [(&str, &str); 39] = [
         "TwoScripts",
         "begins a second script of the phase in one file",
     ),
-    ("TwoBodies", "gives a file a body that has one, or sections beside a body"),
+    (
+        "TwoBodies",
+        "gives a file a body that has one, or sections beside a body",
+    ),
     ("TwoNames", "names a volume that has a name"),
     ("BehindEnd", "stands behind the end of the volume"),
     (

@@ -140,7 +140,10 @@ end\n";
 
 /// Its bytes, without the bytes 0xff at their end, by the tables of `docs/FORMATS.md`: 0x04 is `fixed`, and 0x10 an alignment of 128.
 static MARKED_FRONT: [u8; 101] = [
-    0, 0, 0, 0, 0, 0, 0, 0, 0, 0, 0, 0, 0, 0, 0, 0, 120, 229, 140, 140, 61, 138, 28, 79, 153, 53, 137, 97, 133, 195, 45, 211, 0, 1, 0, 0, 0, 0, 0, 0, 95, 70, 86, 72, 255, 254, 4, 0, 72, 0, 206, 244, 0, 0, 0, 2, 1, 0, 0, 0, 0, 1, 0, 0, 0, 0, 0, 0, 0, 0, 0, 0, 1, 0, 0, 0, 0, 0, 0, 64, 128, 0, 0, 0, 0, 0, 0, 1, 12, 170, 1, 20, 29, 0, 0, 248, 1, 2, 3, 4, 5,
+    0, 0, 0, 0, 0, 0, 0, 0, 0, 0, 0, 0, 0, 0, 0, 0, 120, 229, 140, 140, 61, 138, 28, 79, 153, 53,
+    137, 97, 133, 195, 45, 211, 0, 1, 0, 0, 0, 0, 0, 0, 95, 70, 86, 72, 255, 254, 4, 0, 72, 0, 206,
+    244, 0, 0, 0, 2, 1, 0, 0, 0, 0, 1, 0, 0, 0, 0, 0, 0, 0, 0, 0, 0, 1, 0, 0, 0, 0, 0, 0, 64, 128,
+    0, 0, 0, 0, 0, 0, 1, 12, 170, 1, 20, 29, 0, 0, 248, 1, 2, 3, 4, 5,
 ];
 
 /// `examples/audit/main.volume`.
@@ -428,11 +431,7 @@ static MISTAKES: [(&str, u64, Cause); 61] = [
         5,
         Cause::NoRoom { need: 149 },
     ), // too small a volume with a name
-    (
-        "volume 4096 ffs2 attributes 0x100000000\n",
-        1,
-        Cause::Range,
-    ), // attributes of 33 bits
+    ("volume 4096 ffs2 attributes 0x100000000\n", 1, Cause::Range), // attributes of 33 bits
     ("volume 4096 ffs2 attributes\n", 1, Cause::Missing), // no attributes
     (
         "volume 4096\nfile raw 00000001-0000-4000-8000-000000000001 align 3\n",

@@ -22,9 +22,11 @@ pub texts_more : (kind : ℕ) (before sections : List NewSection) (section : New
 texts_more kind before [] section [] text all is = (subst (λ (b : List NewSection). IsSectionText kind b section text) (append-nil before) is, tt)
 texts_more kind before [] section (t ∷ texts) text all is = absurd all
 texts_more kind before (s ∷ sections) section [] text all is = absurd all
-texts_more kind before (s ∷ sections) section (t ∷ texts) text all is =
-    (all.0, texts_more kind (before ++ s ∷ []) sections section texts text all.1
-    (subst (λ (b : List NewSection). IsSectionText kind b section text) (sym (append_assoc before (s ∷ []) sections)) is))
+texts_more kind before (s ∷ sections) section (t ∷ texts) text all is = (
+  all.0,
+  texts_more kind (before ++ s ∷ []) sections section texts text all.1
+      (subst (λ (b : List NewSection). IsSectionText kind b section text) (sym (append_assoc before (s ∷ []) sections)) is),
+)
 
 -- texts one behind the other, and one more
 pub whole_more : (old now new text : List ℕ) (texts : List (List ℕ)) → now ≡ old ++ whole texts → new ≡ now ++ text → new ≡ old ++ whole (texts ++ text ∷ [])

@@ -43,11 +43,12 @@ pub sections_more : (kind : ℕ) (stream : List ℕ) (all : List Section) (place
     → AddsSections kind (map (section_in stream) (take (place + 1) all)) old new
 sections_more kind stream all place d old now new within told adds =
     let before = map (section_in stream) (take place all) in
-    let texts = told.0 ++ adds.0 ∷ [] in
-    (texts,
-    subst (λ (ss : List NewSection). AreSectionTexts kind [] ss texts) (sym (map_more (section_in stream) all place d within))
-    (texts_more kind [] before (section_in stream (get_or all place d)) told.0 adds.0 told.1 adds.1),
-    whole_more old now new adds.0 told.0 told.2 adds.2)
+    let texts = told.0 ++ adds.0 ∷ [] in (
+      texts,
+      subst (λ (ss : List NewSection). AreSectionTexts kind [] ss texts) (sym (map_more (section_in stream) all place d within))
+          (texts_more kind [] before (section_in stream (get_or all place d)) told.0 adds.0 told.1 adds.1),
+      whole_more old now new adds.0 told.0 told.2 adds.2,
+    )
 
 -- a body's text was put
 pub sections_added : (kind : ℕ) (stream : List ℕ) (read : List Section) (old new : List ℕ) → IsStream kind stream (Some read)
@@ -63,11 +64,15 @@ pub file_added : (image : List ℕ) (found : FfsFile) (attributes : FileAttribut
     → stream ≡ take found.body_len (drop found.body_at image) → mid ≡ old ++ head_line found.kind found.name attributes → AddsBody found.kind stream mid new → AddsFile image found old new
 file_added image found attributes stream old mid new are is head adds =
     let file : NewFile = record { name = found.name; kind = found.kind; attributes = attributes; body = adds.0 } in
-    let text = head_line found.kind found.name attributes ++ adds.2.0 in
-    (file,
-    record { name = refl; kind = refl; attributes = are; body = subst (λ (s : List ℕ). IsBodyIn found.kind s adds.0) is adds.1 },
-    (text, (adds.2.0, adds.2.1, refl),
-    adds.2.2 ∙ ap (λ xs. xs ++ adds.2.0) head ∙ append_assoc old (head_line found.kind found.name attributes) adds.2.0))
+    let text = head_line found.kind found.name attributes ++ adds.2.0 in (
+      file,
+      record { name = refl; kind = refl; attributes = are; body = subst (λ (s : List ℕ). IsBodyIn found.kind s adds.0) is adds.1 },
+      (
+        text,
+        (adds.2.0, adds.2.1, refl),
+        adds.2.2 ∙ ap (λ xs. xs ++ adds.2.0) head ∙ append_assoc old (head_line found.kind found.name attributes) adds.2.0,
+      ),
+    )
 
 -- no file's text was put yet
 pub no_files : (image old : List ℕ) → AddsFiles image [] old old
@@ -144,8 +149,11 @@ text_put image volume head named filed new is first second files last = record {
   is = is;
   files = files.files;
   are = files.are;
-  spelled = (files.texts, files.told,
-      last ∙ ap (λ x. x ++ codes "end\n") (files.grown ∙ ap (λ x. x ++ whole files.texts) (second ∙ ap (λ x. x ++ name_line volume.name) first))
-      ∙ append_assoc (volume_line (form_in image) volume.len ++ name_line volume.name) (whole files.texts) (codes "end\n")
-      ∙ append_assoc (volume_line (form_in image) volume.len) (name_line volume.name) (whole files.texts ++ codes "end\n"));
+  spelled = (
+    files.texts,
+    files.told,
+    last ∙ ap (λ x. x ++ codes "end\n") (files.grown ∙ ap (λ x. x ++ whole files.texts) (second ∙ ap (λ x. x ++ name_line volume.name) first))
+        ∙ append_assoc (volume_line (form_in image) volume.len ++ name_line volume.name) (whole files.texts) (codes "end\n")
+        ∙ append_assoc (volume_line (form_in image) volume.len) (name_line volume.name) (whole files.texts ++ codes "end\n"),
+  );
 }

@@ -17,11 +17,7 @@ use pi_base::{Guid, OutOfMemory, Seq};
 use std::alloc::Global;
 
 // The sections that a body is, or none.
-fn sections_in(
-    alloc: Global,
-    kind: u8,
-    body: &[u8],
-) -> Result<Option<Seq<Section>>, OutOfMemory>
+fn sections_in(alloc: Global, kind: u8, body: &[u8]) -> Result<Option<Seq<Section>>, OutOfMemory>
     ensures { IfOk result (IsStream kind body.now) }
 {
     if kind == RAW {

@@ -8,9 +8,7 @@ ghost use Rattle.volume_print.specs.Description.{told_attributes, form_in, IsTex
 use crate::file::put_files;
 use crate::word::{put_decimal, put_guid, put_hexadecimal, system_word};
 use fv_build::{FileSystem, VolumeForm};
-use fv_volume::volume_header::{
-    ATTRIBUTES_AT, ERASE_POLARITY, FFS3, FILE_SYSTEM_AT, LEAST_LEN,
-};
+use fv_volume::volume_header::{ATTRIBUTES_AT, ERASE_POLARITY, FFS3, FILE_SYSTEM_AT, LEAST_LEN};
 use fv_volume::{VolCause, VolFault, read_volume};
 use pi_base::{GUID_LEN, Guid, OutOfMemory, Seq, u32_at};
 use std::alloc::Global;

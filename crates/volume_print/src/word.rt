@@ -8,9 +8,7 @@ use fv_build::FileSystem;
 use fv_volume::file_type::{
     COMBINED_MM_DXE, COMBINED_PEIM_DRIVER, DRIVER, FREEFORM, PEIM, RAW, VOLUME_IMAGE,
 };
-use pi_base::{
-    DECIMAL_LEN, Guid, HEXADECIMAL_LEN, OutOfMemory, Phase, Seq, decimal, hexadecimal,
-};
+use pi_base::{DECIMAL_LEN, Guid, HEXADECIMAL_LEN, OutOfMemory, Phase, Seq, decimal, hexadecimal};
 
 /// Adds a number in decimal.
 pub(crate) fn put_decimal(out: &mut Seq<u8>, n: u64) -> Result<(), OutOfMemory>

@@ -9,7 +9,8 @@ use crate::fault::{Cause, Stop};
 use crate::keyword::{Keyword, keyword_of};
 use crate::statement::Statement;
 use crate::word::{
-    attributes, chosen, file_type, guid, length, none_left, pad_length, phase, section_type, system, word,
+    attributes, chosen, file_type, guid, length, none_left, pad_length, phase, section_type,
+    system, word,
 };
 use depex_code::write_depex;
 use depex_words::{ExpressionFault, read_expression};

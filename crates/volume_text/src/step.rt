@@ -9,8 +9,8 @@ use crate::line::read_line;
 use crate::script::{script_body, with_action, with_block};
 use crate::statement::Statement;
 use crate::volume::{
-    OpenVolume, built_of, depex_type, part_checked, script_checked, with_file, with_last_body, with_name, with_pad,
-    with_section,
+    OpenVolume, built_of, depex_type, part_checked, script_checked, with_file, with_last_body,
+    with_name, with_pad, with_section,
 };
 use act_code::Script;
 use fv_build::{NewSection, VolumeForm};

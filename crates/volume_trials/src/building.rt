@@ -6,7 +6,8 @@ ghost use Rattle.fv_build.specs.declared.volume_header.TheConstants.{HEADER_LEN}
 use crate::board::{ONE_PEIM, add, guid};
 use crate::volumes::lists;
 use fv_build::{
-    Body, BuildFault, FileAttributes, MOST_MODULES, NewFile, NewSection, build_volume, build_volume3, generate,
+    Body, BuildFault, FileAttributes, MOST_MODULES, NewFile, NewSection, build_volume,
+    build_volume3, generate,
 };
 use fv_section::section_type::RAW;
 use fv_volume::file_type::{FREEFORM, PAD, PEIM};
