@@ -11,6 +11,9 @@ use std::io::{self, Write};
 /// The longest order, in bytes.
 const ORDER_LIMIT: usize = 0x100_0000;
 
+/// The most starts that are followed.
+const MOST_STARTS: usize = 0xFFFF_FFFF;
+
 // The order in the folder.
 fn order_in(rt: &HostRuntime) -> Option<StartOrder> {
     let text = read_file(rt.alloc(), "order", ORDER_LIMIT, &mut RealFiles::new(rt)).ok()?;
@@ -46,6 +49,9 @@ fn main(rt: HostRuntime) -> io::Result<()> {
     let Some(order) = order_in(&rt) else {
         return println!(rt; "no order");
     };
+    if order.starts.len() > MOST_STARTS {
+        return println!(rt; "no order");
+    }
     let Ok(Job { plan, images }) = read_job(rt.alloc(), "plan", &mut RealFiles::new(&rt)) else {
         return println!(rt; "no plan");
     };
