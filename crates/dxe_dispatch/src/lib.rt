@@ -15,3 +15,4 @@ mod waiting;
 
 pub use boot::{Barred, Ended, Left, boot_dxe, dxe_at_opening};
 pub use run::{bound, run_dxe, run_first};
+pub use turns::turn_by;

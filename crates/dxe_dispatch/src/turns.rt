@@ -1,4 +1,4 @@
-// A turn of the run: a step of the machine.
+//! A turn of the run: a step of the machine.
 ghost use Rattle.std.specs.Prelude.{◌≡◌, ◌≢◌, ◌≤◌, ◌<◌, ◌+◌, ◌^◌, ℕ, Bool, [], OnOk};
 ghost use Rattle.boot_io.specs.Halted.{HaltsAfter};
 ghost use Rattle.boot_model.specs.DxeMachine.{DxeMachine};
@@ -131,7 +131,7 @@ fn turn<M: PeiStore, S: Sink, C: Choice<S>, L: Ledger>(
 }
 
 /// A step of the machine; where a driver is to be chosen, a choice may name one first, and a driver starts only if it lets it. `in_pei` is how many starts there were in PEI.
-pub(crate) fn turn_by<M: PeiStore, S: Sink, C: Choice<S>, L: Ledger>(
+pub fn turn_by<M: PeiStore, S: Sink, C: Choice<S>, L: Ledger>(
     dxe: &mut Dxe,
     store: &M,
     queue: &mut DriverQueue,
