@@ -7,7 +7,7 @@ ghost use Rattle.catalog_model.specs.WellFormed.{IsWellFormed};
 ghost use Rattle.store_model.specs.StateFacts.{IsBoard};
 ghost use Rattle.module_names.specs.Named.{AreNames, HasNoTwins};
 ghost use Rattle.order_check.specs.Follow.{FaultsAfter, Follows, FollowsCatalog, IsFaultTold, IsHaltTold};
-ghost use Rattle.order_check.specs.Leaving.{FollowsTo};
+ghost use Rattle.order_check.specs.Answer.{FollowsTo};
 
 use crate::by_order::ByOrder;
 use crate::following::{Followed, follow_boot};

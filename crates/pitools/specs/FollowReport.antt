@@ -11,7 +11,7 @@ use Rattle.module_names.specs.Named.{HasNoTwins, IsFirstWithTwins}
 use Rattle.start_order.specs.declared.lines.StartOrder.{StartOrder}
 use Rattle.start_order.specs.OrderText.{IsFirstBad, IsOrder}
 use Rattle.order_check.specs.declared.following.Followed.{Followed}
-use Rattle.order_check.specs.Leaving.{FollowsTo}
+use Rattle.order_check.specs.Answer.{FollowsTo}
 use Rattle.plan_files.specs.Job.{IsNamedIn}
 use Rattle.plan_files.specs.Reading.{plan_limit}
 use Rattle.pitools.specs.declared.status.ToolStatus.{ToolStatus}
