@@ -1,9 +1,8 @@
 // Printing what a boot in an order of starts came to.
-ghost use Rattle.std.specs.Prelude.{◌≡◌, ◌++◌, flat_map, map};
-ghost use Rattle.boot_io.specs.Line.{spaced};
+ghost use Rattle.std.specs.Prelude.{◌≡◌, ◌++◌, flat_map};
 ghost use Rattle.boot_io.specs.Sink.{Puts, SinkFaultsAfter};
-ghost use Rattle.pi_base.specs.WordText.{guid_text};
-ghost use Rattle.pitools.specs.FollowText.{against_line, last_text, order_line};
+ghost use Rattle.order_check.specs.declared.against.Against.TheVariants.{NotEligible};
+ghost use Rattle.pitools.specs.FollowText.{against_line, guid_word, last_text, order_line};
 ghost use Rattle.pitools.specs.FollowText.{not_eligible_text, refused_order, started_text, stop_text, unknown_text};
 
 use crate::print::put_no;
@@ -59,7 +58,7 @@ pub(crate) fn put_order<S: Sink>(sink: &mut S, line: u32) -> Result<(), SinkFaul
 
 // A GUID behind a space.
 fn put_guid<S: Sink>(sink: &mut S, guid: &Guid) -> Result<(), SinkFault>
-    ensures text { Puts result (S.text sink.old) (S.text sink.new) (spaced (guid_text guid.now)) }
+    ensures text { Puts result (S.text sink.old) (S.text sink.new) (guid_word guid.now) }
     ensures cause { SinkFaultsAfter result (S.faults sink.old) (S.faults sink.new) }
 {
     sink.put(b" ")?;
@@ -68,7 +67,7 @@ fn put_guid<S: Sink>(sink: &mut S, guid: &Guid) -> Result<(), SinkFault>
 
 // GUIDs, each behind a space.
 fn put_guids<S: Sink>(sink: &mut S, guids: &[Guid]) -> Result<(), SinkFault>
-    ensures text { Puts result (S.text sink.old) (S.text sink.new) (flat_map spaced (map (λ guid. guid_text guid) guids.now)) }
+    ensures text { Puts result (S.text sink.old) (S.text sink.new) (flat_map guid_word guids.now) }
     ensures cause { SinkFaultsAfter result (S.faults sink.old) (S.faults sink.new) }
 {
     'put: for guid in guids {

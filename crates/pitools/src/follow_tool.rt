@@ -1,5 +1,5 @@
 // A plan's boot in an order of starts.
-ghost use Rattle.std.specs.Prelude.{◌≡◌, ◌≤◌, IfOk, OnErr, length};
+ghost use Rattle.std.specs.Prelude.{◌≡◌, ◌≤◌, ◌-◌, ◌^◌, IfOk, OnErr, length};
 ghost use Rattle.boot_plan.specs.Range.{IsPlanInRange};
 ghost use Rattle.plan_files.specs.Job.{IsNamedIn};
 ghost use Rattle.pitools.specs.Ends.{Reports, Tells};
@@ -12,7 +12,7 @@ use boot_io::Files;
 use order_check::{FollowFault, follow};
 use pi_base::OutOfMemory;
 use plan_files::{Job, NoJob, PLAN_LIMIT, job_of};
-use start_order::{OrderFault, StartOrder, read_order};
+use start_order::{OrderFault, StartOrder, one_reading, read_order};
 use std::alloc::Global;
 
 // The most bytes of an order.
@@ -22,7 +22,7 @@ const ORDER_LIMIT: usize = 0x1_0000;
 fn order_report(alloc: Global, job: Job, order: &StartOrder) -> Result<Report, OutOfMemory>
     requires in_range { IsPlanInRange job.plan }
     requires as_many { length job.images ≡ length job.plan.volumes }
-    requires few { length order.now.starts ≤ 0x10000 }
+    requires few { length order.now.starts ≤ 2 ^ 32 - 1 }
     ensures { IfOk result (Tells (OrderReport job.plan job.images order.now)) }
 {
     let Job { plan, images } = job;
@@ -46,6 +46,7 @@ fn follow_report(alloc: Global, job: Job, text: &[u8]) -> Result<Report, OutOfMe
     requires text { length text.now ≤ 0x10000 }
     ensures { IfOk result (Tells (FollowReport job.plan job.images text.now)) }
 {
+    one_reading();
     match read_order(alloc, text) {
         Ok(order) => order_report(alloc, job, &order),
         Err(OrderFault::Bad { line }) => Ok(Report::Order(line)),
