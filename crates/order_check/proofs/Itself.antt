@@ -1,5 +1,5 @@
 -- Behind an order's last start a boot in it goes on as the machine itself does.
-use Rattle.std.proofs.Common.{◌≡◌, ℕ, suc, ◌+◌, ◌<◌, ◌≤◌, Bool, true, List, [], ◌∷◌, ◌++◌, length, Option, Some, None, is_some, refl, sym, ap, ◌∙◌, subst, inl, inr, arith}
+use Rattle.std.proofs.Common.{◌≡◌, ℕ, zero, suc, ◌+◌, ◌<◌, ◌≤◌, Bool, true, List, [], ◌∷◌, ◌++◌, length, Option, Some, None, is_some, refl, sym, ap, ◌∙◌, subst, inl, inr, arith}
 use Rattle.std.specs.Prelude.{◌⊎◌, slice_get}
 use Rattle.std.proofs.lemmas.Bool.{cases_lt}
 use Rattle.std.proofs.lemmas.List.{append-nil, length-append}
@@ -46,7 +46,7 @@ use Rattle.order_check.proofs.DxeOrder.{DxeCome, Handed, IsDxeRun, all_starts, c
 
 nothing_there : {A : Type 0} (xs : List A) (n : ℕ) → length xs ≤ n → slice_get xs n ≡ None
 nothing_there [] n few = refl
-nothing_there (x ∷ xs) 0 few = absurd (omega (arith, few))
+nothing_there (x ∷ xs) zero few = absurd (omega (arith, few))
 nothing_there (x ∷ xs) (suc n) few = nothing_there xs n (omega (arith, few))
 
 -- where all of its starts were made the order asks for none

@@ -11,4 +11,5 @@ mod Comings
 mod Reaching
 mod Calls
 mod Faults
+mod Naming
 mod OneBoot

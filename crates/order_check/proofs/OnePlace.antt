@@ -98,7 +98,7 @@ data Stands (b : OrderBoot) (m : PeiMachine) : Type 0 where
 
 goes_no_further : (b : OrderBoot) (m later : PeiMachine) → Stands b m → m.ended ≡ None → P.IsStepBy (peims b) (lets_peim b) b.catalog b.fuel m later → ⊥
 goes_no_further b m later (over how is) going step = let gone : None ≡ Some how = sym going ∙ is in cc
-goes_no_further b m later (barred number due no) going step = no_step b m later number due no step
+goes_no_further b m later (barred number due never) going step = no_step b m later number due never step
 
 no_longer : (b : OrderBoot) (e f : List PeiMachine) (m k : PeiMachine) → IsRun b e m → Stands b m → IsRun b f k → length f ≤ length e
 no_longer b e f m k r stands s = elim (cases_lt (length e) (length f)) [
@@ -168,11 +168,11 @@ data DxeStands (b : OrderBoot) (pei : PeiMachine) (m : DxeMachine) : Type 0 wher
   dxe_barred : (number : ℕ) (due : D.IsDue (named b pei) b.catalog m number) → lets b pei due.target number ≡ false → DxeStands b pei m
 
 dxe_no_further : (b : OrderBoot) (pei : PeiMachine) (m target : DxeMachine) → DxeStands b pei m → m.ended ≡ None → D.IsAimedBy (named b pei) b.catalog m target → PassesStart (lets b pei target) b.catalog target → ⊥
-dxe_no_further b pei m target (dxe_over how is) going aimed passes = let gone : None ≡ Some how = sym going ∙ is in cc
-dxe_no_further b pei m target (dxe_barred number due no) going aimed passes =
+dxe_no_further b pei m target (dxe_over how is) going aimed let_on = let gone : None ≡ Some how = sym going ∙ is in cc
+dxe_no_further b pei m target (dxe_barred number due never) going aimed let_on =
     let same : due.target ≡ target = one_target b pei m due.target target going due.aimed aimed in
-    let on : PassesStart (lets b pei due.target) b.catalog due.target = subst (λ x. PassesStart (lets b pei x) b.catalog x) (sym same) passes in
-    true≢false (sym (on number due.starting) ∙ no)
+    let on : PassesStart (lets b pei due.target) b.catalog due.target = subst (λ x. PassesStart (lets b pei x) b.catalog x) (sym same) let_on in
+    true≢false (sym (on number due.starting) ∙ never)
 
 no_longer_dxe : (b : OrderBoot) (pei : PeiMachine) (e f : List DxeMachine) → Runs b pei e → DxeStands b pei (came b pei e) → Runs b pei f → length f ≤ length e
 no_longer_dxe b pei e f r stands s = elim (cases_lt (length e) (length f)) [
