@@ -36,7 +36,7 @@ use Rattle.order_check.specs.declared.drivers.Drivers.{Drivers}
 use Rattle.order_check.specs.Leaving.{ComesTo, IsReached}
 use Rattle.order_check.proofs.PeiOrder.{IsRun, OrderBoot, PeiBar}
 use Rattle.order_check.proofs.DxeOrder.{DxeBar, Handed, IsDxeRun, came, comes_in_dxe, drivers, lets_driver, opening}
-use Rattle.order_check.proofs.OrderRuns.{dxe_due_of, dxe_run_of}
+use Rattle.order_check.proofs.OrderRuns.{aimed_of, dxe_run_of}
 use Rattle.order_check.proofs.Reaching.{dxe_bars, dxe_ends, pei_bars, pei_ends}
 
 -- where the order asks for no start more
@@ -118,7 +118,7 @@ dxe_finishes b h Names left first old mid new (Ok followed) of ran text finished
         dxe_ends b h ran.earlier stands.0 (record { old = first; new = new }) followed run stands.1 (two_texts first mid new (h.pei.lines ++ m.lines) (closing h.pei.store m.handles (dxe_result stands.0)) both this.0) this.1
     by None stands last =
         let bars = stands.1 in
-        let bar : DxeBar b h m stands.0 = record { come = comes_in_dxe b h ran.earlier run; going = bars.running; due = dxe_due_of Names (drivers b h) b.catalog m stands.0 of bars.due; barred = bars.barred } in
+        let bar : DxeBar b h m stands.0 = record { come = comes_in_dxe b h ran.earlier run; going = bars.running; due = record { target = bars.due.target; aimed = aimed_of Names (drivers b h) b.catalog m bars.due.target of bars.due.aimed; starting = bars.due.starting }; barred = bars.barred } in
         dxe_bars b h ran.earlier stands.0 run bar (record { old = first; new = new }) followed (subst (Appends first new) (ap text_of (append-nil (h.pei.lines ++ m.lines))) (two_texts first mid new (h.pei.lines ++ m.lines) [] both last.0)) last.1
 
 -- what ran in DXE, from what the run leaves: it has ended

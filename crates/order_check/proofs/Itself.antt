@@ -1,6 +1,6 @@
 -- Behind an order's last start a boot in it goes on as the machine itself does.
-use Rattle.std.proofs.Common.{◌≡◌, ℕ, zero, suc, ◌+◌, ◌<◌, ◌≤◌, Bool, true, List, [], ◌∷◌, ◌++◌, length, Option, Some, None, is_some, refl, sym, ap, ◌∙◌, subst, inl, inr, arith}
-use Rattle.std.specs.Prelude.{◌⊎◌, slice_get}
+use Rattle.std.proofs.Common.{◌≡◌, ℕ, zero, suc, ◌+◌, ◌<◌, ◌≤◌, true, List, [], ◌∷◌, ◌++◌, length, Option, Some, None, is_some, refl, sym, ap, ◌∙◌, subst, inl, inr, arith}
+use Rattle.std.specs.Prelude.{slice_get}
 use Rattle.std.proofs.lemmas.Bool.{cases_lt}
 use Rattle.std.proofs.lemmas.List.{append-nil, length-append}
 use Rattle.pi_base.specs.declared.phase.Phase.TheVariants.{Pei, Dxe}
@@ -8,19 +8,16 @@ use Rattle.catalog_model.specs.declared.catalog.Part.{Part}
 use Rattle.catalog_model.specs.Parts.{part_at}
 use Rattle.boot_model.specs.declared.driver.Scheduled.{Scheduled}
 use Rattle.boot_model.specs.declared.line.Line.{Line}
-use Rattle.boot_model.specs.declared.line.RunEnd.{RunEnd}
-use Rattle.boot_model.specs.declared.phase_end.DxeEnd.{DxeEnd}
 use Rattle.boot_model.specs.declared.phase_end.PeiEnd.{PeiEnd}
 use Rattle.boot_model.specs.declared.phase_end.PeiEnd.TheVariants.{Handoff, NoMemory, NoIpl, Spent, Deep}
-use Rattle.boot_model.specs.BootRun.{both_lines, dxe_result, lines_after, pei_lines}
+use Rattle.boot_model.specs.BootRun.{both_lines, lines_after}
 use Rattle.boot_model.specs.DxeMachine.{DxeMachine}
 use Rattle.boot_model.specs.DxeRun.{IsDxeRun as IsOwnDxeRun}
 use Rattle.boot_model.specs.DxeStep.{DxeCase, DxeFires, DxeActs, DxeStarts, DxeStops, dxe_case_of, dxe_step, driver_started, in_dxe_case}
 use Rattle.boot_model.specs.FreeRun.{last_of_dxe}
 use Rattle.boot_model.specs.PeiMachine.{PeiMachine}
 use Rattle.boot_model.specs.PeiRun.{IsPeiRun, last_machine}
-use Rattle.boot_model.specs.PeiStep.{Starts, case_of, in_case, pei_step}
-use Rattle.free_laws.specs.DxeAim.{IsChoosing}
+use Rattle.boot_model.specs.PeiStep.{case_of, in_case, pei_step}
 use Rattle.free_laws.proofs.Cursors as Cursors
 use Rattle.free_laws.proofs.DxeWays as Ways
 use Rattle.start_order.specs.declared.line.Start.{Start}
@@ -34,7 +31,7 @@ use Rattle.pei_dispatch.proofs.Chosen.{idle_starts}
 use Rattle.dxe_dispatch.specs.Choices as D
 use Rattle.dxe_dispatch.proofs.Chosen.{target_at}
 use Rattle.dxe_dispatch.proofs.Targets.{Doing, HasScheduled, MayChoose, RunsScript, doing, none_aimed, none_named}
-use Rattle.order_check.specs.Along.{IsAlong, IsIndex}
+use Rattle.order_check.specs.Along.{IsIndex}
 use Rattle.order_check.specs.ByOrder.{starts_of}
 use Rattle.order_check.specs.Own.{AreOwnLinesAfter, GoesOnItself, itself_in_dxe, itself_in_pei}
 use Rattle.order_check.proofs.Along.{exactly_made, none_asked}

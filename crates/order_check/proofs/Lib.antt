@@ -11,5 +11,4 @@ mod Comings
 mod Reaching
 mod Calls
 mod Faults
-mod Naming
 mod OneBoot

@@ -1,19 +1,17 @@
 -- An order leads to one place: from each machine it leads on by one step, or stops there.
-use Rattle.std.proofs.Common.{◌≡◌, ℕ, suc, ◌+◌, ◌<◌, ◌≤◌, Bool, true, false, true≢false, List, [], ◌∷◌, length, Option, Some, None, refl, sym, ap, ◌∙◌, subst, inl, inr, arith}
+use Rattle.std.proofs.Common.{◌≡◌, ℕ, ◌+◌, ◌<◌, ◌≤◌, Bool, true, false, true≢false, List, [], ◌∷◌, length, Option, Some, None, refl, sym, ap, ◌∙◌, subst, inl, inr, arith}
 use Rattle.std.specs.Prelude.{slice_get}
 use Rattle.std.proofs.lemmas.Bool.{cases_lt}
 use Rattle.pi_base.specs.declared.phase.Phase.TheVariants.{Pei, Dxe}
 use Rattle.boot_model.specs.declared.phase_end.DxeEnd.{DxeEnd}
 use Rattle.boot_model.specs.declared.phase_end.PeiEnd.{PeiEnd}
 use Rattle.boot_model.specs.declared.phase_end.PeiEnd.TheVariants.{Handoff, NoMemory, NoIpl, Spent, Deep}
-use Rattle.boot_model.specs.declared.driver.Scheduled.{Scheduled}
-use Rattle.boot_model.specs.DxeMachine.{DriverFrame, DxeMachine}
+use Rattle.boot_model.specs.DxeMachine.{DxeMachine}
 use Rattle.boot_model.specs.DxeRun.{dxe_opening}
 use Rattle.boot_model.specs.DxeStep.{dxe_step}
 use Rattle.boot_model.specs.PeiChoice.{next_peim, pei_order}
 use Rattle.boot_model.specs.PeiMachine.{PeiMachine}
-use Rattle.boot_model.specs.PeiStep.{PeiCase, Starts, case_of, started}
-use Rattle.free_laws.specs.DxeAim.{IsChoosing}
+use Rattle.boot_model.specs.PeiStep.{Starts, case_of, started}
 use Rattle.free_laws.specs.PeiAim.{with_cursor}
 use Rattle.free_laws.specs.PeiFree.{IsOwnCase}
 use Rattle.free_laws.proofs.Cursors as Cursors

@@ -1,5 +1,5 @@
 -- A run by what a choice may name is one by what the order names.
-use Rattle.std.proofs.Common.{◌≡◌, ℕ, Bool, List, [], ◌∷◌, Option, inl, inr}
+use Rattle.std.proofs.Common.{ℕ, Bool, List, [], ◌∷◌, Option, inl, inr}
 use Rattle.catalog_model.specs.declared.catalog.Catalog.{Catalog}
 use Rattle.boot_model.specs.DxeMachine.{DxeMachine}
 use Rattle.boot_model.specs.PeiMachine.{PeiMachine}
@@ -21,11 +21,8 @@ run_of Names Other Lets catalog fuel opening (before ∷ earlier) m of run =
     (run.0, step_of Names Other Lets catalog fuel before m of run.1, run_of Names Other Lets catalog fuel opening earlier before of run.2)
 
 -- the same in DXE
-aimed_of : (Names Other : DxeMachine → Option ℕ → Type 0) (catalog : Catalog) (m target : DxeMachine) → ((n : DxeMachine) (named : Option ℕ) → Names n named → Other n named) → D.IsAimedBy Names catalog m target → D.IsAimedBy Other catalog m target
+pub aimed_of : (Names Other : DxeMachine → Option ℕ → Type 0) (catalog : Catalog) (m target : DxeMachine) → ((n : DxeMachine) (named : Option ℕ) → Names n named → Other n named) → D.IsAimedBy Names catalog m target → D.IsAimedBy Other catalog m target
 aimed_of Names Other catalog m target of a = record { named = a.named; allowed = λ choosing. of m a.named (a.allowed choosing); busy = a.busy; is = a.is }
-
-pub dxe_due_of : (Names Other : DxeMachine → Option ℕ → Type 0) (catalog : Catalog) (m : DxeMachine) (number : ℕ) → ((n : DxeMachine) (named : Option ℕ) → Names n named → Other n named) → D.IsDue Names catalog m number → D.IsDue Other catalog m number
-dxe_due_of Names Other catalog m number of d = record { target = d.target; aimed = aimed_of Names Other catalog m d.target of d.aimed; starting = d.starting }
 
 pub dxe_run_of : (Names Other : DxeMachine → Option ℕ → Type 0) (Lets : DxeMachine → ℕ → Bool) (catalog : Catalog) (fuel : ℕ) (opening : DxeMachine) (earlier : List DxeMachine) → ((n : DxeMachine) (named : Option ℕ) → Names n named → Other n named)
     → D.IsRunBy Names Lets catalog fuel opening earlier → D.IsRunBy Other Lets catalog fuel opening earlier

@@ -1,6 +1,7 @@
 -- Where a boot along an order is left or ends: in PEI, and in DXE.
-use Rattle.std.proofs.Common.{◌≡◌, ℕ, ◌+◌, List, [], ◌∷◌, ◌++◌, length, Option, Some, None, Ok, is_some, refl, sym, ap, ◌∙◌, subst, append_assoc}
+use Rattle.std.proofs.Common.{◌≡◌, ℕ, ◌+◌, List, [], ◌∷◌, ◌++◌, length, Some, None, Ok, is_some, refl, sym, ap, ◌∙◌, subst, append_assoc}
 use Rattle.std.specs.Io.KnownBytes.{Appends}
+use Rattle.std.proofs.lemmas.List.{append-nil}
 use Rattle.pi_base.specs.declared.phase.Phase.TheVariants.{Pei}
 use Rattle.catalog_model.specs.declared.catalog.Catalog.{Catalog}
 use Rattle.store_model.specs.HandleState.{HandleState, no_handles}
@@ -69,11 +70,12 @@ bars_at b m number bar =
 pub pei_bars : (b : OrderBoot) (m : PeiMachine) (number : ℕ) (bar : PeiBar b m number) (t : Texts) (followed : Followed) → Appends t.old t.new (text_of m.lines)
     → ComesTo b.catalog b.order (pei_starts m) m.store no_handles None followed → FollowsTo b.board b.catalog b.fuel b.order t (Ok followed)
 pei_bars b m number bar t followed text c =
-    let p = pei_stand b bar.earlier m (P.comes b bar.earlier m bar.run) (P.along b bar.earlier m bar.run) in
-    (barred_comes p t (P.before_start b m number bar)
-    (λ asked asks others free first. P.none_starts b m number asked bar asks others free first)
-    (λ none. lets_stop b.catalog b.order Pei (pei_starts m) number bar.barred none) text followed c,
-    in_order p t None followed (bars_at b m number bar) (subst (λ xs. Appends t.old t.new (text_of xs)) (sym (append-nil m.lines)) text) c)
+    let p = pei_stand b bar.earlier m (P.comes b bar.earlier m bar.run) (P.along b bar.earlier m bar.run) in (
+      barred_comes p t (P.before_start b m number bar)
+          (λ asked asks others free first. P.none_starts b m number asked bar asks others free first)
+          (λ none. lets_stop b.catalog b.order Pei (pei_starts m) number bar.barred none) text followed c,
+      in_order p t None followed (bars_at b m number bar) (subst (λ xs. Appends t.old t.new (text_of xs)) (sym (append-nil m.lines)) text) c,
+    )
 
 -- the lines behind a PEI that has ended so, without a hand-off
 ended_so : (m : PeiMachine) (so this : RunEnd) (lines : List Line) → Some this ≡ Some so → lines ≡ m.lines ++ closing m.store no_handles so → lines ≡ m.lines ++ closing m.store no_handles this
@@ -103,14 +105,12 @@ last_is lines s h end = (lines ++ (store_lines s ++ handle_lines h), sym (append
 -- the place where a boot ended in PEI
 ends_at : (b : OrderBoot) (earlier : List PeiMachine) (m : PeiMachine) (how : PeiEnd) (so : RunEnd) → IsRun b earlier m → m.ended ≡ Some how → pei_result how ≡ Some so → LeadsTo b.board b.catalog b.fuel b.order (pei_place m (Some so))
 ends_at b earlier m how so run ended is =
-    record { earlier = earlier; m = m; runs = run; stands = subst (λ o. IsPeiPlace By b.catalog b.fuel m o (pei_place m (Some so))) (sym ended) (at how is) }
+    record { earlier = earlier; m = m; runs = run; stands = subst (λ o. IsPeiPlace (order_choices b.catalog b.order) b.catalog b.fuel m o (pei_place m (Some so))) (sym ended) (at how is) }
   where
-    By = order_choices b.catalog b.order
-
     same : (this : RunEnd) → Some this ≡ Some so → pei_place m (Some so) ≡ pei_place m (Some this)
     same this e = ap (pei_place m) (sym e)
 
-    at : (how : PeiEnd) → pei_result how ≡ Some so → IsPeiPlace By b.catalog b.fuel m (Some how) (pei_place m (Some so))
+    at : (how : PeiEnd) → pei_result how ≡ Some so → IsPeiPlace (order_choices b.catalog b.order) b.catalog b.fuel m (Some how) (pei_place m (Some so))
     at Handoff e = cc
     at NoMemory e = same E.NoMemory e
     at NoIpl e = same E.NoIpl e
@@ -135,14 +135,15 @@ pei_ends b earlier m how so t followed run ended is text c =
     let p = pei_stand b earlier m come (P.along b earlier m run) in
     let last = closing m.store no_handles so in
     let all = m.lines ++ last in
-    let here : AreFreePeiLines b.catalog b.fuel m all = (PeiRuns.ends_so b.catalog b.fuel m (ap is_some ended) all).1 (subst (λ o. AreFreeLinesAfter b.catalog b.fuel m o all) (sym ended) (after_end b.catalog b.fuel m how so all is refl)) in
-    (ended_comes p t last so (closing_quiet m.store no_handles so) ((pei_leads b.board b.catalog b.fuel earlier m b.apart come all).1 here)
-    (λ others free first.
-    let on : AreFreePeiLines b.catalog b.fuel m others = (pei_leads b.board b.catalog b.fuel earlier m b.apart come others).0 free first in
-    let after = (PeiRuns.ends_so b.catalog b.fuel m (ap is_some ended) others).0 on in
-    end_after b.catalog b.fuel m how so others is (subst (λ o. AreFreeLinesAfter b.catalog b.fuel m o others) ended after))
-    (last_is m.lines m.store no_handles so) (λ few. pei_itself b earlier m how all run ended few (no_handoff how so is) (own_lines b.catalog b.fuel m how so is)) text followed c,
-    in_order p t (Some so) followed (ends_at b earlier m how so run ended is) text c)
+    let here : AreFreePeiLines b.catalog b.fuel m all = (PeiRuns.ends_so b.catalog b.fuel m (ap is_some ended) all).1 (subst (λ o. AreFreeLinesAfter b.catalog b.fuel m o all) (sym ended) (after_end b.catalog b.fuel m how so all is refl)) in (
+      ended_comes p t last so (closing_quiet m.store no_handles so) ((pei_leads b.board b.catalog b.fuel earlier m b.apart come all).1 here)
+          (λ others free first.
+          let on : AreFreePeiLines b.catalog b.fuel m others = (pei_leads b.board b.catalog b.fuel earlier m b.apart come others).0 free first in
+          let after = (PeiRuns.ends_so b.catalog b.fuel m (ap is_some ended) others).0 on in
+          end_after b.catalog b.fuel m how so others is (subst (λ o. AreFreeLinesAfter b.catalog b.fuel m o others) ended after))
+          (last_is m.lines m.store no_handles so) (λ few. pei_itself b earlier m how all run ended few (no_handoff how so is) (own_lines b.catalog b.fuel m how so is)) text followed c,
+      in_order p t (Some so) followed (ends_at b earlier m how so run ended is) text c,
+    )
 
 -- a machine of DXE
 abbrev dxe_stand : (b : OrderBoot) (h : Handed b) (m : DxeMachine) → DxeCome b h m → IsAlong b.order (all_starts h m) → Stand
@@ -177,11 +178,12 @@ pub dxe_bars : (b : OrderBoot) (h : Handed b) (over : List DxeMachine) (number :
     → FollowsTo b.board b.catalog b.fuel b.order t (Ok followed)
 dxe_bars b h over number run bar t followed text c =
     let m = came b h over in
-    let p = dxe_stand b h m bar.come (D.dxe_along b h over run) in
-    (barred_comes p t (D.before_start b h m number bar)
-    (λ asked asks others free first. D.none_starts b h m number asked bar asks others free first)
-    (λ none. D.stops_there b h m number bar none) text followed c,
-    in_order p t None followed (dxe_bars_at b h over number run bar) (subst (λ xs. Appends t.old t.new (text_of xs)) (sym (append-nil (h.pei.lines ++ m.lines))) text) c)
+    let p = dxe_stand b h m bar.come (D.dxe_along b h over run) in (
+      barred_comes p t (D.before_start b h m number bar)
+          (λ asked asks others free first. D.none_starts b h m number asked bar asks others free first)
+          (λ none. D.stops_there b h m number bar none) text followed c,
+      in_order p t None followed (dxe_bars_at b h over number run bar) (subst (λ xs. Appends t.old t.new (text_of xs)) (sym (append-nil (h.pei.lines ++ m.lines))) text) c,
+    )
 
 -- the place where a boot ended in DXE
 dxe_ends_at : (b : OrderBoot) (h : Handed b) (over : List DxeMachine) (how : DxeEnd) → IsDxeRun b h over → (came b h over).ended ≡ Some how → LeadsTo b.board b.catalog b.fuel b.order (dxe_place h.pei (came b h over) (Some (dxe_result how)))
@@ -204,9 +206,10 @@ dxe_ends b h over how t followed run ended text c =
     let lines = h.pei.lines ++ m.lines in
     let last = closing h.pei.store m.handles (dxe_result how) in
     let all = lines ++ last in
-    let whole : both_lines h.pei m m.ended ≡ all = ap (both_lines h.pei m) ended in
-    (ended_comes p t last (dxe_result how) (closing_quiet h.pei.store m.handles (dxe_result how))
-    (back_from b h m all come ((DxeRuns.ends_so b.catalog b.fuel h.pei m (ap is_some ended) all).1 (sym whole)))
-    (λ others free first. (DxeRuns.ends_so b.catalog b.fuel h.pei m (ap is_some ended) others).0 (goes_from b h m others come free first) ∙ whole)
-    (last_is lines h.pei.store m.handles (dxe_result how)) (λ few. dxe_itself b h over all run (ap is_some ended) few (sym whole)) text followed c,
-    in_order p t (Some (dxe_result how)) followed (dxe_ends_at b h over how run ended) text c)
+    let whole : both_lines h.pei m m.ended ≡ all = ap (both_lines h.pei m) ended in (
+      ended_comes p t last (dxe_result how) (closing_quiet h.pei.store m.handles (dxe_result how))
+          (back_from b h m all come ((DxeRuns.ends_so b.catalog b.fuel h.pei m (ap is_some ended) all).1 (sym whole)))
+          (λ others free first. (DxeRuns.ends_so b.catalog b.fuel h.pei m (ap is_some ended) others).0 (goes_from b h m others come free first) ∙ whole)
+          (last_is lines h.pei.store m.handles (dxe_result how)) (λ few. dxe_itself b h over all run (ap is_some ended) few (sym whole)) text followed c,
+      in_order p t (Some (dxe_result how)) followed (dxe_ends_at b h over how run ended) text c,
+    )

@@ -1,6 +1,6 @@
 -- What follows PEI in a boot along an order, and its last lines.
 -- Own.
-use Rattle.std.specs.Prelude.{◌≡◌, ℕ, List, Option, Some, None, Result, Ok, Err, ⊤}
+use Rattle.std.specs.Prelude.{◌≡◌, ℕ, List, [], Option, Some, None, Result, Ok, Err, ⊤}
 use Rattle.std.specs.Io.KnownBytes.{Appends}
 use Rattle.boot_io.specs.declared.halt.Halt.{Halt}
 use Rattle.catalog_model.specs.declared.catalog.Catalog.{Catalog}
