@@ -2,12 +2,14 @@ pub mod CommandLine
 pub mod FileReading
 pub mod FileRefusal
 pub mod Refusals
+pub mod FollowText
 pub mod ReportText
 pub mod GcdReport
 pub mod MpReport
 pub mod JobOutcome
 pub mod CheckReport
 pub mod HobsReport
+pub mod FollowReport
 pub mod TextReport
 pub mod SourceRefusal
 pub mod VolumeReport
