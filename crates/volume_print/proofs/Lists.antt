@@ -7,6 +7,7 @@ use Rattle.std.specs.List.{list_any}
 use Rattle.std.specs.Prelude.{◌||◌}
 use Rattle.fv_build.specs.declared.new_file.NewSection.{NewSection}
 use Rattle.fv_build.specs.Reading.{AreEach}
+use Rattle.volume_print.specs.declared.form.Host.{Host}
 use Rattle.volume_print.specs.Spelling.{IsSectionText, AreSectionTexts, whole}
 
 -- each pair, and one more
@@ -17,15 +18,16 @@ each_more Is (a ∷ xs) [] x y all is = absurd all
 each_more Is (a ∷ xs) (b ∷ ys) x y all is = (all.0, each_more Is xs ys x y all.1 is)
 
 -- the texts of sections, and of one more
-pub texts_more : (kind : ℕ) (before sections : List NewSection) (section : NewSection) (texts : List (List ℕ)) (text : List ℕ) → AreSectionTexts kind before sections texts
-    → IsSectionText kind (before ++ sections) section text → AreSectionTexts kind before (sections ++ section ∷ []) (texts ++ text ∷ [])
-texts_more kind before [] section [] text all is = (subst (λ (b : List NewSection). IsSectionText kind b section text) (append-nil before) is, tt)
-texts_more kind before [] section (t ∷ texts) text all is = absurd all
-texts_more kind before (s ∷ sections) section [] text all is = absurd all
-texts_more kind before (s ∷ sections) section (t ∷ texts) text all is = (
+pub texts_more : (Inner : List ℕ → List ℕ → Type 0) (host : Host) (before sections : List NewSection) (section : NewSection) (texts : List (List ℕ)) (text : List ℕ)
+    → AreSectionTexts Inner host before sections texts
+    → IsSectionText Inner host (before ++ sections) section text → AreSectionTexts Inner host before (sections ++ section ∷ []) (texts ++ text ∷ [])
+texts_more Inner host before [] section [] text all is = (subst (λ (b : List NewSection). IsSectionText Inner host b section text) (append-nil before) is, tt)
+texts_more Inner host before [] section (t ∷ texts) text all is = absurd all
+texts_more Inner host before (s ∷ sections) section [] text all is = absurd all
+texts_more Inner host before (s ∷ sections) section (t ∷ texts) text all is = (
   all.0,
-  texts_more kind (before ++ s ∷ []) sections section texts text all.1
-      (subst (λ (b : List NewSection). IsSectionText kind b section text) (sym (append_assoc before (s ∷ []) sections)) is),
+  texts_more Inner host (before ++ s ∷ []) sections section texts text all.1
+      (subst (λ (b : List NewSection). IsSectionText Inner host b section text) (sym (append_assoc before (s ∷ []) sections)) is),
 )
 
 -- texts one behind the other, and one more

@@ -9,10 +9,11 @@ ghost use Rattle.volume_print.specs.Finding.{IsForm, TellsVolume, AddsSection, A
 use crate::file::{attributes_at, body_of as body_of_file, put_head, put_plain_body, sections_in};
 use crate::form::{Form, Host, body_of, plain_form};
 use crate::inner::{holds_volume, read_again, whole_volume};
+use crate::law::one_text_by;
 use crate::section::put_form;
 use crate::volume::{form_in, put_head as put_volume_head, put_name};
 use fv_section::Section;
-use fv_volume::{FfsFile, Volume};
+use fv_volume::{FfsFile, Volume, one_reading};
 use pi_base::{OutOfMemory, Seq};
 use std::alloc::Global;
 
@@ -33,6 +34,8 @@ fn nested_text(
     let Some(volume) = whole_volume(alloc, bytes)? else {
         return Ok(None);
     };
+    one_reading();
+    one_text_by();
     let text = text_by(alloc, bytes, &volume, deep - 1)?;
     read_again(alloc, text)
 }

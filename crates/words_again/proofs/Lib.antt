@@ -1,0 +1,6 @@
+mod LineWords
+mod Characters
+mod Values
+mod Operands
+mod Actions
+mod Expressions

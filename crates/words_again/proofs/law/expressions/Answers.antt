@@ -1,0 +1,5 @@
+use Rattle.words_again.proofs.Expressions.{expression_is}
+use Rattle.words_again.proofs.law.expressions.Goals as goal
+
+pub returns : goal.returns
+returns c = expression_is
