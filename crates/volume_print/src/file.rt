@@ -14,7 +14,11 @@ use pi_base::{Guid, OutOfMemory, Seq};
 use std::alloc::Global;
 
 /// The sections that a body is, or none.
-pub(crate) fn sections_in(alloc: Global, kind: u8, body: &[u8]) -> Result<Option<Seq<Section>>, OutOfMemory>
+pub(crate) fn sections_in(
+    alloc: Global,
+    kind: u8,
+    body: &[u8],
+) -> Result<Option<Seq<Section>>, OutOfMemory>
     ensures { IfOk result (IsStream kind body.now) }
 {
     if kind == RAW {

@@ -18,16 +18,15 @@ use Rattle.pi_base.specs.declared.guid.Guid.{Guid}
 use Rattle.pi_base.specs.WordText.{hexadecimal, guid_text}
 use Rattle.printed_words.proofs.GuidWords.{guid_long}
 use Rattle.printed_words.proofs.Numerals.{numeral}
-use Rattle.source_words.specs.Words.{is_inner}
-use Rattle.words_again.proofs.LineWords.{IsInner, IsWord}
+use Rattle.words_again.proofs.LineWords.{is_clean, IsClean, IsWord}
 
 -- digits
-digit_inner : (digit base : ℕ) → base ≤ 16 → digit_value digit < base → is_inner digit ≡ true
+digit_inner : (digit base : ℕ) → base ≤ 16 → digit_value digit < base → is_clean digit ≡ true
 digit_inner digit base high here = grind (arith, nat_tests)
 
-digits_inner : (base : ℕ) (ds : List ℕ) → base ≤ 16 → AllDigits base ds → IsInner ds
+digits_inner : (base : ℕ) (ds : List ℕ) → base ≤ 16 → AllDigits base ds → IsClean ds
 digits_inner base [] high all = refl
-digits_inner base (digit ∷ ds) high all = and_from (is_inner digit) (list_all is_inner ds) (digit_inner digit base high all.0) (digits_inner base ds high all.1)
+digits_inner base (digit ∷ ds) high all = and_from (is_clean digit) (list_all is_clean ds) (digit_inner digit base high all.0) (digits_inner base ds high all.1)
 
 digits_word : (base n : ℕ) → 2 ≤ base → base ≤ 16 → n < 2 ^ 64 → IsWord (digits base false n)
 digits_word base n low high fits = let is = (numeral base n low high fits).0 in (is.0, digits_inner base (digits base false n) high is.1)
@@ -39,10 +38,10 @@ pub hexadecimal_word : (n : ℕ) → n < 2 ^ 64 → IsWord (hexadecimal n)
 hexadecimal_word n fits = (omega arith, (digits_word 16 n (omega arith) (omega arith) fits).1)
 
 -- a half of a byte
-half_inner : (digit : ℕ) → digit < 16 → is_inner (slice_index lower_digits digit) ≡ true
-half_inner digit below = AllPass-from_list_all is_inner lower_digits refl digit 0 below
+half_inner : (digit : ℕ) → digit < 16 → is_clean (slice_index lower_digits digit) ≡ true
+half_inner digit below = AllPass-from_list_all is_clean lower_digits refl digit 0 below
 
-pub encoded_inner : (bytes : List ℕ) → IsBytes bytes → IsInner (encode_lower bytes)
+pub encoded_inner : (bytes : List ℕ) → IsBytes bytes → IsClean (encode_lower bytes)
 unfolding encode_with
 encoded_inner [] fits = refl
 encoded_inner (byte ∷ bytes) fits =
@@ -78,14 +77,14 @@ pub guid_chars : (guid : Guid) → list_all is_guid_char (guid_text guid) ≡ tr
 guid_chars guid = all_chars 36 (λ k. cond (is_hyphen_place k) 45 (hex_digit 97 (nibble (swap_fields guid.0) (digit_place k))))
     (λ k. place_char (is_hyphen_place k) (nibble (swap_fields guid.0) (digit_place k)) (half_below (eqb (digit_place k % 2) 0) (slice_index (swap_fields guid.0) (digit_place k / 2) / 16) (slice_index (swap_fields guid.0) (digit_place k / 2))))
 
-char_inner : (b : ℕ) → is_guid_char b ≡ true → is_inner b ≡ true
+char_inner : (b : ℕ) → is_guid_char b ≡ true → is_clean b ≡ true
 char_inner b is = let parts = and_parts (nat_lt 44 b) (nat_lt b 103) is in let above : nat_lt 44 b ≡ true = parts.0 in grind (arith, nat_tests)
 
-chars_inner : (text : List ℕ) → list_all is_guid_char text ≡ true → IsInner text
+chars_inner : (text : List ℕ) → list_all is_guid_char text ≡ true → IsClean text
 chars_inner [] all = refl
 chars_inner (b ∷ text) all =
     let parts = and_parts (is_guid_char b) (list_all is_guid_char text) all in
-    and_from (is_inner b) (list_all is_inner text) (char_inner b parts.0) (chars_inner text parts.1)
+    and_from (is_clean b) (list_all is_clean text) (char_inner b parts.0) (chars_inner text parts.1)
 
 pub guid_word : (guid : Guid) → IsWord (guid_text guid)
 guid_word guid = (omega (arith, guid_long guid), chars_inner (guid_text guid) (guid_chars guid))

@@ -2,5 +2,5 @@ mod LineWords
 mod Characters
 mod Values
 mod Operands
-mod Actions
-mod Expressions
+mod ActionLines
+mod ExpressionWords

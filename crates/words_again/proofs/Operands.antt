@@ -54,14 +54,13 @@ within_reads : (low high n : ℕ) (rest : List (List ℕ)) → is_within low hig
 unfolding within_at
 within_reads low high n rest in_range fits = rw (decimal_read n fits, in_range) refl
 
-little_reads : (width n : ℕ) (rest : List (List ℕ)) → n < 256 ^ width → n < 2 ^ 64 → little_at width ((if width == 2 then decimal n else hexadecimal n) ∷ rest) ≡ Ok (n, rest)
+little_by : (test : Bool) (width n : ℕ) (rest : List (List ℕ)) → n < 256 ^ width → n < 2 ^ 64 → little_at width ((if test then decimal n else hexadecimal n) ∷ rest) ≡ Ok (n, rest)
 unfolding little_at
-little_reads width n rest less fits = by_test (width == 2)
-  where
-    by_test : (test : Bool) → little_at width ((if test then decimal n else hexadecimal n) ∷ rest) ≡ Ok (n, rest)
-    unfolding little_at
-    by_test true = rw (decimal_read n fits, below n (256 ^ width) less) refl
-    by_test false = rw (hexadecimal_read n fits, below n (256 ^ width) less) refl
+little_by true width n rest less fits = rw (decimal_read n fits, below n (256 ^ width) less) refl
+little_by false width n rest less fits = rw (hexadecimal_read n fits, below n (256 ^ width) less) refl
+
+little_reads : (width n : ℕ) (rest : List (List ℕ)) → n < 256 ^ width → n < 2 ^ 64 → little_at width ((if width == 2 then decimal n else hexadecimal n) ∷ rest) ≡ Ok (n, rest)
+little_reads width n rest less fits = little_by (width == 2) width n rest less fits
 
 guid_reads : (guid : Guid) (rest : List (List ℕ)) → IsGuid guid → guid_at (guid_text guid ∷ rest) ≡ Ok (guid, rest)
 unfolding guid_at

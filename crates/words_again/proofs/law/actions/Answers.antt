@@ -1,4 +1,4 @@
-use Rattle.words_again.proofs.Actions.{action_read}
+use Rattle.words_again.proofs.ActionLines.{action_read}
 use Rattle.words_again.proofs.law.actions.Goals as goal
 
 pub returns : goal.returns

@@ -1,4 +1,4 @@
-use Rattle.words_again.proofs.Expressions.{expression_is}
+use Rattle.words_again.proofs.ExpressionWords.{expression_is}
 use Rattle.words_again.proofs.law.expressions.Goals as goal
 
 pub returns : goal.returns

@@ -22,7 +22,7 @@ use Rattle.depex_words.specs.declared.token.First.TheVariants as first
 use Rattle.depex_words.specs.Tokens.{token_of, guid_token}
 use Rattle.depex_words.specs.Written.{Written, Alone, Negated, Bracketed, Joined, is_operand, is_grouped, tokens_of, tree_of}
 use Rattle.depex_words.specs.Expression.{AreOf, IsTreeOf}
-use Rattle.words_again.proofs.LineWords.{Stands, word_then}
+use Rattle.words_again.proofs.LineWords.{Stands, IsClear, clear_of, both_clear, word_then}
 use Rattle.words_again.proofs.Characters.{guid_word}
 use Rattle.words_again.proofs.Values.{no_keyword, guid_read}
 
@@ -120,6 +120,7 @@ IsBetween between op = ((rest : List ℕ) → tokens (between ++ rest) ≡ token
 
 -- the words of a tree's text, and those of what follows it
 tree_then : (node : DepexTree) (rest : List ℕ) → IsTree node → Stands rest → tokens (tree_text node ++ rest) ≡ tokens_of (written node) ++ tokens rest
+
 pair_then : (one other : DepexTree) (between : List ℕ) (op : Operator) (rest : List ℕ) → IsTree one → IsTree other → IsBetween between op
     → tokens (bracketed (tree_text one) between (tree_text other) ++ rest) ≡ tokens_of (Bracketed (Joined op (written one) (written other))) ++ tokens rest
 pair_then one other between op rest is also op_is =
@@ -180,3 +181,26 @@ expression_is (depex.Before guid) is = (tokens (guid_text guid), before_then (gu
 expression_is (depex.After guid) is = (tokens (guid_text guid), after_then (guid_text guid), ([], inl refl, guid_alone guid is))
 expression_is (depex.Expr true node) is = (tokens (tree_text node), sor_then (tree_text node), tree_is node is)
 expression_is (depex.Expr false node) is = tree_is node is
+
+-- each byte of its text is the space or above it
+guid_clear : (guid : Guid) → IsClear (guid_text guid)
+guid_clear guid = clear_of (guid_text guid) (guid_word guid).1
+
+pair_clear : (one between other : List ℕ) → IsClear one → IsClear between → IsClear other → IsClear (bracketed one between other)
+pair_clear one between other a b c =
+    both_clear (codes "(") (one ++ (between ++ (other ++ codes ")"))) refl
+    (both_clear one (between ++ (other ++ codes ")")) a (both_clear between (other ++ codes ")") b (both_clear other (codes ")") c refl)))
+
+tree_clear : (node : DepexTree) → IsClear (tree_text node)
+tree_clear True = refl
+tree_clear False = refl
+tree_clear (Push guid) = guid_clear guid
+tree_clear (Not node) = both_clear (codes "not ") (tree_text node) refl (tree_clear node)
+tree_clear (And one other) = pair_clear (tree_text one) (codes " and ") (tree_text other) (tree_clear one) refl (tree_clear other)
+tree_clear (Or one other) = pair_clear (tree_text one) (codes " or ") (tree_text other) (tree_clear one) refl (tree_clear other)
+
+pub expression_clear : (e : Depex) → IsClear (expression_text e)
+expression_clear (depex.Before guid) = both_clear (codes "before ") (guid_text guid) refl (guid_clear guid)
+expression_clear (depex.After guid) = both_clear (codes "after ") (guid_text guid) refl (guid_clear guid)
+expression_clear (depex.Expr true node) = both_clear (codes "sor ") (tree_text node) refl (tree_clear node)
+expression_clear (depex.Expr false node) = tree_clear node

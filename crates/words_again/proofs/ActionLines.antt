@@ -1,8 +1,9 @@
 -- The line that is printed of an action is read as it.
 use Rattle.std.proofs.Common.{◌≡◌, ℕ, Bool, true, false, ◌&&◌, List, [], ◌∷◌, ◌++◌, length, flat_map, Ok, refl, sym, ap, ◌∙◌, arith, subst, append_assoc}
-use Rattle.std.specs.Prelude.{bytes_eq, codes, ◌==◌}
-use Rattle.std.specs.List.{AllByRecursion}
-use Rattle.std.proofs.lemmas.Bool.{false≢true}
+use Rattle.std.specs.Prelude.{bytes_eq, codes, nat_le, nat_lt}
+use Rattle.std.specs.List.{list_all, AllByRecursion}
+use Rattle.std.proofs.lemmas.Bool.{and_parts, and_from, false≢true}
+use Rattle.std.proofs.lemmas.Bool.Decides.{nat_tests}
 use Rattle.std.proofs.lemmas.List.{append-nil}
 use Rattle.pi_base.specs.declared.phase.Phase.{Phase}
 use Rattle.pi_base.specs.declared.phase.Phase.TheVariants.{Pei, Dxe}
@@ -10,7 +11,7 @@ use Rattle.act_code.specs.declared.action.Action.{Action}
 use Rattle.act_code.specs.declared.action.Action.TheVariants as action
 use Rattle.act_code.specs.declared.code.Code.{Code}
 use Rattle.act_code.specs.declared.code.Code.TheVariants as code
-use Rattle.act_code.specs.Format.{Value}
+use Rattle.act_code.specs.Format.{Value, is_within}
 use Rattle.act_code.specs.Table.{is_code_of, format_of, made, code_of_action, operands}
 use Rattle.asm_text.specs.ActionText.{name_of, small_number, words_of, spaced, operand_words, action_text}
 use Rattle.asm_text.specs.LineReading.{code_named}
@@ -21,7 +22,7 @@ use Rattle.source_words.specs.Words.{words}
 use Rattle.script_words.specs.Line.{unindented}
 use Rattle.script_words.specs.Action.{action_of, code_of_name, log_of, logged, is_logged}
 use Rattle.script_words.specs.Operands.{read, operands_at}
-use Rattle.words_again.proofs.LineWords.{IsWord, word_then, words_spaced, stands_spaced}
+use Rattle.words_again.proofs.LineWords.{IsWord, IsClear, clear_of, both_clear, spaced_clear, word_then, words_spaced, stands_spaced}
 use Rattle.words_again.proofs.Operands.{is_worded, reads, are_words}
 
 made-operands : (a : Action) → made (code_of_action a) (operands a) ≡ a
@@ -110,12 +111,48 @@ log_read phase text is =
     let whole : text ++ [] ≡ text = append-nil text in
     rw (whole, log_words text, is) refl
 
+log_shown : (phase : Phase) (text : List ℕ) → IsReadable (format_of code.Log) text → action_of phase (action_text (action.Log text)) ≡ Ok (action.Log text)
+unfolding name_of
+log_shown phase text shown = log_read phase text (rw (shown.0, shown.1) refl)
+
 -- the line of an action is read as it
 pub action_read : (phase : Phase) (a : Action) → IsGoodAction phase a → action_of phase (action_text a) ≡ Ok a
-action_read phase (action.Log text) is = by_text (readable (format_of code.Log) text (good_operands phase (action.Log text) is))
-  where
-    by_text : IsReadable (format_of code.Log) text → action_of phase (action_text (action.Log text)) ≡ Ok (action.Log text)
-    unfolding name_of
-    by_text shown = log_read phase text (rw (shown.0, shown.1) refl)
+action_read phase (action.Log text) is = log_shown phase text (readable (format_of code.Log) text (good_operands phase (action.Log text) is))
 action_read phase (action.Set r n) is = worded_read phase (action.Set r n) refl is
 action_read phase _ is = worded_read phase _ refl is
+
+-- its first word is the action's name, and each of its bytes is the space or above it
+pub record IsShown (a : Action) : Type 0 where
+  pub others : List (List ℕ)
+  pub first : words (action_text a) ≡ name_of (code_of_action a) ∷ others
+  pub clear : IsClear (action_text a)
+
+worded_shown : (phase : Phase) (a : Action) → is_log (code_of_action a) ≡ false → IsGoodAction phase a → IsShown a
+worded_shown phase a other is =
+    let c = code_of_action a in
+    let all = are_words c (format_of c) (operands a) (worded c other) (readable (format_of c) (operands a) (good_operands phase a is)) in
+    record {
+      others = operand_words a;
+      first = split_words a all;
+      clear = both_clear (name_of c) (flat_map spaced (operand_words a)) (clear_of (name_of c) (name_word c).1) (spaced_clear (operand_words a) all);
+    }
+
+above : (byte : ℕ) → is_within 32 126 byte ≡ true → nat_lt 31 byte ≡ true
+above byte is = let low : nat_le 32 byte ≡ true = (and_parts (nat_le 32 byte) (nat_le byte 126) is).0 in grind (arith, nat_tests)
+
+printable_clear : (text : List ℕ) → list_all (is_within 32 126) text ≡ true → IsClear text
+printable_clear [] all = refl
+printable_clear (byte ∷ text) all =
+    let parts = and_parts (is_within 32 126 byte) (list_all (is_within 32 126) text) all in
+    and_from (nat_lt 31 byte) (list_all (λ b. nat_lt 31 b) text) (above byte parts.0) (printable_clear text parts.1)
+
+log_told : (text : List ℕ) → IsReadable (format_of code.Log) text → IsShown (action.Log text)
+unfolding name_of
+log_told text shown =
+    let bare : text ++ [] ≡ text = append-nil text in
+    record { others = words text; first = rw bare (log_words text); clear = rw bare (printable_clear text shown.1) }
+
+pub action_shown : (phase : Phase) (a : Action) → IsGoodAction phase a → IsShown a
+action_shown phase (action.Log text) is = log_told text (readable (format_of code.Log) text (good_operands phase (action.Log text) is))
+action_shown phase (action.Set r n) is = worded_shown phase (action.Set r n) refl is
+action_shown phase _ is = worded_shown phase _ refl is
