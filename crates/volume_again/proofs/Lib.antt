@@ -1,9 +1,0 @@
-mod Wholeness
-mod Completing
-mod TextLines
-mod TypeWords
-mod SaidLines
-mod FileLines
-mod Trees
-mod GuidRuns
-mod FilesAgain

@@ -1,6 +1,0 @@
-mod LineWords
-mod Characters
-mod Values
-mod Operands
-mod ActionLines
-mod ExpressionWords
