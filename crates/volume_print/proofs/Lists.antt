@@ -4,11 +4,15 @@ use Rattle.std.proofs.lemmas.Grind.{flat_map-append}
 use Rattle.std.proofs.lemmas.List.{append-nil, map-append, take_more}
 use Rattle.std.proofs.lemmas.List.Folds.{list_any-append}
 use Rattle.std.specs.List.{list_any}
-use Rattle.std.specs.Prelude.{◌||◌}
+use Rattle.std.specs.Prelude.{◌||◌, ◌*◌, codes}
+use Rattle.pi_base.specs.declared.guid.Guid.{Guid}
+use Rattle.pi_base.specs.Guids.{guid_at}
+use Rattle.pi_base.specs.Lists.{numbers}
+use Rattle.pi_base.specs.WordText.{guid_text}
 use Rattle.fv_build.specs.declared.new_file.NewSection.{NewSection}
 use Rattle.fv_build.specs.Reading.{AreEach}
 use Rattle.volume_print.specs.declared.form.Host.{Host}
-use Rattle.volume_print.specs.Spelling.{IsSectionText, AreSectionTexts, whole}
+use Rattle.volume_print.specs.Spelling.{guid_word, IsSectionText, AreSectionTexts, whole}
 
 -- each pair, and one more
 pub each_more : {A B : Type 0} (Is : A → B → Type 0) (xs : List A) (ys : List B) (x : A) (y : B) → AreEach Is xs ys → Is x y → AreEach Is (xs ++ x ∷ []) (ys ++ y ∷ [])
@@ -56,3 +60,24 @@ pub some_at : {X Y : Type 0} (test : Y → Bool) (f : X → Y) (xs : List X) (i 
 some_at test f [] i d within passes = absurd (omega arith)
 some_at test f (y ∷ xs) zero d within passes = rw passes refl
 some_at test f (y ∷ xs) (suc i) d within passes = rw (some_at test f xs i d (omega arith) passes) (or_true (test (f y)))
+
+-- one number more
+numbers_more : (from count : ℕ) → numbers from (suc count) ≡ numbers from count ++ (from + count) ∷ []
+numbers_more from zero = let e : from ≡ from + 0 = omega arith in ap (λ n. n ∷ []) e
+numbers_more from (suc count) =
+    let e : from + 1 + count ≡ from + suc count = omega arith in
+    ap (λ l. from ∷ l) (numbers_more (from + 1) count ∙ ap (λ n. numbers (from + 1) count ++ n ∷ []) e)
+
+-- the words of the GUIDs so far, and of one more
+pub guids_more : (image old now mid new : List ℕ) (index next : ℕ) → next ≡ suc index → now ≡ old ++ flat_map guid_word (map (λ i. guid_at image (16 * i)) (numbers 0 index)) → mid ≡ now ++ codes " "
+    → new ≡ mid ++ guid_text (guid_at image (16 * index)) → new ≡ old ++ flat_map guid_word (map (λ i. guid_at image (16 * i)) (numbers 0 next))
+guids_more image old now mid new index next is before space guid =
+    let f : ℕ → Guid = λ i. guid_at image (16 * i) in
+    let words = flat_map guid_word (map f (numbers 0 index)) in
+    let one = guid_word (f index) in
+    let zero_in : 0 + index ≡ index = omega arith in
+    let more : flat_map guid_word (map f (numbers 0 next)) ≡ words ++ (one ++ []) =
+    ap (λ n. flat_map guid_word (map f (numbers 0 n))) is ∙ ap (λ l. flat_map guid_word (map f l)) (numbers_more 0 index ∙ ap (λ n. numbers 0 index ++ n ∷ []) zero_in) ∙ ap (flat_map guid_word) (map-append f (numbers 0 index) (index ∷ []))
+    ∙ flat_map-append guid_word (map f (numbers 0 index)) (f index ∷ []) in
+    guid ∙ ap (λ t. t ++ guid_text (f index)) (space ∙ ap (λ t. t ++ codes " ") before) ∙ append_assoc (old ++ words) (codes " ") (guid_text (f index))
+    ∙ append_assoc old words one ∙ ap (λ t. old ++ t) (ap (λ t. words ++ t) (sym (append-nil one)) ∙ sym more)

@@ -3,7 +3,8 @@ use Rattle.std.proofs.Common.{◌≡◌, ◌⊎◌, inl, inr, ℕ, zero, suc, �
 use Rattle.std.proofs.lemmas.Bool.{and_parts}
 use Rattle.std.proofs.lemmas.Bool.Decides.{nat_tests}
 use Rattle.std.proofs.lemmas.Option.{same_Some}
-use Rattle.std.specs.Prelude.{◌==◌, slice_index}
+use Rattle.std.specs.Prelude.{◌-◌, ◌==◌, slice_index, IfOk, Result, Ok, Err}
+use Rattle.pi_base.specs.declared.memory.OutOfMemory.{OutOfMemory}
 use Rattle.pi_base.specs.declared.guid.Guid.{Guid}
 use Rattle.pi_base.specs.declared.phase.Phase.{Phase}
 use Rattle.fv_volume.specs.declared.file.FfsFile.{FfsFile}
@@ -30,6 +31,7 @@ use Rattle.volume_print.specs.Spelling.{IsExpressionOf, SaysExpression, SaysScri
 use Rattle.volume_print.specs.Description.{section_in, IsBodyIn, IsFileIn, form_in, IsTextBy, IsInner, IsTextOf}
 use Rattle.volume_print.specs.Finding.{depex_phase, FindsVolume, FindsText, TellsVolume}
 use Rattle.volume_print.proofs.Forms.{phase_of, no_phase}
+use Rattle.volume_print.proofs.Putting.{told_inside}
 
 -- what holds of the parts
 pub record Laws : Type 0 where
@@ -191,3 +193,22 @@ not_told one_volume one_by deep host section volume text found told none = λ ot
     let volumes : inside.volume ≡ volume = one_volume section.body inside.volume volume inside.is found.0 in
     let same : other ≡ text = one_by deep section.body volume other text (subst (λ (v : Volume). IsTextBy (IsInner deep) section.body v other) volumes inside.told) told in
     none inside.again (subst (λ (t : List ℕ). Leads t inside.again) same inside.leads)
+
+-- the bytes are no volume from the first to the last
+pub no_other : ((image : List ℕ) (a b : Volume) → IsVolume image a → IsVolume image b → a ≡ b) → (image : List ℕ) (read : Volume) → IsVolume image read → (read.len ≡ length image → ⊥)
+    → FindsVolume image None
+no_other one image read is other = λ volume also all. other (ap (λ (v : Volume). v.len) (one image read volume is also) ∙ all)
+
+-- a volume that stands inside, by whether a volume is made of its text
+pub told_or_not : ((image : List ℕ) (a b : Volume) → IsVolume image a → IsVolume image b → a ≡ b)
+    → ((deep : ℕ) (image : List ℕ) (volume : Volume) (a b : List ℕ) → IsTextBy (IsInner deep) image volume a → IsTextBy (IsInner deep) image volume b → a ≡ b)
+    → (deep : ℕ) (host : Host) (section : NewSection) (volume : Volume) (text : List ℕ) (r : Result (Option (List ℕ)) OutOfMemory) → (deep ≡ 0 → ⊥) → holds_volume host section.kind ≡ true
+    → FindsVolume section.body (Some volume) → IsTextBy (IsInner (deep - 1)) section.body volume text → IfOk r (FindsText text) → IfOk r (TellsVolume (IsInner deep) host section)
+told_or_not one by zero host section volume text r some holds found told again = absurd (some refl)
+told_or_not one by (suc deep) host section volume text (Ok (Some same)) some holds found told again =
+    let e : suc deep - 1 ≡ deep = omega arith in
+    told_inside deep host section volume text same holds found (subst (λ n. IsTextBy (IsInner n) section.body volume text) e told) again
+told_or_not one by (suc deep) host section volume text (Ok None) some holds found told again =
+    let e : suc deep - 1 ≡ deep = omega arith in
+    not_told one by deep host section volume text found (subst (λ n. IsTextBy (IsInner n) section.body volume text) e told) again
+told_or_not one by (suc deep) host section volume text (Err e) some holds found told again = again

@@ -35,7 +35,7 @@ in_form Inner host before section (form.Volume text) is = as_volume is
 in_form Inner host before section (form.Expression phase e) is = as_expression phase e is.1 refl
 in_form Inner host before section form.Guids is = as_guids is.1 refl
 in_form Inner host before section (form.Script s) is = as_script s is.1 refl
-in_form Inner host before section form.Bytes is = as_bytes is.0 is.1.0 is.1.1.0 is.1.1.1 refl
+in_form Inner host before section form.Bytes is = as_bytes is.0 is.1.0 is.1.1 is.1.2 refl
 
 -- a plain form is one where the section is told as no volume
 pub formed : (Inner : List ℕ → List ℕ → Type 0) (host : Host) (before : List NewSection) (section : NewSection) (f : Form) → TellsVolume Inner host section None
