@@ -1,5 +1,5 @@
 -- In which form a section is told.
-use Rattle.std.proofs.Common.{◌≡◌, ℕ, Bool, true, false, List, Option, Some, None, refl, sym, ap, ◌∙◌, subst, arith}
+use Rattle.std.proofs.Common.{◌≡◌, ℕ, zero, suc, Bool, true, false, List, Option, Some, None, refl, sym, ap, ◌∙◌, subst, arith}
 use Rattle.std.proofs.lemmas.Bool.Decides.{nat_tests}
 use Rattle.std.proofs.lemmas.Option.{same_Some}
 use Rattle.std.specs.Prelude.{◌==◌, bytes_eq, if◌then◌else◌}
@@ -13,8 +13,10 @@ use Rattle.act_code.specs.declared.script.Script.{Script}
 use Rattle.act_code.specs.Script.{IsScript}
 use Rattle.volume_text.specs.Open.{depex_type, has_part, is_script_of}
 use Rattle.printed_words.proofs.Comparisons.{not_same}
-use Rattle.volume_print.specs.Spelling.{IsExpressionOf, SaysExpression, SaysScript}
-use Rattle.volume_print.specs.Finding.{depex_phase, FindsExpression, FindsScript, TellsExpression, TellsScript}
+use Rattle.volume_print.specs.declared.form.Host.{Host}
+use Rattle.volume_print.specs.Spelling.{IsExpressionOf, SaysExpression, is_guid_list, SaysScript, holds_volume}
+use Rattle.volume_print.specs.Description.{IsInner}
+use Rattle.volume_print.specs.Finding.{depex_phase, FindsExpression, FindsScript, FindsVolume, TellsExpression, TellsScript, TellsVolume}
 
 phase_back : (phase : Phase) → depex_phase (depex_type phase) ≡ Some phase
 phase_back Pei = refl
@@ -75,28 +77,39 @@ unlike phase bytes spelled expression one reads is differ = λ other found.
     differ (is ∙ ap (λ e. bytes_of (instructions e)) (one phase bytes expression other reads found.0) ∙ sym found.1)
 
 -- a section is told as a script, or as none
-pub not_raw : (kind : ℕ) (before : List NewSection) (section : NewSection) → (section.kind == 25) ≡ false → TellsScript kind before section None
-not_raw kind before section other = λ script says. both (section.kind == 25) (ap (λ k. k == 25) says.kind_is) other
+pub not_raw : (host : Host) (before : List NewSection) (section : NewSection) → (section.kind == 25) ≡ false → TellsScript host before section None
+not_raw host before section other = λ script says. both (section.kind == 25) (ap (λ k. k == 25) says.kind_is) other
 
-pub no_script : (kind : ℕ) (before : List NewSection) (section : NewSection) → FindsScript section.body None → TellsScript kind before section None
-no_script kind before section none = λ script says. none script says.bytes
+pub no_script : (host : Host) (before : List NewSection) (section : NewSection) → FindsScript section.body None → TellsScript host before section None
+no_script host before section none = λ script says. none script says.bytes
 
 abbrev pub OneScript : Type 0
 OneScript = (bytes : List ℕ) (s t : Script) → IsScript bytes s → IsScript bytes t → s ≡ t
 
-pub no_part_for : (kind : ℕ) (before : List NewSection) (section : NewSection) (script : Script) → OneScript → IsScript section.body script → has_part kind script.phase ≡ false
-    → TellsScript kind before section None
-no_part_for kind before section script one is none = λ other says.
-    both (has_part kind script.phase) (ap (λ s. has_part kind s.phase) (one section.body script other is says.bytes) ∙ says.part) none
+pub no_part_for : (host : Host) (before : List NewSection) (section : NewSection) (script : Script) → OneScript → IsScript section.body script → has_part host.kind script.phase ≡ false
+    → TellsScript host before section None
+no_part_for host before section script one is none = λ other says.
+    both (has_part host.kind script.phase) (ap (λ s. has_part host.kind s.phase) (one section.body script other is says.bytes) ∙ says.part) none
 
-pub not_first : (kind : ℕ) (before : List NewSection) (section : NewSection) (script : Script) → OneScript → IsScript section.body script
-    → list_any (is_script_of script.phase) before ≡ true → TellsScript kind before section None
-not_first kind before section script one is earlier = λ other says.
+pub not_first : (host : Host) (before : List NewSection) (section : NewSection) (script : Script) → OneScript → IsScript section.body script
+    → list_any (is_script_of script.phase) before ≡ true → TellsScript host before section None
+not_first host before section script one is earlier = λ other says.
     both (list_any (is_script_of script.phase) before) earlier (ap (λ s. list_any (is_script_of s.phase) before) (one section.body script other is says.bytes) ∙ says.first)
 
-pub told_script : (kind : ℕ) (before : List NewSection) (section : NewSection) (script : Script) → (section.kind == 25) ≡ true → IsScript section.body script
-    → has_part kind script.phase ≡ true → list_any (is_script_of script.phase) before ≡ false → TellsScript kind before section (Some script)
-told_script kind before section script raw is part first = record { kind_is = grind (arith, nat_tests); part = part; first = first; bytes = is }
+pub told_script : (host : Host) (before : List NewSection) (section : NewSection) (script : Script) → is_guid_list host section ≡ false → (section.kind == 25) ≡ true → IsScript section.body script
+    → has_part host.kind script.phase ≡ true → list_any (is_script_of script.phase) before ≡ false → TellsScript host before section (Some script)
+told_script host before section script no_list raw is part first = record { kind_is = grind (arith, nat_tests); no_list = no_list; part = part; first = first; bytes = is }
+
+-- a section is told as a volume, or as none
+pub no_level : (host : Host) (section : NewSection) → TellsVolume (IsInner 0) host section None
+no_level host section = λ text says. says.1
+
+pub no_volume_there : (Inner : List ℕ → List ℕ → Type 0) (host : Host) (section : NewSection) → holds_volume host section.kind ≡ false → TellsVolume Inner host section None
+no_volume_there Inner host section other = λ text says. both (holds_volume host section.kind) says.0 other
+
+pub no_volume : (deep : ℕ) (host : Host) (section : NewSection) → FindsVolume section.body None → TellsVolume (IsInner deep) host section None
+no_volume zero host section none = λ text says. says.1
+no_volume (suc deep) host section none = λ text says. none says.1.volume says.1.is says.1.all
 
 -- texts that a test tells apart
 pub unequal : (a b : List ℕ) (test : Bool) → test ≡ bytes_eq a b → test ≡ false → a ≡ b → ⊥

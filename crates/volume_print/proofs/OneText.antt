@@ -1,7 +1,10 @@
 -- A volume has one text.
-use Rattle.std.proofs.Common.{◌≡◌, ◌⊎◌, inl, inr, ℕ, Bool, true, false, List, [], ◌∷◌, ◌++◌, map, take, drop, Option, Some, None, refl, sym, ap, ◌∙◌, subst}
+use Rattle.std.proofs.Common.{◌≡◌, ◌⊎◌, inl, inr, ℕ, zero, suc, ◌%◌, Bool, true, false, ◌&&◌, List, [], ◌∷◌, ◌++◌, length, map, take, drop, Option, Some, None, refl, sym, ap, ◌∙◌, subst, arith}
+use Rattle.std.proofs.lemmas.Bool.{and_parts}
+use Rattle.std.proofs.lemmas.Bool.Decides.{nat_tests}
 use Rattle.std.proofs.lemmas.Option.{same_Some}
-use Rattle.std.specs.Prelude.{◌==◌, slice_index}
+use Rattle.std.specs.Prelude.{◌-◌, ◌==◌, slice_index, IfOk, Result, Ok, Err}
+use Rattle.pi_base.specs.declared.memory.OutOfMemory.{OutOfMemory}
 use Rattle.pi_base.specs.declared.guid.Guid.{Guid}
 use Rattle.pi_base.specs.declared.phase.Phase.{Phase}
 use Rattle.fv_volume.specs.declared.file.FfsFile.{FfsFile}
@@ -22,10 +25,13 @@ use Rattle.depex_code.specs.Expression.{Reads}
 use Rattle.act_code.specs.declared.script.Script.{Script}
 use Rattle.act_code.specs.Script.{IsScript}
 use Rattle.volume_text.specs.Open.{depex_type}
-use Rattle.volume_print.specs.Spelling.{IsExpressionOf, SaysExpression, SaysScript, expression_line, script_lines, IsSectionText, as_expression, as_script, as_bytes, AreSectionTexts, whole, IsBodyText, head_line, IsFileText, volume_line, name_line, IsVolumeText}
-use Rattle.volume_print.specs.Description.{section_in, IsBodyIn, IsFileIn, form_in, IsTextOf}
-use Rattle.volume_print.specs.Finding.{depex_phase}
+use Rattle.volume_text.specs.Text.{Leads}
+use Rattle.volume_print.specs.declared.form.Host.{Host}
+use Rattle.volume_print.specs.Spelling.{IsExpressionOf, SaysExpression, SaysScript, is_a_priori, is_guid_list, holds_volume, expression_line, script_lines, IsSectionText, as_volume, as_expression, as_guids, as_script, as_bytes, AreSectionTexts, whole, IsBodyText, head_line, host_of, IsFileText, volume_line, name_line, IsVolumeText}
+use Rattle.volume_print.specs.Description.{section_in, IsBodyIn, IsFileIn, form_in, IsTextBy, IsInner, IsTextOf}
+use Rattle.volume_print.specs.Finding.{depex_phase, FindsVolume, FindsText, TellsVolume}
 use Rattle.volume_print.proofs.Forms.{phase_of, no_phase}
+use Rattle.volume_print.proofs.Putting.{told_inside}
 
 -- what holds of the parts
 pub record Laws : Type 0 where
@@ -42,40 +48,78 @@ one_expression laws kind section p q e f x y =
     let there : Reads q section.body e = subst (λ (r : Phase). Reads r section.body e) phases x.bytes.0 in
     ap (λ r. expression_line r e) phases ∙ ap (expression_line q) (laws.expression q section.body e f there y.bytes.0)
 
--- a section is no expression and script
-not_both : (kind : ℕ) (before : List NewSection) (section : NewSection) (p : Phase) (e : Depex) (s : Script) → SaysExpression kind section p e → SaysScript kind before section s → ⊥
-not_both kind before section p e s x y = no_phase section.kind p (ap depex_phase y.kind_is) (phase_of kind section p e x)
+-- a section is told in one form alone
+volume_kind : (host : Host) (kind : ℕ) → holds_volume host kind ≡ true → kind ≡ 23
+volume_kind host kind holds = let test : (kind == 23) ≡ true = (and_parts (host.kind == 11) (kind == 23) holds).1 in grind (arith, nat_tests)
 
-section_one : Laws → (kind : ℕ) (before : List NewSection) (section : NewSection) (a b : List ℕ) → IsSectionText kind before section a → IsSectionText kind before section b → a ≡ b
-section_one laws kind before section a b (as_expression p e x i) (as_expression q f y j) = i ∙ one_expression laws kind section p q e f x y ∙ sym j
-section_one laws kind before section a b (as_expression p e x i) (as_script s y j) = absurd (not_both kind before section p e s x y)
-section_one laws kind before section a b (as_expression p e x i) (as_bytes n m j) = absurd (n p e x)
-section_one laws kind before section a b (as_script s x i) (as_expression q f y j) = absurd (not_both kind before section q f s y x)
-section_one laws kind before section a b (as_script s x i) (as_script t y j) = i ∙ ap script_lines (laws.script section.body s t x.bytes y.bytes) ∙ sym j
-section_one laws kind before section a b (as_script s x i) (as_bytes n m j) = absurd (m s x)
-section_one laws kind before section a b (as_bytes n m i) (as_expression q f y j) = absurd (n q f y)
-section_one laws kind before section a b (as_bytes n m i) (as_script t y j) = absurd (m t y)
-section_one laws kind before section a b (as_bytes n m i) (as_bytes o k j) = i ∙ sym j
+list_kind : (host : Host) (section : NewSection) → is_guid_list host section ≡ true → section.kind ≡ 25
+list_kind host section is =
+    let raw = and_parts (is_a_priori host) ((section.kind == 25) && (length section.body % 16 == 0)) is in
+    let test : (section.kind == 25) ≡ true = (and_parts (section.kind == 25) (length section.body % 16 == 0) raw.1).0 in
+    grind (arith, nat_tests)
+
+no_expression : (kind other : ℕ) (section : NewSection) (p : Phase) (e : Depex) → section.kind ≡ other → depex_phase other ≡ None → SaysExpression kind section p e → ⊥
+no_expression kind other section p e is none x = no_phase section.kind p (ap depex_phase is ∙ none) (phase_of kind section p e x)
+
+differ : (kind : ℕ) → kind ≡ 23 → kind ≡ 25 → ⊥
+differ kind a b = absurd (omega (arith, a, b))
+
+clash : (test : Bool) → test ≡ true → test ≡ false → ⊥
+clash true a b = absurd cc
+clash false a b = absurd cc
+
+-- bytes have one text inside
+abbrev OneInner : (List ℕ → List ℕ → Type 0) → Type 0
+OneInner Inner = (stream a b : List ℕ) → Inner stream a → Inner stream b → a ≡ b
+
+section_one : Laws → (Inner : List ℕ → List ℕ → Type 0) → OneInner Inner → (host : Host) (before : List NewSection) (section : NewSection) (a b : List ℕ)
+    → IsSectionText Inner host before section a → IsSectionText Inner host before section b → a ≡ b
+section_one laws Inner one host before section a b (as_volume x) (as_volume y) = one section.body a b x.1 y.1
+section_one laws Inner one host before section a b (as_volume x) (as_expression q f y j) = absurd (no_expression host.kind 23 section q f (volume_kind host section.kind x.0) refl y)
+section_one laws Inner one host before section a b (as_volume x) (as_guids y j) = absurd (differ section.kind (volume_kind host section.kind x.0) (list_kind host section y))
+section_one laws Inner one host before section a b (as_volume x) (as_script s y j) = absurd (differ section.kind (volume_kind host section.kind x.0) y.kind_is)
+section_one laws Inner one host before section a b (as_volume x) (as_bytes v n l m j) = absurd (v a x)
+section_one laws Inner one host before section a b (as_expression p e x i) (as_volume y) = absurd (no_expression host.kind 23 section p e (volume_kind host section.kind y.0) refl x)
+section_one laws Inner one host before section a b (as_expression p e x i) (as_expression q f y j) = i ∙ one_expression laws host.kind section p q e f x y ∙ sym j
+section_one laws Inner one host before section a b (as_expression p e x i) (as_guids y j) = absurd (no_expression host.kind 25 section p e (list_kind host section y) refl x)
+section_one laws Inner one host before section a b (as_expression p e x i) (as_script s y j) = absurd (no_expression host.kind 25 section p e y.kind_is refl x)
+section_one laws Inner one host before section a b (as_expression p e x i) (as_bytes v n l m j) = absurd (n p e x)
+section_one laws Inner one host before section a b (as_guids x i) (as_volume y) = absurd (differ section.kind (volume_kind host section.kind y.0) (list_kind host section x))
+section_one laws Inner one host before section a b (as_guids x i) (as_expression q f y j) = absurd (no_expression host.kind 25 section q f (list_kind host section x) refl y)
+section_one laws Inner one host before section a b (as_guids x i) (as_guids y j) = i ∙ sym j
+section_one laws Inner one host before section a b (as_guids x i) (as_script s y j) = absurd (clash (is_guid_list host section) x y.no_list)
+section_one laws Inner one host before section a b (as_guids x i) (as_bytes v n l m j) = absurd (clash (is_guid_list host section) x l)
+section_one laws Inner one host before section a b (as_script s x i) (as_volume y) = absurd (differ section.kind (volume_kind host section.kind y.0) x.kind_is)
+section_one laws Inner one host before section a b (as_script s x i) (as_expression q f y j) = absurd (no_expression host.kind 25 section q f x.kind_is refl y)
+section_one laws Inner one host before section a b (as_script s x i) (as_guids y j) = absurd (clash (is_guid_list host section) y x.no_list)
+section_one laws Inner one host before section a b (as_script s x i) (as_script t y j) = i ∙ ap script_lines (laws.script section.body s t x.bytes y.bytes) ∙ sym j
+section_one laws Inner one host before section a b (as_script s x i) (as_bytes v n l m j) = absurd (m s x)
+section_one laws Inner one host before section a b (as_bytes v n l m i) (as_volume y) = absurd (v b y)
+section_one laws Inner one host before section a b (as_bytes v n l m i) (as_expression q f y j) = absurd (n q f y)
+section_one laws Inner one host before section a b (as_bytes v n l m i) (as_guids y j) = absurd (clash (is_guid_list host section) y l)
+section_one laws Inner one host before section a b (as_bytes v n l m i) (as_script t y j) = absurd (m t y)
+section_one laws Inner one host before section a b (as_bytes v n l m i) (as_bytes w o k r j) = i ∙ sym j
 
 cons : {A : Type 0} (x y : A) (xs ys : List A) → x ≡ y → xs ≡ ys → x ∷ xs ≡ y ∷ ys
 cons x y xs ys e f = ap (λ z. z ∷ xs) e ∙ ap (λ zs. y ∷ zs) f
 
-sections_one : Laws → (kind : ℕ) (before sections : List NewSection) (xs bs : List (List ℕ)) → AreSectionTexts kind before sections xs → AreSectionTexts kind before sections bs → xs ≡ bs
-sections_one laws kind before [] [] [] x y = refl
-sections_one laws kind before [] (a ∷ xs) bs x y = absurd x
-sections_one laws kind before [] [] (b ∷ bs) x y = absurd y
-sections_one laws kind before (s ∷ sections) [] bs x y = absurd x
-sections_one laws kind before (s ∷ sections) (a ∷ xs) [] x y = absurd y
-sections_one laws kind before (s ∷ sections) (a ∷ xs) (b ∷ bs) x y =
-    cons a b xs bs (section_one laws kind before s a b x.0 y.0) (sections_one laws kind (before ++ s ∷ []) sections xs bs x.1 y.1)
+sections_one : Laws → (Inner : List ℕ → List ℕ → Type 0) → OneInner Inner → (host : Host) (before sections : List NewSection) (xs bs : List (List ℕ))
+    → AreSectionTexts Inner host before sections xs → AreSectionTexts Inner host before sections bs → xs ≡ bs
+sections_one laws Inner one host before [] [] [] x y = refl
+sections_one laws Inner one host before [] (a ∷ xs) bs x y = absurd x
+sections_one laws Inner one host before [] [] (b ∷ bs) x y = absurd y
+sections_one laws Inner one host before (s ∷ sections) [] bs x y = absurd x
+sections_one laws Inner one host before (s ∷ sections) (a ∷ xs) [] x y = absurd y
+sections_one laws Inner one host before (s ∷ sections) (a ∷ xs) (b ∷ bs) x y =
+    cons a b xs bs (section_one laws Inner one host before s a b x.0 y.0) (sections_one laws Inner one host (before ++ s ∷ []) sections xs bs x.1 y.1)
 
-body_text_one : Laws → (kind : ℕ) (body : Body) (a b : List ℕ) → IsBodyText kind body a → IsBodyText kind body b → a ≡ b
-body_text_one laws kind (Sections sections) a b x y = x.2 ∙ ap whole (sections_one laws kind [] sections x.0 y.0 x.1 y.1) ∙ sym y.2
-body_text_one laws kind (Bytes stream) a b x y = x ∙ sym y
+body_text_one : Laws → (Inner : List ℕ → List ℕ → Type 0) → OneInner Inner → (host : Host) (body : Body) (a b : List ℕ) → IsBodyText Inner host body a → IsBodyText Inner host body b → a ≡ b
+body_text_one laws Inner one host (Sections sections) a b x y = x.2 ∙ ap whole (sections_one laws Inner one host [] sections x.0 y.0 x.1 y.1) ∙ sym y.2
+body_text_one laws Inner one host (Bytes stream) a b x y = x ∙ sym y
 
-file_text_one : Laws → (file : NewFile) (a b : List ℕ) → IsFileText file a → IsFileText file b → a ≡ b
-file_text_one laws file a b x y =
-    x.2 ∙ ap (λ body. head_line file.kind file.name file.attributes ++ body) (body_text_one laws file.kind file.body x.0 y.0 x.1 y.1) ∙ sym y.2
+file_text_one : Laws → (Inner : List ℕ → List ℕ → Type 0) → OneInner Inner → (file : NewFile) (a b : List ℕ) → IsFileText Inner file a → IsFileText Inner file b → a ≡ b
+file_text_one laws Inner one file a b x y =
+    x.2 ∙ ap (λ body. head_line file.kind file.name file.attributes ++ body) (body_text_one laws Inner one (host_of file) file.body x.0 y.0 x.1 y.1) ∙ sym y.2
 
 -- a body is one
 raw_or_not : (kind : ℕ) → (kind == 1) ≡ false → kind ≡ 1 → ⊥
@@ -112,16 +156,59 @@ each_one Is one (a ∷ xs) [] zs x y = absurd x
 each_one Is one (a ∷ xs) (b ∷ ys) [] x y = absurd y
 each_one Is one (a ∷ xs) (b ∷ ys) (c ∷ zs) x y = cons b c ys zs (one a b c x.0 y.0) (each_one Is one xs ys zs x.1 y.1)
 
+text_by_one : Laws → (Inner : List ℕ → List ℕ → Type 0) → OneInner Inner → (image : List ℕ) (volume : Volume) (a b : List ℕ)
+    → IsTextBy Inner image volume a → IsTextBy Inner image volume b → a ≡ b
+text_by_one laws Inner one image volume a b x y =
+    let files : y.files ≡ x.files = each_one (IsFileIn image) (file_one laws image) volume.files y.files x.files y.are x.are in
+    let told : IsVolumeText Inner (form_in image) volume.len volume.name x.files b =
+    subst (λ (fs : List NewFile). IsVolumeText Inner (form_in image) volume.len volume.name fs b) files y.spelled in
+    let first = x.spelled in
+    let texts : first.0 ≡ told.0 = each_one (IsFileText Inner) (file_text_one laws Inner one) x.files first.0 told.0 first.1 told.1 in
+    first.2
+    ∙ ap (λ ts. volume_line (form_in image) volume.len ++ (name_line volume.name ++ (whole ts ++ (101 ∷ (110 ∷ (100 ∷ (10 ∷ []))))))) texts
+    ∙ sym told.2
+
+-- bytes that stand inside as a volume have one text
+inner_one : Laws → (deep : ℕ) → OneInner (IsInner deep)
+inner_one laws zero stream a b x y = absurd x
+inner_one laws (suc deep) stream a b x y =
+    let volumes : y.volume ≡ x.volume = laws.volume stream y.volume x.volume y.is x.is in
+    text_by_one laws (IsInner deep) (inner_one laws deep) stream x.volume a b x.told (subst (λ (v : Volume). IsTextBy (IsInner deep) stream v b) volumes y.told)
+
+pub one_text_by : Laws → (deep : ℕ) (image : List ℕ) (volume : Volume) (a b : List ℕ) → IsTextBy (IsInner deep) image volume a → IsTextBy (IsInner deep) image volume b → a ≡ b
+one_text_by laws deep image volume a b x y = text_by_one laws (IsInner deep) (inner_one laws deep) image volume a b x y
+
 pub one_text : Laws → (image a b : List ℕ) → IsTextOf image a → IsTextOf image b → a ≡ b
 one_text laws image a b x y =
     let volumes : y.volume ≡ x.volume = laws.volume image y.volume x.volume y.is x.is in
-    let are : AreEach (IsFileIn image) x.volume.files y.files = subst (λ (v : Volume). AreEach (IsFileIn image) v.files y.files) volumes y.are in
-    let files : y.files ≡ x.files = each_one (IsFileIn image) (file_one laws image) x.volume.files y.files x.files are x.are in
-    let told : IsVolumeText (form_in image) x.volume.len x.volume.name x.files b =
-    subst (λ (fs : List NewFile). IsVolumeText (form_in image) x.volume.len x.volume.name fs b) files
-    (subst (λ (v : Volume). IsVolumeText (form_in image) v.len v.name y.files b) volumes y.spelled) in
-    let one = x.spelled in
-    let texts : one.0 ≡ told.0 = each_one IsFileText (file_text_one laws) x.files one.0 told.0 one.1 told.1 in
-    one.2
-    ∙ ap (λ ts. volume_line (form_in image) x.volume.len ++ (name_line x.volume.name ++ (whole ts ++ (101 ∷ (110 ∷ (100 ∷ (10 ∷ []))))))) texts
-    ∙ sym told.2
+    one_text_by laws 3 image x.volume a b x.told (subst (λ (v : Volume). IsTextBy (IsInner 3) image v b) volumes y.told)
+
+-- a volume whose text makes none is told as no volume
+pub not_told : ((image : List ℕ) (a b : Volume) → IsVolume image a → IsVolume image b → a ≡ b)
+    → ((deep : ℕ) (image : List ℕ) (volume : Volume) (a b : List ℕ) → IsTextBy (IsInner deep) image volume a → IsTextBy (IsInner deep) image volume b → a ≡ b)
+    → (deep : ℕ) (host : Host) (section : NewSection) (volume : Volume) (text : List ℕ) → FindsVolume section.body (Some volume) → IsTextBy (IsInner deep) section.body volume text
+    → FindsText text None → TellsVolume (IsInner (suc deep)) host section None
+not_told one_volume one_by deep host section volume text found told none = λ other says.
+    let inside = says.1 in
+    let volumes : inside.volume ≡ volume = one_volume section.body inside.volume volume inside.is found.0 in
+    let same : other ≡ text = one_by deep section.body volume other text (subst (λ (v : Volume). IsTextBy (IsInner deep) section.body v other) volumes inside.told) told in
+    none inside.again (subst (λ (t : List ℕ). Leads t inside.again) same inside.leads)
+
+-- the bytes are no volume from the first to the last
+pub no_other : ((image : List ℕ) (a b : Volume) → IsVolume image a → IsVolume image b → a ≡ b) → (image : List ℕ) (read : Volume) → IsVolume image read → (read.len ≡ length image → ⊥)
+    → FindsVolume image None
+no_other one image read is other = λ volume also all. other (ap (λ (v : Volume). v.len) (one image read volume is also) ∙ all)
+
+-- a volume that stands inside, by whether a volume is made of its text
+pub told_or_not : ((image : List ℕ) (a b : Volume) → IsVolume image a → IsVolume image b → a ≡ b)
+    → ((deep : ℕ) (image : List ℕ) (volume : Volume) (a b : List ℕ) → IsTextBy (IsInner deep) image volume a → IsTextBy (IsInner deep) image volume b → a ≡ b)
+    → (deep : ℕ) (host : Host) (section : NewSection) (volume : Volume) (text : List ℕ) (r : Result (Option (List ℕ)) OutOfMemory) → (deep ≡ 0 → ⊥) → holds_volume host section.kind ≡ true
+    → FindsVolume section.body (Some volume) → IsTextBy (IsInner (deep - 1)) section.body volume text → IfOk r (FindsText text) → IfOk r (TellsVolume (IsInner deep) host section)
+told_or_not one by zero host section volume text r some holds found told again = absurd (some refl)
+told_or_not one by (suc deep) host section volume text (Ok (Some same)) some holds found told again =
+    let e : suc deep - 1 ≡ deep = omega arith in
+    told_inside deep host section volume text same holds found (subst (λ n. IsTextBy (IsInner n) section.body volume text) e told) again
+told_or_not one by (suc deep) host section volume text (Ok None) some holds found told again =
+    let e : suc deep - 1 ≡ deep = omega arith in
+    not_told one by deep host section volume text found (subst (λ n. IsTextBy (IsInner n) section.body volume text) e told) again
+told_or_not one by (suc deep) host section volume text (Err e) some holds found told again = again

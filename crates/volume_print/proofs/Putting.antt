@@ -10,7 +10,6 @@ use Rattle.act_code.specs.declared.script.Script.{Script}
 use Rattle.asm_text.specs.ScriptText.{line, phase_text, block_lines, script_text}
 use Rattle.fv_volume.specs.declared.file.FfsFile.{FfsFile}
 use Rattle.fv_volume.specs.declared.volume.Volume.{Volume}
-use Rattle.fv_volume.specs.Volume.{IsVolume}
 use Rattle.fv_build.specs.declared.attributes.FileAttributes.{FileAttributes}
 use Rattle.fv_build.specs.Attributes.{attributes_in}
 use Rattle.fv_build.specs.Reading.{AreEach}
@@ -23,46 +22,65 @@ use Rattle.fv_build.specs.declared.new_file.Body.{Body}
 use Rattle.fv_build.specs.declared.new_file.Body.TheVariants.{Sections, Bytes}
 use Rattle.volume_print.specs.declared.form.Form.{Form}
 use Rattle.volume_print.specs.declared.form.Form.TheVariants as form
-use Rattle.volume_print.specs.Spelling.{as_expression, as_script, as_bytes, body_line, head_line, name_line, volume_line, attribute_words, whole, IsSectionText, AreSectionTexts, IsFileText}
-use Rattle.volume_print.specs.Description.{section_in, form_in, IsStream, IsBodyIn, IsFileIn, IsTextOf}
-use Rattle.volume_print.specs.Finding.{form_text, IsForm, AddsSection, AddsSections, AddsBody, AddsFile, AddsFiles}
+use Rattle.volume_text.specs.Text.{Leads}
+use Rattle.volume_print.specs.declared.form.Host.{Host}
+use Rattle.volume_print.specs.Spelling.{holds_volume, as_volume, as_expression, as_guids, as_script, as_bytes, body_line, head_line, name_line, volume_line, attribute_words, whole, IsSectionText, AreSectionTexts, IsFileText}
+use Rattle.volume_print.specs.Description.{section_in, form_in, IsStream, IsBodyIn, IsFileIn, IsTextBy, IsInner}
+use Rattle.volume_print.specs.Finding.{form_text, FindsVolume, FindsText, TellsVolume, IsPlainForm, IsForm, AddsSection, AddsSections, AddsBody, AddsFile, AddsFiles}
 
-pub in_form : (kind : ℕ) (before : List NewSection) (section : NewSection) (f : Form) → IsForm kind before section f → IsSectionText kind before section (form_text section f)
-in_form kind before section (form.Expression phase e) is = as_expression phase e is refl
-in_form kind before section (form.Script s) is = as_script s is refl
-in_form kind before section form.Bytes is = as_bytes is.0 is.1 refl
+-- a section in a form has the form's text
+pub in_form : (Inner : List ℕ → List ℕ → Type 0) (host : Host) (before : List NewSection) (section : NewSection) (f : Form) → IsForm Inner host before section f
+    → IsSectionText Inner host before section (form_text section f)
+in_form Inner host before section (form.Volume text) is = as_volume is
+in_form Inner host before section (form.Expression phase e) is = as_expression phase e is.1 refl
+in_form Inner host before section form.Guids is = as_guids is.1 refl
+in_form Inner host before section (form.Script s) is = as_script s is.1 refl
+in_form Inner host before section form.Bytes is = as_bytes is.0 is.1.0 is.1.1 is.1.2 refl
+
+-- a plain form is one where the section is told as no volume
+pub formed : (Inner : List ℕ → List ℕ → Type 0) (host : Host) (before : List NewSection) (section : NewSection) (f : Form) → TellsVolume Inner host section None
+    → IsPlainForm host before section f → IsForm Inner host before section f
+formed Inner host before section (form.Volume text) none is = absurd is
+formed Inner host before section (form.Expression phase e) none is = (none, is)
+formed Inner host before section form.Guids none is = (none, is)
+formed Inner host before section (form.Script s) none is = (none, is)
+formed Inner host before section form.Bytes none is = (none, is)
 
 -- a section's text was put
-pub added : (kind : ℕ) (before : List NewSection) (section : NewSection) (f : Form) (old new : List ℕ) → IsForm kind before section f → new ≡ old ++ form_text section f
-    → AddsSection kind before section old new
-added kind before section f old new is grown = (form_text section f, in_form kind before section f is, grown)
+pub added : (Inner : List ℕ → List ℕ → Type 0) (host : Host) (before : List NewSection) (section : NewSection) (f : Form) (old new : List ℕ) → IsForm Inner host before section f
+    → new ≡ old ++ form_text section f → AddsSection Inner host before section old new
+added Inner host before section f old new is grown = (form_text section f, in_form Inner host before section f is, grown)
 
 -- the texts of sections so far, and of one more
-pub sections_more : (kind : ℕ) (stream : List ℕ) (all : List Section) (place : ℕ) (d : Section) (old now new : List ℕ) → place < length all
-    → AddsSections kind (map (section_in stream) (take place all)) old now → AddsSection kind (map (section_in stream) (take place all)) (section_in stream (get_or all place d)) now new
-    → AddsSections kind (map (section_in stream) (take (place + 1) all)) old new
-sections_more kind stream all place d old now new within told adds =
+pub sections_more : (Inner : List ℕ → List ℕ → Type 0) (host : Host) (stream : List ℕ) (all : List Section) (place : ℕ) (d : Section) (old now new : List ℕ) → place < length all
+    → AddsSections Inner host (map (section_in stream) (take place all)) old now
+    → AddsSection Inner host (map (section_in stream) (take place all)) (section_in stream (get_or all place d)) now new
+    → AddsSections Inner host (map (section_in stream) (take (place + 1) all)) old new
+sections_more Inner host stream all place d old now new within told adds =
     let before = map (section_in stream) (take place all) in
     let texts = told.0 ++ adds.0 ∷ [] in (
       texts,
-      subst (λ (ss : List NewSection). AreSectionTexts kind [] ss texts) (sym (map_more (section_in stream) all place d within))
-          (texts_more kind [] before (section_in stream (get_or all place d)) told.0 adds.0 told.1 adds.1),
+      subst (λ (ss : List NewSection). AreSectionTexts Inner host [] ss texts) (sym (map_more (section_in stream) all place d within))
+          (texts_more Inner host [] before (section_in stream (get_or all place d)) told.0 adds.0 told.1 adds.1),
       whole_more old now new adds.0 told.0 told.2 adds.2,
     )
 
 -- a body's text was put
-pub sections_added : (kind : ℕ) (stream : List ℕ) (read : List Section) (old new : List ℕ) → IsStream kind stream (Some read)
-    → AddsSections kind (map (section_in stream) read) old new → AddsBody kind stream old new
-sections_added kind stream read old new is adds =
+pub sections_added : (Inner : List ℕ → List ℕ → Type 0) (host : Host) (stream : List ℕ) (read : List Section) (old new : List ℕ) → IsStream host.kind stream (Some read)
+    → AddsSections Inner host (map (section_in stream) read) old new → AddsBody Inner host stream old new
+sections_added Inner host stream read old new is adds =
     (Sections (map (section_in stream) read), (is.0, (read, is.1, refl)), (whole adds.0, (adds.0, adds.1, refl), adds.2))
 
-pub bytes_added : (kind : ℕ) (stream old new : List ℕ) → IsStream kind stream None → new ≡ old ++ body_line stream → AddsBody kind stream old new
-bytes_added kind stream old new is grown = (Bytes stream, (refl, is), (body_line stream, refl, grown))
+pub bytes_added : (Inner : List ℕ → List ℕ → Type 0) (host : Host) (stream old new : List ℕ) → IsStream host.kind stream None → new ≡ old ++ body_line stream
+    → AddsBody Inner host stream old new
+bytes_added Inner host stream old new is grown = (Bytes stream, (refl, is), (body_line stream, refl, grown))
 
 -- a file's text was put
-pub file_added : (image : List ℕ) (found : FfsFile) (attributes : FileAttributes) (stream old mid new : List ℕ) → attributes ≡ attributes_in (slice_index image (found.at + 19))
-    → stream ≡ take found.body_len (drop found.body_at image) → mid ≡ old ++ head_line found.kind found.name attributes → AddsBody found.kind stream mid new → AddsFile image found old new
-file_added image found attributes stream old mid new are is head adds =
+pub file_added : (Inner : List ℕ → List ℕ → Type 0) (image : List ℕ) (found : FfsFile) (attributes : FileAttributes) (stream old mid new : List ℕ)
+    → attributes ≡ attributes_in (slice_index image (found.at + 19))
+    → stream ≡ take found.body_len (drop found.body_at image) → mid ≡ old ++ head_line found.kind found.name attributes
+    → AddsBody Inner (record { kind = found.kind; name = found.name }) stream mid new → AddsFile Inner image found old new
+file_added Inner image found attributes stream old mid new are is head adds =
     let file : NewFile = record { name = found.name; kind = found.kind; attributes = attributes; body = adds.0 } in
     let text = head_line found.kind found.name attributes ++ adds.2.0 in (
       file,
@@ -75,20 +93,20 @@ file_added image found attributes stream old mid new are is head adds =
     )
 
 -- no file's text was put yet
-pub no_files : (image old : List ℕ) → AddsFiles image [] old old
-no_files image old = record { files = []; texts = []; are = tt; told = tt; grown = sym (append-nil old) }
+pub no_files : (Inner : List ℕ → List ℕ → Type 0) (image old : List ℕ) → AddsFiles Inner image [] old old
+no_files Inner image old = record { files = []; texts = []; are = tt; told = tt; grown = sym (append-nil old) }
 
 -- the texts of files so far, and of one more
-pub files_more : (image : List ℕ) (all : List FfsFile) (place : ℕ) (d : FfsFile) (old now new : List ℕ) → place < length all
-    → AddsFiles image (take place all) old now → AddsFile image (get_or all place d) now new → AddsFiles image (take (place + 1) all) old new
-files_more image all place d old now new within told adds =
+pub files_more : (Inner : List ℕ → List ℕ → Type 0) (image : List ℕ) (all : List FfsFile) (place : ℕ) (d : FfsFile) (old now new : List ℕ) → place < length all
+    → AddsFiles Inner image (take place all) old now → AddsFile Inner image (get_or all place d) now new → AddsFiles Inner image (take (place + 1) all) old new
+files_more Inner image all place d old now new within told adds =
     let found = get_or all place d in
     record {
       files = told.files ++ adds.0 ∷ [];
       texts = told.texts ++ adds.2.0 ∷ [];
       are = subst (λ (fs : List FfsFile). AreEach (IsFileIn image) fs (told.files ++ adds.0 ∷ [])) (sym (take_more all place d within))
           (each_more (IsFileIn image) (take place all) told.files found adds.0 told.are adds.1);
-      told = each_more IsFileText told.files told.texts adds.0 adds.2.0 told.told adds.2.1;
+      told = each_more (IsFileText Inner) told.files told.texts adds.0 adds.2.0 told.told adds.2.1;
       grown = whole_more old now new adds.2.0 told.texts told.grown adds.2.2;
     }
 
@@ -142,11 +160,9 @@ five old a b c d e first second third fourth fifth p q r s t =
     ∙ append_assoc old ((first ++ second) ++ third) (fourth ++ fifth)
 
 -- the text of a volume was put
-pub text_put : (image : List ℕ) (volume : Volume) (head named filed new : List ℕ) → IsVolume image volume → head ≡ [] ++ volume_line (form_in image) volume.len → named ≡ head ++ name_line volume.name
-    → AddsFiles image volume.files named filed → new ≡ filed ++ codes "end\n" → IsTextOf image new
-text_put image volume head named filed new is first second files last = record {
-  volume = volume;
-  is = is;
+pub text_put : (Inner : List ℕ → List ℕ → Type 0) (image : List ℕ) (volume : Volume) (head named filed new : List ℕ) → head ≡ [] ++ volume_line (form_in image) volume.len
+    → named ≡ head ++ name_line volume.name → AddsFiles Inner image volume.files named filed → new ≡ filed ++ codes "end\n" → IsTextBy Inner image volume new
+text_put Inner image volume head named filed new first second files last = record {
   files = files.files;
   are = files.are;
   spelled = (
@@ -157,3 +173,18 @@ text_put image volume head named filed new is first second files last = record {
         ∙ append_assoc (volume_line (form_in image) volume.len) (name_line volume.name) (whole files.texts ++ codes "end\n"),
   );
 }
+
+-- a section is told as a volume
+pub told_inside : (deep : ℕ) (host : Host) (section : NewSection) (volume : Volume) (text same : List ℕ) → holds_volume host section.kind ≡ true → FindsVolume section.body (Some volume)
+    → IsTextBy (IsInner deep) section.body volume text → FindsText text (Some same) → TellsVolume (IsInner (suc deep)) host section (Some same)
+told_inside deep host section volume text same holds found told again = (
+  holds,
+  record {
+    volume = volume;
+    is = found.0;
+    all = found.1;
+    told = subst (λ (t : List ℕ). IsTextBy (IsInner deep) section.body volume t) (sym again.0) told;
+    again = again.1.0;
+    leads = subst (λ (t : List ℕ). Leads t again.1.0) (sym again.0) again.1.1;
+  },
+)

@@ -1,5 +1,5 @@
 -- What a text says of a volume that a reader accepts.
-use Rattle.std.specs.Prelude.{◌≡◌, ◌⊎◌, ℕ, ◌+◌, ◌==◌, false, nat_lt, bit_and, bit_xor, bytes_eq, if◌then◌else◌, List, length, map, take, drop, slice_index, Option, Some, None}
+use Rattle.std.specs.Prelude.{◌≡◌, ◌⊎◌, ℕ, zero, suc, ◌+◌, ◌-◌, ◌==◌, false, nat_lt, bit_and, bit_xor, bytes_eq, if◌then◌else◌, List, length, map, take, drop, slice_index, Option, Some, None}
 use Rattle.pi_base.specs.Field.{little_number}
 use Rattle.fv_volume.specs.declared.file.FfsFile.{FfsFile}
 use Rattle.fv_volume.specs.declared.file_header.TheConstants.{ATTRIBUTES_AT as FILE_ATTRIBUTES_AT}
@@ -21,6 +21,8 @@ use Rattle.fv_build.specs.Attributes.{attributes_in}
 use Rattle.fv_build.specs.Header.{plain}
 use Rattle.pi_base.specs.declared.guid.TheConstants.{GUID_LEN}
 use Rattle.fv_build.specs.Reading.{AreEach}
+use Rattle.catalog_model.specs.declared.limits.TheConstants.{MOST_DEPTH}
+use Rattle.volume_text.specs.Text.{Leads}
 use Rattle.volume_print.specs.Spelling.{IsVolumeText}
 
 -- the section with its bytes
@@ -58,10 +60,28 @@ form_in bytes =
     if nat_lt (length bytes) LEAST_LEN then plain Ffs2
     else record { file_system = file_system_in bytes; attributes = told_attributes (little_number 4 (drop ATTRIBUTES_AT bytes)) }
 
+-- the text of a volume that is read of the bytes, by what volumes inside have as their texts
+pub record IsTextBy (Inner : List ℕ → List ℕ → Type 0) (bytes : List ℕ) (volume : Volume) (text : List ℕ) : Type 0 where
+  pub files : List NewFile
+  pub are : AreEach (IsFileIn bytes) volume.files files
+  pub spelled : IsVolumeText Inner (form_in bytes) volume.len volume.name files text
+
+-- the bytes are a volume from the first to the last, and have a text of which a volume is made
+pub record IsToldInside (Inner : List ℕ → List ℕ → Type 0) (bytes text : List ℕ) : Type 0 where
+  pub volume : Volume
+  pub is : IsVolume bytes volume
+  pub all : volume.len ≡ length bytes
+  pub told : IsTextBy Inner bytes volume text
+  pub again : List ℕ
+  pub leads : Leads text again
+
+-- the text of bytes that stand inside as a volume, with volumes inside of it at most so deep as there are levels left
+abbrev pub IsInner : ℕ → List ℕ → List ℕ → Type 0
+IsInner zero bytes text = ⊥
+IsInner (suc deep) bytes text = IsToldInside (IsInner deep) bytes text
+
 -- the text of the volume that stands at the start of the bytes
 pub record IsTextOf (bytes text : List ℕ) : Type 0 where
   pub volume : Volume
   pub is : IsVolume bytes volume
-  pub files : List NewFile
-  pub are : AreEach (IsFileIn bytes) volume.files files
-  pub spelled : IsVolumeText (form_in bytes) volume.len volume.name files text
+  pub told : IsTextBy (IsInner (MOST_DEPTH - 1)) bytes volume text

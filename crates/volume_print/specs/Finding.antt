@@ -1,5 +1,5 @@
 -- What is found of the bytes of a section.
-use Rattle.std.specs.Prelude.{◌≡◌, ℕ, ◌==◌, if◌then◌else◌, List, [], ◌++◌, Option, Some, None}
+use Rattle.std.specs.Prelude.{◌≡◌, ℕ, false, true, ◌==◌, if◌then◌else◌, List, [], ◌++◌, length, Option, Some, None}
 use Rattle.pi_base.specs.declared.phase.Phase.{Phase}
 use Rattle.pi_base.specs.declared.phase.Phase.TheVariants.{Pei, Dxe}
 use Rattle.fv_section.specs.declared.section_type.TheConstants.{PEI_DEPEX, DXE_DEPEX}
@@ -9,11 +9,15 @@ use Rattle.act_code.specs.declared.script.Script.{Script}
 use Rattle.act_code.specs.Script.{IsScript}
 use Rattle.volume_print.specs.declared.form.Form.{Form}
 use Rattle.volume_print.specs.declared.form.Form.TheVariants as form
+use Rattle.volume_print.specs.declared.form.Host.{Host}
 use Rattle.fv_volume.specs.declared.file.FfsFile.{FfsFile}
+use Rattle.fv_volume.specs.declared.volume.Volume.{Volume}
+use Rattle.fv_volume.specs.Volume.{IsVolume}
+use Rattle.volume_text.specs.Text.{Leads}
 use Rattle.fv_build.specs.declared.new_file.NewFile.{NewFile}
 use Rattle.fv_build.specs.declared.new_file.Body.{Body}
 use Rattle.fv_build.specs.Reading.{AreEach}
-use Rattle.volume_print.specs.Spelling.{IsExpressionOf, SaysExpression, SaysScript, IsSectionText, AreSectionTexts, IsBodyText, IsFileText, expression_line, script_lines, section_line, whole}
+use Rattle.volume_print.specs.Spelling.{IsExpressionOf, SaysExpression, is_guid_list, SaysScript, SaysVolume, IsSectionText, AreSectionTexts, IsBodyText, IsFileText, expression_line, guids_line, script_lines, section_line, whole}
 use Rattle.volume_print.specs.Description.{IsBodyIn, IsFileIn}
 
 -- the expression that bytes are, or none
@@ -36,40 +40,65 @@ TellsExpression kind section (Some told) = SaysExpression kind section told.0 to
 TellsExpression kind section None = (phase : Phase) (expression : Depex) → SaysExpression kind section phase expression → ⊥
 
 -- the script that a section behind others is told as, or none
-abbrev pub TellsScript : ℕ → List NewSection → NewSection → Option Script → Type 0
-TellsScript kind before section (Some script) = SaysScript kind before section script
-TellsScript kind before section None = (script : Script) → SaysScript kind before section script → ⊥
+abbrev pub TellsScript : Host → List NewSection → NewSection → Option Script → Type 0
+TellsScript host before section (Some script) = SaysScript host before section script
+TellsScript host before section None = (script : Script) → SaysScript host before section script → ⊥
 
--- the form in which a section behind others of a file of a type is told
-abbrev pub IsForm : ℕ → List NewSection → NewSection → Form → Type 0
-IsForm kind before section (form.Expression phase expression) = SaysExpression kind section phase expression
-IsForm kind before section (form.Script script) = SaysScript kind before section script
-IsForm kind before section form.Bytes = TellsExpression kind section None × TellsScript kind before section None
+-- the text of the volume that a section is told as, or none
+abbrev pub TellsVolume : (List ℕ → List ℕ → Type 0) → Host → NewSection → Option (List ℕ) → Type 0
+TellsVolume Inner host section (Some text) = SaysVolume Inner host section text
+TellsVolume Inner host section None = (text : List ℕ) → SaysVolume Inner host section text → ⊥
+
+-- the volume that bytes are from the first to the last, or none
+abbrev pub FindsVolume : List ℕ → Option Volume → Type 0
+FindsVolume bytes (Some volume) = IsVolume bytes volume × (volume.len ≡ length bytes)
+FindsVolume bytes None = (volume : Volume) → IsVolume bytes volume → volume.len ≡ length bytes → ⊥
+
+-- the text, where a volume is made of it
+abbrev pub FindsText : List ℕ → Option (List ℕ) → Type 0
+FindsText text (Some same) = (same ≡ text) × ((bytes : List ℕ) × Leads text bytes)
+FindsText text None = (bytes : List ℕ) → Leads text bytes → ⊥
+
+-- the form in which a section behind others of a file is told, if it is told as no volume
+abbrev pub IsPlainForm : Host → List NewSection → NewSection → Form → Type 0
+IsPlainForm host before section (form.Expression phase expression) = SaysExpression host.kind section phase expression
+IsPlainForm host before section (form.Volume text) = ⊥
+IsPlainForm host before section form.Guids = is_guid_list host section ≡ true
+IsPlainForm host before section (form.Script script) = SaysScript host before section script
+IsPlainForm host before section form.Bytes =
+    TellsExpression host.kind section None × (is_guid_list host section ≡ false) × TellsScript host before section None
+
+-- the form in which it is told
+abbrev pub IsForm : (List ℕ → List ℕ → Type 0) → Host → List NewSection → NewSection → Form → Type 0
+IsForm Inner host before section (form.Volume text) = SaysVolume Inner host section text
+IsForm Inner host before section told = TellsVolume Inner host section None × IsPlainForm host before section told
 
 -- the text of a section in a form
 abbrev pub form_text : NewSection → Form → List ℕ
 form_text section (form.Expression phase expression) = expression_line phase expression
+form_text section (form.Volume text) = text
+form_text section form.Guids = guids_line section.body
 form_text section (form.Script script) = script_lines script
 form_text section form.Bytes = section_line section
 
 -- the text of a section behind others is added
-abbrev pub AddsSection : ℕ → List NewSection → NewSection → List ℕ → List ℕ → Type 0
-AddsSection kind before section old new = (text : List ℕ) × IsSectionText kind before section text × (new ≡ old ++ text)
+abbrev pub AddsSection : (List ℕ → List ℕ → Type 0) → Host → List NewSection → NewSection → List ℕ → List ℕ → Type 0
+AddsSection Inner host before section old new = (text : List ℕ) × IsSectionText Inner host before section text × (new ≡ old ++ text)
 
 -- the texts of sections are added
-abbrev pub AddsSections : ℕ → List NewSection → List ℕ → List ℕ → Type 0
-AddsSections kind sections old new = (texts : List (List ℕ)) × AreSectionTexts kind [] sections texts × (new ≡ old ++ whole texts)
+abbrev pub AddsSections : (List ℕ → List ℕ → Type 0) → Host → List NewSection → List ℕ → List ℕ → Type 0
+AddsSections Inner host sections old new = (texts : List (List ℕ)) × AreSectionTexts Inner host [] sections texts × (new ≡ old ++ whole texts)
 
 -- the text of a file is added, and of files
-abbrev pub AddsFile : List ℕ → FfsFile → List ℕ → List ℕ → Type 0
-AddsFile bytes found old new = (file : NewFile) × IsFileIn bytes found file × ((text : List ℕ) × IsFileText file text × (new ≡ old ++ text))
+abbrev pub AddsFile : (List ℕ → List ℕ → Type 0) → List ℕ → FfsFile → List ℕ → List ℕ → Type 0
+AddsFile Inner bytes found old new = (file : NewFile) × IsFileIn bytes found file × ((text : List ℕ) × IsFileText Inner file text × (new ≡ old ++ text))
 
-abbrev pub AddsBody : ℕ → List ℕ → List ℕ → List ℕ → Type 0
-AddsBody kind bytes old new = (body : Body) × IsBodyIn kind bytes body × ((text : List ℕ) × IsBodyText kind body text × (new ≡ old ++ text))
+abbrev pub AddsBody : (List ℕ → List ℕ → Type 0) → Host → List ℕ → List ℕ → List ℕ → Type 0
+AddsBody Inner host bytes old new = (body : Body) × IsBodyIn host.kind bytes body × ((text : List ℕ) × IsBodyText Inner host body text × (new ≡ old ++ text))
 
-pub record AddsFiles (bytes : List ℕ) (found : List FfsFile) (old new : List ℕ) : Type 0 where
+pub record AddsFiles (Inner : List ℕ → List ℕ → Type 0) (bytes : List ℕ) (found : List FfsFile) (old new : List ℕ) : Type 0 where
   pub files : List NewFile
   pub texts : List (List ℕ)
   pub are : AreEach (IsFileIn bytes) found files
-  pub told : AreEach IsFileText files texts
+  pub told : AreEach (IsFileText Inner) files texts
   pub grown : new ≡ old ++ whole texts

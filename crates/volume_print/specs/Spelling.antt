@@ -1,13 +1,16 @@
 -- The text of a volume by its files (own): a line for each thing that the language of `volume_text` has, its words with single spaces between.
-use Rattle.std.specs.Prelude.{◌≡◌, ℕ, ⊤, Bool, true, false, ◌==◌, if◌then◌else◌, List, [], ◌∷◌, ◌++◌, codes, decimal, flat_map, Option, Some, None}
+-- `Inner` says which bytes stand inside as a volume, and with which text.
+use Rattle.std.specs.Prelude.{◌≡◌, ℕ, ◌%◌, ⊤, Bool, true, false, ◌&&◌, ◌||◌, ◌==◌, if◌then◌else◌, List, [], ◌∷◌, ◌++◌, length, codes, decimal, flat_map, Option, Some, None}
 use Rattle.std.specs.List.{list_any}
 use Rattle.hex.specs.Hex.{encode_lower}
 use Rattle.pi_base.specs.declared.guid.Guid.{Guid}
 use Rattle.pi_base.specs.declared.phase.Phase.{Phase}
 use Rattle.pi_base.specs.declared.phase.Phase.TheVariants.{Pei, Dxe}
+use Rattle.pi_base.specs.declared.guid.TheConstants.{GUID_LEN}
+use Rattle.pi_base.specs.Guids.{same_guid}
 use Rattle.pi_base.specs.WordText.{guid_text, hexadecimal}
 use Rattle.fv_volume.specs.declared.file_type.TheConstants.{RAW, FREEFORM, PEIM, DRIVER, COMBINED_PEIM_DRIVER, VOLUME_IMAGE, COMBINED_MM_DXE}
-use Rattle.fv_section.specs.declared.section_type.TheConstants.{RAW as RAW_SECTION}
+use Rattle.fv_section.specs.declared.section_type.TheConstants.{RAW as RAW_SECTION, VOLUME_IMAGE as VOLUME_SECTION}
 use Rattle.fv_build.specs.declared.file_system.FileSystem.{FileSystem}
 use Rattle.fv_build.specs.declared.file_system.FileSystem.TheVariants.{Ffs2, Ffs3}
 use Rattle.fv_build.specs.declared.volume_header.VolumeForm.{VolumeForm}
@@ -23,9 +26,12 @@ use Rattle.depex_code.specs.declared.depex.Depex.{Depex}
 use Rattle.depex_code.specs.Expression.{Reads, instructions, bytes_of}
 use Rattle.act_code.specs.declared.script.Script.{Script}
 use Rattle.act_code.specs.Script.{IsScript}
+use Rattle.catalog_model.specs.FileType.{a_priori_name}
+use Rattle.catalog_model.specs.APriori.{guids_in}
 use Rattle.asm_text.specs.ExpressionText.{expression_text}
 use Rattle.asm_text.specs.ScriptText.{line, block_lines}
 use Rattle.volume_text.specs.Open.{depex_type, has_part, is_script_of}
+use Rattle.volume_print.specs.declared.form.Host.{Host}
 
 unfoldable pub phase_word : Phase → List ℕ
 phase_word Pei = codes "pei"
@@ -57,12 +63,29 @@ pub record SaysExpression (kind : ℕ) (section : NewSection) (phase : Phase) (e
   pub part : has_part kind phase ≡ true
   pub bytes : IsExpressionOf phase section.body expression
 
--- a section of a file of a type is a script of a phase, the first of its phase behind others
-pub record SaysScript (kind : ℕ) (before : List NewSection) (section : NewSection) (script : Script) : Type 0 where
+-- a file with the names of the modules that start first (PI 1.8, volumes 1 and 2, the a priori files)
+abbrev pub is_a_priori : Host → Bool
+is_a_priori host = (host.kind == FREEFORM) && (same_guid host.name (a_priori_name Pei) || same_guid host.name (a_priori_name Dxe))
+
+-- a section of such a file is a list of GUIDs: a raw one, of whole GUIDs
+abbrev pub is_guid_list : Host → NewSection → Bool
+is_guid_list host section = is_a_priori host && ((section.kind == RAW_SECTION) && (length section.body % GUID_LEN == 0))
+
+-- a section of a file is a script of a phase, the first of its phase behind others, and no list of GUIDs
+pub record SaysScript (host : Host) (before : List NewSection) (section : NewSection) (script : Script) : Type 0 where
   pub kind_is : section.kind ≡ RAW_SECTION
-  pub part : has_part kind script.phase ≡ true
+  pub no_list : is_guid_list host section ≡ false
+  pub part : has_part host.kind script.phase ≡ true
   pub first : list_any (is_script_of script.phase) before ≡ false
   pub bytes : IsScript section.body script
+
+-- sections of this type may hold a volume, in a file for volumes
+abbrev pub holds_volume : Host → ℕ → Bool
+holds_volume host kind = (host.kind == VOLUME_IMAGE) && (kind == VOLUME_SECTION)
+
+-- a section of a file is a volume with this text, by what volumes inside have as their texts
+abbrev pub SaysVolume : (List ℕ → List ℕ → Type 0) → Host → NewSection → List ℕ → Type 0
+SaysVolume Inner host section text = (holds_volume host section.kind ≡ true) × Inner section.body text
 
 abbrev pub expression_line : Phase → Depex → List ℕ
 expression_line phase expression = line (codes "depex " ++ (phase_word phase ++ (32 ∷ expression_text expression)))
@@ -70,24 +93,35 @@ expression_line phase expression = line (codes "depex " ++ (phase_word phase ++ 
 abbrev pub script_lines : Script → List ℕ
 script_lines script = line (codes "script " ++ phase_word script.phase) ++ (flat_map block_lines script.blocks ++ line (codes "end"))
 
+-- a GUID behind a space
+abbrev pub guid_word : Guid → List ℕ
+guid_word guid = 32 ∷ guid_text guid
+
+abbrev pub guids_line : List ℕ → List ℕ
+guids_line bytes = line (codes "guids" ++ flat_map guid_word (guids_in bytes))
+
 abbrev pub section_line : NewSection → List ℕ
 section_line section = line (codes "section " ++ (encode_lower (section.kind ∷ []) ++ (32 ∷ encode_lower section.body)))
 
--- the text of a section behind others of a file of a type: an expression or a script where it is one, and its bytes where it is neither
-pub data IsSectionText (kind : ℕ) (before : List NewSection) (section : NewSection) (text : List ℕ) : Type 0 where
-  as_expression : (phase : Phase) (expression : Depex) → SaysExpression kind section phase expression → text ≡ expression_line phase expression
-      → IsSectionText kind before section text
-  as_script : (script : Script) → SaysScript kind before section script → text ≡ script_lines script → IsSectionText kind before section text
-  as_bytes : ((phase : Phase) (expression : Depex) → SaysExpression kind section phase expression → ⊥)
-      → ((script : Script) → SaysScript kind before section script → ⊥) → text ≡ section_line section → IsSectionText kind before section text
+-- the text of a section behind others of a file: a volume, an expression, a list of GUIDs or a script where it is one, and its bytes where it is none of them
+pub data IsSectionText (Inner : List ℕ → List ℕ → Type 0) (host : Host) (before : List NewSection) (section : NewSection) (text : List ℕ) : Type 0 where
+  as_volume : SaysVolume Inner host section text → IsSectionText Inner host before section text
+  as_expression : (phase : Phase) (expression : Depex) → SaysExpression host.kind section phase expression → text ≡ expression_line phase expression
+      → IsSectionText Inner host before section text
+  as_guids : is_guid_list host section ≡ true → text ≡ guids_line section.body → IsSectionText Inner host before section text
+  as_script : (script : Script) → SaysScript host before section script → text ≡ script_lines script → IsSectionText Inner host before section text
+  as_bytes : ((inner : List ℕ) → SaysVolume Inner host section inner → ⊥)
+      → ((phase : Phase) (expression : Depex) → SaysExpression host.kind section phase expression → ⊥)
+      → is_guid_list host section ≡ false
+      → ((script : Script) → SaysScript host before section script → ⊥) → text ≡ section_line section → IsSectionText Inner host before section text
 
 -- the texts of sections behind others
-abbrev pub AreSectionTexts : ℕ → List NewSection → List NewSection → List (List ℕ) → Type 0
-AreSectionTexts kind before [] [] = ⊤
-AreSectionTexts kind before (section ∷ sections) (text ∷ texts) =
-    IsSectionText kind before section text × AreSectionTexts kind (before ++ section ∷ []) sections texts
-AreSectionTexts kind before [] (text ∷ texts) = ⊥
-AreSectionTexts kind before (section ∷ sections) [] = ⊥
+abbrev pub AreSectionTexts : (List ℕ → List ℕ → Type 0) → Host → List NewSection → List NewSection → List (List ℕ) → Type 0
+AreSectionTexts Inner host before [] [] = ⊤
+AreSectionTexts Inner host before (section ∷ sections) (text ∷ texts) =
+    IsSectionText Inner host before section text × AreSectionTexts Inner host (before ++ section ∷ []) sections texts
+AreSectionTexts Inner host before [] (text ∷ texts) = ⊥
+AreSectionTexts Inner host before (section ∷ sections) [] = ⊥
 
 -- texts one behind the other
 abbrev pub whole : List (List ℕ) → List ℕ
@@ -98,9 +132,9 @@ abbrev pub body_line : List ℕ → List ℕ
 body_line bytes = line (codes "body " ++ encode_lower bytes)
 
 -- the text of a file's body
-abbrev pub IsBodyText : ℕ → Body → List ℕ → Type 0
-IsBodyText kind (Sections sections) text = (texts : List (List ℕ)) × AreSectionTexts kind [] sections texts × (text ≡ whole texts)
-IsBodyText kind (Bytes bytes) text = text ≡ body_line bytes
+abbrev pub IsBodyText : (List ℕ → List ℕ → Type 0) → Host → Body → List ℕ → Type 0
+IsBodyText Inner host (Sections sections) text = (texts : List (List ℕ)) × AreSectionTexts Inner host [] sections texts × (text ≡ whole texts)
+IsBodyText Inner host (Bytes bytes) text = text ≡ body_line bytes
 
 -- the words of a file's attributes, each behind a space
 abbrev pub fixed_words : Bool → List ℕ
@@ -114,9 +148,12 @@ abbrev pub head_line : ℕ → Guid → FileAttributes → List ℕ
 head_line kind name attributes =
     line (codes "file " ++ (type_word kind ++ (32 ∷ (guid_text name ++ (fixed_words attributes.fixed ++ alignment_words attributes.alignment)))))
 
+abbrev pub host_of : NewFile → Host
+host_of file = record { kind = file.kind; name = file.name }
+
 -- the text of a file
-abbrev pub IsFileText : NewFile → List ℕ → Type 0
-IsFileText file text = (body : List ℕ) × IsBodyText file.kind file.body body × (text ≡ head_line file.kind file.name file.attributes ++ body)
+abbrev pub IsFileText : (List ℕ → List ℕ → Type 0) → NewFile → List ℕ → Type 0
+IsFileText Inner file text = (body : List ℕ) × IsBodyText Inner (host_of file) file.body body × (text ≡ head_line file.kind file.name file.attributes ++ body)
 
 abbrev pub attribute_words : ℕ → List ℕ
 attribute_words attributes = if attributes == 0 then [] else codes " attributes " ++ hexadecimal attributes
@@ -129,6 +166,6 @@ name_line None = []
 name_line (Some name) = line (codes "name " ++ guid_text name)
 
 -- the text of a volume of this form, length and name with these files
-abbrev pub IsVolumeText : VolumeForm → ℕ → Option Guid → List NewFile → List ℕ → Type 0
-IsVolumeText form len name files text =
-    (texts : List (List ℕ)) × AreEach IsFileText files texts × (text ≡ volume_line form len ++ (name_line name ++ (whole texts ++ line (codes "end"))))
+abbrev pub IsVolumeText : (List ℕ → List ℕ → Type 0) → VolumeForm → ℕ → Option Guid → List NewFile → List ℕ → Type 0
+IsVolumeText Inner form len name files text =
+    (texts : List (List ℕ)) × AreEach (IsFileText Inner) files texts × (text ≡ volume_line form len ++ (name_line name ++ (whole texts ++ line (codes "end"))))

@@ -1,24 +1,40 @@
 // In which form the text tells a section.
-ghost use Rattle.std.specs.Prelude.{◌≡◌, ◌≤◌, ◌+◌, length, map, IfOk};
+ghost use Rattle.std.specs.Prelude.{◌≡◌, ◌≤◌, ◌+◌, false, length, map, IfOk};
 ghost use Rattle.std.specs.List.{list_any};
 ghost use Rattle.fv_section.specs.Stream.{AreInside};
 ghost use Rattle.volume_text.specs.Open.{is_script_of};
 ghost use Rattle.volume_print.specs.Description.{section_in};
-ghost use Rattle.volume_print.specs.Finding.{depex_phase, FindsExpression, FindsScript, IsForm, TellsExpression, TellsScript};
+ghost use Rattle.volume_print.specs.Spelling.{is_a_priori, is_guid_list};
+ghost use Rattle.volume_print.specs.Finding.{depex_phase, FindsExpression, FindsScript, IsPlainForm, TellsExpression, TellsScript};
 
 use act_code::{ActCause, Script, one_outcome, read_script};
+use catalog_model::{DXE_APRIORI, PEI_APRIORI};
 use depex_code::{Depex, DepexFault, one_reading, read_depex, write_depex};
 use fv_section::Section;
 use fv_section::section_type::{DXE_DEPEX, PEI_DEPEX, RAW};
-use pi_base::{OutOfMemory, Phase};
+use fv_volume::file_type::FREEFORM;
+use pi_base::{GUID_LEN, Guid, OutOfMemory, Phase, Seq};
 use std::alloc::Global;
 use volume_text::{has_part, is_script};
+
+/// The file that sections stand in.
+#[derive(Clone, Copy)]
+pub(crate) struct Host {
+    /// Its type.
+    pub(crate) kind: u8,
+    /// Its name.
+    pub(crate) name: Guid,
+}
 
 /// In which form a section is told.
 #[derive(Drop)]
 pub(crate) enum Form {
     /// As an expression for a phase.
     Expression(Phase, Depex),
+    /// As a volume, with this text.
+    Volume(Seq<u8>),
+    /// As a list of GUIDs.
+    Guids,
     /// As a script.
     Script(Script),
     /// As its bytes.
@@ -121,18 +137,33 @@ fn has_script(stream: &[u8], sections: &[Section], phase: Phase) -> bool
     false
 }
 
-// The script that a section behind others of a file of a type is told as.
+// Whether a file has the names of the modules that start first.
+fn is_a_priori(host: &Host) -> bool
+    ensures { result ≡ is_a_priori host.now }
+{
+    host.kind == FREEFORM && (host.name == PEI_APRIORI || host.name == DXE_APRIORI)
+}
+
+// Whether a section of a file is told as a list of GUIDs.
+fn is_guid_list(host: &Host, kind: u8, bytes: &[u8]) -> bool
+    ensures { result ≡ is_guid_list host.now (record { kind = kind; body = bytes.now }) }
+{
+    is_a_priori(host) && kind == RAW && bytes.len() % GUID_LEN == 0
+}
+
+// The script that a section behind others of a file is told as, if it is no list of GUIDs.
 #[tactic(auto, using(crate::proofs::Forms::not_raw, crate::proofs::Forms::no_script, crate::proofs::Forms::no_part_for, crate::proofs::Forms::not_first, crate::proofs::Forms::told_script))]
 fn told_script(
     alloc: Global,
-    kind: u8,
+    host: &Host,
     stream: &[u8],
     before: &[Section],
     section: &Section,
 ) -> Result<Option<Script>, OutOfMemory>
     requires before { AreInside stream.now before.now }
     requires inside { section.now.body_at + section.now.body_len ≤ length stream.now }
-    ensures { IfOk result (TellsScript kind (map (section_in stream.now) before.now) (section_in stream.now section.now)) }
+    requires no_list { is_guid_list host.now (section_in stream.now section.now) ≡ false }
+    ensures { IfOk result (TellsScript host.now (map (section_in stream.now) before.now) (section_in stream.now section.now)) }
 {
     one_outcome();
     if section.kind != RAW {
@@ -141,29 +172,32 @@ fn told_script(
     let Some(script) = script_in(alloc, body_of(stream, section))? else {
         return Ok(None);
     };
-    if !has_part(kind, script.phase) || has_script(stream, before, script.phase) {
+    if !has_part(host.kind, script.phase) || has_script(stream, before, script.phase) {
         return Ok(None);
     }
     Ok(Some(script))
 }
 
-/// In which form a section behind others of a file of a type is told.
-pub(crate) fn form_of(
+/// In which form a section behind others of a file is told, if it is told as no volume.
+pub(crate) fn plain_form(
     alloc: Global,
-    kind: u8,
+    host: &Host,
     stream: &[u8],
     before: &[Section],
     section: &Section,
 ) -> Result<Form, OutOfMemory>
     requires before { AreInside stream.now before.now }
     requires inside { section.now.body_at + section.now.body_len ≤ length stream.now }
-    ensures { IfOk result (IsForm kind (map (section_in stream.now) before.now) (section_in stream.now section.now)) }
+    ensures { IfOk result (IsPlainForm host.now (map (section_in stream.now) before.now) (section_in stream.now section.now)) }
 {
-    let expression = told_expression(alloc, kind, section.kind, body_of(stream, section))?;
-    if let Some((phase, expression)) = expression {
+    let body = body_of(stream, section);
+    if let Some((phase, expression)) = told_expression(alloc, host.kind, section.kind, body)? {
         return Ok(Form::Expression(phase, expression));
     }
-    match told_script(alloc, kind, stream, before, section)? {
+    if is_guid_list(host, section.kind, body) {
+        return Ok(Form::Guids);
+    }
+    match told_script(alloc, host, stream, before, section)? {
         Some(script) => Ok(Form::Script(script)),
         None => Ok(Form::Bytes),
     }

@@ -5,10 +5,13 @@
 
 mod file;
 mod form;
+mod inner;
 mod law;
 mod section;
+mod text;
+mod tree;
 mod volume;
 mod word;
 
 pub use law::one_text;
-pub use volume::text_of;
+pub use text::text_of;

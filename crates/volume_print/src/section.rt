@@ -1,18 +1,16 @@
 // The lines of sections.
-ghost use Rattle.std.specs.Prelude.{◌≡◌, ◌≤◌, ◌+◌, ◌++◌, length, map, OnOk};
-ghost use Rattle.fv_section.specs.Stream.{AreInside};
-ghost use Rattle.asm_text.specs.ScriptText.{line};
-ghost use Rattle.volume_print.specs.Description.{section_in};
-ghost use Rattle.volume_print.specs.Spelling.{expression_line, script_lines, section_line};
-ghost use Rattle.volume_print.specs.Finding.{form_text, AddsSection, AddsSections};
+ghost use Rattle.std.specs.Prelude.{◌≡◌, ◌++◌, OnOk};
+ghost use Rattle.std.specs.List.{flat_map};
+ghost use Rattle.catalog_model.specs.APriori.{guids_in};
+ghost use Rattle.volume_print.specs.Spelling.{expression_line, script_lines, guid_word, guids_line, section_line};
+ghost use Rattle.volume_print.specs.Finding.{form_text};
 
-use crate::form::{Form, body_of, form_of};
-use crate::word::{phase_word, put_bytes};
+use crate::form::Form;
+use crate::word::{phase_word, put_bytes, put_guid};
 use act_code::Script;
 use asm_text::{print_depex, print_script};
 use depex_code::Depex;
-use fv_section::Section;
-use pi_base::{OutOfMemory, Phase, Seq};
+use pi_base::{GUID_LEN, Guid, OutOfMemory, Phase, Seq};
 use std::alloc::Global;
 
 /// The length of the line with which the text of a script by itself begins: it names the phase.
@@ -47,6 +45,26 @@ fn put_script(alloc: Global, out: &mut Seq<u8>, script: &Script) -> Result<(), O
     out.append(b"end\n")
 }
 
+// Adds the GUIDs that stand one behind the other in bytes, each behind a space.
+fn put_guid_words(out: &mut Seq<u8>, bytes: &[u8]) -> Result<(), OutOfMemory>
+    ensures { OnOk result (out.new ≡ out.old ++ flat_map guid_word (guids_in bytes.now)) }
+{
+    'guids: for index in 0..bytes.len() / GUID_LEN {
+        out.append(b" ")?;
+        put_guid(out, &Guid::at(bytes, GUID_LEN * index))?;
+    }
+    Ok(())
+}
+
+// Adds the line of a list of GUIDs.
+fn put_guids(out: &mut Seq<u8>, bytes: &[u8]) -> Result<(), OutOfMemory>
+    ensures { OnOk result (out.new ≡ out.old ++ guids_line bytes.now) }
+{
+    out.append(b"guids")?;
+    put_guid_words(out, bytes)?;
+    out.append(b"\n")
+}
+
 // Adds the line of a section by its bytes.
 fn put_plain(out: &mut Seq<u8>, kind: u8, bytes: &[u8]) -> Result<(), OutOfMemory>
     ensures { OnOk result (out.new ≡ out.old ++ section_line (record { kind = kind; body = bytes.now })) }
@@ -58,8 +76,8 @@ fn put_plain(out: &mut Seq<u8>, kind: u8, bytes: &[u8]) -> Result<(), OutOfMemor
     out.append(b"\n")
 }
 
-// Adds the lines of a section in a form.
-fn put_form(
+/// Adds the lines of a section in a form.
+pub(crate) fn put_form(
     alloc: Global,
     out: &mut Seq<u8>,
     form: &Form,
@@ -70,41 +88,9 @@ fn put_form(
 {
     match form {
         Form::Expression(phase, expression) => put_expression(alloc, out, *phase, expression),
+        Form::Volume(text) => out.append(text.as_slice()),
+        Form::Guids => put_guids(out, bytes),
         Form::Script(script) => put_script(alloc, out, script),
         Form::Bytes => put_plain(out, kind, bytes),
     }
-}
-
-// Adds the lines of a section behind others of a file of a type.
-fn put_section(
-    alloc: Global,
-    out: &mut Seq<u8>,
-    kind: u8,
-    stream: &[u8],
-    before: &[Section],
-    section: &Section,
-) -> Result<(), OutOfMemory>
-    requires before { AreInside stream.now before.now }
-    requires inside { section.now.body_at + section.now.body_len ≤ length stream.now }
-    ensures { OnOk result (AddsSection kind (map (section_in stream.now) before.now) (section_in stream.now section.now) out.old out.new) }
-{
-    let form = form_of(alloc, kind, stream, before, section)?;
-    put_form(alloc, out, &form, section.kind, body_of(stream, section))
-}
-
-/// Adds the lines of the sections of a file of a type.
-pub(crate) fn put_sections(
-    alloc: Global,
-    out: &mut Seq<u8>,
-    kind: u8,
-    stream: &[u8],
-    sections: &[Section],
-) -> Result<(), OutOfMemory>
-    requires { AreInside stream.now sections.now }
-    ensures { OnOk result (AddsSections kind (map (section_in stream.now) sections.now) out.old out.new) }
-{
-    'sections: for (place, section) in sections.iter().enumerate() {
-        put_section(alloc, out, kind, stream, &sections[..place], section)?;
-    }
-    Ok(())
 }

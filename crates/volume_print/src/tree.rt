@@ -1,0 +1,176 @@
+// A volume's text, with the texts of the volumes nested in it.
+ghost use Rattle.std.specs.Prelude.{◌≡◌, ◌≤◌, ◌<◌, ◌+◌, length, map, IfOk, OnOk};
+ghost use Rattle.fv_volume.specs.Volume.{IsVolume};
+ghost use Rattle.fv_volume.specs.Places.{AreInside as AreFilesInside};
+ghost use Rattle.fv_section.specs.Stream.{AreInside};
+ghost use Rattle.volume_print.specs.Description.{section_in, IsTextBy, IsInner};
+ghost use Rattle.volume_print.specs.Finding.{IsForm, TellsVolume, AddsSection, AddsSections, AddsBody, AddsFile, AddsFiles};
+
+use crate::file::{attributes_at, body_of as body_of_file, put_head, put_plain_body, sections_in};
+use crate::form::{Form, Host, body_of, plain_form};
+use crate::inner::{holds_volume, read_again, whole_volume};
+use crate::law::one_text_by;
+use crate::section::put_form;
+use crate::volume::{form_in, put_head as put_volume_head, put_name};
+use fv_section::Section;
+use fv_volume::{FfsFile, Volume, one_reading};
+use pi_base::{OutOfMemory, Seq};
+use std::alloc::Global;
+
+// The text of the volume that a section of a file is told as, where volumes are told at most so deep in it.
+#[cycle(tree)]
+fn nested_text(
+    alloc: Global,
+    host: &Host,
+    kind: u8,
+    bytes: &[u8],
+    deep: usize,
+) -> Result<Option<Seq<u8>>, OutOfMemory>
+    ensures { IfOk result (TellsVolume (IsInner deep) host.now (record { kind = kind; body = bytes.now })) }
+{
+    if deep == 0 || !holds_volume(host, kind) {
+        return Ok(None);
+    }
+    let Some(volume) = whole_volume(alloc, bytes)? else {
+        return Ok(None);
+    };
+    one_reading();
+    one_text_by();
+    let text = text_by(alloc, bytes, &volume, deep - 1)?;
+    read_again(alloc, text)
+}
+
+// In which form a section behind others of a file is told.
+#[cycle(tree)]
+fn form_of(
+    alloc: Global,
+    host: &Host,
+    stream: &[u8],
+    before: &[Section],
+    section: &Section,
+    deep: usize,
+) -> Result<Form, OutOfMemory>
+    requires before { AreInside stream.now before.now }
+    requires inside { section.now.body_at + section.now.body_len ≤ length stream.now }
+    ensures { IfOk result (IsForm (IsInner deep) host.now (map (section_in stream.now) before.now) (section_in stream.now section.now)) }
+{
+    let body = body_of(stream, section);
+    match nested_text(alloc, host, section.kind, body, deep)? {
+        Some(text) => Ok(Form::Volume(text)),
+        None => plain_form(alloc, host, stream, before, section),
+    }
+}
+
+// Adds the lines of a section behind others of a file.
+#[cycle(tree)]
+fn put_section(
+    alloc: Global,
+    out: &mut Seq<u8>,
+    host: &Host,
+    stream: &[u8],
+    before: &[Section],
+    section: &Section,
+    deep: usize,
+) -> Result<(), OutOfMemory>
+    requires before { AreInside stream.now before.now }
+    requires inside { section.now.body_at + section.now.body_len ≤ length stream.now }
+    ensures { OnOk result (AddsSection (IsInner deep) host.now (map (section_in stream.now) before.now) (section_in stream.now section.now) out.old out.new) }
+{
+    let form = form_of(alloc, host, stream, before, section, deep)?;
+    put_form(alloc, out, &form, section.kind, body_of(stream, section))
+}
+
+// Adds the lines of the sections of a file.
+#[cycle(tree)]
+fn put_sections(
+    alloc: Global,
+    out: &mut Seq<u8>,
+    host: &Host,
+    stream: &[u8],
+    sections: &[Section],
+    deep: usize,
+) -> Result<(), OutOfMemory>
+    requires { AreInside stream.now sections.now }
+    ensures { OnOk result (AddsSections (IsInner deep) host.now (map (section_in stream.now) sections.now) out.old out.new) }
+{
+    'sections: for (place, section) in sections.iter().enumerate() {
+        put_section(alloc, out, host, stream, &sections[..place], section, deep)?;
+    }
+    Ok(())
+}
+
+// Adds the lines of a file's body.
+#[cycle(tree)]
+fn put_body(
+    alloc: Global,
+    out: &mut Seq<u8>,
+    host: &Host,
+    body: &[u8],
+    deep: usize,
+) -> Result<(), OutOfMemory>
+    ensures { OnOk result (AddsBody (IsInner deep) host.now body.now out.old out.new) }
+{
+    match sections_in(alloc, host.kind, body)? {
+        Some(sections) => put_sections(alloc, out, host, body, sections.as_slice(), deep),
+        None => put_plain_body(out, body),
+    }
+}
+
+// Adds the lines of a file.
+#[cycle(tree)]
+fn put_file(
+    alloc: Global,
+    out: &mut Seq<u8>,
+    bytes: &[u8],
+    file: &FfsFile,
+    deep: usize,
+) -> Result<(), OutOfMemory>
+    requires header { file.now.at < file.now.body_at }
+    requires inside { file.now.body_at + file.now.body_len ≤ length bytes.now }
+    ensures { OnOk result (AddsFile (IsInner deep) bytes.now file.now out.old out.new) }
+{
+    let attributes = attributes_at(bytes, file.at as usize);
+    put_head(out, file.kind, &file.name, attributes)?;
+    let host = Host {
+        kind: file.kind,
+        name: file.name,
+    };
+    put_body(alloc, out, &host, body_of_file(bytes, file), deep)
+}
+
+// Adds the lines of files.
+#[cycle(tree)]
+fn put_files(
+    alloc: Global,
+    out: &mut Seq<u8>,
+    bytes: &[u8],
+    files: &[FfsFile],
+    deep: usize,
+) -> Result<(), OutOfMemory>
+    requires { AreFilesInside bytes.now files.now }
+    ensures { OnOk result (AddsFiles (IsInner deep) bytes.now files.now out.old out.new) }
+{
+    'files: for file in files {
+        put_file(alloc, out, bytes, file, deep)?;
+    }
+    Ok(())
+}
+
+/// The text of a volume that was read, where volumes are told at most so deep in it.
+#[cycle(tree)]
+pub(crate) fn text_by(
+    alloc: Global,
+    bytes: &[u8],
+    volume: &Volume,
+    deep: usize,
+) -> Result<Seq<u8>, OutOfMemory>
+    requires { AreFilesInside bytes.now volume.now.files }
+    ensures { IfOk result (IsTextBy (IsInner deep) bytes.now volume.now) }
+{
+    let mut text = Seq::new(alloc);
+    put_volume_head(&mut text, &form_in(bytes), volume.len)?;
+    put_name(&mut text, volume.name)?;
+    put_files(alloc, &mut text, bytes, volume.files.as_slice(), deep)?;
+    text.append(b"end\n")?;
+    Ok(text)
+}
