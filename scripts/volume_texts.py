@@ -1,4 +1,5 @@
 """The texts of volumes as `pitools text` prints them, with scripts in the place of code. `log-to-trace` stands on it."""
+import os
 from collections.abc import Iterator
 from typing import NamedTuple
 
@@ -148,6 +149,7 @@ class Shipped(NamedTuple):
 
 def text_of(path: str) -> str:
     """The text of the volume in a file."""
+    os.stat(path)
     status, printed = pitools.answer("text", path)
     said = printed.decode()
     if status == DONE:
