@@ -1,4 +1,4 @@
-"""Reads firmware volumes, their files, sections and expressions, for `cut-volumes` and `log-to-trace`."""
+"""Finds firmware volumes, their files and sections in bytes that may be no sound image. `cut-volumes` stands on it."""
 import uuid
 from collections.abc import Iterator
 
@@ -9,7 +9,6 @@ FILE_SYSTEMS = {uuid.UUID(system).bytes_le: system for system in (FFS2, FFS3)}
 PAD, LARGE_FILE, ERASE_POLARITY = 0xF0, 0x01, 0x800
 # The state of a file is the highest of these bits that is set (PI 1.8, volume 3, "EFI_FFS_FILE_HEADER").
 HEADER_CONSTRUCTION, HEADER_VALID, DATA_VALID, MARKED_FOR_UPDATE, DELETED, HEADER_INVALID = (1 << bit for bit in range(6))
-BEFORE, AFTER, PUSH, AND, OR, NOT, TRUE, FALSE, END, SOR = range(10)  # the opcodes of expressions
 
 
 def little(data: bytes, at: int, size: int) -> int:
@@ -40,12 +39,6 @@ def volumes_in(data: bytes) -> Iterator[tuple[int, int]]:
         at = data.find(SIGNATURE, start + length if 0 < length <= len(data) - start else at + 4)
 
 
-def volume_name(volume: bytes) -> str | None:
-    """The name that the extended header of a volume gives; none where there is no such header."""
-    extended = little(volume, 52, 2)
-    return guid_text(volume, extended) if extended else None
-
-
 def file_state(volume: bytes, at: int) -> int:
     """The state of the file at an offset: its highest bit that is not as erased."""
     state = volume[at + 23] ^ (0xFF if little(volume, 44, 4) & ERASE_POLARITY else 0)
@@ -72,13 +65,6 @@ def files_at(volume: bytes) -> Iterator[tuple[int, int, int]]:
         at += size + -size % 8
 
 
-def files_of(volume: bytes) -> Iterator[tuple[int, str, bytes]]:
-    """The type, name and body of each file of a volume that counts, pads aside."""
-    for at, front, size in files_at(volume):
-        if volume[at + 18] != PAD:
-            yield volume[at + 18], guid_text(volume, at), volume[at + front : at + size]
-
-
 def sections_of(body: bytes) -> Iterator[tuple[int, bytes, int]]:
     """The type and bytes of each section of a file's body, with the length of its header."""
     at = 0
@@ -90,26 +76,3 @@ def sections_of(body: bytes) -> Iterator[tuple[int, bytes, int]]:
             raise ValueError(f"the section at {at:#x} has no sound size: what follows it is not read")
         yield body[at + 3], body[at : at + size], front
         at += size + -size % 4
-
-
-def expression_in(phase: str, code: bytes) -> tuple[str, int] | None:
-    """The text of the expression that some bytes begin with, as `make-volume` reads it, and its length; none where it is malformed."""
-    if phase == "dxe" and code[:1] in (bytes([BEFORE]), bytes([AFTER])):
-        return (f"{['before', 'after'][code[0]]} {guid_text(code, 1)}", 18) if code[17:18] == bytes([END]) else None
-    at = int(phase == "dxe" and code[:1] == bytes([SOR]))
-    front, trees = "sor " * at, []
-    while at < len(code):
-        opcode, at = code[at], at + 1
-        if opcode == PUSH and at + 16 <= len(code):
-            trees.append(guid_text(code, at))
-            at += 16
-        elif opcode in (AND, OR) and len(trees) >= 2:
-            right, left = trees.pop(), trees.pop()
-            trees.append(f"({left} {'and' if opcode == AND else 'or'} {right})")
-        elif opcode == NOT and trees:
-            trees.append(f"not {trees.pop()}")
-        elif opcode in (TRUE, FALSE):
-            trees.append("true" if opcode == TRUE else "false")
-        else:
-            return (front + trees[0], at) if opcode == END and len(trees) == 1 else None
-    return None

@@ -7,7 +7,7 @@ from dataclasses import dataclass
 
 from random_boots import plan_of
 from traces import Trace, first_difference, read
-from volumes import made
+from volumes import PITOOLS, made
 
 HERE = os.path.dirname(os.path.abspath(__file__))
 OUT = f"{HERE}/out"
@@ -42,6 +42,10 @@ RULES = {
 }
 MOST_RULES = 3
 SAME, UNEXPLAINED = "same", "unexplained"
+# What `pitools follow` makes of the order of EDK2's starts: it boots so, and prints EDK2's trace; it boots so, and other lines differ;
+# it boots so, and may start another module where EDK2 starts none any more; or one of the starts may not be.
+AS_EDK2, OTHER_LINES, MORE_STARTS, NO_ORDER = "as EDK2", "other lines", "more starts", "no order"
+NO, REFUSALS = 11, (1, 2, 3, 4, 5, 12)  # statuses of `pitools follow`: the order is none of a boot, or files, images or names are refused
 AS_BUILT = "# as built"
 
 
@@ -51,6 +55,7 @@ class Outcome:
 
     word: str  # SAME, UNEXPLAINED, or the rules that explain it
     difference: str
+    followed: str  # AS_EDK2, OTHER_LINES, MORE_STARTS or NO_ORDER
 
 
 def output(words: list[str], folder: str, **more: str) -> list[str]:
@@ -101,6 +106,24 @@ def both(folder: str) -> tuple[list[str], Trace, Trace]:
     return audit, read(output([PIBOOT, "boot", "plan"], folder), audit), edk2(folder, audit)
 
 
+def followed(folder: str, audit: list[str], theirs: Trace) -> str:
+    """What comes of a boot on this machine in the order of EDK2's starts. The order is kept as a file of the folder."""
+    starts = [line.split() for line in theirs.run if line.startswith(("pei start ", "dxe start "))]
+    with open(f"{folder}/order", "w", encoding="utf-8") as file:
+        file.writelines(f"{phase} {volume} {name}\n" for phase, _, volume, name, *_ in starts)
+        file.write("stop\n")
+    try:
+        done = subprocess.run([PITOOLS, "follow", "plan", "order"], cwd=folder, stdout=subprocess.PIPE, stderr=subprocess.DEVNULL, timeout=SECONDS)
+    except subprocess.TimeoutExpired:
+        return NO_ORDER
+    lines = done.stdout.decode(errors="replace").split("\n")[:-1]
+    if done.returncode in (NO, *REFUSALS):
+        return NO_ORDER
+    if lines[-1:] == ["stop"]:
+        return MORE_STARTS
+    return OTHER_LINES if first_difference(read(lines, audit), theirs) else AS_EDK2
+
+
 def is_explained(folder: str, audit: list[str], theirs: Trace, rules: tuple[str, ...]) -> bool:
     """Whether the plain program prints EDK2's trace with some of EDK2's rules."""
     words = [PLAIN, "boot", "plan"] + [f"--edk2={rule}" for rule in rules]
@@ -122,9 +145,9 @@ def compare(folder: str, phase: str = "") -> Outcome:
     audit, ours, theirs = both(folder)
     difference = first_difference(ours, theirs)
     if difference is None:
-        return Outcome(SAME, "")
+        return Outcome(SAME, "", followed(folder, audit, theirs))
     rules = explained_by(folder, audit, theirs, phase)
-    return Outcome(" + ".join(rules) or UNEXPLAINED, difference)
+    return Outcome(" + ".join(rules) or UNEXPLAINED, difference, followed(folder, audit, theirs))
 
 
 def kind(difference: str) -> str:

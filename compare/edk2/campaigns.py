@@ -22,7 +22,7 @@ HERE = os.path.dirname(os.path.abspath(__file__))
 sys.path.insert(0, HERE)
 
 import cases  # noqa: E402
-from boots import OUT, UNEXPLAINED, compare, kind, write  # noqa: E402
+from boots import AS_EDK2, OUT, UNEXPLAINED, Outcome, compare, kind, write  # noqa: E402
 from random_boots import CAMPAIGNS, Boot  # noqa: E402
 from smallest import shrink  # noqa: E402
 
@@ -30,21 +30,29 @@ CHUNK = 5
 MEMORY = "/dev/shm"  # a file system without a disk
 
 
+def listed(words: Counter[str]) -> str:
+    return ", ".join(f"{word} {count}" for word, count in words.most_common())
+
+
 @dataclass
 class Result:
-    """What came of boots: how often each word, and one unexplained boot of each kind."""
+    """What came of boots: how often each word, and in the order of EDK2's starts; and one unexplained boot of each kind."""
 
     words: Counter[str] = field(default_factory=Counter)
+    followed: dict[str, Counter[str]] = field(default_factory=dict)  # the words of the boots that went so
     unexplained: dict[str, tuple[str, int, str]] = field(default_factory=dict)
 
-    def add(self, name: str, seed: int, word: str, difference: str) -> None:
-        self.words[word] += 1
-        if word == UNEXPLAINED:
-            self.unexplained.setdefault(kind(difference), (name, seed, difference))
+    def add(self, name: str, seed: int, outcome: Outcome) -> None:
+        self.words[outcome.word] += 1
+        self.followed.setdefault(outcome.followed, Counter())[outcome.word] += 1
+        if outcome.word == UNEXPLAINED:
+            self.unexplained.setdefault(kind(outcome.difference), (name, seed, outcome.difference))
 
     def text(self) -> str:
-        told = ", ".join(f"{word} {count}" for word, count in self.words.most_common())
-        return f"{self.words.total()} boots, {told}"
+        lines = [f"{self.words.total()} boots, {listed(self.words)}"]
+        for what, words in sorted(self.followed.items()):
+            lines.append(f"{what} {words.total()}" + (f" ({listed(words)})" if what != AS_EDK2 else ""))
+        return "; in EDK2's order: ".join([lines[0], ", ".join(lines[1:])])
 
 
 def volumes_of(name: str, seed: int) -> list[str]:
@@ -52,12 +60,11 @@ def volumes_of(name: str, seed: int) -> list[str]:
     return Boot(CAMPAIGNS[name], f"{name} {seed}").volumes()
 
 
-def boot(name: str, seed: int, folder: str) -> tuple[str, str]:
-    """One random boot of a campaign: the word and the difference."""
+def boot(name: str, seed: int, folder: str) -> Outcome:
+    """One random boot of a campaign, compared."""
     own = f"{folder}/{name}-{os.getpid()}"
     write(own, volumes_of(name, seed))
-    outcome = compare(own, CAMPAIGNS[name].phase)
-    return outcome.word, outcome.difference
+    return compare(own, CAMPAIGNS[name].phase)
 
 
 def keep(name: str, seed: int, difference: str) -> None:
@@ -79,9 +86,9 @@ def run(names: list[str], boots: int, seed: int, jobs: int) -> int:
         for name in names:
             own = Result()
             outcomes = pool.map(boot, [name] * boots, seeds, [folder] * boots, chunksize=CHUNK)
-            for number, (word, difference) in zip(seeds, outcomes):
-                own.add(name, number, word, difference)
-                total.add(name, number, word, difference)
+            for number, outcome in zip(seeds, outcomes):
+                for result in (own, total):
+                    result.add(name, number, outcome)
             print(f"{name}: {own.text()}", flush=True)
     print(f"all: {total.text()}, in {time.monotonic() - begun:.0f} s", flush=True)
     for name, number, difference in total.unexplained.values():

@@ -1,11 +1,12 @@
 """The smallest boot of each known difference, cases/NAME: a plan, volumes, both traces as they are compared
-(here.trace and edk2.trace), and the rules of EDK2's that explain it (rules), none where no word does.
+(here.trace and edk2.trace), the rules of EDK2's that explain it (rules), none where no word does, and what
+comes of it here in the order of EDK2's starts (followed).
 """
 import os
 import re
 import tempfile
 
-from boots import HERE, both, explained_by, is_explained, write
+from boots import HERE, both, explained_by, followed, is_explained, write
 from traces import Trace, first_difference
 
 CASES = f"{HERE}/cases"
@@ -43,9 +44,9 @@ def text_of(trace: Trace) -> str:
     return "".join(f"{line}\n" for line in trace.run + trace.lists + sorted(set(trace.asserts)))
 
 
-def keep(name: str, ours: Trace, theirs: Trace, rules: tuple[str, ...]) -> None:
+def keep(name: str, ours: Trace, theirs: Trace, rules: tuple[str, ...], in_order: str) -> None:
     """Writes what is expected of a case from now on."""
-    kept = {"here.trace": text_of(ours), "edk2.trace": text_of(theirs), "rules": " ".join(rules) + "\n"}
+    kept = {"here.trace": text_of(ours), "edk2.trace": text_of(theirs), "rules": " ".join(rules) + "\n", "followed": in_order + "\n"}
     for file, text in kept.items():
         with open(f"{CASES}/{name}/{file}", "w", encoding="utf-8") as out:
             out.write(text)
@@ -56,14 +57,15 @@ def faults_of(name: str, is_new: bool) -> list[str]:
     with tempfile.TemporaryDirectory(prefix="edk2-case-") as folder:
         write_boot(name, folder)
         audit, ours, theirs = both(folder)
+        in_order = followed(folder, audit, theirs)
         if is_new:
-            keep(name, ours, theirs, explained_by(folder, audit, theirs, ""))
+            keep(name, ours, theirs, explained_by(folder, audit, theirs, ""), in_order)
         rules = rules_of(name)
         is_right = not rules or is_explained(folder, audit, theirs, rules)
     difference = first_difference(ours, theirs)
-    print(f"{name}: {' + '.join(rules) or 'no word'}: {difference}", flush=True)
-    told = {"here.trace": text_of(ours), "edk2.trace": text_of(theirs)}
-    faults = [f"another trace than {file}" for file, text in told.items() if text != read_file(f"{CASES}/{name}/{file}")]
+    print(f"{name}: {' + '.join(rules) or 'no word'}; in EDK2's order: {in_order}: {difference}", flush=True)
+    told = {"here.trace": text_of(ours), "edk2.trace": text_of(theirs), "followed": in_order + "\n"}
+    faults = [f"another one than {file}" for file, text in told.items() if text != read_file(f"{CASES}/{name}/{file}")]
     faults += [] if is_right else ["its rules do not explain it"]
     faults += [] if difference else ["both traces are the same"]
     return [f"{name}: {fault}" for fault in faults]
