@@ -1,164 +1,111 @@
 """The work that `scripts/measure` has done: plans, volumes, HOB lists and traces that are made by rule.
 
 A row is a name, the program, its words, and what writes its files. Rows of one family differ in a size alone, so that the
-measure can tell how what they take grows. Bytes are those of docs/FORMATS.md.
+measure can tell how what they take grows. Volumes are made from texts by `pitools volume`.
 """
 import struct
-import uuid
 from collections.abc import Callable, Iterable
 from dataclasses import dataclass
+from functools import partial
 from pathlib import Path
 
+from made_volumes import PEIM, RAW_FILE, a_priori, body_of, file, filled, fitting, guid, in_bytes
 from meeting_guids import meeting_guids
 
 KIB, MIB = 1 << 10, 1 << 20
-FFS3 = uuid.UUID("5473c07a-3dcb-4dca-bd6f-1e9689e7349a").bytes_le
-PEI_APRIORI = uuid.UUID("1b45cc0a-156a-428a-af62-49864da0e6e6").bytes_le
-MEMORY = uuid.UUID("f894643d-c449-42d1-8ea8-85bdd8c65bde").bytes_le
-DXE_IPL = uuid.UUID("0ae8ce5d-e448-4437-a8d7-ebf5f194f731").bytes_le
-PEIM, DRIVER, FREEFORM, RAW_FILE = 0x06, 0x07, 0x02, 0x01
-PEI_DEPEX, DXE_DEPEX, RAW = 0x1B, 0x13, 0x19
-TRUE, END, SOR, PUSH, AFTER = b"\x06", b"\x08", b"\x09", b"\x02", b"\x01"
 TEMP, RAM, BASE = 0x80000000, 0x40000000, 0x100000000
 TEMP_LEN, RAM_LEN = MIB, 64 * MIB
-RET = b"\x13\x00"
 MOST_ACTIONS = 1024
+PPI, CALLBACK, DISPATCH = "ppi", "callback", "dispatch"
 
 
-def guid(kind: int, number: int) -> bytes:
-    return struct.pack("<IHHQ", kind, 0, 0x4000, number)
+def script(phase: str, actions: Iterable[str], *blocks: Iterable[str]) -> list[str]:
+    lines = [f"script {phase}"]
+    for block in (actions, *blocks):
+        lines += ["block", *block, "ret Success"]
+    return [*lines, "end"]
 
 
-def padded(data: bytes, unit: int, byte: bytes) -> bytes:
-    return data + byte * (-len(data) % unit)
+def peim(number: int, actions: Iterable[str], depex: str = "", *blocks: Iterable[str]) -> list[str]:
+    front = [f"depex pei {depex}"] if depex else []
+    return [f"file peim {guid(1, number)}", *front, *script("pei", actions, *blocks)]
 
 
-def section(kind: int, body: bytes) -> bytes:
-    size = 4 + len(body)
-    if size <= 0xFFFFFE:
-        return struct.pack("<I", size | kind << 24) + body
-    return struct.pack("<II", 0xFFFFFF | kind << 24, size + 4) + body
-
-
-def file(kind: int, name: bytes, sections: Iterable[bytes] = ()) -> bytes:
-    body = b""
-    for one in sections:
-        body = padded(body, 4, b"\0") + one
-    large = 24 + len(body) > 0xFFFFFE
-    front = bytearray(name + bytes([0, 0, kind, large]))
-    front += bytes(4) + struct.pack("<Q", 32 + len(body)) if large else struct.pack("<I", 24 + len(body))
-    front[16] = -sum(front) % 256
-    front[17], front[23] = 0xAA, 0xF8
-    return bytes(front) + body
-
-
-def volume(files: Iterable[bytes], length: int = 0) -> bytes:
-    """An FFS3 volume of these files; without a length it is the least multiple of 4 KiB."""
-    body = b"".join(padded(one, 8, b"\xff") for one in files)
-    length = length or padded_length(72 + len(body))
-    header = bytearray(bytes(16) + FFS3 + struct.pack("<Q4sIHHHBBIIQ", length, b"_FVH", 0x800, 72, 0, 0, 0, 2, 1, length, 0))
-    struct.pack_into("<H", header, 50, -sum(struct.unpack("<36H", header)) % 0x10000)
-    return (bytes(header) + body).ljust(length, b"\xff")
-
-
-def padded_length(length: int) -> int:
-    return -(-length // 4096) * 4096
-
-
-def script(phase: int, *blocks: list[bytes]) -> bytes:
-    spelled = (struct.pack("<H", len(block)) + b"".join(block) for block in blocks)
-    return section(RAW, b"PIAS" + bytes([1, phase, len(blocks), 0]) + b"".join(spelled))
-
-
-def peim(number: int, actions: list[bytes], depex: bytes = b"", *blocks: list[bytes]) -> bytes:
-    front = [section(PEI_DEPEX, depex)] if depex else []
-    return file(PEIM, guid(1, number), [*front, script(1, [*actions, RET], *blocks)])
-
-
-def driver(number: int, depex: bytes, actions: list[bytes]) -> bytes:
-    return file(DRIVER, guid(4, number), [section(DXE_DEPEX, depex), script(2, [*actions, RET])])
-
-
-def push(name: bytes) -> bytes:
-    return PUSH + name + END
+def driver(number: int, depex: str, actions: Iterable[str]) -> list[str]:
+    return [f"file driver {guid(4, number)}", f"depex dxe {depex}", *script("dxe", actions)]
 
 
 # Actions of scripts.
-def set_to(register: int, number: int) -> bytes:
-    return struct.pack("<BBQ", 0x01, register, number)
+def set_to(register: int, number: int) -> str:
+    return f"set r{register} {number:#x}"
 
 
-def log(text: bytes) -> bytes:
-    return bytes([0x11, len(text)]) + text
+def desc(register: int, kind: str, name: str, last: int) -> str:
+    return f"desc r{register} {kind} {name} {'r' if kind == PPI else 'block '}{last}"
 
 
-def desc(register: int, kind: int, name: bytes, last: int) -> bytes:
-    return bytes([0x08, register, kind, 0]) + name + bytes([last])
+def on_registers(action: str, *registers: int) -> str:
+    return " ".join([action, *(f"r{register}" for register in registers)])
 
 
-def install(*registers: int) -> bytes:
-    return bytes([0x09, len(registers), *registers])
+install, notify = partial(on_registers, "install"), partial(on_registers, "notify")
 
 
-def notify(*registers: int) -> bytes:
-    return bytes([0x0B, len(registers), *registers])
+def locate(name: str) -> str:
+    return f"locate r4 r5 {name} 0"
 
 
-def locate(name: bytes) -> bytes:
-    return bytes([0x0C, 4, 5]) + name + bytes(2)
+def install_memory(length: int) -> list[str]:
+    return [set_to(14, RAM), set_to(15, length), "memory r14 r15"]
 
 
-SHADOW = b"\x14"
-PPI, CALLBACK, DISPATCH = 0, 1, 2
-
-
-def install_memory(length: int) -> list[bytes]:
-    return [set_to(14, RAM), set_to(15, length), bytes([0x0E, 14, 15])]
-
-
-def install_ppi(name: bytes) -> list[bytes]:
+def install_ppi(name: str) -> list[str]:
     return [set_to(0, 0), desc(1, PPI, name, 0), install(1)]
 
 
-def peims_of(actions: list[bytes], first: int = 0, front: list[bytes] | None = None, blocks: list[list[bytes]] | None = None) -> list[bytes]:
+def peims_of(actions: list[str], first: int = 0, front: list[str] | None = None, blocks: list[list[str]] | None = None) -> list[list[str]]:
     """As many PEIMs as it takes for so many actions, each with the same ones in front; pairs stay together."""
     front = front or []
     room = (MOST_ACTIONS - 1 - len(front)) // 2 * 2
-    return [peim(first + at // room, front + actions[at : at + room], b"", *(blocks or [])) for at in range(0, len(actions), room)]
+    return [peim(first + at // room, front + actions[at : at + room], "", *(blocks or [])) for at in range(0, len(actions), room)]
 
 
-def write_boot(folder: Path, files: Iterable[bytes], ram: int = RAM_LEN, fuel: int = 1000000, length: int = 0) -> None:
+def text_of(files: Iterable[list[str]]) -> str:
+    return "".join(f"{line}\n" for lines in files for line in lines)
+
+
+def write_boot(folder: Path, volume: bytes, ram: int = RAM_LEN, fuel: int = 1000000) -> None:
     """The plan `plan` and its volume."""
     plan = f"temp {TEMP:#x} {TEMP_LEN:#x}\nram {RAM:#x} {ram:#x}\nvolume {BASE:#x} a.fv\nfuel {fuel}\n"
     (folder / "plan").write_text(plan, encoding="ascii")
-    (folder / "a.fv").write_bytes(volume(files, length))
+    (folder / "a.fv").write_bytes(volume)
 
 
-# The boots, as the files of their volumes.
-def logs(peims: int, lines: int) -> list[bytes]:
-    return [peim(number, [log(b"ten ------")] * lines) for number in range(peims)]
+# The boots, as the texts of their volumes' files.
+def logs(peims: int, lines: int) -> list[list[str]]:
+    return [peim(number, ["log ten ------"] * lines) for number in range(peims)]
 
 
-def sets(count: int) -> list[bytes]:
+def sets(count: int) -> list[list[str]]:
     return peims_of([set_to(0, 1)] * count)
 
 
-def tree(count: int) -> list[bytes]:
+def tree(count: int) -> list[list[str]]:
     """Each PEIM waits for the PPI of the one at half its number; the first to start is placed last."""
-    return [peim(n, install_ppi(guid(2, n)), push(guid(2, (n - 1) // 2)) if n else b"") for n in range(count - 1, -1, -1)]
+    return [peim(n, install_ppi(guid(2, n)), guid(2, (n - 1) // 2) if n else "") for n in range(count - 1, -1, -1)]
 
 
-def line(count: int) -> list[bytes]:
+def line(count: int) -> list[list[str]]:
     """Each PEIM waits for the PPI of the one placed behind it."""
-    return [peim(n, install_ppi(guid(2, n)), push(guid(2, n - 1)) if n else b"") for n in range(count - 1, -1, -1)]
+    return [peim(n, install_ppi(guid(2, n)), guid(2, n - 1) if n else "") for n in range(count - 1, -1, -1)]
 
 
-def shadowed(count: int, actions: int) -> list[bytes]:
+def shadowed(count: int, actions: int) -> list[list[str]]:
     last = peim(count - 1, install_memory(RAM_LEN))
-    return [peim(n, [SHADOW] + [set_to(0, 1)] * actions) for n in range(count - 1)] + [last]
+    return [peim(n, ["shadow"] + [set_to(0, 1)] * actions) for n in range(count - 1)] + [last]
 
 
-def installs_and_locates(count: int) -> list[bytes]:
+def installs_and_locates(count: int) -> list[list[str]]:
     """Each installs a PPI of a new GUID, and locates it."""
     room = 250
     return [
@@ -168,79 +115,65 @@ def installs_and_locates(count: int) -> list[bytes]:
     ]
 
 
-def other_notifications(kind: int, count: int) -> list[bytes]:
+def other_notifications(kind: str, count: int) -> list[list[str]]:
     """So many notifications of GUIDs that nobody installs, then as many installs of another GUID."""
     registered = [action for n in range(count) for action in (desc(1, kind, guid(2, n), 1), notify(1))]
     room = 1000
     installed = [set_to(0, 0), desc(1, PPI, guid(3, 0), 0)]
-    return peims_of(registered, blocks=[[RET]]) + [peim(10000 + n, installed + [install(1)] * room) for n in range(count // room)]
+    return peims_of(registered, blocks=[[]]) + [peim(10000 + n, installed + [install(1)] * room) for n in range(count // room)]
 
 
-def in_turn(fuel: int) -> list[bytes]:
+def in_turn(fuel: int) -> list[list[str]]:
     """After the move `notify` of eight and `install` of eight in turn, of two GUIDs, until the fuel is spent."""
     front = [set_to(0, 0), desc(1, CALLBACK, guid(2, 0), 1), desc(2, PPI, guid(2, 1), 0)]
     pair = [notify(*[1] * 8), install(*[2] * 8)]
-    return [peim(0, install_memory(256 * MIB)), *peims_of(pair * (fuel // 2 + 1), 1, front, [[RET]])]
+    return [peim(0, install_memory(256 * MIB)), *peims_of(pair * (fuel // 2 + 1), 1, front, [[]])]
 
 
-def ppis(count: int) -> list[bytes]:
+def ppis(count: int) -> list[list[str]]:
     room = 400
     return [peim(first, [set_to(0, 0)] + [action for n in range(first, min(first + room, count)) for action in
                                           (desc(1, PPI, guid(2, n), 0), install(1))]) for first in range(0, count, room)]
 
 
-def hand_off() -> bytes:
-    fv_hob = struct.pack("<BBHQQ", 0x0D, 5, 16, BASE, 0)
-    return peim(0, install_memory(RAM_LEN) + install_ppi(DXE_IPL) + [fv_hob])
+def hand_off() -> list[str]:
+    return peim(0, install_memory(RAM_LEN) + install_ppi("dxe-ipl-ppi") + [f"hob 5 {struct.pack('<QQ', BASE, 0).hex()}"])
 
 
-def install_protocol(number: int) -> list[bytes]:
-    return [set_to(1, 0), bytes([0x20, 0, 2]) + guid(5, number) + b"\x01"]
+def install_protocol(name: str) -> str:
+    return f"install new r2 {name} r1"
 
 
-def drivers_in_line(count: int) -> list[bytes]:
-    return [hand_off()] + [driver(n, push(guid(5, n - 1)) if n else TRUE + END, install_protocol(n)) for n in range(count - 1, -1, -1)]
+def drivers_in_line(count: int) -> list[list[str]]:
+    return [hand_off()] + [driver(n, guid(5, n - 1) if n else "true", [set_to(1, 0), install_protocol(guid(5, n))]) for n in range(count - 1, -1, -1)]
 
 
-def drivers_after(count: int) -> list[bytes]:
-    return [hand_off()] + [driver(n, AFTER + guid(4, n - 1) + END if n else TRUE + END, []) for n in range(count - 1, -1, -1)]
+def drivers_after(count: int) -> list[list[str]]:
+    return [hand_off()] + [driver(n, f"after {guid(4, n - 1)}" if n else "true", []) for n in range(count - 1, -1, -1)]
 
 
-def drivers_on_request(count: int) -> list[bytes]:
+def drivers_on_request(count: int) -> list[list[str]]:
     """Each driver waits for a request, which the one placed behind it makes."""
-    request = [[b"\x25" + guid(4, n + 1)] if n + 1 < count else [] for n in range(count)]
-    return [hand_off()] + [driver(n, (SOR if n else b"") + TRUE + END, request[n]) for n in range(count - 1, -1, -1)]
+    request = [[f"schedule {guid(4, n + 1)}"] if n + 1 < count else [] for n in range(count)]
+    return [hand_off()] + [driver(n, "sor true" if n else "true", request[n]) for n in range(count - 1, -1, -1)]
 
 
-def protocols(names: list[bytes]) -> list[bytes]:
+def protocols(names: list[str]) -> list[list[str]]:
     """Drivers that install these protocols, each on a handle of its own."""
-    installed = [bytes([0x20, 0, 2]) + name + b"\x01" for name in names]
+    installed = [install_protocol(name) for name in names]
     room = 1000
-    return [hand_off()] + [driver(n, TRUE + END, [set_to(1, 0), *installed[n : n + room]]) for n in range(0, len(names), room)]
+    return [hand_off()] + [driver(n, "true", [set_to(1, 0), *installed[n : n + room]]) for n in range(0, len(names), room)]
 
 
-def meeting(count: int) -> list[bytes]:
-    """GUIDs that meet in the hash table of the handles."""
-    return [uuid.UUID(text).bytes_le for text in meeting_guids(count)]
-
-
-def many_files() -> list[bytes]:
+def many_files() -> bytes:
     """16,384 files of 4,088 bytes in 64 MiB, of which 4,096 are PEIMs with an expression."""
-    body = section(RAW, bytes(4088 - 24 - 4 - 24))
-    depex = section(PEI_DEPEX, push(MEMORY))
-    return [file(PEIM if n % 4 == 0 else RAW_FILE, guid(1, n), [padded(depex, 4, b"\0"), body]) for n in range(16384)]
+    expression = body_of("depex pei memory-ppi\n").ljust(24, b"\0")
+    body = expression + body_of(f"raw {'00' * (4088 - 24 - 4 - 24)}\n")
+    return filled(b"".join(file(RAW_FILE if n % 4 else PEIM, in_bytes(guid(1, n)), body) for n in range(16384)), system="ffs3")
 
 
-def large_scripts(count: int) -> list[bytes]:
-    block = [log(b"a" * 60)] * 1023 + [RET]
-    return [file(PEIM, guid(1, n), [script(1, block)]) for n in range(count)]
-
-
-def a_priori(names: int, known: int) -> list[bytes]:
-    """An a priori list of so many names: those of some PEIMs again and again, or one that nobody has."""
-    named = [guid(1, n) for n in range(known)] or [guid(9, 0)]
-    listed = b"".join(named) * (names // len(named))
-    return [file(FREEFORM, PEI_APRIORI, [section(RAW, listed)]), *(file(PEIM, name) for name in named[:known])]
+def large_scripts(count: int) -> list[list[str]]:
+    return [[f"file peim {guid(1, n)}", *script("pei", [f"log {'a' * 60}"] * (MOST_ACTIONS - 1))] for n in range(count)]
 
 
 def hob_list(count: int) -> bytes:
@@ -264,17 +197,17 @@ class Row:
     traced: bool = False
 
 
-def booted(name: str, files: Callable[[], list[bytes]], size: int = 0, ram: int = RAM_LEN, fuel: int = 1000000, verb: str = "boot") -> Row:
+def booted(name: str, files: Callable[[], list[list[str]]], size: int = 0, ram: int = RAM_LEN, fuel: int = 1000000, verb: str = "boot") -> Row:
     """A row that boots a volume. Where it has a size, the name up to the comma in front of it is its family's."""
     words = ["check", "plan", "trace"] if verb == "check" else [verb, "plan"]
     program = "pitools" if verb == "check" else "piboot"
     family = f"{verb} {name}" if size else ""
     shown = f"{name}, {size:,}" if size else name
-    return Row(shown, program, words, lambda folder: write_boot(folder, files(), ram, fuel), family, size, verb == "check")
+    return Row(shown, program, words, lambda folder: write_boot(folder, fitting(text_of(files())), ram, fuel), family, size, verb == "check")
 
 
-def audited(name: str, files: Callable[[], list[bytes]], length: int = 0) -> Row:
-    return Row(f"audit: {name}", "piboot", ["audit", "plan"], lambda folder: write_boot(folder, files(), length=length))
+def audited(name: str, volume: Callable[[], bytes]) -> Row:
+    return Row(f"audit: {name}", "piboot", ["audit", "plan"], lambda folder: write_boot(folder, volume()))
 
 
 def nothing(_: Path) -> None:
@@ -306,9 +239,9 @@ def rows() -> list[Row]:
     found += [booted("drivers, each AFTER another", lambda n=size: drivers_after(n), size) for size in (1000, 4000)]
     found += [booted("drivers, each requested by another", lambda n=size: drivers_on_request(n), size) for size in (1000, 4000)]
     found += [booted("protocols", lambda n=size: protocols([guid(5, number) for number in range(n)]), size) for size in (1000, 4000)]
-    found += [booted("protocols whose GUIDs meet in a hash table", lambda n=size: protocols(meeting(n)), size) for size in (1000, 4000)]
+    found += [booted("protocols whose GUIDs meet in a hash table", lambda n=size: protocols(meeting_guids(n)), size) for size in (1000, 4000)]
     found += [Row(f"generate {size}", "piboot", ["generate", str(size)], nothing, "generate", size) for size in (256, 1024, 4096)]
-    found += [audited("16,384 files in 64 MiB", many_files, 64 * MIB), audited("256 scripts of 64 KiB", lambda: large_scripts(250))]
+    found += [audited("16,384 files in 64 MiB", many_files), audited("256 scripts of 64 KiB", lambda: fitting(text_of(large_scripts(250))))]
     found += [audited("4 million a priori names of nobody", lambda: a_priori(4000000, 0)), audited("4 million of 4,096 PEIMs", lambda: a_priori(4000000, 4096))]
     for size in (1000, 5000, 10000, 21800):
         found.append(Row(f"gcd of HOBs, {size:,}", "pitools", ["gcd", "hobs", "commands"], lambda folder, n=size: write_gcd(folder, n), "gcd", size))
