@@ -5,3 +5,4 @@ mod Writing
 mod Parts
 mod Trees
 pub mod Says
+pub mod PrintedWords

@@ -4,7 +4,9 @@ ghost use Rattle.pi_base.specs.declared.phase.Phase.{Phase};
 ghost use Rattle.depex_code.specs.declared.depex.Depex.{Depex};
 ghost use Rattle.depex_words.specs.Tokens.{tokens};
 ghost use Rattle.depex_words.specs.Cause.{expression_cause};
-ghost use Rattle.depex_words.specs.Expression.{Says};
+ghost use Rattle.asm_text.specs.ExpressionText.{expression_text};
+ghost use Rattle.asm_text.specs.ReadTree.{IsExpression};
+ghost use Rattle.depex_words.specs.Expression.{AreOf, Says};
 
 /// A text says one expression.
 pub fn one_expression()
@@ -15,4 +17,9 @@ pub fn one_expression()
 pub fn no_cause()
     ensures some { (phase : Phase) (text : List ℕ) → expression_cause phase (tokens text) ≡ None → (expression : Depex) × Says phase text expression }
     ensures none { (phase : Phase) (text : List ℕ) (expression : Depex) → Says phase text expression → expression_cause phase (tokens text) ≡ None }
+{}
+
+/// The words that `asm_text` prints of an expression are its.
+pub fn printed_expressions()
+    ensures { (expression : Depex) → IsExpression expression → AreOf (tokens (expression_text expression)) expression }
 {}

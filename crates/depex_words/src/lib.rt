@@ -14,4 +14,4 @@ mod walk;
 
 pub use expression::read_expression;
 pub use fault::ExpressionFault;
-pub use law::{no_cause, one_expression};
+pub use law::{no_cause, one_expression, printed_expressions};

@@ -7,6 +7,7 @@ mod action;
 mod common;
 mod dxe;
 mod fault;
+mod law;
 mod line;
 mod list;
 mod operand;
@@ -16,4 +17,5 @@ mod word;
 
 pub use action::read_action;
 pub use fault::{LineFault, Stop};
+pub use law::printed_actions;
 pub use script::{ScriptCause, ScriptFault, whole_script};

@@ -8,3 +8,5 @@ mod Ending
 mod OneLine
 mod OneText
 mod ReadBack
+mod Wholeness
+mod Completing

@@ -13,6 +13,12 @@ pub fn one_volume()
     ensures apart { (text bytes : List ℕ) (fault : Fault) → Leads text bytes → IsRefused text (Bad fault) → ⊥ }
 {}
 
+/// The lines of a text say a volume exactly where they lead to it one by one.
+pub fn said_is_read()
+    ensures says { (text bytes : List ℕ) → Leads text bytes → Says text bytes }
+    ensures leads { (text bytes : List ℕ) → Says text bytes → Leads text bytes }
+{}
+
 /// A volume without a name that a text describes is read again: the reader finds the files that the lines say, with their names, types and sections.
 pub fn again()
     ensures { (text bytes : List ℕ) (said : Says text bytes) → All HasWholeName said.volume.files → said.volume.name ≡ None → IsReadBack said.volume.files bytes }

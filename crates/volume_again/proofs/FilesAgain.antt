@@ -1,0 +1,316 @@
+-- A printed text says the files again of which it is the text.
+use Rattle.std.proofs.Common.{◌≡◌, inl, inr, ℕ, zero, suc, ◌<◌, ◌^◌, ◌%◌, ◌&&◌, Bool, true, false, List, [], ◌∷◌, ◌++◌, length, map, flat_map, Option, Some, None, Ok, refl, sym, ap, ◌∙◌, subst, arith, append_assoc, All, decimal}
+use Rattle.std.specs.Prelude.{⊤, codes, ◌==◌}
+use Rattle.std.specs.List.{list_any, AllByRecursion}
+use Rattle.std.proofs.lemmas.Bool.{and_parts, eqb-true}
+use Rattle.std.proofs.lemmas.List.{append-nil}
+use Rattle.std.proofs.lemmas.List.Elements.{All-head, All-tail}
+use Rattle.hex.specs.Hex.{IsBytes, encode_lower}
+use Rattle.pi_base.specs.declared.guid.Guid.{Guid}
+use Rattle.pi_base.specs.declared.phase.Phase.{Phase}
+use Rattle.pi_base.specs.WordText.{guid_text}
+use Rattle.act_code.specs.declared.script.Script.{Script}
+use Rattle.act_code.specs.declared.action.Action.{Action}
+use Rattle.act_code.specs.Script.{IsScript}
+use Rattle.asm_text.specs.ExpressionText.{expression_text}
+use Rattle.asm_text.specs.ScriptText.{line, block_lines}
+use Rattle.catalog_model.specs.APriori.{guids_in}
+use Rattle.depex_code.specs.declared.depex.Depex.{Depex}
+use Rattle.depex_code.specs.Expression.{instructions, bytes_of}
+use Rattle.fv_build.specs.declared.new_file.NewFile.{NewFile}
+use Rattle.fv_build.specs.declared.new_file.NewSection.{NewSection}
+use Rattle.fv_build.specs.declared.new_file.Body.{Body}
+use Rattle.fv_build.specs.declared.new_file.Body.TheVariants.{Sections, Bytes}
+use Rattle.fv_build.specs.declared.attributes.FileAttributes.{FileAttributes}
+use Rattle.fv_build.specs.declared.volume_header.VolumeForm.{VolumeForm}
+use Rattle.fv_build.specs.Reading.{AreEach}
+use Rattle.volume_text.specs.declared.statement.Statement.TheVariants as said
+use Rattle.volume_text.specs.declared.volume.OpenVolume.{OpenVolume}
+use Rattle.volume_text.specs.Words.{is_length}
+use Rattle.volume_text.specs.Open.{new_file, is_script_of, has_part, depex_type, built_of}
+use Rattle.volume_text.specs.Step.{section_of}
+use Rattle.volume_text.specs.Volume.{SayFiles, no_file, named, file, bodied, section, depex, script, volume, SaysVolume}
+use Rattle.volume_text.specs.Text.{numbered, Says as TextSays, Leads}
+use Rattle.volume_print.specs.Spelling.{phase_word, guid_word as told_guid, is_a_priori, is_guid_list, SaysExpression, SaysScript, SaysVolume as IsInside, holds_volume, expression_line, guids_line, script_lines as script_text, section_line, body_line, head_line, volume_line, name_line, IsSectionText, as_volume, as_expression, as_guids, as_script, as_bytes, AreSectionTexts, whole, IsBodyText, host_of, IsFileText, IsVolumeText}
+use Rattle.volume_print.specs.Description.{form_in, IsInner}
+use Rattle.volume_again.specs.Again.{IsNameOfBytes, IsOfBytes, IsBodyOfBytes, IsFileOfBytes, IsSectionAgain, IsBodyAgain, IsFileAgain, SaysAgain}
+use Rattle.volume_again.proofs.TextLines.{IsLine, Has, has_none, has_line, has_both, has_all, has_own}
+use Rattle.volume_again.proofs.SaidLines.{Says, volume_text, volume_says, name_says, file_text, file_says, section_text, section_says, body_says, guids_say, depex_says, script_says as script_begins, end_says}
+use Rattle.volume_again.proofs.FileLines.{block_texts, script_says, script_has, same_scripts}
+use Rattle.volume_again.proofs.Trees.{expression_is}
+use Rattle.volume_again.proofs.GuidRuns.{run_is, guids_are}
+use Rattle.volume_again.proofs.GoodScripts.{good_script}
+
+-- what holds of volumes inside
+pub record InnerLaws (Inner : List ℕ → List ℕ → Type 0) : Type 0 where
+  pub ends : (stream text : List ℕ) → Inner stream text → (front : List ℕ) × (text ≡ front ++ 10 ∷ [])
+  pub made : (stream text : List ℕ) → Inner stream text → (again : List ℕ) × Leads text again
+  pub says : (text bytes : List ℕ) → Leads text bytes → TextSays text bytes
+
+-- the text has lines
+record AreLines (text : List ℕ) : Type 0 where
+  lines : List (List ℕ)
+  has : Has text lines
+
+-- a file with these sections
+abbrev file_of : NewFile → FileAttributes → List NewSection → NewFile
+file_of host attributes sections = record { name = host.name; kind = host.kind; attributes = attributes; body = Sections sections }
+
+-- lines say one section more
+record TellsOne (Inner : List ℕ → List ℕ → Type 0) (host : NewFile) (attributes : FileAttributes) (done : List NewSection) (one : NewSection) (lines : List (List ℕ)) (called : Option Guid) (files : List NewFile) (text : List ℕ)
+    : Type 0 where
+  told : AreLines text
+  again : NewSection
+  is : IsSectionAgain Inner host one again
+  say : SayFiles (lines ++ told.lines) called (files ++ file_of host attributes (done ++ again ∷ []) ∷ [])
+
+abbrev one_line : (text l : List ℕ) → text ≡ line l → IsLine l → AreLines text
+one_line text l here is = record { lines = l ∷ []; has = subst (λ (t : List ℕ). Has t (l ∷ [])) (sym here) (has_line l is) }
+
+section_told : (Inner : List ℕ → List ℕ → Type 0) → InnerLaws Inner → (host : NewFile) (attributes : FileAttributes) (before done : List NewSection) (one : NewSection) (lines : List (List ℕ)) (called : Option Guid)
+    (files : List NewFile) (text : List ℕ) → IsOfBytes one → AreEach (IsSectionAgain Inner host) before done → IsSectionText Inner (host_of host) before one text
+    → SayFiles lines called (files ++ file_of host attributes done ∷ []) → TellsOne Inner host attributes done one lines called files text
+section_told Inner laws host attributes before done one lines called files text fits each (as_volume inside) say =
+    let made = laws.made one.body text inside.1 in
+    let ended = laws.ends one.body text inside.1 in
+    let told : AreLines text = record { lines = map (λ l. l.1) (numbered text); has = has_own text ended.0 ended.1 } in
+    let says : TextSays text made.0 = laws.says text made.0 made.1 in
+    let next = file_of host attributes (done ++ section_of 23 made.0 ∷ []) in
+    let holds = and_parts (host.kind == 11) (one.kind == 23) inside.0 in
+    record {
+      told = told;
+      again = section_of 23 made.0;
+      is = (sym (eqb-true one.kind 23 holds.1), inr (inside.0, (text, inside.1, made.1)));
+      say = subst (λ (ls : List (List ℕ)). SayFiles (lines ++ ls) called (files ++ next ∷ [])) (sym says.here)
+          (volume lines called files (file_of host attributes done) next says.line says.inner says.volume says.end made.0 say says.begins says.files says.ends says.built refl);
+    }
+section_told Inner laws host attributes before done one lines called files text fits each (as_expression phase e x is) say =
+    let reads = x.bytes.0 in
+    let bytes : IsBytes (bytes_of (instructions e)) = subst IsBytes x.bytes.1 fits.1 in
+    let l = depex_says phase e reads.suits (expression_is e reads.guids bytes) reads.few in
+    let again = section_of (depex_type phase) (bytes_of (instructions e)) in
+    record {
+      told = one_line text (codes "depex " ++ (phase_word phase ++ (32 ∷ expression_text e))) is l.is;
+      again = again;
+      is = (sym x.kind_is, inl (sym x.bytes.1));
+      say = depex lines called files (file_of host attributes done) (file_of host attributes (done ++ again ∷ [])) (codes "depex " ++ (phase_word phase ++ (32 ∷ expression_text e))) phase (bytes_of (instructions e)) say l.says x.part refl;
+    }
+section_told Inner laws host attributes before done one lines called files text fits each (as_guids list is) say =
+    let raw = and_parts (is_a_priori (host_of host)) ((one.kind == 25) && (length one.body % 16 == 0)) list in
+    let tests = and_parts (one.kind == 25) (length one.body % 16 == 0) raw.1 in
+    let whole_guids = eqb-true (length one.body % 16) 0 tests.1 in
+    let l = guids_say (guids_in one.body) (guids_are one.body fits.1 whole_guids) in
+    let again = section_of 25 (flat_map (λ g. g.0) (guids_in one.body)) in
+    record {
+      told = one_line text (codes "guids" ++ flat_map told_guid (guids_in one.body)) is l.is;
+      again = again;
+      is = (sym (eqb-true one.kind 25 tests.0), inl (run_is one.body whole_guids));
+      say = section lines called files (file_of host attributes done) (file_of host attributes (done ++ again ∷ [])) (codes "guids" ++ flat_map told_guid (guids_in one.body)) 25 (flat_map (λ g. g.0) (guids_in one.body)) say l.says refl;
+    }
+section_told Inner laws host attributes before done one lines called files text fits each (as_script s x is) say =
+    let good = good_script one.body s fits.1 x.bytes in
+    let begins = script_begins s.phase in
+    let inner = flat_map block_texts s.blocks in
+    let again = section_of 25 one.body in
+    let head = codes "script " ++ phase_word s.phase in
+    let behind = has_both (flat_map block_lines s.blocks) (line (codes "end")) inner (codes "end" ∷ []) (script_has s.phase s.blocks good) (has_line (codes "end") end_says.is) in
+    let all = head ∷ (inner ++ codes "end" ∷ []) in
+    record {
+      told = record {
+        lines = all;
+        has = subst (λ (t : List ℕ). Has t all) (sym is) (has_both (line head) (flat_map block_lines s.blocks ++ line (codes "end")) (head ∷ []) (inner ++ codes "end" ∷ []) (has_line head begins.is) behind);
+      };
+      again = again;
+      is = (sym x.kind_is, inl refl);
+      say = script lines called files (file_of host attributes done) (file_of host attributes (done ++ again ∷ [])) head s.phase inner s.blocks (codes "end") one.body say begins.says x.part
+          (same_scripts Inner host s.phase before done each ∙ x.first) (script_says s.phase s.blocks good) end_says.says x.bytes refl;
+    }
+section_told Inner laws host attributes before done one lines called files text fits each (as_bytes v n l m is) say =
+    let told = section_says one.kind one.body fits.0 fits.1 in
+    let again = section_of one.kind one.body in
+    record {
+      told = one_line text (section_text one.kind one.body) is told.is;
+      again = again;
+      is = (refl, inl refl);
+      say = section lines called files (file_of host attributes done) (file_of host attributes (done ++ again ∷ [])) (section_text one.kind one.body) one.kind one.body say told.says refl;
+    }
+
+each_more : {A B : Type 0} (Is : A → B → Type 0) (xs : List A) (ys : List B) (x : A) (y : B) → AreEach Is xs ys → Is x y → AreEach Is (xs ++ x ∷ []) (ys ++ y ∷ [])
+each_more Is [] [] x y all is = (is, tt)
+each_more Is [] (b ∷ ys) x y all is = absurd all
+each_more Is (a ∷ xs) [] x y all is = absurd all
+each_more Is (a ∷ xs) (b ∷ ys) x y all is = (all.0, each_more Is xs ys x y all.1 is)
+
+-- lines say sections more
+record TellsMore (Inner : List ℕ → List ℕ → Type 0) (host : NewFile) (attributes : FileAttributes) (before done more : List NewSection) (lines : List (List ℕ)) (called : Option Guid) (files : List NewFile) (text : List ℕ)
+    : Type 0 where
+  told : AreLines text
+  again : List NewSection
+  each : AreEach (IsSectionAgain Inner host) (before ++ more) again
+  say : SayFiles (lines ++ told.lines) called (files ++ file_of host attributes again ∷ [])
+
+sections_told : (Inner : List ℕ → List ℕ → Type 0) → InnerLaws Inner → (host : NewFile) (attributes : FileAttributes) (before done more : List NewSection) (texts : List (List ℕ)) (lines : List (List ℕ)) (called : Option Guid)
+    (files : List NewFile) → All IsOfBytes more → AreEach (IsSectionAgain Inner host) before done → AreSectionTexts Inner (host_of host) before more texts
+    → SayFiles lines called (files ++ file_of host attributes done ∷ []) → TellsMore Inner host attributes before done more lines called files (whole texts)
+sections_told Inner laws host attributes before done [] [] lines called files fits each are say = record {
+  told = record { lines = []; has = has_none };
+  again = done;
+  each = subst (λ (xs : List NewSection). AreEach (IsSectionAgain Inner host) xs done) (sym (append-nil before)) each;
+  say = subst (λ (ls : List (List ℕ)). SayFiles ls called (files ++ file_of host attributes done ∷ [])) (sym (append-nil lines)) say;
+}
+sections_told Inner laws host attributes before done [] (t ∷ texts) lines called files fits each are say = absurd are
+sections_told Inner laws host attributes before done (one ∷ more) [] lines called files fits each are say = absurd are
+sections_told Inner laws host attributes before done (one ∷ more) (text ∷ texts) lines called files fits each are say =
+    let first = section_told Inner laws host attributes before done one lines called files text (All-head IsOfBytes one more fits) each are.0 say in
+    let grown = each_more (IsSectionAgain Inner host) before done one first.again each first.is in
+    let rest = sections_told Inner laws host attributes (before ++ one ∷ []) (done ++ first.again ∷ []) more texts (lines ++ first.told.lines) called files (All-tail IsOfBytes one more fits) grown are.1 first.say in
+    record {
+      told = record {
+        lines = first.told.lines ++ rest.told.lines;
+        has = has_both text (whole texts) first.told.lines rest.told.lines first.told.has rest.told.has;
+      };
+      again = rest.again;
+      each = subst (λ (xs : List NewSection). AreEach (IsSectionAgain Inner host) xs rest.again) (append_assoc before (one ∷ []) more) rest.each;
+      say = subst (λ (ls : List (List ℕ)). SayFiles ls called (files ++ file_of host attributes rest.again ∷ [])) (append_assoc lines first.told.lines rest.told.lines) rest.say;
+    }
+
+-- lines say one file more
+record TellsFile (Inner : List ℕ → List ℕ → Type 0) (one : NewFile) (lines : List (List ℕ)) (called : Option Guid) (files : List NewFile) (text : List ℕ) : Type 0 where
+  told : AreLines text
+  again : NewFile
+  is : IsFileAgain Inner one again
+  say : SayFiles (lines ++ told.lines) called (files ++ again ∷ [])
+
+body_told : (Inner : List ℕ → List ℕ → Type 0) → InnerLaws Inner → (host : NewFile) (attributes : FileAttributes) (body : Body) (lines : List (List ℕ)) (called : Option Guid) (files : List NewFile) (text : List ℕ)
+    → IsBodyOfBytes body → IsBodyText Inner (host_of host) body text → SayFiles lines called (files ++ new_file host.kind host.name attributes ∷ [])
+    → TellsFile Inner (record { name = host.name; kind = host.kind; attributes = attributes; body = body }) lines called files text
+body_told Inner laws host attributes (Sections sections) lines called files text fits is say =
+    let more = sections_told Inner laws host attributes [] [] sections is.0 lines called files fits tt is.1 say in
+    record {
+      told = record { lines = more.told.lines; has = subst (λ (t : List ℕ). Has t more.told.lines) (sym is.2) more.told.has };
+      again = file_of host attributes more.again;
+      is = record { kind = refl; name = refl; attributes = refl; body = more.each };
+      say = more.say;
+    }
+body_told Inner laws host attributes (Bytes bytes) lines called files text fits is say =
+    let l = body_says bytes fits in
+    let again : NewFile = record { name = host.name; kind = host.kind; attributes = attributes; body = Bytes bytes } in
+    record {
+      told = one_line text (codes "body " ++ encode_lower bytes) is l.is;
+      again = again;
+      is = record { kind = refl; name = refl; attributes = refl; body = refl };
+      say = bodied lines called files (new_file host.kind host.name attributes) again (codes "body " ++ encode_lower bytes) bytes say l.says refl;
+    }
+
+file_told : (Inner : List ℕ → List ℕ → Type 0) → InnerLaws Inner → (one : NewFile) (lines : List (List ℕ)) (called : Option Guid) (files : List NewFile) (text : List ℕ)
+    → IsFileOfBytes one → IsFileText Inner one text → SayFiles lines called files → TellsFile Inner one lines called files text
+file_told Inner laws one lines called files text fits is say =
+    let l = file_says one.kind one.name one.attributes fits.kind fits.name in
+    let head = file_text one.kind one.name one.attributes in
+    let begun = file lines called files head one.kind one.name one.attributes say l.says in
+    let more = body_told Inner laws one one.attributes one.body (lines ++ head ∷ []) called files is.0 fits.body is.1 begun in
+    record {
+      told = record {
+        lines = head ∷ more.told.lines;
+        has = subst (λ (t : List ℕ). Has t (head ∷ more.told.lines)) (sym is.2) (has_both (line head) is.0 (head ∷ []) more.told.lines (has_line head l.is) more.told.has);
+      };
+      again = more.again;
+      is = more.is;
+      say = subst (λ (ls : List (List ℕ)). SayFiles ls called (files ++ more.again ∷ [])) (append_assoc lines (head ∷ []) more.told.lines) more.say;
+    }
+
+record TellsFiles (Inner : List ℕ → List ℕ → Type 0) (before more : List NewFile) (lines : List (List ℕ)) (called : Option Guid) (text : List ℕ) : Type 0 where
+  told : AreLines text
+  again : List NewFile
+  each : AreEach (IsFileAgain Inner) (before ++ more) again
+  say : SayFiles (lines ++ told.lines) called again
+
+files_told : (Inner : List ℕ → List ℕ → Type 0) → InnerLaws Inner → (before done more : List NewFile) (texts : List (List ℕ)) (lines : List (List ℕ)) (called : Option Guid) → All IsFileOfBytes more
+    → AreEach (IsFileAgain Inner) before done → AreEach (IsFileText Inner) more texts → SayFiles lines called done → TellsFiles Inner before more lines called (whole texts)
+files_told Inner laws before done [] [] lines called fits each are say = record {
+  told = record { lines = []; has = has_none };
+  again = done;
+  each = subst (λ (xs : List NewFile). AreEach (IsFileAgain Inner) xs done) (sym (append-nil before)) each;
+  say = subst (λ (ls : List (List ℕ)). SayFiles ls called done) (sym (append-nil lines)) say;
+}
+files_told Inner laws before done [] (t ∷ texts) lines called fits each are say = absurd are
+files_told Inner laws before done (one ∷ more) [] lines called fits each are say = absurd are
+files_told Inner laws before done (one ∷ more) (text ∷ texts) lines called fits each are say =
+    let first = file_told Inner laws one lines called done text (All-head IsFileOfBytes one more fits) are.0 say in
+    let grown = each_more (IsFileAgain Inner) before done one first.again each first.is in
+    let rest = files_told Inner laws (before ++ one ∷ []) (done ++ first.again ∷ []) more texts (lines ++ first.told.lines) called (All-tail IsFileOfBytes one more fits) grown are.1 first.say in
+    record {
+      told = record {
+        lines = first.told.lines ++ rest.told.lines;
+        has = has_both text (whole texts) first.told.lines rest.told.lines first.told.has rest.told.has;
+      };
+      again = rest.again;
+      each = subst (λ (xs : List NewFile). AreEach (IsFileAgain Inner) xs rest.again) (append_assoc before (one ∷ []) more) rest.each;
+      say = subst (λ (ls : List (List ℕ)). SayFiles ls called rest.again) (append_assoc lines first.told.lines rest.told.lines) rest.say;
+    }
+
+-- the line of a name, if there is one
+record TellsName (called : Option Guid) : Type 0 where
+  lines : List (List ℕ)
+  has : Has (name_line called) lines
+  say : SayFiles lines called []
+
+name_told : (called : Option Guid) → IsNameOfBytes called → TellsName called
+name_told None fits = record { lines = []; has = has_none; say = no_file }
+name_told (Some guid) fits =
+    let l = name_says guid fits in
+    let text = codes "name " ++ guid_text guid in
+    record { lines = text ∷ []; has = has_line text l.is; say = named [] [] text guid no_file l.says }
+
+-- a volume's text
+pub volume_told : (Inner : List ℕ → List ℕ → Type 0) → InnerLaws Inner → ((text bytes : List ℕ) → TextSays text bytes → Leads text bytes) → (form : VolumeForm) (len : ℕ) (called : Option Guid) (files : List NewFile) (text : List ℕ) → is_length len ≡ true → form.attributes < 2 ^ 32
+    → IsNameOfBytes called → All IsFileOfBytes files → IsVolumeText Inner form len called files text → SaysAgain Inner form len called files text
+volume_told Inner laws complete form len called files text long fits name_fits files_fit is =
+    let head = volume_text form len in
+    let l = volume_says form len long fits in
+    let n = name_told called name_fits in
+    let more = files_told Inner laws [] [] files is.0 n.lines called files_fit tt is.1 n.say in
+    let inner = n.lines ++ more.told.lines in
+    let all = head ∷ (inner ++ codes "end" ∷ []) in
+    let last = has_line (codes "end") end_says.is in
+    let behind : Has (name_line called ++ (whole is.0 ++ line (codes "end"))) (inner ++ codes "end" ∷ []) =
+    subst (λ (ls : List (List ℕ)). Has (name_line called ++ (whole is.0 ++ line (codes "end"))) ls) (sym (append_assoc n.lines more.told.lines (codes "end" ∷ [])))
+    (has_both (name_line called) (whole is.0 ++ line (codes "end")) n.lines (more.told.lines ++ codes "end" ∷ []) n.has (has_both (whole is.0) (line (codes "end")) more.told.lines (codes "end" ∷ []) more.told.has last)) in
+    let has : Has text all =
+    subst (λ (t : List ℕ). Has t all) (sym is.2) (has_both (line head) (name_line called ++ (whole is.0 ++ line (codes "end"))) (head ∷ []) (inner ++ codes "end" ∷ []) (has_line head l.is) behind) in
+    let one : OpenVolume = record { form = form; len = len; name = called; files = more.again } in
+    let says : (bytes : List ℕ) → built_of one ≡ Ok bytes → TextSays text bytes = λ bytes built. record {
+      line = head;
+      inner = inner;
+      end = codes "end";
+      volume = one;
+      here = has_all text all has;
+      begins = l.says;
+      files = more.say;
+      ends = end_says.says;
+      built = built;
+    } in
+    record {
+      volume = one;
+      form_is = refl;
+      len_is = refl;
+      name_is = refl;
+      files_are = more.each;
+      says = says;
+      leads = λ bytes built. complete text bytes (says bytes built);
+    }
+
+-- texts of volumes inside
+ends_so : (head name body : List ℕ) (text : List ℕ) → text ≡ head ++ (name ++ (body ++ line (codes "end"))) → (front : List ℕ) × (text ≡ front ++ 10 ∷ [])
+ends_so head name body text is = (
+  head ++ (name ++ (body ++ codes "end")),
+  is ∙ sym (append_assoc head (name ++ (body ++ codes "end")) (10 ∷ []) ∙ ap (λ t. head ++ t) (append_assoc name (body ++ codes "end") (10 ∷ []) ∙ ap (λ t. name ++ t) (append_assoc body (codes "end") (10 ∷ [])))),
+)
+
+pub inner_laws : ((text bytes : List ℕ) → Leads text bytes → TextSays text bytes) → (deep : ℕ) → InnerLaws (IsInner deep)
+inner_laws says zero = record { ends = λ stream text is. absurd is; made = λ stream text is. absurd is; says = says }
+inner_laws says (suc deep) = record {
+  ends = λ stream text is. ends_so (volume_line (form_in stream) is.volume.len) (name_line is.volume.name) (whole is.told.spelled.0) text is.told.spelled.2;
+  made = λ stream text is. (is.again, is.leads);
+  says = says;
+}

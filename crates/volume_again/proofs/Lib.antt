@@ -1,0 +1,9 @@
+mod TextLines
+mod TypeWords
+mod SaidLines
+mod FileLines
+mod ByteRuns
+mod Trees
+mod GuidRuns
+mod GoodScripts
+mod FilesAgain

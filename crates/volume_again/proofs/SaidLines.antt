@@ -1,0 +1,509 @@
+-- What the lines of a printed text say.
+use Rattle.std.proofs.Common.{◌≡◌, ℕ, zero, suc, ◌+◌, ◌*◌, ◌-◌, ◌^◌, ◌<◌, ◌≤◌, ◌/◌, ◌%◌, ◌&&◌, Bool, true, false, List, [], ◌∷◌, ◌++◌, length, map, take, drop, flat_map, Option, Some, None, Result, Ok, Err, refl, sym, ap, ◌∙◌, arith, decimal, subst, append_assoc}
+use Rattle.std.specs.Prelude.{⊤, nat_le, nat_lt, codes, ◌==◌, if◌then◌else◌}
+use Rattle.std.specs.List.{list_all, AllByRecursion}
+use Rattle.std.proofs.lemmas.Bool.{and_parts, eqb-true, false≢true}
+use Rattle.std.proofs.lemmas.Bool.Decides.{nat_tests}
+use Rattle.std.proofs.lemmas.List.{append-nil}
+use Rattle.hex.specs.Hex.{IsBytes, encode_with, encode_lower, decode_of}
+use Rattle.hex.proofs.HexLemmas.{decode_of-encode_lower}
+use Rattle.pi_base.specs.declared.guid.Guid.{Guid}
+use Rattle.pi_base.specs.declared.phase.Phase.{Phase}
+use Rattle.pi_base.specs.declared.phase.Phase.TheVariants.{Pei, Dxe}
+use Rattle.pi_base.specs.WordText.{guid_text, hexadecimal}
+use Rattle.printed_words.specs.Words.{IsGuid}
+use Rattle.depex_code.specs.declared.depex.Depex.{Depex}
+use Rattle.depex_code.specs.Expression.{IsOfPhase, instructions, bytes_of}
+use Rattle.act_code.specs.declared.action.Action.{Action}
+use Rattle.act_code.specs.declared.code.Code.{Code}
+use Rattle.act_code.specs.declared.code.Code.TheVariants as code
+use Rattle.act_code.specs.Table.{code_of_action}
+use Rattle.asm_text.specs.ActionText.{spaced, name_of, action_text}
+use Rattle.asm_text.specs.ExpressionText.{expression_text}
+use Rattle.asm_text.specs.ReadTree.{IsExpression}
+use Rattle.script_words.proofs.PrintedActions.{IsGoodAction, action_shown}
+use Rattle.fv_build.specs.declared.attributes.Alignment.{Alignment}
+use Rattle.fv_build.specs.declared.attributes.Alignment.TheVariants.{Byte}
+use Rattle.fv_build.specs.declared.attributes.FileAttributes.{FileAttributes}
+use Rattle.fv_build.specs.declared.file_system.FileSystem.{FileSystem}
+use Rattle.fv_build.specs.declared.file_system.FileSystem.TheVariants.{Ffs2, Ffs3}
+use Rattle.fv_build.specs.declared.volume_header.VolumeForm.{VolumeForm}
+use Rattle.fv_build.specs.Attributes.{alignment_len}
+use Rattle.source_words.specs.Words.{words}
+use Rattle.volume_text.specs.declared.fault.Cause.{Cause}
+use Rattle.volume_text.specs.declared.statement.Statement.{Statement}
+use Rattle.volume_text.specs.declared.statement.Statement.TheVariants as said
+use Rattle.volume_text.specs.Keywords.{keyword_of, phase_of, system_of}
+use Rattle.volume_text.specs.Words.{is_length, length_at, system_at, attributes_at, last_number, guid_at, file_type_at, section_type_at, phase_at, fixed_at, last_alignment, alignment_at, chosen_at}
+use Rattle.volume_text.specs.Bytes.{hex_answer, bytes_of as bytes_of_words, guids_of}
+use Rattle.volume_text.specs.Line.{volume_at, name_at, file_at, script_at, guids_at, section_at, body_at, ReadsBy, ReadsDepex}
+use Rattle.volume_text.specs.Volume.{SaysLine}
+use Rattle.volume_text.specs.Text.{is_passed_over}
+use Rattle.volume_print.specs.Spelling.{phase_word, system_word, type_word, fixed_words, alignment_words, attribute_words, guid_word as told_guid}
+use Rattle.fv_section.specs.declared.section_type.TheConstants.{RAW}
+use Rattle.words_again.proofs.LineWords.{IsClean, IsWord, IsClear, Stands, clear_of, both_clear, spaced_clear, word_then, words_spaced, stands_spaced}
+use Rattle.words_again.proofs.Characters.{decimal_word, hexadecimal_word, encoded_inner, encoded_word, guid_word}
+use Rattle.words_again.proofs.ValueWords.{decimal_read, hexadecimal_read, guid_read}
+use Rattle.depex_words.proofs.PrintedWords.{expression_is, expression_clear}
+use Rattle.volume_again.proofs.TextLines.{IsLine}
+use Rattle.volume_again.proofs.TypeWords.{byte_read, type_read, alignment_read, alignment_fits}
+
+one_fits : (kind : ℕ) → kind < 256 → IsBytes (kind ∷ [])
+one_fits kind fits zero = fits
+one_fits kind fits (suc k) = omega arith
+
+-- a line of words with single spaces between is one that counts
+counts_first : (l word : List ℕ) (others : List (List ℕ)) (byte : ℕ) (rest : List ℕ) → words l ≡ word ∷ others → word ≡ byte ∷ rest → (byte == 35) ≡ false → is_passed_over l ≡ false
+counts_first l word others byte rest is here other = rw (is, here) other
+
+-- what a line says, by its first word
+says_by : (l word : List ℕ) (others : List (List ℕ)) (what : Statement) → words l ≡ word ∷ others → ReadsBy (keyword_of word) l others (Ok what) → SaysLine l what
+says_by l word others what is reads = rw is reads
+
+abbrev line_of : List ℕ → List (List ℕ) → List ℕ
+line_of word others = word ++ flat_map spaced others
+
+line_words : (word : List ℕ) (others : List (List ℕ)) → IsWord word → AllByRecursion IsWord others → words (line_of word others) ≡ word ∷ others
+line_words word others first all =
+    ap words (ap (λ t. word ++ t) (sym (append-nil (flat_map spaced others)))) ∙ word_then word (flat_map spaced others ++ []) first (stands_spaced others [] tt)
+    ∙ ap (λ ws. word ∷ ws) (words_spaced others [] all tt ∙ append-nil others)
+
+line_clear : (word : List ℕ) (others : List (List ℕ)) → IsWord word → AllByRecursion IsWord others → IsClear (line_of word others)
+line_clear word others first all = both_clear word (flat_map spaced others) (clear_of word first.1) (spaced_clear others all)
+
+-- a volume's own line
+abbrev attribute_list : ℕ → List (List ℕ)
+attribute_list attributes = if attributes == 0 then [] else codes "attributes" ∷ (hexadecimal attributes ∷ [])
+
+attributes_same : (attributes : ℕ) → attribute_words attributes ≡ flat_map spaced (attribute_list attributes)
+attributes_same attributes = by_test (attributes == 0)
+  where
+    by_test : (test : Bool) → (if test then [] else codes " attributes " ++ hexadecimal attributes) ≡ flat_map spaced (if test then [] else codes "attributes" ∷ (hexadecimal attributes ∷ []))
+    by_test true = refl
+    by_test false = ap (λ t. codes " attributes " ++ t) (sym (append-nil (hexadecimal attributes)))
+
+attributes_words : (attributes : ℕ) → attributes < 2 ^ 32 → AllByRecursion IsWord (attribute_list attributes)
+attributes_words attributes fits = by_test (attributes == 0)
+  where
+    by_test : (test : Bool) → AllByRecursion IsWord (if test then [] else codes "attributes" ∷ (hexadecimal attributes ∷ []))
+    by_test true = tt
+    by_test false = ((omega arith, refl), (hexadecimal_word attributes (omega arith), tt))
+
+below_32 : (n : ℕ) → n < 2 ^ 32 → nat_lt n (2 ^ 32) ≡ true
+below_32 n fits = grind (arith, nat_tests)
+
+attributes_by : (attributes : ℕ) (test : Bool) → (attributes == 0) ≡ test → attributes < 2 ^ 32
+    → attributes_at (if test then [] else codes "attributes" ∷ (hexadecimal attributes ∷ [])) ≡ Ok attributes
+unfolding attributes_at last_number
+attributes_by attributes true is fits = ap Ok (sym (eqb-true attributes 0 is))
+attributes_by attributes false is fits = rw (hexadecimal_read attributes (omega arith), below_32 attributes fits) refl
+
+system_there : (system : FileSystem) → system_of (system_word system) ≡ Some system
+unfolding system_of system_word
+system_there Ffs2 = refl
+system_there Ffs3 = refl
+
+system_is_word : (system : FileSystem) → IsWord (system_word system)
+unfolding system_word
+system_is_word Ffs2 = (omega arith, refl)
+system_is_word Ffs3 = (omega arith, refl)
+
+length_fits : (len : ℕ) → is_length len ≡ true → len < 2 ^ 64
+length_fits len is = let most : nat_le len 0x4000000 ≡ true = (and_parts (nat_le 72 len) (nat_le len 0x4000000) is).1 in grind (arith, nat_tests)
+
+form_same : (form : VolumeForm) (system : FileSystem) (attributes : ℕ) → form.file_system ≡ system → form.attributes ≡ attributes → (let f : VolumeForm = record { file_system = system; attributes = attributes } in f) ≡ form
+form_same form system attributes p q = rw (← p, ← q) refl
+
+volume_read : (form : VolumeForm) (len : ℕ) → is_length len ≡ true → form.attributes < 2 ^ 32
+    → volume_at (decimal len ∷ (system_word form.file_system ∷ attribute_list form.attributes)) ≡ Ok (said.Volume form len)
+unfolding volume_at length_at system_at
+volume_read form len is fits =
+    rw (decimal_read len (length_fits len is), is, system_there form.file_system, attributes_by form.attributes (form.attributes == 0) refl fits) refl
+
+-- the text of a line, what it says, and that it counts
+pub record Says (text : List ℕ) (what : Statement) : Type 0 where
+  pub says : SaysLine text what
+  pub is : IsLine text
+
+volume_key : (l : List ℕ) (others : List (List ℕ)) (what : Statement) → Ok what ≡ volume_at others → ReadsBy (keyword_of (codes "volume")) l others (Ok what)
+unfolding keyword_of
+volume_key l others what is = is
+
+abbrev pub volume_text : VolumeForm → ℕ → List ℕ
+volume_text form len = codes "volume " ++ (decimal len ++ (32 ∷ (system_word form.file_system ++ attribute_words form.attributes)))
+
+pub volume_says : (form : VolumeForm) (len : ℕ) → is_length len ≡ true → form.attributes < 2 ^ 32 → Says (volume_text form len) (said.Volume form len)
+volume_says form len is fits =
+    let others = decimal len ∷ (system_word form.file_system ∷ attribute_list form.attributes) in
+    let same : volume_text form len ≡ line_of (codes "volume") others =
+    ap (λ t. codes "volume " ++ (decimal len ++ (32 ∷ (system_word form.file_system ++ t)))) (attributes_same form.attributes) in
+    let all : AllByRecursion IsWord others = (decimal_word len (length_fits len is), (system_is_word form.file_system, attributes_words form.attributes fits)) in
+    let split : words (volume_text form len) ≡ codes "volume" ∷ others = ap words same ∙ line_words (codes "volume") others (omega arith, refl) all in
+    record {
+      says = says_by (volume_text form len) (codes "volume") others (said.Volume form len) split (volume_key (volume_text form len) others (said.Volume form len) (sym (volume_read form len is fits)));
+      is = record {
+        clear = subst IsClear (sym same) (line_clear (codes "volume") others (omega arith, refl) all);
+        counts = counts_first (volume_text form len) (codes "volume") others 118 (codes "olume") split refl refl;
+      };
+    }
+
+-- the line of a name
+name_key : (l : List ℕ) (others : List (List ℕ)) (what : Statement) → Ok what ≡ name_at others → ReadsBy (keyword_of (codes "name")) l others (Ok what)
+unfolding keyword_of
+name_key l others what is = is
+
+name_read : (guid : Guid) → IsGuid guid → name_at (guid_text guid ∷ []) ≡ Ok (said.Name guid)
+unfolding name_at guid_at
+name_read guid is = rw (guid_read guid is) refl
+
+pub name_says : (guid : Guid) → IsGuid guid → Says (codes "name " ++ guid_text guid) (said.Name guid)
+name_says guid is =
+    let others = guid_text guid ∷ [] in
+    let text = codes "name " ++ guid_text guid in
+    let same : text ≡ line_of (codes "name") others = ap (λ t. codes "name " ++ t) (sym (append-nil (guid_text guid))) in
+    let all : AllByRecursion IsWord others = (guid_word guid, tt) in
+    let split : words text ≡ codes "name" ∷ others = ap words same ∙ line_words (codes "name") others (omega arith, refl) all in
+    record {
+      says = says_by text (codes "name") others (said.Name guid) split (name_key text others (said.Name guid) (sym (name_read guid is)));
+      is = record {
+        clear = subst IsClear (sym same) (line_clear (codes "name") others (omega arith, refl) all);
+        counts = counts_first text (codes "name") others 110 (codes "ame") split refl refl;
+      };
+    }
+
+-- a file's own line
+abbrev fixed_list : Bool → List (List ℕ)
+fixed_list fixed = if fixed then codes "fixed" ∷ [] else []
+
+abbrev align_list : Alignment → List (List ℕ)
+align_list alignment = if alignment_len alignment == 1 then [] else codes "align" ∷ (decimal (alignment_len alignment) ∷ [])
+
+flat_spaced : (xs ys : List (List ℕ)) → flat_map spaced (xs ++ ys) ≡ flat_map spaced xs ++ flat_map spaced ys
+flat_spaced [] ys = refl
+flat_spaced (x ∷ xs) ys = ap (λ t. (32 ∷ x) ++ t) (flat_spaced xs ys) ∙ sym (append_assoc (32 ∷ x) (flat_map spaced xs) (flat_map spaced ys))
+
+fixed_same : (fixed : Bool) → fixed_words fixed ≡ flat_map spaced (fixed_list fixed)
+fixed_same true = refl
+fixed_same false = refl
+
+align_same : (alignment : Alignment) → alignment_words alignment ≡ flat_map spaced (align_list alignment)
+align_same alignment = by_test (alignment_len alignment == 1)
+  where
+    by_test : (test : Bool) → (if test then [] else codes " align " ++ decimal (alignment_len alignment)) ≡ flat_map spaced (if test then [] else codes "align" ∷ (decimal (alignment_len alignment) ∷ []))
+    by_test true = refl
+    by_test false = ap (λ t. codes " align " ++ t) (sym (append-nil (decimal (alignment_len alignment))))
+
+fixed_are : (fixed : Bool) → AllByRecursion IsWord (fixed_list fixed)
+fixed_are true = ((omega arith, refl), tt)
+fixed_are false = tt
+
+align_are : (alignment : Alignment) → AllByRecursion IsWord (align_list alignment)
+align_are alignment = by_test (alignment_len alignment == 1)
+  where
+    by_test : (test : Bool) → AllByRecursion IsWord (if test then [] else codes "align" ∷ (decimal (alignment_len alignment) ∷ []))
+    by_test true = tt
+    by_test false = ((omega arith, refl), (decimal_word (alignment_len alignment) (alignment_fits alignment), tt))
+
+all_then : (xs ys : List (List ℕ)) → AllByRecursion IsWord xs → AllByRecursion IsWord ys → AllByRecursion IsWord (xs ++ ys)
+all_then [] ys a b = b
+all_then (x ∷ xs) ys a b = (a.0, all_then xs ys a.1 b)
+
+one_byte : (alignment : Alignment) → (alignment_len alignment == 1) ≡ true → ◌≡◌ {A = Result Alignment Cause} (Ok Byte) (Ok alignment)
+one_byte Byte is = refl
+one_byte _ is = absurd (false≢true is)
+
+align_by : (alignment : Alignment) (test : Bool) → (alignment_len alignment == 1) ≡ test
+    → alignment_at (if test then [] else codes "align" ∷ (decimal (alignment_len alignment) ∷ [])) ≡ Ok alignment
+unfolding alignment_at last_alignment
+align_by alignment true is = one_byte alignment is
+align_by alignment false is = rw (decimal_read (alignment_len alignment) (alignment_fits alignment), alignment_read alignment) refl
+
+fixed_then : (alignment : Alignment) → fixed_at (align_list alignment) ≡ (false, align_list alignment)
+unfolding fixed_at
+fixed_then alignment = by_test (alignment_len alignment == 1)
+  where
+    by_test : (test : Bool) → fixed_at (if test then [] else codes "align" ∷ (decimal (alignment_len alignment) ∷ [])) ≡ (false, if test then [] else codes "align" ∷ (decimal (alignment_len alignment) ∷ []))
+    by_test true = refl
+    by_test false = refl
+
+fixed_there : (fixed : Bool) (alignment : Alignment) → fixed_at (fixed_list fixed ++ align_list alignment) ≡ (fixed, align_list alignment)
+unfolding fixed_at
+fixed_there true alignment = refl
+fixed_there false alignment = fixed_then alignment
+
+chosen_read : (attributes : FileAttributes) → chosen_at (fixed_list attributes.fixed ++ align_list attributes.alignment) ≡ Ok attributes
+unfolding chosen_at
+chosen_read attributes =
+    rw (fixed_there attributes.fixed attributes.alignment, align_by attributes.alignment (alignment_len attributes.alignment == 1) refl) refl
+
+type_is_word : (kind : ℕ) → kind < 256 → IsWord (type_word kind)
+unfolding type_word
+type_is_word kind fits = by_tests (kind == 1) (kind == 2) (kind == 6) (kind == 7) (kind == 8) (kind == 11) (kind == 12)
+  where
+    by_tests : (a b c d e f g : Bool)
+        → IsWord (if a then codes "raw" else if b then codes "freeform" else if c then codes "peim" else if d then codes "driver" else if e then codes "combined"
+        else if f then codes "volume-image" else if g then codes "mm-dxe" else encode_lower (kind ∷ []))
+    by_tests true b c d e f g = (omega arith, refl)
+    by_tests false true c d e f g = (omega arith, refl)
+    by_tests false false true d e f g = (omega arith, refl)
+    by_tests false false false true e f g = (omega arith, refl)
+    by_tests false false false false true f g = (omega arith, refl)
+    by_tests false false false false false true g = (omega arith, refl)
+    by_tests false false false false false false true = (omega arith, refl)
+    by_tests false false false false false false false = encoded_word (kind ∷ []) (omega arith) (one_fits kind fits)
+
+file_key : (l : List ℕ) (others : List (List ℕ)) (what : Statement) → Ok what ≡ file_at others → ReadsBy (keyword_of (codes "file")) l others (Ok what)
+unfolding keyword_of
+file_key l others what is = is
+
+file_read : (kind : ℕ) (name : Guid) (attributes : FileAttributes) → kind < 256 → IsGuid name
+    → file_at (type_word kind ∷ (guid_text name ∷ (fixed_list attributes.fixed ++ align_list attributes.alignment))) ≡ Ok (said.File kind name attributes)
+unfolding file_at file_type_at guid_at
+file_read kind name attributes fits is = rw (type_read kind fits, guid_read name is, chosen_read attributes) refl
+
+abbrev pub file_text : ℕ → Guid → FileAttributes → List ℕ
+file_text kind name attributes = codes "file " ++ (type_word kind ++ (32 ∷ (guid_text name ++ (fixed_words attributes.fixed ++ alignment_words attributes.alignment))))
+
+pub file_says : (kind : ℕ) (name : Guid) (attributes : FileAttributes) → kind < 256 → IsGuid name → Says (file_text kind name attributes) (said.File kind name attributes)
+file_says kind name attributes fits is =
+    let chosen = fixed_list attributes.fixed ++ align_list attributes.alignment in
+    let others = type_word kind ∷ (guid_text name ∷ chosen) in
+    let text = file_text kind name attributes in
+    let same : text ≡ line_of (codes "file") others =
+    ap (λ t. codes "file " ++ (type_word kind ++ (32 ∷ (guid_text name ++ t))))
+    (ap (λ t. t ++ alignment_words attributes.alignment) (fixed_same attributes.fixed) ∙ ap (λ t. flat_map spaced (fixed_list attributes.fixed) ++ t) (align_same attributes.alignment)
+    ∙ sym (flat_spaced (fixed_list attributes.fixed) (align_list attributes.alignment))) in
+    let all : AllByRecursion IsWord others =
+    (type_is_word kind fits, (guid_word name, all_then (fixed_list attributes.fixed) (align_list attributes.alignment) (fixed_are attributes.fixed) (align_are attributes.alignment))) in
+    let split : words text ≡ codes "file" ∷ others = ap words same ∙ line_words (codes "file") others (omega arith, refl) all in
+    record {
+      says = says_by text (codes "file") others (said.File kind name attributes) split (file_key text others (said.File kind name attributes) (sym (file_read kind name attributes fits is)));
+      is = record {
+        clear = subst IsClear (sym same) (line_clear (codes "file") others (omega arith, refl) all);
+        counts = counts_first text (codes "file") others 102 (codes "ile") split refl refl;
+      };
+    }
+
+-- bytes to the end of a line
+shown_words : (bytes : List ℕ) → IsBytes bytes → words (encode_lower bytes) ≡ (if length bytes == 0 then [] else encode_lower bytes ∷ [])
+unfolding encode_with
+shown_words [] fits = refl
+shown_words (b ∷ bytes) fits =
+    let some : (length (b ∷ bytes) == 0) ≡ false = grind (arith, nat_tests) in
+    rw some (ap words (sym (append-nil (encode_lower (b ∷ bytes)))) ∙ word_then (encode_lower (b ∷ bytes)) [] (encoded_word (b ∷ bytes) (omega arith) fits) tt)
+
+shown_by : (bytes : List ℕ) (test : Bool) → (length bytes == 0) ≡ test → IsBytes bytes → bytes_of_words (if test then [] else encode_lower bytes ∷ []) ≡ Ok bytes
+unfolding bytes_of_words encode_with
+shown_by [] true is fits = ap hex_answer (decode_of-encode_lower [] fits)
+shown_by [] false is fits = absurd (false≢true (sym is))
+shown_by (b ∷ bytes) true is fits = absurd (omega (arith, eqb-true (length (b ∷ bytes)) 0 is))
+shown_by (b ∷ bytes) false is fits =
+    ap hex_answer (ap decode_of (append-nil (encode_lower (b ∷ bytes))) ∙ decode_of-encode_lower (b ∷ bytes) fits)
+
+shown_read : (bytes : List ℕ) → IsBytes bytes → bytes_of_words (words (encode_lower bytes)) ≡ Ok bytes
+shown_read bytes fits = ap bytes_of_words (shown_words bytes fits) ∙ shown_by bytes (length bytes == 0) refl fits
+
+shown_clear : (bytes : List ℕ) → IsBytes bytes → IsClear (encode_lower bytes)
+shown_clear bytes fits = clear_of (encode_lower bytes) (encoded_inner bytes fits)
+
+section_key : (l : List ℕ) (others : List (List ℕ)) (what : Statement) → Ok what ≡ section_at others → ReadsBy (keyword_of (codes "section")) l others (Ok what)
+unfolding keyword_of
+section_key l others what is = is
+
+section_read : (kind : ℕ) (body : List ℕ) → kind < 256 → IsBytes body → section_at (encode_lower (kind ∷ []) ∷ words (encode_lower body)) ≡ Ok (said.Section kind body)
+unfolding section_at section_type_at
+section_read kind body fits bytes = rw (byte_read kind fits, shown_read body bytes) refl
+
+abbrev pub section_text : ℕ → List ℕ → List ℕ
+section_text kind body = codes "section " ++ (encode_lower (kind ∷ []) ++ (32 ∷ encode_lower body))
+
+pub section_says : (kind : ℕ) (body : List ℕ) → kind < 256 → IsBytes body → Says (section_text kind body) (said.Section kind body)
+section_says kind body fits bytes =
+    let type = encode_lower (kind ∷ []) in
+    let text = section_text kind body in
+    let others = type ∷ words (encode_lower body) in
+    let type_is = encoded_word (kind ∷ []) (omega arith) (one_fits kind fits) in
+    let split : words text ≡ codes "section" ∷ others =
+    word_then (codes "section") (32 ∷ (type ++ (32 ∷ encode_lower body))) (omega arith, refl) refl ∙ ap (λ ws. codes "section" ∷ ws) (word_then type (32 ∷ encode_lower body) type_is refl) in
+    record {
+      says = says_by text (codes "section") others (said.Section kind body) split (section_key text others (said.Section kind body) (sym (section_read kind body fits bytes)));
+      is = record {
+        clear = both_clear (codes "section ") (type ++ (32 ∷ encode_lower body)) refl (both_clear type (32 ∷ encode_lower body) (clear_of type type_is.1) (shown_clear body bytes));
+        counts = counts_first text (codes "section") others 115 (codes "ection") split refl refl;
+      };
+    }
+
+body_key : (l : List ℕ) (others : List (List ℕ)) (what : Statement) → Ok what ≡ body_at others → ReadsBy (keyword_of (codes "body")) l others (Ok what)
+unfolding keyword_of
+body_key l others what is = is
+
+body_read : (body : List ℕ) → IsBytes body → body_at (words (encode_lower body)) ≡ Ok (said.Body body)
+unfolding body_at
+body_read body bytes = rw (shown_read body bytes) refl
+
+pub body_says : (body : List ℕ) → IsBytes body → Says (codes "body " ++ encode_lower body) (said.Body body)
+body_says body bytes =
+    let text = codes "body " ++ encode_lower body in
+    let others = words (encode_lower body) in
+    let split : words text ≡ codes "body" ∷ others = word_then (codes "body") (32 ∷ encode_lower body) (omega arith, refl) refl in
+    record {
+      says = says_by text (codes "body") others (said.Body body) split (body_key text others (said.Body body) (sym (body_read body bytes)));
+      is = record { clear = both_clear (codes "body ") (encode_lower body) refl (shown_clear body bytes); counts = counts_first text (codes "body") others 98 (codes "ody") split refl refl };
+    }
+
+-- GUIDs
+guids_key : (l : List ℕ) (others : List (List ℕ)) (what : Statement) → Ok what ≡ guids_at others → ReadsBy (keyword_of (codes "guids")) l others (Ok what)
+unfolding keyword_of
+guids_key l others what is = is
+
+guid_list_read : (guids : List Guid) → AllByRecursion IsGuid guids → guids_of (map guid_text guids) ≡ Ok (flat_map (λ g. g.0) guids)
+guid_list_read [] all = refl
+guid_list_read (guid ∷ guids) all = rw (guid_read guid all.0, guid_list_read guids all.1) refl
+
+guid_words_are : (guids : List Guid) → AllByRecursion IsWord (map guid_text guids)
+guid_words_are [] = tt
+guid_words_are (guid ∷ guids) = (guid_word guid, guid_words_are guids)
+
+guids_same : (guids : List Guid) → flat_map told_guid guids ≡ flat_map spaced (map guid_text guids)
+guids_same [] = refl
+guids_same (guid ∷ guids) = ap (λ t. told_guid guid ++ t) (guids_same guids)
+
+guids_read : (guids : List Guid) → AllByRecursion IsGuid guids → guids_at (map guid_text guids) ≡ Ok (said.Section RAW (flat_map (λ g. g.0) guids))
+unfolding guids_at
+guids_read guids all = rw (guid_list_read guids all) refl
+
+pub guids_say : (guids : List Guid) → AllByRecursion IsGuid guids → Says (codes "guids" ++ flat_map told_guid guids) (said.Section RAW (flat_map (λ g. g.0) guids))
+guids_say guids all =
+    let text = codes "guids" ++ flat_map told_guid guids in
+    let others = map guid_text guids in
+    let same : text ≡ line_of (codes "guids") others = ap (λ t. codes "guids" ++ t) (guids_same guids) in
+    let split : words text ≡ codes "guids" ∷ others = ap words same ∙ line_words (codes "guids") others (omega arith, refl) (guid_words_are guids) in
+    record {
+      says = says_by text (codes "guids") others (said.Section RAW (flat_map (λ g. g.0) guids)) split (guids_key text others (said.Section RAW (flat_map (λ g. g.0) guids)) (sym (guids_read guids all)));
+      is = record {
+        clear = subst IsClear (sym same) (line_clear (codes "guids") others (omega arith, refl) (guid_words_are guids));
+        counts = counts_first text (codes "guids") others 103 (codes "uids") split refl refl;
+      };
+    }
+
+-- expressions and scripts
+phase_there : (phase : Phase) → phase_of (phase_word phase) ≡ Some phase
+unfolding phase_of phase_word
+phase_there Pei = refl
+phase_there Dxe = refl
+
+phase_is_word : (phase : Phase) → IsWord (phase_word phase)
+unfolding phase_word
+phase_is_word Pei = (omega arith, refl)
+phase_is_word Dxe = (omega arith, refl)
+
+depex_key : (l : List ℕ) (others : List (List ℕ)) (what : Statement) → ReadsDepex others (Ok what) → ReadsBy (keyword_of (codes "depex")) l others (Ok what)
+unfolding keyword_of
+depex_key l others what is = is
+
+phase_read : (phase : Phase) (others : List (List ℕ)) → phase_at (phase_word phase ∷ others) ≡ Ok (phase, others)
+unfolding phase_at
+phase_read phase others = rw (phase_there phase) refl
+
+depex_read : (phase : Phase) (e : Depex) → IsOfPhase phase e → IsExpression e → length (instructions e) ≤ 1024
+    → ReadsDepex (phase_word phase ∷ words (expression_text e)) (Ok (said.Depex phase (bytes_of (instructions e))))
+depex_read phase e suits is few =
+    rw (phase_read phase (words (expression_text e))) (Ok (bytes_of (instructions e)), (e, (suits, expression_is e is), few, refl), refl)
+
+pub depex_says : (phase : Phase) (e : Depex) → IsOfPhase phase e → IsExpression e → length (instructions e) ≤ 1024
+    → Says (codes "depex " ++ (phase_word phase ++ (32 ∷ expression_text e))) (said.Depex phase (bytes_of (instructions e)))
+depex_says phase e suits is few =
+    let text = codes "depex " ++ (phase_word phase ++ (32 ∷ expression_text e)) in
+    let others = phase_word phase ∷ words (expression_text e) in
+    let split : words text ≡ codes "depex" ∷ others =
+    word_then (codes "depex") (32 ∷ (phase_word phase ++ (32 ∷ expression_text e))) (omega arith, refl) refl
+    ∙ ap (λ ws. codes "depex" ∷ ws) (word_then (phase_word phase) (32 ∷ expression_text e) (phase_is_word phase) refl) in
+    record {
+      says = says_by text (codes "depex") others (said.Depex phase (bytes_of (instructions e))) split (depex_key text others (said.Depex phase (bytes_of (instructions e))) (depex_read phase e suits is few));
+      is = record {
+        clear = both_clear (codes "depex ") (phase_word phase ++ (32 ∷ expression_text e)) refl (both_clear (phase_word phase) (32 ∷ expression_text e) (clear_of (phase_word phase) (phase_is_word phase).1) (expression_clear e));
+        counts = counts_first text (codes "depex") others 100 (codes "epex") split refl refl;
+      };
+    }
+
+script_key : (l : List ℕ) (others : List (List ℕ)) (what : Statement) → Ok what ≡ script_at others → ReadsBy (keyword_of (codes "script")) l others (Ok what)
+unfolding keyword_of
+script_key l others what is = is
+
+script_read : (phase : Phase) → script_at (phase_word phase ∷ []) ≡ Ok (said.Script phase)
+unfolding script_at
+script_read phase = rw (phase_read phase []) refl
+
+pub script_says : (phase : Phase) → Says (codes "script " ++ phase_word phase) (said.Script phase)
+script_says phase =
+    let text = codes "script " ++ phase_word phase in
+    let others = phase_word phase ∷ [] in
+    let same : text ≡ line_of (codes "script") others = ap (λ t. codes "script " ++ t) (sym (append-nil (phase_word phase))) in
+    let all : AllByRecursion IsWord others = (phase_is_word phase, tt) in
+    let split : words text ≡ codes "script" ∷ others = ap words same ∙ line_words (codes "script") others (omega arith, refl) all in
+    record {
+      says = says_by text (codes "script") others (said.Script phase) split (script_key text others (said.Script phase) (sym (script_read phase)));
+      is = record {
+        clear = subst IsClear (sym same) (line_clear (codes "script") others (omega arith, refl) all);
+        counts = counts_first text (codes "script") others 115 (codes "cript") split refl refl;
+      };
+    }
+
+pub block_says : Says (codes "block") said.Block
+unfolding keyword_of
+block_says = record { says = refl; is = record { clear = refl; counts = refl } }
+
+pub end_says : Says (codes "end") said.End
+unfolding keyword_of
+end_says = record { says = refl; is = record { clear = refl; counts = refl } }
+
+no_key : (c : Code) (l : List ℕ) (others : List (List ℕ)) → ReadsBy (keyword_of (name_of c)) l others (Ok (said.Action l))
+unfolding keyword_of name_of
+no_key code.Set l others = refl
+no_key _ l others = refl
+
+record Begins (name : List ℕ) : Type 0 where
+  first : ℕ
+  rest : List ℕ
+  is : name ≡ first ∷ rest
+  other : (first == 35) ≡ false
+
+name_begins : (c : Code) → Begins (name_of c)
+unfolding name_of
+name_begins code.Set = record { first = 115; rest = codes "et"; is = refl; other = refl }
+name_begins code.Add = record { first = 97; rest = codes "dd"; is = refl; other = refl }
+name_begins code.Pool = record { first = 112; rest = codes "ool"; is = refl; other = refl }
+name_begins code.Store = record { first = 115; rest = codes "tore"; is = refl; other = refl }
+name_begins code.Addr = record { first = 97; rest = codes "ddr"; is = refl; other = refl }
+name_begins code.Peek = record { first = 112; rest = codes "eek"; is = refl; other = refl }
+name_begins code.Desc = record { first = 100; rest = codes "esc"; is = refl; other = refl }
+name_begins code.Install = record { first = 105; rest = codes "nstall"; is = refl; other = refl }
+name_begins code.Reinstall = record { first = 114; rest = codes "einstall"; is = refl; other = refl }
+name_begins code.Notify = record { first = 110; rest = codes "otify"; is = refl; other = refl }
+name_begins code.Locate = record { first = 108; rest = codes "ocate"; is = refl; other = refl }
+name_begins code.Hob = record { first = 104; rest = codes "ob"; is = refl; other = refl }
+name_begins code.Memory = record { first = 109; rest = codes "emory"; is = refl; other = refl }
+name_begins code.Pages = record { first = 112; rest = codes "ages"; is = refl; other = refl }
+name_begins code.BootMode = record { first = 98; rest = codes "oot_mode"; is = refl; other = refl }
+name_begins code.Log = record { first = 108; rest = codes "og"; is = refl; other = refl }
+name_begins code.SkipIf = record { first = 115; rest = codes "kip_if"; is = refl; other = refl }
+name_begins code.Ret = record { first = 114; rest = codes "et"; is = refl; other = refl }
+name_begins code.Shadow = record { first = 115; rest = codes "hadow"; is = refl; other = refl }
+name_begins code.DxeInstall = record { first = 105; rest = codes "nstall"; is = refl; other = refl }
+name_begins code.DxeReinstall = record { first = 114; rest = codes "einstall"; is = refl; other = refl }
+name_begins code.DxeUninstall = record { first = 117; rest = codes "ninstall"; is = refl; other = refl }
+name_begins code.DxeLocate = record { first = 108; rest = codes "ocate"; is = refl; other = refl }
+name_begins code.DxeNotify = record { first = 110; rest = codes "otify"; is = refl; other = refl }
+name_begins code.Schedule = record { first = 115; rest = codes "chedule"; is = refl; other = refl }
+name_begins code.Process = record { first = 112; rest = codes "rocess"; is = refl; other = refl }
+name_begins code.Dispatch = record { first = 100; rest = codes "ispatch"; is = refl; other = refl }
+
+pub action_says : (phase : Phase) (a : Action) → IsGoodAction phase a → Says (action_text a) (said.Action (action_text a))
+action_says phase a is =
+    let shown = action_shown phase a is in
+    let name = name_of (code_of_action a) in
+    let begins = name_begins (code_of_action a) in
+    record {
+      says = says_by (action_text a) name shown.others (said.Action (action_text a)) shown.first (no_key (code_of_action a) (action_text a) shown.others);
+      is = record { clear = shown.clear; counts = counts_first (action_text a) name shown.others begins.first begins.rest shown.first begins.is begins.other };
+    }

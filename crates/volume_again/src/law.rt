@@ -1,0 +1,16 @@
+// The law of reading a text back.
+ghost use Rattle.std.specs.Prelude.{◌≡◌, ◌<◌, ◌-◌, ◌^◌, ℕ, List, All, true};
+ghost use Rattle.catalog_model.specs.declared.limits.TheConstants.{MOST_DEPTH};
+ghost use Rattle.volume_text.specs.Words.{is_length};
+ghost use Rattle.volume_print.specs.Description.{form_in, IsInner, IsTextOf};
+ghost use Rattle.volume_again.specs.Again.{IsNameOfBytes, IsFileOfBytes, SaysAgain};
+
+use volume_text::said_is_read;
+
+/// The text of a volume says a volume of the same form, length and name with the same files, and leads to its bytes where nothing stands against it.
+pub fn read_again()
+    ensures { (bytes text : List ℕ) (told : IsTextOf bytes text) → is_length told.volume.len ≡ true → (form_in bytes).attributes < 2 ^ 32 → IsNameOfBytes told.volume.name
+        → All IsFileOfBytes told.told.files → SaysAgain (IsInner (MOST_DEPTH - 1)) (form_in bytes) told.volume.len told.volume.name told.told.files text }
+{
+    said_is_read();
+}
