@@ -1,6 +1,7 @@
 """Has `pitools` answer, for the scripts of this folder: the one that `scripts/program` gives, or that which is installed with them."""
 import functools
 import os
+import shutil
 import subprocess
 
 SCRIPTS = os.path.dirname(os.path.realpath(__file__))
@@ -12,7 +13,8 @@ def path() -> str:
     """The path of the program. In a checkout it may have to be made first, once."""
     if os.path.exists(FINDER):
         return subprocess.run([FINDER, "pitools"], stdout=subprocess.PIPE, check=True).stdout.decode().strip()
-    return os.environ.get("PITOOLS") or (INSTALLED if os.access(INSTALLED, os.X_OK) else "pitools")
+    given = os.environ.get("PITOOLS") or INSTALLED
+    return os.path.abspath(shutil.which(given) or shutil.which("pitools") or given)
 
 
 def answer(*words: str, folder: str | None = None) -> tuple[int, bytes]:

@@ -102,8 +102,7 @@ class Volume:
         self.files: list[File] = []
         self.name: list[str] = []
         catalogue.append(self)
-        for line in lines:
-            words = line.split()
+        for words in map(str.split, lines):
             if words == ["end"]:
                 return
             self.read(catalogue, words, lines)

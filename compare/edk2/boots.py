@@ -14,7 +14,7 @@ OUT = f"{HERE}/out"
 PLAIN = os.environ.get("PLAIN", f"{HERE}/../plain/out/plain")
 PEI, DXE = f"{OUT}/edk2-pei", f"{OUT}/edk2-dxe"
 PIBOOT = os.environ.get("PIBOOT", os.path.normpath(f"{HERE}/../../crates/piboot/out/piboot"))
-SECONDS = 60
+SECONDS = int(os.environ.get("SECONDS_MOST", "60"))
 
 # Each known difference, by the word that gives the plain program EDK2's rule for it, under the
 # phases whose boots can show it; docs/COMPARISON.md has a row for each.
@@ -43,8 +43,8 @@ RULES = {
 MOST_RULES = 3
 SAME, UNEXPLAINED = "same", "unexplained"
 # What `pitools follow` makes of the order of EDK2's starts: it boots so, and prints EDK2's trace; it boots so, and other lines differ;
-# it boots so, and may start another module where EDK2 starts none any more; or one of the starts may not be.
-AS_EDK2, OTHER_LINES, MORE_STARTS, NO_ORDER = "as EDK2", "other lines", "more starts", "no order"
+# it boots so, and may start another module where EDK2 starts none any more; one of the starts may not be; or no answer in time.
+AS_EDK2, OTHER_LINES, MORE_STARTS, NO_ORDER, NO_ANSWER = "as EDK2", "other lines", "more starts", "no order", "no answer"
 NO, REFUSALS = 11, (1, 2, 3, 4, 5, 12)  # statuses of `pitools follow`: the order is none of a boot, or files, images or names are refused
 AS_BUILT = "# as built"
 
@@ -55,7 +55,7 @@ class Outcome:
 
     word: str  # SAME, UNEXPLAINED, or the rules that explain it
     difference: str
-    followed: str  # AS_EDK2, OTHER_LINES, MORE_STARTS or NO_ORDER
+    followed: str  # AS_EDK2 or one of the other four
 
 
 def output(words: list[str], folder: str, **more: str) -> list[str]:
@@ -115,7 +115,7 @@ def followed(folder: str, audit: list[str], theirs: Trace) -> str:
     try:
         done = subprocess.run([PITOOLS, "follow", "plan", "order"], cwd=folder, stdout=subprocess.PIPE, stderr=subprocess.DEVNULL, timeout=SECONDS)
     except subprocess.TimeoutExpired:
-        return NO_ORDER
+        return NO_ANSWER
     lines = done.stdout.decode(errors="replace").split("\n")[:-1]
     if done.returncode in (NO, *REFUSALS):
         return NO_ORDER
