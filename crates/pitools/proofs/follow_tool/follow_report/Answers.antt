@@ -1,11 +1,11 @@
-use Rattle.std.proofs.Common.{◌≡◌, ℕ, List, Result, Ok, Err, IfOk, arith}
+use Rattle.std.proofs.Common.{◌≡◌, ℕ, List, Result, Ok, Err, IfOk, arith, refl}
 use Rattle.pi_base.specs.declared.memory.OutOfMemory.{OutOfMemory}
 use Rattle.boot_plan.specs.declared.plan.Plan.{Plan}
 use Rattle.start_order.specs.declared.lines.StartOrder.{StartOrder}
 use Rattle.start_order.specs.OrderText.{IsOrder}
 use Rattle.pitools.specs.declared.report.Report.{Report}
 use Rattle.pitools.specs.Ends.{Tells}
-use Rattle.pitools.specs.FollowReport.{FollowReport, OrderReport, in_order}
+use Rattle.pitools.specs.FollowReport.{FollowReport, OrderReport, bad_order, in_order}
 use Rattle.pitools.proofs.follow_tool.follow_report.Goals as goal
 
 -- what an order leads to, its text does
@@ -15,6 +15,9 @@ of_text (Err e) plan images text order is tells = tt
 
 pub returns-in-Ok : goal.returns-in-Ok
 returns-in-Ok c = of_text c.order_report.result c.args.job.plan c.args.job.images c.args.text.now c.in-Ok.order c.in-Ok.ensures.order c.order_report.ensures
+
+pub returns-in-Err-Bad : goal.returns-in-Err-Bad
+returns-in-Err-Bad c = rw c.in-Err-Bad.line-is (bad_order c.in-Err-Bad.line (rw c.in-Err-Bad.field-0-is at c.in-Err-Bad.ensures.fault) refl refl, refl)
 
 pub order_report-requires-clause-few : goal.order_report-requires-clause-few
 order_report-requires-clause-few c =
