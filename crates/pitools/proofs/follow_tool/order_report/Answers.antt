@@ -1,11 +1,18 @@
-use Rattle.std.proofs.Common.{Ok, refl, subst}
+use Rattle.std.proofs.Common.{ℕ, List, [], Some, Ok, refl, sym, subst}
+use Rattle.boot_model.specs.PlanBoard.{board_of}
+use Rattle.order_check.specs.Answer.{FollowsTo}
 use Rattle.pitools.specs.FollowReport.{boots, image_refused, twins}
 use Rattle.pitools.proofs.follow_tool.order_report.Goals as goal
 
 pub returns-in-Ok : goal.returns-in-Ok
 returns-in-Ok c =
+    let job = c.args.job in
     let is = c.in-Ok.ensures.row in
-    (boots is.catalog is.sound is.apart c.in-Ok.followed c.into_text.result is.is refl refl, refl)
+    let followed = c.in-Ok.followed in
+    let lines = c.into_text.result in
+    let P : List ℕ → List ℕ → Type 0 = λ before text. FollowsTo (board_of job.plan is.catalog job.images) is.catalog job.plan.fuel c.args.order.now (record { old = Some before; new = Some text }) (Ok followed) in
+    let here : P [] lines = subst (λ before. P before lines) c.new-held.ensures.text (subst (P c.new-held.result.text) (sym c.into_text.ensures) is.is) in
+    (boots is.catalog is.sound is.apart followed lines here refl refl, refl)
 
 pub returns-in-Err-Image : goal.returns-in-Err-Image
 returns-in-Err-Image c =
