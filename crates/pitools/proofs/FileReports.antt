@@ -1,5 +1,5 @@
 -- The reports of the lines with which the reading of files is refused.
-use Rattle.std.proofs.Common.{◌≡◌, ◌⊎◌, ℕ, List, Option, inl, inr, refl, sym, subst}
+use Rattle.std.proofs.Common.{◌≡◌, ℕ, List, Option, inl, inr, refl, sym, subst}
 use Rattle.boot_model.specs.declared.line.Line.{Line}
 use Rattle.boot_model.specs.declared.line.Line.TheVariants as L
 use Rattle.plan_files.specs.Job.{IsNamedIn, IsTextRefusal, text_long, text_refused}

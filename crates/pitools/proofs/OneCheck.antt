@@ -23,12 +23,11 @@ use Rattle.plan_files.specs.Job.{IsJobOf, IsNamedIn, IsTextRefusal, text_long, t
 use Rattle.plan_files.specs.Reading.{AreImages, IsLongVolume}
 use Rattle.pitools.specs.CheckReport.{CheckReport, TextsOutcome, VerdictReport, checked, image_refused, no, twins, yes}
 use Rattle.boot_core.specs.declared.handing_on.HandOff.TheVariants.{Hobs, Ended}
-use Rattle.boot_core.specs.HandOff.{HandsOn, IsHandOff, result_of}
+use Rattle.boot_core.specs.HandOff.{HandsOn, result_of}
 use Rattle.boot_model.specs.PeiMachine.{PeiMachine}
 use Rattle.boot_model.specs.PeiRun.{pei_end}
 use Rattle.boot_model.specs.declared.line.RunEnd.{RunEnd}
 use Rattle.boot_model.specs.declared.phase_end.PeiEnd.{PeiEnd}
-use Rattle.boot_model.specs.declared.phase_end.PeiEnd.TheVariants as P
 use Rattle.pitools.specs.HobsReport.{HobsReport, bad_image, ended, handed}
 use Rattle.pitools.specs.JobOutcome.{JobOutcome, JobReport, job_long, job_plan, job_read, no_job}
 use Rattle.pitools.specs.ReportText.{end_status}

@@ -1,5 +1,5 @@
 -- The texts of a plan and of an order of starts have one report.
-use Rattle.std.proofs.Common.{◌≡◌, ◌+◌, ◌-◌, ◌^◌, ◌≤◌, ℕ, List, [], ◌++◌, Option, Some, Result, Ok, length, refl, sym, ap, ◌∙◌, subst, arith}
+use Rattle.std.proofs.Common.{◌≡◌, ◌+◌, ◌-◌, ◌^◌, ◌≤◌, ℕ, List, ◌++◌, Option, length, sym, ap, ◌∙◌, subst, arith}
 use Rattle.pi_base.specs.Field.{AreBytes}
 use Rattle.pi_base.specs.Lists.{Each}
 use Rattle.boot_plan.specs.declared.plan.Plan.{Plan}
@@ -11,8 +11,6 @@ use Rattle.module_names.specs.Named.{IsFirstWithTwins}
 use Rattle.plan_files.specs.Job.{IsNamedIn}
 use Rattle.start_order.specs.declared.lines.StartOrder.{StartOrder}
 use Rattle.start_order.specs.OrderText.{IsFirstBad, IsOrder}
-use Rattle.order_check.specs.declared.following.Followed.{Followed}
-use Rattle.order_check.specs.Answer.{FollowsTo}
 use Rattle.order_check.specs.OneBoot.{OneBoot}
 use Rattle.pitools.specs.FollowReport.{BootsSo, FollowReport, OrderReport, OrderTextsOutcome, bad_order, boots, image_refused, in_order, order_limit, twins}
 use Rattle.pitools.specs.FollowText.{last_text, order_line}

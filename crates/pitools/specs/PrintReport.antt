@@ -4,7 +4,6 @@ use Rattle.std.specs.Prelude.{◌≡◌, ◌≢◌, ℕ, List}
 use Rattle.fv_volume.specs.declared.fault.VolFault.{VolFault}
 use Rattle.fv_volume.specs.declared.fault.VolCause.TheVariants.{Memory}
 use Rattle.fv_volume.specs.Volume.{IsFirstFault}
-use Rattle.catalog_model.specs.declared.image_fault.ImageFault.{ImageFault}
 use Rattle.catalog_model.specs.ImageCause.{volume_cause}
 use Rattle.volume_print.specs.Description.{IsTextOf}
 use Rattle.pitools.specs.declared.status.ToolStatus.{ToolStatus}

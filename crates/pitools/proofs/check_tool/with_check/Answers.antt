@@ -3,7 +3,7 @@ use Rattle.plan_files.specs.Job.{IsNamedIn}
 use Rattle.plan_files.specs.Reading.{plan_limit}
 use Rattle.pitools.specs.FileReading.{IsRead, LongOutcome}
 use Rattle.pitools.specs.Ends.{Reports}
-use Rattle.pitools.specs.CheckReport.{CheckNames, CheckOutcome, TextsOutcome, both_read, is_plan, is_trace, is_volume, plan_long, trace_limit, trace_long}
+use Rattle.pitools.specs.CheckReport.{CheckNames, CheckOutcome, TextsOutcome, both_read, is_trace, is_volume, trace_limit, trace_long}
 use Rattle.pitools.proofs.Ending.{reports_behind, reports_ok, reports_up}
 use Rattle.pitools.proofs.check_tool.with_check.Goals as goal
 

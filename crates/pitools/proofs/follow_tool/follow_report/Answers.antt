@@ -1,4 +1,4 @@
-use Rattle.std.proofs.Common.{◌≡◌, ℕ, List, Result, Ok, Err, IfOk, arith, refl}
+use Rattle.std.proofs.Common.{ℕ, List, Result, Ok, Err, IfOk, arith, refl}
 use Rattle.pi_base.specs.declared.memory.OutOfMemory.{OutOfMemory}
 use Rattle.boot_plan.specs.declared.plan.Plan.{Plan}
 use Rattle.start_order.specs.declared.lines.StartOrder.{StartOrder}

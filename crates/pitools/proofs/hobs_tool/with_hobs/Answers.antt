@@ -2,8 +2,8 @@ use Rattle.std.proofs.Common.{◌≡◌, ℕ, List, Option, IfOk, subst}
 use Rattle.plan_files.specs.Job.{IsNamedIn}
 use Rattle.plan_files.specs.Reading.{plan_limit}
 use Rattle.pitools.specs.Ends.{Reports}
-use Rattle.pitools.specs.FileReading.{IsRead, LongOutcome}
-use Rattle.pitools.specs.HobsReport.{HobsNames, HobsOutcome, HobsReport, of_plan, of_volume, plan_read, too_long}
+use Rattle.pitools.specs.FileReading.{IsRead}
+use Rattle.pitools.specs.HobsReport.{HobsNames, HobsOutcome, HobsReport, of_volume, plan_read}
 use Rattle.pitools.specs.JobOutcome.{JobOutcome}
 use Rattle.pitools.proofs.Ending.{reports_ok}
 use Rattle.pitools.proofs.hobs_tool.with_hobs.Goals as goal

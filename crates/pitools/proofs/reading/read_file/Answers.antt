@@ -1,4 +1,3 @@
-use Rattle.std.proofs.Common.{◌≡◌}
 use Rattle.plan_files.specs.Reading.{FilesTrail}
 use Rattle.pitools.proofs.FileReports.{file_refusal, file_reports}
 use Rattle.pitools.proofs.reading.read_file.Goals as goal
