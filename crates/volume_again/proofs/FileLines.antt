@@ -1,32 +1,23 @@
 -- The lines of files say the files again.
-use Rattle.std.proofs.Common.{◌≡◌, ◌⊎◌, inl, inr, ℕ, zero, suc, ◌+◌, ◌*◌, ◌<◌, ◌/◌, ◌%◌, ◌&&◌, ◌||◌, Bool, true, false, List, [], ◌∷◌, ◌++◌, length, map, take, drop, flat_map, Option, Some, None, Ok, refl, sym, ap, ◌∙◌, subst, arith, append_assoc, All}
-use Rattle.std.specs.Prelude.{⊤, codes, ◌==◌, bytes_eq}
+use Rattle.std.proofs.Common.{◌≡◌, inl, inr, ℕ, true, List, [], ◌∷◌, ◌++◌, map, flat_map, Ok, refl, sym, ap, subst, append_assoc}
+use Rattle.std.specs.Prelude.{codes, ◌==◌}
 use Rattle.std.specs.List.{list_any, AllByRecursion}
 use Rattle.std.proofs.lemmas.Bool.{and_parts, eqb-true}
-use Rattle.std.proofs.lemmas.Bool.Decides.{nat_tests}
 use Rattle.std.proofs.lemmas.List.{append-nil}
-use Rattle.std.proofs.lemmas.List.Elements.{All-head, All-tail}
-use Rattle.hex.specs.Hex.{IsBytes}
-use Rattle.pi_base.specs.declared.guid.Guid.{Guid}
 use Rattle.pi_base.specs.declared.phase.Phase.{Phase}
 use Rattle.act_code.specs.declared.action.Action.{Action}
-use Rattle.act_code.specs.declared.script.Script.{Script}
 use Rattle.asm_text.specs.ActionText.{action_text}
 use Rattle.asm_text.specs.ScriptText.{line, block_text, action_line, block_lines}
 use Rattle.script_words.proofs.PrintedActions.{IsGoodAction, action_read}
 use Rattle.fv_build.specs.declared.new_file.NewFile.{NewFile}
 use Rattle.fv_build.specs.declared.new_file.NewSection.{NewSection}
-use Rattle.fv_build.specs.declared.new_file.Body.TheVariants.{Sections}
-use Rattle.fv_build.specs.declared.attributes.FileAttributes.{FileAttributes}
 use Rattle.fv_build.specs.Reading.{AreEach}
-use Rattle.volume_text.specs.declared.statement.Statement.TheVariants as said
 use Rattle.volume_text.specs.Open.{is_script_of}
 use Rattle.volume_text.specs.Script.{action_at, said_by}
-use Rattle.volume_text.specs.Volume.{SaysLine, SayBlocks, no_block, block, action, SayFiles}
-use Rattle.volume_print.specs.Spelling.{holds_volume}
+use Rattle.volume_text.specs.Volume.{SayBlocks, no_block, block, action}
 use Rattle.volume_again.specs.Again.{IsSectionAgain}
 use Rattle.volume_again.proofs.TextLines.{Has, has_none, has_line, has_both}
-use Rattle.volume_again.proofs.SaidLines.{Says, block_says, action_says}
+use Rattle.volume_again.proofs.SaidLines.{block_says, action_says}
 
 -- the lines of a script
 abbrev pub block_texts : List Action → List (List ℕ)

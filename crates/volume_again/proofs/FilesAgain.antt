@@ -1,21 +1,15 @@
 -- A printed text says the files again of which it is the text.
-use Rattle.std.proofs.Common.{◌≡◌, inl, inr, ℕ, zero, suc, ◌<◌, ◌^◌, ◌%◌, ◌&&◌, Bool, true, false, List, [], ◌∷◌, ◌++◌, length, map, flat_map, Option, Some, None, Ok, refl, sym, ap, ◌∙◌, subst, arith, append_assoc, All, decimal}
-use Rattle.std.specs.Prelude.{⊤, codes, ◌==◌}
-use Rattle.std.specs.List.{list_any, AllByRecursion}
+use Rattle.std.proofs.Common.{◌≡◌, inl, inr, ℕ, zero, suc, ◌<◌, ◌^◌, ◌%◌, ◌&&◌, true, List, [], ◌∷◌, ◌++◌, length, map, flat_map, Option, Some, None, Ok, refl, sym, ap, ◌∙◌, subst, append_assoc, All}
+use Rattle.std.specs.Prelude.{codes, ◌==◌}
 use Rattle.std.proofs.lemmas.Bool.{and_parts, eqb-true}
 use Rattle.std.proofs.lemmas.List.{append-nil}
 use Rattle.std.proofs.lemmas.List.Elements.{All-head, All-tail}
 use Rattle.hex.specs.Hex.{IsBytes, encode_lower}
 use Rattle.pi_base.specs.declared.guid.Guid.{Guid}
-use Rattle.pi_base.specs.declared.phase.Phase.{Phase}
 use Rattle.pi_base.specs.WordText.{guid_text}
-use Rattle.act_code.specs.declared.script.Script.{Script}
-use Rattle.act_code.specs.declared.action.Action.{Action}
-use Rattle.act_code.specs.Script.{IsScript}
 use Rattle.asm_text.specs.ExpressionText.{expression_text}
 use Rattle.asm_text.specs.ScriptText.{line, block_lines}
 use Rattle.catalog_model.specs.APriori.{guids_in}
-use Rattle.depex_code.specs.declared.depex.Depex.{Depex}
 use Rattle.depex_code.specs.Expression.{instructions, bytes_of}
 use Rattle.fv_build.specs.declared.new_file.NewFile.{NewFile}
 use Rattle.fv_build.specs.declared.new_file.NewSection.{NewSection}
@@ -24,18 +18,17 @@ use Rattle.fv_build.specs.declared.new_file.Body.TheVariants.{Sections, Bytes}
 use Rattle.fv_build.specs.declared.attributes.FileAttributes.{FileAttributes}
 use Rattle.fv_build.specs.declared.volume_header.VolumeForm.{VolumeForm}
 use Rattle.fv_build.specs.Reading.{AreEach}
-use Rattle.volume_text.specs.declared.statement.Statement.TheVariants as said
 use Rattle.volume_text.specs.declared.volume.OpenVolume.{OpenVolume}
 use Rattle.volume_text.specs.Words.{is_length}
-use Rattle.volume_text.specs.Open.{new_file, is_script_of, has_part, depex_type, built_of}
+use Rattle.volume_text.specs.Open.{new_file, depex_type, built_of}
 use Rattle.volume_text.specs.Step.{section_of}
-use Rattle.volume_text.specs.Volume.{SayFiles, no_file, named, file, bodied, section, depex, script, volume, SaysVolume}
+use Rattle.volume_text.specs.Volume.{SayFiles, no_file, named, file, bodied, section, depex, script, volume}
 use Rattle.volume_text.specs.Text.{numbered, Says as TextSays, Leads}
-use Rattle.volume_print.specs.Spelling.{phase_word, guid_word as told_guid, is_a_priori, is_guid_list, SaysExpression, SaysScript, SaysVolume as IsInside, holds_volume, expression_line, guids_line, script_lines as script_text, section_line, body_line, head_line, volume_line, name_line, IsSectionText, as_volume, as_expression, as_guids, as_script, as_bytes, AreSectionTexts, whole, IsBodyText, host_of, IsFileText, IsVolumeText}
+use Rattle.volume_print.specs.Spelling.{phase_word, guid_word as told_guid, is_a_priori, volume_line, name_line, IsSectionText, as_volume, as_expression, as_guids, as_script, as_bytes, AreSectionTexts, whole, IsBodyText, host_of, IsFileText, IsVolumeText}
 use Rattle.volume_print.specs.Description.{form_in, IsInner}
-use Rattle.volume_again.specs.Again.{IsNameOfBytes, IsOfBytes, IsBodyOfBytes, IsFileOfBytes, IsSectionAgain, IsBodyAgain, IsFileAgain, SaysAgain}
+use Rattle.volume_again.specs.Again.{IsNameOfBytes, IsOfBytes, IsBodyOfBytes, IsFileOfBytes, IsSectionAgain, IsFileAgain, SaysAgain}
 use Rattle.volume_again.proofs.TextLines.{IsLine, Has, has_none, has_line, has_both, has_all, has_own}
-use Rattle.volume_again.proofs.SaidLines.{Says, volume_text, volume_says, name_says, file_text, file_says, section_text, section_says, body_says, guids_say, depex_says, script_says as script_begins, end_says}
+use Rattle.volume_again.proofs.SaidLines.{volume_text, volume_says, name_says, file_text, file_says, section_text, section_says, body_says, guids_say, depex_says, script_says as script_begins, end_says}
 use Rattle.volume_again.proofs.FileLines.{block_texts, script_says, script_has, same_scripts}
 use Rattle.volume_again.proofs.Trees.{expression_is}
 use Rattle.volume_again.proofs.GuidRuns.{run_is, guids_are}

@@ -1,7 +1,7 @@
 -- What the lines of a printed text say.
-use Rattle.std.proofs.Common.{◌≡◌, ℕ, zero, suc, ◌+◌, ◌*◌, ◌-◌, ◌^◌, ◌<◌, ◌≤◌, ◌/◌, ◌%◌, ◌&&◌, Bool, true, false, List, [], ◌∷◌, ◌++◌, length, map, take, drop, flat_map, Option, Some, None, Result, Ok, Err, refl, sym, ap, ◌∙◌, arith, decimal, subst, append_assoc}
-use Rattle.std.specs.Prelude.{⊤, nat_le, nat_lt, codes, ◌==◌, if◌then◌else◌}
-use Rattle.std.specs.List.{list_all, AllByRecursion}
+use Rattle.std.proofs.Common.{◌≡◌, ℕ, zero, suc, ◌^◌, ◌<◌, ◌≤◌, Bool, true, false, List, [], ◌∷◌, ◌++◌, length, map, flat_map, Some, Result, Ok, refl, sym, ap, ◌∙◌, arith, decimal, subst, append_assoc}
+use Rattle.std.specs.Prelude.{nat_le, nat_lt, codes, ◌==◌, if◌then◌else◌}
+use Rattle.std.specs.List.{AllByRecursion}
 use Rattle.std.proofs.lemmas.Bool.{and_parts, eqb-true, false≢true}
 use Rattle.std.proofs.lemmas.Bool.Decides.{nat_tests}
 use Rattle.std.proofs.lemmas.List.{append-nil}
@@ -41,7 +41,7 @@ use Rattle.volume_text.specs.Volume.{SaysLine}
 use Rattle.volume_text.specs.Text.{is_passed_over}
 use Rattle.volume_print.specs.Spelling.{phase_word, system_word, type_word, fixed_words, alignment_words, attribute_words, guid_word as told_guid}
 use Rattle.fv_section.specs.declared.section_type.TheConstants.{RAW}
-use Rattle.words_again.proofs.LineWords.{IsClean, IsWord, IsClear, Stands, clear_of, both_clear, spaced_clear, word_then, words_spaced, stands_spaced}
+use Rattle.words_again.proofs.LineWords.{IsWord, IsClear, clear_of, both_clear, spaced_clear, word_then, words_spaced, stands_spaced}
 use Rattle.words_again.proofs.Characters.{decimal_word, hexadecimal_word, encoded_inner, encoded_word, guid_word}
 use Rattle.words_again.proofs.ValueWords.{decimal_read, hexadecimal_read, guid_read}
 use Rattle.depex_words.proofs.PrintedWords.{expression_is, expression_clear}

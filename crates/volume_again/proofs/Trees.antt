@@ -1,9 +1,8 @@
 -- The GUIDs of an expression whose spelling is bytes are sixteen bytes each.
-use Rattle.std.proofs.Common.{◌≡◌, ℕ, Bool, true, false, List, [], ◌∷◌, ◌++◌, length, map, flat_map, refl, sym, ap, ◌∙◌, subst}
+use Rattle.std.proofs.Common.{true, false, List, [], ◌∷◌, ◌++◌, map, subst}
 use Rattle.std.specs.List.{AllByRecursion}
 use Rattle.std.proofs.lemmas.List.{map-append}
 use Rattle.hex.specs.Hex.{IsBytes}
-use Rattle.pi_base.specs.declared.phase.Phase.{Phase}
 use Rattle.depex_code.specs.declared.opcode.Opcode.{Opcode}
 use Rattle.depex_code.specs.declared.opcode.Opcode.TheVariants as opcode
 use Rattle.depex_code.specs.declared.instruction.Instruction.{Instruction}

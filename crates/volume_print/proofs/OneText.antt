@@ -3,7 +3,7 @@ use Rattle.std.proofs.Common.{◌≡◌, ◌⊎◌, inl, inr, ℕ, zero, suc, �
 use Rattle.std.proofs.lemmas.Bool.{and_parts}
 use Rattle.std.proofs.lemmas.Bool.Decides.{nat_tests}
 use Rattle.std.proofs.lemmas.Option.{same_Some}
-use Rattle.std.specs.Prelude.{◌-◌, ◌==◌, slice_index, IfOk, Result, Ok, Err}
+use Rattle.std.specs.Prelude.{◌-◌, ◌==◌, IfOk, Result, Ok, Err}
 use Rattle.pi_base.specs.declared.memory.OutOfMemory.{OutOfMemory}
 use Rattle.pi_base.specs.declared.guid.Guid.{Guid}
 use Rattle.pi_base.specs.declared.phase.Phase.{Phase}
@@ -18,16 +18,14 @@ use Rattle.fv_build.specs.declared.new_file.NewFile.{NewFile}
 use Rattle.fv_build.specs.declared.new_file.NewSection.{NewSection}
 use Rattle.fv_build.specs.declared.new_file.Body.{Body}
 use Rattle.fv_build.specs.declared.new_file.Body.TheVariants.{Sections, Bytes}
-use Rattle.fv_build.specs.Attributes.{attributes_in}
 use Rattle.fv_build.specs.Reading.{AreEach}
 use Rattle.depex_code.specs.declared.depex.Depex.{Depex}
 use Rattle.depex_code.specs.Expression.{Reads}
 use Rattle.act_code.specs.declared.script.Script.{Script}
 use Rattle.act_code.specs.Script.{IsScript}
-use Rattle.volume_text.specs.Open.{depex_type}
 use Rattle.volume_text.specs.Text.{Leads}
 use Rattle.volume_print.specs.declared.form.Host.{Host}
-use Rattle.volume_print.specs.Spelling.{IsExpressionOf, SaysExpression, SaysScript, is_a_priori, is_guid_list, holds_volume, expression_line, script_lines, IsSectionText, as_volume, as_expression, as_guids, as_script, as_bytes, AreSectionTexts, whole, IsBodyText, head_line, host_of, IsFileText, volume_line, name_line, IsVolumeText}
+use Rattle.volume_print.specs.Spelling.{SaysExpression, is_a_priori, is_guid_list, holds_volume, expression_line, script_lines, IsSectionText, as_volume, as_expression, as_guids, as_script, as_bytes, AreSectionTexts, whole, IsBodyText, head_line, host_of, IsFileText, volume_line, name_line, IsVolumeText}
 use Rattle.volume_print.specs.Description.{section_in, IsBodyIn, IsFileIn, form_in, IsTextBy, IsInner, IsTextOf}
 use Rattle.volume_print.specs.Finding.{depex_phase, FindsVolume, FindsText, TellsVolume}
 use Rattle.volume_print.proofs.Forms.{phase_of, no_phase}

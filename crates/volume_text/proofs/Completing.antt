@@ -1,6 +1,5 @@
 -- Where the lines of a text say a volume, they lead to it.
-use Rattle.std.proofs.Common.{◌≡◌, ℕ, Bool, true, false, List, [], ◌∷◌, ◌++◌, map, Option, Some, None, Result, Ok, Err, refl, sym, ap, subst, ◌∙◌, append_assoc}
-use Rattle.std.proofs.lemmas.List.{append-nil}
+use Rattle.std.proofs.Common.{◌≡◌, ℕ, List, [], ◌∷◌, ◌++◌, map, Option, Some, None, Ok, refl, sym, ap, subst, ◌∙◌}
 use Rattle.pi_base.specs.declared.guid.Guid.{Guid}
 use Rattle.pi_base.specs.declared.phase.Phase.{Phase}
 use Rattle.fv_section.specs.declared.section_type.TheConstants.{RAW, VOLUME_IMAGE}
@@ -13,12 +12,11 @@ use Rattle.volume_text.specs.declared.statement.Statement.TheVariants as said
 use Rattle.volume_text.specs.declared.volume.OpenVolume.{OpenVolume}
 use Rattle.volume_text.specs.declared.step.State.{State}
 use Rattle.volume_text.specs.declared.step.State.TheVariants.{Begin, Filling, Writing, Done}
-use Rattle.volume_text.specs.declared.fault.Fault.{Fault}
-use Rattle.volume_text.specs.Reading.{◌>>=◌, at}
-use Rattle.volume_text.specs.Open.{last_of, holding, with_bytes, new_file, pad_file, depex_type, has_part, has_script, built_of}
+use Rattle.volume_text.specs.Reading.{at}
+use Rattle.volume_text.specs.Open.{holding, new_file, pad_file}
 use Rattle.volume_text.specs.Script.{script_of}
 use Rattle.volume_text.specs.Step.{Steps, Takes, section_of, nested_in, outside}
-use Rattle.volume_text.specs.Volume.{SaysLine, SayBlocks, no_block, block, action, SayFiles, no_file, named, padded, file, bodied, section, depex, script, volume, SaysVolume}
+use Rattle.volume_text.specs.Volume.{SaysLine, SayBlocks, no_block, block, action, SayFiles, no_file, named, padded, file, bodied, section, depex, script, volume}
 use Rattle.volume_text.specs.Text.{numbered, Goes, Says, Leads}
 use Rattle.volume_text.proofs.Lasts.{last_push}
 use Rattle.volume_text.proofs.Wholeness.{none_wrong}

@@ -20,7 +20,7 @@ use Rattle.volume_text.specs.declared.step.State.{State}
 use Rattle.volume_text.specs.declared.step.State.TheVariants.{Begin, Filling, Writing, Done}
 use Rattle.volume_text.specs.Reading.{◌>>=◌, at, onward, only_if}
 use Rattle.volume_text.specs.Line.{Reads}
-use Rattle.volume_text.specs.Open.{last_of, holding, with_bytes, with_parts, with_files, with_last, with_section, new_file, pad_file, named_over, with_name, depex_type, has_part, has_script, only_part, part_checked, only_first, script_checked, built_of}
+use Rattle.volume_text.specs.Open.{last_of, holding, with_bytes, with_parts, with_files, with_last, new_file, pad_file, named_over, with_name, depex_type, has_part, has_script, only_part, part_checked, only_first, script_checked, built_of}
 use Rattle.volume_text.specs.Script.{script_of, into_last, action_at, IsScriptBody}
 use Rattle.volume_text.specs.Step.{section_of, new_volume, begun, filling, nested_in, closed_in, filled, written, goes_on, TakesInScript, Takes, TakesRead}
 use Rattle.volume_text.specs.Volume.{SaysLine, SayBlocks, no_block, block, action, SayFiles, no_file, named, padded, file, bodied, section, depex, script, volume, SaysVolume}

@@ -1,19 +1,17 @@
 -- With a script in the grammar nothing is wrong at any of its lines.
-use Rattle.std.proofs.Common.{◌≡◌, ◌≢◌, ℕ, zero, suc, ◌+◌, ◌-◌, ◌<◌, ◌≤◌, Bool, true, false, List, [], ◌∷◌, ◌++◌, length, Option, Some, None, refl, sym, ap, ◌∙◌, subst, arith, length-append, append_assoc}
-use Rattle.std.specs.Prelude.{slice_get, nat_le, nat_lt, not, ◌==◌, if◌then◌else◌, ◌&&◌}
+use Rattle.std.proofs.Common.{◌≡◌, ℕ, suc, ◌+◌, ◌-◌, ◌<◌, ◌≤◌, true, false, List, [], ◌∷◌, ◌++◌, length, Option, Some, None, refl, ap, ◌∙◌, subst, arith, length-append}
+use Rattle.std.specs.Prelude.{slice_get, nat_le, nat_lt, ◌==◌}
 use Rattle.std.specs.List.{list_all, AllByRecursion}
 use Rattle.std.proofs.lemmas.Bool.{and_parts}
 use Rattle.std.proofs.lemmas.Bool.Decides.{nat_tests}
 use Rattle.pi_base.specs.declared.phase.Phase.{Phase}
 use Rattle.act_code.specs.declared.action.Action.{Action}
 use Rattle.act_code.specs.declared.script.Script.{Script}
-use Rattle.act_code.specs.Format.{registers_in, blocks_in, is_within}
-use Rattle.act_code.specs.Index.{is_indexed, has_room}
+use Rattle.act_code.specs.Format.{registers_in}
 use Rattle.act_code.specs.Script.{IsSound, AreSound, IsBlock, AreBlocks, IsInGrammar}
 use Rattle.act_code.specs.ScriptReading.{ends_in_ret}
 use Rattle.act_code.specs.Table.{format_of, code_of_action, operands}
 use Rattle.script_words.specs.declared.script.ScriptCause.{ScriptCause}
-use Rattle.script_words.specs.declared.script.ScriptCause.TheVariants.{NoBlock, NoRet, Jump, NoSuchBlock, Full}
 use Rattle.script_words.specs.Script.{names_below, action_cause, action_causes, may_end, block_cause, end_cause, block_causes, causes_behind, line_causes, first_fault, HasNoFault}
 
 is_most : (n m : ℕ) → nat_le n m ≡ true → n ≤ m

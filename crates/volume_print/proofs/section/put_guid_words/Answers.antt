@@ -1,5 +1,4 @@
 use Rattle.std.proofs.Common.{◌+◌, ◌++◌, arith, ap, ◌∙◌}
-use Rattle.pi_base.specs.Guids.{guid_at}
 use Rattle.pi_base.specs.WordText.{guid_text}
 use Rattle.volume_print.proofs.Lists.{guids_more}
 use Rattle.volume_print.proofs.section.put_guid_words.Goals as goal

@@ -1,5 +1,5 @@
 use Rattle.fv_build.proofs.Outcomes.{on_ok}
-use Rattle.std.proofs.Common.{◌≡◌, List, ◌++◌, map, sym, ap, ◌∙◌, subst}
+use Rattle.std.proofs.Common.{List, ◌++◌, map, sym, ap, ◌∙◌, subst}
 use Rattle.fv_section.specs.declared.section.Section.{Section}
 use Rattle.fv_volume.specs.declared.file.FfsFile.{FfsFile}
 use Rattle.fv_build.specs.declared.new_file.NewSection.{NewSection}
