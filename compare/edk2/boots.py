@@ -45,7 +45,7 @@ SAME, UNEXPLAINED = "same", "unexplained"
 # What `pitools follow` makes of the order of EDK2's starts: it boots so, and prints EDK2's trace; it boots so, and other lines differ;
 # it boots so, and may start another module where EDK2 starts none any more; one of the starts may not be; or no answer in time.
 AS_EDK2, OTHER_LINES, MORE_STARTS, NO_ORDER, NO_ANSWER = "as EDK2", "other lines", "more starts", "no order", "no answer"
-NO, REFUSALS = 11, (1, 2, 3, 4, 5, 12)  # statuses of `pitools follow`: the order is none of a boot, or files, images or names are refused
+NO, REFUSALS = 11, (1, 2, 3, 4, 5, 12, 16)  # statuses of `pitools follow`: the order is none of a boot, or files, images, names or it are refused
 AS_BUILT = "# as built"
 
 
