@@ -1,0 +1,5 @@
+mod Named
+mod Sums
+mod Places
+mod Wholes
+mod Texts
