@@ -1,5 +1,5 @@
 -- The header and the extended header of a built volume with a name are read as themselves, and the volume with them.
-use Rattle.std.proofs.Common.{◌≡◌, ℕ, ◌+◌, ◌%◌, ◌<◌, ◌≤◌, ◌^◌, Bool, true, false, cond, List, ◌∷◌, ◌++◌, length, take, drop, sum, replicate, Option, Some, None, Result, Ok, Err, refl, sym, ap, ◌∙◌, arith, append_assoc, subst}
+use Rattle.std.proofs.Common.{◌≡◌, ℕ, ◌+◌, ◌%◌, ◌<◌, ◌≤◌, ◌^◌, Bool, true, false, cond, List, [], ◌∷◌, ◌++◌, length, take, drop, sum, replicate, Option, Some, None, Result, Ok, Err, refl, sym, ap, ◌∙◌, arith, append_assoc, subst}
 use Rattle.std.proofs.lemmas.Bool.Decides.{nat_tests}
 use Rattle.std.proofs.Math.Seq.{take-length}
 use Rattle.std.specs.Prelude.{bit_and, nat_lt, ◌==◌, not}
@@ -7,16 +7,11 @@ use Rattle.pi_base.specs.declared.guid.Guid.{Guid}
 use Rattle.pi_base.specs.Field.{little_number, little_bytes, words_of}
 use Rattle.pi_base.specs.Guids.{guid_at}
 use Rattle.pi_base.proofs.FieldLaws.{little_number-little_bytes}
-use Rattle.fv_volume.specs.declared.extended_header.ExtendedHeader.{ExtendedHeader}
 use Rattle.fv_volume.specs.declared.fault.VolFault.{VolFault}
 use Rattle.fv_volume.specs.declared.fault.VolCause.TheVariants.{Short, Length, HeaderLength, HeaderSum}
 use Rattle.fv_volume.specs.declared.file.FfsFile.{FfsFile}
-use Rattle.fv_volume.specs.declared.frame.Frame.{Frame}
-use Rattle.fv_volume.specs.declared.volume_header.VolumeHeader.{VolumeHeader}
-use Rattle.fv_volume.specs.declared.volume_header.FileSystem.{FileSystem}
-use Rattle.fv_volume.specs.declared.volume_header.FileSystem.TheVariants.{Ffs2, Ffs3}
 use Rattle.fv_volume.specs.declared.volume_header.TheConstants as constant
-use Rattle.fv_volume.specs.VolumeHeader.{volume_header, fault_at, header_fault}
+use Rattle.fv_volume.specs.VolumeHeader.{volume_header, file_system_at, fault_at, header_fault}
 use Rattle.fv_volume.specs.ExtendedHeader.{misplaced, extended_with, extended_header}
 use Rattle.fv_volume.specs.Frame.{frame_or_fault, frame_of}
 use Rattle.fv_volume.specs.Search.{IsListing}
@@ -36,10 +31,14 @@ back_fields attributes len checksum =
 abbrev pub spelled_header : Bool → ℕ → ℕ → ℕ → List ℕ
 spelled_header large attributes len checksum = replicate 16 0 ++ (guid_of large ++ (little_bytes 8 len ++ back_fields attributes len checksum))
 
+-- the type of a value that has no public name
+abbrev TypeOf : {A : Type 0} → A → Type 0
+TypeOf {A} x = A
+
 -- what it says
-abbrev said : Bool → ℕ → ℕ → VolumeHeader
+abbrev said : Bool → ℕ → ℕ → TypeOf (volume_header [])
 said large attributes len =
-    record { file_system = cond large Ffs3 Ffs2; len = len; signature = constant.SIGNATURE; attributes = attributes; header_len = 72; ext_header_at = 96; revision = constant.REVISION }
+    record { file_system = file_system_at (replicate 16 0 ++ guid_of large); len = len; signature = constant.SIGNATURE; attributes = attributes; header_len = 72; ext_header_at = 96; revision = constant.REVISION }
 
 -- bytes that begin with such a header and a name
 pub record BeginsNamed (large : Bool) (attributes len checksum : ℕ) (name : Guid) (rest bytes : List ℕ) : Type 0 where
@@ -94,15 +93,14 @@ length-spelled false attributes len checksum = refl
 name_here : (large : Bool) (attributes len checksum : ℕ) (name : Guid) (rest : List ℕ)
     → drop 96 (spelled_header large attributes len checksum ++ (name_bytes name ++ rest)) ≡ name.0 ++ ((little_bytes 4 20 ++ replicate 4 255) ++ rest)
 name_here large attributes len checksum name rest =
-    drop_behind 24 72 _ _ (drop_text 72 (spelled_header large attributes len checksum) (name_bytes name ++ rest) (sym (length-spelled large attributes len checksum)))
+    let header = spelled_header large attributes len checksum in
+    let behind = name_bytes name ++ rest in
+    drop_behind 24 72 (header ++ behind) behind (drop_text 72 header behind (sym (length-spelled large attributes len checksum)))
     ∙ append_assoc name.0 (little_bytes 4 20 ++ replicate 4 255) rest
-
-abbrev named_till : Guid → ℕ → ExtendedHeader
-named_till name end = record { name = name; end = end }
 
 -- the extended header
 extended_read : (large : Bool) (attributes len checksum : ℕ) (name : Guid) (rest bytes : List ℕ) → BeginsNamed large attributes len checksum name rest bytes
-    → extended_header bytes (said large attributes len) ≡ Ok (Some (named_till name 116))
+    → extended_header bytes (said large attributes len) ≡ Ok (Some (record { name = name; end = 116 }))
 extended_read large attributes len checksum name rest bytes b =
     let here : drop 96 bytes ≡ name.0 ++ ((little_bytes 4 20 ++ replicate 4 255) ++ rest) = ap (drop 96) b.spelled ∙ name_here large attributes len checksum name rest in
     let size : little_number 4 (drop 112 bytes) ≡ 20 =
@@ -111,15 +109,12 @@ extended_read large attributes len checksum name rest bytes b =
     ap (λ xs. let g : Guid = record { 0 = xs } in g) (ap (take 16) here ∙ take_text 16 name.0 ((little_bytes 4 20 ++ replicate 4 255) ++ rest) (sym b.whole)) in
     let room : nat_lt len 116 ≡ false = let least = b.least in grind (arith, nat_tests) in
     ap (λ n. extended_with bytes (said large attributes len) 96 n) size
-    ∙ ap (λ t. cond t misplaced (cond t misplaced (Ok (Some (named_till (guid_at bytes 96) 116))))) room
-    ∙ ap (λ g. Ok (Some (named_till g 116))) is
-
-abbrev frame_named : Bool → ℕ → Guid → Frame
-frame_named large len name = record { len = len; name = Some name; start = 120; format = ones large }
+    ∙ ap (λ t. cond t misplaced (cond t misplaced (Ok (Some (record { name = guid_at bytes 96; end = 116 }))))) room
+    ∙ ap (λ g. cond false misplaced (Ok (Some (record { name = g; end = 116 })))) is
 
 -- the frame
 frame_read : (large : Bool) (attributes len checksum : ℕ) (name : Guid) (rest bytes : List ℕ) → BeginsNamed large attributes len checksum name rest bytes
-    → frame_of bytes ≡ Ok (frame_named large len name)
+    → frame_of bytes ≡ Ok (record { len = len; name = Some name; start = 120; format = ones large })
 frame_read large attributes len checksum name rest bytes b =
     let says = said large attributes len in
     let least = b.least in
@@ -132,15 +127,16 @@ frame_read large attributes len checksum name rest bytes b =
     ∙ ap (λ e. frame_or_fault says None e) (extended_read large attributes len checksum name rest bytes b)
     ∙ by_system large
   where
-    by_system : (large' : Bool) → ◌≡◌ {A = Result Frame VolFault} (frame_or_fault (said large' attributes len) None (Ok (Some (named_till name 116)))) (Ok (frame_named large' len name))
-    by_system true = ap (λ t. let f : Frame = record { len = len; name = Some name; start = 120; format = record { large_files = true; erased = cond t 0 0xff } } in Ok f) b.ones_first
-    by_system false = ap (λ t. let f : Frame = record { len = len; name = Some name; start = 120; format = record { large_files = false; erased = cond t 0 0xff } } in Ok f) b.ones_first
+    by_system : (large' : Bool) → frame_or_fault (said large' attributes len) None (Ok (Some (record { name = name; end = 116 })))
+        ≡ Ok (record { len = len; name = Some name; start = 120; format = ones large' })
+    by_system true = ap (λ t. cond false (frame_of []) (Ok (record { len = len; name = Some name; start = 120; format = record { large_files = true; erased = cond t 0 0xff } }))) b.ones_first
+    by_system false = ap (λ t. cond false (frame_of []) (Ok (record { len = len; name = Some name; start = 120; format = record { large_files = false; erased = cond t 0 0xff } }))) b.ones_first
 
 -- the volume with this name and these files
 pub volume_read : (large : Bool) (attributes len checksum : ℕ) (name : Guid) (rest bytes : List ℕ) (files : List FfsFile) → BeginsNamed large attributes len checksum name rest bytes
     → Lists bytes large 120 files → length files ≤ 16384 → IsVolume bytes (record { len = len; name = Some name; files = files })
 volume_read large attributes len checksum name rest bytes files b lists few =
     let whole : bytes ≡ take len bytes = sym (ap (λ n. take n bytes) (sym b.long) ∙ take-length bytes) in
-    let frame : Frame = frame_named large len name in
-    let listing : IsListing bytes frame files = (lists.items, lists.to, lists.leads, lists.ends, lists.are, few) in
-    (frame, frame_read large attributes len checksum name rest bytes b, refl, refl, subst (λ xs. IsListing xs frame files) whole listing)
+    let listing : IsListing bytes (record { len = len; name = Some name; start = 120; format = ones large }) files = (lists.items, lists.to, lists.leads, lists.ends, lists.are, few) in
+    (record { len = len; name = Some name; start = 120; format = ones large }, frame_read large attributes len checksum name rest bytes b, refl, refl,
+        subst (λ xs. IsListing xs (record { len = len; name = Some name; start = 120; format = ones large }) files) whole listing)

@@ -7,7 +7,7 @@ use Rattle.pi_base.specs.declared.guid.Guid.{Guid}
 use Rattle.fv_build.specs.declared.fault.BuildFault.{BuildFault}
 use Rattle.fv_build.specs.declared.fault.BuildFault.TheVariants.{TooMany, Size, NoRoom, Memory}
 use Rattle.fv_build.specs.declared.new_file.NewFile.{NewFile}
-use Rattle.fv_build.specs.FileSystems.{FileSystem}
+use Rattle.fv_build.specs.declared.file_system.FileSystem.{FileSystem}
 use Rattle.fv_build.specs.Files.{HasWholeName}
 use Rattle.fv_build.specs.Building.{fault_of}
 use Rattle.fv_named.specs.Named.{longer_maybe, named_fault, volume_bytes, volume_fault}

@@ -11,7 +11,8 @@ use Rattle.fv_build.specs.declared.fault.BuildFault.{BuildFault}
 use Rattle.fv_build.specs.declared.fault.BuildFault.TheVariants.{NoRoom}
 use Rattle.fv_build.specs.declared.new_file.NewFile.{NewFile}
 use Rattle.fv_build.specs.declared.volume_header.VolumeForm.{VolumeForm}
-use Rattle.fv_build.specs.FileSystems.{FileSystem, Ffs2, Ffs3}
+use Rattle.fv_build.specs.declared.file_system.FileSystem.{FileSystem}
+use Rattle.fv_build.specs.declared.file_system.FileSystem.TheVariants.{Ffs2, Ffs3}
 use Rattle.fv_build.specs.Checksum.{checksum16}
 use Rattle.fv_build.specs.Header.{head_of, header_with, volume_header}
 use Rattle.fv_build.specs.Placing.{laid}
