@@ -2,4 +2,5 @@ mod Named
 mod Sums
 mod Places
 mod Wholes
+mod WholeNames
 mod Texts

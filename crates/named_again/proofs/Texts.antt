@@ -19,6 +19,7 @@ use Rattle.volume_text.specs.Open.{refused_by, is_in_range, built_of}
 use Rattle.volume_text.specs.Text.{Says}
 use Rattle.named_again.specs.Reading.{IsWhole, IsReadAs}
 use Rattle.named_again.proofs.Wholes.{built_again}
+use Rattle.named_again.proofs.WholeNames.{files_whole}
 
 -- want of memory is nothing that stands against a volume
 no_memory : (a b c : Bool) (need have : ℕ) → cond a (Some TooMany) (cond b (Some Size) (cond c (Some (NoRoom need have)) None)) ≡ Some Memory → ⊥
@@ -57,9 +58,10 @@ made_by volume bytes true (Some Size) range is e = absurd cc
 made_by volume bytes true (Some (NoRoom need have)) range is e = absurd cc
 made_by volume bytes true (Some Memory) range is e = absurd (never_memory volume.form.file_system volume.name volume.files volume.len is)
 
-pub text_again : (text bytes : List ℕ) (said : Says text bytes) → IsWhole said.volume.name → All HasWholeName said.volume.files → IsReadAs said.volume.name said.volume.files bytes
-text_again text bytes said whole named =
+pub text_again : (text bytes : List ℕ) (said : Says text bytes) → IsReadAs said.volume.name said.volume.files bytes
+text_again text bytes said =
     let volume = said.volume in
+    let whole = files_whole said.inner volume.name volume.files said.files in
     let m = made_by volume bytes (is_in_range volume) (volume_fault volume.form.file_system volume.name volume.files volume.len) refl refl said.built in
     let both = and_parts (is_length volume.len) (nat_lt volume.form.attributes (2 ^ 32)) m.range in
     let tests = and_parts (nat_le 72 volume.len) (nat_le volume.len 0x4000000) both.0 in
@@ -67,4 +69,4 @@ text_again text bytes said whole named =
     let least = tests.0 in
     let most = tests.1 in
     subst (IsReadAs volume.name volume.files) m.bytes_are
-    (built_again volume.form volume.name volume.files volume.len (grind (arith, nat_tests)) (grind (arith, nat_tests)) (grind (arith, nat_tests)) whole named m.sound)
+    (built_again volume.form volume.name volume.files volume.len (grind (arith, nat_tests)) (grind (arith, nat_tests)) (grind (arith, nat_tests)) whole.0 whole.1 m.sound)

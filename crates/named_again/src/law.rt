@@ -18,8 +18,7 @@ pub fn built_again()
 {}
 
 /// The volume that a text describes, with a name or without, is read again: the reader finds the name and the files that the lines say, with their
-/// names, types and sections.
+/// names, types, attributes and sections.
 pub fn text_again()
-    ensures { (text bytes : List ℕ) (said : Says text bytes) → IsWhole said.volume.name → All HasWholeName said.volume.files
-        → IsReadAs said.volume.name said.volume.files bytes }
+    ensures { (text bytes : List ℕ) (said : Says text bytes) → IsReadAs said.volume.name said.volume.files bytes }
 {}
