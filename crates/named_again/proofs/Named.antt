@@ -1,5 +1,5 @@
 -- The header and the extended header of a built volume with a name are read as themselves, and the volume with them.
-use Rattle.std.proofs.Common.{◌≡◌, ℕ, ◌+◌, ◌%◌, ◌<◌, ◌≤◌, ◌^◌, Bool, true, false, cond, List, [], ◌∷◌, ◌++◌, length, take, drop, sum, replicate, Option, Some, None, Result, Ok, Err, refl, sym, ap, ◌∙◌, arith, append_assoc, subst}
+use Rattle.std.proofs.Common.{◌≡◌, ℕ, ◌%◌, ◌<◌, ◌≤◌, ◌^◌, Bool, true, false, cond, List, [], ◌∷◌, ◌++◌, length, take, drop, sum, replicate, Some, None, Ok, Err, refl, sym, ap, ◌∙◌, arith, append_assoc, subst}
 use Rattle.std.proofs.lemmas.Bool.Decides.{nat_tests}
 use Rattle.std.proofs.Math.Seq.{take-length}
 use Rattle.std.specs.Prelude.{bit_and, nat_lt, ◌==◌, not}
@@ -7,7 +7,6 @@ use Rattle.pi_base.specs.declared.guid.Guid.{Guid}
 use Rattle.pi_base.specs.Field.{little_number, little_bytes, words_of}
 use Rattle.pi_base.specs.Guids.{guid_at}
 use Rattle.pi_base.proofs.FieldLaws.{little_number-little_bytes}
-use Rattle.fv_volume.specs.declared.fault.VolFault.{VolFault}
 use Rattle.fv_volume.specs.declared.fault.VolCause.TheVariants.{Short, Length, HeaderLength, HeaderSum}
 use Rattle.fv_volume.specs.declared.file.FfsFile.{FfsFile}
 use Rattle.fv_volume.specs.declared.volume_header.TheConstants as constant
@@ -137,6 +136,10 @@ pub volume_read : (large : Bool) (attributes len checksum : ℕ) (name : Guid) (
     → Lists bytes large 120 files → length files ≤ 16384 → IsVolume bytes (record { len = len; name = Some name; files = files })
 volume_read large attributes len checksum name rest bytes files b lists few =
     let whole : bytes ≡ take len bytes = sym (ap (λ n. take n bytes) (sym b.long) ∙ take-length bytes) in
-    let listing : IsListing bytes (record { len = len; name = Some name; start = 120; format = ones large }) files = (lists.items, lists.to, lists.leads, lists.ends, lists.are, few) in
-    (record { len = len; name = Some name; start = 120; format = ones large }, frame_read large attributes len checksum name rest bytes b, refl, refl,
-        subst (λ xs. IsListing xs (record { len = len; name = Some name; start = 120; format = ones large }) files) whole listing)
+    let listing : IsListing bytes (record { len = len; name = Some name; start = 120; format = ones large }) files = (lists.items, lists.to, lists.leads, lists.ends, lists.are, few) in (
+      record { len = len; name = Some name; start = 120; format = ones large },
+      frame_read large attributes len checksum name rest bytes b,
+      refl,
+      refl,
+      subst (λ xs. IsListing xs (record { len = len; name = Some name; start = 120; format = ones large }) files) whole listing,
+    )

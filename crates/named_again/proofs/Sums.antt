@@ -5,7 +5,6 @@ use Rattle.pi_base.specs.Field.{little_bytes, words_of}
 use Rattle.fv_build.specs.declared.file_system.FileSystem.{FileSystem}
 use Rattle.fv_build.specs.declared.file_system.FileSystem.TheVariants.{Ffs2, Ffs3}
 use Rattle.fv_build.specs.Checksum.{checksum16}
-use Rattle.fv_build.specs.declared.volume_header.VolumeForm.{VolumeForm}
 use Rattle.fv_build.specs.Header.{head_of, header_with, volume_header}
 
 -- the words of an even number of bytes, and of those behind them

@@ -1,5 +1,5 @@
 -- The volume that a text describes is read again.
-use Rattle.std.proofs.Common.{◌≡◌, ℕ, ◌-◌, ◌^◌, Bool, true, false, cond, List, Option, Some, None, Result, Ok, Err, refl, sym, ap, ◌∙◌, subst, arith, All}
+use Rattle.std.proofs.Common.{◌≡◌, ℕ, ◌-◌, ◌^◌, Bool, true, false, cond, List, Option, Some, None, Result, Ok, Err, refl, subst, arith}
 use Rattle.std.proofs.lemmas.Bool.{and_parts}
 use Rattle.std.proofs.lemmas.Bool.Decides.{nat_tests}
 use Rattle.std.specs.Prelude.{nat_le, nat_lt}
@@ -8,16 +8,15 @@ use Rattle.fv_build.specs.declared.fault.BuildFault.{BuildFault}
 use Rattle.fv_build.specs.declared.fault.BuildFault.TheVariants.{TooMany, Size, NoRoom, Memory}
 use Rattle.fv_build.specs.declared.new_file.NewFile.{NewFile}
 use Rattle.fv_build.specs.declared.file_system.FileSystem.{FileSystem}
-use Rattle.fv_build.specs.Files.{HasWholeName}
 use Rattle.fv_build.specs.Building.{fault_of}
-use Rattle.fv_named.specs.Named.{longer_maybe, named_fault, volume_bytes, volume_fault}
+use Rattle.fv_named.specs.Named.{longer_maybe, volume_bytes, volume_fault}
 use Rattle.volume_text.specs.declared.fault.Cause.{Cause}
 use Rattle.volume_text.specs.declared.fault.Cause.TheVariants as cause
 use Rattle.volume_text.specs.declared.volume.OpenVolume.{OpenVolume}
 use Rattle.volume_text.specs.Words.{is_length}
-use Rattle.volume_text.specs.Open.{refused_by, is_in_range, built_of}
+use Rattle.volume_text.specs.Open.{refused_by, is_in_range}
 use Rattle.volume_text.specs.Text.{Says}
-use Rattle.named_again.specs.Reading.{IsWhole, IsReadAs}
+use Rattle.named_again.specs.Reading.{IsReadAs}
 use Rattle.named_again.proofs.Wholes.{built_again}
 use Rattle.named_again.proofs.WholeNames.{files_whole}
 

@@ -13,7 +13,7 @@ use Rattle.fv_build.specs.declared.new_file.Body.TheVariants.{Sections, Bytes}
 use Rattle.fv_build.specs.declared.new_file.NewFile.{NewFile}
 use Rattle.fv_build.specs.declared.new_file.NewSection.{NewSection}
 use Rattle.fv_build.specs.Files.{HasWholeName}
-use Rattle.source_words.specs.GuidWord.{unbraced, guid_spelled, guid_of}
+use Rattle.source_words.specs.GuidWord.{unbraced, guid_of}
 use Rattle.source_words.specs.Words.{words}
 use Rattle.volume_text.specs.declared.fault.Cause.{Cause}
 use Rattle.volume_text.specs.declared.fault.Cause.TheVariants as cause
@@ -24,7 +24,7 @@ use Rattle.volume_text.specs.Reading.{◌>>=◌, only_if, there}
 use Rattle.volume_text.specs.Words.{none_left, guid_at, phase_at, length_at, pad_length_at, system_at, attributes_at, chosen_at, file_type_at, section_type_at}
 use Rattle.volume_text.specs.Bytes.{bytes_of, guids_of}
 use Rattle.volume_text.specs.Line.{volume_at, name_at, pad_at, file_at, script_at, guids_at, raw_at, section_at, body_at, alone, ReadsBy, ReadsFirst, ReadsExpression}
-use Rattle.volume_text.specs.Open.{with_body, held_in, holding, is_empty, with_bytes}
+use Rattle.volume_text.specs.Open.{with_body, held_in, is_empty}
 use Rattle.volume_text.specs.Volume.{SaysLine, SayFiles, no_file, named, padded, file, bodied, section, depex, script, volume}
 use Rattle.named_again.specs.Reading.{IsWhole}
 

@@ -1,9 +1,9 @@
 -- A built volume, with a name or without, is read again.
-use Rattle.std.proofs.Common.{◌≡◌, ℕ, ◌+◌, ◌-◌, ◌<◌, ◌≤◌, ◌^◌, ◌%◌, Bool, true, false, cond, List, ◌++◌, length, take, drop, map, sum, replicate, Option, Some, None, refl, sym, ap, ◌∙◌, arith, append_assoc, length-append, All}
+use Rattle.std.proofs.Common.{◌≡◌, ℕ, ◌+◌, ◌-◌, ◌<◌, ◌≤◌, ◌^◌, ◌%◌, Bool, true, false, cond, List, ◌++◌, length, drop, map, sum, replicate, Option, Some, None, refl, sym, ap, ◌∙◌, arith, length-append, All}
 use Rattle.std.proofs.lemmas.Bool.Decides.{nat_tests}
 use Rattle.std.proofs.lemmas.List.{length-replicate}
 use Rattle.std.proofs.lemmas.Nat.{and_or_self, or_lt}
-use Rattle.std.specs.Prelude.{bit_and, bit_or, nat_lt, ◌==◌}
+use Rattle.std.specs.Prelude.{bit_or, nat_lt, ◌==◌}
 use Rattle.std.specs.List.{list_any}
 use Rattle.pi_base.specs.declared.guid.Guid.{Guid}
 use Rattle.pi_base.specs.Field.{little_bytes, words_of}
@@ -14,7 +14,7 @@ use Rattle.fv_build.specs.declared.volume_header.VolumeForm.{VolumeForm}
 use Rattle.fv_build.specs.declared.file_system.FileSystem.{FileSystem}
 use Rattle.fv_build.specs.declared.file_system.FileSystem.TheVariants.{Ffs2, Ffs3}
 use Rattle.fv_build.specs.Checksum.{checksum16}
-use Rattle.fv_build.specs.Header.{head_of, header_with, volume_header}
+use Rattle.fv_build.specs.Header.{head_of, header_with}
 use Rattle.fv_build.specs.Placing.{laid}
 use Rattle.fv_build.specs.Files.{file_bytes, is_file_too_long, HasWholeName}
 use Rattle.fv_build.specs.Building.{files_bytes, need, fault_of}
@@ -25,7 +25,7 @@ use Rattle.fv_build.proofs.FilesRead.{has_large, Found, files_found}
 use Rattle.fv_build.proofs.VolumesRead.{read_back}
 use Rattle.fv_named.specs.Named.{named_header, name_bytes, built_named, longer_maybe, named_fault, volume_bytes, volume_fault}
 use Rattle.named_again.specs.Reading.{IsWhole, IsReadAs}
-use Rattle.named_again.proofs.Named.{spelled_header, length-spelled, BeginsNamed, volume_read}
+use Rattle.named_again.proofs.Named.{spelled_header, length-spelled, volume_read}
 use Rattle.named_again.proofs.Sums.{named_sum}
 use Rattle.named_again.proofs.Places.{laid_behind}
 
@@ -97,14 +97,14 @@ named_again form name files len small below whole named none =
       volume = record { len = len; name = Some name; files = found.found };
       is_volume = volume_read (has_large file_system) (bit_or form.attributes 2048) len checksum name rest bytes found.found
           (record {
-              spelled = ap (λ h. h ++ (name_bytes name ++ rest)) is;
-              whole = whole;
-              long = long;
-              small = or_lt 32 form.attributes 2048 small (omega arith);
-              ones_first = ap (λ n. n == 0) (and_or_self 2048 form.attributes);
-              least = s.least;
-              fits = omega (arith, below);
-              zero_sum = ap (λ xs. sum (words_of xs) % 65536) (take_text 72 header (name_bytes name ++ rest) (sym header_len)) ∙ named_sum file_system form.attributes len;
+            spelled = ap (λ h. h ++ (name_bytes name ++ rest)) is;
+            whole = whole;
+            long = long;
+            small = or_lt 32 form.attributes 2048 small (omega arith);
+            ones_first = ap (λ n. n == 0) (and_or_self 2048 form.attributes);
+            least = s.least;
+            fits = omega (arith, below);
+            zero_sum = ap (λ xs. sum (words_of xs) % 65536) (take_text 72 header (name_bytes name ++ rest) (sym header_len)) ∙ named_sum file_system form.attributes len;
           })
           found.lists (omega (arith, found.few, s.few));
       len = sym long;
