@@ -1,5 +1,5 @@
--- The volume that a text describes is read again.
-use Rattle.std.proofs.Common.{◌≡◌, ℕ, ◌-◌, ◌^◌, Bool, true, false, cond, List, Option, Some, None, Result, Ok, Err, refl, subst, arith}
+-- The bytes of a volume at its `end` are read again, and so is the volume that a text describes.
+use Rattle.std.proofs.Common.{◌≡◌, ℕ, ◌-◌, ◌^◌, Bool, true, false, cond, List, Option, Some, None, Result, Ok, Err, refl, subst, arith, All}
 use Rattle.std.proofs.lemmas.Bool.{and_parts}
 use Rattle.std.proofs.lemmas.Bool.Decides.{nat_tests}
 use Rattle.std.specs.Prelude.{nat_le, nat_lt}
@@ -8,15 +8,16 @@ use Rattle.fv_build.specs.declared.fault.BuildFault.{BuildFault}
 use Rattle.fv_build.specs.declared.fault.BuildFault.TheVariants.{TooMany, Size, NoRoom, Memory}
 use Rattle.fv_build.specs.declared.new_file.NewFile.{NewFile}
 use Rattle.fv_build.specs.declared.file_system.FileSystem.{FileSystem}
+use Rattle.fv_build.specs.Files.{HasWholeName}
 use Rattle.fv_build.specs.Building.{fault_of}
 use Rattle.fv_named.specs.Named.{longer_maybe, volume_bytes, volume_fault}
 use Rattle.volume_text.specs.declared.fault.Cause.{Cause}
 use Rattle.volume_text.specs.declared.fault.Cause.TheVariants as cause
 use Rattle.volume_text.specs.declared.volume.OpenVolume.{OpenVolume}
 use Rattle.volume_text.specs.Words.{is_length}
-use Rattle.volume_text.specs.Open.{refused_by, is_in_range}
+use Rattle.volume_text.specs.Open.{refused_by, is_in_range, built_of}
 use Rattle.volume_text.specs.Text.{Says}
-use Rattle.named_again.specs.Reading.{IsReadAs}
+use Rattle.named_again.specs.Reading.{IsWhole, IsReadAs}
 use Rattle.named_again.proofs.Wholes.{built_again}
 use Rattle.named_again.proofs.WholeNames.{files_whole}
 
@@ -57,15 +58,19 @@ made_by volume bytes true (Some Size) range is e = absurd cc
 made_by volume bytes true (Some (NoRoom need have)) range is e = absurd cc
 made_by volume bytes true (Some Memory) range is e = absurd (never_memory volume.form.file_system volume.name volume.files volume.len is)
 
-pub text_again : (text bytes : List ℕ) (said : Says text bytes) → IsReadAs said.volume.name said.volume.files bytes
-text_again text bytes said =
-    let volume = said.volume in
-    let whole = files_whole said.inner volume.name volume.files said.files in
-    let m = made_by volume bytes (is_in_range volume) (volume_fault volume.form.file_system volume.name volume.files volume.len) refl refl said.built in
+-- the bytes of a volume at its `end`
+pub made_again : (volume : OpenVolume) (bytes : List ℕ) → IsWhole volume.name → All HasWholeName volume.files → built_of volume ≡ Ok bytes → IsReadAs volume.name volume.files bytes
+made_again volume bytes whole named built =
+    let m = made_by volume bytes (is_in_range volume) (volume_fault volume.form.file_system volume.name volume.files volume.len) refl refl built in
     let both = and_parts (is_length volume.len) (nat_lt volume.form.attributes (2 ^ 32)) m.range in
     let tests = and_parts (nat_le 72 volume.len) (nat_le volume.len 0x4000000) both.0 in
     let small = both.1 in
     let least = tests.0 in
     let most = tests.1 in
     subst (IsReadAs volume.name volume.files) m.bytes_are
-    (built_again volume.form volume.name volume.files volume.len (grind (arith, nat_tests)) (grind (arith, nat_tests)) (grind (arith, nat_tests)) whole.0 whole.1 m.sound)
+    (built_again volume.form volume.name volume.files volume.len (grind (arith, nat_tests)) (grind (arith, nat_tests)) (grind (arith, nat_tests)) whole named m.sound)
+
+-- and of one that a text describes
+pub text_again : (text bytes : List ℕ) (said : Says text bytes) → IsReadAs said.volume.name said.volume.files bytes
+text_again text bytes said =
+    let whole = files_whole said.inner said.volume.name said.volume.files said.files in made_again said.volume bytes whole.0 whole.1 said.built

@@ -3,4 +3,4 @@
 
 mod law;
 
-pub use law::{built_again, text_again};
+pub use law::{built_again, made_again, text_again};
