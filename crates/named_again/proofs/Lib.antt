@@ -1,0 +1,6 @@
+mod Named
+mod Sums
+mod Places
+mod Wholes
+mod WholeNames
+mod Texts
