@@ -1,5 +1,5 @@
 //! The laws of reading built volumes.
-ghost use Rattle.std.specs.Prelude.{◌≡◌, ◌≤◌, ◌<◌, ◌^◌, ℕ, List, Option, Ok, All};
+ghost use Rattle.std.specs.Prelude.{◌≡◌, ◌≤◌, ◌<◌, ◌^◌, ℕ, List, Option, None, Ok, All};
 ghost use Rattle.pi_base.specs.declared.guid.Guid.{Guid};
 ghost use Rattle.fv_build.specs.declared.build.TheConstants.{MOST_LEN};
 ghost use Rattle.fv_build.specs.declared.new_file.NewFile.{NewFile};
@@ -12,11 +12,12 @@ ghost use Rattle.volume_text.specs.Open.{built_of};
 ghost use Rattle.volume_text.specs.Text.{Says};
 ghost use Rattle.named_again.specs.Reading.{IsWhole, IsReadAs};
 
-/// The bytes of a volume with a name or without, against which nothing stands, are read as a volume of all of them with this name and these files,
-/// pads aside: each with its type, name, attributes and sections, or its body. A GUID has 16 bytes, as each that a program holds.
+/// The bytes of a volume with a name or without, against which nothing stands, are read as a volume of all of them with this name and these
+/// files, pads aside: each with its type, name, attributes and sections, or its body. A GUID has 16 bytes, as each that a program holds.
 pub fn built_again()
-    ensures { (form : VolumeForm) (name : Option Guid) (files : List NewFile) (len : ℕ) → form.attributes < 2 ^ 32 → HEADER_LEN ≤ len → len ≤ MOST_LEN
-        → IsWhole name → All HasWholeName files → volume_fault form.file_system name files len ≡ None → IsReadAs name files (volume_bytes form name files len) }
+    ensures { (form : VolumeForm) (name : Option Guid) (files : List NewFile) (len : ℕ)
+        → form.attributes < 2 ^ 32 → HEADER_LEN ≤ len → len ≤ MOST_LEN → IsWhole name → All HasWholeName files
+        → volume_fault form.file_system name files len ≡ None → IsReadAs name files (volume_bytes form name files len) }
 {}
 
 /// So are the bytes that a volume of a text has at its `end`.
@@ -25,8 +26,8 @@ pub fn made_again()
         → IsReadAs volume.name volume.files bytes }
 {}
 
-/// The volume that a text describes, with a name or without, is read again: the reader finds the name and the files that the lines say, pads
-/// aside. Each GUID that a line says has its 16 bytes.
+/// The volume that a text describes, with a name or without, is read again: the reader finds the name and the files that the lines say,
+/// pads aside. Each GUID that a line says has its 16 bytes.
 pub fn text_again()
     ensures { (text bytes : List ℕ) (said : Says text bytes) → IsReadAs said.volume.name said.volume.files bytes }
 {}
