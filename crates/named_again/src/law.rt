@@ -13,7 +13,8 @@ ghost use Rattle.volume_text.specs.Text.{Says};
 ghost use Rattle.named_again.specs.Reading.{IsWhole, IsReadAs};
 
 /// The bytes of a volume with a name or without, against which nothing stands, are read as a volume of all of them with this name and these
-/// files, pads aside: each with its type, name, attributes and sections, or its body. A GUID has 16 bytes, as each that a program holds.
+/// files, pads aside: each with its type, name, attributes and body, and with its sections where `read_sections` takes them. A GUID has 16 bytes,
+/// as each that a program holds.
 pub fn built_again()
     ensures { (form : VolumeForm) (name : Option Guid) (files : List NewFile) (len : ℕ)
         → form.attributes < 2 ^ 32 → HEADER_LEN ≤ len → len ≤ MOST_LEN → IsWhole name → All HasWholeName files
