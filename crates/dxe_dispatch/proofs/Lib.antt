@@ -4,7 +4,7 @@ pub mod FirstStarts
 pub mod FirstRuns
 mod Followed
 pub mod Growing
-mod Idle
+pub mod Idle
 mod Openings
 mod Passing
 mod Requests
