@@ -1,5 +1,6 @@
 -- Once what a tree lacks has come, it holds.
-use Rattle.std.proofs.Common.{◌≡◌, ◌×◌, arith, nat_tests, Bool, true, false, ◌||◌, ◌&&◌, not, cond, nat_lt, length, List, [], ◌∷◌, ◌++◌, Option, Some, None, refl, sym, ap, ◌∙◌, subst}
+use Rattle.std.proofs.Common.{◌≡◌, arith, Bool, true, false, ◌||◌, ◌&&◌, not, cond, nat_lt, length, List, [], ◌∷◌, ◌++◌, Option, Some, None, refl, sym, ap, ◌∙◌, subst}
+use Rattle.std.proofs.lemmas.Bool.Decides.{nat_tests}
 use Rattle.std.proofs.lemmas.Cmp.{nat_list_eq_equiv}
 use Rattle.pi_base.specs.declared.guid.Guid.{Guid}
 use Rattle.pi_base.specs.Guids.{same_guid}
@@ -53,11 +54,12 @@ holding has (Not node) e = by (truth has node) e
 holding has (And first second) e =
     let both = both_true (truth has first) (truth has second) e in
     ap (λ o. both_lack o (lacks has second)) (holding has first both.0) ∙ ap (λ o. both_lack (Some []) o) (holding has second both.1)
-holding has (Or first second) e = by (truth has first) refl e
+holding has (Or first second) e = by (truth has first) refl (holding has first) (holding has second) e
   where
-    by : (b : Bool) → truth has first ≡ b → (b || truth has second) ≡ true → fewer (lacks has first) (lacks has second) ≡ Some []
-    by true t e = ap (λ o. fewer o (lacks has second)) (holding has first t) ∙ not_fewer (lacks has second)
-    by false t e = ap (λ o. fewer (lacks has first) o) (holding has second e) ∙ fewer_none (lacks has first)
+    by : (b : Bool) → truth has first ≡ b → (truth has first ≡ true → lacks has first ≡ Some []) → (truth has second ≡ true → lacks has second ≡ Some []) → (b || truth has second) ≡ true
+        → fewer (lacks has first) (lacks has second) ≡ Some []
+    by true t left right e = ap (λ o. fewer o (lacks has second)) (left t) ∙ not_fewer (lacks has second)
+    by false t left right e = ap (λ o. fewer (lacks has first) o) (right e) ∙ fewer_none (lacks has first)
 
 pub none_is_told : (has : Guid → Bool) (node : DepexTree) → truth has node ≡ true → would_make has node ≡ Some []
 none_is_told has node e =
@@ -70,11 +72,11 @@ AreWithin guids all = (guid : Guid) → is_among guid guids ≡ true → is_amon
 
 in_first : (guid : Guid) (xs ys : List Guid) → is_among guid xs ≡ true → is_among guid (xs ++ ys) ≡ true
 in_first guid [] ys e = absurd (cc)
-in_first guid (x ∷ xs) ys e = by (same_guid x guid) e
+in_first guid (x ∷ xs) ys e = by (same_guid x guid) (in_first guid xs ys) e
   where
-    by : (b : Bool) → (b || is_among guid xs) ≡ true → (b || is_among guid (xs ++ ys)) ≡ true
-    by true e = refl
-    by false e = in_first guid xs ys e
+    by : (b : Bool) → (is_among guid xs ≡ true → is_among guid (xs ++ ys) ≡ true) → (b || is_among guid xs) ≡ true → (b || is_among guid (xs ++ ys)) ≡ true
+    by true more e = refl
+    by false more e = more e
 
 in_second : (guid : Guid) (xs ys : List Guid) → is_among guid ys ≡ true → is_among guid (xs ++ ys) ≡ true
 in_second guid [] ys e = e
@@ -95,59 +97,67 @@ unnamed has all (And first second) none =
 unnamed has all (Or first second) none =
     ap (λ b. b || truth (with_these has all) second) (unnamed has all first none.0) ∙ ap (λ b. truth has first || b) (unnamed has all second none.1)
 
--- with what a tree lacks, and more, it holds
-enough : (has : Guid → Bool) (node : DepexTree) (guids all : List Guid) → lacks has node ≡ Some guids → AreWithin guids all → NoNotNames all node → truth (with_these has all) node ≡ true
-enough has True guids all e within names = refl
-enough has False guids all e within names = absurd (cc)
-enough has (Push guid) guids all e within names = by (has guid) e
+-- with what a part of a tree lacks, and more, the part holds
+abbrev Suffices : (Guid → Bool) → List Guid → DepexTree → Type 0
+Suffices has all node = (guids : List Guid) → lacks has node ≡ Some guids → AreWithin guids all → truth (with_these has all) node ≡ true
+
+or_true : (b : Bool) → (b || true) ≡ true
+or_true true = refl
+or_true false = refl
+
+both_enough : (has : Guid → Bool) (first second : DepexTree) (guids all : List Guid) (a b : Option (List Guid)) → lacks has first ≡ a → lacks has second ≡ b → both_lack a b ≡ Some guids → AreWithin guids all
+    → Suffices has all first → Suffices has all second → (truth (with_these has all) first && truth (with_these has all) second) ≡ true
+both_enough has first second guids all (Some xs) (Some ys) p q e within one other =
+    let is : xs ++ ys ≡ guids = cc in
+    let left = one xs p (λ guid here. within guid (subst (λ these. is_among guid these ≡ true) is (in_first guid xs ys here))) in
+    let right = other ys q (λ guid here. within guid (subst (λ these. is_among guid these ≡ true) is (in_second guid xs ys here))) in
+    ap (λ b. b && truth (with_these has all) second) left ∙ right
+both_enough has first second guids all (Some xs) None p q e within one other = absurd (cc)
+both_enough has first second guids all None b p q e within one other = absurd (cc)
+
+left_enough : (has : Guid → Bool) (first second : DepexTree) (xs guids all : List Guid) → lacks has first ≡ Some xs → xs ≡ guids → AreWithin guids all → Suffices has all first
+    → (truth (with_these has all) first || truth (with_these has all) second) ≡ true
+left_enough has first second xs guids all p is within one =
+    ap (λ b. b || truth (with_these has all) second) (one xs p (λ guid here. within guid (subst (λ these. is_among guid these ≡ true) is here)))
+
+right_enough : (has : Guid → Bool) (first second : DepexTree) (ys guids all : List Guid) → lacks has second ≡ Some ys → ys ≡ guids → AreWithin guids all → Suffices has all second
+    → (truth (with_these has all) first || truth (with_these has all) second) ≡ true
+right_enough has first second ys guids all q is within other =
+    ap (λ b. truth (with_these has all) first || b) (other ys q (λ guid here. within guid (subst (λ these. is_among guid these ≡ true) is here))) ∙ or_true (truth (with_these has all) first)
+
+one_enough : (has : Guid → Bool) (first second : DepexTree) (guids all : List Guid) (a b : Option (List Guid)) → lacks has first ≡ a → lacks has second ≡ b → fewer a b ≡ Some guids → AreWithin guids all
+    → Suffices has all first → Suffices has all second → (truth (with_these has all) first || truth (with_these has all) second) ≡ true
+one_enough has first second guids all None None p q e within one other = absurd (cc)
+one_enough has first second guids all None (Some ys) p q e within one other = let is : ys ≡ guids = cc in right_enough has first second ys guids all q is within other
+one_enough has first second guids all (Some xs) None p q e within one other = let is : xs ≡ guids = cc in left_enough has first second xs guids all p is within one
+one_enough has first second guids all (Some xs) (Some ys) p q e within one other = by (nat_lt (length ys) (length xs)) e
+  where
+    by : (b : Bool) → cond b (Some ys) (Some xs) ≡ Some guids → (truth (with_these has all) first || truth (with_these has all) second) ≡ true
+    by true e = let is : ys ≡ guids = cc in right_enough has first second ys guids all q is within other
+    by false e = let is : xs ≡ guids = cc in left_enough has first second xs guids all p is within one
+
+-- and so does the tree, where no NOT mentions one of them
+enough : (has : Guid → Bool) (node : DepexTree) (all : List Guid) → NoNotNames all node → Suffices has all node
+enough has True all names guids e within = refl
+enough has False all names guids e within = absurd (cc)
+enough has (Push guid) all names guids e within = by (has guid) e
   where
     by : (b : Bool) → Some (cond b [] (guid ∷ [])) ≡ Some guids → (b || is_among guid all) ≡ true
     by true e = refl
     by false e =
         let is : guid ∷ [] ≡ guids = cc in
         within guid (subst (λ these. is_among guid these ≡ true) is (ap (λ b. b || false) (nat_list_eq_equiv.refl guid.0)))
-enough has (Not node) guids all e within names = ap not (unnamed has all node names) ∙ by (truth has node) e
+enough has (Not node) all names guids e within = ap not (unnamed has all node names) ∙ by (truth has node) e
   where
     by : (b : Bool) → cond b None (Some []) ≡ Some guids → not b ≡ true
     by true e = absurd (cc)
     by false e = refl
-enough has (And first second) guids all e within names = by (lacks has first) (lacks has second) refl refl e
-  where
-    by : (a b : Option (List Guid)) → lacks has first ≡ a → lacks has second ≡ b → both_lack a b ≡ Some guids → (truth (with_these has all) first && truth (with_these has all) second) ≡ true
-    by (Some xs) (Some ys) p q e =
-        let is : xs ++ ys ≡ guids = cc in
-        let left = enough has first xs all p (λ guid here. within guid (subst (λ these. is_among guid these ≡ true) is (in_first guid xs ys here))) names.0 in
-        let right = enough has second ys all q (λ guid here. within guid (subst (λ these. is_among guid these ≡ true) is (in_second guid xs ys here))) names.1 in
-        ap (λ b. b && truth (with_these has all) second) left ∙ right
-    by (Some xs) None p q e = absurd (cc)
-    by None b p q e = absurd (cc)
-enough has (Or first second) guids all e within names = by (lacks has first) (lacks has second) refl refl e
-  where
-    left : (xs : List Guid) → lacks has first ≡ Some xs → xs ≡ guids → (truth (with_these has all) first || truth (with_these has all) second) ≡ true
-    left xs p is =
-        let holds = enough has first xs all p (λ guid here. within guid (subst (λ these. is_among guid these ≡ true) is here)) names.0 in
-        ap (λ b. b || truth (with_these has all) second) holds
-
-    or_true : (b : Bool) → (b || true) ≡ true
-    or_true true = refl
-    or_true false = refl
-
-    right : (ys : List Guid) → lacks has second ≡ Some ys → ys ≡ guids → (truth (with_these has all) first || truth (with_these has all) second) ≡ true
-    right ys q is =
-        let holds = enough has second ys all q (λ guid here. within guid (subst (λ these. is_among guid these ≡ true) is here)) names.1 in
-        ap (λ b. truth (with_these has all) first || b) holds ∙ or_true (truth (with_these has all) first)
-
-    by : (a b : Option (List Guid)) → lacks has first ≡ a → lacks has second ≡ b → fewer a b ≡ Some guids → (truth (with_these has all) first || truth (with_these has all) second) ≡ true
-    by None (Some ys) p q e = right ys q (cc)
-    by None None p q e = absurd (cc)
-    by (Some xs) None p q e = left xs p (cc)
-    by (Some xs) (Some ys) p q e = chosen (nat_lt (length ys) (length xs)) e
-      where
-        chosen : (b : Bool) → cond b (Some ys) (Some xs) ≡ Some guids → (truth (with_these has all) first || truth (with_these has all) second) ≡ true
-        chosen true e = right ys q (cc)
-        chosen false e = left xs p (cc)
+enough has (And first second) all names guids e within =
+    both_enough has first second guids all (lacks has first) (lacks has second) refl refl e within (enough has first all names.0) (enough has second all names.1)
+enough has (Or first second) all names guids e within =
+    one_enough has first second guids all (lacks has first) (lacks has second) refl refl e within (enough has first all names.0) (enough has second all names.1)
 
 pub lacking_is_told : (has : Guid → Bool) (node : DepexTree) (guids : List Guid) → lacks has node ≡ Some guids → NoNotNames guids node → would_make has node ≡ Some (firsts same_guid guids)
 lacking_is_told has node guids e names =
-    let holds = enough has node guids guids e (λ guid here. here) names in
+    let holds = enough has node guids names guids e (λ guid here. here) in
     ap (where_holds has node) e ∙ ap (λ b. cond b (Some (firsts same_guid guids)) None) holds

@@ -1,7 +1,6 @@
 //! The GUIDs whose coming would make an expression hold.
-ghost use Rattle.std.specs.Prelude.{◌≡◌, ◌≤◌, ◌<◌, [], length, IfOk, not, filter};
-ghost use Rattle.catalog_model.specs.WellFormed.{IsShortExpression};
-ghost use Rattle.depex_code.specs.Tree.{postfix, truth};
+ghost use Rattle.std.specs.Prelude.{◌≡◌, [], IfOk, not, filter};
+ghost use Rattle.depex_code.specs.Tree.{truth};
 ghost use Rattle.expression_needs.specs.Noting.{AreSeen, noted_all};
 ghost use Rattle.expression_needs.specs.Would.{with_these, would, would_make};
 
@@ -9,11 +8,9 @@ use crate::asking::asked_without;
 use crate::noted::Noted;
 use crate::sides::side_of;
 use catalog_model::PartExpr;
-use depex_code::{Depex, GuidSet, Steps, Tree};
+use depex_code::{Depex, GuidSet, Tree};
 use pi_base::{Guid, OutOfMemory, Phase, Seq};
 use std::alloc::Global;
-use std::marker::Brand;
-use std::sync::ledger::{Blank, Ledger};
 
 /// A set of GUIDs, and those that were noted.
 #[derive(Drop)]
@@ -35,29 +32,20 @@ impl<G: GuidSet> GuidSet for WithThese<'_, G> {
     }
 }
 
-// Whether a tree holds over a set. The evaluation is counted in the ledger of a blank.
-fn holds<G: GuidSet, L: Ledger>(tree: &Tree, set: &G, blank: Blank) -> bool
-    requires order { G.in_order set.now }
-    requires few { length (postfix tree.now) ≤ 1023 }
-    requires name { blank.name ≡ L.name }
-    requires parts { blank.parts ≡ L.parts }
-    requires counts { 0 < L.parts }
-    ensures { result ≡ truth (G.has_guid set.now) tree.now }
-{
-    let mut steps = Steps::<L>::new(blank);
-    tree.holds(set, &mut steps)
-}
-
 // Whether a tree holds where these GUIDs are there too.
-fn holds_with<G: GuidSet>(tree: &Tree, set: &G, noted: &Noted) -> bool
+fn holds_with<G: GuidSet>(
+    alloc: Global,
+    set: &G,
+    noted: &Noted,
+    tree: &Tree,
+) -> Result<bool, OutOfMemory>
     requires order { G.in_order set.now }
     requires seen { AreSeen noted.now }
-    requires few { length (postfix tree.now) ≤ 1023 }
-    ensures { result ≡ truth (with_these (G.has_guid set.now) noted.now.guids) tree.now }
+    ensures { IfOk result (λ holds. holds ≡ truth (with_these (G.has_guid set.now) noted.now.guids) tree.now) }
 {
     let with = WithThese { set, noted };
-    let blank = Blank::new(1);
-    holds::<WithThese<'_, G>, Brand>(tree, &with, blank)
+    let side = side_of(alloc, &with, tree)?;
+    Ok(side.holds)
 }
 
 // The GUIDs whose coming would make a tree hold.
@@ -68,7 +56,6 @@ fn would_make<G: GuidSet>(
     tree: &Tree,
 ) -> Result<Option<Seq<Guid>>, OutOfMemory>
     requires order { G.in_order set.now }
-    requires few { length (postfix tree.now) ≤ 1023 }
     ensures { IfOk result (λ guids. guids ≡ would_make (G.has_guid set.now) tree.now) }
 {
     let side = side_of(alloc, set, tree)?;
@@ -78,7 +65,7 @@ fn would_make<G: GuidSet>(
     };
     let mut noted = Noted::new(alloc);
     noted.note_all(guids.as_slice())?;
-    if holds_with(tree, set, &noted) {
+    if holds_with(alloc, set, &noted, tree)? {
         Ok(Some(noted.guids))
     } else {
         Ok(None)
@@ -111,7 +98,6 @@ pub fn would<G: GuidSet>(
     expr: &PartExpr,
 ) -> Result<Option<Seq<Guid>>, OutOfMemory>
     requires order { G.in_order set.now }
-    requires short { IsShortExpression expr.now }
     ensures { IfOk result (λ guids. guids ≡ would (G.has_guid set.now) phase expr.now) }
 {
     match expr {

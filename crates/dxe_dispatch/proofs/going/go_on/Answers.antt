@@ -58,9 +58,9 @@ unreachable-requires g c =
     c.requires.busy (sym ready.now.machine.core.frames ∙ idle.0)
 
 pub returns-in-Ended-clause-row : goal.returns-in-Ended-clause-row
-returns-in-Ended-clause-row g c m fuel made ready lets =
+returns-in-Ended-clause-row g c m fuel made ready =
     let ended = rw c.in-Ended.is at (c.in_ok-event.ensures.row m fuel made ready.now.machine ready.waits) in
-    ends_so lets g.M.PeiStore.stands_for c.args.store.now c.args.catalog.now fuel c.step.new.self c.args.queue.now m c.in-Ended.end _ (λ idle. c.requires.busy (sym ready.now.machine.core.frames ∙ idle)) ended ready.now.queue
+    (ended.ended, λ lets. ends_so lets g.M.PeiStore.stands_for c.args.store.now c.args.catalog.now fuel c.step.new.self c.args.queue.now m c.in-Ended.end _ (λ idle. c.requires.busy (sym ready.now.machine.core.frames ∙ idle)) ended ready.now.queue)
 
 pub returns-in-Ended-clause-owes : goal.returns-in-Ended-clause-owes
 returns-in-Ended-clause-owes g c before m fuel made ready = owes_still c.args.catalog.now fuel m _ _ (omega arith)

@@ -10,4 +10,4 @@ pub returns-in-Went-clause-row : goal.returns-in-Went-clause-row
 returns-in-Went-clause-row g c lets m fuel made ready = let row = rw c.in-Went.is at (c.in_ok-go_on.ensures.row m fuel made ready) in row.1 lets
 
 pub returns-in-Ended-clause-row : goal.returns-in-Ended-clause-row
-returns-in-Ended-clause-row g c lets m fuel made ready = let row = rw c.in-Ended.is at (c.in_ok-go_on.ensures.row m fuel made ready) in row lets
+returns-in-Ended-clause-row g c lets m fuel made ready = let row = rw c.in-Ended.is at (c.in_ok-go_on.ensures.row m fuel made ready) in row.1 lets

@@ -6,8 +6,8 @@ use Rattle.expression_needs.proofs.coming.lacking.Given as goal
 abbrev pub invariant-guids : goal.invariant-guids
 invariant-guids g l = record {
   seen : AreSeen l.noted;
-  whole : noted_all l.noted.guids (filter (λ guid. not (g.G.GuidSet.has_guid l.set.now guid)) l.rest)
-      ≡ noted_all [] (filter (λ guid. not (g.G.GuidSet.has_guid l.set.now guid)) l.guids);
+  whole : noted_all l.noted.guids (filter (λ guid. not (g.G.GuidSet.has_guid l.set guid)) l.rest)
+      ≡ noted_all [] (filter (λ guid. not (g.G.GuidSet.has_guid l.set guid)) l.guids);
 }
 
 abbrev pub decreases-guids : goal.decreases-guids
