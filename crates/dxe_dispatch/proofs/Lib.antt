@@ -8,7 +8,7 @@ pub mod Idle
 mod Openings
 mod Passing
 mod Requests
-mod Runs
+pub mod Runs
 mod Standing
 pub mod Targets
 mod Told
