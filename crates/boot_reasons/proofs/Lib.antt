@@ -1,0 +1,3 @@
+mod GiverSteps
+mod PeiSteps
+mod StepLists

@@ -2,7 +2,7 @@
 ghost use Rattle.std.specs.Prelude.{◌≡◌, [], ◌∷◌, OnOk};
 ghost use Rattle.pi_base.specs.declared.guid.Guid.{Guid as OfGuid};
 ghost use Rattle.boot_reasons.specs.Givers.{actor_by};
-ghost use Rattle.boot_reasons.specs.Noting.{AreNoted, IsPresent, giver_behind, giver_in};
+ghost use Rattle.boot_reasons.specs.Noting.{AreNoted, giver_behind, giver_in};
 ghost use Rattle.boot_reasons.specs.declared.reasons.Giver.TheVariants.{Absent};
 
 use crate::reasons::Giver;
@@ -13,8 +13,7 @@ use std::alloc::Global;
 
 /// Who makes a step, by the module whose script runs.
 pub(crate) fn actor(running: Option<u32>) -> Giver
-    ensures is { result ≡ actor_by running }
-    ensures present { IsPresent result }
+    ensures { result ≡ actor_by running }
 {
     match running {
         Some(number) => Giver::Module(number),
@@ -83,7 +82,6 @@ impl Givers {
         actor: Giver,
     ) -> Result<(), OutOfMemory>
         requires order { G.in_order set.now }
-        requires present { IsPresent actor }
         ensures { OnOk result (AreNoted (G.has_guid set.now) actor guids.now self.old.map self.new.map) }
     {
         let mut rest = guids;

@@ -5,11 +5,11 @@ pub mod FirstRuns
 mod Followed
 pub mod Growing
 pub mod Idle
-mod Openings
+pub mod Openings
 mod Passing
 mod Requests
 pub mod Runs
-mod Standing
+pub mod Standing
 pub mod Targets
 mod Told
 mod Turning
