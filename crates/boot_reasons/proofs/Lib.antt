@@ -1,3 +1,6 @@
+mod DxeEnds
+mod DxeSteps
 mod GiverSteps
+mod PeiEnds
 mod PeiSteps
 mod StepLists

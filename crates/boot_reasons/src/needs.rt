@@ -1,5 +1,5 @@
 // What a part of a module needs.
-ghost use Rattle.std.specs.Prelude.{◌≡◌, IfOk, OnOk};
+ghost use Rattle.std.specs.Prelude.{◌≡◌, IfOk};
 ghost use Rattle.boot_reasons.specs.Needs.{needs_of};
 ghost use Rattle.boot_reasons.specs.Noting.{giver_in};
 
@@ -21,11 +21,13 @@ pub(crate) fn needs_of(
 {
     let guids = asked(alloc, phase, &part.expr)?;
     let mut needs = Seq::new(alloc);
-    'guids: for guid in guids.as_slice() {
+    let mut rest = guids.as_slice();
+    'guids: while let [guid, after @ ..] = rest {
         needs.push(Need {
             guid: *guid,
             giver: givers.of(guid),
         })?;
+        rest = after;
     }
     Ok(needs)
 }
