@@ -1,6 +1,6 @@
 -- Who has a GUID installed, a step further.
 use Rattle.std.proofs.Common.{◌≡◌, ℕ, zero, suc, ◌+◌, arith, Bool, true, false, ◌||◌, cond, List, [], ◌∷◌, ◌++◌, Option, Some, None, refl, sym, ap, ◌∙◌, subst}
-use Rattle.std.specs.Prelude.{bytes_eq}
+use Rattle.std.specs.Prelude.{unwrap_or}
 use Rattle.std.proofs.lemmas.Slice.Eq.{bytes_eq-Decides}
 use Rattle.pi_base.specs.declared.guid.Guid.{Guid}
 use Rattle.pi_base.specs.Guids.{same_guid}
@@ -26,10 +26,10 @@ noted_one has actor giver guid old new is put other = by (same_guid guid other) 
     by : (b : Bool) → same_guid guid other ≡ b → value_of new other ≡ cond b (Some giver) (value_of old other)
         → giver_in new other ≡ cond (b || false) (giver_behind (giver_in old other) (has other) actor) (giver_in old other)
     by true e h =
-        let here : giver_in new other ≡ giver = ap (λ (o : Option Giver). elim o [ Some giver ↦ giver | None ↦ Absent ]) h in
+        let here : giver_in new other ≡ giver = ap (λ o. unwrap_or o Absent) h in
         let P : Guid → Type 0 = λ g. giver ≡ giver_behind (giver_in old g) (has g) actor in
         here ∙ subst P (same_is guid other e) is
-    by false e h = ap (λ (o : Option Giver). elim o [ Some giver ↦ giver | None ↦ Absent ]) h
+    by false e h = ap (λ o. unwrap_or o Absent) h
 
 -- none is
 pub noted_none : (has : Guid → Bool) (actor : Giver) (map : List (Guid × Giver)) → AreNoted has actor [] map map

@@ -3,4 +3,5 @@ mod DxeSteps
 mod GiverSteps
 mod PeiEnds
 mod PeiSteps
+mod Phases
 mod StepLists
