@@ -273,8 +273,8 @@ fn try_heap(rt: &impl Abort, explained: &Explained) {
     assert!(rt; explained.heap == 344);
     assert!(rt; explained.actions == 15);
     assert!(rt; explained.result == RunEnd::Done);
-    assert!(rt; explained.reported.as_slice() == &[0]);
-    assert!(rt; explained.discovered.as_slice() == &[0]);
+    assert!(rt; explained.reported.as_slice() == [0].as_slice());
+    assert!(rt; explained.discovered.as_slice() == [0].as_slice());
 }
 
 fn plan_of(rt: &impl Abort, alloc: Global) -> Plan
