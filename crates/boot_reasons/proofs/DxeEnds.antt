@@ -8,18 +8,22 @@ use Rattle.store_model.specs.StoreState.{StoreState}
 use Rattle.boot_laws.specs.RunsEnd.{DxeRunsEnd}
 use Rattle.boot_model.specs.declared.phase_end.DxeEnd.{DxeEnd}
 use Rattle.boot_model.specs.DxeMachine.{DxeMachine}
-use Rattle.boot_model.specs.DxeRun.{dxe_bound, dxe_opening, dxe_run}
+use Rattle.boot_model.specs.DxeRun.{dxe_bound, dxe_end, dxe_opening, dxe_run}
 use Rattle.boot_model.specs.DxeStep.{dxe_case_of}
-use Rattle.dxe_choice.specs.Queue.{Queue}
-use Rattle.dxe_core.specs.Standing.{DxeCore}
-use Rattle.dxe_dispatch.specs.Ends.{StandsAtEnd}
+use Rattle.dxe_choice.specs.Queue.{IsQueueOf, Queue}
+use Rattle.dxe_core.specs.Standing.{DxeCore, IsCoreOf}
+use Rattle.dxe_dispatch.specs.Ends.{IsNow, StandsAtEnd}
 use Rattle.dxe_dispatch.proofs.FirstRuns.{steps_then}
 use Rattle.dxe_dispatch.proofs.Runs.{stays}
 use Rattle.boot_reasons.specs.declared.reasons.Begun.{Begun}
+use Rattle.boot_reasons.specs.declared.reasons.Giver.{Giver}
+use Rattle.boot_reasons.specs.declared.reasons.Giver.TheVariants.{Absent}
+use Rattle.boot_reasons.specs.declared.reasons.Held.{Held}
 use Rattle.boot_reasons.specs.declared.told.DxeTold.{DxeTold}
-use Rattle.boot_reasons.specs.DxeReasons.{dxe_after, dxe_begun, dxe_begun_at, dxe_begun_in, dxe_giver}
-use Rattle.boot_reasons.specs.DxeTelling.{IsAt, IsAtEnd, IsTold}
+use Rattle.boot_reasons.specs.DxeReasons.{dxe_after, dxe_begun, dxe_begun_at, dxe_begun_in, dxe_giver, dxe_held}
+use Rattle.boot_reasons.specs.DxeTelling.{EndsTo, IsAt, IsAtEnd, IsDxeExplained, IsTold}
 use Rattle.boot_reasons.specs.Givers.{actor_in}
+use Rattle.boot_reasons.specs.Noting.{giver_in}
 use Rattle.boot_reasons.proofs.GiverSteps.{giver_stays}
 use Rattle.boot_reasons.proofs.StepLists.{steps_stay}
 
@@ -76,3 +80,27 @@ never_on ends stands store s actions catalog fuel n core queue told parents le i
     ap (λ k. (dxe_after s actions catalog fuel k).ended) (sym e) ∙ ap (λ (x : DxeMachine). x.ended) (after_end s actions catalog fuel bound (n - bound) over.0 over.1) ∙ over.1 in
     let running : None ≡ Some over.0 = sym is.now.machine.core.running ∙ there in
     absurd (cc)
+
+-- what is told at the end explains DXE
+pub explained_so : {M : Type 0} (stands : M → StoreState → Type 0) (store : M) (s : StoreState) (actions : ℕ) (catalog : Catalog) (fuel : ℕ) (core : DxeCore) (queue : Queue) (told : DxeTold) (how : DxeEnd) (held : List Held) (discovered : List ℕ) (taken : ℕ)
+    → EndsTo stands store s actions catalog fuel core queue told how
+    → ((m : DxeMachine) → IsCoreOf catalog core m → IsQueueOf catalog m queue → held ≡ dxe_held catalog m (giver_in told.givers.map))
+    → ((m : DxeMachine) → IsCoreOf catalog core m → discovered ≡ m.discovered) → ((m : DxeMachine) → IsCoreOf catalog core m → taken ≡ m.actions)
+    → IsDxeExplained catalog fuel actions s (record { «end» = how; begun = told.begun; held = held; discovered = discovered; actions = taken })
+explained_so stands store s actions catalog fuel core queue told how held discovered taken is waits are counted =
+    let x = dxe_end catalog fuel s actions in
+    let last : DxeMachine = record x { ended = None } in
+    let of : IsCoreOf catalog core last = is.stands_at_end.machine.core in
+    let same : giver_in told.givers.map ≡ dxe_giver s actions catalog fuel (dxe_bound catalog fuel) = λ j guid. is.is_told.givers guid j in
+    record {
+      ended = is.ended;
+      begun = is.is_told.begun;
+      held = waits last of is.stands_at_end.queue ∙ ap (dxe_held catalog x) same;
+      discovered = are last of;
+      actions_are = counted last of;
+    }
+
+-- nothing is told at the opening
+pub at_opening : {M : Type 0} (stands : M → StoreState → Type 0) (store : M) (s : StoreState) (actions : ℕ) (catalog : Catalog) (fuel : ℕ) (core : DxeCore) (queue : Queue) (told : DxeTold) → IsNow stands store catalog core queue (dxe_opening catalog s actions)
+    → told.begun ≡ [] → ((guid : Guid) → giver_in told.givers.map guid ≡ Absent) → IsAt stands store s actions catalog fuel 0 core queue told
+at_opening stands store s actions catalog fuel core queue told now begun givers = record { now = now; is_told = record { begun = begun; givers = givers } }

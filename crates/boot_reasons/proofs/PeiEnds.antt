@@ -5,23 +5,30 @@ use Rattle.std.specs.Prelude.{slice_get}
 use Rattle.pi_base.specs.declared.guid.Guid.{Guid}
 use Rattle.catalog_model.specs.declared.catalog.Catalog.{Catalog}
 use Rattle.store_model.specs.Service.Install.{has_ppi}
-use Rattle.store_model.specs.StoreState.{Board, StoreState}
+use Rattle.store_model.specs.StoreState.{Board, StoreState, end_place}
 use Rattle.boot_laws.specs.RunsEnd.{PeiRunsEnd}
 use Rattle.boot_model.specs.declared.phase_end.PeiEnd.{PeiEnd}
 use Rattle.boot_model.specs.PeiMachine.{PeiMachine}
 use Rattle.boot_model.specs.PeiRun.{pei_bound, pei_end, pei_opening, pei_run}
 use Rattle.boot_model.specs.PeiStep.{case_of}
+use Rattle.boot_model.specs.PeiChoice.{pei_order}
 use Rattle.pei_choice.specs.declared.queue.PeiQueue.{PeiQueue}
+use Rattle.pei_choice.specs.Queue.{parts_in}
 use Rattle.pei_core.specs.declared.pei.Pei.{Pei}
+use Rattle.pei_core.specs.Standing.{StandsFor}
 use Rattle.pei_dispatch.specs.Ends.{StandsAtEnd}
+use Rattle.pei_dispatch.specs.Turns.{IsNow}
 use Rattle.pei_dispatch.proofs.FirstRuns.{steps_then}
 use Rattle.pei_dispatch.proofs.Runs.{stays}
 use Rattle.boot_reasons.specs.declared.reasons.Begun.{Begun}
 use Rattle.boot_reasons.specs.declared.reasons.Giver.{Giver}
+use Rattle.boot_reasons.specs.declared.reasons.Giver.TheVariants.{Absent}
+use Rattle.boot_reasons.specs.declared.reasons.Held.{Held}
 use Rattle.boot_reasons.specs.declared.told.PeiTold.{PeiTold}
 use Rattle.boot_reasons.specs.Givers.{actor_in}
-use Rattle.boot_reasons.specs.PeiEnding.{EndsTo}
-use Rattle.boot_reasons.specs.PeiReasons.{moved_between, pei_after, pei_begun, pei_begun_at, pei_begun_in, pei_giver, pei_moved}
+use Rattle.boot_reasons.specs.Noting.{giver_in}
+use Rattle.boot_reasons.specs.PeiEnding.{EndsTo, IsPeiExplained}
+use Rattle.boot_reasons.specs.PeiReasons.{moved_between, pei_after, pei_begun, pei_begun_at, pei_begun_in, pei_giver, pei_held, pei_moved}
 use Rattle.boot_reasons.specs.PeiTelling.{IsAt, IsAtEnd, IsTold}
 use Rattle.boot_reasons.proofs.GiverSteps.{giver_stays}
 use Rattle.boot_reasons.proofs.PeiSteps.{not_moved}
@@ -90,3 +97,31 @@ never_on ends stands board catalog fuel n pei queue told le is =
     ap (λ k. (pei_after board catalog fuel k).ended) (sym e) ∙ ap (λ (x : PeiMachine). x.ended) (after_end board catalog fuel bound (n - bound) over.0 over.1) ∙ over.1 in
     let running : None ≡ Some over.0 = sym is.now.machine.has.fields.running ∙ there in
     absurd (cc)
+
+-- what is told at the end explains PEI
+pub explained_so : {M : Type 0} (stands : M → StoreState → Type 0) (board : Board) (catalog : Catalog) (fuel : ℕ) (pei : Pei M) (queue : PeiQueue) (told : PeiTold) (how : PeiEnd) (held : List Held) (reported : List ℕ) (heap : ℕ)
+    → EndsTo stands board catalog fuel pei queue told how
+    → ((m : PeiMachine) → StandsFor stands pei m → parts_in queue ≡ pei_order catalog m.reported → held ≡ pei_held catalog m (giver_in told.givers.map))
+    → ((m : PeiMachine) → StandsFor stands pei m → reported ≡ m.reported) → ((m : PeiMachine) → StandsFor stands pei m → heap ≡ end_place m.store)
+    → IsPeiExplained stands board catalog fuel pei (record { «end» = how; begun = told.begun; held = held; reported = reported; moved = told.moved; heap = heap })
+explained_so stands board catalog fuel pei queue told how held reported heap is waits are used =
+    let x = pei_end board catalog fuel in
+    let sweep = is.stands_at_end.sweep in
+    let last : PeiMachine = record x { ended = None; core_sweep = sweep } in
+    let machine : StandsFor stands pei last = is.stands_at_end.machine in
+    let same : giver_in told.givers.map ≡ pei_giver board catalog fuel (pei_bound catalog fuel) = λ j guid. is.is_told.givers guid j in
+    record {
+      ended = is.ended;
+      begun = is.is_told.begun;
+      held = waits last machine is.stands_at_end.placed.parts ∙ ap (pei_held catalog x) same;
+      reported = are last machine;
+      moved = is.is_told.moved;
+      heap = used last machine;
+      sweep = sweep;
+      machine = machine;
+    }
+
+-- nothing is told at the opening
+pub at_opening : {M : Type 0} (stands : M → StoreState → Type 0) (board : Board) (catalog : Catalog) (fuel : ℕ) (pei : Pei M) (queue : PeiQueue) (told : PeiTold) → IsNow stands catalog pei queue (pei_opening board catalog)
+    → told.begun ≡ [] → ((guid : Guid) → giver_in told.givers.map guid ≡ Absent) → told.moved ≡ None → IsAt stands board catalog fuel 0 pei queue told
+at_opening stands board catalog fuel pei queue told now begun givers moved = record { now = now; is_told = record { begun = begun; givers = givers; moved = moved } }
