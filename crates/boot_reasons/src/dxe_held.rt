@@ -38,13 +38,13 @@ fn held_of(
     };
     let requested = is_requested(dxe.requested(), number);
     let needs = needs_of(alloc, givers, Phase::Dxe, part)?;
-    let would = would(alloc, dxe.handles(), Phase::Dxe, &part.expr)?;
+    let guids = would(alloc, dxe.handles(), Phase::Dxe, &part.expr)?;
     Ok(Some(Held {
         number,
         phase: Phase::Dxe,
         reason: reason_of(catalog, number, requested),
         needs,
-        would,
+        would: guids,
     }))
 }
 

@@ -42,13 +42,13 @@ fn held_of<M: PeiStore + Drop>(
         None => return Ok(None),
     };
     let needs = needs_of(alloc, givers, Phase::Pei, part)?;
-    let would = would(alloc, pei.store(), Phase::Pei, &part.expr)?;
+    let guids = would(alloc, pei.store(), Phase::Pei, &part.expr)?;
     Ok(Some(Held {
         number,
         phase: Phase::Pei,
         reason,
         needs,
-        would,
+        would: guids,
     }))
 }
 
