@@ -1,6 +1,6 @@
 -- What is told along a run of DXE, and for which machine of it the core and the queue stand.
 -- Own.
-use Rattle.std.specs.Prelude.{◌≡◌, ℕ, suc, Option, Some, None}
+use Rattle.std.specs.Prelude.{◌≡◌, ℕ, suc, Bool, if◌then◌else◌, List, [], Option, Some, None}
 use Rattle.pi_base.specs.declared.guid.Guid.{Guid}
 use Rattle.catalog_model.specs.declared.catalog.Catalog.{Catalog}
 use Rattle.store_model.specs.StoreState.{StoreState}
@@ -10,6 +10,7 @@ use Rattle.dxe_choice.specs.Queue.{Queue}
 use Rattle.dxe_core.specs.Standing.{DxeCore}
 use Rattle.dxe_dispatch.specs.Ends.{IsNow, StandsAtEnd}
 use Rattle.boot_reasons.specs.declared.dxe.DxeExplained.{DxeExplained}
+use Rattle.boot_reasons.specs.declared.reasons.Held.{Held}
 use Rattle.boot_reasons.specs.declared.told.DxeTold.{DxeTold}
 use Rattle.boot_reasons.specs.Noting.{giver_in}
 use Rattle.boot_reasons.specs.DxeReasons.{dxe_after, dxe_begun, dxe_giver, dxe_held}
@@ -40,6 +41,10 @@ TurnsTo stands store s actions catalog fuel n core queue told (Some how) = IsAtE
 -- a run has come to its end, behind as many steps as it has at most
 abbrev pub EndsTo : {M : Type 0} → (M → StoreState → Type 0) → M → StoreState → ℕ → Catalog → ℕ → DxeCore → Queue → DxeTold → DxeEnd → Type 0
 EndsTo stands store s actions catalog fuel core queue told how = IsAtEnd stands store s actions catalog fuel (dxe_bound catalog fuel) core queue told how
+
+-- what is told of a driver, where it waits
+abbrev pub held_where : Bool → List Held → List Held
+held_where waits held = if waits then held else []
 
 -- what DXE comes to
 pub record IsDxeExplained (catalog : Catalog) (fuel actions : ℕ) (s : StoreState) (e : DxeExplained) : Type 0 where

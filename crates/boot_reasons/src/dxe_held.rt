@@ -1,14 +1,16 @@
 // The drivers that wait at the end of DXE.
 ghost use Rattle.std.specs.Prelude.{◌≡◌, IfOk};
 ghost use Rattle.std.specs.Option.{option_to_list};
-ghost use Rattle.boot_model.specs.DxeChoice.{discovered_order};
+ghost use Rattle.boot_model.specs.DxeChoice.{is_waiting};
 ghost use Rattle.boot_model.specs.DxeMachine.{DxeMachine};
 ghost use Rattle.dxe_choice.specs.Queue.{IsQueueOf};
 ghost use Rattle.dxe_core.specs.Standing.{IsCoreOf};
 ghost use Rattle.boot_reasons.specs.DxeReasons.{dxe_held, dxe_held_at};
+ghost use Rattle.boot_reasons.specs.DxeTelling.{held_where};
 ghost use Rattle.boot_reasons.specs.Noting.{giver_in};
 
 use crate::givers::Givers;
+use crate::held::push_held;
 use crate::needs::needs_of;
 use crate::reasons::Held;
 use catalog_model::Catalog;
@@ -21,17 +23,21 @@ use frames::part_of;
 use pi_base::{OutOfMemory, Phase, Seq};
 use std::alloc::Global;
 
-// A driver that waits.
+// A driver, if it waits.
 fn held_of(
     alloc: Global,
     dxe: &Dxe,
+    queue: &DriverQueue,
     catalog: &Catalog,
     givers: &Givers,
     number: u32,
 ) -> Result<Option<Held>, OutOfMemory>
-    ensures { (m : DxeMachine) → IsCoreOf catalog.now dxe.now m
-        → IfOk result (λ held. option_to_list held ≡ dxe_held_at catalog.now m (giver_in givers.now.map) number) }
+    ensures { (m : DxeMachine) → IsCoreOf catalog.now dxe.now m → IsQueueOf catalog.now m queue.now
+        → IfOk result (λ held. option_to_list held ≡ held_where (is_waiting m number) (dxe_held_at catalog.now m (giver_in givers.now.map) number)) }
 {
+    if !queue.is_waiting(number) {
+        return Ok(None);
+    }
     let part = match part_of(catalog, Phase::Dxe, number) {
         Some(part) => part,
         None => return Ok(None),
@@ -48,7 +54,7 @@ fn held_of(
     }))
 }
 
-/// Those of these drivers that wait.
+/// Those of the discovered drivers that wait.
 pub(crate) fn held_drivers(
     alloc: Global,
     dxe: &Dxe,
@@ -62,11 +68,8 @@ pub(crate) fn held_drivers(
     let mut held = Seq::new(alloc);
     let mut rest = dxe.order().drivers();
     'drivers: while let [number, after @ ..] = rest {
-        if queue.is_waiting(*number) {
-            if let Some(driver) = held_of(alloc, dxe, catalog, givers, *number)? {
-                held.push(driver)?;
-            }
-        }
+        let driver = held_of(alloc, dxe, queue, catalog, givers, *number)?;
+        push_held(&mut held, driver)?;
         rest = after;
     }
     Ok(held)

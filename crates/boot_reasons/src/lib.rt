@@ -8,6 +8,7 @@ mod dxe_held;
 mod dxe_turn;
 mod explain;
 mod givers;
+mod held;
 mod laws;
 mod moves;
 mod needs;

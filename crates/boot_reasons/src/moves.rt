@@ -1,5 +1,6 @@
 // The move of the heap, as a step shows it.
 ghost use Rattle.std.specs.Prelude.{◌≡◌};
+ghost use Rattle.std.specs.Option.{option_or};
 ghost use Rattle.store_model.specs.Service.{Present, OfEach};
 ghost use Rattle.store_model.specs.StoreCall.{Anything};
 ghost use Rattle.store_model.specs.StoreState.{end_place};
@@ -29,18 +30,32 @@ pub(crate) fn unmoved_base<M: PeiStore>(store: &M) -> Option<u64>
     }
 }
 
-/// The move from a base, where the heap has moved.
-pub(crate) fn move_from<M: PeiStore>(from: Option<u64>, store: &M) -> Option<Moved>
+// The move from a base, where the heap has moved.
+fn move_from<M: PeiStore>(from: Option<u64>, store: &M) -> Option<Moved>
     requires state { Present (M.stands_for store.now) Anything }
     ensures { OfEach (M.stands_for store.now) Anything (λ s. result ≡ moved_from from s) }
 {
-    let from = from?;
-    if !store.moved() {
-        return None;
+    match from {
+        Some(from) if store.moved() => Some(Moved {
+            from,
+            to: store.base(),
+            used: heap_used(store),
+        }),
+        _ => None,
     }
-    Some(Moved {
-        from,
-        to: store.base(),
-        used: heap_used(store),
-    })
+}
+
+/// The move that was told before, and else the one from a base, where the heap has moved.
+pub(crate) fn first_move<M: PeiStore>(
+    told: Option<Moved>,
+    from: Option<u64>,
+    store: &M,
+) -> Option<Moved>
+    requires state { Present (M.stands_for store.now) Anything }
+    ensures { OfEach (M.stands_for store.now) Anything (λ s. result ≡ option_or told (moved_from from s)) }
+{
+    match told {
+        Some(moved) => Some(moved),
+        None => move_from(from, store),
+    }
 }

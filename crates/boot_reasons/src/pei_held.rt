@@ -9,6 +9,7 @@ ghost use Rattle.boot_reasons.specs.Noting.{giver_in};
 ghost use Rattle.boot_reasons.specs.PeiReasons.{pei_held, pei_held_for};
 
 use crate::givers::Givers;
+use crate::held::push_held;
 use crate::needs::needs_of;
 use crate::reasons::Held;
 use boot_model::state_of;
@@ -67,9 +68,8 @@ pub(crate) fn held_parts<M: PeiStore + Drop>(
     let mut held = Seq::new(alloc);
     let mut rest = order;
     'parts: while let [number, after @ ..] = rest {
-        if let Some(part) = held_of(alloc, pei, catalog, givers, *number)? {
-            held.push(part)?;
-        }
+        let part = held_of(alloc, pei, catalog, givers, *number)?;
+        push_held(&mut held, part)?;
         rest = after;
     }
     Ok(held)

@@ -17,7 +17,7 @@ ghost use Rattle.boot_reasons.specs.PeiReasons.{pei_after, pei_begun_by};
 ghost use Rattle.boot_reasons.specs.PeiTelling.{IsAt, TurnsTo};
 
 use crate::givers::{Givers, actor};
-use crate::moves::{move_from, unmoved_base};
+use crate::moves::{first_move, unmoved_base};
 use crate::needs::needs_of;
 use crate::nowhere::Nowhere;
 use crate::reasons::{Begun, Giver};
@@ -30,9 +30,26 @@ use frames::part_of;
 use pei_choice::{PeiQueue, licence_of};
 use pei_core::{Event, Pei};
 use pei_dispatch::{Progress, choose, go_on, start, stop_pei};
-use pi_base::{OutOfMemory, Phase};
+use pi_base::{Guid, OutOfMemory, Phase};
 use std::sync::ledger::Ledger;
 use store_model::PeiStore;
+
+// Tells of the PPI that an event took away.
+fn tell_gone<M: PeiStore + Drop>(
+    givers: &mut Givers,
+    pei: &Pei<M>,
+    gone: Option<Guid>,
+    actor: Giver,
+) -> Result<(), OutOfMemory>
+    requires state { (m : PeiMachine) × StandsFor M.stands_for pei.now m }
+    ensures { (m : PeiMachine) → StandsFor M.stands_for pei.now m
+        → OnOk result (AreNoted (has_ppi m.store) actor (option_to_list gone) givers.old.map givers.new.map) }
+{
+    match gone {
+        Some(guid) => givers.note(&guid, pei.store(), actor),
+        None => Ok(()),
+    }
+}
 
 // Tells of an event which PPIs came and went.
 fn tell_event<M: PeiStore + Drop>(
@@ -45,9 +62,7 @@ fn tell_event<M: PeiStore + Drop>(
     ensures { (m : PeiMachine) → StandsFor M.stands_for pei.now m
         → OnOk result (AreNoted (has_ppi m.store) actor (event_guids event.now.gone event.now.there.items) givers.old.map givers.new.map) }
 {
-    if let Some(guid) = event.gone {
-        givers.note(&guid, pei.store(), actor)?;
-    }
+    tell_gone(givers, pei, event.gone, actor)?;
     givers.note_all(event.there.as_slice(), pei.store(), actor)
 }
 
@@ -126,9 +141,7 @@ fn tell_step<M: PeiStore + Drop>(
         → OnOk result (told.new.moved ≡ option_or told.old.moved (moved_from from m.store)) }
     ensures begun { told.new.begun ≡ told.old.begun }
 {
-    if told.moved.is_none() {
-        told.moved = move_from(from, pei.store());
-    }
+    told.moved = first_move(told.moved, from, pei.store());
     tell_event(&mut told.givers, pei, event, actor)
 }
 
