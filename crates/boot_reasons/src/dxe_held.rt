@@ -10,9 +10,9 @@ ghost use Rattle.boot_reasons.specs.DxeTelling.{held_where};
 ghost use Rattle.boot_reasons.specs.Noting.{giver_in};
 
 use crate::givers::Givers;
-use crate::held::push_held;
 use crate::needs::needs_of;
 use crate::reasons::Held;
+use crate::waiters::push_held;
 use catalog_model::Catalog;
 use dxe_action::is_requested;
 use dxe_choice::DriverQueue;

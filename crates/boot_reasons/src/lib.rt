@@ -8,7 +8,6 @@ mod dxe_held;
 mod dxe_turn;
 mod explain;
 mod givers;
-mod held;
 mod laws;
 mod moves;
 mod needs;
@@ -19,6 +18,7 @@ mod pei_turn;
 mod plan;
 mod reasons;
 mod told;
+mod waiters;
 
 pub use explain::explain_boot;
 pub use laws::one_explanation;

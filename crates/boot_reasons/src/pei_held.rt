@@ -9,9 +9,9 @@ ghost use Rattle.boot_reasons.specs.Noting.{giver_in};
 ghost use Rattle.boot_reasons.specs.PeiReasons.{pei_held, pei_held_for};
 
 use crate::givers::Givers;
-use crate::held::push_held;
 use crate::needs::needs_of;
 use crate::reasons::Held;
+use crate::waiters::push_held;
 use boot_model::state_of;
 use catalog_model::Catalog;
 use expression_needs::would;
