@@ -5,7 +5,7 @@ use Rattle.std.specs.Prelude.{slice_get}
 use Rattle.pi_base.specs.declared.guid.Guid.{Guid}
 use Rattle.catalog_model.specs.declared.catalog.Catalog.{Catalog}
 use Rattle.store_model.specs.Service.Install.{has_ppi}
-use Rattle.store_model.specs.StoreState.{Board, StoreState, end_place}
+use Rattle.store_model.specs.StoreState.{Board, StoreState}
 use Rattle.boot_laws.specs.RunsEnd.{PeiRunsEnd}
 use Rattle.boot_model.specs.declared.phase_end.PeiEnd.{PeiEnd}
 use Rattle.boot_model.specs.PeiMachine.{PeiMachine}
@@ -26,6 +26,7 @@ use Rattle.boot_reasons.specs.declared.reasons.Giver.TheVariants.{Absent}
 use Rattle.boot_reasons.specs.declared.reasons.Held.{Held}
 use Rattle.boot_reasons.specs.declared.told.PeiTold.{PeiTold}
 use Rattle.boot_reasons.specs.Givers.{actor_in}
+use Rattle.boot_reasons.specs.Moving.{heap_used}
 use Rattle.boot_reasons.specs.Noting.{giver_in}
 use Rattle.boot_reasons.specs.PeiEnding.{EndsTo, IsPeiExplained}
 use Rattle.boot_reasons.specs.PeiReasons.{moved_between, pei_after, pei_begun, pei_begun_at, pei_begun_in, pei_giver, pei_held, pei_moved}
@@ -102,7 +103,7 @@ never_on ends stands board catalog fuel n pei queue told le is =
 pub explained_so : {M : Type 0} (stands : M → StoreState → Type 0) (board : Board) (catalog : Catalog) (fuel : ℕ) (pei : Pei M) (queue : PeiQueue) (told : PeiTold) (how : PeiEnd) (held : List Held) (reported : List ℕ) (heap : ℕ)
     → EndsTo stands board catalog fuel pei queue told how
     → ((m : PeiMachine) → StandsFor stands pei m → parts_in queue ≡ pei_order catalog m.reported → held ≡ pei_held catalog m (giver_in told.givers.map))
-    → ((m : PeiMachine) → StandsFor stands pei m → reported ≡ m.reported) → ((m : PeiMachine) → StandsFor stands pei m → heap ≡ end_place m.store)
+    → ((m : PeiMachine) → StandsFor stands pei m → reported ≡ m.reported) → ((m : PeiMachine) → StandsFor stands pei m → heap ≡ heap_used m.store)
     → IsPeiExplained stands board catalog fuel pei (record { «end» = how; begun = told.begun; held = held; reported = reported; moved = told.moved; heap = heap })
 explained_so stands board catalog fuel pei queue told how held reported heap is waits are used =
     let x = pei_end board catalog fuel in

@@ -32,13 +32,13 @@ use Rattle.pei_dispatch.proofs.Following.{guids_are, once_fewer}
 use Rattle.pei_dispatch.proofs.Idle.{case_starts, case_stops, step_starts, step_stops}
 use Rattle.pei_dispatch.proofs.Runs.{goes_on, stays}
 use Rattle.store_model.specs.Service.Install.{has_ppi}
-use Rattle.store_model.specs.StoreState.{Board, StoreState, end_place}
+use Rattle.store_model.specs.StoreState.{Board, StoreState}
 use Rattle.boot_reasons.specs.declared.reasons.Begun.{Begun}
 use Rattle.boot_reasons.specs.declared.reasons.Giver.{Giver}
 use Rattle.boot_reasons.specs.declared.reasons.Moved.{Moved}
 use Rattle.boot_reasons.specs.declared.told.PeiTold.{PeiTold}
 use Rattle.boot_reasons.specs.Givers.{actor_in, giver_after}
-use Rattle.boot_reasons.specs.Moving.{moved_from, unmoved_base}
+use Rattle.boot_reasons.specs.Moving.{heap_used, moved_from, unmoved_base}
 use Rattle.boot_reasons.specs.Noting.{AreNoted, giver_in}
 use Rattle.boot_reasons.specs.PeiReasons.{moved_between, pei_after, pei_begun, pei_begun_at, pei_begun_by, pei_begun_in, pei_giver, pei_moved}
 use Rattle.boot_reasons.specs.PeiTelling.{IsAt, IsAtEnd, IsTold}
@@ -80,14 +80,14 @@ told_on board catalog fuel n told later is begun givers moved = record {
 pub not_moved : (s : StoreState) → moved_between s s ≡ None
 not_moved s = by s.moved
   where
-    by : (b : Bool) → cond (not b && b) (Some (record { from = s.base; to = s.base; used = end_place s })) None ≡ None
+    by : (b : Bool) → cond (not b && b) (Some (record { from = s.base; to = s.base; used = heap_used s })) None ≡ None
     by true = refl
     by false = refl
 
 from_is : (s later : StoreState) → moved_from (unmoved_base s) later ≡ moved_between s later
 from_is s later = by s.moved
   where
-    by : (b : Bool) → moved_from (cond b None (Some s.base)) later ≡ cond (not b && later.moved) (Some (record { from = s.base; to = later.base; used = end_place later })) None
+    by : (b : Bool) → moved_from (cond b None (Some s.base)) later ≡ cond (not b && later.moved) (Some (record { from = s.base; to = later.base; used = heap_used later })) None
     by true = refl
     by false = refl
 

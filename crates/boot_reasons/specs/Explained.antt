@@ -2,7 +2,7 @@
 -- Own.
 use Rattle.std.specs.Prelude.{◌≡◌, ℕ, List, [], ◌++◌, Option, Some, None}
 use Rattle.catalog_model.specs.declared.catalog.Catalog.{Catalog}
-use Rattle.store_model.specs.StoreState.{Board, end_place}
+use Rattle.store_model.specs.StoreState.{Board}
 use Rattle.boot_model.specs.declared.phase_end.PeiEnd.{PeiEnd}
 use Rattle.boot_model.specs.declared.phase_end.PeiEnd.TheVariants.{Handoff, NoMemory, NoIpl, Spent, Deep}
 use Rattle.boot_model.specs.DxeRun.{dxe_bound, dxe_end}
@@ -13,6 +13,7 @@ use Rattle.boot_reasons.specs.declared.reasons.Begun.{Begun}
 use Rattle.boot_reasons.specs.declared.reasons.Explained.{Explained}
 use Rattle.boot_reasons.specs.declared.reasons.Held.{Held}
 use Rattle.boot_reasons.specs.DxeReasons.{dxe_begun, dxe_giver, dxe_held}
+use Rattle.boot_reasons.specs.Moving.{heap_used}
 use Rattle.boot_reasons.specs.PeiReasons.{pei_begun, pei_giver, pei_held, pei_moved}
 
 -- what DXE comes to behind a hand-off, and else what stands in its place
@@ -41,7 +42,7 @@ pub record IsExplainedBehind (board : Board) (catalog : Catalog) (fuel : ℕ) (p
   pub reported : e.reported ≡ pei.reported
   pub discovered : e.discovered ≡ behind pei.ended (dxe_end catalog fuel pei.store pei.actions).discovered []
   pub moved : e.moved ≡ pei_moved board catalog fuel (pei_bound catalog fuel)
-  pub heap : e.heap ≡ end_place pei.store
+  pub heap : e.heap ≡ heap_used pei.store
   pub actions : e.actions ≡ behind pei.ended (dxe_end catalog fuel pei.store pei.actions).actions pei.actions
   pub result : end_after catalog fuel pei pei.ended ≡ Some e.result
 

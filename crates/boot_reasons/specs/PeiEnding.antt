@@ -3,7 +3,7 @@
 use Rattle.std.specs.Prelude.{◌≡◌, ℕ, Option, Some, None}
 use Rattle.catalog_model.specs.declared.catalog.Catalog.{Catalog}
 use Rattle.store_model.specs.declared.store_handle.Sweep.{Sweep}
-use Rattle.store_model.specs.StoreState.{Board, StoreState, end_place}
+use Rattle.store_model.specs.StoreState.{Board, StoreState}
 use Rattle.boot_model.specs.declared.phase_end.PeiEnd.{PeiEnd}
 use Rattle.boot_model.specs.PeiMachine.{PeiMachine}
 use Rattle.boot_model.specs.PeiRun.{pei_bound, pei_end}
@@ -12,6 +12,7 @@ use Rattle.pei_core.specs.declared.pei.Pei.{Pei}
 use Rattle.pei_core.specs.Standing.{StandsFor}
 use Rattle.boot_reasons.specs.declared.pei.PeiExplained.{PeiExplained}
 use Rattle.boot_reasons.specs.declared.told.PeiTold.{PeiTold}
+use Rattle.boot_reasons.specs.Moving.{heap_used}
 use Rattle.boot_reasons.specs.PeiReasons.{pei_begun, pei_giver, pei_held, pei_moved}
 use Rattle.boot_reasons.specs.PeiTelling.{IsAtEnd}
 
@@ -26,6 +27,6 @@ pub record IsPeiExplained {M : Type 0} (stands : M → StoreState → Type 0) (b
   pub held : e.held ≡ pei_held catalog (pei_end board catalog fuel) (pei_giver board catalog fuel (pei_bound catalog fuel))
   pub reported : e.reported ≡ (pei_end board catalog fuel).reported
   pub moved : e.moved ≡ pei_moved board catalog fuel (pei_bound catalog fuel)
-  pub heap : e.heap ≡ end_place (pei_end board catalog fuel).store
+  pub heap : e.heap ≡ heap_used (pei_end board catalog fuel).store
   pub sweep : Option Sweep
   pub machine : StandsFor stands pei (record (pei_end board catalog fuel) { ended = None; core_sweep = sweep })

@@ -8,7 +8,7 @@ use Rattle.pi_base.specs.Lists.{numbers}
 use Rattle.catalog_model.specs.declared.catalog.Catalog.{Catalog}
 use Rattle.catalog_model.specs.declared.catalog.Part.{Part}
 use Rattle.catalog_model.specs.Parts.{part_at}
-use Rattle.store_model.specs.StoreState.{Board, StoreState, end_place}
+use Rattle.store_model.specs.StoreState.{Board, StoreState}
 use Rattle.store_model.specs.Service.Install.{has_ppi}
 use Rattle.store_model.specs.declared.store_handle.Firing.{Firing}
 use Rattle.store_model.specs.declared.store_handle.Sweep.{Sweep}
@@ -20,6 +20,7 @@ use Rattle.boot_model.specs.PeiMachine.{PeiMachine, Frame}
 use Rattle.boot_model.specs.PeiRun.{pei_bound, pei_opening, pei_run}
 use Rattle.boot_model.specs.PeiStep.{PeiCase, Fires, Acts, Moves, Pops, Starts, Stops, case_of, reason_of}
 use Rattle.expression_needs.specs.Would.{would}
+use Rattle.boot_reasons.specs.Moving.{heap_used}
 use Rattle.boot_reasons.specs.Givers.{actor_in, giver_after}
 use Rattle.boot_reasons.specs.Needs.{needs_of}
 use Rattle.boot_reasons.specs.declared.reasons.Begun.{Begun}
@@ -70,9 +71,9 @@ pei_held_for catalog s giver number (Some reason) = option_to_list (option_map (
 abbrev pub pei_held : Catalog → PeiMachine → (Guid → Giver) → List Held
 pei_held catalog m giver = flat_map (λ number. pei_held_for catalog m.store giver number (reason_of catalog m number)) (pei_order catalog m.reported)
 
--- the move from one store to the next, if it is one; the HOBs that are used stand before the end HOB
+-- the move from one store to the next, if it is one
 abbrev pub moved_between : StoreState → StoreState → Option Moved
-moved_between s later = if not s.moved && later.moved then Some (record { from = s.base; to = later.base; used = end_place later }) else None
+moved_between s later = if not s.moved && later.moved then Some (record { from = s.base; to = later.base; used = heap_used later }) else None
 
 -- the first move of so many steps
 abbrev pub pei_moved : Board → Catalog → ℕ → ℕ → Option Moved

@@ -3,19 +3,21 @@ ghost use Rattle.std.specs.Prelude.{◌≡◌};
 ghost use Rattle.std.specs.Option.{option_or};
 ghost use Rattle.store_model.specs.Service.{Present, OfEach};
 ghost use Rattle.store_model.specs.StoreCall.{Anything};
-ghost use Rattle.store_model.specs.StoreState.{end_place};
-ghost use Rattle.boot_reasons.specs.Moving.{moved_from, unmoved_base};
+ghost use Rattle.boot_reasons.specs.Moving.{heap_used, moved_from, unmoved_base};
 
 use crate::reasons::Moved;
 use boot_trace::count_hobs;
 use store_model::PeiStore;
 
-/// How many bytes of the heap the HOBs take.
+// The length of the end HOB, which is a header alone.
+const END_LEN: u64 = 8;
+
+/// How many bytes of the heap the HOB list takes, its end HOB included.
 pub(crate) fn heap_used<M: PeiStore>(store: &M) -> u64
     requires state { Present (M.stands_for store.now) Anything }
-    ensures { OfEach (M.stands_for store.now) Anything (λ s. result ≡ end_place s) }
+    ensures { OfEach (M.stands_for store.now) Anything (λ s. result ≡ heap_used s) }
 {
-    count_hobs(store).end
+    count_hobs(store).end + END_LEN
 }
 
 /// The base of a heap that has not moved.

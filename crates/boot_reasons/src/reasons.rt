@@ -56,7 +56,7 @@ pub struct Moved {
     pub from: u64,
     /// The new base, an address.
     pub to: u64,
-    /// How many bytes of the heap the HOBs take behind the move: the offset of the end HOB.
+    /// How many bytes of the heap the HOB list takes behind the move, its end HOB included.
     pub used: u64,
 }
 
@@ -74,7 +74,7 @@ pub struct Explained {
     pub discovered: Seq<u32>,
     /// The move to permanent memory. None where memory was not moved.
     pub moved: Option<Moved>,
-    /// How many bytes of the heap the HOBs take at the end: the offset of the end HOB.
+    /// How many bytes of the heap the HOB list takes at the end, its end HOB included.
     pub heap: u64,
     /// How many actions were taken in both phases.
     pub actions: u32,

@@ -262,15 +262,15 @@ fn try_waits(rt: &impl Abort, held: &[Held]) {
     assert!(rt; is_wait(fifth, &WAITS[3]));
 }
 
-// Behind the move the HOB list has the hand-off HOB with 56 bytes, three descriptors with 48, three nodes with 40 and the FV HOB with 24.
+// Behind the move the HOB list has the hand-off HOB with 56 bytes, three descriptors with 48, three nodes with 40, the FV HOB with 24 and the end HOB with 8.
 fn try_heap(rt: &impl Abort, explained: &Explained) {
     let moved = Moved {
         from: 0x8000_0000,
         to: 0x4000_0000,
-        used: 344,
+        used: 352,
     };
     assert!(rt; explained.moved == Some(moved));
-    assert!(rt; explained.heap == 344);
+    assert!(rt; explained.heap == 352);
     assert!(rt; explained.actions == 15);
     assert!(rt; explained.result == RunEnd::Done);
     assert!(rt; explained.reported.as_slice() == [0].as_slice());
