@@ -1,0 +1,19 @@
+// The code units of a name.
+ghost use Rattle.std.specs.Prelude.{◌≡◌, option_map};
+ghost use Rattle.pi_base.specs.Field.{words_of};
+ghost use Rattle.module_titles.specs.Name.{before_null};
+
+/// The code units before the first null, two bytes each. None where there is no null.
+pub(crate) fn name_in(text: &[u8]) -> Option<&[u8]>
+    ensures { option_map (λ name. words_of name.now) result ≡ before_null (words_of text.now) }
+{
+    let mut rest = text;
+    'units: while let [low, high, after @ ..] = rest {
+        if *low == 0 && *high == 0 {
+            let (name, _) = text.split_at(text.len() - rest.len());
+            return Some(name);
+        }
+        rest = after;
+    }
+    None
+}
