@@ -2,7 +2,7 @@
 ghost use Rattle.std.specs.Prelude.{◌≡◌, ◌++◌, ◌∷◌, [], List, IfOk, OnOk};
 ghost use Rattle.std.specs.List.{list_any};
 ghost use Rattle.pi_base.specs.declared.guid.Guid.{Guid as Name};
-ghost use Rattle.catalog_text.specs.Gives.{AreMet, given_in, named_by, named_in_all, named_in_block, reads_guid};
+ghost use Rattle.catalog_text.specs.Gives.{AreMet, given_in, gives_any, named_by, named_in_all, named_in_block, reads_guid};
 
 use act_code::descriptor_kind::PPI;
 use act_code::{Action, GuidArg, Script};
@@ -27,13 +27,7 @@ fn named_by(action: &Action) -> Option<Guid>
             kind,
             guid: GuidArg::Inline(guid),
             ..
-        } => {
-            if *kind == PPI {
-                Some(*guid)
-            } else {
-                None
-            }
-        }
+        } => { if *kind == PPI { Some(*guid) } else { None } }
         Action::DxeInstall { guid, .. } | Action::DxeReinstall { guid, .. } => Some(*guid),
         _ => None,
     }
@@ -53,15 +47,22 @@ fn reads_guid(action: &Action) -> bool
     }
 }
 
+// Whether an action of a block does.
+fn block_reads(actions: &[Action]) -> bool
+    ensures { result ≡ list_any reads_guid actions.now }
+{
+    actions.iter().any(|action| reads_guid(action))
+}
+
 /// Whether a script may install what it does not name: a PPI whose GUID it reads in a volume.
 pub(crate) fn gives_any(script: &Script) -> bool
-    ensures { result ≡ list_any (list_any reads_guid) script.now.blocks }
+    ensures { result ≡ gives_any script.now }
 {
     script
         .blocks
         .as_slice()
         .iter()
-        .any(|actions| actions.as_slice().iter().any(reads_guid))
+        .any(|actions| block_reads(actions.as_slice()))
 }
 
 // One GUID more.

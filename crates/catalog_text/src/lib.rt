@@ -11,5 +11,5 @@ mod lines;
 
 pub use gives::given_in;
 pub use laws::{given_are_named, one_catalog_text};
-pub use line::put_line;
+pub use line::{end_line, put_front, put_line, put_word};
 pub use lines::{phase_word, put_catalog};

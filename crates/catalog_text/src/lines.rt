@@ -121,12 +121,7 @@ fn put_expr(
 }
 
 // The line of what a part's script may install.
-fn put_gives(
-    out: &mut Seq<u8>,
-    number: u32,
-    phase: Phase,
-    word: &[u8],
-) -> Result<(), OutOfMemory>
+fn put_gives(out: &mut Seq<u8>, number: u32, phase: Phase, word: &[u8]) -> Result<(), OutOfMemory>
     ensures { OnOk result (out.new ≡ out.old ++ gives_line number phase word.now) }
 {
     let number = decimal_word(u64::from(number));

@@ -1,7 +1,7 @@
 // The bytes from an address on, in the volume of the plan that holds it.
 ghost use Rattle.std.specs.Prelude.{◌≡◌, take};
 ghost use Rattle.boot_model.specs.PlanBoard.{roms_of};
-ghost use Rattle.module_titles.specs.Mapped.{mapped_from, holds, from_address};
+ghost use Rattle.module_titles.specs.Mapped.{mapped_from, holds};
 
 use catalog_model::VolumeEntry;
 use pi_base::Seq;
@@ -36,14 +36,16 @@ pub(crate) fn mapped_from<'a>(
     let mut left = images;
     'volumes: for entry in volumes {
         if entry.parent.is_none() {
-            let [image, after @ ..] = left else {
-                return &[];
-            };
-            let bytes = rom_bytes(entry, image.as_slice());
-            if holds(entry.base, bytes.len(), address) {
-                return &bytes[(address - entry.base) as usize..];
+            match left {
+                [] => return &[],
+                [image, after @ ..] => {
+                    let bytes = rom_bytes(entry, image.as_slice());
+                    if holds(entry.base, bytes.len(), address) {
+                        return &bytes[(address - entry.base) as usize..];
+                    }
+                    left = after;
+                }
             }
-            left = after;
         }
     }
     &[]

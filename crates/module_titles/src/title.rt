@@ -1,5 +1,5 @@
 // The name of a module.
-ghost use Rattle.std.specs.Prelude.{◌≡◌, ◌≤◌, ◌+◌, ◌==◌, IfOk, find, length, option_map};
+ghost use Rattle.std.specs.Prelude.{◌≡◌, ◌≤◌, ◌+◌, ◌==◌, IfOk, drop, find, length, option_map, take};
 ghost use Rattle.fv_section.specs.Stream.{AreInside};
 ghost use Rattle.pi_base.specs.Field.{words_of};
 ghost use Rattle.boot_model.specs.PlanBoard.{roms_of};
@@ -15,15 +15,24 @@ use pi_base::{OutOfMemory, Seq};
 use std::alloc::Global;
 
 // The first section of the type.
-fn user_interface(sections: &[Section]) -> Option<&Section>
-    ensures { option_map (λ s. s.now) result ≡ find (λ section. section.kind == USER_INTERFACE) sections.now }
+fn user_interface(sections: &[Section]) -> Option<Section>
+    ensures { result ≡ find (λ section. section.kind == USER_INTERFACE) sections.now }
 {
-    'sections: for section in sections {
+    'sections: for section in sections.iter() {
         if section.kind == USER_INTERFACE {
-            return Some(section);
+            return Some(*section);
         }
     }
     None
+}
+
+// The body of a section.
+fn section_body<'a>(body: &'a [u8], section: &Section) -> &'a [u8]
+    requires { section.now.body_at + section.now.body_len ≤ length body.now }
+    ensures { result.now ≡ take section.now.body_len (drop section.now.body_at body.now) }
+{
+    let at = section.body_at as usize;
+    &body[at..at + section.body_len as usize]
 }
 
 // The body of the first user interface section of a file.
@@ -32,10 +41,7 @@ fn text_in<'a>(body: &'a [u8], sections: &[Section]) -> Option<&'a [u8]>
     ensures { option_map (λ text. text.now) result ≡ first_body USER_INTERFACE body.now sections.now }
 {
     match user_interface(sections) {
-        Some(section) => {
-            let begin = section.body_at as usize;
-            Some(&body[begin..begin + section.body_len as usize])
-        }
+        Some(section) => Some(section_body(body, &section)),
         None => None,
     }
 }

@@ -62,7 +62,7 @@ fn put_name(out: &mut Seq<u8>, name: &[u8]) -> Result<(), OutOfMemory>
 
 /// Adds the word of a name, whose code units have two bytes each.
 pub fn put_title(out: &mut Seq<u8>, title: Option<&[u8]>) -> Result<(), OutOfMemory>
-    ensures { OnOk result (out.new ≡ out.old ++ title_word (option_map (λ name. words_of name.now) title)) }
+    ensures { OnOk result (out.new ≡ out.old ++ title_word (option_map (λ name. words_of name.now) title.entry)) }
 {
     match title {
         Some(name) => put_name(out, name),
