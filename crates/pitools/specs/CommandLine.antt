@@ -31,9 +31,14 @@ AskForCheck words plan trace = (words ≡ codes "check" ∷ plan ∷ trace ∷ [
 abbrev pub AskForHobs : List (List ℕ) → List ℕ → Type 0
 AskForHobs words plan = (words ≡ codes "hobs" ∷ plan ∷ []) × (plan ≢ [])
 
+-- the words ask why each module of a plan's boot started, or why it never did
+abbrev pub AskForExplanation : List (List ℕ) → List ℕ → Type 0
+AskForExplanation words plan = (words ≡ codes "explain" ∷ plan ∷ []) × (plan ≢ [])
+
 -- the words ask for nothing that there is
 pub record AskForNothing (words : List (List ℕ)) : Type 0 where
   pub no_tool : (tool : Tool) (file : List ℕ) → AskForTool words tool file → ⊥
   pub no_map : (hobs commands : List ℕ) → AskForMap words hobs commands → ⊥
   pub no_check : (plan trace : List ℕ) → AskForCheck words plan trace → ⊥
   pub no_hobs : (plan : List ℕ) → AskForHobs words plan → ⊥
+  pub no_explanation : (plan : List ℕ) → AskForExplanation words plan → ⊥

@@ -7,6 +7,7 @@ pub mod GcdReport
 pub mod MpReport
 pub mod JobOutcome
 pub mod CheckReport
+pub mod ExplainReport
 pub mod HobsReport
 pub mod TextReport
 pub mod SourceRefusal

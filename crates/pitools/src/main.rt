@@ -4,6 +4,7 @@
 mod cause_meaning;
 mod check_tool;
 mod command_line;
+mod explain_tool;
 mod forms;
 mod gcd_tool;
 mod hobs_tool;
