@@ -18,7 +18,9 @@ use Rattle.start_order.specs.declared.lines.StartOrder.{StartOrder}
 use Rattle.boot_starts.specs.Starts.{ComeFirst, module_start}
 use Rattle.order_check.specs.Along.{IsAlong, IsIndex}
 use Rattle.order_check.specs.Finding.{same_start}
-use Rattle.order_check.specs.ByOrder.{is_of, is_start_of, lets_asked, lets_by, same_phase, starts_of}
+use Rattle.boot_starts.proofs.Modules.{one_module}
+use Rattle.module_names.specs.Named.{HasNoTwins, IsNamed}
+use Rattle.order_check.specs.ByOrder.{IsNumberOf, NamesAsked, NamesNext, NamesStart, is_of, is_start_of, lets_asked, lets_by, same_phase, starts_of}
 
 -- what an order asks for behind these starts: it asks for this one next, behind as many
 pub record AsksNext (order : StartOrder) (made : List Start) (index : ℕ) (asked : AskedStart) : Type 0 where
@@ -236,3 +238,55 @@ lets_stop catalog order phase index number barred none = some order.stop (sym (a
     some : (stop : Option ℕ) → is_none stop ≡ false → is_some stop ≡ true
     some None e = cc
     some (Some n) e = refl
+
+-- where it asks for a start of a module, that is named
+number_is : (catalog : Catalog) (start : Start) (named : Option ℕ) (other : ℕ) → HasNoTwins catalog → IsNamed catalog start.volume start.name other → IsNumberOf catalog start named → named ≡ Some other
+number_is catalog start None other apart is none = absurd (none other is)
+number_is catalog start (Some number) other apart is this = ap (λ n. Some n) (one_module catalog start.volume start.name number other apart this is)
+
+in_phase : (catalog : Catalog) (start : Start) (named : Option ℕ) (b : Bool) → b ≡ true → NamesStart b catalog start named → IsNumberOf catalog start named
+in_phase catalog start named true e names = names
+in_phase catalog start named false e names = cc
+
+pub named_is : (catalog : Catalog) (phase : Phase) (order : StartOrder) (index : ℕ) (named : Option ℕ) (other : ℕ) (asked : AskedStart) → HasNoTwins catalog → NamesAsked catalog phase order index named → other < length catalog.modules
+    → slice_get order.starts index ≡ Some asked → asked.start ≡ module_start phase catalog other → named ≡ Some other
+named_is catalog phase order index named other asked apart names below asks is =
+    let here : NamesStart (same_phase asked.start.phase phase) catalog asked.start named = subst (λ o. NamesNext catalog phase o named) asks names in
+    let same : same_phase asked.start.phase phase ≡ true = ap (λ (s : Start). same_phase s.phase phase) is ∙ phase_self phase in
+    let this : IsNamed catalog asked.start.volume asked.start.name other = record { is_module = below; in_volume = sym (ap (λ (s : Start). s.volume) is); of_name = sym (ap (λ (s : Start). s.name) is) } in
+    number_is catalog asked.start named other apart this (in_phase catalog asked.start named (same_phase asked.start.phase phase) same here)
+
+-- nobody where it asks for none
+pub none_asked : (catalog : Catalog) (phase : Phase) (order : StartOrder) (index : ℕ) (named : Option ℕ) → NamesAsked catalog phase order index named → slice_get order.starts index ≡ None → named ≡ None
+none_asked catalog phase order index named names none = let here : NamesNext catalog phase None named = subst (λ o. NamesNext catalog phase o named) none names in here
+
+-- one is named, or nobody
+same_number : (catalog : Catalog) (start : Start) (a b : Option ℕ) → HasNoTwins catalog → IsNumberOf catalog start a → IsNumberOf catalog start b → a ≡ b
+same_number catalog start None None apart f g = refl
+same_number catalog start None (Some b) apart f g = absurd (f b g)
+same_number catalog start (Some a) None apart f g = absurd (g a f)
+same_number catalog start (Some a) (Some b) apart f g = ap (λ n. Some n) (one_module catalog start.volume start.name a b apart f g)
+
+one_start_named : (catalog : Catalog) (start : Start) (a b : Option ℕ) (t : Bool) → HasNoTwins catalog → NamesStart t catalog start a → NamesStart t catalog start b → a ≡ b
+one_start_named catalog start a b true apart f g = same_number catalog start a b apart f g
+one_start_named catalog start a b false apart f g = f ∙ sym g
+
+one_next : (catalog : Catalog) (phase : Phase) (asked : Option AskedStart) (a b : Option ℕ) → HasNoTwins catalog → NamesNext catalog phase asked a → NamesNext catalog phase asked b → a ≡ b
+one_next catalog phase None a b apart f g = f ∙ sym g
+one_next catalog phase (Some asked) a b apart f g = one_start_named catalog asked.start a b (same_phase asked.start.phase phase) apart f g
+
+pub one_named : (catalog : Catalog) (phase : Phase) (order : StartOrder) (index : ℕ) (a b : Option ℕ) → HasNoTwins catalog → NamesAsked catalog phase order index a → NamesAsked catalog phase order index b → a ≡ b
+one_named catalog phase order index a b apart f g = one_next catalog phase (slice_get order.starts index) a b apart f g
+
+-- as many starts as the order's, made as it asks, are its own
+pub exactly_made : (order : StartOrder) (made : List Start) → IsAlong order made → length made ≡ length order.starts → made ≡ starts_of order.starts
+exactly_made order made (inl first) same =
+    let all = starts_length order.starts in
+    let sum = ap length first.1 ∙ length-append made first.0 in
+    let none = nothing_left first.0 (length made) (length (starts_of order.starts)) (sym sum) (omega (arith, all, same)) in
+    sym (first.1 ∙ ap (λ x. made ++ x) none ∙ append-nil made)
+exactly_made order made (inr on) same =
+    let all = starts_length order.starts in
+    let sum = ap length on.1.1 ∙ length-append (starts_of order.starts) on.1.0 in
+    let none = nothing_left on.1.0 (length (starts_of order.starts)) (length made) (sym sum) (omega (arith, all, same)) in
+    on.1.1 ∙ ap (λ x. starts_of order.starts ++ x) none ∙ append-nil (starts_of order.starts)

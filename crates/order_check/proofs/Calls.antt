@@ -20,7 +20,6 @@ use Rattle.boot_model.specs.Text.{text_of}
 use Rattle.boot_model.proofs.Texts.{text_of-append}
 use Rattle.boot_trace.specs.Printing.{Texts}
 use Rattle.start_order.specs.declared.lines.StartOrder.{StartOrder}
-use Rattle.boot_starts.specs.Starts.{starts}
 use Rattle.pei_dispatch.specs.Ends.{pei_starts}
 use Rattle.dxe_choice.specs.Queue.{Queue}
 use Rattle.dxe_core.specs.Standing.{DxeCore}
@@ -29,13 +28,15 @@ use Rattle.whole_boot.specs.Closing.{closing}
 use Rattle.whole_boot.proofs.ClosingTexts.{closing_is}
 use Rattle.order_check.specs.declared.following.Followed.{Followed}
 use Rattle.order_check.specs.declared.following.Followed.TheVariants.{Ended, Stopped, No}
-use Rattle.order_check.specs.Along.{IsAlong}
-use Rattle.order_check.specs.Behind.{FinishesTo, last_lines, last_text, pei_result}
+use Rattle.order_check.specs.Answer.{FollowsTo}
+use Rattle.order_check.specs.Behind.{FinishesTo, last_text, pei_result}
+use Rattle.order_check.specs.InOrder.{last_lines}
 use Rattle.order_check.specs.Drivers.{HasRun, StandsSo}
 use Rattle.order_check.specs.declared.drivers.Drivers.{Drivers}
-use Rattle.order_check.specs.Leaving.{ComesTo, FollowsTo, IsReached}
-use Rattle.order_check.proofs.PeiOrder.{Comes, OrderBoot, PeiBar}
-use Rattle.order_check.proofs.DxeOrder.{DxeBar, DxeCome, Handed, NamesDriver, all_starts, came, comes_in_dxe, dxe_along, lets_driver, opening}
+use Rattle.order_check.specs.Leaving.{ComesTo, IsReached}
+use Rattle.order_check.proofs.PeiOrder.{IsRun, OrderBoot, PeiBar}
+use Rattle.order_check.proofs.DxeOrder.{DxeBar, Handed, IsDxeRun, came, comes_in_dxe, drivers, lets_driver, opening}
+use Rattle.order_check.proofs.OrderRuns.{dxe_due_of, dxe_run_of}
 use Rattle.order_check.proofs.Reaching.{dxe_bars, dxe_ends, pei_bars, pei_ends}
 
 -- where the order asks for no start more
@@ -71,57 +72,54 @@ pub two_texts : (first mid new : Option (List ℕ)) (a b : List Line) → Append
 two_texts first mid new a b f g = subst (Appends first new) (sym (text_of-append a b)) (appends_then first mid new (text_of a) (text_of b) f g)
 
 -- PEI ended the boot
-pub pei_closes : (b : OrderBoot) (earlier : List PeiMachine) (m : PeiMachine) (how : PeiEnd) (so : RunEnd) (first mid new : Option (List ℕ)) (index : ℕ) (result : Result Followed Halt) → Comes b earlier m → IsAlong b.order (starts m.lines) → m.ended ≡ Some how → pei_result how ≡ Some so
+pub pei_closes : (b : OrderBoot) (earlier : List PeiMachine) (m : PeiMachine) (how : PeiEnd) (so : RunEnd) (first mid new : Option (List ℕ)) (index : ℕ) (result : Result Followed Halt) → IsRun b earlier m → m.ended ≡ Some how → pei_result how ≡ Some so
     → Appends first mid (text_of m.lines) → index ≡ pei_starts m → FinishesTo b.catalog b.order index m.store no_handles (Some so) (record { old = mid; new = new }) result
     → FollowsTo b.board b.catalog b.fuel b.order (record { old = first; new = new }) result
-pei_closes b earlier m how so first mid new index (Ok followed) come far ended is text at finished =
-    pei_ends b earlier m how so (record { old = first; new = new }) followed come far ended is (two_texts first mid new m.lines (closing m.store no_handles so) text finished.0)
+pei_closes b earlier m how so first mid new index (Ok followed) run ended is text at finished =
+    pei_ends b earlier m how so (record { old = first; new = new }) followed run ended is (two_texts first mid new m.lines (closing m.store no_handles so) text finished.0)
     (subst (λ n. ComesTo b.catalog b.order n m.store no_handles (Some so) followed) at finished.1)
-pei_closes b earlier m how so first mid new index (Err halt) come far ended is text at finished = tt
+pei_closes b earlier m how so first mid new index (Err halt) run ended is text at finished = tt
 
 -- PEI is left before a start that is not let
-pub pei_stays : (b : OrderBoot) (Names : PeiMachine → Option ℕ → Type 0) (m : PeiMachine) (number : ℕ) (bar : PeiBar b Names m number) (t : Texts) (index : ℕ) (result : Result Followed Halt) → Appends t.old t.new (text_of m.lines) → index ≡ pei_starts m
+pub pei_stays : (b : OrderBoot) (m : PeiMachine) (number : ℕ) (bar : PeiBar b m number) (t : Texts) (index : ℕ) (result : Result Followed Halt) → Appends t.old t.new (text_of m.lines) → index ≡ pei_starts m
     → IfOk result (ComesTo b.catalog b.order index m.store no_handles None) → FollowsTo b.board b.catalog b.fuel b.order t result
-pei_stays b Names m number bar t index (Ok followed) text at comes = pei_bars b Names m number bar t followed text (subst (λ n. ComesTo b.catalog b.order n m.store no_handles None followed) at comes)
-pei_stays b Names m number bar t index (Err halt) text at comes = tt
+pei_stays b m number bar t index (Ok followed) text at comes = pei_bars b m number bar t followed text (subst (λ n. ComesTo b.catalog b.order n m.store no_handles None followed) at comes)
+pei_stays b m number bar t index (Err halt) text at comes = tt
 
 -- what DXE comes to behind the hand-off
-pub dxe_finishes : (b : OrderBoot) (h : Handed b) (Names : DxeMachine → Option ℕ → Type 0) (drivers : Drivers) (first old mid new : Option (List ℕ)) (result : Result Followed Halt) → NamesDriver b h Names
-    → HasRun Names (lets_driver b h) b.catalog b.fuel (opening h) (pei_starts h.pei) drivers old mid → Appends first old (text_of h.pei.lines)
-    → FinishesTo b.catalog b.order drivers.starts h.pei.store drivers.handles drivers.«end» (record { old = mid; new = new }) result → FollowsTo b.board b.catalog b.fuel b.order (record { old = first; new = new }) result
-dxe_finishes b h Names drivers first old mid new (Err halt) names run text finished = tt
-dxe_finishes b h Names drivers first old mid new (Ok followed) names run text finished = by drivers.«end» run.stands here
+pub dxe_finishes : (b : OrderBoot) (h : Handed b) (Names : DxeMachine → Option ℕ → Type 0) (left : Drivers) (first old mid new : Option (List ℕ)) (result : Result Followed Halt) → ((m : DxeMachine) (named : Option ℕ) → Names m named → drivers b h m named)
+    → HasRun Names (lets_driver b h) b.catalog b.fuel (opening h) (pei_starts h.pei) left old mid → Appends first old (text_of h.pei.lines)
+    → FinishesTo b.catalog b.order left.starts h.pei.store left.handles left.«end» (record { old = mid; new = new }) result → FollowsTo b.board b.catalog b.fuel b.order (record { old = first; new = new }) result
+dxe_finishes b h Names left first old mid new (Err halt) of ran text finished = tt
+dxe_finishes b h Names left first old mid new (Ok followed) of ran text finished = by left.«end» ran.stands here
   where
     m : DxeMachine
-    m = came b h run.earlier
+    m = came b h ran.earlier
+
+    run : IsDxeRun b h ran.earlier
+    run = dxe_run_of Names (drivers b h) (lets_driver b h) b.catalog b.fuel (opening h) ran.earlier of ran.run
 
     index : ℕ
     index = pei_starts h.pei + length m.started
 
-    come : DxeCome b h m
-    come = comes_in_dxe b h Names run.earlier run.run
-
-    far : IsAlong b.order (all_starts h m)
-    far = dxe_along b h Names run.earlier run.run
-
     t : Texts
     t = record { old = mid; new = new }
 
-    here : FinishesTo b.catalog b.order index h.pei.store m.handles drivers.«end» t (Ok followed)
-    here = subst (λ held. FinishesTo b.catalog b.order index h.pei.store held drivers.«end» t (Ok followed)) (sym run.has)
-        (subst (λ n. FinishesTo b.catalog b.order n h.pei.store drivers.handles drivers.«end» t (Ok followed)) run.starts_are finished)
+    here : FinishesTo b.catalog b.order index h.pei.store m.handles left.«end» t (Ok followed)
+    here = subst (λ held. FinishesTo b.catalog b.order index h.pei.store held left.«end» t (Ok followed)) (sym ran.has)
+        (subst (λ n. FinishesTo b.catalog b.order n h.pei.store left.handles left.«end» t (Ok followed)) ran.starts_are finished)
 
     both : Appends first mid (text_of (h.pei.lines ++ m.lines))
-    both = two_texts first old mid h.pei.lines m.lines text run.text
+    both = two_texts first old mid h.pei.lines m.lines text ran.text
 
     by : (end : Option RunEnd) → StandsSo Names (lets_driver b h) b.catalog m end old mid → FinishesTo b.catalog b.order index h.pei.store m.handles end t (Ok followed) → FollowsTo b.board b.catalog b.fuel b.order (record { old = first; new = new }) (Ok followed)
     by (Some so) stands last =
         let this : FinishesTo b.catalog b.order index h.pei.store m.handles (Some (dxe_result stands.0)) t (Ok followed) = subst (λ e. FinishesTo b.catalog b.order index h.pei.store m.handles (Some e) t (Ok followed)) stands.2 last in
-        dxe_ends b h m stands.0 (record { old = first; new = new }) followed come far stands.1 (two_texts first mid new (h.pei.lines ++ m.lines) (closing h.pei.store m.handles (dxe_result stands.0)) both this.0) this.1
+        dxe_ends b h ran.earlier stands.0 (record { old = first; new = new }) followed run stands.1 (two_texts first mid new (h.pei.lines ++ m.lines) (closing h.pei.store m.handles (dxe_result stands.0)) both this.0) this.1
     by None stands last =
         let bars = stands.1 in
-        let bar : DxeBar b h Names m stands.0 = record { names = names; come = come; going = bars.running; due = bars.due; barred = bars.barred } in
-        dxe_bars b h Names m stands.0 bar (record { old = first; new = new }) followed far (subst (Appends first new) (ap text_of (append-nil (h.pei.lines ++ m.lines))) (two_texts first mid new (h.pei.lines ++ m.lines) [] both last.0)) last.1
+        let bar : DxeBar b h m stands.0 = record { come = comes_in_dxe b h ran.earlier run; going = bars.running; due = dxe_due_of Names (drivers b h) b.catalog m stands.0 of bars.due; barred = bars.barred } in
+        dxe_bars b h ran.earlier stands.0 run bar (record { old = first; new = new }) followed (subst (Appends first new) (ap text_of (append-nil (h.pei.lines ++ m.lines))) (two_texts first mid new (h.pei.lines ++ m.lines) [] both last.0)) last.1
 
 -- what ran in DXE, from what the run leaves: it has ended
 pub has_ended : {M : Type 0} (Names : DxeMachine → Option ℕ → Type 0) (Lets : DxeMachine → ℕ → Bool) (stands : M → StoreState → Type 0) (store : M) (catalog : Catalog) (fuel : ℕ) (opening : DxeMachine) (core : DxeCore) (queue : Queue) (how : DxeEnd) (so : RunEnd) (handles : HandleState) (in_pei starts : ℕ) (old new : Option (List ℕ))

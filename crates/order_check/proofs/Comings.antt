@@ -1,5 +1,5 @@
 -- What a boot along an order comes to, from what is known of the free boots there.
-use Rattle.std.proofs.Common.{◌≡◌, ℕ, true, List, [], ◌∷◌, ◌++◌, length, Some, None, Ok, is_some, refl, sym, ap, ◌∙◌, subst, inl, inr, arith}
+use Rattle.std.proofs.Common.{◌≡◌, ◌≤◌, ℕ, true, List, [], ◌∷◌, ◌++◌, length, Option, Some, None, is_some, refl, sym, ap, ◌∙◌, subst, inl, inr, arith}
 use Rattle.std.specs.Prelude.{◌⊎◌, slice_get}
 use Rattle.std.specs.Io.KnownBytes.{Appends}
 use Rattle.std.proofs.lemmas.List.{append-nil, length-append}
@@ -24,7 +24,10 @@ use Rattle.order_check.specs.Along.{IsAlong, IsIndex}
 use Rattle.order_check.specs.Against.{StandsAgainst}
 use Rattle.order_check.specs.ByOrder.{starts_of}
 use Rattle.order_check.specs.Following.{IsBeforeStart, IsNo, StandsAt, StandsBehind}
-use Rattle.order_check.specs.Leaving.{ComesTo, FollowsTo, IsRefused}
+use Rattle.order_check.specs.Answer.{IsAmongFree}
+use Rattle.order_check.specs.InOrder.{BootsInOrder, LeadsTo, Place, last_lines}
+use Rattle.order_check.specs.Leaving.{ComesTo, IsRefused}
+use Rattle.order_check.specs.Own.{GoesOnItself}
 use Rattle.order_check.proofs.Along.{all_made, asks_next, asks_none, stops_there}
 
 -- Where a boot along an order stands: what was printed, and how many starts there were.
@@ -84,7 +87,7 @@ no_line p last printed line against t r are quiet none far text =
 pub barred_comes : (p : Stand) (t : Texts) → IsBeforeStart p.board p.catalog p.fuel p.lines
     → ((asked : AskedStart) → slice_get p.order.starts p.index ≡ Some asked → (others : List Line) → AreFreeLines p.board p.catalog p.fuel others → ComeFirst (starts p.lines ++ asked.start ∷ []) (starts others) → ⊥)
     → (slice_get p.order.starts p.index ≡ None → is_some p.order.stop ≡ true) → Appends t.old t.new (text_of p.lines)
-    → (followed : Followed) → ComesTo p.catalog p.order p.index p.s p.h None followed → FollowsTo p.board p.catalog p.fuel p.order t (Ok followed)
+    → (followed : Followed) → ComesTo p.catalog p.order p.index p.s p.h None followed → IsAmongFree p.board p.catalog p.fuel p.order t followed
 barred_comes p t before none stops text (Ended end) c = let never : None ≡ Some end = c.0 in cc
 barred_comes p t before none stops text Stopped c =
     let some = stops c.1 in
@@ -112,9 +115,10 @@ one_end a b e = cc
 -- it has come to its end, with its last lines
 pub ended_comes : (p : Stand) (t : Texts) (last : List Line) (end : RunEnd) → starts last ≡ [] → AreFreeLines p.board p.catalog p.fuel (p.lines ++ last)
     → ((others : List Line) → AreFreeLines p.board p.catalog p.fuel others → ComeFirst (starts p.lines) (starts others) → others ≡ p.lines ++ last)
-    → (before : List Line) × (p.lines ++ last ≡ before ++ L.Result end ∷ []) → Appends t.old t.new (text_of (p.lines ++ last))
-    → (followed : Followed) → ComesTo p.catalog p.order p.index p.s p.h (Some end) followed → FollowsTo p.board p.catalog p.fuel p.order t (Ok followed)
-ended_comes p t last end quiet boots only result text (Ended so) c =
+    → (before : List Line) × (p.lines ++ last ≡ before ++ L.Result end ∷ [])
+    → (length p.order.starts ≤ length (starts p.lines) → GoesOnItself p.board p.catalog p.fuel (starts_of p.order.starts) (p.lines ++ last)) → Appends t.old t.new (text_of (p.lines ++ last))
+    → (followed : Followed) → ComesTo p.catalog p.order p.index p.s p.h (Some end) followed → IsAmongFree p.board p.catalog p.fuel p.order t followed
+ended_comes p t last end quiet boots only result itself text (Ended so) c =
     let all = p.lines ++ last in
     let same : starts all ≡ starts p.lines = starts-append p.lines last ∙ ap (λ x. starts p.lines ++ x) quiet ∙ append-nil (starts p.lines) in
     let few = asks_none p.order (starts p.lines) p.index p.at c.1 in
@@ -124,10 +128,11 @@ ended_comes p t last end quiet boots only result text (Ended so) c =
       result = (result.0, result.1 ∙ ap (λ e. result.0 ++ L.Result e ∷ []) (one_end end so c.0));
       made = subst (ComeFirst (starts_of p.order.starts)) (sym same) (all_made p.order (starts p.lines) p.along few);
       no_more = λ some. same ∙ stops_there p.order (starts p.lines) p.along few some;
+      itself = itself few;
       text = text;
     }
-ended_comes p t last end quiet boots only result text Stopped c = let never : Some end ≡ None = c.0 in cc
-ended_comes p t last end quiet boots only result text (No line against) r =
+ended_comes p t last end quiet boots only result itself text Stopped c = let never : Some end ≡ None = c.0 in cc
+ended_comes p t last end quiet boots only result itself text (No line against) r =
     let all = p.lines ++ last in
     let same : starts all ≡ starts p.lines = starts-append p.lines last ∙ ap (λ x. starts p.lines ++ x) quiet ∙ append-nil (starts p.lines) in
     no_line p last all line against t r refl quiet
@@ -135,3 +140,11 @@ ended_comes p t last end quiet boots only result text (No line against) r =
     let is = only others free (first_of_first (starts p.lines) (starts p.lines ++ r.asked.start ∷ []) (starts others) (r.asked.start ∷ [], refl) first) in
     no_more (starts p.lines) r.asked.start (starts others) (ap starts is ∙ same) first)
     (inl boots) text
+
+-- the boot in the order was put, with its last lines where it has ended
+abbrev pub place_of : Stand → Option RunEnd → Place
+place_of p end = record { lines = p.lines; store = p.s; handles = p.h; starts = p.index; «end» = end }
+
+pub in_order : (p : Stand) (t : Texts) (end : Option RunEnd) (followed : Followed) → LeadsTo p.board p.catalog p.fuel p.order (place_of p end) → Appends t.old t.new (text_of (p.lines ++ last_lines p.s p.h end))
+    → ComesTo p.catalog p.order p.index p.s p.h end followed → BootsInOrder p.board p.catalog p.fuel p.order t followed
+in_order p t end followed leads text c = record { place = place_of p end; leads = leads; text = text; comes = c }

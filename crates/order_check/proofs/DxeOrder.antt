@@ -42,13 +42,14 @@ use Rattle.dxe_dispatch.proofs.Targets.{Aimed, Doing, First, HasScheduled, IsTar
 use Rattle.order_check.specs.ByOrder.{NamesAsked, lets_asked, lets_by}
 use Rattle.order_check.specs.Following.{IsBeforeStart}
 use Rattle.order_check.specs.Along.{IsAlong, IsIndex}
-use Rattle.order_check.proofs.Along.{is_start, let_goes_on, lets_stop}
-use Rattle.order_check.proofs.PeiOrder.{Comes, OrderBoot}
+use Rattle.order_check.proofs.Along.{is_start, let_goes_on, lets_stop, named_is}
+use Rattle.order_check.proofs.PeiOrder.{Comes, IsRun, OrderBoot}
 
 -- A boot that has come over its hand-off.
 pub record Handed (b : OrderBoot) : Type 0 where
   pub pei : PeiMachine
   pub earlier : List PeiMachine
+  pub run : IsRun b earlier pei
   pub come : Comes b earlier pei
   pub far : IsAlong b.order (starts pei.lines)
   pub ended : pei.ended ≡ Some Handoff
@@ -59,9 +60,9 @@ opening {b = b} h = dxe_opening b.catalog h.pei.store h.pei.actions
 abbrev pub all_starts : {b : OrderBoot} → Handed b → DxeMachine → List Start
 all_starts h m = starts (h.pei.lines ++ m.lines)
 
--- what the order names in DXE, and what it lets
-abbrev pub NamesDriver : (b : OrderBoot) → Handed b → (DxeMachine → Option ℕ → Type 0) → Type 0
-NamesDriver b h Names = (m : DxeMachine) (named : Option ℕ) → Names m named → NamesAsked Dxe b.names b.order (pei_starts h.pei + length m.started) named
+-- whom the order names in DXE, and what it lets
+abbrev pub drivers : (b : OrderBoot) → Handed b → DxeMachine → Option ℕ → Type 0
+drivers b h m named = NamesAsked b.catalog Dxe b.order (pei_starts h.pei + length m.started) named
 
 abbrev pub lets_driver : (b : OrderBoot) → Handed b → DxeMachine → ℕ → Bool
 lets_driver b h m number = lets_by b.catalog b.order Dxe (pei_starts h.pei + length m.started) number
@@ -69,8 +70,8 @@ lets_driver b h m number = lets_by b.catalog b.order Dxe (pei_starts h.pei + len
 abbrev pub came : (b : OrderBoot) → Handed b → List DxeMachine → DxeMachine
 came b h earlier = D.came b.catalog b.fuel (opening h) earlier
 
-abbrev pub IsDxeRun : (b : OrderBoot) → Handed b → (DxeMachine → Option ℕ → Type 0) → List DxeMachine → Type 0
-IsDxeRun b h Names earlier = D.IsRunBy Names (lets_driver b h) b.catalog b.fuel (opening h) earlier
+abbrev pub IsDxeRun : (b : OrderBoot) → Handed b → List DxeMachine → Type 0
+IsDxeRun b h earlier = D.IsRunBy (drivers b h) (lets_driver b h) b.catalog b.fuel (opening h) earlier
 
 -- a machine to which free steps lead behind the hand-off
 pub record DxeCome (b : OrderBoot) (h : Handed b) (m : DxeMachine) : Type 0 where
@@ -83,12 +84,12 @@ target_free catalog fuel m target (Own own) = Runs.own_steps_are_free catalog fu
 target_free catalog fuel m target (First root found c) = Runs.own_steps_are_free catalog fuel m
 target_free catalog fuel m target (Aimed root c) = (Ways.groups_are_aimed catalog m root c.choosing c.may).step fuel
 
-pub comes_in_dxe : (b : OrderBoot) (h : Handed b) (Names : DxeMachine → Option ℕ → Type 0) (earlier : List DxeMachine) → IsDxeRun b h Names earlier → DxeCome b h (came b h earlier)
-comes_in_dxe b h Names [] run = record { over = []; is = refl }
-comes_in_dxe b h Names (target ∷ earlier) run =
+pub comes_in_dxe : (b : OrderBoot) (h : Handed b) (earlier : List DxeMachine) → IsDxeRun b h earlier → DxeCome b h (came b h earlier)
+comes_in_dxe b h [] run = record { over = []; is = refl }
+comes_in_dxe b h (target ∷ earlier) run =
     let m = came b h earlier in
-    let before = comes_in_dxe b h Names earlier run.3 in
-    let step = target_free b.catalog b.fuel m target (target_at Names b.catalog m target Ways.first_may_start run.2 run.0) in
+    let before = comes_in_dxe b h earlier run.3 in
+    let step = target_free b.catalog b.fuel m target (target_at (drivers b h) b.catalog m target Ways.first_may_start run.2 run.0) in
     record { over = m ∷ before.over; is = (run.2, step, before.is) }
 
 -- how many starts there were, as far as both cores count them
@@ -153,11 +154,11 @@ step_along b h target far at passes = by (dxe_case_of b.catalog target) refl
     by DxeStops e = none DxeStops (case_is DxeStops e) (case_adds b.catalog b.fuel target DxeStops tt).lines
 
 -- what the target of a choice has of its machine
-record Same (b : OrderBoot) (h : Handed b) (m target : DxeMachine) : Type 0 where
-  lines : target.lines ≡ m.lines
-  started : target.started ≡ m.started
+pub record Same (b : OrderBoot) (h : Handed b) (m target : DxeMachine) : Type 0 where
+  pub lines : target.lines ≡ m.lines
+  pub started : target.started ≡ m.started
 
-target_same : (b : OrderBoot) (h : Handed b) (m target : DxeMachine) → IsTarget b.catalog m Any target → Same b h m target
+pub target_same : (b : OrderBoot) (h : Handed b) (m target : DxeMachine) → IsTarget b.catalog m Any target → Same b h m target
 target_same b h m target aim = record { lines = same_lines b.catalog m target Any aim; started = same_started b.catalog m target Any aim }
 
 starts_same : (b : OrderBoot) (h : Handed b) (m target : DxeMachine) → Same b h m target → all_starts h target ≡ all_starts h m
@@ -168,16 +169,16 @@ index_same b h m target same at =
     subst (λ made. IsIndex b.order made (pei_starts h.pei + length target.started)) (sym (starts_same b h m target same))
     (subst (λ xs. IsIndex b.order (all_starts h m) (pei_starts h.pei + length xs)) (sym same.started) at)
 
-pub dxe_along : (b : OrderBoot) (h : Handed b) (Names : DxeMachine → Option ℕ → Type 0) (earlier : List DxeMachine) → IsDxeRun b h Names earlier → IsAlong b.order (all_starts h (came b h earlier))
-dxe_along b h Names [] run =
+pub dxe_along : (b : OrderBoot) (h : Handed b) (earlier : List DxeMachine) → IsDxeRun b h earlier → IsAlong b.order (all_starts h (came b h earlier))
+dxe_along b h [] run =
     let none : all_starts h (opening h) ≡ starts h.pei.lines =
     starts-append h.pei.lines (opening h).lines ∙ ap (λ x. starts h.pei.lines ++ x) (opening_quiet b.catalog h.pei.store h.pei.actions) ∙ append-nil (starts h.pei.lines) in
     subst (IsAlong b.order) (sym none) h.far
-dxe_along b h Names (target ∷ earlier) run =
+dxe_along b h (target ∷ earlier) run =
     let m = came b h earlier in
-    let far = dxe_along b h Names earlier run.3 in
-    let same = target_same b h m target (target_at Names b.catalog m target Ways.first_may_start run.2 run.0) in
-    let at = index b h m (comes_in_dxe b h Names earlier run.3) in
+    let far = dxe_along b h earlier run.3 in
+    let same = target_same b h m target (target_at (drivers b h) b.catalog m target Ways.first_may_start run.2 run.0) in
+    let at = index b h m (comes_in_dxe b h earlier run.3) in
     step_along b h target (subst (IsAlong b.order) (sym (starts_same b h m target same)) far) (index_same b h m target same at) run.1
 
 -- each machine on the way is under way
@@ -186,11 +187,10 @@ dxe_way b h [] m come = subst (IsUnderWay b.catalog) (sym come) (Ways.opens_unde
 dxe_way b h (before ∷ over) m come = (Ways.steps_run_out b.catalog b.fuel before m b.well.parents come.0 (dxe_way b h over before come.2) come.1).way
 
 -- A machine of DXE in which a driver is due that is not let.
-pub record DxeBar (b : OrderBoot) (h : Handed b) (Names : DxeMachine → Option ℕ → Type 0) (m : DxeMachine) (number : ℕ) : Type 0 where
-  pub names : NamesDriver b h Names
+pub record DxeBar (b : OrderBoot) (h : Handed b) (m : DxeMachine) (number : ℕ) : Type 0 where
   pub come : DxeCome b h m
   pub going : m.ended ≡ None
-  pub due : D.IsDue Names b.catalog m number
+  pub due : D.IsDue (drivers b h) b.catalog m number
   pub barred : lets_driver b h due.target number ≡ false
 
 one_number : (a b : ℕ) → Some a ≡ Some b → a ≡ b
@@ -230,8 +230,8 @@ target_way b m target (Own own) way = way
 target_way b m target (First root found c) way = way
 target_way b m target (Aimed root c) way = (Ways.groups_are_aimed b.catalog m root c.choosing c.may).way way
 
-aim_of : (b : OrderBoot) (h : Handed b) (Names : DxeMachine → Option ℕ → Type 0) (m : DxeMachine) (number : ℕ) → (bar : DxeBar b h Names m number) → IsTarget b.catalog m Any bar.due.target
-aim_of b h Names m number bar = target_at Names b.catalog m bar.due.target Ways.first_may_start bar.going bar.due.aimed
+aim_of : (b : OrderBoot) (h : Handed b) (m : DxeMachine) (number : ℕ) → (bar : DxeBar b h m number) → IsTarget b.catalog m Any bar.due.target
+aim_of b h m number bar = target_at (drivers b h) b.catalog m bar.due.target Ways.first_may_start bar.going bar.due.aimed
 
 -- a choice whose machine starts a driver has one that may
 own_never : (b : OrderBoot) (m : DxeMachine) (next : Scheduled) (queue : List Scheduled) → IsChoosing m → IsOwnCase (dxe_case_of b.catalog m) m.scheduled → dxe_case_of b.catalog m ≡ DxeStarts next queue → ⊥
@@ -302,10 +302,10 @@ first_from b h m later lines other rest adds free =
     (rest ++ starts behind.rest, whole ∙ append_assoc (all_starts h m) (next ∷ rest) (starts behind.rest) ∙ sym (append_assoc (all_starts h m) (next ∷ []) (rest ++ starts behind.rest)))
 
 -- where a driver is scheduled it is that
-scheduled_next : (b : OrderBoot) (h : Handed b) (Names : DxeMachine → Option ℕ → Type 0) (m : DxeMachine) (number : ℕ) (bar : DxeBar b h Names m number) (lines : List Line) (first : Scheduled) (rest : List Scheduled) → m.frames ≡ [] → m.scheduled ≡ first ∷ rest
+scheduled_next : (b : OrderBoot) (h : Handed b) (m : DxeMachine) (number : ℕ) (bar : DxeBar b h m number) (lines : List Line) (first : Scheduled) (rest : List Scheduled) → m.frames ≡ [] → m.scheduled ≡ first ∷ rest
     → AreFreeDxeLines b.catalog b.fuel h.pei m lines → StartsNext b h m number lines
-scheduled_next b h Names m number bar lines first rest idle is free =
-    let same : bar.due.target ≡ m = none_aimed Names b.catalog m bar.due.target first rest is bar.due.aimed in
+scheduled_next b h m number bar lines first rest idle is free =
+    let same : bar.due.target ≡ m = none_aimed (drivers b h) b.catalog m bar.due.target first rest is bar.due.aimed in
     let case : dxe_case_of b.catalog m ≡ DxeStarts bar.due.starting.next bar.due.starting.queue = subst (λ x. dxe_case_of b.catalog x ≡ DxeStarts bar.due.starting.next bar.due.starting.queue) same bar.due.starting.starts in
     let way = dxe_way b h bar.come.over m bar.come.is in
     let own = scheduled_owns b.catalog m first rest idle is in
@@ -322,12 +322,12 @@ scheduled_next b h Names m number bar lines first rest idle is free =
     }
 
 -- where one is to be chosen it is the first of the group of some driver that may
-chosen_next : (b : OrderBoot) (h : Handed b) (Names : DxeMachine → Option ℕ → Type 0) (m : DxeMachine) (number : ℕ) (bar : DxeBar b h Names m number) (lines : List Line) → IsChoosing m → AreFreeDxeLines b.catalog b.fuel h.pei m lines → StartsNext b h m number lines
-chosen_next b h Names m number bar lines choosing free =
+chosen_next : (b : OrderBoot) (h : Handed b) (m : DxeMachine) (number : ℕ) (bar : DxeBar b h m number) (lines : List Line) → IsChoosing m → AreFreeDxeLines b.catalog b.fuel h.pei m lines → StartsNext b h m number lines
+chosen_next b h m number bar lines choosing free =
     let way = dxe_way b h bar.come.over m bar.come.is in
     let next = bar.due.starting.next in
     let queue = bar.due.starting.queue in
-    let some = some_eligible b m bar.due.target next queue choosing (aim_of b h Names m number bar) bar.due.starting.starts in
+    let some = some_eligible b m bar.due.target next queue choosing (aim_of b h m number bar) bar.due.starting.starts in
     let one = Runs.starts_freely b.catalog b.fuel h.pei m choosing some lines free in
     let g : Group b m = record { choosing = choosing; way = way; root = one.0; may = one.1 } in
     let aim = aim_is b m g in
@@ -342,45 +342,45 @@ chosen_next b h Names m number bar lines choosing free =
       below = first_below b m g;
       first = first_from b h m (dxe_step b.catalog b.fuel target) lines first.module_number (starts prints.rest) adds on;
       due = λ asked asks is.
-          let named = bar.names m bar.due.aimed.named (bar.due.aimed.allowed choosing) b.catalog b.are first.module_number asked (first_below b m g) asks is in
-          let to = target_is Names b.catalog m bar.due.target (λ root. root ≡ g.root) Ways.first_may_start bar.going bar.due.aimed (λ c. leading b m g bar.due.aimed.named named) in
+          let named = named_is b.catalog Dxe b.order (pei_starts h.pei + length m.started) bar.due.aimed.named first.module_number asked b.apart (bar.due.aimed.allowed choosing) (first_below b m g) asks is in
+          let to = target_is (drivers b h) b.catalog m bar.due.target (λ root. root ≡ g.root) Ways.first_may_start bar.going bar.due.aimed (λ c. leading b m g bar.due.aimed.named named) in
           bar.due.starting.is ∙ ap (λ (s : Scheduled). s.module_number) (chosen_is b m bar.due.target g next queue to bar.due.starting.starts);
     }
 
 not_running : (frame : DriverFrame) (below : List DriverFrame) → frame ∷ below ≡ [] → ⊥
 not_running frame below e = cc
 
-starts_next : (b : OrderBoot) (h : Handed b) (Names : DxeMachine → Option ℕ → Type 0) (m : DxeMachine) (number : ℕ) (bar : DxeBar b h Names m number) (lines : List Line) → AreFreeDxeLines b.catalog b.fuel h.pei m lines → StartsNext b h m number lines
-starts_next b h Names m number bar lines free = by (doing m bar.going)
+starts_next : (b : OrderBoot) (h : Handed b) (m : DxeMachine) (number : ℕ) (bar : DxeBar b h m number) (lines : List Line) → AreFreeDxeLines b.catalog b.fuel h.pei m lines → StartsNext b h m number lines
+starts_next b h m number bar lines free = by (doing m bar.going)
   where
     by : Doing m → StartsNext b h m number lines
     by (RunsScript frame below e) =
-        let same : bar.due.target ≡ m = none_named Names b.catalog m bar.due.target frame below e bar.due.aimed in
+        let same : bar.due.target ≡ m = none_named (drivers b h) b.catalog m bar.due.target frame below e bar.due.aimed in
         let case : dxe_case_of b.catalog m ≡ DxeStarts bar.due.starting.next bar.due.starting.queue = subst (λ x. dxe_case_of b.catalog x ≡ DxeStarts bar.due.starting.next bar.due.starting.queue) same bar.due.starting.starts in
         absurd (not_running frame below (sym e ∙ (starts_from b.catalog m m.frames bar.due.starting.next bar.due.starting.queue case).0))
-    by (HasScheduled first rest e f) = scheduled_next b h Names m number bar lines first rest e f free
-    by (MayChoose choosing) = chosen_next b h Names m number bar lines choosing free
+    by (HasScheduled first rest e f) = scheduled_next b h m number bar lines first rest e f free
+    by (MayChoose choosing) = chosen_next b h m number bar lines choosing free
 
 -- so no free boot makes the start that the order asks for
-pub none_starts : (b : OrderBoot) (h : Handed b) (Names : DxeMachine → Option ℕ → Type 0) (m : DxeMachine) (number : ℕ) (asked : AskedStart) → DxeBar b h Names m number → slice_get b.order.starts (pei_starts h.pei + length m.started) ≡ Some asked
+pub none_starts : (b : OrderBoot) (h : Handed b) (m : DxeMachine) (number : ℕ) (asked : AskedStart) → DxeBar b h m number → slice_get b.order.starts (pei_starts h.pei + length m.started) ≡ Some asked
     → (lines : List Line) → AreFreeLines b.board b.catalog b.fuel lines → ComeFirst (all_starts h m ++ asked.start ∷ []) (starts lines) → ⊥
-none_starts b h Names m number asked bar asks lines free first =
+none_starts b h m number asked bar asks lines free first =
     let made = all_starts h m in
     let here = goes_from b h m lines bar.come free (first_of_first made (made ++ asked.start ∷ []) (starts lines) (asked.start ∷ [], refl) first) in
-    let s = starts_next b h Names m number bar lines here in
+    let s = starts_next b h m number bar lines here in
     let next = module_start Dxe b.catalog s.other in
     let same : asked.start ≡ next = next_of_fronts made (made ++ asked.start ∷ []) (made ++ next ∷ []) (starts lines) asked.start next [] [] refl refl first s.first in
     let due = s.due asked asks same in
-    let started = (target_same b h m bar.due.target (aim_of b h Names m number bar)).started in
+    let started = (target_same b h m bar.due.target (aim_of b h m number bar)).started in
     let asks_there : slice_get b.order.starts (pei_starts h.pei + length bar.due.target.started) ≡ Some asked = ap (λ (xs : List ℕ). slice_get b.order.starts (pei_starts h.pei + length xs)) started ∙ asks in
     let below : number < length b.catalog.modules = subst (λ n. n < length b.catalog.modules) (sym due) s.below in
     let lets : lets_driver b h bar.due.target number ≡ true = ap (λ o. lets_asked b.catalog Dxe b.order.stop o number) asks_there ∙ is_start b.catalog Dxe number asked.start below (same ∙ ap (module_start Dxe b.catalog) (sym due)) in
     true≢false (sym lets ∙ bar.barred)
 
 -- a free boot goes on from there with the start of the driver that is due
-pub before_start : (b : OrderBoot) (h : Handed b) (Names : DxeMachine → Option ℕ → Type 0) (m : DxeMachine) (number : ℕ) → DxeBar b h Names m number → IsBeforeStart b.board b.catalog b.fuel (h.pei.lines ++ m.lines)
-before_start b h Names m number bar =
-    let aim = aim_of b h Names m number bar in
+pub before_start : (b : OrderBoot) (h : Handed b) (m : DxeMachine) (number : ℕ) → DxeBar b h m number → IsBeforeStart b.board b.catalog b.fuel (h.pei.lines ++ m.lines)
+before_start b h m number bar =
+    let aim = aim_of b h m number bar in
     let target = bar.due.target in
     let next = bar.due.starting.next in
     let way = dxe_way b h bar.come.over m bar.come.is in
@@ -405,7 +405,7 @@ before_start b h Names m number bar =
     }
 
 -- where the order asks for nothing and the driver is not let, it stops
-pub stops_there : (b : OrderBoot) (h : Handed b) (Names : DxeMachine → Option ℕ → Type 0) (m : DxeMachine) (number : ℕ) → DxeBar b h Names m number → slice_get b.order.starts (pei_starts h.pei + length m.started) ≡ None → is_some b.order.stop ≡ true
-stops_there b h Names m number bar none =
-    let started = (target_same b h m bar.due.target (aim_of b h Names m number bar)).started in
+pub stops_there : (b : OrderBoot) (h : Handed b) (m : DxeMachine) (number : ℕ) → DxeBar b h m number → slice_get b.order.starts (pei_starts h.pei + length m.started) ≡ None → is_some b.order.stop ≡ true
+stops_there b h m number bar none =
+    let started = (target_same b h m bar.due.target (aim_of b h m number bar)).started in
     lets_stop b.catalog b.order Dxe (pei_starts h.pei + length bar.due.target.started) number bar.barred (ap (λ (xs : List ℕ). slice_get b.order.starts (pei_starts h.pei + length xs)) started ∙ none)

@@ -3,8 +3,13 @@ mod Among
 mod Pushing
 mod PeiOrder
 mod DxeOrder
+mod OrderRuns
+mod OnePlace
+mod Itself
 mod ClosingStarts
 mod Comings
 mod Reaching
 mod Calls
 mod Faults
+mod Naming
+mod OneBoot

@@ -1,17 +1,16 @@
--- The choice by an order: behind so many starts the module of the order's line in that place, and no other is let; behind its last line each is, unless it says that the boot is followed no further.
+-- The choice by an order: behind so many starts the module of the order's line in that place is named, and no other is let; behind its last line nobody is named, so that the first that may start does, and each is let, unless the order stops there.
 -- Own; PI 1.8, volumes 1 and 2, leave the order of the modules that may start to the dispatchers.
-use Rattle.std.specs.Prelude.{◌≡◌, ◌<◌, ℕ, Bool, true, false, ◌&&◌, ◌==◌, List, Option, Some, None, is_none, length, map, slice_get}
+use Rattle.std.specs.Prelude.{◌≡◌, ℕ, Bool, true, false, ◌&&◌, ◌==◌, List, Option, Some, None, is_none, length, map, slice_get}
 use Rattle.pi_base.specs.declared.guid.Guid.{Guid}
 use Rattle.pi_base.specs.declared.phase.Phase.{Phase}
 use Rattle.pi_base.specs.declared.phase.Phase.TheVariants.{Pei, Dxe}
 use Rattle.pi_base.specs.Guids.{same_guid}
 use Rattle.catalog_model.specs.declared.catalog.Catalog.{Catalog}
 use Rattle.catalog_model.specs.declared.catalog.Module.{Module}
-use Rattle.module_names.specs.Named.{AreNames}
+use Rattle.module_names.specs.Named.{AreNames, IsNamed}
 use Rattle.start_order.specs.declared.line.AskedStart.{AskedStart}
 use Rattle.start_order.specs.declared.line.Start.{Start}
 use Rattle.start_order.specs.declared.lines.StartOrder.{StartOrder}
-use Rattle.boot_starts.specs.Starts.{module_start}
 
 -- the starts of lines of an order
 abbrev pub starts_of : List AskedStart → List Start
@@ -32,12 +31,28 @@ is_of phase start (Some m) = same_phase start.phase phase && (m.volume == start.
 abbrev pub is_start_of : Catalog → Phase → ℕ → Start → Bool
 is_start_of catalog phase number start = is_of phase start (slice_get catalog.modules number)
 
--- where the order has a module start in the phase behind so many starts, that is the one that is named
-abbrev pub NamesAsked : Phase → List (List (Guid × ℕ)) → StartOrder → ℕ → Option ℕ → Type 0
-NamesAsked phase names order starts named =
-    (catalog : Catalog) → AreNames catalog (length catalog.modules) names
-    → (number : ℕ) (asked : AskedStart) → number < length catalog.modules → slice_get order.starts starts ≡ Some asked
-    → asked.start ≡ module_start phase catalog number → named ≡ Some number
+-- the module of a start's volume and file name, if there is one
+abbrev pub IsNumberOf : Catalog → Start → Option ℕ → Type 0
+IsNumberOf catalog start None = (number : ℕ) → IsNamed catalog start.volume start.name number → ⊥
+IsNumberOf catalog start (Some number) = IsNamed catalog start.volume start.name number
+
+-- it is named where the start is one of the phase
+abbrev pub NamesStart : Bool → Catalog → Start → Option ℕ → Type 0
+NamesStart true catalog start named = IsNumberOf catalog start named
+NamesStart false catalog start named = named ≡ None
+
+-- by what the order asks for there: behind its last line nobody is named
+abbrev pub NamesNext : Catalog → Phase → Option AskedStart → Option ℕ → Type 0
+NamesNext catalog phase None named = named ≡ None
+NamesNext catalog phase (Some asked) named = NamesStart (same_phase asked.start.phase phase) catalog asked.start named
+
+-- whom the order names in a phase behind so many starts
+abbrev pub NamesAsked : Catalog → Phase → StartOrder → ℕ → Option ℕ → Type 0
+NamesAsked catalog phase order starts named = NamesNext catalog phase (slice_get order.starts starts) named
+
+-- the same where the names of the modules are kept
+abbrev pub NamesBy : Catalog → List (List (Guid × ℕ)) → Phase → StartOrder → ℕ → Option ℕ → Type 0
+NamesBy catalog names phase order starts named = AreNames catalog (length catalog.modules) names → NamesAsked catalog phase order starts named
 
 -- whether a module is let, by what the order asks for there
 abbrev pub lets_asked : Catalog → Phase → Option ℕ → Option AskedStart → ℕ → Bool

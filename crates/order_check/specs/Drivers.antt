@@ -16,11 +16,11 @@ use Rattle.boot_model.specs.Text.{text_of}
 use Rattle.start_order.specs.declared.lines.StartOrder.{StartOrder}
 use Rattle.dxe_dispatch.specs.Choices.{IsBarred, IsRunBy, LetsDrivers, NamesDrivers, came}
 use Rattle.order_check.specs.declared.drivers.Drivers.{Drivers}
-use Rattle.order_check.specs.ByOrder.{NamesAsked, lets_by}
+use Rattle.order_check.specs.ByOrder.{NamesBy, lets_by}
 
 -- what an order names in DXE, and what it lets, behind so many starts in PEI
-abbrev pub named_by : {S : Type 0} → (S → Option (List ℕ)) → (S → ℕ) → StartOrder → List (List (Guid × ℕ)) → ℕ → S → DxeMachine → Option ℕ → Type 0
-named_by text faults order names in_pei first = NamesDrivers (λ sink starts named. NamesAsked Dxe names order starts named) text faults in_pei first
+abbrev pub named_by : {S : Type 0} → (S → Option (List ℕ)) → (S → ℕ) → Catalog → StartOrder → List (List (Guid × ℕ)) → ℕ → S → DxeMachine → Option ℕ → Type 0
+named_by text faults catalog order names in_pei first = NamesDrivers (λ sink starts named. NamesBy catalog names Dxe order starts named) text faults in_pei first
 
 abbrev pub let_by : Catalog → StartOrder → ℕ → DxeMachine → ℕ → Bool
 let_by catalog order in_pei = LetsDrivers (λ starts number. lets_by catalog order Dxe starts number) in_pei
@@ -42,7 +42,7 @@ pub record HasRun (Names : DxeMachine → Option ℕ → Type 0) (Lets : DxeMach
 
 abbrev pub RunsDrivers : {S : Type 0} → (S → Option (List ℕ)) → (S → ℕ) → Catalog → StartOrder → List (List (Guid × ℕ)) → ℕ → ℕ → ℕ → S → S → Result Drivers Halt → StoreState → Type 0
 RunsDrivers text faults catalog order names fuel taken in_pei sink shown (Ok drivers) s =
-    HasRun (named_by text faults order names in_pei sink) (let_by catalog order in_pei) catalog fuel (dxe_opening catalog s taken) in_pei drivers (text sink) (text shown)
+    HasRun (named_by text faults catalog order names in_pei sink) (let_by catalog order in_pei) catalog fuel (dxe_opening catalog s taken) in_pei drivers (text sink) (text shown)
 RunsDrivers text faults catalog order names fuel taken in_pei sink shown (Err halt) s = ⊤
 
 abbrev pub OnFew : Result Drivers Halt → Type 0

@@ -18,7 +18,7 @@ use Rattle.start_order.specs.declared.lines.StartOrder.{StartOrder}
 use Rattle.order_check.specs.declared.images.FollowFault.{FollowFault}
 use Rattle.order_check.specs.declared.images.FollowFault.TheVariants.{Image, Twins, Sink, Memory}
 use Rattle.order_check.specs.declared.following.Followed.{Followed}
-use Rattle.order_check.specs.Leaving.{FollowsTo}
+use Rattle.order_check.specs.Answer.{FollowsTo}
 
 -- a fault of images is told as it is; want of memory is none
 abbrev pub IsFaultTold : ImageFault → FollowFault → Type 0

@@ -23,6 +23,7 @@ use Rattle.boot_starts.specs.Starts.{ComeFirst, start_of, starts}
 use Rattle.boot_starts.specs.Leading.{DxeComesTo, PeiComesTo}
 use Rattle.order_check.specs.ByOrder.{starts_of}
 use Rattle.order_check.specs.Against.{StandsAgainst}
+use Rattle.order_check.specs.Own.{GoesOnItself}
 use Rattle.order_check.specs.declared.against.Against.{Against}
 
 -- the lines of a free boot up to one of its starts
@@ -35,13 +36,14 @@ pub record IsBeforeStart (board : Board) (catalog : Catalog) (fuel : ℕ) (print
   pub rest : List Line
   pub are : lines ≡ printed ++ line ∷ rest
 
--- a boot that came to its end: its starts are those of the order, and others only where that does not stop
+-- a boot that came to its end: its starts are those of the order, and others only where that does not stop; behind the last of the order it goes on as the machine itself does
 pub record HasEnded (board : Board) (catalog : Catalog) (fuel : ℕ) (order : StartOrder) (end : RunEnd) (t : Texts) : Type 0 where
   pub lines : List Line
   pub boots : AreFreeLines board catalog fuel lines
   pub result : (before : List Line) × (lines ≡ before ++ L.Result end ∷ [])
   pub made : ComeFirst (starts_of order.starts) (starts lines)
   pub no_more : is_some order.stop ≡ true → starts lines ≡ starts_of order.starts
+  pub itself : GoesOnItself board catalog fuel (starts_of order.starts) lines
   pub text : Appends t.old t.new (text_of lines)
 
 -- a boot that was left before its next start, where the order stops

@@ -1,12 +1,10 @@
 -- What a boot along an order comes to where it is left before a start, or has ended, by what the order asks for behind so many starts.
 -- Own.
-use Rattle.std.specs.Prelude.{◌≡◌, ℕ, Option, Some, None, Result, Ok, Err, slice_get, take, ⊤}
-use Rattle.boot_io.specs.declared.halt.Halt.{Halt}
+use Rattle.std.specs.Prelude.{◌≡◌, ℕ, Option, Some, None, slice_get, take}
 use Rattle.catalog_model.specs.declared.catalog.Catalog.{Catalog}
 use Rattle.store_model.specs.HandleState.{HandleState}
-use Rattle.store_model.specs.StoreState.{Board, StoreState}
+use Rattle.store_model.specs.StoreState.{StoreState}
 use Rattle.boot_model.specs.declared.line.RunEnd.{RunEnd}
-use Rattle.boot_trace.specs.Printing.{Texts}
 use Rattle.start_order.specs.declared.line.AskedStart.{AskedStart}
 use Rattle.start_order.specs.declared.lines.StartOrder.{StartOrder}
 use Rattle.order_check.specs.declared.against.Against.{Against}
@@ -14,7 +12,6 @@ use Rattle.order_check.specs.declared.following.Followed.{Followed}
 use Rattle.order_check.specs.declared.following.Followed.TheVariants.{Ended, Stopped, No}
 use Rattle.order_check.specs.Against.{StandsAgainst}
 use Rattle.order_check.specs.ByOrder.{starts_of}
-use Rattle.order_check.specs.Following.{HasEnded, HasStopped, IsNo}
 
 -- the order asks for a start there, against which something stands
 pub record IsRefused (catalog : Catalog) (order : StartOrder) (index : ℕ) (s : StoreState) (h : HandleState) (line : ℕ) (against : Against) : Type 0 where
@@ -34,10 +31,3 @@ abbrev pub ComesTo : Catalog → StartOrder → ℕ → StoreState → HandleSta
 ComesTo catalog order index s h end (Ended so) = (end ≡ Some so) × (slice_get order.starts index ≡ None)
 ComesTo catalog order index s h end Stopped = (end ≡ None) × (slice_get order.starts index ≡ None)
 ComesTo catalog order index s h end (No line against) = IsRefused catalog order index s h line against
-
--- what a whole boot comes to, by its answer
-abbrev pub FollowsTo : Board → Catalog → ℕ → StartOrder → Texts → Result Followed Halt → Type 0
-FollowsTo board catalog fuel order t (Ok (Ended end)) = HasEnded board catalog fuel order end t
-FollowsTo board catalog fuel order t (Ok Stopped) = HasStopped board catalog fuel order t
-FollowsTo board catalog fuel order t (Ok (No line against)) = IsNo board catalog fuel order line against t
-FollowsTo board catalog fuel order t (Err halt) = ⊤

@@ -3,8 +3,12 @@ pub mod Along
 pub mod Against
 pub mod Code
 pub mod Finding
+pub mod Own
 pub mod Following
 pub mod Leaving
+pub mod InOrder
+pub mod Answer
 pub mod Drivers
 pub mod Behind
 pub mod Follow
+pub mod OneBoot

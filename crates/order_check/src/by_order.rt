@@ -1,6 +1,6 @@
 //! The choice that an order has: the module that starts next is that of the order's next line.
 ghost use Rattle.std.specs.Prelude.{◌≡◌, slice_get};
-ghost use Rattle.order_check.specs.ByOrder.{NamesAsked, is_start_of, lets_by};
+ghost use Rattle.order_check.specs.ByOrder.{NamesBy, is_start_of, lets_by};
 
 use catalog_model::Catalog;
 use free_laws::Choice;
@@ -8,7 +8,7 @@ use module_names::Names;
 use pi_base::Phase;
 use start_order::{AskedStart, Start, StartOrder};
 
-/// The module that an order asks for next, and no other; behind its last line the first that may start, unless it says that the boot is followed no further.
+/// The module that an order asks for next, and no other; behind its last line nobody is named, so that the first that may start does, unless the order says that the boot is followed no further.
 #[derive(Clone, Copy)]
 pub struct ByOrder<'o> {
     /// The order.
@@ -41,7 +41,7 @@ fn is_start_of(catalog: &Catalog, phase: Phase, number: u32, start: &Start) -> b
 impl ByOrder<'_> {
     // The module that the order has start in a phase behind so many starts.
     fn named(&self, phase: Phase, starts: u64) -> Option<u32>
-        ensures { NamesAsked phase self.now.names.now.volumes.items self.now.order.now starts result }
+        ensures { NamesBy self.now.catalog.now self.now.names.now.volumes.items phase self.now.order.now starts result }
     {
         match asked_behind(self.order, starts) {
             Some(asked) if asked.start.phase == phase => {
@@ -64,11 +64,11 @@ impl ByOrder<'_> {
 
 impl<S> Choice<S> for ByOrder<'_> {
     ghost use Rattle.pi_base.specs.declared.phase.Phase.TheVariants.{Pei, Dxe};
-    ghost use Rattle.order_check.specs.ByOrder.{NamesAsked, lets_by};
+    ghost use Rattle.order_check.specs.ByOrder.{NamesBy, lets_by};
 
-    ghost peims = { λ by sink starts named. NamesAsked Pei by.names.now.volumes.items by.order.now starts named };
+    ghost peims = { λ by sink starts named. NamesBy by.catalog.now by.names.now.volumes.items Pei by.order.now starts named };
 
-    ghost drivers = { λ by sink starts named. NamesAsked Dxe by.names.now.volumes.items by.order.now starts named };
+    ghost drivers = { λ by sink starts named. NamesBy by.catalog.now by.names.now.volumes.items Dxe by.order.now starts named };
 
     ghost lets_in_pei = { λ by starts number. lets_by by.catalog.now by.order.now Pei starts number };
 

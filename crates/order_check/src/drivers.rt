@@ -10,7 +10,7 @@ ghost use Rattle.dxe_choice.specs.Queue.{IsNewQueue, IsQueueFor};
 ghost use Rattle.dxe_core.specs.Standing.{IsFor};
 ghost use Rattle.dxe_dispatch.specs.Choices.{RunsByChoice};
 ghost use Rattle.dxe_dispatch.specs.Ends.{IsAtOpening};
-ghost use Rattle.order_check.specs.ByOrder.{NamesAsked, lets_by};
+ghost use Rattle.order_check.specs.ByOrder.{NamesBy, lets_by};
 ghost use Rattle.order_check.specs.Drivers.{OnFew, RunsDrivers};
 
 use crate::by_order::ByOrder;
@@ -76,7 +76,7 @@ fn run_with_ledger<M: PeiStore, S: Sink, L: Ledger>(
     requires name { blank.name ≡ L.name }
     requires parts { blank.parts ≡ L.parts }
     requires counts { 0 < L.parts }
-    ensures row { RunsByChoice (λ sink starts named. NamesAsked InDxe by.now.names.now.volumes.items by.now.order.now starts named)
+    ensures row { RunsByChoice (λ sink starts named. NamesBy by.now.catalog.now by.now.names.now.volumes.items InDxe by.now.order.now starts named)
         (λ starts number. lets_by by.now.catalog.now by.now.order.now InDxe starts number) S.text S.faults in_pei M.stands_for store.now
         by.now.catalog.now dxe.old sink.old dxe.new queue.new sink.new result }
     ensures few { dxe.old.fuel.taken < 2 ^ 32 → OnOk result (length dxe.new.services.handles.interfaces < 2 ^ 32) }

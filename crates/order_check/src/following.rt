@@ -9,7 +9,8 @@ ghost use Rattle.store_model.specs.Service.{Present, OfEach};
 ghost use Rattle.store_model.specs.StoreCall.{Anything};
 ghost use Rattle.store_model.specs.HandleState.{no_handles};
 ghost use Rattle.store_model.specs.StoreState.{Board, empty_store};
-ghost use Rattle.order_check.specs.Leaving.{ComesTo, FollowsTo, IsReached};
+ghost use Rattle.order_check.specs.Answer.{FollowsTo};
+ghost use Rattle.order_check.specs.Leaving.{ComesTo, IsReached};
 ghost use Rattle.order_check.specs.Behind.{FinishesTo, FollowsBehind, last_text, pei_result};
 
 use crate::against::{Against, cause_against};

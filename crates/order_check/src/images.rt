@@ -7,7 +7,7 @@ ghost use Rattle.catalog_model.specs.WellFormed.{IsWellFormed};
 ghost use Rattle.store_model.specs.StateFacts.{IsBoard};
 ghost use Rattle.module_names.specs.Named.{AreNames, HasNoTwins};
 ghost use Rattle.order_check.specs.Follow.{FaultsAfter, Follows, FollowsCatalog, IsFaultTold, IsHaltTold};
-ghost use Rattle.order_check.specs.Leaving.{FollowsTo};
+ghost use Rattle.order_check.specs.Answer.{FollowsTo};
 
 use crate::by_order::ByOrder;
 use crate::following::{Followed, follow_boot};
@@ -126,7 +126,7 @@ fn follow_catalog<S: Sink>(
     }
 }
 
-/// Boots a plan and its images in the order of starts that is handed in, and puts the boot's lines into a sink as they come. Behind the last line of the order nobody is named, so that the dispatchers choose, unless the order stops there; of that part the contract says that the boot is a free one; where no free boot starts as the order's lines do up to one of them, the boot is left before it, or comes to its end first.
+/// Boots a plan and its images in the order of starts that is handed in, and puts the boot's lines into a sink as they come. Behind the last line of the order nobody is named, so that the boot goes on as the machine itself does, unless the order stops there; where no free boot starts as the order's lines do up to one of them, the boot is left before it, or comes to its end first. An order leads to one boot (`one_boot`).
 /// There are as many images as volumes of the plan, and the order has no more than 2^32 - 1 starts. The images' first fault comes first, then the first volume with two modules of one name; then nothing is put.
 pub fn follow<S: Sink>(
     alloc: Global,

@@ -9,8 +9,10 @@ mod drivers;
 mod following;
 mod images;
 mod lacking;
+mod laws;
 
 pub use against::Against;
 pub use by_order::ByOrder;
 pub use following::Followed;
 pub use images::{FollowFault, follow};
+pub use laws::one_boot;

@@ -6,6 +6,7 @@ use Rattle.boot_io.specs.Files.{IsTold}
 use Rattle.boot_io.specs.declared.sink.SinkFault.{SinkFault}
 use Rattle.boot_io.specs.Sink.{Puts, SinkFaultsAfter}
 use Rattle.pitools.specs.declared.report.Report.{Report}
+use Rattle.order_check.specs.declared.following.Followed.TheVariants as F
 use Rattle.pitools.specs.declared.report.Report.TheVariants as R
 use Rattle.pitools.specs.declared.status.ToolStatus.{ToolStatus}
 use Rattle.pitools.specs.declared.status.ToolStatus.TheVariants.{Done}
@@ -61,6 +62,8 @@ due_of Out Named (R.Plan fault) t r = outcome r.0 r.1
 due_of Out Named (R.Image fault) t r = outcome r.0 r.1
 due_of Out Named (R.Twins volume) t r = outcome r.0 r.1
 due_of Out Named (R.Verdict verdict) t r = outcome r.0 r.1
+due_of Out Named (R.Order line) t r = outcome r.0 r.1
+due_of Out Named (R.Followed lines followed) t r = outcome r.0 r.1
 due_of Out Named (R.Hobs fault) t r = outcome r.0 r.1
 due_of Out Named (R.Command line) t r = outcome r.0 r.1
 due_of Out Named (R.Event line) t r = outcome r.0 r.1
@@ -83,6 +86,14 @@ text_kind (R.Image fault) = refl
 text_kind (R.Twins volume) = refl
 text_kind (R.Verdict Yes) = refl
 text_kind (R.Verdict (No line)) = refl
+text_kind (R.Order line) = refl
+text_kind (R.Followed lines (F.Ended E.Done)) = refl
+text_kind (R.Followed lines (F.Ended E.NoMemory)) = refl
+text_kind (R.Followed lines (F.Ended E.NoIpl)) = refl
+text_kind (R.Followed lines (F.Ended E.Spent)) = refl
+text_kind (R.Followed lines (F.Ended E.Deep)) = refl
+text_kind (R.Followed lines F.Stopped) = refl
+text_kind (R.Followed lines (F.No line against)) = refl
 text_kind (R.Hobs fault) = refl
 text_kind (R.Command line) = refl
 text_kind (R.Event line) = refl

@@ -15,11 +15,15 @@ use Rattle.boot_model.specs.declared.line.RunEnd.{RunEnd}
 use Rattle.boot_model.specs.declared.line.RunEnd.TheVariants as E
 use Rattle.pitools.specs.HobsReport.{HobsReport, bad_image, ended, handed, plan_read, too_long}
 use Rattle.pitools.specs.JobOutcome.{JobOutcome, JobReport, job_long, job_plan, job_read, no_job}
-use Rattle.pitools.specs.ReportText.{end_status}
+use Rattle.pitools.specs.ReportText.{end_status, followed_status}
 use Rattle.pitools.specs.Ends.{Answered, Ends, IsDue, NoMemory, SinkFailed, Trail, outcome, unread}
+use Rattle.pitools.specs.FollowReport.{FollowReport, OrderReport, bad_order, boots, image_refused as of_image, in_order, long_order, long_plan, texts_read, twins as of_twins}
 use Rattle.pitools.specs.GcdReport.{GcdReport, command_refused, done, hobs_refused}
+use Rattle.start_order.specs.declared.lines.StartOrder.{StartOrder}
+use Rattle.order_check.specs.declared.following.Followed.{Followed}
+use Rattle.order_check.specs.declared.following.Followed.TheVariants as F
 use Rattle.pitools.specs.MpReport.{MpReport, ran, refused}
-use Rattle.pitools.specs.Outcome.{ContentReport, Names, Outcome, both, commands_long, content, hobs_long, long, usage, words_ask_check, words_ask_hobs, words_ask_map, words_ask_tool}
+use Rattle.pitools.specs.Outcome.{ContentReport, Names, Outcome, both, commands_long, content, hobs_long, long, usage, words_ask_check, words_ask_follow, words_ask_hobs, words_ask_map, words_ask_tool}
 use Rattle.pitools.specs.PrintReport.{PrintReport, printed, no_volume}
 use Rattle.pitools.specs.VolumeReport.{VolumeReport, at_fault, built}
 use Rattle.pitools.specs.TextReport.{AssemblyReport, DepexReport, ExpressionReport, ScriptReport, assembled, bad, faulty, long as long_depex, long_script, malformed, no_script, read, spelled, stands}
@@ -114,6 +118,21 @@ hobs_tell plan images status out (bad_image fault p is t) = other status S.Image
 hobs_tell plan images status out (handed hobs p is t) = done_tells status is
 hobs_tell plan images status out (ended end p is t) = end_tells end status is
 
+-- nor what a boot in an order of starts came to
+followed_tells : (followed : Followed) (status : ToolStatus) → status ≡ followed_status followed → status ≡ S.FileFault → ⊥
+followed_tells (F.Ended end) status is = end_tells end status is
+followed_tells F.Stopped status is = done_tells status is
+followed_tells (F.No line against) status is = other status S.No (λ (e : S.No ≡ S.FileFault). absurd (cc)) is
+
+order_tells : (plan : Plan) (images : List (List ℕ)) (order : StartOrder) → Tells (OrderReport plan images order)
+order_tells plan images order status out (of_image fault p is t) = other status S.ImageRefused (λ (e : S.ImageRefused ≡ S.FileFault). absurd (cc)) is
+order_tells plan images order status out (of_twins catalog sound volume p is t) = other status S.Twins (λ (e : S.Twins ≡ S.FileFault). absurd (cc)) is
+order_tells plan images order status out (boots catalog sound apart followed lines p is t) = followed_tells followed status is
+
+follow_tells : (text : List ℕ) (plan : Plan) (images : List (List ℕ)) → Tells (FollowReport plan images text)
+follow_tells text plan images status out (bad_order line p is t) = other status S.OrderRefused (λ (e : S.OrderRefused ≡ S.FileFault). absurd (cc)) is
+follow_tells text plan images status out (in_order order p o) = order_tells plan images order status out o
+
 texts_tell : (Of : Plan → List (List ℕ) → ToolStatus → List ℕ → Type 0) → ((plan : Plan) (images : List (List ℕ)) → Tells (Of plan images)) → (told : List ℕ → Option (List ℕ)) (bytes : List ℕ) → Tells (JobOutcome Of told bytes)
 texts_tell Of each told bytes status out (no_job line p o) = job_tells line status out o
 texts_tell Of each told bytes status out (job_read job p o) = each job.plan job.images status out o
@@ -126,6 +145,9 @@ no_outcome told words status text (words_ask_map hobs commands p (both bytes lin
 no_outcome told words status text (words_ask_check plan trace p (plan_long o)) = long_tells status o.status_is
 no_outcome told words status text (words_ask_check plan trace p (trace_long bytes q o)) = long_tells status o.status_is
 no_outcome told words status text (words_ask_check plan trace p (both_read bytes lines q r o)) = texts_tell (λ plan images. CheckReport plan images lines) (λ plan images. check_tells plan images lines) told bytes status text o
+no_outcome told words status text (words_ask_follow plan order p (long_plan o)) = long_tells status o.status_is
+no_outcome told words status text (words_ask_follow plan order p (long_order bytes q o)) = long_tells status o.status_is
+no_outcome told words status text (words_ask_follow plan order p (texts_read bytes lines q r o)) = texts_tell (λ plan images. FollowReport plan images lines) (follow_tells lines) told bytes status text o
 no_outcome told words status text (words_ask_hobs plan p (too_long o)) = long_tells status o.status_is
 no_outcome told words status text (words_ask_hobs plan p (plan_read bytes q o)) = texts_tell HobsReport hobs_tell told bytes status text o
 no_outcome told words status text (words_ask_tool tool file p (long o)) = long_tells status o.status_is

@@ -7,4 +7,5 @@ mod OneContent
 mod Prints
 mod ToldFiles
 mod OneCheck
+mod OneFollow
 mod OneOutcome

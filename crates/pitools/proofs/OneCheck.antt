@@ -53,7 +53,7 @@ one_off Lines text m n p q = elim (cases_lt m n) [
   | inr least ↦ elim (cases_lt n m) [ inl more ↦ absurd (q.off (p.first n q.some more)) | inr most ↦ omega (arith, least, most) ]
 ]
 
-one_volume : (catalog : Catalog) (m n : ℕ) → IsFirstWithTwins catalog m → IsFirstWithTwins catalog n → m ≡ n
+pub one_volume : (catalog : Catalog) (m n : ℕ) → IsFirstWithTwins catalog m → IsFirstWithTwins catalog n → m ≡ n
 one_volume catalog m n p q = elim (cases_lt m n) [
   | inl less ↦ absurd (q.first m less p.twins)
   | inr least ↦ elim (cases_lt n m) [ inl more ↦ absurd (p.first n more q.twins) | inr most ↦ omega (arith, least, most) ]
@@ -130,7 +130,7 @@ job_or_refusal laws told content all job line is (text_long plan p o) =
     long_told told job.plan.volumes line (named_told told content job.plan all is.plan_is) (subst P (laws.plans content plan job.plan p is.plan_is) o) job.images is.images_are
 
 -- what a plan's text leads to is one, where what a plan and its images lead to is
-one_of_job : Laws → (Of : Plan → List (List ℕ) → ToolStatus → List ℕ → Type 0) → ((plan : Plan) (images : List (List ℕ)) → Each AreBytes images → IsOne (Of plan images)) → (told : List ℕ → Option (List ℕ)) (content : List ℕ)
+pub one_of_job : Laws → (Of : Plan → List (List ℕ) → ToolStatus → List ℕ → Type 0) → ((plan : Plan) (images : List (List ℕ)) → Each AreBytes images → IsOne (Of plan images)) → (told : List ℕ → Option (List ℕ)) (content : List ℕ)
     → AreAllTold told (IsNamedIn told content) → IsOne (JobOutcome Of told content)
 one_of_job laws Of each told content all a b s t (no_job line p o) (no_job other q u) =
     let P : Line → Type 0 = λ x. JobReport x b t in

@@ -1,5 +1,5 @@
 -- Words and told files have one outcome, and it is answered.
-use Rattle.std.proofs.Common.{◌≡◌, ◌⊎◌, ℕ, ◌+◌, ◌==◌, if◌then◌else◌, List, [], ◌∷◌, ◌++◌, Option, Some, None, Result, Ok, Err, inl, inr, refl, sym, ap, ◌∙◌, subst, arith}
+use Rattle.std.proofs.Common.{◌≡◌, ◌⊎◌, ◌≤◌, ℕ, ◌+◌, length, ◌==◌, if◌then◌else◌, List, [], ◌∷◌, ◌++◌, Option, Some, None, Result, Ok, Err, inl, inr, refl, sym, ap, ◌∙◌, subst, arith}
 use Rattle.std.specs.Io.KnownBytes.{Appends, Keeps}
 use Rattle.boot_io.specs.Output.{HasLeftBy}
 use Rattle.boot_io.specs.declared.sink.SinkFault.{SinkFault}
@@ -11,13 +11,14 @@ use Rattle.pitools.specs.declared.command_line.Tool.TheVariants.{AssembleDepex, 
 use Rattle.pitools.specs.declared.status.ToolStatus.{ToolStatus}
 use Rattle.pitools.specs.declared.status.ToolStatus.TheVariants as S
 use Rattle.pitools.specs.CheckReport.{CheckNames, CheckOutcome, TextsOutcome, both_read, is_plan, is_trace, is_volume, plan_long, trace_limit, trace_long}
-use Rattle.pitools.specs.CommandLine.{AskForCheck, AskForHobs, AskForMap, AskForTool, tool_words}
+use Rattle.pitools.specs.CommandLine.{AskForCheck, AskForFollow, AskForHobs, AskForMap, AskForTool, tool_words}
 use Rattle.pitools.specs.Ends.{EndsBy, Ends, IsDue, Kind, OfMemory, OfSink, OfText, Trail, kind_of, outcome, status_after, unread}
+use Rattle.pitools.specs.FollowReport.{FollowNames, FollowOutcome, OrderTextsOutcome, long_order, long_plan, names_order, names_plan, names_volume, order_limit, texts_read}
 use Rattle.pitools.specs.GcdReport.{GcdReport}
 use Rattle.pitools.specs.HobsReport.{HobsNames, HobsOutcome, HobsReport, plan_read, too_long, of_plan, of_volume}
 use Rattle.pitools.specs.JobOutcome.{JobOutcome}
 use Rattle.pitools.specs.OneOutcome.{AnswersExactly, AreAllTold, AreTold, IsOne, IsStoppedBy, IsToldAsBytes}
-use Rattle.pitools.specs.Outcome.{ContentReport, MapNames, MapOutcome, Names, Outcome, ToolOutcome, both, commands_limit, commands_long, content, file_limit, hobs_long, limit_of, long, of_check, of_hobs, of_map, of_tool, usage, words_ask_check, words_ask_hobs, words_ask_map, words_ask_tool}
+use Rattle.pitools.specs.Outcome.{ContentReport, MapNames, MapOutcome, Names, Outcome, ToolOutcome, both, commands_limit, commands_long, content, file_limit, hobs_long, limit_of, long, of_check, of_follow, of_hobs, of_map, of_tool, usage, words_ask_check, words_ask_follow, words_ask_hobs, words_ask_map, words_ask_tool}
 use Rattle.pitools.proofs.ToldFiles.{one_content, one_long, told_bytes, within_or_over}
 
 -- the laws of the tools: what is read leads to one report
@@ -26,6 +27,7 @@ pub record Laws : Type 0 where
   pub contents : (tool : Tool) (content : List ℕ) → AreBytes content → IsOne (ContentReport tool content)
   pub hobs : (told : List ℕ → Option (List ℕ)) (content : List ℕ) → AreAllTold told (IsNamedIn told content) → IsOne (JobOutcome HobsReport told content)
   pub checks : (told : List ℕ → Option (List ℕ)) (content text : List ℕ) → AreAllTold told (IsNamedIn told content) → IsOne (TextsOutcome told content text)
+  pub follows : (told : List ℕ → Option (List ℕ)) (content text : List ℕ) → length text ≤ order_limit → AreAllTold told (IsNamedIn told content) → IsOne (OrderTextsOutcome told content text)
 
 -- words ask for one thing: they are told apart by the first byte of the first word and of the second
 abbrev byte_of : List ℕ → ℕ
@@ -70,6 +72,21 @@ hobs_or_tool words plan Mp file p q = let e = ap first (sym p.0 ∙ q.0) in omeg
 hobs_or_tool words plan Volume file p q = let e = ap first (sym p.0 ∙ q.0) in omega (arith, e)
 hobs_or_tool words plan ReadVolume file p q = let e = ap first (sym p.0 ∙ q.0) in omega (arith, e)
 hobs_or_tool words plan tool file p q = let e = ap first (sym p.0 ∙ q.0) in omega (arith, e)
+
+follow_or_map : (words : List (List ℕ)) (plan order hobs commands : List ℕ) → AskForFollow words plan order → AskForMap words hobs commands → ⊥
+follow_or_map words plan order hobs commands p q = let e = ap first (sym p.0 ∙ q.0) in omega (arith, e)
+
+follow_or_check : (words : List (List ℕ)) (plan order other trace : List ℕ) → AskForFollow words plan order → AskForCheck words other trace → ⊥
+follow_or_check words plan order other trace p q = let e = ap first (sym p.0 ∙ q.0) in omega (arith, e)
+
+follow_or_hobs : (words : List (List ℕ)) (plan order other : List ℕ) → AskForFollow words plan order → AskForHobs words other → ⊥
+follow_or_hobs words plan order other p q = let e = ap first (sym p.0 ∙ q.0) in omega (arith, e)
+
+follow_or_tool : (words : List (List ℕ)) (plan order : List ℕ) (tool : Tool) (file : List ℕ) → AskForFollow words plan order → AskForTool words tool file → ⊥
+follow_or_tool words plan order Mp file p q = let e = ap first (sym p.0 ∙ q.0) in omega (arith, e)
+follow_or_tool words plan order Volume file p q = let e = ap first (sym p.0 ∙ q.0) in omega (arith, e)
+follow_or_tool words plan order ReadVolume file p q = let e = ap first (sym p.0 ∙ q.0) in omega (arith, e)
+follow_or_tool words plan order tool file p q = let e = ap first (sym p.0 ∙ q.0) in omega (arith, e)
 
 abbrev tool_in : List (List ℕ) → Tool
 tool_in words =
@@ -153,6 +170,25 @@ one_of_check laws told plan trace all a b s t (both_read c text p r o) (both_rea
     let Q : List ℕ → Type 0 = λ x. TextsOutcome told c x b t in
     laws.checks told c text (λ name named. all name (is_volume c text p r named)) a b s t o (subst Q texts (subst P contents u))
 
+-- and those of a plan and of an order of starts
+one_of_follow : Laws → (told : List ℕ → Option (List ℕ)) (plan order : List ℕ) → AreAllTold told (FollowNames told plan order) → IsOne (FollowOutcome told plan order)
+one_of_follow laws told plan order all a b s t (long_plan p) (long_plan q) = one_long (told plan) plan_limit plan a b s t p q
+one_of_follow laws told plan order all a b s t (long_plan p) (long_order d q o) = absurd (within_or_over (told plan) plan_limit (all plan (names_plan refl)) p.content d p.long q)
+one_of_follow laws told plan order all a b s t (long_plan p) (texts_read d text q r u) = absurd (within_or_over (told plan) plan_limit (all plan (names_plan refl)) p.content d p.long q)
+one_of_follow laws told plan order all a b s t (long_order c p o) (long_plan q) = absurd (within_or_over (told plan) plan_limit (all plan (names_plan refl)) q.content c q.long p)
+one_of_follow laws told plan order all a b s t (long_order c p o) (long_order d q u) = one_long (told order) order_limit order a b s t o u
+one_of_follow laws told plan order all a b s t (long_order c p o) (texts_read d text q r u) =
+    absurd (within_or_over (told order) order_limit (all order (names_order c p refl)) o.content text o.long r)
+one_of_follow laws told plan order all a b s t (texts_read c text p r o) (long_plan q) = absurd (within_or_over (told plan) plan_limit (all plan (names_plan refl)) q.content c q.long p)
+one_of_follow laws told plan order all a b s t (texts_read c text p r o) (long_order d q u) =
+    absurd (within_or_over (told order) order_limit (all order (names_order c p refl)) u.content text u.long r)
+one_of_follow laws told plan order all a b s t (texts_read c text p r o) (texts_read d other q z u) =
+    let contents : d ≡ c = one_content (told plan) (all plan (names_plan refl)) d c q.as_told p.as_told in
+    let texts : other ≡ text = one_content (told order) (all order (names_order c p refl)) other text z.as_told r.as_told in
+    let P : List ℕ → Type 0 = λ x. OrderTextsOutcome told x other b t in
+    let Q : List ℕ → Type 0 = λ x. OrderTextsOutcome told c x b t in
+    laws.follows told c text r.within (λ name named. all name (names_volume c text p r named)) a b s t o (subst Q texts (subst P contents u))
+
 -- and that of a plan whose HOB list is asked for
 one_of_hobs : Laws → (told : List ℕ → Option (List ℕ)) (plan : List ℕ) → AreAllTold told (HobsNames told plan) → IsOne (HobsOutcome told plan)
 one_of_hobs laws told plan all a b s t (too_long p) (too_long q) = one_long (told plan) plan_limit plan a b s t p q
@@ -191,6 +227,21 @@ one_outcome laws told words all a b s t (words_ask_hobs plan p o) (words_ask_too
 one_outcome laws told words all a b s t (words_ask_map hobs commands p o) (words_ask_hobs plan q u) = absurd (hobs_or_map words plan hobs commands q p)
 one_outcome laws told words all a b s t (words_ask_check other trace p o) (words_ask_hobs plan q u) = absurd (hobs_or_check words plan other trace q p)
 one_outcome laws told words all a b s t (words_ask_tool tool file p o) (words_ask_hobs plan q u) = absurd (hobs_or_tool words plan tool file q p)
+one_outcome laws told words all a b s t (usage none e u) (words_ask_follow plan order q o) = absurd (none.no_follow plan order q)
+one_outcome laws told words all a b s t (words_ask_follow plan order p o) (usage none f v) = absurd (none.no_follow plan order p)
+one_outcome laws told words all a b s t (words_ask_follow plan order p o) (words_ask_map hobs commands q u) = absurd (follow_or_map words plan order hobs commands p q)
+one_outcome laws told words all a b s t (words_ask_follow plan order p o) (words_ask_check other trace q u) = absurd (follow_or_check words plan order other trace p q)
+one_outcome laws told words all a b s t (words_ask_follow plan order p o) (words_ask_hobs other q u) = absurd (follow_or_hobs words plan order other p q)
+one_outcome laws told words all a b s t (words_ask_follow plan order p o) (words_ask_tool tool file q u) = absurd (follow_or_tool words plan order tool file p q)
+one_outcome laws told words all a b s t (words_ask_map hobs commands p o) (words_ask_follow plan order q u) = absurd (follow_or_map words plan order hobs commands q p)
+one_outcome laws told words all a b s t (words_ask_check other trace p o) (words_ask_follow plan order q u) = absurd (follow_or_check words plan order other trace q p)
+one_outcome laws told words all a b s t (words_ask_hobs other p o) (words_ask_follow plan order q u) = absurd (follow_or_hobs words plan order other q p)
+one_outcome laws told words all a b s t (words_ask_tool tool file p o) (words_ask_follow plan order q u) = absurd (follow_or_tool words plan order tool file q p)
+one_outcome laws told words all a b s t (words_ask_follow plan order p o) (words_ask_follow text lines q u) =
+    let P : List ℕ → Type 0 = λ x. FollowOutcome told x lines b t in
+    let Q : List ℕ → Type 0 = λ x. FollowOutcome told plan x b t in
+    let here = subst Q (ap third (sym q.0 ∙ p.0)) (subst P (ap second (sym q.0 ∙ p.0)) u) in
+    one_of_follow laws told plan order (λ name named. all name (of_follow plan order p named)) a b s t o here
 one_outcome laws told words all a b s t (words_ask_hobs plan p o) (words_ask_hobs other q u) =
     let P : List ℕ → Type 0 = λ x. HobsOutcome told x b t in
     one_of_hobs laws told plan (λ name named. all name (of_hobs plan p named)) a b s t o (subst P (ap second (sym q.0 ∙ p.0)) u)

@@ -27,6 +27,10 @@ AskForMap words hobs commands = (words ≡ codes "gcd" ∷ hobs ∷ commands ∷
 abbrev pub AskForCheck : List (List ℕ) → List ℕ → List ℕ → Type 0
 AskForCheck words plan trace = (words ≡ codes "check" ∷ plan ∷ trace ∷ []) × (plan ≢ []) × (trace ≢ [])
 
+-- the words ask for the boot of a plan in an order of starts
+abbrev pub AskForFollow : List (List ℕ) → List ℕ → List ℕ → Type 0
+AskForFollow words plan order = (words ≡ codes "follow" ∷ plan ∷ order ∷ []) × (plan ≢ []) × (order ≢ [])
+
 -- the words ask for the HOB list that the PEI of a plan hands on
 abbrev pub AskForHobs : List (List ℕ) → List ℕ → Type 0
 AskForHobs words plan = (words ≡ codes "hobs" ∷ plan ∷ []) × (plan ≢ [])
@@ -40,5 +44,6 @@ pub record AskForNothing (words : List (List ℕ)) : Type 0 where
   pub no_tool : (tool : Tool) (file : List ℕ) → AskForTool words tool file → ⊥
   pub no_map : (hobs commands : List ℕ) → AskForMap words hobs commands → ⊥
   pub no_check : (plan trace : List ℕ) → AskForCheck words plan trace → ⊥
+  pub no_follow : (plan order : List ℕ) → AskForFollow words plan order → ⊥
   pub no_hobs : (plan : List ℕ) → AskForHobs words plan → ⊥
   pub no_explanation : (plan : List ℕ) → AskForExplanation words plan → ⊥

@@ -28,6 +28,8 @@ failing (R.Plan fault) = Nowhere
 failing (R.Image fault) = Nowhere
 failing (R.Twins volume) = Nowhere
 failing (R.Verdict verdict) = Nowhere
+failing (R.Order line) = Nowhere
+failing (R.Followed lines followed) = Nowhere
 failing (R.Hobs fault) = Nowhere
 failing (R.Command line) = Nowhere
 failing (R.Event line) = Nowhere
@@ -115,6 +117,7 @@ kind_of S.Twins = OfText
 kind_of S.HobsRefused = OfText
 kind_of S.CommandRefused = OfText
 kind_of S.TextRefused = OfText
+kind_of S.OrderRefused = OfText
 
 abbrev pub EndsBy : Kind → (ToolStatus → List ℕ → Type 0) → (List ℕ → Type 0) → ToolStatus → Trail → Type 0
 EndsBy OfSink Out Named status t = SinkFailed Out Named t

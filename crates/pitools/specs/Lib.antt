@@ -2,6 +2,7 @@ pub mod CommandLine
 pub mod FileReading
 pub mod FileRefusal
 pub mod Refusals
+pub mod FollowText
 pub mod ReportText
 pub mod GcdReport
 pub mod MpReport
@@ -9,6 +10,7 @@ pub mod JobOutcome
 pub mod CheckReport
 pub mod ExplainReport
 pub mod HobsReport
+pub mod FollowReport
 pub mod TextReport
 pub mod SourceRefusal
 pub mod VolumeReport

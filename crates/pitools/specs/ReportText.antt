@@ -13,6 +13,9 @@ use Rattle.pitools.specs.declared.report.Report.{Report}
 use Rattle.pitools.specs.declared.report.Report.TheVariants as R
 use Rattle.pitools.specs.Refusals.{usage_line, file_line, long_line, plan_line, image_line, twins_line, end_line, verdict_line, text_line, text_long_line, malformed_line, bytes_line}
 use Rattle.pitools.specs.SourceRefusal.{source_line}
+use Rattle.pitools.specs.FollowText.{order_line, last_text}
+use Rattle.order_check.specs.declared.following.Followed.{Followed}
+use Rattle.order_check.specs.declared.following.Followed.TheVariants as F
 
 abbrev pub report_text : Report → List ℕ
 report_text R.Usage = usage_line
@@ -22,6 +25,8 @@ report_text (R.Plan fault) = plan_line fault
 report_text (R.Image fault) = image_line fault
 report_text (R.Twins volume) = twins_line volume
 report_text (R.Verdict verdict) = verdict_line verdict
+report_text (R.Order line) = order_line line
+report_text (R.Followed lines followed) = lines ++ last_text followed
 report_text (R.Hobs fault) = hobs_refusal fault
 report_text (R.Command line) = command_refusal line
 report_text (R.Event line) = bad_line line
@@ -47,6 +52,12 @@ end_status E.NoIpl = S.NoHandoff
 end_status E.Spent = S.Spent
 end_status E.Deep = S.Deep
 
+-- the status of a boot in an order of starts that came to this
+abbrev pub followed_status : Followed → ToolStatus
+followed_status (F.Ended end) = end_status end
+followed_status F.Stopped = S.Done
+followed_status (F.No line against) = S.No
+
 abbrev pub report_status : Report → ToolStatus
 report_status R.Usage = S.Usage
 report_status (R.NoFile name) = S.FileFault
@@ -55,6 +66,8 @@ report_status (R.Plan fault) = S.PlanRefused
 report_status (R.Image fault) = S.ImageRefused
 report_status (R.Twins volume) = S.Twins
 report_status (R.Verdict verdict) = verdict_status verdict
+report_status (R.Order line) = S.OrderRefused
+report_status (R.Followed lines followed) = followed_status followed
 report_status (R.Hobs fault) = S.HobsRefused
 report_status (R.Command line) = S.CommandRefused
 report_status (R.Event line) = S.CommandRefused

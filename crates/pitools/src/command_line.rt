@@ -1,7 +1,7 @@
 // The words of a command line.
 ghost use Rattle.std.specs.Prelude.{◌≡◌, ◌↔◌, ℕ, List, [], ◌∷◌, codes, IfSome, IfNone, IsTrue};
 ghost use Rattle.pitools.specs.declared.command_line.Tool.{Tool};
-ghost use Rattle.pitools.specs.CommandLine.{tool_words, AskForTool, AskForMap, AskForCheck, AskForExplanation, AskForHobs};
+ghost use Rattle.pitools.specs.CommandLine.{tool_words, AskForTool, AskForMap, AskForCheck, AskForExplanation, AskForFollow, AskForHobs};
 ghost use Rattle.boot_io.specs.Words.{words_of};
 
 /// A tool of one file.
@@ -131,6 +131,13 @@ fn asks_for_check(verb: &str) -> bool
     verb == "check"
 }
 
+// Whether a word asks for a boot in an order of starts.
+fn asks_for_follow(verb: &str) -> bool
+    ensures { IsTrue result ↔ (verb.now ≡ codes "follow") }
+{
+    verb == "follow"
+}
+
 // Whether a word asks for the HOB list of a boot.
 fn asks_for_hobs(verb: &str) -> bool
     ensures { IsTrue result ↔ (verb.now ≡ codes "hobs") }
@@ -201,6 +208,28 @@ pub(crate) fn asked_check(words: &[String]) -> Option<(&str, &str)>
             }
             if asks_for_check(verb.as_str()) {
                 Some((plan, trace))
+            } else {
+                None
+            }
+        }
+        _ => None,
+    }
+}
+
+/// The names of the files of a plan and of an order of starts, where the words ask for the plan's boot in that order.
+pub(crate) fn asked_follow(words: &[String]) -> Option<(&str, &str)>
+    ensures found { IfSome result (λ asked. AskForFollow (words_of words.now) asked.0.now asked.1.now) }
+    ensures none { IfNone result ((plan order : List ℕ) → AskForFollow (words_of words.now) plan order → ⊥) }
+{
+    match words {
+        [verb, plan, order] => {
+            let plan = plan.as_str();
+            let order = order.as_str();
+            if plan.is_empty() || order.is_empty() {
+                return None;
+            }
+            if asks_for_follow(verb.as_str()) {
+                Some((plan, order))
             } else {
                 None
             }

@@ -1,9 +1,10 @@
 // What holds of all files.
-ghost use Rattle.std.specs.Prelude.{ℕ, List, Option};
+ghost use Rattle.std.specs.Prelude.{◌≤◌, ℕ, List, Option, length};
 ghost use Rattle.pi_base.specs.Field.{AreBytes};
 ghost use Rattle.plan_files.specs.Job.{IsNamedIn};
 ghost use Rattle.pitools.specs.declared.command_line.Tool.{Tool};
 ghost use Rattle.pitools.specs.CheckReport.{TextsOutcome};
+ghost use Rattle.pitools.specs.FollowReport.{OrderTextsOutcome, order_limit};
 ghost use Rattle.pitools.specs.HobsReport.{HobsReport};
 ghost use Rattle.pitools.specs.JobOutcome.{JobOutcome};
 ghost use Rattle.pitools.specs.GcdReport.{GcdReport};
@@ -43,6 +44,18 @@ pub(crate) fn one_check_report()
     catalog_model::one_catalogue();
 }
 
+/// The texts of a plan and of an order of starts within its limit lead to one report, where the files of the plan's volumes are told.
+pub(crate) fn one_follow_report()
+    ensures { (told : List ℕ → Option (List ℕ)) (content text : List ℕ) → length text ≤ order_limit → AreAllTold told (IsNamedIn told content)
+        → IsOne (OrderTextsOutcome told content text) }
+{
+    boot_plan::one_reading();
+    catalog_model::one_catalogue();
+    catalog_model::catalogues_are_well_formed();
+    start_order::one_reading();
+    order_check::one_boot();
+}
+
 /// The text of a plan whose HOB list is asked for leads to one report, where the files of the plan's volumes are told.
 pub(crate) fn one_hobs_report()
     ensures { (told : List ℕ → Option (List ℕ)) (content : List ℕ) → AreAllTold told (IsNamedIn told content)
@@ -60,4 +73,5 @@ pub fn one_outcome()
     one_content_report();
     one_hobs_report();
     one_check_report();
+    one_follow_report();
 }

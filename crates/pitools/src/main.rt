@@ -1,16 +1,20 @@
-//! The tools beside the boot: the check of a trace with free choice, the memory space map, the MP services, expressions and scripts as text, volumes from their texts, and texts of volumes.
+//! The tools beside the boot: the check of a trace with free choice, a boot in an order of starts, the memory space map, the MP services, expressions and scripts as text, volumes from their texts, and texts of volumes.
 #![tactic(auto)]
 
 mod cause_meaning;
 mod check_tool;
 mod command_line;
 mod explain_tool;
+mod follow_print;
+mod follow_tool;
 mod forms;
 mod gcd_tool;
+mod held_text;
 mod hobs_tool;
 mod laws;
 mod meaning;
 mod mp_tool;
+mod order_meaning;
 mod print;
 mod reading;
 mod report;

@@ -1,6 +1,7 @@
 // What a person is told of a run: what is at fault, and what to do.
 use crate::cause_meaning::source_words;
 use crate::forms::PROGRAM;
+use crate::order_meaning::{LINE_FORMS, against_words, boot_words, last_lines};
 use crate::source_meaning::tell_readings;
 use crate::status::ToolStatus;
 use boot_io::MemFiles;
@@ -17,7 +18,7 @@ const SHOWN_LIMIT: usize = 0x400_0000;
 const SHOWN_LEN: usize = 60;
 
 const USAGE: &str =
-    "usage: pitools check PLAN TRACE | pitools hobs PLAN | pitools explain PLAN | pitools gcd HOBS COMMANDS | pitools mp FILE | pitools volume TEXT | pitools text VOLUME | pitools asm depex|script FILE | pitools dis pei|dxe|script FILE";
+    "usage: pitools check PLAN TRACE | pitools follow PLAN ORDER | pitools hobs PLAN | pitools explain PLAN | pitools gcd HOBS COMMANDS | pitools mp FILE | pitools volume TEXT | pitools text VOLUME | pitools asm depex|script FILE | pitools dis pei|dxe|script FILE";
 
 // The word behind so many words.
 fn word_at(words: &[String], place: usize) -> &str {
@@ -33,7 +34,7 @@ fn tell_usage(rt: &HostRuntime, words: &[String]) {
         [] => PROGRAM.put(rt, "no word is given, or one that is no UTF-8", USAGE),
         [verb, ..] => {
             let verb = verb.as_str();
-            let fault = if verb == "check" || verb == "gcd" {
+            let fault = if verb == "check" || verb == "follow" || verb == "gcd" {
                 "takes the names of two files behind it"
             } else if verb == "mp" || verb == "hobs" || verb == "explain" || verb == "volume" || verb == "text" {
                 "takes the name of a file behind it"
@@ -81,6 +82,13 @@ fn tell_line(rt: &HostRuntime, name: &str, heard: &mut Heard<'_>, why: &str) -> 
     let refusal = str::from_utf8(heard.text?).ok()?;
     let number = refusal.split_whitespace().last()?.parse::<u32>().ok()?;
     tell_numbered(rt, name, &mut heard.files, number, why)
+}
+
+// The line of an order that a boot in it refuses, and what stands against its start.
+fn tell_start(rt: &HostRuntime, name: &str, heard: &mut Heard<'_>) -> Option<()> {
+    let (refusal, against) = last_lines(str::from_utf8(heard.text?).ok()?);
+    let number = refusal.split_whitespace().last()?.parse::<u32>().ok()?;
+    tell_numbered(rt, name, &mut heard.files, number, against_words(against))
 }
 
 // The line of a volume's text that a refusal names before its cause.
@@ -197,6 +205,8 @@ fn tell_fault(
         ToolStatus::PlanRefused => PROGRAM.tell_plan(rt, first, &mut heard.files),
         ToolStatus::ImageRefused if word_at(words, 0) == "text" => None,
         ToolStatus::ImageRefused => PROGRAM.tell_image(rt, first, &mut heard.files),
+        ToolStatus::No if word_at(words, 0) == "follow" => tell_start(rt, word_at(words, 2), heard),
+        ToolStatus::OrderRefused => tell_line(rt, word_at(words, 2), heard, LINE_FORMS),
         ToolStatus::No => tell_line(
             rt,
             word_at(words, 2),
@@ -218,7 +228,12 @@ fn tell_fault(
 }
 
 // What a status means, whatever the files.
-fn meaning_of(status: ToolStatus) -> &'static str {
+fn meaning_of(words: &[String], status: ToolStatus) -> &'static str {
+    if word_at(words, 0) == "follow" {
+        if let Some(meaning) = boot_words(status) {
+            return meaning;
+        }
+    }
     match status {
         ToolStatus::Twins => {
             "the volume above has two modules of one name; give one of them another, since a start line names a module by volume and name"
@@ -251,7 +266,7 @@ pub(crate) fn tell(rt: &HostRuntime, words: &[String], status: ToolStatus, heard
         ToolStatus::SinkFault => PROGRAM.tell_output(rt),
         _ => {
             if tell_fault(rt, words, status, heard).is_none() {
-                PROGRAM.put(rt, word_at(words, 1), meaning_of(status));
+                PROGRAM.put(rt, word_at(words, 1), meaning_of(words, status));
             }
         }
     }

@@ -2,10 +2,11 @@
 ghost use Rattle.std.specs.Prelude.{◌≡◌};
 ghost use Rattle.boot_io.specs.Sink.{Puts, SinkFaultsAfter};
 ghost use Rattle.pitools.specs.Refusals.{bytes_line, cause_text, file_line, image_line, long_line, plan_line, text_line, text_long_line, usage_line};
-ghost use Rattle.pitools.specs.Refusals.{end_line, no_text, refused_twins, twins_line, verdict_line, yes_text};
+ghost use Rattle.pitools.specs.Refusals.{end_line, no_line, no_text, refused_twins, twins_line, verdict_line, yes_text};
 ghost use Rattle.pitools.specs.Refusals.{malformed_line, malformed_text, refused_bytes, refused_text, refused_text_long};
 ghost use Rattle.pitools.specs.ReportText.{report_text};
 
+use crate::follow_print::{put_followed, put_order};
 use crate::report::Report;
 use crate::source_refusal::put_source;
 use act_code::{ActCause, ActFault};
@@ -157,6 +158,15 @@ fn put_twins<S: Sink>(sink: &mut S, volume: u32) -> Result<(), SinkFault>
     put_line(sink, refused_twins(), &[volume.as_slice()])
 }
 
+// That a line is not as it should be.
+pub(crate) fn put_no<S: Sink>(sink: &mut S, line: u32) -> Result<(), SinkFault>
+    ensures text { Puts result (S.text sink.old) (S.text sink.new) (no_line line) }
+    ensures cause { SinkFaultsAfter result (S.faults sink.old) (S.faults sink.new) }
+{
+    let line = decimal_word(u64::from(line));
+    put_line(sink, no_text(), &[line.as_slice()])
+}
+
 // The verdict on a trace.
 fn put_verdict<S: Sink>(sink: &mut S, verdict: Verdict) -> Result<(), SinkFault>
     ensures text { Puts result (S.text sink.old) (S.text sink.new) (verdict_line verdict) }
@@ -164,10 +174,7 @@ fn put_verdict<S: Sink>(sink: &mut S, verdict: Verdict) -> Result<(), SinkFault>
 {
     match verdict {
         Verdict::Yes => put_line(sink, yes_text(), &[]),
-        Verdict::No { line } => {
-            let line = decimal_word(u64::from(line));
-            put_line(sink, no_text(), &[line.as_slice()])
-        }
+        Verdict::No { line } => put_no(sink, line),
     }
 }
 
@@ -223,6 +230,8 @@ pub(crate) fn put_report<S: Sink>(sink: &mut S, report: &Report) -> Result<(), S
         Report::Image(fault) => put_image(sink, *fault),
         Report::Twins(volume) => put_twins(sink, *volume),
         Report::Verdict(verdict) => put_verdict(sink, *verdict),
+        Report::Order(line) => put_order(sink, *line),
+        Report::Followed { lines, followed } => put_followed(sink, lines.as_slice(), followed),
         Report::Hobs(fault) => put_hobs_refusal(sink, *fault),
         Report::Command(line) => put_command_refusal(sink, *line),
         Report::Event(line) => put_bad_line(sink, *line),

@@ -1,6 +1,6 @@
 // What is printed of a command line.
 ghost use Rattle.std.specs.Prelude.{◌≡◌};
-ghost use Rattle.pitools.specs.ReportText.{end_status, report_status};
+ghost use Rattle.pitools.specs.ReportText.{end_status, followed_status, report_status};
 
 use crate::status::ToolStatus;
 use act_code::ActFault;
@@ -11,6 +11,7 @@ use free_check::Verdict;
 use gcd_map::{Answer, Command, GcdFault, GcdMap};
 use mp_core::MpOutcome;
 use mp_text::MpFile;
+use order_check::Followed;
 use pi_base::Seq;
 use volume_text::Fault;
 
@@ -31,6 +32,13 @@ pub(crate) enum Report {
     Twins(u32),
     /// The verdict on a trace.
     Verdict(Verdict),
+    /// The first line, from 1, of an order of starts that has no form.
+    Order(u32),
+    /// The lines of a boot in an order of starts, and what it came to.
+    Followed {
+        lines: Seq<u8>,
+        followed: Followed,
+    },
     /// The first fault of a HOB list.
     Hobs(GcdFault),
     /// The first line, from 1, that is no command.
@@ -75,6 +83,17 @@ fn end_status(end: RunEnd) -> ToolStatus
     }
 }
 
+// The status of a boot in an order of starts that came to this.
+fn followed_status(followed: &Followed) -> ToolStatus
+    ensures { result ≡ followed_status followed.now }
+{
+    match followed {
+        Followed::Ended(end) => end_status(*end),
+        Followed::Stopped => ToolStatus::Done,
+        Followed::No { .. } => ToolStatus::No,
+    }
+}
+
 impl Report {
     /// The status that goes with it.
     pub(crate) fn status(&self) -> ToolStatus
@@ -89,6 +108,8 @@ impl Report {
             Report::Twins(_) => ToolStatus::Twins,
             Report::Verdict(Verdict::Yes) => ToolStatus::Done,
             Report::Verdict(Verdict::No { .. }) => ToolStatus::No,
+            Report::Order(_) => ToolStatus::OrderRefused,
+            Report::Followed { followed, .. } => followed_status(followed),
             Report::Hobs(_) => ToolStatus::HobsRefused,
             Report::Command(_) | Report::Event(_) => ToolStatus::CommandRefused,
             Report::Text(_) | Report::Source(_) | Report::TextLong => ToolStatus::TextRefused,

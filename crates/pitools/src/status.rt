@@ -25,7 +25,7 @@ pub enum ToolStatus {
     SinkFault = 9,
     /// Want of memory.
     Memory = 10,
-    /// The trace is no free boot's.
+    /// The trace is no free boot's, or a module may not start where an order of starts has it start.
     No = 11,
     /// A volume has two modules of one name.
     Twins = 12,
@@ -35,4 +35,6 @@ pub enum ToolStatus {
     CommandRefused = 14,
     /// A text is that of no expression or script, or bytes are none.
     TextRefused = 15,
+    /// A line of an order of starts has no form.
+    OrderRefused = 16,
 }

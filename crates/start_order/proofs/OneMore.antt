@@ -2,7 +2,6 @@
 use Rattle.std.proofs.Common.{◌≡◌, ℕ, ◌+◌, true, false, not, cond, List, [], ◌∷◌, ◌++◌, map, append_assoc, Some, refl, sym, ap, ◌∙◌}
 use Rattle.std.proofs.lemmas.List.{map-append}
 use Rattle.line_words.specs.Line.{is_passed_over}
-use Rattle.start_order.specs.declared.line.Asked.{Asked}
 use Rattle.start_order.specs.declared.lines.StartOrder.{StartOrder}
 use Rattle.start_order.specs.LineText.{asked_of}
 use Rattle.start_order.specs.OrderText.{AreLinesOf, all_asked, numbered_from, spelled}

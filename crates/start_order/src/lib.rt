@@ -5,10 +5,12 @@
 
 mod fault;
 mod keyword;
+mod laws;
 mod line;
 mod lines;
 mod word;
 
 pub use fault::OrderFault;
+pub use laws::one_reading;
 pub use line::{Asked, AskedStart, Start};
 pub use lines::{StartOrder, read_order};

@@ -28,7 +28,7 @@ returns-in-End-clause-row g c s here any =
     let by = c.args.by.now in
     let from = c.args.pei.now in
     let catalog = by.catalog.now in
-    let Names = named_by T g.S.Sink.faults by.order.now by.names.now.volumes.items from.starts c.args.sink.now in
+    let Names = named_by T g.S.Sink.faults catalog by.order.now by.names.now.volumes.items from.starts c.args.sink.now in
     let Lets = let_by catalog by.order.now from.starts in
     has_ended Names Lets g.M.PeiStore.stands_for from.store catalog c.args.fuel (dxe_opening catalog s from.actions) c.run_with_ledger.new.dxe c.run_with_ledger.new.queue c.in-End.end c.dxe_result.result c.into_handles.result from.starts c.starts-counted.result
     (T c.args.sink.now) (T c.run_with_ledger.new.sink) c.into_handles.ensures c.starts-counted.ensures c.dxe_result.ensures
@@ -49,7 +49,7 @@ returns-clause-row g c s here any =
     let by = c.args.by.now in
     let from = c.args.pei.now in
     let catalog = by.catalog.now in
-    let Names = named_by T g.S.Sink.faults by.order.now by.names.now.volumes.items from.starts c.args.sink.now in
+    let Names = named_by T g.S.Sink.faults catalog by.order.now by.names.now.volumes.items from.starts c.args.sink.now in
     let Lets = let_by catalog by.order.now from.starts in
     has_stayed Names Lets g.M.PeiStore.stands_for from.store catalog c.args.fuel (dxe_opening catalog s from.actions) c.run_with_ledger.new.dxe c.run_with_ledger.new.queue c.in-Barred.field-0 c.into_handles-in-Barred.result from.starts c.starts-counted.result
     (T c.args.sink.now) (T c.run_with_ledger.new.sink) c.into_handles-in-Barred.ensures c.starts-counted.ensures

@@ -15,10 +15,10 @@ returns-in-None-clause-row g c =
     subst P (sym (handed_off from.«end» (sym c.pei_result.ensures ∙ c.in-None.is))) c.follow_drivers.ensures.row
 
 pub returns-in-Some-clause-row : goal.returns-in-Some-clause-row
-returns-in-Some-clause-row g c = λ board earlier m first come far ended left text.
+returns-in-Some-clause-row g c = λ board earlier m first run ended left text.
     let T = g.S.Sink.text in
     let by = c.args.by.now in
     let from = c.args.pei.now in
-    let b : OrderBoot = record { board = board; catalog = by.catalog.now; fuel = c.args.fuel; order = by.order.now; names = by.names.now.volumes.items; well = c.requires.catalog; apart = c.requires.apart; are = c.requires.names; few = c.requires.order } in
+    let b : OrderBoot = record { board = board; catalog = by.catalog.now; fuel = c.args.fuel; order = by.order.now; well = c.requires.catalog; apart = c.requires.apart; few = c.requires.order } in
     let P : HandleState → Type 0 = λ held. FinishesTo by.catalog.now by.order.now c.from.result m.store held (Some c.in-Some.«end») (record { old = T c.args.sink.now; new = T c.finish.new.sink }) c.finish.result in
-    pei_closes b earlier m from.«end» c.in-Some.«end» first (T c.args.sink.now) (T c.finish.new.sink) c.from.result c.finish.result come far ended (sym c.pei_result.ensures ∙ c.in-Some.is) text (c.from.ensures ∙ left.starts_are) (subst P c.new-none.ensures (c.finish.ensures.row m.store left.store_is tt))
+    pei_closes b earlier m from.«end» c.in-Some.«end» first (T c.args.sink.now) (T c.finish.new.sink) c.from.result c.finish.result run ended (sym c.pei_result.ensures ∙ c.in-Some.is) text (c.from.ensures ∙ left.starts_are) (subst P c.new-none.ensures (c.finish.ensures.row m.store left.store_is tt))

@@ -2,13 +2,13 @@ use Rattle.std.proofs.Common.{ℕ}
 use Rattle.boot_model.specs.DxeRun.{dxe_opening}
 use Rattle.pei_dispatch.specs.Ends.{pei_starts}
 use Rattle.order_check.specs.Drivers.{HasRun, let_by, named_by}
-use Rattle.order_check.proofs.PeiOrder.{OrderBoot}
+use Rattle.order_check.proofs.PeiOrder.{OrderBoot, along, comes}
 use Rattle.order_check.proofs.DxeOrder.{Handed}
 use Rattle.order_check.proofs.Calls.{counts, dxe_finishes}
 use Rattle.order_check.proofs.following.follow_drivers.Goals as goal
 
 pub returns-in-Ok-clause-row : goal.returns-in-Ok-clause-row
-returns-in-Ok-clause-row g c = λ board earlier m first come far over left text.
+returns-in-Ok-clause-row g c = λ board earlier m first over_pei over left text.
     let T = g.S.Sink.text in
     let F = g.S.Sink.faults in
     let by = c.args.by.now in
@@ -19,8 +19,8 @@ returns-in-Ok-clause-row g c = λ board earlier m first come far over left text.
     let sink = c.args.sink.now in
     let mid = c.run_drivers.new.sink in
     let drivers = c.in-Ok.drivers in
-    let b : OrderBoot = record { board = board; catalog = catalog; fuel = c.args.fuel; order = order; names = names; well = c.requires.catalog; apart = c.requires.apart; are = c.requires.names; few = c.requires.order } in
-    let h : Handed b = record { pei = m; earlier = earlier; come = come; far = far; ended = over } in
-    let Runs : ℕ → ℕ → Type 0 = λ starts taken. HasRun (named_by T F order names starts sink) (let_by catalog order starts) catalog c.args.fuel (dxe_opening catalog m.store taken) starts drivers (T sink) (T mid) in
+    let b : OrderBoot = record { board = board; catalog = catalog; fuel = c.args.fuel; order = order; well = c.requires.catalog; apart = c.requires.apart; few = c.requires.order } in
+    let h : Handed b = record { pei = m; earlier = earlier; run = over_pei; come = comes b earlier m over_pei; far = along b earlier m over_pei; ended = over } in
+    let Runs : ℕ → ℕ → Type 0 = λ starts taken. HasRun (named_by T F catalog order names starts sink) (let_by catalog order starts) catalog c.args.fuel (dxe_opening catalog m.store taken) starts drivers (T sink) (T mid) in
     let run = counts Runs from.starts from.actions (pei_starts m) m.actions left.starts_are left.actions_are (c.in-Ok.ensures.row m.store left.store_is tt) in
-    dxe_finishes b h (named_by T F order names (pei_starts m) sink) drivers first (T sink) (T mid) (T c.finish.new.sink) c.finish.result (λ n named may. may.is) run text (c.finish.ensures.row m.store left.store_is tt)
+    dxe_finishes b h (named_by T F catalog order names (pei_starts m) sink) drivers first (T sink) (T mid) (T c.finish.new.sink) c.finish.result (λ n named may. may.is c.requires.names) run text (c.finish.ensures.row m.store left.store_is tt)

@@ -8,5 +8,6 @@ returns c =
       contents = c.one_content_report.ensures;
       hobs = c.one_hobs_report.ensures;
       checks = c.one_check_report.ensures;
+      follows = c.one_follow_report.ensures;
     } in
     one_outcome laws

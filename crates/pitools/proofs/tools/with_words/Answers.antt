@@ -1,8 +1,9 @@
 use Rattle.std.proofs.Common.{◌≡◌}
 use Rattle.boot_io.specs.Words.{words_of}
 use Rattle.pitools.specs.CheckReport.{CheckNames, CheckOutcome}
+use Rattle.pitools.specs.FollowReport.{FollowNames, FollowOutcome}
 use Rattle.pitools.specs.HobsReport.{HobsNames, HobsOutcome}
-use Rattle.pitools.specs.Outcome.{MapNames, MapOutcome, Names, Outcome, ToolOutcome, of_check, of_hobs, of_map, of_tool, words_ask_check, words_ask_hobs, words_ask_map, words_ask_tool}
+use Rattle.pitools.specs.Outcome.{MapNames, MapOutcome, Names, Outcome, ToolOutcome, of_check, of_follow, of_hobs, of_map, of_tool, words_ask_check, words_ask_follow, words_ask_hobs, words_ask_map, words_ask_tool}
 use Rattle.pitools.proofs.Ending.{reports_ok}
 use Rattle.pitools.proofs.tools.with_words.Goals as goal
 
@@ -38,6 +39,17 @@ returns-in-Some-asked_check-clause-report g c =
     reports_ok c.with_check.result (CheckOutcome told plan trace) (Outcome told words) (CheckNames told plan trace) (Names told words)
     (record { before = F c.args.files.now; now = F c.with_check.new.files; missed = g.F.Files.missed c.with_check.new.files })
     (λ s t o. words_ask_check plan trace c.in-Some-asked_check.ensures.found o) (λ n m. of_check plan trace c.in-Some-asked_check.ensures.found m) c.with_check.ensures.report
+
+pub returns-in-Some-asked_follow-clause-report : goal.returns-in-Some-asked_follow-clause-report
+returns-in-Some-asked_follow-clause-report g c =
+    let F = g.F.Files.faults in
+    let told = g.F.Files.told c.args.files.now in
+    let words = words_of c.args.words.now in
+    let plan = c.in-Some-asked_follow.plan.now in
+    let order = c.in-Some-asked_follow.order.now in
+    reports_ok c.with_follow.result (FollowOutcome told plan order) (Outcome told words) (FollowNames told plan order) (Names told words)
+    (record { before = F c.args.files.now; now = F c.with_follow.new.files; missed = g.F.Files.missed c.with_follow.new.files })
+    (λ s t o. words_ask_follow plan order c.in-Some-asked_follow.ensures.found o) (λ n m. of_follow plan order c.in-Some-asked_follow.ensures.found m) c.with_follow.ensures.report
 
 pub returns-in-Some-asked_hobs-clause-report : goal.returns-in-Some-asked_hobs-clause-report
 returns-in-Some-asked_hobs-clause-report g c =

@@ -1,8 +1,7 @@
-use Rattle.std.proofs.Common.{◌≡◌, ◌+◌, [], ◌∷◌, ◌++◌, refl, sym, ap, ◌∙◌, arith}
-use Rattle.std.proofs.lemmas.List.{append-nil}
+use Rattle.std.proofs.Common.{◌≡◌, [], ◌∷◌, ◌++◌, ap, ◌∙◌, arith}
 use Rattle.line_words.specs.Line.{lines}
 use Rattle.start_order.specs.OrderText.{numbered_from}
-use Rattle.start_order.proofs.OneMore.{before_more, lines_more, one_line}
+use Rattle.start_order.proofs.OneMore.{before_more, lines_more}
 use Rattle.start_order.proofs.lines.read_order.Goals as goal
 
 pub lines-preserved : goal.lines-preserved

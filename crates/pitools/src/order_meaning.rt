@@ -1,0 +1,52 @@
+// What a person is told of a boot in an order of starts.
+use crate::status::ToolStatus;
+
+/// What a line of an order has to be.
+pub(crate) const LINE_FORMS: &str =
+    "is none of: pei V GUID, dxe V GUID, with the number of a volume and the name of its file; or it is no `stop` behind which nothing follows";
+
+/// The line of a printed text that refuses a start, and the last one, which says what stands against it.
+pub(crate) fn last_lines(text: &str) -> (&str, &str) {
+    let mut refusal = "";
+    let mut against = "";
+    for line in text.lines() {
+        refusal = against;
+        against = line;
+    }
+    (refusal, against)
+}
+
+/// What it means that this stands against a start.
+pub(crate) fn against_words(against: &str) -> &'static str {
+    if against == "unknown" {
+        "names no module: none of this volume and name has a part of the phase"
+    } else if against == "started" {
+        "has a module start that has started, and may not again"
+    } else if against == "not eligible" {
+        "has a module start that may not there, though all is installed that its dependency expression pushes"
+    } else {
+        "has a module start that may not there; the last line printed has the GUIDs that its dependency expression pushes and that are not installed"
+    }
+}
+
+/// What a status means of a boot in an order of starts, whatever the plan.
+pub(crate) fn boot_words(status: ToolStatus) -> Option<&'static str> {
+    match status {
+        ToolStatus::NoHandoff => {
+            Some(
+                "the boot ended in PEI, without a hand-off to DXE; its last line and the lines `waiting` say why",
+            )
+        }
+        ToolStatus::Spent => {
+            Some(
+                "the boot took all actions of its fuel; a line `fuel N` in the plan gives it up to 1000000",
+            )
+        }
+        ToolStatus::Deep => {
+            Some(
+                "a script would have begun inside of 64 others; notifications that fire one another do so",
+            )
+        }
+        _ => None,
+    }
+}
