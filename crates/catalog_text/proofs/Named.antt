@@ -1,9 +1,9 @@
 -- The GUIDs that actions name, with one more.
-use Rattle.std.proofs.Common.{◌≡◌, ℕ, Bool, true, false, cond, not, ◌||◌, List, [], ◌∷◌, ◌++◌, filter, flat_map, Option, Some, None, is_some, refl, sym, ap, ◌∙◌, append_assoc}
+use Rattle.std.proofs.Common.{◌≡◌, ℕ, ◌+◌, ◌<◌, length, take, get_or, Bool, true, false, cond, not, ◌||◌, List, [], ◌∷◌, ◌++◌, filter, flat_map, Option, Some, None, is_some, refl, sym, ap, ◌∙◌, append_assoc}
 use Rattle.std.specs.List.{list_any}
 use Rattle.std.specs.Option.{option_to_list}
 use Rattle.std.proofs.lemmas.Cmp.{nat_list_eq_equiv}
-use Rattle.std.proofs.lemmas.List.{append-nil}
+use Rattle.std.proofs.lemmas.List.{append-nil, take_more}
 use Rattle.std.proofs.lemmas.List.Elements.{filter-append}
 use Rattle.std.proofs.lemmas.List.Folds.{list_any-append}
 use Rattle.std.proofs.lemmas.Grind.{flat_map-append}
@@ -131,3 +131,13 @@ named_by_some guid blocks =
     any_of_firsts guid (named_in_all blocks) ∙ any_flat (same_guid guid) named_in_block blocks
     ∙ any_same (λ actions. list_any (same_guid guid) (named_in_block actions)) (list_any (names guid)) blocks
     (λ actions. any_flat (same_guid guid) (λ action. option_to_list (named_by action)) actions)
+
+-- the GUIDs of a list's items, with one item more, and with all
+pub flat_more : {A : Type 0} (f : A → List Guid) (before : List Guid) (xs : List A) (i : ℕ) (d : A) → i < length xs
+    → (before ++ flat_map f (take i xs)) ++ f (get_or xs i d) ≡ before ++ flat_map f (take (i + 1) xs)
+flat_more f before xs i d within =
+    append_assoc before (flat_map f (take i xs)) (f (get_or xs i d))
+    ∙ ap (λ t. before ++ t) (sym (ap (flat_map f) (take_more xs i d within) ∙ flat_map-append f (take i xs) (get_or xs i d ∷ []) ∙ ap (λ t. flat_map f (take i xs) ++ t) (append-nil (f (get_or xs i d)))))
+
+pub none_met : (known : List (Guid × Bool)) → ((guid : Guid) → value_of known guid ≡ None) → AreMet [] (record { guids = []; known = known })
+none_met known none = record { once = refl; are_known = λ guid. ap is_some (none guid) }

@@ -1,6 +1,7 @@
 // The GUIDs that a script may install.
 ghost use Rattle.std.specs.Prelude.{◌≡◌, ◌++◌, ◌∷◌, [], List, IfOk, OnOk};
 ghost use Rattle.std.specs.List.{list_any};
+ghost use Rattle.std.specs.Option.{option_to_list};
 ghost use Rattle.pi_base.specs.declared.guid.Guid.{Guid as Name};
 ghost use Rattle.catalog_text.specs.Gives.{AreMet, given_in, gives_any, named_by, named_in_all, named_in_block, reads_guid};
 
@@ -73,7 +74,19 @@ fn meet(met: &mut Met, guid: Guid) -> Result<(), OutOfMemory>
         return Ok(());
     }
     met.known.insert(guid, true)?;
-    met.guids.push(guid)
+    met.guids.push(guid)?;
+    Ok(())
+}
+
+// The GUID that an action names, where it names one.
+fn meet_action(met: &mut Met, action: &Action) -> Result<(), OutOfMemory>
+    ensures { OnOk result ((before : List Name) → AreMet before met.old
+        → AreMet (before ++ option_to_list (named_by action.now)) met.new) }
+{
+    match named_by(action) {
+        Some(guid) => meet(met, guid),
+        None => Ok(()),
+    }
 }
 
 // Those of a block.
@@ -82,9 +95,7 @@ fn meet_block(met: &mut Met, actions: &[Action]) -> Result<(), OutOfMemory>
         ((before : List Name) → AreMet before met.old → AreMet (before ++ named_in_block actions.now) met.new) }
 {
     'actions: for action in actions {
-        if let Some(guid) = named_by(action) {
-            meet(met, guid)?;
-        }
+        meet_action(met, action)?;
     }
     Ok(())
 }

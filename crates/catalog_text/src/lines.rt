@@ -69,7 +69,7 @@ fn kind_word(kind: u8) -> [u8; 2]
 
 // The word of a module's name.
 fn title_word(alloc: Global, title: Option<&[u8]>) -> Result<Seq<u8>, OutOfMemory>
-    ensures { IfOk result (λ word. word ≡ title_word (option_map (λ name. words_of name.now) title)) }
+    ensures { IfOk result (λ word. word ≡ title_word (option_map (λ name. words_of name.now) title.entry)) }
 {
     let mut word = Seq::new(alloc);
     put_title(&mut word, title)?;
@@ -85,7 +85,7 @@ fn put_module(
     title: Option<&[u8]>,
 ) -> Result<(), OutOfMemory>
     ensures { OnOk result
-        (out.new ≡ out.old ++ module_line number member.now (option_map (λ name. words_of name.now) title)) }
+        (out.new ≡ out.old ++ module_line number member.now (option_map (λ name. words_of name.now) title.entry)) }
 {
     let title = title_word(alloc, title)?;
     put_line(
@@ -120,15 +120,27 @@ fn put_expr(
     )
 }
 
-// The line of what a part's script may install.
-fn put_gives(out: &mut Seq<u8>, number: u32, phase: Phase, word: &[u8]) -> Result<(), OutOfMemory>
-    ensures { OnOk result (out.new ≡ out.old ++ gives_line number phase word.now) }
+// The line of a GUID that a part's script may install.
+fn put_gives(out: &mut Seq<u8>, number: u32, phase: Phase, guid: &Guid) -> Result<(), OutOfMemory>
+    ensures { OnOk result (out.new ≡ out.old ++ gives_line number phase (guid_text guid.now)) }
 {
     let number = decimal_word(u64::from(number));
     put_line(
         out,
         gives_text(),
-        &[number.as_slice(), phase_word(phase), word],
+        &[number.as_slice(), phase_word(phase), &guid.to_text()],
+    )
+}
+
+// The line of a script that may install what it does not name.
+fn put_gives_any(out: &mut Seq<u8>, number: u32, phase: Phase) -> Result<(), OutOfMemory>
+    ensures { OnOk result (out.new ≡ out.old ++ gives_line number phase any_text) }
+{
+    let number = decimal_word(u64::from(number));
+    put_line(
+        out,
+        gives_text(),
+        &[number.as_slice(), phase_word(phase), any_text()],
     )
 }
 
@@ -142,7 +154,7 @@ fn put_given(
     ensures { OnOk result (out.new ≡ out.old ++ flat_map (λ guid. gives_line number phase (guid_text guid)) guids.now) }
 {
     'guids: for guid in guids {
-        put_gives(out, number, phase, &guid.to_text())?;
+        put_gives(out, number, phase, guid)?;
     }
     Ok(())
 }
@@ -160,7 +172,7 @@ fn put_script(
     let guids = given_in(alloc, script)?;
     put_given(out, number, phase, guids.as_slice())?;
     if gives_any(script) {
-        put_gives(out, number, phase, any_text())
+        put_gives_any(out, number, phase)
     } else {
         Ok(())
     }
