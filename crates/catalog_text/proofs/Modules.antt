@@ -27,17 +27,17 @@ lines_more R number (x ∷ ms) (t ∷ titles) m title pairs =
 abbrev pub SoFar : (Module → Option (List ℕ) → Type 0) → List ℕ → List Module → ℕ → List ℕ → Type 0
 SoFar R out ms i new = (titles : List (Option (List ℕ))) × EachPair R (take i ms) titles × (new ≡ out ++ catalog_lines 0 (take i ms) titles)
 
-pub next_module : (R : Module → Option (List ℕ) → Type 0) (out old new : List ℕ) (ms : List Module) (i number : ℕ) (d : Module) → i < length ms → number ≡ i → SoFar R out ms i old
-    → (title : Option (List ℕ)) → R (get_or ms i d) title → new ≡ old ++ module_lines number (get_or ms i d) title → SoFar R out ms (i + 1) new
-next_module R out old new ms i number d within is before title named added =
-    let grown : take (i + 1) ms ≡ take i ms ++ get_or ms i d ∷ [] = take_more ms i d within in
-    let here : number ≡ 0 + length (take i ms) = is ∙ sym (length-take-le i ms (omega (arith, within))) in
+pub next_module : (R : Module → Option (List ℕ) → Type 0) (out old new : List ℕ) (ms : List Module) (i number : ℕ) (d m : Module) → i < length ms → m ≡ get_or ms i d → number ≡ i → SoFar R out ms i old
+    → (title : Option (List ℕ)) → R m title → new ≡ old ++ module_lines number m title → SoFar R out ms (i + 1) new
+next_module R out old new ms i number d m within item is before title named added =
+    let grown : take (i + 1) ms ≡ take i ms ++ m ∷ [] = take_more ms i d within ∙ ap (λ (x : Module). take i ms ++ x ∷ []) (sym item) in
+    let here : number ≡ 0 + length (take i ms) = omega (arith, is, length-take-le i ms (omega (arith, within))) in
     let P : List Module → Type 0 = λ list. EachPair R list (before.0 ++ title ∷ []) in
-    let pairs = subst P (sym grown) (pair_more R (take i ms) before.0 (get_or ms i d) title before.1 named) in
+    let pairs = subst P (sym grown) (pair_more R (take i ms) before.0 m title before.1 named) in
     let text : new ≡ out ++ catalog_lines 0 (take (i + 1) ms) (before.0 ++ title ∷ []) =
-    added ∙ ap (λ t. t ++ module_lines number (get_or ms i d) title) before.2 ∙ append_assoc out (catalog_lines 0 (take i ms) before.0) (module_lines number (get_or ms i d) title)
-    ∙ ap (λ t. out ++ t) (ap (λ n. catalog_lines 0 (take i ms) before.0 ++ module_lines n (get_or ms i d) title) here
-    ∙ sym (lines_more R 0 (take i ms) before.0 (get_or ms i d) title before.1) ∙ ap (λ (list : List Module). catalog_lines 0 list (before.0 ++ title ∷ [])) (sym grown)) in
+    added ∙ ap (λ t. t ++ module_lines number m title) before.2 ∙ append_assoc out (catalog_lines 0 (take i ms) before.0) (module_lines number m title)
+    ∙ ap (λ t. out ++ t) (ap (λ n. catalog_lines 0 (take i ms) before.0 ++ module_lines n m title) here
+    ∙ sym (lines_more R 0 (take i ms) before.0 m title before.1) ∙ ap (λ (list : List Module). catalog_lines 0 list (before.0 ++ title ∷ [])) (sym grown)) in
     (before.0 ++ title ∷ [], pairs, text)
 
 -- a text without its last byte
@@ -45,3 +45,8 @@ pub without_last : (text : List ℕ) (last : ℕ) → take (length (text ++ last
 without_last text last =
     let len : length (text ++ last ∷ []) - 1 ≡ length text = omega (arith, length-append text (last ∷ [])) in
     ap (λ n. take n (text ++ last ∷ [])) len ∙ take-append_seam text (last ∷ [])
+
+-- what is added in three parts
+pub three_added : (old first second new x y z : List ℕ) → first ≡ old ++ x → second ≡ first ++ y → new ≡ second ++ z → new ≡ old ++ (x ++ (y ++ z))
+three_added old first second new x y z e f g =
+    g ∙ ap (λ t. t ++ z) (f ∙ ap (λ t. t ++ y) e) ∙ ap (λ t. t ++ z) (append_assoc old x y) ∙ append_assoc old (x ++ y) z ∙ ap (λ t. old ++ t) (append_assoc x y z)

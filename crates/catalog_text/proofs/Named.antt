@@ -132,12 +132,15 @@ named_by_some guid blocks =
     ∙ any_same (λ actions. list_any (same_guid guid) (named_in_block actions)) (list_any (names guid)) blocks
     (λ actions. any_flat (same_guid guid) (λ action. option_to_list (named_by action)) actions)
 
--- the GUIDs of a list's items, with one item more, and with all
-pub flat_more : {A : Type 0} (f : A → List Guid) (before : List Guid) (xs : List A) (i : ℕ) (d : A) → i < length xs
-    → (before ++ flat_map f (take i xs)) ++ f (get_or xs i d) ≡ before ++ flat_map f (take (i + 1) xs)
-flat_more f before xs i d within =
-    append_assoc before (flat_map f (take i xs)) (f (get_or xs i d))
-    ∙ ap (λ t. before ++ t) (sym (ap (flat_map f) (take_more xs i d within) ∙ flat_map-append f (take i xs) (get_or xs i d ∷ []) ∙ ap (λ t. flat_map f (take i xs) ++ t) (append-nil (f (get_or xs i d)))))
+-- the GUIDs of a list's items, with one item more
+pub flat_next : {A : Type 0} (f : A → List Guid) (before : List Guid) (xs : List A) (i : ℕ) (d x : A) → i < length xs → x ≡ get_or xs i d
+    → (before ++ flat_map f (take i xs)) ++ f x ≡ before ++ flat_map f (take (i + 1) xs)
+flat_next f before xs i d x within is =
+    append_assoc before (flat_map f (take i xs)) (f x)
+    ∙ ap (λ t. before ++ t) (ap (λ y. flat_map f (take i xs) ++ f y) is ∙ sym (ap (flat_map f) (take_more xs i d within) ∙ flat_map-append f (take i xs) (get_or xs i d ∷ []) ∙ ap (λ t. flat_map f (take i xs) ++ t) (append-nil (f (get_or xs i d)))))
 
-pub none_met : (known : List (Guid × Bool)) → ((guid : Guid) → value_of known guid ≡ None) → AreMet [] (record { guids = []; known = known })
-none_met known none = record { once = refl; are_known = λ guid. ap is_some (none guid) }
+pub none_met : (met : Met) → met.guids ≡ [] → met.known ≡ [] → AreMet [] met
+none_met met guids known = record {
+  once = guids;
+  are_known = λ guid. ap (λ (map : List (Guid × Bool)). is_some (value_of map guid)) known ∙ sym (ap (list_any (same_guid guid)) guids);
+}

@@ -1,6 +1,6 @@
 -- Words that are put one by one.
-use Rattle.std.proofs.Common.{◌≡◌, ◌<◌, ◌≤◌, ℕ, ◌+◌, List, [], ◌∷◌, ◌++◌, length, refl, sym, ap, ◌∙◌, take, get_or, append_assoc, flat_map}
-use Rattle.std.proofs.lemmas.List.{append-nil, take_more, take_all}
+use Rattle.std.proofs.Common.{◌≡◌, ◌<◌, ℕ, ◌+◌, List, [], ◌∷◌, ◌++◌, length, refl, sym, ap, ◌∙◌, take, get_or, append_assoc, flat_map}
+use Rattle.std.proofs.lemmas.List.{append-nil, take_more}
 use Rattle.std.specs.Borrow.{Bor}
 use Rattle.boot_io.specs.Line.{spaced, words_now}
 
@@ -13,10 +13,14 @@ words_text-append [] ys = refl
 words_text-append (x ∷ xs) ys = ap (λ t. spaced x.now ++ t) (words_text-append xs ys) ∙ sym (append_assoc (spaced x.now) (words_text xs) (words_text ys))
 
 -- one word more
-pub words_more : (words : List (Bor (List ℕ))) (i : ℕ) (d : Bor (List ℕ)) → i < length words
+words_more : (words : List (Bor (List ℕ))) (i : ℕ) (d : Bor (List ℕ)) → i < length words
     → words_text (take (i + 1) words) ≡ words_text (take i words) ++ spaced (get_or words i d).now
 words_more words i d within =
     ap words_text (take_more words i d within) ∙ words_text-append (take i words) (get_or words i d ∷ []) ∙ ap (λ t. words_text (take i words) ++ t) (append-nil (spaced (get_or words i d).now))
 
-pub words_all : (words : List (Bor (List ℕ))) (i : ℕ) → length words ≤ i → words_text (take i words) ≡ words_text words
-words_all words i all = ap words_text (take_all i words all)
+-- a word more was put
+pub word_put : (words : List (Bor (List ℕ))) (i : ℕ) (d : Bor (List ℕ)) (out old new : List ℕ) → i < length words → new ≡ old ++ spaced (get_or words i d).now → old ≡ out ++ words_text (take i words)
+    → new ≡ out ++ words_text (take (i + 1) words)
+word_put words i d out old new within put before =
+    put ∙ ap (λ t. t ++ spaced (get_or words i d).now) before ∙ append_assoc out (words_text (take i words)) (spaced (get_or words i d).now)
+    ∙ ap (λ t. out ++ t) (sym (words_more words i d within))

@@ -104,7 +104,7 @@ fn meet_block(met: &mut Met, actions: &[Action]) -> Result<(), OutOfMemory>
 fn meet_all(met: &mut Met, blocks: &[Seq<Action>]) -> Result<(), OutOfMemory>
     ensures { OnOk result ((before : List Name) → AreMet before met.old → AreMet (before ++ named_in_all blocks.now) met.new) }
 {
-    'blocks: for actions in blocks {
+    'scripts: for actions in blocks {
         meet_block(met, actions.as_slice())?;
     }
     Ok(())

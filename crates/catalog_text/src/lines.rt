@@ -1,5 +1,5 @@
 // The lines of a catalogue.
-ghost use Rattle.std.specs.Prelude.{◌≡◌, ◌≤◌, ◌++◌, ◌∷◌, [], ℕ, List, Option, flat_map, length, option_map, OnOk};
+ghost use Rattle.std.specs.Prelude.{◌≡◌, ◌≤◌, ◌++◌, ◌∷◌, [], ℕ, List, Option, flat_map, length, option_map, IfOk, OnOk};
 ghost use Rattle.hex.specs.Hex.{encode_lower};
 ghost use Rattle.pi_base.specs.WordText.{guid_text};
 ghost use Rattle.pi_base.specs.Field.{words_of};
@@ -209,7 +209,8 @@ fn put_member(
     let title = title_of(alloc, volumes, images, member)?;
     put_module(alloc, out, number, member, title)?;
     put_part(alloc, out, number, Phase::Pei, &member.pei)?;
-    put_part(alloc, out, number, Phase::Dxe, &member.dxe)
+    put_part(alloc, out, number, Phase::Dxe, &member.dxe)?;
+    Ok(())
 }
 
 // The lines of modules.
