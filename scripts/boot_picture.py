@@ -1,0 +1,287 @@
+"""Draws a boot as SVG: a lane for PEI and one for DXE, time downwards, a box for each start and each part that never started.
+
+An arc leads from the module that had what an expression asks for to the module that asks. The picture comes in bands of rows, so that a
+printer breaks between them, and where there is little room both lanes stand in one column: PEI is over before DXE begins. All text is of
+one width a letter and broken before it is drawn, so that no label meets another. `report` stands on it.
+"""
+import math
+import textwrap
+from collections.abc import Callable, Iterable
+from dataclasses import dataclass, field
+from html import escape
+
+from explained import CORE, PHASES, Boot, Mark, Start, Wait
+
+GUTTER, BOX, GAP = 44, 276, 40  # the arcs' room left of a box, a box, and what stands between the lanes
+LANE = GUTTER + BOX
+WIDTH = 2 * LANE + GAP
+LINE, PAD, SPACE = 15, 5, 7  # a line of text, what stands round the lines of a box, and what stands below it
+COLUMNS, SMALL_COLUMNS = 34, 38  # letters that fit into a box, of 12 and of 11 pixels
+MOST_LINES = 6  # of one kind in a box; the page has the whole list
+BAND = 880  # a band's most height: a printed page takes it
+
+# A licence's colour of those by Okabe and Ito, which all eyes tell apart; its word stands in the box too.
+COLOURS = {"apriori": "#e69f00", "absent": "#7f7f7f", "true": "#009e73", "shadow": "#cc79a7", "before": "#56b4e9", "after": "#0072b2"}
+WAITS_COLOUR = "#d55e00"
+MEANINGS = {
+    "apriori": "an a priori list names it",
+    "absent": "it has no expression",
+    "true": "its expression holds",
+    "shadow": "again, from memory",
+    "before": "beside the driver that it names BEFORE",
+    "after": "beside the driver that it names AFTER",
+}
+
+STYLE = f"""
+.boot text {{ font: 11px ui-monospace, 'DejaVu Sans Mono', Menlo, Consolas, monospace; fill: #222 }}
+.boot .name {{ font-size: 12px; font-weight: bold }}
+.boot .lane {{ font: bold 14px sans-serif }}
+.boot .box {{ fill: #fafafa; stroke: #999 }}
+.boot .waits .box {{ fill: #fff; stroke: {WAITS_COLOUR}; stroke-dasharray: 5 3 }}
+.boot .arc {{ fill: none; stroke: #555; stroke-width: 1; opacity: .35 }}
+.boot .lacking {{ stroke: {WAITS_COLOUR}; stroke-dasharray: 2 3; opacity: .8 }}
+.boot .head {{ fill: #555 }}
+.boot .moves {{ stroke: {WAITS_COLOUR}; stroke-width: 1.5; stroke-dasharray: 8 4 }}
+.boot .mark {{ fill: #555 }}
+.boot .lit {{ stroke: #000; stroke-width: 2; opacity: 1 }}
+""" + "".join(f".boot .{licence} .colour {{ fill: {colour} }}\n" for licence, colour in [*COLOURS.items(), ("waits", WAITS_COLOUR)])
+
+
+@dataclass
+class Row:
+    """A row of the picture: a start, a part that waits, or a mark. Its lines have the class of their letters."""
+    phase: str
+    what: Start | Wait | Mark | None
+    lines: list[tuple[str, str]]
+    y: int = 0
+    links: list[tuple["Row", str, str]] = field(default_factory=list)  # the arcs that end here: from which row, of which class, and what they say
+
+    def is_box(self) -> bool:
+        return isinstance(self.what, Start | Wait)
+
+    def height(self) -> int:
+        return len(self.lines) * LINE + (2 * PAD if self.is_box() else PAD)
+
+    def middle(self) -> int:
+        return self.y + PAD + LINE // 2
+
+    def identity(self) -> str:
+        """The anchor on the page that tells all of it."""
+        if isinstance(self.what, Start):
+            return f"start{self.what.place}"
+        return f"waits{self.what.module}{self.what.phase}" if isinstance(self.what, Wait) else ""
+
+
+def wrapped(text: str, style: str = "small") -> list[tuple[str, str]]:
+    columns = COLUMNS if style == "name" else SMALL_COLUMNS
+    return [(style, line) for line in textwrap.wrap(text, columns, break_on_hyphens=False)]
+
+
+def at_most(lines: list[tuple[str, str]], most: int = MOST_LINES) -> list[tuple[str, str]]:
+    return lines if len(lines) <= most else [*lines[: most - 1], (lines[0][0], "..")]
+
+
+class Picture:
+    """The rows of a boot in the order of time, each at its place."""
+
+    def __init__(self, boot: Boot, name: Callable[[str], str]) -> None:
+        self.boot, self.name = boot, name
+        self.rows: list[Row] = []
+        self.first: dict[tuple[str, int], Row] = {}  # the first start of each module, or the box of one that waits
+        self.moves: Row | None = None
+        self.fill()
+        self.place()
+        self.link()
+
+    # Rows
+
+    def fill(self) -> None:
+        events = sorted([*self.boot.starts, *self.merged_marks()], key=lambda event: event.line)
+        stopped = set()
+        for phase in PHASES:
+            own = [event for event in events if self.phase_of(event) == phase]
+            if own or any(wait.phase == phase for wait in self.boot.waits):
+                self.rows.append(Row(phase, None, [("lane", phase.upper())]))
+            for event in own:
+                self.rows.append(self.row_of(event, phase))
+                if isinstance(event, Mark) and event.kind == f"{phase} stop":
+                    self.rows += self.waiting(phase)
+                    stopped.add(phase)
+            if phase not in stopped:
+                self.rows += self.waiting(phase)
+
+    def phase_of(self, event: Start | Mark) -> str:
+        handoff = next((mark.line for mark in self.boot.marks if mark.kind == "handoff"), len(self.boot.trace) + 1)
+        return event.phase if isinstance(event, Start) else "pei" if event.line <= handoff else "dxe"
+
+    def merged_marks(self) -> list[Mark]:
+        """The marks, with neighbours of one kind in one."""
+        merged: list[Mark] = []
+        lines = {start.line for start in self.boot.starts}
+        for mark in self.boot.marks:
+            last = merged[-1] if merged else None
+            if last and last.kind == mark.kind and not any(last.line < line < mark.line for line in lines):
+                last.words = [*last.words, *mark.words]
+            else:
+                merged.append(Mark(mark.line, mark.kind, list(mark.words)))
+        return merged
+
+    def row_of(self, event: Start | Mark, phase: str) -> Row:
+        if isinstance(event, Mark):
+            row = Row(phase, event, at_most([("mark", line) for _, line in wrapped(self.mark_text(event))]))
+            self.moves = row if event.kind == "migrate" else self.moves
+            return row
+        row = Row(phase, event, self.start_lines(event))
+        self.first.setdefault((phase, event.module), row)
+        return row
+
+    def mark_text(self, mark: Mark) -> str:
+        words = mark.words
+        if mark.kind == "notify":
+            told = [f"{words[at]} of {self.label(words[at + 1])} for {self.name(words[at + 2])}" for at in range(0, len(words), 3)]
+            return "\N{BLACK DIAMOND} " + "; ".join(told)
+        if mark.kind in ("report", "dxe volume"):
+            numbers = [word for word in words if word.isdigit()]
+            return f"volume{'s' if len(numbers) > 1 else ''} {', '.join(numbers)} {'reported' if mark.kind == 'report' else 'discovered'}"
+        texts = {"migrate": "memory moves {0} \N{RIGHTWARDS ARROW} {1}", "handoff": "hands off, HOB list at {0}"}
+        return texts.get(mark.kind, mark.kind.upper().replace("STOP", "stops")).format(*words)
+
+    def label(self, number: int | str | None) -> str:
+        """The name of a module by its number."""
+        if number == CORE or not str(number).isdigit():
+            return "the core" if number == CORE else "a module"
+        return self.boot.modules[int(number)].label()
+
+    def start_lines(self, start: Start) -> list[tuple[str, str]]:
+        lines = wrapped(f"{start.place} {self.label(start.module)}", "name")
+        beside = f" {self.label(start.beside)}" if start.beside is not None else ""
+        lines += wrapped(f"{start.why}{beside} \N{MIDDLE DOT} module {start.module}")
+        installed = self.boot.installed(start)
+        for word, shown in (("installs", True), ("may install", False)):
+            if names := [self.name(guid) for guid, did in installed if did == shown]:
+                lines += at_most(wrapped(f"{word} {', '.join(names)}"))
+        if start.notifications:
+            told = dict.fromkeys(self.label(note.module) for note in start.notifications)
+            lines += at_most(wrapped(f"\N{BLACK DIAMOND} {len(start.notifications)} notified: {', '.join(told)}"), 3)
+        return lines
+
+    def waiting(self, phase: str) -> list[Row]:
+        rows = []
+        for wait in (wait for wait in self.boot.waits if wait.phase == phase):
+            lines = wrapped(f"\N{MULTIPLICATION SIGN} {self.label(wait.module)}", "name")
+            lines += wrapped(f"never starts: {wait.reason} \N{MIDDLE DOT} module {wait.module}")
+            if wait.lacks:
+                lines += at_most(wrapped(f"lacks {', '.join(self.name(guid) for guid, _ in wait.lacks)}"))
+            rows.append(Row(phase, wait, lines))
+            self.first.setdefault((phase, wait.module), rows[-1])
+        return rows
+
+    def place(self) -> None:
+        y = PAD
+        for row in self.rows:
+            row.y = y
+            y += row.height() + SPACE
+        self.height = y
+
+    # Arcs
+
+    def link(self) -> None:
+        for row in self.rows:
+            if isinstance(row.what, Start):
+                for guid, maker in row.what.needs:
+                    self.arc(row, maker, "arc", f"{self.name(guid)}, of {self.label(maker)}")
+                if row.what.beside is not None:
+                    self.arc(row, str(row.what.beside), "arc", f"{row.what.why} {self.label(row.what.beside)}")
+            elif isinstance(row.what, Wait):
+                for guid, givers in row.what.lacks:
+                    for giver, _ in givers:
+                        self.arc(row, giver, "arc lacking", f"{self.name(guid)}, which {self.label(giver)} may install")
+
+    def arc(self, row: Row, maker: str, style: str, says: str) -> None:
+        source = self.moves if maker == CORE else self.first.get((row.phase, int(maker))) if maker.isdigit() else None
+        if source is not None and source is not row:
+            row.links.append((source, style, says))
+
+    # SVG
+
+    def bands(self) -> list[tuple[int, int]]:
+        """Where each band begins, and how high it is: no row stands in two."""
+        bands, top = [], 0
+        for row, after in zip(self.rows, [*self.rows[1:], None], strict=True):
+            end = after.y - SPACE // 2 if after else self.height
+            following = after.y + after.height() if after else end
+            if following - top > BAND or after is None:
+                bands.append((top, end - top))
+                top = end
+        return bands
+
+    def band(self, top: int, height: int) -> str:
+        """A band as an SVG element of the page; arcs that pass it are drawn in it."""
+        inside = f'<g transform="translate(0 {-top})">{self.drawn(top, top + height)}</g>'
+        return f'<svg class="boot" xmlns="http://www.w3.org/2000/svg" width="{WIDTH}" height="{height}" role="img" aria-label="Starts in the order of time">{inside}</svg>'
+
+    def whole(self) -> str:
+        """The picture as a file of its own."""
+        return (f'<svg class="boot" xmlns="http://www.w3.org/2000/svg" width="{WIDTH}" height="{self.height}" viewBox="0 0 {WIDTH} {self.height}">'
+                f'<style>{STYLE}</style><rect width="100%" height="100%" fill="#fff"/>{self.drawn(0, self.height)}</svg>\n')
+
+    def drawn(self, top: int, bottom: int) -> str:
+        lanes = []
+        for phase, x in zip(PHASES, (0, LANE + GAP), strict=True):
+            rows = [row for row in self.rows if row.phase == phase]
+            arcs = "".join(self.drawn_arc(row, *link) for row in rows for link in row.links if min(row.y, link[0].y) < bottom and max(row.y, link[0].y) + 40 > top)
+            boxes = "".join(self.drawn_row(row) for row in rows if top <= row.y < bottom)
+            lanes.append(f'<g class="lane-{phase}" transform="translate({x} 0)">{arcs}{boxes}</g>')
+        return "".join(self.drawn_moves(row) for row in self.rows if row is self.moves and top <= row.y < bottom) + "".join(lanes)
+
+    def drawn_moves(self, row: Row) -> str:
+        y = row.y + row.height() + SPACE // 2 - 1
+        return f'<line class="moves" x1="0" x2="100%" y1="{y}" y2="{y}"/>'
+
+    def drawn_arc(self, row: Row, source: Row, style: str, says: str) -> str:
+        begin, end = source.middle(), row.middle()
+        bow = 8 + round((GUTTER - 14) * math.log1p(abs(end - begin) / 60) / math.log1p(self.height / 60))
+        x, tip = GUTTER, GUTTER - 5
+        path = f"M{x} {begin}C{x - bow} {begin} {x - bow} {end} {tip} {end}"
+        ends = f'data-from="{source.identity()}" data-to="{row.identity()}"'
+        return f'<path class="{style}" {ends} d="{path}"><title>{escape(says)}</title></path><path class="head" d="M{tip} {end - 3}L{x} {end}L{tip} {end + 3}z"/>'
+
+    def drawn_row(self, row: Row) -> str:
+        x = GUTTER + (12 if row.is_box() else 6)
+        first = row.y + PAD + LINE - 4
+        texts = "".join(f'<text class="{style}" x="{x}" y="{first + LINE * at}">{escape(text)}</text>' for at, (style, text) in enumerate(row.lines))
+        if not row.is_box():
+            return texts
+        kind = row.what.why if isinstance(row.what, Start) else "waits"
+        box = f'<rect class="box" x="{GUTTER}" y="{row.y}" width="{BOX - 1}" height="{row.height()}" rx="3"/>'
+        colour = f'<rect class="colour" x="{GUTTER}" y="{row.y}" width="6" height="{row.height()}"/>'
+        return f'<a href="#{row.identity()}" class="{kind}" data-box="{row.identity()}">{box}{colour}{texts}</a>'
+
+
+def graph(boot: Boot, name: Callable[[str], str]) -> str:
+    """The graph of needs in the language of Graphviz: from who had it to who asked for it."""
+    lines = ["digraph needs {", "    rankdir=LR;", '    node [shape=box, fontname="sans-serif"];', '    edge [fontname="sans-serif", fontsize=9];']
+    started = {(start.phase, start.module) for start in boot.starts}
+    parts = [*started, *((wait.phase, wait.module) for wait in boot.waits)]
+    for phase, number in sorted(parts, key=lambda part: (part[0] == "dxe", part[1])):
+        style = "" if (phase, number) in started else f', style=dashed, color="{WAITS_COLOUR}"'
+        lines.append(f"    {phase}{number} [label={quoted(boot.modules[number].label())}{style}];")
+    lines += dict.fromkeys(graph_edges(boot, name))
+    return "\n".join([*lines, "}", ""])
+
+
+def graph_edges(boot: Boot, name: Callable[[str], str]) -> Iterable[str]:
+    known = {(each.phase, each.module) for each in [*boot.starts, *boot.waits]}
+    for start in boot.starts:
+        for guid, maker in start.needs:
+            if maker == CORE or maker.isdigit() and (start.phase, int(maker)) in known:
+                yield f"    {maker if maker == CORE else start.phase + maker} -> {start.phase}{start.module} [label={quoted(name(guid))}];"
+    for wait in boot.waits:
+        for guid, givers in wait.lacks:
+            for giver, _ in givers:
+                if giver == CORE or (wait.phase, int(giver)) in known:
+                    yield f"    {giver if giver == CORE else wait.phase + giver} -> {wait.phase}{wait.module} [label={quoted(name(guid))}, style=dashed, color=\"{WAITS_COLOUR}\"];"
+
+
+def quoted(text: str) -> str:
+    return '"' + text.replace("\\", "\\\\").replace('"', '\\"') + '"'

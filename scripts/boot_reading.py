@@ -1,0 +1,479 @@
+"""Reads a boot a second time, from the texts of its volumes and the trace, and says in the words of `explain` why each module started or did not.
+
+It is written apart from `pitools explain` and knows nothing of memory or of choices. Statuses and addresses are the trace's; what stands
+in a register, in the lists of PPIs, notifications and protocols, and which script a notification runs, follow from the scripts.
+`check-explain` stands on it.
+"""
+import re
+import sys
+from collections.abc import Iterator
+from dataclasses import dataclass, field
+
+from volume_reader import expression_in
+
+PARTS = {"peim": ["pei"], "driver": ["dxe"], "combined": ["pei", "dxe"], "mm-dxe": ["dxe"]}
+EXPRESSION = {"1b": "pei", "13": "dxe"}
+GUID = re.compile(r"[0-9a-f]{8}(?:-[0-9a-f]{4}){3}-[0-9a-f]{12}")
+MEMORY_PPI = "f894643d-c449-42d1-8ea8-85bdd8c65bde"
+CORE = "core"
+sys.setrecursionlimit(10_000)  # an expression has up to 1,023 opcodes
+
+Tree = tuple | str
+
+
+class Differs(Exception):
+    """The trace is not what the scripts say."""
+
+
+@dataclass(eq=False)
+class Module:
+    """A file with a part for PEI or DXE, as the text of its volume has it."""
+    number: int
+    volume: int
+    name: str
+    parts: list[str]
+    shown: str = "-"
+    expressions: dict[str, str] = field(default_factory=dict)
+    blocks: dict[str, list[list[list[str]]]] = field(default_factory=dict)
+
+    def is_malformed(self, phase: str) -> bool:
+        return self.expressions.get(phase, "").startswith("malformed@")
+
+    def pushed(self, phase: str) -> list[str]:
+        """The GUIDs that the expression pushes, in order of first mention."""
+        text = self.expressions.get(phase, "")
+        return [] if text.startswith(("before", "after", "malformed@")) else list(dict.fromkeys(GUID.findall(text)))
+
+    def gives(self, phase: str) -> list[str]:
+        """What its script may install: GUIDs, and any where it reads one in a volume."""
+        given, reads = [], False
+        for action in (action for block in self.blocks.get(phase, []) for action in block):
+            match (phase, *action):
+                case ("pei", "desc", _, "ppi", "at", _, _):
+                    reads = True
+                case ("pei", "desc", _, "ppi", guid, _) | ("dxe", "install", "new" | "on", _, guid, _) | ("dxe", "reinstall", _, guid, _, _):
+                    given.append(guid)
+        return list(dict.fromkeys(given)) + ["any"] * reads
+
+
+# Texts of volumes
+
+def shown_name(code: bytes) -> str:
+    """The name in a user interface section, up to its zero; - where there is none."""
+    units = [int.from_bytes(code[at : at + 2], "little") for at in range(0, len(code), 2)]
+    if len(code) % 2 or 0 not in units or units[0] == 0:
+        return "-"
+    text = "".join(chr(unit) if 0x20 < unit < 0x7F and unit != 0x5C else f"\\u{unit:04x}" for unit in units[: units.index(0)])
+    return r"\u002d" if text == "-" else text
+
+
+def read_files(text: str) -> Iterator[tuple[str, str, list[str]]]:
+    """The type, the name and the lines of each file of a volume's text."""
+    files: list[tuple[str, str, list[str]]] = []
+    for line in text.splitlines()[1:-1]:
+        words = line.split(" ")
+        if words[0] == "file":
+            files.append((words[1], words[2], []))
+        elif files:
+            files[-1][2].append(line)
+    yield from files
+
+
+def read_module(module: Module, lines: list[str]) -> None:
+    """Fills a module from the lines of its file: the first section of each kind counts, and names stand where they may."""
+    block: list[list[list[str]]] | None = None
+    seen = False
+    for line in lines:
+        word, _, rest = line.partition(" ")
+        if word == "end":
+            block = None
+        elif block is not None and word == "block":
+            block.append([])
+        elif block is not None:
+            block[-1].append(["log", rest] if word == "log" else line.split(" "))
+        elif word == "script":
+            block = module.blocks.setdefault(rest, [])
+        elif word == "depex":
+            phase, _, text = rest.partition(" ")
+            module.expressions.setdefault(phase, text)
+        elif word == "section":
+            kind, _, code = rest.partition(" ")
+            if kind == "15" and not seen:
+                module.shown, seen = shown_name(bytes.fromhex(code)), True
+            if (phase := EXPRESSION.get(kind)) in module.parts:
+                read = expression_in(phase, bytes.fromhex(code))
+                module.expressions.setdefault(phase, read[0] if read else "malformed@")
+
+
+# Expressions
+
+def tree_of(words: Iterator[str]) -> Tree:
+    """The tree of an expression with all its brackets: a word, ("not", tree), or (operator, left, right)."""
+    word = next(words)
+    if word == "not":
+        return ("not", tree_of(words))
+    if word != "(":
+        return word
+    left, operator, right = tree_of(words), next(words), tree_of(words)
+    next(words)
+    return (operator, left, right)
+
+
+def read_tree(text: str) -> Tree | None:
+    """The tree of an expression's text; none where it is of another form."""
+    if text in ("", "-") or text.startswith(("before", "after", "malformed@")):
+        return None
+    return tree_of(iter(re.findall(r"[()]|[^\s()]+", text.removeprefix("sor "))))
+
+
+def holds(tree: Tree, there: set[str]) -> bool:
+    match tree:
+        case ("not", inner):
+            return not holds(inner, there)
+        case ("and", left, right):
+            return holds(left, there) and holds(right, there)
+        case ("or", left, right):
+            return holds(left, there) or holds(right, there)
+    return tree == "true" or tree in there
+
+
+def would(tree: Tree, there: set[str]) -> list[str] | None:
+    """The GUIDs whose coming makes it hold; none where one would have to go."""
+    if holds(tree, there):
+        return []
+    match tree:
+        case ("and", left, right):
+            both = [would(left, there), would(right, there)]
+            return None if None in both else list(dict.fromkeys(both[0] + both[1]))
+        case ("or", left, right):
+            ways = [way for way in (would(left, there), would(right, there)) if way is not None]
+            return min(ways, key=len, default=None)
+    return None if isinstance(tree, tuple) or tree == "false" else [tree]
+
+
+# The boot
+
+@dataclass(eq=False)
+class Descriptor:
+    """A descriptor of PEI: its kind, its GUID, and of a notification the module and the block that it runs."""
+    kind: str
+    guid: str
+    module: Module | None = None
+    block: int = 0
+    value: int = 0
+
+
+@dataclass(eq=False)
+class Ppi:
+    descriptor: Descriptor
+    maker: Module | str
+
+
+@dataclass(eq=False)
+class Interface:
+    handle: int
+    guid: str
+    value: int
+    maker: Module
+
+
+@dataclass(eq=False)
+class Frame:
+    """A script that runs: the notifications that the last call has still to run are its sweep."""
+    module: Module
+    actions: list[list[str]]
+    registers: dict[str, object] = field(default_factory=dict)
+    at: int = 0
+    status: str = "Success"
+    sweep: Iterator[tuple[Descriptor, Descriptor]] = iter(())
+
+
+class Boot:
+    """What a trace tells of a boot: who started, by which licence, and what was there by then."""
+
+    def __init__(self, modules: list[Module], memory: list[tuple[int, bytes]]) -> None:
+        self.modules, self.memory = modules, memory
+        self.phase, self.frames, self.sweep = "pei", [], iter(())
+        self.ppis: list[Ppi] = []
+        self.callbacks: list[Descriptor] = []
+        self.dispatches: list[Descriptor] = []
+        self.queue: list[tuple[Descriptor, Descriptor]] = []
+        self.interfaces: list[Interface] = []
+        self.handles = 0
+        self.notes: list[tuple[str, Module, int]] = []
+        self.started: dict[str, list[Module]] = {"pei": [], "dxe": []}
+        self.starts: list[str] = []
+        self.waiting: dict[tuple[str, Module], str] = {}
+        self.last_anchor: Module | None = None
+        self.moved: list[str] = []
+        self.fuel, self.result = 0, ""
+
+    # What is there
+
+    def makers(self, phase: str) -> dict[str, Module | str]:
+        """Who installed each GUID that is there: the first that did."""
+        found: dict[str, Module | str] = {}
+        entries = [(ppi.descriptor.guid, ppi.maker) for ppi in self.ppis] if phase == "pei" else [(each.guid, each.maker) for each in self.interfaces]
+        for guid, maker in entries:
+            found.setdefault(guid, maker)
+        return found
+
+    def guid_at(self, address: object) -> str:
+        """The GUID in a volume at an address."""
+        import uuid
+        for base, image in self.memory:
+            if isinstance(address, int) and base <= address and address + 16 <= base + len(image):
+                return str(uuid.UUID(bytes_le=image[address - base : address - base + 16]))
+        raise Differs("a descriptor was made of a GUID at no place of a volume")
+
+    # Lines
+
+    def read(self, lines: list[str]) -> None:
+        for number, line in enumerate(lines, 1):
+            try:
+                self.read_line(line.split(" "), line)
+            except (Differs, KeyError, StopIteration, IndexError, ValueError) as fault:
+                raise Differs(f"line {number} of the trace, `{line[:80]}`: {fault!r}") from fault
+            if line.startswith("result "):
+                self.result = line
+
+    def read_line(self, words: list[str], line: str) -> None:
+        match words:
+            case [("pei" | "dxe") as phase, "start", volume, name, licence]:
+                self.start(phase, int(volume), name, licence)
+            case ["notify", kind, volume, name, guid]:
+                self.notified(kind, int(volume), name, guid)
+            case ["call", *_] | ["log", *_] | ["end", _]:
+                self.act(words, line)
+            case ["migrate", old, new]:
+                self.moved = [old, new]
+            case ["core", "install", _]:
+                self.sweep = self.installs([Ppi(Descriptor("ppi", MEMORY_PPI), CORE)])
+            case ["handoff", _]:
+                self.phase = "dxe"
+            case ["waiting", volume, name, reason]:
+                part = next(each for each in self.named(int(volume), name, self.phase) if (self.phase, each) not in self.waiting and each not in self.started[self.phase])
+                self.waiting[self.phase, part] = reason
+
+    def named(self, volume: int, name: str, phase: str) -> list[Module]:
+        return [each for each in self.modules if (each.volume, each.name) == (volume, name) and phase in each.parts]
+
+    # Starts
+
+    def start(self, phase: str, volume: int, name: str, licence: str) -> None:
+        if self.frames:
+            raise Differs("a module starts inside a script")
+        before = self.started[phase]
+        module = next(each for each in self.named(volume, name, phase) if (each in before) == (licence == "shadow") and self.may_start(each, phase, licence))
+        before.append(module)
+        self.starts.append(f"start {module.number} {phase} {self.licence(module, phase, licence)}")
+        makers = self.makers(phase)
+        for guid in module.pushed(phase):
+            maker = makers.get(guid, "-")
+            self.starts.append(f"needed {module.number} {guid} {maker.number if isinstance(maker, Module) else maker}")
+        blocks = module.blocks.get(phase)
+        self.frames = [Frame(module, blocks[0])] if blocks else [Frame(module, [["ret", "Success"]])]
+
+    def may_start(self, module: Module, phase: str, licence: str) -> bool:
+        """Tells two modules of one name apart."""
+        tree = read_tree(module.expressions.get(phase, ""))
+        return licence != "true" or tree is not None and holds(tree, set(self.makers(phase)))
+
+    def licence(self, module: Module, phase: str, licence: str) -> str:
+        """A companion's line names the driver that its expression names."""
+        if licence not in ("before", "after"):
+            return licence
+        name = GUID.findall(module.expressions[phase])[0]
+        beside = next(each for each in self.modules if each.name == name and "dxe" in each.parts)
+        return f"{licence} {beside.number}"
+
+    # Notifications
+
+    def notified(self, kind: str, volume: int, name: str, guid: str) -> None:
+        if kind == "protocol":
+            module, block, registers = next(self.frames[-1].sweep)
+        else:
+            sweep = self.frames[-1].sweep if self.frames else self.sweep
+            ppi, note = self.queue.pop(0) if kind == "dispatch" else next(sweep)
+            module, block, registers = note.module, note.block, {"r0": ppi.value, "r1": ppi}
+            if ppi.guid != guid:
+                raise Differs(f"{ppi.guid} is due")
+        if (module.volume, module.name) != (volume, name):
+            raise Differs(f"a notification of module {module.number} is due")
+        self.frames.append(Frame(module, module.blocks[self.phase][block], registers))
+
+    def pairs(self, places: list[int], notes: list[Descriptor]) -> Iterator[tuple[Descriptor, Descriptor]]:
+        """The callbacks that a call runs, each tested at its turn."""
+        for place in places:
+            for note in notes:
+                if self.ppis[place].descriptor.guid == note.guid:
+                    yield self.ppis[place].descriptor, note
+
+    def queued(self, ppis: list[Descriptor], notes: list[Descriptor]) -> None:
+        self.queue += [(ppi, note) for ppi in ppis for note in notes if ppi.guid == note.guid]
+
+    def installs(self, new: list[Ppi]) -> Iterator[tuple[Descriptor, Descriptor]]:
+        first = len(self.ppis)
+        self.ppis += new
+        self.queued([ppi.descriptor for ppi in new], self.dispatches)
+        return self.pairs(list(range(first, len(self.ppis))), list(self.callbacks))
+
+    # Actions
+
+    def act(self, words: list[str], line: str) -> None:
+        """The top script goes on, past what prints nothing, to the action that printed this line."""
+        frame = self.frames[-1]
+        if next(frame.sweep, None) is not None:
+            raise Differs("a notification is due")
+        while (action := frame.actions[frame.at])[0] in ("set", "add", "addr", "skip_if"):
+            frame.at += 1
+            self.fuel += 1
+            self.write(frame, action)
+        frame.at += 1
+        self.fuel += 1
+        if action[0] == "ret":
+            if words != ["end", action[1]]:
+                raise Differs(f"{action} is due")
+            self.frames.pop()
+        elif action[0] == "log":
+            if line != f"log {action[1]}":
+                raise Differs(f"{action} is due")
+        elif words[:2] == ["call", action[0]]:
+            frame.status = words[2]
+            if words[2] == "Success":
+                getattr(self, f"{self.phase}_{action[0]}", lambda *_: None)(frame, action[1:], words[3:])
+        else:
+            raise Differs(f"{action} is due")
+
+    def write(self, frame: Frame, action: list[str]) -> None:
+        registers = frame.registers
+        match action:
+            case ["skip_if", condition, count]:
+                frame.at += int(count) if (frame.status == "Success") == (condition == "0") else 0
+                return
+            case ["set", register, number]:
+                registers[register] = int(number, 0)
+            case ["add", register, number] if isinstance(registers.get(register), int):
+                registers[register] = (registers[register] + int(number, 0)) % 2**64
+            case ["addr", register, what, _] if not isinstance(registers.get(what, 0), int):
+                registers[register] = 0  # an address in the heap, at which no volume is
+            case _:
+                frame.status = "InvalidParameter"
+                return
+        frame.status = "Success"
+
+    def pei_pool(self, frame: Frame, words: list[str], _: list[str]) -> None:
+        frame.registers[words[0]] = Descriptor("pool", "")
+
+    def pei_desc(self, frame: Frame, words: list[str], _: list[str]) -> None:
+        register, kind, *rest = words
+        guid, *rest = [self.guid_at(frame.registers[rest[1]]), *rest[2:]] if rest[0] == "at" else rest
+        made = Descriptor(kind, guid, frame.module)
+        if kind == "ppi":
+            made.value = frame.registers[rest[0]]
+        else:
+            made.block = int(rest[1])
+        frame.registers[register] = made
+
+    def pei_install(self, frame: Frame, words: list[str], _: list[str]) -> None:
+        frame.sweep = self.installs([Ppi(frame.registers[word], frame.module) for word in words])
+
+    def pei_reinstall(self, frame: Frame, words: list[str], _: list[str]) -> None:
+        old, new = (frame.registers[word] for word in words)
+        place = next(at for at, ppi in enumerate(self.ppis) if ppi.descriptor is old)
+        self.ppis[place].descriptor = new
+        self.queued([new], self.dispatches)
+        frame.sweep = self.pairs([place], list(self.callbacks))
+
+    def pei_notify(self, frame: Frame, words: list[str], _: list[str]) -> None:
+        notes = [frame.registers[word] for word in words]
+        callbacks = [note for note in notes if note.kind == "callback"]
+        dispatches = [note for note in notes if note.kind == "dispatch"]
+        self.queued([ppi.descriptor for ppi in self.ppis], dispatches)
+        self.callbacks += callbacks
+        self.dispatches += dispatches
+        frame.sweep = self.pairs(list(range(len(self.ppis))), callbacks)
+
+    def pei_locate(self, frame: Frame, words: list[str], shown: list[str]) -> None:
+        register, value, guid, instance = words
+        frame.registers[register] = [ppi.descriptor for ppi in self.ppis if ppi.descriptor.guid == guid][int(instance)]
+        frame.registers[value] = int(shown[0], 0)
+
+    def pei_pages(self, frame: Frame, words: list[str], shown: list[str]) -> None:
+        frame.registers[words[0]] = int(shown[0], 0)
+
+    def pei_boot_mode(self, frame: Frame, words: list[str], shown: list[str]) -> None:
+        if words[0] == "get":
+            frame.registers[words[1]] = int(shown[0], 0)
+
+    def tell(self, guid: str, value: int, handle: int) -> Iterator[tuple[Module, int, dict[str, object]]]:
+        return iter([(module, block, {"r0": value, "r1": ("handle", handle)}) for noted, module, block in self.notes if noted == guid])
+
+    def dxe_install(self, frame: Frame, words: list[str], _: list[str]) -> None:
+        form, register, guid, value = words
+        if form == "new":
+            self.handles += 1
+            frame.registers, number = frame.registers | {register: ("handle", self.handles)}, frame.registers[value]
+        else:
+            number = frame.registers[value]
+        handle = frame.registers[register][1]
+        self.interfaces.append(Interface(handle, guid, number, frame.module))
+        frame.sweep = self.tell(guid, number, handle)
+
+    def interface(self, frame: Frame, register: str, guid: str, value: str) -> Interface:
+        handle, number = frame.registers[register][1], frame.registers[value]
+        return next(each for each in self.interfaces if (each.handle, each.guid, each.value) == (handle, guid, number))
+
+    def dxe_reinstall(self, frame: Frame, words: list[str], _: list[str]) -> None:
+        register, guid, old, new = words
+        there = self.interface(frame, register, guid, old)
+        there.value = frame.registers[new]
+        frame.sweep = self.tell(guid, there.value, there.handle)
+
+    def dxe_uninstall(self, frame: Frame, words: list[str], _: list[str]) -> None:
+        self.interfaces.remove(self.interface(frame, *words))
+
+    def dxe_locate(self, frame: Frame, words: list[str], shown: list[str]) -> None:
+        register, value, guid = words
+        frame.registers[register] = ("handle", min(each.handle for each in self.interfaces if each.guid == guid))
+        frame.registers[value] = int(shown[0], 0)
+
+    def dxe_notify(self, frame: Frame, words: list[str], _: list[str]) -> None:
+        self.notes.append((words[0], frame.module, int(words[2])))
+
+    # What is told
+
+    def waits(self, module: Module, phase: str) -> list[str]:
+        """The lines on a part that never started."""
+        makers, number = self.makers(phase), module.number
+        told = [f"waits {number} {phase} {self.waiting.get((phase, module), 'unseen')}"]
+        for guid in module.pushed(phase):
+            if guid in makers:
+                maker = makers[guid]
+                told.append(f"has {number} {guid} {maker.number if isinstance(maker, Module) else maker}")
+                continue
+            givers = [each for each in self.modules if guid in each.gives(phase)]
+            pairs = [f"{each.number} {'started' if each in self.started[phase] else 'waits'}" for each in givers]
+            if phase == "pei" and guid == MEMORY_PPI:
+                pairs.insert(0, "core waits")
+            told.append(f"lacks {number} {guid} {' '.join(pairs) or '-'}")
+        tree = read_tree(module.expressions.get(phase, ""))
+        wanted = would(tree, set(makers)) if tree else None
+        return told + ([f"would {number} {' '.join(wanted) or '-'}"] if wanted is not None else [])
+
+    def told(self) -> list[str]:
+        """All lines but those of modules and of the heap."""
+        parts = [(phase, module) for phase in ("pei", "dxe") for module in self.modules if phase in module.parts and module not in self.started[phase]]
+        order = {part: at for at, part in enumerate(self.waiting)}
+        parts.sort(key=lambda part: (part[0] == "dxe", part not in order, order.get(part, part[1].number)))
+        lines = [*self.starts, *(line for phase, module in parts for line in self.waits(module, phase))]
+        return [*lines, *([f"moved {' '.join(self.moved)}"] if self.moved else []), f"fuel {self.fuel}", self.result]
+
+    def catalogue(self) -> list[str]:
+        lines = []
+        for module in self.modules:
+            lines.append(f"module {module.number} {module.shown}")
+            for phase in module.parts:
+                lines.append(f"expr {module.number} {phase} {module.expressions.get(phase, '-')}")
+                lines += [f"gives {module.number} {phase} {given}" for given in module.gives(phase)]
+        return lines
