@@ -16,7 +16,7 @@ GUTTER, BOX, GAP = 44, 276, 40  # the arcs' room left of a box, a box, and what 
 LANE = GUTTER + BOX
 WIDTH = 2 * LANE + GAP
 LINE, PAD, SPACE = 15, 5, 7  # a line of text, what stands round the lines of a box, and what stands below it
-COLUMNS, SMALL_COLUMNS = 34, 38  # letters that fit into a box, of 12 and of 11 pixels
+COLUMNS, SMALL_COLUMNS = 35, 38  # letters that fit into a box, of 12 and of 11 pixels
 MOST_LINES = 6  # of one kind in a box; the page has the whole list
 BAND = 880  # a band's most height: a printed page takes it
 

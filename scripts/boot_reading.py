@@ -6,6 +6,7 @@ in a register, in the lists of PPIs, notifications and protocols, and which scri
 """
 import re
 import sys
+import uuid
 from collections.abc import Iterator
 from dataclasses import dataclass, field
 
@@ -16,6 +17,7 @@ EXPRESSION = {"1b": "pei", "13": "dxe"}
 GUID = re.compile(r"[0-9a-f]{8}(?:-[0-9a-f]{4}){3}-[0-9a-f]{12}")
 MEMORY_PPI = "f894643d-c449-42d1-8ea8-85bdd8c65bde"
 CORE = "core"
+MOST_GIVERS = 16  # of one GUID that are named
 sys.setrecursionlimit(10_000)  # an expression has up to 1,023 opcodes
 
 Tree = tuple | str
@@ -33,6 +35,7 @@ class Module:
     name: str
     parts: list[str]
     shown: str = "-"
+    ranks: dict[str, int] = field(default_factory=dict)
     expressions: dict[str, str] = field(default_factory=dict)
     blocks: dict[str, list[list[list[str]]]] = field(default_factory=dict)
 
@@ -203,8 +206,10 @@ class Boot:
         self.notes: list[tuple[str, Module, int]] = []
         self.started: dict[str, list[Module]] = {"pei": [], "dxe": []}
         self.starts: list[str] = []
+        self.known: dict[str, list[int]] = {"pei": [], "dxe": []}  # the volumes that each phase came to know
         self.waiting: dict[tuple[str, Module], str] = {}
-        self.last_anchor: Module | None = None
+        self.shadows: list[Module] = []
+        self.requested: list[Module] = []
         self.moved: list[str] = []
         self.fuel, self.result = 0, ""
 
@@ -220,7 +225,6 @@ class Boot:
 
     def guid_at(self, address: object) -> str:
         """The GUID in a volume at an address."""
-        import uuid
         for base, image in self.memory:
             if isinstance(address, int) and base <= address and address + 16 <= base + len(image):
                 return str(uuid.UUID(bytes_le=image[address - base : address - base + 16]))
@@ -251,8 +255,13 @@ class Boot:
                 self.sweep = self.installs([Ppi(Descriptor("ppi", MEMORY_PPI), CORE)])
             case ["handoff", _]:
                 self.phase = "dxe"
+            case ["report", volume]:
+                self.known["pei"].append(int(volume))
+            case ["dxe", "volume", volume]:
+                self.known["dxe"].append(int(volume))
             case ["waiting", volume, name, reason]:
-                part = next(each for each in self.named(int(volume), name, self.phase) if (self.phase, each) not in self.waiting and each not in self.started[self.phase])
+                twins = [each for each in self.named(int(volume), name, self.phase) if (self.phase, each) not in self.waiting]
+                part = next(each for each in twins if (each in self.started[self.phase]) == (reason == "shadow"))
                 self.waiting[self.phase, part] = reason
 
     def named(self, volume: int, name: str, phase: str) -> list[Module]:
@@ -264,7 +273,8 @@ class Boot:
         if self.frames:
             raise Differs("a module starts inside a script")
         before = self.started[phase]
-        module = next(each for each in self.named(volume, name, phase) if (each in before) == (licence == "shadow") and self.may_start(each, phase, licence))
+        twins = [each for each in self.named(volume, name, phase) if (each in before) == (licence == "shadow")]
+        module = next((each for each in twins if self.may_start(each, phase, licence)), twins[0])
         before.append(module)
         self.starts.append(f"start {module.number} {phase} {self.licence(module, phase, licence)}")
         makers = self.makers(phase)
@@ -275,16 +285,18 @@ class Boot:
         self.frames = [Frame(module, blocks[0])] if blocks else [Frame(module, [["ret", "Success"]])]
 
     def may_start(self, module: Module, phase: str, licence: str) -> bool:
-        """Tells two modules of one name apart."""
-        tree = read_tree(module.expressions.get(phase, ""))
-        return licence != "true" or tree is not None and holds(tree, set(self.makers(phase)))
+        """Tells two modules of one name apart, by their expressions."""
+        text = module.expressions.get(phase, "")
+        if licence == "true":
+            return (tree := read_tree(text)) is not None and holds(tree, set(self.makers(phase)))
+        return licence in ("apriori", "shadow") or (text == "" if licence == "absent" else text.startswith(licence))
 
     def licence(self, module: Module, phase: str, licence: str) -> str:
         """A companion's line names the driver that its expression names."""
         if licence not in ("before", "after"):
             return licence
         name = GUID.findall(module.expressions[phase])[0]
-        beside = next(each for each in self.modules if each.name == name and "dxe" in each.parts)
+        beside = next(each for each in self.order("dxe") if each.name == name)
         return f"{licence} {beside.number}"
 
     # Notifications
@@ -406,6 +418,13 @@ class Boot:
         if words[0] == "get":
             frame.registers[words[1]] = int(shown[0], 0)
 
+    def pei_shadow(self, frame: Frame, _: list[str], __: list[str]) -> None:
+        self.shadows.append(frame.module)
+
+    def dxe_schedule(self, _: Frame, words: list[str], __: list[str]) -> None:
+        waits = [each for each in self.order("dxe") if each.expressions.get("dxe", "").startswith("sor ") and each not in self.requested + self.started["dxe"]]
+        self.requested.append(next(each for each in waits if each.name == words[0]))
+
     def tell(self, guid: str, value: int, handle: int) -> Iterator[tuple[Module, int, dict[str, object]]]:
         return iter([(module, block, {"r0": value, "r1": ("handle", handle)}) for noted, module, block in self.notes if noted == guid])
 
@@ -443,10 +462,30 @@ class Boot:
 
     # What is told
 
-    def waits(self, module: Module, phase: str) -> list[str]:
-        """The lines on a part that never started."""
+    def order(self, phase: str) -> list[Module]:
+        """The parts of the volumes that a phase knows, in its order."""
+        return [each for volume in self.known[phase] for each in self.ranked(volume, phase)]
+
+    def ranked(self, volume: int, phase: str) -> list[Module]:
+        parts = [each for each in self.modules if each.volume == volume and phase in each.parts]
+        return sorted(parts, key=lambda each: each.ranks.get(phase, len(self.modules))) if phase == "pei" else parts
+
+    def reason(self, module: Module, phase: str) -> str | None:
+        """Why a part of a known volume waits: as the trace says, or where the boot ended before its phase stopped, by its expression."""
+        if module in self.started[phase]:
+            waits = phase == "pei" and module in self.shadows and self.started[phase].count(module) == 1
+            return "shadow" if waits else None
+        if (phase, module) in self.waiting:
+            return self.waiting[phase, module]
+        word = module.expressions.get(phase, "").partition("@")[0].partition(" ")[0]
+        if phase == "dxe" and (word in ("", "before", "after") or word == "sor" and module not in self.requested):
+            return {"": "absent", "sor": "unrequested"}.get(word, word)
+        return "malformed" if word == "malformed" else "false"
+
+    def waits(self, module: Module, phase: str, reason: str) -> list[str]:
+        """The lines on a part that waits."""
         makers, number = self.makers(phase), module.number
-        told = [f"waits {number} {phase} {self.waiting.get((phase, module), 'unseen')}"]
+        told = [f"waits {number} {phase} {reason}"]
         for guid in module.pushed(phase):
             if guid in makers:
                 maker = makers[guid]
@@ -454,6 +493,7 @@ class Boot:
                 continue
             givers = [each for each in self.modules if guid in each.gives(phase)]
             pairs = [f"{each.number} {'started' if each in self.started[phase] else 'waits'}" for each in givers]
+            pairs[MOST_GIVERS:] = ["more"] * (len(pairs) > MOST_GIVERS)
             if phase == "pei" and guid == MEMORY_PPI:
                 pairs.insert(0, "core waits")
             told.append(f"lacks {number} {guid} {' '.join(pairs) or '-'}")
@@ -463,10 +503,12 @@ class Boot:
 
     def told(self) -> list[str]:
         """All lines but those of modules and of the heap."""
-        parts = [(phase, module) for phase in ("pei", "dxe") for module in self.modules if phase in module.parts and module not in self.started[phase]]
-        order = {part: at for at, part in enumerate(self.waiting)}
-        parts.sort(key=lambda part: (part[0] == "dxe", part not in order, order.get(part, part[1].number)))
-        lines = [*self.starts, *(line for phase, module in parts for line in self.waits(module, phase))]
+        lines = list(self.starts)
+        for phase in ("pei", "dxe"):
+            reasons = [(module, self.reason(module, phase)) for module in self.order(phase)]
+            lines += [line for module, reason in reasons if reason for line in self.waits(module, phase, reason)]
+        for phase, reason in (("pei", "unreported"), ("dxe", "undiscovered")):
+            lines += [f"waits {each.number} {phase} {reason}" for each in self.modules if phase in each.parts and each.volume not in self.known[phase]]
         return [*lines, *([f"moved {' '.join(self.moved)}"] if self.moved else []), f"fuel {self.fuel}", self.result]
 
     def catalogue(self) -> list[str]:

@@ -317,13 +317,13 @@ def read_map(boot: Boot, lines: list[str]) -> None:
 
 # Names of GUIDs
 
-# A core's log names a file, and in the next line the image that it is.
-LOADED = re.compile(r"Loading (?:PEIM|driver) (" + GUID.pattern + r")\b.*\n.*EntryPoint=\S+ (\w+)\.efi", re.IGNORECASE)
+LOADING = re.compile(r"Loading (?:PEIM|driver) (" + GUID.pattern + ")", re.IGNORECASE)
+IMAGE = re.compile(r"EntryPoint=\S+ (\w+)\.efi", re.IGNORECASE)
 
 
 def read_names(text: str) -> dict[str, str]:
     """The names of GUIDs in a file: lines `NAME GUID`; those of a .dec file of EDK2, `NAME = { 0x.., 0x.., 0x.., { 0x.., .. } }`; or the modules of a debug log."""
-    found = {guid.lower(): name for guid, name in LOADED.findall(text)}
+    found = names_in_log(text)
     for line in text.splitlines():
         line = line.split("#")[0].strip()
         name, _, value = line.partition("=")
@@ -331,6 +331,17 @@ def read_names(text: str) -> dict[str, str]:
             found[guid] = name.strip()
         elif (match := re.fullmatch(r"(\S+)\s+\{?(" + GUID.pattern + r")\}?", line, re.IGNORECASE)) is not None:
             found[match[2].lower()] = match[1]
+    return found
+
+
+def names_in_log(text: str) -> dict[str, str]:
+    """The names of the modules that a core's log tells of: it names a file, and a few lines on the image that it is."""
+    found, loading = {}, ""
+    for line in text.splitlines():
+        if (match := LOADING.search(line)) is not None:
+            loading = match[1].lower()
+        elif loading and (match := IMAGE.search(line)) is not None:
+            found[loading], loading = match[1], ""
     return found
 
 

@@ -1,4 +1,4 @@
-"""Reads firmware volumes, their files, sections and expressions, for `cut-volumes` and `log-to-trace`."""
+"""Reads firmware volumes, their files, sections and expressions, for `cut-volumes`, `log-to-trace` and `check-explain`."""
 import uuid
 from collections.abc import Iterator
 
