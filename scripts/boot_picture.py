@@ -6,7 +6,8 @@ one width a letter and broken before it is drawn, so that no label meets another
 """
 import math
 import textwrap
-from collections.abc import Callable, Iterable
+from bisect import bisect_right
+from collections.abc import Callable, Iterator
 from dataclasses import dataclass, field
 from html import escape
 
@@ -54,7 +55,6 @@ class Row:
     what: Start | Wait | Mark | None
     lines: list[tuple[str, str]]
     y: int = 0
-    links: list[tuple["Row", str, str]] = field(default_factory=list)  # the arcs that end here: from which row, of which class, and what they say
 
     def is_box(self) -> bool:
         return isinstance(self.what, Start | Wait)
@@ -70,6 +70,38 @@ class Row:
         if isinstance(self.what, Start):
             return f"start{self.what.place}"
         return f"waits{self.what.module}{self.what.phase}" if isinstance(self.what, Wait) else ""
+
+
+@dataclass
+class Arc:
+    """An arc from one row to another of its lane, and what it says."""
+    source: Row
+    target: Row
+    style: str
+    says: str
+
+    def trunk(self, height: int) -> int:
+        """Where its upright part stands: the longer it is, the further from the boxes."""
+        length = abs(self.target.middle() - self.source.middle())
+        return GUTTER - 8 - round((GUTTER - 14) * math.log1p(length / 60) / math.log1p(height / 60))
+
+    def svg(self, height: int) -> str:
+        begin, end, x, tip = self.source.middle(), self.target.middle(), self.trunk(height), GUTTER - 5
+        turn = min(12, abs(end - begin) // 2) * (1 if end > begin else -1)
+        path = f"M{GUTTER} {begin}Q{x} {begin} {x} {begin + turn}V{end - turn}Q{x} {end} {tip} {end}"
+        ends = f'data-from="{self.source.identity()}" data-to="{self.target.identity()}"'
+        head = f'<path class="head" d="M{tip} {end - 3}L{GUTTER} {end}L{tip} {end + 3}z"/>'
+        return f'<path class="{self.style}" {ends} d="{path}"><title>{escape(self.says)}</title></path>{head}'
+
+
+@dataclass
+class Band:
+    """A part of the picture: its rows, the arcs that begin or end in it, and the uprights of those that pass it, by lane, place and class."""
+    top: int
+    height: int
+    rows: list[Row] = field(default_factory=list)
+    arcs: list[Arc] = field(default_factory=list)
+    passing: set[tuple[str, int, str]] = field(default_factory=set)
 
 
 def wrapped(text: str, style: str = "small") -> list[tuple[str, str]]:
@@ -89,6 +121,7 @@ class Picture:
         self.rows: list[Row] = []
         self.first: dict[tuple[str, int], Row] = {}  # the first start of each module, or the box of one that waits
         self.moves: Row | None = None
+        self.arcs: list[Arc] = []
         self.fill()
         self.place()
         self.link()
@@ -200,51 +233,52 @@ class Picture:
     def arc(self, row: Row, maker: str, style: str, says: str) -> None:
         source = self.moves if maker == CORE else self.first.get((row.phase, int(maker))) if maker.isdigit() else None
         if source is not None and source is not row:
-            row.links.append((source, style, says))
+            self.arcs.append(Arc(source, row, style, says))
 
     # SVG
 
-    def bands(self) -> list[tuple[int, int]]:
-        """Where each band begins, and how high it is: no row stands in two."""
+    def bands(self, most: int = BAND) -> list[Band]:
+        """The picture in bands, none of which cuts a row."""
         bands, top = [], 0
         for row, after in zip(self.rows, [*self.rows[1:], None], strict=True):
             end = after.y - SPACE // 2 if after else self.height
-            following = after.y + after.height() if after else end
-            if following - top > BAND or after is None:
-                bands.append((top, end - top))
+            if after is None or after.y + after.height() - top > most:
+                bands.append(Band(top, end - top))
                 top = end
+        tops = [band.top for band in bands]
+        for row in self.rows:
+            bands[bisect_right(tops, row.y) - 1].rows.append(row)
+        for arc in self.arcs:
+            first, last = sorted(bisect_right(tops, row.middle()) - 1 for row in (arc.source, arc.target))
+            for band in {first, last}:
+                bands[band].arcs.append(arc)
+            for band in bands[first + 1 : last]:
+                band.passing.add((arc.target.phase, arc.trunk(self.height), arc.style))
         return bands
 
-    def band(self, top: int, height: int) -> str:
-        """A band as an SVG element of the page; arcs that pass it are drawn in it."""
-        inside = f'<g transform="translate(0 {-top})">{self.drawn(top, top + height)}</g>'
-        return f'<svg class="boot" xmlns="http://www.w3.org/2000/svg" width="{WIDTH}" height="{height}" role="img" aria-label="Starts in the order of time">{inside}</svg>'
+    def band(self, band: Band) -> str:
+        """A band as an SVG element of the page."""
+        inside = f'<g transform="translate(0 {-band.top})">{self.drawn(band)}</g>'
+        return f'<svg class="boot" xmlns="http://www.w3.org/2000/svg" width="{WIDTH}" height="{band.height}" role="img" aria-label="Starts in the order of time">{inside}</svg>'
 
     def whole(self) -> str:
         """The picture as a file of its own."""
+        drawn = "".join(self.drawn(band) for band in self.bands(self.height + BAND))
         return (f'<svg class="boot" xmlns="http://www.w3.org/2000/svg" width="{WIDTH}" height="{self.height}" viewBox="0 0 {WIDTH} {self.height}">'
-                f'<style>{STYLE}</style><rect width="100%" height="100%" fill="#fff"/>{self.drawn(0, self.height)}</svg>\n')
+                f'<style>{STYLE}</style><rect width="100%" height="100%" fill="#fff"/>{drawn}</svg>\n')
 
-    def drawn(self, top: int, bottom: int) -> str:
+    def drawn(self, band: Band) -> str:
         lanes = []
         for phase, x in zip(PHASES, (0, LANE + GAP), strict=True):
-            rows = [row for row in self.rows if row.phase == phase]
-            arcs = "".join(self.drawn_arc(row, *link) for row in rows for link in row.links if min(row.y, link[0].y) < bottom and max(row.y, link[0].y) + 40 > top)
-            boxes = "".join(self.drawn_row(row) for row in rows if top <= row.y < bottom)
-            lanes.append(f'<g class="lane-{phase}" transform="translate({x} 0)">{arcs}{boxes}</g>')
-        return "".join(self.drawn_moves(row) for row in self.rows if row is self.moves and top <= row.y < bottom) + "".join(lanes)
+            passing = "".join(f'<path class="{style}" d="M{at} {band.top}V{band.top + band.height}"/>' for lane, at, style in sorted(band.passing) if lane == phase)
+            arcs = "".join(arc.svg(self.height) for arc in band.arcs if arc.target.phase == phase)
+            boxes = "".join(self.drawn_row(row) for row in band.rows if row.phase == phase)
+            lanes.append(f'<g class="lane-{phase}" transform="translate({x} 0)">{passing}{arcs}{boxes}</g>')
+        return "".join(self.drawn_moves(row) for row in band.rows if row is self.moves) + "".join(lanes)
 
     def drawn_moves(self, row: Row) -> str:
         y = row.y + row.height() + SPACE // 2 - 1
         return f'<line class="moves" x1="0" x2="100%" y1="{y}" y2="{y}"/>'
-
-    def drawn_arc(self, row: Row, source: Row, style: str, says: str) -> str:
-        begin, end = source.middle(), row.middle()
-        bow = 8 + round((GUTTER - 14) * math.log1p(abs(end - begin) / 60) / math.log1p(self.height / 60))
-        x, tip = GUTTER, GUTTER - 5
-        path = f"M{x} {begin}C{x - bow} {begin} {x - bow} {end} {tip} {end}"
-        ends = f'data-from="{source.identity()}" data-to="{row.identity()}"'
-        return f'<path class="{style}" {ends} d="{path}"><title>{escape(says)}</title></path><path class="head" d="M{tip} {end - 3}L{x} {end}L{tip} {end + 3}z"/>'
 
     def drawn_row(self, row: Row) -> str:
         x = GUTTER + (12 if row.is_box() else 6)
@@ -270,7 +304,7 @@ def graph(boot: Boot, name: Callable[[str], str]) -> str:
     return "\n".join([*lines, "}", ""])
 
 
-def graph_edges(boot: Boot, name: Callable[[str], str]) -> Iterable[str]:
+def graph_edges(boot: Boot, name: Callable[[str], str]) -> Iterator[str]:
     known = {(each.phase, each.module) for each in [*boot.starts, *boot.waits]}
     for start in boot.starts:
         for guid, maker in start.needs:
