@@ -221,7 +221,7 @@ class Picture:
     def link(self) -> None:
         for row in self.rows:
             if isinstance(row.what, Start):
-                for guid, maker in row.what.needs:
+                for guid, maker in self.shown_needs(row.what):
                     self.arc(row, maker, "arc", f"{self.name(guid)}, of {self.label(maker)}")
                 if row.what.beside is not None:
                     self.arc(row, str(row.what.beside), "arc", f"{row.what.why} {self.label(row.what.beside)}")
@@ -229,6 +229,11 @@ class Picture:
                 for guid, givers in row.what.lacks:
                     for giver, _ in givers:
                         self.arc(row, giver, "arc lacking", f"{self.name(guid)}, which {self.label(giver)} may install")
+
+    def shown_needs(self, start: Start) -> list[tuple[str, str]]:
+        """What a start asked for; of the thirteen protocols that a driver without an expression asks for, the last that came."""
+        last = self.boot.last_met(start) if start.why == "absent" else None
+        return [last] if last else start.needs
 
     def arc(self, row: Row, maker: str, style: str, says: str) -> None:
         source = self.moves if maker == CORE else self.first.get((row.phase, int(maker))) if maker.isdigit() else None

@@ -17,6 +17,14 @@ EXPRESSION = {"1b": "pei", "13": "dxe"}
 GUID = re.compile(r"[0-9a-f]{8}(?:-[0-9a-f]{4}){3}-[0-9a-f]{12}")
 MEMORY_PPI = "f894643d-c449-42d1-8ea8-85bdd8c65bde"
 CORE = "core"
+# The architectural protocols (PI 1.8, volume 2), in the order of docs/FORMATS.md.
+ARCHITECTURAL = """
+    a46423e3-4617-49f1-b9ff-d1bfa9115839 26baccb1-6f42-11d4-bce7-0080c73c8881 26baccb2-6f42-11d4-bce7-0080c73c8881
+    26baccb3-6f42-11d4-bce7-0080c73c8881 665e3ff6-46cc-11d4-9a38-0090273fc14d 665e3ff5-46cc-11d4-9a38-0090273fc14d
+    b7dfb4e1-052f-449f-87be-9818fc91b733 1e5668e2-8481-11d4-bcf1-0080c73c8881 6441f818-6362-4e44-b570-7dba31dd2453
+    5053697e-2cbc-4819-90d9-0580deee5754 1da97072-bddc-4b30-99f1-72a0b56fff2a 27cfac88-46cc-11d4-9a38-0090273fc14d
+    27cfac87-46cc-11d4-9a38-0090273fc14d
+""".split()
 MOST_GIVERS = 16  # of one GUID that are named
 sys.setrecursionlimit(10_000)  # an expression has up to 1,023 opcodes
 
@@ -42,9 +50,11 @@ class Module:
     def is_malformed(self, phase: str) -> bool:
         return self.expressions.get(phase, "").startswith("malformed@")
 
-    def pushed(self, phase: str) -> list[str]:
-        """The GUIDs that the expression pushes, in order of first mention."""
+    def asked(self, phase: str) -> list[str]:
+        """The GUIDs that the expression pushes, in order of first mention; a driver without one asks for the architectural protocols."""
         text = self.expressions.get(phase, "")
+        if phase == "dxe" and not text:
+            return list(ARCHITECTURAL)
         return [] if text.startswith(("before", "after", "malformed@")) else list(dict.fromkeys(GUID.findall(text)))
 
     def gives(self, phase: str) -> list[str]:
@@ -140,18 +150,28 @@ def holds(tree: Tree, there: set[str]) -> bool:
     return tree == "true" or tree in there
 
 
-def would(tree: Tree, there: set[str]) -> list[str] | None:
-    """The GUIDs whose coming makes it hold; none where one would have to go."""
+def wanted(tree: Tree, there: set[str]) -> list[str] | None:
+    """What a tree lacks: none where it holds, both sides' for AND, the side with fewer, or else the left one, for OR."""
     if holds(tree, there):
         return []
     match tree:
         case ("and", left, right):
-            both = [would(left, there), would(right, there)]
+            both = [wanted(left, there), wanted(right, there)]
             return None if None in both else list(dict.fromkeys(both[0] + both[1]))
         case ("or", left, right):
-            ways = [way for way in (would(left, there), would(right, there)) if way is not None]
+            ways = [way for way in (wanted(left, there), wanted(right, there)) if way is not None]
             return min(ways, key=len, default=None)
     return None if isinstance(tree, tuple) or tree == "false" else [tree]
+
+
+def would(module: "Module", phase: str, there: set[str]) -> list[str] | None:
+    """The GUIDs whose coming lets a part start; none where no GUID does, as where one would have to go."""
+    text = module.expressions.get(phase, "")
+    if not text:
+        return [guid for guid in module.asked(phase) if guid not in there]
+    tree = read_tree(text)
+    found = wanted(tree, there) if tree else None
+    return found if found is not None and holds(tree, there | set(found)) else None
 
 
 # The boot
@@ -168,8 +188,8 @@ class Descriptor:
 
 @dataclass(eq=False)
 class Ppi:
+    """A place in the list of PPIs, in which a reinstall puts another descriptor."""
     descriptor: Descriptor
-    maker: Module | str
 
 
 @dataclass(eq=False)
@@ -177,7 +197,6 @@ class Interface:
     handle: int
     guid: str
     value: int
-    maker: Module
 
 
 @dataclass(eq=False)
@@ -203,6 +222,7 @@ class Boot:
         self.queue: list[tuple[Descriptor, Descriptor]] = []
         self.interfaces: list[Interface] = []
         self.handles = 0
+        self.givers: dict[str, dict[str, Module | str]] = {"pei": {}, "dxe": {}}  # who has each GUID that is there
         self.notes: list[tuple[str, Module, int]] = []
         self.started: dict[str, list[Module]] = {"pei": [], "dxe": []}
         self.starts: list[str] = []
@@ -215,13 +235,11 @@ class Boot:
 
     # What is there
 
-    def makers(self, phase: str) -> dict[str, Module | str]:
-        """Who installed each GUID that is there: the first that did."""
-        found: dict[str, Module | str] = {}
-        entries = [(ppi.descriptor.guid, ppi.maker) for ppi in self.ppis] if phase == "pei" else [(each.guid, each.maker) for each in self.interfaces]
-        for guid, maker in entries:
-            found.setdefault(guid, maker)
-        return found
+    def note(self, actor: Module | str) -> None:
+        """Who has what is there now: for what has just come the one who acted."""
+        givers = self.givers[self.phase]
+        there = [ppi.descriptor.guid for ppi in self.ppis] if self.phase == "pei" else [each.guid for each in self.interfaces]
+        self.givers[self.phase] = {guid: givers.get(guid, actor) for guid in there}
 
     def guid_at(self, address: object) -> str:
         """The GUID in a volume at an address."""
@@ -252,7 +270,8 @@ class Boot:
             case ["migrate", old, new]:
                 self.moved = [old, new]
             case ["core", "install", _]:
-                self.sweep = self.installs([Ppi(Descriptor("ppi", MEMORY_PPI), CORE)])
+                self.sweep = self.installs([Descriptor("ppi", MEMORY_PPI)])
+                self.note(CORE)
             case ["handoff", _]:
                 self.phase = "dxe"
             case ["report", volume]:
@@ -277,9 +296,8 @@ class Boot:
         module = next((each for each in twins if self.may_start(each, phase, licence)), twins[0])
         before.append(module)
         self.starts.append(f"start {module.number} {phase} {self.licence(module, phase, licence)}")
-        makers = self.makers(phase)
-        for guid in module.pushed(phase):
-            maker = makers.get(guid, "-")
+        for guid in module.asked(phase):
+            maker = self.givers[phase].get(guid, "-")
             self.starts.append(f"needed {module.number} {guid} {maker.number if isinstance(maker, Module) else maker}")
         blocks = module.blocks.get(phase)
         self.frames = [Frame(module, blocks[0])] if blocks else [Frame(module, [["ret", "Success"]])]
@@ -288,7 +306,7 @@ class Boot:
         """Tells two modules of one name apart, by their expressions."""
         text = module.expressions.get(phase, "")
         if licence == "true":
-            return (tree := read_tree(text)) is not None and holds(tree, set(self.makers(phase)))
+            return (tree := read_tree(text)) is not None and holds(tree, set(self.givers[phase]))
         return licence in ("apriori", "shadow") or (text == "" if licence == "absent" else text.startswith(licence))
 
     def licence(self, module: Module, phase: str, licence: str) -> str:
@@ -324,10 +342,10 @@ class Boot:
     def queued(self, ppis: list[Descriptor], notes: list[Descriptor]) -> None:
         self.queue += [(ppi, note) for ppi in ppis for note in notes if ppi.guid == note.guid]
 
-    def installs(self, new: list[Ppi]) -> Iterator[tuple[Descriptor, Descriptor]]:
+    def installs(self, new: list[Descriptor]) -> Iterator[tuple[Descriptor, Descriptor]]:
         first = len(self.ppis)
-        self.ppis += new
-        self.queued([ppi.descriptor for ppi in new], self.dispatches)
+        self.ppis += [Ppi(descriptor) for descriptor in new]
+        self.queued(new, self.dispatches)
         return self.pairs(list(range(first, len(self.ppis))), list(self.callbacks))
 
     # Actions
@@ -354,6 +372,7 @@ class Boot:
             frame.status = words[2]
             if words[2] == "Success":
                 getattr(self, f"{self.phase}_{action[0]}", lambda *_: None)(frame, action[1:], words[3:])
+                self.note(frame.module)
         else:
             raise Differs(f"{action} is due")
 
@@ -388,7 +407,7 @@ class Boot:
         frame.registers[register] = made
 
     def pei_install(self, frame: Frame, words: list[str], _: list[str]) -> None:
-        frame.sweep = self.installs([Ppi(frame.registers[word], frame.module) for word in words])
+        frame.sweep = self.installs([frame.registers[word] for word in words])
 
     def pei_reinstall(self, frame: Frame, words: list[str], _: list[str]) -> None:
         old, new = (frame.registers[word] for word in words)
@@ -436,7 +455,7 @@ class Boot:
         else:
             number = frame.registers[value]
         handle = frame.registers[register][1]
-        self.interfaces.append(Interface(handle, guid, number, frame.module))
+        self.interfaces.append(Interface(handle, guid, number))
         frame.sweep = self.tell(guid, number, handle)
 
     def interface(self, frame: Frame, register: str, guid: str, value: str) -> Interface:
@@ -484,22 +503,21 @@ class Boot:
 
     def waits(self, module: Module, phase: str, reason: str) -> list[str]:
         """The lines on a part that waits."""
-        makers, number = self.makers(phase), module.number
+        givers, number = self.givers[phase], module.number
         told = [f"waits {number} {phase} {reason}"]
-        for guid in module.pushed(phase):
-            if guid in makers:
-                maker = makers[guid]
+        for guid in module.asked(phase):
+            if guid in givers:
+                maker = givers[guid]
                 told.append(f"has {number} {guid} {maker.number if isinstance(maker, Module) else maker}")
                 continue
-            givers = [each for each in self.modules if guid in each.gives(phase)]
-            pairs = [f"{each.number} {'started' if each in self.started[phase] else 'waits'}" for each in givers]
+            may = [each for each in self.modules if guid in each.gives(phase)]
+            pairs = [f"{each.number} {'started' if each in self.started[phase] else 'waits'}" for each in may]
             pairs[MOST_GIVERS:] = ["more"] * (len(pairs) > MOST_GIVERS)
             if phase == "pei" and guid == MEMORY_PPI:
                 pairs.insert(0, "core waits")
             told.append(f"lacks {number} {guid} {' '.join(pairs) or '-'}")
-        tree = read_tree(module.expressions.get(phase, ""))
-        wanted = would(tree, set(makers)) if tree else None
-        return told + ([f"would {number} {' '.join(wanted) or '-'}"] if wanted is not None else [])
+        found = would(module, phase, set(givers))
+        return told + ([f"would {number} {' '.join(found) or '-'}"] if found is not None else [])
 
     def told(self) -> list[str]:
         """All lines but those of modules and of the heap."""

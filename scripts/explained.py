@@ -163,10 +163,11 @@ class Boot:
             if module.name == NOBODY:
                 module.name = names.get(module.guid, NOBODY)
 
-    def lacking_architecture(self) -> list[str]:
-        """The architectural protocols that are on no handle at the end."""
-        there = {line.split(" ")[2] for line in self.trace if re.match(r"handle \d+ ", line)}
-        return [guid for guid in ARCHITECTURAL if guid not in there]
+    def last_met(self, start: Start) -> tuple[str, str] | None:
+        """Of what a start asked for, what came from the module that started last, with that module."""
+        places = {str(each.module): each.place for each in reversed(self.starts) if each.phase == start.phase}
+        met = [(guid, maker) for guid, maker in start.needs if maker in places]
+        return max(met, key=lambda need: places[need[1]], default=None)
 
 
 INSTALLS = (["call", "install", "Success"], ["call", "reinstall", "Success"])

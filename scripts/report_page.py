@@ -140,8 +140,6 @@ class Page:
     def wait(self, wait: Wait) -> str:
         module = self.boot.modules[wait.module]
         lacks = [f"lacks {self.names.html(guid)}: {self.givers(wait, guid, givers)}" for guid, givers in wait.lacks]
-        if wait.reason == "absent":
-            lacks = [f"lacks {self.names.html(guid)}" for guid in self.boot.lacking_architecture()]
         has = [f"has {self.names.html(guid)}, of {self.module(maker)}" for guid, maker in wait.has]
         parts = [f"<h3>{self.module(wait.module)} {word(wait.phase.upper())} {word(wait.reason)}</h3>"]
         parts += [f"<p>{REASONS.get(wait.reason, '')} {self.named_driver(wait, module)}</p>", items(lacks + has), self.would(wait, module)]
@@ -230,10 +228,18 @@ class Page:
             "no.": f"{start.place}",
             "module": f"{self.module(start.module)} {word(start.phase.upper())}",
             "why": f"{escape(start.why)}{beside}",
-            "asks for": items(needs),
+            "asks for": self.folded(start, items(needs)),
             "installs": items(gives) + (f"\N{BLACK DIAMOND} notified:{items(notes)}" if notes else ""),
             "trace": link(f"line {start.line}", f"line{start.line}"),
         })
+
+    def folded(self, start: Start, needs: str) -> str:
+        """The thirteen protocols that a driver without an expression asks for, folded away behind the last that came."""
+        last = self.boot.last_met(start) if start.why == "absent" else None
+        if last is None:
+            return needs
+        summary = f"the architectural protocols; last came {self.names.html(last[0])}, of {self.module(last[1])}"
+        return f"<details><summary>{summary}</summary>{needs}</details>"
 
     def modules(self) -> str:
         heads = ["no.", "name and file", "where", "expression", "may install", "came to"]
