@@ -39,7 +39,7 @@ STYLE = f"""
 .boot .lane {{ font: bold 14px sans-serif }}
 .boot .box {{ fill: #fafafa; stroke: #999 }}
 .boot .waits .box {{ fill: #fff; stroke: {WAITS_COLOUR}; stroke-dasharray: 5 3 }}
-.boot .arc {{ fill: none; stroke: #555; stroke-width: 1; opacity: .35 }}
+.boot .arc {{ fill: none; stroke: #555; stroke-width: 1; opacity: .5 }}
 .boot .lacking {{ stroke: {WAITS_COLOUR}; stroke-dasharray: 2 3; opacity: .8 }}
 .boot .head {{ fill: #555 }}
 .boot .moves {{ stroke: {WAITS_COLOUR}; stroke-width: 1.5; stroke-dasharray: 8 4 }}

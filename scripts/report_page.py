@@ -31,6 +31,7 @@ REASONS = {
     "before": "It starts only just before the driver that it names, and that one did not start behind it.",
     "after": "It starts only just after the driver that it names, and that one did not start before it.",
     "absent": "Without an expression a driver waits for all thirteen architectural protocols, and these are not there:",
+    "scheduled": "It was scheduled, and the boot was cut off before its turn.",
     "unreported": "Its volume was never reported to the PEI core.",
     "undiscovered": "Its volume was never discovered by DXE: no FV HOB tells of it, and no driver processed it.",
 }
