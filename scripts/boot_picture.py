@@ -16,6 +16,7 @@ from explained import CORE, PHASES, Boot, Mark, Start, Wait
 GUTTER, BOX, GAP = 44, 276, 40  # the arcs' room left of a box, a box, and what stands between the lanes
 LANE = GUTTER + BOX
 WIDTH = 2 * LANE + GAP
+NAMESPACE = 'xmlns="http://www.w3.org/2000/svg"'
 LINE, PAD, SPACE = 15, 5, 7  # a line of text, what stands round the lines of a box, and what stands below it
 COLUMNS, SMALL_COLUMNS = 35, 38  # letters that fit into a box, of 12 and of 11 pixels
 MOST_LINES = 6  # of one kind in a box; the page has the whole list
@@ -118,6 +119,7 @@ class Picture:
 
     def __init__(self, boot: Boot, name: Callable[[str], str]) -> None:
         self.boot, self.name = boot, name
+        self.handoff = next((mark.line for mark in boot.marks if mark.kind == "handoff"), len(boot.trace) + 1)
         self.rows: list[Row] = []
         self.first: dict[tuple[str, int], Row] = {}  # the first start of each module, or the box of one that waits
         self.moves: Row | None = None
@@ -144,16 +146,15 @@ class Picture:
                 self.rows += self.waiting(phase)
 
     def phase_of(self, event: Start | Mark) -> str:
-        handoff = next((mark.line for mark in self.boot.marks if mark.kind == "handoff"), len(self.boot.trace) + 1)
-        return event.phase if isinstance(event, Start) else "pei" if event.line <= handoff else "dxe"
+        return event.phase if isinstance(event, Start) else "pei" if event.line <= self.handoff else "dxe"
 
     def merged_marks(self) -> list[Mark]:
         """The marks, with neighbours of one kind in one."""
         merged: list[Mark] = []
-        lines = {start.line for start in self.boot.starts}
+        lines = sorted(start.line for start in self.boot.starts)
         for mark in self.boot.marks:
             last = merged[-1] if merged else None
-            if last and last.kind == mark.kind and not any(last.line < line < mark.line for line in lines):
+            if last and last.kind == mark.kind and bisect_right(lines, last.line) == bisect_right(lines, mark.line):
                 last.words = [*last.words, *mark.words]
             else:
                 merged.append(Mark(mark.line, mark.kind, list(mark.words)))
@@ -264,18 +265,19 @@ class Picture:
     def band(self, band: Band) -> str:
         """A band as an SVG element of the page."""
         inside = f'<g transform="translate(0 {-band.top})">{self.drawn(band)}</g>'
-        return f'<svg class="boot" xmlns="http://www.w3.org/2000/svg" width="{WIDTH}" height="{band.height}" role="img" aria-label="Starts in the order of time">{inside}</svg>'
+        return f'<svg class="boot" {NAMESPACE} width="{WIDTH}" height="{band.height}" role="img" aria-label="Starts in the order of time">{inside}</svg>'
 
     def whole(self) -> str:
         """The picture as a file of its own."""
         drawn = "".join(self.drawn(band) for band in self.bands(self.height + BAND))
-        return (f'<svg class="boot" xmlns="http://www.w3.org/2000/svg" width="{WIDTH}" height="{self.height}" viewBox="0 0 {WIDTH} {self.height}">'
+        return (f'<svg class="boot" {NAMESPACE} width="{WIDTH}" height="{self.height}" viewBox="0 0 {WIDTH} {self.height}">'
                 f'<style>{STYLE}</style><rect width="100%" height="100%" fill="#fff"/>{drawn}</svg>\n')
 
     def drawn(self, band: Band) -> str:
         lanes = []
         for phase, x in zip(PHASES, (0, LANE + GAP), strict=True):
-            passing = "".join(f'<path class="{style}" d="M{at} {band.top}V{band.top + band.height}"/>' for lane, at, style in sorted(band.passing) if lane == phase)
+            upright = f"V{band.top + band.height}"
+            passing = "".join(f'<path class="{style}" d="M{at} {band.top}{upright}"/>' for lane, at, style in sorted(band.passing) if lane == phase)
             arcs = "".join(arc.svg(self.height) for arc in band.arcs if arc.target.phase == phase)
             boxes = "".join(self.drawn_row(row) for row in band.rows if row.phase == phase)
             lanes.append(f'<g class="lane-{phase}" transform="translate({x} 0)">{passing}{arcs}{boxes}</g>')
@@ -310,16 +312,14 @@ def graph(boot: Boot, name: Callable[[str], str]) -> str:
 
 
 def graph_edges(boot: Boot, name: Callable[[str], str]) -> Iterator[str]:
-    known = {(each.phase, each.module) for each in [*boot.starts, *boot.waits]}
-    for start in boot.starts:
-        for guid, maker in start.needs:
-            if maker == CORE or maker.isdigit() and (start.phase, int(maker)) in known:
-                yield f"    {maker if maker == CORE else start.phase + maker} -> {start.phase}{start.module} [label={quoted(name(guid))}];"
-    for wait in boot.waits:
-        for guid, givers in wait.lacks:
-            for giver, _ in givers:
-                if giver == CORE or (wait.phase, int(giver)) in known:
-                    yield f"    {giver if giver == CORE else wait.phase + giver} -> {wait.phase}{wait.module} [label={quoted(name(guid))}, style=dashed, color=\"{WAITS_COLOUR}\"];"
+    known = {f"{each.phase}{each.module}" for each in [*boot.starts, *boot.waits]} | {CORE}
+    needs = [(start.phase, maker, start.module, guid, "") for start in boot.starts for guid, maker in start.needs]
+    dashed = f', style=dashed, color="{WAITS_COLOUR}"'
+    needs += [(wait.phase, giver, wait.module, guid, dashed) for wait in boot.waits for guid, givers in wait.lacks for giver, _ in givers]
+    for phase, maker, number, guid, style in needs:
+        source = maker if maker == CORE else phase + maker
+        if source in known:
+            yield f"    {source} -> {phase}{number} [label={quoted(name(guid))}{style}];"
 
 
 def quoted(text: str) -> str:

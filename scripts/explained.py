@@ -147,7 +147,8 @@ class Boot:
 
     def never_started(self) -> list[Wait]:
         """The parts that never started; one that waits for its second start is none of them."""
-        return [wait for wait in self.waits if wait.module not in self.started(wait.phase)]
+        started = {phase: self.started(phase) for phase in PHASES}
+        return [wait for wait in self.waits if wait.module not in started[wait.phase]]
 
     makers: dict[int, int] = field(default_factory=dict)  # of each handle the module that made it
     shown: dict[tuple[str, int], set[str]] = field(default_factory=dict)  # what each module did install, by phase
@@ -323,7 +324,7 @@ IMAGE = re.compile(r"EntryPoint=\S+ (\w+)\.efi", re.IGNORECASE)
 
 
 def read_names(text: str) -> dict[str, str]:
-    """The names of GUIDs in a file: lines `NAME GUID`; those of a .dec file of EDK2, `NAME = { 0x.., 0x.., 0x.., { 0x.., .. } }`; or the modules of a debug log."""
+    """The names of GUIDs in a file: lines `NAME GUID`; those of a .dec file of EDK2, `NAME = { 0x.., .. }`; or the modules of a debug log."""
     found = names_in_log(text)
     for line in text.splitlines():
         line = line.split("#")[0].strip()

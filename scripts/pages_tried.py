@@ -6,7 +6,7 @@ import sys
 
 ROOT = os.path.dirname(os.path.dirname(os.path.abspath(__file__)))
 PROGRAMS = [os.path.join(ROOT, "crates", name, "out", name) for name in ("piboot", "pitools")]
-# A folder of examples/, and files with names for it: ten modules, eight of which five start, 280, every service, and two of real firmware.
+# A folder of examples/, and files with names for it: ten modules of which three wait, eight drivers, 279 modules, every service, two of real firmware.
 BOOTS = [("why", ["names"]), ("drivers", []), ("large-boot", []), ("every-service", []), ("real/plain", ["log"]), ("real/arm", ["log"])]
 
 

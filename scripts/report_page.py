@@ -129,7 +129,8 @@ class Page:
         counts = {"result": boot.result} | counts | {"actions taken (fuel)": f"{boot.fuel:,}"}
         if (most := boot.heap_most()) is not None:
             counts["bytes of the HOB list at its longest"] = f"{most:,}"
-        shown = "".join(f'<div class="{"result" if count == "result" else "count"}"><dt>{count}</dt><dd>{escape(number)}</dd></div>' for count, number in counts.items())
+        style = {"result": "result"}
+        shown = "".join(f'<div class="{style.get(count, "count")}"><dt>{count}</dt><dd>{escape(number)}</dd></div>' for count, number in counts.items())
         return f'<h1>{escape(self.title)}</h1><p>{RESULTS.get(boot.result, "")}</p><dl class="counts">{shown}</dl>'
 
     # Who never started
