@@ -143,7 +143,8 @@ class Boot:
             maker = self.givers[phase].get(guid, "-")
             self.starts.append(f"needed {module.number} {guid} {maker.number if isinstance(maker, Module) else maker}")
         blocks = module.blocks.get(phase)
-        self.frames = [Frame(module, blocks[0])] if blocks else [Frame(module, [["ret", "Success"]])]
+        self.fuel -= 0 if blocks else 1  # a part without a script ends by no action
+        self.frames = [Frame(module, blocks[0] if blocks else [["ret", "Success"]])]
 
     def may_start(self, module: Module, phase: str, licence: str) -> bool:
         """Tells two modules of one name apart, by their expressions."""
