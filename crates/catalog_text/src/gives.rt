@@ -1,7 +1,8 @@
 // The GUIDs that a script may install.
-ghost use Rattle.std.specs.Prelude.{◌≡◌, ◌++◌, ◌∷◌, [], List, IfOk, OnOk};
+ghost use Rattle.std.specs.Prelude.{◌≡◌, ◌++◌, ◌∷◌, [], List, is_some, IfOk, OnOk};
 ghost use Rattle.std.specs.List.{list_any};
 ghost use Rattle.std.specs.Option.{option_to_list};
+ghost use Rattle.guid_map.specs.GuidMap.{value_of};
 ghost use Rattle.pi_base.specs.declared.guid.Guid.{Guid as Name};
 ghost use Rattle.catalog_text.specs.Gives.{AreMet, given_in, gives_any, named_by, named_in_all, named_in_block, reads_guid};
 
@@ -66,11 +67,18 @@ pub(crate) fn gives_any(script: &Script) -> bool
         .any(|actions| block_reads(actions.as_slice()))
 }
 
+// Whether a GUID was met.
+fn is_met(met: &Met, guid: &Guid) -> bool
+    ensures { result ≡ is_some (value_of met.now.known guid.now) }
+{
+    met.known.contains_key(guid)
+}
+
 // One GUID more.
 fn meet(met: &mut Met, guid: Guid) -> Result<(), OutOfMemory>
     ensures { OnOk result ((before : List Name) → AreMet before met.old → AreMet (before ++ guid ∷ []) met.new) }
 {
-    if met.known.contains_key(&guid) {
+    if is_met(met, &guid) {
         return Ok(());
     }
     met.known.insert(guid, true)?;

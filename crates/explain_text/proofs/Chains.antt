@@ -91,9 +91,12 @@ name_added number guid old new e put grown other numbers kept = by (same_guid gu
         let place : value_of new.first other ≡ Some (length old.links) = put other ∙ ap (λ b. cond b (Some (length old.links)) (value_of old.first other)) s in
         let next : value_of old.first other ≡ value_of old.first guid = sym (same_value old.first guid other s) in
         let later : Chain old.links (value_of old.first guid) numbers = subst (λ p. Chain old.links p numbers) next kept in
-        let more : Chain (old.links ++ record { number = number; next = value_of old.first guid } ∷ []) (Some (length old.links)) (number ∷ numbers) =
-        (record { number = number; next = value_of old.first guid }, get_last old.links (record { number = number; next = value_of old.first guid }), refl,
-        chain_more old.links (record { number = number; next = value_of old.first guid }) (value_of old.first guid) numbers later) in
+        let more : Chain (old.links ++ record { number = number; next = value_of old.first guid } ∷ []) (Some (length old.links)) (number ∷ numbers) = (
+          record { number = number; next = value_of old.first guid },
+          get_last old.links (record { number = number; next = value_of old.first guid }),
+          refl,
+          chain_more old.links (record { number = number; next = value_of old.first guid }) (value_of old.first guid) numbers later,
+        ) in
         let P : Option ℕ → Type 0 = λ p. Chain (old.links ++ record { number = number; next = value_of old.first guid } ∷ []) p (number ∷ numbers) in
         let Q : List Link → Type 0 = λ links. Chain links (value_of new.first other) (number ∷ numbers) in
         let here : AreKept new other (number ∷ numbers) = subst Q (sym grown) (subst P (sym place) more) in

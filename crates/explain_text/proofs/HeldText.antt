@@ -63,11 +63,13 @@ one_more links first place started count link old mid new walked e put = record 
       let long : suc (length next.1) ≡ length numbers - count = ap length (sym next.2) ∙ length-drop count numbers in
       let told : flat_map (pair_words started) (take (count + 1) numbers) ≡ flat_map (pair_words started) (take count numbers) ++ pair_words started link.number =
       ap (flat_map (pair_words started)) parts.1 ∙ flat_map-append (pair_words started) (take count numbers) (next.0 ∷ [])
-      ∙ ap (λ words. flat_map (pair_words started) (take count numbers) ++ words) (append-nil (pair_words started next.0) ∙ ap (pair_words started) (sym next.3)) in
-      (subst P (sym parts.0) next.4, omega (arith, long, so_far.1),
-      put ∙ ap (λ text. text ++ flat_map spaced (pair_words started link.number)) so_far.2
-      ∙ append_assoc old (flat_map spaced (flat_map (pair_words started) (take count numbers))) (flat_map spaced (pair_words started link.number))
-      ∙ ap (λ text. old ++ text) (sym (ap (flat_map spaced) told ∙ flat_map-append spaced (flat_map (pair_words started) (take count numbers)) (pair_words started link.number))));
+      ∙ ap (λ words. flat_map (pair_words started) (take count numbers) ++ words) (append-nil (pair_words started next.0) ∙ ap (pair_words started) (sym next.3)) in (
+        subst P (sym parts.0) next.4,
+        omega (arith, long, so_far.1),
+        put ∙ ap (λ text. text ++ flat_map spaced (pair_words started link.number)) so_far.2
+            ∙ append_assoc old (flat_map spaced (flat_map (pair_words started) (take count numbers))) (flat_map spaced (pair_words started link.number))
+            ∙ ap (λ text. old ++ text) (sym (ap (flat_map spaced) told ∙ flat_map-append spaced (flat_map (pair_words started) (take count numbers)) (pair_words started link.number))),
+      );
 }
 
 -- no module is left
