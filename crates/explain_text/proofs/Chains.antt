@@ -103,6 +103,14 @@ name_added number guid old new e put grown other numbers kept = by (same_guid gu
         let front : AreKept new other (in_front number numbers) = subst (AreKept new other) (sym (not_first old.links (value_of old.first guid) number numbers later e)) here in
         subst (λ b. AreKept new other (cond b (in_front number numbers) numbers)) (sym (turned other guid ∙ s)) front
 
+-- the same, by what was found and where the link is put
+pub name_put : (number : ℕ) (guid : Guid) (old new : Givers) (links : List Link) (next : Option ℕ) (place : ℕ) → links ≡ old.links → next ≡ value_of old.first guid → place ≡ length old.links
+    → is_first links next number ≡ false → IsPut old.first guid place new.first → new.links ≡ old.links ++ record { number = number; next = next } ∷ [] → AddsName number guid old new
+name_put number guid old new links next place same found at e put grown =
+    let first : is_first old.links (value_of old.first guid) number ≡ false = sym (ap (λ list. is_first list next number) same ∙ ap (λ n. is_first old.links n number) found) ∙ e in
+    let link : Option ℕ → Link = λ n. record { number = number; next = n } in
+    name_added number guid old new first (subst (λ n. IsPut old.first guid n new.first) at put) (grown ∙ ap (λ n. old.links ++ link n ∷ []) found)
+
 -- no GUID, and one more
 pub no_names : (number : ℕ) (givers : Givers) → AddsNames number [] givers givers
 no_names number givers other numbers kept = kept

@@ -1,5 +1,5 @@
 -- The words of who may install a GUID, as they are put one by one.
-use Rattle.std.proofs.Common.{◌≡◌, ℕ, suc, ◌+◌, ◌-◌, ◌<◌, ◌≤◌, Bool, true, false, cond, List, [], ◌∷◌, ◌++◌, length, take, drop, flat_map, map, decimal, Option, Some, None, refl, sym, ap, subst, ◌∙◌, append_assoc, arith}
+use Rattle.std.proofs.Common.{◌≡◌, ℕ, suc, ◌+◌, ◌-◌, ◌<◌, ◌≤◌, Bool, true, false, cond, List, [], ◌∷◌, ◌++◌, length, take, drop, get_or, flat_map, map, decimal, Option, Some, None, refl, sym, ap, subst, ◌∙◌, append_assoc, arith}
 use Rattle.std.specs.Prelude.{nat_lt}
 use Rattle.std.proofs.lemmas.Bool.Decides.{nat_tests}
 use Rattle.std.proofs.lemmas.Grind.{flat_map-append}
@@ -18,7 +18,7 @@ use Rattle.explain_text.specs.Context.{IsContext}
 use Rattle.explain_text.specs.declared.context.Context.{Context}
 use Rattle.explain_text.specs.Flags.{flag, has_started}
 use Rattle.explain_text.specs.Givers.{Chain, givers_from, link_at, part_gives}
-use Rattle.explain_text.specs.HeldLines.{core_gives, core_words, lacks_words, or_dash, pair_words, told_words}
+use Rattle.explain_text.specs.HeldLines.{core_gives, lacks_words, or_dash, pair_words, told_words, with_core}
 use Rattle.explain_text.specs.Words.{word_of}
 
 -- the front of a line, with words behind it
@@ -42,14 +42,20 @@ next_of links place link (number ∷ others) e chain =
     let one : chain.0 ≡ link = (let both : Some chain.0 ≡ Some link = sym chain.1 ∙ e in cc) in
     (number, others, refl, ap (λ (l : Link). l.number) (sym one) ∙ chain.2, subst (λ (l : Link). Chain links l.next others) one chain.3)
 
-split_at : (numbers : List ℕ) (count number : ℕ) (others : List ℕ) → drop count numbers ≡ number ∷ others → (drop (count + 1) numbers ≡ others) × (take (count + 1) numbers ≡ take count numbers ++ number ∷ [])
-split_at [] ℕ.zero number others e = absurd cc
-split_at [] (suc count) number others e = absurd cc
-split_at (n ∷ ns) ℕ.zero number others e =
+split_suc : (numbers : List ℕ) (count number : ℕ) (others : List ℕ) → drop count numbers ≡ number ∷ others → (drop (suc count) numbers ≡ others) × (take (suc count) numbers ≡ take count numbers ++ number ∷ [])
+split_suc [] ℕ.zero number others e = absurd cc
+split_suc [] (suc count) number others e = absurd cc
+split_suc (n ∷ ns) ℕ.zero number others e =
     let first : n ≡ number = cc in
     let rest : ns ≡ others = cc in
     (rest, ap (λ x. x ∷ []) first)
-split_at (n ∷ ns) (suc count) number others e = let more = split_at ns count number others e in (more.0, ap (λ xs. n ∷ xs) more.1)
+split_suc (n ∷ ns) (suc count) number others e = let more = split_suc ns count number others e in (more.0, ap (λ xs. n ∷ xs) more.1)
+
+split_at : (numbers : List ℕ) (count number : ℕ) (others : List ℕ) → drop count numbers ≡ number ∷ others → (drop (count + 1) numbers ≡ others) × (take (count + 1) numbers ≡ take count numbers ++ number ∷ [])
+split_at numbers count number others e =
+    let later : count + 1 ≡ suc count = omega arith in
+    let parts = split_suc numbers count number others e in
+    (ap (λ n. drop n numbers) later ∙ parts.0, ap (λ n. take n numbers) later ∙ parts.1)
 
 -- one module more
 pub one_more : (links : List Link) (first place : Option ℕ) (started : ℕ → Bool) (count : ℕ) (link : Link) (old mid new : List ℕ) → Walked links first place started count old mid
@@ -130,3 +136,45 @@ pub told_by_context : (begun : List Begun) (modules : List Module) (phase : Phas
 told_by_context begun modules phase guid context is =
     same_words (flag context.started) (has_started begun phase) (givers_from phase guid 0 modules)
     (givers_within (λ n. flag context.started n ≡ has_started begun phase n) phase guid 0 (length modules) modules is.started.each (omega arith))
+
+-- what is added in three parts, and a line in three parts
+pub three_added : (old first second new x y z : List ℕ) → first ≡ old ++ x → second ≡ first ++ y → new ≡ second ++ z → new ≡ old ++ (x ++ (y ++ z))
+three_added old first second new x y z e f g =
+    g ∙ ap (λ t. t ++ z) (f ∙ ap (λ t. t ++ y) e) ∙ ap (λ t. t ++ z) (append_assoc old x y) ∙ append_assoc old (x ++ y) z ∙ ap (λ t. old ++ t) (append_assoc x y z)
+
+pub line_added : (keyword : List ℕ) (front more : List (List ℕ)) (old first second new : List ℕ) → first ≡ old ++ front_of keyword front → second ≡ first ++ flat_map spaced more → new ≡ second ++ 10 ∷ []
+    → new ≡ old ++ line_of keyword (front ++ more)
+line_added keyword front more old first second new e f g =
+    three_added old first second new (front_of keyword front) (flat_map spaced more) (10 ∷ []) e f g
+    ∙ ap (λ t. old ++ t) (sym (append_assoc (front_of keyword front) (flat_map spaced more) (10 ∷ [])) ∙ line_more keyword front more)
+
+-- an item's text behind those before it
+pub text_next : {A : Type 0} (f : A → List ℕ) (xs : List A) (i : ℕ) (d : A) (out old new : List ℕ) → i < length xs → new ≡ old ++ f (get_or xs i d) → old ≡ out ++ flat_map f (take i xs)
+    → new ≡ out ++ flat_map f (take (i + 1) xs)
+text_next f xs i d out old new within put before =
+    put ∙ ap (λ t. t ++ f (get_or xs i d)) before ∙ append_assoc out (flat_map f (take i xs)) (f (get_or xs i d))
+    ∙ ap (λ t. out ++ t) (sym (ap (flat_map f) (take_more xs i d within) ∙ flat_map-append f (take i xs) (get_or xs i d ∷ []) ∙ ap (λ t. flat_map f (take i xs) ++ t) (append-nil (f (get_or xs i d)))))
+
+-- no module, and some
+pub nobody_told : (links : List Link) (first : Option ℕ) (started : ℕ → Bool) → link_at links first ≡ None → (numbers : List ℕ) → Chain links first numbers
+    → spaced (word_of K.Dash) ≡ flat_map spaced (or_dash (told_words started numbers))
+nobody_told links first started e numbers chain =
+    sym (append-nil (spaced (word_of K.Dash))) ∙ ap (λ list. flat_map spaced (or_dash (told_words started list))) (sym (none_left links first numbers e chain))
+
+pub somebody_told : (links : List Link) (first : Option ℕ) (started : ℕ → Bool) (link : Link) → link_at links first ≡ Some link → (numbers : List ℕ) → Chain links first numbers
+    → told_words started numbers ≡ or_dash (told_words started numbers)
+somebody_told links first started link e [] chain = let none : link_at links None ≡ Some link = ap (link_at links) (sym chain) ∙ e in absurd cc
+somebody_told links first started link e (number ∷ numbers) chain = refl
+
+-- the words of who may install a GUID, with the core and without
+pub words_with : (begun : List Begun) (modules : List Module) (phase : Phase) (guid : Guid) (context : Context) → IsContext begun modules phase context → core_gives phase guid ≡ true
+    → with_core (told_words (flag context.started) (givers_from phase guid 0 modules)) ≡ lacks_words begun modules phase guid
+words_with begun modules phase guid context is e =
+    let words = told_words (has_started begun phase) (givers_from phase guid 0 modules) in
+    ap with_core (told_by_context begun modules phase guid context is) ∙ ap (λ b. cond b (with_core words) (or_dash words)) (sym e)
+
+pub words_without : (begun : List Begun) (modules : List Module) (phase : Phase) (guid : Guid) (context : Context) → IsContext begun modules phase context → core_gives phase guid ≡ false
+    → or_dash (told_words (flag context.started) (givers_from phase guid 0 modules)) ≡ lacks_words begun modules phase guid
+words_without begun modules phase guid context is e =
+    let words = told_words (has_started begun phase) (givers_from phase guid 0 modules) in
+    ap or_dash (told_by_context begun modules phase guid context is) ∙ ap (λ b. cond b (with_core words) (or_dash words)) (sym e)

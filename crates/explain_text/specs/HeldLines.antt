@@ -40,8 +40,9 @@ abbrev pub core_gives : Phase → Guid → Bool
 core_gives Pei guid = same_guid guid MEMORY_PPI
 core_gives Dxe guid = false
 
-abbrev pub core_words : Phase → Guid → List (List ℕ)
-core_words phase guid = if core_gives phase guid then word_of K.Core ∷ word_of K.Waits ∷ [] else []
+-- the core, which has not done so yet, in front of modules
+abbrev pub with_core : List (List ℕ) → List (List ℕ)
+with_core words = word_of K.Core ∷ word_of K.Waits ∷ words
 
 -- a dash where there are no words
 abbrev pub or_dash : List (List ℕ) → List (List ℕ)
@@ -50,7 +51,9 @@ or_dash (word ∷ words) = word ∷ words
 
 -- who may install a GUID that is not there
 abbrev pub lacks_words : List Begun → List OfModule → Phase → Guid → List (List ℕ)
-lacks_words begun modules phase guid = or_dash (core_words phase guid ++ told_words (has_started begun phase) (givers_from phase guid 0 modules))
+lacks_words begun modules phase guid =
+    let words = told_words (has_started begun phase) (givers_from phase guid 0 modules) in
+    if core_gives phase guid then with_core words else or_dash words
 
 -- a GUID that is not there, and who may install it; and one that somebody has installed
 abbrev pub lacks_line : List Begun → List OfModule → Phase → ℕ → Guid → List ℕ

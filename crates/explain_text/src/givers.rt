@@ -55,7 +55,8 @@ fn add_name(givers: &mut Givers, number: u32, guid: Guid) -> Result<(), OutOfMem
         return Ok(());
     }
     givers.first.insert(guid, givers.links.len())?;
-    givers.links.push(Link { number, next })
+    givers.links.push(Link { number, next })?;
+    Ok(())
 }
 
 // A module in front of those that may install some GUIDs.
@@ -93,7 +94,8 @@ fn add_module(
         return Ok(());
     };
     let guids = given_in(alloc, &part.script)?;
-    add_names(givers, number, guids.as_slice())
+    add_names(givers, number, guids.as_slice())?;
+    Ok(())
 }
 
 /// Those of all modules.

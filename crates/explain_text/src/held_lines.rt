@@ -1,13 +1,16 @@
 // The lines of the modules that wait.
-ghost use Rattle.std.specs.Prelude.{◌≡◌, ◌++◌, ℕ, List, flat_map, map, OnOk};
+ghost use Rattle.std.specs.Prelude.{◌≡◌, ◌++◌, ◌∷◌, [], ℕ, List, decimal, flat_map, map, OnOk};
 ghost use Rattle.boot_io.specs.Line.{spaced};
 ghost use Rattle.pi_base.specs.WordText.{guid_text};
 ghost use Rattle.catalog_model.specs.declared.catalog.Module.{Module as OfModule};
 ghost use Rattle.boot_reasons.specs.declared.reasons.Begun.{Begun as Start};
-ghost use Rattle.explain_text.specs.Context.{IsContext};
+ghost use Rattle.catalog_text.specs.Fronts.{front_of};
+ghost use Rattle.explain_text.specs.declared.keyword.Keyword.TheVariants as K;
+ghost use Rattle.explain_text.specs.Words.{word_of};
+ghost use Rattle.explain_text.specs.Context.{AreContexts, IsContext};
 ghost use Rattle.explain_text.specs.Flags.{flag};
 ghost use Rattle.explain_text.specs.Givers.{Chain};
-ghost use Rattle.explain_text.specs.HeldLines.{core_gives, has_line, held_lines, lacks_line, lacks_words, need_line, or_dash, pair_words, told_words, waits_line, would_lines};
+ghost use Rattle.explain_text.specs.HeldLines.{core_gives, has_line, held_lines, lacks_line, lacks_words, need_line, or_dash, pair_words, told_words, waits_line, with_core, would_lines};
 
 use crate::context::Context;
 use crate::flags::flag;
@@ -68,6 +71,44 @@ fn put_told(
     }
 }
 
+// Adds the core, which waits, and modules.
+fn put_core(
+    out: &mut Seq<u8>,
+    started: &[bool],
+    links: &[Link],
+    first: Option<usize>,
+) -> Result<(), OutOfMemory>
+    ensures { (numbers : List ℕ) → Chain links.now first numbers
+        → OnOk result (out.new ≡ out.old ++ flat_map spaced (with_core (told_words (flag started.now) numbers))) }
+{
+    put_word(out, word_of(Keyword::Core))?;
+    put_word(out, word_of(Keyword::Waits))?;
+    put_told(out, started, links, first)?;
+    Ok(())
+}
+
+// Adds modules, or a dash where there is none.
+fn put_modules(
+    out: &mut Seq<u8>,
+    started: &[bool],
+    links: &[Link],
+    first: Option<usize>,
+) -> Result<(), OutOfMemory>
+    ensures { (numbers : List ℕ) → Chain links.now first numbers
+        → OnOk result (out.new ≡ out.old ++ flat_map spaced (or_dash (told_words (flag started.now) numbers))) }
+{
+    match link_at(links, first) {
+        None => {
+            put_word(out, word_of(Keyword::Dash))?;
+            Ok(())
+        }
+        Some(_) => {
+            put_told(out, started, links, first)?;
+            Ok(())
+        }
+    }
+}
+
 // Adds who may install a GUID.
 fn put_givers(
     out: &mut Seq<u8>,
@@ -78,15 +119,28 @@ fn put_givers(
     ensures { (begun : List Start) (modules : List OfModule) → IsContext begun modules phase context.now
         → OnOk result (out.new ≡ out.old ++ flat_map spaced (lacks_words begun modules phase guid.now)) }
 {
+    let started = context.started.as_slice();
     let links = context.givers.links.as_slice();
     let first = context.givers.first.get(guid);
     if core_gives(phase, guid) {
-        put_word(out, word_of(Keyword::Core))?;
-        put_word(out, word_of(Keyword::Waits))?;
-    } else if link_at(links, first).is_none() {
-        return put_word(out, word_of(Keyword::Dash));
+        put_core(out, started, links, first)?;
+        Ok(())
+    } else {
+        put_modules(out, started, links, first)?;
+        Ok(())
     }
-    put_told(out, context.started.as_slice(), links, first)
+}
+
+// Adds the front of the line of a GUID that is not there.
+fn put_lacking(out: &mut Seq<u8>, number: u32, guid: &Guid) -> Result<(), OutOfMemory>
+    ensures { OnOk result (out.new
+        ≡ out.old ++ front_of (word_of K.Lacks) (decimal number ∷ guid_text guid.now ∷ [])) }
+{
+    put_front(
+        out,
+        word_of(Keyword::Lacks),
+        &[decimal_word(u64::from(number)).as_slice(), &guid.to_text()],
+    )
 }
 
 // The line of a GUID that is not there.
@@ -100,14 +154,10 @@ fn put_lacks(
     ensures { (begun : List Start) (modules : List OfModule) → IsContext begun modules phase context.now
         → OnOk result (out.new ≡ out.old ++ lacks_line begun modules phase number guid.now) }
 {
-    let number = decimal_word(u64::from(number));
-    put_front(
-        out,
-        word_of(Keyword::Lacks),
-        &[number.as_slice(), &guid.to_text()],
-    )?;
+    put_lacking(out, number, guid)?;
     put_givers(out, context, phase, guid)?;
-    end_line(out)
+    end_line(out)?;
+    Ok(())
 }
 
 // The line of a GUID that somebody has installed.
@@ -137,7 +187,10 @@ fn put_need(
         → OnOk result (out.new ≡ out.old ++ need_line begun modules phase number need.now) }
 {
     match need.giver {
-        Giver::Absent => put_lacks(out, context, phase, number, &need.guid),
+        Giver::Absent => {
+            put_lacks(out, context, phase, number, &need.guid)?;
+            Ok(())
+        }
         _ => put_has(out, number, need),
     }
 }
@@ -200,12 +253,39 @@ fn put_waits(out: &mut Seq<u8>, wait: &Held) -> Result<(), OutOfMemory>
     )
 }
 
-/// The lines of a module that waits.
-pub(crate) fn put_held(out: &mut Seq<u8>, context: &Context, wait: &Held) -> Result<(), OutOfMemory>
+// The lines of a module that waits.
+fn put_held(out: &mut Seq<u8>, context: &Context, wait: &Held) -> Result<(), OutOfMemory>
     ensures { (begun : List Start) (modules : List OfModule) → IsContext begun modules wait.now.phase context.now
         → OnOk result (out.new ≡ out.old ++ held_lines begun modules wait.now) }
 {
     put_waits(out, wait)?;
     put_needs(out, context, wait.phase, wait.number, wait.needs.as_slice())?;
     put_would(out, wait.number, &wait.would)
+}
+
+// Those of one that waits in either phase.
+fn put_wait(out: &mut Seq<u8>, pei: &Context, dxe: &Context, wait: &Held) -> Result<(), OutOfMemory>
+    ensures { (begun : List Start) (modules : List OfModule) → AreContexts begun modules pei.now dxe.now
+        → OnOk result (out.new ≡ out.old ++ held_lines begun modules wait.now) }
+{
+    match wait.phase {
+        Phase::Pei => put_held(out, pei, wait),
+        Phase::Dxe => put_held(out, dxe, wait),
+    }
+}
+
+/// The lines of modules that wait.
+pub(crate) fn put_all_held(
+    out: &mut Seq<u8>,
+    pei: &Context,
+    dxe: &Context,
+    held: &[Held],
+) -> Result<(), OutOfMemory>
+    ensures { (begun : List Start) (modules : List OfModule) → AreContexts begun modules pei.now dxe.now
+        → OnOk result (out.new ≡ out.old ++ flat_map (held_lines begun modules) held.now) }
+{
+    'waits: for wait in held {
+        put_wait(out, pei, dxe, wait)?;
+    }
+    Ok(())
 }

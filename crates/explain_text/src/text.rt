@@ -6,10 +6,10 @@ ghost use Rattle.explain_text.specs.LeftLines.{left_lines};
 ghost use Rattle.explain_text.specs.Text.{explained_text, is_told};
 ghost use Rattle.explain_text.specs.Told.{AreTold, known_in};
 
-use crate::context::{Context, context_of};
+use crate::context::context_of;
 use crate::end_lines::put_end;
 use crate::flags::{add_held, started};
-use crate::held_lines::put_held;
+use crate::held_lines::put_all_held;
 use crate::left_lines::put_left;
 use crate::start_lines::put_starts;
 use boot_reasons::Explained;
@@ -27,15 +27,10 @@ fn put_waiting(
     requires { length modules.now ≤ MOST_MODULES }
     ensures { OnOk result (out.new ≡ out.old ++ flat_map (held_lines explained.now.begun modules.now) explained.now.held) }
 {
-    let pei = context_of(alloc, explained.begun.as_slice(), modules, Phase::Pei)?;
-    let dxe = context_of(alloc, explained.begun.as_slice(), modules, Phase::Dxe)?;
-    'held: for wait in explained.held.as_slice() {
-        let context = match wait.phase {
-            Phase::Pei => &pei,
-            Phase::Dxe => &dxe,
-        };
-        put_held(out, context, wait)?;
-    }
+    let begun = explained.begun.as_slice();
+    let pei = context_of(alloc, begun, modules, Phase::Pei)?;
+    let dxe = context_of(alloc, begun, modules, Phase::Dxe)?;
+    put_all_held(out, &pei, &dxe, explained.held.as_slice())?;
     Ok(())
 }
 
@@ -82,7 +77,8 @@ fn put_rest(
         told.as_slice(),
         known_in(explained, phase),
         modules,
-    )
+    )?;
+    Ok(())
 }
 
 /// Adds the lines of an explained boot of a catalogue.
