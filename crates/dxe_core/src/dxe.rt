@@ -1,5 +1,5 @@
 //! The core.
-ghost use Rattle.std.specs.Prelude.{◌≡◌, ◌↔◌, [], ℕ, IfOk, IsTrue, OnOk, is_some, true};
+ghost use Rattle.std.specs.Prelude.{◌≡◌, ◌↔◌, [], ℕ, IfOk, IsTrue, OnOk, is_some, option_map, true};
 ghost use Rattle.boot_io.specs.Halted.{HaltsAfter};
 ghost use Rattle.boot_io.specs.Sink.{SinkFaultsAfter};
 ghost use Rattle.pi_base.specs.declared.phase.Phase.TheVariants.{Dxe as InDxe};
@@ -9,6 +9,7 @@ ghost use Rattle.store_model.specs.StoreState.{StoreState};
 ghost use Rattle.boot_model.specs.Discovery.{discoveries};
 ghost use Rattle.boot_model.specs.DxeMachine.{DxeMachine};
 ghost use Rattle.boot_model.specs.DxeRun.{dxe_opening_of};
+ghost use Rattle.frames.specs.Frames.{top_of};
 ghost use Rattle.dxe_core.specs.Standing.{IsCoreOf, IsFor, StandsFor};
 ghost use Rattle.dxe_core.specs.Steps.{Starts, Steps};
 
@@ -140,6 +141,23 @@ impl Dxe {
         ensures { IsTrue result ↔ (self.now.frames ≡ []) }
     {
         self.frames.top().is_none()
+    }
+
+    /// The module whose script runs. None where none does.
+    pub fn running(&self) -> Option<u32>
+        ensures { result ≡ option_map (λ frame. frame.module_number) (top_of self.now.frames) }
+    {
+        match self.frames.top() {
+            Some(frame) => Some(frame.module_number),
+            None => None,
+        }
+    }
+
+    /// The actions that were taken, those of PEI with them.
+    pub fn actions(&self) -> u32
+        ensures { result ≡ self.now.fuel.taken }
+    {
+        self.fuel.taken
     }
 
     /// How many actions may be taken.

@@ -255,7 +255,7 @@ turn_to_come ended Names Lets text faults stands store catalog fuel opening firs
     absurd (cc)
 
 -- the queue at the opening
-opening_queue : (catalog : Catalog) (kept queue : Queue) (volumes : List ℕ) (s : StoreState) (actions : ℕ) → IsNewQueue catalog kept → volumes ≡ (dxe_opening catalog s actions).discovered → Discovers catalog kept (drop 0 volumes) queue
+pub opening_queue : (catalog : Catalog) (kept queue : Queue) (volumes : List ℕ) (s : StoreState) (actions : ℕ) → IsNewQueue catalog kept → volumes ≡ (dxe_opening catalog s actions).discovered → Discovers catalog kept (drop 0 volumes) queue
     → IsQueueOf catalog (dxe_opening catalog s actions) queue
 opening_queue catalog kept queue volumes s actions new same discovers =
     let opening : DxeMachine = dxe_opening catalog s actions in

@@ -35,7 +35,7 @@ own_target Names catalog m target own by = by.is ∙ ap (aimed_at catalog m) (no
     none (Some n) e = by.busy (λ choosing. no_number n (sym e ∙ own m by.named (by.allowed choosing)))
 
 -- so many steps, and then so many more
-steps_then : (catalog : Catalog) (fuel a b : ℕ) (m : DxeMachine) → dxe_run catalog fuel (a + b) m ≡ dxe_run catalog fuel b (dxe_run catalog fuel a m)
+pub steps_then : (catalog : Catalog) (fuel a b : ℕ) (m : DxeMachine) → dxe_run catalog fuel (a + b) m ≡ dxe_run catalog fuel b (dxe_run catalog fuel a m)
 steps_then catalog fuel zero b m = let same : 0 + b ≡ b = omega arith in ap (λ k. dxe_run catalog fuel k m) same
 steps_then catalog fuel (suc a) b m =
     let more : suc a + b ≡ suc (a + b) = omega arith in

@@ -4,12 +4,12 @@ pub mod FirstStarts
 pub mod FirstRuns
 mod Followed
 pub mod Growing
-mod Idle
-mod Openings
+pub mod Idle
+pub mod Openings
 mod Passing
 mod Requests
-mod Runs
-mod Standing
+pub mod Runs
+pub mod Standing
 pub mod Targets
 mod Told
 mod Turning

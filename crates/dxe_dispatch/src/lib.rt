@@ -6,6 +6,7 @@
 mod aim;
 mod boot;
 mod choose;
+mod going;
 mod root;
 mod run;
 mod stop;
@@ -14,5 +15,9 @@ mod turns;
 mod waiting;
 
 pub use boot::{Barred, Ended, Left, boot_dxe, dxe_at_opening};
+pub use choose::choose;
+pub use going::{Progress, go_on};
+pub use root::target_of;
 pub use run::{bound, run_dxe, run_first};
 pub use turns::turn_by;
+pub use waiting::reason_of;

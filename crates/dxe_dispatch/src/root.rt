@@ -23,8 +23,8 @@ fn given_by(expression: &PartExpr) -> Option<Guid>
     }
 }
 
-// The driver that a driver names in BEFORE or in AFTER.
-fn target_of(catalog: &Catalog, order: &DriverOrder, number: u32) -> Option<u32>
+/// The driver that a driver names in BEFORE or in AFTER.
+pub fn target_of(catalog: &Catalog, order: &DriverOrder, number: u32) -> Option<u32>
     ensures { (m : DxeMachine) → IsOrderOf catalog.now m.discovered order.now → result ≡ Of.target_of catalog.now m number }
 {
     let part = part_of(catalog, Phase::Dxe, number)?;

@@ -11,14 +11,14 @@ ghost use Rattle.dxe_dispatch.specs.Turns.{AreOf, IsReady, OwesBehind, Turns, Tu
 
 use crate::aim::{aim, named};
 use crate::choose::choose;
+use crate::going::{Progress, go_on};
 use crate::stop::put_stop;
-use crate::tell::tell;
 use boot_io::{Halt, Sink};
 use boot_model::DxeEnd;
 use catalog_model::Catalog;
 use depex_code::Steps;
 use dxe_choice::DriverQueue;
-use dxe_core::{Dxe, Stepped};
+use dxe_core::Dxe;
 use free_laws::{Choice, Reached, dxe_chooses_by_groups, dxe_goes_on, dxe_opens, groups_are_aimed};
 use std::sync::ledger::Ledger;
 use store_model::PeiStore;
@@ -67,7 +67,7 @@ fn start_or_stop<S: Sink, C: Choice<S>, L: Ledger>(
     }
 }
 
-// The core's own step, where a script runs, so that no driver starts. The queue is told what it did: the a priori drivers of the volumes that it discovered are scheduled.
+// The core's own step, where a script runs, so that no driver starts.
 fn act<M: PeiStore, S: Sink>(
     dxe: &mut Dxe,
     store: &M,
@@ -88,14 +88,9 @@ fn act<M: PeiStore, S: Sink>(
     ensures owes { OnOk result ((before : ℕ) → OwesBehind M.stands_for store.now catalog.now dxe.old queue.old
         (before + owed queue.old) (before + owed queue.new)) }
 {
-    match dxe.step(store, catalog, sink)? {
-        Stepped::Went(event) => {
-            tell(dxe, queue, &event);
-            queue.discover(catalog, dxe.order(), event.known)?;
-            Ok(None)
-        }
-        Stepped::Idle => unreachable!(),
-        Stepped::Ended(end) => Ok(Some(Reached::End(end))),
+    match go_on(dxe, store, queue, catalog, sink)? {
+        Progress::Went(_) => Ok(None),
+        Progress::Ended(end) => Ok(Some(Reached::End(end))),
     }
 }
 

@@ -46,8 +46,8 @@ fn reason_by(part: &Part, requested: bool) -> Reason
     }
 }
 
-// Why a driver waits.
-fn reason_of(catalog: &Catalog, number: u32, requested: bool) -> Reason
+/// Why a driver waits, by whether it was requested.
+pub fn reason_of(catalog: &Catalog, number: u32, requested: bool) -> Reason
     ensures { (m : DxeMachine) → requested ≡ has_number m.requested number → result ≡ D.driver_reason catalog.now m number }
 {
     match part_of(catalog, Phase::Dxe, number) {

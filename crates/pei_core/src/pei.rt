@@ -1,5 +1,5 @@
 //! The core over a store.
-ghost use Rattle.std.specs.Prelude.{◌≡◌, ◌≤◌, ◌+◌, ◌-◌, ◌^◌, min, ℕ, Some, None, IfOk, IsTrue, length, is_some, true};
+ghost use Rattle.std.specs.Prelude.{◌≡◌, ◌≤◌, ◌+◌, ◌-◌, ◌^◌, min, ℕ, Some, None, IfOk, IsTrue, length, is_some, option_map, true};
 ghost use Rattle.boot_io.specs.Halted.{HaltsAfter};
 ghost use Rattle.boot_io.specs.Sink.{SinkFaultsAfter};
 ghost use Rattle.catalog_model.specs.Parts.{part_at};
@@ -8,6 +8,7 @@ ghost use Rattle.catalog_model.specs.declared.catalog.Catalog.{Catalog as OfCata
 ghost use Rattle.pi_base.specs.declared.phase.Phase.TheVariants.{Pei as InPei};
 ghost use Rattle.boot_model.specs.PeiMachine.{PeiMachine};
 ghost use Rattle.boot_model.specs.PeimState.{ArePeimStates, awaits_start, peim_state};
+ghost use Rattle.frames.specs.Frames.{top_of};
 ghost use Rattle.pei_core.specs.Standing.{IsFor, KeepsFor, Opens, StandsFor, last_start};
 ghost use Rattle.pei_core.specs.Steps.{IsIdle, Steps, Starts};
 
@@ -127,6 +128,16 @@ impl<M: PeiStore + Drop> Pei<M> {
         ensures { (m : PeiMachine) → StandsFor M.stands_for self.now m → ArePeimStates m result.now }
     {
         self.core.states.as_slice()
+    }
+
+    /// The module whose script runs. None where none does.
+    pub fn running(&self) -> Option<u32>
+        ensures { (m : PeiMachine) → StandsFor M.stands_for self.now m → result ≡ option_map (λ frame. frame.module_number) (top_of m.frames) }
+    {
+        match self.core.frames.top() {
+            Some(frame) => Some(frame.module_number),
+            None => None,
+        }
     }
 
     /// The actions that were taken.

@@ -1,0 +1,7 @@
+mod DxeEnds
+mod DxeSteps
+mod GiverSteps
+mod PeiEnds
+mod PeiSteps
+mod Phases
+mod StepLists

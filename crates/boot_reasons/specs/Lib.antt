@@ -1,0 +1,11 @@
+pub mod DxeReasons
+pub mod DxeTelling
+pub mod Explained
+pub mod Givers
+pub mod Joining
+pub mod Moving
+pub mod Needs
+pub mod Noting
+pub mod PeiEnding
+pub mod PeiReasons
+pub mod PeiTelling

@@ -1,0 +1,15 @@
+-- What a part of a module needs: each GUID that its expression asks for, and who has it installed.
+-- Own.
+use Rattle.std.specs.Prelude.{ℕ, List, [], ◌∷◌, map}
+use Rattle.pi_base.specs.declared.guid.Guid.{Guid}
+use Rattle.pi_base.specs.declared.phase.Phase.{Phase}
+use Rattle.catalog_model.specs.declared.catalog.PartExpr.{PartExpr}
+use Rattle.expression_needs.specs.Asked.{asked}
+use Rattle.boot_reasons.specs.declared.reasons.Giver.{Giver}
+use Rattle.boot_reasons.specs.declared.reasons.Need.{Need}
+
+abbrev pub need_of : (Guid → Giver) → Guid → Need
+need_of giver guid = record { guid = guid; giver = giver guid }
+
+abbrev pub needs_of : (Guid → Giver) → Phase → PartExpr → List Need
+needs_of giver phase expr = map (need_of giver) (asked phase expr)

@@ -1,0 +1,119 @@
+//! A boot, explained.
+ghost use Rattle.std.specs.Prelude.{◌≡◌, ◌≤◌, ◌++◌, IfOk, length};
+ghost use Rattle.boot_model.specs.BootRun.{dxe_result};
+ghost use Rattle.boot_model.specs.PeiMachine.{PeiMachine};
+ghost use Rattle.catalog_model.specs.WellFormed.{IsWellFormed};
+ghost use Rattle.pei_core.specs.Standing.{StandsFor};
+ghost use Rattle.store_model.specs.StoreState.{Board, empty_store};
+ghost use Rattle.boot_reasons.specs.Explained.{IsExplained};
+ghost use Rattle.boot_reasons.specs.Joining.{alone, together};
+ghost use Rattle.boot_reasons.specs.PeiEnding.{IsPeiExplained};
+
+use crate::dxe::{DxeExplained, explain_dxe};
+use crate::pei::{PeiExplained, explain_pei};
+use crate::reasons::Explained;
+use boot_model::{DxeEnd, PeiEnd, RunEnd};
+use catalog_model::Catalog;
+use pei_core::Pei;
+use pi_base::{OutOfMemory, Seq};
+use std::alloc::Global;
+use store_model::PeiStore;
+
+// One list behind the other.
+fn chain<T: Drop>(first: Seq<T>, second: Seq<T>) -> Result<Seq<T>, OutOfMemory>
+    ensures { IfOk result (λ all. all ≡ first ++ second) }
+{
+    let mut all = first.into_vec();
+    let mut more = second.into_vec();
+    match all.append(&mut more) {
+        Ok(()) => Ok(Seq::from_vec(all)),
+        Err(_) => Err(OutOfMemory),
+    }
+}
+
+// A boot that ends with PEI.
+fn alone(pei: PeiExplained, actions: u32, end: RunEnd) -> Explained
+    ensures { result ≡ alone pei actions end }
+{
+    let alloc = pei.reported.alloc();
+    Explained {
+        begun: pei.begun,
+        held: pei.held,
+        reported: pei.reported,
+        discovered: Seq::new(alloc),
+        moved: pei.moved,
+        heap: pei.heap,
+        actions,
+        result: end,
+    }
+}
+
+// The result of a boot whose DXE ended so.
+fn dxe_result(end: DxeEnd) -> RunEnd
+    ensures { result ≡ dxe_result end }
+{
+    match end {
+        DxeEnd::Done => RunEnd::Done,
+        DxeEnd::Spent => RunEnd::Spent,
+        DxeEnd::Deep => RunEnd::Deep,
+    }
+}
+
+// A boot that ends with DXE.
+fn together(pei: PeiExplained, dxe: DxeExplained) -> Result<Explained, OutOfMemory>
+    ensures { IfOk result (λ explained. explained ≡ together pei dxe) }
+{
+    Ok(Explained {
+        begun: chain(pei.begun, dxe.begun)?,
+        held: chain(pei.held, dxe.held)?,
+        reported: pei.reported,
+        discovered: dxe.discovered,
+        moved: pei.moved,
+        heap: pei.heap,
+        actions: dxe.actions,
+        result: dxe_result(dxe.end),
+    })
+}
+
+// The whole of a boot behind PEI.
+fn explain_behind<M: PeiStore + Drop>(
+    alloc: Global,
+    pei: &Pei<M>,
+    explained: PeiExplained,
+    catalog: &Catalog,
+    fuel: u32,
+) -> Result<Explained, OutOfMemory>
+    requires catalog { IsWellFormed catalog.now }
+    requires state { (m : PeiMachine) × StandsFor M.stands_for pei.now m }
+    ensures { (board : Board) → IsPeiExplained M.stands_for board catalog.now fuel pei.now explained
+        → IfOk result (IsExplained board catalog.now fuel) }
+{
+    let actions = pei.actions();
+    match explained.end {
+        PeiEnd::Handoff => {
+            let drivers = explain_dxe(alloc, pei.store(), catalog, fuel, actions)?;
+            together(explained, drivers)
+        }
+        PeiEnd::NoMemory => Ok(alone(explained, actions, RunEnd::NoMemory)),
+        PeiEnd::NoIpl => Ok(alone(explained, actions, RunEnd::NoIpl)),
+        PeiEnd::Spent => Ok(alone(explained, actions, RunEnd::Spent)),
+        PeiEnd::Deep => Ok(alone(explained, actions, RunEnd::Deep)),
+    }
+}
+
+/// Explains the boot over a store that is as it was made, where the first module that may start does: why each module started and what it needed, and why others never did. `fuel` is how many actions may be taken. Nothing is printed.
+pub fn explain_boot<M: PeiStore + Drop>(
+    alloc: Global,
+    store: M,
+    catalog: &Catalog,
+    fuel: u32,
+) -> Result<Explained, OutOfMemory>
+    requires catalog { IsWellFormed catalog.now }
+    requires some { 1 ≤ length catalog.now.volumes }
+    requires opening { (board : Board) × M.stands_for store (empty_store board) }
+    ensures { (board : Board) → M.stands_for store (empty_store board) → IfOk result (IsExplained board catalog.now fuel) }
+{
+    let mut pei = Pei::begin(alloc, store, catalog, fuel)?;
+    let explained = explain_pei(alloc, &mut pei, catalog)?;
+    explain_behind(alloc, &pei, explained, catalog, fuel)
+}

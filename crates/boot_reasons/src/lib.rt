@@ -1,0 +1,26 @@
+//! A boot, explained: why each module started and what it needed, and why another one never did.
+//! It is the boot of the machine itself, in which the first module that may start does. What is told of it are lists over the steps of its run (PI 1.8, volumes 1 and 2).
+#![tactic(auto)]
+
+mod copied;
+mod dxe;
+mod dxe_held;
+mod dxe_turn;
+mod explain;
+mod givers;
+mod laws;
+mod moves;
+mod needs;
+mod nowhere;
+mod pei;
+mod pei_held;
+mod pei_turn;
+mod plan;
+mod reasons;
+mod told;
+mod waiters;
+
+pub use explain::explain_boot;
+pub use laws::one_explanation;
+pub use plan::explain_plan;
+pub use reasons::{Begun, Explained, Giver, Held, Moved, Need};

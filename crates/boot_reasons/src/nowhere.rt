@@ -1,0 +1,18 @@
+// A sink for the lines of a boot of which the reasons alone are wanted.
+use boot_io::{Sink, SinkFault};
+
+/// Drops what is put, and never fails.
+#[derive(Drop)]
+pub(crate) struct Nowhere;
+
+impl Sink for Nowhere {
+    ghost use Rattle.std.specs.Prelude.{None};
+
+    ghost text = { λ _. None };
+
+    ghost faults = { λ _. 0 };
+
+    fn put(&mut self, _piece: &[u8]) -> Result<(), SinkFault> {
+        Ok(())
+    }
+}

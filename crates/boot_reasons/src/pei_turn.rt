@@ -1,0 +1,178 @@
+// A turn of the run of PEI, and what it tells.
+ghost use Rattle.std.specs.Prelude.{◌≡◌, ◌++◌, ℕ, IfOk, OnOk, option_map};
+ghost use Rattle.std.specs.Option.{option_or, option_to_list};
+ghost use Rattle.boot_model.specs.PeiMachine.{PeiMachine};
+ghost use Rattle.catalog_model.specs.Parts.{part_at};
+ghost use Rattle.catalog_model.specs.WellFormed.{IsWellFormed};
+ghost use Rattle.pi_base.specs.declared.phase.Phase.TheVariants.{Pei as InPei};
+ghost use Rattle.store_model.specs.Service.Install.{has_ppi};
+ghost use Rattle.store_model.specs.StoreState.{Board};
+ghost use Rattle.pei_choice.specs.View.{event_guids};
+ghost use Rattle.pei_core.specs.Standing.{IsFor, StandsFor};
+ghost use Rattle.pei_core.specs.Steps.{IsIdle};
+ghost use Rattle.pei_dispatch.specs.Turns.{IsNow};
+ghost use Rattle.boot_reasons.specs.Noting.{AreNoted, giver_in};
+ghost use Rattle.boot_reasons.specs.Moving.{moved_from};
+ghost use Rattle.boot_reasons.specs.PeiReasons.{pei_after, pei_begun_by};
+ghost use Rattle.boot_reasons.specs.PeiTelling.{IsAt, TurnsTo};
+
+use crate::givers::{Givers, actor};
+use crate::moves::{first_move, unmoved_base};
+use crate::needs::needs_of;
+use crate::nowhere::Nowhere;
+use crate::reasons::{Begun, Giver};
+use crate::told::PeiTold;
+use boot_laws::{guids_are_these, guids_change};
+use boot_model::{PeiEnd, state_of};
+use catalog_model::Catalog;
+use depex_code::Steps;
+use frames::part_of;
+use pei_choice::{PeiQueue, licence_of};
+use pei_core::{Event, Pei};
+use pei_dispatch::{Progress, choose, go_on, start, stop_pei};
+use pi_base::{Guid, OutOfMemory, Phase};
+use std::sync::ledger::Ledger;
+use store_model::PeiStore;
+
+// Tells of the PPI that an event took away.
+fn tell_gone<M: PeiStore + Drop>(
+    givers: &mut Givers,
+    pei: &Pei<M>,
+    gone: Option<Guid>,
+    actor: Giver,
+) -> Result<(), OutOfMemory>
+    requires state { (m : PeiMachine) × StandsFor M.stands_for pei.now m }
+    ensures { (m : PeiMachine) → StandsFor M.stands_for pei.now m
+        → OnOk result (AreNoted (has_ppi m.store) actor (option_to_list gone) givers.old.map givers.new.map) }
+{
+    match gone {
+        Some(guid) => givers.note(&guid, pei.store(), actor),
+        None => Ok(()),
+    }
+}
+
+// Tells of an event which PPIs came and went.
+fn tell_event<M: PeiStore + Drop>(
+    givers: &mut Givers,
+    pei: &Pei<M>,
+    event: &Event,
+    actor: Giver,
+) -> Result<(), OutOfMemory>
+    requires state { (m : PeiMachine) × StandsFor M.stands_for pei.now m }
+    ensures { (m : PeiMachine) → StandsFor M.stands_for pei.now m
+        → OnOk result (AreNoted (has_ppi m.store) actor (event_guids event.now.gone event.now.there.items) givers.old.map givers.new.map) }
+{
+    tell_gone(givers, pei, event.gone, actor)?;
+    givers.note_all(event.there.as_slice(), pei.store(), actor)
+}
+
+// Tells of the start of a module from here.
+fn tell_start<M: PeiStore + Drop>(
+    told: &mut PeiTold,
+    pei: &Pei<M>,
+    catalog: &Catalog,
+    number: u32,
+) -> Result<(), OutOfMemory>
+    requires state { (m : PeiMachine) × StandsFor M.stands_for pei.now m }
+    ensures begun { (m : PeiMachine) → StandsFor M.stands_for pei.now m
+        → OnOk result (told.new.begun ≡ told.old.begun
+        ++ option_to_list (option_map (pei_begun_by m (giver_in told.old.givers.map) number) (part_at InPei catalog.now number))) }
+    ensures givers { told.new.givers ≡ told.old.givers }
+    ensures moved { told.new.moved ≡ told.old.moved }
+{
+    let part = match part_of(catalog, Phase::Pei, number) {
+        Some(part) => part,
+        None => return Ok(()),
+    };
+    let needs = needs_of(told.begun.alloc(), &told.givers, Phase::Pei, part)?;
+    told.begun.push(Begun {
+        number,
+        phase: Phase::Pei,
+        licence: licence_of(state_of(pei.states(), number), part),
+        beside: None,
+        needs,
+    })
+}
+
+// The next PEIM starts, and is told of, or PEI stops.
+fn start_or_stop<M: PeiStore + Drop, L: Ledger>(
+    pei: &mut Pei<M>,
+    queue: &mut PeiQueue,
+    catalog: &Catalog,
+    told: &mut PeiTold,
+    steps: &mut Steps<L>,
+) -> Result<Option<PeiEnd>, OutOfMemory>
+    requires catalog { IsWellFormed catalog.now }
+    requires made { (fuel : ℕ) × IsFor catalog.now fuel pei.old }
+    requires state { (m : PeiMachine) × IsNow M.stands_for catalog.now pei.old queue.old m × IsIdle m }
+    ensures row { (board : Board) (fuel n : ℕ) → IsAt M.stands_for board catalog.now fuel n pei.old queue.old told.old
+        → IsIdle (pei_after board catalog.now fuel n)
+        → IfOk result (TurnsTo M.stands_for board catalog.now fuel n pei.new queue.new told.new) }
+    ensures made { (fuel : ℕ) → IsFor catalog.now fuel pei.old → IsFor catalog.now fuel pei.new }
+{
+    match choose(pei, queue, catalog, steps) {
+        Some(number) => {
+            tell_start(told, pei, catalog, number)?;
+            // What is put goes nowhere, which never fails.
+            match start(pei, queue, catalog, number, &mut Nowhere) {
+                Ok(()) => Ok(None),
+                Err(_) => Err(OutOfMemory),
+            }
+        }
+        None => match stop_pei(pei, queue, catalog, &mut Nowhere) {
+            Ok(end) => Ok(Some(end)),
+            Err(_) => Err(OutOfMemory),
+        },
+    }
+}
+
+// Tells of a step that was none of a start.
+fn tell_step<M: PeiStore + Drop>(
+    told: &mut PeiTold,
+    pei: &Pei<M>,
+    event: &Event,
+    actor: Giver,
+    from: Option<u64>,
+) -> Result<(), OutOfMemory>
+    requires state { (m : PeiMachine) × StandsFor M.stands_for pei.now m }
+    ensures givers { (m : PeiMachine) → StandsFor M.stands_for pei.now m
+        → OnOk result (AreNoted (has_ppi m.store) actor (event_guids event.now.gone event.now.there.items) told.old.givers.map told.new.givers.map) }
+    ensures moved { (m : PeiMachine) → StandsFor M.stands_for pei.now m
+        → OnOk result (told.new.moved ≡ option_or told.old.moved (moved_from from m.store)) }
+    ensures begun { told.new.begun ≡ told.old.begun }
+{
+    told.moved = first_move(told.moved, from, pei.store());
+    tell_event(&mut told.givers, pei, event, actor)
+}
+
+/// A step of the run of PEI, and what it tells: the core takes one, or where it has none left the next PEIM starts, or PEI stops.
+pub(crate) fn turn<M: PeiStore + Drop, L: Ledger>(
+    pei: &mut Pei<M>,
+    queue: &mut PeiQueue,
+    catalog: &Catalog,
+    told: &mut PeiTold,
+    steps: &mut Steps<L>,
+) -> Result<Option<PeiEnd>, OutOfMemory>
+    requires catalog { IsWellFormed catalog.now }
+    requires made { (fuel : ℕ) × IsFor catalog.now fuel pei.old }
+    requires state { (m : PeiMachine) × IsNow M.stands_for catalog.now pei.old queue.old m }
+    ensures row { (board : Board) (fuel n : ℕ) → IsFor catalog.now fuel pei.old
+        → IsAt M.stands_for board catalog.now fuel n pei.old queue.old told.old
+        → IfOk result (TurnsTo M.stands_for board catalog.now fuel n pei.new queue.new told.new) }
+    ensures made { (fuel : ℕ) → IsFor catalog.now fuel pei.old → IsFor catalog.now fuel pei.new }
+{
+    guids_change();
+    guids_are_these();
+    let actor = actor(pei.running());
+    let from = unmoved_base(pei.store());
+    // What is put goes nowhere, which never fails.
+    match go_on(pei, queue, catalog, &mut Nowhere) {
+        Ok(Progress::Went(event)) => {
+            tell_step(told, pei, &event, actor, from)?;
+            Ok(None)
+        }
+        Ok(Progress::Idle) => start_or_stop(pei, queue, catalog, told, steps),
+        Ok(Progress::Ended(end)) => Ok(Some(end)),
+        Err(_) => Err(OutOfMemory),
+    }
+}

@@ -1,0 +1,48 @@
+//! The boot of a plan, explained.
+ghost use Rattle.std.specs.Prelude.{◌≡◌, ◌≤◌, [], IfOk, length};
+ghost use Rattle.boot_model.specs.PlanBoard.{board_of};
+ghost use Rattle.catalog_model.specs.WellFormed.{IsWellFormed};
+ghost use Rattle.store_model.specs.StateFacts.{IsBoard};
+ghost use Rattle.boot_reasons.specs.Explained.{IsExplained};
+
+use crate::explain::explain_boot;
+use crate::reasons::Explained;
+use boot_plan::Plan;
+use catalog_model::Catalog;
+use mem_store::MemStore;
+use phys_mem::Rom;
+use pi_base::{OutOfMemory, Seq};
+use std::alloc::Global;
+use whole_boot::roms;
+
+// The boot of a plan whose volumes are mapped so.
+fn explain_over(
+    alloc: Global,
+    plan: &Plan,
+    catalog: &Catalog,
+    roms: Seq<Rom>,
+) -> Result<Explained, OutOfMemory>
+    requires board { IsBoard (record (board_of plan.now catalog.now []) { roms = roms }) }
+    requires catalog { IsWellFormed catalog.now }
+    requires some { 1 ≤ length catalog.now.volumes }
+    ensures { IfOk result (IsExplained (record (board_of plan.now catalog.now []) { roms = roms }) catalog.now plan.now.fuel) }
+{
+    let store = MemStore::new(alloc, plan.temp, plan.pages, plan.ram, roms)?;
+    explain_boot(alloc, store, catalog, plan.fuel)
+}
+
+/// Explains the boot of a plan over the catalogue of its images. No image is copied.
+pub fn explain_plan(
+    alloc: Global,
+    plan: &Plan,
+    catalog: &Catalog,
+    images: Seq<Seq<u8>>,
+) -> Result<Explained, OutOfMemory>
+    requires board { IsBoard (board_of plan.now catalog.now images) }
+    requires catalog { IsWellFormed catalog.now }
+    requires some { 1 ≤ length catalog.now.volumes }
+    ensures { IfOk result (IsExplained (board_of plan.now catalog.now images) catalog.now plan.now.fuel) }
+{
+    let roms = roms(alloc, catalog.volumes.as_slice(), images)?;
+    explain_over(alloc, plan, catalog, roms)
+}

@@ -1,0 +1,3 @@
+mod Enough
+mod OnceEach
+mod Parts

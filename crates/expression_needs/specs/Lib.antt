@@ -1,0 +1,4 @@
+pub mod Asked
+pub mod Noting
+pub mod Sides
+pub mod Would
