@@ -14,4 +14,6 @@ mod parts;
 #[cfg(test)]
 mod sections;
 #[cfg(test)]
+mod titles;
+#[cfg(test)]
 mod volumes;

@@ -1,0 +1,4 @@
+mod Modules
+mod Named
+mod OneText
+mod Words

@@ -1,0 +1,4 @@
+mod FirstFound
+mod Images
+mod Names
+mod OneTitle

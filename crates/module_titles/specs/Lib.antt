@@ -1,0 +1,4 @@
+pub mod File
+pub mod Mapped
+pub mod Name
+pub mod Title
