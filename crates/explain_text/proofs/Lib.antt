@@ -1,0 +1,4 @@
+mod Chains
+mod Flagged
+mod HeldText
+mod LeftText

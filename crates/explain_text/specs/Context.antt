@@ -1,0 +1,20 @@
+-- What the lines of modules that wait ask of a phase: which modules may install a GUID, and which started.
+-- Own.
+use Rattle.std.specs.Prelude.{List, length}
+use Rattle.pi_base.specs.declared.phase.Phase.{Phase}
+use Rattle.pi_base.specs.declared.phase.Phase.TheVariants.{Pei, Dxe}
+use Rattle.catalog_model.specs.declared.catalog.Module.{Module}
+use Rattle.boot_reasons.specs.declared.reasons.Begun.{Begun}
+use Rattle.explain_text.specs.declared.context.Context.{Context}
+use Rattle.explain_text.specs.Flags.{AreStarted}
+use Rattle.explain_text.specs.Givers.{AreGivers}
+
+-- of a phase
+pub record IsContext (begun : List Begun) (modules : List Module) (phase : Phase) (context : Context) : Type 0 where
+  pub givers : AreGivers phase 0 modules context.givers
+  pub started : AreStarted begun phase (length modules) context.started
+
+-- of both phases
+pub record AreContexts (begun : List Begun) (modules : List Module) (pei dxe : Context) : Type 0 where
+  pub of_pei : IsContext begun modules Pei pei
+  pub of_dxe : IsContext begun modules Dxe dxe

@@ -1,0 +1,82 @@
+-- The lines of the modules that wait at the end of a phase: why, what the expression asks for that is not there and what is, and the GUIDs whose coming would make it hold.
+-- PI 1.8, volume 1, "Dependency Expressions"; the lines are own.
+use Rattle.std.specs.Prelude.{ℕ, Bool, false, if◌then◌else◌, nat_lt, List, [], ◌∷◌, ◌++◌, length, map, take, decimal, flat_map, Option, Some, None}
+use Rattle.boot_io.specs.Line.{line_of}
+use Rattle.boot_model.specs.Text.{reason_text}
+use Rattle.pi_base.specs.declared.guid.Guid.{Guid}
+use Rattle.pi_base.specs.declared.known_guid.TheConstants.{MEMORY_PPI}
+use Rattle.pi_base.specs.declared.phase.Phase.{Phase}
+use Rattle.pi_base.specs.declared.phase.Phase.TheVariants.{Pei, Dxe}
+use Rattle.pi_base.specs.Guids.{same_guid}
+use Rattle.pi_base.specs.WordText.{guid_text}
+use Rattle.catalog_model.specs.declared.catalog.Module.{Module as OfModule}
+use Rattle.boot_reasons.specs.declared.reasons.Begun.{Begun}
+use Rattle.boot_reasons.specs.declared.reasons.Held.{Held}
+use Rattle.boot_reasons.specs.declared.reasons.Need.{Need}
+use Rattle.boot_reasons.specs.declared.reasons.Giver.{Giver}
+use Rattle.boot_reasons.specs.declared.reasons.Giver.TheVariants.{Core, Module, Absent}
+use Rattle.catalog_text.specs.Lines.{phase_text}
+use Rattle.explain_text.specs.declared.held_lines.TheConstants.{MOST_TOLD}
+use Rattle.explain_text.specs.declared.keyword.Keyword.TheVariants as K
+use Rattle.explain_text.specs.Flags.{has_started}
+use Rattle.explain_text.specs.Givers.{givers_from}
+use Rattle.explain_text.specs.StartLines.{giver_text}
+use Rattle.explain_text.specs.Words.{word_of}
+
+abbrev pub waits_line : Held → List ℕ
+waits_line wait = line_of (word_of K.Waits) (decimal wait.number ∷ phase_text wait.phase ∷ reason_text wait.reason ∷ [])
+
+-- a module that may install a GUID, and whether it started
+abbrev pub pair_words : (ℕ → Bool) → ℕ → List (List ℕ)
+pair_words started number = decimal number ∷ word_of (if started number then K.Started else K.Waits) ∷ []
+
+-- those modules, and a word in the place of all others where they are many
+abbrev pub told_words : (ℕ → Bool) → List ℕ → List (List ℕ)
+told_words started numbers =
+    flat_map (pair_words started) (take MOST_TOLD numbers) ++ (if nat_lt MOST_TOLD (length numbers) then word_of K.More ∷ [] else [])
+
+-- whether the core may install a GUID: in PEI that of permanent memory, once memory has moved
+abbrev pub core_gives : Phase → Guid → Bool
+core_gives Pei guid = same_guid guid MEMORY_PPI
+core_gives Dxe guid = false
+
+-- the core, which has not done so yet, in front of modules
+abbrev pub with_core : List (List ℕ) → List (List ℕ)
+with_core words = word_of K.Core ∷ word_of K.Waits ∷ words
+
+-- a dash where there are no words
+abbrev pub or_dash : List (List ℕ) → List (List ℕ)
+or_dash [] = word_of K.Dash ∷ []
+or_dash (word ∷ words) = word ∷ words
+
+-- who may install a GUID that is not there
+abbrev pub lacks_words : List Begun → List OfModule → Phase → Guid → List (List ℕ)
+lacks_words begun modules phase guid =
+    let words = told_words (has_started begun phase) (givers_from phase guid 0 modules) in
+    if core_gives phase guid then with_core words else or_dash words
+
+-- a GUID that is not there, and who may install it; and one that somebody has installed
+abbrev pub lacks_line : List Begun → List OfModule → Phase → ℕ → Guid → List ℕ
+lacks_line begun modules phase number guid = line_of (word_of K.Lacks) (decimal number ∷ guid_text guid ∷ lacks_words begun modules phase guid)
+
+abbrev pub has_line : ℕ → Guid → Giver → List ℕ
+has_line number guid giver = line_of (word_of K.Has) (decimal number ∷ guid_text guid ∷ giver_text giver ∷ [])
+
+-- what an expression asks for
+abbrev pub asked_line : List Begun → List OfModule → Phase → ℕ → Guid → Giver → List ℕ
+asked_line begun modules phase number guid Absent = lacks_line begun modules phase number guid
+asked_line begun modules phase number guid Core = has_line number guid Core
+asked_line begun modules phase number guid (Module by) = has_line number guid (Module by)
+
+abbrev pub need_line : List Begun → List OfModule → Phase → ℕ → Need → List ℕ
+need_line begun modules phase number need = asked_line begun modules phase number need.guid need.giver
+
+-- the GUIDs that would do
+abbrev pub would_lines : ℕ → Option (List Guid) → List ℕ
+would_lines number None = []
+would_lines number (Some guids) = line_of (word_of K.Would) (decimal number ∷ or_dash (map guid_text guids))
+
+-- the lines of a module that waits
+abbrev pub held_lines : List Begun → List OfModule → Held → List ℕ
+held_lines begun modules wait =
+    waits_line wait ++ flat_map (need_line begun modules wait.phase wait.number) wait.needs ++ would_lines wait.number wait.would

@@ -1,0 +1,10 @@
+pub mod Words
+pub mod Givers
+pub mod Flags
+pub mod Context
+pub mod StartLines
+pub mod HeldLines
+pub mod LeftLines
+pub mod EndLines
+pub mod Text
+pub mod Told

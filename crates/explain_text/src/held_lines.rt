@@ -1,0 +1,291 @@
+// The lines of the modules that wait.
+ghost use Rattle.std.specs.Prelude.{◌≡◌, ◌++◌, ◌∷◌, [], ℕ, List, decimal, flat_map, map, OnOk};
+ghost use Rattle.boot_io.specs.Line.{spaced};
+ghost use Rattle.pi_base.specs.WordText.{guid_text};
+ghost use Rattle.catalog_model.specs.declared.catalog.Module.{Module as OfModule};
+ghost use Rattle.boot_reasons.specs.declared.reasons.Begun.{Begun as Start};
+ghost use Rattle.catalog_text.specs.Fronts.{front_of};
+ghost use Rattle.explain_text.specs.declared.keyword.Keyword.TheVariants as K;
+ghost use Rattle.explain_text.specs.Words.{word_of};
+ghost use Rattle.explain_text.specs.Context.{AreContexts, IsContext};
+ghost use Rattle.explain_text.specs.Flags.{flag};
+ghost use Rattle.explain_text.specs.Givers.{Chain};
+ghost use Rattle.explain_text.specs.HeldLines.{core_gives, has_line, held_lines, lacks_line, lacks_words, need_line, or_dash, pair_words, told_words, waits_line, with_core, would_lines};
+
+use crate::context::Context;
+use crate::flags::flag;
+use crate::givers::{Link, link_at};
+use crate::keyword::{Keyword, word_of};
+use crate::start_lines::giver_word;
+use boot_reasons::{Giver, Held, Need};
+use boot_trace::{decimal_word, reason_word};
+use catalog_text::{end_line, phase_word, put_front, put_line, put_word};
+use pi_base::{Guid, MEMORY_PPI, OutOfMemory, Phase, Seq};
+
+/// How many modules a line tells that may install a GUID (own).
+pub const MOST_TOLD: usize = 16;
+
+// Whether the core may install a GUID.
+fn core_gives(phase: Phase, guid: &Guid) -> bool
+    ensures { result ≡ core_gives phase guid.now }
+{
+    match phase {
+        Phase::Pei => guid.0.as_slice() == MEMORY_PPI.0.as_slice(),
+        Phase::Dxe => false,
+    }
+}
+
+// Adds a module and whether it started.
+fn put_pair(out: &mut Seq<u8>, started: &[bool], number: u32) -> Result<(), OutOfMemory>
+    ensures { OnOk result (out.new ≡ out.old ++ flat_map spaced (pair_words (flag started.now) number)) }
+{
+    put_word(out, decimal_word(u64::from(number)).as_slice())?;
+    if flag(started, number) {
+        put_word(out, word_of(Keyword::Started))
+    } else {
+        put_word(out, word_of(Keyword::Waits))
+    }
+}
+
+// Adds modules from a place on, the first of them one by one.
+fn put_told(
+    out: &mut Seq<u8>,
+    started: &[bool],
+    links: &[Link],
+    first: Option<usize>,
+) -> Result<(), OutOfMemory>
+    ensures { (numbers : List ℕ) → Chain links.now first numbers
+        → OnOk result (out.new ≡ out.old ++ flat_map spaced (told_words (flag started.now) numbers)) }
+{
+    let mut place = first;
+    'told: for _ in 0..MOST_TOLD {
+        let Some(link) = link_at(links, place) else {
+            return Ok(());
+        };
+        put_pair(out, started, link.number)?;
+        place = link.next;
+    }
+    match link_at(links, place) {
+        Some(_) => put_word(out, word_of(Keyword::More)),
+        None => Ok(()),
+    }
+}
+
+// Adds the core, which waits, and modules.
+fn put_core(
+    out: &mut Seq<u8>,
+    started: &[bool],
+    links: &[Link],
+    first: Option<usize>,
+) -> Result<(), OutOfMemory>
+    ensures { (numbers : List ℕ) → Chain links.now first numbers
+        → OnOk result (out.new ≡ out.old ++ flat_map spaced (with_core (told_words (flag started.now) numbers))) }
+{
+    put_word(out, word_of(Keyword::Core))?;
+    put_word(out, word_of(Keyword::Waits))?;
+    put_told(out, started, links, first)?;
+    Ok(())
+}
+
+// Adds modules, or a dash where there is none.
+fn put_modules(
+    out: &mut Seq<u8>,
+    started: &[bool],
+    links: &[Link],
+    first: Option<usize>,
+) -> Result<(), OutOfMemory>
+    ensures { (numbers : List ℕ) → Chain links.now first numbers
+        → OnOk result (out.new ≡ out.old ++ flat_map spaced (or_dash (told_words (flag started.now) numbers))) }
+{
+    match link_at(links, first) {
+        None => {
+            put_word(out, word_of(Keyword::Dash))?;
+            Ok(())
+        }
+        Some(_) => {
+            put_told(out, started, links, first)?;
+            Ok(())
+        }
+    }
+}
+
+// Adds who may install a GUID.
+fn put_givers(
+    out: &mut Seq<u8>,
+    context: &Context,
+    phase: Phase,
+    guid: &Guid,
+) -> Result<(), OutOfMemory>
+    ensures { (begun : List Start) (modules : List OfModule) → IsContext begun modules phase context.now
+        → OnOk result (out.new ≡ out.old ++ flat_map spaced (lacks_words begun modules phase guid.now)) }
+{
+    let started = context.started.as_slice();
+    let links = context.givers.links.as_slice();
+    let first = context.givers.first.get(guid);
+    if core_gives(phase, guid) {
+        put_core(out, started, links, first)?;
+        Ok(())
+    } else {
+        put_modules(out, started, links, first)?;
+        Ok(())
+    }
+}
+
+// Adds the front of the line of a GUID that is not there.
+fn put_lacking(out: &mut Seq<u8>, number: u32, guid: &Guid) -> Result<(), OutOfMemory>
+    ensures { OnOk result (out.new
+        ≡ out.old ++ front_of (word_of K.Lacks) (decimal number ∷ guid_text guid.now ∷ [])) }
+{
+    put_front(
+        out,
+        word_of(Keyword::Lacks),
+        &[decimal_word(u64::from(number)).as_slice(), &guid.to_text()],
+    )
+}
+
+// The line of a GUID that is not there.
+fn put_lacks(
+    out: &mut Seq<u8>,
+    context: &Context,
+    phase: Phase,
+    number: u32,
+    guid: &Guid,
+) -> Result<(), OutOfMemory>
+    ensures { (begun : List Start) (modules : List OfModule) → IsContext begun modules phase context.now
+        → OnOk result (out.new ≡ out.old ++ lacks_line begun modules phase number guid.now) }
+{
+    put_lacking(out, number, guid)?;
+    put_givers(out, context, phase, guid)?;
+    end_line(out)?;
+    Ok(())
+}
+
+// The line of a GUID that somebody has installed.
+fn put_has(out: &mut Seq<u8>, number: u32, need: &Need) -> Result<(), OutOfMemory>
+    ensures { OnOk result (out.new ≡ out.old ++ has_line number need.now.guid need.now.giver) }
+{
+    put_line(
+        out,
+        word_of(Keyword::Has),
+        &[
+            decimal_word(u64::from(number)).as_slice(),
+            &need.guid.to_text(),
+            giver_word(need.giver).as_slice(),
+        ],
+    )
+}
+
+// The line of what an expression asks for.
+fn put_need(
+    out: &mut Seq<u8>,
+    context: &Context,
+    phase: Phase,
+    number: u32,
+    need: &Need,
+) -> Result<(), OutOfMemory>
+    ensures { (begun : List Start) (modules : List OfModule) → IsContext begun modules phase context.now
+        → OnOk result (out.new ≡ out.old ++ need_line begun modules phase number need.now) }
+{
+    match need.giver {
+        Giver::Absent => {
+            put_lacks(out, context, phase, number, &need.guid)?;
+            Ok(())
+        }
+        _ => put_has(out, number, need),
+    }
+}
+
+// The lines of what it asks for.
+fn put_needs(
+    out: &mut Seq<u8>,
+    context: &Context,
+    phase: Phase,
+    number: u32,
+    needs: &[Need],
+) -> Result<(), OutOfMemory>
+    ensures { (begun : List Start) (modules : List OfModule) → IsContext begun modules phase context.now
+        → OnOk result (out.new ≡ out.old ++ flat_map (need_line begun modules phase number) needs.now) }
+{
+    'needs: for need in needs {
+        put_need(out, context, phase, number, need)?;
+    }
+    Ok(())
+}
+
+// Adds GUIDs, or a dash where there is none.
+fn put_guids(out: &mut Seq<u8>, guids: &[Guid]) -> Result<(), OutOfMemory>
+    ensures { OnOk result (out.new ≡ out.old ++ flat_map spaced (or_dash (map guid_text guids.now))) }
+{
+    if guids.is_empty() {
+        return put_word(out, word_of(Keyword::Dash));
+    }
+    'guids: for guid in guids {
+        put_word(out, &guid.to_text())?;
+    }
+    Ok(())
+}
+
+// The line of the GUIDs that would do.
+fn put_would(out: &mut Seq<u8>, number: u32, would: &Option<Seq<Guid>>) -> Result<(), OutOfMemory>
+    ensures { OnOk result (out.new ≡ out.old ++ would_lines number would.now) }
+{
+    let Some(guids) = would else {
+        return Ok(());
+    };
+    let number = decimal_word(u64::from(number));
+    put_front(out, word_of(Keyword::Would), &[number.as_slice()])?;
+    put_guids(out, guids.as_slice())?;
+    end_line(out)
+}
+
+// The line of a module that waits.
+fn put_waits(out: &mut Seq<u8>, wait: &Held) -> Result<(), OutOfMemory>
+    ensures { OnOk result (out.new ≡ out.old ++ waits_line wait.now) }
+{
+    put_line(
+        out,
+        word_of(Keyword::Waits),
+        &[
+            decimal_word(u64::from(wait.number)).as_slice(),
+            phase_word(wait.phase),
+            reason_word(wait.reason),
+        ],
+    )
+}
+
+// The lines of a module that waits.
+fn put_held(out: &mut Seq<u8>, context: &Context, wait: &Held) -> Result<(), OutOfMemory>
+    ensures { (begun : List Start) (modules : List OfModule) → IsContext begun modules wait.now.phase context.now
+        → OnOk result (out.new ≡ out.old ++ held_lines begun modules wait.now) }
+{
+    put_waits(out, wait)?;
+    put_needs(out, context, wait.phase, wait.number, wait.needs.as_slice())?;
+    put_would(out, wait.number, &wait.would)
+}
+
+// Those of one that waits in either phase.
+fn put_wait(out: &mut Seq<u8>, pei: &Context, dxe: &Context, wait: &Held) -> Result<(), OutOfMemory>
+    ensures { (begun : List Start) (modules : List OfModule) → AreContexts begun modules pei.now dxe.now
+        → OnOk result (out.new ≡ out.old ++ held_lines begun modules wait.now) }
+{
+    match wait.phase {
+        Phase::Pei => put_held(out, pei, wait),
+        Phase::Dxe => put_held(out, dxe, wait),
+    }
+}
+
+/// The lines of modules that wait.
+pub(crate) fn put_all_held(
+    out: &mut Seq<u8>,
+    pei: &Context,
+    dxe: &Context,
+    held: &[Held],
+) -> Result<(), OutOfMemory>
+    ensures { (begun : List Start) (modules : List OfModule) → AreContexts begun modules pei.now dxe.now
+        → OnOk result (out.new ≡ out.old ++ flat_map (held_lines begun modules) held.now) }
+{
+    'waits: for wait in held {
+        put_wait(out, pei, dxe, wait)?;
+    }
+    Ok(())
+}

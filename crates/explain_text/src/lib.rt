@@ -1,0 +1,17 @@
+//! A boot, explained, as lines: its starts and what each needed, the parts that never started and what they lack, and its end.
+//!
+//! Tried by `scripts/check-tools`.
+#![tactic(auto)]
+
+mod context;
+mod end_lines;
+mod flags;
+mod givers;
+mod held_lines;
+mod keyword;
+mod left_lines;
+mod start_lines;
+mod text;
+
+pub use held_lines::MOST_TOLD;
+pub use text::put_explained;

@@ -1,0 +1,100 @@
+// The text of an explained boot.
+ghost use Rattle.std.specs.Prelude.{◌≡◌, ◌≤◌, ◌++◌, List, flat_map, length, IfOk, OnOk};
+ghost use Rattle.catalog_model.specs.declared.limits.TheConstants.{MOST_MODULES};
+ghost use Rattle.explain_text.specs.HeldLines.{held_lines};
+ghost use Rattle.explain_text.specs.LeftLines.{left_lines};
+ghost use Rattle.explain_text.specs.Text.{explained_text, is_told};
+ghost use Rattle.explain_text.specs.Told.{AreTold, known_in};
+
+use crate::context::context_of;
+use crate::end_lines::put_end;
+use crate::flags::{add_held, started};
+use crate::held_lines::put_all_held;
+use crate::left_lines::put_left;
+use crate::start_lines::put_starts;
+use boot_reasons::Explained;
+use catalog_model::{Catalog, Module};
+use pi_base::{OutOfMemory, Phase, Seq};
+use std::alloc::Global;
+
+// The lines of the modules that wait.
+fn put_waiting(
+    alloc: Global,
+    out: &mut Seq<u8>,
+    modules: &[Module],
+    explained: &Explained,
+) -> Result<(), OutOfMemory>
+    requires { length modules.now ≤ MOST_MODULES }
+    ensures { OnOk result (out.new ≡ out.old ++ flat_map (held_lines explained.now.begun modules.now) explained.now.held) }
+{
+    let begun = explained.begun.as_slice();
+    let pei = context_of(alloc, begun, modules, Phase::Pei)?;
+    let dxe = context_of(alloc, begun, modules, Phase::Dxe)?;
+    put_all_held(out, &pei, &dxe, explained.held.as_slice())?;
+    Ok(())
+}
+
+// The modules that started in a phase or wait at its end.
+fn told(
+    alloc: Global,
+    explained: &Explained,
+    phase: Phase,
+    count: usize,
+) -> Result<Seq<bool>, OutOfMemory>
+    ensures { IfOk result (AreTold explained.now phase count) }
+{
+    let mut flags = started(alloc, explained.begun.as_slice(), phase, count)?;
+    add_held(&mut flags, explained.held.as_slice(), phase);
+    Ok(flags)
+}
+
+// The volumes that a phase knew.
+fn known_in(explained: &Explained, phase: Phase) -> &[u32]
+    ensures { result.now ≡ known_in explained.now phase }
+{
+    match phase {
+        Phase::Pei => explained.reported.as_slice(),
+        Phase::Dxe => explained.discovered.as_slice(),
+    }
+}
+
+// The lines of the parts of a phase that neither started nor wait.
+fn put_rest(
+    alloc: Global,
+    out: &mut Seq<u8>,
+    modules: &[Module],
+    explained: &Explained,
+    phase: Phase,
+) -> Result<(), OutOfMemory>
+    requires { length modules.now ≤ MOST_MODULES }
+    ensures { OnOk result (out.new
+        ≡ out.old ++ left_lines phase (is_told explained.now phase) (known_in explained.now phase) 0 modules.now) }
+{
+    let told = told(alloc, explained, phase, modules.len())?;
+    put_left(
+        out,
+        phase,
+        told.as_slice(),
+        known_in(explained, phase),
+        modules,
+    )?;
+    Ok(())
+}
+
+/// Adds the lines of an explained boot of a catalogue.
+pub fn put_explained(
+    alloc: Global,
+    out: &mut Seq<u8>,
+    catalog: &Catalog,
+    explained: &Explained,
+) -> Result<(), OutOfMemory>
+    requires { length catalog.now.modules ≤ MOST_MODULES }
+    ensures { OnOk result (out.new ≡ out.old ++ explained_text catalog.now.modules explained.now) }
+{
+    let modules = catalog.modules.as_slice();
+    put_starts(out, explained.begun.as_slice())?;
+    put_waiting(alloc, out, modules, explained)?;
+    put_rest(alloc, out, modules, explained, Phase::Pei)?;
+    put_rest(alloc, out, modules, explained, Phase::Dxe)?;
+    put_end(out, explained)
+}
