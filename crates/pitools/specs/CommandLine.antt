@@ -35,6 +35,10 @@ AskForFollow words plan order = (words ≡ codes "follow" ∷ plan ∷ order ∷
 abbrev pub AskForHobs : List (List ℕ) → List ℕ → Type 0
 AskForHobs words plan = (words ≡ codes "hobs" ∷ plan ∷ []) × (plan ≢ [])
 
+-- the words ask why each module of a plan's boot started, or why it never did
+abbrev pub AskForExplanation : List (List ℕ) → List ℕ → Type 0
+AskForExplanation words plan = (words ≡ codes "explain" ∷ plan ∷ []) × (plan ≢ [])
+
 -- the words ask for nothing that there is
 pub record AskForNothing (words : List (List ℕ)) : Type 0 where
   pub no_tool : (tool : Tool) (file : List ℕ) → AskForTool words tool file → ⊥
@@ -42,3 +46,4 @@ pub record AskForNothing (words : List (List ℕ)) : Type 0 where
   pub no_check : (plan trace : List ℕ) → AskForCheck words plan trace → ⊥
   pub no_follow : (plan order : List ℕ) → AskForFollow words plan order → ⊥
   pub no_hobs : (plan : List ℕ) → AskForHobs words plan → ⊥
+  pub no_explanation : (plan : List ℕ) → AskForExplanation words plan → ⊥

@@ -8,6 +8,7 @@ pub mod GcdReport
 pub mod MpReport
 pub mod JobOutcome
 pub mod CheckReport
+pub mod ExplainReport
 pub mod HobsReport
 pub mod FollowReport
 pub mod TextReport

@@ -6,12 +6,17 @@ use Rattle.pitools.specs.declared.command_line.Tool.{Tool}
 use Rattle.pitools.specs.declared.command_line.Tool.TheVariants.{AssembleDepex, AssembleScript, ReadPei, ReadDxe, ReadScript, Mp, Volume, ReadVolume}
 use Rattle.pitools.specs.declared.status.ToolStatus.{ToolStatus}
 use Rattle.pitools.specs.declared.status.ToolStatus.TheVariants.{Usage}
+<<<<<<< ours
 use Rattle.pitools.specs.CommandLine.{AskForCheck, AskForFollow, AskForHobs, AskForMap, AskForNothing, AskForTool}
+=======
+use Rattle.pitools.specs.CommandLine.{AskForCheck, AskForExplanation, AskForHobs, AskForMap, AskForNothing, AskForTool}
+>>>>>>> theirs
 use Rattle.pitools.specs.FileReading.{IsRead, LongOutcome}
 use Rattle.pitools.specs.Refusals.{usage_line}
 use Rattle.pitools.specs.CheckReport.{CheckNames, CheckOutcome}
 use Rattle.pitools.specs.FollowReport.{FollowNames, FollowOutcome}
 use Rattle.pitools.specs.HobsReport.{HobsNames, HobsOutcome}
+use Rattle.pitools.specs.ExplainReport.{ExplainNames, ExplainOutcome}
 use Rattle.pitools.specs.GcdReport.{GcdReport}
 use Rattle.pitools.specs.MpReport.{MpReport}
 use Rattle.pitools.specs.PrintReport.{PrintReport}
@@ -70,6 +75,7 @@ pub data Outcome (told : List ℕ → Option (List ℕ)) (words : List (List ℕ
   words_ask_check : (plan trace : List ℕ) → AskForCheck words plan trace → CheckOutcome told plan trace status text → Outcome told words status text
   words_ask_follow : (plan order : List ℕ) → AskForFollow words plan order → FollowOutcome told plan order status text → Outcome told words status text
   words_ask_hobs : (plan : List ℕ) → AskForHobs words plan → HobsOutcome told plan status text → Outcome told words status text
+  words_ask_explanation : (plan : List ℕ) → AskForExplanation words plan → ExplainOutcome told plan status text → Outcome told words status text
   words_ask_tool : (tool : Tool) (file : List ℕ) → AskForTool words tool file → ToolOutcome (told file) tool file status text → Outcome told words status text
 
 -- a name of a file to which the reading comes: the words give it, and those before it are read
@@ -81,4 +87,5 @@ pub data Names (told : List ℕ → Option (List ℕ)) (words : List (List ℕ))
   of_check : (plan trace : List ℕ) → AskForCheck words plan trace → CheckNames told plan trace name → Names told words name
   of_follow : (plan order : List ℕ) → AskForFollow words plan order → FollowNames told plan order name → Names told words name
   of_hobs : (plan : List ℕ) → AskForHobs words plan → HobsNames told plan name → Names told words name
+  of_explanation : (plan : List ℕ) → AskForExplanation words plan → ExplainNames told plan name → Names told words name
   of_tool : (tool : Tool) (file : List ℕ) → AskForTool words tool file → name ≡ file → Names told words name

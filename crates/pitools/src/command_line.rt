@@ -1,7 +1,11 @@
 // The words of a command line.
 ghost use Rattle.std.specs.Prelude.{◌≡◌, ◌↔◌, ℕ, List, [], ◌∷◌, codes, IfSome, IfNone, IsTrue};
 ghost use Rattle.pitools.specs.declared.command_line.Tool.{Tool};
+<<<<<<< ours
 ghost use Rattle.pitools.specs.CommandLine.{tool_words, AskForTool, AskForMap, AskForCheck, AskForFollow, AskForHobs};
+=======
+ghost use Rattle.pitools.specs.CommandLine.{tool_words, AskForTool, AskForMap, AskForCheck, AskForExplanation, AskForHobs};
+>>>>>>> theirs
 ghost use Rattle.boot_io.specs.Words.{words_of};
 
 /// A tool of one file.
@@ -143,6 +147,34 @@ fn asks_for_hobs(verb: &str) -> bool
     ensures { IsTrue result ↔ (verb.now ≡ codes "hobs") }
 {
     verb == "hobs"
+}
+
+// Whether a word asks for the explanation of a boot.
+fn asks_for_explanation(verb: &str) -> bool
+    ensures { IsTrue result ↔ (verb.now ≡ codes "explain") }
+{
+    verb == "explain"
+}
+
+/// The name of a plan's file, where the words ask for its boot, explained.
+pub(crate) fn asked_explanation(words: &[String]) -> Option<&str>
+    ensures found { IfSome result (λ plan. AskForExplanation (words_of words.now) plan.now) }
+    ensures none { IfNone result ((plan : List ℕ) → AskForExplanation (words_of words.now) plan → ⊥) }
+{
+    match words {
+        [verb, plan] => {
+            let plan = plan.as_str();
+            if plan.is_empty() {
+                return None;
+            }
+            if asks_for_explanation(verb.as_str()) {
+                Some(plan)
+            } else {
+                None
+            }
+        }
+        _ => None,
+    }
 }
 
 /// The name of a plan's file, where the words ask for the HOB list that its PEI hands on.

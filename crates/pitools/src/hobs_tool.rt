@@ -20,8 +20,8 @@ use pi_base::OutOfMemory;
 use plan_files::{Job, NoJob, PLAN_LIMIT, job_of};
 use std::alloc::Global;
 
-// The report of an image's refusal.
-fn image_report(line: Line) -> Report
+/// The report of an image's refusal.
+pub(crate) fn image_report(line: Line) -> Report
     requires { (fault : OfImage) × (line ≡ L.RefusedImage fault.volume fault.at fault.cause) }
     ensures { (fault : OfImage) → line ≡ L.RefusedImage fault.volume fault.at fault.cause → result ≡ R.Image fault }
 {

@@ -4,8 +4,12 @@
 mod cause_meaning;
 mod check_tool;
 mod command_line;
+<<<<<<< ours
 mod follow_print;
 mod follow_tool;
+=======
+mod explain_tool;
+>>>>>>> theirs
 mod forms;
 mod gcd_tool;
 mod held_text;
