@@ -8,4 +8,5 @@ mod Prints
 mod ToldFiles
 mod OneCheck
 mod OneFollow
+mod OneExplain
 mod OneOutcome

@@ -11,14 +11,15 @@ use Rattle.pitools.specs.declared.command_line.Tool.TheVariants.{AssembleDepex, 
 use Rattle.pitools.specs.declared.status.ToolStatus.{ToolStatus}
 use Rattle.pitools.specs.declared.status.ToolStatus.TheVariants as S
 use Rattle.pitools.specs.CheckReport.{CheckNames, CheckOutcome, TextsOutcome, both_read, is_plan, is_trace, is_volume, plan_long, trace_limit, trace_long}
-use Rattle.pitools.specs.CommandLine.{AskForCheck, AskForFollow, AskForHobs, AskForMap, AskForTool, tool_words}
+use Rattle.pitools.specs.CommandLine.{AskForCheck, AskForExplanation, AskForFollow, AskForHobs, AskForMap, AskForTool, tool_words}
 use Rattle.pitools.specs.Ends.{EndsBy, Ends, IsDue, Kind, OfMemory, OfSink, OfText, Trail, kind_of, outcome, status_after, unread}
 use Rattle.pitools.specs.FollowReport.{FollowNames, FollowOutcome, OrderTextsOutcome, long_order, long_plan, names_order, names_plan, names_volume, order_limit, texts_read}
 use Rattle.pitools.specs.GcdReport.{GcdReport}
 use Rattle.pitools.specs.HobsReport.{HobsNames, HobsOutcome, HobsReport, plan_read, too_long, of_plan, of_volume}
+use Rattle.pitools.specs.ExplainReport.{ExplainNames, ExplainOutcome, ExplainReport, names_a_volume, names_the_plan, over_long, text_read}
 use Rattle.pitools.specs.JobOutcome.{JobOutcome}
 use Rattle.pitools.specs.OneOutcome.{AnswersExactly, AreAllTold, AreTold, IsOne, IsStoppedBy, IsToldAsBytes}
-use Rattle.pitools.specs.Outcome.{ContentReport, MapNames, MapOutcome, Names, Outcome, ToolOutcome, both, commands_limit, commands_long, content, file_limit, hobs_long, limit_of, long, of_check, of_follow, of_hobs, of_map, of_tool, usage, words_ask_check, words_ask_follow, words_ask_hobs, words_ask_map, words_ask_tool}
+use Rattle.pitools.specs.Outcome.{ContentReport, MapNames, MapOutcome, Names, Outcome, ToolOutcome, both, commands_limit, commands_long, content, file_limit, hobs_long, limit_of, long, of_check, of_explanation, of_follow, of_hobs, of_map, of_tool, usage, words_ask_check, words_ask_explanation, words_ask_follow, words_ask_hobs, words_ask_map, words_ask_tool}
 use Rattle.pitools.proofs.ToldFiles.{one_content, one_long, told_bytes, within_or_over}
 
 -- the laws of the tools: what is read leads to one report
@@ -26,6 +27,7 @@ pub record Laws : Type 0 where
   pub maps : (bytes lines : List ℕ) → IsOne (GcdReport bytes lines)
   pub contents : (tool : Tool) (content : List ℕ) → AreBytes content → IsOne (ContentReport tool content)
   pub hobs : (told : List ℕ → Option (List ℕ)) (content : List ℕ) → AreAllTold told (IsNamedIn told content) → IsOne (JobOutcome HobsReport told content)
+  pub explains : (told : List ℕ → Option (List ℕ)) (content : List ℕ) → AreAllTold told (IsNamedIn told content) → IsOne (JobOutcome ExplainReport told content)
   pub checks : (told : List ℕ → Option (List ℕ)) (content text : List ℕ) → AreAllTold told (IsNamedIn told content) → IsOne (TextsOutcome told content text)
   pub follows : (told : List ℕ → Option (List ℕ)) (content text : List ℕ) → length text ≤ order_limit → AreAllTold told (IsNamedIn told content) → IsOne (OrderTextsOutcome told content text)
 
@@ -87,6 +89,24 @@ follow_or_tool words plan order Mp file p q = let e = ap first (sym p.0 ∙ q.0)
 follow_or_tool words plan order Volume file p q = let e = ap first (sym p.0 ∙ q.0) in omega (arith, e)
 follow_or_tool words plan order ReadVolume file p q = let e = ap first (sym p.0 ∙ q.0) in omega (arith, e)
 follow_or_tool words plan order tool file p q = let e = ap first (sym p.0 ∙ q.0) in omega (arith, e)
+
+explain_or_map : (words : List (List ℕ)) (plan hobs commands : List ℕ) → AskForExplanation words plan → AskForMap words hobs commands → ⊥
+explain_or_map words plan hobs commands p q = let e = ap first (sym p.0 ∙ q.0) in omega (arith, e)
+
+explain_or_check : (words : List (List ℕ)) (plan other trace : List ℕ) → AskForExplanation words plan → AskForCheck words other trace → ⊥
+explain_or_check words plan other trace p q = let e = ap first (sym p.0 ∙ q.0) in omega (arith, e)
+
+explain_or_follow : (words : List (List ℕ)) (plan other order : List ℕ) → AskForExplanation words plan → AskForFollow words other order → ⊥
+explain_or_follow words plan other order p q = let e = ap first (sym p.0 ∙ q.0) in omega (arith, e)
+
+explain_or_hobs : (words : List (List ℕ)) (plan other : List ℕ) → AskForExplanation words plan → AskForHobs words other → ⊥
+explain_or_hobs words plan other p q = let e = ap first (sym p.0 ∙ q.0) in omega (arith, e)
+
+explain_or_tool : (words : List (List ℕ)) (plan : List ℕ) (tool : Tool) (file : List ℕ) → AskForExplanation words plan → AskForTool words tool file → ⊥
+explain_or_tool words plan Mp file p q = let e = ap first (sym p.0 ∙ q.0) in omega (arith, e)
+explain_or_tool words plan Volume file p q = let e = ap first (sym p.0 ∙ q.0) in omega (arith, e)
+explain_or_tool words plan ReadVolume file p q = let e = ap first (sym p.0 ∙ q.0) in omega (arith, e)
+explain_or_tool words plan tool file p q = let e = ap first (sym p.0 ∙ q.0) in omega (arith, e)
 
 abbrev tool_in : List (List ℕ) → Tool
 tool_in words =
@@ -199,6 +219,16 @@ one_of_hobs laws told plan all a b s t (plan_read c p o) (plan_read d q u) =
     let P : List ℕ → Type 0 = λ x. JobOutcome HobsReport told x b t in
     laws.hobs told c (λ name named. all name (of_volume c p named)) a b s t o (subst P contents u)
 
+-- and that of a plan whose boot is explained
+one_of_explanation : Laws → (told : List ℕ → Option (List ℕ)) (plan : List ℕ) → AreAllTold told (ExplainNames told plan) → IsOne (ExplainOutcome told plan)
+one_of_explanation laws told plan all a b s t (over_long p) (over_long q) = one_long (told plan) plan_limit plan a b s t p q
+one_of_explanation laws told plan all a b s t (over_long p) (text_read d q o) = absurd (within_or_over (told plan) plan_limit (all plan (names_the_plan refl)) p.content d p.long q)
+one_of_explanation laws told plan all a b s t (text_read c p o) (over_long q) = absurd (within_or_over (told plan) plan_limit (all plan (names_the_plan refl)) q.content c q.long p)
+one_of_explanation laws told plan all a b s t (text_read c p o) (text_read d q u) =
+    let contents : d ≡ c = one_content (told plan) (all plan (names_the_plan refl)) d c q.as_told p.as_told in
+    let P : List ℕ → Type 0 = λ x. JobOutcome ExplainReport told x b t in
+    laws.explains told c (λ name named. all name (names_a_volume c p named)) a b s t o (subst P contents u)
+
 abbrev second : List (List ℕ) → List ℕ
 second words = head (rest words)
 
@@ -242,6 +272,21 @@ one_outcome laws told words all a b s t (words_ask_follow plan order p o) (words
     let Q : List ℕ → Type 0 = λ x. FollowOutcome told plan x b t in
     let here = subst Q (ap third (sym q.0 ∙ p.0)) (subst P (ap second (sym q.0 ∙ p.0)) u) in
     one_of_follow laws told plan order (λ name named. all name (of_follow plan order p named)) a b s t o here
+one_outcome laws told words all a b s t (usage none e u) (words_ask_explanation plan q o) = absurd (none.no_explanation plan q)
+one_outcome laws told words all a b s t (words_ask_explanation plan p o) (usage none f v) = absurd (none.no_explanation plan p)
+one_outcome laws told words all a b s t (words_ask_explanation plan p o) (words_ask_map hobs commands q u) = absurd (explain_or_map words plan hobs commands p q)
+one_outcome laws told words all a b s t (words_ask_explanation plan p o) (words_ask_check other trace q u) = absurd (explain_or_check words plan other trace p q)
+one_outcome laws told words all a b s t (words_ask_explanation plan p o) (words_ask_follow other order q u) = absurd (explain_or_follow words plan other order p q)
+one_outcome laws told words all a b s t (words_ask_explanation plan p o) (words_ask_hobs other q u) = absurd (explain_or_hobs words plan other p q)
+one_outcome laws told words all a b s t (words_ask_explanation plan p o) (words_ask_tool tool file q u) = absurd (explain_or_tool words plan tool file p q)
+one_outcome laws told words all a b s t (words_ask_map hobs commands p o) (words_ask_explanation plan q u) = absurd (explain_or_map words plan hobs commands q p)
+one_outcome laws told words all a b s t (words_ask_check other trace p o) (words_ask_explanation plan q u) = absurd (explain_or_check words plan other trace q p)
+one_outcome laws told words all a b s t (words_ask_follow other order p o) (words_ask_explanation plan q u) = absurd (explain_or_follow words plan other order q p)
+one_outcome laws told words all a b s t (words_ask_hobs other p o) (words_ask_explanation plan q u) = absurd (explain_or_hobs words plan other q p)
+one_outcome laws told words all a b s t (words_ask_tool tool file p o) (words_ask_explanation plan q u) = absurd (explain_or_tool words plan tool file q p)
+one_outcome laws told words all a b s t (words_ask_explanation plan p o) (words_ask_explanation other q u) =
+    let P : List ℕ → Type 0 = λ x. ExplainOutcome told x b t in
+    one_of_explanation laws told plan (λ name named. all name (of_explanation plan p named)) a b s t o (subst P (ap second (sym q.0 ∙ p.0)) u)
 one_outcome laws told words all a b s t (words_ask_hobs plan p o) (words_ask_hobs other q u) =
     let P : List ℕ → Type 0 = λ x. HobsOutcome told x b t in
     one_of_hobs laws told plan (λ name named. all name (of_hobs plan p named)) a b s t o (subst P (ap second (sym q.0 ∙ p.0)) u)

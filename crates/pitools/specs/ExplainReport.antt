@@ -30,7 +30,7 @@ pub record IsExplanation (plan : Plan) (images : List (List ℕ)) (catalog : Cat
 -- what a plan and its images lead to
 pub data ExplainReport (plan : Plan) (images : List (List ℕ)) (status : ToolStatus) (out : List ℕ) : Type 0 where
   faulty_image : (fault : ImageFault) → IsImageFault plan images fault → status ≡ ImageRefused → out ≡ image_line fault → ExplainReport plan images status out
-  told : (catalog : Catalog) → IsCatalogue plan images catalog → IsExplanation plan images catalog out → status ≡ Done → ExplainReport plan images status out
+  explained_so : (catalog : Catalog) → IsCatalogue plan images catalog → IsExplanation plan images catalog out → status ≡ Done → ExplainReport plan images status out
 
 -- what the file of a plan leads to
 pub data ExplainOutcome (told : List ℕ → Option (List ℕ)) (plan : List ℕ) (status : ToolStatus) (out : List ℕ) : Type 0 where
@@ -39,5 +39,5 @@ pub data ExplainOutcome (told : List ℕ → Option (List ℕ)) (plan : List ℕ
 
 -- a name of a file to which the reading comes: the plan's, and then those of the volumes
 pub data ExplainNames (told : List ℕ → Option (List ℕ)) (plan name : List ℕ) : Type 0 where
-  names_plan : name ≡ plan → ExplainNames told plan name
-  names_volume : (content : List ℕ) → IsRead (told plan) plan_limit content → IsNamedIn told content name → ExplainNames told plan name
+  names_the_plan : name ≡ plan → ExplainNames told plan name
+  names_a_volume : (content : List ℕ) → IsRead (told plan) plan_limit content → IsNamedIn told content name → ExplainNames told plan name

@@ -5,6 +5,7 @@ ghost use Rattle.plan_files.specs.Job.{IsNamedIn};
 ghost use Rattle.pitools.specs.declared.command_line.Tool.{Tool};
 ghost use Rattle.pitools.specs.CheckReport.{TextsOutcome};
 ghost use Rattle.pitools.specs.FollowReport.{OrderTextsOutcome, order_limit};
+ghost use Rattle.pitools.specs.ExplainReport.{ExplainReport};
 ghost use Rattle.pitools.specs.HobsReport.{HobsReport};
 ghost use Rattle.pitools.specs.JobOutcome.{JobOutcome};
 ghost use Rattle.pitools.specs.GcdReport.{GcdReport};
@@ -65,6 +66,17 @@ pub(crate) fn one_hobs_report()
     catalog_model::one_catalogue();
 }
 
+/// The text of a plan whose boot is explained leads to one report, where the files of the plan's volumes are told.
+pub(crate) fn one_explain_report()
+    ensures { (told : List ℕ → Option (List ℕ)) (content : List ℕ) → AreAllTold told (IsNamedIn told content)
+        → IsOne (JobOutcome ExplainReport told content) }
+{
+    boot_plan::one_reading();
+    catalog_model::one_catalogue();
+    catalog_text::one_catalog_text();
+    boot_reasons::one_explanation();
+}
+
 /// Words and told files have one outcome: one status, and one text.
 pub fn one_outcome()
     ensures { (told : List ℕ → Option (List ℕ)) (words : List (List ℕ)) → AreTold told words → IsOne (Outcome told words) }
@@ -72,6 +84,7 @@ pub fn one_outcome()
     one_map_report();
     one_content_report();
     one_hobs_report();
+    one_explain_report();
     one_check_report();
     one_follow_report();
 }

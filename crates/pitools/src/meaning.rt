@@ -40,7 +40,12 @@ fn tell_usage(rt: &HostRuntime, words: &[String]) {
             let verb = verb.as_str();
             let fault = if verb == "check" || verb == "follow" || verb == "gcd" {
                 "takes the names of two files behind it"
-            } else if verb == "mp" || verb == "hobs" || verb == "explain" || verb == "volume" || verb == "text" {
+            } else if verb == "mp"
+                || verb == "hobs"
+                || verb == "explain"
+                || verb == "volume"
+                || verb == "text"
+            {
                 "takes the name of a file behind it"
             } else if verb == "asm" {
                 "takes depex or script behind it, and the name of a file"

@@ -7,6 +7,7 @@ returns c =
       maps = c.one_map_report.ensures;
       contents = c.one_content_report.ensures;
       hobs = c.one_hobs_report.ensures;
+      explains = c.one_explain_report.ensures;
       checks = c.one_check_report.ensures;
       follows = c.one_follow_report.ensures;
     } in

@@ -2,8 +2,9 @@ use Rattle.std.proofs.Common.{◌≡◌}
 use Rattle.boot_io.specs.Words.{words_of}
 use Rattle.pitools.specs.CheckReport.{CheckNames, CheckOutcome}
 use Rattle.pitools.specs.FollowReport.{FollowNames, FollowOutcome}
+use Rattle.pitools.specs.ExplainReport.{ExplainNames, ExplainOutcome}
 use Rattle.pitools.specs.HobsReport.{HobsNames, HobsOutcome}
-use Rattle.pitools.specs.Outcome.{MapNames, MapOutcome, Names, Outcome, ToolOutcome, of_check, of_follow, of_hobs, of_map, of_tool, words_ask_check, words_ask_follow, words_ask_hobs, words_ask_map, words_ask_tool}
+use Rattle.pitools.specs.Outcome.{MapNames, MapOutcome, Names, Outcome, ToolOutcome, of_check, of_explanation, of_follow, of_hobs, of_map, of_tool, words_ask_check, words_ask_explanation, words_ask_follow, words_ask_hobs, words_ask_map, words_ask_tool}
 use Rattle.pitools.proofs.Ending.{reports_ok}
 use Rattle.pitools.proofs.tools.with_words.Goals as goal
 
@@ -60,3 +61,13 @@ returns-in-Some-asked_hobs-clause-report g c =
     reports_ok c.with_hobs.result (HobsOutcome told plan) (Outcome told words) (HobsNames told plan) (Names told words)
     (record { before = F c.args.files.now; now = F c.with_hobs.new.files; missed = g.F.Files.missed c.with_hobs.new.files })
     (λ s t o. words_ask_hobs plan c.in-Some-asked_hobs.ensures.found o) (λ n m. of_hobs plan c.in-Some-asked_hobs.ensures.found m) c.with_hobs.ensures.report
+
+pub returns-in-Some-asked_explanation-clause-report : goal.returns-in-Some-asked_explanation-clause-report
+returns-in-Some-asked_explanation-clause-report g c =
+    let F = g.F.Files.faults in
+    let told = g.F.Files.told c.args.files.now in
+    let words = words_of c.args.words.now in
+    let plan = c.in-Some-asked_explanation.plan.now in
+    reports_ok c.with_explain.result (ExplainOutcome told plan) (Outcome told words) (ExplainNames told plan) (Names told words)
+    (record { before = F c.args.files.now; now = F c.with_explain.new.files; missed = g.F.Files.missed c.with_explain.new.files })
+    (λ s t o. words_ask_explanation plan c.in-Some-asked_explanation.ensures.found o) (λ n m. of_explanation plan c.in-Some-asked_explanation.ensures.found m) c.with_explain.ensures.report
