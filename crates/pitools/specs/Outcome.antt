@@ -6,11 +6,7 @@ use Rattle.pitools.specs.declared.command_line.Tool.{Tool}
 use Rattle.pitools.specs.declared.command_line.Tool.TheVariants.{AssembleDepex, AssembleScript, ReadPei, ReadDxe, ReadScript, Mp, Volume, ReadVolume}
 use Rattle.pitools.specs.declared.status.ToolStatus.{ToolStatus}
 use Rattle.pitools.specs.declared.status.ToolStatus.TheVariants.{Usage}
-<<<<<<< ours
-use Rattle.pitools.specs.CommandLine.{AskForCheck, AskForFollow, AskForHobs, AskForMap, AskForNothing, AskForTool}
-=======
-use Rattle.pitools.specs.CommandLine.{AskForCheck, AskForExplanation, AskForHobs, AskForMap, AskForNothing, AskForTool}
->>>>>>> theirs
+use Rattle.pitools.specs.CommandLine.{AskForCheck, AskForExplanation, AskForFollow, AskForHobs, AskForMap, AskForNothing, AskForTool}
 use Rattle.pitools.specs.FileReading.{IsRead, LongOutcome}
 use Rattle.pitools.specs.Refusals.{usage_line}
 use Rattle.pitools.specs.CheckReport.{CheckNames, CheckOutcome}

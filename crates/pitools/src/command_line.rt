@@ -1,11 +1,7 @@
 // The words of a command line.
 ghost use Rattle.std.specs.Prelude.{◌≡◌, ◌↔◌, ℕ, List, [], ◌∷◌, codes, IfSome, IfNone, IsTrue};
 ghost use Rattle.pitools.specs.declared.command_line.Tool.{Tool};
-<<<<<<< ours
-ghost use Rattle.pitools.specs.CommandLine.{tool_words, AskForTool, AskForMap, AskForCheck, AskForFollow, AskForHobs};
-=======
-ghost use Rattle.pitools.specs.CommandLine.{tool_words, AskForTool, AskForMap, AskForCheck, AskForExplanation, AskForHobs};
->>>>>>> theirs
+ghost use Rattle.pitools.specs.CommandLine.{tool_words, AskForTool, AskForMap, AskForCheck, AskForExplanation, AskForFollow, AskForHobs};
 ghost use Rattle.boot_io.specs.Words.{words_of};
 
 /// A tool of one file.

@@ -4,12 +4,9 @@
 mod cause_meaning;
 mod check_tool;
 mod command_line;
-<<<<<<< ours
+mod explain_tool;
 mod follow_print;
 mod follow_tool;
-=======
-mod explain_tool;
->>>>>>> theirs
 mod forms;
 mod gcd_tool;
 mod held_text;

@@ -18,11 +18,7 @@ const SHOWN_LIMIT: usize = 0x400_0000;
 const SHOWN_LEN: usize = 60;
 
 const USAGE: &str =
-<<<<<<< ours
-    "usage: pitools check PLAN TRACE | pitools follow PLAN ORDER | pitools hobs PLAN | pitools gcd HOBS COMMANDS | pitools mp FILE | pitools volume TEXT | pitools text VOLUME | pitools asm depex|script FILE | pitools dis pei|dxe|script FILE";
-=======
-    "usage: pitools check PLAN TRACE | pitools hobs PLAN | pitools explain PLAN | pitools gcd HOBS COMMANDS | pitools mp FILE | pitools volume TEXT | pitools text VOLUME | pitools asm depex|script FILE | pitools dis pei|dxe|script FILE";
->>>>>>> theirs
+    "usage: pitools check PLAN TRACE | pitools follow PLAN ORDER | pitools hobs PLAN | pitools explain PLAN | pitools gcd HOBS COMMANDS | pitools mp FILE | pitools volume TEXT | pitools text VOLUME | pitools asm depex|script FILE | pitools dis pei|dxe|script FILE";
 
 // The word behind so many words.
 fn word_at(words: &[String], place: usize) -> &str {

@@ -9,13 +9,11 @@ ghost use Rattle.pitools.specs.OneOutcome.{AnswersExactly};
 ghost use Rattle.pitools.specs.Outcome.{limit_of, MapNames, MapOutcome, Names, Outcome, ToolOutcome};
 
 use crate::check_tool::with_check;
-<<<<<<< ours
-use crate::command_line::{Tool, asked_check, asked_follow, asked_hobs, asked_map, asked_tool};
-use crate::follow_tool::with_follow;
-=======
-use crate::command_line::{Tool, asked_check, asked_explanation, asked_hobs, asked_map, asked_tool};
+use crate::command_line::{
+    Tool, asked_check, asked_explanation, asked_follow, asked_hobs, asked_map, asked_tool,
+};
 use crate::explain_tool::with_explain;
->>>>>>> theirs
+use crate::follow_tool::with_follow;
 use crate::gcd_tool::map_report;
 use crate::hobs_tool::with_hobs;
 use crate::laws::one_outcome;
@@ -158,11 +156,7 @@ fn run_words<F: Files, S: Sink>(
     }
 }
 
-<<<<<<< ours
-/// Does what the words of a command line ask for: `check PLAN TRACE`, `follow PLAN ORDER`, `hobs PLAN`, `gcd HOBS COMMANDS`, `mp FILE`, `volume TEXT`, `text VOLUME`, `asm depex FILE`, `asm script FILE`, `dis pei FILE`,
-=======
-/// Does what the words of a command line ask for: `check PLAN TRACE`, `hobs PLAN`, `explain PLAN`, `gcd HOBS COMMANDS`, `mp FILE`, `volume TEXT`, `text VOLUME`, `asm depex FILE`, `asm script FILE`, `dis pei FILE`,
->>>>>>> theirs
+/// Does what the words of a command line ask for: `check PLAN TRACE`, `follow PLAN ORDER`, `hobs PLAN`, `explain PLAN`, `gcd HOBS COMMANDS`, `mp FILE`, `volume TEXT`, `text VOLUME`, `asm depex FILE`, `asm script FILE`, `dis pei FILE`,
 /// `dis dxe FILE` or `dis script FILE`. The files that the words name are read in their order before any is examined, those of a plan's volumes behind the plan's examination, and all is decided before anything is put.
 pub fn tools_main<F: Files, S: Sink>(
     alloc: Global,
