@@ -1,0 +1,356 @@
+"""What the programs tell of one boot, as data: the lines of `pitools explain`, the trace of `piboot boot`, and the map of `pitools gcd`.
+
+`report` stands on it. It reads printed lines alone (docs/EXPLAIN.md, docs/FORMATS.md), and no volume and no plan.
+"""
+import re
+from collections import Counter
+from collections.abc import Iterator
+from dataclasses import dataclass, field
+
+GUID = re.compile(r"[0-9a-f]{8}(?:-[0-9a-f]{4}){3}-[0-9a-f]{12}")
+ESCAPED = re.compile(r"\\u([0-9a-f]{4})")
+CORE, NOBODY = "core", "-"
+PHASES = ("pei", "dxe")
+MEMORY_PPI = "f894643d-c449-42d1-8ea8-85bdd8c65bde"
+
+# Those of the PI specification that the machine itself asks for, by EDK2's names.
+KNOWN = {
+    "8c8ce578-8a3d-4f1c-9935-896185c32dd3": "gEfiFirmwareFileSystem2Guid",
+    "5473c07a-3dcb-4dca-bd6f-1e9689e7349a": "gEfiFirmwareFileSystem3Guid",
+    "1b45cc0a-156a-428a-af62-49864da0e6e6": "gPeiAprioriFileNameGuid",
+    "fc510ee7-ffdc-11d4-bd41-0080c73c8881": "gAprioriGuid",
+    "49edb1c1-bf21-4761-bb12-eb0031aabb39": "gEfiPeiFirmwareVolumeInfoPpiGuid",
+    MEMORY_PPI: "gEfiPeiMemoryDiscoveredPpiGuid",
+    "0ae8ce5d-e448-4437-a8d7-ebf5f194f731": "gEfiDxeIplPpiGuid",
+}
+ARCHITECTURAL = {
+    "a46423e3-4617-49f1-b9ff-d1bfa9115839": "gEfiSecurityArchProtocolGuid",
+    "26baccb1-6f42-11d4-bce7-0080c73c8881": "gEfiCpuArchProtocolGuid",
+    "26baccb2-6f42-11d4-bce7-0080c73c8881": "gEfiMetronomeArchProtocolGuid",
+    "26baccb3-6f42-11d4-bce7-0080c73c8881": "gEfiTimerArchProtocolGuid",
+    "665e3ff6-46cc-11d4-9a38-0090273fc14d": "gEfiBdsArchProtocolGuid",
+    "665e3ff5-46cc-11d4-9a38-0090273fc14d": "gEfiWatchdogTimerArchProtocolGuid",
+    "b7dfb4e1-052f-449f-87be-9818fc91b733": "gEfiRuntimeArchProtocolGuid",
+    "1e5668e2-8481-11d4-bcf1-0080c73c8881": "gEfiVariableArchProtocolGuid",
+    "6441f818-6362-4e44-b570-7dba31dd2453": "gEfiVariableWriteArchProtocolGuid",
+    "5053697e-2cbc-4819-90d9-0580deee5754": "gEfiCapsuleArchProtocolGuid",
+    "1da97072-bddc-4b30-99f1-72a0b56fff2a": "gEfiMonotonicCounterArchProtocolGuid",
+    "27cfac88-46cc-11d4-9a38-0090273fc14d": "gEfiResetArchProtocolGuid",
+    "27cfac87-46cc-11d4-9a38-0090273fc14d": "gEfiRealTimeClockArchProtocolGuid",
+}
+
+
+@dataclass
+class Module:
+    """A module of the catalogue. What it gives is what its script may install, by phase, in order of first mention."""
+    number: int
+    volume: int
+    guid: str
+    kind: str
+    name: str
+    expressions: dict[str, str] = field(default_factory=dict)
+    gives: dict[str, list[str]] = field(default_factory=dict)
+
+    def label(self) -> str:
+        """What a person calls it."""
+        return self.guid if self.name == "-" else self.name
+
+
+@dataclass
+class Notification:
+    """A notification that ran: the line at which it began, its kind, the module that registered it, and what it was registered for."""
+    line: int
+    kind: str
+    module: int | None
+    guid: str
+
+
+@dataclass
+class Start:
+    """A start: its place in the boot from 1, why it came, what its expression pushes with who had installed it, and its line of the trace."""
+    place: int
+    module: int
+    phase: str
+    why: str
+    beside: int | None
+    needs: list[tuple[str, str]] = field(default_factory=list)
+    line: int = 0
+    notifications: list[Notification] = field(default_factory=list)
+    installs: int = 0  # the calls of its own that installed something
+
+
+@dataclass
+class Wait:
+    """A part that never started. A GUID that it lacks comes with each module that may install it and whether that one started."""
+    module: int
+    phase: str
+    reason: str
+    lacks: list[tuple[str, list[tuple[str, bool]]]] = field(default_factory=list)
+    more: list[str] = field(default_factory=list)  # the GUIDs of those that yet others may install
+    has: list[tuple[str, str]] = field(default_factory=list)
+    would: list[str] | None = None
+
+
+@dataclass
+class Range:
+    """A range of the memory space map."""
+    base: int
+    length: int
+    kind: str
+    state: str
+
+
+@dataclass
+class Mark:
+    """Something between starts that the trace tells: memory moves, a volume comes, a phase stops, or a notification runs outside of a start."""
+    line: int
+    kind: str
+    words: list[str]
+
+
+@dataclass
+class Boot:
+    """One boot."""
+    modules: dict[int, Module] = field(default_factory=dict)
+    starts: list[Start] = field(default_factory=list)
+    waits: list[Wait] = field(default_factory=list)
+    moved: tuple[int, int] | None = None
+    heap: dict[str, int] = field(default_factory=dict)
+    fuel: int = 0
+    result: str = ""
+    trace: list[str] = field(default_factory=list)
+    marks: list[Mark] = field(default_factory=list)
+    map: list[Range] = field(default_factory=list)
+    map_refused: str = ""
+
+    def started(self, phase: str) -> set[int]:
+        return {start.module for start in self.starts if start.phase == phase}
+
+    def counts(self) -> dict[str, int]:
+        """How many of each there are; the lists are those that the trace has at its end."""
+        lists = Counter({words[0]: int(words[1]) for words in map(str.split, self.trace) if words[0] in LISTS and len(words) == 2})
+        first = {phase: len(self.started(phase)) for phase in PHASES}
+        starts = Counter(start.phase for start in self.starts)
+        return {
+            "modules": len(self.modules),
+            "starts in PEI": starts["pei"],
+            "starts in DXE": starts["dxe"],
+            "second starts": starts["pei"] - first["pei"],
+            "never started": len(self.never_started()),
+            "notifications": sum(line.startswith("notify ") for line in self.trace),
+            **{LISTS[word]: lists[word] for word in LISTS},
+        }
+
+    def heap_most(self) -> int | None:
+        """The HOB list at its longest: it only grows."""
+        return max(self.heap.values(), default=None)
+
+    def never_started(self) -> list[Wait]:
+        """The parts that never started; one that waits for its second start is none of them."""
+        started = {phase: self.started(phase) for phase in PHASES}
+        return [wait for wait in self.waits if wait.module not in started[wait.phase]]
+
+    makers: dict[int, int] = field(default_factory=dict)  # of each handle the module that made it
+    shown: dict[tuple[str, int], set[str]] = field(default_factory=dict)  # what each module did install, by phase
+
+    def installed(self, start: Start) -> list[tuple[str, bool]]:
+        """What the module of a start may have installed in it, and whether what is told shows that it did."""
+        shown = self.shown.get((start.phase, start.module), set())
+        return [(guid, guid in shown) for guid in self.modules[start.module].gives.get(start.phase, [])] if start.installs else []
+
+    def name_modules(self, names: dict[str, str]) -> None:
+        """Gives a module without a name that of its file's GUID, where there is one."""
+        for module in self.modules.values():
+            if module.name == NOBODY:
+                module.name = names.get(module.guid, NOBODY)
+
+    def last_met(self, start: Start) -> tuple[str, str] | None:
+        """Of what a start asked for, what came from the module that started last, with that module."""
+        places = {str(each.module): each.place for each in reversed(self.starts) if each.phase == start.phase}
+        met = [(guid, maker) for guid, maker in start.needs if maker in places]
+        return max(met, key=lambda need: places[need[1]], default=None)
+
+
+INSTALLS = (["call", "install", "Success"], ["call", "reinstall", "Success"])
+LISTS = {"ppis": "PPIs", "callbacks": "callbacks", "dispatches": "dispatch notifications", "pendings": "queued pairs", "hobs": "HOBs", "handles": "interfaces"}
+
+
+def plain_name(name: str) -> str:
+    """A module's name as its section has it: what no word may have stands as \\uXXXX in a line of `explain`."""
+    units = b"".join(int(part[1:], 16).to_bytes(2, "little") if part.startswith("\0") else part.encode("utf-16-le")
+                     for part in re.split(r"(\0[0-9a-f]{4})", ESCAPED.sub("\0\\1", name)))
+    text = units.decode("utf-16-le", "replace")
+    return "".join(letter if letter.isprintable() else "\N{REPLACEMENT CHARACTER}" for letter in text)
+
+
+# The lines of `explain`
+
+def read_explanation(lines: list[str]) -> Boot:
+    """Reads what `pitools explain` printed. A line that has no form is a ValueError that names it."""
+    boot = Boot()
+    for number, line in enumerate(lines, 1):
+        try:
+            read_line(boot, line)
+        except (ValueError, IndexError, KeyError) as fault:
+            raise ValueError(f"line {number} of explain's is none of its forms: `{line[:100]}`") from fault
+    if not boot.result:
+        raise ValueError("explain's lines end without a result")
+    return boot
+
+
+def read_line(boot: Boot, line: str) -> None:
+    word, *words = line.split(" ")
+    if word in ("moved", "heap", "fuel", "result"):
+        read_total(boot, word, words)
+    elif word == "module":
+        number, volume, guid, kind, name = words
+        boot.modules[int(number)] = Module(int(number), int(volume), guid, kind, name if name == "-" else plain_name(name))
+    elif word == "expr":
+        boot.modules[int(words[0])].expressions[words[1]] = " ".join(words[2:])
+    elif word == "gives":
+        boot.modules[int(words[0])].gives.setdefault(words[1], []).append(" ".join(words[2:]))
+    elif word == "start":
+        number, phase, why, *beside = words
+        boot.starts.append(Start(len(boot.starts) + 1, int(number), phase, why, int(beside[0]) if beside else None))
+    elif word == "needed":
+        boot.starts[-1].needs.append((words[1], words[2]))
+    else:
+        read_wait(boot, word, words)
+
+
+def read_total(boot: Boot, word: str, words: list[str]) -> None:
+    if word == "moved":
+        boot.moved = int(words[0], 0), int(words[1], 0)
+    elif word == "heap":
+        boot.heap[words[0]] = int(words[1], 0)
+    elif word == "fuel":
+        boot.fuel = int(words[0])
+    else:
+        boot.result = words[0]
+
+
+def read_wait(boot: Boot, word: str, words: list[str]) -> None:
+    if word == "waits":
+        boot.waits.append(Wait(int(words[0]), words[1], words[2]))
+    elif word == "lacks":
+        pairs = words[2:] if words[2] != NOBODY else []
+        if pairs[-1:] == ["more"]:
+            boot.waits[-1].more.append(words[1])
+            pairs.pop()
+        boot.waits[-1].lacks.append((words[1], [(giver, state == "started") for giver, state in zip(pairs[::2], pairs[1::2], strict=True)]))
+    elif word == "has":
+        boot.waits[-1].has.append((words[1], words[2]))
+    elif word == "would":
+        boot.waits[-1].would = [guid for guid in words[1:] if guid != NOBODY]
+    else:
+        raise ValueError(word)
+
+
+# The trace
+
+def read_trace(boot: Boot, trace: list[str]) -> None:
+    """Gives each start its line and the notifications that ran while it did, and gathers what stands between starts."""
+    boot.trace = trace
+    by_name = {(str(module.volume), module.guid): module.number for module in reversed(boot.modules.values())}
+    starts = iter(boot.starts)
+    running: list[int | None] = []  # the modules whose scripts run, the innermost last
+    start: Start | None = None
+    for number, line in enumerate(trace, 1):
+        words = line.split(" ")
+        if words[0] in PHASES and words[1] == "start":
+            start = next_start(starts, words, boot, number)
+            running = [start.module]
+        elif words[0] == "notify":
+            note = Notification(number, words[1], by_name.get((words[2], words[3])), words[4])
+            read_notification(boot, start if running else None, note)
+            running.append(note.module)
+        elif words[0] == "end" and running:
+            running.pop()
+        elif words[:3] in INSTALLS and start and running:
+            start.installs += running[-1] == start.module
+            boot.makers |= {int(shown, 0): running[-1] for shown in words[3:]}
+        elif words[0] in ("migrate", "report", "handoff") or words[1:2] == ["stop"] or words[:2] == ["dxe", "volume"]:
+            boot.marks.append(Mark(number, " ".join(words[:2]) if words[0] in PHASES else words[0], words[1:]))
+    boot.shown = shown_makers(boot)
+
+
+def read_notification(boot: Boot, start: Start | None, note: Notification) -> None:
+    """A notification runs inside a start, or while no module does."""
+    if start:
+        start.notifications.append(note)
+    else:
+        boot.marks.append(Mark(note.line, "notify", [note.kind, str(note.module), note.guid]))
+
+
+def next_start(starts: Iterator[Start], words: list[str], boot: Boot, number: int) -> Start:
+    """The start that a line of the trace tells, which is the next one of `explain`."""
+    start = next(starts, None)
+    if start is None or (boot.modules[start.module].guid, start.phase) != (words[3], words[0]):
+        raise ValueError(f"line {number} of the trace starts a module that explain does not: the two are of other boots")
+    start.line = number
+    return start
+
+
+def shown_makers(boot: Boot) -> dict[tuple[str, int], set[str]]:
+    """The GUIDs that modules did install: by the list of PPIs, by who made the handle that has the protocol, and by needs that were met."""
+    shown: dict[tuple[str, int], set[str]] = {}
+    for words in map(str.split, boot.trace):
+        if words[0] == "ppi" and words[1].isdigit():
+            shown.setdefault(("pei", int(words[1])), set()).add(words[2])
+        elif words[0] == "handle" and (maker := boot.makers.get(int(words[1]))) is not None:
+            shown.setdefault(("dxe", maker), set()).add(words[2])
+    for each in [*boot.starts, *boot.waits]:
+        for guid, maker in (each.needs if isinstance(each, Start) else each.has):
+            if maker.isdigit():
+                shown.setdefault((each.phase, int(maker)), set()).add(guid)
+    return shown
+
+
+# The map
+
+def read_map(boot: Boot, lines: list[str]) -> None:
+    """Reads what `pitools gcd` printed; where the HOB list tells no memory it says why."""
+    for words in (line.split(" ") for line in lines):
+        if words[0] == "range":
+            boot.map.append(Range(int(words[1], 0), int(words[2], 0), words[3], words[4]))
+        elif words[0] == "refused":
+            boot.map_refused = " ".join(words[1:])
+
+
+# Names of GUIDs
+
+LOADING = re.compile(r"Loading (?:PEIM|driver) (" + GUID.pattern + ")", re.IGNORECASE)
+IMAGE = re.compile(r"EntryPoint=\S+ (\w+)\.efi", re.IGNORECASE)
+
+
+def read_names(text: str) -> dict[str, str]:
+    """The names of GUIDs in a file: lines `NAME GUID`; those of a .dec file of EDK2, `NAME = { 0x.., .. }`; or the modules of a debug log."""
+    found = names_in_log(text)
+    for line in text.splitlines():
+        line = line.split("#")[0].strip()
+        name, _, value = line.partition("=")
+        if (guid := dec_guid(value)) is not None:
+            found[guid] = name.strip()
+        elif (match := re.fullmatch(r"(\S+)\s+\{?(" + GUID.pattern + r")\}?", line, re.IGNORECASE)) is not None:
+            found[match[2].lower()] = match[1]
+    return found
+
+
+def names_in_log(text: str) -> dict[str, str]:
+    """The names of the modules that a core's log tells of: it names a file, and a few lines on the image that it is."""
+    found, loading = {}, ""
+    for line in text.splitlines():
+        if (match := LOADING.search(line)) is not None:
+            loading = match[1].lower()
+        elif loading and (match := IMAGE.search(line)) is not None:
+            found[loading], loading = match[1], ""
+    return found
+
+
+def dec_guid(value: str) -> str | None:
+    """The GUID of a value in a .dec file."""
+    numbers = re.findall(r"0x([0-9a-f]+)", value, re.IGNORECASE)
+    if value.count("{") != 2 or len(numbers) != 11:
+        return None
+    digits = "".join(number.zfill(width)[-width:] for number, width in zip(numbers, [8, 4, 4] + [2] * 8)).lower()
+    return "-".join([digits[:8], digits[8:12], digits[12:16], digits[16:20], digits[20:]])

@@ -1,0 +1,164 @@
+"""Reads what the text of a volume says of its modules: names, expressions and scripts; and what an expression asks for.
+
+`boot_reading` and `check-explain` stand on it.
+"""
+import re
+import sys
+from collections.abc import Iterator
+from dataclasses import dataclass, field
+
+from volume_reader import expression_in
+
+PARTS = {"peim": ["pei"], "driver": ["dxe"], "combined": ["pei", "dxe"], "mm-dxe": ["dxe"]}
+EXPRESSION = {"1b": "pei", "13": "dxe"}
+GUID = re.compile(r"[0-9a-f]{8}(?:-[0-9a-f]{4}){3}-[0-9a-f]{12}")
+# The architectural protocols (PI 1.8, volume 2), in the order of docs/FORMATS.md.
+ARCHITECTURAL = """
+    a46423e3-4617-49f1-b9ff-d1bfa9115839 26baccb1-6f42-11d4-bce7-0080c73c8881 26baccb2-6f42-11d4-bce7-0080c73c8881
+    26baccb3-6f42-11d4-bce7-0080c73c8881 665e3ff6-46cc-11d4-9a38-0090273fc14d 665e3ff5-46cc-11d4-9a38-0090273fc14d
+    b7dfb4e1-052f-449f-87be-9818fc91b733 1e5668e2-8481-11d4-bcf1-0080c73c8881 6441f818-6362-4e44-b570-7dba31dd2453
+    5053697e-2cbc-4819-90d9-0580deee5754 1da97072-bddc-4b30-99f1-72a0b56fff2a 27cfac88-46cc-11d4-9a38-0090273fc14d
+    27cfac87-46cc-11d4-9a38-0090273fc14d
+""".split()
+sys.setrecursionlimit(10_000)  # an expression has up to 1,023 opcodes
+
+Tree = tuple | str
+
+
+@dataclass(eq=False)
+class Module:
+    """A file with a part for PEI or DXE, as the text of its volume has it."""
+    number: int
+    volume: int
+    name: str
+    parts: list[str]
+    shown: str = "-"
+    ranks: dict[str, int] = field(default_factory=dict)
+    expressions: dict[str, str] = field(default_factory=dict)
+    blocks: dict[str, list[list[list[str]]]] = field(default_factory=dict)
+
+    def is_malformed(self, phase: str) -> bool:
+        return self.expressions.get(phase, "").startswith("malformed@")
+
+    def asked(self, phase: str) -> list[str]:
+        """The GUIDs that the expression pushes, in order of first mention; a driver without one asks for the architectural protocols."""
+        text = self.expressions.get(phase, "")
+        if phase == "dxe" and not text:
+            return list(ARCHITECTURAL)
+        return [] if text.startswith(("before", "after", "malformed@")) else list(dict.fromkeys(GUID.findall(text)))
+
+    def gives(self, phase: str) -> list[str]:
+        """What its script may install: GUIDs, and any where it reads one in a volume."""
+        given, reads = [], False
+        for action in (action for block in self.blocks.get(phase, []) for action in block):
+            match (phase, *action):
+                case ("pei", "desc", _, "ppi", "at", _, _):
+                    reads = True
+                case ("pei", "desc", _, "ppi", guid, _) | ("dxe", "install", "new" | "on", _, guid, _) | ("dxe", "reinstall", _, guid, _, _):
+                    given.append(guid)
+        return list(dict.fromkeys(given)) + ["any"] * reads
+
+
+# Texts of volumes
+
+def shown_name(code: bytes) -> str:
+    """The name in a user interface section, up to its zero; - where there is none."""
+    units = [int.from_bytes(code[at : at + 2], "little") for at in range(0, len(code), 2)]
+    if len(code) % 2 or 0 not in units or units[0] == 0:
+        return "-"
+    text = "".join(chr(unit) if 0x20 < unit < 0x7F and unit != 0x5C else f"\\u{unit:04x}" for unit in units[: units.index(0)])
+    return r"\u002d" if text == "-" else text
+
+
+def read_files(text: str) -> Iterator[tuple[str, str, list[str]]]:
+    """The type, the name and the lines of each file of a volume's text."""
+    files: list[tuple[str, str, list[str]]] = []
+    for line in text.splitlines()[1:-1]:
+        words = line.split(" ")
+        if words[0] == "file":
+            files.append((words[1], words[2], []))
+        elif files:
+            files[-1][2].append(line)
+    yield from files
+
+
+def read_module(module: Module, lines: list[str]) -> None:
+    """Fills a module from the lines of its file: the first section of each kind counts, and names stand where they may."""
+    block: list[list[list[str]]] | None = None
+    seen = False
+    for line in lines:
+        word, _, rest = line.partition(" ")
+        if word == "end":
+            block = None
+        elif block is not None and word == "block":
+            block.append([])
+        elif block is not None:
+            block[-1].append(["log", rest] if word == "log" else line.split(" "))
+        elif word == "script":
+            block = module.blocks.setdefault(rest, [])
+        elif word == "depex":
+            phase, _, text = rest.partition(" ")
+            module.expressions.setdefault(phase, text)
+        elif word == "section":
+            kind, _, code = rest.partition(" ")
+            if kind == "15" and not seen:
+                module.shown, seen = shown_name(bytes.fromhex(code)), True
+            if (phase := EXPRESSION.get(kind)) in module.parts:
+                read = expression_in(phase, bytes.fromhex(code))
+                module.expressions.setdefault(phase, read[0] if read else "malformed@")
+
+
+# Expressions
+
+def tree_of(words: Iterator[str]) -> Tree:
+    """The tree of an expression with all its brackets: a word, ("not", tree), or (operator, left, right)."""
+    word = next(words)
+    if word == "not":
+        return ("not", tree_of(words))
+    if word != "(":
+        return word
+    left, operator, right = tree_of(words), next(words), tree_of(words)
+    next(words)
+    return (operator, left, right)
+
+
+def read_tree(text: str) -> Tree | None:
+    """The tree of an expression's text; none where it is of another form."""
+    if text in ("", "-") or text.startswith(("before", "after", "malformed@")):
+        return None
+    return tree_of(iter(re.findall(r"[()]|[^\s()]+", text.removeprefix("sor "))))
+
+
+def holds(tree: Tree, there: set[str]) -> bool:
+    match tree:
+        case ("not", inner):
+            return not holds(inner, there)
+        case ("and", left, right):
+            return holds(left, there) and holds(right, there)
+        case ("or", left, right):
+            return holds(left, there) or holds(right, there)
+    return tree == "true" or tree in there
+
+
+def wanted(tree: Tree, there: set[str]) -> list[str] | None:
+    """What a tree lacks: none where it holds, both sides' for AND, the side with fewer, or else the left one, for OR."""
+    if holds(tree, there):
+        return []
+    match tree:
+        case ("and", left, right):
+            both = [wanted(left, there), wanted(right, there)]
+            return None if None in both else list(dict.fromkeys(both[0] + both[1]))
+        case ("or", left, right):
+            ways = [way for way in (wanted(left, there), wanted(right, there)) if way is not None]
+            return min(ways, key=len, default=None)
+    return None if isinstance(tree, tuple) or tree == "false" else [tree]
+
+
+def would(module: Module, phase: str, there: set[str]) -> list[str] | None:
+    """The GUIDs whose coming lets a part start; none where no GUID does, as where one would have to go."""
+    text = module.expressions.get(phase, "")
+    if not text:
+        return [guid for guid in module.asked(phase) if guid not in there]
+    tree = read_tree(text)
+    found = wanted(tree, there) if tree else None
+    return found if found is not None and holds(tree, there | set(found)) else None
