@@ -53,10 +53,11 @@ pub record StandBeside (catalog : Catalog) (m : DxeMachine) (queue : List ℕ) (
   pub split : queue ≡ front ++ first ∷ (between ++ second ∷ back)
   pub companions : Each (λ n. IsCompanionOf catalog m first n ⊎ IsCompanionOf catalog m second n) between
 
--- a driver stands before the one that its BEFORE names, or behind the one that its AFTER names
+-- a driver stands before the one that its BEFORE names
 abbrev pub IsBeforeNamed : Catalog → DxeMachine → List ℕ → ℕ → Type 0
 IsBeforeNamed catalog m queue number = (target : ℕ) × (named_by before_of catalog m number ≡ Some target) × StandBeside catalog m queue number target
 
+-- a driver stands behind the one that its AFTER names
 abbrev pub IsAfterNamed : Catalog → DxeMachine → List ℕ → ℕ → Type 0
 IsAfterNamed catalog m queue number = (target : ℕ) × (named_by after_of catalog m number ≡ Some target) × StandBeside catalog m queue target number
 

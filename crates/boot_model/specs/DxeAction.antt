@@ -36,10 +36,11 @@ pub record DxeReply : Type 0 where
 abbrev pub DxeEffect : Type 0
 DxeEffect = OfEach DxeReply ⊥
 
--- an answer without a change, and a refusal
+-- an answer without a change
 abbrev pub dxe_told : DxeMachine → List Register → Extra → DxeReply
 dxe_told m registers extra = record { status = Success; extra = extra; machine = m; registers = registers; sweep = None; volumes = [] }
 
+-- a refusal, which changes nothing
 abbrev pub dxe_refusal : DxeMachine → DriverFrame → Word → DxeReply
 dxe_refusal m frame status = record (dxe_told m frame.registers X.Nothing) { status = status }
 

@@ -43,6 +43,7 @@ is_scheduled m number = list_any (λ next. next.module_number == number) m.sched
 abbrev pub is_waiting : DxeMachine → ℕ → Bool
 is_waiting m number = not (is_scheduled m number) && not (has_number m.started number)
 
+-- the drivers that wait, in discovered order
 abbrev pub waiting : Catalog → DxeMachine → List ℕ
 waiting catalog m = filter (is_waiting m) (discovered_order catalog m)
 
@@ -80,7 +81,7 @@ is_eligible_driver catalog m number = not (is_unrequested catalog m number) && d
 abbrev pub driver_named : Catalog → DxeMachine → Guid → Option ℕ
 driver_named catalog m name = find (λ number. same_guid (module_name catalog number) name) (discovered_order catalog m)
 
--- the names behind BEFORE and AFTER
+-- the name behind BEFORE
 abbrev pub before_of : PartExpr → Option Guid
 before_of E.Absent = None
 before_of (E.Malformed at) = None
@@ -88,6 +89,7 @@ before_of (E.Held (D.Before name)) = Some name
 before_of (E.Held (D.After name)) = None
 before_of (E.Held (D.Expr sor node)) = None
 
+-- the name behind AFTER
 abbrev pub after_of : PartExpr → Option Guid
 after_of E.Absent = None
 after_of (E.Malformed at) = None
@@ -108,10 +110,11 @@ targets catalog m target name = is_that target (option_and_then (driver_named ca
 abbrev pub name_by : (PartExpr → Option Guid) → Catalog → ℕ → Option Guid
 name_by form catalog number = option_and_then (λ part. form part.expr) (part_at Dxe catalog number)
 
--- the waiting drivers BEFORE a driver, and those AFTER it, in discovered order
+-- the waiting drivers BEFORE a driver, in discovered order
 abbrev pub befores : Catalog → DxeMachine → ℕ → List ℕ
 befores catalog m target = filter (λ number. targets catalog m target (name_by before_of catalog number)) (waiting catalog m)
 
+-- the waiting drivers AFTER a driver, in discovered order
 abbrev pub afters : Catalog → DxeMachine → ℕ → List ℕ
 afters catalog m target = filter (λ number. targets catalog m target (name_by after_of catalog number)) (waiting catalog m)
 

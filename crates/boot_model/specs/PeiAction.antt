@@ -63,10 +63,11 @@ status_of F.Missing = NotFound
 status_of F.NotYet = NotAvailableYet
 status_of F.Memory = OutOfResources
 
--- a reply that changes nothing but registers, and a refusal
+-- a reply that changes nothing but registers
 abbrev pub told : StoreState → List Register → Extra → Reply
 told s registers extra = record { status = Success; extra = extra; store = s; registers = registers; sweep = None; installs = [] }
 
+-- a refusal, which changes nothing
 abbrev pub refusal : StoreState → List Register → Word → Reply
 refusal s registers status = record { status = status; extra = X.Nothing; store = s; registers = registers; sweep = None; installs = [] }
 

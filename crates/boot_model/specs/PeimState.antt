@@ -15,19 +15,21 @@ peim_state m number =
     else if has_number m.started number then Dispatched
     else NotDispatched
 
--- whether a module in a state has started, has registered for shadow, and has started a second time
+-- whether a module in a state has started
 abbrev pub has_started : PeimState → Bool
 has_started NotDispatched = false
 has_started Dispatched = true
 has_started RegisteredForShadow = true
 has_started Done = true
 
+-- whether it has registered for shadow
 abbrev pub has_registered : PeimState → Bool
 has_registered NotDispatched = false
 has_registered Dispatched = false
 has_registered RegisteredForShadow = true
 has_registered Done = true
 
+-- whether it has started a second time
 abbrev pub is_done : PeimState → Bool
 is_done NotDispatched = false
 is_done Dispatched = false

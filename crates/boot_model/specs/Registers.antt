@@ -51,16 +51,19 @@ offset_of (PoolIn held) = Some held.offset
 offset_of (DescriptorIn d) = Some d.offset
 offset_of (HandleIn handle) = None
 
--- the same of a register by its number
+-- the number in a register
 abbrev pub number_in : List Register → ℕ → Option ℕ
 number_in registers r = number_of (register registers r)
 
+-- the pool in a register
 abbrev pub pool_in : List Register → ℕ → Option Pool
 pool_in registers r = pool_of (register registers r)
 
+-- the descriptor in a register
 abbrev pub descriptor_in : List Register → ℕ → Option Desc
 descriptor_in registers r = descriptor_of (register registers r)
 
+-- the handle in a register
 abbrev pub handle_in : List Register → ℕ → Option ℕ
 handle_in registers r = handle_of (register registers r)
 

@@ -15,10 +15,11 @@ use Rattle.store_model.specs.MemoryReading.{bytes_at}
 use Rattle.store_model.specs.Service.Descriptor.{guid_at, number_at}
 use Rattle.catalog_model.specs.Parts.{has_number, family, volume_at}
 
--- the bytes of the PPI, and where its FvInfo stands, behind its FvFormat
+-- the bytes of the PPI
 abbrev pub volume_info_len : ℕ
 volume_info_len = 48
 
+-- where its FvInfo stands in the bytes of the PPI, behind its FvFormat
 abbrev pub volume_info_at : ℕ
 volume_info_at = 16
 

@@ -235,22 +235,26 @@ words (L.RefusedLong name) = name ∷ []
 words (L.RefusedPlan line cause) = decimal line ∷ plan_cause_text cause ∷ []
 words (L.RefusedImage volume at cause) = decimal volume ∷ decimal at ∷ image_cause_text cause ∷ []
 
--- the text of a line, and of lines
+-- the text of a line
 abbrev pub line_text : Line → List ℕ
 line_text line = line_of (keyword line) (words line)
 
+-- the text of lines
 abbrev pub text_of : List Line → List ℕ
 text_of lines = flat_map line_text lines
 
--- the text of lines whose bytes stand somewhere
+-- the text of the line of a log whose bytes stand somewhere
 abbrev pub log_text : List ℕ → List ℕ
 log_text text = line_text (L.Log (record { items = text }))
 
+-- the text of the line of a HOB
 abbrev pub hob_text : ℕ → List ℕ → List ℕ
 hob_text kind body = line_text (L.Hob kind body)
 
+-- the text of the line that refuses a file
 abbrev pub refused_file_text : List ℕ → List ℕ
 refused_file_text name = line_text (L.RefusedFile name)
 
+-- the text of the line that refuses a file for its length
 abbrev pub refused_long_text : List ℕ → List ℕ
 refused_long_text name = line_text (L.RefusedLong name)

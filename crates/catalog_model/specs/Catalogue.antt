@@ -40,6 +40,7 @@ PlanHolds plan before (volume ∷ volumes) (bytes ∷ images) holding =
     × IsPlaced plan before.volumes first.volumes
     × PlanHolds plan (joined before first) volumes images holding
 
+-- the catalogue of a plan's images: all that they hold, within the limits
 pub record IsCatalogue (plan : Plan) (images : List (List ℕ)) (catalog : Catalog) : Type 0 where
   pub holding : Holding
   pub holds : PlanHolds plan nothing plan.volumes images holding

@@ -2,6 +2,7 @@
 use Rattle.std.specs.Prelude.{◌+◌, [], ◌++◌}
 pub use Rattle.catalog_model.specs.declared.holding.Holding.{Holding}
 
+-- no part of the images holds anything
 abbrev pub nothing : Holding
 nothing = record { volumes = []; modules = []; script_bytes = 0 }
 

@@ -8,6 +8,7 @@ use Rattle.act_code.specs.declared.fault.ActCause.TheVariants as A
 use Rattle.catalog_model.specs.declared.image_fault.ImageCause.{ImageCause}
 use Rattle.catalog_model.specs.declared.image_fault.ImageCause.TheVariants as I
 
+-- the cause of an image by that of a volume
 abbrev pub volume_cause : VolCause → ImageCause
 volume_cause V.Short = I.Short
 volume_cause V.Signature = I.Signature
@@ -23,6 +24,7 @@ volume_cause V.DataSum = I.DataSum
 volume_cause V.TooManyFiles = I.TooManyFiles
 volume_cause V.Memory = I.Memory
 
+-- by that of a section
 abbrev pub section_cause : SecCause → ImageCause
 section_cause S.Size = I.Size
 section_cause S.Compressed = I.Compressed
@@ -30,6 +32,7 @@ section_cause S.GuidDefined = I.GuidDefined
 section_cause S.TooMany = I.TooMany
 section_cause S.Memory = I.Memory
 
+-- and by that of a script
 abbrev pub script_cause : ActCause → ImageCause
 script_cause A.Magic = I.Magic
 script_cause A.Version = I.Version

@@ -22,6 +22,7 @@ IsExpression phase (Some body) Absent = ⊥
 IsExpression phase (Some body) (Malformed at) = IsMalformed phase body at
 IsExpression phase (Some body) (Held expression) = Reads phase body expression
 
+-- whether a script is of the phase
 abbrev pub is_of_phase : Phase → Script → Bool
 is_of_phase Pei script = is_pei script.phase
   where

@@ -25,6 +25,7 @@ part_of Dxe m = m.dxe
 abbrev pub part_at : Phase → Catalog → ℕ → Option Part
 part_at phase catalog number = option_and_then (part_of phase) (slice_get catalog.modules number)
 
+-- its rank in the a priori list of its phase, if it has one
 abbrev pub rank_at : Phase → Catalog → ℕ → Option ℕ
 rank_at phase catalog number = option_and_then (λ part. part.rank) (part_at phase catalog number)
 
@@ -32,9 +33,11 @@ rank_at phase catalog number = option_and_then (λ part. part.rank) (part_at pha
 abbrev pub no_name : Guid
 no_name = record { 0 = replicate 16 0 }
 
+-- the file name of a module
 abbrev pub module_name : Catalog → ℕ → Guid
 module_name catalog number = unwrap_or (option_map (λ m. m.name) (slice_get catalog.modules number)) no_name
 
+-- the volume that a module is in
 abbrev pub module_volume : Catalog → ℕ → ℕ
 module_volume catalog number = unwrap_or (option_map (λ m. m.volume) (slice_get catalog.modules number)) 0
 
@@ -42,6 +45,7 @@ module_volume catalog number = unwrap_or (option_map (λ m. m.volume) (slice_get
 abbrev pub block_of : Phase → Catalog → ℕ → ℕ → List Action
 block_of phase catalog number block = unwrap_or (option_and_then (λ part. slice_get part.script.blocks block) (part_at phase catalog number)) []
 
+-- whether a module of a volume has a part of the phase
 abbrev pub is_part_in : Phase → ℕ → Module → Bool
 is_part_in phase volume m = m.volume == volume && is_some (part_of phase m)
 
@@ -50,6 +54,7 @@ abbrev pub parts_from : Phase → ℕ → ℕ → List Module → List ℕ
 parts_from phase volume number [] = []
 parts_from phase volume number (m ∷ ms) = (if is_part_in phase volume m then number ∷ [] else []) ++ parts_from phase volume (number + 1) ms
 
+-- the same of a catalogue
 abbrev pub parts_in : Phase → Catalog → ℕ → List ℕ
 parts_in phase catalog volume = parts_from phase volume 0 catalog.modules
 
@@ -72,5 +77,6 @@ abbrev pub volume_from : ℕ → ℕ → List VolumeEntry → Option ℕ
 volume_from base number [] = None
 volume_from base number (entry ∷ entries) = if entry.base == base then Some number else volume_from base (number + 1) entries
 
+-- the same of a catalogue
 abbrev pub volume_at : Catalog → ℕ → Option ℕ
 volume_at catalog base = volume_from base 0 catalog.volumes

@@ -36,10 +36,11 @@ abbrev pub is_read : List FfsFile → FfsFile → Bool
 is_read files file =
     has_module file.kind || (file.kind == VOLUME_FILE) || is_file (a_priori_file Pei files) file || is_file (a_priori_file Dxe files) file
 
--- the body of a file in the bytes of its volume, and that of a section of a file
+-- the body of a file in the bytes of its volume
 abbrev pub file_body : List ℕ → FfsFile → List ℕ
 file_body bytes file = take file.body_len (drop file.body_at bytes)
 
+-- the body of a section of a file in the bytes of its volume
 abbrev pub section_body : List ℕ → FfsFile → Section → List ℕ
 section_body bytes file section = take section.body_len (drop section.body_at (file_body bytes file))
 
@@ -51,6 +52,7 @@ first_body bytes kind file sections = option_map (section_body bytes file) (find
 abbrev pub is_script : List ℕ → FfsFile → Section → Bool
 is_script bytes file section = has_module file.kind && ((section.kind == RAW) && starts_with nat_eq (section_body bytes file section) MAGIC)
 
+-- all of them, in order
 abbrev pub script_sections : List ℕ → FfsFile → List Section → List Section
 script_sections bytes file sections = filter (is_script bytes file) sections
 

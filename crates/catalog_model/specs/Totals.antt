@@ -7,9 +7,11 @@ use Rattle.catalog_model.specs.ReadFile.{ReadFile, script_sections}
 pub use Rattle.catalog_model.specs.Holding.{Holding}
 pub use Rattle.catalog_model.specs.declared.totals.Totals.{Totals}
 
+-- what was counted before anything was read
 abbrev pub no_totals : Totals
 no_totals = record { volumes = 0; modules = 0; script_bytes = 0 }
 
+-- what was counted, with what a part of the images holds
 abbrev pub totals_with : Totals → Holding → Totals
 totals_with totals holding = record {
   volumes = totals.volumes + length holding.volumes;
@@ -25,10 +27,11 @@ with_volume totals = record totals { volumes = totals.volumes + 1 }
 abbrev pub module_files : List ReadFile → List ReadFile
 module_files reads = filter (λ read. has_module read.file.kind) reads
 
--- the bytes of some sections, and of all scripts of files
+-- the bytes of some sections
 abbrev pub bytes_of : List Section → ℕ
 bytes_of sections = sum_by (λ section. section.body_len) sections
 
+-- the bytes of all scripts of files
 abbrev pub script_bytes_of : List ℕ → List ReadFile → ℕ
 script_bytes_of bytes reads = sum_by (λ read. bytes_of (script_sections bytes read.file read.sections)) reads
 

@@ -29,6 +29,7 @@ AreNumbered number (entry ∷ entries) = IfSome entry.parent (λ parent. parent 
 abbrev pub Precedes : Module → Module → Type 0
 Precedes a b = (a.volume < b.volume) ⊎ ((a.volume ≡ b.volume) × (a.at < b.at))
 
+-- where both modules have a part of the phase and a rank, the ranks differ
 abbrev pub HaveOtherRanks : Option Part → Option Part → Type 0
 HaveOtherRanks (Some a) (Some b) = IfSome a.rank (λ rank. b.rank ≢ Some rank)
 HaveOtherRanks None b = ⊤
@@ -42,6 +43,7 @@ RanksDiffer a b = a.volume ≡ b.volume → HaveOtherRanks a.pei b.pei × HaveOt
 abbrev pub IsRankWithin : Phase → Catalog → Module → Type 0
 IsRankWithin phase catalog m = IfSome (part_of phase m) (λ part. IfSome part.rank (λ rank. rank < length (parts_in phase catalog m.volume)))
 
+-- an expression's opcodes are those of the phase
 abbrev pub IsExpressionOf : Phase → PartExpr → Type 0
 IsExpressionOf phase Absent = ⊤
 IsExpressionOf phase (Malformed at) = ⊤
@@ -53,6 +55,7 @@ IsShort (Before name) = ⊤
 IsShort (After name) = ⊤
 IsShort (Expr sor node) = length (postfix node) ≤ MOST_VALUES
 
+-- so is the expression of a part, if it has one
 abbrev pub IsShortExpression : PartExpr → Type 0
 IsShortExpression Absent = ⊤
 IsShortExpression (Malformed at) = ⊤
@@ -70,6 +73,7 @@ pub record IsPartOf (phase : Phase) (part : Part) : Type 0 where
   pub script : (part.script.blocks ≡ []) ⊎ IsInGrammar part.script
   pub script_len : length (script_bytes part.script) ≤ MOST_SCRIPT
 
+-- a catalogue that keeps what images give: modules and volumes in order and in range, other bases, ranks and parts as they may be
 pub record IsWellFormed (catalog : Catalog) : Type 0 where
   pub in_range : Each (λ m. m.volume < length catalog.volumes) catalog.modules
   pub in_order : Ordered Precedes catalog.modules

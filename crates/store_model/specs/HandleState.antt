@@ -26,10 +26,11 @@ HandleService A = Result (A × HandleState) Word
 abbrev pub is_live : HandleState → ℕ → Bool
 is_live h handle = list_any (λ i. i.handle == handle) h.interfaces
 
--- whether a protocol is on a handle, and with a value
+-- whether a protocol is on a handle
 abbrev pub is_on : ℕ → Guid → Interface → Bool
 is_on handle guid i = i.handle == handle && same_guid i.guid guid
 
+-- whether it is on the handle with a value
 abbrev pub is_on_with : ℕ → Guid → ℕ → Interface → Bool
 is_on_with handle guid value i = is_on handle guid i && i.value == value
 

@@ -135,10 +135,11 @@ pub record IsStoreState (s : StoreState) : Type 0 where
   pub planned : IfSome s.planned (IsPlanned s.board)
   pub heap : IsHeap s s.moved
 
--- a descriptor that a caller may hand in, and one of any kind
+-- a descriptor of a kind that a caller may hand in
 abbrev pub IsDescOf : StoreState → DescKind → Desc → Type 0
 IsDescOf s kind d = IsDescriptorAt s kind d.offset
 
+-- a descriptor of any kind that a caller may hand in
 abbrev pub IsDesc : StoreState → Desc → Type 0
 IsDesc s d = (body : DescriptorBody) × (body_at s d.offset ≡ Some (Descriptor body))
 

@@ -31,10 +31,11 @@ AreDescs list s = Each (IsDesc s) list
 abbrev pub AreBothDescs : Desc → Desc → StoreState → Type 0
 AreBothDescs old new s = IsDesc s old × IsDesc s new
 
--- what is handed in is a pool, and a sweep over what is there
+-- what is handed in is a pool
 abbrev pub HasPool : Pool → StoreState → Type 0
 HasPool pool s = IsPool s pool
 
+-- a sweep that is handed in goes over what is there
 abbrev pub IsAmong : Sweep → StoreState → Type 0
 IsAmong sweep s = IsSweepOf s sweep
 

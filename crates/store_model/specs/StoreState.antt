@@ -45,13 +45,15 @@ pub record StoreState : Type 0 where
   pub planned : Option Range
   pub moved : Bool
 
--- lengths in bytes: of a HOB's header, of the hand-off HOB, of a node's body
+-- the bytes of a HOB's header
 abbrev pub header_len : ℕ
 header_len = 8
 
+-- the bytes of the hand-off HOB, its header included
 abbrev pub handoff_len : ℕ
 handoff_len = 56
 
+-- the bytes of a node's body
 abbrev pub node_len : ℕ
 node_len = 32
 

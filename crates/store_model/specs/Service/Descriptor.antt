@@ -77,10 +77,11 @@ guid_at s place = unwrap_or (option_map (λ d. d.guid) (descriptor_at s place)) 
 abbrev pub number_at : StoreState → ℕ → ℕ
 number_at s place = unwrap_or (option_map (λ d. d.number) (descriptor_at s place)) 0
 
--- the places of the descriptors that are named, and of those that are handed in
+-- the places of the descriptors that are named
 abbrev pub descriptors : List Entry → List ℕ
 descriptors entries = map (λ entry. entry.descriptor) entries
 
+-- the places of the descriptors that are handed in
 abbrev pub offsets : List Desc → List ℕ
 offsets list = map (λ d. d.offset) list
 

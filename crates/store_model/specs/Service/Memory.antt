@@ -8,10 +8,11 @@ use Rattle.store_model.specs.declared.store_handle.StoreFault.TheVariants.{Full,
 use Rattle.store_model.specs.StoreState.{HobEntry, Allocation, StoreState, appended}
 use Rattle.store_model.specs.Service.{Service, in_room, unless_bad}
 
--- the bytes of a page, and of an allocation HOB
+-- the bytes of a page
 abbrev pub page_len : ℕ
 page_len = 4096
 
+-- the bytes of an allocation HOB
 abbrev pub allocation_len : ℕ
 allocation_len = 48
 

@@ -25,10 +25,11 @@ with_note_of Dispatch by s d = record (with_node s) { dispatches = s.dispatches 
 abbrev pub with_note : ℕ → StoreState → Desc → StoreState
 with_note by s d = with_note_of (kind_at s d.offset) by s d
 
--- the callbacks and the dispatch notifications of a list
+-- the callbacks of a list
 abbrev pub new_callbacks : StoreState → List Desc → List ℕ
 new_callbacks s list = filter (λ place. is_callback (kind_at s place)) (offsets list)
 
+-- the dispatch notifications of a list
 abbrev pub new_dispatches : StoreState → List Desc → List ℕ
 new_dispatches s list = filter (λ place. not (is_callback (kind_at s place))) (offsets list)
 

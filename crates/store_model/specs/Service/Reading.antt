@@ -46,10 +46,11 @@ pending_at s place = option_map (λ pending. (guid_at s pending.ppi, number_at s
 abbrev pub descriptor : StoreState → Desc → Guid × ℕ
 descriptor s d = (guid_at s d.offset, number_at s d.offset)
 
--- what is told of an entry, and of a queued pair: the PPI's GUID and the notification's entry
+-- what is told of an entry
 abbrev pub entry_told : StoreState → Entry → EntryTold
 entry_told s entry = record { node = entry.node; guid = guid_at s entry.descriptor; number = number_at s entry.descriptor; by = entry.by }
 
+-- what is told of a queued pair: the PPI's GUID and the notification's entry
 abbrev pub pending_told : StoreState → Pending → EntryTold
 pending_told s pending =
     record { node = pending.node; guid = guid_at s pending.ppi; number = number_at s pending.descriptor; by = pending.by }
