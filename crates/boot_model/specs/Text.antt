@@ -243,14 +243,6 @@ line_text line = line_of (keyword line) (words line)
 abbrev pub text_of : List Line → List ℕ
 text_of lines = flat_map line_text lines
 
--- the text of the line of a log whose bytes stand somewhere
-abbrev pub log_text : List ℕ → List ℕ
-log_text text = line_text (L.Log (record { items = text }))
-
--- the text of the line of a HOB
-abbrev pub hob_text : ℕ → List ℕ → List ℕ
-hob_text kind body = line_text (L.Hob kind body)
-
 -- the text of the line that refuses a file
 abbrev pub refused_file_text : List ℕ → List ℕ
 refused_file_text name = line_text (L.RefusedFile name)

@@ -12,7 +12,6 @@ mod hob_bytes;
 mod hob_line;
 mod line;
 mod number_word;
-mod out;
 mod start;
 mod store_hobs;
 mod store_lists;
@@ -23,8 +22,8 @@ pub use fixed_word::{
     call_name_word, image_cause_word, licence_word, plan_cause_word, reason_word, run_end_word,
 };
 pub use hob_bytes::hob_list;
-pub use line::{put, put_all};
+pub use line::{put, put_all, put_refused_file, put_refused_long};
 pub use number_word::{decimal_word, hexadecimal_word};
-pub use out::Out;
 pub use start::put_start;
 pub use store_hobs::{HobCount, count_hobs};
+pub use store_lists::put_store_lists;

@@ -1,6 +1,6 @@
 //! A line of any form.
 ghost use Rattle.boot_io.specs.Sink.{Puts, SinkFaultsAfter};
-ghost use Rattle.boot_model.specs.Text.{line_text, text_of, log_text, hob_text, refused_file_text, refused_long_text};
+ghost use Rattle.boot_model.specs.Text.{line_text, text_of, refused_file_text, refused_long_text};
 
 use crate::audit_line::{Parts, put_image_refusal, put_module, put_plan_refusal, put_volume};
 use crate::call_line::put_call;
@@ -146,38 +146,20 @@ pub fn put_all<S: Sink>(sink: &mut S, lines: &[Line]) -> Result<(), SinkFault>
     Ok(())
 }
 
-// A logged text, from where it stands.
+/// Puts the refusal that names a file that could not be read, from where the name stands. Where the sink fails, a prefix of its text was put.
 #[tactic(auto, unfolding(boot_model::specs::Text::keyword))]
-pub(crate) fn put_log<S: Sink>(sink: &mut S, text: &[u8]) -> Result<(), SinkFault>
-    ensures text { Puts result (S.text sink.old) (S.text sink.new) (log_text text.now) }
-    ensures cause { SinkFaultsAfter result (S.faults sink.old) (S.faults sink.new) }
-{
-    put_word(sink, b"log", text)
-}
-
-// The name of a file that could not be read.
-#[tactic(auto, unfolding(boot_model::specs::Text::keyword))]
-pub(crate) fn put_refused_file<S: Sink>(sink: &mut S, name: &[u8]) -> Result<(), SinkFault>
+pub fn put_refused_file<S: Sink>(sink: &mut S, name: &[u8]) -> Result<(), SinkFault>
     ensures text { Puts result (S.text sink.old) (S.text sink.new) (refused_file_text name.now) }
     ensures cause { SinkFaultsAfter result (S.faults sink.old) (S.faults sink.new) }
 {
     put_word(sink, b"refused file", name)
 }
 
-// The name of a file that is too long.
+/// Puts the refusal that names a file that is too long, from where the name stands. Where the sink fails, a prefix of its text was put.
 #[tactic(auto, unfolding(boot_model::specs::Text::keyword))]
-pub(crate) fn put_refused_long<S: Sink>(sink: &mut S, name: &[u8]) -> Result<(), SinkFault>
+pub fn put_refused_long<S: Sink>(sink: &mut S, name: &[u8]) -> Result<(), SinkFault>
     ensures text { Puts result (S.text sink.old) (S.text sink.new) (refused_long_text name.now) }
     ensures cause { SinkFaultsAfter result (S.faults sink.old) (S.faults sink.new) }
 {
     put_word(sink, b"refused long", name)
-}
-
-// A HOB, from its type and where its bytes behind the header stand.
-#[tactic(auto, unfolding(boot_model::specs::Text::keyword))]
-pub(crate) fn put_hob_line<S: Sink>(sink: &mut S, kind: u16, body: &[u8]) -> Result<(), SinkFault>
-    ensures text { Puts result (S.text sink.old) (S.text sink.new) (hob_text kind body.now) }
-    ensures cause { SinkFaultsAfter result (S.faults sink.old) (S.faults sink.new) }
-{
-    put_hob(sink, b"hob", kind, body)
 }

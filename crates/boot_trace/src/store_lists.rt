@@ -76,8 +76,8 @@ fn put_lists<S: Sink, M: PeiStore>(
     Ok(())
 }
 
-// All lists of a store.
-pub(crate) fn put_store<S: Sink, M: PeiStore>(sink: &mut S, store: &M) -> Result<(), SinkFault>
+/// Puts the lists of a store: its PPIs, notifications, queued pairs and HOBs, each after its count. Where the sink fails, a prefix of the text was put.
+pub fn put_store_lists<S: Sink, M: PeiStore>(sink: &mut S, store: &M) -> Result<(), SinkFault>
     requires state { Present (M.stands_for store.now) Anything }
     ensures text { OfEach (M.stands_for store.now) Anything (λ s. Puts result (S.text sink.old) (S.text sink.new)
         (text_of (store_lines s))) }

@@ -13,7 +13,7 @@ use act_code::{ActCause, ActFault};
 use boot_io::{Sink, SinkFault, put_line};
 use boot_model::{Line, RunEnd};
 use boot_plan::PlanFault;
-use boot_trace::{Out, decimal_word, put};
+use boot_trace::{decimal_word, put, put_refused_file, put_refused_long};
 use catalog_model::ImageFault;
 use free_check::Verdict;
 use gcd_map::{put_answers, put_command_refusal, put_hobs_refusal, put_map};
@@ -34,8 +34,7 @@ fn put_file<S: Sink>(sink: &mut S, name: &[u8]) -> Result<(), SinkFault>
     ensures text { Puts result (S.text sink.old) (S.text sink.new) (file_line name.now) }
     ensures cause { SinkFaultsAfter result (S.faults sink.old) (S.faults sink.new) }
 {
-    let mut out = Out { sink };
-    out.refused_file(name)
+    put_refused_file(sink, name)
 }
 
 // The refusal that names a file that is too long.
@@ -44,8 +43,7 @@ fn put_long<S: Sink>(sink: &mut S, name: &[u8]) -> Result<(), SinkFault>
     ensures text { Puts result (S.text sink.old) (S.text sink.new) (long_line name.now) }
     ensures cause { SinkFaultsAfter result (S.faults sink.old) (S.faults sink.new) }
 {
-    let mut out = Out { sink };
-    out.refused_long(name)
+    put_refused_long(sink, name)
 }
 
 // The refusal of a plan.

@@ -4,7 +4,7 @@ use arrayvec::ArrayVec;
 use boot_io::MemSink;
 use boot_model::{CallName, ExpressionWord, Extra, Licence, Line, Reason, RunEnd};
 use boot_plan::PlanCause;
-use boot_trace::{Out, decimal_word, hexadecimal_word};
+use boot_trace::{decimal_word, hexadecimal_word, put};
 use catalog_model::ImageCause;
 use pi_base::{Guid, Seq, Word};
 use std::alloc::Global;
@@ -20,7 +20,7 @@ const MEMORY: Guid = Guid([
 
 // Whether this is put of a line.
 fn is_put(sink: &mut MemSink, line: &Line, want: &[u8]) -> bool {
-    Out { sink: &mut *sink }.line(line).is_ok() && sink.text() == want
+    put(sink, line).is_ok() && sink.text() == want
 }
 
 // The same into a new sink.

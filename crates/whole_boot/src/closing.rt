@@ -10,7 +10,7 @@ ghost use Rattle.whole_boot.specs.Closing.{interface_text, result_text, closing_
 
 use boot_io::{Sink, SinkFault};
 use boot_model::{DxeEnd, Line, RunEnd};
-use boot_trace::{Out, put};
+use boot_trace::{put, put_store_lists};
 use dxe_handles::Handles;
 use store_model::{Interface, PeiStore};
 
@@ -23,17 +23,6 @@ pub(crate) fn result_of(end: DxeEnd) -> RunEnd
         DxeEnd::Spent => RunEnd::Spent,
         DxeEnd::Deep => RunEnd::Deep,
     }
-}
-
-// The lists of a store: its PPIs, notifications, queued pairs and HOBs.
-fn put_store_lists<M: PeiStore, S: Sink>(sink: &mut S, store: &M) -> Result<(), SinkFault>
-    requires state { Present (M.stands_for store.now) Anything }
-    ensures text { OfEach (M.stands_for store.now) Anything (λ s. Puts result (S.text sink.old) (S.text sink.new)
-        (text_of (store_lines s))) }
-    ensures cause { SinkFaultsAfter result (S.faults sink.old) (S.faults sink.new) }
-{
-    let mut out = Out { sink };
-    out.store_lists(store)
 }
 
 // A line for an interface.
