@@ -1,5 +1,5 @@
 // What was overheard of a run.
-use crate::files::{KeptFiles, Refused};
+use crate::files::{AskedFile, KeptFiles};
 use crate::text::KeptText;
 use boot_io::{Files, MemFiles};
 use pi_base::Seq;
@@ -12,7 +12,7 @@ pub struct Heard<'a> {
     /// The files that were read, to be read again.
     pub files: MemFiles,
     /// The last file that was not.
-    pub refused: Option<Refused>,
+    pub refused: Option<AskedFile>,
     /// The text that left, where it was kept.
     pub text: Option<&'a [u8]>,
 }

@@ -1,10 +1,11 @@
-//! The edge of a program: the words that it was called with, whether a person reads its standard error, and what a person is told there, whichever of the programs it is.
+//! The edge of a program: the words that it was called with, who reads its standard error, and what is told there, whichever of the programs it is.
 //!
 //! Tried by `scripts/check-words`.
 #![tactic(auto)]
 
 mod asked;
 mod call;
+mod listening;
 mod program;
 mod refusals;
 mod version;
