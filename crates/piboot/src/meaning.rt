@@ -3,8 +3,8 @@ use crate::forms::PROGRAM;
 use boot_core::Status;
 use boot_io::MemFiles;
 use mod_catalog::catalog;
-use overheard::{Heard, starts_in};
 use plan_files::{Job, read_job};
+use program_edge::{Heard, starts_in};
 
 // The words that have no form.
 fn tell_usage(rt: &HostRuntime, words: &[String]) {

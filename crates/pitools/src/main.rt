@@ -30,8 +30,7 @@ use crate::meaning::{tell, tells_of_files};
 use crate::status::ToolStatus;
 use crate::tools::tools_and_print;
 use boot_io::{PatientWriter, RealFiles};
-use overheard::{Heard, Keeping, KeptFiles, KeptText, has_text};
-use program_edge::Call;
+use program_edge::{Call, Heard, Keeping, KeptFiles, KeptText, has_text};
 use std::io;
 use std::process::ExitCode;
 

@@ -6,9 +6,8 @@ use crate::source_meaning::tell_readings;
 use crate::status::ToolStatus;
 use boot_io::MemFiles;
 use fault_words::line_at;
-use overheard::Heard;
 use plan_files::read_file;
-use program_edge::text_of;
+use program_edge::{Heard, text_of};
 use std::str;
 
 // The most bytes of a file of which a line is shown.

@@ -1,7 +1,7 @@
 // The call of a program: its words, and what is told on standard error of what comes of them.
 use crate::asked::{Asked, asked_by_person};
+use crate::kept_files::Keeping;
 use crate::listening::keeping_for;
-use overheard::Keeping;
 use std::env;
 use std::io::{self, ErrorKind};
 

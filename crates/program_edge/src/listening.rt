@@ -1,7 +1,7 @@
 // Who reads standard error, and so what is kept of a run to be told of there.
 ghost use Rattle.std.specs.Prelude.{◌≡◌, IsTrue};
 
-use overheard::Keeping;
+use crate::kept_files::Keeping;
 use std::io::IsTerminal;
 use std::{env, fs};
 

@@ -1,7 +1,7 @@
 // A text that is kept as it leaves.
 ghost use Rattle.std.specs.Prelude.{◌≡◌};
 
-use crate::files::Keeping;
+use crate::kept_files::Keeping;
 use std::alloc::Global;
 use std::io::{self, Write};
 

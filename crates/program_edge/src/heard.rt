@@ -1,12 +1,12 @@
-// What was overheard of a run.
-use crate::files::{AskedFile, KeptFiles};
-use crate::text::KeptText;
+// What is known of a run, to be told of.
+use crate::kept_files::{AskedFile, KeptFiles};
+use crate::kept_text::KeptText;
 use boot_io::{Files, MemFiles};
 use pi_base::Seq;
 use std::alloc::Global;
 use std::io::Write;
 
-/// What was overheard of a run.
+/// What is known of a run, to be told of.
 #[derive(Drop)]
 pub struct Heard<'a> {
     /// The files that were read, to be read again.
