@@ -6,7 +6,7 @@ use Rattle.boot_model.specs.Text.{text_of}
 use Rattle.store_model.specs.declared.store_handle.EntryList.TheVariants.{Ppis, Callbacks, Dispatches, Pendings}
 use Rattle.boot_trace.specs.EntryLines.{list_text}
 use Rattle.boot_trace.proofs.StoreTexts.{store_text}
-use Rattle.boot_trace.proofs.store_lists.put_store.Goals as goal
+use Rattle.boot_trace.proofs.store_lists.put_store_lists.Goals as goal
 
 pub returns-clause-text : goal.returns-clause-text
 returns-clause-text g c s stands needs =
