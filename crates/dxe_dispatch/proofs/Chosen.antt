@@ -23,7 +23,7 @@ use Rattle.free_laws.specs.DxeUnderWay.{DxeStepsRunOut, IsDriverOf, IsNearerEnd,
 use Rattle.dxe_dispatch.specs.declared.answer.Turn.{Turn}
 use Rattle.dxe_dispatch.specs.Choices.{Asks, IsAimedBy, IsOnWay, TurnsBy, aimed_at}
 use Rattle.dxe_dispatch.specs.Ends.{IsNow}
-use Rattle.dxe_dispatch.specs.Turns.{AreOf, IsBeforeStart, IsReady, IsWithin, TurnsTo}
+use Rattle.dxe_dispatch.specs.Turns.{AreOf, IsLeft, IsReady, IsWithin, TurnsTo}
 use Rattle.dxe_dispatch.proofs.FirstStarts.{aimed_owns, starts_first}
 use Rattle.dxe_dispatch.proofs.Growing.{step_grew}
 use Rattle.dxe_dispatch.proofs.Requests.{aim_waits, step_waits}
@@ -124,8 +124,8 @@ has_aimed laws Names stands store catalog fuel core kept aim m target well on by
 
 -- the turn that the machine took from there
 pub turned_by : {M : Type 0} (Names : DxeMachine → Option ℕ → Type 0) (Lets : DxeMachine → ℕ → Bool) (stands : M → StoreState → Type 0) (store : M) (catalog : Catalog) (fuel : ℕ) (core later : DxeCore) (aim grown : Queue) (m : DxeMachine) (t : Texts) (before now : ℕ) (result : Result Turn Halt)
-    → (has : HasAimed Names stands store catalog fuel core aim m) → TurnsTo (Lets has.target) (IsNow stands store catalog later grown) (IsBeforeStart stands store catalog later grown) catalog fuel has.target (dxe_step catalog fuel has.target) t result
-    → OnOk result (IsWithin catalog fuel has.target before now) → TurnsBy Names Lets (IsNow stands store catalog later grown) (IsBeforeStart stands store catalog later grown) catalog fuel m t before now result
+    → (has : HasAimed Names stands store catalog fuel core aim m) → TurnsTo (Lets has.target) (IsNow stands store catalog later grown) (IsLeft stands store catalog later grown) catalog fuel has.target (dxe_step catalog fuel has.target) t result
+    → OnOk result (IsWithin catalog fuel has.target before now) → TurnsBy Names Lets (IsNow stands store catalog later grown) (IsLeft stands store catalog later grown) catalog fuel m t before now result
 turned_by Names Lets stands store catalog fuel core later aim grown m t before now result has turned few = record { target = has.target; aimed = has.aimed; turned = turned; few = few }
 
 -- memory was wanting before it

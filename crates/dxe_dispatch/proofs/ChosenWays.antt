@@ -33,7 +33,7 @@ use Rattle.dxe_dispatch.specs.Choices.{BarsBy, EndsBy, EvaluatesFewBy, IsOnWay, 
 use Rattle.dxe_dispatch.specs.Ends.{IsNow}
 use Rattle.dxe_dispatch.specs.declared.answer.Step.{Step}
 use Rattle.dxe_dispatch.specs.declared.answer.Turn.TheVariants as T
-use Rattle.dxe_dispatch.specs.Turns.{IsBeforeStart, IsGivenUp, IsWithin}
+use Rattle.dxe_dispatch.specs.Turns.{IsLeft, IsGivenUp, IsWithin}
 use Rattle.dxe_dispatch.proofs.Chosen.{Any, StepLaws, TakesFew, few_by, few_started, nearer_by, same_discovered, same_lines, target_at, waits_behind}
 use Rattle.dxe_dispatch.proofs.Targets.{left_before}
 
@@ -84,7 +84,7 @@ few_on catalog fuel opening earlier target before evaluated now same few within 
 pub coming_on : {M S : Type 0} (laws : StepLaws) (Names : DxeMachine → Option ℕ → Type 0) (Lets : DxeMachine → ℕ → Bool) (text : S → Option (List ℕ)) (faults : S → ℕ) (stands : M → StoreState → Type 0) (store : M) (catalog : Catalog) (fuel : ℕ)
     (opening : DxeMachine) (first : S) (turns : ℕ) (core later : DxeCore) (kept grown : Queue) (sink shown : S) (before evaluated now : ℕ) (step : Step) → IsWellFormed catalog
     → (way : IsComing Names Lets text faults stands store catalog fuel opening first turns core kept sink before evaluated)
-    → TurnsBy Names Lets (IsNow stands store catalog later grown) (IsBeforeStart stands store catalog later grown) catalog fuel (came catalog fuel opening way.earlier) (record { old = text sink; new = text shown }) evaluated now (Ok (T.Took step)) → faults shown ≡ faults sink
+    → TurnsBy Names Lets (IsNow stands store catalog later grown) (IsLeft stands store catalog later grown) catalog fuel (came catalog fuel opening way.earlier) (record { old = text sink; new = text shown }) evaluated now (Ok (T.Took step)) → faults shown ≡ faults sink
     → IsComing Names Lets text faults stands store catalog fuel opening first (turns + 1) later grown shown before now
 coming_on laws Names Lets text faults stands store catalog fuel opening first turns core later kept grown sink shown before evaluated now step well way by same =
     let m = came catalog fuel opening way.earlier in
@@ -111,7 +111,7 @@ coming_on laws Names Lets text faults stands store catalog fuel opening first tu
 coming_over : {M S : Type 0} (first_law : FirstEligibleMayStart) (Names : DxeMachine → Option ℕ → Type 0) (Lets : DxeMachine → ℕ → Bool) (text : S → Option (List ℕ)) (faults : S → ℕ) (stands : M → StoreState → Type 0) (store : M) (catalog : Catalog) (fuel : ℕ)
     (opening : DxeMachine) (first : S) (turns : ℕ) (core later : DxeCore) (kept grown : Queue) (sink shown : S) (before evaluated now : ℕ) (how : DxeEnd)
     → (way : IsComing Names Lets text faults stands store catalog fuel opening first turns core kept sink before evaluated)
-    → TurnsBy Names Lets (IsNow stands store catalog later grown) (IsBeforeStart stands store catalog later grown) catalog fuel (came catalog fuel opening way.earlier) (record { old = text sink; new = text shown }) evaluated now (Ok (T.Reached (R.End how)))
+    → TurnsBy Names Lets (IsNow stands store catalog later grown) (IsLeft stands store catalog later grown) catalog fuel (came catalog fuel opening way.earlier) (record { old = text sink; new = text shown }) evaluated now (Ok (T.Reached (R.End how)))
     → EndsBy Names Lets stands store catalog fuel opening later grown how (text first) (text shown)
 coming_over first_law Names Lets text faults stands store catalog fuel opening first turns core later kept grown sink shown before evaluated now how way over =
     let m = came catalog fuel opening way.earlier in
@@ -133,7 +133,7 @@ coming_over first_law Names Lets text faults stands store catalog fuel opening f
 coming_bars : {M S : Type 0} (first_law : FirstEligibleMayStart) (Names : DxeMachine → Option ℕ → Type 0) (Lets : DxeMachine → ℕ → Bool) (text : S → Option (List ℕ)) (faults : S → ℕ) (stands : M → StoreState → Type 0) (store : M) (catalog : Catalog) (fuel : ℕ)
     (opening : DxeMachine) (first : S) (turns : ℕ) (core later : DxeCore) (kept grown : Queue) (sink shown : S) (before evaluated now : ℕ) (number : ℕ)
     → (way : IsComing Names Lets text faults stands store catalog fuel opening first turns core kept sink before evaluated)
-    → TurnsBy Names Lets (IsNow stands store catalog later grown) (IsBeforeStart stands store catalog later grown) catalog fuel (came catalog fuel opening way.earlier) (record { old = text sink; new = text shown }) evaluated now (Ok (T.Reached (R.Barred number)))
+    → TurnsBy Names Lets (IsNow stands store catalog later grown) (IsLeft stands store catalog later grown) catalog fuel (came catalog fuel opening way.earlier) (record { old = text sink; new = text shown }) evaluated now (Ok (T.Reached (R.Barred number)))
     → BarsBy Names Lets stands store catalog fuel opening later grown number (text first) (text shown)
 coming_bars first_law Names Lets text faults stands store catalog fuel opening first turns core later kept grown sink shown before evaluated now number way held =
     let m = came catalog fuel opening way.earlier in
@@ -148,14 +148,14 @@ coming_bars first_law Names Lets text faults stands store catalog fuel opening f
         barred = held.turned.barred;
         text = text_still (text_of m.lines) (text first) (text sink) (text shown) way.has.put held.turned.text;
       };
-      left = left_before stands store catalog later grown m held.target Any number is held.turned.starting held.turned.left;
+      left = left_before stands store catalog later grown m held.target Any is held.turned.left;
     }
 
 -- either of the two
 pub coming_to : {M S : Type 0} (first_law : FirstEligibleMayStart) (Names : DxeMachine → Option ℕ → Type 0) (Lets : DxeMachine → ℕ → Bool) (text : S → Option (List ℕ)) (faults : S → ℕ) (stands : M → StoreState → Type 0) (store : M) (catalog : Catalog) (fuel : ℕ)
     (opening : DxeMachine) (first : S) (turns : ℕ) (core later : DxeCore) (kept grown : Queue) (sink shown : S) (before evaluated now : ℕ) (reached : Reached DxeEnd)
     → (way : IsComing Names Lets text faults stands store catalog fuel opening first turns core kept sink before evaluated)
-    → TurnsBy Names Lets (IsNow stands store catalog later grown) (IsBeforeStart stands store catalog later grown) catalog fuel (came catalog fuel opening way.earlier) (record { old = text sink; new = text shown }) evaluated now (Ok (T.Reached reached))
+    → TurnsBy Names Lets (IsNow stands store catalog later grown) (IsLeft stands store catalog later grown) catalog fuel (came catalog fuel opening way.earlier) (record { old = text sink; new = text shown }) evaluated now (Ok (T.Reached reached))
     → RunsBy Names Lets stands store catalog fuel opening later grown (text first) (text shown) (Ok reached)
 coming_to first_law Names Lets text faults stands store catalog fuel opening first turns core later kept grown sink shown before evaluated now (R.End how) way over =
     coming_over first_law Names Lets text faults stands store catalog fuel opening first turns core later kept grown sink shown before evaluated now how way over
@@ -166,7 +166,7 @@ coming_to first_law Names Lets text faults stands store catalog fuel opening fir
 pub few_over : {M S : Type 0} (laws : StepLaws) (Names : DxeMachine → Option ℕ → Type 0) (Lets : DxeMachine → ℕ → Bool) (text : S → Option (List ℕ)) (faults : S → ℕ) (stands : M → StoreState → Type 0) (store : M) (catalog : Catalog) (fuel : ℕ)
     (opening : DxeMachine) (first : S) (turns : ℕ) (opened core later : DxeCore) (kept grown : Queue) (sink shown : S) (before evaluated now most : ℕ) (reached : Reached DxeEnd) → fuel < most → opened.fuel.taken < most
     → IsCoreOf catalog opened opening → IsFor catalog fuel later → (way : IsComing Names Lets text faults stands store catalog fuel opening first turns core kept sink before evaluated)
-    → TurnsBy Names Lets (IsNow stands store catalog later grown) (IsBeforeStart stands store catalog later grown) catalog fuel (came catalog fuel opening way.earlier) (record { old = text sink; new = text shown }) evaluated now (Ok (T.Reached reached))
+    → TurnsBy Names Lets (IsNow stands store catalog later grown) (IsLeft stands store catalog later grown) catalog fuel (came catalog fuel opening way.earlier) (record { old = text sink; new = text shown }) evaluated now (Ok (T.Reached reached))
     → length later.services.handles.interfaces < most
 few_over laws Names Lets text faults stands store catalog fuel opening first turns opened core later kept grown sink shown before evaluated now most (R.End how) bound few opens made way over =
     let m = came catalog fuel opening way.earlier in
@@ -184,7 +184,7 @@ few_over laws Names Lets text faults stands store catalog fuel opening first tur
     let actions = opens.actions in
     let begun : opening.actions < most = omega (arith, few, actions) in
     let taken : m.actions < most = way.few most bound begun in
-    let same : m.actions ≡ later.fuel.taken = (left_before stands store catalog later grown m held.target Any number is held.turned.starting held.turned.left).machine.core.actions in
+    let same : m.actions ≡ later.fuel.taken = (left_before stands store catalog later grown m held.target Any is held.turned.left).machine.core.actions in
     let counted = made.counted.interfaces in
     omega (arith, taken, same, counted)
 
@@ -192,7 +192,7 @@ few_over laws Names Lets text faults stands store catalog fuel opening first tur
 pub few_left : {M S : Type 0} (laws : StepLaws) (Names : DxeMachine → Option ℕ → Type 0) (Lets : DxeMachine → ℕ → Bool) (text : S → Option (List ℕ)) (faults : S → ℕ) (stands : M → StoreState → Type 0) (store : M) (catalog : Catalog) (fuel : ℕ)
     (opening : DxeMachine) (first : S) (turns : ℕ) (core later : DxeCore) (kept grown : Queue) (sink shown : S) (before evaluated now : ℕ) (reached : Reached DxeEnd) → IsWellFormed catalog
     → (way : IsComing Names Lets text faults stands store catalog fuel opening first turns core kept sink before evaluated)
-    → TurnsBy Names Lets (IsNow stands store catalog later grown) (IsBeforeStart stands store catalog later grown) catalog fuel (came catalog fuel opening way.earlier) (record { old = text sink; new = text shown }) evaluated now (Ok (T.Reached reached))
+    → TurnsBy Names Lets (IsNow stands store catalog later grown) (IsLeft stands store catalog later grown) catalog fuel (came catalog fuel opening way.earlier) (record { old = text sink; new = text shown }) evaluated now (Ok (T.Reached reached))
     → grown.left ≤ length catalog.modules + 1
 few_left laws Names Lets text faults stands store catalog fuel opening first turns core later kept grown sink shown before evaluated now (R.End how) well way over =
     let m = came catalog fuel opening way.earlier in
@@ -205,14 +205,14 @@ few_left laws Names Lets text faults stands store catalog fuel opening first tur
     let m = came catalog fuel opening way.earlier in
     let is = target_at Names catalog m held.target laws.first way.on.now.machine.core.running held.aimed in
     let few = few_started catalog m way.on.way in
-    let left = (left_before stands store catalog later grown m held.target Any number is held.turned.starting held.turned.left).left in
+    let left = (left_before stands store catalog later grown m held.target Any is held.turned.left).left in
     omega (arith, few, left)
 
 -- the turn that is given up
 pub coming_halts : {M S : Type 0} (first_law : FirstEligibleMayStart) (Names : DxeMachine → Option ℕ → Type 0) (Lets : DxeMachine → ℕ → Bool) (text : S → Option (List ℕ)) (faults : S → ℕ) (stands : M → StoreState → Type 0) (store : M) (catalog : Catalog) (fuel : ℕ)
     (opening : DxeMachine) (first : S) (turns : ℕ) (core later : DxeCore) (kept grown : Queue) (sink shown : S) (before evaluated now : ℕ) (halt : Halt)
     → (way : IsComing Names Lets text faults stands store catalog fuel opening first turns core kept sink before evaluated)
-    → TurnsBy Names Lets (IsNow stands store catalog later grown) (IsBeforeStart stands store catalog later grown) catalog fuel (came catalog fuel opening way.earlier) (record { old = text sink; new = text shown }) evaluated now (Err halt)
+    → TurnsBy Names Lets (IsNow stands store catalog later grown) (IsLeft stands store catalog later grown) catalog fuel (came catalog fuel opening way.earlier) (record { old = text sink; new = text shown }) evaluated now (Err halt)
     → StopsShort Names Lets catalog fuel opening (text first) (text shown)
 coming_halts first_law Names Lets text faults stands store catalog fuel opening first turns core later kept grown sink shown before evaluated now halt way up = by up.turned
   where

@@ -1,5 +1,5 @@
 -- What a step is where no script runs: the start of the next driver, or the stop.
-use Rattle.std.proofs.Common.{◌≡◌, ℕ, ◌+◌, true, List, ◌∷◌, length, Option, Some, None, refl, sym, ap, ◌∙◌, is_some, arith}
+use Rattle.std.proofs.Common.{◌≡◌, ℕ, ◌+◌, true, List, ◌∷◌, length, Option, Some, None, refl, ap, ◌∙◌, is_some, arith}
 use Rattle.pi_base.specs.declared.phase.Phase.TheVariants.{Dxe}
 use Rattle.catalog_model.specs.declared.catalog.Catalog.{Catalog}
 use Rattle.catalog_model.specs.declared.catalog.Part.{Part}
@@ -10,7 +10,6 @@ use Rattle.boot_model.specs.DxeMachine.{DxeMachine}
 use Rattle.boot_model.specs.DxeStep.{DxeStarts, DxeStops, dxe_case_in, dxe_case_of, in_dxe_case, queue_case, dxe_step, dxe_stopped, driver_started}
 use Rattle.dxe_choice.specs.Queue.{Queue, IsQueueOf, IsDriver, IsNext}
 use Rattle.dxe_core.specs.Steps.{IsIdle}
-use Rattle.dxe_dispatch.specs.Turns.{HasSetAside, IsStarting, set_aside}
 
 pub case_starts : (catalog : Catalog) (m : DxeMachine) (next : Scheduled) (rest : List Scheduled) → IsIdle m → next_driver catalog m ≡ Some (next, rest) → dxe_case_of catalog m ≡ DxeStarts next rest
 case_starts catalog m next rest idle found = ap (dxe_case_in catalog m) idle ∙ ap queue_case found
@@ -35,19 +34,9 @@ started_queue catalog m next later chosen driver = queue_by catalog m next later
 pub step_stops : (catalog : Catalog) (fuel : ℕ) (m : DxeMachine) → IsIdle m → next_driver catalog m ≡ None → dxe_step catalog fuel m ≡ dxe_stopped catalog m
 step_stops catalog fuel m idle none = ap (in_dxe_case catalog fuel m) (case_stops catalog m idle none)
 
-same_start : (a b : Scheduled) (q r : List Scheduled) → DxeStarts a q ≡ DxeStarts b r → a ≡ b
-same_start a b q r e = cc
-
-same_queue : (a b : Scheduled) (q r : List Scheduled) → DxeStarts a q ≡ DxeStarts b r → q ≡ r
-same_queue a b q r e = cc
-
 -- the driver that comes next has left the queue
-pub next_aside : (catalog : Catalog) (m : DxeMachine) (next : Scheduled) (later : Queue) → IsNext catalog m next later → IsIdle m → HasSetAside catalog later m
-next_aside catalog m next later chosen idle other queue case =
-    let same = sym case ∙ case_starts catalog m next chosen.rest idle chosen.next_is in
-    let number : other.module_number ≡ next.module_number = ap (λ (x : Scheduled). x.module_number) (same_start other next queue chosen.rest same) in
-    chosen.behind (set_aside m other queue)
-    (record { scheduled = same_queue other next queue chosen.rest same; started = ap (λ n. n ∷ m.started) number; discovered = refl; requested = refl; handles = refl })
-
-pub left_queue : (catalog : Catalog) (queue : Queue) (m : DxeMachine) (number : ℕ) → IsStarting catalog m number → HasSetAside catalog queue m → queue.left ≡ length m.started + 1
-left_queue catalog queue m number s aside = let left = (aside s.next s.queue s.starts).left in omega (arith, left)
+pub left_queue : (catalog : Catalog) (m : DxeMachine) (next : Scheduled) (later : Queue) → IsNext catalog m next later → later.left ≡ length m.started + 1
+left_queue catalog m next later chosen =
+    let begun : DxeMachine = record m { scheduled = chosen.rest; started = next.module_number ∷ m.started } in
+    let left = (chosen.behind begun (record { scheduled = refl; started = refl; discovered = refl; requested = refl; handles = refl })).left in
+    omega (arith, left)

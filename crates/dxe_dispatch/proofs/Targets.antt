@@ -19,8 +19,7 @@ use Rattle.free_laws.specs.DxeAim.{FirstEligibleMayStart, GroupsAreAimed, IsChoo
 use Rattle.free_laws.specs.DxeFree.{IsOwnCase}
 use Rattle.dxe_choice.specs.Queue.{Queue}
 use Rattle.dxe_dispatch.specs.Choices.{IsAimedBy, aimed_at, root_of}
-use Rattle.dxe_dispatch.specs.Turns.{IsBeforeStart, IsLeft, IsStarting}
-use Rattle.dxe_dispatch.proofs.Idle.{left_queue}
+use Rattle.dxe_dispatch.specs.Turns.{IsLeft}
 
 -- a driver is chosen that may be scheduled, and of which this is so
 pub record IsChosen (catalog : Catalog) (m : DxeMachine) (Leads : ℕ → Type 0) (root : ℕ) : Type 0 where
@@ -174,14 +173,12 @@ core_before catalog core m scheduled is = record {
   running = is.running;
 }
 
-pub left_before : {M : Type 0} (stands : M → StoreState → Type 0) (store : M) (catalog : Catalog) (core : DxeCore) (queue : Queue) (m target : DxeMachine) (Leads : ℕ → Type 0) (number : ℕ) → IsTarget catalog m Leads target → IsStarting catalog target number
-    → IsBeforeStart stands store catalog core queue target → IsLeft stands store catalog core queue m
-left_before stands store catalog core queue m target Leads number (Own own) starting s = record { machine = s.machine; left = left_queue catalog queue m number starting s.queue }
-left_before stands store catalog core queue m target Leads number (First root found chosen) starting s = record { machine = s.machine; left = left_queue catalog queue m number starting s.queue }
-left_before stands store catalog core queue m target Leads number (Aimed root chosen) starting s = record {
-  machine = record { store = s.machine.store; core = core_before catalog core m (group_scheduled catalog m (Some root)) s.machine.core };
-  left = left_queue catalog queue (aimed catalog m root) number starting s.queue;
-}
+pub left_before : {M : Type 0} (stands : M → StoreState → Type 0) (store : M) (catalog : Catalog) (core : DxeCore) (queue : Queue) (m target : DxeMachine) (Leads : ℕ → Type 0) → IsTarget catalog m Leads target → IsLeft stands store catalog core queue target
+    → IsLeft stands store catalog core queue m
+left_before stands store catalog core queue m target Leads (Own own) s = s
+left_before stands store catalog core queue m target Leads (First root found chosen) s = s
+left_before stands store catalog core queue m target Leads (Aimed root chosen) s =
+    record { machine = record { store = s.machine.store; core = core_before catalog core m (group_scheduled catalog m (Some root)) s.machine.core }; left = s.left }
 
 -- the first eligible driver starts as if the choice were aimed at it
 start_same : (catalog : Catalog) (m : DxeMachine) (scheduled : List Scheduled) (next : Scheduled) (queue : List Scheduled) (part : Option Part)

@@ -36,8 +36,8 @@ use Rattle.dxe_dispatch.specs.declared.answer.Turn.{Turn}
 use Rattle.dxe_dispatch.specs.declared.answer.Turn.TheVariants.{Took, Reached}
 use Rattle.dxe_dispatch.specs.Ends.{IsNow}
 use Rattle.dxe_dispatch.specs.Events.{HasEvent}
-use Rattle.dxe_dispatch.specs.Turns.{AreBeforeStart, AreOf, HasTurned, IsBeforeStart, IsGivenUp, IsHeldBack, IsOver, IsWithin, TurnsTo, stop_lines}
-use Rattle.dxe_dispatch.proofs.Idle.{next_aside, step_starts, step_stops, started_queue}
+use Rattle.dxe_dispatch.specs.Turns.{AreLeft, AreOf, HasTurned, IsGivenUp, IsHeldBack, IsLeft, IsOver, IsWithin, TurnsTo, stop_lines}
+use Rattle.dxe_dispatch.proofs.Idle.{left_queue, step_starts, step_stops, started_queue}
 use Rattle.dxe_dispatch.proofs.Passing.{busy_passes, busy_starts_none, passes, starting, stop_passes, stop_starts_none}
 use Rattle.boot_trace.proofs.Lines.{part_whole}
 use Rattle.dxe_dispatch.proofs.Runs.{discovered_more}
@@ -58,12 +58,12 @@ starts_so lets catalog fuel later grown m next t chosen idle driver may stepped 
 
 -- it is not let, and has left the queue
 pub stays_so : (lets : ℕ → Bool) (catalog : Catalog) (core : DxeCore) (queue grown : Queue) (m : DxeMachine) (next : Scheduled) (text : Option (List ℕ)) (chosen : IsNext catalog m next grown) → IsIdle m → AreOf catalog core queue m → lets next.module_number ≡ false
-    → IsHeldBack lets (AreBeforeStart catalog core grown) catalog m next.module_number (record { old = text; new = text })
+    → IsHeldBack lets (AreLeft catalog core grown) catalog m next.module_number (record { old = text; new = text })
 stays_so lets catalog core queue grown m next text chosen idle are barred = record {
   starting = starting catalog m next chosen.rest idle chosen.next_is;
   barred = barred;
   text = appends_none text;
-  left = record { core = are.core; queue = next_aside catalog m next grown chosen idle };
+  left = record { core = are.core; left = left_queue catalog m next grown chosen };
 }
 
 -- where no driver comes next, DXE stops
@@ -182,13 +182,13 @@ now_over : {M : Type 0} (stands : M → StoreState → Type 0) (store : M) (cata
 now_over stands store catalog core queue m later here same are =
     record { machine = record { store = let P : StoreState → Type 0 = λ s. stands store s in subst P (sym same) here; core = are.core }; queue = are.queue }
 
-before_over : {M : Type 0} (stands : M → StoreState → Type 0) (store : M) (catalog : Catalog) (core : DxeCore) (queue : Queue) (m : DxeMachine) → stands store m.store → AreBeforeStart catalog core queue m → IsBeforeStart stands store catalog core queue m
-before_over stands store catalog core queue m here are = record { machine = record { store = here; core = are.core }; queue = are.queue }
+left_over : {M : Type 0} (stands : M → StoreState → Type 0) (store : M) (catalog : Catalog) (core : DxeCore) (queue : Queue) (m : DxeMachine) → stands store m.store → AreLeft catalog core queue m → IsLeft stands store catalog core queue m
+left_over stands store catalog core queue m here are = record { machine = record { store = here; core = are.core }; left = are.left }
 
 -- a start or the stop leaves the store
 pub turns_over : {M : Type 0} (lets : ℕ → Bool) (stands : M → StoreState → Type 0) (store : M) (catalog : Catalog) (fuel : ℕ) (m : DxeMachine) (later : DxeCore) (queue : Queue) (t : Texts) (r : Result Turn Halt)
-    → stands store m.store → TurnsTo lets (AreOf catalog later queue) (AreBeforeStart catalog later queue) catalog fuel m (dxe_step catalog fuel m) t r
-    → TurnsTo lets (IsNow stands store catalog later queue) (IsBeforeStart stands store catalog later queue) catalog fuel m (dxe_step catalog fuel m) t r
+    → stands store m.store → TurnsTo lets (AreOf catalog later queue) (AreLeft catalog later queue) catalog fuel m (dxe_step catalog fuel m) t r
+    → TurnsTo lets (IsNow stands store catalog later queue) (IsLeft stands store catalog later queue) catalog fuel m (dxe_step catalog fuel m) t r
 turns_over lets stands store catalog fuel m later queue t (Ok (Took step)) here turned =
     let now = now_over stands store catalog later queue m (dxe_step catalog fuel m) here (driver_steps_grow catalog fuel m).store turned.0.now in
     (record { passes = turned.0.passes; printed = turned.0.printed; now = now }, turned.1)
@@ -204,7 +204,7 @@ turns_over lets stands store catalog fuel m later queue t (Ok (Reached (R.Barred
   starting = held.starting;
   barred = held.barred;
   text = held.text;
-  left = before_over stands store catalog later queue m here held.left;
+  left = left_over stands store catalog later queue m here held.left;
 }
 turns_over lets stands store catalog fuel m later queue t (Err halt) here up = up
 

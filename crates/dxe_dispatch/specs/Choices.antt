@@ -31,7 +31,7 @@ use Rattle.dxe_dispatch.specs.declared.boot.Left.{Left}
 use Rattle.dxe_dispatch.specs.declared.boot.Left.TheVariants as V
 use Rattle.dxe_dispatch.specs.declared.boot.Run.{Run}
 use Rattle.dxe_dispatch.specs.Ends.{HasEnded, IsNow, StandsAtEnd}
-use Rattle.dxe_dispatch.specs.Turns.{AreOf, IsBeforeStart, IsLeft, IsStarting, IsWithin, PassesStart, TurnsTo}
+use Rattle.dxe_dispatch.specs.Turns.{AreOf, IsLeft, IsStarting, IsWithin, PassesStart, TurnsTo}
 
 -- the driver to which BEFORE and AFTER lead from this one
 abbrev pub root_of : Catalog → DxeMachine → ℕ → ℕ
@@ -105,7 +105,7 @@ TurnsByChoice {S = S} names lets text faults in_pei stands store catalog core qu
     (m : DxeMachine) (fuel : ℕ) (first : S) → IsFor catalog fuel core → IsOnWay stands store catalog core queue m
     → HasPut text faults first m.lines sink
     → TurnsBy (NamesDrivers names text faults in_pei first) (LetsDrivers lets in_pei)
-    (IsNow stands store catalog later grown) (IsBeforeStart stands store catalog later grown) catalog fuel m
+    (IsNow stands store catalog later grown) (IsLeft stands store catalog later grown) catalog fuel m
     (record { old = text sink; new = text shown }) before now result
 
 -- a run by choices from an opening that has come to its end

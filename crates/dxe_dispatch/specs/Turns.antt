@@ -95,27 +95,12 @@ TurnsTo lets Now Left catalog fuel m later t (Ok (Reached (R.End how))) = IsOver
 TurnsTo lets Now Left catalog fuel m later t (Ok (Reached (R.Barred number))) = IsHeldBack lets Left catalog m number t
 TurnsTo lets Now Left catalog fuel m later t (Err halt) = IsGivenUp lets catalog m later t
 
--- what starts next is set aside: it has left the queue as if it had started
-abbrev pub set_aside : DxeMachine → Scheduled → List Scheduled → DxeMachine
-set_aside m next queue = record m { scheduled = queue; started = next.module_number ∷ m.started }
-
--- the queue is that of the machine with what starts next set aside
-abbrev pub HasSetAside : Catalog → Queue → DxeMachine → Type 0
-HasSetAside catalog queued m =
-    (next : Scheduled) (queue : List Scheduled) → dxe_case_of catalog m ≡ DxeStarts next queue → IsQueueOf catalog (set_aside m next queue) queued
-
--- the core stands for the machine, before a start that is set aside
-pub record AreBeforeStart (catalog : Catalog) (kept : DxeCore) (queued : Queue) (m : DxeMachine) : Type 0 where
+-- the core stands for the machine, and one driver more has left the queue: that which did not start
+pub record AreLeft (catalog : Catalog) (kept : DxeCore) (queued : Queue) (m : DxeMachine) : Type 0 where
   pub core : IsCoreOf catalog kept m
-  pub queue : HasSetAside catalog queued m
+  pub left : queued.left ≡ length m.started + 1
 
 -- the same of the core beside its store
-pub record IsBeforeStart {M : Type 0} (stands : M → StoreState → Type 0) (beside : M) (catalog : Catalog)
-    (core : DxeCore) (kept : Queue) (m : DxeMachine) : Type 0 where
-  pub machine : StandsFor stands beside catalog core m
-  pub queue : HasSetAside catalog kept m
-
--- the core stands for the machine, and one driver more has left the queue: that which did not start
 pub record IsLeft {M : Type 0} (stands : M → StoreState → Type 0) (beside : M) (catalog : Catalog)
     (core : DxeCore) (kept : Queue) (m : DxeMachine) : Type 0 where
   pub machine : StandsFor stands beside catalog core m
@@ -133,7 +118,7 @@ abbrev pub Turns : {M : Type 0} → (ℕ → Bool) → (M → StoreState → Typ
     → DxeCore → Queue → DxeCore → Queue → Option (List ℕ) → Option (List ℕ) → Result Turn Halt → Type 0
 Turns lets stands store catalog core queue later grown old new result =
     (m : DxeMachine) (fuel : ℕ) → IsFor catalog fuel core → IsReady stands store catalog fuel core queue m
-    → TurnsTo lets (IsNow stands store catalog later grown) (IsBeforeStart stands store catalog later grown) catalog fuel m (dxe_step catalog fuel m)
+    → TurnsTo lets (IsNow stands store catalog later grown) (IsLeft stands store catalog later grown) catalog fuel m (dxe_step catalog fuel m)
     (record { old = old; new = new }) result
 
 -- the same from each one that is idle, whatever the store
@@ -141,7 +126,7 @@ abbrev pub TurnsIdle : (ℕ → Bool) → Catalog
     → DxeCore → Queue → DxeCore → Queue → Option (List ℕ) → Option (List ℕ) → Result Turn Halt → Type 0
 TurnsIdle lets catalog core queue later grown old new result =
     (m : DxeMachine) (fuel : ℕ) → AreOf catalog core queue m → IsIdle m
-    → TurnsTo lets (AreOf catalog later grown) (AreBeforeStart catalog later grown) catalog fuel m (dxe_step catalog fuel m) (record { old = old; new = new }) result
+    → TurnsTo lets (AreOf catalog later grown) (AreLeft catalog later grown) catalog fuel m (dxe_step catalog fuel m) (record { old = old; new = new }) result
 
 -- no more expressions were evaluated, or have to be, than had to be, those of the drivers that the step discovered, and those that the bound lets for its protocols
 abbrev pub IsWithin : Catalog → ℕ → DxeMachine → ℕ → ℕ → Type 0

@@ -5,7 +5,7 @@ use Rattle.boot_model.specs.DxeStep.{dxe_step}
 use Rattle.dxe_choice.specs.Queue.{owed}
 use Rattle.dxe_dispatch.specs.Choices.{LetsDrivers, NamesDrivers, aimed_at}
 use Rattle.dxe_dispatch.specs.Ends.{IsNow}
-use Rattle.dxe_dispatch.specs.Turns.{AreOf, IsBeforeStart, TurnsTo}
+use Rattle.dxe_dispatch.specs.Turns.{AreOf, IsLeft, TurnsTo}
 use Rattle.dxe_dispatch.proofs.Chosen.{Any, StepLaws, aim_by, few_started, has_aimed, not_aimed, starts_are, turned_by, within_less}
 use Rattle.dxe_dispatch.proofs.Turning.{on_ok}
 use Rattle.dxe_dispatch.proofs.turns.turn_by.Goals as goal
@@ -48,7 +48,7 @@ returns-in_err-aim-clause-row g c m fuel first made on has =
     (λ may. record { sink = c.args.sink.now; has = has; is = subst (λ n. g.C.Choice.drivers c.args.choice.now c.args.sink.now n c.named-driver.result) counted may }) in
     let p = err_from_is_err_and c.from_residual.result c.from_residual.ensures.1 in
     let stands = g.M.PeiStore.stands_for in
-    rw p.1 (not_aimed Names Lets (IsNow stands c.args.store.now catalog c.args.dxe.now c.aim.new.queue) (IsBeforeStart stands c.args.store.now catalog c.args.dxe.now c.aim.new.queue) catalog fuel m (aimed_at catalog m c.named-driver.result) (T c.args.sink.now) _ _ _ by)
+    rw p.1 (not_aimed Names Lets (IsNow stands c.args.store.now catalog c.args.dxe.now c.aim.new.queue) (IsLeft stands c.args.store.now catalog c.args.dxe.now c.aim.new.queue) catalog fuel m (aimed_at catalog m c.named-driver.result) (T c.args.sink.now) _ _ _ by)
 
 pub returns-clause-row : goal.returns-clause-row
 returns-clause-row g c m fuel first made on has =
@@ -66,5 +66,5 @@ returns-clause-row g c m fuel first made on has =
     let aimed = has_aimed laws Names stands c.args.store.now catalog fuel c.args.dxe.now c.args.queue.now c.aim.new.queue m (aimed_at catalog m c.named-driver.result) c.requires.catalog on by (c.in_ok-aim.ensures.row m are) in
     let few = on_ok c.turn.result (λ owes. within_less catalog fuel aimed.target (c.args.steps.now + owed c.args.queue.now) _ _ c.in_ok-aim.ensures.owes (owes aimed.target fuel made aimed.ready)) c.turn.ensures.owes in
     let same = starts_are c.args.in_pei catalog m aimed.target Any c.args.queue.now c.starts-starts.result c.starts-starts.ensures on.now.queue aimed.is in
-    let turned = subst (λ n. TurnsTo (lets n) (IsNow stands c.args.store.now catalog c.turn.new.dxe c.turn.new.queue) (IsBeforeStart stands c.args.store.now catalog c.turn.new.dxe c.turn.new.queue) catalog fuel aimed.target (dxe_step catalog fuel aimed.target) (record { old = T c.args.sink.now; new = T c.turn.new.sink }) c.turn.result) same (c.turn.ensures.row aimed.target fuel made aimed.ready) in
+    let turned = subst (λ n. TurnsTo (lets n) (IsNow stands c.args.store.now catalog c.turn.new.dxe c.turn.new.queue) (IsLeft stands c.args.store.now catalog c.turn.new.dxe c.turn.new.queue) catalog fuel aimed.target (dxe_step catalog fuel aimed.target) (record { old = T c.args.sink.now; new = T c.turn.new.sink }) c.turn.result) same (c.turn.ensures.row aimed.target fuel made aimed.ready) in
     turned_by Names (LetsDrivers lets c.args.in_pei) stands c.args.store.now catalog fuel c.args.dxe.now c.turn.new.dxe c.aim.new.queue c.turn.new.queue m (record { old = T c.args.sink.now; new = T c.turn.new.sink }) (c.args.steps.now + owed c.args.queue.now) _ c.turn.result aimed turned few
