@@ -20,8 +20,8 @@ mod reasons;
 mod told;
 mod waiters;
 
-pub use explain::explain_boot;
+pub use explain::explain_by;
 pub use laws::one_explanation;
 pub use nowhere::Nowhere;
-pub use plan::explain_plan;
+pub use plan::{explain_plan, explain_plan_by};
 pub use reasons::{Begun, Explained, Giver, Held, Moved, Need};
