@@ -9,3 +9,4 @@ pub mod Noting
 pub mod PeiEnding
 pub mod PeiReasons
 pub mod PeiTelling
+pub mod Unseen
