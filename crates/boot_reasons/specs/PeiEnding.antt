@@ -13,13 +13,12 @@ use Rattle.pei_choice.specs.declared.queue.PeiQueue.{PeiQueue}
 use Rattle.pei_core.specs.declared.pei.Pei.{Pei}
 use Rattle.pei_core.specs.Standing.{IsFor, StandsFor}
 use Rattle.pei_dispatch.specs.Choices.{IsRunBy, LetsPeims}
-use Rattle.pei_dispatch.specs.Ends.{StandsAtEnd}
 use Rattle.boot_reasons.specs.declared.nowhere.Nowhere.{Nowhere}
 use Rattle.boot_reasons.specs.declared.pei.PeiExplained.{PeiExplained}
 use Rattle.boot_reasons.specs.declared.told.PeiTold.{PeiTold}
 use Rattle.boot_reasons.specs.Moving.{heap_used}
 use Rattle.boot_reasons.specs.PeiReasons.{pei_begun, pei_giver, pei_held, pei_moved}
-use Rattle.boot_reasons.specs.PeiTelling.{IsAt, IsAtEnd, IsBarred, IsTold}
+use Rattle.boot_reasons.specs.PeiTelling.{IsAt, IsAtEnd, IsBarred, IsLeftAt, IsTold}
 use Rattle.boot_reasons.specs.Unseen.{NamesUnseen}
 
 -- a run has come to its end, or to a PEIM that is not let
@@ -54,7 +53,7 @@ pub record IsPeiExplained (catalog : Catalog) (earlier : List PeiMachine) («end
 -- from each last machine of which all is told
 abbrev pub ExplainsEnd : {M : Type 0} → (M → StoreState → Type 0) → Catalog → Pei M → PeiQueue → PeiTold → PeiEnd → PeiExplained → Type 0
 ExplainsEnd stands catalog pei queue told how e =
-    (earlier : List PeiMachine) («end» : PeiMachine) → «end».ended ≡ Some how → StandsAtEnd stands catalog pei queue «end»
+    (earlier : List PeiMachine) («end» : PeiMachine) → «end».ended ≡ Some how → IsLeftAt stands catalog pei queue «end»
     → IsTold catalog earlier «end» told → IsPeiExplained catalog earlier «end» e
 
 -- a run by choices has come to its end and is explained, and the core stands for its last machine as it was before it ended

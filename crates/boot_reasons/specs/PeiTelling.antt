@@ -4,7 +4,9 @@ use Rattle.std.specs.Prelude.{◌≡◌, ℕ, Bool, false, List, ◌∷◌, ◌+
 use Rattle.pi_base.specs.declared.guid.Guid.{Guid}
 use Rattle.catalog_model.specs.declared.catalog.Catalog.{Catalog}
 use Rattle.store_model.specs.StoreState.{Board, StoreState}
+use Rattle.store_model.specs.declared.store_handle.Sweep.{Sweep}
 use Rattle.boot_model.specs.declared.phase_end.PeiEnd.{PeiEnd}
+use Rattle.boot_model.specs.PeiChoice.{pei_order}
 use Rattle.boot_model.specs.PeiMachine.{PeiMachine}
 use Rattle.boot_model.specs.PeiRun.{pei_opening}
 use Rattle.boot_model.specs.PeiStep.{started}
@@ -12,11 +14,11 @@ use Rattle.free_laws.specs.declared.choice.Reached.{Reached}
 use Rattle.free_laws.specs.declared.choice.Reached.TheVariants as R
 use Rattle.free_laws.specs.PeiUnderWay.{IsUnderWay}
 use Rattle.pei_choice.specs.declared.queue.PeiQueue.{PeiQueue}
+use Rattle.pei_choice.specs.Queue.{parts_in}
 use Rattle.pei_core.specs.declared.pei.Pei.{Pei}
-use Rattle.pei_core.specs.Standing.{IsFor}
+use Rattle.pei_core.specs.Standing.{IsFor, StandsFor}
 use Rattle.pei_core.specs.Steps.{IsIdle}
 use Rattle.pei_dispatch.specs.Choices.{IsDue, IsRunBy, LetsPeims}
-use Rattle.pei_dispatch.specs.Ends.{StandsAtEnd}
 use Rattle.pei_dispatch.specs.Turns.{IsNow}
 use Rattle.boot_reasons.specs.declared.nowhere.Nowhere.{Nowhere}
 use Rattle.boot_reasons.specs.declared.told.PeiTold.{PeiTold}
@@ -38,12 +40,18 @@ pub record IsAt {M : Type 0} (Names : PeiMachine → Option ℕ → Type 0) (Let
   pub now : IsNow stands catalog pei queue m
   pub is_told : IsTold catalog earlier m told
 
+-- the core stands for a last machine as it was before it ended, and the queue has its order
+pub record IsLeftAt {M : Type 0} (stands : M → StoreState → Type 0) (catalog : Catalog) (pei : Pei M) (queue : PeiQueue) («end» : PeiMachine) : Type 0 where
+  pub sweep : Option Sweep
+  pub machine : StandsFor stands pei (record «end» { ended = None; core_sweep = sweep })
+  pub parts : parts_in queue ≡ pei_order catalog «end».reported
+
 -- it leads to a machine that has ended so
 pub record IsAtEnd {M : Type 0} (Names : PeiMachine → Option ℕ → Type 0) (Lets : PeiMachine → ℕ → Bool) (stands : M → StoreState → Type 0) (board : Board) (catalog : Catalog) (fuel : ℕ)
     (earlier : List PeiMachine) («end» : PeiMachine) (pei : Pei M) (queue : PeiQueue) (told : PeiTold) (how : PeiEnd) : Type 0 where
   pub run : IsRunBy Names Lets catalog fuel (pei_opening board catalog) earlier «end»
   pub ended : «end».ended ≡ Some how
-  pub stands_at_end : StandsAtEnd stands catalog pei queue «end»
+  pub left : IsLeftAt stands catalog pei queue «end»
   pub is_told : IsTold catalog earlier «end» told
 
 -- it leads to a machine from which a PEIM is due that the choices do not let
