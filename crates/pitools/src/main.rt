@@ -1,6 +1,7 @@
-//! The tools beside the boot: the check of a trace with free choice, a boot in an order of starts, the memory space map, the MP services, expressions and scripts as text, volumes from their texts, and texts of volumes.
+//! The tools beside the boot: the check of a trace with free choice, a boot in an order of starts, why modules start, the memory space map, the MP services, expressions and scripts as text, volumes from their texts, and texts of volumes.
 #![tactic(auto)]
 
+mod by_starts;
 mod cause_meaning;
 mod check_tool;
 mod command_line;
@@ -22,7 +23,9 @@ mod source_meaning;
 mod source_refusal;
 mod status;
 mod text_tool;
+mod told_tool;
 mod tools;
+mod trace_tool;
 mod volume_tool;
 
 use crate::forms::PROGRAM;

@@ -17,7 +17,7 @@ const SHOWN_LIMIT: usize = 0x400_0000;
 const SHOWN_LEN: usize = 60;
 
 const USAGE: &str =
-    "usage: pitools check PLAN TRACE | pitools follow PLAN ORDER | pitools hobs PLAN | pitools explain PLAN | pitools gcd HOBS COMMANDS | pitools mp FILE | pitools volume TEXT | pitools text VOLUME | pitools asm depex|script FILE | pitools dis pei|dxe|script FILE";
+    "usage: pitools check PLAN TRACE | pitools follow PLAN ORDER | pitools hobs PLAN | pitools explain PLAN [TRACE] | pitools gcd HOBS COMMANDS | pitools mp FILE | pitools volume TEXT | pitools text VOLUME | pitools asm depex|script FILE | pitools dis pei|dxe|script FILE";
 
 // The word behind so many words.
 fn word_at(words: &[String], place: usize) -> &str {
@@ -35,13 +35,10 @@ fn tell_usage(rt: &HostRuntime, words: &[String]) {
             let verb = verb.as_str();
             let fault = if verb == "check" || verb == "follow" || verb == "gcd" {
                 "takes the names of two files behind it"
-            } else if verb == "mp"
-                || verb == "hobs"
-                || verb == "explain"
-                || verb == "volume"
-                || verb == "text"
-            {
+            } else if verb == "mp" || verb == "hobs" || verb == "volume" || verb == "text" {
                 "takes the name of a file behind it"
+            } else if verb == "explain" {
+                "takes the name of a plan behind it, and may take that of a trace"
             } else if verb == "asm" {
                 "takes depex or script behind it, and the name of a file"
             } else if verb == "dis" {
