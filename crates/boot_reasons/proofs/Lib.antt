@@ -1,7 +1,11 @@
 mod DxeEnds
 mod DxeSteps
 mod GiverSteps
+mod HeldParts
 mod PeiEnds
+mod PeiOneRun
 mod PeiSteps
 mod Phases
+mod RunVolumes
 mod StepLists
+mod WalkedLists

@@ -16,7 +16,6 @@ use Rattle.pei_core.specs.declared.pei.Pei.{Pei}
 use Rattle.pei_core.specs.Standing.{StandsFor}
 use Rattle.pei_dispatch.specs.Turns.{IsNow}
 use Rattle.pei_dispatch.proofs.Chosen.{step_is_free}
-use Rattle.pei_dispatch.proofs.ChosenWays.{Laws}
 use Rattle.boot_reasons.specs.declared.pei.PeiExplained.{PeiExplained}
 use Rattle.boot_reasons.specs.declared.reasons.Giver.TheVariants.{Absent}
 use Rattle.boot_reasons.specs.declared.reasons.Held.{Held}
@@ -26,6 +25,7 @@ use Rattle.boot_reasons.specs.Noting.{giver_in}
 use Rattle.boot_reasons.specs.PeiEnding.{EndsTo, ExplainsEnd, ExplainsRun, IsPeiExplained}
 use Rattle.boot_reasons.specs.PeiReasons.{pei_giver, pei_held}
 use Rattle.boot_reasons.specs.PeiTelling.{IsAt, IsAtEnd, IsTold, TurnsTo}
+use Rattle.boot_reasons.proofs.PeiSteps.{Laws}
 
 -- a run that has so many turns behind it, and no more steps left than turns
 pub record IsOnWay {M : Type 0} (Names : PeiMachine → Option ℕ → Type 0) (Lets : PeiMachine → ℕ → Bool) (stands : M → StoreState → Type 0) (board : Board) (catalog : Catalog) (fuel turns : ℕ) (pei : Pei M) (queue : PeiQueue) (told : PeiTold) : Type 0 where

@@ -16,8 +16,9 @@ use Rattle.boot_trace.specs.Printing.{Texts}
 use Rattle.catalog_model.specs.declared.catalog.Catalog.{Catalog}
 use Rattle.catalog_model.specs.declared.catalog.Part.{Part}
 use Rattle.catalog_model.specs.Parts.{has_number, part_at}
-use Rattle.free_laws.specs.PeiAim.{with_cursor}
-use Rattle.free_laws.specs.PeiFree.{IsOwnCase}
+use Rattle.free_laws.specs.PeiAim.{CursorAims, with_cursor}
+use Rattle.free_laws.specs.PeiFree.{IsOwnCase, OwnPeiStepsAreFree}
+use Rattle.free_laws.specs.PeiUnderWay.{PeiStepsRunOut}
 use Rattle.pei_choice.specs.declared.queue.PeiQueue.{PeiQueue}
 use Rattle.pei_choice.specs.View.{event_guids}
 use Rattle.pei_core.specs.declared.event.Event.{Event}
@@ -27,7 +28,6 @@ use Rattle.pei_core.specs.Steps.{IsEvent, IsIdle}
 use Rattle.pei_dispatch.specs.Choices.{IsDue, IsOwnStep, IsRunBy, IsStepBy}
 use Rattle.pei_dispatch.specs.Turns.{HasTurned, IsNext, IsNow, IsOver}
 use Rattle.pei_dispatch.proofs.Chosen.{Chose, idle_stops, own_case, stands_anywhere, step_is_free}
-use Rattle.pei_dispatch.proofs.ChosenWays.{Laws}
 use Rattle.pei_dispatch.proofs.Following.{guids_are, once_fewer}
 use Rattle.pei_dispatch.proofs.Idle.{step_quiet, step_stops}
 use Rattle.store_model.specs.Service.Install.{has_ppi}
@@ -42,6 +42,12 @@ use Rattle.boot_reasons.specs.Noting.{AreNoted, IsPresent, giver_in}
 use Rattle.boot_reasons.specs.PeiReasons.{gained, pei_begun, pei_begun_at, pei_begun_by, pei_giver, pei_moved, starts_between}
 use Rattle.boot_reasons.specs.PeiTelling.{IsAt, IsAtEnd, IsBarred, IsLeftAt, IsStartTold, IsTold}
 use Rattle.boot_reasons.proofs.GiverSteps.{actor_present, first_of, giver_on, giver_still}
+
+-- the laws of free steps that a run stands on
+pub record Laws : Type 0 where
+  pub aims : CursorAims
+  pub own : OwnPeiStepsAreFree
+  pub nearer : PeiStepsRunOut
 
 -- a list that stays gains nothing, and one with an item more in front that item
 gained_none : (before later : List ℕ) → later ≡ before → gained before later ≡ []
