@@ -1,5 +1,5 @@
 -- What is told of a run of PEI by choices, a step further.
-use Rattle.std.proofs.Common.{◌≡◌, ℕ, zero, suc, ◌-◌, arith, length, Bool, true, false, cond, List, [], ◌∷◌, ◌++◌, flat_map, Option, Some, None, option_map, refl, sym, ap, ◌∙◌, subst, inl, inr}
+use Rattle.std.proofs.Common.{◌≡◌, ℕ, zero, suc, ◌-◌, arith, length, Bool, true, false, cond, List, [], ◌∷◌, ◌++◌, flat_map, Option, Some, None, option_map, Result, Ok, Err, IfOk, refl, sym, ap, ◌∙◌, subst, inl, inr}
 use Rattle.std.specs.Prelude.{take}
 use Rattle.std.specs.Option.{option_or, option_to_list}
 use Rattle.std.proofs.lemmas.List.{append-nil}
@@ -51,6 +51,11 @@ pub record Laws : Type 0 where
   pub aims : CursorAims
   pub own : OwnPeiStepsAreFree
   pub nearer : PeiStepsRunOut
+
+-- what holds of an answer, told of a later one
+pub on_ok : {A E : Type 0} (P Q : A → Type 0) (r : Result A E) → ((a : A) → P a → Q a) → IfOk r P → IfOk r Q
+on_ok P Q (Ok a) f h = f a h
+on_ok P Q (Err e) f h = h
 
 -- a list that stays gains nothing, and one with an item more in front that item
 gained_none : (before later : List ℕ) → later ≡ before → gained before later ≡ []
