@@ -3,9 +3,7 @@ mod DxeSteps
 mod GiverSteps
 mod HeldParts
 mod PeiEnds
-mod PeiOneRun
 mod PeiSteps
 mod Phases
-mod RunVolumes
 mod StepLists
 mod WalkedLists

@@ -7,7 +7,6 @@ pub mod Moving
 pub mod Needs
 pub mod Noting
 pub mod PeiEnding
-pub mod PeiOneRun
 pub mod PeiReasons
 pub mod PeiTelling
 pub mod Unseen
