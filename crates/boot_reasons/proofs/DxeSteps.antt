@@ -1,10 +1,10 @@
 -- What is told of a run of DXE by choices, a turn further.
-use Rattle.std.proofs.Common.{◌≡◌, ◌≤◌, ℕ, ◌+◌, arith, Bool, true, false, List, [], ◌∷◌, ◌++◌, Option, Some, None, Ok, option_map, refl, sym, ap, ◌∙◌, subst, length}
+use Rattle.std.proofs.Common.{◌≡◌, ◌≤◌, ℕ, ◌+◌, arith, drop, Bool, true, false, List, [], ◌∷◌, ◌++◌, Option, Some, None, Ok, option_map, refl, sym, ap, ◌∙◌, subst, length}
 use Rattle.std.specs.Option.{option_to_list}
 use Rattle.std.proofs.lemmas.List.{append-nil}
 use Rattle.pi_base.specs.declared.guid.Guid.{Guid}
 use Rattle.pi_base.specs.declared.phase.Phase.TheVariants.{Dxe}
-use Rattle.boot_laws.specs.ChangedGuids.{is_among}
+use Rattle.boot_laws.specs.UnrequestedDrivers.{UnrequestedDriversWait}
 use Rattle.boot_model.specs.declared.licence.Licence.{Licence}
 use Rattle.boot_model.specs.declared.licence.Licence.TheVariants as G
 use Rattle.boot_model.specs.declared.phase_end.DxeEnd.{DxeEnd}
@@ -16,31 +16,34 @@ use Rattle.boot_trace.specs.Printing.{Texts}
 use Rattle.catalog_model.specs.declared.catalog.Catalog.{Catalog}
 use Rattle.catalog_model.specs.declared.catalog.Part.{Part}
 use Rattle.catalog_model.specs.Parts.{part_at}
-use Rattle.dxe_choice.specs.Queue.{Queue}
-use Rattle.dxe_core.specs.Standing.{DxeCore, IsCoreOf}
+use Rattle.catalog_model.specs.WellFormed.{IsWellFormed}
+use Rattle.dxe_choice.specs.Queue.{Discovers, IsNewQueue, Queue}
+use Rattle.dxe_core.specs.Standing.{DxeCore, IsCoreOf, IsFor, StandsFor}
 use Rattle.dxe_dispatch.specs.declared.answer.Step.{Step}
 use Rattle.dxe_dispatch.specs.declared.answer.Step.TheVariants.{Acted, Started}
 use Rattle.dxe_dispatch.specs.declared.answer.Turn.TheVariants as T
-use Rattle.dxe_dispatch.specs.Choices.{IsAimedBy, IsRunBy, TurnsBy, came}
-use Rattle.dxe_dispatch.specs.Ends.{IsNow, StandsAtEnd}
-use Rattle.dxe_dispatch.specs.Turns.{IsLeft, IsStarting, IsStep, StartsNone}
-use Rattle.dxe_dispatch.proofs.Chosen.{Any, target_at}
-use Rattle.dxe_dispatch.proofs.ChosenWays.{IsComing}
+use Rattle.dxe_dispatch.specs.Choices.{IsAimedBy, IsRunBy, NamesDrivers, TurnsBy, came}
+use Rattle.dxe_dispatch.specs.Ends.{IsNow}
+use Rattle.dxe_dispatch.specs.Turns.{IsLeft, IsStep, StartsNone}
+use Rattle.dxe_dispatch.proofs.Chosen.{Any, StepLaws, target_at}
+use Rattle.dxe_dispatch.proofs.ChosenWays.{IsComing, coming_on, opening_queue}
 use Rattle.dxe_dispatch.proofs.Targets.{Aimed, First, IsTarget, Own}
 use Rattle.frames.specs.Frames.{top_of}
 use Rattle.free_laws.specs.declared.choice.Reached.{Reached}
 use Rattle.free_laws.specs.declared.choice.Reached.TheVariants as R
 use Rattle.free_laws.specs.DxeAim.{FirstEligibleMayStart}
+use Rattle.free_laws.specs.DxeUnderWay.{DxeOpensUnderWay}
 use Rattle.store_model.specs.HandleState.{has_protocol, no_handles}
 use Rattle.store_model.specs.StoreState.{StoreState}
 use Rattle.boot_reasons.specs.declared.nowhere.Nowhere.{Nowhere}
-use Rattle.boot_reasons.specs.declared.reasons.Begun.{Begun}
 use Rattle.boot_reasons.specs.declared.reasons.Giver.{Giver}
+use Rattle.boot_reasons.specs.declared.reasons.Giver.TheVariants.{Absent}
 use Rattle.boot_reasons.specs.declared.told.DxeTold.{DxeTold}
 use Rattle.boot_reasons.specs.DxeReasons.{beside_by, dxe_begun, dxe_begun_at, dxe_begun_by, dxe_begun_in, dxe_giver}
-use Rattle.boot_reasons.specs.DxeTelling.{EndsTo, IsTold, Tells}
+use Rattle.boot_reasons.specs.DxeTelling.{EndsTo, IsAtOpening, IsTold, NamesUnseenAfter, Tells}
 use Rattle.boot_reasons.specs.Givers.{actor_in}
 use Rattle.boot_reasons.specs.Noting.{AreNoted, giver_in}
+use Rattle.boot_reasons.specs.Unseen.{nowhere}
 use Rattle.boot_reasons.proofs.GiverSteps.{actor_present, first_of, giver_on, giver_same, giver_still}
 
 -- what a machine has installed, and who runs in it
@@ -205,3 +208,64 @@ told_to law Names Others Lets text faults stands store catalog fuel opening firs
       due = record { target = by.target; aimed = aimed_by Names Others catalog m by.target may by.aimed; starting = by.turned.starting };
       barred = by.turned.barred;
     })
+
+-- a sink that tells nothing
+abbrev pub untold : Nowhere → Option (List ℕ)
+untold sink = None
+
+abbrev pub flawless : Nowhere → ℕ
+flawless sink = 0
+
+-- the opening, of which nothing is told
+pub at_opening : {M : Type 0} (opens : DxeOpensUnderWay) (waits : UnrequestedDriversWait) (stands : M → StoreState → Type 0) (store : M) (catalog : Catalog) (fuel : ℕ) (s : StoreState) (actions : ℕ) (core : DxeCore) (kept queue : Queue) (told : DxeTold)
+    → IsWellFormed catalog → IsFor catalog fuel core → StandsFor stands store catalog core (dxe_opening catalog s actions) → IsNewQueue catalog kept → Discovers catalog kept (drop 0 core.services.order.volumes) queue
+    → told.begun ≡ [] → ((guid : Guid) → giver_in told.givers.map guid ≡ Absent) → IsAtOpening stands store catalog fuel s actions core queue told
+at_opening opens waits stands store catalog fuel s actions core kept queue told well made is new discovers begun givers = record {
+  made = made;
+  on = record {
+    now = record { machine = is; queue = opening_queue catalog kept queue core.services.order.volumes s actions new is.core.services.order.volumes_are discovers };
+    way = (opens catalog fuel s actions well.parents).way;
+    waits = waits catalog well fuel 0 s actions;
+  };
+  is_told = record { begun = begun; givers = givers };
+}
+
+-- from there so many turns are left as the bound lets
+pub comes_first : {M : Type 0} (opens : DxeOpensUnderWay) (Names : DxeMachine → Option ℕ → Type 0) (Lets : DxeMachine → ℕ → Bool) (stands : M → StoreState → Type 0) (store : M) (catalog : Catalog) (fuel : ℕ) (s : StoreState) (actions : ℕ) (core : DxeCore) (queue : Queue) (told : DxeTold) (evaluated : ℕ)
+    → IsWellFormed catalog → IsAtOpening stands store catalog fuel s actions core queue told
+    → IsComingTold Names Lets untold flawless stands store catalog fuel (dxe_opening catalog s actions) nowhere 0 core queue nowhere evaluated evaluated told
+comes_first opens Names Lets stands store catalog fuel s actions core queue told evaluated well at =
+    let few = (opens catalog fuel s actions well.parents).few in
+    record {
+      way = record {
+        earlier = [];
+        run = tt;
+        on = at.on;
+        has = record { put = tt; right = refl };
+        few = λ most bound few. few;
+        left = omega (arith, few);
+        counted = omega arith;
+      };
+      is_told = at.is_told;
+    }
+
+-- one turn more
+pub told_further : {M : Type 0} (laws : StepLaws) (Names : DxeMachine → Option ℕ → Type 0) (Lets : DxeMachine → ℕ → Bool) (stands : M → StoreState → Type 0) (store : M) (catalog : Catalog) (fuel : ℕ)
+    (opening : DxeMachine) (turns : ℕ) (core later : DxeCore) (kept grown : Queue) (before evaluated now : ℕ) (told after : DxeTold) (actor : Giver) (step : Step) → IsWellFormed catalog → opening.handles ≡ no_handles
+    → (is : IsComingTold Names Lets untold flawless stands store catalog fuel opening nowhere turns core kept nowhere before evaluated told)
+    → TurnsBy Names Lets (IsNow stands store catalog later grown) (IsLeft stands store catalog later grown) catalog fuel (came catalog fuel opening is.way.earlier) (record { old = None; new = None }) evaluated now (Ok (T.Took step))
+    → actor ≡ actor_in core.frames → Tells catalog later actor step told after
+    → IsComingTold Names Lets untold flawless stands store catalog fuel opening nowhere (turns + 1) later grown nowhere before now after
+told_further laws Names Lets stands store catalog fuel opening turns core later kept grown before evaluated now told after actor step well none is by acts tells =
+    let earlier = is.way.earlier in
+    let going = is.way.on.now.machine.core.running in
+    let turn = turned catalog fuel Names Lets laws.first opening earlier by.target none is.way.run going by.aimed in
+    record {
+      way = coming_on laws Names Lets untold flawless stands store catalog fuel opening nowhere turns core later kept grown nowhere nowhere before evaluated now step well is.way by refl;
+      is_told = told_on catalog fuel opening earlier by.target later told after actor step turn is.is_told by.turned.1 by.turned.0.now.machine.core
+          (acts ∙ ap actor_in (sym (turn.frames ∙ is.way.on.now.machine.core.frames))) tells;
+    }
+
+-- what a choice that sees no text may name, looking into this sink or that
+pub unseen : (names : Nowhere → ℕ → Option ℕ → Type 0) (in_pei : ℕ) (m : DxeMachine) (named : Option ℕ) → NamesDrivers names untold flawless in_pei nowhere m named → NamesUnseenAfter names in_pei m named
+unseen names in_pei m named may = may.is
