@@ -2,8 +2,11 @@ mod DxeEnds
 mod DxeSteps
 mod GiverSteps
 mod HeldParts
+mod OneRun
+mod OneTelling
+mod OwnBoots
 mod PeiEnds
 mod PeiSteps
 mod Phases
-mod StepLists
+mod Reported
 mod WalkedLists

@@ -1,3 +1,4 @@
+pub mod Boots
 pub mod DxeReasons
 pub mod DxeTelling
 pub mod Explained

@@ -21,7 +21,7 @@ mod told;
 mod waiters;
 
 pub use explain::explain_by;
-pub use laws::one_explanation;
+pub use laws::{explained_is_a_boot, one_explanation, own_boot_is_explained};
 pub use nowhere::Nowhere;
 pub use plan::{explain_plan, explain_plan_by};
 pub use reasons::{Begun, Explained, Giver, Held, Moved, Need};

@@ -33,7 +33,7 @@ use Rattle.dxe_dispatch.specs.Choices.{BarsBy, EndsBy, EvaluatesFewBy, IsOnWay, 
 use Rattle.dxe_dispatch.specs.Ends.{IsNow}
 use Rattle.dxe_dispatch.specs.declared.answer.Step.{Step}
 use Rattle.dxe_dispatch.specs.declared.answer.Turn.TheVariants as T
-use Rattle.dxe_dispatch.specs.Turns.{IsLeft, IsGivenUp, IsWithin}
+use Rattle.dxe_dispatch.specs.Turns.{IsGivenUp, IsLeft, IsWithin}
 use Rattle.dxe_dispatch.proofs.Chosen.{Any, StepLaws, TakesFew, few_by, few_started, nearer_by, same_discovered, same_lines, target_at, waits_behind}
 use Rattle.dxe_dispatch.proofs.Targets.{left_before}
 

@@ -40,7 +40,7 @@ returns-in_ok-discover-in-Went-clause-row g c lets m fuel made ready =
     let here = c.tell.ensures.row catalog c.requires.queue m (told m (dxe_step catalog fuel m)) ready.now.queue (has_event catalog fuel m c.in-Went.event c.step.new.self.services.handles went.1 core.services.handles) in
     let row = subst (λ (order : Drivers). Discovers catalog c.tell.new.queue (drop c.in-Went.event.known order.volumes) c.discover.new.self) c.order.ensures c.in_ok-discover-in-Went.ensures.row in
     let turned = event_so lets g.M.PeiStore.stands_for c.args.store.now catalog fuel c.step.new.self c.tell.new.queue c.discover.new.self m c.in-Went.event _ went.0 went.1 went.2 here row in
-    (turned, went.1, busy_starts_none catalog m went.0)
+    (turned, (went.1, busy_starts_none catalog m went.0))
 
 pub returns-in_ok-discover-in-Went-clause-owes : goal.returns-in_ok-discover-in-Went-clause-owes
 returns-in_ok-discover-in-Went-clause-owes g c before m fuel made ready =
