@@ -1,5 +1,5 @@
 -- What is told of both phases explains the boot.
-use Rattle.std.proofs.Common.{◌≡◌, ℕ, Bool, IfOk, List, Option, Some, None, Result, Ok, Err, refl, sym, ap, ◌∙◌, subst}
+use Rattle.std.proofs.Common.{◌≡◌, ℕ, Bool, IfOk, List, Option, Some, None, Result, Ok, Err, true≢false, refl, sym, ap, ◌∙◌, subst}
 use Rattle.catalog_model.specs.declared.catalog.Catalog.{Catalog}
 use Rattle.store_model.specs.Service.{OfEach}
 use Rattle.store_model.specs.StoreCall.{Anything}
@@ -17,7 +17,7 @@ use Rattle.boot_reasons.specs.declared.nowhere.Nowhere.{Nowhere}
 use Rattle.boot_reasons.specs.declared.pei.PeiExplained.{PeiExplained}
 use Rattle.boot_reasons.specs.declared.reasons.Explained.{Explained}
 use Rattle.boot_reasons.specs.DxeTelling as D
-use Rattle.boot_reasons.specs.Explained.{ExplainsBehind, IsExplainedAfter, left_in_dxe}
+use Rattle.boot_reasons.specs.Explained.{ExplainsBehind, IsExplainedAfter, IsLeftBefore, left_in_dxe, left_in_pei, own_choices}
 use Rattle.boot_reasons.specs.Joining.{together}
 use Rattle.boot_reasons.specs.PeiEnding.{ExplainsRun}
 use Rattle.boot_reasons.specs.Unseen.{choices_of}
@@ -91,3 +91,8 @@ ends_alone w stands catalog fuel pei p e ends board run = record {
   peims = run.explained;
   ends = ends run.«end» (record run.«end» { ended = None; core_sweep = run.sweep }) run.machine refl;
 }
+
+-- the machine's own choices let each module start
+pub own_goes_on : (board : Board) (catalog : Catalog) (fuel number : ℕ) → IsLeftBefore own_choices board catalog fuel number → ⊥
+own_goes_on board catalog fuel number (left_in_pei earlier m bars) = true≢false bars.barred
+own_goes_on board catalog fuel number (left_in_dxe earlier pei run handed over bars) = true≢false bars.barred
