@@ -1,5 +1,5 @@
 -- A run of PEI by choices, from its opening to its end, and what is handed on there.
-use Rattle.std.proofs.Common.{◌≡◌, ◌≤◌, ◌<◌, ℕ, ◌+◌, arith, Bool, false, true, List, [], ◌∷◌, Option, Some, None, refl, sym, ap, ◌∙◌, subst, is_some}
+use Rattle.std.proofs.Common.{◌≡◌, ◌≤◌, ◌<◌, ℕ, ◌+◌, arith, length, Bool, false, true, List, [], ◌∷◌, Option, Some, None, refl, sym, ap, ◌∙◌, subst, is_some}
 use Rattle.pi_base.specs.declared.guid.Guid.{Guid}
 use Rattle.catalog_model.specs.declared.catalog.Catalog.{Catalog}
 use Rattle.store_model.specs.StoreState.{Board, StoreState}
@@ -81,8 +81,10 @@ opened alike stands board catalog fuel pei fresh queue volumes made stand new ar
     let m = pei_opening board catalog in
     let differ : AllDiffer volumes = subst AllDiffer (sym (are ∙ stand.has.fields.reported)) made.known.differ in
     let same : AreAlike (with_volumes volumes first_view) (view_of m) = record { volumes = are; starts = λ n. refl; allows = λ n h. refl; installs = λ guid. refl } in
-    let shown = alike catalog queue (with_volumes volumes first_view) (view_of m) (shows first_view new.shows differ) same in
-    record { machine = stand; parts = record { shows = shown; place = sym (place ∙ new.place) }; within = omega arith }
+    let shown : Shows catalog queue (view_of m) = alike catalog queue (with_volumes volumes first_view) (view_of m) (shows first_view new.shows differ) same in
+    let order : ℕ = length (pei_order catalog m.reported) in
+    let within : 0 ≤ order = omega arith in
+    record { machine = stand; parts = record { shows = shown; place = sym (place ∙ new.place) }; within = within }
 
 -- nothing is told at the opening
 pub at_opening : {M : Type 0} (opens : PeiOpensUnderWay) (Names : PeiMachine → Option ℕ → Type 0) (Lets : PeiMachine → ℕ → Bool) (stands : M → StoreState → Type 0) (board : Board) (catalog : Catalog) (fuel : ℕ) (pei : Pei M) (queue : PeiQueue) (told : PeiTold)
