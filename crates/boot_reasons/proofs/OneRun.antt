@@ -34,7 +34,7 @@ use Rattle.whole_boot.specs.Choices.{Choices}
 use Rattle.boot_reasons.specs.declared.dxe.DxeExplained.{DxeExplained}
 use Rattle.boot_reasons.specs.declared.pei.PeiExplained.{PeiExplained}
 use Rattle.boot_reasons.specs.declared.reasons.Explained.{Explained}
-use Rattle.boot_reasons.specs.Boots.{NameOne}
+use Rattle.boot_reasons.specs.Boots.{HasOneExplanation, NameOne}
 use Rattle.boot_reasons.specs.DxeTelling as T
 use Rattle.boot_reasons.specs.Explained.{ExplainsTo, IsExplainedAfter, IsExplainedBy, IsExplainedInDxe, IsLeftBefore, left_in_dxe, left_in_pei}
 use Rattle.boot_reasons.specs.Joining.{together}
@@ -347,8 +347,8 @@ one_left b one other (left_in_dxe e pei run handed before x) (left_in_dxe f last
     let way : before ≡ after = one_dxe_run b last before after there.run (dxe_barred one there.due there.barred) y.run (dxe_barred other y.due y.barred) in
     one_driver b last (came b last after) one other y.running (subst (λ xs. D.IsDue (b.by.drivers last) b.catalog (came b last xs) one) way there.due) y.due
 
-pub one_boot : (laws : RunLaws) (by : Choices) (board : Board) (catalog : Catalog) (fuel : ℕ) → IsWellFormed catalog → NameOne by → (one other : Reached Explained) → ExplainsTo by board catalog fuel one → ExplainsTo by board catalog fuel other → one ≡ other
-one_boot laws by board catalog fuel well names one other p q = same one other p q
+pub one_boot : (laws : RunLaws) (by : Choices) → HasOneExplanation by
+one_boot laws by names board catalog fuel well one other p q = same one other p q
   where
     b : Boot
     b = record { by = by; board = board; catalog = catalog; fuel = fuel; well = well; names = names; laws = laws }

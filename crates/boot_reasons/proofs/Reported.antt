@@ -77,11 +77,8 @@ case_differs catalog fuel m Stops numbered h = h
 pub run_differs : (Names : PeiMachine → Option ℕ → Type 0) (Lets : PeiMachine → ℕ → Bool) (board : Board) (catalog : Catalog) (fuel : ℕ) (earlier : List PeiMachine) (m : PeiMachine) → AreNumbered 0 catalog.volumes
     → IsRunBy Names Lets catalog fuel (pei_opening board catalog) earlier m → Differ m
 run_differs Names Lets board catalog fuel [] m numbered run = subst Differ (sym run) (distinct_family catalog 0 numbered)
-run_differs Names Lets board catalog fuel (before ∷ earlier) m numbered run = by run.1
+run_differs Names Lets board catalog fuel (before ∷ earlier) m numbered run = by (run_differs Names Lets board catalog fuel earlier before numbered run.2) run.1
   where
-    was : Differ before
-    was = run_differs Names Lets board catalog fuel earlier before numbered run.2
-
-    by : IsStepBy Names Lets catalog fuel before m → Differ m
-    by (inl own) = subst Differ (sym own.is) (case_differs catalog fuel before (case_of catalog before) numbered was)
-    by (inr start) = subst Differ (sym start.is) (part_differs catalog before start.number (part_at Pei catalog start.number) was)
+    by : Differ before → IsStepBy Names Lets catalog fuel before m → Differ m
+    by was (inl own) = subst Differ (sym own.is) (case_differs catalog fuel before (case_of catalog before) numbered was)
+    by was (inr start) = subst Differ (sym start.is) (part_differs catalog before start.number (part_at Pei catalog start.number) was)
