@@ -13,6 +13,7 @@ from module_reading import GUID, Module, holds, read_tree, would
 MEMORY_PPI = "f894643d-c449-42d1-8ea8-85bdd8c65bde"
 CORE = "core"
 MOST_GIVERS = 16  # of one GUID that are named
+HEADER = 8  # the bytes of a HOB's header
 
 
 class Differs(Exception):
@@ -75,6 +76,7 @@ class Boot:
         self.requested: list[Module] = []
         self.moved: list[str] = []
         self.fuel, self.result = 0, ""
+        self.heap = HEADER  # the end HOB
 
     # What is there
 
@@ -110,6 +112,8 @@ class Boot:
                 self.notified(kind, int(volume), name, guid)
             case ["call", *_] | ["log", *_] | ["end", _]:
                 self.act(words, line)
+            case ["hob", _, body]:
+                self.heap += HEADER + len(body.replace("-", "")) // 2
             case ["migrate", old, new]:
                 self.moved = [old, new]
             case ["core", "install", _]:
@@ -365,7 +369,7 @@ class Boot:
         return told + ([f"would {number} {' '.join(found) or '-'}"] if found is not None else [])
 
     def told(self) -> list[str]:
-        """All lines but those of modules and of the heap."""
+        """All lines but those of modules, and that of the heap as it moved."""
         lines = list(self.starts)
         for phase in ("pei", "dxe"):
             reasons = [(module, self.reason(module, phase)) for module in self.order(phase)]
@@ -373,7 +377,8 @@ class Boot:
         for phase, reason in (("pei", "unreported"), ("dxe", "undiscovered")):
             unknown = [each for each in self.modules if phase in each.parts and each.volume not in self.known[phase]]
             lines += [f"waits {each.number} {phase} {reason}" for each in unknown]
-        return [*lines, *([f"moved {' '.join(self.moved)}"] if self.moved else []), f"fuel {self.fuel}", self.result]
+        moved = [f"moved {' '.join(self.moved)}"] if self.moved else []
+        return [*lines, *moved, f"heap end {self.heap}", f"fuel {self.fuel}", self.result]
 
     def catalogue(self) -> list[str]:
         lines = []

@@ -1,13 +1,12 @@
 """Reads what the text of a volume says of its modules: names, expressions and scripts; and what an expression asks for.
 
-`boot_reading` and `check-explain` stand on it.
+All is read in the text that `pitools text` prints. What the words `desc`, `install` and `reinstall` of a script do is said here a second
+time, apart from the tool: that makes it a second reading. `boot_reading` and `check-explain` stand on it.
 """
 import re
 import sys
-from collections.abc import Iterator
+from collections.abc import Callable, Iterator
 from dataclasses import dataclass, field
-
-from volume_reader import expression_in
 
 PARTS = {"peim": ["pei"], "driver": ["dxe"], "combined": ["pei", "dxe"], "mm-dxe": ["dxe"]}
 EXPRESSION = {"1b": "pei", "13": "dxe"}
@@ -82,8 +81,8 @@ def read_files(text: str) -> Iterator[tuple[str, str, list[str]]]:
     yield from files
 
 
-def read_module(module: Module, lines: list[str]) -> None:
-    """Fills a module from the lines of its file: the first section of each kind counts, and names stand where they may."""
+def read_module(module: Module, lines: list[str], expression: Callable[[str, bytes], str]) -> None:
+    """Fills a module from the lines of its file: the first section of each kind counts. An expression with bytes behind it stands as bytes."""
     block: list[list[list[str]]] | None = None
     seen = False
     for line in lines:
@@ -104,8 +103,7 @@ def read_module(module: Module, lines: list[str]) -> None:
             if kind == "15" and not seen:
                 module.shown, seen = shown_name(bytes.fromhex(code)), True
             if (phase := EXPRESSION.get(kind)) in module.parts:
-                read = expression_in(phase, bytes.fromhex(code))
-                module.expressions.setdefault(phase, read[0] if read else "malformed@")
+                module.expressions.setdefault(phase, expression(phase, bytes.fromhex(code)))
 
 
 # Expressions

@@ -29,27 +29,29 @@ mod trace_tool;
 mod volume_tool;
 
 use crate::forms::PROGRAM;
-use crate::meaning::tell;
+use crate::meaning::{tell, tells_of_files};
 use crate::status::ToolStatus;
 use crate::tools::tools_and_print;
 use boot_io::{PatientWriter, RealFiles};
-use overheard::{Heard, KeptFiles, KeptText};
-use program_edge::Call;
+use program_edge::{Call, Heard, Keeping, KeptFiles, KeptText, has_text};
 use std::io;
 use std::process::ExitCode;
 
-// Does what the words ask for, over the machine's files and standard output, and tells a person what came of it.
+// Does what the words ask for, over the machine's files and standard output, and tells on standard error what came of it.
 fn run(rt: &HostRuntime, call: &Call) -> ToolStatus {
     let alloc = rt.alloc();
     let words = call.words();
-    let mut files = KeptFiles::new(alloc, RealFiles::new(rt), call.is_told());
+    let mut files = KeptFiles::new(alloc, RealFiles::new(rt), call.keeping());
     let to = KeptText::new(
         alloc,
         PatientWriter::new(io::writer(rt), rt),
-        call.is_told(),
+        call.keeping(),
     );
     let (output, status) = tools_and_print(alloc, words, &mut files, to);
-    if call.is_told() {
+    if call.keeping() != Keeping::Nothing {
+        if has_text(&output) && tells_of_files(words, status) {
+            files.read_again(rt);
+        }
         tell(rt, words, status, &mut Heard::new(alloc, files, &output));
     }
     status

@@ -6,9 +6,8 @@ use crate::source_meaning::tell_readings;
 use crate::status::ToolStatus;
 use boot_io::MemFiles;
 use fault_words::line_at;
-use overheard::Heard;
 use plan_files::read_file;
-use program_edge::text_of;
+use program_edge::{Heard, text_of};
 use std::str;
 
 // The most bytes of a file of which a line is shown.
@@ -258,7 +257,12 @@ fn tell_done(rt: &HostRuntime, words: &[String], files: &mut MemFiles) {
     }
 }
 
-/// Tells a person what came of a run: a line for each status but Done, and for Done how expressions are read that mix AND and OR.
+/// Whether what is told of a run is read off its files.
+pub(crate) fn tells_of_files(words: &[String], status: ToolStatus) -> bool {
+    status != ToolStatus::Done || word_at(words, 0) == "volume"
+}
+
+/// Tells what came of a run: a line for each status but Done, and for Done how expressions are read that mix AND and OR.
 pub(crate) fn tell(rt: &HostRuntime, words: &[String], status: ToolStatus, heard: &mut Heard<'_>) {
     match status {
         ToolStatus::Done => tell_done(rt, words, &mut heard.files),

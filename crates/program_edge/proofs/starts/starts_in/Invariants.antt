@@ -1,5 +1,5 @@
 use Rattle.std.proofs.Common.{◌≤◌, length}
-use Rattle.overheard.proofs.starts.starts_in.Given as goal
+use Rattle.program_edge.proofs.starts.starts_in.Given as goal
 
 abbrev pub invariant-lines : goal.invariant-lines
 invariant-lines l = l.starts.scriptless ≤ l.starts.all

@@ -1,4 +1,4 @@
-// Where the search for the next PEIM begins.
+//! Where the search for the next PEIM begins.
 ghost use Rattle.std.specs.Prelude.{◌≡◌, ◌≤◌, length};
 ghost use Rattle.catalog_model.specs.declared.catalog.Catalog.{Catalog as OfCatalog};
 ghost use Rattle.pei_choice.specs.Queue.{Shows, owed_by, parts_in};
@@ -8,7 +8,7 @@ ghost use Rattle.pei_dispatch.specs.Choices.{IsPlaceFor};
 use pei_choice::PeiQueue;
 
 /// The search begins at the PEIM that is named, where it is in the order.
-pub(crate) fn aim(queue: &mut PeiQueue, named: Option<u32>)
+pub fn aim(queue: &mut PeiQueue, named: Option<u32>)
     requires { (catalog : OfCatalog) × (view : View) × Shows catalog queue.old view }
     ensures shows { (catalog : OfCatalog) (view : View) → Shows catalog queue.old view → Shows catalog queue.new view }
     ensures owed { owed_by queue.new ≡ owed_by queue.old }

@@ -1,27 +1,32 @@
 // A text that is kept as it leaves.
 ghost use Rattle.std.specs.Prelude.{◌≡◌};
 
+use crate::kept_files::Keeping;
 use std::alloc::Global;
 use std::io::{self, Write};
 
-/// A writer that keeps a copy of what the writer below it takes. Where memory is wanting for the copy there is none.
+// The most bytes of a text that is kept beside the names of files.
+const SHORT_TEXT: usize = 0x1_0000;
+
+/// A writer that keeps a copy of what the writer below it takes. Where that is too long, or memory is wanting for the copy, there is none.
 #[derive(Drop)]
 pub struct KeptText<W: Write + Drop> {
     to: W,
+    most: usize,
     kept: Option<Vec<u8>>,
 }
 
 impl<W: Write + Drop> KeptText<W> {
-    /// A writer that keeps what leaves by `to`, or nothing.
-    pub fn new(alloc: Global, to: W, is_keeping: bool) -> KeptText<W>
+    /// A writer that keeps so much of what leaves by `to`.
+    pub fn new(alloc: Global, to: W, keeping: Keeping) -> KeptText<W>
         ensures { W.contents result.to ≡ W.contents to }
     {
-        let kept = if is_keeping {
-            Some(Vec::new(alloc))
-        } else {
-            None
+        let (most, kept) = match keeping {
+            Keeping::Copies => (usize::MAX, Some(Vec::new(alloc))),
+            Keeping::Names => (SHORT_TEXT, Some(Vec::new(alloc))),
+            Keeping::Nothing => (0, None),
         };
-        KeptText { to, kept }
+        KeptText { to, most, kept }
     }
 
     /// What left, where it was kept.
@@ -37,7 +42,10 @@ impl<W: Write + Drop> KeptText<W> {
         ensures { self.new.to ≡ self.old.to }
     {
         let is_kept = match &mut self.kept {
-            Some(kept) => kept.extend_from_slice(taken).is_ok(),
+            Some(kept) => {
+                taken.len() <= self.most.saturating_sub(kept.len())
+                    && kept.extend_from_slice(taken).is_ok()
+            }
             None => false,
         };
         if !is_kept {
@@ -59,5 +67,13 @@ impl<W: Write + Drop> Write for KeptText<W> {
 
     fn flush(&mut self) -> io::Result<()> {
         self.to.flush()
+    }
+}
+
+/// Whether what left is kept.
+pub fn has_text<W: Write + Drop>(output: &Option<KeptText<W>>) -> bool {
+    match output {
+        Some(output) => output.text().is_some(),
+        None => false,
     }
 }

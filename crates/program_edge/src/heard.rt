@@ -1,18 +1,18 @@
-// What was overheard of a run.
-use crate::files::{KeptFiles, Refused};
-use crate::text::KeptText;
+// What is known of a run, to be told of.
+use crate::kept_files::{AskedFile, KeptFiles};
+use crate::kept_text::KeptText;
 use boot_io::{Files, MemFiles};
 use pi_base::Seq;
 use std::alloc::Global;
 use std::io::Write;
 
-/// What was overheard of a run.
+/// What is known of a run, to be told of.
 #[derive(Drop)]
 pub struct Heard<'a> {
     /// The files that were read, to be read again.
     pub files: MemFiles,
     /// The last file that was not.
-    pub refused: Option<Refused>,
+    pub refused: Option<AskedFile>,
     /// The text that left, where it was kept.
     pub text: Option<&'a [u8]>,
 }
