@@ -17,7 +17,7 @@ impl<'o> ByStarts<'o> {
     /// By the starts of an order.
     pub(crate) fn new(by: ByOrder<'o>) -> ByStarts<'o>
         requires { AreNames by.catalog.now (length by.catalog.now.modules) by.names.now.volumes.items }
-        ensures { result.by ≡ by }
+        ensures { result.by ≡ by.entry }
     {
         ByStarts { by }
     }
