@@ -24,8 +24,6 @@ use Rattle.boot_laws.proofs.DriverActions.{EffectFollows, Follows, effect_follow
 use Rattle.boot_laws.proofs.DriverCalls.{EffectKeeps, effect_keeps}
 use Rattle.start_order.specs.declared.line.Start.{Start}
 use Rattle.boot_starts.specs.Starts.{module_start, start_of, starts}
-use Rattle.boot_starts.specs.OneStep.{IsFreeDxeStep}
-use Rattle.boot_starts.specs.Leading.{DxeComesTo}
 use Rattle.boot_starts.specs.Counted.{DxeStartsCount}
 use Rattle.boot_starts.proofs.Fronts.{starts-append}
 use Rattle.boot_starts.proofs.QuietLines.{quiet_map, quiet_then}

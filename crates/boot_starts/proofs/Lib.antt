@@ -6,3 +6,4 @@ pub mod Runs
 pub mod QuietLines
 pub mod PeiCounts
 pub mod DxeCounts
+pub mod OrderStarts

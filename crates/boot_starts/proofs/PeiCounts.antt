@@ -1,13 +1,13 @@
 -- A step of PEI that starts no module tells of no start; a start tells of one.
-use Rattle.std.proofs.Common.{◌≡◌, ℕ, ◌+◌, Bool, true, false, not, cond, ◌&&◌, List, [], ◌∷◌, ◌++◌, map, flat_map, length, Option, Some, None, Ok, Err, nat_le, refl, sym, ap, ◌∙◌, subst, append_assoc, arith}
+use Rattle.std.proofs.Common.{◌≡◌, ℕ, ◌+◌, Bool, true, false, cond, List, [], ◌∷◌, ◌++◌, length, Some, None, Ok, Err, nat_le, refl, sym, ap, ◌∙◌, subst, append_assoc, arith}
 use Rattle.std.proofs.lemmas.List.{append-nil, length-append}
-use Rattle.std.specs.Option.{option_to_list, option_map}
+use Rattle.std.specs.Option.{option_to_list}
 use Rattle.pi_base.specs.declared.phase.Phase.TheVariants.{Pei}
 use Rattle.pi_base.specs.declared.word.Word.TheVariants.{Success, AlreadyStarted}
 use Rattle.act_code.specs.declared.action.Action.{Action}
 use Rattle.catalog_model.specs.declared.catalog.Catalog.{Catalog}
 use Rattle.catalog_model.specs.declared.catalog.Part.{Part}
-use Rattle.catalog_model.specs.Parts.{has_number, module_name, module_volume, part_at}
+use Rattle.catalog_model.specs.Parts.{has_number, module_name, module_volume}
 use Rattle.store_model.specs.declared.store_handle.Sweep.{Sweep}
 use Rattle.store_model.specs.Service.{Service}
 use Rattle.store_model.specs.Service.Install.{core_install}
@@ -26,13 +26,11 @@ use Rattle.boot_model.specs.PeiAction.{status_of, Effect, Wrote, Called, Own, Sh
 use Rattle.boot_model.specs.PeiChoice.{pei_order}
 use Rattle.boot_model.specs.PeiMachine.{PeiMachine, Frame, printed}
 use Rattle.boot_model.specs.PeiRun.{pei_opening}
-use Rattle.boot_model.specs.PeiStep.{PeiCase, Fires, Acts, Moves, Pops, Starts, Stops, action_at, after_effect, callback_begun, callback_line, case_of, core_called, dispatch_line, handoff_lines, in_case, outcome_of, past, reason_of, popped_to, report_lines, start_line, start_lines, started, started_by, started_part, stopped, waiting_line, waiting_lines}
+use Rattle.boot_model.specs.PeiStep.{PeiCase, Fires, Acts, Moves, Pops, Starts, Stops, action_at, after_effect, callback_begun, callback_line, case_of, core_called, dispatch_line, handoff_lines, in_case, outcome_of, past, reason_of, popped_to, report_lines, start_line, start_lines, started, started_part, stopped, waiting_line, waiting_lines}
 use Rattle.free_laws.specs.PeiFree.{IsOwnCase}
-use Rattle.free_laws.proofs.PeiWays.{may_has_part}
 use Rattle.free_laws.proofs.Starts.{pei_prints}
 use Rattle.start_order.specs.declared.line.Start.{Start}
 use Rattle.boot_starts.specs.Starts.{module_start, start_of, starts}
-use Rattle.boot_starts.specs.Leading.{PeiComesTo}
 use Rattle.boot_starts.specs.Counted.{PeiStartsCount}
 use Rattle.boot_starts.proofs.Fronts.{starts-append}
 use Rattle.boot_starts.proofs.QuietLines.{quiet_flat, quiet_map, quiet_option, quiet_then}

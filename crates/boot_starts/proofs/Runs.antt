@@ -1,5 +1,5 @@
 -- The free boots that start what was started up to a machine go on from it.
-use Rattle.std.proofs.Common.{◌≡◌, ℕ, List, [], ◌∷◌, ◌++◌, None, Some, refl, sym, ap, ◌∙◌, subst, append_assoc}
+use Rattle.std.proofs.Common.{◌≡◌, ℕ, List, [], ◌∷◌, ◌++◌, None, sym, ap, ◌∙◌, subst, append_assoc}
 use Rattle.catalog_model.specs.declared.catalog.Catalog.{Catalog}
 use Rattle.catalog_model.specs.WellFormed.{AreNumbered}
 use Rattle.store_model.specs.StoreState.{StoreState}
@@ -20,7 +20,7 @@ use Rattle.module_names.specs.Named.{HasNoTwins}
 use Rattle.start_order.specs.declared.line.Start.{Start}
 use Rattle.boot_starts.specs.Starts.{ComeFirst, starts}
 use Rattle.boot_starts.specs.OneStep.{IsFreeDxeStep}
-use Rattle.boot_starts.specs.Leading.{PeiComesTo, DxeComesTo, PeiStartsLead, DxeStartsLead}
+use Rattle.boot_starts.specs.Leading.{DxeComesTo, PeiStartsLead, DxeStartsLead}
 use Rattle.boot_starts.proofs.Fronts.{behind_front, first_of_first, starts-append}
 use Rattle.boot_starts.proofs.PeiSteps as PeiSteps
 use Rattle.boot_starts.proofs.DxeSteps as DxeSteps

@@ -1,13 +1,13 @@
 -- The order of the starts of which lines tell.
 -- Own.
-use Rattle.std.specs.Prelude.{ℕ, List, Option, Some, None, flat_map, option_map}
+use Rattle.std.specs.Prelude.{◌≡◌, ℕ, List, None, flat_map, map, option_map}
 use Rattle.std.specs.List.{enumerate_from}
 use Rattle.std.specs.Option.{option_to_list}
 use Rattle.boot_model.specs.declared.line.Line.{Line}
 use Rattle.start_order.specs.declared.line.AskedStart.{AskedStart}
 use Rattle.start_order.specs.declared.line.Start.{Start}
 use Rattle.start_order.specs.declared.lines.StartOrder.{StartOrder}
-use Rattle.boot_starts.specs.Starts.{start_of}
+use Rattle.boot_starts.specs.Starts.{start_of, starts}
 
 -- a start, as the line with this number asks for it
 abbrev pub asked_at : ℕ → Start → AskedStart
@@ -24,3 +24,7 @@ asked_from number lines = flat_map asked_in (enumerate_from number lines)
 -- each start of which the lines tell, with the number of its line, from 1; behind the last of them the boot goes on
 abbrev pub order_of : List Line → StartOrder
 order_of lines = record { starts = asked_from 1 lines; stop = None }
+
+-- what it asks for are the starts of which the lines tell
+abbrev pub OrderIsOfStarts : Type 0
+OrderIsOfStarts = (lines : List Line) → map (λ (one : AskedStart). one.start) (order_of lines).starts ≡ starts lines

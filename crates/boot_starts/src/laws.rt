@@ -1,6 +1,7 @@
 //! Laws of the starts of free boots, each on a function without a body.
 ghost use Rattle.boot_starts.specs.Counted.{DxeStartsCount, PeiStartsCount};
 ghost use Rattle.boot_starts.specs.OneStep.{OneDxeStep, OnePeiStep};
+ghost use Rattle.boot_starts.specs.Order.{OrderIsOfStarts};
 ghost use Rattle.boot_starts.specs.Leading.{DxeStartsLead, PeiStartsLead};
 
 /// From a machine of PEI the starts of a boot tell which of the free steps it takes.
@@ -23,4 +24,9 @@ pub fn starts_lead()
 pub fn starts_count()
     ensures pei { PeiStartsCount }
     ensures dxe { DxeStartsCount }
+{}
+
+/// The order of the starts of lines asks for the starts of which the lines tell, and for no other.
+pub fn order_is_of_starts()
+    ensures { OrderIsOfStarts }
 {}

@@ -5,6 +5,6 @@ mod laws;
 mod line;
 mod order;
 
-pub use laws::{one_dxe_step, one_pei_step, starts_count, starts_lead};
+pub use laws::{one_dxe_step, one_pei_step, order_is_of_starts, starts_count, starts_lead};
 pub use line::start_of;
 pub use order::order_of;

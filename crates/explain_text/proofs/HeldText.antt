@@ -1,9 +1,9 @@
 -- The words of who may install a GUID, as they are put one by one.
-use Rattle.std.proofs.Common.{◌≡◌, ℕ, suc, ◌+◌, ◌-◌, ◌<◌, ◌≤◌, Bool, true, false, cond, List, [], ◌∷◌, ◌++◌, length, take, drop, get_or, flat_map, map, decimal, Option, Some, None, refl, sym, ap, subst, ◌∙◌, append_assoc, arith}
-use Rattle.std.specs.Prelude.{nat_lt}
+use Rattle.std.proofs.Common.{◌≡◌, ℕ, suc, ◌+◌, ◌-◌, ◌<◌, ◌≤◌, Bool, true, false, cond, List, [], ◌∷◌, ◌++◌, length, take, drop, get_or, flat_map, decimal, Option, Some, None, refl, sym, ap, subst, ◌∙◌, append_assoc, arith}
+use Rattle.std.specs.Prelude.{nat_lt, OnOk, Result, Ok, Err}
 use Rattle.std.proofs.lemmas.Bool.Decides.{nat_tests}
 use Rattle.std.proofs.lemmas.Grind.{flat_map-append}
-use Rattle.std.proofs.lemmas.List.{append-nil, take_all, take_more, length-drop, take-append-drop}
+use Rattle.std.proofs.lemmas.List.{append-nil, take_all, take_more, length-drop}
 use Rattle.boot_io.specs.Line.{line_of, spaced}
 use Rattle.pi_base.specs.Lists.{Each}
 use Rattle.pi_base.specs.declared.guid.Guid.{Guid}
@@ -20,6 +20,11 @@ use Rattle.explain_text.specs.Flags.{flag, has_started}
 use Rattle.explain_text.specs.Givers.{Chain, givers_from, link_at, part_gives}
 use Rattle.explain_text.specs.HeldLines.{core_gives, lacks_words, or_dash, pair_words, told_words, with_core}
 use Rattle.explain_text.specs.Words.{word_of}
+
+-- what follows from what was put without a failure
+pub on_ok : {E : Type 0} (r : Result (Unit {0}) E) (P Q : Type 0) → (P → Q) → OnOk r P → OnOk r Q
+on_ok (Ok u) P Q f p = f p
+on_ok (Err e) P Q f p = p
 
 -- the front of a line, with words behind it
 pub line_more : (keyword : List ℕ) (front more : List (List ℕ)) → (front_of keyword front ++ flat_map spaced more) ++ 10 ∷ [] ≡ line_of keyword (front ++ more)

@@ -1,6 +1,5 @@
 -- The lines of the parts that are left, by flags and by what they say.
 use Rattle.std.proofs.Common.{◌≡◌, ℕ, ◌+◌, ◌<◌, ◌≤◌, Bool, List, [], ◌∷◌, ◌++◌, length, refl, ap, ◌∙◌, arith}
-use Rattle.std.specs.Prelude.{◌&&◌, not, is_some}
 use Rattle.pi_base.specs.declared.phase.Phase.{Phase}
 use Rattle.catalog_model.specs.declared.catalog.Module.{Module}
 use Rattle.explain_text.specs.LeftLines.{left_line, left_lines}

@@ -1,6 +1,6 @@
 -- The lines of the parts that neither started nor wait at the end: their phase never came to know their volume, or the boot was cut off while they were scheduled.
 -- Own.
-use Rattle.std.specs.Prelude.{ℕ, ◌+◌, Bool, ◌&&◌, ◌||◌, not, if◌then◌else◌, List, [], ◌∷◌, ◌++◌, decimal, is_some}
+use Rattle.std.specs.Prelude.{ℕ, ◌+◌, Bool, ◌&&◌, not, if◌then◌else◌, List, [], ◌∷◌, ◌++◌, decimal, is_some}
 use Rattle.boot_io.specs.Line.{line_of}
 use Rattle.pi_base.specs.declared.phase.Phase.{Phase}
 use Rattle.pi_base.specs.declared.phase.Phase.TheVariants.{Pei, Dxe}

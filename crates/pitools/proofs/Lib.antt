@@ -9,5 +9,6 @@ mod ToldFiles
 mod OneCheck
 mod OneFollow
 mod OneExplain
+mod StartNames
 mod OneTrace
 mod OneOutcome

@@ -6,10 +6,16 @@ use Rattle.boot_plan.specs.declared.plan.Plan.{Plan}
 use Rattle.catalog_model.specs.declared.catalog.Catalog.{Catalog}
 use Rattle.catalog_model.specs.declared.catalog.Module.{Module}
 use Rattle.catalog_model.specs.declared.catalog.VolumeEntry.{VolumeEntry}
+use Rattle.catalog_model.specs.Catalogue.{IsCatalogue}
+use Rattle.catalog_model.specs.WellFormed.{IsWellFormed}
 use Rattle.boot_model.specs.PlanBoard.{board_of}
 use Rattle.store_model.specs.StoreState.{Board}
 use Rattle.boot_reasons.specs.declared.reasons.Explained.{Explained}
-use Rattle.boot_reasons.specs.Explained.{IsExplained}
+use Rattle.free_laws.specs.declared.choice.Reached.{Reached}
+use Rattle.free_laws.specs.declared.choice.Reached.TheVariants as R
+use Rattle.whole_boot.specs.Choices.{Choices}
+use Rattle.boot_reasons.specs.Boots.{NameOne}
+use Rattle.boot_reasons.specs.Explained.{ExplainsTo, IsExplainedBy, own_choices}
 use Rattle.catalog_text.specs.Lines.{IsCatalogText}
 use Rattle.explain_text.specs.Text.{explained_text}
 use Rattle.plan_files.specs.Job.{IsNamedIn}
@@ -20,11 +26,22 @@ use Rattle.pitools.specs.Refusals.{image_line}
 use Rattle.pitools.proofs.OneCheck as C
 use Rattle.pitools.proofs.OneCheck.{one_of_job}
 
--- the laws of plans and catalogues; a catalogue has one text, and a boot one explanation
-pub record Laws : Type 0 where
+-- the laws of plans and catalogues; a catalogue has one text, and a boot by choices that name one module at most one explanation
+pub record Laws : Type 1 where
   pub plans : C.Laws
+  pub well : (plan : Plan) (images : List (List ℕ)) (catalog : Catalog) → IsCatalogue plan images catalog → IsWellFormed catalog
   pub texts : (volumes : List VolumeEntry) (images : List (List ℕ)) (modules : List Module) (a b : List ℕ) → IsCatalogText volumes images modules a → IsCatalogText volumes images modules b → a ≡ b
-  pub boots : (board : Board) (catalog : Catalog) (fuel : ℕ) (e f : Explained) → IsExplained board catalog fuel e → IsExplained board catalog fuel f → e ≡ f
+  pub boots : (by : Choices) (board : Board) (catalog : Catalog) (fuel : ℕ) → IsWellFormed catalog → NameOne by → (one other : Reached Explained)
+      → ExplainsTo by board catalog fuel one → ExplainsTo by board catalog fuel other → one ≡ other
+
+end_is : (e f : Explained) → R.End e ≡ R.End f → e ≡ f
+end_is e f same = cc
+
+pub one_run : Laws → (by : Choices) (board : Board) (catalog : Catalog) (fuel : ℕ) → IsWellFormed catalog → NameOne by → (e f : Explained) → IsExplainedBy by board catalog fuel e → IsExplainedBy by board catalog fuel f → e ≡ f
+one_run laws by board catalog fuel well one e f p q = end_is e f (laws.boots by board catalog fuel well one (R.End e) (R.End f) p q)
+
+own_name_one : NameOne own_choices
+own_name_one = record { peims = λ m one other f g. f ∙ sym g; drivers = λ pei m one other f g. f ∙ sym g }
 
 pub one_text : (Run : Explained → Type 0) → ((volumes : List VolumeEntry) (images : List (List ℕ)) (modules : List Module) (a b : List ℕ) → IsCatalogText volumes images modules a → IsCatalogText volumes images modules b → a ≡ b)
     → ((e f : Explained) → Run e → Run f → e ≡ f) → (images : List (List ℕ)) (catalog : Catalog) (a b : List ℕ) → IsExplanation Run images catalog a → IsExplanation Run images catalog b → a ≡ b
@@ -38,7 +55,7 @@ one_report laws plan images are a b s t (faulty_image f p e u) (explained_so c s
 one_report laws plan images are a b s t (explained_so c sound o e) (faulty_image g q h v) = absurd (laws.plans.catalogue_or_fault plan images c g are sound q)
 one_report laws plan images are a b s t (explained_so c sound o e) (explained_so d also u h) =
     let P : Catalog → Type 0 = λ x. IsExplanation (RunsItself plan images x) images x t in
-    (e ∙ sym h, one_text (RunsItself plan images c) laws.texts (laws.boots (board_of plan c images) c plan.fuel) images c s t o (subst P (laws.plans.catalogues plan images d c also sound) u))
+    (e ∙ sym h, one_text (RunsItself plan images c) laws.texts (one_run laws own_choices (board_of plan c images) c plan.fuel (laws.well plan images c sound) own_name_one) images c s t o (subst P (laws.plans.catalogues plan images d c also sound) u))
 
 pub one_explain : Laws → (told : List ℕ → Option (List ℕ)) (content : List ℕ) → AreAllTold told (IsNamedIn told content) → IsOne (JobOutcome ExplainReport told content)
 one_explain laws told content all = one_of_job laws.plans ExplainReport (one_report laws) told content all

@@ -7,6 +7,7 @@ use free_laws::Choice;
 use order_check::ByOrder;
 
 /// The module of an order's next start is named, and each is let: where that one may not start, the first that may does.
+#[derive(Drop)]
 pub(crate) struct ByStarts<'o> {
     by: ByOrder<'o>,
     ghost names: { AreNames by.catalog.now (length by.catalog.now.modules) by.names.now.volumes.items } by { Prim.hlevel props },
@@ -16,7 +17,7 @@ impl<'o> ByStarts<'o> {
     /// By the starts of an order.
     pub(crate) fn new(by: ByOrder<'o>) -> ByStarts<'o>
         requires { AreNames by.catalog.now (length by.catalog.now.modules) by.names.now.volumes.items }
-        ensures { result.by ≡ by }
+        ensures { result.by ≡ by.entry }
     {
         ByStarts { by }
     }

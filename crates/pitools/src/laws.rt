@@ -44,6 +44,7 @@ pub(crate) fn one_trace_report()
 {
     boot_plan::one_reading();
     catalog_model::one_catalogue();
+    catalog_model::catalogues_are_well_formed();
     catalog_text::one_catalog_text();
     boot_reasons::one_explanation();
     trace_reader::one_reading();
@@ -77,6 +78,7 @@ pub(crate) fn one_explain_report()
 {
     boot_plan::one_reading();
     catalog_model::one_catalogue();
+    catalog_model::catalogues_are_well_formed();
     catalog_text::one_catalog_text();
     boot_reasons::one_explanation();
 }

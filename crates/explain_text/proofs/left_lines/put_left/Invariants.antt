@@ -1,4 +1,4 @@
-use Rattle.std.proofs.Common.{◌≡◌, ◌≤◌, ◌++◌, drop, length}
+use Rattle.std.proofs.Common.{◌≡◌, ◌++◌, drop}
 use Rattle.explain_text.specs.Flags.{flag}
 use Rattle.explain_text.specs.LeftLines.{left_lines}
 use Rattle.explain_text.proofs.left_lines.put_left.Given as goal

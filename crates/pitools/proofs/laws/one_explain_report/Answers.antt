@@ -12,5 +12,5 @@ returns c =
       image_faults = c.one_catalogue.ensures.faults;
       catalogue_or_fault = c.one_catalogue.ensures.apart;
     } in
-    let laws : Laws = record { plans = plans; texts = c.one_catalog_text.ensures; boots = c.one_explanation.ensures } in
+    let laws : Laws = record { plans = plans; well = c.catalogues_are_well_formed.ensures; texts = c.one_catalog_text.ensures; boots = c.one_explanation.ensures } in
     one_explain laws

@@ -1,4 +1,5 @@
 use Rattle.pitools.proofs.OneCheck as C
+use Rattle.pitools.proofs.OneExplain as E
 use Rattle.pitools.proofs.OneTrace.{Laws, one_trace_report}
 use Rattle.pitools.proofs.laws.one_trace_report.Goals as goal
 
@@ -12,12 +13,6 @@ returns c =
       image_faults = c.one_catalogue.ensures.faults;
       catalogue_or_fault = c.one_catalogue.ensures.apart;
     } in
-    let laws : Laws = record {
-      plans = plans;
-      texts = c.one_catalog_text.ensures;
-      boots = ?;
-      traces = c.one_reading-2.ensures.traces;
-      bad = c.one_reading-2.ensures.bad;
-      read_or_bad = c.one_reading-2.ensures.apart;
-    } in
+    let explains : E.Laws = record { plans = plans; well = c.catalogues_are_well_formed.ensures; texts = c.one_catalog_text.ensures; boots = c.one_explanation.ensures } in
+    let laws : Laws = record { explains = explains; traces = c.one_reading-2.ensures.traces; bad = c.one_reading-2.ensures.bad; read_or_bad = c.one_reading-2.ensures.apart } in
     one_trace_report laws
