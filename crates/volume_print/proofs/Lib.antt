@@ -1,4 +1,5 @@
 mod Lists
 mod Forms
+mod Rooms
 mod Putting
 mod OneText

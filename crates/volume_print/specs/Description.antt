@@ -23,6 +23,7 @@ use Rattle.pi_base.specs.declared.guid.TheConstants.{GUID_LEN}
 use Rattle.fv_build.specs.Reading.{AreEach}
 use Rattle.catalog_model.specs.declared.limits.TheConstants.{MOST_DEPTH}
 use Rattle.volume_text.specs.Text.{Leads}
+use Rattle.volume_print.specs.Places.{first_place, pads_before, rooms}
 use Rattle.volume_print.specs.Spelling.{IsVolumeText}
 
 -- the section with its bytes
@@ -60,11 +61,15 @@ form_in bytes =
     if nat_lt (length bytes) LEAST_LEN then plain Ffs2
     else record { file_system = file_system_in bytes; attributes = told_attributes (little_number 4 (drop ATTRIBUTES_AT bytes)) }
 
+-- the pads in front of each file of a volume, which bring it to its place where it is built again
+abbrev pub pads_of : VolumeForm → Volume → List NewFile → List (List ℕ)
+pads_of form volume files = pads_before (first_place volume.name) (rooms form.file_system volume.files files)
+
 -- the text of a volume that is read of the bytes, by what volumes inside have as their texts
 pub record IsTextBy (Inner : List ℕ → List ℕ → Type 0) (bytes : List ℕ) (volume : Volume) (text : List ℕ) : Type 0 where
   pub files : List NewFile
   pub are : AreEach (IsFileIn bytes) volume.files files
-  pub spelled : IsVolumeText Inner (form_in bytes) volume.len volume.name files text
+  pub spelled : IsVolumeText Inner (form_in bytes) volume.len volume.name (pads_of (form_in bytes) volume files) files text
 
 -- the bytes are a volume from the first to the last, and have a text of which a volume is made
 pub record IsToldInside (Inner : List ℕ → List ℕ → Type 0) (bytes text : List ℕ) : Type 0 where
