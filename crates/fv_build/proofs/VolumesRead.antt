@@ -84,13 +84,14 @@ erases_to_ones : (attributes : ℕ) → (bit_and (bit_or attributes 2048) 2048 =
 erases_to_ones attributes = ap (λ n. n == 0) (and_or_self 2048 attributes)
 
 -- it is read back, and its files stand where they were laid
-pub record IsReadThere (form : VolumeForm) (files : List NewFile) (bytes : List ℕ) : Type 0 where
+pub record IsReadThere (form : VolumeForm) (files : List NewFile) (len : ℕ) (bytes : List ℕ) : Type 0 where
   pub back : IsReadBack files bytes
+  pub long : length bytes ≡ len
   pub places : map (λ f. f.at) back.volume.files ≡ listed_at form.file_system 72 files
 
 -- a volume against which nothing stands is read as the files that were handed in
 pub read_there : (form : VolumeForm) (files : List NewFile) (len : ℕ) → form.attributes < 2 ^ 32 → fault_of form.file_system files len ≡ None → All HasWholeName files → 72 ≤ len → len < 2 ^ 32
-    → IsReadThere form files (built_as form files len)
+    → IsReadThere form files len (built_as form files len)
 read_there form files len small none whole least below =
     let file_system = form.file_system in
     let s = sound file_system files len none in
@@ -116,7 +117,7 @@ read_there form files len small none whole least below =
       no_name = refl;
       are_files = found.each;
     } in
-    record { back = back; places = found.stand }
+    record { back = back; long = long; places = found.stand }
 
 pub read_back : (form : VolumeForm) (files : List NewFile) (len : ℕ) → form.attributes < 2 ^ 32 → fault_of form.file_system files len ≡ None → All HasWholeName files → 72 ≤ len → len < 2 ^ 32
     → IsReadBack files (built_as form files len)

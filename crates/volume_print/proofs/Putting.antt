@@ -30,7 +30,8 @@ use Rattle.volume_print.specs.declared.form.Host.{Host}
 use Rattle.volume_print.specs.Spelling.{holds_volume, as_volume, as_expression, as_guids, as_script, as_bytes, body_line, head_line, name_line, volume_line, attribute_words, whole, pad_line, with_pads, IsSectionText, AreSectionTexts, IsFileText}
 use Rattle.volume_print.specs.Description.{section_in, form_in, pads_of, IsStream, IsBodyIn, IsFileIn, IsTextBy, IsInner}
 use Rattle.volume_print.specs.Finding.{form_text, FindsVolume, FindsText, TellsVolume, IsPlainForm, IsForm, AddsSection, AddsSections, AddsBody, AddsFile, AddsFiles, held}
-use Rattle.volume_print.specs.Places.{Room, room_of, rooms, pads_in, stands, behind_all, pads_before, first_place}
+use Rattle.volume_print.specs.Places.{Room, room_of, rooms, pads_in, stands, behind_all, pads_before}
+use Rattle.fv_named.specs.Named.{first_place}
 
 -- a section in a form has the form's text
 pub in_form : (Inner : List ℕ → List ℕ → Type 0) (host : Host) (before : List NewSection) (section : NewSection) (f : Form) → IsForm Inner host before section f

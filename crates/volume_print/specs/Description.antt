@@ -23,7 +23,8 @@ use Rattle.pi_base.specs.declared.guid.TheConstants.{GUID_LEN}
 use Rattle.fv_build.specs.Reading.{AreEach}
 use Rattle.catalog_model.specs.declared.limits.TheConstants.{MOST_DEPTH}
 use Rattle.volume_text.specs.Text.{Leads}
-use Rattle.volume_print.specs.Places.{first_place, pads_before, rooms}
+use Rattle.fv_named.specs.Named.{first_place}
+use Rattle.volume_print.specs.Places.{pads_before, rooms}
 use Rattle.volume_print.specs.Spelling.{IsVolumeText}
 
 -- the section with its bytes

@@ -1,14 +1,11 @@
 -- Where the files of a volume stand, and the pad files that bring them there where they are built again (own).
-use Rattle.std.specs.Prelude.{ℕ, ◌+◌, ◌-◌, ◌/◌, ◌%◌, ◌≤◌, ◌≡◌, ◌⊎◌, ⊤, nat_lt, if◌then◌else◌, List, [], ◌∷◌, ◌++◌, length, replicate, Option, Some, None}
-use Rattle.pi_base.specs.declared.guid.Guid.{Guid}
+use Rattle.std.specs.Prelude.{ℕ, ◌+◌, ◌-◌, ◌/◌, ◌%◌, ◌≤◌, ◌≡◌, ◌⊎◌, ⊤, nat_lt, if◌then◌else◌, List, [], ◌∷◌, ◌++◌, length, replicate}
 use Rattle.fv_volume.specs.declared.file.FfsFile.{FfsFile}
 use Rattle.fv_volume.specs.declared.file_header.TheConstants.{HEADER_LEN as FILE_HEADER_LEN}
 use Rattle.fv_volume.specs.Frame.{aligned}
 use Rattle.fv_build.specs.declared.file_system.FileSystem.{FileSystem}
 use Rattle.fv_build.specs.declared.new_file.NewFile.{NewFile}
-use Rattle.fv_build.specs.declared.volume_header.TheConstants.{HEADER_LEN}
 use Rattle.fv_build.specs.Files.{bytes_in, file_size}
-use Rattle.fv_named.specs.declared.volume.TheConstants.{NAMED_LEN}
 use Rattle.volume_print.specs.declared.place.TheConstants.{LONG_PAD}
 
 -- where a file stands in its volume, and how many bytes it takes where it is built
@@ -56,8 +53,3 @@ places from (room ∷ rooms) = stands from room.at ∷ places (behind from room)
 abbrev pub LeaveRoom : ℕ → List Room → Type 0
 LeaveRoom from [] = ⊤
 LeaveRoom from (room ∷ rooms) = ((room.at ≡ from) ⊎ (from + FILE_HEADER_LEN ≤ room.at)) × LeaveRoom (aligned (room.at + room.len)) rooms
-
--- the first file of a built volume stands behind its header, or behind its name
-abbrev pub first_place : Option Guid → ℕ
-first_place None = HEADER_LEN
-first_place (Some name) = NAMED_LEN

@@ -10,10 +10,11 @@ use crate::file::{attributes_at, body_of as body_of_file, put_head, put_plain_bo
 use crate::form::{Form, Host, body_of, plain_form};
 use crate::inner::{holds_volume, read_again, whole_volume};
 use crate::law::one_text_by;
-use crate::place::{behind, first_place, put_pads, sections_len, stands};
+use crate::place::{behind, put_pads, sections_len, stands};
 use crate::section::put_form;
 use crate::volume::{form_in, put_head as put_volume_head, put_name};
 use fv_build::{FileSystem, file_size};
+use fv_named::first_place;
 use fv_section::Section;
 use fv_volume::{FfsFile, Volume, one_reading};
 use pi_base::{OutOfMemory, Seq};

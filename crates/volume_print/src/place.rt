@@ -5,16 +5,15 @@ ghost use Rattle.fv_section.specs.Stream.{AreInside};
 ghost use Rattle.fv_volume.specs.Frame.{aligned};
 ghost use Rattle.fv_build.specs.Sections.{body_bytes};
 ghost use Rattle.volume_print.specs.Description.{section_in};
-ghost use Rattle.volume_print.specs.Places.{first_place, pads_in, stands};
+ghost use Rattle.volume_print.specs.Places.{pads_in, stands};
 ghost use Rattle.volume_print.specs.Spelling.{pad_line};
 
 use crate::word::put_decimal;
-use fv_build::{FileSystem, HEADER_LEN, gap, section_size};
-use fv_named::NAMED_LEN;
+use fv_build::{FileSystem, gap, section_size};
 use fv_section::Section;
 use fv_volume::ALIGNMENT;
 use fv_volume::file_header::HEADER_LEN as FILE_HEADER_LEN;
-use pi_base::{Guid, OutOfMemory, Seq};
+use pi_base::{OutOfMemory, Seq};
 
 /// The bytes of a long pad file, its header in it: a longer stretch has several.
 pub(crate) const LONG_PAD: usize = 0x80_0000;
@@ -40,16 +39,6 @@ pub(crate) fn put_pads(out: &mut Seq<u8>, stretch: usize) -> Result<(), OutOfMem
         put_pad(out, LONG_PAD - FILE_HEADER_LEN)?;
     }
     put_pad(out, bodies % LONG_PAD)
-}
-
-/// Where the first file of a volume with a name or without stands.
-pub(crate) fn first_place(name: Option<Guid>) -> usize
-    ensures { result ≡ first_place name }
-{
-    match name {
-        None => HEADER_LEN,
-        Some(_) => NAMED_LEN as usize,
-    }
 }
 
 /// Where a file stands that may stand from a place on.
