@@ -186,23 +186,27 @@ one_text laws image a b x y =
 pub not_told : ((image : List ℕ) (a b : Volume) → IsVolume image a → IsVolume image b → a ≡ b)
     → ((deep : ℕ) (image : List ℕ) (volume : Volume) (a b : List ℕ) → IsTextBy (IsInner deep) image volume a → IsTextBy (IsInner deep) image volume b → a ≡ b)
     → (deep : ℕ) (host : Host) (section : NewSection) (volume : Volume) (text : List ℕ) → FindsVolume section.body (Some volume) → IsTextBy (IsInner deep) section.body volume text
-    → FindsText text None → TellsVolume (IsInner (suc deep)) host section None
+    → FindsText (length section.body) text None → TellsVolume (IsInner (suc deep)) host section None
 not_told one_volume one_by deep host section volume text found told none = λ other says.
     let inside = says.1 in
     let volumes : inside.volume ≡ volume = one_volume section.body inside.volume volume inside.is found.0 in
     let same : other ≡ text = one_by deep section.body volume other text (subst (λ (v : Volume). IsTextBy (IsInner deep) section.body v other) volumes inside.told) told in
-    none inside.again (subst (λ (t : List ℕ). Leads t inside.again) same inside.leads)
+    none inside.again (subst (λ (t : List ℕ). Leads t inside.again) same inside.leads) inside.long
 
 -- the bytes are no volume from the first to the last
 pub no_other : ((image : List ℕ) (a b : Volume) → IsVolume image a → IsVolume image b → a ≡ b) → (image : List ℕ) (read : Volume) → IsVolume image read → (read.len ≡ length image → ⊥)
     → FindsVolume image None
 no_other one image read is other = λ volume also all. other (ap (λ (v : Volume). v.len) (one image read volume is also) ∙ all)
 
+-- a text makes no volume of another length than that of the one it makes
+pub no_volume_so_long : ((text a b : List ℕ) → Leads text a → Leads text b → a ≡ b) → (len : ℕ) (text again : List ℕ) → Leads text again → (length again ≡ len → ⊥) → FindsText len text None
+no_volume_so_long one len text again leads other = λ bytes also long. other (ap length (one text again bytes leads also) ∙ long)
+
 -- a volume that stands inside, by whether a volume is made of its text
 pub told_or_not : ((image : List ℕ) (a b : Volume) → IsVolume image a → IsVolume image b → a ≡ b)
     → ((deep : ℕ) (image : List ℕ) (volume : Volume) (a b : List ℕ) → IsTextBy (IsInner deep) image volume a → IsTextBy (IsInner deep) image volume b → a ≡ b)
     → (deep : ℕ) (host : Host) (section : NewSection) (volume : Volume) (text : List ℕ) (r : Result (Option (List ℕ)) OutOfMemory) → (deep ≡ 0 → ⊥) → holds_volume host section.kind ≡ true
-    → FindsVolume section.body (Some volume) → IsTextBy (IsInner (deep - 1)) section.body volume text → IfOk r (FindsText text) → IfOk r (TellsVolume (IsInner deep) host section)
+    → FindsVolume section.body (Some volume) → IsTextBy (IsInner (deep - 1)) section.body volume text → IfOk r (FindsText (length section.body) text) → IfOk r (TellsVolume (IsInner deep) host section)
 told_or_not one by zero host section volume text r some holds found told again = absurd (some refl)
 told_or_not one by (suc deep) host section volume text (Ok (Some same)) some holds found told again =
     let e : suc deep - 1 ≡ deep = omega arith in

@@ -215,7 +215,7 @@ text_put Inner image volume next head named filed new first second files last =
 
 -- a section is told as a volume
 pub told_inside : (deep : ℕ) (host : Host) (section : NewSection) (volume : Volume) (text same : List ℕ) → holds_volume host section.kind ≡ true → FindsVolume section.body (Some volume)
-    → IsTextBy (IsInner deep) section.body volume text → FindsText text (Some same) → TellsVolume (IsInner (suc deep)) host section (Some same)
+    → IsTextBy (IsInner deep) section.body volume text → FindsText (length section.body) text (Some same) → TellsVolume (IsInner (suc deep)) host section (Some same)
 told_inside deep host section volume text same holds found told again = (
   holds,
   record {
@@ -225,5 +225,6 @@ told_inside deep host section volume text same holds found told again = (
     told = subst (λ (t : List ℕ). IsTextBy (IsInner deep) section.body volume t) (sym again.0) told;
     again = again.1.0;
     leads = subst (λ (t : List ℕ). Leads t again.1.0) (sym again.0) again.1.1;
+    long = again.1.2;
   },
 )

@@ -72,7 +72,7 @@ pub record IsTextBy (Inner : List ℕ → List ℕ → Type 0) (bytes : List ℕ
   pub are : AreEach (IsFileIn bytes) volume.files files
   pub spelled : IsVolumeText Inner (form_in bytes) volume.len volume.name (pads_of (form_in bytes) volume files) files text
 
--- the bytes are a volume from the first to the last, and have a text of which a volume is made
+-- the bytes are a volume from the first to the last, and have a text of which one of as many bytes is made
 pub record IsToldInside (Inner : List ℕ → List ℕ → Type 0) (bytes text : List ℕ) : Type 0 where
   pub volume : Volume
   pub is : IsVolume bytes volume
@@ -80,6 +80,7 @@ pub record IsToldInside (Inner : List ℕ → List ℕ → Type 0) (bytes text :
   pub told : IsTextBy Inner bytes volume text
   pub again : List ℕ
   pub leads : Leads text again
+  pub long : length again ≡ length bytes
 
 -- the text of bytes that stand inside as a volume, with volumes inside of it at most so deep as there are levels left
 abbrev pub IsInner : ℕ → List ℕ → List ℕ → Type 0

@@ -57,10 +57,10 @@ abbrev pub FindsVolume : List ℕ → Option Volume → Type 0
 FindsVolume bytes (Some volume) = IsVolume bytes volume × (volume.len ≡ length bytes)
 FindsVolume bytes None = (volume : Volume) → IsVolume bytes volume → volume.len ≡ length bytes → ⊥
 
--- the text, where a volume is made of it
-abbrev pub FindsText : List ℕ → Option (List ℕ) → Type 0
-FindsText text (Some same) = (same ≡ text) × ((bytes : List ℕ) × Leads text bytes)
-FindsText text None = (bytes : List ℕ) → Leads text bytes → ⊥
+-- the text, where a volume of so many bytes is made of it
+abbrev pub FindsText : ℕ → List ℕ → Option (List ℕ) → Type 0
+FindsText len text (Some same) = (same ≡ text) × ((bytes : List ℕ) × Leads text bytes × (length bytes ≡ len))
+FindsText len text None = (bytes : List ℕ) → Leads text bytes → length bytes ≡ len → ⊥
 
 -- the form in which a section behind others of a file is told, if it is told as no volume
 abbrev pub IsPlainForm : Host → List NewSection → NewSection → Form → Type 0

@@ -40,7 +40,7 @@ fn nested_text(
     one_reading();
     one_text_by();
     let text = text_by(alloc, bytes, &volume, deep - 1)?;
-    read_again(alloc, text)
+    read_again(alloc, text, bytes.len())
 }
 
 // In which form a section behind others of a file is told.
