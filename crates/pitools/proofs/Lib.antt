@@ -10,3 +10,4 @@ mod OneCheck
 mod OneFollow
 mod OneExplain
 mod OneOutcome
+mod TextsAgain

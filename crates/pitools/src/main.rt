@@ -21,6 +21,7 @@ mod report;
 mod source_meaning;
 mod source_refusal;
 mod status;
+mod text_again;
 mod text_tool;
 mod tools;
 mod volume_tool;
