@@ -1,7 +1,7 @@
 -- Rooms of files with one more, and places that stand still at 2^64 - 1.
-use Rattle.std.proofs.Common.{◌≡◌, inl, inr, ℕ, zero, suc, ◌+◌, ◌-◌, ◌*◌, ◌/◌, ◌<◌, ◌≤◌, Bool, true, false, cond, min, List, [], ◌∷◌, ◌++◌, length, replicate, flat_map, refl, sym, ap, ◌∙◌, append_assoc, arith}
+use Rattle.std.proofs.Common.{◌≡◌, inl, inr, ℕ, zero, suc, ◌+◌, ◌-◌, ◌*◌, ◌/◌, ◌<◌, ◌≤◌, Bool, true, false, cond, min, List, [], ◌∷◌, ◌++◌, length, map, take, drop, get_or, replicate, flat_map, refl, sym, ap, ◌∙◌, append_assoc, arith}
 use Rattle.std.proofs.lemmas.Bool.{cases_lt}
-use Rattle.std.proofs.lemmas.List.{append-nil}
+use Rattle.std.proofs.lemmas.List.{append-nil, length-take-le, length-drop}
 use Rattle.std.specs.Prelude.{nat_lt}
 use Rattle.fv_volume.specs.declared.file.FfsFile.{FfsFile}
 use Rattle.fv_volume.specs.Frame.{aligned}
@@ -9,7 +9,13 @@ use Rattle.fv_build.specs.declared.file_system.FileSystem.{FileSystem}
 use Rattle.fv_build.specs.declared.new_file.NewFile.{NewFile}
 use Rattle.fv_build.specs.Files.{file_size}
 use Rattle.fv_build.specs.Reading.{AreEach}
-use Rattle.fv_build.proofs.Sizes.{size_of}
+use Rattle.fv_build.specs.Placing.{gap}
+use Rattle.fv_build.specs.Sections.{section_size, body_bytes}
+use Rattle.fv_build.proofs.Sizes.{saturated, size_of, length-body_more}
+use Rattle.fv_section.specs.declared.section.Section.{Section}
+use Rattle.fv_section.specs.Stream.{AreInside}
+use Rattle.volume_print.specs.Description.{section_in}
+use Rattle.volume_print.proofs.Lists.{map_more}
 use Rattle.volume_print.specs.Finding.{held}
 use Rattle.volume_print.specs.Places.{Room, room_of, rooms, pads_in, stands, behind, behind_all, pads_before}
 use Rattle.volume_print.specs.Spelling.{pad_line, with_pads}
@@ -84,6 +90,24 @@ pub next_held : (file_system : FileSystem) (place body len : ℕ) → len ≡ he
 next_held file_system place body len is =
     ap (λ n. held (aligned (place + held (file_size file_system n)))) is ∙ ap (λ n. held (aligned (place + n))) (size_of file_system body 18446744073709551615 (omega arith))
     ∙ back_held place (file_size file_system body)
+
+-- a section's body is as long as its header says
+section_fits : (stream : List ℕ) (section : Section) → section.body_at + section.body_len ≤ length stream → length (section_in stream section).body ≡ section.body_len
+section_fits stream section inside = length-take-le section.body_len (drop section.body_at stream) (omega (arith, length-drop section.body_at stream, inside))
+
+-- the bytes of sections so far, and of one more
+pub sections_longer : (file_system : FileSystem) (stream : List ℕ) (all : List Section) (i : ℕ) (d : Section) (end place size next : ℕ) → i < length all → AreInside stream all
+    → end ≡ held (length (body_bytes file_system (map (section_in stream) (take i all)))) → place ≡ held (end + gap 4 end) → size ≡ held (section_size file_system (get_or all i d).body_len)
+    → next ≡ held (place + size) → next ≡ held (length (body_bytes file_system (map (section_in stream) (take (i + 1) all))))
+sections_longer file_system stream all i d end place size next within inside e p s n =
+    let one = get_or all i d in
+    let before = map (section_in stream) (take i all) in
+    let body : length (section_in stream one).body ≡ one.body_len = section_fits stream one (inside i d within) in
+    let more : length (body_bytes file_system (map (section_in stream) (take (i + 1) all)))
+    ≡ length (body_bytes file_system before) + gap 4 (length (body_bytes file_system before)) + section_size file_system one.body_len =
+    ap (λ xs. length (body_bytes file_system xs)) (map_more (section_in stream) all i d within) ∙ length-body_more file_system before (section_in stream one)
+    ∙ ap (λ m. length (body_bytes file_system before) + gap 4 (length (body_bytes file_system before)) + section_size file_system m) body in
+    saturated 18446744073709551615 (length (body_bytes file_system before)) end (gap 4) place size (section_size file_system one.body_len) next e p s n ∙ ap held (sym more)
 
 -- a line more of the same pad
 pub repeat_more : (spell : ℕ → List ℕ) (n x : ℕ) → flat_map spell (replicate (suc n) x) ≡ flat_map spell (replicate n x) ++ spell x

@@ -191,7 +191,15 @@ pub(crate) fn text_by(
     put_name(&mut text, volume.name)?;
     let files = volume.files.as_slice();
     let first = first_place(volume.name);
-    put_files(alloc, &mut text, form.file_system, bytes, files, first, deep)?;
+    put_files(
+        alloc,
+        &mut text,
+        form.file_system,
+        bytes,
+        files,
+        first,
+        deep,
+    )?;
     text.append(b"end\n")?;
     Ok(text)
 }
