@@ -4,7 +4,8 @@ use Rattle.std.specs.Prelude.{nat_lt, bit_and, bit_or, bit_xor, bytes_eq, â—Œ==â
 use Rattle.std.proofs.lemmas.Bool.{cases_lt}
 use Rattle.std.proofs.lemmas.Bool.Decides.{nat_tests}
 use Rattle.std.proofs.lemmas.Nat.{and_or_self, or_lt}
-use Rattle.std.proofs.lemmas.Nat.Bits.{bit_at, bit_at_or, bit_at_xor, bit_at-lt, bit_at-pow_same, bit_at-pow_other, and_pow, same_from_bits}
+use Rattle.std.specs.Int.{bit_at}
+use Rattle.std.proofs.lemmas.Nat.Bits.{bit_at_or, bit_at_xor, bit_at-lt, bit_at-pow_same, bit_at-pow_other, and_pow, same_from_bits}
 use Rattle.pi_base.specs.declared.guid.Guid.{Guid}
 use Rattle.pi_base.specs.Field.{little_number, little_bytes}
 use Rattle.pi_base.proofs.FieldLaws.{little_number-little_bytes}

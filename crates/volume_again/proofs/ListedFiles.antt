@@ -11,17 +11,8 @@ use Rattle.pi_base.specs.declared.guid.Guid.{Guid}
 use Rattle.pi_base.specs.Field.{little_number}
 use Rattle.pi_base.specs.Guids.{guid_at}
 use Rattle.printed_words.specs.Words.{IsGuid}
-use Rattle.fv_volume.specs.declared.item.Item.{Item}
-use Rattle.fv_volume.specs.declared.item.ItemKind.{ItemKind}
-use Rattle.fv_volume.specs.declared.item.ItemKind.TheVariants.{Dead, Skipped, Pad, Listed}
 use Rattle.fv_volume.specs.declared.file.FfsFile.{FfsFile}
-use Rattle.fv_volume.specs.declared.file_header.FileHeader.{FileHeader}
-use Rattle.fv_volume.specs.declared.file_state.FileState.{FileState}
-use Rattle.fv_volume.specs.declared.frame.Frame.{Frame}
 use Rattle.fv_volume.specs.declared.volume.Volume.{Volume}
-use Rattle.fv_volume.specs.declared.volume_header.Format.{Format}
-use Rattle.fv_volume.specs.declared.volume_header.VolumeHeader.{VolumeHeader}
-use Rattle.fv_volume.specs.declared.extended_header.ExtendedHeader.{ExtendedHeader}
 use Rattle.fv_volume.specs.declared.fault.VolCause.{VolCause}
 use Rattle.fv_volume.specs.declared.fault.VolCause.TheVariants.{FileSum, FileSize, DataSum}
 use Rattle.fv_volume.specs.declared.fault.VolFault.{VolFault}
@@ -34,8 +25,43 @@ use Rattle.fv_volume.specs.Frame.{aligned, frame_with, frame_or_fault, frame_of}
 use Rattle.fv_volume.specs.Search.{ends_at, Leads, files_of}
 use Rattle.fv_volume.specs.Volume.{IsVolume}
 use Rattle.fv_volume.proofs.Items.{has_room}
+use Rattle.fv_volume.proofs.Spelled.{ones}
 use Rattle.volume_again.proofs.ByteRuns.{bytes_front, bytes_back}
 use Rattle.volume_again.proofs.StandAgain.{IsListedFile}
+
+-- the types of values that have no public name
+abbrev TypeOf : {A : Type 0} → A → Type 0
+TypeOf {A} x = A
+
+abbrev TypeIn : {A E : Type 0} → Result A E → Type 0
+TypeIn {A} r = A
+
+abbrev TypeSome : {A : Type 0} → Option A → Type 0
+TypeSome {A} o = A
+
+abbrev TypeInSome : {A E : Type 0} → Result (Option A) E → Type 0
+TypeInSome {A} r = A
+
+abbrev Format : Type 0
+Format = TypeOf (ones true)
+
+abbrev Item : Type 0
+Item = TypeIn (item_at [] (ones true) 0)
+
+abbrev FileHeader : Type 0
+FileHeader = TypeSome (file_header [] (ones true) 0)
+
+abbrev FileState : Type 0
+FileState = TypeOf (file_state 0 0)
+
+abbrev VolumeHeader : Type 0
+VolumeHeader = TypeOf (volume_header [])
+
+abbrev ExtendedHeader : Type 0
+ExtendedHeader = TypeInSome (extended_header [] (volume_header []))
+
+abbrev Frame : Type 0
+Frame = TypeIn (frame_of [])
 
 -- parts of bytes
 pub taken_bytes : (n : ℕ) (image : List ℕ) → IsBytes image → IsBytes (take n image)
@@ -67,65 +93,62 @@ header_fields image format at header e =
     (fields_at image at 32 (little_number 8 (drop (at + 24) image))) header (record { name = refl; kind = refl }) (record { name = refl; kind = refl }) e
 
 -- what is listed at a place
-abbrev GoodKind : ItemKind → Type 0
-GoodKind (Listed file) = IsListedFile file
-GoodKind _ = ⊤
+abbrev IsGoodItem : Item → Type 0
+IsGoodItem item = AllByRecursion IsListedFile (listed_of item.kind)
 
-failed : (b : Bool) (cause : VolCause) (other : Result Item VolCause) (item : Item) → cond b (Err cause) other ≡ Ok item → other ≡ Ok item
+failed : {A : Type 0} (b : Bool) (cause : VolCause) (other : Result A VolCause) (item : A) → cond b (Err cause) other ≡ Ok item → other ≡ Ok item
 failed true cause other item e = absurd cc
 failed false cause other item e = e
 
-same_item : (a b : Item) → ◌≡◌ {A = Result Item VolCause} (Ok a) (Ok b) → GoodKind a.kind → GoodKind b.kind
-same_item a b e p = let s : a ≡ b = cc in subst (λ (i : Item). GoodKind i.kind) s p
+same_ok : {A : Type 0} (a b : A) (P : A → Type 0) → ◌≡◌ {A = Result A VolCause} (Ok a) (Ok b) → P a → P b
+same_ok {A} a b P e p = let s : a ≡ b = cc in subst P s p
 
-sound_good : (at : ℕ) (header : FileHeader) (item : Item) (whole wrong pad : Bool) → (header.kind == 240) ≡ pad → at % 8 ≡ 0 → header.kind < 256 → IsGuid header.name
-    → cond (not whole) (Ok (record { kind = Skipped; end = at + header.size })) (cond wrong (Err DataSum)
-    (cond pad (Ok (record { kind = Pad; end = at + header.size })) (Ok (record { kind = Listed (file_of at header); end = at + header.size })))) ≡ Ok item
-    → GoodKind item.kind
-sound_good at header item false wrong pad is even fits name e = same_item (record { kind = Skipped; end = at + header.size }) item e tt
-sound_good at header item true true pad is even fits name e = absurd cc
-sound_good at header item true false true is even fits name e = same_item (record { kind = Pad; end = at + header.size }) item e tt
-sound_good at header item true false false is even fits name e =
-    same_item (record { kind = Listed (file_of at header); end = at + header.size }) item e (record { even = even; no_pad = is; kind = fits; name = name })
+sound_good : (image : List ℕ) (at : ℕ) (state : FileState) (header : FileHeader) (item : Item) (whole wrong pad : Bool) → is_whole state ≡ whole
+    → data_is_wrong header (body_of image at header) ≡ wrong → (header.kind == 240) ≡ pad → at % 8 ≡ 0 → header.kind < 256 → IsGuid header.name
+    → sound_item image at state header ≡ Ok item → IsGoodItem item
+sound_good image at state header item false wrong pad p q r even fits name e = same_ok _ item IsGoodItem (rw p at e) tt
+sound_good image at state header item true true pad p q r even fits name e = absurd (let e2 = rw (p, q) at e in cc)
+sound_good image at state header item true false true p q r even fits name e = same_ok _ item IsGoodItem (rw (p, q, r) at e) tt
+sound_good image at state header item true false false p q r even fits name e =
+    same_ok _ item IsGoodItem (rw (p, q, r) at e) (record { even = even; no_pad = r; kind = fits; name = name }, tt)
 
 good_of : (image : List ℕ) (format : Format) (at : ℕ) (state : FileState) (header : FileHeader) (item : Item) → at % 8 ≡ 0 → header.kind < 256 → IsGuid header.name
-    → item_of image format at state header ≡ Ok item → GoodKind item.kind
+    → item_of image format at state header ≡ Ok item → IsGoodItem item
 good_of image format at state header item even fits name e =
     let wrong = size_is_wrong format (length image - at) header in
     let summed = failed (not (header_sum (take header.len (drop at image)) == 0)) FileSum (cond wrong (Err FileSize) (sound_item image at state header)) item e in
     let sized = failed wrong FileSize (sound_item image at state header) item summed in
-    sound_good at header item (is_whole state) (data_is_wrong header (body_of image at header)) (header.kind == 240) refl even fits name sized
+    sound_good image at state header item (is_whole state) (data_is_wrong header (body_of image at header)) (header.kind == 240) refl refl refl even fits name sized
 
 by_header : (image : List ℕ) (format : Format) (at : ℕ) (state : FileState) (header : Option FileHeader) (item : Item) → at % 8 ≡ 0 → IsBytes image → at + 24 ≤ length image
-    → ((h : FileHeader) → header ≡ Some h → HasFields image at h) → item_or_cause image format at state header ≡ Ok item → GoodKind item.kind
+    → ((h : FileHeader) → header ≡ Some h → HasFields image at h) → item_or_cause image format at state header ≡ Ok item → IsGoodItem item
 by_header image format at state None item even bytes room fields e = absurd cc
 by_header image format at state (Some header) item even bytes room fields e =
     let f = fields header refl in
     let byte : slice_index image (at + 18) < 256 = bytes (at + 18) in
     good_of image format at state header item even (omega (arith, f.kind, byte)) (subst IsGuid (sym f.name) (guid_there image at bytes (omega (arith, room)))) e
 
-by_state : (at : ℕ) (dead : Bool) (other : Result Item VolCause) (item : Item) → (other ≡ Ok item → GoodKind item.kind)
-    → cond dead (Ok (record { kind = Dead; end = at + 24 })) other ≡ Ok item → GoodKind item.kind
-by_state at true other item go e = same_item (record { kind = Dead; end = at + 24 }) item e tt
-by_state at false other item go e = go e
+by_state : (image : List ℕ) (format : Format) (at : ℕ) (item : Item) (dead : Bool) → is_dead (file_state format.erased (slice_index image (at + 23))) ≡ dead
+    → (item_or_cause image format at (file_state format.erased (slice_index image (at + 23))) (file_header image format at) ≡ Ok item → IsGoodItem item)
+    → item_at image format at ≡ Ok item → IsGoodItem item
+by_state image format at item true p go e = same_ok _ item IsGoodItem (rw p at e) tt
+by_state image format at item false p go e = go (rw p at e)
 
-item_good : (image : List ℕ) (format : Format) (at : ℕ) (item : Item) → at % 8 ≡ 0 → IsBytes image → ends_at image format at ≡ false → item_at image format at ≡ Ok item → GoodKind item.kind
+item_good : (image : List ℕ) (format : Format) (at : ℕ) (item : Item) → at % 8 ≡ 0 → IsBytes image → ends_at image format at ≡ false → item_at image format at ≡ Ok item → IsGoodItem item
 item_good image format at item even bytes on e =
     let state = file_state format.erased (slice_index image (at + 23)) in
-    by_state at (is_dead state) (item_or_cause image format at state (file_header image format at)) item
+    by_state image format at item (is_dead state) refl
     (by_header image format at state (file_header image format at) item even bytes (has_room image format at on) (header_fields image format at)) e
 
-kind_then : (kind : ItemKind) (files : List FfsFile) → GoodKind kind → AllByRecursion IsListedFile files → AllByRecursion IsListedFile (listed_of kind ++ files)
-kind_then (Listed file) files good rest = (good, rest)
-kind_then Dead files good rest = rest
-kind_then Skipped files good rest = rest
-kind_then Pad files good rest = rest
+all_then : (xs ys : List FfsFile) → AllByRecursion IsListedFile xs → AllByRecursion IsListedFile ys → AllByRecursion IsListedFile (xs ++ ys)
+all_then [] ys a b = b
+all_then (x ∷ xs) ys a b = (a.0, all_then xs ys a.1 b)
 
 files_good : (image : List ℕ) (format : Format) (from : ℕ) (items : List Item) (to : ℕ) → IsBytes image → from % 8 ≡ 0 → Leads image format from items to → AllByRecursion IsListedFile (files_of items)
 files_good image format from [] to bytes even path = tt
 files_good image format from (item ∷ rest) to bytes even path =
     let behind = files_good image format (aligned item.end) rest to bytes (omega arith) path.2 in
-    rw (flat_map-cons (λ i. listed_of i.kind) item rest) (kind_then item.kind (files_of rest) (item_good image format from item even bytes path.0 path.1) behind)
+    rw (flat_map-cons (λ (i : Item). listed_of i.kind) item rest) (all_then (listed_of item.kind) (files_of rest) (item_good image format from item even bytes path.0 path.1) behind)
 
 -- the frame of a volume
 same_frame : (a b : Frame) → ◌≡◌ {A = Result Frame VolFault} (Ok a) (Ok b) → a ≡ b

@@ -9,7 +9,6 @@ use Rattle.pi_base.specs.Field.{little_number}
 use Rattle.pi_base.proofs.FieldLaws.{little_number-lt}
 use Rattle.printed_words.specs.Words.{IsGuid}
 use Rattle.fv_section.specs.declared.section.Section.{Section}
-use Rattle.fv_section.specs.declared.section_header.SectionHeader.{SectionHeader}
 use Rattle.fv_section.specs.declared.fault.SecCause.{SecCause}
 use Rattle.fv_section.specs.declared.fault.SecCause.TheVariants.{Size, Compressed, GuidDefined}
 use Rattle.fv_section.specs.SectionHeader.{extended_header_at, header_at, section_of, section_at}
@@ -26,6 +25,13 @@ use Rattle.volume_print.specs.Description.{section_in, IsBodyIn, IsFileIn, file_
 use Rattle.volume_again.specs.Again.{IsOfBytes, IsBodyOfBytes, IsFileOfBytes}
 use Rattle.volume_again.proofs.ListedFiles.{taken_bytes, left_bytes}
 use Rattle.volume_again.proofs.StandAgain.{IsListedFile}
+
+-- the type of a header, which has no public name
+abbrev TypeSome : {A : Type 0} → Option A → Type 0
+TypeSome {A} o = A
+
+abbrev SectionHeader : Type 0
+SectionHeader = TypeSome (header_at [] 0)
 
 -- the type of a section
 abbrev HasByte : List ℕ → ℕ → Option SectionHeader → Type 0
