@@ -58,26 +58,26 @@ says_itself says leads image text told bytes long =
     let good = volume_good image volume bytes told.is in
     let all = rooms form.file_system volume.files told.told.files in
     volume_told (IsInner 3) (inner_laws says 3) leads form volume.len volume.name (pads_before from all) told.told.files text long (attributes_fit image bytes)
-    (name_of_bytes volume image bytes told.is) (length-all (IsFileIn image) form.file_system from volume.files told.told.files told.told.are)
+    (name_of_bytes volume image bytes told.is) (length-all (IsFileIn form.file_system image) form.file_system from volume.files told.told.files told.told.are)
     (pads_fit image form.file_system from volume.files told.told.files (first_even volume.name) good told.told.are)
-    (files_of_bytes image volume.files told.told.files bytes good told.told.are) told.told.spelled
+    (files_of_bytes form.file_system image volume.files told.told.files bytes good told.told.are) told.told.spelled
 
 -- names that are whole
 pads_whole : (pads : List ℕ) (files : List NewFile) → All HasWholeName files → All HasWholeName (map pad_file pads ++ files)
 pads_whole [] files whole = whole
 pads_whole (n ∷ pads) files whole = All-cons HasWholeName (pad_file n) (map pad_file pads ++ files) refl (pads_whole pads files whole)
 
-among_whole : (Inner : List ℕ → List ℕ → Type 0) (image : List ℕ) (pads : List (List ℕ)) (found : List FfsFile) (files others : List NewFile) → AllByRecursion IsListedFile found
-    → AreEach (IsFileIn image) found files → AreEach (IsFileAgain Inner) files others → All HasWholeName (among pads others)
-among_whole Inner image [] found files others good are again = All-nil HasWholeName
-among_whole Inner image (p ∷ pads) [] [] [] good are again = All-nil HasWholeName
-among_whole Inner image (p ∷ pads) [] (file ∷ files) others good are again = absurd are
-among_whole Inner image (p ∷ pads) (one ∷ found) [] others good are again = absurd are
-among_whole Inner image (p ∷ pads) [] [] (other ∷ others) good are again = absurd again
-among_whole Inner image (p ∷ pads) (one ∷ found) (file ∷ files) [] good are again = absurd again
-among_whole Inner image (p ∷ pads) (one ∷ found) (file ∷ files) (other ∷ others) good are again =
+among_whole : (Inner : List ℕ → List ℕ → Type 0) (file_system : FileSystem) (image : List ℕ) (pads : List (List ℕ)) (found : List FfsFile) (files others : List NewFile) → AllByRecursion IsListedFile found
+    → AreEach (IsFileIn file_system image) found files → AreEach (IsFileAgain Inner) files others → All HasWholeName (among pads others)
+among_whole Inner file_system image [] found files others good are again = All-nil HasWholeName
+among_whole Inner file_system image (p ∷ pads) [] [] [] good are again = All-nil HasWholeName
+among_whole Inner file_system image (p ∷ pads) [] (file ∷ files) others good are again = absurd are
+among_whole Inner file_system image (p ∷ pads) (one ∷ found) [] others good are again = absurd are
+among_whole Inner file_system image (p ∷ pads) [] [] (other ∷ others) good are again = absurd again
+among_whole Inner file_system image (p ∷ pads) (one ∷ found) (file ∷ files) [] good are again = absurd again
+among_whole Inner file_system image (p ∷ pads) (one ∷ found) (file ∷ files) (other ∷ others) good are again =
     let whole : HasWholeName other = ap (λ (g : Guid). length g.0) (again.0.name ∙ are.0.name) ∙ good.0.name.0 in
-    pads_whole p (other ∷ among pads others) (All-cons HasWholeName other (among pads others) whole (among_whole Inner image pads found files others good.1 are.1 again.1))
+    pads_whole p (other ∷ among pads others) (All-cons HasWholeName other (among pads others) whole (among_whole Inner file_system image pads found files others good.1 are.1 again.1))
 
 whole_name : (called : Option Guid) → IsNameOfBytes called → IsWhole called
 whole_name None is = tt
@@ -119,10 +119,10 @@ made_again read image text again told bytes long s built =
     ∙ ap (λ n. let v : OpenVolume = record { form = form; len = volume.len; name = n; files = s.volume.files } in v) s.name_is
     ∙ ap (λ fs. let v : OpenVolume = record { form = form; len = volume.len; name = volume.name; files = fs } in v) s.padded in
     let made : built_of one ≡ Ok again = subst (λ (v : OpenVolume). built_of v ≡ Ok again) is built in
-    let whole = among_whole (IsInner 3) image (pads_before from all) volume.files told.told.files s.again good told.told.are s.files_are in
+    let whole = among_whole (IsInner 3) form.file_system image (pads_before from all) volume.files told.told.files s.again good told.told.are s.files_are in
     let r : IsReadAs form volume.name one.files volume.len again = read one again (whole_name volume.name (name_of_bytes volume image bytes told.is)) whole made in
     let left : listed one.files ≡ s.again =
-    none_left_out (IsInner 3) image from all volume.files told.told.files s.again (Rattle.volume_again.proofs.StandAgain.length-rooms (IsFileIn image) form.file_system volume.files told.told.files told.told.are) good told.told.are s.files_are in
+    none_left_out (IsInner 3) form.file_system image from all volume.files told.told.files s.again (Rattle.volume_again.proofs.StandAgain.length-rooms (IsFileIn form.file_system image) form.file_system volume.files told.told.files told.told.are) good told.told.are s.files_are in
     let bytes_are : volume_bytes form volume.name one.files volume.len ≡ again = built_bytes one again (is_in_range one) made in
     let stand : map (λ (f : FfsFile). f.at) r.volume.files ≡ places from all =
     r.places ∙ stand_again (IsInner 3) image form.file_system from volume.files told.told.files s.again (first_even volume.name) good told.told.are s.files_are in
@@ -137,7 +137,7 @@ made_again read image text again told bytes long s built =
       files_are = s.files_are;
       are_read = subst (λ (fs : List NewFile). AreEach (IsFileRead again) fs r.volume.files) left r.are_files;
       stand = stand;
-      kept = λ leave. stand ∙ kept from all leave ∙ rooms_at (IsFileIn image) form.file_system volume.files told.told.files told.told.are;
+      kept = λ leave. stand ∙ kept from all leave ∙ rooms_at (IsFileIn form.file_system image) form.file_system volume.files told.told.files told.told.are;
     }
 
 -- and where it is refused

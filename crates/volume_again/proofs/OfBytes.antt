@@ -75,24 +75,24 @@ sections_of_bytes stream from (section ∷ read) to bytes path =
     (omega (arith, kind, byte), taken_bytes section.body_len (drop section.body_at stream) (left_bytes section.body_at stream bytes))
     (sections_of_bytes stream (place_after section) read to bytes path.2)
 
-body_of_bytes : (kind : ℕ) (stream : List ℕ) (body : Body) → IsBytes stream → IsBodyIn kind stream body → IsBodyOfBytes body
-body_of_bytes kind stream (Sections sections) bytes is =
-    subst (All IsOfBytes) (sym is.1.2) (sections_of_bytes stream 0 is.1.0 is.1.1.0 bytes is.1.1.1)
-body_of_bytes kind stream (Bytes body) bytes is = subst IsBytes (sym is.0) bytes
+body_of_bytes : (file_system : FileSystem) (kind : ℕ) (stream : List ℕ) (body : Body) → IsBytes stream → IsBodyIn file_system kind stream body → IsBodyOfBytes body
+body_of_bytes file_system kind stream (Sections sections) bytes is =
+    subst (All IsOfBytes) (sym is.1.3) (sections_of_bytes stream 0 is.1.0 is.1.1.0 bytes is.1.1.1)
+body_of_bytes file_system kind stream (Bytes body) bytes is = subst IsBytes (sym is.0) bytes
 
 -- the files of a volume
-pub files_of_bytes : (image : List ℕ) (found : List FfsFile) (files : List NewFile) → IsBytes image → AllByRecursion IsListedFile found → AreEach (IsFileIn image) found files → All IsFileOfBytes files
-files_of_bytes image [] [] bytes good are = All-nil IsFileOfBytes
-files_of_bytes image [] (file ∷ files) bytes good are = absurd are
-files_of_bytes image (one ∷ found) [] bytes good are = absurd are
-files_of_bytes image (one ∷ found) (file ∷ files) bytes good are =
+pub files_of_bytes : (file_system : FileSystem) (image : List ℕ) (found : List FfsFile) (files : List NewFile) → IsBytes image → AllByRecursion IsListedFile found → AreEach (IsFileIn file_system image) found files → All IsFileOfBytes files
+files_of_bytes file_system image [] [] bytes good are = All-nil IsFileOfBytes
+files_of_bytes file_system image [] (file ∷ files) bytes good are = absurd are
+files_of_bytes file_system image (one ∷ found) [] bytes good are = absurd are
+files_of_bytes file_system image (one ∷ found) (file ∷ files) bytes good are =
     All-cons IsFileOfBytes file files
     (record {
       kind = omega (arith, good.0.kind, are.0.kind);
       name = subst IsGuid (sym are.0.name) good.0.name;
-      body = body_of_bytes one.kind (take one.body_len (drop one.body_at image)) file.body (taken_bytes one.body_len (drop one.body_at image) (left_bytes one.body_at image bytes)) are.0.body;
+      body = body_of_bytes file_system one.kind (take one.body_len (drop one.body_at image)) file.body (taken_bytes one.body_len (drop one.body_at image) (left_bytes one.body_at image bytes)) are.0.body;
     })
-    (files_of_bytes image found files bytes good.1 are.1)
+    (files_of_bytes file_system image found files bytes good.1 are.1)
 
 -- its attributes
 told_by : (test : Bool) (attributes : ℕ) → attributes < 2 ^ 32 → cond test 0 (bit_xor attributes 2048) < 2 ^ 32

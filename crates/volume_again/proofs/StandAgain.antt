@@ -159,14 +159,14 @@ again_long : (Inner : List ℕ → List ℕ → Type 0) (file_system : FileSyste
 again_long Inner file_system file again is whole =
     length-file_with file_system again (bytes_in file_system again.body) whole ∙ ap (file_size file_system) (body_long Inner file file_system file.body again.body is.body)
 
-again_listed : (Inner : List ℕ → List ℕ → Type 0) (image : List ℕ) (found : FfsFile) (file again : NewFile) → IsListedFile found → IsFileIn image found file → IsFileAgain Inner file again
+again_listed : (Inner : List ℕ → List ℕ → Type 0) (file_system : FileSystem) (image : List ℕ) (found : FfsFile) (file again : NewFile) → IsListedFile found → IsFileIn file_system image found file → IsFileAgain Inner file again
     → ((again.kind == 240) ≡ false) × HasWholeName again
-again_listed Inner image found file again good in_image is =
+again_listed Inner file_system image found file again good in_image is =
     (ap (λ k. k == 240) (is.kind ∙ in_image.kind) ∙ good.no_pad, ap (λ (g : Guid). length g.0) (is.name ∙ in_image.name) ∙ good.name.0)
 
 -- files behind their pads
 pub stand_again : (Inner : List ℕ → List ℕ → Type 0) (image : List ℕ) (file_system : FileSystem) (from : ℕ) (found : List FfsFile) (files others : List NewFile) → from % 8 ≡ 0
-    → AllByRecursion IsListedFile found → AreEach (IsFileIn image) found files → AreEach (IsFileAgain Inner) files others
+    → AllByRecursion IsListedFile found → AreEach (IsFileIn file_system image) found files → AreEach (IsFileAgain Inner) files others
     → listed_at file_system from (among (pads_before from (rooms file_system found files)) others) ≡ places from (rooms file_system found files)
 stand_again Inner image file_system from [] [] others even good are again = refl
 stand_again Inner image file_system from [] (file ∷ files) others even good are again = absurd are
@@ -178,7 +178,7 @@ stand_again Inner image file_system from (one ∷ found) (file ∷ files) (other
     let place = stands from one.at in
     let next = behind from room in
     let rest = among (pads_before next (rooms file_system found files)) others in
-    let facts = again_listed Inner image one file other good.0 are.0 again.0 in
+    let facts = again_listed Inner file_system image one file other good.0 are.0 again.0 in
     let stretch : (one.at - from) % 8 ≡ 0 = omega (arith, good.0.even, even) in
     pads_pass file_system from pads (other ∷ rest) even (pads_even (one.at - from) stretch)
     ∙ ap (λ n. listed_at file_system n (other ∷ rest)) (pads_fill from one.at)
@@ -188,22 +188,22 @@ stand_again Inner image file_system from (one ∷ found) (file ∷ files) (other
     ∙ stand_again Inner image file_system next found files others (behind_even from room) good.1 are.1 again.1)
 
 -- all of them are listed
-pub none_left_out : (Inner : List ℕ → List ℕ → Type 0) (image : List ℕ) (from : ℕ) (all : List Room) (found : List FfsFile) (files others : List NewFile) → length all ≡ length files
-    → AllByRecursion IsListedFile found → AreEach (IsFileIn image) found files → AreEach (IsFileAgain Inner) files others
+pub none_left_out : (Inner : List ℕ → List ℕ → Type 0) (file_system : FileSystem) (image : List ℕ) (from : ℕ) (all : List Room) (found : List FfsFile) (files others : List NewFile) → length all ≡ length files
+    → AllByRecursion IsListedFile found → AreEach (IsFileIn file_system image) found files → AreEach (IsFileAgain Inner) files others
     → listed (among (pads_before from all) others) ≡ others
-none_left_out Inner image from [] [] [] [] long good are again = refl
-none_left_out Inner image from [] [] [] (other ∷ others) long good are again = absurd again
-none_left_out Inner image from [] found (file ∷ files) others long good are again = absurd (omega (arith, long))
-none_left_out Inner image from [] (one ∷ found) [] others long good are again = absurd are
-none_left_out Inner image from (room ∷ all) found [] others long good are again = absurd (omega (arith, long))
-none_left_out Inner image from (room ∷ all) [] (file ∷ files) others long good are again = absurd are
-none_left_out Inner image from (room ∷ all) (one ∷ found) (file ∷ files) [] long good are again = absurd again
-none_left_out Inner image from (room ∷ all) (one ∷ found) (file ∷ files) (other ∷ others) long good are again =
-    let facts = again_listed Inner image one file other good.0 are.0 again.0 in
+none_left_out Inner file_system image from [] [] [] [] long good are again = refl
+none_left_out Inner file_system image from [] [] [] (other ∷ others) long good are again = absurd again
+none_left_out Inner file_system image from [] found (file ∷ files) others long good are again = absurd (omega (arith, long))
+none_left_out Inner file_system image from [] (one ∷ found) [] others long good are again = absurd are
+none_left_out Inner file_system image from (room ∷ all) found [] others long good are again = absurd (omega (arith, long))
+none_left_out Inner file_system image from (room ∷ all) [] (file ∷ files) others long good are again = absurd are
+none_left_out Inner file_system image from (room ∷ all) (one ∷ found) (file ∷ files) [] long good are again = absurd again
+none_left_out Inner file_system image from (room ∷ all) (one ∷ found) (file ∷ files) (other ∷ others) long good are again =
+    let facts = again_listed Inner file_system image one file other good.0 are.0 again.0 in
     let rest = among (pads_before (behind from room) all) others in
     no_pads (pads_in (room.at - from)) (other ∷ rest)
     ∙ ap (λ b. cond (not b) (other ∷ listed rest) (listed rest)) facts.0
-    ∙ ap (λ (fs : List NewFile). other ∷ fs) (none_left_out Inner image (behind from room) all found files others (omega (arith, long)) good.1 are.1 again.1)
+    ∙ ap (λ (fs : List NewFile). other ∷ fs) (none_left_out Inner file_system image (behind from room) all found files others (omega (arith, long)) good.1 are.1 again.1)
   where
     no_pads : (pads : List ℕ) (more : List NewFile) → listed (map pad_file pads ++ more) ≡ listed more
     no_pads [] more = refl
@@ -249,7 +249,7 @@ pads_told [] all = tt
 pads_told (n ∷ pads) all = (all.0.0, pads_told pads all.1)
 
 pub pads_fit : (image : List ℕ) (file_system : FileSystem) (from : ℕ) (found : List FfsFile) (files : List NewFile) → from % 8 ≡ 0 → AllByRecursion IsListedFile found
-    → AreEach (IsFileIn image) found files → AllByRecursion (AllByRecursion IsPadLength) (pads_before from (rooms file_system found files))
+    → AreEach (IsFileIn file_system image) found files → AllByRecursion (AllByRecursion IsPadLength) (pads_before from (rooms file_system found files))
 pads_fit image file_system from [] [] even good are = tt
 pads_fit image file_system from [] (file ∷ files) even good are = absurd are
 pads_fit image file_system from (one ∷ found) [] even good are = absurd are

@@ -71,21 +71,21 @@ sections_more Inner host stream all place d old now new within told adds =
     )
 
 -- a body's text was put
-pub sections_added : (Inner : List ℕ → List ℕ → Type 0) (host : Host) (stream : List ℕ) (read : List Section) (old new : List ℕ) → IsStream host.kind stream (Some read)
+pub sections_added : (Inner : List ℕ → List ℕ → Type 0) (host : Host) (stream : List ℕ) (read : List Section) (old new : List ℕ) (file_system : FileSystem) → IsStream file_system host.kind stream (Some read)
     → AddsSections Inner host (map (section_in stream) read) old new
-    → (file_system : FileSystem) (len : ℕ) → len ≡ held (length (body_bytes file_system (map (section_in stream) read))) → AddsBody Inner file_system host stream old new len
-sections_added Inner host stream read old new is adds file_system len long = record {
+    → (len : ℕ) → len ≡ held (length (body_bytes file_system (map (section_in stream) read))) → AddsBody Inner file_system host stream old new len
+sections_added Inner host stream read old new file_system is adds len long = record {
   body = Sections (map (section_in stream) read);
-  is = (is.0, (read, is.1, refl));
+  is = (is.0, (read, is.1, is.3, refl));
   text = whole adds.0;
   told = (adds.0, adds.1, refl);
   grown = adds.2;
   long = long;
 }
 
-pub bytes_added : (Inner : List ℕ → List ℕ → Type 0) (host : Host) (stream old new : List ℕ) → IsStream host.kind stream None → new ≡ old ++ body_line stream
-    → (file_system : FileSystem) (len : ℕ) → len ≡ length stream → len ≤ 18446744073709551615 → AddsBody Inner file_system host stream old new len
-bytes_added Inner host stream old new is grown file_system len long fits =
+pub bytes_added : (Inner : List ℕ → List ℕ → Type 0) (host : Host) (stream old new : List ℕ) (file_system : FileSystem) → IsStream file_system host.kind stream None → new ≡ old ++ body_line stream
+    → (len : ℕ) → len ≡ length stream → len ≤ 18446744073709551615 → AddsBody Inner file_system host stream old new len
+bytes_added Inner host stream old new file_system is grown len long fits =
     record { body = Bytes stream; is = (refl, is); text = body_line stream; told = refl; grown = grown; long = omega (arith, long, fits) }
 
 -- a file's text was put
@@ -101,7 +101,7 @@ file_added Inner file_system image found from next attributes stream old padded 
     let pads = flat_map pad_line (pads_in (found.at - from)) in
     record {
       file = file;
-      is = record { name = refl; kind = refl; attributes = are; body = subst (λ (s : List ℕ). IsBodyIn found.kind s adds.body) is adds.is };
+      is = record { name = refl; kind = refl; attributes = are; body = subst (λ (s : List ℕ). IsBodyIn file_system found.kind s adds.body) is adds.is };
       text = line ++ adds.text;
       told = (adds.text, adds.told, refl);
       grown = adds.grown ∙ ap (λ xs. xs ++ adds.text) (head ∙ ap (λ xs. xs ++ line) before) ∙ append_assoc (old ++ pads) line adds.text ∙ append_assoc old pads (line ++ adds.text);
@@ -127,17 +127,17 @@ files_more Inner file_system image all place d first from next old now new withi
     let true_from = behind_all first some in
     let more : rooms file_system (take (place + 1) all) (told.files ++ adds.file ∷ []) ≡ some ++ room ∷ [] =
     ap (λ (fs : List FfsFile). rooms file_system fs (told.files ++ adds.file ∷ [])) (take_more all place d within)
-    ∙ rooms_more (IsFileIn image) file_system before told.files found adds.file told.are in
+    ∙ rooms_more (IsFileIn file_system image) file_system before told.files found adds.file told.are in
     let stretch : found.at - from ≡ found.at - true_from = stretch_held found.at from true_from adds.fits told.next_is in
     let long : length pads ≡ length told.texts =
-    length-pads first some ∙ length-rooms (IsFileIn image) file_system before told.files told.are ∙ each_long (IsFileText Inner) told.files told.texts told.told in
+    length-pads first some ∙ length-rooms (IsFileIn file_system image) file_system before told.files told.are ∙ each_long (IsFileText Inner) told.files told.texts told.told in
     let spelled = with_pads pads told.texts in
     let last = flat_map pad_line (pads_in (found.at - true_from)) ++ adds.text in
     record {
       files = told.files ++ adds.file ∷ [];
       texts = told.texts ++ adds.text ∷ [];
-      are = subst (λ (fs : List FfsFile). AreEach (IsFileIn image) fs (told.files ++ adds.file ∷ [])) (sym (take_more all place d within))
-          (each_more (IsFileIn image) before told.files found adds.file told.are adds.is);
+      are = subst (λ (fs : List FfsFile). AreEach (IsFileIn file_system image) fs (told.files ++ adds.file ∷ [])) (sym (take_more all place d within))
+          (each_more (IsFileIn file_system image) before told.files found adds.file told.are adds.is);
       told = each_more (IsFileText Inner) told.files told.texts adds.file adds.text told.told adds.told;
       grown = adds.grown ∙ ap (λ n. now ++ (flat_map pad_line (pads_in n) ++ adds.text)) stretch ∙ ap (λ xs. xs ++ last) told.grown ∙ append_assoc old spelled last
           ∙ ap (λ xs. old ++ xs) (sym (ap (λ (rs : List Room). with_pads (pads_before first rs) (told.texts ++ adds.text ∷ [])) more

@@ -7,6 +7,9 @@ use Rattle.fv_build.specs.declared.new_file.NewSection.{NewSection}
 use Rattle.depex_code.specs.declared.depex.Depex.{Depex}
 use Rattle.act_code.specs.declared.script.Script.{Script}
 use Rattle.act_code.specs.Script.{IsScript}
+use Rattle.fv_section.specs.declared.section.Section.{Section}
+use Rattle.fv_section.specs.declared.fault.SecFault.{SecFault}
+use Rattle.fv_section.specs.Stream.{AreInside, AreSections, IsFirstFault}
 use Rattle.volume_print.specs.declared.form.Form.{Form}
 use Rattle.volume_print.specs.declared.form.Form.TheVariants as form
 use Rattle.volume_print.specs.declared.form.Host.{Host}
@@ -57,6 +60,11 @@ abbrev pub FindsVolume : List ℕ → Option Volume → Type 0
 FindsVolume bytes (Some volume) = IsVolume bytes volume × (volume.len ≡ length bytes)
 FindsVolume bytes None = (volume : Volume) → IsVolume bytes volume → volume.len ≡ length bytes → ⊥
 
+-- the sections that bytes are, or none where they cannot be read
+abbrev pub ReadsSections : List ℕ → Option (List Section) → Type 0
+ReadsSections bytes (Some read) = AreSections bytes read × AreInside bytes read
+ReadsSections bytes None = (fault : SecFault) × IsFirstFault bytes fault
+
 -- the text, where a volume of so many bytes is made of it
 abbrev pub FindsText : ℕ → List ℕ → Option (List ℕ) → Type 0
 FindsText len text (Some same) = (same ≡ text) × ((bytes : List ℕ) × Leads text bytes × (length bytes ≡ len))
@@ -99,7 +107,7 @@ held n = min n (2 ^ 64 - 1)
 -- the text of a body is added, which takes so many bytes where it is built
 pub record AddsBody (Inner : List ℕ → List ℕ → Type 0) (file_system : FileSystem) (host : Host) (bytes old new : List ℕ) (len : ℕ) : Type 0 where
   pub body : Body
-  pub is : IsBodyIn host.kind bytes body
+  pub is : IsBodyIn file_system host.kind bytes body
   pub text : List ℕ
   pub told : IsBodyText Inner host body text
   pub grown : new ≡ old ++ text
@@ -108,7 +116,7 @@ pub record AddsBody (Inner : List ℕ → List ℕ → Type 0) (file_system : Fi
 -- the text of a file that may stand from a place on is added, behind its pads, and this is the least place behind it
 pub record AddsFile (Inner : List ℕ → List ℕ → Type 0) (file_system : FileSystem) (bytes : List ℕ) (found : FfsFile) (from next : ℕ) (old new : List ℕ) : Type 0 where
   pub file : NewFile
-  pub is : IsFileIn bytes found file
+  pub is : IsFileIn file_system bytes found file
   pub text : List ℕ
   pub told : IsFileText Inner file text
   pub grown : new ≡ old ++ (flat_map pad_line (pads_in (found.at - from)) ++ text)
@@ -119,7 +127,7 @@ pub record AddsFile (Inner : List ℕ → List ℕ → Type 0) (file_system : Fi
 pub record AddsFiles (Inner : List ℕ → List ℕ → Type 0) (file_system : FileSystem) (bytes : List ℕ) (found : List FfsFile) (from next : ℕ) (old new : List ℕ) : Type 0 where
   pub files : List NewFile
   pub texts : List (List ℕ)
-  pub are : AreEach (IsFileIn bytes) found files
+  pub are : AreEach (IsFileIn file_system bytes) found files
   pub told : AreEach (IsFileText Inner) files texts
   pub grown : new ≡ old ++ with_pads (pads_before from (rooms file_system found files)) texts
   pub next_is : next ≡ held (behind_all from (rooms file_system found files))

@@ -114,7 +114,7 @@ fn put_body(
 ) -> Result<usize, OutOfMemory>
     ensures { IfOk result (AddsBody (IsInner deep) file_system host.now body.now out.old out.new) }
 {
-    match sections_in(alloc, host.kind, body)? {
+    match sections_in(alloc, file_system, host.kind, body)? {
         Some(sections) => {
             put_sections(alloc, out, host, body, sections.as_slice(), deep)?;
             Ok(sections_len(file_system, body, sections.as_slice()))

@@ -36,9 +36,9 @@ put_body-returns-in_ok-put_sections-in-Some t c =
     let body = c.args.body.now in
     let old = c.args.out.now in
     let new = c.put_sections.new.out in
-    sections_added deep c.args.host.now body c.in-Some.sections old new (rw c.in-Some.is at c.in_ok-sections.ensures)
+    sections_added deep c.args.host.now body c.in-Some.sections old new c.args.file_system (rw c.in-Some.is at c.in_ok-sections.ensures)
     (subst (λ (ss : List Section). AddsSections deep c.args.host.now (map (section_in body) ss) old new) c.as_slice.ensures c.in_ok-put_sections-in-Some.ensures)
-    c.args.file_system c.sections_len.result
+    c.sections_len.result
     (c.sections_len.ensures ∙ ap (λ (ss : List Section). held (length (body_bytes c.args.file_system (map (section_in body) ss)))) c.as_slice-in-Some.ensures)
 
 pub put_file-returns : goal.put_file-returns
@@ -81,8 +81,8 @@ text_by-returns t c =
 
 pub put_body-returns-in_ok-put_plain_body-in-None : goal.put_body-returns-in_ok-put_plain_body-in-None
 put_body-returns-in_ok-put_plain_body-in-None t c =
-    bytes_added (IsInner c.args.deep) c.args.host.now c.args.body.now c.args.out.now c.put_plain_body.new.out (rw c.in-None.is at c.in_ok-sections.ensures)
-    c.in_ok-put_plain_body-in-None.ensures c.args.file_system (length c.args.body.now) refl (omega arith)
+    bytes_added (IsInner c.args.deep) c.args.host.now c.args.body.now c.args.out.now c.put_plain_body.new.out c.args.file_system (rw c.in-None.is at c.in_ok-sections.ensures)
+    c.in_ok-put_plain_body-in-None.ensures (length c.args.body.now) refl (omega arith)
 
 pub put_files-files-init : goal.put_files-files-init
 put_files-files-init t c = no_files (IsInner c.args.deep) c.args.file_system c.args.bytes.now c.args.from c.args.out.now (omega arith)
