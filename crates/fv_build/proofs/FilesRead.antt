@@ -20,7 +20,7 @@ use Rattle.fv_build.specs.declared.new_file.Body.{Body}
 use Rattle.fv_build.specs.declared.new_file.Body.TheVariants.{Sections, Bytes}
 use Rattle.fv_build.specs.Sections.{is_section_too_long}
 use Rattle.fv_build.specs.Files.{bytes_in, has_long_section, is_large, short_fields, extended_size, header_with, file_header, file_bytes, is_past_size, is_file_too_long, HasWholeName}
-use Rattle.fv_build.specs.Reading.{AreEach, IsBodyRead, IsFileRead, AreSectionsRead, listed}
+use Rattle.fv_build.specs.Reading.{AreEach, IsBodyRead, IsFileRead, AreSectionsRead, listed, listed_at}
 use Rattle.fv_build.proofs.Flags.{or_first, none_pass}
 use Rattle.fv_build.proofs.Parts.{drop_behind, room_at, drop_text, take_text}
 use Rattle.fv_build.proofs.Sizes.{not_past}
@@ -102,16 +102,22 @@ first_found : (b : Bool) (image : List ℕ) (file : NewFile) (files : List NewFi
 first_found true image file files found more here behind = behind
 first_found false image file files found more here behind = (here, behind)
 
+first_stands : (b : Bool) (at : ℕ) (found : FfsFile) (more : List FfsFile) (places : List ℕ) → found.at ≡ at → map (λ f. f.at) more ≡ places
+    → map (λ f. f.at) (cond b more (found ∷ more)) ≡ cond b places (at ∷ places)
+first_stands true at found more places here behind = behind
+first_stands false at found more places here behind = ap (λ n. n ∷ map (λ f. f.at) more) here ∙ ap (λ ns. at ∷ ns) behind
+
 most_found : (b : Bool) (found : FfsFile) (more : List FfsFile) (n : ℕ) → length more ≤ n → length (cond b more (found ∷ more)) ≤ suc n
 most_found true found more n few = omega arith
 most_found false found more n few = omega arith
 
 -- what is found from a place on, where these files stand behind it
-pub record Found (image : List ℕ) (large : Bool) (from : ℕ) (files : List NewFile) : Type 0 where
+pub record Found (image : List ℕ) (file_system : FileSystem) (from : ℕ) (files : List NewFile) : Type 0 where
   pub found : List FfsFile
-  pub lists : Lists image large (aligned from) found
+  pub lists : Lists image (has_large file_system) (aligned from) found
   pub each : AreEach (IsFileRead image) (listed files) found
   pub few : length found ≤ length files
+  pub stand : map (λ f. f.at) found ≡ listed_at file_system from files
 
 -- the body of a file that is found is the one that was handed in
 body_found : (file_system : FileSystem) (body : Body) (bytes : List ℕ) → bytes ≡ bytes_in file_system body → has_long_section file_system body ≡ false → IsBodyRead bytes body
@@ -134,7 +140,7 @@ found_file file_system image wide at file inside attributes short = record {
 pub files_found : (file_system : FileSystem) (files : List NewFile) (image : List ℕ) (from left : ℕ)
     → drop from image ≡ laid 8 255 from (map (file_bytes file_system) files) ++ replicate left 255 → length image < 2 ^ 32
     → All HasWholeName files → All (λ file. is_file_too_long file_system file ≡ false) files
-    → Found image (has_large file_system) from files
+    → Found image file_system from files
 files_found file_system [] image from left here below whole short =
     let on : from + gap 8 from ≡ aligned from = omega arith in
     record {
@@ -142,6 +148,7 @@ files_found file_system [] image from left here below whole short =
       lists = subst (λ at. Lists image (has_large file_system) at []) on (lists_none image (has_large file_system) from (gap 8 from) left here);
       each = tt;
       few = omega arith;
+      stand = refl;
     }
 files_found file_system (file ∷ rest) image from left here below whole short =
     let large = has_large file_system in
@@ -168,7 +175,7 @@ files_found file_system (file ∷ rest) image from left here below whole short =
     let is : IsSpelled image large wide at file.name.0 _ file.kind (attributes_byte file.attributes wide) body (behind ++ erased) =
     spelled image large wide at file body (behind ++ erased) first named fits (large_allowed file_system (length body)) in
     let after : drop next image ≡ behind ++ erased = drop_behind (length text) at image _ first ∙ drop_text (length text) text (behind ++ erased) refl in
-    let more : Found image large next rest = files_found file_system rest image next left after below
+    let more : Found image file_system next rest = files_found file_system rest image next left after below
     (All-tail HasWholeName file rest whole) (All-tail (λ f. is_file_too_long file_system f ≡ false) file rest short) in
     let place : next ≡ at + (cond wide 32 24 + length body) = ap (λ n. at + n) text_len in
     let inside : take (length body) (drop (at + cond wide 32 24) image) ≡ body =
@@ -185,4 +192,5 @@ files_found file_system (file ∷ rest) image from left here below whole short =
           (subst (λ p. Lists image large (aligned p) more.found) place more.lists));
       each = first_found pad image file (listed rest) found more.found one more.each;
       few = most_found pad found more.found (length rest) more.few;
+      stand = first_stands pad at found more.found (listed_at file_system next rest) refl more.stand;
     }

@@ -1,5 +1,5 @@
 -- A built volume is read again.
-use Rattle.std.proofs.Common.{◌≡◌, ℕ, zero, suc, ◌+◌, ◌-◌, ◌*◌, ◌%◌, ◌/◌, ◌<◌, ◌≤◌, ◌^◌, Bool, true, false, cond, List, [], ◌∷◌, ◌++◌, length, take, drop, sum, replicate, Some, None, refl, sym, ap, ◌∙◌, arith, length-append, All}
+use Rattle.std.proofs.Common.{◌≡◌, ℕ, zero, suc, ◌+◌, ◌-◌, ◌*◌, ◌%◌, ◌/◌, ◌<◌, ◌≤◌, ◌^◌, Bool, true, false, cond, List, [], ◌∷◌, ◌++◌, length, map, take, drop, sum, replicate, Some, None, refl, sym, ap, ◌∙◌, arith, length-append, All}
 use Rattle.std.proofs.lemmas.Bool.Decides.{nat_tests}
 use Rattle.std.proofs.lemmas.List.{length-replicate}
 use Rattle.std.proofs.lemmas.List.Sums.{sum_by-append, sum_by-cons}
@@ -16,7 +16,7 @@ use Rattle.fv_build.specs.declared.volume_header.VolumeForm.{VolumeForm}
 use Rattle.fv_build.specs.Header.{head_of, header_with, volume_header}
 use Rattle.fv_build.specs.Files.{is_file_too_long, HasWholeName}
 use Rattle.fv_build.specs.Building.{files_bytes, need, built_as, fault_of}
-use Rattle.fv_build.specs.Reading.{IsReadBack}
+use Rattle.fv_build.specs.Reading.{IsReadBack, listed_at}
 use Rattle.fv_build.proofs.Flags.{none_pass}
 use Rattle.fv_build.proofs.Parts.{drop_text, take_text}
 use Rattle.fv_build.proofs.FilesRead.{has_large, Found, files_found}
@@ -38,7 +38,7 @@ sum_of_word n front behind word even fits =
     ap sum (words_append n front (little_bytes 2 word ++ behind) even) ∙ sum_by-append (λ x. x) (words_of front) (words_of (little_bytes 2 word ++ behind))
     ∙ ap (λ m. sum (words_of front) + m) (sum_by-cons (λ x. x) (word % 256 + 256 * (word / 256 % 256)) (words_of behind) ∙ ap (λ w. w + sum (words_of behind)) (omega arith))
 
-sealed : (n : ℕ) (front behind : List ℕ) → length front ≡ 2 * n
+pub sealed : (n : ℕ) (front behind : List ℕ) → length front ≡ 2 * n
     → sum (words_of (front ++ (little_bytes 2 (checksum16 (front ++ (little_bytes 2 0 ++ behind))) ++ behind))) % 65536 ≡ 0
 sealed n front behind even =
     let c = checksum16 (front ++ (little_bytes 2 0 ++ behind)) in
@@ -83,10 +83,16 @@ sound file_system files len none =
 erases_to_ones : (attributes : ℕ) → (bit_and (bit_or attributes 2048) 2048 == 0) ≡ false
 erases_to_ones attributes = ap (λ n. n == 0) (and_or_self 2048 attributes)
 
+-- it is read back, and its files stand where they were laid
+pub record IsReadThere (form : VolumeForm) (files : List NewFile) (len : ℕ) (bytes : List ℕ) : Type 0 where
+  pub back : IsReadBack files bytes
+  pub long : length bytes ≡ len
+  pub places : map (λ f. f.at) back.volume.files ≡ listed_at form.file_system 72 files
+
 -- a volume against which nothing stands is read as the files that were handed in
-pub read_back : (form : VolumeForm) (files : List NewFile) (len : ℕ) → form.attributes < 2 ^ 32 → fault_of form.file_system files len ≡ None → All HasWholeName files → 72 ≤ len → len < 2 ^ 32
-    → IsReadBack files (built_as form files len)
-read_back form files len small none whole least below =
+pub read_there : (form : VolumeForm) (files : List NewFile) (len : ℕ) → form.attributes < 2 ^ 32 → fault_of form.file_system files len ≡ None → All HasWholeName files → 72 ≤ len → len < 2 ^ 32
+    → IsReadThere form files len (built_as form files len)
+read_there form files len small none whole least below =
     let file_system = form.file_system in
     let s = sound file_system files len none in
     let header = volume_header (head_of form 0 len) in
@@ -100,9 +106,9 @@ read_back form files len small none whole least below =
     let front : take 72 bytes ≡ header = take_text 72 header (texts ++ erased) (sym header_len) in
     let zero_sum : sum (words_of (take 72 bytes)) % 65536 ≡ 0 = ap (λ xs. sum (words_of xs) % 65536) front ∙ header_sum file_system form.attributes len in
     let checksum = checksum16 (header_with (head_of form 0 len) 0) in
-    let found : Found bytes (has_large file_system) 72 files =
+    let found : Found bytes file_system 72 files =
     files_found file_system files bytes 72 (len - need file_system files) files_at (omega (arith, long, below)) whole s.short in
-    record {
+    let back : IsReadBack files bytes = record {
       volume = record { len = len; name = None; files = found.found };
       is_volume = volume_read (has_large file_system) (bit_or form.attributes 2048) len checksum (texts ++ erased) bytes found.found
           (ap (λ h. h ++ (texts ++ erased)) (is_spelled file_system form.attributes len checksum))
@@ -110,4 +116,9 @@ read_back form files len small none whole least below =
       len = sym long;
       no_name = refl;
       are_files = found.each;
-    }
+    } in
+    record { back = back; long = long; places = found.stand }
+
+pub read_back : (form : VolumeForm) (files : List NewFile) (len : ℕ) → form.attributes < 2 ^ 32 → fault_of form.file_system files len ≡ None → All HasWholeName files → 72 ≤ len → len < 2 ^ 32
+    → IsReadBack files (built_as form files len)
+read_back form files len small none whole least below = (read_there form files len small none whole least below).back

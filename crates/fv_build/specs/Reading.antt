@@ -1,7 +1,8 @@
 -- What the readers of volumes and sections read of a built volume.
-use Rattle.std.specs.Prelude.{◌≡◌, ◌≢◌, ◌≤◌, ℕ, ◌+◌, ⊤, not, slice_index, ◌==◌, List, [], ◌∷◌, length, take, drop, filter, None, All}
+use Rattle.std.specs.Prelude.{◌≡◌, ◌≢◌, ◌≤◌, ℕ, ◌+◌, ⊤, not, slice_index, ◌==◌, if◌then◌else◌, List, [], ◌∷◌, length, take, drop, filter, None, All}
 use Rattle.fv_volume.specs.declared.file.FfsFile.{FfsFile}
 use Rattle.fv_volume.specs.declared.file_type.TheConstants.{PAD}
+use Rattle.fv_volume.specs.declared.frame.TheConstants.{ALIGNMENT}
 use Rattle.fv_volume.specs.declared.volume.Volume.{Volume}
 use Rattle.fv_volume.specs.Volume.{IsVolume}
 use Rattle.fv_section.specs.declared.section.Section.{Section}
@@ -13,6 +14,9 @@ use Rattle.fv_build.specs.declared.new_file.NewSection.{NewSection}
 use Rattle.fv_build.specs.declared.new_file.Body.{Body}
 use Rattle.fv_build.specs.declared.new_file.Body.TheVariants.{Sections, Bytes}
 use Rattle.fv_build.specs.Attributes.{attributes_in}
+use Rattle.fv_build.specs.FileSystems.{FileSystem}
+use Rattle.fv_build.specs.Files.{file_bytes}
+use Rattle.fv_build.specs.Placing.{gap}
 use Rattle.fv_volume.specs.declared.file_header.TheConstants.{ATTRIBUTES_AT}
 
 -- as many things of one list as of the other, each pair of them related
@@ -49,6 +53,14 @@ pub record IsFileRead (bytes : List ℕ) (file : NewFile) (read : FfsFile) : Typ
 -- the files that a reader lists: all but the pads
 abbrev pub listed : List NewFile → List NewFile
 listed files = filter (λ file. not (file.kind == PAD)) files
+
+-- where the files stand that a reader lists, if files are laid from this place on, each at the next multiple of 8
+abbrev pub listed_at : FileSystem → ℕ → List NewFile → List ℕ
+listed_at file_system from [] = []
+listed_at file_system from (file ∷ files) =
+    let at = from + gap ALIGNMENT from in
+    let behind = listed_at file_system (at + length (file_bytes file_system file)) files in
+    if file.kind == PAD then behind else at ∷ behind
 
 -- the bytes are a volume of all of them without a name, whose files are those that were handed in, pads aside
 pub record IsReadBack (files : List NewFile) (bytes : List ℕ) : Type 0 where

@@ -8,7 +8,7 @@ use pi_base::{OutOfMemory, Seq};
 const CHUNK: usize = 64;
 
 /// How many bytes there are from a place to the next multiple of an alignment.
-pub(crate) fn gap(alignment: usize, at: usize) -> usize
+pub fn gap(alignment: usize, at: usize) -> usize
     requires { 0 < alignment }
     ensures { result ≡ gap alignment at }
 {

@@ -20,7 +20,7 @@ pub(crate) fn is_extended(file_system: FileSystem, body_len: usize) -> bool
 }
 
 /// The size of a section with so many bytes of body.
-pub(crate) fn section_size(file_system: FileSystem, body_len: usize) -> usize
+pub fn section_size(file_system: FileSystem, body_len: usize) -> usize
     ensures { result ≡ min (section_size file_system body_len) (2 ^ 64 - 1) }
 {
     let header_len = if is_extended(file_system, body_len) {
@@ -73,7 +73,7 @@ pub(crate) fn is_large(file_system: FileSystem, body_len: usize) -> bool
 }
 
 /// The size of a file with so many bytes of body.
-pub(crate) fn file_size(file_system: FileSystem, body_len: usize) -> usize
+pub fn file_size(file_system: FileSystem, body_len: usize) -> usize
     ensures { result ≡ min (file_size file_system body_len) (2 ^ 64 - 1) }
 {
     let header_len = if is_large(file_system, body_len) {

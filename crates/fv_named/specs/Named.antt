@@ -7,6 +7,7 @@ use Rattle.fv_build.specs.declared.fault.BuildFault.TheVariants.{TooMany, Size, 
 use Rattle.fv_build.specs.declared.new_file.NewFile.{NewFile}
 use Rattle.fv_build.specs.declared.file_system.FileSystem.{FileSystem}
 use Rattle.fv_build.specs.declared.volume_header.VolumeForm.{VolumeForm}
+use Rattle.fv_build.specs.declared.volume_header.TheConstants.{HEADER_LEN}
 use Rattle.fv_build.specs.Header.{head_of, volume_header}
 use Rattle.fv_build.specs.Building.{files_bytes, need, built_as, fault_of}
 use Rattle.fv_named.specs.declared.volume.TheConstants.{EXT_AT, NAME_LEN, NAMED_LEN, ERASED}
@@ -42,6 +43,11 @@ named_fault file_system files len =
 abbrev pub IsNamedRefusal : FileSystem → List NewFile → ℕ → BuildFault → Type 0
 IsNamedRefusal file_system files len Memory = named_fault file_system files len ≡ None
 IsNamedRefusal file_system files len fault = named_fault file_system files len ≡ Some fault
+
+-- where the first file of a volume with a name or without stands: behind its header, or behind its name
+abbrev pub first_place : Option Guid → ℕ
+first_place None = HEADER_LEN
+first_place (Some name) = NAMED_LEN
 
 -- a volume with this name or with none
 abbrev pub volume_bytes : VolumeForm → Option Guid → List NewFile → ℕ → List ℕ

@@ -5,4 +5,4 @@
 
 mod volume;
 
-pub use volume::{EXT_AT, NAME_LEN, NAMED_LEN, build};
+pub use volume::{EXT_AT, NAME_LEN, NAMED_LEN, build, first_place};

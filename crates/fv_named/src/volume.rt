@@ -3,7 +3,7 @@ ghost use Rattle.std.specs.Prelude.{◌≡◌, ◌≤◌, ◌<◌, ◌^◌, ◌+
 ghost use Rattle.fv_build.specs.declared.volume_header.TheConstants.{HEADER_LEN};
 ghost use Rattle.fv_build.specs.declared.build.TheConstants.{MOST_LEN};
 ghost use Rattle.fv_build.specs.Reading.{IsReadBack};
-ghost use Rattle.fv_named.specs.Named.{name_bytes, named_header, built_named, named_fault, longer, IsNamedRefusal, volume_bytes, volume_fault, IsRefusal};
+ghost use Rattle.fv_named.specs.Named.{name_bytes, named_header, built_named, first_place, named_fault, longer, IsNamedRefusal, volume_bytes, volume_fault, IsRefusal};
 
 use fv_build::{
     BuildFault, HEADER_LEN, NewFile, VolumeForm, VolumeHead, build_as, put_volume_header,
@@ -22,6 +22,16 @@ pub const NAMED_LEN: u64 = 120;
 
 // What stands where nothing was written.
 const ERASED: u8 = 0xff;
+
+/// Where the first file of a volume with a name or without stands.
+pub fn first_place(name: Option<Guid>) -> usize
+    ensures { result ≡ first_place name }
+{
+    match name {
+        None => HEADER_LEN,
+        Some(_) => NAMED_LEN as usize,
+    }
+}
 
 // Adds what stands between the header and the files: erased bytes, the extended header, and erased bytes.
 fn put_name(out: &mut Seq<u8>, name: &Guid) -> Result<(), OutOfMemory>

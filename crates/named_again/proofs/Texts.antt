@@ -59,7 +59,7 @@ made_by volume bytes true (Some (NoRoom need have)) range is e = absurd cc
 made_by volume bytes true (Some Memory) range is e = absurd (never_memory volume.form.file_system volume.name volume.files volume.len is)
 
 -- the bytes of a volume at its `end`
-pub made_again : (volume : OpenVolume) (bytes : List ℕ) → IsWhole volume.name → All HasWholeName volume.files → built_of volume ≡ Ok bytes → IsReadAs volume.name volume.files bytes
+pub made_again : (volume : OpenVolume) (bytes : List ℕ) → IsWhole volume.name → All HasWholeName volume.files → built_of volume ≡ Ok bytes → IsReadAs volume.form volume.name volume.files volume.len bytes
 made_again volume bytes whole named built =
     let m = made_by volume bytes (is_in_range volume) (volume_fault volume.form.file_system volume.name volume.files volume.len) refl refl built in
     let both = and_parts (is_length volume.len) (nat_lt volume.form.attributes (2 ^ 32)) m.range in
@@ -67,10 +67,10 @@ made_again volume bytes whole named built =
     let small = both.1 in
     let least = tests.0 in
     let most = tests.1 in
-    subst (IsReadAs volume.name volume.files) m.bytes_are
+    subst (IsReadAs volume.form volume.name volume.files volume.len) m.bytes_are
     (built_again volume.form volume.name volume.files volume.len (grind (arith, nat_tests)) (grind (arith, nat_tests)) (grind (arith, nat_tests)) whole named m.sound)
 
 -- and of one that a text describes
-pub text_again : (text bytes : List ℕ) (said : Says text bytes) → IsReadAs said.volume.name said.volume.files bytes
+pub text_again : (text bytes : List ℕ) (said : Says text bytes) → IsReadAs said.volume.form said.volume.name said.volume.files said.volume.len bytes
 text_again text bytes said =
     let whole = files_whole said.inner said.volume.name said.volume.files said.files in made_again said.volume bytes whole.0 whole.1 said.built

@@ -18,11 +18,10 @@ use Rattle.fv_build.specs.Header.{head_of, header_with}
 use Rattle.fv_build.specs.Placing.{laid}
 use Rattle.fv_build.specs.Files.{file_bytes, is_file_too_long, HasWholeName}
 use Rattle.fv_build.specs.Building.{files_bytes, need, fault_of}
-use Rattle.fv_build.specs.Reading.{IsReadBack}
 use Rattle.fv_build.proofs.Flags.{none_pass}
 use Rattle.fv_build.proofs.Parts.{drop_behind, drop_text, take_text}
 use Rattle.fv_build.proofs.FilesRead.{has_large, Found, files_found}
-use Rattle.fv_build.proofs.VolumesRead.{read_back}
+use Rattle.fv_build.proofs.VolumesRead.{IsReadThere, read_there}
 use Rattle.fv_named.specs.Named.{named_header, name_bytes, built_named, longer_maybe, named_fault, volume_bytes, volume_fault}
 use Rattle.named_again.specs.Reading.{IsWhole, IsReadAs}
 use Rattle.named_again.proofs.Named.{spelled_header, length-spelled, volume_read}
@@ -71,7 +70,7 @@ length-name name whole =
 
 -- a volume with a name
 named_again : (form : VolumeForm) (name : Guid) (files : List NewFile) (len : ℕ) → form.attributes < 2 ^ 32 → len < 2 ^ 32
-    → length name.0 ≡ 16 → All HasWholeName files → named_fault form.file_system files len ≡ None → IsReadAs (Some name) files (built_named form name files len)
+    → length name.0 ≡ 16 → All HasWholeName files → named_fault form.file_system files len ≡ None → IsReadAs form (Some name) files len (built_named form name files len)
 named_again form name files len small below whole named none =
     let file_system = form.file_system in
     let s = sound file_system files len none in
@@ -92,7 +91,7 @@ named_again form name files len small below whole named none =
     let files_at : drop 120 bytes ≡ laid 8 255 120 (map (file_bytes file_system) files) ++ erased =
     drop_behind 48 72 bytes _ (drop_text 72 header (name_bytes name ++ rest) (sym header_len)) ∙ drop_text 48 (name_bytes name) rest (sym name_len)
     ∙ ap (λ xs. xs ++ erased) (sym (laid_behind 72 (map (file_bytes file_system) files))) in
-    let found : Found bytes (has_large file_system) 120 files = files_found file_system files bytes 120 left files_at (omega (arith, long, below)) named s.short in
+    let found : Found bytes file_system 120 files = files_found file_system files bytes 120 left files_at (omega (arith, long, below)) named s.short in
     record {
       volume = record { len = len; name = Some name; files = found.found };
       is_volume = volume_read (has_large file_system) (bit_or form.attributes 2048) len checksum name rest bytes found.found
@@ -107,15 +106,26 @@ named_again form name files len small below whole named none =
             zero_sum = ap (λ xs. sum (words_of xs) % 65536) (take_text 72 header (name_bytes name ++ rest) (sym header_len)) ∙ named_sum file_system form.attributes len;
           })
           found.lists (omega (arith, found.few, s.few));
-      len = sym long;
+      len_is = refl;
+      long = long;
       name_is = refl;
       are_files = found.each;
+      places = found.stand;
     }
 
 -- a volume with a name or without
 pub built_again : (form : VolumeForm) (name : Option Guid) (files : List NewFile) (len : ℕ) → form.attributes < 2 ^ 32 → 72 ≤ len → len ≤ 0x4000000
-    → IsWhole name → All HasWholeName files → volume_fault form.file_system name files len ≡ None → IsReadAs name files (volume_bytes form name files len)
+    → IsWhole name → All HasWholeName files → volume_fault form.file_system name files len ≡ None → IsReadAs form name files len (volume_bytes form name files len)
 built_again form None files len small least most whole named none =
-    let read : IsReadBack files (volume_bytes form None files len) = read_back form files len small none named least (omega (arith, most)) in
-    record { volume = read.volume; is_volume = read.is_volume; len = read.len; name_is = read.no_name; are_files = read.are_files }
+    let there : IsReadThere form files len (volume_bytes form None files len) = read_there form files len small none named least (omega (arith, most)) in
+    let read = there.back in
+    record {
+      volume = read.volume;
+      is_volume = read.is_volume;
+      len_is = read.len ∙ there.long;
+      long = there.long;
+      name_is = read.no_name;
+      are_files = read.are_files;
+      places = there.places;
+    }
 built_again form (Some name) files len small least most whole named none = named_again form name files len small (omega (arith, most)) whole named none

@@ -13,22 +13,22 @@ ghost use Rattle.volume_text.specs.Text.{Says};
 ghost use Rattle.named_again.specs.Reading.{IsWhole, IsReadAs};
 
 /// The bytes of a volume with a name or without, against which nothing stands, are read as a volume of all of them with this name and these
-/// files, pads aside: each with its type, name, attributes and body, and with its sections where `read_sections` takes them. A GUID has 16 bytes,
-/// as each that a program holds.
+/// files, pads aside: each at its place, with its type, name, attributes and body, and with its sections where `read_sections` takes them. A GUID has
+/// 16 bytes, as each that a program holds.
 pub fn built_again()
     ensures { (form : VolumeForm) (name : Option Guid) (files : List NewFile) (len : ℕ)
         → form.attributes < 2 ^ 32 → HEADER_LEN ≤ len → len ≤ MOST_LEN → IsWhole name → All HasWholeName files
-        → volume_fault form.file_system name files len ≡ None → IsReadAs name files (volume_bytes form name files len) }
+        → volume_fault form.file_system name files len ≡ None → IsReadAs form name files len (volume_bytes form name files len) }
 {}
 
 /// So are the bytes that a volume of a text has at its `end`.
 pub fn made_again()
     ensures { (volume : OpenVolume) (bytes : List ℕ) → IsWhole volume.name → All HasWholeName volume.files → built_of volume ≡ Ok bytes
-        → IsReadAs volume.name volume.files bytes }
+        → IsReadAs volume.form volume.name volume.files volume.len bytes }
 {}
 
 /// The volume that a text describes, with a name or without, is read again: the reader finds the name and the files that the lines say,
-/// pads aside. Each GUID that a line says has its 16 bytes.
+/// pads aside, each where it was laid. Each GUID that a line says has its 16 bytes.
 pub fn text_again()
-    ensures { (text bytes : List ℕ) (said : Says text bytes) → IsReadAs said.volume.name said.volume.files bytes }
+    ensures { (text bytes : List ℕ) (said : Says text bytes) → IsReadAs said.volume.form said.volume.name said.volume.files said.volume.len bytes }
 {}

@@ -12,3 +12,4 @@ mod OneExplain
 mod StartNames
 mod OneTrace
 mod OneOutcome
+mod TextsAgain

@@ -18,6 +18,7 @@ pub mod SourceRefusal
 pub mod VolumeReport
 pub mod PrintReport
 pub mod Outcome
+pub mod TextAgain
 pub mod Ends
 pub mod OneOutcome
 pub mod Leaving

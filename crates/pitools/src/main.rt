@@ -22,6 +22,7 @@ mod report;
 mod source_meaning;
 mod source_refusal;
 mod status;
+mod text_again;
 mod text_tool;
 mod told_tool;
 mod tools;

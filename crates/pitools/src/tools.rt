@@ -7,6 +7,7 @@ ghost use Rattle.pitools.specs.Ends.{Ends, Reports, status_after};
 ghost use Rattle.pitools.specs.Leaving.{HasLeft, HasPut};
 ghost use Rattle.pitools.specs.OneOutcome.{AnswersExactly};
 ghost use Rattle.pitools.specs.Outcome.{limit_of, MapNames, MapOutcome, Names, Outcome, ToolOutcome};
+ghost use Rattle.pitools.specs.TextAgain.{TextsMakeVolumesAgain};
 
 use crate::command_line::{
     Tool, asked_explanation, asked_follow, asked_hobs, asked_map, asked_tool, asked_trace,
@@ -20,6 +21,7 @@ use crate::print::put_report;
 use crate::reading::{Reading, read_file};
 use crate::report::Report;
 use crate::status::ToolStatus;
+use crate::text_again::texts_make_volumes_again;
 use crate::text_tool::content_report;
 use crate::trace_tool::with_trace;
 use boot_io::{Files, RealSink, Sink, SinkFault};
@@ -186,8 +188,11 @@ pub fn tools_main<F: Files, S: Sink>(
     // Whatever the events of an MP file, what processors have done with what is to come are the jobs one after another, and where none is busy, what they have done is.
     ensures any_moment { CompletesInOrder }
     ensures idle { IdlesInOrder }
+    // Whatever volume `text` tells, `volume` makes it again of its text: with its form, length, name and files, each at its place; or refuses the text where it cannot be built.
+    ensures again { TextsMakeVolumesAgain }
 {
     jobs_in_order();
+    texts_make_volumes_again();
     one_outcome();
     run_words(alloc, words, files, sink)
 }

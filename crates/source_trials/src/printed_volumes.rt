@@ -1,5 +1,6 @@
-// Volumes and their texts: what is printed of a volume that a text made, and of bytes that are none.
-use fv_volume::{VolCause, VolFault};
+// Volumes and their texts: what is printed of a volume that a text made, of one in which such a volume was changed, and of bytes that are none.
+use fv_volume::{FfsFile, VolCause, VolFault, read_volume};
+use pi_base::Seq;
 use std::alloc::Global;
 use std::test::*;
 use volume_print::text_of;
@@ -14,8 +15,8 @@ static PRINTED: [(&str, &str); 10] = [
     ), // attributes, beside the erase polarity, and a name
     (
         "volume 256\npad 8\nfile 01 {00000001-0000-4000-8000-000000000001} fixed align 0x80\nbody 01020304 05\nfile 3f 00000001-0000-4000-8000-000000000002\nend\n",
-        "volume 256 ffs2\nfile raw 00000001-0000-4000-8000-000000000001 fixed align 128\nbody 0102030405\nfile 3f 00000001-0000-4000-8000-000000000002\nend\n",
-    ), // a pad is passed over; attributes, a body, and a type without a name
+        "volume 256 ffs2\npad 8\nfile raw 00000001-0000-4000-8000-000000000001 fixed align 128\nbody 0102030405\nfile 3f 00000001-0000-4000-8000-000000000002\nend\n",
+    ), // a pad, attributes, a body, and a type without a name
     (
         "volume 512\nfile freeform pei-apriori\nguids memory-ppi\nfile peim 00000001-0000-4000-8000-000000000001\ndepex pei memory-ppi OR not true\nsection 10 4d5a\nend\n",
         "volume 512 ffs2\nfile freeform 1b45cc0a-156a-428a-af62-49864da0e6e6\nguids f894643d-c449-42d1-8ea8-85bdd8c65bde\nfile peim 00000001-0000-4000-8000-000000000001\ndepex pei (f894643d-c449-42d1-8ea8-85bdd8c65bde or not true)\nsection 10 4d5a\nend\n",
@@ -34,7 +35,7 @@ static PRINTED: [(&str, &str); 10] = [
     ), // an expression of the other phase, and one with a byte behind it
     (
         "volume 1024\nfile volume-image 00000001-0000-4000-8000-000000000003\n  section 10 4d\n  volume 256 ffs3\n    name memory-ppi\n    pad 8\n    file 06 00000001-0000-4000-8000-000000000004\n      script pei\n        block\n        ret Success\n      end\n  end\n  volume 72\n  end\nend\n",
-        "volume 1024 ffs2\nfile volume-image 00000001-0000-4000-8000-000000000003\nsection 10 4d\nvolume 256 ffs3\nname f894643d-c449-42d1-8ea8-85bdd8c65bde\nfile peim 00000001-0000-4000-8000-000000000004\nscript pei\nblock\nret Success\nend\nend\nvolume 72 ffs2\nend\nend\n",
+        "volume 1024 ffs2\nfile volume-image 00000001-0000-4000-8000-000000000003\nsection 10 4d\nvolume 256 ffs3\nname f894643d-c449-42d1-8ea8-85bdd8c65bde\npad 8\nfile peim 00000001-0000-4000-8000-000000000004\nscript pei\nblock\nret Success\nend\nend\nvolume 72 ffs2\nend\nend\n",
     ), // volumes in a volume
     (
         "volume 512\nfile freeform 00000001-0000-4000-8000-000000000003\nvolume 72\nend\nfile volume-image 00000001-0000-4000-8000-000000000004\nsection 17 00\nend\n",
@@ -45,6 +46,104 @@ static PRINTED: [(&str, &str); 10] = [
         "volume 4096 ffs2\nfile volume-image 00000001-0000-4000-8000-000000000003\nvolume 2048 ffs2\nfile volume-image 00000001-0000-4000-8000-000000000003\nvolume 1024 ffs2\nfile volume-image 00000001-0000-4000-8000-000000000003\nvolume 512 ffs2\nfile volume-image 00000001-0000-4000-8000-000000000003\nsection 17 0000000000000000000000000000000078e58c8c3d8a1c4f9935896185c32dd348000000000000005f46564800080000480041ed0000000201000000480000000000000000000000\nend\nend\nend\nend\n",
     ), // a volume deeper than four
 ];
+
+/// The State byte of the first file of a volume without a name, where it is deleted, and where its header is invalid.
+const FIRST_STATE_AT: usize = 72 + 23;
+const DELETED: u8 = 0xe8;
+const HEADER_INVALID: u8 = 0xd8;
+
+/// A volume's text, the State that its first file is given, and the text that is printed then.
+static CHANGED: [(&str, u8, &str); 4] = [
+    (
+        "volume 256\nfile peim 00000001-0000-4000-8000-000000000001\nsection 10 4d5a\nfile peim 00000001-0000-4000-8000-000000000002\nend\n",
+        DELETED,
+        "volume 256 ffs2\npad 8\nfile peim 00000001-0000-4000-8000-000000000002\nend\n",
+    ), // a deleted file
+    (
+        "volume 256\npad 0\npad 4\nfile peim 00000001-0000-4000-8000-000000000002\nend\n",
+        HEADER_INVALID,
+        "volume 256 ffs2\npad 32\nfile peim 00000001-0000-4000-8000-000000000002\nend\n",
+    ), // a dead header, and a pad of 28 bytes
+    (
+        "volume 256\npad 0\nfile peim 00000001-0000-4000-8000-000000000002\npad 0\nend\n",
+        HEADER_INVALID,
+        "volume 256 ffs2\npad 0\nfile peim 00000001-0000-4000-8000-000000000002\nend\n",
+    ), // a dead header alone; no pad is told behind the last file
+    (
+        "volume 512\npad 100\nfile volume-image 00000001-0000-4000-8000-000000000003\nvolume 256 ffs3\npad 12\nfile peim 00000001-0000-4000-8000-000000000004\nend\nend\n",
+        DELETED,
+        "volume 512 ffs2\npad 104\nfile volume-image 00000001-0000-4000-8000-000000000003\nvolume 256 ffs3\npad 16\nfile peim 00000001-0000-4000-8000-000000000004\nend\nend\n",
+    ), // a volume inside, behind a stretch, with a stretch of its own
+];
+
+// The volume of a text with one byte changed.
+fn changed(alloc: Global, text: &str, at: usize, byte: u8) -> Option<Seq<u8>> {
+    let Ok(made) = volume_of(alloc, text.as_bytes()) else {
+        return None;
+    };
+    let (front, behind) = made.as_slice().split_at(at.min(made.len()));
+    let [_, rest @ ..] = behind else {
+        return None;
+    };
+    let mut bytes = Seq::new(alloc);
+    for part in [front, &[byte], rest] {
+        if bytes.append(part).is_err() {
+            return None;
+        }
+    }
+    Some(bytes)
+}
+
+// Whether two volumes have their files at the same offsets.
+fn stand_alike(files: &[FfsFile], others: &[FfsFile]) -> bool {
+    files.len() == others.len()
+        && files
+            .iter()
+            .zip(others)
+            .all(|(file, other)| file.at == other.at && file.body_len == other.body_len)
+}
+
+// Whether a volume is printed so, and what is made of the text has its files at the same offsets.
+fn keeps_places(alloc: Global, volume: &[u8], printed: &str) -> bool {
+    let Ok(text) = text_of(alloc, volume) else {
+        return false;
+    };
+    let Ok(again) = volume_of(alloc, printed.as_bytes()) else {
+        return false;
+    };
+    let (Ok(first), Ok(second)) = (
+        read_volume(alloc, volume),
+        read_volume(alloc, again.as_slice()),
+    ) else {
+        return false;
+    };
+    text.as_slice() == printed.as_bytes()
+        && stand_alike(first.files.as_slice(), second.files.as_slice())
+}
+
+#[test]
+fn what_lies_between_files_is_told_by_its_length(rt: HostRuntime) {
+    for (text, state, printed) in &CHANGED {
+        let kept = match changed(rt.alloc(), text, FIRST_STATE_AT, *state) {
+            Some(volume) => keeps_places(rt.alloc(), volume.as_slice(), printed),
+            None => false,
+        };
+        assert!(rt; kept);
+    }
+}
+
+/// A byte is left over behind the sections of the first file, so that eight bytes lack before the second, and the pad before the third has them.
+static LEFT_OVER: (&str, &str) = (
+    "volume 512\nfile peim 00000001-0000-4000-8000-000000000001\nbody 060000104d5a000000\nfile peim 00000001-0000-4000-8000-000000000002\npad 24\nfile peim 00000001-0000-4000-8000-000000000003\nend\n",
+    "volume 512 ffs2\nfile peim 00000001-0000-4000-8000-000000000001\nsection 10 4d5a\nfile peim 00000001-0000-4000-8000-000000000002\npad 32\nfile peim 00000001-0000-4000-8000-000000000003\nend\n",
+);
+
+#[test]
+fn a_longer_stretch_brings_files_back(rt: HostRuntime) {
+    let (text, printed) = LEFT_OVER;
+    assert!(rt; prints(rt.alloc(), text, printed));
+    assert!(rt; prints(rt.alloc(), printed, printed));
+}
 
 // Whether the volume of a text is printed as another.
 fn prints(alloc: Global, text: &str, printed: &str) -> bool {

@@ -68,8 +68,8 @@ script_has phase (actions ∷ blocks) good =
 
 -- which sections are scripts does not change
 same_script : (Inner : List ℕ → List ℕ → Type 0) (host : NewFile) (phase : Phase) (section again : NewSection) → IsSectionAgain Inner host section again → is_script_of phase again ≡ is_script_of phase section
-same_script Inner host phase section again (kind, inl body) = rw (kind, body) refl
-same_script Inner host phase section again (kind, inr inside) =
+same_script Inner host phase section again (kind, long, inl body) = rw (kind, body) refl
+same_script Inner host phase section again (kind, long, inr inside) =
     let volume : (section.kind == 23) ≡ true = (and_parts (host.kind == 11) (section.kind == 23) inside.0).1 in
     let is : section.kind ≡ 23 = eqb-true section.kind 23 volume in
     rw (kind, is) refl

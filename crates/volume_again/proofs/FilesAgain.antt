@@ -1,5 +1,6 @@
 -- A printed text says the files again of which it is the text.
-use Rattle.std.proofs.Common.{◌≡◌, inl, inr, ℕ, zero, suc, ◌<◌, ◌^◌, ◌%◌, ◌&&◌, true, List, [], ◌∷◌, ◌++◌, length, map, flat_map, Option, Some, None, Ok, refl, sym, ap, ◌∙◌, subst, append_assoc, All}
+use Rattle.std.proofs.Common.{◌≡◌, inl, inr, ℕ, zero, suc, ◌<◌, ◌^◌, ◌%◌, ◌&&◌, true, List, [], ◌∷◌, ◌++◌, length, map, flat_map, Option, Some, None, Ok, refl, sym, ap, ◌∙◌, subst, append_assoc, arith, decimal, All}
+use Rattle.std.specs.List.{AllByRecursion}
 use Rattle.std.specs.Prelude.{codes, ◌==◌}
 use Rattle.std.proofs.lemmas.Bool.{and_parts, eqb-true}
 use Rattle.std.proofs.lemmas.List.{append-nil}
@@ -20,15 +21,15 @@ use Rattle.fv_build.specs.declared.volume_header.VolumeForm.{VolumeForm}
 use Rattle.fv_build.specs.Reading.{AreEach}
 use Rattle.volume_text.specs.declared.volume.OpenVolume.{OpenVolume}
 use Rattle.volume_text.specs.Words.{is_length}
-use Rattle.volume_text.specs.Open.{new_file, depex_type, built_of}
+use Rattle.volume_text.specs.Open.{new_file, pad_file, depex_type, built_of}
 use Rattle.volume_text.specs.Step.{section_of}
-use Rattle.volume_text.specs.Volume.{SayFiles, no_file, named, file, bodied, section, depex, script, volume}
-use Rattle.volume_text.specs.Text.{numbered, Says as TextSays, Leads}
-use Rattle.volume_print.specs.Spelling.{phase_word, guid_word as told_guid, is_a_priori, volume_line, name_line, IsSectionText, as_volume, as_expression, as_guids, as_script, as_bytes, AreSectionTexts, whole, IsBodyText, host_of, IsFileText, IsVolumeText}
-use Rattle.volume_print.specs.Description.{form_in, IsInner}
-use Rattle.volume_again.specs.Again.{IsNameOfBytes, IsOfBytes, IsBodyOfBytes, IsFileOfBytes, IsSectionAgain, IsFileAgain, SaysAgain}
+use Rattle.volume_text.specs.Volume.{SayFiles, no_file, named, padded, file, bodied, section, depex, script, volume}
+use Rattle.volume_text.specs.Text.{numbered, Describes, Says as TextSays, Leads}
+use Rattle.volume_print.specs.Spelling.{phase_word, guid_word as told_guid, is_a_priori, volume_line, name_line, IsSectionText, as_volume, as_expression, as_guids, as_script, as_bytes, AreSectionTexts, whole, pad_line, with_pads, IsBodyText, host_of, IsFileText, IsVolumeText}
+use Rattle.volume_print.specs.Description.{form_in, pads_of, IsInner}
+use Rattle.volume_again.specs.Again.{IsNameOfBytes, IsOfBytes, IsBodyOfBytes, IsFileOfBytes, IsSectionAgain, IsFileAgain, among, SaysAgain}
 use Rattle.volume_again.proofs.TextLines.{IsLine, Has, has_none, has_line, has_both, has_all, has_own}
-use Rattle.volume_again.proofs.SaidLines.{volume_text, volume_says, name_says, file_text, file_says, section_text, section_says, body_says, guids_say, depex_says, script_says as script_begins, end_says}
+use Rattle.volume_again.proofs.SaidLines.{volume_text, volume_says, name_says, file_text, file_says, section_text, section_says, body_says, IsPadLength, pad_says, guids_say, depex_says, script_says as script_begins, end_says}
 use Rattle.volume_again.proofs.FileLines.{block_texts, script_says, script_has, same_scripts}
 use Rattle.volume_again.proofs.Trees.{expression_is}
 use Rattle.volume_again.proofs.GuidRuns.{run_is, guids_are}
@@ -37,7 +38,7 @@ use Rattle.volume_again.proofs.GoodScripts.{good_script}
 -- what holds of volumes inside
 pub record InnerLaws (Inner : List ℕ → List ℕ → Type 0) : Type 0 where
   pub ends : (stream text : List ℕ) → Inner stream text → (front : List ℕ) × (text ≡ front ++ 10 ∷ [])
-  pub made : (stream text : List ℕ) → Inner stream text → (again : List ℕ) × Leads text again
+  pub made : (stream text : List ℕ) → Inner stream text → (again : List ℕ) × Leads text again × (length again ≡ length stream)
   pub says : (text bytes : List ℕ) → Leads text bytes → TextSays text bytes
 
 -- the text has lines
@@ -73,7 +74,7 @@ section_told Inner laws host attributes before done one lines called files text 
     record {
       told = told;
       again = section_of 23 made.0;
-      is = (sym (eqb-true one.kind 23 holds.1), inr (inside.0, (text, inside.1, made.1)));
+      is = (sym (eqb-true one.kind 23 holds.1), made.2, inr (inside.0, (text, inside.1, made.1)));
       say = subst (λ (ls : List (List ℕ)). SayFiles (lines ++ ls) called (files ++ next ∷ [])) (sym says.here)
           (volume lines called files (file_of host attributes done) next says.line says.inner says.volume says.end made.0 say says.begins says.files says.ends says.built refl);
     }
@@ -85,7 +86,7 @@ section_told Inner laws host attributes before done one lines called files text 
     record {
       told = one_line text (codes "depex " ++ (phase_word phase ++ (32 ∷ expression_text e))) is l.is;
       again = again;
-      is = (sym x.kind_is, inl (sym x.bytes.1));
+      is = (sym x.kind_is, ap length (sym x.bytes.1), inl (sym x.bytes.1));
       say = depex lines called files (file_of host attributes done) (file_of host attributes (done ++ again ∷ [])) (codes "depex " ++ (phase_word phase ++ (32 ∷ expression_text e))) phase (bytes_of (instructions e)) say l.says x.part refl;
     }
 section_told Inner laws host attributes before done one lines called files text fits each (as_guids list is) say =
@@ -97,7 +98,7 @@ section_told Inner laws host attributes before done one lines called files text 
     record {
       told = one_line text (codes "guids" ++ flat_map told_guid (guids_in one.body)) is l.is;
       again = again;
-      is = (sym (eqb-true one.kind 25 tests.0), inl (run_is one.body whole_guids));
+      is = (sym (eqb-true one.kind 25 tests.0), ap length (run_is one.body whole_guids), inl (run_is one.body whole_guids));
       say = section lines called files (file_of host attributes done) (file_of host attributes (done ++ again ∷ [])) (codes "guids" ++ flat_map told_guid (guids_in one.body)) 25 (flat_map (λ g. g.0) (guids_in one.body)) say l.says refl;
     }
 section_told Inner laws host attributes before done one lines called files text fits each (as_script s x is) say =
@@ -114,7 +115,7 @@ section_told Inner laws host attributes before done one lines called files text 
         has = subst (λ (t : List ℕ). Has t all) (sym is) (has_both (line head) (flat_map block_lines s.blocks ++ line (codes "end")) (head ∷ []) (inner ++ codes "end" ∷ []) (has_line head begins.is) behind);
       };
       again = again;
-      is = (sym x.kind_is, inl refl);
+      is = (sym x.kind_is, refl, inl refl);
       say = script lines called files (file_of host attributes done) (file_of host attributes (done ++ again ∷ [])) head s.phase inner s.blocks (codes "end") one.body say begins.says x.part
           (same_scripts Inner host s.phase before done each ∙ x.first) (script_says s.phase s.blocks good) end_says.says x.bytes refl;
     }
@@ -124,7 +125,7 @@ section_told Inner laws host attributes before done one lines called files text 
     record {
       told = one_line text (section_text one.kind one.body) is told.is;
       again = again;
-      is = (refl, inl refl);
+      is = (refl, refl, inl refl);
       say = section lines called files (file_of host attributes done) (file_of host attributes (done ++ again ∷ [])) (section_text one.kind one.body) one.kind one.body say told.says refl;
     }
 
@@ -212,34 +213,66 @@ file_told Inner laws one lines called files text fits is say =
       say = subst (λ (ls : List (List ℕ)). SayFiles ls called (files ++ more.again ∷ [])) (append_assoc lines (head ∷ []) more.told.lines) more.say;
     }
 
-record TellsFiles (Inner : List ℕ → List ℕ → Type 0) (before more : List NewFile) (lines : List (List ℕ)) (called : Option Guid) (text : List ℕ) : Type 0 where
+-- lines say pads
+record TellsPads (pads : List ℕ) (lines : List (List ℕ)) (called : Option Guid) (done : List NewFile) : Type 0 where
+  told : AreLines (flat_map pad_line pads)
+  say : SayFiles (lines ++ told.lines) called (done ++ map pad_file pads)
+
+pads_told : (lines : List (List ℕ)) (called : Option Guid) (done : List NewFile) (pads : List ℕ) → AllByRecursion IsPadLength pads → SayFiles lines called done → TellsPads pads lines called done
+pads_told lines called done [] fits say = record {
+  told = record { lines = []; has = has_none };
+  say = subst (λ (ls : List (List ℕ)). SayFiles ls called (done ++ [])) (sym (append-nil lines)) (subst (λ (fs : List NewFile). SayFiles lines called fs) (sym (append-nil done)) say);
+}
+pads_told lines called done (len ∷ pads) fits say =
+    let text = codes "pad " ++ decimal len in
+    let l = pad_says len fits.0 in
+    let here = padded lines called done text len say l.says in
+    let rest = pads_told (lines ++ text ∷ []) called (done ++ pad_file len ∷ []) pads fits.1 here in
+    record {
+      told = record { lines = text ∷ rest.told.lines; has = has_both (line text) (flat_map pad_line pads) (text ∷ []) rest.told.lines (has_line text l.is) rest.told.has };
+      say = subst (λ (ls : List (List ℕ)). SayFiles ls called (done ++ (pad_file len ∷ map pad_file pads))) (append_assoc lines (text ∷ []) rest.told.lines)
+          (subst (λ (fs : List NewFile). SayFiles ((lines ++ text ∷ []) ++ rest.told.lines) called fs) (append_assoc done (pad_file len ∷ []) (map pad_file pads)) rest.say);
+    }
+
+-- four lists one behind the other
+four : {A : Type 0} (a b c d : List A) → ((a ++ b) ++ c) ++ d ≡ a ++ (b ++ (c ++ d))
+four a b c d = append_assoc (a ++ b) c d ∙ append_assoc a b (c ++ d)
+
+-- lines say files, each behind its pads
+record TellsFiles (Inner : List ℕ → List ℕ → Type 0) (done : List NewFile) (pads : List (List ℕ)) (files : List NewFile) (lines : List (List ℕ)) (called : Option Guid) (text : List ℕ) : Type 0 where
   told : AreLines text
   again : List NewFile
-  each : AreEach (IsFileAgain Inner) (before ++ more) again
-  say : SayFiles (lines ++ told.lines) called again
+  each : AreEach (IsFileAgain Inner) files again
+  say : SayFiles (lines ++ told.lines) called (done ++ among pads again)
 
-files_told : (Inner : List ℕ → List ℕ → Type 0) → InnerLaws Inner → (before done more : List NewFile) (texts : List (List ℕ)) (lines : List (List ℕ)) (called : Option Guid) → All IsFileOfBytes more
-    → AreEach (IsFileAgain Inner) before done → AreEach (IsFileText Inner) more texts → SayFiles lines called done → TellsFiles Inner before more lines called (whole texts)
-files_told Inner laws before done [] [] lines called fits each are say = record {
+files_told : (Inner : List ℕ → List ℕ → Type 0) → InnerLaws Inner → (done : List NewFile) (pads : List (List ℕ)) (files : List NewFile) (texts : List (List ℕ)) (lines : List (List ℕ)) (called : Option Guid)
+    → length pads ≡ length files → AllByRecursion (AllByRecursion IsPadLength) pads → All IsFileOfBytes files → AreEach (IsFileText Inner) files texts → SayFiles lines called done
+    → TellsFiles Inner done pads files lines called (with_pads pads texts)
+files_told Inner laws done [] [] [] lines called long pads_fit fits are say = record {
   told = record { lines = []; has = has_none };
-  again = done;
-  each = subst (λ (xs : List NewFile). AreEach (IsFileAgain Inner) xs done) (sym (append-nil before)) each;
-  say = subst (λ (ls : List (List ℕ)). SayFiles ls called done) (sym (append-nil lines)) say;
+  again = [];
+  each = tt;
+  say = subst (λ (ls : List (List ℕ)). SayFiles ls called (done ++ [])) (sym (append-nil lines)) (subst (λ (fs : List NewFile). SayFiles lines called fs) (sym (append-nil done)) say);
 }
-files_told Inner laws before done [] (t ∷ texts) lines called fits each are say = absurd are
-files_told Inner laws before done (one ∷ more) [] lines called fits each are say = absurd are
-files_told Inner laws before done (one ∷ more) (text ∷ texts) lines called fits each are say =
-    let first = file_told Inner laws one lines called done text (All-head IsFileOfBytes one more fits) are.0 say in
-    let grown = each_more (IsFileAgain Inner) before done one first.again each first.is in
-    let rest = files_told Inner laws (before ++ one ∷ []) (done ++ first.again ∷ []) more texts (lines ++ first.told.lines) called (All-tail IsFileOfBytes one more fits) grown are.1 first.say in
+files_told Inner laws done [] [] (t ∷ texts) lines called long pads_fit fits are say = absurd are
+files_told Inner laws done [] (one ∷ files) texts lines called long pads_fit fits are say = absurd (omega (arith, long))
+files_told Inner laws done (p ∷ pads) [] texts lines called long pads_fit fits are say = absurd (omega (arith, long))
+files_told Inner laws done (p ∷ pads) (one ∷ files) [] lines called long pads_fit fits are say = absurd are
+files_told Inner laws done (p ∷ pads) (one ∷ files) (text ∷ texts) lines called long pads_fit fits are say =
+    let front = pads_told lines called done p pads_fit.0 say in
+    let first = file_told Inner laws one (lines ++ front.told.lines) called (done ++ map pad_file p) text (All-head IsFileOfBytes one files fits) are.0 front.say in
+    let rest = files_told Inner laws ((done ++ map pad_file p) ++ first.again ∷ []) pads files texts ((lines ++ front.told.lines) ++ first.told.lines) called (omega (arith, long)) pads_fit.1
+    (All-tail IsFileOfBytes one files fits) are.1 first.say in
+    let behind = has_both text (with_pads pads texts) first.told.lines rest.told.lines first.told.has rest.told.has in
     record {
       told = record {
-        lines = first.told.lines ++ rest.told.lines;
-        has = has_both text (whole texts) first.told.lines rest.told.lines first.told.has rest.told.has;
+        lines = front.told.lines ++ (first.told.lines ++ rest.told.lines);
+        has = has_both (flat_map pad_line p) (text ++ with_pads pads texts) front.told.lines (first.told.lines ++ rest.told.lines) front.told.has behind;
       };
-      again = rest.again;
-      each = subst (λ (xs : List NewFile). AreEach (IsFileAgain Inner) xs rest.again) (append_assoc before (one ∷ []) more) rest.each;
-      say = subst (λ (ls : List (List ℕ)). SayFiles ls called rest.again) (append_assoc lines first.told.lines rest.told.lines) rest.say;
+      again = first.again ∷ rest.again;
+      each = (first.is, rest.each);
+      say = subst (λ (ls : List (List ℕ)). SayFiles ls called (done ++ (map pad_file p ++ (first.again ∷ among pads rest.again)))) (four lines front.told.lines first.told.lines rest.told.lines)
+          (subst (λ (fs : List NewFile). SayFiles (((lines ++ front.told.lines) ++ first.told.lines) ++ rest.told.lines) called fs) (four done (map pad_file p) (first.again ∷ []) (among pads rest.again)) rest.say);
     }
 
 -- the line of a name, if there is one
@@ -256,28 +289,32 @@ name_told (Some guid) fits =
     record { lines = text ∷ []; has = has_line text l.is; say = named [] [] text guid no_file l.says }
 
 -- a volume's text
-pub volume_told : (Inner : List ℕ → List ℕ → Type 0) → InnerLaws Inner → ((text bytes : List ℕ) → TextSays text bytes → Leads text bytes) → (form : VolumeForm) (len : ℕ) (called : Option Guid) (files : List NewFile) (text : List ℕ) → is_length len ≡ true → form.attributes < 2 ^ 32
-    → IsNameOfBytes called → All IsFileOfBytes files → IsVolumeText Inner form len called files text → SaysAgain Inner form len called files text
-volume_told Inner laws complete form len called files text long fits name_fits files_fit is =
+pub volume_told : (Inner : List ℕ → List ℕ → Type 0) → InnerLaws Inner → ((text bytes : List ℕ) → TextSays text bytes → Leads text bytes) → (form : VolumeForm) (len : ℕ) (called : Option Guid) (pads : List (List ℕ)) (files : List NewFile) (text : List ℕ) → is_length len ≡ true → form.attributes < 2 ^ 32
+    → IsNameOfBytes called → length pads ≡ length files → AllByRecursion (AllByRecursion IsPadLength) pads → All IsFileOfBytes files → IsVolumeText Inner form len called pads files text
+    → SaysAgain Inner form len called pads files text
+volume_told Inner laws complete form len called pads files text long fits name_fits as_many pads_fit files_fit is =
     let head = volume_text form len in
     let l = volume_says form len long fits in
     let n = name_told called name_fits in
-    let more = files_told Inner laws [] [] files is.0 n.lines called files_fit tt is.1 n.say in
+    let more = files_told Inner laws [] pads files is.0 n.lines called as_many pads_fit files_fit is.1 n.say in
+    let body = with_pads pads is.0 in
     let inner = n.lines ++ more.told.lines in
     let all = head ∷ (inner ++ codes "end" ∷ []) in
     let last = has_line (codes "end") end_says.is in
-    let behind : Has (name_line called ++ (whole is.0 ++ line (codes "end"))) (inner ++ codes "end" ∷ []) =
-    subst (λ (ls : List (List ℕ)). Has (name_line called ++ (whole is.0 ++ line (codes "end"))) ls) (sym (append_assoc n.lines more.told.lines (codes "end" ∷ [])))
-    (has_both (name_line called) (whole is.0 ++ line (codes "end")) n.lines (more.told.lines ++ codes "end" ∷ []) n.has (has_both (whole is.0) (line (codes "end")) more.told.lines (codes "end" ∷ []) more.told.has last)) in
+    let behind : Has (name_line called ++ (body ++ line (codes "end"))) (inner ++ codes "end" ∷ []) =
+    subst (λ (ls : List (List ℕ)). Has (name_line called ++ (body ++ line (codes "end"))) ls) (sym (append_assoc n.lines more.told.lines (codes "end" ∷ [])))
+    (has_both (name_line called) (body ++ line (codes "end")) n.lines (more.told.lines ++ codes "end" ∷ []) n.has (has_both body (line (codes "end")) more.told.lines (codes "end" ∷ []) more.told.has last)) in
     let has : Has text all =
-    subst (λ (t : List ℕ). Has t all) (sym is.2) (has_both (line head) (name_line called ++ (whole is.0 ++ line (codes "end"))) (head ∷ []) (inner ++ codes "end" ∷ []) (has_line head l.is) behind) in
-    let one : OpenVolume = record { form = form; len = len; name = called; files = more.again } in
+    subst (λ (t : List ℕ). Has t all) (sym is.2) (has_both (line head) (name_line called ++ (body ++ line (codes "end"))) (head ∷ []) (inner ++ codes "end" ∷ []) (has_line head l.is) behind) in
+    let one : OpenVolume = record { form = form; len = len; name = called; files = among pads more.again } in
+    let here : map (λ (l : ℕ × List ℕ). l.1) (numbered text) ≡ all = has_all text all has in
+    let describes : Describes text one = record { line = head; inner = inner; end = codes "end"; here = here; begins = l.says; files = more.say; ends = end_says.says } in
     let says : (bytes : List ℕ) → built_of one ≡ Ok bytes → TextSays text bytes = λ bytes built. record {
       line = head;
       inner = inner;
       end = codes "end";
       volume = one;
-      here = has_all text all has;
+      here = here;
       begins = l.says;
       files = more.say;
       ends = end_says.says;
@@ -285,10 +322,13 @@ volume_told Inner laws complete form len called files text long fits name_fits f
     } in
     record {
       volume = one;
+      again = more.again;
       form_is = refl;
       len_is = refl;
       name_is = refl;
       files_are = more.each;
+      padded = refl;
+      describes = describes;
       says = says;
       leads = λ bytes built. complete text bytes (says bytes built);
     }
@@ -303,7 +343,7 @@ ends_so head name body text is = (
 pub inner_laws : ((text bytes : List ℕ) → Leads text bytes → TextSays text bytes) → (deep : ℕ) → InnerLaws (IsInner deep)
 inner_laws says zero = record { ends = λ stream text is. absurd is; made = λ stream text is. absurd is; says = says }
 inner_laws says (suc deep) = record {
-  ends = λ stream text is. ends_so (volume_line (form_in stream) is.volume.len) (name_line is.volume.name) (whole is.told.spelled.0) text is.told.spelled.2;
-  made = λ stream text is. (is.again, is.leads);
+  ends = λ stream text is. ends_so (volume_line (form_in stream) is.volume.len) (name_line is.volume.name) (with_pads (pads_of (form_in stream) is.volume is.told.files) is.told.spelled.0) text is.told.spelled.2;
+  made = λ stream text is. (is.again, is.leads, is.long);
   says = says;
 }

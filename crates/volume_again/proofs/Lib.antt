@@ -7,3 +7,9 @@ mod Trees
 mod GuidRuns
 mod GoodScripts
 mod FilesAgain
+mod FileLengths
+mod StandAgain
+mod ListedFiles
+mod OfBytes
+mod FormAgain
+mod MadeAgain

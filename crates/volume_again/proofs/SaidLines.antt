@@ -34,9 +34,9 @@ use Rattle.volume_text.specs.declared.fault.Cause.{Cause}
 use Rattle.volume_text.specs.declared.statement.Statement.{Statement}
 use Rattle.volume_text.specs.declared.statement.Statement.TheVariants as said
 use Rattle.volume_text.specs.Keywords.{keyword_of, phase_of, system_of}
-use Rattle.volume_text.specs.Words.{is_length, length_at, system_at, attributes_at, last_number, guid_at, file_type_at, section_type_at, phase_at, fixed_at, last_alignment, alignment_at, chosen_at}
+use Rattle.volume_text.specs.Words.{is_length, length_at, is_pad_length, pad_length_at, system_at, attributes_at, last_number, guid_at, file_type_at, section_type_at, phase_at, fixed_at, last_alignment, alignment_at, chosen_at}
 use Rattle.volume_text.specs.Bytes.{hex_answer, bytes_of as bytes_of_words, guids_of}
-use Rattle.volume_text.specs.Line.{volume_at, name_at, file_at, script_at, guids_at, section_at, body_at, ReadsBy, ReadsDepex}
+use Rattle.volume_text.specs.Line.{volume_at, name_at, pad_at, file_at, script_at, guids_at, section_at, body_at, ReadsBy, ReadsDepex}
 use Rattle.volume_text.specs.Volume.{SaysLine}
 use Rattle.volume_text.specs.Text.{is_passed_over}
 use Rattle.volume_print.specs.Spelling.{phase_word, system_word, type_word, fixed_words, alignment_words, attribute_words, guid_word as told_guid}
@@ -349,6 +349,36 @@ body_says body bytes =
     record {
       says = says_by text (codes "body") others (said.Body body) split (body_key text others (said.Body body) (sym (body_read body bytes)));
       is = record { clear = both_clear (codes "body ") (encode_lower body) refl (shown_clear body bytes); counts = counts_first text (codes "body") others 98 (codes "ody") split refl refl };
+    }
+
+-- the line of a pad
+abbrev pub IsPadLength : ℕ → Type 0
+IsPadLength len = is_pad_length len ≡ true
+
+pad_fits : (len : ℕ) → IsPadLength len → len < 2 ^ 64
+pad_fits len is = grind (arith, nat_tests)
+
+pad_key : (l : List ℕ) (others : List (List ℕ)) (what : Statement) → Ok what ≡ pad_at others → ReadsBy (keyword_of (codes "pad")) l others (Ok what)
+unfolding keyword_of
+pad_key l others what is = is
+
+pad_read : (len : ℕ) → IsPadLength len → pad_at (decimal len ∷ []) ≡ Ok (said.Pad len)
+unfolding pad_at pad_length_at
+pad_read len is = rw (decimal_read len (pad_fits len is), is) refl
+
+pub pad_says : (len : ℕ) → IsPadLength len → Says (codes "pad " ++ decimal len) (said.Pad len)
+pad_says len is =
+    let others = decimal len ∷ [] in
+    let text = codes "pad " ++ decimal len in
+    let same : text ≡ line_of (codes "pad") others = ap (λ t. codes "pad " ++ t) (sym (append-nil (decimal len))) in
+    let all : AllByRecursion IsWord others = (decimal_word len (pad_fits len is), tt) in
+    let split : words text ≡ codes "pad" ∷ others = ap words same ∙ line_words (codes "pad") others (omega arith, refl) all in
+    record {
+      says = says_by text (codes "pad") others (said.Pad len) split (pad_key text others (said.Pad len) (sym (pad_read len is)));
+      is = record {
+        clear = subst IsClear (sym same) (line_clear (codes "pad") others (omega arith, refl) all);
+        counts = counts_first text (codes "pad") others 112 (codes "ad") split refl refl;
+      };
     }
 
 -- GUIDs

@@ -1,5 +1,5 @@
 -- A volume that is read of the text of another one.
-use Rattle.std.specs.Prelude.{◌≡◌, ◌⊎◌, ℕ, ◌<◌, ⊤, List, Option, Some, None, Ok, All, true}
+use Rattle.std.specs.Prelude.{◌≡◌, ◌⊎◌, ℕ, ◌<◌, ⊤, List, [], ◌∷◌, ◌++◌, length, map, Option, Some, None, Ok, All, true}
 use Rattle.hex.specs.Hex.{IsBytes}
 use Rattle.pi_base.specs.declared.guid.Guid.{Guid}
 use Rattle.printed_words.specs.Words.{IsGuid}
@@ -10,8 +10,8 @@ use Rattle.fv_build.specs.declared.new_file.Body.TheVariants.{Sections, Bytes}
 use Rattle.fv_build.specs.declared.volume_header.VolumeForm.{VolumeForm}
 use Rattle.fv_build.specs.Reading.{AreEach}
 use Rattle.volume_text.specs.declared.volume.OpenVolume.{OpenVolume}
-use Rattle.volume_text.specs.Open.{built_of}
-use Rattle.volume_text.specs.Text.{Says, Leads}
+use Rattle.volume_text.specs.Open.{pad_file, built_of}
+use Rattle.volume_text.specs.Text.{Describes, Says, Leads}
 use Rattle.volume_print.specs.Spelling.{holds_volume, host_of}
 
 -- types and bytes are below 256
@@ -31,10 +31,10 @@ pub record IsFileOfBytes (file : NewFile) : Type 0 where
   pub name : IsGuid file.name
   pub body : IsBodyOfBytes file.body
 
--- a section of a file is the other one, or both are volumes and the second is that of the text of the first
+-- a section of a file is the other one, or both are volumes of one length and the second is that of the text of the first
 abbrev pub IsSectionAgain : (List ℕ → List ℕ → Type 0) → NewFile → NewSection → NewSection → Type 0
 IsSectionAgain Inner file section again =
-    (again.kind ≡ section.kind)
+    (again.kind ≡ section.kind) × (length again.body ≡ length section.body)
     × ((again.body ≡ section.body) ⊎ ((holds_volume (host_of file) section.kind ≡ true) × ((text : List ℕ) × Inner section.body text × Leads text again.body)))
 
 abbrev pub IsBodyAgain : (List ℕ → List ℕ → Type 0) → NewFile → Body → Body → Type 0
@@ -49,12 +49,23 @@ pub record IsFileAgain (Inner : List ℕ → List ℕ → Type 0) (file again : 
   pub attributes : again.attributes ≡ file.attributes
   pub body : IsBodyAgain Inner file file.body again.body
 
--- the lines of a text say a volume of this form, length and name with these files again, and lead to its bytes where nothing stands against it
-pub record SaysAgain (Inner : List ℕ → List ℕ → Type 0) (form : VolumeForm) (len : ℕ) (name : Option Guid) (files : List NewFile) (text : List ℕ) : Type 0 where
+-- files, each behind its pads
+abbrev pub among : List (List ℕ) → List NewFile → List NewFile
+among [] files = []
+among (pads ∷ others) [] = []
+among (pads ∷ others) (file ∷ files) = map pad_file pads ++ (file ∷ among others files)
+
+-- a text describes a volume of this form, length and name with these files again, each behind these pads, and leads to its bytes where nothing stands
+-- against it
+pub record SaysAgain (Inner : List ℕ → List ℕ → Type 0) (form : VolumeForm) (len : ℕ) (name : Option Guid) (pads : List (List ℕ)) (files : List NewFile)
+    (text : List ℕ) : Type 0 where
   pub volume : OpenVolume
+  pub again : List NewFile
   pub form_is : volume.form ≡ form
   pub len_is : volume.len ≡ len
   pub name_is : volume.name ≡ name
-  pub files_are : AreEach (IsFileAgain Inner) files volume.files
+  pub files_are : AreEach (IsFileAgain Inner) files again
+  pub padded : volume.files ≡ among pads again
+  pub describes : Describes text volume
   pub says : (bytes : List ℕ) → built_of volume ≡ Ok bytes → Says text bytes
   pub leads : (bytes : List ℕ) → built_of volume ≡ Ok bytes → Leads text bytes

@@ -3,4 +3,4 @@
 
 mod law;
 
-pub use law::read_again;
+pub use law::{made_of_its_text, read_again, refused_for_room};

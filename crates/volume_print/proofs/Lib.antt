@@ -1,4 +1,6 @@
 mod Lists
 mod Forms
+mod Rooms
+mod Streams
 mod Putting
 mod OneText

@@ -14,6 +14,7 @@ use Rattle.fv_section.specs.declared.section.Section.{Section}
 use Rattle.fv_section.specs.declared.fault.SecFault.{SecFault}
 use Rattle.fv_section.specs.Stream.{AreSections, IsFirstFault}
 use Rattle.fv_build.specs.declared.attributes.FileAttributes.{FileAttributes}
+use Rattle.fv_build.specs.declared.file_system.FileSystem.{FileSystem}
 use Rattle.fv_build.specs.declared.new_file.NewFile.{NewFile}
 use Rattle.fv_build.specs.declared.new_file.NewSection.{NewSection}
 use Rattle.fv_build.specs.declared.new_file.Body.{Body}
@@ -25,8 +26,8 @@ use Rattle.act_code.specs.declared.script.Script.{Script}
 use Rattle.act_code.specs.Script.{IsScript}
 use Rattle.volume_text.specs.Text.{Leads}
 use Rattle.volume_print.specs.declared.form.Host.{Host}
-use Rattle.volume_print.specs.Spelling.{SaysExpression, is_a_priori, is_guid_list, holds_volume, expression_line, script_lines, IsSectionText, as_volume, as_expression, as_guids, as_script, as_bytes, AreSectionTexts, whole, IsBodyText, head_line, host_of, IsFileText, volume_line, name_line, IsVolumeText}
-use Rattle.volume_print.specs.Description.{section_in, IsBodyIn, IsFileIn, form_in, IsTextBy, IsInner, IsTextOf}
+use Rattle.volume_print.specs.Spelling.{SaysExpression, is_a_priori, is_guid_list, holds_volume, expression_line, script_lines, IsSectionText, as_volume, as_expression, as_guids, as_script, as_bytes, AreSectionTexts, whole, with_pads, IsBodyText, head_line, host_of, IsFileText, volume_line, name_line, IsVolumeText}
+use Rattle.volume_print.specs.Description.{section_in, LieAsBuilt, IsNoStream, IsBodyIn, IsFileIn, form_in, pads_of, IsTextBy, IsInner, IsTextOf}
 use Rattle.volume_print.specs.Finding.{depex_phase, FindsVolume, FindsText, TellsVolume}
 use Rattle.volume_print.proofs.Forms.{phase_of, no_phase}
 use Rattle.volume_print.proofs.Putting.{told_inside}
@@ -123,26 +124,29 @@ file_text_one laws Inner one file a b x y =
 raw_or_not : (kind : ℕ) → (kind == 1) ≡ false → kind ≡ 1 → ⊥
 raw_or_not kind other is = let e : false ≡ true = sym other ∙ ap (λ k. k == 1) is in absurd cc
 
-no_stream : Laws → (kind : ℕ) (stream : List ℕ) (read : List Section) → (kind == 1) ≡ false → AreSections stream read → (kind ≡ 1) ⊎ ((fault : SecFault) × IsFirstFault stream fault) → ⊥
-no_stream laws kind stream read other are (inl is) = raw_or_not kind other is
-no_stream laws kind stream read other are (inr wrong) = laws.apart stream read wrong.0 are wrong.1
+no_stream : Laws → (file_system : FileSystem) (kind : ℕ) (stream : List ℕ) (read : List Section) → (kind == 1) ≡ false → AreSections stream read → LieAsBuilt file_system stream read
+    → IsNoStream file_system kind stream → ⊥
+no_stream laws file_system kind stream read other are lie (inl is) = raw_or_not kind other is
+no_stream laws file_system kind stream read other are lie (inr (inl wrong)) = laws.apart stream read wrong.0 are wrong.1
+no_stream laws file_system kind stream read other are lie (inr (inr elsewhere)) =
+    elsewhere.2 (subst (λ (ss : List Section). LieAsBuilt file_system stream ss) (laws.sections stream read elsewhere.0 are elsewhere.1) lie)
 
-body_one : Laws → (kind : ℕ) (stream : List ℕ) (a b : Body) → IsBodyIn kind stream a → IsBodyIn kind stream b → a ≡ b
-body_one laws kind stream (Sections xs) (Sections bs) x y =
-    ap Sections (x.1.2 ∙ ap (map (section_in stream)) (laws.sections stream x.1.0 y.1.0 x.1.1 y.1.1) ∙ sym y.1.2)
-body_one laws kind stream (Sections xs) (Bytes b) x y = absurd (no_stream laws kind stream x.1.0 x.0 x.1.1 y.1)
-body_one laws kind stream (Bytes a) (Sections bs) x y = absurd (no_stream laws kind stream y.1.0 y.0 y.1.1 x.1)
-body_one laws kind stream (Bytes a) (Bytes b) x y = ap Bytes (x.0 ∙ sym y.0)
+body_one : Laws → (file_system : FileSystem) (kind : ℕ) (stream : List ℕ) (a b : Body) → IsBodyIn file_system kind stream a → IsBodyIn file_system kind stream b → a ≡ b
+body_one laws file_system kind stream (Sections xs) (Sections bs) x y =
+    ap Sections (x.1.3 ∙ ap (map (section_in stream)) (laws.sections stream x.1.0 y.1.0 x.1.1 y.1.1) ∙ sym y.1.3)
+body_one laws file_system kind stream (Sections xs) (Bytes b) x y = absurd (no_stream laws file_system kind stream x.1.0 x.0 x.1.1 x.1.2 y.1)
+body_one laws file_system kind stream (Bytes a) (Sections bs) x y = absurd (no_stream laws file_system kind stream y.1.0 y.0 y.1.1 y.1.2 x.1)
+body_one laws file_system kind stream (Bytes a) (Bytes b) x y = ap Bytes (x.0 ∙ sym y.0)
 
 abbrev of : Guid × ℕ × FileAttributes × Body → NewFile
 of x = record { name = x.0; kind = x.1; attributes = x.2; body = x.3 }
 
-file_one : Laws → (image : List ℕ) (found : FfsFile) (a b : NewFile) → IsFileIn image found a → IsFileIn image found b → a ≡ b
-file_one laws image found a b x y =
+file_one : Laws → (file_system : FileSystem) (image : List ℕ) (found : FfsFile) (a b : NewFile) → IsFileIn file_system image found a → IsFileIn file_system image found b → a ≡ b
+file_one laws file_system image found a b x y =
     let name : a.name ≡ b.name = x.name ∙ sym y.name in
     let kind : a.kind ≡ b.kind = x.kind ∙ sym y.kind in
     let attributes : a.attributes ≡ b.attributes = x.attributes ∙ sym y.attributes in
-    let body : a.body ≡ b.body = body_one laws found.kind (take found.body_len (drop found.body_at image)) a.body b.body x.body y.body in
+    let body : a.body ≡ b.body = body_one laws file_system found.kind (take found.body_len (drop found.body_at image)) a.body b.body x.body y.body in
     ap (λ n. of (n, a.kind, a.attributes, a.body)) name ∙ ap (λ k. of (b.name, k, a.attributes, a.body)) kind
     ∙ ap (λ t. of (b.name, b.kind, t, a.body)) attributes ∙ ap (λ t. of (b.name, b.kind, b.attributes, t)) body
 
@@ -157,13 +161,15 @@ each_one Is one (a ∷ xs) (b ∷ ys) (c ∷ zs) x y = cons b c ys zs (one a b c
 text_by_one : Laws → (Inner : List ℕ → List ℕ → Type 0) → OneInner Inner → (image : List ℕ) (volume : Volume) (a b : List ℕ)
     → IsTextBy Inner image volume a → IsTextBy Inner image volume b → a ≡ b
 text_by_one laws Inner one image volume a b x y =
-    let files : y.files ≡ x.files = each_one (IsFileIn image) (file_one laws image) volume.files y.files x.files y.are x.are in
-    let told : IsVolumeText Inner (form_in image) volume.len volume.name x.files b =
-    subst (λ (fs : List NewFile). IsVolumeText Inner (form_in image) volume.len volume.name fs b) files y.spelled in
+    let file_system = (form_in image).file_system in
+    let files : y.files ≡ x.files = each_one (IsFileIn file_system image) (file_one laws file_system image) volume.files y.files x.files y.are x.are in
+    let pads = pads_of (form_in image) volume x.files in
+    let told : IsVolumeText Inner (form_in image) volume.len volume.name pads x.files b =
+    subst (λ (fs : List NewFile). IsVolumeText Inner (form_in image) volume.len volume.name (pads_of (form_in image) volume fs) fs b) files y.spelled in
     let first = x.spelled in
     let texts : first.0 ≡ told.0 = each_one (IsFileText Inner) (file_text_one laws Inner one) x.files first.0 told.0 first.1 told.1 in
     first.2
-    ∙ ap (λ ts. volume_line (form_in image) volume.len ++ (name_line volume.name ++ (whole ts ++ (101 ∷ (110 ∷ (100 ∷ (10 ∷ []))))))) texts
+    ∙ ap (λ ts. volume_line (form_in image) volume.len ++ (name_line volume.name ++ (with_pads pads ts ++ (101 ∷ (110 ∷ (100 ∷ (10 ∷ []))))))) texts
     ∙ sym told.2
 
 -- bytes that stand inside as a volume have one text
@@ -185,23 +191,27 @@ one_text laws image a b x y =
 pub not_told : ((image : List ℕ) (a b : Volume) → IsVolume image a → IsVolume image b → a ≡ b)
     → ((deep : ℕ) (image : List ℕ) (volume : Volume) (a b : List ℕ) → IsTextBy (IsInner deep) image volume a → IsTextBy (IsInner deep) image volume b → a ≡ b)
     → (deep : ℕ) (host : Host) (section : NewSection) (volume : Volume) (text : List ℕ) → FindsVolume section.body (Some volume) → IsTextBy (IsInner deep) section.body volume text
-    → FindsText text None → TellsVolume (IsInner (suc deep)) host section None
+    → FindsText (length section.body) text None → TellsVolume (IsInner (suc deep)) host section None
 not_told one_volume one_by deep host section volume text found told none = λ other says.
     let inside = says.1 in
     let volumes : inside.volume ≡ volume = one_volume section.body inside.volume volume inside.is found.0 in
     let same : other ≡ text = one_by deep section.body volume other text (subst (λ (v : Volume). IsTextBy (IsInner deep) section.body v other) volumes inside.told) told in
-    none inside.again (subst (λ (t : List ℕ). Leads t inside.again) same inside.leads)
+    none inside.again (subst (λ (t : List ℕ). Leads t inside.again) same inside.leads) inside.long
 
 -- the bytes are no volume from the first to the last
 pub no_other : ((image : List ℕ) (a b : Volume) → IsVolume image a → IsVolume image b → a ≡ b) → (image : List ℕ) (read : Volume) → IsVolume image read → (read.len ≡ length image → ⊥)
     → FindsVolume image None
 no_other one image read is other = λ volume also all. other (ap (λ (v : Volume). v.len) (one image read volume is also) ∙ all)
 
+-- a text makes no volume of another length than that of the one it makes
+pub no_volume_so_long : ((text a b : List ℕ) → Leads text a → Leads text b → a ≡ b) → (len : ℕ) (text again : List ℕ) → Leads text again → (length again ≡ len → ⊥) → FindsText len text None
+no_volume_so_long one len text again leads other = λ bytes also long. other (ap length (one text again bytes leads also) ∙ long)
+
 -- a volume that stands inside, by whether a volume is made of its text
 pub told_or_not : ((image : List ℕ) (a b : Volume) → IsVolume image a → IsVolume image b → a ≡ b)
     → ((deep : ℕ) (image : List ℕ) (volume : Volume) (a b : List ℕ) → IsTextBy (IsInner deep) image volume a → IsTextBy (IsInner deep) image volume b → a ≡ b)
     → (deep : ℕ) (host : Host) (section : NewSection) (volume : Volume) (text : List ℕ) (r : Result (Option (List ℕ)) OutOfMemory) → (deep ≡ 0 → ⊥) → holds_volume host section.kind ≡ true
-    → FindsVolume section.body (Some volume) → IsTextBy (IsInner (deep - 1)) section.body volume text → IfOk r (FindsText text) → IfOk r (TellsVolume (IsInner deep) host section)
+    → FindsVolume section.body (Some volume) → IsTextBy (IsInner (deep - 1)) section.body volume text → IfOk r (FindsText (length section.body) text) → IfOk r (TellsVolume (IsInner deep) host section)
 told_or_not one by zero host section volume text r some holds found told again = absurd (some refl)
 told_or_not one by (suc deep) host section volume text (Ok (Some same)) some holds found told again =
     let e : suc deep - 1 ≡ deep = omega arith in

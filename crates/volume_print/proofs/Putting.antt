@@ -1,5 +1,5 @@
 -- Texts that are put.
-use Rattle.std.proofs.Common.{◌≡◌, ℕ, zero, suc, ◌+◌, ◌<◌, ◌≤◌, true, false, List, [], ◌∷◌, ◌++◌, length, map, take, drop, get_or, flat_map, Some, None, refl, sym, ap, ◌∙◌, subst, append_assoc, arith}
+use Rattle.std.proofs.Common.{◌≡◌, ℕ, zero, suc, ◌+◌, ◌-◌, ◌<◌, ◌≤◌, true, false, List, [], ◌∷◌, ◌++◌, length, map, take, drop, get_or, flat_map, Some, None, refl, sym, ap, ◌∙◌, subst, append_assoc, arith}
 use Rattle.std.proofs.lemmas.Bool.Decides.{nat_tests}
 use Rattle.std.proofs.lemmas.List.{append-nil, take_more}
 use Rattle.std.specs.Prelude.{◌==◌, codes, slice_index}
@@ -12,8 +12,13 @@ use Rattle.fv_volume.specs.declared.file.FfsFile.{FfsFile}
 use Rattle.fv_volume.specs.declared.volume.Volume.{Volume}
 use Rattle.fv_build.specs.declared.attributes.FileAttributes.{FileAttributes}
 use Rattle.fv_build.specs.Attributes.{attributes_in}
+use Rattle.fv_build.specs.declared.file_system.FileSystem.{FileSystem}
+use Rattle.fv_build.specs.Files.{bytes_in, file_size}
+use Rattle.fv_build.specs.Sections.{body_bytes}
+use Rattle.fv_volume.specs.Frame.{aligned}
 use Rattle.fv_build.specs.Reading.{AreEach}
 use Rattle.volume_print.proofs.Lists.{each_more, texts_more, whole_more, map_more}
+use Rattle.volume_print.proofs.Rooms.{each_long, rooms_more, length-rooms, length-pads, behind_more, pads_more, with_more, stretch_held, behind_held, next_held}
 use Rattle.fv_section.specs.declared.section.Section.{Section}
 use Rattle.fv_build.specs.declared.new_file.NewFile.{NewFile}
 use Rattle.fv_build.specs.declared.new_file.NewSection.{NewSection}
@@ -22,9 +27,11 @@ use Rattle.volume_print.specs.declared.form.Form.{Form}
 use Rattle.volume_print.specs.declared.form.Form.TheVariants as form
 use Rattle.volume_text.specs.Text.{Leads}
 use Rattle.volume_print.specs.declared.form.Host.{Host}
-use Rattle.volume_print.specs.Spelling.{holds_volume, as_volume, as_expression, as_guids, as_script, as_bytes, body_line, head_line, name_line, volume_line, attribute_words, whole, IsSectionText, AreSectionTexts, IsFileText}
-use Rattle.volume_print.specs.Description.{section_in, form_in, IsStream, IsBodyIn, IsFileIn, IsTextBy, IsInner}
-use Rattle.volume_print.specs.Finding.{form_text, FindsVolume, FindsText, TellsVolume, IsPlainForm, IsForm, AddsSection, AddsSections, AddsBody, AddsFile, AddsFiles}
+use Rattle.volume_print.specs.Spelling.{holds_volume, as_volume, as_expression, as_guids, as_script, as_bytes, body_line, head_line, name_line, volume_line, attribute_words, whole, pad_line, with_pads, IsSectionText, AreSectionTexts, IsFileText}
+use Rattle.volume_print.specs.Description.{section_in, form_in, pads_of, IsStream, IsBodyIn, IsFileIn, IsTextBy, IsInner}
+use Rattle.volume_print.specs.Finding.{form_text, FindsVolume, FindsText, TellsVolume, IsPlainForm, IsForm, AddsSection, AddsSections, AddsBody, AddsFile, AddsFiles, held}
+use Rattle.volume_print.specs.Places.{Room, room_of, rooms, pads_in, stands, behind_all, pads_before}
+use Rattle.fv_named.specs.Named.{first_place}
 
 -- a section in a form has the form's text
 pub in_form : (Inner : List ℕ → List ℕ → Type 0) (host : Host) (before : List NewSection) (section : NewSection) (f : Form) → IsForm Inner host before section f
@@ -64,48 +71,79 @@ sections_more Inner host stream all place d old now new within told adds =
     )
 
 -- a body's text was put
-pub sections_added : (Inner : List ℕ → List ℕ → Type 0) (host : Host) (stream : List ℕ) (read : List Section) (old new : List ℕ) → IsStream host.kind stream (Some read)
-    → AddsSections Inner host (map (section_in stream) read) old new → AddsBody Inner host stream old new
-sections_added Inner host stream read old new is adds =
-    (Sections (map (section_in stream) read), (is.0, (read, is.1, refl)), (whole adds.0, (adds.0, adds.1, refl), adds.2))
+pub sections_added : (Inner : List ℕ → List ℕ → Type 0) (host : Host) (stream : List ℕ) (read : List Section) (old new : List ℕ) (file_system : FileSystem) → IsStream file_system host.kind stream (Some read)
+    → AddsSections Inner host (map (section_in stream) read) old new
+    → (len : ℕ) → len ≡ held (length (body_bytes file_system (map (section_in stream) read))) → AddsBody Inner file_system host stream old new len
+sections_added Inner host stream read old new file_system is adds len long = record {
+  body = Sections (map (section_in stream) read);
+  is = (is.0, (read, is.1, is.3, refl));
+  text = whole adds.0;
+  told = (adds.0, adds.1, refl);
+  grown = adds.2;
+  long = long;
+}
 
-pub bytes_added : (Inner : List ℕ → List ℕ → Type 0) (host : Host) (stream old new : List ℕ) → IsStream host.kind stream None → new ≡ old ++ body_line stream
-    → AddsBody Inner host stream old new
-bytes_added Inner host stream old new is grown = (Bytes stream, (refl, is), (body_line stream, refl, grown))
+pub bytes_added : (Inner : List ℕ → List ℕ → Type 0) (host : Host) (stream old new : List ℕ) (file_system : FileSystem) → IsStream file_system host.kind stream None → new ≡ old ++ body_line stream
+    → (len : ℕ) → len ≡ length stream → len ≤ 18446744073709551615 → AddsBody Inner file_system host stream old new len
+bytes_added Inner host stream old new file_system is grown len long fits =
+    record { body = Bytes stream; is = (refl, is); text = body_line stream; told = refl; grown = grown; long = omega (arith, long, fits) }
 
 -- a file's text was put
-pub file_added : (Inner : List ℕ → List ℕ → Type 0) (image : List ℕ) (found : FfsFile) (attributes : FileAttributes) (stream old mid new : List ℕ)
+pub file_added : (Inner : List ℕ → List ℕ → Type 0) (file_system : FileSystem) (image : List ℕ) (found : FfsFile) (from next : ℕ) (attributes : FileAttributes) (stream old padded mid new : List ℕ) (len : ℕ)
     → attributes ≡ attributes_in (slice_index image (found.at + 19))
-    → stream ≡ take found.body_len (drop found.body_at image) → mid ≡ old ++ head_line found.kind found.name attributes
-    → AddsBody Inner (record { kind = found.kind; name = found.name }) stream mid new → AddsFile Inner image found old new
-file_added Inner image found attributes stream old mid new are is head adds =
-    let file : NewFile = record { name = found.name; kind = found.kind; attributes = attributes; body = adds.0 } in
-    let text = head_line found.kind found.name attributes ++ adds.2.0 in (
-      file,
-      record { name = refl; kind = refl; attributes = are; body = subst (λ (s : List ℕ). IsBodyIn found.kind s adds.0) is adds.1 },
-      (
-        text,
-        (adds.2.0, adds.2.1, refl),
-        adds.2.2 ∙ ap (λ xs. xs ++ adds.2.0) head ∙ append_assoc old (head_line found.kind found.name attributes) adds.2.0,
-      ),
-    )
+    → stream ≡ take found.body_len (drop found.body_at image) → padded ≡ old ++ flat_map pad_line (pads_in (found.at - from))
+    → mid ≡ padded ++ head_line found.kind found.name attributes
+    → AddsBody Inner file_system (record { kind = found.kind; name = found.name }) stream mid new len → found.at ≤ 18446744073709551615
+    → next ≡ held (aligned (stands from found.at + held (file_size file_system len))) → AddsFile Inner file_system image found from next old new
+file_added Inner file_system image found from next attributes stream old padded mid new len are is before head adds fits after =
+    let file : NewFile = record { name = found.name; kind = found.kind; attributes = attributes; body = adds.body } in
+    let line = head_line found.kind found.name attributes in
+    let pads = flat_map pad_line (pads_in (found.at - from)) in
+    record {
+      file = file;
+      is = record { name = refl; kind = refl; attributes = are; body = subst (λ (s : List ℕ). IsBodyIn file_system found.kind s adds.body) is adds.is };
+      text = line ++ adds.text;
+      told = (adds.text, adds.told, refl);
+      grown = adds.grown ∙ ap (λ xs. xs ++ adds.text) (head ∙ ap (λ xs. xs ++ line) before) ∙ append_assoc (old ++ pads) line adds.text ∙ append_assoc old pads (line ++ adds.text);
+      fits = fits;
+      next_is = after ∙ next_held file_system (stands from found.at) (length (bytes_in file_system adds.body)) len adds.long;
+    }
 
 -- no file's text was put yet
-pub no_files : (Inner : List ℕ → List ℕ → Type 0) (image old : List ℕ) → AddsFiles Inner image [] old old
-no_files Inner image old = record { files = []; texts = []; are = tt; told = tt; grown = sym (append-nil old) }
+pub no_files : (Inner : List ℕ → List ℕ → Type 0) (file_system : FileSystem) (image : List ℕ) (from : ℕ) (old : List ℕ) → from ≤ 18446744073709551615
+    → AddsFiles Inner file_system image [] from from old old
+no_files Inner file_system image from old fits = record { files = []; texts = []; are = tt; told = tt; grown = sym (append-nil old); next_is = omega (arith, fits) }
 
 -- the texts of files so far, and of one more
-pub files_more : (Inner : List ℕ → List ℕ → Type 0) (image : List ℕ) (all : List FfsFile) (place : ℕ) (d : FfsFile) (old now new : List ℕ) → place < length all
-    → AddsFiles Inner image (take place all) old now → AddsFile Inner image (get_or all place d) now new → AddsFiles Inner image (take (place + 1) all) old new
-files_more Inner image all place d old now new within told adds =
+pub files_more : (Inner : List ℕ → List ℕ → Type 0) (file_system : FileSystem) (image : List ℕ) (all : List FfsFile) (place : ℕ) (d : FfsFile) (first from next : ℕ) (old now new : List ℕ) → place < length all
+    → AddsFiles Inner file_system image (take place all) first from old now → AddsFile Inner file_system image (get_or all place d) from next now new
+    → AddsFiles Inner file_system image (take (place + 1) all) first next old new
+files_more Inner file_system image all place d first from next old now new within told adds =
     let found = get_or all place d in
+    let before = take place all in
+    let room = room_of file_system found adds.file in
+    let some = rooms file_system before told.files in
+    let pads = pads_before first some in
+    let true_from = behind_all first some in
+    let more : rooms file_system (take (place + 1) all) (told.files ++ adds.file ∷ []) ≡ some ++ room ∷ [] =
+    ap (λ (fs : List FfsFile). rooms file_system fs (told.files ++ adds.file ∷ [])) (take_more all place d within)
+    ∙ rooms_more (IsFileIn file_system image) file_system before told.files found adds.file told.are in
+    let stretch : found.at - from ≡ found.at - true_from = stretch_held found.at from true_from adds.fits told.next_is in
+    let long : length pads ≡ length told.texts =
+    length-pads first some ∙ length-rooms (IsFileIn file_system image) file_system before told.files told.are ∙ each_long (IsFileText Inner) told.files told.texts told.told in
+    let spelled = with_pads pads told.texts in
+    let last = flat_map pad_line (pads_in (found.at - true_from)) ++ adds.text in
     record {
-      files = told.files ++ adds.0 ∷ [];
-      texts = told.texts ++ adds.2.0 ∷ [];
-      are = subst (λ (fs : List FfsFile). AreEach (IsFileIn image) fs (told.files ++ adds.0 ∷ [])) (sym (take_more all place d within))
-          (each_more (IsFileIn image) (take place all) told.files found adds.0 told.are adds.1);
-      told = each_more (IsFileText Inner) told.files told.texts adds.0 adds.2.0 told.told adds.2.1;
-      grown = whole_more old now new adds.2.0 told.texts told.grown adds.2.2;
+      files = told.files ++ adds.file ∷ [];
+      texts = told.texts ++ adds.text ∷ [];
+      are = subst (λ (fs : List FfsFile). AreEach (IsFileIn file_system image) fs (told.files ++ adds.file ∷ [])) (sym (take_more all place d within))
+          (each_more (IsFileIn file_system image) before told.files found adds.file told.are adds.is);
+      told = each_more (IsFileText Inner) told.files told.texts adds.file adds.text told.told adds.told;
+      grown = adds.grown ∙ ap (λ n. now ++ (flat_map pad_line (pads_in n) ++ adds.text)) stretch ∙ ap (λ xs. xs ++ last) told.grown ∙ append_assoc old spelled last
+          ∙ ap (λ xs. old ++ xs) (sym (ap (λ (rs : List Room). with_pads (pads_before first rs) (told.texts ++ adds.text ∷ [])) more
+          ∙ ap (λ ps. with_pads ps (told.texts ++ adds.text ∷ [])) (pads_more first some room)
+          ∙ with_more pads told.texts (pads_in (found.at - true_from)) adds.text long));
+      next_is = adds.next_is ∙ behind_held from true_from room adds.fits told.next_is ∙ ap held (sym (behind_more first some room)) ∙ ap (λ (rs : List Room). held (behind_all first rs)) (sym more);
     }
 
 -- six texts one behind the other, the last a line feed
@@ -158,23 +196,26 @@ five old a b c d e first second third fourth fifth p q r s t =
     ∙ append_assoc old ((first ++ second) ++ third) (fourth ++ fifth)
 
 -- the text of a volume was put
-pub text_put : (Inner : List ℕ → List ℕ → Type 0) (image : List ℕ) (volume : Volume) (head named filed new : List ℕ) → head ≡ [] ++ volume_line (form_in image) volume.len
-    → named ≡ head ++ name_line volume.name → AddsFiles Inner image volume.files named filed → new ≡ filed ++ codes "end\n" → IsTextBy Inner image volume new
-text_put Inner image volume head named filed new first second files last = record {
-  files = files.files;
-  are = files.are;
-  spelled = (
-    files.texts,
-    files.told,
-    last ∙ ap (λ x. x ++ codes "end\n") (files.grown ∙ ap (λ x. x ++ whole files.texts) (second ∙ ap (λ x. x ++ name_line volume.name) first))
-        ∙ append_assoc (volume_line (form_in image) volume.len ++ name_line volume.name) (whole files.texts) (codes "end\n")
-        ∙ append_assoc (volume_line (form_in image) volume.len) (name_line volume.name) (whole files.texts ++ codes "end\n"),
-  );
-}
+pub text_put : (Inner : List ℕ → List ℕ → Type 0) (image : List ℕ) (volume : Volume) (next : ℕ) (head named filed new : List ℕ) → head ≡ [] ++ volume_line (form_in image) volume.len
+    → named ≡ head ++ name_line volume.name → AddsFiles Inner (form_in image).file_system image volume.files (first_place volume.name) next named filed
+    → new ≡ filed ++ codes "end\n" → IsTextBy Inner image volume new
+text_put Inner image volume next head named filed new first second files last =
+    let spelled = with_pads (pads_of (form_in image) volume files.files) files.texts in
+    record {
+      files = files.files;
+      are = files.are;
+      spelled = (
+        files.texts,
+        files.told,
+        last ∙ ap (λ x. x ++ codes "end\n") (files.grown ∙ ap (λ x. x ++ spelled) (second ∙ ap (λ x. x ++ name_line volume.name) first))
+            ∙ append_assoc (volume_line (form_in image) volume.len ++ name_line volume.name) spelled (codes "end\n")
+            ∙ append_assoc (volume_line (form_in image) volume.len) (name_line volume.name) (spelled ++ codes "end\n"),
+      );
+    }
 
 -- a section is told as a volume
 pub told_inside : (deep : ℕ) (host : Host) (section : NewSection) (volume : Volume) (text same : List ℕ) → holds_volume host section.kind ≡ true → FindsVolume section.body (Some volume)
-    → IsTextBy (IsInner deep) section.body volume text → FindsText text (Some same) → TellsVolume (IsInner (suc deep)) host section (Some same)
+    → IsTextBy (IsInner deep) section.body volume text → FindsText (length section.body) text (Some same) → TellsVolume (IsInner (suc deep)) host section (Some same)
 told_inside deep host section volume text same holds found told again = (
   holds,
   record {
@@ -184,5 +225,6 @@ told_inside deep host section volume text same holds found told again = (
     told = subst (λ (t : List ℕ). IsTextBy (IsInner deep) section.body volume t) (sym again.0) told;
     again = again.1.0;
     leads = subst (λ (t : List ℕ). Leads t again.1.0) (sym again.0) again.1.1;
+    long = again.1.2;
   },
 )

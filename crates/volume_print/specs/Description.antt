@@ -1,5 +1,5 @@
 -- What a text says of a volume that a reader accepts.
-use Rattle.std.specs.Prelude.{◌≡◌, ◌⊎◌, ℕ, zero, suc, ◌+◌, ◌-◌, ◌==◌, false, nat_lt, bit_and, bit_xor, bytes_eq, if◌then◌else◌, List, length, map, take, drop, slice_index, Option, Some, None}
+use Rattle.std.specs.Prelude.{◌≡◌, ◌⊎◌, ℕ, zero, suc, ◌+◌, ◌-◌, ◌==◌, false, nat_lt, bit_and, bit_xor, bytes_eq, if◌then◌else◌, List, length, map, fold, take, drop, slice_index, Option, Some, None}
 use Rattle.pi_base.specs.Field.{little_number}
 use Rattle.fv_volume.specs.declared.file.FfsFile.{FfsFile}
 use Rattle.fv_volume.specs.declared.file_header.TheConstants.{ATTRIBUTES_AT as FILE_ATTRIBUTES_AT}
@@ -18,33 +18,50 @@ use Rattle.fv_build.specs.declared.new_file.NewSection.{NewSection}
 use Rattle.fv_build.specs.declared.new_file.Body.{Body}
 use Rattle.fv_build.specs.declared.new_file.Body.TheVariants.{Sections, Bytes}
 use Rattle.fv_build.specs.Attributes.{attributes_in}
+use Rattle.fv_build.specs.Sections.{body_bytes}
 use Rattle.fv_build.specs.Header.{plain}
 use Rattle.pi_base.specs.declared.guid.TheConstants.{GUID_LEN}
 use Rattle.fv_build.specs.Reading.{AreEach}
 use Rattle.catalog_model.specs.declared.limits.TheConstants.{MOST_DEPTH}
 use Rattle.volume_text.specs.Text.{Leads}
+use Rattle.fv_named.specs.Named.{first_place}
+use Rattle.volume_print.specs.Places.{pads_before, rooms}
 use Rattle.volume_print.specs.Spelling.{IsVolumeText}
 
 -- the section with its bytes
 abbrev pub section_in : List ℕ → Section → NewSection
 section_in body section = record { kind = section.kind; body = take section.body_len (drop section.body_at body) }
 
--- the sections of a body of a file that is no raw one, or none where they cannot be read
-abbrev pub IsStream : ℕ → List ℕ → Option (List Section) → Type 0
-IsStream kind bytes (Some read) = ((kind == RAW) ≡ false) × AreSections bytes read × AreInside bytes read
-IsStream kind bytes None = (kind ≡ RAW) ⊎ ((fault : SecFault) × IsFirstFault bytes fault)
+-- the end of the last section
+abbrev pub sections_end : List Section → ℕ
+sections_end sections = fold (λ end section. section.body_at + section.body_len) 0 sections
 
--- the body of a file that is no raw one is its sections, where all can be read; else it is bytes
-abbrev pub IsBodyIn : ℕ → List ℕ → Body → Type 0
-IsBodyIn kind bytes (Sections sections) = ((kind == RAW) ≡ false) × ((read : List Section) × AreSections bytes read × (sections ≡ map (section_in bytes) read))
-IsBodyIn kind bytes (Bytes body) = (body ≡ bytes) × ((kind ≡ RAW) ⊎ ((fault : SecFault) × IsFirstFault bytes fault))
+-- sections that are built end where these end: no header is longer than its section's size asks for
+abbrev pub LieAsBuilt : FileSystem → List ℕ → List Section → Type 0
+LieAsBuilt file_system bytes sections = length (body_bytes file_system (map (section_in bytes) sections)) ≡ sections_end sections
+
+-- a body is told by no sections: that of a raw file, one whose sections cannot be read, and one whose sections would not be built as they lie
+abbrev pub IsNoStream : FileSystem → ℕ → List ℕ → Type 0
+IsNoStream file_system kind bytes =
+    (kind ≡ RAW) ⊎ (((fault : SecFault) × IsFirstFault bytes fault) ⊎ ((read : List Section) × AreSections bytes read × (LieAsBuilt file_system bytes read → ⊥)))
+
+-- the sections of a body, or none
+abbrev pub IsStream : FileSystem → ℕ → List ℕ → Option (List Section) → Type 0
+IsStream file_system kind bytes (Some read) = ((kind == RAW) ≡ false) × AreSections bytes read × AreInside bytes read × LieAsBuilt file_system bytes read
+IsStream file_system kind bytes None = IsNoStream file_system kind bytes
+
+-- the body of a file is its sections, or bytes
+abbrev pub IsBodyIn : FileSystem → ℕ → List ℕ → Body → Type 0
+IsBodyIn file_system kind bytes (Sections sections) =
+    ((kind == RAW) ≡ false) × ((read : List Section) × AreSections bytes read × LieAsBuilt file_system bytes read × (sections ≡ map (section_in bytes) read))
+IsBodyIn file_system kind bytes (Bytes body) = (body ≡ bytes) × IsNoStream file_system kind bytes
 
 -- a file of a volume with its name, type, attributes and body
-pub record IsFileIn (bytes : List ℕ) (found : FfsFile) (file : NewFile) : Type 0 where
+pub record IsFileIn (file_system : FileSystem) (bytes : List ℕ) (found : FfsFile) (file : NewFile) : Type 0 where
   pub name : file.name ≡ found.name
   pub kind : file.kind ≡ found.kind
   pub attributes : file.attributes ≡ attributes_in (slice_index bytes (found.at + FILE_ATTRIBUTES_AT))
-  pub body : IsBodyIn found.kind (take found.body_len (drop found.body_at bytes)) file.body
+  pub body : IsBodyIn file_system found.kind (take found.body_len (drop found.body_at bytes)) file.body
 
 -- the file system that a header names, which is one of two
 abbrev pub file_system_in : List ℕ → FileSystem
@@ -60,13 +77,17 @@ form_in bytes =
     if nat_lt (length bytes) LEAST_LEN then plain Ffs2
     else record { file_system = file_system_in bytes; attributes = told_attributes (little_number 4 (drop ATTRIBUTES_AT bytes)) }
 
+-- the pads in front of each file of a volume, which bring it to its place where it is built again
+abbrev pub pads_of : VolumeForm → Volume → List NewFile → List (List ℕ)
+pads_of form volume files = pads_before (first_place volume.name) (rooms form.file_system volume.files files)
+
 -- the text of a volume that is read of the bytes, by what volumes inside have as their texts
 pub record IsTextBy (Inner : List ℕ → List ℕ → Type 0) (bytes : List ℕ) (volume : Volume) (text : List ℕ) : Type 0 where
   pub files : List NewFile
-  pub are : AreEach (IsFileIn bytes) volume.files files
-  pub spelled : IsVolumeText Inner (form_in bytes) volume.len volume.name files text
+  pub are : AreEach (IsFileIn (form_in bytes).file_system bytes) volume.files files
+  pub spelled : IsVolumeText Inner (form_in bytes) volume.len volume.name (pads_of (form_in bytes) volume files) files text
 
--- the bytes are a volume from the first to the last, and have a text of which a volume is made
+-- the bytes are a volume from the first to the last, and have a text of which one of as many bytes is made
 pub record IsToldInside (Inner : List ℕ → List ℕ → Type 0) (bytes text : List ℕ) : Type 0 where
   pub volume : Volume
   pub is : IsVolume bytes volume
@@ -74,6 +95,7 @@ pub record IsToldInside (Inner : List ℕ → List ℕ → Type 0) (bytes text :
   pub told : IsTextBy Inner bytes volume text
   pub again : List ℕ
   pub leads : Leads text again
+  pub long : length again ≡ length bytes
 
 -- the text of bytes that stand inside as a volume, with volumes inside of it at most so deep as there are levels left
 abbrev pub IsInner : ℕ → List ℕ → List ℕ → Type 0

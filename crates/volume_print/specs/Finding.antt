@@ -1,5 +1,5 @@
 -- What is found of the bytes of a section.
-use Rattle.std.specs.Prelude.{◌≡◌, ℕ, false, true, ◌==◌, if◌then◌else◌, List, [], ◌++◌, length, Option, Some, None}
+use Rattle.std.specs.Prelude.{◌≡◌, ℕ, ◌-◌, ◌^◌, ◌≤◌, false, true, ◌==◌, if◌then◌else◌, List, [], ◌++◌, length, min, flat_map, Option, Some, None}
 use Rattle.pi_base.specs.declared.phase.Phase.{Phase}
 use Rattle.pi_base.specs.declared.phase.Phase.TheVariants.{Pei, Dxe}
 use Rattle.fv_section.specs.declared.section_type.TheConstants.{PEI_DEPEX, DXE_DEPEX}
@@ -7,6 +7,9 @@ use Rattle.fv_build.specs.declared.new_file.NewSection.{NewSection}
 use Rattle.depex_code.specs.declared.depex.Depex.{Depex}
 use Rattle.act_code.specs.declared.script.Script.{Script}
 use Rattle.act_code.specs.Script.{IsScript}
+use Rattle.fv_section.specs.declared.section.Section.{Section}
+use Rattle.fv_section.specs.declared.fault.SecFault.{SecFault}
+use Rattle.fv_section.specs.Stream.{AreInside, AreSections, IsFirstFault}
 use Rattle.volume_print.specs.declared.form.Form.{Form}
 use Rattle.volume_print.specs.declared.form.Form.TheVariants as form
 use Rattle.volume_print.specs.declared.form.Host.{Host}
@@ -16,9 +19,12 @@ use Rattle.fv_volume.specs.Volume.{IsVolume}
 use Rattle.volume_text.specs.Text.{Leads}
 use Rattle.fv_build.specs.declared.new_file.NewFile.{NewFile}
 use Rattle.fv_build.specs.declared.new_file.Body.{Body}
+use Rattle.fv_build.specs.declared.file_system.FileSystem.{FileSystem}
+use Rattle.fv_build.specs.Files.{bytes_in}
 use Rattle.fv_build.specs.Reading.{AreEach}
-use Rattle.volume_print.specs.Spelling.{IsExpressionOf, SaysExpression, is_guid_list, SaysScript, SaysVolume, IsSectionText, AreSectionTexts, IsBodyText, IsFileText, expression_line, guids_line, script_lines, section_line, whole}
+use Rattle.volume_print.specs.Spelling.{IsExpressionOf, SaysExpression, is_guid_list, SaysScript, SaysVolume, IsSectionText, AreSectionTexts, IsBodyText, IsFileText, expression_line, guids_line, script_lines, section_line, whole, pad_line, with_pads}
 use Rattle.volume_print.specs.Description.{IsBodyIn, IsFileIn}
+use Rattle.volume_print.specs.Places.{room_of, rooms, pads_in, behind, behind_all, pads_before}
 
 -- the expression that bytes are, or none
 abbrev pub FindsExpression : Phase → List ℕ → Option Depex → Type 0
@@ -54,10 +60,15 @@ abbrev pub FindsVolume : List ℕ → Option Volume → Type 0
 FindsVolume bytes (Some volume) = IsVolume bytes volume × (volume.len ≡ length bytes)
 FindsVolume bytes None = (volume : Volume) → IsVolume bytes volume → volume.len ≡ length bytes → ⊥
 
--- the text, where a volume is made of it
-abbrev pub FindsText : List ℕ → Option (List ℕ) → Type 0
-FindsText text (Some same) = (same ≡ text) × ((bytes : List ℕ) × Leads text bytes)
-FindsText text None = (bytes : List ℕ) → Leads text bytes → ⊥
+-- the sections that bytes are, or none where they cannot be read
+abbrev pub ReadsSections : List ℕ → Option (List Section) → Type 0
+ReadsSections bytes (Some read) = AreSections bytes read × AreInside bytes read
+ReadsSections bytes None = (fault : SecFault) × IsFirstFault bytes fault
+
+-- the text, where a volume of so many bytes is made of it
+abbrev pub FindsText : ℕ → List ℕ → Option (List ℕ) → Type 0
+FindsText len text (Some same) = (same ≡ text) × ((bytes : List ℕ) × Leads text bytes × (length bytes ≡ len))
+FindsText len text None = (bytes : List ℕ) → Leads text bytes → length bytes ≡ len → ⊥
 
 -- the form in which a section behind others of a file is told, if it is told as no volume
 abbrev pub IsPlainForm : Host → List NewSection → NewSection → Form → Type 0
@@ -89,16 +100,34 @@ AddsSection Inner host before section old new = (text : List ℕ) × IsSectionTe
 abbrev pub AddsSections : (List ℕ → List ℕ → Type 0) → Host → List NewSection → List ℕ → List ℕ → Type 0
 AddsSections Inner host sections old new = (texts : List (List ℕ)) × AreSectionTexts Inner host [] sections texts × (new ≡ old ++ whole texts)
 
--- the text of a file is added, and of files
-abbrev pub AddsFile : (List ℕ → List ℕ → Type 0) → List ℕ → FfsFile → List ℕ → List ℕ → Type 0
-AddsFile Inner bytes found old new = (file : NewFile) × IsFileIn bytes found file × ((text : List ℕ) × IsFileText Inner file text × (new ≡ old ++ text))
+-- a number that stands as 2^64 - 1 where it is greater
+abbrev pub held : ℕ → ℕ
+held n = min n (2 ^ 64 - 1)
 
-abbrev pub AddsBody : (List ℕ → List ℕ → Type 0) → Host → List ℕ → List ℕ → List ℕ → Type 0
-AddsBody Inner host bytes old new = (body : Body) × IsBodyIn host.kind bytes body × ((text : List ℕ) × IsBodyText Inner host body text × (new ≡ old ++ text))
+-- the text of a body is added, which takes so many bytes where it is built
+pub record AddsBody (Inner : List ℕ → List ℕ → Type 0) (file_system : FileSystem) (host : Host) (bytes old new : List ℕ) (len : ℕ) : Type 0 where
+  pub body : Body
+  pub is : IsBodyIn file_system host.kind bytes body
+  pub text : List ℕ
+  pub told : IsBodyText Inner host body text
+  pub grown : new ≡ old ++ text
+  pub long : len ≡ held (length (bytes_in file_system body))
 
-pub record AddsFiles (Inner : List ℕ → List ℕ → Type 0) (bytes : List ℕ) (found : List FfsFile) (old new : List ℕ) : Type 0 where
+-- the text of a file that may stand from a place on is added, behind its pads, and this is the least place behind it
+pub record AddsFile (Inner : List ℕ → List ℕ → Type 0) (file_system : FileSystem) (bytes : List ℕ) (found : FfsFile) (from next : ℕ) (old new : List ℕ) : Type 0 where
+  pub file : NewFile
+  pub is : IsFileIn file_system bytes found file
+  pub text : List ℕ
+  pub told : IsFileText Inner file text
+  pub grown : new ≡ old ++ (flat_map pad_line (pads_in (found.at - from)) ++ text)
+  pub fits : found.at ≤ 2 ^ 64 - 1
+  pub next_is : next ≡ held (behind from (room_of file_system found file))
+
+-- so are the texts of files
+pub record AddsFiles (Inner : List ℕ → List ℕ → Type 0) (file_system : FileSystem) (bytes : List ℕ) (found : List FfsFile) (from next : ℕ) (old new : List ℕ) : Type 0 where
   pub files : List NewFile
   pub texts : List (List ℕ)
-  pub are : AreEach (IsFileIn bytes) found files
+  pub are : AreEach (IsFileIn file_system bytes) found files
   pub told : AreEach (IsFileText Inner) files texts
-  pub grown : new ≡ old ++ whole texts
+  pub grown : new ≡ old ++ with_pads (pads_before from (rooms file_system found files)) texts
+  pub next_is : next ≡ held (behind_all from (rooms file_system found files))

@@ -136,6 +136,16 @@ abbrev pub IsBodyText : (List ℕ → List ℕ → Type 0) → Host → Body →
 IsBodyText Inner host (Sections sections) text = (texts : List (List ℕ)) × AreSectionTexts Inner host [] sections texts × (text ≡ whole texts)
 IsBodyText Inner host (Bytes bytes) text = text ≡ body_line bytes
 
+-- the line of a pad with so many bytes of body
+abbrev pub pad_line : ℕ → List ℕ
+pad_line len = line (codes "pad " ++ decimal len)
+
+-- the texts of files, each behind the lines of the pads in front of it
+abbrev pub with_pads : List (List ℕ) → List (List ℕ) → List ℕ
+with_pads [] texts = []
+with_pads (pads ∷ others) [] = []
+with_pads (pads ∷ others) (text ∷ texts) = flat_map pad_line pads ++ (text ++ with_pads others texts)
+
 -- the words of a file's attributes, each behind a space
 abbrev pub fixed_words : Bool → List ℕ
 fixed_words fixed = if fixed then codes " fixed" else []
@@ -165,7 +175,8 @@ abbrev pub name_line : Option Guid → List ℕ
 name_line None = []
 name_line (Some name) = line (codes "name " ++ guid_text name)
 
--- the text of a volume of this form, length and name with these files
-abbrev pub IsVolumeText : (List ℕ → List ℕ → Type 0) → VolumeForm → ℕ → Option Guid → List NewFile → List ℕ → Type 0
-IsVolumeText Inner form len name files text =
-    (texts : List (List ℕ)) × AreEach (IsFileText Inner) files texts × (text ≡ volume_line form len ++ (name_line name ++ (whole texts ++ line (codes "end"))))
+-- the text of a volume of this form, length and name with these files, and with these pads in front of each of them
+abbrev pub IsVolumeText : (List ℕ → List ℕ → Type 0) → VolumeForm → ℕ → Option Guid → List (List ℕ) → List NewFile → List ℕ → Type 0
+IsVolumeText Inner form len name pads files text =
+    (texts : List (List ℕ)) × AreEach (IsFileText Inner) files texts
+    × (text ≡ volume_line form len ++ (name_line name ++ (with_pads pads texts ++ line (codes "end"))))

@@ -3,9 +3,11 @@ ghost use Rattle.std.specs.Prelude.{◌≡◌, ◌≤◌, ◌<◌, ◌+◌, ◌+
 ghost use Rattle.fv_build.specs.Attributes.{attributes_in};
 ghost use Rattle.volume_print.specs.Spelling.{fixed_words, alignment_words, body_line, head_line};
 ghost use Rattle.volume_print.specs.Description.{IsStream};
+ghost use Rattle.volume_print.specs.Finding.{ReadsSections};
 
+use crate::place::{sections_end, sections_len};
 use crate::word::{put_bytes, put_decimal, put_guid, put_type};
-use fv_build::{Alignment, FileAttributes};
+use fv_build::{Alignment, FileAttributes, FileSystem};
 use fv_section::{SecCause, Section, read_sections};
 use fv_volume::FfsFile;
 use fv_volume::file_header::ATTRIBUTES_AT;
@@ -13,17 +15,10 @@ use fv_volume::file_type::RAW;
 use pi_base::{Guid, OutOfMemory, Seq};
 use std::alloc::Global;
 
-/// The sections that a body is, or none.
-pub(crate) fn sections_in(
-    alloc: Global,
-    kind: u8,
-    body: &[u8],
-) -> Result<Option<Seq<Section>>, OutOfMemory>
-    ensures { IfOk result (IsStream kind body.now) }
+// The sections that are read of a body, or none where they cannot be read.
+fn sections_of(alloc: Global, body: &[u8]) -> Result<Option<Seq<Section>>, OutOfMemory>
+    ensures { IfOk result (ReadsSections body.now) }
 {
-    if kind == RAW {
-        return Ok(None);
-    }
     match read_sections(alloc, body) {
         Ok(sections) => Ok(Some(sections)),
         Err(fault) => {
@@ -32,6 +27,30 @@ pub(crate) fn sections_in(
             }
             Ok(None)
         }
+    }
+}
+
+/// The sections by which a body is told, or none.
+#[tactic(auto, using(crate::proofs::Streams::as_built, crate::proofs::Streams::not_as_built))]
+pub(crate) fn sections_in(
+    alloc: Global,
+    file_system: FileSystem,
+    kind: u8,
+    body: &[u8],
+) -> Result<Option<Seq<Section>>, OutOfMemory>
+    ensures { IfOk result (IsStream file_system kind body.now) }
+{
+    if kind == RAW {
+        return Ok(None);
+    }
+    let Some(sections) = sections_of(alloc, body)? else {
+        return Ok(None);
+    };
+    let built = sections_len(file_system, body, sections.as_slice());
+    if built == sections_end(body, sections.as_slice()) {
+        Ok(Some(sections))
+    } else {
+        Ok(None)
     }
 }
 

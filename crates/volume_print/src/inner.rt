@@ -42,14 +42,24 @@ pub(crate) fn whole_volume(alloc: Global, bytes: &[u8]) -> Result<Option<Volume>
     }
 }
 
-/// A text of which `volume_of` makes a volume, or none.
-pub(crate) fn read_again(alloc: Global, text: Seq<u8>) -> Result<Option<Seq<u8>>, OutOfMemory>
-    ensures { IfOk result (FindsText text) }
+/// A text of which `volume_of` makes a volume of so many bytes, or none.
+#[tactic(auto, using(crate::proofs::OneText::no_volume_so_long))]
+pub(crate) fn read_again(
+    alloc: Global,
+    text: Seq<u8>,
+    len: usize,
+) -> Result<Option<Seq<u8>>, OutOfMemory>
+    ensures { IfOk result (FindsText len text) }
 {
     one_volume();
-    match volume_of(alloc, text.as_slice()) {
-        Ok(_) => Ok(Some(text)),
-        Err(TextFault::Bad(_)) => Ok(None),
-        Err(TextFault::Memory) => Err(OutOfMemory),
+    let again = match volume_of(alloc, text.as_slice()) {
+        Ok(again) => again,
+        Err(TextFault::Bad(_)) => return Ok(None),
+        Err(TextFault::Memory) => return Err(OutOfMemory),
+    };
+    if again.len() == len {
+        Ok(Some(text))
+    } else {
+        Ok(None)
     }
 }

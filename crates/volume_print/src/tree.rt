@@ -1,5 +1,5 @@
 // A volume's text, with the texts of the volumes nested in it.
-ghost use Rattle.std.specs.Prelude.{◌≡◌, ◌≤◌, ◌<◌, ◌+◌, length, map, IfOk, OnOk};
+ghost use Rattle.std.specs.Prelude.{◌≡◌, ◌≤◌, ◌<◌, ◌+◌, ℕ, length, map, IfOk, OnOk};
 ghost use Rattle.fv_volume.specs.Volume.{IsVolume};
 ghost use Rattle.fv_volume.specs.Places.{AreInside as AreFilesInside};
 ghost use Rattle.fv_section.specs.Stream.{AreInside};
@@ -10,8 +10,11 @@ use crate::file::{attributes_at, body_of as body_of_file, put_head, put_plain_bo
 use crate::form::{Form, Host, body_of, plain_form};
 use crate::inner::{holds_volume, read_again, whole_volume};
 use crate::law::one_text_by;
+use crate::place::{behind, put_pads, sections_len, stands};
 use crate::section::put_form;
 use crate::volume::{form_in, put_head as put_volume_head, put_name};
+use fv_build::{FileSystem, file_size};
+use fv_named::first_place;
 use fv_section::Section;
 use fv_volume::{FfsFile, Volume, one_reading};
 use pi_base::{OutOfMemory, Seq};
@@ -37,7 +40,7 @@ fn nested_text(
     one_reading();
     one_text_by();
     let text = text_by(alloc, bytes, &volume, deep - 1)?;
-    read_again(alloc, text)
+    read_again(alloc, text, bytes.len())
 }
 
 // In which form a section behind others of a file is told.
@@ -99,59 +102,74 @@ fn put_sections(
     Ok(())
 }
 
-// Adds the lines of a file's body.
+// Adds the lines of a file's body, and tells how many bytes it takes where it is built.
 #[cycle(tree)]
 fn put_body(
     alloc: Global,
     out: &mut Seq<u8>,
+    file_system: FileSystem,
     host: &Host,
     body: &[u8],
     deep: usize,
-) -> Result<(), OutOfMemory>
-    ensures { OnOk result (AddsBody (IsInner deep) host.now body.now out.old out.new) }
+) -> Result<usize, OutOfMemory>
+    ensures { IfOk result (AddsBody (IsInner deep) file_system host.now body.now out.old out.new) }
 {
-    match sections_in(alloc, host.kind, body)? {
-        Some(sections) => put_sections(alloc, out, host, body, sections.as_slice(), deep),
-        None => put_plain_body(out, body),
+    match sections_in(alloc, file_system, host.kind, body)? {
+        Some(sections) => {
+            put_sections(alloc, out, host, body, sections.as_slice(), deep)?;
+            Ok(sections_len(file_system, body, sections.as_slice()))
+        }
+        None => {
+            put_plain_body(out, body)?;
+            Ok(body.len())
+        }
     }
 }
 
-// Adds the lines of a file.
+// Adds the lines of a file that may stand from a place on, behind those of its pads, and tells the least place behind it.
 #[cycle(tree)]
 fn put_file(
     alloc: Global,
     out: &mut Seq<u8>,
+    file_system: FileSystem,
     bytes: &[u8],
     file: &FfsFile,
+    from: usize,
     deep: usize,
-) -> Result<(), OutOfMemory>
+) -> Result<usize, OutOfMemory>
     requires header { file.now.at < file.now.body_at }
     requires inside { file.now.body_at + file.now.body_len ≤ length bytes.now }
-    ensures { OnOk result (AddsFile (IsInner deep) bytes.now file.now out.old out.new) }
+    ensures { IfOk result (λ next. AddsFile (IsInner deep) file_system bytes.now file.now from next out.old out.new) }
 {
-    let attributes = attributes_at(bytes, file.at as usize);
-    put_head(out, file.kind, &file.name, attributes)?;
+    let at = file.at as usize;
+    put_pads(out, at.saturating_sub(from))?;
+    put_head(out, file.kind, &file.name, attributes_at(bytes, at))?;
     let host = Host {
         kind: file.kind,
         name: file.name,
     };
-    put_body(alloc, out, &host, body_of_file(bytes, file), deep)
+    let body = body_of_file(bytes, file);
+    let body_len = put_body(alloc, out, file_system, &host, body, deep)?;
+    Ok(behind(stands(from, at), file_size(file_system, body_len)))
 }
 
-// Adds the lines of files.
+// Adds the lines of files that may stand from a place on.
 #[cycle(tree)]
 fn put_files(
     alloc: Global,
     out: &mut Seq<u8>,
+    file_system: FileSystem,
     bytes: &[u8],
     files: &[FfsFile],
+    from: usize,
     deep: usize,
 ) -> Result<(), OutOfMemory>
     requires { AreFilesInside bytes.now files.now }
-    ensures { OnOk result (AddsFiles (IsInner deep) bytes.now files.now out.old out.new) }
+    ensures { OnOk result ((next : ℕ) × AddsFiles (IsInner deep) file_system bytes.now files.now from next out.old out.new) }
 {
+    let mut next = from;
     'files: for file in files {
-        put_file(alloc, out, bytes, file, deep)?;
+        next = put_file(alloc, out, file_system, bytes, file, next, deep)?;
     }
     Ok(())
 }
@@ -167,10 +185,21 @@ pub(crate) fn text_by(
     requires { AreFilesInside bytes.now volume.now.files }
     ensures { IfOk result (IsTextBy (IsInner deep) bytes.now volume.now) }
 {
+    let form = form_in(bytes);
     let mut text = Seq::new(alloc);
-    put_volume_head(&mut text, &form_in(bytes), volume.len)?;
+    put_volume_head(&mut text, &form, volume.len)?;
     put_name(&mut text, volume.name)?;
-    put_files(alloc, &mut text, bytes, volume.files.as_slice(), deep)?;
+    let files = volume.files.as_slice();
+    let first = first_place(volume.name);
+    put_files(
+        alloc,
+        &mut text,
+        form.file_system,
+        bytes,
+        files,
+        first,
+        deep,
+    )?;
     text.append(b"end\n")?;
     Ok(text)
 }

@@ -29,12 +29,12 @@ abbrev bare : Lines → List (List ℕ)
 bare lines = map (λ line. line.1) lines
 
 -- lines that are others and more, in two parts
-record Parts (all : Lines) (xs ys : List (List ℕ)) : Type 0 where
-  front : Lines
-  back : Lines
-  here : all ≡ front ++ back
-  front_is : bare front ≡ xs
-  back_is : bare back ≡ ys
+pub record Parts (all : Lines) (xs ys : List (List ℕ)) : Type 0 where
+  pub front : Lines
+  pub back : Lines
+  pub here : all ≡ front ++ back
+  pub front_is : bare front ≡ xs
+  pub back_is : bare back ≡ ys
 
 no_cons : (x : List ℕ) (xs : List (List ℕ)) → [] ≡ x ∷ xs → ⊥
 no_cons x xs e = absurd cc
@@ -45,7 +45,7 @@ heads x y xs ys e = cc
 tails : (x y : List ℕ) (xs ys : List (List ℕ)) → x ∷ xs ≡ y ∷ ys → xs ≡ ys
 tails x y xs ys e = cc
 
-parts : (all : Lines) (xs ys : List (List ℕ)) → bare all ≡ xs ++ ys → Parts all xs ys
+pub parts : (all : Lines) (xs ys : List (List ℕ)) → bare all ≡ xs ++ ys → Parts all xs ys
 parts all [] ys is = record { front = []; back = all; here = refl; front_is = refl; back_is = is }
 parts [] (x ∷ xs) ys is = absurd (no_cons x (xs ++ ys) is)
 parts (line ∷ all) (x ∷ xs) ys is =
@@ -59,24 +59,24 @@ parts (line ∷ all) (x ∷ xs) ys is =
     }
 
 -- one line
-record One (all : Lines) (x : List ℕ) : Type 0 where
-  number : ℕ
-  here : all ≡ (number, x) ∷ []
+pub record One (all : Lines) (x : List ℕ) : Type 0 where
+  pub number : ℕ
+  pub here : all ≡ (number, x) ∷ []
 
-one : (all : Lines) (x : List ℕ) → bare all ≡ x ∷ [] → One all x
+pub one : (all : Lines) (x : List ℕ) → bare all ≡ x ∷ [] → One all x
 one [] x is = absurd (no_cons x [] is)
 one (line ∷ []) x is =
     let same : line.1 ≡ x = heads line.1 x [] [] is in
     record { number = line.0; here = ap (λ (l : List ℕ). let it : ℕ × List ℕ = (line.0, l) in it ∷ []) same }
 one (line ∷ (next ∷ all)) x is = absurd (no_cons next.1 (bare all) (sym (tails line.1 x (next.1 ∷ bare all) [] is)))
 
-record First (all : Lines) (x : List ℕ) (xs : List (List ℕ)) : Type 0 where
-  number : ℕ
-  back : Lines
-  here : all ≡ (number, x) ∷ back
-  back_is : bare back ≡ xs
+pub record First (all : Lines) (x : List ℕ) (xs : List (List ℕ)) : Type 0 where
+  pub number : ℕ
+  pub back : Lines
+  pub here : all ≡ (number, x) ∷ back
+  pub back_is : bare back ≡ xs
 
-first : (all : Lines) (x : List ℕ) (xs : List (List ℕ)) → bare all ≡ x ∷ xs → First all x xs
+pub first : (all : Lines) (x : List ℕ) (xs : List (List ℕ)) → bare all ≡ x ∷ xs → First all x xs
 first [] x xs is = absurd (no_cons x xs is)
 first (line ∷ all) x xs is =
     let same : line.1 ≡ x = heads line.1 x (bare all) xs is in
@@ -149,7 +149,7 @@ blocks_go phase _ _ (action lines blocks actions line text a say says done) belo
     (λ numbers number. action_step below top phase blocks actions a numbers number line text says done)
 
 -- a volume that is open with these files
-abbrev opened_with : VolumeForm → ℕ → Option Guid → List NewFile → OpenVolume
+abbrev pub opened_with : VolumeForm → ℕ → Option Guid → List NewFile → OpenVolume
 opened_with form len called files = record { form = form; len = len; name = called; files = files }
 
 -- a section more in the last file
@@ -193,7 +193,7 @@ scripted from to all lines line inner end is mid goes below top phase blocks beg
     let there : Goes mid ((f.number, line) ∷ f.back) to = (start, begins f.number, rest) in
     subst (λ (ls : Lines). Goes from ls to) (sym (p.here ∙ ap (λ ls. p.front ++ ls) f.here)) (both from mid to p.front ((f.number, line) ∷ f.back) (goes p.front p.front_is) there)
 
-files_go : (lines : List (List ℕ)) (called : Option Guid) (files : List NewFile) → SayFiles lines called files → (below : List OpenVolume) (form : VolumeForm) (len : ℕ) (all : Lines)
+pub files_go : (lines : List (List ℕ)) (called : Option Guid) (files : List NewFile) → SayFiles lines called files → (below : List OpenVolume) (form : VolumeForm) (len : ℕ) (all : Lines)
     → bare all ≡ lines → Goes (Filling below (opened_with form len None [])) all (Filling below (opened_with form len called files))
 files_go lines called files no_file below form len all is =
     let start = Filling below (opened_with form len None []) in

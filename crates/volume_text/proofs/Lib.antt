@@ -10,3 +10,4 @@ mod OneText
 mod ReadBack
 mod Wholeness
 mod Completing
+mod Closing

@@ -38,7 +38,7 @@ tails : (x y : ℕ × List ℕ) (xs ys : Lines) → x ∷ xs ≡ y ∷ ys → xs
 tails x y xs ys e = cc
 
 -- lines lead to one state
-one_goes : (from : State) (all : Lines) (a b : State) → Goes from all a → Goes from all b → a ≡ b
+pub one_goes : (from : State) (all : Lines) (a b : State) → Goes from all a → Goes from all b → a ≡ b
 one_goes from [] a b x y = sym x ∙ y
 one_goes from (line ∷ rest) a b x y =
     let same : y.0 ≡ x.0 = same_ok y.0 x.0 (next_one from line (Ok y.0) (Ok x.0) y.1 x.1) in

@@ -10,7 +10,8 @@ use Rattle.volume_text.specs.declared.fault.TextFault.TheVariants as text_fault
 use Rattle.volume_text.specs.declared.step.State.{State}
 use Rattle.volume_text.specs.declared.step.State.TheVariants.{Begin, Done}
 use Rattle.volume_text.specs.Step.{Steps}
-use Rattle.volume_text.specs.Volume.{SaysVolume}
+use Rattle.volume_text.specs.declared.volume.OpenVolume.{OpenVolume}
+use Rattle.volume_text.specs.Volume.{SaysOpen, SaysVolume}
 
 abbrev pub is_comment : List ℕ → Bool
 is_comment [] = true
@@ -31,6 +32,10 @@ counted number (line ∷ rest) = if is_passed_over line then counted (number + 1
 
 abbrev pub numbered : List ℕ → List (ℕ × List ℕ)
 numbered text = counted 1 (lines text)
+
+-- the text describes this volume, whether it can be built or not
+abbrev pub Describes : List ℕ → OpenVolume → Type 0
+Describes text volume = SaysOpen (map (λ line. line.1) (numbered text)) volume
 
 -- the text describes the volume of these bytes
 abbrev pub Says : List ℕ → List ℕ → Type 0

@@ -63,6 +63,16 @@ pub data SayFiles : List (List ℕ) → Option Guid → List NewFile → Type 0 
       → holding (section_of VOLUME_IMAGE body) last ≡ Ok next
       → SayFiles (lines ++ line ∷ (inner ++ end ∷ [])) called (files ++ next ∷ [])
 
+-- the lines are a volume's own, those of its files and its `end`, whether it can be built or not
+pub record SaysOpen (lines : List (List ℕ)) (volume : OpenVolume) : Type 0 where
+  pub line : List ℕ
+  pub inner : List (List ℕ)
+  pub end : List ℕ
+  pub here : lines ≡ line ∷ (inner ++ end ∷ [])
+  pub begins : SaysLine line (Volume volume.form volume.len)
+  pub files : SayFiles inner volume.name volume.files
+  pub ends : SaysLine end End
+
 -- the lines, which are a volume's own, those of its files and its `end`, say the volume of these bytes
 pub record SaysVolume (lines : List (List ℕ)) (bytes : List ℕ) : Type 0 where
   pub line : List ℕ

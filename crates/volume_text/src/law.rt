@@ -1,10 +1,13 @@
 // The laws of texts.
-ghost use Rattle.std.specs.Prelude.{◌≡◌, ℕ, List, None, All};
+ghost use Rattle.std.specs.Prelude.{◌≡◌, ℕ, List, None, Ok, Err, All};
 ghost use Rattle.fv_build.specs.Files.{HasWholeName};
 ghost use Rattle.fv_build.specs.Reading.{IsReadBack};
+ghost use Rattle.volume_text.specs.declared.fault.Cause.{Cause};
 ghost use Rattle.volume_text.specs.declared.fault.Fault.{Fault};
 ghost use Rattle.volume_text.specs.declared.fault.TextFault.TheVariants.{Bad};
-ghost use Rattle.volume_text.specs.Text.{Says, Leads, IsRefused};
+ghost use Rattle.volume_text.specs.declared.volume.OpenVolume.{OpenVolume};
+ghost use Rattle.volume_text.specs.Open.{built_of};
+ghost use Rattle.volume_text.specs.Text.{Describes, Says, Leads, IsRefused};
 
 /// A text describes one volume, or has one first line at fault with one cause, and never both.
 pub fn one_volume()
@@ -17,6 +20,13 @@ pub fn one_volume()
 pub fn said_is_read()
     ensures says { (text bytes : List ℕ) → Leads text bytes → Says text bytes }
     ensures leads { (text bytes : List ℕ) → Says text bytes → Leads text bytes }
+{}
+
+/// Of a volume that a text describes, what is answered is what can be built of it: its bytes, or what stands against it, at the line of its `end`.
+pub fn built_or_refused()
+    ensures built { (text : List ℕ) (volume : OpenVolume) (bytes : List ℕ) → Describes text volume → Leads text bytes → built_of volume ≡ Ok bytes }
+    ensures refused { (text : List ℕ) (volume : OpenVolume) (cause : Cause) → Describes text volume → built_of volume ≡ Err cause
+        → (line : ℕ) × IsRefused text (Bad (record { line = line; cause = cause })) }
 {}
 
 /// A volume without a name that a text describes is read again: the reader finds the files that the lines say, with their names, types and sections.

@@ -16,7 +16,7 @@ mod volume;
 mod word;
 
 pub use fault::{Cause, Fault, TextFault};
-pub use law::{again, one_volume, said_is_read};
+pub use law::{again, built_or_refused, one_volume, said_is_read};
 pub use statement::Statement;
 pub use text::volume_of;
 pub use volume::{has_part, is_script};

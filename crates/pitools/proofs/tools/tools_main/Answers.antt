@@ -31,4 +31,5 @@ returns g c =
       memory = nothing_put (Outcome told words) (Names told words) status trail ends;
       any_moment = c.jobs_in_order.ensures.any_moment;
       idle = c.jobs_in_order.ensures.idle;
+      again = c.texts_make_volumes_again.ensures;
     }

@@ -1,11 +1,17 @@
+use Rattle.std.proofs.lemmas.List.{take_all}
 use Rattle.fv_build.proofs.Outcomes.{on_ok}
-use Rattle.std.proofs.Common.{List, ◌++◌, map, sym, ap, ◌∙◌, subst}
+use Rattle.std.proofs.Common.{arith, ◌≡◌, ℕ, ◌+◌, List, ◌++◌, length, map, take, flat_map, refl, sym, ap, ◌∙◌, subst}
 use Rattle.fv_section.specs.declared.section.Section.{Section}
 use Rattle.fv_volume.specs.declared.file.FfsFile.{FfsFile}
 use Rattle.fv_build.specs.declared.new_file.NewSection.{NewSection}
-use Rattle.volume_print.specs.Spelling.{volume_line}
+use Rattle.fv_volume.specs.Frame.{aligned}
+use Rattle.fv_build.specs.Sections.{body_bytes}
+use Rattle.fv_build.specs.declared.volume_header.VolumeForm.{VolumeForm}
+use Rattle.fv_named.specs.Named.{first_place}
+use Rattle.volume_print.specs.Places.{pads_in, stands}
+use Rattle.volume_print.specs.Spelling.{volume_line, pad_line}
 use Rattle.volume_print.specs.Description.{section_in, IsInner}
-use Rattle.volume_print.specs.Finding.{form_text, AddsSections, AddsFiles}
+use Rattle.volume_print.specs.Finding.{held, form_text, AddsSections, AddsFiles}
 use Rattle.volume_print.proofs.Forms.{no_volume}
 use Rattle.volume_print.proofs.OneText.{told_or_not}
 use Rattle.volume_print.proofs.Putting.{added, sections_more, sections_added, bytes_added, no_files, file_added, files_more, text_put}
@@ -24,42 +30,62 @@ put_sections-sections-preserved t c =
     sections_more (IsInner c.args.deep) c.args.host.now c.args.stream.now c.args.sections.now c.sections.place _ c.args.out.now c.sections.out c.put_section.new.out c.sections-test.true
     c.sections.invariant c.in_ok-put_section.ensures
 
-pub put_body-returns-in-Some : goal.put_body-returns-in-Some
-put_body-returns-in-Some t c =
+pub put_body-returns-in_ok-put_sections-in-Some : goal.put_body-returns-in_ok-put_sections-in-Some
+put_body-returns-in_ok-put_sections-in-Some t c =
+    let deep = IsInner c.args.deep in
+    let body = c.args.body.now in
     let old = c.args.out.now in
     let new = c.put_sections.new.out in
-    on_ok c.put_sections.result _ _
-    (λ adds. sections_added (IsInner c.args.deep) c.args.host.now c.args.body.now c.in-Some.sections old new (rw c.in-Some.is at c.in_ok-sections.ensures)
-    (subst (λ (ss : List Section). AddsSections (IsInner c.args.deep) c.args.host.now (map (section_in c.args.body.now) ss) old new) c.as_slice.ensures adds))
-    c.put_sections.ensures
+    sections_added deep c.args.host.now body c.in-Some.sections old new c.args.file_system (rw c.in-Some.is at c.in_ok-sections.ensures)
+    (subst (λ (ss : List Section). AddsSections deep c.args.host.now (map (section_in body) ss) old new) c.as_slice.ensures c.in_ok-put_sections-in-Some.ensures)
+    c.sections_len.result
+    (c.sections_len.ensures ∙ ap (λ (ss : List Section). held (length (body_bytes c.args.file_system (map (section_in body) ss)))) c.as_slice-in-Some.ensures)
 
 pub put_file-returns : goal.put_file-returns
 put_file-returns t c =
-    on_ok c.put_body.result _ _
-    (λ adds. file_added (IsInner c.args.deep) c.args.bytes.now c.args.file.now c.attributes_at-attributes.result c.body_of.result.now c.args.out.now c.put_head.new.out c.put_body.new.out
-    c.attributes_at-attributes.ensures c.body_of.ensures c.in_ok-put_head.ensures adds)
-    c.put_body.ensures
+    let file = c.args.file.now in
+    let fs = c.args.file_system in
+    let old = c.args.out.now in
+    file_added (IsInner c.args.deep) fs c.args.bytes.now file c.args.from c.behind.result c.attributes_at.result c.body_of-body.result.now old c.put_pads.new.out c.put_head.new.out
+    c.put_body.new.out c.in_ok-body_len.body_len c.attributes_at.ensures c.body_of-body.ensures
+    (c.in_ok-put_pads.ensures ∙ ap (λ n. old ++ flat_map pad_line (pads_in n)) c.saturating_sub.ensures) c.in_ok-put_head.ensures c.in_ok-body_len.ensures (omega arith)
+    (c.behind.ensures ∙ ap (λ n. held (aligned (n + c.file_size.result))) c.stands.ensures ∙ ap (λ n. held (aligned (stands c.args.from file.at + n))) c.file_size.ensures)
 
 pub put_files-files-preserved : goal.put_files-files-preserved
 put_files-files-preserved t c =
-    files_more (IsInner c.args.deep) c.args.bytes.now c.args.files.now c.files.file-index _ c.args.out.now c.files.out c.put_file.new.out c.files-test.true c.files.invariant c.in_ok-put_file.ensures
+    files_more (IsInner c.args.deep) c.args.file_system c.args.bytes.now c.args.files.now c.files.file-index _ c.args.from c.files.next c.in_ok-next.next c.args.out.now c.files.out
+    c.put_file.new.out c.files-test.true c.files.invariant c.in_ok-next.ensures
+
+pub put_files-returns : goal.put_files-returns
+put_files-returns t c =
+    let all : take c.files.file-index c.args.files.now ≡ c.args.files.now = take_all c.files.file-index c.args.files.now (omega arith) in (
+      c.files.next,
+      subst (λ (fs : List FfsFile). AddsFiles (IsInner c.args.deep) c.args.file_system c.args.bytes.now fs c.args.from c.files.next c.args.out.now c.files.out) all c.files.invariant,
+    )
 
 pub text_by-returns : goal.text_by-returns
 text_by-returns t c =
+    let deep = IsInner c.args.deep in
     let image = c.args.bytes.now in
     let volume = c.args.volume.now in
-    text_put (IsInner c.args.deep) image volume c.put_head.new.out c.put_name.new.out c.put_files.new.out c.append.new.self
-    (c.in_ok-put_head.ensures ∙ ap (λ o. o ++ volume_line c.form_in.result volume.len) c.new-text.ensures ∙ ap (λ f. volume_line f volume.len) c.form_in.ensures)
-    c.in_ok-put_name.ensures (subst (λ (fs : List FfsFile). AddsFiles (IsInner c.args.deep) image fs c.put_name.new.out c.put_files.new.out) c.as_slice.ensures c.in_ok-put_files.ensures) c.in_ok-append.ensures.ok
+    let system = c.form_in-form.result.file_system in
+    let named = c.put_name.new.out in
+    let filed = c.put_files.new.out in
+    let adds = c.in_ok-put_files.ensures in
+    let there = subst (λ (n : ℕ). AddsFiles deep system image c.as_slice-files.result.now n adds.0 named filed) c.first_place-first.ensures adds.1 in
+    let files = subst (λ (fs : List FfsFile). AddsFiles deep system image fs (first_place volume.name) adds.0 named filed) c.as_slice-files.ensures there in
+    text_put deep image volume adds.0 c.put_head.new.out named filed c.append.new.self
+    (c.in_ok-put_head.ensures ∙ ap (λ o. o ++ volume_line c.form_in-form.result volume.len) c.new-text.ensures ∙ ap (λ f. volume_line f volume.len) c.form_in-form.ensures)
+    c.in_ok-put_name.ensures
+    (subst (λ (f : VolumeForm). AddsFiles deep f.file_system image volume.files (first_place volume.name) adds.0 named filed) c.form_in-form.ensures files) c.in_ok-append.ensures.ok
 
-pub put_body-returns-in-None : goal.put_body-returns-in-None
-put_body-returns-in-None t c =
-    on_ok c.put_plain_body.result _ _
-    (λ grown. bytes_added (IsInner c.args.deep) c.args.host.now c.args.body.now c.args.out.now c.put_plain_body.new.out (rw c.in-None.is at c.in_ok-sections.ensures) grown)
-    c.put_plain_body.ensures
+pub put_body-returns-in_ok-put_plain_body-in-None : goal.put_body-returns-in_ok-put_plain_body-in-None
+put_body-returns-in_ok-put_plain_body-in-None t c =
+    bytes_added (IsInner c.args.deep) c.args.host.now c.args.body.now c.args.out.now c.put_plain_body.new.out c.args.file_system (rw c.in-None.is at c.in_ok-sections.ensures)
+    c.in_ok-put_plain_body-in-None.ensures (length c.args.body.now) refl (omega arith)
 
 pub put_files-files-init : goal.put_files-files-init
-put_files-files-init t c = no_files (IsInner c.args.deep) c.args.bytes.now c.args.out.now
+put_files-files-init t c = no_files (IsInner c.args.deep) c.args.file_system c.args.bytes.now c.args.from c.args.out.now (omega arith)
 
 pub nested_text-returns-in_default : goal.nested_text-returns-in_default
 nested_text-returns-in_default t c =

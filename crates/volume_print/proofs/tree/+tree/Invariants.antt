@@ -34,4 +34,4 @@ invariant-put_sections-sections l = AddsSections (IsInner l.deep) l.host (map (s
 
 -- the texts of the files so far
 abbrev pub invariant-put_files-files : goal.invariant-put_files-files
-invariant-put_files-files l = AddsFiles (IsInner l.deep) l.bytes (take l.file-index l.files) l.fn.out l.out
+invariant-put_files-files l = AddsFiles (IsInner l.deep) l.file_system l.bytes (take l.file-index l.files) l.fn.from l.next l.fn.out l.out

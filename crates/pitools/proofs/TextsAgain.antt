@@ -1,0 +1,53 @@
+-- What `volume` answers to a text that `text` printed.
+use Rattle.std.proofs.Common.{◌≡◌, inl, inr, ℕ, ◌≤◌, ◌&&◌, Bool, true, List, length, refl, sym, subst, arith}
+use Rattle.std.specs.Prelude.{nat_le}
+use Rattle.std.proofs.lemmas.Bool.Decides.{nat_tests}
+use Rattle.pi_base.specs.Field.{AreBytes}
+use Rattle.fv_volume.proofs.Standing.{volume_len}
+use Rattle.volume_text.specs.declared.fault.Fault.{Fault}
+use Rattle.volume_text.specs.declared.fault.TextFault.TheVariants.{Bad}
+use Rattle.volume_text.specs.Words.{is_length}
+use Rattle.volume_text.specs.Text.{Leads, IsRefused}
+use Rattle.volume_print.specs.Description.{IsTextOf}
+use Rattle.volume_again.specs.Made.{CannotBeBuilt, IsMadeAgain}
+use Rattle.pitools.specs.declared.status.ToolStatus.{ToolStatus}
+use Rattle.pitools.specs.declared.status.ToolStatus.TheVariants.{Done, ImageRefused}
+use Rattle.pitools.specs.PrintReport.{PrintReport, printed, no_volume}
+use Rattle.pitools.specs.VolumeReport.{VolumeReport, built, at_fault}
+use Rattle.pitools.specs.TextAgain.{MakesItAgain}
+
+-- what holds of the texts of volumes
+pub record Laws : Type 0 where
+  pub made : (bytes text again : List ℕ) (told : IsTextOf bytes text) → AreBytes bytes → is_length told.volume.len ≡ true → Leads text again → IsMadeAgain bytes text told again
+  pub refused : (bytes text : List ℕ) (fault : Fault) (told : IsTextOf bytes text) → AreBytes bytes → is_length told.volume.len ≡ true → IsRefused text (Bad fault) → CannotBeBuilt bytes text told
+
+both : (a b : Bool) → a ≡ true → b ≡ true → (a && b) ≡ true
+both a b p q = rw (p, q) refl
+
+long_enough : (len : ℕ) → 72 ≤ len → len ≤ 0x4000000 → is_length len ≡ true
+long_enough len least most =
+    let low : nat_le 72 len ≡ true = grind (arith, nat_tests) in
+    let high : nat_le len 0x4000000 ≡ true = grind (arith, nat_tests) in
+    both (nat_le 72 len) (nat_le len 0x4000000) low high
+
+answered : Laws → (bytes text out : List ℕ) (status : ToolStatus) (told : IsTextOf bytes text) → AreBytes bytes → length bytes ≤ 0x4000000 → VolumeReport text status out → MakesItAgain bytes text status out
+answered laws bytes text out status told fit short (built again says leads is same) = (
+  told,
+  λ least.
+      let frame = told.is.0 in
+      let most : told.volume.len ≤ 0x4000000 = omega (arith, volume_len bytes frame told.is.1, told.is.2, short) in
+      let made = laws.made bytes text again told fit (long_enough told.volume.len least most) leads in
+      inl (is, subst (λ (o : List ℕ). IsMadeAgain bytes text told o) (sym same) made),
+)
+answered laws bytes text out status told fit short (at_fault fault wrong is same) = (
+  told,
+  λ least.
+      let frame = told.is.0 in
+      let most : told.volume.len ≤ 0x4000000 = omega (arith, volume_len bytes frame told.is.1, told.is.2, short) in
+      inr (is, laws.refused bytes text fault told fit (long_enough told.volume.len least most) wrong),
+)
+
+pub again : Laws → (bytes text out : List ℕ) (status : ToolStatus) → AreBytes bytes → length bytes ≤ 0x4000000 → PrintReport bytes Done text → VolumeReport text status out → MakesItAgain bytes text status out
+again laws bytes text out status fit short (printed same told is text_is) report =
+    answered laws bytes text out status (subst (λ (t : List ℕ). IsTextOf bytes t) (sym text_is) told) fit short report
+again laws bytes text out status fit short (no_volume fault real wrong is same) report = absurd (let no : Done ≡ ImageRefused = is in cc)

@@ -1,0 +1,41 @@
+-- The volume that is made of another one's text, as a reader finds it.
+use Rattle.std.specs.Prelude.{◌≡◌, ℕ, ◌-◌, List, length, map, Err}
+use Rattle.fv_volume.specs.declared.volume.Volume.{Volume}
+use Rattle.fv_volume.specs.Volume.{IsVolume}
+use Rattle.fv_build.specs.declared.new_file.NewFile.{NewFile}
+use Rattle.fv_build.specs.Reading.{AreEach, IsFileRead}
+use Rattle.fv_named.specs.Named.{first_place}
+use Rattle.catalog_model.specs.declared.limits.TheConstants.{MOST_DEPTH}
+use Rattle.volume_text.specs.declared.fault.Cause.{Cause}
+use Rattle.volume_text.specs.Open.{built_of}
+use Rattle.volume_print.specs.Description.{form_in, pads_of, IsInner, IsTextOf}
+use Rattle.volume_print.specs.Places.{Room, rooms, places, LeaveRoom}
+use Rattle.volume_again.specs.Again.{IsFileAgain, SaysAgain}
+
+-- where the files of a volume stand of which this is the text, and what they take
+abbrev pub rooms_told : (bytes text : List ℕ) → IsTextOf bytes text → List Room
+rooms_told bytes text told = rooms (form_in bytes).file_system told.volume.files told.told.files
+
+-- a reader finds a volume of the same form, length and name, and the same files, each where its pads bring it: at the same offset, where each stretch
+-- in front of a file is none or has room for a pad
+pub record IsMadeAgain (bytes text : List ℕ) (told : IsTextOf bytes text) (again : List ℕ) : Type 0 where
+  pub volume : Volume
+  pub is_volume : IsVolume again volume
+  pub form_is : form_in again ≡ form_in bytes
+  pub len_is : volume.len ≡ told.volume.len
+  pub long : length again ≡ told.volume.len
+  pub name_is : volume.name ≡ told.volume.name
+  pub files : List NewFile
+  pub files_are : AreEach (IsFileAgain (IsInner (MOST_DEPTH - 1))) told.told.files files
+  pub are_read : AreEach (IsFileRead again) files volume.files
+  pub stand : map (λ file. file.at) volume.files ≡ places (first_place told.volume.name) (rooms_told bytes text told)
+  pub kept : LeaveRoom (first_place told.volume.name) (rooms_told bytes text told) → map (λ file. file.at) volume.files ≡ map (λ file. file.at) told.volume.files
+
+-- the text says the volume that it is printed of, its files behind their pads
+abbrev pub SaysItself : (bytes text : List ℕ) → IsTextOf bytes text → Type 0
+SaysItself bytes text told =
+    SaysAgain (IsInner (MOST_DEPTH - 1)) (form_in bytes) told.volume.len told.volume.name (pads_of (form_in bytes) told.volume told.told.files) told.told.files text
+
+-- the volume that the text says cannot be built
+abbrev pub CannotBeBuilt : (bytes text : List ℕ) → IsTextOf bytes text → Type 0
+CannotBeBuilt bytes text told = (says : SaysItself bytes text told) × ((cause : Cause) × (built_of says.volume ≡ Err cause))

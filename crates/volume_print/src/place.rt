@@ -1,0 +1,88 @@
+// Where the files of a volume stand where they are built again, and the pads that bring them there.
+ghost use Rattle.std.specs.Prelude.{◌≡◌, ◌≤◌, ◌-◌, ◌^◌, ◌+◌, ◌++◌, length, map, min, OnOk};
+ghost use Rattle.std.specs.List.{flat_map};
+ghost use Rattle.fv_section.specs.Stream.{AreInside};
+ghost use Rattle.fv_volume.specs.Frame.{aligned};
+ghost use Rattle.fv_build.specs.Sections.{body_bytes};
+ghost use Rattle.volume_print.specs.Description.{section_in, sections_end};
+ghost use Rattle.volume_print.specs.Places.{pads_in, stands};
+ghost use Rattle.volume_print.specs.Spelling.{pad_line};
+
+use crate::word::put_decimal;
+use fv_build::{FileSystem, gap, section_size};
+use fv_section::Section;
+use fv_volume::ALIGNMENT;
+use fv_volume::file_header::HEADER_LEN as FILE_HEADER_LEN;
+use pi_base::{OutOfMemory, Seq};
+
+/// The bytes of a long pad file, its header in it: a longer stretch has several.
+pub(crate) const LONG_PAD: usize = 0x80_0000;
+
+// Adds the line of a pad with so many bytes of body.
+fn put_pad(out: &mut Seq<u8>, len: usize) -> Result<(), OutOfMemory>
+    ensures { OnOk result (out.new ≡ out.old ++ pad_line len) }
+{
+    out.append(b"pad ")?;
+    put_decimal(out, len as u64)?;
+    out.append(b"\n")
+}
+
+/// Adds the lines of the pads that fill a stretch.
+pub(crate) fn put_pads(out: &mut Seq<u8>, stretch: usize) -> Result<(), OutOfMemory>
+    ensures { OnOk result (out.new ≡ out.old ++ flat_map pad_line (pads_in stretch)) }
+{
+    if stretch < FILE_HEADER_LEN {
+        return Ok(());
+    }
+    let bodies = stretch - FILE_HEADER_LEN;
+    'pads: for _ in 0..bodies / LONG_PAD {
+        put_pad(out, LONG_PAD - FILE_HEADER_LEN)?;
+    }
+    put_pad(out, bodies % LONG_PAD)
+}
+
+/// Where a file stands that may stand from a place on.
+pub(crate) fn stands(from: usize, at: usize) -> usize
+    ensures { result ≡ stands from at }
+{
+    if at.saturating_sub(from) < FILE_HEADER_LEN {
+        from
+    } else {
+        at
+    }
+}
+
+/// The least place behind a file. One of 2^64 or more stands as 2^64 - 1.
+pub(crate) fn behind(at: usize, len: usize) -> usize
+    ensures { result ≡ min (aligned (at + len)) (2 ^ 64 - 1) }
+{
+    let end = at.saturating_add(len);
+    end.saturating_add(gap(ALIGNMENT, end))
+}
+
+/// The end of the last section.
+pub(crate) fn sections_end(stream: &[u8], sections: &[Section]) -> usize
+    requires { AreInside stream.now sections.now }
+    ensures end { result ≡ sections_end sections.now }
+    ensures within { result ≤ length stream.now }
+{
+    let mut end = 0usize;
+    'sections: for section in sections {
+        end = section.body_at as usize + section.body_len as usize;
+    }
+    end
+}
+
+/// The bytes of sections where they are built, those between them too. So many as 2^64 stand as 2^64 - 1.
+pub(crate) fn sections_len(file_system: FileSystem, stream: &[u8], sections: &[Section]) -> usize
+    requires { AreInside stream.now sections.now }
+    ensures { result ≡ min (length (body_bytes file_system (map (section_in stream.now) sections.now))) (2 ^ 64 - 1) }
+{
+    let mut end = 0usize;
+    'sections: for section in sections {
+        end = end
+            .saturating_add(gap(fv_section::ALIGNMENT, end))
+            .saturating_add(section_size(file_system, section.body_len as usize));
+    }
+    end
+}
