@@ -1,15 +1,14 @@
 -- Who has a GUID installed, a step further.
-use Rattle.std.proofs.Common.{◌≡◌, ℕ, zero, suc, ◌+◌, arith, Bool, true, false, ◌||◌, cond, List, [], ◌∷◌, ◌++◌, Option, Some, None, refl, sym, ap, ◌∙◌, subst}
+use Rattle.std.proofs.Common.{◌≡◌, ℕ, Bool, true, false, ◌||◌, cond, List, [], ◌∷◌, ◌++◌, Option, Some, None, refl, sym, ap, ◌∙◌, subst}
 use Rattle.std.specs.Prelude.{unwrap_or}
 use Rattle.std.proofs.lemmas.Slice.Eq.{bytes_eq-Decides}
 use Rattle.pi_base.specs.declared.guid.Guid.{Guid}
 use Rattle.pi_base.specs.Guids.{same_guid}
 use Rattle.guid_map.specs.GuidMap.{IsPut, value_of}
 use Rattle.boot_laws.specs.ChangedGuids.{is_among}
-use Rattle.boot_model.specs.declared.frame.Frame.{Frame}
 use Rattle.boot_reasons.specs.declared.reasons.Giver.{Giver}
 use Rattle.boot_reasons.specs.declared.reasons.Giver.TheVariants.{Core, Module, Absent}
-use Rattle.boot_reasons.specs.Givers.{actor_by, actor_in, giver_after}
+use Rattle.boot_reasons.specs.Givers.{actor_by, giver_along}
 use Rattle.boot_reasons.specs.Noting.{AreNoted, IsPresent, giver_behind, giver_in, giver_or}
 
 or_none : (b : Bool) → (b || false) ≡ b
@@ -77,30 +76,43 @@ pub actor_present : (running : Option ℕ) → IsPresent (actor_by running)
 actor_present None = tt
 actor_present (Some number) = tt
 
+-- the first machine of a run
+abbrev pub first_of : {A : Type 0} → List A → A → A
+first_of [] m = m
+first_of (before ∷ earlier) m = first_of earlier before
+
 -- nobody has what is not installed
-absent : (has : ℕ → Guid → Bool) (actor : ℕ → Giver) (n : ℕ) (guid : Guid) → has n guid ≡ false → giver_after has actor n guid ≡ Absent
-absent has actor zero guid e = refl
-absent has actor (suc n) guid e = ap (λ b. cond b (cond (has n guid) (giver_after has actor n guid) (actor n)) Absent) e
+absent : {A : Type 0} (has : A → Guid → Bool) (actor : A → Giver) (earlier : List A) (m : A) (guid : Guid) → has m guid ≡ false → giver_along has actor earlier m guid ≡ Absent
+absent has actor [] m guid e = refl
+absent has actor (before ∷ earlier) m guid e = ap (λ b. cond b (cond (has before guid) (giver_along has actor earlier before guid) (actor before)) Absent) e
 
 -- and somebody what is
-present : (has : ℕ → Guid → Bool) (actor : ℕ → Giver) (n : ℕ) (guid : Guid) → ((k : ℕ) → IsPresent (actor k)) → has 0 guid ≡ false → has n guid ≡ true → IsPresent (giver_after has actor n guid)
-present has actor zero guid all none e = let never : false ≡ true = sym none ∙ e in absurd (cc)
-present has actor (suc n) guid all none e =
-    let P : Bool → Type 0 = λ b. IsPresent (cond b (cond (has n guid) (giver_after has actor n guid) (actor n)) Absent) in
-    let here : P true = by (has n guid) refl (present has actor n guid all none) (all n) in
+present : {A : Type 0} (has : A → Guid → Bool) (actor : A → Giver) (earlier : List A) (m : A) (guid : Guid) → ((x : A) → IsPresent (actor x)) → has (first_of earlier m) guid ≡ false → has m guid ≡ true
+    → IsPresent (giver_along has actor earlier m guid)
+present has actor [] m guid all none e = let never : false ≡ true = sym none ∙ e in absurd (cc)
+present has actor (before ∷ earlier) m guid all none e =
+    let P : Bool → Type 0 = λ b. IsPresent (cond b (cond (has before guid) (giver_along has actor earlier before guid) (actor before)) Absent) in
+    let here : P true = by (has before guid) refl (present has actor earlier before guid all none) (all before) in
     subst P (sym e) here
   where
-    by : (b : Bool) → has n guid ≡ b → (has n guid ≡ true → IsPresent (giver_after has actor n guid)) → IsPresent (actor n) → IsPresent (cond b (giver_after has actor n guid) (actor n))
-    by true t before now = before t
-    by false t before now = now
+    by : (b : Bool) → has before guid ≡ b → (has before guid ≡ true → IsPresent (giver_along has actor earlier before guid)) → IsPresent (actor before)
+        → IsPresent (cond b (giver_along has actor earlier before guid) (actor before))
+    by true t were now = were t
+    by false t were now = now
 
 -- where a step changes nothing
-pub giver_still : (has : ℕ → Guid → Bool) (actor : ℕ → Giver) (n : ℕ) (guid : Guid) → has (suc n) guid ≡ has n guid → giver_after has actor (suc n) guid ≡ giver_after has actor n guid
-giver_still has actor n guid same = ap (λ b. cond b (cond (has n guid) (giver_after has actor n guid) (actor n)) Absent) same ∙ by (has n guid) refl
+pub giver_still : {A : Type 0} (has : A → Guid → Bool) (actor : A → Giver) (earlier : List A) (m later : A) (guid : Guid) → has later guid ≡ has m guid
+    → giver_along has actor (m ∷ earlier) later guid ≡ giver_along has actor earlier m guid
+giver_still has actor earlier m later guid same = ap (λ b. cond b (cond (has m guid) (giver_along has actor earlier m guid) (actor m)) Absent) same ∙ by (has m guid) refl
   where
-    by : (b : Bool) → has n guid ≡ b → cond b (cond b (giver_after has actor n guid) (actor n)) Absent ≡ giver_after has actor n guid
+    by : (b : Bool) → has m guid ≡ b → cond b (cond b (giver_along has actor earlier m guid) (actor m)) Absent ≡ giver_along has actor earlier m guid
     by true e = refl
-    by false e = sym (absent has actor n guid e)
+    by false e = sym (absent has actor earlier m guid e)
+
+-- of a machine in which the same is installed
+pub giver_same : {A : Type 0} (has : A → Guid → Bool) (actor : A → Giver) (earlier : List A) (m other : A) (guid : Guid) → has other guid ≡ has m guid → giver_along has actor earlier other guid ≡ giver_along has actor earlier m guid
+giver_same has actor [] m other guid same = refl
+giver_same has actor (before ∷ earlier) m other guid same = ap (λ b. cond b (cond (has before guid) (giver_along has actor earlier before guid) (actor before)) Absent) same
 
 or_present : (before actor : Giver) → IsPresent before → giver_or before actor ≡ before
 or_present Core actor p = refl
@@ -108,31 +120,23 @@ or_present (Module number) actor p = refl
 or_present Absent actor p = absurd p
 
 -- where the GUIDs that it may change were noted
-pub giver_on : (has : ℕ → Guid → Bool) (actor : ℕ → Giver) (n : ℕ) (guids : List Guid) (old new : List (Guid × Giver)) → ((k : ℕ) → IsPresent (actor k)) → ((guid : Guid) → has 0 guid ≡ false)
-    → AreNoted (has (suc n)) (actor n) guids old new → ((guid : Guid) → giver_in old guid ≡ giver_after has actor n guid) → ((guid : Guid) → is_among guid guids ≡ false → has (suc n) guid ≡ has n guid)
-    → (guid : Guid) → giver_in new guid ≡ giver_after has actor (suc n) guid
-giver_on has actor n guids old new all none noted before others guid =
-    noted guid ∙ ap (λ giver. cond (is_among guid guids) (giver_behind giver (has (suc n) guid) (actor n)) giver) (before guid) ∙ by (is_among guid guids) refl
+pub giver_on : {A : Type 0} (has : A → Guid → Bool) (actor : A → Giver) (earlier : List A) (m later : A) (guids : List Guid) (old new : List (Guid × Giver)) → ((x : A) → IsPresent (actor x)) → ((guid : Guid) → has (first_of earlier m) guid ≡ false)
+    → AreNoted (has later) (actor m) guids old new → ((guid : Guid) → giver_in old guid ≡ giver_along has actor earlier m guid) → ((guid : Guid) → is_among guid guids ≡ false → has later guid ≡ has m guid)
+    → (guid : Guid) → giver_in new guid ≡ giver_along has actor (m ∷ earlier) later guid
+giver_on has actor earlier m later guids old new all none noted before others guid =
+    noted guid ∙ ap (λ giver. cond (is_among guid guids) (giver_behind giver (has later guid) (actor m)) giver) (before guid) ∙ by (is_among guid guids) refl
   where
     now : Giver
-    now = giver_after has actor n guid
+    now = giver_along has actor earlier m guid
 
-    came : (b : Bool) → has n guid ≡ b → giver_or now (actor n) ≡ cond b now (actor n)
-    came true e = or_present now (actor n) (present has actor n guid all (none guid) e)
-    came false e = ap (λ giver. giver_or giver (actor n)) (absent has actor n guid e)
+    came : (b : Bool) → has m guid ≡ b → giver_or now (actor m) ≡ cond b now (actor m)
+    came true e = or_present now (actor m) (present has actor earlier m guid all (none guid) e)
+    came false e = ap (λ giver. giver_or giver (actor m)) (absent has actor earlier m guid e)
 
-    changed : (there : Bool) → giver_behind now there (actor n) ≡ cond there (cond (has n guid) now (actor n)) Absent
-    changed true = came (has n guid) refl
+    changed : (there : Bool) → giver_behind now there (actor m) ≡ cond there (cond (has m guid) now (actor m)) Absent
+    changed true = came (has m guid) refl
     changed false = refl
 
-    by : (b : Bool) → is_among guid guids ≡ b → cond b (giver_behind now (has (suc n) guid) (actor n)) now ≡ giver_after has actor (suc n) guid
-    by true e = changed (has (suc n) guid)
-    by false e = sym (giver_still has actor n guid (others guid e))
-
--- where so many steps change nothing
-pub giver_stays : (has : ℕ → Guid → Bool) (actor : ℕ → Giver) (n more : ℕ) (guid : Guid) → ((k : ℕ) → has (n + k) guid ≡ has n guid) → giver_after has actor (n + more) guid ≡ giver_after has actor n guid
-giver_stays has actor n zero guid same = let e : n + 0 ≡ n = omega arith in ap (λ k. giver_after has actor k guid) e
-giver_stays has actor n (suc more) guid same =
-    let e : n + suc more ≡ suc (n + more) = omega arith in
-    let next : has (suc (n + more)) guid ≡ has (n + more) guid = ap (λ k. has k guid) (sym e) ∙ same (suc more) ∙ sym (same more) in
-    ap (λ k. giver_after has actor k guid) e ∙ giver_still has actor (n + more) guid next ∙ giver_stays has actor n more guid same
+    by : (b : Bool) → is_among guid guids ≡ b → cond b (giver_behind now (has later guid) (actor m)) now ≡ giver_along has actor (m ∷ earlier) later guid
+    by true e = changed (has later guid)
+    by false e = sym (giver_still has actor earlier m later guid (others guid e))

@@ -1,7 +1,10 @@
 mod DxeEnds
 mod DxeSteps
 mod GiverSteps
+mod OneRun
+mod OneTelling
+mod OwnBoots
 mod PeiEnds
 mod PeiSteps
 mod Phases
-mod StepLists
+mod Reported

@@ -1,94 +1,89 @@
 -- What is told of both phases explains the boot.
-use Rattle.std.specs.Bool.{⊤}
-use Rattle.std.proofs.Common.{◌≡◌, ℕ, List, [], ◌++◌, Option, Some, None, option_map, refl, sym, ap, ◌∙◌, subst}
-use Rattle.std.proofs.lemmas.List.{append-nil}
-use Rattle.std.proofs.lemmas.Option.{same_Some}
+use Rattle.std.proofs.Common.{◌≡◌, ℕ, Bool, List, Option, Some, None, refl, sym, ap, ◌∙◌, subst}
 use Rattle.catalog_model.specs.declared.catalog.Catalog.{Catalog}
+use Rattle.store_model.specs.Service.{OfEach}
+use Rattle.store_model.specs.StoreCall.{Anything}
 use Rattle.store_model.specs.StoreState.{Board, StoreState}
-use Rattle.boot_model.specs.BootRun.{dxe_result}
-use Rattle.boot_model.specs.declared.line.RunEnd.{RunEnd}
 use Rattle.boot_model.specs.declared.phase_end.PeiEnd.{PeiEnd}
-use Rattle.boot_model.specs.declared.phase_end.PeiEnd.TheVariants.{Handoff, NoMemory, NoIpl, Spent, Deep}
-use Rattle.boot_model.specs.DxeRun.{dxe_bound, dxe_end}
-use Rattle.boot_model.specs.PeiRun.{pei_bound, pei_end}
+use Rattle.boot_model.specs.declared.phase_end.PeiEnd.TheVariants.{Handoff}
+use Rattle.boot_model.specs.PeiMachine.{PeiMachine}
+use Rattle.free_laws.specs.declared.choice.Reached.{Reached}
+use Rattle.free_laws.specs.declared.choice.Reached.TheVariants as R
 use Rattle.pei_core.specs.declared.pei.Pei.{Pei}
-use Rattle.whole_boot.specs.BootEnd.{end_after}
+use Rattle.pei_core.specs.Standing.{StandsFor}
+use Rattle.pei_dispatch.specs.Ends.{pei_starts}
 use Rattle.boot_reasons.specs.declared.dxe.DxeExplained.{DxeExplained}
+use Rattle.boot_reasons.specs.declared.nowhere.Nowhere.{Nowhere}
 use Rattle.boot_reasons.specs.declared.pei.PeiExplained.{PeiExplained}
 use Rattle.boot_reasons.specs.declared.reasons.Explained.{Explained}
-use Rattle.boot_reasons.specs.DxeReasons.{dxe_begun, dxe_giver, dxe_held}
-use Rattle.boot_reasons.specs.DxeTelling.{IsDxeExplained}
-use Rattle.boot_reasons.specs.Explained.{IsExplained, behind}
-use Rattle.boot_reasons.specs.Joining.{alone, together}
-use Rattle.boot_reasons.specs.PeiEnding.{IsPeiExplained}
-use Rattle.boot_reasons.specs.PeiReasons.{pei_begun, pei_giver, pei_held}
+use Rattle.boot_reasons.specs.DxeTelling as D
+use Rattle.boot_reasons.specs.Explained.{ExplainsBehind, IsExplainedAfter, left_in_dxe}
+use Rattle.boot_reasons.specs.Joining.{together}
+use Rattle.boot_reasons.specs.PeiEnding.{ExplainsRun}
+use Rattle.boot_reasons.specs.Unseen.{choices_of}
 
--- an end of PEI behind which nothing comes
-abbrev pub IsClosing : PeiEnd → Type 0
-IsClosing Handoff = ⊥
-IsClosing NoMemory = ⊤
-IsClosing NoIpl = ⊤
-IsClosing Spent = ⊤
-IsClosing Deep = ⊤
+-- what a choice may name in each phase, and what it lets
+pub record Ways : Type 1 where
+  pub peims : Nowhere → ℕ → Option ℕ → Type 0
+  pub lets_in_pei : ℕ → ℕ → Bool
+  pub drivers : Nowhere → ℕ → Option ℕ → Type 0
+  pub lets_in_dxe : ℕ → ℕ → Bool
 
-behind_closing : {A : Type 0} (how : PeiEnd) (after other : A) → IsClosing how → behind (Some how) after other ≡ other
-behind_closing Handoff after other closing = absurd closing
-behind_closing NoMemory after other closing = refl
-behind_closing NoIpl after other closing = refl
-behind_closing Spent after other closing = refl
-behind_closing Deep after other closing = refl
+-- what the core tells of the last machine of PEI
+pub record Hands {M : Type 0} (stands : M → StoreState → Type 0) (pei : Pei M) (store : M) (taken in_pei : ℕ) : Type 0 where
+  pub store_is : store ≡ pei.store
+  pub taken_is : (m : PeiMachine) → StandsFor stands pei m → taken ≡ m.actions
+  pub starts_are : (m : PeiMachine) → StandsFor stands pei m → in_pei ≡ pei_starts m
 
-pub alone_is : {M : Type 0} (stands : M → StoreState → Type 0) (board : Board) (catalog : Catalog) (fuel : ℕ) (pei : Pei M) (p : PeiExplained) (actions : ℕ) (result : RunEnd) (how : PeiEnd) → IsPeiExplained stands board catalog fuel pei p → p.«end» ≡ how → IsClosing how
-    → actions ≡ (pei_end board catalog fuel).actions → end_after catalog fuel (pei_end board catalog fuel) (Some how) ≡ Some result → IsExplained board catalog fuel (alone p actions result)
-alone_is stands board catalog fuel pei p actions result how is e closing taken end_is =
-    let x = pei_end board catalog fuel in
-    let ended : x.ended ≡ Some how = is.ended ∙ ap (λ o. Some o) e in
-    let begun = pei_begun board catalog fuel (pei_bound catalog fuel) in
-    let held = pei_held catalog x (pei_giver board catalog fuel (pei_bound catalog fuel)) in
-    let drivers = dxe_begun x.store x.actions catalog fuel (dxe_bound catalog fuel) in
-    let waiting = dxe_held catalog (dxe_end catalog fuel x.store x.actions) (dxe_giver x.store x.actions catalog fuel (dxe_bound catalog fuel)) in
-    let last = dxe_end catalog fuel x.store x.actions in
+-- what DXE came to behind a hand-off
+abbrev pub Drives : {M : Type 0} → Ways → (M → StoreState → Type 0) → M → Catalog → ℕ → ℕ → ℕ → Reached DxeExplained → Type 0
+Drives w stands store catalog fuel taken in_pei reached = OfEach (stands store) Anything (D.ExplainsBehind w.drivers w.lets_in_dxe in_pei catalog fuel taken reached)
+
+-- so from the last machine of PEI
+driven : {M : Type 0} (w : Ways) (stands : M → StoreState → Type 0) (board : Board) (catalog : Catalog) (fuel : ℕ) (pei : Pei M) (store : M) (taken in_pei : ℕ) (reached : Reached DxeExplained) (last : PeiMachine) (m : PeiMachine) → Hands stands pei store taken in_pei
+    → Drives w stands store catalog fuel taken in_pei reached → StandsFor stands pei m → m.store ≡ last.store → m.actions ≡ last.actions → pei_starts m ≡ pei_starts last
+    → D.ExplainsBehind w.drivers w.lets_in_dxe (pei_starts last) catalog fuel last.actions reached last.store
+driven w stands board catalog fuel pei store taken in_pei reached last m hands drives at same_store same_actions same_starts =
+    let P : M → Type 0 = λ x. stands x last.store in
+    let Q : StoreState → Type 0 = λ x. stands pei.store x in
+    let here : P store = subst P (sym hands.store_is) (subst Q same_store at.has.store) in
+    let row = drives last.store here tt in
+    let taken_is : taken ≡ last.actions = hands.taken_is m at ∙ same_actions in
+    let starts_are : in_pei ≡ pei_starts last = hands.starts_are m at ∙ same_starts in
+    subst (λ n. D.ExplainsBehind w.drivers w.lets_in_dxe n catalog fuel last.actions reached last.store) starts_are
+    (subst (λ n. D.ExplainsBehind w.drivers w.lets_in_dxe in_pei catalog fuel n reached last.store) taken_is row)
+
+pub both_phases : {M : Type 0} (w : Ways) (stands : M → StoreState → Type 0) (catalog : Catalog) (fuel : ℕ) (pei : Pei M) (store : M) (taken in_pei : ℕ) (p : PeiExplained) (d : DxeExplained) (all : Explained) → Hands stands pei store taken in_pei → p.«end» ≡ Handoff
+    → Drives w stands store catalog fuel taken in_pei (R.End d) → all ≡ together p d
+    → ExplainsBehind (choices_of w.peims w.lets_in_pei w.drivers w.lets_in_dxe) stands catalog fuel pei p (R.End all)
+both_phases w stands catalog fuel pei store taken in_pei p d all hands handed drives is board run =
+    let by = choices_of w.peims w.lets_in_pei w.drivers w.lets_in_dxe in
+    let row = driven w stands board catalog fuel pei store taken in_pei (R.End d) run.«end» (record run.«end» { ended = None; core_sweep = run.sweep }) hands drives run.machine refl refl refl in
     record {
-      begun = is.begun ∙ sym (append-nil begun) ∙ ap (λ xs. begun ++ xs) (sym (behind_closing how drivers [] closing)) ∙ ap (λ o. begun ++ behind o drivers []) (sym ended);
-      held = is.held ∙ sym (append-nil held) ∙ ap (λ xs. held ++ xs) (sym (behind_closing how waiting [] closing)) ∙ ap (λ o. held ++ behind o waiting []) (sym ended);
-      reported = is.reported;
-      discovered = sym (behind_closing how last.discovered [] closing) ∙ ap (λ o. behind o last.discovered []) (sym ended);
-      moved = is.moved;
-      heap = is.heap;
-      actions = taken ∙ sym (behind_closing how last.actions x.actions closing) ∙ ap (λ o. behind o last.actions x.actions) (sym ended);
-      result = ap (end_after catalog fuel x) ended ∙ end_is;
+      earlier = run.earlier;
+      pei = run.«end»;
+      run = run.run;
+      first = p;
+      peims = run.explained;
+      ends = subst (λ how. IsExplainedAfter by catalog fuel run.«end» p how all) (sym handed) (record { second = d; drivers = row; is = is });
     }
 
-pub together_is : {M : Type 0} (stands : M → StoreState → Type 0) (board : Board) (catalog : Catalog) (fuel : ℕ) (pei : Pei M) (p : PeiExplained) (d : DxeExplained) → IsPeiExplained stands board catalog fuel pei p → p.«end» ≡ Handoff
-    → IsDxeExplained catalog fuel (pei_end board catalog fuel).actions (pei_end board catalog fuel).store d → IsExplained board catalog fuel (together p d)
-together_is stands board catalog fuel pei p d is e drivers =
-    let x = pei_end board catalog fuel in
-    let ended : x.ended ≡ Some Handoff = is.ended ∙ ap (λ o. Some o) e in
-    let begun = pei_begun board catalog fuel (pei_bound catalog fuel) in
-    let held = pei_held catalog x (pei_giver board catalog fuel (pei_bound catalog fuel)) in
-    let later = dxe_begun x.store x.actions catalog fuel (dxe_bound catalog fuel) in
-    let waiting = dxe_held catalog (dxe_end catalog fuel x.store x.actions) (dxe_giver x.store x.actions catalog fuel (dxe_bound catalog fuel)) in
-    let last = dxe_end catalog fuel x.store x.actions in
-    record {
-      begun = ap (λ xs. xs ++ d.begun) is.begun ∙ ap (λ xs. begun ++ xs) drivers.begun ∙ ap (λ o. begun ++ behind o later []) (sym ended);
-      held = ap (λ xs. xs ++ d.held) is.held ∙ ap (λ xs. held ++ xs) drivers.held ∙ ap (λ o. held ++ behind o waiting []) (sym ended);
-      reported = is.reported;
-      discovered = drivers.discovered ∙ ap (λ o. behind o last.discovered []) (sym ended);
-      moved = is.moved;
-      heap = is.heap;
-      actions = drivers.actions_are ∙ ap (λ o. behind o last.actions x.actions) (sym ended);
-      result = ap (end_after catalog fuel x) ended ∙ ap (option_map dxe_result) drivers.ended;
-    }
+pub barred_behind : {M : Type 0} (w : Ways) (stands : M → StoreState → Type 0) (catalog : Catalog) (fuel : ℕ) (pei : Pei M) (store : M) (taken in_pei : ℕ) (p : PeiExplained) (number : ℕ) → Hands stands pei store taken in_pei → p.«end» ≡ Handoff
+    → Drives w stands store catalog fuel taken in_pei (R.Barred number)
+    → ExplainsBehind (choices_of w.peims w.lets_in_pei w.drivers w.lets_in_dxe) stands catalog fuel pei p (R.Barred number)
+barred_behind w stands catalog fuel pei store taken in_pei p number hands handed drives board run =
+    let row = driven w stands board catalog fuel pei store taken in_pei (R.Barred number) run.«end» (record run.«end» { ended = None; core_sweep = run.sweep }) hands drives run.machine refl refl refl in
+    left_in_dxe run.earlier run.«end» run.run (run.explained.ended ∙ ap Some handed) row.0 row.1
 
--- there is one explanation
-pub one_only : (board : Board) (catalog : Catalog) (fuel : ℕ) (one other : Explained) → IsExplained board catalog fuel one → IsExplained board catalog fuel other → one ≡ other
-one_only board catalog fuel one other p q =
-    let result : one.result ≡ other.result = same_Some one.result other.result (sym p.result ∙ q.result) in
-    let begun : one.begun ≡ other.begun = p.begun ∙ sym q.begun in
-    let held : one.held ≡ other.held = p.held ∙ sym q.held in
-    let reported : one.reported ≡ other.reported = p.reported ∙ sym q.reported in
-    let discovered : one.discovered ≡ other.discovered = p.discovered ∙ sym q.discovered in
-    let moved : one.moved ≡ other.moved = p.moved ∙ sym q.moved in
-    let heap : one.heap ≡ other.heap = p.heap ∙ sym q.heap in
-    let actions : one.actions ≡ other.actions = p.actions ∙ sym q.actions in
-    λ j. record { begun = begun j; held = held j; reported = reported j; discovered = discovered j; moved = moved j; heap = heap j; actions = actions j; result = result j }
+-- a boot that ends with PEI
+pub ends_alone : {M : Type 0} (w : Ways) (stands : M → StoreState → Type 0) (catalog : Catalog) (fuel : ℕ) (pei : Pei M) (p : PeiExplained) (e : Explained) → ((last : PeiMachine) (m : PeiMachine) → StandsFor stands pei m → m.actions ≡ last.actions
+    → IsExplainedAfter (choices_of w.peims w.lets_in_pei w.drivers w.lets_in_dxe) catalog fuel last p p.«end» e)
+    → ExplainsBehind (choices_of w.peims w.lets_in_pei w.drivers w.lets_in_dxe) stands catalog fuel pei p (R.End e)
+ends_alone w stands catalog fuel pei p e ends board run = record {
+  earlier = run.earlier;
+  pei = run.«end»;
+  run = run.run;
+  first = p;
+  peims = run.explained;
+  ends = ends run.«end» (record run.«end» { ended = None; core_sweep = run.sweep }) run.machine refl;
+}

@@ -1,55 +1,126 @@
--- What is told along a run of DXE, and for which machine of it the core and the queue stand.
+-- What is told along a run of DXE by choices, and what DXE then comes to, explained: at the end of a run of which all is told, or before the start of a driver that is not let.
 -- Own.
-use Rattle.std.specs.Prelude.{◌≡◌, ℕ, suc, Bool, if◌then◌else◌, List, [], Option, Some, None}
+use Rattle.std.specs.Prelude.{◌≡◌, ◌+◌, ℕ, Bool, false, if◌then◌else◌, length, List, [], ◌++◌, Option, Some}
+use Rattle.std.specs.Option.{option_to_list}
 use Rattle.pi_base.specs.declared.guid.Guid.{Guid}
 use Rattle.catalog_model.specs.declared.catalog.Catalog.{Catalog}
+use Rattle.store_model.specs.HandleState.{has_protocol}
 use Rattle.store_model.specs.StoreState.{StoreState}
 use Rattle.boot_model.specs.declared.phase_end.DxeEnd.{DxeEnd}
-use Rattle.boot_model.specs.DxeRun.{dxe_bound, dxe_end}
+use Rattle.boot_model.specs.DxeMachine.{DxeMachine}
+use Rattle.boot_model.specs.DxeRun.{dxe_opening}
+use Rattle.free_laws.specs.declared.choice.Reached.{Reached}
+use Rattle.free_laws.specs.declared.choice.Reached.TheVariants as R
 use Rattle.dxe_choice.specs.Queue.{Queue}
-use Rattle.dxe_core.specs.Standing.{DxeCore}
-use Rattle.dxe_dispatch.specs.Ends.{IsNow, StandsAtEnd}
+use Rattle.dxe_core.specs.Standing.{DxeCore, IsCoreOf, IsFor, StandsFor}
+use Rattle.dxe_dispatch.specs.declared.answer.Step.{Step}
+use Rattle.dxe_dispatch.specs.declared.answer.Step.TheVariants.{Acted, Started}
+use Rattle.dxe_dispatch.specs.Choices.{IsDue, IsOnWay, IsRunBy, LetsDrivers, came}
+use Rattle.dxe_dispatch.specs.Ends.{StandsAtEnd}
 use Rattle.boot_reasons.specs.declared.dxe.DxeExplained.{DxeExplained}
+use Rattle.boot_reasons.specs.declared.nowhere.Nowhere.{Nowhere}
+use Rattle.boot_reasons.specs.declared.reasons.Giver.{Giver}
 use Rattle.boot_reasons.specs.declared.reasons.Held.{Held}
 use Rattle.boot_reasons.specs.declared.told.DxeTold.{DxeTold}
-use Rattle.boot_reasons.specs.Noting.{giver_in}
-use Rattle.boot_reasons.specs.DxeReasons.{dxe_after, dxe_begun, dxe_giver, dxe_held}
+use Rattle.boot_reasons.specs.DxeReasons.{dxe_begun, dxe_begun_at, dxe_giver, dxe_held}
+use Rattle.boot_reasons.specs.Noting.{AreNoted, giver_in}
+use Rattle.boot_reasons.specs.Unseen.{nowhere}
 
--- what is told of so many steps
-pub record IsTold (s : StoreState) (actions : ℕ) (catalog : Catalog) (fuel n : ℕ) (told : DxeTold) : Type 0 where
-  pub begun : told.begun ≡ dxe_begun s actions catalog fuel n
-  pub givers : (guid : Guid) → giver_in told.givers.map guid ≡ dxe_giver s actions catalog fuel n guid
+-- what is told of a run
+pub record IsTold (catalog : Catalog) (earlier : List DxeMachine) (m : DxeMachine) (told : DxeTold) : Type 0 where
+  pub begun : told.begun ≡ dxe_begun catalog earlier
+  pub givers : (guid : Guid) → giver_in told.givers.map guid ≡ dxe_giver earlier m guid
 
--- the core beside its store and the queue stand for the machine after so many steps
-pub record IsAt {M : Type 0} (stands : M → StoreState → Type 0) (store : M) (s : StoreState) (actions : ℕ) (catalog : Catalog) (fuel n : ℕ)
+-- what is told of a step that this actor made, behind which the core is so: which protocol came or went, or which driver started
+abbrev pub Tells : Catalog → DxeCore → Giver → Step → DxeTold → DxeTold → Type 0
+Tells catalog core actor (Acted event) told after =
+    (after.begun ≡ told.begun)
+    × AreNoted (has_protocol core.services.handles) actor (option_to_list event.changed) told.givers.map after.givers.map
+Tells catalog core actor (Started next) told after =
+    (after.givers ≡ told.givers)
+    × ((m : DxeMachine) → IsCoreOf catalog core m → after.begun ≡ told.begun ++ dxe_begun_at catalog m (giver_in told.givers.map) next)
+
+-- a run at its opening, of which nothing is told yet
+pub record IsAtOpening {M : Type 0} (stands : M → StoreState → Type 0) (store : M) (catalog : Catalog) (fuel : ℕ) (s : StoreState) (actions : ℕ)
     (core : DxeCore) (queue : Queue) (told : DxeTold) : Type 0 where
-  pub now : IsNow stands store catalog core queue (dxe_after s actions catalog fuel n)
-  pub is_told : IsTold s actions catalog fuel n told
+  pub made : IsFor catalog fuel core
+  pub on : IsOnWay stands store catalog core queue (dxe_opening catalog s actions)
+  pub is_told : IsTold catalog [] (dxe_opening catalog s actions) told
 
--- that one has ended so
-pub record IsAtEnd {M : Type 0} (stands : M → StoreState → Type 0) (store : M) (s : StoreState) (actions : ℕ) (catalog : Catalog) (fuel n : ℕ)
-    (core : DxeCore) (queue : Queue) (told : DxeTold) (how : DxeEnd) : Type 0 where
-  pub ended : (dxe_after s actions catalog fuel n).ended ≡ Some how
-  pub stands_at_end : StandsAtEnd stands store catalog core queue (dxe_after s actions catalog fuel n)
-  pub is_told : IsTold s actions catalog fuel n told
+-- a run by choices from an opening has come to its end, and all of it is told
+pub record IsAtEnd {M : Type 0} (Names : DxeMachine → Option ℕ → Type 0) (Lets : DxeMachine → ℕ → Bool) (stands : M → StoreState → Type 0) (store : M)
+    (catalog : Catalog) (fuel : ℕ) (opening : DxeMachine) (earlier : List DxeMachine) (core : DxeCore) (queue : Queue) (told : DxeTold) (how : DxeEnd) : Type 0 where
+  pub run : IsRunBy Names Lets catalog fuel opening earlier
+  pub ended : (came catalog fuel opening earlier).ended ≡ Some how
+  pub stands_at_end : StandsAtEnd stands store catalog core queue (came catalog fuel opening earlier)
+  pub is_told : IsTold catalog earlier (came catalog fuel opening earlier) told
 
--- behind a step more, by how it has ended
-abbrev pub TurnsTo : {M : Type 0} → (M → StoreState → Type 0) → M → StoreState → ℕ → Catalog → ℕ → ℕ → DxeCore → Queue → DxeTold → Option DxeEnd → Type 0
-TurnsTo stands store s actions catalog fuel n core queue told None = IsAt stands store s actions catalog fuel (suc n) core queue told
-TurnsTo stands store s actions catalog fuel n core queue told (Some how) = IsAtEnd stands store s actions catalog fuel (suc n) core queue told how
+-- or to a machine from which a driver is due that the choices do not let
+pub record IsBarred (Names : DxeMachine → Option ℕ → Type 0) (Lets : DxeMachine → ℕ → Bool) (catalog : Catalog) (fuel : ℕ)
+    (opening : DxeMachine) (earlier : List DxeMachine) (number : ℕ) : Type 0 where
+  pub run : IsRunBy Names Lets catalog fuel opening earlier
+  pub running : (came catalog fuel opening earlier).ended ≡ None
+  pub due : IsDue Names catalog (came catalog fuel opening earlier) number
+  pub barred : Lets due.target number ≡ false
 
--- a run has come to its end, behind as many steps as it has at most
-abbrev pub EndsTo : {M : Type 0} → (M → StoreState → Type 0) → M → StoreState → ℕ → Catalog → ℕ → DxeCore → Queue → DxeTold → DxeEnd → Type 0
-EndsTo stands store s actions catalog fuel core queue told how = IsAtEnd stands store s actions catalog fuel (dxe_bound catalog fuel) core queue told how
+-- either of the two
+abbrev pub EndsTo : {M : Type 0} → (DxeMachine → Option ℕ → Type 0) → (DxeMachine → ℕ → Bool) → (M → StoreState → Type 0) → M → Catalog → ℕ
+    → DxeMachine → DxeCore → Queue → DxeTold → Reached DxeEnd → Type 0
+EndsTo Names Lets stands store catalog fuel opening core queue told (R.End how) =
+    (earlier : List DxeMachine) × IsAtEnd Names Lets stands store catalog fuel opening earlier core queue told how
+EndsTo Names Lets stands store catalog fuel opening core queue told (R.Barred number) =
+    (earlier : List DxeMachine) × IsBarred Names Lets catalog fuel opening earlier number
+
+-- the drivers that a choice may name that sees no text, behind so many starts in PEI
+abbrev pub NamesUnseenAfter : (Nowhere → ℕ → Option ℕ → Type 0) → ℕ → DxeMachine → Option ℕ → Type 0
+NamesUnseenAfter names in_pei m named = names nowhere (in_pei + length m.started) named
+
+-- from the opening over each state, with the actions and the fuel for which the core was made
+abbrev pub Ends : {M : Type 0} → (Nowhere → ℕ → Option ℕ → Type 0) → (ℕ → ℕ → Bool) → ℕ → (M → StoreState → Type 0) → M → Catalog
+    → DxeCore → Queue → DxeTold → DxeCore → Queue → DxeTold → Reached DxeEnd → Type 0
+Ends names lets in_pei stands store catalog core queue told later grown after reached =
+    (s : StoreState) (actions fuel : ℕ) → IsAtOpening stands store catalog fuel s actions core queue told
+    → EndsTo (NamesUnseenAfter names in_pei) (LetsDrivers lets in_pei) stands store catalog fuel (dxe_opening catalog s actions) later grown after reached
 
 -- what is told of a driver, where it waits
 abbrev pub held_where : Bool → List Held → List Held
 held_where waits held = if waits then held else []
 
--- what DXE comes to
-pub record IsDxeExplained (catalog : Catalog) (fuel actions : ℕ) (s : StoreState) (e : DxeExplained) : Type 0 where
-  pub ended : (dxe_end catalog fuel s actions).ended ≡ Some e.«end»
-  pub begun : e.begun ≡ dxe_begun s actions catalog fuel (dxe_bound catalog fuel)
-  pub held : e.held ≡ dxe_held catalog (dxe_end catalog fuel s actions) (dxe_giver s actions catalog fuel (dxe_bound catalog fuel))
-  pub discovered : e.discovered ≡ (dxe_end catalog fuel s actions).discovered
-  pub actions_are : e.actions ≡ (dxe_end catalog fuel s actions).actions
+-- what is handed on are the lists of a run at its last machine
+pub record IsDxeExplained (catalog : Catalog) (earlier : List DxeMachine) («end» : DxeMachine) (e : DxeExplained) : Type 0 where
+  pub ended : «end».ended ≡ Some e.«end»
+  pub begun : e.begun ≡ dxe_begun catalog earlier
+  pub held : e.held ≡ dxe_held catalog «end» (dxe_giver earlier «end»)
+  pub discovered : e.discovered ≡ «end».discovered
+  pub actions_are : e.actions ≡ «end».actions
+
+-- from each last machine of which all is told
+abbrev pub ExplainsEnd : {M : Type 0} → (M → StoreState → Type 0) → M → Catalog → DxeCore → Queue → DxeTold → DxeEnd → DxeExplained → Type 0
+ExplainsEnd stands store catalog core queue told how e =
+    (earlier : List DxeMachine) («end» : DxeMachine) → «end».ended ≡ Some how → StandsAtEnd stands store catalog core queue «end»
+    → IsTold catalog earlier «end» told → IsDxeExplained catalog earlier «end» e
+
+-- a run by choices has come to its end and is explained
+pub record ExplainsRun (Names : DxeMachine → Option ℕ → Type 0) (Lets : DxeMachine → ℕ → Bool) (catalog : Catalog) (fuel : ℕ)
+    (opening : DxeMachine) (e : DxeExplained) : Type 0 where
+  pub earlier : List DxeMachine
+  pub run : IsRunBy Names Lets catalog fuel opening earlier
+  pub explained : IsDxeExplained catalog earlier (came catalog fuel opening earlier) e
+
+-- DXE by choices, explained, or left before a start
+abbrev pub ExplainsTo : (DxeMachine → Option ℕ → Type 0) → (DxeMachine → ℕ → Bool) → Catalog → ℕ → DxeMachine → Reached DxeExplained → Type 0
+ExplainsTo Names Lets catalog fuel opening (R.End e) = ExplainsRun Names Lets catalog fuel opening e
+ExplainsTo Names Lets catalog fuel opening (R.Barred number) =
+    (earlier : List DxeMachine) × IsBarred Names Lets catalog fuel opening earlier number
+
+-- so over each state and fuel for which the core was made
+abbrev pub Explains : {M : Type 0} → (Nowhere → ℕ → Option ℕ → Type 0) → (ℕ → ℕ → Bool) → ℕ → (M → StoreState → Type 0) → M → Catalog
+    → DxeCore → Reached DxeExplained → Type 0
+Explains names lets in_pei stands store catalog core reached =
+    (s : StoreState) (actions fuel : ℕ) → IsFor catalog fuel core → StandsFor stands store catalog core (dxe_opening catalog s actions)
+    → ExplainsTo (NamesUnseenAfter names in_pei) (LetsDrivers lets in_pei) catalog fuel (dxe_opening catalog s actions) reached
+
+-- so behind the hand-off of a store, with the actions that PEI took
+abbrev pub ExplainsBehind : (Nowhere → ℕ → Option ℕ → Type 0) → (ℕ → ℕ → Bool) → ℕ → Catalog → ℕ → ℕ → Reached DxeExplained → StoreState → Type 0
+ExplainsBehind names lets in_pei catalog fuel taken reached s =
+    ExplainsTo (NamesUnseenAfter names in_pei) (LetsDrivers lets in_pei) catalog fuel (dxe_opening catalog s taken) reached

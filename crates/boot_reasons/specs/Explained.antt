@@ -1,50 +1,75 @@
--- A boot, explained: why modules started and why others never did, along the machine's own run of a board, a catalogue and a fuel.
--- Own.
-use Rattle.std.specs.Prelude.{◌≡◌, ℕ, List, [], ◌++◌, Option, Some, None}
+-- A boot by choices, explained: why modules started and why others never did, along the runs of PEI and of DXE to which the choices lead. Or it is left before the start of a module that they do not let.
+-- Own; PI 1.8, volumes 1 and 2, leave the order of the modules that may start to the dispatchers.
+use Rattle.std.specs.Prelude.{◌≡◌, ℕ, true, List, Some, None}
 use Rattle.catalog_model.specs.declared.catalog.Catalog.{Catalog}
-use Rattle.store_model.specs.StoreState.{Board}
+use Rattle.store_model.specs.StoreState.{Board, StoreState}
+use Rattle.boot_model.specs.declared.line.RunEnd.TheVariants as E
 use Rattle.boot_model.specs.declared.phase_end.PeiEnd.{PeiEnd}
 use Rattle.boot_model.specs.declared.phase_end.PeiEnd.TheVariants.{Handoff, NoMemory, NoIpl, Spent, Deep}
-use Rattle.boot_model.specs.DxeRun.{dxe_bound, dxe_end}
+use Rattle.boot_model.specs.DxeMachine.{DxeMachine}
+use Rattle.boot_model.specs.DxeRun.{dxe_opening}
 use Rattle.boot_model.specs.PeiMachine.{PeiMachine}
-use Rattle.boot_model.specs.PeiRun.{pei_bound, pei_end}
-use Rattle.whole_boot.specs.BootEnd.{end_after}
-use Rattle.boot_reasons.specs.declared.reasons.Begun.{Begun}
+use Rattle.boot_model.specs.PeiRun.{pei_opening}
+use Rattle.free_laws.specs.declared.choice.Reached.{Reached}
+use Rattle.free_laws.specs.declared.choice.Reached.TheVariants as R
+use Rattle.pei_core.specs.declared.pei.Pei.{Pei}
+use Rattle.pei_dispatch.specs.Choices.{IsRunBy}
+use Rattle.whole_boot.specs.Choices.{Choices}
+use Rattle.boot_reasons.specs.declared.dxe.DxeExplained.{DxeExplained}
+use Rattle.boot_reasons.specs.declared.pei.PeiExplained.{PeiExplained}
 use Rattle.boot_reasons.specs.declared.reasons.Explained.{Explained}
-use Rattle.boot_reasons.specs.declared.reasons.Held.{Held}
-use Rattle.boot_reasons.specs.DxeReasons.{dxe_begun, dxe_giver, dxe_held}
-use Rattle.boot_reasons.specs.Moving.{heap_used}
-use Rattle.boot_reasons.specs.PeiReasons.{pei_begun, pei_giver, pei_held, pei_moved}
+use Rattle.boot_reasons.specs.DxeTelling as D
+use Rattle.boot_reasons.specs.Joining.{alone, together}
+use Rattle.boot_reasons.specs.PeiEnding.{ExplainsRun, IsPeiExplained}
+use Rattle.boot_reasons.specs.PeiTelling as P
+use Rattle.boot_reasons.specs.Unseen.{choices_of}
 
--- what DXE comes to behind a hand-off, and else what stands in its place
-abbrev pub behind : {A : Type 0} → Option PeiEnd → A → A → A
-behind (Some Handoff) after other = after
-behind (Some NoMemory) after other = other
-behind (Some NoIpl) after other = other
-behind (Some Spent) after other = other
-behind (Some Deep) after other = other
-behind None after other = other
+-- behind the hand-off a run of DXE by them is explained, and both phases are put together
+pub record IsExplainedInDxe (by : Choices) (catalog : Catalog) (fuel : ℕ) (pei : PeiMachine) (first : PeiExplained) (e : Explained) : Type 0 where
+  pub second : DxeExplained
+  pub drivers : D.ExplainsRun (by.drivers pei) (by.lets_driver pei) catalog fuel (dxe_opening catalog pei.store pei.actions) second
+  pub is : e ≡ together first second
 
--- the starts, and those that wait, of both phases
-abbrev pub begun_of : Board → Catalog → ℕ → PeiMachine → List Begun
-begun_of board catalog fuel pei =
-    pei_begun board catalog fuel (pei_bound catalog fuel) ++ behind pei.ended (dxe_begun pei.store pei.actions catalog fuel (dxe_bound catalog fuel)) []
+-- behind a PEI that has ended so
+abbrev pub IsExplainedAfter : Choices → Catalog → ℕ → PeiMachine → PeiExplained → PeiEnd → Explained → Type 0
+IsExplainedAfter by catalog fuel pei first Handoff e = IsExplainedInDxe by catalog fuel pei first e
+IsExplainedAfter by catalog fuel pei first NoMemory e = e ≡ alone first pei.actions E.NoMemory
+IsExplainedAfter by catalog fuel pei first NoIpl e = e ≡ alone first pei.actions E.NoIpl
+IsExplainedAfter by catalog fuel pei first Spent e = e ≡ alone first pei.actions E.Spent
+IsExplainedAfter by catalog fuel pei first Deep e = e ≡ alone first pei.actions E.Deep
 
-abbrev pub held_of : Board → Catalog → ℕ → PeiMachine → List Held
-held_of board catalog fuel pei =
-    pei_held catalog pei (pei_giver board catalog fuel (pei_bound catalog fuel))
-    ++ behind pei.ended (dxe_held catalog (dxe_end catalog fuel pei.store pei.actions) (dxe_giver pei.store pei.actions catalog fuel (dxe_bound catalog fuel))) []
+-- the boot by these choices comes to its end, and this is its explanation
+pub record IsExplainedBy (by : Choices) (board : Board) (catalog : Catalog) (fuel : ℕ) (e : Explained) : Type 0 where
+  pub earlier : List PeiMachine
+  pub pei : PeiMachine
+  pub run : IsRunBy by.peims by.lets_peim catalog fuel (pei_opening board catalog) earlier pei
+  pub first : PeiExplained
+  pub peims : IsPeiExplained catalog earlier pei first
+  pub ends : IsExplainedAfter by catalog fuel pei first first.«end» e
 
--- behind a last machine of PEI
-pub record IsExplainedBehind (board : Board) (catalog : Catalog) (fuel : ℕ) (pei : PeiMachine) (e : Explained) : Type 0 where
-  pub begun : e.begun ≡ begun_of board catalog fuel pei
-  pub held : e.held ≡ held_of board catalog fuel pei
-  pub reported : e.reported ≡ pei.reported
-  pub discovered : e.discovered ≡ behind pei.ended (dxe_end catalog fuel pei.store pei.actions).discovered []
-  pub moved : e.moved ≡ pei_moved board catalog fuel (pei_bound catalog fuel)
-  pub heap : e.heap ≡ heap_used pei.store
-  pub actions : e.actions ≡ behind pei.ended (dxe_end catalog fuel pei.store pei.actions).actions pei.actions
-  pub result : end_after catalog fuel pei pei.ended ≡ Some e.result
+-- the boot by these choices comes to the start of this module, which they do not let
+pub data IsLeftBefore (by : Choices) (board : Board) (catalog : Catalog) (fuel : ℕ) (number : ℕ) : Type 0 where
+  left_in_pei : (earlier : List PeiMachine) (m : PeiMachine) → P.IsBarred by.peims by.lets_peim board catalog fuel earlier m number
+      → IsLeftBefore by board catalog fuel number
+  left_in_dxe : (earlier : List PeiMachine) (pei : PeiMachine) → IsRunBy by.peims by.lets_peim catalog fuel (pei_opening board catalog) earlier pei
+      → pei.ended ≡ Some Handoff → (over : List DxeMachine)
+      → D.IsBarred (by.drivers pei) (by.lets_driver pei) catalog fuel (dxe_opening catalog pei.store pei.actions) over number
+      → IsLeftBefore by board catalog fuel number
 
+-- either of the two
+abbrev pub ExplainsTo : Choices → Board → Catalog → ℕ → Reached Explained → Type 0
+ExplainsTo by board catalog fuel (R.End e) = IsExplainedBy by board catalog fuel e
+ExplainsTo by board catalog fuel (R.Barred number) = IsLeftBefore by board catalog fuel number
+
+-- so behind a PEI that is explained, over each board
+abbrev pub ExplainsBehind : {M : Type 0} → Choices → (M → StoreState → Type 0) → Catalog → ℕ → Pei M → PeiExplained → Reached Explained → Type 0
+ExplainsBehind by stands catalog fuel pei first reached =
+    (board : Board) → ExplainsRun by.peims by.lets_peim stands board catalog fuel pei first → ExplainsTo by board catalog fuel reached
+
+-- the choices of the machine itself: no module is named, so that the first that may start does, and each is let
+abbrev pub own_choices : Choices
+own_choices = choices_of (λ sink starts named. named ≡ None) (λ starts number. true) (λ sink starts named. named ≡ None) (λ starts number. true)
+
+-- this is the explanation of the machine's own boot
 abbrev pub IsExplained : Board → Catalog → ℕ → Explained → Type 0
-IsExplained board catalog fuel e = IsExplainedBehind board catalog fuel (pei_end board catalog fuel) e
+IsExplained board catalog fuel e = IsExplainedBy own_choices board catalog fuel e

@@ -1,3 +1,4 @@
+pub mod Boots
 pub mod DxeReasons
 pub mod DxeTelling
 pub mod Explained
@@ -9,3 +10,4 @@ pub mod Noting
 pub mod PeiEnding
 pub mod PeiReasons
 pub mod PeiTelling
+pub mod Unseen

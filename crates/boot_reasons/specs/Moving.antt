@@ -1,5 +1,5 @@
 -- The move of the heap, by what stands before a step and behind it.
--- Own.
+-- PI 1.8, volume 1, "Installing PEI Memory"; what is told of it is own.
 use Rattle.std.specs.Prelude.{ℕ, ◌+◌, Bool, if◌then◌else◌, Option, Some, None}
 use Rattle.store_model.specs.StoreState.{StoreState, end_place, header_len}
 use Rattle.boot_reasons.specs.declared.reasons.Moved.{Moved}
@@ -16,3 +16,7 @@ unmoved_base s = if s.moved then None else Some s.base
 abbrev pub moved_from : Option ℕ → StoreState → Option Moved
 moved_from None later = None
 moved_from (Some base) later = if later.moved then Some (record { from = base; to = later.base; used = heap_used later }) else None
+
+-- the move from one store to the next, if it is one
+abbrev pub moved_between : StoreState → StoreState → Option Moved
+moved_between s later = moved_from (unmoved_base s) later

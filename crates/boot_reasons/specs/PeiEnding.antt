@@ -1,32 +1,81 @@
--- What is told at the end of PEI, and for which machine the core then stands.
+-- What PEI by choices comes to, explained: at the end of a run of which all is told, or before the start of a PEIM that is not let.
 -- Own.
-use Rattle.std.specs.Prelude.{◌≡◌, ℕ, Option, Some, None}
+use Rattle.std.specs.Prelude.{◌≡◌, ℕ, Bool, List, [], Option, Some, None}
 use Rattle.catalog_model.specs.declared.catalog.Catalog.{Catalog}
 use Rattle.store_model.specs.declared.store_handle.Sweep.{Sweep}
 use Rattle.store_model.specs.StoreState.{Board, StoreState}
 use Rattle.boot_model.specs.declared.phase_end.PeiEnd.{PeiEnd}
 use Rattle.boot_model.specs.PeiMachine.{PeiMachine}
-use Rattle.boot_model.specs.PeiRun.{pei_bound, pei_end}
+use Rattle.boot_model.specs.PeiRun.{pei_opening}
+use Rattle.free_laws.specs.declared.choice.Reached.{Reached}
+use Rattle.free_laws.specs.declared.choice.Reached.TheVariants as R
 use Rattle.pei_choice.specs.declared.queue.PeiQueue.{PeiQueue}
 use Rattle.pei_core.specs.declared.pei.Pei.{Pei}
-use Rattle.pei_core.specs.Standing.{StandsFor}
+use Rattle.pei_core.specs.Standing.{IsFor, StandsFor}
+use Rattle.pei_dispatch.specs.Choices.{IsRunBy, LetsPeims}
+use Rattle.boot_reasons.specs.declared.nowhere.Nowhere.{Nowhere}
 use Rattle.boot_reasons.specs.declared.pei.PeiExplained.{PeiExplained}
 use Rattle.boot_reasons.specs.declared.told.PeiTold.{PeiTold}
 use Rattle.boot_reasons.specs.Moving.{heap_used}
 use Rattle.boot_reasons.specs.PeiReasons.{pei_begun, pei_giver, pei_held, pei_moved}
-use Rattle.boot_reasons.specs.PeiTelling.{IsAtEnd}
+use Rattle.boot_reasons.specs.PeiTelling.{IsAt, IsAtEnd, IsBarred, IsLeftAt, IsTold}
+use Rattle.boot_reasons.specs.Unseen.{NamesUnseen}
 
--- a run has come to its end, behind as many steps as it has at most
-abbrev pub EndsTo : {M : Type 0} → (M → StoreState → Type 0) → Board → Catalog → ℕ → Pei M → PeiQueue → PeiTold → PeiEnd → Type 0
-EndsTo stands board catalog fuel pei queue told how = IsAtEnd stands board catalog fuel (pei_bound catalog fuel) pei queue told how
+-- a run has come to its end, or to a PEIM that is not let
+abbrev pub EndsTo : {M : Type 0} → (PeiMachine → Option ℕ → Type 0) → (PeiMachine → ℕ → Bool) → (M → StoreState → Type 0) → Board → Catalog → ℕ
+    → Pei M → PeiQueue → PeiTold → Reached PeiEnd → Type 0
+EndsTo Names Lets stands board catalog fuel pei queue told (R.End how) =
+    (earlier : List PeiMachine) × («end» : PeiMachine) × IsAtEnd Names Lets stands board catalog fuel earlier «end» pei queue told how
+EndsTo Names Lets stands board catalog fuel pei queue told (R.Barred number) =
+    (earlier : List PeiMachine) × (m : PeiMachine) × IsBarred Names Lets board catalog fuel earlier m number
 
--- what PEI comes to, and the core stands for its last machine as it was before it ended
-pub record IsPeiExplained {M : Type 0} (stands : M → StoreState → Type 0) (board : Board) (catalog : Catalog) (fuel : ℕ) (pei : Pei M) (e : PeiExplained) : Type 0 where
-  pub ended : (pei_end board catalog fuel).ended ≡ Some e.«end»
-  pub begun : e.begun ≡ pei_begun board catalog fuel (pei_bound catalog fuel)
-  pub held : e.held ≡ pei_held catalog (pei_end board catalog fuel) (pei_giver board catalog fuel (pei_bound catalog fuel))
-  pub reported : e.reported ≡ (pei_end board catalog fuel).reported
-  pub moved : e.moved ≡ pei_moved board catalog fuel (pei_bound catalog fuel)
-  pub heap : e.heap ≡ heap_used (pei_end board catalog fuel).store
+-- a run at its opening, of which nothing is told yet
+abbrev pub IsAtOpening : {M : Type 0} → (Nowhere → ℕ → Option ℕ → Type 0) → (ℕ → ℕ → Bool) → (M → StoreState → Type 0) → Board → Catalog → ℕ → Pei M → PeiQueue → PeiTold → Type 0
+IsAtOpening names lets stands board catalog fuel pei queue told =
+    IsFor catalog fuel pei × IsAt (NamesUnseen names) (LetsPeims lets) stands board catalog fuel [] (pei_opening board catalog) pei queue told
+
+-- from there
+abbrev pub Ends : {M : Type 0} → (Nowhere → ℕ → Option ℕ → Type 0) → (ℕ → ℕ → Bool) → (M → StoreState → Type 0) → Catalog
+    → Pei M → PeiQueue → PeiTold → Pei M → PeiQueue → PeiTold → Reached PeiEnd → Type 0
+Ends names lets stands catalog pei queue told later grown after reached =
+    (board : Board) (fuel : ℕ) → IsAtOpening names lets stands board catalog fuel pei queue told
+    → EndsTo (NamesUnseen names) (LetsPeims lets) stands board catalog fuel later grown after reached
+
+-- what is handed on are the lists of a run at its last machine
+pub record IsPeiExplained (catalog : Catalog) (earlier : List PeiMachine) («end» : PeiMachine) (e : PeiExplained) : Type 0 where
+  pub ended : «end».ended ≡ Some e.«end»
+  pub begun : e.begun ≡ pei_begun catalog earlier «end»
+  pub held : e.held ≡ pei_held catalog «end» (pei_giver earlier «end»)
+  pub reported : e.reported ≡ «end».reported
+  pub moved : e.moved ≡ pei_moved earlier «end»
+  pub heap : e.heap ≡ heap_used «end».store
+
+-- from each last machine of which all is told
+abbrev pub ExplainsEnd : {M : Type 0} → (M → StoreState → Type 0) → Catalog → Pei M → PeiQueue → PeiTold → PeiEnd → PeiExplained → Type 0
+ExplainsEnd stands catalog pei queue told how e =
+    (earlier : List PeiMachine) («end» : PeiMachine) → «end».ended ≡ Some how → IsLeftAt stands catalog pei queue «end»
+    → IsTold catalog earlier «end» told → IsPeiExplained catalog earlier «end» e
+
+-- a run by choices has come to its end and is explained, and the core stands for its last machine as it was before it ended
+pub record ExplainsRun {M : Type 0} (Names : PeiMachine → Option ℕ → Type 0) (Lets : PeiMachine → ℕ → Bool) (stands : M → StoreState → Type 0) (board : Board) (catalog : Catalog) (fuel : ℕ)
+    (pei : Pei M) (e : PeiExplained) : Type 0 where
+  pub earlier : List PeiMachine
+  pub «end» : PeiMachine
+  pub run : IsRunBy Names Lets catalog fuel (pei_opening board catalog) earlier «end»
+  pub explained : IsPeiExplained catalog earlier «end» e
   pub sweep : Option Sweep
-  pub machine : StandsFor stands pei (record (pei_end board catalog fuel) { ended = None; core_sweep = sweep })
+  pub machine : StandsFor stands pei (record «end» { ended = None; core_sweep = sweep })
+
+-- PEI by choices, explained, or left before a start
+abbrev pub ExplainsTo : {M : Type 0} → (PeiMachine → Option ℕ → Type 0) → (PeiMachine → ℕ → Bool) → (M → StoreState → Type 0) → Board → Catalog → ℕ
+    → Pei M → Reached PeiExplained → Type 0
+ExplainsTo Names Lets stands board catalog fuel pei (R.End e) = ExplainsRun Names Lets stands board catalog fuel pei e
+ExplainsTo Names Lets stands board catalog fuel pei (R.Barred number) =
+    (earlier : List PeiMachine) × (m : PeiMachine) × IsBarred Names Lets board catalog fuel earlier m number
+
+-- so over each board and fuel for which the core was made
+abbrev pub Explains : {M : Type 0} → (Nowhere → ℕ → Option ℕ → Type 0) → (ℕ → ℕ → Bool) → (M → StoreState → Type 0) → Catalog
+    → Pei M → Pei M → Reached PeiExplained → Type 0
+Explains names lets stands catalog pei later reached =
+    (board : Board) (fuel : ℕ) → IsFor catalog fuel pei → StandsFor stands pei (pei_opening board catalog)
+    → ExplainsTo (NamesUnseen names) (LetsPeims lets) stands board catalog fuel later reached

@@ -1,38 +1,97 @@
--- What is told along a run of PEI, and for which machine of it the core and the queue stand.
+-- What is told along a run of PEI by choices, and for which machine of it the core and the queue stand. A run is given by its last machine and the machines before that one, the last of them first.
 -- Own.
-use Rattle.std.specs.Prelude.{◌≡◌, ℕ, suc, Option, Some, None}
+use Rattle.std.specs.Prelude.{◌≡◌, ℕ, Bool, false, List, ◌∷◌, ◌++◌, Option, Some, None}
 use Rattle.pi_base.specs.declared.guid.Guid.{Guid}
 use Rattle.catalog_model.specs.declared.catalog.Catalog.{Catalog}
 use Rattle.store_model.specs.StoreState.{Board, StoreState}
+use Rattle.store_model.specs.declared.store_handle.Sweep.{Sweep}
 use Rattle.boot_model.specs.declared.phase_end.PeiEnd.{PeiEnd}
+use Rattle.boot_model.specs.PeiChoice.{pei_order}
+use Rattle.boot_model.specs.PeiMachine.{PeiMachine}
+use Rattle.boot_model.specs.PeiRun.{pei_opening}
+use Rattle.boot_model.specs.PeiStep.{started}
+use Rattle.free_laws.specs.declared.choice.Reached.{Reached}
+use Rattle.free_laws.specs.declared.choice.Reached.TheVariants as R
+use Rattle.free_laws.specs.PeiUnderWay.{IsUnderWay}
 use Rattle.pei_choice.specs.declared.queue.PeiQueue.{PeiQueue}
+use Rattle.pei_choice.specs.Queue.{parts_in}
 use Rattle.pei_core.specs.declared.pei.Pei.{Pei}
-use Rattle.pei_dispatch.specs.Ends.{StandsAtEnd}
+use Rattle.pei_core.specs.Standing.{IsFor, StandsFor}
+use Rattle.pei_core.specs.Steps.{IsIdle}
+use Rattle.pei_dispatch.specs.Choices.{IsDue, IsRunBy, LetsPeims}
 use Rattle.pei_dispatch.specs.Turns.{IsNow}
+use Rattle.boot_reasons.specs.declared.nowhere.Nowhere.{Nowhere}
 use Rattle.boot_reasons.specs.declared.told.PeiTold.{PeiTold}
 use Rattle.boot_reasons.specs.Noting.{giver_in}
-use Rattle.boot_reasons.specs.PeiReasons.{pei_after, pei_begun, pei_giver, pei_moved}
+use Rattle.boot_reasons.specs.PeiReasons.{pei_begun, pei_begun_at, pei_giver, pei_moved}
+use Rattle.boot_reasons.specs.Unseen.{NamesUnseen}
 
--- what is told of so many steps
-pub record IsTold (board : Board) (catalog : Catalog) (fuel n : ℕ) (told : PeiTold) : Type 0 where
-  pub begun : told.begun ≡ pei_begun board catalog fuel n
-  pub givers : (guid : Guid) → giver_in told.givers.map guid ≡ pei_giver board catalog fuel n guid
-  pub moved : told.moved ≡ pei_moved board catalog fuel n
+-- what is told of a run
+pub record IsTold (catalog : Catalog) (earlier : List PeiMachine) (m : PeiMachine) (told : PeiTold) : Type 0 where
+  pub begun : told.begun ≡ pei_begun catalog earlier m
+  pub givers : (guid : Guid) → giver_in told.givers.map guid ≡ pei_giver earlier m guid
+  pub moved : told.moved ≡ pei_moved earlier m
 
--- the core and the queue stand for the machine after so many steps
-pub record IsAt {M : Type 0} (stands : M → StoreState → Type 0) (board : Board) (catalog : Catalog) (fuel n : ℕ)
-    (pei : Pei M) (queue : PeiQueue) (told : PeiTold) : Type 0 where
-  pub now : IsNow stands catalog pei queue (pei_after board catalog fuel n)
-  pub is_told : IsTold board catalog fuel n told
+-- a run by choices leads to the machine for which the core and the queue stand, and all of it is told
+pub record IsAt {M : Type 0} (Names : PeiMachine → Option ℕ → Type 0) (Lets : PeiMachine → ℕ → Bool) (stands : M → StoreState → Type 0) (board : Board) (catalog : Catalog) (fuel : ℕ)
+    (earlier : List PeiMachine) (m : PeiMachine) (pei : Pei M) (queue : PeiQueue) (told : PeiTold) : Type 0 where
+  pub run : IsRunBy Names Lets catalog fuel (pei_opening board catalog) earlier m
+  pub way : IsUnderWay catalog m
+  pub now : IsNow stands catalog pei queue m
+  pub is_told : IsTold catalog earlier m told
 
--- that one has ended so
-pub record IsAtEnd {M : Type 0} (stands : M → StoreState → Type 0) (board : Board) (catalog : Catalog) (fuel n : ℕ)
-    (pei : Pei M) (queue : PeiQueue) (told : PeiTold) (how : PeiEnd) : Type 0 where
-  pub ended : (pei_after board catalog fuel n).ended ≡ Some how
-  pub stands_at_end : StandsAtEnd stands catalog pei queue (pei_after board catalog fuel n)
-  pub is_told : IsTold board catalog fuel n told
+-- the core stands for a last machine as it was before it ended, and the queue has its order
+pub record IsLeftAt {M : Type 0} (stands : M → StoreState → Type 0) (catalog : Catalog) (pei : Pei M) (queue : PeiQueue) («end» : PeiMachine) : Type 0 where
+  pub sweep : Option Sweep
+  pub machine : StandsFor stands pei (record «end» { ended = None; core_sweep = sweep })
+  pub parts : parts_in queue ≡ pei_order catalog «end».reported
 
--- behind a step more, by how it has ended
-abbrev pub TurnsTo : {M : Type 0} → (M → StoreState → Type 0) → Board → Catalog → ℕ → ℕ → Pei M → PeiQueue → PeiTold → Option PeiEnd → Type 0
-TurnsTo stands board catalog fuel n pei queue told None = IsAt stands board catalog fuel (suc n) pei queue told
-TurnsTo stands board catalog fuel n pei queue told (Some how) = IsAtEnd stands board catalog fuel (suc n) pei queue told how
+-- it leads to a machine that has ended so
+pub record IsAtEnd {M : Type 0} (Names : PeiMachine → Option ℕ → Type 0) (Lets : PeiMachine → ℕ → Bool) (stands : M → StoreState → Type 0) (board : Board) (catalog : Catalog) (fuel : ℕ)
+    (earlier : List PeiMachine) («end» : PeiMachine) (pei : Pei M) (queue : PeiQueue) (told : PeiTold) (how : PeiEnd) : Type 0 where
+  pub run : IsRunBy Names Lets catalog fuel (pei_opening board catalog) earlier «end»
+  pub ended : «end».ended ≡ Some how
+  pub left : IsLeftAt stands catalog pei queue «end»
+  pub is_told : IsTold catalog earlier «end» told
+
+-- it leads to a machine from which a PEIM is due that the choices do not let
+pub record IsBarred (Names : PeiMachine → Option ℕ → Type 0) (Lets : PeiMachine → ℕ → Bool) (board : Board) (catalog : Catalog) (fuel : ℕ)
+    (earlier : List PeiMachine) (m : PeiMachine) (number : ℕ) : Type 0 where
+  pub run : IsRunBy Names Lets catalog fuel (pei_opening board catalog) earlier m
+  pub running : m.ended ≡ None
+  pub due : IsDue Names catalog m number
+  pub barred : Lets m number ≡ false
+
+-- the same run with a step more, by how it goes on
+abbrev pub TurnsTo : {M : Type 0} → (PeiMachine → Option ℕ → Type 0) → (PeiMachine → ℕ → Bool) → (M → StoreState → Type 0) → Board → Catalog → ℕ
+    → List PeiMachine → PeiMachine → Pei M → PeiQueue → PeiTold → Option (Reached PeiEnd) → Type 0
+TurnsTo Names Lets stands board catalog fuel earlier m pei queue told None =
+    (later : PeiMachine) × IsAt Names Lets stands board catalog fuel (m ∷ earlier) later pei queue told
+TurnsTo Names Lets stands board catalog fuel earlier m pei queue told (Some (R.End how)) =
+    («end» : PeiMachine) × IsAtEnd Names Lets stands board catalog fuel (m ∷ earlier) «end» pei queue told how
+TurnsTo Names Lets stands board catalog fuel earlier m pei queue told (Some (R.Barred number)) =
+    IsBarred Names Lets board catalog fuel earlier m number
+
+-- so from each run by a choice that leads to the machine of the core and the queue and was told
+abbrev pub Turns : {M : Type 0} → (Nowhere → ℕ → Option ℕ → Type 0) → (ℕ → ℕ → Bool) → (M → StoreState → Type 0) → Catalog
+    → Pei M → PeiQueue → PeiTold → Pei M → PeiQueue → PeiTold → Option (Reached PeiEnd) → Type 0
+Turns names lets stands catalog pei queue told later grown after turned =
+    (board : Board) (fuel : ℕ) (earlier : List PeiMachine) (m : PeiMachine) → IsFor catalog fuel pei
+    → IsAt (NamesUnseen names) (LetsPeims lets) stands board catalog fuel earlier m pei queue told
+    → TurnsTo (NamesUnseen names) (LetsPeims lets) stands board catalog fuel earlier m later grown after turned
+
+-- the same where that machine is idle
+abbrev pub TurnsIdle : {M : Type 0} → (Nowhere → ℕ → Option ℕ → Type 0) → (ℕ → ℕ → Bool) → (M → StoreState → Type 0) → Catalog
+    → Pei M → PeiQueue → PeiTold → Pei M → PeiQueue → PeiTold → Option (Reached PeiEnd) → Type 0
+TurnsIdle names lets stands catalog pei queue told later grown after turned =
+    (board : Board) (fuel : ℕ) (earlier : List PeiMachine) (m : PeiMachine) → IsFor catalog fuel pei
+    → IsAt (NamesUnseen names) (LetsPeims lets) stands board catalog fuel earlier m pei queue told → IsIdle m
+    → TurnsTo (NamesUnseen names) (LetsPeims lets) stands board catalog fuel earlier m later grown after turned
+
+-- a PEIM has started, and this is told of it
+pub record IsStartTold {M : Type 0} (stands : M → StoreState → Type 0) (catalog : Catalog) (m : PeiMachine) (number : ℕ)
+    (later : Pei M) (grown : PeiQueue) (told after : PeiTold) : Type 0 where
+  pub now : IsNow stands catalog later grown (started catalog m number)
+  pub begun : after.begun ≡ told.begun ++ pei_begun_at catalog m (giver_in told.givers.map) number
+  pub givers : after.givers ≡ told.givers
+  pub moved : after.moved ≡ told.moved

@@ -1,26 +1,29 @@
-// DXE from the hand-off to its end, explained.
+// DXE by a choice from the hand-off to its end, explained.
 ghost use Rattle.std.specs.Prelude.{◌≡◌, ◌<◌, ℕ, IfOk};
+ghost use Rattle.boot_model.specs.DxeRun.{dxe_opening};
 ghost use Rattle.catalog_model.specs.WellFormed.{IsWellFormed};
+ghost use Rattle.dxe_choice.specs.Queue.{IsQueueFor};
+ghost use Rattle.dxe_core.specs.Standing.{IsFor, StandsFor};
 ghost use Rattle.store_model.specs.Service.{Present, OfEach};
 ghost use Rattle.store_model.specs.StoreCall.{Anything};
 ghost use Rattle.store_model.specs.StoreState.{StoreState};
-ghost use Rattle.boot_model.specs.DxeRun.{dxe_opening};
-ghost use Rattle.dxe_choice.specs.Queue.{IsQueueFor};
-ghost use Rattle.dxe_core.specs.Standing.{IsFor, StandsFor};
-ghost use Rattle.boot_reasons.specs.DxeTelling.{EndsTo, IsAt, IsDxeExplained};
+ghost use Rattle.boot_reasons.specs.DxeTelling.{Ends, Explains, ExplainsBehind, ExplainsEnd, IsAtOpening};
 
 use crate::copied::copied;
 use crate::dxe_held::held_drivers;
-use crate::dxe_turn::turn;
+use crate::dxe_turn::tell;
+use crate::givers::actor;
+use crate::nowhere::Nowhere;
 use crate::reasons::{Begun, Held};
 use crate::told::DxeTold;
-use boot_laws::{discovered_order_has_each_once, dxe_runs_end};
+use boot_laws::{discovered_order_has_each_once, unrequested_drivers_wait};
 use boot_model::DxeEnd;
 use catalog_model::Catalog;
 use depex_code::Steps;
 use dxe_choice::DriverQueue;
 use dxe_core::Dxe;
-use dxe_dispatch::{bound, dxe_at_opening};
+use dxe_dispatch::{Turn, bound, dxe_at_opening, turn_by};
+use free_laws::{Choice, Reached, dxe_chooses_by_groups, dxe_goes_on, dxe_opens, groups_are_aimed};
 use pi_base::{OutOfMemory, Seq};
 use std::alloc::Global;
 use std::marker::Brand;
@@ -37,57 +40,54 @@ pub(crate) struct DxeExplained {
     pub(crate) actions: u32,
 }
 
-// DXE to its end, and what it tells.
-fn run_to_end<M: PeiStore, L: Ledger>(
+// DXE by a choice to its end, or to a start that is not let, and what it tells. `in_pei` is how many starts there were in PEI.
+fn run_to_end<M: PeiStore, C: Choice<Nowhere>, L: Ledger>(
     dxe: &mut Dxe,
     store: &M,
     queue: &mut DriverQueue,
+    choice: &C,
+    in_pei: u32,
     catalog: &Catalog,
     told: &mut DxeTold,
     steps: &mut Steps<L>,
-) -> Result<DxeEnd, OutOfMemory>
+) -> Result<Reached<DxeEnd>, OutOfMemory>
     requires catalog { IsWellFormed catalog.now }
     requires queue { IsQueueFor catalog.now queue.old }
-    requires opening { (s : StoreState) × (actions : ℕ) × (fuel : ℕ) × IsFor catalog.now fuel dxe.old
-        × IsAt M.stands_for store.now s actions catalog.now fuel 0 dxe.old queue.old told.old }
-    ensures row { (s : StoreState) (actions fuel : ℕ) → IsFor catalog.now fuel dxe.old
-        → IsAt M.stands_for store.now s actions catalog.now fuel 0 dxe.old queue.old told.old
-        → IfOk result (EndsTo M.stands_for store.now s actions catalog.now fuel dxe.new queue.new told.new) }
+    requires opening { (s : StoreState) × (actions : ℕ) × (fuel : ℕ)
+        × IsAtOpening M.stands_for store.now catalog.now fuel s actions dxe.old queue.old told.old }
+    ensures row { IfOk result (Ends (C.drivers choice.now) (C.lets_in_dxe choice.now) in_pei M.stands_for store.now catalog.now
+        dxe.old queue.old told.old dxe.new queue.new told.new) }
 {
-    dxe_runs_end();
+    dxe_opens();
+    dxe_goes_on();
+    dxe_chooses_by_groups();
+    groups_are_aimed();
+    // What is put goes nowhere, which never fails.
+    let mut nowhere = Nowhere;
     'turns: for _ in 0..bound(catalog, dxe.fuel()) {
-        if let Some(end) = turn(dxe, store, queue, catalog, told, steps)? {
-            return Ok(end);
+        let actor = actor(dxe.running());
+        match turn_by(dxe, store, queue, choice, in_pei, catalog, &mut nowhere, steps) {
+            Ok(Turn::Took(step)) => tell(told, dxe, catalog, &step, actor)?,
+            Ok(Turn::Reached(reached)) => return Ok(reached),
+            Err(_) => return Err(OutOfMemory),
         }
     }
     unreachable!()
 }
 
-// The whole of DXE from its opening. The expressions that are evaluated are counted in the ledger of a blank.
-fn explain_with_ledger<M: PeiStore, L: Ledger>(
+// The end of DXE, explained.
+fn explain_end<M: PeiStore>(
     alloc: Global,
-    dxe: &mut Dxe,
+    dxe: &Dxe,
     store: &M,
+    queue: &DriverQueue,
     catalog: &Catalog,
-    blank: Blank,
+    told: DxeTold,
+    end: DxeEnd,
 ) -> Result<DxeExplained, OutOfMemory>
-    requires catalog { IsWellFormed catalog.now }
-    requires opening { (s : StoreState) × (actions : ℕ) × (fuel : ℕ) × IsFor catalog.now fuel dxe.old
-        × StandsFor M.stands_for store.now catalog.now dxe.old (dxe_opening catalog.now s actions) }
-    requires name { blank.name ≡ L.name }
-    requires parts { blank.parts ≡ L.parts }
-    requires counts { 0 < L.parts }
-    ensures row { (s : StoreState) (actions fuel : ℕ) → IsFor catalog.now fuel dxe.old
-        → StandsFor M.stands_for store.now catalog.now dxe.old (dxe_opening catalog.now s actions)
-        → IfOk result (IsDxeExplained catalog.now fuel actions s) }
+    ensures { IfOk result (ExplainsEnd M.stands_for store.now catalog.now dxe.now queue.now told end) }
 {
-    discovered_order_has_each_once();
-    let mut queue = DriverQueue::new(alloc, catalog)?;
-    queue.discover(catalog, dxe.order(), 0)?;
-    let mut told = DxeTold::new(alloc);
-    let mut steps = Steps::<L>::new(blank);
-    let end = run_to_end(dxe, store, &mut queue, catalog, &mut told, &mut steps)?;
-    let held = held_drivers(alloc, dxe, &queue, catalog, &told.givers)?;
+    let held = held_drivers(alloc, dxe, queue, catalog, &told.givers)?;
     let discovered = copied(alloc, dxe.order().volumes())?;
     Ok(DxeExplained {
         end,
@@ -98,19 +98,58 @@ fn explain_with_ledger<M: PeiStore, L: Ledger>(
     })
 }
 
-/// The whole of DXE behind the hand-off of a store. `fuel` is how many actions may be taken in both phases, and `taken` how many PEI took.
-pub(crate) fn explain_dxe<M: PeiStore>(
+// The whole of DXE from its opening. The expressions that are evaluated are counted in the ledger of a blank.
+fn explain_with_ledger<M: PeiStore, C: Choice<Nowhere>, L: Ledger>(
+    alloc: Global,
+    dxe: &mut Dxe,
+    store: &M,
+    choice: &C,
+    in_pei: u32,
+    catalog: &Catalog,
+    blank: Blank,
+) -> Result<Reached<DxeExplained>, OutOfMemory>
+    requires catalog { IsWellFormed catalog.now }
+    requires opening { (s : StoreState) × (actions : ℕ) × (fuel : ℕ) × IsFor catalog.now fuel dxe.old
+        × StandsFor M.stands_for store.now catalog.now dxe.old (dxe_opening catalog.now s actions) }
+    requires name { blank.name ≡ L.name }
+    requires parts { blank.parts ≡ L.parts }
+    requires counts { 0 < L.parts }
+    ensures row { IfOk result (Explains (C.drivers choice.now) (C.lets_in_dxe choice.now) in_pei M.stands_for store.now catalog.now dxe.old) }
+{
+    dxe_opens();
+    unrequested_drivers_wait();
+    discovered_order_has_each_once();
+    let mut queue = DriverQueue::new(alloc, catalog)?;
+    queue.discover(catalog, dxe.order(), 0)?;
+    let mut told = DxeTold::new(alloc);
+    let mut steps = Steps::<L>::new(blank);
+    match run_to_end(
+        dxe, store, &mut queue, choice, in_pei, catalog, &mut told, &mut steps,
+    )? {
+        Reached::End(end) => {
+            let explained = explain_end(alloc, dxe, store, &queue, catalog, told, end)?;
+            Ok(Reached::End(explained))
+        }
+        Reached::Barred(number) => Ok(Reached::Barred(number)),
+    }
+}
+
+/// The whole of DXE by a choice behind the hand-off of a store, to its end, or to the start of a driver that the choice does not let. `fuel` is how many actions may be taken in both phases, `taken` how many PEI took, and `in_pei` how many starts there were in it.
+pub(crate) fn explain_dxe<M: PeiStore, C: Choice<Nowhere>>(
     alloc: Global,
     store: &M,
     catalog: &Catalog,
     fuel: u32,
     taken: u32,
-) -> Result<DxeExplained, OutOfMemory>
+    in_pei: u32,
+    choice: &C,
+) -> Result<Reached<DxeExplained>, OutOfMemory>
     requires catalog { IsWellFormed catalog.now }
     requires state { Present (M.stands_for store.now) Anything }
-    ensures { OfEach (M.stands_for store.now) Anything (λ s. IfOk result (IsDxeExplained catalog.now fuel taken s)) }
+    ensures { OfEach (M.stands_for store.now) Anything
+        (λ s. IfOk result (λ reached. ExplainsBehind (C.drivers choice.now) (C.lets_in_dxe choice.now) in_pei catalog.now fuel taken reached s)) }
 {
     let mut dxe = dxe_at_opening(alloc, store, catalog, fuel, taken)?;
     let blank = Blank::new(1);
-    explain_with_ledger::<M, Brand>(alloc, &mut dxe, store, catalog, blank)
+    explain_with_ledger::<M, C, Brand>(alloc, &mut dxe, store, choice, in_pei, catalog, blank)
 }

@@ -1,19 +1,22 @@
-//! A boot, explained.
+//! A boot by a choice, explained.
 ghost use Rattle.std.specs.Prelude.{◌≡◌, ◌≤◌, ◌++◌, IfOk, length};
 ghost use Rattle.boot_model.specs.BootRun.{dxe_result};
 ghost use Rattle.boot_model.specs.PeiMachine.{PeiMachine};
+ghost use Rattle.boot_model.specs.declared.phase_end.PeiEnd.TheVariants.{Handoff};
 ghost use Rattle.catalog_model.specs.WellFormed.{IsWellFormed};
 ghost use Rattle.pei_core.specs.Standing.{StandsFor};
 ghost use Rattle.store_model.specs.StoreState.{Board, empty_store};
-ghost use Rattle.boot_reasons.specs.Explained.{IsExplained};
+ghost use Rattle.boot_reasons.specs.Explained.{ExplainsBehind, ExplainsTo};
 ghost use Rattle.boot_reasons.specs.Joining.{alone, together};
-ghost use Rattle.boot_reasons.specs.PeiEnding.{IsPeiExplained};
+ghost use Rattle.boot_reasons.specs.Unseen.{choices_of};
 
 use crate::dxe::{DxeExplained, explain_dxe};
+use crate::nowhere::Nowhere;
 use crate::pei::{PeiExplained, explain_pei};
 use crate::reasons::Explained;
 use boot_model::{DxeEnd, PeiEnd, RunEnd};
 use catalog_model::Catalog;
+use free_laws::{Choice, Reached};
 use pei_core::Pei;
 use pi_base::{OutOfMemory, Seq};
 use std::alloc::Global;
@@ -75,45 +78,82 @@ fn together(pei: PeiExplained, dxe: DxeExplained) -> Result<Explained, OutOfMemo
     })
 }
 
-// The whole of a boot behind PEI.
-fn explain_behind<M: PeiStore + Drop>(
+// The whole of a boot behind a hand-off.
+fn explain_drivers<M: PeiStore + Drop, C: Choice<Nowhere>>(
     alloc: Global,
     pei: &Pei<M>,
     explained: PeiExplained,
     catalog: &Catalog,
     fuel: u32,
-) -> Result<Explained, OutOfMemory>
+    choice: &C,
+) -> Result<Reached<Explained>, OutOfMemory>
     requires catalog { IsWellFormed catalog.now }
     requires state { (m : PeiMachine) × StandsFor M.stands_for pei.now m }
-    ensures { (board : Board) → IsPeiExplained M.stands_for board catalog.now fuel pei.now explained
-        → IfOk result (IsExplained board catalog.now fuel) }
+    requires handed { explained.end ≡ Handoff }
+    ensures { IfOk result (ExplainsBehind (choices_of (C.peims choice.now) (C.lets_in_pei choice.now) (C.drivers choice.now) (C.lets_in_dxe choice.now))
+        M.stands_for catalog.now fuel pei.now explained) }
 {
-    let actions = pei.actions();
-    match explained.end {
-        PeiEnd::Handoff => {
-            let drivers = explain_dxe(alloc, pei.store(), catalog, fuel, actions)?;
-            together(explained, drivers)
+    match explain_dxe(
+        alloc,
+        pei.store(),
+        catalog,
+        fuel,
+        pei.actions(),
+        pei.starts(),
+        choice,
+    )? {
+        Reached::End(drivers) => {
+            let all = together(explained, drivers)?;
+            Ok(Reached::End(all))
         }
-        PeiEnd::NoMemory => Ok(alone(explained, actions, RunEnd::NoMemory)),
-        PeiEnd::NoIpl => Ok(alone(explained, actions, RunEnd::NoIpl)),
-        PeiEnd::Spent => Ok(alone(explained, actions, RunEnd::Spent)),
-        PeiEnd::Deep => Ok(alone(explained, actions, RunEnd::Deep)),
+        Reached::Barred(number) => Ok(Reached::Barred(number)),
     }
 }
 
-/// Explains the boot over a store that is as it was made, where the first module that may start does: why each module started and what it needed, and why others never did. `fuel` is how many actions may be taken. Nothing is printed.
-pub fn explain_boot<M: PeiStore + Drop>(
+// The whole of a boot behind PEI.
+fn explain_behind<M: PeiStore + Drop, C: Choice<Nowhere>>(
+    alloc: Global,
+    pei: &Pei<M>,
+    explained: PeiExplained,
+    catalog: &Catalog,
+    fuel: u32,
+    choice: &C,
+) -> Result<Reached<Explained>, OutOfMemory>
+    requires catalog { IsWellFormed catalog.now }
+    requires state { (m : PeiMachine) × StandsFor M.stands_for pei.now m }
+    ensures { IfOk result (ExplainsBehind (choices_of (C.peims choice.now) (C.lets_in_pei choice.now) (C.drivers choice.now) (C.lets_in_dxe choice.now))
+        M.stands_for catalog.now fuel pei.now explained) }
+{
+    let actions = pei.actions();
+    let end = match explained.end {
+        PeiEnd::Handoff => {
+            return explain_drivers(alloc, pei, explained, catalog, fuel, choice);
+        }
+        PeiEnd::NoMemory => RunEnd::NoMemory,
+        PeiEnd::NoIpl => RunEnd::NoIpl,
+        PeiEnd::Spent => RunEnd::Spent,
+        PeiEnd::Deep => RunEnd::Deep,
+    };
+    Ok(Reached::End(alone(explained, actions, end)))
+}
+
+/// Explains the boot by a choice over a store that is as it was made: why each module started and what it needed, and why others never did; or tells before which start it is left, since the choice does not let the module. `fuel` is how many actions may be taken. Nothing is printed, so that the choice sees no text.
+pub fn explain_by<M: PeiStore + Drop, C: Choice<Nowhere>>(
     alloc: Global,
     store: M,
     catalog: &Catalog,
     fuel: u32,
-) -> Result<Explained, OutOfMemory>
+    choice: &C,
+) -> Result<Reached<Explained>, OutOfMemory>
     requires catalog { IsWellFormed catalog.now }
     requires some { 1 ≤ length catalog.now.volumes }
     requires opening { (board : Board) × M.stands_for store (empty_store board) }
-    ensures { (board : Board) → M.stands_for store (empty_store board) → IfOk result (IsExplained board catalog.now fuel) }
+    ensures { (board : Board) → M.stands_for store (empty_store board) → IfOk result (ExplainsTo (choices_of (C.peims choice.now)
+        (C.lets_in_pei choice.now) (C.drivers choice.now) (C.lets_in_dxe choice.now)) board catalog.now fuel) }
 {
     let mut pei = Pei::begin(alloc, store, catalog, fuel)?;
-    let explained = explain_pei(alloc, &mut pei, catalog)?;
-    explain_behind(alloc, &pei, explained, catalog, fuel)
+    match explain_pei(alloc, &mut pei, choice, catalog)? {
+        Reached::End(explained) => explain_behind(alloc, &pei, explained, catalog, fuel, choice),
+        Reached::Barred(number) => Ok(Reached::Barred(number)),
+    }
 }

@@ -1,5 +1,5 @@
 //! A boot, explained: why each module started and what it needed, and why another one never did.
-//! It is the boot of the machine itself, in which the first module that may start does. What is told of it are lists over the steps of its run (PI 1.8, volumes 1 and 2).
+//! It is a boot by a choice that is handed in; where the first module that may start does, it is that of the machine itself. What is told of it are lists over the machines of its run (PI 1.8, volumes 1 and 2).
 #![tactic(auto)]
 
 mod copied;
@@ -20,7 +20,8 @@ mod reasons;
 mod told;
 mod waiters;
 
-pub use explain::explain_boot;
-pub use laws::one_explanation;
-pub use plan::explain_plan;
+pub use explain::explain_by;
+pub use laws::{explained_is_a_boot, one_explanation, own_boot_is_explained};
+pub use nowhere::Nowhere;
+pub use plan::{explain_plan, explain_plan_by};
 pub use reasons::{Begun, Explained, Giver, Held, Moved, Need};

@@ -1,9 +1,9 @@
-// A sink for the lines of a boot of which the reasons alone are wanted.
+//! A sink for the lines of a boot of which the reasons alone are wanted.
 use boot_io::{Sink, SinkFault};
 
-/// Drops what is put, and never fails.
+/// Drops what is put, and never fails. A choice that is explained looks into none other.
 #[derive(Drop)]
-pub(crate) struct Nowhere;
+pub struct Nowhere;
 
 impl Sink for Nowhere {
     ghost use Rattle.std.specs.Prelude.{None};

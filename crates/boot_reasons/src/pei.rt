@@ -1,22 +1,23 @@
 // PEI from its opening to its end, explained.
 ghost use Rattle.std.specs.Prelude.{◌≡◌, ◌<◌, ℕ, IfOk};
+ghost use Rattle.boot_model.specs.PeiMachine.{PeiMachine};
 ghost use Rattle.boot_model.specs.PeiRun.{pei_opening};
 ghost use Rattle.catalog_model.specs.WellFormed.{IsWellFormed};
 ghost use Rattle.store_model.specs.StoreState.{Board};
 ghost use Rattle.pei_core.specs.Standing.{IsFor, StandsFor};
-ghost use Rattle.boot_reasons.specs.PeiEnding.{EndsTo, IsPeiExplained};
-ghost use Rattle.boot_reasons.specs.PeiTelling.{IsAt};
+ghost use Rattle.boot_reasons.specs.PeiEnding.{Ends, Explains, ExplainsEnd, IsAtOpening};
 
 use crate::copied::copied;
 use crate::moves::heap_used;
+use crate::nowhere::Nowhere;
 use crate::pei_held::held_parts;
 use crate::pei_turn::turn;
 use crate::reasons::{Begun, Held, Moved};
 use crate::told::PeiTold;
-use boot_laws::pei_runs_end;
 use boot_model::PeiEnd;
 use catalog_model::Catalog;
 use depex_code::Steps;
+use free_laws::{Choice, Reached, cursor_aims, pei_opens, pei_starts_freely};
 use pei_choice::{PeiQueue, alike_views_are_shown};
 use pei_core::Pei;
 use pei_dispatch::bound;
@@ -37,50 +38,44 @@ pub(crate) struct PeiExplained {
     pub(crate) heap: u64,
 }
 
-// PEI to its end, and what it tells.
-fn run_to_end<M: PeiStore + Drop, L: Ledger>(
+// PEI by a choice to its end, or to a start that is not let, and what it tells.
+fn run_to_end<M: PeiStore + Drop, C: Choice<Nowhere>, L: Ledger>(
     pei: &mut Pei<M>,
     queue: &mut PeiQueue,
+    choice: &C,
     catalog: &Catalog,
     told: &mut PeiTold,
     steps: &mut Steps<L>,
-) -> Result<PeiEnd, OutOfMemory>
+) -> Result<Reached<PeiEnd>, OutOfMemory>
     requires catalog { IsWellFormed catalog.now }
-    requires opening { (board : Board) × (fuel : ℕ) × IsFor catalog.now fuel pei.old
-        × IsAt M.stands_for board catalog.now fuel 0 pei.old queue.old told.old }
-    ensures row { (board : Board) (fuel : ℕ) → IsFor catalog.now fuel pei.old → IsAt M.stands_for board catalog.now fuel 0 pei.old queue.old told.old
-        → IfOk result (EndsTo M.stands_for board catalog.now fuel pei.new queue.new told.new) }
+    requires opening { (board : Board) × (fuel : ℕ) × IsAtOpening (C.peims choice.now) (C.lets_in_pei choice.now) M.stands_for board catalog.now fuel
+        pei.old queue.old told.old }
+    ensures row { IfOk result (Ends (C.peims choice.now) (C.lets_in_pei choice.now) M.stands_for catalog.now
+        pei.old queue.old told.old pei.new queue.new told.new) }
 {
-    pei_runs_end();
+    cursor_aims();
+    pei_opens();
+    pei_starts_freely();
     'turns: for _ in 0..bound(catalog, pei.fuel()) {
-        if let Some(end) = turn(pei, queue, catalog, told, steps)? {
-            return Ok(end);
+        if let Some(reached) = turn(pei, queue, choice, catalog, told, steps)? {
+            return Ok(reached);
         }
     }
     unreachable!()
 }
 
-// The whole of PEI. The expressions that are evaluated are counted in the ledger of a blank.
-fn explain_with_ledger<M: PeiStore + Drop, L: Ledger>(
+// The end of PEI, explained.
+fn explain_end<M: PeiStore + Drop>(
     alloc: Global,
-    pei: &mut Pei<M>,
+    pei: &Pei<M>,
+    queue: &PeiQueue,
     catalog: &Catalog,
-    blank: Blank,
+    told: PeiTold,
+    end: PeiEnd,
 ) -> Result<PeiExplained, OutOfMemory>
-    requires catalog { IsWellFormed catalog.now }
-    requires opening { (board : Board) × (fuel : ℕ) × IsFor catalog.now fuel pei.old × StandsFor M.stands_for pei.old (pei_opening board catalog.now) }
-    requires name { blank.name ≡ L.name }
-    requires parts { blank.parts ≡ L.parts }
-    requires counts { 0 < L.parts }
-    ensures row { (board : Board) (fuel : ℕ) → IsFor catalog.now fuel pei.old → StandsFor M.stands_for pei.old (pei_opening board catalog.now)
-        → IfOk result (IsPeiExplained M.stands_for board catalog.now fuel pei.new) }
+    requires state { (m : PeiMachine) × StandsFor M.stands_for pei.now m }
+    ensures { IfOk result (ExplainsEnd M.stands_for catalog.now pei.now queue.now told end) }
 {
-    alike_views_are_shown();
-    let mut queue = PeiQueue::build(alloc, catalog)?;
-    queue.report(catalog, pei.reported());
-    let mut told = PeiTold::new(alloc);
-    let mut steps = Steps::<L>::new(blank);
-    let end = run_to_end(pei, &mut queue, catalog, &mut told, &mut steps)?;
     let held = held_parts(alloc, pei, catalog, &told.givers, queue.as_slice())?;
     let reported = copied(alloc, pei.reported())?;
     Ok(PeiExplained {
@@ -93,17 +88,47 @@ fn explain_with_ledger<M: PeiStore + Drop, L: Ledger>(
     })
 }
 
-/// The whole of PEI, from its opening to its end.
-pub(crate) fn explain_pei<M: PeiStore + Drop>(
+// The whole of PEI. The expressions that are evaluated are counted in the ledger of a blank.
+fn explain_with_ledger<M: PeiStore + Drop, C: Choice<Nowhere>, L: Ledger>(
     alloc: Global,
     pei: &mut Pei<M>,
+    choice: &C,
     catalog: &Catalog,
-) -> Result<PeiExplained, OutOfMemory>
+    blank: Blank,
+) -> Result<Reached<PeiExplained>, OutOfMemory>
     requires catalog { IsWellFormed catalog.now }
     requires opening { (board : Board) × (fuel : ℕ) × IsFor catalog.now fuel pei.old × StandsFor M.stands_for pei.old (pei_opening board catalog.now) }
-    ensures row { (board : Board) (fuel : ℕ) → IsFor catalog.now fuel pei.old → StandsFor M.stands_for pei.old (pei_opening board catalog.now)
-        → IfOk result (IsPeiExplained M.stands_for board catalog.now fuel pei.new) }
+    requires name { blank.name ≡ L.name }
+    requires parts { blank.parts ≡ L.parts }
+    requires counts { 0 < L.parts }
+    ensures row { IfOk result (Explains (C.peims choice.now) (C.lets_in_pei choice.now) M.stands_for catalog.now pei.old pei.new) }
+{
+    alike_views_are_shown();
+    pei_opens();
+    let mut queue = PeiQueue::build(alloc, catalog)?;
+    queue.report(catalog, pei.reported());
+    let mut told = PeiTold::new(alloc);
+    let mut steps = Steps::<L>::new(blank);
+    match run_to_end(pei, &mut queue, choice, catalog, &mut told, &mut steps)? {
+        Reached::End(end) => {
+            let explained = explain_end(alloc, pei, &queue, catalog, told, end)?;
+            Ok(Reached::End(explained))
+        }
+        Reached::Barred(number) => Ok(Reached::Barred(number)),
+    }
+}
+
+/// The whole of PEI by a choice, from its opening to its end, or to the start of a PEIM that the choice does not let.
+pub(crate) fn explain_pei<M: PeiStore + Drop, C: Choice<Nowhere>>(
+    alloc: Global,
+    pei: &mut Pei<M>,
+    choice: &C,
+    catalog: &Catalog,
+) -> Result<Reached<PeiExplained>, OutOfMemory>
+    requires catalog { IsWellFormed catalog.now }
+    requires opening { (board : Board) × (fuel : ℕ) × IsFor catalog.now fuel pei.old × StandsFor M.stands_for pei.old (pei_opening board catalog.now) }
+    ensures row { IfOk result (Explains (C.peims choice.now) (C.lets_in_pei choice.now) M.stands_for catalog.now pei.old pei.new) }
 {
     let blank = Blank::new(1);
-    explain_with_ledger::<M, Brand>(alloc, pei, catalog, blank)
+    explain_with_ledger::<M, C, Brand>(alloc, pei, choice, catalog, blank)
 }

@@ -1,20 +1,17 @@
-// A turn of the run of PEI, and what it tells.
-ghost use Rattle.std.specs.Prelude.{◌≡◌, ◌++◌, ℕ, IfOk, OnOk, option_map};
+// A turn of the run of PEI by a choice, and what it tells.
+ghost use Rattle.std.specs.Prelude.{◌≡◌, ◌++◌, ℕ, IfOk, OnOk};
 ghost use Rattle.std.specs.Option.{option_or, option_to_list};
 ghost use Rattle.boot_model.specs.PeiMachine.{PeiMachine};
-ghost use Rattle.catalog_model.specs.Parts.{part_at};
 ghost use Rattle.catalog_model.specs.WellFormed.{IsWellFormed};
-ghost use Rattle.pi_base.specs.declared.phase.Phase.TheVariants.{Pei as InPei};
 ghost use Rattle.store_model.specs.Service.Install.{has_ppi};
-ghost use Rattle.store_model.specs.StoreState.{Board};
 ghost use Rattle.pei_choice.specs.View.{event_guids};
 ghost use Rattle.pei_core.specs.Standing.{IsFor, StandsFor};
 ghost use Rattle.pei_core.specs.Steps.{IsIdle};
-ghost use Rattle.pei_dispatch.specs.Turns.{IsNow};
+ghost use Rattle.pei_dispatch.specs.Turns.{IsChosen, IsNow};
 ghost use Rattle.boot_reasons.specs.Noting.{AreNoted, giver_in};
 ghost use Rattle.boot_reasons.specs.Moving.{moved_from};
-ghost use Rattle.boot_reasons.specs.PeiReasons.{pei_after, pei_begun_by};
-ghost use Rattle.boot_reasons.specs.PeiTelling.{IsAt, TurnsTo};
+ghost use Rattle.boot_reasons.specs.PeiReasons.{pei_begun_at};
+ghost use Rattle.boot_reasons.specs.PeiTelling.{IsStartTold, Turns, TurnsIdle};
 
 use crate::givers::{Givers, actor};
 use crate::moves::{first_move, unmoved_base};
@@ -27,9 +24,10 @@ use boot_model::{PeiEnd, state_of};
 use catalog_model::Catalog;
 use depex_code::Steps;
 use frames::part_of;
+use free_laws::{Choice, Reached, cursor_aims, pei_opens, pei_starts_freely};
 use pei_choice::{PeiQueue, licence_of};
 use pei_core::{Event, Pei};
-use pei_dispatch::{Progress, choose, go_on, start, stop_pei};
+use pei_dispatch::{Progress, aim, choose, go_on, start, stop_pei};
 use pi_base::{Guid, OutOfMemory, Phase};
 use std::sync::ledger::Ledger;
 use store_model::PeiStore;
@@ -94,33 +92,61 @@ fn tell_start<M: PeiStore + Drop>(
     })
 }
 
-// The next PEIM starts, and is told of, or PEI stops.
-fn start_or_stop<M: PeiStore + Drop, L: Ledger>(
+// The PEIM that comes next starts, and is told of.
+fn start_told<M: PeiStore + Drop>(
     pei: &mut Pei<M>,
     queue: &mut PeiQueue,
     catalog: &Catalog,
     told: &mut PeiTold,
+    number: u32,
+) -> Result<(), OutOfMemory>
+    requires catalog { IsWellFormed catalog.now }
+    requires made { (fuel : ℕ) × IsFor catalog.now fuel pei.old }
+    requires state { (m : PeiMachine) × IsChosen M.stands_for catalog.now pei.old queue.old m number }
+    ensures row { (m : PeiMachine) → IsChosen M.stands_for catalog.now pei.old queue.old m number
+        → OnOk result (IsStartTold M.stands_for catalog.now m number pei.new queue.new told.old told.new) }
+    ensures made { (fuel : ℕ) → IsFor catalog.now fuel pei.old → IsFor catalog.now fuel pei.new }
+{
+    tell_start(told, pei, catalog, number)?;
+    // What is put goes nowhere, which never fails.
+    match start(pei, queue, catalog, number, &mut Nowhere) {
+        Ok(()) => Ok(()),
+        Err(_) => Err(OutOfMemory),
+    }
+}
+
+// The next PEIM starts, and is told of, if the choice lets it, or PEI stops.
+fn start_or_stop<M: PeiStore + Drop, C: Choice<Nowhere>, L: Ledger>(
+    pei: &mut Pei<M>,
+    queue: &mut PeiQueue,
+    choice: &C,
+    catalog: &Catalog,
+    told: &mut PeiTold,
     steps: &mut Steps<L>,
-) -> Result<Option<PeiEnd>, OutOfMemory>
+) -> Result<Option<Reached<PeiEnd>>, OutOfMemory>
     requires catalog { IsWellFormed catalog.now }
     requires made { (fuel : ℕ) × IsFor catalog.now fuel pei.old }
     requires state { (m : PeiMachine) × IsNow M.stands_for catalog.now pei.old queue.old m × IsIdle m }
-    ensures row { (board : Board) (fuel n : ℕ) → IsAt M.stands_for board catalog.now fuel n pei.old queue.old told.old
-        → IsIdle (pei_after board catalog.now fuel n)
-        → IfOk result (TurnsTo M.stands_for board catalog.now fuel n pei.new queue.new told.new) }
+    ensures row { IfOk result (TurnsIdle (C.peims choice.now) (C.lets_in_pei choice.now) M.stands_for catalog.now
+        pei.old queue.old told.old pei.new queue.new told.new) }
     ensures made { (fuel : ℕ) → IsFor catalog.now fuel pei.old → IsFor catalog.now fuel pei.new }
 {
+    cursor_aims();
+    pei_opens();
+    pei_starts_freely();
+    let starts = u64::from(pei.starts());
+    aim(queue, choice.peim(&Nowhere, starts));
     match choose(pei, queue, catalog, steps) {
         Some(number) => {
-            tell_start(told, pei, catalog, number)?;
-            // What is put goes nowhere, which never fails.
-            match start(pei, queue, catalog, number, &mut Nowhere) {
-                Ok(()) => Ok(None),
-                Err(_) => Err(OutOfMemory),
+            if !choice.lets_peim(starts, number) {
+                return Ok(Some(Reached::Barred(number)));
             }
+            start_told(pei, queue, catalog, told, number)?;
+            Ok(None)
         }
+        // What is put goes nowhere, which never fails.
         None => match stop_pei(pei, queue, catalog, &mut Nowhere) {
-            Ok(end) => Ok(Some(end)),
+            Ok(end) => Ok(Some(Reached::End(end))),
             Err(_) => Err(OutOfMemory),
         },
     }
@@ -145,24 +171,27 @@ fn tell_step<M: PeiStore + Drop>(
     tell_event(&mut told.givers, pei, event, actor)
 }
 
-/// A step of the run of PEI, and what it tells: the core takes one, or where it has none left the next PEIM starts, or PEI stops.
-pub(crate) fn turn<M: PeiStore + Drop, L: Ledger>(
+/// A step of the run of PEI by a choice, and what it tells: the core takes one, or where it has none left the next PEIM starts, if the choice lets it, or PEI stops.
+pub(crate) fn turn<M: PeiStore + Drop, C: Choice<Nowhere>, L: Ledger>(
     pei: &mut Pei<M>,
     queue: &mut PeiQueue,
+    choice: &C,
     catalog: &Catalog,
     told: &mut PeiTold,
     steps: &mut Steps<L>,
-) -> Result<Option<PeiEnd>, OutOfMemory>
+) -> Result<Option<Reached<PeiEnd>>, OutOfMemory>
     requires catalog { IsWellFormed catalog.now }
     requires made { (fuel : ℕ) × IsFor catalog.now fuel pei.old }
     requires state { (m : PeiMachine) × IsNow M.stands_for catalog.now pei.old queue.old m }
-    ensures row { (board : Board) (fuel n : ℕ) → IsFor catalog.now fuel pei.old
-        → IsAt M.stands_for board catalog.now fuel n pei.old queue.old told.old
-        → IfOk result (TurnsTo M.stands_for board catalog.now fuel n pei.new queue.new told.new) }
+    ensures row { IfOk result (Turns (C.peims choice.now) (C.lets_in_pei choice.now) M.stands_for catalog.now
+        pei.old queue.old told.old pei.new queue.new told.new) }
     ensures made { (fuel : ℕ) → IsFor catalog.now fuel pei.old → IsFor catalog.now fuel pei.new }
 {
     guids_change();
     guids_are_these();
+    cursor_aims();
+    pei_opens();
+    pei_starts_freely();
     let actor = actor(pei.running());
     let from = unmoved_base(pei.store());
     // What is put goes nowhere, which never fails.
@@ -171,8 +200,8 @@ pub(crate) fn turn<M: PeiStore + Drop, L: Ledger>(
             tell_step(told, pei, &event, actor, from)?;
             Ok(None)
         }
-        Ok(Progress::Idle) => start_or_stop(pei, queue, catalog, told, steps),
-        Ok(Progress::Ended(end)) => Ok(Some(end)),
+        Ok(Progress::Idle) => start_or_stop(pei, queue, choice, catalog, told, steps),
+        Ok(Progress::Ended(end)) => Ok(Some(Reached::End(end))),
         Err(_) => Err(OutOfMemory),
     }
 }

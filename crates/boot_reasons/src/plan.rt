@@ -3,35 +3,58 @@ ghost use Rattle.std.specs.Prelude.{◌≡◌, ◌≤◌, [], IfOk, length};
 ghost use Rattle.boot_model.specs.PlanBoard.{board_of};
 ghost use Rattle.catalog_model.specs.WellFormed.{IsWellFormed};
 ghost use Rattle.store_model.specs.StateFacts.{IsBoard};
-ghost use Rattle.boot_reasons.specs.Explained.{IsExplained};
+ghost use Rattle.boot_reasons.specs.Explained.{ExplainsTo, IsExplained};
+ghost use Rattle.boot_reasons.specs.Unseen.{choices_of};
 
-use crate::explain::explain_boot;
+use crate::explain::explain_by;
+use crate::nowhere::Nowhere;
 use crate::reasons::Explained;
 use boot_plan::Plan;
 use catalog_model::Catalog;
+use free_laws::{Choice, FirstEligible, Reached};
 use mem_store::MemStore;
 use phys_mem::Rom;
 use pi_base::{OutOfMemory, Seq};
 use std::alloc::Global;
 use whole_boot::roms;
 
-// The boot of a plan whose volumes are mapped so.
-fn explain_over(
+// The boot of a plan by a choice, whose volumes are mapped so.
+fn explain_over<C: Choice<Nowhere>>(
     alloc: Global,
     plan: &Plan,
     catalog: &Catalog,
     roms: Seq<Rom>,
-) -> Result<Explained, OutOfMemory>
+    choice: &C,
+) -> Result<Reached<Explained>, OutOfMemory>
     requires board { IsBoard (record (board_of plan.now catalog.now []) { roms = roms }) }
     requires catalog { IsWellFormed catalog.now }
     requires some { 1 ≤ length catalog.now.volumes }
-    ensures { IfOk result (IsExplained (record (board_of plan.now catalog.now []) { roms = roms }) catalog.now plan.now.fuel) }
+    ensures { IfOk result (ExplainsTo (choices_of (C.peims choice.now) (C.lets_in_pei choice.now) (C.drivers choice.now) (C.lets_in_dxe choice.now))
+        (record (board_of plan.now catalog.now []) { roms = roms }) catalog.now plan.now.fuel) }
 {
     let store = MemStore::new(alloc, plan.temp, plan.pages, plan.ram, roms)?;
-    explain_boot(alloc, store, catalog, plan.fuel)
+    explain_by(alloc, store, catalog, plan.fuel, choice)
 }
 
-/// Explains the boot of a plan over the catalogue of its images. No image is copied.
+/// Explains the boot of a plan by a choice, over the catalogue of its images, or tells before which start it is left. No image is copied.
+pub fn explain_plan_by<C: Choice<Nowhere>>(
+    alloc: Global,
+    plan: &Plan,
+    catalog: &Catalog,
+    images: Seq<Seq<u8>>,
+    choice: &C,
+) -> Result<Reached<Explained>, OutOfMemory>
+    requires board { IsBoard (board_of plan.now catalog.now images) }
+    requires catalog { IsWellFormed catalog.now }
+    requires some { 1 ≤ length catalog.now.volumes }
+    ensures { IfOk result (ExplainsTo (choices_of (C.peims choice.now) (C.lets_in_pei choice.now) (C.drivers choice.now) (C.lets_in_dxe choice.now))
+        (board_of plan.now catalog.now images) catalog.now plan.now.fuel) }
+{
+    let roms = roms(alloc, catalog.volumes.as_slice(), images)?;
+    explain_over(alloc, plan, catalog, roms, choice)
+}
+
+/// Explains the boot of a plan where the first module that may start does, over the catalogue of its images. No image is copied.
 pub fn explain_plan(
     alloc: Global,
     plan: &Plan,
@@ -43,6 +66,8 @@ pub fn explain_plan(
     requires some { 1 ≤ length catalog.now.volumes }
     ensures { IfOk result (IsExplained (board_of plan.now catalog.now images) catalog.now plan.now.fuel) }
 {
-    let roms = roms(alloc, catalog.volumes.as_slice(), images)?;
-    explain_over(alloc, plan, catalog, roms)
+    match explain_plan_by(alloc, plan, catalog, images, &FirstEligible)? {
+        Reached::End(explained) => Ok(explained),
+        Reached::Barred(_) => unreachable!(),
+    }
 }

@@ -4,7 +4,8 @@ ghost use Rattle.hex.specs.Hex.{encode_lower};
 ghost use Rattle.boot_io.specs.Line.{line_of};
 ghost use Rattle.boot_io.specs.Sink.{Puts, SinkFaultsAfter};
 ghost use Rattle.store_model.specs.Service.{Present, OfEach};
-ghost use Rattle.boot_model.specs.Text.{bytes_text, hob_text};
+ghost use Rattle.boot_model.specs.declared.line.Line.TheVariants as L;
+ghost use Rattle.boot_model.specs.Text.{bytes_text, line_text};
 ghost use Rattle.boot_trace.specs.HeapParts.{IsHeapPart, heap_part};
 
 use crate::hob_line::{PIECE_LEN, put_front, put_piece};
@@ -110,7 +111,7 @@ pub(crate) fn put_heap_line<S: Sink, M: PeiStore>(
 ) -> Result<(), SinkFault>
     requires state { Present (M.stands_for store.now) (IsHeapPart at len) }
     ensures text { OfEach (M.stands_for store.now) (IsHeapPart at len)
-        (λ s. Puts result (S.text sink.old) (S.text sink.new) (hob_text kind (heap_part s at len))) }
+        (λ s. Puts result (S.text sink.old) (S.text sink.new) (line_text (L.Hob kind (heap_part s at len)))) }
     ensures cause { SinkFaultsAfter result (S.faults sink.old) (S.faults sink.new) }
 {
     put_heap_hob(sink, store, b"hob", kind, at, len)

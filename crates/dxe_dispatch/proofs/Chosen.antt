@@ -7,7 +7,6 @@ use Rattle.catalog_model.specs.Parts.{part_of}
 use Rattle.catalog_model.specs.WellFormed.{IsWellFormed}
 use Rattle.pi_base.specs.declared.phase.Phase.TheVariants.{Dxe}
 use Rattle.store_model.specs.StoreState.{StoreState}
-use Rattle.boot_model.specs.declared.phase_end.DxeEnd.{DxeEnd}
 use Rattle.boot_model.specs.DxeMachine.{DxeMachine}
 use Rattle.boot_model.specs.DxeStep.{dxe_step}
 use Rattle.boot_laws.specs.UnrequestedDrivers.{WaitForRequest}
@@ -21,7 +20,7 @@ use Rattle.dxe_core.specs.Standing.{DxeCore}
 use Rattle.free_laws.specs.DxeAim.{FirstEligibleMayStart, GroupsAreAimed, aimed}
 use Rattle.free_laws.specs.DxeFree.{OwnDxeStepsAreFree}
 use Rattle.free_laws.specs.DxeUnderWay.{DxeStepsRunOut, IsDriverOf, IsNearerEnd, IsUnderWay}
-use Rattle.free_laws.specs.declared.choice.Reached.{Reached}
+use Rattle.dxe_dispatch.specs.declared.answer.Turn.{Turn}
 use Rattle.dxe_dispatch.specs.Choices.{Asks, IsAimedBy, IsOnWay, TurnsBy, aimed_at}
 use Rattle.dxe_dispatch.specs.Ends.{IsNow}
 use Rattle.dxe_dispatch.specs.Turns.{AreOf, IsLeft, IsReady, IsWithin, TurnsTo}
@@ -124,8 +123,8 @@ has_aimed laws Names stands store catalog fuel core kept aim m target well on by
     record { target = target; aimed = by; is = is; ready = target_ready laws stands store catalog fuel core kept aim m target well on is queue }
 
 -- the turn that the machine took from there
-pub turned_by : {M : Type 0} (Names : DxeMachine → Option ℕ → Type 0) (Lets : DxeMachine → ℕ → Bool) (stands : M → StoreState → Type 0) (store : M) (catalog : Catalog) (fuel : ℕ) (core later : DxeCore) (aim grown : Queue) (m : DxeMachine) (t : Texts) (before now : ℕ) (result : Result (Option (Reached DxeEnd)) Halt)
-    → (has : HasAimed Names stands store catalog fuel core aim m) → TurnsTo (Lets has.target) (IsNow stands store catalog later grown) (IsLeft stands store catalog later grown) catalog has.target (dxe_step catalog fuel has.target) t result
+pub turned_by : {M : Type 0} (Names : DxeMachine → Option ℕ → Type 0) (Lets : DxeMachine → ℕ → Bool) (stands : M → StoreState → Type 0) (store : M) (catalog : Catalog) (fuel : ℕ) (core later : DxeCore) (aim grown : Queue) (m : DxeMachine) (t : Texts) (before now : ℕ) (result : Result Turn Halt)
+    → (has : HasAimed Names stands store catalog fuel core aim m) → TurnsTo (Lets has.target) (IsNow stands store catalog later grown) (IsLeft stands store catalog later grown) catalog fuel has.target (dxe_step catalog fuel has.target) t result
     → OnOk result (IsWithin catalog fuel has.target before now) → TurnsBy Names Lets (IsNow stands store catalog later grown) (IsLeft stands store catalog later grown) catalog fuel m t before now result
 turned_by Names Lets stands store catalog fuel core later aim grown m t before now result has turned few = record { target = has.target; aimed = has.aimed; turned = turned; few = few }
 

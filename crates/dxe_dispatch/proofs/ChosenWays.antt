@@ -31,6 +31,8 @@ use Rattle.free_laws.specs.DxeAim.{FirstEligibleMayStart}
 use Rattle.free_laws.specs.Naming.{HasPut}
 use Rattle.dxe_dispatch.specs.Choices.{BarsBy, EndsBy, EvaluatesFewBy, IsOnWay, IsRunBy, RunsBy, StopsShort, TurnsBy, came, changes_of}
 use Rattle.dxe_dispatch.specs.Ends.{IsNow}
+use Rattle.dxe_dispatch.specs.declared.answer.Step.{Step}
+use Rattle.dxe_dispatch.specs.declared.answer.Turn.TheVariants as T
 use Rattle.dxe_dispatch.specs.Turns.{IsGivenUp, IsLeft, IsWithin}
 use Rattle.dxe_dispatch.proofs.Chosen.{Any, StepLaws, TakesFew, few_by, few_started, nearer_by, same_discovered, same_lines, target_at, waits_behind}
 use Rattle.dxe_dispatch.proofs.Targets.{left_before}
@@ -80,11 +82,11 @@ few_on catalog fuel opening earlier target before evaluated now same few within 
 
 -- one turn more
 pub coming_on : {M S : Type 0} (laws : StepLaws) (Names : DxeMachine → Option ℕ → Type 0) (Lets : DxeMachine → ℕ → Bool) (text : S → Option (List ℕ)) (faults : S → ℕ) (stands : M → StoreState → Type 0) (store : M) (catalog : Catalog) (fuel : ℕ)
-    (opening : DxeMachine) (first : S) (turns : ℕ) (core later : DxeCore) (kept grown : Queue) (sink shown : S) (before evaluated now : ℕ) → IsWellFormed catalog
+    (opening : DxeMachine) (first : S) (turns : ℕ) (core later : DxeCore) (kept grown : Queue) (sink shown : S) (before evaluated now : ℕ) (step : Step) → IsWellFormed catalog
     → (way : IsComing Names Lets text faults stands store catalog fuel opening first turns core kept sink before evaluated)
-    → TurnsBy Names Lets (IsNow stands store catalog later grown) (IsLeft stands store catalog later grown) catalog fuel (came catalog fuel opening way.earlier) (record { old = text sink; new = text shown }) evaluated now (Ok None) → faults shown ≡ faults sink
+    → TurnsBy Names Lets (IsNow stands store catalog later grown) (IsLeft stands store catalog later grown) catalog fuel (came catalog fuel opening way.earlier) (record { old = text sink; new = text shown }) evaluated now (Ok (T.Took step)) → faults shown ≡ faults sink
     → IsComing Names Lets text faults stands store catalog fuel opening first (turns + 1) later grown shown before now
-coming_on laws Names Lets text faults stands store catalog fuel opening first turns core later kept grown sink shown before evaluated now well way by same =
+coming_on laws Names Lets text faults stands store catalog fuel opening first turns core later kept grown sink shown before evaluated now step well way by same =
     let m = came catalog fuel opening way.earlier in
     let next = dxe_step catalog fuel by.target in
     let going = way.on.now.machine.core.running in
@@ -94,10 +96,10 @@ coming_on laws Names Lets text faults stands store catalog fuel opening first tu
     let left = way.left in
     record {
       earlier = by.target ∷ way.earlier;
-      run = (by.aimed, by.turned.passes, going, way.run);
-      on = record { now = by.turned.now; way = near.way; waits = waits_behind laws.groups catalog fuel m by.target Any well way.on.way way.on.waits is };
+      run = (by.aimed, by.turned.0.passes, going, way.run);
+      on = record { now = by.turned.0.now; way = near.way; waits = waits_behind laws.groups catalog fuel m by.target Any well way.on.way way.on.waits is };
       has = record {
-        put = text_more m next by.turned.printed.told (text first) (text sink) (text shown) (from_target m by.target next by.turned.printed.told (same_lines catalog m by.target Any is) by.turned.printed.lines) way.has.put by.turned.printed.text;
+        put = text_more m next by.turned.0.printed.told (text first) (text sink) (text shown) (from_target m by.target next by.turned.0.printed.told (same_lines catalog m by.target Any is) by.turned.0.printed.lines) way.has.put by.turned.0.printed.text;
         right = same ∙ way.has.right;
       };
       few = λ most bound few. few_by catalog fuel m by.target Any is most bound (way.few most bound few);
@@ -109,7 +111,7 @@ coming_on laws Names Lets text faults stands store catalog fuel opening first tu
 coming_over : {M S : Type 0} (first_law : FirstEligibleMayStart) (Names : DxeMachine → Option ℕ → Type 0) (Lets : DxeMachine → ℕ → Bool) (text : S → Option (List ℕ)) (faults : S → ℕ) (stands : M → StoreState → Type 0) (store : M) (catalog : Catalog) (fuel : ℕ)
     (opening : DxeMachine) (first : S) (turns : ℕ) (core later : DxeCore) (kept grown : Queue) (sink shown : S) (before evaluated now : ℕ) (how : DxeEnd)
     → (way : IsComing Names Lets text faults stands store catalog fuel opening first turns core kept sink before evaluated)
-    → TurnsBy Names Lets (IsNow stands store catalog later grown) (IsLeft stands store catalog later grown) catalog fuel (came catalog fuel opening way.earlier) (record { old = text sink; new = text shown }) evaluated now (Ok (Some (R.End how)))
+    → TurnsBy Names Lets (IsNow stands store catalog later grown) (IsLeft stands store catalog later grown) catalog fuel (came catalog fuel opening way.earlier) (record { old = text sink; new = text shown }) evaluated now (Ok (T.Reached (R.End how)))
     → EndsBy Names Lets stands store catalog fuel opening later grown how (text first) (text shown)
 coming_over first_law Names Lets text faults stands store catalog fuel opening first turns core later kept grown sink shown before evaluated now how way over =
     let m = came catalog fuel opening way.earlier in
@@ -131,7 +133,7 @@ coming_over first_law Names Lets text faults stands store catalog fuel opening f
 coming_bars : {M S : Type 0} (first_law : FirstEligibleMayStart) (Names : DxeMachine → Option ℕ → Type 0) (Lets : DxeMachine → ℕ → Bool) (text : S → Option (List ℕ)) (faults : S → ℕ) (stands : M → StoreState → Type 0) (store : M) (catalog : Catalog) (fuel : ℕ)
     (opening : DxeMachine) (first : S) (turns : ℕ) (core later : DxeCore) (kept grown : Queue) (sink shown : S) (before evaluated now : ℕ) (number : ℕ)
     → (way : IsComing Names Lets text faults stands store catalog fuel opening first turns core kept sink before evaluated)
-    → TurnsBy Names Lets (IsNow stands store catalog later grown) (IsLeft stands store catalog later grown) catalog fuel (came catalog fuel opening way.earlier) (record { old = text sink; new = text shown }) evaluated now (Ok (Some (R.Barred number)))
+    → TurnsBy Names Lets (IsNow stands store catalog later grown) (IsLeft stands store catalog later grown) catalog fuel (came catalog fuel opening way.earlier) (record { old = text sink; new = text shown }) evaluated now (Ok (T.Reached (R.Barred number)))
     → BarsBy Names Lets stands store catalog fuel opening later grown number (text first) (text shown)
 coming_bars first_law Names Lets text faults stands store catalog fuel opening first turns core later kept grown sink shown before evaluated now number way held =
     let m = came catalog fuel opening way.earlier in
@@ -153,7 +155,7 @@ coming_bars first_law Names Lets text faults stands store catalog fuel opening f
 pub coming_to : {M S : Type 0} (first_law : FirstEligibleMayStart) (Names : DxeMachine → Option ℕ → Type 0) (Lets : DxeMachine → ℕ → Bool) (text : S → Option (List ℕ)) (faults : S → ℕ) (stands : M → StoreState → Type 0) (store : M) (catalog : Catalog) (fuel : ℕ)
     (opening : DxeMachine) (first : S) (turns : ℕ) (core later : DxeCore) (kept grown : Queue) (sink shown : S) (before evaluated now : ℕ) (reached : Reached DxeEnd)
     → (way : IsComing Names Lets text faults stands store catalog fuel opening first turns core kept sink before evaluated)
-    → TurnsBy Names Lets (IsNow stands store catalog later grown) (IsLeft stands store catalog later grown) catalog fuel (came catalog fuel opening way.earlier) (record { old = text sink; new = text shown }) evaluated now (Ok (Some reached))
+    → TurnsBy Names Lets (IsNow stands store catalog later grown) (IsLeft stands store catalog later grown) catalog fuel (came catalog fuel opening way.earlier) (record { old = text sink; new = text shown }) evaluated now (Ok (T.Reached reached))
     → RunsBy Names Lets stands store catalog fuel opening later grown (text first) (text shown) (Ok reached)
 coming_to first_law Names Lets text faults stands store catalog fuel opening first turns core later kept grown sink shown before evaluated now (R.End how) way over =
     coming_over first_law Names Lets text faults stands store catalog fuel opening first turns core later kept grown sink shown before evaluated now how way over
@@ -164,7 +166,7 @@ coming_to first_law Names Lets text faults stands store catalog fuel opening fir
 pub few_over : {M S : Type 0} (laws : StepLaws) (Names : DxeMachine → Option ℕ → Type 0) (Lets : DxeMachine → ℕ → Bool) (text : S → Option (List ℕ)) (faults : S → ℕ) (stands : M → StoreState → Type 0) (store : M) (catalog : Catalog) (fuel : ℕ)
     (opening : DxeMachine) (first : S) (turns : ℕ) (opened core later : DxeCore) (kept grown : Queue) (sink shown : S) (before evaluated now most : ℕ) (reached : Reached DxeEnd) → fuel < most → opened.fuel.taken < most
     → IsCoreOf catalog opened opening → IsFor catalog fuel later → (way : IsComing Names Lets text faults stands store catalog fuel opening first turns core kept sink before evaluated)
-    → TurnsBy Names Lets (IsNow stands store catalog later grown) (IsLeft stands store catalog later grown) catalog fuel (came catalog fuel opening way.earlier) (record { old = text sink; new = text shown }) evaluated now (Ok (Some reached))
+    → TurnsBy Names Lets (IsNow stands store catalog later grown) (IsLeft stands store catalog later grown) catalog fuel (came catalog fuel opening way.earlier) (record { old = text sink; new = text shown }) evaluated now (Ok (T.Reached reached))
     → length later.services.handles.interfaces < most
 few_over laws Names Lets text faults stands store catalog fuel opening first turns opened core later kept grown sink shown before evaluated now most (R.End how) bound few opens made way over =
     let m = came catalog fuel opening way.earlier in
@@ -190,7 +192,7 @@ few_over laws Names Lets text faults stands store catalog fuel opening first tur
 pub few_left : {M S : Type 0} (laws : StepLaws) (Names : DxeMachine → Option ℕ → Type 0) (Lets : DxeMachine → ℕ → Bool) (text : S → Option (List ℕ)) (faults : S → ℕ) (stands : M → StoreState → Type 0) (store : M) (catalog : Catalog) (fuel : ℕ)
     (opening : DxeMachine) (first : S) (turns : ℕ) (core later : DxeCore) (kept grown : Queue) (sink shown : S) (before evaluated now : ℕ) (reached : Reached DxeEnd) → IsWellFormed catalog
     → (way : IsComing Names Lets text faults stands store catalog fuel opening first turns core kept sink before evaluated)
-    → TurnsBy Names Lets (IsNow stands store catalog later grown) (IsLeft stands store catalog later grown) catalog fuel (came catalog fuel opening way.earlier) (record { old = text sink; new = text shown }) evaluated now (Ok (Some reached))
+    → TurnsBy Names Lets (IsNow stands store catalog later grown) (IsLeft stands store catalog later grown) catalog fuel (came catalog fuel opening way.earlier) (record { old = text sink; new = text shown }) evaluated now (Ok (T.Reached reached))
     → grown.left ≤ length catalog.modules + 1
 few_left laws Names Lets text faults stands store catalog fuel opening first turns core later kept grown sink shown before evaluated now (R.End how) well way over =
     let m = came catalog fuel opening way.earlier in

@@ -7,7 +7,7 @@ use Rattle.boot_model.specs.DxeMachine.{DxeMachine}
 use Rattle.boot_model.specs.DxeStep.{DxeStarts, DxeStops}
 use Rattle.boot_laws.proofs.DxeCases.{starts_from}
 use Rattle.dxe_core.specs.Steps.{IsIdle}
-use Rattle.dxe_dispatch.specs.Turns.{IsStarting, PassesStart}
+use Rattle.dxe_dispatch.specs.Turns.{IsStarting, PassesStart, StartsNone}
 use Rattle.dxe_dispatch.proofs.Idle.{case_starts, case_stops}
 
 -- the driver that comes next is the one that starts
@@ -27,9 +27,15 @@ passes lets catalog m next rest idle found may number s =
     ap lets (s.is ∙ ap (λ (x : Scheduled). x.module_number) same) ∙ may
 
 -- none starts at the stop
-pub stop_passes : (lets : ℕ → Bool) (catalog : Catalog) (m : DxeMachine) → IsIdle m → next_driver catalog m ≡ None → PassesStart lets catalog m
-stop_passes lets catalog m idle none number s = absurd (no_start s.next s.queue (sym s.starts ∙ case_stops catalog m idle none))
+pub stop_starts_none : (catalog : Catalog) (m : DxeMachine) → IsIdle m → next_driver catalog m ≡ None → StartsNone catalog m
+stop_starts_none catalog m idle none number s = no_start s.next s.queue (sym s.starts ∙ case_stops catalog m idle none)
 
 -- nor where a script runs
+pub busy_starts_none : (catalog : Catalog) (m : DxeMachine) → (IsIdle m → ⊥) → StartsNone catalog m
+busy_starts_none catalog m busy number s = busy (starts_from catalog m m.frames s.next s.queue s.starts).0
+
+pub stop_passes : (lets : ℕ → Bool) (catalog : Catalog) (m : DxeMachine) → IsIdle m → next_driver catalog m ≡ None → PassesStart lets catalog m
+stop_passes lets catalog m idle none number s = absurd (stop_starts_none catalog m idle none number s)
+
 pub busy_passes : (lets : ℕ → Bool) (catalog : Catalog) (m : DxeMachine) → (IsIdle m → ⊥) → PassesStart lets catalog m
-busy_passes lets catalog m busy number s = absurd (busy (starts_from catalog m m.frames s.next s.queue s.starts).0)
+busy_passes lets catalog m busy number s = absurd (busy_starts_none catalog m busy number s)

@@ -31,13 +31,14 @@ use Rattle.dxe_core.specs.Standing.{DxeCore, StandsFor}
 use Rattle.dxe_core.specs.Steps.{IsIdle, IsEvent, HasOver, HasStepped, HasEnded}
 use Rattle.dxe_core.specs.Turn.{Printed, PrintedPart}
 use Rattle.boot_trace.specs.Printing.{Texts}
-use Rattle.free_laws.specs.declared.choice.Reached.{Reached}
 use Rattle.free_laws.specs.declared.choice.Reached.TheVariants as R
+use Rattle.dxe_dispatch.specs.declared.answer.Turn.{Turn}
+use Rattle.dxe_dispatch.specs.declared.answer.Turn.TheVariants.{Took, Reached}
 use Rattle.dxe_dispatch.specs.Ends.{IsNow}
 use Rattle.dxe_dispatch.specs.Events.{HasEvent}
 use Rattle.dxe_dispatch.specs.Turns.{AreLeft, AreOf, HasTurned, IsGivenUp, IsHeldBack, IsLeft, IsOver, IsWithin, TurnsTo, stop_lines}
 use Rattle.dxe_dispatch.proofs.Idle.{left_queue, step_starts, step_stops, started_queue}
-use Rattle.dxe_dispatch.proofs.Passing.{busy_passes, passes, starting, stop_passes}
+use Rattle.dxe_dispatch.proofs.Passing.{busy_passes, busy_starts_none, passes, starting, stop_passes, stop_starts_none}
 use Rattle.boot_trace.proofs.Lines.{part_whole}
 use Rattle.dxe_dispatch.proofs.Runs.{discovered_more}
 use Rattle.dxe_dispatch.proofs.Standing.{now_still}
@@ -74,6 +75,8 @@ stops_so lets catalog fuel core queue grown m t idle are none put =
     let index = none.1.index in
     let over : P (dxe_stopped catalog m) = record {
       passes = stop_passes lets catalog m idle none.0;
+      none = stop_starts_none catalog m idle none.0;
+      handles = refl;
       ended = refl;
       printed = record { told = stop_lines catalog m; lines = refl; text = put };
       now = record {
@@ -165,6 +168,8 @@ ends_so lets stands store catalog fuel later queue m end t busy ended was =
     let P : DxeMachine → Type 0 = λ x. IsOver lets (IsNow stands store catalog later queue) catalog m x end t in
     let over : P (record m { ended = Some end }) = record {
       passes = busy_passes lets catalog m busy;
+      none = busy_starts_none catalog m busy;
+      handles = refl;
       ended = refl;
       printed = record { told = []; lines = sym (append-nil m.lines); text = ended.stayed.text };
       now = now_still stands store catalog later queue m m.lines (record { machine = ended.stayed.machine; queue = was });
@@ -181,21 +186,21 @@ left_over : {M : Type 0} (stands : M → StoreState → Type 0) (store : M) (cat
 left_over stands store catalog core queue m here are = record { machine = record { store = here; core = are.core }; left = are.left }
 
 -- a start or the stop leaves the store
-pub turns_over : {M : Type 0} (lets : ℕ → Bool) (stands : M → StoreState → Type 0) (store : M) (catalog : Catalog) (fuel : ℕ) (m : DxeMachine) (later : DxeCore) (queue : Queue) (t : Texts) (r : Result (Option (Reached DxeEnd)) Halt)
-    → stands store m.store → TurnsTo lets (AreOf catalog later queue) (AreLeft catalog later queue) catalog m (dxe_step catalog fuel m) t r
-    → TurnsTo lets (IsNow stands store catalog later queue) (IsLeft stands store catalog later queue) catalog m (dxe_step catalog fuel m) t r
-turns_over lets stands store catalog fuel m later queue t (Ok None) here turned = record {
-  passes = turned.passes;
-  printed = turned.printed;
-  now = now_over stands store catalog later queue m (dxe_step catalog fuel m) here (driver_steps_grow catalog fuel m).store turned.now;
-}
-turns_over lets stands store catalog fuel m later queue t (Ok (Some (R.End how))) here over = record {
+pub turns_over : {M : Type 0} (lets : ℕ → Bool) (stands : M → StoreState → Type 0) (store : M) (catalog : Catalog) (fuel : ℕ) (m : DxeMachine) (later : DxeCore) (queue : Queue) (t : Texts) (r : Result Turn Halt)
+    → stands store m.store → TurnsTo lets (AreOf catalog later queue) (AreLeft catalog later queue) catalog fuel m (dxe_step catalog fuel m) t r
+    → TurnsTo lets (IsNow stands store catalog later queue) (IsLeft stands store catalog later queue) catalog fuel m (dxe_step catalog fuel m) t r
+turns_over lets stands store catalog fuel m later queue t (Ok (Took step)) here turned =
+    let now = now_over stands store catalog later queue m (dxe_step catalog fuel m) here (driver_steps_grow catalog fuel m).store turned.0.now in
+    (record { passes = turned.0.passes; printed = turned.0.printed; now = now }, turned.1)
+turns_over lets stands store catalog fuel m later queue t (Ok (Reached (R.End how))) here over = record {
   passes = over.passes;
+  none = over.none;
+  handles = over.handles;
   ended = over.ended;
   printed = over.printed;
   now = now_over stands store catalog later queue m (record (dxe_step catalog fuel m) { ended = None }) here (driver_steps_grow catalog fuel m).store over.now;
 }
-turns_over lets stands store catalog fuel m later queue t (Ok (Some (R.Barred number))) here held = record {
+turns_over lets stands store catalog fuel m later queue t (Ok (Reached (R.Barred number))) here held = record {
   starting = held.starting;
   barred = held.barred;
   text = held.text;

@@ -24,6 +24,7 @@ use Rattle.free_laws.specs.Naming.{HasPut, MayName}
 use Rattle.dxe_choice.specs.Aim.{aimed}
 use Rattle.dxe_choice.specs.Queue.{IsQueueOf, Queue}
 use Rattle.dxe_core.specs.Standing.{DxeCore, IsFor, StandsFor}
+use Rattle.dxe_dispatch.specs.declared.answer.Turn.{Turn}
 use Rattle.dxe_dispatch.specs.declared.boot.Barred.{Barred}
 use Rattle.dxe_dispatch.specs.declared.boot.Ended.{Ended}
 use Rattle.dxe_dispatch.specs.declared.boot.Left.{Left}
@@ -90,16 +91,16 @@ Asks names catalog core queue named = (m : DxeMachine) → AreOf catalog core qu
 
 -- a turn by choices, by its answer: a step from a machine at which the choice is aimed, if a driver that starts is let; with the expressions that were evaluated or have to be, before and now
 pub record TurnsBy (Names : DxeMachine → Option ℕ → Type 0) (Lets : DxeMachine → ℕ → Bool) (Now Left : DxeMachine → Type 0) (catalog : Catalog) (fuel : ℕ)
-    (m : DxeMachine) (t : Texts) (before now : ℕ) (result : Result (Option (Reached DxeEnd)) Halt) : Type 0 where
+    (m : DxeMachine) (t : Texts) (before now : ℕ) (result : Result Turn Halt) : Type 0 where
   pub target : DxeMachine
   pub aimed : IsAimedBy Names catalog m target
-  pub turned : TurnsTo (Lets target) Now Left catalog target (dxe_step catalog fuel target) t result
+  pub turned : TurnsTo (Lets target) Now Left catalog fuel target (dxe_step catalog fuel target) t result
   pub few : OnOk result (IsWithin catalog fuel target before now)
 
 -- from each machine on its way whose lines were put
 abbrev pub TurnsByChoice : {M S : Type 0} → (S → ℕ → Option ℕ → Type 0) → (ℕ → ℕ → Bool) → (S → Option (List ℕ)) → (S → ℕ) → ℕ
     → (M → StoreState → Type 0) → M → Catalog
-    → DxeCore → Queue → S → DxeCore → Queue → S → ℕ → ℕ → Result (Option (Reached DxeEnd)) Halt → Type 0
+    → DxeCore → Queue → S → DxeCore → Queue → S → ℕ → ℕ → Result Turn Halt → Type 0
 TurnsByChoice {S = S} names lets text faults in_pei stands store catalog core queue sink later grown shown before now result =
     (m : DxeMachine) (fuel : ℕ) (first : S) → IsFor catalog fuel core → IsOnWay stands store catalog core queue m
     → HasPut text faults first m.lines sink

@@ -21,11 +21,14 @@ use Rattle.boot_model.specs.Text.{text_of}
 use Rattle.boot_laws.specs.UnrequestedDrivers.{WaitForRequest}
 use Rattle.dxe_choice.specs.Queue.{Queue, IsQueueOf, ComesNext}
 use Rattle.dxe_core.specs.Standing.{DxeCore, IsCoreOf, IsFor, StandsFor}
-use Rattle.dxe_core.specs.Steps.{IsIdle}
+use Rattle.dxe_core.specs.Steps.{IsEvent, IsIdle}
 use Rattle.dxe_core.specs.Turn.{Printed, PrintedPart}
 use Rattle.boot_trace.specs.Printing.{Texts}
-use Rattle.free_laws.specs.declared.choice.Reached.{Reached}
 use Rattle.free_laws.specs.declared.choice.Reached.TheVariants as R
+use Rattle.dxe_dispatch.specs.declared.answer.Step.{Step}
+use Rattle.dxe_dispatch.specs.declared.answer.Step.TheVariants.{Acted, Started}
+use Rattle.dxe_dispatch.specs.declared.answer.Turn.{Turn}
+use Rattle.dxe_dispatch.specs.declared.answer.Turn.TheVariants.{Took, Reached}
 use Rattle.dxe_dispatch.specs.Ends.{IsNow}
 
 -- the core and the queue stand for a machine, whatever its store
@@ -49,15 +52,26 @@ pub record IsStarting (catalog : Catalog) (m : DxeMachine) (number : ℕ) : Type
 abbrev pub PassesStart : (ℕ → Bool) → Catalog → DxeMachine → Type 0
 PassesStart lets catalog m = (number : ℕ) → IsStarting catalog m number → lets number ≡ true
 
+-- it starts none
+abbrev pub StartsNone : Catalog → DxeMachine → Type 0
+StartsNone catalog m = (number : ℕ) → IsStarting catalog m number → ⊥
+
+-- what the step was: an event of the core, by itself, or the start of a driver
+abbrev pub IsStep : Catalog → ℕ → DxeMachine → Step → Type 0
+IsStep catalog fuel m (Acted event) = IsEvent catalog fuel m event × StartsNone catalog m
+IsStep catalog fuel m (Started next) = (queue : List Scheduled) × (dxe_case_of catalog m ≡ DxeStarts next queue)
+
 -- the machine goes on as the later one, for which all stands now, and its lines were put
 pub record HasTurned (lets : ℕ → Bool) (Now : DxeMachine → Type 0) (catalog : Catalog) (m later : DxeMachine) (t : Texts) : Type 0 where
   pub passes : PassesStart lets catalog m
   pub printed : Printed m later t
   pub now : Now later
 
--- the later machine has ended, all stands for it as it was before it ended, and its lines were put
+-- the later machine has ended, all stands for it as it was before it ended, and its lines were put; no driver started, and the handles are as they were
 pub record IsOver (lets : ℕ → Bool) (Now : DxeMachine → Type 0) (catalog : Catalog) (m end : DxeMachine) (how : DxeEnd) (t : Texts) : Type 0 where
   pub passes : PassesStart lets catalog m
+  pub none : StartsNone catalog m
+  pub handles : end.handles ≡ m.handles
   pub ended : end.ended ≡ Some how
   pub printed : Printed m end t
   pub now : Now (record end { ended = None })
@@ -74,12 +88,12 @@ abbrev pub IsGivenUp : (ℕ → Bool) → Catalog → DxeMachine → DxeMachine 
 IsGivenUp lets catalog m later t = Appends t.old t.new [] ⊎ (PassesStart lets catalog m × PrintedPart m later t)
 
 -- a turn from a machine to the later one, by its answer: what stands for the later one now, and what for the machine where the run is left
-abbrev pub TurnsTo : (ℕ → Bool) → (DxeMachine → Type 0) → (DxeMachine → Type 0) → Catalog → DxeMachine → DxeMachine → Texts
-    → Result (Option (Reached DxeEnd)) Halt → Type 0
-TurnsTo lets Now Left catalog m later t (Ok None) = HasTurned lets Now catalog m later t
-TurnsTo lets Now Left catalog m later t (Ok (Some (R.End how))) = IsOver lets Now catalog m later how t
-TurnsTo lets Now Left catalog m later t (Ok (Some (R.Barred number))) = IsHeldBack lets Left catalog m number t
-TurnsTo lets Now Left catalog m later t (Err halt) = IsGivenUp lets catalog m later t
+abbrev pub TurnsTo : (ℕ → Bool) → (DxeMachine → Type 0) → (DxeMachine → Type 0) → Catalog → ℕ → DxeMachine → DxeMachine → Texts
+    → Result Turn Halt → Type 0
+TurnsTo lets Now Left catalog fuel m later t (Ok (Took step)) = HasTurned lets Now catalog m later t × IsStep catalog fuel m step
+TurnsTo lets Now Left catalog fuel m later t (Ok (Reached (R.End how))) = IsOver lets Now catalog m later how t
+TurnsTo lets Now Left catalog fuel m later t (Ok (Reached (R.Barred number))) = IsHeldBack lets Left catalog m number t
+TurnsTo lets Now Left catalog fuel m later t (Err halt) = IsGivenUp lets catalog m later t
 
 -- the core stands for the machine, and one driver more has left the queue: that which did not start
 pub record AreLeft (catalog : Catalog) (kept : DxeCore) (queued : Queue) (m : DxeMachine) : Type 0 where
@@ -101,18 +115,18 @@ pub record IsReady {M : Type 0} (stands : M → StoreState → Type 0) (beside :
 
 -- a turn from each machine for which the core and the queue stand, and in which drivers wait for their request: a step of it, if a driver that starts is let
 abbrev pub Turns : {M : Type 0} → (ℕ → Bool) → (M → StoreState → Type 0) → M → Catalog
-    → DxeCore → Queue → DxeCore → Queue → Option (List ℕ) → Option (List ℕ) → Result (Option (Reached DxeEnd)) Halt → Type 0
+    → DxeCore → Queue → DxeCore → Queue → Option (List ℕ) → Option (List ℕ) → Result Turn Halt → Type 0
 Turns lets stands store catalog core queue later grown old new result =
     (m : DxeMachine) (fuel : ℕ) → IsFor catalog fuel core → IsReady stands store catalog fuel core queue m
-    → TurnsTo lets (IsNow stands store catalog later grown) (IsLeft stands store catalog later grown) catalog m (dxe_step catalog fuel m)
+    → TurnsTo lets (IsNow stands store catalog later grown) (IsLeft stands store catalog later grown) catalog fuel m (dxe_step catalog fuel m)
     (record { old = old; new = new }) result
 
 -- the same from each one that is idle, whatever the store
 abbrev pub TurnsIdle : (ℕ → Bool) → Catalog
-    → DxeCore → Queue → DxeCore → Queue → Option (List ℕ) → Option (List ℕ) → Result (Option (Reached DxeEnd)) Halt → Type 0
+    → DxeCore → Queue → DxeCore → Queue → Option (List ℕ) → Option (List ℕ) → Result Turn Halt → Type 0
 TurnsIdle lets catalog core queue later grown old new result =
     (m : DxeMachine) (fuel : ℕ) → AreOf catalog core queue m → IsIdle m
-    → TurnsTo lets (AreOf catalog later grown) (AreLeft catalog later grown) catalog m (dxe_step catalog fuel m) (record { old = old; new = new }) result
+    → TurnsTo lets (AreOf catalog later grown) (AreLeft catalog later grown) catalog fuel m (dxe_step catalog fuel m) (record { old = old; new = new }) result
 
 -- no more expressions were evaluated, or have to be, than had to be, those of the drivers that the step discovered, and those that the bound lets for its protocols
 abbrev pub IsWithin : Catalog → ℕ → DxeMachine → ℕ → ℕ → Type 0

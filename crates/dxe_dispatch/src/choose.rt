@@ -14,7 +14,7 @@ use pi_base::OutOfMemory;
 use std::sync::ledger::Ledger;
 
 /// The next driver over what the core keeps, which leaves the queue. None where no driver may start.
-pub fn choose<L: Ledger>(
+pub(crate) fn choose<L: Ledger>(
     dxe: &Dxe,
     queue: &mut DriverQueue,
     catalog: &Catalog,

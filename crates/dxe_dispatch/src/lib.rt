@@ -4,9 +4,9 @@
 #![tactic(auto)]
 
 mod aim;
+mod answer;
 mod boot;
 mod choose;
-mod going;
 mod root;
 mod run;
 mod stop;
@@ -14,9 +14,8 @@ mod tell;
 mod turns;
 mod waiting;
 
+pub use answer::{Step, Turn};
 pub use boot::{Barred, Ended, Left, boot_dxe, dxe_at_opening};
-pub use choose::choose;
-pub use going::{Progress, go_on};
 pub use root::target_of;
 pub use run::{bound, run_dxe, run_first};
 pub use turns::turn_by;

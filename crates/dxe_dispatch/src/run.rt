@@ -9,6 +9,7 @@ ghost use Rattle.dxe_core.specs.Standing.{IsFor};
 ghost use Rattle.dxe_dispatch.specs.Choices.{EvaluatesFewByChoice, RunsByChoice};
 ghost use Rattle.dxe_dispatch.specs.Ends.{EvaluatesFew, IsAtOpening, Runs};
 
+use crate::answer::Turn;
 use crate::turns::turn_by;
 use boot_io::{Halt, Sink};
 use boot_laws::{discovered_order_has_each_once, dxe_runs_end, unrequested_drivers_wait};
@@ -65,8 +66,9 @@ pub fn run_dxe<M: PeiStore, S: Sink, C: Choice<S>, L: Ledger>(
     queue.discover(catalog, dxe.order(), 0)?;
     put_volumes(sink, dxe.order().volumes())?;
     'turns: for _ in 0..bound(catalog, dxe.fuel()) {
-        if let Some(reached) = turn_by(dxe, store, queue, choice, in_pei, catalog, sink, steps)? {
-            return Ok(reached);
+        match turn_by(dxe, store, queue, choice, in_pei, catalog, sink, steps)? {
+            Turn::Took(_) => {}
+            Turn::Reached(reached) => return Ok(reached),
         }
     }
     unreachable!()

@@ -10,15 +10,16 @@ ghost use Rattle.dxe_dispatch.specs.Choices.{IsOnWay, TurnsByChoice};
 ghost use Rattle.dxe_dispatch.specs.Turns.{AreOf, IsReady, OwesBehind, Turns, TurnsIdle};
 
 use crate::aim::{aim, named};
+use crate::answer::{Step, Turn};
 use crate::choose::choose;
-use crate::going::{Progress, go_on};
 use crate::stop::put_stop;
+use crate::tell::tell;
 use boot_io::{Halt, Sink};
 use boot_model::DxeEnd;
 use catalog_model::Catalog;
 use depex_code::Steps;
 use dxe_choice::DriverQueue;
-use dxe_core::Dxe;
+use dxe_core::{Dxe, Stepped};
 use free_laws::{Choice, Reached, dxe_chooses_by_groups, dxe_goes_on, dxe_opens, groups_are_aimed};
 use std::sync::ledger::Ledger;
 use store_model::PeiStore;
@@ -40,7 +41,7 @@ fn start_or_stop<S: Sink, C: Choice<S>, L: Ledger>(
     catalog: &Catalog,
     sink: &mut S,
     steps: &mut Steps<L>,
-) -> Result<Option<Reached<DxeEnd>>, Halt>
+) -> Result<Turn, Halt>
     requires catalog { IsWellFormed catalog.now }
     requires made { IsQueueFor catalog.now queue.old }
     requires state { (m : DxeMachine) × AreOf catalog.now dxe.old queue.old m × IsIdle m }
@@ -55,26 +56,26 @@ fn start_or_stop<S: Sink, C: Choice<S>, L: Ledger>(
     match choose(dxe, queue, catalog, steps)? {
         Some(next) => {
             if !choice.lets_driver(starts, next.module_number) {
-                return Ok(Some(Reached::Barred(next.module_number)));
+                return Ok(Turn::Reached(Reached::Barred(next.module_number)));
             }
             dxe.start(catalog, next, sink)?;
-            Ok(None)
+            Ok(Turn::Took(Step::Started(next)))
         }
         None => {
             put_stop(dxe, queue, catalog, sink)?;
-            Ok(Some(Reached::End(DxeEnd::Done)))
+            Ok(Turn::Reached(Reached::End(DxeEnd::Done)))
         }
     }
 }
 
-// The core's own step, where a script runs, so that no driver starts.
+// The core's own step, where a script runs, so that no driver starts. The queue is told what it did: the a priori drivers of the volumes that it discovered are scheduled.
 fn act<M: PeiStore, S: Sink>(
     dxe: &mut Dxe,
     store: &M,
     queue: &mut DriverQueue,
     catalog: &Catalog,
     sink: &mut S,
-) -> Result<Option<Reached<DxeEnd>>, Halt>
+) -> Result<Turn, Halt>
     requires catalog { IsWellFormed catalog.now }
     requires queue { IsQueueFor catalog.now queue.old }
     requires busy { dxe.old.frames ≢ [] }
@@ -88,9 +89,14 @@ fn act<M: PeiStore, S: Sink>(
     ensures owes { OnOk result ((before : ℕ) → OwesBehind M.stands_for store.now catalog.now dxe.old queue.old
         (before + owed queue.old) (before + owed queue.new)) }
 {
-    match go_on(dxe, store, queue, catalog, sink)? {
-        Progress::Went(_) => Ok(None),
-        Progress::Ended(end) => Ok(Some(Reached::End(end))),
+    match dxe.step(store, catalog, sink)? {
+        Stepped::Went(event) => {
+            tell(dxe, queue, &event);
+            queue.discover(catalog, dxe.order(), event.known)?;
+            Ok(Turn::Took(Step::Acted(event)))
+        }
+        Stepped::Idle => unreachable!(),
+        Stepped::Ended(end) => Ok(Turn::Reached(Reached::End(end))),
     }
 }
 
@@ -104,7 +110,7 @@ fn turn<M: PeiStore, S: Sink, C: Choice<S>, L: Ledger>(
     catalog: &Catalog,
     sink: &mut S,
     steps: &mut Steps<L>,
-) -> Result<Option<Reached<DxeEnd>>, Halt>
+) -> Result<Turn, Halt>
     requires catalog { IsWellFormed catalog.now }
     requires queue { IsQueueFor catalog.now queue.old }
     requires state { (m : DxeMachine) × (fuel : ℕ) × IsFor catalog.now fuel dxe.old
@@ -125,7 +131,7 @@ fn turn<M: PeiStore, S: Sink, C: Choice<S>, L: Ledger>(
     }
 }
 
-/// A step of the machine; where a driver is to be chosen, a choice may name one first, and a driver starts only if it lets it. `in_pei` is how many starts there were in PEI.
+/// A step of the machine, and what it was; where a driver is to be chosen, a choice may name one first, and a driver starts only if it lets it. `in_pei` is how many starts there were in PEI.
 pub fn turn_by<M: PeiStore, S: Sink, C: Choice<S>, L: Ledger>(
     dxe: &mut Dxe,
     store: &M,
@@ -135,7 +141,7 @@ pub fn turn_by<M: PeiStore, S: Sink, C: Choice<S>, L: Ledger>(
     catalog: &Catalog,
     sink: &mut S,
     steps: &mut Steps<L>,
-) -> Result<Option<Reached<DxeEnd>>, Halt>
+) -> Result<Turn, Halt>
     requires catalog { IsWellFormed catalog.now }
     requires queue { IsQueueFor catalog.now queue.old }
     requires state { (m : DxeMachine) × (fuel : ℕ) × IsFor catalog.now fuel dxe.old

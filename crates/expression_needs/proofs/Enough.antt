@@ -48,7 +48,10 @@ holding has False e = absurd (cc)
 holding has (Push guid) e = ap (λ b. Some (cond b [] (guid ∷ []))) e
 holding has (Not node) e = by (truth has node) e
   where
-    by : (b : Bool) → not b ≡ true → cond b None (Some []) ≡ Some []
+    nothing : Option (List Guid)
+    nothing = Some []
+
+    by : (b : Bool) → not b ≡ true → cond b None nothing ≡ nothing
     by true e = absurd (cc)
     by false e = refl
 holding has (And first second) e =

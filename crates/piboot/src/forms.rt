@@ -10,5 +10,5 @@ pub(crate) const PROGRAM: Program = Program {
        piboot --help, -h     prints this; --version says which program it is
 PLAN is a file (piboot-plan(5), docs/FORMATS.md); its volumes are looked up in the working folder.
 Exit statuses: 0 done, 1 usage, 2 file, 3 too long, 4 plan, 5 image, 6 no hand-off, 7 fuel, 8 depth, 9 output, 10 memory.
-With PIBOOT_WORDS=1 in the environment, words are written here also where no terminal is.",
+PIBOOT_WORDS=1 in the environment has words written here also where two pipes take the outputs apart; empty, it has none written.",
 };

@@ -3,8 +3,8 @@ use crate::forms::PROGRAM;
 use boot_core::Status;
 use boot_io::MemFiles;
 use mod_catalog::catalog;
-use overheard::{Heard, starts_in};
 use plan_files::{Job, read_job};
+use program_edge::{Heard, starts_in};
 
 // The words that have no form.
 fn tell_usage(rt: &HostRuntime, words: &[String]) {
@@ -99,7 +99,12 @@ fn meaning_of(status: Status) -> &'static str {
     }
 }
 
-/// Tells a person what came of a run: a line for each status but Done, and once how many started modules have no script.
+/// Whether what is told of a run is read off its files.
+pub(crate) fn tells_of_files(words: &[String], status: Status) -> bool {
+    is_booted(words, status) || matches!(status, Status::PlanRefused | Status::ImageRefused)
+}
+
+/// Tells what came of a run: a line for each status but Done, and once how many started modules have no script.
 pub(crate) fn tell(rt: &HostRuntime, words: &[String], status: Status, heard: &mut Heard<'_>) {
     let plan = plan_of(words);
     match status {

@@ -9,4 +9,5 @@ mod ToldFiles
 mod OneCheck
 mod OneFollow
 mod OneExplain
+mod OneTrace
 mod OneOutcome

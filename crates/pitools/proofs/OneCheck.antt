@@ -1,4 +1,4 @@
--- The texts of a plan and of a trace have one report, and so has the text of a plan whose HOB list is asked for.
+-- A plan and its images have one report on a trace, where their catalogue has; and the text of a plan whose HOB list is asked for has one.
 use Rattle.std.proofs.Common.{◌≡◌, ℕ, List, Option, Some, None, inl, inr, sym, ap, ◌∙◌, subst, arith}
 use Rattle.std.specs.Option.{option_and_then}
 use Rattle.std.proofs.lemmas.Bool.{cases_lt}
@@ -15,13 +15,14 @@ use Rattle.boot_model.specs.declared.line.Line.TheVariants as L
 use Rattle.boot_model.specs.FreeRun.{AreFreeLines}
 use Rattle.boot_model.specs.PlanBoard.{board_of}
 use Rattle.free_check.specs.Verdict.{IsFirstOff}
-use Rattle.module_names.specs.Named.{IsFirstWithTwins}
+use Rattle.module_names.specs.Named.{HasNoTwins, IsFirstWithTwins}
 use Rattle.pi_base.specs.Field.{AreBytes}
 use Rattle.pi_base.specs.Lists.{Each}
 use Rattle.plan_files.specs.declared.job.Job.{Job}
 use Rattle.plan_files.specs.Job.{IsJobOf, IsNamedIn, IsTextRefusal, text_long, text_refused}
 use Rattle.plan_files.specs.Reading.{AreImages, IsLongVolume}
-use Rattle.pitools.specs.CheckReport.{CheckReport, TextsOutcome, VerdictReport, checked, image_refused, no, twins, yes}
+use Rattle.pitools.specs.declared.command_line.TraceTool.{TraceTool}
+use Rattle.pitools.specs.CheckReport.{VerdictReport, no, yes}
 use Rattle.boot_core.specs.declared.handing_on.HandOff.TheVariants.{Hobs, Ended}
 use Rattle.boot_core.specs.HandOff.{HandsOn, result_of}
 use Rattle.boot_model.specs.PeiMachine.{PeiMachine}
@@ -33,6 +34,7 @@ use Rattle.pitools.specs.JobOutcome.{JobOutcome, JobReport, job_long, job_plan, 
 use Rattle.pitools.specs.ReportText.{end_status}
 use Rattle.pitools.specs.declared.status.ToolStatus.{ToolStatus}
 use Rattle.pitools.specs.OneOutcome.{AreAllTold, IsOne}
+use Rattle.pitools.specs.TraceReport.{SaidBy, TextsOutcome, TraceReport, image_refused, said, twins}
 use Rattle.pitools.specs.Refusals.{end_line, image_line, long_line, no_line, plan_line, twins_line}
 use Rattle.pitools.proofs.ToldFiles.{VolumesTold, images_bytes, long_told, one_images, one_long_volume}
 
@@ -46,7 +48,7 @@ pub record Laws : Type 0 where
   pub catalogue_or_fault : (plan : Plan) (images : List (List ℕ)) (catalog : Catalog) (fault : ImageFault) → Each AreBytes images → IsCatalogue plan images catalog → IsImageFault plan images fault → ⊥
 
 -- the first line that is off, and the first volume with twins, are one
-one_off : (Lines : List Line → Type 0) (text : List ℕ) (m n : ℕ) → IsFirstOff Lines text m → IsFirstOff Lines text n → m ≡ n
+pub one_off : (Lines : List Line → Type 0) (text : List ℕ) (m n : ℕ) → IsFirstOff Lines text m → IsFirstOff Lines text n → m ≡ n
 one_off Lines text m n p q = elim (cases_lt m n) [
   | inl less ↦ absurd (p.off (q.first m p.some less))
   | inr least ↦ elim (cases_lt n m) [ inl more ↦ absurd (q.off (p.first n q.some more)) | inr most ↦ omega (arith, least, most) ]
@@ -58,31 +60,35 @@ one_volume catalog m n p q = elim (cases_lt m n) [
   | inr least ↦ elim (cases_lt n m) [ inl more ↦ absurd (p.first n more q.twins) | inr most ↦ omega (arith, least, most) ]
 ]
 
-one_verdict : (plan : Plan) (images : List (List ℕ)) (catalog : Catalog) (text : List ℕ) → IsOne (VerdictReport plan images catalog text)
+pub one_verdict : (plan : Plan) (images : List (List ℕ)) (catalog : Catalog) (text : List ℕ) → IsOne (VerdictReport plan images catalog text)
 one_verdict plan images catalog text a b s t (yes boot e u) (yes other f v) = (e ∙ sym f, u ∙ sym v)
 one_verdict plan images catalog text a b s t (yes boot e u) (no n off f v) = absurd (off.no_boot boot)
 one_verdict plan images catalog text a b s t (no m off e u) (yes boot f v) = absurd (off.no_boot boot)
 one_verdict plan images catalog text a b s t (no m off e u) (no n also f v) =
     (e ∙ sym f, u ∙ ap no_line (one_off (AreFreeLines (board_of plan catalog images) catalog plan.fuel) text m n off also) ∙ sym v)
 
-one_report : Laws → (plan : Plan) (images : List (List ℕ)) (text : List ℕ) → Each AreBytes images → IsOne (CheckReport plan images text)
-one_report laws plan images text are a b s t (image_refused f p e u) (image_refused g q h v) = (e ∙ sym h, u ∙ ap image_line (laws.image_faults plan images f g are p q) ∙ sym v)
-one_report laws plan images text are a b s t (image_refused f p e u) (twins c sound n q h v) = absurd (laws.catalogue_or_fault plan images c f are sound p)
-one_report laws plan images text are a b s t (image_refused f p e u) (checked c sound apart o) = absurd (laws.catalogue_or_fault plan images c f are sound p)
-one_report laws plan images text are a b s t (twins c sound m p e u) (image_refused g q h v) = absurd (laws.catalogue_or_fault plan images c g are sound q)
-one_report laws plan images text are a b s t (twins c sound m p e u) (twins d also n q h v) =
+-- a tool says one thing of a trace over the images' catalogue
+abbrev pub IsOneSaid : TraceTool → List ℕ → Plan → List (List ℕ) → Type 0
+IsOneSaid tool text plan images = (catalog : Catalog) → IsCatalogue plan images catalog → HasNoTwins catalog → IsOne (SaidBy tool plan images catalog text)
+
+one_report : Laws → (tool : TraceTool) (text : List ℕ) (plan : Plan) (images : List (List ℕ)) → IsOneSaid tool text plan images → Each AreBytes images → IsOne (TraceReport tool plan images text)
+one_report laws tool text plan images one are a b s t (image_refused f p e u) (image_refused g q h v) = (e ∙ sym h, u ∙ ap image_line (laws.image_faults plan images f g are p q) ∙ sym v)
+one_report laws tool text plan images one are a b s t (image_refused f p e u) (twins c sound n q h v) = absurd (laws.catalogue_or_fault plan images c f are sound p)
+one_report laws tool text plan images one are a b s t (image_refused f p e u) (said c sound apart o) = absurd (laws.catalogue_or_fault plan images c f are sound p)
+one_report laws tool text plan images one are a b s t (twins c sound m p e u) (image_refused g q h v) = absurd (laws.catalogue_or_fault plan images c g are sound q)
+one_report laws tool text plan images one are a b s t (twins c sound m p e u) (twins d also n q h v) =
     let here : IsFirstWithTwins c n = subst (λ (x : Catalog). IsFirstWithTwins x n) (laws.catalogues plan images d c also sound) q in
     (e ∙ sym h, u ∙ ap twins_line (one_volume c m n p here) ∙ sym v)
-one_report laws plan images text are a b s t (twins c sound m p e u) (checked d also apart o) =
+one_report laws tool text plan images one are a b s t (twins c sound m p e u) (said d also apart o) =
     let here : IsFirstWithTwins d m = subst (λ (x : Catalog). IsFirstWithTwins x m) (laws.catalogues plan images c d sound also) p in
     absurd (apart m here.twins)
-one_report laws plan images text are a b s t (checked c sound apart o) (image_refused g q h v) = absurd (laws.catalogue_or_fault plan images c g are sound q)
-one_report laws plan images text are a b s t (checked c sound apart o) (twins d also n q h v) =
+one_report laws tool text plan images one are a b s t (said c sound apart o) (image_refused g q h v) = absurd (laws.catalogue_or_fault plan images c g are sound q)
+one_report laws tool text plan images one are a b s t (said c sound apart o) (twins d also n q h v) =
     let here : IsFirstWithTwins c n = subst (λ (x : Catalog). IsFirstWithTwins x n) (laws.catalogues plan images d c also sound) q in
     absurd (apart n here.twins)
-one_report laws plan images text are a b s t (checked c sound apart o) (checked d also other u) =
-    let P : Catalog → Type 0 = λ x. VerdictReport plan images x text b t in
-    one_verdict plan images c text a b s t o (subst P (laws.catalogues plan images d c also sound) u)
+one_report laws tool text plan images one are a b s t (said c sound apart o) (said d also other u) =
+    let P : Catalog → Type 0 = λ x. SaidBy tool plan images x text b t in
+    one c sound apart a b s t o (subst P (laws.catalogues plan images d c also sound) u)
 
 -- a line has one report
 one_fault : (f g : PlanFault) → f.line ≡ g.line → f.cause ≡ g.cause → f ≡ g
@@ -141,8 +147,10 @@ one_of_job laws Of each told content all a b s t (job_read job is o) (job_read o
     let are = images_bytes told job.plan.volumes (named_told told content job.plan all is.plan_is) job.images is.images_are in
     each job.plan job.images are a b s t o (subst P (one_job laws told content all other job also is) u)
 
-pub one_check : Laws → (told : List ℕ → Option (List ℕ)) (content text : List ℕ) → AreAllTold told (IsNamedIn told content) → IsOne (TextsOutcome told content text)
-one_check laws told content text all = one_of_job laws (λ plan images. CheckReport plan images text) (λ plan images are. one_report laws plan images text are) told content all
+pub one_trace : Laws → (tool : TraceTool) (told : List ℕ → Option (List ℕ)) (content text : List ℕ) → ((plan : Plan) (images : List (List ℕ)) → IsOneSaid tool text plan images) → AreAllTold told (IsNamedIn told content)
+    → IsOne (TextsOutcome tool told content text)
+one_trace laws tool told content text one all =
+    one_of_job laws (λ plan images. TraceReport tool plan images text) (λ plan images are. one_report laws tool text plan images (one plan images) are) told content all
 
 -- a machine hands one list on
 one_list : (m : PeiMachine) (a b : List ℕ) → HandsOn m (Hobs a) → HandsOn m (Hobs b) → a ≡ b

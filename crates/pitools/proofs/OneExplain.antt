@@ -13,7 +13,7 @@ use Rattle.boot_reasons.specs.Explained.{IsExplained}
 use Rattle.catalog_text.specs.Lines.{IsCatalogText}
 use Rattle.explain_text.specs.Text.{explained_text}
 use Rattle.plan_files.specs.Job.{IsNamedIn}
-use Rattle.pitools.specs.ExplainReport.{ExplainReport, IsExplanation, explained_so, faulty_image}
+use Rattle.pitools.specs.ExplainReport.{ExplainReport, IsExplanation, RunsItself, explained_so, faulty_image}
 use Rattle.pitools.specs.JobOutcome.{JobOutcome}
 use Rattle.pitools.specs.OneOutcome.{AreAllTold, IsOne}
 use Rattle.pitools.specs.Refusals.{image_line}
@@ -26,18 +26,19 @@ pub record Laws : Type 0 where
   pub texts : (volumes : List VolumeEntry) (images : List (List ℕ)) (modules : List Module) (a b : List ℕ) → IsCatalogText volumes images modules a → IsCatalogText volumes images modules b → a ≡ b
   pub boots : (board : Board) (catalog : Catalog) (fuel : ℕ) (e f : Explained) → IsExplained board catalog fuel e → IsExplained board catalog fuel f → e ≡ f
 
-one_text : Laws → (plan : Plan) (images : List (List ℕ)) (catalog : Catalog) (a b : List ℕ) → IsExplanation plan images catalog a → IsExplanation plan images catalog b → a ≡ b
-one_text laws plan images catalog a b p q =
-    p.is ∙ ap (λ front. front ++ explained_text catalog.modules p.explained) (laws.texts catalog.volumes images catalog.modules p.front q.front p.catalogue q.catalogue)
-    ∙ ap (λ (e : Explained). q.front ++ explained_text catalog.modules e) (laws.boots (board_of plan catalog images) catalog plan.fuel p.explained q.explained p.run q.run) ∙ sym q.is
+pub one_text : (Run : Explained → Type 0) → ((volumes : List VolumeEntry) (images : List (List ℕ)) (modules : List Module) (a b : List ℕ) → IsCatalogText volumes images modules a → IsCatalogText volumes images modules b → a ≡ b)
+    → ((e f : Explained) → Run e → Run f → e ≡ f) → (images : List (List ℕ)) (catalog : Catalog) (a b : List ℕ) → IsExplanation Run images catalog a → IsExplanation Run images catalog b → a ≡ b
+one_text Run texts runs images catalog a b p q =
+    p.is ∙ ap (λ front. front ++ explained_text catalog.modules p.explained) (texts catalog.volumes images catalog.modules p.front q.front p.catalogue q.catalogue)
+    ∙ ap (λ (e : Explained). q.front ++ explained_text catalog.modules e) (runs p.explained q.explained p.run q.run) ∙ sym q.is
 
 one_report : Laws → (plan : Plan) (images : List (List ℕ)) → Each AreBytes images → IsOne (ExplainReport plan images)
 one_report laws plan images are a b s t (faulty_image f p e u) (faulty_image g q h v) = (e ∙ sym h, u ∙ ap image_line (laws.plans.image_faults plan images f g are p q) ∙ sym v)
 one_report laws plan images are a b s t (faulty_image f p e u) (explained_so c sound o h) = absurd (laws.plans.catalogue_or_fault plan images c f are sound p)
 one_report laws plan images are a b s t (explained_so c sound o e) (faulty_image g q h v) = absurd (laws.plans.catalogue_or_fault plan images c g are sound q)
 one_report laws plan images are a b s t (explained_so c sound o e) (explained_so d also u h) =
-    let P : Catalog → Type 0 = λ x. IsExplanation plan images x t in
-    (e ∙ sym h, one_text laws plan images c s t o (subst P (laws.plans.catalogues plan images d c also sound) u))
+    let P : Catalog → Type 0 = λ x. IsExplanation (RunsItself plan images x) images x t in
+    (e ∙ sym h, one_text (RunsItself plan images c) laws.texts (laws.boots (board_of plan c images) c plan.fuel) images c s t o (subst P (laws.plans.catalogues plan images d c also sound) u))
 
 pub one_explain : Laws → (told : List ℕ → Option (List ℕ)) (content : List ℕ) → AreAllTold told (IsNamedIn told content) → IsOne (JobOutcome ExplainReport told content)
 one_explain laws told content all = one_of_job laws.plans ExplainReport (one_report laws) told content all

@@ -7,11 +7,12 @@ use Rattle.pi_base.specs.Field.{AreBytes}
 use Rattle.plan_files.specs.Job.{IsNamedIn}
 use Rattle.plan_files.specs.Reading.{plan_limit}
 use Rattle.pitools.specs.declared.command_line.Tool.{Tool}
+use Rattle.pitools.specs.declared.command_line.TraceTool.{TraceTool}
+use Rattle.pitools.specs.declared.command_line.TraceTool.TheVariants.{Check, Explain}
 use Rattle.pitools.specs.declared.command_line.Tool.TheVariants.{AssembleDepex, AssembleScript, ReadPei, ReadDxe, ReadScript, Mp, Volume, ReadVolume}
 use Rattle.pitools.specs.declared.status.ToolStatus.{ToolStatus}
 use Rattle.pitools.specs.declared.status.ToolStatus.TheVariants as S
-use Rattle.pitools.specs.CheckReport.{CheckNames, CheckOutcome, TextsOutcome, both_read, is_plan, is_trace, is_volume, plan_long, trace_limit, trace_long}
-use Rattle.pitools.specs.CommandLine.{AskForCheck, AskForExplanation, AskForFollow, AskForHobs, AskForMap, AskForTool, tool_words}
+use Rattle.pitools.specs.CommandLine.{AskForExplanation, AskForFollow, AskForHobs, AskForMap, AskForTool, AskForTrace, tool_words}
 use Rattle.pitools.specs.Ends.{EndsBy, Ends, IsDue, Kind, OfMemory, OfSink, OfText, Trail, kind_of, outcome, status_after, unread}
 use Rattle.pitools.specs.FollowReport.{FollowNames, FollowOutcome, OrderTextsOutcome, long_order, long_plan, names_order, names_plan, names_volume, order_limit, texts_read}
 use Rattle.pitools.specs.GcdReport.{GcdReport}
@@ -19,7 +20,8 @@ use Rattle.pitools.specs.HobsReport.{HobsNames, HobsOutcome, HobsReport, plan_re
 use Rattle.pitools.specs.ExplainReport.{ExplainNames, ExplainOutcome, ExplainReport, names_a_volume, names_the_plan, over_long, text_read}
 use Rattle.pitools.specs.JobOutcome.{JobOutcome}
 use Rattle.pitools.specs.OneOutcome.{AnswersExactly, AreAllTold, AreTold, IsOne, IsStoppedBy, IsToldAsBytes}
-use Rattle.pitools.specs.Outcome.{ContentReport, MapNames, MapOutcome, Names, Outcome, ToolOutcome, both, commands_limit, commands_long, content, file_limit, hobs_long, limit_of, long, of_check, of_explanation, of_follow, of_hobs, of_map, of_tool, usage, words_ask_check, words_ask_explanation, words_ask_follow, words_ask_hobs, words_ask_map, words_ask_tool}
+use Rattle.pitools.specs.TraceReport.{TextsOutcome, TraceNames, TraceOutcome, both_read, is_plan, is_trace, is_volume, plan_long, trace_limit, trace_long}
+use Rattle.pitools.specs.Outcome.{ContentReport, MapNames, MapOutcome, Names, Outcome, ToolOutcome, both, commands_limit, commands_long, content, file_limit, hobs_long, limit_of, long, of_explanation, of_follow, of_hobs, of_map, of_tool, of_trace, usage, words_ask_explanation, words_ask_follow, words_ask_hobs, words_ask_map, words_ask_tool, words_ask_trace}
 use Rattle.pitools.proofs.ToldFiles.{one_content, one_long, told_bytes, within_or_over}
 
 -- the laws of the tools: what is read leads to one report
@@ -28,7 +30,7 @@ pub record Laws : Type 0 where
   pub contents : (tool : Tool) (content : List ℕ) → AreBytes content → IsOne (ContentReport tool content)
   pub hobs : (told : List ℕ → Option (List ℕ)) (content : List ℕ) → AreAllTold told (IsNamedIn told content) → IsOne (JobOutcome HobsReport told content)
   pub explains : (told : List ℕ → Option (List ℕ)) (content : List ℕ) → AreAllTold told (IsNamedIn told content) → IsOne (JobOutcome ExplainReport told content)
-  pub checks : (told : List ℕ → Option (List ℕ)) (content text : List ℕ) → AreAllTold told (IsNamedIn told content) → IsOne (TextsOutcome told content text)
+  pub traces : (tool : TraceTool) (told : List ℕ → Option (List ℕ)) (content text : List ℕ) → AreAllTold told (IsNamedIn told content) → IsOne (TextsOutcome tool told content text)
   pub follows : (told : List ℕ → Option (List ℕ)) (content text : List ℕ) → length text ≤ order_limit → AreAllTold told (IsNamedIn told content) → IsOne (OrderTextsOutcome told content text)
 
 -- words ask for one thing: they are told apart by the first byte of the first word and of the second
@@ -48,8 +50,9 @@ abbrev head : List (List ℕ) → List ℕ
 head [] = []
 head (word ∷ words) = word
 
-map_or_check : (words : List (List ℕ)) (hobs commands plan trace : List ℕ) → AskForMap words hobs commands → AskForCheck words plan trace → ⊥
-map_or_check words hobs commands plan trace p q = let e = ap first (sym p.0 ∙ q.0) in omega (arith, e)
+map_or_trace : (words : List (List ℕ)) (hobs commands : List ℕ) (asked : TraceTool) (plan trace : List ℕ) → AskForMap words hobs commands → AskForTrace words asked plan trace → ⊥
+map_or_trace words hobs commands Check plan trace p q = let e = ap first (sym p.0 ∙ q.0) in omega (arith, e)
+map_or_trace words hobs commands Explain plan trace p q = let e = ap first (sym p.0 ∙ q.0) in omega (arith, e)
 
 map_or_tool : (words : List (List ℕ)) (hobs commands : List ℕ) (tool : Tool) (file : List ℕ) → AskForMap words hobs commands → AskForTool words tool file → ⊥
 map_or_tool words hobs commands Mp file p q = let e = ap first (sym p.0 ∙ q.0) in omega (arith, e)
@@ -57,17 +60,28 @@ map_or_tool words hobs commands Volume file p q = let e = ap first (sym p.0 ∙ 
 map_or_tool words hobs commands ReadVolume file p q = let e = ap first (sym p.0 ∙ q.0) in omega (arith, e)
 map_or_tool words hobs commands tool file p q = let e = ap first (sym p.0 ∙ q.0) in omega (arith, e)
 
-check_or_tool : (words : List (List ℕ)) (plan trace : List ℕ) (tool : Tool) (file : List ℕ) → AskForCheck words plan trace → AskForTool words tool file → ⊥
+check_or_tool : (words : List (List ℕ)) (plan trace : List ℕ) (tool : Tool) (file : List ℕ) → AskForTrace words Check plan trace → AskForTool words tool file → ⊥
 check_or_tool words plan trace Mp file p q = let e = ap first (sym p.0 ∙ q.0) in omega (arith, e)
 check_or_tool words plan trace Volume file p q = let e = ap first (sym p.0 ∙ q.0) in omega (arith, e)
 check_or_tool words plan trace ReadVolume file p q = let e = ap first (sym p.0 ∙ q.0) in omega (arith, e)
 check_or_tool words plan trace tool file p q = let e = ap first (sym p.0 ∙ q.0) in omega (arith, e)
 
+told_or_tool : (words : List (List ℕ)) (plan trace : List ℕ) (tool : Tool) (file : List ℕ) → AskForTrace words Explain plan trace → AskForTool words tool file → ⊥
+told_or_tool words plan trace Mp file p q = let e = ap first (sym p.0 ∙ q.0) in omega (arith, e)
+told_or_tool words plan trace Volume file p q = let e = ap first (sym p.0 ∙ q.0) in omega (arith, e)
+told_or_tool words plan trace ReadVolume file p q = let e = ap first (sym p.0 ∙ q.0) in omega (arith, e)
+told_or_tool words plan trace tool file p q = let e = ap first (sym p.0 ∙ q.0) in omega (arith, e)
+
+trace_or_tool : (words : List (List ℕ)) (asked : TraceTool) (plan trace : List ℕ) (tool : Tool) (file : List ℕ) → AskForTrace words asked plan trace → AskForTool words tool file → ⊥
+trace_or_tool words Check plan trace tool file p q = check_or_tool words plan trace tool file p q
+trace_or_tool words Explain plan trace tool file p q = told_or_tool words plan trace tool file p q
+
 hobs_or_map : (words : List (List ℕ)) (plan hobs commands : List ℕ) → AskForHobs words plan → AskForMap words hobs commands → ⊥
 hobs_or_map words plan hobs commands p q = let e = ap first (sym p.0 ∙ q.0) in omega (arith, e)
 
-hobs_or_check : (words : List (List ℕ)) (plan other trace : List ℕ) → AskForHobs words plan → AskForCheck words other trace → ⊥
-hobs_or_check words plan other trace p q = let e = ap first (sym p.0 ∙ q.0) in omega (arith, e)
+hobs_or_trace : (words : List (List ℕ)) (plan : List ℕ) (asked : TraceTool) (other trace : List ℕ) → AskForHobs words plan → AskForTrace words asked other trace → ⊥
+hobs_or_trace words plan Check other trace p q = let e = ap first (sym p.0 ∙ q.0) in omega (arith, e)
+hobs_or_trace words plan Explain other trace p q = let e = ap first (sym p.0 ∙ q.0) in omega (arith, e)
 
 hobs_or_tool : (words : List (List ℕ)) (plan : List ℕ) (tool : Tool) (file : List ℕ) → AskForHobs words plan → AskForTool words tool file → ⊥
 hobs_or_tool words plan Mp file p q = let e = ap first (sym p.0 ∙ q.0) in omega (arith, e)
@@ -78,8 +92,9 @@ hobs_or_tool words plan tool file p q = let e = ap first (sym p.0 ∙ q.0) in om
 follow_or_map : (words : List (List ℕ)) (plan order hobs commands : List ℕ) → AskForFollow words plan order → AskForMap words hobs commands → ⊥
 follow_or_map words plan order hobs commands p q = let e = ap first (sym p.0 ∙ q.0) in omega (arith, e)
 
-follow_or_check : (words : List (List ℕ)) (plan order other trace : List ℕ) → AskForFollow words plan order → AskForCheck words other trace → ⊥
-follow_or_check words plan order other trace p q = let e = ap first (sym p.0 ∙ q.0) in omega (arith, e)
+follow_or_trace : (words : List (List ℕ)) (plan order : List ℕ) (asked : TraceTool) (other trace : List ℕ) → AskForFollow words plan order → AskForTrace words asked other trace → ⊥
+follow_or_trace words plan order Check other trace p q = let e = ap first (sym p.0 ∙ q.0) in omega (arith, e)
+follow_or_trace words plan order Explain other trace p q = let e = ap first (sym p.0 ∙ q.0) in omega (arith, e)
 
 follow_or_hobs : (words : List (List ℕ)) (plan order other : List ℕ) → AskForFollow words plan order → AskForHobs words other → ⊥
 follow_or_hobs words plan order other p q = let e = ap first (sym p.0 ∙ q.0) in omega (arith, e)
@@ -93,8 +108,9 @@ follow_or_tool words plan order tool file p q = let e = ap first (sym p.0 ∙ q.
 explain_or_map : (words : List (List ℕ)) (plan hobs commands : List ℕ) → AskForExplanation words plan → AskForMap words hobs commands → ⊥
 explain_or_map words plan hobs commands p q = let e = ap first (sym p.0 ∙ q.0) in omega (arith, e)
 
-explain_or_check : (words : List (List ℕ)) (plan other trace : List ℕ) → AskForExplanation words plan → AskForCheck words other trace → ⊥
-explain_or_check words plan other trace p q = let e = ap first (sym p.0 ∙ q.0) in omega (arith, e)
+explain_or_trace : (words : List (List ℕ)) (plan : List ℕ) (asked : TraceTool) (other trace : List ℕ) → AskForExplanation words plan → AskForTrace words asked other trace → ⊥
+explain_or_trace words plan Check other trace p q = let e = ap first (sym p.0 ∙ q.0) in omega (arith, e)
+explain_or_trace words plan Explain other trace p q = let none : [] ≡ trace ∷ [] = ap (λ (x : List (List ℕ)). rest (rest x)) (sym p.0 ∙ q.0) in cc
 
 explain_or_follow : (words : List (List ℕ)) (plan other order : List ℕ) → AskForExplanation words plan → AskForFollow words other order → ⊥
 explain_or_follow words plan other order p q = let e = ap first (sym p.0 ∙ q.0) in omega (arith, e)
@@ -107,6 +123,12 @@ explain_or_tool words plan Mp file p q = let e = ap first (sym p.0 ∙ q.0) in o
 explain_or_tool words plan Volume file p q = let e = ap first (sym p.0 ∙ q.0) in omega (arith, e)
 explain_or_tool words plan ReadVolume file p q = let e = ap first (sym p.0 ∙ q.0) in omega (arith, e)
 explain_or_tool words plan tool file p q = let e = ap first (sym p.0 ∙ q.0) in omega (arith, e)
+
+one_asked : (words : List (List ℕ)) (tool other : TraceTool) (plan trace text lines : List ℕ) → AskForTrace words tool plan trace → AskForTrace words other text lines → other ≡ tool
+one_asked words Check Check plan trace text lines p q = refl
+one_asked words Explain Explain plan trace text lines p q = refl
+one_asked words Check Explain plan trace text lines p q = absurd (let e = ap first (sym p.0 ∙ q.0) in omega (arith, e))
+one_asked words Explain Check plan trace text lines p q = absurd (let e = ap first (sym p.0 ∙ q.0) in omega (arith, e))
 
 abbrev tool_in : List (List ℕ) → Tool
 tool_in words =
@@ -171,24 +193,24 @@ one_of_map laws told hobs commands all a b s t (both c lines p r o) (both d othe
     let Q : List ℕ → Type 0 = λ x. GcdReport c x b t in
     laws.maps c lines a b s t o (subst Q texts (subst P bytes u))
 
--- and those of a plan and of a trace
-one_of_check : Laws → (told : List ℕ → Option (List ℕ)) (plan trace : List ℕ) → AreAllTold told (CheckNames told plan trace) → IsOne (CheckOutcome told plan trace)
-one_of_check laws told plan trace all a b s t (plan_long p) (plan_long q) = one_long (told plan) plan_limit plan a b s t p q
-one_of_check laws told plan trace all a b s t (plan_long p) (trace_long d q o) = absurd (within_or_over (told plan) plan_limit (all plan (is_plan refl)) p.content d p.long q)
-one_of_check laws told plan trace all a b s t (plan_long p) (both_read d text q r u) = absurd (within_or_over (told plan) plan_limit (all plan (is_plan refl)) p.content d p.long q)
-one_of_check laws told plan trace all a b s t (trace_long c p o) (plan_long q) = absurd (within_or_over (told plan) plan_limit (all plan (is_plan refl)) q.content c q.long p)
-one_of_check laws told plan trace all a b s t (trace_long c p o) (trace_long d q u) = one_long (told trace) trace_limit trace a b s t o u
-one_of_check laws told plan trace all a b s t (trace_long c p o) (both_read d text q r u) =
+-- and those of a plan and of a trace, for each tool of them
+one_of_trace : Laws → (tool : TraceTool) (told : List ℕ → Option (List ℕ)) (plan trace : List ℕ) → AreAllTold told (TraceNames told plan trace) → IsOne (TraceOutcome tool told plan trace)
+one_of_trace laws tool told plan trace all a b s t (plan_long p) (plan_long q) = one_long (told plan) plan_limit plan a b s t p q
+one_of_trace laws tool told plan trace all a b s t (plan_long p) (trace_long d q o) = absurd (within_or_over (told plan) plan_limit (all plan (is_plan refl)) p.content d p.long q)
+one_of_trace laws tool told plan trace all a b s t (plan_long p) (both_read d text q r u) = absurd (within_or_over (told plan) plan_limit (all plan (is_plan refl)) p.content d p.long q)
+one_of_trace laws tool told plan trace all a b s t (trace_long c p o) (plan_long q) = absurd (within_or_over (told plan) plan_limit (all plan (is_plan refl)) q.content c q.long p)
+one_of_trace laws tool told plan trace all a b s t (trace_long c p o) (trace_long d q u) = one_long (told trace) trace_limit trace a b s t o u
+one_of_trace laws tool told plan trace all a b s t (trace_long c p o) (both_read d text q r u) =
     absurd (within_or_over (told trace) trace_limit (all trace (is_trace c p refl)) o.content text o.long r)
-one_of_check laws told plan trace all a b s t (both_read c text p r o) (plan_long q) = absurd (within_or_over (told plan) plan_limit (all plan (is_plan refl)) q.content c q.long p)
-one_of_check laws told plan trace all a b s t (both_read c text p r o) (trace_long d q u) =
+one_of_trace laws tool told plan trace all a b s t (both_read c text p r o) (plan_long q) = absurd (within_or_over (told plan) plan_limit (all plan (is_plan refl)) q.content c q.long p)
+one_of_trace laws tool told plan trace all a b s t (both_read c text p r o) (trace_long d q u) =
     absurd (within_or_over (told trace) trace_limit (all trace (is_trace c p refl)) u.content text u.long r)
-one_of_check laws told plan trace all a b s t (both_read c text p r o) (both_read d other q z u) =
+one_of_trace laws tool told plan trace all a b s t (both_read c text p r o) (both_read d other q z u) =
     let contents : d ≡ c = one_content (told plan) (all plan (is_plan refl)) d c q.as_told p.as_told in
     let texts : other ≡ text = one_content (told trace) (all trace (is_trace c p refl)) other text z.as_told r.as_told in
-    let P : List ℕ → Type 0 = λ x. TextsOutcome told x other b t in
-    let Q : List ℕ → Type 0 = λ x. TextsOutcome told c x b t in
-    laws.checks told c text (λ name named. all name (is_volume c text p r named)) a b s t o (subst Q texts (subst P contents u))
+    let P : List ℕ → Type 0 = λ x. TextsOutcome tool told x other b t in
+    let Q : List ℕ → Type 0 = λ x. TextsOutcome tool told c x b t in
+    laws.traces tool told c text (λ name named. all name (is_volume c text p r named)) a b s t o (subst Q texts (subst P contents u))
 
 -- and those of a plan and of an order of starts
 one_of_follow : Laws → (told : List ℕ → Option (List ℕ)) (plan order : List ℕ) → AreAllTold told (FollowNames told plan order) → IsOne (FollowOutcome told plan order)
@@ -238,33 +260,33 @@ third words = head (rest (rest words))
 pub one_outcome : Laws → (told : List ℕ → Option (List ℕ)) (words : List (List ℕ)) → AreTold told words → IsOne (Outcome told words)
 one_outcome laws told words all a b s t (usage none e u) (usage other f v) = (e ∙ sym f, u ∙ sym v)
 one_outcome laws told words all a b s t (usage none e u) (words_ask_map hobs commands q o) = absurd (none.no_map hobs commands q)
-one_outcome laws told words all a b s t (usage none e u) (words_ask_check plan trace q o) = absurd (none.no_check plan trace q)
+one_outcome laws told words all a b s t (usage none e u) (words_ask_trace asked plan trace q o) = absurd (none.no_trace asked plan trace q)
 one_outcome laws told words all a b s t (usage none e u) (words_ask_tool tool file q o) = absurd (none.no_tool tool file q)
 one_outcome laws told words all a b s t (words_ask_map hobs commands p o) (usage none f v) = absurd (none.no_map hobs commands p)
-one_outcome laws told words all a b s t (words_ask_check plan trace p o) (usage none f v) = absurd (none.no_check plan trace p)
+one_outcome laws told words all a b s t (words_ask_trace asked plan trace p o) (usage none f v) = absurd (none.no_trace asked plan trace p)
 one_outcome laws told words all a b s t (words_ask_tool tool file p o) (usage none f v) = absurd (none.no_tool tool file p)
-one_outcome laws told words all a b s t (words_ask_map hobs commands p o) (words_ask_check plan trace q u) = absurd (map_or_check words hobs commands plan trace p q)
+one_outcome laws told words all a b s t (words_ask_map hobs commands p o) (words_ask_trace asked plan trace q u) = absurd (map_or_trace words hobs commands asked plan trace p q)
 one_outcome laws told words all a b s t (words_ask_map hobs commands p o) (words_ask_tool tool file q u) = absurd (map_or_tool words hobs commands tool file p q)
-one_outcome laws told words all a b s t (words_ask_check plan trace p o) (words_ask_map hobs commands q u) = absurd (map_or_check words hobs commands plan trace q p)
-one_outcome laws told words all a b s t (words_ask_check plan trace p o) (words_ask_tool tool file q u) = absurd (check_or_tool words plan trace tool file p q)
+one_outcome laws told words all a b s t (words_ask_trace asked plan trace p o) (words_ask_map hobs commands q u) = absurd (map_or_trace words hobs commands asked plan trace q p)
+one_outcome laws told words all a b s t (words_ask_trace asked plan trace p o) (words_ask_tool tool file q u) = absurd (trace_or_tool words asked plan trace tool file p q)
 one_outcome laws told words all a b s t (words_ask_tool tool file p o) (words_ask_map hobs commands q u) = absurd (map_or_tool words hobs commands tool file q p)
-one_outcome laws told words all a b s t (words_ask_tool tool file p o) (words_ask_check plan trace q u) = absurd (check_or_tool words plan trace tool file q p)
+one_outcome laws told words all a b s t (words_ask_tool tool file p o) (words_ask_trace asked plan trace q u) = absurd (trace_or_tool words asked plan trace tool file q p)
 one_outcome laws told words all a b s t (usage none e u) (words_ask_hobs plan q o) = absurd (none.no_hobs plan q)
 one_outcome laws told words all a b s t (words_ask_hobs plan p o) (usage none f v) = absurd (none.no_hobs plan p)
 one_outcome laws told words all a b s t (words_ask_hobs plan p o) (words_ask_map hobs commands q u) = absurd (hobs_or_map words plan hobs commands p q)
-one_outcome laws told words all a b s t (words_ask_hobs plan p o) (words_ask_check other trace q u) = absurd (hobs_or_check words plan other trace p q)
+one_outcome laws told words all a b s t (words_ask_hobs plan p o) (words_ask_trace asked other trace q u) = absurd (hobs_or_trace words plan asked other trace p q)
 one_outcome laws told words all a b s t (words_ask_hobs plan p o) (words_ask_tool tool file q u) = absurd (hobs_or_tool words plan tool file p q)
 one_outcome laws told words all a b s t (words_ask_map hobs commands p o) (words_ask_hobs plan q u) = absurd (hobs_or_map words plan hobs commands q p)
-one_outcome laws told words all a b s t (words_ask_check other trace p o) (words_ask_hobs plan q u) = absurd (hobs_or_check words plan other trace q p)
+one_outcome laws told words all a b s t (words_ask_trace asked other trace p o) (words_ask_hobs plan q u) = absurd (hobs_or_trace words plan asked other trace q p)
 one_outcome laws told words all a b s t (words_ask_tool tool file p o) (words_ask_hobs plan q u) = absurd (hobs_or_tool words plan tool file q p)
 one_outcome laws told words all a b s t (usage none e u) (words_ask_follow plan order q o) = absurd (none.no_follow plan order q)
 one_outcome laws told words all a b s t (words_ask_follow plan order p o) (usage none f v) = absurd (none.no_follow plan order p)
 one_outcome laws told words all a b s t (words_ask_follow plan order p o) (words_ask_map hobs commands q u) = absurd (follow_or_map words plan order hobs commands p q)
-one_outcome laws told words all a b s t (words_ask_follow plan order p o) (words_ask_check other trace q u) = absurd (follow_or_check words plan order other trace p q)
+one_outcome laws told words all a b s t (words_ask_follow plan order p o) (words_ask_trace asked other trace q u) = absurd (follow_or_trace words plan order asked other trace p q)
 one_outcome laws told words all a b s t (words_ask_follow plan order p o) (words_ask_hobs other q u) = absurd (follow_or_hobs words plan order other p q)
 one_outcome laws told words all a b s t (words_ask_follow plan order p o) (words_ask_tool tool file q u) = absurd (follow_or_tool words plan order tool file p q)
 one_outcome laws told words all a b s t (words_ask_map hobs commands p o) (words_ask_follow plan order q u) = absurd (follow_or_map words plan order hobs commands q p)
-one_outcome laws told words all a b s t (words_ask_check other trace p o) (words_ask_follow plan order q u) = absurd (follow_or_check words plan order other trace q p)
+one_outcome laws told words all a b s t (words_ask_trace asked other trace p o) (words_ask_follow plan order q u) = absurd (follow_or_trace words plan order asked other trace q p)
 one_outcome laws told words all a b s t (words_ask_hobs other p o) (words_ask_follow plan order q u) = absurd (follow_or_hobs words plan order other q p)
 one_outcome laws told words all a b s t (words_ask_tool tool file p o) (words_ask_follow plan order q u) = absurd (follow_or_tool words plan order tool file q p)
 one_outcome laws told words all a b s t (words_ask_follow plan order p o) (words_ask_follow text lines q u) =
@@ -275,12 +297,12 @@ one_outcome laws told words all a b s t (words_ask_follow plan order p o) (words
 one_outcome laws told words all a b s t (usage none e u) (words_ask_explanation plan q o) = absurd (none.no_explanation plan q)
 one_outcome laws told words all a b s t (words_ask_explanation plan p o) (usage none f v) = absurd (none.no_explanation plan p)
 one_outcome laws told words all a b s t (words_ask_explanation plan p o) (words_ask_map hobs commands q u) = absurd (explain_or_map words plan hobs commands p q)
-one_outcome laws told words all a b s t (words_ask_explanation plan p o) (words_ask_check other trace q u) = absurd (explain_or_check words plan other trace p q)
+one_outcome laws told words all a b s t (words_ask_explanation plan p o) (words_ask_trace asked other trace q u) = absurd (explain_or_trace words plan asked other trace p q)
 one_outcome laws told words all a b s t (words_ask_explanation plan p o) (words_ask_follow other order q u) = absurd (explain_or_follow words plan other order p q)
 one_outcome laws told words all a b s t (words_ask_explanation plan p o) (words_ask_hobs other q u) = absurd (explain_or_hobs words plan other p q)
 one_outcome laws told words all a b s t (words_ask_explanation plan p o) (words_ask_tool tool file q u) = absurd (explain_or_tool words plan tool file p q)
 one_outcome laws told words all a b s t (words_ask_map hobs commands p o) (words_ask_explanation plan q u) = absurd (explain_or_map words plan hobs commands q p)
-one_outcome laws told words all a b s t (words_ask_check other trace p o) (words_ask_explanation plan q u) = absurd (explain_or_check words plan other trace q p)
+one_outcome laws told words all a b s t (words_ask_trace asked other trace p o) (words_ask_explanation plan q u) = absurd (explain_or_trace words plan asked other trace q p)
 one_outcome laws told words all a b s t (words_ask_follow other order p o) (words_ask_explanation plan q u) = absurd (explain_or_follow words plan other order q p)
 one_outcome laws told words all a b s t (words_ask_hobs other p o) (words_ask_explanation plan q u) = absurd (explain_or_hobs words plan other q p)
 one_outcome laws told words all a b s t (words_ask_tool tool file p o) (words_ask_explanation plan q u) = absurd (explain_or_tool words plan tool file q p)
@@ -295,11 +317,13 @@ one_outcome laws told words all a b s t (words_ask_map hobs commands p o) (words
     let Q : List ℕ → Type 0 = λ x. MapOutcome told hobs x b t in
     let here = subst Q (ap third (sym q.0 ∙ p.0)) (subst P (ap second (sym q.0 ∙ p.0)) u) in
     one_of_map laws told hobs commands (λ name named. all name (of_map hobs commands p named)) a b s t o here
-one_outcome laws told words all a b s t (words_ask_check plan trace p o) (words_ask_check text lines q u) =
-    let P : List ℕ → Type 0 = λ x. CheckOutcome told x lines b t in
-    let Q : List ℕ → Type 0 = λ x. CheckOutcome told plan x b t in
-    let here = subst Q (ap third (sym q.0 ∙ p.0)) (subst P (ap second (sym q.0 ∙ p.0)) u) in
-    one_of_check laws told plan trace (λ name named. all name (of_check plan trace p named)) a b s t o here
+one_outcome laws told words all a b s t (words_ask_trace asked plan trace p o) (words_ask_trace other text lines q u) =
+    let P : TraceTool → Type 0 = λ x. TraceOutcome x told text lines b t in
+    let Q : List ℕ → Type 0 = λ x. TraceOutcome asked told x lines b t in
+    let R : List ℕ → Type 0 = λ x. TraceOutcome asked told plan x b t in
+    let same = one_asked words asked other plan trace text lines p q in
+    let here = subst R (ap third (sym q.0 ∙ p.0)) (subst Q (ap second (sym q.0 ∙ p.0)) (subst P same u)) in
+    one_of_trace laws asked told plan trace (λ name named. all name (of_trace asked plan trace p named)) a b s t o here
 one_outcome laws told words all a b s t (words_ask_tool tool file p o) (words_ask_tool other name q u) =
     let same : other ≡ tool = one_tool words tool other file name p q in
     let asks : AskForTool words tool name = subst (λ (x : Tool). AskForTool words x name) same q in

@@ -2,6 +2,8 @@
 -- Own.
 use Rattle.std.specs.Prelude.{◌≡◌, ◌≢◌, ℕ, List, [], ◌∷◌, ◌++◌, codes}
 use Rattle.pitools.specs.declared.command_line.Tool.{Tool}
+use Rattle.pitools.specs.declared.command_line.TraceTool.{TraceTool}
+use Rattle.pitools.specs.declared.command_line.TraceTool.TheVariants.{Check, Explain}
 use Rattle.pitools.specs.declared.command_line.Tool.TheVariants.{AssembleDepex, AssembleScript, ReadPei, ReadDxe, ReadScript, Mp, Volume, ReadVolume}
 
 -- the words that ask for a tool of one file
@@ -23,9 +25,14 @@ AskForTool words tool file = (words ≡ tool_words tool ++ file ∷ []) × (file
 abbrev pub AskForMap : List (List ℕ) → List ℕ → List ℕ → Type 0
 AskForMap words hobs commands = (words ≡ codes "gcd" ∷ hobs ∷ commands ∷ []) × (hobs ≢ []) × (commands ≢ [])
 
--- the words ask whether a file has the trace of a free boot of a plan
-abbrev pub AskForCheck : List (List ℕ) → List ℕ → List ℕ → Type 0
-AskForCheck words plan trace = (words ≡ codes "check" ∷ plan ∷ trace ∷ []) × (plan ≢ []) × (trace ≢ [])
+-- the word of a tool of a plan and of a trace
+abbrev pub trace_word : TraceTool → List ℕ
+trace_word Check = codes "check"
+trace_word Explain = codes "explain"
+
+-- the words ask whether a file has the trace of a free boot of a plan, or why each module of that boot started
+abbrev pub AskForTrace : List (List ℕ) → TraceTool → List ℕ → List ℕ → Type 0
+AskForTrace words tool plan trace = (words ≡ trace_word tool ∷ plan ∷ trace ∷ []) × (plan ≢ []) × (trace ≢ [])
 
 -- the words ask for the boot of a plan in an order of starts
 abbrev pub AskForFollow : List (List ℕ) → List ℕ → List ℕ → Type 0
@@ -43,7 +50,7 @@ AskForExplanation words plan = (words ≡ codes "explain" ∷ plan ∷ []) × (p
 pub record AskForNothing (words : List (List ℕ)) : Type 0 where
   pub no_tool : (tool : Tool) (file : List ℕ) → AskForTool words tool file → ⊥
   pub no_map : (hobs commands : List ℕ) → AskForMap words hobs commands → ⊥
-  pub no_check : (plan trace : List ℕ) → AskForCheck words plan trace → ⊥
+  pub no_trace : (tool : TraceTool) (plan trace : List ℕ) → AskForTrace words tool plan trace → ⊥
   pub no_follow : (plan order : List ℕ) → AskForFollow words plan order → ⊥
   pub no_hobs : (plan : List ℕ) → AskForHobs words plan → ⊥
   pub no_explanation : (plan : List ℕ) → AskForExplanation words plan → ⊥

@@ -19,18 +19,22 @@ use Rattle.pitools.specs.FileReading.{IsRead, LongOutcome}
 use Rattle.pitools.specs.JobOutcome.{JobOutcome}
 use Rattle.pitools.specs.Refusals.{image_line}
 
--- the lines of a catalogue, and of the run of its boot
-pub record IsExplanation (plan : Plan) (images : List (List ℕ)) (catalog : Catalog) (out : List ℕ) : Type 0 where
+-- the lines of a catalogue, and of a run of its boot that is explained so
+pub record IsExplanation (Run : Explained → Type 0) (images : List (List ℕ)) (catalog : Catalog) (out : List ℕ) : Type 0 where
   pub front : List ℕ
   pub catalogue : IsCatalogText catalog.volumes images catalog.modules front
   pub explained : Explained
-  pub run : IsExplained (board_of plan catalog images) catalog plan.fuel explained
+  pub run : Run explained
   pub is : out ≡ front ++ explained_text catalog.modules explained
+
+-- the boot itself, explained
+abbrev pub RunsItself : Plan → List (List ℕ) → Catalog → Explained → Type 0
+RunsItself plan images catalog e = IsExplained (board_of plan catalog images) catalog plan.fuel e
 
 -- what a plan and its images lead to
 pub data ExplainReport (plan : Plan) (images : List (List ℕ)) (status : ToolStatus) (out : List ℕ) : Type 0 where
   faulty_image : (fault : ImageFault) → IsImageFault plan images fault → status ≡ ImageRefused → out ≡ image_line fault → ExplainReport plan images status out
-  explained_so : (catalog : Catalog) → IsCatalogue plan images catalog → IsExplanation plan images catalog out → status ≡ Done → ExplainReport plan images status out
+  explained_so : (catalog : Catalog) → IsCatalogue plan images catalog → IsExplanation (RunsItself plan images catalog) images catalog out → status ≡ Done → ExplainReport plan images status out
 
 -- what the file of a plan leads to
 pub data ExplainOutcome (told : List ℕ → Option (List ℕ)) (plan : List ℕ) (status : ToolStatus) (out : List ℕ) : Type 0 where

@@ -9,6 +9,8 @@ pub mod MpReport
 pub mod JobOutcome
 pub mod CheckReport
 pub mod ExplainReport
+pub mod ToldReport
+pub mod TraceReport
 pub mod HobsReport
 pub mod FollowReport
 pub mod TextReport

@@ -3,13 +3,14 @@
 use Rattle.std.specs.Prelude.{◌≡◌, ◌⊎◌, ℕ, List, Option}
 use Rattle.pi_base.specs.declared.phase.Phase.TheVariants.{Pei, Dxe}
 use Rattle.pitools.specs.declared.command_line.Tool.{Tool}
+use Rattle.pitools.specs.declared.command_line.TraceTool.{TraceTool}
 use Rattle.pitools.specs.declared.command_line.Tool.TheVariants.{AssembleDepex, AssembleScript, ReadPei, ReadDxe, ReadScript, Mp, Volume, ReadVolume}
 use Rattle.pitools.specs.declared.status.ToolStatus.{ToolStatus}
 use Rattle.pitools.specs.declared.status.ToolStatus.TheVariants.{Usage}
-use Rattle.pitools.specs.CommandLine.{AskForCheck, AskForExplanation, AskForFollow, AskForHobs, AskForMap, AskForNothing, AskForTool}
+use Rattle.pitools.specs.CommandLine.{AskForExplanation, AskForFollow, AskForHobs, AskForMap, AskForNothing, AskForTool, AskForTrace}
 use Rattle.pitools.specs.FileReading.{IsRead, LongOutcome}
 use Rattle.pitools.specs.Refusals.{usage_line}
-use Rattle.pitools.specs.CheckReport.{CheckNames, CheckOutcome}
+use Rattle.pitools.specs.TraceReport.{TraceNames, TraceOutcome}
 use Rattle.pitools.specs.FollowReport.{FollowNames, FollowOutcome}
 use Rattle.pitools.specs.HobsReport.{HobsNames, HobsOutcome}
 use Rattle.pitools.specs.ExplainReport.{ExplainNames, ExplainOutcome}
@@ -68,7 +69,7 @@ pub data MapOutcome (told : List ℕ → Option (List ℕ)) (hobs commands : Lis
 pub data Outcome (told : List ℕ → Option (List ℕ)) (words : List (List ℕ)) (status : ToolStatus) (text : List ℕ) : Type 0 where
   usage : AskForNothing words → status ≡ Usage → text ≡ usage_line → Outcome told words status text
   words_ask_map : (hobs commands : List ℕ) → AskForMap words hobs commands → MapOutcome told hobs commands status text → Outcome told words status text
-  words_ask_check : (plan trace : List ℕ) → AskForCheck words plan trace → CheckOutcome told plan trace status text → Outcome told words status text
+  words_ask_trace : (tool : TraceTool) (plan trace : List ℕ) → AskForTrace words tool plan trace → TraceOutcome tool told plan trace status text → Outcome told words status text
   words_ask_follow : (plan order : List ℕ) → AskForFollow words plan order → FollowOutcome told plan order status text → Outcome told words status text
   words_ask_hobs : (plan : List ℕ) → AskForHobs words plan → HobsOutcome told plan status text → Outcome told words status text
   words_ask_explanation : (plan : List ℕ) → AskForExplanation words plan → ExplainOutcome told plan status text → Outcome told words status text
@@ -80,7 +81,7 @@ MapNames told hobs commands name = (name ≡ hobs) ⊎ ((bytes : List ℕ) × Is
 
 pub data Names (told : List ℕ → Option (List ℕ)) (words : List (List ℕ)) (name : List ℕ) : Type 0 where
   of_map : (hobs commands : List ℕ) → AskForMap words hobs commands → MapNames told hobs commands name → Names told words name
-  of_check : (plan trace : List ℕ) → AskForCheck words plan trace → CheckNames told plan trace name → Names told words name
+  of_trace : (tool : TraceTool) (plan trace : List ℕ) → AskForTrace words tool plan trace → TraceNames told plan trace name → Names told words name
   of_follow : (plan order : List ℕ) → AskForFollow words plan order → FollowNames told plan order name → Names told words name
   of_hobs : (plan : List ℕ) → AskForHobs words plan → HobsNames told plan name → Names told words name
   of_explanation : (plan : List ℕ) → AskForExplanation words plan → ExplainNames told plan name → Names told words name

@@ -1,27 +1,22 @@
-// A trace, held against the free boots of a plan.
-ghost use Rattle.std.specs.Prelude.{◌≡◌, ◌≤◌, IfOk, OnErr, length};
+// The verdict on a trace.
+ghost use Rattle.std.specs.Prelude.{◌≡◌, ◌≤◌, IfOk, length};
 ghost use Rattle.boot_plan.specs.Range.{IsPlanInRange};
-ghost use Rattle.plan_files.specs.Job.{IsNamedIn};
-ghost use Rattle.pitools.specs.CheckReport.{CheckNames, CheckOutcome, CheckReport, TextsOutcome};
-ghost use Rattle.pitools.specs.Ends.{Reports, Tells};
+ghost use Rattle.pitools.specs.declared.command_line.TraceTool.TheVariants.{Check};
+ghost use Rattle.pitools.specs.Ends.{Tells};
+ghost use Rattle.pitools.specs.TraceReport.{TraceReport};
 
-use crate::reading::{Reading, read_file, report_of};
 use crate::report::Report;
-use boot_io::Files;
 use free_check::{CheckFault, check};
 use pi_base::OutOfMemory;
-use plan_files::{Job, NoJob, PLAN_LIMIT, job_of};
+use plan_files::Job;
 use std::alloc::Global;
 
-// The most bytes of a trace.
-const TRACE_LIMIT: usize = 0x400_0000;
-
-// What a plan, the images of its volumes and the text of a trace lead to.
-fn check_report(alloc: Global, job: Job, text: &[u8]) -> Result<Report, OutOfMemory>
+/// What a plan, the images of its volumes and the text of a trace lead to: whether it is that of a free boot.
+pub(crate) fn check_report(alloc: Global, job: Job, text: &[u8]) -> Result<Report, OutOfMemory>
     requires in_range { IsPlanInRange job.plan }
     requires as_many { length job.images ≡ length job.plan.volumes }
     requires text { length text.now ≤ 0x4000000 }
-    ensures { IfOk result (Tells (CheckReport job.plan job.images text.now)) }
+    ensures { IfOk result (Tells (TraceReport Check job.plan job.images text.now)) }
 {
     let Job { plan, images } = job;
     match check(alloc, &plan, images, text) {
@@ -30,48 +25,4 @@ fn check_report(alloc: Global, job: Job, text: &[u8]) -> Result<Report, OutOfMem
         Err(CheckFault::Twins { volume }) => Ok(Report::Twins(volume)),
         Err(CheckFault::Memory) => Err(OutOfMemory),
     }
-}
-
-// What the texts of a plan and of a trace lead to, by the files of the plan's volumes.
-fn with_texts<F: Files>(
-    alloc: Global,
-    content: &[u8],
-    text: &[u8],
-    files: &mut F,
-) -> Result<Report, OutOfMemory>
-    requires content { length content.now ≤ 0x10000 }
-    requires text { length text.now ≤ 0x4000000 }
-    ensures report { IfOk result (λ report. Reports (TextsOutcome (F.told files.old) content.now text.now)
-        (IsNamedIn (F.told files.old) content.now) report
-        (record { before = F.faults files.old; now = F.faults files.new; missed = F.missed files.new })) }
-    ensures memory { OnErr result (F.faults files.new ≡ F.faults files.old) }
-{
-    match job_of(alloc, content, files) {
-        Ok(job) => check_report(alloc, job, text),
-        Err(NoJob::Refused(line)) => Ok(report_of(line)),
-        Err(NoJob::Memory) => Err(OutOfMemory),
-    }
-}
-
-/// What the files of a plan, of a trace and of the plan's volumes lead to, which are read in this order; the plan is examined before its volumes are read.
-pub(crate) fn with_check<F: Files>(
-    alloc: Global,
-    plan: &str,
-    trace: &str,
-    files: &mut F,
-) -> Result<Report, OutOfMemory>
-    ensures report { IfOk result (λ report. Reports (CheckOutcome (F.told files.old) plan.now trace.now)
-        (CheckNames (F.told files.old) plan.now trace.now) report
-        (record { before = F.faults files.old; now = F.faults files.new; missed = F.missed files.new })) }
-    ensures memory { OnErr result (F.faults files.new ≡ F.faults files.old) }
-{
-    let content = match read_file(alloc, plan, PLAN_LIMIT, files)? {
-        Reading::Content(content) => content,
-        Reading::Refused(report) => return Ok(report),
-    };
-    let text = match read_file(alloc, trace, TRACE_LIMIT, files)? {
-        Reading::Content(text) => text,
-        Reading::Refused(report) => return Ok(report),
-    };
-    with_texts(alloc, content.as_slice(), text.as_slice(), files)
 }

@@ -1,7 +1,8 @@
 // The words of a command line.
 ghost use Rattle.std.specs.Prelude.{◌≡◌, ◌↔◌, ℕ, List, [], ◌∷◌, codes, IfSome, IfNone, IsTrue};
 ghost use Rattle.pitools.specs.declared.command_line.Tool.{Tool};
-ghost use Rattle.pitools.specs.CommandLine.{tool_words, AskForTool, AskForMap, AskForCheck, AskForExplanation, AskForFollow, AskForHobs};
+ghost use Rattle.pitools.specs.declared.command_line.TraceTool.{TraceTool};
+ghost use Rattle.pitools.specs.CommandLine.{tool_words, trace_word, AskForTool, AskForMap, AskForExplanation, AskForFollow, AskForHobs, AskForTrace};
 ghost use Rattle.boot_io.specs.Words.{words_of};
 
 /// A tool of one file.
@@ -23,6 +24,15 @@ pub(crate) enum Tool {
     Volume,
     /// The text of a volume.
     ReadVolume,
+}
+
+/// A tool of a plan and of a trace.
+#[derive(Clone, Copy)]
+pub(crate) enum TraceTool {
+    /// Whether the trace is that of a free boot.
+    Check,
+    /// The boot of which the trace tells, explained.
+    Explain,
 }
 
 // The tool that makes bytes of such a text.
@@ -124,11 +134,18 @@ fn asks_for_map(verb: &str) -> bool
     verb == "gcd"
 }
 
-// Whether a word asks for the check of a trace.
-fn asks_for_check(verb: &str) -> bool
-    ensures { IsTrue result ↔ (verb.now ≡ codes "check") }
+// The tool of a plan and of a trace that a word names.
+fn trace_tool_of(verb: &str) -> Option<TraceTool>
+    ensures found { IfSome result (λ tool. verb.now ≡ trace_word tool) }
+    ensures none { IfNone result ((tool : TraceTool) → verb.now ≡ trace_word tool → ⊥) }
 {
-    verb == "check"
+    if verb == "check" {
+        Some(TraceTool::Check)
+    } else if verb == "explain" {
+        Some(TraceTool::Explain)
+    } else {
+        None
+    }
 }
 
 // Whether a word asks for a boot in an order of starts.
@@ -194,10 +211,10 @@ pub(crate) fn asked_hobs(words: &[String]) -> Option<&str>
     }
 }
 
-/// The names of the files of a plan and of a trace, where the words ask whether the trace is a free boot's.
-pub(crate) fn asked_check(words: &[String]) -> Option<(&str, &str)>
-    ensures found { IfSome result (λ asked. AskForCheck (words_of words.now) asked.0.now asked.1.now) }
-    ensures none { IfNone result ((plan trace : List ℕ) → AskForCheck (words_of words.now) plan trace → ⊥) }
+/// The tool of a plan and of a trace that the words ask for, and the names of their files.
+pub(crate) fn asked_trace(words: &[String]) -> Option<(TraceTool, &str, &str)>
+    ensures found { IfSome result (λ asked. AskForTrace (words_of words.now) asked.0 asked.1.now asked.2.now) }
+    ensures none { IfNone result ((tool : TraceTool) (plan trace : List ℕ) → AskForTrace (words_of words.now) tool plan trace → ⊥) }
 {
     match words {
         [verb, plan, trace] => {
@@ -206,10 +223,9 @@ pub(crate) fn asked_check(words: &[String]) -> Option<(&str, &str)>
             if plan.is_empty() || trace.is_empty() {
                 return None;
             }
-            if asks_for_check(verb.as_str()) {
-                Some((plan, trace))
-            } else {
-                None
+            match trace_tool_of(verb.as_str()) {
+                Some(tool) => Some((tool, plan, trace)),
+                None => None,
             }
         }
         _ => None,

@@ -4,7 +4,7 @@ ghost use Rattle.boot_plan.specs.Range.{IsPlanInRange};
 ghost use Rattle.boot_core.specs.Examining.{IsExamined};
 ghost use Rattle.plan_files.specs.Job.{IsNamedIn};
 ghost use Rattle.pitools.specs.Ends.{Reports, Tells};
-ghost use Rattle.pitools.specs.ExplainReport.{ExplainNames, ExplainOutcome, ExplainReport, IsExplanation};
+ghost use Rattle.pitools.specs.ExplainReport.{ExplainNames, ExplainOutcome, ExplainReport, IsExplanation, RunsItself};
 ghost use Rattle.pitools.specs.JobOutcome.{JobOutcome};
 
 use crate::hobs_tool::image_report;
@@ -29,7 +29,7 @@ fn explanation(
     images: Seq<Seq<u8>>,
 ) -> Result<Seq<u8>, OutOfMemory>
     requires { IsExamined plan.now images catalog.now }
-    ensures { IfOk result (IsExplanation plan.now images catalog.now) }
+    ensures { IfOk result (IsExplanation (RunsItself plan.now images catalog.now) images catalog.now) }
 {
     let mut text = Seq::new(alloc);
     put_catalog(alloc, &mut text, catalog, images.as_slice())?;

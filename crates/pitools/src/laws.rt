@@ -3,7 +3,7 @@ ghost use Rattle.std.specs.Prelude.{◌≤◌, ℕ, List, Option, length};
 ghost use Rattle.pi_base.specs.Field.{AreBytes};
 ghost use Rattle.plan_files.specs.Job.{IsNamedIn};
 ghost use Rattle.pitools.specs.declared.command_line.Tool.{Tool};
-ghost use Rattle.pitools.specs.CheckReport.{TextsOutcome};
+ghost use Rattle.pitools.specs.declared.command_line.TraceTool.{TraceTool};
 ghost use Rattle.pitools.specs.FollowReport.{OrderTextsOutcome, order_limit};
 ghost use Rattle.pitools.specs.ExplainReport.{ExplainReport};
 ghost use Rattle.pitools.specs.HobsReport.{HobsReport};
@@ -11,6 +11,7 @@ ghost use Rattle.pitools.specs.JobOutcome.{JobOutcome};
 ghost use Rattle.pitools.specs.GcdReport.{GcdReport};
 ghost use Rattle.pitools.specs.OneOutcome.{AreAllTold, AreTold, IsOne};
 ghost use Rattle.pitools.specs.Outcome.{ContentReport, Outcome};
+ghost use Rattle.pitools.specs.TraceReport.{TextsOutcome};
 
 /// A HOB list and a text of commands lead to one report.
 pub(crate) fn one_map_report()
@@ -37,12 +38,15 @@ pub(crate) fn one_content_report()
 }
 
 /// The texts of a plan and of a trace lead to one report, where the files of the plan's volumes are told.
-pub(crate) fn one_check_report()
-    ensures { (told : List ℕ → Option (List ℕ)) (content text : List ℕ) → AreAllTold told (IsNamedIn told content)
-        → IsOne (TextsOutcome told content text) }
+pub(crate) fn one_trace_report()
+    ensures { (tool : TraceTool) (told : List ℕ → Option (List ℕ)) (content text : List ℕ) → AreAllTold told (IsNamedIn told content)
+        → IsOne (TextsOutcome tool told content text) }
 {
     boot_plan::one_reading();
     catalog_model::one_catalogue();
+    catalog_text::one_catalog_text();
+    boot_reasons::one_explanation();
+    trace_reader::one_reading();
 }
 
 /// The texts of a plan and of an order of starts within its limit lead to one report, where the files of the plan's volumes are told.
@@ -85,6 +89,6 @@ pub fn one_outcome()
     one_content_report();
     one_hobs_report();
     one_explain_report();
-    one_check_report();
+    one_trace_report();
     one_follow_report();
 }

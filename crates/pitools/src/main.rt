@@ -1,6 +1,7 @@
-//! The tools beside the boot: the check of a trace with free choice, a boot in an order of starts, the memory space map, the MP services, expressions and scripts as text, volumes from their texts, and texts of volumes.
+//! The tools beside the boot: the check of a trace with free choice, a boot in an order of starts, why modules start, the memory space map, the MP services, expressions and scripts as text, volumes from their texts, and texts of volumes.
 #![tactic(auto)]
 
+mod by_starts;
 mod cause_meaning;
 mod check_tool;
 mod command_line;
@@ -22,31 +23,35 @@ mod source_meaning;
 mod source_refusal;
 mod status;
 mod text_tool;
+mod told_tool;
 mod tools;
+mod trace_tool;
 mod volume_tool;
 
 use crate::forms::PROGRAM;
-use crate::meaning::tell;
+use crate::meaning::{tell, tells_of_files};
 use crate::status::ToolStatus;
 use crate::tools::tools_and_print;
 use boot_io::{PatientWriter, RealFiles};
-use overheard::{Heard, KeptFiles, KeptText};
-use program_edge::Call;
+use program_edge::{Call, Heard, Keeping, KeptFiles, KeptText, has_text};
 use std::io;
 use std::process::ExitCode;
 
-// Does what the words ask for, over the machine's files and standard output, and tells a person what came of it.
+// Does what the words ask for, over the machine's files and standard output, and tells on standard error what came of it.
 fn run(rt: &HostRuntime, call: &Call) -> ToolStatus {
     let alloc = rt.alloc();
     let words = call.words();
-    let mut files = KeptFiles::new(alloc, RealFiles::new(rt), call.is_told());
+    let mut files = KeptFiles::new(alloc, RealFiles::new(rt), call.keeping());
     let to = KeptText::new(
         alloc,
         PatientWriter::new(io::writer(rt), rt),
-        call.is_told(),
+        call.keeping(),
     );
     let (output, status) = tools_and_print(alloc, words, &mut files, to);
-    if call.is_told() {
+    if call.keeping() != Keeping::Nothing {
+        if has_text(&output) && tells_of_files(words, status) {
+            files.read_again(rt);
+        }
         tell(rt, words, status, &mut Heard::new(alloc, files, &output));
     }
     status

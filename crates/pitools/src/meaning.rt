@@ -6,9 +6,8 @@ use crate::source_meaning::tell_readings;
 use crate::status::ToolStatus;
 use boot_io::MemFiles;
 use fault_words::line_at;
-use overheard::Heard;
 use plan_files::read_file;
-use program_edge::text_of;
+use program_edge::{Heard, text_of};
 use std::str;
 
 // The most bytes of a file of which a line is shown.
@@ -18,7 +17,7 @@ const SHOWN_LIMIT: usize = 0x400_0000;
 const SHOWN_LEN: usize = 60;
 
 const USAGE: &str =
-    "usage: pitools check PLAN TRACE | pitools follow PLAN ORDER | pitools hobs PLAN | pitools explain PLAN | pitools gcd HOBS COMMANDS | pitools mp FILE | pitools volume TEXT | pitools text VOLUME | pitools asm depex|script FILE | pitools dis pei|dxe|script FILE";
+    "usage: pitools check PLAN TRACE | pitools follow PLAN ORDER | pitools hobs PLAN | pitools explain PLAN [TRACE] | pitools gcd HOBS COMMANDS | pitools mp FILE | pitools volume TEXT | pitools text VOLUME | pitools asm depex|script FILE | pitools dis pei|dxe|script FILE";
 
 // The word behind so many words.
 fn word_at(words: &[String], place: usize) -> &str {
@@ -36,13 +35,10 @@ fn tell_usage(rt: &HostRuntime, words: &[String]) {
             let verb = verb.as_str();
             let fault = if verb == "check" || verb == "follow" || verb == "gcd" {
                 "takes the names of two files behind it"
-            } else if verb == "mp"
-                || verb == "hobs"
-                || verb == "explain"
-                || verb == "volume"
-                || verb == "text"
-            {
+            } else if verb == "mp" || verb == "hobs" || verb == "volume" || verb == "text" {
                 "takes the name of a file behind it"
+            } else if verb == "explain" {
+                "takes the name of a plan behind it, and may take that of a trace"
             } else if verb == "asm" {
                 "takes depex or script behind it, and the name of a file"
             } else if verb == "dis" {
@@ -261,7 +257,12 @@ fn tell_done(rt: &HostRuntime, words: &[String], files: &mut MemFiles) {
     }
 }
 
-/// Tells a person what came of a run: a line for each status but Done, and for Done how expressions are read that mix AND and OR.
+/// Whether what is told of a run is read off its files.
+pub(crate) fn tells_of_files(words: &[String], status: ToolStatus) -> bool {
+    status != ToolStatus::Done || word_at(words, 0) == "volume"
+}
+
+/// Tells what came of a run: a line for each status but Done, and for Done how expressions are read that mix AND and OR.
 pub(crate) fn tell(rt: &HostRuntime, words: &[String], status: ToolStatus, heard: &mut Heard<'_>) {
     match status {
         ToolStatus::Done => tell_done(rt, words, &mut heard.files),

@@ -8,9 +8,8 @@ ghost use Rattle.pitools.specs.Leaving.{HasLeft, HasPut};
 ghost use Rattle.pitools.specs.OneOutcome.{AnswersExactly};
 ghost use Rattle.pitools.specs.Outcome.{limit_of, MapNames, MapOutcome, Names, Outcome, ToolOutcome};
 
-use crate::check_tool::with_check;
 use crate::command_line::{
-    Tool, asked_check, asked_explanation, asked_follow, asked_hobs, asked_map, asked_tool,
+    Tool, asked_explanation, asked_follow, asked_hobs, asked_map, asked_tool, asked_trace,
 };
 use crate::explain_tool::with_explain;
 use crate::follow_tool::with_follow;
@@ -22,6 +21,7 @@ use crate::reading::{Reading, read_file};
 use crate::report::Report;
 use crate::status::ToolStatus;
 use crate::text_tool::content_report;
+use crate::trace_tool::with_trace;
 use boot_io::{Files, RealSink, Sink, SinkFault};
 use mp_core::jobs_in_order;
 use pi_base::OutOfMemory;
@@ -104,8 +104,8 @@ fn with_words<F: Files>(
     if let Some((hobs, commands)) = asked_map(words) {
         return with_map(alloc, hobs, commands, files);
     }
-    if let Some((plan, trace)) = asked_check(words) {
-        return with_check(alloc, plan, trace, files);
+    if let Some((tool, plan, trace)) = asked_trace(words) {
+        return with_trace(alloc, tool, plan, trace, files);
     }
     if let Some((plan, order)) = asked_follow(words) {
         return with_follow(alloc, plan, order, files);
@@ -156,7 +156,7 @@ fn run_words<F: Files, S: Sink>(
     }
 }
 
-/// Does what the words of a command line ask for: `check PLAN TRACE`, `follow PLAN ORDER`, `hobs PLAN`, `explain PLAN`, `gcd HOBS COMMANDS`, `mp FILE`, `volume TEXT`, `text VOLUME`, `asm depex FILE`, `asm script FILE`, `dis pei FILE`,
+/// Does what the words of a command line ask for: `check PLAN TRACE`, `follow PLAN ORDER`, `hobs PLAN`, `explain PLAN`, `explain PLAN TRACE`, `gcd HOBS COMMANDS`, `mp FILE`, `volume TEXT`, `text VOLUME`, `asm depex FILE`, `asm script FILE`, `dis pei FILE`,
 /// `dis dxe FILE` or `dis script FILE`. The files that the words name are read in their order before any is examined, those of a plan's volumes behind the plan's examination, and all is decided before anything is put.
 pub fn tools_main<F: Files, S: Sink>(
     alloc: Global,

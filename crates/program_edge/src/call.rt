@@ -1,14 +1,16 @@
-// The call of a program: its words, and whether a person is told what comes of them.
+// The call of a program: its words, and what is told on standard error of what comes of them.
 use crate::asked::{Asked, asked_by_person};
+use crate::kept_files::Keeping;
+use crate::listening::keeping_for;
 use std::env;
-use std::io::{self, ErrorKind, IsTerminal};
+use std::io::{self, ErrorKind};
 
 /// The call of the program that runs.
 #[derive(Drop)]
 pub struct Call {
     words: Vec<String>,
     asked: Option<Asked>,
-    is_heard: bool,
+    keeping: Keeping,
 }
 
 // The words after the program's name. Where one is not UTF-8 there are none, which is no form of a command line.
@@ -26,27 +28,20 @@ fn words_of(rt: &HostRuntime) -> io::Result<Vec<String>> {
     }
 }
 
-// Whether somebody reads standard error: it is a terminal, or the environment asks for words.
-fn is_heard(rt: &HostRuntime) -> bool {
-    if rt.stderr().is_terminal() {
-        return true;
-    }
-    match env::var(rt, "PIBOOT_WORDS") {
-        Ok(asked) => !asked.is_empty(),
-        Err(_) => false,
-    }
-}
-
 impl Call {
     /// The words and the environment of the program. The words want memory, and nothing else.
     pub fn of(rt: &HostRuntime) -> io::Result<Call> {
         let words = words_of(rt)?;
         let asked = asked_by_person(words.as_slice());
-        let is_heard = is_heard(rt);
+        // Who asks for something else there is told nothing of the words.
+        let keeping = match asked {
+            Some(_) => Keeping::Nothing,
+            None => keeping_for(rt),
+        };
         Ok(Call {
             words,
             asked,
-            is_heard,
+            keeping,
         })
     }
 
@@ -60,8 +55,8 @@ impl Call {
         self.asked
     }
 
-    /// Whether a person is told what came of the words: somebody reads it, and they ask for nothing else there.
-    pub fn is_told(&self) -> bool {
-        self.is_heard && self.asked.is_none()
+    /// What is kept of the run, to be told of.
+    pub fn keeping(&self) -> Keeping {
+        self.keeping
     }
 }

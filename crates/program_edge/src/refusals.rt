@@ -1,17 +1,17 @@
 // What is told of files, plans and images that are refused, and of an output that failed.
+use crate::kept_files::AskedFile;
 use crate::program::{Program, text_of};
 use boot_io::MemFiles;
 use boot_plan::read_plan;
 use fault_words::{image_words, mistake_in};
 use mod_catalog::catalog;
-use overheard::Refused;
 use plan_files::{Job, PLAN_LIMIT, read_file, read_job};
 
 impl Program {
     /// Tells of the file that was not read.
-    pub fn tell_file(&self, rt: &HostRuntime, refused: &Option<Refused>, is_long: bool) {
+    pub fn tell_file(&self, rt: &HostRuntime, refused: &Option<AskedFile>, is_long: bool) {
         let program = self.name;
-        let Some(Refused { name, limit }) = refused else {
+        let Some(AskedFile { name, limit }) = refused else {
             let why = "it could not be read, or is too long; standard output names it";
             return self.put(rt, "a file", why);
         };

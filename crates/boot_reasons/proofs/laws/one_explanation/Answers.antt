@@ -1,5 +1,5 @@
-use Rattle.boot_reasons.proofs.Phases.{one_only}
+use Rattle.boot_reasons.proofs.OneRun.{RunLaws, one_boot}
 use Rattle.boot_reasons.proofs.laws.one_explanation.Goals as goal
 
 pub returns : goal.returns
-returns c = one_only
+returns c = let laws : RunLaws = record { aims = c.cursor_aims.ensures.aims; orders = c.order_is_of_modules.ensures } in one_boot laws

@@ -78,16 +78,16 @@ turns-preserved g c = record {
       let Names = NamesDrivers (g.C.Choice.drivers c.args.choice.now) T F c.args.in_pei c.args.sink.now in
       let Lets = LetsDrivers (g.C.Choice.lets_in_dxe c.args.choice.now) c.args.in_pei in
       let way = c.turns.invariant.way s actions fuel made stands in
-      let row = rw c.in_default.is at (c.in_ok-reached.ensures.row _ fuel c.args.sink.now (c.turns.invariant.made fuel made) way.on way.has) in
+      let row = rw c.in-Took.is at (c.in_ok-turn_by.ensures.row _ fuel c.args.sink.now (c.turns.invariant.made fuel made) way.on way.has) in
       coming_on laws Names Lets T F g.M.PeiStore.stands_for c.args.store.now catalog fuel (dxe_opening catalog s actions) c.args.sink.now c.turns.counter c.turns.dxe c.turn_by.new.dxe c.turns.queue c.turn_by.new.queue c.turns.sink c.turn_by.new.sink
-      c.args.steps.now (c.turns.steps + owed c.turns.queue) (c.turn_by.new.steps + owed c.turn_by.new.queue) c.requires.catalog way row c.in_ok-reached.ensures.faults;
-  made = λ fuel made. c.in_ok-reached.ensures.made fuel (c.turns.invariant.made fuel made);
-  queue = c.in_ok-reached.ensures.queue;
-  count = c.in_ok-reached.ensures.faults ∙ c.turns.invariant.count;
+      c.args.steps.now (c.turns.steps + owed c.turns.queue) (c.turn_by.new.steps + owed c.turn_by.new.queue) c.in-Took.field-0 c.requires.catalog way row c.in_ok-turn_by.ensures.faults;
+  made = λ fuel made. c.in_ok-turn_by.ensures.made fuel (c.turns.invariant.made fuel made);
+  queue = c.in_ok-turn_by.ensures.queue;
+  count = c.in_ok-turn_by.ensures.faults ∙ c.turns.invariant.count;
 }
 
-pub returns-in-Some-clause-row : goal.returns-in-Some-clause-row
-returns-in-Some-clause-row g c s actions fuel made stands =
+pub returns-in-Reached-clause-row : goal.returns-in-Reached-clause-row
+returns-in-Reached-clause-row g c s actions fuel made stands =
     let T = g.S.Sink.text in
     let F = g.S.Sink.faults in
     let catalog = c.args.catalog.now in
@@ -95,11 +95,11 @@ returns-in-Some-clause-row g c s actions fuel made stands =
     let Lets = LetsDrivers (g.C.Choice.lets_in_dxe c.args.choice.now) c.args.in_pei in
     let way = c.turns.invariant.way s actions fuel made stands in
     coming_to c.dxe_chooses_by_groups.ensures Names Lets T F g.M.PeiStore.stands_for c.args.store.now catalog fuel (dxe_opening catalog s actions) c.args.sink.now c.turns.counter c.turns.dxe c.turn_by.new.dxe c.turns.queue c.turn_by.new.queue c.turns.sink c.turn_by.new.sink
-    c.args.steps.now (c.turns.steps + owed c.turns.queue) (c.turn_by.new.steps + owed c.turn_by.new.queue) c.in-Some.reached way
-    (rw c.in-Some.is at (c.in_ok-reached.ensures.row _ fuel c.args.sink.now (c.turns.invariant.made fuel made) way.on way.has))
+    c.args.steps.now (c.turns.steps + owed c.turns.queue) (c.turn_by.new.steps + owed c.turn_by.new.queue) c.in-Reached.reached way
+    (rw c.in-Reached.is at (c.in_ok-turn_by.ensures.row _ fuel c.args.sink.now (c.turns.invariant.made fuel made) way.on way.has))
 
-pub returns-in-Some-clause-few_starts : goal.returns-in-Some-clause-few_starts
-returns-in-Some-clause-few_starts g c =
+pub returns-in-Reached-clause-few_starts : goal.returns-in-Reached-clause-few_starts
+returns-in-Reached-clause-few_starts g c =
     let T = g.S.Sink.text in
     let F = g.S.Sink.faults in
     let catalog = c.args.catalog.now in
@@ -112,13 +112,13 @@ returns-in-Some-clause-few_starts g c =
     let made = c.requires.made.1 in
     let way = c.turns.invariant.way s actions fuel made c.requires.opening.2 in
     let few = few_left laws Names Lets T F g.M.PeiStore.stands_for c.args.store.now catalog fuel (dxe_opening catalog s actions) c.args.sink.now c.turns.counter c.turns.dxe c.turn_by.new.dxe c.turns.queue c.turn_by.new.queue c.turns.sink c.turn_by.new.sink
-    c.args.steps.now (c.turns.steps + owed c.turns.queue) (c.turn_by.new.steps + owed c.turn_by.new.queue) c.in-Some.reached c.requires.catalog way
-    (rw c.in-Some.is at (c.in_ok-reached.ensures.row _ fuel c.args.sink.now (c.turns.invariant.made fuel made) way.on way.has)) in
+    c.args.steps.now (c.turns.steps + owed c.turns.queue) (c.turn_by.new.steps + owed c.turn_by.new.queue) c.in-Reached.reached c.requires.catalog way
+    (rw c.in-Reached.is at (c.in_ok-turn_by.ensures.row _ fuel c.args.sink.now (c.turns.invariant.made fuel made) way.on way.has)) in
     let modules = c.requires.catalog.few_modules in
     omega (arith, few, modules)
 
-pub returns-in-Some-clause-few : goal.returns-in-Some-clause-few
-returns-in-Some-clause-few g c few =
+pub returns-in-Reached-clause-few : goal.returns-in-Reached-clause-few
+returns-in-Reached-clause-few g c few =
     let T = g.S.Sink.text in
     let F = g.S.Sink.faults in
     let catalog = c.args.catalog.now in
@@ -135,41 +135,41 @@ returns-in-Some-clause-few g c few =
     let fits = c.fuel.type_inv in
     let below : fuel < 2 ^ 32 = omega (arith, is, fits) in
     few_over laws Names Lets T F g.M.PeiStore.stands_for c.args.store.now catalog fuel (dxe_opening catalog s actions) c.args.sink.now c.turns.counter c.args.dxe.now c.turns.dxe c.turn_by.new.dxe c.turns.queue c.turn_by.new.queue c.turns.sink c.turn_by.new.sink
-    c.args.steps.now (c.turns.steps + owed c.turns.queue) (c.turn_by.new.steps + owed c.turn_by.new.queue) (2 ^ 32) c.in-Some.reached below few stands.core (c.in_ok-reached.ensures.made fuel (c.turns.invariant.made fuel made)) way
-    (rw c.in-Some.is at (c.in_ok-reached.ensures.row _ fuel c.args.sink.now (c.turns.invariant.made fuel made) way.on way.has))
+    c.args.steps.now (c.turns.steps + owed c.turns.queue) (c.turn_by.new.steps + owed c.turn_by.new.queue) (2 ^ 32) c.in-Reached.reached below few stands.core (c.in_ok-turn_by.ensures.made fuel (c.turns.invariant.made fuel made)) way
+    (rw c.in-Reached.is at (c.in_ok-turn_by.ensures.row _ fuel c.args.sink.now (c.turns.invariant.made fuel made) way.on way.has))
 
-pub returns-in-Some-clause-few_steps : goal.returns-in-Some-clause-few_steps
-returns-in-Some-clause-few_steps g c s actions fuel made stands =
+pub returns-in-Reached-clause-few_steps : goal.returns-in-Reached-clause-few_steps
+returns-in-Reached-clause-few_steps g c s actions fuel made stands =
     let T = g.S.Sink.text in
     let F = g.S.Sink.faults in
     let catalog = c.args.catalog.now in
     let Names = NamesDrivers (g.C.Choice.drivers c.args.choice.now) T F c.args.in_pei c.args.sink.now in
     let Lets = LetsDrivers (g.C.Choice.lets_in_dxe c.args.choice.now) c.args.in_pei in
     coming_few Names Lets T F g.M.PeiStore.stands_for c.args.store.now catalog fuel (dxe_opening catalog s actions) c.args.sink.now c.turns.counter c.turns.dxe c.turns.queue c.turns.sink c.args.steps.now (c.turns.steps + owed c.turns.queue) c.turn_by.new.steps
-    (c.turns.invariant.way s actions fuel made stands) c.in_ok-reached.ensures.few_steps
+    (c.turns.invariant.way s actions fuel made stands) c.in_ok-turn_by.ensures.few_steps
 
-pub returns-in_err-reached-clause-row : goal.returns-in_err-reached-clause-row
-returns-in_err-reached-clause-row g c s actions fuel made stands =
+pub returns-in_err-turn_by-clause-row : goal.returns-in_err-turn_by-clause-row
+returns-in_err-turn_by-clause-row g c s actions fuel made stands =
     let T = g.S.Sink.text in
     let F = g.S.Sink.faults in
     let catalog = c.args.catalog.now in
     let Names = NamesDrivers (g.C.Choice.drivers c.args.choice.now) T F c.args.in_pei c.args.sink.now in
     let Lets = LetsDrivers (g.C.Choice.lets_in_dxe c.args.choice.now) c.args.in_pei in
     let way = c.turns.invariant.way s actions fuel made stands in
-    let p = err_from_is_err_and c.from_residual-in_err-reached.result c.from_residual-in_err-reached.ensures.1 in
+    let p = err_from_is_err_and c.from_residual-in_err-turn_by.result c.from_residual-in_err-turn_by.ensures.1 in
     rw p.1 (coming_halts c.dxe_chooses_by_groups.ensures Names Lets T F g.M.PeiStore.stands_for c.args.store.now catalog fuel (dxe_opening catalog s actions) c.args.sink.now c.turns.counter c.turns.dxe c.turn_by.new.dxe c.turns.queue c.turn_by.new.queue c.turns.sink c.turn_by.new.sink
     c.args.steps.now (c.turns.steps + owed c.turns.queue) (c.turn_by.new.steps + owed c.turn_by.new.queue) _ way
-    (c.in_err-reached.ensures.row _ fuel c.args.sink.now (c.turns.invariant.made fuel made) way.on way.has))
+    (c.in_err-turn_by.ensures.row _ fuel c.args.sink.now (c.turns.invariant.made fuel made) way.on way.has))
 
-pub returns-in_err-reached-clause-few_steps : goal.returns-in_err-reached-clause-few_steps
-returns-in_err-reached-clause-few_steps g c s actions fuel made stands =
+pub returns-in_err-turn_by-clause-few_steps : goal.returns-in_err-turn_by-clause-few_steps
+returns-in_err-turn_by-clause-few_steps g c s actions fuel made stands =
     let T = g.S.Sink.text in
     let F = g.S.Sink.faults in
     let catalog = c.args.catalog.now in
     let Names = NamesDrivers (g.C.Choice.drivers c.args.choice.now) T F c.args.in_pei c.args.sink.now in
     let Lets = LetsDrivers (g.C.Choice.lets_in_dxe c.args.choice.now) c.args.in_pei in
     coming_few Names Lets T F g.M.PeiStore.stands_for c.args.store.now catalog fuel (dxe_opening catalog s actions) c.args.sink.now c.turns.counter c.turns.dxe c.turns.queue c.turns.sink c.args.steps.now (c.turns.steps + owed c.turns.queue) c.turn_by.new.steps
-    (c.turns.invariant.way s actions fuel made stands) c.in_err-reached.ensures.few_steps
+    (c.turns.invariant.way s actions fuel made stands) c.in_err-turn_by.ensures.few_steps
 
 pub unreachable-requires : goal.unreachable-requires
 unreachable-requires g c =

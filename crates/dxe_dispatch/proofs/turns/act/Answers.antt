@@ -1,13 +1,68 @@
+use Rattle.std.proofs.Common.{subst, sym, drop, length, ◌≤◌, ◌+◌, ◌∙◌, arith}
 use Rattle.std.proofs.lemmas.Result.{err_from_is_err_and}
+use Rattle.boot_model.specs.DxeChoice.{drivers_of}
+use Rattle.boot_model.specs.DxeStep.{dxe_step}
+use Rattle.driver_order.specs.Order.{Drivers, IsOrderOf}
+use Rattle.dxe_choice.specs.Queue.{Discovers, owed}
+use Rattle.dxe_dispatch.proofs.Passing.{busy_starts_none}
+use Rattle.dxe_dispatch.proofs.Turning.{event_owes, event_so, has_event, new_drivers, owes_still, part_acted, told, whole_part, ends_so}
 use Rattle.dxe_dispatch.proofs.turns.act.Goals as goal
 
-pub returns-in_err-go_on-clause-row : goal.returns-in_err-go_on-clause-row
-returns-in_err-go_on-clause-row g c lets m fuel made ready =
+pub returns-in_err-event-clause-row : goal.returns-in_err-event-clause-row
+returns-in_err-event-clause-row g c lets m fuel made ready =
     let p = err_from_is_err_and c.from_residual.result c.from_residual.ensures.1 in
-    rw p.1 (c.in_err-go_on.ensures.row m fuel made ready lets)
+    rw p.1 (part_acted lets c.args.catalog.now fuel m _ (λ idle. c.requires.busy (sym ready.now.machine.core.frames ∙ idle)) (c.in_err-event.ensures.row m fuel made ready.now.machine ready.waits))
 
-pub returns-in-Went-clause-row : goal.returns-in-Went-clause-row
-returns-in-Went-clause-row g c lets m fuel made ready = let row = rw c.in-Went.is at (c.in_ok-go_on.ensures.row m fuel made ready) in row.1 lets
+pub discover-requires-clause-new : goal.discover-requires-clause-new
+discover-requires-clause-new g c =
+    let catalog = c.args.catalog.now in
+    let m = c.requires.state.0 in
+    let fuel = c.requires.state.1 in
+    let made = c.requires.state.2 in
+    let ready = c.requires.state.3 in
+    let went = rw c.in-Went.is at (c.in_ok-event.ensures.row m fuel made ready.now.machine ready.waits) in
+    let core = went.2.machine.core in
+    let here = c.tell.ensures.row catalog c.requires.queue m (told m (dxe_step catalog fuel m)) ready.now.queue (has_event catalog fuel m c.in-Went.event c.step.new.self.services.handles went.1 core.services.handles) in
+    let order = subst (IsOrderOf catalog _) (sym c.order.ensures) core.services.order in
+    new_drivers catalog fuel m c.in-Went.event c.tell.new.queue c.order.result.now went.1 order here.index.order ready.once
+
+pub returns-in_err-discover-in-Went-clause-row : goal.returns-in_err-discover-in-Went-clause-row
+returns-in_err-discover-in-Went-clause-row g c lets m fuel made ready =
+    let went = rw c.in-Went.is at (c.in_ok-event.ensures.row m fuel made ready.now.machine ready.waits) in
+    let p = err_from_is_err_and c.from_residual-in_err-discover-in-Went.result c.from_residual-in_err-discover-in-Went.ensures.1 in
+    rw p.1 (whole_part lets c.args.catalog.now m (dxe_step c.args.catalog.now fuel m) _ went.0 went.2.printed)
+
+pub returns-in_ok-discover-in-Went-clause-row : goal.returns-in_ok-discover-in-Went-clause-row
+returns-in_ok-discover-in-Went-clause-row g c lets m fuel made ready =
+    let catalog = c.args.catalog.now in
+    let went = rw c.in-Went.is at (c.in_ok-event.ensures.row m fuel made ready.now.machine ready.waits) in
+    let core = went.2.machine.core in
+    let here = c.tell.ensures.row catalog c.requires.queue m (told m (dxe_step catalog fuel m)) ready.now.queue (has_event catalog fuel m c.in-Went.event c.step.new.self.services.handles went.1 core.services.handles) in
+    let row = subst (λ (order : Drivers). Discovers catalog c.tell.new.queue (drop c.in-Went.event.known order.volumes) c.discover.new.self) c.order.ensures c.in_ok-discover-in-Went.ensures.row in
+    let turned = event_so lets g.M.PeiStore.stands_for c.args.store.now catalog fuel c.step.new.self c.tell.new.queue c.discover.new.self m c.in-Went.event _ went.0 went.1 went.2 here row in
+    (turned, (went.1, busy_starts_none catalog m went.0))
+
+pub returns-in_ok-discover-in-Went-clause-owes : goal.returns-in_ok-discover-in-Went-clause-owes
+returns-in_ok-discover-in-Went-clause-owes g c before m fuel made ready =
+    let catalog = c.args.catalog.now in
+    let went = rw c.in-Went.is at (c.in_ok-event.ensures.row m fuel made ready.now.machine ready.waits) in
+    let core = went.2.machine.core in
+    let here = c.tell.ensures.row catalog c.requires.queue m (told m (dxe_step catalog fuel m)) ready.now.queue (has_event catalog fuel m c.in-Went.event c.step.new.self.services.handles went.1 core.services.handles) in
+    let owes = subst (λ (order : Drivers). owed c.discover.new.self ≤ owed c.tell.new.queue + length (drivers_of catalog (drop c.in-Went.event.known order.volumes))) c.order.ensures c.in_ok-discover-in-Went.ensures.owes in
+    event_owes catalog fuel m c.in-Went.event c.step.new.self.services.order.volumes before (owed c.args.queue.now) (owed c.tell.new.queue) (owed c.discover.new.self) went.1
+    went.2.machine.core.services.order.volumes_are (c.tell.ensures.owes catalog c.requires.queue m ready.now.queue) owes
+
+pub unreachable-requires : goal.unreachable-requires
+unreachable-requires g c =
+    let m = c.requires.state.0 in
+    let ready = c.requires.state.3 in
+    let idle = rw c.in-Idle.is at (c.in_ok-event.ensures.row m c.requires.state.1 c.requires.state.2 ready.now.machine ready.waits) in
+    c.requires.busy (sym ready.now.machine.core.frames ∙ idle.0)
 
 pub returns-in-Ended-clause-row : goal.returns-in-Ended-clause-row
-returns-in-Ended-clause-row g c lets m fuel made ready = let row = rw c.in-Ended.is at (c.in_ok-go_on.ensures.row m fuel made ready) in row.1 lets
+returns-in-Ended-clause-row g c lets m fuel made ready =
+    let ended = rw c.in-Ended.is at (c.in_ok-event.ensures.row m fuel made ready.now.machine ready.waits) in
+    ends_so lets g.M.PeiStore.stands_for c.args.store.now c.args.catalog.now fuel c.step.new.self c.args.queue.now m c.in-Ended.end _ (λ idle. c.requires.busy (sym ready.now.machine.core.frames ∙ idle)) ended ready.now.queue
+
+pub returns-in-Ended-clause-owes : goal.returns-in-Ended-clause-owes
+returns-in-Ended-clause-owes g c before m fuel made ready = owes_still c.args.catalog.now fuel m _ _ (omega arith)

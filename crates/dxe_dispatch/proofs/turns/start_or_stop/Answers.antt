@@ -1,6 +1,7 @@
 use Rattle.std.proofs.Common.{sym, ◌∙◌}
 use Rattle.std.proofs.lemmas.Result.{err_from_is_err_and}
 use Rattle.boot_model.specs.DxeStep.{dxe_step}
+use Rattle.dxe_dispatch.proofs.Idle.{case_starts}
 use Rattle.dxe_dispatch.proofs.Turning.{none_put, not_ok, part_started, part_stopped, starts_so, stays_so, stops_so}
 use Rattle.dxe_dispatch.proofs.turns.start_or_stop.Goals as goal
 
@@ -20,7 +21,8 @@ returns-in_ok-start-in-Some-clause-row g c m fuel are idle =
     let next = c.in-Some.next in
     let chosen = rw c.in-Some.is at (c.in_ok-next.ensures.row m are) in
     let driver = rw c.in-Some.is at c.in_ok-next.ensures.driver in
-    starts_so (g.C.Choice.lets_in_dxe c.args.choice.now c.args.starts) c.args.catalog.now fuel c.start.new.self c.choose.new.queue m next _ chosen idle driver (sym c.lets_driver.ensures ∙ c.if-not-lets_driver.false) (c.in_ok-start-in-Some.ensures.row m chosen.rest are.core)
+    let turned = starts_so (g.C.Choice.lets_in_dxe c.args.choice.now c.args.starts) c.args.catalog.now fuel c.start.new.self c.choose.new.queue m next _ chosen idle driver (sym c.lets_driver.ensures ∙ c.if-not-lets_driver.false) (c.in_ok-start-in-Some.ensures.row m chosen.rest are.core) in
+    (turned, (chosen.rest, case_starts c.args.catalog.now m next chosen.rest idle chosen.next_is))
 
 pub returns-in_err-next-clause-made : goal.returns-in_err-next-clause-made
 returns-in_err-next-clause-made g c = not_ok _ c.from_residual.result c.from_residual.ensures.0

@@ -66,5 +66,5 @@ returns-clause-row g c m fuel first made on has =
     let aimed = has_aimed laws Names stands c.args.store.now catalog fuel c.args.dxe.now c.args.queue.now c.aim.new.queue m (aimed_at catalog m c.named-driver.result) c.requires.catalog on by (c.in_ok-aim.ensures.row m are) in
     let few = on_ok c.turn.result (λ owes. within_less catalog fuel aimed.target (c.args.steps.now + owed c.args.queue.now) _ _ c.in_ok-aim.ensures.owes (owes aimed.target fuel made aimed.ready)) c.turn.ensures.owes in
     let same = starts_are c.args.in_pei catalog m aimed.target Any c.args.queue.now c.starts-starts.result c.starts-starts.ensures on.now.queue aimed.is in
-    let turned = subst (λ n. TurnsTo (lets n) (IsNow stands c.args.store.now catalog c.turn.new.dxe c.turn.new.queue) (IsLeft stands c.args.store.now catalog c.turn.new.dxe c.turn.new.queue) catalog aimed.target (dxe_step catalog fuel aimed.target) (record { old = T c.args.sink.now; new = T c.turn.new.sink }) c.turn.result) same (c.turn.ensures.row aimed.target fuel made aimed.ready) in
+    let turned = subst (λ n. TurnsTo (lets n) (IsNow stands c.args.store.now catalog c.turn.new.dxe c.turn.new.queue) (IsLeft stands c.args.store.now catalog c.turn.new.dxe c.turn.new.queue) catalog fuel aimed.target (dxe_step catalog fuel aimed.target) (record { old = T c.args.sink.now; new = T c.turn.new.sink }) c.turn.result) same (c.turn.ensures.row aimed.target fuel made aimed.ready) in
     turned_by Names (LetsDrivers lets c.args.in_pei) stands c.args.store.now catalog fuel c.args.dxe.now c.turn.new.dxe c.aim.new.queue c.turn.new.queue m (record { old = T c.args.sink.now; new = T c.turn.new.sink }) (c.args.steps.now + owed c.args.queue.now) _ c.turn.result aimed turned few

@@ -6,9 +6,10 @@ use Rattle.boot_model.specs.PlanBoard.{board_of}
 use Rattle.free_check.specs.declared.verdict.Verdict.{Verdict}
 use Rattle.free_check.specs.declared.verdict.Verdict.TheVariants.{Yes, No}
 use Rattle.free_check.specs.Verdict.{IsVerdict}
-use Rattle.pitools.specs.CheckReport.{VerdictReport, checked, image_refused, no, twins, yes}
+use Rattle.pitools.specs.CheckReport.{VerdictReport, no, yes}
 use Rattle.pitools.specs.Refusals.{verdict_line}
 use Rattle.pitools.specs.ReportText.{verdict_status}
+use Rattle.pitools.specs.TraceReport.{image_refused, said, twins}
 use Rattle.pitools.proofs.check_tool.check_report.Goals as goal
 
 -- the verdict on a catalogue, as it is reported
@@ -22,7 +23,7 @@ returns-in-Ok c =
     let job = c.args.job in
     let verdict = c.in-Ok.verdict in
     let is = c.in-Ok.ensures in
-    (checked is.catalog is.sound is.apart (verdict_told job.plan job.images is.catalog c.args.text.now verdict is.is), refl)
+    (said is.catalog is.sound is.apart (verdict_told job.plan job.images is.catalog c.args.text.now verdict is.is), refl)
 
 pub returns-in-Err-Image : goal.returns-in-Err-Image
 returns-in-Err-Image c =

@@ -8,7 +8,7 @@ returns c =
       contents = c.one_content_report.ensures;
       hobs = c.one_hobs_report.ensures;
       explains = c.one_explain_report.ensures;
-      checks = c.one_check_report.ensures;
+      traces = c.one_trace_report.ensures;
       follows = c.one_follow_report.ensures;
     } in
     one_outcome laws

@@ -1,10 +1,10 @@
 use Rattle.std.proofs.Common.{◌≡◌}
 use Rattle.boot_io.specs.Words.{words_of}
-use Rattle.pitools.specs.CheckReport.{CheckNames, CheckOutcome}
 use Rattle.pitools.specs.FollowReport.{FollowNames, FollowOutcome}
 use Rattle.pitools.specs.ExplainReport.{ExplainNames, ExplainOutcome}
 use Rattle.pitools.specs.HobsReport.{HobsNames, HobsOutcome}
-use Rattle.pitools.specs.Outcome.{MapNames, MapOutcome, Names, Outcome, ToolOutcome, of_check, of_explanation, of_follow, of_hobs, of_map, of_tool, words_ask_check, words_ask_explanation, words_ask_follow, words_ask_hobs, words_ask_map, words_ask_tool}
+use Rattle.pitools.specs.Outcome.{MapNames, MapOutcome, Names, Outcome, ToolOutcome, of_explanation, of_follow, of_hobs, of_map, of_tool, of_trace, words_ask_explanation, words_ask_follow, words_ask_hobs, words_ask_map, words_ask_tool, words_ask_trace}
+use Rattle.pitools.specs.TraceReport.{TraceNames, TraceOutcome}
 use Rattle.pitools.proofs.Ending.{reports_ok}
 use Rattle.pitools.proofs.tools.with_words.Goals as goal
 
@@ -30,16 +30,17 @@ returns-in-Some-asked_tool-clause-report g c =
     (record { before = F c.args.files.now; now = F c.with_tool.new.files; missed = g.F.Files.missed c.with_tool.new.files })
     (λ s t o. words_ask_tool tool file c.in-Some-asked_tool.ensures.found o) (λ n e. of_tool tool file c.in-Some-asked_tool.ensures.found e) c.with_tool.ensures.report
 
-pub returns-in-Some-asked_check-clause-report : goal.returns-in-Some-asked_check-clause-report
-returns-in-Some-asked_check-clause-report g c =
+pub returns-in-Some-asked_trace-clause-report : goal.returns-in-Some-asked_trace-clause-report
+returns-in-Some-asked_trace-clause-report g c =
     let F = g.F.Files.faults in
     let told = g.F.Files.told c.args.files.now in
     let words = words_of c.args.words.now in
-    let plan = c.in-Some-asked_check.plan.now in
-    let trace = c.in-Some-asked_check.trace.now in
-    reports_ok c.with_check.result (CheckOutcome told plan trace) (Outcome told words) (CheckNames told plan trace) (Names told words)
-    (record { before = F c.args.files.now; now = F c.with_check.new.files; missed = g.F.Files.missed c.with_check.new.files })
-    (λ s t o. words_ask_check plan trace c.in-Some-asked_check.ensures.found o) (λ n m. of_check plan trace c.in-Some-asked_check.ensures.found m) c.with_check.ensures.report
+    let asked = c.in-Some-asked_trace in
+    let plan = asked.plan.now in
+    let trace = asked.trace.now in
+    reports_ok c.with_trace.result (TraceOutcome asked.tool told plan trace) (Outcome told words) (TraceNames told plan trace) (Names told words)
+    (record { before = F c.args.files.now; now = F c.with_trace.new.files; missed = g.F.Files.missed c.with_trace.new.files })
+    (λ s t o. words_ask_trace asked.tool plan trace asked.ensures.found o) (λ n m. of_trace asked.tool plan trace asked.ensures.found m) c.with_trace.ensures.report
 
 pub returns-in-Some-asked_follow-clause-report : goal.returns-in-Some-asked_follow-clause-report
 returns-in-Some-asked_follow-clause-report g c =

@@ -1,0 +1,22 @@
+//! Where the search for the next PEIM begins.
+ghost use Rattle.std.specs.Prelude.{◌≡◌, ◌≤◌, length};
+ghost use Rattle.catalog_model.specs.declared.catalog.Catalog.{Catalog as OfCatalog};
+ghost use Rattle.pei_choice.specs.Queue.{Shows, owed_by, parts_in};
+ghost use Rattle.pei_choice.specs.View.{View};
+ghost use Rattle.pei_dispatch.specs.Choices.{IsPlaceFor};
+
+use pei_choice::PeiQueue;
+
+/// The search begins at the PEIM that is named, where it is in the order.
+pub fn aim(queue: &mut PeiQueue, named: Option<u32>)
+    requires { (catalog : OfCatalog) × (view : View) × Shows catalog queue.old view }
+    ensures shows { (catalog : OfCatalog) (view : View) → Shows catalog queue.old view → Shows catalog queue.new view }
+    ensures owed { owed_by queue.new ≡ owed_by queue.old }
+    ensures within { queue.old.cursor ≤ length (parts_in queue.old) → queue.new.cursor ≤ length (parts_in queue.old) }
+    ensures place { IsPlaceFor (parts_in queue.old) queue.old.cursor named queue.new.cursor }
+{
+    match named {
+        Some(number) => queue.aim(number),
+        None => {}
+    }
+}

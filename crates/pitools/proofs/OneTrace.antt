@@ -1,0 +1,60 @@
+-- The texts of a plan and of a trace have one report.
+use Rattle.std.proofs.Common.{◌≡◌, ℕ, List, Option, sym, ap, ◌∙◌, subst}
+use Rattle.boot_plan.specs.declared.plan.Plan.{Plan}
+use Rattle.catalog_model.specs.declared.catalog.Catalog.{Catalog}
+use Rattle.catalog_model.specs.declared.catalog.Module.{Module}
+use Rattle.catalog_model.specs.declared.catalog.VolumeEntry.{VolumeEntry}
+use Rattle.boot_model.specs.declared.line.Line.{Line}
+use Rattle.boot_model.specs.FreeRun.{AreFreeLines}
+use Rattle.boot_model.specs.PlanBoard.{board_of}
+use Rattle.store_model.specs.StoreState.{Board}
+use Rattle.boot_reasons.specs.declared.reasons.Explained.{Explained}
+use Rattle.boot_reasons.specs.Explained.{IsExplainedBy}
+use Rattle.boot_starts.specs.Order.{order_of}
+use Rattle.catalog_text.specs.Lines.{IsCatalogText}
+use Rattle.module_names.specs.Named.{HasNoTwins}
+use Rattle.plan_files.specs.Job.{IsNamedIn}
+use Rattle.start_order.specs.declared.lines.StartOrder.{StartOrder}
+use Rattle.trace_reader.specs.Trace.{IsBadLine, IsTrace}
+use Rattle.pitools.specs.declared.command_line.TraceTool.{TraceTool}
+use Rattle.pitools.specs.declared.command_line.TraceTool.TheVariants.{Check, Explain}
+use Rattle.pitools.specs.ExplainReport.{IsExplanation}
+use Rattle.pitools.specs.OneOutcome.{AreAllTold, IsOne}
+use Rattle.pitools.specs.Refusals.{no_line}
+use Rattle.pitools.specs.ToldReport.{RunsInOrder, ToldReport, off, start_choices, told, unread}
+use Rattle.pitools.specs.TraceReport.{TextsOutcome}
+use Rattle.pitools.proofs.OneCheck as C
+use Rattle.pitools.proofs.OneCheck.{IsOneSaid, one_off, one_trace, one_verdict}
+use Rattle.pitools.proofs.OneExplain.{one_text}
+
+-- the laws of plans, catalogues and traces; a catalogue has one text, and a boot in an order of starts one explanation
+pub record Laws : Type 0 where
+  pub plans : C.Laws
+  pub texts : (volumes : List VolumeEntry) (images : List (List ℕ)) (modules : List Module) (a b : List ℕ) → IsCatalogText volumes images modules a → IsCatalogText volumes images modules b → a ≡ b
+  pub boots : (board : Board) (catalog : Catalog) (fuel : ℕ) (order : StartOrder) → HasNoTwins catalog → (e f : Explained)
+      → IsExplainedBy (start_choices catalog order) board catalog fuel e → IsExplainedBy (start_choices catalog order) board catalog fuel f → e ≡ f
+  pub traces : (text : List ℕ) (a b : List Line) → IsTrace text a → IsTrace text b → a ≡ b
+  pub bad : (text : List ℕ) (m n : ℕ) → IsBadLine text m → IsBadLine text n → m ≡ n
+  pub read_or_bad : (text : List ℕ) (lines : List Line) (n : ℕ) → IsTrace text lines → IsBadLine text n → ⊥
+
+one_told : Laws → (plan : Plan) (images : List (List ℕ)) (catalog : Catalog) (text : List ℕ) → HasNoTwins catalog → IsOne (ToldReport plan images catalog text)
+one_told laws plan images catalog text apart a b s t (told p lines r o e) (told q others z u f) =
+    let P : List Line → Type 0 = λ x. IsExplanation (RunsInOrder plan images catalog (order_of x)) images catalog t in
+    let Run : Explained → Type 0 = RunsInOrder plan images catalog (order_of lines) in
+    (e ∙ sym f, one_text Run laws.texts (laws.boots (board_of plan catalog images) catalog plan.fuel (order_of lines) apart) images catalog s t o (subst P (laws.traces text others lines z r) u))
+one_told laws plan images catalog text apart a b s t (told p lines r o e) (off n y f v) = absurd (y.no_boot p)
+one_told laws plan images catalog text apart a b s t (told p lines r o e) (unread q n y f v) = absurd (laws.read_or_bad text lines n r y)
+one_told laws plan images catalog text apart a b s t (off m x e u) (told q others z o f) = absurd (x.no_boot q)
+one_told laws plan images catalog text apart a b s t (off m x e u) (off n y f v) =
+    (e ∙ sym f, u ∙ ap no_line (one_off (AreFreeLines (board_of plan catalog images) catalog plan.fuel) text m n x y) ∙ sym v)
+one_told laws plan images catalog text apart a b s t (off m x e u) (unread q n y f v) = absurd (x.no_boot q)
+one_told laws plan images catalog text apart a b s t (unread p m x e u) (told q others z o f) = absurd (laws.read_or_bad text others m z x)
+one_told laws plan images catalog text apart a b s t (unread p m x e u) (off n y f v) = absurd (y.no_boot p)
+one_told laws plan images catalog text apart a b s t (unread p m x e u) (unread q n y f v) = (e ∙ sym f, u ∙ ap no_line (laws.bad text m n x y) ∙ sym v)
+
+one_said : Laws → (tool : TraceTool) (text : List ℕ) (plan : Plan) (images : List (List ℕ)) → IsOneSaid tool text plan images
+one_said laws Check text plan images catalog sound apart = one_verdict plan images catalog text
+one_said laws Explain text plan images catalog sound apart = one_told laws plan images catalog text apart
+
+pub one_trace_report : Laws → (tool : TraceTool) (told : List ℕ → Option (List ℕ)) (content text : List ℕ) → AreAllTold told (IsNamedIn told content) → IsOne (TextsOutcome tool told content text)
+one_trace_report laws tool told content text all = one_trace laws.plans tool told content text (one_said laws tool text) all
