@@ -5,13 +5,14 @@ printer breaks between them, and where there is little room both lanes stand in 
 one width a letter and broken before it is drawn, so that no label meets another. `report` stands on it.
 """
 import math
+import re
 import textwrap
 from bisect import bisect_right
 from collections.abc import Callable, Iterator
 from dataclasses import dataclass, field
 from html import escape
 
-from explained import CORE, PHASES, Boot, Mark, Start, Wait
+from explained import CORE, NOBODY, PHASES, Boot, Mark, Start, Wait
 
 GUTTER, BOX, GAP = 44, 276, 40  # the arcs' room left of a box, a box, and what stands between the lanes
 LANE = GUTTER + BOX
@@ -105,9 +106,14 @@ class Band:
     passing: set[tuple[str, int, str]] = field(default_factory=set)
 
 
+class Wrapper(textwrap.TextWrapper):
+    """Breaks a text between words, and a GUID in front of its last part."""
+    wordsep_simple_re = re.compile(r"(\s+|(?<=-)(?=[0-9a-f]{12}\b))")
+
+
 def wrapped(text: str, style: str = "small") -> list[tuple[str, str]]:
     columns = COLUMNS if style == "name" else SMALL_COLUMNS
-    return [(style, line) for line in textwrap.wrap(text, columns, break_on_hyphens=False)]
+    return [(style, line) for line in Wrapper(columns, break_on_hyphens=False).wrap(text)]
 
 
 def at_most(lines: list[tuple[str, str]], most: int = MOST_LINES) -> list[tuple[str, str]]:
@@ -190,6 +196,8 @@ class Picture:
         lines = wrapped(f"{start.place} {self.label(start.module)}", "name")
         beside = f" {self.label(start.beside)}" if start.beside is not None else ""
         lines += wrapped(f"{start.why}{beside} \N{MIDDLE DOT} module {start.module}")
+        if makers := dict.fromkeys(maker for _, maker in self.shown_needs(start) if maker != NOBODY):
+            lines += at_most(wrapped(f"\N{LEFTWARDS ARROW} {', '.join(map(self.label, makers))}"))
         installed = self.boot.installed(start)
         for word, shown in (("installs", True), ("may install", False)):
             if names := [self.name(guid) for guid, did in installed if did == shown]:

@@ -3,6 +3,7 @@
 `report` stands on it. It reads printed lines alone (docs/EXPLAIN.md, docs/FORMATS.md), and no volume and no plan.
 """
 import re
+import struct
 from collections import Counter
 from collections.abc import Iterator
 from dataclasses import dataclass, field
@@ -307,6 +308,16 @@ def shown_makers(boot: Boot) -> dict[tuple[str, int], set[str]]:
 
 
 # The map
+
+HOB_HEADER, END_HOB = 8, (0xFFFF, b"")
+
+
+def hob_list(trace: list[str]) -> bytes:
+    """The HOB list that a trace ends with: of each HOB the header, its type and length and four zeros, and the bytes that its line has."""
+    told = [words[1:] for words in map(str.split, trace) if words[0] == "hob"]
+    hobs = [*((int(kind), bytes.fromhex(body.replace("-", ""))) for kind, body in told), END_HOB]
+    return b"".join(struct.pack("<HHI", kind, HOB_HEADER + len(body), 0) + body for kind, body in hobs)
+
 
 def read_map(boot: Boot, lines: list[str]) -> None:
     """Reads what `pitools gcd` printed; where the HOB list tells no memory it says why."""

@@ -22,6 +22,7 @@ ARCHITECTURAL = """
 sys.setrecursionlimit(10_000)  # an expression has up to 1,023 opcodes
 
 Tree = tuple | str
+File = tuple[str, str, list[str]]  # its type, its name, and its lines
 
 
 @dataclass(eq=False)
@@ -69,16 +70,27 @@ def shown_name(code: bytes) -> str:
     return r"\u002d" if text == "-" else text
 
 
-def read_files(text: str) -> Iterator[tuple[str, str, list[str]]]:
-    """The type, the name and the lines of each file of a volume's text."""
-    files: list[tuple[str, str, list[str]]] = []
-    for line in text.splitlines()[1:-1]:
-        words = line.split(" ")
-        if words[0] == "file":
-            files.append((words[1], words[2], []))
-        elif files:
-            files[-1][2].append(line)
-    yield from files
+def read_volumes(text: str, nested: Callable[[bytes], list[list[File]]]) -> list[list[File]]:
+    """The files of a volume's text, and behind them those of each volume nested in it, as lines of their own or as bytes."""
+    volumes: list[list[File]] = []
+    inside: list[list[File]] = []  # the volumes that have no end yet
+    in_script = False
+    for line in text.splitlines():
+        word, *words = line.split(" ")
+        if word == "volume":
+            volumes.append([])
+            inside.append(volumes[-1])
+        elif word == "end" and not in_script:
+            inside.pop()
+        elif word == "file":
+            inside[-1].append((words[0], words[1], []))
+        elif inside[-1]:
+            kind, _, lines = inside[-1][-1]
+            lines.append(line)
+            in_script = word == "script" or in_script and word != "end"
+            if kind == "volume-image" and line.startswith("section 17 "):
+                volumes += nested(bytes.fromhex(words[1]))
+    return volumes
 
 
 def read_module(module: Module, lines: list[str], expression: Callable[[str, bytes], str]) -> None:

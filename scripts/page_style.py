@@ -74,6 +74,8 @@ NARROW = f"""
   .stacks tr {{ border-top: 1px solid #ccc; padding: 6px 0 }}
   .stacks td[data-head]:not(:empty)::before {{ content: attr(data-head) ": "; color: #555; font-size: .87em }}
   .stacks td ul {{ padding-left: 1.3em }}
+  .map {{ font-size: .87em }}
+  .map .bar {{ min-width: 24px }}
 }}
 """
 

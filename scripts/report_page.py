@@ -44,8 +44,8 @@ class Names:
     names: dict[str, str]
 
     def short(self, guid: str) -> str:
-        """A name, or the beginning of a GUID without one."""
-        return self.names.get(guid, f"{guid[:8]}.." if GUID.fullmatch(guid) else guid)
+        """A name, or both ends of a GUID without one."""
+        return self.names.get(guid, f"{guid[:8]}..{guid[-4:]}" if GUID.fullmatch(guid) else guid)
 
     def html(self, guid: str) -> str:
         """A GUID on the page: its name and its text."""
@@ -188,7 +188,7 @@ class Page:
         legend = [f'<i style="background:{colour}"></i>{why}: {MEANINGS[why]}' for why, colour in COLOURS.items() if why in whys]
         if self.boot.waits:
             legend.append(f'<i style="border:2px dashed {WAITS_COLOUR}"></i>\N{MULTIPLICATION SIGN}: it never started')
-        legend += ["\N{RIGHTWARDS ARROW} an arc: who had it to who asked for it", "\N{BLACK DIAMOND} notifications that ran"]
+        legend += ["\N{LEFTWARDS ARROW} and an arc: who had what it asked for", "\N{BLACK DIAMOND} notifications that ran"]
         bands = "\n".join(picture.band(band) for band in picture.bands())
         shown = "".join(f"<li>{each}</li>" for each in legend)
         return f'<h2 id="starts">Who started, in the order of time</h2><ul class="legend">{shown}</ul><div class="picture">{bands}</div>'
