@@ -7,8 +7,8 @@ use Rattle.pi_base.specs.declared.guid.Guid.{Guid}
 use Rattle.pi_base.specs.Guids.{same_guid}
 use Rattle.guid_map.specs.GuidMap.{IsPut, value_of}
 use Rattle.boot_laws.specs.ChangedGuids.{is_among}
-use Rattle.boot_reasons.specs.declared.reasons.Giver.{Giver}
-use Rattle.boot_reasons.specs.declared.reasons.Giver.TheVariants.{Core, Module, Absent}
+use Rattle.explain_text.specs.declared.reasons.Giver.{Giver}
+use Rattle.explain_text.specs.declared.reasons.Giver.TheVariants.{Core, Module, Absent}
 use Rattle.boot_reasons.specs.Givers.{actor_by, giver_along}
 use Rattle.boot_reasons.specs.Noting.{AreNoted, IsPresent, giver_behind, giver_in, giver_or}
 use Rattle.boot_reasons.proofs.WalkedLists.{left_after}

@@ -19,7 +19,7 @@ use Rattle.dxe_dispatch.proofs.FirstRuns as D
 use Rattle.pei_dispatch.proofs.FirstRuns as P
 use Rattle.whole_boot.specs.BootEnd.{end_after, end_of}
 use Rattle.whole_boot.specs.Choices.{Choices}
-use Rattle.boot_reasons.specs.declared.reasons.Explained.{Explained}
+use Rattle.explain_text.specs.declared.reasons.Explained.{Explained}
 use Rattle.boot_reasons.specs.Boots.{ExplainsBoots, IsOfBoot, IsOfOwnBoot}
 use Rattle.boot_reasons.specs.Explained.{IsExplained, IsExplainedAfter, own_choices}
 use Rattle.boot_reasons.specs.Joining.{alone, together}

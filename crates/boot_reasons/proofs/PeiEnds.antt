@@ -19,8 +19,8 @@ use Rattle.pei_core.specs.Standing.{IsFor, StandsFor}
 use Rattle.pei_dispatch.specs.Turns.{IsNow}
 use Rattle.pei_dispatch.proofs.Chosen.{step_is_free}
 use Rattle.boot_reasons.specs.declared.pei.PeiExplained.{PeiExplained}
-use Rattle.boot_reasons.specs.declared.reasons.Giver.TheVariants.{Absent}
-use Rattle.boot_reasons.specs.declared.reasons.Held.{Held}
+use Rattle.explain_text.specs.declared.reasons.Giver.TheVariants.{Absent}
+use Rattle.explain_text.specs.declared.reasons.Held.{Held}
 use Rattle.boot_reasons.specs.declared.told.PeiTold.{PeiTold}
 use Rattle.boot_reasons.specs.Moving.{heap_used}
 use Rattle.boot_reasons.specs.Noting.{giver_in}

@@ -15,7 +15,7 @@ use Rattle.pei_dispatch.specs.Ends.{pei_starts}
 use Rattle.boot_reasons.specs.declared.dxe.DxeExplained.{DxeExplained}
 use Rattle.boot_reasons.specs.declared.nowhere.Nowhere.{Nowhere}
 use Rattle.boot_reasons.specs.declared.pei.PeiExplained.{PeiExplained}
-use Rattle.boot_reasons.specs.declared.reasons.Explained.{Explained}
+use Rattle.explain_text.specs.declared.reasons.Explained.{Explained}
 use Rattle.boot_reasons.specs.DxeTelling as D
 use Rattle.boot_reasons.specs.Explained.{ExplainsBehind, IsExplainedAfter, IsLeftBefore, left_in_dxe, left_in_pei, own_choices}
 use Rattle.boot_reasons.specs.Joining.{together}

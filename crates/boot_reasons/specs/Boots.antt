@@ -11,7 +11,7 @@ use Rattle.free_laws.specs.declared.choice.Reached.{Reached}
 use Rattle.whole_boot.specs.BootEnd.{end_of}
 use Rattle.whole_boot.specs.ByChoice.{BootBy}
 use Rattle.whole_boot.specs.Choices.{Choices}
-use Rattle.boot_reasons.specs.declared.reasons.Explained.{Explained}
+use Rattle.explain_text.specs.declared.reasons.Explained.{Explained}
 use Rattle.boot_reasons.specs.Explained.{ExplainsTo, IsExplained, IsExplainedBy}
 
 -- where they may name a module it is one alone, or they name none

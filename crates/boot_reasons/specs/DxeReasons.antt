@@ -18,9 +18,9 @@ use Rattle.boot_model.specs.DxeStep.{DxeCase, DxeFires, DxeActs, DxeStarts, DxeS
 use Rattle.expression_needs.specs.Would.{would}
 use Rattle.boot_reasons.specs.Givers.{actor_in, giver_along}
 use Rattle.boot_reasons.specs.Needs.{needs_of}
-use Rattle.boot_reasons.specs.declared.reasons.Begun.{Begun}
-use Rattle.boot_reasons.specs.declared.reasons.Giver.{Giver}
-use Rattle.boot_reasons.specs.declared.reasons.Held.{Held}
+use Rattle.explain_text.specs.declared.reasons.Begun.{Begun}
+use Rattle.explain_text.specs.declared.reasons.Giver.{Giver}
+use Rattle.explain_text.specs.declared.reasons.Held.{Held}
 
 -- who has a protocol installed
 abbrev pub dxe_giver : List DxeMachine → DxeMachine → Guid → Giver

@@ -19,8 +19,8 @@ use Rattle.dxe_dispatch.specs.Choices.{IsDue, IsOnWay, IsRunBy, LetsDrivers, cam
 use Rattle.dxe_dispatch.specs.Ends.{StandsAtEnd}
 use Rattle.boot_reasons.specs.declared.dxe.DxeExplained.{DxeExplained}
 use Rattle.boot_reasons.specs.declared.nowhere.Nowhere.{Nowhere}
-use Rattle.boot_reasons.specs.declared.reasons.Giver.{Giver}
-use Rattle.boot_reasons.specs.declared.reasons.Held.{Held}
+use Rattle.explain_text.specs.declared.reasons.Giver.{Giver}
+use Rattle.explain_text.specs.declared.reasons.Held.{Held}
 use Rattle.boot_reasons.specs.declared.told.DxeTold.{DxeTold}
 use Rattle.boot_reasons.specs.DxeReasons.{dxe_begun, dxe_begun_at, dxe_giver, dxe_held}
 use Rattle.boot_reasons.specs.Noting.{AreNoted, giver_in}

@@ -17,7 +17,7 @@ use Rattle.pei_dispatch.specs.Choices.{IsRunBy}
 use Rattle.whole_boot.specs.Choices.{Choices}
 use Rattle.boot_reasons.specs.declared.dxe.DxeExplained.{DxeExplained}
 use Rattle.boot_reasons.specs.declared.pei.PeiExplained.{PeiExplained}
-use Rattle.boot_reasons.specs.declared.reasons.Explained.{Explained}
+use Rattle.explain_text.specs.declared.reasons.Explained.{Explained}
 use Rattle.boot_reasons.specs.DxeTelling as D
 use Rattle.boot_reasons.specs.Joining.{alone, together}
 use Rattle.boot_reasons.specs.PeiEnding.{ExplainsRun, IsPeiExplained}

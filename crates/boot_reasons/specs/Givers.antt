@@ -4,8 +4,8 @@ use Rattle.std.specs.Prelude.{ℕ, Bool, true, false, if◌then◌else◌, List,
 use Rattle.pi_base.specs.declared.guid.Guid.{Guid}
 use Rattle.boot_model.specs.declared.frame.Frame.{Frame}
 use Rattle.frames.specs.Frames.{top_of}
-use Rattle.boot_reasons.specs.declared.reasons.Giver.{Giver}
-use Rattle.boot_reasons.specs.declared.reasons.Giver.TheVariants.{Core, Module, Absent}
+use Rattle.explain_text.specs.declared.reasons.Giver.{Giver}
+use Rattle.explain_text.specs.declared.reasons.Giver.TheVariants.{Core, Module, Absent}
 
 -- who makes a step: the module whose script runs, and the core where none does
 abbrev pub actor_by : Option ℕ → Giver

@@ -5,7 +5,7 @@ use Rattle.boot_model.specs.BootRun.{dxe_result}
 use Rattle.boot_model.specs.declared.line.RunEnd.{RunEnd}
 use Rattle.boot_reasons.specs.declared.dxe.DxeExplained.{DxeExplained}
 use Rattle.boot_reasons.specs.declared.pei.PeiExplained.{PeiExplained}
-use Rattle.boot_reasons.specs.declared.reasons.Explained.{Explained}
+use Rattle.explain_text.specs.declared.reasons.Explained.{Explained}
 
 -- of a boot that ends with PEI
 abbrev pub alone : PeiExplained → ℕ → RunEnd → Explained

@@ -2,7 +2,7 @@
 -- PI 1.8, volume 1, "Installing PEI Memory"; what is told of it is own.
 use Rattle.std.specs.Prelude.{ℕ, ◌+◌, Bool, if◌then◌else◌, Option, Some, None}
 use Rattle.store_model.specs.StoreState.{StoreState, end_place, header_len}
-use Rattle.boot_reasons.specs.declared.reasons.Moved.{Moved}
+use Rattle.explain_text.specs.declared.reasons.Moved.{Moved}
 
 -- how many bytes of the heap the HOB list takes, its end HOB included: `EfiFreeMemoryBottom` as an offset
 abbrev pub heap_used : StoreState → ℕ

@@ -5,8 +5,8 @@ use Rattle.pi_base.specs.declared.guid.Guid.{Guid}
 use Rattle.pi_base.specs.declared.phase.Phase.{Phase}
 use Rattle.catalog_model.specs.declared.catalog.PartExpr.{PartExpr}
 use Rattle.expression_needs.specs.Asked.{asked}
-use Rattle.boot_reasons.specs.declared.reasons.Giver.{Giver}
-use Rattle.boot_reasons.specs.declared.reasons.Need.{Need}
+use Rattle.explain_text.specs.declared.reasons.Giver.{Giver}
+use Rattle.explain_text.specs.declared.reasons.Need.{Need}
 
 abbrev pub need_of : (Guid → Giver) → Guid → Need
 need_of giver guid = record { guid = guid; giver = giver guid }

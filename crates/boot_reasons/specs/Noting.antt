@@ -4,8 +4,8 @@ use Rattle.std.specs.Prelude.{◌≡◌, ⊤, Bool, true, if◌then◌else◌, L
 use Rattle.guid_map.specs.GuidMap.{value_of}
 use Rattle.pi_base.specs.declared.guid.Guid.{Guid}
 use Rattle.boot_laws.specs.ChangedGuids.{is_among}
-use Rattle.boot_reasons.specs.declared.reasons.Giver.{Giver}
-use Rattle.boot_reasons.specs.declared.reasons.Giver.TheVariants.{Core, Module, Absent}
+use Rattle.explain_text.specs.declared.reasons.Giver.{Giver}
+use Rattle.explain_text.specs.declared.reasons.Giver.TheVariants.{Core, Module, Absent}
 
 -- one that is not nobody
 abbrev pub IsPresent : Giver → Type 0

@@ -18,10 +18,10 @@ use Rattle.expression_needs.specs.Would.{would}
 use Rattle.boot_reasons.specs.Moving.{moved_between}
 use Rattle.boot_reasons.specs.Givers.{actor_in, giver_along}
 use Rattle.boot_reasons.specs.Needs.{needs_of}
-use Rattle.boot_reasons.specs.declared.reasons.Begun.{Begun}
-use Rattle.boot_reasons.specs.declared.reasons.Giver.{Giver}
-use Rattle.boot_reasons.specs.declared.reasons.Held.{Held}
-use Rattle.boot_reasons.specs.declared.reasons.Moved.{Moved}
+use Rattle.explain_text.specs.declared.reasons.Begun.{Begun}
+use Rattle.explain_text.specs.declared.reasons.Giver.{Giver}
+use Rattle.explain_text.specs.declared.reasons.Held.{Held}
+use Rattle.explain_text.specs.declared.reasons.Moved.{Moved}
 
 -- who has a PPI installed
 abbrev pub pei_giver : List PeiMachine → PeiMachine → Guid → Giver

@@ -11,7 +11,7 @@ use Rattle.boot_reasons.specs.declared.nowhere.Nowhere.{Nowhere}
 
 -- the one sink that tells nothing
 abbrev pub nowhere : Nowhere
-nowhere = record { }
+nowhere = record {}
 
 -- the PEIMs that it may name
 abbrev pub NamesUnseen : (Nowhere → ℕ → Option ℕ → Type 0) → PeiMachine → Option ℕ → Type 0

@@ -14,7 +14,6 @@ use crate::dxe_held::held_drivers;
 use crate::dxe_turn::tell;
 use crate::givers::actor;
 use crate::nowhere::Nowhere;
-use crate::reasons::{Begun, Held};
 use crate::told::DxeTold;
 use boot_laws::{discovered_order_has_each_once, unrequested_drivers_wait};
 use boot_model::DxeEnd;
@@ -23,6 +22,7 @@ use depex_code::Steps;
 use dxe_choice::DriverQueue;
 use dxe_core::Dxe;
 use dxe_dispatch::{Turn, bound, dxe_at_opening, turn_by};
+use explain_text::{Begun, Held};
 use free_laws::{Choice, Reached, dxe_chooses_by_groups, dxe_goes_on, dxe_opens, groups_are_aimed};
 use pi_base::{OutOfMemory, Seq};
 use std::alloc::Global;
@@ -66,7 +66,16 @@ fn run_to_end<M: PeiStore, C: Choice<Nowhere>, L: Ledger>(
     let mut nowhere = Nowhere;
     'turns: for _ in 0..bound(catalog, dxe.fuel()) {
         let actor = actor(dxe.running());
-        match turn_by(dxe, store, queue, choice, in_pei, catalog, &mut nowhere, steps) {
+        match turn_by(
+            dxe,
+            store,
+            queue,
+            choice,
+            in_pei,
+            catalog,
+            &mut nowhere,
+            steps,
+        ) {
             Ok(Turn::Took(step)) => tell(told, dxe, catalog, &step, actor)?,
             Ok(Turn::Reached(reached)) => return Ok(reached),
             Err(_) => return Err(OutOfMemory),
@@ -121,9 +130,7 @@ fn explain_opened<M: PeiStore, C: Choice<Nowhere>, L: Ledger>(
     discovered_order_has_each_once();
     queue.discover(catalog, dxe.order(), 0)?;
     let mut told = DxeTold::new(alloc);
-    match run_to_end(
-        dxe, store, queue, choice, in_pei, catalog, &mut told, steps,
-    )? {
+    match run_to_end(dxe, store, queue, choice, in_pei, catalog, &mut told, steps)? {
         Reached::End(end) => {
             let explained = explain_end(alloc, dxe, store, queue, catalog, told, end)?;
             Ok(Reached::End(explained))

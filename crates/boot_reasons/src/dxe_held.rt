@@ -11,13 +11,13 @@ ghost use Rattle.boot_reasons.specs.Noting.{giver_in};
 
 use crate::givers::Givers;
 use crate::needs::needs_of;
-use crate::reasons::Held;
 use crate::waiters::push_held;
 use catalog_model::Catalog;
 use dxe_action::is_requested;
 use dxe_choice::DriverQueue;
 use dxe_core::Dxe;
 use dxe_dispatch::reason_of;
+use explain_text::Held;
 use expression_needs::would;
 use frames::part_of;
 use pi_base::{OutOfMemory, Phase, Seq};

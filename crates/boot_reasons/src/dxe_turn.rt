@@ -11,13 +11,13 @@ ghost use Rattle.boot_reasons.specs.Noting.{AreNoted, giver_in};
 
 use crate::givers::Givers;
 use crate::needs::needs_of;
-use crate::reasons::{Begun, Giver};
 use crate::told::DxeTold;
 use boot_model::{Licence, Scheduled};
 use catalog_model::Catalog;
 use driver_order::DriverOrder;
 use dxe_core::Dxe;
 use dxe_dispatch::{Step, target_of};
+use explain_text::{Begun, Giver};
 use frames::part_of;
 use pi_base::{Guid, OutOfMemory, Phase};
 

@@ -3,10 +3,10 @@ ghost use Rattle.std.specs.Prelude.{◌≡◌, [], ◌∷◌, OnOk};
 ghost use Rattle.pi_base.specs.declared.guid.Guid.{Guid as OfGuid};
 ghost use Rattle.boot_reasons.specs.Givers.{actor_by};
 ghost use Rattle.boot_reasons.specs.Noting.{AreNoted, giver_behind, giver_in};
-ghost use Rattle.boot_reasons.specs.declared.reasons.Giver.TheVariants.{Absent};
+ghost use Rattle.explain_text.specs.declared.reasons.Giver.TheVariants.{Absent};
 
-use crate::reasons::Giver;
 use depex_code::GuidSet;
+use explain_text::Giver;
 use guid_map::GuidMap;
 use pi_base::{Guid, OutOfMemory};
 use std::alloc::Global;

@@ -3,7 +3,7 @@ ghost use Rattle.std.specs.Prelude.{ℕ};
 ghost use Rattle.catalog_model.specs.declared.catalog.Catalog.{Catalog};
 ghost use Rattle.catalog_model.specs.WellFormed.{IsWellFormed};
 ghost use Rattle.store_model.specs.StoreState.{Board};
-ghost use Rattle.boot_reasons.specs.declared.reasons.Explained.{Explained};
+ghost use Rattle.explain_text.specs.declared.reasons.Explained.{Explained};
 ghost use Rattle.boot_reasons.specs.Boots.{ExplainsBoots, HasOneExplanation, IsOfOwnBoot};
 ghost use Rattle.boot_reasons.specs.Explained.{IsExplained};
 ghost use Rattle.boot_reasons.specs.Unseen.{choices_of};

@@ -16,7 +16,6 @@ mod pei;
 mod pei_held;
 mod pei_turn;
 mod plan;
-mod reasons;
 mod told;
 mod waiters;
 
@@ -24,4 +23,3 @@ pub use explain::explain_by;
 pub use laws::{explained_is_a_boot, one_explanation, own_boot_is_explained};
 pub use nowhere::Nowhere;
 pub use plan::{explain_plan, explain_plan_by};
-pub use reasons::{Begun, Explained, Giver, Held, Moved, Need};

@@ -5,8 +5,8 @@ ghost use Rattle.store_model.specs.Service.{Present, OfEach};
 ghost use Rattle.store_model.specs.StoreCall.{Anything};
 ghost use Rattle.boot_reasons.specs.Moving.{heap_used, moved_from, unmoved_base};
 
-use crate::reasons::Moved;
 use boot_trace::count_hobs;
+use explain_text::Moved;
 use store_model::PeiStore;
 
 // The length of the end HOB, which is a header alone.

@@ -4,8 +4,8 @@ ghost use Rattle.boot_reasons.specs.Needs.{needs_of};
 ghost use Rattle.boot_reasons.specs.Noting.{giver_in};
 
 use crate::givers::Givers;
-use crate::reasons::Need;
 use catalog_model::Part;
+use explain_text::Need;
 use expression_needs::asked;
 use pi_base::{OutOfMemory, Phase, Seq};
 use std::alloc::Global;

@@ -10,10 +10,10 @@ ghost use Rattle.boot_reasons.specs.PeiReasons.{pei_held, pei_held_for};
 
 use crate::givers::Givers;
 use crate::needs::needs_of;
-use crate::reasons::Held;
 use crate::waiters::push_held;
 use boot_model::state_of;
 use catalog_model::Catalog;
+use explain_text::Held;
 use expression_needs::would;
 use frames::part_of;
 use pei_core::Pei;

@@ -8,9 +8,9 @@ ghost use Rattle.boot_reasons.specs.Unseen.{choices_of};
 
 use crate::explain::explain_by;
 use crate::nowhere::Nowhere;
-use crate::reasons::Explained;
 use boot_plan::Plan;
 use catalog_model::Catalog;
+use explain_text::Explained;
 use free_laws::{Choice, FirstEligible, Reached};
 use mem_store::MemStore;
 use phys_mem::Rom;

@@ -2,10 +2,10 @@
 ghost use Rattle.std.specs.Prelude.{◌≡◌, [], None};
 ghost use Rattle.pi_base.specs.declared.guid.Guid.{Guid as OfGuid};
 ghost use Rattle.boot_reasons.specs.Noting.{giver_in};
-ghost use Rattle.boot_reasons.specs.declared.reasons.Giver.TheVariants.{Absent};
+ghost use Rattle.explain_text.specs.declared.reasons.Giver.TheVariants.{Absent};
 
 use crate::givers::Givers;
-use crate::reasons::{Begun, Moved};
+use explain_text::{Begun, Moved};
 use pi_base::Seq;
 use std::alloc::Global;
 

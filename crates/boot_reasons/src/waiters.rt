@@ -2,7 +2,7 @@
 ghost use Rattle.std.specs.Prelude.{◌≡◌, ◌++◌, OnOk};
 ghost use Rattle.std.specs.Option.{option_to_list};
 
-use crate::reasons::Held;
+use explain_text::Held;
 use pi_base::{OutOfMemory, Seq};
 
 /// One more, if there is one.

@@ -7,8 +7,8 @@ use Rattle.std.proofs.lemmas.List.{get_or-replicate, get_or-set_same, get_or-set
 use Rattle.std.proofs.lemmas.List.Folds.{list_any-append}
 use Rattle.std.proofs.Math.Bool.{or-false}
 use Rattle.pi_base.specs.declared.phase.Phase.{Phase}
-use Rattle.boot_reasons.specs.declared.reasons.Begun.{Begun}
-use Rattle.boot_reasons.specs.declared.reasons.Held.{Held}
+use Rattle.explain_text.specs.declared.reasons.Begun.{Begun}
+use Rattle.explain_text.specs.declared.reasons.Held.{Held}
 use Rattle.explain_text.specs.Flags.{AddsHeld, AreStarted, flag, is_held, is_start_of, is_wait_of, marked, same_phase}
 
 -- the flags are as many as before

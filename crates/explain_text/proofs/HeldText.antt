@@ -11,7 +11,7 @@ use Rattle.pi_base.specs.declared.phase.Phase.{Phase}
 use Rattle.catalog_model.specs.declared.catalog.Module.{Module}
 use Rattle.catalog_model.specs.Parts.{part_of}
 use Rattle.catalog_text.specs.Fronts.{front_of}
-use Rattle.boot_reasons.specs.declared.reasons.Begun.{Begun}
+use Rattle.explain_text.specs.declared.reasons.Begun.{Begun}
 use Rattle.explain_text.specs.declared.givers.Link.{Link}
 use Rattle.explain_text.specs.declared.keyword.Keyword.TheVariants as K
 use Rattle.explain_text.specs.Context.{IsContext}

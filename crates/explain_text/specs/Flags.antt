@@ -4,8 +4,8 @@ use Rattle.std.specs.Prelude.{◌≡◌, ℕ, ◌<◌, Bool, true, false, ◌==�
 use Rattle.std.specs.List.{list_any}
 use Rattle.pi_base.specs.declared.phase.Phase.{Phase}
 use Rattle.pi_base.specs.declared.phase.Phase.TheVariants.{Pei, Dxe}
-use Rattle.boot_reasons.specs.declared.reasons.Begun.{Begun}
-use Rattle.boot_reasons.specs.declared.reasons.Held.{Held}
+use Rattle.explain_text.specs.declared.reasons.Begun.{Begun}
+use Rattle.explain_text.specs.declared.reasons.Held.{Held}
 
 abbrev pub same_phase : Phase → Phase → Bool
 same_phase Pei Pei = true

@@ -5,7 +5,7 @@ ghost use Rattle.explain_text.specs.Context.{IsContext};
 
 use crate::flags::started;
 use crate::givers::{Givers, givers_of};
-use boot_reasons::Begun;
+use crate::reasons::Begun;
 use catalog_model::Module;
 use pi_base::{OutOfMemory, Phase, Seq};
 use std::alloc::Global;

@@ -4,7 +4,7 @@ ghost use Rattle.explain_text.specs.EndLines.{end_lines, heap_line, moved_lines}
 ghost use Rattle.explain_text.specs.Words.{word_of};
 
 use crate::keyword::{Keyword, word_of};
-use boot_reasons::{Explained, Moved};
+use crate::reasons::{Explained, Moved};
 use boot_trace::{decimal_word, hexadecimal_word, run_end_word};
 use catalog_text::put_line;
 use pi_base::{OutOfMemory, Seq};

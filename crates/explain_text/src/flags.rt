@@ -2,7 +2,7 @@
 ghost use Rattle.std.specs.Prelude.{◌≡◌, replicate, IfOk, false};
 ghost use Rattle.explain_text.specs.Flags.{AddsHeld, AreStarted, flag, marked, same_phase};
 
-use boot_reasons::{Begun, Held};
+use crate::reasons::{Begun, Held};
 use pi_base::{OutOfMemory, Phase, Seq};
 use std::alloc::Global;
 

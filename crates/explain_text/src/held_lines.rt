@@ -3,7 +3,7 @@ ghost use Rattle.std.specs.Prelude.{◌≡◌, ◌++◌, ◌∷◌, [], ℕ, Lis
 ghost use Rattle.boot_io.specs.Line.{spaced};
 ghost use Rattle.pi_base.specs.WordText.{guid_text};
 ghost use Rattle.catalog_model.specs.declared.catalog.Module.{Module as OfModule};
-ghost use Rattle.boot_reasons.specs.declared.reasons.Begun.{Begun as Start};
+ghost use Rattle.explain_text.specs.declared.reasons.Begun.{Begun as Start};
 ghost use Rattle.catalog_text.specs.Fronts.{front_of};
 ghost use Rattle.explain_text.specs.declared.keyword.Keyword.TheVariants as K;
 ghost use Rattle.explain_text.specs.Words.{word_of};
@@ -16,8 +16,8 @@ use crate::context::Context;
 use crate::flags::flag;
 use crate::givers::{Link, link_at};
 use crate::keyword::{Keyword, word_of};
+use crate::reasons::{Giver, Held, Need};
 use crate::start_lines::giver_word;
-use boot_reasons::{Giver, Held, Need};
 use boot_trace::{decimal_word, reason_word};
 use catalog_text::{end_line, phase_word, put_front, put_line, put_word};
 use pi_base::{Guid, MEMORY_PPI, OutOfMemory, Phase, Seq};

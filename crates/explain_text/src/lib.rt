@@ -10,8 +10,10 @@ mod givers;
 mod held_lines;
 mod keyword;
 mod left_lines;
+mod reasons;
 mod start_lines;
 mod text;
 
 pub use held_lines::MOST_TOLD;
+pub use reasons::{Begun, Explained, Giver, Held, Moved, Need};
 pub use text::put_explained;

@@ -10,7 +10,7 @@ use Rattle.catalog_model.specs.Catalogue.{IsCatalogue}
 use Rattle.catalog_model.specs.WellFormed.{IsWellFormed}
 use Rattle.boot_model.specs.PlanBoard.{board_of}
 use Rattle.store_model.specs.StoreState.{Board}
-use Rattle.boot_reasons.specs.declared.reasons.Explained.{Explained}
+use Rattle.explain_text.specs.declared.reasons.Explained.{Explained}
 use Rattle.free_laws.specs.declared.choice.Reached.{Reached}
 use Rattle.free_laws.specs.declared.choice.Reached.TheVariants as R
 use Rattle.whole_boot.specs.Choices.{Choices}

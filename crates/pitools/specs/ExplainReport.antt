@@ -7,7 +7,7 @@ use Rattle.catalog_model.specs.declared.image_fault.ImageFault.{ImageFault}
 use Rattle.catalog_model.specs.Catalogue.{IsCatalogue}
 use Rattle.catalog_model.specs.ImageFault.{IsImageFault}
 use Rattle.boot_model.specs.PlanBoard.{board_of}
-use Rattle.boot_reasons.specs.declared.reasons.Explained.{Explained}
+use Rattle.explain_text.specs.declared.reasons.Explained.{Explained}
 use Rattle.boot_reasons.specs.Explained.{IsExplained}
 use Rattle.catalog_text.specs.Lines.{IsCatalogText}
 use Rattle.explain_text.specs.Text.{explained_text}

@@ -6,7 +6,7 @@ use Rattle.catalog_model.specs.declared.catalog.Catalog.{Catalog}
 use Rattle.boot_model.specs.declared.line.Line.{Line}
 use Rattle.boot_model.specs.FreeRun.{AreFreeLines}
 use Rattle.boot_model.specs.PlanBoard.{board_of}
-use Rattle.boot_reasons.specs.declared.reasons.Explained.{Explained}
+use Rattle.explain_text.specs.declared.reasons.Explained.{Explained}
 use Rattle.boot_reasons.specs.Explained.{IsExplainedBy}
 use Rattle.boot_starts.specs.Order.{order_of}
 use Rattle.free_check.specs.Verdict.{IsBoot, IsFirstOff}

@@ -1,6 +1,6 @@
 use Rattle.std.proofs.Common.{◌≡◌, ◌++◌, List, flat_map, take}
 use Rattle.catalog_model.specs.declared.catalog.Module.{Module}
-use Rattle.boot_reasons.specs.declared.reasons.Begun.{Begun}
+use Rattle.explain_text.specs.declared.reasons.Begun.{Begun}
 use Rattle.explain_text.specs.Context.{AreContexts}
 use Rattle.explain_text.specs.HeldLines.{held_lines}
 use Rattle.explain_text.proofs.held_lines.put_all_held.Given as goal

@@ -1,6 +1,6 @@
 use Rattle.std.proofs.Common.{◌≡◌, ◌++◌, List, flat_map, take}
 use Rattle.catalog_model.specs.declared.catalog.Module.{Module}
-use Rattle.boot_reasons.specs.declared.reasons.Begun.{Begun}
+use Rattle.explain_text.specs.declared.reasons.Begun.{Begun}
 use Rattle.explain_text.specs.Context.{IsContext}
 use Rattle.explain_text.specs.HeldLines.{need_line}
 use Rattle.explain_text.proofs.held_lines.put_needs.Given as goal

@@ -1,6 +1,6 @@
 use Rattle.std.proofs.Common.{List, length}
 use Rattle.pi_base.specs.declared.guid.Guid.{Guid}
-use Rattle.boot_reasons.specs.declared.reasons.Giver.{Giver}
+use Rattle.explain_text.specs.declared.reasons.Giver.{Giver}
 use Rattle.boot_reasons.specs.Noting.{AreNoted}
 use Rattle.boot_reasons.proofs.givers.Givers.note_all.Given as goal
 
