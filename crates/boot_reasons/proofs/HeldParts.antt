@@ -1,5 +1,5 @@
 -- What is told of a part: what it needs, and that it waits.
-use Rattle.std.proofs.Common.{◌≡◌, ℕ, Bool, List, [], ◌∷◌, Option, Some, None, option_map, refl, sym, ap, ◌∙◌}
+use Rattle.std.proofs.Common.{◌≡◌, ℕ, Bool, List, [], ◌∷◌, Option, Some, option_map, sym, ap, ◌∙◌}
 use Rattle.std.specs.Option.{option_to_list}
 use Rattle.pi_base.specs.declared.guid.Guid.{Guid}
 use Rattle.pi_base.specs.declared.phase.Phase.TheVariants.{Pei}
@@ -10,9 +10,14 @@ use Rattle.store_model.specs.StoreState.{StoreState}
 use Rattle.store_model.specs.Service.Install.{has_ppi}
 use Rattle.boot_model.specs.declared.line.Reason.{Reason}
 use Rattle.expression_needs.specs.Would.{would}
+<<<<<<< HEAD
 use Rattle.explain_text.specs.declared.reasons.Giver.{Giver}
 use Rattle.explain_text.specs.declared.reasons.Held.{Held}
 use Rattle.explain_text.specs.declared.reasons.Need.{Need}
+=======
+use Rattle.explain_text.specs.declared.reasons.Giver.{Giver}
+use Rattle.explain_text.specs.declared.reasons.Need.{Need}
+>>>>>>> ab7e3186da982bf4337677e14f3fbe7e89fe21e4
 use Rattle.boot_reasons.specs.Needs.{need_of, needs_of}
 use Rattle.boot_reasons.specs.Noting.{giver_in}
 use Rattle.boot_reasons.specs.PeiReasons.{pei_held_by, pei_held_for}

@@ -1,10 +1,9 @@
 -- What is told of both phases explains the boot.
-use Rattle.std.proofs.Common.{◌≡◌, ℕ, Bool, IfOk, List, Option, Some, None, Result, Ok, Err, true≢false, refl, sym, ap, ◌∙◌, subst}
+use Rattle.std.proofs.Common.{◌≡◌, ℕ, Bool, IfOk, Option, Some, None, Result, Ok, Err, true≢false, refl, sym, ap, ◌∙◌, subst}
 use Rattle.catalog_model.specs.declared.catalog.Catalog.{Catalog}
 use Rattle.store_model.specs.Service.{OfEach}
 use Rattle.store_model.specs.StoreCall.{Anything}
 use Rattle.store_model.specs.StoreState.{Board, StoreState}
-use Rattle.boot_model.specs.declared.phase_end.PeiEnd.{PeiEnd}
 use Rattle.boot_model.specs.declared.phase_end.PeiEnd.TheVariants.{Handoff}
 use Rattle.boot_model.specs.PeiMachine.{PeiMachine}
 use Rattle.free_laws.specs.declared.choice.Reached.{Reached}
@@ -19,7 +18,6 @@ use Rattle.explain_text.specs.declared.reasons.Explained.{Explained}
 use Rattle.boot_reasons.specs.DxeTelling as D
 use Rattle.boot_reasons.specs.Explained.{ExplainsBehind, IsExplainedAfter, IsLeftBefore, left_in_dxe, left_in_pei, own_choices}
 use Rattle.boot_reasons.specs.Joining.{together}
-use Rattle.boot_reasons.specs.PeiEnding.{ExplainsRun}
 use Rattle.boot_reasons.specs.Unseen.{choices_of}
 
 -- what follows from what a call that went well answers

@@ -1,6 +1,6 @@
 -- What a choice names that sees no text: it knows how many starts there were.
 -- Own; PI 1.8, volumes 1 and 2, leave the order of the modules that may start to the dispatchers.
-use Rattle.std.specs.Prelude.{◌+◌, ◌≡◌, ℕ, Bool, length, Option}
+use Rattle.std.specs.Prelude.{ℕ, Bool, Option}
 use Rattle.boot_model.specs.DxeMachine.{DxeMachine}
 use Rattle.boot_model.specs.PeiMachine.{PeiMachine}
 use Rattle.pei_dispatch.specs.Choices.{LetsPeims}

@@ -1,4 +1,4 @@
-use Rattle.std.proofs.Common.{drop, ◌≤◌, ◌+◌, length, sym, subst}
+use Rattle.std.proofs.Common.{drop, sym, subst}
 use Rattle.boot_model.specs.DxeRun.{dxe_opening}
 use Rattle.driver_order.specs.Order.{Drivers, IsOrderOf}
 use Rattle.dxe_choice.specs.Queue.{Discovers}
