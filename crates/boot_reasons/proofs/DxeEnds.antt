@@ -18,14 +18,8 @@ use Rattle.boot_model.specs.declared.phase_end.DxeEnd.{DxeEnd}
 use Rattle.boot_model.specs.DxeMachine.{DxeMachine}
 use Rattle.dxe_choice.specs.Queue.{IsQueueOf, Queue}
 use Rattle.dxe_core.specs.Standing.{DxeCore, IsCoreOf}
-<<<<<<< HEAD
-use Rattle.dxe_dispatch.specs.Ends.{StandsAtEnd}
 use Rattle.explain_text.specs.declared.reasons.Giver.{Giver}
 use Rattle.explain_text.specs.declared.reasons.Held.{Held}
-=======
-use Rattle.explain_text.specs.declared.reasons.Giver.{Giver}
-use Rattle.explain_text.specs.declared.reasons.Held.{Held}
->>>>>>> ab7e3186da982bf4337677e14f3fbe7e89fe21e4
 use Rattle.boot_reasons.specs.declared.told.DxeTold.{DxeTold}
 use Rattle.boot_reasons.specs.DxeReasons.{dxe_giver, dxe_held, dxe_held_at, dxe_held_by}
 use Rattle.boot_reasons.specs.DxeTelling.{ExplainsEnd, held_where}

@@ -10,14 +10,8 @@ use Rattle.store_model.specs.StoreState.{StoreState}
 use Rattle.store_model.specs.Service.Install.{has_ppi}
 use Rattle.boot_model.specs.declared.line.Reason.{Reason}
 use Rattle.expression_needs.specs.Would.{would}
-<<<<<<< HEAD
-use Rattle.explain_text.specs.declared.reasons.Giver.{Giver}
-use Rattle.explain_text.specs.declared.reasons.Held.{Held}
-use Rattle.explain_text.specs.declared.reasons.Need.{Need}
-=======
 use Rattle.explain_text.specs.declared.reasons.Giver.{Giver}
 use Rattle.explain_text.specs.declared.reasons.Need.{Need}
->>>>>>> ab7e3186da982bf4337677e14f3fbe7e89fe21e4
 use Rattle.boot_reasons.specs.Needs.{need_of, needs_of}
 use Rattle.boot_reasons.specs.Noting.{giver_in}
 use Rattle.boot_reasons.specs.PeiReasons.{pei_held_by, pei_held_for}

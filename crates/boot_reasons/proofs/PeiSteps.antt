@@ -35,12 +35,7 @@ use Rattle.pei_dispatch.proofs.Idle.{step_quiet, step_stops}
 use Rattle.store_model.specs.Service.Install.{has_ppi}
 use Rattle.store_model.specs.StoreState.{Board, StoreState}
 use Rattle.boot_reasons.specs.declared.nowhere.Nowhere.{Nowhere}
-<<<<<<< HEAD
 use Rattle.explain_text.specs.declared.reasons.Giver.{Giver}
-use Rattle.explain_text.specs.declared.reasons.Moved.{Moved}
-=======
-use Rattle.explain_text.specs.declared.reasons.Giver.{Giver}
->>>>>>> ab7e3186da982bf4337677e14f3fbe7e89fe21e4
 use Rattle.boot_reasons.specs.declared.told.PeiTold.{PeiTold}
 use Rattle.boot_reasons.specs.Givers.{actor_in}
 use Rattle.boot_reasons.specs.Moving.{heap_used, moved_between, moved_from, unmoved_base}
