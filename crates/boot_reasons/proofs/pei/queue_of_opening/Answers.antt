@@ -1,9 +1,18 @@
 use Rattle.std.proofs.Common.{◌≡◌, ◌∙◌, sym, subst}
+use Rattle.std.proofs.lemmas.Result.{err_from_is_err_and}
 use Rattle.boot_model.specs.Licence.{AllDiffer}
 use Rattle.boot_model.specs.PeiRun.{pei_opening}
 use Rattle.pei_choice.specs.View.{first_view}
 use Rattle.boot_reasons.proofs.PeiEnds.{opened}
 use Rattle.boot_reasons.proofs.pei.queue_of_opening.Goals as goal
+
+pub returns-in_err-queue : goal.returns-in_err-queue
+returns-in_err-queue g c =
+    let p = err_from_is_err_and c.from_residual.result c.from_residual.ensures.1 in
+    rw p.1 tt
+
+pub report-requires-clause-catalog : goal.report-requires-clause-catalog
+report-requires-clause-catalog g c = c.requires.catalog
 
 pub report-requires-clause-new : goal.report-requires-clause-new
 report-requires-clause-new g c =
