@@ -9,6 +9,7 @@ mod ToldFiles
 mod OneCheck
 mod OneFollow
 mod OneExplain
+mod FewLines
 mod StartNames
 mod OneTrace
 mod OneOutcome
