@@ -1,5 +1,5 @@
 -- What is told of a part: what it needs, and that it waits.
-use Rattle.std.proofs.Common.{◌≡◌, ℕ, Bool, List, [], ◌∷◌, Option, Some, None, option_map, refl, sym, ap, ◌∙◌}
+use Rattle.std.proofs.Common.{◌≡◌, ℕ, Bool, List, [], ◌∷◌, Option, Some, option_map, sym, ap, ◌∙◌}
 use Rattle.std.specs.Option.{option_to_list}
 use Rattle.pi_base.specs.declared.guid.Guid.{Guid}
 use Rattle.pi_base.specs.declared.phase.Phase.TheVariants.{Pei}
@@ -11,7 +11,6 @@ use Rattle.store_model.specs.Service.Install.{has_ppi}
 use Rattle.boot_model.specs.declared.line.Reason.{Reason}
 use Rattle.expression_needs.specs.Would.{would}
 use Rattle.boot_reasons.specs.declared.reasons.Giver.{Giver}
-use Rattle.boot_reasons.specs.declared.reasons.Held.{Held}
 use Rattle.boot_reasons.specs.declared.reasons.Need.{Need}
 use Rattle.boot_reasons.specs.Needs.{need_of, needs_of}
 use Rattle.boot_reasons.specs.Noting.{giver_in}

@@ -1,5 +1,5 @@
 -- A run of PEI by choices, from its opening to its end, and what is handed on there.
-use Rattle.std.proofs.Common.{◌≡◌, ◌≤◌, ◌<◌, ℕ, ◌+◌, arith, length, Bool, false, true, List, [], ◌∷◌, Option, Some, None, refl, sym, ap, ◌∙◌, subst, is_some}
+use Rattle.std.proofs.Common.{◌≡◌, ◌≤◌, ℕ, ◌+◌, arith, length, Bool, false, List, [], ◌∷◌, Option, Some, None, refl, sym, ap, ◌∙◌, subst, is_some}
 use Rattle.pi_base.specs.declared.guid.Guid.{Guid}
 use Rattle.catalog_model.specs.declared.catalog.Catalog.{Catalog}
 use Rattle.store_model.specs.StoreState.{Board, StoreState}
@@ -24,9 +24,9 @@ use Rattle.boot_reasons.specs.declared.reasons.Held.{Held}
 use Rattle.boot_reasons.specs.declared.told.PeiTold.{PeiTold}
 use Rattle.boot_reasons.specs.Moving.{heap_used}
 use Rattle.boot_reasons.specs.Noting.{giver_in}
-use Rattle.boot_reasons.specs.PeiEnding.{EndsTo, ExplainsEnd, ExplainsRun, IsPeiExplained}
+use Rattle.boot_reasons.specs.PeiEnding.{EndsTo, ExplainsEnd, ExplainsRun}
 use Rattle.boot_reasons.specs.PeiReasons.{pei_giver, pei_held}
-use Rattle.boot_reasons.specs.PeiTelling.{IsAt, IsAtEnd, IsTold, TurnsTo}
+use Rattle.boot_reasons.specs.PeiTelling.{IsAt, TurnsTo}
 use Rattle.boot_reasons.proofs.PeiSteps.{Laws}
 
 -- a run that has so many turns behind it, and no more steps left than turns

@@ -1,5 +1,5 @@
 -- What is told of a run of PEI by choices, a step further.
-use Rattle.std.proofs.Common.{◌≡◌, ℕ, zero, suc, ◌-◌, arith, length, Bool, true, false, cond, List, [], ◌∷◌, ◌++◌, flat_map, Option, Some, None, option_map, Result, Ok, Err, IfOk, refl, sym, ap, ◌∙◌, subst, inl, inr}
+use Rattle.std.proofs.Common.{◌≡◌, ℕ, suc, ◌-◌, arith, length, Bool, true, false, cond, List, [], ◌∷◌, ◌++◌, flat_map, Option, Some, None, option_map, Result, Ok, Err, IfOk, refl, sym, ap, ◌∙◌, subst, inl, inr}
 use Rattle.std.specs.Prelude.{take}
 use Rattle.std.specs.Option.{option_or, option_to_list}
 use Rattle.std.proofs.lemmas.List.{append-nil}
@@ -36,13 +36,12 @@ use Rattle.store_model.specs.Service.Install.{has_ppi}
 use Rattle.store_model.specs.StoreState.{Board, StoreState}
 use Rattle.boot_reasons.specs.declared.nowhere.Nowhere.{Nowhere}
 use Rattle.boot_reasons.specs.declared.reasons.Giver.{Giver}
-use Rattle.boot_reasons.specs.declared.reasons.Moved.{Moved}
 use Rattle.boot_reasons.specs.declared.told.PeiTold.{PeiTold}
 use Rattle.boot_reasons.specs.Givers.{actor_in}
 use Rattle.boot_reasons.specs.Moving.{heap_used, moved_between, moved_from, unmoved_base}
 use Rattle.boot_reasons.specs.Noting.{AreNoted, IsPresent, giver_in}
 use Rattle.boot_reasons.specs.PeiReasons.{gained, pei_begun, pei_begun_at, pei_begun_by, pei_giver, pei_moved, starts_between}
-use Rattle.boot_reasons.specs.PeiTelling.{IsAt, IsAtEnd, IsBarred, IsLeftAt, IsStartTold, IsTold}
+use Rattle.boot_reasons.specs.PeiTelling.{IsAt, IsAtEnd, IsBarred, IsStartTold, IsTold}
 use Rattle.boot_reasons.specs.Unseen.{NamesUnseen, nowhere}
 use Rattle.boot_reasons.proofs.GiverSteps.{actor_present, first_of, giver_on, giver_still}
 

@@ -11,9 +11,15 @@ run_to_end-requires-clause-opening g c =
     let board = c.requires.opening.0 in
     let fuel = c.requires.opening.1 in
     let made = c.requires.opening.2 in
-    let stand = c.requires.opening.3 in
-    (board, fuel, (made, at_opening c.pei_opens.ensures.opens names lets g.M.PeiStore.stands_for board catalog fuel c.args.pei.now c.in_ok-queue.queue c.new-told.result (c.in_ok-queue.ensures board fuel made stand)
-    c.new-told.ensures.begun c.new-told.ensures.givers c.new-told.ensures.moved))
+    let stand = c.requires.opening.3 in (
+      board,
+      fuel,
+      (
+        made,
+        at_opening c.pei_opens.ensures.opens names lets g.M.PeiStore.stands_for board catalog fuel c.args.pei.now c.in_ok-queue.queue c.new-told.result (c.in_ok-queue.ensures board fuel made stand)
+            c.new-told.ensures.begun c.new-told.ensures.givers c.new-told.ensures.moved,
+      ),
+    )
 
 pub explain_end-requires : goal.explain_end-requires
 explain_end-requires g c =

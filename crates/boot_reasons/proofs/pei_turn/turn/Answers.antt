@@ -32,18 +32,20 @@ returns-in_ok-tell_step-in-Ok-Went-clause-row g c board fuel earlier m made at =
     let machine = at.now.machine in
     let kept : IsKept m = record { facts = g.met.M.PeiStore.facts c.args.pei.now.store m.store machine.has.store; held = machine.sound.held } in
     let next = pei_step catalog fuel m in
-    let told = c.in_ok-tell_step-in-Ok-Went.ensures in
-    (next, went_on c.guids_change.ensures c.guids_are_these.ensures laws (NamesUnseen names) (LetsPeims lets) g.M.PeiStore.stands_for board catalog fuel earlier m c.args.pei.now c.go_on.new.pei c.args.queue.now c.go_on.new.queue
-    c.args.told.now c.tell_step.new.told c.in-Ok-Went.event c.unmoved_base-from.result c.actor-actor.result _ at kept row.0 row.1 row.2
-    (c.actor-actor.ensures ∙ ap actor_by (c.running.ensures m machine)) (c.unmoved_base-from.ensures m.store (c.store.ensures m machine) tt)
-    (told.givers next row.2.now.machine) (told.moved next row.2.now.machine) told.begun)
+    let told = c.in_ok-tell_step-in-Ok-Went.ensures in (
+      next,
+      went_on c.guids_change.ensures c.guids_are_these.ensures laws (NamesUnseen names) (LetsPeims lets) g.M.PeiStore.stands_for board catalog fuel earlier m c.args.pei.now c.go_on.new.pei c.args.queue.now c.go_on.new.queue
+          c.args.told.now c.tell_step.new.told c.in-Ok-Went.event c.unmoved_base-from.result c.actor-actor.result _ at kept row.0 row.1 row.2
+          (c.actor-actor.ensures ∙ ap actor_by (c.running.ensures m machine)) (c.unmoved_base-from.ensures m.store (c.store.ensures m machine) tt)
+          (told.givers next row.2.now.machine) (told.moved next row.2.now.machine) told.begun,
+    )
 
 pub returns-in-Ok-Idle-clause-row : goal.returns-in-Ok-Idle-clause-row
 returns-in-Ok-Idle-clause-row g c =
     on_ok _ _ c.start_or_stop.result
     (λ turned row board fuel earlier m made at.
-        let rested = rw c.in-Ok-Idle.field-0-is at (c.in-Ok-Idle.ensures.row m fuel made at.now) in
-        row board fuel earlier m (c.in-Ok-Idle.ensures.made fuel made) (record { run = at.run; way = at.way; now = rested.now; is_told = at.is_told }) rested.idle)
+    let rested = rw c.in-Ok-Idle.field-0-is at (c.in-Ok-Idle.ensures.row m fuel made at.now) in
+    row board fuel earlier m (c.in-Ok-Idle.ensures.made fuel made) (record { run = at.run; way = at.way; now = rested.now; is_told = at.is_told }) rested.idle)
     c.start_or_stop.ensures.row
 
 pub returns-in-Ok-Ended-clause-row : goal.returns-in-Ok-Ended-clause-row
