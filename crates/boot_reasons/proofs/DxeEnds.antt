@@ -18,12 +18,11 @@ use Rattle.boot_model.specs.declared.phase_end.DxeEnd.{DxeEnd}
 use Rattle.boot_model.specs.DxeMachine.{DxeMachine}
 use Rattle.dxe_choice.specs.Queue.{IsQueueOf, Queue}
 use Rattle.dxe_core.specs.Standing.{DxeCore, IsCoreOf}
-use Rattle.dxe_dispatch.specs.Ends.{StandsAtEnd}
 use Rattle.boot_reasons.specs.declared.reasons.Giver.{Giver}
 use Rattle.boot_reasons.specs.declared.reasons.Held.{Held}
 use Rattle.boot_reasons.specs.declared.told.DxeTold.{DxeTold}
 use Rattle.boot_reasons.specs.DxeReasons.{dxe_giver, dxe_held, dxe_held_at, dxe_held_by}
-use Rattle.boot_reasons.specs.DxeTelling.{ExplainsEnd, IsTold, held_where}
+use Rattle.boot_reasons.specs.DxeTelling.{ExplainsEnd, held_where}
 use Rattle.boot_reasons.specs.Noting.{giver_in}
 
 pub explained_so : {M : Type 0} (stands : M → StoreState → Type 0) (store : M) (catalog : Catalog) (core : DxeCore) (queue : Queue) (told : DxeTold) (how : DxeEnd) (held : List Held) (discovered : List ℕ) (taken : ℕ)
@@ -48,7 +47,7 @@ pub held_one : (catalog : Catalog) (m : DxeMachine) (giver : Guid → Giver) (nu
     → record { number = number; phase = Dxe; reason = reason; needs = needs; would = guids } ∷ [] ≡ held_where (is_waiting m number) (dxe_held_at catalog m giver number)
 held_one catalog m giver number part reason needs guids waits is why asked lacks =
     let one : record { number = number; phase = Dxe; reason = reason; needs = needs; would = guids } ≡ dxe_held_by catalog m giver number part =
-        λ j. record { number = number; phase = Dxe; reason = why j; needs = asked j; would = lacks j } in
+    λ j. record { number = number; phase = Dxe; reason = why j; needs = asked j; would = lacks j } in
     ap (λ x. x ∷ []) one ∙ sym (ap (λ o. option_to_list (option_map (dxe_held_by catalog m giver number) o)) is) ∙ sym (ap (λ b. held_where b (dxe_held_at catalog m giver number)) waits)
 
 -- one that does not, and a number without a part

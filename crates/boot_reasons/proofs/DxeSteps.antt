@@ -1,5 +1,5 @@
 -- What is told of a run of DXE by choices, a turn further.
-use Rattle.std.proofs.Common.{◌≡◌, ◌≤◌, ℕ, ◌+◌, arith, drop, Bool, true, false, List, [], ◌∷◌, ◌++◌, Option, Some, None, Ok, option_map, is_some, refl, sym, ap, ◌∙◌, subst, length}
+use Rattle.std.proofs.Common.{◌≡◌, ◌≤◌, ℕ, ◌+◌, arith, drop, Bool, false, List, [], ◌∷◌, ◌++◌, Option, Some, None, Ok, option_map, is_some, refl, sym, ap, ◌∙◌, subst}
 use Rattle.std.specs.Option.{option_to_list}
 use Rattle.std.proofs.lemmas.List.{append-nil}
 use Rattle.pi_base.specs.declared.guid.Guid.{Guid}
@@ -144,8 +144,8 @@ told_on catalog fuel opening earlier target later told after actor (Acted event)
     let behind = dxe_step catalog fuel target in
     let handles : later.services.handles ≡ behind.handles = sym core.services.handles in
     let noted : AreNoted (has_at behind) (actor_at target) (option_to_list event.changed) told.givers.map after.givers.map =
-        subst (λ h. AreNoted (has_protocol h) (actor_at target) (option_to_list event.changed) told.givers.map after.givers.map) handles
-        (subst (λ a. AreNoted (has_protocol later.services.handles) a (option_to_list event.changed) told.givers.map after.givers.map) acts tells.1) in
+    subst (λ h. AreNoted (has_protocol h) (actor_at target) (option_to_list event.changed) told.givers.map after.givers.map) handles
+    (subst (λ a. AreNoted (has_protocol later.services.handles) a (option_to_list event.changed) told.givers.map after.givers.map) acts tells.1) in
     record {
       begun = tells.0 ∙ is.begun ∙ sym (append-nil (dxe_begun catalog earlier)) ∙ ap (λ xs. dxe_begun catalog earlier ++ xs) (sym (none_begins catalog target (dxe_giver earlier target) step.1));
       givers = giver_on has_at actor_at earlier target behind (option_to_list event.changed) told.givers.map after.givers.map
@@ -159,8 +159,8 @@ told_on catalog fuel opening earlier target later told after actor (Started next
     let there = givers_there catalog fuel opening earlier target told turn is in
     let same : giver_in told.givers.map ≡ dxe_giver earlier target = λ j guid. there guid j in
     let here : dxe_begun_at catalog behind (giver_in told.givers.map) next ≡ dxe_begun_in catalog target (dxe_giver earlier target) (dxe_case_of catalog target) =
-        begun_same catalog target behind (giver_in told.givers.map) next discovered ∙ ap (λ giver. dxe_begun_at catalog target giver next) same
-        ∙ ap (dxe_begun_in catalog target (dxe_giver earlier target)) (sym step.1) in
+    begun_same catalog target behind (giver_in told.givers.map) next discovered ∙ ap (λ giver. dxe_begun_at catalog target giver next) same
+    ∙ ap (dxe_begun_in catalog target (dxe_giver earlier target)) (sym step.1) in
     record {
       begun = tells.1 behind core ∙ ap (λ xs. xs ++ dxe_begun_at catalog behind (giver_in told.givers.map) next) is.begun ∙ ap (λ xs. dxe_begun catalog earlier ++ xs) here;
       givers = λ guid. ap (λ g. giver_in g.map guid) tells.0 ∙ there guid ∙ sym (giver_still has_at actor_at earlier target behind guid (ap (λ h. has_protocol h guid) handles));
@@ -196,22 +196,26 @@ told_to law Names Others Lets stands store catalog fuel opening turns core later
     let earlier = is.earlier in
     let m = came catalog fuel opening earlier in
     let going = is.on.now.machine.core.running in
-    let turn = turned catalog fuel Names Lets law opening earlier by.target none is.run going by.aimed in
-    (by.target ∷ earlier, record {
-      run = (aimed_by Names Others catalog m by.target may by.aimed, by.turned.passes, going, run_by Names Others Lets catalog fuel opening earlier may is.run);
-      ended = by.turned.ended;
-      stands_at_end = by.turned.now;
-      is_told = quiet_told catalog fuel opening earlier by.target (dxe_step catalog fuel by.target) told turn is.is_told by.turned.none by.turned.handles;
-    })
+    let turn = turned catalog fuel Names Lets law opening earlier by.target none is.run going by.aimed in (
+      by.target ∷ earlier,
+      record {
+        run = (aimed_by Names Others catalog m by.target may by.aimed, by.turned.passes, going, run_by Names Others Lets catalog fuel opening earlier may is.run);
+        ended = by.turned.ended;
+        stands_at_end = by.turned.now;
+        is_told = quiet_told catalog fuel opening earlier by.target (dxe_step catalog fuel by.target) told turn is.is_told by.turned.none by.turned.handles;
+      },
+    )
 told_to law Names Others Lets stands store catalog fuel opening turns core later queue grown before now told t (R.Barred number) none may is by =
     let earlier = is.earlier in
-    let m = came catalog fuel opening earlier in
-    (earlier, record {
-      run = run_by Names Others Lets catalog fuel opening earlier may is.run;
-      running = is.on.now.machine.core.running;
-      due = record { target = by.target; aimed = aimed_by Names Others catalog m by.target may by.aimed; starting = by.turned.starting };
-      barred = by.turned.barred;
-    })
+    let m = came catalog fuel opening earlier in (
+      earlier,
+      record {
+        run = run_by Names Others Lets catalog fuel opening earlier may is.run;
+        running = is.on.now.machine.core.running;
+        due = record { target = by.target; aimed = aimed_by Names Others catalog m by.target may by.aimed; starting = by.turned.starting };
+        barred = by.turned.barred;
+      },
+    )
 
 -- a sink that tells nothing
 abbrev pub untold : Nowhere → Option (List ℕ)

@@ -20,15 +20,15 @@ use Rattle.pei_dispatch.proofs.FirstRuns as P
 use Rattle.whole_boot.specs.BootEnd.{end_after, end_of}
 use Rattle.whole_boot.specs.Choices.{Choices}
 use Rattle.boot_reasons.specs.declared.reasons.Explained.{Explained}
-use Rattle.boot_reasons.specs.Boots.{IsOfBoot, IsOfOwnBoot}
-use Rattle.boot_reasons.specs.Explained.{IsExplained, IsExplainedAfter, IsExplainedBy, own_choices}
+use Rattle.boot_reasons.specs.Boots.{ExplainsBoots, IsOfBoot, IsOfOwnBoot}
+use Rattle.boot_reasons.specs.Explained.{IsExplained, IsExplainedAfter, own_choices}
 use Rattle.boot_reasons.specs.Joining.{alone, together}
 
 result_of : (one other : Explained) → one ≡ other → other.result ≡ one.result
 result_of one other same = ap (λ (x : Explained). x.result) (sym same)
 
 -- it is a boot by these choices
-pub boot_of : (by : Choices) (board : Board) (catalog : Catalog) (fuel : ℕ) (e : Explained) (is : IsExplainedBy by board catalog fuel e) → IsOfBoot by board catalog fuel e is
+pub boot_of : (by : Choices) → ExplainsBoots by
 boot_of by board catalog fuel e is = after is.first.«end» refl is.ends
   where
     so : (how : PeiEnd) → is.first.«end» ≡ how → is.pei.ended ≡ Some how

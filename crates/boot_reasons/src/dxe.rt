@@ -66,7 +66,16 @@ fn run_to_end<M: PeiStore, C: Choice<Nowhere>, L: Ledger>(
     let mut nowhere = Nowhere;
     'turns: for _ in 0..bound(catalog, dxe.fuel()) {
         let actor = actor(dxe.running());
-        match turn_by(dxe, store, queue, choice, in_pei, catalog, &mut nowhere, steps) {
+        match turn_by(
+            dxe,
+            store,
+            queue,
+            choice,
+            in_pei,
+            catalog,
+            &mut nowhere,
+            steps,
+        ) {
             Ok(Turn::Took(step)) => tell(told, dxe, catalog, &step, actor)?,
             Ok(Turn::Reached(reached)) => return Ok(reached),
             Err(_) => return Err(OutOfMemory),
@@ -121,9 +130,7 @@ fn explain_opened<M: PeiStore, C: Choice<Nowhere>, L: Ledger>(
     discovered_order_has_each_once();
     queue.discover(catalog, dxe.order(), 0)?;
     let mut told = DxeTold::new(alloc);
-    match run_to_end(
-        dxe, store, queue, choice, in_pei, catalog, &mut told, steps,
-    )? {
+    match run_to_end(dxe, store, queue, choice, in_pei, catalog, &mut told, steps)? {
         Reached::End(end) => {
             let explained = explain_end(alloc, dxe, store, queue, catalog, told, end)?;
             Ok(Reached::End(explained))

@@ -1,4 +1,4 @@
-use Rattle.std.proofs.Common.{drop, ◌≤◌, ◌+◌, length, sym, subst}
+use Rattle.std.proofs.Common.{drop, sym, subst}
 use Rattle.boot_model.specs.DxeRun.{dxe_opening}
 use Rattle.driver_order.specs.Order.{Drivers, IsOrderOf}
 use Rattle.dxe_choice.specs.Queue.{Discovers}
@@ -18,9 +18,13 @@ pub run_to_end-requires-clause-opening : goal.run_to_end-requires-clause-opening
 run_to_end-requires-clause-opening g c =
     let catalog = c.args.catalog.now in
     let o = c.requires.opening in
-    let row = subst (λ (order : Drivers). Discovers catalog c.args.queue.now (drop 0 order.volumes) c.discover.new.self) c.order.ensures c.in_ok-discover.ensures.row in
-    (o.0, o.1, o.2, at_opening c.dxe_opens.ensures.opens c.unrequested_drivers_wait.ensures g.M.PeiStore.stands_for c.args.store.now catalog o.2 o.0 o.1 c.args.dxe.now c.args.queue.now c.discover.new.self c.new-told.result
-    c.requires.catalog o.3 o.4 c.requires.new row c.new-told.ensures.begun c.new-told.ensures.givers)
+    let row = subst (λ (order : Drivers). Discovers catalog c.args.queue.now (drop 0 order.volumes) c.discover.new.self) c.order.ensures c.in_ok-discover.ensures.row in (
+      o.0,
+      o.1,
+      o.2,
+      at_opening c.dxe_opens.ensures.opens c.unrequested_drivers_wait.ensures g.M.PeiStore.stands_for c.args.store.now catalog o.2 o.0 o.1 c.args.dxe.now c.args.queue.now c.discover.new.self c.new-told.result
+          c.requires.catalog o.3 o.4 c.requires.new row c.new-told.ensures.begun c.new-told.ensures.givers,
+    )
 
 pub returns-in_ok-explained-in-End : goal.returns-in_ok-explained-in-End
 returns-in_ok-explained-in-End g c = record {

@@ -1,4 +1,4 @@
-use Rattle.std.proofs.Common.{◌≡◌, None, arith, refl, sym, ap, ◌∙◌}
+use Rattle.std.proofs.Common.{◌≡◌, None, arith, refl, ap, ◌∙◌}
 use Rattle.boot_model.specs.DxeRun.{dxe_bound, dxe_opening}
 use Rattle.dxe_dispatch.specs.Choices.{LetsDrivers, NamesDrivers, came}
 use Rattle.dxe_dispatch.proofs.Chosen.{StepLaws}
