@@ -30,6 +30,10 @@ EndsTo Names Lets stands board catalog fuel pei queue told (R.End how) =
 EndsTo Names Lets stands board catalog fuel pei queue told (R.Barred number) =
     (earlier : List PeiMachine) × (m : PeiMachine) × IsBarred Names Lets board catalog fuel earlier m number
 
+-- the core stands for the opening of a board
+abbrev pub StandsAtOpening : {M : Type 0} → (M → StoreState → Type 0) → Catalog → Pei M → Type 0
+StandsAtOpening stands catalog pei = (board : Board) × (fuel : ℕ) × IsFor catalog fuel pei × StandsFor stands pei (pei_opening board catalog)
+
 -- the queue stands for the opening
 abbrev pub IsOpened : {M : Type 0} → (M → StoreState → Type 0) → Catalog → Pei M → PeiQueue → Type 0
 IsOpened stands catalog pei queue =
@@ -39,6 +43,10 @@ IsOpened stands catalog pei queue =
 abbrev pub IsAtOpening : {M : Type 0} → (Nowhere → ℕ → Option ℕ → Type 0) → (ℕ → ℕ → Bool) → (M → StoreState → Type 0) → Board → Catalog → ℕ → Pei M → PeiQueue → PeiTold → Type 0
 IsAtOpening names lets stands board catalog fuel pei queue told =
     IsFor catalog fuel pei × IsAt (NamesUnseen names) (LetsPeims lets) stands board catalog fuel [] (pei_opening board catalog) pei queue told
+
+-- one of some board
+abbrev pub BeginsTold : {M : Type 0} → (Nowhere → ℕ → Option ℕ → Type 0) → (ℕ → ℕ → Bool) → (M → StoreState → Type 0) → Catalog → Pei M → PeiQueue → PeiTold → Type 0
+BeginsTold names lets stands catalog pei queue told = (board : Board) × (fuel : ℕ) × IsAtOpening names lets stands board catalog fuel pei queue told
 
 -- from there
 abbrev pub Ends : {M : Type 0} → (Nowhere → ℕ → Option ℕ → Type 0) → (ℕ → ℕ → Bool) → (M → StoreState → Type 0) → Catalog

@@ -3,6 +3,7 @@
 use Rattle.std.specs.Prelude.{◌≡◌, ℕ, Bool, false, List, ◌∷◌, ◌++◌, Option, Some, None}
 use Rattle.pi_base.specs.declared.guid.Guid.{Guid}
 use Rattle.catalog_model.specs.declared.catalog.Catalog.{Catalog}
+use Rattle.store_model.specs.Service.Install.{has_ppi}
 use Rattle.store_model.specs.StoreState.{Board, StoreState}
 use Rattle.store_model.specs.declared.store_handle.Sweep.{Sweep}
 use Rattle.boot_model.specs.declared.phase_end.PeiEnd.{PeiEnd}
@@ -15,14 +16,17 @@ use Rattle.free_laws.specs.declared.choice.Reached.TheVariants as R
 use Rattle.free_laws.specs.PeiUnderWay.{IsUnderWay}
 use Rattle.pei_choice.specs.declared.queue.PeiQueue.{PeiQueue}
 use Rattle.pei_choice.specs.Queue.{parts_in}
+use Rattle.pei_choice.specs.View.{event_guids}
+use Rattle.pei_core.specs.declared.event.Event.{Event}
 use Rattle.pei_core.specs.declared.pei.Pei.{Pei}
 use Rattle.pei_core.specs.Standing.{IsFor, StandsFor}
 use Rattle.pei_core.specs.Steps.{IsIdle}
 use Rattle.pei_dispatch.specs.Choices.{IsDue, IsRunBy, LetsPeims}
 use Rattle.pei_dispatch.specs.Turns.{IsNow}
+use Rattle.boot_reasons.specs.declared.reasons.Giver.{Giver}
 use Rattle.boot_reasons.specs.declared.nowhere.Nowhere.{Nowhere}
 use Rattle.boot_reasons.specs.declared.told.PeiTold.{PeiTold}
-use Rattle.boot_reasons.specs.Noting.{giver_in}
+use Rattle.boot_reasons.specs.Noting.{AreNoted, giver_in}
 use Rattle.boot_reasons.specs.PeiReasons.{pei_begun, pei_begun_at, pei_giver, pei_moved}
 use Rattle.boot_reasons.specs.Unseen.{NamesUnseen}
 
@@ -95,3 +99,7 @@ pub record IsStartTold {M : Type 0} (stands : M → StoreState → Type 0) (cata
   pub begun : after.begun ≡ told.begun ++ pei_begun_at catalog m (giver_in told.givers.map) number
   pub givers : after.givers ≡ told.givers
   pub moved : after.moved ≡ told.moved
+
+-- which PPIs came and went in an event is noted, by its actor, behind it
+abbrev pub IsEventNoted : StoreState → Event → Giver → List (Guid × Giver) → List (Guid × Giver) → Type 0
+IsEventNoted s event actor old new = AreNoted (has_ppi s) actor (event_guids event.gone event.there.items) old new

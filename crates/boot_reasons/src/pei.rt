@@ -1,11 +1,9 @@
 // PEI from its opening to its end, explained.
-ghost use Rattle.std.specs.Prelude.{◌≡◌, ◌<◌, ℕ, IfOk};
+ghost use Rattle.std.specs.Prelude.{◌≡◌, ◌<◌, IfOk};
 ghost use Rattle.boot_model.specs.PeiMachine.{PeiMachine};
-ghost use Rattle.boot_model.specs.PeiRun.{pei_opening};
 ghost use Rattle.catalog_model.specs.WellFormed.{IsWellFormed};
-ghost use Rattle.store_model.specs.StoreState.{Board};
-ghost use Rattle.pei_core.specs.Standing.{IsFor, StandsFor};
-ghost use Rattle.boot_reasons.specs.PeiEnding.{Ends, Explains, ExplainsEnd, IsAtOpening, IsOpened};
+ghost use Rattle.pei_core.specs.Standing.{StandsFor};
+ghost use Rattle.boot_reasons.specs.PeiEnding.{BeginsTold, Ends, Explains, ExplainsEnd, IsOpened, StandsAtOpening};
 
 use crate::copied::copied;
 use crate::moves::heap_used;
@@ -45,7 +43,7 @@ fn queue_of_opening<M: PeiStore + Drop>(
     catalog: &Catalog,
 ) -> Result<PeiQueue, OutOfMemory>
     requires catalog { IsWellFormed catalog.now }
-    requires opening { (board : Board) × (fuel : ℕ) × IsFor catalog.now fuel pei.now × StandsFor M.stands_for pei.now (pei_opening board catalog.now) }
+    requires opening { StandsAtOpening M.stands_for catalog.now pei.now }
     ensures { IfOk result (IsOpened M.stands_for catalog.now pei.now) }
 {
     alike_views_are_shown();
@@ -64,8 +62,7 @@ fn run_to_end<M: PeiStore + Drop, C: Choice<Nowhere>, L: Ledger>(
     steps: &mut Steps<L>,
 ) -> Result<Reached<PeiEnd>, OutOfMemory>
     requires catalog { IsWellFormed catalog.now }
-    requires opening { (board : Board) × (fuel : ℕ) × IsAtOpening (C.peims choice.now) (C.lets_in_pei choice.now) M.stands_for board catalog.now fuel
-        pei.old queue.old told.old }
+    requires opening { BeginsTold (C.peims choice.now) (C.lets_in_pei choice.now) M.stands_for catalog.now pei.old queue.old told.old }
     ensures row { IfOk result (Ends (C.peims choice.now) (C.lets_in_pei choice.now) M.stands_for catalog.now
         pei.old queue.old told.old pei.new queue.new told.new) }
 {
@@ -113,7 +110,7 @@ fn explain_with_ledger<M: PeiStore + Drop, C: Choice<Nowhere>, L: Ledger>(
     blank: Blank,
 ) -> Result<Reached<PeiExplained>, OutOfMemory>
     requires catalog { IsWellFormed catalog.now }
-    requires opening { (board : Board) × (fuel : ℕ) × IsFor catalog.now fuel pei.old × StandsFor M.stands_for pei.old (pei_opening board catalog.now) }
+    requires opening { StandsAtOpening M.stands_for catalog.now pei.old }
     requires name { blank.name ≡ L.name }
     requires parts { blank.parts ≡ L.parts }
     requires counts { 0 < L.parts }
@@ -140,7 +137,7 @@ pub(crate) fn explain_pei<M: PeiStore + Drop, C: Choice<Nowhere>>(
     catalog: &Catalog,
 ) -> Result<Reached<PeiExplained>, OutOfMemory>
     requires catalog { IsWellFormed catalog.now }
-    requires opening { (board : Board) × (fuel : ℕ) × IsFor catalog.now fuel pei.old × StandsFor M.stands_for pei.old (pei_opening board catalog.now) }
+    requires opening { StandsAtOpening M.stands_for catalog.now pei.old }
     ensures row { IfOk result (Explains (C.peims choice.now) (C.lets_in_pei choice.now) M.stands_for catalog.now pei.old pei.new) }
 {
     let blank = Blank::new(1);

@@ -4,14 +4,13 @@ ghost use Rattle.std.specs.Option.{option_or, option_to_list};
 ghost use Rattle.boot_model.specs.PeiMachine.{PeiMachine};
 ghost use Rattle.catalog_model.specs.WellFormed.{IsWellFormed};
 ghost use Rattle.store_model.specs.Service.Install.{has_ppi};
-ghost use Rattle.pei_choice.specs.View.{event_guids};
 ghost use Rattle.pei_core.specs.Standing.{IsFor, StandsFor};
 ghost use Rattle.pei_core.specs.Steps.{IsIdle};
 ghost use Rattle.pei_dispatch.specs.Turns.{IsChosen, IsNow};
 ghost use Rattle.boot_reasons.specs.Noting.{AreNoted, giver_in};
 ghost use Rattle.boot_reasons.specs.Moving.{moved_from};
 ghost use Rattle.boot_reasons.specs.PeiReasons.{pei_begun_at};
-ghost use Rattle.boot_reasons.specs.PeiTelling.{IsStartTold, Turns, TurnsIdle};
+ghost use Rattle.boot_reasons.specs.PeiTelling.{IsEventNoted, IsStartTold, Turns, TurnsIdle};
 
 use crate::givers::{Givers, actor};
 use crate::moves::{first_move, unmoved_base};
@@ -58,7 +57,7 @@ fn tell_event<M: PeiStore + Drop>(
 ) -> Result<(), OutOfMemory>
     requires state { (m : PeiMachine) × StandsFor M.stands_for pei.now m }
     ensures { (m : PeiMachine) → StandsFor M.stands_for pei.now m
-        → OnOk result (AreNoted (has_ppi m.store) actor (event_guids event.now.gone event.now.there.items) givers.old.map givers.new.map) }
+        → OnOk result (IsEventNoted m.store event.now actor givers.old.map givers.new.map) }
 {
     tell_gone(givers, pei, event.gone, actor)?;
     givers.note_all(event.there.as_slice(), pei.store(), actor)
@@ -161,7 +160,7 @@ fn tell_step<M: PeiStore + Drop>(
 ) -> Result<(), OutOfMemory>
     requires state { (m : PeiMachine) × StandsFor M.stands_for pei.now m }
     ensures givers { (m : PeiMachine) → StandsFor M.stands_for pei.now m
-        → OnOk result (AreNoted (has_ppi m.store) actor (event_guids event.now.gone event.now.there.items) told.old.givers.map told.new.givers.map) }
+        → OnOk result (IsEventNoted m.store event.now actor told.old.givers.map told.new.givers.map) }
     ensures moved { (m : PeiMachine) → StandsFor M.stands_for pei.now m
         → OnOk result (told.new.moved ≡ option_or told.old.moved (moved_from from m.store)) }
     ensures begun { told.new.begun ≡ told.old.begun }
