@@ -23,7 +23,7 @@ use Rattle.pei_core.specs.Standing.{IsFor, StandsFor}
 use Rattle.pei_core.specs.Steps.{IsIdle}
 use Rattle.pei_dispatch.specs.Choices.{IsDue, IsRunBy, LetsPeims}
 use Rattle.pei_dispatch.specs.Turns.{IsNow}
-use Rattle.boot_reasons.specs.declared.reasons.Giver.{Giver}
+use Rattle.explain_text.specs.declared.reasons.Giver.{Giver}
 use Rattle.boot_reasons.specs.declared.nowhere.Nowhere.{Nowhere}
 use Rattle.boot_reasons.specs.declared.told.PeiTold.{PeiTold}
 use Rattle.boot_reasons.specs.Noting.{AreNoted, giver_in}
