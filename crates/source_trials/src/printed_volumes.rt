@@ -7,7 +7,7 @@ use volume_print::text_of;
 use volume_text::volume_of;
 
 /// Texts as people write them, and what is printed of their volumes.
-static PRINTED: [(&str, &str); 10] = [
+static PRINTED: [(&str, &str); 11] = [
     ("volume 72\nend\n", "volume 72 ffs2\nend\n"), // no file
     (
         "volume 256 ffs3 attributes 0x4feff\nname B5A1C0DE-93f0-4a5d-8d11-6e2f40715c33\nend",
@@ -45,11 +45,17 @@ static PRINTED: [(&str, &str); 10] = [
         "volume 4096\nfile volume-image 00000001-0000-4000-8000-000000000003\nvolume 2048\nfile volume-image 00000001-0000-4000-8000-000000000003\nvolume 1024\nfile volume-image 00000001-0000-4000-8000-000000000003\nvolume 512\nfile volume-image 00000001-0000-4000-8000-000000000003\nvolume 72\nend\nend\nend\nend\nend\n",
         "volume 4096 ffs2\nfile volume-image 00000001-0000-4000-8000-000000000003\nvolume 2048 ffs2\nfile volume-image 00000001-0000-4000-8000-000000000003\nvolume 1024 ffs2\nfile volume-image 00000001-0000-4000-8000-000000000003\nvolume 512 ffs2\nfile volume-image 00000001-0000-4000-8000-000000000003\nsection 17 0000000000000000000000000000000078e58c8c3d8a1c4f9935896185c32dd348000000000000005f46564800080000480041ed0000000201000000480000000000000000000000\nend\nend\nend\nend\n",
     ), // a volume deeper than four
+    (
+        "volume 256\nfile peim 00000001-0000-4000-8000-000000000001\nbody ffffff10 0a000000 4d5a\nfile peim 00000001-0000-4000-8000-000000000002\nbody 06000010 4d5a\nend\n",
+        "volume 256 ffs2\nfile peim 00000001-0000-4000-8000-000000000001\nbody ffffff100a0000004d5a\nfile peim 00000001-0000-4000-8000-000000000002\nsection 10 4d5a\nend\n",
+    ), // a section with an extended header that its size does not ask for, and one without
 ];
 
 /// The State byte of the first file of a volume without a name, where it is deleted, and where its header is invalid.
 const FIRST_STATE_AT: usize = 72 + 23;
+
 const DELETED: u8 = 0xe8;
+
 const HEADER_INVALID: u8 = 0xd8;
 
 /// A volume's text, the State that its first file is given, and the text that is printed then.
@@ -97,10 +103,8 @@ fn changed(alloc: Global, text: &str, at: usize, byte: u8) -> Option<Seq<u8>> {
 // Whether two volumes have their files at the same offsets.
 fn stand_alike(files: &[FfsFile], others: &[FfsFile]) -> bool {
     files.len() == others.len()
-        && files
-            .iter()
-            .zip(others)
-            .all(|(file, other)| file.at == other.at && file.body_len == other.body_len)
+        && files.iter().zip(others).all(|(file, other)| file.at == other.at
+            && file.body_len == other.body_len)
 }
 
 // Whether a volume is printed so, and what is made of the text has its files at the same offsets.
