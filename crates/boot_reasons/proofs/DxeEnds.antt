@@ -1,5 +1,16 @@
--- What is told at the end of DXE explains it.
-use Rattle.std.proofs.Common.{◌≡◌, ℕ, List, Option, Some, None, refl, sym, ap, ◌∙◌}
+-- What is told at the end of DXE explains it, and who waits there.
+use Rattle.std.proofs.Common.{◌≡◌, ℕ, Bool, true, false, cond, List, [], ◌∷◌, ◌++◌, Option, Some, None, option_map, refl, sym, ap, ◌∙◌, append_assoc, filter, flat_map}
+use Rattle.std.specs.Option.{option_to_list}
+use Rattle.pi_base.specs.declared.phase.Phase.TheVariants.{Dxe}
+use Rattle.catalog_model.specs.declared.catalog.Part.{Part}
+use Rattle.catalog_model.specs.Parts.{part_at}
+use Rattle.store_model.specs.HandleState.{has_protocol}
+use Rattle.boot_model.specs.declared.line.Reason.{Reason}
+use Rattle.boot_model.specs.DxeChoice.{is_waiting}
+use Rattle.boot_model.specs.DxeStep.{driver_reason}
+use Rattle.expression_needs.specs.Would.{would}
+use Rattle.boot_reasons.specs.declared.reasons.Need.{Need}
+use Rattle.boot_reasons.specs.Needs.{needs_of}
 use Rattle.pi_base.specs.declared.guid.Guid.{Guid}
 use Rattle.catalog_model.specs.declared.catalog.Catalog.{Catalog}
 use Rattle.store_model.specs.StoreState.{StoreState}
@@ -7,12 +18,11 @@ use Rattle.boot_model.specs.declared.phase_end.DxeEnd.{DxeEnd}
 use Rattle.boot_model.specs.DxeMachine.{DxeMachine}
 use Rattle.dxe_choice.specs.Queue.{IsQueueOf, Queue}
 use Rattle.dxe_core.specs.Standing.{DxeCore, IsCoreOf}
-use Rattle.dxe_dispatch.specs.Ends.{StandsAtEnd}
 use Rattle.boot_reasons.specs.declared.reasons.Giver.{Giver}
 use Rattle.boot_reasons.specs.declared.reasons.Held.{Held}
 use Rattle.boot_reasons.specs.declared.told.DxeTold.{DxeTold}
-use Rattle.boot_reasons.specs.DxeReasons.{dxe_giver, dxe_held}
-use Rattle.boot_reasons.specs.DxeTelling.{ExplainsEnd, IsTold}
+use Rattle.boot_reasons.specs.DxeReasons.{dxe_giver, dxe_held, dxe_held_at, dxe_held_by}
+use Rattle.boot_reasons.specs.DxeTelling.{ExplainsEnd, held_where}
 use Rattle.boot_reasons.specs.Noting.{giver_in}
 
 pub explained_so : {M : Type 0} (stands : M → StoreState → Type 0) (store : M) (catalog : Catalog) (core : DxeCore) (queue : Queue) (told : DxeTold) (how : DxeEnd) (held : List Held) (discovered : List ℕ) (taken : ℕ)
@@ -30,3 +40,34 @@ explained_so stands store catalog core queue told how held discovered taken wait
       discovered = are last of;
       actions_are = counted last of;
     }
+
+-- a driver that waits
+pub held_one : (catalog : Catalog) (m : DxeMachine) (giver : Guid → Giver) (number : ℕ) (part : Part) (reason : Reason) (needs : List Need) (guids : Option (List Guid)) → is_waiting m number ≡ true → part_at Dxe catalog number ≡ Some part
+    → reason ≡ driver_reason catalog m number → needs ≡ needs_of giver Dxe part.expr → guids ≡ would (has_protocol m.handles) Dxe part.expr
+    → record { number = number; phase = Dxe; reason = reason; needs = needs; would = guids } ∷ [] ≡ held_where (is_waiting m number) (dxe_held_at catalog m giver number)
+held_one catalog m giver number part reason needs guids waits is why asked lacks =
+    let one : record { number = number; phase = Dxe; reason = reason; needs = needs; would = guids } ≡ dxe_held_by catalog m giver number part =
+    λ j. record { number = number; phase = Dxe; reason = why j; needs = asked j; would = lacks j } in
+    ap (λ x. x ∷ []) one ∙ sym (ap (λ o. option_to_list (option_map (dxe_held_by catalog m giver number) o)) is) ∙ sym (ap (λ b. held_where b (dxe_held_at catalog m giver number)) waits)
+
+-- one that does not, and a number without a part
+pub held_none : (catalog : Catalog) (m : DxeMachine) (giver : Guid → Giver) (number : ℕ) → is_waiting m number ≡ false → [] ≡ held_where (is_waiting m number) (dxe_held_at catalog m giver number)
+held_none catalog m giver number waits = sym (ap (λ b. held_where b (dxe_held_at catalog m giver number)) waits)
+
+pub held_no_part : (catalog : Catalog) (m : DxeMachine) (giver : Guid → Giver) (number : ℕ) → part_at Dxe catalog number ≡ None → [] ≡ held_where (is_waiting m number) (dxe_held_at catalog m giver number)
+held_no_part catalog m giver number none = sym (ap (λ o. held_where (is_waiting m number) (option_to_list (option_map (dxe_held_by catalog m giver number) o))) none ∙ by (is_waiting m number))
+  where
+    by : (b : Bool) → held_where b [] ≡ []
+    by true = refl
+    by false = refl
+
+-- the drivers that are left, one fewer
+pub held_on : (catalog : Catalog) (m : DxeMachine) (giver : Guid → Giver) (number : ℕ) (rest : List ℕ) (held one all : List Held) → one ≡ held_where (is_waiting m number) (dxe_held_at catalog m giver number)
+    → held ++ flat_map (dxe_held_at catalog m giver) (filter (is_waiting m) (number ∷ rest)) ≡ all → (held ++ one) ++ flat_map (dxe_held_at catalog m giver) (filter (is_waiting m) rest) ≡ all
+held_on catalog m giver number rest held one all is was =
+    let later = flat_map (dxe_held_at catalog m giver) (filter (is_waiting m) rest) in
+    append_assoc held one later ∙ ap (λ xs. held ++ (xs ++ later)) is ∙ ap (λ xs. held ++ xs) (by (is_waiting m number)) ∙ was
+  where
+    by : (b : Bool) → held_where b (dxe_held_at catalog m giver number) ++ flat_map (dxe_held_at catalog m giver) (filter (is_waiting m) rest) ≡ flat_map (dxe_held_at catalog m giver) (cond b (number ∷ filter (is_waiting m) rest) (filter (is_waiting m) rest))
+    by true = refl
+    by false = refl

@@ -1,46 +1,50 @@
 -- What is told of a run of DXE by choices, a turn further.
-use Rattle.std.proofs.Common.{◌≡◌, ◌≤◌, ℕ, ◌+◌, arith, Bool, true, false, List, [], ◌∷◌, ◌++◌, Option, Some, None, Ok, option_map, refl, sym, ap, ◌∙◌, subst, length}
+use Rattle.std.proofs.Common.{◌≡◌, ◌≤◌, ℕ, ◌+◌, arith, drop, Bool, false, List, [], ◌∷◌, ◌++◌, Option, Some, None, Ok, option_map, is_some, refl, sym, ap, ◌∙◌, subst}
 use Rattle.std.specs.Option.{option_to_list}
 use Rattle.std.proofs.lemmas.List.{append-nil}
 use Rattle.pi_base.specs.declared.guid.Guid.{Guid}
 use Rattle.pi_base.specs.declared.phase.Phase.TheVariants.{Dxe}
-use Rattle.boot_laws.specs.ChangedGuids.{is_among}
+use Rattle.boot_laws.specs.UnrequestedDrivers.{UnrequestedDriversWait}
 use Rattle.boot_model.specs.declared.licence.Licence.{Licence}
 use Rattle.boot_model.specs.declared.licence.Licence.TheVariants as G
 use Rattle.boot_model.specs.declared.phase_end.DxeEnd.{DxeEnd}
 use Rattle.boot_model.specs.DriverLicence.{target_of}
-use Rattle.boot_model.specs.DxeMachine.{DxeMachine, Scheduled}
-use Rattle.boot_model.specs.DxeRun.{dxe_opening}
+use Rattle.boot_model.specs.declared.driver.Scheduled.{Scheduled}
+use Rattle.boot_model.specs.DxeMachine.{DxeMachine}
+use Rattle.boot_model.specs.DxeRun.{dxe_bound, dxe_opening}
 use Rattle.boot_model.specs.DxeStep.{DxeActs, DxeCase, DxeFires, DxeStarts, DxeStops, driver_started, dxe_case_of, dxe_step, in_dxe_case}
 use Rattle.boot_trace.specs.Printing.{Texts}
 use Rattle.catalog_model.specs.declared.catalog.Catalog.{Catalog}
 use Rattle.catalog_model.specs.declared.catalog.Part.{Part}
 use Rattle.catalog_model.specs.Parts.{part_at}
-use Rattle.dxe_choice.specs.Queue.{Queue}
-use Rattle.dxe_core.specs.Standing.{DxeCore, IsCoreOf}
+use Rattle.catalog_model.specs.WellFormed.{IsWellFormed}
+use Rattle.dxe_choice.specs.Queue.{Discovers, IsNewQueue, Queue}
+use Rattle.dxe_core.specs.Standing.{DxeCore, IsCoreOf, IsFor, StandsFor}
 use Rattle.dxe_dispatch.specs.declared.answer.Step.{Step}
 use Rattle.dxe_dispatch.specs.declared.answer.Step.TheVariants.{Acted, Started}
 use Rattle.dxe_dispatch.specs.declared.answer.Turn.TheVariants as T
-use Rattle.dxe_dispatch.specs.Choices.{IsAimedBy, IsRunBy, TurnsBy, came}
-use Rattle.dxe_dispatch.specs.Ends.{IsNow, StandsAtEnd}
-use Rattle.dxe_dispatch.specs.Turns.{IsLeft, IsStarting, IsStep, StartsNone}
-use Rattle.dxe_dispatch.proofs.Chosen.{Any, target_at}
-use Rattle.dxe_dispatch.proofs.ChosenWays.{IsComing}
+use Rattle.dxe_dispatch.specs.Choices.{IsAimedBy, IsOnWay, IsRunBy, NamesDrivers, TurnsBy, came}
+use Rattle.dxe_dispatch.specs.Ends.{IsNow}
+use Rattle.dxe_dispatch.specs.Turns.{IsLeft, IsStep, StartsNone}
+use Rattle.dxe_dispatch.proofs.Chosen.{Any, StepLaws, nearer_by, target_at, waits_behind}
+use Rattle.dxe_dispatch.proofs.ChosenWays.{opening_queue}
 use Rattle.dxe_dispatch.proofs.Targets.{Aimed, First, IsTarget, Own}
 use Rattle.frames.specs.Frames.{top_of}
 use Rattle.free_laws.specs.declared.choice.Reached.{Reached}
 use Rattle.free_laws.specs.declared.choice.Reached.TheVariants as R
 use Rattle.free_laws.specs.DxeAim.{FirstEligibleMayStart}
+use Rattle.free_laws.specs.DxeUnderWay.{DxeHasEnded, DxeOpensUnderWay, steps_left}
 use Rattle.store_model.specs.HandleState.{has_protocol, no_handles}
 use Rattle.store_model.specs.StoreState.{StoreState}
 use Rattle.boot_reasons.specs.declared.nowhere.Nowhere.{Nowhere}
-use Rattle.boot_reasons.specs.declared.reasons.Begun.{Begun}
 use Rattle.boot_reasons.specs.declared.reasons.Giver.{Giver}
+use Rattle.boot_reasons.specs.declared.reasons.Giver.TheVariants.{Absent}
 use Rattle.boot_reasons.specs.declared.told.DxeTold.{DxeTold}
 use Rattle.boot_reasons.specs.DxeReasons.{beside_by, dxe_begun, dxe_begun_at, dxe_begun_by, dxe_begun_in, dxe_giver}
-use Rattle.boot_reasons.specs.DxeTelling.{EndsTo, IsTold, Tells}
+use Rattle.boot_reasons.specs.DxeTelling.{EndsTo, IsAtOpening, IsTold, NamesUnseenAfter, Tells}
 use Rattle.boot_reasons.specs.Givers.{actor_in}
 use Rattle.boot_reasons.specs.Noting.{AreNoted, giver_in}
+use Rattle.boot_reasons.specs.Unseen.{nowhere}
 use Rattle.boot_reasons.proofs.GiverSteps.{actor_present, first_of, giver_on, giver_same, giver_still}
 
 -- what a machine has installed, and who runs in it
@@ -140,8 +144,8 @@ told_on catalog fuel opening earlier target later told after actor (Acted event)
     let behind = dxe_step catalog fuel target in
     let handles : later.services.handles ≡ behind.handles = sym core.services.handles in
     let noted : AreNoted (has_at behind) (actor_at target) (option_to_list event.changed) told.givers.map after.givers.map =
-        subst (λ h. AreNoted (has_protocol h) (actor_at target) (option_to_list event.changed) told.givers.map after.givers.map) handles
-        (subst (λ a. AreNoted (has_protocol later.services.handles) a (option_to_list event.changed) told.givers.map after.givers.map) acts tells.1) in
+    subst (λ h. AreNoted (has_protocol h) (actor_at target) (option_to_list event.changed) told.givers.map after.givers.map) handles
+    (subst (λ a. AreNoted (has_protocol later.services.handles) a (option_to_list event.changed) told.givers.map after.givers.map) acts tells.1) in
     record {
       begun = tells.0 ∙ is.begun ∙ sym (append-nil (dxe_begun catalog earlier)) ∙ ap (λ xs. dxe_begun catalog earlier ++ xs) (sym (none_begins catalog target (dxe_giver earlier target) step.1));
       givers = giver_on has_at actor_at earlier target behind (option_to_list event.changed) told.givers.map after.givers.map
@@ -155,8 +159,8 @@ told_on catalog fuel opening earlier target later told after actor (Started next
     let there = givers_there catalog fuel opening earlier target told turn is in
     let same : giver_in told.givers.map ≡ dxe_giver earlier target = λ j guid. there guid j in
     let here : dxe_begun_at catalog behind (giver_in told.givers.map) next ≡ dxe_begun_in catalog target (dxe_giver earlier target) (dxe_case_of catalog target) =
-        begun_same catalog target behind (giver_in told.givers.map) next discovered ∙ ap (λ giver. dxe_begun_at catalog target giver next) same
-        ∙ ap (dxe_begun_in catalog target (dxe_giver earlier target)) (sym step.1) in
+    begun_same catalog target behind (giver_in told.givers.map) next discovered ∙ ap (λ giver. dxe_begun_at catalog target giver next) same
+    ∙ ap (dxe_begun_in catalog target (dxe_giver earlier target)) (sym step.1) in
     record {
       begun = tells.1 behind core ∙ ap (λ xs. xs ++ dxe_begun_at catalog behind (giver_in told.givers.map) next) is.begun ∙ ap (λ xs. dxe_begun catalog earlier ++ xs) here;
       givers = λ guid. ap (λ g. giver_in g.map guid) tells.0 ∙ there guid ∙ sym (giver_still has_at actor_at earlier target behind guid (ap (λ h. has_protocol h guid) handles));
@@ -173,35 +177,110 @@ run_by Names Others Lets catalog fuel opening (target ∷ earlier) may run =
     (aimed_by Names Others catalog (came catalog fuel opening earlier) target may run.0, run.1, run.2, run_by Names Others Lets catalog fuel opening earlier may run.3)
 
 -- a machine of the run that has so many turns behind it, and what is told up to it
-pub record IsComingTold {M S : Type 0} (Names : DxeMachine → Option ℕ → Type 0) (Lets : DxeMachine → ℕ → Bool) (text : S → Option (List ℕ)) (faults : S → ℕ) (stands : M → StoreState → Type 0) (store : M) (catalog : Catalog) (fuel : ℕ)
-    (opening : DxeMachine) (first : S) (turns : ℕ) (core : DxeCore) (kept : Queue) (sink : S) (before evaluated : ℕ) (told : DxeTold) : Type 0 where
-  pub way : IsComing Names Lets text faults stands store catalog fuel opening first turns core kept sink before evaluated
-  pub is_told : IsTold catalog way.earlier (came catalog fuel opening way.earlier) told
+pub record IsComing {M : Type 0} (Names : DxeMachine → Option ℕ → Type 0) (Lets : DxeMachine → ℕ → Bool) (stands : M → StoreState → Type 0) (store : M) (catalog : Catalog) (fuel : ℕ)
+    (opening : DxeMachine) (turns : ℕ) (core : DxeCore) (queue : Queue) (told : DxeTold) : Type 0 where
+  pub earlier : List DxeMachine
+  pub run : IsRunBy Names Lets catalog fuel opening earlier
+  pub on : IsOnWay stands store catalog core queue (came catalog fuel opening earlier)
+  pub left : steps_left catalog fuel (came catalog fuel opening earlier) + turns ≤ dxe_bound catalog fuel
+  pub is_told : IsTold catalog earlier (came catalog fuel opening earlier) told
 
 -- where it goes no further
-pub told_to : {M S : Type 0} (law : FirstEligibleMayStart) (Names Others : DxeMachine → Option ℕ → Type 0) (Lets : DxeMachine → ℕ → Bool) (text : S → Option (List ℕ)) (faults : S → ℕ) (stands : M → StoreState → Type 0) (store : M) (catalog : Catalog) (fuel : ℕ)
-    (opening : DxeMachine) (first : S) (turns : ℕ) (core later : DxeCore) (kept grown : Queue) (sink : S) (before evaluated now : ℕ) (told : DxeTold) (t : Texts) (reached : Reached DxeEnd) → opening.handles ≡ no_handles
+pub told_to : {M : Type 0} (law : FirstEligibleMayStart) (Names Others : DxeMachine → Option ℕ → Type 0) (Lets : DxeMachine → ℕ → Bool) (stands : M → StoreState → Type 0) (store : M) (catalog : Catalog) (fuel : ℕ)
+    (opening : DxeMachine) (turns : ℕ) (core later : DxeCore) (queue grown : Queue) (before now : ℕ) (told : DxeTold) (t : Texts) (reached : Reached DxeEnd) → opening.handles ≡ no_handles
     → ((m : DxeMachine) (named : Option ℕ) → Names m named → Others m named)
-    → (is : IsComingTold Names Lets text faults stands store catalog fuel opening first turns core kept sink before evaluated told)
-    → TurnsBy Names Lets (IsNow stands store catalog later grown) (IsLeft stands store catalog later grown) catalog fuel (came catalog fuel opening is.way.earlier) t evaluated now (Ok (T.Reached reached))
+    → (is : IsComing Names Lets stands store catalog fuel opening turns core queue told)
+    → TurnsBy Names Lets (IsNow stands store catalog later grown) (IsLeft stands store catalog later grown) catalog fuel (came catalog fuel opening is.earlier) t before now (Ok (T.Reached reached))
     → EndsTo Others Lets stands store catalog fuel opening later grown told reached
-told_to law Names Others Lets text faults stands store catalog fuel opening first turns core later kept grown sink before evaluated now told t (R.End how) none may is by =
-    let earlier = is.way.earlier in
+told_to law Names Others Lets stands store catalog fuel opening turns core later queue grown before now told t (R.End how) none may is by =
+    let earlier = is.earlier in
     let m = came catalog fuel opening earlier in
-    let going = is.way.on.now.machine.core.running in
-    let turn = turned catalog fuel Names Lets law opening earlier by.target none is.way.run going by.aimed in
-    (by.target ∷ earlier, record {
-      run = (aimed_by Names Others catalog m by.target may by.aimed, by.turned.passes, going, run_by Names Others Lets catalog fuel opening earlier may is.way.run);
-      ended = by.turned.ended;
-      stands_at_end = by.turned.now;
-      is_told = quiet_told catalog fuel opening earlier by.target (dxe_step catalog fuel by.target) told turn is.is_told by.turned.none by.turned.handles;
-    })
-told_to law Names Others Lets text faults stands store catalog fuel opening first turns core later kept grown sink before evaluated now told t (R.Barred number) none may is by =
-    let earlier = is.way.earlier in
+    let going = is.on.now.machine.core.running in
+    let turn = turned catalog fuel Names Lets law opening earlier by.target none is.run going by.aimed in (
+      by.target ∷ earlier,
+      record {
+        run = (aimed_by Names Others catalog m by.target may by.aimed, by.turned.passes, going, run_by Names Others Lets catalog fuel opening earlier may is.run);
+        ended = by.turned.ended;
+        stands_at_end = by.turned.now;
+        is_told = quiet_told catalog fuel opening earlier by.target (dxe_step catalog fuel by.target) told turn is.is_told by.turned.none by.turned.handles;
+      },
+    )
+told_to law Names Others Lets stands store catalog fuel opening turns core later queue grown before now told t (R.Barred number) none may is by =
+    let earlier = is.earlier in
+    let m = came catalog fuel opening earlier in (
+      earlier,
+      record {
+        run = run_by Names Others Lets catalog fuel opening earlier may is.run;
+        running = is.on.now.machine.core.running;
+        due = record { target = by.target; aimed = aimed_by Names Others catalog m by.target may by.aimed; starting = by.turned.starting };
+        barred = by.turned.barred;
+      },
+    )
+
+-- a sink that tells nothing
+abbrev pub untold : Nowhere → Option (List ℕ)
+untold sink = None
+
+abbrev pub flawless : Nowhere → ℕ
+flawless sink = 0
+
+-- the opening, of which nothing is told
+pub at_opening : {M : Type 0} (opens : DxeOpensUnderWay) (waits : UnrequestedDriversWait) (stands : M → StoreState → Type 0) (store : M) (catalog : Catalog) (fuel : ℕ) (s : StoreState) (actions : ℕ) (core : DxeCore) (kept queue : Queue) (told : DxeTold)
+    → IsWellFormed catalog → IsFor catalog fuel core → StandsFor stands store catalog core (dxe_opening catalog s actions) → IsNewQueue catalog kept → Discovers catalog kept (drop 0 core.services.order.volumes) queue
+    → told.begun ≡ [] → ((guid : Guid) → giver_in told.givers.map guid ≡ Absent) → IsAtOpening stands store catalog fuel s actions core queue told
+at_opening opens waits stands store catalog fuel s actions core kept queue told well made is new discovers begun givers = record {
+  made = made;
+  on = record {
+    now = record { machine = is; queue = opening_queue catalog kept queue core.services.order.volumes s actions new is.core.services.order.volumes_are discovers };
+    way = (opens catalog fuel s actions well.parents).way;
+    waits = waits catalog well fuel 0 s actions;
+  };
+  is_told = record { begun = begun; givers = givers };
+}
+
+-- from there so many turns are left as the bound lets
+pub comes_first : {M : Type 0} (opens : DxeOpensUnderWay) (Names : DxeMachine → Option ℕ → Type 0) (Lets : DxeMachine → ℕ → Bool) (stands : M → StoreState → Type 0) (store : M) (catalog : Catalog) (fuel : ℕ) (s : StoreState) (actions : ℕ) (core : DxeCore) (queue : Queue) (told : DxeTold)
+    → IsWellFormed catalog → IsAtOpening stands store catalog fuel s actions core queue told → IsComing Names Lets stands store catalog fuel (dxe_opening catalog s actions) 0 core queue told
+comes_first opens Names Lets stands store catalog fuel s actions core queue told well at =
+    let few = (opens catalog fuel s actions well.parents).few in
+    record { earlier = []; run = tt; on = at.on; left = omega (arith, few); is_told = at.is_told }
+
+-- one turn more
+pub told_further : {M : Type 0} (laws : StepLaws) (Names : DxeMachine → Option ℕ → Type 0) (Lets : DxeMachine → ℕ → Bool) (stands : M → StoreState → Type 0) (store : M) (catalog : Catalog) (fuel : ℕ)
+    (opening : DxeMachine) (turns : ℕ) (core later : DxeCore) (queue grown : Queue) (before now : ℕ) (told after : DxeTold) (t : Texts) (actor : Giver) (step : Step) → IsWellFormed catalog → opening.handles ≡ no_handles
+    → (is : IsComing Names Lets stands store catalog fuel opening turns core queue told)
+    → TurnsBy Names Lets (IsNow stands store catalog later grown) (IsLeft stands store catalog later grown) catalog fuel (came catalog fuel opening is.earlier) t before now (Ok (T.Took step))
+    → actor ≡ actor_in core.frames → Tells catalog later actor step told after
+    → IsComing Names Lets stands store catalog fuel opening (turns + 1) later grown after
+told_further laws Names Lets stands store catalog fuel opening turns core later queue grown before now told after t actor step well none is by acts tells =
+    let earlier = is.earlier in
     let m = came catalog fuel opening earlier in
-    (earlier, record {
-      run = run_by Names Others Lets catalog fuel opening earlier may is.way.run;
-      running = is.way.on.now.machine.core.running;
-      due = record { target = by.target; aimed = aimed_by Names Others catalog m by.target may by.aimed; starting = by.turned.starting };
-      barred = by.turned.barred;
-    })
+    let going = is.on.now.machine.core.running in
+    let turn = turned catalog fuel Names Lets laws.first opening earlier by.target none is.run going by.aimed in
+    let aim = target_at Names catalog m by.target laws.first going by.aimed in
+    let near = nearer_by laws catalog fuel m by.target Any well going is.on.way aim in
+    let less = near.less in
+    let left = is.left in
+    record {
+      earlier = by.target ∷ earlier;
+      run = (by.aimed, by.turned.0.passes, going, is.run);
+      on = record { now = by.turned.0.now; way = near.way; waits = waits_behind laws.groups catalog fuel m by.target Any well is.on.way is.on.waits aim };
+      left = omega (arith, less, left);
+      is_told = told_on catalog fuel opening earlier by.target later told after actor step turn is.is_told by.turned.1 by.turned.0.now.machine.core
+          (acts ∙ ap actor_in (sym (turn.frames ∙ is.on.now.machine.core.frames))) tells;
+    }
+
+-- with no turn left the run has ended
+pub turn_to_come : {M : Type 0} (ended : DxeHasEnded) (Names : DxeMachine → Option ℕ → Type 0) (Lets : DxeMachine → ℕ → Bool) (stands : M → StoreState → Type 0) (store : M) (catalog : Catalog) (fuel : ℕ)
+    (opening : DxeMachine) (turns : ℕ) (core : DxeCore) (queue : Queue) (told : DxeTold) → IsComing Names Lets stands store catalog fuel opening turns core queue told → dxe_bound catalog fuel ≤ turns → ⊥
+turn_to_come ended Names Lets stands store catalog fuel opening turns core queue told is all =
+    let m = came catalog fuel opening is.earlier in
+    let left = is.left in
+    let none : steps_left catalog fuel m ≡ 0 = omega (arith, left, all) in
+    let over = ended catalog fuel m none in
+    let running : is_some m.ended ≡ false = ap is_some is.on.now.machine.core.running in
+    absurd (cc)
+
+-- what a choice that sees no text may name, looking into this sink or that
+pub unseen : (names : Nowhere → ℕ → Option ℕ → Type 0) (in_pei : ℕ) (m : DxeMachine) (named : Option ℕ) → NamesDrivers names untold flawless in_pei nowhere m named → NamesUnseenAfter names in_pei m named
+unseen names in_pei m named may = may.is

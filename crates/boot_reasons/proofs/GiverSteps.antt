@@ -1,5 +1,6 @@
 -- Who has a GUID installed, a step further.
-use Rattle.std.proofs.Common.{◌≡◌, ℕ, Bool, true, false, ◌||◌, cond, List, [], ◌∷◌, ◌++◌, Option, Some, None, refl, sym, ap, ◌∙◌, subst}
+use Rattle.std.proofs.Common.{◌≡◌, ◌≤◌, ◌-◌, ℕ, Bool, true, false, ◌||◌, cond, List, [], ◌∷◌, ◌++◌, length, get_or, Option, Some, None, refl, sym, ap, ◌∙◌, subst}
+use Rattle.std.specs.Prelude.{drop, take}
 use Rattle.std.specs.Prelude.{unwrap_or}
 use Rattle.std.proofs.lemmas.Slice.Eq.{bytes_eq-Decides}
 use Rattle.pi_base.specs.declared.guid.Guid.{Guid}
@@ -10,6 +11,7 @@ use Rattle.boot_reasons.specs.declared.reasons.Giver.{Giver}
 use Rattle.boot_reasons.specs.declared.reasons.Giver.TheVariants.{Core, Module, Absent}
 use Rattle.boot_reasons.specs.Givers.{actor_by, giver_along}
 use Rattle.boot_reasons.specs.Noting.{AreNoted, IsPresent, giver_behind, giver_in, giver_or}
+use Rattle.boot_reasons.proofs.WalkedLists.{left_after}
 
 or_none : (b : Bool) → (b || false) ≡ b
 or_none true = refl
@@ -67,6 +69,12 @@ noted_then has actor xs ys old mid new first second guid =
     by true false = refl
     by false true = refl
     by false false = refl
+
+-- the first of them, and then those that are left
+pub noted_on : (has : Guid → Bool) (actor : Giver) (guids : List Guid) (d : Guid) (old mid new : List (Guid × Giver)) → 1 ≤ length guids → AreNoted has actor (get_or guids 0 d ∷ []) old mid
+    → AreNoted has actor (take (length guids - 1) (drop 1 guids)) mid new → AreNoted has actor guids old new
+noted_on has actor guids d old mid new some first rest =
+    subst (λ xs. AreNoted has actor xs old new) (left_after guids d some) (noted_then has actor (get_or guids 0 d ∷ []) (take (length guids - 1) (drop 1 guids)) old mid new first rest)
 
 -- over the same set by another name
 pub noted_over : (has other : Guid → Bool) (actor : Giver) (guids : List Guid) (old new : List (Guid × Giver)) → ((guid : Guid) → has guid ≡ other guid) → AreNoted has actor guids old new → AreNoted other actor guids old new

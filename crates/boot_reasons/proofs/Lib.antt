@@ -1,6 +1,7 @@
 mod DxeEnds
 mod DxeSteps
 mod GiverSteps
+mod HeldParts
 mod OneRun
 mod OneTelling
 mod OwnBoots
@@ -8,3 +9,4 @@ mod PeiEnds
 mod PeiSteps
 mod Phases
 mod Reported
+mod WalkedLists

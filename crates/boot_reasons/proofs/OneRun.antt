@@ -1,5 +1,5 @@
 -- Choices that name one module at most lead to one place: from each machine they lead on by one step, or stop there.
-use Rattle.std.proofs.Common.{◌≡◌, ℕ, zero, suc, ◌+◌, ◌<◌, ◌≤◌, Bool, true, false, true≢false, ◌||◌, List, [], ◌∷◌, ◌++◌, length, Option, Some, None, refl, sym, ap, ◌∙◌, subst, inl, inr, arith}
+use Rattle.std.proofs.Common.{◌≡◌, ℕ, zero, suc, ◌<◌, ◌≤◌, Bool, true, false, true≢false, ◌||◌, List, [], ◌∷◌, length, Option, Some, None, refl, sym, ap, ◌∙◌, subst, inl, inr, arith}
 use Rattle.std.specs.Prelude.{◌==◌, slice_get}
 use Rattle.std.proofs.lemmas.Bool.{cases_lt}
 use Rattle.std.proofs.lemmas.Bool.Decides.{eqb_tells}
@@ -11,9 +11,10 @@ use Rattle.store_model.specs.StoreState.{Board}
 use Rattle.boot_model.specs.declared.phase_end.DxeEnd.{DxeEnd}
 use Rattle.boot_model.specs.declared.phase_end.PeiEnd.{PeiEnd}
 use Rattle.boot_model.specs.declared.phase_end.PeiEnd.TheVariants.{Handoff, NoMemory, NoIpl, Spent, Deep}
-use Rattle.boot_model.specs.DxeMachine.{DxeMachine, Scheduled}
+use Rattle.boot_model.specs.declared.driver.Scheduled.{Scheduled}
+use Rattle.boot_model.specs.DxeMachine.{DxeMachine}
 use Rattle.boot_model.specs.DxeRun.{dxe_opening}
-use Rattle.boot_model.specs.DxeStep.{DxeStarts, dxe_case_of, dxe_step}
+use Rattle.boot_model.specs.DxeStep.{DxeStarts, dxe_case_of}
 use Rattle.boot_model.specs.Licence.{AllDiffer}
 use Rattle.boot_model.specs.PeiChoice.{next_peim, pei_order}
 use Rattle.boot_model.specs.PeiMachine.{PeiMachine}
@@ -33,7 +34,7 @@ use Rattle.whole_boot.specs.Choices.{Choices}
 use Rattle.boot_reasons.specs.declared.dxe.DxeExplained.{DxeExplained}
 use Rattle.boot_reasons.specs.declared.pei.PeiExplained.{PeiExplained}
 use Rattle.boot_reasons.specs.declared.reasons.Explained.{Explained}
-use Rattle.boot_reasons.specs.Boots.{NameOne}
+use Rattle.boot_reasons.specs.Boots.{HasOneExplanation, NameOne}
 use Rattle.boot_reasons.specs.DxeTelling as T
 use Rattle.boot_reasons.specs.Explained.{ExplainsTo, IsExplainedAfter, IsExplainedBy, IsExplainedInDxe, IsLeftBefore, left_in_dxe, left_in_pei}
 use Rattle.boot_reasons.specs.Joining.{together}
@@ -144,9 +145,10 @@ same_run b [] [] m k r s l = (refl, r ∙ sym s)
 same_run b [] (y ∷ f) m k r s l = cc
 same_run b (x ∷ e) [] m k r s l = cc
 same_run b (x ∷ e) (y ∷ f) m k r s l =
-    let same = same_run b e f x y r.2 s.2 (omega (arith, l)) in
-    (ap (λ z. z ∷ e) same.1 ∙ ap (λ zs. y ∷ zs) same.0,
-    one_step b x m k (differ b e x r.2) r.1 (subst (λ z. IsStep b z k) (sym same.1) s.1))
+    let same = same_run b e f x y r.2 s.2 (omega (arith, l)) in (
+      ap (λ z. z ∷ e) same.1 ∙ ap (λ zs. y ∷ zs) same.0,
+      one_step b x m k (differ b e x r.2) r.1 (subst (λ z. IsStep b z k) (sym same.1) s.1),
+    )
 
 -- the machine of a longer run behind so many steps, and its next
 record Passed (b : Boot) (n : ℕ) : Type 0 where
@@ -287,7 +289,7 @@ one_explained b one other p q =
     let here : IsPeiExplained b.catalog q.earlier q.pei p.first = subst (λ m. IsPeiExplained b.catalog q.earlier m p.first) same.1 (subst (λ x. IsPeiExplained b.catalog x p.pei p.first) same.0 p.peims) in
     let first : p.first ≡ q.first = one_told b.catalog q.earlier q.pei p.first q.first here q.peims in
     let ends : IsExplainedAfter b.by b.catalog b.fuel q.pei q.first q.first.«end» one =
-        subst (λ m. IsExplainedAfter b.by b.catalog b.fuel m q.first q.first.«end» one) same.1 (subst (λ x. IsExplainedAfter b.by b.catalog b.fuel p.pei x x.«end» one) first p.ends) in
+    subst (λ m. IsExplainedAfter b.by b.catalog b.fuel m q.first q.first.«end» one) same.1 (subst (λ x. IsExplainedAfter b.by b.catalog b.fuel p.pei x x.«end» one) first p.ends) in
     one_after b q.pei q.first q.first.«end» one other ends q.ends
 
 -- an explained boot is left before no start
@@ -342,12 +344,12 @@ one_left b one other (left_in_dxe e pei run handed before x) (left_in_pei f k y)
 one_left b one other (left_in_dxe e pei run handed before x) (left_in_dxe f last runs ended after y) =
     let same = one_run b e f pei last run (over Handoff handed) runs (over Handoff ended) in
     let there : T.IsBarred (b.by.drivers last) (b.by.lets_driver last) b.catalog b.fuel (dxe_opening b.catalog last.store last.actions) before one =
-        subst (λ z. T.IsBarred (b.by.drivers z) (b.by.lets_driver z) b.catalog b.fuel (dxe_opening b.catalog z.store z.actions) before one) same.1 x in
+    subst (λ z. T.IsBarred (b.by.drivers z) (b.by.lets_driver z) b.catalog b.fuel (dxe_opening b.catalog z.store z.actions) before one) same.1 x in
     let way : before ≡ after = one_dxe_run b last before after there.run (dxe_barred one there.due there.barred) y.run (dxe_barred other y.due y.barred) in
     one_driver b last (came b last after) one other y.running (subst (λ xs. D.IsDue (b.by.drivers last) b.catalog (came b last xs) one) way there.due) y.due
 
-pub one_boot : (laws : RunLaws) (by : Choices) (board : Board) (catalog : Catalog) (fuel : ℕ) → IsWellFormed catalog → NameOne by → (one other : Reached Explained) → ExplainsTo by board catalog fuel one → ExplainsTo by board catalog fuel other → one ≡ other
-one_boot laws by board catalog fuel well names one other p q = same one other p q
+pub one_boot : (laws : RunLaws) (by : Choices) → HasOneExplanation by
+one_boot laws by names board catalog fuel well one other p q = same one other p q
   where
     b : Boot
     b = record { by = by; board = board; catalog = catalog; fuel = fuel; well = well; names = names; laws = laws }

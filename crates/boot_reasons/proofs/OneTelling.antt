@@ -1,5 +1,5 @@
 -- One explanation of a phase tells the lists of one run.
-use Rattle.std.proofs.Common.{◌≡◌, ℕ, List, Option, Some, sym, ◌∙◌}
+use Rattle.std.proofs.Common.{◌≡◌, List, sym, ◌∙◌}
 use Rattle.catalog_model.specs.declared.catalog.Catalog.{Catalog}
 use Rattle.boot_model.specs.DxeMachine.{DxeMachine}
 use Rattle.boot_model.specs.PeiMachine.{PeiMachine}

@@ -1,9 +1,10 @@
 -- A run of PEI by choices, from its opening to its end, and what is handed on there.
-use Rattle.std.proofs.Common.{◌≡◌, ◌≤◌, ◌<◌, ℕ, ◌+◌, arith, Bool, false, true, List, [], ◌∷◌, Option, Some, None, refl, sym, ap, ◌∙◌, subst, is_some}
+use Rattle.std.proofs.Common.{◌≡◌, ◌≤◌, ℕ, ◌+◌, arith, length, Bool, false, List, [], ◌∷◌, Option, Some, None, refl, sym, ap, ◌∙◌, subst, is_some}
 use Rattle.pi_base.specs.declared.guid.Guid.{Guid}
 use Rattle.catalog_model.specs.declared.catalog.Catalog.{Catalog}
 use Rattle.store_model.specs.StoreState.{Board, StoreState}
 use Rattle.boot_model.specs.declared.phase_end.PeiEnd.{PeiEnd}
+use Rattle.boot_model.specs.Licence.{AllDiffer}
 use Rattle.boot_model.specs.PeiChoice.{pei_order}
 use Rattle.boot_model.specs.PeiMachine.{PeiMachine}
 use Rattle.boot_model.specs.PeiRun.{pei_bound, pei_opening}
@@ -11,21 +12,22 @@ use Rattle.free_laws.specs.declared.choice.Reached.{Reached}
 use Rattle.free_laws.specs.declared.choice.Reached.TheVariants as R
 use Rattle.free_laws.specs.PeiUnderWay.{PeiHasEnded, PeiOpensUnderWay, steps_left}
 use Rattle.pei_choice.specs.declared.queue.PeiQueue.{PeiQueue}
-use Rattle.pei_choice.specs.Queue.{parts_in}
+use Rattle.pei_choice.specs.Queue.{AreNew, IsNewQueue, Shows, ShowsBehind, parts_in}
+use Rattle.pei_choice.specs.View.{AreAlike, View, first_view, view_of, with_volumes}
 use Rattle.pei_core.specs.declared.pei.Pei.{Pei}
-use Rattle.pei_core.specs.Standing.{StandsFor}
+use Rattle.pei_core.specs.Standing.{IsFor, StandsFor}
 use Rattle.pei_dispatch.specs.Turns.{IsNow}
 use Rattle.pei_dispatch.proofs.Chosen.{step_is_free}
-use Rattle.pei_dispatch.proofs.ChosenWays.{Laws}
 use Rattle.boot_reasons.specs.declared.pei.PeiExplained.{PeiExplained}
 use Rattle.boot_reasons.specs.declared.reasons.Giver.TheVariants.{Absent}
 use Rattle.boot_reasons.specs.declared.reasons.Held.{Held}
 use Rattle.boot_reasons.specs.declared.told.PeiTold.{PeiTold}
 use Rattle.boot_reasons.specs.Moving.{heap_used}
 use Rattle.boot_reasons.specs.Noting.{giver_in}
-use Rattle.boot_reasons.specs.PeiEnding.{EndsTo, ExplainsEnd, ExplainsRun, IsPeiExplained}
+use Rattle.boot_reasons.specs.PeiEnding.{EndsTo, ExplainsEnd, ExplainsRun}
 use Rattle.boot_reasons.specs.PeiReasons.{pei_giver, pei_held}
-use Rattle.boot_reasons.specs.PeiTelling.{IsAt, IsAtEnd, IsTold, TurnsTo}
+use Rattle.boot_reasons.specs.PeiTelling.{IsAt, TurnsTo}
+use Rattle.boot_reasons.proofs.PeiSteps.{Laws}
 
 -- a run that has so many turns behind it, and no more steps left than turns
 pub record IsOnWay {M : Type 0} (Names : PeiMachine → Option ℕ → Type 0) (Lets : PeiMachine → ℕ → Bool) (stands : M → StoreState → Type 0) (board : Board) (catalog : Catalog) (fuel turns : ℕ) (pei : Pei M) (queue : PeiQueue) (told : PeiTold) : Type 0 where
@@ -67,6 +69,23 @@ never_all ended Names Lets stands board catalog fuel turns pei queue told way al
     let running : is_some way.m.ended ≡ false = ap is_some way.at.now.machine.has.fields.running in
     absurd (cc)
 
+-- a queue shows each view that says what one says that it shows
+abbrev pub AlikeAreShown : Type 0
+AlikeAreShown = (catalog : Catalog) (queue : PeiQueue) (view other : View) → Shows catalog queue view → AreAlike view other → Shows catalog queue other
+
+-- the queue knows the volumes of the opening
+pub opened : {M : Type 0} (alike : AlikeAreShown) (stands : M → StoreState → Type 0) (board : Board) (catalog : Catalog) (fuel : ℕ) (pei : Pei M) (fresh queue : PeiQueue) (volumes : List ℕ)
+    → IsFor catalog fuel pei → StandsFor stands pei (pei_opening board catalog) → IsNewQueue catalog fresh → volumes ≡ (pei_opening board catalog).reported
+    → ShowsBehind catalog fresh queue (AreNew volumes) (with_volumes volumes) → queue.cursor ≡ fresh.cursor → IsNow stands catalog pei queue (pei_opening board catalog)
+opened alike stands board catalog fuel pei fresh queue volumes made stand new are shows place =
+    let m = pei_opening board catalog in
+    let differ : AllDiffer volumes = subst AllDiffer (sym (are ∙ stand.has.fields.reported)) made.known.differ in
+    let same : AreAlike (with_volumes volumes first_view) (view_of m) = record { volumes = are; starts = λ n. refl; allows = λ n h. refl; installs = λ guid. refl } in
+    let shown : Shows catalog queue (view_of m) = alike catalog queue (with_volumes volumes first_view) (view_of m) (shows first_view new.shows differ) same in
+    let order : ℕ = length (pei_order catalog m.reported) in
+    let within : 0 ≤ order = omega arith in
+    record { machine = stand; parts = record { shows = shown; place = sym (place ∙ new.place) }; within = within }
+
 -- nothing is told at the opening
 pub at_opening : {M : Type 0} (opens : PeiOpensUnderWay) (Names : PeiMachine → Option ℕ → Type 0) (Lets : PeiMachine → ℕ → Bool) (stands : M → StoreState → Type 0) (board : Board) (catalog : Catalog) (fuel : ℕ) (pei : Pei M) (queue : PeiQueue) (told : PeiTold)
     → IsNow stands catalog pei queue (pei_opening board catalog) → told.begun ≡ [] → ((guid : Guid) → giver_in told.givers.map guid ≡ Absent) → told.moved ≡ None
@@ -98,3 +117,8 @@ pub explains_run : {M : Type 0} (Names : PeiMachine → Option ℕ → Type 0) (
 explains_run Names Lets stands board catalog fuel pei queue told how e ends explains =
     let at = ends.2 in
     record { earlier = ends.0; «end» = ends.1; run = at.run; explained = explains ends.0 ends.1 at.ended at.left at.is_told; sweep = at.left.sweep; machine = at.left.machine }
+
+-- at an end the core stands for some machine
+pub stands_at_end : {M : Type 0} (Names : PeiMachine → Option ℕ → Type 0) (Lets : PeiMachine → ℕ → Bool) (stands : M → StoreState → Type 0) (board : Board) (catalog : Catalog) (fuel : ℕ) (pei : Pei M) (queue : PeiQueue) (told : PeiTold) (how : PeiEnd)
+    → EndsTo Names Lets stands board catalog fuel pei queue told (R.End how) → (m : PeiMachine) × StandsFor stands pei m
+stands_at_end Names Lets stands board catalog fuel pei queue told how ends = (record ends.1 { ended = None; core_sweep = ends.2.left.sweep }, ends.2.left.machine)

@@ -1,5 +1,5 @@
 -- What is told of a run of PEI by choices, a step further.
-use Rattle.std.proofs.Common.{◌≡◌, ℕ, zero, suc, ◌-◌, arith, length, Bool, true, false, cond, List, [], ◌∷◌, ◌++◌, flat_map, Option, Some, None, option_map, refl, sym, ap, ◌∙◌, subst, inl, inr}
+use Rattle.std.proofs.Common.{◌≡◌, ℕ, suc, ◌-◌, arith, length, Bool, true, false, cond, List, [], ◌∷◌, ◌++◌, flat_map, Option, Some, None, option_map, Result, Ok, Err, IfOk, refl, sym, ap, ◌∙◌, subst, inl, inr}
 use Rattle.std.specs.Prelude.{take}
 use Rattle.std.specs.Option.{option_or, option_to_list}
 use Rattle.std.proofs.lemmas.List.{append-nil}
@@ -16,32 +16,45 @@ use Rattle.boot_trace.specs.Printing.{Texts}
 use Rattle.catalog_model.specs.declared.catalog.Catalog.{Catalog}
 use Rattle.catalog_model.specs.declared.catalog.Part.{Part}
 use Rattle.catalog_model.specs.Parts.{has_number, part_at}
-use Rattle.free_laws.specs.PeiAim.{with_cursor}
-use Rattle.free_laws.specs.PeiFree.{IsOwnCase}
+use Rattle.free_laws.specs.PeiAim.{CursorAims, with_cursor}
+use Rattle.free_laws.specs.PeiFree.{IsOwnCase, OwnPeiStepsAreFree}
+use Rattle.free_laws.specs.PeiUnderWay.{IsUnderWay, PeiStepsRunOut}
 use Rattle.pei_choice.specs.declared.queue.PeiQueue.{PeiQueue}
+use Rattle.pei_choice.specs.Queue.{IsQueueOf, parts_in}
 use Rattle.pei_choice.specs.View.{event_guids}
 use Rattle.pei_core.specs.declared.event.Event.{Event}
 use Rattle.pei_core.specs.declared.pei.Pei.{Pei}
 use Rattle.pei_core.specs.Standing.{StandsFor}
 use Rattle.pei_core.specs.Steps.{IsEvent, IsIdle}
-use Rattle.pei_dispatch.specs.Choices.{IsDue, IsOwnStep, IsRunBy, IsStepBy}
+use Rattle.pei_dispatch.specs.Choices.{IsDue, IsPlaceFor, IsRunBy, IsStepBy}
+use Rattle.pei_dispatch.specs.Ends.{pei_starts}
 use Rattle.pei_dispatch.specs.Turns.{HasTurned, IsNext, IsNow, IsOver}
 use Rattle.pei_dispatch.proofs.Chosen.{Chose, idle_stops, own_case, stands_anywhere, step_is_free}
-use Rattle.pei_dispatch.proofs.ChosenWays.{Laws}
 use Rattle.pei_dispatch.proofs.Following.{guids_are, once_fewer}
 use Rattle.pei_dispatch.proofs.Idle.{step_quiet, step_stops}
 use Rattle.store_model.specs.Service.Install.{has_ppi}
 use Rattle.store_model.specs.StoreState.{Board, StoreState}
-use Rattle.boot_reasons.specs.declared.reasons.Begun.{Begun}
+use Rattle.boot_reasons.specs.declared.nowhere.Nowhere.{Nowhere}
 use Rattle.boot_reasons.specs.declared.reasons.Giver.{Giver}
-use Rattle.boot_reasons.specs.declared.reasons.Moved.{Moved}
 use Rattle.boot_reasons.specs.declared.told.PeiTold.{PeiTold}
 use Rattle.boot_reasons.specs.Givers.{actor_in}
 use Rattle.boot_reasons.specs.Moving.{heap_used, moved_between, moved_from, unmoved_base}
 use Rattle.boot_reasons.specs.Noting.{AreNoted, IsPresent, giver_in}
 use Rattle.boot_reasons.specs.PeiReasons.{gained, pei_begun, pei_begun_at, pei_begun_by, pei_giver, pei_moved, starts_between}
-use Rattle.boot_reasons.specs.PeiTelling.{IsAt, IsAtEnd, IsBarred, IsLeftAt, IsStartTold, IsTold}
+use Rattle.boot_reasons.specs.PeiTelling.{IsAt, IsAtEnd, IsBarred, IsStartTold, IsTold}
+use Rattle.boot_reasons.specs.Unseen.{NamesUnseen, nowhere}
 use Rattle.boot_reasons.proofs.GiverSteps.{actor_present, first_of, giver_on, giver_still}
+
+-- the laws of free steps that a run stands on
+pub record Laws : Type 0 where
+  pub aims : CursorAims
+  pub own : OwnPeiStepsAreFree
+  pub nearer : PeiStepsRunOut
+
+-- what holds of an answer, told of a later one
+pub on_ok : {A E : Type 0} (P Q : A → Type 0) (r : Result A E) → ((a : A) → P a → Q a) → IfOk r P → IfOk r Q
+on_ok P Q (Ok a) f h = f a h
+on_ok P Q (Err e) f h = h
 
 -- a list that stays gains nothing, and one with an item more in front that item
 gained_none : (before later : List ℕ) → later ≡ before → gained before later ≡ []
@@ -144,6 +157,19 @@ went_on change these laws Names Lets stands board catalog fuel earlier m pei lat
   where
     actor_in_present : (x : PeiMachine) → IsPresent (actor_in x.frames)
     actor_in_present x = actor_present _
+
+-- the cursor is put where the choice, which sees no text, names it
+pub chose_unseen : (names : Nowhere → ℕ → Option ℕ → Type 0) (catalog : Catalog) (m : PeiMachine) (old new : PeiQueue) (starts : ℕ) (named : Option ℕ)
+    → CursorAims → IsIdle m → IsUnderWay catalog m → IsQueueOf catalog m old → starts ≡ pei_starts m → names nowhere starts named → IsPlaceFor (parts_in old) old.cursor named new.cursor
+    → Chose (NamesUnseen names) catalog m new.cursor
+chose_unseen names catalog m old new starts named aims idle way of count is place = record {
+  idle = idle;
+  way = way;
+  named = named;
+  allowed = subst (λ n. names nowhere n named) count is;
+  place = subst (λ xs. IsPlaceFor xs m.cursor named new.cursor) of.shows.order (subst (λ n. IsPlaceFor (parts_in old) n named new.cursor) (sym of.place) place);
+  aims = aims catalog m new.cursor;
+}
 
 -- the PEIM that is due starts
 pub start_on : {M : Type 0} (laws : Laws) (Names : PeiMachine → Option ℕ → Type 0) (Lets : PeiMachine → ℕ → Bool) (stands : M → StoreState → Type 0) (board : Board) (catalog : Catalog) (fuel : ℕ)

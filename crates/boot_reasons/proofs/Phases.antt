@@ -1,10 +1,9 @@
 -- What is told of both phases explains the boot.
-use Rattle.std.proofs.Common.{◌≡◌, ℕ, Bool, List, Option, Some, None, refl, sym, ap, ◌∙◌, subst}
+use Rattle.std.proofs.Common.{◌≡◌, ℕ, Bool, IfOk, Option, Some, None, Result, Ok, Err, true≢false, refl, sym, ap, ◌∙◌, subst}
 use Rattle.catalog_model.specs.declared.catalog.Catalog.{Catalog}
 use Rattle.store_model.specs.Service.{OfEach}
 use Rattle.store_model.specs.StoreCall.{Anything}
 use Rattle.store_model.specs.StoreState.{Board, StoreState}
-use Rattle.boot_model.specs.declared.phase_end.PeiEnd.{PeiEnd}
 use Rattle.boot_model.specs.declared.phase_end.PeiEnd.TheVariants.{Handoff}
 use Rattle.boot_model.specs.PeiMachine.{PeiMachine}
 use Rattle.free_laws.specs.declared.choice.Reached.{Reached}
@@ -17,10 +16,14 @@ use Rattle.boot_reasons.specs.declared.nowhere.Nowhere.{Nowhere}
 use Rattle.boot_reasons.specs.declared.pei.PeiExplained.{PeiExplained}
 use Rattle.boot_reasons.specs.declared.reasons.Explained.{Explained}
 use Rattle.boot_reasons.specs.DxeTelling as D
-use Rattle.boot_reasons.specs.Explained.{ExplainsBehind, IsExplainedAfter, left_in_dxe}
+use Rattle.boot_reasons.specs.Explained.{ExplainsBehind, IsExplainedAfter, IsLeftBefore, left_in_dxe, left_in_pei, own_choices}
 use Rattle.boot_reasons.specs.Joining.{together}
-use Rattle.boot_reasons.specs.PeiEnding.{ExplainsRun}
 use Rattle.boot_reasons.specs.Unseen.{choices_of}
+
+-- what follows from what a call that went well answers
+pub if_ok : {A E : Type 0} (result : Result A E) (P Q : A → Type 0) → ((a : A) → P a → Q a) → IfOk result P → IfOk result Q
+if_ok (Ok a) P Q f p = f a p
+if_ok (Err e) P Q f p = tt
 
 -- what a choice may name in each phase, and what it lets
 pub record Ways : Type 1 where
@@ -31,7 +34,7 @@ pub record Ways : Type 1 where
 
 -- what the core tells of the last machine of PEI
 pub record Hands {M : Type 0} (stands : M → StoreState → Type 0) (pei : Pei M) (store : M) (taken in_pei : ℕ) : Type 0 where
-  pub store_is : store ≡ pei.store
+  pub store_is : (m : PeiMachine) → StandsFor stands pei m → stands store m.store
   pub taken_is : (m : PeiMachine) → StandsFor stands pei m → taken ≡ m.actions
   pub starts_are : (m : PeiMachine) → StandsFor stands pei m → in_pei ≡ pei_starts m
 
@@ -44,9 +47,8 @@ driven : {M : Type 0} (w : Ways) (stands : M → StoreState → Type 0) (board :
     → Drives w stands store catalog fuel taken in_pei reached → StandsFor stands pei m → m.store ≡ last.store → m.actions ≡ last.actions → pei_starts m ≡ pei_starts last
     → D.ExplainsBehind w.drivers w.lets_in_dxe (pei_starts last) catalog fuel last.actions reached last.store
 driven w stands board catalog fuel pei store taken in_pei reached last m hands drives at same_store same_actions same_starts =
-    let P : M → Type 0 = λ x. stands x last.store in
-    let Q : StoreState → Type 0 = λ x. stands pei.store x in
-    let here : P store = subst P (sym hands.store_is) (subst Q same_store at.has.store) in
+    let P : StoreState → Type 0 = λ x. stands store x in
+    let here : P last.store = subst P same_store (hands.store_is m at) in
     let row = drives last.store here tt in
     let taken_is : taken ≡ last.actions = hands.taken_is m at ∙ same_actions in
     let starts_are : in_pei ≡ pei_starts last = hands.starts_are m at ∙ same_starts in
@@ -87,3 +89,8 @@ ends_alone w stands catalog fuel pei p e ends board run = record {
   peims = run.explained;
   ends = ends run.«end» (record run.«end» { ended = None; core_sweep = run.sweep }) run.machine refl;
 }
+
+-- the machine's own choices let each module start
+pub own_goes_on : (board : Board) (catalog : Catalog) (fuel number : ℕ) → IsLeftBefore own_choices board catalog fuel number → ⊥
+own_goes_on board catalog fuel number (left_in_pei earlier m bars) = true≢false bars.barred
+own_goes_on board catalog fuel number (left_in_dxe earlier pei run handed over bars) = true≢false bars.barred

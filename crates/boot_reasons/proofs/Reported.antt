@@ -1,5 +1,5 @@
 -- The volumes that a machine of a run of PEI by choices has reported differ.
-use Rattle.std.proofs.Common.{◌≡◌, ℕ, Bool, true, false, cond, List, [], ◌∷◌, ◌++◌, ◌+◌, length, Option, Some, None, Ok, Err, nat_le, sym, ap, ◌∙◌, subst, inl, inr}
+use Rattle.std.proofs.Common.{ℕ, Bool, true, false, cond, List, [], ◌∷◌, ◌++◌, ◌+◌, length, Option, Some, None, Ok, Err, nat_le, sym, subst, inl, inr}
 use Rattle.pi_base.specs.declared.phase.Phase.TheVariants.{Pei}
 use Rattle.pi_base.specs.Lists.{Each}
 use Rattle.pi_base.proofs.ListFacts.{each_more, each_append}
@@ -15,7 +15,7 @@ use Rattle.boot_model.specs.declared.line.Line.TheVariants as L
 use Rattle.boot_model.specs.declared.phase_end.PeiEnd.TheVariants.{Spent, Deep}
 use Rattle.boot_model.specs.PeiMachine.{PeiMachine, Frame, printed}
 use Rattle.boot_model.specs.PeiAction.{Effect, Wrote, Called, Own, Shadowed, Logged, Skipped, Returned, effect}
-use Rattle.boot_model.specs.PeiStep.{PeiCase, Fires, Acts, Moves, Pops, Starts, Stops, case_of, in_case, started, callback_begun, action_at, after_effect, core_called, started_part}
+use Rattle.boot_model.specs.PeiStep.{PeiCase, Fires, Acts, Moves, Pops, Starts, Stops, case_of, in_case, callback_begun, action_at, after_effect, core_called, started_part}
 use Rattle.boot_model.specs.PeiRun.{pei_opening}
 use Rattle.boot_model.specs.Reporting.{newcomers, reports, told_at}
 use Rattle.boot_model.proofs.Distinct.{Distinct, distinct_append}
@@ -77,11 +77,8 @@ case_differs catalog fuel m Stops numbered h = h
 pub run_differs : (Names : PeiMachine → Option ℕ → Type 0) (Lets : PeiMachine → ℕ → Bool) (board : Board) (catalog : Catalog) (fuel : ℕ) (earlier : List PeiMachine) (m : PeiMachine) → AreNumbered 0 catalog.volumes
     → IsRunBy Names Lets catalog fuel (pei_opening board catalog) earlier m → Differ m
 run_differs Names Lets board catalog fuel [] m numbered run = subst Differ (sym run) (distinct_family catalog 0 numbered)
-run_differs Names Lets board catalog fuel (before ∷ earlier) m numbered run = by run.1
+run_differs Names Lets board catalog fuel (before ∷ earlier) m numbered run = by (run_differs Names Lets board catalog fuel earlier before numbered run.2) run.1
   where
-    was : Differ before
-    was = run_differs Names Lets board catalog fuel earlier before numbered run.2
-
-    by : IsStepBy Names Lets catalog fuel before m → Differ m
-    by (inl own) = subst Differ (sym own.is) (case_differs catalog fuel before (case_of catalog before) numbered was)
-    by (inr start) = subst Differ (sym start.is) (part_differs catalog before start.number (part_at Pei catalog start.number) was)
+    by : Differ before → IsStepBy Names Lets catalog fuel before m → Differ m
+    by was (inl own) = subst Differ (sym own.is) (case_differs catalog fuel before (case_of catalog before) numbered was)
+    by was (inr start) = subst Differ (sym start.is) (part_differs catalog before start.number (part_at Pei catalog start.number) was)

@@ -2,20 +2,30 @@
 -- Own; PI 1.8, volumes 1 and 2, leave the order of the modules that may start to the dispatchers.
 use Rattle.std.specs.Prelude.{◌≡◌, ℕ, Option, Some}
 use Rattle.catalog_model.specs.declared.catalog.Catalog.{Catalog}
+use Rattle.catalog_model.specs.WellFormed.{IsWellFormed}
 use Rattle.store_model.specs.StoreState.{Board}
 use Rattle.boot_model.specs.DxeMachine.{DxeMachine}
 use Rattle.boot_model.specs.PeiMachine.{PeiMachine}
 use Rattle.boot_model.specs.PeiRun.{pei_end}
+use Rattle.boot_model.specs.declared.phase_end.PeiEnd.TheVariants.{Handoff}
+use Rattle.boot_model.specs.DxeRun.{dxe_end}
+use Rattle.free_laws.specs.declared.choice.Reached.{Reached}
 use Rattle.whole_boot.specs.BootEnd.{end_of}
 use Rattle.whole_boot.specs.ByChoice.{BootBy}
 use Rattle.whole_boot.specs.Choices.{Choices}
 use Rattle.boot_reasons.specs.declared.reasons.Explained.{Explained}
-use Rattle.boot_reasons.specs.Explained.{IsExplained, IsExplainedBy}
+use Rattle.boot_reasons.specs.Explained.{ExplainsTo, IsExplained, IsExplainedBy}
 
 -- where they may name a module it is one alone, or they name none
 pub record NameOne (by : Choices) : Type 0 where
   pub peims : (m : PeiMachine) (one other : Option ℕ) → by.peims m one → by.peims m other → one ≡ other
   pub drivers : (pei : PeiMachine) (m : DxeMachine) (one other : Option ℕ) → by.drivers pei m one → by.drivers pei m other → one ≡ other
+
+-- over each board a boot by such choices has one explanation, or is left before one start
+abbrev pub HasOneExplanation : Choices → Type 0
+HasOneExplanation by =
+    NameOne by → (board : Board) (catalog : Catalog) (fuel : ℕ) → IsWellFormed catalog → (one other : Reached Explained)
+    → ExplainsTo by board catalog fuel one → ExplainsTo by board catalog fuel other → one ≡ other
 
 -- a boot by these choices, whose last machine of PEI is the one that is explained, and whose result is the one that is told
 pub record IsOfBoot (by : Choices) (board : Board) (catalog : Catalog) (fuel : ℕ) (e : Explained) (is : IsExplainedBy by board catalog fuel e) : Type 0 where
@@ -23,7 +33,17 @@ pub record IsOfBoot (by : Choices) (board : Board) (catalog : Catalog) (fuel : �
   pub pei_is : boot.pei ≡ is.pei
   pub result_is : boot.result ≡ e.result
 
--- the machine's own boot
+-- each explanation is of such a boot
+abbrev pub ExplainsBoots : Choices → Type 0
+ExplainsBoots by = (board : Board) (catalog : Catalog) (fuel : ℕ) (e : Explained) (is : IsExplainedBy by board catalog fuel e) → IsOfBoot by board catalog fuel e is
+
+-- what is told of the drivers is of this last machine of DXE
+pub record AreDriversOf (m : DxeMachine) (e : Explained) : Type 0 where
+  pub discovered_are : e.discovered ≡ m.discovered
+  pub actions_are : e.actions ≡ m.actions
+
+-- the machine's own boot: its last machine of PEI, behind a hand-off that of DXE, and its result
 pub record IsOfOwnBoot (board : Board) (catalog : Catalog) (fuel : ℕ) (e : Explained) (is : IsExplained board catalog fuel e) : Type 0 where
   pub pei_is : is.pei ≡ pei_end board catalog fuel
+  pub drivers : is.pei.ended ≡ Some Handoff → AreDriversOf (dxe_end catalog fuel is.pei.store is.pei.actions) e
   pub result_is : end_of board catalog fuel ≡ Some e.result

@@ -12,7 +12,8 @@ use Rattle.boot_model.specs.declared.licence.Licence.{Licence}
 use Rattle.boot_model.specs.declared.licence.Licence.TheVariants as G
 use Rattle.boot_model.specs.DriverLicence.{target_of}
 use Rattle.boot_model.specs.DxeChoice.{waiting}
-use Rattle.boot_model.specs.DxeMachine.{DxeMachine, Scheduled}
+use Rattle.boot_model.specs.declared.driver.Scheduled.{Scheduled}
+use Rattle.boot_model.specs.DxeMachine.{DxeMachine}
 use Rattle.boot_model.specs.DxeStep.{DxeCase, DxeFires, DxeActs, DxeStarts, DxeStops, driver_reason, dxe_case_of}
 use Rattle.expression_needs.specs.Would.{would}
 use Rattle.boot_reasons.specs.Givers.{actor_in, giver_along}

@@ -1,6 +1,6 @@
 -- What is told along a run of DXE by choices, and what DXE then comes to, explained: at the end of a run of which all is told, or before the start of a driver that is not let.
 -- Own.
-use Rattle.std.specs.Prelude.{◌≡◌, ◌+◌, ℕ, Bool, false, if◌then◌else◌, length, List, [], ◌++◌, Option, Some}
+use Rattle.std.specs.Prelude.{◌≡◌, ◌+◌, ℕ, Bool, false, if◌then◌else◌, length, List, [], ◌++◌, Option, None, Some}
 use Rattle.std.specs.Option.{option_to_list}
 use Rattle.pi_base.specs.declared.guid.Guid.{Guid}
 use Rattle.catalog_model.specs.declared.catalog.Catalog.{Catalog}

@@ -1,6 +1,6 @@
 -- Who has a GUID installed behind the steps of a run: the one that made the step in which it came the last time.
 -- Own; PI 1.8 knows the PPIs and the protocols, and not who installed them.
-use Rattle.std.specs.Prelude.{ℕ, Bool, true, false, if◌then◌else◌, List, [], ◌∷◌, Option, Some, None, option_map}
+use Rattle.std.specs.Prelude.{ℕ, Bool, if◌then◌else◌, List, [], ◌∷◌, Option, Some, None, option_map}
 use Rattle.pi_base.specs.declared.guid.Guid.{Guid}
 use Rattle.boot_model.specs.declared.frame.Frame.{Frame}
 use Rattle.frames.specs.Frames.{top_of}

@@ -1,6 +1,6 @@
 -- The move of the heap, by what stands before a step and behind it.
 -- PI 1.8, volume 1, "Installing PEI Memory"; what is told of it is own.
-use Rattle.std.specs.Prelude.{ℕ, ◌+◌, Bool, if◌then◌else◌, Option, Some, None}
+use Rattle.std.specs.Prelude.{ℕ, ◌+◌, if◌then◌else◌, Option, Some, None}
 use Rattle.store_model.specs.StoreState.{StoreState, end_place, header_len}
 use Rattle.boot_reasons.specs.declared.reasons.Moved.{Moved}
 

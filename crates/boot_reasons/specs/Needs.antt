@@ -1,6 +1,6 @@
 -- What a part of a module needs: each GUID that its expression asks for, and who has it installed.
 -- Own.
-use Rattle.std.specs.Prelude.{ℕ, List, [], ◌∷◌, map}
+use Rattle.std.specs.Prelude.{List, map}
 use Rattle.pi_base.specs.declared.guid.Guid.{Guid}
 use Rattle.pi_base.specs.declared.phase.Phase.{Phase}
 use Rattle.catalog_model.specs.declared.catalog.PartExpr.{PartExpr}

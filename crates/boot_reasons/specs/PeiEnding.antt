@@ -13,6 +13,7 @@ use Rattle.pei_choice.specs.declared.queue.PeiQueue.{PeiQueue}
 use Rattle.pei_core.specs.declared.pei.Pei.{Pei}
 use Rattle.pei_core.specs.Standing.{IsFor, StandsFor}
 use Rattle.pei_dispatch.specs.Choices.{IsRunBy, LetsPeims}
+use Rattle.pei_dispatch.specs.Turns.{IsNow}
 use Rattle.boot_reasons.specs.declared.nowhere.Nowhere.{Nowhere}
 use Rattle.boot_reasons.specs.declared.pei.PeiExplained.{PeiExplained}
 use Rattle.boot_reasons.specs.declared.told.PeiTold.{PeiTold}
@@ -28,6 +29,11 @@ EndsTo Names Lets stands board catalog fuel pei queue told (R.End how) =
     (earlier : List PeiMachine) × («end» : PeiMachine) × IsAtEnd Names Lets stands board catalog fuel earlier «end» pei queue told how
 EndsTo Names Lets stands board catalog fuel pei queue told (R.Barred number) =
     (earlier : List PeiMachine) × (m : PeiMachine) × IsBarred Names Lets board catalog fuel earlier m number
+
+-- the queue stands for the opening
+abbrev pub IsOpened : {M : Type 0} → (M → StoreState → Type 0) → Catalog → Pei M → PeiQueue → Type 0
+IsOpened stands catalog pei queue =
+    (board : Board) (fuel : ℕ) → IsFor catalog fuel pei → StandsFor stands pei (pei_opening board catalog) → IsNow stands catalog pei queue (pei_opening board catalog)
 
 -- a run at its opening, of which nothing is told yet
 abbrev pub IsAtOpening : {M : Type 0} → (Nowhere → ℕ → Option ℕ → Type 0) → (ℕ → ℕ → Bool) → (M → StoreState → Type 0) → Board → Catalog → ℕ → Pei M → PeiQueue → PeiTold → Type 0

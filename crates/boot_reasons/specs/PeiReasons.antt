@@ -1,6 +1,6 @@
 -- Why parts started in a run of PEI, and why others wait at its end. A run is given by its last machine and the machines before that one, the last of them first.
 -- PI 1.8, volume 1, "PEI Dispatcher"; the reasons are own.
-use Rattle.std.specs.Prelude.{ℕ, ◌-◌, Bool, not, ◌&&◌, if◌then◌else◌, List, [], ◌∷◌, ◌++◌, Option, Some, None, length, option_map, flat_map, take}
+use Rattle.std.specs.Prelude.{ℕ, ◌-◌, List, [], ◌∷◌, ◌++◌, Option, Some, None, length, option_map, flat_map, take}
 use Rattle.std.specs.Option.{option_or, option_to_list}
 use Rattle.pi_base.specs.declared.guid.Guid.{Guid}
 use Rattle.pi_base.specs.declared.phase.Phase.TheVariants.{Pei}

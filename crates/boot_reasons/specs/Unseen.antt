@@ -1,6 +1,6 @@
 -- What a choice names that sees no text: it knows how many starts there were.
 -- Own; PI 1.8, volumes 1 and 2, leave the order of the modules that may start to the dispatchers.
-use Rattle.std.specs.Prelude.{◌+◌, ◌≡◌, ℕ, Bool, length, Option}
+use Rattle.std.specs.Prelude.{ℕ, Bool, Option}
 use Rattle.boot_model.specs.DxeMachine.{DxeMachine}
 use Rattle.boot_model.specs.PeiMachine.{PeiMachine}
 use Rattle.pei_dispatch.specs.Choices.{LetsPeims}
@@ -11,7 +11,7 @@ use Rattle.boot_reasons.specs.declared.nowhere.Nowhere.{Nowhere}
 
 -- the one sink that tells nothing
 abbrev pub nowhere : Nowhere
-nowhere = record { }
+nowhere = record {}
 
 -- the PEIMs that it may name
 abbrev pub NamesUnseen : (Nowhere → ℕ → Option ℕ → Type 0) → PeiMachine → Option ℕ → Type 0

@@ -2,7 +2,7 @@
 ghost use Rattle.std.specs.Prelude.{◌≡◌, ◌<◌, ℕ, IfOk};
 ghost use Rattle.boot_model.specs.DxeRun.{dxe_opening};
 ghost use Rattle.catalog_model.specs.WellFormed.{IsWellFormed};
-ghost use Rattle.dxe_choice.specs.Queue.{IsQueueFor};
+ghost use Rattle.dxe_choice.specs.Queue.{IsNewQueue, IsQueueFor};
 ghost use Rattle.dxe_core.specs.Standing.{IsFor, StandsFor};
 ghost use Rattle.store_model.specs.Service.{Present, OfEach};
 ghost use Rattle.store_model.specs.StoreCall.{Anything};
@@ -66,7 +66,16 @@ fn run_to_end<M: PeiStore, C: Choice<Nowhere>, L: Ledger>(
     let mut nowhere = Nowhere;
     'turns: for _ in 0..bound(catalog, dxe.fuel()) {
         let actor = actor(dxe.running());
-        match turn_by(dxe, store, queue, choice, in_pei, catalog, &mut nowhere, steps) {
+        match turn_by(
+            dxe,
+            store,
+            queue,
+            choice,
+            in_pei,
+            catalog,
+            &mut nowhere,
+            steps,
+        ) {
             Ok(Turn::Took(step)) => tell(told, dxe, catalog, &step, actor)?,
             Ok(Turn::Reached(reached)) => return Ok(reached),
             Err(_) => return Err(OutOfMemory),
@@ -98,7 +107,40 @@ fn explain_end<M: PeiStore>(
     })
 }
 
-// The whole of DXE from its opening. The expressions that are evaluated are counted in the ledger of a blank.
+// The whole of DXE from its opening, over a new queue.
+fn explain_opened<M: PeiStore, C: Choice<Nowhere>, L: Ledger>(
+    alloc: Global,
+    dxe: &mut Dxe,
+    store: &M,
+    queue: &mut DriverQueue,
+    choice: &C,
+    in_pei: u32,
+    catalog: &Catalog,
+    steps: &mut Steps<L>,
+) -> Result<Reached<DxeExplained>, OutOfMemory>
+    requires catalog { IsWellFormed catalog.now }
+    requires new { IsNewQueue catalog.now queue.old }
+    requires queue { IsQueueFor catalog.now queue.old }
+    requires opening { (s : StoreState) × (actions : ℕ) × (fuel : ℕ) × IsFor catalog.now fuel dxe.old
+        × StandsFor M.stands_for store.now catalog.now dxe.old (dxe_opening catalog.now s actions) }
+    ensures row { IfOk result (Explains (C.drivers choice.now) (C.lets_in_dxe choice.now) in_pei
+        M.stands_for store.now catalog.now dxe.old) }
+{
+    dxe_opens();
+    unrequested_drivers_wait();
+    discovered_order_has_each_once();
+    queue.discover(catalog, dxe.order(), 0)?;
+    let mut told = DxeTold::new(alloc);
+    match run_to_end(dxe, store, queue, choice, in_pei, catalog, &mut told, steps)? {
+        Reached::End(end) => {
+            let explained = explain_end(alloc, dxe, store, queue, catalog, told, end)?;
+            Ok(Reached::End(explained))
+        }
+        Reached::Barred(number) => Ok(Reached::Barred(number)),
+    }
+}
+
+// The same over a queue that is made for it. The expressions that are evaluated are counted in the ledger of a blank.
 fn explain_with_ledger<M: PeiStore, C: Choice<Nowhere>, L: Ledger>(
     alloc: Global,
     dxe: &mut Dxe,
@@ -114,24 +156,16 @@ fn explain_with_ledger<M: PeiStore, C: Choice<Nowhere>, L: Ledger>(
     requires name { blank.name ≡ L.name }
     requires parts { blank.parts ≡ L.parts }
     requires counts { 0 < L.parts }
-    ensures row { IfOk result (Explains (C.drivers choice.now) (C.lets_in_dxe choice.now) in_pei M.stands_for store.now catalog.now dxe.old) }
+    ensures row { IfOk result (Explains (C.drivers choice.now) (C.lets_in_dxe choice.now) in_pei
+        M.stands_for store.now catalog.now dxe.old) }
 {
-    dxe_opens();
-    unrequested_drivers_wait();
-    discovered_order_has_each_once();
     let mut queue = DriverQueue::new(alloc, catalog)?;
-    queue.discover(catalog, dxe.order(), 0)?;
-    let mut told = DxeTold::new(alloc);
     let mut steps = Steps::<L>::new(blank);
-    match run_to_end(
-        dxe, store, &mut queue, choice, in_pei, catalog, &mut told, &mut steps,
-    )? {
-        Reached::End(end) => {
-            let explained = explain_end(alloc, dxe, store, &queue, catalog, told, end)?;
-            Ok(Reached::End(explained))
-        }
-        Reached::Barred(number) => Ok(Reached::Barred(number)),
-    }
+    let reached = explain_opened(
+        alloc, dxe, store, &mut queue, choice, in_pei, catalog, &mut steps,
+    );
+    drop(queue);
+    reached
 }
 
 /// The whole of DXE by a choice behind the hand-off of a store, to its end, or to the start of a driver that the choice does not let. `fuel` is how many actions may be taken in both phases, `taken` how many PEI took, and `in_pei` how many starts there were in it.
@@ -147,7 +181,8 @@ pub(crate) fn explain_dxe<M: PeiStore, C: Choice<Nowhere>>(
     requires catalog { IsWellFormed catalog.now }
     requires state { Present (M.stands_for store.now) Anything }
     ensures { OfEach (M.stands_for store.now) Anything
-        (λ s. IfOk result (λ reached. ExplainsBehind (C.drivers choice.now) (C.lets_in_dxe choice.now) in_pei catalog.now fuel taken reached s)) }
+        (λ s. IfOk result (λ reached. ExplainsBehind (C.drivers choice.now) (C.lets_in_dxe choice.now) in_pei
+        catalog.now fuel taken reached s)) }
 {
     let mut dxe = dxe_at_opening(alloc, store, catalog, fuel, taken)?;
     let blank = Blank::new(1);

@@ -4,7 +4,8 @@ ghost use Rattle.boot_model.specs.BootRun.{dxe_result};
 ghost use Rattle.boot_model.specs.PeiMachine.{PeiMachine};
 ghost use Rattle.boot_model.specs.declared.phase_end.PeiEnd.TheVariants.{Handoff};
 ghost use Rattle.catalog_model.specs.WellFormed.{IsWellFormed};
-ghost use Rattle.pei_core.specs.Standing.{StandsFor};
+ghost use Rattle.boot_model.specs.PeiRun.{pei_opening};
+ghost use Rattle.pei_core.specs.Standing.{IsFor, StandsFor};
 ghost use Rattle.store_model.specs.StoreState.{Board, empty_store};
 ghost use Rattle.boot_reasons.specs.Explained.{ExplainsBehind, ExplainsTo};
 ghost use Rattle.boot_reasons.specs.Joining.{alone, together};
@@ -90,8 +91,8 @@ fn explain_drivers<M: PeiStore + Drop, C: Choice<Nowhere>>(
     requires catalog { IsWellFormed catalog.now }
     requires state { (m : PeiMachine) × StandsFor M.stands_for pei.now m }
     requires handed { explained.end ≡ Handoff }
-    ensures { IfOk result (ExplainsBehind (choices_of (C.peims choice.now) (C.lets_in_pei choice.now) (C.drivers choice.now) (C.lets_in_dxe choice.now))
-        M.stands_for catalog.now fuel pei.now explained) }
+    ensures { IfOk result (ExplainsBehind (choices_of (C.peims choice.now) (C.lets_in_pei choice.now)
+        (C.drivers choice.now) (C.lets_in_dxe choice.now)) M.stands_for catalog.now fuel pei.now explained) }
 {
     match explain_dxe(
         alloc,
@@ -121,8 +122,8 @@ fn explain_behind<M: PeiStore + Drop, C: Choice<Nowhere>>(
 ) -> Result<Reached<Explained>, OutOfMemory>
     requires catalog { IsWellFormed catalog.now }
     requires state { (m : PeiMachine) × StandsFor M.stands_for pei.now m }
-    ensures { IfOk result (ExplainsBehind (choices_of (C.peims choice.now) (C.lets_in_pei choice.now) (C.drivers choice.now) (C.lets_in_dxe choice.now))
-        M.stands_for catalog.now fuel pei.now explained) }
+    ensures { IfOk result (ExplainsBehind (choices_of (C.peims choice.now) (C.lets_in_pei choice.now)
+        (C.drivers choice.now) (C.lets_in_dxe choice.now)) M.stands_for catalog.now fuel pei.now explained) }
 {
     let actions = pei.actions();
     let end = match explained.end {
@@ -135,6 +136,27 @@ fn explain_behind<M: PeiStore + Drop, C: Choice<Nowhere>>(
         PeiEnd::Deep => RunEnd::Deep,
     };
     Ok(Reached::End(alone(explained, actions, end)))
+}
+
+// The whole of a boot, over a core at its opening.
+fn explain_opened<M: PeiStore + Drop, C: Choice<Nowhere>>(
+    alloc: Global,
+    pei: &mut Pei<M>,
+    catalog: &Catalog,
+    fuel: u32,
+    choice: &C,
+) -> Result<Reached<Explained>, OutOfMemory>
+    requires catalog { IsWellFormed catalog.now }
+    requires made { IsFor catalog.now fuel pei.old }
+    requires opening { (board : Board) × StandsFor M.stands_for pei.old (pei_opening board catalog.now) }
+    ensures { (board : Board) → StandsFor M.stands_for pei.old (pei_opening board catalog.now)
+        → IfOk result (ExplainsTo (choices_of (C.peims choice.now) (C.lets_in_pei choice.now)
+        (C.drivers choice.now) (C.lets_in_dxe choice.now)) board catalog.now fuel) }
+{
+    match explain_pei(alloc, pei, choice, catalog)? {
+        Reached::End(explained) => explain_behind(alloc, pei, explained, catalog, fuel, choice),
+        Reached::Barred(number) => Ok(Reached::Barred(number)),
+    }
 }
 
 /// Explains the boot by a choice over a store that is as it was made: why each module started and what it needed, and why others never did; or tells before which start it is left, since the choice does not let the module. `fuel` is how many actions may be taken. Nothing is printed, so that the choice sees no text.
@@ -152,8 +174,7 @@ pub fn explain_by<M: PeiStore + Drop, C: Choice<Nowhere>>(
         (C.lets_in_pei choice.now) (C.drivers choice.now) (C.lets_in_dxe choice.now)) board catalog.now fuel) }
 {
     let mut pei = Pei::begin(alloc, store, catalog, fuel)?;
-    match explain_pei(alloc, &mut pei, choice, catalog)? {
-        Reached::End(explained) => explain_behind(alloc, &pei, explained, catalog, fuel, choice),
-        Reached::Barred(number) => Ok(Reached::Barred(number)),
-    }
+    let reached = explain_opened(alloc, &mut pei, catalog, fuel, choice);
+    drop(pei);
+    reached
 }

@@ -5,7 +5,7 @@ ghost use Rattle.boot_model.specs.PeiRun.{pei_opening};
 ghost use Rattle.catalog_model.specs.WellFormed.{IsWellFormed};
 ghost use Rattle.store_model.specs.StoreState.{Board};
 ghost use Rattle.pei_core.specs.Standing.{IsFor, StandsFor};
-ghost use Rattle.boot_reasons.specs.PeiEnding.{Ends, Explains, ExplainsEnd, IsAtOpening};
+ghost use Rattle.boot_reasons.specs.PeiEnding.{Ends, Explains, ExplainsEnd, IsAtOpening, IsOpened};
 
 use crate::copied::copied;
 use crate::moves::heap_used;
@@ -36,6 +36,22 @@ pub(crate) struct PeiExplained {
     pub(crate) reported: Seq<u32>,
     pub(crate) moved: Option<Moved>,
     pub(crate) heap: u64,
+}
+
+// The queue of the opening: it knows the volumes that are reported there.
+fn queue_of_opening<M: PeiStore + Drop>(
+    alloc: Global,
+    pei: &Pei<M>,
+    catalog: &Catalog,
+) -> Result<PeiQueue, OutOfMemory>
+    requires catalog { IsWellFormed catalog.now }
+    requires opening { (board : Board) × (fuel : ℕ) × IsFor catalog.now fuel pei.now × StandsFor M.stands_for pei.now (pei_opening board catalog.now) }
+    ensures { IfOk result (IsOpened M.stands_for catalog.now pei.now) }
+{
+    alike_views_are_shown();
+    let mut queue = PeiQueue::build(alloc, catalog)?;
+    queue.report(catalog, pei.reported());
+    Ok(queue)
 }
 
 // PEI by a choice to its end, or to a start that is not let, and what it tells.
@@ -103,10 +119,8 @@ fn explain_with_ledger<M: PeiStore + Drop, C: Choice<Nowhere>, L: Ledger>(
     requires counts { 0 < L.parts }
     ensures row { IfOk result (Explains (C.peims choice.now) (C.lets_in_pei choice.now) M.stands_for catalog.now pei.old pei.new) }
 {
-    alike_views_are_shown();
     pei_opens();
-    let mut queue = PeiQueue::build(alloc, catalog)?;
-    queue.report(catalog, pei.reported());
+    let mut queue = queue_of_opening(alloc, pei, catalog)?;
     let mut told = PeiTold::new(alloc);
     let mut steps = Steps::<L>::new(blank);
     match run_to_end(pei, &mut queue, choice, catalog, &mut told, &mut steps)? {

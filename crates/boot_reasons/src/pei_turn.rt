@@ -73,8 +73,7 @@ fn tell_start<M: PeiStore + Drop>(
 ) -> Result<(), OutOfMemory>
     requires state { (m : PeiMachine) × StandsFor M.stands_for pei.now m }
     ensures begun { (m : PeiMachine) → StandsFor M.stands_for pei.now m
-        → OnOk result (told.new.begun ≡ told.old.begun
-        ++ option_to_list (option_map (pei_begun_by m (giver_in told.old.givers.map) number) (part_at InPei catalog.now number))) }
+        → OnOk result (told.new.begun ≡ told.old.begun ++ pei_begun_at catalog.now m (giver_in told.old.givers.map) number) }
     ensures givers { told.new.givers ≡ told.old.givers }
     ensures moved { told.new.moved ≡ told.old.moved }
 {

@@ -4,7 +4,10 @@ ghost use Rattle.boot_plan.specs.Range.{IsPlanInRange};
 use boot_core::examine;
 use boot_model::{ARCHITECTURAL, Licence, Reason, RunEnd};
 use boot_plan::{Plan, read_plan};
-use boot_reasons::{Begun, Explained, Giver, Held, Moved, Need, explain_plan};
+use boot_reasons::{
+    Begun, Explained, Giver, Held, Moved, Need, Nowhere, explain_plan, explain_plan_by,
+};
+use free_laws::{Choice, Reached};
 use pi_base::{Guid, Phase, Seq};
 use std::alloc::Global;
 use std::process::Abort;
@@ -309,6 +312,58 @@ fn explained(rt: &impl Abort, alloc: Global, plan: &Plan) -> Explained
     }
 }
 
+// The fourth PEIM before the second, and no more starts than so many.
+struct FourthEarly {
+    most: u64,
+}
+
+impl Choice<Nowhere> for FourthEarly {
+    ghost use Rattle.std.specs.Prelude.{◌≡◌, ◌==◌, if◌then◌else◌, Some, None, nat_lt, true};
+
+    ghost peims = { λ choice sink starts named. named ≡ (if starts == 1 then Some 3 else None) };
+
+    ghost drivers = { λ choice sink starts named. named ≡ None };
+
+    ghost lets_in_pei = { λ choice starts number. true };
+
+    ghost lets_in_dxe = { λ choice starts number. nat_lt starts choice.most };
+
+    fn peim(&self, _sink: &Nowhere, starts: u64) -> Option<u32> {
+        if starts == 1 { Some(3) } else { None }
+    }
+
+    fn driver(&self, _sink: &Nowhere, _starts: u64) -> Option<u32> {
+        None
+    }
+
+    fn lets_peim(&self, _starts: u64, _number: u32) -> bool {
+        true
+    }
+
+    fn lets_driver(&self, starts: u64, _number: u32) -> bool {
+        starts < self.most
+    }
+}
+
+fn explained_by(
+    rt: &impl Abort,
+    alloc: Global,
+    plan: &Plan,
+    choice: &FourthEarly,
+) -> Reached<Explained>
+    requires { IsPlanInRange plan.now }
+{
+    let images = images_of(rt, alloc);
+    assert!(rt; images.len() == plan.volumes.len());
+    let Ok(catalog) = examine(alloc, plan, images.as_slice()) else {
+        panic!(rt; "images without a fault");
+    };
+    match explain_plan_by(alloc, plan, &catalog, images, choice) {
+        Ok(reached) => reached,
+        Err(_) => panic!(rt; "ample memory"),
+    }
+}
+
 #[test]
 fn a_boot_tells_why_each_module_starts_or_waits(rt: HostRuntime) -> Result<(), Fail> {
     let plan = plan_of(&rt, rt.alloc());
@@ -317,6 +372,39 @@ fn a_boot_tells_why_each_module_starts_or_waits(rt: HostRuntime) -> Result<(), F
     try_waits(&rt, told.held.as_slice());
     try_heap(&rt, &told);
     drop(told);
+    drop(plan);
+    Ok(())
+}
+
+// The other starts are as they were: the fourth PEIM asks for nothing that the second gives.
+#[test]
+fn a_boot_in_another_order_tells_its_own_starts(rt: HostRuntime) -> Result<(), Fail> {
+    let plan = plan_of(&rt, rt.alloc());
+    let reached = explained_by(&rt, rt.alloc(), &plan, &FourthEarly { most: 6 });
+    let Reached::End(told) = reached else {
+        panic!(rt; "an end");
+    };
+    let [first, second, third, ..] = told.begun.as_slice() else {
+        panic!(rt; "three starts");
+    };
+    assert!(rt; told.begun.len() == STARTS.len());
+    assert!(rt; is_start(first, &STARTS[0]));
+    assert!(rt; is_start(second, &STARTS[2]));
+    assert!(rt; is_start(third, &STARTS[1]));
+    drop(told);
+    drop(plan);
+    Ok(())
+}
+
+// The first driver is scheduled beside the third, and is barred all the same.
+#[test]
+fn a_boot_is_left_before_a_start_that_is_not_let(rt: HostRuntime) -> Result<(), Fail> {
+    let plan = plan_of(&rt, rt.alloc());
+    let reached = explained_by(&rt, rt.alloc(), &plan, &FourthEarly { most: 5 });
+    let Reached::Barred(number) = reached else {
+        panic!(rt; "a start that is barred");
+    };
+    assert!(rt; number == 4);
     drop(plan);
     Ok(())
 }

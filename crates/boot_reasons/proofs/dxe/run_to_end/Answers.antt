@@ -1,40 +1,61 @@
-use Rattle.std.proofs.Common.{arith, ◌≡◌, ◌∙◌, ap}
-use Rattle.boot_model.specs.DxeRun.{dxe_bound}
-use Rattle.boot_reasons.proofs.DxeEnds.{at_next, end_far, never_on}
+use Rattle.std.proofs.Common.{◌≡◌, None, arith, refl, ap, ◌∙◌}
+use Rattle.boot_model.specs.DxeRun.{dxe_bound, dxe_opening}
+use Rattle.dxe_dispatch.specs.Choices.{LetsDrivers, NamesDrivers, came}
+use Rattle.dxe_dispatch.proofs.Chosen.{StepLaws}
+use Rattle.boot_reasons.specs.DxeTelling.{NamesUnseenAfter}
+use Rattle.boot_reasons.specs.Givers.{actor_by}
+use Rattle.boot_reasons.specs.Unseen.{nowhere}
+use Rattle.boot_reasons.proofs.DxeSteps.{comes_first, flawless, told_further, told_to, turn_to_come, unseen, untold}
 use Rattle.boot_reasons.proofs.dxe.run_to_end.Goals as goal
 
 pub turns-init : goal.turns-init
-turns-init g c = record { at = λ s actions fuel made at. at; made = λ fuel made. made; queue = c.requires.queue }
+turns-init g c = record {
+  way = λ s actions fuel at.
+      comes_first c.dxe_opens.ensures.opens (NamesDrivers (g.C.Choice.drivers c.args.choice.now) untold flawless c.args.in_pei nowhere) (LetsDrivers (g.C.Choice.lets_in_dxe c.args.choice.now) c.args.in_pei)
+      g.M.PeiStore.stands_for c.args.store.now c.args.catalog.now fuel s actions c.args.dxe.now c.args.queue.now c.args.told.now c.requires.catalog at;
+  made = λ fuel made. made;
+  queue = c.requires.queue;
+}
 
-pub turn-requires-clause-state : goal.turn-requires-clause-state
-turn-requires-clause-state g c =
+pub turn_by-requires-clause-state : goal.turn_by-requires-clause-state
+turn_by-requires-clause-state g c =
     let o = c.requires.opening in
-    (o.0, o.1, o.2, c.turns.counter, c.turns.invariant.made o.2 o.3, c.turns.invariant.at o.0 o.1 o.2 o.3 o.4)
+    let is = c.turns.invariant.way o.0 o.1 o.2 o.3 in
+    (came c.args.catalog.now o.2 (dxe_opening c.args.catalog.now o.0 o.1) is.earlier, o.2, c.turns.invariant.made o.2 o.3.made, is.on)
+
+pub returns-in-Ok-Reached : goal.returns-in-Ok-Reached
+returns-in-Ok-Reached g c = record {
+  row = λ s actions fuel at.
+      let catalog = c.args.catalog.now in
+      let names = g.C.Choice.drivers c.args.choice.now in
+      let Names = NamesDrivers names untold flawless c.args.in_pei nowhere in
+      let is = c.turns.invariant.way s actions fuel at in
+      let row = rw c.in-Ok-Reached.field-0-is at (c.in-Ok-Reached.ensures.row _ fuel nowhere (c.turns.invariant.made fuel at.made) is.on (record { put = tt; right = refl })) in
+      told_to c.dxe_chooses_by_groups.ensures Names (NamesUnseenAfter names c.args.in_pei) (LetsDrivers (g.C.Choice.lets_in_dxe c.args.choice.now) c.args.in_pei) g.M.PeiStore.stands_for c.args.store.now catalog fuel
+      (dxe_opening catalog s actions) c.turns.counter c.turns.dxe c.turn_by.new.dxe c.turns.queue c.turn_by.new.queue _ _ c.turns.told (record { old = None; new = None }) c.in-Ok-Reached.reached refl (unseen names c.args.in_pei) is row;
+}
 
 pub turns-preserved : goal.turns-preserved
 turns-preserved g c = record {
-  at = λ s actions fuel made at.
-      let row = rw c.in_default.is at (c.in_ok-end.ensures.row s actions fuel c.turns.counter (c.turns.invariant.made fuel made) (c.turns.invariant.at s actions fuel made at)) in
-      at_next g.M.PeiStore.stands_for c.args.store.now s actions c.args.catalog.now fuel c.turns.counter c.turn.new.dxe c.turn.new.queue c.turn.new.told row;
-  made = λ fuel made. c.in_ok-end.ensures.made fuel (c.turns.invariant.made fuel made);
-  queue = c.in_ok-end.ensures.queue;
-}
-
-pub returns-in-Some : goal.returns-in-Some
-returns-in-Some g c = record {
-  row = λ s actions fuel made at.
+  way = λ s actions fuel at.
       let catalog = c.args.catalog.now in
-      let row = rw c.in-Some.is at (c.in_ok-end.ensures.row s actions fuel c.turns.counter (c.turns.invariant.made fuel made) (c.turns.invariant.at s actions fuel made at)) in
-      let all : c.bound-end.result ≡ dxe_bound catalog fuel = c.bound-end.ensures ∙ ap (dxe_bound catalog) (c.fuel.ensures ∙ made.fuelled) in
-      let more = c.turns-test.true in
-      end_far g.M.PeiStore.stands_for c.args.store.now s actions catalog fuel _ (dxe_bound catalog fuel) c.turn.new.dxe c.turn.new.queue c.turn.new.told c.in-Some.end (omega (arith, all, more)) row;
+      let laws : StepLaws = record { nearer = c.dxe_opens.ensures.nearer; own = c.dxe_goes_on.ensures.own; first = c.dxe_chooses_by_groups.ensures; groups = c.groups_are_aimed.ensures } in
+      let Names = NamesDrivers (g.C.Choice.drivers c.args.choice.now) untold flawless c.args.in_pei nowhere in
+      let is = c.turns.invariant.way s actions fuel at in
+      let row = rw c.in-Ok-Took.field-0-is at (c.in-Ok-Took.ensures.row _ fuel nowhere (c.turns.invariant.made fuel at.made) is.on (record { put = tt; right = refl })) in
+      told_further laws Names (LetsDrivers (g.C.Choice.lets_in_dxe c.args.choice.now) c.args.in_pei) g.M.PeiStore.stands_for c.args.store.now catalog fuel
+      (dxe_opening catalog s actions) c.turns.counter c.turns.dxe c.turn_by.new.dxe c.turns.queue c.turn_by.new.queue _ _ c.turns.told c.tell.new.told (record { old = None; new = None }) c.actor-actor.result c.in-Ok-Took.step c.requires.catalog refl is row
+      (c.actor-actor.ensures ∙ ap actor_by c.running.ensures) c.in_ok-tell-in-Ok-Took.ensures;
+  made = λ fuel made. c.in-Ok-Took.ensures.made fuel (c.turns.invariant.made fuel made);
+  queue = c.in-Ok-Took.ensures.queue;
 }
 
 pub unreachable-requires : goal.unreachable-requires
 unreachable-requires g c =
     let catalog = c.args.catalog.now in
     let o = c.requires.opening in
-    let all : c.bound-end.result ≡ dxe_bound catalog o.2 = c.bound-end.ensures ∙ ap (dxe_bound catalog) (c.fuel.ensures ∙ o.3.fuelled) in
+    let Names = NamesDrivers (g.C.Choice.drivers c.args.choice.now) untold flawless c.args.in_pei nowhere in
+    let all : c.bound-end.result ≡ dxe_bound catalog o.2 = c.bound-end.ensures ∙ ap (dxe_bound catalog) (c.fuel.ensures ∙ o.3.made.fuelled) in
     let done = c.turns-test.false in
-    never_on c.dxe_runs_end.ensures g.M.PeiStore.stands_for c.args.store.now o.0 o.1 catalog o.2 c.turns.counter c.turns.dxe c.turns.queue c.turns.told c.requires.catalog.parents (omega (arith, all, done))
-    (c.turns.invariant.at o.0 o.1 o.2 o.3 o.4)
+    turn_to_come c.dxe_opens.ensures.ended Names (LetsDrivers (g.C.Choice.lets_in_dxe c.args.choice.now) c.args.in_pei) g.M.PeiStore.stands_for c.args.store.now catalog o.2 (dxe_opening catalog o.0 o.1) c.turns.counter c.turns.dxe c.turns.queue c.turns.told
+    (c.turns.invariant.way o.0 o.1 o.2 o.3) (omega (arith, all, done))

@@ -1,36 +1,47 @@
 use Rattle.std.proofs.Common.{arith, ◌≡◌, ◌∙◌, ap}
 use Rattle.boot_model.specs.PeiRun.{pei_bound}
-use Rattle.boot_reasons.specs.PeiReasons.{pei_after}
-use Rattle.boot_reasons.proofs.PeiEnds.{at_next, end_far, never_on}
+use Rattle.pei_dispatch.specs.Choices.{LetsPeims}
+use Rattle.boot_reasons.specs.Unseen.{NamesUnseen}
+use Rattle.boot_reasons.proofs.PeiEnds.{never_all, on_way, way_on, way_over}
+use Rattle.boot_reasons.proofs.PeiSteps.{Laws}
 use Rattle.boot_reasons.proofs.pei.run_to_end.Goals as goal
 
 pub turns-init : goal.turns-init
-turns-init g c = record { at = λ board fuel made at. at; made = λ fuel made. made }
+turns-init g c = record {
+  way = λ board fuel opening.
+      on_way c.pei_opens.ensures.opens (NamesUnseen (g.C.Choice.peims c.args.choice.now)) (LetsPeims (g.C.Choice.lets_in_pei c.args.choice.now)) g.M.PeiStore.stands_for board c.args.catalog.now fuel c.args.pei.now c.args.queue.now c.args.told.now opening.1;
+  made = λ fuel made. made;
+}
 
 pub turn-requires-clause-made : goal.turn-requires-clause-made
-turn-requires-clause-made g c = (c.requires.opening.1, c.turns.invariant.made c.requires.opening.1 c.requires.opening.2)
+turn-requires-clause-made g c = (c.requires.opening.1, c.turns.invariant.made c.requires.opening.1 c.requires.opening.2.0)
 
 pub turn-requires-clause-state : goal.turn-requires-clause-state
 turn-requires-clause-state g c =
-    let at = c.turns.invariant.at c.requires.opening.0 c.requires.opening.1 c.requires.opening.2 c.requires.opening.3 in
-    (pei_after c.requires.opening.0 c.args.catalog.now c.requires.opening.1 c.turns.counter, at.now)
+    let way = c.turns.invariant.way c.requires.opening.0 c.requires.opening.1 c.requires.opening.2 in
+    (way.m, way.at.now)
 
 pub turns-preserved : goal.turns-preserved
 turns-preserved g c = record {
-  at = λ board fuel made at.
-      let row = rw c.in_default.is at (c.in_ok-end.ensures.row board fuel c.turns.counter (c.turns.invariant.made fuel made) (c.turns.invariant.at board fuel made at)) in
-      at_next g.M.PeiStore.stands_for board c.args.catalog.now fuel c.turns.counter c.turn.new.pei c.turn.new.queue c.turn.new.told row;
-  made = λ fuel made. c.in_ok-end.ensures.made fuel (c.turns.invariant.made fuel made);
+  way = λ board fuel opening.
+      let catalog = c.args.catalog.now in
+      let names = NamesUnseen (g.C.Choice.peims c.args.choice.now) in
+      let lets = LetsPeims (g.C.Choice.lets_in_pei c.args.choice.now) in
+      let laws : Laws = record { aims = c.cursor_aims.ensures.aims; own = c.pei_starts_freely.ensures.own; nearer = c.pei_opens.ensures.nearer } in
+      let way = c.turns.invariant.way board fuel opening in
+      let row = rw c.in_default.is at (c.in_ok-reached.ensures.row board fuel way.earlier way.m (c.turns.invariant.made fuel opening.0) way.at) in
+      way_on laws names lets g.M.PeiStore.stands_for board catalog fuel c.turns.counter c.turns.pei c.turn.new.pei c.turns.queue c.turn.new.queue c.turns.told c.turn.new.told way row;
+  made = λ fuel made. c.in_ok-reached.ensures.made fuel (c.turns.invariant.made fuel made);
 }
 
 pub returns-in-Some : goal.returns-in-Some
 returns-in-Some g c = record {
-  row = λ board fuel made at.
-      let catalog = c.args.catalog.now in
-      let row = rw c.in-Some.is at (c.in_ok-end.ensures.row board fuel c.turns.counter (c.turns.invariant.made fuel made) (c.turns.invariant.at board fuel made at)) in
-      let all : c.bound-end.result ≡ pei_bound catalog fuel = c.bound-end.ensures ∙ ap (pei_bound catalog) (c.fuel.ensures catalog fuel made) in
-      let more = c.turns-test.true in
-      end_far g.M.PeiStore.stands_for board catalog fuel _ (pei_bound catalog fuel) c.turn.new.pei c.turn.new.queue c.turn.new.told c.in-Some.end (omega (arith, all, more)) row;
+  row = λ board fuel opening.
+      let names = NamesUnseen (g.C.Choice.peims c.args.choice.now) in
+      let lets = LetsPeims (g.C.Choice.lets_in_pei c.args.choice.now) in
+      let way = c.turns.invariant.way board fuel opening in
+      let row = rw c.in-Some.is at (c.in_ok-reached.ensures.row board fuel way.earlier way.m (c.turns.invariant.made fuel opening.0) way.at) in
+      way_over names lets g.M.PeiStore.stands_for board c.args.catalog.now fuel c.turns.counter c.turns.pei c.turn.new.pei c.turns.queue c.turn.new.queue c.turns.told c.turn.new.told c.in-Some.reached way row;
 }
 
 pub unreachable-requires : goal.unreachable-requires
@@ -38,7 +49,9 @@ unreachable-requires g c =
     let catalog = c.args.catalog.now in
     let board = c.requires.opening.0 in
     let fuel = c.requires.opening.1 in
-    let all : c.bound-end.result ≡ pei_bound catalog fuel = c.bound-end.ensures ∙ ap (pei_bound catalog) (c.fuel.ensures catalog fuel c.requires.opening.2) in
+    let names = NamesUnseen (g.C.Choice.peims c.args.choice.now) in
+    let lets = LetsPeims (g.C.Choice.lets_in_pei c.args.choice.now) in
+    let all : c.bound-end.result ≡ pei_bound catalog fuel = c.bound-end.ensures ∙ ap (pei_bound catalog) (c.fuel.ensures catalog fuel c.requires.opening.2.0) in
     let done = c.turns-test.false in
-    never_on c.pei_runs_end.ensures g.M.PeiStore.stands_for board catalog fuel c.turns.counter c.turns.pei c.turns.queue c.turns.told (omega (arith, all, done))
-    (c.turns.invariant.at board fuel c.requires.opening.2 c.requires.opening.3)
+    never_all c.pei_opens.ensures.ended names lets g.M.PeiStore.stands_for board catalog fuel c.turns.counter c.turns.pei c.turns.queue c.turns.told
+    (c.turns.invariant.way board fuel c.requires.opening.2) (omega (arith, all, done))

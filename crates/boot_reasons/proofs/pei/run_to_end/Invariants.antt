@@ -1,13 +1,16 @@
 use Rattle.std.proofs.Common.{ℕ}
 use Rattle.store_model.specs.StoreState.{Board}
 use Rattle.pei_core.specs.Standing.{IsFor}
-use Rattle.boot_reasons.specs.PeiTelling.{IsAt}
+use Rattle.pei_dispatch.specs.Choices.{LetsPeims}
+use Rattle.boot_reasons.specs.PeiEnding.{IsAtOpening}
+use Rattle.boot_reasons.specs.Unseen.{NamesUnseen}
+use Rattle.boot_reasons.proofs.PeiEnds.{IsOnWay}
 use Rattle.boot_reasons.proofs.pei.run_to_end.Given as goal
 
--- the core and the queue stand for the machine after so many steps, and all of them is told
+-- a run by the choice leads to the machine for which the core and the queue stand, and all of it is told
 abbrev pub invariant-turns : goal.invariant-turns
 invariant-turns g l = record {
-  at : (board : Board) (fuel : ℕ) → IsFor l.fn.catalog fuel l.fn.pei → IsAt g.M.PeiStore.stands_for board l.fn.catalog fuel 0 l.fn.pei l.fn.queue l.fn.told
-      → IsAt g.M.PeiStore.stands_for board l.fn.catalog fuel l.counter l.pei l.queue l.told;
+  way : (board : Board) (fuel : ℕ) → IsAtOpening (g.C.Choice.peims l.fn.choice) (g.C.Choice.lets_in_pei l.fn.choice) g.M.PeiStore.stands_for board l.fn.catalog fuel l.fn.pei l.fn.queue l.fn.told
+      → IsOnWay (NamesUnseen (g.C.Choice.peims l.fn.choice)) (LetsPeims (g.C.Choice.lets_in_pei l.fn.choice)) g.M.PeiStore.stands_for board l.fn.catalog fuel l.counter l.pei l.queue l.told;
   made : (fuel : ℕ) → IsFor l.fn.catalog fuel l.fn.pei → IsFor l.fn.catalog fuel l.pei;
 }

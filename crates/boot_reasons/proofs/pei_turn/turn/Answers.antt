@@ -1,0 +1,57 @@
+use Rattle.std.proofs.Common.{◌∙◌, ap}
+use Rattle.boot_laws.specs.ChangedGuids.{IsKept}
+use Rattle.boot_model.specs.PeiStep.{pei_step}
+use Rattle.pei_dispatch.specs.Choices.{LetsPeims}
+use Rattle.boot_reasons.specs.Givers.{actor_by}
+use Rattle.boot_reasons.specs.Unseen.{NamesUnseen}
+use Rattle.boot_reasons.proofs.PeiSteps.{Laws, cut_on, on_ok, went_on}
+use Rattle.boot_reasons.proofs.pei_turn.turn.Goals as goal
+
+pub tell_step-requires : goal.tell_step-requires
+tell_step-requires g c =
+    let m = c.requires.state.0 in
+    let fuel = c.requires.made.0 in
+    let row = rw c.in-Ok-Went.field-0-is at (c.in-Ok-Went.ensures.row m fuel c.requires.made.1 c.requires.state.1) in
+    record { state = (pei_step c.args.catalog.now fuel m, row.2.now.machine) }
+
+pub start_or_stop-requires-clause-made : goal.start_or_stop-requires-clause-made
+start_or_stop-requires-clause-made g c = (c.requires.made.0, c.in-Ok-Idle.ensures.made c.requires.made.0 c.requires.made.1)
+
+pub start_or_stop-requires-clause-state : goal.start_or_stop-requires-clause-state
+start_or_stop-requires-clause-state g c =
+    let rested = rw c.in-Ok-Idle.field-0-is at (c.in-Ok-Idle.ensures.row c.requires.state.0 c.requires.made.0 c.requires.made.1 c.requires.state.1) in
+    (c.requires.state.0, rested.now, rested.idle)
+
+pub returns-in_ok-tell_step-in-Ok-Went-clause-row : goal.returns-in_ok-tell_step-in-Ok-Went-clause-row
+returns-in_ok-tell_step-in-Ok-Went-clause-row g c board fuel earlier m made at =
+    let catalog = c.args.catalog.now in
+    let names = g.C.Choice.peims c.args.choice.now in
+    let lets = g.C.Choice.lets_in_pei c.args.choice.now in
+    let laws : Laws = record { aims = c.cursor_aims.ensures.aims; own = c.pei_starts_freely.ensures.own; nearer = c.pei_opens.ensures.nearer } in
+    let row = rw c.in-Ok-Went.field-0-is at (c.in-Ok-Went.ensures.row m fuel made at.now) in
+    let machine = at.now.machine in
+    let kept : IsKept m = record { facts = g.met.M.PeiStore.facts c.args.pei.now.store m.store machine.has.store; held = machine.sound.held } in
+    let next = pei_step catalog fuel m in
+    let told = c.in_ok-tell_step-in-Ok-Went.ensures in (
+      next,
+      went_on c.guids_change.ensures c.guids_are_these.ensures laws (NamesUnseen names) (LetsPeims lets) g.M.PeiStore.stands_for board catalog fuel earlier m c.args.pei.now c.go_on.new.pei c.args.queue.now c.go_on.new.queue
+          c.args.told.now c.tell_step.new.told c.in-Ok-Went.event c.unmoved_base-from.result c.actor-actor.result _ at kept row.0 row.1 row.2
+          (c.actor-actor.ensures ∙ ap actor_by (c.running.ensures m machine)) (c.unmoved_base-from.ensures m.store (c.store.ensures m machine) tt)
+          (told.givers next row.2.now.machine) (told.moved next row.2.now.machine) told.begun,
+    )
+
+pub returns-in-Ok-Idle-clause-row : goal.returns-in-Ok-Idle-clause-row
+returns-in-Ok-Idle-clause-row g c =
+    on_ok _ _ c.start_or_stop.result
+    (λ turned row board fuel earlier m made at.
+    let rested = rw c.in-Ok-Idle.field-0-is at (c.in-Ok-Idle.ensures.row m fuel made at.now) in
+    row board fuel earlier m (c.in-Ok-Idle.ensures.made fuel made) (record { run = at.run; way = at.way; now = rested.now; is_told = at.is_told }) rested.idle)
+    c.start_or_stop.ensures.row
+
+pub returns-in-Ok-Ended-clause-row : goal.returns-in-Ok-Ended-clause-row
+returns-in-Ok-Ended-clause-row g c board fuel earlier m made at =
+    let catalog = c.args.catalog.now in
+    let names = g.C.Choice.peims c.args.choice.now in
+    let lets = g.C.Choice.lets_in_pei c.args.choice.now in
+    let row = rw c.in-Ok-Ended.field-0-is at (c.in-Ok-Ended.ensures.row m fuel made at.now) in
+    cut_on (NamesUnseen names) (LetsPeims lets) g.M.PeiStore.stands_for board catalog fuel earlier m c.args.pei.now c.go_on.new.pei c.args.queue.now c.go_on.new.queue c.args.told.now c.in-Ok-Ended.end _ at row.0 row.1 row.2
