@@ -2,6 +2,7 @@ use Rattle.std.proofs.Common.{◌≡◌, ℕ, List, refl, ap, ◌∙◌, subst}
 use Rattle.catalog_model.specs.ImageFault.{IsImageFault}
 use Rattle.free_check.specs.Checking.{HasTwins, IsChecked}
 use Rattle.free_check.specs.declared.verdict.Verdict.TheVariants.{No}
+use Rattle.pitools.specs.Refusals.{image_line, twins_line}
 use Rattle.pitools.specs.ToldReport.{off}
 use Rattle.pitools.specs.TraceReport.{image_refused, said, twins}
 use Rattle.pitools.proofs.told_tool.told_report.Goals as goal
@@ -20,7 +21,7 @@ returns-in-Err-Image c =
     let same = c.in_ok-copies.ensures ∙ c.as_slice.ensures in
     let fault = c.in-Err-Image.fault in
     let told : IsImageFault plan c.in_ok-copies.copies fault = rw c.in-Err-Image.field-0-is at c.in-Err-Image.ensures in
-    (image_refused fault (subst (λ (x : List (List ℕ)). IsImageFault plan x fault) same told) refl refl, refl)
+    (image_refused fault (subst (λ (x : List (List ℕ)). IsImageFault plan x fault) same told) refl (ap image_line c.in-Err-Image.fault-is), refl)
 
 pub returns-in-Err-Twins : goal.returns-in-Err-Twins
 returns-in-Err-Twins c =
@@ -29,4 +30,4 @@ returns-in-Err-Twins c =
     let volume = c.in-Err-Twins.volume in
     let told : HasTwins plan c.in_ok-copies.copies volume = rw c.in-Err-Twins.field-0-is at c.in-Err-Twins.ensures in
     let is = subst (λ (x : List (List ℕ)). HasTwins plan x volume) same told in
-    (twins is.catalog is.sound volume is.is refl refl, refl)
+    (twins is.catalog is.sound volume is.is refl (ap twins_line c.in-Err-Twins.volume-is), refl)
