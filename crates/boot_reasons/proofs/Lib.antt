@@ -2,7 +2,7 @@ mod DxeEnds
 mod DxeSteps
 mod GiverSteps
 mod HeldParts
-mod OneRun
+pub mod OneRun
 mod OneTelling
 mod OwnBoots
 mod PeiEnds

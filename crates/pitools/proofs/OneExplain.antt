@@ -14,8 +14,8 @@ use Rattle.explain_text.specs.declared.reasons.Explained.{Explained}
 use Rattle.free_laws.specs.declared.choice.Reached.{Reached}
 use Rattle.free_laws.specs.declared.choice.Reached.TheVariants as R
 use Rattle.whole_boot.specs.Choices.{Choices}
-use Rattle.boot_reasons.specs.Boots.{NameOne}
-use Rattle.boot_reasons.specs.Explained.{ExplainsTo, IsExplainedBy, own_choices}
+use Rattle.boot_reasons.specs.Boots.{HasOneExplanation, NameOne}
+use Rattle.boot_reasons.specs.Explained.{IsExplainedBy, own_choices}
 use Rattle.catalog_text.specs.Lines.{IsCatalogText}
 use Rattle.explain_text.specs.Text.{explained_text}
 use Rattle.plan_files.specs.Job.{IsNamedIn}
@@ -31,14 +31,13 @@ pub record Laws : Type 1 where
   pub plans : C.Laws
   pub well : (plan : Plan) (images : List (List ℕ)) (catalog : Catalog) → IsCatalogue plan images catalog → IsWellFormed catalog
   pub texts : (volumes : List VolumeEntry) (images : List (List ℕ)) (modules : List Module) (a b : List ℕ) → IsCatalogText volumes images modules a → IsCatalogText volumes images modules b → a ≡ b
-  pub boots : (by : Choices) (board : Board) (catalog : Catalog) (fuel : ℕ) → IsWellFormed catalog → NameOne by → (one other : Reached Explained)
-      → ExplainsTo by board catalog fuel one → ExplainsTo by board catalog fuel other → one ≡ other
+  pub boots : (by : Choices) → HasOneExplanation by
 
 end_is : (e f : Explained) → R.End e ≡ R.End f → e ≡ f
 end_is e f same = cc
 
 pub one_run : Laws → (by : Choices) (board : Board) (catalog : Catalog) (fuel : ℕ) → IsWellFormed catalog → NameOne by → (e f : Explained) → IsExplainedBy by board catalog fuel e → IsExplainedBy by board catalog fuel f → e ≡ f
-one_run laws by board catalog fuel well one e f p q = end_is e f (laws.boots by board catalog fuel well one (R.End e) (R.End f) p q)
+one_run laws by board catalog fuel well one e f p q = end_is e f (laws.boots by one board catalog fuel well (R.End e) (R.End f) p q)
 
 own_name_one : NameOne own_choices
 own_name_one = record { peims = λ m one other f g. f ∙ sym g; drivers = λ pei m one other f g. f ∙ sym g }

@@ -46,7 +46,8 @@ pub(crate) fn one_trace_report()
     catalog_model::one_catalogue();
     catalog_model::catalogues_are_well_formed();
     catalog_text::one_catalog_text();
-    boot_reasons::one_explanation();
+    free_laws::cursor_aims();
+    boot_laws::order_is_of_modules();
     trace_reader::one_reading();
 }
 
@@ -80,7 +81,8 @@ pub(crate) fn one_explain_report()
     catalog_model::one_catalogue();
     catalog_model::catalogues_are_well_formed();
     catalog_text::one_catalog_text();
-    boot_reasons::one_explanation();
+    free_laws::cursor_aims();
+    boot_laws::order_is_of_modules();
 }
 
 /// Words and told files have one outcome: one status, and one text.

@@ -1,3 +1,4 @@
+use Rattle.boot_reasons.proofs.OneRun.{RunLaws, one_boot}
 use Rattle.pitools.proofs.OneCheck as C
 use Rattle.pitools.proofs.OneExplain.{Laws, one_explain}
 use Rattle.pitools.proofs.laws.one_explain_report.Goals as goal
@@ -12,5 +13,6 @@ returns c =
       image_faults = c.one_catalogue.ensures.faults;
       catalogue_or_fault = c.one_catalogue.ensures.apart;
     } in
-    let laws : Laws = record { plans = plans; well = c.catalogues_are_well_formed.ensures; texts = c.one_catalog_text.ensures; boots = c.one_explanation.ensures } in
+    let runs : RunLaws = record { aims = c.cursor_aims.ensures.aims; orders = c.order_is_of_modules.ensures } in
+    let laws : Laws = record { plans = plans; well = c.catalogues_are_well_formed.ensures; texts = c.one_catalog_text.ensures; boots = one_boot runs } in
     one_explain laws

@@ -1,3 +1,4 @@
+use Rattle.boot_reasons.proofs.OneRun.{RunLaws, one_boot}
 use Rattle.pitools.proofs.OneCheck as C
 use Rattle.pitools.proofs.OneExplain as E
 use Rattle.pitools.proofs.OneTrace.{Laws, one_trace_report}
@@ -13,6 +14,7 @@ returns c =
       image_faults = c.one_catalogue.ensures.faults;
       catalogue_or_fault = c.one_catalogue.ensures.apart;
     } in
-    let explains : E.Laws = record { plans = plans; well = c.catalogues_are_well_formed.ensures; texts = c.one_catalog_text.ensures; boots = c.one_explanation.ensures } in
+    let runs : RunLaws = record { aims = c.cursor_aims.ensures.aims; orders = c.order_is_of_modules.ensures } in
+    let explains : E.Laws = record { plans = plans; well = c.catalogues_are_well_formed.ensures; texts = c.one_catalog_text.ensures; boots = one_boot runs } in
     let laws : Laws = record { explains = explains; traces = c.one_reading-2.ensures.traces; bad = c.one_reading-2.ensures.bad; read_or_bad = c.one_reading-2.ensures.apart } in
     one_trace_report laws
