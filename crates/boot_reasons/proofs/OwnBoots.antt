@@ -19,9 +19,10 @@ use Rattle.dxe_dispatch.proofs.FirstRuns as D
 use Rattle.pei_dispatch.proofs.FirstRuns as P
 use Rattle.whole_boot.specs.BootEnd.{end_after, end_of}
 use Rattle.whole_boot.specs.Choices.{Choices}
+use Rattle.boot_reasons.specs.declared.pei.PeiExplained.{PeiExplained}
 use Rattle.boot_reasons.specs.declared.reasons.Explained.{Explained}
-use Rattle.boot_reasons.specs.Boots.{ExplainsBoots, IsOfBoot, IsOfOwnBoot}
-use Rattle.boot_reasons.specs.Explained.{IsExplained, IsExplainedAfter, own_choices}
+use Rattle.boot_reasons.specs.Boots.{AreDriversOf, ExplainsBoots, IsOfBoot, IsOfOwnBoot}
+use Rattle.boot_reasons.specs.Explained.{IsExplained, IsExplainedAfter, IsExplainedInDxe, own_choices}
 use Rattle.boot_reasons.specs.Joining.{alone, together}
 
 result_of : (one other : Explained) → one ≡ other → other.result ≡ one.result
@@ -121,9 +122,19 @@ end_is_of : (board : Board) (catalog : Catalog) (fuel : ℕ) (end : RunEnd) → 
 unfolding end_of
 end_is_of board catalog fuel end is = is
 
--- choices that name none are those of the machine itself
+-- choices that name none lead to the machine's own end of DXE
+own_drivers : (dxe_ends : DxeRunsEnd) (catalog : Catalog) (fuel : ℕ) (pei : PeiMachine) (first : PeiExplained) (e : Explained) → IsWellFormed catalog → (ends : IsExplainedInDxe own_choices catalog fuel pei first e)
+    → came catalog fuel (dxe_opening catalog pei.store pei.actions) ends.drivers.earlier ≡ dxe_end catalog fuel pei.store pei.actions
+own_drivers dxe_ends catalog fuel pei first e well ends =
+    D.first_end (own_choices.drivers pei) (own_choices.lets_driver pei) catalog fuel (dxe_bound catalog fuel) (dxe_opening catalog pei.store pei.actions) ends.drivers.earlier ends.second.«end» (λ x named none. none)
+    (dxe_ends catalog well.parents fuel pei.store pei.actions) ends.drivers.run ends.drivers.explained.ended
+
 pub own_boot : (pei_ends : PeiRunsEnd) (dxe_ends : DxeRunsEnd) (board : Board) (catalog : Catalog) (fuel : ℕ) (e : Explained) → IsWellFormed catalog → (is : IsExplained board catalog fuel e) → IsOfOwnBoot board catalog fuel e is
-own_boot pei_ends dxe_ends board catalog fuel e well is = record { pei_is = same; result_is = end_is_of board catalog fuel e.result (subst Result same (after is.first.«end» refl is.ends)) }
+own_boot pei_ends dxe_ends board catalog fuel e well is = record {
+  pei_is = same;
+  drivers = λ handed. told is.first.«end» refl is.ends handed;
+  result_is = end_is_of board catalog fuel e.result (subst Result same (after is.first.«end» refl is.ends));
+}
   where
     same : is.pei ≡ pei_end board catalog fuel
     same = P.first_end pei_ends own_choices.peims own_choices.lets_peim board catalog fuel is.pei is.first.«end» (λ m named none. none) (record { earlier = is.earlier; run = is.run }) is.peims.ended
@@ -136,13 +147,22 @@ own_boot pei_ends dxe_ends board catalog fuel e well is = record { pei_is = same
 
     after : (how : PeiEnd) → is.first.«end» ≡ how → IsExplainedAfter own_choices catalog fuel is.pei is.first how e → Result is.pei
     after Handoff this ends =
-        let opening = dxe_opening catalog is.pei.store is.pei.actions in
-        let drivers = ends.drivers in
-        let m = came catalog fuel opening drivers.earlier in
-        let last = D.first_end (own_choices.drivers is.pei) (own_choices.lets_driver is.pei) catalog fuel (dxe_bound catalog fuel) opening drivers.earlier ends.second.«end» (λ x named none. none) (dxe_ends catalog well.parents fuel is.pei.store is.pei.actions) drivers.run drivers.explained.ended in
-        let over : (dxe_end catalog fuel is.pei.store is.pei.actions).ended ≡ Some ends.second.«end» = ap (λ (x : DxeMachine). x.ended) (sym last) ∙ drivers.explained.ended in
+        let last = own_drivers dxe_ends catalog fuel is.pei is.first e well ends in
+        let over : (dxe_end catalog fuel is.pei.store is.pei.actions).ended ≡ Some ends.second.«end» = ap (λ (x : DxeMachine). x.ended) (sym last) ∙ ends.drivers.explained.ended in
         so Handoff (Some e.result) this (ap (option_map dxe_result) over ∙ ap Some (result_of e (together is.first ends.second) ends.is))
     after NoMemory this ends = so NoMemory (Some e.result) this (ap Some (result_of e (alone is.first is.pei.actions E.NoMemory) ends))
     after NoIpl this ends = so NoIpl (Some e.result) this (ap Some (result_of e (alone is.first is.pei.actions E.NoIpl) ends))
     after Spent this ends = so Spent (Some e.result) this (ap Some (result_of e (alone is.first is.pei.actions E.Spent) ends))
     after Deep this ends = so Deep (Some e.result) this (ap Some (result_of e (alone is.first is.pei.actions E.Deep) ends))
+
+    told : (how : PeiEnd) → is.first.«end» ≡ how → IsExplainedAfter own_choices catalog fuel is.pei is.first how e → is.pei.ended ≡ Some Handoff → AreDriversOf (dxe_end catalog fuel is.pei.store is.pei.actions) e
+    told Handoff this ends handed =
+        let last = own_drivers dxe_ends catalog fuel is.pei is.first e well ends in
+        record {
+          discovered_are = ap (λ (x : Explained). x.discovered) ends.is ∙ ends.drivers.explained.discovered ∙ ap (λ (x : DxeMachine). x.discovered) last;
+          actions_are = ap (λ (x : Explained). x.actions) ends.is ∙ ends.drivers.explained.actions_are ∙ ap (λ (x : DxeMachine). x.actions) last;
+        }
+    told NoMemory this ends handed = let never : Some NoMemory ≡ Some Handoff = ap Some (sym this) ∙ sym is.peims.ended ∙ handed in cc
+    told NoIpl this ends handed = let never : Some NoIpl ≡ Some Handoff = ap Some (sym this) ∙ sym is.peims.ended ∙ handed in cc
+    told Spent this ends handed = let never : Some Spent ≡ Some Handoff = ap Some (sym this) ∙ sym is.peims.ended ∙ handed in cc
+    told Deep this ends handed = let never : Some Deep ≡ Some Handoff = ap Some (sym this) ∙ sym is.peims.ended ∙ handed in cc

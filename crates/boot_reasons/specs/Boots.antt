@@ -7,6 +7,8 @@ use Rattle.store_model.specs.StoreState.{Board}
 use Rattle.boot_model.specs.DxeMachine.{DxeMachine}
 use Rattle.boot_model.specs.PeiMachine.{PeiMachine}
 use Rattle.boot_model.specs.PeiRun.{pei_end}
+use Rattle.boot_model.specs.declared.phase_end.PeiEnd.TheVariants.{Handoff}
+use Rattle.boot_model.specs.DxeRun.{dxe_end}
 use Rattle.free_laws.specs.declared.choice.Reached.{Reached}
 use Rattle.whole_boot.specs.BootEnd.{end_of}
 use Rattle.whole_boot.specs.ByChoice.{BootBy}
@@ -35,7 +37,13 @@ pub record IsOfBoot (by : Choices) (board : Board) (catalog : Catalog) (fuel : �
 abbrev pub ExplainsBoots : Choices → Type 0
 ExplainsBoots by = (board : Board) (catalog : Catalog) (fuel : ℕ) (e : Explained) (is : IsExplainedBy by board catalog fuel e) → IsOfBoot by board catalog fuel e is
 
--- the machine's own boot
+-- what is told of the drivers is of this last machine of DXE
+pub record AreDriversOf (m : DxeMachine) (e : Explained) : Type 0 where
+  pub discovered_are : e.discovered ≡ m.discovered
+  pub actions_are : e.actions ≡ m.actions
+
+-- the machine's own boot: its last machine of PEI, behind a hand-off that of DXE, and its result
 pub record IsOfOwnBoot (board : Board) (catalog : Catalog) (fuel : ℕ) (e : Explained) (is : IsExplained board catalog fuel e) : Type 0 where
   pub pei_is : is.pei ≡ pei_end board catalog fuel
+  pub drivers : is.pei.ended ≡ Some Handoff → AreDriversOf (dxe_end catalog fuel is.pei.store is.pei.actions) e
   pub result_is : end_of board catalog fuel ≡ Some e.result

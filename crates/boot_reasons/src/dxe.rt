@@ -123,7 +123,8 @@ fn explain_opened<M: PeiStore, C: Choice<Nowhere>, L: Ledger>(
     requires queue { IsQueueFor catalog.now queue.old }
     requires opening { (s : StoreState) × (actions : ℕ) × (fuel : ℕ) × IsFor catalog.now fuel dxe.old
         × StandsFor M.stands_for store.now catalog.now dxe.old (dxe_opening catalog.now s actions) }
-    ensures row { IfOk result (Explains (C.drivers choice.now) (C.lets_in_dxe choice.now) in_pei M.stands_for store.now catalog.now dxe.old) }
+    ensures row { IfOk result (Explains (C.drivers choice.now) (C.lets_in_dxe choice.now) in_pei
+        M.stands_for store.now catalog.now dxe.old) }
 {
     dxe_opens();
     unrequested_drivers_wait();
@@ -155,7 +156,8 @@ fn explain_with_ledger<M: PeiStore, C: Choice<Nowhere>, L: Ledger>(
     requires name { blank.name ≡ L.name }
     requires parts { blank.parts ≡ L.parts }
     requires counts { 0 < L.parts }
-    ensures row { IfOk result (Explains (C.drivers choice.now) (C.lets_in_dxe choice.now) in_pei M.stands_for store.now catalog.now dxe.old) }
+    ensures row { IfOk result (Explains (C.drivers choice.now) (C.lets_in_dxe choice.now) in_pei
+        M.stands_for store.now catalog.now dxe.old) }
 {
     let mut queue = DriverQueue::new(alloc, catalog)?;
     let mut steps = Steps::<L>::new(blank);
@@ -179,7 +181,8 @@ pub(crate) fn explain_dxe<M: PeiStore, C: Choice<Nowhere>>(
     requires catalog { IsWellFormed catalog.now }
     requires state { Present (M.stands_for store.now) Anything }
     ensures { OfEach (M.stands_for store.now) Anything
-        (λ s. IfOk result (λ reached. ExplainsBehind (C.drivers choice.now) (C.lets_in_dxe choice.now) in_pei catalog.now fuel taken reached s)) }
+        (λ s. IfOk result (λ reached. ExplainsBehind (C.drivers choice.now) (C.lets_in_dxe choice.now) in_pei
+        catalog.now fuel taken reached s)) }
 {
     let mut dxe = dxe_at_opening(alloc, store, catalog, fuel, taken)?;
     let blank = Blank::new(1);

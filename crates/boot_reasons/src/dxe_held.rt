@@ -33,7 +33,8 @@ fn held_of(
     number: u32,
 ) -> Result<Option<Held>, OutOfMemory>
     ensures { (m : DxeMachine) → IsCoreOf catalog.now dxe.now m → IsQueueOf catalog.now m queue.now
-        → IfOk result (λ held. option_to_list held ≡ held_where (is_waiting m number) (dxe_held_at catalog.now m (giver_in givers.now.map) number)) }
+        → IfOk result (λ held. option_to_list held
+        ≡ held_where (is_waiting m number) (dxe_held_at catalog.now m (giver_in givers.now.map) number)) }
 {
     if !queue.is_waiting(number) {
         return Ok(None);

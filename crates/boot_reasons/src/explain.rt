@@ -91,8 +91,8 @@ fn explain_drivers<M: PeiStore + Drop, C: Choice<Nowhere>>(
     requires catalog { IsWellFormed catalog.now }
     requires state { (m : PeiMachine) × StandsFor M.stands_for pei.now m }
     requires handed { explained.end ≡ Handoff }
-    ensures { IfOk result (ExplainsBehind (choices_of (C.peims choice.now) (C.lets_in_pei choice.now) (C.drivers choice.now) (C.lets_in_dxe choice.now))
-        M.stands_for catalog.now fuel pei.now explained) }
+    ensures { IfOk result (ExplainsBehind (choices_of (C.peims choice.now) (C.lets_in_pei choice.now)
+        (C.drivers choice.now) (C.lets_in_dxe choice.now)) M.stands_for catalog.now fuel pei.now explained) }
 {
     match explain_dxe(
         alloc,
@@ -122,8 +122,8 @@ fn explain_behind<M: PeiStore + Drop, C: Choice<Nowhere>>(
 ) -> Result<Reached<Explained>, OutOfMemory>
     requires catalog { IsWellFormed catalog.now }
     requires state { (m : PeiMachine) × StandsFor M.stands_for pei.now m }
-    ensures { IfOk result (ExplainsBehind (choices_of (C.peims choice.now) (C.lets_in_pei choice.now) (C.drivers choice.now) (C.lets_in_dxe choice.now))
-        M.stands_for catalog.now fuel pei.now explained) }
+    ensures { IfOk result (ExplainsBehind (choices_of (C.peims choice.now) (C.lets_in_pei choice.now)
+        (C.drivers choice.now) (C.lets_in_dxe choice.now)) M.stands_for catalog.now fuel pei.now explained) }
 {
     let actions = pei.actions();
     let end = match explained.end {
