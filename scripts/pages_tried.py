@@ -6,8 +6,10 @@ import sys
 
 ROOT = os.path.dirname(os.path.dirname(os.path.abspath(__file__)))
 PROGRAMS = [os.path.join(ROOT, "crates", name, "out", name) for name in ("piboot", "pitools")]
-# A folder of examples/, and files with names for it: ten modules of which three wait, eight drivers, 279 modules, every service, two of real firmware.
-BOOTS = [("why", ["names"]), ("drivers", []), ("large-boot", []), ("every-service", []), ("real/plain", ["log"]), ("real/arm", ["log"])]
+# A folder of examples/, and the words of `report`: ten modules of which three wait, eight drivers, 279 modules, every service, two of real
+# firmware, one as its log tells of it and one in the machine's own order.
+BOOTS = [("why", "plan --names names"), ("drivers", "plan"), ("large-boot", "plan"), ("every-service", "plan"),
+         ("real/plain", "plan trace --names log"), ("real/arm", "plan --names log")]
 
 
 def programs(words: list[str]) -> dict[str, str]:
@@ -16,17 +18,16 @@ def programs(words: list[str]) -> dict[str, str]:
     return os.environ | {"PIBOOT": os.path.abspath(piboot), "PITOOLS": os.path.abspath(pitools)}
 
 
-def make_page(example: str, names: list[str], folder: str, environment: dict[str, str]) -> None:
+def make_page(example: str, words: str, folder: str, environment: dict[str, str]) -> None:
     """Writes the page of an example into a folder; volumes that are kept as texts alone are made first."""
-    source, work = os.path.join(ROOT, "examples", example), os.path.join(folder, "boot")
-    shutil.copytree(source, work)
+    work = os.path.join(folder, "boot")
+    shutil.copytree(os.path.join(ROOT, "examples", example), work)
     for text in (file for file in os.listdir(work) if file.endswith(".volume")):
         volume = os.path.join(work, text.removesuffix("volume") + "fv")
         if not os.path.exists(volume):
             with open(volume, "wb") as made:
                 subprocess.run([environment["PITOOLS"], "volume", os.path.join(work, text)], stdout=made, check=True)
-    given = [word for name in names for word in (os.path.join(source, name),)]
-    run = [os.path.join(ROOT, "scripts", "report"), "plan", "--out", folder, "--dot", *(["--names", *given] if given else [])]
+    run = [os.path.join(ROOT, "scripts", "report"), *words.split(), "--out", folder, "--dot"]
     ran = subprocess.run(run, cwd=work, env=environment, capture_output=True, text=True, check=False)
     if ran.returncode != 0:
         print(ran.stderr, file=sys.stderr)
