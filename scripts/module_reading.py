@@ -8,8 +8,11 @@ import sys
 from collections.abc import Callable, Iterator
 from dataclasses import dataclass, field
 
+from volume_reader import sections_of
+
 PARTS = {"peim": ["pei"], "driver": ["dxe"], "combined": ["pei", "dxe"], "mm-dxe": ["dxe"]}
 EXPRESSION = {"1b": "pei", "13": "dxe"}
+NAME, VOLUME, RAW = "15", "17", "19"  # other types of sections
 GUID = re.compile(r"[0-9a-f]{8}(?:-[0-9a-f]{4}){3}-[0-9a-f]{12}")
 # The architectural protocols (PI 1.8, volume 2), in the order of docs/FORMATS.md.
 ARCHITECTURAL = """
@@ -33,8 +36,10 @@ class Module:
     name: str
     parts: list[str]
     shown: str = "-"
+    named: bool = False
     ranks: dict[str, int] = field(default_factory=dict)
     expressions: dict[str, str] = field(default_factory=dict)
+    scripts: dict[str, list[str]] = field(default_factory=dict)
     blocks: dict[str, list[list[list[str]]]] = field(default_factory=dict)
 
     def is_malformed(self, phase: str) -> bool:
@@ -88,34 +93,64 @@ def read_volumes(text: str, nested: Callable[[bytes], list[list[File]]]) -> list
             kind, _, lines = inside[-1][-1]
             lines.append(line)
             in_script = word == "script" or in_script and word != "end"
-            if kind == "volume-image" and line.startswith("section 17 "):
-                volumes += nested(bytes.fromhex(words[1]))
+            if kind == "volume-image":
+                volumes += [each for section, code in sections_told(line) if section == VOLUME for each in nested(code)]
     return volumes
 
 
-def read_module(module: Module, lines: list[str], expression: Callable[[str, bytes], str]) -> None:
-    """Fills a module from the lines of its file: the first section of each kind counts. An expression with bytes behind it stands as bytes."""
-    block: list[list[list[str]]] | None = None
-    seen = False
+def sections_told(line: str) -> list[tuple[str, bytes]]:
+    """The types and bytes of the sections that a line tells as bytes: one, or all of a file whose sections do not lie as `volume` lays them."""
+    word, *words = line.split(" ")
+    if word == "body":
+        return [(f"{kind:02x}", section[front:]) for kind, section, front in sections_of(bytes.fromhex(words[0]))]
+    return [(words[0], bytes.fromhex(words[1]))] if word == "section" else []
+
+
+def read_module(module: Module, lines: list[str], dis: Callable[[str, bytes], str]) -> None:
+    """Fills a module from the lines of its file; `dis` has the text of an expression or a script that stands as bytes, none where it is neither."""
+    script: list[str] | None = None
     for line in lines:
         word, _, rest = line.partition(" ")
         if word == "end":
-            block = None
-        elif block is not None and word == "block":
-            block.append([])
-        elif block is not None:
-            block[-1].append(["log", rest] if word == "log" else line.split(" "))
+            script = None
+        elif script is not None:
+            script.append(line)
         elif word == "script":
-            block = module.blocks.setdefault(rest, [])
+            script = add_script(module, rest)
         elif word == "depex":
             phase, _, text = rest.partition(" ")
             module.expressions.setdefault(phase, text)
-        elif word == "section":
-            kind, _, code = rest.partition(" ")
-            if kind == "15" and not seen:
-                module.shown, seen = shown_name(bytes.fromhex(code)), True
-            if (phase := EXPRESSION.get(kind)) in module.parts:
-                module.expressions.setdefault(phase, expression(phase, bytes.fromhex(code)))
+        for kind, code in sections_told(line) if script is None else []:
+            read_section(module, kind, code, dis)
+    module.blocks = {phase: blocks_of(told) for phase, told in module.scripts.items()}
+
+
+def add_script(module: Module, phase: str) -> list[str]:
+    """Where the lines of a script go: the first of each phase of the file counts."""
+    return module.scripts.setdefault(phase, []) if phase in module.parts and phase not in module.scripts else []
+
+
+def read_section(module: Module, kind: str, code: bytes, dis: Callable[[str, bytes], str]) -> None:
+    """Fills a module from a section that stands as bytes. The first of each type counts; one of a name counts too where it has none."""
+    if kind == NAME and not module.named:
+        module.shown, module.named = shown_name(code), True
+    elif (phase := EXPRESSION.get(kind)) in module.parts:
+        module.expressions.setdefault(phase, dis(phase, code) or "malformed@")
+    elif kind == RAW and (text := dis("script", code)):
+        first, *told = text.split("\n")
+        add_script(module, first.removeprefix("phase ")).extend(told)
+
+
+def blocks_of(lines: list[str]) -> list[list[list[str]]]:
+    """The actions of each block of a script, as words; the text of a log is one."""
+    blocks: list[list[list[str]]] = []
+    for line in lines:
+        word, _, rest = line.partition(" ")
+        if word == "block":
+            blocks.append([])
+        else:
+            blocks[-1].append(["log", rest] if word == "log" else line.split(" "))
+    return blocks
 
 
 # Expressions
