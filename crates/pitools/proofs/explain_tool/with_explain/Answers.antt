@@ -2,8 +2,8 @@ use Rattle.std.proofs.Common.{◌≡◌, ℕ, List, Option, IfOk, subst}
 use Rattle.plan_files.specs.Job.{IsNamedIn}
 use Rattle.plan_files.specs.Reading.{plan_limit}
 use Rattle.pitools.specs.Ends.{Reports}
-use Rattle.pitools.specs.FileReading.{IsRead, LongOutcome}
-use Rattle.pitools.specs.ExplainReport.{ExplainNames, ExplainOutcome, ExplainReport, names_the_plan, names_a_volume, text_read, over_long}
+use Rattle.pitools.specs.FileReading.{IsRead}
+use Rattle.pitools.specs.ExplainReport.{ExplainNames, ExplainOutcome, ExplainReport, names_a_volume, text_read}
 use Rattle.pitools.specs.JobOutcome.{JobOutcome}
 use Rattle.pitools.proofs.Ending.{reports_ok}
 use Rattle.pitools.proofs.explain_tool.with_explain.Goals as goal

@@ -1,4 +1,3 @@
-use Rattle.std.proofs.Common.{◌≡◌}
 use Rattle.plan_files.specs.Job.{IsNamedIn}
 use Rattle.plan_files.specs.Reading.{FilesTrail}
 use Rattle.pitools.specs.ExplainReport.{ExplainReport}

@@ -1,4 +1,4 @@
-use Rattle.std.proofs.Common.{◌≡◌, ℕ, List, refl, ap, ◌∙◌, subst}
+use Rattle.std.proofs.Common.{ℕ, List, refl, ap, ◌∙◌, subst}
 use Rattle.catalog_model.specs.ImageFault.{IsImageFault}
 use Rattle.free_check.specs.Checking.{HasTwins, IsChecked}
 use Rattle.free_check.specs.declared.verdict.Verdict.TheVariants.{No}
