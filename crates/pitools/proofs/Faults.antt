@@ -10,7 +10,12 @@ use Rattle.pitools.specs.declared.command_line.Tool.{Tool}
 use Rattle.pitools.specs.declared.command_line.Tool.TheVariants.{AssembleDepex, AssembleScript, ReadPei, ReadDxe, ReadScript, Mp, Volume, ReadVolume}
 use Rattle.pitools.specs.declared.status.ToolStatus.{ToolStatus}
 use Rattle.pitools.specs.declared.status.ToolStatus.TheVariants as S
-use Rattle.pitools.specs.CheckReport.{CheckReport, VerdictReport, both_read, checked, image_refused, no, plan_long, trace_long, twins, yes}
+use Rattle.pitools.specs.declared.command_line.TraceTool.{TraceTool}
+use Rattle.pitools.specs.declared.command_line.TraceTool.TheVariants.{Check, Explain}
+use Rattle.pitools.specs.CheckReport.{VerdictReport, no, yes}
+use Rattle.pitools.specs.ExplainReport.{ExplainReport, explained_so, faulty_image, over_long, text_read}
+use Rattle.pitools.specs.ToldReport.{ToldReport, goes_wrong, not_read, runs_so}
+use Rattle.pitools.specs.TraceReport.{SaidBy, TraceReport, both_read, image_refused, plan_long, said, trace_long, twins}
 use Rattle.boot_model.specs.declared.line.RunEnd.{RunEnd}
 use Rattle.boot_model.specs.declared.line.RunEnd.TheVariants as E
 use Rattle.pitools.specs.HobsReport.{HobsReport, bad_image, ended, handed, plan_read, too_long}
@@ -23,7 +28,7 @@ use Rattle.start_order.specs.declared.lines.StartOrder.{StartOrder}
 use Rattle.order_check.specs.declared.following.Followed.{Followed}
 use Rattle.order_check.specs.declared.following.Followed.TheVariants as F
 use Rattle.pitools.specs.MpReport.{MpReport, ran, refused}
-use Rattle.pitools.specs.Outcome.{ContentReport, Names, Outcome, both, commands_long, content, hobs_long, long, usage, words_ask_check, words_ask_follow, words_ask_hobs, words_ask_map, words_ask_tool}
+use Rattle.pitools.specs.Outcome.{ContentReport, Names, Outcome, both, commands_long, content, hobs_long, long, usage, words_ask_explanation, words_ask_follow, words_ask_hobs, words_ask_map, words_ask_tool, words_ask_trace}
 use Rattle.pitools.specs.PrintReport.{PrintReport, printed, no_volume}
 use Rattle.pitools.specs.VolumeReport.{VolumeReport, at_fault, built}
 use Rattle.pitools.specs.TextReport.{AssemblyReport, DepexReport, ExpressionReport, ScriptReport, assembled, bad, faulty, long as long_depex, long_script, malformed, no_script, read, spelled, stands}
@@ -96,10 +101,23 @@ verdict_tells : (plan : Plan) (images : List (List ℕ)) (catalog : Catalog) (te
 verdict_tells plan images catalog text status out (yes boot is t) = done_tells status is
 verdict_tells plan images catalog text status out (no line off is t) = other status S.No (λ (e : S.No ≡ S.FileFault). absurd (cc)) is
 
-check_tells : (plan : Plan) (images : List (List ℕ)) (text : List ℕ) → Tells (CheckReport plan images text)
-check_tells plan images text status out (image_refused fault p is t) = other status S.ImageRefused (λ (e : S.ImageRefused ≡ S.FileFault). absurd (cc)) is
-check_tells plan images text status out (twins catalog sound volume p is t) = other status S.Twins (λ (e : S.Twins ≡ S.FileFault). absurd (cc)) is
-check_tells plan images text status out (checked catalog sound apart o) = verdict_tells plan images catalog text status out o
+told_tells : (plan : Plan) (images : List (List ℕ)) (catalog : Catalog) (text : List ℕ) → Tells (ToldReport plan images catalog text)
+told_tells plan images catalog text status out (runs_so boot lines p o is) = done_tells status is
+told_tells plan images catalog text status out (goes_wrong line p is t) = other status S.No (λ (e : S.No ≡ S.FileFault). absurd (cc)) is
+told_tells plan images catalog text status out (not_read boot line p is t) = other status S.No (λ (e : S.No ≡ S.FileFault). absurd (cc)) is
+
+said_tells : (tool : TraceTool) (plan : Plan) (images : List (List ℕ)) (catalog : Catalog) (text : List ℕ) → Tells (SaidBy tool plan images catalog text)
+said_tells Check plan images catalog text = verdict_tells plan images catalog text
+said_tells Explain plan images catalog text = told_tells plan images catalog text
+
+trace_tells : (tool : TraceTool) (text : List ℕ) (plan : Plan) (images : List (List ℕ)) → Tells (TraceReport tool plan images text)
+trace_tells tool text plan images status out (image_refused fault p is t) = other status S.ImageRefused (λ (e : S.ImageRefused ≡ S.FileFault). absurd (cc)) is
+trace_tells tool text plan images status out (twins catalog sound volume p is t) = other status S.Twins (λ (e : S.Twins ≡ S.FileFault). absurd (cc)) is
+trace_tells tool text plan images status out (said catalog sound apart o) = said_tells tool plan images catalog text status out o
+
+explain_tells : (plan : Plan) (images : List (List ℕ)) → Tells (ExplainReport plan images)
+explain_tells plan images status out (faulty_image fault p is t) = other status S.ImageRefused (λ (e : S.ImageRefused ≡ S.FileFault). absurd (cc)) is
+explain_tells plan images status out (explained_so catalog sound o is) = done_tells status is
 
 job_tells : (line : Line) → Tells (JobReport line)
 job_tells line status out (job_long name p is t) = long_tells status is
@@ -142,9 +160,11 @@ no_outcome told words status text (usage p is t) = other status S.Usage (λ (e :
 no_outcome told words status text (words_ask_map hobs commands p (hobs_long o)) = long_tells status o.status_is
 no_outcome told words status text (words_ask_map hobs commands p (commands_long bytes q o)) = long_tells status o.status_is
 no_outcome told words status text (words_ask_map hobs commands p (both bytes lines q r o)) = map_tells bytes lines status text o
-no_outcome told words status text (words_ask_check plan trace p (plan_long o)) = long_tells status o.status_is
-no_outcome told words status text (words_ask_check plan trace p (trace_long bytes q o)) = long_tells status o.status_is
-no_outcome told words status text (words_ask_check plan trace p (both_read bytes lines q r o)) = texts_tell (λ plan images. CheckReport plan images lines) (λ plan images. check_tells plan images lines) told bytes status text o
+no_outcome told words status text (words_ask_trace tool plan trace p (plan_long o)) = long_tells status o.status_is
+no_outcome told words status text (words_ask_trace tool plan trace p (trace_long bytes q o)) = long_tells status o.status_is
+no_outcome told words status text (words_ask_trace tool plan trace p (both_read bytes lines q r o)) = texts_tell (λ plan images. TraceReport tool plan images lines) (trace_tells tool lines) told bytes status text o
+no_outcome told words status text (words_ask_explanation plan p (over_long o)) = long_tells status o.status_is
+no_outcome told words status text (words_ask_explanation plan p (text_read bytes q o)) = texts_tell ExplainReport explain_tells told bytes status text o
 no_outcome told words status text (words_ask_follow plan order p (long_plan o)) = long_tells status o.status_is
 no_outcome told words status text (words_ask_follow plan order p (long_order bytes q o)) = long_tells status o.status_is
 no_outcome told words status text (words_ask_follow plan order p (texts_read bytes lines q r o)) = texts_tell (λ plan images. FollowReport plan images lines) (follow_tells lines) told bytes status text o

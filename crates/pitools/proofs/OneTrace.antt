@@ -16,7 +16,7 @@ use Rattle.pitools.specs.declared.command_line.TraceTool.TheVariants.{Check, Exp
 use Rattle.pitools.specs.ExplainReport.{IsExplanation}
 use Rattle.pitools.specs.OneOutcome.{AreAllTold, IsOne}
 use Rattle.pitools.specs.Refusals.{no_line}
-use Rattle.pitools.specs.ToldReport.{RunsInOrder, ToldReport, off, start_choices, told, unread}
+use Rattle.pitools.specs.ToldReport.{RunsInOrder, ToldReport, goes_wrong, not_read, runs_so, start_choices}
 use Rattle.pitools.specs.TraceReport.{TextsOutcome}
 use Rattle.pitools.proofs.OneCheck.{IsOneSaid, one_off, one_trace, one_verdict}
 use Rattle.pitools.proofs.OneExplain as E
@@ -31,20 +31,20 @@ pub record Laws : Type 1 where
   pub read_or_bad : (text : List ℕ) (lines : List Line) (n : ℕ) → IsTrace text lines → IsBadLine text n → ⊥
 
 one_told : Laws → (plan : Plan) (images : List (List ℕ)) (catalog : Catalog) (text : List ℕ) → IsCatalogue plan images catalog → HasNoTwins catalog → IsOne (ToldReport plan images catalog text)
-one_told laws plan images catalog text sound apart a b s t (told p lines r o e) (told q others z u f) =
+one_told laws plan images catalog text sound apart a b s t (runs_so p lines r o e) (runs_so q others z u f) =
     let P : List Line → Type 0 = λ x. IsExplanation (RunsInOrder plan images catalog (order_of x)) images catalog t in
     let Run : Explained → Type 0 = RunsInOrder plan images catalog (order_of lines) in
     let runs = one_run laws.explains (start_choices catalog (order_of lines)) (board_of plan catalog images) catalog plan.fuel (laws.explains.well plan images catalog sound) (name_one catalog (order_of lines) apart) in
     (e ∙ sym f, one_text Run laws.explains.texts runs images catalog s t o (subst P (laws.traces text others lines z r) u))
-one_told laws plan images catalog text sound apart a b s t (told p lines r o e) (off n y f v) = absurd (y.no_boot p)
-one_told laws plan images catalog text sound apart a b s t (told p lines r o e) (unread q n y f v) = absurd (laws.read_or_bad text lines n r y)
-one_told laws plan images catalog text sound apart a b s t (off m x e u) (told q others z o f) = absurd (x.no_boot q)
-one_told laws plan images catalog text sound apart a b s t (off m x e u) (off n y f v) =
+one_told laws plan images catalog text sound apart a b s t (runs_so p lines r o e) (goes_wrong n y f v) = absurd (y.no_boot p)
+one_told laws plan images catalog text sound apart a b s t (runs_so p lines r o e) (not_read q n y f v) = absurd (laws.read_or_bad text lines n r y)
+one_told laws plan images catalog text sound apart a b s t (goes_wrong m x e u) (runs_so q others z o f) = absurd (x.no_boot q)
+one_told laws plan images catalog text sound apart a b s t (goes_wrong m x e u) (goes_wrong n y f v) =
     (e ∙ sym f, u ∙ ap no_line (one_off (AreFreeLines (board_of plan catalog images) catalog plan.fuel) text m n x y) ∙ sym v)
-one_told laws plan images catalog text sound apart a b s t (off m x e u) (unread q n y f v) = absurd (x.no_boot q)
-one_told laws plan images catalog text sound apart a b s t (unread p m x e u) (told q others z o f) = absurd (laws.read_or_bad text others m z x)
-one_told laws plan images catalog text sound apart a b s t (unread p m x e u) (off n y f v) = absurd (y.no_boot p)
-one_told laws plan images catalog text sound apart a b s t (unread p m x e u) (unread q n y f v) = (e ∙ sym f, u ∙ ap no_line (laws.bad text m n x y) ∙ sym v)
+one_told laws plan images catalog text sound apart a b s t (goes_wrong m x e u) (not_read q n y f v) = absurd (x.no_boot q)
+one_told laws plan images catalog text sound apart a b s t (not_read p m x e u) (runs_so q others z o f) = absurd (laws.read_or_bad text others m z x)
+one_told laws plan images catalog text sound apart a b s t (not_read p m x e u) (goes_wrong n y f v) = absurd (y.no_boot p)
+one_told laws plan images catalog text sound apart a b s t (not_read p m x e u) (not_read q n y f v) = (e ∙ sym f, u ∙ ap no_line (laws.bad text m n x y) ∙ sym v)
 
 one_said : Laws → (tool : TraceTool) (text : List ℕ) (plan : Plan) (images : List (List ℕ)) → IsOneSaid tool text plan images
 one_said laws Check text plan images catalog sound apart = one_verdict plan images catalog text

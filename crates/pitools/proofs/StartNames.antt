@@ -1,13 +1,15 @@
--- The starts of an order name one module at most, where no volume has two modules of one name.
-use Rattle.std.proofs.Common.{◌≡◌, ℕ, ◌+◌, length, Bool, true, false, Option, Some, None, refl, sym, ap, ◌∙◌}
+-- The starts of an order name one module at most, where no volume has two modules of one name; and no boot by them is left before a start.
+use Rattle.std.proofs.Common.{◌≡◌, ℕ, ◌+◌, length, Bool, true, false, true≢false, Option, Some, None, refl, sym, ap, ◌∙◌}
 use Rattle.std.specs.Prelude.{slice_get}
 use Rattle.pi_base.specs.declared.phase.Phase.{Phase}
 use Rattle.pi_base.specs.declared.phase.Phase.TheVariants.{Pei, Dxe}
 use Rattle.catalog_model.specs.declared.catalog.Catalog.{Catalog}
 use Rattle.boot_reasons.specs.Boots.{NameOne}
+use Rattle.boot_reasons.specs.Explained.{IsLeftBefore, left_in_dxe, left_in_pei}
 use Rattle.boot_starts.proofs.Modules.{one_module}
 use Rattle.module_names.specs.Named.{HasNoTwins}
 use Rattle.order_check.specs.ByOrder.{IsNumberOf, NamesAsked, NamesNext, NamesStart, same_phase}
+use Rattle.store_model.specs.StoreState.{Board}
 use Rattle.start_order.specs.declared.line.AskedStart.{AskedStart}
 use Rattle.start_order.specs.declared.line.Start.{Start}
 use Rattle.start_order.specs.declared.lines.StartOrder.{StartOrder}
@@ -35,3 +37,8 @@ name_one catalog order apart = record {
   peims = λ m a b f g. one_asked catalog Pei order _ a b apart f g;
   drivers = λ pei m a b f g. one_asked catalog Dxe order _ a b apart f g;
 }
+
+-- each start is let
+pub never_left : (catalog : Catalog) (order : StartOrder) (board : Board) (fuel number : ℕ) → IsLeftBefore (start_choices catalog order) board catalog fuel number → ⊥
+never_left catalog order board fuel number (left_in_pei earlier m is) = true≢false is.barred
+never_left catalog order board fuel number (left_in_dxe earlier pei run handed over is) = true≢false is.barred

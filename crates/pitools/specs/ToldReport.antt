@@ -35,9 +35,9 @@ RunsInOrder plan images catalog order e = IsExplainedBy (start_choices catalog o
 -- The text is that of a free boot of the images' catalogue, and the boot in the order of its lines' starts is explained; or it goes wrong with a line.
 -- A boot's text of which a line cannot be read goes wrong with the first such line; no boot that was tried has one.
 pub data ToldReport (plan : Plan) (images : List (List ℕ)) (catalog : Catalog) (text : List ℕ) (status : ToolStatus) (out : List ℕ) : Type 0 where
-  told : IsBoot (AreFreeLines (board_of plan catalog images) catalog plan.fuel) text → (lines : List Line) → IsTrace text lines
+  runs_so : IsBoot (AreFreeLines (board_of plan catalog images) catalog plan.fuel) text → (lines : List Line) → IsTrace text lines
       → IsExplanation (RunsInOrder plan images catalog (order_of lines)) images catalog out → status ≡ Done → ToldReport plan images catalog text status out
-  off : (line : ℕ) → IsFirstOff (AreFreeLines (board_of plan catalog images) catalog plan.fuel) text line → status ≡ No → out ≡ no_line line
+  goes_wrong : (line : ℕ) → IsFirstOff (AreFreeLines (board_of plan catalog images) catalog plan.fuel) text line → status ≡ No → out ≡ no_line line
       → ToldReport plan images catalog text status out
-  unread : IsBoot (AreFreeLines (board_of plan catalog images) catalog plan.fuel) text → (line : ℕ) → IsBadLine text line → status ≡ No → out ≡ no_line line
+  not_read : IsBoot (AreFreeLines (board_of plan catalog images) catalog plan.fuel) text → (line : ℕ) → IsBadLine text line → status ≡ No → out ≡ no_line line
       → ToldReport plan images catalog text status out

@@ -1,5 +1,5 @@
 -- What a text says of a volume that a reader accepts.
-use Rattle.std.specs.Prelude.{◌≡◌, ◌⊎◌, ℕ, zero, suc, ◌+◌, ◌-◌, ◌==◌, false, nat_lt, bit_and, bit_xor, bytes_eq, if◌then◌else◌, List, length, map, fold, take, drop, slice_index, Option, Some, None}
+use Rattle.std.specs.Prelude.{◌≡◌, ◌⊎◌, ℕ, zero, suc, ◌+◌, ◌-◌, ◌==◌, false, nat_lt, bit_and, bit_xor, bytes_eq, if◌then◌else◌, List, length, map, take, drop, slice_index, Option, Some, None}
 use Rattle.pi_base.specs.Field.{little_number}
 use Rattle.fv_volume.specs.declared.file.FfsFile.{FfsFile}
 use Rattle.fv_volume.specs.declared.file_header.TheConstants.{ATTRIBUTES_AT as FILE_ATTRIBUTES_AT}
@@ -32,15 +32,11 @@ use Rattle.volume_print.specs.Spelling.{IsVolumeText}
 abbrev pub section_in : List ℕ → Section → NewSection
 section_in body section = record { kind = section.kind; body = take section.body_len (drop section.body_at body) }
 
--- the end of the last section
-abbrev pub sections_end : List Section → ℕ
-sections_end sections = fold (λ end section. section.body_at + section.body_len) 0 sections
-
--- sections that are built end where these end: no header is longer than its section's size asks for
+-- the sections take all of a body where they are built: no header is longer than its section's size asks for, and nothing is left over
 abbrev pub LieAsBuilt : FileSystem → List ℕ → List Section → Type 0
-LieAsBuilt file_system bytes sections = length (body_bytes file_system (map (section_in bytes) sections)) ≡ sections_end sections
+LieAsBuilt file_system bytes sections = length (body_bytes file_system (map (section_in bytes) sections)) ≡ length bytes
 
--- a body is told by no sections: that of a raw file, one whose sections cannot be read, and one whose sections would not be built as they lie
+-- a body is told by no sections: that of a raw file, one whose sections cannot be read, and one whose sections would not take all of it
 abbrev pub IsNoStream : FileSystem → ℕ → List ℕ → Type 0
 IsNoStream file_system kind bytes =
     (kind ≡ RAW) ⊎ (((fault : SecFault) × IsFirstFault bytes fault) ⊎ ((read : List Section) × AreSections bytes read × (LieAsBuilt file_system bytes read → ⊥)))

@@ -13,9 +13,11 @@ pub record Room : Type 0 where
   pub at : ℕ
   pub len : ℕ
 
+-- the room of a file that was found, by what is told of it
 abbrev pub room_of : FileSystem → FfsFile → NewFile → Room
 room_of file_system found file = record { at = found.at; len = file_size file_system (length (bytes_in file_system file.body)) }
 
+-- the rooms of files in their order
 abbrev pub rooms : FileSystem → List FfsFile → List NewFile → List Room
 rooms file_system [] files = []
 rooms file_system (found ∷ others) [] = []
@@ -35,6 +37,7 @@ stands from at = if nat_lt (at - from) FILE_HEADER_LEN then from else at
 abbrev pub behind : ℕ → Room → ℕ
 behind from room = aligned (stands from room.at + room.len)
 
+-- the least place behind files that stand from a place on
 abbrev pub behind_all : ℕ → List Room → ℕ
 behind_all from [] = from
 behind_all from (room ∷ rooms) = behind_all (behind from room) rooms

@@ -5,7 +5,7 @@ ghost use Rattle.volume_print.specs.Spelling.{fixed_words, alignment_words, body
 ghost use Rattle.volume_print.specs.Description.{IsStream};
 ghost use Rattle.volume_print.specs.Finding.{ReadsSections};
 
-use crate::place::{sections_end, sections_len};
+use crate::place::sections_len;
 use crate::word::{put_bytes, put_decimal, put_guid, put_type};
 use fv_build::{Alignment, FileAttributes, FileSystem};
 use fv_section::{SecCause, Section, read_sections};
@@ -47,7 +47,7 @@ pub(crate) fn sections_in(
         return Ok(None);
     };
     let built = sections_len(file_system, body, sections.as_slice());
-    if built == sections_end(body, sections.as_slice()) {
+    if built == body.len() {
         Ok(Some(sections))
     } else {
         Ok(None)

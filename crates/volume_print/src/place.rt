@@ -1,10 +1,10 @@
 // Where the files of a volume stand where they are built again, and the pads that bring them there.
-ghost use Rattle.std.specs.Prelude.{◌≡◌, ◌≤◌, ◌-◌, ◌^◌, ◌+◌, ◌++◌, length, map, min, OnOk};
+ghost use Rattle.std.specs.Prelude.{◌≡◌, ◌-◌, ◌^◌, ◌+◌, ◌++◌, length, map, min, OnOk};
 ghost use Rattle.std.specs.List.{flat_map};
 ghost use Rattle.fv_section.specs.Stream.{AreInside};
 ghost use Rattle.fv_volume.specs.Frame.{aligned};
 ghost use Rattle.fv_build.specs.Sections.{body_bytes};
-ghost use Rattle.volume_print.specs.Description.{section_in, sections_end};
+ghost use Rattle.volume_print.specs.Description.{section_in};
 ghost use Rattle.volume_print.specs.Places.{pads_in, stands};
 ghost use Rattle.volume_print.specs.Spelling.{pad_line};
 
@@ -58,19 +58,6 @@ pub(crate) fn behind(at: usize, len: usize) -> usize
 {
     let end = at.saturating_add(len);
     end.saturating_add(gap(ALIGNMENT, end))
-}
-
-/// The end of the last section.
-pub(crate) fn sections_end(stream: &[u8], sections: &[Section]) -> usize
-    requires { AreInside stream.now sections.now }
-    ensures end { result ≡ sections_end sections.now }
-    ensures within { result ≤ length stream.now }
-{
-    let mut end = 0usize;
-    'sections: for section in sections {
-        end = section.body_at as usize + section.body_len as usize;
-    }
-    end
 }
 
 /// The bytes of sections where they are built, those between them too. So many as 2^64 stand as 2^64 - 1.

@@ -13,7 +13,7 @@ use std::alloc::Global;
 ///
 /// It says the volume's length, file system and attributes, its name, and of each listed file its type, name, attributes and sections: an expression, the
 /// first script of a phase, the list of an a priori file and, in a file for volumes, a volume of all the section's bytes as text, all others by their
-/// bytes; of a raw file, and of one whose sections cannot be read, the body's bytes. A volume stands as text at most as deep as a catalogue has volumes,
+/// bytes; of a raw file, and of one whose sections cannot be read or would not take all of it where they are built, the body's bytes. A volume stands as text at most as deep as a catalogue has volumes,
 /// and only where `volume_of` makes one of its text. A stretch in front of a file that no listed file takes is told as pads, so that the file stands where
 /// it stood once `volume_of` has built it; one that is shorter than a file's header is not, and the files behind it stand earlier, up to a longer one.
 /// What has no text is passed over: what such a stretch holds, what stands behind the last file and between sections, an erase polarity of zeros, file

@@ -13,7 +13,7 @@ use Rattle.pitools.specs.declared.report.Report.TheVariants as R
 use Rattle.pitools.specs.Ends.{Tells}
 use Rattle.pitools.specs.ExplainReport.{IsExplanation}
 use Rattle.pitools.specs.Refusals.{twins_line}
-use Rattle.pitools.specs.ToldReport.{RunsInOrder, told}
+use Rattle.pitools.specs.ToldReport.{RunsInOrder, runs_so}
 use Rattle.pitools.specs.TraceReport.{TraceReport, image_refused, said, twins}
 use Rattle.pitools.proofs.told_tool.lines_report.Goals as goal
 
@@ -41,4 +41,4 @@ returns c = λ text checked trace.
     let same : checked.catalog ≡ catalog = c.one_catalogue.ensures.catalogues plan images checked.catalog catalog checked.sound sound in
     let P : Catalog → Type 0 = λ x. IsBoot (AreFreeLines (board_of plan x images) x plan.fuel) text in
     let Q : StartOrder → Type 0 = λ order. IsExplanation (RunsInOrder plan images catalog order) images catalog c.in_ok-explanation.field-0 in
-    (said catalog sound c.in-Ok-build.ensures.apart (told (subst P same checked.is) c.args.lines.now trace (subst Q c.in_ok-order.ensures c.in_ok-explanation.ensures) refl), refl)
+    (said catalog sound c.in-Ok-build.ensures.apart (runs_so (subst P same checked.is) c.args.lines.now trace (subst Q c.in_ok-order.ensures c.in_ok-explanation.ensures) refl), refl)

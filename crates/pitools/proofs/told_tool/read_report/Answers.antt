@@ -1,7 +1,7 @@
 use Rattle.std.proofs.Common.{refl, ap, length, arith}
 use Rattle.trace_reader.specs.Trace.{IsBadLine}
 use Rattle.pitools.specs.Refusals.{no_line}
-use Rattle.pitools.specs.ToldReport.{unread}
+use Rattle.pitools.specs.ToldReport.{not_read}
 use Rattle.pitools.specs.TraceReport.{said}
 use Rattle.pitools.proofs.FewLines.{few_lines}
 use Rattle.pitools.proofs.told_tool.read_report.Goals as goal
@@ -18,4 +18,4 @@ pub returns-in-Err-Bad : goal.returns-in-Err-Bad
 returns-in-Err-Bad c =
     let is = c.requires.checked in
     let bad : IsBadLine c.args.text.now c.in-Err-Bad.line = rw c.in-Err-Bad.field-0-is at c.in-Err-Bad.ensures.fault in
-    (said is.catalog is.sound is.apart (unread is.is c.in-Err-Bad.line bad refl (ap no_line c.in-Err-Bad.line-is)), refl)
+    (said is.catalog is.sound is.apart (not_read is.is c.in-Err-Bad.line bad refl (ap no_line c.in-Err-Bad.line-is)), refl)

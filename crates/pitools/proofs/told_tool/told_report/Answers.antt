@@ -3,7 +3,7 @@ use Rattle.catalog_model.specs.ImageFault.{IsImageFault}
 use Rattle.free_check.specs.Checking.{HasTwins, IsChecked}
 use Rattle.free_check.specs.declared.verdict.Verdict.TheVariants.{No}
 use Rattle.pitools.specs.Refusals.{image_line, twins_line}
-use Rattle.pitools.specs.ToldReport.{off}
+use Rattle.pitools.specs.ToldReport.{goes_wrong}
 use Rattle.pitools.specs.TraceReport.{image_refused, said, twins}
 use Rattle.pitools.proofs.told_tool.told_report.Goals as goal
 
@@ -13,7 +13,7 @@ returns-in-Ok-No c =
     let same = c.in_ok-copies.ensures ∙ c.as_slice.ensures in
     let told : IsChecked plan c.in_ok-copies.copies c.args.text.now (No c.in-Ok-No.line) = rw c.in-Ok-No.field-0-is at c.in-Ok-No.ensures in
     let is : IsChecked plan c.args.job.images c.args.text.now (No c.in-Ok-No.line) = subst (λ (x : List (List ℕ)). IsChecked plan x c.args.text.now (No c.in-Ok-No.line)) same told in
-    (said is.catalog is.sound is.apart (off c.in-Ok-No.line is.is refl refl), refl)
+    (said is.catalog is.sound is.apart (goes_wrong c.in-Ok-No.line is.is refl refl), refl)
 
 pub returns-in-Err-Image : goal.returns-in-Err-Image
 returns-in-Err-Image c =
