@@ -53,8 +53,8 @@ pub(crate) fn one_trace_report()
 
 /// The texts of a plan and of an order of starts within its limit lead to one report, where the files of the plan's volumes are told.
 pub(crate) fn one_follow_report()
-    ensures { (told : List ℕ → Option (List ℕ)) (content text : List ℕ) → length text ≤ order_limit → AreAllTold told (IsNamedIn told content)
-        → IsOne (OrderTextsOutcome told content text) }
+    ensures { (told : List ℕ → Option (List ℕ)) (content text : List ℕ) → length text ≤ order_limit
+        → AreAllTold told (IsNamedIn told content) → IsOne (OrderTextsOutcome told content text) }
 {
     boot_plan::one_reading();
     catalog_model::one_catalogue();

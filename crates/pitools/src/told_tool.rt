@@ -61,7 +61,8 @@ fn explanation(
 ) -> Result<Seq<u8>, OutOfMemory>
     requires examined { IsExamined plan.now images by.catalog.now }
     requires names { AreNames by.catalog.now (length by.catalog.now.modules) by.names.now.volumes.items }
-    ensures { IfOk result (IsExplanation (RunsInOrder plan.now images by.entry.catalog.now by.entry.order.now) images by.entry.catalog.now) }
+    ensures { IfOk result
+        (IsExplanation (RunsInOrder plan.now images by.entry.catalog.now by.entry.order.now) images by.entry.catalog.now) }
 {
     let mut text = Seq::new(alloc);
     put_catalog(alloc, &mut text, by.catalog, images.as_slice())?;
