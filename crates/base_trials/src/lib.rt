@@ -1,4 +1,4 @@
-//! What all other crates stand on, tried by itself: fields, GUIDs, lists and texts, words, sets and maps, files, sinks and memory.
+//! What all other crates stand on, tried by itself: fields, GUIDs, lists and texts, words, maps, files, sinks and memory.
 #![tactic(auto)]
 
 #[cfg(test)]
@@ -10,11 +10,7 @@ mod guid_indexes;
 #[cfg(test)]
 mod guid_maps;
 #[cfg(test)]
-mod held_text;
-#[cfg(test)]
 mod memory;
-#[cfg(test)]
-mod place_sets;
 #[cfg(test)]
 mod plan_lines;
 #[cfg(test)]

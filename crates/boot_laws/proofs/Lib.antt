@@ -56,3 +56,15 @@ mod PlanBoards
 mod RefusedCalls
 mod QueueOrder
 mod PrintedStarts
+pub mod Begun
+pub mod NumberLists
+pub mod WholeLines
+pub mod DxeWays
+pub mod DxeGrowing
+pub mod DxeRuns
+pub mod PeiWays
+pub mod PeiGrowing
+pub mod PeiRuns
+pub mod Cursors
+pub mod GroupRoots
+pub mod Starts

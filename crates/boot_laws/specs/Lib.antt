@@ -16,3 +16,10 @@ pub mod UnrequestedDrivers
 pub mod RefusedCalls
 pub mod QueueOrder
 pub mod PrintedStarts
+pub mod PeiUnderWay
+pub mod PeiFree
+pub mod PeiAim
+pub mod DxeUnderWay
+pub mod DxeFree
+pub mod DxeAim
+pub mod Naming

@@ -1,8 +1,12 @@
-//! Laws of the boot machine: what holds of every run, whatever the scripts do.
+//! Laws of the boot machine: what holds of every run, whatever the scripts do. And a choice that is handed in, with the laws of free boots: what the lines
+//! of all of them are from a machine on, and how the machine is made to choose what a boot chose.
 #![tactic(auto)]
 
 mod boards;
+mod choice;
 mod dxe;
+mod free_dxe;
+mod free_pei;
 mod guids;
 mod order;
 mod pei;
@@ -10,11 +14,19 @@ mod sound;
 mod whole_boot;
 
 pub use boards::{boards_are_sound, boots_are_licensed, boots_have_facts};
+pub use choice::{Choice, FirstEligible, Reached};
 pub use dxe::{
     companions_start_beside, discovered_order_has_each_once, driver_starts_are_printed,
     driver_steps_grow, drivers_are_few, drivers_start_licensed, drivers_start_once, dxe_runs_end,
     groups_are_small, groups_unfold, queues_keep_their_order, queues_start_in_order,
     refused_calls_change_nothing, unrequested_drivers_wait,
+};
+pub use free_dxe::{
+    dxe_chooses_by_groups, dxe_ends, dxe_goes_on, dxe_lines_grow, dxe_opens, dxe_starts_freely,
+    few_drivers_wait, groups_are_aimed, names_lead_to_root,
+};
+pub use free_pei::{
+    boot_is_free, cursor_aims, pei_ends, pei_goes_on, pei_lines_grow, pei_opens, pei_starts_freely,
 };
 pub use guids::{guids_are_there, guids_are_these, guids_change};
 pub use order::{

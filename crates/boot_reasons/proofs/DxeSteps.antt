@@ -18,7 +18,7 @@ use Rattle.catalog_model.specs.declared.catalog.Catalog.{Catalog}
 use Rattle.catalog_model.specs.declared.catalog.Part.{Part}
 use Rattle.catalog_model.specs.Parts.{part_at}
 use Rattle.catalog_model.specs.WellFormed.{IsWellFormed}
-use Rattle.dxe_choice.specs.Queue.{Discovers, IsNewQueue, Queue}
+use Rattle.dxe_dispatch.specs.Queue.{Discovers, IsNewQueue, Queue}
 use Rattle.dxe_core.specs.Standing.{DxeCore, IsCoreOf, IsFor, StandsFor}
 use Rattle.dxe_dispatch.specs.declared.answer.Step.{Step}
 use Rattle.dxe_dispatch.specs.declared.answer.Step.TheVariants.{Acted, Started}
@@ -30,10 +30,10 @@ use Rattle.dxe_dispatch.proofs.Chosen.{Any, StepLaws, nearer_by, target_at, wait
 use Rattle.dxe_dispatch.proofs.ChosenWays.{opening_queue}
 use Rattle.dxe_dispatch.proofs.Targets.{Aimed, First, IsTarget, Own}
 use Rattle.frames.specs.Frames.{top_of}
-use Rattle.free_laws.specs.declared.choice.Reached.{Reached}
-use Rattle.free_laws.specs.declared.choice.Reached.TheVariants as R
-use Rattle.free_laws.specs.DxeAim.{FirstEligibleMayStart}
-use Rattle.free_laws.specs.DxeUnderWay.{DxeHasEnded, DxeOpensUnderWay, steps_left}
+use Rattle.boot_laws.specs.declared.choice.Reached.{Reached}
+use Rattle.boot_laws.specs.declared.choice.Reached.TheVariants as R
+use Rattle.boot_laws.specs.DxeAim.{FirstEligibleMayStart}
+use Rattle.boot_laws.specs.DxeUnderWay.{DxeHasEnded, DxeOpensUnderWay, steps_left}
 use Rattle.store_model.specs.HandleState.{has_protocol, no_handles}
 use Rattle.store_model.specs.StoreState.{StoreState}
 use Rattle.boot_reasons.specs.declared.nowhere.Nowhere.{Nowhere}

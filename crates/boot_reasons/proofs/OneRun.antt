@@ -21,10 +21,10 @@ use Rattle.boot_model.specs.PeiMachine.{PeiMachine}
 use Rattle.boot_model.specs.PeiRun.{pei_opening}
 use Rattle.boot_model.specs.PeiStep.{Starts, case_of, started}
 use Rattle.boot_model.proofs.Distinct.{Distinct, all_differ}
-use Rattle.free_laws.specs.declared.choice.Reached.{Reached}
-use Rattle.free_laws.specs.declared.choice.Reached.TheVariants as R
-use Rattle.free_laws.specs.PeiAim.{CursorAims, with_cursor}
-use Rattle.free_laws.specs.PeiFree.{IsOwnCase}
+use Rattle.boot_laws.specs.declared.choice.Reached.{Reached}
+use Rattle.boot_laws.specs.declared.choice.Reached.TheVariants as R
+use Rattle.boot_laws.specs.PeiAim.{CursorAims, with_cursor}
+use Rattle.boot_laws.specs.PeiFree.{IsOwnCase}
 use Rattle.pei_dispatch.specs.Choices as P
 use Rattle.pei_dispatch.proofs.Chosen.{idle_starts, some_first}
 use Rattle.dxe_dispatch.specs.Choices as D

@@ -8,12 +8,12 @@ use Rattle.boot_model.specs.Licence.{AllDiffer}
 use Rattle.boot_model.specs.PeiChoice.{pei_order}
 use Rattle.boot_model.specs.PeiMachine.{PeiMachine}
 use Rattle.boot_model.specs.PeiRun.{pei_bound, pei_opening}
-use Rattle.free_laws.specs.declared.choice.Reached.{Reached}
-use Rattle.free_laws.specs.declared.choice.Reached.TheVariants as R
-use Rattle.free_laws.specs.PeiUnderWay.{PeiHasEnded, PeiOpensUnderWay, steps_left}
-use Rattle.pei_choice.specs.declared.queue.PeiQueue.{PeiQueue}
-use Rattle.pei_choice.specs.Queue.{AreNew, IsNewQueue, Shows, ShowsBehind, parts_in}
-use Rattle.pei_choice.specs.View.{AreAlike, View, first_view, view_of, with_volumes}
+use Rattle.boot_laws.specs.declared.choice.Reached.{Reached}
+use Rattle.boot_laws.specs.declared.choice.Reached.TheVariants as R
+use Rattle.boot_laws.specs.PeiUnderWay.{PeiHasEnded, PeiOpensUnderWay, steps_left}
+use Rattle.pei_dispatch.specs.declared.queue.PeiQueue.{PeiQueue}
+use Rattle.pei_dispatch.specs.Queue.{AreNew, IsNewQueue, Shows, ShowsBehind, parts_in}
+use Rattle.pei_dispatch.specs.View.{AreAlike, View, first_view, view_of, with_volumes}
 use Rattle.pei_core.specs.declared.pei.Pei.{Pei}
 use Rattle.pei_core.specs.Standing.{IsFor, StandsFor}
 use Rattle.pei_dispatch.specs.Turns.{IsNow}

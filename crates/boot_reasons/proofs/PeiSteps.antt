@@ -16,12 +16,12 @@ use Rattle.boot_trace.specs.Printing.{Texts}
 use Rattle.catalog_model.specs.declared.catalog.Catalog.{Catalog}
 use Rattle.catalog_model.specs.declared.catalog.Part.{Part}
 use Rattle.catalog_model.specs.Parts.{has_number, part_at}
-use Rattle.free_laws.specs.PeiAim.{CursorAims, with_cursor}
-use Rattle.free_laws.specs.PeiFree.{IsOwnCase, OwnPeiStepsAreFree}
-use Rattle.free_laws.specs.PeiUnderWay.{IsUnderWay, PeiStepsRunOut}
-use Rattle.pei_choice.specs.declared.queue.PeiQueue.{PeiQueue}
-use Rattle.pei_choice.specs.Queue.{IsQueueOf, parts_in}
-use Rattle.pei_choice.specs.View.{event_guids}
+use Rattle.boot_laws.specs.PeiAim.{CursorAims, with_cursor}
+use Rattle.boot_laws.specs.PeiFree.{IsOwnCase, OwnPeiStepsAreFree}
+use Rattle.boot_laws.specs.PeiUnderWay.{IsUnderWay, PeiStepsRunOut}
+use Rattle.pei_dispatch.specs.declared.queue.PeiQueue.{PeiQueue}
+use Rattle.pei_dispatch.specs.Queue.{IsQueueOf, parts_in}
+use Rattle.pei_dispatch.specs.View.{event_guids}
 use Rattle.pei_core.specs.declared.event.Event.{Event}
 use Rattle.pei_core.specs.declared.pei.Pei.{Pei}
 use Rattle.pei_core.specs.Standing.{StandsFor}

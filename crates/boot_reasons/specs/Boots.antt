@@ -9,7 +9,7 @@ use Rattle.boot_model.specs.PeiMachine.{PeiMachine}
 use Rattle.boot_model.specs.PeiRun.{pei_end}
 use Rattle.boot_model.specs.declared.phase_end.PeiEnd.TheVariants.{Handoff}
 use Rattle.boot_model.specs.DxeRun.{dxe_end}
-use Rattle.free_laws.specs.declared.choice.Reached.{Reached}
+use Rattle.boot_laws.specs.declared.choice.Reached.{Reached}
 use Rattle.whole_boot.specs.BootEnd.{end_of}
 use Rattle.whole_boot.specs.ByChoice.{BootBy}
 use Rattle.whole_boot.specs.Choices.{Choices}

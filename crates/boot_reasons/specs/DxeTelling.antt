@@ -9,9 +9,9 @@ use Rattle.store_model.specs.StoreState.{StoreState}
 use Rattle.boot_model.specs.declared.phase_end.DxeEnd.{DxeEnd}
 use Rattle.boot_model.specs.DxeMachine.{DxeMachine}
 use Rattle.boot_model.specs.DxeRun.{dxe_opening}
-use Rattle.free_laws.specs.declared.choice.Reached.{Reached}
-use Rattle.free_laws.specs.declared.choice.Reached.TheVariants as R
-use Rattle.dxe_choice.specs.Queue.{Queue}
+use Rattle.boot_laws.specs.declared.choice.Reached.{Reached}
+use Rattle.boot_laws.specs.declared.choice.Reached.TheVariants as R
+use Rattle.dxe_dispatch.specs.Queue.{Queue}
 use Rattle.dxe_core.specs.Standing.{DxeCore, IsCoreOf, IsFor, StandsFor}
 use Rattle.dxe_dispatch.specs.declared.answer.Step.{Step}
 use Rattle.dxe_dispatch.specs.declared.answer.Step.TheVariants.{Acted, Started}

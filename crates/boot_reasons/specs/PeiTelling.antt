@@ -11,12 +11,12 @@ use Rattle.boot_model.specs.PeiChoice.{pei_order}
 use Rattle.boot_model.specs.PeiMachine.{PeiMachine}
 use Rattle.boot_model.specs.PeiRun.{pei_opening}
 use Rattle.boot_model.specs.PeiStep.{started}
-use Rattle.free_laws.specs.declared.choice.Reached.{Reached}
-use Rattle.free_laws.specs.declared.choice.Reached.TheVariants as R
-use Rattle.free_laws.specs.PeiUnderWay.{IsUnderWay}
-use Rattle.pei_choice.specs.declared.queue.PeiQueue.{PeiQueue}
-use Rattle.pei_choice.specs.Queue.{parts_in}
-use Rattle.pei_choice.specs.View.{event_guids}
+use Rattle.boot_laws.specs.declared.choice.Reached.{Reached}
+use Rattle.boot_laws.specs.declared.choice.Reached.TheVariants as R
+use Rattle.boot_laws.specs.PeiUnderWay.{IsUnderWay}
+use Rattle.pei_dispatch.specs.declared.queue.PeiQueue.{PeiQueue}
+use Rattle.pei_dispatch.specs.Queue.{parts_in}
+use Rattle.pei_dispatch.specs.View.{event_guids}
 use Rattle.pei_core.specs.declared.event.Event.{Event}
 use Rattle.pei_core.specs.declared.pei.Pei.{Pei}
 use Rattle.pei_core.specs.Standing.{IsFor, StandsFor}

@@ -17,7 +17,7 @@ use crate::pei::{PeiExplained, explain_pei};
 use boot_model::{DxeEnd, PeiEnd, RunEnd};
 use catalog_model::Catalog;
 use explain_text::Explained;
-use free_laws::{Choice, Reached};
+use boot_laws::{Choice, Reached};
 use pei_core::Pei;
 use pi_base::{OutOfMemory, Seq};
 use std::alloc::Global;

@@ -9,8 +9,7 @@ ghost use Rattle.boot_reasons.specs.Explained.{IsExplained};
 ghost use Rattle.boot_reasons.specs.Unseen.{choices_of};
 
 use crate::nowhere::Nowhere;
-use boot_laws::{dxe_runs_end, order_is_of_modules, pei_runs_end};
-use free_laws::{Choice, cursor_aims};
+use boot_laws::{Choice, cursor_aims, dxe_runs_end, order_is_of_modules, pei_runs_end};
 
 /// A boot by a choice that names one module at most has one explanation, or is left before one start.
 pub fn one_explanation<C: Choice<Nowhere>>(choice: &C)

@@ -11,7 +11,7 @@ use crate::nowhere::Nowhere;
 use boot_plan::Plan;
 use catalog_model::Catalog;
 use explain_text::Explained;
-use free_laws::{Choice, FirstEligible, Reached};
+use boot_laws::{Choice, FirstEligible, Reached};
 use mem_store::MemStore;
 use phys_mem::Rom;
 use pi_base::{OutOfMemory, Seq};

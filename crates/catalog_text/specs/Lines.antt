@@ -15,8 +15,8 @@ use Rattle.catalog_model.specs.declared.catalog.Part.{Part}
 use Rattle.catalog_model.specs.declared.catalog.PartExpr.{PartExpr}
 use Rattle.catalog_model.specs.declared.catalog.PartExpr.TheVariants.{Absent, Malformed, Held}
 use Rattle.catalog_model.specs.declared.catalog.VolumeEntry.{VolumeEntry}
-use Rattle.module_titles.specs.Name.{title_word}
-use Rattle.module_titles.specs.Title.{IsTitle}
+use Rattle.catalog_text.specs.Name.{title_word}
+use Rattle.catalog_text.specs.Title.{IsTitle}
 use Rattle.catalog_text.specs.Gives.{given_in, gives_any}
 
 -- the first words of the lines, and the word of a phase

@@ -2,7 +2,7 @@
 use Rattle.std.specs.Prelude.{◌≡◌, ℕ, List, ◌++◌, Option}
 use Rattle.catalog_model.specs.declared.catalog.Module.{Module}
 use Rattle.catalog_model.specs.declared.catalog.VolumeEntry.{VolumeEntry}
-use Rattle.module_titles.specs.Title.{IsTitle}
+use Rattle.catalog_text.specs.Title.{IsTitle}
 use Rattle.catalog_text.specs.Lines.{IsCatalogText, module_lines}
 
 -- the lines of a module

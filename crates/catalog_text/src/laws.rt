@@ -20,5 +20,5 @@ pub fn one_catalog_text()
     ensures { (volumes : List VolumeEntry) (images : List (List ℕ)) (modules : List Module) (a b : List ℕ)
         → IsCatalogText volumes images modules a → IsCatalogText volumes images modules b → a ≡ b }
 {
-    module_titles::one_title();
+    crate::one_title();
 }

@@ -4,17 +4,17 @@ ghost use Rattle.hex.specs.Hex.{encode_lower};
 ghost use Rattle.pi_base.specs.WordText.{guid_text};
 ghost use Rattle.pi_base.specs.Field.{words_of};
 ghost use Rattle.catalog_model.specs.declared.limits.TheConstants.{MOST_MODULES};
-ghost use Rattle.module_titles.specs.Name.{title_word};
+ghost use Rattle.catalog_text.specs.Name.{title_word};
 ghost use Rattle.catalog_text.specs.Lines.{any_text, expr_keyword, expr_line, gives_line, gives_lines, gives_text, module_line, module_text, part_lines, phase_text};
 ghost use Rattle.catalog_text.specs.Putting.{AddsCatalog, AddsModule};
 
 use crate::expression::expr_text;
 use crate::gives::{given_in, gives_any};
 use crate::line::put_line;
+use crate::{put_title, title_of};
 use act_code::Script;
 use boot_trace::decimal_word;
 use catalog_model::{Catalog, Module, Part, PartExpr, VolumeEntry};
-use module_titles::{put_title, title_of};
 use pi_base::{Guid, OutOfMemory, Phase, Seq};
 use std::alloc::Global;
 

@@ -17,9 +17,9 @@ use Rattle.boot_model.specs.Licence.{AllDiffer}
 use Rattle.boot_laws.proofs.EachDriver.{has_each_once}
 use Rattle.boot_model.proofs.Distinct.{all_distinct}
 use Rattle.boot_model.proofs.ListFacts.{has_first}
-use Rattle.driver_order.specs.Order.{Drivers, IsOrderOf}
-use Rattle.dxe_choice.specs.Aim.{aimed, is_free, may_be_next}
-use Rattle.dxe_choice.specs.Queue.{AreNew, Changes, Discovers, HasProtocol, IsNewQueue, IsNext, IsQueueOf, IsSeen, Queue, Requests}
+use Rattle.dxe_action.specs.Order.{Drivers, IsOrderOf}
+use Rattle.dxe_dispatch.specs.Aim.{aimed, is_free, may_be_next}
+use Rattle.dxe_dispatch.specs.Queue.{AreNew, Changes, Discovers, HasProtocol, IsNewQueue, IsNext, IsQueueOf, IsSeen, Queue, Requests}
 
 nowhere : Range
 nowhere = record { base = 0; len = 0 }

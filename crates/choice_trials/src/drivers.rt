@@ -2,15 +2,15 @@
 ghost use Rattle.std.specs.Prelude.{◌≡◌, ◌<◌, ℕ, List, OnOk};
 ghost use Rattle.boot_model.specs.DxeMachine.{DxeMachine};
 ghost use Rattle.catalog_model.specs.WellFormed.{IsWellFormed};
-ghost use Rattle.driver_order.specs.Order.{IsOrderOf};
-ghost use Rattle.dxe_choice.specs.Queue.{IsNewQueue, IsQueueFor, IsSeen};
+ghost use Rattle.dxe_action.specs.Order.{IsOrderOf};
+ghost use Rattle.dxe_dispatch.specs.Queue.{IsNewQueue, IsQueueFor, IsSeen};
 
 use crate::catalogues::{FIRST, FOURTH, Kind, Needs, ONE, Row, SECOND, THIRD, UNNAMED, catalogue};
 use boot_model::{ARCHITECTURAL, Licence, Scheduled};
 use catalog_model::Catalog;
 use depex_code::{Opcode, Steps};
-use driver_order::DriverOrder;
-use dxe_choice::DriverQueue;
+use dxe_action::DriverOrder;
+use dxe_dispatch::DriverQueue;
 use pi_base::{Guid, OutOfMemory, Seq};
 use std::alloc::Global;
 use std::marker::Brand;

@@ -18,6 +18,8 @@ mod parts;
 #[cfg(test)]
 mod peims;
 #[cfg(test)]
+mod place_sets;
+#[cfg(test)]
 mod volumes;
 #[cfg(test)]
 mod well_formed;

@@ -1,13 +1,13 @@
 // Volumes that are discovered in one order or another, and what is found by the names of files.
 ghost use Rattle.std.specs.Prelude.{◌<◌, [], length};
 ghost use Rattle.catalog_model.specs.WellFormed.{IsWellFormed};
-ghost use Rattle.driver_order.specs.Order.{IsOrderOf};
+ghost use Rattle.dxe_action.specs.Order.{IsOrderOf};
 
 use crate::catalogues::{
     FIRST, FOURTH, Kind, NESTED, Needs, Row, SECOND, THIRD, UNNAMED, catalogue,
 };
 use catalog_model::Catalog;
-use driver_order::DriverOrder;
+use dxe_action::DriverOrder;
 use pi_base::{Guid, OutOfMemory};
 use std::alloc::Global;
 use std::process::Abort;

@@ -5,7 +5,7 @@ ghost use Rattle.catalog_model.specs.WellFormed.{IsWellFormed};
 use crate::catalogues::{FIRST, Kind, Needs, ONE, PEIMS, Row, TWO, UNNAMED, catalogue};
 use catalog_model::Catalog;
 use depex_code::Steps;
-use pei_choice::PeiQueue;
+use pei_dispatch::PeiQueue;
 use pi_base::OutOfMemory;
 use std::alloc::Global;
 use std::marker::Brand;

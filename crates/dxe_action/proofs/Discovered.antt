@@ -12,7 +12,7 @@ use Rattle.boot_model.specs.Registers.{number_in}
 use Rattle.boot_model.specs.Reporting.{newcomers}
 use Rattle.boot_model.specs.DxeMachine.{DxeMachine, DriverFrame}
 use Rattle.boot_model.specs.DxeAction.{DxeEffect, Called, own_dxe_effect, dxe_call_where, dxe_refusal, dxe_told, dxe_where, peek_reply, process_reply, process_volume, processed, with_volumes}
-use Rattle.driver_order.specs.Order.{Drivers, IsOrderOf}
+use Rattle.dxe_action.specs.Order.{Drivers, IsOrderOf}
 use Rattle.frames.specs.declared.registers.Writes.TheVariants as W
 use Rattle.frames.specs.declared.reading.Answer.{Answer}
 use Rattle.frames.specs.Peeked.{peeked, told_at, told_bytes}

@@ -6,3 +6,7 @@ mod Handling
 mod Replying
 mod Requested
 mod Taking
+mod Listed
+mod NamesMore
+mod OrderMore
+mod BasesMore

@@ -15,7 +15,7 @@ use Rattle.dxe_action.specs.declared.reply.Reply.{Reply}
 use Rattle.dxe_action.specs.Answered.{refusal}
 use Rattle.dxe_action.specs.Reply.{IsInOrder, IsReply, LeavesRest, reply_in}
 use Rattle.dxe_action.specs.Services.{Services, AreServicesOf, AreFlags}
-use Rattle.driver_order.specs.Order.{IsOrderOf}
+use Rattle.dxe_action.specs.Order.{IsOrderOf}
 
 -- the machine with other handles, notifications and requests
 abbrev pub with_others : DxeMachine → HandleState → List ProtocolNote → List ℕ → DxeMachine

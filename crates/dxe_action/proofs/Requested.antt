@@ -19,7 +19,7 @@ use Rattle.boot_model.proofs.ListFacts.{each_found, each_has}
 use Rattle.dxe_action.specs.declared.reply.Reply.{Reply}
 use Rattle.dxe_action.specs.Answered.{refusal, requests}
 use Rattle.dxe_action.specs.Reply.{IsReply}
-use Rattle.driver_order.specs.Order.{gives, name_asked, asking_of}
+use Rattle.dxe_action.specs.Order.{gives, name_asked, asking_of}
 use Rattle.dxe_action.specs.Requests.{first_down, is_down}
 use Rattle.dxe_action.specs.Services.{Services, AreServicesOf, flag_at}
 use Rattle.dxe_action.proofs.Flags.{flag_up}

@@ -2,3 +2,6 @@ pub mod Answered
 pub mod Reply
 pub mod Requests
 pub mod Services
+pub mod Lists
+pub mod Names
+pub mod Order

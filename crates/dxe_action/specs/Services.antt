@@ -6,7 +6,7 @@ use Rattle.catalog_model.specs.Parts.{has_number}
 use Rattle.store_model.specs.HandleState.{HandleState}
 use Rattle.boot_model.specs.declared.driver.ProtocolNote.{ProtocolNote}
 use Rattle.boot_model.specs.DxeMachine.{DxeMachine}
-use Rattle.driver_order.specs.Order.{Drivers, IsOrderOf}
+use Rattle.dxe_action.specs.Order.{Drivers, IsOrderOf}
 
 -- what is kept
 pub record Services : Type 0 where

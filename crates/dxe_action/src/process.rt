@@ -2,7 +2,7 @@
 ghost use Rattle.std.specs.Prelude.{◌<◌, length, ℕ, List, OnOk};
 ghost use Rattle.act_code.specs.declared.action.Action.TheVariants as A;
 ghost use Rattle.catalog_model.specs.WellFormed.{IsWellFormed};
-ghost use Rattle.driver_order.specs.Order.{IsOrderOf};
+ghost use Rattle.dxe_action.specs.Order.{IsOrderOf};
 ghost use Rattle.dxe_action.specs.Answered.{GrowByOne, ProcessesVolume, Serves};
 
 use crate::reply::Reply;

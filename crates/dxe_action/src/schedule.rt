@@ -3,7 +3,7 @@ ghost use Rattle.std.specs.Prelude.{◌≡◌, ◌<◌, length, Some, IfSome, Is
 ghost use Rattle.act_code.specs.declared.action.Action.TheVariants as A;
 ghost use Rattle.boot_model.specs.DxeMachine.{DriverFrame};
 ghost use Rattle.dxe_action.specs.Answered.{GrowByOne};
-ghost use Rattle.driver_order.specs.Order.{asking_of};
+ghost use Rattle.dxe_action.specs.Order.{asking_of};
 ghost use Rattle.dxe_action.specs.Requests.{Requests, first_down, is_down};
 ghost use Rattle.dxe_action.specs.Services.{AreServicesFor};
 

@@ -7,9 +7,9 @@ ghost use Rattle.boot_model.specs.DxeRun.{dxe_opening_of};
 ghost use Rattle.dxe_action.specs.Answered.{sweep_of};
 ghost use Rattle.dxe_action.specs.Services.{AreCounted, AreServicesFor, AreServicesOf};
 
+use crate::DriverOrder;
 use boot_model::{ProtocolNote, ProtocolSweep};
 use catalog_model::Catalog;
-use driver_order::DriverOrder;
 use dxe_handles::Handles;
 use pi_base::{Guid, OutOfMemory, Seq};
 use std::alloc::Global;

@@ -14,12 +14,12 @@ use Rattle.boot_laws.proofs.EachDriver.{has_each_once}
 use Rattle.boot_model.proofs.Distinct.{all_differ, few_below}
 use Rattle.boot_model.proofs.ListFacts.{each_more, within}
 use Rattle.boot_trace.specs.Printing.{Texts}
-use Rattle.driver_order.specs.Order.{Drivers, IsOrderOf}
-use Rattle.dxe_choice.specs.Queue.{IsQueueOf, IsSeen, Queue}
+use Rattle.dxe_action.specs.Order.{Drivers, IsOrderOf}
+use Rattle.dxe_dispatch.specs.Queue.{IsQueueOf, IsSeen, Queue}
 use Rattle.dxe_core.specs.Standing.{DxeCore}
-use Rattle.free_laws.specs.DxeAim.{FirstEligibleMayStart, GroupsAreAimed, aimed}
-use Rattle.free_laws.specs.DxeFree.{OwnDxeStepsAreFree}
-use Rattle.free_laws.specs.DxeUnderWay.{DxeStepsRunOut, IsDriverOf, IsNearerEnd, IsUnderWay}
+use Rattle.boot_laws.specs.DxeAim.{FirstEligibleMayStart, GroupsAreAimed, aimed}
+use Rattle.boot_laws.specs.DxeFree.{OwnDxeStepsAreFree}
+use Rattle.boot_laws.specs.DxeUnderWay.{DxeStepsRunOut, IsDriverOf, IsNearerEnd, IsUnderWay}
 use Rattle.dxe_dispatch.specs.declared.answer.Turn.{Turn}
 use Rattle.dxe_dispatch.specs.Choices.{Asks, IsAimedBy, IsOnWay, TurnsBy, aimed_at}
 use Rattle.dxe_dispatch.specs.Ends.{IsNow}

@@ -21,14 +21,14 @@ use Rattle.boot_model.specs.Text.{text_of}
 use Rattle.boot_model.proofs.Texts.{text_of-append}
 use Rattle.boot_trace.proofs.Lines.{part_none, part_whole}
 use Rattle.boot_laws.specs.UnrequestedDrivers.{UnrequestedDriversWait}
-use Rattle.driver_order.specs.Order.{Drivers, IsOrderOf}
-use Rattle.dxe_choice.specs.Queue.{AreNew, Discovers, HasVolumes, IsNewQueue, IsQueueOf, Queue, owed}
+use Rattle.dxe_action.specs.Order.{Drivers, IsOrderOf}
+use Rattle.dxe_dispatch.specs.Queue.{AreNew, Discovers, HasVolumes, IsNewQueue, IsQueueOf, Queue, owed}
 use Rattle.dxe_core.specs.Standing.{DxeCore, IsCoreOf, IsFor, StandsFor}
-use Rattle.free_laws.specs.DxeUnderWay.{DxeHasEnded, DxeOpensUnderWay, steps_left}
-use Rattle.free_laws.specs.declared.choice.Reached.{Reached}
-use Rattle.free_laws.specs.declared.choice.Reached.TheVariants as R
-use Rattle.free_laws.specs.DxeAim.{FirstEligibleMayStart}
-use Rattle.free_laws.specs.Naming.{HasPut}
+use Rattle.boot_laws.specs.DxeUnderWay.{DxeHasEnded, DxeOpensUnderWay, steps_left}
+use Rattle.boot_laws.specs.declared.choice.Reached.{Reached}
+use Rattle.boot_laws.specs.declared.choice.Reached.TheVariants as R
+use Rattle.boot_laws.specs.DxeAim.{FirstEligibleMayStart}
+use Rattle.boot_laws.specs.Naming.{HasPut}
 use Rattle.dxe_dispatch.specs.Choices.{BarsBy, EndsBy, EvaluatesFewBy, IsOnWay, IsRunBy, RunsBy, StopsShort, TurnsBy, came, changes_of}
 use Rattle.dxe_dispatch.specs.Ends.{IsNow}
 use Rattle.dxe_dispatch.specs.declared.answer.Step.{Step}

@@ -13,7 +13,7 @@ use Rattle.boot_model.specs.DxeStep.{dxe_step}
 use Rattle.boot_model.specs.EvaluationBound.{dxe_asked, dxe_changes, dxe_evaluations, dxe_guids}
 use Rattle.boot_model.specs.Text.{text_of}
 use Rattle.boot_trace.proofs.Lines.{part_of_longer}
-use Rattle.dxe_choice.specs.Queue.{Queue}
+use Rattle.dxe_dispatch.specs.Queue.{Queue}
 use Rattle.dxe_core.specs.Standing.{DxeCore}
 use Rattle.dxe_dispatch.specs.Choices.{EndsBy, EvaluatesFewBy, IsAimedBy, IsRunBy, StopsShort, aimed_at, came, changes_of}
 use Rattle.dxe_dispatch.specs.Ends.{HasEnded, RunsTo, StandsAtEnd}

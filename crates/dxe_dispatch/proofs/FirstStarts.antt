@@ -14,9 +14,9 @@ use Rattle.boot_model.specs.DxeStep.{DxeStarts, dxe_case_of, dxe_start_line, dxe
 use Rattle.boot_model.specs.DriverLicence.{numbers_of}
 use Rattle.boot_model.specs.FreeRun.{MaySchedule}
 use Rattle.boot_model.specs.PeiStep.{start_lines}
-use Rattle.free_laws.specs.DxeAim.{GroupsAreAimed, IsChoosing, aimed}
-use Rattle.free_laws.specs.DxeFree.{IsOwnCase}
-use Rattle.free_laws.specs.DxeUnderWay.{IsDriverOf, IsUnderWay}
+use Rattle.boot_laws.specs.DxeAim.{GroupsAreAimed, IsChoosing, aimed}
+use Rattle.boot_laws.specs.DxeFree.{IsOwnCase}
+use Rattle.boot_laws.specs.DxeUnderWay.{IsDriverOf, IsUnderWay}
 
 -- the first line of a start is the start's
 start_first : (line : Line) (blocks : List (List Action)) → (rest : List Line) × (start_lines line blocks ≡ line ∷ rest)

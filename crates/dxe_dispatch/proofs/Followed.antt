@@ -3,7 +3,7 @@ use Rattle.std.proofs.Common.{◌≡◌, ℕ, zero, suc, ◌<◌, ◌≤◌, ◌
 use Rattle.catalog_model.specs.declared.catalog.Catalog.{Catalog}
 use Rattle.boot_model.specs.DriverLicence.{target_of}
 use Rattle.boot_model.specs.DxeMachine.{DxeMachine}
-use Rattle.free_laws.specs.DxeAim.{follows}
+use Rattle.boot_laws.specs.DxeAim.{follows}
 
 -- a step on the way to the root
 pub follows_more : (catalog : Catalog) (m : DxeMachine) (n number target : ℕ) → target_of catalog m number ≡ Some target → follows catalog m (suc n) number ≡ follows catalog m n target

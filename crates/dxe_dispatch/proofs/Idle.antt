@@ -8,7 +8,7 @@ use Rattle.boot_model.specs.declared.driver.Scheduled.{Scheduled}
 use Rattle.boot_model.specs.DxeChoice.{next_driver}
 use Rattle.boot_model.specs.DxeMachine.{DxeMachine}
 use Rattle.boot_model.specs.DxeStep.{DxeStarts, DxeStops, dxe_case_in, dxe_case_of, in_dxe_case, queue_case, dxe_step, dxe_stopped, driver_started}
-use Rattle.dxe_choice.specs.Queue.{Queue, IsQueueOf, IsDriver, IsNext}
+use Rattle.dxe_dispatch.specs.Queue.{Queue, IsQueueOf, IsDriver, IsNext}
 use Rattle.dxe_core.specs.Steps.{IsIdle}
 
 pub case_starts : (catalog : Catalog) (m : DxeMachine) (next : Scheduled) (rest : List Scheduled) → IsIdle m → next_driver catalog m ≡ Some (next, rest) → dxe_case_of catalog m ≡ DxeStarts next rest

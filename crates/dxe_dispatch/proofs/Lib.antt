@@ -13,4 +13,11 @@ pub mod Standing
 pub mod Targets
 mod Told
 mod Turning
-mod Waits
+mod WaitingLines
+mod Companions
+mod Eligible
+mod Filling
+mod Machines
+mod Scheduling
+mod WaitingDrivers
+mod Walks

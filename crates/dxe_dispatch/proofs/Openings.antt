@@ -10,13 +10,13 @@ use Rattle.boot_model.specs.Discovery.{discoveries}
 use Rattle.boot_model.specs.DxeRun.{dxe_opening, dxe_opening_of}
 use Rattle.boot_model.specs.declared.phase_end.DxeEnd.{DxeEnd}
 use Rattle.boot_model.specs.DxeMachine.{DxeMachine}
-use Rattle.dxe_choice.specs.Queue.{Queue}
+use Rattle.dxe_dispatch.specs.Queue.{Queue}
 use Rattle.dxe_core.specs.Standing.{DxeCore, IsCoreOf, StandsFor}
 use Rattle.dxe_dispatch.specs.Choices.{BarsBy, BootsBy, LeavesBy, RunsBy, StopsShort, handles_of, leaves}
 use Rattle.dxe_dispatch.specs.declared.boot.Run.{Run}
 use Rattle.dxe_dispatch.specs.Ends.{IsOpened}
-use Rattle.free_laws.specs.declared.choice.Reached.{Reached}
-use Rattle.free_laws.specs.declared.choice.Reached.TheVariants as R
+use Rattle.boot_laws.specs.declared.choice.Reached.{Reached}
+use Rattle.boot_laws.specs.declared.choice.Reached.TheVariants as R
 
 -- the volumes at the bases of the store's FV HOBs have just been discovered
 pub stands_at_opening : {M : Type 0} (stands : M → StoreState → Type 0) (store : M) (catalog : Catalog) (core : DxeCore) (s : StoreState) (actions : ℕ) (bases : List ℕ) → stands store s → bases ≡ fv_bases s

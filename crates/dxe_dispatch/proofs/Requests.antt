@@ -34,8 +34,8 @@ use Rattle.boot_laws.proofs.DriverCalls.{EffectKeeps, effect_keeps}
 use Rattle.boot_laws.proofs.DxeCases.{starts_from}
 use Rattle.boot_laws.proofs.DxeOnce.{priori_numbers}
 use Rattle.boot_laws.proofs.Groups.{all_stand}
-use Rattle.free_laws.specs.DxeFree.{IsOwnCase}
-use Rattle.free_laws.specs.DxeUnderWay.{IsDriverOf, IsUnderWay}
+use Rattle.boot_laws.specs.DxeFree.{IsOwnCase}
+use Rattle.boot_laws.specs.DxeUnderWay.{IsDriverOf, IsUnderWay}
 use Rattle.boot_laws.proofs.Unrequested.{find_filtered, still_asks, alike, some_rank}
 
 -- what is said of one driver after the other

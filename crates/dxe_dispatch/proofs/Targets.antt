@@ -13,11 +13,11 @@ use Rattle.boot_model.specs.DxeMachine.{DriverFrame, DxeMachine}
 use Rattle.boot_model.specs.DxeStep.{DxeActs, DxeCase, DxeFires, DxeStarts, dxe_case_in, dxe_case_of, dxe_step, driver_started, in_dxe_case, next_note, queue_case}
 use Rattle.std.specs.Option.{option_and_then}
 use Rattle.boot_model.specs.FreeRun.{MaySchedule}
-use Rattle.dxe_choice.specs.Aim.{aimed as aimed_if, is_free, may_be_next}
+use Rattle.dxe_dispatch.specs.Aim.{aimed as aimed_if, is_free, may_be_next}
 use Rattle.dxe_core.specs.Standing.{DxeCore, IsCoreOf, StandsFor}
-use Rattle.free_laws.specs.DxeAim.{FirstEligibleMayStart, GroupsAreAimed, IsChoosing, aimed}
-use Rattle.free_laws.specs.DxeFree.{IsOwnCase}
-use Rattle.dxe_choice.specs.Queue.{Queue}
+use Rattle.boot_laws.specs.DxeAim.{FirstEligibleMayStart, GroupsAreAimed, IsChoosing, aimed}
+use Rattle.boot_laws.specs.DxeFree.{IsOwnCase}
+use Rattle.dxe_dispatch.specs.Queue.{Queue}
 use Rattle.dxe_dispatch.specs.Choices.{IsAimedBy, aimed_at, root_of}
 use Rattle.dxe_dispatch.specs.Turns.{IsLeft}
 

@@ -11,7 +11,7 @@ use Rattle.store_model.specs.HandleState.{HandleState, has_protocol}
 use Rattle.boot_model.specs.DxeMachine.{DxeMachine}
 use Rattle.boot_model.specs.EvaluationBound.{dxe_asked}
 use Rattle.dxe_action.specs.Reply.{IsInOrder}
-use Rattle.dxe_choice.specs.Queue.{HasProtocol, HasRequest, IsQueueOf, Queue, Requests}
+use Rattle.dxe_dispatch.specs.Queue.{HasProtocol, HasRequest, IsQueueOf, Queue, Requests}
 use Rattle.dxe_core.specs.declared.event.Event.{Event}
 use Rattle.dxe_dispatch.specs.Events.{HasEvent, HasHandles}
 use Rattle.dxe_dispatch.proofs.Standing.{queue_same}

@@ -16,13 +16,13 @@ use Rattle.boot_model.specs.EvaluationBound.{dxe_asked, dxe_guids}
 use Rattle.boot_model.specs.Text.{text_of}
 use Rattle.boot_laws.specs.UnrequestedDrivers.{WaitForRequest}
 use Rattle.boot_trace.specs.Printing.{Texts}
-use Rattle.free_laws.specs.DxeAim.{IsChoosing, follows}
-use Rattle.free_laws.specs.DxeUnderWay.{IsUnderWay}
-use Rattle.free_laws.specs.declared.choice.Reached.{Reached}
-use Rattle.free_laws.specs.declared.choice.Reached.TheVariants as R
-use Rattle.free_laws.specs.Naming.{HasPut, MayName}
-use Rattle.dxe_choice.specs.Aim.{aimed}
-use Rattle.dxe_choice.specs.Queue.{IsQueueOf, Queue}
+use Rattle.boot_laws.specs.DxeAim.{IsChoosing, follows}
+use Rattle.boot_laws.specs.DxeUnderWay.{IsUnderWay}
+use Rattle.boot_laws.specs.declared.choice.Reached.{Reached}
+use Rattle.boot_laws.specs.declared.choice.Reached.TheVariants as R
+use Rattle.boot_laws.specs.Naming.{HasPut, MayName}
+use Rattle.dxe_dispatch.specs.Aim.{aimed}
+use Rattle.dxe_dispatch.specs.Queue.{IsQueueOf, Queue}
 use Rattle.dxe_core.specs.Standing.{DxeCore, IsFor, StandsFor}
 use Rattle.dxe_dispatch.specs.declared.answer.Turn.{Turn}
 use Rattle.dxe_dispatch.specs.declared.boot.Barred.{Barred}

@@ -11,7 +11,7 @@ use Rattle.boot_model.specs.DxeMachine.{DxeMachine}
 use Rattle.boot_model.specs.DxeRun.{dxe_opening, dxe_bound, dxe_end}
 use Rattle.boot_model.specs.EvaluationBound.{dxe_evaluations}
 use Rattle.boot_model.specs.Text.{text_of}
-use Rattle.dxe_choice.specs.Queue.{Queue, IsQueueOf}
+use Rattle.dxe_dispatch.specs.Queue.{Queue, IsQueueOf}
 use Rattle.dxe_core.specs.Standing.{DxeCore, IsFor, StandsFor}
 
 -- the run has ended so, and all of its lines were put

@@ -9,7 +9,7 @@ use Rattle.boot_model.specs.DxeMachine.{DxeMachine}
 use Rattle.boot_model.specs.EvaluationBound.{dxe_asked}
 use Rattle.boot_laws.specs.ChangedGuids.{is_among}
 use Rattle.dxe_action.specs.Reply.{IsInOrder}
-use Rattle.dxe_choice.specs.Queue.{Queue, IsQueueOf, owed}
+use Rattle.dxe_dispatch.specs.Queue.{Queue, IsQueueOf, owed}
 use Rattle.dxe_core.specs.declared.event.Event.{Event}
 use Rattle.dxe_core.specs.Standing.{DxeCore}
 

@@ -4,3 +4,7 @@ pub mod Events
 pub mod Roots
 pub mod Turns
 pub mod Waiting
+pub mod Aim
+pub mod Index
+pub mod Queue
+pub mod Choosing

@@ -19,12 +19,12 @@ use Rattle.boot_model.specs.EvaluationBound.{dxe_asked, dxe_guids}
 use Rattle.boot_model.specs.Licence.{AllDiffer}
 use Rattle.boot_model.specs.Text.{text_of}
 use Rattle.boot_laws.specs.UnrequestedDrivers.{WaitForRequest}
-use Rattle.dxe_choice.specs.Queue.{Queue, IsQueueOf, ComesNext}
+use Rattle.dxe_dispatch.specs.Queue.{Queue, IsQueueOf, ComesNext}
 use Rattle.dxe_core.specs.Standing.{DxeCore, IsCoreOf, IsFor, StandsFor}
 use Rattle.dxe_core.specs.Steps.{IsEvent, IsIdle}
 use Rattle.dxe_core.specs.Turn.{Printed, PrintedPart}
 use Rattle.boot_trace.specs.Printing.{Texts}
-use Rattle.free_laws.specs.declared.choice.Reached.TheVariants as R
+use Rattle.boot_laws.specs.declared.choice.Reached.TheVariants as R
 use Rattle.dxe_dispatch.specs.declared.answer.Step.{Step}
 use Rattle.dxe_dispatch.specs.declared.answer.Step.TheVariants.{Acted, Started}
 use Rattle.dxe_dispatch.specs.declared.answer.Turn.{Turn}

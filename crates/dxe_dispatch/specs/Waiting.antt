@@ -11,7 +11,7 @@ use Rattle.boot_model.specs.DxeMachine.{DxeMachine}
 use Rattle.boot_model.specs.DxeStep.{driver_waiting_line}
 use Rattle.boot_model.specs.Text.{text_of}
 use Rattle.dxe_action.specs.Services.{AreFlags}
-use Rattle.dxe_choice.specs.Queue.{Queue, IsQueueOf}
+use Rattle.dxe_dispatch.specs.Queue.{Queue, IsQueueOf}
 
 -- the line of a driver, if it waits
 abbrev pub line_where : Bool → Line → List Line

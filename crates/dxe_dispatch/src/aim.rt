@@ -3,16 +3,16 @@ ghost use Rattle.std.specs.Prelude.{◌≡◌, ◌↔◌, ◌≤◌, ◌+◌, []
 ghost use Rattle.boot_model.specs.DxeMachine.{DxeMachine};
 ghost use Rattle.catalog_model.specs.declared.catalog.Catalog.{Catalog as OfCatalog};
 ghost use Rattle.catalog_model.specs.WellFormed.{IsWellFormed};
-ghost use Rattle.dxe_choice.specs.Queue.{IsQueueFor, owed};
+ghost use Rattle.dxe_dispatch.specs.Queue.{IsQueueFor, owed};
 ghost use Rattle.dxe_dispatch.specs.Choices.{Aims, Asks};
 ghost use Rattle.dxe_dispatch.specs.Turns.{AreOf};
 
+use crate::DriverQueue;
 use crate::root::root_of;
+use boot_laws::Choice;
 use catalog_model::Catalog;
 use depex_code::Steps;
-use dxe_choice::DriverQueue;
 use dxe_core::Dxe;
-use free_laws::Choice;
 use pi_base::OutOfMemory;
 use std::sync::ledger::Ledger;
 

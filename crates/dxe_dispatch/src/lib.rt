@@ -1,21 +1,29 @@
-//! DXE from its opening to its end (PI 1.8, volume 2, "DXE Dispatcher"): the core's steps, and where it has none left the next driver, or the stop. A choice that is handed in may name the driver, and may bar one.
+//! DXE from its opening to its end (PI 1.8, volume 2, "DXE Dispatcher"): the core's steps, and where it has none left the next driver, or the stop. A choice
+//! that is handed in may name the driver, and may bar one. Which driver is next a queue says: the head of those that are scheduled, or the first of the
+//! group of the first eligible driver in discovered order, which the index of the waiting drivers tells.
 //!
-//! Tried in `boot_trials`: `tests`.
+//! Tried in `boot_trials`: `tests`, and in `choice_trials`: `drivers`.
 #![tactic(auto)]
 
 mod aim;
 mod answer;
 mod boot;
 mod choose;
+mod group;
+mod index;
+mod licence;
+mod queue;
 mod root;
 mod run;
 mod stop;
 mod tell;
 mod turns;
 mod waiting;
+mod waits;
 
 pub use answer::{Step, Turn};
 pub use boot::{Barred, Ended, Left, boot_dxe, dxe_at_opening};
+pub use queue::DriverQueue;
 pub use root::target_of;
 pub use run::{bound, run_dxe, run_first};
 pub use turns::turn_by;

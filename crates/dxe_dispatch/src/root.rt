@@ -2,13 +2,13 @@
 ghost use Rattle.std.specs.Prelude.{◌≡◌, length};
 ghost use Rattle.boot_model.specs.DriverLicence as Of;
 ghost use Rattle.boot_model.specs.DxeMachine.{DxeMachine};
-ghost use Rattle.driver_order.specs.Order.{IsOrderOf};
+ghost use Rattle.dxe_action.specs.Order.{IsOrderOf};
 ghost use Rattle.dxe_dispatch.specs.Roots.{given_by};
-ghost use Rattle.free_laws.specs.DxeAim.{follows};
+ghost use Rattle.boot_laws.specs.DxeAim.{follows};
 
 use catalog_model::{Catalog, PartExpr};
 use depex_code::Depex;
-use driver_order::DriverOrder;
+use dxe_action::DriverOrder;
 use frames::part_of;
 use pi_base::{Guid, Phase};
 

@@ -4,23 +4,23 @@ ghost use Rattle.boot_io.specs.Halted.{HaltsAfter};
 ghost use Rattle.boot_model.specs.DxeRun.{dxe_bound};
 ghost use Rattle.catalog_model.specs.WellFormed.{IsWellFormed};
 ghost use Rattle.catalog_model.specs.declared.limits.TheConstants.{MOST_MODULES};
-ghost use Rattle.dxe_choice.specs.Queue.{IsNewQueue, IsQueueFor};
+ghost use Rattle.dxe_dispatch.specs.Queue.{IsNewQueue, IsQueueFor};
 ghost use Rattle.dxe_core.specs.Standing.{IsFor};
 ghost use Rattle.dxe_dispatch.specs.Choices.{EvaluatesFewByChoice, RunsByChoice};
 ghost use Rattle.dxe_dispatch.specs.Ends.{EvaluatesFew, IsAtOpening, Runs};
 
+use crate::DriverQueue;
 use crate::answer::Turn;
 use crate::turns::turn_by;
 use boot_io::{Halt, Sink};
-use boot_laws::{discovered_order_has_each_once, dxe_runs_end, unrequested_drivers_wait};
+use boot_laws::{
+    Choice, FirstEligible, Reached, discovered_order_has_each_once, dxe_chooses_by_groups,
+    dxe_goes_on, dxe_opens, dxe_runs_end, groups_are_aimed, unrequested_drivers_wait,
+};
 use boot_model::{DxeEnd, MOST_FRAMES};
 use catalog_model::Catalog;
 use depex_code::Steps;
-use dxe_choice::DriverQueue;
 use dxe_core::{Dxe, put_volumes};
-use free_laws::{
-    Choice, FirstEligible, Reached, dxe_chooses_by_groups, dxe_goes_on, dxe_opens, groups_are_aimed,
-};
 use std::sync::ledger::Ledger;
 use store_model::PeiStore;
 

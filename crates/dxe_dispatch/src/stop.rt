@@ -2,12 +2,12 @@
 ghost use Rattle.boot_io.specs.Sink.{SinkFaultsAfter};
 ghost use Rattle.dxe_dispatch.specs.Turns.{PutsStop};
 
+use crate::DriverQueue;
 use crate::waiting::put_all_waiting;
 use boot_io::{Sink, SinkFault};
 use boot_model::Line;
 use boot_trace::put;
 use catalog_model::Catalog;
-use dxe_choice::DriverQueue;
 use dxe_core::Dxe;
 
 /// The lines of the stop: a line for each driver that waits, in discovered order.

@@ -1,10 +1,10 @@
 // What an event did is told to the queue.
 ghost use Rattle.catalog_model.specs.declared.catalog.Catalog.{Catalog as OfCatalog};
-ghost use Rattle.dxe_choice.specs.Queue.{IsQueueFor};
+ghost use Rattle.dxe_dispatch.specs.Queue.{IsQueueFor};
 ghost use Rattle.dxe_dispatch.specs.Events.{Owes, Tells, TellsChange};
 
+use crate::DriverQueue;
 use depex_code::GuidSet;
-use dxe_choice::DriverQueue;
 use dxe_core::{Dxe, Event};
 use pi_base::Guid;
 

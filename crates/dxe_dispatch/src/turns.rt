@@ -3,24 +3,24 @@ ghost use Rattle.std.specs.Prelude.{◌≡◌, ◌≢◌, ◌≤◌, ◌<◌, �
 ghost use Rattle.boot_io.specs.Halted.{HaltsAfter};
 ghost use Rattle.boot_model.specs.DxeMachine.{DxeMachine};
 ghost use Rattle.catalog_model.specs.WellFormed.{IsWellFormed};
-ghost use Rattle.dxe_choice.specs.Queue.{IsQueueFor, owed};
+ghost use Rattle.dxe_dispatch.specs.Queue.{IsQueueFor, owed};
 ghost use Rattle.dxe_core.specs.Standing.{IsFor};
 ghost use Rattle.dxe_core.specs.Steps.{IsIdle};
 ghost use Rattle.dxe_dispatch.specs.Choices.{IsOnWay, TurnsByChoice};
 ghost use Rattle.dxe_dispatch.specs.Turns.{AreOf, IsReady, OwesBehind, Turns, TurnsIdle};
 
+use crate::DriverQueue;
 use crate::aim::{aim, named};
 use crate::answer::{Step, Turn};
 use crate::choose::choose;
 use crate::stop::put_stop;
 use crate::tell::tell;
 use boot_io::{Halt, Sink};
+use boot_laws::{Choice, Reached, dxe_chooses_by_groups, dxe_goes_on, dxe_opens, groups_are_aimed};
 use boot_model::DxeEnd;
 use catalog_model::Catalog;
 use depex_code::Steps;
-use dxe_choice::DriverQueue;
 use dxe_core::{Dxe, Stepped};
-use free_laws::{Choice, Reached, dxe_chooses_by_groups, dxe_goes_on, dxe_opens, groups_are_aimed};
 use std::sync::ledger::Ledger;
 use store_model::PeiStore;
 

@@ -8,13 +8,13 @@ ghost use Rattle.boot_model.specs.DxeStep as D;
 ghost use Rattle.catalog_model.specs.declared.catalog.PartExpr.TheVariants.{Held};
 ghost use Rattle.dxe_dispatch.specs.Waiting.{PutsWaiting, PutsAllWaiting};
 
+use crate::DriverQueue;
 use boot_io::{Sink, SinkFault};
 use boot_model::{Line, Reason};
 use boot_trace::put;
 use catalog_model::{Catalog, Part, PartExpr};
 use depex_code::Depex;
 use dxe_action::is_requested;
-use dxe_choice::DriverQueue;
 use frames::{name_of, part_of, volume_of};
 use pi_base::Phase;
 

@@ -17,13 +17,13 @@ use Rattle.boot_model.specs.PeiChoice.{next_peim, pei_order}
 use Rattle.boot_model.specs.PeiMachine.{PeiMachine}
 use Rattle.boot_model.specs.PeiStep.{start_lines, started, started_part}
 use Rattle.boot_model.specs.Text.{line_text, text_of}
-use Rattle.free_laws.specs.PeiAim.{IsAimable, with_cursor}
-use Rattle.free_laws.specs.PeiFree.{AreLinesBehind, AreLinesOfStart}
-use Rattle.free_laws.specs.PeiUnderWay.{IsUnderWay}
-use Rattle.free_text.specs.declared.spelled.Spelled.{Spelled}
-use Rattle.free_text.specs.Putting.{PartsByLine}
-use Rattle.free_text.specs.Spelled.{IsHeld, IsRight, left}
-use Rattle.free_text.proofs.Telling.{held_left}
+use Rattle.boot_laws.specs.PeiAim.{IsAimable, with_cursor}
+use Rattle.boot_laws.specs.PeiFree.{AreLinesBehind, AreLinesOfStart}
+use Rattle.boot_laws.specs.PeiUnderWay.{IsUnderWay}
+use Rattle.free_check.specs.declared.spelled.Spelled.{Spelled}
+use Rattle.free_check.specs.Putting.{PartsByLine}
+use Rattle.free_check.specs.Spelled.{IsHeld, IsRight, left}
+use Rattle.free_check.proofs.Telling.{held_left}
 use Rattle.trace_reader.proofs.LineBodies.{body_lacks}
 use Rattle.module_names.specs.Named.{AreGuids, AreNames}
 use Rattle.pei_dispatch.specs.Choices.{IsPlaceFor}

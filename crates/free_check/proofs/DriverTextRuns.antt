@@ -17,16 +17,16 @@ use Rattle.boot_model.specs.FreeRun.{AreFreeDxeLines}
 use Rattle.boot_model.specs.PeiMachine.{PeiMachine}
 use Rattle.boot_model.specs.Text.{text_of}
 use Rattle.boot_model.proofs.Texts.{text_of-append}
-use Rattle.free_laws.specs.DxeAim.{AimIsFree, DxeStartsFreely, NamesLeadToRoot}
-use Rattle.free_laws.specs.DxeFree.{DxeEndsFreely, DxeGoesOn, DxeLinesGrow}
-use Rattle.free_laws.specs.DxeUnderWay.{DxeOpensUnderWay, FewDriversWait, IsUnderWay}
-use Rattle.free_laws.specs.Naming.{HasPut}
-use Rattle.free_text.specs.declared.spelled.Spelled.{Spelled}
-use Rattle.free_text.specs.Following.{Tracks}
-use Rattle.free_text.specs.Putting.{HasParted, IsOffHere, PutsGoOn, PutsPart}
-use Rattle.free_text.specs.Spelled.{IsHeld, IsRight, faults_of, left, met, spoken, told, whole}
-use Rattle.free_text.proofs.Fronts.{prefix_then, shorter_front}
-use Rattle.free_text.proofs.Telling.{held_on, met_begins, off, tracks_on}
+use Rattle.boot_laws.specs.DxeAim.{AimIsFree, DxeStartsFreely, NamesLeadToRoot}
+use Rattle.boot_laws.specs.DxeFree.{DxeEndsFreely, DxeGoesOn, DxeLinesGrow}
+use Rattle.boot_laws.specs.DxeUnderWay.{DxeOpensUnderWay, FewDriversWait, IsUnderWay}
+use Rattle.boot_laws.specs.Naming.{HasPut}
+use Rattle.free_check.specs.declared.spelled.Spelled.{Spelled}
+use Rattle.free_check.specs.Fronts.{Tracks}
+use Rattle.free_check.specs.Putting.{HasParted, IsOffHere, PutsGoOn, PutsPart}
+use Rattle.free_check.specs.Spelled.{IsHeld, IsRight, faults_of, left, met, spoken, told, whole}
+use Rattle.free_check.proofs.Fronts.{prefix_then, shorter_front}
+use Rattle.free_check.proofs.Telling.{held_on, met_begins, off, tracks_on}
 use Rattle.module_names.specs.Named.{AreGuids, AreNames}
 use Rattle.pei_dispatch.specs.Ends.{pei_starts}
 use Rattle.dxe_dispatch.specs.Choices.{IsAimedBy, IsRunBy, LetsDrivers, came}

@@ -13,7 +13,7 @@ use Rattle.catalog_model.specs.WellFormed.{IsWellFormed}
 use Rattle.boot_model.specs.declared.licence.Licence.{Licence}
 use Rattle.boot_model.specs.Eligible.{is_eligible, may_start, may_start_again}
 use Rattle.boot_model.specs.PeiMachine.{PeiMachine}
-use Rattle.free_laws.specs.PeiUnderWay.{IsUnderWay}
+use Rattle.boot_laws.specs.PeiUnderWay.{IsUnderWay}
 use Rattle.printed_words.specs.Words.{IsGuid}
 use Rattle.trace_reader.specs.Readable.{IsReadable}
 use Rattle.module_names.specs.Named.{IsNamed}

@@ -7,10 +7,10 @@ use Rattle.std.proofs.lemmas.List.{append-nil, length-append}
 use Rattle.boot_io.specs.Faults.{IsPrefix}
 use Rattle.boot_model.specs.declared.line.Line.{Line}
 use Rattle.boot_model.specs.Text.{text_of}
-use Rattle.free_text.proofs.Fronts.{prefix_then, shorter_front}
-use Rattle.free_text.specs.Following.{EndsLine, IsOff}
-use Rattle.free_text.specs.Lines.{front_lines, feeds_in, is_feed}
-use Rattle.free_text.specs.declared.spelled.Spelled.{Spelled}
+use Rattle.free_check.proofs.Fronts.{prefix_then, shorter_front}
+use Rattle.free_check.specs.Fronts.{EndsLine, IsOff}
+use Rattle.free_check.specs.Lines.{front_lines, feeds_in, is_feed}
+use Rattle.free_check.specs.declared.spelled.Spelled.{Spelled}
 use Rattle.free_check.specs.Following.{IsWhole}
 use Rattle.free_check.specs.Verdict.{BeginsBoot, IsFirstOff}
 

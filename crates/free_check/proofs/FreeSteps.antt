@@ -14,12 +14,12 @@ use Rattle.boot_model.specs.Text.{line_text, text_of}
 use Rattle.boot_model.proofs.Texts.{text_of-append}
 use Rattle.std.proofs.lemmas.Bool.Decides.{nat_tests}
 use Rattle.boot_laws.proofs.PartLists.{is_equal}
-use Rattle.free_laws.specs.DxeAim.{AimIsFree, DxeStartsFreely, FirstEligibleMayStart, GroupsAreAimed, IsChoosing, aimed}
-use Rattle.free_laws.specs.DxeFree.{DxeGoesOn, DxeLinesGrow, IsOwnCase}
-use Rattle.free_laws.specs.DxeUnderWay.{IsUnderWay}
-use Rattle.free_text.specs.Following.{Tracks}
-use Rattle.free_text.specs.Putting.{AllPrint, PartsByLine}
-use Rattle.free_text.proofs.Fronts.{has_line, prefix_then, same_behind}
+use Rattle.boot_laws.specs.DxeAim.{AimIsFree, DxeStartsFreely, FirstEligibleMayStart, GroupsAreAimed, IsChoosing, aimed}
+use Rattle.boot_laws.specs.DxeFree.{DxeGoesOn, DxeLinesGrow, IsOwnCase}
+use Rattle.boot_laws.specs.DxeUnderWay.{IsUnderWay}
+use Rattle.free_check.specs.Fronts.{Tracks}
+use Rattle.free_check.specs.Putting.{AllPrint, PartsByLine}
+use Rattle.free_check.proofs.Fronts.{has_line, prefix_then, same_behind}
 use Rattle.trace_reader.specs.Readable.{IsReadable}
 use Rattle.trace_reader.proofs.LineBodies.{body_lacks}
 use Rattle.dxe_dispatch.proofs.FirstStarts.{StartsFirst, aimed_owns, starts_first}

@@ -9,10 +9,10 @@ use Rattle.boot_model.specs.FreeRun.{AreFreePeiLines}
 use Rattle.boot_model.specs.PeiMachine.{PeiMachine}
 use Rattle.boot_model.specs.PeiStep.{case_of, pei_step}
 use Rattle.boot_model.specs.Text.{text_of}
-use Rattle.free_laws.specs.PeiFree.{AreLinesBehind, IsOwnCase, OwnPeiStepsAreFree, PeiEndsFreely, PeiGoesOn, PeiLinesGrow}
-use Rattle.free_text.specs.Following.{EndsLine}
-use Rattle.free_text.specs.Putting.{PartsByLine, PutsGoOn, PutsPart}
-use Rattle.free_text.proofs.Telling.{not_parted}
+use Rattle.boot_laws.specs.PeiFree.{AreLinesBehind, IsOwnCase, OwnPeiStepsAreFree, PeiEndsFreely, PeiGoesOn, PeiLinesGrow}
+use Rattle.free_check.specs.Fronts.{EndsLine}
+use Rattle.free_check.specs.Putting.{PartsByLine, PutsGoOn, PutsPart}
+use Rattle.free_check.proofs.Telling.{not_parted}
 use Rattle.free_check.proofs.Lines.{begins_with, ends_after, lines_end}
 
 -- a sink that failed once is not right

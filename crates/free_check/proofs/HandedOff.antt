@@ -17,14 +17,14 @@ use Rattle.boot_model.specs.declared.line.RunEnd.{RunEnd}
 use Rattle.boot_model.specs.declared.phase_end.DxeEnd.{DxeEnd}
 use Rattle.boot_model.specs.declared.phase_end.PeiEnd.{PeiEnd}
 use Rattle.boot_model.proofs.Texts.{text_of-append}
-use Rattle.free_laws.specs.DxeFree.{DxeEndsSo, DxeLinesGrow}
-use Rattle.free_laws.specs.PeiFree.{PeiEndsSo}
-use Rattle.free_text.specs.declared.spelled.Spelled.{Spelled}
-use Rattle.free_text.specs.Following.{EndsLine, IsOff, Tracks}
-use Rattle.free_text.specs.Putting.{IsOffHere}
-use Rattle.free_text.specs.Spelled.{met}
-use Rattle.free_text.proofs.Fronts.{prefix_then, shorter_front}
-use Rattle.free_text.proofs.Telling.{met_begins}
+use Rattle.boot_laws.specs.DxeFree.{DxeEndsSo, DxeLinesGrow}
+use Rattle.boot_laws.specs.PeiFree.{PeiEndsSo}
+use Rattle.free_check.specs.declared.spelled.Spelled.{Spelled}
+use Rattle.free_check.specs.Fronts.{EndsLine, IsOff, Tracks}
+use Rattle.free_check.specs.Putting.{IsOffHere}
+use Rattle.free_check.specs.Spelled.{met}
+use Rattle.free_check.proofs.Fronts.{prefix_then, shorter_front}
+use Rattle.free_check.proofs.Telling.{met_begins}
 use Rattle.free_check.proofs.Lines.{lines_end}
 use Rattle.free_check.specs.DxeFollowed.{printed_by}
 use Rattle.free_check.specs.Following.{IsLast}

@@ -5,12 +5,12 @@ use Rattle.boot_io.specs.Faults.{IsPrefix}
 use Rattle.boot_io.specs.Sink.{AppendsPart}
 use Rattle.boot_model.specs.declared.line.Line.{Line}
 use Rattle.boot_model.specs.Text.{text_of}
-use Rattle.free_text.specs.declared.spelled.Spelled.{Spelled}
-use Rattle.free_text.specs.Following.{Tracks}
-use Rattle.free_text.specs.Putting.{AllPrint, IsOffHere}
-use Rattle.free_text.specs.Spelled.{IsHeld, IsRight, met, spoken}
-use Rattle.free_text.proofs.Fronts.{prefix_then}
-use Rattle.free_text.proofs.Telling.{failed, off}
+use Rattle.free_check.specs.declared.spelled.Spelled.{Spelled}
+use Rattle.free_check.specs.Fronts.{Tracks}
+use Rattle.free_check.specs.Putting.{AllPrint, IsOffHere}
+use Rattle.free_check.specs.Spelled.{IsHeld, IsRight, met, spoken}
+use Rattle.free_check.proofs.Fronts.{prefix_then}
+use Rattle.free_check.proofs.Telling.{failed, off}
 use Rattle.free_check.specs.Following.{IsLast, IsWhole}
 
 -- the whole boot was met

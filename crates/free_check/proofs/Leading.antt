@@ -14,10 +14,10 @@ use Rattle.boot_model.specs.DxeChoice.{companion_group, driver_licence, group_sc
 use Rattle.boot_model.specs.DxeMachine.{DxeMachine}
 use Rattle.boot_model.specs.FreeRun.{MaySchedule}
 use Rattle.boot_model.proofs.ListFacts.{within}
-use Rattle.free_laws.specs.DxeAim.{GroupsAreAimed, IsChoosing, NamesLeadToRoot, follows}
-use Rattle.free_laws.specs.DxeUnderWay.{FewDriversWait, IsDriverOf, IsUnderWay}
-use Rattle.free_text.specs.declared.spelled.Spelled.{Spelled}
-use Rattle.free_text.specs.Spelled.{IsRight, left}
+use Rattle.boot_laws.specs.DxeAim.{GroupsAreAimed, IsChoosing, NamesLeadToRoot, follows}
+use Rattle.boot_laws.specs.DxeUnderWay.{FewDriversWait, IsDriverOf, IsUnderWay}
+use Rattle.free_check.specs.declared.spelled.Spelled.{Spelled}
+use Rattle.free_check.specs.Spelled.{IsRight, left}
 use Rattle.module_names.specs.Named.{AreGuids, AreNames}
 use Rattle.printed_words.specs.Words.{IsGuid}
 use Rattle.dxe_dispatch.specs.Choices.{root_of}

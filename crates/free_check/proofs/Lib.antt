@@ -11,3 +11,7 @@ mod Lines
 mod Reading
 mod TextRuns
 mod WholeTexts
+pub mod Fronts
+mod Pieces
+mod Places
+pub mod Telling

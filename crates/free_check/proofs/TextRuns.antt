@@ -16,16 +16,16 @@ use Rattle.boot_model.specs.PeiRun.{pei_opening}
 use Rattle.boot_model.specs.PeiStep.{pei_step, started}
 use Rattle.boot_model.specs.Text.{text_of}
 use Rattle.boot_model.proofs.Texts.{text_of-append}
-use Rattle.free_laws.specs.Naming.{HasPut}
-use Rattle.free_laws.specs.PeiAim.{CursorAims}
-use Rattle.free_laws.specs.PeiFree.{AreLinesBehind, PeiStartsFreely}
-use Rattle.free_laws.specs.PeiUnderWay.{IsUnderWay, PeiOpensUnderWay, PeiStepsRunOut}
-use Rattle.free_text.specs.declared.spelled.Spelled.{Spelled}
-use Rattle.free_text.specs.Following.{Tracks}
-use Rattle.free_text.specs.Putting.{AllPrint, HasParted, IsOffHere, PartsByLine}
-use Rattle.free_text.specs.Spelled.{IsHeld, IsRight, faults_of, met, spoken, told, whole}
-use Rattle.free_text.proofs.Fronts.{prefix_then, shorter_front}
-use Rattle.free_text.proofs.Telling.{held_on, met_begins, off, tracks_on}
+use Rattle.boot_laws.specs.Naming.{HasPut}
+use Rattle.boot_laws.specs.PeiAim.{CursorAims}
+use Rattle.boot_laws.specs.PeiFree.{AreLinesBehind, PeiStartsFreely}
+use Rattle.boot_laws.specs.PeiUnderWay.{IsUnderWay, PeiOpensUnderWay, PeiStepsRunOut}
+use Rattle.free_check.specs.declared.spelled.Spelled.{Spelled}
+use Rattle.free_check.specs.Fronts.{Tracks}
+use Rattle.free_check.specs.Putting.{AllPrint, HasParted, IsOffHere, PartsByLine}
+use Rattle.free_check.specs.Spelled.{IsHeld, IsRight, faults_of, met, spoken, told, whole}
+use Rattle.free_check.proofs.Fronts.{prefix_then, shorter_front}
+use Rattle.free_check.proofs.Telling.{held_on, met_begins, off, tracks_on}
 use Rattle.module_names.specs.Named.{AreGuids, AreNames}
 use Rattle.pei_dispatch.specs.Choices.{LetsPeims, NamesPeims, IsRunBy, IsStepBy}
 use Rattle.pei_dispatch.proofs.Chosen.{idle_starts, some_first, step_is_free}

@@ -20,19 +20,19 @@ use Rattle.boot_model.specs.PeiMachine.{PeiMachine}
 use Rattle.boot_model.specs.PeiRun.{pei_opening}
 use Rattle.boot_model.specs.Text.{text_of}
 use Rattle.boot_model.proofs.Texts.{text_of-append}
-use Rattle.free_laws.specs.DxeAim.{AimIsFree, DxeStartsFreely, NamesLeadToRoot}
-use Rattle.free_laws.specs.DxeFree.{DxeEndsFreely, DxeEndsSo, DxeGoesOn, DxeLinesGrow}
-use Rattle.free_laws.specs.DxeUnderWay.{DxeOpensUnderWay, FewDriversWait}
-use Rattle.free_laws.specs.PeiFree.{PeiEndsSo}
-use Rattle.free_laws.specs.Naming.{HasPut}
-use Rattle.free_text.specs.Parted.{parted_by}
-use Rattle.free_text.specs.declared.parted.Parted.{Parted}
-use Rattle.free_text.specs.declared.spelled.Spelled.{Spelled}
-use Rattle.free_text.specs.Following.{Tracks}
-use Rattle.free_text.specs.Putting.{HasParted, IsOffHere}
-use Rattle.free_text.specs.Spelled.{IsHeld, IsRight, faults_of, whole}
-use Rattle.free_text.proofs.Fronts.{prefix_then}
-use Rattle.free_text.proofs.Telling.{held_begins, held_on}
+use Rattle.boot_laws.specs.DxeAim.{AimIsFree, DxeStartsFreely, NamesLeadToRoot}
+use Rattle.boot_laws.specs.DxeFree.{DxeEndsFreely, DxeEndsSo, DxeGoesOn, DxeLinesGrow}
+use Rattle.boot_laws.specs.DxeUnderWay.{DxeOpensUnderWay, FewDriversWait}
+use Rattle.boot_laws.specs.PeiFree.{PeiEndsSo}
+use Rattle.boot_laws.specs.Naming.{HasPut}
+use Rattle.free_check.specs.Parted.{parted_by}
+use Rattle.free_check.specs.declared.parted.Parted.{Parted}
+use Rattle.free_check.specs.declared.spelled.Spelled.{Spelled}
+use Rattle.free_check.specs.Fronts.{Tracks}
+use Rattle.free_check.specs.Putting.{HasParted, IsOffHere}
+use Rattle.free_check.specs.Spelled.{IsHeld, IsRight, faults_of, whole}
+use Rattle.free_check.proofs.Fronts.{prefix_then}
+use Rattle.free_check.proofs.Telling.{held_begins, held_on}
 use Rattle.pei_dispatch.specs.Choices.{ComesTo}
 use Rattle.dxe_dispatch.proofs.Chosen.{StepLaws}
 use Rattle.whole_boot.specs.declared.boot.Booted.{Booted}

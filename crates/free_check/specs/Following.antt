@@ -8,12 +8,12 @@ use Rattle.boot_io.specs.Faults.{IsPrefix}
 use Rattle.boot_io.specs.declared.halt.Halt.{Halt}
 use Rattle.boot_model.specs.declared.line.Line.{Line}
 use Rattle.boot_model.specs.Text.{text_of}
-use Rattle.free_text.specs.Parted.{parted_by}
-use Rattle.free_text.specs.declared.parted.Parted.{Parted}
-use Rattle.free_text.specs.declared.parted.Parted.TheVariants.{Off, Memory}
-use Rattle.free_text.specs.declared.spelled.Spelled.{Spelled}
-use Rattle.free_text.specs.Putting.{IsOffHere}
-use Rattle.free_text.specs.Spelled.{IsHeld, met, whole}
+use Rattle.free_check.specs.Parted.{parted_by}
+use Rattle.free_check.specs.declared.parted.Parted.{Parted}
+use Rattle.free_check.specs.declared.parted.Parted.TheVariants.{Off, Memory}
+use Rattle.free_check.specs.declared.spelled.Spelled.{Spelled}
+use Rattle.free_check.specs.Putting.{IsOffHere}
+use Rattle.free_check.specs.Spelled.{IsHeld, met, whole}
 
 -- what was met is the whole text of a boot, and the boots whose text begins with it are of that text
 pub record IsWhole (Lines : List Line → Type 0) (text printed : List ℕ) (s : Spelled) : Type 0 where

@@ -5,3 +5,9 @@ pub mod StartLine
 pub mod Starting
 pub mod Verdict
 pub mod Checking
+pub mod Agreement
+pub mod Fronts
+pub mod Lines
+pub mod Parted
+pub mod Putting
+pub mod Spelled

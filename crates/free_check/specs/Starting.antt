@@ -10,8 +10,8 @@ use Rattle.catalog_model.specs.Parts.{has_number, module_name, module_volume}
 use Rattle.boot_model.specs.declared.licence.Licence.{Licence}
 use Rattle.boot_model.specs.declared.line.Line.{Line}
 use Rattle.boot_model.specs.Text.{line_text}
-use Rattle.free_text.specs.declared.spelled.Spelled.{Spelled}
-use Rattle.free_text.specs.Spelled.{IsRight, left}
+use Rattle.free_check.specs.declared.spelled.Spelled.{Spelled}
+use Rattle.free_check.specs.Spelled.{IsRight, left}
 use Rattle.module_names.specs.Named.{AreNames, IsNamed}
 use Rattle.trace_reader.specs.Readable.{IsReadable}
 use Rattle.free_check.specs.StartLine.{phase_start}

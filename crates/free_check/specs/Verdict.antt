@@ -4,7 +4,7 @@ use Rattle.std.specs.Prelude.{◌≡◌, ◌≤◌, ◌<◌, ℕ, List, Some}
 use Rattle.boot_io.specs.Faults.{IsPrefix}
 use Rattle.boot_model.specs.declared.line.Line.{Line}
 use Rattle.boot_model.specs.Text.{text_of}
-use Rattle.free_text.specs.Lines.{front_lines}
+use Rattle.free_check.specs.Lines.{front_lines}
 use Rattle.free_check.specs.declared.verdict.Verdict.{Verdict}
 use Rattle.free_check.specs.declared.verdict.Verdict.TheVariants.{Yes, No}
 

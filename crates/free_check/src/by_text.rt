@@ -1,9 +1,9 @@
 //! The choice that a text has: the module that starts next is the one of which the text's next line says so, and each is let.
 ghost use Rattle.free_check.specs.Starting.{NamesNext};
 
+use crate::Spelled;
 use crate::text_start::next_start;
-use free_laws::Choice;
-use free_text::Spelled;
+use boot_laws::Choice;
 use module_names::Names;
 use pi_base::Phase;
 

@@ -9,12 +9,12 @@ ghost use Rattle.module_names.specs.Named.{AreNames, HasNoTwins};
 ghost use Rattle.free_check.specs.Checking.{Checks, ChecksCatalog, IsFaultTold};
 ghost use Rattle.free_check.specs.Verdict.{IsVerdict};
 
+use crate::Spelled;
 use crate::following::follow_boot;
 use crate::verdict::{Verdict, verdict_of};
 use boot_laws::boards_are_sound;
 use boot_plan::Plan;
 use catalog_model::{Catalog, ImageCause, ImageFault, catalogues_are_well_formed};
-use free_text::Spelled;
 use mem_store::MemStore;
 use mod_catalog::catalog;
 use module_names::{Names, NamesFault};

@@ -2,19 +2,19 @@
 ghost use Rattle.std.specs.Prelude.{◌≡◌, ◌≤◌, [], length};
 ghost use Rattle.catalog_model.specs.WellFormed.{IsWellFormed};
 ghost use Rattle.store_model.specs.StoreState.{Board, empty_store};
-ghost use Rattle.free_text.specs.Spelled.{IsRight, met};
+ghost use Rattle.free_check.specs.Spelled.{IsRight, met};
 ghost use Rattle.module_names.specs.Named.{AreNames, HasNoTwins};
 ghost use Rattle.free_check.specs.Following.{FollowsBoot, IsFollowed};
 
 use crate::by_text::ByText;
+use crate::{Parted, Spelled, text_tells};
 use boot_io::Halt;
-use catalog_model::Catalog;
-use free_laws::{
+use boot_laws::{
     cursor_aims, dxe_chooses_by_groups, dxe_ends, dxe_goes_on, dxe_lines_grow, dxe_opens,
     dxe_starts_freely, few_drivers_wait, groups_are_aimed, names_lead_to_root, pei_ends,
     pei_goes_on, pei_lines_grow, pei_opens, pei_starts_freely,
 };
-use free_text::{Parted, Spelled, text_tells};
+use catalog_model::Catalog;
 use module_names::{Names, names_are_guids};
 use std::alloc::Global;
 use store_model::PeiStore;

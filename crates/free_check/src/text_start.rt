@@ -6,11 +6,11 @@ ghost use Rattle.boot_model.specs.declared.line.Line.TheVariants as L;
 ghost use Rattle.boot_model.specs.Text.{line_text};
 ghost use Rattle.pi_base.specs.declared.guid.Guid.{Guid as OfGuid};
 ghost use Rattle.trace_reader.specs.Readable.{IsLineOf, IsReadable};
-ghost use Rattle.free_text.specs.Spelled.{IsRight, left};
+ghost use Rattle.free_check.specs.Spelled.{IsRight, left};
 ghost use Rattle.free_check.specs.StartLine.{phase_start};
 
+use crate::Spelled;
 use boot_model::Line;
-use free_text::Spelled;
 use pi_base::{Guid, Phase};
 use trace_reader::{one_reading, start_line};
 

@@ -6,7 +6,7 @@ ghost use Rattle.store_model.specs.StoreState.{Board};
 ghost use Rattle.free_check.specs.Following.{Follows, IsShort};
 ghost use Rattle.free_check.specs.Verdict.{IsVerdict};
 
-use free_text::{Parted, Spelled};
+use crate::{Parted, Spelled};
 use pi_base::OutOfMemory;
 
 /// What the check of a text answers.

@@ -10,8 +10,8 @@ use Rattle.store_model.specs.StoreState.{StoreState}
 use Rattle.store_model.specs.Service.Descriptor.{descriptors, guid_at, is_callback, kind_at, offsets}
 use Rattle.store_model.specs.Service.Install.{install_pairs, row_of}
 use Rattle.store_model.specs.Service.Notify.{new_dispatches, notify_pairs}
-use Rattle.index_laws.specs.Answering.{RowsAnswer}
-use Rattle.index_laws.specs.Rows.{pair_with, row_at, rows_of}
+use Rattle.mem_store.specs.Answering.{RowsAnswer}
+use Rattle.mem_store.specs.Rows.{pair_with, row_at, rows_of}
 use Rattle.mem_store.specs.declared.index.Index.{Index}
 use Rattle.mem_store.specs.Indexed.{all_rows, held}
 use Rattle.mem_store.proofs.Listed.{drop_all, drop_on}

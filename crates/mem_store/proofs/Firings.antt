@@ -16,7 +16,7 @@ use Rattle.store_model.specs.declared.store_handle.Firing.{Firing}
 use Rattle.store_model.specs.declared.store_handle.Sweep.{Sweep}
 use Rattle.store_model.specs.StoreState.{StoreState}
 use Rattle.store_model.specs.Service.Sweep.{firing_at, firing_of, have_one_guid, places_at}
-use Rattle.index_laws.specs.Rows.{rows_of}
+use Rattle.mem_store.specs.Rows.{rows_of}
 use Rattle.mem_store.specs.Indexed.{Rows, all_rows, held}
 use Rattle.mem_store.specs.Meeting.{meets}
 use Rattle.mem_store.proofs.Meetings.{entry_row, met_is}

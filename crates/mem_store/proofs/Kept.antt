@@ -6,7 +6,7 @@ use Rattle.store_model.specs.declared.store_handle.StoreFault.TheVariants as F
 use Rattle.store_model.specs.StoreState.{StoreState}
 use Rattle.store_model.specs.StateFacts.{IsStoreState}
 use Rattle.store_model.specs.Service.{Answers, Performs, Service, Stores, Takes}
-use Rattle.index_laws.specs.Serving.{After, RowsSame}
+use Rattle.mem_store.specs.Serving.{After, RowsSame}
 use Rattle.heap_store.specs.HeapState as H
 use Rattle.mem_store.specs.declared.index.Index.{Index}
 use Rattle.mem_store.specs.declared.store.MemStore.{MemStore}

@@ -17,7 +17,7 @@ use Rattle.store_model.specs.Service.Descriptor.{guid_at}
 use Rattle.store_model.specs.Service.Sweep.{first_firing, firing_at, have_one_guid, pairs_left, pairs_with, places_at}
 use Rattle.store_laws.specs.Sweeps.{standing}
 use Rattle.store_laws.proofs.Sweeps.{none_here}
-use Rattle.index_laws.specs.Rows.{row_at, rows_of}
+use Rattle.mem_store.specs.Rows.{row_at, rows_of}
 use Rattle.mem_store.specs.Indexed.{Rows, all_rows}
 use Rattle.mem_store.specs.Meeting.{IsFirstMet, NoneMeets, meets}
 

@@ -17,9 +17,9 @@ use Rattle.store_model.specs.Service.Descriptor.{is_ppi, kind_at, offsets}
 use Rattle.store_model.specs.Service.Install as I
 use Rattle.store_model.specs.Service.Notify.{new_callbacks, new_dispatches}
 use Rattle.store_model.specs.Service.Reading.{nth_ppi}
-use Rattle.index_laws.specs.Answering.{RowsAnswer}
-use Rattle.index_laws.specs.Rows.{row_at, rows_of, told_row}
-use Rattle.index_laws.specs.Serving.{RowsInstalled, RowsNotified, RowsOfCore, RowsReplaced}
+use Rattle.mem_store.specs.Answering.{RowsAnswer}
+use Rattle.mem_store.specs.Rows.{row_at, rows_of, told_row}
+use Rattle.mem_store.specs.Serving.{RowsInstalled, RowsNotified, RowsOfCore, RowsReplaced}
 use Rattle.mem_store.specs.declared.index.Index.{Index}
 use Rattle.mem_store.specs.Indexed.{Becomes, BecomesCore, HasCore, Rows, Says, all_rows, held}
 use Rattle.mem_store.proofs.Saying.{becomes_says, three}

@@ -3,8 +3,8 @@ use Rattle.std.proofs.Common.{◌≡◌, List, ap, ◌∙◌, sym}
 use Rattle.guid_index.specs.declared.guid_index.Indexed.{Indexed}
 use Rattle.store_model.specs.StoreState.{StoreState}
 use Rattle.store_model.specs.StateFacts.{IsStoreState}
-use Rattle.index_laws.specs.Rows.{rows_of}
-use Rattle.index_laws.specs.Serving.{RowsSame}
+use Rattle.mem_store.specs.Rows.{rows_of}
+use Rattle.mem_store.specs.Serving.{RowsSame}
 use Rattle.heap_store.specs.declared.store.HeapStore.{HeapStore}
 use Rattle.heap_store.specs.HeapState as H
 use Rattle.mem_store.specs.declared.index.Index.{Index}

@@ -6,7 +6,7 @@ use Rattle.guid_index.specs.declared.guid_index.Indexed.{Indexed}
 use Rattle.guid_index.specs.Entries.{entries_of}
 use Rattle.store_model.specs.StoreState.{StoreState}
 use Rattle.store_model.specs.Service.Reading.{nth_ppi}
-use Rattle.index_laws.specs.Rows.{rows_of, told_row}
+use Rattle.mem_store.specs.Rows.{rows_of, told_row}
 use Rattle.mem_store.specs.declared.index.Index.{Index}
 
 -- the rows of the three lists

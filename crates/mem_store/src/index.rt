@@ -6,7 +6,7 @@ ghost use Rattle.store_model.specs.Service.Descriptor.{offsets};
 ghost use Rattle.store_model.specs.Service.Notify.{new_callbacks, new_dispatches};
 ghost use Rattle.store_model.specs.StateFacts.{IsDesc};
 ghost use Rattle.store_model.specs.StoreCall.{Anything, AreDescs};
-ghost use Rattle.index_laws.specs.Rows.{row_at};
+ghost use Rattle.mem_store.specs.Rows.{row_at};
 ghost use Rattle.heap_store.specs.HeapState as H;
 ghost use Rattle.mem_store.specs.Indexed.{Becomes, BecomesCore, held};
 ghost use Rattle.mem_store.specs.Picked.{is_picked, picked_of};

@@ -9,7 +9,7 @@ ghost use Rattle.store_model.specs.StoreCall.{Anything, AreBothDescs, AreDescs, 
 use crate::index::row_of;
 use crate::pairs::are_callbacks;
 use crate::store::MemStore;
-use index_laws::{rows_answer, services_keep_rows};
+use crate::{rows_answer, services_keep_rows};
 use store_model::{Desc, PeiStore, StoreFault, Sweep};
 
 impl MemStore {

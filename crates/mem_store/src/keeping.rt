@@ -10,9 +10,9 @@ ghost use Rattle.store_model.specs.Service.Queue as Q;
 ghost use Rattle.store_model.specs.StateFacts.{IsNumberOf};
 ghost use Rattle.store_model.specs.StoreCall.{Anything, HasPool, IsDue, IsScriptHob, Migrates};
 
+use crate::services_keep_rows;
 use crate::store::MemStore;
 use hob_codec::Hob;
-use index_laws::services_keep_rows;
 use store_model::{Desc, DescKind, Firing, GuidFrom, PeiStore, Pool, StoreFault};
 
 impl MemStore {

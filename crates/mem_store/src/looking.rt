@@ -8,9 +8,9 @@ ghost use Rattle.store_model.specs.StoreCall.{Anything, IsAmong, IsMatch};
 ghost use Rattle.store_model.specs.StateFacts.{IsDesc};
 ghost use Rattle.mem_store.specs.Meeting.{AreMet, IsFiring};
 
+use crate::rows_answer;
 use crate::store::MemStore;
 use depex_code::GuidSet;
-use index_laws::rows_answer;
 use pi_base::Guid;
 use ppi_links::links_told;
 use store_laws::named_are_there;

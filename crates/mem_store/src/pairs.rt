@@ -8,8 +8,8 @@ ghost use Rattle.heap_store.specs.HeapState as H;
 ghost use Rattle.mem_store.specs.Indexed.{Says};
 
 use crate::index::{Index, row_of};
+use crate::rows_answer;
 use heap_store::HeapStore;
-use index_laws::rows_answer;
 use store_model::Desc;
 
 impl Index {

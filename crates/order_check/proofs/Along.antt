@@ -15,10 +15,10 @@ use Rattle.catalog_model.specs.Parts.{module_name, module_volume}
 use Rattle.start_order.specs.declared.line.AskedStart.{AskedStart}
 use Rattle.start_order.specs.declared.line.Start.{Start}
 use Rattle.start_order.specs.declared.lines.StartOrder.{StartOrder}
-use Rattle.boot_starts.specs.Starts.{ComeFirst, module_start}
+use Rattle.start_order.specs.Starts.{ComeFirst, module_start}
 use Rattle.order_check.specs.Along.{IsAlong, IsIndex}
 use Rattle.order_check.specs.Finding.{same_start}
-use Rattle.boot_starts.proofs.Modules.{one_module}
+use Rattle.start_order.proofs.Modules.{one_module}
 use Rattle.module_names.specs.Named.{HasNoTwins, IsNamed}
 use Rattle.order_check.specs.ByOrder.{IsNumberOf, NamesAsked, NamesNext, NamesStart, is_of, is_start_of, lets_asked, lets_by, same_phase, starts_of}
 

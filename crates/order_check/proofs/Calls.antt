@@ -21,7 +21,7 @@ use Rattle.boot_model.proofs.Texts.{text_of-append}
 use Rattle.boot_trace.specs.Printing.{Texts}
 use Rattle.start_order.specs.declared.lines.StartOrder.{StartOrder}
 use Rattle.pei_dispatch.specs.Ends.{pei_starts}
-use Rattle.dxe_choice.specs.Queue.{Queue}
+use Rattle.dxe_dispatch.specs.Queue.{Queue}
 use Rattle.dxe_core.specs.Standing.{DxeCore}
 use Rattle.dxe_dispatch.specs.Choices.{BarsBy, EndsBy}
 use Rattle.whole_boot.specs.Closing.{closing}

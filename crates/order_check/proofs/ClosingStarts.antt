@@ -8,9 +8,9 @@ use Rattle.boot_model.specs.declared.line.Line.TheVariants as L
 use Rattle.boot_model.specs.declared.line.RunEnd.{RunEnd}
 use Rattle.boot_model.specs.BootRun.{handle_lines}
 use Rattle.boot_model.specs.Listing.{callback_line, callback_lines, dispatch_line, dispatch_lines, hob_lines, hob_lines_from, pending_line, pending_lines, ppi_line, ppi_lines, store_lines}
-use Rattle.boot_starts.specs.Starts.{starts}
-use Rattle.boot_starts.proofs.Fronts.{starts-append}
-use Rattle.boot_starts.proofs.QuietLines.{quiet_map, quiet_then}
+use Rattle.start_order.specs.Starts.{starts}
+use Rattle.start_order.proofs.Fronts.{starts-append}
+use Rattle.start_order.proofs.QuietLines.{quiet_map, quiet_then}
 use Rattle.whole_boot.specs.Closing.{closing}
 
 quiet_both : (xs ys : List Line) → starts xs ≡ [] → starts ys ≡ [] → starts (xs ++ ys) ≡ []

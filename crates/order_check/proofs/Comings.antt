@@ -15,8 +15,8 @@ use Rattle.boot_trace.specs.Printing.{Texts}
 use Rattle.start_order.specs.declared.line.AskedStart.{AskedStart}
 use Rattle.start_order.specs.declared.line.Start.{Start}
 use Rattle.start_order.specs.declared.lines.StartOrder.{StartOrder}
-use Rattle.boot_starts.specs.Starts.{ComeFirst, starts}
-use Rattle.boot_starts.proofs.Fronts.{first_of_first, starts-append}
+use Rattle.start_order.specs.Starts.{ComeFirst, starts}
+use Rattle.start_order.proofs.Fronts.{first_of_first, starts-append}
 use Rattle.order_check.specs.declared.against.Against.{Against}
 use Rattle.order_check.specs.declared.following.Followed.{Followed}
 use Rattle.order_check.specs.declared.following.Followed.TheVariants.{Ended, Stopped, No}

@@ -18,22 +18,22 @@ use Rattle.boot_model.specs.FreeRun.{AreFreeDxeLines, AreFreeLines, AreFreeLines
 use Rattle.boot_model.specs.PeiMachine.{PeiMachine}
 use Rattle.boot_model.proofs.ListFacts.{within}
 use Rattle.boot_laws.proofs.DxeCases.{starts_from}
-use Rattle.free_laws.specs.DxeAim.{IsAimed, IsChoosing, aimed}
-use Rattle.free_laws.specs.DxeFree.{IsOwnCase}
-use Rattle.free_laws.specs.DxeUnderWay.{IsUnderWay}
-use Rattle.free_laws.proofs.DxeRuns as Runs
-use Rattle.free_laws.proofs.DxeWays as Ways
-use Rattle.free_laws.proofs.GroupRoots.{names_lead}
-use Rattle.free_laws.proofs.PeiRuns as PeiRuns
-use Rattle.free_laws.proofs.Starts.{dxe_prints}
+use Rattle.boot_laws.specs.DxeAim.{IsAimed, IsChoosing, aimed}
+use Rattle.boot_laws.specs.DxeFree.{IsOwnCase}
+use Rattle.boot_laws.specs.DxeUnderWay.{IsUnderWay}
+use Rattle.boot_laws.proofs.DxeRuns as Runs
+use Rattle.boot_laws.proofs.DxeWays as Ways
+use Rattle.boot_laws.proofs.GroupRoots.{names_lead}
+use Rattle.boot_laws.proofs.PeiRuns as PeiRuns
+use Rattle.boot_laws.proofs.Starts.{dxe_prints}
 use Rattle.start_order.specs.declared.line.AskedStart.{AskedStart}
 use Rattle.start_order.specs.declared.line.Start.{Start}
-use Rattle.boot_starts.specs.Starts.{ComeFirst, module_start, starts}
-use Rattle.boot_starts.specs.Leading.{DxeComesTo}
-use Rattle.boot_starts.proofs.DxeCounts.{case_adds, opening_quiet, started_adds, starts_count}
-use Rattle.boot_starts.proofs.Fronts.{first_of_first, next_of_fronts, starts-append, starts_then}
-use Rattle.boot_starts.proofs.PeiCounts as PeiCounts
-use Rattle.boot_starts.proofs.Runs.{dxe_leads, pei_leads}
+use Rattle.start_order.specs.Starts.{ComeFirst, module_start, starts}
+use Rattle.start_order.specs.Leading.{DxeComesTo}
+use Rattle.start_order.proofs.DxeCounts.{case_adds, opening_quiet, started_adds, starts_count}
+use Rattle.start_order.proofs.Fronts.{first_of_first, next_of_fronts, starts-append, starts_then}
+use Rattle.start_order.proofs.PeiCounts as PeiCounts
+use Rattle.start_order.proofs.Runs.{dxe_leads, pei_leads}
 use Rattle.pei_dispatch.specs.Ends.{pei_starts}
 use Rattle.dxe_dispatch.specs.Choices as D
 use Rattle.dxe_dispatch.specs.Turns.{IsStarting}

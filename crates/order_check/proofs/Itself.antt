@@ -18,13 +18,13 @@ use Rattle.boot_model.specs.FreeRun.{last_of_dxe}
 use Rattle.boot_model.specs.PeiMachine.{PeiMachine}
 use Rattle.boot_model.specs.PeiRun.{IsPeiRun, last_machine}
 use Rattle.boot_model.specs.PeiStep.{case_of, in_case, pei_step}
-use Rattle.free_laws.proofs.Cursors as Cursors
-use Rattle.free_laws.proofs.DxeWays as Ways
+use Rattle.boot_laws.proofs.Cursors as Cursors
+use Rattle.boot_laws.proofs.DxeWays as Ways
 use Rattle.start_order.specs.declared.line.Start.{Start}
-use Rattle.boot_starts.specs.Starts.{module_start, starts}
-use Rattle.boot_starts.proofs.DxeCounts as DxeCounts
-use Rattle.boot_starts.proofs.Fronts.{starts-append}
-use Rattle.boot_starts.proofs.PeiCounts as PeiCounts
+use Rattle.start_order.specs.Starts.{module_start, starts}
+use Rattle.start_order.proofs.DxeCounts as DxeCounts
+use Rattle.start_order.proofs.Fronts.{starts-append}
+use Rattle.start_order.proofs.PeiCounts as PeiCounts
 use Rattle.pei_dispatch.specs.Choices as P
 use Rattle.pei_dispatch.specs.Ends.{pei_starts}
 use Rattle.pei_dispatch.proofs.Chosen.{idle_starts}

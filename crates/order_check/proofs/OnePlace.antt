@@ -12,9 +12,9 @@ use Rattle.boot_model.specs.DxeStep.{dxe_step}
 use Rattle.boot_model.specs.PeiChoice.{next_peim, pei_order}
 use Rattle.boot_model.specs.PeiMachine.{PeiMachine}
 use Rattle.boot_model.specs.PeiStep.{Starts, case_of, started}
-use Rattle.free_laws.specs.PeiAim.{with_cursor}
-use Rattle.free_laws.specs.PeiFree.{IsOwnCase}
-use Rattle.free_laws.proofs.Cursors as Cursors
+use Rattle.boot_laws.specs.PeiAim.{with_cursor}
+use Rattle.boot_laws.specs.PeiFree.{IsOwnCase}
+use Rattle.boot_laws.proofs.Cursors as Cursors
 use Rattle.start_order.specs.declared.line.AskedStart.{AskedStart}
 use Rattle.pei_dispatch.specs.Choices as P
 use Rattle.pei_dispatch.specs.Ends.{pei_starts}

@@ -16,19 +16,19 @@ use Rattle.boot_model.specs.PeiMachine.{PeiMachine}
 use Rattle.boot_model.specs.PeiRun.{pei_opening}
 use Rattle.boot_model.specs.PeiStep.{Starts, case_of, start_line, started}
 use Rattle.boot_model.proofs.ListFacts.{within}
-use Rattle.free_laws.specs.PeiUnderWay.{IsUnderWay}
-use Rattle.free_laws.proofs.Cursors as Cursors
-use Rattle.free_laws.proofs.PeiRuns as Runs
-use Rattle.free_laws.proofs.PeiWays as Ways
-use Rattle.free_laws.proofs.Starts.{pei_prints}
+use Rattle.boot_laws.specs.PeiUnderWay.{IsUnderWay}
+use Rattle.boot_laws.proofs.Cursors as Cursors
+use Rattle.boot_laws.proofs.PeiRuns as Runs
+use Rattle.boot_laws.proofs.PeiWays as Ways
+use Rattle.boot_laws.proofs.Starts.{pei_prints}
 use Rattle.module_names.specs.Named.{HasNoTwins}
 use Rattle.start_order.specs.declared.line.AskedStart.{AskedStart}
 use Rattle.start_order.specs.declared.lines.StartOrder.{StartOrder}
-use Rattle.boot_starts.specs.Starts.{ComeFirst, module_start, starts}
-use Rattle.boot_starts.specs.Leading.{PeiComesTo}
-use Rattle.boot_starts.proofs.Fronts.{first_of_first, next_of_fronts, starts-append}
-use Rattle.boot_starts.proofs.PeiCounts.{case_adds, opening_quiet, started_adds, starts_count}
-use Rattle.boot_starts.proofs.Runs.{pei_leads}
+use Rattle.start_order.specs.Starts.{ComeFirst, module_start, starts}
+use Rattle.start_order.specs.Leading.{PeiComesTo}
+use Rattle.start_order.proofs.Fronts.{first_of_first, next_of_fronts, starts-append}
+use Rattle.start_order.proofs.PeiCounts.{case_adds, opening_quiet, started_adds, starts_count}
+use Rattle.start_order.proofs.Runs.{pei_leads}
 use Rattle.pei_dispatch.specs.Choices as P
 use Rattle.pei_dispatch.specs.Ends.{pei_starts}
 use Rattle.pei_dispatch.proofs.Chosen.{idle_starts, some_first, start_is_free, step_is_free}

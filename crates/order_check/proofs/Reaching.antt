@@ -20,10 +20,10 @@ use Rattle.boot_model.specs.Listing.{store_lines}
 use Rattle.boot_model.specs.PeiMachine.{PeiMachine}
 use Rattle.boot_model.specs.Text.{text_of}
 use Rattle.boot_trace.specs.Printing.{Texts}
-use Rattle.free_laws.proofs.DxeRuns as DxeRuns
-use Rattle.free_laws.proofs.PeiRuns as PeiRuns
-use Rattle.boot_starts.specs.Starts.{starts}
-use Rattle.boot_starts.proofs.Runs.{pei_leads}
+use Rattle.boot_laws.proofs.DxeRuns as DxeRuns
+use Rattle.boot_laws.proofs.PeiRuns as PeiRuns
+use Rattle.start_order.specs.Starts.{starts}
+use Rattle.start_order.proofs.Runs.{pei_leads}
 use Rattle.pei_dispatch.specs.Ends.{pei_starts}
 use Rattle.whole_boot.specs.Closing.{closing}
 use Rattle.order_check.specs.declared.following.Followed.{Followed}

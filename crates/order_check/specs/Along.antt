@@ -3,7 +3,7 @@
 use Rattle.std.specs.Prelude.{◌≡◌, ◌⊎◌, ◌≤◌, ℕ, List, None, length}
 use Rattle.start_order.specs.declared.line.Start.{Start}
 use Rattle.start_order.specs.declared.lines.StartOrder.{StartOrder}
-use Rattle.boot_starts.specs.Starts.{ComeFirst}
+use Rattle.start_order.specs.Starts.{ComeFirst}
 use Rattle.order_check.specs.ByOrder.{starts_of}
 
 -- starts are made as an order asks: they are the first of its starts, or they come behind all of them, where it does not stop

@@ -19,8 +19,8 @@ use Rattle.boot_trace.specs.Printing.{Texts}
 use Rattle.start_order.specs.declared.line.AskedStart.{AskedStart}
 use Rattle.start_order.specs.declared.line.Start.{Start}
 use Rattle.start_order.specs.declared.lines.StartOrder.{StartOrder}
-use Rattle.boot_starts.specs.Starts.{ComeFirst, start_of, starts}
-use Rattle.boot_starts.specs.Leading.{DxeComesTo, PeiComesTo}
+use Rattle.start_order.specs.Starts.{ComeFirst, start_of, starts}
+use Rattle.start_order.specs.Leading.{DxeComesTo, PeiComesTo}
 use Rattle.order_check.specs.ByOrder.{starts_of}
 use Rattle.order_check.specs.Against.{StandsAgainst}
 use Rattle.order_check.specs.Own.{GoesOnItself}

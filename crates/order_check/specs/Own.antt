@@ -13,8 +13,8 @@ use Rattle.boot_model.specs.FreeRun.{last_of_dxe}
 use Rattle.boot_model.specs.PeiMachine.{PeiMachine}
 use Rattle.boot_model.specs.PeiRun.{IsPeiRun, last_machine, pei_opening}
 use Rattle.start_order.specs.declared.line.Start.{Start}
-use Rattle.boot_starts.specs.Starts.{starts}
-use Rattle.boot_starts.specs.Leading.{DxeComesTo, PeiComesTo}
+use Rattle.start_order.specs.Starts.{starts}
+use Rattle.start_order.specs.Leading.{DxeComesTo, PeiComesTo}
 
 -- all lines of a boot that goes on so from a machine of DXE, behind this one of PEI
 abbrev pub AreOwnDxeLines : Catalog → ℕ → PeiMachine → DxeMachine → List Line → Type 0

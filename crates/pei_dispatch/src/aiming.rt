@@ -1,11 +1,11 @@
 //! Where the search for the next PEIM begins.
 ghost use Rattle.std.specs.Prelude.{◌≡◌, ◌≤◌, length};
 ghost use Rattle.catalog_model.specs.declared.catalog.Catalog.{Catalog as OfCatalog};
-ghost use Rattle.pei_choice.specs.Queue.{Shows, owed_by, parts_in};
-ghost use Rattle.pei_choice.specs.View.{View};
+ghost use Rattle.pei_dispatch.specs.Queue.{Shows, owed_by, parts_in};
+ghost use Rattle.pei_dispatch.specs.View.{View};
 ghost use Rattle.pei_dispatch.specs.Choices.{IsPlaceFor};
 
-use pei_choice::PeiQueue;
+use crate::PeiQueue;
 
 /// The search begins at the PEIM that is named, where it is in the order.
 pub fn aim(queue: &mut PeiQueue, named: Option<u32>)

@@ -11,7 +11,7 @@ use Rattle.catalog_model.specs.WellFormed.{IsWellFormed}
 use Rattle.boot_model.specs.PlanBoard.{board_of}
 use Rattle.store_model.specs.StoreState.{Board}
 use Rattle.explain_text.specs.declared.reasons.Explained.{Explained}
-use Rattle.free_laws.specs.declared.choice.Reached.TheVariants as R
+use Rattle.boot_laws.specs.declared.choice.Reached.TheVariants as R
 use Rattle.whole_boot.specs.Choices.{Choices}
 use Rattle.boot_reasons.specs.Boots.{HasOneExplanation, NameOne}
 use Rattle.boot_reasons.specs.Explained.{IsExplainedBy, own_choices}

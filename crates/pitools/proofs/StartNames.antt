@@ -6,7 +6,7 @@ use Rattle.pi_base.specs.declared.phase.Phase.TheVariants.{Pei, Dxe}
 use Rattle.catalog_model.specs.declared.catalog.Catalog.{Catalog}
 use Rattle.boot_reasons.specs.Boots.{NameOne}
 use Rattle.boot_reasons.specs.Explained.{IsLeftBefore, left_in_dxe, left_in_pei}
-use Rattle.boot_starts.proofs.Modules.{one_module}
+use Rattle.start_order.proofs.Modules.{one_module}
 use Rattle.module_names.specs.Named.{HasNoTwins}
 use Rattle.order_check.specs.ByOrder.{IsNumberOf, NamesAsked, NamesNext, NamesStart, same_phase}
 use Rattle.store_model.specs.StoreState.{Board}

@@ -8,7 +8,7 @@ use Rattle.boot_model.specs.FreeRun.{AreFreeLines}
 use Rattle.boot_model.specs.PlanBoard.{board_of}
 use Rattle.explain_text.specs.declared.reasons.Explained.{Explained}
 use Rattle.boot_reasons.specs.Explained.{IsExplainedBy}
-use Rattle.boot_starts.specs.Order.{order_of}
+use Rattle.start_order.specs.Order.{order_of}
 use Rattle.free_check.specs.Verdict.{IsBoot, IsFirstOff}
 use Rattle.order_check.specs.InOrder.{order_choices}
 use Rattle.start_order.specs.declared.lines.StartOrder.{StartOrder}

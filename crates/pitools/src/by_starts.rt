@@ -3,7 +3,7 @@ ghost use Rattle.std.specs.Prelude.{◌≡◌, length};
 ghost use Rattle.std.proofs.Props.{props};
 ghost use Rattle.module_names.specs.Named.{AreNames};
 
-use free_laws::Choice;
+use boot_laws::Choice;
 use order_check::ByOrder;
 
 /// The module of an order's next start is named, and each is let: where that one may not start, the first that may does.

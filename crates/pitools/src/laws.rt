@@ -46,7 +46,7 @@ pub(crate) fn one_trace_report()
     catalog_model::one_catalogue();
     catalog_model::catalogues_are_well_formed();
     catalog_text::one_catalog_text();
-    free_laws::cursor_aims();
+    boot_laws::cursor_aims();
     boot_laws::order_is_of_modules();
     trace_reader::one_reading();
 }
@@ -81,7 +81,7 @@ pub(crate) fn one_explain_report()
     catalog_model::one_catalogue();
     catalog_model::catalogues_are_well_formed();
     catalog_text::one_catalog_text();
-    free_laws::cursor_aims();
+    boot_laws::cursor_aims();
     boot_laws::order_is_of_modules();
 }
 

@@ -6,7 +6,7 @@ use boot_model::{ARCHITECTURAL, Licence, Reason, RunEnd};
 use boot_plan::{Plan, read_plan};
 use boot_reasons::{Nowhere, explain_plan, explain_plan_by};
 use explain_text::{Begun, Explained, Giver, Held, Moved, Need};
-use free_laws::{Choice, Reached};
+use boot_laws::{Choice, Reached};
 use pi_base::{Guid, Phase, Seq};
 use std::alloc::Global;
 use std::process::Abort;

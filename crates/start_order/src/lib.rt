@@ -1,4 +1,6 @@
-//! The text of an order of starts (own): which module starts first, which next and so on, each in its phase by its volume and file name, and whether the boot is followed no further behind the last.
+//! The order of the starts of a boot (own): its text, which says which module starts first, which next and so on, each in its phase by its volume and file
+//! name, and whether the boot is followed no further behind the last; the order of the starts of which a boot's lines tell; and that it tells all of a boot
+//! that its dispatchers were free to choose.
 //!
 //! Tried by `example_follow`.
 #![tactic(auto)]
@@ -8,9 +10,15 @@ mod keyword;
 mod laws;
 mod line;
 mod lines;
+mod order;
+mod printed_start;
+mod start_laws;
 mod word;
 
 pub use fault::OrderFault;
 pub use laws::one_reading;
 pub use line::{Asked, AskedStart, Start};
 pub use lines::{StartOrder, read_order};
+pub use order::order_of;
+pub use printed_start::start_of;
+pub use start_laws::{one_dxe_step, one_pei_step, order_is_of_starts, starts_count, starts_lead};

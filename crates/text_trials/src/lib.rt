@@ -8,6 +8,8 @@ mod expressions;
 #[cfg(test)]
 mod expressions_as_text;
 #[cfg(test)]
+mod held_text;
+#[cfg(test)]
 mod hob_rows;
 #[cfg(test)]
 mod map_commands;

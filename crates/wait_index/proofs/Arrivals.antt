@@ -6,7 +6,7 @@ use Rattle.std.specs.List.{IsDistinct, AllByRecursion, list_any}
 use Rattle.std.proofs.lemmas.Bool.Decides.{eqb_tells, Decides-eqb}
 use Rattle.std.proofs.lemmas.Option.{slice_get_within}
 use Rattle.std.proofs.lemmas.Map.Steps.{length-le_from_distinct_below}
-use Rattle.place_set.specs.Places.{flag}
+use Rattle.wait_index.specs.PlaceFlags.{flag}
 use Rattle.boot_model.specs.Licence.{AllDiffer}
 use Rattle.catalog_model.specs.Parts.{has_number}
 use Rattle.wait_index.specs.declared.verdict.Verdict.{Verdict}

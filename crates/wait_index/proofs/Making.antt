@@ -6,8 +6,8 @@ use Rattle.pi_base.specs.declared.guid.Guid.{Guid}
 use Rattle.pi_base.specs.declared.phase.Phase.{Phase}
 use Rattle.pi_base.specs.declared.phase.Phase.TheVariants.{Dxe}
 use Rattle.guid_map.specs.GuidMap.{value_of}
-use Rattle.place_set.specs.Places.{flag}
-use Rattle.place_set.proofs.Flags.{none_set}
+use Rattle.wait_index.specs.PlaceFlags.{flag}
+use Rattle.wait_index.proofs.Flags.{none_set}
 use Rattle.boot_model.specs.declared.known_guid.TheConstants.{ARCHITECTURAL}
 use Rattle.catalog_model.specs.declared.catalog.Catalog.{Catalog}
 use Rattle.catalog_model.specs.declared.catalog.Module.{Module}

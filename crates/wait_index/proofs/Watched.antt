@@ -10,8 +10,8 @@ use Rattle.std.proofs.lemmas.Map.Made.{length-le_from_is_member, is_member-filte
 use Rattle.pi_base.specs.declared.guid.Guid.{Guid}
 use Rattle.pi_base.specs.declared.phase.Phase.{Phase}
 use Rattle.guid_map.specs.GuidMap.{value_of}
-use Rattle.place_set.specs.Places.{flag}
-use Rattle.place_set.proofs.Flags.{flag_here, flag_other}
+use Rattle.wait_index.specs.PlaceFlags.{flag}
+use Rattle.wait_index.proofs.Flags.{flag_here, flag_other}
 use Rattle.catalog_model.specs.declared.catalog.Catalog.{Catalog}
 use Rattle.boot_model.specs.EvaluationBound.{part_pushes}
 use Rattle.pi_base.specs.Guids.{same_guid}

@@ -2,7 +2,7 @@
 use Rattle.std.specs.Prelude.{◌≡◌, ◌<◌, ℕ, Bool, false, List, length, Option, Some, None}
 use Rattle.pi_base.specs.declared.guid.Guid.{Guid}
 use Rattle.guid_map.specs.GuidMap.{value_of}
-use Rattle.place_set.specs.Places.{flag}
+use Rattle.wait_index.specs.PlaceFlags.{flag}
 use Rattle.wait_index.specs.declared.installed.Installed.{Installed}
 
 abbrev pub slot_says : List Bool → Option ℕ → Bool

@@ -8,3 +8,4 @@ pub mod Rouse
 pub mod Standing
 pub mod Verdict
 pub mod Watching
+pub mod PlaceFlags

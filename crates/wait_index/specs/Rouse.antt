@@ -1,6 +1,6 @@
 -- The expressions of modules become stale.
 use Rattle.std.specs.Prelude.{◌≡◌, ℕ, ◌+◌, ◌≤◌, Bool, true, false, ◌&&◌, List, length, filter, Some, is_some}
-use Rattle.place_set.specs.Places.{flag, count}
+use Rattle.wait_index.specs.PlaceFlags.{flag, count}
 use Rattle.catalog_model.specs.Parts.{has_number}
 use Rattle.wait_index.specs.declared.places.Places.{Places}
 use Rattle.wait_index.specs.Places.{standing_of}

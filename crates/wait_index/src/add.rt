@@ -1,6 +1,6 @@
 // A part comes.
 ghost use Rattle.std.specs.Prelude.{◌≡◌, ◌≤◌, ◌<◌, ◌+◌, ◌++◌, ◌∷◌, [], ℕ, false, length};
-ghost use Rattle.place_set.specs.Places.{count};
+ghost use Rattle.wait_index.specs.PlaceFlags.{count};
 ghost use Rattle.catalog_model.specs.declared.limits.TheConstants.{MOST_MODULES};
 ghost use Rattle.catalog_model.specs.Parts.{has_number};
 ghost use Rattle.wait_index.specs.declared.verdict.Verdict.{Verdict as OfVerdict};

@@ -1,7 +1,7 @@
 // The GUIDs that expressions ask for, and which of them are installed.
 ghost use Rattle.std.specs.Prelude.{◌≡◌, ◌<◌, length, slice_set};
 ghost use Rattle.std.specs.List.{list_all};
-ghost use Rattle.place_set.specs.Places.{flag};
+ghost use Rattle.wait_index.specs.PlaceFlags.{flag};
 ghost use Rattle.wait_index.specs.Installed.{is_there};
 
 use depex_code::GuidSet;

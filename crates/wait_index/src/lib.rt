@@ -1,7 +1,8 @@
 //! Which parts wait, by the GUIDs that they wait for: the parts of the volumes that are known, each with its place, and the first of them that may start.
-//! An expression is evaluated when its part comes, and again only where one of its GUIDs came or went.
+//! An expression is evaluated when its part comes, and again only where one of its GUIDs came or went. The places are kept in sets (`PlaceSet`): the first
+//! place of a set from a cursor on is found block by block, so that 64 places of which none is in the set cost one look.
 //!
-//! Tried in `choice_trials`: `index`.
+//! Tried in `choice_trials`: `index`, `place_sets`.
 #![tactic(auto)]
 
 mod add;
@@ -12,17 +13,21 @@ mod index;
 mod installed;
 mod laws;
 mod next;
+mod place_set;
 mod places;
 mod rouse;
+mod search;
 mod settle;
 mod standing;
 mod verdict;
 mod watch;
 
+pub use crate::PlaceSet;
 pub use index::WaitIndex;
 pub use installed::Installed;
 pub use laws::{
     asked_are_those_of_the_bound_in_dxe, asked_are_those_of_the_bound_in_pei,
     next_is_the_first_eligible_driver, next_is_the_next_peim, truth_asks_what_is_pushed,
 };
+pub use search::MOST_PLACES;
 pub use verdict::Verdict;

@@ -1,7 +1,7 @@
 // The next place of which the part may start.
 ghost use Rattle.std.specs.Prelude.{◌≡◌, ◌≤◌, ℕ, length, find, slice_get};
 ghost use Rattle.std.specs.Option.{option_and_then};
-ghost use Rattle.place_set.specs.Places.{count};
+ghost use Rattle.wait_index.specs.PlaceFlags.{count};
 ghost use Rattle.boot_model.specs.PeiChoice.{rotated};
 ghost use Rattle.wait_index.specs.declared.verdict.Verdict.{Verdict};
 ghost use Rattle.wait_index.specs.Places.{order_of, IsInOrder, AreJudged, is_due};

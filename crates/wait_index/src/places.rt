@@ -1,15 +1,15 @@
 // The parts of the known volumes, each with its place.
 ghost use Rattle.std.specs.Prelude.{◌≡◌, ◌<◌, ◌+◌, [], ℕ, Some, IfOk, true, false, length, slice_get};
-ghost use Rattle.place_set.specs.Places.{flag, count};
+ghost use Rattle.wait_index.specs.PlaceFlags.{flag, count};
 ghost use Rattle.wait_index.specs.declared.verdict.Verdict.{Verdict as OfVerdict};
 ghost use Rattle.wait_index.specs.Places.{order_of, standing_of, IsInOrder, IsKept, AreJudged};
 
+use crate::PlaceSet;
 use crate::standing::Standing;
 use crate::verdict::Verdict;
 use arrayvec::ArrayVec;
 use catalog_model::MOST_MODULES;
 use pi_base::{OutOfMemory, Seq};
-use place_set::PlaceSet;
 use std::alloc::Global;
 
 /// The parts of the known volumes in their order, and how the part of each module stands.

@@ -1,6 +1,6 @@
 // Expressions are evaluated where they may say something new.
 ghost use Rattle.std.specs.Prelude.{◌≡◌, ◌≤◌, ◌+◌, length};
-ghost use Rattle.place_set.specs.Places.{count};
+ghost use Rattle.wait_index.specs.PlaceFlags.{count};
 ghost use Rattle.wait_index.specs.Installed.{is_there};
 ghost use Rattle.wait_index.specs.Places.{IsInOrder, IsKept, AreJudged};
 ghost use Rattle.catalog_model.specs.WellFormed.{AreShort};

@@ -16,7 +16,7 @@ use Rattle.boot_model.specs.DxeRun.{dxe_opening}
 use Rattle.boot_model.specs.PeiMachine.{PeiMachine}
 use Rattle.boot_model.specs.Text.{text_of}
 use Rattle.boot_model.proofs.Texts.{text_of-append}
-use Rattle.free_laws.specs.Naming.{HasPut}
+use Rattle.boot_laws.specs.Naming.{HasPut}
 use Rattle.dxe_dispatch.specs.Choices as D
 use Rattle.pei_dispatch.specs.Ends.{pei_starts}
 use Rattle.dxe_dispatch.specs.declared.boot.Barred.{Barred}

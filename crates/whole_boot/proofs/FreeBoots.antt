@@ -15,10 +15,10 @@ use Rattle.boot_model.specs.DxeStep.{dxe_case_of, dxe_step}
 use Rattle.boot_model.specs.FreeRun.{AreFreeDxeLines, AreFreeLines, AreFreeLinesAfter, AreFreePeiLines, IsFreeInDxe}
 use Rattle.boot_model.specs.PeiMachine.{PeiMachine}
 use Rattle.boot_model.specs.PeiRun.{pei_opening}
-use Rattle.free_laws.specs.DxeAim.{FirstEligibleMayStart, GroupsAreAimed}
-use Rattle.free_laws.specs.DxeFree.{OwnDxeStepsAreFree}
-use Rattle.free_laws.specs.PeiAim.{CursorAims}
-use Rattle.free_laws.specs.PeiFree.{OwnPeiStepsAreFree}
+use Rattle.boot_laws.specs.DxeAim.{FirstEligibleMayStart, GroupsAreAimed}
+use Rattle.boot_laws.specs.DxeFree.{OwnDxeStepsAreFree}
+use Rattle.boot_laws.specs.PeiAim.{CursorAims}
+use Rattle.boot_laws.specs.PeiFree.{OwnPeiStepsAreFree}
 use Rattle.pei_dispatch.specs.Choices as P
 use Rattle.pei_dispatch.proofs.Chosen.{step_is_free}
 use Rattle.dxe_dispatch.specs.Choices as D

@@ -12,7 +12,7 @@ use Rattle.boot_model.specs.declared.phase_end.PeiEnd.{PeiEnd}
 use Rattle.boot_model.specs.declared.phase_end.PeiEnd.TheVariants.{Handoff}
 use Rattle.boot_model.specs.PeiMachine.{PeiMachine}
 use Rattle.boot_model.specs.Text.{text_of}
-use Rattle.free_laws.specs.Naming.{HasPut}
+use Rattle.boot_laws.specs.Naming.{HasPut}
 use Rattle.pei_dispatch.specs.declared.boot.Ended.{Ended}
 use Rattle.pei_dispatch.specs.Ends.{IsLeft}
 use Rattle.whole_boot.specs.declared.behind.Behind.{Behind}

@@ -20,7 +20,7 @@ use Rattle.boot_model.specs.DxeRun.{dxe_opening}
 use Rattle.boot_model.specs.PeiMachine.{PeiMachine}
 use Rattle.boot_model.specs.PeiRun.{pei_opening}
 use Rattle.boot_model.specs.Text.{text_of}
-use Rattle.free_laws.specs.Naming.{HasPut}
+use Rattle.boot_laws.specs.Naming.{HasPut}
 use Rattle.pei_dispatch.specs.declared.boot.Ended.{Ended}
 use Rattle.pei_dispatch.specs.Choices.{ComesTo, IsHeldBack, StopsForMemory, StopsShort}
 use Rattle.pei_dispatch.specs.Ends.{IsLeft}

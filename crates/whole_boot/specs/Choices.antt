@@ -3,7 +3,7 @@
 use Rattle.std.specs.Prelude.{◌+◌, ℕ, Bool, length, List, ◌++◌, Option}
 use Rattle.boot_model.specs.DxeMachine.{DxeMachine}
 use Rattle.boot_model.specs.PeiMachine.{PeiMachine}
-use Rattle.free_laws.specs.Naming.{MayName}
+use Rattle.boot_laws.specs.Naming.{MayName}
 use Rattle.pei_dispatch.specs.Choices.{LetsPeims, NamesPeims}
 use Rattle.pei_dispatch.specs.Ends.{pei_starts}
 use Rattle.dxe_dispatch.specs.Choices.{LetsDrivers}

@@ -17,7 +17,7 @@ use boot_model::{PeiEnd, RunEnd};
 use catalog_model::Catalog;
 use dxe_dispatch::{Barred, Left, boot_dxe};
 use dxe_handles::Handles;
-use free_laws::Choice;
+use boot_laws::Choice;
 use pei_dispatch::Ended;
 use std::alloc::Global;
 use store_model::PeiStore;

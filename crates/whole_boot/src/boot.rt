@@ -11,7 +11,7 @@ use crate::free::choices_are_free;
 use boot_io::{Halt, Sink};
 use boot_model::RunEnd;
 use catalog_model::Catalog;
-use free_laws::Choice;
+use boot_laws::Choice;
 use pei_dispatch::{Barred, Ended, Left, boot_pei};
 use std::alloc::Global;
 use store_model::PeiStore;

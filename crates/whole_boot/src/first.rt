@@ -7,9 +7,8 @@ ghost use Rattle.whole_boot.specs.FirstBoot.{RunsTo, WantsOutsidePei};
 
 use crate::boot::{Booted, Ran, boot_by_choice};
 use boot_io::{Halt, Sink};
-use boot_laws::{dxe_runs_end, pei_runs_end};
+use boot_laws::{FirstEligible, dxe_runs_end, pei_runs_end};
 use catalog_model::Catalog;
-use free_laws::FirstEligible;
 use std::alloc::Global;
 use store_model::PeiStore;
 

@@ -3,7 +3,7 @@ ghost use Rattle.whole_boot.specs.Choices.{choices_of};
 ghost use Rattle.whole_boot.specs.FreeWay.{AreFree};
 
 use boot_io::Sink;
-use free_laws::{
+use boot_laws::{
     Choice, cursor_aims, dxe_chooses_by_groups, dxe_goes_on, groups_are_aimed, pei_starts_freely,
 };
 

@@ -1,7 +1,7 @@
 use Rattle.std.proofs.Common.{drop, sym, subst}
 use Rattle.boot_model.specs.DxeRun.{dxe_opening}
-use Rattle.driver_order.specs.Order.{Drivers, IsOrderOf}
-use Rattle.dxe_choice.specs.Queue.{Discovers}
+use Rattle.dxe_action.specs.Order.{Drivers, IsOrderOf}
+use Rattle.dxe_dispatch.specs.Queue.{Discovers}
 use Rattle.dxe_dispatch.specs.Choices.{came}
 use Rattle.dxe_dispatch.proofs.ChosenWays.{opening_drivers}
 use Rattle.boot_reasons.proofs.DxeSteps.{at_opening}

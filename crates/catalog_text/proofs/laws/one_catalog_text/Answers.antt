@@ -1,5 +1,5 @@
 use Rattle.std.proofs.Common.{sym, ap, ◌∙◌}
-use Rattle.module_titles.specs.Title.{IsTitle}
+use Rattle.catalog_text.specs.Title.{IsTitle}
 use Rattle.catalog_text.specs.Lines.{catalog_lines}
 use Rattle.catalog_text.proofs.OneText.{one_list}
 use Rattle.catalog_text.proofs.laws.one_catalog_text.Goals as goal

@@ -1,5 +1,5 @@
 use Rattle.std.proofs.Common.{ap, ◌+◌}
-use Rattle.module_titles.specs.Title.{IsTitle}
+use Rattle.catalog_text.specs.Title.{IsTitle}
 use Rattle.catalog_text.proofs.Modules.{next_module}
 use Rattle.catalog_text.proofs.lines.put_members.Goals as goal
 

@@ -1,6 +1,6 @@
 use Rattle.std.proofs.Common.{◌≡◌, ◌++◌, ℕ, List, Option, take}
 use Rattle.pi_base.specs.Lists.{EachPair}
-use Rattle.module_titles.specs.Title.{IsTitle}
+use Rattle.catalog_text.specs.Title.{IsTitle}
 use Rattle.catalog_text.specs.Lines.{catalog_lines}
 use Rattle.catalog_text.proofs.lines.put_members.Given as goal
 

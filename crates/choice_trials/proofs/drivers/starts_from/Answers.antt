@@ -1,5 +1,5 @@
 use Rattle.std.proofs.Common.{subst}
-use Rattle.dxe_choice.specs.Queue.{ComesNext}
+use Rattle.dxe_dispatch.specs.Queue.{ComesNext}
 use Rattle.choice_trials.proofs.SmallMachines.{seen_on}
 use Rattle.choice_trials.proofs.drivers.starts_from.Goals as goal
 

@@ -1,5 +1,5 @@
 use Rattle.boot_model.specs.DxeMachine.{DxeMachine}
-use Rattle.dxe_choice.specs.Queue.{IsQueueFor, IsSeen}
+use Rattle.dxe_dispatch.specs.Queue.{IsQueueFor, IsSeen}
 use Rattle.choice_trials.proofs.drivers.starts_from.Given as goal
 
 -- a machine is seen with this queue

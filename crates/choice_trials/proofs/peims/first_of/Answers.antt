@@ -1,5 +1,5 @@
 use Rattle.std.proofs.Common.{refl, [], ◌∷◌}
-use Rattle.pei_choice.specs.View.{first_view, with_volumes}
+use Rattle.pei_dispatch.specs.View.{first_view, with_volumes}
 use Rattle.choice_trials.proofs.peims.first_of.Goals as goal
 
 pub report-requires-clause-new : goal.report-requires-clause-new

@@ -1,5 +1,5 @@
 use Rattle.std.proofs.Common.{◌≡◌, ◌<◌, sym, subst, length, Some}
-use Rattle.driver_order.specs.Order.{asking_of}
+use Rattle.dxe_action.specs.Order.{asking_of}
 use Rattle.dxe_action.specs.Requests.{Requests, first_down}
 use Rattle.dxe_action.specs.Services.{Services}
 use Rattle.act_code.specs.declared.action.Action.TheVariants as A

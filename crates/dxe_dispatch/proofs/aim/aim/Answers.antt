@@ -1,7 +1,7 @@
 use Rattle.std.proofs.Common.{◌≡◌, sym, subst}
 use Rattle.std.specs.Prelude.{OnOk}
-use Rattle.dxe_choice.specs.Aim.{aimed}
-use Rattle.dxe_choice.specs.Queue.{IsQueueOf}
+use Rattle.dxe_dispatch.specs.Aim.{aimed}
+use Rattle.dxe_dispatch.specs.Queue.{IsQueueOf}
 use Rattle.dxe_dispatch.specs.Choices.{Aims, root_of}
 use Rattle.dxe_dispatch.proofs.Chosen.{order_of, seen_of}
 use Rattle.dxe_dispatch.proofs.Turning.{on_ok}

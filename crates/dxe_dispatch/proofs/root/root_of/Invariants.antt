@@ -1,7 +1,7 @@
 use Rattle.std.proofs.Common.{◌≡◌, ◌-◌, length}
 use Rattle.boot_model.specs.DxeMachine.{DxeMachine}
-use Rattle.driver_order.specs.Order.{IsOrderOf}
-use Rattle.free_laws.specs.DxeAim.{follows}
+use Rattle.dxe_action.specs.Order.{IsOrderOf}
+use Rattle.boot_laws.specs.DxeAim.{follows}
 use Rattle.dxe_dispatch.proofs.root.root_of.Given as goal
 
 -- the names that are left lead on to the driver

@@ -1,7 +1,7 @@
 use Rattle.std.proofs.Common.{◌≡◌, ◌+◌, ℕ}
 use Rattle.store_model.specs.StoreState.{StoreState}
 use Rattle.boot_model.specs.DxeRun.{dxe_opening}
-use Rattle.dxe_choice.specs.Queue.{IsQueueFor, owed}
+use Rattle.dxe_dispatch.specs.Queue.{IsQueueFor, owed}
 use Rattle.dxe_core.specs.Standing.{IsFor, StandsFor}
 use Rattle.dxe_dispatch.specs.Choices.{LetsDrivers, NamesDrivers}
 use Rattle.dxe_dispatch.proofs.ChosenWays.{IsComing}

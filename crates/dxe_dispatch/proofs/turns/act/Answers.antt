@@ -2,8 +2,8 @@ use Rattle.std.proofs.Common.{subst, sym, drop, length, ◌≤◌, ◌+◌, ◌�
 use Rattle.std.proofs.lemmas.Result.{err_from_is_err_and}
 use Rattle.boot_model.specs.DxeChoice.{drivers_of}
 use Rattle.boot_model.specs.DxeStep.{dxe_step}
-use Rattle.driver_order.specs.Order.{Drivers, IsOrderOf}
-use Rattle.dxe_choice.specs.Queue.{Discovers, owed}
+use Rattle.dxe_action.specs.Order.{Drivers, IsOrderOf}
+use Rattle.dxe_dispatch.specs.Queue.{Discovers, owed}
 use Rattle.dxe_dispatch.proofs.Passing.{busy_starts_none}
 use Rattle.dxe_dispatch.proofs.Turning.{event_owes, event_so, has_event, new_drivers, owes_still, part_acted, told, whole_part, ends_so}
 use Rattle.dxe_dispatch.proofs.turns.act.Goals as goal

@@ -3,9 +3,9 @@ use Rattle.boot_model.specs.FreeRun.{AreFreeLines}
 use Rattle.boot_model.specs.PlanBoard.{board_of}
 use Rattle.store_model.specs.StoreState.{Board}
 use Rattle.boot_model.specs.declared.line.Line.{Line}
-use Rattle.free_text.specs.declared.parted.Parted.{Parted}
-use Rattle.free_text.specs.declared.parted.Parted.TheVariants.{Off, Memory}
-use Rattle.free_text.specs.declared.spelled.Spelled.{Spelled}
+use Rattle.free_check.specs.declared.parted.Parted.{Parted}
+use Rattle.free_check.specs.declared.parted.Parted.TheVariants.{Off, Memory}
+use Rattle.free_check.specs.declared.spelled.Spelled.{Spelled}
 use Rattle.free_check.specs.Following.{Follows, IsShort}
 use Rattle.free_check.proofs.checking.verdict_over.Goals as goal
 

@@ -1,4 +1,4 @@
-use Rattle.free_text.specs.Spelled.{left}
+use Rattle.free_check.specs.Spelled.{left}
 use Rattle.free_check.specs.StartLine.{phase_start}
 use Rattle.free_check.proofs.Reading.{line_of_next, line_there}
 use Rattle.free_check.proofs.text_start.next_start.Goals as goal

@@ -2,8 +2,8 @@ use Rattle.std.proofs.Common.{◌≢◌, List, sym, ◌∙◌, subst}
 use Rattle.boot_io.specs.Faults.{IsPrefix}
 use Rattle.boot_model.specs.FreeRun.{AreFreeLines}
 use Rattle.boot_model.specs.declared.line.Line.{Line}
-use Rattle.free_text.specs.Spelled.{met, whole}
-use Rattle.free_text.proofs.Telling.{met_begins}
+use Rattle.free_check.specs.Spelled.{met, whole}
+use Rattle.free_check.proofs.Telling.{met_begins}
 use Rattle.free_check.specs.Verdict.{IsFirstOff}
 use Rattle.free_check.proofs.FirstOff.{off_at_its_line, off_behind_the_whole}
 use Rattle.free_check.proofs.verdict.verdict_of.Goals as goal

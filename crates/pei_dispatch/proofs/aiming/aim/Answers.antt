@@ -1,5 +1,5 @@
 use Rattle.std.proofs.Common.{refl, sym, subst}
-use Rattle.pei_choice.specs.Queue.{parts_in}
+use Rattle.pei_dispatch.specs.Queue.{parts_in}
 use Rattle.pei_dispatch.specs.Choices.{IsPlaceFor}
 use Rattle.pei_dispatch.proofs.aiming.aim.Goals as goal
 

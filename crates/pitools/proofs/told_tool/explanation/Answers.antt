@@ -4,7 +4,7 @@ use Rattle.explain_text.specs.Text.{explained_text}
 use Rattle.boot_model.specs.PlanBoard.{board_of}
 use Rattle.boot_reasons.specs.Explained.{ExplainsTo}
 use Rattle.explain_text.specs.declared.reasons.Explained.{Explained}
-use Rattle.free_laws.specs.declared.choice.Reached.{Reached}
+use Rattle.boot_laws.specs.declared.choice.Reached.{Reached}
 use Rattle.order_check.specs.declared.by_order.ByOrder.{ByOrder}
 use Rattle.pitools.specs.ToldReport.{RunsInOrder, start_choices}
 use Rattle.pitools.proofs.StartNames.{never_left}

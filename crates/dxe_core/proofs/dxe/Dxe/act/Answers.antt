@@ -1,6 +1,6 @@
 use Rattle.std.proofs.Common.{[], ◌∷◌, length, refl, sym, ap, ◌∙◌, subst, None}
 use Rattle.std.proofs.lemmas.List.{append-nil}
-use Rattle.driver_order.specs.Order.{Drivers}
+use Rattle.dxe_action.specs.Order.{Drivers}
 use Rattle.boot_model.specs.DxeStep.{DxeActs, with_action}
 use Rattle.frames.specs.declared.fuel.Fuel.{Fuel}
 use Rattle.dxe_core.specs.declared.event.Stepped.TheVariants.{Went}

@@ -6,7 +6,7 @@ use Rattle.boot_model.specs.EvaluationBound.{changed_protocols, is_dxe_called}
 use Rattle.boot_model.specs.Text.{text_of}
 use Rattle.std.specs.Io.KnownBytes.{Appends}
 use Rattle.boot_io.specs.Sink as Sinks
-use Rattle.driver_order.specs.Order.{Drivers}
+use Rattle.dxe_action.specs.Order.{Drivers}
 use Rattle.dxe_action.specs.Services.{AreCounted}
 use Rattle.dxe_core.specs.Parts.{acted_to}
 use Rattle.dxe_core.specs.Standing.{DxeCore, StandsFor}

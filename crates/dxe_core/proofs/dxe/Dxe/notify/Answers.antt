@@ -1,6 +1,6 @@
 use Rattle.std.proofs.Common.{cond, refl, ap, sym, subst, ◌∙◌, length, [], ◌∷◌, None}
 use Rattle.boot_model.specs.DxeStep.{DxeFires, protocol_begun, protocol_line, swept}
-use Rattle.driver_order.specs.Order.{Drivers}
+use Rattle.dxe_action.specs.Order.{Drivers}
 use Rattle.dxe_core.specs.Standing.{DxeCore, IsCoreOf}
 use Rattle.dxe_core.proofs.Cases.{case_fires, is_busy, none_discovered, part, went}
 use Rattle.dxe_core.proofs.Fired.{fired_begun, fired_core}

@@ -1,0 +1,46 @@
+//! Laws of free boots in PEI, each on a function without a body.
+ghost use Rattle.boot_laws.specs.PeiUnderWay.{PeiOpensUnderWay, PeiStepsRunOut, PeiHasEnded};
+ghost use Rattle.boot_laws.specs.PeiFree.{PeiGoesOn, PeiStartsFreely, PeiEndsSo, PeiLinesGrow, PeiEndsFreely, OwnPeiStepsAreFree, BootIsFree};
+ghost use Rattle.boot_laws.specs.PeiAim.{CursorAims, CursorIsFree, NextMayStart, PeiStartsPrint};
+
+/// The opening of PEI is under way, each free step keeps a machine so and brings it nearer to its end, and with no step left it has ended.
+pub fn pei_opens()
+    ensures opens { PeiOpensUnderWay }
+    ensures nearer { PeiStepsRunOut }
+    ensures ended { PeiHasEnded }
+{}
+
+/// Where a machine of PEI has no choice the free boots from it are those from its next machine, and behind its end what comes after PEI.
+pub fn pei_goes_on()
+    ensures on { PeiGoesOn }
+    ensures ended { PeiEndsSo }
+{}
+
+/// Where it has a choice they are those from each part that may start; the part that the machine itself chooses is one of these. A start prints its start line first.
+pub fn pei_starts_freely()
+    ensures starts { PeiStartsFreely }
+    ensures prints { PeiStartsPrint }
+    ensures own { OwnPeiStepsAreFree }
+{}
+
+/// All lines of a free boot begin with those that were printed, and their text ends with a line feed.
+pub fn pei_lines_grow()
+    ensures { PeiLinesGrow }
+{}
+
+/// From each machine of PEI that is under way there is a free boot.
+pub fn pei_ends()
+    ensures { PeiEndsFreely }
+{}
+
+/// The boot of the machine itself is a free one.
+pub fn boot_is_free()
+    ensures { BootIsFree }
+{}
+
+/// Wherever the cursor stands the machine chooses a part that may start, and the free boots are the same; with the cursor before a part that may start it chooses that part.
+pub fn cursor_aims()
+    ensures aims { CursorAims }
+    ensures may { NextMayStart }
+    ensures free { CursorIsFree }
+{}

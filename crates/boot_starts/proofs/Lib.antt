@@ -1,9 +1,0 @@
-pub mod Fronts
-pub mod Modules
-pub mod PeiSteps
-pub mod DxeSteps
-pub mod Runs
-pub mod QuietLines
-pub mod PeiCounts
-pub mod DxeCounts
-pub mod OrderStarts

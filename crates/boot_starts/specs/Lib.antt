@@ -1,6 +1,0 @@
--- In the order in which to read them.
-pub mod Starts
-pub mod Order
-pub mod OneStep
-pub mod Leading
-pub mod Counted

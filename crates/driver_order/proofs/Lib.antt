@@ -1,4 +1,0 @@
-mod Listed
-mod NamesMore
-mod OrderMore
-mod BasesMore

@@ -1,0 +1,18 @@
+-- Numbers by name.
+-- Own.
+use Rattle.std.specs.Prelude.{◌≡◌, ℕ, if◌then◌else◌, List, [], ◌∷◌, ◌++◌, Option, map}
+use Rattle.pi_base.specs.declared.guid.Guid.{Guid}
+use Rattle.dxe_action.specs.declared.lists.NumberLists.{NumberLists}
+use Rattle.dxe_action.specs.Order.{gives, numbers_at}
+
+-- the names with their numbers
+abbrev pub entries_of : NumberLists → List (Guid × List ℕ)
+entries_of lists = map (λ entry. (entry.0, entry.1.items)) lists.lists.entries
+
+-- the numbers of a name
+abbrev pub numbers_of : NumberLists → Guid → List ℕ
+numbers_of lists name = numbers_at (entries_of lists) name
+
+-- a number has come behind those of this name, if there is one, and each other name has those that it had
+abbrev pub IsPushed : NumberLists → Option Guid → ℕ → NumberLists → Type 0
+IsPushed old name number new = (other : Guid) → numbers_of new other ≡ numbers_of old other ++ (if gives other name then number ∷ [] else [])

@@ -1,9 +1,0 @@
-use Rattle.std.proofs.Common.{◌≡◌, ◌++◌, drop, map}
-use Rattle.std.specs.Prelude.{filter}
-use Rattle.dxe_choice.specs.declared.group.Item.TheVariants.{Group}
-use Rattle.dxe_choice.specs.Queue.{waits_at}
-use Rattle.dxe_choice.proofs.group.push_waiting.Given as goal
-
--- the items so far, and those that are left, make the whole
-abbrev pub invariant-numbers : goal.invariant-numbers
-invariant-numbers l = l.stack ++ map Group (filter (waits_at l.waits) (drop l.number-index l.numbers)) ≡ l.fn.stack ++ map Group (filter (waits_at l.waits) l.numbers)

@@ -1,9 +1,0 @@
-use Rattle.std.proofs.Common.{◌≡◌, length}
-use Rattle.dxe_choice.specs.Choosing.{AllWait}
-use Rattle.dxe_choice.proofs.queue.all_wait.Given as goal
-
-abbrev pub invariant-modules : goal.invariant-modules
-invariant-modules l = record {
-  waits : AllWait l.waits;
-  flags : length l.waits ≡ l.index;
-}

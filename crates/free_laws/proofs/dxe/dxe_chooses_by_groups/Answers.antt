@@ -1,5 +1,0 @@
-use Rattle.free_laws.proofs.DxeWays as Law
-use Rattle.free_laws.proofs.dxe.dxe_chooses_by_groups.Goals as goal
-
-pub returns : goal.returns
-returns c = Law.first_may_start

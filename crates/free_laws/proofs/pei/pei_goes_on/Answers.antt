@@ -1,8 +1,0 @@
-use Rattle.free_laws.proofs.PeiRuns as Law
-use Rattle.free_laws.proofs.pei.pei_goes_on.Goals as goal
-
-pub returns-clause-on : goal.returns-clause-on
-returns-clause-on c = Law.goes_on
-
-pub returns-clause-ended : goal.returns-clause-ended
-returns-clause-ended c = Law.ends_so

@@ -1,4 +1,0 @@
-pub mod Fronts
-mod Pieces
-mod Places
-pub mod Telling

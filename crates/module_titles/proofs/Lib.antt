@@ -1,4 +1,0 @@
-mod FirstFound
-mod Images
-mod Names
-mod OneTitle

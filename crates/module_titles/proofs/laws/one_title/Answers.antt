@@ -1,7 +1,0 @@
-use Rattle.module_titles.specs.File.{file_body}
-use Rattle.module_titles.specs.Title.{file_of}
-use Rattle.module_titles.proofs.OneTitle.{one_of}
-use Rattle.module_titles.proofs.laws.one_title.Goals as goal
-
-pub returns : goal.returns
-returns c = λ volumes images m a b x y. one_of c.one_reading.ensures.sections c.one_reading.ensures.apart (file_body (file_of volumes images m)) a b x y

@@ -1,4 +1,0 @@
-pub mod File
-pub mod Mapped
-pub mod Name
-pub mod Title

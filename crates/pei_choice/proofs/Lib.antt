@@ -1,8 +1,0 @@
-mod Awaiting
-mod Room
-mod Differing
-pub mod Numbers
-mod Places
-mod GuidLists
-mod Views
-mod Notes

@@ -1,0 +1,11 @@
+// Laws that the dispatcher stands on.
+ghost use Rattle.catalog_model.specs.declared.catalog.Catalog.{Catalog};
+ghost use Rattle.pei_dispatch.specs.declared.queue.PeiQueue.{PeiQueue as Queue};
+ghost use Rattle.pei_dispatch.specs.Queue.{Shows};
+ghost use Rattle.pei_dispatch.specs.View.{AreAlike, View};
+
+/// A queue shows each view that says what one says that it shows.
+pub fn alike_views_are_shown()
+    ensures { (catalog : Catalog) (queue : Queue) (view other : View) → Shows catalog queue view → AreAlike view other
+        → Shows catalog queue other }
+{}

@@ -1,0 +1,26 @@
+//! The line that tells of a start.
+ghost use Rattle.std.specs.Prelude.{◌≡◌};
+ghost use Rattle.start_order.specs.Starts as S;
+
+use boot_model::Line;
+use pi_base::Phase;
+use start_order::Start;
+
+/// The start of which a line tells. None where it tells of none.
+pub fn start_of(line: &Line) -> Option<Start>
+    ensures { result ≡ S.start_of line.now }
+{
+    match line {
+        Line::PeiStart { volume, name, .. } => Some(Start {
+            phase: Phase::Pei,
+            volume: *volume,
+            name: *name,
+        }),
+        Line::DxeStart { volume, name, .. } => Some(Start {
+            phase: Phase::Dxe,
+            volume: *volume,
+            name: *name,
+        }),
+        _ => None,
+    }
+}

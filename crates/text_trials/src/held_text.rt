@@ -1,0 +1,33 @@
+// A text that pieces are put into.
+ghost use Rattle.std.specs.Prelude.{◌≡◌, ◌<◌, ◌-◌, ◌^◌, length};
+
+use boot_io::Sink;
+use free_check::Spelled;
+use std::test::*;
+
+const TEXT: &[u8] = b"ab\ncd\nef";
+
+// How many bytes of a text are met behind two pieces, the length of the line that is next, the number of the line, and whether all was met.
+fn behind(text: &[u8], first: &[u8], second: &[u8]) -> (usize, Option<usize>, u32, bool)
+    requires { length text.now < 2 ^ 32 - 1 }
+{
+    let mut held = Spelled::new(text);
+    let _first = held.put(first);
+    let _second = held.put(second);
+    let next = match held.next_line() {
+        Some(line) => Some(line.len()),
+        None => None,
+    };
+    (held.met().len(), next, held.line(), held.is_at_end())
+}
+
+#[test]
+fn pieces_are_held_against_a_text(rt: HostRuntime) -> Result<(), Fail> {
+    assert!(rt; behind(TEXT, b"", b"") == (0, Some(2), 1, false));
+    assert!(rt; behind(TEXT, b"ab\n", b"c") == (4, Some(1), 2, false));
+    assert!(rt; behind(TEXT, b"ab\n", b"cd\n") == (6, None, 3, false));
+    assert!(rt; behind(TEXT, b"ab\ncd\n", b"ef") == (8, None, 3, true));
+    assert!(rt; behind(TEXT, b"ab\ncd\nef", b"\n") == (8, None, 3, false));
+    assert!(rt; behind(TEXT, b"ab\nd", b"cd\n") == (3, None, 2, false));
+    Ok(())
+}

@@ -1,0 +1,112 @@
+-- Flags that are set and taken back, and blocks that are passed over.
+use Rattle.std.proofs.Common.{◌≡◌, ℕ, zero, suc, ◌+◌, ◌*◌, ◌/◌, ◌≤◌, ◌<◌, Bool, true, false, ◌||◌, ◌&&◌, List, [], ◌∷◌, length, arith, ap, refl, sym, subst, ◌∙◌, Option, Some, None}
+use Rattle.std.proofs.Common.{inl, inr}
+use Rattle.std.specs.Prelude.{slice_set, replicate, IfNone}
+use Rattle.std.proofs.lemmas.Bool.Decides.{eqb_tells}
+use Rattle.wait_index.specs.PlaceFlags.{flag, count, either, AreMarked, IsFirst}
+
+pub flag_here : (flags : List Bool) (place : ℕ) (set : Bool) → place < length flags → flag (slice_set flags place set) place ≡ set
+flag_here [] place set less = absurd (omega (arith, less))
+flag_here (f ∷ flags) zero set less = refl
+flag_here (f ∷ flags) (suc place) set less = flag_here flags place set (omega (arith, less))
+
+pub flag_other : (flags : List Bool) (place : ℕ) (set : Bool) (other : ℕ) → ¬ (place ≡ other) → flag (slice_set flags place set) other ≡ flag flags other
+flag_other [] place set other apart = refl
+flag_other (f ∷ flags) zero set zero apart = absurd (apart refl)
+flag_other (f ∷ flags) zero set (suc other) apart = refl
+flag_other (f ∷ flags) (suc place) set zero apart = refl
+flag_other (f ∷ flags) (suc place) set (suc other) apart = flag_other flags place set other (λ e. apart (ap suc e))
+
+pub count_set : (flags : List Bool) (place : ℕ) → count (slice_set flags place true) ≤ count flags + 1
+count_set [] place = omega arith
+count_set (true ∷ flags) zero = omega arith
+count_set (false ∷ flags) zero = omega arith
+count_set (f ∷ flags) (suc place) = omega (arith, count_set flags place)
+
+pub count_cleared : (flags : List Bool) (place : ℕ) → count (slice_set flags place false) ≤ count flags
+count_cleared [] place = omega arith
+count_cleared (true ∷ flags) zero = omega arith
+count_cleared (false ∷ flags) zero = omega arith
+count_cleared (f ∷ flags) (suc place) = omega (arith, count_cleared flags place)
+
+pub count_less : (flags : List Bool) (place : ℕ) → flag flags place ≡ true → count (slice_set flags place false) + 1 ≡ count flags
+count_less [] place set = let no : false ≡ true = set in absurd (cc)
+count_less (true ∷ flags) zero set = omega arith
+count_less (false ∷ flags) zero set = let no : false ≡ true = set in absurd (cc)
+count_less (f ∷ flags) (suc place) set = omega (arith, count_less flags place set)
+
+-- where no flag is set they count nothing
+pub count_none : (flags : List Bool) → ((place : ℕ) → flag flags place ≡ false) → count flags ≡ 0
+count_none [] none = refl
+count_none (true ∷ flags) none = let no : true ≡ false = none 0 in absurd (cc)
+count_none (false ∷ flags) none = omega (arith, count_none flags (λ place. none (suc place)))
+
+-- a flag behind the end is not set
+pub flag_behind : (flags : List Bool) (place : ℕ) → length flags ≤ place → flag flags place ≡ false
+flag_behind [] place le = refl
+flag_behind (f ∷ flags) zero le = absurd (omega (arith, le))
+flag_behind (f ∷ flags) (suc place) le = flag_behind flags place (omega (arith, le))
+
+not_true : (b : Bool) → (b ≡ true → ⊥) → b ≡ false
+not_true true h = absurd (h refl)
+not_true false h = refl
+
+-- in an empty block no flag is set
+pub unset_in : (flags blocks : List Bool) (block place : ℕ) → AreMarked flags blocks → flag blocks block ≡ false → place / 64 ≡ block → flag flags place ≡ false
+unset_in flags blocks block place marked none here = not_true (flag flags place) (λ set.
+    let there : flag blocks (place / 64) ≡ true = marked place set in
+    let now : flag blocks block ≡ true = subst (λ n. flag blocks n ≡ true) here there in
+    cc)
+
+or_false : (a both b : Bool) → (a || (both && b)) ≡ false → (a ≡ false) × ((both && b) ≡ false)
+or_false true both b h = absurd (cc)
+or_false false both b h = (refl, h)
+
+and_none : (both b c : Bool) → (both && b) ≡ false → (b ≡ false → c ≡ false) → (both && c) ≡ false
+and_none true b c h f = f h
+and_none false b c h f = refl
+
+pub unset_in_either : (both : Bool) (flags blocks more more_blocks : List Bool) (block place : ℕ) → AreMarked flags blocks → AreMarked more more_blocks → either both blocks more_blocks block ≡ false
+    → place / 64 ≡ block → either both flags more place ≡ false
+unset_in_either both flags blocks more more_blocks block place marked more_marked none here =
+    let parts = or_false (flag blocks block) both (flag more_blocks block) none in
+    let one : flag flags place ≡ false = unset_in flags blocks block place marked parts.0 here in
+    let two : (both && flag more place) ≡ false = and_none both (flag more_blocks block) (flag more place) parts.1 (λ e. unset_in more more_blocks block place more_marked e here) in
+    ap (λ a. a || (both && flag more place)) one ∙ two
+
+pub either_behind : (both : Bool) (flags more : List Bool) (place : ℕ) → length more ≡ length flags → length flags ≤ place → either both flags more place ≡ false
+either_behind both flags more place same le =
+    let two : (both && flag more place) ≡ false = and_none both false (flag more place) (elim both as (λ b. (b && false) ≡ false) [ true ↦ refl | false ↦ refl ]) (λ e. flag_behind more place (omega (arith, same, le))) in
+    ap (λ a. a || (both && flag more place)) (flag_behind flags place le) ∙ two
+
+pub none_set : (n place : ℕ) → flag (replicate n false) place ≡ false
+none_set zero place = refl
+none_set (suc n) zero = refl
+none_set (suc n) (suc place) = none_set n place
+
+-- blocks tell of a place more
+pub marked_set : (flags blocks : List Bool) (place : ℕ) → place / 64 < length blocks → AreMarked flags blocks → AreMarked (slice_set flags place true) (slice_set blocks (place / 64) true)
+marked_set flags blocks place less marked other set = elim (eqb_tells (place / 64) (other / 64)) [
+  | inl same ↦ subst (λ n. flag (slice_set blocks (place / 64) true) n ≡ true) same.1 (flag_here blocks (place / 64) true less)
+  | inr apart ↦ flag_other blocks (place / 64) true (other / 64) apart.1 ∙ marked other (sym (flag_other flags place true other (λ e. apart.1 (ap (λ n. n / 64) e))) ∙ set)
+]
+
+-- and of a place less
+pub marked_less : (flags blocks : List Bool) (place : ℕ) → place < length flags → AreMarked flags blocks → AreMarked (slice_set flags place false) blocks
+marked_less flags blocks place less marked other set = elim (eqb_tells place other) [
+  | inl same ↦ let no : false ≡ true = sym (flag_here flags place false less) ∙ subst (λ n. flag (slice_set flags place false) n ≡ true) (sym same.1) set in absurd (cc)
+  | inr apart ↦ marked other (sym (flag_other flags place false other apart.1) ∙ set)
+]
+
+-- a block of which no place is set may say so
+pub marked_empty : (flags blocks : List Bool) (block : ℕ) → ((place : ℕ) → block * 64 ≤ place → place < block * 64 + 64 → flag flags place ≡ false) → AreMarked flags blocks
+    → AreMarked flags (slice_set blocks block false)
+marked_empty flags blocks block empty marked place set = elim (eqb_tells block (place / 64)) [
+  | inl same ↦ let no : false ≡ true = sym (empty place (omega (arith, same.1)) (omega (arith, same.1))) ∙ set in absurd (cc)
+  | inr apart ↦ flag_other blocks block false (place / 64) apart.1 ∙ marked place set
+]
+
+-- where no flag from the front on is set, none is
+pub none_left : (flags : List Bool) (from : ℕ) (first : Option ℕ) → IsFirst (either false flags flags) from first → from ≡ 0 → IfNone first (count flags ≡ 0)
+none_left flags from (Some place) is front = tt
+none_left flags from None is front = count_none flags (λ place. (or_false (flag flags place) false (flag flags place) (is place (omega (arith, front)))).0)
