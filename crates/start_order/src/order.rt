@@ -4,9 +4,9 @@ ghost use Rattle.start_order.specs.Order.{asked_in};
 ghost use Rattle.start_order.specs.Order as O;
 
 use crate::printed_start::start_of;
+use crate::{AskedStart, StartOrder};
 use boot_model::Line;
 use pi_base::{OutOfMemory, Seq};
-use start_order::{AskedStart, StartOrder};
 use std::alloc::Global;
 
 // Notes the start of which the line with this number tells.

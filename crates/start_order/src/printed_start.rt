@@ -2,9 +2,9 @@
 ghost use Rattle.std.specs.Prelude.{◌≡◌};
 ghost use Rattle.start_order.specs.Starts as S;
 
+use crate::Start;
 use boot_model::Line;
 use pi_base::Phase;
-use start_order::Start;
 
 /// The start of which a line tells. None where it tells of none.
 pub fn start_of(line: &Line) -> Option<Start>
