@@ -1,4 +1,5 @@
 mod EntryPlaces
+pub mod FixedWords
 mod HobBounds
 mod HeapPieces
 mod HeapReads
@@ -6,6 +7,7 @@ mod Hexadecimal
 mod HobPlaces
 pub mod Lines
 mod ListPlaces
+mod PieceTexts
 mod PutLines
 mod SpanLines
 mod StartLines

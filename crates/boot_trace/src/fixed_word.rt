@@ -1,10 +1,14 @@
-//! The fixed words of lines.
-ghost use Rattle.std.specs.Prelude.{◌≡◌};
-ghost use Rattle.boot_model.specs.Text.{licence_text, call_text, reason_text, end_text, plan_cause_text, image_cause_text, keyword};
+//! The fixed words of lines, and the values that have them.
+ghost use Rattle.std.specs.Prelude.{◌≡◌, List, ℕ};
+ghost use Rattle.std.specs.List.{Contains};
+ghost use Rattle.pi_base.specs.WordText.{word_text};
+ghost use Rattle.boot_trace.specs.FixedWords.{IsPlain};
+ghost use Rattle.boot_model.specs.Text.{licence_text, call_text, reason_text, end_text, plan_cause_text, image_cause_text};
 
-use boot_model::{CallName, Licence, Line, Reason, RunEnd};
+use boot_model::{CallName, Licence, Reason, RunEnd};
 use boot_plan::PlanCause;
 use catalog_model::ImageCause;
+use pi_base::Word;
 
 /// Why a module starts, as a line names it.
 #[tactic(auto, unfolding(boot_model::specs::Text::licence_text))]
@@ -21,9 +25,9 @@ pub fn licence_word(licence: Licence) -> &'static [u8]
     }
 }
 
-/// The name of a service.
+// The name of a service.
 #[tactic(auto, unfolding(boot_model::specs::Text::call_text))]
-pub fn call_name_word(name: CallName) -> &'static [u8]
+pub(crate) fn call_name_word(name: CallName) -> &'static [u8]
     ensures { result.now ≡ call_text name }
 {
     match name {
@@ -77,9 +81,9 @@ pub fn run_end_word(end: RunEnd) -> &'static [u8]
     }
 }
 
-/// A cause of a refused plan, as a line names it.
+// A cause of a refused plan, as a line names it.
 #[tactic(auto, unfolding(boot_model::specs::Text::plan_cause_text))]
-pub fn plan_cause_word(cause: PlanCause) -> &'static [u8]
+pub(crate) fn plan_cause_word(cause: PlanCause) -> &'static [u8]
     ensures { result.now ≡ plan_cause_text cause }
 {
     match cause {
@@ -94,9 +98,9 @@ pub fn plan_cause_word(cause: PlanCause) -> &'static [u8]
     }
 }
 
-/// A cause of a refused image, as a line names it.
+// A cause of a refused image, as a line names it.
 #[tactic(auto, unfolding(boot_model::specs::Text::image_cause_text))]
-pub fn image_cause_word(cause: ImageCause) -> &'static [u8]
+pub(crate) fn image_cause_word(cause: ImageCause) -> &'static [u8]
     ensures { result.now ≡ image_cause_text cause }
 {
     match cause {
@@ -133,47 +137,205 @@ pub fn image_cause_word(cause: ImageCause) -> &'static [u8]
     }
 }
 
-// The keyword of a line.
-#[tactic(auto, unfolding(boot_model::specs::Text::keyword))]
-pub(crate) fn keyword(line: &Line) -> &'static [u8]
-    ensures { result.now ≡ keyword line.now }
-{
-    match line {
-        Line::Report { .. } => b"report",
-        Line::PeiStart { .. } => b"pei start",
-        Line::DxeStart { .. } => b"dxe start",
-        Line::Call { .. } => b"call",
-        Line::Log { .. } => b"log",
-        Line::NotifyCallback { .. } => b"notify callback",
-        Line::NotifyDispatch { .. } => b"notify dispatch",
-        Line::NotifyProtocol { .. } => b"notify protocol",
-        Line::End { .. } => b"end",
-        Line::Migrate { .. } => b"migrate",
-        Line::CoreInstall { .. } => b"core install",
-        Line::PeiStop => b"pei stop",
-        Line::DxeStop => b"dxe stop",
-        Line::Waiting { .. } => b"waiting",
-        Line::Handoff { .. } => b"handoff",
-        Line::DxeVolume { .. } => b"dxe volume",
-        Line::Ppis { .. } => b"ppis",
-        Line::Ppi { .. } => b"ppi",
-        Line::Callbacks { .. } => b"callbacks",
-        Line::Callback { .. } => b"callback",
-        Line::Dispatches { .. } => b"dispatches",
-        Line::Dispatch { .. } => b"dispatch",
-        Line::Pendings { .. } => b"pendings",
-        Line::Pending { .. } => b"pending",
-        Line::Hobs { .. } => b"hobs",
-        Line::Hob { .. } => b"hob",
-        Line::Handles { .. } => b"handles",
-        Line::Handle { .. } => b"handle",
-        Line::Result { .. } => b"result",
-        Line::Volume { .. } => b"volume",
-        Line::Module { .. } => b"module",
-        Line::RefusedUsage => b"refused usage",
-        Line::RefusedFile { .. } => b"refused file",
-        Line::RefusedLong { .. } => b"refused long",
-        Line::RefusedPlan { .. } => b"refused plan",
-        Line::RefusedImage { .. } => b"refused image",
+/// A value of few, each with a word of its own.
+pub trait FixedWord: Copy + 'static {
+    ghost use Rattle.std.specs.Prelude.{◌≡◌, List, ℕ};
+    ghost use Rattle.std.specs.List.{Contains};
+    ghost use Rattle.boot_trace.specs.FixedWords.{IsPlain};
+
+    ghost text_of: { Self → List ℕ };
+
+    /// Its word.
+    fn word(self) -> &'static [u8]
+        ensures { result.now ≡ text_of self };
+
+    /// Each of the values.
+    fn all() -> &'static [Self]
+        ensures each { (value : Self) → Contains result.now value }
+        ensures plain { (value : Self) → IsPlain (text_of value) };
+}
+
+impl FixedWord for Word {
+    ghost use Rattle.pi_base.specs.WordText.{word_text};
+
+    ghost text_of = { word_text };
+
+    fn word(self) -> &'static [u8] {
+        Word::text(self)
+    }
+
+    fn all() -> &'static [Word] {
+        &[
+            Word::Success,
+            Word::InvalidParameter,
+            Word::NotFound,
+            Word::OutOfResources,
+            Word::NotAvailableYet,
+            Word::AlreadyStarted,
+            Word::AccessDenied,
+        ]
+    }
+}
+
+impl FixedWord for Licence {
+    ghost use Rattle.boot_model.specs.Text.{licence_text};
+
+    ghost text_of = { licence_text };
+
+    fn word(self) -> &'static [u8] {
+        licence_word(self)
+    }
+
+    fn all() -> &'static [Licence] {
+        &[
+            Licence::Apriori,
+            Licence::Absent,
+            Licence::True,
+            Licence::Shadow,
+            Licence::Before,
+            Licence::After,
+        ]
+    }
+}
+
+impl FixedWord for CallName {
+    ghost use Rattle.boot_model.specs.Text.{call_text};
+
+    ghost text_of = { call_text };
+
+    fn word(self) -> &'static [u8] {
+        call_name_word(self)
+    }
+
+    fn all() -> &'static [CallName] {
+        &[
+            CallName::Pool,
+            CallName::Store,
+            CallName::Peek,
+            CallName::Desc,
+            CallName::Install,
+            CallName::Reinstall,
+            CallName::Notify,
+            CallName::Locate,
+            CallName::Hob,
+            CallName::Memory,
+            CallName::Pages,
+            CallName::BootMode,
+            CallName::Shadow,
+            CallName::Uninstall,
+            CallName::Schedule,
+            CallName::Process,
+            CallName::Dispatch,
+        ]
+    }
+}
+
+impl FixedWord for Reason {
+    ghost use Rattle.boot_model.specs.Text.{reason_text};
+
+    ghost text_of = { reason_text };
+
+    fn word(self) -> &'static [u8] {
+        reason_word(self)
+    }
+
+    fn all() -> &'static [Reason] {
+        &[
+            Reason::Malformed,
+            Reason::False,
+            Reason::Shadow,
+            Reason::Unrequested,
+            Reason::Before,
+            Reason::After,
+            Reason::Absent,
+        ]
+    }
+}
+
+impl FixedWord for RunEnd {
+    ghost use Rattle.boot_model.specs.Text.{end_text};
+
+    ghost text_of = { end_text };
+
+    fn word(self) -> &'static [u8] {
+        run_end_word(self)
+    }
+
+    fn all() -> &'static [RunEnd] {
+        &[
+            RunEnd::Done,
+            RunEnd::NoMemory,
+            RunEnd::NoIpl,
+            RunEnd::Spent,
+            RunEnd::Deep,
+        ]
+    }
+}
+
+impl FixedWord for PlanCause {
+    ghost use Rattle.boot_model.specs.Text.{plan_cause_text};
+
+    ghost text_of = { plan_cause_text };
+
+    fn word(self) -> &'static [u8] {
+        plan_cause_word(self)
+    }
+
+    fn all() -> &'static [PlanCause] {
+        &[
+            PlanCause::Word,
+            PlanCause::Number,
+            PlanCause::Missing,
+            PlanCause::Twice,
+            PlanCause::Overlap,
+            PlanCause::Limit,
+            PlanCause::Room,
+            PlanCause::Memory,
+        ]
+    }
+}
+
+impl FixedWord for ImageCause {
+    ghost use Rattle.boot_model.specs.Text.{image_cause_text};
+
+    ghost text_of = { image_cause_text };
+
+    fn word(self) -> &'static [u8] {
+        image_cause_word(self)
+    }
+
+    fn all() -> &'static [ImageCause] {
+        &[
+            ImageCause::Short,
+            ImageCause::Signature,
+            ImageCause::Revision,
+            ImageCause::FileSystem,
+            ImageCause::Length,
+            ImageCause::HeaderLength,
+            ImageCause::HeaderSum,
+            ImageCause::ExtHeader,
+            ImageCause::FileSum,
+            ImageCause::FileSize,
+            ImageCause::DataSum,
+            ImageCause::TooManyFiles,
+            ImageCause::Size,
+            ImageCause::Compressed,
+            ImageCause::GuidDefined,
+            ImageCause::TooMany,
+            ImageCause::Magic,
+            ImageCause::Version,
+            ImageCause::Phase,
+            ImageCause::Count,
+            ImageCause::Block,
+            ImageCause::Action,
+            ImageCause::Jump,
+            ImageCause::Index,
+            ImageCause::Nesting,
+            ImageCause::TooManyModules,
+            ImageCause::Place,
+            ImageCause::TooManyVolumes,
+            ImageCause::ScriptTotal,
+            ImageCause::Memory,
+        ]
     }
 }

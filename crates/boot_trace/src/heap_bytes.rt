@@ -9,6 +9,8 @@ ghost use Rattle.boot_model.specs.Text.{bytes_text, line_text};
 ghost use Rattle.boot_trace.specs.HeapParts.{IsHeapPart, heap_part};
 
 use crate::hob_line::{PIECE_LEN, put_front, put_piece};
+use crate::keywords::HOB;
+use crate::marks::DASH;
 use crate::number_word::decimal_word;
 use boot_io::{Sink, SinkFault, put_line};
 use store_model::PeiStore;
@@ -91,7 +93,7 @@ fn put_heap_hob<S: Sink, M: PeiStore>(
         return put_line(
             sink,
             keyword,
-            &[decimal_word(u64::from(kind)).as_slice(), b"-"],
+            &[decimal_word(u64::from(kind)).as_slice(), DASH],
         );
     }
     match put_front(sink, keyword, kind) {
@@ -114,5 +116,5 @@ pub(crate) fn put_heap_line<S: Sink, M: PeiStore>(
         (λ s. Puts result (S.text sink.old) (S.text sink.new) (line_text (L.Hob kind (heap_part s at len)))) }
     ensures cause { SinkFaultsAfter result (S.faults sink.old) (S.faults sink.new) }
 {
-    put_heap_hob(sink, store, b"hob", kind, at, len)
+    put_heap_hob(sink, store, HOB, kind, at, len)
 }

@@ -3,24 +3,24 @@
 //! Tried in `text_trials`: `printed_lines`.
 #![tactic(auto)]
 
-mod audit_line;
-mod call_line;
 mod entry_list;
 mod fixed_word;
+mod gather;
 mod heap_bytes;
 mod hob_bytes;
 mod hob_line;
+pub mod keywords;
 mod line;
+pub mod marks;
 mod number_word;
+mod piece;
 mod start;
 mod store_hobs;
 mod store_lists;
-mod trace_line;
+mod word_list;
 
 pub use entry_list::count_ppis;
-pub use fixed_word::{
-    call_name_word, image_cause_word, licence_word, plan_cause_word, reason_word, run_end_word,
-};
+pub use fixed_word::{FixedWord, licence_word, reason_word, run_end_word};
 pub use hob_bytes::hob_list;
 pub use line::{put, put_all, put_refused_file, put_refused_long};
 pub use number_word::{decimal_word, hexadecimal_word};

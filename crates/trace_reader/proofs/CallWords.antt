@@ -7,7 +7,7 @@ use Rattle.boot_model.specs.declared.line.CallName.{CallName}
 use Rattle.pi_base.specs.WordText.{word_text}
 use Rattle.boot_model.specs.Text.{call_text}
 use Rattle.trace_reader.proofs.Splits.{same_front, same_back, behind_is, tail_of}
-use Rattle.trace_reader.proofs.FixedWords.{call_text_plain, word_text_plain, call_text_one, word_text_one}
+use Rattle.boot_trace.proofs.FixedWords.{call_text_plain, word_text_plain, call_text_one, word_text_one}
 
 pub call_is : (line : List ℕ) (a b : CallName) (s t : Word) (xs ys : List (List ℕ)) → line ≡ codes "call" ++ flat_map spaced (call_text a ∷ word_text s ∷ xs)
     → line ≡ codes "call" ++ flat_map spaced (call_text b ∷ word_text t ∷ ys) → (a ≡ b) × (s ≡ t)

@@ -211,41 +211,7 @@ made OfRefusedLong p = L.RefusedLong p
 
 pub made_back : (line : Line) → made (form line) (parts line) ≡ line
 made_back (L.Report volume) = refl
-made_back (L.DxeVolume volume) = refl
-made_back (L.PeiStart volume name licence) = refl
-made_back (L.DxeStart volume name licence) = refl
-made_back (L.NotifyCallback volume name fired) = refl
-made_back (L.NotifyDispatch volume name fired) = refl
-made_back (L.NotifyProtocol volume name fired) = refl
-made_back (L.End status) = refl
-made_back L.PeiStop = refl
-made_back L.DxeStop = refl
-made_back (L.Waiting volume name reason) = refl
-made_back (L.Handoff address) = refl
-made_back (L.Result outcome) = refl
-made_back (L.Migrate from to) = refl
-made_back (L.CoreInstall status) = refl
-made_back (L.Ppis count) = refl
-made_back (L.Callbacks count) = refl
-made_back (L.Dispatches count) = refl
-made_back (L.Pendings count) = refl
-made_back (L.Hobs count) = refl
-made_back (L.Handles count) = refl
-made_back (L.Ppi by guid value) = refl
-made_back (L.Callback guid by block) = refl
-made_back (L.Dispatch guid by block) = refl
-made_back (L.Pending guid by block) = refl
-made_back (L.Handle handle guid value) = refl
-made_back (L.Volume volume base len name) = refl
-made_back (L.Module by volume name kind pei_rank dxe_rank pei dxe) = refl
-made_back L.RefusedUsage = refl
-made_back (L.RefusedPlan line cause) = refl
-made_back (L.RefusedImage volume at cause) = refl
-made_back (L.Call name status extra) = refl
-made_back (L.Log text) = refl
-made_back (L.Hob kind body) = refl
-made_back (L.RefusedFile name) = refl
-made_back (L.RefusedLong name) = refl
+made_back _ = refl
 
 -- whether a text begins with a keyword, and then ends or goes on with a space
 abbrev begins : List ℕ → List ℕ → Bool
@@ -263,41 +229,7 @@ form_of text = option_map (λ pair. pair.1) (find (λ pair. begins pair.0 text) 
 form_back : (line : Line) → form_of (keyword line ++ flat_map spaced (words line)) ≡ Some (form line)
 unfolding keyword
 form_back (L.Report volume) = refl
-form_back (L.DxeVolume volume) = refl
-form_back (L.PeiStart volume name licence) = refl
-form_back (L.DxeStart volume name licence) = refl
-form_back (L.NotifyCallback volume name fired) = refl
-form_back (L.NotifyDispatch volume name fired) = refl
-form_back (L.NotifyProtocol volume name fired) = refl
-form_back (L.End status) = refl
-form_back L.PeiStop = refl
-form_back L.DxeStop = refl
-form_back (L.Waiting volume name reason) = refl
-form_back (L.Handoff address) = refl
-form_back (L.Result outcome) = refl
-form_back (L.Migrate from to) = refl
-form_back (L.CoreInstall status) = refl
-form_back (L.Ppis count) = refl
-form_back (L.Callbacks count) = refl
-form_back (L.Dispatches count) = refl
-form_back (L.Pendings count) = refl
-form_back (L.Hobs count) = refl
-form_back (L.Handles count) = refl
-form_back (L.Ppi by guid value) = refl
-form_back (L.Callback guid by block) = refl
-form_back (L.Dispatch guid by block) = refl
-form_back (L.Pending guid by block) = refl
-form_back (L.Handle handle guid value) = refl
-form_back (L.Volume volume base len name) = refl
-form_back (L.Module by volume name kind pei_rank dxe_rank pei dxe) = refl
-form_back L.RefusedUsage = refl
-form_back (L.RefusedPlan line cause) = refl
-form_back (L.RefusedImage volume at cause) = refl
-form_back (L.Call name status extra) = refl
-form_back (L.Log text) = refl
-form_back (L.Hob kind body) = refl
-form_back (L.RefusedFile name) = refl
-form_back (L.RefusedLong name) = refl
+form_back _ = refl
 
 some_form : (a b : Form) → Some a ≡ Some b → a ≡ b
 some_form a b is = cc

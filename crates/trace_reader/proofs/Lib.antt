@@ -1,5 +1,4 @@
 pub mod Splits
-pub mod FixedWords
 pub mod PlainWords
 pub mod HexWords
 pub mod CallWords

@@ -17,7 +17,7 @@ use Rattle.trace_reader.specs.Trace.{BeginsWithLine}
 use Rattle.printed_words.proofs.LineFeeds.{both_lack, same_line, feed_there}
 use Rattle.printed_words.proofs.PlainWords.{decimal_plain, hexadecimal_plain, guid_plain, encoded_plain}
 use Rattle.trace_reader.proofs.PlainWords.{decimal_16_plain, decimal_32_plain, by_plain, rank_plain, name_plain, kind_plain, expression_plain, shown_plain}
-use Rattle.trace_reader.proofs.FixedWords.{licence_text_plain, word_text_plain, reason_text_plain, end_text_plain, plan_cause_text_plain, image_cause_text_plain, call_text_plain}
+use Rattle.boot_trace.proofs.FixedWords.{licence_text_plain, word_text_plain, reason_text_plain, end_text_plain, plan_cause_text_plain, image_cause_text_plain, call_text_plain}
 
 -- a plain word has no line feed
 plain_lacks : (word : List ℕ) → IsPlain word → Lacks 10 word

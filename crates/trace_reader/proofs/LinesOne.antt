@@ -18,7 +18,7 @@ use Rattle.trace_reader.specs.Readable.{IsReadable, IsExtra, shows_number}
 use Rattle.trace_reader.proofs.Splits.{same_front, same_back, behind_is, tail_of}
 use Rattle.printed_words.proofs.PlainWords.{decimal_plain, hexadecimal_plain, guid_plain}
 use Rattle.trace_reader.proofs.PlainWords.{decimal_16_plain, decimal_32_plain, by_plain, rank_plain, name_plain, kind_plain, expression_plain, shown_plain}
-use Rattle.trace_reader.proofs.FixedWords.{licence_text_plain, word_text_plain, reason_text_plain, end_text_plain, plan_cause_text_plain, image_cause_text_plain, call_text_plain, licence_text_one, word_text_one, reason_text_one, end_text_one, plan_cause_text_one, image_cause_text_one, call_text_one}
+use Rattle.boot_trace.proofs.FixedWords.{licence_text_plain, word_text_plain, reason_text_plain, end_text_plain, plan_cause_text_plain, image_cause_text_plain, call_text_plain, licence_text_one, word_text_one, reason_text_one, end_text_one, plan_cause_text_one, image_cause_text_one, call_text_one}
 use Rattle.trace_reader.proofs.FieldsOne.{wide_one, decimal_one, hexadecimal_one, guid_one, by_one, rank_one, name_one, kind_one, expression_one, encoded_one, bytes_one}
 use Rattle.trace_reader.proofs.LineBodies.{bytes_plain}
 use Rattle.trace_reader.proofs.Forms.{Form, Parts, form, parts, made, made_back, form_one, OfReport, OfDxeVolume, OfPeiStart, OfDxeStart, OfNotifyCallback, OfNotifyDispatch, OfNotifyProtocol, OfEnd, OfPeiStop, OfDxeStop, OfWaiting, OfHandoff, OfResult, OfMigrate, OfCoreInstall, OfPpis, OfCallbacks, OfDispatches, OfPendings, OfHobs, OfHandles, OfPpi, OfCallback, OfDispatch, OfPending, OfHandle, OfVolume, OfModule, OfRefusedUsage, OfRefusedPlan, OfRefusedImage, OfCall, OfLog, OfHob, OfRefusedFile, OfRefusedLong}

@@ -4,6 +4,8 @@ use Rattle.std.specs.List.{position_or_len, list_all}
 use Rattle.std.proofs.lemmas.List.{take_at, drop_at}
 use Rattle.std.proofs.lemmas.Bool.{and_parts}
 use Rattle.std.proofs.lemmas.Bool.Decides.{nat_tests}
+use Rattle.std.specs.Borrow.{Bor}
+use Rattle.std.specs.Option.{MatchOption}
 use Rattle.boot_io.specs.Line.{spaced}
 use Rattle.printed_words.specs.Words.{Finds, IsPlain}
 
@@ -53,3 +55,10 @@ same_back word other words others plain too is =
 
 pub tail_of : (first : ℕ) (rest others : List ℕ) → first ∷ rest ≡ first ∷ others → rest ≡ others
 tail_of first rest others is = ap (drop 1) is
+
+-- what follows a front and a space
+pub after_space : (line front rest : List ℕ) (r : Option (Bor (List ℕ))) → line ≡ front ++ rest
+    → MatchOption r ((others : List ℕ) → rest ≡ 32 ∷ others → ⊥) (λ others. rest ≡ 32 ∷ others.now)
+    → MatchOption r ((others : List ℕ) → line ≡ front ++ 32 ∷ others → ⊥) (λ others. line ≡ front ++ 32 ∷ others.now)
+after_space line front rest (Some others) is found = is ∙ ap (λ t. front ++ t) found
+after_space line front rest None is none = λ others there. none others (behind_is line front rest (32 ∷ others) is there)

@@ -18,73 +18,55 @@ use Rattle.boot_model.specs.declared.line.ExpressionWord.TheVariants as V
 use Rattle.boot_model.specs.Text.{keyword, words}
 use Rattle.printed_words.specs.Words.{IsGuid, Lacks}
 
+-- a rank, if there is one, fits its type
 abbrev pub IsRank : Option ℕ → Type 0
 IsRank None = ⊤
 IsRank (Some rank) = rank < 2 ^ 32
 
+-- a name, if there is one, has sixteen bytes
 abbrev pub IsName : Option Guid → Type 0
 IsName None = ⊤
 IsName (Some name) = IsGuid name
 
+-- an offset or a name in an expression fits its type
 abbrev pub IsExpression : ExpressionWord → Type 0
 IsExpression (V.Malformed at) = at < 2 ^ 32
 IsExpression (V.Before name) = IsGuid name
 IsExpression (V.After name) = IsGuid name
-IsExpression V.NoPart = ⊤
-IsExpression V.Absent = ⊤
-IsExpression V.Tree = ⊤
-IsExpression V.Sor = ⊤
+IsExpression _ = ⊤
 
 -- so many as a script may log or read at once
 abbrev pub IsShown : List ℕ → Type 0
 IsShown bytes = (0 < length bytes) × (length bytes ≤ SHOWN_LEN) × IsBytes bytes
 
--- printable characters, so many as a script may log at once
+-- a printable character of ASCII
 abbrev pub is_printable : ℕ → Bool
 is_printable byte = nat_le 0x20 byte && nat_le byte 0x7e
 
+-- printable characters, so many as a script may log at once
 abbrev pub IsLogged : List ℕ → Type 0
 IsLogged text = (0 < length text) × (length text ≤ SHOWN_LEN) × (list_all is_printable text ≡ true)
 
--- the actions that may show nothing on success
+-- the actions that may show nothing on success: all but those that always have an answer to show
 abbrev pub shows_nothing : CallName → Bool
 shows_nothing C.Pool = false
-shows_nothing C.Store = true
 shows_nothing C.Peek = false
 shows_nothing C.Desc = false
-shows_nothing C.Install = true
-shows_nothing C.Reinstall = true
-shows_nothing C.Notify = true
 shows_nothing C.Locate = false
 shows_nothing C.Hob = false
-shows_nothing C.Memory = true
 shows_nothing C.Pages = false
-shows_nothing C.BootMode = true
-shows_nothing C.Shadow = true
-shows_nothing C.Uninstall = true
-shows_nothing C.Schedule = true
-shows_nothing C.Process = true
-shows_nothing C.Dispatch = true
+shows_nothing _ = true
 
 -- the actions that may show a number: an address, a value, a mode or a handle
 abbrev pub shows_number : CallName → Bool
 shows_number C.Pool = true
-shows_number C.Store = false
-shows_number C.Peek = false
 shows_number C.Desc = true
 shows_number C.Install = true
-shows_number C.Reinstall = false
-shows_number C.Notify = false
 shows_number C.Locate = true
 shows_number C.Hob = true
-shows_number C.Memory = false
 shows_number C.Pages = true
 shows_number C.BootMode = true
-shows_number C.Shadow = false
-shows_number C.Uninstall = false
-shows_number C.Schedule = false
-shows_number C.Process = false
-shows_number C.Dispatch = false
+shows_number _ = false
 
 -- what an action shows behind its status: nothing where it is refused
 abbrev pub IsExtra : CallName → Word → Extra → Type 0
@@ -92,6 +74,7 @@ IsExtra name status E.Nothing = status ≡ Success → shows_nothing name ≡ tr
 IsExtra name status (E.Number n) = (status ≡ Success) × (shows_number name ≡ true) × (n < 2 ^ 64)
 IsExtra name status (E.Bytes bytes) = (status ≡ Success) × (name ≡ C.Peek) × IsShown bytes.items
 
+-- each number fits its type, and each name and text can be printed in its place; a line of fixed words is always readable
 abbrev pub IsReadable : Line → Type 0
 IsReadable (L.Report volume) = volume < 2 ^ 32
 IsReadable (L.PeiStart volume name licence) = (volume < 2 ^ 32) × IsGuid name
@@ -101,11 +84,7 @@ IsReadable (L.Log text) = IsLogged text.items
 IsReadable (L.NotifyCallback volume name fired) = (volume < 2 ^ 32) × IsGuid name × IsGuid fired
 IsReadable (L.NotifyDispatch volume name fired) = (volume < 2 ^ 32) × IsGuid name × IsGuid fired
 IsReadable (L.NotifyProtocol volume name fired) = (volume < 2 ^ 32) × IsGuid name × IsGuid fired
-IsReadable (L.End status) = ⊤
 IsReadable (L.Migrate from to) = (from < 2 ^ 64) × (to < 2 ^ 64)
-IsReadable (L.CoreInstall status) = ⊤
-IsReadable L.PeiStop = ⊤
-IsReadable L.DxeStop = ⊤
 IsReadable (L.Waiting volume name reason) = (volume < 2 ^ 32) × IsGuid name
 IsReadable (L.Handoff address) = address < 2 ^ 64
 IsReadable (L.DxeVolume volume) = volume < 2 ^ 32
@@ -121,15 +100,14 @@ IsReadable (L.Hobs count) = count < 2 ^ 32
 IsReadable (L.Hob kind body) = (kind < 2 ^ 16) × IsBytes body
 IsReadable (L.Handles count) = count < 2 ^ 32
 IsReadable (L.Handle handle guid value) = (handle < 2 ^ 32) × IsGuid guid × (value < 2 ^ 64)
-IsReadable (L.Result outcome) = ⊤
 IsReadable (L.Volume volume base len name) = (volume < 2 ^ 32) × (base < 2 ^ 64) × (len < 2 ^ 64) × IsName name
 IsReadable (L.Module by volume name kind pei_rank dxe_rank pei dxe) =
     (by < 2 ^ 32) × (volume < 2 ^ 32) × IsGuid name × (kind < 2 ^ 8) × IsRank pei_rank × IsRank dxe_rank × IsExpression pei × IsExpression dxe
-IsReadable L.RefusedUsage = ⊤
 IsReadable (L.RefusedFile name) = Lacks 10 name × IsBytes name
 IsReadable (L.RefusedLong name) = Lacks 10 name × IsBytes name
 IsReadable (L.RefusedPlan line cause) = line < 2 ^ 32
 IsReadable (L.RefusedImage volume at cause) = (volume < 2 ^ 32) × (at < 2 ^ 64)
+IsReadable _ = ⊤
 
 -- bytes are a readable line without its line feed
 abbrev pub IsLineOf : List ℕ → Line → Type 0

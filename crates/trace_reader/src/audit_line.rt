@@ -7,6 +7,7 @@ use crate::field::fields_after;
 use crate::hex_word::Kind;
 use crate::number::{Decimal, Hexadecimal};
 use boot_model::Line;
+use boot_trace::keywords::{MODULE, VOLUME};
 
 // The line of a volume or a module.
 #[tactic(auto, unfolding(boot_model::specs::Text::keyword))]
@@ -15,7 +16,7 @@ pub(crate) fn audit_line(line: &[u8]) -> Option<Line>
     ensures none { IsNone result → LacksLinesOfAudit line.now }
 {
     if let Some((volume, (Hexadecimal(base), (Decimal(len), (name, ()))))) = fields_after(
-        line, b"volume",
+        line, VOLUME,
     ) {
         return Some(Line::Volume {
             volume,
@@ -26,7 +27,7 @@ pub(crate) fn audit_line(line: &[u8]) -> Option<Line>
     }
     if let Some(
         (by, (volume, (name, (Kind(kind), (pei_rank, (dxe_rank, (pei, (dxe, ())))))))),
-    ) = fields_after(line, b"module")
+    ) = fields_after(line, MODULE)
     {
         return Some(Line::Module {
             by,

@@ -13,6 +13,7 @@ use crate::field::{Field, SPACE};
 use crate::name_word::is_dash;
 use arrayvec::ArrayVec;
 use boot_model::{Line, SHOWN_LEN};
+use boot_trace::keywords::{HOB, LOG, REFUSED_FILE, REFUSED_LONG};
 use line_words::place_of;
 use pi_base::{OutOfMemory, Seq};
 use printed_words::behind;
@@ -34,13 +35,23 @@ fn is_logged(text: &[u8]) -> bool
     !text.is_empty() && text.len() <= SHOWN_LEN && is_printable(text)
 }
 
+// What follows a keyword and a space.
+fn word_after<'a>(line: &'a [u8], keyword: &[u8]) -> Option<&'a [u8]>
+    ensures { MatchOption result ((rest : List ℕ) → line.now ≡ keyword.now ++ 32 ∷ rest → ⊥) (λ rest. line.now ≡ keyword.now ++ 32 ∷ rest.now) }
+{
+    match behind(line, keyword) {
+        Some(rest) => behind(rest, b" "),
+        None => None,
+    }
+}
+
 // The line of a text that a script logs.
 #[tactic(auto, unfolding(boot_model::specs::Text::keyword), using(crate::proofs::ByteLines::one_word))]
 pub(crate) fn log_line(line: &[u8]) -> Option<Line>
     ensures read { IfSome result (IsLineOf line.now) }
     ensures none { IsNone result → LacksLogLines line.now }
 {
-    let Some(logged) = behind(line, b"log ") else {
+    let Some(logged) = word_after(line, LOG) else {
         return None;
     };
     if is_logged(logged) {
@@ -113,7 +124,7 @@ fn hob_words(line: &[u8]) -> Option<(u16, &[u8])>
         ((kind : ℕ) (body : List ℕ) → kind < 2 ^ 16 → line.now ≡ codes "hob" ++ flat_map spaced (decimal kind ∷ body ∷ []) → ⊥)
         (λ words. (words.0 < 2 ^ 16) × (line.now ≡ codes "hob" ++ flat_map spaced (decimal words.0 ∷ words.1.now ∷ []))) }
 {
-    let Some(words) = behind(line, b"hob ") else {
+    let Some(words) = word_after(line, HOB) else {
         return None;
     };
     let (word, rest) = words.split_at(place_of(words, SPACE));
@@ -161,13 +172,13 @@ pub(crate) fn file_line(alloc: Global, line: &[u8]) -> Result<Option<Line>, OutO
     ensures read { IfOk result (λ found. IfSome found (IsLineOf line.now)) }
     ensures none { IfOk result (λ found. IsNone found → LacksFileLines line.now) }
 {
-    if let Some(name) = behind(line, b"refused file ") {
+    if let Some(name) = word_after(line, REFUSED_FILE) {
         return match kept(alloc, name) {
             Ok(name) => Ok(Some(Line::RefusedFile { name })),
             Err(OutOfMemory) => Err(OutOfMemory),
         };
     }
-    if let Some(name) = behind(line, b"refused long ") {
+    if let Some(name) = word_after(line, REFUSED_LONG) {
         return match kept(alloc, name) {
             Ok(name) => Ok(Some(Line::RefusedLong { name })),
             Err(OutOfMemory) => Err(OutOfMemory),

@@ -12,34 +12,26 @@ ghost use Rattle.trace_reader.specs.Readable.{IsLineOf, shows_nothing, shows_num
 ghost use Rattle.trace_reader.specs.Lacking.{LacksLinesOfCall};
 
 use crate::field::fields_after;
+use crate::fixed_word::Fixed;
 use crate::number::Hexadecimal;
 use arrayvec::ArrayVec;
 use boot_model::{CallName, Extra, Line, SHOWN_LEN};
+use boot_trace::keywords::CALL;
 use pi_base::Word;
 
 // Whether an action may show nothing on success.
 fn shows_nothing(name: CallName) -> bool
     ensures { result ≡ shows_nothing name }
 {
-    match name {
-        CallName::Store
-        | CallName::Install
-        | CallName::Reinstall
-        | CallName::Notify
-        | CallName::Memory
-        | CallName::BootMode
-        | CallName::Shadow
-        | CallName::Uninstall
-        | CallName::Schedule
-        | CallName::Process
-        | CallName::Dispatch => true,
+    !matches!(
+        name,
         CallName::Pool
-        | CallName::Peek
-        | CallName::Desc
-        | CallName::Locate
-        | CallName::Hob
-        | CallName::Pages => false,
-    }
+            | CallName::Peek
+            | CallName::Desc
+            | CallName::Locate
+            | CallName::Hob
+            | CallName::Pages
+    )
 }
 
 // Whether an action may show a number.
@@ -85,7 +77,8 @@ fn silent_call(line: &[u8]) -> Option<Line>
     ensures read { IfSome result (IsLineOf line.now) }
     ensures none { IsNone result → (name : CallName) (status : Word) → IsLineOf line.now (L.Call name status E.Nothing) → ⊥ }
 {
-    let Some((name, (status, ()))) = fields_after(line, b"call") else {
+    let Some((Fixed { value: name }, (Fixed { value: status }, ()))) = fields_after(line, CALL)
+    else {
         return None;
     };
     if may_show_nothing(name, status) {
@@ -106,7 +99,8 @@ fn number_call(line: &[u8]) -> Option<Line>
     ensures read { IfSome result (IsLineOf line.now) }
     ensures none { IsNone result → (name : CallName) (status : Word) (n : ℕ) → IsLineOf line.now (L.Call name status (E.Number n)) → ⊥ }
 {
-    let Some((name, (status, (Hexadecimal(number), ())))) = fields_after(line, b"call") else {
+    let Some((Fixed { value: name }, (Fixed { value: status }, (Hexadecimal(number), ())))) =
+        fields_after(line, CALL) else {
         return None;
     };
     if may_show_number(name, status) {
@@ -128,7 +122,9 @@ fn bytes_call(line: &[u8]) -> Option<Line>
     ensures none { IsNone result → (name : CallName) (status : Word) (bytes : ArrayVec ℕ 64 (Unit {0}))
         → IsLineOf line.now (L.Call name status (E.Bytes bytes)) → ⊥ }
 {
-    let Some((name, (status, (bytes, ())))) = fields_after(line, b"call") else {
+    let Some((Fixed { value: name }, (Fixed { value: status }, (bytes, ())))) = fields_after(
+        line, CALL,
+    ) else {
         return None;
     };
     if may_show_bytes(name, status) {

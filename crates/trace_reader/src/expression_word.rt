@@ -7,6 +7,7 @@ ghost use Rattle.trace_reader.specs.Lacking.{LacksPlainExpressions};
 
 use crate::field::Field;
 use boot_model::ExpressionWord;
+use boot_trace::marks::{ABSENT, AFTER, BEFORE, DASH, MALFORMED_AT, SOR, TREE};
 use pi_base::Guid;
 use printed_words::behind;
 
@@ -26,13 +27,13 @@ fn plain_expression(word: &[u8]) -> Option<ExpressionWord>
     ensures read { IfSome result (λ expression. IsExpression expression × (word.now ≡ expression_text expression)) }
     ensures none { IsNone result → LacksPlainExpressions word.now }
 {
-    if word == b"-".as_slice() {
+    if word == DASH {
         Some(ExpressionWord::NoPart)
-    } else if word == b"absent".as_slice() {
+    } else if word == ABSENT {
         Some(ExpressionWord::Absent)
-    } else if word == b"expr".as_slice() {
+    } else if word == TREE {
         Some(ExpressionWord::Tree)
-    } else if word == b"sor".as_slice() {
+    } else if word == SOR {
         Some(ExpressionWord::Sor)
     } else {
         None
@@ -52,13 +53,13 @@ impl Field for ExpressionWord {
         if let Some(expression) = plain_expression(word) {
             return Some(expression);
         }
-        if let Some(at) = read_behind(word, b"malformed@") {
+        if let Some(at) = read_behind(word, MALFORMED_AT) {
             return Some(ExpressionWord::Malformed(at));
         }
-        if let Some(name) = read_behind(word, b"before=") {
+        if let Some(name) = read_behind(word, BEFORE) {
             return Some(ExpressionWord::Before(name));
         }
-        match read_behind(word, b"after=") {
+        match read_behind(word, AFTER) {
             Some(name) => Some(ExpressionWord::After(name)),
             None => None,
         }

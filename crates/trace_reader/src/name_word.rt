@@ -7,6 +7,7 @@ ghost use Rattle.printed_words.specs.Words.{IsGuid};
 ghost use Rattle.trace_reader.specs.Readable.{IsName, IsRank};
 
 use crate::field::Field;
+use boot_trace::marks::DASH;
 use pi_base::Guid;
 use printed_words::guid_of;
 
@@ -27,7 +28,7 @@ impl Field for Guid {
 pub(crate) fn is_dash(word: &[u8]) -> bool
     ensures { Decides result (word.now ≡ dash) }
 {
-    word == b"-".as_slice()
+    word == DASH
 }
 
 impl Field for Option<u32> {

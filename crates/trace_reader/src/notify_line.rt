@@ -5,6 +5,7 @@ ghost use Rattle.trace_reader.specs.Lacking.{LacksLinesOfNotify};
 
 use crate::field::fields_after;
 use boot_model::Line;
+use boot_trace::keywords::{NOTIFY_CALLBACK, NOTIFY_DISPATCH, NOTIFY_PROTOCOL};
 
 // The line of a notification that begins.
 #[tactic(auto, unfolding(boot_model::specs::Text::keyword))]
@@ -12,21 +13,21 @@ pub(crate) fn notify_line(line: &[u8]) -> Option<Line>
     ensures read { IfSome result (IsLineOf line.now) }
     ensures none { IsNone result → LacksLinesOfNotify line.now }
 {
-    if let Some((volume, (name, (fired, ())))) = fields_after(line, b"notify callback") {
+    if let Some((volume, (name, (fired, ())))) = fields_after(line, NOTIFY_CALLBACK) {
         return Some(Line::NotifyCallback {
             volume,
             name,
             fired,
         });
     }
-    if let Some((volume, (name, (fired, ())))) = fields_after(line, b"notify dispatch") {
+    if let Some((volume, (name, (fired, ())))) = fields_after(line, NOTIFY_DISPATCH) {
         return Some(Line::NotifyDispatch {
             volume,
             name,
             fired,
         });
     }
-    if let Some((volume, (name, (fired, ())))) = fields_after(line, b"notify protocol") {
+    if let Some((volume, (name, (fired, ())))) = fields_after(line, NOTIFY_PROTOCOL) {
         return Some(Line::NotifyProtocol {
             volume,
             name,

@@ -4,6 +4,7 @@ ghost use Rattle.printed_words.specs.Words.{Finds};
 ghost use Rattle.boot_model.specs.Text.{by_text};
 
 use crate::field::Field;
+use boot_trace::marks::CORE_MAKER;
 use printed_words::{decimal_of, hexadecimal_of};
 use store_model::CORE;
 
@@ -99,7 +100,7 @@ pub(crate) struct By(pub u32);
 fn by_of(word: &[u8]) -> Option<u32>
     ensures { Finds (λ by. (by < 2 ^ 32) × (word.now ≡ by_text by)) result }
 {
-    if word == b"core".as_slice() {
+    if word == CORE_MAKER {
         return Some(CORE);
     }
     match decimal_within(word, u64::from(CORE) - 1) {

@@ -4,7 +4,9 @@ ghost use Rattle.trace_reader.specs.Readable.{IsLineOf};
 ghost use Rattle.trace_reader.specs.Lacking.{LacksLinesOfStart};
 
 use crate::field::fields_after;
+use crate::fixed_word::Fixed;
 use boot_model::Line;
+use boot_trace::keywords::{DXE_START, DXE_VOLUME, PEI_START, REPORT};
 
 /// The line of a volume that is reported or discovered, or of a start, whose bytes without the line feed these are. None where they are of no such line.
 #[tactic(auto, unfolding(boot_model::specs::Text::keyword))]
@@ -12,20 +14,20 @@ pub fn start_line(line: &[u8]) -> Option<Line>
     ensures read { IfSome result (IsLineOf line.now) }
     ensures none { IsNone result → LacksLinesOfStart line.now }
 {
-    if let Some((volume, ())) = fields_after(line, b"report") {
+    if let Some((volume, ())) = fields_after(line, REPORT) {
         return Some(Line::Report { volume });
     }
-    if let Some((volume, ())) = fields_after(line, b"dxe volume") {
+    if let Some((volume, ())) = fields_after(line, DXE_VOLUME) {
         return Some(Line::DxeVolume { volume });
     }
-    if let Some((volume, (name, (licence, ())))) = fields_after(line, b"pei start") {
+    if let Some((volume, (name, (Fixed { value: licence }, ())))) = fields_after(line, PEI_START) {
         return Some(Line::PeiStart {
             volume,
             name,
             licence,
         });
     }
-    if let Some((volume, (name, (licence, ())))) = fields_after(line, b"dxe start") {
+    if let Some((volume, (name, (Fixed { value: licence }, ())))) = fields_after(line, DXE_START) {
         return Some(Line::DxeStart {
             volume,
             name,

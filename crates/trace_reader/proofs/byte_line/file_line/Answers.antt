@@ -8,5 +8,5 @@ pub returns-clause-none : goal.returns-clause-none
 unfolding keyword
 returns-clause-none c = λ none. record {
   file = λ name is. c.in_default.ensures name (is.1 ∙ one_word (codes "refused file") name);
-  long = λ name is. c.in_default-behind.ensures name (is.1 ∙ one_word (codes "refused long") name);
+  long = λ name is. c.in_default-word_after.ensures name (is.1 ∙ one_word (codes "refused long") name);
 }
