@@ -1,16 +1,15 @@
 -- A readable line has no line feed before its end.
-use Rattle.std.proofs.Common.{◌≡◌, ◌++◌, ℕ, List, [], ◌∷◌, flat_map, refl, sym, ap, ◌∙◌, true, false, eqb, ltb, arith, append_assoc, decimal}
-use Rattle.std.specs.Prelude.{codes, nat_le}
+use Rattle.std.proofs.Common.{◌≡◌, ◌++◌, ℕ, List, [], ◌∷◌, flat_map, refl, sym, ap, ◌∙◌, true, false, eqb, ltb, arith, append_assoc}
+use Rattle.std.specs.Prelude.{⊤, nat_le}
 use Rattle.std.specs.List.{list_all, AllByRecursion}
 use Rattle.std.proofs.lemmas.Bool.{and_parts}
 use Rattle.std.proofs.lemmas.Bool.Decides.{nat_tests}
-use Rattle.hex.specs.Hex.{encode_lower, IsBytes}
+use Rattle.hex.specs.Hex.{IsBytes}
 use Rattle.boot_io.specs.Line.{spaced}
 use Rattle.boot_model.specs.declared.line.Line.{Line}
 use Rattle.boot_model.specs.declared.line.Line.TheVariants as L
 use Rattle.boot_model.specs.declared.line.Extra.TheVariants as E
-use Rattle.pi_base.specs.WordText.{hexadecimal, guid_text, word_text}
-use Rattle.boot_model.specs.Text.{keyword, words, line_text, licence_text, reason_text, end_text, by_text, rank_text, name_text, expression_text, plan_cause_text, image_cause_text, call_text, bytes_text}
+use Rattle.boot_model.specs.Text.{keyword, words, line_text, bytes_text}
 use Rattle.printed_words.specs.Words.{IsPlain, Lacks}
 use Rattle.trace_reader.specs.Readable.{IsReadable, IsLineOf, is_printable}
 use Rattle.trace_reader.specs.Trace.{BeginsWithLine}
@@ -50,46 +49,64 @@ pub bytes_plain : (bytes : List ℕ) → IsBytes bytes → IsPlain (bytes_text b
 bytes_plain [] fits = refl
 bytes_plain (byte ∷ bytes) fits = encoded_plain (byte ∷ bytes) fits
 
-pub body_lacks : (line : Line) → IsReadable line → Lacks 10 (keyword line ++ flat_map spaced (words line))
+-- the words of a line are plain, but where it shows a text or a file's name
+abbrev pub HasPlainWords : Line → Type 0
+HasPlainWords (L.Log text) = ⊤
+HasPlainWords (L.RefusedFile name) = ⊤
+HasPlainWords (L.RefusedLong name) = ⊤
+HasPlainWords line = AllByRecursion IsPlain (words line)
+
+pub plain_words : (line : Line) → IsReadable line → HasPlainWords line
+plain_words (L.Report volume) is = (decimal_32_plain volume is, tt)
+plain_words (L.DxeVolume volume) is = (decimal_32_plain volume is, tt)
+plain_words (L.PeiStart volume name licence) is = (decimal_32_plain volume is.0, (guid_plain name, (licence_text_plain licence, tt)))
+plain_words (L.DxeStart volume name licence) is = (decimal_32_plain volume is.0, (guid_plain name, (licence_text_plain licence, tt)))
+plain_words (L.NotifyCallback volume name fired) is = (decimal_32_plain volume is.0, (guid_plain name, (guid_plain fired, tt)))
+plain_words (L.NotifyDispatch volume name fired) is = (decimal_32_plain volume is.0, (guid_plain name, (guid_plain fired, tt)))
+plain_words (L.NotifyProtocol volume name fired) is = (decimal_32_plain volume is.0, (guid_plain name, (guid_plain fired, tt)))
+plain_words (L.End status) is = (word_text_plain status, tt)
+plain_words L.PeiStop is = tt
+plain_words L.DxeStop is = tt
+plain_words (L.Waiting volume name reason) is = (decimal_32_plain volume is.0, (guid_plain name, (reason_text_plain reason, tt)))
+plain_words (L.Handoff address) is = (hexadecimal_plain address is, tt)
+plain_words (L.Result outcome) is = (end_text_plain outcome, tt)
+plain_words (L.Migrate from to) is = (hexadecimal_plain from is.0, (hexadecimal_plain to is.1, tt))
+plain_words (L.CoreInstall status) is = (word_text_plain status, tt)
+plain_words (L.Ppis count) is = (decimal_32_plain count is, tt)
+plain_words (L.Callbacks count) is = (decimal_32_plain count is, tt)
+plain_words (L.Dispatches count) is = (decimal_32_plain count is, tt)
+plain_words (L.Pendings count) is = (decimal_32_plain count is, tt)
+plain_words (L.Hobs count) is = (decimal_32_plain count is, tt)
+plain_words (L.Handles count) is = (decimal_32_plain count is, tt)
+plain_words (L.Ppi by guid value) is = (by_plain by is.0, (guid_plain guid, (hexadecimal_plain value is.2, tt)))
+plain_words (L.Callback guid by block) is = (guid_plain guid, (decimal_32_plain by is.1, (decimal_32_plain block is.2, tt)))
+plain_words (L.Dispatch guid by block) is = (guid_plain guid, (decimal_32_plain by is.1, (decimal_32_plain block is.2, tt)))
+plain_words (L.Pending guid by block) is = (guid_plain guid, (decimal_32_plain by is.1, (decimal_32_plain block is.2, tt)))
+plain_words (L.Handle handle guid value) is = (decimal_32_plain handle is.0, (guid_plain guid, (hexadecimal_plain value is.2, tt)))
+plain_words (L.Volume volume base len name) is = (decimal_32_plain volume is.0, (hexadecimal_plain base is.1, (decimal_plain len is.2, (name_plain name is.3, tt))))
+plain_words (L.Module by volume name kind pei_rank dxe_rank pei dxe) is = (decimal_32_plain by is.0, (decimal_32_plain volume is.1, (guid_plain name, (kind_plain kind is.3, (rank_plain pei_rank is.4, (rank_plain dxe_rank is.5, (expression_plain pei is.6, (expression_plain dxe is.7, tt))))))))
+plain_words L.RefusedUsage is = tt
+plain_words (L.RefusedPlan line cause) is = (decimal_32_plain line is, (plan_cause_text_plain cause, tt))
+plain_words (L.RefusedImage volume at cause) is = (decimal_32_plain volume is.0, (decimal_plain at is.1, (image_cause_text_plain cause, tt)))
+plain_words (L.Call name status E.Nothing) is = (call_text_plain name, (word_text_plain status, tt))
+plain_words (L.Call name status (E.Number n)) is = (call_text_plain name, (word_text_plain status, (hexadecimal_plain n is.2, tt)))
+plain_words (L.Call name status (E.Bytes bytes)) is = (call_text_plain name, (word_text_plain status, (shown_plain bytes.items is.2, tt)))
+plain_words (L.Hob kind body) is = (decimal_16_plain kind is.0, (bytes_plain body is.1, tt))
+plain_words (L.Log text) is = tt
+plain_words (L.RefusedFile name) is = tt
+plain_words (L.RefusedLong name) is = tt
+
+-- a keyword has no line feed
+keyword_lacks : (line : Line) → Lacks 10 (keyword line)
 unfolding keyword
-body_lacks (L.Report volume) is = words_lack (codes "report") (decimal volume ∷ []) refl ((decimal_32_plain volume is), tt)
-body_lacks (L.DxeVolume volume) is = words_lack (codes "dxe volume") (decimal volume ∷ []) refl ((decimal_32_plain volume is), tt)
-body_lacks (L.PeiStart volume name licence) is = words_lack (codes "pei start") (decimal volume ∷ guid_text name ∷ licence_text licence ∷ []) refl ((decimal_32_plain volume is.0), ((guid_plain name), ((licence_text_plain licence), tt)))
-body_lacks (L.DxeStart volume name licence) is = words_lack (codes "dxe start") (decimal volume ∷ guid_text name ∷ licence_text licence ∷ []) refl ((decimal_32_plain volume is.0), ((guid_plain name), ((licence_text_plain licence), tt)))
-body_lacks (L.NotifyCallback volume name fired) is = words_lack (codes "notify callback") (decimal volume ∷ guid_text name ∷ guid_text fired ∷ []) refl ((decimal_32_plain volume is.0), ((guid_plain name), ((guid_plain fired), tt)))
-body_lacks (L.NotifyDispatch volume name fired) is = words_lack (codes "notify dispatch") (decimal volume ∷ guid_text name ∷ guid_text fired ∷ []) refl ((decimal_32_plain volume is.0), ((guid_plain name), ((guid_plain fired), tt)))
-body_lacks (L.NotifyProtocol volume name fired) is = words_lack (codes "notify protocol") (decimal volume ∷ guid_text name ∷ guid_text fired ∷ []) refl ((decimal_32_plain volume is.0), ((guid_plain name), ((guid_plain fired), tt)))
-body_lacks (L.End status) is = words_lack (codes "end") (word_text status ∷ []) refl ((word_text_plain status), tt)
-body_lacks L.PeiStop is = words_lack (codes "pei stop") ([]) refl tt
-body_lacks L.DxeStop is = words_lack (codes "dxe stop") ([]) refl tt
-body_lacks (L.Waiting volume name reason) is = words_lack (codes "waiting") (decimal volume ∷ guid_text name ∷ reason_text reason ∷ []) refl ((decimal_32_plain volume is.0), ((guid_plain name), ((reason_text_plain reason), tt)))
-body_lacks (L.Handoff address) is = words_lack (codes "handoff") (hexadecimal address ∷ []) refl ((hexadecimal_plain address is), tt)
-body_lacks (L.Result outcome) is = words_lack (codes "result") (end_text outcome ∷ []) refl ((end_text_plain outcome), tt)
-body_lacks (L.Migrate from to) is = words_lack (codes "migrate") (hexadecimal from ∷ hexadecimal to ∷ []) refl ((hexadecimal_plain from is.0), ((hexadecimal_plain to is.1), tt))
-body_lacks (L.CoreInstall status) is = words_lack (codes "core install") (word_text status ∷ []) refl ((word_text_plain status), tt)
-body_lacks (L.Ppis count) is = words_lack (codes "ppis") (decimal count ∷ []) refl ((decimal_32_plain count is), tt)
-body_lacks (L.Callbacks count) is = words_lack (codes "callbacks") (decimal count ∷ []) refl ((decimal_32_plain count is), tt)
-body_lacks (L.Dispatches count) is = words_lack (codes "dispatches") (decimal count ∷ []) refl ((decimal_32_plain count is), tt)
-body_lacks (L.Pendings count) is = words_lack (codes "pendings") (decimal count ∷ []) refl ((decimal_32_plain count is), tt)
-body_lacks (L.Hobs count) is = words_lack (codes "hobs") (decimal count ∷ []) refl ((decimal_32_plain count is), tt)
-body_lacks (L.Handles count) is = words_lack (codes "handles") (decimal count ∷ []) refl ((decimal_32_plain count is), tt)
-body_lacks (L.Ppi by guid value) is = words_lack (codes "ppi") (by_text by ∷ guid_text guid ∷ hexadecimal value ∷ []) refl ((by_plain by is.0), ((guid_plain guid), ((hexadecimal_plain value is.2), tt)))
-body_lacks (L.Callback guid by block) is = words_lack (codes "callback") (guid_text guid ∷ decimal by ∷ decimal block ∷ []) refl ((guid_plain guid), ((decimal_32_plain by is.1), ((decimal_32_plain block is.2), tt)))
-body_lacks (L.Dispatch guid by block) is = words_lack (codes "dispatch") (guid_text guid ∷ decimal by ∷ decimal block ∷ []) refl ((guid_plain guid), ((decimal_32_plain by is.1), ((decimal_32_plain block is.2), tt)))
-body_lacks (L.Pending guid by block) is = words_lack (codes "pending") (guid_text guid ∷ decimal by ∷ decimal block ∷ []) refl ((guid_plain guid), ((decimal_32_plain by is.1), ((decimal_32_plain block is.2), tt)))
-body_lacks (L.Handle handle guid value) is = words_lack (codes "handle") (decimal handle ∷ guid_text guid ∷ hexadecimal value ∷ []) refl ((decimal_32_plain handle is.0), ((guid_plain guid), ((hexadecimal_plain value is.2), tt)))
-body_lacks (L.Volume volume base len name) is = words_lack (codes "volume") (decimal volume ∷ hexadecimal base ∷ decimal len ∷ name_text name ∷ []) refl ((decimal_32_plain volume is.0), ((hexadecimal_plain base is.1), ((decimal_plain len is.2), ((name_plain name is.3), tt))))
-body_lacks (L.Module by volume name kind pei_rank dxe_rank pei dxe) is = words_lack (codes "module") (decimal by ∷ decimal volume ∷ guid_text name ∷ encode_lower (kind ∷ []) ∷ rank_text pei_rank ∷ rank_text dxe_rank ∷ expression_text pei ∷ expression_text dxe ∷ []) refl ((decimal_32_plain by is.0), ((decimal_32_plain volume is.1), ((guid_plain name), ((kind_plain kind is.3), ((rank_plain pei_rank is.4), ((rank_plain dxe_rank is.5), ((expression_plain pei is.6), ((expression_plain dxe is.7), tt))))))))
-body_lacks L.RefusedUsage is = words_lack (codes "refused usage") ([]) refl tt
-body_lacks (L.RefusedPlan line cause) is = words_lack (codes "refused plan") (decimal line ∷ plan_cause_text cause ∷ []) refl ((decimal_32_plain line is), ((plan_cause_text_plain cause), tt))
-body_lacks (L.RefusedImage volume at cause) is = words_lack (codes "refused image") (decimal volume ∷ decimal at ∷ image_cause_text cause ∷ []) refl ((decimal_32_plain volume is.0), ((decimal_plain at is.1), ((image_cause_text_plain cause), tt)))
-body_lacks (L.Call name status E.Nothing) is = words_lack (codes "call") (call_text name ∷ word_text status ∷ []) refl (call_text_plain name, (word_text_plain status, tt))
-body_lacks (L.Call name status (E.Number n)) is = words_lack (codes "call") (call_text name ∷ word_text status ∷ hexadecimal n ∷ []) refl (call_text_plain name, (word_text_plain status, (hexadecimal_plain n is.2, tt)))
-body_lacks (L.Call name status (E.Bytes bytes)) is = words_lack (codes "call") (call_text name ∷ word_text status ∷ encode_lower bytes.items ∷ []) refl (call_text_plain name, (word_text_plain status, (shown_plain bytes.items is.2, tt)))
-body_lacks (L.Log text) is = word_lacks (codes "log") text.items refl (logged_lacks text.items is.2)
-body_lacks (L.Hob kind body) is = words_lack (codes "hob") (decimal kind ∷ bytes_text body ∷ []) refl (decimal_16_plain kind is.0, (bytes_plain body is.1, tt))
-body_lacks (L.RefusedFile name) is = word_lacks (codes "refused file") name refl is.0
-body_lacks (L.RefusedLong name) is = word_lacks (codes "refused long") name refl is.0
+keyword_lacks (L.Report volume) = refl
+keyword_lacks _ = refl
+
+pub body_lacks : (line : Line) → IsReadable line → Lacks 10 (keyword line ++ flat_map spaced (words line))
+body_lacks (L.Log text) is = word_lacks (keyword (L.Log text)) text.items (keyword_lacks (L.Log text)) (logged_lacks text.items is.2)
+body_lacks (L.RefusedFile name) is = word_lacks (keyword (L.RefusedFile name)) name (keyword_lacks (L.RefusedFile name)) is.0
+body_lacks (L.RefusedLong name) is = word_lacks (keyword (L.RefusedLong name)) name (keyword_lacks (L.RefusedLong name)) is.0
+body_lacks line is = words_lack (keyword line) (words line) (keyword_lacks line) (plain_words line is)
 
 -- a text that goes on with a line is its body, a line feed and the rest
 pub line_then : (line : Line) (rest : List ℕ) → line_text line ++ rest ≡ (keyword line ++ flat_map spaced (words line)) ++ 10 ∷ rest

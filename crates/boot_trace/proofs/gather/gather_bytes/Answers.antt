@@ -1,6 +1,5 @@
 use Rattle.std.proofs.Common.{◌≡◌, ◌++◌, List, ℕ, [], Ok, Err, refl, sym, ap, ◌∙◌, append_assoc, drop, subst}
 use Rattle.std.proofs.lemmas.List.{take-append-drop}
-use Rattle.std.specs.Io.KnownBytes.{Appends}
 use Rattle.hex.specs.Hex.{encode_lower}
 use Rattle.boot_io.specs.Line.{Gathers}
 use Rattle.boot_io.specs.Sink.{AppendsPart}

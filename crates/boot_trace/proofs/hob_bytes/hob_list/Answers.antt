@@ -1,5 +1,5 @@
 use lib.Seq.{take-append-add}
-use Rattle.std.proofs.Common.{◌≡◌, ◌+◌, ◌++◌, length, List, ℕ, Some, sym, ap, ◌∙◌, replicate, take, drop, arith}
+use Rattle.std.proofs.Common.{◌≡◌, ◌+◌, ◌++◌, length, List, ℕ, Some, ap, ◌∙◌, replicate, take, drop, arith}
 use Rattle.std.proofs.lemmas.List.{append-nil, length-replicate}
 use Rattle.store_model.specs.HeapImage.{hob_list}
 use Rattle.store_model.specs.StoreState.{end_place}
