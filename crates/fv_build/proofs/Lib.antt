@@ -7,5 +7,7 @@ pub mod Parts
 pub mod AttributeBytes
 pub mod SectionsRead
 pub mod FilesRead
+pub mod HeadersRead
 pub mod VolumesRead
+pub mod Written
 pub mod Modules

@@ -20,7 +20,8 @@ use Rattle.fv_build.specs.declared.fault.BuildFault.TheVariants.{TooMany, Size, 
 use Rattle.fv_build.specs.Placing.{gap, laid}
 use Rattle.fv_build.specs.Sections.{body_bytes, is_section_too_long}
 use Rattle.fv_build.specs.Files.{file_bytes, is_past_size, is_file_too_long}
-use Rattle.fv_build.specs.Building.{need, fault_of, IsRefusal}
+use Rattle.fv_build.specs.Building.{need, volume_fault, IsRefusal}
+use Rattle.fv_build.specs.Header.{plain}
 use Rattle.fv_build.proofs.Sizes.{length-file_with}
 use Rattle.act_code.specs.Script.{script_bytes}
 use Rattle.fv_build.specs.Generated.{numbered, installs, memory_said, hand_off, actions_of, script_of, expression_of, module_of, downward, generated_files}
@@ -140,21 +141,21 @@ length-downward zero = refl
 length-downward (suc n) = ap suc (length-downward n)
 
 -- nothing stands against the generated volume
-pub none_against : (n : ℕ) → n ≤ 4096 → fault_of Ffs2 (generated_files n) 0x200000 ≡ None
+pub none_against : (n : ℕ) → n ≤ 4096 → volume_fault (plain Ffs2) None (generated_files n) 0x200000 ≡ None
 none_against n most =
     let files = generated_files n in
     let count : length files ≡ n = length-map (downward n) (module_of n) ∙ length-downward n in
     let few : nat_lt 16384 (length files) ≡ false = grind (arith, nat_tests) in
     let len = modules_len n n 72 in
-    let room : nat_lt 0x200000 (need Ffs2 files) ≡ false = grind (arith, nat_tests) in
-    let full : BuildFault = NoRoom (min (need Ffs2 files) (2 ^ 64 - 1)) 0x200000 in
-    ap (λ b. cond b (Some TooMany) (cond (list_any (is_file_too_long Ffs2) files) (Some Size) (cond (nat_lt 0x200000 (need Ffs2 files)) (Some full) None))) few
-    ∙ ap (λ b. cond b (Some Size) (cond (nat_lt 0x200000 (need Ffs2 files)) (Some full) None)) (modules_short n n)
+    let room : nat_lt 0x200000 (need Ffs2 72 files) ≡ false = grind (arith, nat_tests) in
+    let full : BuildFault = NoRoom (min (need Ffs2 72 files) (2 ^ 64 - 1)) 0x200000 in
+    ap (λ b. cond b (Some TooMany) (cond (list_any (is_file_too_long Ffs2) files) (Some Size) (cond (nat_lt 0x200000 (need Ffs2 72 files)) (Some full) None))) few
+    ∙ ap (λ b. cond b (Some Size) (cond (nat_lt 0x200000 (need Ffs2 72 files)) (Some full) None)) (modules_short n n)
     ∙ ap (λ b. cond b (Some full) None) room
 
 -- so memory alone is wanting
-pub only_memory : {A : Type 0} (result : Result A BuildFault) (files : List NewFile) (len : ℕ) → fault_of Ffs2 files len ≡ None
-    → IfErr result (IsRefusal Ffs2 files len) → IfErr result (λ fault. fault ≡ Wanting)
+pub only_memory : {A : Type 0} (result : Result A BuildFault) (files : List NewFile) (len : ℕ) → volume_fault (plain Ffs2) None files len ≡ None
+    → IfErr result (IsRefusal (plain Ffs2) None files len) → IfErr result (λ fault. fault ≡ Wanting)
 only_memory (Ok volume) files len none refused = tt
 only_memory (Err TooMany) files len none refused = absurd (let no : ◌≡◌ {A = Option BuildFault} None (Some TooMany) = sym none ∙ refused in cc)
 only_memory (Err Size) files len none refused = absurd (let no : ◌≡◌ {A = Option BuildFault} None (Some Size) = sym none ∙ refused in cc)

@@ -73,14 +73,14 @@ pub length-file_with : (file_system : FileSystem) (file : NewFile) (body : List 
 length-file_with file_system file body whole = file_len (is_large file_system (length body)) file.name.0 file.kind _ _ _ body whole
 
 -- one file more
-pub length-files_more : (file_system : FileSystem) (files : List NewFile) (file : NewFile)
-    → need file_system (files ++ file ∷ [])
-    ≡ need file_system files + gap 8 (need file_system files) + length (file_bytes file_system file)
-length-files_more file_system files file =
+pub length-files_more : (file_system : FileSystem) (from : ℕ) (files : List NewFile) (file : NewFile)
+    → need file_system from (files ++ file ∷ [])
+    ≡ need file_system from files + gap 8 (need file_system from files) + length (file_bytes file_system file)
+length-files_more file_system from files file =
     let texts = map (file_bytes file_system) files in
-    let before = length (laid 8 255 72 texts) in
-    let more = ap (λ xs. length (laid 8 255 72 xs)) (map-append (file_bytes file_system) files (file ∷ [])) ∙ length-laid_more 8 255 72 texts (file_bytes file_system file) in
-    ap (λ n. 72 + n) more ∙ omega arith
+    let before = length (laid 8 255 from texts) in
+    let more = ap (λ xs. length (laid 8 255 from xs)) (map-append (file_bytes file_system) files (file ∷ [])) ∙ length-laid_more 8 255 from texts (file_bytes file_system file) in
+    ap (λ n. from + n) more ∙ omega arith
 
 large_size : (large : Bool) (len most : ℕ) → min ((if large then 32 else 24) + min len most) most ≡ min ((if large then 32 else 24) + len) most
 large_size true len most = omega arith

@@ -5,6 +5,7 @@ pub mod Attributes
 pub mod Sections
 pub mod Files
 pub mod Header
+pub mod Front
 pub mod Building
 pub mod Reading
 pub mod Generated

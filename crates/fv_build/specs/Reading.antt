@@ -1,5 +1,6 @@
 -- What the readers of volumes and sections read of a built volume.
-use Rattle.std.specs.Prelude.{◌≡◌, ◌≢◌, ◌≤◌, ℕ, ◌+◌, ⊤, not, slice_index, ◌==◌, if◌then◌else◌, List, [], ◌∷◌, length, take, drop, filter, None, All}
+use Rattle.std.specs.Prelude.{◌≡◌, ◌≢◌, ◌≤◌, ◌<◌, ◌^◌, ℕ, ◌+◌, ⊤, not, slice_index, ◌==◌, if◌then◌else◌, List, [], ◌∷◌, length, map, take, drop, filter, Option, Some, None, All}
+use Rattle.pi_base.specs.declared.guid.Guid.{Guid}
 use Rattle.fv_volume.specs.declared.file.FfsFile.{FfsFile}
 use Rattle.fv_volume.specs.declared.file_type.TheConstants.{PAD}
 use Rattle.fv_volume.specs.declared.frame.TheConstants.{ALIGNMENT}
@@ -14,7 +15,10 @@ use Rattle.fv_build.specs.declared.new_file.NewSection.{NewSection}
 use Rattle.fv_build.specs.declared.new_file.Body.{Body}
 use Rattle.fv_build.specs.declared.new_file.Body.TheVariants.{Sections, Bytes}
 use Rattle.fv_build.specs.Attributes.{attributes_in}
+use Rattle.fv_build.specs.declared.volume_header.VolumeForm.{VolumeForm}
+use Rattle.fv_build.specs.declared.volume_name.VolumeName.{VolumeName}
 use Rattle.fv_build.specs.FileSystems.{FileSystem}
+use Rattle.fv_build.specs.Front.{first_place}
 use Rattle.fv_build.specs.Files.{file_bytes}
 use Rattle.fv_build.specs.Placing.{gap}
 use Rattle.fv_volume.specs.declared.file_header.TheConstants.{ATTRIBUTES_AT}
@@ -69,3 +73,23 @@ pub record IsReadBack (files : List NewFile) (bytes : List ℕ) : Type 0 where
   pub len : volume.len ≡ length bytes
   pub no_name : volume.name ≡ None
   pub are_files : AreEach (IsFileRead bytes) (listed files) volume.files
+
+-- a name has sixteen bytes, and a place that its field can tell
+abbrev pub IsWhole : Option VolumeName → Type 0
+IsWhole None = ⊤
+IsWhole (Some name) = (length name.guid.0 ≡ 16) × (name.at < 2 ^ 16)
+
+abbrev pub guid_of : Option VolumeName → Option Guid
+guid_of None = None
+guid_of (Some name) = Some name.guid
+
+-- the bytes are a volume of all of them, of this length and with this name, or with none, whose files are those that were handed in, pads aside, each at
+-- its place
+pub record IsReadAs (form : VolumeForm) (name : Option VolumeName) (files : List NewFile) (len : ℕ) (bytes : List ℕ) : Type 0 where
+  pub volume : Volume
+  pub is_volume : IsVolume bytes volume
+  pub len_is : volume.len ≡ len
+  pub long : length bytes ≡ len
+  pub name_is : volume.name ≡ guid_of name
+  pub are_files : AreEach (IsFileRead bytes) (listed files) volume.files
+  pub places : map (λ file. file.at) volume.files ≡ listed_at form.file_system (first_place form name) files

@@ -2,7 +2,6 @@
 ghost use Rattle.std.specs.Prelude.{◌≡◌, ◌<◌, ◌^◌, ◌++◌, length, OnOk, false, All};
 ghost use Rattle.fv_build.specs.Files.{bytes_in, file_bytes, has_long_section, is_file_too_long};
 ghost use Rattle.fv_build.specs.Building.{files_bytes};
-ghost use Rattle.fv_build.specs.declared.volume_header.TheConstants.{HEADER_LEN};
 
 use crate::file_header::{FileHead, put_file_header};
 use crate::file_system::FileSystem;
@@ -43,16 +42,15 @@ fn put_file(out: &mut Seq<u8>, file_system: FileSystem, file: &NewFile) -> Resul
     put_body(out, file_system, &file.body)
 }
 
-/// Adds the files of a volume behind its header, the erased bytes between them too.
+/// Adds the files of a volume behind what stands in front of them, the erased bytes between them too.
 pub(crate) fn put_files(
     out: &mut Seq<u8>,
     file_system: FileSystem,
     files: &[NewFile],
 ) -> Result<(), OutOfMemory>
-    requires start { length out.old ≡ HEADER_LEN }
     requires short { All (λ file. is_file_too_long file_system file ≡ false) files.now }
-    requires fits { length (files_bytes file_system files.now) < 2 ^ 32 }
-    ensures { OnOk result (out.new ≡ out.old ++ files_bytes file_system files.now) }
+    requires fits { length (files_bytes file_system (length out.old) files.now) < 2 ^ 32 }
+    ensures { OnOk result (out.new ≡ out.old ++ files_bytes file_system (length out.old) files.now) }
 {
     for file in files {
         let end = out.len();

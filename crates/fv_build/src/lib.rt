@@ -1,10 +1,10 @@
-//! Firmware volumes from lists of files, which the readers of volumes and sections read back.
+//! Firmware volumes from lists of files, with a name or without, which the readers of volumes and sections read back.
 //!
-//! Tried in `volume_trials`: `building`.
+//! Tried in `volume_trials`: `building`, and in `source_trials`: `volume_texts`.
 #![tactic(auto)]
 
 mod attributes;
-mod build;
+mod volume;
 mod fault;
 mod file;
 mod file_header;
@@ -15,13 +15,17 @@ mod new_file;
 mod section;
 mod size;
 mod volume_header;
+mod volume_name;
 
 pub use attributes::{ALIGNMENTS, Alignment, FileAttributes};
-pub use build::{MOST_LEN, build_as, build_volume, build_volume3};
+pub use volume::{MOST_LEN, build, build_as, build_volume, build_volume3};
 pub use fault::BuildFault;
 pub use file_system::FileSystem;
 pub use fill::gap;
 pub use generated::{MOST_MODULES, VOLUME_LEN, generate};
 pub use new_file::{Body, NewFile, NewSection};
 pub use size::{file_size, section_size};
-pub use volume_header::{HEADER_LEN, VolumeForm, VolumeHead, put_volume_header};
+pub use volume_header::{
+    HEADER_LEN, VolumeForm, VolumeHead, is_header_length, put_volume_header,
+};
+pub use volume_name::{EXT_AT, EXT_HEADER_LEN, VolumeName, first_place, is_placed};

@@ -8,7 +8,6 @@ ghost use Rattle.fv_build.specs.Building.{need};
 use crate::file_system::{FileSystem, MOST_EXTENDED_SIZE, MOST_SIZE};
 use crate::fill::gap;
 use crate::new_file::{Body, NewFile, NewSection};
-use crate::volume_header::HEADER_LEN;
 use fv_section::section_header;
 use fv_volume::file_header;
 
@@ -125,8 +124,8 @@ pub(crate) fn is_too_long(file_system: FileSystem, files: &[NewFile]) -> bool
     files.iter().any(|file| is_file_too_long(file_system, file))
 }
 
-// The law of a GUID's length.
-fn has_sixteen(guid: &[u8; 16])
+/// The law of a GUID's length.
+pub(crate) fn has_sixteen(guid: &[u8; 16])
     ensures { length guid.now ≡ 16 }
 {
     let _bytes = *guid;
@@ -141,11 +140,11 @@ pub(crate) fn have_whole_names(files: &[NewFile])
     }
 }
 
-/// The bytes of a volume up to the end of its last file.
-pub(crate) fn need(file_system: FileSystem, files: &[NewFile]) -> usize
-    ensures { result ≡ min (need file_system files.now) (2 ^ 64 - 1) }
+/// The bytes of a volume up to the end of its last file, where so many stand in front of the files.
+pub(crate) fn need(file_system: FileSystem, from: usize, files: &[NewFile]) -> usize
+    ensures { result ≡ min (need file_system from files.now) (2 ^ 64 - 1) }
 {
-    let mut end = HEADER_LEN;
+    let mut end = from;
     for file in files {
         has_sixteen(&file.name.0);
         let body_len = body_len(file_system, &file.body);

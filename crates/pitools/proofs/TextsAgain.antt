@@ -1,12 +1,9 @@
 -- What `volume` answers to a text that `text` printed.
-use Rattle.std.proofs.Common.{◌≡◌, inl, inr, ℕ, ◌≤◌, ◌&&◌, Bool, true, List, length, refl, sym, subst, arith}
-use Rattle.std.specs.Prelude.{nat_le}
-use Rattle.std.proofs.lemmas.Bool.Decides.{nat_tests}
+use Rattle.std.proofs.Common.{◌≡◌, inl, inr, ℕ, ◌≤◌, List, length, refl, sym, subst, arith}
 use Rattle.pi_base.specs.Field.{AreBytes}
 use Rattle.fv_volume.proofs.Standing.{volume_len}
 use Rattle.volume_text.specs.declared.fault.Fault.{Fault}
 use Rattle.volume_text.specs.declared.fault.TextFault.TheVariants.{Bad}
-use Rattle.volume_text.specs.Words.{is_length}
 use Rattle.volume_text.specs.Text.{Leads, IsRefused}
 use Rattle.volume_print.specs.Description.{IsTextOf}
 use Rattle.volume_again.specs.Made.{CannotBeBuilt, IsMadeAgain}
@@ -18,33 +15,22 @@ use Rattle.pitools.specs.TextAgain.{MakesItAgain}
 
 -- what holds of the texts of volumes
 pub record Laws : Type 0 where
-  pub made : (bytes text again : List ℕ) (told : IsTextOf bytes text) → AreBytes bytes → is_length told.volume.len ≡ true → Leads text again → IsMadeAgain bytes text told again
-  pub refused : (bytes text : List ℕ) (fault : Fault) (told : IsTextOf bytes text) → AreBytes bytes → is_length told.volume.len ≡ true → IsRefused text (Bad fault) → CannotBeBuilt bytes text told
+  pub made : (bytes text again : List ℕ) (told : IsTextOf bytes text) → AreBytes bytes → told.volume.len ≤ 0x4000000 → Leads text again → IsMadeAgain bytes text told again
+  pub refused : (bytes text : List ℕ) (fault : Fault) (told : IsTextOf bytes text) → AreBytes bytes → told.volume.len ≤ 0x4000000 → IsRefused text (Bad fault) → CannotBeBuilt bytes text told
 
-both : (a b : Bool) → a ≡ true → b ≡ true → (a && b) ≡ true
-both a b p q = rw (p, q) refl
-
-long_enough : (len : ℕ) → 72 ≤ len → len ≤ 0x4000000 → is_length len ≡ true
-long_enough len least most =
-    let low : nat_le 72 len ≡ true = grind (arith, nat_tests) in
-    let high : nat_le len 0x4000000 ≡ true = grind (arith, nat_tests) in
-    both (nat_le 72 len) (nat_le len 0x4000000) low high
+-- a volume is no longer than its bytes
+most_long : (bytes text : List ℕ) (told : IsTextOf bytes text) → length bytes ≤ 0x4000000 → told.volume.len ≤ 0x4000000
+most_long bytes text told short = omega (arith, volume_len bytes told.is.0 told.is.1, told.is.2, short)
 
 answered : Laws → (bytes text out : List ℕ) (status : ToolStatus) (told : IsTextOf bytes text) → AreBytes bytes → length bytes ≤ 0x4000000 → VolumeReport text status out → MakesItAgain bytes text status out
-answered laws bytes text out status told fit short (built again says leads is same) = (
-  told,
-  λ least.
-      let frame = told.is.0 in
-      let most : told.volume.len ≤ 0x4000000 = omega (arith, volume_len bytes frame told.is.1, told.is.2, short) in
-      let made = laws.made bytes text again told fit (long_enough told.volume.len least most) leads in
+answered laws bytes text out status told fit short (built again says leads is same) =
+    let made = laws.made bytes text again told fit (most_long bytes text told short) leads in (
+      told,
       inl (is, subst (λ (o : List ℕ). IsMadeAgain bytes text told o) (sym same) made),
-)
+    )
 answered laws bytes text out status told fit short (at_fault fault wrong is same) = (
   told,
-  λ least.
-      let frame = told.is.0 in
-      let most : told.volume.len ≤ 0x4000000 = omega (arith, volume_len bytes frame told.is.1, told.is.2, short) in
-      inr (is, laws.refused bytes text fault told fit (long_enough told.volume.len least most) wrong),
+  inr (is, laws.refused bytes text fault told fit (most_long bytes text told short) wrong),
 )
 
 pub again : Laws → (bytes text out : List ℕ) (status : ToolStatus) → AreBytes bytes → length bytes ≤ 0x4000000 → PrintReport bytes Done text → VolumeReport text status out → MakesItAgain bytes text status out

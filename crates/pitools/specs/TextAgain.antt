@@ -1,8 +1,7 @@
 -- The text that `text` prints of a volume, as the text of `volume`: it makes the volume again, or is refused where that cannot be built.
 -- Own.
-use Rattle.std.specs.Prelude.{◌≡◌, ◌⊎◌, ◌≤◌, ℕ, List, length}
+use Rattle.std.specs.Prelude.{◌≡◌, ◌⊎◌, ◌≤◌, List, ℕ, length}
 use Rattle.pi_base.specs.Field.{AreBytes}
-use Rattle.fv_build.specs.declared.volume_header.TheConstants.{HEADER_LEN}
 use Rattle.volume_print.specs.Description.{IsTextOf}
 use Rattle.volume_again.specs.Made.{CannotBeBuilt, IsMadeAgain}
 use Rattle.pitools.specs.declared.command_line.Tool.TheVariants.{ReadVolume, Volume}
@@ -10,13 +9,12 @@ use Rattle.pitools.specs.declared.status.ToolStatus.{ToolStatus}
 use Rattle.pitools.specs.declared.status.ToolStatus.TheVariants.{Done, TextRefused}
 use Rattle.pitools.specs.Outcome.{ContentReport, source_limit}
 
--- the answer is a volume that a reader finds to have the form, length, name and files of the one with this text, each file at its place; or the refusal of
+-- the answer is a volume that a reader finds to have the form, length, name and files of the one with this text, name and files at their places; or the refusal of
 -- a text that says that volume, which has no room for them or too many
 abbrev pub MakesItAgain : List ℕ → List ℕ → ToolStatus → List ℕ → Type 0
 MakesItAgain bytes text status out =
     (told : IsTextOf bytes text)
-    × (HEADER_LEN ≤ told.volume.len
-    → ((status ≡ Done) × IsMadeAgain bytes text told out) ⊎ ((status ≡ TextRefused) × CannotBeBuilt bytes text told))
+    × (((status ≡ Done) × IsMadeAgain bytes text told out) ⊎ ((status ≡ TextRefused) × CannotBeBuilt bytes text told))
 
 -- whatever volume `text` has told, this is what `volume` answers to its text
 abbrev pub TextsMakeVolumesAgain : Type 0

@@ -7,12 +7,21 @@ use volume_print::text_of;
 use volume_text::volume_of;
 
 /// Texts as people write them, and what is printed of their volumes.
-static PRINTED: [(&str, &str); 11] = [
+static PRINTED: [(&str, &str); 14] = [
     ("volume 72\nend\n", "volume 72 ffs2\nend\n"), // no file
     (
         "volume 256 ffs3 attributes 0x4feff\nname B5A1C0DE-93f0-4a5d-8d11-6e2f40715c33\nend",
         "volume 256 ffs3 attributes 0x4f6ff\nname b5a1c0de-93f0-4a5d-8d11-6e2f40715c33\nend\n",
     ), // attributes, beside the erase polarity, and a name
+    ("volume 64 ffs2 header 64\nend\n", "volume 64 ffs2 header 64\nend\n"), // a header with one entry of the block map
+    (
+        "volume 256 ffs2 header 0x48\nname b5a1c0de-93f0-4a5d-8d11-6e2f40715c33 at 0x60 size 20\nend\n",
+        "volume 256 ffs2\nname b5a1c0de-93f0-4a5d-8d11-6e2f40715c33\nend\n",
+    ), // the usual places, told
+    (
+        "volume 512 ffs3 header 80 attributes 4\nname b5a1c0de-93f0-4a5d-8d11-6e2f40715c33 at 80 size 37\nfile 01 00000001-0000-4000-8000-000000000001\nbody 01\nend\n",
+        "volume 512 ffs3 header 80 attributes 0x4\nname b5a1c0de-93f0-4a5d-8d11-6e2f40715c33 at 80 size 37\nfile raw 00000001-0000-4000-8000-000000000001\nbody 01\nend\n",
+    ), // a longer header, and a name right behind it with room for an entry
     (
         "volume 256\npad 8\nfile 01 {00000001-0000-4000-8000-000000000001} fixed align 0x80\nbody 01020304 05\nfile 3f 00000001-0000-4000-8000-000000000002\nend\n",
         "volume 256 ffs2\npad 8\nfile raw 00000001-0000-4000-8000-000000000001 fixed align 128\nbody 0102030405\nfile 3f 00000001-0000-4000-8000-000000000002\nend\n",

@@ -115,6 +115,23 @@ static NAMED_FRONT: [u8; 169] = [
     2, 162, 162, 162, 162, 0, 0, 0, 64, 128, 0, 0, 0, 0, 0, 0, 2, 6, 5, 3, 8,
 ];
 
+/// A volume with a longer header, and a name at a place of its own with room behind it.
+static PLACED_TEXT: &str = "volume 256 ffs2 header 0x50\n\
+name B5A1C0DE-93f0-4a5d-8d11-6e2f40715c33 at 88 size 22\n\
+file raw 00000001-0000-4000-8000-000000000001\n\
+body 010203\n\
+end\n";
+
+/// Its bytes, without the bytes 0xff at their end, by the tables of `docs/FORMATS.md`: the extended header ends at 110, and the file begins at 112.
+static PLACED_FRONT: [u8; 139] = [
+    0, 0, 0, 0, 0, 0, 0, 0, 0, 0, 0, 0, 0, 0, 0, 0, 120, 229, 140, 140, 61, 138, 28, 79, 153, 53,
+    137, 97, 133, 195, 45, 211, 0, 1, 0, 0, 0, 0, 0, 0, 95, 70, 86, 72, 0, 8, 0, 0, 80, 0, 113,
+    235, 88, 0, 0, 2, 1, 0, 0, 0, 0, 1, 0, 0, 0, 0, 0, 0, 0, 0, 0, 0, 0, 0, 0, 0, 0, 0, 0, 0, 255,
+    255, 255, 255, 255, 255, 255, 255, 222, 192, 161, 181, 240, 147, 93, 74, 141, 17, 110, 47, 64,
+    113, 92, 51, 22, 0, 0, 0, 255, 255, 255, 255, 1, 0, 0, 0, 0, 0, 0, 64, 128, 0, 0, 0, 0, 0, 0,
+    1, 34, 170, 1, 0, 27, 0, 0, 248, 1, 2, 3,
+];
+
 /// A volume with a pad file.
 static PADDED_TEXT: &str = "volume 256\n\
 pad 8\n\
@@ -241,7 +258,7 @@ static AUDIT_MAIN_FRONT: [u8; 1254] = [
 ];
 
 /// Texts with a mistake, its line and its cause.
-static MISTAKES: [(&str, u64, Cause); 61] = [
+static MISTAKES: [(&str, u64, Cause); 75] = [
     ("", 1, Cause::NoVolume), // no line
     ("\n# nothing\n", 3, Cause::NoVolume), // comments alone
     (
@@ -422,15 +439,65 @@ static MISTAKES: [(&str, u64, Cause); 61] = [
     ("volume 4096\npad 0xffffe7\n", 2, Cause::Range), // longer than a file of FFS2
     ("volume 4096\npad 8 8\n", 2, Cause::Extra), // a word behind the length
     (
-        "volume 119\nname 00000001-0000-4000-8000-000000000001\nend\n",
+        "volume 115\nname 00000001-0000-4000-8000-000000000001\nend\n",
         3,
-        Cause::NoRoom { need: 120 },
+        Cause::NoRoom { need: 116 },
     ), // no room for a name
     (
         "volume 144\nname 00000001-0000-4000-8000-000000000001\nfile raw 00000001-0000-4000-8000-000000000001\nraw 00\nend\n",
         5,
         Cause::NoRoom { need: 149 },
     ), // too small a volume with a name
+    ("volume 4096 ffs2 header 62\n", 1, Cause::Range), // a header without an entry of the block map
+    ("volume 4096 ffs2 header 73\n", 1, Cause::Range), // an odd one
+    ("volume 0x20000 ffs2 header 0x10000\n", 1, Cause::Range), // one of 17 bits
+    ("volume 78 ffs2 header 80\n", 1, Cause::Range), // one longer than the volume
+    ("volume 4096 ffs2 header\n", 1, Cause::Missing), // no length of the header
+    (
+        "volume 4096 ffs2 attributes 1 header 80\n",
+        1,
+        Cause::Extra,
+    ), // the header behind the attributes
+    (
+        "volume 4096\nname 00000001-0000-4000-8000-000000000001 at 71\n",
+        2,
+        Cause::Range,
+    ), // a name in the header
+    (
+        "volume 4096 ffs2 header 98\nname 00000001-0000-4000-8000-000000000001\n",
+        2,
+        Cause::Range,
+    ), // a name at the usual place, which is in the header
+    (
+        "volume 4096\nname 00000001-0000-4000-8000-000000000001 at 0x10000\n",
+        2,
+        Cause::Range,
+    ), // a place of 17 bits
+    (
+        "volume 4096\nname 00000001-0000-4000-8000-000000000001 at 80 size 19\n",
+        2,
+        Cause::Range,
+    ), // less than a name and its size
+    (
+        "volume 4096\nname 00000001-0000-4000-8000-000000000001 at\n",
+        2,
+        Cause::Missing,
+    ), // no place
+    (
+        "volume 4096\nname 00000001-0000-4000-8000-000000000001 size 24 at 80\n",
+        2,
+        Cause::Extra,
+    ), // the place behind the size
+    (
+        "volume 99\nname 00000001-0000-4000-8000-000000000001 at 80\nend\n",
+        3,
+        Cause::NoRoom { need: 100 },
+    ), // a name behind the end
+    (
+        "volume 148\nname 00000001-0000-4000-8000-000000000001 at 80 size 37\nfile raw 00000001-0000-4000-8000-000000000001\nraw 00\nend\n",
+        5,
+        Cause::NoRoom { need: 149 },
+    ), // too small a volume with room behind its name
     ("volume 4096 ffs2 attributes 0x100000000\n", 1, Cause::Range), // attributes of 33 bits
     ("volume 4096 ffs2 attributes\n", 1, Cause::Missing), // no attributes
     (
@@ -509,6 +576,7 @@ fn texts_of_the_examples_make_their_volumes(rt: HostRuntime) {
 #[test]
 fn names_and_pads_have_their_bytes(rt: HostRuntime) {
     assert!(rt; makes(rt.alloc(), NAMED_TEXT, 512, &NAMED_FRONT));
+    assert!(rt; makes(rt.alloc(), PLACED_TEXT, 256, &PLACED_FRONT));
     assert!(rt; makes(rt.alloc(), PADDED_TEXT, 256, &PADDED_FRONT));
 }
 

@@ -1,12 +1,12 @@
 -- The form of a volume that is built again is the one that its text says.
-use Rattle.std.proofs.Common.{◌≡◌, inl, inr, ⊎_elim, ℕ, ◌+◌, ◌-◌, ◌*◌, ◌%◌, ◌<◌, ◌≤◌, ◌^◌, Bool, true, false, cond, min, max, List, [], ◌∷◌, ◌++◌, length, take, drop, replicate, Option, Some, None, refl, sym, ap, ◌∙◌, arith}
-use Rattle.std.specs.Prelude.{nat_lt, bit_and, bit_or, bit_xor, bytes_eq, ◌==◌, ◌⊎◌}
-use Rattle.std.proofs.lemmas.Bool.{cases_lt}
+use Rattle.std.proofs.Common.{◌≡◌, inl, inr, ⊎_elim, ℕ, ◌+◌, ◌-◌, ◌*◌, ◌%◌, ◌<◌, ◌≤◌, ◌^◌, Bool, true, false, cond, min, max, List, [], ◌∷◌, ◌++◌, length, take, drop, replicate, Option, Some, None, refl, sym, ap, ◌∙◌, arith, append_assoc}
+use Rattle.std.specs.Prelude.{nat_lt, nat_le, bit_and, bit_or, bit_xor, bytes_eq, ◌==◌, ◌⊎◌}
+use Rattle.std.proofs.lemmas.Bool.{and_parts, cases_lt}
+use Rattle.std.proofs.lemmas.List.{length-replicate}
 use Rattle.std.proofs.lemmas.Bool.Decides.{nat_tests}
 use Rattle.std.proofs.lemmas.Nat.{and_or_self, or_lt}
 use Rattle.std.specs.Int.{bit_at}
 use Rattle.std.proofs.lemmas.Nat.Bits.{bit_at_or, bit_at_xor, bit_at-lt, bit_at-pow_same, bit_at-pow_other, and_pow, same_from_bits}
-use Rattle.pi_base.specs.declared.guid.Guid.{Guid}
 use Rattle.pi_base.specs.Field.{little_number, little_bytes}
 use Rattle.pi_base.proofs.FieldLaws.{little_number-little_bytes}
 use Rattle.fv_build.specs.declared.file_system.FileSystem.{FileSystem}
@@ -15,9 +15,14 @@ use Rattle.fv_build.specs.declared.new_file.NewFile.{NewFile}
 use Rattle.fv_build.specs.declared.volume_header.VolumeForm.{VolumeForm}
 use Rattle.fv_build.specs.Checksum.{checksum16}
 use Rattle.fv_build.specs.Header.{plain, head_of, header_with, volume_header}
-use Rattle.fv_build.specs.Building.{files_bytes, need}
-use Rattle.fv_named.specs.Named.{name_bytes, volume_bytes}
-use Rattle.volume_print.specs.Description.{file_system_in, told_attributes, form_in}
+use Rattle.fv_build.specs.declared.volume_name.VolumeName.{VolumeName}
+use Rattle.fv_build.specs.Front.{ext_at, extended_bytes, name_part, front_len, is_placed}
+use Rattle.fv_build.specs.Building.{filled_from, volume_bytes}
+use Rattle.fv_build.specs.Reading.{IsWhole, guid_of}
+use Rattle.fv_build.proofs.Parts.{drop_behind, drop_text}
+use Rattle.fv_build.proofs.VolumesRead.{length-header}
+use Rattle.volume_print.specs.Description.{file_system_in, told_attributes, form_in, name_in}
+use Rattle.volume_again.proofs.GoodHeaders.{there_by}
 
 -- a bit that is set may be taken out and put back
 set_there : (n i : ℕ) → i ≡ 11 → bit_at n 11 ≡ 1 → bit_at (bit_or (bit_xor n 2048) 2048) i ≡ bit_at n i
@@ -62,46 +67,87 @@ pub is_told : (image : List ℕ) → (form_in image).attributes < 2 ^ 32 → IsT
 is_told image fits =
     let n = little_number 4 (drop 44 image) in
     record {
-      same = form_same (nat_lt (length image) 56) (plain Ffs2) (record { file_system = file_system_in image; attributes = told_attributes n }) refl (told_same (bit_and n 2048 == 0) n refl);
+      same = form_same (nat_lt (length image) 56) (plain Ffs2) (record { file_system = file_system_in image; attributes = told_attributes n; header_len = little_number 2 (drop 48 image) }) refl (told_same (bit_and n 2048 == 0) n refl);
       fits = fits;
     }
 
 -- what the header of a built volume says
-abbrev front_bytes : FileSystem → ℕ → ℕ → ℕ → ℕ → List ℕ
-front_bytes file_system attributes at len checksum = header_with (head_of (record { file_system = file_system; attributes = attributes }) at len) checksum
+abbrev of : FileSystem → ℕ → ℕ → VolumeForm
+of file_system attributes header_len = record { file_system = file_system; attributes = attributes; header_len = header_len }
 
-header_says : (file_system : FileSystem) (attributes at len checksum : ℕ) (rest : List ℕ) → nat_lt (length (front_bytes file_system attributes at len checksum ++ rest)) 56 ≡ false → attributes < 2 ^ 32
-    → form_in (front_bytes file_system attributes at len checksum ++ rest) ≡ (let f : VolumeForm = record { file_system = file_system; attributes = told_attributes (bit_or attributes 2048) } in f)
-header_says Ffs2 attributes at len checksum rest long fits =
-    let bytes = front_bytes Ffs2 attributes at len checksum ++ rest in
+abbrev front_bytes : VolumeForm → ℕ → ℕ → ℕ → List ℕ
+front_bytes form at len checksum = header_with (head_of form at len) checksum
+
+header_says : (file_system : FileSystem) (attributes header_len at len checksum : ℕ) (rest : List ℕ) → nat_lt (length (front_bytes (of file_system attributes header_len) at len checksum ++ rest)) 56 ≡ false
+    → attributes < 2 ^ 32 → header_len < 2 ^ 16
+    → form_in (front_bytes (of file_system attributes header_len) at len checksum ++ rest) ≡ of file_system (told_attributes (bit_or attributes 2048)) header_len
+header_says Ffs2 attributes header_len at len checksum rest long fits short =
+    let bytes = front_bytes (of Ffs2 attributes header_len) at len checksum ++ rest in
     let number : little_number 4 (drop 44 bytes) ≡ bit_or attributes 2048 = little_number-little_bytes 4 (bit_or attributes 2048) (drop 48 bytes) (or_lt 32 attributes 2048 fits (omega arith)) in
-    ap (λ b. cond b (plain Ffs2) (let f : VolumeForm = record { file_system = file_system_in bytes; attributes = told_attributes (little_number 4 (drop 44 bytes)) } in f)) long
-    ∙ ap (λ n. let f : VolumeForm = record { file_system = Ffs2; attributes = told_attributes n } in f) number
-header_says Ffs3 attributes at len checksum rest long fits =
-    let bytes = front_bytes Ffs3 attributes at len checksum ++ rest in
+    let size : little_number 2 (drop 48 bytes) ≡ header_len = little_number-little_bytes 2 header_len (drop 50 bytes) short in
+    ap (λ b. cond b (plain Ffs2) (of (file_system_in bytes) (told_attributes (little_number 4 (drop 44 bytes))) (little_number 2 (drop 48 bytes)))) long
+    ∙ ap (λ n. of Ffs2 (told_attributes n) (little_number 2 (drop 48 bytes))) number ∙ ap (of Ffs2 (told_attributes (bit_or attributes 2048))) size
+header_says Ffs3 attributes header_len at len checksum rest long fits short =
+    let bytes = front_bytes (of Ffs3 attributes header_len) at len checksum ++ rest in
     let number : little_number 4 (drop 44 bytes) ≡ bit_or attributes 2048 = little_number-little_bytes 4 (bit_or attributes 2048) (drop 48 bytes) (or_lt 32 attributes 2048 fits (omega arith)) in
-    ap (λ b. cond b (plain Ffs2) (let f : VolumeForm = record { file_system = file_system_in bytes; attributes = told_attributes (little_number 4 (drop 44 bytes)) } in f)) long
-    ∙ ap (λ n. let f : VolumeForm = record { file_system = Ffs3; attributes = told_attributes n } in f) number
+    let size : little_number 2 (drop 48 bytes) ≡ header_len = little_number-little_bytes 2 header_len (drop 50 bytes) short in
+    ap (λ b. cond b (plain Ffs2) (of (file_system_in bytes) (told_attributes (little_number 4 (drop 44 bytes))) (little_number 2 (drop 48 bytes)))) long
+    ∙ ap (λ n. of Ffs3 (told_attributes n) (little_number 2 (drop 48 bytes))) number ∙ ap (of Ffs3 (told_attributes (bit_or attributes 2048))) size
 
 told_back : (attributes : ℕ) → IsTold attributes → told_attributes (bit_or attributes 2048) ≡ attributes
 told_back attributes is =
     let set : (bit_and (bit_or attributes 2048) 2048 == 0) ≡ false = ap (λ n. n == 0) (and_or_self 2048 attributes) in
     ap (λ b. cond b 0 (bit_xor (bit_or attributes 2048) 2048)) set ∙ is.same
 
-header_again : (form : VolumeForm) (at len : ℕ) (rest : List ℕ) → nat_lt (length (volume_header (head_of form at len) ++ rest)) 56 ≡ false → IsTold form.attributes
-    → form_in (volume_header (head_of form at len) ++ rest) ≡ form
-header_again form at len rest long is =
-    header_says form.file_system form.attributes at len (checksum16 (header_with (head_of form at len) 0)) rest long is.fits
-    ∙ ap (λ n. let f : VolumeForm = record { file_system = form.file_system; attributes = n } in f) (told_back form.attributes is)
-
 -- a built volume has its form
-pub form_again : (form : VolumeForm) (called : Option Guid) (files : List NewFile) (len : ℕ) → length (volume_bytes form called files len) ≡ len → 72 ≤ len → IsTold form.attributes
-    → form_in (volume_bytes form called files len) ≡ form
-form_again form None files len long least is =
-    let file_system = form.file_system in
-    let some : nat_lt (length (volume_bytes form None files len)) 56 ≡ false = grind (arith, nat_tests) in
-    header_again form 0 len (files_bytes file_system files ++ replicate (len - need file_system files) 255) some is
-form_again form (Some called) files len long least is =
-    let file_system = form.file_system in
-    let some : nat_lt (length (volume_bytes form (Some called) files len)) 56 ≡ false = grind (arith, nat_tests) in
-    header_again form 96 len (name_bytes called ++ (files_bytes file_system files ++ replicate (len - 48 - need file_system files) 255)) some is
+pub form_again : (form : VolumeForm) (called : Option VolumeName) (files : List NewFile) (len : ℕ) → length (volume_bytes form called files len) ≡ len → 64 ≤ len → form.header_len < 2 ^ 16
+    → IsTold form.attributes → form_in (volume_bytes form called files len) ≡ form
+form_again form called files len long least short is =
+    let some : nat_lt (length (volume_bytes form called files len)) 56 ≡ false = grind (arith, nat_tests) in
+    header_says form.file_system form.attributes form.header_len (ext_at called) len (checksum16 (header_with (head_of form (ext_at called) len) 0))
+    (name_part form.header_len called ++ filled_from form.file_system (front_len form called) files len) some is.fits short
+    ∙ ap (λ n. of form.file_system n form.header_len) (told_back form.attributes is)
+
+-- and its name, at its place
+place_says : (file_system : FileSystem) (attributes header_len at len checksum : ℕ) (rest : List ℕ) → at < 2 ^ 16
+    → little_number 2 (drop 52 (front_bytes (of file_system attributes header_len) at len checksum ++ rest)) ≡ at
+place_says Ffs2 attributes header_len at len checksum rest near = little_number-little_bytes 2 at (drop 54 (front_bytes (of Ffs2 attributes header_len) at len checksum ++ rest)) near
+place_says Ffs3 attributes header_len at len checksum rest near = little_number-little_bytes 2 at (drop 54 (front_bytes (of Ffs3 attributes header_len) at len checksum ++ rest)) near
+
+size_says : (name : VolumeName) (rest bytes : List ℕ) → length name.guid.0 ≡ 16 → name.size < 2 ^ 32 → drop name.at bytes ≡ extended_bytes name ++ rest → little_number 4 (drop (name.at + 16) bytes) ≡ name.size
+size_says name rest bytes whole fits here =
+    let entries : List ℕ = replicate (name.size - 20) 255 in
+    let behind = little_bytes 4 name.size ++ entries in
+    ap (little_number 4) (drop_behind 16 name.at bytes _ (here ∙ append_assoc name.guid.0 behind rest) ∙ drop_text 16 name.guid.0 (behind ++ rest) (sym whole)
+    ∙ append_assoc (little_bytes 4 name.size) entries rest)
+    ∙ little_number-little_bytes 4 name.size (entries ++ rest) fits
+
+extended_here : (form : VolumeForm) (name : VolumeName) (header rest : List ℕ) → form.header_len ≤ name.at → length header ≡ form.header_len
+    → drop name.at (header ++ (name_part form.header_len (Some name) ++ rest)) ≡ extended_bytes name ++ rest
+extended_here form name header rest placed long =
+    let g = name.at - form.header_len in
+    let before : List ℕ = replicate g 255 in
+    let bytes = header ++ (name_part form.header_len (Some name) ++ rest) in
+    let place : form.header_len + g ≡ name.at = omega (arith, placed) in
+    ap (λ n. drop n bytes) (sym place)
+    ∙ drop_behind g form.header_len bytes _ (drop_text form.header_len header (name_part form.header_len (Some name) ++ rest) (sym long))
+    ∙ ap (drop g) (append_assoc before (extended_bytes name) rest) ∙ drop_text g before (extended_bytes name ++ rest) (sym (length-replicate {A = ℕ} g 255))
+
+pub name_again : (form : VolumeForm) (called : Option VolumeName) (files : List NewFile) (len : ℕ) → length (volume_bytes form called files len) ≡ len → 64 ≤ len → 64 ≤ form.header_len
+    → is_placed form.header_len called ≡ true → IsWhole called → front_len form called ≤ len → len < 2 ^ 32
+    → name_in (volume_bytes form called files len) (guid_of called) ≡ called
+name_again form None files len long least header placed whole room below = refl
+name_again form (Some name) files len long least header placed whole room below =
+    let rest = filled_from form.file_system (front_len form (Some name)) files len in
+    let bytes = volume_bytes form (Some name) files len in
+    let both = and_parts (nat_le form.header_len name.at) (nat_le 20 name.size) placed in
+    let a = both.0 in
+    let b = both.1 in
+    let behind : form.header_len ≤ name.at = grind (arith, nat_tests) in
+    let fields : 20 ≤ name.size = grind (arith, nat_tests) in
+    let place : little_number 2 (drop 52 bytes) ≡ name.at =
+    place_says form.file_system form.attributes form.header_len name.at len (checksum16 (header_with (head_of form name.at len) 0)) (name_part form.header_len (Some name) ++ rest) whole.1 in
+    let here = extended_here form name (volume_header (head_of form name.at len)) rest behind (length-header form.file_system form.attributes form.header_len name.at len header) in
+    let size : little_number 4 (drop (name.at + 16) bytes) ≡ name.size = size_says name rest bytes whole.0 (omega (arith, room, below)) here in
+    there_by bytes name.guid name.at (omega (arith, long, least)) place (omega (arith, long, room, fields))
+    ∙ ap (λ n. let v : VolumeName = record { guid = name.guid; at = name.at; size = n } in Some v) size

@@ -11,5 +11,7 @@ mod FileLengths
 mod StandAgain
 mod ListedFiles
 mod OfBytes
+mod GoodHeaders
 mod FormAgain
+mod WholeNames
 mod MadeAgain

@@ -54,13 +54,13 @@ FileHeader = TypeSome (file_header [] (ones true) 0)
 abbrev FileState : Type 0
 FileState = TypeOf (file_state 0 0)
 
-abbrev VolumeHeader : Type 0
+abbrev pub VolumeHeader : Type 0
 VolumeHeader = TypeOf (volume_header [])
 
-abbrev ExtendedHeader : Type 0
+abbrev pub ExtendedHeader : Type 0
 ExtendedHeader = TypeInSome (extended_header [] (volume_header []))
 
-abbrev Frame : Type 0
+abbrev pub Frame : Type 0
 Frame = TypeIn (frame_of [])
 
 -- parts of bytes
@@ -70,7 +70,7 @@ taken_bytes n image bytes = bytes_front (take n image) (drop n image) (rw (take-
 pub left_bytes : (n : ℕ) (image : List ℕ) → IsBytes image → IsBytes (drop n image)
 left_bytes n image bytes = bytes_back (take n image) (drop n image) (rw (take-append-drop n image) bytes)
 
-guid_there : (image : List ℕ) (at : ℕ) → IsBytes image → at + 16 ≤ length image → IsGuid (guid_at image at)
+pub guid_there : (image : List ℕ) (at : ℕ) → IsBytes image → at + 16 ≤ length image → IsGuid (guid_at image at)
 guid_there image at bytes room =
     (length-take-le 16 (drop at image) (omega (arith, room, length-drop at image)), taken_bytes 16 (drop at image) (left_bytes at image bytes))
 
@@ -154,12 +154,13 @@ files_good image format from (item ∷ rest) to bytes even path =
 same_frame : (a b : Frame) → ◌≡◌ {A = Result Frame VolFault} (Ok a) (Ok b) → a ≡ b
 same_frame a b e = cc
 
-record IsGoodFrame (bytes : List ℕ) (header : VolumeHeader) (extended : Result (Option ExtendedHeader) VolFault) (frame : Frame) : Type 0 where
-  even : frame.start % 8 ≡ 0
-  within : header.len ≤ length bytes
-  found : Option ExtendedHeader
-  is : extended ≡ Ok found
-  same : frame ≡ frame_with header found
+pub record IsGoodFrame (bytes : List ℕ) (header : VolumeHeader) (extended : Result (Option ExtendedHeader) VolFault) (frame : Frame) : Type 0 where
+  pub even : frame.start % 8 ≡ 0
+  pub sound : header_fault bytes header ≡ None
+  pub within : header.len ≤ length bytes
+  pub found : Option ExtendedHeader
+  pub is : extended ≡ Ok found
+  pub same : frame ≡ frame_with header found
 
 start_even : (header : VolumeHeader) (found : Option ExtendedHeader) → (frame_with header found).start % 8 ≡ 0
 start_even header None = omega arith
@@ -174,13 +175,13 @@ good_frame bytes header (Some fault) extended frame is e = absurd cc
 good_frame bytes header None (Err fault) frame is e = absurd cc
 good_frame bytes header None (Ok found) frame is e =
     let same : frame ≡ frame_with header found = sym (same_frame (frame_with header found) frame e) in
-    record { even = ap (λ f. f.start % 8) same ∙ start_even header found; within = header_within bytes header is; found = found; is = refl; same = same }
+    record { even = ap (λ f. f.start % 8) same ∙ start_even header found; sound = is; within = header_within bytes header is; found = found; is = refl; same = same }
 
-kept : (short : Bool) (fault : VolFault) (other : Result Frame VolFault) (frame : Frame) → cond short (Err fault) other ≡ Ok frame → other ≡ Ok frame
+pub kept : (short : Bool) (fault : VolFault) (other : Result Frame VolFault) (frame : Frame) → cond short (Err fault) other ≡ Ok frame → other ≡ Ok frame
 kept true fault other frame e = absurd cc
 kept false fault other frame e = e
 
-frame_good : (bytes : List ℕ) (frame : Frame) → frame_of bytes ≡ Ok frame → IsGoodFrame bytes (volume_header bytes) (extended_header bytes (volume_header bytes)) frame
+pub frame_good : (bytes : List ℕ) (frame : Frame) → frame_of bytes ≡ Ok frame → IsGoodFrame bytes (volume_header bytes) (extended_header bytes (volume_header bytes)) frame
 frame_good bytes frame e =
     let header = volume_header bytes in
     let there = kept _ _ (frame_or_fault header (header_fault bytes header) (extended_header bytes header)) frame e in
@@ -192,33 +193,3 @@ volume_good bytes volume fit v =
     let frame = v.0 in
     subst (AllByRecursion IsListedFile) (sym v.4.4)
     (files_good (take frame.len bytes) frame.format frame.start v.4.0 v.4.1 (taken_bytes frame.len bytes fit) (frame_good bytes frame v.1).even v.4.2)
-
--- the name of a volume
-abbrev pub IsNamedByBytes : Option Guid → Type 0
-IsNamedByBytes None = ⊤
-IsNamedByBytes (Some guid) = IsGuid guid
-
-extended_there : (at len : ℕ) (a b c d f : Bool) (one found : ExtendedHeader) → nat_lt len (at + 20) ≡ c
-    → cond a (Ok None) (cond b misplaced (cond c misplaced (cond d misplaced (cond f misplaced (Ok (Some one)))))) ≡ Ok (Some found)
-    → (at + 20 ≤ len) × (one ≡ found)
-extended_there at len true b c d f one found is e = absurd cc
-extended_there at len false true c d f one found is e = absurd cc
-extended_there at len false false true d f one found is e = absurd cc
-extended_there at len false false false true f one found is e = absurd cc
-extended_there at len false false false false true one found is e = absurd cc
-extended_there at len false false false false false one found is e = (grind (arith, nat_tests), cc)
-
-extended_named : (bytes : List ℕ) (header : VolumeHeader) (found : Option ExtendedHeader) → IsBytes bytes → header.len ≤ length bytes → extended_header bytes header ≡ Ok found
-    → IsNamedByBytes (frame_with header found).name
-extended_named bytes header None fit within e = tt
-extended_named bytes header (Some extended) fit within e =
-    let at = header.ext_header_at in
-    let size = little_number 4 (drop (at + 16) bytes) in
-    let one : ExtendedHeader = record { name = guid_at bytes at; end = at + size } in
-    let there = extended_there at header.len (at == 0) (nat_lt at header.header_len) (nat_lt header.len (at + 20)) (nat_lt size 20) (nat_lt header.len (at + size)) one extended refl e in
-    subst IsGuid (ap (λ (x : ExtendedHeader). x.name) there.1) (guid_there bytes at fit (omega (arith, there.0, within)))
-
-pub name_good : (bytes : List ℕ) (volume : Volume) → IsBytes bytes → IsVolume bytes volume → IsNamedByBytes volume.name
-name_good bytes volume fit v =
-    let f = frame_good bytes v.0 v.1 in
-    subst IsNamedByBytes (sym (v.3 ∙ ap (λ (x : Frame). x.name) f.same)) (extended_named bytes (volume_header bytes) f.found fit f.within f.is)

@@ -1,6 +1,6 @@
 -- What the lines of a printed text say.
-use Rattle.std.proofs.Common.{◌≡◌, ℕ, zero, suc, ◌^◌, ◌<◌, ◌≤◌, Bool, true, false, List, [], ◌∷◌, ◌++◌, length, map, flat_map, Some, Result, Ok, refl, sym, ap, ◌∙◌, arith, decimal, subst, append_assoc}
-use Rattle.std.specs.Prelude.{nat_le, nat_lt, codes, ◌==◌, if◌then◌else◌}
+use Rattle.std.proofs.Common.{◌≡◌, ℕ, zero, suc, ◌^◌, ◌<◌, ◌≤◌, ◌%◌, Bool, true, false, List, [], ◌∷◌, ◌++◌, length, map, flat_map, Some, Result, Ok, refl, sym, ap, ◌∙◌, arith, decimal, subst, append_assoc}
+use Rattle.std.specs.Prelude.{nat_le, nat_lt, codes, bytes_eq, ◌==◌, ◌&&◌, if◌then◌else◌}
 use Rattle.std.specs.List.{AllByRecursion}
 use Rattle.std.proofs.lemmas.Bool.{and_parts, eqb-true, false≢true}
 use Rattle.std.proofs.lemmas.Bool.Decides.{nat_tests}
@@ -28,18 +28,23 @@ use Rattle.fv_build.specs.declared.attributes.FileAttributes.{FileAttributes}
 use Rattle.fv_build.specs.declared.file_system.FileSystem.{FileSystem}
 use Rattle.fv_build.specs.declared.file_system.FileSystem.TheVariants.{Ffs2, Ffs3}
 use Rattle.fv_build.specs.declared.volume_header.VolumeForm.{VolumeForm}
+use Rattle.fv_build.specs.declared.volume_name.VolumeName.{VolumeName}
+use Rattle.fv_build.specs.Header.{is_header_length}
+use Rattle.fv_build.specs.Front.{is_placed}
 use Rattle.fv_build.specs.Attributes.{alignment_len}
 use Rattle.source_words.specs.Words.{words}
 use Rattle.volume_text.specs.declared.fault.Cause.{Cause}
+use Rattle.volume_text.specs.declared.fault.Cause.TheVariants as cause
+use Rattle.volume_text.specs.Reading.{◌>>=◌, only_if}
 use Rattle.volume_text.specs.declared.statement.Statement.{Statement}
 use Rattle.volume_text.specs.declared.statement.Statement.TheVariants as said
 use Rattle.volume_text.specs.Keywords.{keyword_of, phase_of, system_of}
-use Rattle.volume_text.specs.Words.{is_length, length_at, is_pad_length, pad_length_at, system_at, attributes_at, last_number, guid_at, file_type_at, section_type_at, phase_at, fixed_at, last_alignment, alignment_at, chosen_at}
+use Rattle.volume_text.specs.Words.{is_length, length_at, number_at, told_at, is_header, header_at, place_at, is_size, size_at, is_pad_length, pad_length_at, system_at, attributes_at, last_number, guid_at, file_type_at, section_type_at, phase_at, fixed_at, last_alignment, alignment_at, chosen_at}
 use Rattle.volume_text.specs.Bytes.{hex_answer, bytes_of as bytes_of_words, guids_of}
 use Rattle.volume_text.specs.Line.{volume_at, name_at, pad_at, file_at, script_at, guids_at, section_at, body_at, ReadsBy, ReadsDepex}
 use Rattle.volume_text.specs.Volume.{SaysLine}
 use Rattle.volume_text.specs.Text.{is_passed_over}
-use Rattle.volume_print.specs.Spelling.{phase_word, system_word, type_word, fixed_words, alignment_words, attribute_words, guid_word as told_guid}
+use Rattle.volume_print.specs.Spelling.{phase_word, system_word, type_word, fixed_words, alignment_words, attribute_words, number_words, guid_word as told_guid}
 use Rattle.fv_section.specs.declared.section_type.TheConstants.{RAW}
 use Rattle.words_again.proofs.LineWords.{IsWord, IsClear, clear_of, both_clear, spaced_clear, word_then, words_spaced, stands_spaced}
 use Rattle.words_again.proofs.Characters.{decimal_word, hexadecimal_word, encoded_inner, encoded_word, guid_word}
@@ -70,6 +75,14 @@ line_words word others first all =
 
 line_clear : (word : List ℕ) (others : List (List ℕ)) → IsWord word → AllByRecursion IsWord others → IsClear (line_of word others)
 line_clear word others first all = both_clear word (flat_map spaced others) (clear_of word first.1) (spaced_clear others all)
+
+flat_spaced : (xs ys : List (List ℕ)) → flat_map spaced (xs ++ ys) ≡ flat_map spaced xs ++ flat_map spaced ys
+flat_spaced [] ys = refl
+flat_spaced (x ∷ xs) ys = ap (λ t. (32 ∷ x) ++ t) (flat_spaced xs ys) ∙ sym (append_assoc (32 ∷ x) (flat_map spaced xs) (flat_map spaced ys))
+
+all_then : (xs ys : List (List ℕ)) → AllByRecursion IsWord xs → AllByRecursion IsWord ys → AllByRecursion IsWord (xs ++ ys)
+all_then [] ys a b = b
+all_then (x ∷ xs) ys a b = (a.0, all_then xs ys a.1 b)
 
 -- a volume's own line
 abbrev attribute_list : ℕ → List (List ℕ)
@@ -109,16 +122,69 @@ system_is_word Ffs2 = (omega arith, refl)
 system_is_word Ffs3 = (omega arith, refl)
 
 length_fits : (len : ℕ) → is_length len ≡ true → len < 2 ^ 64
-length_fits len is = let most : nat_le len 0x4000000 ≡ true = (and_parts (nat_le 72 len) (nat_le len 0x4000000) is).1 in grind (arith, nat_tests)
+length_fits len is = let most : nat_le len 0x4000000 ≡ true = (and_parts (nat_le 64 len) (nat_le len 0x4000000) is).1 in grind (arith, nat_tests)
 
-form_same : (form : VolumeForm) (system : FileSystem) (attributes : ℕ) → form.file_system ≡ system → form.attributes ≡ attributes → (let f : VolumeForm = record { file_system = system; attributes = attributes } in f) ≡ form
-form_same form system attributes p q = rw (← p, ← q) refl
+-- a number behind its word, where it is not the usual one
+abbrev number_list : List ℕ → ℕ → ℕ → List (List ℕ)
+number_list key usual n = if n == usual then [] else key ∷ (decimal n ∷ [])
 
-volume_read : (form : VolumeForm) (len : ℕ) → is_length len ≡ true → form.attributes < 2 ^ 32
-    → volume_at (decimal len ∷ (system_word form.file_system ∷ attribute_list form.attributes)) ≡ Ok (said.Volume form len)
+number_same : (key between : List ℕ) (usual n : ℕ) → ((t : List ℕ) → between ++ t ≡ 32 ∷ (key ++ (32 ∷ t))) → number_words between usual n ≡ flat_map spaced (number_list key usual n)
+number_same key between usual n apart = by_test (n == usual)
+  where
+    by_test : (test : Bool) → (if test then [] else between ++ decimal n) ≡ flat_map spaced (if test then [] else key ∷ (decimal n ∷ []))
+    by_test true = refl
+    by_test false = apart (decimal n) ∙ ap (λ t. 32 ∷ (key ++ (32 ∷ t))) (sym (append-nil (decimal n)))
+
+number_are : (key : List ℕ) (usual n : ℕ) → IsWord key → n < 2 ^ 64 → AllByRecursion IsWord (number_list key usual n)
+number_are key usual n is fits = by_test (n == usual)
+  where
+    by_test : (test : Bool) → AllByRecursion IsWord (if test then [] else key ∷ (decimal n ∷ []))
+    by_test true = tt
+    by_test false = (is, (decimal_word n fits, tt))
+
+number_by : (key : List ℕ) (usual n : ℕ) (rest : List (List ℕ)) (test : Bool) → (n == usual) ≡ test → n < 2 ^ 64 → bytes_eq key key ≡ true → told_at key usual rest ≡ Ok (usual, rest)
+    → told_at key usual ((if test then [] else key ∷ (decimal n ∷ [])) ++ rest) ≡ Ok (n, rest)
+unfolding told_at number_at
+number_by key usual n rest true is fits same other = other ∙ ap (λ k. Ok (k, rest)) (sym (eqb-true n usual is))
+number_by key usual n rest false is fits same other = rw (same, decimal_read n fits) refl
+
+number_read : (key : List ℕ) (usual n : ℕ) (rest : List (List ℕ)) → n < 2 ^ 64 → bytes_eq key key ≡ true → told_at key usual rest ≡ Ok (usual, rest)
+    → told_at key usual (number_list key usual n ++ rest) ≡ Ok (n, rest)
+number_read key usual n rest fits same other = number_by key usual n rest (n == usual) refl fits same other
+
+no_header : (attributes : ℕ) → told_at (codes "header") 72 (attribute_list attributes) ≡ Ok (72, attribute_list attributes)
+unfolding told_at
+no_header attributes = by_test (attributes == 0)
+  where
+    by_test : (test : Bool) → told_at (codes "header") 72 (if test then [] else codes "attributes" ∷ (hexadecimal attributes ∷ []))
+        ≡ Ok (72, (if test then [] else codes "attributes" ∷ (hexadecimal attributes ∷ [])))
+    by_test true = refl
+    by_test false = refl
+
+header_short : (len header_len : ℕ) → is_header len header_len ≡ true → header_len < 2 ^ 64
+header_short len header_len is =
+    let first = and_parts (is_header_length header_len) (nat_le header_len len) is in
+    let second = and_parts (nat_le 64 header_len) ((header_len % 2 == 0) && nat_lt header_len 65536) first.0 in
+    let short = (and_parts (header_len % 2 == 0) (nat_lt header_len 65536) second.1).1 in
+    grind (arith, nat_tests)
+
+header_read : (len header_len attributes : ℕ) → is_header len header_len ≡ true
+    → header_at len (number_list (codes "header") 72 header_len ++ attribute_list attributes) ≡ Ok (header_len, attribute_list attributes)
+unfolding header_at
+header_read len header_len attributes is =
+    ap (λ r. r >>= (λ header. only_if (is_header len header.0) cause.Range header))
+    (number_read (codes "header") 72 header_len (attribute_list attributes) (header_short len header_len is) refl (no_header attributes))
+    ∙ ap (λ b. only_if b cause.Range (header_len, attribute_list attributes)) is
+
+abbrev form_list : VolumeForm → List (List ℕ)
+form_list form = number_list (codes "header") 72 form.header_len ++ attribute_list form.attributes
+
+volume_read : (form : VolumeForm) (len : ℕ) → is_length len ≡ true → form.attributes < 2 ^ 32 → is_header len form.header_len ≡ true
+    → volume_at (decimal len ∷ (system_word form.file_system ∷ form_list form)) ≡ Ok (said.Volume form len)
 unfolding volume_at length_at system_at
-volume_read form len is fits =
-    rw (decimal_read len (length_fits len is), is, system_there form.file_system, attributes_by form.attributes (form.attributes == 0) refl fits) refl
+volume_read form len is fits header =
+    rw (decimal_read len (length_fits len is), is, system_there form.file_system, header_read len form.header_len form.attributes header,
+      attributes_by form.attributes (form.attributes == 0) refl fits) refl
 
 -- the text of a line, what it says, and that it counts
 pub record Says (text : List ℕ) (what : Statement) : Type 0 where
@@ -130,17 +196,28 @@ unfolding keyword_of
 volume_key l others what is = is
 
 abbrev pub volume_text : VolumeForm → ℕ → List ℕ
-volume_text form len = codes "volume " ++ (decimal len ++ (32 ∷ (system_word form.file_system ++ attribute_words form.attributes)))
+volume_text form len =
+    codes "volume " ++ (decimal len ++ (32 ∷ (system_word form.file_system ++ (number_words (codes " header ") 72 form.header_len ++ attribute_words form.attributes))))
 
-pub volume_says : (form : VolumeForm) (len : ℕ) → is_length len ≡ true → form.attributes < 2 ^ 32 → Says (volume_text form len) (said.Volume form len)
-volume_says form len is fits =
-    let others = decimal len ∷ (system_word form.file_system ∷ attribute_list form.attributes) in
+pub volume_says : (form : VolumeForm) (len : ℕ) → is_length len ≡ true → form.attributes < 2 ^ 32 → is_header len form.header_len ≡ true → Says (volume_text form len) (said.Volume form len)
+volume_says form len is fits header =
+    let numbers = number_list (codes "header") 72 form.header_len in
+    let others = decimal len ∷ (system_word form.file_system ∷ form_list form) in
     let same : volume_text form len ≡ line_of (codes "volume") others =
-    ap (λ t. codes "volume " ++ (decimal len ++ (32 ∷ (system_word form.file_system ++ t)))) (attributes_same form.attributes) in
-    let all : AllByRecursion IsWord others = (decimal_word len (length_fits len is), (system_is_word form.file_system, attributes_words form.attributes fits)) in
+    ap (λ t. codes "volume " ++ (decimal len ++ (32 ∷ (system_word form.file_system ++ t))))
+    (ap (λ t. t ++ attribute_words form.attributes) (number_same (codes "header") (codes " header ") 72 form.header_len (λ t. refl))
+    ∙ ap (λ t. flat_map spaced numbers ++ t) (attributes_same form.attributes) ∙ sym (flat_spaced numbers (attribute_list form.attributes))) in
+    let all : AllByRecursion IsWord others = (
+      decimal_word len (length_fits len is),
+      (
+        system_is_word form.file_system,
+        all_then numbers (attribute_list form.attributes) (number_are (codes "header") 72 form.header_len (omega arith, refl) (header_short len form.header_len header))
+            (attributes_words form.attributes fits),
+      ),
+    ) in
     let split : words (volume_text form len) ≡ codes "volume" ∷ others = ap words same ∙ line_words (codes "volume") others (omega arith, refl) all in
     record {
-      says = says_by (volume_text form len) (codes "volume") others (said.Volume form len) split (volume_key (volume_text form len) others (said.Volume form len) (sym (volume_read form len is fits)));
+      says = says_by (volume_text form len) (codes "volume") others (said.Volume form len) split (volume_key (volume_text form len) others (said.Volume form len) (sym (volume_read form len is fits header)));
       is = record {
         clear = subst IsClear (sym same) (line_clear (codes "volume") others (omega arith, refl) all);
         counts = counts_first (volume_text form len) (codes "volume") others 118 (codes "olume") split refl refl;
@@ -152,19 +229,68 @@ name_key : (l : List ℕ) (others : List (List ℕ)) (what : Statement) → Ok w
 unfolding keyword_of
 name_key l others what is = is
 
-name_read : (guid : Guid) → IsGuid guid → name_at (guid_text guid ∷ []) ≡ Ok (said.Name guid)
-unfolding name_at guid_at
-name_read guid is = rw (guid_read guid is) refl
+no_place : (size : ℕ) → told_at (codes "at") 96 (number_list (codes "size") 20 size) ≡ Ok (96, number_list (codes "size") 20 size)
+unfolding told_at
+no_place size = by_test (size == 20)
+  where
+    by_test : (test : Bool) → told_at (codes "at") 96 (if test then [] else codes "size" ∷ (decimal size ∷ [])) ≡ Ok (96, (if test then [] else codes "size" ∷ (decimal size ∷ [])))
+    by_test true = refl
+    by_test false = refl
 
-pub name_says : (guid : Guid) → IsGuid guid → Says (codes "name " ++ guid_text guid) (said.Name guid)
-name_says guid is =
-    let others = guid_text guid ∷ [] in
-    let text = codes "name " ++ guid_text guid in
-    let same : text ≡ line_of (codes "name") others = ap (λ t. codes "name " ++ t) (sym (append-nil (guid_text guid))) in
-    let all : AllByRecursion IsWord others = (guid_word guid, tt) in
+no_size : told_at (codes "size") 20 [] ≡ Ok (20, [])
+unfolding told_at
+no_size = refl
+
+below_16 : (n : ℕ) → n < 2 ^ 16 → nat_lt n (2 ^ 16) ≡ true
+below_16 n fits = grind (arith, nat_tests)
+
+size_fits : (n : ℕ) → 20 ≤ n → n < 2 ^ 32 → is_size n ≡ true
+size_fits n least fits = let a : nat_le 20 n ≡ true = grind (arith, nat_tests) in ap (λ b. b && nat_lt n (2 ^ 32)) a ∙ below_32 n fits
+
+place_read : (at size : ℕ) → at < 2 ^ 16 → place_at (number_list (codes "at") 96 at ++ number_list (codes "size") 20 size) ≡ Ok (at, number_list (codes "size") 20 size)
+unfolding place_at
+place_read at size fits =
+    ap (λ r. r >>= (λ place. only_if (nat_lt place.0 (2 ^ 16)) cause.Range place)) (number_read (codes "at") 96 at (number_list (codes "size") 20 size) (omega arith) refl (no_place size))
+    ∙ ap (λ b. only_if b cause.Range (at, number_list (codes "size") 20 size)) (below_16 at fits)
+
+size_read : (size : ℕ) → 20 ≤ size → size < 2 ^ 32 → size_at (number_list (codes "size") 20 size) ≡ Ok (size, [])
+unfolding size_at
+size_read size least fits =
+    ap (λ ws. told_at (codes "size") 20 ws >>= (λ one. only_if (is_size one.0) cause.Range one)) (sym (append-nil (number_list (codes "size") 20 size)))
+    ∙ ap (λ r. r >>= (λ one. only_if (is_size one.0) cause.Range one)) (number_read (codes "size") 20 size [] (omega arith) refl no_size)
+    ∙ ap (λ b. only_if b cause.Range (size, [])) (size_fits size least fits)
+
+abbrev place_list : VolumeName → List (List ℕ)
+place_list name = number_list (codes "at") 96 name.at ++ number_list (codes "size") 20 name.size
+
+name_read : (name : VolumeName) → IsGuid name.guid → name.at < 2 ^ 16 → name.size < 2 ^ 32 → 20 ≤ name.size → name_at (guid_text name.guid ∷ place_list name) ≡ Ok (said.Name name)
+unfolding name_at guid_at
+name_read name is near fits least = rw (guid_read name.guid is, place_read name.at name.size near, size_read name.size least fits) refl
+
+-- a name that is placed has its fields
+pub least_size : (header_len : ℕ) (name : VolumeName) → is_placed header_len (Some name) ≡ true → 20 ≤ name.size
+least_size header_len name is = let least = (and_parts (nat_le header_len name.at) (nat_le 20 name.size) is).1 in grind (arith, nat_tests)
+
+abbrev pub name_text : VolumeName → List ℕ
+name_text name = codes "name " ++ (guid_text name.guid ++ (number_words (codes " at ") 96 name.at ++ number_words (codes " size ") 20 name.size))
+
+pub name_says : (name : VolumeName) → IsGuid name.guid → name.at < 2 ^ 16 → name.size < 2 ^ 32 → 20 ≤ name.size → Says (name_text name) (said.Name name)
+name_says name is near fits least =
+    let places = number_list (codes "at") 96 name.at in
+    let sizes = number_list (codes "size") 20 name.size in
+    let others = guid_text name.guid ∷ place_list name in
+    let text = name_text name in
+    let same : text ≡ line_of (codes "name") others =
+    ap (λ t. codes "name " ++ (guid_text name.guid ++ t))
+    (ap (λ t. t ++ number_words (codes " size ") 20 name.size) (number_same (codes "at") (codes " at ") 96 name.at (λ t. refl))
+    ∙ ap (λ t. flat_map spaced places ++ t) (number_same (codes "size") (codes " size ") 20 name.size (λ t. refl)) ∙ sym (flat_spaced places sizes)) in
+    let all : AllByRecursion IsWord others = (
+      guid_word name.guid,
+      all_then places sizes (number_are (codes "at") 96 name.at (omega arith, refl) (omega arith)) (number_are (codes "size") 20 name.size (omega arith, refl) (omega arith)),
+    ) in
     let split : words text ≡ codes "name" ∷ others = ap words same ∙ line_words (codes "name") others (omega arith, refl) all in
     record {
-      says = says_by text (codes "name") others (said.Name guid) split (name_key text others (said.Name guid) (sym (name_read guid is)));
+      says = says_by text (codes "name") others (said.Name name) split (name_key text others (said.Name name) (sym (name_read name is near fits least)));
       is = record {
         clear = subst IsClear (sym same) (line_clear (codes "name") others (omega arith, refl) all);
         counts = counts_first text (codes "name") others 110 (codes "ame") split refl refl;
@@ -177,10 +303,6 @@ fixed_list fixed = if fixed then codes "fixed" ∷ [] else []
 
 abbrev align_list : Alignment → List (List ℕ)
 align_list alignment = if alignment_len alignment == 1 then [] else codes "align" ∷ (decimal (alignment_len alignment) ∷ [])
-
-flat_spaced : (xs ys : List (List ℕ)) → flat_map spaced (xs ++ ys) ≡ flat_map spaced xs ++ flat_map spaced ys
-flat_spaced [] ys = refl
-flat_spaced (x ∷ xs) ys = ap (λ t. (32 ∷ x) ++ t) (flat_spaced xs ys) ∙ sym (append_assoc (32 ∷ x) (flat_map spaced xs) (flat_map spaced ys))
 
 fixed_same : (fixed : Bool) → fixed_words fixed ≡ flat_map spaced (fixed_list fixed)
 fixed_same true = refl
@@ -203,10 +325,6 @@ align_are alignment = by_test (alignment_len alignment == 1)
     by_test : (test : Bool) → AllByRecursion IsWord (if test then [] else codes "align" ∷ (decimal (alignment_len alignment) ∷ []))
     by_test true = tt
     by_test false = ((omega arith, refl), (decimal_word (alignment_len alignment) (alignment_fits alignment), tt))
-
-all_then : (xs ys : List (List ℕ)) → AllByRecursion IsWord xs → AllByRecursion IsWord ys → AllByRecursion IsWord (xs ++ ys)
-all_then [] ys a b = b
-all_then (x ∷ xs) ys a b = (a.0, all_then xs ys a.1 b)
 
 one_byte : (alignment : Alignment) → (alignment_len alignment == 1) ≡ true → ◌≡◌ {A = Result Alignment Cause} (Ok Byte) (Ok alignment)
 one_byte Byte is = refl

@@ -1,13 +1,13 @@
 -- A volume that is read of the text of another one.
-use Rattle.std.specs.Prelude.{◌≡◌, ◌⊎◌, ℕ, ◌<◌, ⊤, List, [], ◌∷◌, ◌++◌, length, map, Option, Some, None, Ok, All, true}
+use Rattle.std.specs.Prelude.{◌≡◌, ◌⊎◌, ℕ, ◌<◌, ◌^◌, ⊤, List, [], ◌∷◌, ◌++◌, length, map, Option, Some, None, Ok, All, true}
 use Rattle.hex.specs.Hex.{IsBytes}
-use Rattle.pi_base.specs.declared.guid.Guid.{Guid}
 use Rattle.printed_words.specs.Words.{IsGuid}
 use Rattle.fv_build.specs.declared.new_file.NewFile.{NewFile}
 use Rattle.fv_build.specs.declared.new_file.NewSection.{NewSection}
 use Rattle.fv_build.specs.declared.new_file.Body.{Body}
 use Rattle.fv_build.specs.declared.new_file.Body.TheVariants.{Sections, Bytes}
 use Rattle.fv_build.specs.declared.volume_header.VolumeForm.{VolumeForm}
+use Rattle.fv_build.specs.declared.volume_name.VolumeName.{VolumeName}
 use Rattle.fv_build.specs.Reading.{AreEach}
 use Rattle.volume_text.specs.declared.volume.OpenVolume.{OpenVolume}
 use Rattle.volume_text.specs.Open.{pad_file, built_of}
@@ -22,9 +22,10 @@ abbrev pub IsBodyOfBytes : Body → Type 0
 IsBodyOfBytes (Sections sections) = All IsOfBytes sections
 IsBodyOfBytes (Bytes bytes) = IsBytes bytes
 
-abbrev pub IsNameOfBytes : Option Guid → Type 0
+-- a name of bytes, whose place and size their fields can tell
+abbrev pub IsNameOfBytes : Option VolumeName → Type 0
 IsNameOfBytes None = ⊤
-IsNameOfBytes (Some guid) = IsGuid guid
+IsNameOfBytes (Some name) = IsGuid name.guid × (name.at < 2 ^ 16) × (name.size < 2 ^ 32)
 
 pub record IsFileOfBytes (file : NewFile) : Type 0 where
   pub kind : file.kind < 256
@@ -57,7 +58,7 @@ among (pads ∷ others) (file ∷ files) = map pad_file pads ++ (file ∷ among 
 
 -- a text describes a volume of this form, length and name with these files again, each behind these pads, and leads to its bytes where nothing stands
 -- against it
-pub record SaysAgain (Inner : List ℕ → List ℕ → Type 0) (form : VolumeForm) (len : ℕ) (name : Option Guid) (pads : List (List ℕ)) (files : List NewFile)
+pub record SaysAgain (Inner : List ℕ → List ℕ → Type 0) (form : VolumeForm) (len : ℕ) (name : Option VolumeName) (pads : List (List ℕ)) (files : List NewFile)
     (text : List ℕ) : Type 0 where
   pub volume : OpenVolume
   pub again : List NewFile

@@ -4,11 +4,11 @@ use Rattle.fv_volume.specs.declared.volume.Volume.{Volume}
 use Rattle.fv_volume.specs.Volume.{IsVolume}
 use Rattle.fv_build.specs.declared.new_file.NewFile.{NewFile}
 use Rattle.fv_build.specs.Reading.{AreEach, IsFileRead}
-use Rattle.fv_named.specs.Named.{first_place}
+use Rattle.fv_build.specs.Front.{first_place}
 use Rattle.catalog_model.specs.declared.limits.TheConstants.{MOST_DEPTH}
 use Rattle.volume_text.specs.declared.fault.Cause.{Cause}
 use Rattle.volume_text.specs.Open.{built_of}
-use Rattle.volume_print.specs.Description.{form_in, pads_of, IsInner, IsTextOf}
+use Rattle.volume_print.specs.Description.{form_in, name_in, pads_of, IsInner, IsTextOf}
 use Rattle.volume_print.specs.Places.{Room, rooms, places, LeaveRoom}
 use Rattle.volume_again.specs.Again.{IsFileAgain, SaysAgain}
 
@@ -16,7 +16,11 @@ use Rattle.volume_again.specs.Again.{IsFileAgain, SaysAgain}
 abbrev pub rooms_told : (bytes text : List ℕ) → IsTextOf bytes text → List Room
 rooms_told bytes text told = rooms (form_in bytes).file_system told.volume.files told.told.files
 
--- a reader finds a volume of the same form, length and name, and the same files, each where its pads bring it: at the same offset, where each stretch
+-- where the first of them can stand
+abbrev pub first_told : (bytes text : List ℕ) → IsTextOf bytes text → ℕ
+first_told bytes text told = first_place (form_in bytes) (name_in bytes told.volume.name)
+
+-- a reader finds a volume of the same form, length and name, the name at the same place, and the same files, each where its pads bring it: at the same offset, where each stretch
 -- in front of a file is none or has room for a pad
 pub record IsMadeAgain (bytes text : List ℕ) (told : IsTextOf bytes text) (again : List ℕ) : Type 0 where
   pub volume : Volume
@@ -25,16 +29,20 @@ pub record IsMadeAgain (bytes text : List ℕ) (told : IsTextOf bytes text) (aga
   pub len_is : volume.len ≡ told.volume.len
   pub long : length again ≡ told.volume.len
   pub name_is : volume.name ≡ told.volume.name
+  pub place_is : name_in again volume.name ≡ name_in bytes told.volume.name
   pub files : List NewFile
   pub files_are : AreEach (IsFileAgain (IsInner (MOST_DEPTH - 1))) told.told.files files
   pub are_read : AreEach (IsFileRead again) files volume.files
-  pub stand : map (λ file. file.at) volume.files ≡ places (first_place told.volume.name) (rooms_told bytes text told)
-  pub kept : LeaveRoom (first_place told.volume.name) (rooms_told bytes text told) → map (λ file. file.at) volume.files ≡ map (λ file. file.at) told.volume.files
+  pub stand : map (λ file. file.at) volume.files ≡ places (first_told bytes text told) (rooms_told bytes text told)
+  pub kept : LeaveRoom (first_told bytes text told) (rooms_told bytes text told) → map (λ file. file.at) volume.files ≡ map (λ file. file.at) told.volume.files
 
 -- the text says the volume that it is printed of, its files behind their pads
 abbrev pub SaysItself : (bytes text : List ℕ) → IsTextOf bytes text → Type 0
 SaysItself bytes text told =
-    SaysAgain (IsInner (MOST_DEPTH - 1)) (form_in bytes) told.volume.len told.volume.name (pads_of (form_in bytes) told.volume told.told.files) told.told.files text
+    let form = form_in bytes in
+    let name = name_in bytes told.volume.name in
+    let files = told.told.files in
+    SaysAgain (IsInner (MOST_DEPTH - 1)) form told.volume.len name (pads_of form name told.volume files) files text
 
 -- the volume that the text says cannot be built
 abbrev pub CannotBeBuilt : (bytes text : List ℕ) → IsTextOf bytes text → Type 0

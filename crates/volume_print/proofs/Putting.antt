@@ -1,5 +1,6 @@
 -- Texts that are put.
-use Rattle.std.proofs.Common.{◌≡◌, ℕ, zero, suc, ◌+◌, ◌-◌, ◌<◌, ◌≤◌, true, false, List, [], ◌∷◌, ◌++◌, length, map, take, drop, get_or, flat_map, Some, None, refl, sym, ap, ◌∙◌, subst, append_assoc, arith}
+use Rattle.std.proofs.Common.{◌≡◌, ℕ, zero, suc, ◌+◌, ◌-◌, ◌<◌, ◌≤◌, Bool, true, false, decimal, List, [], ◌∷◌, ◌++◌, length, map, take, drop, get_or, flat_map, Some, None, refl, sym, ap, ◌∙◌, subst, append_assoc, arith}
+use Rattle.std.proofs.lemmas.Bool.{eqb-true}
 use Rattle.std.proofs.lemmas.Bool.Decides.{nat_tests}
 use Rattle.std.proofs.lemmas.List.{append-nil, take_more}
 use Rattle.std.specs.Prelude.{◌==◌, codes, slice_index}
@@ -27,11 +28,12 @@ use Rattle.volume_print.specs.declared.form.Form.{Form}
 use Rattle.volume_print.specs.declared.form.Form.TheVariants as form
 use Rattle.volume_text.specs.Text.{Leads}
 use Rattle.volume_print.specs.declared.form.Host.{Host}
-use Rattle.volume_print.specs.Spelling.{holds_volume, as_volume, as_expression, as_guids, as_script, as_bytes, body_line, head_line, name_line, volume_line, attribute_words, whole, pad_line, with_pads, IsSectionText, AreSectionTexts, IsFileText}
-use Rattle.volume_print.specs.Description.{section_in, form_in, pads_of, IsStream, IsBodyIn, IsFileIn, IsTextBy, IsInner}
+use Rattle.volume_print.specs.Spelling.{holds_volume, as_volume, as_expression, as_guids, as_script, as_bytes, body_line, head_line, name_line, volume_line, attribute_words, number_words, whole, pad_line, with_pads, IsSectionText, AreSectionTexts, IsFileText}
+use Rattle.volume_print.specs.Description.{section_in, form_in, name_in, pads_of, IsStream, IsBodyIn, IsFileIn, IsTextBy, IsInner}
 use Rattle.volume_print.specs.Finding.{form_text, FindsVolume, FindsText, TellsVolume, IsPlainForm, IsForm, AddsSection, AddsSections, AddsBody, AddsFile, AddsFiles, held}
 use Rattle.volume_print.specs.Places.{Room, room_of, rooms, pads_in, stands, behind_all, pads_before}
-use Rattle.fv_named.specs.Named.{first_place}
+use Rattle.fv_build.specs.Front.{first_place}
+use Rattle.fv_build.specs.declared.volume_name.VolumeName.{VolumeName}
 
 -- a section in a form has the form's text
 pub in_form : (Inner : List ℕ → List ℕ → Type 0) (host : Host) (before : List NewSection) (section : NewSection) (f : Form) → IsForm Inner host before section f
@@ -166,6 +168,18 @@ pub attributes_put : (attributes : ℕ) (old mid new : List ℕ) → (attributes
 attributes_put attributes old mid new some first second =
     rw (some_left attributes some) (second ∙ ap (λ x. x ++ hexadecimal attributes) first ∙ append_assoc old (codes " attributes ") (hexadecimal attributes))
 
+-- a number is told that is not the usual one
+other_by : (test : Bool) (usual n : ℕ) → (n == usual) ≡ test → (n ≡ usual → ⊥) → test ≡ false
+other_by true usual n is other = absurd (other (eqb-true n usual is))
+other_by false usual n is other = refl
+
+other_number : (usual n : ℕ) → (n ≡ usual → ⊥) → (n == usual) ≡ false
+other_number usual n other = other_by (n == usual) usual n refl other
+
+pub number_put : (key : List ℕ) (usual n : ℕ) (old mid new : List ℕ) → (n ≡ usual → ⊥) → mid ≡ old ++ key → new ≡ mid ++ decimal n → new ≡ old ++ number_words key usual n
+number_put key usual n old mid new other first second =
+    rw (other_number usual n other) (second ∙ ap (λ x. x ++ decimal n) first ∙ append_assoc old key (decimal n))
+
 -- the text of a script begins with a line that names its phase
 abbrev blocks_in : Script → List ℕ
 blocks_in script = flat_map block_lines script.blocks
@@ -197,19 +211,19 @@ five old a b c d e first second third fourth fifth p q r s t =
 
 -- the text of a volume was put
 pub text_put : (Inner : List ℕ → List ℕ → Type 0) (image : List ℕ) (volume : Volume) (next : ℕ) (head named filed new : List ℕ) → head ≡ [] ++ volume_line (form_in image) volume.len
-    → named ≡ head ++ name_line volume.name → AddsFiles Inner (form_in image).file_system image volume.files (first_place volume.name) next named filed
+    → named ≡ head ++ name_line (name_in image volume.name) → AddsFiles Inner (form_in image).file_system image volume.files (first_place (form_in image) (name_in image volume.name)) next named filed
     → new ≡ filed ++ codes "end\n" → IsTextBy Inner image volume new
 text_put Inner image volume next head named filed new first second files last =
-    let spelled = with_pads (pads_of (form_in image) volume files.files) files.texts in
+    let spelled = with_pads (pads_of (form_in image) (name_in image volume.name) volume files.files) files.texts in
     record {
       files = files.files;
       are = files.are;
       spelled = (
         files.texts,
         files.told,
-        last ∙ ap (λ x. x ++ codes "end\n") (files.grown ∙ ap (λ x. x ++ spelled) (second ∙ ap (λ x. x ++ name_line volume.name) first))
-            ∙ append_assoc (volume_line (form_in image) volume.len ++ name_line volume.name) spelled (codes "end\n")
-            ∙ append_assoc (volume_line (form_in image) volume.len) (name_line volume.name) (spelled ++ codes "end\n"),
+        last ∙ ap (λ x. x ++ codes "end\n") (files.grown ∙ ap (λ x. x ++ spelled) (second ∙ ap (λ x. x ++ name_line (name_in image volume.name)) first))
+            ∙ append_assoc (volume_line (form_in image) volume.len ++ name_line (name_in image volume.name)) spelled (codes "end\n")
+            ∙ append_assoc (volume_line (form_in image) volume.len) (name_line (name_in image volume.name)) (spelled ++ codes "end\n"),
       );
     }
 

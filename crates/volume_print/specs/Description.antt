@@ -1,11 +1,12 @@
 -- What a text says of a volume that a reader accepts.
+use Rattle.pi_base.specs.declared.guid.Guid.{Guid}
 use Rattle.std.specs.Prelude.{◌≡◌, ◌⊎◌, ℕ, zero, suc, ◌+◌, ◌-◌, ◌==◌, false, nat_lt, bit_and, bit_xor, bytes_eq, if◌then◌else◌, List, length, map, take, drop, slice_index, Option, Some, None}
 use Rattle.pi_base.specs.Field.{little_number}
 use Rattle.fv_volume.specs.declared.file.FfsFile.{FfsFile}
 use Rattle.fv_volume.specs.declared.file_header.TheConstants.{ATTRIBUTES_AT as FILE_ATTRIBUTES_AT}
 use Rattle.fv_volume.specs.declared.file_type.TheConstants.{RAW}
 use Rattle.fv_volume.specs.declared.volume.Volume.{Volume}
-use Rattle.fv_volume.specs.declared.volume_header.TheConstants.{ATTRIBUTES_AT, ERASE_POLARITY, FFS3, FILE_SYSTEM_AT, LEAST_LEN}
+use Rattle.fv_volume.specs.declared.volume_header.TheConstants.{ATTRIBUTES_AT, ERASE_POLARITY, EXT_HEADER_OFFSET_AT, FFS3, FILE_SYSTEM_AT, HEADER_LENGTH_AT, LEAST_LEN}
 use Rattle.fv_volume.specs.Volume.{IsVolume}
 use Rattle.fv_section.specs.declared.section.Section.{Section}
 use Rattle.fv_section.specs.declared.fault.SecFault.{SecFault}
@@ -13,6 +14,9 @@ use Rattle.fv_section.specs.Stream.{AreInside, AreSections, IsFirstFault}
 use Rattle.fv_build.specs.declared.file_system.FileSystem.{FileSystem}
 use Rattle.fv_build.specs.declared.file_system.FileSystem.TheVariants.{Ffs2, Ffs3}
 use Rattle.fv_build.specs.declared.volume_header.VolumeForm.{VolumeForm}
+use Rattle.fv_build.specs.declared.volume_name.VolumeName.{VolumeName}
+use Rattle.fv_build.specs.declared.volume_name.TheConstants.{EXT_HEADER_LEN}
+use Rattle.fv_build.specs.Front.{first_place}
 use Rattle.fv_build.specs.declared.new_file.NewFile.{NewFile}
 use Rattle.fv_build.specs.declared.new_file.NewSection.{NewSection}
 use Rattle.fv_build.specs.declared.new_file.Body.{Body}
@@ -24,7 +28,6 @@ use Rattle.pi_base.specs.declared.guid.TheConstants.{GUID_LEN}
 use Rattle.fv_build.specs.Reading.{AreEach}
 use Rattle.catalog_model.specs.declared.limits.TheConstants.{MOST_DEPTH}
 use Rattle.volume_text.specs.Text.{Leads}
-use Rattle.fv_named.specs.Named.{first_place}
 use Rattle.volume_print.specs.Places.{pads_before, rooms}
 use Rattle.volume_print.specs.Spelling.{IsVolumeText}
 
@@ -71,17 +74,40 @@ told_attributes attributes = if bit_and attributes ERASE_POLARITY == 0 then 0 el
 abbrev pub form_in : List ℕ → VolumeForm
 form_in bytes =
     if nat_lt (length bytes) LEAST_LEN then plain Ffs2
-    else record { file_system = file_system_in bytes; attributes = told_attributes (little_number 4 (drop ATTRIBUTES_AT bytes)) }
+    else record {
+      file_system = file_system_in bytes;
+      attributes = told_attributes (little_number 4 (drop ATTRIBUTES_AT bytes));
+      header_len = little_number 2 (drop HEADER_LENGTH_AT bytes);
+    }
+
+-- a name whose extended header stands at this place of the bytes, with the size that it says
+abbrev pub name_at : List ℕ → Guid → ℕ → Option VolumeName
+name_at bytes guid at =
+    if nat_lt (length bytes) (at + EXT_HEADER_LEN) then None
+    else Some (record { guid = guid; at = at; size = little_number 4 (drop (at + GUID_LEN) bytes) })
+
+-- the name of a volume, with the place that its header says
+abbrev pub name_in : List ℕ → Option Guid → Option VolumeName
+name_in bytes None = None
+name_in bytes (Some guid) =
+    if nat_lt (length bytes) LEAST_LEN then None else name_at bytes guid (little_number 2 (drop EXT_HEADER_OFFSET_AT bytes))
 
 -- the pads in front of each file of a volume, which bring it to its place where it is built again
-abbrev pub pads_of : VolumeForm → Volume → List NewFile → List (List ℕ)
-pads_of form volume files = pads_before (first_place volume.name) (rooms form.file_system volume.files files)
+abbrev pub pads_of : VolumeForm → Option VolumeName → Volume → List NewFile → List (List ℕ)
+pads_of form name volume files = pads_before (first_place form name) (rooms form.file_system volume.files files)
+
+-- the text of a volume that is read of the bytes, with these files, by what volumes inside have as their texts
+abbrev pub IsSpelled : (List ℕ → List ℕ → Type 0) → List ℕ → Volume → List NewFile → List ℕ → Type 0
+IsSpelled Inner bytes volume files text =
+    let form = form_in bytes in
+    let name = name_in bytes volume.name in
+    IsVolumeText Inner form volume.len name (pads_of form name volume files) files text
 
 -- the text of a volume that is read of the bytes, by what volumes inside have as their texts
 pub record IsTextBy (Inner : List ℕ → List ℕ → Type 0) (bytes : List ℕ) (volume : Volume) (text : List ℕ) : Type 0 where
   pub files : List NewFile
   pub are : AreEach (IsFileIn (form_in bytes).file_system bytes) volume.files files
-  pub spelled : IsVolumeText Inner (form_in bytes) volume.len volume.name (pads_of (form_in bytes) volume files) files text
+  pub spelled : IsSpelled Inner bytes volume files text
 
 -- the bytes are a volume from the first to the last, and have a text of which one of as many bytes is made
 pub record IsToldInside (Inner : List ℕ → List ℕ → Type 0) (bytes text : List ℕ) : Type 0 where

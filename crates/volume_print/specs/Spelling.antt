@@ -14,6 +14,9 @@ use Rattle.fv_section.specs.declared.section_type.TheConstants.{RAW as RAW_SECTI
 use Rattle.fv_build.specs.declared.file_system.FileSystem.{FileSystem}
 use Rattle.fv_build.specs.declared.file_system.FileSystem.TheVariants.{Ffs2, Ffs3}
 use Rattle.fv_build.specs.declared.volume_header.VolumeForm.{VolumeForm}
+use Rattle.fv_build.specs.declared.volume_header.TheConstants.{HEADER_LEN}
+use Rattle.fv_build.specs.declared.volume_name.VolumeName.{VolumeName}
+use Rattle.fv_build.specs.declared.volume_name.TheConstants.{EXT_AT, EXT_HEADER_LEN}
 use Rattle.fv_build.specs.declared.attributes.Alignment.{Alignment}
 use Rattle.fv_build.specs.declared.attributes.FileAttributes.{FileAttributes}
 use Rattle.fv_build.specs.Attributes.{alignment_len}
@@ -168,15 +171,24 @@ IsFileText Inner file text = (body : List ℕ) × IsBodyText Inner (host_of file
 abbrev pub attribute_words : ℕ → List ℕ
 attribute_words attributes = if attributes == 0 then [] else codes " attributes " ++ hexadecimal attributes
 
-abbrev pub volume_line : VolumeForm → ℕ → List ℕ
-volume_line form len = line (codes "volume " ++ (decimal len ++ (32 ∷ (system_word form.file_system ++ attribute_words form.attributes))))
+-- a number behind a word, each behind a space; nothing where the number is the usual one
+abbrev pub number_words : List ℕ → ℕ → ℕ → List ℕ
+number_words key usual n = if n == usual then [] else key ++ decimal n
 
-abbrev pub name_line : Option Guid → List ℕ
+-- a volume's own line
+abbrev pub volume_line : VolumeForm → ℕ → List ℕ
+volume_line form len =
+    line (codes "volume " ++ (decimal len ++ (32 ∷ (system_word form.file_system
+    ++ (number_words (codes " header ") HEADER_LEN form.header_len ++ attribute_words form.attributes)))))
+
+-- the line of a name, if there is one
+abbrev pub name_line : Option VolumeName → List ℕ
 name_line None = []
-name_line (Some name) = line (codes "name " ++ guid_text name)
+name_line (Some name) =
+    line (codes "name " ++ (guid_text name.guid ++ (number_words (codes " at ") EXT_AT name.at ++ number_words (codes " size ") EXT_HEADER_LEN name.size)))
 
 -- the text of a volume of this form, length and name with these files, and with these pads in front of each of them
-abbrev pub IsVolumeText : (List ℕ → List ℕ → Type 0) → VolumeForm → ℕ → Option Guid → List (List ℕ) → List NewFile → List ℕ → Type 0
+abbrev pub IsVolumeText : (List ℕ → List ℕ → Type 0) → VolumeForm → ℕ → Option VolumeName → List (List ℕ) → List NewFile → List ℕ → Type 0
 IsVolumeText Inner form len name pads files text =
     (texts : List (List ℕ)) × AreEach (IsFileText Inner) files texts
     × (text ≡ volume_line form len ++ (name_line name ++ (with_pads pads texts ++ line (codes "end"))))

@@ -18,7 +18,8 @@ pub fn one_text()
 
 /// A volume that was read has one text, however deep volumes are told in it.
 pub(crate) fn one_text_by()
-    ensures { (deep : ℕ) (bytes : List ℕ) (volume : Volume) (a b : List ℕ) → IsTextBy (IsInner deep) bytes volume a → IsTextBy (IsInner deep) bytes volume b → a ≡ b }
+    ensures { (deep : ℕ) (bytes : List ℕ) (volume : Volume) (a b : List ℕ) → IsTextBy (IsInner deep) bytes volume a
+        → IsTextBy (IsInner deep) bytes volume b → a ≡ b }
 {
     fv_volume::one_reading();
     fv_section::one_reading();

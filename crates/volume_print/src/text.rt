@@ -11,7 +11,7 @@ use std::alloc::Global;
 
 /// The text of the volume that stands at the start of the bytes.
 ///
-/// It says the volume's length, file system and attributes, its name, and of each listed file its type, name, attributes and sections: an expression, the
+/// It says the volume's length, file system, header length and attributes, its name and where that stands, and of each listed file its type, name, attributes and sections: an expression, the
 /// first script of a phase, the list of an a priori file and, in a file for volumes, a volume of all the section's bytes as text, all others by their
 /// bytes; of a raw file, and of one whose sections cannot be read or would not take all of it where they are built, the body's bytes. A volume stands as text at most as deep as a catalogue has volumes,
 /// and only where `volume_of` makes one of its text. A stretch in front of a file that no listed file takes is told as pads, so that the file stands where

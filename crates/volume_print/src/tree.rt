@@ -12,9 +12,8 @@ use crate::inner::{holds_volume, read_again, whole_volume};
 use crate::law::one_text_by;
 use crate::place::{behind, put_pads, sections_len, stands};
 use crate::section::put_form;
-use crate::volume::{form_in, put_head as put_volume_head, put_name};
-use fv_build::{FileSystem, file_size};
-use fv_named::first_place;
+use crate::volume::{form_in, name_in, put_head as put_volume_head, put_name};
+use fv_build::{FileSystem, file_size, first_place};
 use fv_section::Section;
 use fv_volume::{FfsFile, Volume, one_reading};
 use pi_base::{OutOfMemory, Seq};
@@ -77,7 +76,8 @@ fn put_section(
 ) -> Result<(), OutOfMemory>
     requires before { AreInside stream.now before.now }
     requires inside { section.now.body_at + section.now.body_len ≤ length stream.now }
-    ensures { OnOk result (AddsSection (IsInner deep) host.now (map (section_in stream.now) before.now) (section_in stream.now section.now) out.old out.new) }
+    ensures { OnOk result (AddsSection (IsInner deep) host.now (map (section_in stream.now) before.now)
+        (section_in stream.now section.now) out.old out.new) }
 {
     let form = form_of(alloc, host, stream, before, section, deep)?;
     put_form(alloc, out, &form, section.kind, body_of(stream, section))
@@ -186,11 +186,12 @@ pub(crate) fn text_by(
     ensures { IfOk result (IsTextBy (IsInner deep) bytes.now volume.now) }
 {
     let form = form_in(bytes);
+    let name = name_in(bytes, volume.name);
     let mut text = Seq::new(alloc);
     put_volume_head(&mut text, &form, volume.len)?;
-    put_name(&mut text, volume.name)?;
+    put_name(&mut text, name)?;
     let files = volume.files.as_slice();
-    let first = first_place(volume.name);
+    let first = first_place(&form, name);
     put_files(
         alloc,
         &mut text,

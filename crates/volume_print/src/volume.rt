@@ -1,12 +1,15 @@
 // What a volume's headers say, and the first lines of its text.
 ghost use Rattle.std.specs.Prelude.{◌≡◌, ◌++◌, OnOk};
-ghost use Rattle.volume_print.specs.Spelling.{attribute_words, volume_line, name_line};
-ghost use Rattle.volume_print.specs.Description.{told_attributes, form_in};
+ghost use Rattle.volume_print.specs.Spelling.{attribute_words, number_words, volume_line, name_line};
+ghost use Rattle.volume_print.specs.Description.{told_attributes, form_in, name_at, name_in};
 
 use crate::word::{put_decimal, put_guid, put_hexadecimal, system_word};
-use fv_build::{FileSystem, VolumeForm};
-use fv_volume::volume_header::{ATTRIBUTES_AT, ERASE_POLARITY, FFS3, FILE_SYSTEM_AT, LEAST_LEN};
-use pi_base::{GUID_LEN, Guid, OutOfMemory, Seq, u32_at};
+use fv_build::{EXT_AT, EXT_HEADER_LEN, FileSystem, HEADER_LEN, VolumeForm, VolumeName};
+use fv_volume::volume_header::{
+    ATTRIBUTES_AT, ERASE_POLARITY, EXT_HEADER_OFFSET_AT, FFS3, FILE_SYSTEM_AT, HEADER_LENGTH_AT,
+    LEAST_LEN,
+};
+use pi_base::{GUID_LEN, Guid, OutOfMemory, Seq, u16_at, u32_at};
 
 // The attributes of a volume that is erased to ones, beside its erase polarity; those of another have no text.
 fn told_attributes(attributes: u32) -> u32
@@ -35,7 +38,47 @@ pub(crate) fn form_in(bytes: &[u8]) -> VolumeForm
     VolumeForm {
         file_system,
         attributes: told_attributes(u32_at(bytes, ATTRIBUTES_AT)),
+        header_len: u16_at(bytes, HEADER_LENGTH_AT),
     }
+}
+
+// The name whose extended header stands at a place of the bytes.
+fn name_at(bytes: &[u8], guid: Guid, at: u16) -> Option<VolumeName>
+    ensures { result ≡ name_at bytes.now guid at }
+{
+    let place = usize::from(at);
+    if bytes.len() < place + EXT_HEADER_LEN as usize {
+        return None;
+    }
+    Some(VolumeName {
+        guid,
+        at,
+        size: u32_at(bytes, place + GUID_LEN),
+    })
+}
+
+/// The name of a volume whose header stands at the start of the bytes, with the place that the header says.
+pub(crate) fn name_in(bytes: &[u8], name: Option<Guid>) -> Option<VolumeName>
+    ensures { result ≡ name_in bytes.now name }
+{
+    let Some(guid) = name else {
+        return None;
+    };
+    if bytes.len() < LEAST_LEN {
+        return None;
+    }
+    name_at(bytes, guid, u16_at(bytes, EXT_HEADER_OFFSET_AT))
+}
+
+// Adds a word and a number, each behind a space, or nothing where the number is the usual one.
+fn put_number(out: &mut Seq<u8>, key: &[u8], usual: u64, n: u64) -> Result<(), OutOfMemory>
+    ensures { OnOk result (out.new ≡ out.old ++ number_words key.now usual n) }
+{
+    if n == usual {
+        return Ok(());
+    }
+    out.append(key)?;
+    put_decimal(out, n)
 }
 
 // Adds the words of a volume's attributes.
@@ -57,18 +100,31 @@ pub(crate) fn put_head(out: &mut Seq<u8>, form: &VolumeForm, len: u64) -> Result
     put_decimal(out, len)?;
     out.append(b" ")?;
     out.append(system_word(form.file_system))?;
+    put_number(
+        out,
+        b" header ",
+        HEADER_LEN as u64,
+        u64::from(form.header_len),
+    )?;
     put_attributes(out, form.attributes)?;
     out.append(b"\n")
 }
 
 /// Adds the line of a name, where there is one.
-pub(crate) fn put_name(out: &mut Seq<u8>, name: Option<Guid>) -> Result<(), OutOfMemory>
+pub(crate) fn put_name(out: &mut Seq<u8>, name: Option<VolumeName>) -> Result<(), OutOfMemory>
     ensures { OnOk result (out.new ≡ out.old ++ name_line name) }
 {
     let Some(name) = name else {
         return Ok(());
     };
     out.append(b"name ")?;
-    put_guid(out, &name)?;
+    put_guid(out, &name.guid)?;
+    put_number(out, b" at ", u64::from(EXT_AT), u64::from(name.at))?;
+    put_number(
+        out,
+        b" size ",
+        u64::from(EXT_HEADER_LEN),
+        u64::from(name.size),
+    )?;
     out.append(b"\n")
 }

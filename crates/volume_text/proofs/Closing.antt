@@ -34,7 +34,7 @@ opened text volume s =
     let o : One p.back s.end = one p.back s.end p.back_is in
     let begun = Filling [] (opened_with volume.form volume.len None []) in
     let begins : Steps Begin f.number s.line (Ok begun) = (Ok (said.Volume volume.form volume.len), s.begins, refl) in
-    let inside : Goes begun p.front (Filling [] volume) = files_go s.inner volume.name volume.files s.files [] volume.form volume.len p.front p.front_is in
+    let inside : Goes begun p.front (Filling [] volume) = files_go volume.form s.inner volume.name volume.files s.files [] volume.len p.front p.front_is in
     record {
       front = (f.number, s.line) ∷ p.front;
       number = o.number;

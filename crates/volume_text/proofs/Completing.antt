@@ -1,6 +1,7 @@
 -- Where the lines of a text say a volume, they lead to it.
 use Rattle.std.proofs.Common.{◌≡◌, ℕ, List, [], ◌∷◌, ◌++◌, map, Option, Some, None, Ok, refl, sym, ap, subst, ◌∙◌}
-use Rattle.pi_base.specs.declared.guid.Guid.{Guid}
+use Rattle.fv_build.specs.declared.volume_name.VolumeName.{VolumeName}
+use Rattle.fv_build.specs.Front.{is_placed}
 use Rattle.pi_base.specs.declared.phase.Phase.{Phase}
 use Rattle.fv_section.specs.declared.section_type.TheConstants.{RAW, VOLUME_IMAGE}
 use Rattle.fv_build.specs.declared.new_file.NewFile.{NewFile}
@@ -12,7 +13,8 @@ use Rattle.volume_text.specs.declared.statement.Statement.TheVariants as said
 use Rattle.volume_text.specs.declared.volume.OpenVolume.{OpenVolume}
 use Rattle.volume_text.specs.declared.step.State.{State}
 use Rattle.volume_text.specs.declared.step.State.TheVariants.{Begin, Filling, Writing, Done}
-use Rattle.volume_text.specs.Reading.{at}
+use Rattle.volume_text.specs.declared.fault.Cause.TheVariants as cause
+use Rattle.volume_text.specs.Reading.{at, only_if, ◌>>=◌}
 use Rattle.volume_text.specs.Open.{holding, new_file, pad_file}
 use Rattle.volume_text.specs.Script.{script_of}
 use Rattle.volume_text.specs.Step.{Steps, Takes, section_of, nested_in, outside}
@@ -149,11 +151,11 @@ blocks_go phase _ _ (action lines blocks actions line text a say says done) belo
     (λ numbers number. action_step below top phase blocks actions a numbers number line text says done)
 
 -- a volume that is open with these files
-abbrev pub opened_with : VolumeForm → ℕ → Option Guid → List NewFile → OpenVolume
+abbrev pub opened_with : VolumeForm → ℕ → Option VolumeName → List NewFile → OpenVolume
 opened_with form len called files = record { form = form; len = len; name = called; files = files }
 
 -- a section more in the last file
-section_taken : (below : List OpenVolume) (form : VolumeForm) (len : ℕ) (called : Option Guid) (files : List NewFile) (last next : NewFile) (one : NewSection) → holding one last ≡ Ok next
+section_taken : (below : List OpenVolume) (form : VolumeForm) (len : ℕ) (called : Option VolumeName) (files : List NewFile) (last next : NewFile) (one : NewSection) → holding one last ≡ Ok next
     → Rattle.volume_text.specs.Step.filling below (opened_with form len called (files ++ last ∷ [])) one ≡ Ok (Filling below (opened_with form len called (files ++ next ∷ [])))
 section_taken below form len called files last next one holds = rw (last_push files last, holds) refl
 
@@ -193,49 +195,50 @@ scripted from to all lines line inner end is mid goes below top phase blocks beg
     let there : Goes mid ((f.number, line) ∷ f.back) to = (start, begins f.number, rest) in
     subst (λ (ls : Lines). Goes from ls to) (sym (p.here ∙ ap (λ ls. p.front ++ ls) f.here)) (both from mid to p.front ((f.number, line) ∷ f.back) (goes p.front p.front_is) there)
 
-pub files_go : (lines : List (List ℕ)) (called : Option Guid) (files : List NewFile) → SayFiles lines called files → (below : List OpenVolume) (form : VolumeForm) (len : ℕ) (all : Lines)
+pub files_go : (form : VolumeForm) (lines : List (List ℕ)) (called : Option VolumeName) (files : List NewFile) → SayFiles form.header_len lines called files → (below : List OpenVolume) (len : ℕ) (all : Lines)
     → bare all ≡ lines → Goes (Filling below (opened_with form len None [])) all (Filling below (opened_with form len called files))
-files_go lines called files no_file below form len all is =
+files_go form lines called files no_file below len all is =
     let start = Filling below (opened_with form len None []) in
     subst (λ (ls : Lines). Goes start ls start) (sym (none_left all is)) refl
-files_go _ _ _ (named lines files line name say says) below form len all is =
+files_go form _ _ _ (named lines files line name say says placed) below len all is =
     last (Filling below (opened_with form len None [])) (Filling below (opened_with form len None files)) (Filling below (opened_with form len (Some name) files)) all lines line is
-    (λ front front_is. files_go lines None files say below form len front front_is)
-    (λ number. (Ok (said.Name name), says, refl))
-files_go _ _ _ (padded lines called files line size say says) below form len all is =
+    (λ front front_is. files_go form lines None files say below len front front_is)
+    (λ number. (Ok (said.Name name), says,
+    ap (λ test. at number (only_if test cause.Range (opened_with form len (Some name) files) >>= (λ top. Ok (Filling below top)))) (sym placed)))
+files_go form _ _ _ (padded lines called files line size say says) below len all is =
     last (Filling below (opened_with form len None [])) (Filling below (opened_with form len called files)) (Filling below (opened_with form len called (files ++ pad_file size ∷ []))) all lines line is
-    (λ front front_is. files_go lines called files say below form len front front_is)
+    (λ front front_is. files_go form lines called files say below len front front_is)
     (λ number. (Ok (said.Pad size), says, refl))
-files_go _ _ _ (file lines called files line kind name attributes say says) below form len all is =
+files_go form _ _ _ (file lines called files line kind name attributes say says) below len all is =
     last (Filling below (opened_with form len None [])) (Filling below (opened_with form len called files)) (Filling below (opened_with form len called (files ++ new_file kind name attributes ∷ []))) all lines line is
-    (λ front front_is. files_go lines called files say below form len front front_is)
+    (λ front front_is. files_go form lines called files say below len front front_is)
     (λ number. (Ok (said.File kind name attributes), says, refl))
-files_go _ _ _ (bodied lines called files old next line body say says holds) below form len all is =
+files_go form _ _ _ (bodied lines called files old next line body say says holds) below len all is =
     last (Filling below (opened_with form len None [])) (Filling below (opened_with form len called (files ++ old ∷ []))) (Filling below (opened_with form len called (files ++ next ∷ []))) all lines line is
-    (λ front front_is. files_go lines called (files ++ old ∷ []) say below form len front front_is)
+    (λ front front_is. files_go form lines called (files ++ old ∷ []) say below len front front_is)
     (λ number. (Ok (said.Body body), says, rw (last_push files old, holds) refl))
-files_go _ _ _ (section lines called files old next line kind body say says holds) below form len all is =
+files_go form _ _ _ (section lines called files old next line kind body say says holds) below len all is =
     last (Filling below (opened_with form len None [])) (Filling below (opened_with form len called (files ++ old ∷ []))) (Filling below (opened_with form len called (files ++ next ∷ []))) all lines line is
-    (λ front front_is. files_go lines called (files ++ old ∷ []) say below form len front front_is)
+    (λ front front_is. files_go form lines called (files ++ old ∷ []) say below len front front_is)
     (λ number. (Ok (said.Section kind body), says, sym (ap (at number) (section_taken below form len called files old next (section_of kind body) holds))))
-files_go _ _ _ (depex lines called files old next line phase body say says part holds) below form len all is =
+files_go form _ _ _ (depex lines called files old next line phase body say says part holds) below len all is =
     last (Filling below (opened_with form len None [])) (Filling below (opened_with form len called (files ++ old ∷ []))) (Filling below (opened_with form len called (files ++ next ∷ []))) all lines line is
-    (λ front front_is. files_go lines called (files ++ old ∷ []) say below form len front front_is)
+    (λ front front_is. files_go form lines called (files ++ old ∷ []) say below len front front_is)
     (λ number. (Ok (said.Depex phase body), says, rw (last_push files old, part, holds) refl))
-files_go _ _ _ (script lines called files old next line phase inner blocks end body say says part unique wrote ends spelled holds) below form len all is =
+files_go form _ _ _ (script lines called files old next line phase inner blocks end body say says part unique wrote ends spelled holds) below len all is =
     let top = opened_with form len called (files ++ old ∷ []) in
     scripted (Filling below (opened_with form len None [])) (Filling below (opened_with form len called (files ++ next ∷ []))) all lines line inner end is (Filling below top)
-    (λ front front_is. files_go lines called (files ++ old ∷ []) say below form len front front_is) below top phase blocks
+    (λ front front_is. files_go form lines called (files ++ old ∷ []) say below len front front_is) below top phase blocks
     (λ number. (Ok (said.Script phase), says, rw (last_push files old, part, unique) refl))
     (λ inside inside_is. blocks_go phase inner blocks wrote below top [] inside inside_is)
     (λ numbers number. (Ok said.End, ends, (Ok body, (none_wrong (script_of phase blocks) spelled.grammar, spelled), sym (ap (at number) (section_taken below form len called files old next (section_of RAW body) holds)))))
-files_go _ _ _ (volume lines called files old next line inner inside end body say says told ends built holds) below form len all is =
+files_go form _ _ _ (volume lines called files old next line inner inside end body say says told ends built holds) below len all is =
     let top = opened_with form len called (files ++ old ∷ []) in
     let under = below ++ top ∷ [] in
     between (Filling below (opened_with form len None [])) (Filling under (opened_with inside.form inside.len None [])) (Filling under inside) (Filling below (opened_with form len called (files ++ next ∷ []))) all lines line inner end is
-    (Filling below top) (λ front front_is. files_go lines called (files ++ old ∷ []) say below form len front front_is)
+    (Filling below top) (λ front front_is. files_go form lines called (files ++ old ∷ []) say below len front front_is)
     (λ number. (Ok (said.Volume inside.form inside.len), says, sym (ap (at number) (some_file files old below top inside.form inside.len))))
-    (λ lines_inside inside_is. files_go inner inside.name inside.files told under inside.form inside.len lines_inside inside_is)
+    (λ lines_inside inside_is. files_go inside.form inner inside.name inside.files told under inside.len lines_inside inside_is)
     (λ number. (Ok said.End, ends, rw (built, last_push below top) (sym (ap (at number) (section_taken below form len called files old next (section_of VOLUME_IMAGE body) holds)))))
 
 -- what the lines of a text say, they lead to
@@ -247,6 +250,6 @@ complete text bytes says =
     let begins : Steps Begin f.number says.line (Ok opened) = (Ok (said.Volume one.form one.len), says.begins, refl) in
     let ends : (number : ℕ) → Steps (Filling [] one) number says.end (Ok (Done bytes)) = λ number. (Ok said.End, says.ends, rw says.built refl) in
     let rest : Goes opened f.back (Done bytes) =
-    last opened (Filling [] one) (Done bytes) f.back says.inner says.end f.back_is (λ inside inside_is. files_go says.inner one.name one.files says.files [] one.form one.len inside inside_is) ends in
+    last opened (Filling [] one) (Done bytes) f.back says.inner says.end f.back_is (λ inside inside_is. files_go one.form says.inner one.name one.files says.files [] one.len inside inside_is) ends in
     let there : Goes Begin ((f.number, says.line) ∷ f.back) (Done bytes) = (opened, begins, rest) in
     subst (λ (ls : Lines). Goes Begin ls (Done bytes)) (sym f.here) there

@@ -2,7 +2,8 @@
 use Rattle.std.proofs.Common.{◌≡◌, ℕ, Bool, true, false, List, [], ◌∷◌, ◌++◌, map, Option, Some, None, Result, Ok, Err, refl, sym, ap, subst, ◌∙◌, append_assoc}
 use Rattle.std.specs.Prelude.{not}
 use Rattle.std.proofs.lemmas.List.{append-nil}
-use Rattle.pi_base.specs.declared.guid.Guid.{Guid}
+use Rattle.fv_build.specs.declared.volume_name.VolumeName.{VolumeName}
+use Rattle.fv_build.specs.Front.{is_placed}
 use Rattle.pi_base.specs.declared.phase.Phase.{Phase}
 use Rattle.fv_section.specs.declared.section_type.TheConstants.{RAW, VOLUME_IMAGE}
 use Rattle.fv_build.specs.declared.new_file.NewFile.{NewFile}
@@ -30,9 +31,9 @@ use Rattle.volume_text.proofs.Lasts.{last_push, last_is}
 -- volumes that are open behind lines, the innermost apart
 data Opened : List (List ℕ) → List OpenVolume → OpenVolume → Type 0 where
   outer : (line : List ℕ) (inner : List (List ℕ)) (top : OpenVolume)
-      → SaysLine line (said.Volume top.form top.len) → SayFiles inner top.name top.files → Opened (line ∷ inner) [] top
+      → SaysLine line (said.Volume top.form top.len) → SayFiles top.form.header_len inner top.name top.files → Opened (line ∷ inner) [] top
   nested : (front : List (List ℕ)) (below : List OpenVolume) (parent : OpenVolume) (line : List ℕ) (inner : List (List ℕ)) (top : OpenVolume)
-      → Opened front below parent → SaysLine line (said.Volume top.form top.len) → SayFiles inner top.name top.files
+      → Opened front below parent → SaysLine line (said.Volume top.form top.len) → SayFiles top.form.header_len inner top.name top.files
       → Opened (front ++ line ∷ inner) (below ++ parent ∷ []) top
 
 record WritesIn (lines : List (List ℕ)) (below : List OpenVolume) (top : OpenVolume) (one : Script) : Type 0 where
@@ -72,8 +73,8 @@ not_true true e = absurd cc
 not_true false e = refl
 
 -- a volume with another name and other files, of which more lines tell
-opened_more : (lines : List (List ℕ)) (below : List OpenVolume) (top : OpenVolume) (more : List (List ℕ)) (called : Option Guid) (files : List NewFile) → Opened lines below top
-    → ((inner : List (List ℕ)) → SayFiles inner top.name top.files → SayFiles (inner ++ more) called files) → Opened (lines ++ more) below (with_parts top called files)
+opened_more : (lines : List (List ℕ)) (below : List OpenVolume) (top : OpenVolume) (more : List (List ℕ)) (called : Option VolumeName) (files : List NewFile) → Opened lines below top
+    → ((inner : List (List ℕ)) → SayFiles top.form.header_len inner top.name top.files → SayFiles top.form.header_len (inner ++ more) called files) → Opened (lines ++ more) below (with_parts top called files)
 opened_more lines below top more called files (outer line inner _ begins say) on = outer line (inner ++ more) (with_parts top called files) begins (on inner say)
 opened_more lines below top more called files (nested front under parent line inner _ opened begins say) on =
     subst (λ (ls : List (List ℕ)). Opened ls (under ++ parent ∷ []) (with_parts top called files)) (sym (append_assoc front (line ∷ inner) more))
@@ -89,8 +90,8 @@ held top next changed (Some parts) is e =
 
 changed_more : (lines more : List (List ℕ)) (below : List OpenVolume) (top : OpenVolume) (changed : NewFile → Result NewFile Cause) (to : State) → Opened lines below top
     → (with_last top changed (last_of top.files) >>= (λ next. Ok (Filling below next))) ≡ Ok to
-    → ((inner : List (List ℕ)) (files : List NewFile) (last new : NewFile) → top.files ≡ files ++ last ∷ [] → changed last ≡ Ok new → SayFiles inner top.name (files ++ last ∷ [])
-    → SayFiles (inner ++ more) top.name (files ++ new ∷ []))
+    → ((inner : List (List ℕ)) (files : List NewFile) (last new : NewFile) → top.files ≡ files ++ last ∷ [] → changed last ≡ Ok new → SayFiles top.form.header_len inner top.name (files ++ last ∷ [])
+    → SayFiles top.form.header_len (inner ++ more) top.name (files ++ new ∷ []))
     → Stands (lines ++ more) to
 changed_more lines more below top changed to opened e on =
     let with_it = bound (with_last top changed (last_of top.files)) (λ next. Ok (Filling below next)) to e in
@@ -98,14 +99,14 @@ changed_more lines more below top changed to opened e on =
     let files = parts.0 ++ parts.2 ∷ [] in
     let told : Opened (lines ++ more) below (with_files top files) =
     opened_more lines below top more top.name files opened
-    (λ inner say. on inner parts.0 parts.1 parts.2 parts.3 parts.4 (subst (λ (fs : List NewFile). SayFiles inner top.name fs) parts.3 say)) in
+    (λ inner say. on inner parts.0 parts.1 parts.2 parts.3 parts.4 (subst (λ (fs : List NewFile). SayFiles top.form.header_len inner top.name fs) parts.3 say)) in
     let there : Opened (lines ++ more) below with_it.0 = subst (λ (v : OpenVolume). Opened (lines ++ more) below v) parts.5 told in
     subst (λ (s : State). Stands (lines ++ more) s) (same_Ok (Filling below with_it.0) to with_it.2) there
 
 -- a section more
 filled_more : (lines more : List (List ℕ)) (below : List OpenVolume) (top : OpenVolume) (one : NewSection) (to : State) → Opened lines below top → filling below top one ≡ Ok to
-    → ((inner : List (List ℕ)) (files : List NewFile) (last new : NewFile) → top.files ≡ files ++ last ∷ [] → holding one last ≡ Ok new → SayFiles inner top.name (files ++ last ∷ [])
-    → SayFiles (inner ++ more) top.name (files ++ new ∷ []))
+    → ((inner : List (List ℕ)) (files : List NewFile) (last new : NewFile) → top.files ≡ files ++ last ∷ [] → holding one last ≡ Ok new → SayFiles top.form.header_len inner top.name (files ++ last ∷ [])
+    → SayFiles top.form.header_len (inner ++ more) top.name (files ++ new ∷ []))
     → Stands (lines ++ more) to
 filled_more lines more below top one to opened e on = changed_more lines more below top (holding one) to opened e on
 
@@ -133,9 +134,14 @@ ends lines below top line bytes to (nested front under parent own inner _ opened
     (λ before files last new is holds told. volume before parent.name files last new own inner top line bytes told begins say end built holds))
 
 -- a volume that has no name yet gets one
-named_then : (top : OpenVolume) (name : Guid) (next : OpenVolume) (o : Option Guid) → top.name ≡ o → named_over top name o ≡ Ok next
-    → (top.name ≡ None) × (with_parts top (Some name) top.files ≡ next)
-named_then top name next None is e = (is, same_Ok (with_parts top (Some name) top.files) next e)
+placed_then : (test : Bool) (made next : OpenVolume) → only_if test cause.Range made ≡ Ok next → (test ≡ true) × (made ≡ next)
+placed_then true made next e = (refl, same_Ok made next e)
+placed_then false made next e = absurd cc
+
+named_then : (top : OpenVolume) (name : VolumeName) (next : OpenVolume) (o : Option VolumeName) → top.name ≡ o → named_over top name o ≡ Ok next
+    → (top.name ≡ None) × (is_placed top.form.header_len (Some name) ≡ true) × (with_parts top (Some name) top.files ≡ next)
+named_then top name next None is e =
+    let both = placed_then (is_placed top.form.header_len (Some name)) (with_parts top (Some name) top.files) next e in (is, both.0, both.1)
 named_then top name next (Some other) is e = absurd cc
 
 begins_nested : (files : List NewFile) (lines : List (List ℕ)) (below : List OpenVolume) (top : OpenVolume) (line : List ℕ) (form : VolumeForm) (len : ℕ) (to : State)
@@ -152,8 +158,8 @@ in_volume lines below top line (said.Name name) to opened says e =
     let parts = bound (with_name top name) (λ next. Ok (Filling below next)) to e in
     let is = named_then top name parts.0 top.name refl parts.1 in
     let told : Opened (lines ++ line ∷ []) below (with_parts top (Some name) top.files) = opened_more lines below top (line ∷ []) (Some name) top.files opened
-    (λ inner say. named inner top.files line name (subst (λ (o : Option Guid). SayFiles inner o top.files) is.0 say) says) in
-    let there : Opened (lines ++ line ∷ []) below parts.0 = subst (λ (v : OpenVolume). Opened (lines ++ line ∷ []) below v) is.1 told in
+    (λ inner say. named inner top.files line name (subst (λ (o : Option VolumeName). SayFiles top.form.header_len inner o top.files) is.0 say) says is.1) in
+    let there : Opened (lines ++ line ∷ []) below parts.0 = subst (λ (v : OpenVolume). Opened (lines ++ line ∷ []) below v) is.2 told in
     subst (λ (s : State). Stands (lines ++ line ∷ []) s) (same_Ok (Filling below parts.0) to parts.2) there
 in_volume lines below top line (said.Pad len) to opened says e =
     subst (λ (s : State). Stands (lines ++ line ∷ []) s) (same_Ok (Filling below (with_files top (top.files ++ pad_file len ∷ []))) to e)

@@ -18,7 +18,7 @@ use Rattle.volume_text.specs.declared.statement.Statement.{Statement}
 use Rattle.volume_text.specs.declared.statement.Statement.TheVariants as statement
 use Rattle.volume_text.specs.Keywords.{keyword_of}
 use Rattle.volume_text.specs.Reading.{◌>>=◌}
-use Rattle.volume_text.specs.Words.{none_left, guid_at, phase_at, length_at, pad_length_at, system_at, attributes_at, chosen_at, file_type_at, section_type_at}
+use Rattle.volume_text.specs.Words.{none_left, guid_at, phase_at, length_at, pad_length_at, system_at, header_at, attributes_at, place_at, size_at, chosen_at, file_type_at, section_type_at}
 use Rattle.volume_text.specs.Bytes.{bytes_of, guids_of}
 
 -- each of these is of the words behind the first
@@ -26,14 +26,17 @@ unfoldable pub volume_at : List (List ℕ) → Result Statement Cause
 volume_at others = do
   len ← length_at others
   system ← system_at len.1
-  attributes ← attributes_at system.1
-  Ok (statement.Volume (record { file_system = system.0; attributes = attributes }) len.0)
+  header ← header_at len.0 system.1
+  attributes ← attributes_at header.1
+  Ok (statement.Volume (record { file_system = system.0; attributes = attributes; header_len = header.0 }) len.0)
 
 unfoldable pub name_at : List (List ℕ) → Result Statement Cause
 name_at others = do
-  name ← guid_at others
-  _ ← none_left name.1
-  Ok (statement.Name name.0)
+  guid ← guid_at others
+  place ← place_at guid.1
+  size ← size_at place.1
+  _ ← none_left size.1
+  Ok (statement.Name (record { guid = guid.0; at = place.0; size = size.0 }))
 
 unfoldable pub pad_at : List (List ℕ) → Result Statement Cause
 pad_at others = do

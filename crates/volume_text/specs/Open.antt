@@ -15,7 +15,9 @@ use Rattle.fv_build.specs.declared.attributes.FileAttributes.{FileAttributes}
 use Rattle.fv_build.specs.Attributes.{plain_attributes}
 use Rattle.fv_build.specs.declared.fault.BuildFault.{BuildFault}
 use Rattle.fv_build.specs.declared.fault.BuildFault.TheVariants as build_fault
-use Rattle.fv_named.specs.Named.{volume_bytes, volume_fault}
+use Rattle.fv_build.specs.declared.volume_name.VolumeName.{VolumeName}
+use Rattle.fv_build.specs.Front.{is_placed}
+use Rattle.fv_build.specs.Building.{volume_bytes, volume_fault}
 use Rattle.volume_text.specs.declared.volume.TheConstants.{ERASED}
 use Rattle.volume_text.specs.declared.word.TheConstants.{SECTION_HEADER_LEN}
 use Rattle.volume_text.specs.declared.fault.Cause.{Cause}
@@ -24,7 +26,7 @@ use Rattle.volume_text.specs.declared.fault.Stop.{Stop}
 use Rattle.volume_text.specs.declared.fault.Stop.TheVariants as stop
 use Rattle.volume_text.specs.declared.volume.OpenVolume.{OpenVolume}
 use Rattle.volume_text.specs.Reading.{◌>>=◌, only_if}
-use Rattle.volume_text.specs.Words.{is_length}
+use Rattle.volume_text.specs.Words.{is_length, is_header}
 
 abbrev pub with_first : {A : Type 0} → A → Option (List A × A) → Option (List A × A)
 with_first first None = Some ([], first)
@@ -57,7 +59,7 @@ abbrev pub with_bytes : List ℕ → NewFile → Result NewFile Cause
 with_bytes bytes file = only_if (is_empty file.body) cause.TwoBodies (with_body file (Bytes bytes))
 
 -- the volume with another name and other files
-abbrev pub with_parts : OpenVolume → Option Guid → List NewFile → OpenVolume
+abbrev pub with_parts : OpenVolume → Option VolumeName → List NewFile → OpenVolume
 with_parts volume name files = record { form = volume.form; len = volume.len; name = name; files = files }
 
 abbrev pub with_files : OpenVolume → List NewFile → OpenVolume
@@ -98,12 +100,12 @@ pad_file len = record { name = record { 0 = replicate 16 ERASED }; kind = PAD; a
 abbrev pub with_pad : OpenVolume → ℕ → OpenVolume
 with_pad volume len = with_new_file volume (pad_file len)
 
-abbrev pub named_over : OpenVolume → Guid → Option Guid → Result OpenVolume Cause
-named_over volume name None = Ok (with_parts volume (Some name) volume.files)
+abbrev pub named_over : OpenVolume → VolumeName → Option VolumeName → Result OpenVolume Cause
+named_over volume name None = only_if (is_placed volume.form.header_len (Some name)) cause.Range (with_parts volume (Some name) volume.files)
 named_over volume name (Some other) = Err cause.TwoNames
 
--- the volume with this name, if it has none yet
-abbrev pub with_name : OpenVolume → Guid → Result OpenVolume Cause
+-- the volume with this name, if it has none yet and its header ends in front of it
+abbrev pub with_name : OpenVolume → VolumeName → Result OpenVolume Cause
 with_name volume name = named_over volume name volume.name
 
 -- the type of the section with the expression for a phase
@@ -176,10 +178,12 @@ refused_by volume (Some build_fault.Size) = Err cause.Size
 refused_by volume (Some (build_fault.NoRoom need have)) = Err (cause.NoRoom need)
 refused_by volume (Some build_fault.Memory) = Ok (volume_bytes volume.form volume.name volume.files volume.len)
 
--- its length and its attributes are in their ranges
+-- its length, its attributes, its header's length and its name's place are in their ranges
 abbrev pub is_in_range : OpenVolume → Bool
-is_in_range volume = is_length volume.len && nat_lt volume.form.attributes (2 ^ 32)
+is_in_range volume =
+    is_length volume.len
+    && (nat_lt volume.form.attributes (2 ^ 32) && (is_header volume.len volume.form.header_len && is_placed volume.form.header_len volume.name))
 
 -- the bytes of a volume at its `end`
 abbrev pub built_of : OpenVolume → Result (List ℕ) Cause
-built_of volume = if is_in_range volume then refused_by volume (volume_fault volume.form.file_system volume.name volume.files volume.len) else Err cause.Range
+built_of volume = if is_in_range volume then refused_by volume (volume_fault volume.form volume.name volume.files volume.len) else Err cause.Range

@@ -6,8 +6,11 @@ use Rattle.fv_build.specs.declared.attributes.Alignment.{Alignment}
 use Rattle.fv_build.specs.declared.attributes.Alignment.TheVariants.{Byte}
 use Rattle.fv_build.specs.declared.attributes.FileAttributes.{FileAttributes}
 use Rattle.fv_build.specs.Attributes.{alignment_of}
+use Rattle.fv_volume.specs.declared.volume_header.TheConstants.{LEAST_HEADER_LEN}
 use Rattle.fv_build.specs.declared.volume_header.TheConstants.{HEADER_LEN}
-use Rattle.fv_build.specs.declared.build.TheConstants.{MOST_LEN}
+use Rattle.fv_build.specs.declared.volume_name.TheConstants.{EXT_AT, EXT_HEADER_LEN}
+use Rattle.fv_build.specs.declared.volume.TheConstants.{MOST_LEN}
+use Rattle.fv_build.specs.Header.{is_header_length}
 use Rattle.line_words.specs.Number.{number_of}
 use Rattle.source_words.specs.GuidWord.{guid_of}
 use Rattle.volume_text.specs.declared.word.TheConstants.{SECTION_HEADER_LEN, MOST_PAD}
@@ -39,9 +42,9 @@ phase_at words = do
   phase ← there cause.Word (phase_of w.0)
   Ok (phase, w.1)
 
--- a volume has a length from that of its header to 64 MiB
+-- a volume has a length from that of the least header to 64 MiB
 abbrev pub is_length : ℕ → Bool
-is_length len = nat_le HEADER_LEN len && nat_le len MOST_LEN
+is_length len = nat_le LEAST_HEADER_LEN len && nat_le len MOST_LEN
 
 unfoldable pub length_at : List (List ℕ) → Result (ℕ × List (List ℕ)) Cause
 length_at words = do
@@ -63,6 +66,38 @@ pad_length_at words = do
 unfoldable pub system_at : List (List ℕ) → Result (FileSystem × List (List ℕ)) Cause
 system_at [] = Ok (Ffs2, [])
 system_at (word ∷ words) = there cause.Word (system_of word) >>= (λ system. Ok (system, words))
+
+-- a number, and the words behind it
+unfoldable pub number_at : List (List ℕ) → Result (ℕ × List (List ℕ)) Cause
+number_at words = do
+  w ← word_at words
+  n ← there cause.Number (number_of w.0)
+  Ok (n, w.1)
+
+-- the number behind a word where that stands first, and else the usual one; and the words behind it
+unfoldable pub told_at : List ℕ → ℕ → List (List ℕ) → Result (ℕ × List (List ℕ)) Cause
+told_at key usual [] = Ok (usual, [])
+told_at key usual (word ∷ words) = if bytes_eq word key then number_at words else Ok (usual, word ∷ words)
+
+-- a volume of this length may have a header of so many bytes
+abbrev pub is_header : ℕ → ℕ → Bool
+is_header len header_len = is_header_length header_len && nat_le header_len len
+
+-- HeaderLength in a volume of this length, behind the word `header`, and the usual one where it is not there
+unfoldable pub header_at : ℕ → List (List ℕ) → Result (ℕ × List (List ℕ)) Cause
+header_at len words = told_at (codes "header") HEADER_LEN words >>= (λ header. only_if (is_header len header.0) cause.Range header)
+
+-- ExtHeaderOffset, a number of 16 bits, behind the word `at`, and the usual one where it is not there
+unfoldable pub place_at : List (List ℕ) → Result (ℕ × List (List ℕ)) Cause
+place_at words = told_at (codes "at") EXT_AT words >>= (λ place. only_if (nat_lt place.0 (2 ^ 16)) cause.Range place)
+
+-- an extended header has its fields, and a size of 32 bits
+abbrev pub is_size : ℕ → Bool
+is_size size = nat_le EXT_HEADER_LEN size && nat_lt size (2 ^ 32)
+
+-- ExtHeaderSize behind the word `size`, and that of an extended header without entries where it is not there
+unfoldable pub size_at : List (List ℕ) → Result (ℕ × List (List ℕ)) Cause
+size_at words = told_at (codes "size") EXT_HEADER_LEN words >>= (λ size. only_if (is_size size.0) cause.Range size)
 
 -- a number of 32 bits, and no more
 unfoldable pub last_number : List (List ℕ) → Result ℕ Cause

@@ -26,8 +26,9 @@ pub enum Cause {
     /// A word is no number below 2^64.
     #[error("Number")]
     Number,
-    /// The length of a volume is below that of its header or above 64 MiB, or that of a pad file's body is none of a section in FFS2, or attributes are
-    /// no number of 32 bits, or no file is aligned to such a number.
+    /// The length of a volume is below that of its header or above 64 MiB, or its header's is odd, below 64 bytes or no number of 16 bits; or its name
+    /// stands in its header, at no number of 16 bits, or has less than its own 20 bytes; or the length of a pad file's body is none of a section in FFS2,
+    /// or attributes are no number of 32 bits, or no file is aligned to such a number.
     #[error("Range")]
     Range,
     /// A word is neither a GUID nor a name of one.

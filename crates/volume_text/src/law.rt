@@ -24,12 +24,14 @@ pub fn said_is_read()
 
 /// Of a volume that a text describes, what is answered is what can be built of it: its bytes, or what stands against it, at the line of its `end`.
 pub fn built_or_refused()
-    ensures built { (text : List ℕ) (volume : OpenVolume) (bytes : List ℕ) → Describes text volume → Leads text bytes → built_of volume ≡ Ok bytes }
+    ensures built { (text : List ℕ) (volume : OpenVolume) (bytes : List ℕ) → Describes text volume → Leads text bytes
+        → built_of volume ≡ Ok bytes }
     ensures refused { (text : List ℕ) (volume : OpenVolume) (cause : Cause) → Describes text volume → built_of volume ≡ Err cause
         → (line : ℕ) × IsRefused text (Bad (record { line = line; cause = cause })) }
 {}
 
 /// A volume without a name that a text describes is read again: the reader finds the files that the lines say, with their names, types and sections.
 pub fn again()
-    ensures { (text bytes : List ℕ) (said : Says text bytes) → All HasWholeName said.volume.files → said.volume.name ≡ None → IsReadBack said.volume.files bytes }
+    ensures { (text bytes : List ℕ) (said : Says text bytes) → All HasWholeName said.volume.files → said.volume.name ≡ None
+        → IsReadBack said.volume.files bytes }
 {}

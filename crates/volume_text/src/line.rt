@@ -9,38 +9,43 @@ use crate::fault::{Cause, Stop};
 use crate::keyword::{Keyword, keyword_of};
 use crate::statement::Statement;
 use crate::word::{
-    attributes, chosen, file_type, guid, length, none_left, pad_length, phase, section_type,
-    system, word,
+    attributes, chosen, file_type, guid, header, length, none_left, pad_length, phase, place,
+    section_type, size, system, word,
 };
 use depex_code::write_depex;
 use depex_words::{ExpressionFault, read_expression};
-use fv_build::VolumeForm;
+use fv_build::{VolumeForm, VolumeName};
 use fv_section::section_type::RAW;
 use pi_base::{OutOfMemory, Phase, Seq};
 use std::alloc::Global;
 
-// `volume LENGTH`, `volume LENGTH ffs3`, `volume LENGTH ffs3 attributes NUMBER`, behind the first word, as in all that follow.
+// `volume LENGTH`, and behind it `ffs2` or `ffs3`, `header NUMBER` and `attributes NUMBER`, all behind the first word, as in all that follow.
 #[tactic(auto, unfolding(crate::specs::Line::volume_at))]
 fn volume(text: &[u8]) -> Result<Statement, Stop>
     ensures { Gives (λ x. x) result (volume_at (words text.now)) }
 {
     let (len, rest) = length(text)?;
     let (file_system, rest) = system(rest)?;
+    let (header_len, rest) = header(rest, len)?;
     let attributes = attributes(rest)?;
     let form = VolumeForm {
         file_system,
         attributes,
+        header_len,
     };
     Ok(Statement::Volume { form, len })
 }
 
-// `name GUID`.
+// `name GUID`, and behind it `at NUMBER` and `size NUMBER`.
 #[tactic(auto, unfolding(crate::specs::Line::name_at))]
 fn name(text: &[u8]) -> Result<Statement, Stop>
     ensures { Gives (λ x. x) result (name_at (words text.now)) }
 {
-    let (name, rest) = guid(text)?;
+    let (guid, rest) = guid(text)?;
+    let (at, rest) = place(rest)?;
+    let (size, rest) = size(rest)?;
     none_left(rest)?;
+    let name = VolumeName { guid, at, size };
     Ok(Statement::Name { name })
 }
 

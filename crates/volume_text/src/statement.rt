@@ -1,5 +1,5 @@
 // What a line says.
-use fv_build::{FileAttributes, VolumeForm};
+use fv_build::{FileAttributes, VolumeForm, VolumeName};
 use pi_base::{Guid, Phase, Seq};
 
 /// What a line says.
@@ -12,7 +12,7 @@ pub enum Statement {
     },
     /// The volume has this name.
     Name {
-        name: Guid,
+        name: VolumeName,
     },
     /// A file begins.
     File {

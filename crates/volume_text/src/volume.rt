@@ -2,12 +2,14 @@
 ghost use Rattle.std.specs.Prelude.{◌≡◌, ◌<◌, ◌^◌, Ok, IfOk, replicate, take};
 ghost use Rattle.std.specs.List.{list_any};
 ghost use Rattle.volume_text.specs.Reading.{Gives, only_if};
-ghost use Rattle.volume_text.specs.Open.{last_of, holding, is_empty, with_bytes, with_section, with_last_body, with_new_file, with_file, pad_sections, with_pad, with_name, depex_type, has_part, script_front, is_script_of, has_script, IsLastFile, only_with_part, only_without_script, part_checked, only_first, script_checked, stop_of, built_of};
+ghost use Rattle.volume_text.specs.Open.{last_of, holding, is_empty, with_bytes, with_section, with_last_body, with_new_file, with_file, pad_sections, with_pad, with_name, is_in_range, depex_type, has_part, script_front, is_script_of, has_script, IsLastFile, only_with_part, only_without_script, part_checked, only_first, script_checked, stop_of, built_of};
 
 use crate::fault::{Cause, Stop};
-use crate::word::{SECTION_HEADER_LEN, is_length};
-use fv_build::{Body, BuildFault, FileAttributes, NewFile, NewSection, VolumeForm};
-use fv_named::build;
+use crate::word::{SECTION_HEADER_LEN, is_header, is_length};
+use fv_build::{
+    Body, BuildFault, FileAttributes, NewFile, NewSection, VolumeForm, VolumeName, build,
+    is_placed,
+};
 use fv_section::section_type::{DXE_DEPEX, PEI_DEPEX, RAW};
 use fv_volume::file_type::{COMBINED_MM_DXE, DRIVER, PAD, PEIM};
 use pi_base::{Guid, OutOfMemory, Phase, Seq};
@@ -19,12 +21,12 @@ const ERASED: u8 = 0xff;
 /// A volume whose `end` has not come yet.
 #[derive(Drop)]
 pub struct OpenVolume {
-    /// Its file system and its attributes.
+    /// Its file system, its attributes and its header's length.
     pub form: VolumeForm,
     /// Its length.
     pub len: u64,
     /// Its name, if a line has told one.
-    pub name: Option<Guid>,
+    pub name: Option<VolumeName>,
     /// Its files so far. The last one may get sections.
     pub files: Seq<NewFile>,
 }
@@ -211,17 +213,20 @@ pub(crate) fn with_pad(alloc: Global, volume: OpenVolume, len: u64) -> Result<Op
     )
 }
 
-/// The volume with this name, if it has none yet.
-pub(crate) fn with_name(volume: OpenVolume, name: Guid) -> Result<OpenVolume, Stop>
+/// The volume with this name, if it has none yet and its header ends in front of it.
+pub(crate) fn with_name(volume: OpenVolume, name: VolumeName) -> Result<OpenVolume, Stop>
     ensures { Gives (λ x. x) result (with_name volume name) }
 {
-    match volume.name {
-        Some(_) => Err(Stop::Fault(Cause::TwoNames)),
-        None => Ok(OpenVolume {
-            name: Some(name),
-            ..volume
-        }),
+    if volume.name.is_some() {
+        return Err(Stop::Fault(Cause::TwoNames));
     }
+    if !is_placed(&volume.form, Some(name)) {
+        return Err(Stop::Fault(Cause::Range));
+    }
+    Ok(OpenVolume {
+        name: Some(name),
+        ..volume
+    })
 }
 
 /// The type of the section with the expression for a phase.
@@ -375,13 +380,23 @@ fn fits(attributes: u32)
     let _attributes = attributes;
 }
 
+// Whether all numbers of a volume are in their ranges.
+#[tactic(auto, using(crate::proofs::Building::in_range))]
+fn is_in_range(volume: &OpenVolume) -> bool
+    ensures { result ≡ is_in_range volume.now }
+{
+    fits(volume.form.attributes);
+    is_length(volume.len)
+        && is_header(volume.len, u64::from(volume.form.header_len))
+        && is_placed(&volume.form, volume.name)
+}
+
 /// The bytes of a volume at its `end`.
-#[tactic(auto, using(crate::proofs::Building::built_there, crate::proofs::Building::refused_there, crate::proofs::Building::out_of_range))]
+#[tactic(auto, using(crate::proofs::Building::built_there, crate::proofs::Building::refused_there, crate::proofs::Building::out_of_range, crate::proofs::Building::header_fits, crate::proofs::Building::name_fits, crate::proofs::Building::length_fits))]
 pub(crate) fn built_of(alloc: Global, volume: &OpenVolume) -> Result<Seq<u8>, Stop>
     ensures { Gives (λ x. x) result (built_of volume.now) }
 {
-    fits(volume.form.attributes);
-    if !is_length(volume.len) {
+    if !is_in_range(volume) {
         return Err(Stop::Fault(Cause::Range));
     }
     match build(

@@ -2,11 +2,15 @@
 ghost use Rattle.std.specs.Prelude.{◌≡◌};
 ghost use Rattle.source_words.specs.Words.{words};
 ghost use Rattle.volume_text.specs.Reading.{Gives};
-ghost use Rattle.volume_text.specs.Words.{word_at, none_left, guid_at, phase_at, is_length, length_at, is_pad_length, pad_length_at, system_at, last_number, attributes_at, fixed_at, last_alignment, alignment_at, chosen_at, file_type_at, section_type_at};
+ghost use Rattle.volume_text.specs.Words.{word_at, none_left, guid_at, phase_at, is_length, length_at, is_pad_length, pad_length_at, system_at, number_at, told_at, is_header, header_at, place_at, is_size, size_at, last_number, attributes_at, fixed_at, last_alignment, alignment_at, chosen_at, file_type_at, section_type_at};
 
 use crate::fault::{Cause, Stop};
 use crate::keyword::{byte_of, file_type_of, phase_of, system_of};
-use fv_build::{Alignment, FileAttributes, FileSystem, HEADER_LEN, MOST_LEN};
+use fv_build::{
+    Alignment, EXT_AT, EXT_HEADER_LEN, FileAttributes, FileSystem, HEADER_LEN, MOST_LEN,
+    is_header_length,
+};
+use fv_volume::volume_header::LEAST_HEADER_LEN;
 use line_words::number_of;
 use pi_base::{Guid, Phase};
 use source_words::{guid_of, next_word};
@@ -16,6 +20,9 @@ pub(crate) const SECTION_HEADER_LEN: u64 = 4;
 
 /// The longest body of a file in FFS2.
 const MOST_PAD: u64 = 0xff_ffe6;
+
+/// How many numbers 16 bits can tell.
+const NUMBERS_OF_16_BITS: u64 = 0x1_0000;
 
 /// How many numbers 32 bits can tell.
 const NUMBERS_OF_32_BITS: u64 = 0x1_0000_0000;
@@ -84,7 +91,7 @@ pub(crate) fn length(text: &[u8]) -> Result<(u64, &[u8]), Stop>
 pub(crate) fn is_length(len: u64) -> bool
     ensures { result ≡ is_length len }
 {
-    HEADER_LEN as u64 <= len && len <= MOST_LEN
+    LEAST_HEADER_LEN as u64 <= len && len <= MOST_LEN
 }
 
 /// Whether the body of a pad file may be of this length: it is one section, or empty.
@@ -121,6 +128,86 @@ pub(crate) fn system(text: &[u8]) -> Result<(FileSystem, &[u8]), Stop>
     match system_of(word) {
         Some(system) => Ok((system, rest)),
         None => Err(Stop::Fault(Cause::Word)),
+    }
+}
+
+// A number, and what follows it.
+#[tactic(auto, unfolding(crate::specs::Words::number_at))]
+fn number(text: &[u8]) -> Result<(u64, &[u8]), Stop>
+    ensures { Gives (λ x. (x.0, words x.1.now)) result (number_at (words text.now)) }
+{
+    let (word, rest) = word(text)?;
+    match number_of(word) {
+        Some(n) => Ok((n, rest)),
+        None => Err(Stop::Fault(Cause::Number)),
+    }
+}
+
+// The number behind a word where that stands first, and else the usual one; and what follows it.
+#[tactic(auto, unfolding(crate::specs::Words::told_at))]
+fn told<'a>(text: &'a [u8], key: &[u8], usual: u64) -> Result<(u64, &'a [u8]), Stop>
+    ensures { Gives (λ x. (x.0, words x.1.now)) result (told_at key.now usual (words text.now)) }
+{
+    let Some((word, rest)) = next_word(text) else {
+        return Ok((usual, text));
+    };
+    if word == key {
+        number(rest)
+    } else {
+        Ok((usual, text))
+    }
+}
+
+/// Whether a volume of this length may have a header of so many bytes.
+pub(crate) fn is_header(len: u64, header_len: u64) -> bool
+    ensures { result ≡ is_header len header_len }
+{
+    is_header_length(header_len) && header_len <= len
+}
+
+/// HeaderLength in a volume of this length, behind the word `header`, and the usual one where it is not there.
+#[tactic(auto, unfolding(crate::specs::Words::header_at))]
+pub(crate) fn header(text: &[u8], len: u64) -> Result<(u16, &[u8]), Stop>
+    ensures { Gives (λ x. (x.0, words x.1.now)) result (header_at len (words text.now)) }
+{
+    let (header_len, rest) = told(text, b"header", HEADER_LEN as u64)?;
+    if is_header(len, header_len) {
+        Ok((header_len as u16, rest))
+    } else {
+        Err(Stop::Fault(Cause::Range))
+    }
+}
+
+/// ExtHeaderOffset behind the word `at`, and the usual one where it is not there.
+#[tactic(auto, unfolding(crate::specs::Words::place_at))]
+pub(crate) fn place(text: &[u8]) -> Result<(u16, &[u8]), Stop>
+    ensures { Gives (λ x. (x.0, words x.1.now)) result (place_at (words text.now)) }
+{
+    let (at, rest) = told(text, b"at", u64::from(EXT_AT))?;
+    if at < NUMBERS_OF_16_BITS {
+        Ok((at as u16, rest))
+    } else {
+        Err(Stop::Fault(Cause::Range))
+    }
+}
+
+// Whether an extended header may have this size.
+fn is_size(size: u64) -> bool
+    ensures { result ≡ is_size size }
+{
+    u64::from(EXT_HEADER_LEN) <= size && size < NUMBERS_OF_32_BITS
+}
+
+/// ExtHeaderSize behind the word `size`, and that of an extended header without entries where it is not there.
+#[tactic(auto, unfolding(crate::specs::Words::size_at))]
+pub(crate) fn size(text: &[u8]) -> Result<(u32, &[u8]), Stop>
+    ensures { Gives (λ x. (x.0, words x.1.now)) result (size_at (words text.now)) }
+{
+    let (size, rest) = told(text, b"size", u64::from(EXT_HEADER_LEN))?;
+    if is_size(size) {
+        Ok((size as u32, rest))
+    } else {
+        Err(Stop::Fault(Cause::Range))
     }
 }
 

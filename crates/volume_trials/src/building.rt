@@ -1,7 +1,6 @@
 // Volumes that are built from lists of files, byte by byte, and each fault at its edge.
 ghost use Rattle.std.specs.Prelude.{◌≤◌};
-ghost use Rattle.fv_build.specs.declared.build.TheConstants.{MOST_LEN};
-ghost use Rattle.fv_build.specs.declared.volume_header.TheConstants.{HEADER_LEN};
+ghost use Rattle.fv_build.specs.declared.volume.TheConstants.{MOST_LEN};
 
 use crate::board::{ONE_PEIM, add, guid};
 use crate::volumes::lists;
@@ -91,7 +90,6 @@ fn one_peim(rt: &impl Abort, alloc: Global) -> NewFile {
 
 // A volume of these files under FFS2.
 fn ffs2(alloc: Global, files: &[NewFile], len: u64) -> Result<Seq<u8>, BuildFault>
-    requires header { HEADER_LEN ≤ len }
     requires most { len ≤ MOST_LEN }
 {
     build_volume(alloc, files, len)
@@ -99,7 +97,6 @@ fn ffs2(alloc: Global, files: &[NewFile], len: u64) -> Result<Seq<u8>, BuildFaul
 
 // A volume of these files under FFS3.
 fn ffs3(alloc: Global, files: &[NewFile], len: u64) -> Result<Seq<u8>, BuildFault>
-    requires header { HEADER_LEN ≤ len }
     requires most { len ≤ MOST_LEN }
 {
     build_volume3(alloc, files, len)
@@ -246,7 +243,6 @@ fn many(alloc: Global, count: usize) -> Vec<NewFile> {
 
 // The fault of so many files in a volume of this length.
 fn fault_of_many(alloc: Global, count: usize, len: u64) -> Option<BuildFault>
-    requires header { HEADER_LEN ≤ len }
     requires most { len ≤ MOST_LEN }
 {
     let files = many(alloc, count);

@@ -7,10 +7,10 @@ use Rattle.fv_build.specs.declared.new_file.NewSection.{NewSection}
 use Rattle.fv_volume.specs.Frame.{aligned}
 use Rattle.fv_build.specs.Sections.{body_bytes}
 use Rattle.fv_build.specs.declared.volume_header.VolumeForm.{VolumeForm}
-use Rattle.fv_named.specs.Named.{first_place}
+use Rattle.fv_build.specs.Front.{first_place}
 use Rattle.volume_print.specs.Places.{pads_in, stands}
-use Rattle.volume_print.specs.Spelling.{volume_line, pad_line}
-use Rattle.volume_print.specs.Description.{section_in, IsInner}
+use Rattle.volume_print.specs.Spelling.{volume_line, name_line, pad_line}
+use Rattle.volume_print.specs.Description.{section_in, form_in, name_in, IsInner}
 use Rattle.volume_print.specs.Finding.{held, form_text, AddsSections, AddsFiles}
 use Rattle.volume_print.proofs.Forms.{no_volume}
 use Rattle.volume_print.proofs.OneText.{told_or_not}
@@ -72,12 +72,14 @@ text_by-returns t c =
     let named = c.put_name.new.out in
     let filed = c.put_files.new.out in
     let adds = c.in_ok-put_files.ensures in
-    let there = subst (λ (n : ℕ). AddsFiles deep system image c.as_slice-files.result.now n adds.0 named filed) c.first_place-first.ensures adds.1 in
-    let files = subst (λ (fs : List FfsFile). AddsFiles deep system image fs (first_place volume.name) adds.0 named filed) c.as_slice-files.ensures there in
+    let place = c.first_place-first.ensures ∙ ap (λ f. first_place f c.name_in-name.result) c.form_in-form.ensures ∙ ap (λ n. first_place (form_in image) n) c.name_in-name.ensures in
+    let first = first_place (form_in image) (name_in image volume.name) in
+    let there = subst (λ (n : ℕ). AddsFiles deep system image c.as_slice-files.result.now n adds.0 named filed) place adds.1 in
+    let files = subst (λ (fs : List FfsFile). AddsFiles deep system image fs first adds.0 named filed) c.as_slice-files.ensures there in
     text_put deep image volume adds.0 c.put_head.new.out named filed c.append.new.self
     (c.in_ok-put_head.ensures ∙ ap (λ o. o ++ volume_line c.form_in-form.result volume.len) c.new-text.ensures ∙ ap (λ f. volume_line f volume.len) c.form_in-form.ensures)
-    c.in_ok-put_name.ensures
-    (subst (λ (f : VolumeForm). AddsFiles deep f.file_system image volume.files (first_place volume.name) adds.0 named filed) c.form_in-form.ensures files) c.in_ok-append.ensures.ok
+    (c.in_ok-put_name.ensures ∙ ap (λ n. c.put_head.new.out ++ name_line n) c.name_in-name.ensures)
+    (subst (λ (f : VolumeForm). AddsFiles deep f.file_system image volume.files first adds.0 named filed) c.form_in-form.ensures files) c.in_ok-append.ensures.ok
 
 pub put_body-returns-in_ok-put_plain_body-in-None : goal.put_body-returns-in_ok-put_plain_body-in-None
 put_body-returns-in_ok-put_plain_body-in-None t c =

@@ -1,6 +1,0 @@
-mod Named
-mod Sums
-mod Places
-mod Wholes
-mod WholeNames
-mod Texts

@@ -1,5 +1,0 @@
-use Rattle.named_again.proofs.Texts as A
-use Rattle.named_again.proofs.law.text_again.Goals as goal
-
-pub returns : goal.returns
-returns c = A.text_again

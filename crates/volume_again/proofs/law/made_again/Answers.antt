@@ -1,0 +1,5 @@
+use Rattle.volume_text.proofs.ReadBack as A
+use Rattle.volume_again.proofs.law.made_again.Goals as goal
+
+pub returns : goal.returns
+returns c = A.made_again
