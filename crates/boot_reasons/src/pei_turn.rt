@@ -17,14 +17,16 @@ use crate::moves::{first_move, unmoved_base};
 use crate::needs::needs_of;
 use crate::nowhere::Nowhere;
 use crate::told::PeiTold;
-use boot_laws::{Choice, Reached, cursor_aims, guids_are_these, guids_change, pei_opens, pei_starts_freely};
+use boot_laws::{
+    Choice, Reached, cursor_aims, guids_are_these, guids_change, pei_opens, pei_starts_freely,
+};
 use boot_model::{PeiEnd, state_of};
 use catalog_model::Catalog;
 use depex_code::Steps;
 use explain_text::{Begun, Giver};
 use frames::part_of;
-use pei_dispatch::{PeiQueue, Progress, aim, choose, go_on, licence_of, start, stop_pei};
 use pei_core::{Event, Pei};
+use pei_dispatch::{PeiQueue, Progress, aim, choose, go_on, licence_of, start, stop_pei};
 use pi_base::{Guid, OutOfMemory, Phase};
 use std::sync::ledger::Ledger;
 use store_model::PeiStore;

@@ -8,10 +8,10 @@ ghost use Rattle.boot_reasons.specs.Unseen.{choices_of};
 
 use crate::explain::explain_by;
 use crate::nowhere::Nowhere;
+use boot_laws::{Choice, FirstEligible, Reached};
 use boot_plan::Plan;
 use catalog_model::Catalog;
 use explain_text::Explained;
-use boot_laws::{Choice, FirstEligible, Reached};
 use mem_store::MemStore;
 use phys_mem::Rom;
 use pi_base::{OutOfMemory, Seq};

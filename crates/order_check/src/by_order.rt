@@ -2,8 +2,8 @@
 ghost use Rattle.std.specs.Prelude.{◌≡◌, slice_get};
 ghost use Rattle.order_check.specs.ByOrder.{NamesBy, is_start_of, lets_by};
 
-use catalog_model::Catalog;
 use boot_laws::Choice;
+use catalog_model::Catalog;
 use module_names::Names;
 use pi_base::Phase;
 use start_order::{AskedStart, Start, StartOrder};

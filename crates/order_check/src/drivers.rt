@@ -15,12 +15,12 @@ ghost use Rattle.order_check.specs.Drivers.{OnFew, RunsDrivers};
 
 use crate::by_order::ByOrder;
 use boot_io::{Halt, Sink};
+use boot_laws::Reached;
 use boot_model::{DxeEnd, RunEnd};
 use depex_code::Steps;
-use dxe_dispatch::{DriverQueue, dxe_at_opening, run_dxe};
 use dxe_core::Dxe;
+use dxe_dispatch::{DriverQueue, dxe_at_opening, run_dxe};
 use dxe_handles::Handles;
-use boot_laws::Reached;
 use pei_dispatch::Ended;
 use std::alloc::Global;
 use std::marker::Brand;

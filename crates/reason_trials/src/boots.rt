@@ -2,11 +2,11 @@
 ghost use Rattle.boot_plan.specs.Range.{IsPlanInRange};
 
 use boot_core::examine;
+use boot_laws::{Choice, Reached};
 use boot_model::{ARCHITECTURAL, Licence, Reason, RunEnd};
 use boot_plan::{Plan, read_plan};
 use boot_reasons::{Nowhere, explain_plan, explain_plan_by};
 use explain_text::{Begun, Explained, Giver, Held, Moved, Need};
-use boot_laws::{Choice, Reached};
 use pi_base::{Guid, Phase, Seq};
 use std::alloc::Global;
 use std::process::Abort;

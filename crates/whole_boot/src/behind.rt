@@ -13,11 +13,11 @@ ghost use Rattle.whole_boot.specs.FirstBoot.{Tells};
 
 use crate::closing::{put_closing, result_of};
 use boot_io::{Halt, Sink};
+use boot_laws::Choice;
 use boot_model::{PeiEnd, RunEnd};
 use catalog_model::Catalog;
 use dxe_dispatch::{Barred, Left, boot_dxe};
 use dxe_handles::Handles;
-use boot_laws::Choice;
 use pei_dispatch::Ended;
 use std::alloc::Global;
 use store_model::PeiStore;
