@@ -50,9 +50,9 @@ header_read : (large : Bool) (attributes header_len ext len checksum : ℕ) (res
 header_read large attributes header_len ext len checksum rest small short near fits =
     by_system large
     ∙ ap (λ n. said large (little_number 4 (little_bytes 4 attributes ++ behind_attributes)) (little_number 2 (little_bytes 2 header_len ++ behind_length)) (little_number 2 (little_bytes 2 ext ++ behind_place)) n)
-      (little_number-little_bytes 8 len (little_bytes 4 constant.SIGNATURE ++ (little_bytes 4 attributes ++ behind_attributes)) fits)
+    (little_number-little_bytes 8 len (little_bytes 4 constant.SIGNATURE ++ (little_bytes 4 attributes ++ behind_attributes)) fits)
     ∙ ap (λ n. said large n (little_number 2 (little_bytes 2 header_len ++ behind_length)) (little_number 2 (little_bytes 2 ext ++ behind_place)) len)
-      (little_number-little_bytes 4 attributes behind_attributes small)
+    (little_number-little_bytes 4 attributes behind_attributes small)
     ∙ ap (λ n. said large attributes n (little_number 2 (little_bytes 2 ext ++ behind_place)) len) (little_number-little_bytes 2 header_len behind_length short)
     ∙ ap (λ n. said large attributes header_len n len) (little_number-little_bytes 2 ext behind_place near)
   where
@@ -159,7 +159,7 @@ extended_read large attributes header_len len (Some name) bytes least fits e =
     let f : nat_lt len (name.at + name.size) ≡ false = grind (arith, nat_tests) in
     ap (λ n. extended_with bytes says name.at n) size
     ∙ no_test (name.at == 0) (nat_lt name.at header_len) (nat_lt len (name.at + 20)) (nat_lt name.size 20) (nat_lt len (name.at + name.size)) (Ok None) misplaced
-      (found_as (guid_at bytes name.at) (name.at + name.size)) a b c d f
+    (found_as (guid_at bytes name.at) (name.at + name.size)) a b c d f
     ∙ ap (λ g. found_as g (name.at + name.size)) is
 
 -- the frame

@@ -5,9 +5,9 @@ ghost use Rattle.fv_build.specs.declared.fault.BuildFault.TheVariants.{Memory};
 ghost use Rattle.fv_build.specs.Generated.{numbered, installs, memory_said, actions_of, script_of, waits_for, expression_of, module_of, generated_files, generated};
 
 use crate::attributes::FileAttributes;
-use crate::volume::build_volume;
 use crate::fault::BuildFault;
 use crate::new_file::{Body, NewFile, NewSection};
+use crate::volume::build_volume;
 use act_code::descriptor_kind::PPI;
 use act_code::{Action, GuidArg, Script, write_script};
 use depex_code::opcode_byte::{END, PUSH};

@@ -13,7 +13,10 @@ static PRINTED: [(&str, &str); 14] = [
         "volume 256 ffs3 attributes 0x4feff\nname B5A1C0DE-93f0-4a5d-8d11-6e2f40715c33\nend",
         "volume 256 ffs3 attributes 0x4f6ff\nname b5a1c0de-93f0-4a5d-8d11-6e2f40715c33\nend\n",
     ), // attributes, beside the erase polarity, and a name
-    ("volume 64 ffs2 header 64\nend\n", "volume 64 ffs2 header 64\nend\n"), // a header with one entry of the block map
+    (
+        "volume 64 ffs2 header 64\nend\n",
+        "volume 64 ffs2 header 64\nend\n",
+    ), // a header with one entry of the block map
     (
         "volume 256 ffs2 header 0x48\nname b5a1c0de-93f0-4a5d-8d11-6e2f40715c33 at 0x60 size 20\nend\n",
         "volume 256 ffs2\nname b5a1c0de-93f0-4a5d-8d11-6e2f40715c33\nend\n",

@@ -453,11 +453,7 @@ static MISTAKES: [(&str, u64, Cause); 75] = [
     ("volume 0x20000 ffs2 header 0x10000\n", 1, Cause::Range), // one of 17 bits
     ("volume 78 ffs2 header 80\n", 1, Cause::Range), // one longer than the volume
     ("volume 4096 ffs2 header\n", 1, Cause::Missing), // no length of the header
-    (
-        "volume 4096 ffs2 attributes 1 header 80\n",
-        1,
-        Cause::Extra,
-    ), // the header behind the attributes
+    ("volume 4096 ffs2 attributes 1 header 80\n", 1, Cause::Extra), // the header behind the attributes
     (
         "volume 4096\nname 00000001-0000-4000-8000-000000000001 at 71\n",
         2,

@@ -183,8 +183,13 @@ volume_read : (form : VolumeForm) (len : ℕ) → is_length len ≡ true → for
     → volume_at (decimal len ∷ (system_word form.file_system ∷ form_list form)) ≡ Ok (said.Volume form len)
 unfolding volume_at length_at system_at
 volume_read form len is fits header =
-    rw (decimal_read len (length_fits len is), is, system_there form.file_system, header_read len form.header_len form.attributes header,
-      attributes_by form.attributes (form.attributes == 0) refl fits) refl
+    rw (
+      decimal_read len (length_fits len is),
+      is,
+      system_there form.file_system,
+      header_read len form.header_len form.attributes header,
+      attributes_by form.attributes (form.attributes == 0) refl fits,
+    ) refl
 
 -- the text of a line, what it says, and that it counts
 pub record Says (text : List ℕ) (what : Statement) : Type 0 where

@@ -3,4 +3,6 @@
 
 mod law;
 
-pub use law::{built_again, made_again, made_of_its_text, read_again, refused_for_room, text_again};
+pub use law::{
+    built_again, made_again, made_of_its_text, read_again, refused_for_room, text_again,
+};

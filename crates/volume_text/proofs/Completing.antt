@@ -203,8 +203,11 @@ files_go form lines called files no_file below len all is =
 files_go form _ _ _ (named lines files line name say says placed) below len all is =
     last (Filling below (opened_with form len None [])) (Filling below (opened_with form len None files)) (Filling below (opened_with form len (Some name) files)) all lines line is
     (λ front front_is. files_go form lines None files say below len front front_is)
-    (λ number. (Ok (said.Name name), says,
-    ap (λ test. at number (only_if test cause.Range (opened_with form len (Some name) files) >>= (λ top. Ok (Filling below top)))) (sym placed)))
+    (λ number. (
+      Ok (said.Name name),
+      says,
+      ap (λ test. at number (only_if test cause.Range (opened_with form len (Some name) files) >>= (λ top. Ok (Filling below top)))) (sym placed),
+    ))
 files_go form _ _ _ (padded lines called files line size say says) below len all is =
     last (Filling below (opened_with form len None [])) (Filling below (opened_with form len called files)) (Filling below (opened_with form len called (files ++ pad_file size ∷ []))) all lines line is
     (λ front front_is. files_go form lines called files say below len front front_is)

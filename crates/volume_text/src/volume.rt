@@ -7,8 +7,7 @@ ghost use Rattle.volume_text.specs.Open.{last_of, holding, is_empty, with_bytes,
 use crate::fault::{Cause, Stop};
 use crate::word::{SECTION_HEADER_LEN, is_header, is_length};
 use fv_build::{
-    Body, BuildFault, FileAttributes, NewFile, NewSection, VolumeForm, VolumeName, build,
-    is_placed,
+    Body, BuildFault, FileAttributes, NewFile, NewSection, VolumeForm, VolumeName, build, is_placed,
 };
 use fv_section::section_type::{DXE_DEPEX, PEI_DEPEX, RAW};
 use fv_volume::file_type::{COMBINED_MM_DXE, DRIVER, PAD, PEIM};
