@@ -125,9 +125,9 @@ told_still catalog earlier m later told is started again store = record {
 -- the core takes a step by itself
 pub went_on : {M : Type 0} (change : GuidsChange) (these : GuidsAreThese) (laws : Laws) (Names : PeiMachine → Option ℕ → Type 0) (Lets : PeiMachine → ℕ → Bool) (stands : M → StoreState → Type 0) (board : Board) (catalog : Catalog) (fuel : ℕ)
     (earlier : List PeiMachine) (m : PeiMachine) (pei later : Pei M) (queue grown : PeiQueue) (told after : PeiTold) (event : Event) (from : Option ℕ) (actor : Giver) (t : Texts)
-    → IsAt Names Lets stands board catalog fuel earlier m pei queue told → IsKept m → (IsIdle m → ⊥) → IsEvent catalog fuel m event → HasTurned stands catalog m pei (pei_step catalog fuel m) later grown t
+    → IsAt Names Lets stands board catalog fuel earlier m pei queue told → IsKept m → (IsIdle m → ⊥) → IsEvent catalog fuel m event → HasTurned stands catalog (record { pei = pei; queue = queue; later = later; grown = grown; texts = t }) m (pei_step catalog fuel m)
     → actor ≡ actor_in m.frames → from ≡ unmoved_base m.store
-    → AreNoted (has_ppi (pei_step catalog fuel m).store) actor (event_guids event.gone event.there.items) told.givers.map after.givers.map
+    → AreNoted (has_ppi (pei_step catalog fuel m).store) actor (event_guids event.changes.gone event.changes.there.items) told.givers.map after.givers.map
     → after.moved ≡ option_or told.moved (moved_from from (pei_step catalog fuel m).store) → after.begun ≡ told.begun
     → IsAt Names Lets stands board catalog fuel (m ∷ earlier) (pei_step catalog fuel m) later grown after
 went_on change these laws Names Lets stands board catalog fuel earlier m pei later queue grown told after event from actor t is kept busy what turned acts base noted moved begun =
@@ -136,11 +136,11 @@ went_on change these laws Names Lets stands board catalog fuel earlier m pei lat
     let step : IsStepBy Names Lets catalog fuel m next = inl (record { own = own_case catalog m busy; is = refl }) in
     let near = laws.nearer catalog fuel m next running is.way (step_is_free laws.aims laws.own Names Lets catalog fuel m next step) in
     let quiet = step_quiet catalog fuel m busy in
-    let noted_by : AreNoted (has_ppi next.store) (actor_in m.frames) (event_guids event.gone event.there.items) told.givers.map after.givers.map =
-    subst (λ a. AreNoted (has_ppi next.store) a (event_guids event.gone event.there.items) told.givers.map after.givers.map) acts noted in
-    let others : (guid : Guid) → is_among guid (event_guids event.gone event.there.items) ≡ false → has_ppi next.store guid ≡ has_ppi m.store guid =
+    let noted_by : AreNoted (has_ppi next.store) (actor_in m.frames) (event_guids event.changes.gone event.changes.there.items) told.givers.map after.givers.map =
+    subst (λ a. AreNoted (has_ppi next.store) a (event_guids event.changes.gone event.changes.there.items) told.givers.map after.givers.map) acts noted in
+    let others : (guid : Guid) → is_among guid (event_guids event.changes.gone event.changes.there.items) ≡ false → has_ppi next.store guid ≡ has_ppi m.store guid =
     λ guid none.
-    let outside : is_among guid (option_to_list (pei_taken catalog fuel m) ++ pei_placed catalog fuel m) ≡ false = ap (is_among guid) (sym (guids_are catalog fuel m event event.there.items refl what)) ∙ none in
+    let outside : is_among guid (option_to_list (pei_taken catalog fuel m) ++ pei_placed catalog fuel m) ≡ false = ap (is_among guid) (sym (guids_are catalog fuel m event event.changes.there.items refl what)) ∙ none in
     change catalog fuel m guid kept (ap (is_among guid) (these catalog fuel m) ∙ once_fewer guid (option_to_list (pei_taken catalog fuel m) ++ pei_placed catalog fuel m) outside) in
     record {
       run = (running, step, is.run);
@@ -149,7 +149,7 @@ went_on change these laws Names Lets stands board catalog fuel earlier m pei lat
       is_told = record {
         begun = begun ∙ is.is_told.begun ∙ sym (append-nil (pei_begun catalog earlier m))
             ∙ ap (λ xs. pei_begun catalog earlier m ++ flat_map (pei_begun_at catalog m (pei_giver earlier m)) xs) (sym (no_starts m next quiet.started quiet.again));
-        givers = giver_on (λ (x : PeiMachine). has_ppi x.store) (λ (x : PeiMachine). actor_in x.frames) earlier m next (event_guids event.gone event.there.items) told.givers.map after.givers.map
+        givers = giver_on (λ (x : PeiMachine). has_ppi x.store) (λ (x : PeiMachine). actor_in x.frames) earlier m next (event_guids event.changes.gone event.changes.there.items) told.givers.map after.givers.map
             (λ x. actor_in_present x) (λ guid. none_at_first Names Lets board catalog fuel earlier m guid is.run) noted_by is.is_told.givers others;
         moved = moved ∙ ap (λ o. option_or o (moved_from from next.store)) is.is_told.moved ∙ ap (λ o. option_or (pei_moved earlier m) (moved_from o next.store)) base;
       };
@@ -218,7 +218,7 @@ own_stops catalog m e = subst IsOwnCase (sym e) tt
 pub stop_on : {M : Type 0} (Names : PeiMachine → Option ℕ → Type 0) (Lets : PeiMachine → ℕ → Bool) (stands : M → StoreState → Type 0) (board : Board) (catalog : Catalog) (fuel : ℕ)
     (earlier : List PeiMachine) (m : PeiMachine) (cursor : ℕ) (pei later : Pei M) (queue kept : PeiQueue) (told : PeiTold) (how : PeiEnd) (t : Texts)
     → IsAt Names Lets stands board catalog fuel earlier m pei queue told → Chose Names catalog m cursor → next_peim catalog (with_cursor m cursor) ≡ None
-    → IsOver stands catalog (with_cursor m cursor) later (stopped catalog (with_cursor m cursor)) later kept how t
+    → IsOver stands catalog (record { pei = later; queue = kept; later = later; grown = kept; texts = t }) (with_cursor m cursor) (stopped catalog (with_cursor m cursor)) how
     → («end» : PeiMachine) × IsAtEnd Names Lets stands board catalog fuel (m ∷ earlier) «end» later kept told how
 stop_on Names Lets stands board catalog fuel earlier m cursor pei later queue kept told how t is k none over =
     let none_here = k.aims.none.0 none in
@@ -239,7 +239,7 @@ stop_on Names Lets stands board catalog fuel earlier m cursor pei later queue ke
 pub cut_on : {M : Type 0} (Names : PeiMachine → Option ℕ → Type 0) (Lets : PeiMachine → ℕ → Bool) (stands : M → StoreState → Type 0) (board : Board) (catalog : Catalog) (fuel : ℕ)
     (earlier : List PeiMachine) (m : PeiMachine) (pei later : Pei M) (queue grown : PeiQueue) (told : PeiTold) (how : PeiEnd) (t : Texts)
     → IsAt Names Lets stands board catalog fuel earlier m pei queue told → (IsIdle m → ⊥) → pei_step catalog fuel m ≡ record m { ended = Some how }
-    → IsOver stands catalog m pei (pei_step catalog fuel m) later grown how t
+    → IsOver stands catalog (record { pei = pei; queue = queue; later = later; grown = grown; texts = t }) m (pei_step catalog fuel m) how
     → («end» : PeiMachine) × IsAtEnd Names Lets stands board catalog fuel (m ∷ earlier) «end» later grown told how
 cut_on Names Lets stands board catalog fuel earlier m pei later queue grown told how t is busy cut over =
     let quiet = step_quiet catalog fuel m busy in

@@ -102,4 +102,4 @@ pub record IsStartTold {M : Type 0} (stands : M → StoreState → Type 0) (cata
 
 -- which PPIs came and went in an event is noted, by its actor, behind it
 abbrev pub IsEventNoted : StoreState → Event → Giver → List (Guid × Giver) → List (Guid × Giver) → Type 0
-IsEventNoted s event actor old new = AreNoted (has_ppi s) actor (event_guids event.gone event.there.items) old new
+IsEventNoted s event actor old new = AreNoted (has_ppi s) actor (event_guids event.changes.gone event.changes.there.items) old new

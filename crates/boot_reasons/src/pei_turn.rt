@@ -25,8 +25,8 @@ use catalog_model::Catalog;
 use depex_code::Steps;
 use explain_text::{Begun, Giver};
 use frames::part_of;
-use pei_core::{Event, Pei};
-use pei_dispatch::{PeiQueue, Progress, aim, choose, go_on, licence_of, start, stop_pei};
+use pei_core::{Event, Pei, Stepped};
+use pei_dispatch::{PeiQueue, aim, choose, go_on, licence_of, start, stop_pei};
 use pi_base::{Guid, OutOfMemory, Phase};
 use std::sync::ledger::Ledger;
 use store_model::PeiStore;
@@ -59,8 +59,8 @@ fn tell_event<M: PeiStore + Drop>(
     ensures { (m : PeiMachine) → StandsFor M.stands_for pei.now m
         → OnOk result (IsEventNoted m.store event.now actor givers.old.map givers.new.map) }
 {
-    tell_gone(givers, pei, event.gone, actor)?;
-    givers.note_all(event.there.as_slice(), pei.store(), actor)
+    tell_gone(givers, pei, event.changes.gone, actor)?;
+    givers.note_all(event.changes.there.as_slice(), pei.store(), actor)
 }
 
 // Tells of the start of a module from here.
@@ -194,12 +194,12 @@ pub(crate) fn turn<M: PeiStore + Drop, C: Choice<Nowhere>, L: Ledger>(
     let from = unmoved_base(pei.store());
     // What is put goes nowhere, which never fails.
     match go_on(pei, queue, catalog, &mut Nowhere) {
-        Ok(Progress::Went(event)) => {
+        Ok(Stepped::Went(event)) => {
             tell_step(told, pei, &event, actor, from)?;
             Ok(None)
         }
-        Ok(Progress::Idle) => start_or_stop(pei, queue, choice, catalog, told, steps),
-        Ok(Progress::Ended(end)) => Ok(Some(Reached::End(end))),
+        Ok(Stepped::Idle) => start_or_stop(pei, queue, choice, catalog, told, steps),
+        Ok(Stepped::Ended(end)) => Ok(Some(Reached::End(end))),
         Err(_) => Err(OutOfMemory),
     }
 }

@@ -26,6 +26,8 @@ use Rattle.frames.specs.declared.registers.Writes.TheVariants as W
 use Rattle.frames.specs.declared.reading.Answer.{Answer}
 use Rattle.frames.specs.Peeked.{told_at, told_bytes}
 use Rattle.frames.specs.Writes.{written}
+use Rattle.pei_action.specs.Guids.{no_changes}
+use Rattle.pei_action.specs.declared.guids.Changes.{Changes}
 use Rattle.pei_action.specs.declared.taken.Taken.{Taken}
 use Rattle.pei_action.specs.Taken.{Does, IsTaken, answered, refused, swept, told}
 use Rattle.pei_action.specs.Taken as T
@@ -75,9 +77,9 @@ made_taken name service place register r s new registers made address writes tak
     ∙ ap (λ n. Called name (P.told new (slice_set registers r (register made)) (X.Number n))) (sym (at here.0))
     ∙ ap (λ own. Called name (P.told new (written registers own) (X.Number address))) (sym w)) t
 
-pub swept_taken : (name : CallName) (does : Effect) (s new : StoreState) (registers : List Register) (sweep : Sweep) (installs : List Desc) (taken : Taken)
-    → does ≡ Called name (record (P.told new registers X.Nothing) { sweep = Some sweep; installs = offsets installs }) → taken ≡ swept name sweep installs → Does does s registers taken new
-swept_taken name does s new registers sweep installs taken e t = subst (λ x. Does does s registers x new) (sym t) e
+pub swept_taken : (name : CallName) (does : Effect) (s new : StoreState) (registers : List Register) (sweep : Sweep) (installs : List Desc) (changes : Changes) (taken : Taken)
+    → does ≡ Called name (record (P.told new registers X.Nothing) { sweep = Some sweep; installs = offsets installs }) → taken ≡ swept name sweep installs changes → Does does s registers taken new
+swept_taken name does s new registers sweep installs changes taken e t = subst (λ x. Does does s registers x new) (sym t) e
 
 -- a write into a pool
 pub stored : (s new : StoreState) (frame : Frame) (held : Option Pool) (pool : Pool) (offset : ℕ) (bytes : List ℕ) (taken : Taken)
@@ -104,7 +106,7 @@ no_pool s frame held offset bytes taken e t =
 
 -- bytes that are read
 abbrev shown : StoreState → List Register → Answer → Effect
-shown s registers answer = Called C.Peek (T.reply_in (record { name = C.Peek; status = answer.status; extra = answer.extra; writes = W.Nothing; sweep = None; installs = record { items = [] } }) registers s)
+shown s registers answer = Called C.Peek (T.reply_in (record { name = C.Peek; status = answer.status; extra = answer.extra; writes = W.Nothing; sweep = None; installs = record { items = [] }; changes = no_changes }) registers s)
 
 abbrev peek_at : StoreState → List Register → Option (List ℕ) → Effect
 peek_at s registers bytes = Called C.Peek (reply_where bytes (λ read. P.told s registers (X.Bytes (record { items = read }))) s registers NotFound)

@@ -1,6 +1,6 @@
 -- What a call that takes an action of PEI's own answers: what the action does by the definition, with the state after it. Want of memory leaves the state as it was.
 -- Own.
-use Rattle.std.specs.Prelude.{◌≡◌, Bool, true, List, [], None, Some, Option, Result, Ok, Err}
+use Rattle.std.specs.Prelude.{◌≡◌, Bool, true, List, [], None, Some, Option, Result, Ok, Err, ⊤}
 use Rattle.pi_base.specs.declared.word.Word.{Word}
 use Rattle.pi_base.specs.declared.word.Word.TheVariants.{Success}
 use Rattle.pi_base.specs.declared.memory.OutOfMemory.{OutOfMemory}
@@ -22,13 +22,23 @@ use Rattle.boot_model.specs.PeiAction as Machine
 use Rattle.frames.specs.declared.registers.Writes.{Writes}
 use Rattle.frames.specs.declared.registers.Writes.TheVariants as W
 use Rattle.frames.specs.Writes.{written}
+use Rattle.pei_action.specs.Guids.{AreChangesOf, no_changes}
+use Rattle.pei_action.specs.declared.guids.Changes.{Changes}
 use Rattle.pei_action.specs.declared.taken.Reply.{Reply}
 use Rattle.pei_action.specs.declared.taken.Taken.{Taken}
 use Rattle.pei_action.specs.declared.taken.Taken.TheVariants as T
 
 -- an answer without callbacks to visit, one of success, and a refusal
 abbrev pub answered : CallName → Word → Extra → Writes → Taken
-answered name status extra writes = T.Called (record { name = name; status = status; extra = extra; writes = writes; sweep = None; installs = record { items = [] } })
+answered name status extra writes = T.Called (record {
+  name = name;
+  status = status;
+  extra = extra;
+  writes = writes;
+  sweep = None;
+  installs = record { items = [] };
+  changes = no_changes;
+})
 
 abbrev pub told : CallName → Extra → Writes → Taken
 told name extra writes = answered name Success extra writes
@@ -36,9 +46,17 @@ told name extra writes = answered name Success extra writes
 abbrev pub refusal : CallName → Word → Taken
 refusal name status = answered name status Nothing W.Nothing
 
--- an answer with callbacks to visit, and PPIs that were installed
-abbrev pub swept : CallName → Sweep → List Desc → Taken
-swept name sweep installs = T.Called (record { name = name; status = Success; extra = Nothing; writes = W.Nothing; sweep = Some sweep; installs = record { items = installs } })
+-- an answer with callbacks to visit, PPIs that were installed, and the GUIDs that were changed
+abbrev pub swept : CallName → Sweep → List Desc → Changes → Taken
+swept name sweep installs changes = T.Called (record {
+  name = name;
+  status = Success;
+  extra = Nothing;
+  writes = W.Nothing;
+  sweep = Some sweep;
+  installs = record { items = installs };
+  changes = changes;
+})
 
 -- a fault is a refusal with its status; want of memory has none
 abbrev pub refused_with : CallName → Option Word → Result Taken OutOfMemory
@@ -82,3 +100,22 @@ ActsAlways stood stands action frame taken =
 abbrev pub Reads : (StoreState → Type 0) → Action → Frame → Taken → Type 0
 Reads stands action frame taken =
     OfEach stands (HoldRegisters frame.registers) (λ s. Does (effect s frame action) s frame.registers taken s)
+
+-- the GUIDs that it changed
+abbrev pub changes_by : Taken → Changes
+changes_by (T.Wrote status writes) = no_changes
+changes_by (T.Called reply) = reply.changes
+changes_by T.Shadowed = no_changes
+
+-- they are none
+abbrev pub ChangedNone : Result Taken OutOfMemory → Type 0
+ChangedNone (Ok taken) = changes_by taken ≡ no_changes
+ChangedNone (Err none) = ⊤
+
+-- they are those of the action, from a state before it, and from each that the store stood for
+abbrev pub HasChanged : StoreState → Action → Frame → Result Taken OutOfMemory → Type 0
+HasChanged s action frame (Ok taken) = AreChangesOf s frame action (changes_by taken)
+HasChanged s action frame (Err none) = ⊤
+
+abbrev pub Changed : (StoreState → Type 0) → Action → Frame → Result Taken OutOfMemory → Type 0
+Changed stood action frame result = OfEach stood (HoldRegisters frame.registers) (λ s. HasChanged s action frame result)

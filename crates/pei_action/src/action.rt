@@ -5,7 +5,7 @@ ghost use Rattle.store_model.specs.Service.{Present};
 ghost use Rattle.boot_model.specs.MachineFacts.{HoldRegisters, IsModuleNumber};
 ghost use Rattle.frames.specs.Deed.{deed};
 ghost use Rattle.frames.specs.Needs.{IsScriptAction};
-ghost use Rattle.pei_action.specs.Taken.{Acts};
+ghost use Rattle.pei_action.specs.Taken.{Acts, Changed};
 
 use crate::address::write_address;
 use crate::hobs::make_hob;
@@ -31,6 +31,7 @@ pub fn take_own<M: PeiStore>(
     requires number { IsModuleNumber frame.now.module_number }
     requires state { Present (M.stands_for store.old) (HoldRegisters frame.now.registers) }
     ensures row { Acts M.TAKES_MEMORY (M.stands_for store.old) (M.stands_for store.new) action.now frame.now result }
+    ensures changes { Changed (M.stands_for store.old) action.now frame.now result }
 {
     match action {
         Action::Addr { v, x, offset } => Ok(write_address(store, frame, *v, *x, *offset)),

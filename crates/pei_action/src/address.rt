@@ -1,11 +1,11 @@
 // Addresses in the heap.
-ghost use Rattle.std.specs.Prelude.{◌≡◌, ◌+◌, ◌≤◌};
+ghost use Rattle.std.specs.Prelude.{◌≡◌, ◌+◌, ◌≤◌, Ok};
 ghost use Rattle.act_code.specs.declared.action.Action.TheVariants as A;
 ghost use Rattle.boot_plan.specs.declared.limits.TheConstants.{MOST_END};
 ghost use Rattle.store_model.specs.StoreState.{end_place};
 ghost use Rattle.store_model.specs.Service.{Present, OfEach};
 ghost use Rattle.boot_model.specs.MachineFacts.{HoldRegisters};
-ghost use Rattle.pei_action.specs.Taken.{Reads};
+ghost use Rattle.pei_action.specs.Taken.{ChangedNone, Reads};
 
 use crate::taken::Taken;
 use boot_model::{PeiFrame, Register};
@@ -26,6 +26,7 @@ pub fn address<M: PeiStore>(store: &M, offset: u64) -> u64
 pub fn write_address<M: PeiStore>(store: &M, frame: &PeiFrame, v: u8, x: u8, more: u32) -> Taken
     requires state { Present (M.stands_for store.now) (HoldRegisters frame.now.registers) }
     ensures row { Reads (M.stands_for store.now) (A.Addr v x more) frame.now result }
+    ensures changes { ChangedNone (Ok result) }
 {
     match offset_in(&frame.registers, x) {
         None => Taken::Wrote {

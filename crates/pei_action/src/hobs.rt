@@ -5,7 +5,7 @@ ghost use Rattle.act_code.specs.Format.{is_hob};
 ghost use Rattle.store_model.specs.Service.{Present};
 ghost use Rattle.store_model.specs.StoreCall.{Anything};
 ghost use Rattle.boot_model.specs.PeiMachine.{Frame};
-ghost use Rattle.pei_action.specs.Taken.{Acts};
+ghost use Rattle.pei_action.specs.Taken.{Acts, ChangedNone};
 
 use crate::taken::Taken;
 use boot_model::{CallName, Extra};
@@ -20,6 +20,7 @@ pub fn make_hob<M: PeiStore>(store: &mut M, kind: u8, body: &[u8]) -> Result<Tak
     requires state { Present (M.stands_for store.old) Anything }
     ensures row { (frame : Frame) → Acts M.TAKES_MEMORY (M.stands_for store.old) (M.stands_for store.new) (A.Hob kind body.now) frame
         result }
+    ensures changes { ChangedNone result }
 {
     match hob_of(kind as u16, body) {
         None => Ok(Taken::refusal(CallName::Hob, Word::InvalidParameter)),

@@ -17,5 +17,5 @@ mod taken;
 
 pub use action::take_own;
 pub use descriptors::MOST_DESCRIPTORS;
-pub use guids::{Changes, changes_of};
+pub use guids::Changes;
 pub use taken::{Reply, Taken};

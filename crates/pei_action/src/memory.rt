@@ -1,5 +1,5 @@
 // Actions on memory: permanent memory, pages and the boot mode.
-ghost use Rattle.std.specs.Prelude.{◌≡◌, ◌<◌, ◌≤◌, ◌==◌, ◌&&◌, not, IsTrue};
+ghost use Rattle.std.specs.Prelude.{◌≡◌, ◌<◌, ◌≤◌, ◌==◌, ◌&&◌, not, IsTrue, Ok};
 ghost use Rattle.act_code.specs.declared.action.Action.TheVariants as A;
 ghost use Rattle.boot_model.specs.PeiAction as P;
 ghost use Rattle.boot_model.specs.Registers.{both};
@@ -8,7 +8,7 @@ ghost use Rattle.store_model.specs.Service.{Present};
 ghost use Rattle.store_model.specs.StoreCall.{Anything};
 ghost use Rattle.boot_model.specs.MachineFacts.{HoldRegisters};
 ghost use Rattle.boot_model.specs.PeiMachine.{Frame};
-ghost use Rattle.pei_action.specs.Taken.{Acts, ActsAlways, Reads};
+ghost use Rattle.pei_action.specs.Taken.{Acts, ActsAlways, ChangedNone, Reads};
 
 use crate::taken::Taken;
 use boot_model::{CallName, Extra, PeiFrame, REGISTERS, Register};
@@ -35,6 +35,7 @@ pub fn plan_memory<M: PeiStore>(
 ) -> Result<Taken, OutOfMemory>
     requires state { Present (M.stands_for store.old) (HoldRegisters frame.now.registers) }
     ensures row { Acts M.TAKES_MEMORY (M.stands_for store.old) (M.stands_for store.new) (A.Memory begin length) frame.now result }
+    ensures changes { ChangedNone result }
 {
     match numbers_in(&frame.registers, begin, length) {
         None => Ok(Taken::refusal(CallName::Memory, Word::InvalidParameter)),
@@ -70,6 +71,7 @@ pub fn take_pages<M: PeiStore>(
     requires state { Present (M.stands_for store.old) Anything }
     ensures row { (frame : Frame) → Acts M.TAKES_MEMORY (M.stands_for store.old) (M.stands_for store.new) (A.Pages r memory_type count)
         frame result }
+    ensures changes { ChangedNone result }
 {
     if !may_take(memory_type, count) {
         return Ok(Taken::refusal(CallName::Pages, Word::InvalidParameter));
@@ -88,6 +90,7 @@ pub fn take_pages<M: PeiStore>(
 fn get_boot_mode<M: PeiStore>(store: &M, r: u8) -> Taken
     requires state { Present (M.stands_for store.now) Anything }
     ensures row { (frame : Frame) → Reads (M.stands_for store.now) (A.BootMode 0 r) frame result }
+    ensures changes { ChangedNone (Ok result) }
 {
     let mode = store.boot_mode() as u64;
     Taken::told(
@@ -101,6 +104,7 @@ fn get_boot_mode<M: PeiStore>(store: &M, r: u8) -> Taken
 fn set_boot_mode<M: PeiStore>(store: &mut M, frame: &PeiFrame, r: u8) -> Taken
     requires state { Present (M.stands_for store.old) (HoldRegisters frame.now.registers) }
     ensures row { ActsAlways (M.stands_for store.old) (M.stands_for store.new) (A.BootMode 1 r) frame.now result }
+    ensures changes { ChangedNone (Ok result) }
 {
     match number_in(&frame.registers, r) {
         Some(mode) if mode <= u32::MAX as u64 => {
@@ -115,6 +119,7 @@ fn set_boot_mode<M: PeiStore>(store: &mut M, frame: &PeiFrame, r: u8) -> Taken
 pub fn boot_mode<M: PeiStore>(store: &mut M, frame: &PeiFrame, form: u8, r: u8) -> Taken
     requires state { Present (M.stands_for store.old) (HoldRegisters frame.now.registers) }
     ensures row { ActsAlways (M.stands_for store.old) (M.stands_for store.new) (A.BootMode form r) frame.now result }
+    ensures changes { ChangedNone (Ok result) }
 {
     if form == 0 {
         get_boot_mode(store, r)

@@ -6,7 +6,7 @@ ghost use Rattle.store_model.specs.StateFacts.{IsNumberOf};
 ghost use Rattle.store_model.specs.Service.{Present};
 ghost use Rattle.boot_model.specs.MachineFacts.{HoldRegisters, IsModuleNumber};
 ghost use Rattle.pei_action.specs.Needs.{IsArgument};
-ghost use Rattle.pei_action.specs.Taken.{Acts};
+ghost use Rattle.pei_action.specs.Taken.{Acts, ChangedNone};
 
 use crate::address::address;
 use crate::taken::Taken;
@@ -85,6 +85,7 @@ pub fn make_descriptor<M: PeiStore>(
     requires number { IsModuleNumber frame.now.module_number }
     requires state { Present (M.stands_for store.old) (HoldRegisters frame.now.registers) }
     ensures row { Acts M.TAKES_MEMORY (M.stands_for store.old) (M.stands_for store.new) (A.Desc d kind guid.now arg) frame.now result }
+    ensures changes { ChangedNone result }
 {
     let kind = kind_of(kind);
     match argument(frame, kind, guid, arg) {

@@ -1,11 +1,11 @@
 // Actions on pools, and reading memory.
-ghost use Rattle.std.specs.Prelude.{◌≤◌};
+ghost use Rattle.std.specs.Prelude.{◌≤◌, Ok};
 ghost use Rattle.act_code.specs.declared.action.Action.TheVariants as A;
 ghost use Rattle.store_model.specs.Service.{Present};
 ghost use Rattle.store_model.specs.StoreCall.{Anything};
 ghost use Rattle.boot_model.specs.MachineFacts.{HoldRegisters};
 ghost use Rattle.boot_model.specs.PeiMachine.{Frame};
-ghost use Rattle.pei_action.specs.Taken.{Acts, ActsAlways, Reads};
+ghost use Rattle.pei_action.specs.Taken.{Acts, ActsAlways, ChangedNone, Reads};
 
 use crate::address::address;
 use crate::taken::Taken;
@@ -18,6 +18,7 @@ use store_model::PeiStore;
 pub fn make_pool<M: PeiStore>(store: &mut M, r: u8, size: u32) -> Result<Taken, OutOfMemory>
     requires state { Present (M.stands_for store.old) Anything }
     ensures row { (frame : Frame) → Acts M.TAKES_MEMORY (M.stands_for store.old) (M.stands_for store.new) (A.Pool r size) frame result }
+    ensures changes { ChangedNone result }
 {
     match store.pool(size) {
         Ok(made) => {
@@ -42,6 +43,7 @@ pub fn write_pool<M: PeiStore>(
 ) -> Taken
     requires state { Present (M.stands_for store.old) (HoldRegisters frame.now.registers) }
     ensures row { ActsAlways (M.stands_for store.old) (M.stands_for store.new) (A.Store p offset bytes.now) frame.now result }
+    ensures changes { ChangedNone (Ok result) }
 {
     match pool_in(&frame.registers, p) {
         None => Taken::refusal(CallName::Store, Word::InvalidParameter),
@@ -60,6 +62,7 @@ pub fn read_memory<M: PeiStore>(store: &M, frame: &PeiFrame, v: u8, n: u8) -> Ta
     requires few { n ≤ 64 }
     requires state { Present (M.stands_for store.now) (HoldRegisters frame.now.registers) }
     ensures row { Reads (M.stands_for store.now) (A.Peek v n) frame.now result }
+    ensures changes { ChangedNone (Ok result) }
 {
     let read = peek(store, &frame.registers, v, n);
     Taken::answered(CallName::Peek, read.status, read.extra, Writes::Nothing)

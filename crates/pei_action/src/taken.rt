@@ -3,6 +3,7 @@ ghost use Rattle.std.specs.Prelude.{◌≡◌};
 ghost use Rattle.pei_action.specs.Taken as T;
 
 use crate::descriptors::MOST_DESCRIPTORS;
+use crate::guids::Changes;
 use arrayvec::ArrayVec;
 use boot_model::{CallName, Extra};
 use frames::Writes;
@@ -22,6 +23,8 @@ pub struct Reply {
     pub sweep: Option<Sweep>,
     /// The descriptors of the PPIs that it installed, to be looked at for volumes.
     pub installs: ArrayVec<Desc, MOST_DESCRIPTORS>,
+    /// The GUIDs of the PPIs that it changed: none, where it was refused.
+    pub changes: Changes,
 }
 
 /// What an action of PEI's own did to the store, and what is still to be done in its frame.
@@ -47,6 +50,7 @@ impl Taken {
             writes,
             sweep: None,
             installs: ArrayVec::new(),
+            changes: Changes::none(),
         })
     }
 
@@ -64,13 +68,14 @@ impl Taken {
         Taken::answered(name, status, Extra::Nothing, Writes::Nothing)
     }
 
-    // The answer of a service that has callbacks to visit, and PPIs that it installed.
+    // The answer of a service that has callbacks to visit, PPIs that it installed, and GUIDs that it changed.
     pub(crate) fn swept(
         name: CallName,
         sweep: Sweep,
         installs: ArrayVec<Desc, MOST_DESCRIPTORS>,
+        changes: Changes,
     ) -> Taken
-        ensures { result ≡ T.swept name sweep installs.items }
+        ensures { result ≡ T.swept name sweep installs.items changes }
     {
         Taken::Called(Reply {
             name,
@@ -79,6 +84,7 @@ impl Taken {
             writes: Writes::Nothing,
             sweep: Some(sweep),
             installs,
+            changes,
         })
     }
 

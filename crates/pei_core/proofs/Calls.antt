@@ -1,5 +1,5 @@
 -- The core after a call was answered.
-use Rattle.std.proofs.Common.{◌≡◌, ℕ, List, [], ◌∷◌, ◌++◌, length, drop, refl, sym, ap, ◌∙◌}
+use Rattle.std.proofs.Common.{◌≡◌, ℕ, List, [], ◌∷◌, ◌++◌, length, drop, ◌+◌, ◌-◌, arith, refl, sym, ap, ◌∙◌}
 use Rattle.catalog_model.specs.declared.catalog.Catalog.{Catalog}
 use Rattle.store_model.specs.StoreState.{StoreState}
 use Rattle.store_model.specs.Service.Descriptor.{offsets}
@@ -12,7 +12,8 @@ use Rattle.frames.specs.Frames.{answered}
 use Rattle.frames.specs.Writes.{written}
 use Rattle.pei_action.specs.declared.taken.Reply.{Reply}
 use Rattle.pei_core.specs.declared.core_state.Core.{Core}
-use Rattle.pei_core.specs.Parts.{after_reply}
+use Rattle.pei_core.specs.CoreCall.{last_volumes}
+use Rattle.pei_core.specs.Parts.{reply_goal}
 use Rattle.pei_core.specs.Standing.{IsCoreOf}
 use Rattle.pei_core.proofs.PeimStates.{same_states}
 
@@ -28,12 +29,12 @@ call_lines catalog m reply new = call_line reply ∷ report_lines (new_volumes c
 
 pub replied_core : (m : PeiMachine) (catalog : Catalog) (frame : Frame) (below : List Frame) (reply : Reply) (new : StoreState) (core : Core) (frames : List Frame) (reported : List ℕ)
     → IsCoreOf core m → frames ≡ answered frame (written frame.registers reply.writes) reply.status reply.sweep ∷ below → reported ≡ core.reported ++ new_volumes catalog new core.reported reply
-    → IsCoreOf (record core { frames = frames; reported = reported }) (after_reply catalog m frame below reply new)
+    → IsCoreOf (record core { frames = frames; reported = reported }) (reply_goal catalog m frame below reply new).to
 replied_core m catalog frame below reply new core frames reported of top more = record {
   frames = sym top;
   sweep = of.sweep;
   reported = ap (λ xs. xs ++ new_volumes catalog new xs reply) of.reported ∙ sym more;
-  states = same_states m (after_reply catalog m frame below reply new) core.states refl refl refl of.states;
+  states = same_states m (reply_goal catalog m frame below reply new).to core.states refl refl refl of.states;
   actions = of.actions;
   starts = of.starts;
   running = of.running;
@@ -44,7 +45,14 @@ dropped : (xs ys : List ℕ) → drop (length xs) (xs ++ ys) ≡ ys
 dropped [] ys = refl
 dropped (x ∷ xs) ys = dropped xs ys
 
-pub shown_are : (m : PeiMachine) (catalog : Catalog) (reply : Reply) (new : StoreState) (core : Core) (reported shown : List ℕ) (known : ℕ) → IsCoreOf core m
-    → reported ≡ core.reported ++ new_volumes catalog new core.reported reply → known ≡ length core.reported → shown ≡ drop known reported → shown ≡ new_volumes catalog new m.reported reply
-shown_are m catalog reply new core reported shown known of more count is =
-    is ∙ ap (λ n. drop n reported) count ∙ ap (drop (length core.reported)) more ∙ dropped core.reported (new_volumes catalog new core.reported reply) ∙ sym (ap (λ xs. new_volumes catalog new xs reply) of.reported)
+last_dropped : (before all : List ℕ) (count : ℕ) → length all ≡ length before + count → last_volumes count all ≡ drop (length before) all
+last_dropped before all count e = let left : length all - count ≡ length before = omega (arith, e) in ap (λ n. drop n all) left
+
+pub shown_are : (m : PeiMachine) (catalog : Catalog) (reply : Reply) (new : StoreState) (core : Core) (reported shown : List ℕ) (count : ℕ) → IsCoreOf core m
+    → reported ≡ core.reported ++ new_volumes catalog new core.reported reply → length reported ≡ length core.reported + count → shown ≡ last_volumes count reported → shown ≡ new_volumes catalog new m.reported reply
+shown_are m catalog reply new core reported shown count of more counted is =
+    is ∙ last_dropped core.reported reported count counted ∙ ap (drop (length core.reported)) more ∙ dropped core.reported (new_volumes catalog new core.reported reply) ∙ sym (ap (λ xs. new_volumes catalog new xs reply) of.reported)
+
+-- so many came
+pub came : (m later : PeiMachine) (core : Core) (reported : List ℕ) (count : ℕ) → IsCoreOf core m → later.reported ≡ reported → length reported ≡ length core.reported + count → length later.reported ≡ length m.reported + count
+came m later core reported count of same counted = ap length same ∙ counted ∙ ap (λ xs. length xs + count) (sym of.reported)

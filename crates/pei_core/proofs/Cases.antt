@@ -12,14 +12,12 @@ use Rattle.boot_model.specs.declared.phase_end.PeiEnd.{PeiEnd}
 use Rattle.boot_model.specs.EventGuids.{case_placed, case_taken}
 use Rattle.boot_model.specs.PeiMachine.{Frame, PeiMachine}
 use Rattle.boot_model.specs.PeiStep.{PeiCase, Fires, Acts, Moves, Pops, case_of, first_that_applies, acts, starts, in_case, pei_step}
-use Rattle.pei_action.specs.declared.guids.Changes.{Changes}
-use Rattle.pei_core.specs.declared.event.Again.{Again}
-use Rattle.pei_core.specs.declared.event.Stepped.{Stepped}
+use Rattle.pei_core.specs.declared.event.Event.{Event}
 use Rattle.pei_core.specs.declared.event.Stepped.TheVariants.{Went, Ended}
-use Rattle.pei_core.specs.Parts.{FiresNext}
+use Rattle.pei_core.specs.Parts.{FiresNext, Goal, LedTo}
 use Rattle.pei_core.specs.SecondStarts.{IsAgain}
 use Rattle.pei_core.specs.Steps.{HasStayed, HasStepped, IsCut, IsIdle, StepsTo}
-use Rattle.pei_core.specs.Turn.{PrintedPart}
+use Rattle.pei_core.specs.CoreCall.{PrintedPart}
 use Rattle.boot_trace.specs.Printing.{Texts}
 
 -- the first that applies, by what the store and the frames give
@@ -79,17 +77,19 @@ cons_nil a rest [] e f = cc
 cons_nil a rest (x ∷ xs) e f = cc
 
 -- an event of a case
-pub went : (memory : Bool) (Stands : PeiMachine → Type 0) (catalog : Catalog) (fuel : ℕ) (m later : PeiMachine) (case : PeiCase) (changes : Changes) (again : Again) (known : ℕ) (answer : Stepped) (t : Texts)
-    → case_of catalog m ≡ case → in_case catalog fuel m case ≡ later → (IsIdle m → ⊥)
-    → changes.there.items ≡ case_placed catalog fuel m case → changes.gone ≡ case_taken catalog fuel m case → IsAgain m later again → known ≡ length m.reported
-    → answer ≡ Went (record { there = changes.there; gone = changes.gone; again = again; known = known })
-    → HasStepped Stands m later t → StepsTo memory Stands catalog fuel m t (Ok answer)
-went memory Stands catalog fuel m later case changes again known answer t e is busy there gone lets count answered h =
-    let to : pei_step catalog fuel m ≡ later = ap (in_case catalog fuel m) e ∙ is in
-    subst (λ x. StepsTo memory Stands catalog fuel m t (Ok x)) (sym answered) (
+pub went : (memory : Bool) (Stands : PeiMachine → Type 0) (catalog : Catalog) (fuel : ℕ) (m : PeiMachine) (case : PeiCase) (goal : Goal) (event : Event) (t : Texts)
+    → case_of catalog m ≡ case → in_case catalog fuel m case ≡ goal.to → case_placed catalog fuel m case ≡ goal.there → case_taken catalog fuel m case ≡ goal.gone → (IsIdle m → ⊥)
+    → LedTo Stands m goal t event → StepsTo memory Stands catalog fuel m t (Ok (Went event))
+went memory Stands catalog fuel m case goal event t e is there gone busy h =
+    let to : goal.to ≡ pei_step catalog fuel m = sym (ap (in_case catalog fuel m) e ∙ is) in (
       busy,
-      record { there = there ∙ ap (case_placed catalog fuel m) (sym e); gone = gone ∙ ap (case_taken catalog fuel m) (sym e); again = subst (λ x. IsAgain m x again) (sym to) lets; known = count },
-      subst (λ x. HasStepped Stands m x t) (sym to) h,
+      record {
+        there = h.there ∙ sym (ap (case_placed catalog fuel m) e ∙ there);
+        gone = h.gone ∙ sym (ap (case_taken catalog fuel m) e ∙ gone);
+        again = subst (λ x. IsAgain m x event.again) to h.again;
+        volumes = sym (ap (λ (x : PeiMachine). length x.reported) to) ∙ h.volumes;
+      },
+      subst (λ x. HasStepped Stands m x t) to h.stepped,
     )
 
 -- a part of its lines

@@ -1,6 +1,6 @@
 -- What a part of a step leaves, from what its pieces put.
-use Rattle.std.proofs.Common.{◌≡◌, ℕ, Bool, true, List, [], ◌∷◌, ◌++◌, refl, sym, ap, ◌∙◌, subst, append_assoc, Option, Result, Ok, Err}
-use Rattle.std.specs.Result.{IsErr, IsErrAnd}
+use Rattle.std.proofs.Common.{◌≡◌, ℕ, Bool, true, List, [], ◌∷◌, ◌++◌, ◌+◌, length, arith, refl, sym, ap, ◌∙◌, subst, append_assoc, Option, None, Result, Ok, Err}
+use Rattle.std.specs.Result.{IsErrAnd}
 use Rattle.std.specs.Io.KnownBytes.{Appends}
 use Rattle.std.proofs.lemmas.List.{append-nil}
 use Rattle.boot_io.specs.declared.halt.Halt.{Halt}
@@ -14,14 +14,14 @@ use Rattle.boot_model.specs.declared.line.Line.{Line}
 use Rattle.boot_model.specs.PeiMachine.{PeiMachine}
 use Rattle.boot_model.specs.Text.{line_text, text_of}
 use Rattle.boot_model.proofs.Texts.{text_of-append}
-use Rattle.pei_action.specs.declared.guids.Changes.{Changes}
-use Rattle.pei_core.specs.declared.event.Stepped.{Stepped}
 use Rattle.pei_core.specs.declared.event.Again.{Again}
-use Rattle.pei_core.specs.Parts.{ActsTo, Goal, GoesTo, Reaches}
-use Rattle.pei_core.specs.SecondStarts.{IsAgain}
-use Rattle.pei_core.specs.Steps.{HasStepped, IsIdle, StartsTo, StepsTo}
+use Rattle.pei_core.specs.declared.event.Event.{Event}
+use Rattle.pei_core.specs.declared.event.Stepped.{Stepped}
+use Rattle.pei_core.specs.Parts.{Goal, LeadsThere, LedTo}
+use Rattle.pei_core.specs.SecondStarts.{IsAgain, event_letting}
+use Rattle.pei_core.specs.Steps.{HasStepped, IsIdle, StartedTo, StepsTo}
 use Rattle.boot_model.specs.PeiStep.{pei_step}
-use Rattle.pei_core.specs.Turn.{Printed, PrintedPart}
+use Rattle.pei_core.specs.CoreCall.{Printed, PrintedPart}
 use Rattle.boot_trace.specs.Printing.{Texts}
 
 abbrev pub texts : Option (List ℕ) → Option (List ℕ) → Texts
@@ -85,47 +85,53 @@ is_sink (Err halt) h = ap Err h
 pub steps_fail : (memory : Bool) (Stands : PeiMachine → Type 0) (catalog : Catalog) (fuel : ℕ) (m : PeiMachine) (t : Texts) (r : Result Stepped Halt) → IsErrAnd r (λ halt. halt ≡ H.Sink) → (IsIdle m → ⊥) → PrintedPart m (pei_step catalog fuel m) t → StepsTo memory Stands catalog fuel m t r
 steps_fail memory Stands catalog fuel m t r h busy part = subst (λ x. StepsTo memory Stands catalog fuel m t x) (sym (is_sink r h)) (busy, part)
 
-pub goes_fail : (memory : Bool) (Stands : PeiMachine → Type 0) (m : PeiMachine) (goal : Goal) (t : Texts) (r : Result Changes Halt) → IsErrAnd r (λ halt. halt ≡ H.Sink) → PrintedPart m goal.to t → GoesTo memory Stands m goal t r
-goes_fail memory Stands m goal t r h part = subst (λ x. GoesTo memory Stands m goal t x) (sym (is_sink r h)) part
+pub leads_fail : (memory : Bool) (Stands : PeiMachine → Type 0) (m : PeiMachine) (goal : Goal) (t : Texts) (r : Result Event Halt) → IsErrAnd r (λ halt. halt ≡ H.Sink) → PrintedPart m goal.to t → LeadsThere memory Stands m goal t r
+leads_fail memory Stands m goal t r h part = subst (λ x. LeadsThere memory Stands m goal t x) (sym (is_sink r h)) part
 
 -- memory that was wanting
-pub goes_want : (memory : Bool) (Stands : PeiMachine → Type 0) (m : PeiMachine) (goal : Goal) (t : Texts) (r : Result Changes Halt) → IsErrAnd r (λ halt. halt ≡ H.Memory) → memory ≡ true → PrintedPart m goal.to t → GoesTo memory Stands m goal t r
-goes_want memory Stands m goal t r h takes part = subst (λ x. GoesTo memory Stands m goal t x) (sym (same_err H.Memory r h)) (takes, part)
+pub leads_want : (memory : Bool) (Stands : PeiMachine → Type 0) (m : PeiMachine) (goal : Goal) (t : Texts) (r : Result Event Halt) → IsErrAnd r (λ halt. halt ≡ H.Memory) → memory ≡ true → PrintedPart m goal.to t → LeadsThere memory Stands m goal t r
+leads_want memory Stands m goal t r h takes part = subst (λ x. LeadsThere memory Stands m goal t x) (sym (same_err H.Memory r h)) (takes, part)
 
--- the same of an action
-pub acts_fail : (memory : Bool) (Stands : PeiMachine → Type 0) (m : PeiMachine) (goal : Goal) (t : Texts) (r : Result (Changes × Again) Halt) → IsErrAnd r (λ halt. halt ≡ H.Sink) → PrintedPart m goal.to t → ActsTo memory Stands m goal t r
-acts_fail memory Stands m goal t r h part = subst (λ x. ActsTo memory Stands m goal t x) (sym (is_sink r h)) part
+pub none_more : (n : ℕ) → n ≡ n + 0
+none_more n = omega arith
 
-pub acts_want : (memory : Bool) (Stands : PeiMachine → Type 0) (m : PeiMachine) (goal : Goal) (t : Texts) (r : Result (Changes × Again) Halt) → IsErrAnd r (λ halt. halt ≡ H.Memory) → memory ≡ true → PrintedPart m goal.to t → ActsTo memory Stands m goal t r
-acts_want memory Stands m goal t r h takes part = subst (λ x. ActsTo memory Stands m goal t x) (sym (same_err H.Memory r h)) (takes, part)
+-- an event that changed no PPI and reported no volume
+abbrev pub quiet_goal : PeiMachine → Goal
+quiet_goal later = record { to = later; there = []; gone = None }
 
-pub acts_halt : (halt : Halt) (memory : Bool) (Stands : PeiMachine → Type 0) (m : PeiMachine) (goal : Goal) (t : Texts) → ActsTo memory Stands m goal t (Err halt) → GoesTo memory Stands m goal t (Err halt)
-acts_halt H.Sink memory Stands m goal t h = h
-acts_halt H.Memory memory Stands m goal t h = h
-
-pub again_as : (m : PeiMachine) (goal other : Goal) (again : Again) → goal ≡ other → IsAgain m other.to again → IsAgain m goal.to again
-again_as m goal other again e h = subst (λ (x : Goal). IsAgain m x.to again) (sym e) h
-
-pub starts_fail : (Stands : PeiMachine → Type 0) (m later : PeiMachine) (t : Texts) (r : Result (Unit {0}) SinkFault) → IsErr r → PrintedPart m later t → StartsTo Stands m later t r
-starts_fail Stands m later t (Ok done) h part = cc
-starts_fail Stands m later t (Err fault) h part = part
+pub led_quietly : (Stands : PeiMachine → Type 0) (m later : PeiMachine) (t : Texts) (again : Again) (event : Event) → event ≡ event_letting again → later.reported ≡ m.reported → IsAgain m later again → HasStepped Stands m later t
+    → LedTo Stands m (quiet_goal later) t event
+led_quietly Stands m later t again event is same lets h =
+    subst (λ x. LedTo Stands m (quiet_goal later) t x) (sym is) (record { there = refl; gone = refl; again = lets; volumes = ap length same ∙ none_more (length m.reported); stepped = h })
 
 -- lines that were put, or a part of them, by the sink's answer
-pub puts_to : (put : Result (Unit {0}) SinkFault) (Stands : PeiMachine → Type 0) (m later : PeiMachine) (told : List Line) (old new : Option (List ℕ)) → later.lines ≡ m.lines ++ told → Sinks.Puts put old new (text_of told) → Stands later → StartsTo Stands m later (texts old new) put
+pub puts_to : (put : Result (Unit {0}) SinkFault) (Stands : PeiMachine → Type 0) (m later : PeiMachine) (told : List Line) (old new : Option (List ℕ)) → later.lines ≡ m.lines ++ told → Sinks.Puts put old new (text_of told) → Stands later → StartedTo Stands m later (texts old new) put
 puts_to (Ok done) Stands m later told old new lines puts machine = stepped Stands m later told old new lines puts machine
 puts_to (Err fault) Stands m later told old new lines puts machine = record { told = told; lines = lines; text = puts }
 
 -- a part that failed behind lines that were put
 pub goes_on : (halt : Halt) (memory : Bool) (Standing Stands : PeiMachine → Type 0) (catalog : Catalog) (fuel : ℕ) (m mid : PeiMachine) (goal : Goal) (told : List Line) (old now new : Option (List ℕ)) (r : Result Stepped Halt)
-    → r ≡ Err halt → (IsIdle m → ⊥) → pei_step catalog fuel m ≡ goal.to → mid.lines ≡ m.lines ++ told → Appends old now (text_of told) → GoesTo memory Standing mid goal (texts now new) (Err halt) → StepsTo memory Stands catalog fuel m (texts old new) r
+    → r ≡ Err halt → (IsIdle m → ⊥) → pei_step catalog fuel m ≡ goal.to → mid.lines ≡ m.lines ++ told → Appends old now (text_of told) → LeadsThere memory Standing mid goal (texts now new) (Err halt) → StepsTo memory Stands catalog fuel m (texts old new) r
 goes_on H.Sink memory Standing Stands catalog fuel m mid goal told old now new r e busy to lines f part =
     subst (λ x. StepsTo memory Stands catalog fuel m (texts old new) x) (sym e) (busy, subst (λ x. PrintedPart m x (texts old new)) (sym to) (part_after m mid goal.to told old now new lines f part))
 goes_on H.Memory memory Standing Stands catalog fuel m mid goal told old now new r e busy to lines f part =
     subst (λ x. StepsTo memory Stands catalog fuel m (texts old new) x) (sym e) (part.0, subst (λ x. PrintedPart m x (texts old new)) (sym to) (part_after m mid goal.to told old now new lines f part.1))
 
 -- an event that leads elsewhere only in name
-pub reaches_as : (Stands : PeiMachine → Type 0) (m : PeiMachine) (goal other : Goal) (t : Texts) (changes : Changes) → goal ≡ other → Reaches Stands m other t changes → Reaches Stands m goal t changes
-reaches_as Stands m goal other t changes e h = subst (λ x. Reaches Stands m x t changes) (sym e) h
+pub led_as : (Stands : PeiMachine → Type 0) (m : PeiMachine) (goal other : Goal) (t : Texts) (event : Event) → goal ≡ other → LedTo Stands m other t event → LedTo Stands m goal t event
+led_as Stands m goal other t event e h = subst (λ x. LedTo Stands m x t event) (sym e) h
 
 pub part_as : (m : PeiMachine) (goal other : Goal) (t : Texts) → goal ≡ other → PrintedPart m other.to t → PrintedPart m goal.to t
 part_as m goal other t e h = subst (λ (x : Goal). PrintedPart m x.to t) (sym e) h
+
+pub leads_as : (r : Result Event Halt) (memory : Bool) (Stands : PeiMachine → Type 0) (m : PeiMachine) (goal other : Goal) (t : Texts) → goal.to ≡ other.to → goal.there ≡ other.there → goal.gone ≡ other.gone
+    → LeadsThere memory Stands m goal t r → LeadsThere memory Stands m other t r
+leads_as (Ok event) memory Stands m goal other t to there gone h = record {
+  there = h.there ∙ there;
+  gone = h.gone ∙ gone;
+  again = subst (λ x. IsAgain m x event.again) to h.again;
+  volumes = sym (ap (λ (x : PeiMachine). length x.reported) to) ∙ h.volumes;
+  stepped = subst (λ x. HasStepped Stands m x t) to h.stepped;
+}
+leads_as (Err H.Sink) memory Stands m goal other t to there gone h = subst (λ x. PrintedPart m x t) to h
+leads_as (Err H.Memory) memory Stands m goal other t to there gone h = (h.0, subst (λ x. PrintedPart m x t) to h.1)

@@ -17,11 +17,11 @@ use Rattle.boot_laws.proofs.StoreMoved.{KeepsMoved, core_moved}
 use Rattle.store_model.specs.Migration.{migration}
 use Rattle.store_model.specs.Service.Install.{core_install}
 use Rattle.pei_core.specs.declared.core_state.Core.{Core}
-use Rattle.pei_core.specs.declared.event.Again.TheVariants.{All}
+use Rattle.pei_core.specs.declared.event.Again.TheVariants.{All, Nobody}
 use Rattle.pei_core.specs.SecondStarts.{IsAgain}
 use Rattle.pei_core.specs.Standing.{IsCoreOf}
 use Rattle.pei_core.proofs.PeimStates.{same_states}
-use Rattle.pei_core.proofs.SecondStarts.{all_again}
+use Rattle.pei_core.proofs.SecondStarts.{all_again, nobody}
 
 -- the machine behind a call that installed the PPI, and behind one that was refused
 abbrev pub behind : PeiMachine → Sweep → StoreState → PeiMachine
@@ -97,6 +97,21 @@ moved_core m new core of = record {
 called_moved : (m : PeiMachine) (service : Service Sweep) → KeepsMoved m.store service → (core_called m service).store.moved ≡ m.store.moved
 called_moved m (Ok pair) k = k
 called_moved m (Err fault) k = refl
+
+pub called_reported : (m : PeiMachine) (service : Service Sweep) → (core_called m service).reported ≡ m.reported
+called_reported m (Ok pair) = refl
+called_reported m (Err fault) = refl
+
+called_shadows : (m : PeiMachine) (service : Service Sweep) → (core_called m service).shadows ≡ m.shadows
+called_shadows m (Ok pair) = refl
+called_shadows m (Err fault) = refl
+
+called_again : (m : PeiMachine) (service : Service Sweep) → (core_called m service).again ≡ m.again
+called_again m (Ok pair) = refl
+called_again m (Err fault) = refl
+
+pub called_quiet : (m : PeiMachine) (service : Service Sweep) → KeepsMoved m.store service → IsAgain m (core_called m service) Nobody
+called_quiet m service keeps = nobody m (core_called m service) (called_shadows m service) (called_again m service) (called_moved m service keeps)
 
 pub moved_lets : (m : PeiMachine) (new : StoreState) → migration m.store ≡ Some new → IsAgain m (moved_to m new) All
 moved_lets m new is =

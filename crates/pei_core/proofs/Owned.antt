@@ -26,21 +26,14 @@ use Rattle.boot_model.specs.PeiMachine.{Frame, PeiMachine}
 use Rattle.boot_model.specs.PeiStep.{after_effect, past, shadowed}
 use Rattle.boot_model.specs.declared.line.Line.{Line}
 use Rattle.frames.specs.Frames.{answered, top_of}
+use Rattle.pei_action.specs.Guids.{AreChangesOf}
+use Rattle.pei_action.specs.declared.guids.Changes.{Changes}
 use Rattle.pei_action.specs.Taken.{reply_in}
 use Rattle.pei_action.specs.declared.taken.Reply.{Reply}
 use Rattle.pei_core.specs.declared.core_state.Core.{Core}
-use Rattle.pei_core.specs.Parts.{Goal, action_goal}
 use Rattle.pei_core.specs.Standing.{IsCoreOf}
 use Rattle.pei_core.specs.Started.{HasStarted}
 use Rattle.pei_core.proofs.PeimStates.{same_states}
-
--- where an effect of the action leads
-abbrev pub goal_by : Catalog → PeiMachine → Frame → List Frame → Action → Effect → Goal
-goal_by catalog m frame below action has = record {
-  to = after_effect catalog m frame below has;
-  there = if is_called has then map (guid_at m.store) (placed frame action) else [];
-  gone = if is_called has then option_map (guid_at m.store) (taken_place frame action) else None;
-}
 
 -- the frame that was found is the top one
 same_some : {A : Type 0} (a b : A) → Some a ≡ Some b → a ≡ b
@@ -121,6 +114,10 @@ pub top_started : (started : List ℕ) (found top : Frame) (below frames : List 
 top_started started found top below frames same is each = subst (λ f. HasStarted started f.module_number) (sym same) (subst (λ xs. Each (λ frame. HasStarted started frame.module_number) xs) is each).0
 
 -- where the action leads, by what it does
-pub goal_is : (catalog : Catalog) (m : PeiMachine) (found top : Frame) (below : List Frame) (action : Action) (has : Effect) → found ≡ top → effect m.store found action ≡ has
-    → action_goal catalog m top below action ≡ goal_by catalog m top below action has
-goal_is catalog m found top below action has same is = ap (goal_by catalog m top below action) (ap (λ f. effect m.store f action) (sym same) ∙ is)
+pub leads_by : (catalog : Catalog) (m : PeiMachine) (found top : Frame) (below : List Frame) (action : Action) (has : Effect) → found ≡ top → effect m.store found action ≡ has
+    → after_effect catalog m top below has ≡ after_effect catalog m top below (effect m.store top action)
+leads_by catalog m found top below action has same is = ap (after_effect catalog m top below) (sym (ap (λ f. effect m.store f action) (sym same) ∙ is))
+
+-- and the GUIDs that it changes
+pub changed_of_top : (s : StoreState) (found top : Frame) (action : Action) (changes : Changes) → found ≡ top → AreChangesOf s found action changes → AreChangesOf s top action changes
+changed_of_top s found top action changes same h = subst (λ f. AreChangesOf s f action changes) same h

@@ -6,8 +6,10 @@ use Rattle.boot_model.specs.Eligible.{may_start_again}
 use Rattle.boot_model.specs.PeiMachine.{PeiMachine}
 use Rattle.boot_model.specs.declared.peim_state.PeimState.{PeimState}
 use Rattle.boot_model.specs.declared.peim_state.PeimState.TheVariants.{NotDispatched, Dispatched, RegisteredForShadow, Done}
+use Rattle.pei_action.specs.Guids.{no_changes}
 use Rattle.pei_core.specs.declared.event.Again.{Again}
 use Rattle.pei_core.specs.declared.event.Again.TheVariants.{Nobody, One, All}
+use Rattle.pei_core.specs.declared.event.Event.{Event}
 
 -- whether a part registered for shadow and has not started again
 abbrev pub awaits_second : PeiMachine → ℕ → Bool
@@ -30,3 +32,7 @@ registered_again Dispatched true number = One number
 registered_again Dispatched false number = Nobody
 registered_again RegisteredForShadow moved number = Nobody
 registered_again Done moved number = Nobody
+
+-- an event that changes no PPI and reports no volume, and lets these parts start again
+abbrev pub event_letting : Again → Event
+event_letting again = record { changes = no_changes; again = again; volumes = 0 }

@@ -1,6 +1,6 @@
 -- What a step of the core answers and leaves, and what a start does.
 -- Own.
-use Rattle.std.specs.Prelude.{◌≡◌, ℕ, Bool, true, List, [], Some, None, Option, Result, Ok, Err, length, ⊤}
+use Rattle.std.specs.Prelude.{◌≡◌, ℕ, Bool, true, [], Some, None, Result, Ok, Err, length, ◌+◌, ⊤}
 use Rattle.std.specs.Io.KnownBytes.{Appends}
 use Rattle.std.specs.Option.{option_and_then}
 use Rattle.boot_io.specs.declared.halt.Halt.{Halt}
@@ -24,10 +24,9 @@ use Rattle.boot_model.specs.PeiStep.{open_sweep, pei_step, started}
 use Rattle.pei_core.specs.declared.event.Event.{Event}
 use Rattle.pei_core.specs.declared.event.Stepped.{Stepped}
 use Rattle.pei_core.specs.declared.event.Stepped.TheVariants.{Went, Idle, Ended}
-use Rattle.pei_core.specs.declared.pei.Pei.{Pei}
 use Rattle.pei_core.specs.SecondStarts.{IsAgain}
 use Rattle.pei_core.specs.Standing.{IsFor, StandsFor}
-use Rattle.pei_core.specs.Turn.{Printed, PrintedPart}
+use Rattle.pei_core.specs.CoreCall.{CoreCall, Printed, PrintedPart}
 use Rattle.boot_trace.specs.Printing.{Texts}
 
 -- no script runs, no pair of the open sweep fires, no move is due and no pair is queued: a start or the end is left
@@ -37,12 +36,12 @@ pub record IsIdle (m : PeiMachine) : Type 0 where
   pub moves : migration m.store ≡ None
   pub pops : queue_pop m.store ≡ None
 
--- what the event from a machine did: the GUIDs that it put in, the one that it took away, the parts that it lets start again, and how many volumes were reported before it
+-- what the event from a machine did: the GUIDs that it put in, the one that it took away, the parts that it lets start again, and how many volumes it reported
 pub record IsEvent (catalog : Catalog) (fuel : ℕ) (m : PeiMachine) (event : Event) : Type 0 where
-  pub there : event.there.items ≡ pei_placed catalog fuel m
-  pub gone : event.gone ≡ pei_taken catalog fuel m
+  pub there : event.changes.there.items ≡ pei_placed catalog fuel m
+  pub gone : event.changes.gone ≡ pei_taken catalog fuel m
   pub again : IsAgain m (pei_step catalog fuel m) event.again
-  pub known : event.known ≡ length m.reported
+  pub volumes : length (pei_step catalog fuel m).reported ≡ length m.reported + event.volumes
 
 -- the machine is the later one now, and its lines were put
 pub record HasStepped (Stands : PeiMachine → Type 0) (m later : PeiMachine) (t : Texts) : Type 0 where
@@ -77,22 +76,22 @@ StepsTo memory Stands catalog fuel m t (Err H.Sink) = (IsIdle m → ⊥) × Prin
 StepsTo memory Stands catalog fuel m t (Err H.Memory) = (memory ≡ true) × PrintedPart m (pei_step catalog fuel m) t
 
 -- the same from each machine that the core over its store stands for
-abbrev pub Steps : {M : Type 0} → Bool → (M → StoreState → Type 0) → Catalog → Pei M → Pei M → Option (List ℕ) → Option (List ℕ) → Result Stepped Halt → Type 0
-Steps memory stands catalog pei later old new result =
-    (m : PeiMachine) (fuel : ℕ) → IsFor catalog fuel pei → StandsFor stands pei m
-    → StepsTo memory (StandsFor stands later) catalog fuel m (record { old = old; new = new }) result
+abbrev pub Steps : {M : Type 0} → Bool → (M → StoreState → Type 0) → Catalog → CoreCall M → Result Stepped Halt → Type 0
+Steps memory stands catalog call result =
+    (m : PeiMachine) (fuel : ℕ) → IsFor catalog fuel call.pei → StandsFor stands call.pei m
+    → StepsTo memory (StandsFor stands call.later) catalog fuel m call.texts result
 
--- a start, by its answer
-abbrev pub StartsTo : (PeiMachine → Type 0) → PeiMachine → PeiMachine → Texts → Result (Unit {0}) SinkFault → Type 0
-StartsTo Stands m later t (Ok _) = HasStepped Stands m later t
-StartsTo Stands m later t (Err _) = PrintedPart m later t
+-- the start of a module, by its answer
+abbrev pub StartedTo : (PeiMachine → Type 0) → PeiMachine → PeiMachine → Texts → Result (Unit {0}) SinkFault → Type 0
+StartedTo Stands m later t (Ok _) = HasStepped Stands m later t
+StartedTo Stands m later t (Err _) = PrintedPart m later t
 
 -- the licence is that of the module's start from here
 abbrev pub IsLicenceAt : Catalog → PeiMachine → ℕ → Licence → Type 0
 IsLicenceAt catalog m number licence = (part : Part) → part_at Phase.Pei catalog number ≡ Some part → licence ≡ licence_at m number part
 
 -- the same from each machine that the core over its store stands for and in which the licence is the module's
-abbrev pub Starts : {M : Type 0} → (M → StoreState → Type 0) → Catalog → Pei M → ℕ → Licence → Pei M → Option (List ℕ) → Option (List ℕ) → Result (Unit {0}) SinkFault → Type 0
-Starts stands catalog pei number licence later old new result =
-    (m : PeiMachine) → StandsFor stands pei m → IsLicenceAt catalog m number licence
-    → StartsTo (StandsFor stands later) m (started catalog m number) (record { old = old; new = new }) result
+abbrev pub StartsModule : {M : Type 0} → (M → StoreState → Type 0) → Catalog → ℕ → Licence → CoreCall M → Result (Unit {0}) SinkFault → Type 0
+StartsModule stands catalog number licence call result =
+    (m : PeiMachine) → StandsFor stands call.pei m → IsLicenceAt catalog m number licence
+    → StartedTo (StandsFor stands call.later) m (started catalog m number) call.texts result

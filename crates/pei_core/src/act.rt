@@ -1,7 +1,6 @@
 // The next action of the top frame.
 ghost use Rattle.std.specs.Prelude.{◌<◌, ℕ, length};
 ghost use Rattle.boot_io.specs.Halted.{HaltsAfter};
-ghost use Rattle.boot_io.specs.Sink.{SinkFaultsAfter};
 ghost use Rattle.boot_model.specs.PeiMachine.{PeiMachine};
 ghost use Rattle.catalog_model.specs.WellFormed.{IsWellFormed};
 ghost use Rattle.catalog_model.specs.declared.catalog.Catalog.{Catalog as OfCatalog};
@@ -10,31 +9,36 @@ ghost use Rattle.store_model.specs.StateFacts.{IsDesc};
 ghost use Rattle.store_model.specs.Service.{Present};
 ghost use Rattle.volume_list.specs.Known.{AreKnown};
 ghost use Rattle.frames.specs.Needs.{IsWithin};
-ghost use Rattle.pei_core.specs.Parts.{Acts, Registers, Replies, RunsScript, StepsScript, TakesOwn};
+ghost use Rattle.pei_core.specs.Parts.{AnswersCall, RegistersForShadow, RunsScript, StepsIn, TakesAction, TakesOwn};
 ghost use Rattle.pei_core.specs.Standing.{IsFor, KeepsFor, StandsFor, last_start};
+ghost use Rattle.store_model.specs.StoreCall.{Anything};
 
-use crate::event::{Again, Stepped};
+use crate::event::{Again, Event, Stepped};
 use crate::pei::Pei;
-use crate::reports::{print, put_reports};
+use crate::reports::{last_volumes, print, put_reports, report};
 use act_code::Action;
-use boot_io::{Halt, Sink, SinkFault};
+use boot_io::{Halt, Sink};
 use boot_laws::replies_are_sound;
 use boot_model::{CallName, Extra, Line, PeiEnd, state_of};
 use catalog_model::Catalog;
 use frames::{Acted, Writes, act, effects_are_alike};
-use pei_action::{Changes, Reply, Taken, changes_of, take_own};
+use pei_action::{Reply, Taken, take_own};
 use pi_base::Phase;
 use store_model::PeiStore;
 
 impl<M: PeiStore + Drop> Pei<M> {
-    // The module of the top frame registers for shadow.
-    fn shadow<S: Sink>(&mut self, number: u32, sink: &mut S) -> Result<(), SinkFault>
+    // The module of the top frame registers for shadow. Where memory has moved, it may start again.
+    fn shadow<S: Sink>(&mut self, number: u32, sink: &mut S) -> Result<Event, Halt>
         requires within { IsWithin self.old.core.frames }
         requires here { number < length self.old.core.states }
-        ensures row { Registers M.stands_for self.old number self.new (S.text sink.old) (S.text sink.new) result }
+        requires state { Present (M.stands_for self.old.store) Anything }
+        ensures row { RegistersForShadow M.TAKES_MEMORY M.stands_for number
+            (record { pei = self.old; later = self.new; texts = record { old = S.text sink.old; new = S.text sink.new } }) result }
         ensures kept { (catalog : OfCatalog) → KeepsFor catalog self.old self.new (last_start self.old) }
-        ensures faults { SinkFaultsAfter result (S.faults sink.old) (S.faults sink.new) }
+        ensures faults { HaltsAfter result (S.faults sink.old) (S.faults sink.new) }
     {
+        let state = state_of(self.core.states.as_slice(), number);
+        let again = Again::by_registering(state, self.store.moved(), number);
         let status = self.core.register(number);
         self.core.frames.answer(&Writes::Nothing, status, None);
         print(
@@ -44,7 +48,8 @@ impl<M: PeiStore + Drop> Pei<M> {
                 status,
                 extra: Extra::Nothing,
             },
-        )
+        )?;
+        Ok(Event::letting(again))
     }
 
     // A call of the top frame was answered: its line, and a line for each volume that it reports.
@@ -53,16 +58,16 @@ impl<M: PeiStore + Drop> Pei<M> {
         catalog: &Catalog,
         reply: Reply,
         sink: &mut S,
-    ) -> Result<(), SinkFault>
+    ) -> Result<Event, Halt>
         requires catalog { IsWellFormed catalog.now }
         requires within { IsWithin self.old.core.frames }
         requires known { AreKnown catalog.now self.old.core.reported }
         requires state { Present (M.stands_for self.old.store) (λ s. Each (IsDesc s) reply.installs.items) }
-        ensures row { Replies M.stands_for catalog.now self.old reply self.new (S.text sink.old) (S.text sink.new) result }
+        ensures row { AnswersCall M.TAKES_MEMORY M.stands_for catalog.now reply
+            (record { pei = self.old; later = self.new; texts = record { old = S.text sink.old; new = S.text sink.new } }) result }
         ensures kept { KeepsFor catalog.now self.old self.new (last_start self.old) }
-        ensures faults { SinkFaultsAfter result (S.faults sink.old) (S.faults sink.new) }
+        ensures faults { HaltsAfter result (S.faults sink.old) (S.faults sink.new) }
     {
-        let known = self.core.reported.as_slice().len();
         let Reply {
             name,
             status,
@@ -70,11 +75,15 @@ impl<M: PeiStore + Drop> Pei<M> {
             writes,
             sweep,
             installs,
+            changes,
         } = reply;
         self.core.frames.answer(&writes, status, sweep);
-        self.core
-            .reported
-            .report(catalog, &self.store, installs.as_slice());
+        let volumes = report(
+            &mut self.core.reported,
+            catalog,
+            &self.store,
+            installs.as_slice(),
+        );
         print(
             sink,
             Line::Call {
@@ -83,20 +92,26 @@ impl<M: PeiStore + Drop> Pei<M> {
                 extra,
             },
         )?;
-        put_reports(sink, self.core.reported.as_slice().split_at(known).1)
+        put_reports(sink, last_volumes(&self.core.reported, volumes))?;
+        Ok(Event {
+            changes,
+            again: Again::Nobody,
+            volumes,
+        })
     }
 
-    // The top frame takes an action of PEI's own, which was counted. The GUIDs that it changes, and the part that it lets start again.
+    // The top frame takes an action of PEI's own, which was counted.
     fn act_own<S: Sink>(
         &mut self,
         catalog: &Catalog,
         action: &Action,
         sink: &mut S,
-    ) -> Result<(Changes, Again), Halt>
+    ) -> Result<Event, Halt>
         requires catalog { IsWellFormed catalog.now }
         requires made { (fuel : ℕ) × IsFor catalog.now fuel self.old }
         requires state { (m : PeiMachine) × StandsFor M.stands_for self.old m × TakesOwn catalog.now action.now m }
-        ensures row { Acts M.TAKES_MEMORY M.stands_for catalog.now action.now self.old self.new (S.text sink.old) (S.text sink.new) result }
+        ensures row { TakesAction M.TAKES_MEMORY M.stands_for catalog.now action.now
+            (record { pei = self.old; later = self.new; texts = record { old = S.text sink.old; new = S.text sink.new } }) result }
         ensures kept { KeepsFor catalog.now self.old self.new (last_start self.old) }
         ensures faults { HaltsAfter result (S.faults sink.old) (S.faults sink.new) }
     {
@@ -105,23 +120,13 @@ impl<M: PeiStore + Drop> Pei<M> {
             unreachable!()
         };
         let number = frame.module_number;
-        let changes = changes_of(&self.store, frame, action);
         match take_own(&mut self.store, frame, action)? {
             Taken::Wrote { status, writes } => {
                 self.core.frames.answer(&writes, status, None);
-                Ok((Changes::none(), Again::Nobody))
+                Ok(Event::quiet())
             }
-            Taken::Called(reply) => {
-                let status = reply.status;
-                self.answer(catalog, reply, sink)?;
-                Ok((changes.of_call(status), Again::Nobody))
-            }
-            Taken::Shadowed => {
-                let state = state_of(self.core.states.as_slice(), number);
-                let again = Again::by_registering(state, self.store.moved(), number);
-                self.shadow(number, sink)?;
-                Ok((Changes::none(), again))
-            }
+            Taken::Called(reply) => self.answer(catalog, reply, sink),
+            Taken::Shadowed => self.shadow(number, sink),
         }
     }
 
@@ -130,12 +135,12 @@ impl<M: PeiStore + Drop> Pei<M> {
         requires catalog { IsWellFormed catalog.now }
         requires made { (fuel : ℕ) × IsFor catalog.now fuel self.old }
         requires state { (m : PeiMachine) × StandsFor M.stands_for self.old m × RunsScript m }
-        ensures row { StepsScript M.TAKES_MEMORY M.stands_for catalog.now self.old self.new (S.text sink.old) (S.text sink.new) result }
+        ensures row { StepsIn RunsScript M.TAKES_MEMORY M.stands_for catalog.now
+            (record { pei = self.old; later = self.new; texts = record { old = S.text sink.old; new = S.text sink.new } }) result }
         ensures kept { KeepsFor catalog.now self.old self.new (last_start self.old) }
         ensures faults { HaltsAfter result (S.faults sink.old) (S.faults sink.new) }
     {
         effects_are_alike();
-        let known = self.core.reported.as_slice().len();
         match act(
             &mut self.core.frames,
             &mut self.core.fuel,
@@ -143,14 +148,14 @@ impl<M: PeiStore + Drop> Pei<M> {
             Phase::Pei,
         ) {
             Acted::Spent => Ok(Stepped::Ended(PeiEnd::Spent)),
-            Acted::Silent => Ok(Stepped::by(Changes::none(), Again::Nobody, known)),
+            Acted::Silent => Ok(Stepped::Went(Event::quiet())),
             Acted::Prints(line) => {
                 print(sink, line)?;
-                Ok(Stepped::by(Changes::none(), Again::Nobody, known))
+                Ok(Stepped::Went(Event::quiet()))
             }
             Acted::Own(action) => {
-                let (changes, again) = self.act_own(catalog, action, sink)?;
-                Ok(Stepped::by(changes, again, known))
+                let event = self.act_own(catalog, action, sink)?;
+                Ok(Stepped::Went(event))
             }
         }
     }

@@ -1,15 +1,10 @@
 //! What a step of the machine did.
 ghost use Rattle.std.specs.Prelude.{◌≡◌};
-ghost use Rattle.pei_core.specs.SecondStarts.{registered_again};
-ghost use Rattle.pei_core.specs.declared.event.Stepped.TheVariants.{Went};
+ghost use Rattle.pei_core.specs.SecondStarts.{event_letting, registered_again};
+ghost use Rattle.pei_core.specs.declared.event.Again.TheVariants.{Nobody};
 
-use arrayvec::ArrayVec;
 use boot_model::{PeiEnd, PeimState};
 use pei_action::Changes;
-use pi_base::Guid;
-
-/// How many PPIs a call installs at most.
-pub const MOST_INSTALLED: usize = 8;
 
 /// Which parts may start again behind an event that might not before it (PI 1.8, volume 1, `RegisterForShadow()`).
 #[derive(Clone, Copy)]
@@ -43,14 +38,32 @@ impl Again {
 /// What an event of the machine did, beside its lines.
 #[derive(Drop)]
 pub struct Event {
-    /// The GUIDs of the PPIs that it installed: they are there behind it, and may not have been there before.
-    pub there: ArrayVec<Guid, MOST_INSTALLED>,
-    /// The GUID of the PPI that it took away, which may be gone.
-    pub gone: Option<Guid>,
+    /// The GUIDs of the PPIs that it changed: those that it installed are there behind it, and the one that it took away may be gone.
+    pub changes: Changes,
     /// The parts that it lets start again.
     pub again: Again,
-    /// How many volumes were reported before it: those at this place of `reported` and behind it are new.
-    pub known: usize,
+    /// How many volumes it reported.
+    pub volumes: usize,
+}
+
+impl Event {
+    // One that changed no PPI and reported no volume, and lets these parts start again.
+    pub(crate) fn letting(again: Again) -> Event
+        ensures { result ≡ event_letting again }
+    {
+        Event {
+            changes: Changes::none(),
+            again,
+            volumes: 0,
+        }
+    }
+
+    // One that let no part start again either.
+    pub(crate) fn quiet() -> Event
+        ensures { result ≡ event_letting Nobody }
+    {
+        Event::letting(Again::Nobody)
+    }
 }
 
 /// What a step did.
@@ -62,18 +75,4 @@ pub enum Stepped {
     Idle,
     /// Nothing: PEI ends by `Spent` or by `Deep`. The machine is as it was, and nothing was put.
     Ended(PeiEnd),
-}
-
-impl Stepped {
-    // An event that changed these GUIDs and lets these parts start again, where so many volumes were reported.
-    pub(crate) fn by(changes: Changes, again: Again, known: usize) -> Stepped
-        ensures { result ≡ Went (record { there = changes.there; gone = changes.gone; again = again; known = known }) }
-    {
-        Stepped::Went(Event {
-            there: changes.there,
-            gone: changes.gone,
-            again,
-            known,
-        })
-    }
 }

@@ -6,11 +6,11 @@ ghost use Rattle.boot_model.specs.PeiStep as P;
 ghost use Rattle.boot_model.specs.declared.frame.TheConstants.{MOST_FRAMES};
 ghost use Rattle.store_model.specs.Service.Sweep.{next_match};
 ghost use Rattle.pei_core.specs.Cores.{with_callback};
-ghost use Rattle.pei_core.specs.Parts.{FiresNext, StepsFired};
+ghost use Rattle.pei_core.specs.Parts.{FiresNext, StepsIn};
 ghost use Rattle.pei_core.specs.Standing.{IsCoreOf, KeepsFor, StandsFor, last_start};
 
 use crate::core_state::Core;
-use crate::event::{Again, Stepped};
+use crate::event::{Event, Stepped};
 use crate::names::callback_line;
 use crate::pei::Pei;
 use crate::reports::print;
@@ -18,7 +18,6 @@ use boot_io::{Halt, Sink};
 use boot_model::{BLOCKS, PeiEnd, PeiFrame, Register};
 use catalog_model::Catalog;
 use frames::{begin_notification, notified};
-use pei_action::Changes;
 use store_model::{Firing, PeiStore, Sweep};
 
 /// The frame in which a notification runs.
@@ -85,16 +84,16 @@ impl<M: PeiStore + Drop> Pei<M> {
         next: (Firing, Sweep),
         sink: &mut S,
     ) -> Result<Stepped, Halt>
-        ensures row { StepsFired next M.TAKES_MEMORY M.stands_for catalog.now self.old self.new (S.text sink.old) (S.text sink.new) result }
+        ensures row { StepsIn (FiresNext (Some next)) M.TAKES_MEMORY M.stands_for catalog.now
+            (record { pei = self.old; later = self.new; texts = record { old = S.text sink.old; new = S.text sink.new } }) result }
         ensures kept { KeepsFor catalog.now self.old self.new (last_start self.old) }
         ensures faults { HaltsAfter result (S.faults sink.old) (S.faults sink.new) }
     {
         let (firing, sweep) = next;
-        let known = self.core.reported.as_slice().len();
         if !self.core.begin_callback(&firing, sweep) {
             return Ok(Stepped::Ended(PeiEnd::Deep));
         }
         print(sink, callback_line(catalog, &firing))?;
-        Ok(Stepped::by(Changes::none(), Again::Nobody, known))
+        Ok(Stepped::Went(Event::quiet()))
     }
 }

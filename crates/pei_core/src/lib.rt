@@ -16,6 +16,6 @@ mod start;
 mod states;
 mod step;
 
-pub use event::{Again, Event, MOST_INSTALLED, Stepped};
+pub use event::{Again, Event, Stepped};
 pub use pei::Pei;
 pub use reports::put_reports;

@@ -3,10 +3,10 @@ ghost use Rattle.boot_io.specs.Halted.{HaltsAfter};
 ghost use Rattle.catalog_model.specs.declared.catalog.Catalog.{Catalog as OfCatalog};
 ghost use Rattle.store_model.specs.Service.{Present};
 ghost use Rattle.store_model.specs.StoreCall.{Anything, IsDue};
-ghost use Rattle.pei_core.specs.Parts.{CoreCalls, StepsMove};
+ghost use Rattle.pei_core.specs.Parts.{InstallsMemory, MovesMemory, StepsIn};
 ghost use Rattle.pei_core.specs.Standing.{KeepsFor, last_start};
 
-use crate::event::{Again, Stepped};
+use crate::event::{Again, Event, Stepped};
 use crate::pei::Pei;
 use crate::reports::print;
 use boot_io::{Halt, Sink};
@@ -17,9 +17,10 @@ use store_model::PeiStore;
 
 impl<M: PeiStore + Drop> Pei<M> {
     // The core installs the PPI of permanent memory, and its sweep is open.
-    fn install_memory<S: Sink>(&mut self, sink: &mut S) -> Result<Changes, Halt>
+    fn install_memory<S: Sink>(&mut self, sink: &mut S) -> Result<Event, Halt>
         requires state { Present (M.stands_for self.old.store) Anything }
-        ensures row { CoreCalls M.TAKES_MEMORY M.stands_for self.old self.new (S.text sink.old) (S.text sink.new) result }
+        ensures row { InstallsMemory M.TAKES_MEMORY M.stands_for
+            (record { pei = self.old; later = self.new; texts = record { old = S.text sink.old; new = S.text sink.new } }) result }
         ensures kept { (catalog : OfCatalog) → KeepsFor catalog self.old self.new (last_start self.old) }
         ensures faults { HaltsAfter result (S.faults sink.old) (S.faults sink.new) }
     {
@@ -32,13 +33,17 @@ impl<M: PeiStore + Drop> Pei<M> {
                         status: Word::Success,
                     },
                 )?;
-                Ok(Changes::installed(MEMORY_PPI))
+                Ok(Event {
+                    changes: Changes::installed(MEMORY_PPI),
+                    again: Again::Nobody,
+                    volumes: 0,
+                })
             }
             Err(fault) => {
                 let status = fault.status().ok_or(Halt::Memory)?;
                 self.core.sweep = None;
                 print(sink, Line::CoreInstall { status })?;
-                Ok(Changes::none())
+                Ok(Event::quiet())
             }
         }
     }
@@ -46,14 +51,18 @@ impl<M: PeiStore + Drop> Pei<M> {
     // The store moves, and the core installs the PPI of permanent memory. The parts that await their second start may start again.
     pub(crate) fn move_memory<S: Sink>(&mut self, sink: &mut S) -> Result<Stepped, Halt>
         requires state { Present (M.stands_for self.old.store) IsDue }
-        ensures row { StepsMove M.TAKES_MEMORY M.stands_for self.old self.new (S.text sink.old) (S.text sink.new) result }
+        ensures row { (catalog : OfCatalog) → StepsIn MovesMemory M.TAKES_MEMORY M.stands_for catalog
+            (record { pei = self.old; later = self.new; texts = record { old = S.text sink.old; new = S.text sink.new } }) result }
         ensures kept { (catalog : OfCatalog) → KeepsFor catalog self.old self.new (last_start self.old) }
         ensures faults { HaltsAfter result (S.faults sink.old) (S.faults sink.new) }
     {
-        let known = self.core.reported.as_slice().len();
         let (from, to) = self.store.migrate();
         print(sink, Line::Migrate { from, to })?;
-        let changes = self.install_memory(sink)?;
-        Ok(Stepped::by(changes, Again::All, known))
+        let installed = self.install_memory(sink)?;
+        Ok(Stepped::Went(Event {
+            changes: installed.changes,
+            again: Again::All,
+            volumes: 0,
+        }))
     }
 }

@@ -9,12 +9,14 @@ ghost use Rattle.pi_base.specs.declared.phase.Phase.TheVariants.{Pei as InPei};
 ghost use Rattle.boot_model.specs.PeiMachine.{PeiMachine};
 ghost use Rattle.boot_model.specs.PeimState.{ArePeimStates, awaits_start, peim_state};
 ghost use Rattle.frames.specs.Frames.{top_of};
+ghost use Rattle.pei_core.specs.CoreCall.{last_volumes};
 ghost use Rattle.pei_core.specs.Standing.{IsFor, KeepsFor, Opens, StandsFor, last_start};
-ghost use Rattle.pei_core.specs.Steps.{IsIdle, Steps, Starts};
+ghost use Rattle.pei_core.specs.Steps.{IsIdle, StartsModule, Steps};
 
 use crate::core_state::Core;
-use crate::event::Stepped;
+use crate::event::{Event, Stepped};
 use crate::names::start_line;
+use crate::reports::last_volumes;
 use crate::states::none_started;
 use boot_io::{Halt, Sink, SinkFault};
 use boot_laws::{opening_is_sound, starts_keep_sound, steps_keep_sound};
@@ -73,7 +75,8 @@ impl<M: PeiStore + Drop> Pei<M> {
         requires catalog { IsWellFormed catalog.now }
         requires made { (fuel : ℕ) × IsFor catalog.now fuel self.old }
         requires state { (m : PeiMachine) × StandsFor M.stands_for self.old m }
-        ensures row { Steps M.TAKES_MEMORY M.stands_for catalog.now self.old self.new (S.text sink.old) (S.text sink.new) result }
+        ensures row { Steps M.TAKES_MEMORY M.stands_for catalog.now
+            (record { pei = self.old; later = self.new; texts = record { old = S.text sink.old; new = S.text sink.new } }) result }
         ensures kept { KeepsFor catalog.now self.old self.new (last_start self.old) }
         ensures faults { HaltsAfter result (S.faults sink.old) (S.faults sink.new) }
     {
@@ -93,7 +96,8 @@ impl<M: PeiStore + Drop> Pei<M> {
         requires made { (fuel : ℕ) × IsFor catalog.now fuel self.old }
         requires state { (m : PeiMachine) × StandsFor M.stands_for self.old m × IsIdle m × IsTrue (awaits_start (peim_state m number)) }
         requires part { is_some (part_at InPei catalog.now number) ≡ true }
-        ensures row { Starts M.stands_for catalog.now self.old number licence self.new (S.text sink.old) (S.text sink.new) result }
+        ensures row { StartsModule M.stands_for catalog.now number licence
+            (record { pei = self.old; later = self.new; texts = record { old = S.text sink.old; new = S.text sink.new } }) result }
         ensures kept { KeepsFor catalog.now self.old self.new (Some number) }
         ensures faults { SinkFaultsAfter result (S.faults sink.old) (S.faults sink.new) }
     {
@@ -121,6 +125,14 @@ impl<M: PeiStore + Drop> Pei<M> {
         ensures { (m : PeiMachine) → StandsFor M.stands_for self.now m → result.now ≡ m.reported }
     {
         self.core.reported.as_slice()
+    }
+
+    /// The volumes that the last event reported: the last ones.
+    pub fn reported_by(&self, event: &Event) -> &[u32]
+        requires { (m : PeiMachine) × StandsFor M.stands_for self.now m × event.now.volumes ≤ length m.reported }
+        ensures { (m : PeiMachine) → StandsFor M.stands_for self.now m → result.now ≡ last_volumes event.now.volumes m.reported }
+    {
+        last_volumes(&self.core.reported, event.volumes)
     }
 
     /// How far each module has come, by number.

@@ -3,18 +3,17 @@ ghost use Rattle.std.specs.Prelude.{◌≡◌, []};
 ghost use Rattle.boot_io.specs.Halted.{HaltsAfter};
 ghost use Rattle.boot_model.specs.PeiMachine.{PeiMachine};
 ghost use Rattle.pei_core.specs.Cores.{with_notification};
-ghost use Rattle.pei_core.specs.Parts.{Pops, StepsIn};
+ghost use Rattle.pei_core.specs.Parts.{PopsPair, StepsIn};
 ghost use Rattle.pei_core.specs.Standing.{KeepsFor, StandsFor, last_start};
 
 use crate::core_state::Core;
-use crate::event::{Again, Stepped};
+use crate::event::{Event, Stepped};
 use crate::fire::notification_frame;
 use crate::names::dispatch_line;
 use crate::pei::Pei;
 use crate::reports::print;
 use boot_io::{Halt, Sink};
 use catalog_model::Catalog;
-use pei_action::Changes;
 use store_model::{Firing, PeiStore};
 
 impl Core {
@@ -37,17 +36,17 @@ impl<M: PeiStore + Drop> Pei<M> {
     ) -> Result<Stepped, Halt>
         requires frames { self.old.core.frames ≡ [] }
         requires state { (m : PeiMachine) × StandsFor M.stands_for self.old m }
-        ensures row { StepsIn Pops M.TAKES_MEMORY M.stands_for catalog.now self.old self.new (S.text sink.old) (S.text sink.new) result }
+        ensures row { StepsIn PopsPair M.TAKES_MEMORY M.stands_for catalog.now
+            (record { pei = self.old; later = self.new; texts = record { old = S.text sink.old; new = S.text sink.new } }) result }
         ensures kept { KeepsFor catalog.now self.old self.new (last_start self.old) }
         ensures faults { HaltsAfter result (S.faults sink.old) (S.faults sink.new) }
     {
-        let known = self.core.reported.as_slice().len();
         match self.store.queue_pop() {
             None => Ok(Stepped::Idle),
             Some(firing) => {
                 self.core.begin_dispatch(&firing);
                 print(sink, dispatch_line(catalog, &firing))?;
-                Ok(Stepped::by(Changes::none(), Again::Nobody, known))
+                Ok(Stepped::Went(Event::quiet()))
             }
         }
     }

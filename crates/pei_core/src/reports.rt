@@ -1,4 +1,10 @@
-//! Lines that are put, and those of reports.
+//! Lines that are put, the volumes that PPIs report, and their lines.
+ghost use Rattle.std.specs.Prelude.{◌≡◌, ◌≤◌, ◌+◌, length};
+ghost use Rattle.catalog_model.specs.WellFormed.{IsWellFormed};
+ghost use Rattle.store_model.specs.Service.{Present, OfEach};
+ghost use Rattle.volume_list.specs.Known.{AreKnown};
+ghost use Rattle.volume_list.specs.Reported.{AreDescs, IsWithReports};
+ghost use Rattle.pei_core.specs.CoreCall.{last_volumes};
 ghost use Rattle.boot_model.specs.Text.{line_text, text_of};
 ghost use Rattle.boot_model.specs.PeiStep.{report_lines};
 ghost use Rattle.boot_io.specs.Sink.{Puts, SinkFaultsAfter};
@@ -6,6 +12,9 @@ ghost use Rattle.boot_io.specs.Sink.{Puts, SinkFaultsAfter};
 use boot_io::{Sink, SinkFault};
 use boot_model::Line;
 use boot_trace::put;
+use catalog_model::Catalog;
+use store_model::{Desc, PeiStore};
+use volume_list::VolumeList;
 
 /// Puts a line that is of no more use then. Where the sink fails, a prefix of its text was put.
 pub(crate) fn print<S: Sink>(sink: &mut S, line: Line) -> Result<(), SinkFault>
@@ -13,6 +22,34 @@ pub(crate) fn print<S: Sink>(sink: &mut S, line: Line) -> Result<(), SinkFault>
     ensures cause { SinkFaultsAfter result (S.faults sink.old) (S.faults sink.new) }
 {
     put(sink, &line)
+}
+
+/// What PPIs report comes behind the volumes that were reported. How many volumes that is.
+pub(crate) fn report<M: PeiStore>(
+    reported: &mut VolumeList,
+    catalog: &Catalog,
+    store: &M,
+    ppis: &[Desc],
+) -> usize
+    requires catalog { IsWellFormed catalog.now }
+    requires known { AreKnown catalog.now reported.old }
+    requires state { Present (M.stands_for store.now) (AreDescs ppis.now) }
+    ensures reported { OfEach (M.stands_for store.now) (AreDescs ppis.now) (IsWithReports catalog.now reported.old ppis.now reported.new) }
+    ensures count { length reported.new ≡ length reported.old + result }
+    ensures known { AreKnown catalog.now reported.new }
+{
+    let before = reported.as_slice().len();
+    reported.report(catalog, store, ppis);
+    reported.as_slice().len() - before
+}
+
+/// So many of the volumes that were reported: the last ones.
+pub(crate) fn last_volumes(reported: &VolumeList, count: usize) -> &[u32]
+    requires { count ≤ length reported.now }
+    ensures { result.now ≡ last_volumes count reported.now }
+{
+    let volumes = reported.as_slice();
+    volumes.split_at(volumes.len() - count).1
 }
 
 /// Puts a line for each volume that is reported. Where the sink fails, a prefix of the text was put.

@@ -3,7 +3,7 @@ ghost use Rattle.std.specs.Prelude.{◌≡◌, ℕ, [], None};
 ghost use Rattle.boot_io.specs.Halted.{HaltsAfter};
 ghost use Rattle.boot_model.specs.PeiMachine.{PeiMachine};
 ghost use Rattle.catalog_model.specs.WellFormed.{IsWellFormed};
-ghost use Rattle.pei_core.specs.Parts.{FiresNext, StepsAll, StepsBetween, StepsQuiet};
+ghost use Rattle.pei_core.specs.Parts.{Anywhere, FiresNext, RunsNone, StepsIn};
 ghost use Rattle.pei_core.specs.Standing.{IsFor, KeepsFor, StandsFor, last_start};
 
 use crate::event::Stepped;
@@ -17,7 +17,8 @@ impl<M: PeiStore + Drop> Pei<M> {
     fn step_between<S: Sink>(&mut self, catalog: &Catalog, sink: &mut S) -> Result<Stepped, Halt>
         requires frames { self.old.core.frames ≡ [] }
         requires state { (m : PeiMachine) × StandsFor M.stands_for self.old m }
-        ensures row { StepsBetween M.TAKES_MEMORY M.stands_for catalog.now self.old self.new (S.text sink.old) (S.text sink.new) result }
+        ensures row { StepsIn RunsNone M.TAKES_MEMORY M.stands_for catalog.now
+            (record { pei = self.old; later = self.new; texts = record { old = S.text sink.old; new = S.text sink.new } }) result }
         ensures kept { KeepsFor catalog.now self.old self.new (last_start self.old) }
         ensures faults { HaltsAfter result (S.faults sink.old) (S.faults sink.new) }
     {
@@ -33,7 +34,8 @@ impl<M: PeiStore + Drop> Pei<M> {
         requires catalog { IsWellFormed catalog.now }
         requires made { (fuel : ℕ) × IsFor catalog.now fuel self.old }
         requires state { (m : PeiMachine) × StandsFor M.stands_for self.old m × FiresNext None m }
-        ensures row { StepsQuiet M.TAKES_MEMORY M.stands_for catalog.now self.old self.new (S.text sink.old) (S.text sink.new) result }
+        ensures row { StepsIn (FiresNext None) M.TAKES_MEMORY M.stands_for catalog.now
+            (record { pei = self.old; later = self.new; texts = record { old = S.text sink.old; new = S.text sink.new } }) result }
         ensures kept { KeepsFor catalog.now self.old self.new (last_start self.old) }
         ensures faults { HaltsAfter result (S.faults sink.old) (S.faults sink.new) }
     {
@@ -53,7 +55,8 @@ impl<M: PeiStore + Drop> Pei<M> {
         requires catalog { IsWellFormed catalog.now }
         requires made { (fuel : ℕ) × IsFor catalog.now fuel self.old }
         requires state { (m : PeiMachine) × StandsFor M.stands_for self.old m }
-        ensures row { StepsAll M.TAKES_MEMORY M.stands_for catalog.now self.old self.new (S.text sink.old) (S.text sink.new) result }
+        ensures row { StepsIn Anywhere M.TAKES_MEMORY M.stands_for catalog.now
+            (record { pei = self.old; later = self.new; texts = record { old = S.text sink.old; new = S.text sink.new } }) result }
         ensures kept { KeepsFor catalog.now self.old self.new (last_start self.old) }
         ensures faults { HaltsAfter result (S.faults sink.old) (S.faults sink.new) }
     {

@@ -7,8 +7,8 @@ ghost use Rattle.catalog_model.specs.declared.catalog.Catalog.{Catalog as OfCata
 ghost use Rattle.store_model.specs.Service.Install.{has_ppi};
 ghost use Rattle.boot_model.specs.PeiMachine.{PeiMachine};
 ghost use Rattle.pei_dispatch.specs.Noted.{AreKnown, IsNoted};
-ghost use Rattle.pei_dispatch.specs.Queue.{IsQueueOf, OwesFor, Shows, ShowsBehind};
-ghost use Rattle.pei_dispatch.specs.View.{View, IsEventOf, event_guids, with_guids};
+ghost use Rattle.pei_dispatch.specs.Queue.{IsQueueOf, OwesFor, ShowsBehind};
+ghost use Rattle.pei_dispatch.specs.View.{IsEventOf, event_guids, with_guids};
 ghost use Rattle.wait_index.specs.Index.{IsIndex};
 
 use crate::queue::PeiQueue;

@@ -12,14 +12,12 @@ address-requires g c = record {
   state = let h = c.requires.state in (h.0, h.1, held_place h.0 c.args.frame.now.registers c.args.x c.in-Some.offset h.2 c.in-Some.ensures);
 }
 
-pub returns-in-Some : goal.returns-in-Some
-returns-in-Some g c = record {
-  row = λ s stands held.
-      let registers = c.args.frame.now.registers in
-      let at = c.address.ensures.row s stands (held_place s registers c.args.x c.in-Some.offset held c.in-Some.ensures) in (
-        ap (λ o. number_written registers c.args.v (option_map (λ place. s.base + place + c.args.more) o)) (sym c.in-Some.ensures)
-            ∙ ap (λ n. Wrote (slice_set registers c.args.v (Number (n + c.args.more))) Success) (sym at)
-            ∙ ap (λ writes. Wrote (written registers writes) Success) (sym c.one.ensures),
-        refl,
-      );
-}
+pub returns-in-Some-clause-row : goal.returns-in-Some-clause-row
+returns-in-Some-clause-row g c s stands held =
+    let registers = c.args.frame.now.registers in
+    let at = c.address.ensures.row s stands (held_place s registers c.args.x c.in-Some.offset held c.in-Some.ensures) in (
+      ap (λ o. number_written registers c.args.v (option_map (λ place. s.base + place + c.args.more) o)) (sym c.in-Some.ensures)
+          ∙ ap (λ n. Wrote (slice_set registers c.args.v (Number (n + c.args.more))) Success) (sym at)
+          ∙ ap (λ writes. Wrote (written registers writes) Success) (sym c.one.ensures),
+      refl,
+    )

@@ -1,11 +1,12 @@
 use Rattle.std.proofs.Common.{cond, refl, ap, sym, subst, ◌∙◌, length, []}
 use Rattle.boot_model.specs.PeiStep.{Fires, callback_line, callback_begun}
 use Rattle.pei_core.specs.Cores.{with_callback}
+use Rattle.pei_core.specs.declared.event.Again.TheVariants.{Nobody}
 use Rattle.pei_core.specs.Standing.{IsCoreOf}
 use Rattle.pei_core.specs.Steps.{IsIdle}
 use Rattle.pei_core.proofs.Cases.{case_fires, part, some_none, went}
 use Rattle.pei_core.proofs.Fired.{fired_begun, fired_core}
-use Rattle.pei_core.proofs.Going.{first_part, steps_fail, stepped_one, texts}
+use Rattle.pei_core.proofs.Going.{first_part, led_quietly, quiet_goal, steps_fail, stepped_one, texts}
 use Rattle.pei_core.proofs.SecondStarts.{nobody}
 use Rattle.pei_core.proofs.pei.Pei.fire.Goals as goal
 
@@ -31,6 +32,6 @@ returns-clause-row g c m fuel for h e =
     let line = callback_line catalog firing in
     let core = c.begin_callback.ensures.core ∙ ap (λ b. cond b (with_callback c.args.self.now.core firing c.args.next.1) c.args.self.now.core) c.if-not-begin_callback.false in
     let fields = subst (λ x. IsCoreOf x begun) (sym core) (fired_core catalog m firing c.args.next.1 c.args.self.now.core h.has.fields) in
-    went g.M.PeiStore.TAKES_MEMORY _ catalog fuel m begun (Fires firing c.args.next.1) c.none.result _ _ c.by.result (texts (T c.args.sink.now) (T c.print.new.sink)) (case_fires catalog m firing c.args.next.1 e) is
-    (λ (idle : IsIdle m). some_none _ _ e idle.fires) c.none.ensures.there c.none.ensures.gone (nobody m begun refl refl refl) (ap length c.as_slice-known.ensures ∙ ap length (sym h.has.fields.reported)) c.by.ensures
-    (stepped_one _ m begun line c.callback_line.result (T c.args.sink.now) (T c.print.new.sink) refl c.callback_line.ensures c.in_ok-print.ensures.text (record { store = h.has.store; fields = fields }))
+    let t = texts (T c.args.sink.now) (T c.print.new.sink) in
+    went g.M.PeiStore.TAKES_MEMORY _ catalog fuel m (Fires firing c.args.next.1) (quiet_goal begun) c.quiet.result t (case_fires catalog m firing c.args.next.1 e) is refl refl (λ (idle : IsIdle m). some_none _ _ e idle.fires)
+    (led_quietly _ m begun t Nobody c.quiet.result c.quiet.ensures refl (nobody m begun refl refl refl) (stepped_one _ m begun line c.callback_line.result (T c.args.sink.now) (T c.print.new.sink) refl c.callback_line.ensures c.in_ok-print.ensures.text (record { store = h.has.store; fields = fields })))

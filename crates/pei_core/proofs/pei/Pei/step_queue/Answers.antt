@@ -1,11 +1,12 @@
 use Rattle.std.proofs.Common.{refl, ap, sym, subst, ◌∙◌, length, []}
 use Rattle.boot_laws.proofs.PeiCases.{Popped, popped_is}
 use Rattle.boot_model.specs.PeiStep.{Pops, dispatch_line, popped_to}
+use Rattle.pei_core.specs.declared.event.Again.TheVariants.{Nobody}
 use Rattle.pei_core.specs.Standing.{IsCoreOf}
 use Rattle.pei_core.specs.Steps.{IsIdle}
 use Rattle.pei_core.proofs.Cases.{case_pops, no_move, part, some_none, went}
 use Rattle.pei_core.proofs.Fired.{popped_core}
-use Rattle.pei_core.proofs.Going.{first_part, steps_fail, stepped_one, texts}
+use Rattle.pei_core.proofs.Going.{first_part, led_quietly, quiet_goal, steps_fail, stepped_one, texts}
 use Rattle.pei_core.proofs.SecondStarts.{nobody}
 use Rattle.pei_core.proofs.pei.Pei.step_queue.Goals as goal
 
@@ -31,6 +32,6 @@ returns-in_ok-print-in-Some-clause-row g c m fuel for h pops =
     let is = case_pops catalog m firing a.0 pops.0.quiet pops.0.frames (no_move m.store pops.1) a.1 in
     let core = c.begin_dispatch.ensures in
     let fields = subst (λ x. IsCoreOf x later) (sym core) (popped_core catalog m a.0 firing c.args.self.now.core h.has.fields) in
-    went g.M.PeiStore.TAKES_MEMORY _ catalog fuel m later (Pops firing a.0) c.none.result _ _ c.by.result (texts (T c.args.sink.now) (T c.print.new.sink)) is refl
-    (λ (idle : IsIdle m). some_none _ _ a.1 idle.pops) c.none.ensures.there c.none.ensures.gone (nobody m later refl refl (subst (Popped m.store) a.1 (popped_is m.store))) (ap length c.as_slice-known.ensures ∙ ap length (sym h.has.fields.reported)) c.by.ensures
-    (stepped_one _ m later (dispatch_line catalog firing) c.dispatch_line.result (T c.args.sink.now) (T c.print.new.sink) refl c.dispatch_line.ensures c.in_ok-print-in-Some.ensures.text (record { store = a.2; fields = fields }))
+    let t = texts (T c.args.sink.now) (T c.print.new.sink) in
+    went g.M.PeiStore.TAKES_MEMORY _ catalog fuel m (Pops firing a.0) (quiet_goal later) c.quiet.result t is refl refl refl (λ (idle : IsIdle m). some_none _ _ a.1 idle.pops)
+    (led_quietly _ m later t Nobody c.quiet.result c.quiet.ensures refl (nobody m later refl refl (subst (Popped m.store) a.1 (popped_is m.store))) (stepped_one _ m later (dispatch_line catalog firing) c.dispatch_line.result (T c.args.sink.now) (T c.print.new.sink) refl c.dispatch_line.ensures c.in_ok-print-in-Some.ensures.text (record { store = a.2; fields = fields })))

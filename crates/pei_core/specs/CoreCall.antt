@@ -1,0 +1,24 @@
+-- A call of the core: the core before it and behind it, the lines that it put, and the volumes that it reported.
+-- Own.
+use Rattle.std.specs.Prelude.{ℕ, List, length, drop, ◌-◌}
+use Rattle.boot_model.specs.PeiMachine.{PeiMachine}
+use Rattle.boot_trace.specs.Printing.{ArePut, ArePutInPart, Texts}
+use Rattle.pei_core.specs.declared.pei.Pei.{Pei}
+
+-- the core before a call and behind it, and the sink's text before the call and behind it
+pub record CoreCall (M : Type 0) : Type 0 where
+  pub pei : Pei M
+  pub later : Pei M
+  pub texts : Texts
+
+-- the lines that a later machine has more than this one were put
+abbrev pub Printed : PeiMachine → PeiMachine → Texts → Type 0
+Printed m later t = ArePut m.lines later.lines t
+
+-- a part of their text was put
+abbrev pub PrintedPart : PeiMachine → PeiMachine → Texts → Type 0
+PrintedPart m later t = ArePutInPart m.lines later.lines t
+
+-- the last ones of some volumes, so many
+abbrev pub last_volumes : ℕ → List ℕ → List ℕ
+last_volumes count volumes = drop (length volumes - count) volumes
