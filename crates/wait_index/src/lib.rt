@@ -22,12 +22,12 @@ mod standing;
 mod verdict;
 mod watch;
 
-pub use crate::PlaceSet;
 pub use index::WaitIndex;
 pub use installed::Installed;
 pub use laws::{
     asked_are_those_of_the_bound_in_dxe, asked_are_those_of_the_bound_in_pei,
     next_is_the_first_eligible_driver, next_is_the_next_peim, truth_asks_what_is_pushed,
 };
+pub use place_set::PlaceSet;
 pub use search::MOST_PLACES;
 pub use verdict::Verdict;
