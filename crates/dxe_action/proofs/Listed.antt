@@ -9,7 +9,7 @@ use Rattle.guid_map.proofs.Ordered.{is_level, lookup-is_level, is_put}
 use Rattle.pi_base.specs.declared.guid.Guid.{Guid}
 use Rattle.pi_base.specs.Guids.{same_guid}
 use Rattle.dxe_action.specs.declared.lists.NumberLists.{NumberLists}
-use Rattle.dxe_action.specs.Lists.{numbers_of, IsPushed}
+use Rattle.dxe_action.specs.Lists.{numbers_under, IsPushed}
 
 -- the numbers of a list that may be there
 abbrev pub numbers_in : Option (Vec ℕ Global) → List ℕ
@@ -26,11 +26,11 @@ found_in : (test : Guid → Bool) (entries : List (Guid × Vec ℕ Global)) → 
 found_in test [] = refl
 found_in test (entry ∷ rest) = looked_up (test entry.0) entry.1 (lookup test rest) (lookup test (map (λ e. (e.0, e.1.items)) rest)) (found_in test rest)
 
-pub numbers_are : (lists : NumberLists) (name : Guid) → numbers_of lists name ≡ numbers_in (value_of lists.lists.entries name)
+pub numbers_are : (lists : NumberLists) (name : Guid) → numbers_under lists name ≡ numbers_in (value_of lists.lists.entries name)
 numbers_are lists name = found_in (same_guid name) lists.lists.entries
 
 -- what a look-up finds
-pub found : (lists : NumberLists) (name : Guid) (o : Option (Vec ℕ Global)) → o ≡ lookup (is_level name) lists.lists.entries → numbers_in o ≡ numbers_of lists name
+pub found : (lists : NumberLists) (name : Guid) (o : Option (Vec ℕ Global)) → o ≡ lookup (is_level name) lists.lists.entries → numbers_in o ≡ numbers_under lists name
 found lists name o e = ap numbers_in (e ∙ lookup-is_level lists.lists.entries name) ∙ sym (numbers_are lists name)
 
 -- the map has a list at one GUID, and else what it had
@@ -46,11 +46,11 @@ one_more false w had number e = sym (append-nil (numbers_in had))
 same_guids : (a b : Guid) → same_guid a b ≡ true → a.0 ≡ b.0
 same_guids a b h = (bytes_eq-Decides a.0 b.0).0 h
 
-pub pushed : (old new : NumberLists) (name : Guid) (w : Vec ℕ Global) (number : ℕ) → Writes old name w new → w.items ≡ numbers_of old name ++ number ∷ [] → IsPushed old (Some name) number new
+pub pushed : (old new : NumberLists) (name : Guid) (w : Vec ℕ Global) (number : ℕ) → Writes old name w new → w.items ≡ numbers_under old name ++ number ∷ [] → IsPushed old (Some name) number new
 pushed old new name w number h e other =
     let had = value_of old.lists.entries other in
     let same : same_guid name other ≡ true → w.items ≡ numbers_in had ++ number ∷ [] =
-    λ is. e ∙ ap (λ bytes. numbers_of old (record { 0 = bytes }) ++ number ∷ []) (same_guids name other is) ∙ ap (λ xs. xs ++ number ∷ []) (numbers_are old other) in
+    λ is. e ∙ ap (λ bytes. numbers_under old (record { 0 = bytes }) ++ number ∷ []) (same_guids name other is) ∙ ap (λ xs. xs ++ number ∷ []) (numbers_are old other) in
     numbers_are new other ∙ ap numbers_in (is_put old.lists.entries new.lists.entries name w h other) ∙ one_more (same_guid name other) w had number same ∙ sym (ap (λ xs. xs ++ cond (same_guid name other) (number ∷ []) []) (numbers_are old other))
 
 pub on_ok : {A B : Type 0} (r : Result A B) (P Q : Type 0) → (P → Q) → OnOk r P → OnOk r Q

@@ -9,8 +9,8 @@ use Rattle.guid_map.specs.GuidMap.{value_of}
 use Rattle.boot_model.specs.DxeChoice.{before_of, after_of, name_by}
 use Rattle.dxe_action.specs.declared.lists.NumberLists.{NumberLists}
 use Rattle.dxe_action.specs.declared.names.Names.{Names}
-use Rattle.dxe_action.specs.Lists.{numbers_of, IsPushed}
-use Rattle.dxe_action.specs.Names.{IsFirst, NamesGrow, first_named}
+use Rattle.dxe_action.specs.Lists.{numbers_under, IsPushed}
+use Rattle.dxe_action.specs.Names.{IsFirstOfName, NamesGrow, first_named}
 use Rattle.dxe_action.specs.Order.{gives, name_asked}
 
 -- what is found in front, or else the one behind
@@ -38,20 +38,20 @@ abbrev giving : (ℕ → Option Guid) → List ℕ → Guid → List ℕ
 giving of drivers name = filter (λ number. gives name (of number)) drivers
 
 giving_more : (of : ℕ → Option Guid) (drivers : List ℕ) (number : ℕ) (old new : NumberLists) (given : Option Guid) → given ≡ of number → IsPushed old given number new
-    → ((name : Guid) → numbers_of old name ≡ giving of drivers name) → (name : Guid) → numbers_of new name ≡ giving of (drivers ++ number ∷ []) name
+    → ((name : Guid) → numbers_under old name ≡ giving of drivers name) → (name : Guid) → numbers_under new name ≡ giving of (drivers ++ number ∷ []) name
 giving_more of drivers number old new given is pushed are name =
     pushed name ∙ ap (λ xs. xs ++ (if gives name given then number ∷ [] else [])) (are name)
     ∙ ap (λ g. giving of drivers name ++ (if gives name g then number ∷ [] else [])) is
     ∙ filter_more (λ n. gives name (of n)) drivers number
 
-first_more : (catalog : Catalog) (drivers : List ℕ) (number : ℕ) (old new : List (Guid × ℕ)) → IsFirst old (module_name catalog number) number new
+first_more : (catalog : Catalog) (drivers : List ℕ) (number : ℕ) (old new : List (Guid × ℕ)) → IsFirstOfName old (module_name catalog number) number new
     → ((name : Guid) → value_of old name ≡ first_named catalog drivers name) → (name : Guid) → value_of new name ≡ first_named catalog (drivers ++ number ∷ []) name
 first_more catalog drivers number old new first are name =
     let last : Option ℕ = if same_guid (module_name catalog number) name then Some number else None in
     first name ∙ ap (λ found. or_last found last) (are name) ∙ found_more (λ n. same_guid (module_name catalog n) name) drivers number
 
 pub names_more : (catalog : Catalog) (number : ℕ) (old new : Names) (before after asked : Option Guid) → before ≡ name_by before_of catalog number → after ≡ name_by after_of catalog number
-    → asked ≡ name_asked catalog number → IsFirst old.first (module_name catalog number) number new.first → IsPushed old.befores before number new.befores → IsPushed old.afters after number new.afters
+    → asked ≡ name_asked catalog number → IsFirstOfName old.first (module_name catalog number) number new.first → IsPushed old.befores before number new.befores → IsPushed old.afters after number new.afters
     → IsPushed old.asking asked number new.asking → NamesGrow catalog old (number ∷ []) new
 names_more catalog number old new before after asked b a k first befores afters asking drivers are = record {
   first_is = first_more catalog drivers number old.first new.first first are.first_is;

@@ -10,7 +10,7 @@ use Rattle.boot_model.proofs.Distinct.{all_differ, all_distinct, few_below}
 use Rattle.boot_laws.proofs.PartLists.{IsKnown, distinct_of, known_of, drivers_are}
 use Rattle.volume_list.specs.Known.{AreKnown}
 use Rattle.dxe_action.specs.declared.names.Names.{Names}
-use Rattle.dxe_action.specs.Names.{AreNames, NamesGrow, order_by}
+use Rattle.dxe_action.specs.Names.{AreDriverNames, NamesGrow, order_by}
 use Rattle.dxe_action.specs.Order.{IsOrderOf}
 
 -- the drivers of volumes that differ are no more than the modules
@@ -55,7 +55,7 @@ room_more catalog volumes more new now drivers most few known is same are =
     let long = ap length all in
     omega (arith, fits, few, long)
 
-pub names_of : (catalog : Catalog) (volumes listed drivers : List ℕ) (names : Names) → IsOrderOf catalog volumes (order_by listed drivers names) → AreNames catalog (drivers_of catalog volumes) names
+pub names_of : (catalog : Catalog) (volumes listed drivers : List ℕ) (names : Names) → IsOrderOf catalog volumes (order_by listed drivers names) → AreDriverNames catalog (drivers_of catalog volumes) names
 names_of catalog volumes listed drivers names is = record { first_is = is.first_is; befores_are = is.befores_are; afters_are = is.afters_are; asking_are = is.asking_are }
 
 pub order_more : (catalog : Catalog) (volumes more listed now drivers grown numbers : List ℕ) (old new : Names) → AreKnown catalog now → now ≡ volumes ++ more
@@ -64,7 +64,7 @@ pub order_more : (catalog : Catalog) (volumes more listed now drivers grown numb
 order_more catalog volumes more listed now drivers grown numbers old new known is grows are names before =
     let both = drivers_of_both catalog volumes more in
     let all : drivers_of catalog volumes ++ numbers ≡ drivers_of catalog (volumes ++ more) = ap (λ xs. drivers_of catalog volumes ++ xs) are ∙ sym both in
-    let later = subst (λ xs. AreNames catalog xs new) all (names (drivers_of catalog volumes) (names_of catalog volumes listed drivers old before)) in
+    let later = subst (λ xs. AreDriverNames catalog xs new) all (names (drivers_of catalog volumes) (names_of catalog volumes listed drivers old before)) in
     record {
       known = subst (AreKnown catalog) is known;
       volumes_are = is;

@@ -11,13 +11,16 @@ use Rattle.catalog_model.specs.declared.catalog.Catalog.{Catalog}
 use Rattle.catalog_model.specs.declared.catalog.Module.{Module}
 use Rattle.catalog_model.specs.Parts.{has_number, part_of, part_at, rank_at, module_name}
 use Rattle.boot_model.specs.declared.line.CallName.TheVariants as C
+use Rattle.boot_model.specs.declared.line.Extra.TheVariants as X
 use Rattle.boot_model.specs.DxeMachine.{DxeMachine, DriverFrame}
 use Rattle.boot_model.specs.DxeChoice.{asks_for_request, discovered_order}
 use Rattle.boot_model.specs.DxeAction.{Called, dxe_where, schedule_reply, unrequested_named}
 use Rattle.boot_laws.specs.UnrequestedDrivers.{WaitForRequest}
 use Rattle.boot_model.proofs.ListFacts.{each_found, each_has}
 use Rattle.dxe_action.specs.declared.reply.Reply.{Reply}
-use Rattle.dxe_action.specs.Answered.{refusal, requests}
+use Rattle.frames.specs.declared.registers.Writes.TheVariants as W
+use Rattle.dxe_action.specs.Answered.{did, refusal, told}
+use Rattle.dxe_action.specs.Event.{requests}
 use Rattle.dxe_action.specs.Reply.{IsReply}
 use Rattle.dxe_action.specs.Order.{gives, name_asked, asking_of}
 use Rattle.dxe_action.specs.Requests.{first_down, is_down}
@@ -85,17 +88,17 @@ pub none_named : (catalog : Catalog) (m : DxeMachine) (frame : DriverFrame) (old
     → None ≡ first_down catalog old.requested (asking_of old.order name) → reply ≡ refusal C.Schedule NotFound
     → IsReply catalog m frame (A.Schedule name) reply old
 none_named catalog m frame old name reply has waits none is =
-    refuses catalog m frame (A.Schedule name) reply old C.Schedule NotFound has is
+    refuses catalog m frame (A.Schedule name) reply old C.Schedule NotFound refl has is
     (ap (λ found. Called C.Schedule (dxe_where found (schedule_reply m frame) m frame NotFound)) (sym (none ∙ asked_is catalog m old name has waits)))
 
 abbrev pub with_flag : Services → ℕ → Services
 with_flag s number = record s { requested = slice_set s.requested number true }
 
 pub named : (catalog : Catalog) (m : DxeMachine) (frame : DriverFrame) (old : Services) (name : Guid) (number : ℕ) (reply : Reply) → AreServicesOf catalog m old → WaitForRequest catalog m
-    → number < length old.requested → Some number ≡ first_down catalog old.requested (asking_of old.order name) → reply ≡ requests C.Schedule number
+    → number < length old.requested → Some number ≡ first_down catalog old.requested (asking_of old.order name) → reply ≡ did (requests number) (told C.Schedule X.Nothing W.Nothing)
     → IsReply catalog m frame (A.Schedule name) reply (with_flag old number)
 named catalog m frame old name number reply has waits within found is =
     subst (λ r. IsReply catalog m frame (A.Schedule name) r (with_flag old number)) (sym is)
-    (changed catalog m frame (A.Schedule name) (requests C.Schedule number) old (with_flag old number) m.handles m.notes (m.requested ++ number ∷ []) has refl has.handles has.notes
-    (flag_up m.requested old.requested number within has.requested) refl (found_in (is_asked catalog old.requested name) (discovered_order catalog m) number (found ∙ asked_in catalog m old name has))
+    (changed catalog m frame (A.Schedule name) (did (requests number) (told C.Schedule X.Nothing W.Nothing)) old (with_flag old number) m.handles m.notes (m.requested ++ number ∷ []) has refl has.handles has.notes
+    (flag_up m.requested old.requested number within has.requested) refl refl (found_in (is_asked catalog old.requested name) (discovered_order catalog m) number (found ∙ asked_in catalog m old name has)) refl
     (ap (λ found. Called C.Schedule (dxe_where found (schedule_reply m frame) m frame NotFound)) (sym (found ∙ asked_is catalog m old name has waits))))

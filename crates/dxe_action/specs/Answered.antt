@@ -19,25 +19,31 @@ use Rattle.dxe_handles.specs.declared.fault.HandleFault.{HandleFault}
 use Rattle.dxe_handles.specs.declared.fault.HandleFault.TheVariants as F
 use Rattle.frames.specs.declared.registers.Writes.{Writes}
 use Rattle.frames.specs.declared.registers.Writes.TheVariants as W
+use Rattle.dxe_action.specs.declared.event.Event.{Event}
 use Rattle.dxe_action.specs.declared.reply.Reply.{Reply}
+use Rattle.dxe_action.specs.Event.{quiet}
 use Rattle.dxe_action.specs.Services.{Services, AreServicesOf}
 use Rattle.dxe_action.specs.Reply.{Replies}
 
--- an answer without notifications to visit, one of success, a refusal, a success with notifications to visit, and that of a request
+-- an answer without notifications to visit, of a call that did nothing that an event tells
 abbrev pub answered : CallName → Word → Extra → Writes → Reply
-answered name status extra writes = record { name = name; status = status; extra = extra; writes = writes; sweep = None; requested = None }
+answered name status extra writes = record { name = name; status = status; extra = extra; writes = writes; sweep = None; event = quiet }
 
+-- one of success
 abbrev pub told : CallName → Extra → Writes → Reply
 told name extra writes = answered name S.Success extra writes
 
+-- a refusal
 abbrev pub refusal : CallName → Word → Reply
 refusal name status = answered name status Nothing W.Nothing
 
+-- a success with notifications to visit
 abbrev pub swept : CallName → Extra → Writes → ProtocolSweep → Reply
-swept name extra writes sweep = record { name = name; status = S.Success; extra = extra; writes = writes; sweep = Some sweep; requested = None }
+swept name extra writes sweep = record (told name extra writes) { sweep = Some sweep }
 
-abbrev pub requests : CallName → ℕ → Reply
-requests name number = record (told name Nothing W.Nothing) { requested = Some number }
+-- the answer of a call that did this
+abbrev pub did : Event → Reply → Reply
+did event reply = record reply { event = event }
 
 -- a fault of the handles is a refusal with its status; want of memory is none
 abbrev pub refused : CallName → HandleFault → Result Reply OutOfMemory

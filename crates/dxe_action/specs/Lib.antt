@@ -1,4 +1,5 @@
 pub mod Answered
+pub mod Event
 pub mod Reply
 pub mod Requests
 pub mod Services

@@ -29,10 +29,11 @@ numbers_at lists name = unwrap_or (value_of lists name) []
 abbrev pub first_of : Drivers → Guid → Option ℕ
 first_of order name = value_of order.first name
 
--- the drivers whose BEFORE, and whose AFTER, gives a file name
+-- the drivers whose BEFORE gives a file name
 abbrev pub befores_of : Drivers → Guid → List ℕ
 befores_of order name = numbers_at order.befores name
 
+-- the drivers whose AFTER gives it
 abbrev pub afters_of : Drivers → Guid → List ℕ
 afters_of order name = numbers_at order.afters name
 

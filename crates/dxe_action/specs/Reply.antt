@@ -1,18 +1,22 @@
 -- What a call that takes an action of DXE's own answers: what the action does by the definition, with the machine behind it.
 -- Own; PI 1.8, volume 2.
-use Rattle.std.specs.Prelude.{◌≡◌, ℕ, true, List, ◌++◌, Option, IfSome, Result, Ok, Err, ⊤}
+use Rattle.std.specs.Prelude.{◌≡◌, ℕ, if◌then◌else◌, List, [], Result, Ok, Err, ⊤}
 use Rattle.std.specs.Option.{option_to_list}
+use Rattle.pi_base.specs.declared.guid.Guid.{Guid}
 use Rattle.pi_base.specs.declared.memory.OutOfMemory.{OutOfMemory}
+use Rattle.pi_base.specs.declared.word.Word.{Word}
 use Rattle.act_code.specs.declared.action.Action.{Action}
 use Rattle.catalog_model.specs.declared.catalog.Catalog.{Catalog}
-use Rattle.catalog_model.specs.Parts.{has_number}
 use Rattle.store_model.specs.StoreState.{StoreState}
 use Rattle.boot_model.specs.declared.frame.Register.{Register}
 use Rattle.boot_model.specs.DxeMachine.{DxeMachine, DriverFrame}
-use Rattle.boot_model.specs.DxeChoice.{a_priori_drivers, discovered_order}
 use Rattle.boot_model.specs.DxeAction.{DxeReply, Called, own_dxe_effect}
+use Rattle.boot_model.specs.EvaluationBound.{changed_protocols}
+use Rattle.boot_model.specs.Registers.{is_success}
 use Rattle.boot_laws.specs.UnrequestedDrivers.{WaitForRequest}
 use Rattle.frames.specs.Writes.{written}
+use Rattle.dxe_action.specs.Event.{EventLeaves}
+pub use Rattle.dxe_action.specs.Event.{IsInOrder}
 use Rattle.dxe_action.specs.declared.reply.Reply.{Reply}
 use Rattle.dxe_action.specs.Services.{Services, AreServicesOf}
 
@@ -27,29 +31,25 @@ reply_in reply registers later volumes = record {
   volumes = volumes;
 }
 
--- a driver of a discovered volume
-abbrev pub IsInOrder : Catalog → DxeMachine → ℕ → Type 0
-IsInOrder catalog m number = has_number (discovered_order catalog m) number ≡ true
+-- the protocols that an action changes whose call has this status: none, where it is refused
+abbrev pub changed_by : Action → Word → List Guid
+changed_by action status = if is_success status then changed_protocols action else []
 
--- what a service leaves beside what the services stand on: the volumes that it discovered schedule their a priori drivers, the driver that it requests is a discovered one, and the rest stays
-pub record LeavesRest (catalog : Catalog) (m later : DxeMachine) (volumes : List ℕ) (asked : Option ℕ) : Type 0 where
+-- what a service keeps beside what the services stand on and what its event leaves
+pub record KeepsRest (m later : DxeMachine) : Type 0 where
   pub store : later.store ≡ m.store
-  pub discovered : later.discovered ≡ m.discovered ++ volumes
-  pub scheduled : later.scheduled ≡ m.scheduled ++ a_priori_drivers catalog volumes
-  pub started : later.started ≡ m.started
-  pub requested : later.requested ≡ m.requested ++ option_to_list asked
-  pub known : IfSome asked (IsInOrder catalog m)
   pub actions : later.actions ≡ m.actions
   pub lines : later.lines ≡ m.lines
   pub ended : later.ended ≡ m.ended
 
--- the action is a call of a service, which replies so
+-- the action is a call of a service, which replies so, and its event is what it did
 pub record IsReply (catalog : Catalog) (m : DxeMachine) (frame : DriverFrame) (action : Action) (reply : Reply) (new : Services) : Type 0 where
   pub later : DxeMachine
-  pub volumes : List ℕ
-  pub does : own_dxe_effect catalog m frame action ≡ Called reply.name (reply_in reply frame.registers later volumes)
+  pub left : EventLeaves catalog reply.event m later
+  pub changed : option_to_list reply.event.changed ≡ changed_by action reply.status
+  pub does : own_dxe_effect catalog m frame action ≡ Called reply.name (reply_in reply frame.registers later left.volumes)
   pub has : AreServicesOf catalog later new
-  pub rest : LeavesRest catalog m later volumes reply.requested
+  pub rest : KeepsRest m later
 
 -- by the answer
 abbrev pub Replies : Catalog → DxeMachine → DriverFrame → Action → Result Reply OutOfMemory → Services → Type 0

@@ -18,6 +18,6 @@ abbrev pub first_down : Catalog → List Bool → List ℕ → Option ℕ
 first_down catalog requested drivers = find (is_down catalog requested) drivers
 
 -- what the action does from each machine that has these services, and in which drivers wait for their request
-abbrev pub Requests : Catalog → Services → DriverFrame → Action → Reply → Services → Type 0
-Requests catalog services frame action reply new =
+abbrev pub ServesRequest : Catalog → Services → DriverFrame → Action → Reply → Services → Type 0
+ServesRequest catalog services frame action reply new =
     (m : DxeMachine) → AreServicesOf catalog m services → WaitForRequest catalog m → IsReply catalog m frame action reply new

@@ -8,6 +8,7 @@ ghost use Rattle.boot_model.specs.Registers as R;
 ghost use Rattle.dxe_action.specs.Answered.{GrowByOne, Serves};
 ghost use Rattle.dxe_action.specs.Services.{AreCounted};
 
+use crate::event::Event;
 use crate::reply::Reply;
 use crate::services::DxeServices;
 use boot_model::{CallName, DriverFrame, Extra, Register};
@@ -81,7 +82,8 @@ fn install_new(
                 Extra::Number(u64::from(handle)),
                 Writes::one(h, Register::HandleIn(handle)),
                 services.sweep(guid, value, handle),
-            )),
+            )
+            .did(Event::changes(guid))),
             Err(fault) => Reply::refused(CallName::Install, fault),
         },
     }
@@ -108,7 +110,8 @@ fn install_on(
                 Extra::Nothing,
                 Writes::Nothing,
                 services.sweep(guid, value, handle),
-            )),
+            )
+            .did(Event::changes(guid))),
             Err(fault) => Reply::refused(CallName::Install, fault),
         },
     }
@@ -155,7 +158,9 @@ pub(crate) fn uninstall(
     match handle_and_number(frame, h, v) {
         None => Ok(Reply::refusal(CallName::Uninstall, Word::InvalidParameter)),
         Some((on, value)) => match services.handles.uninstall(on, *guid, value) {
-            Ok(()) => Ok(Reply::told(CallName::Uninstall, Extra::Nothing, Writes::Nothing)),
+            Ok(()) => Ok(Reply::told(CallName::Uninstall, Extra::Nothing, Writes::Nothing).did(
+                Event::changes(guid),
+            )),
             Err(fault) => Reply::refused(CallName::Uninstall, fault),
         },
     }

@@ -6,6 +6,7 @@
 #![tactic(auto)]
 
 mod action;
+mod event;
 mod handles;
 mod lists;
 mod memory;
@@ -19,6 +20,7 @@ mod schedule;
 mod services;
 
 pub use action::take_own;
+pub use event::Event;
 pub use order::DriverOrder;
 pub use reply::Reply;
 pub use requests::is_requested;

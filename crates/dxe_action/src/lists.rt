@@ -1,7 +1,7 @@
 // Numbers by name.
 ghost use Rattle.std.specs.Prelude.{◌≡◌, ◌++◌, ◌∷◌, [], Some, OnOk};
 ghost use Rattle.pi_base.specs.declared.guid.Guid.{Guid};
-ghost use Rattle.dxe_action.specs.Lists.{numbers_of, IsPushed};
+ghost use Rattle.dxe_action.specs.Lists.{numbers_under, IsPushed};
 
 use pi_base::{Guid, OutOfMemory};
 use std::alloc::Global;
@@ -27,7 +27,7 @@ fn push(numbers: &mut Vec<u32>, number: u32) -> Result<(), OutOfMemory>
 impl NumberLists {
     /// No name has a number. It takes no memory.
     pub(crate) fn new(alloc: Global) -> NumberLists
-        ensures { (name : Guid) → numbers_of result name ≡ [] }
+        ensures { (name : Guid) → numbers_under result name ≡ [] }
     {
         NumberLists {
             lists: BTreeMap::new(alloc),
@@ -37,7 +37,7 @@ impl NumberLists {
 
     /// The numbers of a name.
     pub(crate) fn of(&self, name: &Guid) -> &[u32]
-        ensures { result.now ≡ numbers_of self.now name.now }
+        ensures { result.now ≡ numbers_under self.now name.now }
     {
         match self.lists.get(name) {
             Some(numbers) => numbers.as_slice(),

@@ -1,7 +1,7 @@
 // What is kept of drivers by the names of files.
 ghost use Rattle.std.specs.Prelude.{◌≡◌, ◌&&◌, ◌∷◌, [], OnOk, Some, is_none};
 ghost use Rattle.boot_model.specs.DxeChoice as C;
-ghost use Rattle.dxe_action.specs.Names.{AreNames, IsFirst, NamesGrow};
+ghost use Rattle.dxe_action.specs.Names.{AreDriverNames, IsFirstOfName, NamesGrow};
 ghost use Rattle.dxe_action.specs.Order.{name_asked};
 ghost use Rattle.catalog_model.specs.declared.catalog.Catalog.{Catalog};
 
@@ -88,7 +88,7 @@ fn name_asked(catalog: &Catalog, number: u32) -> Option<Guid>
 
 // Gives a name its first number, if it has none.
 fn put_first(first: &mut GuidMap<u32>, name: Guid, number: u32) -> Result<(), OutOfMemory>
-    ensures { OnOk result (IsFirst first.old name number first.new) }
+    ensures { OnOk result (IsFirstOfName first.old name number first.new) }
 {
     if first.contains_key(&name) {
         Ok(())
@@ -100,7 +100,7 @@ fn put_first(first: &mut GuidMap<u32>, name: Guid, number: u32) -> Result<(), Ou
 impl Names {
     /// Those of no driver. It takes no memory.
     pub(crate) fn new(alloc: Global) -> Names
-        ensures { (catalog : Catalog) → AreNames catalog [] result }
+        ensures { (catalog : Catalog) → AreDriverNames catalog [] result }
     {
         Names {
             first: GuidMap::new(alloc),

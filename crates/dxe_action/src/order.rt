@@ -1,11 +1,12 @@
 //! The discovered volumes and their drivers.
-ghost use Rattle.std.specs.Prelude.{◌≡◌, ◌≤◌, ◌<◌, ◌++◌, [], ℕ, List, IfOk, OnOk, length};
+ghost use Rattle.std.specs.Prelude.{◌≡◌, ◌≤◌, ◌<◌, ◌++◌, [], ℕ, List, IfOk, OnOk, Some, length};
 ghost use Rattle.catalog_model.specs.declared.catalog.Catalog.{Catalog};
 ghost use Rattle.catalog_model.specs.declared.limits.TheConstants.{MOST_MODULES};
 ghost use Rattle.catalog_model.specs.Parts.{has_number};
 ghost use Rattle.catalog_model.specs.WellFormed.{IsWellFormed};
 ghost use Rattle.boot_model.specs.Discovery.{discoveries};
 ghost use Rattle.boot_model.specs.DxeChoice.{drivers_of};
+ghost use Rattle.boot_model.specs.Reporting.{newcomers};
 ghost use Rattle.dxe_action.specs.Order.{IsOrderOf, OrderGrows, first_of, befores_of, afters_of, asking_of};
 
 use crate::names::Names;
@@ -74,6 +75,30 @@ impl DriverOrder {
         Ok(order)
     }
 
+    // Discovers one volume more, if it is new, and after it each volume nested in it that is, and says how many these are. Want of memory leaves the order unfinished.
+    pub(crate) fn add_counted(
+        &mut self,
+        catalog: &Catalog,
+        volume: u32,
+    ) -> Result<usize, OutOfMemory>
+        requires catalog { IsWellFormed catalog.now }
+        requires order { (volumes : List ℕ) × IsOrderOf catalog.now volumes self.old }
+        requires volume { volume < length catalog.now.volumes }
+        ensures grows { OnOk result (OrderGrows catalog.now self.old volume self.new) }
+        ensures count { IfOk result (λ count. (volumes : List ℕ) → IsOrderOf catalog.now volumes self.old
+            → count ≡ length (newcomers catalog.now volumes (Some volume))) }
+    {
+        let known = self.volumes.as_slice().len();
+        let ordered = self.drivers.as_slice().len();
+        self.volumes.add(catalog, Some(volume));
+        let new = &self.volumes.as_slice()[known..];
+        let count = new.len();
+        push_drivers(&mut self.drivers, catalog, new);
+        self.names
+            .push_all(catalog, &self.drivers.as_slice()[ordered..])?;
+        Ok(count)
+    }
+
     /// Discovers one volume more, if it is new, and after it each volume nested in it that is. Want of memory leaves the order unfinished.
     pub fn add(&mut self, catalog: &Catalog, volume: u32) -> Result<(), OutOfMemory>
         requires catalog { IsWellFormed catalog.now }
@@ -81,13 +106,8 @@ impl DriverOrder {
         requires volume { volume < length catalog.now.volumes }
         ensures { OnOk result (OrderGrows catalog.now self.old volume self.new) }
     {
-        let known = self.volumes.as_slice().len();
-        let ordered = self.drivers.as_slice().len();
-        self.volumes.add(catalog, Some(volume));
-        let new = &self.volumes.as_slice()[known..];
-        push_drivers(&mut self.drivers, catalog, new);
-        self.names
-            .push_all(catalog, &self.drivers.as_slice()[ordered..])
+        self.add_counted(catalog, volume)?;
+        Ok(())
     }
 
     /// The volumes, by number.
@@ -95,6 +115,15 @@ impl DriverOrder {
         ensures { result.now ≡ self.now.volumes }
     {
         self.volumes.as_slice()
+    }
+
+    /// The last so many of them.
+    pub fn newest(&self, count: usize) -> &[u32]
+        ensures { (before volumes : List ℕ) → self.now.volumes ≡ before ++ volumes → count ≡ length volumes
+            → result.now ≡ volumes }
+    {
+        let volumes = self.volumes.as_slice();
+        &volumes[volumes.len().saturating_sub(count)..]
     }
 
     /// Whether a volume was discovered.

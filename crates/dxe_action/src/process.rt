@@ -5,6 +5,7 @@ ghost use Rattle.catalog_model.specs.WellFormed.{IsWellFormed};
 ghost use Rattle.dxe_action.specs.Order.{IsOrderOf};
 ghost use Rattle.dxe_action.specs.Answered.{GrowByOne, ProcessesVolume, Serves};
 
+use crate::event::Event;
 use crate::reply::Reply;
 use crate::services::DxeServices;
 use boot_model::{CallName, DriverFrame, Extra};
@@ -49,6 +50,6 @@ fn discover(
     if services.order.has_volume(volume) {
         return Ok(Reply::refusal(CallName::Process, Word::AlreadyStarted));
     }
-    services.order.add(catalog, volume)?;
-    Ok(Reply::told(CallName::Process, Extra::Nothing, Writes::Nothing))
+    let count = services.order.add_counted(catalog, volume)?;
+    Ok(Reply::told(CallName::Process, Extra::Nothing, Writes::Nothing).did(Event::discovers(count)))
 }

@@ -2,6 +2,7 @@
 ghost use Rattle.std.specs.Prelude.{◌≡◌};
 ghost use Rattle.dxe_action.specs.Answered as A;
 
+use crate::event::Event;
 use boot_model::{CallName, Extra, ProtocolSweep};
 use dxe_handles::HandleFault;
 use frames::Writes;
@@ -18,8 +19,8 @@ pub struct Reply {
     pub writes: Writes,
     /// The notifications to visit.
     pub sweep: Option<ProtocolSweep>,
-    /// The driver that it requested.
-    pub requested: Option<u32>,
+    /// What it did.
+    pub event: Event,
 }
 
 impl Reply {
@@ -33,7 +34,7 @@ impl Reply {
             extra,
             writes,
             sweep: None,
-            requested: None,
+            event: Event::quiet(),
         }
     }
 
@@ -61,22 +62,16 @@ impl Reply {
             extra,
             writes,
             sweep: Some(sweep),
-            requested: None,
+            event: Event::quiet(),
         }
     }
 
-    // The success of a request.
-    pub(crate) fn requests(name: CallName, number: u32) -> Reply
-        ensures { result ≡ A.requests name number }
+    // The same of a call that did this.
+    pub(crate) fn did(mut self, event: Event) -> Reply
+        ensures { result ≡ A.did event self }
     {
-        Reply {
-            name,
-            status: Word::Success,
-            extra: Extra::Nothing,
-            writes: Writes::Nothing,
-            sweep: None,
-            requested: Some(number),
-        }
+        self.event = event;
+        self
     }
 
     // What a script is told of a fault of the handles. Want of memory is no answer to it.

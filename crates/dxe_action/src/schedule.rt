@@ -4,14 +4,16 @@ ghost use Rattle.act_code.specs.declared.action.Action.TheVariants as A;
 ghost use Rattle.boot_model.specs.DxeMachine.{DriverFrame};
 ghost use Rattle.dxe_action.specs.Answered.{GrowByOne};
 ghost use Rattle.dxe_action.specs.Order.{asking_of};
-ghost use Rattle.dxe_action.specs.Requests.{Requests, first_down, is_down};
+ghost use Rattle.dxe_action.specs.Requests.{ServesRequest, first_down, is_down};
 ghost use Rattle.dxe_action.specs.Services.{AreServicesFor};
 
+use crate::event::Event;
 use crate::reply::Reply;
 use crate::requests::is_requested;
 use crate::services::DxeServices;
-use boot_model::CallName;
+use boot_model::{CallName, Extra};
 use catalog_model::Catalog;
+use frames::Writes;
 use pi_base::{Guid, Word};
 
 // Whether a driver was not requested yet.
@@ -53,14 +55,16 @@ fn asked_for(services: &DxeServices, catalog: &Catalog, name: &Guid) -> Option<u
 /// The action `schedule`: the first driver of a file name that waits for a request is requested.
 pub(crate) fn schedule(services: &mut DxeServices, catalog: &Catalog, name: &Guid) -> Reply
     requires flags { AreServicesFor catalog.now services.old }
-    ensures row { (frame : DriverFrame) → Requests catalog.now services.old frame (A.Schedule name.now) result services.new }
+    ensures row { (frame : DriverFrame) → ServesRequest catalog.now services.old frame (A.Schedule name.now) result services.new }
     ensures grow { GrowByOne services.old services.new }
 {
     match asked_for(services, catalog, name) {
         None => Reply::refusal(CallName::Schedule, Word::NotFound),
         Some(number) => {
             services.requested.set(number as usize, true);
-            Reply::requests(CallName::Schedule, number)
+            Reply::told(CallName::Schedule, Extra::Nothing, Writes::Nothing).did(Event::requests(
+                number,
+            ))
         }
     }
 }

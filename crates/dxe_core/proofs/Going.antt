@@ -9,12 +9,12 @@ use Rattle.boot_io.proofs.PutsLaws.{appends_none, part_of_more}
 use Rattle.act_code.specs.declared.action.Action.{Action}
 use Rattle.catalog_model.specs.declared.catalog.Catalog.{Catalog}
 use Rattle.boot_model.specs.declared.line.Line.{Line}
-use Rattle.boot_model.specs.DxeMachine.{DxeMachine, DriverFrame}
+use Rattle.boot_model.specs.DxeMachine.{DxeMachine}
 use Rattle.boot_model.specs.DxeStep.{dxe_step}
 use Rattle.boot_model.specs.Text.{line_text, text_of}
 use Rattle.dxe_core.specs.declared.event.Event.{Event}
 use Rattle.dxe_core.specs.declared.event.Stepped.{Stepped}
-use Rattle.dxe_core.specs.Parts.{TakesTo, acted_to}
+use Rattle.dxe_core.specs.Parts.{TakesOwn, TakesTo, acted_to}
 use Rattle.dxe_core.specs.Steps.{HasStepped, StepsTo}
 use Rattle.dxe_core.specs.Turn.{Printed, PrintedPart}
 use Rattle.boot_trace.specs.Printing.{Texts}
@@ -63,7 +63,7 @@ pub steps_fail : (Stands : DxeMachine → Type 0) (catalog : Catalog) (fuel : �
 steps_fail Stands catalog fuel m t (Ok answer) h part = cc
 steps_fail Stands catalog fuel m t (Err halt) h part = part
 
-pub takes_fail : (Stands : DxeMachine → Type 0) (catalog : Catalog) (m : DxeMachine) (own : DriverFrame × List DriverFrame) (action : Action) (t : Texts) (r : Result Event Halt) → IsErr r
-    → PrintedPart m (acted_to catalog m own.0 own.1 action) t → TakesTo Stands catalog m own action t r
-takes_fail Stands catalog m own action t (Ok event) h part = cc
-takes_fail Stands catalog m own action t (Err halt) h part = part
+pub takes_fail : (Stands : DxeMachine → Type 0) (catalog : Catalog) (m : DxeMachine) (action : Action) (own : TakesOwn action m) (t : Texts) (r : Result Event Halt) → IsErr r
+    → PrintedPart m (acted_to catalog m own.top own.below action) t → TakesTo Stands catalog m action own t r
+takes_fail Stands catalog m action own t (Ok event) h part = cc
+takes_fail Stands catalog m action own t (Err halt) h part = part

@@ -1,12 +1,16 @@
 -- What an action of DXE's own, of the top frame, leaves.
-use Rattle.std.proofs.Common.{◌≡◌, ℕ, List, [], ◌∷◌, ◌++◌, length, drop, refl, sym, ap, ◌∙◌, subst, Some, None}
+use Rattle.std.proofs.Common.{◌≡◌, ℕ, ◌+◌, ◌-◌, List, [], ◌∷◌, ◌++◌, length, refl, sym, ap, ◌∙◌, subst, Some, None, arith}
+use Rattle.std.specs.Prelude.{if◌then◌else◌}
+use Rattle.std.specs.Option.{option_to_list}
+use Rattle.std.proofs.lemmas.List.{length-append}
 use Rattle.act_code.specs.declared.action.Action.{Action}
 use Rattle.catalog_model.specs.declared.catalog.Catalog.{Catalog}
 use Rattle.boot_model.specs.declared.driver.ProtocolSweep.{ProtocolSweep}
 use Rattle.boot_model.specs.declared.line.Line.{Line}
 use Rattle.boot_model.specs.declared.line.Line.TheVariants as L
 use Rattle.boot_model.specs.Discovery.{discovery_lines}
-use Rattle.boot_model.specs.DxeAction.{Called, DxeReply, dxe_effect, own_dxe_effect}
+use Rattle.boot_model.specs.EvaluationBound.{changed_protocols, dxe_action_guids, is_dxe_called}
+use Rattle.boot_model.specs.DxeAction.{Called, DxeEffect, DxeReply, dxe_effect, own_dxe_effect}
 use Rattle.boot_model.specs.DxeMachine.{DriverFrame, DxeMachine}
 use Rattle.boot_model.specs.DxeStep.{after_dxe_call, after_dxe_effect}
 use Rattle.dxe_action.specs.Reply.{IsReply, reply_in}
@@ -34,10 +38,11 @@ call_line reply = L.Call reply.name reply.status reply.extra
 pub record Replied (catalog : Catalog) (m : DxeMachine) (top : DriverFrame) (below : List DriverFrame) (action : Action) (reply : Reply) (core : DxeCore) : Type 0 where
   pub volumes : List ℕ
   pub later : DxeMachine
-  pub effect_is : dxe_effect catalog m top action ≡ Called reply.name (reply_in reply top.registers later volumes)
+  pub changed : option_to_list reply.event.changed ≡ dxe_action_guids catalog m top action
+  pub count : reply.event.discovered ≡ length volumes
   pub store : (acted_to catalog m top below action).store ≡ m.store
   pub fields : IsCoreOf catalog core (acted_to catalog m top below action)
-  pub discovers : HasDiscovered catalog m (acted_to catalog m top below action) reply.requested
+  pub discovers : HasDiscovered catalog m (acted_to catalog m top below action) reply.event.requested
   pub all : core.services.order.volumes ≡ m.discovered ++ volumes
   pub printed : (acted_to catalog m top below action).lines ≡ m.lines ++ (call_line reply ∷ discovery_lines volumes)
 
@@ -47,10 +52,10 @@ to later top below reply volumes = after_dxe_call top below (call_line reply) (r
 
 reply_core : (catalog : Catalog) (m : DxeMachine) (top : DriverFrame) (below : List DriverFrame) (action : Action) (reply : Reply) (core : DxeCore) (services : Services) (frames : List DriverFrame)
     → (r : IsReply catalog m top action reply services) → IsCoreOf catalog core m → frames ≡ answered top (written top.registers reply.writes) reply.status reply.sweep ∷ below
-    → IsCoreOf catalog (record core { frames = frames; services = services }) (to r.later top below reply r.volumes)
+    → IsCoreOf catalog (record core { frames = frames; services = services }) (to r.later top below reply r.left.volumes)
 reply_core catalog m top below action reply core services frames r of is = record {
   frames = sym is;
-  services = same_services catalog r.later (to r.later top below reply r.volumes) services refl refl refl refl r.has;
+  services = same_services catalog r.later (to r.later top below reply r.left.volumes) services refl refl refl refl r.has;
   actions = r.rest.actions ∙ of.actions;
   running = r.rest.ended ∙ of.running;
 }
@@ -60,30 +65,29 @@ pub replied : (law : AreAlike ProtocolSweep DxeReply ⊥) (catalog : Catalog) (m
     → Replied catalog m top below action reply (record core { frames = frames; services = services })
 replied law catalog m found top below action reply core services frames same own given of is =
     let r = subst (λ f. IsReply catalog m f action reply services) same given in
-    let effect_is : dxe_effect catalog m top action ≡ Called reply.name (reply_in reply top.registers r.later r.volumes) = law.one (own_dxe_effect catalog m top) top action own ∙ r.does in
-    let leads : acted_to catalog m top below action ≡ to r.later top below reply r.volumes = ap (after_dxe_effect m top below) effect_is in
+    let effect_is : dxe_effect catalog m top action ≡ Called reply.name (reply_in reply top.registers r.later r.left.volumes) = law.one (own_dxe_effect catalog m top) top action own ∙ r.does in
+    let leads : acted_to catalog m top below action ≡ to r.later top below reply r.left.volumes = ap (after_dxe_effect m top below) effect_is in
     record {
-      volumes = r.volumes;
+      volumes = r.left.volumes;
       later = r.later;
-      effect_is = effect_is;
+      changed = r.changed ∙ ap (λ (has : DxeEffect). if is_dxe_called has then changed_protocols action else []) (sym effect_is);
+      count = r.left.count;
       store = ap (λ (x : DxeMachine). x.store) leads ∙ r.rest.store;
       fields = subst (IsCoreOf catalog (record core { frames = frames; services = services })) (sym leads) (reply_core catalog m top below action reply core services frames r of is);
       discovers = record {
-        volumes = r.volumes;
-        discovered = ap (λ (x : DxeMachine). x.discovered) leads ∙ r.rest.discovered;
-        scheduled = ap (λ (x : DxeMachine). x.scheduled) leads ∙ r.rest.scheduled;
-        started = ap (λ (x : DxeMachine). x.started) leads ∙ r.rest.started;
-        requested = ap (λ (x : DxeMachine). x.requested) leads ∙ r.rest.requested;
-        in_order = r.rest.known;
+        volumes = r.left.volumes;
+        discovered = ap (λ (x : DxeMachine). x.discovered) leads ∙ r.left.discovered;
+        scheduled = ap (λ (x : DxeMachine). x.scheduled) leads ∙ r.left.scheduled;
+        started = ap (λ (x : DxeMachine). x.started) leads ∙ r.left.started;
+        requested = ap (λ (x : DxeMachine). x.requested) leads ∙ r.left.requested;
+        in_order = r.left.in_order;
       };
-      all = r.has.order.volumes_are ∙ r.rest.discovered;
-      printed = ap (λ (x : DxeMachine). x.lines) leads ∙ ap (λ lines. lines ++ (call_line reply ∷ discovery_lines r.volumes)) r.rest.lines;
+      all = r.has.order.volumes_are ∙ r.left.discovered;
+      printed = ap (λ (x : DxeMachine). x.lines) leads ∙ ap (λ lines. lines ++ (call_line reply ∷ discovery_lines r.left.volumes)) r.rest.lines;
     }
 
--- those that are shown stand behind those that were known
-dropped : (xs ys : List ℕ) → drop (length xs) (xs ++ ys) ≡ ys
-dropped [] ys = refl
-dropped (x ∷ xs) ys = dropped xs ys
-
-pub shown_are : (discovered volumes all shown : List ℕ) (known : ℕ) → all ≡ discovered ++ volumes → known ≡ length discovered → shown ≡ drop known all → shown ≡ volumes
-shown_are discovered volumes all shown known e count is = is ∙ ap (λ n. drop n all) count ∙ ap (drop (length discovered)) e ∙ dropped discovered volumes
+-- as many volumes were discovered before as there are beside those that the call discovered
+pub known_are : (discovered volumes all : List ℕ) (count known : ℕ) → all ≡ discovered ++ volumes → count ≡ length volumes → known ≡ length all - count → known ≡ length discovered
+known_are discovered volumes all count known is counted left =
+    let long : length all ≡ length discovered + length volumes = ap length is ∙ length-append discovered volumes in
+    omega (arith, long, counted, left)

@@ -19,12 +19,12 @@ use Rattle.frames.specs.Deed.{deed}
 use Rattle.frames.specs.Frames.{top_sweep}
 use Rattle.frames.specs.Needs.{IsScriptAction}
 use Rattle.act_code.specs.declared.block.TheConstants.{MOST_ACTIONS}
-use Rattle.dxe_action.specs.Reply.{IsInOrder}
+use Rattle.dxe_action.specs.Event.{IsInOrder}
 use Rattle.dxe_action.specs.Services.{AreCounted, AreServicesFor}
 use Rattle.dxe_core.specs.declared.event.Event.{Event}
 use Rattle.dxe_core.specs.declared.event.Stepped.{Stepped}
 use Rattle.dxe_core.specs.Standing.{DxeCore, IsCoreOf, IsFor, StandsFor}
-use Rattle.dxe_core.specs.Steps.{HasOver, HasStepped, StepsTo}
+use Rattle.dxe_core.specs.Steps.{CoreCall, HasOver, HasStepped, StepsTo, texts_of}
 use Rattle.dxe_core.specs.Turn.{PrintedPart}
 use Rattle.boot_trace.specs.Printing.{Texts}
 
@@ -43,20 +43,21 @@ pub record RunsWith (next : Option (ProtocolNote × ProtocolSweep)) (m : DxeMach
   pub frames : m.frames ≡ top ∷ below
   pub fires : FiresNext next m top
 
+-- a script runs, and no notification begins next
 abbrev pub RunsScript : DxeMachine → Type 0
 RunsScript m = RunsWith None m
 
 -- a step where no notification begins, from each machine that the core beside its store stands for, and in which drivers wait for their request
-abbrev pub StepsScript : {M : Type 0} → (M → StoreState → Type 0) → M → Catalog → DxeCore → DxeCore → Option (List ℕ) → Option (List ℕ) → Result Stepped Halt → Type 0
-StepsScript stands store catalog core later old new result =
-    (m : DxeMachine) (fuel : ℕ) → IsFor catalog fuel core → StandsFor stands store catalog core m → WaitForRequest catalog m → RunsScript m
-    → StepsTo (StandsFor stands store catalog later) catalog fuel m (record { old = old; new = new }) result
+abbrev pub StepsScript : {M : Type 0} → (M → StoreState → Type 0) → M → Catalog → CoreCall → Result Stepped Halt → Type 0
+StepsScript stands store catalog call result =
+    (m : DxeMachine) (fuel : ℕ) → IsFor catalog fuel call.before → StandsFor stands store catalog call.before m → WaitForRequest catalog m → RunsScript m
+    → StepsTo (StandsFor stands store catalog call.later) catalog fuel m (texts_of call) result
 
 -- a step where this notification begins, from each machine that the core has; the store stays
-abbrev pub StepsFired : ProtocolNote × ProtocolSweep → Catalog → DxeCore → DxeCore → Option (List ℕ) → Option (List ℕ) → Result Stepped Halt → Type 0
-StepsFired next catalog core later old new result =
-    (m : DxeMachine) (fuel : ℕ) → IsCoreOf catalog core m → RunsWith (Some next) m
-    → StepsTo (HasOver catalog later m) catalog fuel m (record { old = old; new = new }) result
+abbrev pub StepsFired : ProtocolNote × ProtocolSweep → Catalog → CoreCall → Result Stepped Halt → Type 0
+StepsFired next catalog call result =
+    (m : DxeMachine) (fuel : ℕ) → IsCoreOf catalog call.before m → RunsWith (Some next) m
+    → StepsTo (HasOver catalog call.later m) catalog fuel m (texts_of call) result
 
 -- an action of DXE's own stands next in the top frame's script
 pub record TakesOwn (action : Action) (m : DxeMachine) : Type 0 where
@@ -80,23 +81,23 @@ pub record HasDiscovered (catalog : Catalog) (m later : DxeMachine) (asked : Opt
   pub requested : later.requested ≡ m.requested ++ option_to_list asked
   pub in_order : IfSome asked (IsInOrder catalog m)
 
--- an action of the top frame was taken, and this event is what it did
-pub record HasTaken (Stands : DxeMachine → Type 0) (catalog : Catalog) (m : DxeMachine) (own : DriverFrame × List DriverFrame) (action : Action) (t : Texts) (event : Event) : Type 0 where
-  pub changed : option_to_list event.changed ≡ dxe_action_guids catalog m own.0 action
+-- an action of DXE's own was taken, and this event is what it did
+pub record HasTaken (Stands : DxeMachine → Type 0) (catalog : Catalog) (m : DxeMachine) (action : Action) (own : TakesOwn action m) (t : Texts) (event : Event) : Type 0 where
+  pub changed : option_to_list event.changed ≡ dxe_action_guids catalog m own.top action
   pub known : event.known ≡ length m.discovered
-  pub discovers : HasDiscovered catalog m (acted_to catalog m own.0 own.1 action) event.requested
-  pub stepped : HasStepped Stands m (acted_to catalog m own.0 own.1 action) t
+  pub discovers : HasDiscovered catalog m (acted_to catalog m own.top own.below action) event.requested
+  pub stepped : HasStepped Stands m (acted_to catalog m own.top own.below action) t
 
 -- by the answer
-abbrev pub TakesTo : (DxeMachine → Type 0) → Catalog → DxeMachine → DriverFrame × List DriverFrame → Action → Texts → Result Event Halt → Type 0
-TakesTo Stands catalog m own action t (Ok event) = HasTaken Stands catalog m own action t event
-TakesTo Stands catalog m own action t (Err halt) = PrintedPart m (acted_to catalog m own.0 own.1 action) t
+abbrev pub TakesTo : (DxeMachine → Type 0) → Catalog → (m : DxeMachine) (action : Action) → TakesOwn action m → Texts → Result Event Halt → Type 0
+TakesTo Stands catalog m action own t (Ok event) = HasTaken Stands catalog m action own t event
+TakesTo Stands catalog m action own t (Err halt) = PrintedPart m (acted_to catalog m own.top own.below action) t
 
 -- an action of DXE's own, from each machine that the core beside its store stands for and in whose top frame it stands
-abbrev pub Acts : {M : Type 0} → (M → StoreState → Type 0) → M → Catalog → Action → DxeCore → DxeCore → Option (List ℕ) → Option (List ℕ) → Result Event Halt → Type 0
-Acts stands store catalog action core later old new result =
-    (m : DxeMachine) → StandsFor stands store catalog core m → WaitForRequest catalog m → (own : TakesOwn action m)
-    → TakesTo (StandsFor stands store catalog later) catalog m (own.top, own.below) action (record { old = old; new = new }) result
+abbrev pub ActsOwn : {M : Type 0} → (M → StoreState → Type 0) → M → Catalog → Action → CoreCall → Result Event Halt → Type 0
+ActsOwn stands store catalog action call result =
+    (m : DxeMachine) → StandsFor stands store catalog call.before m → WaitForRequest catalog m → (own : TakesOwn action m)
+    → TakesTo (StandsFor stands store catalog call.later) catalog m action own (texts_of call) result
 
 -- what an action leaves of what the core keeps, where n actions were counted before it
 pub record KeepsFor (catalog : Catalog) (core later : DxeCore) : Type 0 where

@@ -13,6 +13,7 @@ pub record DxeCore : Type 0 where
   pub fuel : Fuel
   pub services : Services
 
+-- the core keeps what the machine has, and the machine runs
 pub record IsCoreOf (catalog : Catalog) (core : DxeCore) (m : DxeMachine) : Type 0 where
   pub frames : m.frames ≡ core.frames
   pub services : AreServicesOf catalog m core.services

@@ -20,13 +20,24 @@ use Rattle.boot_model.specs.DxeStep.{dxe_step, driver_started}
 use Rattle.boot_model.specs.EvaluationBound.{dxe_guids}
 use Rattle.boot_laws.specs.ChangedGuids.{is_among}
 use Rattle.boot_laws.specs.UnrequestedDrivers.{WaitForRequest}
-use Rattle.dxe_action.specs.Reply.{IsInOrder}
+use Rattle.dxe_action.specs.Event.{IsInOrder}
 use Rattle.dxe_core.specs.declared.event.Event.{Event}
 use Rattle.dxe_core.specs.declared.event.Stepped.{Stepped}
 use Rattle.dxe_core.specs.declared.event.Stepped.TheVariants.{Went, Idle, Ended}
 use Rattle.dxe_core.specs.Standing.{DxeCore, IsCoreOf, IsFor, StandsFor}
 use Rattle.dxe_core.specs.Turn.{Printed, PrintedPart}
 use Rattle.boot_trace.specs.Printing.{Texts}
+
+-- a call of the core: the core and the sink's text before it, and behind it
+pub record CoreCall : Type 0 where
+  pub before : DxeCore
+  pub later : DxeCore
+  pub old : Option (List ℕ)
+  pub new : Option (List ℕ)
+
+-- what its sink holds, before it and behind it
+abbrev pub texts_of : CoreCall → Texts
+texts_of call = record { old = call.old; new = call.new }
 
 -- no script runs: a start or the end is left
 abbrev pub IsIdle : DxeMachine → Type 0
@@ -73,11 +84,11 @@ StepsTo Stands catalog fuel m t (Ok Idle) = IsIdle m × HasStayed Stands m t
 StepsTo Stands catalog fuel m t (Ok (Ended end)) = HasEnded Stands catalog fuel m end t
 StepsTo Stands catalog fuel m t (Err halt) = PrintedPart m (dxe_step catalog fuel m) t
 
--- the same from each machine that the core beside its store stands for, and in which drivers wait for their request
-abbrev pub Steps : {M : Type 0} → (M → StoreState → Type 0) → M → Catalog → DxeCore → DxeCore → Option (List ℕ) → Option (List ℕ) → Result Stepped Halt → Type 0
-Steps stands store catalog core later old new result =
-    (m : DxeMachine) (fuel : ℕ) → IsFor catalog fuel core → StandsFor stands store catalog core m → WaitForRequest catalog m
-    → StepsTo (StandsFor stands store catalog later) catalog fuel m (record { old = old; new = new }) result
+-- a step of the core, from each machine that it stands for beside its store, and in which drivers wait for their request
+abbrev pub Steps : {M : Type 0} → (M → StoreState → Type 0) → M → Catalog → CoreCall → Result Stepped Halt → Type 0
+Steps stands store catalog call result =
+    (m : DxeMachine) (fuel : ℕ) → IsFor catalog fuel call.before → StandsFor stands store catalog call.before m → WaitForRequest catalog m
+    → StepsTo (StandsFor stands store catalog call.later) catalog fuel m (texts_of call) result
 
 -- a start, by its answer
 abbrev pub StartsTo : (DxeMachine → Type 0) → DxeMachine → DxeMachine → Texts → Result (Unit {0}) SinkFault → Type 0
@@ -90,7 +101,7 @@ pub record HasOver (catalog : Catalog) (kept : DxeCore) (before m : DxeMachine) 
   pub core : IsCoreOf catalog kept m
 
 -- the start of a driver at the head of a queue, from each machine that the core has; the store stays
-abbrev pub Starts : Catalog → DxeCore → Scheduled → DxeCore → Option (List ℕ) → Option (List ℕ) → Result (Unit {0}) SinkFault → Type 0
-Starts catalog core next later old new result =
-    (m : DxeMachine) (queue : List Scheduled) → IsCoreOf catalog core m
-    → StartsTo (HasOver catalog later m) m (driver_started catalog m next queue (part_at Dxe catalog next.module_number)) (record { old = old; new = new }) result
+abbrev pub Starts : Catalog → CoreCall → Scheduled → Result (Unit {0}) SinkFault → Type 0
+Starts catalog call next result =
+    (m : DxeMachine) (queue : List Scheduled) → IsCoreOf catalog call.before m
+    → StartsTo (HasOver catalog call.later m) m (driver_started catalog m next queue (part_at Dxe catalog next.module_number)) (texts_of call) result

@@ -1,13 +1,10 @@
 //! The next action of the top frame.
-ghost use Rattle.std.specs.Prelude.{◌≡◌, ◌<◌, ◌+◌, ◌-◌, ◌^◌, [], ℕ, OnOk, drop, if◌then◌else◌};
-ghost use Rattle.std.specs.Option.{option_to_list};
+ghost use Rattle.std.specs.Prelude.{◌≡◌, ◌<◌, ◌+◌, ◌-◌, ◌^◌, ℕ, OnOk};
 ghost use Rattle.boot_io.specs.Halted.{HaltsAfter};
 ghost use Rattle.boot_model.specs.DxeMachine.{DxeMachine};
-ghost use Rattle.boot_model.specs.EvaluationBound.{changed_protocols};
-ghost use Rattle.boot_model.specs.Registers.{is_success};
 ghost use Rattle.catalog_model.specs.WellFormed.{IsWellFormed};
 ghost use Rattle.dxe_action.specs.Services.{AreCounted, AreServicesFor};
-ghost use Rattle.dxe_core.specs.Parts.{Acts, KeepsFor, RunsScript, StepsScript, TakesOwn};
+ghost use Rattle.dxe_core.specs.Parts.{ActsOwn, KeepsFor, RunsScript, StepsScript, TakesOwn};
 ghost use Rattle.dxe_core.specs.Standing.{IsFor, StandsFor};
 
 use crate::dxe::Dxe;
@@ -19,37 +16,8 @@ use boot_model::{DxeEnd, Line};
 use catalog_model::Catalog;
 use dxe_action::{Reply, take_own};
 use frames::{Acted, act, effects_are_alike};
-use pi_base::{Guid, Phase, Word};
+use pi_base::Phase;
 use store_model::PeiStore;
-
-// The protocol that an action installs or uninstalls.
-fn protocol_of(action: &Action) -> Option<Guid>
-    ensures { option_to_list result ≡ changed_protocols action.now }
-{
-    match action {
-        Action::DxeInstall { guid, .. } => Some(*guid),
-        Action::DxeUninstall { guid, .. } => Some(*guid),
-        _ => None,
-    }
-}
-
-// The protocol that an action has changed whose call has this status: none, where it was refused.
-fn changed_by(action: &Action, status: Word) -> Option<Guid>
-    ensures { option_to_list result ≡ (if is_success status then changed_protocols action.now else []) }
-{
-    if status == Word::Success {
-        protocol_of(action)
-    } else {
-        None
-    }
-}
-
-// The volumes that stand behind the known ones.
-fn behind(volumes: &[u32], known: usize) -> &[u32]
-    ensures { result.now ≡ drop known volumes.now }
-{
-    volumes.split_at(known.min(volumes.len())).1
-}
 
 impl Dxe {
     // The top frame takes an action of DXE's own, which was counted.
@@ -64,12 +32,16 @@ impl Dxe {
         requires made { AreServicesFor catalog.now self.old.services }
         requires counted { (n : ℕ) × (n < 2 ^ 32 - 1) × (n + 1 ≡ self.old.fuel.taken) × AreCounted n self.old.services }
         requires state { (m : DxeMachine) × StandsFor M.stands_for store.now catalog.now self.old m × TakesOwn action.now m }
-        ensures row { Acts M.stands_for store.now catalog.now action.now self.old self.new (S.text sink.old) (S.text sink.new) result }
+        ensures row { ActsOwn M.stands_for store.now catalog.now action.now (record {
+          before = self.old;
+          later = self.new;
+          old = S.text sink.old;
+          new = S.text sink.new;
+        }) result }
         ensures made { OnOk result (KeepsFor catalog.now self.old self.new) }
         ensures faults { HaltsAfter result (S.faults sink.old) (S.faults sink.new) }
     {
         effects_are_alike();
-        let known = self.services.order().volumes().len();
         let Some(frame) = self.frames.top() else {
             unreachable!()
         };
@@ -79,7 +51,7 @@ impl Dxe {
             extra,
             writes,
             sweep,
-            requested,
+            event,
         } = take_own(&mut self.services, store, catalog, frame, action)?;
         self.frames.answer(&writes, status, sweep);
         let call = Line::Call {
@@ -87,11 +59,12 @@ impl Dxe {
             status,
             extra,
         };
-        put_reply(sink, call, behind(self.services.order().volumes(), known))?;
+        put_reply(sink, call, self.services.order().newest(event.discovered))?;
+        let all = self.services.order().volumes().len();
         Ok(Event {
-            changed: changed_by(action, status),
-            requested,
-            known,
+            changed: event.changed,
+            requested: event.requested,
+            known: all.saturating_sub(event.discovered),
         })
     }
 
@@ -105,7 +78,12 @@ impl Dxe {
         requires catalog { IsWellFormed catalog.now }
         requires made { (fuel : ℕ) × IsFor catalog.now fuel self.old }
         requires state { (m : DxeMachine) × StandsFor M.stands_for store.now catalog.now self.old m × RunsScript m }
-        ensures row { StepsScript M.stands_for store.now catalog.now self.old self.new (S.text sink.old) (S.text sink.new) result }
+        ensures row { StepsScript M.stands_for store.now catalog.now (record {
+          before = self.old;
+          later = self.new;
+          old = S.text sink.old;
+          new = S.text sink.new;
+        }) result }
         ensures made { OnOk result ((fuel : ℕ) → IsFor catalog.now fuel self.old → IsFor catalog.now fuel self.new) }
         ensures faults { HaltsAfter result (S.faults sink.old) (S.faults sink.new) }
     {

@@ -77,7 +77,12 @@ impl Dxe {
         requires catalog { IsWellFormed catalog.now }
         requires made { (fuel : ℕ) × IsFor catalog.now fuel self.old }
         requires state { (m : DxeMachine) × StandsFor M.stands_for store.now catalog.now self.old m }
-        ensures row { Steps M.stands_for store.now catalog.now self.old self.new (S.text sink.old) (S.text sink.new) result }
+        ensures row { Steps M.stands_for store.now catalog.now (record {
+          before = self.old;
+          later = self.new;
+          old = S.text sink.old;
+          new = S.text sink.new;
+        }) result }
         ensures made { OnOk result ((fuel : ℕ) → IsFor catalog.now fuel self.old → IsFor catalog.now fuel self.new) }
         ensures faults { HaltsAfter result (S.faults sink.old) (S.faults sink.new) }
     {
@@ -99,7 +104,12 @@ impl Dxe {
     ) -> Result<(), SinkFault>
         requires idle { self.old.frames ≡ [] }
         requires part { is_some (part_at InDxe catalog.now next.module_number) ≡ true }
-        ensures row { Starts catalog.now self.old next self.new (S.text sink.old) (S.text sink.new) result }
+        ensures row { Starts catalog.now (record {
+          before = self.old;
+          later = self.new;
+          old = S.text sink.old;
+          new = S.text sink.new;
+        }) next result }
         ensures made { (fuel : ℕ) → IsFor catalog.now fuel self.old → IsFor catalog.now fuel self.new }
         ensures faults { SinkFaultsAfter result (S.faults sink.old) (S.faults sink.new) }
     {

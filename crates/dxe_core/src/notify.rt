@@ -61,7 +61,12 @@ impl Dxe {
         next: (ProtocolNote, ProtocolSweep),
         sink: &mut S,
     ) -> Result<Stepped, Halt>
-        ensures row { StepsFired next catalog.now self.old self.new (S.text sink.old) (S.text sink.new) result }
+        ensures row { StepsFired next catalog.now (record {
+          before = self.old;
+          later = self.new;
+          old = S.text sink.old;
+          new = S.text sink.new;
+        }) result }
         ensures made { OnOk result ((fuel : ℕ) → IsFor catalog.now fuel self.old → IsFor catalog.now fuel self.new) }
         ensures faults { HaltsAfter result (S.faults sink.old) (S.faults sink.new) }
     {

@@ -1,4 +1,8 @@
-use Rattle.std.proofs.Common.{sym, subst, ◌∙◌}
+use Rattle.std.proofs.Common.{refl, sym, subst, ◌∙◌}
+use Rattle.pi_base.specs.declared.word.Word.TheVariants.{AlreadyStarted}
+use Rattle.act_code.specs.declared.action.Action.TheVariants as A
+use Rattle.boot_model.specs.declared.line.CallName.TheVariants as C
+use Rattle.dxe_action.proofs.Replying.{refuses}
 use Rattle.pi_base.specs.declared.phase.Phase.TheVariants.{Dxe}
 use Rattle.frames.specs.Needs.{IsScriptAction}
 use Rattle.dxe_action.proofs.Grammar.{at_most}
@@ -64,3 +68,8 @@ returns-in-Peek g c = record {
   made = c.requires.made;
   counted = λ n counted. more c.args.services.now n counted;
 }
+
+pub returns-in-Dispatch-clause-row : goal.returns-in-Dispatch-clause-row
+returns-in-Dispatch-clause-row g c = λ m stands are waits.
+    subst (λ a. IsReply c.args.catalog.now m c.args.frame.now a c.refusal.result c.args.services.now) (sym c.in-Dispatch.is)
+    (refuses c.args.catalog.now m c.args.frame.now A.Dispatch c.refusal.result c.args.services.now C.Dispatch AlreadyStarted refl are c.refusal.ensures refl)

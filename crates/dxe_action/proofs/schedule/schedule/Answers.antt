@@ -1,6 +1,8 @@
-use Rattle.std.proofs.Common.{◌≡◌, ◌<◌, sym, subst, length, Some}
+use Rattle.std.proofs.Common.{◌≡◌, ◌<◌, ◌∙◌, ap, sym, subst, length, Some}
+use Rattle.dxe_action.specs.Answered.{did}
+use Rattle.dxe_action.specs.Event.{requests}
 use Rattle.dxe_action.specs.Order.{asking_of}
-use Rattle.dxe_action.specs.Requests.{Requests, first_down}
+use Rattle.dxe_action.specs.Requests.{ServesRequest, first_down}
 use Rattle.dxe_action.specs.Services.{Services}
 use Rattle.act_code.specs.declared.action.Action.TheVariants as A
 use Rattle.dxe_action.proofs.Requested.{named, none_named, with_flag}
@@ -17,6 +19,6 @@ returns-in-Some-clause-row c = λ frame.
     let inside = c.services.inside in
     let old : Services = record { handles = inside.handles; notes = inside.notes; order = inside.order; requested = inside.requested } in
     let within : number < length c.args.services.now.requested = subst (λ n. number < n) (sym c.requires.flags) c.in-Some.ensures.within in
-    subst (λ requested. Requests catalog c.args.services.now frame (A.Schedule name) c.requests.result (record old { requested = requested })) (sym c.set.ensures)
-    (subst (λ s. number < length s.requested → Some number ≡ first_down catalog s.requested (asking_of s.order name) → Requests catalog s frame (A.Schedule name) c.requests.result (with_flag old number)) c.services.view_is
-    (λ few first m has waits. named catalog m frame old name number c.requests.result has waits few first c.requests.ensures) within c.in-Some.ensures.first)
+    subst (λ requested. ServesRequest catalog c.args.services.now frame (A.Schedule name) c.did.result (record old { requested = requested })) (sym c.set.ensures)
+    (subst (λ s. number < length s.requested → Some number ≡ first_down catalog s.requested (asking_of s.order name) → ServesRequest catalog s frame (A.Schedule name) c.did.result (with_flag old number)) c.services.view_is
+    (λ few first m has waits. named catalog m frame old name number c.did.result has waits few first (c.did.ensures ∙ ap (λ event. did event c.told.result) c.requests.ensures ∙ ap (did (requests number)) c.told.ensures)) within c.in-Some.ensures.first)

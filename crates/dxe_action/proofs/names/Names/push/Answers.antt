@@ -2,7 +2,7 @@ use Rattle.std.proofs.Common.{[], ◌∷◌, subst}
 use Rattle.catalog_model.specs.Parts.{module_name}
 use Rattle.dxe_action.specs.declared.names.Names.{Names}
 use Rattle.dxe_action.specs.Lists.{IsPushed}
-use Rattle.dxe_action.specs.Names.{IsFirst, NamesGrow}
+use Rattle.dxe_action.specs.Names.{IsFirstOfName, NamesGrow}
 use Rattle.dxe_action.proofs.Listed.{on_ok}
 use Rattle.dxe_action.proofs.NamesMore.{names_more}
 use Rattle.dxe_action.proofs.names.Names.push.Goals as goal
@@ -15,6 +15,6 @@ returns c =
     let before = c.given_by-before.result.0 in
     let after = c.given_by-before.result.1 in
     let new : Names = record { first = c.put_first.new.first; befores = c.push_under.new.self; afters = c.push_under-2.new.self; asking = c.push_under-3.new.self } in
-    let first : IsFirst old.first (module_name catalog number) number new.first = subst (λ name. IsFirst old.first name number new.first) c.name_of.ensures c.in_ok-put_first.ensures in
+    let first : IsFirstOfName old.first (module_name catalog number) number new.first = subst (λ name. IsFirstOfName old.first name number new.first) c.name_of.ensures c.in_ok-put_first.ensures in
     on_ok c.push_under-3.result (IsPushed old.asking c.name_asked.result number new.asking) (NamesGrow catalog old (number ∷ []) new)
     (names_more catalog number old new before after c.name_asked.result c.given_by-before.ensures.before c.given_by-before.ensures.after c.name_asked.ensures first c.in_ok-push_under.ensures c.in_ok-push_under-2.ensures) c.push_under-3.ensures

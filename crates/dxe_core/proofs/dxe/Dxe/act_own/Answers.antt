@@ -1,8 +1,5 @@
-use Rattle.std.proofs.Common.{length, drop, sym, ap, ◌∙◌, subst, [], ◌∷◌}
-use Rattle.std.specs.Prelude.{if◌then◌else◌}
+use Rattle.std.proofs.Common.{◌≡◌, sym, ap, ◌∙◌, subst, ◌∷◌}
 use Rattle.boot_model.specs.Discovery.{discovery_lines}
-use Rattle.boot_model.specs.DxeAction.{DxeEffect}
-use Rattle.boot_model.specs.EvaluationBound.{changed_protocols, is_dxe_called}
 use Rattle.boot_model.specs.Text.{text_of}
 use Rattle.std.specs.Io.KnownBytes.{Appends}
 use Rattle.boot_io.specs.Sink as Sinks
@@ -12,7 +9,7 @@ use Rattle.dxe_core.specs.Parts.{acted_to}
 use Rattle.dxe_core.specs.Standing.{DxeCore, StandsFor}
 use Rattle.dxe_core.proofs.DriverLines.{action_prints}
 use Rattle.dxe_core.proofs.Going.{none_put, part_put, stepped, takes_fail}
-use Rattle.dxe_core.proofs.Owned.{call_line, replied, shown_are, top_is}
+use Rattle.dxe_core.proofs.Owned.{call_line, known_are, replied, top_is}
 use Rattle.dxe_core.proofs.dxe.Dxe.act_own.Goals as goal
 
 pub take_own-requires-clause-counted : goal.take_own-requires-clause-counted
@@ -25,7 +22,7 @@ returns-in_err-name-clause-row g c m h waits own =
     let T = g.S.Sink.text in
     let catalog = c.args.catalog.now in
     let told = action_prints catalog m own.top own.below c.args.action.now in
-    takes_fail _ catalog m (own.top, own.below) c.args.action.now _ c.from_residual.result c.from_residual.ensures.0
+    takes_fail _ catalog m c.args.action.now own _ c.from_residual.result c.from_residual.ensures.0
     (none_put m (acted_to catalog m own.top own.below c.args.action.now) told.0 (T c.args.sink.now) told.1)
 
 pub returns-in_err-put_reply-clause-row : goal.returns-in_err-put_reply-clause-row
@@ -39,10 +36,9 @@ returns-in_err-put_reply-clause-row g c m h waits own =
     let given = c.in_ok-name.ensures.row m stands.store stands.core.services waits in
     let r = replied c.effects_are_alike.ensures.dxe catalog m c.in-Some.frame.now own.top own.below action c.in_ok-name.field-0 core c.take_own.new.services c.answer.new.self same own.own given stands.core
     (c.answer.ensures own.top own.below (sym stands.core.frames ∙ own.frames)) in
-    let shown = shown_are m.discovered r.volumes c.take_own.new.services.order.volumes c.behind.result.now (length c.volumes-known.result.now) r.all (ap length c.volumes-known.ensures ∙ ap (λ (order : Drivers). length order.volumes) c.order.ensures ∙ ap length stands.core.services.order.volumes_are)
-    (c.behind.ensures ∙ ap (drop (length c.volumes-known.result.now)) (c.volumes.ensures ∙ ap (λ (order : Drivers). order.volumes) c.order-2.ensures)) in
+    let shown : c.newest.result.now ≡ r.volumes = c.newest.ensures m.discovered r.volumes (ap (λ (order : Drivers). order.volumes) c.order.ensures ∙ r.all) r.count in
     let text = subst (λ xs. Sinks.AppendsPart (T c.args.sink.now) (T c.put_reply.new.sink) (text_of (call_line c.in_ok-name.field-0 ∷ discovery_lines xs))) shown c.in_err-put_reply.ensures.text in
-    takes_fail _ catalog m (own.top, own.below) action _ c.from_residual-in_err-put_reply.result c.from_residual-in_err-put_reply.ensures.0
+    takes_fail _ catalog m action own _ c.from_residual-in_err-put_reply.result c.from_residual-in_err-put_reply.ensures.0
     (part_put m (acted_to catalog m own.top own.below action) (call_line c.in_ok-name.field-0 ∷ discovery_lines r.volumes) (T c.args.sink.now) (T c.put_reply.new.sink) r.printed text)
 
 pub returns-clause-row : goal.returns-clause-row
@@ -56,12 +52,11 @@ returns-clause-row g c m h waits own =
     let given = c.in_ok-name.ensures.row m stands.store stands.core.services waits in
     let r = replied c.effects_are_alike.ensures.dxe catalog m c.in-Some.frame.now own.top own.below action c.in_ok-name.field-0 core c.take_own.new.services c.answer.new.self same own.own given stands.core
     (c.answer.ensures own.top own.below (sym stands.core.frames ∙ own.frames)) in
-    let shown = shown_are m.discovered r.volumes c.take_own.new.services.order.volumes c.behind.result.now (length c.volumes-known.result.now) r.all (ap length c.volumes-known.ensures ∙ ap (λ (order : Drivers). length order.volumes) c.order.ensures ∙ ap length stands.core.services.order.volumes_are)
-    (c.behind.ensures ∙ ap (drop (length c.volumes-known.result.now)) (c.volumes.ensures ∙ ap (λ (order : Drivers). order.volumes) c.order-2.ensures)) in
+    let shown : c.newest.result.now ≡ r.volumes = c.newest.ensures m.discovered r.volumes (ap (λ (order : Drivers). order.volumes) c.order.ensures ∙ r.all) r.count in
     let text = subst (λ xs. Appends (T c.args.sink.now) (T c.put_reply.new.sink) (text_of (call_line c.in_ok-name.field-0 ∷ discovery_lines xs))) shown c.in_ok-put_reply.ensures.text in
     record {
-      changed = c.changed_by.ensures ∙ ap (λ (has : DxeEffect). if is_dxe_called has then changed_protocols action else []) (sym r.effect_is);
-      known = ap length c.volumes-known.ensures ∙ ap (λ (order : Drivers). length order.volumes) c.order.ensures ∙ ap length stands.core.services.order.volumes_are;
+      changed = r.changed;
+      known = known_are m.discovered r.volumes c.volumes-all.result.now c.in_ok-name.field-0.event.discovered _ (c.volumes-all.ensures ∙ ap (λ (order : Drivers). order.volumes) c.order-2.ensures ∙ r.all) r.count c.saturating_sub.ensures;
       discovers = r.discovers;
       stepped = stepped _ m (acted_to catalog m own.top own.below action) (call_line c.in_ok-name.field-0 ∷ discovery_lines r.volumes) (T c.args.sink.now) (T c.put_reply.new.sink) r.printed text
           (record { store = subst (g.M.PeiStore.stands_for c.args.store.now) (sym r.store) stands.store; core = r.fields });
