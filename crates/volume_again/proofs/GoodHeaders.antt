@@ -99,7 +99,8 @@ good_name image header (Some extended) bytes within long place e =
     let guid : guid_at image at ≡ extended.name = ap (λ (x : ExtendedHeader). x.name) f.same in
     let name : VolumeName = record { guid = extended.name; at = at; size = size } in
     let is : name_in image (Some extended.name) ≡ Some name = there_by image extended.name at long (sym place) (omega (arith, f.room, within)) in
-    let near : at < 2 ^ 16 = omega (arith, place, little_number-lt 2 (drop 52 image) (left_bytes 52 image bytes)) in
+    let small : little_number 2 (drop 52 image) < 2 ^ 16 = little_number-lt 2 (drop 52 image) (left_bytes 52 image bytes) in
+    let near : at < 2 ^ 16 = omega (arith, place, small) in
     let fits : IsNameOfBytes (Some name) =
     (subst IsGuid guid (guid_there image at bytes (omega (arith, f.room, within))), near, little_number-lt 4 (drop (at + 16) image) (left_bytes (at + 16) image bytes)) in
     record {
@@ -127,7 +128,7 @@ head_good image volume bytes v =
     let f = frame_good image frame v.1 in
     let long = least_bytes (nat_lt (length image) 64) image _ (frame_or_fault header (header_fault image header) (extended_header image header)) frame refl v.1 in
     let told = header_told image long in
-    let short : header.header_len < 2 ^ 16 = little_number-lt 2 (drop 48 image) (left_bytes 48 image bytes) in
+    let short : little_number 2 (drop 48 image) < 2 ^ 16 = little_number-lt 2 (drop 48 image) (left_bytes 48 image bytes) in
     let len : volume.len ≡ header.len = v.2 ∙ ap (λ (x : Frame). x.len) f.same ∙ same_len header f.found in
     let called : volume.name ≡ (frame_with header f.found).name = v.3 ∙ ap (λ (x : Frame). x.name) f.same in
     let name : IsGoodName image header.header_len (frame_with header f.found).name = good_name image header f.found bytes f.within long refl f.is in

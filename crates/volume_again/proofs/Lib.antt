@@ -11,6 +11,7 @@ mod FileLengths
 mod StandAgain
 mod ListedFiles
 mod OfBytes
+mod BuiltTexts
 mod GoodHeaders
 mod FormAgain
 mod WholeNames

@@ -30,16 +30,16 @@ use Rattle.volume_again.proofs.ByteRuns.{bytes_front, bytes_back}
 use Rattle.volume_again.proofs.StandAgain.{IsListedFile}
 
 -- the types of values that have no public name
-abbrev TypeOf : {A : Type 0} → A → Type 0
+abbrev pub TypeOf : {A : Type 0} → A → Type 0
 TypeOf {A} x = A
 
-abbrev TypeIn : {A E : Type 0} → Result A E → Type 0
+abbrev pub TypeIn : {A E : Type 0} → Result A E → Type 0
 TypeIn {A} r = A
 
 abbrev TypeSome : {A : Type 0} → Option A → Type 0
 TypeSome {A} o = A
 
-abbrev TypeInSome : {A E : Type 0} → Result (Option A) E → Type 0
+abbrev pub TypeInSome : {A E : Type 0} → Result (Option A) E → Type 0
 TypeInSome {A} r = A
 
 abbrev Format : Type 0

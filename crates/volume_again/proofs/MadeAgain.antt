@@ -27,8 +27,7 @@ use Rattle.volume_text.specs.declared.fault.Fault.{Fault}
 use Rattle.volume_text.specs.declared.fault.TextFault.TheVariants.{Bad}
 use Rattle.volume_text.specs.declared.volume.OpenVolume.{OpenVolume}
 use Rattle.volume_text.specs.Open.{pad_file, built_of}
-use Rattle.volume_text.proofs.ReadBack.{Made, made, made_again as read_again}
-use Rattle.volume_text.proofs.Building.{ranges}
+use Rattle.volume_again.proofs.BuiltTexts.{Made, made, made_again as read_again, ranges}
 use Rattle.volume_text.specs.Words.{is_length}
 use Rattle.volume_text.specs.Text.{Describes, Says, Leads, IsRefused}
 use Rattle.volume_print.specs.Description.{IsFileIn, form_in, name_in, IsInner, IsTextOf}

@@ -192,19 +192,19 @@ bytes_name bytes last next true e = ap (λ (f : NewFile). f.name) (sym (same_fil
 bytes_name bytes last next false e = absurd cc
 
 -- the name and the files that lines say
-pub files_whole : (size : ℕ) (lines : List (List ℕ)) (called : Option VolumeName) (files : List NewFile) → SayFiles size lines called files → IsWhole called × All HasWholeName files
-files_whole size _ _ _ no_file = (tt, All-nil HasWholeName)
-files_whole size _ _ _ (named lines files line name say says placed) = (line_whole line (said.Name name) says, (files_whole size lines None files say).1)
-files_whole size _ _ _ (padded lines called files line size say says) = let more = files_whole size lines called files say in (more.0, All-push HasWholeName files _ more.1 refl)
-files_whole size _ _ _ (file lines called files line kind name attributes say says) =
-    let more = files_whole size lines called files say in (more.0, All-push HasWholeName files _ more.1 (line_whole line (said.File kind name attributes) says))
-files_whole size _ _ _ (bodied lines called files old next line body say says holds) =
-    let more = files_whole size lines called (files ++ old ∷ []) say in (more.0, changed files old next (bytes_name body old next (is_empty old.body) holds) more.1)
-files_whole size _ _ _ (section lines called files old next line kind body say says holds) =
-    let more = files_whole size lines called (files ++ old ∷ []) say in (more.0, changed files old next (held_name _ old next old.body holds) more.1)
-files_whole size _ _ _ (depex lines called files old next line phase body say says part holds) =
-    let more = files_whole size lines called (files ++ old ∷ []) say in (more.0, changed files old next (held_name _ old next old.body holds) more.1)
-files_whole size _ _ _ (script lines called files old next line phase inner blocks end body say says part unique wrote ends spelled holds) =
-    let more = files_whole size lines called (files ++ old ∷ []) say in (more.0, changed files old next (held_name _ old next old.body holds) more.1)
-files_whole size _ _ _ (volume lines called files old next line inner inside end body say says more_files ends built holds) =
-    let more = files_whole size lines called (files ++ old ∷ []) say in (more.0, changed files old next (held_name _ old next old.body holds) more.1)
+pub files_whole : (header_len : ℕ) (lines : List (List ℕ)) (called : Option VolumeName) (files : List NewFile) → SayFiles header_len lines called files → IsWhole called × All HasWholeName files
+files_whole header_len _ _ _ no_file = (tt, All-nil HasWholeName)
+files_whole header_len _ _ _ (named lines files line name say says placed) = (line_whole line (said.Name name) says, (files_whole header_len lines None files say).1)
+files_whole header_len _ _ _ (padded lines called files line size say says) = let more = files_whole header_len lines called files say in (more.0, All-push HasWholeName files _ more.1 refl)
+files_whole header_len _ _ _ (file lines called files line kind name attributes say says) =
+    let more = files_whole header_len lines called files say in (more.0, All-push HasWholeName files _ more.1 (line_whole line (said.File kind name attributes) says))
+files_whole header_len _ _ _ (bodied lines called files old next line body say says holds) =
+    let more = files_whole header_len lines called (files ++ old ∷ []) say in (more.0, changed files old next (bytes_name body old next (is_empty old.body) holds) more.1)
+files_whole header_len _ _ _ (section lines called files old next line kind body say says holds) =
+    let more = files_whole header_len lines called (files ++ old ∷ []) say in (more.0, changed files old next (held_name _ old next old.body holds) more.1)
+files_whole header_len _ _ _ (depex lines called files old next line phase body say says part holds) =
+    let more = files_whole header_len lines called (files ++ old ∷ []) say in (more.0, changed files old next (held_name _ old next old.body holds) more.1)
+files_whole header_len _ _ _ (script lines called files old next line phase inner blocks end body say says part unique wrote ends spelled holds) =
+    let more = files_whole header_len lines called (files ++ old ∷ []) say in (more.0, changed files old next (held_name _ old next old.body holds) more.1)
+files_whole header_len _ _ _ (volume lines called files old next line inner inside end body say says more_files ends built holds) =
+    let more = files_whole header_len lines called (files ++ old ∷ []) say in (more.0, changed files old next (held_name _ old next old.body holds) more.1)

@@ -1,4 +1,4 @@
-use Rattle.volume_text.proofs.ReadBack as A
+use Rattle.volume_again.proofs.BuiltTexts as A
 use Rattle.volume_again.proofs.law.made_again.Goals as goal
 
 pub returns : goal.returns
