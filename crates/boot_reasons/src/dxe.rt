@@ -15,12 +15,15 @@ use crate::dxe_turn::tell;
 use crate::givers::actor;
 use crate::nowhere::Nowhere;
 use crate::told::DxeTold;
-use boot_laws::{Choice, Reached, discovered_order_has_each_once, dxe_chooses_by_groups, dxe_goes_on, dxe_opens, groups_are_aimed, unrequested_drivers_wait};
+use boot_laws::{
+    Choice, Reached, discovered_order_has_each_once, dxe_chooses_by_groups, dxe_goes_on, dxe_opens,
+    groups_are_aimed, unrequested_drivers_wait,
+};
 use boot_model::DxeEnd;
 use catalog_model::Catalog;
 use depex_code::Steps;
-use dxe_dispatch::{DriverQueue, Turn, bound, dxe_at_opening, turn_by};
 use dxe_core::Dxe;
+use dxe_dispatch::{DriverQueue, Turn, bound, dxe_at_opening, turn_by};
 use explain_text::{Begun, Held};
 use pi_base::{OutOfMemory, Seq};
 use std::alloc::Global;
@@ -127,7 +130,7 @@ fn explain_opened<M: PeiStore, C: Choice<Nowhere>, L: Ledger>(
     dxe_opens();
     unrequested_drivers_wait();
     discovered_order_has_each_once();
-    queue.discover(catalog, dxe.order(), 0)?;
+    queue.discover(catalog, dxe.order(), dxe.order().volumes())?;
     let mut told = DxeTold::new(alloc);
     match run_to_end(dxe, store, queue, choice, in_pei, catalog, &mut told, steps)? {
         Reached::End(end) => {
