@@ -5,7 +5,8 @@ ghost use Rattle.boot_model.specs.Text.{line_text, text_of, refused_file_text, r
 use crate::gather::put_words;
 use crate::keywords::{REFUSED_FILE, REFUSED_LONG, keyword};
 use crate::piece::Piece;
-use crate::word_list::words;
+use crate::word_list::list_words;
+use arrayvec::ArrayVec;
 use boot_io::{Sink, SinkFault};
 use boot_model::Line;
 
@@ -14,7 +15,9 @@ pub fn put<S: Sink>(sink: &mut S, line: &Line) -> Result<(), SinkFault>
     ensures text { Puts result (S.text sink.old) (S.text sink.new) (line_text line.now) }
     ensures cause { SinkFaultsAfter result (S.faults sink.old) (S.faults sink.new) }
 {
-    put_words(sink, keyword(line), words(line).as_slice())
+    let mut words = ArrayVec::new();
+    list_words(&mut words, line);
+    put_words(sink, keyword(line), words.as_slice())
 }
 
 // A line that is not wanted any more.

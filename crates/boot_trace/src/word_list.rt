@@ -1,5 +1,5 @@
 //! The words of each line.
-ghost use Rattle.std.specs.Prelude.{◌≡◌, ◌≤◌, ◌∷◌, length};
+ghost use Rattle.std.specs.Prelude.{◌≡◌, ◌≤◌, ◌∷◌, length, []};
 ghost use Rattle.pi_base.specs.WordText.{word_text};
 ghost use Rattle.boot_model.specs.Text.{call_text, extra_words, words};
 ghost use Rattle.boot_trace.specs.Pieces.{piece_texts};
@@ -19,35 +19,36 @@ const MOST_WORDS: usize = 8;
 // The words of a line behind its keyword.
 pub(crate) type Words<'a> = ArrayVec<Piece<'a>, MOST_WORDS>;
 
-// A list of words.
-fn list<'a>(pieces: &[Piece<'a>]) -> Words<'a>
-    requires { length pieces.now ≤ MOST_WORDS }
-    ensures { result.items ≡ pieces.now }
+// Takes words into an empty list.
+fn fill<'a>(list: &mut Words<'a>, pieces: &[Piece<'a>])
+    requires empty { list.old.items ≡ [] }
+    requires few { length pieces.now ≤ MOST_WORDS }
+    ensures { list.new.items ≡ pieces.now }
 {
-    let mut words = ArrayVec::new();
-    words.try_extend_from_slice(pieces).unwrap();
-    words
+    list.try_extend_from_slice(pieces).unwrap();
 }
 
 // A service, its status, and what its line shows behind it.
-fn call_words(name: CallName, status: Word, extra: &Extra) -> Words<'_>
-    ensures { piece_texts result.items ≡ call_text name ∷ word_text status ∷ extra_words extra.now }
+fn list_call<'a>(list: &mut Words<'a>, name: CallName, status: Word, extra: &'a Extra)
+    requires { list.old.items ≡ [] }
+    ensures { piece_texts list.new.items ≡ call_text name ∷ word_text status ∷ extra_words extra.now }
 {
     let name = Text(call_name_word(name));
     let status = Text(status.text());
     match extra {
-        Extra::Nothing => return list(&[name, status]),
-        Extra::Number(number) => return list(&[name, status, Hexadecimal(*number)]),
-        Extra::Bytes(bytes) => return list(&[name, status, Bytes(bytes.as_slice())]),
+        Extra::Nothing => fill(list, &[name, status]),
+        Extra::Number(number) => fill(list, &[name, status, Hexadecimal(*number)]),
+        Extra::Bytes(bytes) => fill(list, &[name, status, Bytes(bytes.as_slice())]),
     }
 }
 
-// The words of a line behind its keyword.
-pub(crate) fn words(line: &Line) -> Words<'_>
-    ensures { piece_texts result.items ≡ words line.now }
+// Lists the words of a line behind its keyword.
+pub(crate) fn list_words<'a>(list: &mut Words<'a>, line: &'a Line)
+    requires { list.old.items ≡ [] }
+    ensures { piece_texts list.new.items ≡ words line.now }
 {
     match line {
-        Line::PeiStop | Line::DxeStop | Line::RefusedUsage => return list(&[]),
+        Line::PeiStop | Line::DxeStop | Line::RefusedUsage => fill(list, &[]),
         Line::Report { volume: count }
         | Line::DxeVolume { volume: count }
         | Line::Ppis { count }
@@ -55,7 +56,7 @@ pub(crate) fn words(line: &Line) -> Words<'_>
         | Line::Dispatches { count }
         | Line::Pendings { count }
         | Line::Hobs { count }
-        | Line::Handles { count } => return list(&[number(*count)]),
+        | Line::Handles { count } => fill(list, &[number(*count)]),
         Line::PeiStart {
             volume,
             name,
@@ -65,7 +66,10 @@ pub(crate) fn words(line: &Line) -> Words<'_>
             volume,
             name,
             licence,
-        } => return list(&[number(*volume), Name(*name), Text(licence_word(*licence))]),
+        } => fill(
+            list,
+            &[number(*volume), Name(*name), Text(licence_word(*licence))],
+        ),
         Line::NotifyCallback {
             volume,
             name,
@@ -80,57 +84,63 @@ pub(crate) fn words(line: &Line) -> Words<'_>
             volume,
             name,
             fired,
-        } => return list(&[number(*volume), Name(*name), Name(*fired)]),
+        } => fill(list, &[number(*volume), Name(*name), Name(*fired)]),
         Line::Waiting {
             volume,
             name,
             reason,
-        } => return list(&[number(*volume), Name(*name), Text(reason_word(*reason))]),
+        } => fill(
+            list,
+            &[number(*volume), Name(*name), Text(reason_word(*reason))],
+        ),
         Line::Call {
             name,
             status,
             extra,
-        } => return call_words(*name, *status, extra),
-        Line::Log { text } => return list(&[Text(text.as_slice())]),
-        Line::RefusedFile { name } | Line::RefusedLong { name } => return list(&[Text(
-            name.as_slice(),
-        )]),
-        Line::End { status } | Line::CoreInstall { status } => return list(&[Text(status.text())]),
-        Line::Result { outcome } => return list(&[Text(run_end_word(*outcome))]),
-        Line::Migrate { from, to } => return list(&[Hexadecimal(*from), Hexadecimal(*to)]),
-        Line::Handoff { address } => return list(&[Hexadecimal(*address)]),
+        } => list_call(list, *name, *status, extra),
+        Line::Log { text } => fill(list, &[Text(text.as_slice())]),
+        Line::RefusedFile { name } | Line::RefusedLong { name } => fill(
+            list,
+            &[Text(name.as_slice())],
+        ),
+        Line::End { status } | Line::CoreInstall { status } => fill(list, &[Text(status.text())]),
+        Line::Result { outcome } => fill(list, &[Text(run_end_word(*outcome))]),
+        Line::Migrate { from, to } => fill(list, &[Hexadecimal(*from), Hexadecimal(*to)]),
+        Line::Handoff { address } => fill(list, &[Hexadecimal(*address)]),
         Line::Ppi {
             by: maker,
             guid,
             value,
-        } => return list(&[by(*maker), Name(*guid), Hexadecimal(*value)]),
+        } => fill(list, &[by(*maker), Name(*guid), Hexadecimal(*value)]),
         Line::Handle {
             handle,
             guid,
             value,
-        } => return list(&[number(*handle), Name(*guid), Hexadecimal(*value)]),
+        } => fill(list, &[number(*handle), Name(*guid), Hexadecimal(*value)]),
         Line::Callback { guid, by, block }
         | Line::Dispatch { guid, by, block }
-        | Line::Pending { guid, by, block } => return list(&[
-            Name(*guid),
-            number(*by),
-            number(*block),
-        ]),
-        Line::Hob { kind, body: bytes } => return list(&[
-            number(u32::from(*kind)),
-            body(bytes.as_slice()),
-        ]),
+        | Line::Pending { guid, by, block } => fill(
+            list,
+            &[Name(*guid), number(*by), number(*block)],
+        ),
+        Line::Hob { kind, body: bytes } => fill(
+            list,
+            &[number(u32::from(*kind)), body(bytes.as_slice())],
+        ),
         Line::Volume {
             volume,
             base,
             len,
             name: volume_name,
-        } => return list(&[
-            number(*volume),
-            Hexadecimal(*base),
-            Decimal(*len),
-            name(*volume_name),
-        ]),
+        } => fill(
+            list,
+            &[
+                number(*volume),
+                Hexadecimal(*base),
+                Decimal(*len),
+                name(*volume_name),
+            ],
+        ),
         Line::Module {
             by,
             volume,
@@ -140,24 +150,30 @@ pub(crate) fn words(line: &Line) -> Words<'_>
             dxe_rank,
             pei,
             dxe,
-        } => return list(&[
-            number(*by),
-            number(*volume),
-            Name(*name),
-            Byte(*kind),
-            rank(*pei_rank),
-            rank(*dxe_rank),
-            Expression(*pei),
-            Expression(*dxe),
-        ]),
-        Line::RefusedPlan { line, cause } => return list(&[
-            number(*line),
-            Text(plan_cause_word(*cause)),
-        ]),
-        Line::RefusedImage { volume, at, cause } => return list(&[
-            number(*volume),
-            Decimal(*at),
-            Text(image_cause_word(*cause)),
-        ]),
+        } => fill(
+            list,
+            &[
+                number(*by),
+                number(*volume),
+                Name(*name),
+                Byte(*kind),
+                rank(*pei_rank),
+                rank(*dxe_rank),
+                Expression(*pei),
+                Expression(*dxe),
+            ],
+        ),
+        Line::RefusedPlan { line, cause } => fill(
+            list,
+            &[number(*line), Text(plan_cause_word(*cause))],
+        ),
+        Line::RefusedImage { volume, at, cause } => fill(
+            list,
+            &[
+                number(*volume),
+                Decimal(*at),
+                Text(image_cause_word(*cause)),
+            ],
+        ),
     }
 }
