@@ -176,7 +176,6 @@ reinstall_puts s frame (Some old) (Some new) there =
     reinstall_by s frame old new (is_ppi (kind_at s new.offset)) (is_installed s old) (nat_lt (free s) (node_need (length (reinstall_pairs s new)))) there refl refl
 
 pub puts : (s : StoreState) (frame : Frame) (action : Action) → IsStoreState s → HoldRegisters frame.registers s → Puts s (state_after s (effect s frame action)) (action_guids s frame action) (placed_guids s frame action)
-puts s frame (A.Set r n) facts held = quiet_puts s (effect s frame (A.Set r n)) facts (tt)
 puts s frame (A.Add r n) facts held = quiet_puts s (effect s frame (A.Add r n)) facts (written_keeps s frame.registers r (option_map (λ old. (old + n) % 2 ^ 64) (number_in frame.registers r)))
 puts s frame (A.Addr v x offset) facts held = quiet_puts s (effect s frame (A.Addr v x offset)) facts (written_keeps s frame.registers v (option_map (λ place. s.base + place + offset) (offset_of (register frame.registers x))))
 puts s frame (A.Pool r size) facts held = quiet_puts s (effect s frame (A.Pool r size)) facts (answered s _ _ _ frame.registers (pool_quiet s size))
@@ -191,15 +190,4 @@ puts s frame (A.Hob kind body) facts held = quiet_puts s (effect s frame (A.Hob 
 puts s frame (A.Memory begin length) facts held = quiet_puts s (effect s frame (A.Memory begin length)) facts (call_keeps s frame (both (number_in frame.registers begin) (number_in frame.registers length)) (memory_reply s frame) (λ span. answered s _ _ _ frame.registers (memory_quiet s span.0 span.1)))
 puts s frame (A.Pages r memory_type count) facts held = quiet_puts s (effect s frame (A.Pages r memory_type count)) facts (pages_keep s frame r memory_type count)
 puts s frame (A.BootMode form r) facts held = quiet_puts s (effect s frame (A.BootMode form r)) facts (mode_keeps s frame form r)
-puts s frame A.Shadow facts held = quiet_puts s (effect s frame A.Shadow) facts (tt)
-puts s frame (A.Log text) facts held = quiet_puts s (effect s frame (A.Log text)) facts (tt)
-puts s frame (A.SkipIf condition n) facts held = quiet_puts s (effect s frame (A.SkipIf condition n)) facts (tt)
-puts s frame (A.Ret status) facts held = quiet_puts s (effect s frame (A.Ret status)) facts (tt)
-puts s frame (A.DxeInstall form h guid v) facts held = quiet_puts s (effect s frame (A.DxeInstall form h guid v)) facts (tt)
-puts s frame (A.DxeReinstall h guid old new) facts held = quiet_puts s (effect s frame (A.DxeReinstall h guid old new)) facts (tt)
-puts s frame (A.DxeUninstall h guid v) facts held = quiet_puts s (effect s frame (A.DxeUninstall h guid v)) facts (tt)
-puts s frame (A.DxeLocate h v guid) facts held = quiet_puts s (effect s frame (A.DxeLocate h v guid)) facts (tt)
-puts s frame (A.DxeNotify guid block) facts held = quiet_puts s (effect s frame (A.DxeNotify guid block)) facts (tt)
-puts s frame (A.Schedule name) facts held = quiet_puts s (effect s frame (A.Schedule name)) facts (tt)
-puts s frame (A.Process v) facts held = quiet_puts s (effect s frame (A.Process v)) facts (tt)
-puts s frame A.Dispatch facts held = quiet_puts s (effect s frame A.Dispatch) facts (tt)
+puts s frame action facts held = quiet_puts s (effect s frame action) facts tt

@@ -84,7 +84,6 @@ written_keeps s registers r None = tt
 written_keeps s registers r (Some n) = tt
 
 pub effect_keeps : (s : StoreState) (frame : Frame) (action : Action) → EffectKeeps s (effect s frame action)
-effect_keeps s frame (A.Set r n) = tt
 effect_keeps s frame (A.Add r n) = written_keeps s frame.registers r (option_map (λ old. (old + n) % 2 ^ 64) (number_in frame.registers r))
 effect_keeps s frame (A.Addr v x offset) = written_keeps s frame.registers v (option_map (λ place. s.base + place + offset) (offset_of (register frame.registers x)))
 effect_keeps s frame (A.Pool r size) = answered s _ _ _ frame.registers (pool_moved s size)
@@ -99,15 +98,4 @@ effect_keeps s frame (A.Hob kind body) = call_keeps s frame (hob_of kind body) (
 effect_keeps s frame (A.Memory begin length) = call_keeps s frame (both (number_in frame.registers begin) (number_in frame.registers length)) (memory_reply s frame) (λ span. answered s _ _ _ frame.registers (memory_moved s span.0 span.1))
 effect_keeps s frame (A.Pages r memory_type count) = pages_keep s frame r memory_type count
 effect_keeps s frame (A.BootMode form r) = mode_keeps s frame form r
-effect_keeps s frame A.Shadow = tt
-effect_keeps s frame (A.Log text) = tt
-effect_keeps s frame (A.SkipIf condition n) = tt
-effect_keeps s frame (A.Ret status) = tt
-effect_keeps s frame (A.DxeInstall form h guid v) = tt
-effect_keeps s frame (A.DxeReinstall h guid old new) = tt
-effect_keeps s frame (A.DxeUninstall h guid v) = tt
-effect_keeps s frame (A.DxeLocate h v guid) = tt
-effect_keeps s frame (A.DxeNotify guid block) = tt
-effect_keeps s frame (A.Schedule name) = tt
-effect_keeps s frame (A.Process v) = tt
-effect_keeps s frame A.Dispatch = tt
+effect_keeps s frame _ = tt

@@ -89,7 +89,6 @@ process_follows catalog m frame volume =
     either_follows catalog m (has_number m.discovered volume) (dxe_refusal m frame AlreadyStarted) (processed catalog m frame (newcomers catalog m.discovered (Some volume))) (same catalog m) (inr (volume, refl))
 
 pub effect_follows : (catalog : Catalog) (m : DxeMachine) (frame : DriverFrame) (action : Action) → EffectFollows catalog m (dxe_effect catalog m frame action)
-effect_follows catalog m frame (A.Set r n) = tt
 effect_follows catalog m frame (A.Add r n) = written_follows catalog m frame.registers r (option_map (λ old. (old + n) % 2 ^ 64) (number_in frame.registers r))
 effect_follows catalog m frame (A.Peek v n) = call_follows catalog m frame (number_in frame.registers v) (peek_reply m frame n) (peek_follows catalog m frame n)
 effect_follows catalog m frame (A.DxeInstall form h guid v) =
@@ -109,19 +108,4 @@ effect_follows catalog m frame (A.Process v) =
     call_follows catalog m frame (number_in frame.registers v) (process_reply catalog m frame)
     (λ base. where_follows catalog m frame (volume_at catalog base) (process_volume catalog m frame) NotFound (process_follows catalog m frame))
 effect_follows catalog m frame A.Dispatch = same catalog m
-effect_follows catalog m frame (A.Log text) = tt
-effect_follows catalog m frame (A.SkipIf condition n) = tt
-effect_follows catalog m frame (A.Ret status) = tt
-effect_follows catalog m frame (A.Addr v x offset) = tt
-effect_follows catalog m frame (A.Pool r size) = tt
-effect_follows catalog m frame (A.Store p offset bytes) = tt
-effect_follows catalog m frame (A.Desc d kind guid arg) = tt
-effect_follows catalog m frame (A.Install list) = tt
-effect_follows catalog m frame (A.Reinstall old new) = tt
-effect_follows catalog m frame (A.Notify list) = tt
-effect_follows catalog m frame (A.Locate d v guid instance) = tt
-effect_follows catalog m frame (A.Hob kind body) = tt
-effect_follows catalog m frame (A.Memory begin length) = tt
-effect_follows catalog m frame (A.Pages r memory_type count) = tt
-effect_follows catalog m frame (A.BootMode form r) = tt
-effect_follows catalog m frame A.Shadow = tt
+effect_follows catalog m frame _ = tt

@@ -84,7 +84,6 @@ scheduled_keeps : (m : DxeMachine) (frame : DriverFrame) (number : ℕ) → Keep
 scheduled_keeps m frame number = record { store = refl; lines = refl; actions = refl; requested = (number ∷ [], refl); refused = λ never. absurd (never refl) }
 
 pub effect_keeps : (catalog : Catalog) (m : DxeMachine) (frame : DriverFrame) (action : Action) → EffectKeeps m frame (dxe_effect catalog m frame action)
-effect_keeps catalog m frame (A.Set r n) = tt
 effect_keeps catalog m frame (A.Add r n) = written_keeps m frame r (option_map (λ old. (old + n) % 2 ^ 64) (number_in frame.registers r))
 effect_keeps catalog m frame (A.Peek v n) =
     where_keeps m frame (number_in frame.registers v) (peek_reply m frame n) InvalidParameter
@@ -107,22 +106,7 @@ effect_keeps catalog m frame (A.Process v) =
     where_keeps m frame (number_in frame.registers v) (process_reply catalog m frame) InvalidParameter
     (λ base. where_keeps m frame (volume_at catalog base) (process_volume catalog m frame) NotFound (process_keeps catalog m frame))
 effect_keeps catalog m frame A.Dispatch = refusal m frame AlreadyStarted
-effect_keeps catalog m frame (A.Log text) = tt
-effect_keeps catalog m frame (A.SkipIf condition n) = tt
-effect_keeps catalog m frame (A.Ret status) = tt
-effect_keeps catalog m frame (A.Addr v x offset) = tt
-effect_keeps catalog m frame (A.Pool r size) = tt
-effect_keeps catalog m frame (A.Store p offset bytes) = tt
-effect_keeps catalog m frame (A.Desc d kind guid arg) = tt
-effect_keeps catalog m frame (A.Install list) = tt
-effect_keeps catalog m frame (A.Reinstall old new) = tt
-effect_keeps catalog m frame (A.Notify list) = tt
-effect_keeps catalog m frame (A.Locate d v guid instance) = tt
-effect_keeps catalog m frame (A.Hob kind body) = tt
-effect_keeps catalog m frame (A.Memory begin length) = tt
-effect_keeps catalog m frame (A.Pages r memory_type count) = tt
-effect_keeps catalog m frame (A.BootMode form r) = tt
-effect_keeps catalog m frame A.Shadow = tt
+effect_keeps catalog m frame _ = tt
 
 refused_of : (m : DxeMachine) (frame : DriverFrame) (e : DxeEffect) → EffectKeeps m frame e → ChangesNothingIfRefused m frame e
 refused_of m frame (Called name reply) k = k.refused

@@ -293,15 +293,4 @@ action_fits laws s frame (A.Pages r memory_type count) facts held fits among is 
     (λ address t e. set_fits frame.registers r (Number address) (pages_fit laws s.moved s memory_type count address t facts e) fits))
     (same_fits s frame.registers _ _ facts fits)
 action_fits laws s frame (A.BootMode form r) facts held fits among is = mode_fits laws s frame form r facts fits
-action_fits laws s frame A.Shadow facts held fits among is = tt
-action_fits laws s frame (A.Log text) facts held fits among is = tt
-action_fits laws s frame (A.SkipIf condition n) facts held fits among is = tt
-action_fits laws s frame (A.Ret status) facts held fits among is = tt
-action_fits laws s frame (A.DxeInstall form h guid v) facts held fits among is = tt
-action_fits laws s frame (A.DxeReinstall h guid old new) facts held fits among is = tt
-action_fits laws s frame (A.DxeUninstall h guid v) facts held fits among is = tt
-action_fits laws s frame (A.DxeLocate h v guid) facts held fits among is = tt
-action_fits laws s frame (A.DxeNotify guid b) facts held fits among is = tt
-action_fits laws s frame (A.Schedule guid) facts held fits among is = tt
-action_fits laws s frame (A.Process v) facts held fits among is = tt
-action_fits laws s frame A.Dispatch facts held fits among is = tt
+action_fits laws s frame _ facts held fits among is = tt

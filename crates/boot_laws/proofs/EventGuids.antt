@@ -28,33 +28,8 @@ two s None new = refl
 two s (Some old) new = refl
 
 places : (s : StoreState) (frame : Frame) (action : Action) → map (guid_at s) (changed_places frame action) ≡ option_to_list (option_map (guid_at s) (taken_place frame action)) ++ map (guid_at s) (placed frame action)
-places s frame (A.Set r n) = refl
-places s frame (A.Add r n) = refl
-places s frame (A.Addr v x offset) = refl
-places s frame (A.Pool r size) = refl
-places s frame (A.Store p offset bytes) = refl
-places s frame (A.Peek v n) = refl
-places s frame (A.Desc d kind guid arg) = refl
-places s frame (A.Install list) = refl
 places s frame (A.Reinstall old new) = two s (descriptor_in frame.registers old) (descriptor_in frame.registers new)
-places s frame (A.Notify list) = refl
-places s frame (A.Locate d v guid instance) = refl
-places s frame (A.Hob kind body) = refl
-places s frame (A.Memory begin length) = refl
-places s frame (A.Pages r memory_type count) = refl
-places s frame (A.BootMode form r) = refl
-places s frame A.Shadow = refl
-places s frame (A.Log text) = refl
-places s frame (A.SkipIf condition n) = refl
-places s frame (A.Ret status) = refl
-places s frame (A.DxeInstall form h guid v) = refl
-places s frame (A.DxeReinstall h guid old new) = refl
-places s frame (A.DxeUninstall h guid v) = refl
-places s frame (A.DxeLocate h v guid) = refl
-places s frame (A.DxeNotify guid block) = refl
-places s frame (A.Schedule name) = refl
-places s frame (A.Process v) = refl
-places s frame A.Dispatch = refl
+places s frame _ = refl
 
 action_is : (s : StoreState) (frame : Frame) (action : Action) → action_guids s frame action ≡ option_to_list (taken_guid s frame action) ++ placed_guids s frame action
 action_is s frame action = by_answer (is_called (effect s frame action)) (map (guid_at s) (changed_places frame action)) (option_map (guid_at s) (taken_place frame action)) (map (guid_at s) (placed frame action)) (places s frame action)

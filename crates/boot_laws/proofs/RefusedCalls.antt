@@ -81,12 +81,8 @@ written_is s frame r None = tt
 written_is s frame r (Some n) = tt
 
 effect_is : (s : StoreState) (frame : Frame) (action : Action) → EffectIs s frame (effect s frame action)
-effect_is s frame (A.Set r n) = tt
 effect_is s frame (A.Add r n) = written_is s frame r (option_map (λ old. (old + n) % 2 ^ 64) (number_in frame.registers r))
 effect_is s frame (A.Addr v x offset) = written_is s frame v (option_map (λ place. s.base + place + offset) (offset_of (register frame.registers x)))
-effect_is s frame (A.Log text) = tt
-effect_is s frame (A.SkipIf condition n) = tt
-effect_is s frame (A.Ret status) = tt
 effect_is s frame (A.Pool r size) = answer_is s frame.registers (pool s size) _ _
 effect_is s frame (A.Store p offset bytes) =
     where_is s frame.registers (option_and_then (λ to. store s to offset bytes) (pool_in frame.registers p)) (λ after. told after frame.registers X.Nothing) InvalidParameter
@@ -115,15 +111,7 @@ effect_is s frame (A.Pages r memory_type count) =
     either_is s frame.registers (is_memory_type memory_type && not (count == 0)) _ (refusal s frame.registers InvalidParameter)
     (answer_is s frame.registers (pages s memory_type count) (λ address. _) (λ address. X.Number address)) (refused s frame.registers InvalidParameter)
 effect_is s frame (A.BootMode form r) = mode_is s frame form r
-effect_is s frame A.Shadow = tt
-effect_is s frame (A.DxeInstall form h guid v) = tt
-effect_is s frame (A.DxeReinstall h guid old new) = tt
-effect_is s frame (A.DxeUninstall h guid v) = tt
-effect_is s frame (A.DxeLocate h v guid) = tt
-effect_is s frame (A.DxeNotify guid block) = tt
-effect_is s frame (A.Schedule name) = tt
-effect_is s frame (A.Process v) = tt
-effect_is s frame A.Dispatch = tt
+effect_is s frame _ = tt
 
 -- the machine with the action counted
 abbrev counted : PeiMachine → PeiMachine

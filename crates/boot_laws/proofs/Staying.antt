@@ -285,18 +285,7 @@ action_holds s frame (A.Pages r memory_type count) facts h =
     (λ address t e. let later = pages_on s.moved s memory_type count address t e in (later, set_held t frame.registers r (Number address) tt (hold_on s t frame.registers later.held h))))
     (same_holds s frame.registers _ _ h)
 action_holds s frame (A.BootMode form r) facts h = mode_holds s frame form r h
-action_holds s frame A.Shadow facts held = tt
-action_holds s frame (A.Log text) facts held = tt
-action_holds s frame (A.SkipIf condition n) facts held = tt
-action_holds s frame (A.Ret status) facts held = tt
-action_holds s frame (A.DxeInstall form h guid v) facts held = tt
-action_holds s frame (A.DxeReinstall h guid old new) facts held = tt
-action_holds s frame (A.DxeUninstall h guid v) facts held = tt
-action_holds s frame (A.DxeLocate h v guid) facts held = tt
-action_holds s frame (A.DxeNotify guid b) facts held = tt
-action_holds s frame (A.Schedule guid) facts held = tt
-action_holds s frame (A.Process v) facts held = tt
-action_holds s frame A.Dispatch facts held = tt
+action_holds s frame _ facts held = tt
 
 pub replies_are_sound : RepliesAreSound
 replies_are_sound s frame action name reply facts h e = let is : HoldsAfter s (Called name reply) = subst (λ x. HoldsAfter s x) e (action_holds s frame action facts h) in is

@@ -67,7 +67,6 @@ process_quiet catalog m frame volume =
     either_quiet m (has_number m.discovered volume) (dxe_refusal m frame AlreadyStarted) (processed catalog m frame (newcomers catalog m.discovered (Some volume))) refl refl
 
 effect_quiet : (catalog : Catalog) (m : DxeMachine) (frame : DriverFrame) (action : Action) → IsQuiet m (dxe_effect catalog m frame action)
-effect_quiet catalog m frame (A.Set r n) = tt
 effect_quiet catalog m frame (A.Add r n) = written_quiet m frame.registers r (option_map (λ old. (old + n) % 2 ^ 64) (number_in frame.registers r))
 effect_quiet catalog m frame (A.Peek v n) =
     where_quiet m frame (number_in frame.registers v) (peek_reply m frame n) InvalidParameter
@@ -88,22 +87,7 @@ effect_quiet catalog m frame (A.Process v) =
     where_quiet m frame (number_in frame.registers v) (process_reply catalog m frame) InvalidParameter
     (λ base. where_quiet m frame (volume_at catalog base) (process_volume catalog m frame) NotFound (process_quiet catalog m frame))
 effect_quiet catalog m frame A.Dispatch = refl
-effect_quiet catalog m frame (A.Log text) = tt
-effect_quiet catalog m frame (A.SkipIf condition n) = tt
-effect_quiet catalog m frame (A.Ret status) = tt
-effect_quiet catalog m frame (A.Addr v x offset) = tt
-effect_quiet catalog m frame (A.Pool r size) = tt
-effect_quiet catalog m frame (A.Store p offset bytes) = tt
-effect_quiet catalog m frame (A.Desc d kind guid arg) = tt
-effect_quiet catalog m frame (A.Install list) = tt
-effect_quiet catalog m frame (A.Reinstall old new) = tt
-effect_quiet catalog m frame (A.Notify list) = tt
-effect_quiet catalog m frame (A.Locate d v guid instance) = tt
-effect_quiet catalog m frame (A.Hob kind body) = tt
-effect_quiet catalog m frame (A.Memory begin length) = tt
-effect_quiet catalog m frame (A.Pages r memory_type count) = tt
-effect_quiet catalog m frame (A.BootMode form r) = tt
-effect_quiet catalog m frame A.Shadow = tt
+effect_quiet catalog m frame _ = tt
 
 after_effect : (m : DxeMachine) (frame : DriverFrame) (below : List DriverFrame) (has : DxeEffect) → IsQuiet m has → (told : List Line) × ((after_dxe_effect m frame below has).lines ≡ m.lines ++ told)
 after_effect m frame below (Wrote registers status) quiet = ([], sym (append-nil m.lines))

@@ -162,7 +162,6 @@ either_keeps m guid changed true one other h k = h
 either_keeps m guid changed false one other h k = k
 
 effect_keeps : (catalog : Catalog) (m : DxeMachine) (guid : Guid) (frame : DriverFrame) (action : Action) → EffectKeeps m guid (changed_protocols action) (dxe_effect catalog m frame action)
-effect_keeps catalog m guid frame (A.Set r n) = tt
 effect_keeps catalog m guid frame (A.Add r n) = written_keeps m guid [] frame r (option_map (λ old. (old + n) % 2 ^ 64) (number_in frame.registers r))
 effect_keeps catalog m guid frame (A.Peek v n) =
     where_keeps m guid [] frame (number_in frame.registers v) (peek_reply m frame n) InvalidParameter
@@ -187,22 +186,7 @@ effect_keeps catalog m guid frame (A.Process v) =
     (λ base. where_keeps m guid [] frame (volume_at catalog base) (process_volume catalog m frame) NotFound
     (λ volume. either_keeps m guid [] (has_number m.discovered volume) (dxe_refusal m frame AlreadyStarted) (processed catalog m frame (newcomers catalog m.discovered (Some volume))) (λ _. refl) (λ _. refl)))
 effect_keeps catalog m guid frame A.Dispatch = λ _. refl
-effect_keeps catalog m guid frame (A.Log text) = tt
-effect_keeps catalog m guid frame (A.SkipIf condition n) = tt
-effect_keeps catalog m guid frame (A.Ret status) = tt
-effect_keeps catalog m guid frame (A.Addr v x offset) = tt
-effect_keeps catalog m guid frame (A.Pool r size) = tt
-effect_keeps catalog m guid frame (A.Store p offset bytes) = tt
-effect_keeps catalog m guid frame (A.Desc d kind other arg) = tt
-effect_keeps catalog m guid frame (A.Install list) = tt
-effect_keeps catalog m guid frame (A.Reinstall old new) = tt
-effect_keeps catalog m guid frame (A.Notify list) = tt
-effect_keeps catalog m guid frame (A.Locate d v other instance) = tt
-effect_keeps catalog m guid frame (A.Hob kind body) = tt
-effect_keeps catalog m guid frame (A.Memory begin length) = tt
-effect_keeps catalog m guid frame (A.Pages r memory_type count) = tt
-effect_keeps catalog m guid frame (A.BootMode form r) = tt
-effect_keeps catalog m guid frame A.Shadow = tt
+effect_keeps catalog m guid frame _ = tt
 
 -- the machine behind an effect
 effect_lasts : (m : DxeMachine) (guid : Guid) (changed : List Guid) (frame : DriverFrame) (below : List DriverFrame) (e : DxeEffect) → EffectKeeps m guid changed e → is_among guid (cond (is_dxe_called e) changed []) ≡ false

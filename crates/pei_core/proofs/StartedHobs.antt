@@ -209,7 +209,6 @@ written_leaves started registers r None = tt
 written_leaves started registers r (Some n) = tt
 
 pub action_leaves : (started : List ℕ) (s : StoreState) (frame : Frame) (action : Action) → is_indexed 64 action ≡ true → HasStarted started frame.module_number → IsStoreOf started s → LeavesStore started (effect s frame action)
-action_leaves started s frame (A.Set r n) names of is = tt
 action_leaves started s frame (A.Add r n) names of is = written_leaves started frame.registers r _
 action_leaves started s frame (A.Addr v x offset) names of is = written_leaves started frame.registers v _
 action_leaves started s frame (A.Pool r size) names of is = answered started (pool s size) _ _ s frame.registers is (pool_keeps started s size is)
@@ -242,15 +241,4 @@ action_leaves started s frame (A.Memory begin length) names of is =
 action_leaves started s frame (A.Pages r memory_type count) names of is =
     if_kept started (is_memory_type memory_type && not (count == 0)) _ _ (answered started (pages s memory_type count) _ _ s frame.registers is (pages_keep started s memory_type count is)) is
 action_leaves started s frame (A.BootMode form r) names of is = mode_keeps started s frame form r is
-action_leaves started s frame A.Shadow names of is = tt
-action_leaves started s frame (A.Log text) names of is = tt
-action_leaves started s frame (A.SkipIf condition n) names of is = tt
-action_leaves started s frame (A.Ret status) names of is = tt
-action_leaves started s frame (A.DxeInstall form h guid v) names of is = tt
-action_leaves started s frame (A.DxeReinstall h guid old new) names of is = tt
-action_leaves started s frame (A.DxeUninstall h guid v) names of is = tt
-action_leaves started s frame (A.DxeLocate h v guid) names of is = tt
-action_leaves started s frame (A.DxeNotify guid b) names of is = tt
-action_leaves started s frame (A.Schedule guid) names of is = tt
-action_leaves started s frame (A.Process v) names of is = tt
-action_leaves started s frame A.Dispatch names of is = tt
+action_leaves started s frame _ names of is = tt
