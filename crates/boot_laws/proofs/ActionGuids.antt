@@ -1,46 +1,41 @@
 -- What an action of PEI changes of the GUIDs that are installed.
-use Rattle.std.proofs.Common.{◌≡◌, ℕ, zero, suc, ◌∙◌, ap, Bool, true, false, cond, List, [], ◌∷◌, Option, Some, None, refl, Ok, Err, map, ◌||◌, ◌++◌}
+use Rattle.std.proofs.Common.{◌≡◌, ℕ, ◌∙◌, ap, Bool, true, false, cond, List, [], ◌∷◌, Option, Some, None, refl, Ok, Err, map, ◌||◌, ◌++◌, subst, sym}
 use Rattle.std.specs.Bool.{⊤}
-use Rattle.std.specs.Option.{option_and_then, option_to_list}
-use Rattle.std.specs.Prelude.{◌+◌, ◌%◌, ◌^◌, ◌==◌, ◌&&◌, not, nat_lt, option_map, slice_set, unwrap_or, length}
+use Rattle.std.specs.Option.{option_to_list}
+use Rattle.std.specs.Prelude.{◌+◌, not, nat_lt, option_map, unwrap_or, length}
 use Rattle.std.specs.List.{list_all}
 use Rattle.pi_base.specs.declared.guid.Guid.{Guid}
-use Rattle.pi_base.specs.declared.word.Word.{Word}
-use Rattle.pi_base.specs.declared.word.Word.TheVariants.{InvalidParameter, NotFound}
-use Rattle.hob_codec.specs.HobReading.{hob_of}
 use Rattle.act_code.specs.declared.action.Action.{Action}
-use Rattle.act_code.specs.declared.action.Action.TheVariants as A
-use Rattle.boot_model.specs.declared.line.Extra.{Extra}
-use Rattle.boot_model.specs.declared.line.Extra.TheVariants as X
 use Rattle.boot_model.specs.PeiMachine.{Frame}
 use Rattle.boot_model.specs.declared.frame.Register.{Register}
-use Rattle.boot_model.specs.declared.frame.Register.TheVariants.{Number}
 use Rattle.store_model.specs.declared.store_handle.Desc.{Desc}
 use Rattle.store_model.specs.declared.store_handle.Pool.{Pool}
 use Rattle.store_model.specs.declared.store_handle.Sweep.{Sweep}
 use Rattle.store_model.specs.declared.store_handle.StoreFault.TheVariants as F
 use Rattle.pi_base.specs.Lists.{Each}
-use Rattle.store_model.specs.MemoryReading.{bytes_at}
 use Rattle.store_model.specs.StoreState.{StoreState, free}
 use Rattle.store_model.specs.StateFacts.{IsPool, IsStoreState}
 use Rattle.store_model.specs.Service.{Service}
-use Rattle.store_model.specs.Service.Descriptor.{guid_at, kind_at, is_ppi, offsets}
-use Rattle.store_model.specs.Service.Install.{has_ppi, install_pairs, install_sweep, installed, is_installed, node_need, reinstall_pairs, reinstall_sweep, reinstalled}
-use Rattle.store_model.specs.Service.Memory.{pages, with_boot_mode}
-use Rattle.store_model.specs.Service.Pool.{store}
-use Rattle.store_model.specs.Service.Reading.{nth_ppi}
-use Rattle.boot_model.specs.Registers.{number_in, pool_in, descriptor_in, offset_of, register, both, descriptors_in, is_success}
-use Rattle.boot_model.specs.PeiAction.{Reply, Effect, Wrote, Called, Own, Shadowed, Logged, Skipped, Returned, effect, answer_reply, sweep_reply, reply_where, store_reply, peek_reply, desc_argument, kind_number, desc_reply, install_reply, reinstall_reply, notify_reply, locate_reply, hob_reply, memory_reply, pages_reply, is_memory_type, set_mode_reply, mode_reply, number_written, told, refusal}
-use Rattle.boot_model.specs.EvaluationBound.{is_called, action_guids}
+use Rattle.store_model.specs.Service.Descriptor.{guid_at, kind_at, is_ppi, offsets, desc}
+use Rattle.store_model.specs.Service.Install.{has_ppi, install_pairs, install_sweep, installed, is_installed, node_need, reinstall_pairs, reinstall_sweep, reinstalled, install, reinstall}
+use Rattle.store_model.specs.Service.Memory.{pages, with_boot_mode, set_memory}
+use Rattle.store_model.specs.Service.Pool.{store, pool}
+use Rattle.boot_model.specs.Registers.{pool_in, descriptor_in, register, both, descriptors_in, is_success}
+use Rattle.boot_model.specs.PeiAction.{Reply, Effect, Wrote, Called, Own, Shadowed, Logged, Skipped, Returned, effect, kind_number}
+use Rattle.boot_model.specs.EvaluationBound.{is_called, action_guids, changed_places}
 use Rattle.boot_model.specs.MachineFacts.{HoldRegisters}
 use Rattle.boot_laws.specs.ChangedGuids.{is_among}
 use Rattle.boot_model.specs.EventGuids.{placed, placed_guids}
 use Rattle.boot_laws.proofs.GuidLists.{each_among, or_false}
 use Rattle.boot_laws.proofs.InstalledGuids.{AreThere, installed_has, ppi_is, ppis_are, reinstalled_has, reinstalled_there}
-use Rattle.boot_laws.proofs.LastingGuids.{IsQuiet, named, quiet_has, quiet_self}
+use Rattle.boot_laws.proofs.LastingGuids.{IsQuiet, named, quiet_has}
 use Rattle.boot_laws.proofs.QuietServices.{KeepsQuiet, OptionQuiet, pool_quiet, desc_quiet, notify_quiet, hob_quiet, memory_quiet, pages_quiet, store_quiet}
 use Rattle.boot_model.proofs.ListFacts.{each_more, has_later}
 use Rattle.boot_model.proofs.Held.{pool_is, is_held as held_at}
+use Rattle.boot_laws.specs.EffectForms.{EffectHas, RepliesHave}
+use Rattle.boot_laws.proofs.EffectForms.{effect_has, any_writes}
+use Rattle.store_model.specs.Service.Notify.{notify}
+use Rattle.store_model.specs.Service.Hob.{create_hob}
 
 -- what changes from one state to another, and what is there then
 pub record Puts (s new : StoreState) (changed placed : List Guid) : Type 0 where
@@ -57,15 +52,6 @@ puts_these s new guids has = record {
   there = each_more (λ guid. is_among guid guids ≡ true) (λ guid. has_ppi new guid ≡ true) guids (λ guid e. has guid ∙ has_later (has_ppi s guid) (is_among guid guids) e) (each_among guids);
 }
 
--- an effect that leaves the descriptors and the PPIs as they are
-abbrev pub EffectQuiet : StoreState → Effect → Type 0
-EffectQuiet s (Called name reply) = IsQuiet s reply.store
-EffectQuiet s (Wrote registers status) = ⊤
-EffectQuiet s (Own Shadowed) = ⊤
-EffectQuiet s (Logged text) = ⊤
-EffectQuiet s (Skipped n) = ⊤
-EffectQuiet s (Returned status) = ⊤
-
 -- the state behind an effect
 abbrev pub state_after : StoreState → Effect → StoreState
 state_after s (Called name reply) = reply.store
@@ -75,119 +61,95 @@ state_after s (Logged text) = s
 state_after s (Skipped n) = s
 state_after s (Returned status) = s
 
-nothing : (new : StoreState) (b : Bool) → Each (λ guid. has_ppi new guid ≡ true) (cond b [] [])
-nothing new true = tt
-nothing new false = tt
-
-quiet_same : (s : StoreState) (guid : Guid) (has : Effect) → IsStoreState s → EffectQuiet s has → has_ppi (state_after s has) guid ≡ has_ppi s guid
-quiet_same s guid (Called name reply) facts quiet = quiet_has s reply.store guid facts quiet
-quiet_same s guid (Wrote registers status) facts quiet = refl
-quiet_same s guid (Own Shadowed) facts quiet = refl
-quiet_same s guid (Logged text) facts quiet = refl
-quiet_same s guid (Skipped n) facts quiet = refl
-quiet_same s guid (Returned status) facts quiet = refl
-
-quiet_puts : (s : StoreState) (has : Effect) → IsStoreState s → EffectQuiet s has → Puts s (state_after s has) (cond (is_called has) [] []) (cond (is_called has) [] [])
-quiet_puts s has facts quiet = record { changes = λ guid h. quiet_same s guid has facts quiet; there = nothing (state_after s has) (is_called has) }
-
-abbrev ReplyQuiet : StoreState → Reply → Type 0
-ReplyQuiet s reply = IsQuiet s reply.store
-
-answered : {A : Type 0} (s : StoreState) (service : Service A) (write : A → List Register) (extra : A → Extra) (registers : List Register)
-    → KeepsQuiet s service → ReplyQuiet s (answer_reply service write extra s registers)
-answered s (Ok pair) write extra registers h = h
-answered s (Err fault) write extra registers h = quiet_self s
-
-swept : (s : StoreState) (service : Service Sweep) (installs : List ℕ) (registers : List Register) → KeepsQuiet s service → ReplyQuiet s (sweep_reply service installs s registers)
-swept s (Ok pair) installs registers h = h
-swept s (Err fault) installs registers h = quiet_self s
-
-where_keeps : {A : Type 0} (s : StoreState) (argument : Option A) (reply : A → Reply) (registers : List Register) (status : Word)
-    → ((a : A) → ReplyQuiet s (reply a)) → ReplyQuiet s (reply_where argument reply s registers status)
-where_keeps s None reply registers status h = quiet_self s
-where_keeps s (Some a) reply registers status h = h a
-
-either_keeps : (s : StoreState) (b : Bool) (one other : Reply) → ReplyQuiet s one → ReplyQuiet s other → ReplyQuiet s (cond b one other)
-either_keeps s true one other h k = h
-either_keeps s false one other h k = k
-
-stored : (s : StoreState) (frame : Frame) (new : Option StoreState) → OptionQuiet s new → ReplyQuiet s (store_reply s frame new)
-stored s frame None h = quiet_self s
-stored s frame (Some new) h = h
-
-pool_stored : (s : StoreState) (frame : Frame) (at : ℕ) (bytes : List ℕ) (to : Option Pool) → ((pool : Pool) → to ≡ Some pool → IsPool s pool) → ReplyQuiet s (store_reply s frame (option_and_then (λ to. store s to at bytes) to))
-pool_stored s frame at bytes None is = quiet_self s
-pool_stored s frame at bytes (Some to) is = stored s frame (store s to at bytes) (store_quiet s to at bytes (is to refl))
-
-mode_keeps : (s : StoreState) (frame : Frame) (form r : ℕ) → ReplyQuiet s (mode_reply s frame form r)
-mode_keeps s frame zero r = quiet_self s
-mode_keeps s frame (suc form) r =
-    where_keeps s (number_in frame.registers r) (set_mode_reply s frame) frame.registers InvalidParameter (λ mode. either_keeps s (nat_lt mode (2 ^ 32)) (told (with_boot_mode s mode) frame.registers X.Nothing) (refusal s frame.registers InvalidParameter) (record { lasts = λ place d h. h; ppis = refl }) (quiet_self s))
-
-call_keeps : {A : Type 0} (s : StoreState) (frame : Frame) (argument : Option A) (reply : A → Reply) → ((a : A) → ReplyQuiet s (reply a)) → ReplyQuiet s (reply_where argument reply s frame.registers InvalidParameter)
-call_keeps s frame argument reply h = where_keeps s argument reply frame.registers InvalidParameter h
-
-peeked : (s : StoreState) (frame : Frame) (n at : ℕ) → ReplyQuiet s (peek_reply s frame n at)
-peeked s frame n at = where_keeps s (bytes_at s at n) (λ bytes. told s frame.registers (X.Bytes (record { items = bytes }))) frame.registers NotFound (λ bytes. quiet_self s)
-
-pages_keep : (s : StoreState) (frame : Frame) (r memory_type count : ℕ) → ReplyQuiet s (pages_reply s frame r memory_type count)
-pages_keep s frame r memory_type count =
-    either_keeps s (is_memory_type memory_type && not (count == 0)) _ (refusal s frame.registers InvalidParameter)
-    (answered s (pages s memory_type count) (λ address. slice_set frame.registers r (Number address)) (λ address. X.Number address) frame.registers (pages_quiet s memory_type count)) (quiet_self s)
-
-written_keeps : (s : StoreState) (registers : List Register) (r : ℕ) (n : Option ℕ) → EffectQuiet s (number_written registers r n)
-written_keeps s registers r None = tt
-written_keeps s registers r (Some n) = tt
-
 held_pool : (s : StoreState) (registers : List Register) (r : ℕ) (pool : Pool) → HoldRegisters registers s → pool_in registers r ≡ Some pool → IsPool s pool
 held_pool s registers r pool each e = pool_is s (register registers r) pool (held_at s registers r each) e
 
--- a reply that puts in what stands at places where it succeeds
-abbrev ReplyPuts : StoreState → Reply → List ℕ → List ℕ → Type 0
-ReplyPuts s reply changed placed = Puts s reply.store (cond (is_success reply.status) (map (guid_at s) changed) []) (cond (is_success reply.status) (map (guid_at s) placed) [])
+-- a service that installs nothing
+quiet_puts : (s new : StoreState) → IsStoreState s → IsQuiet s new → Puts s new [] []
+quiet_puts s new facts quiet = record { changes = λ guid h. quiet_has s new guid facts quiet; there = tt }
 
-install_by : (s : StoreState) (frame : Frame) (list : List Desc) (all full : Bool) → AreThere s → list_all (λ d. is_ppi (kind_at s d.offset)) list ≡ all
-    → ReplyPuts s (sweep_reply (cond (not all) (Err F.Bad) (cond full (Err F.Full) (Ok (install_sweep s list, installed s list frame.module_number)))) (offsets list) s frame.registers) (offsets list) (offsets list)
-install_by s frame list false full there e = puts_nothing s
-install_by s frame list true true there e = puts_nothing s
-install_by s frame list true false there e = puts_these s (installed s list frame.module_number) (map (guid_at s) (offsets list)) (λ guid. installed_has s list frame.module_number guid there (ppis_are s list e))
+succeeds : {B : Type 0} (s : StoreState) (service : Service B) (pair : B × StoreState) → IsStoreState s → KeepsQuiet s service → service ≡ Ok pair → Puts s pair.1 [] []
+succeeds s service pair facts quiet e = quiet_puts s pair.1 facts (subst (λ x. KeepsQuiet s x) e quiet)
 
-install_puts : (s : StoreState) (frame : Frame) (list : Option (List Desc)) → AreThere s
-    → ReplyPuts s (reply_where list (install_reply s frame) s frame.registers InvalidParameter) (unwrap_or (option_map offsets list) []) (unwrap_or (option_map offsets list) [])
-install_puts s frame None there = puts_nothing s
-install_puts s frame (Some list) there =
-    install_by s frame list (list_all (λ d. is_ppi (kind_at s d.offset)) list) (nat_lt (free s) (node_need (length list) + node_need (length (install_pairs s list)))) there refl
+install_by : (s : StoreState) (list : List Desc) (by : ℕ) (sweep : Sweep) (new : StoreState) (all full : Bool) → AreThere s → list_all (λ d. is_ppi (kind_at s d.offset)) list ≡ all
+    → cond {A = Service Sweep} (not all) (Err F.Bad) (cond full (Err F.Full) (Ok (install_sweep s list, installed s list by))) ≡ Ok (sweep, new) → Puts s new (map (guid_at s) (offsets list)) (map (guid_at s) (offsets list))
+install_by s list by sweep new false full there e f = cc
+install_by s list by sweep new true true there e f = cc
+install_by s list by sweep new true false there e f =
+    let own : Sweep × StoreState = (install_sweep s list, installed s list by) in
+    let answer : Sweep × StoreState = (sweep, new) in
+    let same : own ≡ answer = cc in
+    subst (λ (x : Sweep × StoreState). Puts s x.1 (map (guid_at s) (offsets list)) (map (guid_at s) (offsets list))) same
+    (puts_these s (installed s list by) (map (guid_at s) (offsets list)) (λ guid. installed_has s list by guid there (ppis_are s list e)))
 
-reinstall_by : (s : StoreState) (frame : Frame) (old new : Desc) (kind found full : Bool) → AreThere s → is_ppi (kind_at s new.offset) ≡ kind → is_installed s old ≡ found
-    → ReplyPuts s (sweep_reply (cond (not kind) (Err F.Bad) (cond (not found) (Err F.Missing) (cond full (Err F.Full) (Ok (reinstall_sweep s old, reinstalled s old new frame.module_number))))) (new.offset ∷ []) s frame.registers) (old.offset ∷ new.offset ∷ []) (new.offset ∷ [])
-reinstall_by s frame old new false found full there e f = puts_nothing s
-reinstall_by s frame old new true false full there e f = puts_nothing s
-reinstall_by s frame old new true true true there e f = puts_nothing s
-reinstall_by s frame old new true true false there e f = record {
-  changes = λ guid h. reinstalled_has s old new frame.module_number guid there (ppi_is s new.offset e) h;
-  there = (reinstalled_there s old new frame.module_number there (ppi_is s new.offset e) f, tt);
+install_puts : (s : StoreState) (held : Option (List Desc)) (list : List Desc) (by : ℕ) (sweep : Sweep) (new : StoreState) → AreThere s → held ≡ Some list → install s list by ≡ Ok (sweep, new)
+    → Puts s new (map (guid_at s) (unwrap_or (option_map offsets held) [])) (map (guid_at s) (unwrap_or (option_map offsets held) []))
+install_puts s held list by sweep new there e f =
+    subst (λ o. Puts s new (map (guid_at s) (unwrap_or (option_map offsets o) [])) (map (guid_at s) (unwrap_or (option_map offsets o) []))) (sym e)
+    (install_by s list by sweep new (list_all (λ d. is_ppi (kind_at s d.offset)) list) (nat_lt (free s) (node_need (length list) + node_need (length (install_pairs s list)))) there refl f)
+
+reinstall_by : (s : StoreState) (old new : Desc) (by : ℕ) (sweep : Sweep) (after : StoreState) (kind found full : Bool) → AreThere s → is_ppi (kind_at s new.offset) ≡ kind → is_installed s old ≡ found
+    → cond {A = Service Sweep} (not kind) (Err F.Bad) (cond (not found) (Err F.Missing) (cond full (Err F.Full) (Ok (reinstall_sweep s old, reinstalled s old new by)))) ≡ Ok (sweep, after)
+    → Puts s after (map (guid_at s) (old.offset ∷ new.offset ∷ [])) (map (guid_at s) (new.offset ∷ []))
+reinstall_by s old new by sweep after false found full there e f g = cc
+reinstall_by s old new by sweep after true false full there e f g = cc
+reinstall_by s old new by sweep after true true true there e f g = cc
+reinstall_by s old new by sweep after true true false there e f g =
+    let own : Sweep × StoreState = (reinstall_sweep s old, reinstalled s old new by) in
+    let answer : Sweep × StoreState = (sweep, after) in
+    let same : own ≡ answer = cc in
+    subst (λ (x : Sweep × StoreState). Puts s x.1 (map (guid_at s) (old.offset ∷ new.offset ∷ [])) (map (guid_at s) (new.offset ∷ []))) same (record {
+      changes = λ guid h. reinstalled_has s old new by guid there (ppi_is s new.offset e) h;
+      there = (reinstalled_there s old new by there (ppi_is s new.offset e) f, tt);
+    })
+
+reinstall_puts : (s : StoreState) (old new : Option Desc) (pair : Desc × Desc) (by : ℕ) (sweep : Sweep) (after : StoreState) → AreThere s → both old new ≡ Some pair → reinstall s pair.0 pair.1 by ≡ Ok (sweep, after)
+    → Puts s after (map (guid_at s) (offsets (option_to_list old ++ option_to_list new))) (map (guid_at s) (offsets (option_to_list new)))
+reinstall_puts s None new pair by sweep after there e f = cc
+reinstall_puts s (Some old) None pair by sweep after there e f = cc
+reinstall_puts s (Some old) (Some new) pair by sweep after there e f =
+    let own : Desc × Desc = (old, new) in
+    let same : pair ≡ own = cc in
+    reinstall_by s old new by sweep after (is_ppi (kind_at s new.offset)) (is_installed s old) (nat_lt (free s) (node_need (length (reinstall_pairs s new)))) there refl refl
+    (subst (λ (p : Desc × Desc). reinstall s p.0 p.1 by ≡ Ok (sweep, after)) same f)
+
+-- a reply puts in what stands at the places of its action, where it succeeds
+abbrev ReplyPuts : StoreState → List ℕ → List ℕ → Reply → Type 0
+ReplyPuts s changed placed reply = Puts s reply.store (cond (is_success reply.status) (map (guid_at s) changed) []) (cond (is_success reply.status) (map (guid_at s) placed) [])
+
+refused_puts : (s : StoreState) (b : Bool) (changed placed : List Guid) → b ≡ false → Puts s s (cond b changed []) (cond b placed [])
+refused_puts s true changed placed e = cc
+refused_puts s false changed placed e = puts_nothing s
+
+replies_put : (s : StoreState) (frame : Frame) → IsStoreState s → HoldRegisters frame.registers s → RepliesHave s frame (λ action reply. ReplyPuts s (changed_places frame action) (placed frame action) reply)
+replies_put s frame facts held = record {
+  refused = λ action status other. refused_puts s (is_success status) _ _ other;
+  pool = λ r size made new e. succeeds s (pool s size) (made, new) facts (pool_quiet s size) e;
+  store = λ p offset bytes to new in_pool e. quiet_puts s new facts (subst (λ o. OptionQuiet s o) e (store_quiet s to offset bytes (held_pool s frame.registers p to held in_pool)));
+  peek = λ v n bytes. puts_nothing s;
+  desc = λ d kind guid arg of made new e f. succeeds s (desc s (kind_number kind) of.0 of.1) (made, new) facts (desc_quiet s (kind_number kind) of.0 of.1) f;
+  install = λ list found sweep new e f. install_puts s (descriptors_in frame.registers list) found frame.module_number sweep new (named s s.ppis facts.ppis) e f;
+  reinstall = λ old new pair sweep after e f.
+      reinstall_puts s (descriptor_in frame.registers old) (descriptor_in frame.registers new) pair frame.module_number sweep after (named s s.ppis facts.ppis) e f;
+  notify = λ list found sweep new e f. succeeds s (notify s found frame.module_number) (sweep, new) facts (notify_quiet s found frame.module_number) f;
+  locate = λ d v guid instance found e. puts_nothing s;
+  hob = λ kind body hob address new e f. succeeds s (create_hob s hob) (address, new) facts (hob_quiet s hob) f;
+  memory = λ begin len span done new e f. succeeds s (set_memory s span.0 span.1) (done, new) facts (memory_quiet s span.0 span.1) f;
+  pages = λ r memory_type count address new e. succeeds s (pages s memory_type count) (address, new) facts (pages_quiet s memory_type count) e;
+  mode = λ r. puts_nothing s;
+  set_mode = λ form r mode small. quiet_puts s (with_boot_mode s mode) facts (record { lasts = λ place d h. h; ppis = refl });
 }
 
-reinstall_puts : (s : StoreState) (frame : Frame) (old new : Option Desc) → AreThere s
-    → ReplyPuts s (reply_where (both old new) (reinstall_reply s frame) s frame.registers InvalidParameter) (offsets (option_to_list old ++ option_to_list new)) (offsets (option_to_list new))
-reinstall_puts s frame None new there = puts_nothing s
-reinstall_puts s frame (Some old) None there = puts_nothing s
-reinstall_puts s frame (Some old) (Some new) there =
-    reinstall_by s frame old new (is_ppi (kind_at s new.offset)) (is_installed s old) (nat_lt (free s) (node_need (length (reinstall_pairs s new)))) there refl refl
+effect_puts : (s : StoreState) (does : Effect) (changed placed : List ℕ) → EffectHas (ReplyPuts s changed placed) (λ registers. ⊤) does
+    → Puts s (state_after s does) (cond (is_called does) (map (guid_at s) changed) []) (cond (is_called does) (map (guid_at s) placed) [])
+effect_puts s (Called name reply) changed placed puts = puts
+effect_puts s (Wrote registers status) changed placed puts = puts_nothing s
+effect_puts s (Own Shadowed) changed placed puts = puts_nothing s
+effect_puts s (Logged text) changed placed puts = puts_nothing s
+effect_puts s (Skipped n) changed placed puts = puts_nothing s
+effect_puts s (Returned status) changed placed puts = puts_nothing s
 
 pub puts : (s : StoreState) (frame : Frame) (action : Action) → IsStoreState s → HoldRegisters frame.registers s → Puts s (state_after s (effect s frame action)) (action_guids s frame action) (placed_guids s frame action)
-puts s frame (A.Add r n) facts held = quiet_puts s (effect s frame (A.Add r n)) facts (written_keeps s frame.registers r (option_map (λ old. (old + n) % 2 ^ 64) (number_in frame.registers r)))
-puts s frame (A.Addr v x offset) facts held = quiet_puts s (effect s frame (A.Addr v x offset)) facts (written_keeps s frame.registers v (option_map (λ place. s.base + place + offset) (offset_of (register frame.registers x))))
-puts s frame (A.Pool r size) facts held = quiet_puts s (effect s frame (A.Pool r size)) facts (answered s _ _ _ frame.registers (pool_quiet s size))
-puts s frame (A.Store p offset bytes) facts held = quiet_puts s (effect s frame (A.Store p offset bytes)) facts (pool_stored s frame offset bytes (pool_in frame.registers p) (λ pool. held_pool s frame.registers p pool held))
-puts s frame (A.Peek v n) facts held = quiet_puts s (effect s frame (A.Peek v n)) facts (call_keeps s frame (number_in frame.registers v) (peek_reply s frame n) (peeked s frame n))
-puts s frame (A.Desc d kind guid arg) facts held = quiet_puts s (effect s frame (A.Desc d kind guid arg)) facts (call_keeps s frame (desc_argument frame (kind_number kind) guid arg) (desc_reply s frame d (kind_number kind)) (λ pair. answered s _ _ _ frame.registers (desc_quiet s (kind_number kind) pair.0 pair.1)))
-puts s frame (A.Install list) facts held = install_puts s frame (descriptors_in frame.registers list) (named s s.ppis facts.ppis)
-puts s frame (A.Reinstall old new) facts held = reinstall_puts s frame (descriptor_in frame.registers old) (descriptor_in frame.registers new) (named s s.ppis facts.ppis)
-puts s frame (A.Notify list) facts held = quiet_puts s (effect s frame (A.Notify list)) facts (call_keeps s frame (descriptors_in frame.registers list) (notify_reply s frame) (λ list. swept s _ _ frame.registers (notify_quiet s list frame.module_number)))
-puts s frame (A.Locate d v guid instance) facts held = quiet_puts s (effect s frame (A.Locate d v guid instance)) facts (where_keeps s (nth_ppi s guid instance) (locate_reply s frame d v) frame.registers NotFound (λ found. quiet_self s))
-puts s frame (A.Hob kind body) facts held = quiet_puts s (effect s frame (A.Hob kind body)) facts (call_keeps s frame (hob_of kind body) (hob_reply s frame) (λ hob. answered s _ _ _ frame.registers (hob_quiet s hob)))
-puts s frame (A.Memory begin length) facts held = quiet_puts s (effect s frame (A.Memory begin length)) facts (call_keeps s frame (both (number_in frame.registers begin) (number_in frame.registers length)) (memory_reply s frame) (λ span. answered s _ _ _ frame.registers (memory_quiet s span.0 span.1)))
-puts s frame (A.Pages r memory_type count) facts held = quiet_puts s (effect s frame (A.Pages r memory_type count)) facts (pages_keep s frame r memory_type count)
-puts s frame (A.BootMode form r) facts held = quiet_puts s (effect s frame (A.BootMode form r)) facts (mode_keeps s frame form r)
-puts s frame action facts held = quiet_puts s (effect s frame action) facts tt
+puts s frame action facts held =
+    effect_puts s (effect s frame action) (changed_places frame action) (placed frame action)
+    (effect_has s frame (λ own reply. ReplyPuts s (changed_places frame own) (placed frame own) reply) (λ _ registers. ⊤) (any_writes s frame) (replies_put s frame facts held) action)

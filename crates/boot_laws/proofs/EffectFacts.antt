@@ -1,12 +1,10 @@
 -- What an action of a script leaves: a store with its facts, and registers of numbers that fit.
-use Rattle.std.proofs.Common.{◌≡◌, ℕ, zero, suc, ◌+◌, ◌-◌, ◌*◌, ◌%◌, ◌^◌, ◌≤◌, ◌<◌, ◌==◌, ◌&&◌, Bool, true, false, cond, List, [], ◌∷◌, length, arith, sym, refl, subst, Option, Some, None, Ok, Err, nat_lt}
+use Rattle.std.proofs.Common.{◌≡◌, ℕ, zero, suc, ◌+◌, ◌-◌, ◌*◌, ◌%◌, ◌^◌, ◌≤◌, ◌<◌, ◌==◌, ◌&&◌, Bool, true, false, cond, List, [], ◌∷◌, arith, sym, refl, subst, Option, Some, None, Ok, Err, nat_lt}
 use Rattle.std.specs.Bool.{⊤}
-use Rattle.std.specs.Prelude.{IfSome, slice_set, slice_get, filter, not}
+use Rattle.std.specs.Prelude.{IfSome, slice_set, slice_get, filter}
 use Rattle.std.specs.List.{list_all}
-use Rattle.std.specs.Option.{option_map, option_and_then}
+use Rattle.std.specs.Option.{option_map}
 use Rattle.std.proofs.lemmas.Bool.Decides.{nat_tests}
-use Rattle.pi_base.specs.declared.word.Word.{Word}
-use Rattle.pi_base.specs.declared.word.Word.TheVariants.{InvalidParameter, NotFound}
 use Rattle.pi_base.specs.Lists.{Each}
 use Rattle.hob_codec.specs.HobReading.{hob_of}
 use Rattle.hob_codec.specs.HobValue.{HobValue}
@@ -22,15 +20,12 @@ use Rattle.store_model.specs.declared.store_handle.DescKind.TheVariants.{Ppi, Ca
 use Rattle.store_model.specs.declared.store_handle.Desc.{Desc}
 use Rattle.store_model.specs.declared.store_handle.GuidFrom.{GuidFrom}
 use Rattle.store_model.specs.declared.store_handle.GuidFrom.TheVariants.{Inline, At}
-use Rattle.store_model.specs.declared.store_handle.Pool.{Pool}
-use Rattle.store_model.specs.declared.store_handle.Sweep.{Sweep}
 use Rattle.store_model.specs.declared.store_handle.StoreFault.{StoreFault}
 use Rattle.store_model.specs.declared.store_handle.StoreFault.TheVariants as F
 use Rattle.store_model.specs.StoreState.{StoreState, free, appended, end_place}
-use Rattle.store_model.specs.StateFacts.{IsStoreState, IsPool, IsEntry, IsNumberOf}
-use Rattle.store_model.specs.MemoryReading.{bytes_at}
+use Rattle.store_model.specs.StateFacts.{IsStoreState, IsEntry, IsNumberOf}
 use Rattle.store_model.specs.Service.{Service, in_room}
-use Rattle.store_model.specs.Service.Reading.{nth_ppi, ppis_of}
+use Rattle.store_model.specs.Service.Reading.{ppis_of}
 use Rattle.store_model.specs.Service.Pool.{pool, store}
 use Rattle.store_model.specs.Service.Descriptor.{desc, number_at}
 use Rattle.store_model.specs.Service.Install.{install, reinstall}
@@ -40,11 +35,10 @@ use Rattle.store_model.specs.Service.Memory.{set_memory, pages, pages_taken, ear
 use Rattle.store_laws.specs.Keeping.{Keeps, IsWholeGuid, IsMade, IsWord}
 use Rattle.boot_model.specs.declared.frame.Register.{Register}
 use Rattle.boot_model.specs.declared.frame.Register.TheVariants.{Empty, Number, PoolIn, DescriptorIn, HandleIn}
-use Rattle.boot_model.specs.declared.line.Extra.{Extra}
 use Rattle.boot_model.specs.MachineFacts.{HoldRegisters, IsModuleNumber}
 use Rattle.boot_model.specs.PeiMachine.{Frame}
-use Rattle.boot_model.specs.Registers.{register, number_of, pool_in, number_in, descriptor_in, descriptors_in, offset_of, both}
-use Rattle.boot_model.specs.PeiAction.{Reply, Effect, Wrote, Called, Own, Shadowed, Logged, Skipped, Returned, effect, number_written, answer_reply, sweep_reply, reply_where, set_mode_reply, mode_reply, peek_reply, guid_arg, desc_number, desc_reply, desc_argument, kind_number, install_reply, reinstall_reply, notify_reply, locate_reply, hob_reply, memory_reply, is_memory_type}
+use Rattle.boot_model.specs.Registers.{register, number_of, number_in, offset_of, both}
+use Rattle.boot_model.specs.PeiAction.{Reply, Effect, effect, guid_arg, desc_number, kind_number}
 use Rattle.boot_model.proofs.Held.{held_pool, held_place, held_list, held_two}
 use Rattle.boot_laws.specs.RunFacts.{IsFitting, FitRegisters}
 use Rattle.boot_laws.proofs.Firings.{number_of as number_is}
@@ -53,6 +47,8 @@ use Rattle.boot_model.proofs.ScriptActions.{IsOfScript}
 use Rattle.boot_model.proofs.ScriptHobs.{script_hob}
 use Rattle.store_laws.proofs.Hobs.{script_entry}
 use Rattle.boot_laws.proofs.StoreLaws.{StoreLaws}
+use Rattle.boot_laws.specs.EffectForms.{EffectHas, RepliesHave, WritesHave}
+use Rattle.boot_laws.proofs.EffectForms.{effect_has, given}
 
 pub record FitsReply (reply : Reply) : Type 0 where
   pub store : IsStoreState reply.store
@@ -60,21 +56,12 @@ pub record FitsReply (reply : Reply) : Type 0 where
 
 -- after what an action does
 abbrev pub FitsAfter : Effect → Type 0
-FitsAfter (Wrote registers status) = FitRegisters registers
-FitsAfter (Called name reply) = FitsReply reply
-FitsAfter (Own Shadowed) = ⊤
-FitsAfter (Logged text) = ⊤
-FitsAfter (Skipped n) = ⊤
-FitsAfter (Returned status) = ⊤
+FitsAfter does = EffectHas FitsReply FitRegisters does
 
 pub set_fits : (registers : List Register) (r : ℕ) (x : Register) → IsFitting x → FitRegisters registers → FitRegisters (slice_set registers r x)
 set_fits [] r x fits each = tt
 set_fits (y ∷ ys) zero x fits each = (fits, each.1)
 set_fits (y ∷ ys) (suc r) x fits each = (each.0, set_fits ys r x fits each.1)
-
-number_fits : (registers : List Register) (r : ℕ) (n : Option ℕ) → ((m : ℕ) → n ≡ Some m → m < 2 ^ 64) → FitRegisters registers → FitsAfter (number_written registers r n)
-number_fits registers r None fits each = each
-number_fits registers r (Some n) fits each = set_fits registers r (Number n) (fits n refl) each
 
 -- the number in a register
 register_fits : (registers : List Register) (r : ℕ) → FitRegisters registers → IsFitting (register registers r)
@@ -106,36 +93,6 @@ address_fits laws s (Some p) offset m facts at small e =
     let before = at p refl in
     let room = facts.room in
     let end = (laws.fit.heap s facts).end in omega (arith, same, before, room, end, small)
-
--- replies
-same_fits : (s : StoreState) (registers : List Register) (status : Word) (extra : Extra) → IsStoreState s → FitRegisters registers
-    → FitsReply (record { status = status; extra = extra; store = s; registers = registers; sweep = None; installs = [] })
-same_fits s registers status extra facts fits = record { store = facts; registers = fits }
-
-answer_fits : {A : Type 0} (service : Service A) (write : A → List Register) (extra : A → Extra) (s : StoreState) (registers : List Register) → IsStoreState s → FitRegisters registers
-    → Keeps service → ((a : A) (t : StoreState) → service ≡ Ok (a, t) → FitRegisters (write a)) → FitsReply (answer_reply service write extra s registers)
-answer_fits (Ok (a, t)) write extra s registers facts fits keeps f = record { store = keeps; registers = f a t refl }
-answer_fits (Err fault) write extra s registers facts fits keeps f = record { store = facts; registers = fits }
-
-sweep_fits : (service : Service Sweep) (installs : List ℕ) (s : StoreState) (registers : List Register) → IsStoreState s → FitRegisters registers → Keeps service → FitsReply (sweep_reply service installs s registers)
-sweep_fits (Ok (sweep, t)) installs s registers facts fits keeps = record { store = keeps; registers = fits }
-sweep_fits (Err fault) installs s registers facts fits keeps = record { store = facts; registers = fits }
-
-where_fits : {A : Type 0} (argument : Option A) (reply : A → Reply) (s : StoreState) (registers : List Register) (status : Word) → IsStoreState s → FitRegisters registers
-    → ((a : A) → Some a ≡ argument → FitsReply (reply a)) → FitsReply (reply_where argument reply s registers status)
-where_fits None reply s registers status facts fits f = record { store = facts; registers = fits }
-where_fits (Some a) reply s registers status facts fits f = f a refl
-
-if_fits : (b : Bool) (x y : Reply) → (b ≡ true → FitsReply x) → FitsReply y → FitsReply (cond b x y)
-if_fits true x y f g = f refl
-if_fits false x y f g = g
-
--- a write into a pool
-store_kept : StoreLaws → (s new : StoreState) (held : Option Pool) (at : ℕ) (bytes : List ℕ) → IsStoreState s → ((to : Pool) → Some to ≡ held → IsPool s to)
-    → Some new ≡ option_and_then (λ to. store s to at bytes) held → IsStoreState new
-store_kept laws s new None at bytes facts is e = cc
-store_kept laws s new (Some to) at bytes facts is e =
-    let kept = laws.keep.store s to at bytes facts (is to refl) in let now : IfSome (Some new) IsStoreState = subst (λ o. IfSome o IsStoreState) (sym e) kept in now
 
 -- a descriptor
 guid_whole : (registers : List Register) (guid : GuidArg) (from : GuidFrom) → IsGuidArg guid → Some from ≡ guid_arg registers guid → IsWholeGuid from
@@ -235,62 +192,73 @@ pages_fit laws true s memory_type count address t facts e = taken_fits laws s me
 pages_fit laws false s memory_type count address t facts e =
     taken_fits laws s memory_type (page_len * count) address t facts (past _ F.Full _ (address, t) (past _ F.Full _ (address, t) (past _ F.NotYet _ (address, t) e)))
 
-mode_fits : StoreLaws → (s : StoreState) (frame : Frame) (form r : ℕ) → IsStoreState s → FitRegisters frame.registers → FitsReply (mode_reply s frame form r)
-mode_fits laws s frame zero r facts fits = let mode = facts.boot_mode in same_fits s _ _ _ facts (set_fits frame.registers r (Number s.boot_mode) (omega (arith, mode)) fits)
-mode_fits laws s frame (suc form) r facts fits =
-    where_fits (number_in frame.registers r) (set_mode_reply s frame) s frame.registers InvalidParameter facts fits
-    (λ mode _. if_fits (nat_lt mode (2 ^ 32)) _ _ (λ t. record { store = laws.keep.boot_mode s mode facts (grind (arith, nat_tests, t)); registers = fits }) (same_fits s frame.registers _ _ facts fits))
-
 -- a module's number fits
 word_of : (number : ℕ) → IsModuleNumber number → IsWord number
 word_of number is = omega (arith, is)
 
+succeeds : {B : Type 0} (service : Service B) (pair : B × StoreState) → Keeps service → service ≡ Ok pair → IsStoreState pair.1
+succeeds service pair keeps e = subst (λ x. Keeps x) e keeps
+
+writes_fit : StoreLaws → (s : StoreState) (frame : Frame) → IsStoreState s → HoldRegisters frame.registers s → FitRegisters frame.registers → WritesHave s frame (λ action registers. IsOfScript Pei action → FitRegisters registers)
+writes_fit laws s frame facts held fits = record {
+  same = λ action is. fits;
+  set = λ r n is. let small = is.is.in_range.1 in set_fits frame.registers r (Number n) (omega (arith, small)) fits;
+  add = λ r n sum e is. set_fits frame.registers r (Number sum) (sum_fits (number_in frame.registers r) n sum e) fits;
+  addr = λ v x offset address e is.
+      set_fits frame.registers v (Number address) (address_fits laws s (offset_of (register frame.registers x)) offset address facts (λ p. held_place s frame.registers x p held) is.is.in_range.1.1 e) fits;
+}
+
+replies_fit : StoreLaws → (s : StoreState) (frame : Frame) → IsStoreState s → HoldRegisters frame.registers s → FitRegisters frame.registers → IsModuleNumber frame.module_number
+    → RepliesHave s frame (λ action reply. IsOfScript Pei action → FitsReply reply)
+replies_fit laws s frame facts held fits among = record {
+  refused = λ action status other is. record { store = facts; registers = fits };
+  pool = λ r size made new e is. record { store = succeeds (pool s size) (made, new) (laws.keep.pool s size facts) e; registers = set_fits frame.registers r (PoolIn made) tt fits };
+  store = λ p offset bytes to new in_pool e is. record {
+    store = subst (λ o. IfSome o IsStoreState) e (laws.keep.store s to offset bytes facts (held_pool s frame.registers p to held (sym in_pool)));
+    registers = fits;
+  };
+  peek = λ v n bytes is. record { store = facts; registers = fits };
+  desc = λ d kind guid arg of made new e f is.
+      let whole = made_is (kind_number kind) of (guid_arg frame.registers guid) (desc_number frame.module_number frame.registers (kind_number kind) arg)
+      (λ g. guid_whole frame.registers guid g is.is.in_range.1.1) (λ n. desc_fits frame.module_number frame.registers (kind_number kind) arg n fits among (block_is kind arg _ is.indexed)) (sym e) in
+      record { store = succeeds (desc s (kind_number kind) of.0 of.1) (made, new) (laws.keep.desc s (kind_number kind) of.0 of.1 facts whole) f; registers = set_fits frame.registers d (DescriptorIn made) tt fits };
+  install = λ list found sweep new e f is. record {
+    store = succeeds (install s found frame.module_number) (sweep, new)
+        (laws.keep.install s found frame.module_number facts (held_list s frame.registers list found found held (sym e) refl) (word_of frame.module_number among)) f;
+    registers = fits;
+  };
+  reinstall = λ old new pair sweep after e f is.
+      let are = held_two s frame.registers old new pair.0 pair.1 held (sym e) in
+      record {
+        store = succeeds (reinstall s pair.0 pair.1 frame.module_number) (sweep, after)
+            (laws.keep.reinstall s pair.0 pair.1 frame.module_number facts are.0 are.1 (word_of frame.module_number among)) f;
+        registers = fits;
+      };
+  notify = λ list found sweep new e f is. record {
+    store = succeeds (notify s found frame.module_number) (sweep, new)
+        (laws.keep.notify s found frame.module_number facts (held_list s frame.registers list found found held (sym e) refl) (word_of frame.module_number among)) f;
+    registers = fits;
+  };
+  locate = λ d v guid instance found e is. record {
+    store = facts;
+    registers = set_fits (slice_set frame.registers d (DescriptorIn found.0)) v (Number found.1) (nth_fits s (ppis_of s guid) instance found facts (filter_each s _ s.ppis facts.ppis) (sym e))
+        (set_fits frame.registers d (DescriptorIn found.0) tt fits);
+  };
+  hob = λ kind body hob address new e f is. record { store = succeeds (create_hob s hob) (address, new) (hob_kept laws s hob kind body facts is (sym e)) f; registers = fits };
+  memory = λ begin len span done new e f is. record { store = succeeds (set_memory s span.0 span.1) (done, new) (laws.keep.set_memory s span.0 span.1 facts) f; registers = fits };
+  pages = λ r memory_type count address new e is.
+      let type = is.is.in_range.1.0 in
+      let small = is.is.in_range.1.1 in
+      record {
+        store = succeeds (pages s memory_type count) (address, new) (laws.keep.pages s memory_type count facts (omega (arith, type)) (omega (arith, small))) e;
+        registers = set_fits frame.registers r (Number address) (pages_fit laws s.moved s memory_type count address new facts e) fits;
+      };
+  mode = λ r is. let mode = facts.boot_mode in record { store = facts; registers = set_fits frame.registers r (Number s.boot_mode) (omega (arith, mode)) fits };
+  set_mode = λ form r mode small is. record { store = laws.keep.boot_mode s mode facts (grind (arith, nat_tests, small)); registers = fits };
+}
+
 pub action_fits : StoreLaws → (s : StoreState) (frame : Frame) (action : Action) → IsStoreState s → HoldRegisters frame.registers s → FitRegisters frame.registers → IsModuleNumber frame.module_number → IsOfScript Pei action
     → FitsAfter (effect s frame action)
-action_fits laws s frame (A.Set r n) facts held fits among is = let small = is.is.in_range.1 in set_fits frame.registers r (Number n) (omega (arith, small)) fits
-action_fits laws s frame (A.Add r n) facts held fits among is = number_fits frame.registers r _ (λ m e. sum_fits (number_in frame.registers r) n m e) fits
-action_fits laws s frame (A.Addr v x offset) facts held fits among is =
-    number_fits frame.registers v _ (λ m e. address_fits laws s (offset_of (register frame.registers x)) offset m facts (λ p. held_place s frame.registers x p held) is.is.in_range.1.1 e) fits
-action_fits laws s frame (A.Pool r size) facts held fits among is =
-    answer_fits (pool s size) _ _ s frame.registers facts fits (laws.keep.pool s size facts) (λ made t e. set_fits frame.registers r (PoolIn made) tt fits)
-action_fits laws s frame (A.Store p offset bytes) facts held fits among is =
-    where_fits (option_and_then (λ to. store s to offset bytes) (pool_in frame.registers p)) _ s frame.registers InvalidParameter facts fits
-    (λ new e. record { store = store_kept laws s new (pool_in frame.registers p) offset bytes facts (λ to. held_pool s frame.registers p to held) e; registers = fits })
-action_fits laws s frame (A.Peek v n) facts held fits among is =
-    where_fits (number_in frame.registers v) (peek_reply s frame n) s frame.registers InvalidParameter facts fits (λ at _. where_fits (bytes_at s at n) _ s frame.registers NotFound facts fits (λ bytes _. same_fits s _ _ _ facts fits))
-action_fits laws s frame (A.Desc d kind guid arg) facts held fits among is =
-    where_fits (desc_argument frame (kind_number kind) guid arg) (desc_reply s frame d (kind_number kind)) s frame.registers InvalidParameter facts fits
-    (λ argument e.
-    let made = made_is (kind_number kind) argument (guid_arg frame.registers guid) (desc_number frame.module_number frame.registers (kind_number kind) arg)
-    (λ g. guid_whole frame.registers guid g is.is.in_range.1.1) (λ n. desc_fits frame.module_number frame.registers (kind_number kind) arg n fits among (block_is kind arg _ is.indexed)) e in
-    answer_fits (desc s (kind_number kind) argument.0 argument.1) _ _ s frame.registers facts fits (laws.keep.desc s (kind_number kind) argument.0 argument.1 facts made) (λ made t e. set_fits frame.registers d (DescriptorIn made) tt fits))
-action_fits laws s frame (A.Install list) facts held fits among is =
-    where_fits (descriptors_in frame.registers list) (install_reply s frame) s frame.registers InvalidParameter facts fits
-    (λ found e. sweep_fits (install s found frame.module_number) _ s frame.registers facts fits (laws.keep.install s found frame.module_number facts (held_list s frame.registers list found found held e refl) (word_of frame.module_number among)))
-action_fits laws s frame (A.Reinstall old new) facts held fits among is =
-    where_fits (both (descriptor_in frame.registers old) (descriptor_in frame.registers new)) (reinstall_reply s frame) s frame.registers InvalidParameter facts fits
-    (λ pair e.
-    let are = held_two s frame.registers old new pair.0 pair.1 held e in
-    sweep_fits (reinstall s pair.0 pair.1 frame.module_number) _ s frame.registers facts fits (laws.keep.reinstall s pair.0 pair.1 frame.module_number facts are.0 are.1 (word_of frame.module_number among)))
-action_fits laws s frame (A.Notify list) facts held fits among is =
-    where_fits (descriptors_in frame.registers list) (notify_reply s frame) s frame.registers InvalidParameter facts fits
-    (λ found e. sweep_fits (notify s found frame.module_number) _ s frame.registers facts fits (laws.keep.notify s found frame.module_number facts (held_list s frame.registers list found found held e refl) (word_of frame.module_number among)))
-action_fits laws s frame (A.Locate d v guid instance) facts held fits among is =
-    where_fits (nth_ppi s guid instance) (locate_reply s frame d v) s frame.registers NotFound facts fits
-    (λ found e. same_fits s _ _ _ facts (set_fits (slice_set frame.registers d (DescriptorIn found.0)) v (Number found.1) (nth_fits s (ppis_of s guid) instance found facts (filter_each s _ s.ppis facts.ppis) e)
-    (set_fits frame.registers d (DescriptorIn found.0) tt fits)))
-action_fits laws s frame (A.Hob kind body) facts held fits among is =
-    where_fits (hob_of kind body) (hob_reply s frame) s frame.registers InvalidParameter facts fits
-    (λ hob e. answer_fits (create_hob s hob) _ _ s frame.registers facts fits (hob_kept laws s hob kind body facts is e) (λ address t e. fits))
-action_fits laws s frame (A.Memory begin length) facts held fits among is =
-    where_fits (both (number_in frame.registers begin) (number_in frame.registers length)) (memory_reply s frame) s frame.registers InvalidParameter facts fits
-    (λ span _. answer_fits (set_memory s span.0 span.1) _ _ s frame.registers facts fits (laws.keep.set_memory s span.0 span.1 facts) (λ none t e. fits))
-action_fits laws s frame (A.Pages r memory_type count) facts held fits among is =
-    let type = is.is.in_range.1.0 in
-    let small = is.is.in_range.1.1 in
-    if_fits (is_memory_type memory_type && not (count == 0)) _ _
-    (λ _. answer_fits (pages s memory_type count) _ _ s frame.registers facts fits (laws.keep.pages s memory_type count facts (omega (arith, type)) (omega (arith, small)))
-    (λ address t e. set_fits frame.registers r (Number address) (pages_fit laws s.moved s memory_type count address t facts e) fits))
-    (same_fits s frame.registers _ _ facts fits)
-action_fits laws s frame (A.BootMode form r) facts held fits among is = mode_fits laws s frame form r facts fits
-action_fits laws s frame _ facts held fits among is = tt
+action_fits laws s frame action facts held fits among is =
+    given FitsReply FitRegisters (effect s frame action) is
+    (effect_has s frame (λ own reply. IsOfScript Pei own → FitsReply reply) (λ own registers. IsOfScript Pei own → FitRegisters registers) (writes_fit laws s frame facts held fits) (replies_fit laws s frame facts held fits among) action)

@@ -1,5 +1,6 @@
 pub mod Counting
 pub mod StoreMoved
+pub mod EffectForms
 pub mod ActionMoved
 pub mod PeiCases
 pub mod PeiSteps
@@ -11,6 +12,7 @@ pub mod Queue
 pub mod Beside
 pub mod EachDriver
 mod PeiEnds
+pub mod DriverEffectForms
 pub mod DriverActions
 pub mod DxeCases
 pub mod DxeOnce

@@ -1,20 +1,14 @@
 -- After each action what was there is there, and its sweep lies within the lists: a service adds HOBs, writes bytes into a pool, or changes none.
-use Rattle.std.proofs.Common.{◌≡◌, ℕ, zero, suc, ◌+◌, ◌≤◌, Bool, true, false, cond, List, [], ◌∷◌, ◌++◌, ◌∙◌, ap, length, take, drop, length-append, replicate, ◌-◌, ◌*◌, ◌^◌, ◌==◌, ◌&&◌, arith, sym, refl, subst, Option, Some, None, Ok, Err}
+use Rattle.std.proofs.Common.{◌≡◌, ℕ, zero, suc, ◌+◌, ◌≤◌, Bool, true, false, cond, List, [], ◌∷◌, ◌++◌, ◌∙◌, ap, length, take, drop, length-append, replicate, ◌-◌, ◌*◌, arith, sym, refl, subst, Option, Some, None, Ok, Err}
 use Rattle.std.specs.Prelude.{slice_set, slice_get, filter, fold, nat_lt, not}
-use Rattle.std.specs.Option.{option_map, option_and_then}
+use Rattle.std.specs.Option.{option_map}
 use Rattle.std.proofs.lemmas.List.{length-replicate}
 use Rattle.std.proofs.lemmas.Bool.Decides.{nat_tests}
 use Rattle.pi_base.specs.declared.guid.Guid.{Guid}
-use Rattle.pi_base.specs.declared.word.Word.{Word}
-use Rattle.pi_base.specs.declared.word.Word.TheVariants.{InvalidParameter, NotFound}
-use Rattle.hob_codec.specs.HobReading.{hob_of}
-use Rattle.store_model.specs.MemoryReading.{bytes_at}
 use Rattle.hob_codec.specs.HobValue.{HobValue}
-use Rattle.act_code.specs.declared.action.Action.TheVariants as A
 use Rattle.boot_model.specs.PeiMachine.{Frame}
 use Rattle.boot_model.specs.declared.frame.Register.{Register}
 use Rattle.boot_model.specs.declared.frame.Register.TheVariants.{Number, PoolIn, DescriptorIn}
-use Rattle.boot_model.specs.declared.line.Extra.{Extra}
 use Rattle.store_model.specs.declared.state.Entry.{Entry}
 use Rattle.store_model.specs.declared.state.HobEntry.{HobEntry}
 use Rattle.store_model.specs.declared.state.Body.TheVariants.{Bytes, Descriptor}
@@ -27,56 +21,29 @@ use Rattle.store_model.specs.declared.store_handle.StoreFault.{StoreFault}
 use Rattle.store_model.specs.declared.store_handle.StoreFault.TheVariants as F
 use Rattle.pi_base.specs.Lists.{Each}
 use Rattle.store_model.specs.StoreState.{StoreState, next_body, appended, pool_of, rounded, end_place}
-use Rattle.store_model.specs.StateFacts.{IsPool, IsDesc, IsEntry}
+use Rattle.store_model.specs.StateFacts.{IsPool, IsDesc, IsEntry, IsStoreState}
 use Rattle.store_model.specs.Service.{Service, in_room}
-use Rattle.store_model.specs.Service.Reading.{nth_ppi, ppis_of}
+use Rattle.store_model.specs.Service.Reading.{ppis_of}
 use Rattle.store_model.specs.Service.Pool.{pool, store}
 use Rattle.store_model.specs.Service.Descriptor.{desc, desc_of, guid_from, number_at, descriptors, offsets}
 use Rattle.store_model.specs.Service.Install.{install, reinstall, installed, reinstalled, with_ppi, with_pending, install_pairs, reinstall_pairs, renamed, place_of, is_installed, node_need, install_sweep, reinstall_sweep}
 use Rattle.store_model.specs.Service.Notify.{notify, notified, with_note, notify_pairs, notify_sweep}
 use Rattle.store_model.specs.Service.Hob.{create_hob, hob_entry}
 use Rattle.store_model.specs.Service.Memory.{set_memory, pages, pages_taken, early_pages, allocation_len, allocation_hob, with_pages, with_boot_mode, page_len}
-use Rattle.boot_model.specs.Registers.{pool_in, number_in, descriptor_in, descriptors_in, both}
-use Rattle.boot_model.specs.PeiAction.{Reply, Called, number_written, answer_reply, sweep_reply, reply_where, set_mode_reply, mode_reply, peek_reply, desc_reply, desc_argument, kind_number, install_reply, reinstall_reply, notify_reply, locate_reply, hob_reply, memory_reply, is_memory_type}
+use Rattle.boot_model.specs.PeiAction.{Called, kind_number, Effect, Wrote, Own, Shadowed, Logged, Skipped, Returned, effect}
 use Rattle.boot_model.specs.MachineFacts.{IsHeld, HoldRegisters}
 use Rattle.boot_laws.specs.Stay.{IsLater, IsReply, Visits, HoldsAfter, ActionsAreSound, RepliesAreSound}
 use Rattle.boot_model.proofs.Held.{held_pool, held_list}
 use Rattle.store_laws.proofs.Bodies.{new_body}
 use Rattle.boot_laws.proofs.Bodies.{hold_on, hobs_stay, added_stays, changed, written_stays}
 use Rattle.boot_laws.proofs.Later.{later_self, later_then, fold_later, pending_later, ppi_later, notes_later, pendings_ppis, ppis_added, behind, renamed_len, renamed_at, callbacks_added}
+use Rattle.boot_laws.specs.EffectForms.{EffectHas, RepliesHave, WritesHave}
+use Rattle.boot_laws.proofs.EffectForms.{effect_has}
 
 pub set_held : (s : StoreState) (registers : List Register) (r : ℕ) (x : Register) → IsHeld s x → HoldRegisters registers s → HoldRegisters (slice_set registers r x) s
 set_held s [] r x held each = tt
 set_held s (y ∷ ys) zero x held each = (held, each.1)
 set_held s (y ∷ ys) (suc r) x held each = (each.0, set_held s ys r x held each.1)
-
-number_holds : (s : StoreState) (registers : List Register) (r : ℕ) (n : Option ℕ) → HoldRegisters registers s → HoldsAfter s (number_written registers r n)
-number_holds s registers r None h = h
-number_holds s registers r (Some n) h = set_held s registers r (Number n) tt h
-
--- a reply that leaves the state as it is
-same_holds : (s : StoreState) (registers : List Register) (status : Word) (extra : Extra) → HoldRegisters registers s
-    → IsReply s (record { status = status; extra = extra; store = s; registers = registers; sweep = None; installs = [] })
-same_holds s registers status extra h = record { registers = h; later = later_self s; visits = refl }
-
-answer_holds : {A : Type 0} (service : Service A) (write : A → List Register) (extra : A → Extra) (s : StoreState) (registers : List Register)
-    → HoldRegisters registers s → ((a : A) (t : StoreState) → service ≡ Ok (a, t) → IsLater s t × HoldRegisters (write a) t) → IsReply s (answer_reply service write extra s registers)
-answer_holds (Ok (a, t)) write extra s registers h f = let k = f a t refl in record { registers = k.1; later = k.0; visits = refl }
-answer_holds (Err fault) write extra s registers h f = record { registers = h; later = later_self s; visits = refl }
-
-sweep_holds : (service : Service Sweep) (installs : List ℕ) (s : StoreState) (registers : List Register)
-    → HoldRegisters registers s → ((a : Sweep) (t : StoreState) → service ≡ Ok (a, t) → IsLater s t × Visits t (Some a) installs) → IsReply s (sweep_reply service installs s registers)
-sweep_holds (Ok (sweep, t)) installs s registers h f = let k = f sweep t refl in record { registers = hold_on s t registers k.0.held h; later = k.0; visits = k.1 }
-sweep_holds (Err fault) installs s registers h f = record { registers = h; later = later_self s; visits = refl }
-
-where_holds : {A : Type 0} (argument : Option A) (reply : A → Reply) (s : StoreState) (registers : List Register) (status : Word)
-    → HoldRegisters registers s → ((a : A) → Some a ≡ argument → IsReply s (reply a)) → IsReply s (reply_where argument reply s registers status)
-where_holds None reply s registers status h f = record { registers = h; later = later_self s; visits = refl }
-where_holds (Some a) reply s registers status h f = f a refl
-
-if_holds : (b : Bool) (s : StoreState) (x y : Reply) → IsReply s x → IsReply s y → IsReply s (cond b x y)
-if_holds true s x y h k = h
-if_holds false s x y h k = k
 
 -- a service that answers is past its refusals
 past : {A : Type 0} (b : Bool) (fault : StoreFault) (service : Service A) (answer : A × StoreState) → cond b (Err fault) service ≡ Ok answer → service ≡ Ok answer
@@ -230,62 +197,64 @@ pages_on true s memory_type count address t e = taken_stays s memory_type (page_
 pages_on false s memory_type count address t e =
     taken_stays s memory_type (page_len * count) address t (past _ F.Full _ (address, t) (past _ F.Full _ (address, t) (past _ F.NotYet _ (address, t) e)))
 
-mode_holds : (s : StoreState) (frame : Frame) (form r : ℕ) → HoldRegisters frame.registers s → IsReply s (mode_reply s frame form r)
-mode_holds s frame zero r h = same_holds s _ _ _ (set_held s frame.registers r (Number s.boot_mode) tt h)
-mode_holds s frame (suc form) r h =
-    where_holds (number_in frame.registers r) (set_mode_reply s frame) s frame.registers InvalidParameter h
-    (λ mode _. let later : IsLater s (with_boot_mode s mode) = same_later s (with_boot_mode s mode) refl refl refl in
-    if_holds (nat_lt mode (2 ^ 32)) s _ _ (record { registers = hold_on s (with_boot_mode s mode) frame.registers later.held h; later = later; visits = refl }) (same_holds s frame.registers _ _ h))
-
 store_on : (b : Bool) (s new : StoreState) (to : Pool) (at : ℕ) (bytes : List ℕ) → nat_lt to.size (at + length bytes) ≡ b → IsPool s to → Some new ≡ cond b None (Some (changed s to.offset at bytes)) → IsLater s new
 store_on true s new to at bytes t is e = cc
 store_on false s new to at bytes t is e =
     let fits : at + length bytes ≤ to.size = grind (arith, nat_tests, t) in let same : changed s to.offset at bytes ≡ new = cc in
     subst (λ u. IsLater s u) same (record { held = written_stays s to at bytes is fits; ppis = omega arith; callbacks = omega arith })
 
-store_stays : (s new : StoreState) (held : Option Pool) (at : ℕ) (bytes : List ℕ) → ((to : Pool) → Some to ≡ held → IsPool s to) → Some new ≡ option_and_then (λ to. store s to at bytes) held → IsLater s new
-store_stays s new None at bytes f e = cc
-store_stays s new (Some to) at bytes f e = store_on (nat_lt to.size (at + length bytes)) s new to at bytes refl (f to refl) e
+replies_hold : (s : StoreState) (frame : Frame) → IsStoreState s → HoldRegisters frame.registers s → RepliesHave s frame (λ action reply. IsReply s reply)
+replies_hold s frame facts h = record {
+  refused = λ action status other. record { registers = h; later = later_self s; visits = refl };
+  pool = λ r size made new e. let k = pool_stays s frame.registers r size h made new e in record { registers = k.1; later = k.0; visits = refl };
+  store = λ p offset bytes to new held e.
+      let later = store_on (nat_lt to.size (offset + length bytes)) s new to offset bytes refl (held_pool s frame.registers p to h (sym held)) (sym e) in
+      record { registers = hold_on s new frame.registers later.held h; later = later; visits = refl };
+  peek = λ v n bytes. record { registers = h; later = later_self s; visits = refl };
+  desc = λ d kind guid arg of made new e f.
+      let k = desc_stays s frame.registers d (kind_number kind) of.1 (guid_from s of.0) h made new f in record { registers = k.1; later = k.0; visits = refl };
+  install = λ list found sweep new e f. let k = install_stays s found frame.module_number sweep new f in record { registers = hold_on s new frame.registers k.0.held h; later = k.0; visits = k.1 };
+  reinstall = λ old new pair sweep after e f.
+      let k = reinstall_stays s pair.0 pair.1 frame.module_number sweep after f in record { registers = hold_on s after frame.registers k.0.held h; later = k.0; visits = k.1 };
+  notify = λ list found sweep new e f.
+      let k = notify_stays s found frame.module_number (held_list s frame.registers list found found h (sym e) refl) sweep new f in
+      record { registers = hold_on s new frame.registers k.0.held h; later = k.0; visits = k.1 };
+  locate = λ d v guid instance found e. record {
+    registers = set_held s (slice_set frame.registers d (DescriptorIn found.0)) v (Number found.1) tt
+        (set_held s frame.registers d (DescriptorIn found.0) (nth_is s (ppis_of s guid) instance found (filter_each s _ s.ppis facts.ppis) (sym e)) h);
+    later = later_self s;
+    visits = refl;
+  };
+  hob = λ kind body hob address new e f. let later = hob_stays s hob address new f in record { registers = hold_on s new frame.registers later.held h; later = later; visits = refl };
+  memory = λ begin len span done new e f. let later = memory_stays s span.0 span.1 done new f in record { registers = hold_on s new frame.registers later.held h; later = later; visits = refl };
+  pages = λ r memory_type count address new e.
+      let later = pages_on s.moved s memory_type count address new e in
+      record { registers = set_held new frame.registers r (Number address) tt (hold_on s new frame.registers later.held h); later = later; visits = refl };
+  mode = λ r. record { registers = set_held s frame.registers r (Number s.boot_mode) tt h; later = later_self s; visits = refl };
+  set_mode = λ form r mode small.
+      let later : IsLater s (with_boot_mode s mode) = same_later s (with_boot_mode s mode) refl refl refl in
+      record { registers = hold_on s (with_boot_mode s mode) frame.registers later.held h; later = later; visits = refl };
+}
+
+writes_hold : (s : StoreState) (frame : Frame) → HoldRegisters frame.registers s → WritesHave s frame (λ action registers. HoldRegisters registers s)
+writes_hold s frame h = record {
+  same = λ action. h;
+  set = λ r n. set_held s frame.registers r (Number n) tt h;
+  add = λ r n sum e. set_held s frame.registers r (Number sum) tt h;
+  addr = λ v x offset address e. set_held s frame.registers v (Number address) tt h;
+}
+
+holds_after : (s : StoreState) (does : Effect) → EffectHas (λ reply. IsReply s reply) (λ registers. HoldRegisters registers s) does → HoldsAfter s does
+holds_after s (Wrote registers status) h = h
+holds_after s (Called name reply) h = h
+holds_after s (Own Shadowed) h = tt
+holds_after s (Logged text) h = tt
+holds_after s (Skipped n) h = tt
+holds_after s (Returned status) h = tt
 
 pub action_holds : ActionsAreSound
-action_holds s frame (A.Set r n) facts h = set_held s frame.registers r (Number n) tt h
-action_holds s frame (A.Add r n) facts h = number_holds s frame.registers r _ h
-action_holds s frame (A.Addr v x offset) facts h = number_holds s frame.registers v _ h
-action_holds s frame (A.Pool r size) facts h = answer_holds (pool s size) _ _ s frame.registers h (pool_stays s frame.registers r size h)
-action_holds s frame (A.Store p offset bytes) facts h =
-    where_holds (option_and_then (λ to. store s to offset bytes) (pool_in frame.registers p)) _ s frame.registers InvalidParameter h
-    (λ new e. let later = store_stays s new (pool_in frame.registers p) offset bytes (λ to. held_pool s frame.registers p to h) e in
-    record { registers = hold_on s new frame.registers later.held h; later = later; visits = refl })
-action_holds s frame (A.Peek v n) facts h =
-    where_holds (number_in frame.registers v) (peek_reply s frame n) s frame.registers InvalidParameter h (λ at _. where_holds (bytes_at s at n) _ s frame.registers NotFound h (λ bytes _. same_holds s _ _ _ h))
-action_holds s frame (A.Desc d kind guid arg) facts h =
-    where_holds (desc_argument frame (kind_number kind) guid arg) (desc_reply s frame d (kind_number kind)) s frame.registers InvalidParameter h
-    (λ argument _. answer_holds (desc s (kind_number kind) argument.0 argument.1) _ _ s frame.registers h (desc_stays s frame.registers d (kind_number kind) argument.1 (guid_from s argument.0) h))
-action_holds s frame (A.Install list) facts h =
-    where_holds (descriptors_in frame.registers list) (install_reply s frame) s frame.registers InvalidParameter h (λ found _. sweep_holds (install s found frame.module_number) _ s frame.registers h (install_stays s found frame.module_number))
-action_holds s frame (A.Reinstall old new) facts h =
-    where_holds (both (descriptor_in frame.registers old) (descriptor_in frame.registers new)) (reinstall_reply s frame) s frame.registers InvalidParameter h
-    (λ pair _. sweep_holds (reinstall s pair.0 pair.1 frame.module_number) _ s frame.registers h (reinstall_stays s pair.0 pair.1 frame.module_number))
-action_holds s frame (A.Notify list) facts h =
-    where_holds (descriptors_in frame.registers list) (notify_reply s frame) s frame.registers InvalidParameter h
-    (λ found e. sweep_holds (notify s found frame.module_number) _ s frame.registers h (notify_stays s found frame.module_number (held_list s frame.registers list found found h e refl)))
-action_holds s frame (A.Locate d v guid instance) facts h =
-    where_holds (nth_ppi s guid instance) (locate_reply s frame d v) s frame.registers NotFound h
-    (λ found e. same_holds s _ _ _ (set_held s (slice_set frame.registers d (DescriptorIn found.0)) v (Number found.1) tt
-    (set_held s frame.registers d (DescriptorIn found.0) (nth_is s (ppis_of s guid) instance found (filter_each s _ s.ppis facts.ppis) e) h)))
-action_holds s frame (A.Hob kind body) facts h =
-    where_holds (hob_of kind body) (hob_reply s frame) s frame.registers InvalidParameter h
-    (λ hob _. answer_holds (create_hob s hob) _ _ s frame.registers h (λ address t e. let later = hob_stays s hob address t e in (later, hold_on s t frame.registers later.held h)))
-action_holds s frame (A.Memory begin length) facts h =
-    where_holds (both (number_in frame.registers begin) (number_in frame.registers length)) (memory_reply s frame) s frame.registers InvalidParameter h
-    (λ span _. answer_holds (set_memory s span.0 span.1) _ _ s frame.registers h (λ none t e. let later = memory_stays s span.0 span.1 none t e in (later, hold_on s t frame.registers later.held h)))
-action_holds s frame (A.Pages r memory_type count) facts h =
-    if_holds (is_memory_type memory_type && not (count == 0)) s _ _
-    (answer_holds (pages s memory_type count) _ _ s frame.registers h
-    (λ address t e. let later = pages_on s.moved s memory_type count address t e in (later, set_held t frame.registers r (Number address) tt (hold_on s t frame.registers later.held h))))
-    (same_holds s frame.registers _ _ h)
-action_holds s frame (A.BootMode form r) facts h = mode_holds s frame form r h
-action_holds s frame _ facts held = tt
+action_holds s frame action facts h =
+    holds_after s (effect s frame action) (effect_has s frame (λ _ reply. IsReply s reply) (λ _ registers. HoldRegisters registers s) (writes_hold s frame h) (replies_hold s frame facts h) action)
 
 pub replies_are_sound : RepliesAreSound
 replies_are_sound s frame action name reply facts h e = let is : HoldsAfter s (Called name reply) = subst (λ x. HoldsAfter s x) e (action_holds s frame action facts h) in is

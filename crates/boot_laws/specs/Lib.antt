@@ -23,3 +23,5 @@ pub mod DxeUnderWay
 pub mod DxeFree
 pub mod DxeAim
 pub mod Naming
+pub mod EffectForms
+pub mod DriverEffectForms

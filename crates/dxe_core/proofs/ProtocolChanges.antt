@@ -1,33 +1,31 @@
 -- A step of DXE changes which protocols are on the handles only for that of its event.
-use Rattle.std.proofs.Common.{◌≡◌, ℕ, zero, suc, ◌+◌, Bool, true, false, ◌&&◌, ◌||◌, not, cond, List, [], ◌∷◌, Option, Some, None, Ok, Err, refl, sym, ap, ◌∙◌, nat_le, nat_lt, length, option_map}
-use Rattle.std.specs.Prelude.{◌%◌, ◌^◌, ⊤}
+use Rattle.std.proofs.Common.{◌≡◌, ℕ, ◌+◌, Bool, true, false, ◌&&◌, ◌||◌, not, cond, List, [], ◌∷◌, Option, Some, None, Ok, Err, refl, sym, ap, ◌∙◌, nat_le, nat_lt, length, subst}
+use Rattle.std.specs.Prelude.{⊤}
 use Rattle.std.specs.List.{list_any}
 use Rattle.std.proofs.lemmas.List.Folds.{list_any-append}
 use Rattle.std.proofs.lemmas.Slice.Eq.{bytes_eq-Decides}
 use Rattle.pi_base.specs.declared.guid.Guid.{Guid}
 use Rattle.pi_base.specs.declared.phase.Phase.TheVariants.{Dxe}
 use Rattle.pi_base.specs.declared.word.Word.{Word}
-use Rattle.pi_base.specs.declared.word.Word.TheVariants.{InvalidParameter, NotFound, AlreadyStarted}
+use Rattle.pi_base.specs.declared.word.Word.TheVariants.{InvalidParameter, NotFound}
 use Rattle.pi_base.specs.Guids.{same_guid}
 use Rattle.act_code.specs.declared.action.Action.{Action}
-use Rattle.act_code.specs.declared.action.Action.TheVariants as A
 use Rattle.catalog_model.specs.declared.catalog.Catalog.{Catalog}
 use Rattle.catalog_model.specs.declared.catalog.Part.{Part}
-use Rattle.catalog_model.specs.Parts.{has_number, part_at, volume_at}
+use Rattle.catalog_model.specs.Parts.{part_at}
 use Rattle.store_model.specs.declared.interface.Interface.{Interface}
-use Rattle.store_model.specs.MemoryReading.{bytes_at}
-use Rattle.store_model.specs.HandleState.{HandleState, HandleService, change_of, has_protocol, install_interface, is_live, is_on, is_on_with, locate_handle, placed, reinstall_interface, uninstall_interface, with_value, without}
-use Rattle.boot_model.specs.declared.driver.ProtocolSweep.{ProtocolSweep}
+use Rattle.store_model.specs.HandleState.{HandleState, HandleService, change_of, has_protocol, install_interface, is_live, is_on, is_on_with, placed, with_value, without}
 use Rattle.boot_model.specs.declared.driver.Scheduled.{Scheduled}
-use Rattle.boot_model.specs.declared.line.Extra.TheVariants as X
 use Rattle.boot_model.specs.declared.phase_end.DxeEnd.TheVariants as DxeEnds
-use Rattle.boot_model.specs.Reporting.{newcomers}
-use Rattle.boot_model.specs.Registers.{both, handle_in, is_success, number_in}
+use Rattle.boot_model.specs.Registers.{is_success}
 use Rattle.boot_model.specs.DxeMachine.{DxeMachine, DriverFrame}
-use Rattle.boot_model.specs.DxeAction.{DxeReply, DxeEffect, Wrote, Called, Logged, Skipped, Returned, Own, dxe_effect, dxe_told, dxe_where, dxe_refusal, processed, process_volume, process_reply, peek_reply, number_written, install_answer, installed_on, install_target, install_reply, reinstall_answer, reinstall_reply, protocol_sweep, uninstall_answer, uninstall_reply, locate_reply, unrequested_named, schedule_reply}
+use Rattle.boot_model.specs.DxeAction.{DxeReply, DxeEffect, Wrote, Called, Logged, Skipped, Returned, Own, dxe_effect}
 use Rattle.boot_model.specs.DxeStep.{DxeCase, DxeFires, DxeActs, DxeStarts, DxeStops, dxe_case_of, dxe_step, in_dxe_case, protocol_begun, after_dxe_effect, with_action, dxe_action_at, driver_started}
 use Rattle.boot_model.specs.EvaluationBound.{changed_protocols, dxe_action_guids, dxe_case_guids, dxe_guids, is_dxe_called}
 use Rattle.boot_laws.specs.ChangedGuids.{is_among}
+use Rattle.boot_laws.specs.EffectForms.{EffectHas}
+use Rattle.boot_laws.specs.DriverEffectForms.{DriverRepliesHave}
+use Rattle.boot_laws.proofs.DriverEffectForms.{driver_effect_has}
 
 -- an interface of a protocol
 abbrev is_of : Guid → Interface → Bool
@@ -122,71 +120,27 @@ abbrev Keeps : DxeMachine → Guid → List Guid → DxeReply → Type 0
 Keeps m guid changed reply = is_among guid (cond (is_success reply.status) changed []) ≡ false → has_protocol reply.machine.handles guid ≡ has_protocol m.handles guid
 
 abbrev EffectKeeps : DxeMachine → Guid → List Guid → DxeEffect → Type 0
-EffectKeeps m guid changed (Called name reply) = Keeps m guid changed reply
-EffectKeeps m guid changed (Wrote registers status) = ⊤
-EffectKeeps m guid changed (Logged text) = ⊤
-EffectKeeps m guid changed (Skipped n) = ⊤
-EffectKeeps m guid changed (Returned status) = ⊤
-EffectKeeps m guid changed (Own own) = ⊤
+EffectKeeps m guid changed does = EffectHas (Keeps m guid changed) (λ registers. ⊤) does
 
-where_keeps : {A : Type 0} (m : DxeMachine) (guid : Guid) (changed : List Guid) (frame : DriverFrame) (argument : Option A) (reply : A → DxeReply) (status : Word) → ((a : A) → Keeps m guid changed (reply a))
-    → Keeps m guid changed (dxe_where argument reply m frame status)
-where_keeps m guid changed frame None reply status h = λ _. refl
-where_keeps m guid changed frame (Some a) reply status h = h a
-
-written_keeps : (m : DxeMachine) (guid : Guid) (changed : List Guid) (frame : DriverFrame) (r : ℕ) (n : Option ℕ) → EffectKeeps m guid changed (number_written frame.registers r n)
-written_keeps m guid changed frame r None = tt
-written_keeps m guid changed frame r (Some n) = tt
-
-installed_keeps : (m : DxeMachine) (guid : Guid) (frame : DriverFrame) (form h : ℕ) (changed : Guid) (value handle : ℕ) (new : HandleState) → (same_guid changed guid ≡ false → has_protocol new guid ≡ has_protocol m.handles guid)
-    → Keeps m guid (changed ∷ []) (installed_on m frame form h changed value handle new)
-installed_keeps m guid frame zero h changed value handle new k = λ none. k (or_false (same_guid changed guid) none)
-installed_keeps m guid frame (suc form) h changed value handle new k = λ none. k (or_false (same_guid changed guid) none)
-
-install_keeps : (m : DxeMachine) (guid : Guid) (frame : DriverFrame) (form h : ℕ) (changed : Guid) (value : ℕ) (service : HandleService ℕ) → (same_guid changed guid ≡ false → Lasts m.handles guid service)
-    → Keeps m guid (changed ∷ []) (install_answer service m frame form h changed value)
-install_keeps m guid frame form h changed value (Ok pair) k = installed_keeps m guid frame form h changed value pair.0 pair.1 k
-install_keeps m guid frame form h changed value (Err status) k = λ _. refl
-
-reinstall_keeps : (m : DxeMachine) (guid : Guid) (frame : DriverFrame) (sweep : ProtocolSweep) (service : HandleService (Unit {0})) → Lasts m.handles guid service → Keeps m guid [] (reinstall_answer service m frame sweep)
-reinstall_keeps m guid frame sweep (Ok pair) k = λ _. k
-reinstall_keeps m guid frame sweep (Err status) k = λ _. refl
-
-uninstall_keeps : (m : DxeMachine) (guid : Guid) (frame : DriverFrame) (changed : Guid) (service : HandleService (Unit {0})) → (same_guid changed guid ≡ false → Lasts m.handles guid service)
-    → Keeps m guid (changed ∷ []) (uninstall_answer service m frame)
-uninstall_keeps m guid frame changed (Ok pair) k = λ none. k (or_false (same_guid changed guid) none)
-uninstall_keeps m guid frame changed (Err status) k = λ _. refl
-
-either_keeps : (m : DxeMachine) (guid : Guid) (changed : List Guid) (b : Bool) (one other : DxeReply) → Keeps m guid changed one → Keeps m guid changed other → Keeps m guid changed (cond b one other)
-either_keeps m guid changed true one other h k = h
-either_keeps m guid changed false one other h k = k
+replies_keep : (catalog : Catalog) (m : DxeMachine) (guid : Guid) (frame : DriverFrame) → DriverRepliesHave catalog m frame (λ action reply. Keeps m guid (changed_protocols action) reply)
+replies_keep catalog m guid frame = record {
+  refused = λ action status none. refl;
+  peek = λ v n bytes none. refl;
+  install = λ form h changed v target value handle new registers extra e none.
+      subst (λ x. Lasts m.handles guid x) e (install_lasts m.handles target changed value guid (or_false (same_guid changed guid) none));
+  reinstall = λ h changed old new handle before after done handles e none.
+      subst (λ x. Lasts m.handles guid x) e (change_lasts m.handles handle changed before guid _ (valued_has guid (is_on_with handle changed before) after m.handles.interfaces));
+  uninstall = λ h changed v handle value done handles e none.
+      let gone = without_has guid (is_on_with handle changed value) m.handles.interfaces (λ i is. on_other handle changed value guid i (or_false (same_guid changed guid) none) is) in
+      subst (λ x. Lasts m.handles guid x) e (change_lasts m.handles handle changed value guid _ gone);
+  locate = λ h v changed found e none. refl;
+  notify = λ changed block none. refl;
+  schedule = λ name number e none. refl;
+  process = λ v volume new none. refl;
+}
 
 effect_keeps : (catalog : Catalog) (m : DxeMachine) (guid : Guid) (frame : DriverFrame) (action : Action) → EffectKeeps m guid (changed_protocols action) (dxe_effect catalog m frame action)
-effect_keeps catalog m guid frame (A.Add r n) = written_keeps m guid [] frame r (option_map (λ old. (old + n) % 2 ^ 64) (number_in frame.registers r))
-effect_keeps catalog m guid frame (A.Peek v n) =
-    where_keeps m guid [] frame (number_in frame.registers v) (peek_reply m frame n) InvalidParameter
-    (λ at. where_keeps m guid [] frame (bytes_at m.store at n) (λ bytes. dxe_told m frame.registers (X.Bytes (record { items = bytes }))) NotFound (λ bytes _. refl))
-effect_keeps catalog m guid frame (A.DxeInstall form h changed v) =
-    where_keeps m guid (changed ∷ []) frame (both (install_target frame form h) (number_in frame.registers v)) (install_reply m frame form h changed) InvalidParameter
-    (λ pair. install_keeps m guid frame form h changed pair.1 (install_interface m.handles pair.0 changed pair.1) (install_lasts m.handles pair.0 changed pair.1 guid))
-effect_keeps catalog m guid frame (A.DxeReinstall h changed old new) =
-    where_keeps m guid [] frame (both (handle_in frame.registers h) (both (number_in frame.registers old) (number_in frame.registers new))) (reinstall_reply m frame changed) InvalidParameter
-    (λ triple. reinstall_keeps m guid frame (protocol_sweep m changed triple.1.1 triple.0) (reinstall_interface m.handles triple.0 changed triple.1.0 triple.1.1)
-    (change_lasts m.handles triple.0 changed triple.1.0 guid _ (valued_has guid (is_on_with triple.0 changed triple.1.0) triple.1.1 m.handles.interfaces)))
-effect_keeps catalog m guid frame (A.DxeUninstall h changed v) =
-    where_keeps m guid (changed ∷ []) frame (both (handle_in frame.registers h) (number_in frame.registers v)) (uninstall_reply m frame changed) InvalidParameter
-    (λ pair. uninstall_keeps m guid frame changed (uninstall_interface m.handles pair.0 changed pair.1)
-    (λ other. change_lasts m.handles pair.0 changed pair.1 guid _ (without_has guid (is_on_with pair.0 changed pair.1) m.handles.interfaces (λ i is. on_other pair.0 changed pair.1 guid i other is))))
-effect_keeps catalog m guid frame (A.DxeLocate h v changed) =
-    where_keeps m guid [] frame (locate_handle m.handles changed) (locate_reply m frame h v) NotFound (λ found _. refl)
-effect_keeps catalog m guid frame (A.DxeNotify changed block) = λ _. refl
-effect_keeps catalog m guid frame (A.Schedule name) = where_keeps m guid [] frame (unrequested_named catalog m name) (schedule_reply m frame) NotFound (λ number _. refl)
-effect_keeps catalog m guid frame (A.Process v) =
-    where_keeps m guid [] frame (number_in frame.registers v) (process_reply catalog m frame) InvalidParameter
-    (λ base. where_keeps m guid [] frame (volume_at catalog base) (process_volume catalog m frame) NotFound
-    (λ volume. either_keeps m guid [] (has_number m.discovered volume) (dxe_refusal m frame AlreadyStarted) (processed catalog m frame (newcomers catalog m.discovered (Some volume))) (λ _. refl) (λ _. refl)))
-effect_keeps catalog m guid frame A.Dispatch = λ _. refl
-effect_keeps catalog m guid frame _ = tt
+effect_keeps catalog m guid frame action = driver_effect_has catalog m frame (λ own reply. Keeps m guid (changed_protocols own) reply) (replies_keep catalog m guid frame) action
 
 -- the machine behind an effect
 effect_lasts : (m : DxeMachine) (guid : Guid) (changed : List Guid) (frame : DriverFrame) (below : List DriverFrame) (e : DxeEffect) → EffectKeeps m guid changed e → is_among guid (cond (is_dxe_called e) changed []) ≡ false

@@ -1,15 +1,11 @@
 -- No action makes a notification of a module that has not started.
-use Rattle.std.proofs.Common.{◌≡◌, ℕ, zero, suc, ◌+◌, ◌*◌, ◌/◌, ◌^◌, ◌<◌, ◌==◌, ◌&&◌, Bool, true, false, cond, List, [], ◌∷◌, ◌++◌, length, replicate, arith, sym, refl, subst, Option, Some, None, Ok, Err}
+use Rattle.std.proofs.Common.{◌≡◌, ℕ, ◌+◌, ◌*◌, ◌/◌, ◌<◌, ◌==◌, Bool, true, false, cond, List, [], ◌∷◌, ◌++◌, length, replicate, arith, sym, subst, Option, Some, None, Ok, Err}
 use Rattle.std.specs.Bool.{⊤}
-use Rattle.std.specs.Prelude.{fold, nat_lt, not}
-use Rattle.std.specs.Option.{option_and_then}
+use Rattle.std.specs.Prelude.{fold, nat_lt}
 use Rattle.pi_base.specs.declared.guid.Guid.{Guid}
-use Rattle.pi_base.specs.declared.word.Word.{Word}
-use Rattle.pi_base.specs.declared.word.Word.TheVariants.{InvalidParameter, NotFound}
 use Rattle.pi_base.specs.Lists.{Each}
 use Rattle.act_code.specs.Index.{is_indexed}
 use Rattle.act_code.specs.declared.action.Action.{Action}
-use Rattle.act_code.specs.declared.action.Action.TheVariants as A
 use Rattle.store_model.specs.declared.state.Body.{Body}
 use Rattle.store_model.specs.declared.state.Body.TheVariants.{Bytes, Descriptor, Node, Allocation}
 use Rattle.store_model.specs.declared.state.HobEntry.{HobEntry}
@@ -21,21 +17,20 @@ use Rattle.store_model.specs.declared.store_handle.Pool.{Pool}
 use Rattle.store_model.specs.declared.store_handle.StoreFault.{StoreFault}
 use Rattle.store_model.specs.declared.store_handle.Sweep.{Sweep}
 use Rattle.store_model.specs.StoreState.{StoreState, appended, end_place, hob_len, next_body, pool_of, rounded, with_body}
-use Rattle.store_model.specs.MemoryReading.{bytes_at}
 use Rattle.store_model.specs.Service.{Service}
 use Rattle.store_model.specs.Service.Pool.{pool, store, written}
 use Rattle.store_model.specs.Service.Descriptor.{desc, desc_of, guid_from, kind_at}
 use Rattle.store_model.specs.Service.Install.{install, reinstall, installed, reinstalled, with_ppi, with_pending, install_pairs, install_sweep, reinstall_pairs, reinstall_sweep, renamed}
 use Rattle.store_model.specs.Service.Notify.{notify, notified, with_note, with_note_of, notify_pairs, notify_sweep}
-use Rattle.store_model.specs.Service.Reading.{nth_ppi}
 use Rattle.store_model.specs.Service.Hob.{create_hob, hob_entry}
 use Rattle.store_model.specs.Service.Memory.{set_memory, pages, pages_taken, page_len, allocation_hob}
 use Rattle.boot_model.specs.declared.frame.Register.{Register}
-use Rattle.boot_model.specs.declared.line.Extra.{Extra}
 use Rattle.boot_model.specs.PeiMachine.{Frame}
-use Rattle.boot_model.specs.Registers.{pool_in, number_in, descriptor_in, descriptors_in, both}
-use Rattle.boot_model.specs.PeiAction.{Reply, Effect, Wrote, Called, Own, Logged, Skipped, Returned, effect, number_written, answer_reply, sweep_reply, reply_where, set_mode_reply, mode_reply, peek_reply, desc_reply, desc_number, guid_arg, kind_number, install_reply, reinstall_reply, notify_reply, locate_reply, hob_reply, memory_reply, is_memory_type}
+use Rattle.boot_model.specs.Registers.{both}
+use Rattle.boot_model.specs.PeiAction.{Effect, effect, desc_number, guid_arg, kind_number}
 use Rattle.boot_model.proofs.ListFacts.{each_push}
+use Rattle.boot_laws.specs.EffectForms.{EffectHas, RepliesHave}
+use Rattle.boot_laws.proofs.EffectForms.{effect_has, given}
 use Rattle.pei_action.specs.Needs.{IsArgument}
 use Rattle.pei_action.proofs.Grammar.{block}
 use Rattle.pei_core.specs.Started.{HasStarted, IsEntryOf, IsBodyOf}
@@ -145,41 +140,12 @@ pages_keep started s memory_type count is =
     let own = taken_keeps started s memory_type (page_len * count) is in
     search (either, unless, own)
 
--- the reply of a service
-answered : {A : Type 0} (started : List ℕ) (service : Service A) (write : A → List Register) (extra : A → Extra) (s : StoreState) (registers : List Register)
-    → IsStoreOf started s → Keeps started service → IsStoreOf started (answer_reply service write extra s registers).store
-answered started (Ok pair) write extra s registers is k = k
-answered started (Err fault) write extra s registers is k = is
-
-swept : (started : List ℕ) (service : Service Sweep) (installs : List ℕ) (s : StoreState) (registers : List Register)
-    → IsStoreOf started s → Keeps started service → IsStoreOf started (sweep_reply service installs s registers).store
-swept started (Ok pair) installs s registers is k = k
-swept started (Err fault) installs s registers is k = is
-
-where_keeps : {A : Type 0} (started : List ℕ) (argument : Option A) (reply : A → Reply) (s : StoreState) (registers : List Register) (status : Word)
-    → IsStoreOf started s → ((a : A) → argument ≡ Some a → IsStoreOf started (reply a).store) → IsStoreOf started (reply_where argument reply s registers status).store
-where_keeps started None reply s registers status is f = is
-where_keeps started (Some a) reply s registers status is f = f a refl
-
-if_kept : (started : List ℕ) (b : Bool) (x y : Reply) → IsStoreOf started x.store → IsStoreOf started y.store → IsStoreOf started (cond b x y).store
-if_kept started true x y h k = h
-if_kept started false x y h k = k
-
-mode_keeps : (started : List ℕ) (s : StoreState) (frame : Frame) (form r : ℕ) → IsStoreOf started s → IsStoreOf started (mode_reply s frame form r).store
-mode_keeps started s frame zero r is = is
-mode_keeps started s frame (suc form) r is =
-    where_keeps started (number_in frame.registers r) (set_mode_reply s frame) s frame.registers InvalidParameter is (λ mode _. if_kept started (nat_lt mode (2 ^ 32)) _ _ is is)
-
 store_on : (started : List ℕ) (b : Bool) (s new : StoreState) (to : Pool) (at : ℕ) (bytes : List ℕ) → IsStoreOf started s
     → cond b None (Some (record s { hobs = with_body (written at bytes) 56 s.hobs to.offset })) ≡ Some new → IsStoreOf started new
 store_on started true s new to at bytes is e = cc
 store_on started false s new to at bytes is e =
     let same : (record s { hobs = with_body (written at bytes) 56 s.hobs to.offset }) ≡ new = cc in
     subst (λ t. IsStoreOf started t) same (changed_keeps started (written at bytes) s.hobs 56 to.offset (written_is started at bytes) is)
-
-store_keeps : (started : List ℕ) (s new : StoreState) (held : Option Pool) (at : ℕ) (bytes : List ℕ) → IsStoreOf started s → option_and_then (λ to. store s to at bytes) held ≡ Some new → IsStoreOf started new
-store_keeps started s new None at bytes is e = cc
-store_keeps started s new (Some to) at bytes is e = store_on started (nat_lt to.size (at + length bytes)) s new to at bytes is e
 
 -- a module's own entry
 entry_of : (number arg : ℕ) → arg < 64 → (number * 64 + arg) / 64 ≡ number
@@ -197,48 +163,34 @@ entry_is started number registers Dispatch arg (Some g) a of is e =
 
 -- what an action leaves of the store
 abbrev pub LeavesStore : List ℕ → Effect → Type 0
-LeavesStore started (Wrote registers status) = ⊤
-LeavesStore started (Called name reply) = IsStoreOf started reply.store
-LeavesStore started (Own own) = ⊤
-LeavesStore started (Logged text) = ⊤
-LeavesStore started (Skipped n) = ⊤
-LeavesStore started (Returned status) = ⊤
+LeavesStore started does = EffectHas (λ reply. IsStoreOf started reply.store) (λ registers. ⊤) does
 
-written_leaves : (started : List ℕ) (registers : List Register) (r : ℕ) (n : Option ℕ) → LeavesStore started (number_written registers r n)
-written_leaves started registers r None = tt
-written_leaves started registers r (Some n) = tt
+succeeds : {B : Type 0} (started : List ℕ) (service : Service B) (pair : B × StoreState) → Keeps started service → service ≡ Ok pair → IsStoreOf started pair.1
+succeeds started service pair keeps e = subst (λ x. Keeps started x) e keeps
+
+replies_leave : (started : List ℕ) (s : StoreState) (frame : Frame) → HasStarted started frame.module_number → IsStoreOf started s
+    → RepliesHave s frame (λ action reply. is_indexed 64 action ≡ true → IsStoreOf started reply.store)
+replies_leave started s frame of is = record {
+  refused = λ action status other names. is;
+  pool = λ r size made new e names. succeeds started (pool s size) (made, new) (pool_keeps started s size is) e;
+  store = λ p offset bytes to new held e names. store_on started (nat_lt to.size (offset + length bytes)) s new to offset bytes is e;
+  peek = λ v n bytes names. is;
+  desc = λ d kind guid arg from made new e f names.
+      let entry = entry_is started frame.module_number frame.registers (kind_number kind) arg (guid_arg frame.registers guid) from of (block kind arg _ names) e in
+      succeeds started (desc s (kind_number kind) from.0 from.1) (made, new) (desc_keeps started s (kind_number kind) from.1 (guid_from s from.0) entry is) f;
+  install = λ list found sweep new e f names. succeeds started (install s found frame.module_number) (sweep, new) (install_keeps started s found frame.module_number is) f;
+  reinstall = λ old new pair sweep after e f names.
+      succeeds started (reinstall s pair.0 pair.1 frame.module_number) (sweep, after) (reinstall_keeps started s pair.0 pair.1 frame.module_number is) f;
+  notify = λ list found sweep new e f names. succeeds started (notify s found frame.module_number) (sweep, new) (notify_keeps started s found frame.module_number is) f;
+  locate = λ d v guid instance found e names. is;
+  hob = λ kind body hob address new e f names. succeeds started (create_hob s hob) (address, new) (hob_keeps started s hob is) f;
+  memory = λ begin len span done new e f names. succeeds started (set_memory s span.0 span.1) (done, new) (memory_keeps started s span.0 span.1 is) f;
+  pages = λ r memory_type count address new e names. succeeds started (pages s memory_type count) (address, new) (pages_keep started s memory_type count is) e;
+  mode = λ r names. is;
+  set_mode = λ form r mode small names. is;
+}
 
 pub action_leaves : (started : List ℕ) (s : StoreState) (frame : Frame) (action : Action) → is_indexed 64 action ≡ true → HasStarted started frame.module_number → IsStoreOf started s → LeavesStore started (effect s frame action)
-action_leaves started s frame (A.Add r n) names of is = written_leaves started frame.registers r _
-action_leaves started s frame (A.Addr v x offset) names of is = written_leaves started frame.registers v _
-action_leaves started s frame (A.Pool r size) names of is = answered started (pool s size) _ _ s frame.registers is (pool_keeps started s size is)
-action_leaves started s frame (A.Store p offset bytes) names of is =
-    where_keeps started (option_and_then (λ to. store s to offset bytes) (pool_in frame.registers p)) _ s frame.registers InvalidParameter is
-    (λ new e. store_keeps started s new (pool_in frame.registers p) offset bytes is e)
-action_leaves started s frame (A.Peek v n) names of is =
-    where_keeps started (number_in frame.registers v) (peek_reply s frame n) s frame.registers InvalidParameter is (λ at _. where_keeps started (bytes_at s at n) _ s frame.registers NotFound is (λ bytes _. is))
-action_leaves started s frame (A.Desc d kind guid arg) names of is =
-    where_keeps started (both (guid_arg frame.registers guid) (desc_number frame.module_number frame.registers (kind_number kind) arg)) (desc_reply s frame d (kind_number kind)) s frame.registers InvalidParameter is
-    (λ a e. answered started (desc s (kind_number kind) a.0 a.1) _ _ s frame.registers is
-    (desc_keeps started s (kind_number kind) a.1 (guid_from s a.0) (entry_is started frame.module_number frame.registers (kind_number kind) arg (guid_arg frame.registers guid) a of (block kind arg _ names) e) is))
-action_leaves started s frame (A.Install list) names of is =
-    where_keeps started (descriptors_in frame.registers list) (install_reply s frame) s frame.registers InvalidParameter is
-    (λ found _. swept started (install s found frame.module_number) _ s frame.registers is (install_keeps started s found frame.module_number is))
-action_leaves started s frame (A.Reinstall old new) names of is =
-    where_keeps started (both (descriptor_in frame.registers old) (descriptor_in frame.registers new)) (reinstall_reply s frame) s frame.registers InvalidParameter is
-    (λ pair _. swept started (reinstall s pair.0 pair.1 frame.module_number) _ s frame.registers is (reinstall_keeps started s pair.0 pair.1 frame.module_number is))
-action_leaves started s frame (A.Notify list) names of is =
-    where_keeps started (descriptors_in frame.registers list) (notify_reply s frame) s frame.registers InvalidParameter is
-    (λ found _. swept started (notify s found frame.module_number) _ s frame.registers is (notify_keeps started s found frame.module_number is))
-action_leaves started s frame (A.Locate d v guid instance) names of is =
-    where_keeps started (nth_ppi s guid instance) (locate_reply s frame d v) s frame.registers NotFound is (λ found _. is)
-action_leaves started s frame (A.Hob kind body) names of is =
-    where_keeps started _ (hob_reply s frame) s frame.registers InvalidParameter is
-    (λ hob _. answered started (create_hob s hob) _ _ s frame.registers is (hob_keeps started s hob is))
-action_leaves started s frame (A.Memory begin length) names of is =
-    where_keeps started (both (number_in frame.registers begin) (number_in frame.registers length)) (memory_reply s frame) s frame.registers InvalidParameter is
-    (λ span _. answered started (set_memory s span.0 span.1) _ _ s frame.registers is (memory_keeps started s span.0 span.1 is))
-action_leaves started s frame (A.Pages r memory_type count) names of is =
-    if_kept started (is_memory_type memory_type && not (count == 0)) _ _ (answered started (pages s memory_type count) _ _ s frame.registers is (pages_keep started s memory_type count is)) is
-action_leaves started s frame (A.BootMode form r) names of is = mode_keeps started s frame form r is
-action_leaves started s frame _ names of is = tt
+action_leaves started s frame action names of is =
+    given (λ reply. IsStoreOf started reply.store) (λ registers. ⊤) (effect s frame action) names
+    (effect_has s frame (λ own reply. is_indexed 64 own ≡ true → IsStoreOf started reply.store) (λ own registers. is_indexed 64 own ≡ true → ⊤) (record { same = λ own names. tt; set = λ r n names. tt; add = λ r n sum e names. tt; addr = λ v x offset address e names. tt }) (replies_leave started s frame of is) action)
