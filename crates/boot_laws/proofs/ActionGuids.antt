@@ -19,7 +19,7 @@ use Rattle.store_model.specs.Service.{Service}
 use Rattle.store_model.specs.Service.Descriptor.{guid_at, kind_at, is_ppi, offsets, desc}
 use Rattle.store_model.specs.Service.Install.{has_ppi, install_pairs, install_sweep, installed, is_installed, node_need, reinstall_pairs, reinstall_sweep, reinstalled, install, reinstall}
 use Rattle.store_model.specs.Service.Memory.{pages, with_boot_mode, set_memory}
-use Rattle.store_model.specs.Service.Pool.{store, pool}
+use Rattle.store_model.specs.Service.Pool.{pool}
 use Rattle.boot_model.specs.Registers.{pool_in, descriptor_in, register, both, descriptors_in, is_success}
 use Rattle.boot_model.specs.PeiAction.{Reply, Effect, Wrote, Called, Own, Shadowed, Logged, Skipped, Returned, effect, kind_number}
 use Rattle.boot_model.specs.EvaluationBound.{is_called, action_guids, changed_places}

@@ -5,7 +5,7 @@ use Rattle.store_model.specs.Service.Memory.{pages, set_memory}
 use Rattle.act_code.specs.declared.action.Action.{Action}
 use Rattle.store_model.specs.StoreState.{StoreState}
 use Rattle.store_model.specs.Service.{Service}
-use Rattle.store_model.specs.Service.Pool.{store, pool}
+use Rattle.store_model.specs.Service.Pool.{pool}
 use Rattle.boot_model.specs.PeiMachine.{Frame}
 use Rattle.boot_model.specs.PeiAction.{Effect, effect, kind_number}
 use Rattle.boot_laws.proofs.StoreMoved.{KeepsMoved, OptionMoved, pool_moved, desc_moved, install_moved, notify_moved, reinstall_moved, hob_moved, memory_moved, pages_moved, store_moved}

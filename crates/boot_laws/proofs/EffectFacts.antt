@@ -26,7 +26,7 @@ use Rattle.store_model.specs.StoreState.{StoreState, free, appended, end_place}
 use Rattle.store_model.specs.StateFacts.{IsStoreState, IsEntry, IsNumberOf}
 use Rattle.store_model.specs.Service.{Service, in_room}
 use Rattle.store_model.specs.Service.Reading.{ppis_of}
-use Rattle.store_model.specs.Service.Pool.{pool, store}
+use Rattle.store_model.specs.Service.Pool.{pool}
 use Rattle.store_model.specs.Service.Descriptor.{desc, number_at}
 use Rattle.store_model.specs.Service.Install.{install, reinstall}
 use Rattle.store_model.specs.Service.Notify.{notify}

@@ -7,11 +7,6 @@ use Rattle.act_code.specs.declared.action.Action.{Action}
 use Rattle.catalog_model.specs.declared.catalog.Catalog.{Catalog}
 use Rattle.catalog_model.specs.Parts.{has_number}
 use Rattle.store_model.specs.StoreState.{StoreState}
-use Rattle.store_model.specs.Service.Pool.{pool, store}
-use Rattle.store_model.specs.Service.Descriptor.{desc}
-use Rattle.store_model.specs.Service.Install.{install, reinstall}
-use Rattle.store_model.specs.Service.Notify.{notify}
-use Rattle.store_model.specs.Service.Memory.{pages}
 use Rattle.boot_model.specs.declared.frame.Register.{Register}
 use Rattle.boot_model.specs.declared.line.CallName.TheVariants as C
 use Rattle.boot_model.specs.declared.line.Extra.TheVariants as X

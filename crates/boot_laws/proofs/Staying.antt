@@ -24,12 +24,12 @@ use Rattle.store_model.specs.StoreState.{StoreState, next_body, appended, pool_o
 use Rattle.store_model.specs.StateFacts.{IsPool, IsDesc, IsEntry, IsStoreState}
 use Rattle.store_model.specs.Service.{Service, in_room}
 use Rattle.store_model.specs.Service.Reading.{ppis_of}
-use Rattle.store_model.specs.Service.Pool.{pool, store}
-use Rattle.store_model.specs.Service.Descriptor.{desc, desc_of, guid_from, number_at, descriptors, offsets}
+use Rattle.store_model.specs.Service.Pool.{pool}
+use Rattle.store_model.specs.Service.Descriptor.{desc_of, guid_from, number_at, descriptors, offsets}
 use Rattle.store_model.specs.Service.Install.{install, reinstall, installed, reinstalled, with_ppi, with_pending, install_pairs, reinstall_pairs, renamed, place_of, is_installed, node_need, install_sweep, reinstall_sweep}
 use Rattle.store_model.specs.Service.Notify.{notify, notified, with_note, notify_pairs, notify_sweep}
 use Rattle.store_model.specs.Service.Hob.{create_hob, hob_entry}
-use Rattle.store_model.specs.Service.Memory.{set_memory, pages, pages_taken, early_pages, allocation_len, allocation_hob, with_pages, with_boot_mode, page_len}
+use Rattle.store_model.specs.Service.Memory.{set_memory, pages_taken, early_pages, allocation_len, allocation_hob, with_pages, with_boot_mode, page_len}
 use Rattle.boot_model.specs.PeiAction.{Called, kind_number, Effect, Wrote, Own, Shadowed, Logged, Skipped, Returned, effect}
 use Rattle.boot_model.specs.MachineFacts.{IsHeld, HoldRegisters}
 use Rattle.boot_laws.specs.Stay.{IsLater, IsReply, Visits, HoldsAfter, ActionsAreSound, RepliesAreSound}
