@@ -7,4 +7,5 @@ pub mod Formats
 pub mod Lists
 pub mod Many
 pub mod Scripts
+pub mod Sources
 pub mod Writable

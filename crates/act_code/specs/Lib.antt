@@ -4,4 +4,5 @@ pub mod Index
 pub mod Reading
 pub mod Script
 pub mod ScriptReading
+pub mod Source
 pub mod Table

@@ -14,6 +14,7 @@ use Rattle.act_code.specs.declared.code.Code.{Code}
 use Rattle.act_code.specs.declared.operand.Unread.{Unread}
 use Rattle.act_code.specs.declared.operand.Unread.TheVariants as unread
 use Rattle.act_code.specs.Format.{Format, Value, is_within, is_hob, Nothing, Byte, Within, RegisterNumber, BlockNumber, Little, GuidBytes, WordNumber, Counted, Text, Registers, Descriptor, HobBody, Pair}
+use Rattle.act_code.specs.Source.{Way}
 use Rattle.act_code.specs.Table.{code_of, is_code_of, format_of, made}
 
 infixl 10 ◌>>=◌
@@ -32,6 +33,16 @@ Fails unread.Malformed read = read ≡ None
 abbrev pub Gives : {X Y : Type 0} → (X → Y) → Result X Unread → Option Y → Type 0
 Gives view (Ok x) read = read ≡ Some (view x)
 Gives view (Err e) read = Fails e read
+
+-- why nothing was read: the one cause, or memory ran out
+abbrev pub cause_of : Unread → Option (Unit {0})
+cause_of unread.Malformed = Some tt
+cause_of unread.Memory = None
+
+-- a value and what is left behind it, seen by view; or the one cause
+abbrev pub answer_of : {A X Left : Type 0} → (X → Left) → Option (A × X) → Result (A × Left) (Unit {0})
+answer_of view (Some x) = Ok (x.0, view x.1)
+answer_of view None = Err tt
 
 unfoldable pub byte_at : List ℕ → Option (ℕ × List ℕ)
 byte_at [] = None
@@ -119,6 +130,10 @@ read (Pair first second) bytes = do
   x ← read first bytes
   y ← read second x.1
   Some ((x.0, y.0), y.1)
+
+-- how bytes give an operand
+abbrev pub byte_way : Way (List ℕ) (Unit {0})
+byte_way format bytes = answer_of (λ rest. rest) (read format bytes)
 
 -- an action, behind its code
 unfoldable pub operands_at : Code → List ℕ → Option (Action × List ℕ)

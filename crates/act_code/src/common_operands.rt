@@ -1,61 +1,62 @@
-// The operands of the actions of both phases, read in order.
-#![tactic(auto, unfolding(crate::specs::Reading::operands_at))]
+// The operands of the actions of both phases, read in order from any source.
+#![tactic(auto, using(crate::proofs::Sources::stops_then), unfolding(crate::specs::Source::operands_by))]
 
-ghost use Rattle.act_code.specs.Reading.{Gives, operands_at};
+ghost use Rattle.act_code.specs.Source.{Gives, operands_by};
 ghost use Rattle.act_code.specs.declared.code.Code.TheVariants as Code;
 
 use crate::action::Action;
-use crate::operand::{self, MOST_BYTES, Unread, byte, byte_within, number_8};
+use crate::operand::MOST_BYTES;
+use crate::source::Source;
 use std::alloc::Global;
 
-/// The operands: a register and a number; and what stands behind them.
-pub fn set(bytes: &[u8]) -> Result<(Action, &[u8]), Unread>
-    ensures { Gives (λ x. (x.0, x.1.now)) result (operands_at Code.Set bytes.now) }
+/// A register and a number.
+pub fn set<S: Source>(source: S) -> Result<(Action, S), S::Fault>
+    ensures { Gives S.left S.cause result (operands_by S.way Code.Set (S.left source)) }
 {
-    let (r, rest) = byte(bytes)?;
-    let (n, rest) = number_8(rest)?;
-    Ok((Action::Set { r, n }, rest))
+    let (r, source) = source.register()?;
+    let (n, source) = source.number_8()?;
+    Ok((Action::Set { r, n }, source))
 }
 
-/// The operands: a register and a number; and what stands behind them.
-pub fn add(bytes: &[u8]) -> Result<(Action, &[u8]), Unread>
-    ensures { Gives (λ x. (x.0, x.1.now)) result (operands_at Code.Add bytes.now) }
+/// A register and a number.
+pub fn add<S: Source>(source: S) -> Result<(Action, S), S::Fault>
+    ensures { Gives S.left S.cause result (operands_by S.way Code.Add (S.left source)) }
 {
-    let (r, rest) = byte(bytes)?;
-    let (n, rest) = number_8(rest)?;
-    Ok((Action::Add { r, n }, rest))
+    let (r, source) = source.register()?;
+    let (n, source) = source.number_8()?;
+    Ok((Action::Add { r, n }, source))
 }
 
-/// The operands: the register of an address, and how many bytes; and what stands behind them.
-pub fn peek(bytes: &[u8]) -> Result<(Action, &[u8]), Unread>
-    ensures { Gives (λ x. (x.0, x.1.now)) result (operands_at Code.Peek bytes.now) }
+/// The register of an address, and how many bytes.
+pub fn peek<S: Source>(source: S) -> Result<(Action, S), S::Fault>
+    ensures { Gives S.left S.cause result (operands_by S.way Code.Peek (S.left source)) }
 {
-    let (v, rest) = byte(bytes)?;
-    let (n, rest) = byte_within(rest, 1, MOST_BYTES)?;
-    Ok((Action::Peek { v, n }, rest))
+    let (v, source) = source.register()?;
+    let (n, source) = source.within(1, MOST_BYTES)?;
+    Ok((Action::Peek { v, n }, source))
 }
 
-/// The operands: a text behind its length; and what stands behind them.
-pub fn log(alloc: Global, bytes: &[u8]) -> Result<(Action, &[u8]), Unread>
-    ensures { Gives (λ x. (x.0, x.1.now)) result (operands_at Code.Log bytes.now) }
+/// A text.
+pub fn log<S: Source>(alloc: Global, source: S) -> Result<(Action, S), S::Fault>
+    ensures { Gives S.left S.cause result (operands_by S.way Code.Log (S.left source)) }
 {
-    let (text, rest) = operand::text(alloc, bytes)?;
-    Ok((Action::Log { text }, rest))
+    let (text, source) = source.text(alloc)?;
+    Ok((Action::Log { text }, source))
 }
 
-/// The operands: a condition, and how many actions; and what stands behind them.
-pub fn skip_if(bytes: &[u8]) -> Result<(Action, &[u8]), Unread>
-    ensures { Gives (λ x. (x.0, x.1.now)) result (operands_at Code.SkipIf bytes.now) }
+/// A condition, and how many actions.
+pub fn skip_if<S: Source>(source: S) -> Result<(Action, S), S::Fault>
+    ensures { Gives S.left S.cause result (operands_by S.way Code.SkipIf (S.left source)) }
 {
-    let (condition, rest) = byte_within(bytes, 0, 1)?;
-    let (n, rest) = byte_within(rest, 1, u8::MAX)?;
-    Ok((Action::SkipIf { condition, n }, rest))
+    let (condition, source) = source.within(0, 1)?;
+    let (n, source) = source.within(1, u8::MAX)?;
+    Ok((Action::SkipIf { condition, n }, source))
 }
 
-/// The operands: a status; and what stands behind them.
-pub fn ret(bytes: &[u8]) -> Result<(Action, &[u8]), Unread>
-    ensures { Gives (λ x. (x.0, x.1.now)) result (operands_at Code.Ret bytes.now) }
+/// A status.
+pub fn ret<S: Source>(source: S) -> Result<(Action, S), S::Fault>
+    ensures { Gives S.left S.cause result (operands_by S.way Code.Ret (S.left source)) }
 {
-    let (status, rest) = operand::word(bytes)?;
-    Ok((Action::Ret { status }, rest))
+    let (status, source) = source.status()?;
+    Ok((Action::Ret { status }, source))
 }

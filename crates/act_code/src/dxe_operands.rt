@@ -1,82 +1,82 @@
-// The operands of the actions of DXE, read in order.
-#![tactic(auto, unfolding(crate::specs::Reading::operands_at))]
+// The operands of the actions of DXE, read in order from any source.
+#![tactic(auto, using(crate::proofs::Sources::stops_then), unfolding(crate::specs::Source::operands_by))]
 
-ghost use Rattle.act_code.specs.Reading.{Gives, operands_at};
+ghost use Rattle.act_code.specs.Source.{Gives, operands_by};
 ghost use Rattle.act_code.specs.declared.code.Code.TheVariants as Code;
 
 use crate::action::Action;
-use crate::operand::{self, Unread, byte, byte_within};
+use crate::source::Source;
 
-/// The operands: whether the handle is new, its register, the protocol's GUID, and the interface's register; and what stands behind them.
-pub fn install(bytes: &[u8]) -> Result<(Action, &[u8]), Unread>
-    ensures { Gives (λ x. (x.0, x.1.now)) result (operands_at Code.DxeInstall bytes.now) }
+/// Whether the handle is new, its register, the protocol's GUID, and the interface's register.
+pub fn install<S: Source>(source: S) -> Result<(Action, S), S::Fault>
+    ensures { Gives S.left S.cause result (operands_by S.way Code.DxeInstall (S.left source)) }
 {
-    let (form, rest) = byte_within(bytes, 0, 1)?;
-    let (h, rest) = byte(rest)?;
-    let (guid, rest) = operand::guid(rest)?;
-    let (v, rest) = byte(rest)?;
-    Ok((Action::DxeInstall { form, h, guid, v }, rest))
+    let (form, source) = source.within(0, 1)?;
+    let (h, source) = source.register()?;
+    let (guid, source) = source.guid()?;
+    let (v, source) = source.register()?;
+    Ok((Action::DxeInstall { form, h, guid, v }, source))
 }
 
-/// The operands: a handle's register, the GUID, and the registers of the old and the new interface; and what stands behind them.
-pub fn reinstall(bytes: &[u8]) -> Result<(Action, &[u8]), Unread>
-    ensures { Gives (λ x. (x.0, x.1.now)) result (operands_at Code.DxeReinstall bytes.now) }
+/// A handle's register, the GUID, and the registers of the old and the new interface.
+pub fn reinstall<S: Source>(source: S) -> Result<(Action, S), S::Fault>
+    ensures { Gives S.left S.cause result (operands_by S.way Code.DxeReinstall (S.left source)) }
 {
-    let (h, rest) = byte(bytes)?;
-    let (guid, rest) = operand::guid(rest)?;
-    let (old, rest) = byte(rest)?;
-    let (new, rest) = byte(rest)?;
-    Ok((Action::DxeReinstall { h, guid, old, new }, rest))
+    let (h, source) = source.register()?;
+    let (guid, source) = source.guid()?;
+    let (old, source) = source.register()?;
+    let (new, source) = source.register()?;
+    Ok((Action::DxeReinstall { h, guid, old, new }, source))
 }
 
-/// The operands: a handle's register, the GUID, and the interface's register; and what stands behind them.
-pub fn uninstall(bytes: &[u8]) -> Result<(Action, &[u8]), Unread>
-    ensures { Gives (λ x. (x.0, x.1.now)) result (operands_at Code.DxeUninstall bytes.now) }
+/// A handle's register, the GUID, and the interface's register.
+pub fn uninstall<S: Source>(source: S) -> Result<(Action, S), S::Fault>
+    ensures { Gives S.left S.cause result (operands_by S.way Code.DxeUninstall (S.left source)) }
 {
-    let (h, rest) = byte(bytes)?;
-    let (guid, rest) = operand::guid(rest)?;
-    let (v, rest) = byte(rest)?;
-    Ok((Action::DxeUninstall { h, guid, v }, rest))
+    let (h, source) = source.register()?;
+    let (guid, source) = source.guid()?;
+    let (v, source) = source.register()?;
+    Ok((Action::DxeUninstall { h, guid, v }, source))
 }
 
-/// The operands: the registers for the handle and the interface, and the GUID; and what stands behind them.
-pub fn locate(bytes: &[u8]) -> Result<(Action, &[u8]), Unread>
-    ensures { Gives (λ x. (x.0, x.1.now)) result (operands_at Code.DxeLocate bytes.now) }
+/// The registers for the handle and the interface, and the GUID.
+pub fn locate<S: Source>(source: S) -> Result<(Action, S), S::Fault>
+    ensures { Gives S.left S.cause result (operands_by S.way Code.DxeLocate (S.left source)) }
 {
-    let (h, rest) = byte(bytes)?;
-    let (v, rest) = byte(rest)?;
-    let (guid, rest) = operand::guid(rest)?;
-    Ok((Action::DxeLocate { h, v, guid }, rest))
+    let (h, source) = source.register()?;
+    let (v, source) = source.register()?;
+    let (guid, source) = source.guid()?;
+    Ok((Action::DxeLocate { h, v, guid }, source))
 }
 
-/// The operands: the GUID and a block; and what stands behind them.
-pub fn notify(bytes: &[u8]) -> Result<(Action, &[u8]), Unread>
-    ensures { Gives (λ x. (x.0, x.1.now)) result (operands_at Code.DxeNotify bytes.now) }
+/// The GUID and a block.
+pub fn notify<S: Source>(source: S) -> Result<(Action, S), S::Fault>
+    ensures { Gives S.left S.cause result (operands_by S.way Code.DxeNotify (S.left source)) }
 {
-    let (guid, rest) = operand::guid(bytes)?;
-    let (block, rest) = byte(rest)?;
-    Ok((Action::DxeNotify { guid, block }, rest))
+    let (guid, source) = source.guid()?;
+    let (block, source) = source.block()?;
+    Ok((Action::DxeNotify { guid, block }, source))
 }
 
-/// The operands: the driver's file name; and what stands behind them.
-pub fn schedule(bytes: &[u8]) -> Result<(Action, &[u8]), Unread>
-    ensures { Gives (λ x. (x.0, x.1.now)) result (operands_at Code.Schedule bytes.now) }
+/// The driver's file name.
+pub fn schedule<S: Source>(source: S) -> Result<(Action, S), S::Fault>
+    ensures { Gives S.left S.cause result (operands_by S.way Code.Schedule (S.left source)) }
 {
-    let (guid, rest) = operand::guid(bytes)?;
-    Ok((Action::Schedule { guid }, rest))
+    let (guid, source) = source.guid()?;
+    Ok((Action::Schedule { guid }, source))
 }
 
-/// The operands: the register of a volume's address; and what stands behind them.
-pub fn process(bytes: &[u8]) -> Result<(Action, &[u8]), Unread>
-    ensures { Gives (λ x. (x.0, x.1.now)) result (operands_at Code.Process bytes.now) }
+/// The register of a volume's address.
+pub fn process<S: Source>(source: S) -> Result<(Action, S), S::Fault>
+    ensures { Gives S.left S.cause result (operands_by S.way Code.Process (S.left source)) }
 {
-    let (v, rest) = byte(bytes)?;
-    Ok((Action::Process { v }, rest))
+    let (v, source) = source.register()?;
+    Ok((Action::Process { v }, source))
 }
 
-/// The operands: none; and what stands behind them.
-pub fn dispatch(bytes: &[u8]) -> Result<(Action, &[u8]), Unread>
-    ensures { Gives (λ x. (x.0, x.1.now)) result (operands_at Code.Dispatch bytes.now) }
+/// None.
+pub fn dispatch<S: Source>(source: S) -> Result<(Action, S), S::Fault>
+    ensures { Gives S.left S.cause result (operands_by S.way Code.Dispatch (S.left source)) }
 {
-    Ok((Action::Dispatch, bytes))
+    Ok((Action::Dispatch, source))
 }

@@ -2,7 +2,7 @@
 ghost use Rattle.std.specs.Prelude.{◌≡◌, ◌<◌};
 ghost use Rattle.std.specs.List.{list_all};
 ghost use Rattle.act_code.specs.Format.{is_within, is_hob};
-ghost use Rattle.act_code.specs.Reading.{Gives, byte_at, within_at, little_at, guid_front, word_at, bytes_at, counted_at, text_at, guid_arg_at, hob_at};
+ghost use Rattle.act_code.specs.Reading.{Gives, byte_at, within_at, little_at, guid_front, word_at, bytes_at, counted_at, text_at, guid_arg_at, descriptor_at, hob_at};
 ghost use Rattle.act_code.specs.declared.operand.Unread.TheVariants as unread;
 
 use crate::action::GuidArg;
@@ -167,9 +167,9 @@ pub fn word(bytes: &[u8]) -> Result<(Word, &[u8]), Unread>
     }
 }
 
-/// A form, and a GUID or the number of a register.
+// A form, and a GUID or the number of a register.
 #[tactic(auto, unfolding(crate::specs::Reading::guid_arg_at))]
-pub fn guid_arg(bytes: &[u8]) -> Result<(GuidArg, &[u8]), Unread>
+fn guid_arg(bytes: &[u8]) -> Result<(GuidArg, &[u8]), Unread>
     ensures { Gives (λ x. (x.0, x.1.now)) result (guid_arg_at bytes.now) }
 {
     let (form, rest) = byte_within(bytes, GUID_FOLLOWS, REGISTER_FOLLOWS)?;
@@ -180,6 +180,17 @@ pub fn guid_arg(bytes: &[u8]) -> Result<(GuidArg, &[u8]), Unread>
         let (v, rest) = byte(rest)?;
         Ok((GuidArg::Register(v), rest))
     }
+}
+
+/// A kind, a GUID or the register of its address, and the number of a register or a block.
+#[tactic(auto, unfolding(crate::specs::Reading::descriptor_at))]
+pub fn descriptor(bytes: &[u8]) -> Result<((u8, GuidArg, u8), &[u8]), Unread>
+    ensures { Gives (λ x. ((x.0.0, x.0.1, x.0.2), x.1.now)) result (descriptor_at bytes.now) }
+{
+    let (kind, rest) = byte_within(bytes, 0, 2)?;
+    let (guid, rest) = guid_arg(rest)?;
+    let (arg, rest) = byte(rest)?;
+    Ok(((kind, guid, arg), rest))
 }
 
 /// The types of HOBs that a script may make (PI 1.8, volume 3, `EFI_HOB_TYPE_RESOURCE_DESCRIPTOR` and on).

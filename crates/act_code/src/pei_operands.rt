@@ -1,97 +1,84 @@
-// The operands of the actions of PEI, read in order.
-#![tactic(auto, unfolding(crate::specs::Reading::operands_at))]
+// The operands of the actions of PEI, read in order from any source.
+#![tactic(auto, using(crate::proofs::Sources::stops_then), unfolding(crate::specs::Source::operands_by))]
 
-ghost use Rattle.act_code.specs.Reading.{Gives, operands_at};
+ghost use Rattle.act_code.specs.Source.{Gives, operands_by};
 ghost use Rattle.act_code.specs.declared.code.Code.TheVariants as Code;
 
 use crate::action::Action;
-use crate::operand::{
-    self, MOST_BYTES, MOST_REGISTERS, Unread, byte, byte_within, counted, guid_arg, number_2,
-    number_4,
-};
+use crate::source::Source;
 use std::alloc::Global;
 
-/// The operands: a register and a size in bytes; and what stands behind them.
-pub fn pool(bytes: &[u8]) -> Result<(Action, &[u8]), Unread>
-    ensures { Gives (λ x. (x.0, x.1.now)) result (operands_at Code.Pool bytes.now) }
+/// A register and a size in bytes.
+pub fn pool<S: Source>(source: S) -> Result<(Action, S), S::Fault>
+    ensures { Gives S.left S.cause result (operands_by S.way Code.Pool (S.left source)) }
 {
-    let (r, rest) = byte(bytes)?;
-    let (size, rest) = number_4(rest)?;
-    Ok((Action::Pool { r, size }, rest))
+    let (r, source) = source.register()?;
+    let (size, source) = source.number_4()?;
+    Ok((Action::Pool { r, size }, source))
 }
 
-/// The operands: the register of a pool, an offset in its body, and bytes behind their length; and what stands behind them.
-pub fn store(alloc: Global, bytes: &[u8]) -> Result<(Action, &[u8]), Unread>
-    ensures { Gives (λ x. (x.0, x.1.now)) result (operands_at Code.Store bytes.now) }
+/// The register of a pool, an offset in its body, and bytes.
+pub fn store<S: Source>(alloc: Global, source: S) -> Result<(Action, S), S::Fault>
+    ensures { Gives S.left S.cause result (operands_by S.way Code.Store (S.left source)) }
 {
-    let (p, rest) = byte(bytes)?;
-    let (offset, rest) = number_4(rest)?;
-    let (list, rest) = counted(alloc, rest, MOST_BYTES)?;
-    Ok((
-        Action::Store {
-            p,
-            offset,
-            bytes: list,
-        },
-        rest,
-    ))
+    let (p, source) = source.register()?;
+    let (offset, source) = source.number_4()?;
+    let (bytes, source) = source.counted(alloc)?;
+    Ok((Action::Store { p, offset, bytes }, source))
 }
 
-/// The operands: a register, the one of a body, and an offset in it; and what stands behind them.
-pub fn addr(bytes: &[u8]) -> Result<(Action, &[u8]), Unread>
-    ensures { Gives (λ x. (x.0, x.1.now)) result (operands_at Code.Addr bytes.now) }
+/// A register, the one of a body, and an offset in it.
+pub fn addr<S: Source>(source: S) -> Result<(Action, S), S::Fault>
+    ensures { Gives S.left S.cause result (operands_by S.way Code.Addr (S.left source)) }
 {
-    let (v, rest) = byte(bytes)?;
-    let (x, rest) = byte(rest)?;
-    let (offset, rest) = number_4(rest)?;
-    Ok((Action::Addr { v, x, offset }, rest))
+    let (v, source) = source.register()?;
+    let (x, source) = source.register()?;
+    let (offset, source) = source.number_4()?;
+    Ok((Action::Addr { v, x, offset }, source))
 }
 
-/// The operands: a register, the kind, the GUID or the register of its address, and the value's register or a block; and what stands behind them.
-#[tactic(auto, unfolding(crate::specs::Reading::operands_at, crate::specs::Reading::descriptor_at))]
-pub fn desc(bytes: &[u8]) -> Result<(Action, &[u8]), Unread>
-    ensures { Gives (λ x. (x.0, x.1.now)) result (operands_at Code.Desc bytes.now) }
+/// A register, the kind, the GUID or the register of its address, and the value's register or a block.
+pub fn desc<S: Source>(source: S) -> Result<(Action, S), S::Fault>
+    ensures { Gives S.left S.cause result (operands_by S.way Code.Desc (S.left source)) }
 {
-    let (d, rest) = byte(bytes)?;
-    let (kind, rest) = byte_within(rest, 0, 2)?;
-    let (guid, rest) = guid_arg(rest)?;
-    let (arg, rest) = byte(rest)?;
-    Ok((Action::Desc { d, kind, guid, arg }, rest))
+    let (d, source) = source.register()?;
+    let ((kind, guid, arg), source) = source.descriptor()?;
+    Ok((Action::Desc { d, kind, guid, arg }, source))
 }
 
-/// The operands: registers of descriptors behind their count; and what stands behind them.
-pub fn install(alloc: Global, bytes: &[u8]) -> Result<(Action, &[u8]), Unread>
-    ensures { Gives (λ x. (x.0, x.1.now)) result (operands_at Code.Install bytes.now) }
+/// Registers of descriptors.
+pub fn install<S: Source>(alloc: Global, source: S) -> Result<(Action, S), S::Fault>
+    ensures { Gives S.left S.cause result (operands_by S.way Code.Install (S.left source)) }
 {
-    let (list, rest) = counted(alloc, bytes, MOST_REGISTERS)?;
-    Ok((Action::Install { list }, rest))
+    let (list, source) = source.registers(alloc)?;
+    Ok((Action::Install { list }, source))
 }
 
-/// The operands: the registers of the old and of the new descriptor; and what stands behind them.
-pub fn reinstall(bytes: &[u8]) -> Result<(Action, &[u8]), Unread>
-    ensures { Gives (λ x. (x.0, x.1.now)) result (operands_at Code.Reinstall bytes.now) }
+/// The registers of the old and of the new descriptor.
+pub fn reinstall<S: Source>(source: S) -> Result<(Action, S), S::Fault>
+    ensures { Gives S.left S.cause result (operands_by S.way Code.Reinstall (S.left source)) }
 {
-    let (old, rest) = byte(bytes)?;
-    let (new, rest) = byte(rest)?;
-    Ok((Action::Reinstall { old, new }, rest))
+    let (old, source) = source.register()?;
+    let (new, source) = source.register()?;
+    Ok((Action::Reinstall { old, new }, source))
 }
 
-/// The operands: registers of descriptors behind their count; and what stands behind them.
-pub fn notify(alloc: Global, bytes: &[u8]) -> Result<(Action, &[u8]), Unread>
-    ensures { Gives (λ x. (x.0, x.1.now)) result (operands_at Code.Notify bytes.now) }
+/// Registers of descriptors.
+pub fn notify<S: Source>(alloc: Global, source: S) -> Result<(Action, S), S::Fault>
+    ensures { Gives S.left S.cause result (operands_by S.way Code.Notify (S.left source)) }
 {
-    let (list, rest) = counted(alloc, bytes, MOST_REGISTERS)?;
-    Ok((Action::Notify { list }, rest))
+    let (list, source) = source.registers(alloc)?;
+    Ok((Action::Notify { list }, source))
 }
 
-/// The operands: the registers for the descriptor and the value, the GUID, and the number of the instance; and what stands behind them.
-pub fn locate(bytes: &[u8]) -> Result<(Action, &[u8]), Unread>
-    ensures { Gives (λ x. (x.0, x.1.now)) result (operands_at Code.Locate bytes.now) }
+/// The registers for the descriptor and the value, the GUID, and the number of the instance.
+pub fn locate<S: Source>(source: S) -> Result<(Action, S), S::Fault>
+    ensures { Gives S.left S.cause result (operands_by S.way Code.Locate (S.left source)) }
 {
-    let (d, rest) = byte(bytes)?;
-    let (v, rest) = byte(rest)?;
-    let (guid, rest) = operand::guid(rest)?;
-    let (instance, rest) = number_2(rest)?;
+    let (d, source) = source.register()?;
+    let (v, source) = source.register()?;
+    let (guid, source) = source.guid()?;
+    let (instance, source) = source.number_2()?;
     Ok((
         Action::Locate {
             d,
@@ -99,56 +86,56 @@ pub fn locate(bytes: &[u8]) -> Result<(Action, &[u8]), Unread>
             guid,
             instance,
         },
-        rest,
+        source,
     ))
 }
 
-/// The operands: a HOB's type, and its body behind the length; and what stands behind them.
-pub fn make_hob(alloc: Global, bytes: &[u8]) -> Result<(Action, &[u8]), Unread>
-    ensures { Gives (λ x. (x.0, x.1.now)) result (operands_at Code.Hob bytes.now) }
+/// A HOB's type, and its body.
+pub fn make_hob<S: Source>(alloc: Global, source: S) -> Result<(Action, S), S::Fault>
+    ensures { Gives S.left S.cause result (operands_by S.way Code.Hob (S.left source)) }
 {
-    let ((kind, body), rest) = operand::hob(alloc, bytes)?;
-    Ok((Action::Hob { kind, body }, rest))
+    let ((kind, body), source) = source.hob(alloc)?;
+    Ok((Action::Hob { kind, body }, source))
 }
 
-/// The operands: the registers of the begin and of the length; and what stands behind them.
-pub fn memory(bytes: &[u8]) -> Result<(Action, &[u8]), Unread>
-    ensures { Gives (λ x. (x.0, x.1.now)) result (operands_at Code.Memory bytes.now) }
+/// The registers of the begin and of the length.
+pub fn memory<S: Source>(source: S) -> Result<(Action, S), S::Fault>
+    ensures { Gives S.left S.cause result (operands_by S.way Code.Memory (S.left source)) }
 {
-    let (begin, rest) = byte(bytes)?;
-    let (length, rest) = byte(rest)?;
-    Ok((Action::Memory { begin, length }, rest))
+    let (begin, source) = source.register()?;
+    let (length, source) = source.register()?;
+    Ok((Action::Memory { begin, length }, source))
 }
 
-/// The operands: a register, the memory type, and how many pages; and what stands behind them.
-pub fn pages(bytes: &[u8]) -> Result<(Action, &[u8]), Unread>
-    ensures { Gives (λ x. (x.0, x.1.now)) result (operands_at Code.Pages bytes.now) }
+/// A register, the memory type, and how many pages.
+pub fn pages<S: Source>(source: S) -> Result<(Action, S), S::Fault>
+    ensures { Gives S.left S.cause result (operands_by S.way Code.Pages (S.left source)) }
 {
-    let (r, rest) = byte(bytes)?;
-    let (memory_type, rest) = byte(rest)?;
-    let (count, rest) = number_4(rest)?;
+    let (r, source) = source.register()?;
+    let (memory_type, source) = source.byte()?;
+    let (count, source) = source.number_4()?;
     Ok((
         Action::Pages {
             r,
             memory_type,
             count,
         },
-        rest,
+        source,
     ))
 }
 
-/// The operands: whether the mode is got or set, and a register; and what stands behind them.
-pub fn boot_mode(bytes: &[u8]) -> Result<(Action, &[u8]), Unread>
-    ensures { Gives (λ x. (x.0, x.1.now)) result (operands_at Code.BootMode bytes.now) }
+/// Whether the mode is got or set, and a register.
+pub fn boot_mode<S: Source>(source: S) -> Result<(Action, S), S::Fault>
+    ensures { Gives S.left S.cause result (operands_by S.way Code.BootMode (S.left source)) }
 {
-    let (form, rest) = byte_within(bytes, 0, 1)?;
-    let (r, rest) = byte(rest)?;
-    Ok((Action::BootMode { form, r }, rest))
+    let (form, source) = source.within(0, 1)?;
+    let (r, source) = source.register()?;
+    Ok((Action::BootMode { form, r }, source))
 }
 
-/// The operands: none; and what stands behind them.
-pub fn shadow(bytes: &[u8]) -> Result<(Action, &[u8]), Unread>
-    ensures { Gives (λ x. (x.0, x.1.now)) result (operands_at Code.Shadow bytes.now) }
+/// None.
+pub fn shadow<S: Source>(source: S) -> Result<(Action, S), S::Fault>
+    ensures { Gives S.left S.cause result (operands_by S.way Code.Shadow (S.left source)) }
 {
-    Ok((Action::Shadow, bytes))
+    Ok((Action::Shadow, source))
 }

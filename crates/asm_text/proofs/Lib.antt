@@ -10,6 +10,7 @@ mod Fronts
 mod GoodOperands
 mod Guids
 mod LineFeeds
+mod LineSources
 pub mod LineTexts
 mod OneBadLine
 mod OneScript

@@ -10,7 +10,8 @@ use Rattle.act_code.specs.declared.code.Code.{Code}
 use Rattle.act_code.specs.declared.code.Code.TheVariants as code
 use Rattle.act_code.specs.Format.{Format, Value, is_within, is_hob, Nothing, Byte, Within, RegisterNumber, BlockNumber, Little, GuidBytes, WordNumber, Counted, Text, Registers, Descriptor, HobBody, Pair}
 use Rattle.act_code.specs.Table.{format_of, made}
-use Rattle.act_code.specs.Reading.{◌>>=◌, only_if}
+use Rattle.act_code.specs.Source.{Way}
+use Rattle.act_code.specs.Reading.{◌>>=◌, only_if, answer_of}
 use Rattle.asm_text.specs.Front.{behind, guid_word}
 use Rattle.asm_text.specs.WordReading.{word_at, number_word, hexadecimal_word, register_word, choice_word, kind_word, status_word, bytes_word}
 
@@ -135,6 +136,10 @@ abbrev pub small_word : Code → List ℕ → Option ℕ
 small_word code.BootMode = choice_word (codes "get") (codes "set")
 small_word code.DxeInstall = choice_word (codes "new") (codes "on")
 small_word _ = number_word 10
+
+-- how the text of a line gives an operand; what is left has its action's code with it
+abbrev pub line_way : Way (Code × List ℕ) (Unit {0})
+line_way format line = answer_of (λ text. (line.0, text)) (read (small_word line.0) format line.1)
 
 -- the action of a code whose operands the text is, all of it
 unfoldable pub operands_at : Code → List ℕ → Option Action

@@ -5,18 +5,16 @@
 
 mod action_name;
 mod action_text;
-mod common_line;
 mod depex_reading;
 mod depex_text;
 mod draft;
-mod dxe_line;
 mod fault;
 mod front;
 mod line_reading;
+mod line_source;
 mod list_reading;
 mod operand;
 mod operand_reading;
-mod pei_line;
 mod script_reading;
 mod script_text;
 mod text_law;

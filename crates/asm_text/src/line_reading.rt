@@ -4,9 +4,10 @@ ghost use Rattle.asm_text.specs.OperandReading.{operands_at};
 ghost use Rattle.asm_text.specs.LineReading.{action_of};
 
 use crate::action_name::code_named;
+use crate::line_source::Line;
+use crate::operand_reading::ended;
 use crate::word::space_place;
-use crate::{common_line, dxe_line, pei_line};
-use act_code::{Action, Code, Unread};
+use act_code::{Action, Code, Unread, read_operands};
 use pi_base::Phase;
 use std::alloc::Global;
 
@@ -14,34 +15,9 @@ use std::alloc::Global;
 fn operands(alloc: Global, code: Code, text: &[u8]) -> Result<Action, Unread>
     ensures { Gives (λ x. x) result (operands_at code text.now) }
 {
-    match code {
-        Code::Set => common_line::set(text),
-        Code::Add => common_line::add(text),
-        Code::Pool => pei_line::pool(text),
-        Code::Store => pei_line::store(alloc, text),
-        Code::Addr => pei_line::addr(text),
-        Code::Peek => common_line::peek(text),
-        Code::Desc => pei_line::desc(text),
-        Code::Install => pei_line::install(alloc, text),
-        Code::Reinstall => pei_line::reinstall(text),
-        Code::Notify => pei_line::notify(alloc, text),
-        Code::Locate => pei_line::locate(text),
-        Code::Hob => pei_line::make_hob(alloc, text),
-        Code::Memory => pei_line::memory(text),
-        Code::Pages => pei_line::pages(text),
-        Code::BootMode => pei_line::boot_mode(text),
-        Code::Log => common_line::log(alloc, text),
-        Code::SkipIf => common_line::skip_if(text),
-        Code::Ret => common_line::ret(text),
-        Code::Shadow => pei_line::shadow(text),
-        Code::DxeInstall => dxe_line::install(text),
-        Code::DxeReinstall => dxe_line::reinstall(text),
-        Code::DxeUninstall => dxe_line::uninstall(text),
-        Code::DxeLocate => dxe_line::locate(text),
-        Code::DxeNotify => dxe_line::notify(text),
-        Code::Schedule => dxe_line::schedule(text),
-        Code::Process => dxe_line::process(text),
-        Code::Dispatch => dxe_line::dispatch(text),
+    match read_operands(alloc, code, Line { code, text }) {
+        Ok((action, rest)) => ended(action, rest.text),
+        Err(unread) => Err(unread),
     }
 }
 

@@ -3,14 +3,14 @@ ghost use Rattle.std.specs.Prelude.{◌≡◌, ◌==◌, length};
 ghost use Rattle.act_code.specs.Format.{is_within};
 ghost use Rattle.act_code.specs.Reading.{Gives, only_if};
 ghost use Rattle.asm_text.specs.WordReading.{number_word, choice_word};
-ghost use Rattle.asm_text.specs.OperandReading.{register_at, within_at, little_at, guid_at, status_at, block_at, guid_arg_at, last_at, descriptor_at};
+ghost use Rattle.asm_text.specs.OperandReading.{register_at, within_at, little_at, guid_at, status_at, block_at, guid_arg_at, last_at, descriptor_at, small_word};
 
 use crate::front::guid_word;
 use crate::word::{
     choice_word, decimal_word, hexadecimal_word, kind_word, register_word, status_word, word,
 };
 use act_code::descriptor_kind::PPI;
-use act_code::{Action, GuidArg, MOST_BLOCKS, Unread};
+use act_code::{Action, Code, GuidArg, MOST_BLOCKS, Unread};
 use pi_base::{Guid, Word};
 
 /// The last number of a block.
@@ -62,19 +62,36 @@ pub(crate) fn small(text: &[u8], low: u8, high: u8) -> Result<(u8, &[u8]), Unrea
     }
 }
 
-/// One of two words, for 0 and 1.
+// One of two words, for 0 and 1, where that is from one number to another.
 #[tactic(auto, unfolding(crate::specs::OperandReading::within_at))]
-pub(crate) fn choice<'a>(text: &'a [u8], zero: &[u8], one: &[u8]) -> Result<(u8, &'a [u8]), Unread>
-    ensures { Gives (λ x. (x.0, x.1.now)) result (within_at (choice_word zero.now one.now) 0 1 text.now) }
+fn choice<'a>(
+    text: &'a [u8],
+    zero: &[u8],
+    one: &[u8],
+    low: u8,
+    high: u8,
+) -> Result<(u8, &'a [u8]), Unread>
+    ensures { Gives (λ x. (x.0, x.1.now)) result (within_at (choice_word zero.now one.now) low high text.now) }
 {
     let (word, rest) = word(text)?;
     let Some(n) = choice_word(word, zero, one) else {
         return Err(Unread::Malformed);
     };
-    if is_within(0, 1, n) {
+    if is_within(u64::from(low), u64::from(high), n) {
         Ok((n as u8, rest))
     } else {
         Err(Unread::Malformed)
+    }
+}
+
+/// A small number of an action, from one to another: two words stand for that of `boot_mode` and of a driver's `install`.
+pub(crate) fn small_of(code: Code, text: &[u8], low: u8, high: u8) -> Result<(u8, &[u8]), Unread>
+    ensures { Gives (λ x. (x.0, x.1.now)) result (within_at (small_word code) low high text.now) }
+{
+    match code {
+        Code::BootMode => choice(text, b"get", b"set", low, high),
+        Code::DxeInstall => choice(text, b"new", b"on", low, high),
+        _ => small(text, low, high),
     }
 }
 

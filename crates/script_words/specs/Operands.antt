@@ -14,7 +14,8 @@ use Rattle.source_words.specs.Words.{is_keyword}
 use Rattle.source_words.specs.GuidWord.{guid_of}
 use Rattle.script_words.specs.declared.fault.LineFault.{LineFault}
 use Rattle.script_words.specs.declared.fault.LineFault.TheVariants as fault
-use Rattle.script_words.specs.Reading.{◌>>=◌, only_if, there}
+use Rattle.act_code.specs.Source.{Way}
+use Rattle.script_words.specs.Reading.{◌>>=◌, only_if, there, answer_of}
 use Rattle.script_words.specs.Word.{word_at, register_of, choice_of, kind_of, status_of, bytes_at}
 
 unfoldable pub register_at : List (List ℕ) → Result (ℕ × List (List ℕ)) LineFault
@@ -133,6 +134,10 @@ read code (Pair first second) words = do
   x ← read code first words
   y ← read code second x.1
   Ok ((x.0, y.0), y.1)
+
+-- how the words of a line give an operand; what is left has its action's code with it
+abbrev pub word_way : Way (Code × List (List ℕ)) LineFault
+word_way format left = answer_of (λ words. (left.0, words)) (read left.0 format left.1)
 
 -- the action of a code whose operands the words are, all of them
 unfoldable pub operands_at : Code → List (List ℕ) → Result Action LineFault

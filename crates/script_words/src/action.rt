@@ -10,9 +10,10 @@ ghost use Rattle.script_words.specs.Action.{other_phase, is_logged, code_of_name
 
 use crate::fault::{LineFault, Stop};
 use crate::line::{behind_blank, unindented};
+use crate::operand::ended;
 use crate::word::word;
-use crate::{common, dxe, pei};
-use act_code::{Action, Code};
+use crate::word_source::Words;
+use act_code::{Action, Code, read_operands};
 use asm_text::code_named;
 use pi_base::{Phase, Seq};
 use std::alloc::Global;
@@ -96,34 +97,9 @@ fn logged(line: &[u8]) -> &[u8]
 fn operands(alloc: Global, code: Code, text: &[u8]) -> Result<Action, Stop>
     ensures { Gives (λ x. x) result (operands_at code (words text.now)) }
 {
-    match code {
-        Code::Set => common::set(text),
-        Code::Add => common::add(text),
-        Code::Pool => pei::pool(text),
-        Code::Store => pei::store(alloc, text),
-        Code::Addr => pei::addr(text),
-        Code::Peek => common::peek(text),
-        Code::Desc => pei::desc(text),
-        Code::Install => pei::install(alloc, text),
-        Code::Reinstall => pei::reinstall(text),
-        Code::Notify => pei::notify(alloc, text),
-        Code::Locate => pei::locate(text),
-        Code::Hob => pei::make_hob(alloc, text),
-        Code::Memory => pei::memory(text),
-        Code::Pages => pei::pages(text),
-        Code::BootMode => pei::boot_mode(text),
-        Code::Log => common::no_log(text),
-        Code::SkipIf => common::skip_if(text),
-        Code::Ret => common::ret(text),
-        Code::Shadow => pei::shadow(text),
-        Code::DxeInstall => dxe::install(text),
-        Code::DxeReinstall => dxe::reinstall(text),
-        Code::DxeUninstall => dxe::uninstall(text),
-        Code::DxeLocate => dxe::locate(text),
-        Code::DxeNotify => dxe::notify(text),
-        Code::Schedule => dxe::schedule(text),
-        Code::Process => dxe::process(text),
-        Code::Dispatch => dxe::dispatch(text),
+    match read_operands(alloc, code, Words { code, text }) {
+        Ok((action, rest)) => ended(action, rest.text),
+        Err(stop) => Err(stop),
     }
 }
 

@@ -4,16 +4,14 @@
 #![tactic(auto)]
 
 mod action;
-mod common;
-mod dxe;
 mod fault;
 mod law;
 mod line;
 mod list;
 mod operand;
-mod pei;
 mod script;
 mod word;
+mod word_source;
 
 pub use action::read_action;
 pub use fault::{LineFault, Stop};

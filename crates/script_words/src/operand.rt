@@ -4,12 +4,12 @@ ghost use Rattle.act_code.specs.Format.{is_within};
 ghost use Rattle.source_words.specs.Words.{words};
 ghost use Rattle.script_words.specs.Reading.{Gives, only_if};
 ghost use Rattle.script_words.specs.declared.fault.LineFault.TheVariants as fault;
-ghost use Rattle.script_words.specs.Operands.{register_at, within_at, choice_at, little_at, guid_at, status_at, block_at, guid_arg_at, last_at, descriptor_at};
+ghost use Rattle.script_words.specs.Operands.{register_at, within_at, choice_at, little_at, guid_at, status_at, block_at, guid_arg_at, last_at, descriptor_at, small_at};
 
 use crate::fault::{LineFault, Stop};
 use crate::word::{choice_of, kind_of, register_of, status_of, word};
 use act_code::descriptor_kind::PPI;
-use act_code::{Action, GuidArg};
+use act_code::{Action, Code, GuidArg};
 use line_words::number_of;
 use pi_base::{Guid, Word};
 use source_words::{guid_of, is_keyword, next_word};
@@ -62,15 +62,26 @@ pub(crate) fn small(text: &[u8], low: u8, high: u8) -> Result<(u8, &[u8]), Stop>
     }
 }
 
-/// One of two words, for 0 and 1.
+// One of two words, for 0 and 1.
 #[tactic(auto, unfolding(crate::specs::Operands::choice_at))]
-pub(crate) fn choice<'a>(text: &'a [u8], zero: &[u8], one: &[u8]) -> Result<(u8, &'a [u8]), Stop>
+fn choice<'a>(text: &'a [u8], zero: &[u8], one: &[u8]) -> Result<(u8, &'a [u8]), Stop>
     ensures { Gives (λ x. (x.0, words x.1.now)) result (choice_at zero.now one.now (words text.now)) }
 {
     let (word, rest) = word(text)?;
     match choice_of(word, zero, one) {
         Some(n) => Ok((n, rest)),
         None => Err(Stop::Fault(LineFault::Word)),
+    }
+}
+
+/// A small number of an action, from one to another: that of `boot_mode`, and of a driver's `install`, is a word.
+pub(crate) fn small_of(code: Code, text: &[u8], low: u8, high: u8) -> Result<(u8, &[u8]), Stop>
+    ensures { Gives (λ x. (x.0, words x.1.now)) result (small_at code low high (words text.now)) }
+{
+    match code {
+        Code::BootMode => choice(text, b"get", b"set"),
+        Code::DxeInstall => choice(text, b"new", b"on"),
+        _ => small(text, low, high),
     }
 }
 

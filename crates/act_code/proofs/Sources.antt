@@ -1,0 +1,62 @@
+-- Reading from any source, and from bytes.
+use Rattle.std.proofs.Common.{◌≡◌, ℕ, List, Option, Some, None, Result, Ok, Err, refl, ap}
+use Rattle.std.specs.Prelude.{option_and_then}
+use Rattle.act_code.specs.declared.action.Action.{Action}
+use Rattle.act_code.specs.declared.code.Code.{Code}
+use Rattle.act_code.specs.declared.operand.Unread.{Unread}
+use Rattle.act_code.specs.declared.operand.Unread.TheVariants as unread
+use Rattle.act_code.specs.Format.{Format, Value, Nothing, Byte, Pair}
+use Rattle.act_code.specs.Table.{format_of, made}
+use Rattle.act_code.specs.Source.{◌>>=◌, Stops, read_by, operands_by}
+use Rattle.act_code.specs.Reading.{Fails, cause_of, answer_of, read, byte_way, operands_at}
+
+-- what stops a reading stops one that goes on behind it
+pub stops_then : {A B Cause : Type 0} (cause : Option Cause) (read : Result A Cause) (f : A → Result B Cause) → Stops cause read → Stops cause (read >>= f)
+stops_then None read f stops = tt
+stops_then (Some cause) read f stops = ap (λ r. r >>= f) stops
+
+-- a failure of bytes is one of a source
+pub fails_stops : {A X Left : Type 0} (view : X → Left) (e : Unread) (read : Option (A × X)) → Fails e read → Stops (cause_of e) (answer_of view read)
+fails_stops view unread.Malformed read fails = ap (answer_of view) fails
+fails_stops view unread.Memory read fails = tt
+
+-- the same, with what is read behind the first operand
+made_is : {A B X : Type 0} (one : Result (A × X) (Unit {0})) (read : Option (A × X)) (make : A → B)
+    → one ≡ answer_of (λ rest. rest) read → (one >>= λ x. Ok (make x.0, x.1)) ≡ answer_of (λ rest. rest) (option_and_then (λ x. Some (make x.0, x.1)) read)
+made_is one None make is = rw is refl
+made_is one (Some x) make is = rw is refl
+
+abbrev both : {A B X : Type 0} → A → B × X → (A × B) × X
+both a y = ((a, y.0), y.1)
+
+pair_is : {A B X : Type 0} (one : Result (A × X) (Unit {0})) (read : Option (A × X)) (two : X → Result (B × X) (Unit {0})) (then : X → Option (B × X))
+    → one ≡ answer_of (λ rest. rest) read → ((rest : X) → two rest ≡ answer_of (λ rest. rest) (then rest))
+    → (one >>= λ x. two x.1 >>= λ y. Ok (both x.0 y)) ≡ answer_of (λ rest. rest) (option_and_then (λ x. option_and_then (λ y. Some (both x.0 y)) (then x.1)) read)
+pair_is one None two then is behind = rw is refl
+pair_is one (Some x) two then is behind = rw is (made_is (two x.1) (then x.1) (λ y. (x.0, y)) (behind x.1))
+
+read_is : (format : Format) (bytes : List ℕ) → read_by byte_way format bytes ≡ answer_of (λ rest. rest) (read format bytes)
+read_is Nothing bytes = refl
+read_is (Pair first second) bytes = pair_is (read_by byte_way first bytes) (read first bytes) (read_by byte_way second) (read second) (read_is first bytes) (read_is second)
+read_is Byte bytes = refl
+read_is _ bytes = refl
+
+operands_are : (code : Code) (bytes : List ℕ) → operands_by byte_way code bytes ≡ answer_of (λ rest. rest) (operands_at code bytes)
+unfolding operands_by operands_at
+operands_are code bytes = made_is (read_by byte_way (format_of code) bytes) (read (format_of code) bytes) (made code) (read_is (format_of code) bytes)
+
+answered : {A X : Type 0} (read : Option (A × X)) (x : A × X) → answer_of (λ rest. rest) read ≡ Ok x → read ≡ Some x
+answered (Some y) x is = cc
+answered None x is = absurd cc
+
+stopped : {A X : Type 0} (e : Unread) (read : Option (A × X)) → Stops (cause_of e) (answer_of (λ rest. rest) read) → Fails e read
+stopped unread.Malformed (Some y) stops = absurd cc
+stopped unread.Malformed None stops = refl
+stopped unread.Memory read stops = tt
+
+-- what any source gives, for bytes
+pub operands_found : (code : Code) (bytes : List ℕ) (x : Action × List ℕ) → operands_by byte_way code bytes ≡ Ok x → operands_at code bytes ≡ Some x
+operands_found code bytes x is = answered (operands_at code bytes) x (rw (← operands_are code bytes) is)
+
+pub operands_fail : (code : Code) (bytes : List ℕ) (e : Unread) → Stops (cause_of e) (operands_by byte_way code bytes) → Fails e (operands_at code bytes)
+operands_fail code bytes e stops = stopped e (operands_at code bytes) (rw (← operands_are code bytes) stops)
