@@ -23,7 +23,8 @@ use Rattle.fv_build.specs.Reading.{guid_of}
 use Rattle.volume_text.specs.Words.{is_header}
 use Rattle.volume_print.specs.Description.{file_system_in, told_attributes, form_in, name_at, name_in}
 use Rattle.volume_again.specs.Again.{IsNameOfBytes}
-use Rattle.volume_again.proofs.ListedFiles.{VolumeHeader, ExtendedHeader, Frame, IsGoodFrame, frame_good, guid_there, left_bytes}
+use Rattle.volume_again.proofs.ListedFiles.{VolumeHeader, ExtendedHeader, Frame, IsGoodFrame, frame_good}
+use Rattle.volume_again.proofs.ByteRuns.{left_bytes, guid_there}
 
 -- the tests of a header
 even_length : (bytes : List ℕ) (header : VolumeHeader) → header_fault bytes header ≡ None → header.header_len % 2 ≡ 0

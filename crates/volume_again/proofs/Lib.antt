@@ -6,6 +6,7 @@ mod ByteRuns
 mod Trees
 mod GuidRuns
 mod GoodScripts
+mod PadPieces
 mod FilesAgain
 mod FileLengths
 mod StandAgain

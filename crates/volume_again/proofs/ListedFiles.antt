@@ -26,7 +26,7 @@ use Rattle.fv_volume.specs.Search.{ends_at, Leads, files_of}
 use Rattle.fv_volume.specs.Volume.{IsVolume}
 use Rattle.fv_volume.proofs.Items.{has_room}
 use Rattle.fv_volume.proofs.Spelled.{ones}
-use Rattle.volume_again.proofs.ByteRuns.{bytes_front, bytes_back}
+use Rattle.volume_again.proofs.ByteRuns.{taken_bytes, guid_there}
 use Rattle.volume_again.proofs.StandAgain.{IsListedFile}
 
 -- the types of values that have no public name
@@ -62,17 +62,6 @@ ExtendedHeader = TypeInSome (extended_header [] (volume_header []))
 
 abbrev pub Frame : Type 0
 Frame = TypeIn (frame_of [])
-
--- parts of bytes
-pub taken_bytes : (n : ℕ) (image : List ℕ) → IsBytes image → IsBytes (take n image)
-taken_bytes n image bytes = bytes_front (take n image) (drop n image) (rw (take-append-drop n image) bytes)
-
-pub left_bytes : (n : ℕ) (image : List ℕ) → IsBytes image → IsBytes (drop n image)
-left_bytes n image bytes = bytes_back (take n image) (drop n image) (rw (take-append-drop n image) bytes)
-
-pub guid_there : (image : List ℕ) (at : ℕ) → IsBytes image → at + 16 ≤ length image → IsGuid (guid_at image at)
-guid_there image at bytes room =
-    (length-take-le 16 (drop at image) (omega (arith, room, length-drop at image)), taken_bytes 16 (drop at image) (left_bytes at image bytes))
 
 -- a header's name and type
 record HasFields (image : List ℕ) (at : ℕ) (header : FileHeader) : Type 0 where

@@ -23,7 +23,7 @@ use Rattle.fv_build.specs.declared.volume_header.VolumeForm.{VolumeForm}
 use Rattle.fv_build.specs.Reading.{AreEach}
 use Rattle.volume_print.specs.Description.{section_in, IsBodyIn, IsFileIn, file_system_in, told_attributes, form_in}
 use Rattle.volume_again.specs.Again.{IsOfBytes, IsBodyOfBytes, IsFileOfBytes}
-use Rattle.volume_again.proofs.ListedFiles.{taken_bytes, left_bytes}
+use Rattle.volume_again.proofs.ByteRuns.{taken_bytes, left_bytes}
 use Rattle.volume_again.proofs.StandAgain.{IsListedFile}
 
 -- the type of a header, which has no public name

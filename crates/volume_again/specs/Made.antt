@@ -36,13 +36,11 @@ pub record IsMadeAgain (bytes text : List ℕ) (told : IsTextOf bytes text) (aga
   pub stand : map (λ file. file.at) volume.files ≡ places (first_told bytes text told) (rooms_told bytes text told)
   pub kept : LeaveRoom (first_told bytes text told) (rooms_told bytes text told) → map (λ file. file.at) volume.files ≡ map (λ file. file.at) told.volume.files
 
--- the text says the volume that it is printed of, its files behind their pads
+-- the text says the volume that it is printed of, its files behind their pads, which have the names and the bodies that stand there
 abbrev pub SaysItself : (bytes text : List ℕ) → IsTextOf bytes text → Type 0
 SaysItself bytes text told =
-    let form = form_in bytes in
-    let name = name_in bytes told.volume.name in
     let files = told.told.files in
-    SaysAgain (IsInner (MOST_DEPTH - 1)) form told.volume.len name (pads_of form name told.volume files) files text
+    SaysAgain (IsInner (MOST_DEPTH - 1)) (form_in bytes) told.volume.len (name_in bytes told.volume.name) (pads_of bytes told.volume files) files text
 
 -- the volume that the text says cannot be built
 abbrev pub CannotBeBuilt : (bytes text : List ℕ) → IsTextOf bytes text → Type 0
