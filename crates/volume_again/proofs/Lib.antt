@@ -10,6 +10,7 @@ mod PadPieces
 mod FilesAgain
 mod FileLengths
 mod StandAgain
+mod PadsStand
 mod ListedFiles
 mod OfBytes
 mod BuiltTexts

@@ -1,5 +1,5 @@
 -- A volume's text says it again, and what is made of the text is read as the same volume.
-use Rattle.std.proofs.Common.{◌≡◌, inl, inr, ℕ, ◌%◌, ◌<◌, ◌≤◌, ◌^◌, Bool, true, false, cond, List, [], ◌∷◌, ◌++◌, length, map, Option, Some, None, Result, Ok, Err, refl, sym, ap, ◌∙◌, subst, arith, All}
+use Rattle.std.proofs.Common.{◌≡◌, inl, inr, ℕ, ◌+◌, ◌-◌, ◌%◌, ◌<◌, ◌≤◌, ◌^◌, Bool, true, false, cond, List, [], ◌∷◌, ◌++◌, length, map, Option, Some, None, Result, Ok, Err, replicate, refl, sym, ap, ◌∙◌, subst, append_assoc, length-append, arith, All}
 use Rattle.std.specs.Prelude.{nat_le, nat_lt, ◌&&◌, ⊤}
 use Rattle.std.specs.List.{AllByRecursion}
 use Rattle.std.proofs.lemmas.Bool.{and_parts}
@@ -18,10 +18,10 @@ use Rattle.fv_build.specs.declared.volume_header.VolumeForm.{VolumeForm}
 use Rattle.fv_build.specs.Files.{HasWholeName}
 use Rattle.fv_build.specs.Reading.{AreEach, IsFileRead, listed, listed_at, IsWhole, guid_of, IsReadAs}
 use Rattle.fv_build.specs.declared.volume_name.VolumeName.{VolumeName}
-use Rattle.fv_build.specs.Header.{is_header_length}
-use Rattle.fv_build.specs.Front.{front_len, first_place, is_placed}
-use Rattle.fv_build.specs.Building.{volume_bytes}
-use Rattle.fv_build.proofs.VolumesRead.{sound, FitsHeader, fits_header}
+use Rattle.fv_build.specs.Header.{is_header_length, head_of, volume_header}
+use Rattle.fv_build.specs.Front.{ext_at, name_part, front_len, first_place, is_placed}
+use Rattle.fv_build.specs.Building.{need, filled_from, volume_bytes}
+use Rattle.fv_build.proofs.VolumesRead.{length-header, length-front, sound, FitsHeader, fits_header}
 use Rattle.volume_text.specs.declared.fault.Cause.{Cause}
 use Rattle.volume_text.specs.declared.fault.Cause.TheVariants as cause
 use Rattle.volume_text.specs.declared.fault.Fault.{Fault}
@@ -34,11 +34,12 @@ use Rattle.volume_text.specs.Text.{Describes, Says, Leads, IsRefused}
 use Rattle.volume_print.specs.Description.{IsFileIn, form_in, name_in, IsInner, IsTextOf}
 use Rattle.volume_print.specs.Places.{Room, rooms, pads_before, places}
 use Rattle.volume_again.specs.Again.{IsNameOfBytes, IsFileAgain, among, SaysAgain}
-use Rattle.volume_again.specs.Made.{rooms_told, IsMadeAgain, SaysItself, CannotBeBuilt}
+use Rattle.volume_again.specs.Made.{rooms_told, StandIn, IsMadeAgain, SaysItself, CannotBeBuilt}
 use Rattle.volume_again.proofs.FilesAgain.{volume_told, inner_laws}
 use Rattle.volume_again.proofs.FormAgain.{is_told, form_again, name_again}
 use Rattle.volume_again.proofs.GoodHeaders.{IsGoodHead, head_good}
 use Rattle.volume_again.proofs.ListedFiles.{volume_good}
+use Rattle.volume_again.proofs.PadsStand.{laid_stand, stand_up, pads_stand}
 use Rattle.volume_again.proofs.WholeNames.{files_whole}
 use Rattle.volume_again.proofs.OfBytes.{files_of_bytes, attributes_fit}
 use Rattle.volume_again.proofs.PadPieces.{IsGoodPad, pad_whole}
@@ -92,6 +93,18 @@ among_whole Inner file_system image (p ∷ pads) (one ∷ found) (file ∷ files
     pads_whole p (other ∷ among pads others) fits.0
     (All-cons HasWholeName other (among pads others) whole (among_whole Inner file_system image pads found files others fits.1 good.1 are.1 again.1))
 
+-- the files of a volume stand behind its header and its name
+files_stand : (form : VolumeForm) (name : Option VolumeName) (files : List NewFile) (len : ℕ) → 64 ≤ form.header_len → is_placed form.header_len name ≡ true → IsWhole name
+    → StandIn form.file_system (volume_bytes form name files len) (front_len form name) files
+files_stand form name files len least placed whole =
+    let from = front_len form name in
+    let header = volume_header (head_of form (ext_at name) len) in
+    let called = name_part form.header_len name in
+    let filled = filled_from form.file_system from files len in
+    let long : length (header ++ called) ≡ from =
+    length-append header called ∙ ap (λ n. n + length called) (length-header form.file_system form.attributes form.header_len (ext_at name) len least) ∙ length-front form name placed whole in
+    laid_stand form.file_system from files (header ++ called) (replicate (len - need form.file_system from files) 255) (volume_bytes form name files len) long (sym (append_assoc header called filled))
+
 whole_name : (called : Option VolumeName) → IsNameOfBytes called → IsWhole called
 whole_name None is = tt
 whole_name (Some name) is = (is.0.0, is.1)
@@ -132,6 +145,8 @@ made_again image text again told bytes most s built =
     let least = (fits_header form.header_len sized.header).least in
     let back : name_in (volume_bytes form name one.files volume.len) (guid_of name) ≡ name =
     name_again form name one.files volume.len same_len head.least least head.name.placed whole_called (omega (arith, room)) (omega (arith, sized.most)) in
+    let laid_there : StandIn form.file_system again (front_len form name) one.files =
+    subst (λ (b : List ℕ). StandIn form.file_system b (front_len form name) one.files) m.bytes_are (files_stand form name one.files volume.len least head.name.placed whole_called) in
     record {
       volume = r.volume;
       is_volume = r.is_volume;
@@ -145,6 +160,8 @@ made_again image text again told bytes most s built =
       are_read = subst (λ (fs : List NewFile). AreEach (IsFileRead again) fs r.volume.files) left r.are_files;
       stand = stand;
       kept = λ leave. stand ∙ kept from all leave ∙ rooms_at (IsFileIn form.file_system image) form.file_system volume.files told.told.files told.told.are;
+      pads = pads_stand (IsInner 3) image again form.file_system from volume.files told.told.files s.again bytes (first_even form name) good inside told.told.are s.files_are
+          (stand_up form.file_system again (front_len form name) one.files laid_there);
     }
 
 -- and where it is refused

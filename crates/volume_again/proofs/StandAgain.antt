@@ -58,7 +58,7 @@ stands_by : (test : Bool) (from at : ℕ) → from % 8 ≡ 0 → at % 8 ≡ 0 �
 stands_by true from at p q = p
 stands_by false from at p q = q
 
-stands_even : (from at : ℕ) → from % 8 ≡ 0 → at % 8 ≡ 0 → stands from at % 8 ≡ 0
+pub stands_even : (from at : ℕ) → from % 8 ≡ 0 → at % 8 ≡ 0 → stands from at % 8 ≡ 0
 stands_even from at p q = stands_by (nat_lt (at - from) 24) from at p q
 
 pub behind_even : (from : ℕ) (room : Room) → behind from room % 8 ≡ 0
@@ -85,12 +85,12 @@ listed_first file_system place file files even other =
     ap (λ at. let more = listed_at file_system (at + length (file_bytes file_system file)) files in cond (file.kind == 240) more (at ∷ more)) here
     ∙ ap (λ b. let more = listed_at file_system (place + length (file_bytes file_system file)) files in cond b more (place ∷ more)) other
 
-again_long : (Inner : List ℕ → List ℕ → Type 0) (file_system : FileSystem) (file again : NewFile) → IsFileAgain Inner file again → HasWholeName again
+pub again_long : (Inner : List ℕ → List ℕ → Type 0) (file_system : FileSystem) (file again : NewFile) → IsFileAgain Inner file again → HasWholeName again
     → length (file_bytes file_system again) ≡ file_size file_system (length (bytes_in file_system file.body))
 again_long Inner file_system file again is whole =
     length-file_with file_system again (bytes_in file_system again.body) whole ∙ ap (file_size file_system) (body_long Inner file file_system file.body again.body is.body)
 
-again_listed : (Inner : List ℕ → List ℕ → Type 0) (file_system : FileSystem) (image : List ℕ) (found : FfsFile) (file again : NewFile) → IsListedFile found → IsFileIn file_system image found file → IsFileAgain Inner file again
+pub again_listed : (Inner : List ℕ → List ℕ → Type 0) (file_system : FileSystem) (image : List ℕ) (found : FfsFile) (file again : NewFile) → IsListedFile found → IsFileIn file_system image found file → IsFileAgain Inner file again
     → ((again.kind == 240) ≡ false) × HasWholeName again
 again_listed Inner file_system image found file again good in_image is =
     (ap (λ k. k == 240) (is.kind ∙ in_image.kind) ∙ good.no_pad, ap (λ (g : Guid). length g.0) (is.name ∙ in_image.name) ∙ good.name.0)
