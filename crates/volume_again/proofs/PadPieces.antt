@@ -47,7 +47,7 @@ cut_good stretch bytes even room =
 
 made_good : (all : List (List ℕ)) → AllByRecursion IsGoodPiece all → AllByRecursion IsGoodPad (map pad_of all)
 made_good [] good = tt
-made_good (piece ∷ all) good = ((piece, (refl, good.0)), made_good all good.1)
+made_good (piece ∷ all) good = ((piece, refl, good.0), made_good all good.1)
 
 good_by : (test : Bool) (stretch : List ℕ) → nat_lt (length stretch) 24 ≡ test → IsBytes stretch → length stretch % 8 ≡ 0
     → AllByRecursion IsGoodPad (cond test [] (map pad_of (pieces ((length stretch - 24) / 8388608) stretch)))

@@ -36,15 +36,15 @@ laid_stand file_system from [] front rest bytes long is = tt
 laid_stand file_system from (file ∷ files) front rest bytes long is =
     let own = file_bytes file_system file in
     let texts = map (file_bytes file_system) files in
-    let skip = replicate (gap 8 from) 255 in
-    let before = front ++ skip in
+    let skip : List ℕ = replicate (gap 8 from) 255 in
+    let before : List ℕ = front ++ skip in
     let place : from + gap 8 from + length own ≡ aligned from + length own = omega arith in
     let more = laid 8 255 (aligned from + length own) texts in
     let same : laid 8 255 (from + gap 8 from + length own) texts ≡ more = ap (λ n. laid 8 255 n texts) place in
     let parts : bytes ≡ before ++ (own ++ (more ++ rest)) =
     is ∙ ap (λ m. front ++ ((skip ++ (own ++ m)) ++ rest)) same
     ∙ ap (λ x. front ++ x) (append_assoc skip (own ++ more) rest ∙ ap (λ x. skip ++ x) (append_assoc own more rest)) ∙ sym (append_assoc front skip (own ++ (more ++ rest))) in
-    let reach : length before ≡ aligned from = length-append front skip ∙ omega (arith, long, length-replicate (gap 8 from) 255) in
+    let reach : length before ≡ aligned from = length-append front skip ∙ omega (arith, long, length-replicate {A = ℕ} (gap 8 from) 255) in
     let there : drop (aligned from) bytes ≡ own ++ (more ++ rest) =
     ap (λ n. drop n bytes) (sym reach) ∙ ap (drop (length before)) parts ∙ drop-append_seam before (own ++ (more ++ rest)) in
     let reach_more : length (before ++ own) ≡ aligned from + length own = length-append before own ∙ ap (λ n. n + length own) reach in (

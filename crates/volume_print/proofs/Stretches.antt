@@ -7,13 +7,16 @@ use Rattle.fv_build.specs.declared.new_file.NewFile.{NewFile}
 use Rattle.volume_print.specs.Places.{pad_of, pieces, pads_in}
 use Rattle.volume_print.specs.Spelling.{pad_text}
 
+room : (n : ℕ) → 24 ≤ n → nat_lt n 24 ≡ false
+room n long = grind (arith, nat_tests)
+
 -- one for the first long piece
 first_pad : (stretch : List ℕ) → 8388632 ≤ length stretch → pads_in stretch ≡ pad_of (take 8388608 stretch) ∷ pads_in (drop 8388608 stretch)
 first_pad stretch long =
     let rest = drop 8388608 stretch in
     let less : length rest ≡ length stretch - 8388608 = length-drop 8388608 stretch in
-    let here : nat_lt (length stretch) 24 ≡ false = grind (arith, nat_tests) in
-    let there : nat_lt (length rest) 24 ≡ false = grind (arith, nat_tests) in
+    let here = room (length stretch) (omega (arith, long)) in
+    let there = room (length rest) (omega (arith, long, less)) in
     let count : (length stretch - 24) / 8388608 ≡ suc ((length rest - 24) / 8388608) = omega (arith, long, less) in
     ap (λ b. cond b [] (map pad_of (pieces ((length stretch - 24) / 8388608) stretch))) here ∙ ap (λ n. map pad_of (pieces n stretch)) count
     ∙ sym (ap (λ b. pad_of (take 8388608 stretch) ∷ cond b [] (map pad_of (pieces ((length rest - 24) / 8388608) rest))) there)
@@ -21,7 +24,7 @@ first_pad stretch long =
 -- one for what is left
 last_pad : (stretch : List ℕ) → 24 ≤ length stretch → length stretch < 8388632 → pads_in stretch ≡ pad_of stretch ∷ []
 last_pad stretch least short =
-    let here : nat_lt (length stretch) 24 ≡ false = grind (arith, nat_tests) in
+    let here = room (length stretch) least in
     let count : (length stretch - 24) / 8388608 ≡ 0 = omega (arith, least, short) in
     ap (λ b. cond b [] (map pad_of (pieces ((length stretch - 24) / 8388608) stretch))) here ∙ ap (λ n. map pad_of (pieces n stretch)) count
 
