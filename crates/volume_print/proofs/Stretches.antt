@@ -21,13 +21,6 @@ first_pad stretch long =
     ap (λ b. cond b [] (map pad_of (pieces ((length stretch - 24) / 8388608) stretch))) here ∙ ap (λ n. map pad_of (pieces n stretch)) count
     ∙ sym (ap (λ b. pad_of (take 8388608 stretch) ∷ cond b [] (map pad_of (pieces ((length rest - 24) / 8388608) rest))) there)
 
--- one for what is left
-last_pad : (stretch : List ℕ) → 24 ≤ length stretch → length stretch < 8388632 → pads_in stretch ≡ pad_of stretch ∷ []
-last_pad stretch least short =
-    let here = room (length stretch) least in
-    let count : (length stretch - 24) / 8388608 ≡ 0 = omega (arith, least, short) in
-    ap (λ b. cond b [] (map pad_of (pieces ((length stretch - 24) / 8388608) stretch))) here ∙ ap (λ n. map pad_of (pieces n stretch)) count
-
 abbrev texts : List ℕ → List ℕ
 texts stretch = flat_map pad_text (pads_in stretch)
 
@@ -39,9 +32,3 @@ pads_go old now new stretch rest piece behind first others long told grown =
     let parts : pads_in rest ≡ pad_of piece ∷ pads_in behind =
     first_pad rest long ∙ ap (λ (p : List ℕ). pad_of p ∷ pads_in (drop 8388608 rest)) (sym first) ∙ ap (λ (b : List ℕ). pad_of piece ∷ pads_in b) (sym others) in
     ap (λ x. x ++ texts behind) grown ∙ append_assoc now (pad_text (pad_of piece)) (texts behind) ∙ ap (λ (ps : List NewFile). now ++ flat_map pad_text ps) (sym parts) ∙ told
-
--- the last pad was told
-pub pads_end : (old now new stretch rest : List ℕ) → 24 ≤ length rest → length rest < 8388632 → now ++ flat_map pad_text (pads_in rest) ≡ old ++ flat_map pad_text (pads_in stretch)
-    → new ≡ now ++ pad_text (pad_of rest) → new ≡ old ++ flat_map pad_text (pads_in stretch)
-pads_end old now new stretch rest least short told grown =
-    grown ∙ ap (λ x. now ++ x) (sym (append-nil (pad_text (pad_of rest)))) ∙ ap (λ (ps : List NewFile). now ++ flat_map pad_text ps) (sym (last_pad rest least short)) ∙ told
