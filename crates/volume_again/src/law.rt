@@ -54,7 +54,7 @@ pub fn read_again()
 }
 
 /// The volume that is made of such a text is found again by a reader: its form, its length, its name and the place of that, and its files, each at its
-/// place.
+/// place. In front of them stand pads with the names and the bodies that stood there, at the same offset.
 pub fn made_of_its_text()
     ensures { (bytes text again : List ℕ) (told : IsTextOf bytes text) → AreBytes bytes → told.volume.len ≤ MOST_LEN
         → Leads text again → IsMadeAgain bytes text told again }
