@@ -1,5 +1,5 @@
 // The pads that fill a stretch in front of a file.
-ghost use Rattle.std.specs.Prelude.{◌≡◌, ◌≤◌, ◌++◌, length, flat_map, OnOk};
+ghost use Rattle.std.specs.Prelude.{◌≡◌, ◌≤◌, ◌&&◌, ◌++◌, length, flat_map, OnOk};
 ghost use Rattle.volume_print.specs.Places.{between, pad_of, pads_in};
 ghost use Rattle.volume_print.specs.Spelling.{are_erased, pad_line, pad_text};
 
@@ -34,6 +34,13 @@ fn are_erased(bytes: &[u8]) -> bool
     bytes.iter().all(|byte| *byte == ERASED)
 }
 
+// Whether a pad with this name and this body looks erased.
+fn is_erased(name: &Guid, body: &[u8]) -> bool
+    ensures { result ≡ (are_erased name.now.0 && are_erased body.now) }
+{
+    are_erased(name.0.as_slice()) && are_erased(body)
+}
+
 // Adds the line of a pad that looks erased, with so many bytes of body.
 fn put_erased(out: &mut Seq<u8>, len: usize) -> Result<(), OutOfMemory>
     ensures { OnOk result (out.new ≡ out.old ++ pad_line len) }
@@ -50,7 +57,7 @@ fn put_pad(out: &mut Seq<u8>, piece: &[u8]) -> Result<(), OutOfMemory>
 {
     let (_, body) = piece.split_at(FILE_HEADER_LEN);
     let name = Guid::at(piece, 0);
-    if are_erased(name.0.as_slice()) && are_erased(body) {
+    if is_erased(&name, body) {
         return put_erased(out, body.len());
     }
     put_head(out, PAD, &name, FileAttributes::new())?;
