@@ -1,5 +1,5 @@
 -- Texts that are put.
-use Rattle.std.proofs.Common.{◌≡◌, ℕ, zero, suc, ◌+◌, ◌-◌, ◌<◌, ◌≤◌, Bool, true, false, decimal, List, [], ◌∷◌, ◌++◌, length, map, take, drop, get_or, flat_map, Some, None, refl, sym, ap, ◌∙◌, subst, append_assoc, arith}
+use Rattle.std.proofs.Common.{◌≡◌, ℕ, zero, suc, ◌+◌, ◌<◌, ◌≤◌, Bool, true, false, decimal, List, [], ◌∷◌, ◌++◌, length, map, take, drop, get_or, flat_map, Some, None, refl, sym, ap, ◌∙◌, subst, append_assoc, arith}
 use Rattle.std.proofs.lemmas.Bool.{eqb-true}
 use Rattle.std.proofs.lemmas.Bool.Decides.{nat_tests}
 use Rattle.std.proofs.lemmas.List.{append-nil, take_more}
@@ -33,7 +33,6 @@ use Rattle.volume_print.specs.Description.{section_in, form_in, name_in, pads_of
 use Rattle.volume_print.specs.Finding.{form_text, FindsVolume, FindsText, TellsVolume, IsPlainForm, IsForm, AddsSection, AddsSections, AddsBody, AddsFile, AddsFiles, held}
 use Rattle.volume_print.specs.Places.{Room, room_of, rooms, between, pads_in, stands, behind_all, pads_before}
 use Rattle.fv_build.specs.Front.{first_place}
-use Rattle.fv_build.specs.declared.volume_name.VolumeName.{VolumeName}
 
 -- a section in a form has the form's text
 pub in_form : (Inner : List ℕ → List ℕ → Type 0) (host : Host) (before : List NewSection) (section : NewSection) (f : Form) → IsForm Inner host before section f

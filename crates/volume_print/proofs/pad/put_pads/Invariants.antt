@@ -1,4 +1,4 @@
-use Rattle.std.proofs.Common.{◌≡◌, ℕ, ◌≤◌, ◌++◌, List, length, flat_map}
+use Rattle.std.proofs.Common.{◌≡◌, ◌≤◌, ◌++◌, length, flat_map}
 use Rattle.volume_print.specs.Places.{pads_in}
 use Rattle.volume_print.specs.Spelling.{pad_text}
 use Rattle.volume_print.proofs.pad.put_pads.Given as goal
