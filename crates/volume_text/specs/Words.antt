@@ -1,5 +1,5 @@
 -- The words of a line, each as the value that it shows, and the words behind it (own).
-use Rattle.std.specs.Prelude.{ℕ, ◌^◌, Bool, true, false, nat_le, nat_lt, bytes_eq, codes, if◌then◌else◌, ◌==◌, ◌||◌, ◌&&◌, List, [], ◌∷◌, Result, Ok, Err}
+use Rattle.std.specs.Prelude.{ℕ, ◌^◌, Bool, true, false, nat_le, nat_lt, bytes_eq, codes, if◌then◌else◌, ◌&&◌, List, [], ◌∷◌, Result, Ok, Err}
 use Rattle.pi_base.specs.declared.guid.Guid.{Guid}
 use Rattle.pi_base.specs.declared.phase.Phase.{Phase}
 use Rattle.fv_build.specs.declared.attributes.Alignment.{Alignment}
