@@ -18,7 +18,7 @@ static SOURCE_WORDS: [(&str, &str); 39] = [
     ),
     (
         "Range",
-        "has a number out of its range; a volume has 72 to 67108864 bytes, a header an even number from 64 to 65534, a pad file 0 or 4 to 16777190, and a name stands behind the header",
+        "has a number out of its range; a volume has 72 to 67108864 bytes, a header an even number from 64 to 65534, a pad file 0 to 16777190, and a name stands behind the header",
     ),
     (
         "Guid",

@@ -7,7 +7,7 @@ use volume_print::text_of;
 use volume_text::volume_of;
 
 /// Texts as people write them, and what is printed of their volumes.
-static PRINTED: [(&str, &str); 14] = [
+static PRINTED: [(&str, &str); 15] = [
     ("volume 72\nend\n", "volume 72 ffs2\nend\n"), // no file
     (
         "volume 256 ffs3 attributes 0x4feff\nname B5A1C0DE-93f0-4a5d-8d11-6e2f40715c33\nend",
@@ -29,6 +29,10 @@ static PRINTED: [(&str, &str); 14] = [
         "volume 256\npad 8\nfile 01 {00000001-0000-4000-8000-000000000001} fixed align 0x80\nbody 01020304 05\nfile 3f 00000001-0000-4000-8000-000000000002\nend\n",
         "volume 256 ffs2\npad 8\nfile raw 00000001-0000-4000-8000-000000000001 fixed align 128\nbody 0102030405\nfile 3f 00000001-0000-4000-8000-000000000002\nend\n",
     ), // a pad, attributes, a body, and a type without a name
+    (
+        "volume 256\npad 3\nfile peim 00000001-0000-4000-8000-000000000002\nfile f0 00000001-0000-4000-8000-00000000006e\nraw 13\nfile peim 00000001-0000-4000-8000-000000000003\nend\n",
+        "volume 256 ffs2\npad 8\nfile peim 00000001-0000-4000-8000-000000000002\nfile f0 00000001-0000-4000-8000-00000000006e\nbody 0500001913ffffff\nfile peim 00000001-0000-4000-8000-000000000003\nend\n",
+    ), // a pad with the erased bytes behind it, and one with a section
     (
         "volume 512\nfile freeform pei-apriori\nguids memory-ppi\nfile peim 00000001-0000-4000-8000-000000000001\ndepex pei memory-ppi OR not true\nsection 10 4d5a\nend\n",
         "volume 512 ffs2\nfile freeform 1b45cc0a-156a-428a-af62-49864da0e6e6\nguids f894643d-c449-42d1-8ea8-85bdd8c65bde\nfile peim 00000001-0000-4000-8000-000000000001\ndepex pei (f894643d-c449-42d1-8ea8-85bdd8c65bde or not true)\nsection 10 4d5a\nend\n",
@@ -75,13 +79,13 @@ static CHANGED: [(&str, u8, &str); 4] = [
     (
         "volume 256\nfile peim 00000001-0000-4000-8000-000000000001\nsection 10 4d5a\nfile peim 00000001-0000-4000-8000-000000000002\nend\n",
         DELETED,
-        "volume 256 ffs2\npad 8\nfile peim 00000001-0000-4000-8000-000000000002\nend\n",
-    ), // a deleted file
+        "volume 256 ffs2\nfile f0 00000001-0000-4000-8000-000000000001\nbody 060000104d5affff\nfile peim 00000001-0000-4000-8000-000000000002\nend\n",
+    ), // a deleted file, by its name and its body
     (
         "volume 256\npad 0\npad 4\nfile peim 00000001-0000-4000-8000-000000000002\nend\n",
         HEADER_INVALID,
-        "volume 256 ffs2\npad 32\nfile peim 00000001-0000-4000-8000-000000000002\nend\n",
-    ), // a dead header, and a pad of 28 bytes
+        "volume 256 ffs2\nfile f0 ffffffff-ffff-ffff-ffff-ffffffffffff\nbody ffffffffffffffffffffffffffffffff04aaf0001c0000f8ffffffffffffffff\nfile peim 00000001-0000-4000-8000-000000000002\nend\n",
+    ), // a dead header, and behind it a pad of 28 bytes with its header
     (
         "volume 256\npad 0\nfile peim 00000001-0000-4000-8000-000000000002\npad 0\nend\n",
         HEADER_INVALID,
@@ -94,17 +98,15 @@ static CHANGED: [(&str, u8, &str); 4] = [
     ), // a volume inside, behind a stretch, with a stretch of its own
 ];
 
-// The volume of a text with one byte changed.
-fn changed(alloc: Global, text: &str, at: usize, byte: u8) -> Option<Seq<u8>> {
+// The volume of a text with other bytes at an offset.
+fn changed(alloc: Global, text: &str, at: usize, other: &[u8]) -> Option<Seq<u8>> {
     let Ok(made) = volume_of(alloc, text.as_bytes()) else {
         return None;
     };
     let (front, behind) = made.as_slice().split_at(at.min(made.len()));
-    let [_, rest @ ..] = behind else {
-        return None;
-    };
+    let (_, rest) = behind.split_at(other.len().min(behind.len()));
     let mut bytes = Seq::new(alloc);
-    for part in [front, &[byte], rest] {
+    for part in [front, other, rest] {
         if bytes.append(part).is_err() {
             return None;
         }
@@ -138,13 +140,93 @@ fn keeps_places(alloc: Global, volume: &[u8], printed: &str) -> bool {
 }
 
 #[test]
-fn what_lies_between_files_is_told_by_its_length(rt: HostRuntime) {
+fn what_lies_between_files_is_told_by_its_name_and_body(rt: HostRuntime) {
     for (text, state, printed) in &CHANGED {
-        let kept = match changed(rt.alloc(), text, FIRST_STATE_AT, *state) {
+        let kept = match changed(rt.alloc(), text, FIRST_STATE_AT, &[*state]) {
             Some(volume) => keeps_places(rt.alloc(), volume.as_slice(), printed),
             None => false,
         };
         assert!(rt; kept);
+    }
+}
+
+/// A volume with a pad of 32 bytes at the place of its first file.
+static BEHIND_PAD: &str =
+    "volume 256\npad 8\nfile peim 00000001-0000-4000-8000-000000000002\nend\n";
+
+/// Where that pad stands.
+const PAD_AT: usize = 72;
+
+/// The bytes of such a pad, by the tables of `docs/FORMATS.md`, and the lines that tell it.
+static PADS: [([u8; 32], &str); 4] = [
+    (
+        [
+            1, 0, 0, 0, 0, 0, 0, 0x40, 0x80, 0, 0, 0, 0, 0, 0, 0x6e, 0xc1, 0xaa, 0xf0, 0, 32, 0, 0,
+            0xf8, 0x13, 0xac, 0x10, 0x55, 0xaa, 0, 0xff, 1,
+        ],
+        "file f0 00000001-0000-4000-8000-00000000006e\nbody 13ac1055aa00ff01\n",
+    ), // a name and a body
+    (
+        [
+            1, 0, 0, 0, 0, 0, 0, 0x40, 0x80, 0, 0, 0, 0, 0, 0, 0x6e, 0xc1, 0xaa, 0xf0, 0, 32, 0, 0,
+            0xf8, 0xff, 0xff, 0xff, 0xff, 0xff, 0xff, 0xff, 0xff,
+        ],
+        "file f0 00000001-0000-4000-8000-00000000006e\nbody ffffffffffffffff\n",
+    ), // a name alone
+    (
+        [
+            0xff, 0xff, 0xff, 0xff, 0xff, 0xff, 0xff, 0xff, 0xff, 0xff, 0xff, 0xff, 0xff, 0xff,
+            0xff, 0xff, 0, 0xaa, 0xf0, 0, 32, 0, 0, 0xf8, 0xff, 0xff, 0xff, 0xff, 0xff, 0xff, 0xff,
+            0xfe,
+        ],
+        "file f0 ffffffff-ffff-ffff-ffff-ffffffffffff\nbody fffffffffffffffe\n",
+    ), // a body alone
+    (
+        [
+            0xff, 0xff, 0xff, 0xff, 0xff, 0xff, 0xff, 0xff, 0xff, 0xff, 0xff, 0xff, 0xff, 0xff,
+            0xff, 0xff, 0, 0xaa, 0xf0, 0, 32, 0, 0, 0xf8, 0xff, 0xff, 0xff, 0xff, 0xff, 0xff, 0xff,
+            0xff,
+        ],
+        "pad 8\n",
+    ), // neither
+];
+
+// The text of that volume with these lines for its pad.
+fn told_with(alloc: Global, lines: &str) -> Option<Seq<u8>> {
+    let mut text = Seq::new(alloc);
+    for part in [
+        "volume 256 ffs2\n",
+        lines,
+        "file peim 00000001-0000-4000-8000-000000000002\nend\n",
+    ] {
+        if text.append(part.as_bytes()).is_err() {
+            return None;
+        }
+    }
+    Some(text)
+}
+
+// Whether a volume with this pad is told by these lines, and they make the same bytes again.
+fn keeps_pad(alloc: Global, pad: &[u8], lines: &str) -> bool {
+    let Some(volume) = changed(alloc, BEHIND_PAD, PAD_AT, pad) else {
+        return false;
+    };
+    let Some(told) = told_with(alloc, lines) else {
+        return false;
+    };
+    let (Ok(text), Ok(again)) = (
+        text_of(alloc, volume.as_slice()),
+        volume_of(alloc, told.as_slice()),
+    ) else {
+        return false;
+    };
+    text.as_slice() == told.as_slice() && again.as_slice() == volume.as_slice()
+}
+
+#[test]
+fn a_pad_keeps_its_name_and_its_body(rt: HostRuntime) {
+    for (pad, lines) in &PADS {
+        assert!(rt; keeps_pad(rt.alloc(), pad.as_slice(), lines));
     }
 }
 

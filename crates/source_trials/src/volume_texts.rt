@@ -139,14 +139,14 @@ file raw 00000001-0000-4000-8000-000000000001\n\
 raw 0102\n\
 end\n";
 
-/// Its bytes, without the bytes 0xff at their end, by the tables of `docs/FORMATS.md`: the pad file's body is one section.
+/// Its bytes, without the bytes 0xff at their end, by the tables of `docs/FORMATS.md`: the pad file's body is erased.
 static PADDED_FRONT: [u8; 134] = [
     0, 0, 0, 0, 0, 0, 0, 0, 0, 0, 0, 0, 0, 0, 0, 0, 120, 229, 140, 140, 61, 138, 28, 79, 153, 53,
     137, 97, 133, 195, 45, 211, 0, 1, 0, 0, 0, 0, 0, 0, 95, 70, 86, 72, 0, 8, 0, 0, 72, 0, 209,
     235, 0, 0, 0, 2, 1, 0, 0, 0, 0, 1, 0, 0, 0, 0, 0, 0, 0, 0, 0, 0, 255, 255, 255, 255, 255, 255,
-    255, 255, 255, 255, 255, 255, 255, 255, 255, 255, 0, 170, 240, 0, 32, 0, 0, 248, 8, 0, 0, 255,
-    255, 255, 255, 255, 1, 0, 0, 0, 0, 0, 0, 64, 128, 0, 0, 0, 0, 0, 0, 1, 31, 170, 1, 0, 30, 0, 0,
-    248, 6, 0, 0, 25, 1, 2,
+    255, 255, 255, 255, 255, 255, 255, 255, 255, 255, 0, 170, 240, 0, 32, 0, 0, 248, 255, 255, 255,
+    255, 255, 255, 255, 255, 1, 0, 0, 0, 0, 0, 0, 64, 128, 0, 0, 0, 0, 0, 0, 1, 31, 170, 1, 0, 30,
+    0, 0, 248, 6, 0, 0, 25, 1, 2,
 ];
 
 /// A volume with attributes, and a file with attributes whose body is no sections.
@@ -258,7 +258,7 @@ static AUDIT_MAIN_FRONT: [u8; 1254] = [
 ];
 
 /// Texts with a mistake, its line and its cause.
-static MISTAKES: [(&str, u64, Cause); 75] = [
+static MISTAKES: [(&str, u64, Cause); 74] = [
     ("", 1, Cause::NoVolume), // no line
     ("\n# nothing\n", 3, Cause::NoVolume), // comments alone
     (
@@ -435,7 +435,6 @@ static MISTAKES: [(&str, u64, Cause); 75] = [
     ), // a second name
     ("volume 4096\nname\n", 2, Cause::Missing), // no name
     ("volume 4096\npad -7\n", 2, Cause::Number), // no number
-    ("volume 4096\npad 3\n", 2, Cause::Range), // no section of a pad file
     ("volume 4096\npad 0xffffe7\n", 2, Cause::Range), // longer than a file of FFS2
     ("volume 4096\npad 8 8\n", 2, Cause::Extra), // a word behind the length
     (

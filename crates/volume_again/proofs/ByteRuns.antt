@@ -1,7 +1,10 @@
 -- Parts of bytes are bytes.
-use Rattle.std.proofs.Common.{ℕ, zero, suc, ◌<◌, List, [], ◌∷◌, ◌++◌, flat_map, arith}
+use Rattle.std.proofs.Common.{ℕ, zero, suc, ◌+◌, ◌<◌, ◌≤◌, List, [], ◌∷◌, ◌++◌, length, take, drop, flat_map, take-append-drop, arith}
 use Rattle.std.specs.List.{AllByRecursion}
+use Rattle.std.proofs.lemmas.List.{length-take-le, length-drop}
 use Rattle.hex.specs.Hex.{IsBytes}
+use Rattle.pi_base.specs.Guids.{guid_at}
+use Rattle.printed_words.specs.Words.{IsGuid}
 
 pub bytes_tail : (b : ℕ) (xs : List ℕ) → IsBytes (b ∷ xs) → IsBytes xs
 bytes_tail b xs fits i = fits (suc i)
@@ -24,3 +27,14 @@ bytes_back (x ∷ xs) ys fits = bytes_back xs ys (bytes_tail x (xs ++ ys) fits)
 pub each_bytes : {A : Type 0} (spell : A → List ℕ) (xs : List A) → IsBytes (flat_map spell xs) → AllByRecursion (λ x. IsBytes (spell x)) xs
 each_bytes spell [] fits = tt
 each_bytes spell (x ∷ xs) fits = (bytes_front (spell x) (flat_map spell xs) fits, each_bytes spell xs (bytes_back (spell x) (flat_map spell xs) fits))
+
+-- parts of bytes
+pub taken_bytes : (n : ℕ) (image : List ℕ) → IsBytes image → IsBytes (take n image)
+taken_bytes n image bytes = bytes_front (take n image) (drop n image) (rw (take-append-drop n image) bytes)
+
+pub left_bytes : (n : ℕ) (image : List ℕ) → IsBytes image → IsBytes (drop n image)
+left_bytes n image bytes = bytes_back (take n image) (drop n image) (rw (take-append-drop n image) bytes)
+
+pub guid_there : (image : List ℕ) (at : ℕ) → IsBytes image → at + 16 ≤ length image → IsGuid (guid_at image at)
+guid_there image at bytes room =
+    (length-take-le 16 (drop at image) (omega (arith, room, length-drop at image)), taken_bytes 16 (drop at image) (left_bytes at image bytes))

@@ -1,13 +1,13 @@
 -- A printed text says the files again of which it is the text.
-use Rattle.std.proofs.Common.{◌≡◌, inl, inr, ℕ, zero, suc, ◌<◌, ◌^◌, ◌%◌, ◌&&◌, true, List, [], ◌∷◌, ◌++◌, length, map, flat_map, Option, Some, None, Ok, refl, sym, ap, ◌∙◌, subst, append_assoc, arith, decimal, All}
+use Rattle.std.proofs.Common.{◌≡◌, inl, inr, ℕ, zero, suc, ◌<◌, ◌≤◌, ◌^◌, ◌%◌, ◌&&◌, Bool, true, false, cond, List, [], ◌∷◌, ◌++◌, length, map, take, drop, flat_map, Option, Some, None, Ok, refl, sym, ap, ◌∙◌, subst, append_assoc, arith, decimal, All}
 use Rattle.std.specs.List.{AllByRecursion}
-use Rattle.std.specs.Prelude.{codes, ◌==◌}
+use Rattle.std.specs.Prelude.{codes, nat_le, ◌==◌}
 use Rattle.std.proofs.lemmas.Bool.{and_parts, eqb-true}
-use Rattle.std.proofs.lemmas.List.{append-nil}
+use Rattle.std.proofs.lemmas.Bool.Decides.{nat_tests}
+use Rattle.std.proofs.lemmas.List.{append-nil, length-drop}
 use Rattle.std.proofs.lemmas.List.Elements.{All-head, All-tail}
 use Rattle.hex.specs.Hex.{IsBytes, encode_lower}
-use Rattle.pi_base.specs.declared.guid.Guid.{Guid}
-use Rattle.pi_base.specs.WordText.{guid_text}
+use Rattle.pi_base.specs.Guids.{guid_at}
 use Rattle.asm_text.specs.ExpressionText.{expression_text}
 use Rattle.asm_text.specs.ScriptText.{line, block_lines}
 use Rattle.catalog_model.specs.APriori.{guids_in}
@@ -19,23 +19,27 @@ use Rattle.fv_build.specs.declared.new_file.Body.TheVariants.{Sections, Bytes}
 use Rattle.fv_build.specs.declared.attributes.FileAttributes.{FileAttributes}
 use Rattle.fv_build.specs.declared.volume_header.VolumeForm.{VolumeForm}
 use Rattle.fv_build.specs.declared.volume_name.VolumeName.{VolumeName}
+use Rattle.fv_build.specs.Attributes.{plain_attributes}
 use Rattle.fv_build.specs.Front.{is_placed}
 use Rattle.fv_build.specs.Reading.{AreEach}
 use Rattle.volume_text.specs.declared.volume.OpenVolume.{OpenVolume}
 use Rattle.volume_text.specs.Words.{is_header, is_length}
-use Rattle.volume_text.specs.Open.{new_file, pad_file, depex_type, built_of}
+use Rattle.volume_text.specs.Open.{new_file, depex_type, built_of}
 use Rattle.volume_text.specs.Step.{section_of}
 use Rattle.volume_text.specs.Volume.{SayFiles, no_file, named, padded, file, bodied, section, depex, script, volume}
 use Rattle.volume_text.specs.Text.{numbered, Describes, Says as TextSays, Leads}
-use Rattle.volume_print.specs.Spelling.{phase_word, guid_word as told_guid, is_a_priori, volume_line, name_line, IsSectionText, as_volume, as_expression, as_guids, as_script, as_bytes, AreSectionTexts, whole, pad_line, with_pads, IsBodyText, host_of, IsFileText, IsVolumeText}
+use Rattle.volume_print.specs.Spelling.{phase_word, guid_word as told_guid, is_a_priori, volume_line, name_line, IsSectionText, as_volume, as_expression, as_guids, as_script, as_bytes, AreSectionTexts, whole, body_line, head_line, are_erased, pad_line, pad_text, with_pads, IsBodyText, host_of, IsFileText, IsVolumeText}
+use Rattle.volume_print.specs.Places.{pad_of}
 use Rattle.volume_print.specs.Description.{form_in, name_in, pads_of, IsInner}
 use Rattle.volume_again.specs.Again.{IsNameOfBytes, IsOfBytes, IsBodyOfBytes, IsFileOfBytes, IsSectionAgain, IsFileAgain, among, SaysAgain}
 use Rattle.volume_again.proofs.TextLines.{IsLine, Has, has_none, has_line, has_both, has_all, has_own}
-use Rattle.volume_again.proofs.SaidLines.{volume_text, volume_says, name_text, name_says, least_size, file_text, file_says, section_text, section_says, body_says, IsPadLength, pad_says, guids_say, depex_says, script_says as script_begins, end_says}
+use Rattle.volume_again.proofs.SaidLines.{volume_text, volume_says, name_text, name_says, least_size, file_text, file_says, section_text, section_says, body_says, pad_says, guids_say, depex_says, script_says as script_begins, end_says}
 use Rattle.volume_again.proofs.FileLines.{block_texts, script_says, script_has, same_scripts}
 use Rattle.volume_again.proofs.Trees.{expression_is}
 use Rattle.volume_again.proofs.GuidRuns.{run_is, guids_are}
 use Rattle.volume_again.proofs.GoodScripts.{good_script}
+use Rattle.volume_again.proofs.ByteRuns.{left_bytes, guid_there}
+use Rattle.volume_again.proofs.PadPieces.{IsGoodPiece, IsGoodPad, erased_pad}
 
 -- what holds of volumes inside
 pub record InnerLaws (Inner : List ℕ → List ℕ → Type 0) : Type 0 where
@@ -215,25 +219,61 @@ file_told Inner laws size one lines called files text fits is say =
       say = subst (λ (ls : List (List ℕ)). SayFiles size ls called (files ++ more.again ∷ [])) (append_assoc lines (head ∷ []) more.told.lines) more.say;
     }
 
--- lines say pads
-record TellsPads (size : ℕ) (pads : List ℕ) (lines : List (List ℕ)) (called : Option VolumeName) (done : List NewFile) : Type 0 where
-  told : AreLines (flat_map pad_line pads)
-  say : SayFiles size (lines ++ told.lines) called (done ++ map pad_file pads)
+-- lines say a pad, whose text this is
+record TellsPad (size : ℕ) (pad : NewFile) (text : List ℕ) (lines : List (List ℕ)) (called : Option VolumeName) (done : List NewFile) : Type 0 where
+  told : AreLines text
+  say : SayFiles size (lines ++ told.lines) called (done ++ pad ∷ [])
 
-pads_told : (size : ℕ) (lines : List (List ℕ)) (called : Option VolumeName) (done : List NewFile) (pads : List ℕ) → AllByRecursion IsPadLength pads → SayFiles size lines called done → TellsPads size pads lines called done
+pad_by : (test : Bool) (size : ℕ) (piece : List ℕ) (lines : List (List ℕ)) (called : Option VolumeName) (done : List NewFile) → IsGoodPiece piece
+    → (are_erased (take 16 piece) && are_erased (drop 24 piece)) ≡ test → SayFiles size lines called done
+    → TellsPad size (pad_of piece) (cond test (pad_line (length (drop 24 piece))) (head_line 240 (guid_at piece 0) plain_attributes ++ body_line (drop 24 piece))) lines called done
+pad_by true size piece lines called done good is say =
+    let len = length (drop 24 piece) in
+    let text = codes "pad " ++ decimal len in
+    let fits : nat_le len 16777190 ≡ true = let few : len ≤ 16777190 = omega (arith, good.most, length-drop 24 piece) in grind (arith, nat_tests) in
+    let l = pad_says len fits in
+    record {
+      told = record { lines = text ∷ []; has = has_line text l.is };
+      say = subst (λ (f : NewFile). SayFiles size (lines ++ text ∷ []) called (done ++ f ∷ [])) (erased_pad piece good is) (padded lines called done text len say l.says);
+    }
+pad_by false size piece lines called done good is say =
+    let name = guid_at piece 0 in
+    let bytes = drop 24 piece in
+    let head = file_text 240 name plain_attributes in
+    let body = codes "body " ++ encode_lower bytes in
+    let h = file_says 240 name plain_attributes (omega arith) (guid_there piece 0 good.bytes (omega (arith, good.least))) in
+    let b = body_says bytes (left_bytes 24 piece good.bytes) in
+    let begun = file lines called done head 240 name plain_attributes say h.says in
+    let full = bodied (lines ++ head ∷ []) called done (new_file 240 name plain_attributes) (pad_of piece) body bytes begun b.says refl in
+    record {
+      told = record { lines = head ∷ (body ∷ []); has = has_both (line head) (line body) (head ∷ []) (body ∷ []) (has_line head h.is) (has_line body b.is) };
+      say = subst (λ (ls : List (List ℕ)). SayFiles size ls called (done ++ pad_of piece ∷ [])) (append_assoc lines (head ∷ []) (body ∷ [])) full;
+    }
+
+pad_told : (size : ℕ) (pad : NewFile) (lines : List (List ℕ)) (called : Option VolumeName) (done : List NewFile) → IsGoodPad pad → SayFiles size lines called done
+    → TellsPad size pad (pad_text pad) lines called done
+pad_told size pad lines called done good say =
+    let piece = good.0 in
+    subst (λ (f : NewFile). TellsPad size f (pad_text f) lines called done) (sym good.1)
+    (pad_by (are_erased (take 16 piece) && are_erased (drop 24 piece)) size piece lines called done good.2 refl say)
+
+-- lines say pads
+record TellsPads (size : ℕ) (pads : List NewFile) (lines : List (List ℕ)) (called : Option VolumeName) (done : List NewFile) : Type 0 where
+  told : AreLines (flat_map pad_text pads)
+  say : SayFiles size (lines ++ told.lines) called (done ++ pads)
+
+pads_told : (size : ℕ) (lines : List (List ℕ)) (called : Option VolumeName) (done pads : List NewFile) → AllByRecursion IsGoodPad pads → SayFiles size lines called done → TellsPads size pads lines called done
 pads_told size lines called done [] fits say = record {
   told = record { lines = []; has = has_none };
   say = subst (λ (ls : List (List ℕ)). SayFiles size ls called (done ++ [])) (sym (append-nil lines)) (subst (λ (fs : List NewFile). SayFiles size lines called fs) (sym (append-nil done)) say);
 }
-pads_told size lines called done (len ∷ pads) fits say =
-    let text = codes "pad " ++ decimal len in
-    let l = pad_says len fits.0 in
-    let here = padded lines called done text len say l.says in
-    let rest = pads_told size (lines ++ text ∷ []) called (done ++ pad_file len ∷ []) pads fits.1 here in
+pads_told size lines called done (pad ∷ pads) fits say =
+    let one = pad_told size pad lines called done fits.0 say in
+    let rest = pads_told size (lines ++ one.told.lines) called (done ++ pad ∷ []) pads fits.1 one.say in
     record {
-      told = record { lines = text ∷ rest.told.lines; has = has_both (line text) (flat_map pad_line pads) (text ∷ []) rest.told.lines (has_line text l.is) rest.told.has };
-      say = subst (λ (ls : List (List ℕ)). SayFiles size ls called (done ++ (pad_file len ∷ map pad_file pads))) (append_assoc lines (text ∷ []) rest.told.lines)
-          (subst (λ (fs : List NewFile). SayFiles size ((lines ++ text ∷ []) ++ rest.told.lines) called fs) (append_assoc done (pad_file len ∷ []) (map pad_file pads)) rest.say);
+      told = record { lines = one.told.lines ++ rest.told.lines; has = has_both (pad_text pad) (flat_map pad_text pads) one.told.lines rest.told.lines one.told.has rest.told.has };
+      say = subst (λ (ls : List (List ℕ)). SayFiles size ls called (done ++ (pad ∷ pads))) (append_assoc lines one.told.lines rest.told.lines)
+          (subst (λ (fs : List NewFile). SayFiles size ((lines ++ one.told.lines) ++ rest.told.lines) called fs) (append_assoc done (pad ∷ []) pads) rest.say);
     }
 
 -- four lists one behind the other
@@ -241,14 +281,14 @@ four : {A : Type 0} (a b c d : List A) → ((a ++ b) ++ c) ++ d ≡ a ++ (b ++ (
 four a b c d = append_assoc (a ++ b) c d ∙ append_assoc a b (c ++ d)
 
 -- lines say files, each behind its pads
-record TellsFiles (Inner : List ℕ → List ℕ → Type 0) (size : ℕ) (done : List NewFile) (pads : List (List ℕ)) (files : List NewFile) (lines : List (List ℕ)) (called : Option VolumeName) (text : List ℕ) : Type 0 where
+record TellsFiles (Inner : List ℕ → List ℕ → Type 0) (size : ℕ) (done : List NewFile) (pads : List (List NewFile)) (files : List NewFile) (lines : List (List ℕ)) (called : Option VolumeName) (text : List ℕ) : Type 0 where
   told : AreLines text
   again : List NewFile
   each : AreEach (IsFileAgain Inner) files again
   say : SayFiles size (lines ++ told.lines) called (done ++ among pads again)
 
-files_told : (Inner : List ℕ → List ℕ → Type 0) → InnerLaws Inner → (size : ℕ) → (done : List NewFile) (pads : List (List ℕ)) (files : List NewFile) (texts : List (List ℕ)) (lines : List (List ℕ)) (called : Option VolumeName)
-    → length pads ≡ length files → AllByRecursion (AllByRecursion IsPadLength) pads → All IsFileOfBytes files → AreEach (IsFileText Inner) files texts → SayFiles size lines called done
+files_told : (Inner : List ℕ → List ℕ → Type 0) → InnerLaws Inner → (size : ℕ) → (done : List NewFile) (pads : List (List NewFile)) (files : List NewFile) (texts : List (List ℕ)) (lines : List (List ℕ)) (called : Option VolumeName)
+    → length pads ≡ length files → AllByRecursion (AllByRecursion IsGoodPad) pads → All IsFileOfBytes files → AreEach (IsFileText Inner) files texts → SayFiles size lines called done
     → TellsFiles Inner size done pads files lines called (with_pads pads texts)
 files_told Inner laws size done [] [] [] lines called long pads_fit fits are say = record {
   told = record { lines = []; has = has_none };
@@ -262,19 +302,19 @@ files_told Inner laws size done (p ∷ pads) [] texts lines called long pads_fit
 files_told Inner laws size done (p ∷ pads) (one ∷ files) [] lines called long pads_fit fits are say = absurd are
 files_told Inner laws size done (p ∷ pads) (one ∷ files) (text ∷ texts) lines called long pads_fit fits are say =
     let front = pads_told size lines called done p pads_fit.0 say in
-    let first = file_told Inner laws size one (lines ++ front.told.lines) called (done ++ map pad_file p) text (All-head IsFileOfBytes one files fits) are.0 front.say in
-    let rest = files_told Inner laws size ((done ++ map pad_file p) ++ first.again ∷ []) pads files texts ((lines ++ front.told.lines) ++ first.told.lines) called (omega (arith, long)) pads_fit.1
+    let first = file_told Inner laws size one (lines ++ front.told.lines) called (done ++ p) text (All-head IsFileOfBytes one files fits) are.0 front.say in
+    let rest = files_told Inner laws size ((done ++ p) ++ first.again ∷ []) pads files texts ((lines ++ front.told.lines) ++ first.told.lines) called (omega (arith, long)) pads_fit.1
     (All-tail IsFileOfBytes one files fits) are.1 first.say in
     let behind = has_both text (with_pads pads texts) first.told.lines rest.told.lines first.told.has rest.told.has in
     record {
       told = record {
         lines = front.told.lines ++ (first.told.lines ++ rest.told.lines);
-        has = has_both (flat_map pad_line p) (text ++ with_pads pads texts) front.told.lines (first.told.lines ++ rest.told.lines) front.told.has behind;
+        has = has_both (flat_map pad_text p) (text ++ with_pads pads texts) front.told.lines (first.told.lines ++ rest.told.lines) front.told.has behind;
       };
       again = first.again ∷ rest.again;
       each = (first.is, rest.each);
-      say = subst (λ (ls : List (List ℕ)). SayFiles size ls called (done ++ (map pad_file p ++ (first.again ∷ among pads rest.again)))) (four lines front.told.lines first.told.lines rest.told.lines)
-          (subst (λ (fs : List NewFile). SayFiles size (((lines ++ front.told.lines) ++ first.told.lines) ++ rest.told.lines) called fs) (four done (map pad_file p) (first.again ∷ []) (among pads rest.again)) rest.say);
+      say = subst (λ (ls : List (List ℕ)). SayFiles size ls called (done ++ (p ++ (first.again ∷ among pads rest.again)))) (four lines front.told.lines first.told.lines rest.told.lines)
+          (subst (λ (fs : List NewFile). SayFiles size (((lines ++ front.told.lines) ++ first.told.lines) ++ rest.told.lines) called fs) (four done p (first.again ∷ []) (among pads rest.again)) rest.say);
     }
 
 -- the line of a name, if there is one
@@ -290,8 +330,8 @@ name_told size (Some name) fits placed =
     record { lines = name_text name ∷ []; has = has_line (name_text name) l.is; say = named [] [] (name_text name) name no_file l.says placed }
 
 -- a volume's text
-pub volume_told : (Inner : List ℕ → List ℕ → Type 0) → InnerLaws Inner → ((text bytes : List ℕ) → TextSays text bytes → Leads text bytes) → (form : VolumeForm) (len : ℕ) (called : Option VolumeName) (pads : List (List ℕ)) (files : List NewFile) (text : List ℕ) → is_length len ≡ true → form.attributes < 2 ^ 32
-    → is_header len form.header_len ≡ true → is_placed form.header_len called ≡ true → IsNameOfBytes called → length pads ≡ length files → AllByRecursion (AllByRecursion IsPadLength) pads → All IsFileOfBytes files → IsVolumeText Inner form len called pads files text
+pub volume_told : (Inner : List ℕ → List ℕ → Type 0) → InnerLaws Inner → ((text bytes : List ℕ) → TextSays text bytes → Leads text bytes) → (form : VolumeForm) (len : ℕ) (called : Option VolumeName) (pads : List (List NewFile)) (files : List NewFile) (text : List ℕ) → is_length len ≡ true → form.attributes < 2 ^ 32
+    → is_header len form.header_len ≡ true → is_placed form.header_len called ≡ true → IsNameOfBytes called → length pads ≡ length files → AllByRecursion (AllByRecursion IsGoodPad) pads → All IsFileOfBytes files → IsVolumeText Inner form len called pads files text
     → SaysAgain Inner form len called pads files text
 volume_told Inner laws complete form len called pads files text long fits header_fits placed name_fits as_many pads_fit files_fit is =
     let head = volume_text form len in
@@ -344,7 +384,7 @@ ends_so head name body text is = (
 pub inner_laws : ((text bytes : List ℕ) → Leads text bytes → TextSays text bytes) → (deep : ℕ) → InnerLaws (IsInner deep)
 inner_laws says zero = record { ends = λ stream text is. absurd is; made = λ stream text is. absurd is; says = says }
 inner_laws says (suc deep) = record {
-  ends = λ stream text is. ends_so (volume_line (form_in stream) is.volume.len) (name_line (name_in stream is.volume.name)) (with_pads (pads_of (form_in stream) (name_in stream is.volume.name) is.volume is.told.files) is.told.spelled.0) text is.told.spelled.2;
+  ends = λ stream text is. ends_so (volume_line (form_in stream) is.volume.len) (name_line (name_in stream is.volume.name)) (with_pads (pads_of stream is.volume is.told.files) is.told.spelled.0) text is.told.spelled.2;
   made = λ stream text is. (is.again, is.leads, is.long);
   says = says;
 }

@@ -1,6 +1,6 @@
 -- What a reader takes of a volume's headers, a line of its text can tell: its header's length, and its name with its place.
 use Rattle.std.proofs.Common.{◌≡◌, ℕ, ◌+◌, ◌%◌, ◌<◌, ◌≤◌, ◌^◌, Bool, true, false, cond, List, length, drop, Option, Some, None, Result, Ok, Err, refl, sym, ap, ◌∙◌, subst, arith}
-use Rattle.std.specs.Prelude.{◌==◌, ◌&&◌, nat_lt, nat_le, ⊤}
+use Rattle.std.specs.Prelude.{◌==◌, ◌&&◌, nat_lt, nat_le}
 use Rattle.std.proofs.lemmas.Bool.Decides.{nat_tests}
 use Rattle.hex.specs.Hex.{IsBytes}
 use Rattle.pi_base.specs.declared.guid.Guid.{Guid}
@@ -12,18 +12,19 @@ use Rattle.fv_volume.specs.declared.volume.Volume.{Volume}
 use Rattle.fv_volume.specs.declared.fault.VolFault.{VolFault}
 use Rattle.fv_volume.specs.VolumeHeader.{volume_header, header_fault}
 use Rattle.fv_volume.specs.ExtendedHeader.{misplaced, extended_header}
-use Rattle.fv_volume.specs.Frame.{frame_with, frame_or_fault, frame_of}
+use Rattle.fv_volume.specs.Frame.{frame_with, frame_or_fault}
 use Rattle.fv_volume.specs.Volume.{IsVolume}
 use Rattle.fv_build.specs.declared.file_system.FileSystem.TheVariants.{Ffs2}
 use Rattle.fv_build.specs.declared.volume_header.VolumeForm.{VolumeForm}
 use Rattle.fv_build.specs.declared.volume_name.VolumeName.{VolumeName}
-use Rattle.fv_build.specs.Header.{plain, is_header_length}
+use Rattle.fv_build.specs.Header.{plain}
 use Rattle.fv_build.specs.Front.{is_placed}
 use Rattle.fv_build.specs.Reading.{guid_of}
 use Rattle.volume_text.specs.Words.{is_header}
 use Rattle.volume_print.specs.Description.{file_system_in, told_attributes, form_in, name_at, name_in}
 use Rattle.volume_again.specs.Again.{IsNameOfBytes}
-use Rattle.volume_again.proofs.ListedFiles.{VolumeHeader, ExtendedHeader, Frame, IsGoodFrame, frame_good, guid_there, left_bytes}
+use Rattle.volume_again.proofs.ListedFiles.{VolumeHeader, ExtendedHeader, Frame, frame_good}
+use Rattle.volume_again.proofs.ByteRuns.{left_bytes, guid_there}
 
 -- the tests of a header
 even_length : (bytes : List ℕ) (header : VolumeHeader) → header_fault bytes header ≡ None → header.header_len % 2 ≡ 0

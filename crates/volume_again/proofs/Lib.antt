@@ -6,9 +6,11 @@ mod ByteRuns
 mod Trees
 mod GuidRuns
 mod GoodScripts
+mod PadPieces
 mod FilesAgain
 mod FileLengths
 mod StandAgain
+mod PadsStand
 mod ListedFiles
 mod OfBytes
 mod BuiltTexts

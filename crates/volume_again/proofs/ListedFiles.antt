@@ -1,32 +1,29 @@
 -- What a reader lists of bytes: files at multiples of 8, none of them a pad, with names, types and bodies of bytes.
-use Rattle.std.proofs.Common.{◌≡◌, inl, inr, ℕ, zero, suc, ◌+◌, ◌-◌, ◌%◌, ◌<◌, ◌≤◌, ◌^◌, Bool, true, false, cond, List, [], ◌∷◌, ◌++◌, length, map, take, drop, Option, Some, None, Result, Ok, Err, refl, sym, ap, ◌∙◌, subst, arith, slice_index, take-append-drop, All}
-use Rattle.std.specs.Prelude.{not, ◌==◌, nat_lt, bit_and, bit_xor, ⊤}
+use Rattle.std.proofs.Common.{◌≡◌, ℕ, ◌+◌, ◌-◌, ◌%◌, ◌<◌, ◌≤◌, Bool, true, false, cond, List, [], ◌∷◌, ◌++◌, length, take, drop, Option, Some, None, Result, Ok, Err, refl, sym, ap, ◌∙◌, subst, arith, slice_index}
+use Rattle.std.specs.Prelude.{not, ◌==◌, nat_lt}
 use Rattle.std.specs.List.{AllByRecursion}
 use Rattle.std.proofs.lemmas.Bool.Decides.{nat_tests}
-use Rattle.std.proofs.lemmas.List.{length-take-le, length-drop}
 use Rattle.std.proofs.lemmas.List.Concat.{flat_map-cons}
-use Rattle.std.proofs.lemmas.List.Elements.{All-nil, All-cons}
 use Rattle.hex.specs.Hex.{IsBytes}
-use Rattle.pi_base.specs.declared.guid.Guid.{Guid}
 use Rattle.pi_base.specs.Field.{little_number}
 use Rattle.pi_base.specs.Guids.{guid_at}
 use Rattle.printed_words.specs.Words.{IsGuid}
 use Rattle.fv_volume.specs.declared.file.FfsFile.{FfsFile}
 use Rattle.fv_volume.specs.declared.volume.Volume.{Volume}
 use Rattle.fv_volume.specs.declared.fault.VolCause.{VolCause}
-use Rattle.fv_volume.specs.declared.fault.VolCause.TheVariants.{FileSum, FileSize, DataSum}
+use Rattle.fv_volume.specs.declared.fault.VolCause.TheVariants.{FileSum, FileSize}
 use Rattle.fv_volume.specs.declared.fault.VolFault.{VolFault}
 use Rattle.fv_volume.specs.FileState.{file_state, is_dead, is_whole}
 use Rattle.fv_volume.specs.FileHeader.{is_large, fields_at, file_header, header_sum, size_is_wrong, data_is_wrong}
-use Rattle.fv_volume.specs.Item.{file_of, body_of, sound_item, item_of, item_or_cause, item_at, listed_of}
+use Rattle.fv_volume.specs.Item.{body_of, sound_item, item_of, item_or_cause, item_at, listed_of}
 use Rattle.fv_volume.specs.VolumeHeader.{volume_header, header_fault}
-use Rattle.fv_volume.specs.ExtendedHeader.{misplaced, extended_with, extended_header}
+use Rattle.fv_volume.specs.ExtendedHeader.{extended_header}
 use Rattle.fv_volume.specs.Frame.{aligned, frame_with, frame_or_fault, frame_of}
 use Rattle.fv_volume.specs.Search.{ends_at, Leads, files_of}
 use Rattle.fv_volume.specs.Volume.{IsVolume}
 use Rattle.fv_volume.proofs.Items.{has_room}
 use Rattle.fv_volume.proofs.Spelled.{ones}
-use Rattle.volume_again.proofs.ByteRuns.{bytes_front, bytes_back}
+use Rattle.volume_again.proofs.ByteRuns.{taken_bytes, guid_there}
 use Rattle.volume_again.proofs.StandAgain.{IsListedFile}
 
 -- the types of values that have no public name
@@ -62,17 +59,6 @@ ExtendedHeader = TypeInSome (extended_header [] (volume_header []))
 
 abbrev pub Frame : Type 0
 Frame = TypeIn (frame_of [])
-
--- parts of bytes
-pub taken_bytes : (n : ℕ) (image : List ℕ) → IsBytes image → IsBytes (take n image)
-taken_bytes n image bytes = bytes_front (take n image) (drop n image) (rw (take-append-drop n image) bytes)
-
-pub left_bytes : (n : ℕ) (image : List ℕ) → IsBytes image → IsBytes (drop n image)
-left_bytes n image bytes = bytes_back (take n image) (drop n image) (rw (take-append-drop n image) bytes)
-
-pub guid_there : (image : List ℕ) (at : ℕ) → IsBytes image → at + 16 ≤ length image → IsGuid (guid_at image at)
-guid_there image at bytes room =
-    (length-take-le 16 (drop at image) (omega (arith, room, length-drop at image)), taken_bytes 16 (drop at image) (left_bytes at image bytes))
 
 -- a header's name and type
 record HasFields (image : List ℕ) (at : ℕ) (header : FileHeader) : Type 0 where

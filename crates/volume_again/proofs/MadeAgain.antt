@@ -1,46 +1,44 @@
 -- A volume's text says it again, and what is made of the text is read as the same volume.
-use Rattle.std.proofs.Common.{◌≡◌, inl, inr, ℕ, ◌%◌, ◌<◌, ◌≤◌, ◌^◌, Bool, true, false, cond, List, [], ◌∷◌, ◌++◌, length, map, Option, Some, None, Result, Ok, Err, refl, sym, ap, ◌∙◌, subst, arith, All}
-use Rattle.std.specs.Prelude.{nat_le, nat_lt, ◌&&◌, ⊤}
+use Rattle.std.proofs.Common.{◌≡◌, ℕ, ◌+◌, ◌-◌, ◌%◌, ◌≤◌, true, List, [], ◌∷◌, ◌++◌, length, map, Option, Some, None, Result, Ok, Err, replicate, sym, ap, ◌∙◌, subst, append_assoc, length-append, arith, All}
+use Rattle.std.specs.Prelude.{nat_le, ◌&&◌}
 use Rattle.std.specs.List.{AllByRecursion}
-use Rattle.std.proofs.lemmas.Bool.{and_parts}
 use Rattle.std.proofs.lemmas.Bool.Decides.{nat_tests}
-use Rattle.std.proofs.lemmas.List.Elements.{All-nil, All-push, All-cons}
+use Rattle.std.proofs.lemmas.List.Elements.{All-nil, All-cons}
 use Rattle.hex.specs.Hex.{IsBytes}
 use Rattle.pi_base.specs.declared.guid.Guid.{Guid}
 use Rattle.fv_volume.specs.declared.file.FfsFile.{FfsFile}
-use Rattle.fv_volume.specs.declared.volume.Volume.{Volume}
-use Rattle.fv_build.specs.declared.fault.BuildFault.{BuildFault}
-use Rattle.fv_build.specs.declared.fault.BuildFault.TheVariants.{TooMany, Size, NoRoom, Memory}
+use Rattle.fv_volume.proofs.Standing.{volume_inside}
 use Rattle.fv_build.specs.declared.file_system.FileSystem.{FileSystem}
 use Rattle.fv_build.specs.declared.new_file.NewFile.{NewFile}
 use Rattle.fv_build.specs.declared.volume_header.VolumeForm.{VolumeForm}
 use Rattle.fv_build.specs.Files.{HasWholeName}
-use Rattle.fv_build.specs.Reading.{AreEach, IsFileRead, listed, listed_at, IsWhole, guid_of, IsReadAs}
+use Rattle.fv_build.specs.Reading.{AreEach, IsFileRead, listed, IsWhole, guid_of, IsReadAs}
 use Rattle.fv_build.specs.declared.volume_name.VolumeName.{VolumeName}
-use Rattle.fv_build.specs.Header.{is_header_length}
-use Rattle.fv_build.specs.Front.{front_len, first_place, is_placed}
-use Rattle.fv_build.specs.Building.{volume_bytes}
-use Rattle.fv_build.proofs.VolumesRead.{sound, FitsHeader, fits_header}
+use Rattle.fv_build.specs.Header.{head_of, volume_header}
+use Rattle.fv_build.specs.Front.{ext_at, name_part, front_len, first_place, is_placed}
+use Rattle.fv_build.specs.Building.{need, filled_from, volume_bytes}
+use Rattle.fv_build.proofs.VolumesRead.{length-header, length-front, sound, fits_header}
 use Rattle.volume_text.specs.declared.fault.Cause.{Cause}
-use Rattle.volume_text.specs.declared.fault.Cause.TheVariants as cause
 use Rattle.volume_text.specs.declared.fault.Fault.{Fault}
 use Rattle.volume_text.specs.declared.fault.TextFault.TheVariants.{Bad}
 use Rattle.volume_text.specs.declared.volume.OpenVolume.{OpenVolume}
-use Rattle.volume_text.specs.Open.{pad_file, built_of}
+use Rattle.volume_text.specs.Open.{built_of}
 use Rattle.volume_again.proofs.BuiltTexts.{Made, made, made_again as read_again, ranges}
 use Rattle.volume_text.specs.Words.{is_length}
-use Rattle.volume_text.specs.Text.{Describes, Says, Leads, IsRefused}
+use Rattle.volume_text.specs.Text.{Says, Leads, IsRefused}
 use Rattle.volume_print.specs.Description.{IsFileIn, form_in, name_in, IsInner, IsTextOf}
-use Rattle.volume_print.specs.Places.{Room, rooms, pads_before, places}
-use Rattle.volume_again.specs.Again.{IsNameOfBytes, IsFileAgain, among, SaysAgain}
-use Rattle.volume_again.specs.Made.{rooms_told, IsMadeAgain, SaysItself, CannotBeBuilt}
+use Rattle.volume_print.specs.Places.{rooms, pads_before, places}
+use Rattle.volume_again.specs.Again.{IsNameOfBytes, IsFileAgain, among}
+use Rattle.volume_again.specs.Made.{StandIn, IsMadeAgain, SaysItself, CannotBeBuilt}
 use Rattle.volume_again.proofs.FilesAgain.{volume_told, inner_laws}
 use Rattle.volume_again.proofs.FormAgain.{is_told, form_again, name_again}
-use Rattle.volume_again.proofs.GoodHeaders.{IsGoodHead, head_good}
+use Rattle.volume_again.proofs.GoodHeaders.{head_good}
 use Rattle.volume_again.proofs.ListedFiles.{volume_good}
+use Rattle.volume_again.proofs.PadsStand.{laid_stand, stand_up, pads_stand}
 use Rattle.volume_again.proofs.WholeNames.{files_whole}
 use Rattle.volume_again.proofs.OfBytes.{files_of_bytes, attributes_fit}
-use Rattle.volume_again.proofs.StandAgain.{IsListedFile, stand_again, none_left_out, length-rooms, kept, rooms_at, pads_fit, length-all}
+use Rattle.volume_again.proofs.PadPieces.{IsGoodPad, pad_whole}
+use Rattle.volume_again.proofs.StandAgain.{IsListedFile, stand_again, none_left_out, kept, rooms_at, pads_fit, length-all}
 
 -- the first place is a multiple of 8
 first_even : (form : VolumeForm) (called : Option VolumeName) → first_place form called % 8 ≡ 0
@@ -65,27 +63,42 @@ says_itself says leads image text told bytes most =
     let head = head_good image volume bytes told.is in
     let all = rooms form.file_system volume.files told.told.files in
     let long = long_enough volume.len head.least most in
-    volume_told (IsInner 3) (inner_laws says 3) leads form volume.len name (pads_before from all) told.told.files text long (attributes_fit image bytes) head.header head.name.placed
-    head.name.fits (length-all (IsFileIn form.file_system image) form.file_system from volume.files told.told.files told.told.are)
-    (pads_fit image form.file_system from volume.files told.told.files (first_even form name) good told.told.are)
+    let inside = volume_inside image volume told.is in
+    volume_told (IsInner 3) (inner_laws says 3) leads form volume.len name (pads_before image from all) told.told.files text long (attributes_fit image bytes) head.header head.name.placed
+    head.name.fits (length-all (IsFileIn form.file_system image) form.file_system image from volume.files told.told.files told.told.are)
+    (pads_fit image form.file_system from volume.files told.told.files bytes (first_even form name) good inside told.told.are)
     (files_of_bytes form.file_system image volume.files told.told.files bytes good told.told.are) told.told.spelled
 
 -- names that are whole
-pads_whole : (pads : List ℕ) (files : List NewFile) → All HasWholeName files → All HasWholeName (map pad_file pads ++ files)
-pads_whole [] files whole = whole
-pads_whole (n ∷ pads) files whole = All-cons HasWholeName (pad_file n) (map pad_file pads ++ files) refl (pads_whole pads files whole)
+pads_whole : (pads files : List NewFile) → AllByRecursion IsGoodPad pads → All HasWholeName files → All HasWholeName (pads ++ files)
+pads_whole [] files fits whole = whole
+pads_whole (pad ∷ pads) files fits whole = All-cons HasWholeName pad (pads ++ files) (pad_whole pad fits.0) (pads_whole pads files fits.1 whole)
 
-among_whole : (Inner : List ℕ → List ℕ → Type 0) (file_system : FileSystem) (image : List ℕ) (pads : List (List ℕ)) (found : List FfsFile) (files others : List NewFile) → AllByRecursion IsListedFile found
+among_whole : (Inner : List ℕ → List ℕ → Type 0) (file_system : FileSystem) (image : List ℕ) (pads : List (List NewFile)) (found : List FfsFile) (files others : List NewFile)
+    → AllByRecursion (AllByRecursion IsGoodPad) pads → AllByRecursion IsListedFile found
     → AreEach (IsFileIn file_system image) found files → AreEach (IsFileAgain Inner) files others → All HasWholeName (among pads others)
-among_whole Inner file_system image [] found files others good are again = All-nil HasWholeName
-among_whole Inner file_system image (p ∷ pads) [] [] [] good are again = All-nil HasWholeName
-among_whole Inner file_system image (p ∷ pads) [] (file ∷ files) others good are again = absurd are
-among_whole Inner file_system image (p ∷ pads) (one ∷ found) [] others good are again = absurd are
-among_whole Inner file_system image (p ∷ pads) [] [] (other ∷ others) good are again = absurd again
-among_whole Inner file_system image (p ∷ pads) (one ∷ found) (file ∷ files) [] good are again = absurd again
-among_whole Inner file_system image (p ∷ pads) (one ∷ found) (file ∷ files) (other ∷ others) good are again =
+among_whole Inner file_system image [] found files others fits good are again = All-nil HasWholeName
+among_whole Inner file_system image (p ∷ pads) [] [] [] fits good are again = All-nil HasWholeName
+among_whole Inner file_system image (p ∷ pads) [] (file ∷ files) others fits good are again = absurd are
+among_whole Inner file_system image (p ∷ pads) (one ∷ found) [] others fits good are again = absurd are
+among_whole Inner file_system image (p ∷ pads) [] [] (other ∷ others) fits good are again = absurd again
+among_whole Inner file_system image (p ∷ pads) (one ∷ found) (file ∷ files) [] fits good are again = absurd again
+among_whole Inner file_system image (p ∷ pads) (one ∷ found) (file ∷ files) (other ∷ others) fits good are again =
     let whole : HasWholeName other = ap (λ (g : Guid). length g.0) (again.0.name ∙ are.0.name) ∙ good.0.name.0 in
-    pads_whole p (other ∷ among pads others) (All-cons HasWholeName other (among pads others) whole (among_whole Inner file_system image pads found files others good.1 are.1 again.1))
+    pads_whole p (other ∷ among pads others) fits.0
+    (All-cons HasWholeName other (among pads others) whole (among_whole Inner file_system image pads found files others fits.1 good.1 are.1 again.1))
+
+-- the files of a volume stand behind its header and its name
+files_stand : (form : VolumeForm) (name : Option VolumeName) (files : List NewFile) (len : ℕ) → 64 ≤ form.header_len → is_placed form.header_len name ≡ true → IsWhole name
+    → StandIn form.file_system (volume_bytes form name files len) (front_len form name) files
+files_stand form name files len least placed whole =
+    let from = front_len form name in
+    let header = volume_header (head_of form (ext_at name) len) in
+    let called = name_part form.header_len name in
+    let filled = filled_from form.file_system from files len in
+    let long : length (header ++ called) ≡ from =
+    length-append header called ∙ ap (λ n. n + length called) (length-header form.file_system form.attributes form.header_len (ext_at name) len least) ∙ length-front form name placed whole in
+    laid_stand form.file_system from files (header ++ called) (replicate (len - need form.file_system from files) 255) (volume_bytes form name files len) long (sym (append_assoc header called filled))
 
 whole_name : (called : Option VolumeName) → IsNameOfBytes called → IsWhole called
 whole_name None is = tt
@@ -102,7 +115,10 @@ made_again image text again told bytes most s built =
     let good = volume_good image volume bytes told.is in
     let head = head_good image volume bytes told.is in
     let all = rooms form.file_system volume.files told.told.files in
-    let one : OpenVolume = record { form = form; len = volume.len; name = name; files = among (pads_before from all) s.again } in
+    let inside = volume_inside image volume told.is in
+    let pads = pads_before image from all in
+    let fits = pads_fit image form.file_system from volume.files told.told.files bytes (first_even form name) good inside told.told.are in
+    let one : OpenVolume = record { form = form; len = volume.len; name = name; files = among pads s.again } in
     let is : s.volume ≡ one =
     ap (λ f. let v : OpenVolume = record { form = f; len = s.volume.len; name = s.volume.name; files = s.volume.files } in v) s.form_is
     ∙ ap (λ n. let v : OpenVolume = record { form = form; len = n; name = s.volume.name; files = s.volume.files } in v) s.len_is
@@ -111,19 +127,21 @@ made_again image text again told bytes most s built =
     let built_one : built_of one ≡ Ok again = subst (λ (v : OpenVolume). built_of v ≡ Ok again) is built in
     let m : Made one again = made one again built_one in
     let sized = ranges one m.range in
-    let whole = among_whole (IsInner 3) form.file_system image (pads_before from all) volume.files told.told.files s.again good told.told.are s.files_are in
+    let whole = among_whole (IsInner 3) form.file_system image pads volume.files told.told.files s.again fits good told.told.are s.files_are in
     let whole_called : IsWhole name = whole_name name head.name.fits in
     let r : IsReadAs form name one.files volume.len again = read_again one again whole_called whole built_one in
     let left : listed one.files ≡ s.again =
-    none_left_out (IsInner 3) form.file_system image from all volume.files told.told.files s.again (length-rooms (IsFileIn form.file_system image) form.file_system volume.files told.told.files told.told.are)
-    good told.told.are s.files_are in
+    none_left_out (IsInner 3) form.file_system image pads volume.files told.told.files s.again
+    (length-all (IsFileIn form.file_system image) form.file_system image from volume.files told.told.files told.told.are) fits good told.told.are s.files_are in
     let stand : map (λ (f : FfsFile). f.at) r.volume.files ≡ places from all =
-    r.places ∙ stand_again (IsInner 3) image form.file_system from volume.files told.told.files s.again (first_even form name) good told.told.are s.files_are in
+    r.places ∙ stand_again (IsInner 3) image form.file_system from volume.files told.told.files s.again bytes (first_even form name) good inside told.told.are s.files_are in
     let same_len : length (volume_bytes form name one.files volume.len) ≡ volume.len = ap length m.bytes_are ∙ r.long in
     let room = (sound form.file_system (front_len form name) one.files volume.len m.sound).room in
     let least = (fits_header form.header_len sized.header).least in
     let back : name_in (volume_bytes form name one.files volume.len) (guid_of name) ≡ name =
     name_again form name one.files volume.len same_len head.least least head.name.placed whole_called (omega (arith, room)) (omega (arith, sized.most)) in
+    let laid_there : StandIn form.file_system again (front_len form name) one.files =
+    subst (λ (b : List ℕ). StandIn form.file_system b (front_len form name) one.files) m.bytes_are (files_stand form name one.files volume.len least head.name.placed whole_called) in
     record {
       volume = r.volume;
       is_volume = r.is_volume;
@@ -137,6 +155,8 @@ made_again image text again told bytes most s built =
       are_read = subst (λ (fs : List NewFile). AreEach (IsFileRead again) fs r.volume.files) left r.are_files;
       stand = stand;
       kept = λ leave. stand ∙ kept from all leave ∙ rooms_at (IsFileIn form.file_system image) form.file_system volume.files told.told.files told.told.are;
+      pads = pads_stand (IsInner 3) image again form.file_system from volume.files told.told.files s.again bytes (first_even form name) good inside told.told.are s.files_are
+          (stand_up form.file_system again (front_len form name) one.files laid_there);
     }
 
 -- and where it is refused

@@ -1,5 +1,5 @@
 -- The files that are told of bytes are of bytes.
-use Rattle.std.proofs.Common.{◌≡◌, ℕ, ◌+◌, ◌<◌, ◌^◌, Bool, true, false, cond, List, [], ◌∷◌, length, map, take, drop, Option, Some, None, Result, Ok, Err, refl, sym, ap, ◌∙◌, subst, arith, slice_index, All}
+use Rattle.std.proofs.Common.{◌≡◌, ℕ, ◌+◌, ◌<◌, ◌^◌, Bool, true, false, cond, List, [], ◌∷◌, length, map, take, drop, Option, Some, None, Ok, Err, refl, sym, ap, ◌∙◌, subst, arith, slice_index, All}
 use Rattle.std.specs.Prelude.{◌==◌, nat_lt, bit_and, bit_xor}
 use Rattle.std.specs.List.{AllByRecursion}
 use Rattle.std.proofs.lemmas.List.Elements.{All-nil, All-cons}
@@ -9,21 +9,19 @@ use Rattle.pi_base.specs.Field.{little_number}
 use Rattle.pi_base.proofs.FieldLaws.{little_number-lt}
 use Rattle.printed_words.specs.Words.{IsGuid}
 use Rattle.fv_section.specs.declared.section.Section.{Section}
-use Rattle.fv_section.specs.declared.fault.SecCause.{SecCause}
 use Rattle.fv_section.specs.declared.fault.SecCause.TheVariants.{Size, Compressed, GuidDefined}
-use Rattle.fv_section.specs.SectionHeader.{extended_header_at, header_at, section_of, section_at}
+use Rattle.fv_section.specs.SectionHeader.{header_at, section_of}
 use Rattle.fv_section.specs.Stream.{place_after, Leads}
 use Rattle.fv_volume.specs.declared.file.FfsFile.{FfsFile}
 use Rattle.fv_build.specs.declared.file_system.FileSystem.{FileSystem}
 use Rattle.fv_build.specs.declared.new_file.Body.{Body}
 use Rattle.fv_build.specs.declared.new_file.Body.TheVariants.{Sections, Bytes}
 use Rattle.fv_build.specs.declared.new_file.NewFile.{NewFile}
-use Rattle.fv_build.specs.declared.new_file.NewSection.{NewSection}
 use Rattle.fv_build.specs.declared.volume_header.VolumeForm.{VolumeForm}
 use Rattle.fv_build.specs.Reading.{AreEach}
-use Rattle.volume_print.specs.Description.{section_in, IsBodyIn, IsFileIn, file_system_in, told_attributes, form_in}
+use Rattle.volume_print.specs.Description.{section_in, IsBodyIn, IsFileIn, form_in}
 use Rattle.volume_again.specs.Again.{IsOfBytes, IsBodyOfBytes, IsFileOfBytes}
-use Rattle.volume_again.proofs.ListedFiles.{taken_bytes, left_bytes}
+use Rattle.volume_again.proofs.ByteRuns.{taken_bytes, left_bytes}
 use Rattle.volume_again.proofs.StandAgain.{IsListedFile}
 
 -- the type of a header, which has no public name

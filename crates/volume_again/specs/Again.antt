@@ -1,5 +1,5 @@
 -- A volume that is read of the text of another one.
-use Rattle.std.specs.Prelude.{◌≡◌, ◌⊎◌, ℕ, ◌<◌, ◌^◌, ⊤, List, [], ◌∷◌, ◌++◌, length, map, Option, Some, None, Ok, All, true}
+use Rattle.std.specs.Prelude.{◌≡◌, ◌⊎◌, ℕ, ◌<◌, ◌^◌, ⊤, List, [], ◌∷◌, ◌++◌, length, Option, Some, None, Ok, All, true}
 use Rattle.hex.specs.Hex.{IsBytes}
 use Rattle.printed_words.specs.Words.{IsGuid}
 use Rattle.fv_build.specs.declared.new_file.NewFile.{NewFile}
@@ -10,7 +10,7 @@ use Rattle.fv_build.specs.declared.volume_header.VolumeForm.{VolumeForm}
 use Rattle.fv_build.specs.declared.volume_name.VolumeName.{VolumeName}
 use Rattle.fv_build.specs.Reading.{AreEach}
 use Rattle.volume_text.specs.declared.volume.OpenVolume.{OpenVolume}
-use Rattle.volume_text.specs.Open.{pad_file, built_of}
+use Rattle.volume_text.specs.Open.{built_of}
 use Rattle.volume_text.specs.Text.{Describes, Says, Leads}
 use Rattle.volume_print.specs.Spelling.{holds_volume, host_of}
 
@@ -51,14 +51,14 @@ pub record IsFileAgain (Inner : List ℕ → List ℕ → Type 0) (file again : 
   pub body : IsBodyAgain Inner file file.body again.body
 
 -- files, each behind its pads
-abbrev pub among : List (List ℕ) → List NewFile → List NewFile
+abbrev pub among : List (List NewFile) → List NewFile → List NewFile
 among [] files = []
 among (pads ∷ others) [] = []
-among (pads ∷ others) (file ∷ files) = map pad_file pads ++ (file ∷ among others files)
+among (pads ∷ others) (file ∷ files) = pads ++ (file ∷ among others files)
 
 -- a text describes a volume of this form, length and name with these files again, each behind these pads, and leads to its bytes where nothing stands
 -- against it
-pub record SaysAgain (Inner : List ℕ → List ℕ → Type 0) (form : VolumeForm) (len : ℕ) (name : Option VolumeName) (pads : List (List ℕ)) (files : List NewFile)
+pub record SaysAgain (Inner : List ℕ → List ℕ → Type 0) (form : VolumeForm) (len : ℕ) (name : Option VolumeName) (pads : List (List NewFile)) (files : List NewFile)
     (text : List ℕ) : Type 0 where
   pub volume : OpenVolume
   pub again : List NewFile

@@ -44,7 +44,7 @@ pub fn text_again()
 {}
 
 /// The text of a volume of up to 64 MiB, with a name or without, says a volume of the same form, length and name with the same files, each behind
-/// the pads that bring it to its place, and leads to its bytes where nothing stands against that volume. Files are the same by their types, names,
+/// the pads that bring it to its place, with the names and the bodies that stand there, and leads to its bytes where nothing stands against that volume. Files are the same by their types, names,
 /// attributes and sections, or their bodies; a volume that stands inside as text is there again as the one that is made of its text, of the same length.
 pub fn read_again()
     ensures { (bytes text : List ℕ) (told : IsTextOf bytes text) → AreBytes bytes → told.volume.len ≤ MOST_LEN
@@ -54,7 +54,7 @@ pub fn read_again()
 }
 
 /// The volume that is made of such a text is found again by a reader: its form, its length, its name and the place of that, and its files, each at its
-/// place.
+/// place. In front of them stand pads with the names and the bodies that stood there, at the same offset.
 pub fn made_of_its_text()
     ensures { (bytes text again : List ℕ) (told : IsTextOf bytes text) → AreBytes bytes → told.volume.len ≤ MOST_LEN
         → Leads text again → IsMadeAgain bytes text told again }

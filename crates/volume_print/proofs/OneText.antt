@@ -1,5 +1,5 @@
 -- A volume has one text.
-use Rattle.std.proofs.Common.{◌≡◌, ◌⊎◌, inl, inr, ℕ, zero, suc, ◌%◌, Bool, true, false, ◌&&◌, List, [], ◌∷◌, ◌++◌, length, map, take, drop, Option, Some, None, refl, sym, ap, ◌∙◌, subst, arith}
+use Rattle.std.proofs.Common.{◌≡◌, inl, inr, ℕ, zero, suc, ◌%◌, Bool, true, false, ◌&&◌, List, [], ◌∷◌, ◌++◌, length, map, take, drop, Option, Some, None, refl, sym, ap, ◌∙◌, subst, arith}
 use Rattle.std.proofs.lemmas.Bool.{and_parts}
 use Rattle.std.proofs.lemmas.Bool.Decides.{nat_tests}
 use Rattle.std.proofs.lemmas.Option.{same_Some}
@@ -26,7 +26,7 @@ use Rattle.act_code.specs.declared.script.Script.{Script}
 use Rattle.act_code.specs.Script.{IsScript}
 use Rattle.volume_text.specs.Text.{Leads}
 use Rattle.volume_print.specs.declared.form.Host.{Host}
-use Rattle.volume_print.specs.Spelling.{SaysExpression, is_a_priori, is_guid_list, holds_volume, expression_line, script_lines, IsSectionText, as_volume, as_expression, as_guids, as_script, as_bytes, AreSectionTexts, whole, with_pads, IsBodyText, head_line, host_of, IsFileText, volume_line, name_line, IsVolumeText}
+use Rattle.volume_print.specs.Spelling.{SaysExpression, is_a_priori, is_guid_list, holds_volume, expression_line, script_lines, IsSectionText, as_volume, as_expression, as_guids, as_script, as_bytes, AreSectionTexts, whole, with_pads, IsBodyText, head_line, host_of, IsFileText, volume_line, name_line}
 use Rattle.volume_print.specs.Description.{section_in, LieAsBuilt, IsNoStream, IsBodyIn, IsFileIn, form_in, name_in, IsSpelled, pads_of, IsTextBy, IsInner, IsTextOf}
 use Rattle.volume_print.specs.Finding.{depex_phase, FindsVolume, FindsText, TellsVolume}
 use Rattle.volume_print.proofs.Forms.{phase_of, no_phase}
@@ -164,7 +164,7 @@ text_by_one laws Inner one image volume a b x y =
     let file_system = (form_in image).file_system in
     let files : y.files ≡ x.files = each_one (IsFileIn file_system image) (file_one laws file_system image) volume.files y.files x.files y.are x.are in
     let called = name_in image volume.name in
-    let pads = pads_of (form_in image) called volume x.files in
+    let pads = pads_of image volume x.files in
     let told : IsSpelled Inner image volume x.files b = subst (λ (fs : List NewFile). IsSpelled Inner image volume fs b) files y.spelled in
     let first = x.spelled in
     let texts : first.0 ≡ told.0 = each_one (IsFileText Inner) (file_text_one laws Inner one) x.files first.0 told.0 first.1 told.1 in

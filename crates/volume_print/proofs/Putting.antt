@@ -1,5 +1,5 @@
 -- Texts that are put.
-use Rattle.std.proofs.Common.{◌≡◌, ℕ, zero, suc, ◌+◌, ◌-◌, ◌<◌, ◌≤◌, Bool, true, false, decimal, List, [], ◌∷◌, ◌++◌, length, map, take, drop, get_or, flat_map, Some, None, refl, sym, ap, ◌∙◌, subst, append_assoc, arith}
+use Rattle.std.proofs.Common.{◌≡◌, ℕ, zero, suc, ◌+◌, ◌<◌, ◌≤◌, Bool, true, false, decimal, List, [], ◌∷◌, ◌++◌, length, map, take, drop, get_or, flat_map, Some, None, refl, sym, ap, ◌∙◌, subst, append_assoc, arith}
 use Rattle.std.proofs.lemmas.Bool.{eqb-true}
 use Rattle.std.proofs.lemmas.Bool.Decides.{nat_tests}
 use Rattle.std.proofs.lemmas.List.{append-nil, take_more}
@@ -19,7 +19,7 @@ use Rattle.fv_build.specs.Sections.{body_bytes}
 use Rattle.fv_volume.specs.Frame.{aligned}
 use Rattle.fv_build.specs.Reading.{AreEach}
 use Rattle.volume_print.proofs.Lists.{each_more, texts_more, whole_more, map_more}
-use Rattle.volume_print.proofs.Rooms.{each_long, rooms_more, length-rooms, length-pads, behind_more, pads_more, with_more, stretch_held, behind_held, next_held}
+use Rattle.volume_print.proofs.Rooms.{each_long, rooms_more, length-rooms, length-pads, behind_more, pads_more, with_more, between_held, behind_held, next_held}
 use Rattle.fv_section.specs.declared.section.Section.{Section}
 use Rattle.fv_build.specs.declared.new_file.NewFile.{NewFile}
 use Rattle.fv_build.specs.declared.new_file.NewSection.{NewSection}
@@ -28,12 +28,11 @@ use Rattle.volume_print.specs.declared.form.Form.{Form}
 use Rattle.volume_print.specs.declared.form.Form.TheVariants as form
 use Rattle.volume_text.specs.Text.{Leads}
 use Rattle.volume_print.specs.declared.form.Host.{Host}
-use Rattle.volume_print.specs.Spelling.{holds_volume, as_volume, as_expression, as_guids, as_script, as_bytes, body_line, head_line, name_line, volume_line, attribute_words, number_words, whole, pad_line, with_pads, IsSectionText, AreSectionTexts, IsFileText}
+use Rattle.volume_print.specs.Spelling.{holds_volume, as_volume, as_expression, as_guids, as_script, as_bytes, body_line, head_line, name_line, volume_line, attribute_words, number_words, whole, pad_text, with_pads, IsSectionText, AreSectionTexts, IsFileText}
 use Rattle.volume_print.specs.Description.{section_in, form_in, name_in, pads_of, IsStream, IsBodyIn, IsFileIn, IsTextBy, IsInner}
 use Rattle.volume_print.specs.Finding.{form_text, FindsVolume, FindsText, TellsVolume, IsPlainForm, IsForm, AddsSection, AddsSections, AddsBody, AddsFile, AddsFiles, held}
-use Rattle.volume_print.specs.Places.{Room, room_of, rooms, pads_in, stands, behind_all, pads_before}
+use Rattle.volume_print.specs.Places.{Room, room_of, rooms, between, pads_in, stands, behind_all, pads_before}
 use Rattle.fv_build.specs.Front.{first_place}
-use Rattle.fv_build.specs.declared.volume_name.VolumeName.{VolumeName}
 
 -- a section in a form has the form's text
 pub in_form : (Inner : List ℕ → List ℕ → Type 0) (host : Host) (before : List NewSection) (section : NewSection) (f : Form) → IsForm Inner host before section f
@@ -93,14 +92,14 @@ bytes_added Inner host stream old new file_system is grown len long fits =
 -- a file's text was put
 pub file_added : (Inner : List ℕ → List ℕ → Type 0) (file_system : FileSystem) (image : List ℕ) (found : FfsFile) (from next : ℕ) (attributes : FileAttributes) (stream old padded mid new : List ℕ) (len : ℕ)
     → attributes ≡ attributes_in (slice_index image (found.at + 19))
-    → stream ≡ take found.body_len (drop found.body_at image) → padded ≡ old ++ flat_map pad_line (pads_in (found.at - from))
+    → stream ≡ take found.body_len (drop found.body_at image) → padded ≡ old ++ flat_map pad_text (pads_in (between image from found.at))
     → mid ≡ padded ++ head_line found.kind found.name attributes
     → AddsBody Inner file_system (record { kind = found.kind; name = found.name }) stream mid new len → found.at ≤ 18446744073709551615
     → next ≡ held (aligned (stands from found.at + held (file_size file_system len))) → AddsFile Inner file_system image found from next old new
 file_added Inner file_system image found from next attributes stream old padded mid new len are is before head adds fits after =
     let file : NewFile = record { name = found.name; kind = found.kind; attributes = attributes; body = adds.body } in
     let line = head_line found.kind found.name attributes in
-    let pads = flat_map pad_line (pads_in (found.at - from)) in
+    let pads = flat_map pad_text (pads_in (between image from found.at)) in
     record {
       file = file;
       is = record { name = refl; kind = refl; attributes = are; body = subst (λ (s : List ℕ). IsBodyIn file_system found.kind s adds.body) is adds.is };
@@ -125,26 +124,27 @@ files_more Inner file_system image all place d first from next old now new withi
     let before = take place all in
     let room = room_of file_system found adds.file in
     let some = rooms file_system before told.files in
-    let pads = pads_before first some in
+    let pads = pads_before image first some in
     let true_from = behind_all first some in
     let more : rooms file_system (take (place + 1) all) (told.files ++ adds.file ∷ []) ≡ some ++ room ∷ [] =
     ap (λ (fs : List FfsFile). rooms file_system fs (told.files ++ adds.file ∷ [])) (take_more all place d within)
     ∙ rooms_more (IsFileIn file_system image) file_system before told.files found adds.file told.are in
-    let stretch : found.at - from ≡ found.at - true_from = stretch_held found.at from true_from adds.fits told.next_is in
+    let stretch : between image from found.at ≡ between image true_from found.at = between_held image found.at from true_from adds.fits told.next_is in
     let long : length pads ≡ length told.texts =
-    length-pads first some ∙ length-rooms (IsFileIn file_system image) file_system before told.files told.are ∙ each_long (IsFileText Inner) told.files told.texts told.told in
+    length-pads image first some ∙ length-rooms (IsFileIn file_system image) file_system before told.files told.are ∙ each_long (IsFileText Inner) told.files told.texts told.told in
     let spelled = with_pads pads told.texts in
-    let last = flat_map pad_line (pads_in (found.at - true_from)) ++ adds.text in
+    let filled = pads_in (between image true_from found.at) in
+    let last = flat_map pad_text filled ++ adds.text in
     record {
       files = told.files ++ adds.file ∷ [];
       texts = told.texts ++ adds.text ∷ [];
       are = subst (λ (fs : List FfsFile). AreEach (IsFileIn file_system image) fs (told.files ++ adds.file ∷ [])) (sym (take_more all place d within))
           (each_more (IsFileIn file_system image) before told.files found adds.file told.are adds.is);
       told = each_more (IsFileText Inner) told.files told.texts adds.file adds.text told.told adds.told;
-      grown = adds.grown ∙ ap (λ n. now ++ (flat_map pad_line (pads_in n) ++ adds.text)) stretch ∙ ap (λ xs. xs ++ last) told.grown ∙ append_assoc old spelled last
-          ∙ ap (λ xs. old ++ xs) (sym (ap (λ (rs : List Room). with_pads (pads_before first rs) (told.texts ++ adds.text ∷ [])) more
-          ∙ ap (λ ps. with_pads ps (told.texts ++ adds.text ∷ [])) (pads_more first some room)
-          ∙ with_more pads told.texts (pads_in (found.at - true_from)) adds.text long));
+      grown = adds.grown ∙ ap (λ s. now ++ (flat_map pad_text (pads_in s) ++ adds.text)) stretch ∙ ap (λ xs. xs ++ last) told.grown ∙ append_assoc old spelled last
+          ∙ ap (λ xs. old ++ xs) (sym (ap (λ (rs : List Room). with_pads (pads_before image first rs) (told.texts ++ adds.text ∷ [])) more
+          ∙ ap (λ ps. with_pads ps (told.texts ++ adds.text ∷ [])) (pads_more image first some room)
+          ∙ with_more pads told.texts filled adds.text long));
       next_is = adds.next_is ∙ behind_held from true_from room adds.fits told.next_is ∙ ap held (sym (behind_more first some room)) ∙ ap (λ (rs : List Room). held (behind_all first rs)) (sym more);
     }
 
@@ -214,7 +214,7 @@ pub text_put : (Inner : List ℕ → List ℕ → Type 0) (image : List ℕ) (vo
     → named ≡ head ++ name_line (name_in image volume.name) → AddsFiles Inner (form_in image).file_system image volume.files (first_place (form_in image) (name_in image volume.name)) next named filed
     → new ≡ filed ++ codes "end\n" → IsTextBy Inner image volume new
 text_put Inner image volume next head named filed new first second files last =
-    let spelled = with_pads (pads_of (form_in image) (name_in image volume.name) volume files.files) files.texts in
+    let spelled = with_pads (pads_of image volume files.files) files.texts in
     record {
       files = files.files;
       are = files.are;

@@ -1,5 +1,5 @@
 -- Rooms of files with one more, and places that stand still at 2^64 - 1.
-use Rattle.std.proofs.Common.{◌≡◌, inl, inr, ℕ, zero, suc, ◌+◌, ◌-◌, ◌*◌, ◌/◌, ◌<◌, ◌≤◌, Bool, true, false, cond, min, List, [], ◌∷◌, ◌++◌, length, map, take, drop, get_or, replicate, flat_map, refl, sym, ap, ◌∙◌, append_assoc, arith}
+use Rattle.std.proofs.Common.{◌≡◌, inl, inr, ℕ, ◌+◌, ◌-◌, ◌<◌, ◌≤◌, Bool, true, false, cond, List, [], ◌∷◌, ◌++◌, length, map, take, drop, get_or, flat_map, refl, sym, ap, ◌∙◌, append_assoc, arith}
 use Rattle.std.proofs.lemmas.Bool.{cases_lt}
 use Rattle.std.proofs.lemmas.List.{append-nil, length-take-le, length-drop}
 use Rattle.std.specs.Prelude.{nat_lt}
@@ -17,8 +17,8 @@ use Rattle.fv_section.specs.Stream.{AreInside}
 use Rattle.volume_print.specs.Description.{section_in}
 use Rattle.volume_print.proofs.Lists.{map_more}
 use Rattle.volume_print.specs.Finding.{held}
-use Rattle.volume_print.specs.Places.{Room, room_of, rooms, pads_in, stands, behind, behind_all, pads_before}
-use Rattle.volume_print.specs.Spelling.{pad_line, with_pads}
+use Rattle.volume_print.specs.Places.{Room, room_of, rooms, between, pads_in, stands, behind, behind_all, pads_before}
+use Rattle.volume_print.specs.Spelling.{pad_text, with_pads}
 
 -- as many
 pub each_long : {A B : Type 0} (Is : A → B → Type 0) (xs : List A) (ys : List B) → AreEach Is xs ys → length xs ≡ length ys
@@ -33,9 +33,9 @@ length-rooms Is file_system [] (file ∷ files) all = absurd all
 length-rooms Is file_system (one ∷ found) [] all = absurd all
 length-rooms Is file_system (one ∷ found) (file ∷ files) all = omega (arith, length-rooms Is file_system found files all.1)
 
-pub length-pads : (from : ℕ) (all : List Room) → length (pads_before from all) ≡ length all
-length-pads from [] = refl
-length-pads from (room ∷ all) = omega (arith, length-pads (behind from room) all)
+pub length-pads : (image : List ℕ) (from : ℕ) (all : List Room) → length (pads_before image from all) ≡ length all
+length-pads image from [] = refl
+length-pads image from (room ∷ all) = omega (arith, length-pads image (behind from room) all)
 
 -- one more
 pub rooms_more : (Is : FfsFile → NewFile → Type 0) (file_system : FileSystem) (found : List FfsFile) (files : List NewFile) (one : FfsFile) (file : NewFile) → AreEach Is found files
@@ -49,24 +49,35 @@ pub behind_more : (from : ℕ) (all : List Room) (room : Room) → behind_all fr
 behind_more from [] room = refl
 behind_more from (first ∷ all) room = behind_more (behind from first) all room
 
-pub pads_more : (from : ℕ) (all : List Room) (room : Room) → pads_before from (all ++ room ∷ []) ≡ pads_before from all ++ pads_in (room.at - behind_all from all) ∷ []
-pads_more from [] room = refl
-pads_more from (first ∷ all) room = ap (λ (ps : List (List ℕ)). pads_in (first.at - from) ∷ ps) (pads_more (behind from first) all room)
+pub pads_more : (image : List ℕ) (from : ℕ) (all : List Room) (room : Room)
+    → pads_before image from (all ++ room ∷ []) ≡ pads_before image from all ++ pads_in (between image (behind_all from all) room.at) ∷ []
+pads_more image from [] room = refl
+pads_more image from (first ∷ all) room = ap (λ (ps : List (List NewFile)). pads_in (between image from first.at) ∷ ps) (pads_more image (behind from first) all room)
 
-pub with_more : (all texts : List (List ℕ)) (pads text : List ℕ) → length all ≡ length texts
-    → with_pads (all ++ pads ∷ []) (texts ++ text ∷ []) ≡ with_pads all texts ++ (flat_map pad_line pads ++ text)
-with_more [] [] pads text long = ap (λ t. flat_map pad_line pads ++ t) (append-nil text)
+pub with_more : (all : List (List NewFile)) (texts : List (List ℕ)) (pads : List NewFile) (text : List ℕ) → length all ≡ length texts
+    → with_pads (all ++ pads ∷ []) (texts ++ text ∷ []) ≡ with_pads all texts ++ (flat_map pad_text pads ++ text)
+with_more [] [] pads text long = ap (λ t. flat_map pad_text pads ++ t) (append-nil text)
 with_more [] (t ∷ texts) pads text long = absurd (omega (arith, long))
 with_more (p ∷ all) [] pads text long = absurd (omega (arith, long))
 with_more (p ∷ all) (t ∷ texts) pads text long =
-    let lines = flat_map pad_line p in
-    let last = flat_map pad_line pads ++ text in
+    let lines = flat_map pad_text p in
+    let last = flat_map pad_text pads ++ text in
     ap (λ (x : List ℕ). lines ++ (t ++ x)) (with_more all texts pads text (omega (arith, long)))
     ∙ ap (λ (x : List ℕ). lines ++ x) (sym (append_assoc t (with_pads all texts) last)) ∙ sym (append_assoc lines (t ++ with_pads all texts) last)
 
 -- places that stand still
 pub stretch_held : (at from place : ℕ) → at ≤ 18446744073709551615 → from ≡ held place → at - from ≡ at - place
 stretch_held at from place fits is = omega (arith, fits, is)
+
+pub between_held : (image : List ℕ) (at from place : ℕ) → at ≤ 18446744073709551615 → from ≡ held place → between image from at ≡ between image place at
+between_held image at from place fits is =
+    elim (cases_lt 18446744073709551615 place) [
+      | inl past ↦
+          let none : at - from ≡ 0 = omega (arith, past, fits, is) in
+          let neither : at - place ≡ 0 = omega (arith, past, fits) in
+          ap (λ n. take n (drop from image)) none ∙ sym (ap (λ n. take n (drop place image)) neither)
+      | inr within ↦ ap (λ n. between image n at) (omega (arith, within, is))
+    ]
 
 by_test : (test : Bool) (from place at : ℕ) → at ≤ 18446744073709551615 → from ≡ held place → cond test from at ≡ held (cond test place at)
 by_test true from place at fits is = is
@@ -108,8 +119,3 @@ sections_longer file_system stream all i d end place size next within inside e p
     ap (λ xs. length (body_bytes file_system xs)) (map_more (section_in stream) all i d within) ∙ length-body_more file_system before (section_in stream one)
     ∙ ap (λ m. length (body_bytes file_system before) + gap 4 (length (body_bytes file_system before)) + section_size file_system m) body in
     saturated 18446744073709551615 (length (body_bytes file_system before)) end (gap 4) place size (section_size file_system one.body_len) next e p s n ∙ ap held (sym more)
-
--- a line more of the same pad
-pub repeat_more : (spell : ℕ → List ℕ) (n x : ℕ) → flat_map spell (replicate (suc n) x) ≡ flat_map spell (replicate n x) ++ spell x
-repeat_more spell zero x = append-nil (spell x)
-repeat_more spell (suc n) x = ap (λ (t : List ℕ). spell x ++ t) (repeat_more spell n x) ∙ sym (append_assoc (spell x) (flat_map spell (replicate n x)) (spell x))

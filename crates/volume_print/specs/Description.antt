@@ -92,16 +92,16 @@ name_in bytes None = None
 name_in bytes (Some guid) =
     if nat_lt (length bytes) LEAST_LEN then None else name_at bytes guid (little_number 2 (drop EXT_HEADER_OFFSET_AT bytes))
 
--- the pads in front of each file of a volume, which bring it to its place where it is built again
-abbrev pub pads_of : VolumeForm → Option VolumeName → Volume → List NewFile → List (List ℕ)
-pads_of form name volume files = pads_before (first_place form name) (rooms form.file_system volume.files files)
+-- the pads in front of each file of a volume that is read of the bytes: they have the names and the bodies that stand there, and bring the file to its
+-- place where it is built again
+abbrev pub pads_of : List ℕ → Volume → List NewFile → List (List NewFile)
+pads_of bytes volume files =
+    let form = form_in bytes in pads_before bytes (first_place form (name_in bytes volume.name)) (rooms form.file_system volume.files files)
 
 -- the text of a volume that is read of the bytes, with these files, by what volumes inside have as their texts
 abbrev pub IsSpelled : (List ℕ → List ℕ → Type 0) → List ℕ → Volume → List NewFile → List ℕ → Type 0
 IsSpelled Inner bytes volume files text =
-    let form = form_in bytes in
-    let name = name_in bytes volume.name in
-    IsVolumeText Inner form volume.len name (pads_of form name volume files) files text
+    IsVolumeText Inner (form_in bytes) volume.len (name_in bytes volume.name) (pads_of bytes volume files) files text
 
 -- the text of a volume that is read of the bytes, by what volumes inside have as their texts
 pub record IsTextBy (Inner : List ℕ → List ℕ → Type 0) (bytes : List ℕ) (volume : Volume) (text : List ℕ) : Type 0 where

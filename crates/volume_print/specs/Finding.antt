@@ -22,9 +22,9 @@ use Rattle.fv_build.specs.declared.new_file.Body.{Body}
 use Rattle.fv_build.specs.declared.file_system.FileSystem.{FileSystem}
 use Rattle.fv_build.specs.Files.{bytes_in}
 use Rattle.fv_build.specs.Reading.{AreEach}
-use Rattle.volume_print.specs.Spelling.{IsExpressionOf, SaysExpression, is_guid_list, SaysScript, SaysVolume, IsSectionText, AreSectionTexts, IsBodyText, IsFileText, expression_line, guids_line, script_lines, section_line, whole, pad_line, with_pads}
+use Rattle.volume_print.specs.Spelling.{IsExpressionOf, SaysExpression, is_guid_list, SaysScript, SaysVolume, IsSectionText, AreSectionTexts, IsBodyText, IsFileText, expression_line, guids_line, script_lines, section_line, whole, pad_text, with_pads}
 use Rattle.volume_print.specs.Description.{IsBodyIn, IsFileIn}
-use Rattle.volume_print.specs.Places.{room_of, rooms, pads_in, behind, behind_all, pads_before}
+use Rattle.volume_print.specs.Places.{room_of, rooms, between, pads_in, behind, behind_all, pads_before}
 
 -- the expression that bytes are, or none
 abbrev pub FindsExpression : Phase → List ℕ → Option Depex → Type 0
@@ -119,7 +119,7 @@ pub record AddsFile (Inner : List ℕ → List ℕ → Type 0) (file_system : Fi
   pub is : IsFileIn file_system bytes found file
   pub text : List ℕ
   pub told : IsFileText Inner file text
-  pub grown : new ≡ old ++ (flat_map pad_line (pads_in (found.at - from)) ++ text)
+  pub grown : new ≡ old ++ (flat_map pad_text (pads_in (between bytes from found.at)) ++ text)
   pub fits : found.at ≤ 2 ^ 64 - 1
   pub next_is : next ≡ held (behind from (room_of file_system found file))
 
@@ -129,5 +129,5 @@ pub record AddsFiles (Inner : List ℕ → List ℕ → Type 0) (file_system : F
   pub texts : List (List ℕ)
   pub are : AreEach (IsFileIn file_system bytes) found files
   pub told : AreEach (IsFileText Inner) files texts
-  pub grown : new ≡ old ++ with_pads (pads_before from (rooms file_system found files)) texts
+  pub grown : new ≡ old ++ with_pads (pads_before bytes from (rooms file_system found files)) texts
   pub next_is : next ≡ held (behind_all from (rooms file_system found files))

@@ -1,12 +1,16 @@
 -- Where the files of a volume stand, and the pad files that bring them there where they are built again (own).
-use Rattle.std.specs.Prelude.{ℕ, ◌+◌, ◌-◌, ◌/◌, ◌%◌, ◌≤◌, ◌≡◌, ◌⊎◌, ⊤, nat_lt, if◌then◌else◌, List, [], ◌∷◌, ◌++◌, length, replicate}
+use Rattle.std.specs.Prelude.{ℕ, ◌+◌, ◌-◌, ◌/◌, ◌≤◌, ◌≡◌, ◌⊎◌, ⊤, zero, suc, nat_lt, if◌then◌else◌, List, [], ◌∷◌, length, map, take, drop}
+use Rattle.pi_base.specs.Guids.{guid_at}
 use Rattle.fv_volume.specs.declared.file.FfsFile.{FfsFile}
 use Rattle.fv_volume.specs.declared.file_header.TheConstants.{HEADER_LEN as FILE_HEADER_LEN}
+use Rattle.fv_volume.specs.declared.file_type.TheConstants.{PAD}
 use Rattle.fv_volume.specs.Frame.{aligned}
+use Rattle.fv_build.specs.Attributes.{plain_attributes}
 use Rattle.fv_build.specs.declared.file_system.FileSystem.{FileSystem}
 use Rattle.fv_build.specs.declared.new_file.NewFile.{NewFile}
+use Rattle.fv_build.specs.declared.new_file.Body.TheVariants.{Bytes}
 use Rattle.fv_build.specs.Files.{bytes_in, file_size}
-use Rattle.volume_print.specs.declared.place.TheConstants.{LONG_PAD}
+use Rattle.volume_print.specs.declared.pad.TheConstants.{LONG_PAD}
 
 -- where a file stands in its volume, and how many bytes it takes where it is built
 pub record Room : Type 0 where
@@ -23,11 +27,25 @@ rooms file_system [] files = []
 rooms file_system (found ∷ others) [] = []
 rooms file_system (found ∷ others) (file ∷ files) = room_of file_system found file ∷ rooms file_system others files
 
--- the bodies of the pad files that fill a stretch: none where it is shorter than a file's header, or as many long ones as there are and one of what is left
-abbrev pub pads_in : ℕ → List ℕ
+-- the bytes from a place to another one
+abbrev pub between : List ℕ → ℕ → ℕ → List ℕ
+between bytes from to = take (to - from) (drop from bytes)
+
+-- a pad file as long as a piece of a stretch: its name and its body are the bytes that stand there
+abbrev pub pad_of : List ℕ → NewFile
+pad_of piece = record { name = guid_at piece 0; kind = PAD; attributes = plain_attributes; body = Bytes (drop FILE_HEADER_LEN piece) }
+
+-- so many long pieces of a stretch, and what is left
+abbrev pub pieces : ℕ → List ℕ → List (List ℕ)
+pieces zero stretch = stretch ∷ []
+pieces (suc long) stretch = take LONG_PAD stretch ∷ pieces long (drop LONG_PAD stretch)
+
+-- the pad files that fill a stretch: none where it is shorter than a file's header, or one for each of as many long pieces as leave such a header's bytes,
+-- and one for what is left
+abbrev pub pads_in : List ℕ → List NewFile
 pads_in stretch =
-    if nat_lt stretch FILE_HEADER_LEN then []
-    else replicate ((stretch - FILE_HEADER_LEN) / LONG_PAD) (LONG_PAD - FILE_HEADER_LEN) ++ ((stretch - FILE_HEADER_LEN) % LONG_PAD) ∷ []
+    if nat_lt (length stretch) FILE_HEADER_LEN then []
+    else map pad_of (pieces ((length stretch - FILE_HEADER_LEN) / LONG_PAD) stretch)
 
 -- where a file stands that may stand from a place on: where it stood, if pads fill the stretch up to there, and else at once
 abbrev pub stands : ℕ → ℕ → ℕ
@@ -42,10 +60,10 @@ abbrev pub behind_all : ℕ → List Room → ℕ
 behind_all from [] = from
 behind_all from (room ∷ rooms) = behind_all (behind from room) rooms
 
--- the pads in front of each of the files that stand from a place on
-abbrev pub pads_before : ℕ → List Room → List (List ℕ)
-pads_before from [] = []
-pads_before from (room ∷ rooms) = pads_in (room.at - from) ∷ pads_before (behind from room) rooms
+-- the pads in front of each of the files that stand from a place of the bytes on: they fill the stretch up to where the file stood
+abbrev pub pads_before : List ℕ → ℕ → List Room → List (List NewFile)
+pads_before bytes from [] = []
+pads_before bytes from (room ∷ rooms) = pads_in (between bytes from room.at) ∷ pads_before bytes (behind from room) rooms
 
 -- where each of them stands
 abbrev pub places : ℕ → List Room → List ℕ

@@ -1,7 +1,7 @@
 -- The text of a volume by its files (own): a line for each thing that the language of `volume_text` has, its words with single spaces between.
 -- `Inner` says which bytes stand inside as a volume, and with which text.
 use Rattle.std.specs.Prelude.{◌≡◌, ℕ, ◌%◌, ⊤, Bool, true, false, ◌&&◌, ◌||◌, ◌==◌, if◌then◌else◌, List, [], ◌∷◌, ◌++◌, length, codes, decimal, flat_map, Option, Some, None}
-use Rattle.std.specs.List.{list_any}
+use Rattle.std.specs.List.{list_all, list_any}
 use Rattle.hex.specs.Hex.{encode_lower}
 use Rattle.pi_base.specs.declared.guid.Guid.{Guid}
 use Rattle.pi_base.specs.declared.phase.Phase.{Phase}
@@ -9,7 +9,7 @@ use Rattle.pi_base.specs.declared.phase.Phase.TheVariants.{Pei, Dxe}
 use Rattle.pi_base.specs.declared.guid.TheConstants.{GUID_LEN}
 use Rattle.pi_base.specs.Guids.{same_guid}
 use Rattle.pi_base.specs.WordText.{guid_text, hexadecimal}
-use Rattle.fv_volume.specs.declared.file_type.TheConstants.{RAW, FREEFORM, PEIM, DRIVER, COMBINED_PEIM_DRIVER, VOLUME_IMAGE, COMBINED_MM_DXE}
+use Rattle.fv_volume.specs.declared.file_type.TheConstants.{RAW, FREEFORM, PEIM, DRIVER, COMBINED_PEIM_DRIVER, VOLUME_IMAGE, COMBINED_MM_DXE, PAD}
 use Rattle.fv_section.specs.declared.section_type.TheConstants.{RAW as RAW_SECTION, VOLUME_IMAGE as VOLUME_SECTION}
 use Rattle.fv_build.specs.declared.file_system.FileSystem.{FileSystem}
 use Rattle.fv_build.specs.declared.file_system.FileSystem.TheVariants.{Ffs2, Ffs3}
@@ -19,7 +19,8 @@ use Rattle.fv_build.specs.declared.volume_name.VolumeName.{VolumeName}
 use Rattle.fv_build.specs.declared.volume_name.TheConstants.{EXT_AT, EXT_HEADER_LEN}
 use Rattle.fv_build.specs.declared.attributes.Alignment.{Alignment}
 use Rattle.fv_build.specs.declared.attributes.FileAttributes.{FileAttributes}
-use Rattle.fv_build.specs.Attributes.{alignment_len}
+use Rattle.fv_build.specs.Attributes.{alignment_len, plain_attributes}
+use Rattle.fv_build.specs.Files.{bytes_in}
 use Rattle.fv_build.specs.declared.new_file.NewFile.{NewFile}
 use Rattle.fv_build.specs.declared.new_file.NewSection.{NewSection}
 use Rattle.fv_build.specs.declared.new_file.Body.{Body}
@@ -35,6 +36,7 @@ use Rattle.asm_text.specs.ExpressionText.{expression_text}
 use Rattle.asm_text.specs.ScriptText.{line, block_lines}
 use Rattle.volume_text.specs.Open.{depex_type, has_part, is_script_of}
 use Rattle.volume_print.specs.declared.form.Host.{Host}
+use Rattle.volume_print.specs.declared.pad.TheConstants.{ERASED}
 
 unfoldable pub phase_word : Phase → List ℕ
 phase_word Pei = codes "pei"
@@ -139,16 +141,6 @@ abbrev pub IsBodyText : (List ℕ → List ℕ → Type 0) → Host → Body →
 IsBodyText Inner host (Sections sections) text = (texts : List (List ℕ)) × AreSectionTexts Inner host [] sections texts × (text ≡ whole texts)
 IsBodyText Inner host (Bytes bytes) text = text ≡ body_line bytes
 
--- the line of a pad with so many bytes of body
-abbrev pub pad_line : ℕ → List ℕ
-pad_line len = line (codes "pad " ++ decimal len)
-
--- the texts of files, each behind the lines of the pads in front of it
-abbrev pub with_pads : List (List ℕ) → List (List ℕ) → List ℕ
-with_pads [] texts = []
-with_pads (pads ∷ others) [] = []
-with_pads (pads ∷ others) (text ∷ texts) = flat_map pad_line pads ++ (text ++ with_pads others texts)
-
 -- the words of a file's attributes, each behind a space
 abbrev pub fixed_words : Bool → List ℕ
 fixed_words fixed = if fixed then codes " fixed" else []
@@ -160,6 +152,29 @@ alignment_words alignment = if alignment_len alignment == 1 then [] else codes "
 abbrev pub head_line : ℕ → Guid → FileAttributes → List ℕ
 head_line kind name attributes =
     line (codes "file " ++ (type_word kind ++ (32 ∷ (guid_text name ++ (fixed_words attributes.fixed ++ alignment_words attributes.alignment)))))
+
+-- all of the bytes look erased
+abbrev pub are_erased : List ℕ → Bool
+are_erased bytes = list_all (λ byte. byte == ERASED) bytes
+
+-- the line of a pad with so many bytes of body that looks erased
+abbrev pub pad_line : ℕ → List ℕ
+pad_line len = line (codes "pad " ++ decimal len)
+
+-- the text of a pad with this name and this body: its body's length where both look erased, and else both, as those of any file
+abbrev pub pad_text_of : Guid → List ℕ → List ℕ
+pad_text_of name bytes =
+    if are_erased name.0 && are_erased bytes then pad_line (length bytes) else head_line PAD name plain_attributes ++ body_line bytes
+
+-- the text of a pad, whose body is bytes in either file system
+abbrev pub pad_text : NewFile → List ℕ
+pad_text pad = pad_text_of pad.name (bytes_in Ffs2 pad.body)
+
+-- the texts of files, each behind those of the pads in front of it
+abbrev pub with_pads : List (List NewFile) → List (List ℕ) → List ℕ
+with_pads [] texts = []
+with_pads (pads ∷ others) [] = []
+with_pads (pads ∷ others) (text ∷ texts) = flat_map pad_text pads ++ (text ++ with_pads others texts)
 
 abbrev pub host_of : NewFile → Host
 host_of file = record { kind = file.kind; name = file.name }
@@ -188,7 +203,7 @@ name_line (Some name) =
     line (codes "name " ++ (guid_text name.guid ++ (number_words (codes " at ") EXT_AT name.at ++ number_words (codes " size ") EXT_HEADER_LEN name.size)))
 
 -- the text of a volume of this form, length and name with these files, and with these pads in front of each of them
-abbrev pub IsVolumeText : (List ℕ → List ℕ → Type 0) → VolumeForm → ℕ → Option VolumeName → List (List ℕ) → List NewFile → List ℕ → Type 0
+abbrev pub IsVolumeText : (List ℕ → List ℕ → Type 0) → VolumeForm → ℕ → Option VolumeName → List (List NewFile) → List NewFile → List ℕ → Type 0
 IsVolumeText Inner form len name pads files text =
     (texts : List (List ℕ)) × AreEach (IsFileText Inner) files texts
     × (text ≡ volume_line form len ++ (name_line name ++ (with_pads pads texts ++ line (codes "end"))))

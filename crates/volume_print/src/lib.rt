@@ -7,6 +7,7 @@ mod file;
 mod form;
 mod inner;
 mod law;
+mod pad;
 mod place;
 mod section;
 mod text;

@@ -1,45 +1,15 @@
-// Where the files of a volume stand where they are built again, and the pads that bring them there.
-ghost use Rattle.std.specs.Prelude.{◌≡◌, ◌-◌, ◌^◌, ◌+◌, ◌++◌, length, map, min, OnOk};
-ghost use Rattle.std.specs.List.{flat_map};
+// Where the files of a volume stand where they are built again.
+ghost use Rattle.std.specs.Prelude.{◌≡◌, ◌-◌, ◌^◌, ◌+◌, length, map, min};
 ghost use Rattle.fv_section.specs.Stream.{AreInside};
 ghost use Rattle.fv_volume.specs.Frame.{aligned};
 ghost use Rattle.fv_build.specs.Sections.{body_bytes};
 ghost use Rattle.volume_print.specs.Description.{section_in};
-ghost use Rattle.volume_print.specs.Places.{pads_in, stands};
-ghost use Rattle.volume_print.specs.Spelling.{pad_line};
+ghost use Rattle.volume_print.specs.Places.{stands};
 
-use crate::word::put_decimal;
 use fv_build::{FileSystem, gap, section_size};
 use fv_section::Section;
 use fv_volume::ALIGNMENT;
 use fv_volume::file_header::HEADER_LEN as FILE_HEADER_LEN;
-use pi_base::{OutOfMemory, Seq};
-
-/// The bytes of a long pad file, its header in it: a longer stretch has several.
-pub(crate) const LONG_PAD: usize = 0x80_0000;
-
-// Adds the line of a pad with so many bytes of body.
-fn put_pad(out: &mut Seq<u8>, len: usize) -> Result<(), OutOfMemory>
-    ensures { OnOk result (out.new ≡ out.old ++ pad_line len) }
-{
-    out.append(b"pad ")?;
-    put_decimal(out, len as u64)?;
-    out.append(b"\n")
-}
-
-/// Adds the lines of the pads that fill a stretch.
-pub(crate) fn put_pads(out: &mut Seq<u8>, stretch: usize) -> Result<(), OutOfMemory>
-    ensures { OnOk result (out.new ≡ out.old ++ flat_map pad_line (pads_in stretch)) }
-{
-    if stretch < FILE_HEADER_LEN {
-        return Ok(());
-    }
-    let bodies = stretch - FILE_HEADER_LEN;
-    'pads: for _ in 0..bodies / LONG_PAD {
-        put_pad(out, LONG_PAD - FILE_HEADER_LEN)?;
-    }
-    put_pad(out, bodies % LONG_PAD)
-}
 
 /// Where a file stands that may stand from a place on.
 pub(crate) fn stands(from: usize, at: usize) -> usize

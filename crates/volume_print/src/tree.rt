@@ -10,7 +10,8 @@ use crate::file::{attributes_at, body_of as body_of_file, put_head, put_plain_bo
 use crate::form::{Form, Host, body_of, plain_form};
 use crate::inner::{holds_volume, read_again, whole_volume};
 use crate::law::one_text_by;
-use crate::place::{behind, put_pads, sections_len, stands};
+use crate::pad::{between, put_pads};
+use crate::place::{behind, sections_len, stands};
 use crate::section::put_form;
 use crate::volume::{form_in, name_in, put_head as put_volume_head, put_name};
 use fv_build::{FileSystem, file_size, first_place};
@@ -142,7 +143,7 @@ fn put_file(
     ensures { IfOk result (λ next. AddsFile (IsInner deep) file_system bytes.now file.now from next out.old out.new) }
 {
     let at = file.at as usize;
-    put_pads(out, at.saturating_sub(from))?;
+    put_pads(out, between(bytes, from, at))?;
     put_head(out, file.kind, &file.name, attributes_at(bytes, at))?;
     let host = Host {
         kind: file.kind,

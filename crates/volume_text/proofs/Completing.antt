@@ -1,7 +1,6 @@
 -- Where the lines of a text say a volume, they lead to it.
 use Rattle.std.proofs.Common.{◌≡◌, ℕ, List, [], ◌∷◌, ◌++◌, map, Option, Some, None, Ok, refl, sym, ap, subst, ◌∙◌}
 use Rattle.fv_build.specs.declared.volume_name.VolumeName.{VolumeName}
-use Rattle.fv_build.specs.Front.{is_placed}
 use Rattle.pi_base.specs.declared.phase.Phase.{Phase}
 use Rattle.fv_section.specs.declared.section_type.TheConstants.{RAW, VOLUME_IMAGE}
 use Rattle.fv_build.specs.declared.new_file.NewFile.{NewFile}

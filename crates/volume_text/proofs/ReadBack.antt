@@ -1,5 +1,5 @@
 -- A volume that a text describes is read again as the name and the files that its lines say.
-use Rattle.std.proofs.Common.{◌≡◌, ℕ, ◌^◌, Bool, true, false, cond, List, Option, Some, None, Result, Ok, Err, refl, sym, ap, ◌∙◌, subst, arith, All}
+use Rattle.std.proofs.Common.{◌≡◌, ℕ, Bool, true, false, cond, List, Option, Some, None, Result, Ok, Err, refl, sym, subst, arith, All}
 use Rattle.fv_build.specs.declared.fault.BuildFault.{BuildFault}
 use Rattle.fv_build.specs.declared.fault.BuildFault.TheVariants.{TooMany, Size, NoRoom, Memory}
 use Rattle.fv_build.specs.declared.volume_name.VolumeName.{VolumeName}
@@ -12,7 +12,7 @@ use Rattle.volume_text.specs.declared.fault.Cause.TheVariants as cause
 use Rattle.volume_text.specs.declared.volume.OpenVolume.{OpenVolume}
 use Rattle.volume_text.specs.Open.{refused_by, is_in_range, built_of}
 use Rattle.volume_text.specs.Text.{Says}
-use Rattle.volume_text.proofs.Building.{IsInRange, ranges}
+use Rattle.volume_text.proofs.Building.{ranges}
 
 -- want of memory is nothing that stands against a volume
 no_memory : (a b c : Bool) (need have : ℕ) → cond a (Some TooMany) (cond b (Some Size) (cond c (Some (NoRoom need have)) None)) ≡ Some Memory → ⊥

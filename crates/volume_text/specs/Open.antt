@@ -1,5 +1,5 @@
 -- What is open behind some lines of a text (own): a volume with its files so far, of which the last may get sections.
-use Rattle.std.specs.Prelude.{◌≡◌, ℕ, ◌-◌, ◌^◌, Bool, false, ◌&&◌, ◌==◌, not, nat_lt, replicate, take, bytes_eq, if◌then◌else◌, List, [], ◌∷◌, ◌++◌, length, Option, Some, None, Result, Ok, Err}
+use Rattle.std.specs.Prelude.{◌≡◌, ℕ, ◌^◌, Bool, false, ◌&&◌, ◌==◌, not, nat_lt, replicate, take, bytes_eq, if◌then◌else◌, List, [], ◌∷◌, ◌++◌, length, Option, Some, None, Result, Ok, Err}
 use Rattle.std.specs.List.{list_any}
 use Rattle.std.specs.Borrow.{Bor}
 use Rattle.pi_base.specs.declared.guid.Guid.{Guid}
@@ -19,7 +19,6 @@ use Rattle.fv_build.specs.declared.volume_name.VolumeName.{VolumeName}
 use Rattle.fv_build.specs.Front.{is_placed}
 use Rattle.fv_build.specs.Building.{volume_bytes, volume_fault}
 use Rattle.volume_text.specs.declared.volume.TheConstants.{ERASED}
-use Rattle.volume_text.specs.declared.word.TheConstants.{SECTION_HEADER_LEN}
 use Rattle.volume_text.specs.declared.fault.Cause.{Cause}
 use Rattle.volume_text.specs.declared.fault.Cause.TheVariants as cause
 use Rattle.volume_text.specs.declared.fault.Stop.{Stop}
@@ -89,13 +88,9 @@ with_new_file volume file = with_files volume (volume.files ++ file ∷ [])
 abbrev pub with_file : OpenVolume → ℕ → Guid → FileAttributes → OpenVolume
 with_file volume kind name attributes = with_new_file volume (new_file kind name attributes)
 
--- the body of a pad file: a section that looks erased but for its size, or nothing
-abbrev pub pad_sections : ℕ → List NewSection
-pad_sections len = if nat_lt 0 len then record { kind = ERASED; body = replicate (len - SECTION_HEADER_LEN) ERASED } ∷ [] else []
-
--- a pad file with a body of so many bytes
+-- a pad file with a body of so many bytes, which looks erased but for its header's fields
 abbrev pub pad_file : ℕ → NewFile
-pad_file len = record { name = record { 0 = replicate 16 ERASED }; kind = PAD; attributes = plain_attributes; body = Sections (pad_sections len) }
+pad_file len = record { name = record { 0 = replicate 16 ERASED }; kind = PAD; attributes = plain_attributes; body = Bytes (replicate len ERASED) }
 
 abbrev pub with_pad : OpenVolume → ℕ → OpenVolume
 with_pad volume len = with_new_file volume (pad_file len)

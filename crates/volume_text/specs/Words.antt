@@ -1,5 +1,5 @@
 -- The words of a line, each as the value that it shows, and the words behind it (own).
-use Rattle.std.specs.Prelude.{ℕ, ◌^◌, Bool, true, false, nat_le, nat_lt, bytes_eq, codes, if◌then◌else◌, ◌==◌, ◌||◌, ◌&&◌, List, [], ◌∷◌, Result, Ok, Err}
+use Rattle.std.specs.Prelude.{ℕ, ◌^◌, Bool, true, false, nat_le, nat_lt, bytes_eq, codes, if◌then◌else◌, ◌&&◌, List, [], ◌∷◌, Result, Ok, Err}
 use Rattle.pi_base.specs.declared.guid.Guid.{Guid}
 use Rattle.pi_base.specs.declared.phase.Phase.{Phase}
 use Rattle.fv_build.specs.declared.attributes.Alignment.{Alignment}
@@ -13,7 +13,7 @@ use Rattle.fv_build.specs.declared.volume.TheConstants.{MOST_LEN}
 use Rattle.fv_build.specs.Header.{is_header_length}
 use Rattle.line_words.specs.Number.{number_of}
 use Rattle.source_words.specs.GuidWord.{guid_of}
-use Rattle.volume_text.specs.declared.word.TheConstants.{SECTION_HEADER_LEN, MOST_PAD}
+use Rattle.volume_text.specs.declared.word.TheConstants.{MOST_PAD}
 use Rattle.volume_text.specs.declared.fault.Cause.{Cause}
 use Rattle.volume_text.specs.declared.fault.Cause.TheVariants as cause
 use Rattle.fv_build.specs.declared.file_system.FileSystem.{FileSystem}
@@ -52,9 +52,9 @@ length_at words = do
   len ← there cause.Number (number_of w.0)
   only_if (is_length len) cause.Range (len, w.1)
 
--- the body of a pad file is one section that FFS2 can hold, or empty
+-- the body of a pad file is as long as FFS2 lets it be
 abbrev pub is_pad_length : ℕ → Bool
-is_pad_length len = (len == 0) || (nat_le SECTION_HEADER_LEN len && nat_le len MOST_PAD)
+is_pad_length len = nat_le len MOST_PAD
 
 unfoldable pub pad_length_at : List (List ℕ) → Result (ℕ × List (List ℕ)) Cause
 pad_length_at words = do

@@ -27,7 +27,7 @@ pub enum Cause {
     #[error("Number")]
     Number,
     /// The length of a volume is below that of its header or above 64 MiB, or its header's is odd, below 64 bytes or no number of 16 bits; or its name
-    /// stands in its header, at no number of 16 bits, or has less than its own 20 bytes; or the length of a pad file's body is none of a section in FFS2,
+    /// stands in its header, at no number of 16 bits, or has less than its own 20 bytes; or the body of a pad file is longer than FFS2 can tell,
     /// or attributes are no number of 32 bits, or no file is aligned to such a number.
     #[error("Range")]
     Range,

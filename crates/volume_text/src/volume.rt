@@ -2,10 +2,10 @@
 ghost use Rattle.std.specs.Prelude.{◌≡◌, ◌<◌, ◌^◌, Ok, IfOk, replicate, take};
 ghost use Rattle.std.specs.List.{list_any};
 ghost use Rattle.volume_text.specs.Reading.{Gives, only_if};
-ghost use Rattle.volume_text.specs.Open.{last_of, holding, is_empty, with_bytes, with_section, with_last_body, with_new_file, with_file, pad_sections, with_pad, with_name, is_in_range, depex_type, has_part, script_front, is_script_of, has_script, IsLastFile, only_with_part, only_without_script, part_checked, only_first, script_checked, stop_of, built_of};
+ghost use Rattle.volume_text.specs.Open.{last_of, holding, is_empty, with_bytes, with_section, with_last_body, with_new_file, with_file, pad_file, with_pad, with_name, is_in_range, depex_type, has_part, script_front, is_script_of, has_script, IsLastFile, only_with_part, only_without_script, part_checked, only_first, script_checked, stop_of, built_of};
 
 use crate::fault::{Cause, Stop};
-use crate::word::{SECTION_HEADER_LEN, is_header, is_length};
+use crate::word::{is_header, is_length};
 use fv_build::{
     Body, BuildFault, FileAttributes, NewFile, NewSection, VolumeForm, VolumeName, build, is_placed,
 };
@@ -14,7 +14,7 @@ use fv_volume::file_type::{COMBINED_MM_DXE, DRIVER, PAD, PEIM};
 use pi_base::{Guid, OutOfMemory, Phase, Seq};
 use std::alloc::Global;
 
-// What stands in the body of a pad file.
+// An erased byte: a pad file has them as its name and in its body.
 const ERASED: u8 = 0xff;
 
 /// A volume whose `end` has not come yet.
@@ -181,35 +181,25 @@ fn erased(alloc: Global, len: usize) -> Result<Seq<u8>, OutOfMemory>
     }
 }
 
-// What is the body of a pad file: a section that looks erased but for its size, or nothing.
-fn pad_sections(alloc: Global, len: u64) -> Result<Seq<NewSection>, OutOfMemory>
-    ensures { IfOk result (λ sections. sections ≡ pad_sections len) }
+// A pad file with so many bytes of body.
+fn pad_file(alloc: Global, len: u64) -> Result<NewFile, OutOfMemory>
+    ensures { IfOk result (λ file. file ≡ pad_file len) }
 {
-    let mut sections = Seq::new(alloc);
-    if len > 0 {
-        let body_len = len.saturating_sub(SECTION_HEADER_LEN) as usize;
-        sections.push(NewSection {
-            kind: ERASED,
-            body: erased(alloc, body_len)?,
-        })?;
-    }
-    Ok(sections)
+    let bytes = erased(alloc, len as usize)?;
+    Ok(NewFile {
+        name: Guid([ERASED; 16]),
+        kind: PAD,
+        attributes: FileAttributes::new(),
+        body: Body::Bytes(bytes),
+    })
 }
 
 /// The volume with one more pad file.
 pub(crate) fn with_pad(alloc: Global, volume: OpenVolume, len: u64) -> Result<OpenVolume, Stop>
     ensures { Gives (λ x. x) result (Ok (with_pad volume len)) }
 {
-    let sections = pad_sections(alloc, len)?;
-    with_new_file(
-        volume,
-        NewFile {
-            name: Guid([ERASED; 16]),
-            kind: PAD,
-            attributes: FileAttributes::new(),
-            body: Body::Sections(sections),
-        },
-    )
+    let file = pad_file(alloc, len)?;
+    with_new_file(volume, file)
 }
 
 /// The volume with this name, if it has none yet and its header ends in front of it.

@@ -15,9 +15,6 @@ use line_words::number_of;
 use pi_base::{Guid, Phase};
 use source_words::{guid_of, next_word};
 
-/// The bytes of a section's header.
-pub(crate) const SECTION_HEADER_LEN: u64 = 4;
-
 /// The longest body of a file in FFS2.
 const MOST_PAD: u64 = 0xff_ffe6;
 
@@ -94,11 +91,11 @@ pub(crate) fn is_length(len: u64) -> bool
     LEAST_HEADER_LEN as u64 <= len && len <= MOST_LEN
 }
 
-/// Whether the body of a pad file may be of this length: it is one section, or empty.
+/// Whether the body of a pad file may be of this length: FFS2 can tell that of the file.
 fn is_pad_length(len: u64) -> bool
     ensures { result ≡ is_pad_length len }
 {
-    len == 0 || SECTION_HEADER_LEN <= len && len <= MOST_PAD
+    len <= MOST_PAD
 }
 
 /// The length of a pad file's body.

@@ -9,7 +9,7 @@ use Rattle.fv_build.specs.Sections.{body_bytes}
 use Rattle.fv_build.specs.declared.volume_header.VolumeForm.{VolumeForm}
 use Rattle.fv_build.specs.Front.{first_place}
 use Rattle.volume_print.specs.Places.{pads_in, stands}
-use Rattle.volume_print.specs.Spelling.{volume_line, name_line, pad_line}
+use Rattle.volume_print.specs.Spelling.{volume_line, name_line, pad_text}
 use Rattle.volume_print.specs.Description.{section_in, form_in, name_in, IsInner}
 use Rattle.volume_print.specs.Finding.{held, form_text, AddsSections, AddsFiles}
 use Rattle.volume_print.proofs.Forms.{no_volume}
@@ -48,7 +48,7 @@ put_file-returns t c =
     let old = c.args.out.now in
     file_added (IsInner c.args.deep) fs c.args.bytes.now file c.args.from c.behind.result c.attributes_at.result c.body_of-body.result.now old c.put_pads.new.out c.put_head.new.out
     c.put_body.new.out c.in_ok-body_len.body_len c.attributes_at.ensures c.body_of-body.ensures
-    (c.in_ok-put_pads.ensures ∙ ap (λ n. old ++ flat_map pad_line (pads_in n)) c.saturating_sub.ensures) c.in_ok-put_head.ensures c.in_ok-body_len.ensures (omega arith)
+    (c.in_ok-put_pads.ensures ∙ ap (λ s. old ++ flat_map pad_text (pads_in s)) c.between.ensures) c.in_ok-put_head.ensures c.in_ok-body_len.ensures (omega arith)
     (c.behind.ensures ∙ ap (λ n. held (aligned (n + c.file_size.result))) c.stands.ensures ∙ ap (λ n. held (aligned (stands c.args.from file.at + n))) c.file_size.ensures)
 
 pub put_files-files-preserved : goal.put_files-files-preserved

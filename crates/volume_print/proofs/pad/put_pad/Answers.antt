@@ -1,0 +1,11 @@
+use Rattle.std.proofs.Common.{sym, ◌∙◌}
+use Rattle.fv_build.proofs.Outcomes.{on_ok}
+use Rattle.volume_print.proofs.Stretches.{pad_put}
+use Rattle.volume_print.proofs.pad.put_pad.Goals as goal
+
+pub returns : goal.returns
+returns c =
+    on_ok c.put_plain_body.result _ _
+    (λ last. pad_put c.args.piece.now c.split_at.result.1.now c.args.out.now c.put_head.new.out c.put_plain_body.new.out c.at-name.result c.new.result c.at-name.ensures c.split_at.ensures.back
+    c.new.ensures (sym c.is_erased.ensures ∙ c.if-is_erased.false) c.in_ok-put_head.ensures last)
+    c.put_plain_body.ensures
