@@ -2,6 +2,7 @@ use Rattle.std.proofs.Common.{arith, ◌≡◌, ◌<◌, ◌≤◌, ◌+◌, ◌
 use Rattle.std.proofs.lemmas.Result.{err_from_is_err_and}
 use Rattle.boot_model.specs.DxeRun.{dxe_opening, dxe_bound}
 use Rattle.dxe_action.specs.Order.{Drivers, IsOrderOf}
+use Rattle.dxe_dispatch.specs.Queue.{owed}
 use Rattle.dxe_dispatch.specs.Choices.{LetsDrivers, NamesDrivers, came}
 use Rattle.dxe_dispatch.proofs.Chosen.{StepLaws}
 use Rattle.dxe_dispatch.proofs.ChosenWays.{coming_few, coming_halts, coming_on, coming_to, few_left, few_over, none_evaluated, opening_comes, opening_drivers, opening_halts, opening_part, turn_to_come}
