@@ -1,6 +1,6 @@
 -- The scheduled queue, how many drivers have left it to start, and which drivers wait: those that are neither scheduled nor started. Those of the discovered volumes stand in the index, with what they wait for.
 -- Own; PI 1.8, volume 2, "DXE Dispatcher".
-use Rattle.std.specs.Prelude.{◌≡◌, ◌≤◌, ℕ, ◌+◌, Bool, true, false, List, [], ◌∷◌, ◌++◌, drop, length, Option, Some, None, is_some, slice_get, unwrap_or}
+use Rattle.std.specs.Prelude.{◌≡◌, ◌≤◌, ℕ, ◌+◌, Bool, true, false, List, [], ◌∷◌, ◌++◌, length, Option, Some, None, is_some, slice_get, unwrap_or}
 use Rattle.pi_base.specs.declared.guid.Guid.{Guid}
 use Rattle.pi_base.specs.declared.phase.Phase.TheVariants.{Dxe}
 use Rattle.pi_base.specs.Guids.{same_guid}

@@ -1,7 +1,6 @@
 use Rattle.std.proofs.Common.{arith, ◌+◌, ℕ, ap, ◌∙◌, subst, Option}
 use Rattle.std.proofs.lemmas.Result.{err_from_is_err_and}
 use Rattle.boot_model.specs.DxeMachine.{DxeMachine}
-use Rattle.boot_model.specs.DxeStep.{dxe_step}
 use Rattle.dxe_dispatch.specs.Queue.{owed}
 use Rattle.dxe_dispatch.specs.Choices.{LetsDrivers, NamesDrivers, aimed_at}
 use Rattle.dxe_dispatch.specs.Ends.{IsNow}

@@ -1,8 +1,7 @@
-use Rattle.std.proofs.Common.{◌≡◌, ◌<◌, ◌∙◌, ap, length, drop, subst, sym}
+use Rattle.std.proofs.Common.{◌<◌, ◌∙◌, ap, length, subst, sym}
 use Rattle.pi_base.specs.Lists.{Each}
 use Rattle.boot_model.specs.DxeChoice.{a_priori_drivers}
 use Rattle.wait_index.specs.Index.{order_in}
-use Rattle.dxe_dispatch.specs.Choosing.{Schedules}
 use Rattle.dxe_dispatch.specs.Queue.{Queue}
 use Rattle.dxe_dispatch.proofs.Filling.{on_ok}
 use Rattle.dxe_dispatch.proofs.Scheduling.{discovers_row, drivers_below, new_are, new_differ, ranked_drivers, still_for}
