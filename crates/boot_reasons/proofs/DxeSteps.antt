@@ -226,7 +226,7 @@ flawless sink = 0
 
 -- the opening, of which nothing is told
 pub at_opening : {M : Type 0} (opens : DxeOpensUnderWay) (waits : UnrequestedDriversWait) (stands : M → StoreState → Type 0) (store : M) (catalog : Catalog) (fuel : ℕ) (s : StoreState) (actions : ℕ) (core : DxeCore) (kept queue : Queue) (told : DxeTold)
-    → IsWellFormed catalog → IsFor catalog fuel core → StandsFor stands store catalog core (dxe_opening catalog s actions) → IsNewQueue catalog kept → Discovers catalog kept (drop 0 core.services.order.volumes) queue
+    → IsWellFormed catalog → IsFor catalog fuel core → StandsFor stands store catalog core (dxe_opening catalog s actions) → IsNewQueue catalog kept → Discovers catalog kept core.services.order.volumes queue
     → told.begun ≡ [] → ((guid : Guid) → giver_in told.givers.map guid ≡ Absent) → IsAtOpening stands store catalog fuel s actions core queue told
 at_opening opens waits stands store catalog fuel s actions core kept queue told well made is new discovers begun givers = record {
   made = made;

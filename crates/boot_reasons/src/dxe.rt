@@ -130,7 +130,7 @@ fn explain_opened<M: PeiStore, C: Choice<Nowhere>, L: Ledger>(
     dxe_opens();
     unrequested_drivers_wait();
     discovered_order_has_each_once();
-    queue.discover(catalog, dxe.order(), 0)?;
+    queue.discover(catalog, dxe.order(), dxe.order().volumes())?;
     let mut told = DxeTold::new(alloc);
     match run_to_end(dxe, store, queue, choice, in_pei, catalog, &mut told, steps)? {
         Reached::End(end) => {

@@ -19,7 +19,7 @@ use Rattle.act_code.specs.declared.action.Action.{Action}
 use Rattle.store_model.specs.Service.{Present}
 use Rattle.store_model.specs.StoreCall.{Anything}
 use Rattle.dxe_action.specs.declared.reply.Reply.{Reply}
-use Rattle.dxe_action.specs.Reply.{Acts}
+use Rattle.dxe_action.specs.Reply.{ServesOwn}
 use Rattle.dxe_action.specs.Services.{Services, AreServicesFor}
 use Rattle.choice_trials.specs.Served.{IsServed}
 
@@ -93,7 +93,7 @@ wait_for_request catalog s m = record {
 
 -- one call later
 pub served : {M : Type 0} (stands : M → StoreState → Type 0) (store : M) (catalog : Catalog) (old : Services) (frame : DriverFrame) (action : Action) (new : Services) (reply : Reply)
-    → Present (stands store) Anything → IsServed catalog old → Acts stands store catalog old frame action new (Ok reply) → AreServicesFor catalog new → IsServed catalog new
+    → Present (stands store) Anything → IsServed catalog old → ServesOwn stands store catalog old frame action new (Ok reply) → AreServicesFor catalog new → IsServed catalog new
 served stands store catalog old frame action new reply state is acts flags =
     let s = state.0 in
     let m = is.machine.0 in

@@ -1,5 +1,5 @@
 -- Machines of DXE for the tests: some volumes are discovered, protocols are installed, the first driver is requested or none, and each start leaves the queue.
-use Rattle.std.proofs.Common.{◌≡◌, ℕ, ◌<◌, get_or, length, Bool, true, false, cond, ◌&&◌, ◌||◌, drop, List, [], ◌∷◌, ◌++◌, Some, None, Result, Ok, Err, refl, sym, ap, subst, ◌∙◌, arith}
+use Rattle.std.proofs.Common.{◌≡◌, ℕ, ◌<◌, get_or, length, Bool, true, false, cond, ◌&&◌, ◌||◌, List, [], ◌∷◌, ◌++◌, Some, None, Result, Ok, Err, refl, sym, ap, subst, ◌∙◌, arith}
 use Rattle.std.specs.Prelude.{OnOk}
 use Rattle.std.proofs.lemmas.List.Folds.{list_any-append}
 use Rattle.std.proofs.lemmas.Slice.Eq.{bytes_eq-Decides}
@@ -57,26 +57,25 @@ machine_of discovered scheduled = record {
 }
 
 -- the drivers are those of the volumes, each once
-pub new_drivers : (catalog : Catalog) (volumes : List ℕ) (order : Drivers) (new : Queue) → IsOrderOf catalog volumes order → IsNewQueue catalog new → AreNew catalog new order 0
-new_drivers catalog volumes order new o is =
-    let are : order.drivers ≡ drivers_of catalog (drop 0 order.volumes) = o.drivers_are ∙ ap (drivers_of catalog) (sym o.volumes_are) in
+pub new_drivers : (catalog : Catalog) (volumes : List ℕ) (order : Drivers) (new : Queue) (told : List ℕ) → IsOrderOf catalog volumes order → IsNewQueue catalog new → told ≡ order.volumes → AreNew catalog new order told
+new_drivers catalog volumes order new told o is all =
+    let are : order.drivers ≡ drivers_of catalog told = o.drivers_are ∙ ap (drivers_of catalog) (sym (all ∙ o.volumes_are)) in
     record {
-      within = omega arith;
-      drivers = are ∙ ap (λ xs. xs ++ drivers_of catalog (drop 0 order.volumes)) (sym is.order);
+      drivers = are ∙ ap (λ xs. xs ++ drivers_of catalog told) (sym is.order);
       differ = subst AllDiffer (sym o.drivers_are) (has_each_once catalog (machine_of volumes []) (all_distinct volumes o.known.differ)).once;
     }
 
 -- the opening, once the a priori drivers are scheduled
-pub seen_first : (catalog : Catalog) (volumes : List ℕ) (order : Drivers) (new queue : Queue) → IsOrderOf catalog volumes order → IsNewQueue catalog new → Discovers catalog new (drop 0 order.volumes) queue
+pub seen_first : (catalog : Catalog) (volumes : List ℕ) (order : Drivers) (new queue : Queue) → IsOrderOf catalog volumes order → IsNewQueue catalog new → (told : List ℕ) → told ≡ order.volumes → Discovers catalog new told queue
     → (m : DxeMachine) × IsSeen catalog m queue order
-seen_first catalog volumes order new queue o is discovers =
+seen_first catalog volumes order new queue o is told all discovers =
     let before = machine_of [] [] in
-    let m = machine_of order.volumes (a_priori_drivers catalog order.volumes) in (
+    let m = machine_of told (a_priori_drivers catalog told) in (
       m,
       record {
         queue = discovers before m (is.of before (record { discovered = refl; requested = refl; scheduled = refl; started = refl; handles = refl }))
             (record { discovered = refl; scheduled = refl; started = refl; requested = refl; handles = refl });
-        order = subst (λ found. IsOrderOf catalog found order) (sym o.volumes_are) o;
+        order = subst (λ found. IsOrderOf catalog found order) (sym (all ∙ o.volumes_are)) o;
       },
     )
 

@@ -132,7 +132,7 @@ fn prepare(
     ensures made { OnOk result (IsQueueFor catalog.now queue.new) }
     ensures seen { OnOk result ((m : DxeMachine) × IsSeen catalog.now m queue.new order.now) }
 {
-    queue.discover(catalog, order, 0)?;
+    queue.discover(catalog, order, order.volumes())?;
     install(queue, catalog, order, row.protocols);
     if row.is_requested {
         request_first(queue, catalog, order);
@@ -302,7 +302,7 @@ fn standings_by(
     requires order { (volumes : List ℕ) × IsOrderOf catalog.now volumes order.now }
 {
     let before = (queue.is_empty(), queue.is_waiting(number));
-    queue.discover(catalog, order, 0)?;
+    queue.discover(catalog, order, order.volumes())?;
     Ok([before, (queue.is_empty(), queue.is_waiting(number))])
 }
 

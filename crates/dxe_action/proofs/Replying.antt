@@ -16,7 +16,7 @@ use Rattle.boot_model.specs.Registers.{is_success}
 use Rattle.dxe_action.specs.declared.event.Event.{Event}
 use Rattle.dxe_action.specs.declared.reply.Reply.{Reply}
 use Rattle.dxe_action.specs.Answered.{refusal}
-use Rattle.dxe_action.specs.Event.{EventLeaves, IsInOrder, quiet}
+use Rattle.dxe_action.specs.Event.{EventLeaves, IsDiscoveredDriver, quiet}
 use Rattle.dxe_action.specs.Reply.{IsReply, changed_by, reply_in}
 use Rattle.dxe_action.specs.Services.{Services, AreServicesOf, AreFlags}
 use Rattle.dxe_action.specs.Order.{IsOrderOf}
@@ -26,7 +26,7 @@ abbrev pub with_others : DxeMachine → HandleState → List ProtocolNote → Li
 with_others m handles notes requested = record m { handles = handles; notes = notes; requested = requested }
 
 -- an event that discovers no volume
-abbrev leaves_volumes : (catalog : Catalog) (m : DxeMachine) (handles : HandleState) (notes : List ProtocolNote) (requested : List ℕ) (event : Event) → event.discovered ≡ 0 → requested ≡ m.requested ++ option_to_list event.requested → IfSome event.requested (IsInOrder catalog m)
+abbrev leaves_volumes : (catalog : Catalog) (m : DxeMachine) (handles : HandleState) (notes : List ProtocolNote) (requested : List ℕ) (event : Event) → event.discovered ≡ 0 → requested ≡ m.requested ++ option_to_list event.requested → IfSome event.requested (IsDiscoveredDriver catalog m)
     → EventLeaves catalog event m (with_others m handles notes requested)
 leaves_volumes catalog m handles notes requested event none grown known = record {
   volumes = [];
@@ -46,7 +46,7 @@ none_more m = sym (append-nil m.requested)
 pub changed : (catalog : Catalog) (m : DxeMachine) (frame : DriverFrame) (action : Action) (reply : Reply) (old new : Services)
     → (handles : HandleState) (notes : List ProtocolNote) (requested : List ℕ)
     → AreServicesOf catalog m old → new.order ≡ old.order → handles ≡ new.handles → notes ≡ new.notes → AreFlags requested new.requested
-    → reply.event.discovered ≡ 0 → requested ≡ m.requested ++ option_to_list reply.event.requested → IfSome reply.event.requested (IsInOrder catalog m)
+    → reply.event.discovered ≡ 0 → requested ≡ m.requested ++ option_to_list reply.event.requested → IfSome reply.event.requested (IsDiscoveredDriver catalog m)
     → option_to_list reply.event.changed ≡ changed_by action reply.status
     → own_dxe_effect catalog m frame action ≡ Called reply.name (reply_in reply frame.registers (with_others m handles notes requested) [])
     → IsReply catalog m frame action reply new
@@ -65,7 +65,7 @@ pub unchanged : (catalog : Catalog) (m : DxeMachine) (frame : DriverFrame) (acti
     → IsReply catalog m frame action reply services
 unchanged catalog m frame action reply services has none protocols e =
     changed catalog m frame action reply services services m.handles m.notes m.requested has refl has.handles has.notes has.requested (ap (λ (event : Event). event.discovered) none)
-    (subst (λ (event : Event). m.requested ≡ m.requested ++ option_to_list event.requested) (sym none) (none_more m)) (subst (λ (event : Event). IfSome event.requested (IsInOrder catalog m)) (sym none) tt)
+    (subst (λ (event : Event). m.requested ≡ m.requested ++ option_to_list event.requested) (sym none) (none_more m)) (subst (λ (event : Event). IfSome event.requested (IsDiscoveredDriver catalog m)) (sym none) tt)
     (subst (λ (event : Event). option_to_list event.changed ≡ changed_by action reply.status) (sym none) protocols) e
 
 -- a call that is refused changes no protocol

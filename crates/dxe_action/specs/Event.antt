@@ -26,8 +26,8 @@ abbrev pub discovers : ℕ → Event
 discovers count = record quiet { discovered = count }
 
 -- a driver of a discovered volume
-abbrev pub IsInOrder : Catalog → DxeMachine → ℕ → Type 0
-IsInOrder catalog m number = has_number (discovered_order catalog m) number ≡ true
+abbrev pub IsDiscoveredDriver : Catalog → DxeMachine → ℕ → Type 0
+IsDiscoveredDriver catalog m number = has_number (discovered_order catalog m) number ≡ true
 
 -- what an event leaves: the volumes that it discovered stand behind those that there were, and their a priori drivers behind the queue; so does the driver that it requested, one of a discovered volume; nothing has started
 pub record EventLeaves (catalog : Catalog) (event : Event) (m later : DxeMachine) : Type 0 where
@@ -37,4 +37,4 @@ pub record EventLeaves (catalog : Catalog) (event : Event) (m later : DxeMachine
   pub scheduled : later.scheduled ≡ m.scheduled ++ a_priori_drivers catalog volumes
   pub started : later.started ≡ m.started
   pub requested : later.requested ≡ m.requested ++ option_to_list event.requested
-  pub in_order : IfSome event.requested (IsInOrder catalog m)
+  pub in_order : IfSome event.requested (IsDiscoveredDriver catalog m)

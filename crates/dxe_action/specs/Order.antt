@@ -26,8 +26,8 @@ abbrev pub numbers_at : List (Guid × List ℕ) → Guid → List ℕ
 numbers_at lists name = unwrap_or (value_of lists name) []
 
 -- the first driver of a file name
-abbrev pub first_of : Drivers → Guid → Option ℕ
-first_of order name = value_of order.first name
+abbrev pub first_driver : Drivers → Guid → Option ℕ
+first_driver order name = value_of order.first name
 
 -- the drivers whose BEFORE gives a file name
 abbrev pub befores_of : Drivers → Guid → List ℕ
@@ -63,7 +63,7 @@ pub record IsOrderOf (catalog : Catalog) (volumes : List ℕ) (order : Drivers) 
   pub known : AreKnown catalog volumes
   pub volumes_are : order.volumes ≡ volumes
   pub drivers_are : order.drivers ≡ drivers_of catalog volumes
-  pub first_is : (name : Guid) → first_of order name ≡ find (λ number. same_guid (module_name catalog number) name) (drivers_of catalog volumes)
+  pub first_is : (name : Guid) → first_driver order name ≡ find (λ number. same_guid (module_name catalog number) name) (drivers_of catalog volumes)
   pub befores_are : (name : Guid) → befores_of order name ≡ givers before_of catalog (drivers_of catalog volumes) name
   pub afters_are : (name : Guid) → afters_of order name ≡ givers after_of catalog (drivers_of catalog volumes) name
   pub asking_are : (name : Guid) → asking_of order name ≡ askers catalog (drivers_of catalog volumes) name

@@ -16,7 +16,6 @@ use Rattle.boot_model.specs.Registers.{is_success}
 use Rattle.boot_laws.specs.UnrequestedDrivers.{WaitForRequest}
 use Rattle.frames.specs.Writes.{written}
 use Rattle.dxe_action.specs.Event.{EventLeaves}
-pub use Rattle.dxe_action.specs.Event.{IsInOrder}
 use Rattle.dxe_action.specs.declared.reply.Reply.{Reply}
 use Rattle.dxe_action.specs.Services.{Services, AreServicesOf}
 
@@ -57,7 +56,7 @@ Replies catalog m frame action (Ok reply) new = IsReply catalog m frame action r
 Replies catalog m frame action (Err none) new = ⊤
 
 -- from each machine that has these services over this store, and in which drivers wait for their request
-abbrev pub Acts : {M : Type 0} → (M → StoreState → Type 0) → M → Catalog → Services → DriverFrame → Action → Services → Result Reply OutOfMemory → Type 0
-Acts stands store catalog services frame action new result =
+abbrev pub ServesOwn : {M : Type 0} → (M → StoreState → Type 0) → M → Catalog → Services → DriverFrame → Action → Services → Result Reply OutOfMemory → Type 0
+ServesOwn stands store catalog services frame action new result =
     (m : DxeMachine) → stands store m.store → AreServicesOf catalog m services → WaitForRequest catalog m
     → Replies catalog m frame action result new

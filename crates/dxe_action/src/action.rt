@@ -7,7 +7,7 @@ ghost use Rattle.store_model.specs.StoreCall.{Anything};
 ghost use Rattle.boot_model.specs.DxeMachine.{DxeMachine};
 ghost use Rattle.frames.specs.Deed.{deed};
 ghost use Rattle.frames.specs.Needs.{IsScriptAction};
-ghost use Rattle.dxe_action.specs.Reply.{Acts};
+ghost use Rattle.dxe_action.specs.Reply.{ServesOwn};
 ghost use Rattle.dxe_action.specs.Services.{AreCounted, AreServicesFor, AreServicesOf};
 
 use crate::handles::{install, locate, reinstall, uninstall};
@@ -38,7 +38,7 @@ pub fn take_own<M: PeiStore>(
     requires counted { (n : ℕ) × (n < 2 ^ 32 - 1) × AreCounted n services.old }
     requires state { Present (M.stands_for store.now) Anything }
     requires machine { (m : DxeMachine) × AreServicesOf catalog.now m services.old }
-    ensures row { Acts M.stands_for store.now catalog.now services.old frame.now action.now services.new result }
+    ensures row { ServesOwn M.stands_for store.now catalog.now services.old frame.now action.now services.new result }
     ensures made { OnOk result (AreServicesFor catalog.now services.new) }
     ensures counted { OnOk result ((n : ℕ) → AreCounted n services.old → AreCounted (n + 1) services.new) }
 {

@@ -7,7 +7,7 @@ ghost use Rattle.catalog_model.specs.WellFormed.{IsWellFormed};
 ghost use Rattle.boot_model.specs.Discovery.{discoveries};
 ghost use Rattle.boot_model.specs.DxeChoice.{drivers_of};
 ghost use Rattle.boot_model.specs.Reporting.{newcomers};
-ghost use Rattle.dxe_action.specs.Order.{IsOrderOf, OrderGrows, first_of, befores_of, afters_of, asking_of};
+ghost use Rattle.dxe_action.specs.Order.{IsOrderOf, OrderGrows, first_driver, befores_of, afters_of, asking_of};
 
 use crate::names::Names;
 use catalog_model::Catalog;
@@ -142,7 +142,7 @@ impl DriverOrder {
 
     /// The first driver of a file name.
     pub fn named(&self, name: &Guid) -> Option<u32>
-        ensures { result ≡ first_of self.now name.now }
+        ensures { result ≡ first_driver self.now name.now }
     {
         self.names.first.get(name)
     }

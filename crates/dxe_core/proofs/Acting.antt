@@ -25,9 +25,10 @@ use Rattle.frames.specs.Found.{action_at, found_block}
 use Rattle.frames.specs.Spent.{HasSpent, IsSpent}
 use Rattle.frames.specs.Took.{HasDone}
 use Rattle.frames.specs.declared.fuel.Fuel.{Fuel}
-use Rattle.dxe_core.specs.Parts.{HasDiscovered, TakesOwn, acted_to}
+use Rattle.dxe_action.specs.Event.{EventLeaves, quiet}
+use Rattle.dxe_core.specs.Parts.{TakesOwn, acted_to}
 use Rattle.dxe_core.specs.Standing.{DxeCore, IsCoreOf, IsFor}
-use Rattle.dxe_core.proofs.Cases.{none_discovered}
+use Rattle.dxe_core.proofs.Cases.{quiet_leaves}
 use Rattle.dxe_core.proofs.Fired.{same_services}
 
 -- the action that the frames find is the machine's
@@ -102,11 +103,11 @@ deed_lines (Logged text) m frame below = refl
 deed_lines (Skipped n) m frame below = sym (append-nil m.lines)
 deed_lines (Returned status) m frame below = refl
 
-deed_discovers : (does : Deed) (catalog : Catalog) (m : DxeMachine) (frame : DriverFrame) (below : List DriverFrame) → HasDiscovered catalog m (after_dxe_effect (with_action m) frame below (as_effect does)) None
-deed_discovers (Wrote registers status) catalog m frame below = none_discovered catalog m _ refl refl refl refl
-deed_discovers (Logged text) catalog m frame below = none_discovered catalog m _ refl refl refl refl
-deed_discovers (Skipped n) catalog m frame below = none_discovered catalog m _ refl refl refl refl
-deed_discovers (Returned status) catalog m frame below = none_discovered catalog m _ refl refl refl refl
+deed_leaves : (does : Deed) (catalog : Catalog) (m : DxeMachine) (frame : DriverFrame) (below : List DriverFrame) → EventLeaves catalog quiet m (after_dxe_effect (with_action m) frame below (as_effect does))
+deed_leaves (Wrote registers status) catalog m frame below = quiet_leaves catalog m _ refl refl refl refl
+deed_leaves (Logged text) catalog m frame below = quiet_leaves catalog m _ refl refl refl refl
+deed_leaves (Skipped n) catalog m frame below = quiet_leaves catalog m _ refl refl refl refl
+deed_leaves (Returned status) catalog m frame below = quiet_leaves catalog m _ refl refl refl refl
 
 -- an action of both phases that was taken
 pub record Done (catalog : Catalog) (fuel : ℕ) (m : DxeMachine) (frame : DriverFrame) (below : List DriverFrame) (core : DxeCore) (lines : List Line) : Type 0 where
@@ -115,7 +116,7 @@ pub record Done (catalog : Catalog) (fuel : ℕ) (m : DxeMachine) (frame : Drive
   pub store : later.store ≡ m.store
   pub fields : IsCoreOf catalog core later
   pub printed : later.lines ≡ m.lines ++ lines
-  pub discovers : HasDiscovered catalog m later None
+  pub left : EventLeaves catalog quiet m later
   pub changed : dxe_case_guids catalog fuel m (DxeActs frame below) ≡ []
 
 pub done : (law : AreAlike ProtocolSweep DxeReply ⊥) (catalog : Catalog) (fuel : ℕ) (m : DxeMachine) (frame : DriverFrame) (below : List DriverFrame) (core : DxeCore) (later : Fuel) (new : List DriverFrame) (lines : List Line)
@@ -130,7 +131,7 @@ done law catalog fuel m frame below core later new lines of limit spent has =
       store = deed_store has.does m frame below;
       fields = deed_core has.does catalog m frame below core later new of spent has.frames;
       printed = deed_lines has.does m frame below ∙ ap (λ more. m.lines ++ more) has.told;
-      discovers = deed_discovers has.does catalog m frame below;
+      left = deed_leaves has.does catalog m frame below;
       changed = acted_guids catalog fuel m frame below (action_at Dxe catalog frame) left refl ∙ guids_none catalog (with_action m) frame (action_at Dxe catalog frame) (ap is_dxe_called is ∙ no_call has.does);
     }
 

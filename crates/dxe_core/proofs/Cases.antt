@@ -1,5 +1,5 @@
 -- Which case of a step applies, and what the step's answer then says.
-use Rattle.std.proofs.Common.{◌≡◌, ℕ, Bool, true, false, Bor, List, [], ◌∷◌, ◌++◌, length, Option, Some, None, refl, sym, ap, ◌∙◌, subst, Result, Ok, Err}
+use Rattle.std.proofs.Common.{◌≡◌, ℕ, Bool, true, false, Bor, List, [], ◌∷◌, ◌++◌, Option, Some, None, refl, sym, ap, ◌∙◌, subst, Result, Ok, Err}
 use Rattle.std.specs.Prelude.{◌↔◌, is_none, is_some, IfSome, IsTrue, not, option_copied}
 use Rattle.std.specs.Option.{option_to_list}
 use Rattle.std.proofs.lemmas.List.{append-nil}
@@ -16,12 +16,13 @@ use Rattle.boot_model.specs.DxeStep.{DxeCase, DxeFires, DxeActs, dxe_case_in, dx
 use Rattle.boot_laws.specs.ChangedGuids.{is_among}
 use Rattle.frames.specs.Frames.{top_of}
 use Rattle.boot_model.specs.EvaluationBound.{dxe_case_guids}
-use Rattle.dxe_core.specs.declared.event.Event.{Event}
-use Rattle.dxe_core.specs.declared.event.Stepped.{Stepped}
-use Rattle.dxe_core.specs.declared.event.Stepped.TheVariants.{Went, Idle, Ended}
-use Rattle.dxe_core.specs.Parts.{FiresNext, HasDiscovered, RunsWith, next_of_top}
+use Rattle.dxe_action.specs.declared.event.Event.{Event}
+use Rattle.dxe_core.specs.declared.stepped.Stepped.{Stepped}
+use Rattle.dxe_core.specs.declared.stepped.Stepped.TheVariants.{Went, Idle, Ended}
+use Rattle.dxe_action.specs.Event.{EventLeaves, quiet}
+use Rattle.dxe_core.specs.Parts.{FiresNext, GoesOnWith, next_of_top}
 use Rattle.dxe_core.specs.Standing.{DxeCore, StandsFor}
-use Rattle.dxe_core.specs.Steps.{HasOver, HasStayed, HasStepped, IsCut, IsIdle, StepsTo}
+use Rattle.dxe_core.specs.Steps.{HasOver, IsAsBefore, HasStepped, IsCut, IsIdle, StepsTo}
 use Rattle.dxe_core.specs.Turn.{PrintedPart}
 use Rattle.boot_trace.specs.Printing.{Texts}
 use Rattle.dxe_core.proofs.ProtocolChanges.{protocols_change}
@@ -56,15 +57,16 @@ none_stands (Some found) (top ∷ below) true is some = cc
 none_stands (Some found) (top ∷ below) false is some = (λ h. cc, λ h. cc)
 
 -- and so it goes on
-pub runs_with : (next : Option (ProtocolNote × ProtocolSweep)) (m : DxeMachine) (frames : List DriverFrame) → m.frames ≡ frames → is_none (top_of frames) ≡ false → next ≡ next_of_top m frames → RunsWith next m
+pub runs_with : (next : Option (ProtocolNote × ProtocolSweep)) (m : DxeMachine) (frames : List DriverFrame) → m.frames ≡ frames → is_none (top_of frames) ≡ false → next ≡ next_of_top m frames → GoesOnWith next m
 runs_with next m [] e some is = cc
 runs_with next m (top ∷ below) e some is = record { top = top; below = below; frames = e; fires = sym is }
 
 -- no volume was discovered, and no driver requested
-pub none_discovered : (catalog : Catalog) (m later : DxeMachine) → later.discovered ≡ m.discovered → later.scheduled ≡ m.scheduled → later.started ≡ m.started → later.requested ≡ m.requested → HasDiscovered catalog m later None
-none_discovered catalog m later discovered scheduled started requested =
+pub quiet_leaves : (catalog : Catalog) (m later : DxeMachine) → later.discovered ≡ m.discovered → later.scheduled ≡ m.scheduled → later.started ≡ m.started → later.requested ≡ m.requested → EventLeaves catalog quiet m later
+quiet_leaves catalog m later discovered scheduled started requested =
     record {
       volumes = [];
+      count = refl;
       discovered = discovered ∙ sym (append-nil m.discovered);
       scheduled = scheduled ∙ sym (append-nil m.scheduled);
       started = started;
@@ -72,38 +74,36 @@ none_discovered catalog m later discovered scheduled started requested =
       in_order = tt;
     }
 
--- the same volumes, from a machine with the same queue
-pub discovered_from : (catalog : Catalog) (m other later : DxeMachine) (asked : Option ℕ) → m.discovered ≡ other.discovered → m.scheduled ≡ other.scheduled → m.started ≡ other.started → m.requested ≡ other.requested
-    → HasDiscovered catalog m later asked → HasDiscovered catalog other later asked
-discovered_from catalog m other later asked discovered scheduled started requested h = record {
+-- the same, from a machine with the same queue
+pub leaves_from : (catalog : Catalog) (event : Event) (m other later : DxeMachine) → m.discovered ≡ other.discovered → m.scheduled ≡ other.scheduled → m.started ≡ other.started → m.requested ≡ other.requested
+    → EventLeaves catalog event m later → EventLeaves catalog event other later
+leaves_from catalog event m other later discovered scheduled started requested h = record {
   volumes = h.volumes;
+  count = h.count;
   discovered = h.discovered ∙ ap (λ xs. xs ++ h.volumes) discovered;
   scheduled = subst (λ xs. later.scheduled ≡ xs ++ a_priori_drivers catalog h.volumes) scheduled h.scheduled;
   started = h.started ∙ started;
-  requested = h.requested ∙ ap (λ xs. xs ++ option_to_list asked) requested;
-  in_order = subst (λ volumes. IfSome asked (λ number. has_number (drivers_of catalog volumes) number ≡ true)) discovered h.in_order;
+  requested = h.requested ∙ ap (λ xs. xs ++ option_to_list event.requested) requested;
+  in_order = subst (λ volumes. IfSome event.requested (λ number. has_number (drivers_of catalog volumes) number ≡ true)) discovered h.in_order;
 }
+
+-- to a machine that is the same one
+leaves_to : (catalog : Catalog) (event : Event) (m later same : DxeMachine) → same ≡ later → EventLeaves catalog event m later → EventLeaves catalog event m same
+leaves_to catalog event m later same is h = subst (EventLeaves catalog event m) (sym is) h
 
 -- an event of a case
 pub went : (Stands : DxeMachine → Type 0) (catalog : Catalog) (fuel : ℕ) (m later : DxeMachine) (case : DxeCase) (event : Event) (answer : Stepped) (t : Texts)
     → dxe_case_of catalog m ≡ case → in_dxe_case catalog fuel m case ≡ later → (IsIdle m → ⊥)
-    → option_to_list event.changed ≡ dxe_case_guids catalog fuel m case → event.known ≡ length m.discovered → HasDiscovered catalog m later event.requested → answer ≡ Went event
+    → option_to_list event.changed ≡ dxe_case_guids catalog fuel m case → EventLeaves catalog event m later → answer ≡ Went event
     → HasStepped Stands m later t → StepsTo Stands catalog fuel m t (Ok answer)
-went Stands catalog fuel m later case event answer t e is busy changed known discovers answered h =
+went Stands catalog fuel m later case event answer t e is busy changed left answered h =
     let to : dxe_step catalog fuel m ≡ later = ap (in_dxe_case catalog fuel m) e ∙ is in
-    let found = subst (λ x. HasDiscovered catalog m x event.requested) (sym to) discovers in
     subst (λ x. StepsTo Stands catalog fuel m t (Ok x)) (sym answered) (
       busy,
       record {
         changed = changed ∙ ap (dxe_case_guids catalog fuel m) (sym e);
         others = λ guid none. protocols_change catalog fuel m guid (ap (is_among guid) (sym (changed ∙ ap (dxe_case_guids catalog fuel m) (sym e))) ∙ none);
-        known = known;
-        volumes = found.volumes;
-        discovered = found.discovered;
-        scheduled = found.scheduled;
-        started = found.started;
-        requested = found.requested;
-        in_order = found.in_order;
+        left = leaves_to catalog event m later (dxe_step catalog fuel m) to left;
       },
       subst (λ x. HasStepped Stands m x t) (sym to) h,
     )
@@ -114,7 +114,7 @@ part catalog fuel m later case t e is h = subst (λ x. PrintedPart m x t) (sym (
 
 -- an end
 pub ended : (Stands : DxeMachine → Type 0) (catalog : Catalog) (fuel : ℕ) (m : DxeMachine) (case : DxeCase) (end : DxeEnd) (t : Texts)
-    → dxe_case_of catalog m ≡ case → in_dxe_case catalog fuel m case ≡ record m { ended = Some end } → IsCut end → HasStayed Stands m t → StepsTo Stands catalog fuel m t (Ok (Ended end))
+    → dxe_case_of catalog m ≡ case → in_dxe_case catalog fuel m case ≡ record m { ended = Some end } → IsCut end → IsAsBefore Stands m t → StepsTo Stands catalog fuel m t (Ok (Ended end))
 ended Stands catalog fuel m case end t e is cut stayed = record { cut = cut; ended = ap (in_dxe_case catalog fuel m) e ∙ is; stayed = stayed }
 
 -- over the same store, the core stands for the machine beside it

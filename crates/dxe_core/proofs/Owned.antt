@@ -1,8 +1,7 @@
 -- What an action of DXE's own, of the top frame, leaves.
-use Rattle.std.proofs.Common.{◌≡◌, ℕ, ◌+◌, ◌-◌, List, [], ◌∷◌, ◌++◌, length, refl, sym, ap, ◌∙◌, subst, Some, None, arith}
+use Rattle.std.proofs.Common.{◌≡◌, ℕ, List, [], ◌∷◌, ◌++◌, refl, sym, ap, ◌∙◌, subst, Some, None}
 use Rattle.std.specs.Prelude.{if◌then◌else◌}
 use Rattle.std.specs.Option.{option_to_list}
-use Rattle.std.proofs.lemmas.List.{length-append}
 use Rattle.act_code.specs.declared.action.Action.{Action}
 use Rattle.catalog_model.specs.declared.catalog.Catalog.{Catalog}
 use Rattle.boot_model.specs.declared.driver.ProtocolSweep.{ProtocolSweep}
@@ -20,7 +19,8 @@ use Rattle.frames.specs.Alike.{AreAlike}
 use Rattle.frames.specs.Deed.{deed}
 use Rattle.frames.specs.Frames.{answered, top_of}
 use Rattle.frames.specs.Writes.{written}
-use Rattle.dxe_core.specs.Parts.{HasDiscovered, acted_to}
+use Rattle.dxe_action.specs.Event.{EventLeaves}
+use Rattle.dxe_core.specs.Parts.{acted_to}
 use Rattle.dxe_core.specs.Standing.{DxeCore, IsCoreOf}
 use Rattle.dxe_core.proofs.Fired.{same_services}
 
@@ -36,15 +36,13 @@ call_line reply = L.Call reply.name reply.status reply.extra
 
 -- a service replied to the top frame
 pub record Replied (catalog : Catalog) (m : DxeMachine) (top : DriverFrame) (below : List DriverFrame) (action : Action) (reply : Reply) (core : DxeCore) : Type 0 where
-  pub volumes : List ℕ
   pub later : DxeMachine
+  pub left : EventLeaves catalog reply.event m (acted_to catalog m top below action)
   pub changed : option_to_list reply.event.changed ≡ dxe_action_guids catalog m top action
-  pub count : reply.event.discovered ≡ length volumes
   pub store : (acted_to catalog m top below action).store ≡ m.store
   pub fields : IsCoreOf catalog core (acted_to catalog m top below action)
-  pub discovers : HasDiscovered catalog m (acted_to catalog m top below action) reply.event.requested
-  pub all : core.services.order.volumes ≡ m.discovered ++ volumes
-  pub printed : (acted_to catalog m top below action).lines ≡ m.lines ++ (call_line reply ∷ discovery_lines volumes)
+  pub all : core.services.order.volumes ≡ m.discovered ++ left.volumes
+  pub printed : (acted_to catalog m top below action).lines ≡ m.lines ++ (call_line reply ∷ discovery_lines left.volumes)
 
 -- the machine behind the reply
 abbrev to : DxeMachine → DriverFrame → List DriverFrame → Reply → List ℕ → DxeMachine
@@ -68,26 +66,19 @@ replied law catalog m found top below action reply core services frames same own
     let effect_is : dxe_effect catalog m top action ≡ Called reply.name (reply_in reply top.registers r.later r.left.volumes) = law.one (own_dxe_effect catalog m top) top action own ∙ r.does in
     let leads : acted_to catalog m top below action ≡ to r.later top below reply r.left.volumes = ap (after_dxe_effect m top below) effect_is in
     record {
-      volumes = r.left.volumes;
       later = r.later;
-      changed = r.changed ∙ ap (λ (has : DxeEffect). if is_dxe_called has then changed_protocols action else []) (sym effect_is);
-      count = r.left.count;
-      store = ap (λ (x : DxeMachine). x.store) leads ∙ r.rest.store;
-      fields = subst (IsCoreOf catalog (record core { frames = frames; services = services })) (sym leads) (reply_core catalog m top below action reply core services frames r of is);
-      discovers = record {
+      left = record {
         volumes = r.left.volumes;
+        count = r.left.count;
         discovered = ap (λ (x : DxeMachine). x.discovered) leads ∙ r.left.discovered;
         scheduled = ap (λ (x : DxeMachine). x.scheduled) leads ∙ r.left.scheduled;
         started = ap (λ (x : DxeMachine). x.started) leads ∙ r.left.started;
         requested = ap (λ (x : DxeMachine). x.requested) leads ∙ r.left.requested;
         in_order = r.left.in_order;
       };
+      changed = r.changed ∙ ap (λ (has : DxeEffect). if is_dxe_called has then changed_protocols action else []) (sym effect_is);
+      store = ap (λ (x : DxeMachine). x.store) leads ∙ r.rest.store;
+      fields = subst (IsCoreOf catalog (record core { frames = frames; services = services })) (sym leads) (reply_core catalog m top below action reply core services frames r of is);
       all = r.has.order.volumes_are ∙ r.left.discovered;
       printed = ap (λ (x : DxeMachine). x.lines) leads ∙ ap (λ lines. lines ++ (call_line reply ∷ discovery_lines r.left.volumes)) r.rest.lines;
     }
-
--- as many volumes were discovered before as there are beside those that the call discovered
-pub known_are : (discovered volumes all : List ℕ) (count known : ℕ) → all ≡ discovered ++ volumes → count ≡ length volumes → known ≡ length all - count → known ≡ length discovered
-known_are discovered volumes all count known is counted left =
-    let long : length all ≡ length discovered + length volumes = ap length is ∙ length-append discovered volumes in
-    omega (arith, long, counted, left)

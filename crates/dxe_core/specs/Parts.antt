@@ -1,6 +1,6 @@
 -- What a part of a step leaves: the later machine with the lines that were put and the protocol that was changed, or why there is none.
 -- Own.
-use Rattle.std.specs.Prelude.{◌≡◌, ◌<◌, ℕ, List, ◌∷◌, ◌++◌, Option, Some, None, IfSome, length, Result, Ok, Err}
+use Rattle.std.specs.Prelude.{◌≡◌, ◌<◌, ℕ, List, ◌∷◌, Option, Some, None, Result, Ok, Err}
 use Rattle.std.specs.Option.{option_and_then, option_to_list}
 use Rattle.boot_io.specs.declared.halt.Halt.{Halt}
 use Rattle.pi_base.specs.declared.phase.Phase.TheVariants.{Dxe}
@@ -8,7 +8,6 @@ use Rattle.act_code.specs.declared.action.Action.{Action}
 use Rattle.catalog_model.specs.declared.catalog.Catalog.{Catalog}
 use Rattle.store_model.specs.StoreState.{StoreState}
 use Rattle.boot_model.specs.DxeAction.{dxe_effect}
-use Rattle.boot_model.specs.DxeChoice.{a_priori_drivers}
 use Rattle.boot_model.specs.declared.driver.ProtocolNote.{ProtocolNote}
 use Rattle.boot_model.specs.declared.driver.ProtocolSweep.{ProtocolSweep}
 use Rattle.boot_model.specs.DxeMachine.{DxeMachine, DriverFrame}
@@ -19,10 +18,10 @@ use Rattle.frames.specs.Deed.{deed}
 use Rattle.frames.specs.Frames.{top_sweep}
 use Rattle.frames.specs.Needs.{IsScriptAction}
 use Rattle.act_code.specs.declared.block.TheConstants.{MOST_ACTIONS}
-use Rattle.dxe_action.specs.Event.{IsInOrder}
+use Rattle.dxe_action.specs.Event.{EventLeaves}
 use Rattle.dxe_action.specs.Services.{AreCounted, AreServicesFor}
-use Rattle.dxe_core.specs.declared.event.Event.{Event}
-use Rattle.dxe_core.specs.declared.event.Stepped.{Stepped}
+use Rattle.dxe_action.specs.declared.event.Event.{Event}
+use Rattle.dxe_core.specs.declared.stepped.Stepped.{Stepped}
 use Rattle.dxe_core.specs.Standing.{DxeCore, IsCoreOf, IsFor, StandsFor}
 use Rattle.dxe_core.specs.Steps.{CoreCall, HasOver, HasStepped, StepsTo, texts_of}
 use Rattle.dxe_core.specs.Turn.{PrintedPart}
@@ -37,7 +36,7 @@ abbrev pub next_of_top : DxeMachine → List DriverFrame → Option (ProtocolNot
 next_of_top m frames = option_and_then (next_note m) (top_sweep frames)
 
 -- a script runs, and so it goes on
-pub record RunsWith (next : Option (ProtocolNote × ProtocolSweep)) (m : DxeMachine) : Type 0 where
+pub record GoesOnWith (next : Option (ProtocolNote × ProtocolSweep)) (m : DxeMachine) : Type 0 where
   pub top : DriverFrame
   pub below : List DriverFrame
   pub frames : m.frames ≡ top ∷ below
@@ -45,7 +44,7 @@ pub record RunsWith (next : Option (ProtocolNote × ProtocolSweep)) (m : DxeMach
 
 -- a script runs, and no notification begins next
 abbrev pub RunsScript : DxeMachine → Type 0
-RunsScript m = RunsWith None m
+RunsScript m = GoesOnWith None m
 
 -- a step where no notification begins, from each machine that the core beside its store stands for, and in which drivers wait for their request
 abbrev pub StepsScript : {M : Type 0} → (M → StoreState → Type 0) → M → Catalog → CoreCall → Result Stepped Halt → Type 0
@@ -56,7 +55,7 @@ StepsScript stands store catalog call result =
 -- a step where this notification begins, from each machine that the core has; the store stays
 abbrev pub StepsFired : ProtocolNote × ProtocolSweep → Catalog → CoreCall → Result Stepped Halt → Type 0
 StepsFired next catalog call result =
-    (m : DxeMachine) (fuel : ℕ) → IsCoreOf catalog call.before m → RunsWith (Some next) m
+    (m : DxeMachine) (fuel : ℕ) → IsCoreOf catalog call.before m → GoesOnWith (Some next) m
     → StepsTo (HasOver catalog call.later m) catalog fuel m (texts_of call) result
 
 -- an action of DXE's own stands next in the top frame's script
@@ -72,20 +71,10 @@ pub record TakesOwn (action : Action) (m : DxeMachine) : Type 0 where
 abbrev pub acted_to : Catalog → DxeMachine → DriverFrame → List DriverFrame → Action → DxeMachine
 acted_to catalog m top below action = after_dxe_effect m top below (dxe_effect catalog m top action)
 
--- the volumes that an event discovered stand behind those that there were, and their a priori drivers behind the queue; so does the driver that it requested, one of a discovered volume; nothing has started
-pub record HasDiscovered (catalog : Catalog) (m later : DxeMachine) (asked : Option ℕ) : Type 0 where
-  pub volumes : List ℕ
-  pub discovered : later.discovered ≡ m.discovered ++ volumes
-  pub scheduled : later.scheduled ≡ m.scheduled ++ a_priori_drivers catalog volumes
-  pub started : later.started ≡ m.started
-  pub requested : later.requested ≡ m.requested ++ option_to_list asked
-  pub in_order : IfSome asked (IsInOrder catalog m)
-
 -- an action of DXE's own was taken, and this event is what it did
 pub record HasTaken (Stands : DxeMachine → Type 0) (catalog : Catalog) (m : DxeMachine) (action : Action) (own : TakesOwn action m) (t : Texts) (event : Event) : Type 0 where
   pub changed : option_to_list event.changed ≡ dxe_action_guids catalog m own.top action
-  pub known : event.known ≡ length m.discovered
-  pub discovers : HasDiscovered catalog m (acted_to catalog m own.top own.below action) event.requested
+  pub left : EventLeaves catalog event m (acted_to catalog m own.top own.below action)
   pub stepped : HasStepped Stands m (acted_to catalog m own.top own.below action) t
 
 -- by the answer

@@ -1,6 +1,6 @@
 -- What a step of the core answers and leaves, and what a start does.
 -- Own; PI 1.8, volume 2, "DXE Dispatcher".
-use Rattle.std.specs.Prelude.{◌≡◌, ℕ, false, List, [], ◌++◌, Option, Some, IfSome, Result, Ok, Err, length, ⊤}
+use Rattle.std.specs.Prelude.{◌≡◌, ℕ, false, List, [], Option, Some, Result, Ok, Err, ⊤}
 use Rattle.std.specs.Option.{option_to_list}
 use Rattle.std.specs.Io.KnownBytes.{Appends}
 use Rattle.boot_io.specs.declared.halt.Halt.{Halt}
@@ -14,16 +14,15 @@ use Rattle.store_model.specs.StoreState.{StoreState}
 use Rattle.boot_model.specs.declared.driver.Scheduled.{Scheduled}
 use Rattle.boot_model.specs.declared.phase_end.DxeEnd.{DxeEnd}
 use Rattle.boot_model.specs.declared.phase_end.DxeEnd.TheVariants as E
-use Rattle.boot_model.specs.DxeChoice.{a_priori_drivers}
 use Rattle.boot_model.specs.DxeMachine.{DxeMachine}
 use Rattle.boot_model.specs.DxeStep.{dxe_step, driver_started}
 use Rattle.boot_model.specs.EvaluationBound.{dxe_guids}
 use Rattle.boot_laws.specs.ChangedGuids.{is_among}
 use Rattle.boot_laws.specs.UnrequestedDrivers.{WaitForRequest}
-use Rattle.dxe_action.specs.Event.{IsInOrder}
-use Rattle.dxe_core.specs.declared.event.Event.{Event}
-use Rattle.dxe_core.specs.declared.event.Stepped.{Stepped}
-use Rattle.dxe_core.specs.declared.event.Stepped.TheVariants.{Went, Idle, Ended}
+use Rattle.dxe_action.specs.Event.{EventLeaves}
+use Rattle.dxe_action.specs.declared.event.Event.{Event}
+use Rattle.dxe_core.specs.declared.stepped.Stepped.{Stepped}
+use Rattle.dxe_core.specs.declared.stepped.Stepped.TheVariants.{Went, Idle, Ended}
 use Rattle.dxe_core.specs.Standing.{DxeCore, IsCoreOf, IsFor, StandsFor}
 use Rattle.dxe_core.specs.Turn.{Printed, PrintedPart}
 use Rattle.boot_trace.specs.Printing.{Texts}
@@ -43,17 +42,11 @@ texts_of call = record { old = call.old; new = call.new }
 abbrev pub IsIdle : DxeMachine → Type 0
 IsIdle m = m.frames ≡ []
 
--- what the event from a machine did: the protocol that it may have changed, besides which each is on a handle as before, the driver of a discovered volume that it requested, and the volumes that it discovered behind those that there were, whose a priori drivers are scheduled; nothing has started
+-- what the event from a machine did: it changed this protocol, if any, besides which each is on a handle as before; and what it leaves
 pub record IsEvent (catalog : Catalog) (fuel : ℕ) (m : DxeMachine) (event : Event) : Type 0 where
   pub changed : option_to_list event.changed ≡ dxe_guids catalog fuel m
   pub others : (guid : Guid) → is_among guid (option_to_list event.changed) ≡ false → has_protocol (dxe_step catalog fuel m).handles guid ≡ has_protocol m.handles guid
-  pub requested : (dxe_step catalog fuel m).requested ≡ m.requested ++ option_to_list event.requested
-  pub in_order : IfSome event.requested (IsInOrder catalog m)
-  pub known : event.known ≡ length m.discovered
-  pub volumes : List ℕ
-  pub discovered : (dxe_step catalog fuel m).discovered ≡ m.discovered ++ volumes
-  pub scheduled : (dxe_step catalog fuel m).scheduled ≡ m.scheduled ++ a_priori_drivers catalog volumes
-  pub started : (dxe_step catalog fuel m).started ≡ m.started
+  pub left : EventLeaves catalog event m (dxe_step catalog fuel m)
 
 -- the machine is the later one now, and its lines were put
 pub record HasStepped (Stands : DxeMachine → Type 0) (m later : DxeMachine) (t : Texts) : Type 0 where
@@ -61,7 +54,7 @@ pub record HasStepped (Stands : DxeMachine → Type 0) (m later : DxeMachine) (t
   pub machine : Stands later
 
 -- the machine is as it was, and nothing was put
-pub record HasStayed (Stands : DxeMachine → Type 0) (m : DxeMachine) (t : Texts) : Type 0 where
+pub record IsAsBefore (Stands : DxeMachine → Type 0) (m : DxeMachine) (t : Texts) : Type 0 where
   pub text : Appends t.old t.new []
   pub machine : Stands m
 
@@ -72,16 +65,16 @@ IsCut E.Spent = ⊤
 IsCut E.Deep = ⊤
 
 -- the machine ends so from here, and is as it was
-pub record HasEnded (Stands : DxeMachine → Type 0) (catalog : Catalog) (fuel : ℕ) (m : DxeMachine) (end : DxeEnd) (t : Texts) : Type 0 where
+pub record IsCutOff (Stands : DxeMachine → Type 0) (catalog : Catalog) (fuel : ℕ) (m : DxeMachine) (end : DxeEnd) (t : Texts) : Type 0 where
   pub cut : IsCut end
   pub ended : dxe_step catalog fuel m ≡ record m { ended = Some end }
-  pub stayed : HasStayed Stands m t
+  pub stayed : IsAsBefore Stands m t
 
 -- a step from a machine, by its answer
 abbrev pub StepsTo : (DxeMachine → Type 0) → Catalog → ℕ → DxeMachine → Texts → Result Stepped Halt → Type 0
 StepsTo Stands catalog fuel m t (Ok (Went event)) = (IsIdle m → ⊥) × IsEvent catalog fuel m event × HasStepped Stands m (dxe_step catalog fuel m) t
-StepsTo Stands catalog fuel m t (Ok Idle) = IsIdle m × HasStayed Stands m t
-StepsTo Stands catalog fuel m t (Ok (Ended end)) = HasEnded Stands catalog fuel m end t
+StepsTo Stands catalog fuel m t (Ok Idle) = IsIdle m × IsAsBefore Stands m t
+StepsTo Stands catalog fuel m t (Ok (Ended end)) = IsCutOff Stands catalog fuel m end t
 StepsTo Stands catalog fuel m t (Err halt) = PrintedPart m (dxe_step catalog fuel m) t
 
 -- a step of the core, from each machine that it stands for beside its store, and in which drivers wait for their request

@@ -8,13 +8,13 @@ ghost use Rattle.dxe_core.specs.Parts.{ActsOwn, KeepsFor, RunsScript, StepsScrip
 ghost use Rattle.dxe_core.specs.Standing.{IsFor, StandsFor};
 
 use crate::dxe::Dxe;
-use crate::event::{Event, Stepped};
 use crate::lines::{print, put_reply};
+use crate::stepped::Stepped;
 use act_code::Action;
 use boot_io::{Halt, Sink};
 use boot_model::{DxeEnd, Line};
 use catalog_model::Catalog;
-use dxe_action::{Reply, take_own};
+use dxe_action::{Event, Reply, take_own};
 use frames::{Acted, act, effects_are_alike};
 use pi_base::Phase;
 use store_model::PeiStore;
@@ -60,12 +60,7 @@ impl Dxe {
             extra,
         };
         put_reply(sink, call, self.services.order().newest(event.discovered))?;
-        let all = self.services.order().volumes().len();
-        Ok(Event {
-            changed: event.changed,
-            requested: event.requested,
-            known: all.saturating_sub(event.discovered),
-        })
+        Ok(event)
     }
 
     // The top frame takes its next action, unless the fuel is spent.
@@ -88,13 +83,12 @@ impl Dxe {
         ensures faults { HaltsAfter result (S.faults sink.old) (S.faults sink.new) }
     {
         effects_are_alike();
-        let known = self.services.order().volumes().len();
         match act(&mut self.frames, &mut self.fuel, catalog, Phase::Dxe) {
             Acted::Spent => Ok(Stepped::Ended(DxeEnd::Spent)),
-            Acted::Silent => Ok(Stepped::quiet(known)),
+            Acted::Silent => Ok(Stepped::Went(Event::quiet())),
             Acted::Prints(line) => {
                 print(sink, line)?;
-                Ok(Stepped::quiet(known))
+                Ok(Stepped::Went(Event::quiet()))
             }
             Acted::Own(action) => {
                 let event = self.act_own(store, catalog, action, sink)?;

@@ -13,8 +13,8 @@ ghost use Rattle.frames.specs.Frames.{top_of};
 ghost use Rattle.dxe_core.specs.Standing.{IsCoreOf, IsFor, StandsFor};
 ghost use Rattle.dxe_core.specs.Steps.{Starts, Steps};
 
-use crate::event::Stepped;
 use crate::lines::start_line;
+use crate::stepped::Stepped;
 use boot_io::{Halt, Sink, SinkFault};
 use boot_model::{ProtocolSweep, Scheduled};
 use boot_trace::put_start;

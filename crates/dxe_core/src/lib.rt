@@ -5,10 +5,10 @@
 
 mod act;
 mod dxe;
-mod event;
 mod lines;
 mod notify;
+mod stepped;
 
 pub use dxe::Dxe;
-pub use event::{Event, Stepped};
 pub use lines::put_volumes;
+pub use stepped::Stepped;

@@ -7,12 +7,12 @@ ghost use Rattle.dxe_core.specs.Parts.{StepsFired, next_of_top};
 ghost use Rattle.dxe_core.specs.Standing.{IsFor};
 
 use crate::dxe::Dxe;
-use crate::event::Stepped;
 use crate::lines::{print, protocol_line};
+use crate::stepped::Stepped;
 use boot_io::{Halt, Sink};
 use boot_model::{DriverFrame, DxeEnd, ProtocolNote, ProtocolSweep, Register};
 use catalog_model::Catalog;
-use dxe_action::DxeServices;
+use dxe_action::{DxeServices, Event};
 use frames::{begin_notification, notified};
 
 // The frame in which a notification runs: it is told the interface and the handle.
@@ -71,11 +71,10 @@ impl Dxe {
         ensures faults { HaltsAfter result (S.faults sink.old) (S.faults sink.new) }
     {
         let (note, sweep) = next;
-        let known = self.services.order().volumes().len();
         if !begin_notification(&mut self.frames, notification_frame(&note, &sweep), sweep) {
             return Ok(Stepped::Ended(DxeEnd::Deep));
         }
         print(sink, protocol_line(catalog, &sweep, &note))?;
-        Ok(Stepped::quiet(known))
+        Ok(Stepped::Went(Event::quiet()))
     }
 }

@@ -23,7 +23,7 @@ use Rattle.boot_laws.specs.DxeUnderWay.{DxeStepsRunOut, IsDriverOf, IsNearerEnd,
 use Rattle.dxe_dispatch.specs.declared.answer.Turn.{Turn}
 use Rattle.dxe_dispatch.specs.Choices.{Asks, IsAimedBy, IsOnWay, TurnsBy, aimed_at}
 use Rattle.dxe_dispatch.specs.Ends.{IsNow}
-use Rattle.dxe_dispatch.specs.Turns.{AreOf, IsLeft, IsReady, IsWithin, TurnsTo}
+use Rattle.dxe_dispatch.specs.Turns.{AreKeptFor, IsLeft, IsAtTurn, EvaluatesWithin, TurnsDxeTo}
 use Rattle.dxe_dispatch.proofs.FirstStarts.{aimed_owns, starts_first}
 use Rattle.dxe_dispatch.proofs.Growing.{step_grew}
 use Rattle.dxe_dispatch.proofs.Requests.{aim_waits, step_waits}
@@ -102,7 +102,7 @@ few_by catalog fuel m target Leads is most bound few = (step_grew catalog fuel m
 
 -- the machine is ready for its own step
 pub target_ready : {M : Type 0} (laws : StepLaws) (stands : M → StoreState → Type 0) (store : M) (catalog : Catalog) (fuel : ℕ) (core : DxeCore) (kept aim : Queue) (m target : DxeMachine) → IsWellFormed catalog
-    → IsOnWay stands store catalog core kept m → IsTarget catalog m Any target → IsQueueOf catalog target aim → IsReady stands store catalog fuel core aim target
+    → IsOnWay stands store catalog core kept m → IsTarget catalog m Any target → IsQueueOf catalog target aim → IsAtTurn stands store catalog fuel core aim target
 target_ready laws stands store catalog fuel core kept aim m target well on is queue = record {
   now = record { machine = target_stands stands store catalog core m target Any is on.now.machine; queue = queue };
   waits = waits_before catalog m target Any on.waits is;
@@ -114,7 +114,7 @@ pub record HasAimed {M : Type 0} (Names : DxeMachine → Option ℕ → Type 0) 
   pub target : DxeMachine
   pub aimed : IsAimedBy Names catalog m target
   pub is : IsTarget catalog m Any target
-  pub ready : IsReady stands store catalog fuel core aim target
+  pub ready : IsAtTurn stands store catalog fuel core aim target
 
 pub has_aimed : {M : Type 0} (laws : StepLaws) (Names : DxeMachine → Option ℕ → Type 0) (stands : M → StoreState → Type 0) (store : M) (catalog : Catalog) (fuel : ℕ) (core : DxeCore) (kept aim : Queue) (m target : DxeMachine) → IsWellFormed catalog
     → IsOnWay stands store catalog core kept m → IsAimedBy Names catalog m target → IsQueueOf catalog target aim → HasAimed Names stands store catalog fuel core aim m
@@ -124,8 +124,8 @@ has_aimed laws Names stands store catalog fuel core kept aim m target well on by
 
 -- the turn that the machine took from there
 pub turned_by : {M : Type 0} (Names : DxeMachine → Option ℕ → Type 0) (Lets : DxeMachine → ℕ → Bool) (stands : M → StoreState → Type 0) (store : M) (catalog : Catalog) (fuel : ℕ) (core later : DxeCore) (aim grown : Queue) (m : DxeMachine) (t : Texts) (before now : ℕ) (result : Result Turn Halt)
-    → (has : HasAimed Names stands store catalog fuel core aim m) → TurnsTo (Lets has.target) (IsNow stands store catalog later grown) (IsLeft stands store catalog later grown) catalog fuel has.target (dxe_step catalog fuel has.target) t result
-    → OnOk result (IsWithin catalog fuel has.target before now) → TurnsBy Names Lets (IsNow stands store catalog later grown) (IsLeft stands store catalog later grown) catalog fuel m t before now result
+    → (has : HasAimed Names stands store catalog fuel core aim m) → TurnsDxeTo (Lets has.target) (IsNow stands store catalog later grown) (IsLeft stands store catalog later grown) catalog fuel has.target t result
+    → OnOk result (EvaluatesWithin catalog fuel has.target before now) → TurnsBy Names Lets (IsNow stands store catalog later grown) (IsLeft stands store catalog later grown) catalog fuel m t before now result
 turned_by Names Lets stands store catalog fuel core later aim grown m t before now result has turned few = record { target = has.target; aimed = has.aimed; turned = turned; few = few }
 
 -- memory was wanting before it
@@ -146,10 +146,10 @@ few_started catalog m way =
     (each_more (IsDriverOf catalog m.discovered) (λ n. n < length catalog.modules) m.started (λ n is. within (part_of Dxe) catalog.modules n is.0) way.started_known)
 
 -- by the order of the core
-pub order_of : (catalog : Catalog) (core : DxeCore) (queue : Queue) (m : DxeMachine) (order : Drivers) → order ≡ core.services.order → AreOf catalog core queue m → IsOrderOf catalog m.discovered order
+pub order_of : (catalog : Catalog) (core : DxeCore) (queue : Queue) (m : DxeMachine) (order : Drivers) → order ≡ core.services.order → AreKeptFor catalog core queue m → IsOrderOf catalog m.discovered order
 order_of catalog core queue m order is are = let P : Drivers → Type 0 = λ drivers. IsOrderOf catalog m.discovered drivers in subst P (sym is) are.core.services.order
 
-pub seen_of : (catalog : Catalog) (core : DxeCore) (queue : Queue) (m : DxeMachine) (order : Drivers) → order ≡ core.services.order → AreOf catalog core queue m → IsSeen catalog m queue order
+pub seen_of : (catalog : Catalog) (core : DxeCore) (queue : Queue) (m : DxeMachine) (order : Drivers) → order ≡ core.services.order → AreKeptFor catalog core queue m → IsSeen catalog m queue order
 seen_of catalog core queue m order is are = record { queue = are.queue; order = order_of catalog core queue m order is are }
 
 -- a driver is to be chosen
@@ -167,13 +167,13 @@ not_asked names catalog core queue free is busy m are = record {
 }
 
 -- the choice is aimed at the driver that is named
-pub aim_by : (Names : DxeMachine → Option ℕ → Type 0) (names : Option ℕ → Type 0) (catalog : Catalog) (core : DxeCore) (queue : Queue) (m : DxeMachine) (named : Option ℕ) → Asks names catalog core queue named → AreOf catalog core queue m → (names named → Names m named)
+pub aim_by : (Names : DxeMachine → Option ℕ → Type 0) (names : Option ℕ → Type 0) (catalog : Catalog) (core : DxeCore) (queue : Queue) (m : DxeMachine) (named : Option ℕ) → Asks names catalog core queue named → AreKeptFor catalog core queue m → (names named → Names m named)
     → IsAimedBy Names catalog m (aimed_at catalog m named)
 aim_by Names names catalog core queue m named asks are may =
     let asked = asks m are in
     record { named = named; allowed = λ choosing. may (asked.allowed choosing); busy = asked.busy; is = refl }
 
-pub within_less : (catalog : Catalog) (fuel : ℕ) (m : DxeMachine) (more before now : ℕ) → before ≤ more → IsWithin catalog fuel m before now → IsWithin catalog fuel m more now
+pub within_less : (catalog : Catalog) (fuel : ℕ) (m : DxeMachine) (more before now : ℕ) → before ≤ more → EvaluatesWithin catalog fuel m before now → EvaluatesWithin catalog fuel m more now
 within_less catalog fuel m more before now few within = sums more before now _ _ few within
   where
     sums : (more before now here there : ℕ) → before ≤ more → now + here ≤ before + there → now + here ≤ more + there

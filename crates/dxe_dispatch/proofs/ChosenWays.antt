@@ -1,5 +1,5 @@
 -- The run by choices so far.
-use Rattle.std.proofs.Common.{◌≡◌, ◌≤◌, ◌<◌, ℕ, ◌+◌, arith, Bool, false, inl, inr, drop, List, [], ◌∷◌, ◌++◌, Option, Some, None, Ok, Err, refl, sym, ap, ◌∙◌, subst, is_some, length}
+use Rattle.std.proofs.Common.{◌≡◌, ◌≤◌, ◌<◌, ℕ, ◌+◌, arith, Bool, false, inl, inr, List, [], ◌∷◌, ◌++◌, Option, Ok, Err, refl, sym, ap, ◌∙◌, subst, is_some, length}
 use Rattle.std.proofs.lemmas.List.{append-nil}
 use Rattle.std.specs.Io.KnownBytes.{Appends}
 use Rattle.boot_io.proofs.PutsLaws.{appends_then, part_then}
@@ -33,7 +33,7 @@ use Rattle.dxe_dispatch.specs.Choices.{BarsBy, EndsBy, EvaluatesFewBy, IsOnWay, 
 use Rattle.dxe_dispatch.specs.Ends.{IsNow}
 use Rattle.dxe_dispatch.specs.declared.answer.Step.{Step}
 use Rattle.dxe_dispatch.specs.declared.answer.Turn.TheVariants as T
-use Rattle.dxe_dispatch.specs.Turns.{IsGivenUp, IsLeft, IsWithin}
+use Rattle.dxe_dispatch.specs.Turns.{IsGivenUp, IsLeft, EvaluatesWithin}
 use Rattle.dxe_dispatch.proofs.Chosen.{Any, StepLaws, TakesFew, few_by, few_started, nearer_by, same_discovered, same_lines, target_at, waits_behind}
 use Rattle.dxe_dispatch.proofs.Targets.{left_before}
 
@@ -73,7 +73,7 @@ pub record IsComing {M S : Type 0} (Names : DxeMachine → Option ℕ → Type 0
   pub counted : FewBy catalog fuel opening earlier before evaluated
 
 few_on : (catalog : Catalog) (fuel : ℕ) (opening : DxeMachine) (earlier : List DxeMachine) (target : DxeMachine) (before evaluated now : ℕ) → target.discovered ≡ (came catalog fuel opening earlier).discovered
-    → FewBy catalog fuel opening earlier before evaluated → IsWithin catalog fuel target evaluated now → FewBy catalog fuel opening (target ∷ earlier) before now
+    → FewBy catalog fuel opening earlier before evaluated → EvaluatesWithin catalog fuel target evaluated now → FewBy catalog fuel opening (target ∷ earlier) before now
 few_on catalog fuel opening earlier target before evaluated now same few within =
     sums before evaluated now _ _ _ _ _ (ap (λ xs. length (drivers_of catalog xs)) same) few within
   where
@@ -257,12 +257,12 @@ turn_to_come ended Names Lets text faults stands store catalog fuel opening firs
     absurd (cc)
 
 -- the queue at the opening
-pub opening_queue : (catalog : Catalog) (kept queue : Queue) (volumes : List ℕ) (s : StoreState) (actions : ℕ) → IsNewQueue catalog kept → volumes ≡ (dxe_opening catalog s actions).discovered → Discovers catalog kept (drop 0 volumes) queue
+pub opening_queue : (catalog : Catalog) (kept queue : Queue) (volumes : List ℕ) (s : StoreState) (actions : ℕ) → IsNewQueue catalog kept → volumes ≡ (dxe_opening catalog s actions).discovered → Discovers catalog kept volumes queue
     → IsQueueOf catalog (dxe_opening catalog s actions) queue
 opening_queue catalog kept queue volumes s actions new same discovers =
     let opening : DxeMachine = dxe_opening catalog s actions in
     let before : DxeMachine = record opening { discovered = []; scheduled = []; requested = []; started = []; handles = no_handles } in
-    let has : HasVolumes catalog (drop 0 volumes) before opening = record {
+    let has : HasVolumes catalog volumes before opening = record {
       discovered = sym same;
       scheduled = ap (a_priori_drivers catalog) (sym same);
       started = refl;
@@ -274,20 +274,19 @@ opening_queue catalog kept queue volumes s actions new same discovers =
 -- the opening, with its lines and its queue
 pub opening_comes : {M S : Type 0} (opens : DxeOpensUnderWay) (waits : UnrequestedDriversWait) (Names : DxeMachine → Option ℕ → Type 0) (Lets : DxeMachine → ℕ → Bool) (text : S → Option (List ℕ)) (faults : S → ℕ) (stands : M → StoreState → Type 0) (store : M) (catalog : Catalog) (fuel : ℕ)
     (s : StoreState) (actions : ℕ) (first : S) (core : DxeCore) (kept queue : Queue) (shown : List ℕ) (sink : S) (steps : ℕ) → IsWellFormed catalog → StandsFor stands store catalog core (dxe_opening catalog s actions) → IsNewQueue catalog kept
-    → Discovers catalog kept (drop 0 core.services.order.volumes) queue → owed queue ≤ owed kept + length (drivers_of catalog (drop 0 core.services.order.volumes)) → shown ≡ (dxe_opening catalog s actions).discovered
+    → Discovers catalog kept shown queue → owed queue ≤ owed kept + length (drivers_of catalog shown) → shown ≡ (dxe_opening catalog s actions).discovered
     → Appends (text first) (text sink) (text_of (discovery_lines shown)) → faults sink ≡ faults first
     → IsComing Names Lets text faults stands store catalog fuel (dxe_opening catalog s actions) first 0 core queue sink steps (steps + owed queue)
 opening_comes opens waits Names Lets text faults stands store catalog fuel s actions first core kept queue shown sink steps well is new discovers owes shown_is put same =
     let opening : DxeMachine = dxe_opening catalog s actions in
     let way = opens catalog fuel s actions well.parents in
     let few = way.few in
-    let volumes = is.core.services.order.volumes_are in
-    let drivers : length (drivers_of catalog (drop 0 core.services.order.volumes)) ≡ length (discovered_order catalog opening) = ap (λ xs. length (drivers_of catalog xs)) volumes in
+    let drivers : length (drivers_of catalog shown) ≡ length (discovered_order catalog opening) = ap (λ xs. length (drivers_of catalog xs)) shown_is in
     let none = new.owes in
     record {
       earlier = [];
       run = tt;
-      on = record { now = record { machine = is; queue = opening_queue catalog kept queue core.services.order.volumes s actions new volumes discovers }; way = way.way; waits = waits catalog well fuel 0 s actions };
+      on = record { now = record { machine = is; queue = opening_queue catalog kept queue shown s actions new shown_is discovers }; way = way.way; waits = waits catalog well fuel 0 s actions };
       has = record { put = subst (λ xs. Appends (text first) (text sink) (text_of (discovery_lines xs))) shown_is put; right = same };
       few = λ most bound few. few;
       left = omega (arith, few);
@@ -295,10 +294,10 @@ opening_comes opens waits Names Lets text faults stands store catalog fuel s act
     }
 
 -- the drivers of the opening are those of its volumes, each once
-pub opening_drivers : (catalog : Catalog) (queue : Queue) (order : Drivers) (opening : DxeMachine) → IsNewQueue catalog queue → IsOrderOf catalog opening.discovered order → AllDiffer (discovered_order catalog opening) → AreNew catalog queue order 0
-opening_drivers catalog queue order opening new o once = record {
-  within = omega arith;
-  drivers = o.drivers_are ∙ ap (drivers_of catalog) (sym o.volumes_are) ∙ ap (λ xs. xs ++ drivers_of catalog (drop 0 order.volumes)) (sym new.order);
+pub opening_drivers : (catalog : Catalog) (queue : Queue) (order : Drivers) (opening : DxeMachine) (volumes : List ℕ) → volumes ≡ opening.discovered → IsNewQueue catalog queue → IsOrderOf catalog opening.discovered order → AllDiffer (discovered_order catalog opening)
+    → AreNew catalog queue order volumes
+opening_drivers catalog queue order opening volumes are new o once = record {
+  drivers = o.drivers_are ∙ ap (drivers_of catalog) (sym are) ∙ ap (λ xs. xs ++ drivers_of catalog volumes) (sym new.order);
   differ = subst AllDiffer (sym o.drivers_are) once;
 }
 

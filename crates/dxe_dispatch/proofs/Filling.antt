@@ -22,8 +22,8 @@ use Rattle.wait_index.specs.Dispatch.{StandsForDxe}
 use Rattle.wait_index.specs.Index as W
 use Rattle.wait_index.specs.Index.{IsIndex}
 use Rattle.dxe_dispatch.specs.Aim.{aimed, is_free, may_be_next}
-use Rattle.dxe_dispatch.specs.Choosing.{HaveWaiting, IsNumberOf, IsFilled, IsSeenRoot, Schedules, Takes}
-use Rattle.dxe_dispatch.specs.Index.{is_among}
+use Rattle.dxe_dispatch.specs.Choosing.{HaveWaiting, HasFlagFor, IsFilledQueue, IsSeenRoot, Schedules, TakesHead}
+use Rattle.dxe_dispatch.specs.Index.{is_scheduled_in}
 use Rattle.dxe_dispatch.specs.Queue.{ComesNext, HasStarted, IsDriver, IsQueueFor, IsQueueOf, Queue, owed, waits_at}
 use Rattle.dxe_dispatch.proofs.Machines.{stands_scheduled}
 use Rattle.dxe_dispatch.proofs.Scheduling.{IsKnownNext, each_map, mapped_drivers, scheduled_row}
@@ -45,14 +45,14 @@ abbrev pub with_queue : DxeMachine → List Scheduled → DxeMachine
 with_queue m scheduled = record m { scheduled = scheduled }
 
 -- a queue that is not empty stays
-pub filled_before : (catalog : Catalog) (m : DxeMachine) (queue : Queue) → IsQueueOf catalog m queue → 0 < length queue.scheduled → IsFilled catalog m queue
+pub filled_before : (catalog : Catalog) (m : DxeMachine) (queue : Queue) → IsQueueOf catalog m queue → 0 < length queue.scheduled → IsFilledQueue catalog m queue
 filled_before catalog m queue q some =
     let same : driver_queue catalog m ≡ m.scheduled = kept m.scheduled (group_scheduled catalog m (first_eligible catalog m)) (subst (λ (xs : List Scheduled). 0 < length xs) (sym q.scheduled) some) in
     subst (λ xs. IsQueueOf catalog (with_queue m xs) queue) (sym same) q
 
 -- an empty one gets the group, or stays empty
 pub filled_by : (catalog : Catalog) (m : DxeMachine) (queue later : Queue) (group : List Scheduled) → IsQueueOf catalog m queue → queue.scheduled ≡ [] → group_scheduled catalog m (first_eligible catalog m) ≡ group
-    → Each (IsKnownNext catalog m.discovered) group → Schedules queue group later → IsFilled catalog m later
+    → Each (IsKnownNext catalog m.discovered) group → Schedules queue group later → IsFilledQueue catalog m later
 filled_by catalog m queue later group q none is known g =
     let empty : m.scheduled ≡ [] = q.scheduled ∙ none in
     let same : driver_queue catalog m ≡ m.scheduled ++ group = ap (λ xs. queue_from xs (group_scheduled catalog m (first_eligible catalog m))) empty ∙ is ∙ sym (ap (λ xs. xs ++ group) empty) in
@@ -68,7 +68,7 @@ emptied [] group h = refl
 emptied (first ∷ rest) group h = h
 
 -- the head of the queue comes next
-pub comes_next : (catalog : Catalog) (m : DxeMachine) (queue later : Queue) (next : Option Scheduled) → IsFilled catalog m queue → Takes queue next later → ComesNext catalog m next later
+pub comes_next : (catalog : Catalog) (m : DxeMachine) (queue later : Queue) (next : Option Scheduled) → IsFilledQueue catalog m queue → TakesHead queue next later → ComesNext catalog m next later
 comes_next catalog m queue later None q t =
     let none : driver_queue catalog m ≡ [] = q.scheduled ∙ t.0 in
     let empty : m.scheduled ≡ [] = emptied m.scheduled (group_scheduled catalog m (first_eligible catalog m)) none in
@@ -89,7 +89,7 @@ comes_next catalog m queue later (Some next) q t =
         let is : ℕ → Scheduled → Bool = λ n x. x.module_number == n in
         let gone : (n : ℕ) → is_waiting m n ≡ is_waiting new n =
         λ n. ap (λ xs. not (list_any (is n) xs) && not (has_number m.started n)) whole
-        ∙ started_or_left (is n next) (is_among later.scheduled n) (has_number m.started n)
+        ∙ started_or_left (is n next) (is_scheduled_in later.scheduled n) (has_number m.started n)
         ∙ ap (λ xs. not (list_any (is n) xs) && not (has_number (next.module_number ∷ m.started) n)) (sym h.scheduled)
         ∙ ap (λ ns. not (list_any (is n) new.scheduled) && not (has_number ns n)) (sym h.started) in
         let stands : StandsForDxe catalog new queue.index = stands_scheduled catalog m new [] queue.index queue.index q.index (none_leave queue.index) h.discovered h.requested h.handles (λ n. sym (gone n)) in
@@ -134,12 +134,12 @@ each_turned P [] e = tt
 each_turned P (x ∷ xs) e = subst (Each P) (sym (reverse-append (x ∷ []) xs)) (each_append P (reverse xs) (x ∷ []) (each_turned P xs e.1) (e.0, tt))
 
 -- there is a flag for each driver of the group
-pub group_flags : (catalog : Catalog) (m : DxeMachine) (queue : Queue) (root : ℕ) (group : List ℕ) → IsFound catalog m root group → length queue.waits ≡ length catalog.modules → Each (IsNumberOf queue) group
+pub group_flags : (catalog : Catalog) (m : DxeMachine) (queue : Queue) (root : ℕ) (group : List ℕ) → IsFound catalog m root group → length queue.waits ≡ length catalog.modules → Each (HasFlagFor queue) group
 group_flags catalog m queue root group found flags =
     let Known : ℕ → Type 0 = IsKnown catalog m.discovered in
     let turned : Each Known (reverse group) = subst (Each Known) (sym found.group) found.known in
     let all : Each Known group = subst (Each Known) (reverse-reverse group) (each_turned Known (reverse group) turned) in
-    each_more Known (IsNumberOf queue) group (λ n k. let below : n < length catalog.modules = within (part_of Dxe) catalog.modules n k.0 in omega (arith, below, flags)) all
+    each_more Known (HasFlagFor queue) group (λ n k. let below : n < length catalog.modules = within (part_of Dxe) catalog.modules n k.0 in omega (arith, below, flags)) all
 
 pub group_drivers : (catalog : Catalog) (m : DxeMachine) (root : ℕ) (group : List ℕ) → IsFound catalog m root group → Each (IsDriver catalog) (schedule_of catalog (reverse group))
 group_drivers catalog m root group found =
@@ -158,7 +158,7 @@ on_ok (Ok done) f p = f p
 on_ok (Err fault) f p = tt
 
 -- a queue whose head has left
-pub takes_for : (catalog : Catalog) (queue later : Queue) (next : Option Scheduled) → IsQueueFor catalog queue → Takes queue next later → IsQueueFor catalog later
+pub takes_for : (catalog : Catalog) (queue later : Queue) (next : Option Scheduled) → IsQueueFor catalog queue → TakesHead queue next later → IsQueueFor catalog later
 takes_for catalog queue later None q t = subst (IsQueueFor catalog) (sym t.1) q
 takes_for catalog queue later (Some next) q t =
     let drivers : Each (IsDriver catalog) (next ∷ later.scheduled) = subst (λ xs. Each (IsDriver catalog) xs) t.0 q.drivers in
@@ -169,11 +169,11 @@ takes_for catalog queue later (Some next) q t =
       phase = ap (λ (i : WaitIndex). i.phase) t.3 ∙ q.phase;
     }
 
-pub takes_driver : (catalog : Catalog) (queue later : Queue) (next : Option Scheduled) → IsQueueFor catalog queue → Takes queue next later → IfSome next (IsDriver catalog)
+pub takes_driver : (catalog : Catalog) (queue later : Queue) (next : Option Scheduled) → IsQueueFor catalog queue → TakesHead queue next later → IfSome next (IsDriver catalog)
 takes_driver catalog queue later None q t = tt
 takes_driver catalog queue later (Some next) q t = let drivers : Each (IsDriver catalog) (next ∷ later.scheduled) = subst (λ xs. Each (IsDriver catalog) xs) t.0 q.drivers in drivers.0
 
-pub takes_owes : (queue later : Queue) (next : Option Scheduled) → Takes queue next later → owed later ≡ owed queue
+pub takes_owes : (queue later : Queue) (next : Option Scheduled) → TakesHead queue next later → owed later ≡ owed queue
 takes_owes queue later None t = ap (λ q. owed q) t.1
 takes_owes queue later (Some next) t = ap (λ (i : WaitIndex). W.owed i) t.3
 

@@ -13,10 +13,8 @@ use Rattle.boot_model.specs.DxeStep.{dxe_step}
 use Rattle.boot_model.specs.EvaluationBound.{dxe_asked, dxe_changes, dxe_evaluations, dxe_guids}
 use Rattle.boot_model.specs.Text.{text_of}
 use Rattle.boot_trace.proofs.Lines.{part_of_longer}
-use Rattle.dxe_dispatch.specs.Queue.{Queue}
-use Rattle.dxe_core.specs.Standing.{DxeCore}
 use Rattle.dxe_dispatch.specs.Choices.{EndsBy, EvaluatesFewBy, IsAimedBy, IsRunBy, StopsShort, aimed_at, came, changes_of}
-use Rattle.dxe_dispatch.specs.Ends.{HasEnded, RunsTo, StandsAtEnd}
+use Rattle.dxe_dispatch.specs.Ends.{HasEnded, RunCall, RunsFirstTo, StandsAtEnd}
 use Rattle.dxe_dispatch.proofs.Runs.{goes, run_discovers, run_tells, stays}
 
 -- no driver is named
@@ -86,12 +84,12 @@ first_lines Names Lets catalog fuel bound opening earlier own ends run =
     (more.0, ap (λ (x : DxeMachine). x.lines) (end_ahead Names Lets catalog fuel bound opening earlier own ends run) ∙ more.1)
 
 -- what such a run leaves is what the run of the machine leaves
-pub first_ends : {M : Type 0} (Names : DxeMachine → Option ℕ → Type 0) (Lets : DxeMachine → ℕ → Bool) (stands : M → StoreState → Type 0) (store : M) (catalog : Catalog) (fuel bound : ℕ) (opening : DxeMachine) (later : DxeCore) (queue : Queue) (how : DxeEnd) (old new : Option (List ℕ))
-    → NamesNone Names → is_some (dxe_run catalog fuel bound opening).ended ≡ true → EndsBy Names Lets stands store catalog fuel opening later queue how old new
-    → RunsTo stands store catalog (dxe_run catalog fuel bound opening) later queue old new (Ok how)
-first_ends Names Lets stands store catalog fuel bound opening later queue how old new own ends by =
+pub first_ends : {M : Type 0} (Names : DxeMachine → Option ℕ → Type 0) (Lets : DxeMachine → ℕ → Bool) (stands : M → StoreState → Type 0) (store : M) (catalog : Catalog) (fuel bound : ℕ) (opening : DxeMachine) (call : RunCall) (how : DxeEnd)
+    → NamesNone Names → is_some (dxe_run catalog fuel bound opening).ended ≡ true → EndsBy Names Lets stands store catalog fuel opening call.later call.queue how call.old call.new
+    → RunsFirstTo stands store catalog (dxe_run catalog fuel bound opening) call (Ok how)
+first_ends Names Lets stands store catalog fuel bound opening call how own ends by =
     let m = came catalog fuel opening by.earlier in
-    let P : DxeMachine → Type 0 = λ end. HasEnded how end old new × StandsAtEnd stands store catalog later queue end in
+    let P : DxeMachine → Type 0 = λ end. HasEnded how end call.old call.new × StandsAtEnd stands store catalog call.later call.queue end in
     let all : P m = (by.ended, by.now) in
     subst P (first_end Names Lets catalog fuel bound opening by.earlier how own ends by.run by.ended.ended) all
 

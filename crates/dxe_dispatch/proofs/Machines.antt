@@ -25,7 +25,7 @@ use Rattle.wait_index.specs.Dispatch.{StandsForDxe}
 use Rattle.wait_index.specs.Index.{IsSame, IsSet, again_in, has_in, is_open_in, order_in, waits_in}
 use Rattle.wait_index.specs.Installed.{is_there}
 use Rattle.wait_index.specs.Places.{standing_of, unknown}
-use Rattle.dxe_dispatch.specs.Index.{IsRequested, WaitNoMore, is_among}
+use Rattle.dxe_dispatch.specs.Index.{IsRequested, WaitNoMore, is_scheduled_in}
 use Rattle.dxe_dispatch.specs.Queue.{AreUntouched, HasProtocol, HasRequest}
 
 -- which protocols are there, for the same slots
@@ -43,14 +43,14 @@ waiting_same m later scheduled started n =
     ∙ ap (λ ns. not (list_any (λ (next : Scheduled). next.module_number == n) m.scheduled) && not (has_number ns n)) started
 
 -- drivers are scheduled
-pub stands_scheduled : (catalog : Catalog) (m later : DxeMachine) (added : List Scheduled) (old new : WaitIndex) → StandsForDxe catalog m old → WaitNoMore (is_among added) old new
-    → later.discovered ≡ m.discovered → later.requested ≡ m.requested → later.handles ≡ m.handles → ((n : ℕ) → is_waiting later n ≡ (not (is_among added n) && is_waiting m n)) → StandsForDxe catalog later new
+pub stands_scheduled : (catalog : Catalog) (m later : DxeMachine) (added : List Scheduled) (old new : WaitIndex) → StandsForDxe catalog m old → WaitNoMore (is_scheduled_in added) old new
+    → later.discovered ≡ m.discovered → later.requested ≡ m.requested → later.handles ≡ m.handles → ((n : ℕ) → is_waiting later n ≡ (not (is_scheduled_in added n) && is_waiting m n)) → StandsForDxe catalog later new
 stands_scheduled catalog m later added old new s w discovered requested handles waits =
     let known : (n : ℕ) → has_number (order_in new) n ≡ true → has_number (order_in old) n ≡ true = λ n h. ap (λ xs. has_number xs n) (sym w.order) ∙ h in
     record {
       phase = w.phase ∙ s.phase;
       order = w.order ∙ s.order ∙ ap (drivers_of catalog) (sym discovered);
-      waits = λ n h. w.waits n (known n h) ∙ ap (λ b. not (is_among added n) && b) (s.waits n (known n h)) ∙ sym (waits n);
+      waits = λ n h. w.waits n (known n h) ∙ ap (λ b. not (is_scheduled_in added n) && b) (s.waits n (known n h)) ∙ sym (waits n);
       opens = λ n h. w.opens n ∙ s.opens n (known n h) ∙ ap (λ ns. not (asks_for_request (part_at Dxe catalog n) && not (has_number ns n))) (sym requested);
       again = λ n h. w.again n (s.again n (known n h));
       installed = same_there catalog m later old new w.installed handles s;

@@ -26,8 +26,8 @@ use Rattle.boot_laws.proofs.Queue.{has_behind}
 use Rattle.wait_index.specs.declared.index.WaitIndex.{WaitIndex}
 use Rattle.dxe_action.specs.Order.{Drivers}
 use Rattle.wait_index.specs.Index.{IsIndex, IsSame, IsSet, asked, order_in}
-use Rattle.dxe_dispatch.specs.Choosing.{AllWait, Come, IsNumberOf, Schedules, as_apriori}
-use Rattle.dxe_dispatch.specs.Index.{IsRequested, Leaves, is_among}
+use Rattle.dxe_dispatch.specs.Choosing.{AllWait, Come, HasFlagFor, Schedules, as_apriori}
+use Rattle.dxe_dispatch.specs.Index.{IsRequested, WaitsNoMore, is_scheduled_in}
 use Rattle.dxe_dispatch.specs.Queue.{AreNew, HasProtocol, HasRequest, Queue, HasVolumes, IsDriver, IsQueueFor, IsQueueOf, owed, waits_at}
 use Rattle.dxe_dispatch.proofs.Machines.{none_before, stands_changed, stands_come, stands_requested, stands_scheduled, stands_settled, untouched_changed, untouched_requested, waiting_same}
 use Rattle.dxe_dispatch.proofs.WaitingDrivers.{leave_then, neither, none_leave}
@@ -39,7 +39,7 @@ pub scheduled_then : (queue mid later : Queue) (a b : List Scheduled) → Schedu
 scheduled_then queue mid later a b f g = record {
   scheduled = g.scheduled ∙ ap (λ xs. xs ++ b) f.scheduled ∙ append_assoc queue.scheduled a b;
   left = g.left ∙ f.left;
-  waits = λ n. g.waits n ∙ ap (λ w. not (is_among b n) && w) (f.waits n) ∙ neither (is_among a n) (is_among b n) (waits_at queue.waits n)
+  waits = λ n. g.waits n ∙ ap (λ w. not (is_scheduled_in b n) && w) (f.waits n) ∙ neither (is_scheduled_in a n) (is_scheduled_in b n) (waits_at queue.waits n)
       ∙ ap (λ t. not t && waits_at queue.waits n) (sym (list_any-append (λ (next : Scheduled). next.module_number == n) a b));
   flags = g.flags ∙ f.flags;
   index = leave_then a b queue.index mid.index later.index f.index g.index;
@@ -62,7 +62,7 @@ clear_at (flag ∷ flags) (suc k) (suc n) h =
 
 -- one driver behind all that were ever scheduled
 pub one_scheduled : (items new : List Scheduled) (head : ℕ) (flags later : List Bool) (index left : WaitIndex) (x : Scheduled) → head ≤ length items → x.module_number < length flags → new ≡ items ++ x ∷ []
-    → later ≡ slice_set flags x.module_number false → Leaves x.module_number index left
+    → later ≡ slice_set flags x.module_number false → WaitsNoMore x.module_number index left
     → Schedules (record { scheduled = drop head items; left = head; waits = flags; index = index }) (x ∷ []) (record { scheduled = drop head new; left = head; waits = later; index = left })
 one_scheduled items new head flags later index left x within number more cleared leaves = record {
   scheduled = ap (drop head) more ∙ drop-append-le head items (x ∷ []) within;
@@ -89,17 +89,17 @@ not_among_by catalog m n number later true same none known on =
     absurd (cc)
 not_among_by catalog m n number later false same none known on = on
 
-not_among : (catalog : Catalog) (m : DxeMachine) (n : ℕ) (added : List Scheduled) → has_number (discovered_order catalog m) n ≡ false → Each (IsKnownNext catalog m.discovered) added → is_among added n ≡ false
+not_among : (catalog : Catalog) (m : DxeMachine) (n : ℕ) (added : List Scheduled) → has_number (discovered_order catalog m) n ≡ false → Each (IsKnownNext catalog m.discovered) added → is_scheduled_in added n ≡ false
 not_among catalog m n [] none e = refl
-not_among catalog m n (next ∷ added) none e = not_among_by catalog m n next.module_number (is_among added n) (next.module_number == n) refl none e.0 (not_among catalog m n added none e.1)
+not_among catalog m n (next ∷ added) none e = not_among_by catalog m n next.module_number (is_scheduled_in added n) (next.module_number == n) refl none e.0 (not_among catalog m n added none e.1)
 
 -- a machine that has so many drivers more in its queue
 pub scheduled_row : (catalog : Catalog) (m new : DxeMachine) (added : List Scheduled) (queue later : Queue) → IsQueueOf catalog m queue → Schedules queue added later → new.scheduled ≡ m.scheduled ++ added → new.started ≡ m.started
     → new.discovered ≡ m.discovered → new.requested ≡ m.requested → new.handles ≡ m.handles → Each (IsKnownNext catalog m.discovered) added → IsQueueOf catalog new later
 scheduled_row catalog m new added queue later q g s t discovered requested handles known =
     let is : ℕ → Scheduled → Bool = λ n next. next.module_number == n in
-    let gone : (n : ℕ) → (not (is_among added n) && is_waiting m n) ≡ is_waiting new n =
-    λ n. neither (list_any (is n) m.scheduled) (is_among added n) (not (has_number m.started n))
+    let gone : (n : ℕ) → (not (is_scheduled_in added n) && is_waiting m n) ≡ is_waiting new n =
+    λ n. neither (list_any (is n) m.scheduled) (is_scheduled_in added n) (not (has_number m.started n))
     ∙ ap (λ b. not b && not (has_number m.started n)) (sym (list_any-append (is n) m.scheduled added))
     ∙ ap (λ xs. not (list_any (is n) xs) && not (has_number m.started n)) (sym s)
     ∙ ap (λ ns. not (list_any (is n) new.scheduled) && not (has_number ns n)) (sym t) in
@@ -107,7 +107,7 @@ scheduled_row catalog m new added queue later q g s t discovered requested handl
     record {
       scheduled = s ∙ ap (λ xs. xs ++ added) q.scheduled ∙ sym g.scheduled;
       left = g.left ∙ q.left ∙ ap length (sym t);
-      waits = λ n. g.waits n ∙ ap (λ w. not (is_among added n) && w) (q.waits n) ∙ gone n;
+      waits = λ n. g.waits n ∙ ap (λ w. not (is_scheduled_in added n) && w) (q.waits n) ∙ gone n;
       index = stands_scheduled catalog m new added queue.index later.index q.index g.index discovered requested handles (λ n. sym (gone n));
       others = λ n h. (
         sym (gone n) ∙ ap (λ b. not b && is_waiting m n) (not_among catalog m n added (before n h) known) ∙ (q.others n (before n h)).0,
@@ -215,9 +215,9 @@ ranked_room catalog volume most none empty few =
     omega (arith, fits, few, same)
 
 pub ranked_numbers : (catalog : Catalog) (volume : ℕ) (queue : Queue) (none parts numbers : List ℕ) → none ≡ [] → parts ≡ none ++ ranked_in catalog volume → numbers ≡ parts → length queue.waits ≡ length catalog.modules
-    → Each (IsNumberOf queue) numbers
+    → Each (HasFlagFor queue) numbers
 ranked_numbers catalog volume queue none parts numbers empty pushed are flags =
-    subst (Each (IsNumberOf queue)) (sym (are ∙ pushed ∙ ap (λ xs. xs ++ ranked_in catalog volume) empty))
+    subst (Each (HasFlagFor queue)) (sym (are ∙ pushed ∙ ap (λ xs. xs ++ ranked_in catalog volume) empty))
     (subst (λ (n : ℕ). Each (λ k. k < n) (ranked_in catalog volume)) (sym flags) (ranked_below catalog volume))
 
 -- a driver was requested
@@ -258,18 +258,18 @@ drivers_below catalog volumes =
     each_more (IsKnown catalog volumes) (λ n. n < length catalog.modules) (drivers_of catalog volumes) (λ n known. within (part_of Dxe) catalog.modules n known.0) (known_of catalog (parts_in Dxe catalog) (drivers_are catalog) volumes)
 
 -- the new drivers stand behind those of the index
-pub new_are : (catalog : Catalog) (queue : Queue) (order : Drivers) (known place : ℕ) (all drivers : List ℕ) → AreNew catalog queue order known → all ≡ order.drivers → place ≡ length (order_in queue.index) → drivers ≡ drop place all
-    → drivers ≡ drivers_of catalog (drop known order.volumes)
-new_are catalog queue order known place all drivers new is at behind =
-    behind ∙ ap (λ n. drop n all) at ∙ ap (drop (length (order_in queue.index))) (is ∙ new.drivers) ∙ drop_at (order_in queue.index) (drivers_of catalog (drop known order.volumes)) (length (order_in queue.index)) refl
+pub new_are : (catalog : Catalog) (queue : Queue) (order : Drivers) (volumes : List ℕ) (place : ℕ) (all drivers : List ℕ) → AreNew catalog queue order volumes → all ≡ order.drivers → place ≡ length (order_in queue.index) → drivers ≡ drop place all
+    → drivers ≡ drivers_of catalog volumes
+new_are catalog queue order volumes place all drivers new is at behind =
+    behind ∙ ap (λ n. drop n all) at ∙ ap (drop (length (order_in queue.index))) (is ∙ new.drivers) ∙ drop_at (order_in queue.index) (drivers_of catalog volumes) (length (order_in queue.index)) refl
 
-pub new_differ : (catalog : Catalog) (queue : Queue) (order : Drivers) (known : ℕ) (drivers : List ℕ) → AreNew catalog queue order known → drivers ≡ drivers_of catalog (drop known order.volumes) → AllDiffer (order_in queue.index ++ drivers)
-new_differ catalog queue order known drivers new are = subst AllDiffer (new.drivers ∙ ap (λ xs. order_in queue.index ++ xs) (sym are)) new.differ
+pub new_differ : (catalog : Catalog) (queue : Queue) (order : Drivers) (volumes drivers : List ℕ) → AreNew catalog queue order volumes → drivers ≡ drivers_of catalog volumes → AllDiffer (order_in queue.index ++ drivers)
+new_differ catalog queue order volumes drivers new are = subst AllDiffer (new.drivers ∙ ap (λ xs. order_in queue.index ++ xs) (sym are)) new.differ
 
-pub new_within : (catalog : Catalog) (queue : Queue) (order : Drivers) (known place : ℕ) (all : List ℕ) → AreNew catalog queue order known → all ≡ order.drivers → place ≡ length (order_in queue.index) → place ≤ length all
-new_within catalog queue order known place all new is at =
-    let long : length all ≡ length (order_in queue.index) + length (drivers_of catalog (drop known order.volumes)) =
-    ap length (is ∙ new.drivers) ∙ length-append (order_in queue.index) (drivers_of catalog (drop known order.volumes)) in
+pub new_within : (catalog : Catalog) (queue : Queue) (order : Drivers) (volumes : List ℕ) (place : ℕ) (all : List ℕ) → AreNew catalog queue order volumes → all ≡ order.drivers → place ≡ length (order_in queue.index) → place ≤ length all
+new_within catalog queue order volumes place all new is at =
+    let long : length all ≡ length (order_in queue.index) + length (drivers_of catalog volumes) =
+    ap length (is ∙ new.drivers) ∙ length-append (order_in queue.index) (drivers_of catalog volumes) in
     omega (arith, long, at)
 
 -- what is kept for a catalogue, with another index of it

@@ -15,10 +15,10 @@ use Rattle.dxe_action.specs.Order.{Drivers, IsOrderOf}
 use Rattle.dxe_dispatch.specs.Queue.{Queue, IsQueueOf, IsSeen}
 use Rattle.dxe_core.specs.Standing.{DxeCore, IsCoreOf}
 use Rattle.dxe_dispatch.specs.Ends.{IsNow}
-use Rattle.dxe_dispatch.specs.Turns.{AreOf}
+use Rattle.dxe_dispatch.specs.Turns.{AreKeptFor}
 
 -- by what the core keeps
-pub seen_so : (catalog : Catalog) (core : DxeCore) (queue : Queue) (m : DxeMachine) (order : Drivers) → order ≡ core.services.order → AreOf catalog core queue m → IsSeen catalog m queue order
+pub seen_so : (catalog : Catalog) (core : DxeCore) (queue : Queue) (m : DxeMachine) (order : Drivers) → order ≡ core.services.order → AreKeptFor catalog core queue m → IsSeen catalog m queue order
 seen_so catalog core queue m order order_is are =
     let P : Drivers → Type 0 = λ drivers. IsOrderOf catalog m.discovered drivers in
     record { queue = are.queue; order = subst P (sym order_is) are.core.services.order }
@@ -60,7 +60,7 @@ core_still catalog core m lines is = record {
 queue_still : (catalog : Catalog) (queue : Queue) (m : DxeMachine) (lines : List Line) → IsQueueOf catalog m queue → IsQueueOf catalog (record m { lines = lines; ended = None }) queue
 queue_still catalog queue m lines is = queue_same catalog queue m (record m { lines = lines; ended = None }) is refl refl refl refl (λ guid. refl)
 
-pub are_still : (catalog : Catalog) (core : DxeCore) (queue : Queue) (m : DxeMachine) (lines : List Line) → AreOf catalog core queue m → AreOf catalog core queue (record m { lines = lines; ended = None })
+pub are_still : (catalog : Catalog) (core : DxeCore) (queue : Queue) (m : DxeMachine) (lines : List Line) → AreKeptFor catalog core queue m → AreKeptFor catalog core queue (record m { lines = lines; ended = None })
 are_still catalog core queue m lines are = record { core = core_still catalog core m lines are.core; queue = queue_still catalog queue m lines are.queue }
 
 pub now_still : {M : Type 0} (stands : M → StoreState → Type 0) (store : M) (catalog : Catalog) (core : DxeCore) (queue : Queue) (m : DxeMachine) (lines : List Line) → IsNow stands store catalog core queue m

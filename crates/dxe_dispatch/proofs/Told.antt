@@ -10,9 +10,9 @@ use Rattle.catalog_model.specs.declared.catalog.Catalog.{Catalog}
 use Rattle.store_model.specs.HandleState.{HandleState, has_protocol}
 use Rattle.boot_model.specs.DxeMachine.{DxeMachine}
 use Rattle.boot_model.specs.EvaluationBound.{dxe_asked}
-use Rattle.dxe_action.specs.Reply.{IsInOrder}
+use Rattle.dxe_action.specs.Event.{IsDiscoveredDriver}
 use Rattle.dxe_dispatch.specs.Queue.{HasProtocol, HasRequest, IsQueueOf, Queue, Requests}
-use Rattle.dxe_core.specs.declared.event.Event.{Event}
+use Rattle.dxe_action.specs.declared.event.Event.{Event}
 use Rattle.dxe_dispatch.specs.Events.{HasEvent, HasHandles}
 use Rattle.dxe_dispatch.proofs.Standing.{queue_same}
 
@@ -54,7 +54,7 @@ pub request_told : (catalog : Catalog) (queue grown : Queue) (handles : HandleSt
     → IsQueueOf catalog (with_handles m handles) queue → Requests catalog queue number grown → IsQueueOf catalog later grown
 request_told catalog queue grown handles event number m later is has here requests =
     let has_request : HasRequest catalog number (with_handles m handles) later = record {
-      known = subst (λ asked. IfSome asked (IsInOrder catalog m)) is has.in_order;
+      known = subst (λ asked. IfSome asked (IsDiscoveredDriver catalog m)) is has.in_order;
       requested = has.requested ∙ ap (λ asked. m.requested ++ option_to_list asked) is;
       discovered = has.discovered;
       scheduled = has.scheduled;

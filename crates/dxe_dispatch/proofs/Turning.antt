@@ -1,9 +1,9 @@
 -- A turn, from what its parts leave.
-use Rattle.std.proofs.Common.{◌≡◌, ◌≤◌, ℕ, ◌+◌, Bool, true, false, List, [], ◌++◌, Option, Some, None, Ok, Err, Result, refl, sym, ap, ◌∙◌, subst, length, drop, arith, inl, inr}
+use Rattle.std.proofs.Common.{◌≡◌, ◌≤◌, ℕ, ◌+◌, Bool, true, false, List, [], ◌++◌, Option, Some, None, Ok, Err, Result, refl, sym, ap, ◌∙◌, subst, length, arith, inl, inr}
 use Rattle.std.specs.Prelude.{IsErr, OnOk, sum_by}
 use Rattle.std.specs.Option.{option_to_list}
 use Rattle.std.proofs.lemmas.Grind.{flat_map-append}
-use Rattle.std.proofs.lemmas.List.{append-nil, length-append, drop_at}
+use Rattle.std.proofs.lemmas.List.{append-nil, length-append}
 use Rattle.std.specs.Io.KnownBytes.{Appends}
 use Rattle.boot_io.proofs.PutsLaws.{appends_none}
 use Rattle.boot_io.specs.Sink.{AppendsPart}
@@ -26,9 +26,9 @@ use Rattle.boot_model.specs.Licence.{AllDiffer}
 use Rattle.dxe_action.specs.Order.{Drivers, IsOrderOf}
 use Rattle.wait_index.specs.Index.{order_in}
 use Rattle.dxe_dispatch.specs.Queue.{AreNew, Discovers, HasVolumes, Queue, IsQueueOf, IsDriver, IsNext, ComesNext}
-use Rattle.dxe_core.specs.declared.event.Event.{Event}
+use Rattle.dxe_action.specs.declared.event.Event.{Event}
 use Rattle.dxe_core.specs.Standing.{DxeCore, StandsFor}
-use Rattle.dxe_core.specs.Steps.{IsIdle, IsEvent, HasOver, HasStepped, HasEnded}
+use Rattle.dxe_core.specs.Steps.{IsIdle, IsEvent, HasOver, HasStepped, IsCutOff}
 use Rattle.dxe_core.specs.Turn.{Printed, PrintedPart}
 use Rattle.boot_trace.specs.Printing.{Texts}
 use Rattle.boot_laws.specs.declared.choice.Reached.TheVariants as R
@@ -36,7 +36,7 @@ use Rattle.dxe_dispatch.specs.declared.answer.Turn.{Turn}
 use Rattle.dxe_dispatch.specs.declared.answer.Turn.TheVariants.{Took, Reached}
 use Rattle.dxe_dispatch.specs.Ends.{IsNow}
 use Rattle.dxe_dispatch.specs.Events.{HasEvent}
-use Rattle.dxe_dispatch.specs.Turns.{AreLeft, AreOf, HasTurned, IsGivenUp, IsHeldBack, IsLeft, IsOver, IsWithin, TurnsTo, stop_lines}
+use Rattle.dxe_dispatch.specs.Turns.{AreLeft, AreKeptFor, HasTurned, IsGivenUp, IsHeldBack, IsLeft, HasTurnedToEnd, EvaluatesWithin, TurnsDxeTo, stop_lines}
 use Rattle.dxe_dispatch.proofs.Idle.{left_queue, step_starts, step_stops, started_queue}
 use Rattle.dxe_dispatch.proofs.Passing.{busy_passes, busy_starts_none, passes, starting, stop_passes, stop_starts_none}
 use Rattle.boot_trace.proofs.Lines.{part_whole}
@@ -46,9 +46,9 @@ use Rattle.dxe_dispatch.proofs.Standing.{now_still}
 -- the start of the driver that comes next, which is let
 pub starts_so : (lets : ℕ → Bool) (catalog : Catalog) (fuel : ℕ) (later : DxeCore) (grown : Queue) (m : DxeMachine) (next : Scheduled) (t : Texts) (chosen : IsNext catalog m next grown) → IsIdle m → IsDriver catalog next → lets next.module_number ≡ true
     → HasStepped (HasOver catalog later m) m (driver_started catalog m next chosen.rest (part_at Dxe catalog next.module_number)) t
-    → HasTurned lets (AreOf catalog later grown) catalog m (dxe_step catalog fuel m) t
+    → HasTurned lets (AreKeptFor catalog later grown) catalog m (dxe_step catalog fuel m) t
 starts_so lets catalog fuel later grown m next t chosen idle driver may stepped =
-    let P : DxeMachine → Type 0 = λ x. HasTurned lets (AreOf catalog later grown) catalog m x t in
+    let P : DxeMachine → Type 0 = λ x. HasTurned lets (AreKeptFor catalog later grown) catalog m x t in
     let turned : P (driver_started catalog m next chosen.rest (part_at Dxe catalog next.module_number)) = record {
       passes = passes lets catalog m next chosen.rest idle chosen.next_is may;
       printed = stepped.printed;
@@ -57,7 +57,7 @@ starts_so lets catalog fuel later grown m next t chosen idle driver may stepped 
     subst P (sym (step_starts catalog fuel m next chosen.rest idle chosen.next_is)) turned
 
 -- it is not let, and has left the queue
-pub stays_so : (lets : ℕ → Bool) (catalog : Catalog) (core : DxeCore) (queue grown : Queue) (m : DxeMachine) (next : Scheduled) (text : Option (List ℕ)) (chosen : IsNext catalog m next grown) → IsIdle m → AreOf catalog core queue m → lets next.module_number ≡ false
+pub stays_so : (lets : ℕ → Bool) (catalog : Catalog) (core : DxeCore) (queue grown : Queue) (m : DxeMachine) (next : Scheduled) (text : Option (List ℕ)) (chosen : IsNext catalog m next grown) → IsIdle m → AreKeptFor catalog core queue m → lets next.module_number ≡ false
     → IsHeldBack lets (AreLeft catalog core grown) catalog m next.module_number (record { old = text; new = text })
 stays_so lets catalog core queue grown m next text chosen idle are barred = record {
   starting = starting catalog m next chosen.rest idle chosen.next_is;
@@ -67,10 +67,10 @@ stays_so lets catalog core queue grown m next text chosen idle are barred = reco
 }
 
 -- where no driver comes next, DXE stops
-pub stops_so : (lets : ℕ → Bool) (catalog : Catalog) (fuel : ℕ) (core : DxeCore) (queue grown : Queue) (m : DxeMachine) (t : Texts) → IsIdle m → AreOf catalog core queue m → ComesNext catalog m None grown
-    → Appends t.old t.new (text_of (stop_lines catalog m)) → IsOver lets (AreOf catalog core grown) catalog m (dxe_step catalog fuel m) Done t
+pub stops_so : (lets : ℕ → Bool) (catalog : Catalog) (fuel : ℕ) (core : DxeCore) (queue grown : Queue) (m : DxeMachine) (t : Texts) → IsIdle m → AreKeptFor catalog core queue m → ComesNext catalog m None grown
+    → Appends t.old t.new (text_of (stop_lines catalog m)) → HasTurnedToEnd lets (AreKeptFor catalog core grown) catalog m (dxe_step catalog fuel m) Done t
 stops_so lets catalog fuel core queue grown m t idle are none put =
-    let P : DxeMachine → Type 0 = λ x. IsOver lets (AreOf catalog core grown) catalog m x Done t in
+    let P : DxeMachine → Type 0 = λ x. HasTurnedToEnd lets (AreKeptFor catalog core grown) catalog m x Done t in
     let services = are.core.services in
     let index = none.1.index in
     let over : P (dxe_stopped catalog m) = record {
@@ -92,53 +92,41 @@ told m later = record m { handles = later.handles; requested = later.requested }
 
 pub has_event : (catalog : Catalog) (fuel : ℕ) (m : DxeMachine) (event : Event) (handles : HandleState) → IsEvent catalog fuel m event → (dxe_step catalog fuel m).handles ≡ handles → HasEvent handles catalog event m (told m (dxe_step catalog fuel m))
 has_event catalog fuel m event handles is same =
-    record { same = same; others = is.others; requested = is.requested; in_order = is.in_order; discovered = refl; scheduled = refl; started = refl }
+    record { same = same; others = is.others; requested = is.left.requested; in_order = is.left.in_order; discovered = refl; scheduled = refl; started = refl }
 
--- the volumes at the place that the event tells, and behind it, are those that it discovered
-behind : (known : List ℕ) (m step : DxeMachine) (place : ℕ) (volumes : List ℕ) → known ≡ step.discovered → place ≡ length m.discovered → step.discovered ≡ m.discovered ++ volumes → drop place known ≡ volumes
-behind known m step place volumes now at more = ap (λ n. drop n known) at ∙ ap (drop (length m.discovered)) (now ∙ more) ∙ drop_at m.discovered volumes (length m.discovered) refl
-
--- so that their drivers stand behind those of the index
-pub new_drivers : (catalog : Catalog) (fuel : ℕ) (m : DxeMachine) (event : Event) (queue : Queue) (order : Drivers) → IsEvent catalog fuel m event → IsOrderOf catalog (dxe_step catalog fuel m).discovered order
-    → order_in queue.index ≡ discovered_order catalog m → AllDiffer (discovered_order catalog (dxe_step catalog fuel m)) → AreNew catalog queue order event.known
-new_drivers catalog fuel m event queue order is o here once =
-    let step : DxeMachine = dxe_step catalog fuel m in
-    let new = behind order.volumes m step event.known is.volumes o.volumes_are is.known is.discovered in
-    let long : length order.volumes ≡ length m.discovered + length is.volumes = ap length (o.volumes_are ∙ is.discovered) ∙ length-append m.discovered is.volumes in
-    let known = is.known in
-    record {
-      within = omega (arith, long, known);
-      drivers = o.drivers_are ∙ ap (drivers_of catalog) is.discovered ∙ flat_map-append (parts_in Dxe catalog) m.discovered is.volumes
-          ∙ ap (λ xs. xs ++ drivers_of catalog is.volumes) (sym here) ∙ ap (λ volumes. order_in queue.index ++ drivers_of catalog volumes) (sym new);
-      differ = subst AllDiffer (sym o.drivers_are) once;
-    }
+-- the drivers of the volumes that it discovered stand behind those of the index
+pub new_drivers : (catalog : Catalog) (fuel : ℕ) (m : DxeMachine) (event : Event) (queue : Queue) (order : Drivers) (volumes : List ℕ) → (is : IsEvent catalog fuel m event) → IsOrderOf catalog (dxe_step catalog fuel m).discovered order
+    → volumes ≡ is.left.volumes → order_in queue.index ≡ discovered_order catalog m → AllDiffer (discovered_order catalog (dxe_step catalog fuel m)) → AreNew catalog queue order volumes
+new_drivers catalog fuel m event queue order volumes is o new here once = record {
+  drivers = o.drivers_are ∙ ap (drivers_of catalog) is.left.discovered ∙ flat_map-append (parts_in Dxe catalog) m.discovered is.left.volumes
+      ∙ ap (λ xs. xs ++ drivers_of catalog is.left.volumes) (sym here) ∙ ap (λ xs. order_in queue.index ++ drivers_of catalog xs) (sym new);
+  differ = subst AllDiffer (sym o.drivers_are) once;
+}
 
 -- the event behind which the core stands for the later machine, with the queue that was told of it
-pub event_so : {M : Type 0} (lets : ℕ → Bool) (stands : M → StoreState → Type 0) (store : M) (catalog : Catalog) (fuel : ℕ) (later : DxeCore) (mid grown : Queue) (m : DxeMachine) (event : Event) (t : Texts)
-    → (IsIdle m → ⊥) → IsEvent catalog fuel m event → HasStepped (StandsFor stands store catalog later) m (dxe_step catalog fuel m) t → IsQueueOf catalog (told m (dxe_step catalog fuel m)) mid
-    → Discovers catalog mid (drop event.known later.services.order.volumes) grown → HasTurned lets (IsNow stands store catalog later grown) catalog m (dxe_step catalog fuel m) t
-event_so lets stands store catalog fuel later mid grown m event t busy is stepped here discovers =
+pub event_so : {M : Type 0} (lets : ℕ → Bool) (stands : M → StoreState → Type 0) (store : M) (catalog : Catalog) (fuel : ℕ) (later : DxeCore) (mid grown : Queue) (m : DxeMachine) (event : Event) (volumes : List ℕ) (t : Texts)
+    → (IsIdle m → ⊥) → (is : IsEvent catalog fuel m event) → volumes ≡ is.left.volumes → HasStepped (StandsFor stands store catalog later) m (dxe_step catalog fuel m) t → IsQueueOf catalog (told m (dxe_step catalog fuel m)) mid
+    → Discovers catalog mid volumes grown → HasTurned lets (IsNow stands store catalog later grown) catalog m (dxe_step catalog fuel m) t
+event_so lets stands store catalog fuel later mid grown m event volumes t busy is new stepped here discovers =
     let step : DxeMachine = dxe_step catalog fuel m in
-    let new = behind later.services.order.volumes m step event.known is.volumes stepped.machine.core.services.order.volumes_are is.known is.discovered in
-    let has : HasVolumes catalog (drop event.known later.services.order.volumes) (told m step) step = record {
-      discovered = is.discovered ∙ ap (λ xs. m.discovered ++ xs) (sym new);
-      scheduled = is.scheduled ∙ ap (λ xs. m.scheduled ++ a_priori_drivers catalog xs) (sym new);
-      started = is.started;
+    let has : HasVolumes catalog volumes (told m step) step = record {
+      discovered = is.left.discovered ∙ ap (λ xs. m.discovered ++ xs) (sym new);
+      scheduled = is.left.scheduled ∙ ap (λ xs. m.scheduled ++ a_priori_drivers catalog xs) (sym new);
+      started = is.left.started;
       requested = refl;
       handles = refl;
     } in
     record { passes = busy_passes lets catalog m busy; printed = stepped.printed; now = record { machine = stepped.machine; queue = discovers (told m step) step here has } }
 
 -- what has to be evaluated behind it
-pub event_owes : (catalog : Catalog) (fuel : ℕ) (m : DxeMachine) (event : Event) (volumes : List ℕ) (steps before told_owes now : ℕ) → IsEvent catalog fuel m event → volumes ≡ (dxe_step catalog fuel m).discovered
-    → told_owes ≤ before + sum_by (dxe_asked catalog m) (option_to_list event.changed) → now ≤ told_owes + length (drivers_of catalog (drop event.known volumes)) → IsWithin catalog fuel m (steps + before) (steps + now)
-event_owes catalog fuel m event volumes steps before told_owes now is same first second =
+pub event_owes : (catalog : Catalog) (fuel : ℕ) (m : DxeMachine) (event : Event) (volumes : List ℕ) (steps before told_owes now : ℕ) → (is : IsEvent catalog fuel m event) → volumes ≡ is.left.volumes
+    → told_owes ≤ before + sum_by (dxe_asked catalog m) (option_to_list event.changed) → now ≤ told_owes + length (drivers_of catalog volumes) → EvaluatesWithin catalog fuel m (steps + before) (steps + now)
+event_owes catalog fuel m event volumes steps before told_owes now is new first second =
     let step : DxeMachine = dxe_step catalog fuel m in
-    let new = behind volumes m step event.known is.volumes same is.known is.discovered in
-    let all : length (discovered_order catalog step) ≡ length (discovered_order catalog m) + length (drivers_of catalog is.volumes) =
-    ap (λ xs. length (drivers_of catalog xs)) is.discovered ∙ ap length (flat_map-append (parts_in Dxe catalog) m.discovered is.volumes) ∙ length-append (discovered_order catalog m) (drivers_of catalog is.volumes) in
+    let all : length (discovered_order catalog step) ≡ length (discovered_order catalog m) + length (drivers_of catalog is.left.volumes) =
+    ap (λ xs. length (drivers_of catalog xs)) is.left.discovered ∙ ap length (flat_map-append (parts_in Dxe catalog) m.discovered is.left.volumes) ∙ length-append (discovered_order catalog m) (drivers_of catalog is.left.volumes) in
     let asked : sum_by (dxe_asked catalog m) (option_to_list event.changed) ≡ sum_by (dxe_asked catalog m) (dxe_guids catalog fuel m) = ap (sum_by (dxe_asked catalog m)) is.changed in
-    let more : length (drivers_of catalog (drop event.known volumes)) ≡ length (drivers_of catalog is.volumes) = ap (λ xs. length (drivers_of catalog xs)) new in
+    let more : length (drivers_of catalog volumes) ≡ length (drivers_of catalog is.left.volumes) = ap (λ xs. length (drivers_of catalog xs)) new in
     sums steps before told_owes now _ _ _ _ _ _ first second all asked more
   where
     sums : (steps before told_owes now by_event by_step here there new seen : ℕ) → told_owes ≤ before + by_event → now ≤ told_owes + seen → there ≡ here + new → by_event ≡ by_step → seen ≡ new
@@ -146,7 +134,7 @@ event_owes catalog fuel m event volumes steps before told_owes now is same first
     sums steps before told_owes now by_event by_step here there new seen first second all asked more = omega (arith, first, second, all, asked, more)
 
 -- where nothing more has to be evaluated
-pub owes_still : (catalog : Catalog) (fuel : ℕ) (m : DxeMachine) (before now : ℕ) → now ≤ before → IsWithin catalog fuel m before now
+pub owes_still : (catalog : Catalog) (fuel : ℕ) (m : DxeMachine) (before now : ℕ) → now ≤ before → EvaluatesWithin catalog fuel m before now
 owes_still catalog fuel m before now few =
     let grown = driver_steps_grow catalog fuel m in
     let more = discovered_more catalog m.discovered grown.discovered.0 (dxe_step catalog fuel m).discovered grown.discovered.1 in
@@ -162,10 +150,10 @@ whole_part lets catalog m later t busy printed =
 
 -- the machine ends and nothing else changes
 pub ends_so : {M : Type 0} (lets : ℕ → Bool) (stands : M → StoreState → Type 0) (store : M) (catalog : Catalog) (fuel : ℕ) (later : DxeCore) (queue : Queue) (m : DxeMachine) (end : DxeEnd) (t : Texts)
-    → (IsIdle m → ⊥) → HasEnded (StandsFor stands store catalog later) catalog fuel m end t → IsQueueOf catalog m queue
-    → IsOver lets (IsNow stands store catalog later queue) catalog m (dxe_step catalog fuel m) end t
+    → (IsIdle m → ⊥) → IsCutOff (StandsFor stands store catalog later) catalog fuel m end t → IsQueueOf catalog m queue
+    → HasTurnedToEnd lets (IsNow stands store catalog later queue) catalog m (dxe_step catalog fuel m) end t
 ends_so lets stands store catalog fuel later queue m end t busy ended was =
-    let P : DxeMachine → Type 0 = λ x. IsOver lets (IsNow stands store catalog later queue) catalog m x end t in
+    let P : DxeMachine → Type 0 = λ x. HasTurnedToEnd lets (IsNow stands store catalog later queue) catalog m x end t in
     let over : P (record m { ended = Some end }) = record {
       passes = busy_passes lets catalog m busy;
       none = busy_starts_none catalog m busy;
@@ -178,7 +166,7 @@ ends_so lets stands store catalog fuel later queue m end t busy ended was =
 
 -- over the store, which stays
 now_over : {M : Type 0} (stands : M → StoreState → Type 0) (store : M) (catalog : Catalog) (core : DxeCore) (queue : Queue) (m later : DxeMachine) → stands store m.store → later.store ≡ m.store
-    → AreOf catalog core queue later → IsNow stands store catalog core queue later
+    → AreKeptFor catalog core queue later → IsNow stands store catalog core queue later
 now_over stands store catalog core queue m later here same are =
     record { machine = record { store = let P : StoreState → Type 0 = λ s. stands store s in subst P (sym same) here; core = are.core }; queue = are.queue }
 
@@ -187,8 +175,8 @@ left_over stands store catalog core queue m here are = record { machine = record
 
 -- a start or the stop leaves the store
 pub turns_over : {M : Type 0} (lets : ℕ → Bool) (stands : M → StoreState → Type 0) (store : M) (catalog : Catalog) (fuel : ℕ) (m : DxeMachine) (later : DxeCore) (queue : Queue) (t : Texts) (r : Result Turn Halt)
-    → stands store m.store → TurnsTo lets (AreOf catalog later queue) (AreLeft catalog later queue) catalog fuel m (dxe_step catalog fuel m) t r
-    → TurnsTo lets (IsNow stands store catalog later queue) (IsLeft stands store catalog later queue) catalog fuel m (dxe_step catalog fuel m) t r
+    → stands store m.store → TurnsDxeTo lets (AreKeptFor catalog later queue) (AreLeft catalog later queue) catalog fuel m t r
+    → TurnsDxeTo lets (IsNow stands store catalog later queue) (IsLeft stands store catalog later queue) catalog fuel m t r
 turns_over lets stands store catalog fuel m later queue t (Ok (Took step)) here turned =
     let now = now_over stands store catalog later queue m (dxe_step catalog fuel m) here (driver_steps_grow catalog fuel m).store turned.0.now in
     (record { passes = turned.0.passes; printed = turned.0.printed; now = now }, turned.1)

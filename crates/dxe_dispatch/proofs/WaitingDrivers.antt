@@ -13,7 +13,7 @@ use Rattle.wait_index.specs.declared.standing.Standing.{Standing}
 use Rattle.wait_index.specs.Change.{IsChanged, gated, started}
 use Rattle.wait_index.specs.Index.{Changes, IsIndex, is_open_in, order_in, owed, waits_in}
 use Rattle.wait_index.specs.Places.{order_of, standing_of}
-use Rattle.dxe_dispatch.specs.Index.{IsRequested, Leaves, WaitNoMore, is_among}
+use Rattle.dxe_dispatch.specs.Index.{IsRequested, WaitsNoMore, WaitNoMore, is_scheduled_in}
 
 place_by : (x : ℕ) (xs : List ℕ) (n : ℕ) (b : Bool) → (x == n) ≡ b → (b || has_number xs n) ≡ true → (has_number xs n ≡ true → (place : ℕ) × (slice_get xs place ≡ Some n))
     → (place : ℕ) × (slice_get (x ∷ xs) place ≡ Some n)
@@ -57,7 +57,7 @@ again_by false s h = h
 
 -- a driver waits no more
 pub leaves_at : (number place : ℕ) (old new : WaitIndex) → slice_get (order_in old) place ≡ Some number → Changes started place old new → ((catalog : Catalog) → IsIndex catalog old → IsIndex catalog new) → owed new ≤ owed old
-    → Leaves number old new
+    → WaitsNoMore number old new
 leaves_at number place old new at is kept few =
     let stands : (n : ℕ) → standing_of new.places n ≡ cond (number == n) (started (standing_of old.places n)) (standing_of old.places n) =
     λ n. stands_by started (order_in old) old.places new.places place number n (number == n) refl at is.changed refl in
@@ -78,7 +78,7 @@ none_by true number n order e none known =
 none_by false number n order e none known = refl
 
 -- one that has no place waits for nothing
-pub leaves_none : (number : ℕ) (old : WaitIndex) → ((place : ℕ) → slice_get (order_in old) place ≡ Some number → ⊥) → Leaves number old old
+pub leaves_none : (number : ℕ) (old : WaitIndex) → ((place : ℕ) → slice_get (order_in old) place ≡ Some number → ⊥) → WaitsNoMore number old old
 leaves_none number old none = record {
   phase = refl;
   installed = refl;
@@ -136,7 +136,7 @@ pub not_there : (found : Option ℕ) (P : ℕ → Type 0) → found ≡ None →
 not_there found P none at place p = let never : Some place ≡ None = sym (at place p) ∙ none in cc
 
 -- nobody is scheduled
-pub none_leave : (index : WaitIndex) → WaitNoMore (is_among []) index index
+pub none_leave : (index : WaitIndex) → WaitNoMore (is_scheduled_in []) index index
 none_leave index = record {
   phase = refl;
   installed = refl;
@@ -155,15 +155,15 @@ neither true false w = refl
 neither false y w = refl
 
 -- some, and then others
-pub leave_then : (a b : List Scheduled) (old mid new : WaitIndex) → WaitNoMore (is_among a) old mid → WaitNoMore (is_among b) mid new → WaitNoMore (is_among (a ++ b)) old new
+pub leave_then : (a b : List Scheduled) (old mid new : WaitIndex) → WaitNoMore (is_scheduled_in a) old mid → WaitNoMore (is_scheduled_in b) mid new → WaitNoMore (is_scheduled_in (a ++ b)) old new
 leave_then a b old mid new f g = record {
   phase = g.phase ∙ f.phase;
   installed = g.installed ∙ f.installed;
   order = g.order ∙ f.order;
   waits = λ n known.
       g.waits n (ap (λ xs. has_number xs n) f.order ∙ known)
-      ∙ ap (λ w. not (is_among b n) && w) (f.waits n known)
-      ∙ neither (is_among a n) (is_among b n) (waits_in old n)
+      ∙ ap (λ w. not (is_scheduled_in b n) && w) (f.waits n known)
+      ∙ neither (is_scheduled_in a n) (is_scheduled_in b n) (waits_in old n)
       ∙ ap (λ t. not t && waits_in old n) (sym (list_any-append (λ (next : Scheduled). next.module_number == n) a b));
   opens = λ n. g.opens n ∙ f.opens n;
   again = λ n h. g.again n (f.again n h);

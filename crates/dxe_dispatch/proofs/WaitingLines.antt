@@ -13,7 +13,7 @@ use Rattle.boot_model.specs.DxeMachine.{DxeMachine}
 use Rattle.boot_model.specs.DxeStep.{driver_waiting_line, driver_waiting_lines}
 use Rattle.boot_model.specs.Text.{line_text, text_of}
 use Rattle.dxe_dispatch.specs.Turns.{stop_lines}
-use Rattle.dxe_dispatch.specs.Waiting.{line_where, lines_of}
+use Rattle.dxe_dispatch.specs.Waiting.{line_where, waiting_lines_of}
 use Rattle.boot_trace.proofs.Lines.{line_then}
 
 one_more : (b : Bool) (line : ℕ → Line) (number : ℕ) (numbers : List ℕ) (rest : List Line) → rest ≡ map line numbers → line_where b (line number) ++ rest ≡ map line (cond b (number ∷ numbers) numbers)
@@ -28,10 +28,10 @@ lines_where waits line (number ∷ numbers) =
 
 -- a call that puts the lines of the drivers behind the line of the stop
 pub stop_puts : (r : Result (Unit {0}) SinkFault) (old mid new : Option (List ℕ)) (catalog : Catalog) (m : DxeMachine) (numbers : List ℕ) → numbers ≡ discovered_order catalog m
-    → Appends old mid (line_text L.DxeStop) → Puts r mid new (text_of (lines_of catalog m numbers)) → Puts r old new (text_of (stop_lines catalog m))
+    → Appends old mid (line_text L.DxeStop) → Puts r mid new (text_of (waiting_lines_of catalog m numbers)) → Puts r old new (text_of (stop_lines catalog m))
 stop_puts r old mid new catalog m numbers is first puts =
     let P : List Line → Type 0 = λ lines. Puts r mid new (text_of lines) in
-    let whole : lines_of catalog m numbers ≡ driver_waiting_lines catalog m = ap (lines_of catalog m) is ∙ lines_where (is_waiting m) (driver_waiting_line catalog m) (discovered_order catalog m) in
+    let whole : waiting_lines_of catalog m numbers ≡ driver_waiting_lines catalog m = ap (waiting_lines_of catalog m) is ∙ lines_where (is_waiting m) (driver_waiting_line catalog m) (discovered_order catalog m) in
     line_then r old mid new L.DxeStop (driver_waiting_lines catalog m) first (subst P whole puts)
 
 -- the first line alone fails

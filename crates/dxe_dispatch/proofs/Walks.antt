@@ -19,7 +19,7 @@ use Rattle.boot_laws.proofs.GroupUnfolds.{groups_unfold, groups_are_small}
 use Rattle.dxe_action.specs.Order.{Drivers, befores_of}
 use Rattle.dxe_dispatch.specs.declared.group.Item.{Item}
 use Rattle.dxe_dispatch.specs.declared.group.Item.TheVariants as I
-use Rattle.dxe_dispatch.specs.Choosing.{HaveWaiting, Turns, companions, unfolded}
+use Rattle.dxe_dispatch.specs.Choosing.{HaveWaiting, TakesItem, companions, unfolded}
 use Rattle.dxe_dispatch.proofs.Scheduling.{each_front}
 use Rattle.dxe_dispatch.proofs.Companions.{befores_are, afters_are}
 
@@ -132,7 +132,7 @@ group_opened catalog m root rest group number taken is w =
 
 -- one turn
 pub walk_on : (catalog : Catalog) (m : DxeMachine) (order : Drivers) (flags : List Bool) (root : ℕ) (stack rest later : List Item) (group more : List ℕ) (item : Item) (taken : ℕ)
-    → HaveWaiting catalog m order flags → IsRoot catalog m root → stack ≡ rest ++ item ∷ [] → Turns (unfolded catalog order flags) rest group item later more
+    → HaveWaiting catalog m order flags → IsRoot catalog m root → stack ≡ rest ++ item ∷ [] → TakesItem (unfolded catalog order flags) rest group item later more
     → IsWalk catalog m root stack group taken → IsWalk catalog m root later more (taken + 1)
 walk_on catalog m order flags root stack rest later group more (I.Group number) taken have is split t w =
     let popped = subst (λ xs. IsWalk catalog m root xs group taken) split w in

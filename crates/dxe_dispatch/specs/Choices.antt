@@ -31,7 +31,7 @@ use Rattle.dxe_dispatch.specs.declared.boot.Left.{Left}
 use Rattle.dxe_dispatch.specs.declared.boot.Left.TheVariants as V
 use Rattle.dxe_dispatch.specs.declared.boot.Run.{Run}
 use Rattle.dxe_dispatch.specs.Ends.{HasEnded, IsNow, StandsAtEnd}
-use Rattle.dxe_dispatch.specs.Turns.{AreOf, IsLeft, IsStarting, IsWithin, PassesStart, TurnsTo}
+use Rattle.dxe_dispatch.specs.Turns.{AreKeptFor, IsLeft, IsStarting, EvaluatesWithin, PassesStart, TurnsDxeTo}
 
 -- the driver to which BEFORE and AFTER lead from this one
 abbrev pub root_of : Catalog → DxeMachine → ℕ → ℕ
@@ -79,34 +79,52 @@ pub record IsOnWay {M : Type 0} (stands : M → StoreState → Type 0) (beside :
 
 -- what is aimed at a driver that is named, from each machine for which the core and the queue stand
 abbrev pub Aims : Catalog → DxeCore → Queue → Option ℕ → Queue → Type 0
-Aims catalog core queue named later = (m : DxeMachine) → AreOf catalog core queue m → IsQueueOf catalog (aimed_at catalog m named) later
+Aims catalog core queue named later = (m : DxeMachine) → AreKeptFor catalog core queue m → IsQueueOf catalog (aimed_at catalog m named) later
 
 -- one is named where the machine chooses, and none elsewhere
-pub record IsAsked (names : Option ℕ → Type 0) (catalog : Catalog) (m : DxeMachine) (named : Option ℕ) : Type 0 where
+pub record IsAskedFor (names : Option ℕ → Type 0) (catalog : Catalog) (m : DxeMachine) (named : Option ℕ) : Type 0 where
   pub allowed : IsChoosing m → names named
   pub busy : (IsChoosing m → ⊥) → named ≡ None
 
+-- so in each machine for which the core and the queue stand
 abbrev pub Asks : (Option ℕ → Type 0) → Catalog → DxeCore → Queue → Option ℕ → Type 0
-Asks names catalog core queue named = (m : DxeMachine) → AreOf catalog core queue m → IsAsked names catalog m named
+Asks names catalog core queue named = (m : DxeMachine) → AreKeptFor catalog core queue m → IsAskedFor names catalog m named
 
 -- a turn by choices, by its answer: a step from a machine at which the choice is aimed, if a driver that starts is let; with the expressions that were evaluated or have to be, before and now
 pub record TurnsBy (Names : DxeMachine → Option ℕ → Type 0) (Lets : DxeMachine → ℕ → Bool) (Now Left : DxeMachine → Type 0) (catalog : Catalog) (fuel : ℕ)
     (m : DxeMachine) (t : Texts) (before now : ℕ) (result : Result Turn Halt) : Type 0 where
   pub target : DxeMachine
   pub aimed : IsAimedBy Names catalog m target
-  pub turned : TurnsTo (Lets target) Now Left catalog fuel target (dxe_step catalog fuel target) t result
-  pub few : OnOk result (IsWithin catalog fuel target before now)
+  pub turned : TurnsDxeTo (Lets target) Now Left catalog fuel target t result
+  pub few : OnOk result (EvaluatesWithin catalog fuel target before now)
+
+-- a way to choose drivers behind PEI: which drivers it may name and which starts it lets, by how many starts there were, how the text and the faults of the sink are told into which it looks, and how many starts there were in PEI
+pub record DriverChoice (S : Type 0) : Type 1 where
+  pub names : S → ℕ → Option ℕ → Type 0
+  pub lets : ℕ → ℕ → Bool
+  pub text : S → Option (List ℕ)
+  pub faults : S → ℕ
+  pub in_pei : ℕ
+
+-- a call that takes a turn by a choice: the core, the queue, the sink and the expressions that were evaluated or have to be, before it and behind it
+pub record ChoiceTurn (S : Type 0) : Type 0 where
+  pub core : DxeCore
+  pub queue : Queue
+  pub sink : S
+  pub before : ℕ
+  pub later : DxeCore
+  pub grown : Queue
+  pub shown : S
+  pub now : ℕ
 
 -- from each machine on its way whose lines were put
-abbrev pub TurnsByChoice : {M S : Type 0} → (S → ℕ → Option ℕ → Type 0) → (ℕ → ℕ → Bool) → (S → Option (List ℕ)) → (S → ℕ) → ℕ
-    → (M → StoreState → Type 0) → M → Catalog
-    → DxeCore → Queue → S → DxeCore → Queue → S → ℕ → ℕ → Result Turn Halt → Type 0
-TurnsByChoice {S = S} names lets text faults in_pei stands store catalog core queue sink later grown shown before now result =
-    (m : DxeMachine) (fuel : ℕ) (first : S) → IsFor catalog fuel core → IsOnWay stands store catalog core queue m
-    → HasPut text faults first m.lines sink
-    → TurnsBy (NamesDrivers names text faults in_pei first) (LetsDrivers lets in_pei)
-    (IsNow stands store catalog later grown) (IsLeft stands store catalog later grown) catalog fuel m
-    (record { old = text sink; new = text shown }) before now result
+abbrev pub TurnsByChoice : {M S : Type 0} → DriverChoice S → (M → StoreState → Type 0) → M → Catalog → ChoiceTurn S → Result Turn Halt → Type 0
+TurnsByChoice {S = S} choice stands store catalog call result =
+    (m : DxeMachine) (fuel : ℕ) (first : S) → IsFor catalog fuel call.core → IsOnWay stands store catalog call.core call.queue m
+    → HasPut choice.text choice.faults first m.lines call.sink
+    → TurnsBy (NamesDrivers choice.names choice.text choice.faults choice.in_pei first) (LetsDrivers choice.lets choice.in_pei)
+    (IsNow stands store catalog call.later call.grown) (IsLeft stands store catalog call.later call.grown) catalog fuel m
+    (record { old = choice.text call.sink; new = choice.text call.shown }) call.before call.now result
 
 -- a run by choices from an opening that has come to its end
 pub record EndsBy {M : Type 0} (Names : DxeMachine → Option ℕ → Type 0) (Lets : DxeMachine → ℕ → Bool) (stands : M → StoreState → Type 0) (store : M)
@@ -154,14 +172,20 @@ RunsBy Names Lets stands store catalog fuel opening later queue old new (Ok (R.B
     BarsBy Names Lets stands store catalog fuel opening later queue number old new
 RunsBy Names Lets stands store catalog fuel opening later queue old new (Err halt) = StopsShort Names Lets catalog fuel opening old new
 
+-- a call that takes a run by a choice: the core and the sink before it, and with the queue behind it
+pub record ChoiceRun (S : Type 0) : Type 0 where
+  pub core : DxeCore
+  pub sink : S
+  pub later : DxeCore
+  pub queue : Queue
+  pub shown : S
+
 -- the run from the opening over each state, with the actions and the fuel for which the core was made, behind so many starts in PEI
-abbrev pub RunsByChoice : {M S : Type 0} → (S → ℕ → Option ℕ → Type 0) → (ℕ → ℕ → Bool) → (S → Option (List ℕ)) → (S → ℕ) → ℕ
-    → (M → StoreState → Type 0) → M → Catalog
-    → DxeCore → S → DxeCore → Queue → S → Result (Reached DxeEnd) Halt → Type 0
-RunsByChoice names lets text faults in_pei stands store catalog core sink later queue shown result =
-    (s : StoreState) (actions fuel : ℕ) → IsFor catalog fuel core → StandsFor stands store catalog core (dxe_opening catalog s actions)
-    → RunsBy (NamesDrivers names text faults in_pei sink) (LetsDrivers lets in_pei) stands store catalog fuel (dxe_opening catalog s actions)
-    later queue (text sink) (text shown) result
+abbrev pub RunsByChoice : {M S : Type 0} → DriverChoice S → (M → StoreState → Type 0) → M → Catalog → ChoiceRun S → Result (Reached DxeEnd) Halt → Type 0
+RunsByChoice choice stands store catalog call result =
+    (s : StoreState) (actions fuel : ℕ) → IsFor catalog fuel call.core → StandsFor stands store catalog call.core (dxe_opening catalog s actions)
+    → RunsBy (NamesDrivers choice.names choice.text choice.faults choice.in_pei call.sink) (LetsDrivers choice.lets choice.in_pei)
+    stands store catalog fuel (dxe_opening catalog s actions) call.later call.queue (choice.text call.sink) (choice.text call.shown) result
 
 -- the same where the queue is gone, of which is kept how many drivers have left it
 abbrev pub LeavesBy : {M : Type 0} → (DxeMachine → Option ℕ → Type 0) → (DxeMachine → ℕ → Bool) → (M → StoreState → Type 0) → M → Catalog → ℕ
@@ -170,13 +194,12 @@ LeavesBy Names Lets stands store catalog fuel opening later old new (Ok run) =
     (queue : Queue) × (run.left ≡ queue.left) × RunsBy Names Lets stands store catalog fuel opening later queue old new (Ok run.reached)
 LeavesBy Names Lets stands store catalog fuel opening later old new (Err halt) = StopsShort Names Lets catalog fuel opening old new
 
-abbrev pub LeavesByChoice : {M S : Type 0} → (S → ℕ → Option ℕ → Type 0) → (ℕ → ℕ → Bool) → (S → Option (List ℕ)) → (S → ℕ) → ℕ
-    → (M → StoreState → Type 0) → M → Catalog
-    → DxeCore → S → DxeCore → S → Result Run Halt → Type 0
-LeavesByChoice names lets text faults in_pei stands store catalog core sink later shown result =
+-- from the opening over each state, as the run itself
+abbrev pub LeavesByChoice : {M S : Type 0} → DriverChoice S → (M → StoreState → Type 0) → M → Catalog → DxeCore → S → DxeCore → S → Result Run Halt → Type 0
+LeavesByChoice choice stands store catalog core sink later shown result =
     (s : StoreState) (actions fuel : ℕ) → IsFor catalog fuel core → StandsFor stands store catalog core (dxe_opening catalog s actions)
-    → LeavesBy (NamesDrivers names text faults in_pei sink) (LetsDrivers lets in_pei) stands store catalog fuel (dxe_opening catalog s actions)
-    later (text sink) (text shown) result
+    → LeavesBy (NamesDrivers choice.names choice.text choice.faults choice.in_pei sink) (LetsDrivers choice.lets choice.in_pei)
+    stands store catalog fuel (dxe_opening catalog s actions) later (choice.text sink) (choice.text shown) result
 
 -- what is left behind it, by what it came to; a driver that was not let has left the queue too
 abbrev pub leaves : ℕ → HandleState → ℕ → Reached DxeEnd → Left
@@ -208,11 +231,10 @@ BootsBy Names Lets catalog fuel opening in_pei old new (Ok (V.Barred left)) = Ha
 BootsBy Names Lets catalog fuel opening in_pei old new (Err halt) = StopsShort Names Lets catalog fuel opening old new
 
 -- from the hand-off of a store, with the actions that PEI took and its starts
-abbrev pub BootsByChoice : {S : Type 0} → (S → ℕ → Option ℕ → Type 0) → (ℕ → ℕ → Bool) → (S → Option (List ℕ)) → (S → ℕ) → ℕ
-    → Catalog → ℕ → ℕ → S → S → Result Left Halt → StoreState → Type 0
-BootsByChoice names lets text faults in_pei catalog fuel taken sink shown result s =
-    BootsBy (NamesDrivers names text faults in_pei sink) (LetsDrivers lets in_pei) catalog fuel (dxe_opening catalog s taken) in_pei
-    (text sink) (text shown) result
+abbrev pub BootsByChoice : {S : Type 0} → DriverChoice S → Catalog → ℕ → ℕ → S → S → Result Left Halt → StoreState → Type 0
+BootsByChoice choice catalog fuel taken sink shown result s =
+    BootsBy (NamesDrivers choice.names choice.text choice.faults choice.in_pei sink) (LetsDrivers choice.lets choice.in_pei)
+    catalog fuel (dxe_opening catalog s taken) choice.in_pei (choice.text sink) (choice.text shown) result
 
 -- the handles that a whole run leaves
 abbrev pub handles_of : Left → HandleState
@@ -231,9 +253,9 @@ pub record EvaluatesFewBy (Names : DxeMachine → Option ℕ → Type 0) (Lets :
   pub run : IsRunBy Names Lets catalog fuel opening earlier
   pub few : now ≤ before + (length (discovered_order catalog (came catalog fuel opening earlier)) + changes_of catalog fuel earlier)
 
-abbrev pub EvaluatesFewByChoice : {M S : Type 0} → (S → ℕ → Option ℕ → Type 0) → (ℕ → ℕ → Bool) → (S → Option (List ℕ)) → (S → ℕ) → ℕ
-    → (M → StoreState → Type 0) → M → Catalog
-    → DxeCore → S → ℕ → ℕ → Type 0
-EvaluatesFewByChoice names lets text faults in_pei stands store catalog core sink before now =
+-- from the opening over each state, before and behind the run
+abbrev pub EvaluatesFewByChoice : {M S : Type 0} → DriverChoice S → (M → StoreState → Type 0) → M → Catalog → DxeCore → S → ℕ → ℕ → Type 0
+EvaluatesFewByChoice choice stands store catalog core sink before now =
     (s : StoreState) (actions fuel : ℕ) → IsFor catalog fuel core → StandsFor stands store catalog core (dxe_opening catalog s actions)
-    → EvaluatesFewBy (NamesDrivers names text faults in_pei sink) (LetsDrivers lets in_pei) catalog fuel (dxe_opening catalog s actions) before now
+    → EvaluatesFewBy (NamesDrivers choice.names choice.text choice.faults choice.in_pei sink) (LetsDrivers choice.lets choice.in_pei)
+    catalog fuel (dxe_opening catalog s actions) before now

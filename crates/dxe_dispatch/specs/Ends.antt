@@ -29,11 +29,18 @@ pub record IsNow {M : Type 0} (stands : M → StoreState → Type 0) (beside : M
 abbrev pub StandsAtEnd : {M : Type 0} → (M → StoreState → Type 0) → M → Catalog → DxeCore → Queue → DxeMachine → Type 0
 StandsAtEnd stands store catalog core queue end = IsNow stands store catalog core queue (record end { ended = None })
 
+-- a call that takes a run: the core before it, and the core and the queue behind it, with the sink's text
+pub record RunCall : Type 0 where
+  pub core : DxeCore
+  pub later : DxeCore
+  pub queue : Queue
+  pub old : Option (List ℕ)
+  pub new : Option (List ℕ)
+
 -- a run to an end, by its answer
-abbrev pub RunsTo : {M : Type 0} → (M → StoreState → Type 0) → M → Catalog
-    → DxeMachine → DxeCore → Queue → Option (List ℕ) → Option (List ℕ) → Result DxeEnd Halt → Type 0
-RunsTo stands store catalog end core queue old new (Ok how) = HasEnded how end old new × StandsAtEnd stands store catalog core queue end
-RunsTo stands store catalog end core queue old new (Err halt) = AppendsPart old new (text_of end.lines)
+abbrev pub RunsFirstTo : {M : Type 0} → (M → StoreState → Type 0) → M → Catalog → DxeMachine → RunCall → Result DxeEnd Halt → Type 0
+RunsFirstTo stands store catalog end call (Ok how) = HasEnded how end call.old call.new × StandsAtEnd stands store catalog call.later call.queue end
+RunsFirstTo stands store catalog end call (Err halt) = AppendsPart call.old call.new (text_of end.lines)
 
 -- the core beside its store is at the opening of a run: it stands for it over some state, with some actions
 abbrev pub IsAtOpening : {M : Type 0} → (M → StoreState → Type 0) → M → Catalog → DxeCore → Type 0
@@ -41,12 +48,11 @@ IsAtOpening stands store catalog core =
     (s : StoreState) × (actions : ℕ) × StandsFor stands store catalog core (dxe_opening catalog s actions)
 
 -- the run from the opening over each state, with the actions and the fuel for which the core was made
-abbrev pub Runs : {M : Type 0} → (M → StoreState → Type 0) → M → Catalog
-    → DxeCore → DxeCore → Queue → Option (List ℕ) → Option (List ℕ) → Result DxeEnd Halt → Type 0
-Runs stands store catalog core later queue old new result =
-    (s : StoreState) (actions fuel : ℕ) → IsFor catalog fuel core
-    → StandsFor stands store catalog core (dxe_opening catalog s actions)
-    → RunsTo stands store catalog (dxe_end catalog fuel s actions) later queue old new result
+abbrev pub RunsFirst : {M : Type 0} → (M → StoreState → Type 0) → M → Catalog → RunCall → Result DxeEnd Halt → Type 0
+RunsFirst stands store catalog call result =
+    (s : StoreState) (actions fuel : ℕ) → IsFor catalog fuel call.core
+    → StandsFor stands store catalog call.core (dxe_opening catalog s actions)
+    → RunsFirstTo stands store catalog (dxe_end catalog fuel s actions) call result
 
 -- the core beside its store is at the opening over each state for which the store stands, with the actions that PEI took
 abbrev pub IsOpened : {M : Type 0} → (M → StoreState → Type 0) → M → Catalog → ℕ → DxeCore → Type 0

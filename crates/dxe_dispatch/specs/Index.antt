@@ -9,8 +9,8 @@ use Rattle.wait_index.specs.declared.index.WaitIndex.{WaitIndex}
 use Rattle.wait_index.specs.Index.{IsIndex, again_in, is_open_in, order_in, owed, waits_in}
 
 -- whether a driver is among those that are scheduled
-abbrev pub is_among : List Scheduled → ℕ → Bool
-is_among scheduled number = list_any (λ next. next.module_number == number) scheduled
+abbrev pub is_scheduled_in : List Scheduled → ℕ → Bool
+is_scheduled_in scheduled number = list_any (λ next. next.module_number == number) scheduled
 
 -- these drivers wait no more, by a test for them, and all else is as before
 pub record WaitNoMore (left : ℕ → Bool) (old new : WaitIndex) : Type 0 where
@@ -24,8 +24,8 @@ pub record WaitNoMore (left : ℕ → Bool) (old new : WaitIndex) : Type 0 where
   pub owed : owed new ≤ owed old
 
 -- one driver waits no more
-abbrev pub Leaves : ℕ → WaitIndex → WaitIndex → Type 0
-Leaves left old new = WaitNoMore (λ number. (left == number) || false) old new
+abbrev pub WaitsNoMore : ℕ → WaitIndex → WaitIndex → Type 0
+WaitsNoMore left old new = WaitNoMore (λ number. (left == number) || false) old new
 
 -- one driver is open, and all else is as before
 pub record IsRequested (asked : ℕ) (old new : WaitIndex) : Type 0 where

@@ -1,6 +1,6 @@
 -- The scheduled queue, how many drivers have left it to start, and which drivers wait: those that are neither scheduled nor started. Those of the discovered volumes stand in the index, with what they wait for.
 -- Own; PI 1.8, volume 2, "DXE Dispatcher".
-use Rattle.std.specs.Prelude.{◌≡◌, ◌≤◌, ℕ, ◌+◌, Bool, true, false, List, [], ◌∷◌, ◌++◌, drop, length, Option, Some, None, is_some, slice_get, unwrap_or}
+use Rattle.std.specs.Prelude.{◌≡◌, ◌≤◌, ℕ, ◌+◌, Bool, true, false, List, [], ◌∷◌, ◌++◌, length, Option, Some, None, is_some, slice_get, unwrap_or}
 use Rattle.pi_base.specs.declared.guid.Guid.{Guid}
 use Rattle.pi_base.specs.declared.phase.Phase.TheVariants.{Dxe}
 use Rattle.pi_base.specs.Guids.{same_guid}
@@ -46,6 +46,7 @@ pub record IsQueueOf (catalog : Catalog) (m : DxeMachine) (queue : Queue) : Type
   pub index : StandsForDxe catalog m queue.index
   pub others : AreUntouched catalog m
 
+-- the module that is scheduled is a driver
 abbrev pub IsDriver : Catalog → Scheduled → Type 0
 IsDriver catalog next = is_some (part_at Dxe catalog next.module_number) ≡ true
 
@@ -57,7 +58,7 @@ pub record IsQueueFor (catalog : Catalog) (queue : Queue) : Type 0 where
   pub phase : queue.index.phase ≡ Dxe
 
 -- no volume is discovered, and nothing has been done
-pub record IsNew (m : DxeMachine) : Type 0 where
+pub record IsNewMachine (m : DxeMachine) : Type 0 where
   pub discovered : m.discovered ≡ []
   pub requested : m.requested ≡ []
   pub scheduled : m.scheduled ≡ []
@@ -66,14 +67,13 @@ pub record IsNew (m : DxeMachine) : Type 0 where
 
 -- a queue of such a machine
 pub record IsNewQueue (catalog : Catalog) (queue : Queue) : Type 0 where
-  pub of : (m : DxeMachine) → IsNew m → IsQueueOf catalog m queue
+  pub of : (m : DxeMachine) → IsNewMachine m → IsQueueOf catalog m queue
   pub order : W.order_in queue.index ≡ []
   pub owes : owed queue ≡ 0
 
--- the drivers behind those of the index are those of the volumes at this place and behind it
-pub record AreNew (catalog : Catalog) (queue : Queue) (order : Drivers) (known : ℕ) : Type 0 where
-  pub within : known ≤ length order.volumes
-  pub drivers : order.drivers ≡ W.order_in queue.index ++ drivers_of catalog (drop known order.volumes)
+-- the drivers behind those of the index are those of these volumes
+pub record AreNew (catalog : Catalog) (queue : Queue) (order : Drivers) (volumes : List ℕ) : Type 0 where
+  pub drivers : order.drivers ≡ W.order_in queue.index ++ drivers_of catalog volumes
   pub differ : AllDiffer order.drivers
 
 -- these volumes were discovered: their drivers wait, and their a priori drivers are scheduled behind the others
@@ -84,6 +84,7 @@ pub record HasVolumes (catalog : Catalog) (volumes : List ℕ) (m later : DxeMac
   pub requested : later.requested ≡ m.requested
   pub handles : later.handles ≡ m.handles
 
+-- the queue becomes that of each such machine
 abbrev pub Discovers : Catalog → Queue → List ℕ → Queue → Type 0
 Discovers catalog queue volumes later = (m new : DxeMachine) → IsQueueOf catalog m queue → HasVolumes catalog volumes m new → IsQueueOf catalog new later
 
@@ -96,6 +97,7 @@ pub record HasRequest (catalog : Catalog) (number : ℕ) (m later : DxeMachine) 
   pub started : later.started ≡ m.started
   pub handles : later.handles ≡ m.handles
 
+-- the queue becomes that of each such machine
 abbrev pub Requests : Catalog → Queue → ℕ → Queue → Type 0
 Requests catalog queue number later = (m new : DxeMachine) → IsQueueOf catalog m queue → HasRequest catalog number m new → IsQueueOf catalog new later
 
@@ -108,6 +110,7 @@ pub record HasProtocol (guid : Guid) (there : Bool) (m later : DxeMachine) : Typ
   pub scheduled : later.scheduled ≡ m.scheduled
   pub started : later.started ≡ m.started
 
+-- the queue becomes that of each such machine
 abbrev pub Changes : Catalog → Queue → Guid → Bool → Queue → Type 0
 Changes catalog queue guid there later = (m new : DxeMachine) → IsQueueOf catalog m queue → HasProtocol guid there m new → IsQueueOf catalog new later
 

@@ -32,14 +32,14 @@ use Rattle.dxe_dispatch.specs.declared.answer.Turn.TheVariants.{Took, Reached}
 use Rattle.dxe_dispatch.specs.Ends.{IsNow}
 
 -- the core and the queue stand for a machine, whatever its store
-pub record AreOf (catalog : Catalog) (kept : DxeCore) (queued : Queue) (m : DxeMachine) : Type 0 where
+pub record AreKeptFor (catalog : Catalog) (kept : DxeCore) (queued : Queue) (m : DxeMachine) : Type 0 where
   pub core : IsCoreOf catalog kept m
   pub queue : IsQueueOf catalog m queued
 
 -- the driver that comes next, by the answer
 abbrev pub Chooses : Catalog → DxeCore → Queue → Queue → Result (Option Scheduled) OutOfMemory → Type 0
 Chooses catalog core queue later result =
-    (m : DxeMachine) → AreOf catalog core queue m → IfOk result (λ next. ComesNext catalog m next later)
+    (m : DxeMachine) → AreKeptFor catalog core queue m → IfOk result (λ next. ComesNext catalog m next later)
 
 -- the next step of the machine starts this driver
 pub record IsStarting (catalog : Catalog) (m : DxeMachine) (number : ℕ) : Type 0 where
@@ -68,7 +68,7 @@ pub record HasTurned (lets : ℕ → Bool) (Now : DxeMachine → Type 0) (catalo
   pub now : Now later
 
 -- the later machine has ended, all stands for it as it was before it ended, and its lines were put; no driver started, and the handles are as they were
-pub record IsOver (lets : ℕ → Bool) (Now : DxeMachine → Type 0) (catalog : Catalog) (m end : DxeMachine) (how : DxeEnd) (t : Texts) : Type 0 where
+pub record HasTurnedToEnd (lets : ℕ → Bool) (Now : DxeMachine → Type 0) (catalog : Catalog) (m end : DxeMachine) (how : DxeEnd) (t : Texts) : Type 0 where
   pub passes : PassesStart lets catalog m
   pub none : StartsNone catalog m
   pub handles : end.handles ≡ m.handles
@@ -87,13 +87,12 @@ pub record IsHeldBack (lets : ℕ → Bool) (Left : DxeMachine → Type 0) (cata
 abbrev pub IsGivenUp : (ℕ → Bool) → Catalog → DxeMachine → DxeMachine → Texts → Type 0
 IsGivenUp lets catalog m later t = Appends t.old t.new [] ⊎ (PassesStart lets catalog m × PrintedPart m later t)
 
--- a turn from a machine to the later one, by its answer: what stands for the later one now, and what for the machine where the run is left
-abbrev pub TurnsTo : (ℕ → Bool) → (DxeMachine → Type 0) → (DxeMachine → Type 0) → Catalog → ℕ → DxeMachine → DxeMachine → Texts
-    → Result Turn Halt → Type 0
-TurnsTo lets Now Left catalog fuel m later t (Ok (Took step)) = HasTurned lets Now catalog m later t × IsStep catalog fuel m step
-TurnsTo lets Now Left catalog fuel m later t (Ok (Reached (R.End how))) = IsOver lets Now catalog m later how t
-TurnsTo lets Now Left catalog fuel m later t (Ok (Reached (R.Barred number))) = IsHeldBack lets Left catalog m number t
-TurnsTo lets Now Left catalog fuel m later t (Err halt) = IsGivenUp lets catalog m later t
+-- a turn from a machine, by its answer: what stands for the machine behind its step now, and what for the machine itself where the run is left
+abbrev pub TurnsDxeTo : (ℕ → Bool) → (DxeMachine → Type 0) → (DxeMachine → Type 0) → Catalog → ℕ → DxeMachine → Texts → Result Turn Halt → Type 0
+TurnsDxeTo lets Now Left catalog fuel m t (Ok (Took step)) = HasTurned lets Now catalog m (dxe_step catalog fuel m) t × IsStep catalog fuel m step
+TurnsDxeTo lets Now Left catalog fuel m t (Ok (Reached (R.End how))) = HasTurnedToEnd lets Now catalog m (dxe_step catalog fuel m) how t
+TurnsDxeTo lets Now Left catalog fuel m t (Ok (Reached (R.Barred number))) = IsHeldBack lets Left catalog m number t
+TurnsDxeTo lets Now Left catalog fuel m t (Err halt) = IsGivenUp lets catalog m (dxe_step catalog fuel m) t
 
 -- the core stands for the machine, and one driver more has left the queue: that which did not start
 pub record AreLeft (catalog : Catalog) (kept : DxeCore) (queued : Queue) (m : DxeMachine) : Type 0 where
@@ -107,36 +106,44 @@ pub record IsLeft {M : Type 0} (stands : M → StoreState → Type 0) (beside : 
   pub left : kept.left ≡ length m.started + 1
 
 -- the machine for which the core and the queue stand now; in it drivers wait for their request, and behind its next step no driver was discovered twice
-pub record IsReady {M : Type 0} (stands : M → StoreState → Type 0) (beside : M) (catalog : Catalog) (most : ℕ)
+pub record IsAtTurn {M : Type 0} (stands : M → StoreState → Type 0) (beside : M) (catalog : Catalog) (most : ℕ)
     (core : DxeCore) (kept : Queue) (m : DxeMachine) : Type 0 where
   pub now : IsNow stands beside catalog core kept m
   pub waits : WaitForRequest catalog m
   pub once : AllDiffer (discovered_order catalog (dxe_step catalog most m))
 
+-- a call that takes a turn: the core, the queue and the sink's text before it, and behind it
+pub record TurnCall : Type 0 where
+  pub core : DxeCore
+  pub queue : Queue
+  pub later : DxeCore
+  pub grown : Queue
+  pub old : Option (List ℕ)
+  pub new : Option (List ℕ)
+
 -- a turn from each machine for which the core and the queue stand, and in which drivers wait for their request: a step of it, if a driver that starts is let
-abbrev pub Turns : {M : Type 0} → (ℕ → Bool) → (M → StoreState → Type 0) → M → Catalog
-    → DxeCore → Queue → DxeCore → Queue → Option (List ℕ) → Option (List ℕ) → Result Turn Halt → Type 0
-Turns lets stands store catalog core queue later grown old new result =
-    (m : DxeMachine) (fuel : ℕ) → IsFor catalog fuel core → IsReady stands store catalog fuel core queue m
-    → TurnsTo lets (IsNow stands store catalog later grown) (IsLeft stands store catalog later grown) catalog fuel m (dxe_step catalog fuel m)
-    (record { old = old; new = new }) result
+abbrev pub TurnsDxe : {M : Type 0} → (ℕ → Bool) → (M → StoreState → Type 0) → M → Catalog → TurnCall → Result Turn Halt → Type 0
+TurnsDxe lets stands store catalog call result =
+    (m : DxeMachine) (fuel : ℕ) → IsFor catalog fuel call.core → IsAtTurn stands store catalog fuel call.core call.queue m
+    → TurnsDxeTo lets (IsNow stands store catalog call.later call.grown) (IsLeft stands store catalog call.later call.grown) catalog fuel m
+    (record { old = call.old; new = call.new }) result
 
 -- the same from each one that is idle, whatever the store
-abbrev pub TurnsIdle : (ℕ → Bool) → Catalog
-    → DxeCore → Queue → DxeCore → Queue → Option (List ℕ) → Option (List ℕ) → Result Turn Halt → Type 0
-TurnsIdle lets catalog core queue later grown old new result =
-    (m : DxeMachine) (fuel : ℕ) → AreOf catalog core queue m → IsIdle m
-    → TurnsTo lets (AreOf catalog later grown) (AreLeft catalog later grown) catalog fuel m (dxe_step catalog fuel m) (record { old = old; new = new }) result
+abbrev pub TurnsIdleDxe : (ℕ → Bool) → Catalog → TurnCall → Result Turn Halt → Type 0
+TurnsIdleDxe lets catalog call result =
+    (m : DxeMachine) (fuel : ℕ) → AreKeptFor catalog call.core call.queue m → IsIdle m
+    → TurnsDxeTo lets (AreKeptFor catalog call.later call.grown) (AreLeft catalog call.later call.grown) catalog fuel m
+    (record { old = call.old; new = call.new }) result
 
 -- no more expressions were evaluated, or have to be, than had to be, those of the drivers that the step discovered, and those that the bound lets for its protocols
-abbrev pub IsWithin : Catalog → ℕ → DxeMachine → ℕ → ℕ → Type 0
-IsWithin catalog fuel m before now =
+abbrev pub EvaluatesWithin : Catalog → ℕ → DxeMachine → ℕ → ℕ → Type 0
+EvaluatesWithin catalog fuel m before now =
     now + length (discovered_order catalog m) ≤ before + (length (discovered_order catalog (dxe_step catalog fuel m)) + sum_by (dxe_asked catalog m) (dxe_guids catalog fuel m))
 
 -- behind a turn from each machine for which the core and the queue stand
 abbrev pub OwesBehind : {M : Type 0} → (M → StoreState → Type 0) → M → Catalog → DxeCore → Queue → ℕ → ℕ → Type 0
 OwesBehind stands store catalog core queue before now =
-    (m : DxeMachine) (fuel : ℕ) → IsFor catalog fuel core → IsReady stands store catalog fuel core queue m → IsWithin catalog fuel m before now
+    (m : DxeMachine) (fuel : ℕ) → IsFor catalog fuel core → IsAtTurn stands store catalog fuel core queue m → EvaluatesWithin catalog fuel m before now
 
 -- the lines of the stop
 abbrev pub stop_lines : Catalog → DxeMachine → List Line
@@ -145,4 +152,4 @@ stop_lines catalog m = L.DxeStop ∷ driver_waiting_lines catalog m
 -- as they are put
 abbrev pub PutsStop : Catalog → DxeCore → Queue → Option (List ℕ) → Option (List ℕ) → Result (Unit {0}) SinkFault → Type 0
 PutsStop catalog core queue old new result =
-    (m : DxeMachine) → AreOf catalog core queue m → Puts result old new (text_of (stop_lines catalog m))
+    (m : DxeMachine) → AreKeptFor catalog core queue m → Puts result old new (text_of (stop_lines catalog m))

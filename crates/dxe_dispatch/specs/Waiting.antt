@@ -17,12 +17,13 @@ use Rattle.dxe_dispatch.specs.Queue.{Queue, IsQueueOf}
 abbrev pub line_where : Bool → Line → List Line
 line_where waits line = if waits then line ∷ [] else []
 
+-- the line of a driver, if it waits in this machine
 abbrev pub waiting_line : Catalog → DxeMachine → ℕ → List Line
 waiting_line catalog m number = line_where (is_waiting m number) (driver_waiting_line catalog m number)
 
 -- the lines of those of these drivers that wait
-abbrev pub lines_of : Catalog → DxeMachine → List ℕ → List Line
-lines_of catalog m numbers = flat_map (waiting_line catalog m) numbers
+abbrev pub waiting_lines_of : Catalog → DxeMachine → List ℕ → List Line
+waiting_lines_of catalog m numbers = flat_map (waiting_line catalog m) numbers
 
 -- the line of a driver that waits or not, and was requested or not
 abbrev pub PutsWaiting : Catalog → ℕ → Bool → Bool
@@ -35,4 +36,4 @@ PutsWaiting catalog number waits requested old new result =
 abbrev pub PutsAllWaiting : Catalog → List ℕ → Queue → List Bool
     → Option (List ℕ) → Option (List ℕ) → Result (Unit {0}) SinkFault → Type 0
 PutsAllWaiting catalog numbers queue requested old new result =
-    (m : DxeMachine) → IsQueueOf catalog m queue → AreFlags m.requested requested → Puts result old new (text_of (lines_of catalog m numbers))
+    (m : DxeMachine) → IsQueueOf catalog m queue → AreFlags m.requested requested → Puts result old new (text_of (waiting_lines_of catalog m numbers))

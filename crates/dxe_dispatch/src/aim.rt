@@ -5,7 +5,7 @@ ghost use Rattle.catalog_model.specs.declared.catalog.Catalog.{Catalog as OfCata
 ghost use Rattle.catalog_model.specs.WellFormed.{IsWellFormed};
 ghost use Rattle.dxe_dispatch.specs.Queue.{IsQueueFor, owed};
 ghost use Rattle.dxe_dispatch.specs.Choices.{Aims, Asks};
-ghost use Rattle.dxe_dispatch.specs.Turns.{AreOf};
+ghost use Rattle.dxe_dispatch.specs.Turns.{AreKeptFor};
 
 use crate::DriverQueue;
 use crate::root::root_of;
@@ -50,7 +50,7 @@ pub(crate) fn aim<L: Ledger>(
 ) -> Result<(), OutOfMemory>
     requires catalog { IsWellFormed catalog.now }
     requires made { IsQueueFor catalog.now queue.old }
-    requires state { (m : DxeMachine) × AreOf catalog.now dxe.now queue.old m }
+    requires state { (m : DxeMachine) × AreKeptFor catalog.now dxe.now queue.old m }
     ensures row { OnOk result (Aims catalog.now dxe.now queue.old named queue.new) }
     ensures made { OnOk result (IsQueueFor catalog.now queue.new) }
     ensures few_steps { steps.new ≤ steps.old + owed queue.old }

@@ -1,7 +1,7 @@
 //! What a turn of the run comes to.
 use boot_laws::Reached;
 use boot_model::{DxeEnd, Scheduled};
-use dxe_core::Event;
+use dxe_action::Event;
 
 /// What a step of the machine was, behind which the run goes on.
 #[derive(Clone, Copy, PartialEq, Eq)]

@@ -94,8 +94,14 @@ fn run_with_ledger<M: PeiStore, S: Sink, C: Choice<S>, L: Ledger>(
     requires name { blank.name ≡ L.name }
     requires parts { blank.parts ≡ L.parts }
     requires counts { 0 < L.parts }
-    ensures row { LeavesByChoice (C.drivers choice.now) (C.lets_in_dxe choice.now) S.text S.faults in_pei M.stands_for store.now
-        catalog.now dxe.old sink.old dxe.new sink.new result }
+    ensures row { LeavesByChoice (record {
+      names = C.drivers choice.now;
+      lets = C.lets_in_dxe choice.now;
+      text = S.text;
+      faults = S.faults;
+      in_pei = in_pei;
+    })
+        M.stands_for store.now catalog.now dxe.old sink.old dxe.new sink.new result }
     ensures few { dxe.old.fuel.taken < 2 ^ 32 → OnOk result (length dxe.new.services.handles.interfaces < 2 ^ 32) }
     ensures few_starts { IfOk result (λ run. run.left < 2 ^ 32) }
     ensures faults { HaltsAfter result (S.faults sink.old) (S.faults sink.new) }
@@ -142,8 +148,14 @@ pub fn boot_dxe<M: PeiStore, S: Sink, C: Choice<S>>(
 ) -> Result<Left, Halt>
     requires catalog { IsWellFormed catalog.now }
     requires state { Present (M.stands_for store.now) Anything }
-    ensures row { OfEach (M.stands_for store.now) Anything (BootsByChoice (C.drivers choice.now) (C.lets_in_dxe choice.now)
-        S.text S.faults in_pei catalog.now fuel taken sink.old sink.new result) }
+    ensures row { OfEach (M.stands_for store.now) Anything (BootsByChoice (record {
+      names = C.drivers choice.now;
+      lets = C.lets_in_dxe choice.now;
+      text = S.text;
+      faults = S.faults;
+      in_pei = in_pei;
+    })
+        catalog.now fuel taken sink.old sink.new result) }
     ensures few { IfOk result (λ left. length (handles_of left).interfaces < 2 ^ 32) }
     ensures faults { HaltsAfter result (S.faults sink.old) (S.faults sink.new) }
 {

@@ -3,7 +3,7 @@ ghost use Rattle.std.specs.Prelude.{◌≤◌, ◌+◌, IfOk, OnOk, IfSome};
 ghost use Rattle.boot_model.specs.DxeMachine.{DxeMachine};
 ghost use Rattle.catalog_model.specs.WellFormed.{IsWellFormed};
 ghost use Rattle.dxe_dispatch.specs.Queue.{IsDriver, IsQueueFor, owed};
-ghost use Rattle.dxe_dispatch.specs.Turns.{AreOf, Chooses};
+ghost use Rattle.dxe_dispatch.specs.Turns.{AreKeptFor, Chooses};
 
 use crate::DriverQueue;
 use boot_model::Scheduled;
@@ -22,7 +22,7 @@ pub(crate) fn choose<L: Ledger>(
 ) -> Result<Option<Scheduled>, OutOfMemory>
     requires catalog { IsWellFormed catalog.now }
     requires made { IsQueueFor catalog.now queue.old }
-    requires state { (m : DxeMachine) × AreOf catalog.now dxe.now queue.old m }
+    requires state { (m : DxeMachine) × AreKeptFor catalog.now dxe.now queue.old m }
     ensures row { Chooses catalog.now dxe.now queue.old queue.new result }
     ensures driver { IfOk result (λ next. IfSome next (IsDriver catalog.now)) }
     ensures made { OnOk result (IsQueueFor catalog.now queue.new) }

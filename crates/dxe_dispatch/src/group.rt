@@ -4,7 +4,7 @@ ghost use Rattle.catalog_model.specs.declared.limits.TheConstants.{MOST_MODULES}
 ghost use Rattle.boot_model.specs.DxeMachine.{DxeMachine};
 ghost use Rattle.boot_model.specs.DxeChoice.{companion_group};
 ghost use Rattle.boot_laws.specs.GroupUnfolds.{IsRoot};
-ghost use Rattle.dxe_dispatch.specs.Choosing.{HaveWaiting, Turns, unfolded};
+ghost use Rattle.dxe_dispatch.specs.Choosing.{HaveWaiting, TakesItem, unfolded};
 ghost use Rattle.dxe_dispatch.specs.Queue.{waits_at};
 ghost use Rattle.dxe_dispatch.specs.declared.group.Item.TheVariants.{Group};
 
@@ -64,7 +64,7 @@ fn take_item(
     waits: &[bool],
     item: Item,
 ) -> Result<(), OutOfMemory>
-    ensures { OnOk result (Turns (unfolded catalog.now order.now waits.now) stack.old group.old item stack.new group.new) }
+    ensures { OnOk result (TakesItem (unfolded catalog.now order.now waits.now) stack.old group.old item stack.new group.new) }
 {
     match item {
         Item::Driver(number) => group.push(number),

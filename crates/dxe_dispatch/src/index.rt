@@ -7,7 +7,7 @@ ghost use Rattle.boot_model.specs.DxeMachine.{DxeMachine};
 ghost use Rattle.wait_index.specs.Dispatch.{StandsForDxe};
 ghost use Rattle.wait_index.specs.Index.{IsIndex, IsSame, owed};
 ghost use Rattle.dxe_dispatch.specs.Aim.{may_be_next};
-ghost use Rattle.dxe_dispatch.specs.Index.{IsRequested, Leaves};
+ghost use Rattle.dxe_dispatch.specs.Index.{IsRequested, WaitsNoMore};
 
 use catalog_model::Catalog;
 use depex_code::Steps;
@@ -16,7 +16,7 @@ use wait_index::{WaitIndex, next_is_the_first_eligible_driver};
 
 /// A driver waits no more.
 pub(crate) fn leave(index: &mut WaitIndex, number: u32)
-    ensures { Leaves number index.old index.new }
+    ensures { WaitsNoMore number index.old index.new }
 {
     if let Some(place) = index.place_of(number) {
         index.started(place as usize);

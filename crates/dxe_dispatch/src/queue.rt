@@ -7,7 +7,7 @@ ghost use Rattle.boot_model.specs.DxeChoice.{a_priori_drivers, companion_group, 
 ghost use Rattle.boot_model.specs.DxeChoice as C;
 ghost use Rattle.boot_model.specs.DxeMachine.{DxeMachine};
 ghost use Rattle.dxe_dispatch.specs.Aim.{aimed, may_be_next};
-ghost use Rattle.dxe_dispatch.specs.Choosing.{AllWait, Come, IsFilled, IsNumberOf, IsSeenRoot, Schedules, Takes, as_apriori};
+ghost use Rattle.dxe_dispatch.specs.Choosing.{AllWait, Come, IsFilledQueue, HasFlagFor, IsSeenRoot, Schedules, TakesHead, as_apriori};
 ghost use Rattle.dxe_dispatch.specs.Queue.{AreNew, Changes, ComesNext, Discovers, IsDriver, IsNewQueue, IsQueueFor, IsQueueOf, IsSeen, OwesFor, Requests, owed, waits_at};
 ghost use Rattle.boot_model.specs.Licence.{AllDiffer};
 ghost use Rattle.wait_index.specs.Index.{order_in};
@@ -96,7 +96,7 @@ impl DriverQueue {
 
     // Schedules drivers by their places in an a priori list.
     fn schedule_ranked(&mut self, numbers: &[u32]) -> Result<(), OutOfMemory>
-        requires numbers { Each (IsNumberOf self.old) numbers.now }
+        requires numbers { Each (HasFlagFor self.old) numbers.now }
         ensures { OnOk result (Schedules self.old (map as_apriori numbers.now) self.new) }
     {
         'numbers: for number in numbers {
@@ -140,22 +140,21 @@ impl DriverQueue {
         self.index.discover(catalog, drivers);
     }
 
-    /// The volumes at a place of the discovered ones, and behind it, have just been discovered: their drivers wait, and their a priori drivers are scheduled, in list order, behind those that are. Want of memory leaves the queue unfinished.
+    /// These volumes, the last of the discovered ones, have just been discovered: their drivers wait, and their a priori drivers are scheduled, in list order, behind those that are. Want of memory leaves the queue unfinished.
     pub fn discover(
         &mut self,
         catalog: &Catalog,
         order: &DriverOrder,
-        known: usize,
+        volumes: &[u32],
     ) -> Result<(), OutOfMemory>
         requires catalog { IsWellFormed catalog.now }
         requires made { IsQueueFor catalog.now self.old }
-        requires new { AreNew catalog.now self.old order.now known }
-        ensures row { OnOk result (Discovers catalog.now self.old (drop known order.now.volumes) self.new) }
+        requires new { AreNew catalog.now self.old order.now volumes.now }
+        ensures row { OnOk result (Discovers catalog.now self.old volumes.now self.new) }
         ensures made { OnOk result (IsQueueFor catalog.now self.new) }
-        ensures owes { OnOk result (owed self.new ≤ owed self.old + length (drivers_of catalog.now (drop known order.now.volumes))) }
+        ensures owes { OnOk result (owed self.new ≤ owed self.old + length (drivers_of catalog.now volumes.now)) }
     {
         let (_, drivers) = order.drivers().split_at(self.index.order().len());
-        let (_, volumes) = order.volumes().split_at(known);
         self.come(catalog, drivers);
         self.schedule_a_priori(catalog, volumes)
     }
@@ -181,7 +180,7 @@ impl DriverQueue {
 
     // Schedules a group, which is given last driver first, by the expressions of its drivers.
     fn schedule_group(&mut self, catalog: &Catalog, mut group: Seq<u32>) -> Result<(), OutOfMemory>
-        requires numbers { Each (IsNumberOf self.old) group }
+        requires numbers { Each (HasFlagFor self.old) group }
         ensures { OnOk result (Schedules self.old (schedule_of catalog.now (reverse group)) self.new) }
     {
         'group: while let Some(number) = group.pop() {
@@ -246,7 +245,7 @@ impl DriverQueue {
         requires catalog { IsWellFormed catalog.now }
         requires made { IsQueueFor catalog.now self.old }
         requires seen { (m : DxeMachine) × IsSeen catalog.now m self.old order.now }
-        ensures filled { OnOk result ((m : DxeMachine) → IsSeen catalog.now m self.old order.now → IsFilled catalog.now m self.new) }
+        ensures filled { OnOk result ((m : DxeMachine) → IsSeen catalog.now m self.old order.now → IsFilledQueue catalog.now m self.new) }
         ensures made { OnOk result (IsQueueFor catalog.now self.new) }
         ensures few_steps { steps.new ≤ steps.old + owed self.old }
         ensures owes { OnOk result (steps.new + owed self.new ≤ steps.old + owed self.old) }
@@ -322,7 +321,7 @@ impl DriverQueue {
 
     // The head leaves the queue, if there is one.
     fn take(&mut self) -> Option<Scheduled>
-        ensures { Takes self.old result self.new }
+        ensures { TakesHead self.old result self.new }
     {
         let next = *self.items.as_slice().get(self.head)?;
         self.head += 1;

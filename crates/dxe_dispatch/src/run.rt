@@ -7,7 +7,7 @@ ghost use Rattle.catalog_model.specs.declared.limits.TheConstants.{MOST_MODULES}
 ghost use Rattle.dxe_dispatch.specs.Queue.{IsNewQueue, IsQueueFor};
 ghost use Rattle.dxe_core.specs.Standing.{IsFor};
 ghost use Rattle.dxe_dispatch.specs.Choices.{EvaluatesFewByChoice, RunsByChoice};
-ghost use Rattle.dxe_dispatch.specs.Ends.{EvaluatesFew, IsAtOpening, Runs};
+ghost use Rattle.dxe_dispatch.specs.Ends.{EvaluatesFew, IsAtOpening, RunsFirst};
 
 use crate::DriverQueue;
 use crate::answer::Turn;
@@ -49,13 +49,31 @@ pub fn run_dxe<M: PeiStore, S: Sink, C: Choice<S>, L: Ledger>(
     requires new { IsNewQueue catalog.now queue.old }
     requires queue { IsQueueFor catalog.now queue.old }
     requires opening { IsAtOpening M.stands_for store.now catalog.now dxe.old }
-    ensures row { RunsByChoice (C.drivers choice.now) (C.lets_in_dxe choice.now) S.text S.faults in_pei M.stands_for store.now catalog.now
-        dxe.old sink.old dxe.new queue.new sink.new result }
+    ensures row { RunsByChoice (record {
+      names = C.drivers choice.now;
+      lets = C.lets_in_dxe choice.now;
+      text = S.text;
+      faults = S.faults;
+      in_pei = in_pei;
+    })
+        M.stands_for store.now catalog.now (record {
+          core = dxe.old;
+          sink = sink.old;
+          later = dxe.new;
+          queue = queue.new;
+          shown = sink.new;
+        }) result }
     ensures few { dxe.old.fuel.taken < 2 ^ 32 → OnOk result (length dxe.new.services.handles.interfaces < 2 ^ 32) }
     ensures few_starts { OnOk result (queue.new.left < 2 ^ 32) }
     ensures faults { HaltsAfter result (S.faults sink.old) (S.faults sink.new) }
-    ensures few_steps { EvaluatesFewByChoice (C.drivers choice.now) (C.lets_in_dxe choice.now) S.text S.faults in_pei M.stands_for store.now
-        catalog.now dxe.old sink.old steps.old steps.new }
+    ensures few_steps { EvaluatesFewByChoice (record {
+      names = C.drivers choice.now;
+      lets = C.lets_in_dxe choice.now;
+      text = S.text;
+      faults = S.faults;
+      in_pei = in_pei;
+    })
+        M.stands_for store.now catalog.now dxe.old sink.old steps.old steps.new }
 {
     dxe_opens();
     dxe_goes_on();
@@ -63,8 +81,9 @@ pub fn run_dxe<M: PeiStore, S: Sink, C: Choice<S>, L: Ledger>(
     groups_are_aimed();
     unrequested_drivers_wait();
     discovered_order_has_each_once();
-    queue.discover(catalog, dxe.order(), 0)?;
-    put_volumes(sink, dxe.order().volumes())?;
+    let volumes = dxe.order().volumes();
+    queue.discover(catalog, dxe.order(), volumes)?;
+    put_volumes(sink, volumes)?;
     'turns: for _ in 0..bound(catalog, dxe.fuel()) {
         match turn_by(dxe, store, queue, choice, in_pei, catalog, sink, steps)? {
             Turn::Took(_) => {}
@@ -89,7 +108,13 @@ pub fn run_first<M: PeiStore, S: Sink, L: Ledger>(
     requires new { IsNewQueue catalog.now queue.old }
     requires queue { IsQueueFor catalog.now queue.old }
     requires opening { IsAtOpening M.stands_for store.now catalog.now dxe.old }
-    ensures row { Runs M.stands_for store.now catalog.now dxe.old dxe.new queue.new (S.text sink.old) (S.text sink.new) result }
+    ensures row { RunsFirst M.stands_for store.now catalog.now (record {
+      core = dxe.old;
+      later = dxe.new;
+      queue = queue.new;
+      old = S.text sink.old;
+      new = S.text sink.new;
+    }) result }
     ensures few { dxe.old.fuel.taken < 2 ^ 32 → OnOk result (length dxe.new.services.handles.interfaces < 2 ^ 32) }
     ensures faults { HaltsAfter result (S.faults sink.old) (S.faults sink.new) }
     ensures few_steps { EvaluatesFew M.stands_for store.now catalog.now dxe.old steps.old steps.new }

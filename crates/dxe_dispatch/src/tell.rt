@@ -1,11 +1,12 @@
 // What an event did is told to the queue.
 ghost use Rattle.catalog_model.specs.declared.catalog.Catalog.{Catalog as OfCatalog};
 ghost use Rattle.dxe_dispatch.specs.Queue.{IsQueueFor};
-ghost use Rattle.dxe_dispatch.specs.Events.{Owes, Tells, TellsChange};
+ghost use Rattle.dxe_dispatch.specs.Events.{OwesForChange, TellsQueue, TellsChange};
 
 use crate::DriverQueue;
 use depex_code::GuidSet;
-use dxe_core::{Dxe, Event};
+use dxe_action::Event;
+use dxe_core::Dxe;
 use pi_base::Guid;
 
 // The protocol that was installed or uninstalled is on a handle now, or on none.
@@ -13,7 +14,7 @@ fn tell_change(dxe: &Dxe, queue: &mut DriverQueue, changed: Option<Guid>)
     requires made { (catalog : OfCatalog) × IsQueueFor catalog queue.old }
     ensures row { (catalog : OfCatalog) → IsQueueFor catalog queue.old → TellsChange catalog dxe.now queue.old changed queue.new }
     ensures made { (catalog : OfCatalog) → IsQueueFor catalog queue.old → IsQueueFor catalog queue.new }
-    ensures owes { (catalog : OfCatalog) → IsQueueFor catalog queue.old → Owes catalog queue.old changed queue.new }
+    ensures owes { (catalog : OfCatalog) → IsQueueFor catalog queue.old → OwesForChange catalog queue.old changed queue.new }
 {
     if let Some(guid) = changed {
         queue.change(&guid, dxe.handles().has(&guid));
@@ -23,9 +24,9 @@ fn tell_change(dxe: &Dxe, queue: &mut DriverQueue, changed: Option<Guid>)
 /// The protocol that an event changed, and the driver that it requested.
 pub(crate) fn tell(dxe: &Dxe, queue: &mut DriverQueue, event: &Event)
     requires made { (catalog : OfCatalog) × IsQueueFor catalog queue.old }
-    ensures row { (catalog : OfCatalog) → IsQueueFor catalog queue.old → Tells catalog dxe.now queue.old event.now queue.new }
+    ensures row { (catalog : OfCatalog) → IsQueueFor catalog queue.old → TellsQueue catalog dxe.now queue.old event.now queue.new }
     ensures made { (catalog : OfCatalog) → IsQueueFor catalog queue.old → IsQueueFor catalog queue.new }
-    ensures owes { (catalog : OfCatalog) → IsQueueFor catalog queue.old → Owes catalog queue.old event.now.changed queue.new }
+    ensures owes { (catalog : OfCatalog) → IsQueueFor catalog queue.old → OwesForChange catalog queue.old event.now.changed queue.new }
 {
     tell_change(dxe, queue, event.changed);
     if let Some(number) = event.requested {

@@ -7,7 +7,7 @@ ghost use Rattle.dxe_dispatch.specs.Queue.{IsQueueFor, owed};
 ghost use Rattle.dxe_core.specs.Standing.{IsFor};
 ghost use Rattle.dxe_core.specs.Steps.{IsIdle};
 ghost use Rattle.dxe_dispatch.specs.Choices.{IsOnWay, TurnsByChoice};
-ghost use Rattle.dxe_dispatch.specs.Turns.{AreOf, IsReady, OwesBehind, Turns, TurnsIdle};
+ghost use Rattle.dxe_dispatch.specs.Turns.{AreKeptFor, IsAtTurn, OwesBehind, TurnsDxe, TurnsIdleDxe};
 
 use crate::DriverQueue;
 use crate::aim::{aim, named};
@@ -44,9 +44,15 @@ fn start_or_stop<S: Sink, C: Choice<S>, L: Ledger>(
 ) -> Result<Turn, Halt>
     requires catalog { IsWellFormed catalog.now }
     requires made { IsQueueFor catalog.now queue.old }
-    requires state { (m : DxeMachine) × AreOf catalog.now dxe.old queue.old m × IsIdle m }
-    ensures row { TurnsIdle (C.lets_in_dxe choice.now starts) catalog.now
-        dxe.old queue.old dxe.new queue.new (S.text sink.old) (S.text sink.new) result }
+    requires state { (m : DxeMachine) × AreKeptFor catalog.now dxe.old queue.old m × IsIdle m }
+    ensures row { TurnsIdleDxe (C.lets_in_dxe choice.now starts) catalog.now (record {
+      core = dxe.old;
+      queue = queue.old;
+      later = dxe.new;
+      grown = queue.new;
+      old = S.text sink.old;
+      new = S.text sink.new;
+    }) result }
     ensures made { OnOk result ((fuel : ℕ) → IsFor catalog.now fuel dxe.old → IsFor catalog.now fuel dxe.new) }
     ensures queue { OnOk result (IsQueueFor catalog.now queue.new) }
     ensures faults { HaltsAfter result (S.faults sink.old) (S.faults sink.new) }
@@ -80,9 +86,15 @@ fn act<M: PeiStore, S: Sink>(
     requires queue { IsQueueFor catalog.now queue.old }
     requires busy { dxe.old.frames ≢ [] }
     requires state { (m : DxeMachine) × (fuel : ℕ) × IsFor catalog.now fuel dxe.old
-        × IsReady M.stands_for store.now catalog.now fuel dxe.old queue.old m }
-    ensures row { (lets : ℕ → Bool) → Turns lets M.stands_for store.now catalog.now
-        dxe.old queue.old dxe.new queue.new (S.text sink.old) (S.text sink.new) result }
+        × IsAtTurn M.stands_for store.now catalog.now fuel dxe.old queue.old m }
+    ensures row { (lets : ℕ → Bool) → TurnsDxe lets M.stands_for store.now catalog.now (record {
+      core = dxe.old;
+      queue = queue.old;
+      later = dxe.new;
+      grown = queue.new;
+      old = S.text sink.old;
+      new = S.text sink.new;
+    }) result }
     ensures made { OnOk result ((fuel : ℕ) → IsFor catalog.now fuel dxe.old → IsFor catalog.now fuel dxe.new) }
     ensures queue { OnOk result (IsQueueFor catalog.now queue.new) }
     ensures faults { HaltsAfter result (S.faults sink.old) (S.faults sink.new) }
@@ -92,7 +104,8 @@ fn act<M: PeiStore, S: Sink>(
     match dxe.step(store, catalog, sink)? {
         Stepped::Went(event) => {
             tell(dxe, queue, &event);
-            queue.discover(catalog, dxe.order(), event.known)?;
+            let order = dxe.order();
+            queue.discover(catalog, order, order.newest(event.discovered))?;
             Ok(Turn::Took(Step::Acted(event)))
         }
         Stepped::Idle => unreachable!(),
@@ -114,9 +127,15 @@ fn turn<M: PeiStore, S: Sink, C: Choice<S>, L: Ledger>(
     requires catalog { IsWellFormed catalog.now }
     requires queue { IsQueueFor catalog.now queue.old }
     requires state { (m : DxeMachine) × (fuel : ℕ) × IsFor catalog.now fuel dxe.old
-        × IsReady M.stands_for store.now catalog.now fuel dxe.old queue.old m }
-    ensures row { Turns (C.lets_in_dxe choice.now starts) M.stands_for store.now catalog.now
-        dxe.old queue.old dxe.new queue.new (S.text sink.old) (S.text sink.new) result }
+        × IsAtTurn M.stands_for store.now catalog.now fuel dxe.old queue.old m }
+    ensures row { TurnsDxe (C.lets_in_dxe choice.now starts) M.stands_for store.now catalog.now (record {
+      core = dxe.old;
+      queue = queue.old;
+      later = dxe.new;
+      grown = queue.new;
+      old = S.text sink.old;
+      new = S.text sink.new;
+    }) result }
     ensures made { OnOk result ((fuel : ℕ) → IsFor catalog.now fuel dxe.old → IsFor catalog.now fuel dxe.new) }
     ensures queue { OnOk result (IsQueueFor catalog.now queue.new) }
     ensures faults { HaltsAfter result (S.faults sink.old) (S.faults sink.new) }
@@ -146,8 +165,23 @@ pub fn turn_by<M: PeiStore, S: Sink, C: Choice<S>, L: Ledger>(
     requires queue { IsQueueFor catalog.now queue.old }
     requires state { (m : DxeMachine) × (fuel : ℕ) × IsFor catalog.now fuel dxe.old
         × IsOnWay M.stands_for store.now catalog.now dxe.old queue.old m }
-    ensures row { TurnsByChoice (C.drivers choice.now) (C.lets_in_dxe choice.now) S.text S.faults in_pei M.stands_for store.now catalog.now
-        dxe.old queue.old sink.old dxe.new queue.new sink.new (steps.old + owed queue.old) (steps.new + owed queue.new) result }
+    ensures row { TurnsByChoice (record {
+      names = C.drivers choice.now;
+      lets = C.lets_in_dxe choice.now;
+      text = S.text;
+      faults = S.faults;
+      in_pei = in_pei;
+    })
+        M.stands_for store.now catalog.now (record {
+          core = dxe.old;
+          queue = queue.old;
+          sink = sink.old;
+          before = steps.old + owed queue.old;
+          later = dxe.new;
+          grown = queue.new;
+          shown = sink.new;
+          now = steps.new + owed queue.new;
+        }) result }
     ensures made { OnOk result ((fuel : ℕ) → IsFor catalog.now fuel dxe.old → IsFor catalog.now fuel dxe.new) }
     ensures queue { OnOk result (IsQueueFor catalog.now queue.new) }
     ensures faults { HaltsAfter result (S.faults sink.old) (S.faults sink.new) }

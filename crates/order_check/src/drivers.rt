@@ -75,9 +75,19 @@ fn run_with_ledger<M: PeiStore, S: Sink, L: Ledger>(
     requires name { blank.name ≡ L.name }
     requires parts { blank.parts ≡ L.parts }
     requires counts { 0 < L.parts }
-    ensures row { RunsByChoice (λ sink starts named. NamesBy by.now.catalog.now by.now.names.now.volumes.items InDxe by.now.order.now starts named)
-        (λ starts number. lets_by by.now.catalog.now by.now.order.now InDxe starts number) S.text S.faults in_pei M.stands_for store.now
-        by.now.catalog.now dxe.old sink.old dxe.new queue.new sink.new result }
+    ensures row { RunsByChoice (record {
+      names = λ sink starts named. NamesBy by.now.catalog.now by.now.names.now.volumes.items InDxe by.now.order.now starts named;
+      lets = λ starts number. lets_by by.now.catalog.now by.now.order.now InDxe starts number;
+      text = S.text;
+      faults = S.faults;
+      in_pei = in_pei;
+    }) M.stands_for store.now by.now.catalog.now (record {
+      core = dxe.old;
+      sink = sink.old;
+      later = dxe.new;
+      queue = queue.new;
+      shown = sink.new;
+    }) result }
     ensures few { dxe.old.fuel.taken < 2 ^ 32 → OnOk result (length dxe.new.services.handles.interfaces < 2 ^ 32) }
     ensures few_starts { OnOk result (queue.new.left < 2 ^ 32) }
     ensures faults { HaltsAfter result (S.faults sink.old) (S.faults sink.new) }

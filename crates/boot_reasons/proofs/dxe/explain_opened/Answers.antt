@@ -1,4 +1,4 @@
-use Rattle.std.proofs.Common.{drop, sym, subst}
+use Rattle.std.proofs.Common.{◌∙◌, ap, sym, subst}
 use Rattle.boot_model.specs.DxeRun.{dxe_opening}
 use Rattle.dxe_action.specs.Order.{Drivers, IsOrderOf}
 use Rattle.dxe_dispatch.specs.Queue.{Discovers}
@@ -12,13 +12,14 @@ discover-requires-clause-new g c =
     let catalog = c.args.catalog.now in
     let o = c.requires.opening in
     let order = subst (IsOrderOf catalog _) (sym c.order.ensures) o.4.core.services.order in
-    opening_drivers catalog c.args.queue.now c.order.result.now (dxe_opening catalog o.0 o.1) c.requires.new order (c.discovered_order_has_each_once.ensures catalog c.requires.catalog.parents o.2 0 o.0 o.1).once
+    let shown = c.volumes.ensures ∙ ap (λ (order : Drivers). order.volumes) c.order-2.ensures ∙ o.4.core.services.order.volumes_are in
+    opening_drivers catalog c.args.queue.now c.order.result.now (dxe_opening catalog o.0 o.1) c.volumes.result.now shown c.requires.new order (c.discovered_order_has_each_once.ensures catalog c.requires.catalog.parents o.2 0 o.0 o.1).once
 
 pub run_to_end-requires-clause-opening : goal.run_to_end-requires-clause-opening
 run_to_end-requires-clause-opening g c =
     let catalog = c.args.catalog.now in
     let o = c.requires.opening in
-    let row = subst (λ (order : Drivers). Discovers catalog c.args.queue.now (drop 0 order.volumes) c.discover.new.self) c.order.ensures c.in_ok-discover.ensures.row in (
+    let row = subst (λ volumes. Discovers catalog c.args.queue.now volumes c.discover.new.self) (c.volumes.ensures ∙ ap (λ (order : Drivers). order.volumes) c.order-2.ensures) c.in_ok-discover.ensures.row in (
       o.0,
       o.1,
       o.2,
@@ -30,7 +31,7 @@ pub returns-in_ok-explained-in-End : goal.returns-in_ok-explained-in-End
 returns-in_ok-explained-in-End g c = record {
   row = λ s actions fuel made is.
       let catalog = c.args.catalog.now in
-      let discovers = subst (λ (order : Drivers). Discovers catalog c.args.queue.now (drop 0 order.volumes) c.discover.new.self) c.order.ensures c.in_ok-discover.ensures.row in
+      let discovers = subst (λ volumes. Discovers catalog c.args.queue.now volumes c.discover.new.self) (c.volumes.ensures ∙ ap (λ (order : Drivers). order.volumes) c.order-2.ensures) c.in_ok-discover.ensures.row in
       let at = at_opening c.dxe_opens.ensures.opens c.unrequested_drivers_wait.ensures g.M.PeiStore.stands_for c.args.store.now catalog fuel s actions c.args.dxe.now c.args.queue.now c.discover.new.self c.new-told.result
       c.requires.catalog made is c.requires.new discovers c.new-told.ensures.begun c.new-told.ensures.givers in
       let row = rw c.in-End.is at (c.in_ok-end.ensures.row s actions fuel at) in
@@ -46,7 +47,7 @@ pub returns-in-Barred : goal.returns-in-Barred
 returns-in-Barred g c = record {
   row = λ s actions fuel made is.
       let catalog = c.args.catalog.now in
-      let discovers = subst (λ (order : Drivers). Discovers catalog c.args.queue.now (drop 0 order.volumes) c.discover.new.self) c.order.ensures c.in_ok-discover.ensures.row in
+      let discovers = subst (λ volumes. Discovers catalog c.args.queue.now volumes c.discover.new.self) (c.volumes.ensures ∙ ap (λ (order : Drivers). order.volumes) c.order-2.ensures) c.in_ok-discover.ensures.row in
       let at = at_opening c.dxe_opens.ensures.opens c.unrequested_drivers_wait.ensures g.M.PeiStore.stands_for c.args.store.now catalog fuel s actions c.args.dxe.now c.args.queue.now c.discover.new.self c.new-told.result
       c.requires.catalog made is c.requires.new discovers c.new-told.ensures.begun c.new-told.ensures.givers in
       rw c.in-Barred.is at (c.in_ok-end.ensures.row s actions fuel at);

@@ -1,9 +1,8 @@
-use Rattle.std.proofs.Common.{arith, ◌≡◌, ◌<◌, ◌≤◌, ◌+◌, ◌^◌, drop, length, sym, ap, ◌∙◌, subst}
+use Rattle.std.proofs.Common.{arith, ◌≡◌, ◌<◌, ◌+◌, ◌^◌, sym, ap, ◌∙◌, subst}
 use Rattle.std.proofs.lemmas.Result.{err_from_is_err_and}
-use Rattle.boot_model.specs.DxeChoice.{drivers_of}
 use Rattle.boot_model.specs.DxeRun.{dxe_opening, dxe_bound}
 use Rattle.dxe_action.specs.Order.{Drivers, IsOrderOf}
-use Rattle.dxe_dispatch.specs.Queue.{Discovers, owed}
+use Rattle.dxe_dispatch.specs.Queue.{owed}
 use Rattle.dxe_dispatch.specs.Choices.{LetsDrivers, NamesDrivers, came}
 use Rattle.dxe_dispatch.proofs.Chosen.{StepLaws}
 use Rattle.dxe_dispatch.proofs.ChosenWays.{coming_few, coming_halts, coming_on, coming_to, few_left, few_over, none_evaluated, opening_comes, opening_drivers, opening_halts, opening_part, turn_to_come}
@@ -15,8 +14,9 @@ discover-requires-clause-new g c =
     let s = c.requires.opening.0 in
     let actions = c.requires.opening.1 in
     let stands = c.requires.opening.2 in
-    let order = subst (IsOrderOf catalog _) (sym c.order.ensures) stands.core.services.order in
-    opening_drivers catalog c.args.queue.now c.order.result.now (dxe_opening catalog s actions) c.requires.new order (c.discovered_order_has_each_once.ensures catalog c.requires.catalog.parents c.requires.made.0 0 s actions).once
+    let order = subst (IsOrderOf catalog _) (sym c.order-2.ensures) stands.core.services.order in
+    let shown = c.volumes-volumes.ensures ∙ ap (λ (order : Drivers). order.volumes) c.order.ensures ∙ stands.core.services.order.volumes_are in
+    opening_drivers catalog c.args.queue.now c.order-2.result.now (dxe_opening catalog s actions) c.volumes-volumes.result.now shown c.requires.new order (c.discovered_order_has_each_once.ensures catalog c.requires.catalog.parents c.requires.made.0 0 s actions).once
 
 pub returns-in_err-discover-clause-row : goal.returns-in_err-discover-clause-row
 returns-in_err-discover-clause-row g c s actions fuel made stands =
@@ -37,9 +37,9 @@ returns-in_err-put_volumes-clause-row g c s actions fuel made stands =
     let catalog = c.args.catalog.now in
     let Names = NamesDrivers (g.C.Choice.drivers c.args.choice.now) T g.S.Sink.faults c.args.in_pei c.args.sink.now in
     let Lets = LetsDrivers (g.C.Choice.lets_in_dxe c.args.choice.now) c.args.in_pei in
-    let shown = c.volumes.ensures ∙ ap (λ order. order.volumes) c.order-2.ensures ∙ stands.core.services.order.volumes_are in
+    let shown = c.volumes-volumes.ensures ∙ ap (λ (order : Drivers). order.volumes) c.order.ensures ∙ stands.core.services.order.volumes_are in
     let p = err_from_is_err_and c.from_residual-in_err-put_volumes.result c.from_residual-in_err-put_volumes.ensures.1 in
-    rw p.1 (opening_halts Names Lets catalog fuel s actions c.volumes.result.now (T c.args.sink.now) (T c.put_volumes.new.sink) shown c.in_err-put_volumes.ensures.text)
+    rw p.1 (opening_halts Names Lets catalog fuel s actions c.volumes-volumes.result.now (T c.args.sink.now) (T c.put_volumes.new.sink) shown c.in_err-put_volumes.ensures.text)
 
 pub returns-in_err-put_volumes-clause-few_steps : goal.returns-in_err-put_volumes-clause-few_steps
 returns-in_err-put_volumes-clause-few_steps g c s actions fuel made stands =
@@ -53,11 +53,9 @@ turns-init g c = record {
       let catalog = c.args.catalog.now in
       let Names = NamesDrivers (g.C.Choice.drivers c.args.choice.now) T F c.args.in_pei c.args.sink.now in
       let Lets = LetsDrivers (g.C.Choice.lets_in_dxe c.args.choice.now) c.args.in_pei in
-      let shown = c.volumes.ensures ∙ ap (λ order. order.volumes) c.order-2.ensures ∙ stands.core.services.order.volumes_are in
-      let row = subst (λ (order : Drivers). Discovers catalog c.args.queue.now (drop 0 order.volumes) c.discover.new.self) c.order.ensures c.in_ok-discover.ensures.row in
-      let owes = subst (λ (order : Drivers). owed c.discover.new.self ≤ owed c.args.queue.now + length (drivers_of catalog (drop 0 order.volumes))) c.order.ensures c.in_ok-discover.ensures.owes in
-      opening_comes c.dxe_opens.ensures.opens c.unrequested_drivers_wait.ensures Names Lets T F g.M.PeiStore.stands_for c.args.store.now catalog fuel s actions c.args.sink.now c.args.dxe.now c.args.queue.now c.discover.new.self c.volumes.result.now c.put_volumes.new.sink c.args.steps.now
-      c.requires.catalog stands c.requires.new row owes shown c.in_ok-put_volumes.ensures.text c.in_ok-put_volumes.ensures.cause;
+      let shown = c.volumes-volumes.ensures ∙ ap (λ (order : Drivers). order.volumes) c.order.ensures ∙ stands.core.services.order.volumes_are in
+      opening_comes c.dxe_opens.ensures.opens c.unrequested_drivers_wait.ensures Names Lets T F g.M.PeiStore.stands_for c.args.store.now catalog fuel s actions c.args.sink.now c.args.dxe.now c.args.queue.now c.discover.new.self c.volumes-volumes.result.now c.put_volumes.new.sink c.args.steps.now
+      c.requires.catalog stands c.requires.new c.in_ok-discover.ensures.row c.in_ok-discover.ensures.owes shown c.in_ok-put_volumes.ensures.text c.in_ok-put_volumes.ensures.cause;
   made = λ fuel made. made;
   queue = c.in_ok-discover.ensures.made;
   count = c.in_ok-put_volumes.ensures.cause;

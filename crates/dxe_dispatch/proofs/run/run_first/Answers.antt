@@ -28,7 +28,8 @@ returns-clause-row g c s actions fuel made stands =
     let text = g.S.Sink.text in
     let Names = NamesDrivers (λ sink starts named. named ≡ None) text g.S.Sink.faults 0 c.args.sink.now in
     let Lets = LetsDrivers (λ starts number. true) 0 in
-    first_ends Names Lets g.M.PeiStore.stands_for c.args.store.now catalog fuel (dxe_bound catalog fuel) (dxe_opening catalog s actions) c.run_dxe.new.dxe c.run_dxe.new.queue c.in-End.end (text c.args.sink.now) (text c.run_dxe.new.sink)
+    first_ends Names Lets g.M.PeiStore.stands_for c.args.store.now catalog fuel (dxe_bound catalog fuel) (dxe_opening catalog s actions)
+    (record { core = c.args.dxe.now; later = c.run_dxe.new.dxe; queue = c.run_dxe.new.queue; old = text c.args.sink.now; new = text c.run_dxe.new.sink }) c.in-End.end
     (λ m named is. is.is) (c.dxe_runs_end.ensures catalog c.requires.catalog.parents fuel s actions) (rw c.in-End.is at (c.in_ok-end.ensures.row s actions fuel made stands))
 
 pub returns-clause-few_steps : goal.returns-clause-few_steps

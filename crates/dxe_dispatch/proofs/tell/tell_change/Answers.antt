@@ -1,6 +1,6 @@
 use Rattle.std.proofs.Common.{ap, ◌∙◌, subst, sym}
 use Rattle.store_model.specs.HandleState.{has_protocol}
-use Rattle.dxe_dispatch.specs.Events.{Owes, TellsChange}
+use Rattle.dxe_dispatch.specs.Events.{OwesForChange, TellsChange}
 use Rattle.dxe_dispatch.proofs.Told.{has_protocol_now, none_changed, one_asked}
 use Rattle.dxe_dispatch.proofs.tell.tell_change.Goals as goal
 
@@ -13,7 +13,7 @@ returns-in-Some-clause-row c catalog made =
 
 pub returns-in-Some-clause-owes : goal.returns-in-Some-clause-owes
 returns-in-Some-clause-owes c catalog made =
-    subst (λ changed. Owes catalog c.args.queue.now changed c.change.new.self) (sym c.in-Some.is)
+    subst (λ changed. OwesForChange catalog c.args.queue.now changed c.change.new.self) (sym c.in-Some.is)
     (λ m is. one_asked catalog m c.in-Some.guid _ _ (c.change.ensures.owes catalog made m is))
 
 pub returns-in_default-clause-row : goal.returns-in_default-clause-row

@@ -1,9 +1,8 @@
-use Rattle.std.proofs.Common.{subst, sym, drop, length, ◌≤◌, ◌+◌, ◌∙◌, arith}
+use Rattle.std.proofs.Common.{ap, subst, sym, ◌∙◌, arith}
 use Rattle.std.proofs.lemmas.Result.{err_from_is_err_and}
-use Rattle.boot_model.specs.DxeChoice.{drivers_of}
 use Rattle.boot_model.specs.DxeStep.{dxe_step}
 use Rattle.dxe_action.specs.Order.{Drivers, IsOrderOf}
-use Rattle.dxe_dispatch.specs.Queue.{Discovers, owed}
+use Rattle.dxe_dispatch.specs.Queue.{owed}
 use Rattle.dxe_dispatch.proofs.Passing.{busy_starts_none}
 use Rattle.dxe_dispatch.proofs.Turning.{event_owes, event_so, has_event, new_drivers, owes_still, part_acted, told, whole_part, ends_so}
 use Rattle.dxe_dispatch.proofs.turns.act.Goals as goal
@@ -23,8 +22,9 @@ discover-requires-clause-new g c =
     let went = rw c.in-Went.is at (c.in_ok-event.ensures.row m fuel made ready.now.machine ready.waits) in
     let core = went.2.machine.core in
     let here = c.tell.ensures.row catalog c.requires.queue m (told m (dxe_step catalog fuel m)) ready.now.queue (has_event catalog fuel m c.in-Went.event c.step.new.self.services.handles went.1 core.services.handles) in
-    let order = subst (IsOrderOf catalog _) (sym c.order.ensures) core.services.order in
-    new_drivers catalog fuel m c.in-Went.event c.tell.new.queue c.order.result.now went.1 order here.index.order ready.once
+    let order = subst (IsOrderOf catalog _) (sym c.order-order.ensures) core.services.order in
+    let new = c.newest.ensures m.discovered went.1.left.volumes (ap (λ (order : Drivers). order.volumes) c.order-order.ensures ∙ core.services.order.volumes_are ∙ went.1.left.discovered) went.1.left.count in
+    new_drivers catalog fuel m c.in-Went.event c.tell.new.queue c.order-order.result.now c.newest.result.now went.1 order new here.index.order ready.once
 
 pub returns-in_err-discover-in-Went-clause-row : goal.returns-in_err-discover-in-Went-clause-row
 returns-in_err-discover-in-Went-clause-row g c lets m fuel made ready =
@@ -38,8 +38,8 @@ returns-in_ok-discover-in-Went-clause-row g c lets m fuel made ready =
     let went = rw c.in-Went.is at (c.in_ok-event.ensures.row m fuel made ready.now.machine ready.waits) in
     let core = went.2.machine.core in
     let here = c.tell.ensures.row catalog c.requires.queue m (told m (dxe_step catalog fuel m)) ready.now.queue (has_event catalog fuel m c.in-Went.event c.step.new.self.services.handles went.1 core.services.handles) in
-    let row = subst (λ (order : Drivers). Discovers catalog c.tell.new.queue (drop c.in-Went.event.known order.volumes) c.discover.new.self) c.order.ensures c.in_ok-discover-in-Went.ensures.row in
-    let turned = event_so lets g.M.PeiStore.stands_for c.args.store.now catalog fuel c.step.new.self c.tell.new.queue c.discover.new.self m c.in-Went.event _ went.0 went.1 went.2 here row in
+    let new = c.newest.ensures m.discovered went.1.left.volumes (ap (λ (order : Drivers). order.volumes) c.order-order.ensures ∙ core.services.order.volumes_are ∙ went.1.left.discovered) went.1.left.count in
+    let turned = event_so lets g.M.PeiStore.stands_for c.args.store.now catalog fuel c.step.new.self c.tell.new.queue c.discover.new.self m c.in-Went.event c.newest.result.now _ went.0 went.1 new went.2 here c.in_ok-discover-in-Went.ensures.row in
     (turned, (went.1, busy_starts_none catalog m went.0))
 
 pub returns-in_ok-discover-in-Went-clause-owes : goal.returns-in_ok-discover-in-Went-clause-owes
@@ -47,10 +47,9 @@ returns-in_ok-discover-in-Went-clause-owes g c before m fuel made ready =
     let catalog = c.args.catalog.now in
     let went = rw c.in-Went.is at (c.in_ok-event.ensures.row m fuel made ready.now.machine ready.waits) in
     let core = went.2.machine.core in
-    let here = c.tell.ensures.row catalog c.requires.queue m (told m (dxe_step catalog fuel m)) ready.now.queue (has_event catalog fuel m c.in-Went.event c.step.new.self.services.handles went.1 core.services.handles) in
-    let owes = subst (λ (order : Drivers). owed c.discover.new.self ≤ owed c.tell.new.queue + length (drivers_of catalog (drop c.in-Went.event.known order.volumes))) c.order.ensures c.in_ok-discover-in-Went.ensures.owes in
-    event_owes catalog fuel m c.in-Went.event c.step.new.self.services.order.volumes before (owed c.args.queue.now) (owed c.tell.new.queue) (owed c.discover.new.self) went.1
-    went.2.machine.core.services.order.volumes_are (c.tell.ensures.owes catalog c.requires.queue m ready.now.queue) owes
+    let new = c.newest.ensures m.discovered went.1.left.volumes (ap (λ (order : Drivers). order.volumes) c.order-order.ensures ∙ core.services.order.volumes_are ∙ went.1.left.discovered) went.1.left.count in
+    event_owes catalog fuel m c.in-Went.event c.newest.result.now before (owed c.args.queue.now) (owed c.tell.new.queue) (owed c.discover.new.self) went.1
+    new (c.tell.ensures.owes catalog c.requires.queue m ready.now.queue) c.in_ok-discover-in-Went.ensures.owes
 
 pub unreachable-requires : goal.unreachable-requires
 unreachable-requires g c =

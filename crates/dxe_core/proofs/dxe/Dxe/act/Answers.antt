@@ -1,13 +1,13 @@
-use Rattle.std.proofs.Common.{[], ◌∷◌, length, refl, sym, ap, ◌∙◌, subst, None}
+use Rattle.std.proofs.Common.{[], ◌∷◌, refl, sym, ap, ◌∙◌, subst}
 use Rattle.std.proofs.lemmas.List.{append-nil}
-use Rattle.dxe_action.specs.Order.{Drivers}
 use Rattle.boot_model.specs.DxeStep.{DxeActs, with_action}
 use Rattle.frames.specs.declared.fuel.Fuel.{Fuel}
-use Rattle.dxe_core.specs.declared.event.Stepped.TheVariants.{Went}
+use Rattle.dxe_core.specs.declared.stepped.Stepped.TheVariants.{Went}
 use Rattle.dxe_core.specs.Parts.{acted_to}
 use Rattle.dxe_core.specs.Standing.{DxeCore, IsFor, StandsFor}
 use Rattle.dxe_core.proofs.Acting.{acted_guids, acted_leads, count_fits, done, for_counted, fuel_left, left_core, limit_fits, takes_own, waits_on}
-use Rattle.dxe_core.proofs.Cases.{case_acts, discovered_from, is_busy, part, went}
+use Rattle.dxe_action.specs.Event.{quiet}
+use Rattle.dxe_core.proofs.Cases.{case_acts, is_busy, leaves_from, part, went}
 use Rattle.dxe_core.proofs.Going.{first_part, part_from, stepped_from, stepped_none, stepped_one, steps_fail, texts}
 use Rattle.dxe_core.proofs.dxe.Dxe.act.Goals as goal
 
@@ -76,10 +76,9 @@ returns-in-Silent-clause-row g c m fuel for h waits runs =
     let kept = subst (IsFor catalog fuel) (sym c.self.view_is) for in
     let has = c.in-Silent.ensures runs.top runs.below (sym stands.core.frames ∙ runs.frames) in
     let d = done c.effects_are_alike.ensures.dxe catalog fuel m runs.top runs.below core c.act.new.fuel c.act.new.frames [] stands.core kept.fuelled has.0 has.1 in
-    let known = ap length c.volumes-known.ensures ∙ ap (λ (order : Drivers). length order.volumes) c.order.ensures ∙ ap length stands.core.services.order.volumes_are in
     let busy = is_busy m core.frames runs.top runs.below stands.core.frames (sym stands.core.frames ∙ runs.frames) in
-    went _ catalog fuel m d.later (DxeActs runs.top runs.below) (record { changed = None; requested = None; known = length c.volumes-known.result.now }) c.quiet.result (texts (T c.args.sink.now) (T c.args.sink.now))
-    (case_acts catalog m runs.top runs.below runs.frames runs.fires) d.is busy (sym d.changed) known d.discovers c.quiet.ensures
+    went _ catalog fuel m d.later (DxeActs runs.top runs.below) quiet (Went c.quiet.result) (texts (T c.args.sink.now) (T c.args.sink.now))
+    (case_acts catalog m runs.top runs.below runs.frames runs.fires) d.is busy (sym d.changed) d.left (ap (λ event. Went event) c.quiet.ensures)
     (stepped_none _ m d.later (T c.args.sink.now) (d.printed ∙ append-nil m.lines) (record { store = subst (g.M.PeiStore.stands_for c.args.store.now) (sym d.store) stands.store; core = d.fields }))
 
 pub returns-in-Silent-clause-made : goal.returns-in-Silent-clause-made
@@ -104,10 +103,9 @@ returns-in_ok-print-in-Prints-clause-row g c m fuel for h waits runs =
     let has = c.in-Prints.ensures runs.top runs.below (sym stands.core.frames ∙ runs.frames) in
     let line = c.in-Prints.line in
     let d = done c.effects_are_alike.ensures.dxe catalog fuel m runs.top runs.below core c.act.new.fuel c.act.new.frames (line ∷ []) stands.core kept.fuelled has.0 has.1 in
-    let known = ap length c.volumes-known.ensures ∙ ap (λ (order : Drivers). length order.volumes) c.order.ensures ∙ ap length stands.core.services.order.volumes_are in
     let busy = is_busy m core.frames runs.top runs.below stands.core.frames (sym stands.core.frames ∙ runs.frames) in
-    went _ catalog fuel m d.later (DxeActs runs.top runs.below) (record { changed = None; requested = None; known = length c.volumes-known.result.now }) c.quiet-in-Prints.result (texts (T c.args.sink.now) (T c.print.new.sink))
-    (case_acts catalog m runs.top runs.below runs.frames runs.fires) d.is busy (sym d.changed) known d.discovers c.quiet-in-Prints.ensures
+    went _ catalog fuel m d.later (DxeActs runs.top runs.below) quiet (Went c.quiet-in-Prints.result) (texts (T c.args.sink.now) (T c.print.new.sink))
+    (case_acts catalog m runs.top runs.below runs.frames runs.fires) d.is busy (sym d.changed) d.left (ap (λ event. Went event) c.quiet-in-Prints.ensures)
     (stepped_one _ m d.later line line (T c.args.sink.now) (T c.print.new.sink) d.printed refl c.in_ok-print-in-Prints.ensures.text (record { store = subst (g.M.PeiStore.stands_for c.args.store.now) (sym d.store) stands.store; core = d.fields }))
 
 pub returns-in_ok-print-in-Prints-clause-made : goal.returns-in_ok-print-in-Prints-clause-made
@@ -141,7 +139,7 @@ returns-in_ok-event-in-Own-clause-row g c m fuel for h waits runs =
     let Stands = StandsFor g.M.PeiStore.stands_for c.args.store.now catalog c.act_own.new.self in
     let busy = is_busy m core.frames runs.top runs.below stands.core.frames (sym stands.core.frames ∙ runs.frames) in
     went Stands catalog fuel m to (DxeActs runs.top runs.below) event (Went event) t
-    (case_acts catalog m runs.top runs.below runs.frames runs.fires) leads busy (taken.changed ∙ sym (acted_guids catalog fuel m runs.top runs.below action left has.1.is)) taken.known (discovered_from catalog (with_action m) m to event.requested refl refl refl refl taken.discovers) refl
+    (case_acts catalog m runs.top runs.below runs.frames runs.fires) leads busy (taken.changed ∙ sym (acted_guids catalog fuel m runs.top runs.below action left has.1.is)) (leaves_from catalog event (with_action m) m to refl refl refl refl taken.left) refl
     (stepped_from Stands (with_action m) m to t refl taken.stepped)
 
 pub returns-in_ok-event-in-Own-clause-made : goal.returns-in_ok-event-in-Own-clause-made

@@ -9,7 +9,7 @@ use Rattle.dxe_core.specs.Parts.{acted_to}
 use Rattle.dxe_core.specs.Standing.{DxeCore, StandsFor}
 use Rattle.dxe_core.proofs.DriverLines.{action_prints}
 use Rattle.dxe_core.proofs.Going.{none_put, part_put, stepped, takes_fail}
-use Rattle.dxe_core.proofs.Owned.{call_line, known_are, replied, top_is}
+use Rattle.dxe_core.proofs.Owned.{call_line, replied, top_is}
 use Rattle.dxe_core.proofs.dxe.Dxe.act_own.Goals as goal
 
 pub take_own-requires-clause-counted : goal.take_own-requires-clause-counted
@@ -36,10 +36,10 @@ returns-in_err-put_reply-clause-row g c m h waits own =
     let given = c.in_ok-name.ensures.row m stands.store stands.core.services waits in
     let r = replied c.effects_are_alike.ensures.dxe catalog m c.in-Some.frame.now own.top own.below action c.in_ok-name.field-0 core c.take_own.new.services c.answer.new.self same own.own given stands.core
     (c.answer.ensures own.top own.below (sym stands.core.frames ∙ own.frames)) in
-    let shown : c.newest.result.now ≡ r.volumes = c.newest.ensures m.discovered r.volumes (ap (λ (order : Drivers). order.volumes) c.order.ensures ∙ r.all) r.count in
+    let shown : c.newest.result.now ≡ r.left.volumes = c.newest.ensures m.discovered r.left.volumes (ap (λ (order : Drivers). order.volumes) c.order.ensures ∙ r.all) r.left.count in
     let text = subst (λ xs. Sinks.AppendsPart (T c.args.sink.now) (T c.put_reply.new.sink) (text_of (call_line c.in_ok-name.field-0 ∷ discovery_lines xs))) shown c.in_err-put_reply.ensures.text in
     takes_fail _ catalog m action own _ c.from_residual-in_err-put_reply.result c.from_residual-in_err-put_reply.ensures.0
-    (part_put m (acted_to catalog m own.top own.below action) (call_line c.in_ok-name.field-0 ∷ discovery_lines r.volumes) (T c.args.sink.now) (T c.put_reply.new.sink) r.printed text)
+    (part_put m (acted_to catalog m own.top own.below action) (call_line c.in_ok-name.field-0 ∷ discovery_lines r.left.volumes) (T c.args.sink.now) (T c.put_reply.new.sink) r.printed text)
 
 pub returns-clause-row : goal.returns-clause-row
 returns-clause-row g c m h waits own =
@@ -52,13 +52,12 @@ returns-clause-row g c m h waits own =
     let given = c.in_ok-name.ensures.row m stands.store stands.core.services waits in
     let r = replied c.effects_are_alike.ensures.dxe catalog m c.in-Some.frame.now own.top own.below action c.in_ok-name.field-0 core c.take_own.new.services c.answer.new.self same own.own given stands.core
     (c.answer.ensures own.top own.below (sym stands.core.frames ∙ own.frames)) in
-    let shown : c.newest.result.now ≡ r.volumes = c.newest.ensures m.discovered r.volumes (ap (λ (order : Drivers). order.volumes) c.order.ensures ∙ r.all) r.count in
+    let shown : c.newest.result.now ≡ r.left.volumes = c.newest.ensures m.discovered r.left.volumes (ap (λ (order : Drivers). order.volumes) c.order.ensures ∙ r.all) r.left.count in
     let text = subst (λ xs. Appends (T c.args.sink.now) (T c.put_reply.new.sink) (text_of (call_line c.in_ok-name.field-0 ∷ discovery_lines xs))) shown c.in_ok-put_reply.ensures.text in
     record {
       changed = r.changed;
-      known = known_are m.discovered r.volumes c.volumes-all.result.now c.in_ok-name.field-0.event.discovered _ (c.volumes-all.ensures ∙ ap (λ (order : Drivers). order.volumes) c.order-2.ensures ∙ r.all) r.count c.saturating_sub.ensures;
-      discovers = r.discovers;
-      stepped = stepped _ m (acted_to catalog m own.top own.below action) (call_line c.in_ok-name.field-0 ∷ discovery_lines r.volumes) (T c.args.sink.now) (T c.put_reply.new.sink) r.printed text
+      left = r.left;
+      stepped = stepped _ m (acted_to catalog m own.top own.below action) (call_line c.in_ok-name.field-0 ∷ discovery_lines r.left.volumes) (T c.args.sink.now) (T c.put_reply.new.sink) r.printed text
           (record { store = subst (g.M.PeiStore.stands_for c.args.store.now) (sym r.store) stands.store; core = r.fields });
     }
 

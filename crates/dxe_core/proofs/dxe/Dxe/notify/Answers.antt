@@ -1,8 +1,9 @@
-use Rattle.std.proofs.Common.{cond, refl, ap, sym, subst, ◌∙◌, length, [], ◌∷◌, None}
+use Rattle.std.proofs.Common.{cond, refl, ap, sym, subst, ◌∙◌, [], ◌∷◌}
 use Rattle.boot_model.specs.DxeStep.{DxeFires, protocol_begun, protocol_line, swept}
-use Rattle.dxe_action.specs.Order.{Drivers}
 use Rattle.dxe_core.specs.Standing.{DxeCore, IsCoreOf}
-use Rattle.dxe_core.proofs.Cases.{case_fires, is_busy, none_discovered, part, went}
+use Rattle.dxe_action.specs.Event.{quiet}
+use Rattle.dxe_core.specs.declared.stepped.Stepped.TheVariants.{Went}
+use Rattle.dxe_core.proofs.Cases.{case_fires, is_busy, part, quiet_leaves, went}
 use Rattle.dxe_core.proofs.Fired.{fired_begun, fired_core}
 use Rattle.dxe_core.proofs.Going.{first_part, steps_fail, stepped_one, texts}
 use Rattle.dxe_core.proofs.dxe.Dxe.notify.Goals as goal
@@ -33,8 +34,7 @@ returns-clause-row g c m fuel h runs =
     let is = fired_begun catalog m note sweep runs.top runs.below core of (sym c.begin_notification.ensures.room ∙ c.if-not-begin_notification.false) in
     let fields = fired_core catalog m note sweep runs.top runs.below core c.begin_notification.new.frames c.begin_notification.result of runs.frames c.if-not-begin_notification.false
     (c.begin_notification.ensures.frames ∙ ap (λ frame. cond c.begin_notification.result (frame ∷ swept core.frames sweep) core.frames) c.notification_frame.ensures) in
-    let known = ap length c.volumes-known.ensures ∙ ap (λ (order : Drivers). length order.volumes) c.order.ensures ∙ ap length of.services.order.volumes_are in
-    went _ catalog fuel m begun (DxeFires note sweep runs.top runs.below) (record { changed = None; requested = None; known = length c.volumes-known.result.now }) c.quiet.result (texts (T c.args.sink.now) (T c.print.new.sink))
-    (case_fires catalog m c.args.next runs.top runs.below runs.frames runs.fires) is (is_busy m core.frames runs.top runs.below of.frames (sym of.frames ∙ runs.frames)) refl known
-    (none_discovered catalog m begun refl refl refl refl) c.quiet.ensures
+    went _ catalog fuel m begun (DxeFires note sweep runs.top runs.below) quiet (Went c.quiet.result) (texts (T c.args.sink.now) (T c.print.new.sink))
+    (case_fires catalog m c.args.next runs.top runs.below runs.frames runs.fires) is (is_busy m core.frames runs.top runs.below of.frames (sym of.frames ∙ runs.frames)) refl
+    (quiet_leaves catalog m begun refl refl refl refl) (ap (λ event. Went event) c.quiet.ensures)
     (stepped_one _ m begun (protocol_line catalog sweep note) c.protocol_line.result (T c.args.sink.now) (T c.print.new.sink) refl c.protocol_line.ensures c.in_ok-print.ensures.text (record { store = refl; core = fields }))

@@ -1,7 +1,7 @@
 use Rattle.std.proofs.Common.{◌≡◌, length, reverse}
 use Rattle.pi_base.specs.Lists.{Each}
 use Rattle.boot_model.specs.DxeChoice.{schedule_of}
-use Rattle.dxe_dispatch.specs.Choosing.{IsNumberOf, Schedules}
+use Rattle.dxe_dispatch.specs.Choosing.{HasFlagFor, Schedules}
 use Rattle.dxe_dispatch.specs.Queue.{Queue}
 use Rattle.dxe_dispatch.proofs.queue.DriverQueue.schedule_group.Given as goal
 
@@ -9,7 +9,7 @@ use Rattle.dxe_dispatch.proofs.queue.DriverQueue.schedule_group.Given as goal
 abbrev pub invariant-group : goal.invariant-group
 invariant-group l = record {
   flags : length l.self.waits ≡ length l.fn.self.waits;
-  left : Each (IsNumberOf l.fn.self) l.group;
+  left : Each (HasFlagFor l.fn.self) l.group;
   on : (later : Queue) → Schedules l.self (schedule_of l.fn.catalog (reverse l.group)) later → Schedules l.fn.self (schedule_of l.fn.catalog (reverse l.fn.group)) later;
 }
 
