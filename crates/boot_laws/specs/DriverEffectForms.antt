@@ -1,4 +1,5 @@
--- The forms of what an action of DXE does. What holds of each refusal and of the reply of each service that succeeds holds of every action.
+-- The forms of what an action of DXE does. What holds of each refusal and of the reply of each service that succeeds holds of every action:
+-- `driver_effect_has`.
 -- Own.
 use Rattle.std.specs.Prelude.{◌≡◌, ℕ, false, List, Option, Some, Ok}
 use Rattle.pi_base.specs.declared.guid.Guid.{Guid}
@@ -25,9 +26,13 @@ pub record DriverRepliesHave (catalog : Catalog) (m : DxeMachine) (frame : Drive
   pub reinstall : (h : ℕ) (guid : Guid) (old new : ℕ) (handle before after : ℕ) (done : Unit {0}) (handles : HandleState)
       → reinstall_interface m.handles handle guid before after ≡ Ok (done, handles)
       → P (A.DxeReinstall h guid old new) (record (dxe_told (with_handles m handles) frame.registers X.Nothing) { sweep = Some (protocol_sweep m guid after handle) })
-  pub uninstall : (h : ℕ) (guid : Guid) (v : ℕ) (handle value : ℕ) (done : Unit {0}) (handles : HandleState) → uninstall_interface m.handles handle guid value ≡ Ok (done, handles)
+  pub uninstall : (h : ℕ) (guid : Guid) (v : ℕ) (handle value : ℕ) (done : Unit {0}) (handles : HandleState)
+      → uninstall_interface m.handles handle guid value ≡ Ok (done, handles)
       → P (A.DxeUninstall h guid v) (dxe_told (with_handles m handles) frame.registers X.Nothing)
-  pub locate : (h v : ℕ) (guid : Guid) (found : ℕ × ℕ) → locate_handle m.handles guid ≡ Some found → P (A.DxeLocate h v guid) (locate_reply m frame h v found)
+  pub locate : (h v : ℕ) (guid : Guid) (found : ℕ × ℕ) → locate_handle m.handles guid ≡ Some found
+      → P (A.DxeLocate h v guid) (locate_reply m frame h v found)
   pub notify : (guid : Guid) (block : ℕ) → P (A.DxeNotify guid block) (notify_reply m frame guid block)
-  pub schedule : (name : Guid) (number : ℕ) → unrequested_named catalog m name ≡ Some number → P (A.Schedule name) (schedule_reply m frame number)
-  pub process : (v volume : ℕ) → has_number m.discovered volume ≡ false → P (A.Process v) (processed catalog m frame (newcomers catalog m.discovered (Some volume)))
+  pub schedule : (name : Guid) (number : ℕ) → unrequested_named catalog m name ≡ Some number
+      → P (A.Schedule name) (schedule_reply m frame number)
+  pub process : (v volume : ℕ) → has_number m.discovered volume ≡ false
+      → P (A.Process v) (processed catalog m frame (newcomers catalog m.discovered (Some volume)))

@@ -18,7 +18,7 @@ use Rattle.store_model.specs.declared.store_handle.StoreFault.{StoreFault}
 use Rattle.store_model.specs.declared.store_handle.Sweep.{Sweep}
 use Rattle.store_model.specs.StoreState.{StoreState, appended, end_place, hob_len, next_body, pool_of, rounded, with_body}
 use Rattle.store_model.specs.Service.{Service}
-use Rattle.store_model.specs.Service.Pool.{pool, store, written}
+use Rattle.store_model.specs.Service.Pool.{pool, written}
 use Rattle.store_model.specs.Service.Descriptor.{desc, desc_of, guid_from, kind_at}
 use Rattle.store_model.specs.Service.Install.{install, reinstall, installed, reinstalled, with_ppi, with_pending, install_pairs, install_sweep, reinstall_pairs, reinstall_sweep, renamed}
 use Rattle.store_model.specs.Service.Notify.{notify, notified, with_note, with_note_of, notify_pairs, notify_sweep}
