@@ -1,5 +1,5 @@
 -- What is told of a run of DXE by choices, a turn further.
-use Rattle.std.proofs.Common.{◌≡◌, ◌≤◌, ℕ, ◌+◌, arith, drop, Bool, false, List, [], ◌∷◌, ◌++◌, Option, Some, None, Ok, option_map, is_some, refl, sym, ap, ◌∙◌, subst}
+use Rattle.std.proofs.Common.{◌≡◌, ◌≤◌, ℕ, ◌+◌, arith, Bool, false, List, [], ◌∷◌, ◌++◌, Option, Some, None, Ok, option_map, is_some, refl, sym, ap, ◌∙◌, subst}
 use Rattle.std.specs.Option.{option_to_list}
 use Rattle.std.proofs.lemmas.List.{append-nil}
 use Rattle.pi_base.specs.declared.guid.Guid.{Guid}
