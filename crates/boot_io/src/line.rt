@@ -6,14 +6,14 @@ ghost use Rattle.boot_io.specs.Sink.{Puts, SinkFaultsAfter};
 use crate::{Sink, SinkFault};
 use arrayvec::ArrayVec;
 
-// How many bytes are put at once; a longer word is put by itself.
-const LINE_LEN: usize = 256;
+/// How many bytes are gathered before they are put; a longer piece is put by itself.
+pub const LINE_LEN: usize = 256;
 
-// What is to be put next.
-type Gathered = ArrayVec<u8, LINE_LEN>;
+/// What is to be put next.
+pub type Gathered = ArrayVec<u8, LINE_LEN>;
 
-// Takes a piece into the line, or puts the line and the piece where it has no room.
-fn gather<S: Sink>(sink: &mut S, line: &mut Gathered, piece: &[u8]) -> Result<(), SinkFault>
+/// Takes a piece into the line, or puts the line and the piece where it has no room. Where the sink fails, a prefix of both was put. It takes no memory.
+pub fn gather<S: Sink>(sink: &mut S, line: &mut Gathered, piece: &[u8]) -> Result<(), SinkFault>
     ensures text { Gathers result (S.text sink.old) (S.text sink.new) line.old.items line.new.items piece.now }
     ensures cause { SinkFaultsAfter result (S.faults sink.old) (S.faults sink.new) }
 {

@@ -8,30 +8,10 @@ ghost use Rattle.boot_trace.specs.Pieces.{piece_text, piece_texts};
 use crate::number_word::{byte_word, decimal_word, expression_word, hexadecimal_word};
 use crate::piece::Piece;
 use arrayvec::ArrayVec;
-use boot_io::{Sink, SinkFault};
-
-// How many bytes are put at once; a longer text is put by itself.
-const LINE_LEN: usize = 256;
+use boot_io::{Gathered, Sink, SinkFault, gather};
 
 // How many bytes are encoded at once.
 pub(crate) const ENCODED_LEN: usize = 64;
-
-// What is to be put next.
-type Gathered = ArrayVec<u8, LINE_LEN>;
-
-// Takes a text into the line, or puts the line and the text where it has no room.
-fn gather<S: Sink>(sink: &mut S, line: &mut Gathered, text: &[u8]) -> Result<(), SinkFault>
-    ensures text { Gathers result (S.text sink.old) (S.text sink.new) line.old.items line.new.items text.now }
-    ensures cause { SinkFaultsAfter result (S.faults sink.old) (S.faults sink.new) }
-{
-    match line.try_extend_from_slice(text) {
-        Ok(()) => return Ok(()),
-        Err(_) => {}
-    }
-    sink.put(line.as_slice())?;
-    line.clear();
-    sink.put(text)
-}
 
 // Takes few bytes, in hexadecimal.
 fn gather_encoded<S: Sink>(sink: &mut S, line: &mut Gathered, bytes: &[u8]) -> Result<(), SinkFault>

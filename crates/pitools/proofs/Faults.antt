@@ -10,15 +10,18 @@ use Rattle.pitools.specs.declared.command_line.Tool.{Tool}
 use Rattle.pitools.specs.declared.command_line.Tool.TheVariants.{AssembleDepex, AssembleScript, ReadPei, ReadDxe, ReadScript, Mp, Volume, ReadVolume}
 use Rattle.pitools.specs.declared.status.ToolStatus.{ToolStatus}
 use Rattle.pitools.specs.declared.status.ToolStatus.TheVariants as S
+use Rattle.pitools.specs.declared.command_line.PlanTool.{PlanTool}
+use Rattle.pitools.specs.declared.command_line.PlanTool.TheVariants as P
 use Rattle.pitools.specs.declared.command_line.TraceTool.{TraceTool}
 use Rattle.pitools.specs.declared.command_line.TraceTool.TheVariants.{Check, Explain}
 use Rattle.pitools.specs.CheckReport.{VerdictReport, no, yes}
-use Rattle.pitools.specs.ExplainReport.{ExplainReport, explained_so, faulty_image, over_long, text_read}
+use Rattle.pitools.specs.ExplainReport.{ExplainReport, explained_so, faulty_image}
 use Rattle.pitools.specs.ToldReport.{ToldReport, goes_wrong, not_read, runs_so}
 use Rattle.pitools.specs.TraceReport.{SaidBy, TraceReport, both_read, image_refused, plan_long, said, trace_long, twins}
 use Rattle.boot_model.specs.declared.line.RunEnd.{RunEnd}
 use Rattle.boot_model.specs.declared.line.RunEnd.TheVariants as E
-use Rattle.pitools.specs.HobsReport.{HobsReport, bad_image, ended, handed, plan_read, too_long}
+use Rattle.pitools.specs.HobsReport.{HobsReport, bad_image, ended, handed}
+use Rattle.pitools.specs.PlanReport.{PlanReport, over_long, text_read}
 use Rattle.pitools.specs.JobOutcome.{JobOutcome, JobReport, job_long, job_plan, job_read, no_job}
 use Rattle.pitools.specs.ReportText.{end_status, followed_status}
 use Rattle.pitools.specs.Ends.{Answered, Ends, IsDue, NoMemory, SinkFailed, Trail, outcome, unread}
@@ -28,7 +31,7 @@ use Rattle.start_order.specs.declared.lines.StartOrder.{StartOrder}
 use Rattle.order_check.specs.declared.following.Followed.{Followed}
 use Rattle.order_check.specs.declared.following.Followed.TheVariants as F
 use Rattle.pitools.specs.MpReport.{MpReport, ran, refused}
-use Rattle.pitools.specs.Outcome.{ContentReport, Names, Outcome, both, commands_long, content, hobs_long, long, usage, words_ask_explanation, words_ask_follow, words_ask_hobs, words_ask_map, words_ask_tool, words_ask_trace}
+use Rattle.pitools.specs.Outcome.{ContentReport, Names, Outcome, both, commands_long, content, hobs_long, long, usage, words_ask_follow, words_ask_plan, words_ask_map, words_ask_tool, words_ask_trace}
 use Rattle.pitools.specs.PrintReport.{PrintReport, printed, no_volume}
 use Rattle.pitools.specs.VolumeReport.{VolumeReport, at_fault, built}
 use Rattle.pitools.specs.TextReport.{AssemblyReport, DepexReport, ExpressionReport, ScriptReport, assembled, bad, faulty, long as long_depex, long_script, malformed, no_script, read, spelled, stands}
@@ -136,6 +139,10 @@ hobs_tell plan images status out (bad_image fault p is t) = other status S.Image
 hobs_tell plan images status out (handed hobs p is t) = done_tells status is
 hobs_tell plan images status out (ended end p is t) = end_tells end status is
 
+plan_tells : (tool : PlanTool) (plan : Plan) (images : List (List ℕ)) → Tells (PlanReport tool plan images)
+plan_tells P.Hobs plan images = hobs_tell plan images
+plan_tells P.Reasons plan images = explain_tells plan images
+
 -- nor what a boot in an order of starts came to
 followed_tells : (followed : Followed) (status : ToolStatus) → status ≡ followed_status followed → status ≡ S.FileFault → ⊥
 followed_tells (F.Ended end) status is = end_tells end status is
@@ -163,13 +170,11 @@ no_outcome told words status text (words_ask_map hobs commands p (both bytes lin
 no_outcome told words status text (words_ask_trace tool plan trace p (plan_long o)) = long_tells status o.status_is
 no_outcome told words status text (words_ask_trace tool plan trace p (trace_long bytes q o)) = long_tells status o.status_is
 no_outcome told words status text (words_ask_trace tool plan trace p (both_read bytes lines q r o)) = texts_tell (λ plan images. TraceReport tool plan images lines) (trace_tells tool lines) told bytes status text o
-no_outcome told words status text (words_ask_explanation plan p (over_long o)) = long_tells status o.status_is
-no_outcome told words status text (words_ask_explanation plan p (text_read bytes q o)) = texts_tell ExplainReport explain_tells told bytes status text o
 no_outcome told words status text (words_ask_follow plan order p (long_plan o)) = long_tells status o.status_is
 no_outcome told words status text (words_ask_follow plan order p (long_order bytes q o)) = long_tells status o.status_is
 no_outcome told words status text (words_ask_follow plan order p (texts_read bytes lines q r o)) = texts_tell (λ plan images. FollowReport plan images lines) (follow_tells lines) told bytes status text o
-no_outcome told words status text (words_ask_hobs plan p (too_long o)) = long_tells status o.status_is
-no_outcome told words status text (words_ask_hobs plan p (plan_read bytes q o)) = texts_tell HobsReport hobs_tell told bytes status text o
+no_outcome told words status text (words_ask_plan tool plan p (over_long o)) = long_tells status o.status_is
+no_outcome told words status text (words_ask_plan tool plan p (text_read bytes q o)) = texts_tell (PlanReport tool) (plan_tells tool) told bytes status text o
 no_outcome told words status text (words_ask_tool tool file p (long o)) = long_tells status o.status_is
 no_outcome told words status text (words_ask_tool tool file p (content bytes q o)) = content_tells tool bytes status text o
 

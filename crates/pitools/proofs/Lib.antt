@@ -13,4 +13,5 @@ mod FewLines
 mod StartNames
 mod OneTrace
 mod OneOutcome
+mod OnePlan
 mod TextsAgain

@@ -7,29 +7,29 @@ use Rattle.pi_base.specs.Field.{AreBytes}
 use Rattle.plan_files.specs.Job.{IsNamedIn}
 use Rattle.plan_files.specs.Reading.{plan_limit}
 use Rattle.pitools.specs.declared.command_line.Tool.{Tool}
+use Rattle.pitools.specs.declared.command_line.PlanTool.{PlanTool}
+use Rattle.pitools.specs.declared.command_line.PlanTool.TheVariants as P
 use Rattle.pitools.specs.declared.command_line.TraceTool.{TraceTool}
 use Rattle.pitools.specs.declared.command_line.TraceTool.TheVariants.{Check, Explain}
 use Rattle.pitools.specs.declared.command_line.Tool.TheVariants.{AssembleDepex, AssembleScript, ReadPei, ReadDxe, ReadScript, Mp, Volume, ReadVolume}
 use Rattle.pitools.specs.declared.status.ToolStatus.{ToolStatus}
 use Rattle.pitools.specs.declared.status.ToolStatus.TheVariants as S
-use Rattle.pitools.specs.CommandLine.{AskForExplanation, AskForFollow, AskForHobs, AskForMap, AskForTool, AskForTrace, tool_words}
+use Rattle.pitools.specs.CommandLine.{AskForFollow, AskForMap, AskForPlan, AskForTool, AskForTrace, tool_words}
 use Rattle.pitools.specs.Ends.{EndsBy, Ends, IsDue, Kind, OfMemory, OfSink, OfText, Trail, kind_of, outcome, status_after, unread}
 use Rattle.pitools.specs.FollowReport.{FollowNames, FollowOutcome, OrderTextsOutcome, long_order, long_plan, names_order, names_plan, names_volume, order_limit, texts_read}
 use Rattle.pitools.specs.GcdReport.{GcdReport}
-use Rattle.pitools.specs.HobsReport.{HobsNames, HobsOutcome, HobsReport, plan_read, too_long, of_plan, of_volume}
-use Rattle.pitools.specs.ExplainReport.{ExplainNames, ExplainOutcome, ExplainReport, names_a_volume, names_the_plan, over_long, text_read}
+use Rattle.pitools.specs.PlanReport.{PlanNames, PlanOutcome, PlanReport, names_a_volume, names_the_plan, over_long, text_read}
 use Rattle.pitools.specs.JobOutcome.{JobOutcome}
 use Rattle.pitools.specs.OneOutcome.{AnswersExactly, AreAllTold, AreTold, IsOne, IsStoppedBy, IsToldAsBytes}
 use Rattle.pitools.specs.TraceReport.{TextsOutcome, TraceNames, TraceOutcome, both_read, is_plan, is_trace, is_volume, plan_long, trace_limit, trace_long}
-use Rattle.pitools.specs.Outcome.{ContentReport, MapNames, MapOutcome, Names, Outcome, ToolOutcome, both, commands_limit, commands_long, content, file_limit, hobs_long, limit_of, long, of_explanation, of_follow, of_hobs, of_map, of_tool, of_trace, usage, words_ask_explanation, words_ask_follow, words_ask_hobs, words_ask_map, words_ask_tool, words_ask_trace}
+use Rattle.pitools.specs.Outcome.{ContentReport, MapNames, MapOutcome, Names, Outcome, ToolOutcome, both, commands_limit, commands_long, content, file_limit, hobs_long, limit_of, long, of_follow, of_map, of_plan, of_tool, of_trace, usage, words_ask_follow, words_ask_map, words_ask_plan, words_ask_tool, words_ask_trace}
 use Rattle.pitools.proofs.ToldFiles.{one_content, one_long, told_bytes, within_or_over}
 
 -- the laws of the tools: what is read leads to one report
 pub record Laws : Type 0 where
   pub maps : (bytes lines : List ℕ) → IsOne (GcdReport bytes lines)
   pub contents : (tool : Tool) (content : List ℕ) → AreBytes content → IsOne (ContentReport tool content)
-  pub hobs : (told : List ℕ → Option (List ℕ)) (content : List ℕ) → AreAllTold told (IsNamedIn told content) → IsOne (JobOutcome HobsReport told content)
-  pub explains : (told : List ℕ → Option (List ℕ)) (content : List ℕ) → AreAllTold told (IsNamedIn told content) → IsOne (JobOutcome ExplainReport told content)
+  pub plans : (tool : PlanTool) (told : List ℕ → Option (List ℕ)) (content : List ℕ) → AreAllTold told (IsNamedIn told content) → IsOne (JobOutcome (PlanReport tool) told content)
   pub traces : (tool : TraceTool) (told : List ℕ → Option (List ℕ)) (content text : List ℕ) → AreAllTold told (IsNamedIn told content) → IsOne (TextsOutcome tool told content text)
   pub follows : (told : List ℕ → Option (List ℕ)) (content text : List ℕ) → length text ≤ order_limit → AreAllTold told (IsNamedIn told content) → IsOne (OrderTextsOutcome told content text)
 
@@ -76,18 +76,25 @@ trace_or_tool : (words : List (List ℕ)) (asked : TraceTool) (plan trace : List
 trace_or_tool words Check plan trace tool file p q = check_or_tool words plan trace tool file p q
 trace_or_tool words Explain plan trace tool file p q = told_or_tool words plan trace tool file p q
 
-hobs_or_map : (words : List (List ℕ)) (plan hobs commands : List ℕ) → AskForHobs words plan → AskForMap words hobs commands → ⊥
-hobs_or_map words plan hobs commands p q = let e = ap first (sym p.0 ∙ q.0) in omega (arith, e)
+plan_or_map : (words : List (List ℕ)) (asked : PlanTool) (plan hobs commands : List ℕ) → AskForPlan words asked plan → AskForMap words hobs commands → ⊥
+plan_or_map words P.Hobs plan hobs commands p q = let e = ap first (sym p.0 ∙ q.0) in omega (arith, e)
+plan_or_map words P.Reasons plan hobs commands p q = let e = ap first (sym p.0 ∙ q.0) in omega (arith, e)
 
-hobs_or_trace : (words : List (List ℕ)) (plan : List ℕ) (asked : TraceTool) (other trace : List ℕ) → AskForHobs words plan → AskForTrace words asked other trace → ⊥
-hobs_or_trace words plan Check other trace p q = let e = ap first (sym p.0 ∙ q.0) in omega (arith, e)
-hobs_or_trace words plan Explain other trace p q = let e = ap first (sym p.0 ∙ q.0) in omega (arith, e)
+plan_or_trace : (words : List (List ℕ)) (asked : PlanTool) (plan : List ℕ) (tool : TraceTool) (other trace : List ℕ) → AskForPlan words asked plan → AskForTrace words tool other trace → ⊥
+plan_or_trace words P.Hobs plan Check other trace p q = let e = ap first (sym p.0 ∙ q.0) in omega (arith, e)
+plan_or_trace words P.Hobs plan Explain other trace p q = let e = ap first (sym p.0 ∙ q.0) in omega (arith, e)
+plan_or_trace words P.Reasons plan Check other trace p q = let e = ap first (sym p.0 ∙ q.0) in omega (arith, e)
+plan_or_trace words P.Reasons plan Explain other trace p q = let none : [] ≡ trace ∷ [] = ap (λ (x : List (List ℕ)). rest (rest x)) (sym p.0 ∙ q.0) in cc
 
-hobs_or_tool : (words : List (List ℕ)) (plan : List ℕ) (tool : Tool) (file : List ℕ) → AskForHobs words plan → AskForTool words tool file → ⊥
-hobs_or_tool words plan Mp file p q = let e = ap first (sym p.0 ∙ q.0) in omega (arith, e)
-hobs_or_tool words plan Volume file p q = let e = ap first (sym p.0 ∙ q.0) in omega (arith, e)
-hobs_or_tool words plan ReadVolume file p q = let e = ap first (sym p.0 ∙ q.0) in omega (arith, e)
-hobs_or_tool words plan tool file p q = let e = ap first (sym p.0 ∙ q.0) in omega (arith, e)
+plan_or_tool : (words : List (List ℕ)) (asked : PlanTool) (plan : List ℕ) (tool : Tool) (file : List ℕ) → AskForPlan words asked plan → AskForTool words tool file → ⊥
+plan_or_tool words P.Hobs plan Mp file p q = let e = ap first (sym p.0 ∙ q.0) in omega (arith, e)
+plan_or_tool words P.Hobs plan Volume file p q = let e = ap first (sym p.0 ∙ q.0) in omega (arith, e)
+plan_or_tool words P.Hobs plan ReadVolume file p q = let e = ap first (sym p.0 ∙ q.0) in omega (arith, e)
+plan_or_tool words P.Hobs plan tool file p q = let e = ap first (sym p.0 ∙ q.0) in omega (arith, e)
+plan_or_tool words P.Reasons plan Mp file p q = let e = ap first (sym p.0 ∙ q.0) in omega (arith, e)
+plan_or_tool words P.Reasons plan Volume file p q = let e = ap first (sym p.0 ∙ q.0) in omega (arith, e)
+plan_or_tool words P.Reasons plan ReadVolume file p q = let e = ap first (sym p.0 ∙ q.0) in omega (arith, e)
+plan_or_tool words P.Reasons plan tool file p q = let e = ap first (sym p.0 ∙ q.0) in omega (arith, e)
 
 follow_or_map : (words : List (List ℕ)) (plan order hobs commands : List ℕ) → AskForFollow words plan order → AskForMap words hobs commands → ⊥
 follow_or_map words plan order hobs commands p q = let e = ap first (sym p.0 ∙ q.0) in omega (arith, e)
@@ -96,8 +103,9 @@ follow_or_trace : (words : List (List ℕ)) (plan order : List ℕ) (asked : Tra
 follow_or_trace words plan order Check other trace p q = let e = ap first (sym p.0 ∙ q.0) in omega (arith, e)
 follow_or_trace words plan order Explain other trace p q = let e = ap first (sym p.0 ∙ q.0) in omega (arith, e)
 
-follow_or_hobs : (words : List (List ℕ)) (plan order other : List ℕ) → AskForFollow words plan order → AskForHobs words other → ⊥
-follow_or_hobs words plan order other p q = let e = ap first (sym p.0 ∙ q.0) in omega (arith, e)
+follow_or_plan : (words : List (List ℕ)) (plan order : List ℕ) (asked : PlanTool) (other : List ℕ) → AskForFollow words plan order → AskForPlan words asked other → ⊥
+follow_or_plan words plan order P.Hobs other p q = let e = ap first (sym p.0 ∙ q.0) in omega (arith, e)
+follow_or_plan words plan order P.Reasons other p q = let e = ap first (sym p.0 ∙ q.0) in omega (arith, e)
 
 follow_or_tool : (words : List (List ℕ)) (plan order : List ℕ) (tool : Tool) (file : List ℕ) → AskForFollow words plan order → AskForTool words tool file → ⊥
 follow_or_tool words plan order Mp file p q = let e = ap first (sym p.0 ∙ q.0) in omega (arith, e)
@@ -105,24 +113,11 @@ follow_or_tool words plan order Volume file p q = let e = ap first (sym p.0 ∙ 
 follow_or_tool words plan order ReadVolume file p q = let e = ap first (sym p.0 ∙ q.0) in omega (arith, e)
 follow_or_tool words plan order tool file p q = let e = ap first (sym p.0 ∙ q.0) in omega (arith, e)
 
-explain_or_map : (words : List (List ℕ)) (plan hobs commands : List ℕ) → AskForExplanation words plan → AskForMap words hobs commands → ⊥
-explain_or_map words plan hobs commands p q = let e = ap first (sym p.0 ∙ q.0) in omega (arith, e)
-
-explain_or_trace : (words : List (List ℕ)) (plan : List ℕ) (asked : TraceTool) (other trace : List ℕ) → AskForExplanation words plan → AskForTrace words asked other trace → ⊥
-explain_or_trace words plan Check other trace p q = let e = ap first (sym p.0 ∙ q.0) in omega (arith, e)
-explain_or_trace words plan Explain other trace p q = let none : [] ≡ trace ∷ [] = ap (λ (x : List (List ℕ)). rest (rest x)) (sym p.0 ∙ q.0) in cc
-
-explain_or_follow : (words : List (List ℕ)) (plan other order : List ℕ) → AskForExplanation words plan → AskForFollow words other order → ⊥
-explain_or_follow words plan other order p q = let e = ap first (sym p.0 ∙ q.0) in omega (arith, e)
-
-explain_or_hobs : (words : List (List ℕ)) (plan other : List ℕ) → AskForExplanation words plan → AskForHobs words other → ⊥
-explain_or_hobs words plan other p q = let e = ap first (sym p.0 ∙ q.0) in omega (arith, e)
-
-explain_or_tool : (words : List (List ℕ)) (plan : List ℕ) (tool : Tool) (file : List ℕ) → AskForExplanation words plan → AskForTool words tool file → ⊥
-explain_or_tool words plan Mp file p q = let e = ap first (sym p.0 ∙ q.0) in omega (arith, e)
-explain_or_tool words plan Volume file p q = let e = ap first (sym p.0 ∙ q.0) in omega (arith, e)
-explain_or_tool words plan ReadVolume file p q = let e = ap first (sym p.0 ∙ q.0) in omega (arith, e)
-explain_or_tool words plan tool file p q = let e = ap first (sym p.0 ∙ q.0) in omega (arith, e)
+one_plan_tool : (words : List (List ℕ)) (tool other : PlanTool) (plan name : List ℕ) → AskForPlan words tool plan → AskForPlan words other name → other ≡ tool
+one_plan_tool words P.Hobs P.Hobs plan name p q = refl
+one_plan_tool words P.Reasons P.Reasons plan name p q = refl
+one_plan_tool words P.Hobs P.Reasons plan name p q = absurd (let e = ap first (sym p.0 ∙ q.0) in omega (arith, e))
+one_plan_tool words P.Reasons P.Hobs plan name p q = absurd (let e = ap first (sym p.0 ∙ q.0) in omega (arith, e))
 
 one_asked : (words : List (List ℕ)) (tool other : TraceTool) (plan trace text lines : List ℕ) → AskForTrace words tool plan trace → AskForTrace words other text lines → other ≡ tool
 one_asked words Check Check plan trace text lines p q = refl
@@ -231,25 +226,15 @@ one_of_follow laws told plan order all a b s t (texts_read c text p r o) (texts_
     let Q : List ℕ → Type 0 = λ x. OrderTextsOutcome told c x b t in
     laws.follows told c text r.within (λ name named. all name (names_volume c text p r named)) a b s t o (subst Q texts (subst P contents u))
 
--- and that of a plan whose HOB list is asked for
-one_of_hobs : Laws → (told : List ℕ → Option (List ℕ)) (plan : List ℕ) → AreAllTold told (HobsNames told plan) → IsOne (HobsOutcome told plan)
-one_of_hobs laws told plan all a b s t (too_long p) (too_long q) = one_long (told plan) plan_limit plan a b s t p q
-one_of_hobs laws told plan all a b s t (too_long p) (plan_read d q o) = absurd (within_or_over (told plan) plan_limit (all plan (of_plan refl)) p.content d p.long q)
-one_of_hobs laws told plan all a b s t (plan_read c p o) (too_long q) = absurd (within_or_over (told plan) plan_limit (all plan (of_plan refl)) q.content c q.long p)
-one_of_hobs laws told plan all a b s t (plan_read c p o) (plan_read d q u) =
-    let contents : d ≡ c = one_content (told plan) (all plan (of_plan refl)) d c q.as_told p.as_told in
-    let P : List ℕ → Type 0 = λ x. JobOutcome HobsReport told x b t in
-    laws.hobs told c (λ name named. all name (of_volume c p named)) a b s t o (subst P contents u)
-
--- and that of a plan whose boot is explained
-one_of_explanation : Laws → (told : List ℕ → Option (List ℕ)) (plan : List ℕ) → AreAllTold told (ExplainNames told plan) → IsOne (ExplainOutcome told plan)
-one_of_explanation laws told plan all a b s t (over_long p) (over_long q) = one_long (told plan) plan_limit plan a b s t p q
-one_of_explanation laws told plan all a b s t (over_long p) (text_read d q o) = absurd (within_or_over (told plan) plan_limit (all plan (names_the_plan refl)) p.content d p.long q)
-one_of_explanation laws told plan all a b s t (text_read c p o) (over_long q) = absurd (within_or_over (told plan) plan_limit (all plan (names_the_plan refl)) q.content c q.long p)
-one_of_explanation laws told plan all a b s t (text_read c p o) (text_read d q u) =
+-- and that of a plan alone, for each tool of it
+one_of_plan : Laws → (tool : PlanTool) (told : List ℕ → Option (List ℕ)) (plan : List ℕ) → AreAllTold told (PlanNames told plan) → IsOne (PlanOutcome tool told plan)
+one_of_plan laws tool told plan all a b s t (over_long p) (over_long q) = one_long (told plan) plan_limit plan a b s t p q
+one_of_plan laws tool told plan all a b s t (over_long p) (text_read d q o) = absurd (within_or_over (told plan) plan_limit (all plan (names_the_plan refl)) p.content d p.long q)
+one_of_plan laws tool told plan all a b s t (text_read c p o) (over_long q) = absurd (within_or_over (told plan) plan_limit (all plan (names_the_plan refl)) q.content c q.long p)
+one_of_plan laws tool told plan all a b s t (text_read c p o) (text_read d q u) =
     let contents : d ≡ c = one_content (told plan) (all plan (names_the_plan refl)) d c q.as_told p.as_told in
-    let P : List ℕ → Type 0 = λ x. JobOutcome ExplainReport told x b t in
-    laws.explains told c (λ name named. all name (names_a_volume c p named)) a b s t o (subst P contents u)
+    let P : List ℕ → Type 0 = λ x. JobOutcome (PlanReport tool) told x b t in
+    laws.plans tool told c (λ name named. all name (names_a_volume c p named)) a b s t o (subst P contents u)
 
 abbrev second : List (List ℕ) → List ℕ
 second words = head (rest words)
@@ -271,47 +256,34 @@ one_outcome laws told words all a b s t (words_ask_trace asked plan trace p o) (
 one_outcome laws told words all a b s t (words_ask_trace asked plan trace p o) (words_ask_tool tool file q u) = absurd (trace_or_tool words asked plan trace tool file p q)
 one_outcome laws told words all a b s t (words_ask_tool tool file p o) (words_ask_map hobs commands q u) = absurd (map_or_tool words hobs commands tool file q p)
 one_outcome laws told words all a b s t (words_ask_tool tool file p o) (words_ask_trace asked plan trace q u) = absurd (trace_or_tool words asked plan trace tool file q p)
-one_outcome laws told words all a b s t (usage none e u) (words_ask_hobs plan q o) = absurd (none.no_hobs plan q)
-one_outcome laws told words all a b s t (words_ask_hobs plan p o) (usage none f v) = absurd (none.no_hobs plan p)
-one_outcome laws told words all a b s t (words_ask_hobs plan p o) (words_ask_map hobs commands q u) = absurd (hobs_or_map words plan hobs commands p q)
-one_outcome laws told words all a b s t (words_ask_hobs plan p o) (words_ask_trace asked other trace q u) = absurd (hobs_or_trace words plan asked other trace p q)
-one_outcome laws told words all a b s t (words_ask_hobs plan p o) (words_ask_tool tool file q u) = absurd (hobs_or_tool words plan tool file p q)
-one_outcome laws told words all a b s t (words_ask_map hobs commands p o) (words_ask_hobs plan q u) = absurd (hobs_or_map words plan hobs commands q p)
-one_outcome laws told words all a b s t (words_ask_trace asked other trace p o) (words_ask_hobs plan q u) = absurd (hobs_or_trace words plan asked other trace q p)
-one_outcome laws told words all a b s t (words_ask_tool tool file p o) (words_ask_hobs plan q u) = absurd (hobs_or_tool words plan tool file q p)
+one_outcome laws told words all a b s t (usage none e u) (words_ask_plan tool plan q o) = absurd (none.no_plan tool plan q)
+one_outcome laws told words all a b s t (words_ask_plan tool plan p o) (usage none f v) = absurd (none.no_plan tool plan p)
+one_outcome laws told words all a b s t (words_ask_plan tool plan p o) (words_ask_map hobs commands q u) = absurd (plan_or_map words tool plan hobs commands p q)
+one_outcome laws told words all a b s t (words_ask_plan tool plan p o) (words_ask_trace asked other trace q u) = absurd (plan_or_trace words tool plan asked other trace p q)
+one_outcome laws told words all a b s t (words_ask_plan asked plan p o) (words_ask_tool tool file q u) = absurd (plan_or_tool words asked plan tool file p q)
+one_outcome laws told words all a b s t (words_ask_map hobs commands p o) (words_ask_plan tool plan q u) = absurd (plan_or_map words tool plan hobs commands q p)
+one_outcome laws told words all a b s t (words_ask_trace asked other trace p o) (words_ask_plan tool plan q u) = absurd (plan_or_trace words tool plan asked other trace q p)
+one_outcome laws told words all a b s t (words_ask_tool tool file p o) (words_ask_plan asked plan q u) = absurd (plan_or_tool words asked plan tool file q p)
 one_outcome laws told words all a b s t (usage none e u) (words_ask_follow plan order q o) = absurd (none.no_follow plan order q)
 one_outcome laws told words all a b s t (words_ask_follow plan order p o) (usage none f v) = absurd (none.no_follow plan order p)
 one_outcome laws told words all a b s t (words_ask_follow plan order p o) (words_ask_map hobs commands q u) = absurd (follow_or_map words plan order hobs commands p q)
 one_outcome laws told words all a b s t (words_ask_follow plan order p o) (words_ask_trace asked other trace q u) = absurd (follow_or_trace words plan order asked other trace p q)
-one_outcome laws told words all a b s t (words_ask_follow plan order p o) (words_ask_hobs other q u) = absurd (follow_or_hobs words plan order other p q)
+one_outcome laws told words all a b s t (words_ask_follow plan order p o) (words_ask_plan tool other q u) = absurd (follow_or_plan words plan order tool other p q)
 one_outcome laws told words all a b s t (words_ask_follow plan order p o) (words_ask_tool tool file q u) = absurd (follow_or_tool words plan order tool file p q)
 one_outcome laws told words all a b s t (words_ask_map hobs commands p o) (words_ask_follow plan order q u) = absurd (follow_or_map words plan order hobs commands q p)
 one_outcome laws told words all a b s t (words_ask_trace asked other trace p o) (words_ask_follow plan order q u) = absurd (follow_or_trace words plan order asked other trace q p)
-one_outcome laws told words all a b s t (words_ask_hobs other p o) (words_ask_follow plan order q u) = absurd (follow_or_hobs words plan order other q p)
+one_outcome laws told words all a b s t (words_ask_plan tool other p o) (words_ask_follow plan order q u) = absurd (follow_or_plan words plan order tool other q p)
 one_outcome laws told words all a b s t (words_ask_tool tool file p o) (words_ask_follow plan order q u) = absurd (follow_or_tool words plan order tool file q p)
 one_outcome laws told words all a b s t (words_ask_follow plan order p o) (words_ask_follow text lines q u) =
     let P : List ℕ → Type 0 = λ x. FollowOutcome told x lines b t in
     let Q : List ℕ → Type 0 = λ x. FollowOutcome told plan x b t in
     let here = subst Q (ap third (sym q.0 ∙ p.0)) (subst P (ap second (sym q.0 ∙ p.0)) u) in
     one_of_follow laws told plan order (λ name named. all name (of_follow plan order p named)) a b s t o here
-one_outcome laws told words all a b s t (usage none e u) (words_ask_explanation plan q o) = absurd (none.no_explanation plan q)
-one_outcome laws told words all a b s t (words_ask_explanation plan p o) (usage none f v) = absurd (none.no_explanation plan p)
-one_outcome laws told words all a b s t (words_ask_explanation plan p o) (words_ask_map hobs commands q u) = absurd (explain_or_map words plan hobs commands p q)
-one_outcome laws told words all a b s t (words_ask_explanation plan p o) (words_ask_trace asked other trace q u) = absurd (explain_or_trace words plan asked other trace p q)
-one_outcome laws told words all a b s t (words_ask_explanation plan p o) (words_ask_follow other order q u) = absurd (explain_or_follow words plan other order p q)
-one_outcome laws told words all a b s t (words_ask_explanation plan p o) (words_ask_hobs other q u) = absurd (explain_or_hobs words plan other p q)
-one_outcome laws told words all a b s t (words_ask_explanation plan p o) (words_ask_tool tool file q u) = absurd (explain_or_tool words plan tool file p q)
-one_outcome laws told words all a b s t (words_ask_map hobs commands p o) (words_ask_explanation plan q u) = absurd (explain_or_map words plan hobs commands q p)
-one_outcome laws told words all a b s t (words_ask_trace asked other trace p o) (words_ask_explanation plan q u) = absurd (explain_or_trace words plan asked other trace q p)
-one_outcome laws told words all a b s t (words_ask_follow other order p o) (words_ask_explanation plan q u) = absurd (explain_or_follow words plan other order q p)
-one_outcome laws told words all a b s t (words_ask_hobs other p o) (words_ask_explanation plan q u) = absurd (explain_or_hobs words plan other q p)
-one_outcome laws told words all a b s t (words_ask_tool tool file p o) (words_ask_explanation plan q u) = absurd (explain_or_tool words plan tool file q p)
-one_outcome laws told words all a b s t (words_ask_explanation plan p o) (words_ask_explanation other q u) =
-    let P : List ℕ → Type 0 = λ x. ExplainOutcome told x b t in
-    one_of_explanation laws told plan (λ name named. all name (of_explanation plan p named)) a b s t o (subst P (ap second (sym q.0 ∙ p.0)) u)
-one_outcome laws told words all a b s t (words_ask_hobs plan p o) (words_ask_hobs other q u) =
-    let P : List ℕ → Type 0 = λ x. HobsOutcome told x b t in
-    one_of_hobs laws told plan (λ name named. all name (of_hobs plan p named)) a b s t o (subst P (ap second (sym q.0 ∙ p.0)) u)
+one_outcome laws told words all a b s t (words_ask_plan asked plan p o) (words_ask_plan tool other q u) =
+    let P : PlanTool → Type 0 = λ x. PlanOutcome x told other b t in
+    let Q : List ℕ → Type 0 = λ x. PlanOutcome asked told x b t in
+    let here = subst Q (ap second (sym q.0 ∙ p.0)) (subst P (one_plan_tool words asked tool plan other p q) u) in
+    one_of_plan laws asked told plan (λ name named. all name (of_plan asked plan p named)) a b s t o here
 one_outcome laws told words all a b s t (words_ask_map hobs commands p o) (words_ask_map bytes lines q u) =
     let P : List ℕ → Type 0 = λ x. MapOutcome told x lines b t in
     let Q : List ℕ → Type 0 = λ x. MapOutcome told hobs x b t in

@@ -2,6 +2,8 @@
 -- Own.
 use Rattle.std.specs.Prelude.{◌≡◌, ◌≢◌, ℕ, List, [], ◌∷◌, ◌++◌, codes}
 use Rattle.pitools.specs.declared.command_line.Tool.{Tool}
+use Rattle.pitools.specs.declared.command_line.PlanTool.{PlanTool}
+use Rattle.pitools.specs.declared.command_line.PlanTool.TheVariants.{Hobs, Reasons}
 use Rattle.pitools.specs.declared.command_line.TraceTool.{TraceTool}
 use Rattle.pitools.specs.declared.command_line.TraceTool.TheVariants.{Check, Explain}
 use Rattle.pitools.specs.declared.command_line.Tool.TheVariants.{AssembleDepex, AssembleScript, ReadPei, ReadDxe, ReadScript, Mp, Volume, ReadVolume}
@@ -38,13 +40,14 @@ AskForTrace words tool plan trace = (words ≡ trace_word tool ∷ plan ∷ trac
 abbrev pub AskForFollow : List (List ℕ) → List ℕ → List ℕ → Type 0
 AskForFollow words plan order = (words ≡ codes "follow" ∷ plan ∷ order ∷ []) × (plan ≢ []) × (order ≢ [])
 
--- the words ask for the HOB list that the PEI of a plan hands on
-abbrev pub AskForHobs : List (List ℕ) → List ℕ → Type 0
-AskForHobs words plan = (words ≡ codes "hobs" ∷ plan ∷ []) × (plan ≢ [])
+-- the word of a tool of a plan alone
+abbrev pub plan_word : PlanTool → List ℕ
+plan_word Hobs = codes "hobs"
+plan_word Reasons = codes "explain"
 
--- the words ask why each module of a plan's boot started, or why it never did
-abbrev pub AskForExplanation : List (List ℕ) → List ℕ → Type 0
-AskForExplanation words plan = (words ≡ codes "explain" ∷ plan ∷ []) × (plan ≢ [])
+-- the words ask for the HOB list that the PEI of a plan hands on, or why each module of the plan's boot started, or why it never did
+abbrev pub AskForPlan : List (List ℕ) → PlanTool → List ℕ → Type 0
+AskForPlan words tool plan = (words ≡ plan_word tool ∷ plan ∷ []) × (plan ≢ [])
 
 -- the words ask for nothing that there is
 pub record AskForNothing (words : List (List ℕ)) : Type 0 where
@@ -52,5 +55,4 @@ pub record AskForNothing (words : List (List ℕ)) : Type 0 where
   pub no_map : (hobs commands : List ℕ) → AskForMap words hobs commands → ⊥
   pub no_trace : (tool : TraceTool) (plan trace : List ℕ) → AskForTrace words tool plan trace → ⊥
   pub no_follow : (plan order : List ℕ) → AskForFollow words plan order → ⊥
-  pub no_hobs : (plan : List ℕ) → AskForHobs words plan → ⊥
-  pub no_explanation : (plan : List ℕ) → AskForExplanation words plan → ⊥
+  pub no_plan : (tool : PlanTool) (plan : List ℕ) → AskForPlan words tool plan → ⊥

@@ -16,6 +16,7 @@ pub mod FollowReport
 pub mod TextReport
 pub mod SourceRefusal
 pub mod VolumeReport
+pub mod PlanReport
 pub mod PrintReport
 pub mod Outcome
 pub mod TextAgain

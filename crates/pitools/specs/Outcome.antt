@@ -3,17 +3,17 @@
 use Rattle.std.specs.Prelude.{◌≡◌, ◌⊎◌, ℕ, List, Option}
 use Rattle.pi_base.specs.declared.phase.Phase.TheVariants.{Pei, Dxe}
 use Rattle.pitools.specs.declared.command_line.Tool.{Tool}
+use Rattle.pitools.specs.declared.command_line.PlanTool.{PlanTool}
 use Rattle.pitools.specs.declared.command_line.TraceTool.{TraceTool}
 use Rattle.pitools.specs.declared.command_line.Tool.TheVariants.{AssembleDepex, AssembleScript, ReadPei, ReadDxe, ReadScript, Mp, Volume, ReadVolume}
 use Rattle.pitools.specs.declared.status.ToolStatus.{ToolStatus}
 use Rattle.pitools.specs.declared.status.ToolStatus.TheVariants.{Usage}
-use Rattle.pitools.specs.CommandLine.{AskForExplanation, AskForFollow, AskForHobs, AskForMap, AskForNothing, AskForTool, AskForTrace}
+use Rattle.pitools.specs.CommandLine.{AskForFollow, AskForMap, AskForNothing, AskForPlan, AskForTool, AskForTrace}
 use Rattle.pitools.specs.FileReading.{IsRead, LongOutcome}
 use Rattle.pitools.specs.Refusals.{usage_line}
 use Rattle.pitools.specs.TraceReport.{TraceNames, TraceOutcome}
 use Rattle.pitools.specs.FollowReport.{FollowNames, FollowOutcome}
-use Rattle.pitools.specs.HobsReport.{HobsNames, HobsOutcome}
-use Rattle.pitools.specs.ExplainReport.{ExplainNames, ExplainOutcome}
+use Rattle.pitools.specs.PlanReport.{PlanNames, PlanOutcome}
 use Rattle.pitools.specs.GcdReport.{GcdReport}
 use Rattle.pitools.specs.MpReport.{MpReport}
 use Rattle.pitools.specs.PrintReport.{PrintReport}
@@ -71,8 +71,7 @@ pub data Outcome (told : List ℕ → Option (List ℕ)) (words : List (List ℕ
   words_ask_map : (hobs commands : List ℕ) → AskForMap words hobs commands → MapOutcome told hobs commands status text → Outcome told words status text
   words_ask_trace : (tool : TraceTool) (plan trace : List ℕ) → AskForTrace words tool plan trace → TraceOutcome tool told plan trace status text → Outcome told words status text
   words_ask_follow : (plan order : List ℕ) → AskForFollow words plan order → FollowOutcome told plan order status text → Outcome told words status text
-  words_ask_hobs : (plan : List ℕ) → AskForHobs words plan → HobsOutcome told plan status text → Outcome told words status text
-  words_ask_explanation : (plan : List ℕ) → AskForExplanation words plan → ExplainOutcome told plan status text → Outcome told words status text
+  words_ask_plan : (tool : PlanTool) (plan : List ℕ) → AskForPlan words tool plan → PlanOutcome tool told plan status text → Outcome told words status text
   words_ask_tool : (tool : Tool) (file : List ℕ) → AskForTool words tool file → ToolOutcome (told file) tool file status text → Outcome told words status text
 
 -- a name of a file to which the reading comes: the words give it, and those before it are read
@@ -83,6 +82,5 @@ pub data Names (told : List ℕ → Option (List ℕ)) (words : List (List ℕ))
   of_map : (hobs commands : List ℕ) → AskForMap words hobs commands → MapNames told hobs commands name → Names told words name
   of_trace : (tool : TraceTool) (plan trace : List ℕ) → AskForTrace words tool plan trace → TraceNames told plan trace name → Names told words name
   of_follow : (plan order : List ℕ) → AskForFollow words plan order → FollowNames told plan order name → Names told words name
-  of_hobs : (plan : List ℕ) → AskForHobs words plan → HobsNames told plan name → Names told words name
-  of_explanation : (plan : List ℕ) → AskForExplanation words plan → ExplainNames told plan name → Names told words name
+  of_plan : (tool : PlanTool) (plan : List ℕ) → AskForPlan words tool plan → PlanNames told plan name → Names told words name
   of_tool : (tool : Tool) (file : List ℕ) → AskForTool words tool file → name ≡ file → Names told words name

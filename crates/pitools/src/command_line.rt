@@ -2,7 +2,8 @@
 ghost use Rattle.std.specs.Prelude.{◌≡◌, ◌↔◌, ℕ, List, [], ◌∷◌, codes, IfSome, IfNone, IsTrue};
 ghost use Rattle.pitools.specs.declared.command_line.Tool.{Tool};
 ghost use Rattle.pitools.specs.declared.command_line.TraceTool.{TraceTool};
-ghost use Rattle.pitools.specs.CommandLine.{tool_words, trace_word, AskForTool, AskForMap, AskForExplanation, AskForFollow, AskForHobs, AskForTrace};
+ghost use Rattle.pitools.specs.declared.command_line.PlanTool.{PlanTool};
+ghost use Rattle.pitools.specs.CommandLine.{tool_words, trace_word, plan_word, AskForTool, AskForMap, AskForFollow, AskForPlan, AskForTrace};
 ghost use Rattle.boot_io.specs.Words.{words_of};
 
 /// A tool of one file.
@@ -24,6 +25,15 @@ pub(crate) enum Tool {
     Volume,
     /// The text of a volume.
     ReadVolume,
+}
+
+/// A tool of a plan alone.
+#[derive(Clone, Copy)]
+pub(crate) enum PlanTool {
+    /// The HOB list that the plan's PEI hands on.
+    Hobs,
+    /// Why each module of the plan's boot started, or why it never did.
+    Reasons,
 }
 
 /// A tool of a plan and of a trace.
@@ -155,45 +165,24 @@ fn asks_for_follow(verb: &str) -> bool
     verb == "follow"
 }
 
-// Whether a word asks for the HOB list of a boot.
-fn asks_for_hobs(verb: &str) -> bool
-    ensures { IsTrue result ↔ (verb.now ≡ codes "hobs") }
+// The tool of a plan that a word names.
+fn plan_tool_of(verb: &str) -> Option<PlanTool>
+    ensures found { IfSome result (λ tool. verb.now ≡ plan_word tool) }
+    ensures none { IfNone result ((tool : PlanTool) → verb.now ≡ plan_word tool → ⊥) }
 {
-    verb == "hobs"
-}
-
-// Whether a word asks for the explanation of a boot.
-fn asks_for_explanation(verb: &str) -> bool
-    ensures { IsTrue result ↔ (verb.now ≡ codes "explain") }
-{
-    verb == "explain"
-}
-
-/// The name of a plan's file, where the words ask for its boot, explained.
-pub(crate) fn asked_explanation(words: &[String]) -> Option<&str>
-    ensures found { IfSome result (λ plan. AskForExplanation (words_of words.now) plan.now) }
-    ensures none { IfNone result ((plan : List ℕ) → AskForExplanation (words_of words.now) plan → ⊥) }
-{
-    match words {
-        [verb, plan] => {
-            let plan = plan.as_str();
-            if plan.is_empty() {
-                return None;
-            }
-            if asks_for_explanation(verb.as_str()) {
-                Some(plan)
-            } else {
-                None
-            }
-        }
-        _ => None,
+    if verb == "hobs" {
+        Some(PlanTool::Hobs)
+    } else if verb == "explain" {
+        Some(PlanTool::Reasons)
+    } else {
+        None
     }
 }
 
-/// The name of a plan's file, where the words ask for the HOB list that its PEI hands on.
-pub(crate) fn asked_hobs(words: &[String]) -> Option<&str>
-    ensures found { IfSome result (λ plan. AskForHobs (words_of words.now) plan.now) }
-    ensures none { IfNone result ((plan : List ℕ) → AskForHobs (words_of words.now) plan → ⊥) }
+/// The tool of a plan that the words ask for, and the name of the plan's file.
+pub(crate) fn asked_plan(words: &[String]) -> Option<(PlanTool, &str)>
+    ensures found { IfSome result (λ asked. AskForPlan (words_of words.now) asked.0 asked.1.now) }
+    ensures none { IfNone result ((tool : PlanTool) (plan : List ℕ) → AskForPlan (words_of words.now) tool plan → ⊥) }
 {
     match words {
         [verb, plan] => {
@@ -201,10 +190,9 @@ pub(crate) fn asked_hobs(words: &[String]) -> Option<&str>
             if plan.is_empty() {
                 return None;
             }
-            if asks_for_hobs(verb.as_str()) {
-                Some(plan)
-            } else {
-                None
+            match plan_tool_of(verb.as_str()) {
+                Some(tool) => Some((tool, plan)),
+                None => None,
             }
         }
         _ => None,

@@ -3,11 +3,11 @@ ghost use Rattle.std.specs.Prelude.{◌≤◌, ℕ, List, Option, length};
 ghost use Rattle.pi_base.specs.Field.{AreBytes};
 ghost use Rattle.plan_files.specs.Job.{IsNamedIn};
 ghost use Rattle.pitools.specs.declared.command_line.Tool.{Tool};
+ghost use Rattle.pitools.specs.declared.command_line.PlanTool.{PlanTool};
 ghost use Rattle.pitools.specs.declared.command_line.TraceTool.{TraceTool};
 ghost use Rattle.pitools.specs.FollowReport.{OrderTextsOutcome, order_limit};
-ghost use Rattle.pitools.specs.ExplainReport.{ExplainReport};
-ghost use Rattle.pitools.specs.HobsReport.{HobsReport};
 ghost use Rattle.pitools.specs.JobOutcome.{JobOutcome};
+ghost use Rattle.pitools.specs.PlanReport.{PlanReport};
 ghost use Rattle.pitools.specs.GcdReport.{GcdReport};
 ghost use Rattle.pitools.specs.OneOutcome.{AreAllTold, AreTold, IsOne};
 ghost use Rattle.pitools.specs.Outcome.{ContentReport, Outcome};
@@ -63,19 +63,10 @@ pub(crate) fn one_follow_report()
     order_check::one_boot();
 }
 
-/// The text of a plan whose HOB list is asked for leads to one report, where the files of the plan's volumes are told.
-pub(crate) fn one_hobs_report()
-    ensures { (told : List ℕ → Option (List ℕ)) (content : List ℕ) → AreAllTold told (IsNamedIn told content)
-        → IsOne (JobOutcome HobsReport told content) }
-{
-    boot_plan::one_reading();
-    catalog_model::one_catalogue();
-}
-
-/// The text of a plan whose boot is explained leads to one report, where the files of the plan's volumes are told.
-pub(crate) fn one_explain_report()
-    ensures { (told : List ℕ → Option (List ℕ)) (content : List ℕ) → AreAllTold told (IsNamedIn told content)
-        → IsOne (JobOutcome ExplainReport told content) }
+/// The text of a plan leads to one report, where the files of the plan's volumes are told.
+pub(crate) fn one_plan_report()
+    ensures { (tool : PlanTool) (told : List ℕ → Option (List ℕ)) (content : List ℕ) → AreAllTold told (IsNamedIn told content)
+        → IsOne (JobOutcome (PlanReport tool) told content) }
 {
     boot_plan::one_reading();
     catalog_model::one_catalogue();
@@ -91,8 +82,7 @@ pub fn one_outcome()
 {
     one_map_report();
     one_content_report();
-    one_hobs_report();
-    one_explain_report();
+    one_plan_report();
     one_trace_report();
     one_follow_report();
 }

@@ -16,6 +16,7 @@ mod laws;
 mod meaning;
 mod mp_tool;
 mod order_meaning;
+mod plan_tool;
 mod print;
 mod reading;
 mod report;

@@ -9,14 +9,11 @@ ghost use Rattle.pitools.specs.OneOutcome.{AnswersExactly};
 ghost use Rattle.pitools.specs.Outcome.{limit_of, MapNames, MapOutcome, Names, Outcome, ToolOutcome};
 ghost use Rattle.pitools.specs.TextAgain.{TextsMakeVolumesAgain};
 
-use crate::command_line::{
-    Tool, asked_explanation, asked_follow, asked_hobs, asked_map, asked_tool, asked_trace,
-};
-use crate::explain_tool::with_explain;
+use crate::command_line::{Tool, asked_follow, asked_map, asked_plan, asked_tool, asked_trace};
 use crate::follow_tool::with_follow;
 use crate::gcd_tool::map_report;
-use crate::hobs_tool::with_hobs;
 use crate::laws::one_outcome;
+use crate::plan_tool::with_plan;
 use crate::print::put_report;
 use crate::reading::{Reading, read_file};
 use crate::report::Report;
@@ -112,11 +109,8 @@ fn with_words<F: Files>(
     if let Some((plan, order)) = asked_follow(words) {
         return with_follow(alloc, plan, order, files);
     }
-    if let Some(plan) = asked_hobs(words) {
-        return with_hobs(alloc, plan, files);
-    }
-    if let Some(plan) = asked_explanation(words) {
-        return with_explain(alloc, plan, files);
+    if let Some((tool, plan)) = asked_plan(words) {
+        return with_plan(alloc, tool, plan, files);
     }
     match asked_tool(words) {
         Some((tool, file)) => with_tool(alloc, tool, file, files),

@@ -6,8 +6,7 @@ returns c =
     let laws : Laws = record {
       maps = c.one_map_report.ensures;
       contents = c.one_content_report.ensures;
-      hobs = c.one_hobs_report.ensures;
-      explains = c.one_explain_report.ensures;
+      plans = c.one_plan_report.ensures;
       traces = c.one_trace_report.ensures;
       follows = c.one_follow_report.ensures;
     } in

@@ -1,9 +1,8 @@
 use Rattle.std.proofs.Common.{◌≡◌}
 use Rattle.boot_io.specs.Words.{words_of}
 use Rattle.pitools.specs.FollowReport.{FollowNames, FollowOutcome}
-use Rattle.pitools.specs.ExplainReport.{ExplainNames, ExplainOutcome}
-use Rattle.pitools.specs.HobsReport.{HobsNames, HobsOutcome}
-use Rattle.pitools.specs.Outcome.{MapNames, MapOutcome, Names, Outcome, ToolOutcome, of_explanation, of_follow, of_hobs, of_map, of_tool, of_trace, words_ask_explanation, words_ask_follow, words_ask_hobs, words_ask_map, words_ask_tool, words_ask_trace}
+use Rattle.pitools.specs.Outcome.{MapNames, MapOutcome, Names, Outcome, ToolOutcome, of_follow, of_map, of_plan, of_tool, of_trace, words_ask_follow, words_ask_map, words_ask_plan, words_ask_tool, words_ask_trace}
+use Rattle.pitools.specs.PlanReport.{PlanNames, PlanOutcome}
 use Rattle.pitools.specs.TraceReport.{TraceNames, TraceOutcome}
 use Rattle.pitools.proofs.Ending.{reports_ok}
 use Rattle.pitools.proofs.tools.with_words.Goals as goal
@@ -53,22 +52,13 @@ returns-in-Some-asked_follow-clause-report g c =
     (record { before = F c.args.files.now; now = F c.with_follow.new.files; missed = g.F.Files.missed c.with_follow.new.files })
     (λ s t o. words_ask_follow plan order c.in-Some-asked_follow.ensures.found o) (λ n m. of_follow plan order c.in-Some-asked_follow.ensures.found m) c.with_follow.ensures.report
 
-pub returns-in-Some-asked_hobs-clause-report : goal.returns-in-Some-asked_hobs-clause-report
-returns-in-Some-asked_hobs-clause-report g c =
+pub returns-in-Some-asked_plan-clause-report : goal.returns-in-Some-asked_plan-clause-report
+returns-in-Some-asked_plan-clause-report g c =
     let F = g.F.Files.faults in
     let told = g.F.Files.told c.args.files.now in
     let words = words_of c.args.words.now in
-    let plan = c.in-Some-asked_hobs.plan.now in
-    reports_ok c.with_hobs.result (HobsOutcome told plan) (Outcome told words) (HobsNames told plan) (Names told words)
-    (record { before = F c.args.files.now; now = F c.with_hobs.new.files; missed = g.F.Files.missed c.with_hobs.new.files })
-    (λ s t o. words_ask_hobs plan c.in-Some-asked_hobs.ensures.found o) (λ n m. of_hobs plan c.in-Some-asked_hobs.ensures.found m) c.with_hobs.ensures.report
-
-pub returns-in-Some-asked_explanation-clause-report : goal.returns-in-Some-asked_explanation-clause-report
-returns-in-Some-asked_explanation-clause-report g c =
-    let F = g.F.Files.faults in
-    let told = g.F.Files.told c.args.files.now in
-    let words = words_of c.args.words.now in
-    let plan = c.in-Some-asked_explanation.plan.now in
-    reports_ok c.with_explain.result (ExplainOutcome told plan) (Outcome told words) (ExplainNames told plan) (Names told words)
-    (record { before = F c.args.files.now; now = F c.with_explain.new.files; missed = g.F.Files.missed c.with_explain.new.files })
-    (λ s t o. words_ask_explanation plan c.in-Some-asked_explanation.ensures.found o) (λ n m. of_explanation plan c.in-Some-asked_explanation.ensures.found m) c.with_explain.ensures.report
+    let asked = c.in-Some-asked_plan in
+    let plan = asked.plan.now in
+    reports_ok c.with_plan.result (PlanOutcome asked.tool told plan) (Outcome told words) (PlanNames told plan) (Names told words)
+    (record { before = F c.args.files.now; now = F c.with_plan.new.files; missed = g.F.Files.missed c.with_plan.new.files })
+    (λ s t o. words_ask_plan asked.tool plan asked.ensures.found o) (λ n m. of_plan asked.tool plan asked.ensures.found m) c.with_plan.ensures.report

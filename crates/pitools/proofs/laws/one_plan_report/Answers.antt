@@ -1,7 +1,7 @@
 use Rattle.boot_reasons.proofs.OneRun.{RunLaws, one_boot}
 use Rattle.pitools.proofs.OneCheck as C
-use Rattle.pitools.proofs.OneExplain.{Laws, one_explain}
-use Rattle.pitools.proofs.laws.one_explain_report.Goals as goal
+use Rattle.pitools.proofs.OnePlan.{Laws, one_plan}
+use Rattle.pitools.proofs.laws.one_plan_report.Goals as goal
 
 pub returns : goal.returns
 returns c =
@@ -15,4 +15,4 @@ returns c =
     } in
     let runs : RunLaws = record { aims = c.cursor_aims.ensures.aims; orders = c.order_is_of_modules.ensures } in
     let laws : Laws = record { plans = plans; well = c.catalogues_are_well_formed.ensures; texts = c.one_catalog_text.ensures; boots = one_boot runs } in
-    one_explain laws
+    one_plan laws

@@ -1,10 +1,10 @@
 use Rattle.plan_files.specs.Job.{IsNamedIn}
 use Rattle.plan_files.specs.Reading.{FilesTrail}
-use Rattle.pitools.specs.HobsReport.{HobsReport}
+use Rattle.pitools.specs.PlanReport.{PlanReport}
 use Rattle.pitools.specs.JobOutcome.{JobOutcome, job_read}
 use Rattle.pitools.proofs.Ending.{told_reports}
 use Rattle.pitools.proofs.FileReports.{job_refusal, job_reports}
-use Rattle.pitools.proofs.hobs_tool.with_plan.Goals as goal
+use Rattle.pitools.proofs.plan_tool.with_text.Goals as goal
 
 pub report_of-requires : goal.report_of-requires
 report_of-requires g c =
@@ -18,7 +18,7 @@ returns-in-Err-Refused-clause-report g c =
     let F = g.F.Files.faults in
     let told = g.F.Files.told c.args.files.now in
     let t : FilesTrail = record { before = F c.args.files.now; now = F c.job_of.new.files; missed = g.F.Files.missed c.job_of.new.files } in
-    job_reports HobsReport told c.args.content.now t c.in-Err-Refused.line c.report_of.result
+    job_reports (PlanReport c.args.tool) told c.args.content.now t c.in-Err-Refused.line c.report_of.result
     (rw c.in-Err-Refused.field-0-is at c.in-Err-Refused.ensures.row) (rw c.in-Err-Refused.line-is at c.report_of.ensures)
 
 pub returns-in-Ok-clause-report : goal.returns-in-Ok-clause-report
@@ -28,6 +28,6 @@ returns-in-Ok-clause-report g c =
     let content = c.args.content.now in
     let job = c.in-Ok.job in
     let row = c.in-Ok.ensures.row in
-    told_reports c.hobs_report.result (HobsReport job.plan job.images) (JobOutcome HobsReport told content) (IsNamedIn told content)
+    told_reports c.plan_report.result (PlanReport c.args.tool job.plan job.images) (JobOutcome (PlanReport c.args.tool) told content) (IsNamedIn told content)
     (record { before = F c.args.files.now; now = F c.job_of.new.files; missed = g.F.Files.missed c.job_of.new.files })
-    (λ s t o. job_read job row.0 o) row.1 c.hobs_report.ensures
+    (λ s t o. job_read job row.0 o) row.1 c.plan_report.ensures
