@@ -1,5 +1,5 @@
 -- What is told of an action is what is told of each of its operands.
-use Rattle.std.proofs.Common.{◌≡◌, ℕ, ◌<◌, Bool, true, false, ◌&&◌, List, [], ◌∷◌, ◌++◌, length, Option, Some, None, Result, Ok, Err, All, refl, sym, ap, ◌∙◌, append_assoc, arith}
+use Rattle.std.proofs.Common.{◌≡◌, ℕ, Bool, true, false, ◌&&◌, List, [], ◌∷◌, ◌++◌, length, Option, Some, None, Result, Ok, Err, All, refl, sym, ap, ◌∙◌, append_assoc, arith}
 use Rattle.std.specs.Prelude.{IfSome, OnOk, nat_lt}
 use Rattle.std.specs.List.{flat_map, filter_map, list_all, cons_option, AllByRecursion}
 use Rattle.std.proofs.lemmas.List.{append-nil}
