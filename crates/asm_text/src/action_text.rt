@@ -1,53 +1,16 @@
-// The operands of actions as words.
+// Actions as lines.
 ghost use Rattle.std.specs.Prelude.{◌≡◌, ◌==◌, if◌then◌else◌, ◌++◌, ◌∷◌, map, flat_map, decimal, OnOk};
 ghost use Rattle.hex.specs.Hex.{encode_lower};
 ghost use Rattle.pi_base.specs.WordText.{hexadecimal};
 ghost use Rattle.asm_text.specs.Numerals.{register};
-ghost use Rattle.asm_text.specs.ActionText.{spaced, kind_word, guid_words, block_words, last_words};
-ghost use Rattle.asm_text.specs.Operands.{operand_text};
+ghost use Rattle.act_code.specs.Operands.{told};
+ghost use Rattle.asm_text.specs.ActionText.{spaced, small_number, kind_word, guid_words, block_words, last_words, operand_text, operand_words};
+ghost use Rattle.asm_text.specs.ScriptText.{action_line};
 
-use act_code::GuidArg;
 use act_code::descriptor_kind::{CALLBACK, PPI};
-use pi_base::{DECIMAL_LEN, Guid, HEXADECIMAL_LEN, OutOfMemory, Seq, Word, decimal, hexadecimal};
-
-/// An operand, in the form in which it is written.
-#[derive(Clone, Copy)]
-pub(crate) enum Operand<'a> {
-    /// No operand.
-    Nothing,
-    /// A register by its number.
-    Register(u8),
-    /// A number in decimal.
-    Small(u8),
-    /// A number of two bytes in decimal.
-    Number2(u16),
-    /// A number of four bytes in hexadecimal.
-    Number4(u32),
-    /// A number of eight bytes in hexadecimal.
-    Number8(u64),
-    /// A GUID.
-    Guid(&'a Guid),
-    /// A GUID, or the register with its address.
-    GuidArg(&'a GuidArg),
-    /// A status by its name.
-    Status(Word),
-    /// Bytes in hexadecimal.
-    Bytes(&'a Seq<u8>),
-    /// A text as it stands.
-    Text(&'a Seq<u8>),
-    /// The form of `boot_mode`.
-    GetOrSet(u8),
-    /// The form of a driver's `install`.
-    NewOrOn(u8),
-    /// Registers by their numbers.
-    Registers(&'a Seq<u8>),
-    /// A block by its number.
-    Block(u8),
-    /// What a descriptor is of.
-    Kind(u8),
-    /// The last operand of a descriptor of a kind.
-    Last(u8, u8),
-}
+use act_code::{Action, Code, GuidArg, Operand, operand_by_operand};
+use pi_base::{DECIMAL_LEN, HEXADECIMAL_LEN, OutOfMemory, Seq, decimal, hexadecimal};
+use printed_words::LINE_FEED;
 
 // Adds some bytes, and a number in decimal.
 fn put_decimal(out: &mut Seq<u8>, front: &[u8], n: u64) -> Result<(), OutOfMemory>
@@ -144,37 +107,75 @@ fn put_last(out: &mut Seq<u8>, kind: u8, arg: u8) -> Result<(), OutOfMemory>
     }
 }
 
-// Adds an operand, each of its words behind a space.
-fn put_operand(out: &mut Seq<u8>, operand: &Operand<'_>) -> Result<(), OutOfMemory>
-    ensures { OnOk result (out.new ≡ out.old ++ operand_text operand.now) }
+// Adds a small number, in decimal or as the word that it is for the action of a code.
+fn put_small(out: &mut Seq<u8>, code: Code, n: u8) -> Result<(), OutOfMemory>
+    ensures { OnOk result (out.new ≡ out.old ++ spaced (small_number code n)) }
+{
+    match code {
+        Code::BootMode => put_word(out, either(n, b"get", b"set")),
+        Code::DxeInstall => put_word(out, either(n, b"new", b"on")),
+        _ => put_decimal(out, b" ", u64::from(n)),
+    }
+}
+
+// Adds what a descriptor is of, its GUID and its last operand.
+fn put_descriptor(out: &mut Seq<u8>, kind: u8, guid: &GuidArg, arg: u8) -> Result<(), OutOfMemory>
+    ensures { OnOk result (out.new ≡ out.old ++ (spaced (kind_word kind) ++ (flat_map spaced (guid_words guid.now) ++ flat_map spaced (last_words kind arg)))) }
+{
+    put_word(out, kind_word(kind))?;
+    put_guid(out, guid)?;
+    put_last(out, kind, arg)
+}
+
+// Adds an operand of the action of a code, each of its words behind a space.
+fn put_operand(out: &mut Seq<u8>, code: Code, operand: &Operand<'_>) -> Result<(), OutOfMemory>
+    ensures { OnOk result (out.new ≡ out.old ++ told (operand_text code) operand.now) }
 {
     match operand {
         Operand::Nothing => Ok(()),
         Operand::Register(r) => put_decimal(out, b" r", u64::from(*r)),
-        Operand::Small(n) => put_decimal(out, b" ", u64::from(*n)),
+        Operand::Block(block) => put_block(out, *block),
+        Operand::Byte(n) => put_decimal(out, b" ", u64::from(*n)),
+        Operand::Choice(n) => put_small(out, code, *n),
         Operand::Number2(n) => put_decimal(out, b" ", u64::from(*n)),
         Operand::Number4(n) => put_hexadecimal(out, u64::from(*n)),
         Operand::Number8(n) => put_hexadecimal(out, *n),
         Operand::Guid(guid) => put_word(out, &guid.to_text()),
-        Operand::GuidArg(guid) => put_guid(out, guid),
         Operand::Status(status) => put_word(out, status.text()),
-        Operand::Bytes(bytes) => put_bytes(out, bytes.as_slice()),
+        Operand::Counted(bytes) => put_bytes(out, bytes.as_slice()),
         Operand::Text(text) => put_word(out, text.as_slice()),
-        Operand::GetOrSet(form) => put_word(out, either(*form, b"get", b"set")),
-        Operand::NewOrOn(form) => put_word(out, either(*form, b"new", b"on")),
         Operand::Registers(list) => put_registers(out, list.as_slice()),
-        Operand::Block(block) => put_block(out, *block),
-        Operand::Kind(kind) => put_word(out, kind_word(*kind)),
-        Operand::Last(kind, arg) => put_last(out, *kind, *arg),
+        Operand::Descriptor(kind, guid, arg) => put_descriptor(out, *kind, guid, *arg),
+        Operand::Hob(kind, body) => {
+            put_decimal(out, b" ", u64::from(*kind))?;
+            put_bytes(out, body.as_slice())
+        }
     }
 }
 
-/// Adds operands, each word behind a space.
-pub(crate) fn put_operands(out: &mut Seq<u8>, operands: &[Operand<'_>]) -> Result<(), OutOfMemory>
-    ensures { OnOk result (out.new ≡ out.old ++ flat_map operand_text operands.now) }
+// Adds operands, each word behind a space.
+fn put_operands(out: &mut Seq<u8>, code: Code, operands: &[Operand<'_>]) -> Result<(), OutOfMemory>
+    ensures { OnOk result (out.new ≡ out.old ++ flat_map (told (operand_text code)) operands.now) }
 {
     for operand in operands {
-        put_operand(out, operand)?;
+        put_operand(out, code, operand)?;
     }
     Ok(())
+}
+
+// Adds the operands of an action.
+fn put_operands_of(out: &mut Seq<u8>, action: &Action) -> Result<(), OutOfMemory>
+    ensures { OnOk result (out.new ≡ out.old ++ flat_map spaced (operand_words action.now)) }
+{
+    operand_by_operand();
+    put_operands(out, action.code(), &action.operands())
+}
+
+/// Adds the line of an action, as it stands in the text of a script.
+pub fn put_action(out: &mut Seq<u8>, action: &Action) -> Result<(), OutOfMemory>
+    ensures { OnOk result (out.new ≡ out.old ++ action_line action.now) }
+{
+    out.append(action.code().name())?;
+    put_operands_of(out, action)?;
+    out.push(LINE_FEED)
 }
