@@ -4,6 +4,7 @@ pub mod Checks
 pub mod Codes
 pub mod Fields
 pub mod Formats
+pub mod InTurn
 pub mod Lists
 pub mod Many
 pub mod Scripts

@@ -1,6 +1,7 @@
 pub mod Format
 pub mod Header
 pub mod Index
+pub mod Operands
 pub mod Reading
 pub mod Script
 pub mod ScriptReading

@@ -2,7 +2,7 @@
 use Rattle.std.specs.Prelude.{◌≡◌, ⊤, Option, Some, None, Result, Ok, Err}
 use Rattle.act_code.specs.declared.action.Action.{Action}
 use Rattle.act_code.specs.declared.code.Code.{Code}
-use Rattle.act_code.specs.Format.{Format, Value, Nothing, Byte, Within, RegisterNumber, BlockNumber, Little, GuidBytes, WordNumber, Counted, Text, Registers, Descriptor, HobBody, Pair}
+use Rattle.act_code.specs.Format.{Format, Value, Nothing, Pair}
 use Rattle.act_code.specs.Table.{format_of, made}
 
 infixl 10 ◌>>=◌

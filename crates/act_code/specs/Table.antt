@@ -1,9 +1,10 @@
 -- The table of actions (own): each one's code, its phases and its operands.
-use Rattle.std.specs.Prelude.{ℕ, Bool, true, false, Option, Some, None, ◌==◌, if◌then◌else◌}
+use Rattle.std.specs.Prelude.{ℕ, Bool, true, false, ◌==◌, codes, find, List, Option}
 use Rattle.pi_base.specs.declared.phase.Phase.{Phase}
 use Rattle.pi_base.specs.declared.phase.Phase.TheVariants.{Pei, Dxe}
 use Rattle.act_code.specs.declared.code.Code.{Code}
 use Rattle.act_code.specs.declared.code.Code.TheVariants as code
+use Rattle.act_code.specs.declared.code.TheConstants.{CODES}
 use Rattle.act_code.specs.declared.action.Action.{Action}
 use Rattle.act_code.specs.declared.action.Action.TheVariants as action
 use Rattle.act_code.specs.Format.{Format, Value, Nothing, Byte, Within, RegisterNumber, BlockNumber, Little, GuidBytes, WordNumber, Counted, Text, Registers, Descriptor, HobBody, Pair}
@@ -57,6 +58,36 @@ row_of code.DxeNotify = row 0x24 dxe (Pair GuidBytes BlockNumber)
 row_of code.Schedule = row 0x25 dxe GuidBytes
 row_of code.Process = row 0x26 dxe RegisterNumber
 row_of code.Dispatch = row 0x27 dxe Nothing
+
+-- the names of actions
+unfoldable pub name_of : Code → List ℕ
+name_of code.Set = codes "set"
+name_of code.Add = codes "add"
+name_of code.Pool = codes "pool"
+name_of code.Store = codes "store"
+name_of code.Addr = codes "addr"
+name_of code.Peek = codes "peek"
+name_of code.Desc = codes "desc"
+name_of code.Install = codes "install"
+name_of code.Reinstall = codes "reinstall"
+name_of code.Notify = codes "notify"
+name_of code.Locate = codes "locate"
+name_of code.Hob = codes "hob"
+name_of code.Memory = codes "memory"
+name_of code.Pages = codes "pages"
+name_of code.BootMode = codes "boot_mode"
+name_of code.Log = codes "log"
+name_of code.SkipIf = codes "skip_if"
+name_of code.Ret = codes "ret"
+name_of code.Shadow = codes "shadow"
+name_of code.DxeInstall = codes "install"
+name_of code.DxeReinstall = codes "reinstall"
+name_of code.DxeUninstall = codes "uninstall"
+name_of code.DxeLocate = codes "locate"
+name_of code.DxeNotify = codes "notify"
+name_of code.Schedule = codes "schedule"
+name_of code.Process = codes "process"
+name_of code.Dispatch = codes "dispatch"
 
 abbrev pub number_of : Code → ℕ
 number_of c = (row_of c).number
@@ -159,32 +190,4 @@ operands action.Dispatch = tt
 
 -- the code that a byte is
 abbrev pub code_of : ℕ → Option Code
-code_of n =
-    if n == 0x01 then Some code.Set
-    else if n == 0x02 then Some code.Add
-    else if n == 0x03 then Some code.Pool
-    else if n == 0x04 then Some code.Store
-    else if n == 0x06 then Some code.Addr
-    else if n == 0x07 then Some code.Peek
-    else if n == 0x08 then Some code.Desc
-    else if n == 0x09 then Some code.Install
-    else if n == 0x0a then Some code.Reinstall
-    else if n == 0x0b then Some code.Notify
-    else if n == 0x0c then Some code.Locate
-    else if n == 0x0d then Some code.Hob
-    else if n == 0x0e then Some code.Memory
-    else if n == 0x0f then Some code.Pages
-    else if n == 0x10 then Some code.BootMode
-    else if n == 0x11 then Some code.Log
-    else if n == 0x12 then Some code.SkipIf
-    else if n == 0x13 then Some code.Ret
-    else if n == 0x14 then Some code.Shadow
-    else if n == 0x20 then Some code.DxeInstall
-    else if n == 0x21 then Some code.DxeReinstall
-    else if n == 0x22 then Some code.DxeUninstall
-    else if n == 0x23 then Some code.DxeLocate
-    else if n == 0x24 then Some code.DxeNotify
-    else if n == 0x25 then Some code.Schedule
-    else if n == 0x26 then Some code.Process
-    else if n == 0x27 then Some code.Dispatch
-    else None
+code_of n = find (λ c. n == number_of c) CODES

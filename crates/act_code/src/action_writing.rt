@@ -1,10 +1,13 @@
 // Writing actions: the one spelling of each.
-ghost use Rattle.std.specs.Prelude.{◌≡◌, ◌<◌, ◌≤◌, ◌++◌, ◌∷◌, [], length, OnOk};
+ghost use Rattle.std.specs.Prelude.{◌≡◌, ◌<◌, ◌++◌, ◌∷◌, length, All, OnOk};
+ghost use Rattle.std.specs.List.{flat_map};
 ghost use Rattle.pi_base.specs.Field.{little_bytes};
-ghost use Rattle.act_code.specs.Format.{spelled, HobBody, Pair, RegisterNumber, Descriptor};
-ghost use Rattle.act_code.specs.Script.{action_bytes, operand_bytes, IsWritable};
+ghost use Rattle.act_code.specs.Format.{spelled, HobBody, Descriptor};
+ghost use Rattle.act_code.specs.Operands.{told, IsShort};
+ghost use Rattle.act_code.specs.Script.{action_bytes, IsWritable};
 
 use crate::action::{Action, GuidArg};
+use crate::action_operands::Operand;
 use crate::operand::{GUID_FOLLOWS, REGISTER_FOLLOWS};
 use pi_base::{Guid, OutOfMemory, Seq, put_u16, put_u32, put_u64};
 
@@ -33,53 +36,27 @@ fn bytes_8(n: u64) -> [u8; 8]
     field
 }
 
-// Adds some bytes, and others.
-fn put(out: &mut Seq<u8>, front: &[u8], field: &[u8]) -> Result<(), OutOfMemory>
-    ensures { OnOk result (out.new ≡ out.old ++ (front.now ++ field.now)) }
-{
-    out.append(front)?;
-    out.append(field)
-}
-
-// Adds some bytes, a GUID, and others.
-fn put_guid(out: &mut Seq<u8>, front: &[u8], guid: &Guid, behind: &[u8]) -> Result<(), OutOfMemory>
-    ensures { OnOk result (out.new ≡ out.old ++ (front.now ++ (guid.now.0 ++ behind.now))) }
-{
-    out.append(front)?;
-    out.append(&guid.0)?;
-    out.append(behind)
-}
-
 // Adds a list behind its length.
 fn put_list(out: &mut Seq<u8>, list: &Seq<u8>) -> Result<(), OutOfMemory>
-    requires { length list.now ≤ 64 }
+    requires { length list.now < 256 }
     ensures { OnOk result (out.new ≡ out.old ++ (length list.now ∷ list.now)) }
 {
-    put(out, &[list.len() as u8], list.as_slice())
+    out.push(list.len() as u8)?;
+    out.append(list.as_slice())
 }
 
-// Adds the operands of `store`.
-fn put_store(out: &mut Seq<u8>, p: u8, offset: u32, bytes: &Seq<u8>) -> Result<(), OutOfMemory>
-    requires { length bytes.now ≤ 64 }
-    ensures { OnOk result (out.new ≡ out.old ++ (p ∷ (little_bytes 4 offset ++ (length bytes.now ∷ bytes.now)))) }
+// Adds a descriptor's operands.
+fn put_descriptor(out: &mut Seq<u8>, kind: u8, guid: &GuidArg, arg: u8) -> Result<(), OutOfMemory>
+    ensures { OnOk result (out.new ≡ out.old ++ spelled Descriptor (kind, guid.now, arg)) }
 {
-    put(out, &[p], &bytes_4(offset))?;
-    put_list(out, bytes)
-}
-
-// Adds the operands of `desc`.
-fn put_descriptor(
-    out: &mut Seq<u8>,
-    d: u8,
-    kind: u8,
-    guid: &GuidArg,
-    arg: u8,
-) -> Result<(), OutOfMemory>
-    ensures { OnOk result (out.new ≡ out.old ++ spelled (Pair RegisterNumber Descriptor) (d, (kind, guid.now, arg))) }
-{
+    out.push(kind)?;
     match guid {
-        GuidArg::Inline(guid) => put_guid(out, &[d, kind, GUID_FOLLOWS], guid, &[arg]),
-        GuidArg::Register(v) => put(out, &[d, kind], &[REGISTER_FOLLOWS, *v, arg]),
+        GuidArg::Inline(guid) => {
+            out.push(GUID_FOLLOWS)?;
+            out.append(&guid.0)?;
+            out.push(arg)
+        }
+        GuidArg::Register(v) => out.append(&[REGISTER_FOLLOWS, *v, arg]),
     }
 }
 
@@ -88,57 +65,44 @@ fn put_hob(out: &mut Seq<u8>, kind: u8, body: &Seq<u8>) -> Result<(), OutOfMemor
     requires { length body.now < 65536 }
     ensures { OnOk result (out.new ≡ out.old ++ spelled HobBody (kind, body.now)) }
 {
-    put(out, &[kind], &bytes_2(body.len() as u16))?;
+    out.push(kind)?;
+    out.append(&bytes_2(body.len() as u16))?;
     out.append(body.as_slice())
 }
 
-// Adds the operands of an action.
-fn put_operands(out: &mut Seq<u8>, action: &Action) -> Result<(), OutOfMemory>
-    requires { IsWritable action.now }
-    ensures { OnOk result (out.new ≡ out.old ++ operand_bytes action.now) }
+// Adds an operand.
+fn put_operand(out: &mut Seq<u8>, operand: &Operand<'_>) -> Result<(), OutOfMemory>
+    requires { IsShort operand.now }
+    ensures { OnOk result (out.new ≡ out.old ++ told spelled operand.now) }
 {
-    match action {
-        Action::Set { r, n } | Action::Add { r, n } => put(out, &[*r], &bytes_8(*n)),
-        Action::Pool { r, size } => put(out, &[*r], &bytes_4(*size)),
-        Action::Store { p, offset, bytes } => put_store(out, *p, *offset, bytes),
-        Action::Addr {
-            v: a,
-            x: b,
-            offset: n,
-        }
-        | Action::Pages {
-            r: a,
-            memory_type: b,
-            count: n,
-        } => put(out, &[*a, *b], &bytes_4(*n)),
-        Action::Peek { v: a, n: b }
-        | Action::Reinstall { old: a, new: b }
-        | Action::Memory {
-            begin: a,
-            length: b,
-        }
-        | Action::BootMode { form: a, r: b }
-        | Action::SkipIf { condition: a, n: b } => put(out, &[], &[*a, *b]),
-        Action::Desc { d, kind, guid, arg } => put_descriptor(out, *d, *kind, guid, *arg),
-        Action::Install { list } | Action::Notify { list } => put_list(out, list),
-        Action::Locate {
-            d,
-            v,
-            guid,
-            instance,
-        } => put_guid(out, &[*d, *v], guid, &bytes_2(*instance)),
-        Action::Hob { kind, body } => put_hob(out, *kind, body),
-        Action::Log { text } => put_list(out, text),
-        Action::Ret { status } => put(out, &[], &[status.number()]),
-        Action::DxeInstall { form, h, guid, v } => put_guid(out, &[*form, *h], guid, &[*v]),
-        Action::DxeReinstall { h, guid, old, new } => put_guid(out, &[*h], guid, &[*old, *new]),
-        Action::DxeUninstall { h, guid, v } => put_guid(out, &[*h], guid, &[*v]),
-        Action::DxeLocate { h, v, guid } => put(out, &[*h, *v], &guid.0),
-        Action::DxeNotify { guid, block } => put_guid(out, &[], guid, &[*block]),
-        Action::Schedule { guid } => put(out, &[], &guid.0),
-        Action::Process { v } => put(out, &[], &[*v]),
-        Action::Shadow | Action::Dispatch => put(out, &[], &[]),
+    match operand {
+        Operand::Nothing => Ok(()),
+        Operand::Register(n) => out.push(*n),
+        Operand::Block(n) => out.push(*n),
+        Operand::Byte(n) => out.push(*n),
+        Operand::Choice(n) => out.push(*n),
+        Operand::Number2(n) => out.append(&bytes_2(*n)),
+        Operand::Number4(n) => out.append(&bytes_4(*n)),
+        Operand::Number8(n) => out.append(&bytes_8(*n)),
+        Operand::Guid(guid) => out.append(&guid.0),
+        Operand::Status(status) => out.push(status.number()),
+        Operand::Counted(list) => put_list(out, list),
+        Operand::Text(list) => put_list(out, list),
+        Operand::Registers(list) => put_list(out, list),
+        Operand::Descriptor(kind, guid, arg) => put_descriptor(out, *kind, guid, *arg),
+        Operand::Hob(kind, body) => put_hob(out, *kind, body),
     }
+}
+
+// Adds operands.
+fn put_operands(out: &mut Seq<u8>, operands: &[Operand<'_>]) -> Result<(), OutOfMemory>
+    requires { All IsShort operands.now }
+    ensures { OnOk result (out.new ≡ out.old ++ flat_map (told spelled) operands.now) }
+{
+    for operand in operands {
+        put_operand(out, operand)?;
+    }
+    Ok(())
 }
 
 /// Adds the bytes of an action.
@@ -147,5 +111,5 @@ pub fn put_action(out: &mut Seq<u8>, action: &Action) -> Result<(), OutOfMemory>
     ensures { OnOk result (out.new ≡ out.old ++ action_bytes action.now) }
 {
     out.push(action.code().number())?;
-    put_operands(out, action)
+    put_operands(out, &action.operands())
 }

@@ -1,6 +1,6 @@
 // The codes of actions.
 ghost use Rattle.std.specs.Prelude.{◌≡◌};
-ghost use Rattle.act_code.specs.Table.{number_of, code_of, is_code_of};
+ghost use Rattle.act_code.specs.Table.{number_of, code_of, is_code_of, name_of};
 
 use pi_base::Phase;
 
@@ -36,41 +36,43 @@ pub enum Code {
     Dispatch = 0x27,
 }
 
+/// All of them.
+pub const CODES: [Code; 27] = [
+    Code::Set,
+    Code::Add,
+    Code::Pool,
+    Code::Store,
+    Code::Addr,
+    Code::Peek,
+    Code::Desc,
+    Code::Install,
+    Code::Reinstall,
+    Code::Notify,
+    Code::Locate,
+    Code::Hob,
+    Code::Memory,
+    Code::Pages,
+    Code::BootMode,
+    Code::Log,
+    Code::SkipIf,
+    Code::Ret,
+    Code::Shadow,
+    Code::DxeInstall,
+    Code::DxeReinstall,
+    Code::DxeUninstall,
+    Code::DxeLocate,
+    Code::DxeNotify,
+    Code::Schedule,
+    Code::Process,
+    Code::Dispatch,
+];
+
 impl Code {
     /// The code that a byte is.
     pub fn from_byte(byte: u8) -> Option<Code>
         ensures { result ≡ code_of byte }
     {
-        match byte {
-            0x01 => Some(Code::Set),
-            0x02 => Some(Code::Add),
-            0x03 => Some(Code::Pool),
-            0x04 => Some(Code::Store),
-            0x06 => Some(Code::Addr),
-            0x07 => Some(Code::Peek),
-            0x08 => Some(Code::Desc),
-            0x09 => Some(Code::Install),
-            0x0a => Some(Code::Reinstall),
-            0x0b => Some(Code::Notify),
-            0x0c => Some(Code::Locate),
-            0x0d => Some(Code::Hob),
-            0x0e => Some(Code::Memory),
-            0x0f => Some(Code::Pages),
-            0x10 => Some(Code::BootMode),
-            0x11 => Some(Code::Log),
-            0x12 => Some(Code::SkipIf),
-            0x13 => Some(Code::Ret),
-            0x14 => Some(Code::Shadow),
-            0x20 => Some(Code::DxeInstall),
-            0x21 => Some(Code::DxeReinstall),
-            0x22 => Some(Code::DxeUninstall),
-            0x23 => Some(Code::DxeLocate),
-            0x24 => Some(Code::DxeNotify),
-            0x25 => Some(Code::Schedule),
-            0x26 => Some(Code::Process),
-            0x27 => Some(Code::Dispatch),
-            _ => None,
-        }
+        CODES.iter().copied().find(|code| byte == code.number())
     }
 
     /// The byte that the code is.
@@ -78,6 +80,38 @@ impl Code {
         ensures { result ≡ number_of self }
     {
         self as u8
+    }
+
+    /// The name of the action, as it stands in the text of a script.
+    #[tactic(auto, unfolding(crate::specs::Table::name_of))]
+    pub fn name(self) -> &'static [u8]
+        ensures { result.now ≡ name_of self }
+    {
+        match self {
+            Code::Set => b"set",
+            Code::Add => b"add",
+            Code::Pool => b"pool",
+            Code::Store => b"store",
+            Code::Addr => b"addr",
+            Code::Peek => b"peek",
+            Code::Desc => b"desc",
+            Code::Install | Code::DxeInstall => b"install",
+            Code::Reinstall | Code::DxeReinstall => b"reinstall",
+            Code::Notify | Code::DxeNotify => b"notify",
+            Code::Locate | Code::DxeLocate => b"locate",
+            Code::Hob => b"hob",
+            Code::Memory => b"memory",
+            Code::Pages => b"pages",
+            Code::BootMode => b"boot_mode",
+            Code::Log => b"log",
+            Code::SkipIf => b"skip_if",
+            Code::Ret => b"ret",
+            Code::Shadow => b"shadow",
+            Code::DxeUninstall => b"uninstall",
+            Code::Schedule => b"schedule",
+            Code::Process => b"process",
+            Code::Dispatch => b"dispatch",
+        }
     }
 
     /// Whether the action is one of a phase.

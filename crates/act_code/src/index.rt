@@ -2,9 +2,11 @@
 ghost use Rattle.std.specs.Prelude.{◌≡◌, ◌&&◌, nat_lt};
 ghost use Rattle.std.specs.List.{list_all};
 ghost use Rattle.act_code.specs.Index.{are_indexed, is_indexed, has_room, is_ret};
-ghost use Rattle.act_code.specs.Format.{registers_in, blocks_in, Descriptor, RegisterNumber, Pair};
+ghost use Rattle.act_code.specs.Format.{registers_in, blocks_in, Descriptor};
+ghost use Rattle.act_code.specs.Operands.{told};
 
 use crate::action::{Action, GuidArg};
+use crate::action_operands::Operand;
 use crate::descriptor_kind::PPI;
 
 /// How many registers a frame has.
@@ -25,65 +27,54 @@ fn are_indexed(registers: &[u8], blocks: &[u8], count: u8) -> bool
 }
 
 // The same for a descriptor's operands.
-fn is_descriptor_indexed(d: u8, kind: u8, guid: &GuidArg, arg: u8, count: u8) -> bool
-    ensures { result ≡ are_indexed (registers_in (Pair RegisterNumber Descriptor) (d, (kind, guid.now, arg)))
-        (blocks_in (Pair RegisterNumber Descriptor) (d, (kind, guid.now, arg))) count }
+fn is_descriptor_indexed(kind: u8, guid: &GuidArg, arg: u8, count: u8) -> bool
+    ensures { result ≡ are_indexed (registers_in Descriptor (kind, guid.now, arg)) (blocks_in Descriptor (kind, guid.now, arg)) count }
 {
     match guid {
         GuidArg::Inline(_) => {
             if kind == PPI {
-                are_indexed(&[d, arg], &[], count)
+                are_indexed(&[arg], &[], count)
             } else {
-                are_indexed(&[d], &[arg], count)
+                are_indexed(&[], &[arg], count)
             }
         }
         GuidArg::Register(v) => {
             if kind == PPI {
-                are_indexed(&[d, *v, arg], &[], count)
+                are_indexed(&[*v, arg], &[], count)
             } else {
-                are_indexed(&[d, *v], &[arg], count)
+                are_indexed(&[*v], &[arg], count)
             }
         }
     }
+}
+
+// The same for an operand.
+fn is_operand_indexed(operand: &Operand<'_>, count: u8) -> bool
+    ensures { result ≡ are_indexed (told registers_in operand.now) (told blocks_in operand.now) count }
+{
+    match operand {
+        Operand::Register(r) => are_indexed(&[*r], &[], count),
+        Operand::Block(block) => are_indexed(&[], &[*block], count),
+        Operand::Registers(list) => are_indexed(list.as_slice(), &[], count),
+        Operand::Descriptor(kind, guid, arg) => is_descriptor_indexed(*kind, guid, *arg, count),
+        _ => true,
+    }
+}
+
+// The same for each of some operands.
+fn are_operands_indexed(operands: &[Operand<'_>], count: u8) -> bool
+    ensures { result ≡ list_all (λ operand. are_indexed (told registers_in operand) (told blocks_in operand) count) operands.now }
+{
+    operands
+        .iter()
+        .all(|operand| is_operand_indexed(operand, count))
 }
 
 /// Whether the registers and blocks that an action names are there, in a script of so many blocks.
 pub fn is_indexed(action: &Action, count: u8) -> bool
     ensures { result ≡ is_indexed count action.now }
 {
-    match action {
-        Action::Set { r, .. }
-        | Action::Add { r, .. }
-        | Action::Pool { r, .. }
-        | Action::Store { p: r, .. }
-        | Action::Peek { v: r, .. }
-        | Action::Pages { r, .. }
-        | Action::BootMode { r, .. }
-        | Action::Process { v: r } => are_indexed(&[*r], &[], count),
-        Action::Addr { v: a, x: b, .. }
-        | Action::Reinstall { old: a, new: b }
-        | Action::Locate { d: a, v: b, .. }
-        | Action::Memory {
-            begin: a,
-            length: b,
-        }
-        | Action::DxeInstall { h: a, v: b, .. }
-        | Action::DxeUninstall { h: a, v: b, .. }
-        | Action::DxeLocate { h: a, v: b, .. } => are_indexed(&[*a, *b], &[], count),
-        Action::DxeReinstall { h, old, new, .. } => are_indexed(&[*h, *old, *new], &[], count),
-        Action::Desc { d, kind, guid, arg } => is_descriptor_indexed(*d, *kind, guid, *arg, count),
-        Action::Install { list } | Action::Notify { list } => {
-            are_indexed(list.as_slice(), &[], count)
-        }
-        Action::DxeNotify { block, .. } => are_indexed(&[], &[*block], count),
-        Action::Hob { .. }
-        | Action::Log { .. }
-        | Action::SkipIf { .. }
-        | Action::Ret { .. }
-        | Action::Shadow
-        | Action::Schedule { .. }
-        | Action::Dispatch => true,
-    }
+    are_operands_indexed(&action.operands(), count)
 }
 
 /// Whether the actions that an action skips are there and one more, where so many are left with itself.

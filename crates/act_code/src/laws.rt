@@ -1,7 +1,12 @@
-// The law of scripts.
+// Laws of scripts and of operands.
 ghost use Rattle.std.specs.Prelude.{◌≡◌, ◌⊎◌, ℕ, List};
+ghost use Rattle.std.specs.List.{flat_map, filter_map};
 ghost use Rattle.pi_base.specs.Field.{AreBytes};
+ghost use Rattle.act_code.specs.Operands.{Telling, IsInTurn, told, part_of, action_parts};
+ghost use Rattle.act_code.specs.Table.{format_of, code_of_action, operands};
 ghost use Rattle.act_code.specs.Script.{IsScript, IsFault};
+ghost use Rattle.act_code.specs.declared.action.Action.{Action};
+ghost use Rattle.act_code.specs.declared.action_operands.Operand.{Operand};
 ghost use Rattle.act_code.specs.declared.script.Script.{Script};
 ghost use Rattle.act_code.specs.declared.fault.ActFault.{ActFault};
 
@@ -11,4 +16,10 @@ pub fn one_outcome()
     ensures fault { (bytes : List ℕ) (f g : ActFault) → AreBytes bytes → IsFault bytes f → IsFault bytes g → f ≡ g }
     ensures apart { (bytes : List ℕ) (s : Script) (f : ActFault) → AreBytes bytes → IsScript bytes s → IsFault bytes f → ⊥ }
     ensures one { (bytes : List ℕ) → AreBytes bytes → ((s : Script) × IsScript bytes s) ⊎ ((f : ActFault) × IsFault bytes f) }
+{}
+
+/// What is told of an action is what is told of each of its operands, where a telling goes from one operand to the next.
+pub fn operand_by_operand()
+    ensures { (tell : Telling) → IsInTurn tell → (action : Action) (given : List Operand) → filter_map part_of given ≡ action_parts action
+        → flat_map (told tell) given ≡ tell (format_of (code_of_action action)) (operands action) }
 {}

@@ -4,6 +4,7 @@
 #![tactic(auto)]
 
 mod action;
+mod action_operands;
 mod action_reading;
 mod action_writing;
 mod block;
@@ -25,12 +26,13 @@ mod source;
 mod writing;
 
 pub use action::{Action, GuidArg};
+pub use action_operands::Operand;
 pub use block::MOST_ACTIONS;
-pub use code::Code;
+pub use code::{CODES, Code};
 pub use fault::{ActCause, ActFault, WriteFault};
 pub use header::{MAGIC, MOST_BLOCKS, MOST_SCRIPT};
 pub use index::{REGISTERS, is_ret};
-pub use laws::one_outcome;
+pub use laws::{one_outcome, operand_by_operand};
 pub use operand::{MOST_BYTES, MOST_REGISTERS, Unread};
 pub use operands::read_operands;
 pub use reading::read_script;

@@ -1,8 +1,8 @@
 -- An action's line is read as it, and as no other.
 use Rattle.std.proofs.Common.{◌≡◌, ℕ, true, List, [], ◌∷◌, ◌++◌, length, take, drop, flat_map, Some, refl, sym, ap, subst, ◌∙◌, arith}
-use Rattle.std.specs.Prelude.{bytes_eq, nat_lt, ◌==◌, ◌&&◌}
+use Rattle.std.specs.Prelude.{bytes_eq, nat_lt, ◌==◌, ◌&&◌, if◌then◌else◌}
 use Rattle.std.specs.List.{list_all}
-use Rattle.std.proofs.lemmas.Bool.{and_parts, and_from, false≢true, eqb-true}
+use Rattle.std.proofs.lemmas.Bool.{and_parts, and_from, eqb-true}
 use Rattle.std.proofs.lemmas.List.{append-nil, take_at, drop_at, take-append-drop}
 use Rattle.hex.specs.Hex.{IsBytes}
 use Rattle.pi_base.specs.declared.phase.Phase.{Phase}
@@ -15,13 +15,13 @@ use Rattle.act_code.specs.Format.{Value, registers_in, blocks_in}
 use Rattle.act_code.specs.Index.{is_indexed}
 use Rattle.act_code.specs.Reading.{only_if}
 use Rattle.act_code.specs.Script.{IsAction, operand_bytes}
-use Rattle.act_code.specs.Table.{is_code_of, format_of, made, code_of_action, operands}
-use Rattle.asm_text.specs.ActionText.{name_of, small_number, words_of, spaced, operand_words, action_text}
+use Rattle.act_code.specs.Table.{name_of, is_code_of, format_of, made, code_of_action, operands}
+use Rattle.asm_text.specs.ActionText.{small_number, words_of, spaced, operand_words, action_text}
 use Rattle.printed_words.specs.Words.{IsPlain}
 use Rattle.printed_words.proofs.Comparisons.{same}
 use Rattle.asm_text.specs.WordReading.{space_place}
 use Rattle.asm_text.specs.OperandReading.{read, small_word, operands_at}
-use Rattle.asm_text.specs.declared.action_name.TheConstants.{CODES}
+use Rattle.act_code.specs.declared.code.TheConstants.{CODES}
 use Rattle.asm_text.specs.LineReading.{code_named, action_of}
 use Rattle.asm_text.proofs.Fronts.{passed}
 use Rattle.asm_text.proofs.Stacks.{bind_some}
@@ -96,31 +96,15 @@ unfolding name_of
 name_plain code.Set = refl
 name_plain _ = refl
 
-named_there : (phase : Phase) (c : Code) → is_code_of phase c ≡ true → code_named phase (name_of c) ≡ Some c
+named_where : (phase : Phase) (c : Code) → (if is_code_of phase c then code_named phase (name_of c) else Some c) ≡ Some c
 unfolding name_of code_named
-named_there Pei code.DxeInstall of_phase = absurd (false≢true of_phase)
-named_there Pei code.DxeReinstall of_phase = absurd (false≢true of_phase)
-named_there Pei code.DxeUninstall of_phase = absurd (false≢true of_phase)
-named_there Pei code.DxeLocate of_phase = absurd (false≢true of_phase)
-named_there Pei code.DxeNotify of_phase = absurd (false≢true of_phase)
-named_there Pei code.Schedule of_phase = absurd (false≢true of_phase)
-named_there Pei code.Process of_phase = absurd (false≢true of_phase)
-named_there Pei code.Dispatch of_phase = absurd (false≢true of_phase)
-named_there Pei _ of_phase = refl
-named_there Dxe code.Pool of_phase = absurd (false≢true of_phase)
-named_there Dxe code.Store of_phase = absurd (false≢true of_phase)
-named_there Dxe code.Addr of_phase = absurd (false≢true of_phase)
-named_there Dxe code.Desc of_phase = absurd (false≢true of_phase)
-named_there Dxe code.Install of_phase = absurd (false≢true of_phase)
-named_there Dxe code.Reinstall of_phase = absurd (false≢true of_phase)
-named_there Dxe code.Notify of_phase = absurd (false≢true of_phase)
-named_there Dxe code.Locate of_phase = absurd (false≢true of_phase)
-named_there Dxe code.Hob of_phase = absurd (false≢true of_phase)
-named_there Dxe code.Memory of_phase = absurd (false≢true of_phase)
-named_there Dxe code.Pages of_phase = absurd (false≢true of_phase)
-named_there Dxe code.BootMode of_phase = absurd (false≢true of_phase)
-named_there Dxe code.Shadow of_phase = absurd (false≢true of_phase)
-named_there Dxe _ of_phase = refl
+named_where Pei code.Set = refl
+named_where Pei _ = refl
+named_where Dxe code.Set = refl
+named_where Dxe _ = refl
+
+named_there : (phase : Phase) (c : Code) → is_code_of phase c ≡ true → code_named phase (name_of c) ≡ Some c
+named_there phase c of_phase = subst (λ b. (if b then code_named phase (name_of c) else Some c) ≡ Some c) of_phase (named_where phase c)
 
 named_were : (phase : Phase) (name : List ℕ) (c : Code) → code_named phase name ≡ Some c → (is_code_of phase c ≡ true) × (name ≡ name_of c)
 unfolding code_named

@@ -1,5 +1,5 @@
 -- What any source gives, for the text of a line.
-use Rattle.std.proofs.Common.{◌≡◌, ℕ, List, length, Option, Some, None, Result, Ok, Err, refl, ap}
+use Rattle.std.proofs.Common.{◌≡◌, ℕ, List, length, Option, Some, None, Result, Ok, refl, ap}
 use Rattle.std.specs.Prelude.{◌==◌, option_and_then}
 use Rattle.act_code.specs.declared.action.Action.{Action}
 use Rattle.act_code.specs.declared.code.Code.{Code}

@@ -10,8 +10,8 @@ use Rattle.act_code.specs.declared.action.Action.{Action}
 use Rattle.act_code.specs.declared.action.GuidArg.{GuidArg}
 use Rattle.act_code.specs.declared.action.GuidArg.TheVariants.{Inline, Register}
 use Rattle.act_code.specs.Format.{Format, Value, is_within, Nothing, Byte, Within, RegisterNumber, BlockNumber, Little, GuidBytes, WordNumber, Counted, Text, Registers, Descriptor, HobBody, Pair}
-use Rattle.act_code.specs.Table.{format_of, code_of_action, operands}
-use Rattle.asm_text.specs.ActionText.{name_of, small_number, words_of, spaced, operand_words, action_text, kind_word as shown_kind, guid_words, last_words}
+use Rattle.act_code.specs.Table.{name_of, format_of, code_of_action, operands}
+use Rattle.asm_text.specs.ActionText.{small_number, words_of, spaced, operand_words, action_text, kind_word as shown_kind, guid_words, last_words}
 use Rattle.printed_words.specs.Words.{Lacks, IsPlain}
 use Rattle.printed_words.proofs.LineFeeds.{both_lack}
 use Rattle.printed_words.proofs.PlainWords.{decimal_plain, hexadecimal_plain, guid_plain, encoded_plain}

@@ -10,8 +10,8 @@ use Rattle.act_code.specs.declared.action.Action.{Action}
 use Rattle.act_code.specs.declared.code.Code.{Code}
 use Rattle.act_code.specs.declared.code.Code.TheVariants as code
 use Rattle.act_code.specs.declared.script.Script.{Script}
-use Rattle.act_code.specs.Table.{code_of_action}
-use Rattle.asm_text.specs.ActionText.{name_of, spaced, operand_words, action_text}
+use Rattle.act_code.specs.Table.{name_of, code_of_action}
+use Rattle.asm_text.specs.ActionText.{spaced, operand_words, action_text}
 use Rattle.printed_words.specs.Words.{Lacks}
 use Rattle.printed_words.proofs.Comparisons.{same}
 use Rattle.asm_text.specs.ReadScript.{IsWellFormed}

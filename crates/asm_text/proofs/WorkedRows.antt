@@ -13,8 +13,9 @@ use Rattle.act_code.specs.declared.action.Action.TheVariants.{Log, Ret, Pool}
 use Rattle.act_code.specs.declared.script.Script.{Script}
 use Rattle.act_code.specs.Script.{script_bytes}
 use Rattle.pi_base.specs.WordText.{word_text}
+use Rattle.act_code.specs.Table.{name_of}
 use Rattle.asm_text.specs.ExpressionText.{depex_text}
-use Rattle.asm_text.specs.ActionText.{name_of, action_text}
+use Rattle.asm_text.specs.ActionText.{action_text}
 use Rattle.asm_text.specs.ScriptText.{phase_text, block_text, script_text}
 
 -- a script that logs `a` and ends

@@ -7,39 +7,10 @@ use Rattle.act_code.specs.declared.action.GuidArg.TheVariants.{Inline, Register}
 use Rattle.act_code.specs.declared.code.Code.{Code}
 use Rattle.act_code.specs.declared.code.Code.TheVariants as code
 use Rattle.act_code.specs.Format.{Format, Value, Nothing, Byte, Within, RegisterNumber, BlockNumber, Little, GuidBytes, WordNumber, Counted, Text, Registers, Descriptor, HobBody, Pair}
-use Rattle.act_code.specs.Table.{format_of, code_of_action, operands}
+use Rattle.act_code.specs.Table.{name_of, format_of, code_of_action, operands}
+use Rattle.act_code.specs.Operands.{Telling}
 use Rattle.pi_base.specs.WordText.{hexadecimal, guid_text, word_text}
 use Rattle.asm_text.specs.Numerals.{register}
-
--- the names of actions
-unfoldable pub name_of : Code → List ℕ
-name_of code.Set = codes "set"
-name_of code.Add = codes "add"
-name_of code.Pool = codes "pool"
-name_of code.Store = codes "store"
-name_of code.Addr = codes "addr"
-name_of code.Peek = codes "peek"
-name_of code.Desc = codes "desc"
-name_of code.Install = codes "install"
-name_of code.Reinstall = codes "reinstall"
-name_of code.Notify = codes "notify"
-name_of code.Locate = codes "locate"
-name_of code.Hob = codes "hob"
-name_of code.Memory = codes "memory"
-name_of code.Pages = codes "pages"
-name_of code.BootMode = codes "boot_mode"
-name_of code.Log = codes "log"
-name_of code.SkipIf = codes "skip_if"
-name_of code.Ret = codes "ret"
-name_of code.Shadow = codes "shadow"
-name_of code.DxeInstall = codes "install"
-name_of code.DxeReinstall = codes "reinstall"
-name_of code.DxeUninstall = codes "uninstall"
-name_of code.DxeLocate = codes "locate"
-name_of code.DxeNotify = codes "notify"
-name_of code.Schedule = codes "schedule"
-name_of code.Process = codes "process"
-name_of code.Dispatch = codes "dispatch"
 
 -- the form of `boot_mode`, and of a driver's `install`, is a word; other small numbers are decimal
 abbrev pub small_number : Code → ℕ → List ℕ
@@ -84,6 +55,10 @@ words_of small (Pair first second) value = words_of small first value.0 ++ words
 -- a word behind a space
 abbrev pub spaced : List ℕ → List ℕ
 spaced word = 32 ∷ word
+
+-- the words of an operand of a code's action, each behind a space
+abbrev pub operand_text : Code → Telling
+operand_text code format value = flat_map spaced (words_of (small_number code) format value)
 
 -- the words of an action behind its name
 abbrev pub operand_words : Action → List (List ℕ)

@@ -6,7 +6,6 @@ pub mod Front
 pub mod LineReading
 pub mod Numerals
 pub mod OperandReading
-pub mod Operands
 pub mod ReadDepex
 pub mod ReadScript
 pub mod ReadTree

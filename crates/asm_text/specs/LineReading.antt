@@ -3,10 +3,9 @@ use Rattle.std.specs.Prelude.{ℕ, ◌&&◌, bytes_eq, find, List, take, drop, O
 use Rattle.pi_base.specs.declared.phase.Phase.{Phase}
 use Rattle.act_code.specs.declared.action.Action.{Action}
 use Rattle.act_code.specs.declared.code.Code.{Code}
-use Rattle.act_code.specs.Table.{is_code_of}
+use Rattle.act_code.specs.Table.{is_code_of, name_of}
 use Rattle.act_code.specs.Reading.{◌>>=◌}
-use Rattle.asm_text.specs.declared.action_name.TheConstants.{CODES}
-use Rattle.asm_text.specs.ActionText.{name_of}
+use Rattle.act_code.specs.declared.code.TheConstants.{CODES}
 use Rattle.asm_text.specs.WordReading.{space_place}
 use Rattle.asm_text.specs.OperandReading.{operands_at}
 

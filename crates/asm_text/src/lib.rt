@@ -3,7 +3,6 @@
 //! Tried in `text_trials`: `expressions_as_text`, `scripts_as_text`.
 #![tactic(auto)]
 
-mod action_name;
 mod action_text;
 mod depex_reading;
 mod depex_text;
@@ -13,7 +12,6 @@ mod front;
 mod line_reading;
 mod line_source;
 mod list_reading;
-mod operand;
 mod operand_reading;
 mod script_reading;
 mod script_text;
@@ -23,11 +21,11 @@ mod tree_reading;
 mod tree_text;
 mod word;
 
-pub use action_name::code_named;
 pub use action_text::put_action;
 pub use depex_reading::parse_depex;
 pub use depex_text::print_depex;
 pub use fault::TextFault;
+pub use line_reading::code_named;
 pub use script_reading::parse_script;
 pub use script_text::print_script;
 pub use text_law::{one_bad_line, one_expression, one_script, scripts_of_bytes};

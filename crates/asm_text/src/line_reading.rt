@@ -1,15 +1,26 @@
 // The line of an action: its name, and its operands.
+ghost use Rattle.std.specs.Prelude.{◌≡◌};
 ghost use Rattle.act_code.specs.Reading.{Gives};
 ghost use Rattle.asm_text.specs.OperandReading.{operands_at};
-ghost use Rattle.asm_text.specs.LineReading.{action_of};
+ghost use Rattle.asm_text.specs.LineReading.{code_named, action_of};
 
-use crate::action_name::code_named;
 use crate::line_source::Line;
 use crate::operand_reading::ended;
 use crate::word::space_place;
-use act_code::{Action, Code, Unread, read_operands};
+use act_code::{Action, CODES, Code, Unread, read_operands};
 use pi_base::Phase;
 use std::alloc::Global;
+
+/// The code of the action of a phase that has a name, as lines of actions begin.
+#[tactic(auto, unfolding(crate::specs::LineReading::code_named))]
+pub fn code_named(phase: Phase, name: &[u8]) -> Option<Code>
+    ensures { result ≡ code_named phase name.now }
+{
+    CODES
+        .iter()
+        .copied()
+        .find(|code| code.is_of(phase) && code.name() == name)
+}
 
 // The action of a code, by the text behind its name.
 fn operands(alloc: Global, code: Code, text: &[u8]) -> Result<Action, Unread>

@@ -1,6 +1,6 @@
 -- The line that is printed of an action is read as it.
 use Rattle.std.proofs.Common.{◌≡◌, ℕ, Bool, true, false, ◌&&◌, List, [], ◌∷◌, ◌++◌, length, flat_map, Ok, refl, sym, ap, ◌∙◌, arith, subst, append_assoc}
-use Rattle.std.specs.Prelude.{bytes_eq, codes, nat_le, nat_lt}
+use Rattle.std.specs.Prelude.{bytes_eq, codes, nat_le, nat_lt, if◌then◌else◌}
 use Rattle.std.specs.List.{list_all, AllByRecursion}
 use Rattle.std.proofs.lemmas.Bool.{and_parts, and_from, false≢true}
 use Rattle.std.proofs.lemmas.Bool.Decides.{nat_tests}
@@ -12,8 +12,8 @@ use Rattle.act_code.specs.declared.action.Action.TheVariants as action
 use Rattle.act_code.specs.declared.code.Code.{Code}
 use Rattle.act_code.specs.declared.code.Code.TheVariants as code
 use Rattle.act_code.specs.Format.{Value, is_within}
-use Rattle.act_code.specs.Table.{is_code_of, format_of, made, code_of_action, operands}
-use Rattle.asm_text.specs.ActionText.{name_of, small_number, words_of, spaced, operand_words, action_text}
+use Rattle.act_code.specs.Table.{name_of, is_code_of, format_of, made, code_of_action, operands}
+use Rattle.asm_text.specs.ActionText.{small_number, words_of, spaced, operand_words, action_text}
 use Rattle.asm_text.specs.LineReading.{code_named}
 use Rattle.act_code.specs.Index.{is_indexed}
 use Rattle.act_code.specs.Script.{IsAction, operand_bytes}
@@ -42,31 +42,15 @@ unfolding name_of
 name_word code.Set = (omega arith, refl)
 name_word _ = (omega arith, refl)
 
-named : (phase : Phase) (c : Code) → is_code_of phase c ≡ true → code_of_name phase (name_of c) ≡ Ok c
+named_where : (phase : Phase) (c : Code) → (if is_code_of phase c then code_of_name phase (name_of c) else Ok c) ≡ Ok c
 unfolding name_of code_named code_of_name
-named Pei code.DxeInstall of_phase = absurd (false≢true of_phase)
-named Pei code.DxeReinstall of_phase = absurd (false≢true of_phase)
-named Pei code.DxeUninstall of_phase = absurd (false≢true of_phase)
-named Pei code.DxeLocate of_phase = absurd (false≢true of_phase)
-named Pei code.DxeNotify of_phase = absurd (false≢true of_phase)
-named Pei code.Schedule of_phase = absurd (false≢true of_phase)
-named Pei code.Process of_phase = absurd (false≢true of_phase)
-named Pei code.Dispatch of_phase = absurd (false≢true of_phase)
-named Pei _ of_phase = refl
-named Dxe code.Pool of_phase = absurd (false≢true of_phase)
-named Dxe code.Store of_phase = absurd (false≢true of_phase)
-named Dxe code.Addr of_phase = absurd (false≢true of_phase)
-named Dxe code.Desc of_phase = absurd (false≢true of_phase)
-named Dxe code.Install of_phase = absurd (false≢true of_phase)
-named Dxe code.Reinstall of_phase = absurd (false≢true of_phase)
-named Dxe code.Notify of_phase = absurd (false≢true of_phase)
-named Dxe code.Locate of_phase = absurd (false≢true of_phase)
-named Dxe code.Hob of_phase = absurd (false≢true of_phase)
-named Dxe code.Memory of_phase = absurd (false≢true of_phase)
-named Dxe code.Pages of_phase = absurd (false≢true of_phase)
-named Dxe code.BootMode of_phase = absurd (false≢true of_phase)
-named Dxe code.Shadow of_phase = absurd (false≢true of_phase)
-named Dxe _ of_phase = refl
+named_where Pei code.Set = refl
+named_where Pei _ = refl
+named_where Dxe code.Set = refl
+named_where Dxe _ = refl
+
+named : (phase : Phase) (c : Code) → is_code_of phase c ≡ true → code_of_name phase (name_of c) ≡ Ok c
+named phase c of_phase = subst (λ b. (if b then code_of_name phase (name_of c) else Ok c) ≡ Ok c) of_phase (named_where phase c)
 
 -- all actions but `log` have words alone
 abbrev is_log : Code → Bool

@@ -12,7 +12,6 @@ use Rattle.uuid.specs.Text.{parsed_hyphenated}
 use Rattle.pi_base.specs.GuidText.{swap_fields}
 use Rattle.pi_base.specs.declared.phase.Phase.{Phase}
 use Rattle.pi_base.specs.declared.phase.Phase.TheVariants.{Pei, Dxe}
-use Rattle.asm_text.specs.ActionText.{name_of}
 use Rattle.asm_text.specs.LineReading.{code_named}
 use Rattle.pi_base.specs.declared.guid.Guid.{Guid}
 use Rattle.act_code.specs.declared.action.Action.{Action}
@@ -22,7 +21,8 @@ use Rattle.act_code.specs.declared.action.GuidArg.TheVariants.{Inline, Register}
 use Rattle.act_code.specs.declared.code.Code.{Code}
 use Rattle.act_code.specs.declared.code.Code.TheVariants as code
 use Rattle.act_code.specs.Format.{Format, Value, is_within, is_hob, IsInRange, IsGuidArg, registers_in, blocks_in, guid_arg_registers, Nothing, Byte, Within, RegisterNumber, BlockNumber, Little, GuidBytes, WordNumber, Counted, Text, Registers, Descriptor, HobBody, Pair}
-use Rattle.act_code.specs.Table.{is_code_of, format_of, made}
+use Rattle.act_code.specs.declared.code.TheConstants.{CODES}
+use Rattle.act_code.specs.Table.{name_of, is_code_of, format_of, made}
 use Rattle.source_words.specs.Words.{is_keyword, words}
 use Rattle.source_words.specs.GuidWord.{guid_of, unbraced}
 use Rattle.script_words.specs.declared.fault.LineFault.{LineFault}
@@ -366,15 +366,9 @@ find_passes : {X : Type 0} (p : X → Bool) (xs : List X) (y : X) → find p xs 
 find_passes p [] y e = absurd cc
 find_passes p (x ∷ xs) y e = find_by p xs x y (p x) refl (find_passes p xs) e
 
--- the codes in the order of `asm_text`'s names
-abbrev all_codes : List Code
-all_codes =
-    code.Set ∷ code.Add ∷ code.Pool ∷ code.Store ∷ code.Addr ∷ code.Peek ∷ code.Desc ∷ code.Install ∷ code.Reinstall ∷ code.Notify ∷ code.Locate ∷ code.Hob ∷ code.Memory ∷ code.Pages
-    ∷ code.BootMode ∷ code.Log ∷ code.SkipIf ∷ code.Ret ∷ code.Shadow ∷ code.DxeInstall ∷ code.DxeReinstall ∷ code.DxeUninstall ∷ code.DxeLocate ∷ code.DxeNotify ∷ code.Schedule ∷ code.Process ∷ code.Dispatch ∷ []
-
 named_said : (phase : Phase) (name : List ℕ) (c : Code) → code_named phase name ≡ Some c → is_code_of phase c ≡ true
 unfolding code_named
-named_said phase name c e = (and_parts (is_code_of phase c) (bytes_eq (name_of c) name) (find_passes (λ code. is_code_of phase code && bytes_eq (name_of code) name) all_codes c e)).0
+named_said phase name c e = (and_parts (is_code_of phase c) (bytes_eq (name_of c) name) (find_passes (λ code. is_code_of phase code && bytes_eq (name_of code) name) CODES c e)).0
 
 code_by : (phase : Phase) (o others : Option Code) (c : Code) → ((c : Code) → o ≡ Some c → is_code_of phase c ≡ true) → code_or_fault o others ≡ Ok c → is_code_of phase c ≡ true
 code_by phase (Some found) others c is e = subst (λ (d : Code). is_code_of phase d ≡ true) (same_Ok found c e) (is found refl)

@@ -1,5 +1,5 @@
 -- What the lines of a printed text say.
-use Rattle.std.proofs.Common.{◌≡◌, ℕ, zero, suc, ◌^◌, ◌<◌, ◌≤◌, ◌%◌, Bool, true, false, List, [], ◌∷◌, ◌++◌, length, map, flat_map, Some, Result, Ok, refl, sym, ap, ◌∙◌, arith, decimal, subst, append_assoc}
+use Rattle.std.proofs.Common.{◌≡◌, ℕ, zero, suc, ◌^◌, ◌<◌, ◌≤◌, ◌%◌, Bool, true, false, not, List, [], ◌∷◌, ◌++◌, length, map, flat_map, Some, Result, Ok, refl, sym, ap, ◌∙◌, arith, decimal, subst, append_assoc}
 use Rattle.std.specs.Prelude.{nat_le, nat_lt, codes, bytes_eq, ◌==◌, ◌&&◌, if◌then◌else◌}
 use Rattle.std.specs.List.{AllByRecursion}
 use Rattle.std.proofs.lemmas.Bool.{and_parts, eqb-true, false≢true}
@@ -17,8 +17,8 @@ use Rattle.depex_code.specs.Expression.{IsOfPhase, instructions, bytes_of}
 use Rattle.act_code.specs.declared.action.Action.{Action}
 use Rattle.act_code.specs.declared.code.Code.{Code}
 use Rattle.act_code.specs.declared.code.Code.TheVariants as code
-use Rattle.act_code.specs.Table.{code_of_action}
-use Rattle.asm_text.specs.ActionText.{spaced, name_of, action_text}
+use Rattle.act_code.specs.Table.{name_of, code_of_action}
+use Rattle.asm_text.specs.ActionText.{spaced, action_text}
 use Rattle.asm_text.specs.ExpressionText.{expression_text}
 use Rattle.asm_text.specs.ReadTree.{IsExpression}
 use Rattle.script_words.proofs.PrintedActions.{IsGoodAction, action_shown}
@@ -621,35 +621,26 @@ record Begins (name : List ℕ) : Type 0 where
   is : name ≡ first ∷ rest
   other : (first == 35) ≡ false
 
-name_begins : (c : Code) → Begins (name_of c)
+-- a name begins with another byte than `#`
+abbrev is_begun : List ℕ → Bool
+is_begun [] = false
+is_begun (first ∷ rest) = not (first == 35)
+
+another : (test : Bool) → not test ≡ true → test ≡ false
+another true e = absurd cc
+another false e = refl
+
+begun : (name : List ℕ) → is_begun name ≡ true → Begins name
+begun [] e = absurd cc
+begun (first ∷ rest) e = record { first = first; rest = rest; is = refl; other = another (first == 35) e }
+
+name_begun : (c : Code) → is_begun (name_of c) ≡ true
 unfolding name_of
-name_begins code.Set = record { first = 115; rest = codes "et"; is = refl; other = refl }
-name_begins code.Add = record { first = 97; rest = codes "dd"; is = refl; other = refl }
-name_begins code.Pool = record { first = 112; rest = codes "ool"; is = refl; other = refl }
-name_begins code.Store = record { first = 115; rest = codes "tore"; is = refl; other = refl }
-name_begins code.Addr = record { first = 97; rest = codes "ddr"; is = refl; other = refl }
-name_begins code.Peek = record { first = 112; rest = codes "eek"; is = refl; other = refl }
-name_begins code.Desc = record { first = 100; rest = codes "esc"; is = refl; other = refl }
-name_begins code.Install = record { first = 105; rest = codes "nstall"; is = refl; other = refl }
-name_begins code.Reinstall = record { first = 114; rest = codes "einstall"; is = refl; other = refl }
-name_begins code.Notify = record { first = 110; rest = codes "otify"; is = refl; other = refl }
-name_begins code.Locate = record { first = 108; rest = codes "ocate"; is = refl; other = refl }
-name_begins code.Hob = record { first = 104; rest = codes "ob"; is = refl; other = refl }
-name_begins code.Memory = record { first = 109; rest = codes "emory"; is = refl; other = refl }
-name_begins code.Pages = record { first = 112; rest = codes "ages"; is = refl; other = refl }
-name_begins code.BootMode = record { first = 98; rest = codes "oot_mode"; is = refl; other = refl }
-name_begins code.Log = record { first = 108; rest = codes "og"; is = refl; other = refl }
-name_begins code.SkipIf = record { first = 115; rest = codes "kip_if"; is = refl; other = refl }
-name_begins code.Ret = record { first = 114; rest = codes "et"; is = refl; other = refl }
-name_begins code.Shadow = record { first = 115; rest = codes "hadow"; is = refl; other = refl }
-name_begins code.DxeInstall = record { first = 105; rest = codes "nstall"; is = refl; other = refl }
-name_begins code.DxeReinstall = record { first = 114; rest = codes "einstall"; is = refl; other = refl }
-name_begins code.DxeUninstall = record { first = 117; rest = codes "ninstall"; is = refl; other = refl }
-name_begins code.DxeLocate = record { first = 108; rest = codes "ocate"; is = refl; other = refl }
-name_begins code.DxeNotify = record { first = 110; rest = codes "otify"; is = refl; other = refl }
-name_begins code.Schedule = record { first = 115; rest = codes "chedule"; is = refl; other = refl }
-name_begins code.Process = record { first = 112; rest = codes "rocess"; is = refl; other = refl }
-name_begins code.Dispatch = record { first = 100; rest = codes "ispatch"; is = refl; other = refl }
+name_begun code.Set = refl
+name_begun _ = refl
+
+name_begins : (c : Code) → Begins (name_of c)
+name_begins c = begun (name_of c) (name_begun c)
 
 pub action_says : (phase : Phase) (a : Action) → IsGoodAction phase a → Says (action_text a) (said.Action (action_text a))
 action_says phase a is =

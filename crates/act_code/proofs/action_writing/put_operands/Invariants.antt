@@ -1,0 +1,8 @@
+use Rattle.std.proofs.Common.{◌≡◌, ◌++◌, take}
+use Rattle.std.specs.List.{flat_map}
+use Rattle.act_code.specs.Format.{spelled}
+use Rattle.act_code.specs.Operands.{told}
+use Rattle.act_code.proofs.action_writing.put_operands.Given as goal
+
+abbrev pub invariant-loop-operand : goal.invariant-loop-operand
+invariant-loop-operand l = l.out ≡ l.fn.out ++ flat_map (told spelled) (take l.operand-index l.operands)
