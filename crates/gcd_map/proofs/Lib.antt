@@ -17,3 +17,4 @@ pub mod WordCuts
 pub mod CommandLines
 pub mod Runs
 pub mod Prints
+pub mod CommandWords

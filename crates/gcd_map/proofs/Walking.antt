@@ -1,5 +1,5 @@
 -- The places of a list, one more.
-use Rattle.std.proofs.Common.{◌+◌, List, [], ◌∷◌, ◌++◌}
+use Rattle.std.proofs.Common.{List, [], ◌∷◌, ◌++◌}
 use Rattle.pi_base.specs.Lists.{Each}
 use Rattle.hob_codec.specs.declared.list.HobPlace.{HobPlace}
 

@@ -1,5 +1,7 @@
 -- The words of a line, cut off one after another.
-use Rattle.std.proofs.Common.{◌≡◌, ◌⊎◌, inl, inr, ℕ, ◌<◌, true, List, [], ◌∷◌, length, None, refl, ap, ◌∙◌, arith}
+use Rattle.std.proofs.Common.{◌≡◌, ◌⊎◌, inl, inr, ℕ, ◌<◌, true, false, List, [], ◌∷◌, length, None, refl, sym, ap, ◌∙◌, arith}
+use Rattle.std.proofs.lemmas.Bool.{eqb-true}
+use Rattle.std.specs.Prelude.{◌==◌}
 use Rattle.line_words.specs.Words.{words, is_plain}
 use Rattle.gcd_map.specs.CommandText.{short_command, long_command, command_of}
 
@@ -20,6 +22,14 @@ pub record Cuts (line a r1 b r2 c r3 d r4 e r5 : List ℕ) : Type 0 where
 nil_or_some : (xs : List ℕ) → (xs ≡ []) ⊎ (0 < length xs)
 nil_or_some [] = inl refl
 nil_or_some (x ∷ xs) = inr (omega arith)
+
+-- what the test on a length tells
+pub filled : (xs : List ℕ) → false ≡ (length xs == 0) → 0 < length xs
+filled [] e = absurd cc
+filled (x ∷ xs) e = omega arith
+
+pub bare : (xs : List ℕ) → true ≡ (length xs == 0) → length xs ≡ 0
+bare xs e = eqb-true (length xs) 0 (sym e)
 
 -- a line with a word, or with a rest, has something
 some_word : (line word rest : List ℕ) → Cut line word rest → 0 < length word → 0 < length line

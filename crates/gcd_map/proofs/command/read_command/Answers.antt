@@ -1,5 +1,5 @@
-use Rattle.std.proofs.Common.{sym, ◌∙◌, rules}
-use Rattle.gcd_map.proofs.WordCuts.{Cuts, many_words, four_words, three_words}
+use Rattle.std.proofs.Common.{sym, ◌∙◌}
+use Rattle.gcd_map.proofs.WordCuts.{Cuts, filled, bare, many_words, four_words, three_words}
 use Rattle.gcd_map.proofs.command.read_command.Goals as goal
 
 pub returns-then-not-is_empty : goal.returns-then-not-is_empty
@@ -12,7 +12,7 @@ returns-then-not-is_empty c =
       four = record { words = four.ensures.words; some = four.ensures.some; none = four.ensures.none };
       five = record { words = five.ensures.words; some = five.ensures.some; none = five.ensures.none };
     } in
-    sym (many_words line _ _ _ _ _ _ _ _ _ _ (search rules) cuts (search rules))
+    sym (many_words line _ _ _ _ _ _ _ _ _ _ (sym c.if-not-is_plain.ensures) cuts (filled _ c.if-not-is_empty.ensures))
 
 pub returns-then-not-is_empty-2 : goal.returns-then-not-is_empty-2
 returns-then-not-is_empty-2 c =
@@ -24,7 +24,7 @@ returns-then-not-is_empty-2 c =
       four = record { words = four.ensures.words; some = four.ensures.some; none = four.ensures.none };
       five = record { words = five.ensures.words; some = five.ensures.some; none = five.ensures.none };
     } in
-    c.long_command.ensures ∙ sym (four_words line _ _ _ _ _ _ _ _ _ _ (search rules) cuts (search rules) (search rules))
+    c.long_command.ensures ∙ sym (four_words line _ _ _ _ _ _ _ _ _ _ (sym c.if-not-is_plain.ensures) cuts (bare _ c.if-not-is_empty.ensures) (filled _ c.if-not-is_empty-2.ensures))
 
 pub returns-then-not-is_empty-3 : goal.returns-then-not-is_empty-3
 returns-then-not-is_empty-3 c =
@@ -36,4 +36,4 @@ returns-then-not-is_empty-3 c =
       four = record { words = four.ensures.words; some = four.ensures.some; none = four.ensures.none };
       five = record { words = five.ensures.words; some = five.ensures.some; none = five.ensures.none };
     } in
-    c.short_command.ensures ∙ sym (three_words line _ _ _ _ _ _ _ _ _ _ (search rules) cuts (search rules) (search rules))
+    c.short_command.ensures ∙ sym (three_words line _ _ _ _ _ _ _ _ _ _ (sym c.if-not-is_plain.ensures) cuts (bare _ c.if-not-is_empty-2.ensures) (filled _ c.if-not-is_empty-3.ensures))
