@@ -146,6 +146,14 @@ noted_one catalog has there before more x old mid new noted is index set owes sa
   | inr none ↦ told_new catalog has there before more x old mid new noted is none index set owes
 ]
 
+-- one GUID is told, where none was before
+known_none : (has : Guid → Bool) (index : WaitIndex) → AreKnown has [] index
+known_none has index guid slot here among = let no : false ≡ true = among in absurd (cc)
+
+pub taken_away : (catalog : Catalog) (has : Guid → Bool) (still : Bool) (x : Guid) (old new : WaitIndex) → IsIndex catalog old → has x ≡ still → IsIndex catalog new → IsSet catalog x still old new
+    → owed new ≤ owed old + asked catalog old x → (IsKnown x still old → new ≡ old) → IsNoted catalog has [] (x ∷ []) old new
+taken_away catalog has still x old new is told index set owes known = noted_one catalog has still [] [] x old old new (noted_none catalog has [] old is (known_none has old)) told index set owes known
+
 -- behind the one that is taken away and those that are put in
 pub noted_shows : (catalog : Catalog) (old mid new : PeiQueue) (view : View) (has : Guid → Bool) (gone : Option Guid) (still : Bool) (there : List Guid) → Shows catalog old view
     → IsEventOf view.has has gone still there → IsNoted catalog has [] (option_to_list gone) old.index mid.index → IsNoted catalog has (option_to_list gone) there mid.index new.index

@@ -2,7 +2,7 @@
 use Rattle.std.proofs.Common.{◌≡◌, ℕ, zero, suc, ◌+◌, ◌*◌, ◌/◌, ◌≤◌, ◌<◌, Bool, true, false, ◌||◌, ◌&&◌, List, [], ◌∷◌, length, arith, ap, refl, sym, subst, ◌∙◌, Option, Some, None}
 use Rattle.std.proofs.Common.{inl, inr}
 use Rattle.std.specs.Prelude.{slice_set, replicate, IfNone}
-use Rattle.std.proofs.lemmas.Bool.Decides.{eqb_tells}
+use Rattle.std.proofs.lemmas.Bool.Decides.{eqb_tells, leb_tells}
 use Rattle.wait_index.specs.PlaceFlags.{flag, count, either, AreMarked, IsFirst}
 
 pub flag_here : (flags : List Bool) (place : ℕ) (set : Bool) → place < length flags → flag (slice_set flags place set) place ≡ set
@@ -78,6 +78,27 @@ pub either_behind : (both : Bool) (flags more : List Bool) (place : ℕ) → len
 either_behind both flags more place same le =
     let two : (both && flag more place) ≡ false = and_none both false (flag more place) (elim both as (λ b. (b && false) ≡ false) [ true ↦ refl | false ↦ refl ]) (λ e. flag_behind more place (omega (arith, same, le))) in
     ap (λ a. a || (both && flag more place)) (flag_behind flags place le) ∙ two
+
+-- none of the set comes before the end of an empty block, a place more, or the end of the flags
+pub none_in_block : (both : Bool) (flags blocks more more_blocks : List Bool) (from at : ℕ) → AreMarked flags blocks → AreMarked more more_blocks → either both blocks more_blocks (at / 64) ≡ false
+    → ((place : ℕ) → from ≤ place → place < at → either both flags more place ≡ false) → (place : ℕ) → from ≤ place → place < (at / 64 + 1) * 64 → either both flags more place ≡ false
+none_in_block both flags blocks more more_blocks from at marked more_marked none before place le less = elim (leb_tells at place) [
+  | inl here ↦ unset_in_either both flags blocks more more_blocks (at / 64) place marked more_marked none (omega (arith, here.1, less))
+  | inr past ↦ before place le past.1
+]
+
+pub none_more : (test : ℕ → Bool) (from at : ℕ) → ((place : ℕ) → from ≤ place → place < at → test place ≡ false) → test at ≡ false → (place : ℕ) → from ≤ place → place < at + 1 → test place ≡ false
+none_more test from at before here place le less = elim (leb_tells at place) [
+  | inl on ↦ let same : at ≡ place = omega (arith, on.1, less) in subst (λ n. test n ≡ false) same here
+  | inr past ↦ before place le past.1
+]
+
+pub none_at_end : (both : Bool) (flags more : List Bool) (from at : ℕ) → length more ≡ length flags → length flags ≤ at
+    → ((place : ℕ) → from ≤ place → place < at → either both flags more place ≡ false) → (place : ℕ) → from ≤ place → either both flags more place ≡ false
+none_at_end both flags more from at same end before place le = elim (leb_tells at place) [
+  | inl on ↦ either_behind both flags more place same (omega (arith, on.1, end))
+  | inr past ↦ before place le past.1
+]
 
 pub none_set : (n place : ℕ) → flag (replicate n false) place ≡ false
 none_set zero place = refl

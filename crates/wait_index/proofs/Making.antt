@@ -73,11 +73,17 @@ all_push phase catalog guid number pushes =
     let m = there_is_one phase guid (slice_get catalog.modules number) pushes in
     modules_push_at phase guid catalog.modules number m.0 m.1 (module_pushes phase catalog guid number m.0 m.1 ∙ pushes)
 
-pub watched_made : (phase : Phase) (catalog : Catalog) (before first watch : Watch) (installed : Installed) (old new made : List (List ℕ)) → IsNumbering watch
-    → Covers (λ guid. modules_push phase guid catalog.modules) before first → Covers (λ guid. false) first watch → old ≡ watch.watchers
+pub covers_on : (test : Guid → Bool) (a b c : Watch) → Covers test a b → Covers (λ guid. false) b c → Covers test a c
+covers_on test a b c covers keeps = record {
+  kept = λ guid slot here. keeps.kept guid slot (covers.kept guid slot here);
+  covered = λ guid passes. let its = covers.covered guid passes in (its.0, keeps.kept guid its.0 its.1);
+}
+
+pub watched_made : (phase : Phase) (catalog : Catalog) (before watch : Watch) (installed : Installed) (old new made : List (List ℕ)) → IsNumbering watch
+    → Covers (λ guid. modules_push phase guid catalog.modules) before watch → old ≡ watch.watchers
     → AreNoted watch.slots (λ guid list. noted_from phase guid 0 list catalog.modules) old new → made ≡ new → installed.slots ≡ watch.slots → length installed.there ≡ length watch.watchers
     → (phase ≡ Dxe → EachPair (λ guid slot. value_of installed.slots guid ≡ Some slot) ARCHITECTURAL installed.protocols) → AreWatched phase catalog installed made
-watched_made phase catalog before first watch installed old new made is covers keeps was noted result slots there protocols = record {
+watched_made phase catalog before watch installed old new made is covers was noted result slots there protocols = record {
   watched = λ guid slot here.
       let at : value_of watch.slots guid ≡ Some slot = ap (λ s. value_of s guid) (sym slots) ∙ here in
       ap (λ ls. watchers_at ls slot) result ∙ noted.lists guid slot at
@@ -88,7 +94,7 @@ watched_made phase catalog before first watch installed old new made is covers k
       omega (arith, less, there);
   pushed = λ guid number pushes.
       let its = covers.covered guid (all_push phase catalog guid number pushes) in
-      (its.0, ap (λ s. value_of s guid) slots ∙ keeps.kept guid its.0 its.1);
+      (its.0, ap (λ s. value_of s guid) slots ∙ its.1);
   protocols = protocols;
 }
 

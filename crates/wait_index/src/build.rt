@@ -8,7 +8,7 @@ ghost use Rattle.pi_base.specs.Lists.{EachPair};
 ghost use Rattle.guid_map.specs.GuidMap.{value_of};
 ghost use Rattle.wait_index.specs.Index.{IsIndex, AreWatched, order_in, owed, has_in};
 ghost use Rattle.wait_index.specs.Installed.{is_there};
-ghost use Rattle.wait_index.specs.Watching.{IsNumbering, Covers};
+ghost use Rattle.wait_index.specs.Watching.{IsNumbering, Covers, modules_push};
 
 use crate::index::WaitIndex;
 use crate::installed::Installed;
@@ -43,6 +43,26 @@ fn none_there(alloc: Global, count: usize) -> Result<Seq<bool>, OutOfMemory>
     }
 }
 
+// Each GUID that the parts push has a slot; these are the slots of the architectural protocols, and a flag for each slot.
+fn numbered(
+    alloc: Global,
+    watch: &mut Watch,
+    catalog: &Catalog,
+    phase: Phase,
+) -> Result<(Seq<usize>, Seq<bool>), OutOfMemory>
+    requires { IsNumbering watch.old }
+    ensures numbering { OnOk result (IsNumbering watch.new) }
+    ensures covers { OnOk result (Covers (λ guid. modules_push phase guid catalog.now.modules) watch.old watch.new) }
+    ensures slots { IfOk result (λ made. phase ≡ Phase.Dxe → EachPair (λ guid slot. value_of watch.new.slots guid ≡ Some slot)
+        ARCHITECTURAL made.0) }
+    ensures there { IfOk result (λ made. made.1 ≡ replicate (length watch.new.watchers) false) }
+{
+    watch.number_modules(alloc, phase, catalog.modules.as_slice())?;
+    let protocols = protocols_of(alloc, watch, phase)?;
+    let there = none_there(alloc, watch.watchers.len())?;
+    Ok((protocols, there))
+}
+
 // Each GUID that the parts push has a slot, with the modules that push it.
 fn watched(
     alloc: Global,
@@ -54,12 +74,14 @@ fn watched(
     ensures nothing { IfOk result (λ made. (guid : Guid) → is_there made.0 guid ≡ false) }
 {
     let mut watch = Watch::new(alloc);
-    watch.number_modules(alloc, phase, catalog.modules.as_slice())?;
-    let protocols = protocols_of(alloc, &mut watch, phase)?;
-    let there = none_there(alloc, watch.watchers.len())?;
+    let Ok((protocols, there)) = numbered(alloc, &mut watch, catalog, phase) else {
+        return Err(OutOfMemory);
+    };
     let Watch { slots, watchers } = watch;
     let mut lists = watchers.into_vec();
-    note_modules(&mut lists, &slots, phase, catalog.modules.as_slice())?;
+    let Ok(()) = note_modules(&mut lists, &slots, phase, catalog.modules.as_slice()) else {
+        return Err(OutOfMemory);
+    };
     let installed = Installed {
         slots,
         there,
@@ -79,7 +101,9 @@ impl WaitIndex {
         ensures owed { IfOk result (λ index. owed index ≡ 0) }
     {
         let (installed, watchers) = watched(alloc, catalog, phase)?;
-        let places = Places::new(alloc, catalog.modules.len())?;
+        let Ok(places) = Places::new(alloc, catalog.modules.len()) else {
+            return Err(OutOfMemory);
+        };
         Ok(WaitIndex {
             phase,
             installed,

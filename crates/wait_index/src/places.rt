@@ -35,6 +35,18 @@ const UNKNOWN: Standing = Standing {
     verdict: Verdict::No,
 };
 
+// Two empty sets.
+fn two_sets(alloc: Global) -> Result<(PlaceSet, PlaceSet), OutOfMemory>
+    ensures one { IfOk result (λ sets. (place : ℕ) → flag sets.0 place ≡ false) }
+    ensures other { IfOk result (λ sets. (place : ℕ) → flag sets.1 place ≡ false) }
+{
+    let one = PlaceSet::new(alloc)?;
+    match PlaceSet::new(alloc) {
+        Ok(other) => Ok((one, other)),
+        Err(OutOfMemory) => Err(OutOfMemory),
+    }
+}
+
 impl Places {
     /// No places, for so many modules.
     pub(crate) fn new(alloc: Global, modules: usize) -> Result<Places, OutOfMemory>
@@ -47,12 +59,18 @@ impl Places {
             Ok(standings) => Seq::from_vec(standings),
             Err(_) => return Err(OutOfMemory),
         };
+        let Ok(stale) = PlaceSet::new(alloc) else {
+            return Err(OutOfMemory);
+        };
+        let Ok((ready, later)) = two_sets(alloc) else {
+            return Err(OutOfMemory);
+        };
         Ok(Places {
             order: ArrayVec::new(),
             standings,
-            ready: PlaceSet::new(alloc)?,
-            later: PlaceSet::new(alloc)?,
-            stale: PlaceSet::new(alloc)?,
+            ready,
+            later,
+            stale,
         })
     }
 

@@ -1,4 +1,5 @@
 use Rattle.std.proofs.Common.{map, refl, ap, sym, subst, ◌∙◌, Err}
+use Rattle.pi_base.specs.declared.word.Word.TheVariants.{InvalidParameter}
 use Rattle.act_code.specs.declared.action.Action.TheVariants as A
 use Rattle.boot_model.specs.declared.line.CallName.TheVariants as C
 use Rattle.store_model.specs.Service.{Answers}
@@ -6,14 +7,22 @@ use Rattle.store_model.specs.Service.Descriptor.{guid_at, offsets}
 use Rattle.store_model.specs.Service.Install.{install}
 use Rattle.boot_model.specs.PeiAction.{Called, sweep_reply, install_reply}
 use Rattle.boot_model.proofs.Held.{held_list}
-use Rattle.pei_action.proofs.Changing.{fault_changes, install_places, swept_changes}
+use Rattle.pei_action.proofs.Changing.{fault_changes, install_places, refusal_changes, swept_changes}
 use Rattle.pei_action.proofs.Lasting.{all_still_there, install_grows, same_guids_at}
-use Rattle.pei_action.proofs.Served.{given_where, refused_taken, swept_taken}
+use Rattle.pei_action.proofs.Served.{given_where, not_given, refused_taken, swept_taken}
 use Rattle.pei_action.proofs.ppis.install_ppis.Goals as goal
 
 pub install-requires-clause-state : goal.install-requires-clause-state
 install-requires-clause-state g c =
     let h = c.requires.state in (h.0, h.1, held_list h.0 c.args.frame.now.registers c.args.list.now c.in-Some.found.items c.as_slice.result.now h.2 c.in-Some.ensures.found c.as_slice.ensures.value)
+
+pub returns-in-None-clause-row : goal.returns-in-None-clause-row
+returns-in-None-clause-row g c old h = (old, not_given C.Install _ (install_reply old c.args.frame.now) old c.args.frame.now c.refusal.result c.in-None.ensures.found c.refusal.ensures, h.0)
+
+pub returns-in-None-clause-changes : goal.returns-in-None-clause-changes
+returns-in-None-clause-changes g c s stood held =
+    let row = returns-in-None-clause-row g c s (stood, held) in
+    refusal_changes C.Install InvalidParameter s row.0 c.args.frame.now (A.Install c.args.list.now) c.refusal.result refl c.refusal.ensures row.1
 
 pub returns-in-Ok-clause-row : goal.returns-in-Ok-clause-row
 returns-in-Ok-clause-row g c old h =

@@ -1,5 +1,6 @@
 use Rattle.std.proofs.Common.{map, refl, ap, sym, ◌∙◌, [], ◌∷◌, ◌++◌, Some}
 use Rattle.std.specs.Option.{option_map}
+use Rattle.pi_base.specs.declared.word.Word.TheVariants.{InvalidParameter}
 use Rattle.act_code.specs.declared.action.Action.TheVariants as A
 use Rattle.store_model.specs.StateFacts.{IsDesc}
 use Rattle.store_model.specs.Service.Descriptor.{guid_at}
@@ -8,10 +9,23 @@ use Rattle.store_model.specs.Service.Install.{reinstall}
 use Rattle.boot_model.specs.PeiAction.{Called, sweep_reply, reinstall_reply}
 use Rattle.pei_action.specs.Taken.{swept}
 use Rattle.boot_model.proofs.Held.{held_two}
-use Rattle.pei_action.proofs.Changing.{fault_changes, reinstall_places, swept_changes}
+use Rattle.pei_action.proofs.Changing.{fault_changes, refusal_changes, reinstall_places, swept_changes}
 use Rattle.pei_action.proofs.Lasting.{reinstall_grows, same_guid_at, still_there}
-use Rattle.pei_action.proofs.Served.{given_where, refused_taken, swept_taken}
+use Rattle.pei_action.proofs.Served.{given_where, not_given, refused_taken, swept_taken}
 use Rattle.pei_action.proofs.ppis.reinstall_ppi.Goals as goal
+
+pub reinstall-requires : goal.reinstall-requires
+reinstall-requires g c = record {
+  state = let h = c.requires.state in (h.0, h.1, held_two h.0 c.args.frame.now.registers c.args.old c.args.new c.in-Some.one c.in-Some.other h.2 c.in-Some.ensures);
+}
+
+pub returns-in-None-clause-row : goal.returns-in-None-clause-row
+returns-in-None-clause-row g c old h = (old, not_given C.Reinstall _ (reinstall_reply old c.args.frame.now) old c.args.frame.now c.refusal.result c.in-None.ensures c.refusal.ensures, h.0)
+
+pub returns-in-None-clause-changes : goal.returns-in-None-clause-changes
+returns-in-None-clause-changes g c s stood held =
+    let row = returns-in-None-clause-row g c s (stood, held) in
+    refusal_changes C.Reinstall InvalidParameter s row.0 c.args.frame.now (A.Reinstall c.args.old c.args.new) c.refusal.result refl c.refusal.ensures row.1
 
 pub returns-in-Ok-clause-row : goal.returns-in-Ok-clause-row
 returns-in-Ok-clause-row g c old h =

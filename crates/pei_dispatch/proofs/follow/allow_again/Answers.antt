@@ -21,3 +21,9 @@ returns-in-One-clause-shows c catalog view shows started =
     let number = c.in-One.number in
     subst (λ again. Shows catalog c.again.new.self (with_again (lets_at states again) view)) (sym c.in-One.is)
     (c.again.ensures.shows catalog view shows (started number (ap (λ again. lets_at states again number) c.in-One.is ∙ (Decides-eqb number number).1 refl)))
+
+pub returns-in-All-clause-shows : goal.returns-in-All-clause-shows
+returns-in-All-clause-shows c catalog view shows started =
+    let states = c.args.states.now in
+    subst (λ again. Shows catalog c.again_all.new.self (with_again (lets_at states again) view)) (sym c.in-All.is)
+    (c.again_all.ensures.shows catalog view shows (λ number here. started number (ap (λ again. lets_at states again number) c.in-All.is ∙ here)))

@@ -104,3 +104,21 @@ returns-in-Shadowed-clause-row g c m h own =
 
 pub returns-in-Shadowed-clause-kept : goal.returns-in-Shadowed-clause-kept
 returns-in-Shadowed-clause-kept g c = let k = c.shadow.ensures.kept c.args.catalog.now in record { made = k.made; started = k.started }
+
+pub returns-in_err-status-clause-kept : goal.returns-in_err-status-clause-kept
+returns-in_err-status-clause-kept g c = record { made = λ fuel for. record { states = for.states; known = for.known; fuelled = for.fuelled }; started = refl }
+
+pub returns-in-Wrote-clause-kept : goal.returns-in-Wrote-clause-kept
+returns-in-Wrote-clause-kept g c = record { made = λ fuel for. record { states = for.states; known = for.known; fuelled = for.fuelled }; started = refl }
+
+pub returns-in-Called-clause-kept : goal.returns-in-Called-clause-kept
+returns-in-Called-clause-kept g c = let k = c.answer-in-Called.ensures.kept in record { made = λ fuel for. k.made fuel (record { states = for.states; known = for.known; fuelled = for.fuelled }); started = k.started }
+
+pub returns-in-Wrote-clause-faults : goal.returns-in-Wrote-clause-faults
+returns-in-Wrote-clause-faults g c = refl
+
+pub returns-in-Called-clause-faults : goal.returns-in-Called-clause-faults
+returns-in-Called-clause-faults g c = c.answer-in-Called.ensures.faults
+
+pub returns-in-Shadowed-clause-faults : goal.returns-in-Shadowed-clause-faults
+returns-in-Shadowed-clause-faults g c = c.shadow.ensures.faults

@@ -55,3 +55,27 @@ returns-in_ok-print-in-Err-clause-row g c m h =
     (led_quietly _ m later (texts (T c.args.sink.now) (T c.print-in-Err.new.sink)) Nobody c.quiet.result c.quiet.ensures refl (nobody m later refl refl refl)
     (stepped_one _ m later (L.CoreInstall (status_of c.in-Err.fault)) (L.CoreInstall status) (T c.args.sink.now) (T c.print-in-Err.new.sink) refl (ap L.CoreInstall (sym is.told)) c.in_ok-print-in-Err.ensures.text
     (record { store = subst (g.M.PeiStore.stands_for c.core_install.new.self) is.same a.2; fields = refused_core m (status_of c.in-Err.fault) c.args.self.now.core h.fields })))
+
+pub core_install-requires : goal.core_install-requires
+core_install-requires g c = record { state = c.requires.state }
+
+pub returns-in_err-print-in-Ok-clause-kept : goal.returns-in_err-print-in-Ok-clause-kept
+returns-in_err-print-in-Ok-clause-kept g c catalog = record { made = λ fuel for. record { states = for.states; known = for.known; fuelled = for.fuelled }; started = refl }
+
+pub returns-in_err-status-in-Err-clause-kept : goal.returns-in_err-status-in-Err-clause-kept
+returns-in_err-status-in-Err-clause-kept g c catalog = record { made = λ fuel for. record { states = for.states; known = for.known; fuelled = for.fuelled }; started = refl }
+
+pub returns-in_err-print-in-Err-clause-kept : goal.returns-in_err-print-in-Err-clause-kept
+returns-in_err-print-in-Err-clause-kept g c catalog = record { made = λ fuel for. record { states = for.states; known = for.known; fuelled = for.fuelled }; started = refl }
+
+pub returns-in_ok-print-in-Ok-clause-kept : goal.returns-in_ok-print-in-Ok-clause-kept
+returns-in_ok-print-in-Ok-clause-kept g c catalog = record { made = λ fuel for. record { states = for.states; known = for.known; fuelled = for.fuelled }; started = refl }
+
+pub returns-in_ok-print-in-Err-clause-kept : goal.returns-in_ok-print-in-Err-clause-kept
+returns-in_ok-print-in-Err-clause-kept g c catalog = record { made = λ fuel for. record { states = for.states; known = for.known; fuelled = for.fuelled }; started = refl }
+
+pub returns-in_ok-print-in-Ok-clause-faults : goal.returns-in_ok-print-in-Ok-clause-faults
+returns-in_ok-print-in-Ok-clause-faults g c = c.in_ok-print-in-Ok.ensures.cause
+
+pub returns-in_ok-print-in-Err-clause-faults : goal.returns-in_ok-print-in-Err-clause-faults
+returns-in_ok-print-in-Err-clause-faults g c = c.in_ok-print-in-Err.ensures.cause

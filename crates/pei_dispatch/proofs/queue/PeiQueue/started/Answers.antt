@@ -1,5 +1,7 @@
-use Rattle.std.proofs.Common.{◌≡◌, Some, sym, ◌∙◌}
+use Rattle.std.proofs.Common.{◌≡◌, ◌+◌, Some, sym, ◌∙◌}
+use Rattle.pei_dispatch.specs.declared.queue.PeiQueue.{PeiQueue}
 use Rattle.pei_dispatch.proofs.Places.{found_place, place_within, behind_place}
+use Rattle.pei_dispatch.proofs.Views.{shows_started}
 use Rattle.pei_dispatch.proofs.queue.PeiQueue.started.Goals as goal
 
 pub unreachable-requires : goal.unreachable-requires
@@ -22,3 +24,9 @@ returns-clause-cursor c =
     let is : c.place_of.result ≡ Some other = (c.place_of.ensures.at other).1 e in
     let one : Some other ≡ Some place = sym is ∙ c.in-Some.is in
     cc))
+
+pub returns-clause-shows : goal.returns-clause-shows
+returns-clause-shows c catalog view shows among =
+    let place = c.in-Some.place in
+    let new : PeiQueue = record { index = c.started.new.self; cursor = place + 1 } in
+    shows_started catalog c.args.self.now new view c.args.number place shows among ((c.place_of.ensures.at place).0 c.in-Some.is) (c.started.ensures.index catalog shows.of_catalog) c.started.ensures.changes
