@@ -7,7 +7,7 @@ ghost use Rattle.store_model.specs.StoreCall.{Anything};
 use crate::board::{RAM, lists_over, store_over};
 use crate::calls::{core_install, install_new, move_to};
 use crate::scene::NAME;
-use pi_base::{Guid, MEMORY_PPI};
+use pi_base::{Guid, MEMORY_PPI, OutOfMemory};
 use std::alloc::Global;
 use std::process::Abort;
 use std::test::*;
@@ -88,7 +88,7 @@ fn run<S: PeiStore>(rt: &impl Abort, store: &mut S)
     try_values(rt, store);
 }
 
-fn over(rt: &impl Abort, alloc: Global, len: u64) -> Result<(), Fail>
+fn over(rt: &impl Abort, alloc: Global, len: u64) -> Result<(), OutOfMemory>
     requires len { len ≤ MOST_TEMP }
     requires early { 0 + 64 ≤ len }
 {
@@ -98,8 +98,6 @@ fn over(rt: &impl Abort, alloc: Global, len: u64) -> Result<(), Fail>
 }
 
 #[test]
-fn the_n_th_ppi_of_each_guid_is_found_before_and_behind_the_move(
-    rt: HostRuntime,
-) -> Result<(), Fail> {
-    over(&rt, rt.alloc(), 0x1_0000)
+fn the_n_th_ppi_of_each_guid_is_found_before_and_behind_the_move(rt: HostRuntime) {
+    assert!(rt; over(&rt, rt.alloc(), 0x1_0000).is_ok());
 }
