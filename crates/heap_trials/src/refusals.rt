@@ -245,7 +245,10 @@ fn calls_that_name_descriptors_are_refused_in_order_and_change_nothing(rt: HostR
 fn answer_at<S: PeiStore>(alloc: Global, store: &mut S, row: &Row) -> Answer
     requires { Present (S.stands_for store.old) Anything }
 {
-    if !bring(store, row.0) || !fill(store, row.1) {
+    if !bring(store, row.0) {
+        return None;
+    }
+    if !fill(store, row.1) {
         return None;
     }
     let Ok(before) = told(alloc, store) else {
