@@ -339,19 +339,17 @@ fn standings_over(
     standings
 }
 
-/// Drivers, the number of one of them, and whether the queue is empty and it waits, before and after. The last number is no module's, and
-/// the first catalogue has no a priori driver.
-static STANDINGS: [(&[Row], u32, [(bool, bool); 2]); 4] = [
-    (&COMPANIONS, 0, [(true, true), (true, true)]),
-    (&OTHERS, 0, [(true, true), (false, true)]),
-    (&OTHERS, 3, [(true, true), (false, false)]),
-    (&OTHERS, 99, [(true, true), (false, true)]),
-];
-
 #[test]
 fn scheduled_drivers_wait_no_more(rt: HostRuntime) {
-    'rows: for (drivers, number, want) in &STANDINGS {
-        let standings = standings_over(&rt, rt.alloc(), drivers, *number);
-        assert!(rt; standings == Ok(*want), "module {number}");
+    // The last number is no module's. The first catalogue has no a priori driver.
+    let rows: [(&[Row], u32, [(bool, bool); 2]); 4] = [
+        (&COMPANIONS, 0, [(true, true), (true, true)]),
+        (&OTHERS, 0, [(true, true), (false, true)]),
+        (&OTHERS, 3, [(true, true), (false, false)]),
+        (&OTHERS, 99, [(true, true), (false, true)]),
+    ];
+    'rows: for (drivers, number, want) in rows {
+        let standings = standings_over(&rt, rt.alloc(), drivers, number);
+        assert!(rt; standings == Ok(want), "module {number}");
     }
 }
