@@ -6,8 +6,9 @@ use boot_model::{CallName, ExpressionWord, Extra, Licence, Line, Reason, RunEnd}
 use boot_plan::PlanCause;
 use boot_trace::{decimal_word, hexadecimal_word, put};
 use catalog_model::ImageCause;
-use pi_base::{Guid, Word};
+use pi_base::{Guid, Seq, Word};
 use std::alloc::Global;
+use std::process::Abort;
 use std::test::*;
 use store_model::CORE;
 
@@ -30,214 +31,250 @@ fn is_shown(alloc: Global, line: &Line, want: &[u8]) -> bool {
     }
 }
 
-/// Lines without bytes of their own, and the text of each.
-static LINES: [(Line, &[u8]); 24] = [
-    // Starts and notifications.
-    (Line::Report { volume: 0 }, b"report 0\n"),
-    (
-        Line::PeiStart {
-            volume: 0,
-            name: A,
-            licence: Licence::Absent,
-        },
-        b"pei start 0 00000000-0000-0000-0000-00000000000a absent\n",
-    ),
-    (
-        Line::DxeStart {
-            volume: 2,
-            name: A,
-            licence: Licence::Before,
-        },
-        b"dxe start 2 00000000-0000-0000-0000-00000000000a before\n",
-    ),
-    (
-        Line::NotifyDispatch {
-            volume: 0,
-            name: A,
-            fired: MEMORY,
-        },
-        b"notify dispatch 0 00000000-0000-0000-0000-00000000000a \
-                f894643d-c449-42d1-8ea8-85bdd8c65bde\n",
-    ),
-    // Calls.
-    (
-        Line::Call {
-            name: CallName::Desc,
-            status: Word::Success,
-            extra: Extra::Number(0x80000040),
-        },
-        b"call desc Success 0x80000040\n",
-    ),
-    (
-        Line::Call {
-            name: CallName::BootMode,
-            status: Word::InvalidParameter,
-            extra: Extra::Nothing,
-        },
-        b"call boot_mode InvalidParameter\n",
-    ),
-    // A phase, from an end to the hand-off.
-    (
-        Line::End {
-            status: Word::OutOfResources,
-        },
-        b"end OutOfResources\n",
-    ),
-    (
-        Line::Migrate {
-            from: 0x80000000,
-            to: 0x40000000,
-        },
-        b"migrate 0x80000000 0x40000000\n",
-    ),
-    (
-        Line::CoreInstall {
-            status: Word::Success,
-        },
-        b"core install Success\n",
-    ),
-    (Line::PeiStop, b"pei stop\n"),
-    (
-        Line::Waiting {
-            volume: 0,
-            name: A,
-            reason: Reason::Malformed,
-        },
-        b"waiting 0 00000000-0000-0000-0000-00000000000a malformed\n",
-    ),
-    (
-        Line::Handoff {
-            address: 0x40000000,
-        },
-        b"handoff 0x40000000\n",
-    ),
-    (Line::DxeVolume { volume: 1 }, b"dxe volume 1\n"),
-    // PPIs, notifications and handles.
-    (Line::Ppis { count: 1 }, b"ppis 1\n"),
-    (
-        Line::Ppi {
-            by: CORE,
-            guid: MEMORY,
-            value: 0,
-        },
-        b"ppi core f894643d-c449-42d1-8ea8-85bdd8c65bde 0x0\n",
-    ),
-    (
-        Line::Callback {
-            guid: A,
-            by: 1,
-            block: 63,
-        },
-        b"callback 00000000-0000-0000-0000-00000000000a 1 63\n",
-    ),
-    (
-        Line::Handle {
-            handle: 1,
-            guid: A,
-            value: 6,
-        },
-        b"handle 1 00000000-0000-0000-0000-00000000000a 0x6\n",
-    ),
-    // HOBs and results.
-    (Line::Hobs { count: 2 }, b"hobs 2\n"),
-    (
-        Line::Result {
-            outcome: RunEnd::NoIpl,
-        },
-        b"result NoIpl\n",
-    ),
-    // An audit.
-    (
-        Line::Volume {
-            volume: 0,
-            base: 0xfff00000,
-            len: 4096,
-            name: None,
-        },
-        b"volume 0 0xfff00000 4096 -\n",
-    ),
-    (
-        Line::Module {
-            by: 2,
-            volume: 0,
-            name: A,
-            kind: 0x0c,
-            pei_rank: None,
-            dxe_rank: Some(3),
-            pei: ExpressionWord::NoPart,
-            dxe: ExpressionWord::Malformed(2),
-        },
-        b"module 2 0 00000000-0000-0000-0000-00000000000a 0c - 3 - malformed@2\n",
-    ),
-    // Refusals.
-    (Line::RefusedUsage, b"refused usage\n"),
-    (
-        Line::RefusedPlan {
-            line: 2,
-            cause: PlanCause::Overlap,
-        },
-        b"refused plan 2 Overlap\n",
-    ),
-    (
-        Line::RefusedImage {
-            volume: 0,
-            at: 50,
-            cause: ImageCause::HeaderSum,
-        },
-        b"refused image 0 50 HeaderSum\n",
-    ),
-];
-
-#[test]
-fn lines_have_their_texts(rt: HostRuntime) {
-    for (line, want) in &LINES {
-        assert!(rt; is_shown(rt.alloc(), line, want));
+// Puts each line and compares all that was put.
+fn show(rt: &impl Abort, alloc: Global, rows: &[(Line, &[u8])]) {
+    for (line, want) in rows {
+        assert!(rt; is_shown(alloc, line, want));
     }
 }
 
-// Whether a call with these bytes and a log of this text have their texts.
-fn are_told(alloc: Global) -> [bool; 2] {
+#[test]
+fn starts_and_notifications_have_their_lines(rt: HostRuntime) {
+    let alloc = rt.alloc();
+    let rows = [
+        (Line::Report { volume: 0 }, b"report 0\n".as_slice()),
+        (
+            Line::PeiStart {
+                volume: 0,
+                name: A,
+                licence: Licence::Absent,
+            },
+            b"pei start 0 00000000-0000-0000-0000-00000000000a absent\n".as_slice(),
+        ),
+        (
+            Line::DxeStart {
+                volume: 2,
+                name: A,
+                licence: Licence::Before,
+            },
+            b"dxe start 2 00000000-0000-0000-0000-00000000000a before\n".as_slice(),
+        ),
+        (
+            Line::NotifyDispatch {
+                volume: 0,
+                name: A,
+                fired: MEMORY,
+            },
+            b"notify dispatch 0 00000000-0000-0000-0000-00000000000a \
+                f894643d-c449-42d1-8ea8-85bdd8c65bde\n"
+                .as_slice(),
+        ),
+    ];
+    show(&rt, alloc, &rows);
+}
+
+#[test]
+fn calls_and_logs_have_their_lines(rt: HostRuntime) {
+    let alloc = rt.alloc();
     let mut text = ArrayVec::new();
     text.push(b'a');
     let mut read = ArrayVec::new();
     read.push(0x23);
     read.push(0x0a);
-    let peek = Line::Call {
-        name: CallName::Peek,
-        status: Word::Success,
-        extra: Extra::Bytes(read),
-    };
-    [
-        is_shown(alloc, &peek, b"call peek Success 230a\n"),
-        is_shown(alloc, &Line::Log { text }, b"log a\n"),
-    ]
-}
-
-// Whether a HOB of this type and with this body has this text.
-fn is_hob(alloc: Global, kind: u16, body: &[u8], want: &[u8]) -> bool {
-    let body = list_of(alloc, body);
-    is_shown(alloc, &Line::Hob { kind, body }, want)
-}
-
-// Whether the refusal of a file has its text.
-fn is_refused(alloc: Global) -> bool {
-    let name = list_of(alloc, b"a.fv");
-    is_shown(alloc, &Line::RefusedFile { name }, b"refused file a.fv\n")
+    let rows = [
+        (
+            Line::Call {
+                name: CallName::Desc,
+                status: Word::Success,
+                extra: Extra::Number(0x80000040),
+            },
+            b"call desc Success 0x80000040\n".as_slice(),
+        ),
+        (
+            Line::Call {
+                name: CallName::BootMode,
+                status: Word::InvalidParameter,
+                extra: Extra::Nothing,
+            },
+            b"call boot_mode InvalidParameter\n".as_slice(),
+        ),
+        (
+            Line::Call {
+                name: CallName::Peek,
+                status: Word::Success,
+                extra: Extra::Bytes(read),
+            },
+            b"call peek Success 230a\n".as_slice(),
+        ),
+        (Line::Log { text }, b"log a\n".as_slice()),
+    ];
+    show(&rt, alloc, &rows);
 }
 
 #[test]
-fn lines_with_bytes_have_their_texts(rt: HostRuntime) {
+fn a_phase_has_its_lines_from_an_end_to_the_hand_off(rt: HostRuntime) {
     let alloc = rt.alloc();
-    let are_hobs = [
-        is_hob(
-            alloc,
-            6,
-            b"\x30\x10\0\0\0\0\0\0",
-            b"hob 6 3010000000000000\n",
+    let rows = [
+        (
+            Line::End {
+                status: Word::OutOfResources,
+            },
+            b"end OutOfResources\n".as_slice(),
         ),
-        is_hob(alloc, 7, b"", b"hob 7 -\n"),
+        (
+            Line::Migrate {
+                from: 0x80000000,
+                to: 0x40000000,
+            },
+            b"migrate 0x80000000 0x40000000\n".as_slice(),
+        ),
+        (
+            Line::CoreInstall {
+                status: Word::Success,
+            },
+            b"core install Success\n".as_slice(),
+        ),
+        (Line::PeiStop, b"pei stop\n".as_slice()),
+        (
+            Line::Waiting {
+                volume: 0,
+                name: A,
+                reason: Reason::Malformed,
+            },
+            b"waiting 0 00000000-0000-0000-0000-00000000000a malformed\n".as_slice(),
+        ),
+        (
+            Line::Handoff {
+                address: 0x40000000,
+            },
+            b"handoff 0x40000000\n".as_slice(),
+        ),
+        (Line::DxeVolume { volume: 1 }, b"dxe volume 1\n".as_slice()),
     ];
-    assert!(rt; (are_told(alloc), are_hobs, is_refused(alloc)) == ([true; 2], [true; 2], true));
+    show(&rt, alloc, &rows);
+}
+
+#[test]
+fn ppis_notifications_and_handles_have_their_lines(rt: HostRuntime) {
+    let alloc = rt.alloc();
+    let rows = [
+        (Line::Ppis { count: 1 }, b"ppis 1\n".as_slice()),
+        (
+            Line::Ppi {
+                by: CORE,
+                guid: MEMORY,
+                value: 0,
+            },
+            b"ppi core f894643d-c449-42d1-8ea8-85bdd8c65bde 0x0\n".as_slice(),
+        ),
+        (
+            Line::Callback {
+                guid: A,
+                by: 1,
+                block: 63,
+            },
+            b"callback 00000000-0000-0000-0000-00000000000a 1 63\n".as_slice(),
+        ),
+        (
+            Line::Handle {
+                handle: 1,
+                guid: A,
+                value: 6,
+            },
+            b"handle 1 00000000-0000-0000-0000-00000000000a 0x6\n".as_slice(),
+        ),
+    ];
+    show(&rt, alloc, &rows);
+}
+
+#[test]
+fn hobs_and_results_have_their_lines(rt: HostRuntime) {
+    let alloc = rt.alloc();
+    let rows = [
+        (Line::Hobs { count: 2 }, b"hobs 2\n".as_slice()),
+        (
+            Line::Hob {
+                kind: 6,
+                body: list_of(alloc, &[0x30, 0x10, 0, 0, 0, 0, 0, 0]),
+            },
+            b"hob 6 3010000000000000\n".as_slice(),
+        ),
+        (
+            Line::Hob {
+                kind: 7,
+                body: Seq::new(alloc),
+            },
+            b"hob 7 -\n".as_slice(),
+        ),
+        (
+            Line::Result {
+                outcome: RunEnd::NoIpl,
+            },
+            b"result NoIpl\n".as_slice(),
+        ),
+    ];
+    show(&rt, alloc, &rows);
+}
+
+#[test]
+fn audits_have_their_lines(rt: HostRuntime) {
+    let alloc = rt.alloc();
+    let part = Line::Module {
+        by: 2,
+        volume: 0,
+        name: A,
+        kind: 0x0c,
+        pei_rank: None,
+        dxe_rank: Some(3),
+        pei: ExpressionWord::NoPart,
+        dxe: ExpressionWord::Malformed(2),
+    };
+    let rows = [
+        (
+            Line::Volume {
+                volume: 0,
+                base: 0xfff00000,
+                len: 4096,
+                name: None,
+            },
+            b"volume 0 0xfff00000 4096 -\n".as_slice(),
+        ),
+        (
+            part,
+            b"module 2 0 00000000-0000-0000-0000-00000000000a 0c - 3 - malformed@2\n".as_slice(),
+        ),
+    ];
+    show(&rt, alloc, &rows);
+}
+
+#[test]
+fn refusals_have_their_lines(rt: HostRuntime) {
+    let alloc = rt.alloc();
+    let rows = [
+        (Line::RefusedUsage, b"refused usage\n".as_slice()),
+        (
+            Line::RefusedFile {
+                name: list_of(alloc, b"a.fv"),
+            },
+            b"refused file a.fv\n".as_slice(),
+        ),
+        (
+            Line::RefusedPlan {
+                line: 2,
+                cause: PlanCause::Overlap,
+            },
+            b"refused plan 2 Overlap\n".as_slice(),
+        ),
+        (
+            Line::RefusedImage {
+                volume: 0,
+                at: 50,
+                cause: ImageCause::HeaderSum,
+            },
+            b"refused image 0 50 HeaderSum\n".as_slice(),
+        ),
+    ];
+    show(&rt, alloc, &rows);
 }
 
 /// Numbers, and their words.
