@@ -394,11 +394,11 @@ fn are_other_starts(begun: &[Begun]) -> bool {
     }
 }
 
-// The number of the module before whose start a boot with so many starts is left; none where it comes to its end with the other starts.
-fn left_at(rt: &impl Abort, alloc: Global, plan: &Plan, most: u64) -> Option<u32>
+// The number of the module before whose start a boot in that order is left; none where it comes to its end with the other starts.
+fn left_at(rt: &impl Abort, alloc: Global, plan: &Plan, choice: &FourthEarly) -> Option<u32>
     requires { IsPlanInRange plan.now }
 {
-    match explained_by(rt, alloc, plan, &FourthEarly { most }) {
+    match explained_by(rt, alloc, plan, choice) {
         Reached::End(told) => {
             assert!(rt; are_other_starts(told.begun.as_slice()));
             None
@@ -414,7 +414,7 @@ fn a_boot_in_another_order_tells_its_own_starts_and_is_left_before_one_that_is_n
     rt: HostRuntime,
 ) {
     let plan = plan_of(&rt, rt.alloc());
-    assert!(rt; left_at(&rt, rt.alloc(), &plan, 6).is_none());
-    assert!(rt; left_at(&rt, rt.alloc(), &plan, 5) == Some(4));
+    assert!(rt; left_at(&rt, rt.alloc(), &plan, &FourthEarly { most: 6 }).is_none());
+    assert!(rt; left_at(&rt, rt.alloc(), &plan, &FourthEarly { most: 5 }) == Some(4));
     drop(plan);
 }
