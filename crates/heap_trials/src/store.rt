@@ -163,8 +163,15 @@ fn run<S: PeiStore>(rt: &impl Abort, store: &mut S, trial: Trial)
     }
 }
 
-// One of these in each store, over so many bytes of temporary RAM. Only this function owns them: each exit of an owner is dear to prove.
-fn over(
+// One of these in a store. It is handed on whole, since each exit of an owner is dear to prove.
+fn over<S: PeiStore + Drop>(rt: &impl Abort, mut store: S, trial: Trial)
+    requires { Present (S.stands_for store) Anything }
+{
+    run(rt, &mut store, trial);
+}
+
+// The same in each store, over so many bytes of temporary RAM.
+fn over_both(
     rt: &impl Abort,
     alloc: Global,
     len: u64,
@@ -174,8 +181,8 @@ fn over(
     requires len { len ≤ MOST_TEMP }
     requires early { early + 64 ≤ len }
 {
-    run(rt, &mut lists_over(alloc, len, early)?, trial);
-    run(rt, &mut store_over(alloc, len, early)?, trial);
+    over(rt, lists_over(alloc, len, early)?, trial);
+    over(rt, store_over(alloc, len, early)?, trial);
     Ok(())
 }
 
@@ -206,11 +213,11 @@ fn both_stores_answer_as_worked_out(rt: HostRuntime) {
         if *len < 64 || *len > MOST_TEMP {
             panic!(rt; "no length of a heap");
         }
-        assert!(rt; over(&rt, rt.alloc(), *len, 0, *trial).is_ok());
+        assert!(rt; over_both(&rt, rt.alloc(), *len, 0, *trial).is_ok());
     }
 }
 
 #[test]
 fn early_pages_come_from_the_end_of_their_region(rt: HostRuntime) {
-    assert!(rt; over(&rt, rt.alloc(), 0x1_0000, 0x3000, Trial::EarlyPages).is_ok());
+    assert!(rt; over_both(&rt, rt.alloc(), 0x1_0000, 0x3000, Trial::EarlyPages).is_ok());
 }
