@@ -159,19 +159,17 @@ static APART: [Read; 9] = [
 ];
 
 #[test]
-fn writes_anywhere_are_read_back(rt: HostRuntime) -> Result<(), Fail> {
-    let mut memory = memory(rt.alloc()).ok_or("memory")?;
+fn writes_anywhere_are_read_back(rt: HostRuntime) {
+    let mut memory = memory(rt.alloc()).expect(&rt, "memory");
     assert!(rt; writes_apart(&mut memory) == [true, true, true, true, true]);
     assert!(rt; reads(&memory, &APART));
     drop(memory);
-    Ok(())
 }
 
 #[test]
-fn memory_is_read_and_written(rt: HostRuntime) -> Result<(), Fail> {
-    let mut memory = memory(rt.alloc()).ok_or("memory")?;
+fn memory_is_read_and_written(rt: HostRuntime) {
+    let mut memory = memory(rt.alloc()).expect(&rt, "memory");
     try_memory(&rt, &mut memory);
     try_unmapped(&rt, &mut memory);
     drop(memory);
-    Ok(())
 }

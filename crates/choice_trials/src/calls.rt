@@ -440,53 +440,22 @@ fn try_volumes(rt: &impl Abort, alloc: Global, store: &PlainStore, catalog: &Cat
     }
 }
 
-// What is tried over the catalogue of the drivers.
-#[derive(Clone, Copy)]
-enum Trial {
-    Rows,
-    Registers,
-    Names,
-    Volumes,
-}
-
-fn run(rt: &impl Abort, alloc: Global, store: &PlainStore, catalog: &Catalog, trial: Trial)
+fn try_all(rt: &impl Abort, alloc: Global, store: &PlainStore, catalog: &Catalog)
     requires catalog { IsWellFormed catalog.now }
     requires state { Present (stands_for store.now) Anything }
 {
-    match trial {
-        Trial::Rows => try_rows(rt, alloc, store, catalog),
-        Trial::Registers => try_registers(rt, alloc, store, catalog),
-        Trial::Names => try_names(rt, alloc, store, catalog),
-        Trial::Volumes => try_volumes(rt, alloc, store, catalog),
-    }
+    try_rows(rt, alloc, store, catalog);
+    try_registers(rt, alloc, store, catalog);
+    try_names(rt, alloc, store, catalog);
+    try_volumes(rt, alloc, store, catalog);
 }
 
-// One of these. Only this function owns a catalogue and a store: each exit of an owner is dear to prove.
-fn over(rt: &impl Abort, alloc: Global, trial: Trial) -> Result<(), Fail> {
-    let catalog = catalogue(alloc, &NESTED, &DRIVERS).ok_or("a catalogue")?;
-    let store = store(alloc);
-    run(rt, alloc, &store, &catalog, trial);
+// Only this function owns a catalogue and a store, with one call behind them: each exit of an owner is dear to prove.
+#[test]
+fn calls_of_drivers_answer_by_their_rows(rt: HostRuntime) {
+    let catalog = catalogue(&rt, rt.alloc(), &NESTED, &DRIVERS);
+    let store = store(rt.alloc());
+    try_all(&rt, rt.alloc(), &store, &catalog);
     drop(store);
     drop(catalog);
-    Ok(())
-}
-
-#[test]
-fn protocol_services_answer_by_their_rows(rt: HostRuntime) -> Result<(), Fail> {
-    over(&rt, rt.alloc(), Trial::Rows)
-}
-
-#[test]
-fn results_go_into_registers(rt: HostRuntime) -> Result<(), Fail> {
-    over(&rt, rt.alloc(), Trial::Registers)
-}
-
-#[test]
-fn drivers_of_a_name_are_requested_once_each(rt: HostRuntime) -> Result<(), Fail> {
-    over(&rt, rt.alloc(), Trial::Names)
-}
-
-#[test]
-fn a_new_volume_is_processed(rt: HostRuntime) -> Result<(), Fail> {
-    over(&rt, rt.alloc(), Trial::Volumes)
 }

@@ -1,5 +1,4 @@
 // The board of all tests: catalogues, each made of a table of its volumes and a table of its modules.
-ghost use Rattle.std.specs.Prelude.{IfSome};
 ghost use Rattle.catalog_model.specs.WellFormed.{IsWellFormed};
 
 use crate::well_formed::is_well_formed;
@@ -8,6 +7,8 @@ use catalog_model::{Catalog, Module, Part, PartExpr, VolumeEntry};
 use depex_code::{Depex, Opcode, Tree};
 use pi_base::{Guid, OutOfMemory, Phase, Seq};
 use std::alloc::Global;
+use std::process::Abort;
+use std::test::*;
 
 /// The base of a volume, and the number of the one that it is nested in.
 pub(crate) type Volume = (u64, Option<u32>);
@@ -176,17 +177,14 @@ fn volumes(alloc: Global, rows: &[Volume]) -> Result<Seq<VolumeEntry>, OutOfMemo
     Ok(made)
 }
 
-/// The catalogue of these volumes and modules, each of which begins behind the one before it. None where memory is wanting, or where a catalogue cannot be so.
-pub(crate) fn catalogue(alloc: Global, mapped: &[Volume], rows: &[Row]) -> Option<Catalog>
-    ensures { IfSome result IsWellFormed }
+/// The catalogue of these volumes and modules, each of which begins behind the one before it. The test fails where memory is wanting, or where a catalogue cannot be so.
+pub(crate) fn catalogue(rt: &impl Abort, alloc: Global, mapped: &[Volume], rows: &[Row]) -> Catalog
+    ensures { IsWellFormed result }
 {
     let catalog = Catalog {
-        volumes: volumes(alloc, mapped).ok()?,
-        modules: modules(alloc, rows).ok()?,
+        volumes: volumes(alloc, mapped).expect(rt, "ample memory"),
+        modules: modules(alloc, rows).expect(rt, "ample memory"),
     };
-    if is_well_formed(&catalog) {
-        Some(catalog)
-    } else {
-        None
-    }
+    assert!(rt; is_well_formed(&catalog));
+    catalog
 }

@@ -223,11 +223,10 @@ fn start_so(rt: &impl Abort, catalog: &Catalog, rows: &[Case])
 }
 
 // The same over a catalogue of these drivers.
-fn start_over(rt: &impl Abort, alloc: Global, drivers: &[Row], rows: &[Case]) -> Result<(), Fail> {
-    let catalog = catalogue(alloc, &ONE, drivers).ok_or("a catalogue")?;
+fn start_over(rt: &impl Abort, alloc: Global, drivers: &[Row], rows: &[Case]) {
+    let catalog = catalogue(rt, alloc, &ONE, drivers);
     start_so(rt, &catalog, rows);
     drop(catalog);
-    Ok(())
 }
 
 static OF_COMPANIONS: [Case; 3] = [
@@ -264,11 +263,6 @@ static OF_COMPANIONS: [Case; 3] = [
     },
 ];
 
-#[test]
-fn companions_start_with_their_target(rt: HostRuntime) -> Result<(), Fail> {
-    start_over(&rt, rt.alloc(), &COMPANIONS, &OF_COMPANIONS)
-}
-
 static OF_OTHERS: [Case; 2] = [
     Case {
         is_requested: false,
@@ -285,8 +279,11 @@ static OF_OTHERS: [Case; 2] = [
 ];
 
 #[test]
-fn all_architectural_protocols_are_asked_for(rt: HostRuntime) -> Result<(), Fail> {
-    start_over(&rt, rt.alloc(), &OTHERS, &OF_OTHERS)
+fn companions_start_with_their_target_and_all_architectural_protocols_are_asked_for(
+    rt: HostRuntime,
+) {
+    start_over(&rt, rt.alloc(), &COMPANIONS, &OF_COMPANIONS);
+    start_over(&rt, rt.alloc(), &OTHERS, &OF_OTHERS);
 }
 
 // Whether the queue is empty and whether a driver waits, before and after the a priori drivers of the volume are scheduled.
@@ -330,15 +327,20 @@ fn standings_of(catalog: &Catalog, number: u32) -> Result<[(bool, bool); 2], Out
 }
 
 // The same over a catalogue of these drivers.
-fn standings_over(alloc: Global, drivers: &[Row], number: u32) -> Option<[(bool, bool); 2]> {
-    let catalog = catalogue(alloc, &ONE, drivers)?;
+fn standings_over(
+    rt: &impl Abort,
+    alloc: Global,
+    drivers: &[Row],
+    number: u32,
+) -> Result<[(bool, bool); 2], OutOfMemory> {
+    let catalog = catalogue(rt, alloc, &ONE, drivers);
     let standings = standings_of(&catalog, number);
     drop(catalog);
-    standings.ok()
+    standings
 }
 
 #[test]
-fn scheduled_drivers_wait_no_more(rt: HostRuntime) -> Result<(), Fail> {
+fn scheduled_drivers_wait_no_more(rt: HostRuntime) {
     // The last number is no module's. The first catalogue has no a priori driver.
     let rows: [(&[Row], u32, [(bool, bool); 2]); 4] = [
         (&COMPANIONS, 0, [(true, true), (true, true)]),
@@ -347,8 +349,7 @@ fn scheduled_drivers_wait_no_more(rt: HostRuntime) -> Result<(), Fail> {
         (&OTHERS, 99, [(true, true), (false, true)]),
     ];
     'rows: for (drivers, number, want) in rows {
-        let standings = standings_over(rt.alloc(), drivers, number);
-        assert!(rt; standings == Some(want), "module {number}");
+        let standings = standings_over(&rt, rt.alloc(), drivers, number);
+        assert!(rt; standings == Ok(want), "module {number}");
     }
-    Ok(())
 }

@@ -104,12 +104,11 @@ fn try_listed(rt: &impl Abort, handles: &Handles) {
 }
 
 #[test]
-fn each_row_of_the_services_answers_as_in_a_worked_boot(rt: HostRuntime) -> Result<(), Fail> {
+fn each_row_of_the_services_answers_as_in_a_worked_boot(rt: HostRuntime) {
     let mut handles = Handles::new(rt.alloc());
     try_rows(&rt, &mut handles);
     try_listed(&rt, &handles);
     drop(handles);
-    Ok(())
 }
 
 fn make_many(rt: &impl Abort, handles: &mut Handles) {
@@ -132,10 +131,9 @@ fn try_lowest(rt: &impl Abort, handles: &mut Handles) {
 }
 
 #[test]
-fn the_lowest_of_many_handles_is_located(rt: HostRuntime) -> Result<(), Fail> {
+fn the_lowest_of_many_handles_is_located(rt: HostRuntime) {
     let mut handles = Handles::new(rt.alloc());
     make_many(&rt, &mut handles);
     try_lowest(&rt, &mut handles);
     drop(handles);
-    Ok(())
 }

@@ -193,11 +193,10 @@ fn try_peims(rt: &impl Abort, catalog: &Catalog)
 }
 
 #[test]
-fn a_peim_may_start_by_its_rank_its_expression_or_again(rt: HostRuntime) -> Result<(), Fail> {
-    let catalog = catalogue(rt.alloc(), &ONE, &PEIMS).ok_or("a catalogue")?;
+fn a_peim_may_start_by_its_rank_its_expression_or_again(rt: HostRuntime) {
+    let catalog = catalogue(&rt, rt.alloc(), &ONE, &PEIMS);
     try_peims(&rt, &catalog);
     drop(catalog);
-    Ok(())
 }
 
 fn try_drivers(rt: &impl Abort, catalog: &Catalog, steps: &[Step])
@@ -208,11 +207,10 @@ fn try_drivers(rt: &impl Abort, catalog: &Catalog, steps: &[Step])
 }
 
 // The steps over a catalogue of the drivers.
-fn over_drivers(rt: &impl Abort, alloc: Global, steps: &[Step]) -> Result<(), Fail> {
-    let catalog = catalogue(alloc, &ONE, &DRIVERS).ok_or("a catalogue")?;
+fn over_drivers(rt: &impl Abort, alloc: Global, steps: &[Step]) {
+    let catalog = catalogue(rt, alloc, &ONE, &DRIVERS);
     try_drivers(rt, &catalog, steps);
     drop(catalog);
-    Ok(())
 }
 
 static OPENED: [Step; 6] = [
@@ -223,11 +221,6 @@ static OPENED: [Step; 6] = [
     (Deed::Opened(2), 0, Some(2)),
     (Deed::Started(2), 0, None),
 ];
-
-#[test]
-fn a_driver_may_start_by_its_expression_once_it_is_open(rt: HostRuntime) -> Result<(), Fail> {
-    over_drivers(&rt, rt.alloc(), &OPENED)
-}
 
 // All thirteen architectural protocols, and one of them gone.
 static PROTOCOLS: [Step; 14] = [
@@ -248,8 +241,9 @@ static PROTOCOLS: [Step; 14] = [
 ];
 
 #[test]
-fn a_driver_without_an_expression_waits_for_thirteen_protocols(
+fn a_driver_may_start_by_its_expression_once_it_is_open_or_behind_thirteen_protocols(
     rt: HostRuntime,
-) -> Result<(), Fail> {
-    over_drivers(&rt, rt.alloc(), &PROTOCOLS)
+) {
+    over_drivers(&rt, rt.alloc(), &OPENED);
+    over_drivers(&rt, rt.alloc(), &PROTOCOLS);
 }

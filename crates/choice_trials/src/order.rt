@@ -93,14 +93,6 @@ fn discover_so(rt: &impl Abort, alloc: Global, catalog: &Catalog)
     }
 }
 
-#[test]
-fn volumes_come_with_their_drivers_and_names(rt: HostRuntime) -> Result<(), Fail> {
-    let catalog = catalogue(rt.alloc(), &NESTED, &DRIVERS).ok_or("a catalogue")?;
-    discover_so(&rt, rt.alloc(), &catalog);
-    drop(catalog);
-    Ok(())
-}
-
 /// Two volumes that come one after the other, the drivers then, and whether the last volume has come.
 type Added = (u32, u32, &'static [u32], bool);
 
@@ -150,9 +142,9 @@ fn add_so(rt: &impl Abort, alloc: Global, catalog: &Catalog)
 }
 
 #[test]
-fn a_volume_comes_once(rt: HostRuntime) -> Result<(), Fail> {
-    let catalog = catalogue(rt.alloc(), &NESTED, &DRIVERS).ok_or("a catalogue")?;
+fn volumes_come_once_with_their_drivers_and_names(rt: HostRuntime) {
+    let catalog = catalogue(&rt, rt.alloc(), &NESTED, &DRIVERS);
+    discover_so(&rt, rt.alloc(), &catalog);
     add_so(&rt, rt.alloc(), &catalog);
     drop(catalog);
-    Ok(())
 }

@@ -55,11 +55,10 @@ fn try_parts(rt: &impl Abort, catalog: &Catalog) {
 }
 
 #[test]
-fn ranked_parts_come_first_and_others_by_place(rt: HostRuntime) -> Result<(), Fail> {
-    let catalog = catalogue(rt.alloc(), &TWO, &MODULES).ok_or("a catalogue")?;
+fn ranked_parts_come_first_and_others_by_place(rt: HostRuntime) {
+    let catalog = catalogue(&rt, rt.alloc(), &TWO, &MODULES);
     try_parts(&rt, &catalog);
     drop(catalog);
-    Ok(())
 }
 
 /// The set of the first GUID alone.
@@ -117,7 +116,7 @@ fn holds_pushed(alloc: Global, guid: Guid) -> Result<bool, OutOfMemory> {
 }
 
 #[test]
-fn an_expression_holds_by_the_set(rt: HostRuntime) -> Result<(), Fail> {
+fn an_expression_holds_by_the_set(rt: HostRuntime) {
     let pushed = [
         holds_pushed(rt.alloc(), FIRST),
         holds_pushed(rt.alloc(), SECOND),
@@ -125,5 +124,4 @@ fn an_expression_holds_by_the_set(rt: HostRuntime) -> Result<(), Fail> {
     assert!(rt; pushed == [Ok(true), Ok(false)]);
     let named = [holds(&Depex::Before(FIRST)), holds(&Depex::After(FIRST))];
     assert!(rt; named == [false; 2]);
-    Ok(())
 }

@@ -35,12 +35,11 @@ fn come_so(alloc: Global, catalog: &Catalog, want: &[u32]) -> Result<bool, OutOf
 }
 
 #[test]
-fn a_priori_parts_come_first_by_rank(rt: HostRuntime) -> Result<(), Fail> {
-    let catalog = catalogue(rt.alloc(), &TWO, &RANKED).ok_or("a catalogue")?;
+fn a_priori_parts_come_first_by_rank(rt: HostRuntime) {
+    let catalog = catalogue(&rt, rt.alloc(), &TWO, &RANKED);
     let come_so = come_so(rt.alloc(), &catalog, &[5, 4, 3, 2, 1, 0]);
     drop(catalog);
     assert!(rt; come_so == Ok(true));
-    Ok(())
 }
 
 // The PEIM that comes first where the cursor is put before a part, over a queue of which every call is made.
@@ -79,9 +78,8 @@ fn try_aims(rt: &impl Abort, alloc: Global, catalog: &Catalog)
 }
 
 #[test]
-fn an_a_priori_part_or_the_part_behind_the_cursor_comes_first(rt: HostRuntime) -> Result<(), Fail> {
-    let catalog = catalogue(rt.alloc(), &ONE, &PEIMS).ok_or("a catalogue")?;
+fn an_a_priori_part_or_the_part_behind_the_cursor_comes_first(rt: HostRuntime) {
+    let catalog = catalogue(&rt, rt.alloc(), &ONE, &PEIMS);
     try_aims(&rt, rt.alloc(), &catalog);
     drop(catalog);
-    Ok(())
 }

@@ -57,13 +57,12 @@ fn try_after(rt: &impl Abort, set: &PlaceSet) {
 }
 
 #[test]
-fn the_first_place_is_found_from_each_cursor(rt: HostRuntime) -> Result<(), Fail> {
+fn the_first_place_is_found_from_each_cursor(rt: HostRuntime) {
     let mut set = set_of(&rt, rt.alloc(), &PLACES);
     try_before(&rt, &set);
     take_out(&mut set);
     try_after(&rt, &set);
     drop(set);
-    Ok(())
 }
 
 // Where the search begins, the first place of the set, and that of both.
@@ -86,11 +85,10 @@ fn try_both(rt: &impl Abort, set: &PlaceSet, other: &PlaceSet) {
 }
 
 #[test]
-fn the_other_set_counts_where_both_are_asked(rt: HostRuntime) -> Result<(), Fail> {
+fn the_other_set_counts_where_both_are_asked(rt: HostRuntime) {
     let set = set_of(&rt, rt.alloc(), &[100, 4095]);
     let other = set_of(&rt, rt.alloc(), &[5, 99, 4000]);
     try_both(&rt, &set, &other);
     drop(set);
     drop(other);
-    Ok(())
 }

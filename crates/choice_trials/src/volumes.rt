@@ -69,14 +69,6 @@ fn try_nested(rt: &impl Abort, catalog: &Catalog)
     }
 }
 
-#[test]
-fn nested_volumes_stand_behind_their_own(rt: HostRuntime) -> Result<(), Fail> {
-    let catalog = catalogue(rt.alloc(), &VOLUMES, &[]).ok_or("a catalogue")?;
-    try_nested(&rt, &catalog);
-    drop(catalog);
-    Ok(())
-}
-
 // Bases, and what is known then.
 static BASES: [(&[u64], &[u32]); 4] = [
     (&[], &[]),
@@ -95,9 +87,9 @@ fn try_bases(rt: &impl Abort, catalog: &Catalog)
 }
 
 #[test]
-fn volumes_are_discovered_base_by_base(rt: HostRuntime) -> Result<(), Fail> {
-    let catalog = catalogue(rt.alloc(), &VOLUMES, &[]).ok_or("a catalogue")?;
+fn nested_volumes_stand_behind_their_own_and_are_discovered_base_by_base(rt: HostRuntime) {
+    let catalog = catalogue(&rt, rt.alloc(), &VOLUMES, &[]);
+    try_nested(&rt, &catalog);
     try_bases(&rt, &catalog);
     drop(catalog);
-    Ok(())
 }

@@ -7,11 +7,12 @@ ghost use Rattle.heap_store.specs.HeapState.{StandsFor};
 
 use crate::board::{NODE_LEN, TEMP, heap_over};
 use crate::calls::{create, free, pages, pool, set_boot_mode};
+use crate::migration::{try_descriptor, try_pages};
 use heap_store::HeapStore;
 use hob_codec::kind::{HANDOFF, POOL};
 use hob_codec::{Hob, HobPlace, walk};
 use phys_mem::PhysMem;
-use pi_base::Guid;
+use pi_base::{Guid, OutOfMemory};
 use std::alloc::Global;
 use std::process::Abort;
 use std::test::*;
@@ -75,7 +76,9 @@ enum Trial {
     Hobs,
     Node,
     BootMode,
+    Descriptor,
     EarlyPage,
+    Pages,
 }
 
 // The hand-off HOB and the pool behind it.
@@ -168,12 +171,20 @@ fn run(rt: &impl Abort, alloc: Global, store: &mut HeapStore, trial: Trial)
         Trial::Hobs => try_hobs(rt, store),
         Trial::Node => try_node(rt, store),
         Trial::BootMode => try_boot_mode(rt, store),
+        Trial::Descriptor => try_descriptor(rt, store),
         Trial::EarlyPage => try_early_page(rt, store),
+        Trial::Pages => try_pages(rt, store),
     }
 }
 
 // One of these over a new heap. Only this function owns the store, with one call behind it: each exit of an owner is dear to prove.
-fn over(rt: &impl Abort, alloc: Global, len: u64, early: u64, trial: Trial) -> Result<(), Fail>
+fn over(
+    rt: &impl Abort,
+    alloc: Global,
+    len: u64,
+    early: u64,
+    trial: Trial,
+) -> Result<(), OutOfMemory>
     requires len { len ≤ MOST_TEMP }
     requires early { early + 64 ≤ len }
 {
@@ -182,27 +193,32 @@ fn over(rt: &impl Abort, alloc: Global, len: u64, early: u64, trial: Trial) -> R
     Ok(())
 }
 
-#[test]
-fn a_pool_of_all_that_is_free_leaves_no_room(rt: HostRuntime) -> Result<(), Fail> {
-    over(&rt, rt.alloc(), 0x4000, 0, Trial::WholePool)
-}
+static WITHOUT_EARLY_PAGES: [Trial; 5] = [
+    // A pool of all that is free leaves no room.
+    Trial::WholePool,
+    // HOBs stand one behind another.
+    Trial::Hobs,
+    // A node takes forty bytes.
+    Trial::Node,
+    // The boot mode is the second field of the hand-off.
+    Trial::BootMode,
+    // A descriptor moves with its node.
+    Trial::Descriptor,
+];
+
+static WITH_EARLY_PAGES: [Trial; 2] = [
+    // A HOB tells of an early page.
+    Trial::EarlyPage,
+    // Pages move, and bytes that look like an address stay.
+    Trial::Pages,
+];
 
 #[test]
-fn hobs_stand_one_behind_another(rt: HostRuntime) -> Result<(), Fail> {
-    over(&rt, rt.alloc(), 0x4000, 0, Trial::Hobs)
-}
-
-#[test]
-fn a_node_takes_forty_bytes(rt: HostRuntime) -> Result<(), Fail> {
-    over(&rt, rt.alloc(), 0x4000, 0, Trial::Node)
-}
-
-#[test]
-fn the_boot_mode_is_the_second_field_of_the_hand_off(rt: HostRuntime) -> Result<(), Fail> {
-    over(&rt, rt.alloc(), 0x4000, 0, Trial::BootMode)
-}
-
-#[test]
-fn a_hob_tells_of_an_early_page(rt: HostRuntime) -> Result<(), Fail> {
-    over(&rt, rt.alloc(), 0x8000, 0x3000, Trial::EarlyPage)
+fn a_heap_has_its_bytes_in_temporary_ram_and_where_it_moves(rt: HostRuntime) {
+    for trial in &WITHOUT_EARLY_PAGES {
+        assert!(rt; over(&rt, rt.alloc(), 0x4000, 0, *trial).is_ok());
+    }
+    for trial in &WITH_EARLY_PAGES {
+        assert!(rt; over(&rt, rt.alloc(), 0x8000, 0x3000, *trial).is_ok());
+    }
 }

@@ -7,7 +7,7 @@ ghost use Rattle.store_model.specs.StoreCall.{Anything};
 use crate::board::{RAM, lists_over, store_over};
 use crate::calls::{core_install, install_new, move_to};
 use crate::scene::NAME;
-use pi_base::{Guid, MEMORY_PPI};
+use pi_base::{Guid, MEMORY_PPI, OutOfMemory};
 use std::alloc::Global;
 use std::process::Abort;
 use std::test::*;
@@ -88,18 +88,23 @@ fn run<S: PeiStore>(rt: &impl Abort, store: &mut S)
     try_values(rt, store);
 }
 
-fn over(rt: &impl Abort, alloc: Global, len: u64) -> Result<(), Fail>
+// The same over a store. It is handed on whole, since each exit of an owner is dear to prove.
+fn over<S: PeiStore + Drop>(rt: &impl Abort, mut store: S)
+    requires { Present (S.stands_for store) Anything }
+{
+    run(rt, &mut store);
+}
+
+fn over_both(rt: &impl Abort, alloc: Global, len: u64) -> Result<(), OutOfMemory>
     requires len { len ≤ MOST_TEMP }
     requires early { 0 + 64 ≤ len }
 {
-    run(rt, &mut lists_over(alloc, len, 0)?);
-    run(rt, &mut store_over(alloc, len, 0)?);
+    over(rt, lists_over(alloc, len, 0)?);
+    over(rt, store_over(alloc, len, 0)?);
     Ok(())
 }
 
 #[test]
-fn the_n_th_ppi_of_each_guid_is_found_before_and_behind_the_move(
-    rt: HostRuntime,
-) -> Result<(), Fail> {
-    over(&rt, rt.alloc(), 0x1_0000)
+fn the_n_th_ppi_of_each_guid_is_found_before_and_behind_the_move(rt: HostRuntime) {
+    assert!(rt; over_both(&rt, rt.alloc(), 0x1_0000).is_ok());
 }

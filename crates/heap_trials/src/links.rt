@@ -297,28 +297,27 @@ fn run(rt: &impl Abort, scene: &mut HeapStore, trial: Trial)
 }
 
 // One of these over a new scene. Only this function owns it, with one call behind it: each exit of an owner is dear to prove.
-fn over(rt: &impl Abort, alloc: Global, trial: Trial) -> Result<(), Fail> {
-    let mut scene = opened(alloc).ok_or("a scene")?;
-    run(rt, &mut scene, trial);
-    Ok(())
+fn over(rt: &impl Abort, alloc: Global, trial: Trial) {
+    match opened(alloc) {
+        Some(mut scene) => run(rt, &mut scene, trial),
+        None => panic!(rt; "a scene"),
+    }
 }
 
-#[test]
-fn a_queue_is_emptied_and_filled_again(rt: HostRuntime) -> Result<(), Fail> {
-    over(&rt, rt.alloc(), Trial::Queue)
-}
+static TRIALS: [Trial; 4] = [
+    // A queue is emptied and filled again.
+    Trial::Queue,
+    // What is entered is told.
+    Trial::Told,
+    // A PPI in the place of another is told again.
+    Trial::Other,
+    // A sweep stops at each pair once.
+    Trial::Sweep,
+];
 
 #[test]
-fn what_is_entered_is_told(rt: HostRuntime) -> Result<(), Fail> {
-    over(&rt, rt.alloc(), Trial::Told)
-}
-
-#[test]
-fn a_ppi_in_the_place_of_another_is_told_again(rt: HostRuntime) -> Result<(), Fail> {
-    over(&rt, rt.alloc(), Trial::Other)
-}
-
-#[test]
-fn a_sweep_stops_at_each_pair_once(rt: HostRuntime) -> Result<(), Fail> {
-    over(&rt, rt.alloc(), Trial::Sweep)
+fn entries_are_queued_told_replaced_and_swept(rt: HostRuntime) {
+    for trial in &TRIALS {
+        over(&rt, rt.alloc(), *trial);
+    }
 }

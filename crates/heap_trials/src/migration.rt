@@ -3,7 +3,7 @@ ghost use Rattle.store_model.specs.Service.{Present};
 ghost use Rattle.store_model.specs.StoreCall.{Anything};
 ghost use Rattle.heap_store.specs.HeapState.{StandsFor};
 
-use crate::board::{RAM, TEMP, heap_over};
+use crate::board::{RAM, TEMP};
 use crate::calls::{bytes_at, create, install_new, move_to, pages};
 use crate::heap::has_bytes;
 use crate::scene::INLINE;
@@ -24,7 +24,8 @@ const UPPER: Span = Span {
 static MOVED: &[u8] =
     b"\x01\0\x38\0\0\0\0\0\x09\0\0\0\0\0\0\0\0\0\x02\x40\0\0\0\0\0\0\x01\x40\0\0\0\0\0\xf0\x01\x40\0\0\0\0\x90\0\x01\x40\0\0\0\0\x88\0\x01\x40\0\0\0\0\x02\0\x30\0\0\0\0\0\0\0\0\0\0\0\0\0\0\0\0\0\0\0\0\0\0\xf0\x01\x40\0\0\0\0\0\x10\0\0\0\0\0\0\x04\0\0\0\0\0\0\0\x04\0\x20\0\0\0\0\x000123456789abcdef\x40\0\0\x80\0\0\0\0\xff\xff\x08\0\0\0\0\0";
 
-fn try_pages(rt: &impl Abort, store: &mut HeapStore)
+/// Over a heap with early pages.
+pub(crate) fn try_pages(rt: &impl Abort, store: &mut HeapStore)
     requires { Present (StandsFor store.old) Anything }
 {
     let named = Hob::Named {
@@ -51,7 +52,8 @@ static DESCRIPTOR: [u8; 40] =
 static NODE: [u8; 40] =
     *b"\0\0\0\0\0\0\0\0\x40\0\0\x40\0\0\0\0\0\0\0\0\0\0\0\0\x09\0\0\0\0\0\0\0\xff\xff\x08\0\0\0\0\0";
 
-fn try_descriptor(rt: &impl Abort, store: &mut HeapStore)
+/// Over a heap without early pages.
+pub(crate) fn try_descriptor(rt: &impl Abort, store: &mut HeapStore)
     requires { Present (StandsFor store.old) Anything }
 {
     let is_installed = install_new(store, INLINE, 0x1234).is_some();
@@ -59,18 +61,4 @@ fn try_descriptor(rt: &impl Abort, store: &mut HeapStore)
     assert!(rt; (is_installed, moved) == (true, Some((TEMP, 0x4000_0000))));
     let found = [bytes_at(store, 0x4000_0040), bytes_at(store, 0x4000_0070)];
     assert!(rt; found == [DESCRIPTOR, NODE]);
-}
-
-#[test]
-fn pages_move_and_bytes_that_look_like_an_address_stay(rt: HostRuntime) -> Result<(), Fail> {
-    let mut store = heap_over(rt.alloc(), 0x8000, 0x3000)?;
-    try_pages(&rt, &mut store);
-    Ok(())
-}
-
-#[test]
-fn a_descriptor_moves_with_its_node(rt: HostRuntime) -> Result<(), Fail> {
-    let mut store = heap_over(rt.alloc(), 0x4000, 0)?;
-    try_descriptor(&rt, &mut store);
-    Ok(())
 }

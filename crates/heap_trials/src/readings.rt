@@ -9,7 +9,7 @@ use crate::board::{ROM, TEMP, lists_over, store_over};
 use crate::calls::set_boot_mode;
 use crate::scene::{END, INSTALLED, NAME, OTHER, Of, desc_of, install, laid, reinstall};
 use crate::told::{tells, told};
-use pi_base::{Guid, MEMORY_PPI};
+use pi_base::{Guid, MEMORY_PPI, OutOfMemory};
 use std::alloc::{AllocError, Global};
 use std::process::Abort;
 use std::test::*;
@@ -396,69 +396,58 @@ fn run<S: PeiStore>(rt: &impl Abort, alloc: Global, store: &mut S, trial: Trial)
 }
 
 // One of these over the scene in a store.
-fn over<S: PeiStore + Drop>(
-    rt: &impl Abort,
-    alloc: Global,
-    store: S,
-    trial: Trial,
-) -> Result<(), Fail>
+fn over<S: PeiStore + Drop>(rt: &impl Abort, alloc: Global, store: S, trial: Trial)
     requires { Present (S.stands_for store) Anything }
 {
-    let mut store = laid(store).ok_or("a scene")?;
-    run(rt, alloc, &mut store, trial);
-    Ok(())
+    match laid(store) {
+        Some(mut store) => run(rt, alloc, &mut store, trial),
+        None => panic!(rt; "a scene"),
+    }
 }
 
 // The same in both stores. Only these two functions own a store: each exit of an owner is dear to prove.
-fn over_both(rt: &impl Abort, alloc: Global, len: u64, early: u64, trial: Trial) -> Result<(), Fail>
+fn over_both(
+    rt: &impl Abort,
+    alloc: Global,
+    len: u64,
+    early: u64,
+    trial: Trial,
+) -> Result<(), OutOfMemory>
     requires len { len ≤ MOST_TEMP }
     requires early { early + 64 ≤ len }
 {
-    over(rt, alloc, lists_over(alloc, len, early)?, trial)?;
-    over(rt, alloc, store_over(alloc, len, early)?, trial)
+    over(rt, alloc, lists_over(alloc, len, early)?, trial);
+    over(rt, alloc, store_over(alloc, len, early)?, trial);
+    Ok(())
+}
+
+static TRIALS: [Trial; 8] = [
+    // The lists are told by place.
+    Trial::Lists,
+    // Entries are told one behind the other.
+    Trial::Entries,
+    // PPIs are found by GUID.
+    Trial::Ppis,
+    // A callback fires once for a new PPI.
+    Trial::Sweep,
+    // HOBs are told one behind the other.
+    Trial::Hobs,
+    // A pool is written within its size.
+    Trial::Writes,
+    // The boot mode stands in the hand-off HOB.
+    Trial::Mode,
+    // A PPI is put in the place of one that is there.
+    Trial::Reinstall,
+];
+
+#[test]
+fn what_stands_in_a_store_is_told(rt: HostRuntime) {
+    for trial in &TRIALS {
+        assert!(rt; over_both(&rt, rt.alloc(), 0x4000, 0, *trial).is_ok());
+    }
 }
 
 #[test]
-fn the_lists_are_told_by_place(rt: HostRuntime) -> Result<(), Fail> {
-    over_both(&rt, rt.alloc(), 0x4000, 0, Trial::Lists)
-}
-
-#[test]
-fn entries_are_told_one_behind_the_other(rt: HostRuntime) -> Result<(), Fail> {
-    over_both(&rt, rt.alloc(), 0x4000, 0, Trial::Entries)
-}
-
-#[test]
-fn ppis_are_found_by_guid(rt: HostRuntime) -> Result<(), Fail> {
-    over_both(&rt, rt.alloc(), 0x4000, 0, Trial::Ppis)
-}
-
-#[test]
-fn a_callback_fires_once_for_a_new_ppi(rt: HostRuntime) -> Result<(), Fail> {
-    over_both(&rt, rt.alloc(), 0x4000, 0, Trial::Sweep)
-}
-
-#[test]
-fn hobs_are_told_one_behind_the_other(rt: HostRuntime) -> Result<(), Fail> {
-    over_both(&rt, rt.alloc(), 0x4000, 0, Trial::Hobs)
-}
-
-#[test]
-fn a_pool_is_written_within_its_size(rt: HostRuntime) -> Result<(), Fail> {
-    over_both(&rt, rt.alloc(), 0x4000, 0, Trial::Writes)
-}
-
-#[test]
-fn bytes_are_read_in_one_region(rt: HostRuntime) -> Result<(), Fail> {
-    over_both(&rt, rt.alloc(), 0x5000, 0x1000, Trial::Peeks)
-}
-
-#[test]
-fn the_boot_mode_stands_in_the_hand_off_hob(rt: HostRuntime) -> Result<(), Fail> {
-    over_both(&rt, rt.alloc(), 0x4000, 0, Trial::Mode)
-}
-
-#[test]
-fn a_ppi_is_put_in_the_place_of_one_that_is_there(rt: HostRuntime) -> Result<(), Fail> {
-    over_both(&rt, rt.alloc(), 0x4000, 0, Trial::Reinstall)
+fn bytes_are_read_in_one_region(rt: HostRuntime) {
+    assert!(rt; over_both(&rt, rt.alloc(), 0x5000, 0x1000, Trial::Peeks).is_ok());
 }

@@ -9,8 +9,8 @@ use crate::calls::{core_install, create, desc, move_to, notify_new, pages, plan,
 use crate::scene::{INLINE, Of, fill, install, laid, notify, reinstall};
 use crate::told::{tells, told};
 use hob_codec::Hob;
-use pi_base::{MEMORY_PPI, Span};
-use std::alloc::{AllocError, Global};
+use pi_base::{MEMORY_PPI, OutOfMemory, Span};
+use std::alloc::Global;
 use std::test::*;
 use store_model::{DescKind, GuidFrom, PeiStore, StoreFault};
 
@@ -57,7 +57,8 @@ const PLANNED: Span = Span {
 // A stage, the bytes that are free when the call comes, the call, and the fault of its answer.
 type Row = (Stage, u32, Service, Option<StoreFault>);
 
-// The fault of an answer, and whether the store then tells what it told before. None where the scene does not come so far.
+// The fault of an answer, and whether the store then tells what it told before. None where the scene does not come so far, or memory
+// runs out.
 type Answer = Option<(Option<StoreFault>, bool)>;
 
 const PASSES: Option<StoreFault> = None;
@@ -193,79 +194,77 @@ fn bring<S: PeiStore>(store: &mut S, stage: Stage) -> bool
 }
 
 // A call of the scene: its fault, and whether the store then tells what it told before. None where so little room is not left.
-fn named_answer<S: PeiStore>(
-    alloc: Global,
-    store: &mut S,
-    left: u32,
-    call: Named,
-) -> Result<Answer, AllocError>
+fn named_answer<S: PeiStore>(alloc: Global, store: &mut S, left: u32, call: Named) -> Answer
     requires { IsLaid (S.stands_for store.old) }
 {
     if !fill(store, left) {
-        return Ok(None);
+        return None;
     }
-    let before = told(alloc, store)?;
+    let Ok(before) = told(alloc, store) else {
+        return None;
+    };
     let fault = call_named(store, call);
-    Ok(Some((fault, tells(alloc, store, before.as_slice())?)))
+    Some((fault, tells(alloc, store, before.as_slice()).ok()?))
 }
 
 // The same over the scene in a store.
-fn over_named<S: PeiStore + Drop>(
-    alloc: Global,
-    store: S,
-    left: u32,
-    call: Named,
-) -> Result<Answer, AllocError>
+fn over_named<S: PeiStore + Drop>(alloc: Global, store: S, left: u32, call: Named) -> Answer
     requires { Present (S.stands_for store) Anything }
 {
     match laid(store) {
         Some(mut store) => named_answer(alloc, &mut store, left, call),
-        None => Ok(None),
+        None => None,
     }
 }
 
 // The same in both stores.
-fn both_named(alloc: Global, left: u32, call: Named) -> Result<[Answer; 2], Fail> {
-    let lists = over_named(alloc, lists_over(alloc, 0x4000, 0)?, left, call)?;
-    let memory = over_named(alloc, store_over(alloc, 0x4000, 0)?, left, call)?;
+fn both_named(alloc: Global, left: u32, call: Named) -> Result<[Answer; 2], OutOfMemory> {
+    let lists = over_named(alloc, lists_over(alloc, 0x4000, 0)?, left, call);
+    let memory = over_named(alloc, store_over(alloc, 0x4000, 0)?, left, call);
     Ok([lists, memory])
 }
 
 // The fault comes, and the store then tells what it told before; or none does, and it tells something else.
-#[test]
-fn calls_that_name_descriptors_are_refused_in_order_and_change_nothing(
-    rt: HostRuntime,
-) -> Result<(), Fail> {
-    for (n, (left, call, fault)) in OF_THE_SCENE.iter().enumerate() {
-        let want = Some((*fault, fault.is_some()));
-        let found = both_named(rt.alloc(), *left, *call)?;
-        assert!(rt; found == [want, want], "row {n}");
+fn is_as_wanted(found: Result<[Answer; 2], OutOfMemory>, fault: Option<StoreFault>) -> bool {
+    let want = Some((fault, fault.is_some()));
+    match found {
+        Ok(found) => found == [want, want],
+        Err(_) => false,
     }
-    Ok(())
+}
+
+#[test]
+fn calls_that_name_descriptors_are_refused_in_order_and_change_nothing(rt: HostRuntime) {
+    for (n, (left, call, fault)) in OF_THE_SCENE.iter().enumerate() {
+        let found = both_named(rt.alloc(), *left, *call);
+        assert!(rt; is_as_wanted(found, *fault), "row {n}");
+    }
 }
 
 // The same of a call that names none, at a stage.
-fn answer_at<S: PeiStore>(alloc: Global, store: &mut S, row: &Row) -> Result<Answer, AllocError>
+fn answer_at<S: PeiStore>(alloc: Global, store: &mut S, row: &Row) -> Answer
     requires { Present (S.stands_for store.old) Anything }
 {
     if !bring(store, row.0) {
-        return Ok(None);
+        return None;
     }
     if !fill(store, row.1) {
-        return Ok(None);
+        return None;
     }
-    let before = told(alloc, store)?;
+    let Ok(before) = told(alloc, store) else {
+        return None;
+    };
     let fault = call(store, row.2);
-    Ok(Some((fault, tells(alloc, store, before.as_slice())?)))
+    Some((fault, tells(alloc, store, before.as_slice()).ok()?))
 }
 
 // The same over the scene in a store.
-fn over_row<S: PeiStore + Drop>(alloc: Global, store: S, row: &Row) -> Result<Answer, AllocError>
+fn over_row<S: PeiStore + Drop>(alloc: Global, store: S, row: &Row) -> Answer
     requires { Present (S.stands_for store) Anything }
 {
     match laid(store) {
         Some(mut store) => answer_at(alloc, &mut store, row),
-        None => Ok(None),
+        None => None,
     }
 }
 
@@ -280,20 +279,17 @@ fn pages_of(stage: Stage) -> u64
 }
 
 // The same in both stores.
-fn both_at(alloc: Global, row: &Row) -> Result<[Answer; 2], Fail> {
+fn both_at(alloc: Global, row: &Row) -> Result<[Answer; 2], OutOfMemory> {
     let early = pages_of(row.0);
     let len = 0x4000 + early;
-    let lists = over_row(alloc, lists_over(alloc, len, early)?, row)?;
-    let memory = over_row(alloc, store_over(alloc, len, early)?, row)?;
+    let lists = over_row(alloc, lists_over(alloc, len, early)?, row);
+    let memory = over_row(alloc, store_over(alloc, len, early)?, row);
     Ok([lists, memory])
 }
 
 #[test]
-fn refusals_come_in_their_order_and_change_nothing(rt: HostRuntime) -> Result<(), Fail> {
+fn refusals_come_in_their_order_and_change_nothing(rt: HostRuntime) {
     for (n, row) in ROWS.iter().enumerate() {
-        let want = Some((row.3, row.3.is_some()));
-        let found = both_at(rt.alloc(), row)?;
-        assert!(rt; found == [want, want], "row {n}");
+        assert!(rt; is_as_wanted(both_at(rt.alloc(), row), row.3), "row {n}");
     }
-    Ok(())
 }

@@ -12,6 +12,7 @@ use crate::calls::{
 use crate::scene::{INLINE, NAME};
 use boot_plan::MOST_TEMP;
 use hob_codec::Hob;
+use pi_base::OutOfMemory;
 use std::alloc::Global;
 use std::process::Abort;
 use std::test::*;
@@ -162,63 +163,61 @@ fn run<S: PeiStore>(rt: &impl Abort, store: &mut S, trial: Trial)
     }
 }
 
-// One of these in each store, over so many bytes of temporary RAM. Only this function owns them: each exit of an owner is dear to prove.
-fn over(rt: &impl Abort, alloc: Global, len: u64, early: u64, trial: Trial) -> Result<(), Fail>
+// One of these in a store. It is handed on whole, since each exit of an owner is dear to prove.
+fn over<S: PeiStore + Drop>(rt: &impl Abort, mut store: S, trial: Trial)
+    requires { Present (S.stands_for store) Anything }
+{
+    run(rt, &mut store, trial);
+}
+
+// The same in each store, over so many bytes of temporary RAM.
+fn over_both(
+    rt: &impl Abort,
+    alloc: Global,
+    len: u64,
+    early: u64,
+    trial: Trial,
+) -> Result<(), OutOfMemory>
     requires len { len ≤ MOST_TEMP }
     requires early { early + 64 ≤ len }
 {
-    run(rt, &mut lists_over(alloc, len, early)?, trial);
-    run(rt, &mut store_over(alloc, len, early)?, trial);
+    over(rt, lists_over(alloc, len, early)?, trial);
+    over(rt, store_over(alloc, len, early)?, trial);
     Ok(())
 }
 
-#[test]
-fn pools_are_refused_past_the_room(rt: HostRuntime) -> Result<(), Fail> {
-    over(&rt, rt.alloc(), 0x4000, 0, Trial::Pools)
-}
-
-// The length of the heap, the size of a pool, and whether it fits. A pool has at most 65,520 bytes.
-static FITS: [(u64, u32, bool); 6] = [
-    (80, 8, true),
-    (79, 8, false),
-    (80, 9, false),
-    (88, 9, true),
-    (0x1_1000, 65_520, true),
-    (0x1_1000, 65_521, false),
+// The length of the heap, and what is tried there.
+static TRIALS: [(u64, Trial); 11] = [
+    // Pools are refused past the room.
+    (0x4000, Trial::Pools),
+    // A pool fits to the byte, and has at most 65,520 bytes.
+    (80, Trial::Fit(8, true)),
+    (79, Trial::Fit(8, false)),
+    (80, Trial::Fit(9, false)),
+    (88, Trial::Fit(9, true)),
+    (0x1_1000, Trial::Fit(65_520, true)),
+    (0x1_1000, Trial::Fit(65_521, false)),
+    // A descriptor is installed twice and moves.
+    (0x1_0000, Trial::Move),
+    // Pages come from the end of memory.
+    (0x1_0000, Trial::Pages),
+    // A queued pair leaves once.
+    (0x1_0000, Trial::Queue),
+    // The volumes of HOBs are told.
+    (0x4000, Trial::Volumes),
 ];
 
 #[test]
-fn a_pool_fits_to_the_byte(rt: HostRuntime) -> Result<(), Fail> {
-    for (len, size, fits) in &FITS {
+fn both_stores_answer_as_worked_out(rt: HostRuntime) {
+    for (len, trial) in &TRIALS {
         if *len < 64 || *len > MOST_TEMP {
-            return Err("no length of a heap".into());
+            panic!(rt; "no length of a heap");
         }
-        over(&rt, rt.alloc(), *len, 0, Trial::Fit(*size, *fits))?;
+        assert!(rt; over_both(&rt, rt.alloc(), *len, 0, *trial).is_ok());
     }
-    Ok(())
 }
 
 #[test]
-fn a_descriptor_is_installed_twice_and_moves(rt: HostRuntime) -> Result<(), Fail> {
-    over(&rt, rt.alloc(), 0x1_0000, 0, Trial::Move)
-}
-
-#[test]
-fn early_pages_come_from_the_end_of_their_region(rt: HostRuntime) -> Result<(), Fail> {
-    over(&rt, rt.alloc(), 0x1_0000, 0x3000, Trial::EarlyPages)
-}
-
-#[test]
-fn pages_come_from_the_end_of_memory(rt: HostRuntime) -> Result<(), Fail> {
-    over(&rt, rt.alloc(), 0x1_0000, 0, Trial::Pages)
-}
-
-#[test]
-fn a_queued_pair_leaves_once(rt: HostRuntime) -> Result<(), Fail> {
-    over(&rt, rt.alloc(), 0x1_0000, 0, Trial::Queue)
-}
-
-#[test]
-fn the_volumes_of_hobs_are_told(rt: HostRuntime) -> Result<(), Fail> {
-    over(&rt, rt.alloc(), 0x4000, 0, Trial::Volumes)
+fn early_pages_come_from_the_end_of_their_region(rt: HostRuntime) {
+    assert!(rt; over_both(&rt, rt.alloc(), 0x1_0000, 0x3000, Trial::EarlyPages).is_ok());
 }

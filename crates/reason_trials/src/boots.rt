@@ -105,7 +105,7 @@ struct Wait<'a> {
 }
 
 // The fourth PEIM starts for one of two PPIs. The third driver comes before the first one, and no earlier than the second has given that one its protocol.
-const STARTS: [Start<'static>; 6] = [
+static STARTS: [Start<'static>; 6] = [
     Start {
         number: 0,
         phase: Phase::Pei,
@@ -152,7 +152,7 @@ const STARTS: [Start<'static>; 6] = [
 
 // A NOT would need a protocol to go; a driver with SOR lacks nothing but its request; one of two is fewer than two of three.
 // The driver without an expression stands between the last two.
-const WAITS: [Wait<'static>; 4] = [
+static WAITS: [Wait<'static>; 4] = [
     Wait {
         number: 2,
         phase: Phase::Pei,
@@ -253,30 +253,39 @@ fn try_starts(rt: &impl Abort, begun: &[Begun]) {
     }
 }
 
-fn try_waits(rt: &impl Abort, held: &[Held]) {
-    let [first, second, third, fourth, fifth] = held else {
-        panic!(rt; "{} wait", held.len());
-    };
-    assert!(rt; is_wait(first, &WAITS[0]));
-    assert!(rt; is_wait(second, &WAITS[1]));
-    assert!(rt; is_wait(third, &WAITS[2]));
-    assert!(rt; waits_for_all(fourth));
-    assert!(rt; is_wait(fifth, &WAITS[3]));
+fn are_waits(held: &[Held]) -> bool {
+    match held {
+        [first, second, third, fourth, fifth] => {
+            is_wait(first, &WAITS[0])
+                && is_wait(second, &WAITS[1])
+                && is_wait(third, &WAITS[2])
+                && waits_for_all(fourth)
+                && is_wait(fifth, &WAITS[3])
+        }
+        _ => false,
+    }
 }
 
 // Behind the move the HOB list has the hand-off HOB with 56 bytes, three descriptors with 48, three nodes with 40, the FV HOB with 24 and the end HOB with 8.
-fn try_heap(rt: &impl Abort, explained: &Explained) {
-    let moved = Moved {
-        from: 0x8000_0000,
-        to: 0x4000_0000,
-        used: 352,
-    };
-    assert!(rt; explained.moved == Some(moved));
-    assert!(rt; explained.heap == 352);
-    assert!(rt; explained.actions == 15);
-    assert!(rt; explained.result == RunEnd::Done);
-    assert!(rt; explained.reported.as_slice() == [0].as_slice());
-    assert!(rt; explained.discovered.as_slice() == [0].as_slice());
+const MOVED: Moved = Moved {
+    from: 0x8000_0000,
+    to: 0x4000_0000,
+    used: 352,
+};
+
+fn has_ended(explained: &Explained) -> bool {
+    explained.moved == Some(MOVED)
+        && explained.heap == 352
+        && explained.actions == 15
+        && explained.result == RunEnd::Done
+        && explained.reported.as_slice() == [0].as_slice()
+        && explained.discovered.as_slice() == [0].as_slice()
+}
+
+fn try_told(rt: &impl Abort, told: &Explained) {
+    try_starts(rt, told.begun.as_slice());
+    assert!(rt; are_waits(told.held.as_slice()));
+    assert!(rt; has_ended(told));
 }
 
 fn plan_of(rt: &impl Abort, alloc: Global) -> Plan
@@ -364,46 +373,48 @@ fn explained_by(
 }
 
 #[test]
-fn a_boot_tells_why_each_module_starts_or_waits(rt: HostRuntime) -> Result<(), Fail> {
+fn a_boot_tells_why_each_module_starts_or_waits(rt: HostRuntime) {
     let plan = plan_of(&rt, rt.alloc());
     let told = explained(&rt, rt.alloc(), &plan);
-    try_starts(&rt, told.begun.as_slice());
-    try_waits(&rt, told.held.as_slice());
-    try_heap(&rt, &told);
+    try_told(&rt, &told);
     drop(told);
     drop(plan);
-    Ok(())
 }
 
-// The other starts are as they were: the fourth PEIM asks for nothing that the second gives.
-#[test]
-fn a_boot_in_another_order_tells_its_own_starts(rt: HostRuntime) -> Result<(), Fail> {
-    let plan = plan_of(&rt, rt.alloc());
-    let reached = explained_by(&rt, rt.alloc(), &plan, &FourthEarly { most: 6 });
-    let Reached::End(told) = reached else {
-        panic!(rt; "an end");
-    };
-    let [first, second, third, ..] = told.begun.as_slice() else {
-        panic!(rt; "three starts");
-    };
-    assert!(rt; told.begun.len() == STARTS.len());
-    assert!(rt; is_start(first, &STARTS[0]));
-    assert!(rt; is_start(second, &STARTS[2]));
-    assert!(rt; is_start(third, &STARTS[1]));
-    drop(told);
-    drop(plan);
-    Ok(())
+// Whether the fourth PEIM comes before the second, and as many starts as ever.
+fn are_other_starts(begun: &[Begun]) -> bool {
+    match begun {
+        [first, second, third, ..] => {
+            begun.len() == STARTS.len()
+                && is_start(first, &STARTS[0])
+                && is_start(second, &STARTS[2])
+                && is_start(third, &STARTS[1])
+        }
+        _ => false,
+    }
 }
 
-// The first driver is scheduled beside the third, and is barred all the same.
+// The number of the module before whose start a boot in that order is left; none where it comes to its end with the other starts.
+fn left_at(rt: &impl Abort, alloc: Global, plan: &Plan, choice: &FourthEarly) -> Option<u32>
+    requires { IsPlanInRange plan.now }
+{
+    match explained_by(rt, alloc, plan, choice) {
+        Reached::End(told) => {
+            assert!(rt; are_other_starts(told.begun.as_slice()));
+            None
+        }
+        Reached::Barred(number) => Some(number),
+    }
+}
+
+// The other starts are as they were: the fourth PEIM asks for nothing that the second gives. With one start fewer the boot is left before
+// the first driver, which is scheduled beside the third, and is barred all the same.
 #[test]
-fn a_boot_is_left_before_a_start_that_is_not_let(rt: HostRuntime) -> Result<(), Fail> {
+fn a_boot_in_another_order_tells_its_own_starts_and_is_left_before_one_that_is_not_let(
+    rt: HostRuntime,
+) {
     let plan = plan_of(&rt, rt.alloc());
-    let reached = explained_by(&rt, rt.alloc(), &plan, &FourthEarly { most: 5 });
-    let Reached::Barred(number) = reached else {
-        panic!(rt; "a start that is barred");
-    };
-    assert!(rt; number == 4);
+    assert!(rt; left_at(&rt, rt.alloc(), &plan, &FourthEarly { most: 6 }).is_none());
+    assert!(rt; left_at(&rt, rt.alloc(), &plan, &FourthEarly { most: 5 }) == Some(4));
     drop(plan);
-    Ok(())
 }

@@ -87,28 +87,11 @@ fn are_read_as(alloc: Global, rows: &[(bool, &str, &str)]) -> bool {
 }
 
 #[test]
-fn the_first_forty_are_read_as_gendepex_reads_them(rt: HostRuntime) {
-    assert!(rt; are_read_as(rt.alloc(), &FIRST));
-}
-
-#[test]
-fn the_second_forty_are_read_as_gendepex_reads_them(rt: HostRuntime) {
-    assert!(rt; are_read_as(rt.alloc(), &SECOND));
-}
-
-#[test]
-fn the_third_forty_are_read_as_gendepex_reads_them(rt: HostRuntime) {
-    assert!(rt; are_read_as(rt.alloc(), &THIRD));
-}
-
-#[test]
-fn the_fourth_forty_are_read_as_gendepex_reads_them(rt: HostRuntime) {
-    assert!(rt; are_read_as(rt.alloc(), &FOURTH));
-}
-
-#[test]
-fn the_fifth_forty_are_read_as_gendepex_reads_them(rt: HostRuntime) {
-    assert!(rt; are_read_as(rt.alloc(), &FIFTH));
+fn two_hundred_are_read_as_gendepex_reads_them(rt: HostRuntime) {
+    let alloc = rt.alloc();
+    assert!(rt; are_read_as(alloc, &FIRST) && are_read_as(alloc, &SECOND));
+    assert!(rt; are_read_as(alloc, &THIRD) && are_read_as(alloc, &FOURTH));
+    assert!(rt; are_read_as(alloc, &FIFTH));
 }
 
 /// Expressions in other spellings of their words.

@@ -241,17 +241,11 @@ fn prints(alloc: Global, text: &str, printed: &str) -> bool {
     }
 }
 
+// The printed text makes a volume that is printed alike.
 #[test]
 fn volumes_are_printed_line_by_line(rt: HostRuntime) {
     for (text, printed) in &PRINTED {
-        assert!(rt; prints(rt.alloc(), text, printed));
-    }
-}
-
-#[test]
-fn a_printed_text_makes_a_volume_that_is_printed_alike(rt: HostRuntime) {
-    for (_, printed) in &PRINTED {
-        assert!(rt; prints(rt.alloc(), printed, printed));
+        assert!(rt; prints(rt.alloc(), text, printed) && prints(rt.alloc(), printed, printed));
     }
 }
 

@@ -7,7 +7,7 @@ use std::test::*;
 use volume_text::{Cause, Fault, TextFault, volume_of};
 
 /// `examples/every-service/late.volume`.
-static EVERY_SERVICE_LATE_TEXT: &str = "# A volume that a driver processes.\n\
+const EVERY_SERVICE_LATE_TEXT: &str = "# A volume that a driver processes.\n\
 volume 1024\n\
 \n\
 file driver 00000001-0000-4000-8000-000000000014\n\
@@ -22,7 +22,7 @@ end\n\
 ";
 
 /// `examples/every-service/late.fv`, without the bytes 0xff at its end.
-static EVERY_SERVICE_LATE_FRONT: [u8; 143] = [
+const EVERY_SERVICE_LATE_FRONT: [u8; 143] = [
     0, 0, 0, 0, 0, 0, 0, 0, 0, 0, 0, 0, 0, 0, 0, 0, 120, 229, 140, 140, 61, 138, 28, 79, 153, 53,
     137, 97, 133, 195, 45, 211, 0, 4, 0, 0, 0, 0, 0, 0, 95, 70, 86, 72, 0, 8, 0, 0, 72, 0, 209,
     229, 0, 0, 0, 2, 1, 0, 0, 0, 0, 4, 0, 0, 0, 0, 0, 0, 0, 0, 0, 0, 1, 0, 0, 0, 0, 0, 0, 64, 128,
@@ -32,7 +32,7 @@ static EVERY_SERVICE_LATE_FRONT: [u8; 143] = [
 ];
 
 /// `examples/script-booted/boot.volume`.
-static SCRIPT_BOOTED_BOOT_TEXT: &str =
+const SCRIPT_BOOTED_BOOT_TEXT: &str =
     "# One PEIM without an expression, with the script of ../script-as-text/script.txt.\n\
 volume 4096\n\
 file peim 00000001-0000-4000-8000-000000000001\n\
@@ -49,7 +49,7 @@ end\n\
 ";
 
 /// `examples/script-booted/boot.fv`, without the bytes 0xff at its end.
-static SCRIPT_BOOTED_BOOT_FRONT: [u8; 165] = [
+const SCRIPT_BOOTED_BOOT_FRONT: [u8; 165] = [
     0, 0, 0, 0, 0, 0, 0, 0, 0, 0, 0, 0, 0, 0, 0, 0, 120, 229, 140, 140, 61, 138, 28, 79, 153, 53,
     137, 97, 133, 195, 45, 211, 0, 16, 0, 0, 0, 0, 0, 0, 95, 70, 86, 72, 0, 8, 0, 0, 72, 0, 209,
     205, 0, 0, 0, 2, 1, 0, 0, 0, 0, 16, 0, 0, 0, 0, 0, 0, 0, 0, 0, 0, 1, 0, 0, 0, 0, 0, 0, 64, 128,
@@ -60,7 +60,7 @@ static SCRIPT_BOOTED_BOOT_FRONT: [u8; 165] = [
 ];
 
 /// `examples/memory-move/boot.volume`.
-static MEMORY_MOVE_BOOT_TEXT: &str =
+const MEMORY_MOVE_BOOT_TEXT: &str =
     "# One PEIM that installs a PPI with a notification waiting for it, and says where permanent memory is.\n\
 # The notification is queued before the memory moves, and runs after it.\n\
 volume 4096\n\
@@ -86,7 +86,7 @@ end\n\
 ";
 
 /// `examples/memory-move/boot.fv`, without the bytes 0xff at its end.
-static MEMORY_MOVE_BOOT_FRONT: [u8; 200] = [
+const MEMORY_MOVE_BOOT_FRONT: [u8; 200] = [
     0, 0, 0, 0, 0, 0, 0, 0, 0, 0, 0, 0, 0, 0, 0, 0, 120, 229, 140, 140, 61, 138, 28, 79, 153, 53,
     137, 97, 133, 195, 45, 211, 0, 16, 0, 0, 0, 0, 0, 0, 95, 70, 86, 72, 0, 8, 0, 0, 72, 0, 209,
     205, 0, 0, 0, 2, 1, 0, 0, 0, 0, 16, 0, 0, 0, 0, 0, 0, 0, 0, 0, 0, 0, 0, 0, 0, 0, 0, 0, 0, 0, 0,
@@ -97,7 +97,7 @@ static MEMORY_MOVE_BOOT_FRONT: [u8; 200] = [
 ];
 
 /// A volume of FFS3 with a name, as other spellings of words have it.
-static NAMED_TEXT: &str = "# A volume with a name, of FFS3.\r\n\
+const NAMED_TEXT: &str = "# A volume with a name, of FFS3.\r\n\
 volume 512 ffs3\r\n\
   name B5A1C0DE-93f0-4a5d-8d11-6e2f40715c33\r\n\
 \tfile peim {00000001-0000-4000-8000-000000000001}\r\n\
@@ -105,7 +105,7 @@ volume 512 ffs3\r\n\
 end";
 
 /// Its bytes, without the bytes 0xff at their end, by the tables of `docs/FORMATS.md`.
-static NAMED_FRONT: [u8; 169] = [
+const NAMED_FRONT: [u8; 169] = [
     0, 0, 0, 0, 0, 0, 0, 0, 0, 0, 0, 0, 0, 0, 0, 0, 122, 192, 115, 84, 203, 61, 202, 77, 189, 111,
     30, 150, 137, 231, 52, 154, 0, 2, 0, 0, 0, 0, 0, 0, 95, 70, 86, 72, 0, 8, 0, 0, 72, 0, 136, 58,
     96, 0, 0, 2, 1, 0, 0, 0, 0, 2, 0, 0, 0, 0, 0, 0, 0, 0, 0, 0, 255, 255, 255, 255, 255, 255, 255,
@@ -116,14 +116,14 @@ static NAMED_FRONT: [u8; 169] = [
 ];
 
 /// A volume with a longer header, and a name at a place of its own with room behind it.
-static PLACED_TEXT: &str = "volume 256 ffs2 header 0x50\n\
+const PLACED_TEXT: &str = "volume 256 ffs2 header 0x50\n\
 name B5A1C0DE-93f0-4a5d-8d11-6e2f40715c33 at 88 size 22\n\
 file raw 00000001-0000-4000-8000-000000000001\n\
 body 010203\n\
 end\n";
 
 /// Its bytes, without the bytes 0xff at their end, by the tables of `docs/FORMATS.md`: the extended header ends at 110, and the file begins at 112.
-static PLACED_FRONT: [u8; 139] = [
+const PLACED_FRONT: [u8; 139] = [
     0, 0, 0, 0, 0, 0, 0, 0, 0, 0, 0, 0, 0, 0, 0, 0, 120, 229, 140, 140, 61, 138, 28, 79, 153, 53,
     137, 97, 133, 195, 45, 211, 0, 1, 0, 0, 0, 0, 0, 0, 95, 70, 86, 72, 0, 8, 0, 0, 80, 0, 113,
     235, 88, 0, 0, 2, 1, 0, 0, 0, 0, 1, 0, 0, 0, 0, 0, 0, 0, 0, 0, 0, 0, 0, 0, 0, 0, 0, 0, 0, 255,
@@ -133,14 +133,14 @@ static PLACED_FRONT: [u8; 139] = [
 ];
 
 /// A volume with a pad file.
-static PADDED_TEXT: &str = "volume 256\n\
+const PADDED_TEXT: &str = "volume 256\n\
 pad 8\n\
 file raw 00000001-0000-4000-8000-000000000001\n\
 raw 0102\n\
 end\n";
 
 /// Its bytes, without the bytes 0xff at their end, by the tables of `docs/FORMATS.md`: the pad file's body is erased.
-static PADDED_FRONT: [u8; 134] = [
+const PADDED_FRONT: [u8; 134] = [
     0, 0, 0, 0, 0, 0, 0, 0, 0, 0, 0, 0, 0, 0, 0, 0, 120, 229, 140, 140, 61, 138, 28, 79, 153, 53,
     137, 97, 133, 195, 45, 211, 0, 1, 0, 0, 0, 0, 0, 0, 95, 70, 86, 72, 0, 8, 0, 0, 72, 0, 209,
     235, 0, 0, 0, 2, 1, 0, 0, 0, 0, 1, 0, 0, 0, 0, 0, 0, 0, 0, 0, 0, 255, 255, 255, 255, 255, 255,
@@ -150,13 +150,13 @@ static PADDED_FRONT: [u8; 134] = [
 ];
 
 /// A volume with attributes, and a file with attributes whose body is no sections.
-static MARKED_TEXT: &str = "volume 256 ffs2 attributes 0x4feff\n\
+const MARKED_TEXT: &str = "volume 256 ffs2 attributes 0x4feff\n\
 file raw 00000001-0000-4000-8000-000000000001 fixed align 128\n\
 body 01020304 05\n\
 end\n";
 
 /// Its bytes, without the bytes 0xff at their end, by the tables of `docs/FORMATS.md`: 0x04 is `fixed`, and 0x10 an alignment of 128.
-static MARKED_FRONT: [u8; 101] = [
+const MARKED_FRONT: [u8; 101] = [
     0, 0, 0, 0, 0, 0, 0, 0, 0, 0, 0, 0, 0, 0, 0, 0, 120, 229, 140, 140, 61, 138, 28, 79, 153, 53,
     137, 97, 133, 195, 45, 211, 0, 1, 0, 0, 0, 0, 0, 0, 95, 70, 86, 72, 255, 254, 4, 0, 72, 0, 206,
     244, 0, 0, 0, 2, 1, 0, 0, 0, 0, 1, 0, 0, 0, 0, 0, 0, 0, 0, 0, 0, 1, 0, 0, 0, 0, 0, 0, 64, 128,
@@ -164,7 +164,7 @@ static MARKED_FRONT: [u8; 101] = [
 ];
 
 /// `examples/audit/main.volume`.
-static AUDIT_MAIN_TEXT: &str =
+const AUDIT_MAIN_TEXT: &str =
     "# A main volume: drivers with each form of expression that DXE alone has, and a volume in a file.\n\
 volume 8192\n\
 \n\
@@ -191,7 +191,7 @@ end\n\
 ";
 
 /// `examples/audit/main.fv`, without the bytes 0xff at its end.
-static AUDIT_MAIN_FRONT: [u8; 1254] = [
+const AUDIT_MAIN_FRONT: [u8; 1254] = [
     0, 0, 0, 0, 0, 0, 0, 0, 0, 0, 0, 0, 0, 0, 0, 0, 120, 229, 140, 140, 61, 138, 28, 79, 153, 53,
     137, 97, 133, 195, 45, 211, 0, 32, 0, 0, 0, 0, 0, 0, 95, 70, 86, 72, 0, 8, 0, 0, 72, 0, 209,
     173, 0, 0, 0, 2, 1, 0, 0, 0, 0, 32, 0, 0, 0, 0, 0, 0, 0, 0, 0, 0, 246, 237, 166, 17, 190, 169,
@@ -539,45 +539,26 @@ fn makes(alloc: Global, text: &str, len: usize, front: &[u8]) -> bool {
     }
 }
 
-#[test]
-fn texts_of_the_examples_make_their_volumes(rt: HostRuntime) {
-    assert!(rt;
-        makes(
-            rt.alloc(),
-            EVERY_SERVICE_LATE_TEXT,
-            1024,
-            &EVERY_SERVICE_LATE_FRONT
-        )
-    );
-    assert!(rt;
-        makes(
-            rt.alloc(),
-            SCRIPT_BOOTED_BOOT_TEXT,
-            4096,
-            &SCRIPT_BOOTED_BOOT_FRONT
-        )
-    );
-    assert!(rt;
-        makes(
-            rt.alloc(),
-            MEMORY_MOVE_BOOT_TEXT,
-            4096,
-            &MEMORY_MOVE_BOOT_FRONT
-        )
-    );
-    assert!(rt; makes(rt.alloc(), AUDIT_MAIN_TEXT, 8192, &AUDIT_MAIN_FRONT));
-}
+/// Texts, the length of the volume that each makes, and its front.
+static MADE: [(&str, usize, &[u8]); 8] = [
+    // The examples.
+    (EVERY_SERVICE_LATE_TEXT, 1024, &EVERY_SERVICE_LATE_FRONT),
+    (SCRIPT_BOOTED_BOOT_TEXT, 4096, &SCRIPT_BOOTED_BOOT_FRONT),
+    (MEMORY_MOVE_BOOT_TEXT, 4096, &MEMORY_MOVE_BOOT_FRONT),
+    (AUDIT_MAIN_TEXT, 8192, &AUDIT_MAIN_FRONT),
+    // Names and pads.
+    (NAMED_TEXT, 512, &NAMED_FRONT),
+    (PLACED_TEXT, 256, &PLACED_FRONT),
+    (PADDED_TEXT, 256, &PADDED_FRONT),
+    // Attributes and bodies.
+    (MARKED_TEXT, 256, &MARKED_FRONT),
+];
 
 #[test]
-fn names_and_pads_have_their_bytes(rt: HostRuntime) {
-    assert!(rt; makes(rt.alloc(), NAMED_TEXT, 512, &NAMED_FRONT));
-    assert!(rt; makes(rt.alloc(), PLACED_TEXT, 256, &PLACED_FRONT));
-    assert!(rt; makes(rt.alloc(), PADDED_TEXT, 256, &PADDED_FRONT));
-}
-
-#[test]
-fn attributes_and_bodies_have_their_bytes(rt: HostRuntime) {
-    assert!(rt; makes(rt.alloc(), MARKED_TEXT, 256, &MARKED_FRONT));
+fn texts_make_their_volumes(rt: HostRuntime) {
+    for (text, len, front) in &MADE {
+        assert!(rt; makes(rt.alloc(), text, *len, front));
+    }
 }
 
 #[test]

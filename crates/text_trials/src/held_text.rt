@@ -21,13 +21,19 @@ fn behind(text: &[u8], first: &[u8], second: &[u8]) -> (usize, Option<usize>, u3
     (held.met().len(), next, held.line(), held.is_at_end())
 }
 
+/// Two pieces, and what is told behind them.
+static PIECES: [(&[u8], &[u8], (usize, Option<usize>, u32, bool)); 6] = [
+    (b"", b"", (0, Some(2), 1, false)),
+    (b"ab\n", b"c", (4, Some(1), 2, false)),
+    (b"ab\n", b"cd\n", (6, None, 3, false)),
+    (b"ab\ncd\n", b"ef", (8, None, 3, true)),
+    (b"ab\ncd\nef", b"\n", (8, None, 3, false)),
+    (b"ab\nd", b"cd\n", (3, None, 2, false)),
+];
+
 #[test]
-fn pieces_are_held_against_a_text(rt: HostRuntime) -> Result<(), Fail> {
-    assert!(rt; behind(TEXT, b"", b"") == (0, Some(2), 1, false));
-    assert!(rt; behind(TEXT, b"ab\n", b"c") == (4, Some(1), 2, false));
-    assert!(rt; behind(TEXT, b"ab\n", b"cd\n") == (6, None, 3, false));
-    assert!(rt; behind(TEXT, b"ab\ncd\n", b"ef") == (8, None, 3, true));
-    assert!(rt; behind(TEXT, b"ab\ncd\nef", b"\n") == (8, None, 3, false));
-    assert!(rt; behind(TEXT, b"ab\nd", b"cd\n") == (3, None, 2, false));
-    Ok(())
+fn pieces_are_held_against_a_text(rt: HostRuntime) {
+    for (first, second, told) in &PIECES {
+        assert!(rt; behind(TEXT, first, second) == *told);
+    }
 }

@@ -154,11 +154,6 @@ static PLANS: [(&[u8], Fault); 20] = [
     ),
 ];
 
-#[test]
-fn a_plan_is_refused_at_its_first_bad_line(rt: HostRuntime) {
-    check(&rt, rt.alloc(), b"", &PLANS);
-}
-
 /// The same of lines behind the usual plan.
 static LINES: [(&[u8], Fault); 44] = [
     (b"fuel 1", None),
@@ -207,11 +202,6 @@ static LINES: [(&[u8], Fault); 44] = [
     (b"volume 0x100004 a", Some((4, Limit))),
 ];
 
-#[test]
-fn lines_behind_a_plan_are_read(rt: HostRuntime) {
-    check(&rt, rt.alloc(), USUAL, &LINES);
-}
-
 /// Single lines of memory.
 static MEMORY: [(&[u8], Fault); 14] = [
     (b"temp 0x80000000 0x3000", Some((1, Limit))),
@@ -231,7 +221,9 @@ static MEMORY: [(&[u8], Fault); 14] = [
 ];
 
 #[test]
-fn memory_keeps_within_its_limits(rt: HostRuntime) {
+fn a_plan_is_refused_at_its_first_bad_line(rt: HostRuntime) {
+    check(&rt, rt.alloc(), b"", &PLANS);
+    check(&rt, rt.alloc(), USUAL, &LINES);
     check(&rt, rt.alloc(), b"", &MEMORY);
 }
 

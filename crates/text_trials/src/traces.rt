@@ -68,6 +68,8 @@ fn each_form_is_read(rt: HostRuntime) {
     for text in &FORMS {
         assert!(rt; count_of(rt.alloc(), text) == Some(1), "{text:?}");
     }
+    // No bytes are no lines.
+    assert!(rt; count_of(rt.alloc(), b"") == Some(0));
 }
 
 /// Fields of a line.
@@ -192,9 +194,4 @@ fn the_first_line_of_no_form_is_told(rt: HostRuntime) {
         let fault = read(rt.alloc(), text).err();
         assert!(rt; fault == Some(TraceFault::Bad { line: *line }), "{text:?}");
     }
-}
-
-#[test]
-fn no_bytes_are_no_lines(rt: HostRuntime) {
-    assert!(rt; count_of(rt.alloc(), b"") == Some(0));
 }

@@ -151,10 +151,7 @@ fn one_peim_is_built_byte_by_byte(rt: HostRuntime) {
         (52, &ONE_PEIM[52..]),
     ];
     assert!(rt; is_built(ffs3(rt.alloc(), &files, 4096), &parts, 115, 4096));
-}
-
-#[test]
-fn a_volume_without_files_is_its_header(rt: HostRuntime) {
+    // A volume without files is its header.
     assert!(rt; is_built(ffs2(rt.alloc(), &[], 72), &[], 72, 72));
 }
 
@@ -182,11 +179,6 @@ static PLACES: [(usize, &[u8]); 4] = [
     ),
 ];
 
-#[test]
-fn files_and_sections_stand_at_their_places(rt: HostRuntime) {
-    assert!(rt; is_built(three_files(rt.alloc()), &PLACES, 175, 200));
-}
-
 /// What is listed of it: the pad is no file.
 static LISTED: [FfsFile; 2] = [
     FfsFile {
@@ -206,9 +198,12 @@ static LISTED: [FfsFile; 2] = [
 ];
 
 #[test]
-fn what_is_built_is_listed(rt: HostRuntime) {
+fn files_and_sections_stand_at_their_places_and_are_listed(rt: HostRuntime) {
     match three_files(rt.alloc()) {
-        Ok(volume) => assert!(rt; lists(rt.alloc(), volume.as_slice(), 200, None, &LISTED)),
+        Ok(volume) => {
+            assert!(rt; has(&volume, &PLACES, 175, 200));
+            assert!(rt; lists(rt.alloc(), volume.as_slice(), 200, None, &LISTED));
+        }
         Err(_) => panic!(rt; "a volume"),
     }
 }

@@ -8,7 +8,7 @@ use fv_volume::file_type;
 use pi_base::{Guid, OutOfMemory, Seq};
 use std::alloc::Global;
 use std::process::Abort;
-use std::test::Fail;
+use std::test::*;
 
 /// A file and its sections, of which those that are empty are left out.
 #[derive(Clone, Copy)]
@@ -93,61 +93,57 @@ fn put_expression(text: &mut Seq<u8>, module: &Module<'_>) -> Result<(), OutOfMe
 }
 
 // The bytes of an expression's text.
-fn depex_of(alloc: Global, text: &[u8]) -> Result<Seq<u8>, Fail> {
+fn depex_of(rt: &impl Abort, alloc: Global, text: &[u8]) -> Seq<u8> {
     let Ok(depex) = parse_depex(alloc, text) else {
-        return Err(Fail::new("the text of an expression"));
+        panic!(rt; "the text of an expression");
     };
     match write_depex(alloc, &depex) {
-        Ok(bytes) => Ok(bytes),
-        Err(_) => Err(Fail::new("memory for an expression")),
+        Ok(bytes) => bytes,
+        Err(_) => panic!(rt; "memory for an expression"),
     }
 }
 
 // The bytes of a module's expression.
-fn expression_of(rt: &impl Abort, alloc: Global, module: &Module<'_>) -> Result<Seq<u8>, Fail> {
+fn expression_of(rt: &impl Abort, alloc: Global, module: &Module<'_>) -> Seq<u8> {
     let mut text = Seq::new(alloc);
     assert!(rt; put_expression(&mut text, module).is_ok());
     if module.expression.is_empty() {
-        return Ok(text);
+        return text;
     }
-    depex_of(alloc, text.as_slice())
+    depex_of(rt, alloc, text.as_slice())
 }
 
 // The bytes of a module's script.
-fn script_of(alloc: Global, module: &Module<'_>) -> Result<Seq<u8>, Fail> {
+fn script_of(rt: &impl Abort, alloc: Global, module: &Module<'_>) -> Seq<u8> {
     if module.script.is_empty() {
-        return Ok(Seq::new(alloc));
+        return Seq::new(alloc);
     }
     let Ok(script) = parse_script(alloc, module.script.as_bytes()) else {
-        return Err(Fail::new("the text of a script"));
+        panic!(rt; "the text of a script");
     };
     match write_script(alloc, &script) {
-        Ok(bytes) => Ok(bytes),
-        Err(_) => Err(Fail::new("a script in its limits")),
+        Ok(bytes) => bytes,
+        Err(_) => panic!(rt; "a script in its limits"),
     }
 }
 
-fn guid_of(text: &str) -> Result<Guid, Fail> {
-    match Guid::from_text(text.as_bytes()) {
-        Some(guid) => Ok(guid),
-        None => Err(Fail::new("the text of a GUID")),
-    }
+fn guid_of(rt: &impl Abort, text: &str) -> Guid {
+    Guid::from_text(text.as_bytes()).expect(rt, "the text of a GUID")
 }
 
 // Adds the GUIDs of an a priori list and the bytes behind them.
-fn put_list(bytes: &mut Seq<u8>, module: &Module<'_>) -> Result<(), Fail> {
+fn put_list(rt: &impl Abort, bytes: &mut Seq<u8>, module: &Module<'_>) {
     for name in module.list {
-        let guid = guid_of(name)?;
-        bytes.append(&guid.0)?;
+        assert!(rt; bytes.append(&guid_of(rt, name).0).is_ok());
     }
-    Ok(bytes.append(module.behind)?)
+    assert!(rt; bytes.append(module.behind).is_ok());
 }
 
 // The bytes of an a priori list.
-fn list_of(alloc: Global, module: &Module<'_>) -> Result<Seq<u8>, Fail> {
+fn list_of(rt: &impl Abort, alloc: Global, module: &Module<'_>) -> Seq<u8> {
     let mut bytes = Seq::new(alloc);
-    put_list(&mut bytes, module)?;
-    Ok(bytes)
+    put_list(rt, &mut bytes, module);
+    bytes
 }
 
 // Adds a section, unless it is empty.
@@ -157,36 +153,39 @@ fn put_section(rt: &impl Abort, sections: &mut Seq<NewSection>, kind: u8, body: 
     }
 }
 
-fn file_of(rt: &impl Abort, alloc: Global, module: &Module<'_>) -> Result<NewFile, Fail> {
+fn file_of(rt: &impl Abort, alloc: Global, module: &Module<'_>) -> NewFile {
     let mut sections = Seq::new(alloc);
-    let expression = expression_of(rt, alloc, module)?;
-    put_section(rt, &mut sections, module.depex, expression);
-    put_section(rt, &mut sections, RAW, script_of(alloc, module)?);
-    put_section(rt, &mut sections, RAW, list_of(alloc, module)?);
-    Ok(NewFile {
-        name: guid_of(module.name)?,
+    put_section(
+        rt,
+        &mut sections,
+        module.depex,
+        expression_of(rt, alloc, module),
+    );
+    put_section(rt, &mut sections, RAW, script_of(rt, alloc, module));
+    put_section(rt, &mut sections, RAW, list_of(rt, alloc, module));
+    NewFile {
+        name: guid_of(rt, module.name),
         kind: module.kind,
         attributes: FileAttributes::new(),
         body: Body::Sections(sections),
-    })
+    }
 }
 
-fn files_of(rt: &impl Abort, alloc: Global, modules: &[Module<'_>]) -> Result<Seq<NewFile>, Fail> {
+fn files_of(rt: &impl Abort, alloc: Global, modules: &[Module<'_>]) -> Seq<NewFile> {
     let mut files = Seq::new(alloc);
     for module in modules {
-        let file = file_of(rt, alloc, module)?;
-        assert!(rt; files.push(file).is_ok());
+        assert!(rt; files.push(file_of(rt, alloc, module)).is_ok());
     }
-    Ok(files)
+    files
 }
 
-fn built(alloc: Global, files: &[NewFile], len: u64) -> Result<Seq<u8>, Fail> {
+fn built(rt: &impl Abort, alloc: Global, files: &[NewFile], len: u64) -> Seq<u8> {
     if len < HEADER_LEN as u64 || MOST_LEN < len {
-        return Err(Fail::new("a volume's length"));
+        panic!(rt; "a volume's length");
     }
     match build_volume(alloc, files, len) {
-        Ok(volume) => Ok(volume),
-        Err(_) => Err(Fail::new("files that have room")),
+        Ok(volume) => volume,
+        Err(_) => panic!(rt; "files that have room"),
     }
 }
 
@@ -196,23 +195,21 @@ pub(super) fn image_of(
     alloc: Global,
     modules: &[Module<'_>],
     len: u64,
-) -> Result<Seq<u8>, Fail> {
-    let files = files_of(rt, alloc, modules)?;
-    built(alloc, files.as_slice(), len)
+) -> Seq<u8> {
+    built(rt, alloc, files_of(rt, alloc, modules).as_slice(), len)
 }
 
 // The file that holds the volume of some files.
-fn nest(rt: &impl Abort, alloc: Global, nested: &[Module<'_>]) -> Result<NewFile, Fail> {
-    let name = guid_of(NEST)?;
-    let body = image_of(rt, alloc, nested, NESTED_LEN)?;
+fn nest(rt: &impl Abort, alloc: Global, nested: &[Module<'_>]) -> NewFile {
+    let body = image_of(rt, alloc, nested, NESTED_LEN);
     let mut sections = Seq::new(alloc);
     put_section(rt, &mut sections, VOLUME_IMAGE, body);
-    Ok(NewFile {
-        name,
+    NewFile {
+        name: guid_of(rt, NEST),
         kind: file_type::VOLUME_IMAGE,
         attributes: FileAttributes::new(),
         body: Body::Sections(sections),
-    })
+    }
 }
 
 /// The volume of some files and, behind them, a file that holds the volume of others.
@@ -222,9 +219,8 @@ pub(super) fn nest_of(
     modules: &[Module<'_>],
     nested: &[Module<'_>],
     len: u64,
-) -> Result<Seq<u8>, Fail> {
-    let mut files = files_of(rt, alloc, modules)?;
-    let nest = nest(rt, alloc, nested)?;
-    assert!(rt; files.push(nest).is_ok());
-    built(alloc, files.as_slice(), len)
+) -> Seq<u8> {
+    let mut files = files_of(rt, alloc, modules);
+    assert!(rt; files.push(nest(rt, alloc, nested)).is_ok());
+    built(rt, alloc, files.as_slice(), len)
 }
