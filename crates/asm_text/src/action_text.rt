@@ -120,7 +120,8 @@ fn put_small(out: &mut Seq<u8>, code: Code, n: u8) -> Result<(), OutOfMemory>
 
 // Adds what a descriptor is of, its GUID and its last operand.
 fn put_descriptor(out: &mut Seq<u8>, kind: u8, guid: &GuidArg, arg: u8) -> Result<(), OutOfMemory>
-    ensures { OnOk result (out.new ≡ out.old ++ (spaced (kind_word kind) ++ (flat_map spaced (guid_words guid.now) ++ flat_map spaced (last_words kind arg)))) }
+    ensures { OnOk result (out.new
+        ≡ out.old ++ (spaced (kind_word kind) ++ (flat_map spaced (guid_words guid.now) ++ flat_map spaced (last_words kind arg)))) }
 {
     put_word(out, kind_word(kind))?;
     put_guid(out, guid)?;
