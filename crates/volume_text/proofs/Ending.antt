@@ -14,10 +14,12 @@ use Rattle.volume_text.specs.declared.fault.TextFault.TheVariants as text_fault
 use Rattle.volume_text.specs.declared.statement.Statement.{Statement}
 use Rattle.volume_text.specs.declared.volume.OpenVolume.{OpenVolume}
 use Rattle.volume_text.specs.declared.step.State.{State}
-use Rattle.volume_text.specs.Reading.{Stops, StopsAs, StopsText, Answers, at}
+use Rattle.volume_text.specs.declared.step.State.TheVariants.{Begin, Filling, Writing, Done}
+use Rattle.volume_text.specs.declared.fault.Cause.{Cause}
+use Rattle.volume_text.specs.Reading.{◌>>=◌, Stops, StopsAs, StopsText, Answers, at}
 use Rattle.volume_text.specs.Line.{Reads}
-use Rattle.volume_text.specs.Script.{last_block, script_of, IsScriptBody}
-use Rattle.volume_text.specs.Step.{section_of, filling, at_line, EndsScript, Takes, Steps}
+use Rattle.volume_text.specs.Script.{last_block, script_of, with_block, IsScriptBody}
+use Rattle.volume_text.specs.Step.{IsSaidState, section_of, filling, at_line, EndsScript, Takes, Steps}
 use Rattle.volume_text.proofs.Lasts.{last_is}
 
 -- the last of a list, and the others
@@ -37,6 +39,20 @@ pub with_said : (script : Script) (others blocks : List (List Action)) (last lon
 with_said script others blocks last longer one found said is more all =
     let whole = subst (All (All (IsSaid script.phase))) (last_is script.blocks (others, last) found) said in
     rw (all, more) (said_more (IsSaid script.phase) others last one whole is)
+
+-- the actions of the script with one more block
+pub block_said : (script : Script) → AreSaid script → AreSaid (with_block script)
+block_said script said =
+    let P : Action → Type 0 = IsSaid script.phase in
+    All-append (All P) script.blocks ([] ∷ []) said (All-cons (All P) [] [] (All-nil P) (All-nil (All P)))
+
+-- where a volume goes on, no script is open
+pub goes_on_said : (below : List OpenVolume) (top : Result OpenVolume Cause) (state : State) → (top >>= (λ last. Ok (Filling below last))) ≡ Ok state → IsSaidState state
+goes_on_said below (Ok last) (Writing b t script lines) e = absurd cc
+goes_on_said below (Err why) (Writing b t script lines) e = absurd cc
+goes_on_said below top Begin e = tt
+goes_on_said below top (Filling b t) e = tt
+goes_on_said below top (Done bytes) e = tt
 
 -- the end of a script
 pub ended_stops : (below : List OpenVolume) (top : OpenVolume) (script : Script) (slice lines : List ℕ) (line : ℕ) (why : TextFault) → slice ≡ lines → StopsText (IsScriptBody script slice line) why

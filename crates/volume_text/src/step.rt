@@ -233,7 +233,7 @@ struct OpenScript {
 }
 
 // A script ends.
-#[tactic(auto, using(crate::proofs::Ending::ended_stops, crate::proofs::Ending::ended_there, crate::proofs::Ending::ended_not))]
+#[tactic(auto, using(crate::proofs::Ending::ended_stops))]
 fn script_ended(alloc: Global, held: OpenScript, number: u64) -> Result<State, TextFault>
     requires said { AreSaid held.script }
     ensures ended { Answers (EndsScript held.below held.top held.script held.lines number) result }
