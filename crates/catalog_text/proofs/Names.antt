@@ -66,6 +66,12 @@ passes text (low ∷ high ∷ after) long e passed =
     let most : length after ≤ length (low ∷ high ∷ after) - 2 = omega arith in
     subst (IsPassed text) (sym (take_all (length (low ∷ high ∷ after) - 2) after most)) (passed.0 ++ low ∷ high ∷ [], one_more text passed.0 low high after passed.1 e)
 
+-- what is left is no longer than the text
+pub no_longer : (text rest : List ℕ) → IsPassed text rest → length rest ≤ length text
+no_longer text rest passed =
+    let long : length text ≡ length passed.0 + length rest = ap length passed.1.whole ∙ length-append passed.0 rest in
+    omega (arith, long)
+
 -- it ends at a null
 pub stops : (text rest : List ℕ) → 2 ≤ length rest → (slice_index rest 0 + 256 * slice_index rest 1 == 0) ≡ true → IsPassed text rest
     → Some (words_of (take (length text - length rest) text)) ≡ before_null (words_of text)

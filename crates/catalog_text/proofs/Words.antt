@@ -1,6 +1,6 @@
 -- Words that are put one by one.
 use Rattle.std.proofs.Common.{◌≡◌, ◌<◌, ℕ, ◌+◌, List, [], ◌∷◌, ◌++◌, length, refl, sym, ap, ◌∙◌, take, get_or, append_assoc, flat_map}
-use Rattle.std.proofs.lemmas.List.{append-nil, take_more}
+use Rattle.std.proofs.lemmas.List.{append-nil, take_more, flat_map_more}
 use Rattle.std.specs.Borrow.{Bor}
 use Rattle.boot_io.specs.Line.{spaced, words_now}
 
@@ -24,3 +24,9 @@ pub word_put : (words : List (Bor (List ℕ))) (i : ℕ) (d : Bor (List ℕ)) (o
 word_put words i d out old new within put before =
     put ∙ ap (λ t. t ++ spaced (get_or words i d).now) before ∙ append_assoc out (words_text (take i words)) (spaced (get_or words i d).now)
     ∙ ap (λ t. out ++ t) (sym (words_more words i d within))
+
+-- a text more was put
+pub text_put : {X : Type 0} (f : X → List ℕ) (xs : List X) (i : ℕ) (d : X) (out old new : List ℕ) → i < length xs → new ≡ old ++ f (get_or xs i d) → old ≡ out ++ flat_map f (take i xs)
+    → new ≡ out ++ flat_map f (take (i + 1) xs)
+text_put f xs i d out old new within put before =
+    put ∙ ap (λ t. t ++ f (get_or xs i d)) before ∙ flat_map_more f out (take i xs) (get_or xs i d) ∙ ap (λ l. out ++ flat_map f l) (sym (take_more xs i d within))

@@ -3,32 +3,32 @@ ghost use Rattle.std.specs.Prelude.{◌≡◌};
 ghost use Rattle.depex_words.specs.declared.fault.ExpressionFault.TheVariants.{Memory};
 
 use pi_base::OutOfMemory;
+use std::fmt::{self, Display, Formatter};
 use thiserror::Error;
 
 /// Why words are no expression: what is wrong with the first of them with which no expression goes on, or with their end.
 #[derive(Clone, Copy, Debug, PartialEq, Eq, Error)]
 pub enum ExpressionFault {
     /// An operand is missing: an operator, a closing bracket or the end stands where one is due.
-    #[error("NoOperand")]
     NoOperand,
     /// A word stands where an operand is due, and is neither a GUID nor a name of one.
-    #[error("NoGuid")]
     NoGuid,
     /// A word stands behind an operand or behind END, and none may.
-    #[error("Extra")]
     Extra,
     /// A bracket is closed that was not opened, or is not closed.
-    #[error("Bracket")]
     Bracket,
     /// SOR, BEFORE or AFTER in PEI.
-    #[error("OtherPhase")]
     OtherPhase,
     /// An expression of more than `depex_code::MOST_OPCODES` opcodes.
-    #[error("TooLong")]
     TooLong,
     /// Want of memory.
-    #[error("Memory")]
     Memory,
+}
+
+impl Display for ExpressionFault {
+    fn fmt<W: fmt::Write>(&self, f: &mut Formatter<W>) -> fmt::Result {
+        write!(f, "{self:?}")
+    }
 }
 
 impl From<OutOfMemory> for ExpressionFault {

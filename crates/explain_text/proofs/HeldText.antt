@@ -1,9 +1,9 @@
 -- The words of who may install a GUID, as they are put one by one.
-use Rattle.std.proofs.Common.{◌≡◌, ℕ, suc, ◌+◌, ◌-◌, ◌<◌, ◌≤◌, Bool, true, false, cond, List, [], ◌∷◌, ◌++◌, length, take, drop, get_or, flat_map, decimal, Option, Some, None, refl, sym, ap, subst, ◌∙◌, append_assoc, arith}
+use Rattle.std.proofs.Common.{◌≡◌, ℕ, suc, ◌+◌, ◌-◌, ◌<◌, ◌≤◌, ◌==◌, Bool, true, false, cond, List, [], ◌∷◌, ◌++◌, length, take, drop, get_or, map, flat_map, decimal, Option, Some, None, refl, sym, ap, subst, ◌∙◌, append_assoc, arith}
 use Rattle.std.specs.Prelude.{nat_lt, OnOk, Result, Ok, Err}
 use Rattle.std.proofs.lemmas.Bool.Decides.{nat_tests}
 use Rattle.std.proofs.lemmas.Grind.{flat_map-append}
-use Rattle.std.proofs.lemmas.List.{append-nil, take_all, take_more, length-drop}
+use Rattle.std.proofs.lemmas.List.{append-nil, take_all, take_more, flat_map_more, length-drop}
 use Rattle.boot_io.specs.Line.{line_of, spaced}
 use Rattle.pi_base.specs.Lists.{Each}
 use Rattle.pi_base.specs.declared.guid.Guid.{Guid}
@@ -183,3 +183,26 @@ pub words_without : (begun : List Begun) (modules : List Module) (phase : Phase)
 words_without begun modules phase guid context is e =
     let words = told_words (has_started begun phase) (givers_from phase guid 0 modules) in
     ap or_dash (told_by_context begun modules phase guid context is) ∙ ap (λ b. cond b (with_core words) (or_dash words)) (sym e)
+
+-- a text more was put
+pub text_put : {X : Type 0} (f : X → List ℕ) (xs : List X) (i : ℕ) (d : X) (out old new : List ℕ) → i < length xs → new ≡ old ++ f (get_or xs i d) → old ≡ out ++ flat_map f (take i xs)
+    → new ≡ out ++ flat_map f (take (i + 1) xs)
+text_put f xs i d out old new within put before =
+    put ∙ ap (λ t. t ++ f (get_or xs i d)) before ∙ flat_map_more f out (take i xs) (get_or xs i d) ∙ ap (λ l. out ++ flat_map f l) (sym (take_more xs i d within))
+
+texts_more : {X : Type 0} (text : X → List ℕ) (xs : List X) (x : X) → map text (xs ++ x ∷ []) ≡ map text xs ++ text x ∷ []
+texts_more text [] x = refl
+texts_more text (y ∷ ys) x = ap (λ l. text y ∷ l) (texts_more text ys x)
+
+-- a word more was put
+pub word_put : {X : Type 0} (text : X → List ℕ) (xs : List X) (i : ℕ) (d : X) (out old new : List ℕ) → i < length xs → new ≡ old ++ spaced (text (get_or xs i d)) → old ≡ out ++ flat_map spaced (map text (take i xs))
+    → new ≡ out ++ flat_map spaced (map text (take (i + 1) xs))
+word_put text xs i d out old new within put before =
+    put ∙ ap (λ t. t ++ spaced (text (get_or xs i d))) before ∙ flat_map_more spaced out (map text (take i xs)) (text (get_or xs i d))
+    ∙ ap (λ l. out ++ flat_map spaced l) (sym (texts_more text (take i xs) (get_or xs i d))) ∙ ap (λ l. out ++ flat_map spaced (map text l)) (sym (take_more xs i d within))
+
+-- all words were put, and there are some
+pub all_put : {X : Type 0} (text : X → List ℕ) (xs : List X) (i : ℕ) (out new : List ℕ) → (length xs == 0) ≡ false → length xs ≤ i → new ≡ out ++ flat_map spaced (map text (take i xs))
+    → new ≡ out ++ flat_map spaced (or_dash (map text xs))
+all_put text [] i out new some all before = absurd cc
+all_put text (x ∷ xs) i out new some all before = before ∙ ap (λ l. out ++ flat_map spaced (map text l)) (take_all i (x ∷ xs) all)

@@ -1,12 +1,14 @@
 // The text of an explained boot.
 ghost use Rattle.std.specs.Prelude.{◌≡◌, ◌≤◌, ◌++◌, List, flat_map, length, IfOk, OnOk};
+ghost use Rattle.pi_base.specs.declared.phase.Phase.TheVariants.{Pei};
 ghost use Rattle.catalog_model.specs.declared.limits.TheConstants.{MOST_MODULES};
+ghost use Rattle.explain_text.specs.Context.{IsContext};
 ghost use Rattle.explain_text.specs.HeldLines.{held_lines};
 ghost use Rattle.explain_text.specs.LeftLines.{left_lines};
 ghost use Rattle.explain_text.specs.Text.{explained_text, is_told};
 ghost use Rattle.explain_text.specs.Told.{AreTold, known_in};
 
-use crate::context::context_of;
+use crate::context::{Context, context_of};
 use crate::end_lines::put_end;
 use crate::flags::{add_held, started};
 use crate::held_lines::put_all_held;
@@ -16,6 +18,22 @@ use crate::start_lines::put_starts;
 use catalog_model::{Catalog, Module};
 use pi_base::{OutOfMemory, Phase, Seq};
 use std::alloc::Global;
+
+// The lines of the modules that wait, by what is known of PEI.
+fn put_waiting_with(
+    alloc: Global,
+    out: &mut Seq<u8>,
+    pei: &Context,
+    modules: &[Module],
+    explained: &Explained,
+) -> Result<(), OutOfMemory>
+    requires few { length modules.now ≤ MOST_MODULES }
+    requires pei { IsContext explained.now.begun modules.now Pei pei.now }
+    ensures { OnOk result (out.new ≡ out.old ++ flat_map (held_lines explained.now.begun modules.now) explained.now.held) }
+{
+    let dxe = context_of(alloc, explained.begun.as_slice(), modules, Phase::Dxe)?;
+    put_all_held(out, pei, &dxe, explained.held.as_slice())
+}
 
 // The lines of the modules that wait.
 fn put_waiting(
@@ -27,11 +45,8 @@ fn put_waiting(
     requires { length modules.now ≤ MOST_MODULES }
     ensures { OnOk result (out.new ≡ out.old ++ flat_map (held_lines explained.now.begun modules.now) explained.now.held) }
 {
-    let begun = explained.begun.as_slice();
-    let pei = context_of(alloc, begun, modules, Phase::Pei)?;
-    let dxe = context_of(alloc, begun, modules, Phase::Dxe)?;
-    put_all_held(out, &pei, &dxe, explained.held.as_slice())?;
-    Ok(())
+    let pei = context_of(alloc, explained.begun.as_slice(), modules, Phase::Pei)?;
+    put_waiting_with(alloc, out, &pei, modules, explained)
 }
 
 // The modules that started in a phase or wait at its end.

@@ -3,50 +3,44 @@ ghost use Rattle.std.specs.Prelude.{◌≡◌};
 ghost use Rattle.script_words.specs.declared.fault.Stop.TheVariants as stop;
 
 use pi_base::OutOfMemory;
+use std::fmt::{self, Display, Formatter};
 use thiserror::Error;
 
 /// Why a line is no action of its phase: what is wrong with the first of its words with which none goes on, or with its end.
 #[derive(Clone, Copy, Debug, PartialEq, Eq, Error)]
 pub enum LineFault {
     /// An operand is missing.
-    #[error("Missing")]
     Missing,
     /// A word stands behind the last operand.
-    #[error("Extra")]
     Extra,
     /// No phase has an action of this name.
-    #[error("UnknownAction")]
     UnknownAction,
     /// The other phase has an action of this name, and the script's has none.
-    #[error("OtherPhase")]
     OtherPhase,
     /// A word is no register, `r0` to `r15`.
-    #[error("Register")]
     Register,
     /// A word is no number below 2^64.
-    #[error("Number")]
     Number,
     /// A number is out of the range of its operand, or there are more bytes than an operand may have.
-    #[error("Range")]
     Range,
     /// A word is neither a GUID nor a name of one.
-    #[error("Guid")]
     Guid,
     /// A word is no status.
-    #[error("Status")]
     Status,
     /// A word is none of those that may stand there.
-    #[error("Word")]
     Word,
     /// Words are no bytes in hexadecimal.
-    #[error("Bytes")]
     Bytes,
     /// A text to be logged is empty or longer than 64 bytes, or has a byte that is not printable.
-    #[error("Log")]
     Log,
     /// A script may make no HOB of this type with a body of this length.
-    #[error("Hob")]
     Hob,
+}
+
+impl Display for LineFault {
+    fn fmt<W: fmt::Write>(&self, f: &mut Formatter<W>) -> fmt::Result {
+        write!(f, "{self:?}")
+    }
 }
 
 /// Why reading stopped.

@@ -9,6 +9,7 @@ use act_code::descriptor_kind::PPI;
 use act_code::{Action, Script, WriteFault, is_ret, write_script};
 use pi_base::Seq;
 use std::alloc::Global;
+use std::fmt::{self, Display, Formatter};
 use thiserror::Error;
 
 /// The most blocks of a script.
@@ -21,20 +22,21 @@ const MOST_ACTIONS: usize = act_code::MOST_ACTIONS as usize;
 #[derive(Clone, Copy, Debug, PartialEq, Eq, Error)]
 pub enum ScriptCause {
     /// At the end: the script has no block.
-    #[error("NoBlock")]
     NoBlock,
     /// At a line `block` or at the end: the block before it has no `ret` as its last action.
-    #[error("NoRet")]
     NoRet,
     /// At an action: it skips past the last action of its block.
-    #[error("Jump")]
     Jump,
     /// At an action: it names a block that the script does not have.
-    #[error("NoSuchBlock")]
     NoSuchBlock,
     /// At a line `block`: it would be the 65th; at an action: it would be the 1,025th of its block.
-    #[error("Full")]
     Full,
+}
+
+impl Display for ScriptCause {
+    fn fmt<W: fmt::Write>(&self, f: &mut Formatter<W>) -> fmt::Result {
+        write!(f, "{self:?}")
+    }
 }
 
 /// Why a draft is no script.

@@ -1,9 +1,13 @@
 -- What calls answer, put together.
-use Rattle.std.proofs.Common.{◌≡◌, ℕ, List, [], ◌∷◌, ◌++◌, Some, Result, Ok, Err, refl, sym, ap, subst}
-use Rattle.std.specs.Prelude.{All}
+use Rattle.std.proofs.Common.{◌≡◌, ℕ, List, [], ◌∷◌, ◌++◌, Option, Some, None, Result, Ok, Err, refl, sym, ap, subst}
+use Rattle.std.specs.Prelude.{IfOk, All}
 use Rattle.std.specs.List.{AllByRecursion}
 use Rattle.std.proofs.lemmas.List.Elements.{All-nil, All-cons, All-append, All-from_recursion, recursion_from_All}
-use Rattle.fv_section.specs.declared.section_type.TheConstants.{RAW}
+use Rattle.fv_section.specs.declared.section_type.TheConstants.{RAW, VOLUME_IMAGE}
+use Rattle.pi_base.specs.declared.phase.Phase.{Phase}
+use Rattle.fv_build.specs.declared.new_file.NewFile.{NewFile}
+use Rattle.fv_build.specs.declared.new_file.NewSection.{NewSection}
+use Rattle.fv_build.specs.declared.volume_header.VolumeForm.{VolumeForm}
 use Rattle.act_code.specs.declared.action.Action.{Action}
 use Rattle.act_code.specs.declared.script.Script.{Script}
 use Rattle.script_words.specs.Script.{IsSaid, AreSaid}
@@ -14,10 +18,13 @@ use Rattle.volume_text.specs.declared.fault.TextFault.TheVariants as text_fault
 use Rattle.volume_text.specs.declared.statement.Statement.{Statement}
 use Rattle.volume_text.specs.declared.volume.OpenVolume.{OpenVolume}
 use Rattle.volume_text.specs.declared.step.State.{State}
-use Rattle.volume_text.specs.Reading.{Stops, StopsAs, StopsText, Answers, at}
+use Rattle.volume_text.specs.declared.step.State.TheVariants.{Begin, Filling, Writing, Done}
+use Rattle.volume_text.specs.declared.fault.Cause.{Cause}
+use Rattle.volume_text.specs.Reading.{◌>>=◌, Stops, Gives, StopsAs, StopsText, Answers, at}
 use Rattle.volume_text.specs.Line.{Reads}
-use Rattle.volume_text.specs.Script.{last_block, script_of, IsScriptBody}
-use Rattle.volume_text.specs.Step.{section_of, filling, at_line, EndsScript, Takes, Steps}
+use Rattle.volume_text.specs.Open.{with_section, depex_type, part_checked, built_of}
+use Rattle.volume_text.specs.Script.{last_block, script_of, with_block, IsScriptBody}
+use Rattle.volume_text.specs.Step.{IsSaidState, section_of, with_top, filling, nested_in, nested, with_depex, last_volume, closed_in, closed, at_line, EndsScript, Takes, Steps}
 use Rattle.volume_text.proofs.Lasts.{last_is}
 
 -- the last of a list, and the others
@@ -37,6 +44,68 @@ pub with_said : (script : Script) (others blocks : List (List Action)) (last lon
 with_said script others blocks last longer one found said is more all =
     let whole = subst (All (All (IsSaid script.phase))) (last_is script.blocks (others, last) found) said in
     rw (all, more) (said_more (IsSaid script.phase) others last one whole is)
+
+-- the actions of the script with one more block
+pub block_said : (script : Script) → AreSaid script → AreSaid (with_block script)
+block_said script said =
+    let P : Action → Type 0 = IsSaid script.phase in
+    All-append (All P) script.blocks ([] ∷ []) said (All-cons (All P) [] [] (All-nil P) (All-nil (All P)))
+
+-- where a volume goes on, no script is open
+pub goes_on_said : (below : List OpenVolume) (top : Result OpenVolume Cause) (state : State) → (top >>= (λ last. Ok (Filling below last))) ≡ Ok state → IsSaidState state
+goes_on_said below (Ok last) (Writing b t script lines) e = absurd cc
+goes_on_said below (Err why) (Writing b t script lines) e = absurd cc
+goes_on_said below top Begin e = tt
+goes_on_said below top (Filling b t) e = tt
+goes_on_said below top (Done bytes) e = tt
+
+-- what is made of a volume as it has become
+pub topped : (below : List OpenVolume) (top : Result OpenVolume Stop) (read : Result OpenVolume Cause) → Gives (λ x. x) top read → Gives (λ x. x) (with_top below top) (read >>= (λ last. Ok (Filling below last)))
+topped below (Ok top) read told = ap (λ (r : Result OpenVolume Cause). r >>= (λ last. Ok (Filling below last))) told
+topped below (Err stop.Memory) read told = tt
+topped below (Err (stop.Fault cause)) read told = ap (λ (r : Result OpenVolume Cause). r >>= (λ last. Ok (Filling below last))) told
+
+pub topped_said : (below : List OpenVolume) (top : Result OpenVolume Stop) → IfOk (with_top below top) IsSaidState
+topped_said below (Ok top) = tt
+topped_said below (Err e) = tt
+
+-- what a call returned is said where the definition's state is
+gives_said : (made : Result State Stop) (read : Result State Cause) → IfOk read IsSaidState → Gives (λ x. x) made read → IfOk made IsSaidState
+gives_said (Err e) read said told = tt
+gives_said (Ok state) read said told = subst (λ (r : Result State Cause). IfOk r IsSaidState) told said
+
+more_said : (below : List OpenVolume) (top : Result OpenVolume Cause) → IfOk (top >>= (λ last. Ok (Filling below last))) IsSaidState
+more_said below (Ok last) = tt
+more_said below (Err why) = tt
+
+part_said : (below : List OpenVolume) (top : OpenVolume) (section : NewSection) (part : Result (Unit {0}) Cause) → IfOk (part >>= (λ _. filling below top section)) IsSaidState
+part_said below top section (Ok x) = more_said below (with_section top section)
+part_said below top section (Err why) = tt
+
+nested_in_said : (files : List NewFile) (below : List OpenVolume) (top : OpenVolume) (form : VolumeForm) (len : ℕ) → IfOk (nested_in files below top form len) IsSaidState
+nested_in_said [] below top form len = tt
+nested_in_said (file ∷ files) below top form len = tt
+
+closed_in_said : (bytes : List ℕ) (last : Option (List OpenVolume × OpenVolume)) → IfOk (closed_in bytes last) IsSaidState
+closed_in_said bytes None = tt
+closed_in_said bytes (Some parts) = more_said parts.0 (with_section parts.1 (section_of VOLUME_IMAGE bytes))
+
+built_said : (below : List OpenVolume) (built : Result (List ℕ) Cause) → IfOk (built >>= (λ bytes. closed_in bytes (last_volume below))) IsSaidState
+built_said below (Ok bytes) = closed_in_said bytes (last_volume below)
+built_said below (Err why) = tt
+
+pub nested_said : (below : List OpenVolume) (top : OpenVolume) (form : VolumeForm) (len : ℕ) (made : Result State Stop) → Gives (λ x. x) made (nested below top form len) → IfOk made IsSaidState
+nested_said below top form len made = gives_said made (nested below top form len) (nested_in_said top.files below top form len)
+
+pub filling_said : (below : List OpenVolume) (top : OpenVolume) (section : NewSection) (made : Result State Stop) → Gives (λ x. x) made (filling below top section) → IfOk made IsSaidState
+filling_said below top section made = gives_said made (filling below top section) (more_said below (with_section top section))
+
+pub depex_said : (below : List OpenVolume) (top : OpenVolume) (phase : Phase) (body : List ℕ) (made : Result State Stop) → Gives (λ x. x) made (with_depex below top phase body) → IfOk made IsSaidState
+depex_said below top phase body made =
+    gives_said made (with_depex below top phase body) (part_said below top (section_of (depex_type phase) body) (part_checked phase top))
+
+pub closed_said : (below : List OpenVolume) (top : OpenVolume) (made : Result State Stop) → Gives (λ x. x) made (closed below top) → IfOk made IsSaidState
+closed_said below top made = gives_said made (closed below top) (built_said below (built_of top))
 
 -- the end of a script
 pub ended_stops : (below : List OpenVolume) (top : OpenVolume) (script : Script) (slice lines : List ℕ) (line : ℕ) (why : TextFault) → slice ≡ lines → StopsText (IsScriptBody script slice line) why

@@ -10,6 +10,16 @@ use Rattle.volume_text.specs.declared.keyword.Keyword.TheVariants as keyword
 use Rattle.fv_build.specs.declared.file_system.FileSystem.{FileSystem}
 use Rattle.fv_build.specs.declared.file_system.FileSystem.TheVariants.{Ffs2, Ffs3}
 
+abbrev pub plain_keyword_of : List ℕ → Option Keyword
+plain_keyword_of word =
+    if bytes_eq word (codes "guids") then Some keyword.Guids
+    else if bytes_eq word (codes "raw") then Some keyword.Raw
+    else if bytes_eq word (codes "section") then Some keyword.Section
+    else if bytes_eq word (codes "body") then Some keyword.Body
+    else if bytes_eq word (codes "block") then Some keyword.Block
+    else if bytes_eq word (codes "end") then Some keyword.End
+    else None
+
 unfoldable pub keyword_of : List ℕ → Option Keyword
 keyword_of word =
     if bytes_eq word (codes "volume") then Some keyword.Volume
@@ -18,13 +28,7 @@ keyword_of word =
     else if bytes_eq word (codes "pad") then Some keyword.Pad
     else if bytes_eq word (codes "depex") then Some keyword.Depex
     else if bytes_eq word (codes "script") then Some keyword.Script
-    else if bytes_eq word (codes "guids") then Some keyword.Guids
-    else if bytes_eq word (codes "raw") then Some keyword.Raw
-    else if bytes_eq word (codes "section") then Some keyword.Section
-    else if bytes_eq word (codes "body") then Some keyword.Body
-    else if bytes_eq word (codes "block") then Some keyword.Block
-    else if bytes_eq word (codes "end") then Some keyword.End
-    else None
+    else plain_keyword_of word
 
 unfoldable pub phase_of : List ℕ → Option Phase
 phase_of word = if bytes_eq word (codes "pei") then Some Pei else if bytes_eq word (codes "dxe") then Some Dxe else None

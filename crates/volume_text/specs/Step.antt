@@ -40,6 +40,11 @@ abbrev pub begun : Statement → Result State Cause
 begun (statement.Volume form len) = Ok (Filling [] (new_volume form len))
 begun _ = Err cause.NoVolume
 
+-- the innermost volume as it has become
+abbrev pub with_top : List OpenVolume → Result OpenVolume Stop → Result State Stop
+with_top below (Ok top) = Ok (Filling below top)
+with_top below (Err e) = Err e
+
 -- a section more in the last file
 abbrev pub filling : List OpenVolume → OpenVolume → NewSection → Result State Cause
 filling below top section = with_section top section >>= (λ top. Ok (Filling below top))

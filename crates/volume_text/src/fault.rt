@@ -6,94 +6,81 @@ ghost use Rattle.volume_text.specs.declared.fault.TextFault.TheVariants as text_
 use depex_words::ExpressionFault;
 use pi_base::OutOfMemory;
 use script_words::{LineFault, ScriptCause};
+use std::fmt::{self, Display, Formatter};
 use thiserror::Error;
 
 /// What is wrong with a line, or with the end of a text.
 #[derive(Clone, Copy, Debug, PartialEq, Eq, Error)]
 pub enum Cause {
     /// No line is of this kind outside of a script.
-    #[error("UnknownLine")]
     UnknownLine,
     /// A word is missing.
-    #[error("Missing")]
     Missing,
     /// A word too many.
-    #[error("Extra")]
     Extra,
     /// A word is none of those that may stand there.
-    #[error("Word")]
     Word,
     /// A word is no number below 2^64.
-    #[error("Number")]
     Number,
     /// The length of a volume is below that of its header or above 64 MiB, or its header's is odd, below 64 bytes or no number of 16 bits; or its name
     /// stands in its header, at no number of 16 bits, or has less than its own 20 bytes; or the body of a pad file is longer than FFS2 can tell,
     /// or attributes are no number of 32 bits, or no file is aligned to such a number.
-    #[error("Range")]
     Range,
     /// A word is neither a GUID nor a name of one.
-    #[error("Guid")]
     Guid,
     /// Words are no bytes in hexadecimal.
-    #[error("Bytes")]
     Bytes,
     /// A word is neither a name of a file's type nor two hexadecimal digits.
-    #[error("FileType")]
     FileType,
     /// A word is not two hexadecimal digits.
-    #[error("SectionType")]
     SectionType,
     /// What is wrong with the line of an action.
-    #[error("{0}")]
     Action(LineFault),
     /// What is wrong with the words of an expression.
-    #[error("{0}")]
     Expression(ExpressionFault),
     /// What is wrong with the blocks of a script.
-    #[error("{0}")]
     Script(ScriptCause),
     /// At its `end`: a script of more than 65,536 bytes.
-    #[error("ScriptTooLong")]
     ScriptTooLong,
     /// The text does not begin with a volume.
-    #[error("NoVolume")]
     NoVolume,
     /// What stands in a file stands before the first file of its volume.
-    #[error("NoFile")]
     NoFile,
     /// A block outside of a script.
-    #[error("NoScript")]
     NoScript,
     /// A line that is neither an action nor `block` in a script that has no `end` yet.
-    #[error("InScript")]
     InScript,
     /// A file of this type has no expressions and scripts of the phase.
-    #[error("NoPart")]
     NoPart,
     /// The file has a script of the phase already.
-    #[error("TwoScripts")]
     TwoScripts,
     /// The file has a body or sections already, and cannot have both, nor two bodies.
-    #[error("TwoBodies")]
     TwoBodies,
     /// The volume has a name already.
-    #[error("TwoNames")]
     TwoNames,
     /// A line behind the end of the volume.
-    #[error("BehindEnd")]
     BehindEnd,
     /// At the line behind the last: a volume or a script has no `end`.
-    #[error("NoEnd")]
     NoEnd,
     /// At its `end`: a volume has more files than a reader takes.
-    #[error("TooMany")]
     TooMany,
     /// At its `end`: a section or a file of the volume is longer than its size fields can tell.
-    #[error("Size")]
     Size,
     /// At its `end`: the files of a volume need so many bytes, its header among them, and it has fewer.
-    #[error("NoRoom {need}")]
     NoRoom { need: u64 },
+}
+
+impl Display for Cause {
+    fn fmt<W: fmt::Write>(&self, f: &mut Formatter<W>) -> fmt::Result {
+        match self {
+            Cause::Action(fault) => Display::fmt(fault, f),
+            Cause::Expression(fault) => Display::fmt(fault, f),
+            Cause::Script(cause) => Display::fmt(cause, f),
+            Cause::NoRoom { need } => write!(f, "NoRoom {need}"),
+            // Any other is its name.
+            named => write!(f, "{named:?}"),
+        }
+    }
 }
 
 /// A line at fault, from 1, and what is wrong with it.

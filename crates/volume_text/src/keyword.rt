@@ -1,6 +1,6 @@
 // The first words of lines, and the words for phases, file systems and types.
 ghost use Rattle.std.specs.Prelude.{◌≡◌};
-ghost use Rattle.volume_text.specs.Keywords.{keyword_of, phase_of, system_of, byte_of, file_type_of};
+ghost use Rattle.volume_text.specs.Keywords.{plain_keyword_of, keyword_of, phase_of, system_of, byte_of, file_type_of};
 
 use fv_build::FileSystem;
 use fv_volume::file_type::{
@@ -26,6 +26,28 @@ pub(crate) enum Keyword {
     End,
 }
 
+// The keyword that a word is, of those of raw bytes, blocks and ends.
+#[tactic(auto, unfolding(crate::specs::Keywords::plain_keyword_of))]
+fn plain_keyword_of(word: &[u8]) -> Option<Keyword>
+    ensures { result ≡ plain_keyword_of word.now }
+{
+    if word == b"guids".as_slice() {
+        Some(Keyword::Guids)
+    } else if word == b"raw".as_slice() {
+        Some(Keyword::Raw)
+    } else if word == b"section".as_slice() {
+        Some(Keyword::Section)
+    } else if word == b"body".as_slice() {
+        Some(Keyword::Body)
+    } else if word == b"block".as_slice() {
+        Some(Keyword::Block)
+    } else if word == b"end".as_slice() {
+        Some(Keyword::End)
+    } else {
+        None
+    }
+}
+
 /// The keyword that a word is.
 #[tactic(auto, unfolding(crate::specs::Keywords::keyword_of))]
 pub(crate) fn keyword_of(word: &[u8]) -> Option<Keyword>
@@ -43,20 +65,8 @@ pub(crate) fn keyword_of(word: &[u8]) -> Option<Keyword>
         Some(Keyword::Depex)
     } else if word == b"script".as_slice() {
         Some(Keyword::Script)
-    } else if word == b"guids".as_slice() {
-        Some(Keyword::Guids)
-    } else if word == b"raw".as_slice() {
-        Some(Keyword::Raw)
-    } else if word == b"section".as_slice() {
-        Some(Keyword::Section)
-    } else if word == b"body".as_slice() {
-        Some(Keyword::Body)
-    } else if word == b"block".as_slice() {
-        Some(Keyword::Block)
-    } else if word == b"end".as_slice() {
-        Some(Keyword::End)
     } else {
-        None
+        plain_keyword_of(word)
     }
 }
 

@@ -44,7 +44,6 @@ fn action(alloc: Global, phase: Phase, line: &[u8]) -> Result<Action, Stop>
 }
 
 /// The script with one more action in its last block.
-#[tactic(auto, using(crate::proofs::Ending::with_said))]
 pub(crate) fn with_action(alloc: Global, script: Script, line: &[u8]) -> Result<Script, Stop>
     requires said { AreSaid script }
     ensures made { Gives (λ x. x) result (with_action script line.now) }

@@ -1,7 +1,7 @@
 // One line more of a text.
 ghost use Rattle.std.specs.Prelude.{◌≡◌, IfOk};
 ghost use Rattle.volume_text.specs.Reading.{Gives, Answers};
-ghost use Rattle.volume_text.specs.Step.{IsSaidState, begun, filling, nested, with_depex, with_script, last_volume, closed, filled, written, at_line, EndsScript, goes_on, TakesInScript, outside, Takes, Steps};
+ghost use Rattle.volume_text.specs.Step.{IsSaidState, begun, with_top, filling, nested, with_depex, with_script, last_volume, closed, filled, written, at_line, EndsScript, goes_on, TakesInScript, outside, Takes, Steps};
 ghost use Rattle.script_words.specs.Script.{AreSaid};
 
 use crate::fault::{Cause, Fault, Stop, TextFault};
@@ -56,6 +56,16 @@ fn begun(alloc: Global, statement: &Statement) -> Result<State, Stop>
             },
         }),
         _ => Err(Stop::Fault(Cause::NoVolume)),
+    }
+}
+
+// The innermost volume as it has become, if it has.
+fn with_top(below: Seq<OpenVolume>, top: Result<OpenVolume, Stop>) -> Result<State, Stop>
+    ensures { result ≡ with_top below top }
+{
+    match top {
+        Ok(top) => Ok(State::Filling { below, top }),
+        Err(stop) => Err(stop),
     }
 }
 
@@ -168,26 +178,14 @@ fn filled(
 {
     match statement {
         Statement::Volume { form, len } => nested(alloc, below, top, form, len),
-        Statement::Name { name } => {
-            let top = with_name(top, name)?;
-            Ok(State::Filling { below, top })
-        }
-        Statement::Pad { len } => {
-            let top = with_pad(alloc, top, len)?;
-            Ok(State::Filling { below, top })
-        }
+        Statement::Name { name } => with_top(below, with_name(top, name)),
+        Statement::Pad { len } => with_top(below, with_pad(alloc, top, len)),
         Statement::File {
             kind,
             name,
             attributes,
-        } => {
-            let top = with_file(alloc, top, kind, name, attributes)?;
-            Ok(State::Filling { below, top })
-        }
-        Statement::Body { bytes } => {
-            let top = with_last_body(top, bytes)?;
-            Ok(State::Filling { below, top })
-        }
+        } => with_top(below, with_file(alloc, top, kind, name, attributes)),
+        Statement::Body { bytes } => with_top(below, with_last_body(top, bytes)),
         Statement::Section { kind, body } => filling(below, top, NewSection { kind, body }),
         Statement::Depex { phase, body } => with_depex(below, top, phase, body),
         Statement::Script { phase } => with_script(alloc, below, top, phase),
@@ -233,7 +231,7 @@ struct OpenScript {
 }
 
 // A script ends.
-#[tactic(auto, using(crate::proofs::Ending::ended_stops, crate::proofs::Ending::ended_there, crate::proofs::Ending::ended_not))]
+#[tactic(auto, using(crate::proofs::Ending::ended_stops))]
 fn script_ended(alloc: Global, held: OpenScript, number: u64) -> Result<State, TextFault>
     requires said { AreSaid held.script }
     ensures ended { Answers (EndsScript held.below held.top held.script held.lines number) result }

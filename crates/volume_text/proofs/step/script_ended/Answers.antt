@@ -1,5 +1,11 @@
-use Rattle.volume_text.proofs.Ending.{ended_there, ended_not}
+use Rattle.volume_text.proofs.Ending.{goes_on_said, ended_there, ended_not}
 use Rattle.volume_text.proofs.step.script_ended.Goals as goal
+
+pub script_body-requires : goal.script_body-requires
+script_body-requires c = c.requires.said
+
+pub returns-in-Ok-clause-said : goal.returns-in-Ok-clause-said
+returns-in-Ok-clause-said c = goes_on_said c.args.held.below _ c.in-Ok.state c.in-Ok.ensures
 
 pub returns-in-Ok-clause-ended : goal.returns-in-Ok-clause-ended
 returns-in-Ok-clause-ended c =
