@@ -79,34 +79,30 @@ fn at_nth(index: &GuidIndex, last: u8, n: usize) -> Option<u64> {
 
 fn try_index(rt: &impl Abort, index: &GuidIndex) {
     for (last, from, want) in &NEXTS {
-        assert!(rt;
-            index.next(&guid(*last), *from) == *want,
-            "{last} from {from}"
-        );
+        assert!(rt; index.next(&guid(*last), *from) == *want);
     }
     for (last, n, want) in &NTHS {
-        assert!(rt; at_nth(index, *last, *n) == *want, "{last}, number {n}");
+        assert!(rt; at_nth(index, *last, *n) == *want);
     }
     for (last, want) in &COUNTS {
-        assert!(rt; index.count(&guid(*last)) == *want, "{last}");
-        assert!(rt; index.contains(&guid(*last)) == (*want > 0), "{last}");
+        let is_there = index.contains(&guid(*last)) == (*want > 0);
+        assert!(rt; is_there && index.count(&guid(*last)) == *want);
     }
 }
 
 fn try_other(rt: &impl Abort, index: &mut GuidIndex) {
-    assert!(rt; index.len() == 10);
     let other = Indexed {
         guid: guid(b'B'),
         at: 200,
     };
-    assert!(rt; index.replace(5, other));
+    assert!(rt; index.len() == 10 && index.replace(5, other));
     assert!(rt; at_nth(index, b'B', 1) == Some(200) && index.len() == 10);
     let of_another = Indexed {
         guid: guid(b'A'),
         at: 201,
     };
-    assert!(rt; !index.replace(5, of_another));
-    assert!(rt; index.is_empty() && !index.contains(&guid(b'B')));
+    let is_refused = !index.replace(5, of_another);
+    assert!(rt; is_refused && index.is_empty() && !index.contains(&guid(b'B')));
 }
 
 #[test]
@@ -142,11 +138,8 @@ fn try_many(rt: &impl Abort, index: &mut GuidIndex) {
     }
     for place in 0..4095usize {
         let other = guid(((place + 1) % 2) as u8);
-        assert!(rt; index.next(&other, place) == Some(place + 1), "{place}");
-        assert!(rt;
-            at_nth(index, (place % 2) as u8, place / 2) == Some(place as u64),
-            "{place}"
-        );
+        let is_next = index.next(&other, place) == Some(place + 1);
+        assert!(rt; is_next && at_nth(index, (place % 2) as u8, place / 2) == Some(place as u64));
     }
 }
 

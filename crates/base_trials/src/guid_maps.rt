@@ -33,8 +33,8 @@ fn try_rows(rt: &impl Abort, map: &mut GuidMap<u32>) {
         (guid(1, 1), 5, [Some(u32::MAX), Some(9), Some(0)]),
     ];
     for (put, value, want) in rows {
-        assert!(rt; map.insert(put, value).is_ok());
-        assert!(rt; held(map) == (want, want[0].is_some()), "{value}");
+        let is_put = map.insert(put, value).is_ok();
+        assert!(rt; is_put && held(map) == (want, want[0].is_some()));
     }
 }
 
