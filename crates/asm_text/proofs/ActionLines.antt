@@ -17,8 +17,8 @@ use Rattle.act_code.specs.Reading.{only_if}
 use Rattle.act_code.specs.Script.{IsAction, operand_bytes}
 use Rattle.act_code.specs.Table.{name_of, is_code_of, format_of, made, code_of_action, operands}
 use Rattle.asm_text.specs.ActionText.{small_number, words_of, spaced, operand_words, action_text}
-use Rattle.printed_words.specs.Words.{IsPlain}
-use Rattle.printed_words.proofs.Comparisons.{same}
+use Rattle.line_words.specs.PrintedWords.{IsPlain}
+use Rattle.line_words.proofs.Comparisons.{same}
 use Rattle.asm_text.specs.WordReading.{space_place}
 use Rattle.asm_text.specs.OperandReading.{read, small_word, operands_at}
 use Rattle.act_code.specs.declared.code.TheConstants.{CODES}

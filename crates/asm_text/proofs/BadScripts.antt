@@ -8,9 +8,9 @@ use Rattle.std.proofs.lemmas.List.{append-nil, length-append}
 use Rattle.pi_base.specs.declared.phase.Phase.{Phase}
 use Rattle.pi_base.specs.declared.phase.Phase.TheVariants.{Pei, Dxe}
 use Rattle.act_code.specs.declared.script.Script.{Script}
-use Rattle.printed_words.specs.Words.{Lacks}
-use Rattle.printed_words.proofs.Comparisons.{same}
-use Rattle.printed_words.proofs.LineFeeds.{feed_there, same_line}
+use Rattle.line_words.specs.PrintedWords.{Lacks}
+use Rattle.line_words.proofs.Comparisons.{same}
+use Rattle.line_words.proofs.LineFeeds.{feed_there, same_line}
 use Rattle.asm_text.specs.BadLine.{IsBadLine}
 use Rattle.asm_text.specs.Drafts.{phase_of, with_line, is_whole}
 use Rattle.asm_text.specs.ReadScript.{IsWellFormed, IsScriptOf, IsScriptText}

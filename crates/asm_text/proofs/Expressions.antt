@@ -14,9 +14,9 @@ use Rattle.pi_base.specs.WordText.{guid_text}
 use Rattle.asm_text.specs.ExpressionText.{bracketed, tree_text, expression_text, depex_text}
 use Rattle.asm_text.specs.Front.{behind, guid_word}
 use Rattle.asm_text.specs.ScriptText.{line}
-use Rattle.printed_words.specs.Words.{Lacks, Finds}
-use Rattle.printed_words.proofs.GuidWords.{is_guid_char, guid_chars}
-use Rattle.printed_words.proofs.LineFeeds.{both_lack, feed_there, same_line, same_rest}
+use Rattle.line_words.specs.PrintedWords.{Lacks, Finds}
+use Rattle.line_words.proofs.GuidWords.{is_guid_char, guid_chars}
+use Rattle.line_words.proofs.LineFeeds.{both_lack, feed_there, same_line, same_rest}
 use Rattle.asm_text.specs.BadLine.{IsBadLine}
 use Rattle.asm_text.specs.ReadTree.{IsTreeOf, IsExpressionOf}
 use Rattle.asm_text.specs.ReadDepex.{IsDepexOf, IsDepexText}

@@ -5,7 +5,7 @@ use Rattle.std.specs.Option.{MatchOption}
 use Rattle.std.specs.Borrow.{Bor}
 use Rattle.std.proofs.lemmas.Option.{same_Some}
 use Rattle.std.proofs.lemmas.List.{take_at, drop_at, take-append-drop, length-append}
-use Rattle.printed_words.proofs.Comparisons.{same}
+use Rattle.line_words.proofs.Comparisons.{same}
 use Rattle.asm_text.specs.Front.{behind}
 
 -- a test that was passed

@@ -12,9 +12,9 @@ use Rattle.pi_base.specs.declared.guid.Guid.{Guid}
 use Rattle.pi_base.specs.GuidText.{guid_of_text}
 use Rattle.pi_base.specs.WordText.{guid_text}
 use Rattle.asm_text.specs.Front.{is_guid, spelled_so, guid_word, guid_front}
-use Rattle.printed_words.specs.Words.{Finds, IsGuid}
-use Rattle.printed_words.proofs.Comparisons.{same}
-use Rattle.printed_words.proofs.GuidWords.{is_guid_char, guid_chars, guid_long, guid_back}
+use Rattle.line_words.specs.PrintedWords.{Finds, IsGuid}
+use Rattle.line_words.proofs.Comparisons.{same}
+use Rattle.line_words.proofs.GuidWords.{is_guid_char, guid_chars, guid_long, guid_back}
 use Rattle.asm_text.proofs.Stacks.{bind_some}
 use Rattle.asm_text.proofs.Fronts.{passed, none_of, itself}
 

@@ -3,8 +3,8 @@ use Rattle.std.proofs.Common.{◌≡◌, ◌++◌, ℕ, List, [], ◌∷◌, ref
 use Rattle.std.specs.List.{AllByRecursion}
 use Rattle.std.proofs.lemmas.List.{length-append, append-nil}
 use Rattle.asm_text.specs.ScriptText.{line}
-use Rattle.printed_words.specs.Words.{Lacks}
-use Rattle.printed_words.proofs.LineFeeds.{feed_there, same_line, same_rest}
+use Rattle.line_words.specs.PrintedWords.{Lacks}
+use Rattle.line_words.proofs.LineFeeds.{feed_there, same_line, same_rest}
 
 pub lined : (next after : List ℕ) → line next ++ after ≡ next ++ 10 ∷ after
 lined next after = append_assoc next (10 ∷ []) after

@@ -12,9 +12,9 @@ use Rattle.act_code.specs.declared.action.GuidArg.TheVariants.{Inline, Register}
 use Rattle.act_code.specs.Format.{Format, Value, is_within, Nothing, Byte, Within, RegisterNumber, BlockNumber, Little, GuidBytes, WordNumber, Counted, Text, Registers, Descriptor, HobBody, Pair}
 use Rattle.act_code.specs.Table.{name_of, format_of, code_of_action, operands}
 use Rattle.asm_text.specs.ActionText.{small_number, words_of, spaced, operand_words, action_text, kind_word as shown_kind, guid_words, last_words}
-use Rattle.printed_words.specs.Words.{Lacks, IsPlain}
-use Rattle.printed_words.proofs.LineFeeds.{both_lack}
-use Rattle.printed_words.proofs.PlainWords.{decimal_plain, hexadecimal_plain, guid_plain, encoded_plain}
+use Rattle.line_words.specs.PrintedWords.{Lacks, IsPlain}
+use Rattle.line_words.proofs.LineFeeds.{both_lack}
+use Rattle.line_words.proofs.PlainWords.{decimal_plain, hexadecimal_plain, guid_plain, encoded_plain}
 use Rattle.pi_base.specs.WordText.{hexadecimal, guid_text, word_text}
 use Rattle.asm_text.specs.Numerals.{register}
 use Rattle.asm_text.specs.OperandReading.{small_word}

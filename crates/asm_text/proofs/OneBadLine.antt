@@ -2,8 +2,8 @@
 use Rattle.std.proofs.Common.{◌≡◌, ℕ, ◌<◌, List, [], ◌∷◌, ◌++◌, length, flat_map, refl, sym, ap, subst, ◌∙◌, append_assoc, arith, inl, inr}
 use Rattle.std.specs.List.{AllByRecursion}
 use Rattle.std.proofs.lemmas.Bool.{cases_lt}
-use Rattle.printed_words.specs.Words.{Lacks}
-use Rattle.printed_words.proofs.LineFeeds.{same_line, same_rest}
+use Rattle.line_words.specs.PrintedWords.{Lacks}
+use Rattle.line_words.proofs.LineFeeds.{same_line, same_rest}
 use Rattle.asm_text.specs.BadLine.{IsBadLine}
 use Rattle.asm_text.specs.ScriptText.{line}
 use Rattle.asm_text.proofs.LineFeeds.{line_first}

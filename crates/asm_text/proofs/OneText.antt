@@ -16,7 +16,7 @@ use Rattle.pi_base.specs.WordText.{guid_text}
 use Rattle.asm_text.specs.ExpressionText.{tree_text, expression_text, depex_text}
 use Rattle.asm_text.specs.Front.{guid_word}
 use Rattle.asm_text.specs.Walk.{Place}
-use Rattle.printed_words.specs.Words.{IsGuid}
+use Rattle.line_words.specs.PrintedWords.{IsGuid}
 use Rattle.asm_text.specs.ReadTree.{IsTree, IsExpression}
 use Rattle.asm_text.proofs.Guids.{guid_word_there}
 use Rattle.asm_text.proofs.Paths.{at, Path}

@@ -15,7 +15,7 @@ use Rattle.asm_text.specs.Drafts.{have_room, is_closed, may_end, with_block, may
 use Rattle.asm_text.specs.LineReading.{action_of}
 use Rattle.asm_text.specs.ScriptText.{phase_text, block_text}
 use Rattle.asm_text.specs.Walk.{split_last}
-use Rattle.printed_words.proofs.Comparisons.{same}
+use Rattle.line_words.proofs.Comparisons.{same}
 use Rattle.asm_text.proofs.Fronts.{passed}
 use Rattle.asm_text.proofs.Stacks.{bind_some}
 use Rattle.asm_text.proofs.Paths.{split_push, split_is}

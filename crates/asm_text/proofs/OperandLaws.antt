@@ -13,10 +13,10 @@ use Rattle.act_code.specs.declared.action.GuidArg.TheVariants.{Inline, Register}
 use Rattle.act_code.specs.Format.{Format, Value, is_within, Nothing, Byte, Within, RegisterNumber, BlockNumber, Little, GuidBytes, WordNumber, Counted, Text, Registers, Descriptor, HobBody, Pair}
 use Rattle.act_code.specs.Reading.{◌>>=◌, only_if}
 use Rattle.asm_text.specs.ActionText.{spaced, words_of, kind_word as shown_kind, guid_words, last_words, block_words}
-use Rattle.printed_words.specs.Words.{IsPlain, IsGuid}
-use Rattle.printed_words.proofs.Comparisons.{same}
-use Rattle.printed_words.proofs.GuidWords.{guid_long}
-use Rattle.printed_words.proofs.PlainWords.{decimal_plain, hexadecimal_plain, guid_plain, encoded_plain}
+use Rattle.line_words.specs.PrintedWords.{IsPlain, IsGuid}
+use Rattle.line_words.proofs.Comparisons.{same}
+use Rattle.line_words.proofs.GuidWords.{guid_long}
+use Rattle.line_words.proofs.PlainWords.{decimal_plain, hexadecimal_plain, guid_plain, encoded_plain}
 use Rattle.pi_base.specs.WordText.{hexadecimal, guid_text, word_text}
 use Rattle.asm_text.specs.Numerals.{register}
 use Rattle.asm_text.specs.WordReading.{word_at, number_word, hexadecimal_word}

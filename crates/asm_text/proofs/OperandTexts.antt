@@ -17,8 +17,8 @@ use Rattle.asm_text.specs.ActionText.{spaced, words_of, kind_word as shown_kind,
 use Rattle.asm_text.specs.Front.{behind, guid_word}
 use Rattle.pi_base.specs.WordText.{hexadecimal, guid_text, word_text}
 use Rattle.asm_text.specs.Numerals.{register}
-use Rattle.printed_words.specs.Words.{IsGuid}
-use Rattle.printed_words.proofs.Comparisons.{same}
+use Rattle.line_words.specs.PrintedWords.{IsGuid}
+use Rattle.line_words.proofs.Comparisons.{same}
 use Rattle.asm_text.specs.WordReading.{word_at, number_word, hexadecimal_word, register_word, kind_word, status_word, bytes_word}
 use Rattle.asm_text.specs.OperandReading.{read, register_at, within_at, little_at, guid_at, status_at, bytes_at, counted_at, text_at, registers_within, registers_at, block_at, guid_arg_at, last_at, descriptor_at, hob_at}
 use Rattle.asm_text.proofs.Fronts.{passed, behind_is}

@@ -2,8 +2,8 @@
 use Rattle.std.proofs.Common.{ℕ, ◌<◌, refl, arith}
 use Rattle.pi_base.specs.declared.word.Word.{Word}
 use Rattle.pi_base.specs.declared.word.Word.TheVariants.{Success}
-use Rattle.printed_words.specs.Words.{IsPlain}
-use Rattle.printed_words.proofs.PlainWords.{decimal_plain}
+use Rattle.line_words.specs.PrintedWords.{IsPlain}
+use Rattle.line_words.proofs.PlainWords.{decimal_plain}
 use Rattle.pi_base.specs.WordText.{word_text}
 use Rattle.asm_text.specs.Numerals.{register}
 

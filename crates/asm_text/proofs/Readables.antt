@@ -11,8 +11,8 @@ use Rattle.act_code.specs.declared.code.Code.TheVariants as code
 use Rattle.act_code.specs.Format.{Format, Value, is_within, is_hob, Nothing, Byte, Within, RegisterNumber, BlockNumber, Little, GuidBytes, WordNumber, Counted, Text, Registers, Descriptor, HobBody, Pair}
 use Rattle.act_code.specs.Table.{format_of}
 use Rattle.asm_text.specs.ActionText.{small_number}
-use Rattle.printed_words.specs.Words.{IsPlain, IsGuid}
-use Rattle.printed_words.proofs.PlainWords.{decimal_plain}
+use Rattle.line_words.specs.PrintedWords.{IsPlain, IsGuid}
+use Rattle.line_words.proofs.PlainWords.{decimal_plain}
 use Rattle.asm_text.specs.OperandReading.{small_word}
 use Rattle.asm_text.specs.WordReading.{number_word, choice_word}
 use Rattle.asm_text.proofs.WordLaws.{number_there, number_is, choice_there, choice_is, either_of}

@@ -12,8 +12,8 @@ use Rattle.act_code.specs.declared.code.Code.TheVariants as code
 use Rattle.act_code.specs.declared.script.Script.{Script}
 use Rattle.act_code.specs.Table.{name_of, code_of_action}
 use Rattle.asm_text.specs.ActionText.{spaced, operand_words, action_text}
-use Rattle.printed_words.specs.Words.{Lacks}
-use Rattle.printed_words.proofs.Comparisons.{same}
+use Rattle.line_words.specs.PrintedWords.{Lacks}
+use Rattle.line_words.proofs.Comparisons.{same}
 use Rattle.asm_text.specs.ReadScript.{IsWellFormed}
 use Rattle.asm_text.specs.ScriptText.{phase_text, block_text, line, action_line, block_lines, script_text}
 use Rattle.asm_text.specs.WordReading.{space_place}

@@ -12,7 +12,7 @@ use Rattle.asm_text.specs.declared.token.Token.TheVariants.{Waits, Is}
 use Rattle.pi_base.specs.WordText.{guid_text}
 use Rattle.asm_text.specs.Front.{behind, guid_front}
 use Rattle.asm_text.specs.Walk.{with_token, token_at, operator_at}
-use Rattle.printed_words.specs.Words.{IsGuid}
+use Rattle.line_words.specs.PrintedWords.{IsGuid}
 use Rattle.asm_text.proofs.Fronts.{behind_is, behind_none}
 use Rattle.asm_text.proofs.Guids.{guid_at_front, guid_front_is, guid_front_there, mapped}
 

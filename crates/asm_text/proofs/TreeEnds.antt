@@ -3,13 +3,13 @@ use Rattle.std.proofs.Common.{◌≡◌, ℕ, Bool, true, false, eqb, List, [], 
 use Rattle.std.proofs.lemmas.List.{append-nil}
 use Rattle.std.proofs.lemmas.Bool.{false≢true, eqb-true}
 use Rattle.depex_code.specs.declared.opcode.Opcode.{Opcode}
-use Rattle.std.specs.Prelude.{IfSome, IfNone}
+use Rattle.std.specs.Prelude.{IfSome, IfNone, MatchBool}
 use Rattle.depex_code.specs.Tree.{DepexTree, postfix}
 use Rattle.depex_code.specs.TreeCode.{tree_of, tree_of-postfix}
 use Rattle.asm_text.specs.declared.token.Waiting.{Waiting}
 use Rattle.asm_text.specs.ExpressionText.{tree_text}
 use Rattle.asm_text.specs.Walk.{Place, step, next_place}
-use Rattle.printed_words.specs.Words.{Finds}
+use Rattle.line_words.specs.PrintedWords.{Finds}
 use Rattle.asm_text.specs.ReadTree.{IsTreeOf, IsCodeOf}
 use Rattle.asm_text.proofs.Paths.{at, Path, path_on, path_stays}
 use Rattle.asm_text.proofs.TreePaths.{passes}
@@ -34,7 +34,7 @@ walked_out text rest ended waiting code path way stop other node is =
 same_at : (rest : List ℕ) (ended : Bool) (waiting : List Waiting) (code : List Opcode) → ended ≡ true → waiting ≡ [] → at rest ended waiting code ≡ at rest true [] code
 same_at rest ended waiting code a b = ap (λ e. at rest e waiting code) a ∙ ap (λ w. at rest true w code) b
 
-pub walked_short : (text rest : List ℕ) (ended : Bool) (waiting : List Waiting) (code : List Opcode) (path : List Place) → Path (at text false [] []) path (at rest ended waiting code)
+walked_short : (text rest : List ℕ) (ended : Bool) (waiting : List Waiting) (code : List Opcode) (path : List Place) → Path (at text false [] []) path (at rest ended waiting code)
     → (ended ≡ true) × (waiting ≡ []) → (rest ≡ [] → ⊥) → (node : DepexTree) → IsTreeOf text node → ⊥
 walked_short text rest ended waiting code path way end more node is =
     let there : Path (at text false [] []) path (at rest true [] code) = subst (Path (at text false [] []) path) (same_at rest ended waiting code end.0 end.1) way in
@@ -44,7 +44,7 @@ end_of : (text left : List ℕ) (code : List Opcode) (frames : List Frame) → [
 end_of text left code [] waits here behind = (behind.0, (behind.1, here ∙ behind.2 ∙ append-nil (tree_text behind.0)), behind.3)
 end_of text left code (frame ∷ frames) waits here behind = absurd cc
 
-pub walked_end : (text rest : List ℕ) (ended : Bool) (waiting : List Waiting) (code : List Opcode) (path : List Place) → Path (at text false [] []) path (at rest ended waiting code)
+walked_end : (text rest : List ℕ) (ended : Bool) (waiting : List Waiting) (code : List Opcode) (path : List Place) → Path (at text false [] []) path (at rest ended waiting code)
     → (ended ≡ true) × (waiting ≡ []) → rest ≡ [] → IsCodeOf text code
 walked_end text rest ended waiting code path way end none =
     let same = same_at rest ended waiting code end.0 end.1 ∙ ap (λ r. at r true [] code) none in
@@ -67,3 +67,9 @@ empty_is (x ∷ xs) r is here = let never : eqb (length (x ∷ xs)) 0 ≡ true =
 
 pub not_empty : (xs : List ℕ) (r : Bool) → r ≡ eqb (length xs) 0 → r ≡ false → xs ≡ [] → ⊥
 not_empty xs r is other none = false≢true (sym other ∙ is ∙ ap (λ l. eqb (length l) 0) none)
+
+-- a way to where the text of a tree may end
+pub walked_to : (text rest : List ℕ) (ended : Bool) (waiting : List Waiting) (code : List Opcode) (path : List Place) → Path (at text false [] []) path (at rest ended waiting code)
+    → (ended ≡ true) × (waiting ≡ []) → (r : Bool) → r ≡ eqb (length rest) 0 → MatchBool r (IsCodeOf text code) ((node : DepexTree) → IsTreeOf text node → ⊥)
+walked_to text rest ended waiting code path way end true is = walked_end text rest ended waiting code path way end (empty_is rest true is refl)
+walked_to text rest ended waiting code path way end false is = walked_short text rest ended waiting code path way end (not_empty rest false is refl)

@@ -19,9 +19,9 @@ use Rattle.asm_text.specs.ActionText.{kind_word as shown_kind}
 use Rattle.asm_text.specs.Front.{behind}
 use Rattle.pi_base.specs.WordText.{hexadecimal, word_text}
 use Rattle.asm_text.specs.Numerals.{register}
-use Rattle.printed_words.specs.Words.{Finds}
-use Rattle.printed_words.proofs.Comparisons.{same}
-use Rattle.printed_words.proofs.Numerals.{numeral}
+use Rattle.line_words.specs.PrintedWords.{Finds}
+use Rattle.line_words.proofs.Comparisons.{same}
+use Rattle.line_words.proofs.Numerals.{numeral}
 use Rattle.asm_text.specs.WordReading.{number_word, hexadecimal_word, register_word, choice_word, kind_word, status_word, shown_by, bytes_word}
 use Rattle.asm_text.proofs.Fronts.{passed, none_of, itself, behind_is, behind_there}
 use Rattle.asm_text.proofs.Stacks.{bind_some}

@@ -7,7 +7,7 @@ use Rattle.std.proofs.lemmas.Bool.Decides.{nat_tests}
 use Rattle.std.proofs.lemmas.Option.{same_Some}
 use Rattle.std.proofs.lemmas.List.{append-nil, take_at, drop_at, take-append-drop}
 use Rattle.asm_text.specs.ActionText.{spaced}
-use Rattle.printed_words.specs.Words.{IsPlain}
+use Rattle.line_words.specs.PrintedWords.{IsPlain}
 use Rattle.asm_text.specs.Front.{behind}
 use Rattle.asm_text.specs.WordReading.{space_place, word_at}
 use Rattle.asm_text.proofs.Fronts.{behind_is}

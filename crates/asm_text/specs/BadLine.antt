@@ -1,7 +1,7 @@
 -- Lines, and the first line of a text with which it goes wrong (own).
 use Rattle.std.specs.Prelude.{◌≡◌, ℕ, ◌+◌, List, ◌++◌, length, flat_map}
 use Rattle.std.specs.List.{AllByRecursion}
-use Rattle.printed_words.specs.Words.{Lacks}
+use Rattle.line_words.specs.PrintedWords.{Lacks}
 use Rattle.asm_text.specs.ScriptText.{line}
 
 -- the text is none of a kind. Its lines before the one of this number begin a text of the kind, and with that line, where it is there whole, they begin none

@@ -1,5 +1,5 @@
 // Actions as lines.
-ghost use Rattle.std.specs.Prelude.{◌≡◌, ◌==◌, if◌then◌else◌, ◌++◌, ◌∷◌, map, flat_map, decimal, OnOk};
+ghost use Rattle.std.specs.Prelude.{◌≡◌, ◌==◌, if◌then◌else◌, ◌++◌, ◌∷◌, [], map, flat_map, decimal, OnOk};
 ghost use Rattle.hex.specs.Hex.{encode_lower};
 ghost use Rattle.pi_base.specs.WordText.{hexadecimal};
 ghost use Rattle.asm_text.specs.Numerals.{register};
@@ -9,8 +9,8 @@ ghost use Rattle.asm_text.specs.ScriptText.{action_line};
 
 use act_code::descriptor_kind::{CALLBACK, PPI};
 use act_code::{Action, Code, GuidArg, Operand, operand_by_operand};
+use line_words::printed::LINE_FEED;
 use pi_base::{DECIMAL_LEN, HEXADECIMAL_LEN, OutOfMemory, Seq, decimal, hexadecimal};
-use printed_words::LINE_FEED;
 
 // Adds some bytes, and a number in decimal.
 fn put_decimal(out: &mut Seq<u8>, front: &[u8], n: u64) -> Result<(), OutOfMemory>
@@ -128,6 +128,14 @@ fn put_descriptor(out: &mut Seq<u8>, kind: u8, guid: &GuidArg, arg: u8) -> Resul
     put_last(out, kind, arg)
 }
 
+// Adds the type of a HOB and its body.
+fn put_hob(out: &mut Seq<u8>, kind: u8, body: &[u8]) -> Result<(), OutOfMemory>
+    ensures { OnOk result (out.new ≡ out.old ++ flat_map spaced (decimal kind ∷ encode_lower body.now ∷ [])) }
+{
+    put_decimal(out, b" ", u64::from(kind))?;
+    put_bytes(out, body)
+}
+
 // Adds an operand of the action of a code, each of its words behind a space.
 fn put_operand(out: &mut Seq<u8>, code: Code, operand: &Operand<'_>) -> Result<(), OutOfMemory>
     ensures { OnOk result (out.new ≡ out.old ++ told (operand_text code) operand.now) }
@@ -147,10 +155,7 @@ fn put_operand(out: &mut Seq<u8>, code: Code, operand: &Operand<'_>) -> Result<(
         Operand::Text(text) => put_word(out, text.as_slice()),
         Operand::Registers(list) => put_registers(out, list.as_slice()),
         Operand::Descriptor(kind, guid, arg) => put_descriptor(out, *kind, guid, *arg),
-        Operand::Hob(kind, body) => {
-            put_decimal(out, b" ", u64::from(*kind))?;
-            put_bytes(out, body.as_slice())
-        }
+        Operand::Hob(kind, body) => put_hob(out, *kind, body.as_slice()),
     }
 }
 

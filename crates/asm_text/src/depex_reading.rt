@@ -5,7 +5,7 @@ ghost use Rattle.depex_code.specs.declared.depex.Depex.TheVariants as depex;
 ghost use Rattle.depex_code.specs.Expression.{instructions};
 ghost use Rattle.depex_code.specs.Tree.{DepexTree};
 ghost use Rattle.asm_text.specs.Front.{guid_word};
-ghost use Rattle.printed_words.specs.Words.{Finds};
+ghost use Rattle.line_words.specs.PrintedWords.{Finds};
 ghost use Rattle.asm_text.specs.ReadTree.{IsTreeOf, IsExpressionOf};
 ghost use Rattle.asm_text.specs.ReadDepex.{IsDepexOf, IsDepexRefused, GivesBack};
 
@@ -13,8 +13,8 @@ use crate::fault::TextFault;
 use crate::front::{behind, guid_word};
 use crate::tree_reading::tree_of;
 use depex_code::{Depex, MOST_OPCODES};
+use line_words::printed::first_line;
 use pi_base::{OutOfMemory, Seq};
-use printed_words::first_line;
 use std::alloc::Global;
 
 // The driver's name behind `before`.

@@ -3,20 +3,17 @@ ghost use Rattle.std.specs.Prelude.{◌≡◌, ◌++◌, IfOk};
 ghost use Rattle.asm_text.specs.ExpressionText.{expression_text, depex_text, sor_text, tree_text};
 ghost use Rattle.pi_base.specs.WordText.{guid_text};
 
-use crate::tree_text::tree_text;
+use crate::tree_text::{joined, tree_text};
 use depex_code::{Depex, Tree};
+use line_words::printed::LINE_FEED;
 use pi_base::{Guid, OutOfMemory, Seq};
-use printed_words::LINE_FEED;
 use std::alloc::Global;
 
 // A word and the text of a GUID.
 fn guid_line(alloc: Global, front: &[u8], guid: &Guid) -> Result<Seq<u8>, OutOfMemory>
     ensures { IfOk result (λ text. text ≡ front.now ++ guid_text guid.now) }
 {
-    let mut text = Seq::new(alloc);
-    text.append(front)?;
-    text.append(&guid.to_text())?;
-    Ok(text)
+    joined(alloc, front, &guid.to_text())
 }
 
 // The word in front of a tree.
@@ -30,10 +27,8 @@ fn sor_text(sor: bool) -> &'static [u8]
 fn tree_line(alloc: Global, sor: bool, tree: &Tree) -> Result<Seq<u8>, OutOfMemory>
     ensures { IfOk result (λ text. text ≡ sor_text sor ++ tree_text tree.now) }
 {
-    let mut text = Seq::new(alloc);
-    text.append(sor_text(sor))?;
-    text.append(tree_text(alloc, tree)?.as_slice())?;
-    Ok(text)
+    let text = tree_text(alloc, tree)?;
+    joined(alloc, sor_text(sor), text.as_slice())
 }
 
 // The line without its line feed.

@@ -2,8 +2,8 @@
 ghost use Rattle.std.specs.Prelude.{◌≡◌, ◌+◌, ◌<◌, length, option_map, IfSome};
 ghost use Rattle.asm_text.specs.Front.{behind, guid_word, guid_front};
 
+use line_words::printed::guid_of;
 use pi_base::Guid;
-use printed_words::guid_of;
 
 /// The length of a GUID's text.
 const GUID_TEXT_LEN: usize = 36;
@@ -13,7 +13,7 @@ pub(crate) fn behind<'a>(text: &'a [u8], front: &[u8]) -> Option<&'a [u8]>
     ensures found { option_map (λ rest. rest.now) result ≡ behind front.now text.now }
     ensures shorter { IfSome result (λ rest. length rest.now + length front.now ≡ length text.now) }
 {
-    printed_words::behind(text, front)
+    line_words::printed::behind(text, front)
 }
 
 // The GUID whose text the word is.

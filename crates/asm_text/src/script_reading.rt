@@ -10,8 +10,8 @@ use crate::draft::{is_whole, with_line};
 use crate::fault::TextFault;
 use crate::script_text::phase_text;
 use act_code::{Script, Unread, WriteFault, write_script};
+use line_words::printed::first_line;
 use pi_base::{Phase, Seq};
-use printed_words::first_line;
 use std::alloc::Global;
 
 // The phase of a first line.

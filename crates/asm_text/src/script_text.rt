@@ -4,8 +4,8 @@ ghost use Rattle.asm_text.specs.ScriptText.{line, phase_text, block_text, block_
 
 use crate::action_text::put_action;
 use act_code::{Action, Script};
+use line_words::printed::LINE_FEED;
 use pi_base::{OutOfMemory, Phase, Seq};
-use printed_words::LINE_FEED;
 use std::alloc::Global;
 
 // The text of the line with the phase.

@@ -1,12 +1,13 @@
 // Reading the text of a tree, with a stack of what waits for an operand.
-ghost use Rattle.std.specs.Prelude.{◌≡◌, ◌≤◌, ◌<◌, ◌+◌, ◌*◌, ◌++◌, [], List, true, false, codes, length, IfOk, IfSome};
+ghost use Rattle.std.specs.Prelude.{◌≡◌, ◌≤◌, ◌<◌, ◌+◌, ◌*◌, ◌++◌, [], List, Some, true, false, codes, length, IfOk, IfSome, MatchBool};
 ghost use Rattle.depex_code.specs.declared.opcode.Opcode.{Opcode};
 ghost use Rattle.depex_code.specs.declared.opcode.Opcode.TheVariants as opcode;
+ghost use Rattle.depex_code.specs.Tree.{DepexTree};
 ghost use Rattle.asm_text.specs.declared.token.Waiting.{Waiting};
 ghost use Rattle.asm_text.specs.Front.{behind};
 ghost use Rattle.asm_text.specs.Walk.{Goes, turned, opened, closed, resumed, split_last, next_place, token_at, operator_at};
-ghost use Rattle.printed_words.specs.Words.{Finds};
-ghost use Rattle.asm_text.specs.ReadTree.{FindsCode, IsTreeOf};
+ghost use Rattle.line_words.specs.PrintedWords.{Finds};
+ghost use Rattle.asm_text.specs.ReadTree.{FindsCode, IsCodeOf, IsTreeOf};
 
 use crate::front::behind;
 use crate::token::{Token, Waiting, operator_at, token_at};
@@ -55,6 +56,19 @@ fn open<'a>(
     Ok(Some((rest, false)))
 }
 
+// What follows an operand that ends with its operator.
+fn ended_by<'a>(
+    text: &'a [u8],
+    code: &mut Seq<Opcode>,
+    operator: Opcode,
+) -> Result<Option<(&'a [u8], bool)>, OutOfMemory>
+    ensures goes { (waiting : List Waiting) → IfOk result (Goes (closed waiting code.old operator (Some text.now)) waiting code.new) }
+    ensures less { IfOk result (λ next. IfSome next (λ x. length x.0.now ≤ length text.now)) }
+{
+    code.push(operator)?;
+    Ok(Some((text, true)))
+}
+
 // What follows the closing bracket behind the operands of an operator.
 fn close<'a>(
     text: &'a [u8],
@@ -65,11 +79,10 @@ fn close<'a>(
         → IfOk result (Goes (closed waiting code.old operator (behind (codes ")") text.now)) waiting code.new) }
     ensures less { IfOk result (λ next. IfSome next (λ x. length x.0.now < length text.now)) }
 {
-    let Some(rest) = behind(text, b")") else {
-        return Ok(None);
-    };
-    code.push(operator)?;
-    Ok(Some((rest, true)))
+    match behind(text, b")") {
+        Some(rest) => ended_by(rest, code, operator),
+        None => Ok(None),
+    }
 }
 
 // What follows where an operand ended, by what waits for it.
@@ -86,10 +99,7 @@ fn resume<'a>(
         return Ok(None);
     };
     match what {
-        Waiting::Negation => {
-            code.push(Opcode::Not)?;
-            Ok(Some((text, true)))
-        }
+        Waiting::Negation => ended_by(text, code, Opcode::Not),
         Waiting::First => open(text, waiting),
         Waiting::Conjunction => close(text, code, Opcode::And),
         Waiting::Disjunction => close(text, code, Opcode::Or),
@@ -122,27 +132,40 @@ fn goes_on(ended: bool, waiting: &Seq<Waiting>) -> bool
     !ended || !waiting.is_empty()
 }
 
-// The postfix opcodes of the tree whose text this is.
-fn code_of(alloc: Global, text: &[u8]) -> Result<Option<Seq<Opcode>>, OutOfMemory>
-    ensures { IfOk result (FindsCode text.now) }
+// Whether the text is that of a tree, whose postfix opcodes are then written.
+fn walk(
+    text: &[u8],
+    waiting: &mut Seq<Waiting>,
+    code: &mut Seq<Opcode>,
+) -> Result<bool, OutOfMemory>
+    requires waiting { waiting.old ≡ [] }
+    requires code { code.old ≡ [] }
+    ensures { IfOk result (λ is. MatchBool is (IsCodeOf text.now code.new) ((node : DepexTree) → IsTreeOf text.now node → ⊥)) }
 {
-    let mut code = Seq::new(alloc);
-    let mut waiting = Seq::new(alloc);
     let mut rest = text;
     let mut ended = false;
-    'walk: while goes_on(ended, &waiting) {
-        match go(rest, ended, &mut waiting, &mut code)? {
+    'walk: while goes_on(ended, waiting) {
+        match go(rest, ended, waiting, code)? {
             Some((behind, at_end)) => {
                 rest = behind;
                 ended = at_end;
             }
-            None => return Ok(None),
+            None => return Ok(false),
         }
     }
-    if rest.is_empty() {
-        Ok(Some(code))
-    } else {
-        Ok(None)
+    Ok(rest.is_empty())
+}
+
+// The postfix opcodes of the tree whose text this is.
+fn code_of(alloc: Global, text: &[u8]) -> Result<Option<Seq<Opcode>>, OutOfMemory>
+    ensures { IfOk result (FindsCode text.now) }
+{
+    let mut waiting = Seq::new(alloc);
+    let mut code = Seq::new(alloc);
+    match walk(text, &mut waiting, &mut code) {
+        Ok(true) => Ok(Some(code)),
+        Ok(false) => Ok(None),
+        Err(want) => Err(want),
     }
 }
 

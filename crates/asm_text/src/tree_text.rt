@@ -10,7 +10,7 @@ use pi_base::{OutOfMemory, Seq};
 use std::alloc::Global;
 
 // The texts one behind the other.
-fn joined(alloc: Global, front: &[u8], text: &[u8]) -> Result<Seq<u8>, OutOfMemory>
+pub(crate) fn joined(alloc: Global, front: &[u8], text: &[u8]) -> Result<Seq<u8>, OutOfMemory>
     ensures { IfOk result (λ whole. whole ≡ front.now ++ text.now) }
 {
     let mut whole = Seq::new(alloc);

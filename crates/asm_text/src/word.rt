@@ -9,8 +9,8 @@ use act_code::Unread;
 use act_code::descriptor_kind::{CALLBACK, DISPATCH, PPI};
 use hex::FromHexError;
 use line_words::place_of;
+use line_words::printed::{decimal_of, hexadecimal_of};
 use pi_base::{Seq, Word};
-use printed_words::{decimal_of, hexadecimal_of};
 use std::alloc::Global;
 
 const SPACE: u8 = b' ';

@@ -1,4 +1,4 @@
-//! What all other crates stand on, tried by itself: fields, GUIDs, lists and texts, words, maps, files, sinks and memory.
+//! What all other crates stand on, tried by itself: GUIDs and their texts, maps by GUID, real files and sinks.
 #![tactic(auto)]
 
 #[cfg(test)]
@@ -9,9 +9,3 @@ mod devices;
 mod guid_indexes;
 #[cfg(test)]
 mod guid_maps;
-#[cfg(test)]
-mod memory;
-#[cfg(test)]
-mod plan_lines;
-#[cfg(test)]
-mod printed_texts;

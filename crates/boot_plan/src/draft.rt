@@ -5,7 +5,7 @@ ghost use Rattle.boot_plan.specs.View.{form_view, entry_view};
 
 use crate::entry::{Entry, read_entry};
 use crate::fault::{PlanCause, PlanFault};
-use crate::form::form_of;
+use crate::form::{Form, form_of};
 use crate::limits::{
     LEAST_ADDRESS, LEAST_RAM, LEAST_TEMP, MOST_END, MOST_FUEL, MOST_PAGES, MOST_PLAN_VOLUMES,
     MOST_RAM, MOST_TEMP, VOLUME_ALIGNMENT,
@@ -16,7 +16,7 @@ use pi_base::{OutOfMemory, PAGE_LEN, Seq};
 use std::alloc::Global;
 
 // Memory that a line gives.
-#[derive(Clone, Copy, PartialEq, Eq)]
+#[derive(Clone, Copy)]
 pub struct Area {
     pub line: u32,
     pub base: u64,
@@ -24,7 +24,7 @@ pub struct Area {
 }
 
 // A number that a line gives.
-#[derive(Clone, Copy, PartialEq, Eq)]
+#[derive(Clone, Copy)]
 pub struct Amount {
     pub line: u32,
     pub value: u64,
@@ -70,20 +70,20 @@ impl Draft {
     }
 
     // Whether the line is a second one of a kind that comes once.
-    fn is_repeated(&self, form: &Entry<'_, &[u8]>) -> bool
+    fn is_repeated(&self, form: &Form<'_>) -> bool
         ensures { (before : List Said) → Keeps before self.now → result ≡ is_repeated before (form_view form.now) }
     {
         match form {
-            Entry::Temp { .. } => self.temp.is_some(),
-            Entry::Ram { .. } => self.ram.is_some(),
-            Entry::Volume { .. } => false,
-            Entry::Fuel { .. } => self.fuel.is_some(),
-            Entry::Pages { .. } => self.pages.is_some(),
+            Form::Temp { .. } => self.temp.is_some(),
+            Form::Ram { .. } => self.ram.is_some(),
+            Form::Volume { .. } => false,
+            Form::Fuel { .. } => self.fuel.is_some(),
+            Form::Pages { .. } => self.pages.is_some(),
         }
     }
 
     // Whether the values are within their limits.
-    fn is_within(&self, entry: &Entry<'_, u64>) -> bool
+    fn is_within(&self, entry: &Entry<'_>) -> bool
         ensures { (before : List Said) → Keeps before self.now → result ≡ is_within before (entry_view entry.now) }
     {
         match *entry {
@@ -100,7 +100,7 @@ impl Draft {
     }
 
     // Adds what a line says.
-    fn put(&mut self, line: u32, entry: Entry<'_, u64>) -> Result<(), OutOfMemory>
+    fn put(&mut self, line: u32, entry: Entry<'_>) -> Result<(), OutOfMemory>
         ensures keeps { OnOk result ((before : List Said) → Keeps before self.old → HasPlace before (entry_view entry.entry)
             → Keeps (before ++ record { line = line; entry = entry_view entry.entry } ∷ []) self.new) }
         ensures range { OnOk result (IsInRange self.old → IsEntryInRange self.old (entry_view entry.entry) → IsInRange self.new) }

@@ -3,7 +3,6 @@ ghost use Rattle.std.specs.Prelude.{◌≡◌, option_map};
 ghost use Rattle.boot_plan.specs.Form.{form_of, short_form, long_form};
 ghost use Rattle.boot_plan.specs.View.{form_view};
 
-use crate::entry::Entry;
 use crate::limits::MOST_NAME;
 use line_words::{first_word, is_plain};
 
@@ -17,17 +16,24 @@ const FUEL: [u8; 4] = *b"fuel";
 
 const PAGES: [u8; 5] = *b"pages";
 
-// The form of a line whose numbers are words.
-type Form<'a> = Entry<'a, &'a [u8]>;
+// The form of a line, by its first word: its numbers are words.
+#[derive(Clone, Copy)]
+pub enum Form<'a> {
+    Temp { base: &'a [u8], size: &'a [u8] },
+    Ram { base: &'a [u8], size: &'a [u8] },
+    Volume { base: &'a [u8], name: &'a [u8] },
+    Fuel { count: &'a [u8] },
+    Pages { size: &'a [u8] },
+}
 
 // The form of two words.
 fn short_form<'a>(keyword: &[u8], number: &'a [u8]) -> Option<Form<'a>>
     ensures { option_map form_view result ≡ short_form keyword.now number.now }
 {
     if keyword == FUEL.as_slice() {
-        Some(Entry::Fuel { count: number })
+        Some(Form::Fuel { count: number })
     } else if keyword == PAGES.as_slice() {
-        Some(Entry::Pages { size: number })
+        Some(Form::Pages { size: number })
     } else {
         None
     }
@@ -38,11 +44,11 @@ fn long_form<'a>(keyword: &[u8], base: &'a [u8], last: &'a [u8]) -> Option<Form<
     ensures { option_map form_view result ≡ long_form keyword.now base.now last.now }
 {
     if keyword == TEMP.as_slice() {
-        Some(Entry::Temp { base, size: last })
+        Some(Form::Temp { base, size: last })
     } else if keyword == RAM.as_slice() {
-        Some(Entry::Ram { base, size: last })
+        Some(Form::Ram { base, size: last })
     } else if keyword == VOLUME.as_slice() && last.len() <= MOST_NAME {
-        Some(Entry::Volume { base, name: last })
+        Some(Form::Volume { base, name: last })
     } else {
         None
     }

@@ -8,7 +8,7 @@ use Rattle.store_model.specs.HandleState.{has_protocol}
 use Rattle.boot_model.specs.declared.line.Reason.{Reason}
 use Rattle.boot_model.specs.DxeChoice.{is_waiting}
 use Rattle.boot_model.specs.DxeStep.{driver_reason}
-use Rattle.expression_needs.specs.Would.{would}
+use Rattle.boot_reasons.specs.Would.{would}
 use Rattle.explain_text.specs.declared.reasons.Need.{Need}
 use Rattle.boot_reasons.specs.Needs.{needs_of}
 use Rattle.pi_base.specs.declared.guid.Guid.{Guid}

@@ -29,7 +29,7 @@ use Rattle.dxe_dispatch.specs.Turns.{IsLeft, IsStep, StartsNone}
 use Rattle.dxe_dispatch.proofs.Chosen.{Any, StepLaws, nearer_by, target_at, waits_behind}
 use Rattle.dxe_dispatch.proofs.ChosenWays.{opening_queue}
 use Rattle.dxe_dispatch.proofs.Targets.{Aimed, First, IsTarget, Own}
-use Rattle.frames.specs.Frames.{top_of}
+use Rattle.phase_parts.specs.Frames.{top_of}
 use Rattle.boot_laws.specs.declared.choice.Reached.{Reached}
 use Rattle.boot_laws.specs.declared.choice.Reached.TheVariants as R
 use Rattle.boot_laws.specs.DxeAim.{FirstEligibleMayStart}

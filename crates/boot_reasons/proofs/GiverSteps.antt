@@ -5,7 +5,7 @@ use Rattle.std.specs.Prelude.{unwrap_or}
 use Rattle.std.proofs.lemmas.Slice.Eq.{bytes_eq-Decides}
 use Rattle.pi_base.specs.declared.guid.Guid.{Guid}
 use Rattle.pi_base.specs.Guids.{same_guid}
-use Rattle.guid_map.specs.GuidMap.{IsPut, value_of}
+use Rattle.pi_base.specs.GuidMap.{IsPut, value_of}
 use Rattle.boot_laws.specs.ChangedGuids.{is_among}
 use Rattle.explain_text.specs.declared.reasons.Giver.{Giver}
 use Rattle.explain_text.specs.declared.reasons.Giver.TheVariants.{Core, Module, Absent}

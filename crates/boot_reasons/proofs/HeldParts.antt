@@ -9,7 +9,7 @@ use Rattle.catalog_model.specs.Parts.{part_at}
 use Rattle.store_model.specs.StoreState.{StoreState}
 use Rattle.store_model.specs.Service.Install.{has_ppi}
 use Rattle.boot_model.specs.declared.line.Reason.{Reason}
-use Rattle.expression_needs.specs.Would.{would}
+use Rattle.boot_reasons.specs.Would.{would}
 use Rattle.explain_text.specs.declared.reasons.Giver.{Giver}
 use Rattle.explain_text.specs.declared.reasons.Need.{Need}
 use Rattle.boot_reasons.specs.Needs.{need_of, needs_of}

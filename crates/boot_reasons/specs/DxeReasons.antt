@@ -15,7 +15,7 @@ use Rattle.boot_model.specs.DxeChoice.{waiting}
 use Rattle.boot_model.specs.declared.driver.Scheduled.{Scheduled}
 use Rattle.boot_model.specs.DxeMachine.{DxeMachine}
 use Rattle.boot_model.specs.DxeStep.{DxeCase, DxeFires, DxeActs, DxeStarts, DxeStops, driver_reason, dxe_case_of}
-use Rattle.expression_needs.specs.Would.{would}
+use Rattle.boot_reasons.specs.Would.{would}
 use Rattle.boot_reasons.specs.Givers.{actor_in, giver_along}
 use Rattle.boot_reasons.specs.Needs.{needs_of}
 use Rattle.explain_text.specs.declared.reasons.Begun.{Begun}

@@ -1,3 +1,4 @@
+pub mod Asked
 pub mod Boots
 pub mod DxeReasons
 pub mod DxeTelling
@@ -6,8 +7,11 @@ pub mod Givers
 pub mod Joining
 pub mod Moving
 pub mod Needs
+pub mod NotedOnce
 pub mod Noting
 pub mod PeiEnding
 pub mod PeiReasons
 pub mod PeiTelling
+pub mod Sides
 pub mod Unseen
+pub mod Would

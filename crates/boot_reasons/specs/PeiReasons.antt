@@ -14,7 +14,7 @@ use Rattle.boot_model.specs.Eligible.{licence_at}
 use Rattle.boot_model.specs.PeiChoice.{pei_order}
 use Rattle.boot_model.specs.PeiMachine.{PeiMachine}
 use Rattle.boot_model.specs.PeiStep.{reason_of}
-use Rattle.expression_needs.specs.Would.{would}
+use Rattle.boot_reasons.specs.Would.{would}
 use Rattle.boot_reasons.specs.Moving.{moved_between}
 use Rattle.boot_reasons.specs.Givers.{actor_in, giver_along}
 use Rattle.boot_reasons.specs.Needs.{needs_of}

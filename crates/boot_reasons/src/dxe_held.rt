@@ -9,16 +9,15 @@ ghost use Rattle.boot_reasons.specs.DxeReasons.{dxe_held, dxe_held_at};
 ghost use Rattle.boot_reasons.specs.DxeTelling.{held_where};
 ghost use Rattle.boot_reasons.specs.Noting.{giver_in};
 
+use crate::coming::would;
 use crate::givers::Givers;
 use crate::needs::needs_of;
 use crate::waiters::push_held;
 use catalog_model::Catalog;
-use dxe_action::is_requested;
-use dxe_core::Dxe;
+use dxe_core::{Dxe, is_requested};
 use dxe_dispatch::{DriverQueue, reason_of};
 use explain_text::Held;
-use expression_needs::would;
-use frames::part_of;
+use phase_parts::part_of;
 use pi_base::{OutOfMemory, Phase, Seq};
 use std::alloc::Global;
 

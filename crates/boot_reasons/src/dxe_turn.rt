@@ -2,7 +2,7 @@
 ghost use Rattle.std.specs.Prelude.{◌≡◌, ◌++◌, OnOk};
 ghost use Rattle.std.specs.Option.{option_to_list};
 ghost use Rattle.boot_model.specs.DxeMachine.{DxeMachine};
-ghost use Rattle.dxe_action.specs.Order.{IsOrderOf};
+ghost use Rattle.dxe_core.specs.Order.{IsOrderOf};
 ghost use Rattle.dxe_core.specs.Standing.{IsCoreOf};
 ghost use Rattle.store_model.specs.HandleState.{has_protocol};
 ghost use Rattle.boot_reasons.specs.DxeReasons.{beside_by, dxe_begun_at};
@@ -14,11 +14,10 @@ use crate::needs::needs_of;
 use crate::told::DxeTold;
 use boot_model::{Licence, Scheduled};
 use catalog_model::Catalog;
-use dxe_action::DriverOrder;
-use dxe_core::Dxe;
+use dxe_core::{DriverOrder, Dxe};
 use dxe_dispatch::{Step, target_of};
 use explain_text::{Begun, Giver};
-use frames::part_of;
+use phase_parts::part_of;
 use pi_base::{Guid, OutOfMemory, Phase};
 
 // Tells of an event whether its protocol came or went.

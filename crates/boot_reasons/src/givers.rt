@@ -7,8 +7,7 @@ ghost use Rattle.explain_text.specs.declared.reasons.Giver.TheVariants.{Absent};
 
 use depex_code::GuidSet;
 use explain_text::Giver;
-use guid_map::GuidMap;
-use pi_base::{Guid, OutOfMemory};
+use pi_base::{Guid, GuidMap, OutOfMemory};
 use std::alloc::Global;
 
 /// Who makes a step, by the module whose script runs.

@@ -3,10 +3,10 @@ ghost use Rattle.std.specs.Prelude.{◌≡◌, IfOk};
 ghost use Rattle.boot_reasons.specs.Needs.{needs_of};
 ghost use Rattle.boot_reasons.specs.Noting.{giver_in};
 
+use crate::asking::asked;
 use crate::givers::Givers;
 use catalog_model::Part;
 use explain_text::Need;
-use expression_needs::asked;
 use pi_base::{OutOfMemory, Phase, Seq};
 use std::alloc::Global;
 

@@ -100,7 +100,32 @@ fn explain_end<M: PeiStore + Drop>(
     })
 }
 
-// The whole of PEI. The expressions that are evaluated are counted in the ledger of a blank.
+// The whole of PEI from its opening, over the queue of the opening.
+fn explain_opened<M: PeiStore + Drop, C: Choice<Nowhere>, L: Ledger>(
+    alloc: Global,
+    pei: &mut Pei<M>,
+    queue: &mut PeiQueue,
+    choice: &C,
+    catalog: &Catalog,
+    steps: &mut Steps<L>,
+) -> Result<Reached<PeiExplained>, OutOfMemory>
+    requires catalog { IsWellFormed catalog.now }
+    requires opening { StandsAtOpening M.stands_for catalog.now pei.old }
+    requires queue { IsOpened M.stands_for catalog.now pei.old queue.old }
+    ensures row { IfOk result (Explains (C.peims choice.now) (C.lets_in_pei choice.now) M.stands_for catalog.now pei.old pei.new) }
+{
+    pei_opens();
+    let mut told = PeiTold::new(alloc);
+    match run_to_end(pei, queue, choice, catalog, &mut told, steps)? {
+        Reached::End(end) => {
+            let explained = explain_end(alloc, pei, queue, catalog, told, end)?;
+            Ok(Reached::End(explained))
+        }
+        Reached::Barred(number) => Ok(Reached::Barred(number)),
+    }
+}
+
+// The same over a queue that is made for it. The expressions that are evaluated are counted in the ledger of a blank.
 fn explain_with_ledger<M: PeiStore + Drop, C: Choice<Nowhere>, L: Ledger>(
     alloc: Global,
     pei: &mut Pei<M>,
@@ -115,17 +140,11 @@ fn explain_with_ledger<M: PeiStore + Drop, C: Choice<Nowhere>, L: Ledger>(
     requires counts { 0 < L.parts }
     ensures row { IfOk result (Explains (C.peims choice.now) (C.lets_in_pei choice.now) M.stands_for catalog.now pei.old pei.new) }
 {
-    pei_opens();
     let mut queue = queue_of_opening(alloc, pei, catalog)?;
-    let mut told = PeiTold::new(alloc);
     let mut steps = Steps::<L>::new(blank);
-    match run_to_end(pei, &mut queue, choice, catalog, &mut told, &mut steps)? {
-        Reached::End(end) => {
-            let explained = explain_end(alloc, pei, &queue, catalog, told, end)?;
-            Ok(Reached::End(explained))
-        }
-        Reached::Barred(number) => Ok(Reached::Barred(number)),
-    }
+    let reached = explain_opened(alloc, pei, &mut queue, choice, catalog, &mut steps);
+    drop(queue);
+    reached
 }
 
 /// The whole of PEI by a choice, from its opening to its end, or to the start of a PEIM that the choice does not let.

@@ -8,16 +8,16 @@ ghost use Rattle.pei_core.specs.Standing.{StandsFor};
 ghost use Rattle.boot_reasons.specs.Noting.{giver_in};
 ghost use Rattle.boot_reasons.specs.PeiReasons.{pei_held, pei_held_for};
 
+use crate::coming::would;
 use crate::givers::Givers;
 use crate::needs::needs_of;
 use crate::waiters::push_held;
 use boot_model::state_of;
 use catalog_model::Catalog;
 use explain_text::Held;
-use expression_needs::would;
-use frames::part_of;
 use pei_core::Pei;
 use pei_dispatch::reason_of;
+use phase_parts::part_of;
 use pi_base::{OutOfMemory, Phase, Seq};
 use std::alloc::Global;
 use store_model::PeiStore;

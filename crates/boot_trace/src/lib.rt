@@ -1,6 +1,6 @@
 //! The printed lines of a boot, put to a sink.
 //!
-//! Tried in `text_trials`: `printed_lines`.
+//! Tried in `text_trials`: `traces`.
 #![tactic(auto)]
 
 mod entry_list;

@@ -8,9 +8,9 @@ use Rattle.fv_volume.specs.declared.file.FfsFile.{FfsFile}
 use Rattle.fv_volume.specs.declared.volume.Volume.{Volume}
 use Rattle.fv_volume.specs.declared.fault.VolFault.{VolFault}
 use Rattle.fv_volume.specs.Volume.{IsVolume, IsFirstFault as IsVolumeFault}
-use Rattle.fv_section.specs.declared.section.Section.{Section}
-use Rattle.fv_section.specs.declared.fault.SecFault.{SecFault}
-use Rattle.fv_section.specs.Stream.{AreSections, IsFirstFault as IsSectionFault}
+use Rattle.fv_volume.specs.declared.sections.section.Section.{Section}
+use Rattle.fv_volume.specs.declared.sections.fault.SecFault.{SecFault}
+use Rattle.fv_volume.specs.Stream.{AreSections, IsFirstFault as IsSectionFault}
 use Rattle.act_code.specs.declared.script.Script.{Script}
 use Rattle.act_code.specs.declared.fault.ActFault.{ActFault}
 use Rattle.act_code.specs.Script.{IsScript, IsFault as IsScriptFault}

@@ -9,8 +9,8 @@ use Rattle.fv_volume.specs.declared.file_type.TheConstants.{VOLUME_IMAGE}
 use Rattle.fv_volume.specs.declared.volume.Volume.{Volume}
 use Rattle.fv_volume.specs.declared.fault.VolFault.{VolFault}
 use Rattle.fv_volume.specs.Volume.{IsVolume}
-use Rattle.fv_section.specs.declared.section.Section.{Section}
-use Rattle.fv_section.specs.declared.fault.SecFault.{SecFault}
+use Rattle.fv_volume.specs.declared.sections.section.Section.{Section}
+use Rattle.fv_volume.specs.declared.sections.fault.SecFault.{SecFault}
 use Rattle.act_code.specs.declared.fault.ActFault.{ActFault}
 use Rattle.boot_plan.specs.declared.plan.Plan.{Plan}
 use Rattle.boot_plan.specs.declared.plan.PlanVolume.{PlanVolume}

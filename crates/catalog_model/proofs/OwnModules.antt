@@ -8,7 +8,7 @@ use Rattle.pi_base.specs.declared.guid.Guid.{Guid}
 use Rattle.pi_base.specs.declared.phase.Phase.{Phase}
 use Rattle.pi_base.specs.declared.phase.Phase.TheVariants.{Pei, Dxe}
 use Rattle.fv_volume.specs.declared.file.FfsFile.{FfsFile}
-use Rattle.fv_section.specs.declared.section.Section.{Section}
+use Rattle.fv_volume.specs.declared.sections.section.Section.{Section}
 use Rattle.act_code.specs.declared.script.Script.{Script}
 use Rattle.act_code.specs.declared.action.Action.{Action}
 use Rattle.act_code.specs.declared.header.TheConstants.{MOST_SCRIPT}

@@ -7,8 +7,8 @@ use Rattle.std.proofs.lemmas.List.Elements.{filter-append}
 use Rattle.pi_base.specs.Field.{AreBytes}
 use Rattle.pi_base.specs.Lists.{Each}
 use Rattle.fv_volume.specs.declared.file.FfsFile.{FfsFile}
-use Rattle.fv_section.specs.declared.section.Section.{Section}
-use Rattle.fv_section.specs.Stream.{AreSections}
+use Rattle.fv_volume.specs.declared.sections.section.Section.{Section}
+use Rattle.fv_volume.specs.Stream.{AreSections}
 use Rattle.act_code.specs.Script.{IsScript}
 use Rattle.catalog_model.specs.declared.limits.TheConstants.{MOST_MODULES, MOST_SCRIPT_BYTES}
 use Rattle.catalog_model.specs.FileType.{has_module}

@@ -6,8 +6,8 @@ use Rattle.fv_volume.specs.declared.file.FfsFile.{FfsFile}
 use Rattle.fv_volume.specs.declared.volume.Volume.{Volume}
 use Rattle.fv_volume.specs.Volume.{IsVolume}
 use Rattle.fv_volume.specs.Places.{AreInside, AreWithin, AreInOrder}
-use Rattle.fv_section.specs.declared.section.Section.{Section}
-use Rattle.fv_section.specs.Stream.{AreSections, AreInside as SectionsInside, AreInOrder as SectionsInOrder}
+use Rattle.fv_volume.specs.declared.sections.section.Section.{Section}
+use Rattle.fv_volume.specs.Stream.{AreSections, AreInside as SectionsInside, AreInOrder as SectionsInOrder}
 use Rattle.catalog_model.specs.ReadFile.{ReadFile, Stretch, IsReadFile, AreRead, is_read, file_body, holds_volume, nested_in}
 use Rattle.catalog_model.specs.VolumeTree.{nested_stretches}
 use Rattle.pi_base.specs.Lists.{Each, Ordered}

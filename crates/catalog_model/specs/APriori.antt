@@ -7,7 +7,7 @@ use Rattle.pi_base.specs.declared.guid.Guid.{Guid}
 use Rattle.pi_base.specs.declared.guid.TheConstants.{GUID_LEN}
 use Rattle.pi_base.specs.declared.phase.Phase.{Phase}
 use Rattle.fv_volume.specs.declared.file.FfsFile.{FfsFile}
-use Rattle.fv_section.specs.declared.section_type.TheConstants.{RAW}
+use Rattle.fv_volume.specs.declared.sections.section_type.TheConstants.{RAW}
 use Rattle.catalog_model.specs.FileType.{has_part}
 use Rattle.catalog_model.specs.ReadFile.{ReadFile, a_priori_file, is_file, first_body}
 

@@ -4,7 +4,7 @@ use Rattle.pi_base.specs.declared.guid.Guid.{Guid}
 use Rattle.pi_base.specs.declared.phase.Phase.{Phase}
 use Rattle.pi_base.specs.declared.phase.Phase.TheVariants.{Pei, Dxe}
 pub use Rattle.fv_volume.specs.declared.file_type.TheConstants.{FREEFORM, PEIM, DRIVER, COMBINED_PEIM_DRIVER, COMBINED_MM_DXE}
-use Rattle.fv_section.specs.declared.section_type.TheConstants.{PEI_DEPEX, DXE_DEPEX}
+use Rattle.fv_volume.specs.declared.sections.section_type.TheConstants.{PEI_DEPEX, DXE_DEPEX}
 use Rattle.catalog_model.specs.declared.a_priori_name.TheConstants.{PEI_APRIORI, DXE_APRIORI}
 
 -- whether files of this type have a part for the phase

@@ -1,8 +1,8 @@
 -- The causes of an image, from those of its volumes, sections and scripts.
 use Rattle.fv_volume.specs.declared.fault.VolCause.{VolCause}
 use Rattle.fv_volume.specs.declared.fault.VolCause.TheVariants as V
-use Rattle.fv_section.specs.declared.fault.SecCause.{SecCause}
-use Rattle.fv_section.specs.declared.fault.SecCause.TheVariants as S
+use Rattle.fv_volume.specs.declared.sections.fault.SecCause.{SecCause}
+use Rattle.fv_volume.specs.declared.sections.fault.SecCause.TheVariants as S
 use Rattle.act_code.specs.declared.fault.ActCause.{ActCause}
 use Rattle.act_code.specs.declared.fault.ActCause.TheVariants as A
 use Rattle.catalog_model.specs.declared.image_fault.ImageCause.{ImageCause}

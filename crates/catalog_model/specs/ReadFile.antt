@@ -9,9 +9,9 @@ use Rattle.pi_base.specs.declared.phase.Phase.{Phase}
 use Rattle.pi_base.specs.declared.phase.Phase.TheVariants.{Pei, Dxe}
 use Rattle.fv_volume.specs.declared.file.FfsFile.{FfsFile}
 use Rattle.fv_volume.specs.declared.file_type.TheConstants.{FREEFORM, VOLUME_IMAGE as VOLUME_FILE}
-use Rattle.fv_section.specs.declared.section.Section.{Section}
-use Rattle.fv_section.specs.declared.section_type.TheConstants.{RAW, VOLUME_IMAGE as VOLUME_SECTION}
-use Rattle.fv_section.specs.Stream.{AreSections}
+use Rattle.fv_volume.specs.declared.sections.section.Section.{Section}
+use Rattle.fv_volume.specs.declared.sections.section_type.TheConstants.{RAW, VOLUME_IMAGE as VOLUME_SECTION}
+use Rattle.fv_volume.specs.Stream.{AreSections}
 use Rattle.act_code.specs.declared.header.TheConstants.{MAGIC}
 use Rattle.act_code.specs.Script.{IsScript}
 use Rattle.catalog_model.specs.FileType.{has_module, a_priori_name}

@@ -1,6 +1,6 @@
 -- What the limits count: volumes, modules and the bytes of scripts. Each passes its limit at most once, and the first passing is a fault.
 use Rattle.std.specs.Prelude.{ℕ, ◌+◌, ◌≤◌, List, length, filter, sum_by}
-use Rattle.fv_section.specs.declared.section.Section.{Section}
+use Rattle.fv_volume.specs.declared.sections.section.Section.{Section}
 use Rattle.catalog_model.specs.declared.limits.TheConstants.{MOST_VOLUMES, MOST_MODULES, MOST_SCRIPT_BYTES}
 use Rattle.catalog_model.specs.FileType.{has_module}
 use Rattle.catalog_model.specs.ReadFile.{ReadFile, script_sections}

@@ -20,7 +20,7 @@ pub fn one_catalogue()
         → IsCatalogue plan images catalog → IsImageFault plan images fault → ⊥ }
 {
     fv_volume::one_reading();
-    fv_section::one_reading();
+    fv_volume::sections::one_reading();
     act_code::one_outcome();
     depex_code::one_reading();
 }
@@ -30,7 +30,7 @@ pub fn catalogues_are_well_formed()
     ensures { (plan : Plan) (images : List (List ℕ)) (catalog : Catalog) → IsCatalogue plan images catalog → IsWellFormed catalog }
 {
     fv_volume::places();
-    fv_section::places();
+    fv_volume::sections::places();
 }
 
 /// In a well-formed catalogue the expression of each part is short enough to be evaluated.

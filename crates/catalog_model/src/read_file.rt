@@ -1,7 +1,7 @@
 // What is read of a volume's files.
 use act_code::Script;
-use fv_section::Section;
 use fv_volume::FfsFile;
+use fv_volume::sections::Section;
 use pi_base::Seq;
 
 /// A file of a volume as it was read.

@@ -10,7 +10,7 @@ use Rattle.std.proofs.lemmas.Grind.{flat_map-append}
 use Rattle.pi_base.specs.declared.guid.Guid.{Guid}
 use Rattle.pi_base.specs.Guids.{same_guid}
 use Rattle.pi_base.specs.Lists.{firsts}
-use Rattle.guid_map.specs.GuidMap.{IsPut, value_of}
+use Rattle.pi_base.specs.GuidMap.{IsPut, value_of}
 use Rattle.act_code.specs.declared.action.Action.{Action}
 use Rattle.catalog_text.specs.Gives.{AreMet, named_by, named_in_all, named_in_block, names}
 use Rattle.catalog_text.specs.declared.gives.Met.{Met}

@@ -1,8 +1,8 @@
 -- A module has one name, or none.
 use Rattle.std.proofs.Common.{◌≡◌, ℕ, List, Option, Some, None, sym, ap, ◌∙◌, ◌⊎◌, inl, inr}
-use Rattle.fv_section.specs.declared.section.Section.{Section}
-use Rattle.fv_section.specs.declared.fault.SecFault.{SecFault}
-use Rattle.fv_section.specs.Stream.{AreSections, IsFirstFault}
+use Rattle.fv_volume.specs.declared.sections.section.Section.{Section}
+use Rattle.fv_volume.specs.declared.sections.fault.SecFault.{SecFault}
+use Rattle.fv_volume.specs.Stream.{AreSections, IsFirstFault}
 use Rattle.catalog_text.specs.Title.{IsTitleIn, IsTitleOf, title_among}
 
 module _ (one : (bytes : List ℕ) (a b : List Section) → AreSections bytes a → AreSections bytes b → a ≡ b)

@@ -2,10 +2,10 @@
 -- PI 1.8, volume 3, `EFI_SECTION_USER_INTERFACE`.
 use Rattle.std.specs.Prelude.{◌≡◌, ◌⊎◌, ℕ, ◌==◌, List, [], find, take, drop, Option, Some, None, option_map, slice_get}
 use Rattle.std.specs.Option.{option_and_then}
-use Rattle.fv_section.specs.declared.fault.SecFault.{SecFault}
-use Rattle.fv_section.specs.declared.section.Section.{Section}
-use Rattle.fv_section.specs.declared.section_type.TheConstants.{USER_INTERFACE}
-use Rattle.fv_section.specs.Stream.{AreSections, IsFirstFault}
+use Rattle.fv_volume.specs.declared.sections.fault.SecFault.{SecFault}
+use Rattle.fv_volume.specs.declared.sections.section.Section.{Section}
+use Rattle.fv_volume.specs.declared.sections.section_type.TheConstants.{USER_INTERFACE}
+use Rattle.fv_volume.specs.Stream.{AreSections, IsFirstFault}
 use Rattle.pi_base.specs.Field.{words_of}
 use Rattle.catalog_model.specs.declared.catalog.Module.{Module}
 use Rattle.catalog_model.specs.declared.catalog.VolumeEntry.{VolumeEntry}

@@ -7,8 +7,7 @@ ghost use Rattle.catalog_text.specs.Gives.{AreMet, given_in, gives_any, named_by
 
 use act_code::descriptor_kind::PPI;
 use act_code::{Action, GuidArg, Script};
-use guid_map::GuidMap;
-use pi_base::{Guid, OutOfMemory, Seq};
+use pi_base::{Guid, GuidMap, OutOfMemory, Seq};
 use std::alloc::Global;
 
 /// The GUIDs that some actions name, each once.

@@ -1,7 +1,7 @@
 //! What a catalogue has, as lines for an explanation: each module with its name, from the user interface section of its file, and of each of its parts the
 //! expression and the GUIDs that its script may install.
 //!
-//! Tried in `volume_trials`: `catalog_lines`, `titles`.
+//! Tried in `volume_trials`: `images`, `titles`.
 #![tactic(auto)]
 
 mod expression;

@@ -1,6 +1,6 @@
 // The name of a module.
 ghost use Rattle.std.specs.Prelude.{◌≡◌, ◌≤◌, ◌+◌, ◌==◌, IfOk, drop, find, length, option_map, take};
-ghost use Rattle.fv_section.specs.Stream.{AreInside};
+ghost use Rattle.fv_volume.specs.Stream.{AreInside};
 ghost use Rattle.pi_base.specs.Field.{words_of};
 ghost use Rattle.boot_model.specs.PlanBoard.{roms_of};
 ghost use Rattle.catalog_text.specs.Title.{IsTitle, IsTitleIn, first_body, file_of};
@@ -9,8 +9,8 @@ use crate::file::file_body;
 use crate::mapped::mapped_from;
 use crate::name::name_in;
 use catalog_model::{Module, VolumeEntry};
-use fv_section::section_type::USER_INTERFACE;
-use fv_section::{SecCause, Section, read_sections};
+use fv_volume::sections::section_type::USER_INTERFACE;
+use fv_volume::sections::{SecCause, Section, read_sections};
 use pi_base::{OutOfMemory, Seq};
 use std::alloc::Global;
 

@@ -9,5 +9,5 @@ pub fn one_title()
     ensures { (volumes : List VolumeEntry) (images : List (List ℕ)) (m : Module) (a b : Option (List ℕ))
         → IsTitle volumes images m a → IsTitle volumes images m b → a ≡ b }
 {
-    fv_section::one_reading();
+    fv_volume::sections::one_reading();
 }

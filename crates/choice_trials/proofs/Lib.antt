@@ -1,4 +1,3 @@
-mod FewParts
 mod SmallMachines
 mod Sounds
 mod Serving

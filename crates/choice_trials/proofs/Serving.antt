@@ -18,9 +18,9 @@ use Rattle.boot_laws.specs.UnrequestedDrivers.{WaitForRequest}
 use Rattle.act_code.specs.declared.action.Action.{Action}
 use Rattle.store_model.specs.Service.{Present}
 use Rattle.store_model.specs.StoreCall.{Anything}
-use Rattle.dxe_action.specs.declared.reply.Reply.{Reply}
-use Rattle.dxe_action.specs.Reply.{ServesOwn}
-use Rattle.dxe_action.specs.Services.{Services, AreServicesFor}
+use Rattle.dxe_core.specs.declared.reply.Reply.{Reply}
+use Rattle.dxe_core.specs.Reply.{ServesOwn}
+use Rattle.dxe_core.specs.Services.{Services, AreServicesFor}
 use Rattle.choice_trials.specs.Served.{IsServed}
 
 -- the numbers below a bound that pass a test

@@ -17,7 +17,7 @@ use Rattle.boot_model.specs.Licence.{AllDiffer}
 use Rattle.boot_laws.proofs.EachDriver.{has_each_once}
 use Rattle.boot_model.proofs.Distinct.{all_distinct}
 use Rattle.boot_model.proofs.ListFacts.{has_first}
-use Rattle.dxe_action.specs.Order.{Drivers, IsOrderOf}
+use Rattle.dxe_core.specs.Order.{Drivers, IsOrderOf}
 use Rattle.dxe_dispatch.specs.Aim.{aimed, is_free, may_be_next}
 use Rattle.dxe_dispatch.specs.Queue.{AreNew, Changes, Discovers, HasProtocol, IsNewQueue, IsNext, IsQueueOf, IsSeen, Queue, Requests}
 

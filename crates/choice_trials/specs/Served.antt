@@ -5,9 +5,9 @@ use Rattle.pi_base.specs.declared.phase.Phase.TheVariants.{Dxe}
 use Rattle.act_code.specs.declared.action.Action.{Action}
 use Rattle.catalog_model.specs.declared.catalog.Catalog.{Catalog}
 use Rattle.boot_model.specs.DxeMachine.{DxeMachine, DriverFrame}
-use Rattle.frames.specs.Deed.{deed}
-use Rattle.frames.specs.Needs.{IsScriptAction}
-use Rattle.dxe_action.specs.Services.{Services, AreServicesFor, AreServicesOf}
+use Rattle.phase_parts.specs.Deed.{deed}
+use Rattle.phase_parts.specs.Needs.{IsScriptAction}
+use Rattle.dxe_core.specs.Services.{Services, AreServicesFor, AreServicesOf}
 
 -- an action of a DXE script that scripts of PEI do not have
 pub record IsOwn (action : Action) : Type 0 where

@@ -6,16 +6,15 @@ ghost use Rattle.store_model.specs.Service.{Present};
 ghost use Rattle.store_model.specs.StoreCall.{Anything};
 ghost use Rattle.store_plain.specs.PlainState.{stands_for};
 ghost use Rattle.boot_model.specs.DxeMachine.{DriverFrame};
-ghost use Rattle.dxe_action.specs.Services.{AreCounted};
+ghost use Rattle.dxe_core.specs.Services.{AreCounted};
 ghost use Rattle.choice_trials.specs.Served.{IsOwn, IsServed};
 
-use crate::catalogues::{Kind, NESTED, Needs, Row, catalogue, guid};
+use crate::catalogues::{NESTED, Needs, Row, catalogue, guid};
 use act_code::Action;
 use boot_model::{DriverFrame, Extra, REGISTERS, Register};
 use catalog_model::Catalog;
-use depex_code::Opcode;
-use dxe_action::{DxeServices, Reply, take_own};
-use frames::{Write, Writes};
+use dxe_core::{DxeServices, Reply, take_own};
+use phase_parts::{Write, Writes};
 use pi_base::{Guid, OutOfMemory, Seq, Span, Word};
 use std::alloc::Global;
 use std::process::Abort;
@@ -28,10 +27,10 @@ const EIGHT: Guid = Guid([0, 0, 0, 0, 0, 0, 0, 0, 0, 0, 0, 0, 0, 0, 0, 8]);
 
 /// Three drivers of one name with SOR, the first of them a priori, and one without SOR.
 static DRIVERS: [Row; 4] = [
-    (0, Kind::Driver, SEVEN, Some(0), Needs::Sor(Opcode::True)),
-    (0, Kind::Driver, SEVEN, None, Needs::Sor(Opcode::True)),
-    (0, Kind::Driver, SEVEN, None, Needs::Sor(Opcode::True)),
-    (0, Kind::Driver, EIGHT, None, Needs::Nothing),
+    (0, SEVEN, Some(0), Needs::Sor),
+    (0, SEVEN, None, Needs::Sor),
+    (0, SEVEN, None, Needs::Sor),
+    (0, EIGHT, None, Needs::Nothing),
 ];
 
 // A store that the calls do not look at.
@@ -79,7 +78,7 @@ fn frame() -> DriverFrame {
     registers[NOWHERE as usize] = Register::Number(0x20_0001);
     registers[LIVE as usize] = Register::HandleIn(1);
     registers[DEAD as usize] = Register::HandleIn(9);
-    frames::frame_at(3, 0, registers)
+    phase_parts::frame_at(3, 0, registers)
 }
 
 /// A call, by its registers and the last byte of its GUID.
@@ -274,12 +273,19 @@ fn first_wrong(services: &mut DxeServices, store: &PlainStore, catalog: &Catalog
     None
 }
 
-/// What is left behind calls: the module and the block of the first notification, whether there is a second, and the handles.
-type Left = (Option<(u32, u8)>, bool, usize);
+/// What is left behind calls: the module and the block of the first notification, whether there is a second, how many interfaces there are,
+/// and whether there is a third.
+type Left = (Option<(u32, u8)>, bool, usize, bool);
 
 fn left_in(services: &DxeServices) -> Left {
-    let handles = services.handles().len();
-    (first_note(services), services.note(1).is_some(), handles)
+    let has_second = services.note(1).is_some();
+    let has_third = services.handles().nth(2).is_some();
+    (
+        first_note(services),
+        has_second,
+        services.handles().len(),
+        has_third,
+    )
 }
 
 // The first of the calls, by its number, that is answered in another way, and what is left behind them.
@@ -307,7 +313,7 @@ fn try_rows(rt: &impl Abort, alloc: Global, store: &PlainStore, catalog: &Catalo
     requires state { Present (stands_for store.now) Anything }
 {
     let found = answered(alloc, store, catalog);
-    assert!(rt; found == Some((None, (Some((3, 3)), false, 2))));
+    assert!(rt; found == Some((None, (Some((3, 3)), false, 2, false))));
 }
 
 // What a new protocol and a look for it write into registers.
@@ -390,10 +396,7 @@ fn try_names(rt: &impl Abort, alloc: Global, store: &PlainStore, catalog: &Catal
     let rows = [(7, Word::Success), (8, Word::NotFound), (9, Word::NotFound)];
     'rows: for (last, want) in rows {
         let answered = requested(alloc, store, catalog, last);
-        assert!(rt;
-            answered == Some([want, want, Word::NotFound]),
-            "name {last}"
-        );
+        assert!(rt; answered == Some([want, want, Word::NotFound]));
     }
 }
 
@@ -436,7 +439,7 @@ fn try_volumes(rt: &impl Abort, alloc: Global, store: &PlainStore, catalog: &Cat
     ];
     'rows: for (v, want) in rows {
         let got = processed(alloc, store, catalog, v);
-        assert!(rt; got == Some(want), "register {v}");
+        assert!(rt; got == Some(want));
     }
 }
 

@@ -13,16 +13,11 @@ use std::test::*;
 /// The base of a volume, and the number of the one that it is nested in.
 pub(crate) type Volume = (u64, Option<u32>);
 
-/// The number of its volume, what a module is, its name, its place in the a priori lists, and its expression.
-pub(crate) type Row = (u32, Kind, Guid, Option<u32>, Needs);
+/// A driver: the number of its volume, its name, its place in the a priori list, and its expression.
+pub(crate) type Row = (u32, Guid, Option<u32>, Needs);
 
-/// What a module is: it has a part for PEI, for DXE or for both.
-#[derive(Clone, Copy, PartialEq, Eq)]
-pub(crate) enum Kind {
-    Peim,
-    Driver,
-    Combined,
-}
+// The type of its file. PI 1.8, volume 3, `EFI_FV_FILETYPE_DRIVER`.
+const DRIVER: u8 = 7;
 
 /// The expression of a part.
 #[derive(Clone, Copy)]
@@ -33,10 +28,8 @@ pub(crate) enum Needs {
     Unreadable,
     Before(Guid),
     After(Guid),
-    /// A tree of one opcode.
-    Tree(Opcode),
-    /// The same behind SOR.
-    Sor(Opcode),
+    /// SOR and TRUE.
+    Sor,
 }
 
 /// GUIDs: names of files, PPIs and protocols.
@@ -51,42 +44,13 @@ pub(crate) const FOURTH: Guid = Guid([4; 16]);
 /// The name of files that nothing names.
 pub(crate) const UNNAMED: Guid = Guid([0; 16]);
 
-/// One volume, two, and a volume with one nested in it and another volume.
+/// One volume, and a volume with one nested in it and another volume.
 pub(crate) static ONE: [Volume; 1] = [(0x10_0000, None)];
-
-pub(crate) static TWO: [Volume; 2] = [(0x10_0000, None), (0x20_0000, None)];
 
 pub(crate) static NESTED: [Volume; 3] = [
     (0x10_0000, None),
     (0x10_1000, Some(0)),
     (0x20_0000, None),
-];
-
-/// PEIMs of one volume: without an expression, for one PPI and for another, the last a priori too, and with an expression that cannot be read.
-pub(crate) static PEIMS: [Row; 5] = [
-    (0, Kind::Peim, UNNAMED, None, Needs::Nothing),
-    (
-        0,
-        Kind::Peim,
-        UNNAMED,
-        None,
-        Needs::Tree(Opcode::Push(FIRST)),
-    ),
-    (
-        0,
-        Kind::Peim,
-        UNNAMED,
-        None,
-        Needs::Tree(Opcode::Push(SECOND)),
-    ),
-    (
-        0,
-        Kind::Peim,
-        UNNAMED,
-        Some(0),
-        Needs::Tree(Opcode::Push(SECOND)),
-    ),
-    (0, Kind::Peim, UNNAMED, None, Needs::Unreadable),
 ];
 
 /// The GUID that ends with a byte behind zeros.
@@ -96,12 +60,12 @@ pub(crate) fn guid(last: u8) -> Guid {
     Guid(bytes)
 }
 
-/// A tree of one opcode, if it is one, behind SOR or not.
-pub(crate) fn tree(alloc: Global, sor: bool, opcode: Opcode) -> Result<Depex, OutOfMemory> {
+// SOR and TRUE.
+fn requested(alloc: Global) -> Result<Depex, OutOfMemory> {
     let mut code = Seq::new(alloc);
-    code.push(opcode)?;
+    code.push(Opcode::True)?;
     match Tree::from_code(code) {
-        Some(tree) => Ok(Depex::Expr { sor, tree }),
+        Some(tree) => Ok(Depex::Expr { sor: true, tree }),
         None => Err(OutOfMemory),
     }
 }
@@ -112,45 +76,31 @@ fn expression(alloc: Global, needs: Needs) -> Result<PartExpr, OutOfMemory> {
         Needs::Unreadable => Ok(PartExpr::Malformed(0)),
         Needs::Before(name) => Ok(PartExpr::Held(Depex::Before(name))),
         Needs::After(name) => Ok(PartExpr::Held(Depex::After(name))),
-        Needs::Tree(opcode) => Ok(PartExpr::Held(tree(alloc, false, opcode)?)),
-        Needs::Sor(opcode) => Ok(PartExpr::Held(tree(alloc, true, opcode)?)),
+        Needs::Sor => Ok(PartExpr::Held(requested(alloc)?)),
     }
 }
 
-// The part of a module for a phase, where the module is not of the other one alone.
-fn part(alloc: Global, phase: Phase, row: &Row, other: Kind) -> Result<Option<Part>, OutOfMemory> {
-    let (_, kind, _, rank, needs) = *row;
-    if kind == other {
-        return Ok(None);
-    }
-    Ok(Some(Part {
+fn driver(alloc: Global, row: &Row) -> Result<Part, OutOfMemory> {
+    let (_, _, rank, needs) = *row;
+    Ok(Part {
         rank,
         expr: expression(alloc, needs)?,
         script: Script {
-            phase,
+            phase: Phase::Dxe,
             blocks: Seq::new(alloc),
         },
-    }))
-}
-
-// The type of the file. PI 1.8, volume 3, `EFI_FV_FILETYPE_PEIM` and behind it.
-fn file_type(kind: Kind) -> u8 {
-    match kind {
-        Kind::Peim => 6,
-        Kind::Driver => 7,
-        Kind::Combined => 8,
-    }
+    })
 }
 
 fn module(alloc: Global, at: u64, row: &Row) -> Result<Module, OutOfMemory> {
-    let (volume, kind, name, _, _) = *row;
+    let (volume, name, _, _) = *row;
     Ok(Module {
         volume,
         at,
         name,
-        kind: file_type(kind),
-        pei: part(alloc, Phase::Pei, row, Kind::Driver)?,
-        dxe: part(alloc, Phase::Dxe, row, Kind::Peim)?,
+        kind: DRIVER,
+        pei: None,
+        dxe: Some(driver(alloc, row)?),
     })
 }
 

@@ -2,14 +2,14 @@
 ghost use Rattle.std.specs.Prelude.{◌≡◌, ◌<◌, ℕ, List, OnOk};
 ghost use Rattle.boot_model.specs.DxeMachine.{DxeMachine};
 ghost use Rattle.catalog_model.specs.WellFormed.{IsWellFormed};
-ghost use Rattle.dxe_action.specs.Order.{IsOrderOf};
+ghost use Rattle.dxe_core.specs.Order.{IsOrderOf};
 ghost use Rattle.dxe_dispatch.specs.Queue.{IsNewQueue, IsQueueFor, IsSeen};
 
-use crate::catalogues::{FIRST, FOURTH, Kind, Needs, ONE, Row, SECOND, THIRD, UNNAMED, catalogue};
+use crate::catalogues::{FIRST, FOURTH, Needs, ONE, Row, SECOND, THIRD, UNNAMED, catalogue};
 use boot_model::{ARCHITECTURAL, Licence, Scheduled};
 use catalog_model::Catalog;
-use depex_code::{Opcode, Steps};
-use dxe_action::DriverOrder;
+use depex_code::Steps;
+use dxe_core::DriverOrder;
 use dxe_dispatch::DriverQueue;
 use pi_base::{Guid, OutOfMemory, Seq};
 use std::alloc::Global;
@@ -33,21 +33,21 @@ const OTHER_CYCLE: Guid = Guid([6; 16]);
 
 /// A target that holds once it is requested, with companions on both sides, which have companions of their own, and a driver without an expression.
 static COMPANIONS: [Row; 6] = [
-    (0, Kind::Driver, TARGET, None, Needs::Sor(Opcode::True)),
-    (0, Kind::Driver, BEFORE_TARGET, None, Needs::Before(TARGET)),
-    (0, Kind::Driver, UNNAMED, None, Needs::Before(BEFORE_TARGET)),
-    (0, Kind::Driver, AFTER_TARGET, None, Needs::After(TARGET)),
-    (0, Kind::Driver, UNNAMED, None, Needs::After(AFTER_TARGET)),
-    (0, Kind::Driver, UNNAMED, None, Needs::Nothing),
+    (0, TARGET, None, Needs::Sor),
+    (0, BEFORE_TARGET, None, Needs::Before(TARGET)),
+    (0, UNNAMED, None, Needs::Before(BEFORE_TARGET)),
+    (0, AFTER_TARGET, None, Needs::After(TARGET)),
+    (0, UNNAMED, None, Needs::After(AFTER_TARGET)),
+    (0, UNNAMED, None, Needs::Nothing),
 ];
 
 /// One without an expression, two that name each other, one with a place in the a priori list, and one that names it.
 static OTHERS: [Row; 5] = [
-    (0, Kind::Driver, UNNAMED, None, Needs::Nothing),
-    (0, Kind::Driver, CYCLE, None, Needs::After(OTHER_CYCLE)),
-    (0, Kind::Driver, OTHER_CYCLE, None, Needs::After(CYCLE)),
-    (0, Kind::Driver, RANKED, Some(0), Needs::Unreadable),
-    (0, Kind::Driver, UNNAMED, None, Needs::After(RANKED)),
+    (0, UNNAMED, None, Needs::Nothing),
+    (0, CYCLE, None, Needs::After(OTHER_CYCLE)),
+    (0, OTHER_CYCLE, None, Needs::After(CYCLE)),
+    (0, RANKED, Some(0), Needs::Unreadable),
+    (0, UNNAMED, None, Needs::After(RANKED)),
 ];
 
 /// The base of the one volume.
@@ -284,72 +284,4 @@ fn companions_start_with_their_target_and_all_architectural_protocols_are_asked_
 ) {
     start_over(&rt, rt.alloc(), &COMPANIONS, &OF_COMPANIONS);
     start_over(&rt, rt.alloc(), &OTHERS, &OF_OTHERS);
-}
-
-// Whether the queue is empty and whether a driver waits, before and after the a priori drivers of the volume are scheduled.
-fn standings_by(
-    queue: &mut DriverQueue,
-    catalog: &Catalog,
-    order: &DriverOrder,
-    number: u32,
-) -> Result<[(bool, bool); 2], OutOfMemory>
-    requires catalog { IsWellFormed catalog.now }
-    requires new { IsNewQueue catalog.now queue.old }
-    requires made { IsQueueFor catalog.now queue.old }
-    requires order { (volumes : List ℕ) × IsOrderOf catalog.now volumes order.now }
-{
-    let before = (queue.is_empty(), queue.is_waiting(number));
-    queue.discover(catalog, order, order.volumes())?;
-    Ok([before, (queue.is_empty(), queue.is_waiting(number))])
-}
-
-fn standings_in(
-    catalog: &Catalog,
-    order: &DriverOrder,
-    number: u32,
-) -> Result<[(bool, bool); 2], OutOfMemory>
-    requires catalog { IsWellFormed catalog.now }
-    requires order { (volumes : List ℕ) × IsOrderOf catalog.now volumes order.now }
-{
-    let mut queue = DriverQueue::new(catalog.modules.alloc(), catalog)?;
-    let standings = standings_by(&mut queue, catalog, order, number);
-    drop(queue);
-    standings
-}
-
-fn standings_of(catalog: &Catalog, number: u32) -> Result<[(bool, bool); 2], OutOfMemory>
-    requires catalog { IsWellFormed catalog.now }
-{
-    let order = DriverOrder::discover(catalog.modules.alloc(), catalog, &[BASE])?;
-    let standings = standings_in(catalog, &order, number);
-    drop(order);
-    standings
-}
-
-// The same over a catalogue of these drivers.
-fn standings_over(
-    rt: &impl Abort,
-    alloc: Global,
-    drivers: &[Row],
-    number: u32,
-) -> Result<[(bool, bool); 2], OutOfMemory> {
-    let catalog = catalogue(rt, alloc, &ONE, drivers);
-    let standings = standings_of(&catalog, number);
-    drop(catalog);
-    standings
-}
-
-#[test]
-fn scheduled_drivers_wait_no_more(rt: HostRuntime) {
-    // The last number is no module's. The first catalogue has no a priori driver.
-    let rows: [(&[Row], u32, [(bool, bool); 2]); 4] = [
-        (&COMPANIONS, 0, [(true, true), (true, true)]),
-        (&OTHERS, 0, [(true, true), (false, true)]),
-        (&OTHERS, 3, [(true, true), (false, false)]),
-        (&OTHERS, 99, [(true, true), (false, true)]),
-    ];
-    'rows: for (drivers, number, want) in rows {
-        let standings = standings_over(&rt, rt.alloc(), drivers, number);
-        assert!(rt; standings == Ok(want), "module {number}");
-    }
 }

@@ -8,16 +8,6 @@ mod catalogues;
 #[cfg(test)]
 mod drivers;
 #[cfg(test)]
-mod handles;
-#[cfg(test)]
-mod index;
-#[cfg(test)]
-mod order;
-#[cfg(test)]
-mod parts;
-#[cfg(test)]
-mod peims;
-#[cfg(test)]
 mod place_sets;
 #[cfg(test)]
 mod volumes;

@@ -1,12 +1,11 @@
 // The volumes that become known one after the other. What PPIs report needs a whole store, and is tested over whole boots.
-ghost use Rattle.std.specs.Prelude.{◌<◌, length, IfSome};
 ghost use Rattle.catalog_model.specs.WellFormed.{IsWellFormed};
 
 use crate::catalogues::{Volume, catalogue};
 use catalog_model::Catalog;
+use phase_parts::VolumeList;
 use std::process::Abort;
 use std::test::*;
-use volume_list::VolumeList;
 
 /// A volume with two nested in it, the first of which has one nested in it, and another volume.
 static VOLUMES: [Volume; 5] = [
@@ -17,27 +16,6 @@ static VOLUMES: [Volume; 5] = [
     (0x20_0000, None),
 ];
 
-// The volume of a number, where the catalogue has one.
-fn volume(catalog: &Catalog, number: u32) -> Option<u32>
-    ensures { IfSome result (λ number. number < length catalog.now.volumes) }
-{
-    if (number as usize) < catalog.volumes.len() {
-        Some(number)
-    } else {
-        None
-    }
-}
-
-// What is known after two volumes.
-fn added(catalog: &Catalog, first: u32, second: u32) -> VolumeList
-    requires { IsWellFormed catalog.now }
-{
-    let mut list = VolumeList::new();
-    list.add(catalog, volume(catalog, first));
-    list.add(catalog, volume(catalog, second));
-    list
-}
-
 // What is known after the volumes at these bases.
 fn discovered(catalog: &Catalog, bases: &[u64]) -> VolumeList
     requires { IsWellFormed catalog.now }
@@ -45,28 +23,6 @@ fn discovered(catalog: &Catalog, bases: &[u64]) -> VolumeList
     let mut list = VolumeList::new();
     list.discover(catalog, bases);
     list
-}
-
-/// The number of no volume.
-const NONE: u32 = 9;
-
-// Two volumes that come to an empty list one after the other, and what is known then.
-static NESTED: [(u32, u32, &[u32]); 7] = [
-    (NONE, NONE, &[]),
-    (0, NONE, &[0, 1, 2, 3]),
-    (NONE, 4, &[4]),
-    (1, 0, &[1, 2, 0, 3]),
-    (2, 1, &[2, 1]),
-    (0, 1, &[0, 1, 2, 3]),
-    (4, 3, &[4, 3]),
-];
-
-fn try_nested(rt: &impl Abort, catalog: &Catalog)
-    requires { IsWellFormed catalog.now }
-{
-    'rows: for (first, second, known) in &NESTED {
-        assert!(rt; added(catalog, *first, *second).as_slice() == *known);
-    }
 }
 
 // Bases, and what is known then.
@@ -87,9 +43,8 @@ fn try_bases(rt: &impl Abort, catalog: &Catalog)
 }
 
 #[test]
-fn nested_volumes_stand_behind_their_own_and_are_discovered_base_by_base(rt: HostRuntime) {
+fn volumes_are_discovered_base_by_base_with_those_nested_in_them(rt: HostRuntime) {
     let catalog = catalogue(&rt, rt.alloc(), &VOLUMES, &[]);
-    try_nested(&rt, &catalog);
     try_bases(&rt, &catalog);
     drop(catalog);
 }

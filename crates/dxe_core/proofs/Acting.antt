@@ -17,15 +17,15 @@ use Rattle.boot_model.specs.DxeMachine.{DriverFrame, DxeMachine}
 use Rattle.boot_model.specs.DxeStep.{DxeActs, after_dxe_effect, dxe_acted, dxe_action_at, with_action}
 use Rattle.boot_model.specs.EvaluationBound.{changed_protocols, dxe_action_guids, dxe_case_guids, is_dxe_called}
 use Rattle.boot_laws.specs.UnrequestedDrivers.{WaitForRequest}
-use Rattle.dxe_action.specs.Services.{AreCounted, Services}
-use Rattle.frames.specs.Acted.{HasLeft}
-use Rattle.frames.specs.Alike.{AreAlike, as_effect}
-use Rattle.frames.specs.Deed.{Deed, Wrote, Logged, Skipped, Returned, frames_after, lines_of}
-use Rattle.frames.specs.Found.{action_at, found_block}
-use Rattle.frames.specs.Spent.{HasSpent, IsSpent}
-use Rattle.frames.specs.Took.{HasDone}
-use Rattle.frames.specs.declared.fuel.Fuel.{Fuel}
-use Rattle.dxe_action.specs.Event.{EventLeaves, quiet}
+use Rattle.dxe_core.specs.Services.{AreCounted, Services}
+use Rattle.phase_parts.specs.Acted.{HasLeft}
+use Rattle.phase_parts.specs.Alike.{AreAlike, as_effect}
+use Rattle.phase_parts.specs.Deed.{Deed, Wrote, Logged, Skipped, Returned, frames_after, lines_of}
+use Rattle.phase_parts.specs.Found.{action_at, found_block}
+use Rattle.phase_parts.specs.Spent.{HasSpent, IsSpent}
+use Rattle.phase_parts.specs.Took.{HasDone}
+use Rattle.phase_parts.specs.declared.fuel.Fuel.{Fuel}
+use Rattle.dxe_core.specs.Event.{EventLeaves, quiet}
 use Rattle.dxe_core.specs.Parts.{TakesOwn, acted_to}
 use Rattle.dxe_core.specs.Standing.{DxeCore, IsCoreOf, IsFor}
 use Rattle.dxe_core.proofs.Cases.{quiet_leaves}

@@ -14,12 +14,12 @@ use Rattle.boot_model.specs.DxeChoice.{a_priori_drivers, drivers_of}
 use Rattle.boot_model.specs.DxeMachine.{DxeMachine, DriverFrame}
 use Rattle.boot_model.specs.DxeStep.{DxeCase, DxeFires, DxeActs, dxe_case_in, dxe_case_of, dxe_step, in_dxe_case}
 use Rattle.boot_laws.specs.ChangedGuids.{is_among}
-use Rattle.frames.specs.Frames.{top_of}
+use Rattle.phase_parts.specs.Frames.{top_of}
 use Rattle.boot_model.specs.EvaluationBound.{dxe_case_guids}
-use Rattle.dxe_action.specs.declared.event.Event.{Event}
+use Rattle.dxe_core.specs.declared.event.Event.{Event}
 use Rattle.dxe_core.specs.declared.stepped.Stepped.{Stepped}
 use Rattle.dxe_core.specs.declared.stepped.Stepped.TheVariants.{Went, Idle, Ended}
-use Rattle.dxe_action.specs.Event.{EventLeaves, quiet}
+use Rattle.dxe_core.specs.Event.{EventLeaves, quiet}
 use Rattle.dxe_core.specs.Parts.{FiresNext, GoesOnWith, next_of_top}
 use Rattle.dxe_core.specs.Standing.{DxeCore, StandsFor}
 use Rattle.dxe_core.specs.Steps.{HasOver, IsAsBefore, HasStepped, IsCut, IsIdle, StepsTo}

@@ -6,8 +6,8 @@ use Rattle.boot_model.specs.declared.driver.ProtocolSweep.{ProtocolSweep}
 use Rattle.boot_model.specs.declared.phase_end.DxeEnd.TheVariants.{Deep}
 use Rattle.boot_model.specs.DxeMachine.{DxeMachine, DriverFrame, protocol_frame}
 use Rattle.boot_model.specs.DxeStep.{dxe_fired, protocol_begun, swept}
-use Rattle.dxe_action.specs.Services.{AreFlags, AreServicesOf, Services}
-use Rattle.dxe_action.specs.Order.{IsOrderOf}
+use Rattle.dxe_core.specs.Services.{AreFlags, AreServicesOf, Services}
+use Rattle.dxe_core.specs.Order.{IsOrderOf}
 use Rattle.dxe_core.specs.Standing.{DxeCore, IsCoreOf}
 
 -- the services of a machine are those of another that has the same

@@ -12,7 +12,7 @@ use Rattle.boot_model.specs.declared.line.Line.{Line}
 use Rattle.boot_model.specs.DxeMachine.{DxeMachine}
 use Rattle.boot_model.specs.DxeStep.{dxe_step}
 use Rattle.boot_model.specs.Text.{line_text, text_of}
-use Rattle.dxe_action.specs.declared.event.Event.{Event}
+use Rattle.dxe_core.specs.declared.event.Event.{Event}
 use Rattle.dxe_core.specs.declared.stepped.Stepped.{Stepped}
 use Rattle.dxe_core.specs.Parts.{TakesOwn, TakesTo, acted_to}
 use Rattle.dxe_core.specs.Steps.{HasStepped, StepsTo}

@@ -12,14 +12,14 @@ use Rattle.boot_model.specs.EvaluationBound.{changed_protocols, dxe_action_guids
 use Rattle.boot_model.specs.DxeAction.{Called, DxeEffect, DxeReply, dxe_effect, own_dxe_effect}
 use Rattle.boot_model.specs.DxeMachine.{DriverFrame, DxeMachine}
 use Rattle.boot_model.specs.DxeStep.{after_dxe_call, after_dxe_effect}
-use Rattle.dxe_action.specs.Reply.{IsReply, reply_in}
-use Rattle.dxe_action.specs.Services.{Services}
-use Rattle.dxe_action.specs.declared.reply.Reply.{Reply}
-use Rattle.frames.specs.Alike.{AreAlike}
-use Rattle.frames.specs.Deed.{deed}
-use Rattle.frames.specs.Frames.{answered, top_of}
-use Rattle.frames.specs.Writes.{written}
-use Rattle.dxe_action.specs.Event.{EventLeaves}
+use Rattle.dxe_core.specs.Reply.{IsReply, reply_in}
+use Rattle.dxe_core.specs.Services.{Services}
+use Rattle.dxe_core.specs.declared.reply.Reply.{Reply}
+use Rattle.phase_parts.specs.Alike.{AreAlike}
+use Rattle.phase_parts.specs.Deed.{deed}
+use Rattle.phase_parts.specs.Frames.{answered, top_of}
+use Rattle.phase_parts.specs.Writes.{written}
+use Rattle.dxe_core.specs.Event.{EventLeaves}
 use Rattle.dxe_core.specs.Parts.{acted_to}
 use Rattle.dxe_core.specs.Standing.{DxeCore, IsCoreOf}
 use Rattle.dxe_core.proofs.Fired.{same_services}

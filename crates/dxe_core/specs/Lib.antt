@@ -1,4 +1,12 @@
+pub mod Answered
+pub mod Event
+pub mod Lists
+pub mod Names
+pub mod Order
 pub mod Parts
+pub mod Reply
+pub mod Requests
+pub mod Services
 pub mod Standing
 pub mod Steps
 pub mod Turn

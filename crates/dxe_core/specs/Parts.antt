@@ -14,13 +14,13 @@ use Rattle.boot_model.specs.DxeMachine.{DxeMachine, DriverFrame}
 use Rattle.boot_model.specs.DxeStep.{after_dxe_effect, next_note}
 use Rattle.boot_model.specs.EvaluationBound.{dxe_action_guids}
 use Rattle.boot_laws.specs.UnrequestedDrivers.{WaitForRequest}
-use Rattle.frames.specs.Deed.{deed}
-use Rattle.frames.specs.Frames.{top_sweep}
-use Rattle.frames.specs.Needs.{IsScriptAction}
+use Rattle.phase_parts.specs.Deed.{deed}
+use Rattle.phase_parts.specs.Frames.{top_sweep}
+use Rattle.phase_parts.specs.Needs.{IsScriptAction}
 use Rattle.act_code.specs.declared.block.TheConstants.{MOST_ACTIONS}
-use Rattle.dxe_action.specs.Event.{EventLeaves}
-use Rattle.dxe_action.specs.Services.{AreCounted, AreServicesFor}
-use Rattle.dxe_action.specs.declared.event.Event.{Event}
+use Rattle.dxe_core.specs.Event.{EventLeaves}
+use Rattle.dxe_core.specs.Services.{AreCounted, AreServicesFor}
+use Rattle.dxe_core.specs.declared.event.Event.{Event}
 use Rattle.dxe_core.specs.declared.stepped.Stepped.{Stepped}
 use Rattle.dxe_core.specs.Standing.{DxeCore, IsCoreOf, IsFor, StandsFor}
 use Rattle.dxe_core.specs.Steps.{CoreCall, HasOver, HasStepped, StepsTo, texts_of}

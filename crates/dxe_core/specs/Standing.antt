@@ -4,8 +4,8 @@ use Rattle.std.specs.Prelude.{◌≡◌, ℕ, List, None}
 use Rattle.catalog_model.specs.declared.catalog.Catalog.{Catalog}
 use Rattle.store_model.specs.StoreState.{StoreState}
 use Rattle.boot_model.specs.DxeMachine.{DxeMachine, DriverFrame}
-use Rattle.frames.specs.declared.fuel.Fuel.{Fuel}
-use Rattle.dxe_action.specs.Services.{Services, AreCounted, AreServicesFor, AreServicesOf}
+use Rattle.phase_parts.specs.declared.fuel.Fuel.{Fuel}
+use Rattle.dxe_core.specs.Services.{Services, AreCounted, AreServicesFor, AreServicesOf}
 
 -- what is kept: the scripts that run, the actions that were taken and may be, and what the services stand on
 pub record DxeCore : Type 0 where

@@ -19,8 +19,8 @@ use Rattle.boot_model.specs.DxeStep.{dxe_step, driver_started}
 use Rattle.boot_model.specs.EvaluationBound.{dxe_guids}
 use Rattle.boot_laws.specs.ChangedGuids.{is_among}
 use Rattle.boot_laws.specs.UnrequestedDrivers.{WaitForRequest}
-use Rattle.dxe_action.specs.Event.{EventLeaves}
-use Rattle.dxe_action.specs.declared.event.Event.{Event}
+use Rattle.dxe_core.specs.Event.{EventLeaves}
+use Rattle.dxe_core.specs.declared.event.Event.{Event}
 use Rattle.dxe_core.specs.declared.stepped.Stepped.{Stepped}
 use Rattle.dxe_core.specs.declared.stepped.Stepped.TheVariants.{Went, Idle, Ended}
 use Rattle.dxe_core.specs.Standing.{DxeCore, IsCoreOf, IsFor, StandsFor}

@@ -3,19 +3,21 @@ ghost use Rattle.std.specs.Prelude.{◌≡◌, ◌<◌, ◌+◌, ◌-◌, ◌^�
 ghost use Rattle.boot_io.specs.Halted.{HaltsAfter};
 ghost use Rattle.boot_model.specs.DxeMachine.{DxeMachine};
 ghost use Rattle.catalog_model.specs.WellFormed.{IsWellFormed};
-ghost use Rattle.dxe_action.specs.Services.{AreCounted, AreServicesFor};
+ghost use Rattle.dxe_core.specs.Services.{AreCounted, AreServicesFor};
 ghost use Rattle.dxe_core.specs.Parts.{ActsOwn, KeepsFor, RunsScript, StepsScript, TakesOwn};
 ghost use Rattle.dxe_core.specs.Standing.{IsFor, StandsFor};
 
+use crate::action::take_own;
 use crate::dxe::Dxe;
+use crate::event::Event;
 use crate::lines::{print, put_reply};
+use crate::reply::Reply;
 use crate::stepped::Stepped;
 use act_code::Action;
 use boot_io::{Halt, Sink};
 use boot_model::{DxeEnd, Line};
 use catalog_model::Catalog;
-use dxe_action::{Event, Reply, take_own};
-use frames::{Acted, act, effects_are_alike};
+use phase_parts::{Acted, act, effects_are_alike};
 use pi_base::Phase;
 use store_model::PeiStore;
 

@@ -9,7 +9,7 @@ use boot_io::{Sink, SinkFault};
 use boot_model::{Line, ProtocolNote, ProtocolSweep, Scheduled};
 use boot_trace::put;
 use catalog_model::Catalog;
-use frames::{name_of, volume_of};
+use phase_parts::{name_of, volume_of};
 
 /// The line of a notification.
 pub(crate) fn protocol_line(catalog: &Catalog, sweep: &ProtocolSweep, note: &ProtocolNote) -> Line

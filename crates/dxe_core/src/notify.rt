@@ -7,13 +7,14 @@ ghost use Rattle.dxe_core.specs.Parts.{StepsFired, next_of_top};
 ghost use Rattle.dxe_core.specs.Standing.{IsFor};
 
 use crate::dxe::Dxe;
+use crate::event::Event;
 use crate::lines::{print, protocol_line};
+use crate::services::DxeServices;
 use crate::stepped::Stepped;
 use boot_io::{Halt, Sink};
 use boot_model::{DriverFrame, DxeEnd, ProtocolNote, ProtocolSweep, Register};
 use catalog_model::Catalog;
-use dxe_action::{DxeServices, Event};
-use frames::{begin_notification, notified};
+use phase_parts::{begin_notification, notified};
 
 // The frame in which a notification runs: it is told the interface and the handle.
 fn notification_frame(note: &ProtocolNote, sweep: &ProtocolSweep) -> DriverFrame

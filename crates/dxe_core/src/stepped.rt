@@ -1,9 +1,9 @@
 //! What a step of the machine did.
+use crate::event::Event;
 use boot_model::DxeEnd;
-use dxe_action::Event;
 
 /// What a step did.
-#[derive(Clone, Copy, PartialEq, Eq)]
+#[derive(Clone, Copy)]
 pub enum Stepped {
     /// An event of the machine.
     Went(Event),

@@ -14,7 +14,7 @@ use Rattle.boot_laws.proofs.EachDriver.{has_each_once}
 use Rattle.boot_model.proofs.Distinct.{all_differ, few_below}
 use Rattle.boot_model.proofs.ListFacts.{each_more, within}
 use Rattle.boot_trace.specs.Printing.{Texts}
-use Rattle.dxe_action.specs.Order.{Drivers, IsOrderOf}
+use Rattle.dxe_core.specs.Order.{Drivers, IsOrderOf}
 use Rattle.dxe_dispatch.specs.Queue.{IsQueueOf, IsSeen, Queue}
 use Rattle.dxe_core.specs.Standing.{DxeCore}
 use Rattle.boot_laws.specs.DxeAim.{FirstEligibleMayStart, GroupsAreAimed, aimed}

@@ -21,7 +21,7 @@ use Rattle.boot_model.specs.Text.{text_of}
 use Rattle.boot_model.proofs.Texts.{text_of-append}
 use Rattle.boot_trace.proofs.Lines.{part_none, part_whole}
 use Rattle.boot_laws.specs.UnrequestedDrivers.{UnrequestedDriversWait}
-use Rattle.dxe_action.specs.Order.{Drivers, IsOrderOf}
+use Rattle.dxe_core.specs.Order.{Drivers, IsOrderOf}
 use Rattle.dxe_dispatch.specs.Queue.{AreNew, Discovers, HasVolumes, IsNewQueue, IsQueueOf, Queue, owed}
 use Rattle.dxe_core.specs.Standing.{DxeCore, IsCoreOf, IsFor, StandsFor}
 use Rattle.boot_laws.specs.DxeUnderWay.{DxeHasEnded, DxeOpensUnderWay, steps_left}

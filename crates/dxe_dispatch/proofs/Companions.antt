@@ -11,7 +11,7 @@ use Rattle.boot_model.specs.DxeMachine.{DxeMachine}
 use Rattle.boot_model.specs.DxeChoice.{drivers_of, waiting, is_waiting, targets, name_by, before_of, after_of, befores, afters}
 use Rattle.boot_model.proofs.ListFacts.{found_passes}
 use Rattle.boot_laws.proofs.PartLists.{is_equal}
-use Rattle.dxe_action.specs.Order.{Drivers, befores_of, afters_of, gives, givers}
+use Rattle.dxe_core.specs.Order.{Drivers, befores_of, afters_of, gives, givers}
 use Rattle.dxe_dispatch.specs.Choosing.{HaveWaiting, companions, is_first_named}
 use Rattle.dxe_dispatch.specs.Queue.{waits_at}
 

@@ -16,7 +16,7 @@ use Rattle.boot_model.specs.DxeChoice.{companion_group, driver_licence, driver_q
 use Rattle.boot_laws.specs.GroupUnfolds.{IsRoot}
 use Rattle.boot_model.proofs.ListFacts.{each_append, each_more, within, each_found, each_has, found_passes}
 use Rattle.boot_laws.proofs.PartLists.{IsKnown}
-use Rattle.dxe_action.specs.Order.{Drivers}
+use Rattle.dxe_core.specs.Order.{Drivers}
 use Rattle.wait_index.specs.declared.index.WaitIndex.{WaitIndex}
 use Rattle.wait_index.specs.Dispatch.{StandsForDxe}
 use Rattle.wait_index.specs.Index as W

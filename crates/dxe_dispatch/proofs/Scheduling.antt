@@ -24,7 +24,7 @@ use Rattle.boot_laws.proofs.EachDriver.{order_has}
 use Rattle.boot_laws.proofs.PartLists.{IsKnown, IsPartOfVolume, drivers_are, is_equal, known_of, ranked_in, ranked_are}
 use Rattle.boot_laws.proofs.Queue.{has_behind}
 use Rattle.wait_index.specs.declared.index.WaitIndex.{WaitIndex}
-use Rattle.dxe_action.specs.Order.{Drivers}
+use Rattle.dxe_core.specs.Order.{Drivers}
 use Rattle.wait_index.specs.Index.{IsIndex, IsSame, IsSet, asked, order_in}
 use Rattle.dxe_dispatch.specs.Choosing.{AllWait, Come, HasFlagFor, Schedules, as_apriori}
 use Rattle.dxe_dispatch.specs.Index.{IsRequested, WaitsNoMore, is_scheduled_in}

@@ -11,7 +11,7 @@ use Rattle.boot_model.specs.DxeChoice.{asks_for_request, drivers_of, is_waiting}
 use Rattle.store_model.specs.StoreState.{StoreState}
 use Rattle.boot_model.specs.declared.line.Line.{Line}
 use Rattle.boot_model.specs.DxeMachine.{DxeMachine}
-use Rattle.dxe_action.specs.Order.{Drivers, IsOrderOf}
+use Rattle.dxe_core.specs.Order.{Drivers, IsOrderOf}
 use Rattle.dxe_dispatch.specs.Queue.{Queue, IsQueueOf, IsSeen}
 use Rattle.dxe_core.specs.Standing.{DxeCore, IsCoreOf}
 use Rattle.dxe_dispatch.specs.Ends.{IsNow}

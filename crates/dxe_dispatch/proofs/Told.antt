@@ -10,9 +10,9 @@ use Rattle.catalog_model.specs.declared.catalog.Catalog.{Catalog}
 use Rattle.store_model.specs.HandleState.{HandleState, has_protocol}
 use Rattle.boot_model.specs.DxeMachine.{DxeMachine}
 use Rattle.boot_model.specs.EvaluationBound.{dxe_asked}
-use Rattle.dxe_action.specs.Event.{IsDiscoveredDriver}
+use Rattle.dxe_core.specs.Event.{IsDiscoveredDriver}
 use Rattle.dxe_dispatch.specs.Queue.{HasProtocol, HasRequest, IsQueueOf, Queue, Requests}
-use Rattle.dxe_action.specs.declared.event.Event.{Event}
+use Rattle.dxe_core.specs.declared.event.Event.{Event}
 use Rattle.dxe_dispatch.specs.Events.{HasEvent, HasHandles}
 use Rattle.dxe_dispatch.proofs.Standing.{queue_same}
 

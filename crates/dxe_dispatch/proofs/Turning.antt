@@ -23,10 +23,10 @@ use Rattle.boot_model.specs.Text.{text_of}
 use Rattle.boot_laws.proofs.DriverGrowth.{driver_steps_grow}
 use Rattle.boot_model.specs.EvaluationBound.{dxe_asked, dxe_guids}
 use Rattle.boot_model.specs.Licence.{AllDiffer}
-use Rattle.dxe_action.specs.Order.{Drivers, IsOrderOf}
+use Rattle.dxe_core.specs.Order.{Drivers, IsOrderOf}
 use Rattle.wait_index.specs.Index.{order_in}
 use Rattle.dxe_dispatch.specs.Queue.{AreNew, Discovers, HasVolumes, Queue, IsQueueOf, IsDriver, IsNext, ComesNext}
-use Rattle.dxe_action.specs.declared.event.Event.{Event}
+use Rattle.dxe_core.specs.declared.event.Event.{Event}
 use Rattle.dxe_core.specs.Standing.{DxeCore, StandsFor}
 use Rattle.dxe_core.specs.Steps.{IsIdle, IsEvent, HasOver, HasStepped, IsCutOff}
 use Rattle.dxe_core.specs.Turn.{Printed, PrintedPart}

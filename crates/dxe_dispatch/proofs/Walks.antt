@@ -16,7 +16,7 @@ use Rattle.boot_model.proofs.Distinct.{few_below}
 use Rattle.boot_laws.proofs.PartLists.{IsKnown}
 use Rattle.boot_laws.proofs.Queue.{waiting_known}
 use Rattle.boot_laws.proofs.GroupUnfolds.{groups_unfold, groups_are_small}
-use Rattle.dxe_action.specs.Order.{Drivers, befores_of}
+use Rattle.dxe_core.specs.Order.{Drivers, befores_of}
 use Rattle.dxe_dispatch.specs.declared.group.Item.{Item}
 use Rattle.dxe_dispatch.specs.declared.group.Item.TheVariants as I
 use Rattle.dxe_dispatch.specs.Choosing.{HaveWaiting, TakesItem, companions, unfolded}

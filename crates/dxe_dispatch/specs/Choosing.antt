@@ -9,7 +9,7 @@ use Rattle.boot_model.specs.declared.driver.Scheduled.{Scheduled}
 use Rattle.boot_model.specs.DxeChoice.{driver_queue, is_waiting}
 use Rattle.boot_model.specs.DxeMachine.{DxeMachine}
 use Rattle.boot_laws.specs.GroupUnfolds.{IsRoot}
-use Rattle.dxe_action.specs.Order.{Drivers, IsOrderOf, first_driver, befores_of, afters_of}
+use Rattle.dxe_core.specs.Order.{Drivers, IsOrderOf, first_driver, befores_of, afters_of}
 use Rattle.wait_index.specs.Discovery.{HaveCome}
 use Rattle.dxe_dispatch.specs.declared.group.Item.{Item}
 use Rattle.dxe_dispatch.specs.declared.group.Item.TheVariants as I

@@ -8,9 +8,9 @@ use Rattle.store_model.specs.HandleState.{HandleState, has_protocol}
 use Rattle.boot_model.specs.DxeMachine.{DxeMachine}
 use Rattle.boot_model.specs.EvaluationBound.{dxe_asked}
 use Rattle.boot_laws.specs.ChangedGuids.{is_among}
-use Rattle.dxe_action.specs.Event.{IsDiscoveredDriver}
+use Rattle.dxe_core.specs.Event.{IsDiscoveredDriver}
 use Rattle.dxe_dispatch.specs.Queue.{Queue, IsQueueOf, owed}
-use Rattle.dxe_action.specs.declared.event.Event.{Event}
+use Rattle.dxe_core.specs.declared.event.Event.{Event}
 use Rattle.dxe_core.specs.Standing.{DxeCore}
 
 -- these are the handles now, which differ for one protocol alone

@@ -13,7 +13,7 @@ use Rattle.boot_model.specs.DxeChoice.{a_priori_drivers, discovered_order, drive
 use Rattle.boot_model.specs.DxeMachine.{DxeMachine}
 use Rattle.boot_model.specs.EvaluationBound.{dxe_asked}
 use Rattle.boot_model.specs.Licence.{AllDiffer}
-use Rattle.dxe_action.specs.Order.{Drivers, IsOrderOf}
+use Rattle.dxe_core.specs.Order.{Drivers, IsOrderOf}
 use Rattle.wait_index.specs.declared.index.WaitIndex.{WaitIndex}
 use Rattle.wait_index.specs.Dispatch.{StandsForDxe}
 use Rattle.wait_index.specs.Index as W

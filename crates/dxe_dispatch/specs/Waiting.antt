@@ -10,7 +10,7 @@ use Rattle.boot_model.specs.DxeChoice.{is_waiting}
 use Rattle.boot_model.specs.DxeMachine.{DxeMachine}
 use Rattle.boot_model.specs.DxeStep.{driver_waiting_line}
 use Rattle.boot_model.specs.Text.{text_of}
-use Rattle.dxe_action.specs.Services.{AreFlags}
+use Rattle.dxe_core.specs.Services.{AreFlags}
 use Rattle.dxe_dispatch.specs.Queue.{Queue, IsQueueOf}
 
 -- the line of a driver, if it waits

@@ -1,10 +1,10 @@
 //! What a turn of the run comes to.
 use boot_laws::Reached;
 use boot_model::{DxeEnd, Scheduled};
-use dxe_action::Event;
+use dxe_core::Event;
 
 /// What a step of the machine was, behind which the run goes on.
-#[derive(Clone, Copy, PartialEq, Eq)]
+#[derive(Clone, Copy)]
 pub enum Step {
     /// The core's own, where a script runs, and what it did.
     Acted(Event),
@@ -13,7 +13,7 @@ pub enum Step {
 }
 
 /// What a turn of the run comes to.
-#[derive(Clone, Copy, PartialEq, Eq)]
+#[derive(Clone, Copy)]
 pub enum Turn {
     /// A step, behind which the run goes on.
     Took(Step),

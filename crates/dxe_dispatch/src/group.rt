@@ -10,8 +10,8 @@ ghost use Rattle.dxe_dispatch.specs.declared.group.Item.TheVariants.{Group};
 
 use crate::waits::waits_at;
 use catalog_model::Catalog;
-use dxe_action::DriverOrder;
-use frames::name_of;
+use dxe_core::DriverOrder;
+use phase_parts::name_of;
 use pi_base::{OutOfMemory, Seq};
 use std::alloc::Global;
 

@@ -7,7 +7,7 @@ ghost use Rattle.boot_model.specs.DxeChoice.{driver_licence, licence_in_group};
 use boot_model::Licence;
 use catalog_model::{Catalog, PartExpr};
 use depex_code::Depex;
-use frames::part_of;
+use phase_parts::part_of;
 use pi_base::Phase;
 
 // The licence by an expression: that it holds, or a place beside the driver that it names.

@@ -19,7 +19,7 @@ use crate::waits::waits_at;
 use boot_model::{Licence, Scheduled};
 use catalog_model::Catalog;
 use depex_code::Steps;
-use dxe_action::DriverOrder;
+use dxe_core::DriverOrder;
 use phase_parts::Parts;
 use pi_base::{Guid, OutOfMemory, Phase, Seq};
 use std::alloc::Global;

@@ -2,14 +2,14 @@
 ghost use Rattle.std.specs.Prelude.{◌≡◌, length};
 ghost use Rattle.boot_model.specs.DriverLicence as Of;
 ghost use Rattle.boot_model.specs.DxeMachine.{DxeMachine};
-ghost use Rattle.dxe_action.specs.Order.{IsOrderOf};
+ghost use Rattle.dxe_core.specs.Order.{IsOrderOf};
 ghost use Rattle.dxe_dispatch.specs.Roots.{given_by};
 ghost use Rattle.boot_laws.specs.DxeAim.{follows};
 
 use catalog_model::{Catalog, PartExpr};
 use depex_code::Depex;
-use dxe_action::DriverOrder;
-use frames::part_of;
+use dxe_core::DriverOrder;
+use phase_parts::part_of;
 use pi_base::{Guid, Phase};
 
 // The name that an expression gives in BEFORE or in AFTER.

@@ -5,8 +5,7 @@ ghost use Rattle.dxe_dispatch.specs.Events.{OwesForChange, TellsQueue, TellsChan
 
 use crate::DriverQueue;
 use depex_code::GuidSet;
-use dxe_action::Event;
-use dxe_core::Dxe;
+use dxe_core::{Dxe, Event};
 use pi_base::Guid;
 
 // The protocol that was installed or uninstalled is on a handle now, or on none.

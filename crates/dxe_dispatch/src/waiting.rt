@@ -14,8 +14,8 @@ use boot_model::{Line, Reason};
 use boot_trace::put;
 use catalog_model::{Catalog, Part, PartExpr};
 use depex_code::Depex;
-use dxe_action::is_requested;
-use frames::{name_of, part_of, volume_of};
+use dxe_core::is_requested;
+use phase_parts::{name_of, part_of, volume_of};
 use pi_base::Phase;
 
 // Why a driver waits that has this expression.

@@ -2,7 +2,7 @@
 //! The handles of a protocol are found by its GUID, and the interfaces of a handle by its number. The hasher's seed is fixed: a volume may
 //! choose GUIDs that meet, and a look-up then goes over all of them, at most as many as there were installs.
 //!
-//! Tried in `choice_trials`: `handles`.
+//! Tried in `choice_trials`: `calls`.
 #![tactic(auto)]
 
 mod fault;

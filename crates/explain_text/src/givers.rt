@@ -7,12 +7,11 @@ ghost use Rattle.explain_text.specs.Givers.{AddsName, AddsNames, AreGivers, is_f
 
 use catalog_model::{Module, Part};
 use catalog_text::given_in;
-use guid_map::GuidMap;
-use pi_base::{Guid, OutOfMemory, Phase, Seq};
+use pi_base::{Guid, GuidMap, OutOfMemory, Phase, Seq};
 use std::alloc::Global;
 
 /// A module that may install a GUID, and the place of the next one.
-#[derive(Clone, Copy, PartialEq, Eq)]
+#[derive(Clone, Copy)]
 pub(crate) struct Link {
     pub(crate) number: u32,
     pub(crate) next: Option<usize>,

@@ -3,7 +3,7 @@ use boot_model::{Licence, Reason, RunEnd};
 use pi_base::{Guid, Phase, Seq};
 
 /// Who has a GUID installed: the one whose call made it come the last time, whether it is a PPI or a protocol.
-#[derive(Clone, Copy, Debug, PartialEq, Eq)]
+#[derive(Clone, Copy, PartialEq, Eq)]
 pub enum Giver {
     /// The PEI core.
     Core,
@@ -14,7 +14,7 @@ pub enum Giver {
 }
 
 /// A GUID that a dependency expression asks for, and who has it installed.
-#[derive(Clone, Copy, Debug, PartialEq, Eq)]
+#[derive(Clone, Copy)]
 pub struct Need {
     pub guid: Guid,
     pub giver: Giver,
@@ -50,7 +50,7 @@ pub struct Held {
 }
 
 /// The move of the heap to permanent memory.
-#[derive(Clone, Copy, Debug, PartialEq, Eq)]
+#[derive(Clone, Copy, PartialEq, Eq)]
 pub struct Moved {
     /// The old base, an address.
     pub from: u64,

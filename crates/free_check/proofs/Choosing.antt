@@ -25,7 +25,7 @@ use Rattle.free_check.specs.Putting.{PartsByLine}
 use Rattle.free_check.specs.Spelled.{IsHeld, IsRight, left}
 use Rattle.free_check.proofs.Telling.{held_left}
 use Rattle.trace_reader.proofs.LineBodies.{body_lacks}
-use Rattle.module_names.specs.Named.{AreGuids, AreNames}
+use Rattle.start_order.specs.Named.{AreGuids, AreNames}
 use Rattle.pei_dispatch.specs.Choices.{IsPlaceFor}
 use Rattle.free_check.specs.Starting.{IsAimedAt, NamesNext, StartsNext, start_of}
 use Rattle.free_check.proofs.Facts.{IsPartOfModule, part_of_module}

@@ -27,7 +27,7 @@ use Rattle.free_check.specs.Putting.{HasParted, IsOffHere, PutsGoOn, PutsPart}
 use Rattle.free_check.specs.Spelled.{IsHeld, IsRight, faults_of, left, met, spoken, told, whole}
 use Rattle.free_check.proofs.Fronts.{prefix_then, shorter_front}
 use Rattle.free_check.proofs.Telling.{held_on, met_begins, off, tracks_on}
-use Rattle.module_names.specs.Named.{AreGuids, AreNames}
+use Rattle.start_order.specs.Named.{AreGuids, AreNames}
 use Rattle.pei_dispatch.specs.Ends.{pei_starts}
 use Rattle.dxe_dispatch.specs.Choices.{IsAimedBy, IsRunBy, LetsDrivers, came}
 use Rattle.dxe_dispatch.proofs.Chosen.{Any, StepLaws, nearer_by, same_lines, target_at}

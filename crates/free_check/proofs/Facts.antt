@@ -14,10 +14,10 @@ use Rattle.boot_model.specs.declared.licence.Licence.{Licence}
 use Rattle.boot_model.specs.Eligible.{is_eligible, may_start, may_start_again}
 use Rattle.boot_model.specs.PeiMachine.{PeiMachine}
 use Rattle.boot_laws.specs.PeiUnderWay.{IsUnderWay}
-use Rattle.printed_words.specs.Words.{IsGuid}
+use Rattle.line_words.specs.PrintedWords.{IsGuid}
 use Rattle.trace_reader.specs.Readable.{IsReadable}
-use Rattle.module_names.specs.Named.{IsNamed}
-use Rattle.module_names.specs.Named.{AreGuids}
+use Rattle.start_order.specs.Named.{IsNamed}
+use Rattle.start_order.specs.Named.{AreGuids}
 use Rattle.free_check.specs.Starting.{start_of}
 
 each_at : {X : Type 0} (P : X → Type 0) (xs : List X) (n : ℕ) (x : X) → Each P xs → slice_get xs n ≡ Some x → P x

@@ -18,8 +18,8 @@ use Rattle.boot_laws.specs.DxeAim.{GroupsAreAimed, IsChoosing, NamesLeadToRoot, 
 use Rattle.boot_laws.specs.DxeUnderWay.{FewDriversWait, IsDriverOf, IsUnderWay}
 use Rattle.free_check.specs.declared.spelled.Spelled.{Spelled}
 use Rattle.free_check.specs.Spelled.{IsRight, left}
-use Rattle.module_names.specs.Named.{AreGuids, AreNames}
-use Rattle.printed_words.specs.Words.{IsGuid}
+use Rattle.start_order.specs.Named.{AreGuids, AreNames}
+use Rattle.line_words.specs.PrintedWords.{IsGuid}
 use Rattle.dxe_dispatch.specs.Choices.{root_of}
 use Rattle.dxe_dispatch.proofs.Targets.{Leading}
 use Rattle.free_check.specs.Starting.{NamesNext}

@@ -7,7 +7,7 @@ use Rattle.boot_model.specs.declared.line.Line.{Line}
 use Rattle.boot_model.specs.Text.{line_text}
 use Rattle.free_check.specs.Lines.{BeginsWithLine, Lacks, is_feed}
 use Rattle.trace_reader.specs.Readable.{IsLineOf, IsReadable}
-use Rattle.printed_words.proofs.LineFeeds.{same_line}
+use Rattle.line_words.proofs.LineFeeds.{same_line}
 use Rattle.trace_reader.proofs.LineBodies.{body_lacks, line_then}
 use Rattle.free_check.proofs.Lines.{body}
 

@@ -26,7 +26,7 @@ use Rattle.free_check.specs.Putting.{AllPrint, HasParted, IsOffHere, PartsByLine
 use Rattle.free_check.specs.Spelled.{IsHeld, IsRight, faults_of, met, spoken, told, whole}
 use Rattle.free_check.proofs.Fronts.{prefix_then, shorter_front}
 use Rattle.free_check.proofs.Telling.{held_on, met_begins, off, tracks_on}
-use Rattle.module_names.specs.Named.{AreGuids, AreNames}
+use Rattle.start_order.specs.Named.{AreGuids, AreNames}
 use Rattle.pei_dispatch.specs.Choices.{LetsPeims, NamesPeims, IsRunBy, IsStepBy}
 use Rattle.pei_dispatch.proofs.Chosen.{idle_starts, some_first, step_is_free}
 use Rattle.pei_dispatch.proofs.Growing.{step_grew}

@@ -9,7 +9,7 @@ use Rattle.catalog_model.specs.Catalogue.{IsCatalogue}
 use Rattle.catalog_model.specs.ImageFault.{IsImageFault}
 use Rattle.boot_model.specs.FreeRun.{AreFreeLines}
 use Rattle.boot_model.specs.PlanBoard.{board_of}
-use Rattle.module_names.specs.Named.{HasNoTwins, IsFirstWithTwins}
+use Rattle.start_order.specs.Named.{HasNoTwins, IsFirstWithTwins}
 use Rattle.free_check.specs.declared.checking.CheckFault.{CheckFault}
 use Rattle.free_check.specs.declared.checking.CheckFault.TheVariants.{Image, Twins, Memory}
 use Rattle.free_check.specs.declared.verdict.Verdict.{Verdict}

@@ -12,7 +12,7 @@ use Rattle.boot_model.specs.declared.line.Line.{Line}
 use Rattle.boot_model.specs.Text.{line_text}
 use Rattle.free_check.specs.declared.spelled.Spelled.{Spelled}
 use Rattle.free_check.specs.Spelled.{IsRight, left}
-use Rattle.module_names.specs.Named.{AreNames, IsNamed}
+use Rattle.start_order.specs.Named.{AreNames, IsNamed}
 use Rattle.trace_reader.specs.Readable.{IsReadable}
 use Rattle.free_check.specs.StartLine.{phase_start}
 

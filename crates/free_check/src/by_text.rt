@@ -4,8 +4,8 @@ ghost use Rattle.free_check.specs.Starting.{NamesNext};
 use crate::Spelled;
 use crate::text_start::next_start;
 use boot_laws::Choice;
-use module_names::Names;
 use pi_base::Phase;
+use start_order::Names;
 
 /// The module whose start is the next line of the text that the boot is held against.
 #[derive(Clone, Copy)]

@@ -3,7 +3,7 @@ ghost use Rattle.std.specs.Prelude.{◌≡◌, ◌≤◌, [], length};
 ghost use Rattle.catalog_model.specs.WellFormed.{IsWellFormed};
 ghost use Rattle.store_model.specs.StoreState.{Board, empty_store};
 ghost use Rattle.free_check.specs.Spelled.{IsRight, met};
-ghost use Rattle.module_names.specs.Named.{AreNames, HasNoTwins};
+ghost use Rattle.start_order.specs.Named.{AreNames, HasNoTwins};
 ghost use Rattle.free_check.specs.Following.{FollowsBoot, IsFollowed};
 
 use crate::by_text::ByText;
@@ -15,7 +15,7 @@ use boot_laws::{
     pei_goes_on, pei_lines_grow, pei_opens, pei_starts_freely,
 };
 use catalog_model::Catalog;
-use module_names::{Names, names_are_guids};
+use start_order::{Names, names_are_guids};
 use std::alloc::Global;
 use store_model::PeiStore;
 use whole_boot::{Booted, boot_by_choice};

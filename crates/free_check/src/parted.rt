@@ -6,7 +6,7 @@ use boot_io::{Halt, SinkFault};
 use pi_base::OutOfMemory;
 
 /// Why a boot is followed no further.
-#[derive(Clone, Copy, PartialEq, Eq)]
+#[derive(Clone, Copy)]
 pub enum Parted {
     /// The text is no boot's that goes on as what was met.
     Off,

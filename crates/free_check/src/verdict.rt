@@ -10,7 +10,7 @@ use crate::{Parted, Spelled};
 use pi_base::OutOfMemory;
 
 /// What the check of a text answers.
-#[derive(Clone, Copy, PartialEq, Eq)]
+#[derive(Clone, Copy)]
 pub enum Verdict {
     /// The text is the whole text of some free boot.
     Yes,

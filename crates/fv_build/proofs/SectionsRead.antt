@@ -5,10 +5,10 @@ use Rattle.std.proofs.lemmas.List.{length-replicate}
 use Rattle.std.proofs.lemmas.List.Elements.{All-tail}
 use Rattle.std.specs.Prelude.{if◌then◌else◌}
 use Rattle.pi_base.specs.Field.{little_bytes}
-use Rattle.fv_section.specs.declared.section.Section.{Section}
-use Rattle.fv_section.specs.SectionHeader.{section_at}
-use Rattle.fv_section.specs.Stream.{aligned, Leads}
-use Rattle.fv_section.proofs.Spelled.{short_section, long_section}
+use Rattle.fv_volume.specs.declared.sections.section.Section.{Section}
+use Rattle.fv_volume.specs.SectionHeader.{section_at}
+use Rattle.fv_volume.specs.Stream.{aligned, Leads}
+use Rattle.fv_volume.proofs.SpelledSections.{short_section, long_section}
 use Rattle.fv_build.specs.declared.new_file.NewSection.{NewSection}
 use Rattle.fv_build.specs.FileSystems.{FileSystem, Ffs2, Ffs3}
 use Rattle.fv_build.specs.Placing.{gap, laid}

@@ -4,7 +4,7 @@ use Rattle.pi_base.specs.declared.guid.Guid.{Guid}
 use Rattle.pi_base.specs.declared.phase.Phase.TheVariants.{Pei}
 use Rattle.pi_base.specs.declared.word.Word.TheVariants.{Success}
 use Rattle.fv_volume.specs.declared.file_type.TheConstants.{PEIM}
-use Rattle.fv_section.specs.declared.section_type.TheConstants.{PEI_DEPEX, RAW}
+use Rattle.fv_volume.specs.declared.sections.section_type.TheConstants.{PEI_DEPEX, RAW}
 use Rattle.depex_code.specs.declared.depex.Depex.TheVariants.{Expr}
 use Rattle.depex_code.specs.Tree.{Push}
 use Rattle.depex_code.specs.Expression.{instructions, bytes_of}

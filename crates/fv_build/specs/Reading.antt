@@ -6,10 +6,10 @@ use Rattle.fv_volume.specs.declared.file_type.TheConstants.{PAD}
 use Rattle.fv_volume.specs.declared.frame.TheConstants.{ALIGNMENT}
 use Rattle.fv_volume.specs.declared.volume.Volume.{Volume}
 use Rattle.fv_volume.specs.Volume.{IsVolume}
-use Rattle.fv_section.specs.declared.section.Section.{Section}
-use Rattle.fv_section.specs.declared.section_type.TheConstants.{COMPRESSION, GUID_DEFINED}
-use Rattle.fv_section.specs.declared.stream.TheConstants.{MOST_SECTIONS}
-use Rattle.fv_section.specs.Stream.{AreSections}
+use Rattle.fv_volume.specs.declared.sections.section.Section.{Section}
+use Rattle.fv_volume.specs.declared.sections.section_type.TheConstants.{COMPRESSION, GUID_DEFINED}
+use Rattle.fv_volume.specs.declared.sections.stream.TheConstants.{MOST_SECTIONS}
+use Rattle.fv_volume.specs.Stream.{AreSections}
 use Rattle.fv_build.specs.declared.new_file.NewFile.{NewFile}
 use Rattle.fv_build.specs.declared.new_file.NewSection.{NewSection}
 use Rattle.fv_build.specs.declared.new_file.Body.{Body}

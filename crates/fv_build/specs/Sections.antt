@@ -1,8 +1,8 @@
 -- The bytes of sections. (PI 1.8, volume 3, `EFI_COMMON_SECTION_HEADER` and `EFI_COMMON_SECTION_HEADER2`.)
 use Rattle.std.specs.Prelude.{ℕ, ◌+◌, List, [], ◌∷◌, ◌++◌, length, map, Bool, false, if◌then◌else◌, nat_lt}
 use Rattle.pi_base.specs.Field.{little_bytes}
-use Rattle.fv_section.specs.declared.section_header.TheConstants.{HEADER_LEN, EXTENDED_HEADER_LEN, EXTENDED}
-use Rattle.fv_section.specs.declared.stream.TheConstants.{ALIGNMENT}
+use Rattle.fv_volume.specs.declared.sections.section_header.TheConstants.{HEADER_LEN, EXTENDED_HEADER_LEN, EXTENDED}
+use Rattle.fv_volume.specs.declared.sections.stream.TheConstants.{ALIGNMENT}
 use Rattle.fv_build.specs.declared.file_system.TheConstants.{MOST_SIZE}
 use Rattle.fv_build.specs.declared.new_file.NewSection.{NewSection}
 use Rattle.fv_build.specs.FileSystems.{FileSystem, Ffs2, Ffs3, most_section}

@@ -11,8 +11,8 @@ use crate::volume::build_volume;
 use act_code::descriptor_kind::PPI;
 use act_code::{Action, GuidArg, Script, write_script};
 use depex_code::opcode_byte::{END, PUSH};
-use fv_section::section_type::{PEI_DEPEX, RAW};
 use fv_volume::file_type::PEIM;
+use fv_volume::sections::section_type::{PEI_DEPEX, RAW};
 use pi_base::{DXE_IPL_PPI, Guid, OutOfMemory, Phase, Seq, Word};
 use std::alloc::Global;
 

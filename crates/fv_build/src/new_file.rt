@@ -27,7 +27,7 @@ pub enum Body {
 /// A section to be written. PI 1.8, volume 3, `EFI_COMMON_SECTION_HEADER`.
 #[derive(Drop)]
 pub struct NewSection {
-    /// The Type byte, one of `fv_section::section_type` or any other.
+    /// The Type byte, one of `fv_volume::sections::section_type` or any other.
     pub kind: u8,
     /// The bytes behind the header.
     pub body: Seq<u8>,

@@ -6,8 +6,8 @@ use crate::file_system::FileSystem;
 use crate::fill::{fill, gap};
 use crate::new_file::NewSection;
 use crate::size::{is_extended, section_size};
-use fv_section::ALIGNMENT;
-use fv_section::section_header::EXTENDED;
+use fv_volume::sections::ALIGNMENT;
+use fv_volume::sections::section_header::EXTENDED;
 use pi_base::{OutOfMemory, Seq, put_u24, put_u32};
 
 // Adds the header of a section.

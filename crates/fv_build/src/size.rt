@@ -8,8 +8,8 @@ ghost use Rattle.fv_build.specs.Building.{need};
 use crate::file_system::{FileSystem, MOST_EXTENDED_SIZE, MOST_SIZE};
 use crate::fill::gap;
 use crate::new_file::{Body, NewFile, NewSection};
-use fv_section::section_header;
 use fv_volume::file_header;
+use fv_volume::sections::section_header;
 
 /// Whether a section with so many bytes of body is extended.
 pub(crate) fn is_extended(file_system: FileSystem, body_len: usize) -> bool
@@ -48,7 +48,7 @@ fn sections_len(file_system: FileSystem, sections: &[NewSection]) -> usize
     let mut end = 0usize;
     for section in sections {
         end = end
-            .saturating_add(gap(fv_section::ALIGNMENT, end))
+            .saturating_add(gap(fv_volume::sections::ALIGNMENT, end))
             .saturating_add(section_size(file_system, section.body.len()));
     }
     end

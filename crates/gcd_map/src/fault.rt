@@ -3,41 +3,38 @@ ghost use Rattle.std.specs.Prelude.{◌≡◌};
 ghost use Rattle.gcd_map.specs.declared.fault.GcdCause.TheVariants.{Memory};
 
 use pi_base::OutOfMemory;
+use std::fmt::{self, Display, Formatter};
 use thiserror::Error;
 
 /// What is wrong with a HOB list as the memory space's beginning. The numbers are own.
 #[derive(Clone, Copy, Debug, PartialEq, Eq, Error)]
 pub enum GcdCause {
     /// Fewer than 8 bytes are left for a HOB's header.
-    #[error("Short")]
     Short = 1,
     /// HobLength is below 8, no multiple of 8, or more than is left.
-    #[error("Length")]
     Length = 2,
     /// A known type has a wrong length, a hand-off has another Version than 9, or the list begins with no hand-off.
-    #[error("Form")]
     Form = 3,
     /// The list has no end HOB.
-    #[error("NoEnd")]
     NoEnd = 4,
     /// Want of memory.
-    #[error("Memory")]
     Memory = 5,
     /// There is no CPU HOB.
-    #[error("NoCpu")]
     NoCpu = 70,
     /// SizeOfMemorySpace of the first CPU HOB is not 12 to 52.
-    #[error("Bits")]
     Bits = 71,
     /// A resource has no address, or ends behind the memory space.
-    #[error("Range")]
     Range = 72,
     /// A resource meets an earlier one.
-    #[error("Overlap")]
     Overlap = 73,
     /// An allocation has no address, or one that is not free system memory.
-    #[error("Outside")]
     Outside = 74,
+}
+
+impl Display for GcdCause {
+    fn fmt<W: fmt::Write>(&self, f: &mut Formatter<W>) -> fmt::Result {
+        write!(f, "{self:?}")
+    }
 }
 
 /// What is wrong, and the offset of the HOB: the bytes' length for NoEnd, 0 for NoCpu and Memory.

@@ -2,8 +2,8 @@
 ghost use Rattle.store_model.specs.Service.{AfterEach, And, Present};
 ghost use Rattle.store_model.specs.StoreCall.{IsDue, Migrates};
 
+use crate::relocation::migrate;
 use crate::store::HeapStore;
-use heap_move::migrate;
 
 impl HeapStore {
     ghost use Rattle.heap_store.specs.HeapState.{StandsFor};

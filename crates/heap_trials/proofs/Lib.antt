@@ -1,4 +1,3 @@
 pub mod Boards
 pub mod NewPools
-pub mod Scenes
 pub mod Stays

@@ -1,3 +1,2 @@
-pub mod LinkedScene
 pub mod Scene
 pub mod Volumes

@@ -30,9 +30,6 @@ pub(crate) const ROM: u64 = 0xff80_0000;
 /// Its bytes.
 const VOLUME: [u8; 16] = [0, 0, 0, 0, 0, 0, 0, 0, 0, 0, 0, 0, 0, 0, 0, 1];
 
-/// The bytes of a node with its header.
-pub(crate) const NODE_LEN: u64 = 40;
-
 // The volume.
 fn volumes(alloc: Global) -> Result<Seq<Rom>, OutOfMemory>
     ensures { IfOk result (λ roms. AreVolumes roms) }

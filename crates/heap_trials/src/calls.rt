@@ -76,21 +76,6 @@ pub(crate) fn install_new<S: PeiStore>(store: &mut S, guid: GuidFrom, value: u64
     }
 }
 
-/// Makes a PPI's descriptor and installs it twice. None where one of these is refused.
-pub(crate) fn install_twice<S: PeiStore>(store: &mut S, guid: GuidFrom, value: u64) -> Option<Desc>
-    requires { Present (S.stands_for store.old) Anything }
-    ensures { Present (S.stands_for store.new) Anything }
-{
-    match desc(store, DescKind::Ppi, guid, value) {
-        Ok(d) => {
-            let first = installs(store, d);
-            let second = installs(store, d);
-            (first && second).then_some(d)
-        }
-        Err(_) => None,
-    }
-}
-
 /// Makes a dispatch notification's descriptor and registers it. None where either is refused.
 pub(crate) fn notify_new<S: PeiStore>(store: &mut S, guid: GuidFrom, entry: u64) -> Option<Desc>
     requires state { Present (S.stands_for store.old) Anything }
@@ -156,22 +141,13 @@ pub(crate) fn set_boot_mode<S: PeiStore>(store: &mut S, mode: u32)
     store.set_boot_mode(mode);
 }
 
-/// Eight bytes at an address, as a number. 0 where they are not read.
-pub(crate) fn word_at<S: PeiStore>(store: &S, at: u64) -> u64
+// Eight bytes at an address, as a number. 0 where they are not read.
+fn word_at<S: PeiStore>(store: &S, at: u64) -> u64
     requires { Present (S.stands_for store.now) Anything }
 {
     let mut bytes = [0u8; 8];
     store.peek(at, &mut bytes);
     u64::from_le_bytes(bytes)
-}
-
-/// Forty bytes at an address.
-pub(crate) fn bytes_at<S: PeiStore>(store: &S, at: u64) -> [u8; 40]
-    requires { Present (S.stands_for store.now) Anything }
-{
-    let mut bytes = [0; 40];
-    store.peek(at, bytes.as_mut_slice());
-    bytes
 }
 
 /// How many bytes are free: the hand-off HOB's EfiFreeMemoryTop less its EfiFreeMemoryBottom.

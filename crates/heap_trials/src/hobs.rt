@@ -158,19 +158,26 @@ fn encodes(alloc: Global, hob: &Hob<'_>, bytes: &[u8]) -> Result<bool, AllocErro
     Ok(out.as_slice() == bytes)
 }
 
-// Whether these bytes are read as the HOB, up to their end.
-fn decodes(bytes: &[u8], hob: &Hob<'_>) -> bool {
-    match read_at(bytes, 0) {
-        Ok((read, next)) => next == bytes.len() && read == *hob,
-        Err(_) => false,
-    }
+// Whether it is a HOB of a type that has no form here.
+fn is_other(hob: &Hob<'_>) -> bool {
+    matches!(hob, Hob::Other { .. })
+}
+
+// Whether these bytes are read as the HOB, up to their end: no two HOBs of known types have the same bytes.
+fn decodes(alloc: Global, bytes: &[u8], hob: &Hob<'_>) -> Result<bool, AllocError> {
+    let Ok((read, next)) = read_at(bytes, 0) else {
+        return Ok(false);
+    };
+    let is_whole = next == bytes.len() && is_other(&read) == is_other(hob);
+    Ok(is_whole && encodes(alloc, &read, bytes)? && encodes(alloc, hob, bytes)?)
 }
 
 // Each row both ways.
 fn check(rt: &impl Abort, alloc: Global, rows: &[Row<'_>]) -> Result<(), AllocError> {
     for (hob, bytes, again) in rows {
         let is_encoded = encodes(alloc, hob, bytes)?;
-        assert!(rt; is_encoded && decodes(bytes, again));
+        let is_decoded = decodes(alloc, bytes, again)?;
+        assert!(rt; is_encoded && is_decoded);
     }
     Ok(())
 }
@@ -179,34 +186,6 @@ fn check(rt: &impl Abort, alloc: Global, rows: &[Row<'_>]) -> Result<(), AllocEr
 fn each_type_goes_both_ways(rt: HostRuntime) {
     assert!(rt; check(&rt, rt.alloc(), &ROWS).is_ok());
     round_trip();
-}
-
-// The lengths of a pool with this body, and of a GUID HOB.
-fn lengths(body: &[u8]) -> [Option<u16>; 2] {
-    [
-        hob_len(&Hob::Pool { body }),
-        hob_len(&Hob::Named { name: NAME, body }),
-    ]
-}
-
-// The same for a body of so many zeros, none where memory runs out.
-fn lengths_of(alloc: Global, len: usize) -> Option<[Option<u16>; 2]> {
-    let Ok(body) = vec![in alloc; 0u8; len] else {
-        return None;
-    };
-    Some(lengths(body.as_slice()))
-}
-
-#[test]
-fn the_greatest_lengths_are_encoded(rt: HostRuntime) {
-    for (len, wants) in [
-        (65_504, [Some(65_512), Some(65_528)]),
-        (65_505, [Some(65_520), None]),
-        (65_520, [Some(65_528), None]),
-        (65_521, [None, None]),
-    ] {
-        assert!(rt; lengths_of(rt.alloc(), len) == Some(wants), "{len}");
-    }
 }
 
 // Bytes, a place in them, and the fault there.

@@ -1,4 +1,4 @@
-//! HOBs, the heap in memory, its lists, the move of both and both stores, tried byte by byte.
+//! HOBs, and what the stores tell of the heap, its lists and the move of both, tried byte by byte.
 #![tactic(auto)]
 
 #[cfg(test)]
@@ -6,15 +6,7 @@ mod board;
 #[cfg(test)]
 mod calls;
 #[cfg(test)]
-mod heap;
-#[cfg(test)]
 mod hobs;
-#[cfg(test)]
-mod indexed;
-#[cfg(test)]
-mod links;
-#[cfg(test)]
-mod migration;
 #[cfg(test)]
 mod readings;
 #[cfg(test)]
@@ -23,5 +15,3 @@ mod refusals;
 mod scene;
 #[cfg(test)]
 mod store;
-#[cfg(test)]
-mod told;

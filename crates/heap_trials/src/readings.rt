@@ -1,20 +1,19 @@
-// Each call that reads, over the scene in both stores, and those that write a pool and the boot mode or put a PPI in the place of another.
+// Each call that reads, over the scene in each store, and those that write a pool and the boot mode or put a PPI in the place of another.
 ghost use Rattle.std.specs.Prelude.{◌≡◌, ◌≤◌, ◌+◌, true, length, IfOk};
 ghost use Rattle.boot_plan.specs.declared.limits.TheConstants.{MOST_TEMP};
 ghost use Rattle.store_model.specs.Service.{Present, OfEach};
 ghost use Rattle.store_model.specs.StoreCall.{Anything, HasPool};
 ghost use Rattle.heap_trials.specs.Scene.{IsLaid};
 
-use crate::board::{ROM, TEMP, lists_over, store_over};
+use crate::board::{ROM, TEMP, heap_over, lists_over, store_over};
 use crate::calls::set_boot_mode;
 use crate::scene::{END, INSTALLED, NAME, OTHER, Of, desc_of, install, laid, reinstall};
-use crate::told::{tells, told};
 use pi_base::{Guid, MEMORY_PPI, OutOfMemory};
-use std::alloc::{AllocError, Global};
+use std::alloc::Global;
 use std::process::Abort;
 use std::test::*;
 use store_model::{
-    Desc, DescKind, EntryList, EntryTold, Firing, HobSpan, PeiStore, Pool, StoreFault, Sweep,
+    Desc, DescKind, EntryList, EntryTold, Firing, PeiStore, Pool, StoreFault, Sweep,
 };
 
 // What is tried over the scene.
@@ -24,7 +23,6 @@ enum Trial {
     Entries,
     Ppis,
     Sweep,
-    Hobs,
     Writes,
     Peeks,
     Mode,
@@ -134,12 +132,6 @@ fn descriptor<S: PeiStore>(store: &S, of: Of) -> (Guid, u64)
     store.descriptor(desc_of(of))
 }
 
-fn nth_ppi<S: PeiStore>(store: &S, guid: &Guid, n: u16) -> Option<(Desc, u64)>
-    requires { Present (S.stands_for store.now) Anything }
-{
-    store.nth_ppi(guid, n)
-}
-
 // A GUID, how many PPIs of it are passed over, and the one that is found.
 static FOUND: [(Guid, u16, Option<(Desc, u64)>); 4] = [
     (NAME, 0, Some((INSTALLED, 7))),
@@ -152,7 +144,7 @@ fn have_ppis<S: PeiStore>(rt: &impl Abort, store: &S)
     requires { Present (S.stands_for store.now) Anything }
 {
     for (guid, n, found) in &FOUND {
-        assert!(rt; nth_ppi(store, guid, *n) == *found, "{n}");
+        assert!(rt; store.nth_ppi(guid, *n) == *found);
     }
 }
 
@@ -215,83 +207,6 @@ fn try_sweep<S: PeiStore>(rt: &impl Abort, store: &mut S)
     }
 }
 
-// The HOBs of a store, at most so many.
-fn spans<S: PeiStore>(alloc: Global, store: &S, most: u32) -> Result<Vec<HobSpan>, AllocError>
-    requires { Present (S.stands_for store.now) Anything }
-{
-    let mut spans = Vec::new(alloc);
-    let mut at = 0;
-    'hobs: for _ in 0..most {
-        match store.hob_at(at) {
-            Some(span) => {
-                spans.push(span).map_err(|_| AllocError)?;
-                at = span.next;
-            }
-            None => return Ok(spans),
-        }
-    }
-    Ok(spans)
-}
-
-// The HOBs of the scene: the hand-off, four descriptors and four nodes.
-static HOBS: [HobSpan; 9] = [
-    HobSpan {
-        kind: 1,
-        length: 56,
-        next: 56,
-    },
-    HobSpan {
-        kind: 7,
-        length: 48,
-        next: 104,
-    },
-    HobSpan {
-        kind: 7,
-        length: 48,
-        next: 152,
-    },
-    HobSpan {
-        kind: 7,
-        length: 48,
-        next: 200,
-    },
-    HobSpan {
-        kind: 7,
-        length: 48,
-        next: 248,
-    },
-    HobSpan {
-        kind: 7,
-        length: 40,
-        next: 288,
-    },
-    HobSpan {
-        kind: 7,
-        length: 40,
-        next: 328,
-    },
-    HobSpan {
-        kind: 7,
-        length: 40,
-        next: 368,
-    },
-    HobSpan {
-        kind: 7,
-        length: 40,
-        next: END,
-    },
-];
-
-// Whether a store has the HOBs of the scene, and no more.
-fn has_hobs<S: PeiStore>(alloc: Global, store: &S) -> bool
-    requires { Present (S.stands_for store.now) Anything }
-{
-    match spans(alloc, store, 32) {
-        Ok(found) => found.as_slice() == HOBS.as_slice(),
-        Err(_) => false,
-    }
-}
-
 // A new pool that may be written.
 fn new_pool<S: PeiStore>(store: &mut S, size: u32) -> Result<Pool, StoreFault>
     requires { Present (S.stands_for store.old) Anything }
@@ -301,17 +216,15 @@ fn new_pool<S: PeiStore>(store: &mut S, size: u32) -> Result<Pool, StoreFault>
     store.pool(size)
 }
 
-// Makes a pool of nine bytes and writes two bytes into it: whether they are written, and whether the store then tells what it told before.
-fn write_two<S: PeiStore>(alloc: Global, store: &mut S, at: u32) -> Result<(bool, bool), AllocError>
+// Makes a pool of nine bytes and writes two bytes into it. None where there is no pool, and otherwise whether they are written.
+fn write_two<S: PeiStore>(store: &mut S, at: u32) -> Option<bool>
     requires { Present (S.stands_for store.old) Anything }
     ensures { Present (S.stands_for store.new) Anything }
 {
-    let Ok(pool) = new_pool(store, 9) else {
-        return Err(AllocError);
-    };
-    let before = told(alloc, store)?;
-    let is_written = store.store(pool, at, b"ab");
-    Ok((is_written, tells(alloc, store, before.as_slice())?))
+    match new_pool(store, 9) {
+        Ok(pool) => Some(store.store(pool, at, b"ab")),
+        Err(_) => None,
+    }
 }
 
 // Four bytes at an address, where they are read, and whether nothing was written where not.
@@ -322,13 +235,13 @@ fn four_at<S: PeiStore>(store: &S, at: u64) -> (bool, [u8; 4])
     (store.peek(at, &mut bytes), bytes)
 }
 
-fn try_writes<S: PeiStore>(rt: &impl Abort, alloc: Global, store: &mut S)
+fn try_writes<S: PeiStore>(rt: &impl Abort, store: &mut S)
     requires { IsLaid (S.stands_for store.old) }
 {
-    let first = write_two(alloc, store, 7).ok();
+    let first = write_two(store, 7);
     let written = four_at(store, TEMP + END + 8 + 6);
-    assert!(rt; (first, written) == (Some((true, false)), (true, [0, b'a', b'b', 0])));
-    assert!(rt; write_two(alloc, store, 8).ok() == Some((false, true)));
+    assert!(rt; (first, written) == (Some(true), (true, [0, b'a', b'b', 0])));
+    assert!(rt; write_two(store, 8) == Some(false));
 }
 
 // What is answered where nothing is read: the bytes stay as they were.
@@ -352,22 +265,16 @@ fn try_peeks<S: PeiStore>(rt: &impl Abort, store: &S)
     requires { Present (S.stands_for store.now) Anything }
 {
     for (at, want) in &PEEKS {
-        assert!(rt; four_at(store, *at) == *want, "at {at}");
+        assert!(rt; four_at(store, *at) == *want);
     }
-}
-
-fn boot_mode<S: PeiStore>(store: &S) -> u32
-    requires { Present (S.stands_for store.now) Anything }
-{
-    store.boot_mode()
 }
 
 fn try_mode<S: PeiStore>(rt: &impl Abort, store: &mut S)
     requires { IsLaid (S.stands_for store.old) }
 {
-    let before = boot_mode(store);
+    let before = store.boot_mode();
     set_boot_mode(store, 0x0102_0304);
-    let modes = (before, boot_mode(store), four_at(store, 0x8000_000c));
+    let modes = (before, store.boot_mode(), four_at(store, 0x8000_000c));
     assert!(rt; modes == (0, 0x0102_0304, (true, [4, 3, 2, 1])));
 }
 
@@ -379,7 +286,7 @@ fn try_reinstall<S: PeiStore>(rt: &impl Abort, store: &mut S)
     assert!(rt; (first, again) == (true, Some(StoreFault::Missing)));
 }
 
-fn run<S: PeiStore>(rt: &impl Abort, alloc: Global, store: &mut S, trial: Trial)
+fn run<S: PeiStore>(rt: &impl Abort, store: &mut S, trial: Trial)
     requires { IsLaid (S.stands_for store.old) }
 {
     match trial {
@@ -387,8 +294,7 @@ fn run<S: PeiStore>(rt: &impl Abort, alloc: Global, store: &mut S, trial: Trial)
         Trial::Entries => try_entries(rt, store),
         Trial::Ppis => try_ppis(rt, store),
         Trial::Sweep => try_sweep(rt, store),
-        Trial::Hobs => assert!(rt; has_hobs(alloc, store)),
-        Trial::Writes => try_writes(rt, alloc, store),
+        Trial::Writes => try_writes(rt, store),
         Trial::Peeks => try_peeks(rt, store),
         Trial::Mode => try_mode(rt, store),
         Trial::Reinstall => try_reinstall(rt, store),
@@ -396,17 +302,18 @@ fn run<S: PeiStore>(rt: &impl Abort, alloc: Global, store: &mut S, trial: Trial)
 }
 
 // One of these over the scene in a store.
-fn over<S: PeiStore + Drop>(rt: &impl Abort, alloc: Global, store: S, trial: Trial)
+fn over<S: PeiStore + Drop>(rt: &impl Abort, store: S, trial: Trial)
     requires { Present (S.stands_for store) Anything }
 {
     match laid(store) {
-        Some(mut store) => run(rt, alloc, &mut store, trial),
+        Some(mut store) => run(rt, &mut store, trial),
         None => panic!(rt; "a scene"),
     }
 }
 
-// The same in both stores. Only these two functions own a store: each exit of an owner is dear to prove.
-fn over_both(
+// The same in each store: of plain lists, in memory, and in memory with its index. Only these two functions own a store: each exit of an
+// owner is dear to prove.
+fn over_each(
     rt: &impl Abort,
     alloc: Global,
     len: u64,
@@ -416,12 +323,13 @@ fn over_both(
     requires len { len ≤ MOST_TEMP }
     requires early { early + 64 ≤ len }
 {
-    over(rt, alloc, lists_over(alloc, len, early)?, trial);
-    over(rt, alloc, store_over(alloc, len, early)?, trial);
+    over(rt, lists_over(alloc, len, early)?, trial);
+    over(rt, heap_over(alloc, len, early)?, trial);
+    over(rt, store_over(alloc, len, early)?, trial);
     Ok(())
 }
 
-static TRIALS: [Trial; 8] = [
+static TRIALS: [Trial; 7] = [
     // The lists are told by place.
     Trial::Lists,
     // Entries are told one behind the other.
@@ -430,8 +338,6 @@ static TRIALS: [Trial; 8] = [
     Trial::Ppis,
     // A callback fires once for a new PPI.
     Trial::Sweep,
-    // HOBs are told one behind the other.
-    Trial::Hobs,
     // A pool is written within its size.
     Trial::Writes,
     // The boot mode stands in the hand-off HOB.
@@ -443,11 +349,11 @@ static TRIALS: [Trial; 8] = [
 #[test]
 fn what_stands_in_a_store_is_told(rt: HostRuntime) {
     for trial in &TRIALS {
-        assert!(rt; over_both(&rt, rt.alloc(), 0x4000, 0, *trial).is_ok());
+        assert!(rt; over_each(&rt, rt.alloc(), 0x4000, 0, *trial).is_ok());
     }
 }
 
 #[test]
 fn bytes_are_read_in_one_region(rt: HostRuntime) {
-    assert!(rt; over_both(&rt, rt.alloc(), 0x5000, 0x1000, Trial::Peeks).is_ok());
+    assert!(rt; over_each(&rt, rt.alloc(), 0x5000, 0x1000, Trial::Peeks).is_ok());
 }

@@ -1,4 +1,4 @@
-// Each refusal of each service beside the neighbour that passes, and that a refused call changes nothing: over both stores.
+// Each refusal of each service beside the neighbour that passes: over both stores.
 ghost use Rattle.std.specs.Prelude.{◌≤◌};
 ghost use Rattle.store_model.specs.Service.{Present};
 ghost use Rattle.store_model.specs.StoreCall.{Anything};
@@ -7,7 +7,6 @@ ghost use Rattle.heap_trials.specs.Scene.{IsLaid};
 use crate::board::{ROM, lists_over, store_over};
 use crate::calls::{core_install, create, desc, move_to, notify_new, pages, plan, pool};
 use crate::scene::{INLINE, Of, fill, install, laid, notify, reinstall};
-use crate::told::{tells, told};
 use hob_codec::Hob;
 use pi_base::{MEMORY_PPI, OutOfMemory, Span};
 use std::alloc::Global;
@@ -57,9 +56,8 @@ const PLANNED: Span = Span {
 // A stage, the bytes that are free when the call comes, the call, and the fault of its answer.
 type Row = (Stage, u32, Service, Option<StoreFault>);
 
-// The fault of an answer, and whether the store then tells what it told before. None where the scene does not come so far, or memory
-// runs out.
-type Answer = Option<(Option<StoreFault>, bool)>;
+// Over the scene as it was laid, the bytes that are free when the call comes, the call, and the fault of its answer.
+type NamedRow = (u32, Named, Option<StoreFault>);
 
 const PASSES: Option<StoreFault> = None;
 
@@ -71,8 +69,7 @@ const MISSING: Option<StoreFault> = Some(StoreFault::Missing);
 
 const NOT_YET: Option<StoreFault> = Some(StoreFault::NotYet);
 
-/// Over the scene as it was laid, the bytes that are free, the call and its fault.
-static OF_THE_SCENE: [(u32, Named, Option<StoreFault>); 14] = [
+static OF_THE_SCENE: [NamedRow; 14] = [
     // A PPI: 40 bytes for it, and 40 for the pair with the dispatch notification.
     (80, Named::Install(Of::Other), PASSES),
     (72, Named::Install(Of::Other), FULL),
@@ -193,78 +190,60 @@ fn bring<S: PeiStore>(store: &mut S, stage: Stage) -> bool
     }
 }
 
-// A call of the scene: its fault, and whether the store then tells what it told before. None where so little room is not left.
-fn named_answer<S: PeiStore>(alloc: Global, store: &mut S, left: u32, call: Named) -> Answer
+// Whether a call of the scene is answered so. False where so little room is not left.
+fn is_named_so<S: PeiStore>(store: &mut S, row: &NamedRow) -> bool
     requires { IsLaid (S.stands_for store.old) }
 {
-    if !fill(store, left) {
-        return None;
+    if !fill(store, row.0) {
+        return false;
     }
-    let Ok(before) = told(alloc, store) else {
-        return None;
-    };
-    let fault = call_named(store, call);
-    Some((fault, tells(alloc, store, before.as_slice()).ok()?))
+    call_named(store, row.1) == row.2
 }
 
 // The same over the scene in a store.
-fn over_named<S: PeiStore + Drop>(alloc: Global, store: S, left: u32, call: Named) -> Answer
+fn over_named<S: PeiStore + Drop>(store: S, row: &NamedRow) -> bool
     requires { Present (S.stands_for store) Anything }
 {
     match laid(store) {
-        Some(mut store) => named_answer(alloc, &mut store, left, call),
-        None => None,
+        Some(mut store) => is_named_so(&mut store, row),
+        None => false,
     }
 }
 
 // The same in both stores.
-fn both_named(alloc: Global, left: u32, call: Named) -> Result<[Answer; 2], OutOfMemory> {
-    let lists = over_named(alloc, lists_over(alloc, 0x4000, 0)?, left, call);
-    let memory = over_named(alloc, store_over(alloc, 0x4000, 0)?, left, call);
-    Ok([lists, memory])
-}
-
-// The fault comes, and the store then tells what it told before; or none does, and it tells something else.
-fn is_as_wanted(found: Result<[Answer; 2], OutOfMemory>, fault: Option<StoreFault>) -> bool {
-    let want = Some((fault, fault.is_some()));
-    match found {
-        Ok(found) => found == [want, want],
-        Err(_) => false,
-    }
+fn both_named(alloc: Global, row: &NamedRow) -> Result<bool, OutOfMemory> {
+    let lists = over_named(lists_over(alloc, 0x4000, 0)?, row);
+    let memory = over_named(store_over(alloc, 0x4000, 0)?, row);
+    Ok(lists && memory)
 }
 
 #[test]
-fn calls_that_name_descriptors_are_refused_in_order_and_change_nothing(rt: HostRuntime) {
-    for (n, (left, call, fault)) in OF_THE_SCENE.iter().enumerate() {
-        let found = both_named(rt.alloc(), *left, *call);
-        assert!(rt; is_as_wanted(found, *fault), "row {n}");
+fn calls_that_name_descriptors_are_refused_in_order(rt: HostRuntime) {
+    for (n, row) in OF_THE_SCENE.iter().enumerate() {
+        assert!(rt; both_named(rt.alloc(), row) == Ok(true));
     }
 }
 
-// The same of a call that names none, at a stage.
-fn answer_at<S: PeiStore>(alloc: Global, store: &mut S, row: &Row) -> Answer
+// Whether a call that names none is answered so at its stage. False where the scene does not come so far.
+fn is_so<S: PeiStore>(store: &mut S, row: &Row) -> bool
     requires { Present (S.stands_for store.old) Anything }
 {
     if !bring(store, row.0) {
-        return None;
+        return false;
     }
     if !fill(store, row.1) {
-        return None;
+        return false;
     }
-    let Ok(before) = told(alloc, store) else {
-        return None;
-    };
-    let fault = call(store, row.2);
-    Some((fault, tells(alloc, store, before.as_slice()).ok()?))
+    call(store, row.2) == row.3
 }
 
 // The same over the scene in a store.
-fn over_row<S: PeiStore + Drop>(alloc: Global, store: S, row: &Row) -> Answer
+fn over_row<S: PeiStore + Drop>(store: S, row: &Row) -> bool
     requires { Present (S.stands_for store) Anything }
 {
     match laid(store) {
-        Some(mut store) => answer_at(alloc, &mut store, row),
-        None => None,
+        Some(mut store) => is_so(&mut store, row),
+        None => false,
     }
 }
 
@@ -279,17 +258,17 @@ fn pages_of(stage: Stage) -> u64
 }
 
 // The same in both stores.
-fn both_at(alloc: Global, row: &Row) -> Result<[Answer; 2], OutOfMemory> {
+fn both_at(alloc: Global, row: &Row) -> Result<bool, OutOfMemory> {
     let early = pages_of(row.0);
     let len = 0x4000 + early;
-    let lists = over_row(alloc, lists_over(alloc, len, early)?, row);
-    let memory = over_row(alloc, store_over(alloc, len, early)?, row);
-    Ok([lists, memory])
+    let lists = over_row(lists_over(alloc, len, early)?, row);
+    let memory = over_row(store_over(alloc, len, early)?, row);
+    Ok(lists && memory)
 }
 
 #[test]
-fn refusals_come_in_their_order_and_change_nothing(rt: HostRuntime) {
+fn refusals_come_in_their_order(rt: HostRuntime) {
     for (n, row) in ROWS.iter().enumerate() {
-        assert!(rt; is_as_wanted(both_at(rt.alloc(), row), row.3), "row {n}");
+        assert!(rt; both_at(rt.alloc(), row) == Ok(true));
     }
 }

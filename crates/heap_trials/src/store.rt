@@ -6,13 +6,12 @@ ghost use Rattle.store_model.specs.StoreCall.{Anything};
 
 use crate::board::{RAM, TEMP, lists_over, store_over};
 use crate::calls::{
-    bytes_at, core_install, create, desc, install_new, install_twice, migrate, notify_new, pages,
-    plan, pool, pop,
+    core_install, create, desc, install_new, migrate, move_to, notify_new, pages, plan, pool, pop,
 };
 use crate::scene::{INLINE, NAME};
 use boot_plan::MOST_TEMP;
 use hob_codec::Hob;
-use pi_base::OutOfMemory;
+use pi_base::{Guid, OutOfMemory, Span};
 use std::alloc::Global;
 use std::process::Abort;
 use std::test::*;
@@ -24,12 +23,31 @@ enum Trial {
     Pools,
     /// A pool of so many bytes, and whether it fits.
     Fit(u32, bool),
+    Hobs,
     Move,
+    MovedPages,
     EarlyPages,
     Pages,
     Queue,
     Volumes,
 }
+
+// Whether a store tells these bytes at an address.
+fn tells<S: PeiStore>(store: &S, at: u64, want: &[u8]) -> bool
+    requires { Present (S.stands_for store.now) Anything }
+{
+    let mut bytes = [0u8; 144];
+    let n = want.len();
+    if n > bytes.len() {
+        return false;
+    }
+    store.peek(at, &mut bytes.as_mut_slice()[..n]) && &bytes.as_slice()[..n] == want
+}
+
+// Where no byte is free, the hand-off HOB behind its header: its version, boot mode, memory, what is free, and the end HOB. Behind it
+// the header of the pool.
+static FILLED: &[u8] =
+    b"\x09\0\0\0\0\0\0\0\0\x40\0\x80\0\0\0\0\0\0\0\x80\0\0\0\0\0\x40\0\x80\0\0\0\0\0\x40\0\x80\0\0\0\0\xf8\x3f\0\x80\0\0\0\0\x07\0\xc0\x3f\0\0\0\0";
 
 fn try_pools<S: PeiStore>(rt: &impl Abort, store: &mut S)
     requires { Present (S.stands_for store.old) Anything }
@@ -40,23 +58,71 @@ fn try_pools<S: PeiStore>(rt: &impl Abort, store: &mut S)
     };
     let found = [pool(store, 16_312), pool(store, 8), pool(store, 65_528)];
     let full = Err(StoreFault::Full);
-    assert!(rt; found == [Ok(whole), full, full]);
+    assert!(rt; found == [Ok(whole), full, full] && tells(store, TEMP + 8, FILLED));
 }
 
-// The descriptor that has moved: its flags, where its GUID stands, the value, and the GUID.
-static DESCRIPTOR: [u8; 40] =
-    *b"\x10\0\0\x80\0\0\0\0\x58\0\0\x40\0\0\0\0\x34\x12\0\0\0\0\0\0\0\0\0\0\0\0\0\0\0\0\0\0\0\0\0\x01";
+// The HOB of a CPU, a GUID HOB with its body padded, and the end HOB.
+static TWO_HOBS: &[u8] =
+    b"\x06\0\x10\0\0\0\0\0\x30\x10\0\0\0\0\0\0\x04\0\x20\0\0\0\0\x000123456789abcdefxyz\0\0\0\0\0\xff\xff\x08\0\0\0\0\0";
+
+fn try_hobs<S: PeiStore>(rt: &impl Abort, store: &mut S)
+    requires { Present (S.stands_for store.old) Anything }
+{
+    let cpu = Hob::Cpu { memory: 48, io: 16 };
+    let named = Hob::Named {
+        name: Guid(*b"0123456789abcdef"),
+        body: b"xyz",
+    };
+    let made = [create(store, &cpu), create(store, &named)];
+    assert!(rt; made == [Ok(TEMP + 56), Ok(TEMP + 72)] && tells(store, TEMP + 56, TWO_HOBS));
+}
+
+// A PPI that has moved. The descriptor: its flags, where its GUID stands, the value, and the GUID. Its node with its header, and the
+// header of the next descriptor.
+static MOVED_PPI: &[u8] =
+    b"\x10\0\0\x80\0\0\0\0\x58\0\0\x40\0\0\0\0\x34\x12\0\0\0\0\0\0\0\0\0\0\0\0\0\0\0\0\0\0\0\0\0\x01\x07\0\x28\0\0\0\0\0\0\0\0\0\0\0\0\0\x40\0\0\x40\0\0\0\0\0\0\0\0\0\0\0\0\x09\0\0\0\0\0\0\0\x07\0\x30\0\0\0\0\0";
 
 fn try_move<S: PeiStore>(rt: &impl Abort, store: &mut S)
     requires { Present (S.stands_for store.old) Anything }
 {
-    let twice = install_twice(store, INLINE, 0x1234);
+    let installed = install_new(store, INLINE, 0x1234);
     let next = desc(store, DescKind::Ppi, INLINE, 7);
-    assert!(rt; (twice, next) == (Some(Desc { offset: 0x40 }), Ok(Desc { offset: 0xc0 })));
-    let planned = plan(store, RAM.base, RAM.len);
-    assert!(rt; (planned, migrate(store)) == (Ok(()), Some((TEMP, 0x4000_0000))));
-    assert!(rt; bytes_at(store, 0x4000_0040) == DESCRIPTOR);
+    assert!(rt; (installed, next) == (Some(Desc { offset: 0x40 }), Ok(Desc { offset: 0x98 })));
+    assert!(rt; move_to(store, RAM) == Some((TEMP, 0x4000_0000)));
+    assert!(rt; tells(store, 0x4000_0040, MOVED_PPI));
 }
+
+// Permanent memory in the upper half of RAM.
+const UPPER: Span = Span {
+    base: 0x4001_0000,
+    len: 0x1_0000,
+};
+
+// The list at the new base, of 144 bytes. The hand-off HOB: the end of memory, its base, what is free, and the end HOB. The page's
+// HOB: it lies at the end of the new heap. The GUID HOB with the bytes that look like an address, and the end HOB.
+static MOVED: &[u8] =
+    b"\x01\0\x38\0\0\0\0\0\x09\0\0\0\0\0\0\0\0\0\x02\x40\0\0\0\0\0\0\x01\x40\0\0\0\0\0\xf0\x01\x40\0\0\0\0\x90\0\x01\x40\0\0\0\0\x88\0\x01\x40\0\0\0\0\x02\0\x30\0\0\0\0\0\0\0\0\0\0\0\0\0\0\0\0\0\0\0\0\0\0\xf0\x01\x40\0\0\0\0\0\x10\0\0\0\0\0\0\x04\0\0\0\0\0\0\0\x04\0\x20\0\0\0\0\x000123456789abcdef\x40\0\0\x80\0\0\0\0\xff\xff\x08\0\0\0\0\0";
+
+fn try_moved_pages<S: PeiStore>(rt: &impl Abort, store: &mut S)
+    requires { Present (S.stands_for store.old) Anything }
+{
+    let named = Hob::Named {
+        name: Guid(*b"0123456789abcdef"),
+        body: b"\x40\0\0\x80\0\0\0\0",
+    };
+    let made = [pages(store, 1), create(store, &named)];
+    let moved = move_to(store, UPPER);
+    let wants = (
+        [Ok(TEMP + 0x7000), Ok(TEMP + 104)],
+        Some((TEMP, 0x4001_0000)),
+    );
+    let is_left = !store.peek(TEMP, &mut [0]);
+    assert!(rt; (made, moved) == wants && is_left && tells(store, 0x4001_0000, MOVED));
+}
+
+// The HOB of the page.
+static EARLY_PAGE: &[u8] =
+    b"\x02\0\x30\0\0\0\0\0\0\0\0\0\0\0\0\0\0\0\0\0\0\0\0\0\0\xf0\0\x80\0\0\0\0\0\x10\0\0\0\0\0\0\x04\0\0\0\0\0\0\0";
 
 fn try_early_pages<S: PeiStore>(rt: &impl Abort, store: &mut S)
     requires { Present (S.stands_for store.old) Anything }
@@ -69,6 +135,7 @@ fn try_early_pages<S: PeiStore>(rt: &impl Abort, store: &mut S)
     ];
     let full = Err(StoreFault::Full);
     assert!(rt; found == [full, Ok(0x8000_f000), Ok(0x8000_d000), full]);
+    assert!(rt; tells(store, TEMP + 56, EARLY_PAGE));
 }
 
 fn try_pages<S: PeiStore>(rt: &impl Abort, store: &mut S)
@@ -154,8 +221,10 @@ fn run<S: PeiStore>(rt: &impl Abort, store: &mut S, trial: Trial)
 {
     match trial {
         Trial::Pools => try_pools(rt, store),
-        Trial::Fit(size, fits) => assert!(rt; pool(store, size).is_ok() == fits, "{size}"),
+        Trial::Fit(size, fits) => assert!(rt; pool(store, size).is_ok() == fits),
+        Trial::Hobs => try_hobs(rt, store),
         Trial::Move => try_move(rt, store),
+        Trial::MovedPages => try_moved_pages(rt, store),
         Trial::EarlyPages => try_early_pages(rt, store),
         Trial::Pages => try_pages(rt, store),
         Trial::Queue => try_queue(rt, store),
@@ -187,8 +256,8 @@ fn over_both(
 }
 
 // The length of the heap, and what is tried there.
-static TRIALS: [(u64, Trial); 11] = [
-    // Pools are refused past the room.
+static TRIALS: [(u64, Trial); 12] = [
+    // A pool of all that is free leaves no room.
     (0x4000, Trial::Pools),
     // A pool fits to the byte, and has at most 65,520 bytes.
     (80, Trial::Fit(8, true)),
@@ -197,7 +266,9 @@ static TRIALS: [(u64, Trial); 11] = [
     (88, Trial::Fit(9, true)),
     (0x1_1000, Trial::Fit(65_520, true)),
     (0x1_1000, Trial::Fit(65_521, false)),
-    // A descriptor is installed twice and moves.
+    // HOBs stand one behind another.
+    (0x4000, Trial::Hobs),
+    // A descriptor moves with its node.
     (0x1_0000, Trial::Move),
     // Pages come from the end of memory.
     (0x1_0000, Trial::Pages),
@@ -218,6 +289,8 @@ fn both_stores_answer_as_worked_out(rt: HostRuntime) {
 }
 
 #[test]
-fn early_pages_come_from_the_end_of_their_region(rt: HostRuntime) {
+fn early_pages_come_from_the_end_of_their_region_and_move(rt: HostRuntime) {
     assert!(rt; over_both(&rt, rt.alloc(), 0x1_0000, 0x3000, Trial::EarlyPages).is_ok());
+    // Bytes that look like an address stay.
+    assert!(rt; over_both(&rt, rt.alloc(), 0x8000, 0x3000, Trial::MovedPages).is_ok());
 }

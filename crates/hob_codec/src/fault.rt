@@ -3,26 +3,28 @@ ghost use Rattle.std.specs.Prelude.{◌≡◌};
 ghost use Rattle.hob_codec.specs.declared.fault.HobFault.TheVariants.{Memory};
 
 use pi_base::OutOfMemory;
+use std::fmt::{self, Display, Formatter};
 use thiserror::Error;
 
 /// What is wrong with the bytes of a HOB or of a HOB list. The numbers are own.
 #[derive(Clone, Copy, Debug, PartialEq, Eq, Error)]
 pub enum HobFault {
     /// Fewer than 8 bytes are left for a header.
-    #[error("Short")]
     Short = 1,
     /// HobLength is below 8, no multiple of 8, or more than is left.
-    #[error("Length")]
     Length = 2,
     /// A known type has a wrong length, a hand-off has another Version than 9, or a list begins with no hand-off.
-    #[error("Form")]
     Form = 3,
     /// A list has no end HOB.
-    #[error("NoEnd")]
     NoEnd = 4,
     /// Want of memory.
-    #[error("Memory")]
     Memory = 5,
+}
+
+impl Display for HobFault {
+    fn fmt<W: fmt::Write>(&self, f: &mut Formatter<W>) -> fmt::Result {
+        write!(f, "{self:?}")
+    }
 }
 
 impl From<OutOfMemory> for HobFault {

@@ -1,3 +1,9 @@
 pub mod LineLemmas
 pub mod WordLemmas
 pub mod Values
+pub mod Comparisons
+pub mod GuidWords
+pub mod LineFeeds
+pub mod Numerals
+pub mod PlainWords
+pub mod Places

@@ -1,10 +1,11 @@
-//! Texts of lines that are written by hand (own format): their lines, of which some are passed over, the words of a line, and numbers.
+//! Texts of lines (own formats): the lines, words and numbers of a text that a person writes, and in `printed` those of a text that the project prints.
 //!
-//! Tried in `base_trials`: `plan_lines`.
+//! Tried in `text_trials`: `plans`, `traces`.
 #![tactic(auto)]
 
 mod line;
 mod number;
+pub mod printed;
 mod words;
 
 pub use line::{first_line, is_passed_over, place_of};

@@ -6,7 +6,7 @@ use Rattle.std.proofs.lemmas.Cmp.{nat_list_eq_equiv}
 use Rattle.pi_base.specs.declared.guid.Guid.{Guid}
 use Rattle.pi_base.specs.declared.phase.Phase.{Phase}
 use Rattle.pi_base.specs.Guids.{same_guid}
-use Rattle.guid_map.specs.GuidMap.{value_of}
+use Rattle.pi_base.specs.GuidMap.{value_of}
 use Rattle.fv_volume.specs.declared.file.FfsFile.{FfsFile}
 use Rattle.catalog_model.specs.FileType.{has_part}
 use Rattle.catalog_model.specs.ReadFile.{is_file}

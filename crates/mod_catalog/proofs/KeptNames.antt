@@ -11,7 +11,7 @@ use Rattle.std.proofs.lemmas.Iterator.Adapters.{position_from-zero}
 use Rattle.pi_base.specs.declared.guid.Guid.{Guid}
 use Rattle.pi_base.specs.Guids.{same_guid}
 use Rattle.pi_base.specs.Lists.{firsts, numbers}
-use Rattle.guid_map.specs.GuidMap.{value_of}
+use Rattle.pi_base.specs.GuidMap.{value_of}
 use Rattle.fv_volume.specs.declared.file.FfsFile.{FfsFile}
 use Rattle.pi_base.specs.declared.phase.Phase.{Phase}
 use Rattle.catalog_model.specs.FileType.{has_part}

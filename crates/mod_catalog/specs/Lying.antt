@@ -2,7 +2,7 @@
 use Rattle.std.specs.Prelude.{ℕ, ◌+◌, ◌≤◌, List, length, All}
 use Rattle.pi_base.specs.Lists.{Each}
 use Rattle.fv_volume.specs.declared.file.FfsFile.{FfsFile}
-use Rattle.fv_section.specs.declared.section.Section.{Section}
+use Rattle.fv_volume.specs.declared.sections.section.Section.{Section}
 use Rattle.catalog_model.specs.declared.read_file.ReadFile.{ReadFile}
 use Rattle.catalog_model.specs.declared.read_file.Stretch.{Stretch}
 

@@ -2,7 +2,7 @@
 use Rattle.std.specs.Prelude.{◌≡◌, ℕ, ◌+◌, ◌≤◌, List}
 use Rattle.pi_base.specs.Lists.{EachPair}
 use Rattle.fv_volume.specs.declared.file.FfsFile.{FfsFile}
-use Rattle.fv_section.specs.declared.section.Section.{Section}
+use Rattle.fv_volume.specs.declared.sections.section.Section.{Section}
 use Rattle.act_code.specs.declared.script.Script.{Script}
 use Rattle.act_code.specs.Script.{IsScript}
 use Rattle.catalog_model.specs.declared.limits.TheConstants.{MOST_SCRIPT_BYTES}

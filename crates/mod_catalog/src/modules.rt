@@ -136,7 +136,7 @@ pub(crate) fn modules_of(
     requires read { AreRead bytes.now files.now reads }
     ensures { IfOk result (AreModules bytes.now files.now reads number reads) }
 {
-    fv_section::places();
+    fv_volume::sections::places();
     let ranks = volume_ranks(alloc, bytes, files, a_priori, reads.as_slice())?;
     made_modules(alloc, bytes, &ranks, reads, number)
 }

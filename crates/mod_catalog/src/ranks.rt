@@ -9,8 +9,7 @@ ghost use Rattle.mod_catalog.specs.Ranks.{AreBearers, AreOfSome, AreKept, HoldRa
 
 use crate::file_type::has_part;
 use fv_volume::FfsFile;
-use guid_map::GuidMap;
-use pi_base::{GUID_LEN, Guid, OutOfMemory, Phase, Seq};
+use pi_base::{GUID_LEN, Guid, GuidMap, OutOfMemory, Phase, Seq};
 use std::alloc::Global;
 
 /// The file that a name stands for.

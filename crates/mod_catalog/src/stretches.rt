@@ -4,7 +4,7 @@ ghost use Rattle.catalog_model.specs.ReadFile.{holds_volume, nested_in};
 ghost use Rattle.mod_catalog.specs.Lying.{LieIn, AreStretchesBelow};
 
 use catalog_model::Stretch;
-use fv_section::{Section, section_type};
+use fv_volume::sections::{Section, section_type};
 use fv_volume::{FfsFile, file_type};
 use pi_base::{OutOfMemory, Seq};
 use std::alloc::Global;

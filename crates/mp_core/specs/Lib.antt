@@ -5,3 +5,8 @@ pub mod OneAfterAnother
 pub mod Past
 pub mod Processor
 pub mod Schedule
+pub mod Words
+pub mod LineText
+pub mod FileText
+pub mod FileFaults
+pub mod OutcomeText

@@ -1,25 +1,39 @@
 //! The MP services of PI 1.8, volume 2, "MP Services Protocol", as a machine over a list of events: what each call answers, and what the
-//! jobs of the application processors leave in memory, whatever the order in which the processors get on.
+//! jobs of the application processors leave in memory, whatever the order in which the processors get on. With the text of an MP file,
+//! which has the numbers of processors and of cells and the events, and the text of what the machine answers and leaves (own).
 //!
 //! Tried in `text_trials`: `processors`.
 #![tactic(auto)]
 
 mod event;
+mod event_line;
+mod fault;
+mod file;
+mod head;
+mod job;
+mod keyword;
 mod laws;
 mod limits;
+mod lines;
 mod machine;
 mod needs;
 mod op;
 mod outcome;
+mod print;
 mod processor;
 mod reply;
 mod running;
 mod services;
+mod status;
+mod word;
 
 pub use event::MpEvent;
-pub use laws::jobs_in_order;
+pub use fault::MpFault;
+pub use file::{MpFile, read_mp};
+pub use laws::{each_call_is_answered, jobs_in_order, one_reading};
 pub use limits::{MOST_CELLS, MOST_OPS, MOST_PROCESSORS};
 pub use needs::events_fit;
 pub use op::Op;
+pub use print::{put_bad_line, put_outcome};
 pub use reply::{MpOutcome, MpReply, MpWord};
 pub use running::run;

@@ -19,7 +19,7 @@ use Rattle.start_order.specs.Starts.{ComeFirst, module_start}
 use Rattle.order_check.specs.Along.{IsAlong, IsIndex}
 use Rattle.order_check.specs.Finding.{same_start}
 use Rattle.start_order.proofs.Modules.{one_module}
-use Rattle.module_names.specs.Named.{HasNoTwins, IsNamed}
+use Rattle.start_order.specs.Named.{HasNoTwins, IsNamed}
 use Rattle.order_check.specs.ByOrder.{IsNumberOf, NamesAsked, NamesNext, NamesStart, is_of, is_start_of, lets_asked, lets_by, same_phase, starts_of}
 
 -- what an order asks for behind these starts: it asks for this one next, behind as many

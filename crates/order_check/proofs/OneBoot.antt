@@ -18,7 +18,7 @@ use Rattle.boot_model.specs.declared.line.RunEnd.{RunEnd}
 use Rattle.boot_model.specs.PlanBoard.{board_of}
 use Rattle.boot_model.specs.Text.{text_of}
 use Rattle.start_order.proofs.Modules.{one_module}
-use Rattle.module_names.specs.Named.{HasNoTwins, IsFirstWithTwins}
+use Rattle.start_order.specs.Named.{HasNoTwins, IsFirstWithTwins}
 use Rattle.start_order.specs.declared.line.AskedStart.{AskedStart}
 use Rattle.start_order.specs.declared.line.Start.{Start}
 use Rattle.start_order.specs.declared.lines.StartOrder.{StartOrder}

@@ -21,7 +21,7 @@ use Rattle.boot_laws.proofs.Cursors as Cursors
 use Rattle.boot_laws.proofs.PeiRuns as Runs
 use Rattle.boot_laws.proofs.PeiWays as Ways
 use Rattle.boot_laws.proofs.Starts.{pei_prints}
-use Rattle.module_names.specs.Named.{HasNoTwins}
+use Rattle.start_order.specs.Named.{HasNoTwins}
 use Rattle.start_order.specs.declared.line.AskedStart.{AskedStart}
 use Rattle.start_order.specs.declared.lines.StartOrder.{StartOrder}
 use Rattle.start_order.specs.Starts.{ComeFirst, module_start, starts}

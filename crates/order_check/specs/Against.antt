@@ -16,7 +16,7 @@ use Rattle.catalog_model.specs.Parts.{part_at}
 use Rattle.store_model.specs.HandleState.{HandleState, has_protocol}
 use Rattle.store_model.specs.StoreState.{StoreState}
 use Rattle.store_model.specs.Service.Install.{has_ppi}
-use Rattle.module_names.specs.Named.{IsNamed}
+use Rattle.start_order.specs.Named.{IsNamed}
 use Rattle.start_order.specs.declared.line.Start.{Start}
 use Rattle.order_check.specs.declared.against.Against.{Against}
 use Rattle.order_check.specs.declared.against.Against.TheVariants.{Unknown, Started, NotEligible}

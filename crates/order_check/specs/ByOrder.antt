@@ -7,7 +7,7 @@ use Rattle.pi_base.specs.declared.phase.Phase.TheVariants.{Pei, Dxe}
 use Rattle.pi_base.specs.Guids.{same_guid}
 use Rattle.catalog_model.specs.declared.catalog.Catalog.{Catalog}
 use Rattle.catalog_model.specs.declared.catalog.Module.{Module}
-use Rattle.module_names.specs.Named.{AreNames, IsNamed}
+use Rattle.start_order.specs.Named.{AreNames, IsNamed}
 use Rattle.start_order.specs.declared.line.AskedStart.{AskedStart}
 use Rattle.start_order.specs.declared.line.Start.{Start}
 use Rattle.start_order.specs.declared.lines.StartOrder.{StartOrder}

@@ -13,7 +13,7 @@ use Rattle.catalog_model.specs.Catalogue.{IsCatalogue}
 use Rattle.catalog_model.specs.ImageFault.{IsImageFault}
 use Rattle.boot_model.specs.PlanBoard.{board_of}
 use Rattle.boot_trace.specs.Printing.{Texts}
-use Rattle.module_names.specs.Named.{HasNoTwins, IsFirstWithTwins}
+use Rattle.start_order.specs.Named.{HasNoTwins, IsFirstWithTwins}
 use Rattle.start_order.specs.declared.lines.StartOrder.{StartOrder}
 use Rattle.order_check.specs.declared.images.FollowFault.{FollowFault}
 use Rattle.order_check.specs.declared.images.FollowFault.TheVariants.{Image, Twins, Sink, Memory}

@@ -8,7 +8,7 @@ use Rattle.catalog_model.specs.declared.catalog.Catalog.{Catalog}
 use Rattle.catalog_model.specs.WellFormed.{IsWellFormed}
 use Rattle.store_model.specs.StoreState.{Board}
 use Rattle.boot_trace.specs.Printing.{Texts}
-use Rattle.module_names.specs.Named.{HasNoTwins}
+use Rattle.start_order.specs.Named.{HasNoTwins}
 use Rattle.start_order.specs.declared.lines.StartOrder.{StartOrder}
 use Rattle.order_check.specs.declared.following.Followed.{Followed}
 use Rattle.order_check.specs.declared.images.FollowFault.{FollowFault}

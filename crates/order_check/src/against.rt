@@ -2,17 +2,16 @@
 ghost use Rattle.std.specs.Prelude.{◌≡◌, ℕ, IfOk, length, option_copied};
 ghost use Rattle.store_model.specs.Service.{Present, OfEach};
 ghost use Rattle.store_model.specs.StoreCall.{Anything};
-ghost use Rattle.module_names.specs.Named.{AreNames};
+ghost use Rattle.start_order.specs.Named.{AreNames};
 ghost use Rattle.order_check.specs.Against.{IsAmong, StandsAgainst};
 ghost use Rattle.order_check.specs.ByOrder.{starts_of};
 ghost use Rattle.order_check.specs.Finding.{FindsPart, is_among_asked, same_start};
 
 use crate::lacking::{Installed, lacking};
 use catalog_model::{Catalog, Part};
-use frames::part_of;
-use module_names::Names;
+use phase_parts::part_of;
 use pi_base::{Guid, OutOfMemory, Seq};
-use start_order::{AskedStart, Start};
+use start_order::{AskedStart, Names, Start};
 use std::alloc::Global;
 use store_model::PeiStore;
 

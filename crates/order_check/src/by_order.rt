@@ -4,9 +4,8 @@ ghost use Rattle.order_check.specs.ByOrder.{NamesBy, is_start_of, lets_by};
 
 use boot_laws::Choice;
 use catalog_model::Catalog;
-use module_names::Names;
 use pi_base::Phase;
-use start_order::{AskedStart, Start, StartOrder};
+use start_order::{AskedStart, Names, Start, StartOrder};
 
 /// The module that an order asks for next, and no other; behind its last line nobody is named, so that the first that may start does, unless the order says that the boot is followed no further.
 #[derive(Clone, Copy)]

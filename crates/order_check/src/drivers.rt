@@ -1,12 +1,12 @@
 // DXE along an order.
-ghost use Rattle.std.specs.Prelude.{◌≡◌, ◌+◌, ◌<◌, ◌^◌, ℕ, OnOk, length};
+ghost use Rattle.std.specs.Prelude.{◌≡◌, ◌+◌, ◌<◌, ◌^◌, ℕ, Ok, IfOk, OnOk, length};
 ghost use Rattle.boot_io.specs.Halted.{HaltsAfter};
 ghost use Rattle.boot_model.specs.BootRun.{dxe_result};
 ghost use Rattle.catalog_model.specs.WellFormed.{IsWellFormed};
 ghost use Rattle.pi_base.specs.declared.phase.Phase.TheVariants.{Dxe as InDxe};
 ghost use Rattle.store_model.specs.Service.{Present, OfEach};
 ghost use Rattle.store_model.specs.StoreCall.{Anything};
-ghost use Rattle.dxe_dispatch.specs.Queue.{IsNewQueue, IsQueueFor};
+ghost use Rattle.dxe_dispatch.specs.Queue.{IsNewQueue, IsQueueFor, Queue};
 ghost use Rattle.dxe_core.specs.Standing.{IsFor};
 ghost use Rattle.dxe_dispatch.specs.Choices.{RunsByChoice};
 ghost use Rattle.dxe_dispatch.specs.Ends.{IsAtOpening};
@@ -96,6 +96,42 @@ fn run_with_ledger<M: PeiStore, S: Sink, L: Ledger>(
     run_dxe(dxe, store, queue, by, in_pei, by.catalog, sink, &mut steps)
 }
 
+// DXE of a core at its opening, over a queue that is made for it: what it reaches, and how many starts there were, those in PEI with them.
+fn run_queued<M: PeiStore, S: Sink>(
+    alloc: Global,
+    dxe: &mut Dxe,
+    store: &M,
+    by: &ByOrder<'_>,
+    in_pei: u32,
+    sink: &mut S,
+) -> Result<(Reached<DxeEnd>, u64), Halt>
+    requires catalog { IsWellFormed by.now.catalog.now }
+    requires made { (fuel : ℕ) × IsFor by.now.catalog.now fuel dxe.old }
+    requires opening { IsAtOpening M.stands_for store.now by.now.catalog.now dxe.old }
+    ensures row { IfOk result (λ at. (left : Queue) × RunsByChoice (record {
+      names = λ sink starts named. NamesBy by.now.catalog.now by.now.names.now.volumes.items InDxe by.now.order.now starts named;
+      lets = λ starts number. lets_by by.now.catalog.now by.now.order.now InDxe starts number;
+      text = S.text;
+      faults = S.faults;
+      in_pei = in_pei;
+    }) M.stands_for store.now by.now.catalog.now (record {
+      core = dxe.old;
+      sink = sink.old;
+      later = dxe.new;
+      queue = left;
+      shown = sink.new;
+    }) (Ok at.0) × (at.1 ≡ in_pei + left.left)) }
+    ensures few { dxe.old.fuel.taken < 2 ^ 32 → OnOk result (length dxe.new.services.handles.interfaces < 2 ^ 32) }
+    ensures faults { HaltsAfter result (S.faults sink.old) (S.faults sink.new) }
+{
+    let mut queue = DriverQueue::new(alloc, by.catalog)?;
+    let blank = Blank::new(1);
+    match run_with_ledger::<M, S, Brand>(dxe, store, &mut queue, by, in_pei, sink, blank) {
+        Ok(reached) => Ok((reached, starts(in_pei, &queue))),
+        Err(halt) => Err(halt),
+    }
+}
+
 /// The whole of DXE behind the hand-off of PEI, along an order.
 pub(crate) fn run_drivers<M: PeiStore + Drop, S: Sink>(
     alloc: Global,
@@ -112,23 +148,18 @@ pub(crate) fn run_drivers<M: PeiStore + Drop, S: Sink>(
     ensures faults { HaltsAfter result (S.faults sink.old) (S.faults sink.new) }
 {
     let mut dxe = dxe_at_opening(alloc, &pei.store, by.catalog, fuel, pei.actions)?;
-    let mut queue = DriverQueue::new(alloc, by.catalog)?;
-    let blank = Blank::new(1);
-    let reached = run_with_ledger::<M, S, Brand>(
-        &mut dxe, &pei.store, &mut queue, by, pei.starts, sink, blank,
-    )?;
-    let counted = starts(pei.starts, &queue);
-    match reached {
-        Reached::End(end) => Ok(Drivers {
+    match run_queued(alloc, &mut dxe, &pei.store, by, pei.starts, sink) {
+        Ok((Reached::End(end), starts)) => Ok(Drivers {
             end: Some(dxe_result(end)),
             handles: dxe.into_handles(),
-            starts: counted,
+            starts,
         }),
         // The driver that was not let has left the queue.
-        Reached::Barred(_) => Ok(Drivers {
+        Ok((Reached::Barred(_), starts)) => Ok(Drivers {
             end: None,
             handles: dxe.into_handles(),
-            starts: counted - 1,
+            starts: starts - 1,
         }),
+        Err(halt) => Err(halt),
     }
 }

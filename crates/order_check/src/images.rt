@@ -5,7 +5,7 @@ ghost use Rattle.boot_model.specs.PlanBoard.{board_of};
 ghost use Rattle.boot_plan.specs.Range.{IsPlanInRange};
 ghost use Rattle.catalog_model.specs.WellFormed.{IsWellFormed};
 ghost use Rattle.store_model.specs.StateFacts.{IsBoard};
-ghost use Rattle.module_names.specs.Named.{AreNames, HasNoTwins};
+ghost use Rattle.start_order.specs.Named.{AreNames, HasNoTwins};
 ghost use Rattle.order_check.specs.Follow.{FaultsAfter, Follows, FollowsCatalog, IsFaultTold, IsHaltTold};
 ghost use Rattle.order_check.specs.Answer.{FollowsTo};
 
@@ -17,15 +17,14 @@ use boot_plan::Plan;
 use catalog_model::{Catalog, ImageCause, ImageFault, catalogues_are_well_formed};
 use mem_store::MemStore;
 use mod_catalog::catalog;
-use module_names::{Names, NamesFault};
 use phys_mem::Rom;
 use pi_base::{OutOfMemory, Seq};
-use start_order::StartOrder;
+use start_order::{Names, NamesFault, StartOrder};
 use std::alloc::Global;
 use whole_boot::roms;
 
 /// Why a boot is not followed.
-#[derive(Clone, Copy, Debug, PartialEq, Eq)]
+#[derive(Clone, Copy, Debug)]
 pub enum FollowFault {
     /// The first fault of the images.
     Image(ImageFault),

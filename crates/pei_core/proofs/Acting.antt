@@ -21,13 +21,13 @@ use Rattle.boot_model.specs.PeiStep.{Acts, acted, after_effect}
 use Rattle.boot_model.specs.PeiStep as Machine
 use Rattle.boot_model.specs.declared.line.Line.{Line}
 use Rattle.boot_model.specs.declared.phase_end.PeiEnd.TheVariants as E
-use Rattle.frames.specs.Acted.{HasLeft}
-use Rattle.frames.specs.Alike.{AreAlike, as_effect}
-use Rattle.frames.specs.Deed.{Deed, Wrote, Logged, Skipped, Returned, frames_after, lines_of}
-use Rattle.frames.specs.Found.{action_at, found_block}
-use Rattle.frames.specs.Spent.{HasSpent, IsSpent}
-use Rattle.frames.specs.Took.{HasDone}
-use Rattle.frames.specs.declared.fuel.Fuel.{Fuel}
+use Rattle.phase_parts.specs.Acted.{HasLeft}
+use Rattle.phase_parts.specs.Alike.{AreAlike, as_effect}
+use Rattle.phase_parts.specs.Deed.{Deed, Wrote, Logged, Skipped, Returned, frames_after, lines_of}
+use Rattle.phase_parts.specs.Found.{action_at, found_block}
+use Rattle.phase_parts.specs.Spent.{HasSpent, IsSpent}
+use Rattle.phase_parts.specs.Took.{HasDone}
+use Rattle.phase_parts.specs.declared.fuel.Fuel.{Fuel}
 use Rattle.pei_core.specs.declared.core_state.Core.{Core}
 use Rattle.pei_core.specs.Parts.{TakesOwn, action_goal}
 use Rattle.pei_core.specs.SecondStarts.{IsAgain}

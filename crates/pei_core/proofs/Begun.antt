@@ -17,7 +17,7 @@ use Rattle.boot_model.specs.Eligible.{licence_at}
 use Rattle.boot_model.specs.PeiMachine.{PeiMachine}
 use Rattle.boot_model.specs.PeimState.{IsPeimState, awaits_start, state_at}
 use Rattle.boot_model.specs.PeiStep.{start_line, start_lines, started, started_by, started_part}
-use Rattle.frames.specs.Found.{has_block}
+use Rattle.phase_parts.specs.Found.{has_block}
 use Rattle.pei_core.specs.declared.core_state.Core.{Core}
 use Rattle.pei_core.specs.Cores.{state_behind, with_started}
 use Rattle.boot_trace.specs.StartLines.{started_lines}

@@ -8,9 +8,9 @@ use Rattle.boot_model.specs.declared.line.Line.TheVariants as L
 use Rattle.boot_model.specs.PeiMachine.{Frame, PeiMachine}
 use Rattle.boot_model.specs.PeiStep.{report_lines}
 use Rattle.boot_model.specs.Reporting.{reports}
-use Rattle.frames.specs.Frames.{answered}
-use Rattle.frames.specs.Writes.{written}
-use Rattle.pei_action.specs.declared.taken.Reply.{Reply}
+use Rattle.phase_parts.specs.Frames.{answered}
+use Rattle.phase_parts.specs.Writes.{written}
+use Rattle.pei_core.specs.declared.taken.Reply.{Reply}
 use Rattle.pei_core.specs.declared.core_state.Core.{Core}
 use Rattle.pei_core.specs.CoreCall.{last_volumes}
 use Rattle.pei_core.specs.Parts.{reply_goal}

@@ -2,15 +2,25 @@ mod Acting
 mod Begun
 mod Calls
 mod Cases
+mod Changing
+mod Collected
+mod Each
 mod Fired
 mod Going
+pub mod Grammar
+mod Lasting
+mod Made
+mod Modes
 mod Moving
 mod Opened
+mod OwnActions
 mod Owned
+mod Pages
 mod PeimStates
 mod Reported
 mod SecondStarts
+mod Served
+mod Shadowing
 mod Sounded
 mod StartedHobs
 mod StartedSteps
-mod Shadowing

@@ -25,11 +25,11 @@ use Rattle.boot_model.specs.declared.frame.Register.{Register}
 use Rattle.boot_model.specs.PeiMachine.{Frame, PeiMachine}
 use Rattle.boot_model.specs.PeiStep.{after_effect, past, shadowed}
 use Rattle.boot_model.specs.declared.line.Line.{Line}
-use Rattle.frames.specs.Frames.{answered, top_of}
-use Rattle.pei_action.specs.Guids.{AreChangesOf}
-use Rattle.pei_action.specs.declared.guids.Changes.{Changes}
-use Rattle.pei_action.specs.Taken.{reply_in}
-use Rattle.pei_action.specs.declared.taken.Reply.{Reply}
+use Rattle.phase_parts.specs.Frames.{answered, top_of}
+use Rattle.pei_core.specs.Guids.{AreChangesOf}
+use Rattle.pei_core.specs.declared.guids.Changes.{Changes}
+use Rattle.pei_core.specs.Taken.{reply_in}
+use Rattle.pei_core.specs.declared.taken.Reply.{Reply}
 use Rattle.pei_core.specs.declared.core_state.Core.{Core}
 use Rattle.pei_core.specs.Standing.{IsCoreOf}
 use Rattle.pei_core.specs.Started.{HasStarted}

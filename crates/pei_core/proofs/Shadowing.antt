@@ -14,7 +14,7 @@ use Rattle.boot_model.specs.declared.peim_state.PeimState.TheVariants.{NotDispat
 use Rattle.boot_model.specs.PeiMachine.{Frame, PeiMachine, printed}
 use Rattle.boot_model.specs.PeiStep.{past, shadowed}
 use Rattle.boot_model.specs.PeimState.{ArePeimStates, IsPeimState, state_at}
-use Rattle.frames.specs.Frames.{answered}
+use Rattle.phase_parts.specs.Frames.{answered}
 use Rattle.pei_core.specs.Cores.{register_status, with_registered}
 use Rattle.pei_core.specs.declared.core_state.Core.{Core}
 use Rattle.pei_core.specs.declared.event.Again.{Again}

@@ -14,8 +14,8 @@ use Rattle.store_model.specs.StoreState.{StoreState}
 use Rattle.boot_model.specs.MachineFacts.{IsSound}
 use Rattle.boot_model.specs.PeiMachine.{Frame, PeiMachine}
 use Rattle.boot_model.specs.PeiStep.{action_at, pei_step}
-use Rattle.frames.specs.Found.{found_action}
-use Rattle.frames.proofs.Fitting.{found_fits}
+use Rattle.phase_parts.specs.Found.{found_action}
+use Rattle.phase_parts.proofs.Fitting.{found_fits}
 use Rattle.pei_core.specs.declared.event.Stepped.{Stepped}
 use Rattle.pei_core.specs.declared.event.Stepped.TheVariants.{Went, Idle, Ended}
 use Rattle.pei_core.specs.declared.pei.Pei.{Pei as OfPei}

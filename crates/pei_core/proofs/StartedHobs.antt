@@ -31,8 +31,8 @@ use Rattle.boot_model.specs.PeiAction.{Effect, effect, desc_number, guid_arg, ki
 use Rattle.boot_model.proofs.ListFacts.{each_push}
 use Rattle.boot_laws.specs.EffectForms.{EffectHas, RepliesHave}
 use Rattle.boot_laws.proofs.EffectForms.{effect_has, given}
-use Rattle.pei_action.specs.Needs.{IsArgument}
-use Rattle.pei_action.proofs.Grammar.{block}
+use Rattle.pei_core.specs.Needs.{IsArgument}
+use Rattle.pei_core.proofs.Grammar.{block}
 use Rattle.pei_core.specs.Started.{HasStarted, IsEntryOf, IsBodyOf}
 
 abbrev pub AreHobsOf : List ℕ → List HobEntry → Type 0

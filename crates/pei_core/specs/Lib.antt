@@ -1,7 +1,10 @@
 pub mod CoreCall
 pub mod Cores
+pub mod Guids
+pub mod Needs
 pub mod Parts
 pub mod SecondStarts
 pub mod Standing
 pub mod Started
 pub mod Steps
+pub mod Taken

@@ -23,11 +23,11 @@ use Rattle.boot_model.specs.PeiAction.{effect}
 use Rattle.boot_model.specs.PeiMachine.{PeiMachine, Frame}
 use Rattle.boot_model.specs.PeiStep.{after_call, after_effect, core_called, open_sweep, shadowed}
 use Rattle.boot_model.specs.declared.line.Line.TheVariants as L
-use Rattle.frames.specs.Deed.{deed}
-use Rattle.frames.specs.Needs.{IsScriptAction}
+use Rattle.phase_parts.specs.Deed.{deed}
+use Rattle.phase_parts.specs.Needs.{IsScriptAction}
 use Rattle.act_code.specs.declared.block.TheConstants.{MOST_ACTIONS}
-use Rattle.pei_action.specs.Taken.{reply_in}
-use Rattle.pei_action.specs.declared.taken.Reply.{Reply}
+use Rattle.pei_core.specs.Taken.{reply_in}
+use Rattle.pei_core.specs.declared.taken.Reply.{Reply}
 use Rattle.pei_core.specs.declared.event.Event.{Event}
 use Rattle.pei_core.specs.declared.event.Stepped.{Stepped}
 use Rattle.pei_core.specs.declared.pei.Pei.{Pei as OfPei}

@@ -6,7 +6,7 @@ use Rattle.boot_model.specs.Eligible.{may_start_again}
 use Rattle.boot_model.specs.PeiMachine.{PeiMachine}
 use Rattle.boot_model.specs.declared.peim_state.PeimState.{PeimState}
 use Rattle.boot_model.specs.declared.peim_state.PeimState.TheVariants.{NotDispatched, Dispatched, RegisteredForShadow, Done}
-use Rattle.pei_action.specs.Guids.{no_changes}
+use Rattle.pei_core.specs.Guids.{no_changes}
 use Rattle.pei_core.specs.declared.event.Again.{Again}
 use Rattle.pei_core.specs.declared.event.Again.TheVariants.{Nobody, One, All}
 use Rattle.pei_core.specs.declared.event.Event.{Event}

@@ -7,7 +7,7 @@ use Rattle.boot_model.specs.MachineFacts.{IsSound}
 use Rattle.boot_model.specs.PeiMachine.{PeiMachine}
 use Rattle.boot_model.specs.PeiRun.{pei_opening}
 use Rattle.boot_model.specs.PeimState.{ArePeimStates}
-use Rattle.volume_list.specs.Known.{AreKnown}
+use Rattle.phase_parts.specs.Known.{AreKnown}
 use Rattle.pei_core.specs.Started.{RunsStarted}
 use Rattle.pei_core.specs.declared.core_state.Core.{Core}
 use Rattle.pei_core.specs.declared.pei.Pei.{Pei}

@@ -7,22 +7,23 @@ ghost use Rattle.catalog_model.specs.declared.catalog.Catalog.{Catalog as OfCata
 ghost use Rattle.pi_base.specs.Lists.{Each};
 ghost use Rattle.store_model.specs.StateFacts.{IsDesc};
 ghost use Rattle.store_model.specs.Service.{Present};
-ghost use Rattle.volume_list.specs.Known.{AreKnown};
-ghost use Rattle.frames.specs.Needs.{IsWithin};
+ghost use Rattle.phase_parts.specs.Known.{AreKnown};
+ghost use Rattle.phase_parts.specs.Needs.{IsWithin};
 ghost use Rattle.pei_core.specs.Parts.{AnswersCall, RegistersForShadow, RunsScript, StepsIn, TakesAction, TakesOwn};
 ghost use Rattle.pei_core.specs.Standing.{IsFor, KeepsFor, StandsFor, last_start};
 ghost use Rattle.store_model.specs.StoreCall.{Anything};
 
+use crate::action::take_own;
 use crate::event::{Again, Event, Stepped};
 use crate::pei::Pei;
 use crate::reports::{last_volumes, print, put_reports, report};
+use crate::taken::{Reply, Taken};
 use act_code::Action;
 use boot_io::{Halt, Sink};
 use boot_laws::replies_are_sound;
 use boot_model::{CallName, Extra, Line, PeiEnd, state_of};
 use catalog_model::Catalog;
-use frames::{Acted, Writes, act, effects_are_alike};
-use pei_action::{Reply, Taken, take_own};
+use phase_parts::{Acted, Writes, act, effects_are_alike};
 use pi_base::Phase;
 use store_model::PeiStore;
 

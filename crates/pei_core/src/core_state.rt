@@ -1,9 +1,8 @@
 //! What the core keeps beside the store.
 use boot_model::PeimState;
-use frames::{Frames, Fuel};
+use phase_parts::{Frames, Fuel, VolumeList};
 use pi_base::Seq;
 use store_model::Sweep;
-use volume_list::VolumeList;
 
 /// What the core keeps beside the store.
 #[derive(Drop)]

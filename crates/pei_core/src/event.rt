@@ -3,8 +3,8 @@ ghost use Rattle.std.specs.Prelude.{◌≡◌};
 ghost use Rattle.pei_core.specs.SecondStarts.{event_letting, registered_again};
 ghost use Rattle.pei_core.specs.declared.event.Again.TheVariants.{Nobody};
 
+use crate::guids::Changes;
 use boot_model::{PeiEnd, PeimState};
-use pei_action::Changes;
 
 /// Which parts may start again behind an event that might not before it (PI 1.8, volume 1, `RegisterForShadow()`).
 #[derive(Clone, Copy)]

@@ -17,7 +17,7 @@ use crate::reports::print;
 use boot_io::{Halt, Sink};
 use boot_model::{BLOCKS, PeiEnd, PeiFrame, Register};
 use catalog_model::Catalog;
-use frames::{begin_notification, notified};
+use phase_parts::{begin_notification, notified};
 use store_model::{Firing, PeiStore, Sweep};
 
 /// The frame in which a notification runs.

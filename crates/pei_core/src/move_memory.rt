@@ -7,11 +7,11 @@ ghost use Rattle.pei_core.specs.Parts.{InstallsMemory, MovesMemory, StepsIn};
 ghost use Rattle.pei_core.specs.Standing.{KeepsFor, last_start};
 
 use crate::event::{Again, Event, Stepped};
+use crate::guids::Changes;
 use crate::pei::Pei;
 use crate::reports::print;
 use boot_io::{Halt, Sink};
 use boot_model::Line;
-use pei_action::Changes;
 use pi_base::{MEMORY_PPI, Word};
 use store_model::PeiStore;
 

@@ -5,7 +5,7 @@ ghost use Rattle.boot_model.specs.PeiStep.{callback_line, dispatch_line, start_l
 
 use boot_model::{BLOCKS, Licence, Line};
 use catalog_model::Catalog;
-use frames::{name_of, volume_of};
+use phase_parts::{name_of, volume_of};
 use store_model::Firing;
 
 /// The line of a callback.

@@ -8,7 +8,7 @@ ghost use Rattle.catalog_model.specs.declared.catalog.Catalog.{Catalog as OfCata
 ghost use Rattle.pi_base.specs.declared.phase.Phase.TheVariants.{Pei as InPei};
 ghost use Rattle.boot_model.specs.PeiMachine.{PeiMachine};
 ghost use Rattle.boot_model.specs.PeimState.{ArePeimStates, awaits_start, peim_state};
-ghost use Rattle.frames.specs.Frames.{top_of};
+ghost use Rattle.phase_parts.specs.Frames.{top_of};
 ghost use Rattle.pei_core.specs.CoreCall.{last_volumes};
 ghost use Rattle.pei_core.specs.Standing.{IsFor, KeepsFor, Opens, StandsFor, last_start};
 ghost use Rattle.pei_core.specs.Steps.{IsIdle, StartsModule, Steps};
@@ -23,11 +23,10 @@ use boot_laws::{opening_is_sound, starts_keep_sound, steps_keep_sound};
 use boot_model::{Licence, PeimState};
 use boot_trace::put_start;
 use catalog_model::Catalog;
-use frames::{Frames, Fuel};
+use phase_parts::{Frames, Fuel, VolumeList};
 use pi_base::OutOfMemory;
 use std::alloc::Global;
 use store_model::PeiStore;
-use volume_list::VolumeList;
 
 /// The PEI core over a store, and the machine of PEI that both stand for.
 #[derive(Drop)]

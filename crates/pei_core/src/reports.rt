@@ -2,8 +2,8 @@
 ghost use Rattle.std.specs.Prelude.{◌≡◌, ◌≤◌, ◌+◌, length};
 ghost use Rattle.catalog_model.specs.WellFormed.{IsWellFormed};
 ghost use Rattle.store_model.specs.Service.{Present, OfEach};
-ghost use Rattle.volume_list.specs.Known.{AreKnown};
-ghost use Rattle.volume_list.specs.Reported.{AreDescs, IsWithReports};
+ghost use Rattle.phase_parts.specs.Known.{AreKnown};
+ghost use Rattle.phase_parts.specs.Reported.{AreDescs, IsWithReports};
 ghost use Rattle.pei_core.specs.CoreCall.{last_volumes};
 ghost use Rattle.boot_model.specs.Text.{line_text, text_of};
 ghost use Rattle.boot_model.specs.PeiStep.{report_lines};
@@ -13,8 +13,8 @@ use boot_io::{Sink, SinkFault};
 use boot_model::Line;
 use boot_trace::put;
 use catalog_model::Catalog;
+use phase_parts::VolumeList;
 use store_model::{Desc, PeiStore};
-use volume_list::VolumeList;
 
 /// Puts a line that is of no more use then. Where the sink fails, a prefix of its text was put.
 pub(crate) fn print<S: Sink>(sink: &mut S, line: Line) -> Result<(), SinkFault>

@@ -2,12 +2,12 @@
 ghost use Rattle.std.specs.Prelude.{◌≡◌, ◌<◌, [], length};
 ghost use Rattle.boot_model.specs.PeimState.{state_at};
 ghost use Rattle.pi_base.specs.declared.phase.Phase.TheVariants.{Pei as InPei};
-ghost use Rattle.frames.specs.Found.{blocks_of, has_block};
+ghost use Rattle.phase_parts.specs.Found.{blocks_of, has_block};
 ghost use Rattle.pei_core.specs.Cores.{with_started};
 
 use crate::core_state::Core;
 use catalog_model::Catalog;
-use frames::begin_script;
+use phase_parts::begin_script;
 use pi_base::Phase;
 
 impl Core {

@@ -2,7 +2,7 @@
 -- Own.
 use Rattle.std.specs.Prelude.{◌≡◌, ℕ, ◌+◌, ◌≤◌, Bool, true, false, List, ◌++◌, sum_by, Some}
 use Rattle.pi_base.specs.declared.guid.Guid.{Guid}
-use Rattle.guid_map.specs.GuidMap.{value_of}
+use Rattle.pi_base.specs.GuidMap.{value_of}
 use Rattle.catalog_model.specs.declared.catalog.Catalog.{Catalog}
 use Rattle.boot_model.specs.EvaluationBound.{each_once}
 use Rattle.boot_laws.specs.ChangedGuids.{is_among}

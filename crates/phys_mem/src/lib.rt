@@ -1,6 +1,6 @@
 //! Physical memory as regions of bytes: temporary RAM, RAM, and volumes that are read only. Where two regions overlap, the first of them serves.
 //!
-//! Tried in `base_trials`: `memory`.
+//! Tried in `heap_trials`, below the stores.
 #![tactic(auto)]
 
 mod bank;

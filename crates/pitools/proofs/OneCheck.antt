@@ -15,7 +15,7 @@ use Rattle.boot_model.specs.declared.line.Line.TheVariants as L
 use Rattle.boot_model.specs.FreeRun.{AreFreeLines}
 use Rattle.boot_model.specs.PlanBoard.{board_of}
 use Rattle.free_check.specs.Verdict.{IsFirstOff}
-use Rattle.module_names.specs.Named.{HasNoTwins, IsFirstWithTwins}
+use Rattle.start_order.specs.Named.{HasNoTwins, IsFirstWithTwins}
 use Rattle.pi_base.specs.Field.{AreBytes}
 use Rattle.pi_base.specs.Lists.{Each}
 use Rattle.plan_files.specs.declared.job.Job.{Job}

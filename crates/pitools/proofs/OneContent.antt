@@ -17,9 +17,9 @@ use Rattle.asm_text.specs.ScriptText.{script_text}
 use Rattle.mp_core.specs.declared.reply.MpOutcome.{MpOutcome}
 use Rattle.mp_core.specs.Past.{replies, schedule}
 use Rattle.mp_core.specs.Schedule.{cells_after, records_after}
-use Rattle.mp_text.specs.declared.file.MpFile.{MpFile}
-use Rattle.mp_text.specs.FileText.{IsFirstBad, IsMpFile}
-use Rattle.mp_text.specs.OutcomeText.{bad_line, outcome_text, replies_text, cells_text, records_text}
+use Rattle.mp_core.specs.declared.file.MpFile.{MpFile}
+use Rattle.mp_core.specs.FileText.{IsFirstBad, IsMpFile}
+use Rattle.mp_core.specs.OutcomeText.{bad_line, outcome_text, replies_text, cells_text, records_text}
 use Rattle.pitools.specs.declared.command_line.Tool.{Tool}
 use Rattle.pitools.specs.declared.command_line.Tool.TheVariants.{AssembleDepex, AssembleScript, ReadPei, ReadDxe, ReadScript, Mp, Volume, ReadVolume}
 use Rattle.pitools.specs.MpReport.{IsOutcomeOf, MpReport, ran, refused}

@@ -7,7 +7,7 @@ use Rattle.catalog_model.specs.declared.catalog.Catalog.{Catalog}
 use Rattle.catalog_model.specs.Catalogue.{IsCatalogue}
 use Rattle.catalog_model.specs.WellFormed.{IsWellFormed}
 use Rattle.boot_model.specs.PlanBoard.{board_of}
-use Rattle.module_names.specs.Named.{IsFirstWithTwins}
+use Rattle.start_order.specs.Named.{IsFirstWithTwins}
 use Rattle.plan_files.specs.Job.{IsNamedIn}
 use Rattle.start_order.specs.declared.lines.StartOrder.{StartOrder}
 use Rattle.start_order.specs.OrderText.{IsFirstBad, IsOrder}

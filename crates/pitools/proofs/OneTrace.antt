@@ -8,7 +8,7 @@ use Rattle.boot_model.specs.FreeRun.{AreFreeLines}
 use Rattle.boot_model.specs.PlanBoard.{board_of}
 use Rattle.explain_text.specs.declared.reasons.Explained.{Explained}
 use Rattle.start_order.specs.Order.{order_of}
-use Rattle.module_names.specs.Named.{HasNoTwins}
+use Rattle.start_order.specs.Named.{HasNoTwins}
 use Rattle.plan_files.specs.Job.{IsNamedIn}
 use Rattle.trace_reader.specs.Trace.{IsBadLine, IsTrace}
 use Rattle.pitools.specs.declared.command_line.TraceTool.{TraceTool}

@@ -7,7 +7,7 @@ use Rattle.catalog_model.specs.declared.catalog.Catalog.{Catalog}
 use Rattle.boot_reasons.specs.Boots.{NameOne}
 use Rattle.boot_reasons.specs.Explained.{IsLeftBefore, left_in_dxe, left_in_pei}
 use Rattle.start_order.proofs.Modules.{one_module}
-use Rattle.module_names.specs.Named.{HasNoTwins}
+use Rattle.start_order.specs.Named.{HasNoTwins}
 use Rattle.order_check.specs.ByOrder.{IsNumberOf, NamesAsked, NamesNext, NamesStart, same_phase}
 use Rattle.store_model.specs.StoreState.{Board}
 use Rattle.start_order.specs.declared.line.AskedStart.{AskedStart}

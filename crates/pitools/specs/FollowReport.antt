@@ -7,7 +7,7 @@ use Rattle.catalog_model.specs.declared.image_fault.ImageFault.{ImageFault}
 use Rattle.catalog_model.specs.Catalogue.{IsCatalogue}
 use Rattle.catalog_model.specs.ImageFault.{IsImageFault}
 use Rattle.boot_model.specs.PlanBoard.{board_of}
-use Rattle.module_names.specs.Named.{HasNoTwins, IsFirstWithTwins}
+use Rattle.start_order.specs.Named.{HasNoTwins, IsFirstWithTwins}
 use Rattle.start_order.specs.declared.lines.StartOrder.{StartOrder}
 use Rattle.start_order.specs.OrderText.{IsFirstBad, IsOrder}
 use Rattle.order_check.specs.declared.following.Followed.{Followed}

@@ -4,9 +4,9 @@ use Rattle.std.specs.Prelude.{◌≡◌, ℕ, List}
 use Rattle.mp_core.specs.declared.reply.MpOutcome.{MpOutcome}
 use Rattle.mp_core.specs.Past.{replies, schedule}
 use Rattle.mp_core.specs.Schedule.{cells_after, records_after}
-use Rattle.mp_text.specs.declared.file.MpFile.{MpFile}
-use Rattle.mp_text.specs.FileText.{IsFirstBad, IsMpFile}
-use Rattle.mp_text.specs.OutcomeText.{bad_line, outcome_text}
+use Rattle.mp_core.specs.declared.file.MpFile.{MpFile}
+use Rattle.mp_core.specs.FileText.{IsFirstBad, IsMpFile}
+use Rattle.mp_core.specs.OutcomeText.{bad_line, outcome_text}
 use Rattle.pitools.specs.declared.status.ToolStatus.{ToolStatus}
 use Rattle.pitools.specs.declared.status.ToolStatus.TheVariants.{Done, CommandRefused}
 

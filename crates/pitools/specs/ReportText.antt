@@ -2,7 +2,7 @@
 -- Own.
 use Rattle.std.specs.Prelude.{ℕ, List, ◌++◌}
 use Rattle.gcd_map.specs.MapText.{answers_text, map_text, hobs_refusal, command_refusal}
-use Rattle.mp_text.specs.OutcomeText.{bad_line, outcome_text}
+use Rattle.mp_core.specs.OutcomeText.{bad_line, outcome_text}
 use Rattle.boot_model.specs.declared.line.RunEnd.{RunEnd}
 use Rattle.boot_model.specs.declared.line.RunEnd.TheVariants as E
 use Rattle.free_check.specs.declared.verdict.Verdict.{Verdict}

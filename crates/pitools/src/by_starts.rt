@@ -1,7 +1,7 @@
 // The choice that the starts of a trace have.
 ghost use Rattle.std.specs.Prelude.{◌≡◌, length};
 ghost use Rattle.std.proofs.Props.{props};
-ghost use Rattle.module_names.specs.Named.{AreNames};
+ghost use Rattle.start_order.specs.Named.{AreNames};
 
 use boot_laws::Choice;
 use order_check::ByOrder;

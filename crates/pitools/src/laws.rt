@@ -31,7 +31,7 @@ pub(crate) fn one_content_report()
     asm_text::one_bad_line();
     depex_code::one_reading();
     act_code::one_outcome();
-    mp_text::one_reading();
+    mp_core::one_reading();
     volume_text::one_volume();
     volume_print::one_text();
     fv_volume::one_reading();

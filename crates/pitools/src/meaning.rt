@@ -5,9 +5,8 @@ use crate::order_meaning::{LINE_FORMS, against_words, boot_words, last_lines};
 use crate::source_meaning::tell_readings;
 use crate::status::ToolStatus;
 use boot_io::MemFiles;
-use fault_words::line_at;
 use plan_files::read_file;
-use program_edge::{Heard, text_of};
+use program_edge::{Heard, line_at, text_of};
 use std::str;
 
 // The most bytes of a file of which a line is shown.

@@ -4,8 +4,7 @@ ghost use Rattle.pitools.specs.Ends.{Tells};
 ghost use Rattle.pitools.specs.MpReport.{MpReport};
 
 use crate::report::Report;
-use mp_core::run;
-use mp_text::{MpFault, read_mp};
+use mp_core::{MpFault, read_mp, run};
 use pi_base::OutOfMemory;
 use std::alloc::Global;
 

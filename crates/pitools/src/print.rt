@@ -17,7 +17,7 @@ use boot_trace::{decimal_word, put, put_refused_file, put_refused_long};
 use catalog_model::ImageFault;
 use free_check::Verdict;
 use gcd_map::{put_answers, put_command_refusal, put_hobs_refusal, put_map};
-use mp_text::{put_bad_line, put_outcome};
+use mp_core::{put_bad_line, put_outcome};
 
 // The refusal of the words.
 #[tactic(auto, unfolding(crate::specs::Refusals::usage_line))]

@@ -11,7 +11,7 @@ use pei_heap::word_in;
 use phys_mem::Stretch;
 
 /// What a node says. Its places are addresses.
-#[derive(Clone, Copy, PartialEq, Eq)]
+#[derive(Clone, Copy)]
 pub struct Node {
     /// Where it stands.
     pub at: u64,

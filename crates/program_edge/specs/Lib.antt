@@ -1,2 +1,5 @@
 pub mod Asked
+pub mod Mistake
+pub mod PlanMistake
+pub mod Shape
 pub mod Starts

@@ -1,9 +1,10 @@
 // What is told of files, plans and images that are refused, and of an output that failed.
+use crate::image::image_words;
 use crate::kept_files::AskedFile;
+use crate::plan_mistake::mistake_in;
 use crate::program::{Program, text_of};
 use boot_io::MemFiles;
 use boot_plan::read_plan;
-use fault_words::{image_words, mistake_in};
 use mod_catalog::catalog;
 use plan_files::{Job, PLAN_LIMIT, read_file, read_job};
 

@@ -19,7 +19,7 @@ volume 0xfff00000 boot.fv
 ";
 
 // PPI 21 is there behind the first PEIM, PPI 22 never. Protocol 31 is driver 5's; 32, 33 and 34 are nobody's.
-const VOLUME: &str = "volume 4096
+static VOLUME: &str = "volume 4096
 
 file peim 00000000-0000-0000-0000-00000000000a
 script pei
@@ -85,7 +85,6 @@ const fn guid(last: u8) -> Guid {
 }
 
 // What is wanted of a start.
-#[derive(Clone, Copy)]
 struct Start<'a> {
     number: u32,
     phase: Phase,
@@ -95,7 +94,6 @@ struct Start<'a> {
 }
 
 // What is wanted of a module that waits.
-#[derive(Clone, Copy)]
 struct Wait<'a> {
     number: u32,
     phase: Phase,
@@ -249,7 +247,7 @@ fn waits_for_all(got: &Held) -> bool {
 fn try_starts(rt: &impl Abort, begun: &[Begun]) {
     assert!(rt; begun.len() == STARTS.len());
     for (got, want) in begun.iter().zip(&STARTS) {
-        assert!(rt; is_start(got, want), "start of {}", want.number);
+        assert!(rt; is_start(got, want));
     }
 }
 

@@ -21,7 +21,7 @@ use Rattle.act_code.specs.Table.{format_of}
 use Rattle.asm_text.specs.ActionText.{spaced, words_of, small_number, kind_word, guid_words, last_words, block_words}
 use Rattle.asm_text.specs.Numerals.{register}
 use Rattle.script_words.proofs.PrintedValues.{is_most, IsShown, IsShownArg, IsShownLast, most_of}
-use Rattle.printed_words.specs.Words.{IsGuid}
+use Rattle.line_words.specs.PrintedWords.{IsGuid}
 use Rattle.source_words.specs.Words.{is_keyword}
 use Rattle.script_words.specs.Reading.{only_if, there}
 use Rattle.script_words.specs.Word.{register_of, status_of, kind_of, choice_of, bytes_at}

@@ -8,7 +8,7 @@ use Rattle.std.proofs.lemmas.List.Folds.{list_all-append}
 use Rattle.hex.specs.Hex.{IsBytes}
 use Rattle.pi_base.specs.Field.{little_bytes}
 use Rattle.pi_base.specs.declared.phase.Phase.{Phase}
-use Rattle.printed_words.specs.Words.{IsGuid}
+use Rattle.line_words.specs.PrintedWords.{IsGuid}
 use Rattle.act_code.specs.declared.action.Action.{Action}
 use Rattle.act_code.specs.declared.action.GuidArg.{GuidArg}
 use Rattle.act_code.specs.declared.action.GuidArg.TheVariants.{Inline, Register}

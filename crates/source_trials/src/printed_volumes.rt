@@ -1,5 +1,5 @@
 // Volumes and their texts: what is printed of a volume that a text made, of one in which such a volume was changed, and of bytes that are none.
-use fv_volume::{FfsFile, VolCause, VolFault, read_volume};
+use fv_volume::{VolCause, VolFault};
 use pi_base::Seq;
 use std::alloc::Global;
 use std::test::*;
@@ -74,28 +74,76 @@ const DELETED: u8 = 0xe8;
 
 const HEADER_INVALID: u8 = 0xd8;
 
-/// A volume's text, the State that its first file is given, and the text that is printed then.
-static CHANGED: [(&str, u8, &str); 4] = [
+/// A volume with a pad of 32 bytes at the place of its first file.
+const BEHIND_PAD: &str = "volume 256\npad 8\nfile peim 00000001-0000-4000-8000-000000000002\nend\n";
+
+/// Where that pad stands.
+const PAD_AT: usize = 72;
+
+/// A volume's text, an offset in the volume and other bytes there, and the text that is printed then. Pads are by the tables of `docs/FORMATS.md`.
+static CHANGED: [(&str, usize, &[u8], &str); 8] = [
     (
         "volume 256\nfile peim 00000001-0000-4000-8000-000000000001\nsection 10 4d5a\nfile peim 00000001-0000-4000-8000-000000000002\nend\n",
-        DELETED,
+        FIRST_STATE_AT,
+        &[DELETED],
         "volume 256 ffs2\nfile f0 00000001-0000-4000-8000-000000000001\nbody 060000104d5affff\nfile peim 00000001-0000-4000-8000-000000000002\nend\n",
     ), // a deleted file, by its name and its body
     (
         "volume 256\npad 0\npad 4\nfile peim 00000001-0000-4000-8000-000000000002\nend\n",
-        HEADER_INVALID,
+        FIRST_STATE_AT,
+        &[HEADER_INVALID],
         "volume 256 ffs2\nfile f0 ffffffff-ffff-ffff-ffff-ffffffffffff\nbody ffffffffffffffffffffffffffffffff04aaf0001c0000f8ffffffffffffffff\nfile peim 00000001-0000-4000-8000-000000000002\nend\n",
     ), // a dead header, and behind it a pad of 28 bytes with its header
     (
         "volume 256\npad 0\nfile peim 00000001-0000-4000-8000-000000000002\npad 0\nend\n",
-        HEADER_INVALID,
+        FIRST_STATE_AT,
+        &[HEADER_INVALID],
         "volume 256 ffs2\npad 0\nfile peim 00000001-0000-4000-8000-000000000002\nend\n",
     ), // a dead header alone; no pad is told behind the last file
     (
         "volume 512\npad 100\nfile volume-image 00000001-0000-4000-8000-000000000003\nvolume 256 ffs3\npad 12\nfile peim 00000001-0000-4000-8000-000000000004\nend\nend\n",
-        DELETED,
+        FIRST_STATE_AT,
+        &[DELETED],
         "volume 512 ffs2\npad 104\nfile volume-image 00000001-0000-4000-8000-000000000003\nvolume 256 ffs3\npad 16\nfile peim 00000001-0000-4000-8000-000000000004\nend\nend\n",
     ), // a volume inside, behind a stretch, with a stretch of its own
+    (
+        BEHIND_PAD,
+        PAD_AT,
+        &[
+            1, 0, 0, 0, 0, 0, 0, 0x40, 0x80, 0, 0, 0, 0, 0, 0, 0x6e, 0xc1, 0xaa, 0xf0, 0, 32, 0, 0,
+            0xf8, 0x13, 0xac, 0x10, 0x55, 0xaa, 0, 0xff, 1,
+        ],
+        "volume 256 ffs2\nfile f0 00000001-0000-4000-8000-00000000006e\nbody 13ac1055aa00ff01\nfile peim 00000001-0000-4000-8000-000000000002\nend\n",
+    ), // a pad with a name and a body
+    (
+        BEHIND_PAD,
+        PAD_AT,
+        &[
+            1, 0, 0, 0, 0, 0, 0, 0x40, 0x80, 0, 0, 0, 0, 0, 0, 0x6e, 0xc1, 0xaa, 0xf0, 0, 32, 0, 0,
+            0xf8, 0xff, 0xff, 0xff, 0xff, 0xff, 0xff, 0xff, 0xff,
+        ],
+        "volume 256 ffs2\nfile f0 00000001-0000-4000-8000-00000000006e\nbody ffffffffffffffff\nfile peim 00000001-0000-4000-8000-000000000002\nend\n",
+    ), // a pad with a name alone
+    (
+        BEHIND_PAD,
+        PAD_AT,
+        &[
+            0xff, 0xff, 0xff, 0xff, 0xff, 0xff, 0xff, 0xff, 0xff, 0xff, 0xff, 0xff, 0xff, 0xff,
+            0xff, 0xff, 0, 0xaa, 0xf0, 0, 32, 0, 0, 0xf8, 0xff, 0xff, 0xff, 0xff, 0xff, 0xff, 0xff,
+            0xfe,
+        ],
+        "volume 256 ffs2\nfile f0 ffffffff-ffff-ffff-ffff-ffffffffffff\nbody fffffffffffffffe\nfile peim 00000001-0000-4000-8000-000000000002\nend\n",
+    ), // a pad with a body alone
+    (
+        BEHIND_PAD,
+        PAD_AT,
+        &[
+            0xff, 0xff, 0xff, 0xff, 0xff, 0xff, 0xff, 0xff, 0xff, 0xff, 0xff, 0xff, 0xff, 0xff,
+            0xff, 0xff, 0, 0xaa, 0xf0, 0, 32, 0, 0, 0xf8, 0xff, 0xff, 0xff, 0xff, 0xff, 0xff, 0xff,
+            0xff,
+        ],
+        "volume 256 ffs2\npad 8\nfile peim 00000001-0000-4000-8000-000000000002\nend\n",
+    ), // a pad with neither
 ];
 
 // The volume of a text with other bytes at an offset.
@@ -114,129 +162,33 @@ fn changed(alloc: Global, text: &str, at: usize, other: &[u8]) -> Option<Seq<u8>
     Some(bytes)
 }
 
-// Whether two volumes have their files at the same offsets.
-fn stand_alike(files: &[FfsFile], others: &[FfsFile]) -> bool {
-    files.len() == others.len()
-        && files.iter().zip(others).all(|(file, other)| file.at == other.at
-            && file.body_len == other.body_len)
+// Whether a volume is printed so.
+fn is_printed(alloc: Global, volume: &[u8], printed: &str) -> bool {
+    match text_of(alloc, volume) {
+        Ok(text) => text.as_slice() == printed.as_bytes(),
+        Err(_) => false,
+    }
 }
 
-// Whether a volume is printed so, and what is made of the text has its files at the same offsets.
-fn keeps_places(alloc: Global, volume: &[u8], printed: &str) -> bool {
-    let Ok(text) = text_of(alloc, volume) else {
-        return false;
-    };
-    let Ok(again) = volume_of(alloc, printed.as_bytes()) else {
-        return false;
-    };
-    let (Ok(first), Ok(second)) = (
-        read_volume(alloc, volume),
-        read_volume(alloc, again.as_slice()),
-    ) else {
-        return false;
-    };
-    text.as_slice() == printed.as_bytes()
-        && stand_alike(first.files.as_slice(), second.files.as_slice())
+// The same of a volume with other bytes at an offset.
+fn is_printed_changed(alloc: Global, text: &str, at: usize, other: &[u8], printed: &str) -> bool {
+    match changed(alloc, text, at, other) {
+        Some(volume) => is_printed(alloc, volume.as_slice(), printed),
+        None => false,
+    }
 }
 
 #[test]
 fn what_lies_between_files_is_told_by_its_name_and_body(rt: HostRuntime) {
-    for (text, state, printed) in &CHANGED {
-        let kept = match changed(rt.alloc(), text, FIRST_STATE_AT, &[*state]) {
-            Some(volume) => keeps_places(rt.alloc(), volume.as_slice(), printed),
-            None => false,
-        };
-        assert!(rt; kept);
+    for (text, at, other, printed) in &CHANGED {
+        assert!(rt; is_printed_changed(rt.alloc(), text, *at, other, printed));
     }
 }
 
-/// A volume with a pad of 32 bytes at the place of its first file.
-static BEHIND_PAD: &str =
-    "volume 256\npad 8\nfile peim 00000001-0000-4000-8000-000000000002\nend\n";
-
-/// Where that pad stands.
-const PAD_AT: usize = 72;
-
-/// The bytes of such a pad, by the tables of `docs/FORMATS.md`, and the lines that tell it.
-static PADS: [([u8; 32], &str); 4] = [
-    (
-        [
-            1, 0, 0, 0, 0, 0, 0, 0x40, 0x80, 0, 0, 0, 0, 0, 0, 0x6e, 0xc1, 0xaa, 0xf0, 0, 32, 0, 0,
-            0xf8, 0x13, 0xac, 0x10, 0x55, 0xaa, 0, 0xff, 1,
-        ],
-        "file f0 00000001-0000-4000-8000-00000000006e\nbody 13ac1055aa00ff01\n",
-    ), // a name and a body
-    (
-        [
-            1, 0, 0, 0, 0, 0, 0, 0x40, 0x80, 0, 0, 0, 0, 0, 0, 0x6e, 0xc1, 0xaa, 0xf0, 0, 32, 0, 0,
-            0xf8, 0xff, 0xff, 0xff, 0xff, 0xff, 0xff, 0xff, 0xff,
-        ],
-        "file f0 00000001-0000-4000-8000-00000000006e\nbody ffffffffffffffff\n",
-    ), // a name alone
-    (
-        [
-            0xff, 0xff, 0xff, 0xff, 0xff, 0xff, 0xff, 0xff, 0xff, 0xff, 0xff, 0xff, 0xff, 0xff,
-            0xff, 0xff, 0, 0xaa, 0xf0, 0, 32, 0, 0, 0xf8, 0xff, 0xff, 0xff, 0xff, 0xff, 0xff, 0xff,
-            0xfe,
-        ],
-        "file f0 ffffffff-ffff-ffff-ffff-ffffffffffff\nbody fffffffffffffffe\n",
-    ), // a body alone
-    (
-        [
-            0xff, 0xff, 0xff, 0xff, 0xff, 0xff, 0xff, 0xff, 0xff, 0xff, 0xff, 0xff, 0xff, 0xff,
-            0xff, 0xff, 0, 0xaa, 0xf0, 0, 32, 0, 0, 0xf8, 0xff, 0xff, 0xff, 0xff, 0xff, 0xff, 0xff,
-            0xff,
-        ],
-        "pad 8\n",
-    ), // neither
-];
-
-// The text of that volume with these lines for its pad.
-fn told_with(alloc: Global, lines: &str) -> Option<Seq<u8>> {
-    let mut text = Seq::new(alloc);
-    for part in [
-        "volume 256 ffs2\n",
-        lines,
-        "file peim 00000001-0000-4000-8000-000000000002\nend\n",
-    ] {
-        if text.append(part.as_bytes()).is_err() {
-            return None;
-        }
-    }
-    Some(text)
-}
-
-// Whether a volume with this pad is told by these lines, and they make the same bytes again.
-fn keeps_pad(alloc: Global, pad: &[u8], lines: &str) -> bool {
-    let Some(volume) = changed(alloc, BEHIND_PAD, PAD_AT, pad) else {
-        return false;
-    };
-    let Some(told) = told_with(alloc, lines) else {
-        return false;
-    };
-    let (Ok(text), Ok(again)) = (
-        text_of(alloc, volume.as_slice()),
-        volume_of(alloc, told.as_slice()),
-    ) else {
-        return false;
-    };
-    text.as_slice() == told.as_slice() && again.as_slice() == volume.as_slice()
-}
-
-#[test]
-fn a_pad_keeps_its_name_and_its_body(rt: HostRuntime) {
-    for (pad, lines) in &PADS {
-        assert!(rt; keeps_pad(rt.alloc(), pad.as_slice(), lines));
-    }
-}
-
-// Whether the volume of a text is printed as another.
+// The same of the volume of a text.
 fn prints(alloc: Global, text: &str, printed: &str) -> bool {
-    let Ok(volume) = volume_of(alloc, text.as_bytes()) else {
-        return false;
-    };
-    match text_of(alloc, volume.as_slice()) {
-        Ok(again) => again.as_slice() == printed.as_bytes(),
+    match volume_of(alloc, text.as_bytes()) {
+        Ok(volume) => is_printed(alloc, volume.as_slice(), printed),
         Err(_) => false,
     }
 }

@@ -18,7 +18,7 @@ use Rattle.boot_laws.proofs.DxeGrowing.{Told, case_told, start_told}
 use Rattle.boot_laws.proofs.DxeWays.{groups_are_aimed, started_is}
 use Rattle.boot_laws.proofs.GroupRoots.{names_lead}
 use Rattle.boot_laws.proofs.Starts.{dxe_prints}
-use Rattle.module_names.specs.Named.{HasNoTwins, IsNamed}
+use Rattle.start_order.specs.Named.{HasNoTwins, IsNamed}
 use Rattle.start_order.specs.declared.line.Start.{Start}
 use Rattle.start_order.specs.Starts.{ComeFirst, module_start, starts}
 use Rattle.start_order.specs.OneStep.{IsFreeDxeStep, OneDxeStep}

@@ -1,3 +1,4 @@
+mod Building
 mod OneMore
 mod OneOrder
 pub mod Fronts

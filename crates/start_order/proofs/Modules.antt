@@ -3,7 +3,7 @@ use Rattle.std.proofs.Common.{◌≡◌, ℕ, inl, inr}
 use Rattle.std.proofs.lemmas.Bool.{cases_order}
 use Rattle.pi_base.specs.declared.guid.Guid.{Guid}
 use Rattle.catalog_model.specs.declared.catalog.Catalog.{Catalog}
-use Rattle.module_names.specs.Named.{HasNoTwins, IsNamed}
+use Rattle.start_order.specs.Named.{HasNoTwins, IsNamed}
 
 pub one_module : (catalog : Catalog) (volume : ℕ) (name : Guid) (a b : ℕ) → HasNoTwins catalog → IsNamed catalog volume name a → IsNamed catalog volume name b → a ≡ b
 one_module catalog volume name a b none first second = elim (cases_order a b) [

@@ -10,7 +10,7 @@ use Rattle.boot_model.specs.PeiStep.{PeiCase, Fires, Acts, Moves, Pops, Starts, 
 use Rattle.boot_model.proofs.ListFacts.{within}
 use Rattle.boot_laws.proofs.PeiWays.{may_has_part}
 use Rattle.boot_laws.proofs.Starts.{pei_prints}
-use Rattle.module_names.specs.Named.{HasNoTwins, IsNamed}
+use Rattle.start_order.specs.Named.{HasNoTwins, IsNamed}
 use Rattle.start_order.specs.declared.line.Start.{Start}
 use Rattle.start_order.specs.Starts.{ComeFirst, module_start, starts}
 use Rattle.start_order.specs.OneStep.{OnePeiStep}

@@ -16,7 +16,7 @@ use Rattle.boot_laws.proofs.PeiGrowing.{free_told}
 use Rattle.boot_laws.proofs.PeiRuns as Pei
 use Rattle.boot_laws.proofs.DxeRuns as Dxe
 use Rattle.boot_laws.proofs.DxeWays.{opens_under_way, steps_run_out}
-use Rattle.module_names.specs.Named.{HasNoTwins}
+use Rattle.start_order.specs.Named.{HasNoTwins}
 use Rattle.start_order.specs.declared.line.Start.{Start}
 use Rattle.start_order.specs.Starts.{ComeFirst, starts}
 use Rattle.start_order.specs.OneStep.{IsFreeDxeStep}

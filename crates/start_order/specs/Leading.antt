@@ -10,7 +10,7 @@ use Rattle.boot_model.specs.PeiMachine.{PeiMachine}
 use Rattle.boot_model.specs.PeiRun.{pei_opening}
 use Rattle.boot_model.specs.DxeMachine.{DxeMachine}
 use Rattle.boot_model.specs.DxeRun.{dxe_opening}
-use Rattle.module_names.specs.Named.{HasNoTwins}
+use Rattle.start_order.specs.Named.{HasNoTwins}
 use Rattle.start_order.specs.Starts.{ComeFirst, starts}
 use Rattle.start_order.specs.OneStep.{IsFreeDxeStep}
 

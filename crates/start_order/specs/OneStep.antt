@@ -7,7 +7,7 @@ use Rattle.boot_model.specs.PeiMachine.{PeiMachine}
 use Rattle.boot_model.specs.DxeMachine.{DxeMachine}
 use Rattle.boot_model.specs.DxeStep.{dxe_case_of}
 use Rattle.boot_laws.specs.DxeUnderWay.{IsUnderWay}
-use Rattle.module_names.specs.Named.{HasNoTwins}
+use Rattle.start_order.specs.Named.{HasNoTwins}
 use Rattle.start_order.specs.declared.line.Start.{Start}
 use Rattle.start_order.specs.Starts.{ComeFirst, starts}
 

@@ -1,16 +1,13 @@
 // Why a text is no order.
 
 use pi_base::OutOfMemory;
-use thiserror::Error;
 
 /// Why a text is no order of starts.
-#[derive(Clone, Copy, Debug, Error)]
+#[derive(Clone, Copy, Debug)]
 pub enum OrderFault {
     /// The number, from 1, of the first line that is of no form or stands behind `stop`.
-    #[error("Bad")]
     Bad { line: u32 },
     /// Want of memory.
-    #[error("Memory")]
     Memory,
 }
 

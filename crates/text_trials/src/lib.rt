@@ -20,8 +20,6 @@ mod memory_map;
 #[cfg(test)]
 mod plans;
 #[cfg(test)]
-mod printed_lines;
-#[cfg(test)]
 mod processors;
 #[cfg(test)]
 mod scripts;

@@ -56,7 +56,7 @@ static LINES: [(&[u8], Option<Command>); 26] = [
 #[test]
 fn lines_spell_commands(rt: HostRuntime) {
     for (line, want) in &LINES {
-        assert!(rt; read_command(line) == *want, "{line:?}");
+        assert!(rt; read_command(line) == *want);
     }
     one_reading();
 }

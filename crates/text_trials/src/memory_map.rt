@@ -4,14 +4,13 @@ use crate::hob_rows::Row::*;
 use crate::hob_rows::{Row, hob_list};
 use boot_io::MemSink;
 use gcd_map::{
-    Answer, Command, CommandFault, GcdKind, GcdRange, MOST_BYTES, from_hobs, one_map, put_answers,
+    Answer, Command, CommandFault, GcdRange, MOST_BYTES, from_hobs, one_map, put_answers,
     put_command_refusal, put_hobs_refusal, put_map, read_commands,
 };
 use std::alloc::Global;
 use std::test::*;
 
 /// HOBs behind a hand-off and before an end, the text of commands, and what is printed.
-#[derive(Clone, Copy)]
 struct Case {
     hobs: &'static [Row],
     commands: &'static [u8],
@@ -255,52 +254,4 @@ fn answers_and_maps_are_printed(rt: HostRuntime) {
         assert!(rt; is_printed(rt.alloc(), case));
     }
     one_map();
-}
-
-// Whether each service is done, and the map is right behind them.
-fn are_done(alloc: Global, hobs: &[u8]) -> bool {
-    if hobs.len() > MOST_BYTES {
-        return false;
-    }
-    let Ok(mut map) = from_hobs(alloc, hobs) else {
-        return false;
-    };
-    let free = Command::Free {
-        base: 0x100,
-        len: 0x40,
-    };
-    let done = [
-        map.add(GcdKind::Reserved, 0x800, 0x800).is_ok(),
-        map.allocate(GcdKind::System, 0x100, 0x100).is_ok(),
-        map.top(GcdKind::System, 8, 0x80) == Ok(0x700),
-        map.free(0x140, 0x40).is_ok(),
-        map.remove(0xfff, 1).is_ok(),
-        map.perform(free) == Answer::Done,
-    ];
-    done == [true; 6] && are_ranges(map.map())
-}
-
-/// The ranges behind the services.
-static RANGES: [(u64, u64, GcdKind, bool); 7] = [
-    (0, 0x180, GcdKind::System, false),
-    (0x180, 0x80, GcdKind::System, true),
-    (0x200, 0x500, GcdKind::System, false),
-    (0x700, 0x80, GcdKind::System, true),
-    (0x780, 0x80, GcdKind::System, false),
-    (0x800, 0x7ff, GcdKind::Reserved, false),
-    (0xfff, 1, GcdKind::NonExistent, false),
-];
-
-fn are_ranges(ranges: &[GcdRange]) -> bool {
-    let mut is_right = ranges.len() == RANGES.len();
-    for (range, want) in ranges.iter().zip(&RANGES) {
-        is_right = is_right && (range.base, range.len, range.kind, range.allocated) == *want;
-    }
-    is_right
-}
-
-#[test]
-fn each_service_is_called(rt: HostRuntime) {
-    let hobs = hob_list(rt.alloc(), &[Cpu(12), Resource(0, 0, 0x800)]);
-    assert!(rt; are_done(rt.alloc(), &hobs));
 }

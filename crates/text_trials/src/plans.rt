@@ -26,10 +26,7 @@ fn fault_of(alloc: Global, text: &[u8]) -> Fault {
 // Each line behind a text gives this answer.
 fn check(rt: &impl Abort, alloc: Global, front: &[u8], rows: &[(&[u8], Fault)]) {
     for (line, want) in rows {
-        assert!(rt;
-            fault_of(alloc, &joined(alloc, &[front, line])) == *want,
-            "{line:?}"
-        );
+        assert!(rt; fault_of(alloc, &joined(alloc, &[front, line])) == *want);
     }
 }
 

@@ -1,15 +1,14 @@
 // Files of the MP services' machine: what is printed of their runs, which processors have a job left, and the first bad line.
 use crate::board::{MOST_TEXT, empty_sink};
 use boot_io::MemSink;
-use mp_core::{MpOutcome, events_fit, run};
-use mp_text::{
-    MpFault, MpFile, each_call_is_answered, one_reading, put_bad_line, put_outcome, read_mp,
+use mp_core::{
+    MpFault, MpFile, MpOutcome, each_call_is_answered, events_fit, one_reading, put_bad_line,
+    put_outcome, read_mp, run,
 };
 use std::alloc::Global;
 use std::test::*;
 
 /// A file, what is printed of its run, and which processors have a job left.
-#[derive(Clone, Copy)]
 struct Case {
     file: &'static [u8],
     printed: &'static [u8],

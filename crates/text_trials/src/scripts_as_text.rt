@@ -154,10 +154,7 @@ fn goes_both_ways(alloc: Global, phase: Phase, line: &[u8], action: &[u8]) -> bo
 #[test]
 fn actions_go_both_ways(rt: HostRuntime) {
     for (phase, line, action) in &ACTIONS {
-        assert!(rt;
-            goes_both_ways(rt.alloc(), *phase, line, action),
-            "{line:?}"
-        );
+        assert!(rt; goes_both_ways(rt.alloc(), *phase, line, action));
     }
 }
 

@@ -1,18 +1,21 @@
-// The texts of traces: each form, the fields that are read, and the first line of no form.
-use crate::board::MOST_TEXT;
-use boot_model::{CallName, Extra, Licence, Line, Reason, RunEnd};
-use pi_base::{Seq, Word};
+// The texts of traces: each form, both ways, and the first line of no form.
+use crate::board::{MOST_TEXT, empty_sink};
+use boot_model::Line;
+use boot_trace::put_all;
+use pi_base::Seq;
 use std::alloc::Global;
 use std::test::*;
-use store_model::CORE;
 use trace_reader::{TraceFault, read_trace};
 
-/// A line of each form.
-static FORMS: [&[u8]; 36] = [
+/// No line, and a line of each form.
+static FORMS: [&[u8]; 40] = [
+    b"",
     b"report 0\n",
     b"pei start 0 00000000-0000-0000-0000-00000000000a shadow\n",
     b"dxe start 2 00000000-0000-0000-0000-00000000000a before\n",
     b"call boot_mode InvalidParameter\n",
+    b"call desc Success 0x80000040\n",
+    b"call peek Success 230a\n",
     b"log two words\n",
     b"notify callback 0 00000000-0000-0000-0000-00000000000a f894643d-c449-42d1-8ea8-85bdd8c65bde\n",
     b"notify dispatch 0 00000000-0000-0000-0000-00000000000a f894643d-c449-42d1-8ea8-85bdd8c65bde\n",
@@ -35,6 +38,7 @@ static FORMS: [&[u8]; 36] = [
     b"pending 00000000-0000-0000-0000-00000000000a 1 0\n",
     b"hobs 2\n",
     b"hob 6 3010000000000000\n",
+    b"hob 7 -\n",
     b"handles 1\n",
     b"handle 1 00000000-0000-0000-0000-00000000000a 0x6\n",
     b"result NoIpl\n",
@@ -55,103 +59,26 @@ fn read(alloc: Global, text: &[u8]) -> Result<Seq<Line>, TraceFault> {
     read_trace(alloc, text)
 }
 
-// How many lines a text has, none where it is no trace.
-fn count_of(alloc: Global, text: &[u8]) -> Option<usize> {
+// Whether lines are printed as a text.
+fn are_printed(alloc: Global, lines: &[Line], text: &[u8]) -> bool {
+    match empty_sink(alloc) {
+        Some(mut sink) => put_all(&mut sink, lines).is_ok() && sink.text() == text,
+        None => false,
+    }
+}
+
+// Whether what is read of a text is printed as the same text.
+fn goes_both_ways(alloc: Global, text: &[u8]) -> bool {
     match read(alloc, text) {
-        Ok(lines) => Some(lines.len()),
-        Err(_) => None,
-    }
-}
-
-#[test]
-fn each_form_is_read(rt: HostRuntime) {
-    for text in &FORMS {
-        assert!(rt; count_of(rt.alloc(), text) == Some(1), "{text:?}");
-    }
-    // No bytes are no lines.
-    assert!(rt; count_of(rt.alloc(), b"") == Some(0));
-}
-
-/// Fields of a line.
-#[derive(Clone, Copy, PartialEq)]
-enum Fields<'a> {
-    Start(u32, Licence),
-    Number(CallName, Word, u64),
-    Bytes(&'a [u8]),
-    Hob(u16, &'a [u8]),
-    Ppi(u32, u64),
-    Waiting(Reason),
-    Result(RunEnd),
-    Others,
-}
-
-fn told(line: &Line) -> Fields<'_> {
-    match line {
-        Line::DxeStart {
-            volume,
-            licence,
-            ..
-        } => Fields::Start(*volume, *licence),
-        Line::Call {
-            name,
-            status,
-            extra: Extra::Number(number),
-        } => Fields::Number(*name, *status, *number),
-        Line::Call {
-            extra: Extra::Bytes(bytes),
-            ..
-        } => Fields::Bytes(bytes.as_slice()),
-        Line::Hob { kind, body } => Fields::Hob(*kind, body.as_slice()),
-        Line::Ppi { by, value, .. } => Fields::Ppi(*by, *value),
-        Line::Waiting { reason, .. } => Fields::Waiting(*reason),
-        Line::Result { outcome } => Fields::Result(*outcome),
-        _ => Fields::Others,
-    }
-}
-
-/// Lines, and what is read of them.
-static LINES: [(&[u8], Fields<'static>); 7] = [
-    (
-        b"dxe start 2 00000000-0000-0000-0000-00000000000a before\n",
-        Fields::Start(2, Licence::Before),
-    ),
-    (
-        b"call desc Success 0x80000040\n",
-        Fields::Number(CallName::Desc, Word::Success, 0x80000040),
-    ),
-    (b"call peek Success 230a\n", Fields::Bytes(&[0x23, 0x0a])),
-    (b"hob 7 -\n", Fields::Hob(7, &[])),
-    (
-        b"ppi core f894643d-c449-42d1-8ea8-85bdd8c65bde 0x2a\n",
-        Fields::Ppi(CORE, 0x2a),
-    ),
-    (
-        b"waiting 0 00000000-0000-0000-0000-00000000000a unrequested\n",
-        Fields::Waiting(Reason::Unrequested),
-    ),
-    (b"result Deep\n", Fields::Result(RunEnd::Deep)),
-];
-
-// Whether there is one line with these fields.
-fn is_one(lines: &[Line], want: &Fields<'_>) -> bool {
-    match lines {
-        [line] => told(line) == *want,
-        _ => false,
-    }
-}
-
-// The same of a text.
-fn has_fields(alloc: Global, text: &[u8], want: &Fields<'_>) -> bool {
-    match read(alloc, text) {
-        Ok(lines) => is_one(lines.as_slice(), want),
+        Ok(lines) => are_printed(alloc, lines.as_slice(), text),
         Err(_) => false,
     }
 }
 
 #[test]
-fn a_line_has_the_fields_of_its_text(rt: HostRuntime) {
-    for (text, want) in &LINES {
-        assert!(rt; has_fields(rt.alloc(), text, want), "{text:?}");
+fn each_form_is_read_and_printed(rt: HostRuntime) {
+    for text in &FORMS {
+        assert!(rt; goes_both_ways(rt.alloc(), text));
     }
 }
 
@@ -192,6 +119,6 @@ static NO_TRACES: [(&[u8], u32); 21] = [
 fn the_first_line_of_no_form_is_told(rt: HostRuntime) {
     for (text, line) in &NO_TRACES {
         let fault = read(rt.alloc(), text).err();
-        assert!(rt; fault == Some(TraceFault::Bad { line: *line }), "{text:?}");
+        assert!(rt; fault == Some(TraceFault::Bad { line: *line }));
     }
 }

@@ -4,7 +4,7 @@ use Rattle.std.specs.Prelude.{codes}
 use Rattle.std.specs.Option.{MatchOption}
 use Rattle.hex.specs.Hex.{IsBytes, encode_lower}
 use Rattle.boot_model.specs.Text.{bytes_text, dash}
-use Rattle.printed_words.specs.Words.{Finds, Lacks}
+use Rattle.line_words.specs.PrintedWords.{Finds, Lacks}
 use Rattle.trace_reader.proofs.Splits.{same_back, behind_is, tail_of}
 use Rattle.trace_reader.proofs.PlainWords.{decimal_16_plain}
 use Rattle.std.specs.List.{list_all}

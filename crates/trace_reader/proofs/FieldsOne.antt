@@ -15,11 +15,11 @@ use Rattle.boot_model.specs.declared.line.ExpressionWord.{ExpressionWord}
 use Rattle.boot_model.specs.declared.line.ExpressionWord.TheVariants as V
 use Rattle.pi_base.specs.WordText.{hexadecimal, guid_text}
 use Rattle.boot_model.specs.Text.{by_text, rank_text, name_text, expression_text, bytes_text}
-use Rattle.printed_words.specs.Words.{IsGuid}
+use Rattle.line_words.specs.PrintedWords.{IsGuid}
 use Rattle.trace_reader.specs.Readable.{IsRank, IsName, IsExpression}
-use Rattle.printed_words.proofs.Numerals.{numeral}
+use Rattle.line_words.proofs.Numerals.{numeral}
 use Rattle.trace_reader.proofs.HexWords.{one_byte}
-use Rattle.printed_words.proofs.GuidWords.{guid_back}
+use Rattle.line_words.proofs.GuidWords.{guid_back}
 
 pub wide_one : (m n : ℕ) → m < 2 ^ 64 → n < 2 ^ 64 → decimal m ≡ decimal n → m ≡ n
 wide_one m n fits fit is = decimal_injective m n fits fit is

@@ -10,11 +10,11 @@ use Rattle.boot_model.specs.declared.line.Line.{Line}
 use Rattle.boot_model.specs.declared.line.Line.TheVariants as L
 use Rattle.boot_model.specs.declared.line.Extra.TheVariants as E
 use Rattle.boot_model.specs.Text.{keyword, words, line_text, bytes_text}
-use Rattle.printed_words.specs.Words.{IsPlain, Lacks}
+use Rattle.line_words.specs.PrintedWords.{IsPlain, Lacks}
 use Rattle.trace_reader.specs.Readable.{IsReadable, IsLineOf, is_printable}
 use Rattle.trace_reader.specs.Trace.{BeginsWithLine}
-use Rattle.printed_words.proofs.LineFeeds.{both_lack, same_line, feed_there}
-use Rattle.printed_words.proofs.PlainWords.{decimal_plain, hexadecimal_plain, guid_plain, encoded_plain}
+use Rattle.line_words.proofs.LineFeeds.{both_lack, same_line, feed_there}
+use Rattle.line_words.proofs.PlainWords.{decimal_plain, hexadecimal_plain, guid_plain, encoded_plain}
 use Rattle.trace_reader.proofs.PlainWords.{decimal_16_plain, decimal_32_plain, by_plain, rank_plain, name_plain, kind_plain, expression_plain, shown_plain}
 use Rattle.boot_trace.proofs.FixedWords.{licence_text_plain, word_text_plain, reason_text_plain, end_text_plain, plan_cause_text_plain, image_cause_text_plain, call_text_plain}
 

@@ -12,7 +12,7 @@ use Rattle.boot_model.specs.declared.line.Extra.TheVariants as E
 use Rattle.pi_base.specs.declared.word.Word.{Word}
 use Rattle.pi_base.specs.WordText.{hexadecimal, word_text}
 use Rattle.boot_model.specs.Text.{keyword, words, call_text, extra_words}
-use Rattle.printed_words.specs.Words.{IsPlain}
+use Rattle.line_words.specs.PrintedWords.{IsPlain}
 use Rattle.trace_reader.specs.Readable.{IsReadable, IsExtra, shows_number}
 use Rattle.trace_reader.proofs.Splits.{same_front, same_back, behind_is, tail_of}
 use Rattle.boot_trace.proofs.FixedWords.{licence_text_one, word_text_one, reason_text_one, end_text_one, plan_cause_text_one, image_cause_text_one, call_text_one}

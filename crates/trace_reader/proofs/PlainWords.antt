@@ -8,9 +8,9 @@ use Rattle.boot_model.specs.declared.line.ExpressionWord.{ExpressionWord}
 use Rattle.boot_model.specs.declared.line.ExpressionWord.TheVariants as V
 use Rattle.boot_model.specs.Text.{by_text, rank_text, name_text, expression_text}
 use Rattle.store_model.specs.declared.state.TheConstants.{CORE}
-use Rattle.printed_words.specs.Words.{IsPlain}
+use Rattle.line_words.specs.PrintedWords.{IsPlain}
 use Rattle.trace_reader.specs.Readable.{IsRank, IsName, IsExpression, IsShown}
-use Rattle.printed_words.proofs.PlainWords.{decimal_plain, guid_plain, encoded_plain}
+use Rattle.line_words.proofs.PlainWords.{decimal_plain, guid_plain, encoded_plain}
 use Rattle.trace_reader.proofs.HexWords.{one_byte}
 
 pub decimal_32_plain : (n : ℕ) → n < 2 ^ 32 → IsPlain (decimal n)

@@ -7,7 +7,7 @@ use Rattle.std.proofs.lemmas.Bool.Decides.{nat_tests}
 use Rattle.std.specs.Borrow.{Bor}
 use Rattle.std.specs.Option.{MatchOption}
 use Rattle.boot_io.specs.Line.{spaced}
-use Rattle.printed_words.specs.Words.{Finds, IsPlain}
+use Rattle.line_words.specs.PrintedWords.{Finds, IsPlain}
 
 abbrev pub is_byte : ℕ → ℕ → Bool
 is_byte sought byte = eqb byte sought

@@ -16,7 +16,7 @@ use Rattle.boot_model.specs.declared.line.Extra.TheVariants as E
 use Rattle.boot_model.specs.declared.line.ExpressionWord.{ExpressionWord}
 use Rattle.boot_model.specs.declared.line.ExpressionWord.TheVariants as V
 use Rattle.boot_model.specs.Text.{keyword, words}
-use Rattle.printed_words.specs.Words.{IsGuid, Lacks}
+use Rattle.line_words.specs.PrintedWords.{IsGuid, Lacks}
 
 -- a rank, if there is one, fits its type
 abbrev pub IsRank : Option ℕ → Type 0

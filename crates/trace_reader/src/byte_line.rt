@@ -5,7 +5,7 @@ ghost use Rattle.std.specs.List.{list_all};
 ghost use Rattle.hex.specs.Hex.{IsBytes, encode_lower};
 ghost use Rattle.boot_io.specs.Line.{spaced};
 ghost use Rattle.boot_model.specs.Text.{bytes_text};
-ghost use Rattle.printed_words.specs.Words.{Finds, Lacks};
+ghost use Rattle.line_words.specs.PrintedWords.{Finds, Lacks};
 ghost use Rattle.trace_reader.specs.Readable.{IsLineOf, IsLogged, is_printable};
 ghost use Rattle.trace_reader.specs.Lacking.{LacksLogLines, LacksHobLines, LacksFileLines};
 
@@ -15,8 +15,8 @@ use arrayvec::ArrayVec;
 use boot_model::{Line, SHOWN_LEN};
 use boot_trace::keywords::{HOB, LOG, REFUSED_FILE, REFUSED_LONG};
 use line_words::place_of;
+use line_words::printed::behind;
 use pi_base::{OutOfMemory, Seq};
-use printed_words::behind;
 use std::alloc::Global;
 
 const TILDE: u8 = b'~';

@@ -1,15 +1,15 @@
 // Words of expressions.
 ghost use Rattle.std.specs.Prelude.{◌≡◌, ◌++◌, IfSome, IsNone};
 ghost use Rattle.boot_model.specs.Text.{expression_text};
-ghost use Rattle.printed_words.specs.Words.{Finds};
+ghost use Rattle.line_words.specs.PrintedWords.{Finds};
 ghost use Rattle.trace_reader.specs.Readable.{IsExpression};
 ghost use Rattle.trace_reader.specs.Lacking.{LacksPlainExpressions};
 
 use crate::field::Field;
 use boot_model::ExpressionWord;
 use boot_trace::marks::{ABSENT, AFTER, BEFORE, DASH, MALFORMED_AT, SOR, TREE};
+use line_words::printed::behind;
 use pi_base::Guid;
-use printed_words::behind;
 
 // What a field shows behind a front.
 fn read_behind<F: Field>(word: &[u8], front: &[u8]) -> Option<F>

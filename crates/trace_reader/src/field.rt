@@ -1,17 +1,17 @@
 // The words of a line, each as the value that it shows.
 ghost use Rattle.std.specs.Prelude.{◌≡◌, ◌++◌, ℕ, List, [], ◌∷◌, ⊤, flat_map};
 ghost use Rattle.boot_io.specs.Line.{spaced};
-ghost use Rattle.printed_words.specs.Words.{Finds, IsPlain};
+ghost use Rattle.line_words.specs.PrintedWords.{Finds, IsPlain};
 
 use line_words::place_of;
-use printed_words::behind;
+use line_words::printed::behind;
 
 pub(crate) const SPACE: u8 = b' ';
 
 // What one word of a line shows.
 pub(crate) trait Field: Sized {
     ghost use Rattle.std.specs.Prelude.{◌≡◌, ℕ, List};
-    ghost use Rattle.printed_words.specs.Words.{Finds, IsPlain};
+    ghost use Rattle.line_words.specs.PrintedWords.{Finds, IsPlain};
 
     // The word of a value, and which values there are.
     ghost shows: { Self → List ℕ };

@@ -1,6 +1,6 @@
 // The fixed words of lines.
 ghost use Rattle.std.specs.Prelude.{◌≡◌, ⊤};
-ghost use Rattle.printed_words.specs.Words.{Finds, IsPlain};
+ghost use Rattle.line_words.specs.PrintedWords.{Finds, IsPlain};
 
 use crate::field::Field;
 use boot_trace::FixedWord;

@@ -1,7 +1,7 @@
 // Words of bytes in hexadecimal.
 ghost use Rattle.std.specs.Prelude.{◌≡◌, ◌<◌, ◌≤◌, ◌/◌, ◌^◌, ◌∷◌, [], length, MatchOption};
 ghost use Rattle.hex.specs.Hex.{encode_lower};
-ghost use Rattle.printed_words.specs.Words.{Finds};
+ghost use Rattle.line_words.specs.PrintedWords.{Finds};
 ghost use Rattle.trace_reader.specs.Readable.{IsShown};
 
 use crate::field::Field;

@@ -1,6 +1,6 @@
 // A line of a trace, without its line feed.
 ghost use Rattle.std.specs.Prelude.{IfSome, IsNone, IfOk};
-ghost use Rattle.printed_words.specs.Words.{Finds, Lacks};
+ghost use Rattle.line_words.specs.PrintedWords.{Finds, Lacks};
 ghost use Rattle.trace_reader.specs.Readable.{IsLineOf};
 ghost use Rattle.trace_reader.specs.Lacking.{LacksPlainLines};
 

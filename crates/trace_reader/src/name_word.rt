@@ -3,17 +3,17 @@ ghost use Rattle.std.specs.Prelude.{◌≡◌};
 ghost use Rattle.std.specs.Bool.{Decides};
 ghost use Rattle.pi_base.specs.WordText.{guid_text};
 ghost use Rattle.boot_model.specs.Text.{dash, name_text, rank_text};
-ghost use Rattle.printed_words.specs.Words.{IsGuid};
+ghost use Rattle.line_words.specs.PrintedWords.{IsGuid};
 ghost use Rattle.trace_reader.specs.Readable.{IsName, IsRank};
 
 use crate::field::Field;
 use boot_trace::marks::DASH;
+use line_words::printed::guid_of;
 use pi_base::Guid;
-use printed_words::guid_of;
 
 impl Field for Guid {
     ghost use Rattle.pi_base.specs.WordText.{guid_text};
-    ghost use Rattle.printed_words.specs.Words.{IsGuid};
+    ghost use Rattle.line_words.specs.PrintedWords.{IsGuid};
 
     ghost shows = { guid_text };
 

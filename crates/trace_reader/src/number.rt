@@ -1,11 +1,11 @@
 // Words of numbers.
 ghost use Rattle.std.specs.Prelude.{◌≡◌, ◌<◌, ◌≤◌, ◌^◌, decimal};
-ghost use Rattle.printed_words.specs.Words.{Finds};
+ghost use Rattle.line_words.specs.PrintedWords.{Finds};
 ghost use Rattle.boot_model.specs.Text.{by_text};
 
 use crate::field::Field;
 use boot_trace::marks::CORE_MAKER;
-use printed_words::{decimal_of, hexadecimal_of};
+use line_words::printed::{decimal_of, hexadecimal_of};
 use store_model::CORE;
 
 // A decimal number of at most a value.
@@ -61,7 +61,7 @@ impl Field for Decimal {
 
     ghost fits = { λ n. n.0 < 2 ^ 64 };
 
-    #[tactic(auto, using(printed_words::proofs::PlainWords::decimal_plain))]
+    #[tactic(auto, using(line_words::proofs::PlainWords::decimal_plain))]
     fn read(word: &[u8]) -> Option<Decimal> {
         match decimal_of(word) {
             Some(number) => Some(Decimal(number)),
@@ -82,7 +82,7 @@ impl Field for Hexadecimal {
 
     ghost fits = { λ n. n.0 < 2 ^ 64 };
 
-    #[tactic(auto, using(printed_words::proofs::PlainWords::hexadecimal_plain))]
+    #[tactic(auto, using(line_words::proofs::PlainWords::hexadecimal_plain))]
     fn read(word: &[u8]) -> Option<Hexadecimal> {
         match hexadecimal_of(word) {
             Some(number) => Some(Hexadecimal(number)),

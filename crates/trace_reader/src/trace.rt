@@ -6,8 +6,8 @@ ghost use Rattle.trace_reader.specs.Trace.{IsTrace, IsFaultOf};
 use crate::fault::TraceFault;
 use crate::line::read_line;
 use boot_model::Line;
+use line_words::printed::first_line;
 use pi_base::{OutOfMemory, Seq};
-use printed_words::first_line;
 use std::alloc::Global;
 
 /// Reads the text of a trace, of fewer than 2^32 - 1 bytes: the readable lines whose texts it is, or the first line that is none's.

@@ -7,7 +7,7 @@ use Rattle.pi_base.specs.declared.guid.Guid.{Guid}
 use Rattle.pi_base.specs.Field.{little_number}
 use Rattle.pi_base.specs.Guids.{guid_at}
 use Rattle.pi_base.proofs.FieldLaws.{little_number-lt}
-use Rattle.printed_words.specs.Words.{IsGuid}
+use Rattle.line_words.specs.PrintedWords.{IsGuid}
 use Rattle.fv_volume.specs.declared.volume.Volume.{Volume}
 use Rattle.fv_volume.specs.declared.fault.VolFault.{VolFault}
 use Rattle.fv_volume.specs.VolumeHeader.{volume_header, header_fault}

@@ -6,7 +6,7 @@ use Rattle.hex.specs.Hex.{IsBytes}
 use Rattle.pi_base.specs.Guids.{guid_at}
 use Rattle.pi_base.specs.Lists.{numbers}
 use Rattle.catalog_model.specs.APriori.{guids_in}
-use Rattle.printed_words.specs.Words.{IsGuid}
+use Rattle.line_words.specs.PrintedWords.{IsGuid}
 use Rattle.volume_again.proofs.ByteRuns.{bytes_front, bytes_back}
 
 drop_none : (n : ℕ) (xs : List ℕ) → length xs ≤ n → drop n xs ≡ []

@@ -7,11 +7,11 @@ use Rattle.std.proofs.lemmas.Nat.{xor_lt}
 use Rattle.hex.specs.Hex.{IsBytes}
 use Rattle.pi_base.specs.Field.{little_number}
 use Rattle.pi_base.proofs.FieldLaws.{little_number-lt}
-use Rattle.printed_words.specs.Words.{IsGuid}
-use Rattle.fv_section.specs.declared.section.Section.{Section}
-use Rattle.fv_section.specs.declared.fault.SecCause.TheVariants.{Size, Compressed, GuidDefined}
-use Rattle.fv_section.specs.SectionHeader.{header_at, section_of}
-use Rattle.fv_section.specs.Stream.{place_after, Leads}
+use Rattle.line_words.specs.PrintedWords.{IsGuid}
+use Rattle.fv_volume.specs.declared.sections.section.Section.{Section}
+use Rattle.fv_volume.specs.declared.sections.fault.SecCause.TheVariants.{Size, Compressed, GuidDefined}
+use Rattle.fv_volume.specs.SectionHeader.{header_at, section_of}
+use Rattle.fv_volume.specs.Stream.{place_after, Leads}
 use Rattle.fv_volume.specs.declared.file.FfsFile.{FfsFile}
 use Rattle.fv_build.specs.declared.file_system.FileSystem.{FileSystem}
 use Rattle.fv_build.specs.declared.new_file.Body.{Body}

@@ -11,7 +11,7 @@ use Rattle.pi_base.specs.declared.guid.Guid.{Guid}
 use Rattle.pi_base.specs.declared.phase.Phase.{Phase}
 use Rattle.pi_base.specs.declared.phase.Phase.TheVariants.{Pei, Dxe}
 use Rattle.pi_base.specs.WordText.{guid_text, hexadecimal}
-use Rattle.printed_words.specs.Words.{IsGuid}
+use Rattle.line_words.specs.PrintedWords.{IsGuid}
 use Rattle.depex_code.specs.declared.depex.Depex.{Depex}
 use Rattle.depex_code.specs.Expression.{IsOfPhase, instructions, bytes_of}
 use Rattle.act_code.specs.declared.action.Action.{Action}
@@ -45,7 +45,7 @@ use Rattle.volume_text.specs.Line.{volume_at, name_at, pad_at, file_at, script_a
 use Rattle.volume_text.specs.Volume.{SaysLine}
 use Rattle.volume_text.specs.Text.{is_passed_over}
 use Rattle.volume_print.specs.Spelling.{phase_word, system_word, type_word, fixed_words, alignment_words, attribute_words, number_words, guid_word as told_guid}
-use Rattle.fv_section.specs.declared.section_type.TheConstants.{RAW}
+use Rattle.fv_volume.specs.declared.sections.section_type.TheConstants.{RAW}
 use Rattle.words_again.proofs.LineWords.{IsWord, IsClear, clear_of, both_clear, spaced_clear, word_then, words_spaced, stands_spaced}
 use Rattle.words_again.proofs.Characters.{decimal_word, hexadecimal_word, encoded_inner, encoded_word, guid_word}
 use Rattle.words_again.proofs.ValueWords.{decimal_read, hexadecimal_read, guid_read}

@@ -6,7 +6,7 @@ use Rattle.std.proofs.lemmas.Bool.{and_parts, cases_lt, eqb-true}
 use Rattle.std.proofs.lemmas.Bool.Decides.{nat_tests}
 use Rattle.hex.specs.Hex.{encode_with, encode_lower, lower_digits}
 use Rattle.hex.proofs.HexLemmas.{length-encode_with}
-use Rattle.printed_words.proofs.Comparisons.{same}
+use Rattle.line_words.proofs.Comparisons.{same}
 use Rattle.line_words.specs.Number.{value_in, number_of}
 use Rattle.fv_build.specs.declared.attributes.Alignment.{Alignment}
 use Rattle.fv_build.specs.declared.attributes.Alignment.TheVariants.{Byte}

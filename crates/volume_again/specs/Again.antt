@@ -1,7 +1,7 @@
 -- A volume that is read of the text of another one.
 use Rattle.std.specs.Prelude.{◌≡◌, ◌⊎◌, ℕ, ◌<◌, ◌^◌, ⊤, List, [], ◌∷◌, ◌++◌, length, Option, Some, None, Ok, All, true}
 use Rattle.hex.specs.Hex.{IsBytes}
-use Rattle.printed_words.specs.Words.{IsGuid}
+use Rattle.line_words.specs.PrintedWords.{IsGuid}
 use Rattle.fv_build.specs.declared.new_file.NewFile.{NewFile}
 use Rattle.fv_build.specs.declared.new_file.NewSection.{NewSection}
 use Rattle.fv_build.specs.declared.new_file.Body.{Body}

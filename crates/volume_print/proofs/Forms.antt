@@ -12,7 +12,7 @@ use Rattle.depex_code.specs.Expression.{Reads, IsMalformed, instructions, bytes_
 use Rattle.act_code.specs.declared.script.Script.{Script}
 use Rattle.act_code.specs.Script.{IsScript}
 use Rattle.volume_text.specs.Open.{depex_type, has_part, is_script_of}
-use Rattle.printed_words.proofs.Comparisons.{not_same}
+use Rattle.line_words.proofs.Comparisons.{not_same}
 use Rattle.volume_print.specs.declared.form.Host.{Host}
 use Rattle.volume_print.specs.Spelling.{IsExpressionOf, SaysExpression, is_guid_list, holds_volume}
 use Rattle.volume_print.specs.Description.{IsInner}

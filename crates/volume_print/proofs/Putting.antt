@@ -20,7 +20,7 @@ use Rattle.fv_volume.specs.Frame.{aligned}
 use Rattle.fv_build.specs.Reading.{AreEach}
 use Rattle.volume_print.proofs.Lists.{each_more, texts_more, whole_more, map_more}
 use Rattle.volume_print.proofs.Rooms.{each_long, rooms_more, length-rooms, length-pads, behind_more, pads_more, with_more, between_held, behind_held, next_held}
-use Rattle.fv_section.specs.declared.section.Section.{Section}
+use Rattle.fv_volume.specs.declared.sections.section.Section.{Section}
 use Rattle.fv_build.specs.declared.new_file.NewFile.{NewFile}
 use Rattle.fv_build.specs.declared.new_file.NewSection.{NewSection}
 use Rattle.fv_build.specs.declared.new_file.Body.TheVariants.{Sections, Bytes}

@@ -12,8 +12,8 @@ use Rattle.fv_build.specs.Reading.{AreEach}
 use Rattle.fv_build.specs.Placing.{gap}
 use Rattle.fv_build.specs.Sections.{section_size, body_bytes}
 use Rattle.fv_build.proofs.Sizes.{saturated, size_of, length-body_more}
-use Rattle.fv_section.specs.declared.section.Section.{Section}
-use Rattle.fv_section.specs.Stream.{AreInside}
+use Rattle.fv_volume.specs.declared.sections.section.Section.{Section}
+use Rattle.fv_volume.specs.Stream.{AreInside}
 use Rattle.volume_print.specs.Description.{section_in}
 use Rattle.volume_print.proofs.Lists.{map_more}
 use Rattle.volume_print.specs.Finding.{held}

@@ -3,7 +3,7 @@ use Rattle.std.proofs.Common.{◌≡◌, inr, ℕ, ◌<◌, false, List, length,
 use Rattle.std.specs.Prelude.{◌==◌}
 use Rattle.fv_build.specs.declared.file_system.FileSystem.{FileSystem}
 use Rattle.fv_build.specs.Sections.{body_bytes}
-use Rattle.fv_section.specs.declared.section.Section.{Section}
+use Rattle.fv_volume.specs.declared.sections.section.Section.{Section}
 use Rattle.volume_print.specs.Description.{section_in, IsStream}
 use Rattle.volume_print.specs.Finding.{held, ReadsSections}
 

@@ -8,9 +8,9 @@ use Rattle.fv_volume.specs.declared.file_type.TheConstants.{RAW}
 use Rattle.fv_volume.specs.declared.volume.Volume.{Volume}
 use Rattle.fv_volume.specs.declared.volume_header.TheConstants.{ATTRIBUTES_AT, ERASE_POLARITY, EXT_HEADER_OFFSET_AT, FFS3, FILE_SYSTEM_AT, HEADER_LENGTH_AT, LEAST_LEN}
 use Rattle.fv_volume.specs.Volume.{IsVolume}
-use Rattle.fv_section.specs.declared.section.Section.{Section}
-use Rattle.fv_section.specs.declared.fault.SecFault.{SecFault}
-use Rattle.fv_section.specs.Stream.{AreInside, AreSections, IsFirstFault}
+use Rattle.fv_volume.specs.declared.sections.section.Section.{Section}
+use Rattle.fv_volume.specs.declared.sections.fault.SecFault.{SecFault}
+use Rattle.fv_volume.specs.Stream.{AreInside, AreSections, IsFirstFault}
 use Rattle.fv_build.specs.declared.file_system.FileSystem.{FileSystem}
 use Rattle.fv_build.specs.declared.file_system.FileSystem.TheVariants.{Ffs2, Ffs3}
 use Rattle.fv_build.specs.declared.volume_header.VolumeForm.{VolumeForm}

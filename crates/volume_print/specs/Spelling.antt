@@ -10,7 +10,7 @@ use Rattle.pi_base.specs.declared.guid.TheConstants.{GUID_LEN}
 use Rattle.pi_base.specs.Guids.{same_guid}
 use Rattle.pi_base.specs.WordText.{guid_text, hexadecimal}
 use Rattle.fv_volume.specs.declared.file_type.TheConstants.{RAW, FREEFORM, PEIM, DRIVER, COMBINED_PEIM_DRIVER, VOLUME_IMAGE, COMBINED_MM_DXE, PAD}
-use Rattle.fv_section.specs.declared.section_type.TheConstants.{RAW as RAW_SECTION, VOLUME_IMAGE as VOLUME_SECTION}
+use Rattle.fv_volume.specs.declared.sections.section_type.TheConstants.{RAW as RAW_SECTION, VOLUME_IMAGE as VOLUME_SECTION}
 use Rattle.fv_build.specs.declared.file_system.FileSystem.{FileSystem}
 use Rattle.fv_build.specs.declared.file_system.FileSystem.TheVariants.{Ffs2, Ffs3}
 use Rattle.fv_build.specs.declared.volume_header.VolumeForm.{VolumeForm}

@@ -8,10 +8,10 @@ ghost use Rattle.volume_print.specs.Finding.{ReadsSections};
 use crate::place::sections_len;
 use crate::word::{put_bytes, put_decimal, put_guid, put_type};
 use fv_build::{Alignment, FileAttributes, FileSystem};
-use fv_section::{SecCause, Section, read_sections};
 use fv_volume::FfsFile;
 use fv_volume::file_header::ATTRIBUTES_AT;
 use fv_volume::file_type::RAW;
+use fv_volume::sections::{SecCause, Section, read_sections};
 use pi_base::{Guid, OutOfMemory, Seq};
 use std::alloc::Global;
 

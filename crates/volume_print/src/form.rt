@@ -1,7 +1,7 @@
 // In which form the text tells a section.
 ghost use Rattle.std.specs.Prelude.{◌≡◌, ◌≤◌, ◌+◌, false, length, map, IfOk};
 ghost use Rattle.std.specs.List.{list_any};
-ghost use Rattle.fv_section.specs.Stream.{AreInside};
+ghost use Rattle.fv_volume.specs.Stream.{AreInside};
 ghost use Rattle.volume_text.specs.Open.{is_script_of};
 ghost use Rattle.volume_print.specs.Description.{section_in};
 ghost use Rattle.volume_print.specs.Spelling.{is_a_priori, is_guid_list};
@@ -10,9 +10,9 @@ ghost use Rattle.volume_print.specs.Finding.{depex_phase, FindsExpression, Finds
 use act_code::{ActCause, Script, one_outcome, read_script};
 use catalog_model::{DXE_APRIORI, PEI_APRIORI};
 use depex_code::{Depex, DepexFault, one_reading, read_depex, write_depex};
-use fv_section::Section;
-use fv_section::section_type::{DXE_DEPEX, PEI_DEPEX, RAW};
 use fv_volume::file_type::FREEFORM;
+use fv_volume::sections::Section;
+use fv_volume::sections::section_type::{DXE_DEPEX, PEI_DEPEX, RAW};
 use pi_base::{GUID_LEN, Guid, OutOfMemory, Phase, Seq};
 use std::alloc::Global;
 use volume_text::{has_part, is_script};

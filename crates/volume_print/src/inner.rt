@@ -5,8 +5,8 @@ ghost use Rattle.volume_print.specs.Spelling.{holds_volume};
 ghost use Rattle.volume_print.specs.Finding.{FindsVolume, FindsText};
 
 use crate::form::Host;
-use fv_section::section_type::VOLUME_IMAGE as VOLUME_SECTION;
 use fv_volume::file_type::VOLUME_IMAGE as VOLUME_FILE;
+use fv_volume::sections::section_type::VOLUME_IMAGE as VOLUME_SECTION;
 use fv_volume::{VolCause, Volume, one_reading, read_volume};
 use pi_base::{OutOfMemory, Seq};
 use std::alloc::Global;

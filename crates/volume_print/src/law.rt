@@ -11,7 +11,7 @@ pub fn one_text()
     ensures apart { (bytes text : List ℕ) (fault : VolFault) → IsTextOf bytes text → IsFirstFault bytes fault → ⊥ }
 {
     fv_volume::one_reading();
-    fv_section::one_reading();
+    fv_volume::sections::one_reading();
     depex_code::one_reading();
     act_code::one_outcome();
 }
@@ -22,7 +22,7 @@ pub(crate) fn one_text_by()
         → IsTextBy (IsInner deep) bytes volume b → a ≡ b }
 {
     fv_volume::one_reading();
-    fv_section::one_reading();
+    fv_volume::sections::one_reading();
     depex_code::one_reading();
     act_code::one_outcome();
 }

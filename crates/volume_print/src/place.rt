@@ -1,15 +1,15 @@
 // Where the files of a volume stand where they are built again.
 ghost use Rattle.std.specs.Prelude.{◌≡◌, ◌-◌, ◌^◌, ◌+◌, length, map, min};
-ghost use Rattle.fv_section.specs.Stream.{AreInside};
+ghost use Rattle.fv_volume.specs.Stream.{AreInside};
 ghost use Rattle.fv_volume.specs.Frame.{aligned};
 ghost use Rattle.fv_build.specs.Sections.{body_bytes};
 ghost use Rattle.volume_print.specs.Description.{section_in};
 ghost use Rattle.volume_print.specs.Places.{stands};
 
 use fv_build::{FileSystem, gap, section_size};
-use fv_section::Section;
 use fv_volume::ALIGNMENT;
 use fv_volume::file_header::HEADER_LEN as FILE_HEADER_LEN;
+use fv_volume::sections::Section;
 
 /// Where a file stands that may stand from a place on.
 pub(crate) fn stands(from: usize, at: usize) -> usize
@@ -38,7 +38,7 @@ pub(crate) fn sections_len(file_system: FileSystem, stream: &[u8], sections: &[S
     let mut end = 0usize;
     'sections: for section in sections {
         end = end
-            .saturating_add(gap(fv_section::ALIGNMENT, end))
+            .saturating_add(gap(fv_volume::sections::ALIGNMENT, end))
             .saturating_add(section_size(file_system, section.body_len as usize));
     }
     end

@@ -2,7 +2,7 @@
 ghost use Rattle.std.specs.Prelude.{◌≡◌, ◌≤◌, ◌<◌, ◌+◌, ℕ, length, map, IfOk, OnOk};
 ghost use Rattle.fv_volume.specs.Volume.{IsVolume};
 ghost use Rattle.fv_volume.specs.Places.{AreInside as AreFilesInside};
-ghost use Rattle.fv_section.specs.Stream.{AreInside};
+ghost use Rattle.fv_volume.specs.Stream.{AreInside};
 ghost use Rattle.volume_print.specs.Description.{section_in, IsTextBy, IsInner};
 ghost use Rattle.volume_print.specs.Finding.{IsForm, TellsVolume, AddsSection, AddsSections, AddsBody, AddsFile, AddsFiles};
 
@@ -15,7 +15,7 @@ use crate::place::{behind, sections_len, stands};
 use crate::section::put_form;
 use crate::volume::{form_in, name_in, put_head as put_volume_head, put_name};
 use fv_build::{FileSystem, file_size, first_place};
-use fv_section::Section;
+use fv_volume::sections::Section;
 use fv_volume::{FfsFile, Volume, one_reading};
 use pi_base::{OutOfMemory, Seq};
 use std::alloc::Global;

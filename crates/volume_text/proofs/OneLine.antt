@@ -8,7 +8,7 @@ use Rattle.depex_words.specs.declared.fault.ExpressionFault.TheVariants as expre
 use Rattle.depex_words.specs.Tokens.{token_of}
 use Rattle.depex_words.specs.Cause.{expression_cause}
 use Rattle.depex_words.proofs.Says.{are_pass, are_one}
-use Rattle.fv_section.specs.declared.section_type.TheConstants.{RAW}
+use Rattle.fv_volume.specs.declared.sections.section_type.TheConstants.{RAW}
 use Rattle.act_code.specs.declared.script.Script.{Script}
 use Rattle.act_code.specs.Script.{script_bytes}
 use Rattle.script_words.specs.declared.script.ScriptCause.{ScriptCause}

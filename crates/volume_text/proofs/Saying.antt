@@ -5,7 +5,7 @@ use Rattle.std.proofs.lemmas.List.{append-nil}
 use Rattle.fv_build.specs.declared.volume_name.VolumeName.{VolumeName}
 use Rattle.fv_build.specs.Front.{is_placed}
 use Rattle.pi_base.specs.declared.phase.Phase.{Phase}
-use Rattle.fv_section.specs.declared.section_type.TheConstants.{RAW, VOLUME_IMAGE}
+use Rattle.fv_volume.specs.declared.sections.section_type.TheConstants.{RAW, VOLUME_IMAGE}
 use Rattle.fv_build.specs.declared.new_file.NewFile.{NewFile}
 use Rattle.fv_build.specs.declared.new_file.NewSection.{NewSection}
 use Rattle.act_code.specs.declared.action.Action.{Action}

@@ -8,7 +8,7 @@ use Rattle.depex_words.specs.declared.fault.ExpressionFault.TheVariants as expre
 use Rattle.depex_words.specs.Tokens.{token_of}
 use Rattle.depex_words.specs.Cause.{expression_cause}
 use Rattle.depex_words.specs.Expression.{AreOf}
-use Rattle.fv_section.specs.declared.section_type.TheConstants.{RAW}
+use Rattle.fv_volume.specs.declared.sections.section_type.TheConstants.{RAW}
 use Rattle.source_words.specs.Words.{words}
 use Rattle.volume_text.specs.declared.fault.Cause.{Cause}
 use Rattle.volume_text.specs.declared.fault.Cause.TheVariants as cause

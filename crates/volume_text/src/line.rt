@@ -15,7 +15,7 @@ use crate::word::{
 use depex_code::write_depex;
 use depex_words::{ExpressionFault, read_expression};
 use fv_build::{VolumeForm, VolumeName};
-use fv_section::section_type::RAW;
+use fv_volume::sections::section_type::RAW;
 use pi_base::{OutOfMemory, Phase, Seq};
 use std::alloc::Global;
 

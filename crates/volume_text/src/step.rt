@@ -14,7 +14,7 @@ use crate::volume::{
 };
 use act_code::Script;
 use fv_build::{NewSection, VolumeForm};
-use fv_section::section_type::{RAW, VOLUME_IMAGE};
+use fv_volume::sections::section_type::{RAW, VOLUME_IMAGE};
 use pi_base::{Phase, Seq};
 use std::alloc::Global;
 

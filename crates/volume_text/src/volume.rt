@@ -9,8 +9,8 @@ use crate::word::{is_header, is_length};
 use fv_build::{
     Body, BuildFault, FileAttributes, NewFile, NewSection, VolumeForm, VolumeName, build, is_placed,
 };
-use fv_section::section_type::{DXE_DEPEX, PEI_DEPEX, RAW};
 use fv_volume::file_type::{COMBINED_MM_DXE, DRIVER, PAD, PEIM};
+use fv_volume::sections::section_type::{DXE_DEPEX, PEI_DEPEX, RAW};
 use pi_base::{Guid, OutOfMemory, Phase, Seq};
 use std::alloc::Global;
 

@@ -1,9 +1,8 @@
 // Streams of sections that are read, and the first fault of others.
 use crate::board::front;
-use fv_section::section_type::{PE32, RAW};
-use fv_section::{SecCause, SecFault, Section, one_reading, read_sections};
+use fv_volume::sections::section_type::{PE32, RAW};
+use fv_volume::sections::{SecCause, SecFault, Section, one_reading, read_sections};
 use std::alloc::Global;
-use std::process::Abort;
 use std::test::*;
 
 /// The section of the one-PEIM volume as an extended one, of 23 bytes.
@@ -70,27 +69,8 @@ static STREAMS: [(&[u8], &[Row]); 6] = [
 #[test]
 fn sound_streams_are_read(rt: HostRuntime) {
     for (bytes, sections) in &STREAMS {
-        assert!(rt; reads(rt.alloc(), bytes, sections), "{bytes:?}");
+        assert!(rt; reads(rt.alloc(), bytes, sections));
     }
-}
-
-// Fewer than four bytes of a section are an end, and any longer part of it is none.
-fn is_cut(rt: &impl Abort, alloc: Global, bytes: &[u8]) {
-    for cut in 0..bytes.len() {
-        let part = front(bytes, cut);
-        let is_right = if cut < 4 {
-            reads(alloc, part, &[])
-        } else {
-            fails(alloc, part, 0, SecCause::Size)
-        };
-        assert!(rt; is_right, "cut to {cut}: {bytes:?}");
-    }
-}
-
-#[test]
-fn cut_streams_are_refused(rt: HostRuntime) {
-    is_cut(&rt, rt.alloc(), &ONE_SECTION);
-    is_cut(&rt, rt.alloc(), &EXTENDED_RAW);
 }
 
 /// Streams, where they go wrong, and why.
@@ -114,7 +94,7 @@ static FAULTS: [(&[u8], u64, SecCause); 7] = [
 #[test]
 fn each_fault_comes_at_its_place(rt: HostRuntime) {
     for (bytes, at, cause) in &FAULTS {
-        assert!(rt; fails(rt.alloc(), bytes, *at, *cause), "{bytes:?}");
+        assert!(rt; fails(rt.alloc(), bytes, *at, *cause));
     }
 }
 

@@ -2,8 +2,8 @@
 use crate::board::{File, SCRIPT, volume_of};
 use crate::catalogues::{ONE, catalog_of};
 use catalog_text::put_catalog;
-use fv_section::section_type::{DXE_DEPEX, PEI_DEPEX, RAW, USER_INTERFACE, VOLUME_IMAGE};
 use fv_volume::file_type::{DRIVER, PEIM, VOLUME_IMAGE as VOLUME_FILE};
+use fv_volume::sections::section_type::{DXE_DEPEX, PEI_DEPEX, RAW, USER_INTERFACE, VOLUME_IMAGE};
 use pi_base::Seq;
 use std::alloc::Global;
 use std::process::Abort;

@@ -103,7 +103,7 @@ type Row = (&'static [u8], u64, VolCause);
 // Each changed volume has its fault.
 fn each_fails(rt: &impl Abort, alloc: Global, rows: &[Row]) {
     for (changes, at, cause) in rows {
-        assert!(rt; fails(alloc, &changed(changes), *at, *cause), "{changes:?}");
+        assert!(rt; fails(alloc, &changed(changes), *at, *cause));
     }
 }
 
@@ -145,35 +145,7 @@ fn bytes_that_end_before_their_volume_are_refused(rt: HostRuntime) {
     let bytes = changed(&[]);
     assert!(rt; lists(rt.alloc(), &bytes, 4096, None, &[THE_PEIM]));
     for (len, at, cause) in &ENDS {
-        assert!(rt;
-            fails(rt.alloc(), front(&bytes, *len), *at, *cause),
-            "{len}"
-        );
-    }
-}
-
-// Whether the one-PEIM volume is read or refused as its length says: the header has 72 bytes, the file's header 24 more, and the file ends at 115.
-fn is_cut(alloc: Global, bytes: &[u8], len: u64) -> bool {
-    if len < 72 {
-        fails(alloc, bytes, 48, VolCause::HeaderLength)
-    } else if len < 96 {
-        lists(alloc, bytes, len, None, &[])
-    } else if len < 115 {
-        fails(alloc, bytes, 72, VolCause::FileSize)
-    } else if len < 4097 {
-        lists(alloc, bytes, len, None, &[THE_PEIM])
-    } else {
-        fails(alloc, bytes, 32, VolCause::Length)
-    }
-}
-
-#[test]
-fn each_cut_volume_is_refused(rt: HostRuntime) {
-    let mut bytes = changed(&[]);
-    for len in 0..4098u64 {
-        put_u64(&mut bytes, 32, len);
-        seal(&mut bytes);
-        assert!(rt; is_cut(rt.alloc(), &bytes, len), "FvLength {len}");
+        assert!(rt; fails(rt.alloc(), front(&bytes, *len), *at, *cause));
     }
 }
 
@@ -206,10 +178,7 @@ const fn peims(is_listed: bool) -> &'static [FfsFile] {
 fn files_are_listed_by_their_states(rt: HostRuntime) {
     for (changes, is_listed) in &STATES {
         let files = peims(*is_listed);
-        assert!(rt;
-            lists(rt.alloc(), &changed(changes), 4096, None, files),
-            "{changes:?}"
-        );
+        assert!(rt; lists(rt.alloc(), &changed(changes), 4096, None, files));
     }
 }
 
@@ -324,10 +293,7 @@ fn is_large(alloc: Global, bytes: &[u8], len: u64, want: Result<u64, VolCause>) 
 fn large_files_are_listed(rt: HostRuntime) {
     for (size, checksum, len, want) in &LARGE {
         let bytes = large(*size, *checksum, *len);
-        assert!(rt;
-            is_large(rt.alloc(), &bytes, *len, *want),
-            "{size} of {len}"
-        );
+        assert!(rt; is_large(rt.alloc(), &bytes, *len, *want));
     }
 }
 

@@ -5,7 +5,7 @@ use Rattle.std.specs.Option.{option_and_then}
 use Rattle.pi_base.specs.declared.guid.Guid.{Guid}
 use Rattle.pi_base.specs.declared.phase.Phase.{Phase}
 use Rattle.pi_base.specs.declared.phase.Phase.TheVariants.{Dxe}
-use Rattle.guid_map.specs.GuidMap.{value_of}
+use Rattle.pi_base.specs.GuidMap.{value_of}
 use Rattle.wait_index.specs.PlaceFlags.{flag}
 use Rattle.wait_index.proofs.Flags.{none_set}
 use Rattle.boot_model.specs.declared.known_guid.TheConstants.{ARCHITECTURAL}

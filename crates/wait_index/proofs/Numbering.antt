@@ -2,7 +2,7 @@
 use Rattle.std.proofs.Common.{◌≡◌, ℕ, zero, suc, ◌+◌, Bool, true, false, cond, List, [], ◌∷◌, ◌++◌, length, Some, arith, ap, refl, sym, subst, ◌∙◌, inl, inr, length-append}
 use Rattle.std.specs.Prelude.{◌⊎◌}
 use Rattle.pi_base.specs.declared.guid.Guid.{Guid}
-use Rattle.guid_map.specs.GuidMap.{value_of, IsPut}
+use Rattle.pi_base.specs.GuidMap.{value_of, IsPut}
 use Rattle.pi_base.specs.Guids.{same_guid}
 use Rattle.wait_index.specs.declared.watch.Watch.{Watch}
 use Rattle.wait_index.specs.Index.{watchers_at}

@@ -3,7 +3,7 @@ use Rattle.std.specs.Prelude.{◌≡◌, ℕ, ◌<◌, Bool, true, ◌&&◌, ◌
 use Rattle.pi_base.specs.declared.guid.Guid.{Guid}
 use Rattle.pi_base.specs.declared.phase.Phase.{Phase}
 use Rattle.pi_base.specs.declared.phase.Phase.TheVariants.{Dxe}
-use Rattle.guid_map.specs.GuidMap.{value_of}
+use Rattle.pi_base.specs.GuidMap.{value_of}
 use Rattle.wait_index.specs.PlaceFlags.{flag, count}
 use Rattle.boot_model.specs.declared.known_guid.TheConstants.{ARCHITECTURAL}
 use Rattle.catalog_model.specs.declared.catalog.Catalog.{Catalog}

@@ -5,7 +5,7 @@ ghost use Rattle.boot_model.specs.declared.known_guid.TheConstants.{ARCHITECTURA
 ghost use Rattle.catalog_model.specs.WellFormed.{IsWellFormed};
 ghost use Rattle.catalog_model.specs.declared.limits.TheConstants.{MOST_MODULES};
 ghost use Rattle.pi_base.specs.Lists.{EachPair};
-ghost use Rattle.guid_map.specs.GuidMap.{value_of};
+ghost use Rattle.pi_base.specs.GuidMap.{value_of};
 ghost use Rattle.wait_index.specs.Index.{IsIndex, AreWatched, order_in, owed, has_in};
 ghost use Rattle.wait_index.specs.Installed.{is_there};
 ghost use Rattle.wait_index.specs.Watching.{IsNumbering, Covers, modules_push};

@@ -11,7 +11,7 @@ ghost use Rattle.wait_index.specs.Index.{IsIndex, order_in, owed};
 use crate::index::WaitIndex;
 use catalog_model::{Catalog, Part, PartExpr};
 use depex_code::Depex;
-use frames::part_of;
+use phase_parts::part_of;
 use pi_base::Phase;
 
 // Whether an expression begins with SOR.

@@ -4,9 +4,9 @@ ghost use Rattle.std.specs.List.{list_all};
 ghost use Rattle.wait_index.specs.PlaceFlags.{flag};
 ghost use Rattle.wait_index.specs.Installed.{is_there};
 
+use crate::search::flag;
 use depex_code::GuidSet;
-use guid_map::GuidMap;
-use pi_base::{Guid, Seq};
+use pi_base::{Guid, GuidMap, Seq};
 
 /// Each GUID that an expression pushes has a slot, which says whether it is installed.
 #[derive(Drop)]
@@ -34,10 +34,7 @@ impl Installed {
     pub(crate) fn says(&self, slot: usize) -> bool
         ensures { result ≡ flag self.now.there slot }
     {
-        match self.there.as_slice().get(slot) {
-            Some(there) => *there,
-            None => false,
-        }
+        flag(self.there.as_slice(), slot)
     }
 
     /// Whether a GUID is installed, where it has a slot.

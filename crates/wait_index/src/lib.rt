@@ -2,7 +2,7 @@
 //! An expression is evaluated when its part comes, and again only where one of its GUIDs came or went. The places are kept in sets (`PlaceSet`): the first
 //! place of a set from a cursor on is found block by block, so that 64 places of which none is in the set cost one look.
 //!
-//! Tried in `choice_trials`: `index`, `place_sets`.
+//! Tried in `choice_trials`: `place_sets`, `drivers`.
 #![tactic(auto)]
 
 mod add;

@@ -1,6 +1,6 @@
 // A set of places.
-ghost use Rattle.std.specs.Prelude.{◌≡◌, ◌<◌, ◌≤◌, ◌+◌, ℕ, true, false, IfOk, IfNone, replicate};
-ghost use Rattle.wait_index.specs.PlaceFlags.{flag, count, either, IsFirst};
+ghost use Rattle.std.specs.Prelude.{◌≡◌, ◌<◌, ◌≤◌, ◌+◌, ℕ, true, false, IfOk, IfNone, length, replicate};
+ghost use Rattle.wait_index.specs.PlaceFlags.{flag, count, either, AreMarked, IsFirst};
 
 use crate::search::{BLOCK, BLOCKS, MOST_PLACES, first_in, flag, is_empty};
 use pi_base::{OutOfMemory, Seq};
@@ -37,6 +37,18 @@ fn unset(alloc: Global, count: usize) -> Result<Seq<bool>, OutOfMemory>
     match vec![in alloc; false; count] {
         Ok(flags) => Ok(Seq::from_vec(flags)),
         Err(_) => Err(OutOfMemory),
+    }
+}
+
+// A block of which no place is in the set is marked no more.
+fn unmark(flags: &[bool], blocks: &mut Seq<bool>, block: usize)
+    requires block { block < BLOCKS }
+    requires blocks { length blocks.old ≡ BLOCKS }
+    ensures marked { AreMarked flags.now blocks.old → AreMarked flags.now blocks.new }
+    ensures as_many { length blocks.new ≡ length blocks.old }
+{
+    if is_empty(flags, block) {
+        blocks.set(block, false);
     }
 }
 
@@ -78,10 +90,7 @@ impl PlaceSet {
         ensures one_less { flag self.old place ≡ true → count self.new + 1 ≡ count self.old }
     {
         self.flags.set(place, false);
-        let block = place / BLOCK;
-        if is_empty(self.flags.as_slice(), block) {
-            self.blocks.set(block, false);
-        }
+        unmark(self.flags.as_slice(), &mut self.blocks, place / BLOCK);
     }
 
     /// Puts a place into the set or takes it out, as `is_in` says.

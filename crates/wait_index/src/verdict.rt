@@ -10,8 +10,7 @@ ghost use Rattle.catalog_model.specs.WellFormed.{IsShortExpression, AreShort};
 use crate::installed::Installed;
 use catalog_model::{Catalog, Part, PartExpr};
 use depex_code::Steps;
-use frames::part_of;
-use phase_parts::depex_holds;
+use phase_parts::{depex_holds, part_of};
 use pi_base::Phase;
 use std::sync::ledger::Ledger;
 

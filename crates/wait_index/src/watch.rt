@@ -1,7 +1,7 @@
 // The GUIDs that expressions push: first each has its slot, then each slot has the modules that push its GUID.
 ghost use Rattle.std.specs.Prelude.{◌≡◌, ◌≤◌, ◌<◌, [], false, Some, length, slice_set, if◌then◌else◌, IfOk, OnOk};
 ghost use Rattle.pi_base.specs.declared.guid.Guid.{Guid as OfGuid};
-ghost use Rattle.guid_map.specs.GuidMap.{value_of};
+ghost use Rattle.pi_base.specs.GuidMap.{value_of};
 ghost use Rattle.catalog_model.specs.declared.limits.TheConstants.{MOST_MODULES};
 ghost use Rattle.pi_base.specs.Guids.{same_guid};
 ghost use Rattle.pi_base.specs.Lists.{EachPair};
@@ -10,8 +10,7 @@ ghost use Rattle.wait_index.specs.Watching.{IsNumbering, Covers, code_in, module
 
 use catalog_model::{Module, PartExpr};
 use depex_code::{Depex, Opcode};
-use guid_map::GuidMap;
-use pi_base::{Guid, OutOfMemory, Phase, Seq};
+use pi_base::{Guid, GuidMap, OutOfMemory, Phase, Seq};
 use std::alloc::Global;
 
 /// Slots by GUID, and of each slot the modules that push its GUID.

@@ -16,8 +16,8 @@ use Rattle.hex.specs.Hex.{encode_with, encode_lower, lower_digits, IsBytes}
 use Rattle.hex.proofs.HexLemmas.{length-encode_with}
 use Rattle.pi_base.specs.declared.guid.Guid.{Guid}
 use Rattle.pi_base.specs.WordText.{hexadecimal, guid_text}
-use Rattle.printed_words.proofs.GuidWords.{guid_long}
-use Rattle.printed_words.proofs.Numerals.{numeral}
+use Rattle.line_words.proofs.GuidWords.{guid_long}
+use Rattle.line_words.proofs.Numerals.{numeral}
 use Rattle.words_again.proofs.LineWords.{is_clean, IsClean, IsWord}
 
 -- digits

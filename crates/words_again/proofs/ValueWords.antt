@@ -11,10 +11,10 @@ use Rattle.std.proofs.lemmas.Bool.Decides.{nat_tests}
 use Rattle.std.proofs.lemmas.List.{length-map}
 use Rattle.pi_base.specs.declared.guid.Guid.{Guid}
 use Rattle.pi_base.specs.WordText.{hexadecimal, guid_text}
-use Rattle.printed_words.specs.Words.{IsGuid}
-use Rattle.printed_words.proofs.Comparisons.{same}
-use Rattle.printed_words.proofs.GuidWords.{guid_long, guid_back}
-use Rattle.printed_words.proofs.Numerals.{numeral}
+use Rattle.line_words.specs.PrintedWords.{IsGuid}
+use Rattle.line_words.proofs.Comparisons.{same}
+use Rattle.line_words.proofs.GuidWords.{guid_long, guid_back}
+use Rattle.line_words.proofs.Numerals.{numeral}
 use Rattle.line_words.specs.Number.{value_in, number_in, number_of, are_digits}
 use Rattle.line_words.proofs.Values.{is_number}
 use Rattle.source_words.specs.Words.{is_keyword}

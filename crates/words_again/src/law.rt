@@ -3,7 +3,7 @@ ghost use Rattle.std.specs.Prelude.{◌≡◌, ◌<◌, ◌^◌, ℕ, decimal, S
 ghost use Rattle.line_words.specs.Number.{number_of};
 ghost use Rattle.pi_base.specs.declared.guid.Guid.{Guid};
 ghost use Rattle.pi_base.specs.WordText.{guid_text, hexadecimal};
-ghost use Rattle.printed_words.specs.Words.{IsGuid};
+ghost use Rattle.line_words.specs.PrintedWords.{IsGuid};
 ghost use Rattle.source_words.specs.GuidWord.{guid_of};
 
 /// What is printed of a number or a GUID is read as it.

@@ -1,12 +1,10 @@
-use Rattle.std.proofs.Common.{Some, true, sym, ap, ◌∙◌}
 use Rattle.asm_text.specs.declared.token.Waiting.TheVariants.{Negation, First, Conjunction, Disjunction}
-use Rattle.asm_text.proofs.Paths.{at, resumed_by}
+use Rattle.asm_text.proofs.Paths.{resumed_by}
 use Rattle.asm_text.proofs.tree_reading.resume.Goals as goal
 
-pub returns-in_ok-push-in-Negation-clause-goes : goal.returns-in_ok-push-in-Negation-clause-goes
-returns-in_ok-push-in-Negation-clause-goes c =
-    resumed_by c.args.text.now c.args.code.now c.args.waiting.now c.pop.new.self c.in-Some.what Negation c.in-Some.ensures.last c.in-Negation.is
-    ∙ ap (λ code. Some (at c.args.text.now true c.pop.new.self code)) (sym c.in_ok-push-in-Negation.ensures.ok)
+pub returns-in-Negation-clause-goes : goal.returns-in-Negation-clause-goes
+returns-in-Negation-clause-goes c =
+    rw (resumed_by c.args.text.now c.args.code.now c.args.waiting.now c.pop.new.self c.in-Some.what Negation c.in-Some.ensures.last c.in-Negation.is) (c.ended_by.ensures.goes c.pop.new.self)
 
 pub returns-in-First-clause-goes : goal.returns-in-First-clause-goes
 returns-in-First-clause-goes c =

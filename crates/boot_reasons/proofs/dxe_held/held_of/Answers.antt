@@ -1,7 +1,7 @@
 use Rattle.std.proofs.Common.{◌≡◌, true, sym, ap, ◌∙◌}
 use Rattle.boot_model.specs.DxeChoice.{is_waiting}
-use Rattle.expression_needs.specs.Would.{would}
-use Rattle.dxe_action.specs.Services.{flag_at}
+use Rattle.boot_reasons.specs.Would.{would}
+use Rattle.dxe_core.specs.Services.{flag_at}
 use Rattle.pi_base.specs.declared.phase.Phase.TheVariants.{Dxe}
 use Rattle.store_model.specs.HandleState.{has_protocol}
 use Rattle.boot_reasons.specs.Noting.{giver_in}

@@ -1,6 +1,6 @@
 use Rattle.std.proofs.Common.{◌==◌, ◌≤◌, ◌+◌, length, sym}
-use Rattle.fv_section.specs.declared.section.Section.{Section}
-use Rattle.fv_section.specs.declared.section_type.TheConstants.{USER_INTERFACE}
+use Rattle.fv_volume.specs.declared.sections.section.Section.{Section}
+use Rattle.fv_volume.specs.declared.sections.section_type.TheConstants.{USER_INTERFACE}
 use Rattle.catalog_text.proofs.FirstFound.{found_holds}
 use Rattle.catalog_text.proofs.title.text_in.Goals as goal
 

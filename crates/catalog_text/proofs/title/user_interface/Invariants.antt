@@ -1,5 +1,5 @@
 use Rattle.std.proofs.Common.{◌≡◌, ◌==◌, drop, find}
-use Rattle.fv_section.specs.declared.section_type.TheConstants.{USER_INTERFACE}
+use Rattle.fv_volume.specs.declared.sections.section_type.TheConstants.{USER_INTERFACE}
 use Rattle.catalog_text.proofs.title.user_interface.Given as goal
 
 -- the first of all is the first of those to come

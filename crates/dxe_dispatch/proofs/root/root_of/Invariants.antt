@@ -1,6 +1,6 @@
 use Rattle.std.proofs.Common.{◌≡◌, ◌-◌, length}
 use Rattle.boot_model.specs.DxeMachine.{DxeMachine}
-use Rattle.dxe_action.specs.Order.{IsOrderOf}
+use Rattle.dxe_core.specs.Order.{IsOrderOf}
 use Rattle.boot_laws.specs.DxeAim.{follows}
 use Rattle.dxe_dispatch.proofs.root.root_of.Given as goal
 

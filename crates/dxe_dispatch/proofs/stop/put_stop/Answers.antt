@@ -1,7 +1,7 @@
 use Rattle.std.proofs.Common.{◌∙◌, ap, subst, sym, List, Bool}
 use Rattle.std.proofs.lemmas.Result.{err_from_is_err_and}
 use Rattle.boot_model.specs.DxeStep.{driver_waiting_lines}
-use Rattle.dxe_action.specs.Services.{AreFlags}
+use Rattle.dxe_core.specs.Services.{AreFlags}
 use Rattle.dxe_dispatch.proofs.WaitingLines.{stop_puts, fails_first}
 use Rattle.dxe_dispatch.proofs.stop.put_stop.Goals as goal
 

@@ -1,7 +1,7 @@
 use Rattle.std.proofs.Common.{ap, subst, sym, ◌∙◌, arith}
 use Rattle.std.proofs.lemmas.Result.{err_from_is_err_and}
 use Rattle.boot_model.specs.DxeStep.{dxe_step}
-use Rattle.dxe_action.specs.Order.{Drivers, IsOrderOf}
+use Rattle.dxe_core.specs.Order.{Drivers, IsOrderOf}
 use Rattle.dxe_dispatch.specs.Queue.{owed}
 use Rattle.dxe_dispatch.proofs.Passing.{busy_starts_none}
 use Rattle.dxe_dispatch.proofs.Turning.{event_owes, event_so, has_event, new_drivers, owes_still, part_acted, told, whole_part, ends_so}

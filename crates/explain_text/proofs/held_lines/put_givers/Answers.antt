@@ -1,6 +1,6 @@
 use Rattle.std.proofs.Common.{ℕ, Bool, List, Option, ◌++◌, flat_map, sym, ap, ◌∙◌, subst}
 use Rattle.boot_io.specs.Line.{spaced}
-use Rattle.guid_map.specs.GuidMap.{value_of}
+use Rattle.pi_base.specs.GuidMap.{value_of}
 use Rattle.explain_text.specs.declared.givers.Link.{Link}
 use Rattle.explain_text.specs.Flags.{flag}
 use Rattle.explain_text.specs.Givers.{Chain, givers_from}

@@ -1,7 +1,7 @@
 use Rattle.std.proofs.Common.{ℕ, sym, subst, ◌∙◌}
 use Rattle.catalog_model.specs.Parts.{module_name, module_volume}
 use Rattle.pi_base.specs.declared.guid.Guid.{Guid}
-use Rattle.module_names.specs.Named.{IsNamed}
+use Rattle.start_order.specs.Named.{IsNamed}
 use Rattle.free_check.proofs.Reading.{nothing_there, same_pair}
 use Rattle.free_check.proofs.by_text.named_next.Goals as goal
 

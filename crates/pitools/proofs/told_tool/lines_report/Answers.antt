@@ -5,7 +5,7 @@ use Rattle.boot_model.specs.PlanBoard.{board_of}
 use Rattle.catalog_model.specs.declared.catalog.Catalog.{Catalog}
 use Rattle.catalog_model.specs.Catalogue.{IsCatalogue}
 use Rattle.free_check.specs.Verdict.{IsBoot}
-use Rattle.module_names.specs.Named.{IsFirstWithTwins}
+use Rattle.start_order.specs.Named.{IsFirstWithTwins}
 use Rattle.start_order.specs.declared.lines.StartOrder.{StartOrder}
 use Rattle.pitools.specs.declared.command_line.TraceTool.TheVariants.{Explain}
 use Rattle.pitools.specs.declared.report.Report.{Report}

@@ -1,4 +1,4 @@
-use Rattle.printed_words.proofs.Comparisons.{not_same}
+use Rattle.line_words.proofs.Comparisons.{not_same}
 use Rattle.trace_reader.proofs.expression_word.plain_expression.Goals as goal
 
 pub returns-else-eq-4-clause-none : goal.returns-else-eq-4-clause-none

@@ -3,8 +3,8 @@ use Rattle.boot_model.specs.Discovery.{discovery_lines}
 use Rattle.boot_model.specs.Text.{text_of}
 use Rattle.std.specs.Io.KnownBytes.{Appends}
 use Rattle.boot_io.specs.Sink as Sinks
-use Rattle.dxe_action.specs.Order.{Drivers}
-use Rattle.dxe_action.specs.Services.{AreCounted}
+use Rattle.dxe_core.specs.Order.{Drivers}
+use Rattle.dxe_core.specs.Services.{AreCounted}
 use Rattle.dxe_core.specs.Parts.{acted_to}
 use Rattle.dxe_core.specs.Standing.{DxeCore, StandsFor}
 use Rattle.dxe_core.proofs.DriverLines.{action_prints}

@@ -1,5 +1,5 @@
 use Rattle.std.proofs.Common.{ap, ◌∙◌}
-use Rattle.frames.specs.Frames.{top_of}
+use Rattle.phase_parts.specs.Frames.{top_of}
 use Rattle.dxe_core.specs.Standing.{DxeCore}
 use Rattle.dxe_core.proofs.Cases.{none_stands}
 use Rattle.dxe_core.proofs.dxe.Dxe.is_idle.Goals as goal

@@ -2,7 +2,7 @@ use Rattle.std.proofs.Common.{ap, ◌∙◌, Some, None}
 use Rattle.dxe_core.specs.Standing.{DxeCore}
 use Rattle.dxe_core.proofs.Cases.{is_there, over, runs_with}
 use Rattle.dxe_core.proofs.Going.{texts}
-use Rattle.frames.specs.Frames.{top_of}
+use Rattle.phase_parts.specs.Frames.{top_of}
 use Rattle.dxe_core.proofs.dxe.Dxe.step.Goals as goal
 
 pub returns-in-Some-clause-row : goal.returns-in-Some-clause-row

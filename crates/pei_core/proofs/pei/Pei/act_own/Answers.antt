@@ -1,9 +1,9 @@
 use Rattle.std.proofs.Common.{◌≡◌, refl, sym, ap, ◌∙◌, subst, Ok}
 use Rattle.boot_laws.proofs.ActionMoved.{EffectKeeps, effect_keeps}
 use Rattle.boot_model.specs.PeiAction.{Called, Own, Shadowed, Wrote, effect}
-use Rattle.frames.specs.Writes.{written}
-use Rattle.pei_action.specs.Guids.{AreChangesOf, no_changes}
-use Rattle.pei_action.specs.Taken.{Does, changes_by, reply_in}
+use Rattle.phase_parts.specs.Writes.{written}
+use Rattle.pei_core.specs.Guids.{AreChangesOf, no_changes}
+use Rattle.pei_core.specs.Taken.{Does, changes_by, reply_in}
 use Rattle.pei_core.specs.declared.event.Again.TheVariants.{Nobody}
 use Rattle.pei_core.specs.Parts.{action_goal, reply_goal, shadow_goal}
 use Rattle.pei_core.specs.Standing.{Has}

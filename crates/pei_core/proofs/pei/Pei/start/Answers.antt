@@ -1,5 +1,5 @@
 use Rattle.std.proofs.Common.{refl, sym, ap, subst, IsTrue}
-use Rattle.frames.specs.Found.{blocks_of}
+use Rattle.phase_parts.specs.Found.{blocks_of}
 use Rattle.pi_base.specs.declared.phase.Phase.TheVariants.{Pei}
 use Rattle.boot_model.specs.PeimState.{awaits_start, state_at}
 use Rattle.boot_model.specs.PeiStep.{started}

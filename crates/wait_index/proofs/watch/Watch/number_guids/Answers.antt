@@ -1,6 +1,6 @@
 use Rattle.std.proofs.Common.{◌≡◌, [], ℕ, List, refl, sym, subst, get_or, take, ◌+◌, Some}
 use Rattle.pi_base.specs.declared.guid.Guid.{Guid}
-use Rattle.guid_map.specs.GuidMap.{value_of}
+use Rattle.pi_base.specs.GuidMap.{value_of}
 use Rattle.pi_base.specs.Lists.{EachPair}
 use Rattle.wait_index.proofs.Making.{slots_more}
 use Rattle.wait_index.proofs.watch.Watch.number_guids.Goals as goal

@@ -1,0 +1,53 @@
+-- What stands for the parts of a tree while its opcodes are taken in order: whether a part holds, and what it lacks; the last one first.
+-- Own.
+use Rattle.std.specs.Prelude.{◌≡◌, ℕ, Bool, true, false, not, ◌&&◌, ◌||◌, if◌then◌else◌, List, [], ◌∷◌, ◌++◌, Option, Some, None, is_some}
+use Rattle.std.specs.Option.{option_and_then}
+use Rattle.pi_base.specs.GuidMap.{value_of}
+use Rattle.pi_base.specs.declared.guid.Guid.{Guid}
+use Rattle.depex_code.specs.Tree.{DepexTree, truth}
+use Rattle.depex_code.specs.declared.opcode.Opcode.{Opcode}
+use Rattle.depex_code.specs.declared.opcode.Opcode.TheVariants as O
+use Rattle.boot_reasons.specs.declared.side.Side.{Side}
+use Rattle.boot_reasons.specs.Asked.{is_among}
+use Rattle.boot_reasons.specs.Would.{both_lack, fewer, lacks}
+
+-- a part of a tree
+abbrev pub side_of : (Guid → Bool) → DepexTree → Side
+side_of has node = record { holds = truth has node; lacks = lacks has node }
+
+-- a part that lacks nothing, or cannot be made to hold
+abbrev pub fixed_side : Bool → Side
+fixed_side holds = record { holds = holds; lacks = if holds then Some [] else None }
+
+-- a GUID
+abbrev pub guid_side : (Guid → Bool) → Guid → Side
+guid_side has guid = record { holds = has guid; lacks = Some (if has guid then [] else guid ∷ []) }
+
+-- the parts of operators
+abbrev pub not_side : Side → Side
+not_side side = record { holds = not side.holds; lacks = if side.holds then None else Some [] }
+
+abbrev pub and_side : Side → Side → Side
+and_side first second = record { holds = first.holds && second.holds; lacks = both_lack first.lacks second.lacks }
+
+abbrev pub or_side : Side → Side → Side
+or_side first second = record { holds = first.holds || second.holds; lacks = fewer first.lacks second.lacks }
+
+-- the parts after an opcode, where its operands are there
+abbrev pub sides_after : (Guid → Bool) → Opcode → List Side → Option (List Side)
+sides_after has O.True sides = Some (fixed_side true ∷ sides)
+sides_after has O.False sides = Some (fixed_side false ∷ sides)
+sides_after has (O.Push guid) sides = Some (guid_side has guid ∷ sides)
+sides_after has O.Not (side ∷ sides) = Some (not_side side ∷ sides)
+sides_after has O.Not [] = None
+sides_after has O.And (second ∷ (first ∷ sides)) = Some (and_side first second ∷ sides)
+sides_after has O.And (second ∷ []) = None
+sides_after has O.And [] = None
+sides_after has O.Or (second ∷ (first ∷ sides)) = Some (or_side first second ∷ sides)
+sides_after has O.Or (second ∷ []) = None
+sides_after has O.Or [] = None
+
+-- the parts after opcodes
+abbrev pub sides_behind : (Guid → Bool) → List Opcode → List Side → Option (List Side)
+sides_behind has [] sides = Some sides
+sides_behind has (opcode ∷ code) sides = option_and_then (λ next. sides_behind has code next) (sides_after has opcode sides)

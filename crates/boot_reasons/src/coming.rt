@@ -1,0 +1,108 @@
+//! The GUIDs whose coming would make an expression hold.
+ghost use Rattle.std.specs.Prelude.{◌≡◌, [], IfOk, not, filter};
+ghost use Rattle.depex_code.specs.Tree.{truth};
+ghost use Rattle.boot_reasons.specs.NotedOnce.{AreSeen, noted_all};
+ghost use Rattle.boot_reasons.specs.Would.{with_these, would, would_make};
+
+use crate::asking::asked_without;
+use crate::noted::Noted;
+use crate::sides::side_of;
+use catalog_model::PartExpr;
+use depex_code::{Depex, GuidSet, Tree};
+use pi_base::{Guid, OutOfMemory, Phase, Seq};
+use std::alloc::Global;
+
+/// A set of GUIDs, and those that were noted.
+#[derive(Drop)]
+struct WithThese<'s, G> {
+    set: &'s G,
+    noted: &'s Noted,
+}
+
+impl<G: GuidSet> GuidSet for WithThese<'_, G> {
+    ghost use Rattle.boot_reasons.specs.NotedOnce.{AreSeen};
+    ghost use Rattle.boot_reasons.specs.Would.{with_these};
+
+    ghost has_guid = { λ w guid. with_these (G.has_guid w.set.now) w.noted.now.guids guid };
+
+    ghost in_order = { λ w. G.in_order w.set.now × AreSeen w.noted.now };
+
+    fn has(&self, guid: &Guid) -> bool {
+        self.set.has(guid) || self.noted.has(guid)
+    }
+}
+
+// Whether a tree holds where these GUIDs are there too.
+fn holds_with<G: GuidSet>(
+    alloc: Global,
+    set: &G,
+    noted: &Noted,
+    tree: &Tree,
+) -> Result<bool, OutOfMemory>
+    requires order { G.in_order set.now }
+    requires seen { AreSeen noted.now }
+    ensures { IfOk result (λ holds. holds ≡ truth (with_these (G.has_guid set.now) noted.now.guids) tree.now) }
+{
+    let with = WithThese { set, noted };
+    let side = side_of(alloc, &with, tree)?;
+    Ok(side.holds)
+}
+
+// The GUIDs whose coming would make a tree hold.
+#[tactic(auto, using(crate::proofs::OnceEach::noted_once, crate::proofs::OnceEach::truth_once))]
+fn would_make<G: GuidSet>(
+    alloc: Global,
+    set: &G,
+    tree: &Tree,
+) -> Result<Option<Seq<Guid>>, OutOfMemory>
+    requires order { G.in_order set.now }
+    ensures { IfOk result (λ guids. guids ≡ would_make (G.has_guid set.now) tree.now) }
+{
+    let side = side_of(alloc, set, tree)?;
+    let guids = match side.lacks {
+        Some(guids) => guids,
+        None => return Ok(None),
+    };
+    let mut noted = Noted::new(alloc);
+    noted.note_all(guids.as_slice())?;
+    if holds_with(alloc, set, &noted, tree)? {
+        Ok(Some(noted.guids))
+    } else {
+        Ok(None)
+    }
+}
+
+// Notes those of these GUIDs that are not in a set.
+fn lacking<G: GuidSet>(alloc: Global, set: &G, guids: &[Guid]) -> Result<Seq<Guid>, OutOfMemory>
+    requires order { G.in_order set.now }
+    ensures { IfOk result (λ found. found ≡ noted_all [] (filter (λ guid. not (G.has_guid set.now guid)) guids.now)) }
+{
+    let mut noted = Noted::new(alloc);
+    let mut rest = guids;
+    'guids: while let [guid, after @ ..] = rest {
+        if !set.has(guid) {
+            noted.note(guid)?;
+        }
+        rest = after;
+    }
+    Ok(noted.guids)
+}
+
+/// The GUIDs whose coming would make the expression of a part hold over a set, each once: none where it holds.
+/// None where no GUIDs would do: a NOT would need one to go, it is FALSE, it cannot be read, or it names another driver in BEFORE or AFTER. A driver without an expression needs the architectural protocols.
+#[tactic(auto, using(crate::proofs::OnceEach::noted_once))]
+pub fn would<G: GuidSet>(
+    alloc: Global,
+    set: &G,
+    phase: Phase,
+    expr: &PartExpr,
+) -> Result<Option<Seq<Guid>>, OutOfMemory>
+    requires order { G.in_order set.now }
+    ensures { IfOk result (λ guids. guids ≡ would (G.has_guid set.now) phase expr.now) }
+{
+    match expr {
+        PartExpr::Absent => Ok(Some(lacking(alloc, set, asked_without(phase))?)),
+        PartExpr::Held(Depex::Expr { tree, .. }) => would_make(alloc, set, tree),
+        _ => Ok(None),
+    }
+}

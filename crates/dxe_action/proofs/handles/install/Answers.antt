@@ -1,9 +1,0 @@
-use Rattle.act_code.specs.declared.action.Action.TheVariants as A
-use Rattle.dxe_action.specs.Answered.{Serves}
-use Rattle.dxe_action.proofs.Handling.{other_form}
-use Rattle.dxe_action.proofs.handles.install.Goals as goal
-
-pub returns-else-form-eq0-clause-row : goal.returns-else-form-eq0-clause-row
-returns-else-form-eq0-clause-row c = λ catalog.
-    other_form (λ form. Serves catalog c.args.services.now c.args.frame.now (A.DxeInstall form c.args.h c.args.guid.now c.args.v) c.install_on.result c.install_on.new.services)
-    c.args.form c.if-form-eq0.false (λ n. c.install_on.ensures.row catalog n)

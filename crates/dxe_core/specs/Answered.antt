@@ -1,0 +1,74 @@
+-- The answers of the services, and what a service does from each machine that has what the services stand on.
+-- Own; PI 1.8, volume 2, "Protocol Handler Services" and "DXE Services".
+use Rattle.std.specs.Prelude.{◌≡◌, ℕ, ◌≤◌, ◌+◌, length, None, Some, Result, Ok, Err}
+use Rattle.pi_base.specs.declared.guid.Guid.{Guid}
+use Rattle.pi_base.specs.declared.word.Word.{Word}
+use Rattle.pi_base.specs.declared.word.Word.TheVariants as S
+use Rattle.pi_base.specs.declared.memory.OutOfMemory.{OutOfMemory}
+use Rattle.act_code.specs.declared.action.Action.{Action}
+use Rattle.act_code.specs.declared.action.Action.TheVariants as A
+use Rattle.catalog_model.specs.declared.catalog.Catalog.{Catalog}
+use Rattle.catalog_model.specs.Parts.{volume_at}
+use Rattle.boot_model.specs.Registers.{number_in}
+use Rattle.boot_model.specs.declared.line.CallName.{CallName}
+use Rattle.boot_model.specs.declared.line.Extra.{Extra}
+use Rattle.boot_model.specs.declared.line.Extra.TheVariants.{Nothing}
+use Rattle.boot_model.specs.declared.driver.ProtocolSweep.{ProtocolSweep}
+use Rattle.boot_model.specs.DxeMachine.{DxeMachine, DriverFrame}
+use Rattle.dxe_handles.specs.declared.fault.HandleFault.{HandleFault}
+use Rattle.dxe_handles.specs.declared.fault.HandleFault.TheVariants as F
+use Rattle.phase_parts.specs.declared.registers.Writes.{Writes}
+use Rattle.phase_parts.specs.declared.registers.Writes.TheVariants as W
+use Rattle.dxe_core.specs.declared.event.Event.{Event}
+use Rattle.dxe_core.specs.declared.reply.Reply.{Reply}
+use Rattle.dxe_core.specs.Event.{quiet}
+use Rattle.dxe_core.specs.Services.{Services, AreServicesOf}
+use Rattle.dxe_core.specs.Reply.{Replies}
+
+-- an answer without notifications to visit, of a call that did nothing that an event tells
+abbrev pub answered : CallName → Word → Extra → Writes → Reply
+answered name status extra writes = record { name = name; status = status; extra = extra; writes = writes; sweep = None; event = quiet }
+
+-- one of success
+abbrev pub told : CallName → Extra → Writes → Reply
+told name extra writes = answered name S.Success extra writes
+
+-- a refusal
+abbrev pub refusal : CallName → Word → Reply
+refusal name status = answered name status Nothing W.Nothing
+
+-- a success with notifications to visit
+abbrev pub swept : CallName → Extra → Writes → ProtocolSweep → Reply
+swept name extra writes sweep = record (told name extra writes) { sweep = Some sweep }
+
+-- the answer of a call that did this
+abbrev pub did : Event → Reply → Reply
+did event reply = record reply { event = event }
+
+-- a fault of the handles is a refusal with its status; want of memory is none
+abbrev pub refused : CallName → HandleFault → Result Reply OutOfMemory
+refused name F.InvalidParameter = Ok (refusal name S.InvalidParameter)
+refused name F.NotFound = Ok (refusal name S.NotFound)
+refused name F.Memory = Err (record {})
+
+-- the notifications of a protocol that are registered, for an interface on a handle
+abbrev pub sweep_of : Services → Guid → ℕ → ℕ → ProtocolSweep
+sweep_of s guid interface handle = record { guid = guid; interface = interface; handle = handle; note_at = 0; note_to = length s.notes }
+
+-- what the action does from each machine that has these services
+abbrev pub Serves : Catalog → Services → DriverFrame → Action → Result Reply OutOfMemory → Services → Type 0
+Serves catalog services frame action result new =
+    (m : DxeMachine) → AreServicesOf catalog m services → Replies catalog m frame action result new
+
+-- the action that names an address in a register, where this volume is mapped there, from each machine that has these services
+abbrev pub ProcessesVolume : Catalog → Services → ℕ → Result Reply OutOfMemory → Services → Type 0
+ProcessesVolume catalog services volume result new =
+    (m : DxeMachine) (frame : DriverFrame) (v base : ℕ) → AreServicesOf catalog m services
+    → number_in frame.registers v ≡ Some base → volume_at catalog base ≡ Some volume → Replies catalog m frame (A.Process v) result new
+
+-- at most one handle more was made, one interface more stands and one notification more is registered, and there are as many flags as there were
+pub record GrowByOne (old new : Services) : Type 0 where
+  pub made : new.handles.made ≤ old.handles.made + 1
+  pub interfaces : length new.handles.interfaces ≤ length old.handles.interfaces + 1
+  pub notes : length new.notes ≤ length old.notes + 1
+  pub flags : length new.requested ≡ length old.requested

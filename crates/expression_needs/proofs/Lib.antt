@@ -1,3 +1,0 @@
-mod Enough
-mod OnceEach
-mod Parts

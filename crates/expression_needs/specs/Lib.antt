@@ -1,4 +1,0 @@
-pub mod Asked
-pub mod Noting
-pub mod Sides
-pub mod Would

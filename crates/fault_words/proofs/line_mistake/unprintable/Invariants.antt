@@ -1,5 +1,0 @@
-use Rattle.std.proofs.Common.{length}
-use Rattle.fault_words.proofs.line_mistake.unprintable.Given as goal
-
-abbrev pub decreases-search : goal.decreases-search
-decreases-search l = length l.rest

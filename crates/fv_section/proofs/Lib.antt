@@ -1,4 +1,0 @@
-pub mod Sections
-pub mod OneReading
-pub mod Standing
-pub mod Spelled

@@ -1,2 +1,0 @@
-pub mod SectionHeader
-pub mod Stream

@@ -1,0 +1,19 @@
+//! What follows from the definitions alone.
+ghost use Rattle.std.specs.Prelude.{◌≡◌, ◌⊎◌, List, ℕ};
+ghost use Rattle.fv_volume.specs.Stream.{AreSections, AreInOrder, AreInside, IsFirstFault};
+ghost use Rattle.fv_volume.specs.declared.sections.section.Section.{Section};
+ghost use Rattle.fv_volume.specs.declared.sections.fault.SecFault.{SecFault};
+
+/// All bytes are sections or have a first fault, never both, and one list of sections or one fault.
+pub fn one_reading()
+    ensures sections { (bytes : List ℕ) (a b : List Section) → AreSections bytes a → AreSections bytes b → a ≡ b }
+    ensures faults { (bytes : List ℕ) (a b : SecFault) → IsFirstFault bytes a → IsFirstFault bytes b → a ≡ b }
+    ensures apart { (bytes : List ℕ) (a : List Section) (b : SecFault) → AreSections bytes a → IsFirstFault bytes b → ⊥ }
+    ensures some { (bytes : List ℕ) → ((a : List Section) × AreSections bytes a) ⊎ ((b : SecFault) × IsFirstFault bytes b) }
+{}
+
+/// The bodies of sections stand in their stream one behind the other.
+pub fn places()
+    ensures inside { (bytes : List ℕ) (sections : List Section) → AreSections bytes sections → AreInside bytes sections }
+    ensures in_order { (bytes : List ℕ) (sections : List Section) → AreSections bytes sections → AreInOrder sections }
+{}

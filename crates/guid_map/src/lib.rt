@@ -1,8 +1,0 @@
-//! A map from GUIDs, in the order of the numbers that their bytes spell: images choose their GUIDs, so that a hash would be no guard against many that meet.
-//!
-//! Tried in `base_trials`: `guid_maps`.
-#![tactic(auto)]
-
-mod guid_map;
-
-pub use guid_map::GuidMap;

@@ -1,5 +1,0 @@
-pub mod Words
-pub mod LineText
-pub mod FileText
-pub mod FileFaults
-pub mod OutcomeText

@@ -1,3 +1,0 @@
-pub mod Guids
-pub mod Needs
-pub mod Taken

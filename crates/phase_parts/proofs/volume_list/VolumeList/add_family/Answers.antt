@@ -1,0 +1,30 @@
+use Rattle.std.proofs.Common.{◌≡◌, ◌<◌, ℕ, List, length, sym, ◌∙◌, subst, ap}
+use Rattle.catalog_model.specs.declared.catalog.Catalog.{Catalog}
+use Rattle.catalog_model.specs.Parts.{family}
+use Rattle.catalog_model.specs.WellFormed.{IsWellFormed}
+use Rattle.phase_parts.specs.Known.{AreInCatalog, AreKnown, MayCome, with_new}
+use Rattle.phase_parts.proofs.Families.{family_differs, family_in_catalog}
+use Rattle.phase_parts.proofs.Newcomers.{new_family}
+use Rattle.phase_parts.proofs.volume_list.VolumeList.add_family.Goals as goal
+
+may_come : (catalog : Catalog) (list numbers : List ℕ) (number : ℕ) → IsWellFormed catalog → AreKnown catalog list → number < length catalog.volumes → numbers ≡ family catalog number
+    → MayCome catalog list numbers
+may_come catalog list numbers number formed known below are = record {
+  formed = formed;
+  known = known;
+  in_catalog = subst (AreInCatalog catalog) (sym are) (family_in_catalog catalog number formed below);
+}
+
+pub add_each-requires : goal.add_each-requires
+add_each-requires c =
+    record { known = (c.args.catalog.now, may_come c.args.catalog.now c.args.self.now _ c.args.number c.requires.catalog c.requires.known c.requires.number (c.as_slice.ensures ∙ c.family_of-family.ensures)) }
+
+pub returns-then-is_new-clause-added : goal.returns-then-is_new-clause-added
+returns-then-is_new-clause-added c =
+    new_family c.args.self.now _ c.add_each.new.self _ (sym c.has-is_new.ensures ∙ c.if-is_new.true) (family_differs c.args.catalog.now c.args.number c.requires.catalog)
+    (c.add_each.ensures.added ∙ ap (with_new c.args.self.now) (c.as_slice.ensures ∙ c.family_of-family.ensures))
+
+pub returns-then-is_new-clause-known : goal.returns-then-is_new-clause-known
+returns-then-is_new-clause-known c =
+    c.add_each.ensures.known c.args.catalog.now
+    (may_come c.args.catalog.now c.args.self.now _ c.args.number c.requires.catalog c.requires.known c.requires.number (c.as_slice.ensures ∙ c.family_of-family.ensures))

@@ -1,0 +1,23 @@
+//! A volume with those nested in it.
+ghost use Rattle.std.specs.Prelude.{◌≡◌};
+ghost use Rattle.catalog_model.specs.Parts.{family};
+ghost use Rattle.catalog_model.specs.WellFormed.{IsWellFormed};
+
+use crate::volume_list::VolumeList;
+use catalog_model::Catalog;
+
+/// A volume, and each volume nested in it at any depth, by number. Parents stand before what is nested in them, so one pass finds all.
+pub(crate) fn family_of(catalog: &Catalog, volume: u32) -> VolumeList
+    requires { IsWellFormed catalog.now }
+    ensures { result ≡ family catalog.now volume }
+{
+    let mut family = VolumeList::new();
+    family.push_where(true, volume);
+    let mut number = 0;
+    'volumes: for entry in catalog.volumes.as_slice() {
+        let is_nested = family.has_parent(entry.parent);
+        family.push_where(is_nested, number);
+        number += 1;
+    }
+    family
+}

@@ -1,0 +1,12 @@
+// A law of actions.
+ghost use Rattle.boot_model.specs.DxeAction.{DxeReply};
+ghost use Rattle.boot_model.specs.declared.driver.ProtocolSweep.{ProtocolSweep};
+ghost use Rattle.boot_model.specs.PeiAction.{PeiOwn, Reply};
+ghost use Rattle.store_model.specs.declared.store_handle.Sweep.{Sweep};
+ghost use Rattle.phase_parts.specs.Alike.{AreAlike};
+
+/// What an action does that both phases have is the same in each, and what another does is its phase's own.
+pub fn effects_are_alike()
+    ensures pei { AreAlike Sweep Reply PeiOwn }
+    ensures dxe { AreAlike ProtocolSweep DxeReply ⊥ }
+{}

@@ -1,0 +1,126 @@
+//! The volumes that are known, by their numbers.
+ghost use Rattle.std.specs.Prelude.{◌≡◌, ◌<◌, ◌++◌, ◌∷◌, [], length, if◌then◌else◌, IfSome, IsTrue};
+ghost use Rattle.catalog_model.specs.Parts.{has_number, is_nested_in};
+ghost use Rattle.boot_model.specs.Reporting.{newcomers};
+ghost use Rattle.boot_model.specs.Discovery.{discoveries};
+ghost use Rattle.catalog_model.specs.WellFormed.{IsWellFormed};
+ghost use Rattle.catalog_model.specs.declared.catalog.Catalog.{Catalog};
+ghost use Rattle.phase_parts.specs.Known.{AreKnown, MayCome, with_new};
+
+use crate::family::family_of;
+use crate::mapped::volume_at;
+use arrayvec::ArrayVec;
+use catalog_model::{Catalog, MOST_VOLUMES};
+use std::marker::Model;
+
+/// Numbers of volumes in the order in which they became known.
+#[derive(Drop)]
+pub struct VolumeList {
+    numbers: ArrayVec<u32, MOST_VOLUMES>,
+}
+
+impl Model for VolumeList {
+    ghost use Rattle.std.specs.Prelude.{ℕ, List};
+
+    ghost Value = { List ℕ };
+
+    ghost view = { λ list. list.numbers.items };
+}
+
+impl VolumeList {
+    /// None.
+    pub fn new() -> VolumeList
+        ensures { result ≡ [] }
+    {
+        VolumeList {
+            numbers: ArrayVec::new(),
+        }
+    }
+
+    /// All of them.
+    pub fn as_slice(&self) -> &[u32]
+        ensures { result.now ≡ self.now }
+    {
+        self.numbers.as_slice()
+    }
+
+    /// Whether a volume is known.
+    pub fn has(&self, number: u32) -> bool
+        ensures { result ≡ has_number self.now number }
+    {
+        self.numbers.as_slice().iter().any(|other| *other == number)
+    }
+
+    // Whether a parent is known.
+    pub(crate) fn has_parent(&self, parent: Option<u32>) -> bool
+        ensures { result ≡ is_nested_in self.now parent }
+    {
+        match parent {
+            Some(parent) => self.has(parent),
+            None => false,
+        }
+    }
+
+    // Puts a number at the end where it is wanted.
+    pub(crate) fn push_where(&mut self, is_wanted: bool, number: u32)
+        requires room { IsTrue is_wanted → length self.old < MOST_VOLUMES }
+        ensures { self.new ≡ (if is_wanted then self.old ++ number ∷ [] else self.old) }
+    {
+        if is_wanted {
+            self.numbers.push(number);
+        }
+    }
+
+    // Puts each of these numbers that is new at the end: volumes of a catalogue.
+    fn add_each(&mut self, numbers: &[u32])
+        requires known { (catalog : Catalog) × MayCome catalog self.old numbers.now }
+        ensures added { self.new ≡ with_new self.old numbers.now }
+        ensures known { (catalog : Catalog) → MayCome catalog self.old numbers.now → AreKnown catalog self.new }
+    {
+        'volumes: for number in numbers {
+            let is_new = !self.has(*number);
+            self.push_where(is_new, *number);
+        }
+    }
+
+    /// A volume of the catalogue, if it is new, and after it each volume nested in it that is.
+    pub fn add(&mut self, catalog: &Catalog, volume: Option<u32>)
+        requires catalog { IsWellFormed catalog.now }
+        requires known { AreKnown catalog.now self.old }
+        requires volume { IfSome volume (λ number. number < length catalog.now.volumes) }
+        ensures added { self.new ≡ self.old ++ newcomers catalog.now self.old volume }
+        ensures known { AreKnown catalog.now self.new }
+    {
+        match volume {
+            Some(number) => self.add_family(catalog, number),
+            None => {}
+        }
+    }
+
+    // A volume of the catalogue, if it is new, and after it each volume nested in it that is.
+    fn add_family(&mut self, catalog: &Catalog, number: u32)
+        requires catalog { IsWellFormed catalog.now }
+        requires known { AreKnown catalog.now self.old }
+        requires number { number < length catalog.now.volumes }
+        ensures added { self.new ≡ self.old ++ newcomers catalog.now self.old (Some number) }
+        ensures known { AreKnown catalog.now self.new }
+    {
+        let is_new = !self.has(number);
+        if is_new {
+            let family = family_of(catalog, number);
+            self.add_each(family.as_slice());
+        }
+    }
+
+    /// The volumes at these bases, one base after the other.
+    pub fn discover(&mut self, catalog: &Catalog, bases: &[u64])
+        requires catalog { IsWellFormed catalog.now }
+        requires known { AreKnown catalog.now self.old }
+        ensures discovered { self.new ≡ self.old ++ discoveries catalog.now self.old bases.now }
+        ensures known { AreKnown catalog.now self.new }
+    {
+        'bases: for base in bases {
+            self.add(catalog, volume_at(catalog, *base));
+        }
+    }
+}

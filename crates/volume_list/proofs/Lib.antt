@@ -1,5 +1,0 @@
-mod ListFacts
-mod Room
-mod Families
-mod Newcomers
-mod Ppis
