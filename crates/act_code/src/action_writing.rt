@@ -75,22 +75,21 @@ fn put_operand(out: &mut Seq<u8>, operand: &Operand<'_>) -> Result<(), OutOfMemo
     requires { IsShort operand.now }
     ensures { OnOk result (out.new ≡ out.old ++ told spelled operand.now) }
 {
-    match operand {
+    match *operand {
         Operand::Nothing => Ok(()),
-        Operand::Register(n) => out.push(*n),
-        Operand::Block(n) => out.push(*n),
-        Operand::Byte(n) => out.push(*n),
-        Operand::Choice(n) => out.push(*n),
-        Operand::Number2(n) => out.append(&bytes_2(*n)),
-        Operand::Number4(n) => out.append(&bytes_4(*n)),
-        Operand::Number8(n) => out.append(&bytes_8(*n)),
+        Operand::Register(n) | Operand::Block(n) | Operand::Byte(n) | Operand::Choice(n) => {
+            out.push(n)
+        }
+        Operand::Number2(n) => out.append(&bytes_2(n)),
+        Operand::Number4(n) => out.append(&bytes_4(n)),
+        Operand::Number8(n) => out.append(&bytes_8(n)),
         Operand::Guid(guid) => out.append(&guid.0),
         Operand::Status(status) => out.push(status.number()),
-        Operand::Counted(list) => put_list(out, list),
-        Operand::Text(list) => put_list(out, list),
-        Operand::Registers(list) => put_list(out, list),
-        Operand::Descriptor(kind, guid, arg) => put_descriptor(out, *kind, guid, *arg),
-        Operand::Hob(kind, body) => put_hob(out, *kind, body),
+        Operand::Counted(list) | Operand::Text(list) | Operand::Registers(list) => {
+            put_list(out, list)
+        }
+        Operand::Descriptor(kind, guid, arg) => put_descriptor(out, kind, guid, arg),
+        Operand::Hob(kind, body) => put_hob(out, kind, body),
     }
 }
 

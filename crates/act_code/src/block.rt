@@ -59,8 +59,10 @@ fn checked(alloc: Global, header: Header, left: u16, bytes: &[u8]) -> Result<(Ac
     match action(alloc, header.phase, bytes) {
         Ok((action, rest)) => {
             if !is_indexed(&action, header.blocks) {
+                drop(action);
                 Err(Stop::Fault(fault(header, ActCause::Index, bytes)))
             } else if !has_room(&action, left) {
+                drop(action);
                 Err(Stop::Fault(fault(header, ActCause::Jump, bytes)))
             } else {
                 Ok((action, rest))
@@ -129,6 +131,7 @@ fn block(alloc: Global, header: Header, bytes: &[u8]) -> Result<(Seq<Action>, &[
     if ends_in_ret(actions.as_slice()) {
         Ok((actions, rest))
     } else {
+        drop(actions);
         Err(Stop::Fault(fault(header, ActCause::Block, bytes)))
     }
 }

@@ -63,6 +63,15 @@ fn put_blocks(out: &mut Seq<u8>, blocks: &[Seq<Action>]) -> Result<(), OutOfMemo
     Ok(())
 }
 
+// Adds the bytes of a script of so many blocks.
+fn put_script(out: &mut Seq<u8>, script: &Script) -> Result<(), OutOfMemory>
+    requires { IsInGrammar script.now }
+    ensures { OnOk result (out.new ≡ out.old ++ script_bytes script.now) }
+{
+    out.append(&header_bytes(script.phase, script.blocks.len() as u8))?;
+    put_blocks(out, script.blocks.as_slice())
+}
+
 /// The one spelling of a script, which `read_script` reads as the script again. TooLong exactly where it passes 65,536 bytes.
 pub fn write_script(alloc: Global, script: &Script) -> Result<Seq<u8>, WriteFault>
     requires { IsInGrammar script.now }
@@ -71,11 +80,13 @@ pub fn write_script(alloc: Global, script: &Script) -> Result<Seq<u8>, WriteFaul
     ensures too_long { IfErr result (λ fault. fault ≡ write_fault.TooLong → 65536 < length (script_bytes script.now)) }
 {
     let mut out = Seq::new(alloc);
-    out.append(&header_bytes(script.phase, script.blocks.len() as u8))?;
-    put_blocks(&mut out, script.blocks.as_slice())?;
-    if out.len() > MOST_SCRIPT {
-        Err(WriteFault::TooLong)
-    } else {
-        Ok(out)
+    let put = put_script(&mut out, script);
+    if put.is_ok() && out.len() <= MOST_SCRIPT {
+        return Ok(out);
+    }
+    drop(out);
+    match put {
+        Ok(()) => Err(WriteFault::TooLong),
+        Err(OutOfMemory) => Err(WriteFault::Memory),
     }
 }

@@ -1,11 +1,11 @@
 -- What the words ask for, seen from what it leads to.
 use Rattle.std.proofs.Common.{◌≡◌, ℕ, List, Option, refl, ap, subst, inl, inr}
 use Rattle.boot_model.specs.declared.line.Line.{Line}
-use Rattle.plan_files.specs.declared.job.Job.{Job}
-use Rattle.plan_files.specs.declared.reading.NoJob.{NoJob}
-use Rattle.plan_files.specs.declared.reading.NoJob.TheVariants.{Refused, Memory}
-use Rattle.plan_files.specs.Job.{IsRefusal, plan_long, plan_refused, volume_long}
-use Rattle.plan_files.specs.Reading.{FilesTrail, Lacks}
+use Rattle.boot_core.specs.declared.plan_files.job.Job.{Job}
+use Rattle.boot_core.specs.declared.plan_files.reading.NoJob.{NoJob}
+use Rattle.boot_core.specs.declared.plan_files.reading.NoJob.TheVariants.{Refused, Memory}
+use Rattle.boot_core.specs.Job.{IsRefusal, plan_long, plan_refused, volume_long}
+use Rattle.boot_core.specs.Reading.{FilesTrail, Lacks}
 use Rattle.boot_core.specs.declared.command_line.Command.{Command}
 use Rattle.boot_core.specs.declared.command_line.Command.TheVariants.{Boot, Audit}
 use Rattle.boot_core.specs.declared.deciding.Asked.{Asked}

@@ -5,16 +5,16 @@ use Rattle.boot_plan.specs.declared.plan.Plan.{Plan}
 use Rattle.boot_plan.specs.declared.plan.PlanVolume.{PlanVolume}
 use Rattle.boot_plan.specs.declared.fault.PlanFault.{PlanFault}
 use Rattle.boot_plan.specs.PlanText.{IsPlan, IsPlanFault}
-use Rattle.catalog_model.specs.declared.catalog.Catalog.{Catalog}
-use Rattle.catalog_model.specs.declared.image_fault.ImageFault.{ImageFault}
-use Rattle.catalog_model.specs.Catalogue.{IsCatalogue}
-use Rattle.catalog_model.specs.ImageFault.{IsImageFault}
+use Rattle.mod_catalog.specs.declared.catalogue.Catalog.{Catalog}
+use Rattle.mod_catalog.specs.declared.image_fault.ImageFault.{ImageFault}
+use Rattle.mod_catalog.specs.Catalogue.{IsCatalogue}
+use Rattle.mod_catalog.specs.ImageFault.{IsImageFault}
 use Rattle.boot_model.specs.PlanBoard.{board_of}
 use Rattle.boot_model.specs.declared.line.Line.{Line}
 use Rattle.boot_model.specs.declared.line.RunEnd.{RunEnd}
-use Rattle.plan_files.specs.declared.job.Job.{Job}
-use Rattle.plan_files.specs.Job.{IsJob, IsRefusal, plan_long, plan_refused, volume_long}
-use Rattle.plan_files.specs.Reading.{IsRead, IsLong, IsLongVolume, AreImages}
+use Rattle.boot_core.specs.declared.plan_files.job.Job.{Job}
+use Rattle.boot_core.specs.Job.{IsJob, IsRefusal, plan_long, plan_refused, volume_long}
+use Rattle.boot_core.specs.Reading.{IsRead, IsLong, IsLongVolume, AreImages}
 use Rattle.boot_core.specs.declared.status.Status.{Status}
 use Rattle.boot_core.specs.declared.command_line.Command.{Command}
 use Rattle.boot_core.specs.declared.command_line.Command.TheVariants.{Boot, Audit}
@@ -28,7 +28,7 @@ use Rattle.boot_core.specs.Refusing.{refusal_status}
 use Rattle.boot_core.specs.declared.generated.TheConstants.{FUEL}
 use Rattle.std.proofs.lemmas.Fmt.{decimal_injective}
 use Rattle.boot_core.specs.BootEnd.{status_of}
-use Rattle.whole_boot.specs.BootEnd.{end_of}
+use Rattle.boot_core.specs.WholeEnd.{end_of}
 use Rattle.boot_core.specs.Causes.{AreTold, IsToldAsBytes, IsVolumeName, TextNames, LeadsTo, IsStopped, ComesExactly}
 use Rattle.pi_base.specs.Lists.{Each}
 use Rattle.pi_base.specs.Field.{AreBytes}

@@ -2,9 +2,9 @@
 use Rattle.std.proofs.Common.{ℕ, List, None, Err, refl, subst, inl}
 use Rattle.boot_plan.specs.declared.plan.Plan.{Plan}
 use Rattle.boot_model.specs.declared.line.Line.{Line}
-use Rattle.plan_files.specs.declared.reading.NoJob.{NoJob}
-use Rattle.plan_files.specs.declared.reading.NoJob.TheVariants as N
-use Rattle.plan_files.specs.Reading.{Lacks}
+use Rattle.boot_core.specs.declared.plan_files.reading.NoJob.{NoJob}
+use Rattle.boot_core.specs.declared.plan_files.reading.NoJob.TheVariants as N
+use Rattle.boot_core.specs.Reading.{Lacks}
 use Rattle.boot_core.specs.BootEnd.{status_of}
 use Rattle.boot_core.specs.Examining.{AreRefused, IsJob}
 use Rattle.boot_core.specs.GeneratedOutcome.{GeneratedOutcome, SummaryOutcome, generated_images, generated_plan, summary_text}

@@ -3,7 +3,7 @@ use Rattle.std.proofs.Common.{ℕ, Bool, false, List, Option, Result, Ok, Err, I
 use Rattle.boot_io.specs.declared.halt.Halt.{Halt}
 use Rattle.boot_io.specs.declared.halt.Halt.TheVariants as H
 use Rattle.boot_io.proofs.PutsLaws.{appends_none}
-use Rattle.catalog_model.specs.declared.catalog.Catalog.{Catalog}
+use Rattle.mod_catalog.specs.declared.catalogue.Catalog.{Catalog}
 use Rattle.store_model.specs.StoreState.{Board}
 use Rattle.mem_store.specs.declared.store.MemStore.{MemStore}
 use Rattle.boot_core.specs.declared.plan_boot.Booted.{Booted}
@@ -12,8 +12,8 @@ use Rattle.boot_core.specs.Handing.{IsBooted}
 use Rattle.boot_core.specs.Outcome.{EndsBy, Kind, OfFiles, OfSink, OfMemory, OfAnswer, Trail, kind_of}
 use Rattle.boot_trace.specs.Printing.{Texts}
 use Rattle.boot_core.specs.Wanting.{IsWantedOutsidePei}
-use Rattle.whole_boot.specs.declared.boot.Ran.{Ran}
-use Rattle.whole_boot.specs.FirstBoot.{WantsOutsidePei}
+use Rattle.boot_core.specs.declared.whole.boot.Ran.{Ran}
+use Rattle.boot_core.specs.FirstBoot.{WantsOutsidePei}
 use Rattle.boot_core.proofs.Causes.{none_of}
 use Rattle.boot_core.proofs.RunEnds.{answer_of}
 

@@ -1,12 +1,12 @@
 -- The words of a boot of a plan and images without a fault lead to its run alone.
 use Rattle.std.proofs.Common.{◌≡◌, ℕ, List, Option, refl, ap, ◌∙◌, subst, inl, inr}
 use Rattle.boot_plan.specs.declared.plan.Plan.{Plan}
-use Rattle.catalog_model.specs.declared.catalog.Catalog.{Catalog}
-use Rattle.catalog_model.specs.Catalogue.{IsCatalogue}
+use Rattle.mod_catalog.specs.declared.catalogue.Catalog.{Catalog}
+use Rattle.mod_catalog.specs.Catalogue.{IsCatalogue}
 use Rattle.pi_base.specs.Field.{AreBytes}
 use Rattle.pi_base.specs.Lists.{Each}
-use Rattle.plan_files.specs.declared.job.Job.{Job}
-use Rattle.plan_files.specs.Job.{IsJob, IsRefusal}
+use Rattle.boot_core.specs.declared.plan_files.job.Job.{Job}
+use Rattle.boot_core.specs.Job.{IsJob, IsRefusal}
 use Rattle.boot_core.specs.declared.status.Status.{Status}
 use Rattle.boot_core.specs.declared.status.Status.TheVariants as V
 use Rattle.boot_core.specs.declared.command_line.Command.TheVariants.{Boot}

@@ -1,6 +1,6 @@
 -- The words of a command line: what is asked for, and the name of a plan's file, or the number of modules of a generated volume.
 use Rattle.std.specs.Prelude.{◌≡◌, ◌≢◌, ◌≤◌, ℕ, List, [], ◌∷◌, codes, decimal}
-use Rattle.fv_build.specs.declared.generated.TheConstants.{MOST_MODULES}
+use Rattle.fv_volume.specs.declared.build.generated.TheConstants.{MOST_MODULES}
 use Rattle.boot_core.specs.declared.command_line.Command.{Command}
 use Rattle.boot_core.specs.declared.command_line.Command.TheVariants.{Boot, Audit}
 

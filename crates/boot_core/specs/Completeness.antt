@@ -4,9 +4,9 @@ use Rattle.std.specs.Prelude.{◌≡◌, ◌⊎◌, ℕ, List, Option}
 use Rattle.std.specs.Io.KnownBytes.{Appends}
 use Rattle.boot_io.specs.Faults.{Rose}
 use Rattle.boot_plan.specs.declared.plan.Plan.{Plan}
-use Rattle.catalog_model.specs.declared.catalog.Catalog.{Catalog}
-use Rattle.catalog_model.specs.Catalogue.{IsCatalogue}
-use Rattle.plan_files.specs.Job.{IsJob}
+use Rattle.mod_catalog.specs.declared.catalogue.Catalog.{Catalog}
+use Rattle.mod_catalog.specs.Catalogue.{IsCatalogue}
+use Rattle.boot_core.specs.Job.{IsJob}
 use Rattle.boot_core.specs.declared.command_line.Command.TheVariants.{Boot}
 use Rattle.boot_core.specs.declared.status.Status.{Status}
 use Rattle.boot_core.specs.declared.status.Status.TheVariants.{Memory}

@@ -1,12 +1,12 @@
 -- What a command line comes to, by the files that are read, before anything is put: what is asked for, with all that it takes, or the line of a refusal.
 -- Own.
 use Rattle.std.specs.Prelude.{◌≡◌, ℕ, ◌≤◌, List, Option, length, ⊤}
-use Rattle.fv_build.specs.declared.generated.TheConstants.{MOST_MODULES}
+use Rattle.fv_volume.specs.declared.build.generated.TheConstants.{MOST_MODULES}
 use Rattle.boot_plan.specs.Range.{IsPlanInRange}
 use Rattle.boot_model.specs.declared.line.Line.{Line}
 use Rattle.boot_model.specs.declared.line.Line.TheVariants as L
-use Rattle.plan_files.specs.declared.job.Job.{Job}
-use Rattle.plan_files.specs.Job.{IsJob, IsNamed, IsRefusal}
+use Rattle.boot_core.specs.declared.plan_files.job.Job.{Job}
+use Rattle.boot_core.specs.Job.{IsJob, IsNamed, IsRefusal}
 use Rattle.boot_core.specs.declared.command_line.Command.{Command}
 use Rattle.boot_core.specs.declared.command_line.Command.TheVariants as C
 use Rattle.boot_core.specs.declared.deciding.Asked.{Asked}

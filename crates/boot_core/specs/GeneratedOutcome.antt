@@ -5,8 +5,8 @@ use Rattle.std.proofs.Math.Dec.{lit≤}
 use Rattle.pi_base.specs.Field.{AreBytes}
 use Rattle.boot_io.specs.Line.{line_of}
 use Rattle.boot_plan.specs.declared.plan.Plan.{Plan}
-use Rattle.fv_build.specs.Generated.{generated}
-use Rattle.catalog_model.specs.declared.catalog.Catalog.{Catalog}
+use Rattle.fv_volume.specs.Generated.{generated}
+use Rattle.mod_catalog.specs.declared.catalogue.Catalog.{Catalog}
 use Rattle.store_model.specs.StoreState.{Board, next_body}
 use Rattle.boot_model.specs.declared.line.Line.TheVariants as L
 use Rattle.boot_model.specs.declared.line.RunEnd.{RunEnd}
@@ -20,7 +20,7 @@ use Rattle.boot_core.specs.declared.status.Status.{Status}
 use Rattle.boot_core.specs.declared.summary.SummaryLine.{SummaryLine}
 use Rattle.boot_core.specs.declared.summary.SummaryLine.TheVariants as S
 use Rattle.boot_core.specs.BootEnd.{status_of}
-use Rattle.whole_boot.specs.BootEnd.{end_of}
+use Rattle.boot_core.specs.WholeEnd.{end_of}
 use Rattle.boot_core.specs.ImagesOutcome.{ImagesOutcome}
 
 -- the plan of a generated volume: memory, the volume, and the fuel

@@ -1,10 +1,10 @@
 -- What the images of a plan lead to: the refusal of their first fault, or what their catalogue leads to.
 use Rattle.std.specs.Prelude.{◌≡◌, ℕ, List, Some}
 use Rattle.boot_plan.specs.declared.plan.Plan.{Plan}
-use Rattle.catalog_model.specs.declared.catalog.Catalog.{Catalog}
-use Rattle.catalog_model.specs.declared.image_fault.ImageFault.{ImageFault}
-use Rattle.catalog_model.specs.Catalogue.{IsCatalogue}
-use Rattle.catalog_model.specs.ImageFault.{IsImageFault}
+use Rattle.mod_catalog.specs.declared.catalogue.Catalog.{Catalog}
+use Rattle.mod_catalog.specs.declared.image_fault.ImageFault.{ImageFault}
+use Rattle.mod_catalog.specs.Catalogue.{IsCatalogue}
+use Rattle.mod_catalog.specs.ImageFault.{IsImageFault}
 use Rattle.boot_model.specs.declared.line.RunEnd.{RunEnd}
 use Rattle.boot_model.specs.PlanBoard.{board_of}
 use Rattle.boot_model.specs.Text.{line_text}
@@ -14,7 +14,7 @@ use Rattle.boot_core.specs.declared.command_line.Command.{Command}
 use Rattle.boot_core.specs.declared.command_line.Command.TheVariants.{Boot, Audit}
 use Rattle.boot_core.specs.AuditText.{audit_text}
 use Rattle.boot_core.specs.BootEnd.{status_of}
-use Rattle.whole_boot.specs.BootEnd.{end_of, boot_text}
+use Rattle.boot_core.specs.WholeEnd.{end_of, boot_text}
 use Rattle.boot_core.specs.Refusing.{image_line}
 
 -- what a boot leads to: its result and its whole text, by the plan's board

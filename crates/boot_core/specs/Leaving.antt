@@ -3,7 +3,7 @@
 use Rattle.std.specs.Prelude.{◌≡◌, ℕ, List, Option, Result}
 use Rattle.boot_io.specs.declared.sink.SinkFault.{SinkFault}
 use Rattle.boot_io.specs.Output.{HasLeftBy}
-use Rattle.plan_files.specs.Reading.{FilesTrail}
+use Rattle.boot_core.specs.Reading.{FilesTrail}
 use Rattle.boot_core.specs.declared.status.Status.{Status}
 use Rattle.boot_core.specs.declared.status.Status.TheVariants.{Memory}
 use Rattle.boot_core.specs.Causes.{ComesExactly}

@@ -2,23 +2,28 @@
 -- Own.
 use Rattle.std.specs.Prelude.{◌≡◌, ℕ, Some, Result, Ok, Err, ⊤}
 use Rattle.pi_base.specs.Field.{AreBytes}
-use Rattle.fv_build.specs.Generated.{generated}
-use Rattle.catalog_model.specs.declared.catalog.Catalog.{Catalog}
-use Rattle.catalog_model.specs.Catalogue.{IsCatalogue}
+use Rattle.fv_volume.specs.Generated.{generated}
+use Rattle.mod_catalog.specs.declared.catalogue.Catalog.{Catalog}
+use Rattle.mod_catalog.specs.Catalogue.{IsCatalogue}
 use Rattle.boot_model.specs.declared.line.Line.{Line}
 use Rattle.boot_model.specs.PeiRun.{pei_end}
-use Rattle.plan_files.specs.declared.reading.NoJob.{NoJob}
-use Rattle.plan_files.specs.declared.reading.NoJob.TheVariants.{Refused, Memory}
+use Rattle.store_model.specs.StoreState.{Board}
+use Rattle.boot_core.specs.declared.plan_files.reading.NoJob.{NoJob}
+use Rattle.boot_core.specs.declared.plan_files.reading.NoJob.TheVariants.{Refused, Memory}
 use Rattle.boot_core.specs.declared.generated.Summary.{Summary}
 use Rattle.boot_core.specs.declared.generated.TheConstants.{FUEL}
-use Rattle.whole_boot.specs.BootEnd.{end_of}
+use Rattle.boot_core.specs.WholeEnd.{end_of}
 use Rattle.boot_core.specs.Examining.{IsImageRefusal}
 use Rattle.boot_core.specs.GeneratedOutcome.{generated_board, generated_images, generated_plan, summary_lines}
 
+-- the summary of a boot of n modules over a board
+pub record IsSummaryBy (n : ℕ) (board : Board) (catalog : Catalog) (fuel : ℕ) (summary : Summary) : Type 0 where
+  pub ended : end_of board catalog fuel ≡ Some summary.«end»
+  pub lines_are : summary.lines ≡ summary_lines n catalog (pei_end board catalog fuel) summary.«end»
+
 -- the summary of the boot of n modules that have this catalogue
-pub record IsSummary (n : ℕ) (catalog : Catalog) (summary : Summary) : Type 0 where
-  pub ended : end_of (generated_board n catalog) catalog FUEL ≡ Some summary.«end»
-  pub lines_are : summary.lines ≡ summary_lines n catalog (pei_end (generated_board n catalog) catalog FUEL) summary.«end»
+abbrev pub IsSummary : ℕ → Catalog → Summary → Type 0
+IsSummary n catalog summary = IsSummaryBy n (generated_board n catalog) catalog FUEL summary
 
 -- the summary of the boot of n modules
 pub record IsSummaryOf (n : ℕ) (summary : Summary) : Type 0 where

@@ -3,14 +3,14 @@
 use Rattle.std.specs.Prelude.{◌⊎◌, ℕ, List, [], ◌++◌, Option}
 use Rattle.std.specs.Io.KnownBytes.{Appends}
 use Rattle.boot_plan.specs.declared.plan.Plan.{Plan}
-use Rattle.catalog_model.specs.declared.catalog.Catalog.{Catalog}
-use Rattle.catalog_model.specs.Catalogue.{IsCatalogue}
+use Rattle.mod_catalog.specs.declared.catalogue.Catalog.{Catalog}
+use Rattle.mod_catalog.specs.Catalogue.{IsCatalogue}
 use Rattle.boot_model.specs.PeiRun.{pei_end}
 use Rattle.boot_model.specs.PlanBoard.{board_of}
 use Rattle.boot_model.specs.Text.{text_of}
 use Rattle.boot_trace.specs.Printing.{Texts}
-use Rattle.plan_files.specs.declared.job.Job.{Job}
-use Rattle.plan_files.specs.Job.{IsJob}
+use Rattle.boot_core.specs.declared.plan_files.job.Job.{Job}
+use Rattle.boot_core.specs.Job.{IsJob}
 use Rattle.boot_core.specs.declared.command_line.Command.TheVariants.{Boot}
 use Rattle.boot_core.specs.declared.deciding.Asked.{Asked}
 use Rattle.boot_core.specs.declared.deciding.Asked.TheVariants as A

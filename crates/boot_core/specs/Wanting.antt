@@ -2,13 +2,13 @@
 -- Own.
 use Rattle.std.specs.Prelude.{ℕ, List, ⊤}
 use Rattle.boot_plan.specs.declared.plan.Plan.{Plan}
-use Rattle.catalog_model.specs.declared.catalog.Catalog.{Catalog}
-use Rattle.catalog_model.specs.Catalogue.{IsCatalogue}
+use Rattle.mod_catalog.specs.declared.catalogue.Catalog.{Catalog}
+use Rattle.mod_catalog.specs.Catalogue.{IsCatalogue}
 use Rattle.store_model.specs.StoreState.{Board}
 use Rattle.boot_model.specs.PlanBoard.{board_of}
 use Rattle.boot_core.specs.Outcome.{Kind, OfFiles, OfSink, OfMemory, OfAnswer}
 use Rattle.boot_trace.specs.Printing.{Texts}
-use Rattle.whole_boot.specs.FirstBoot.{IsOutsidePei}
+use Rattle.boot_core.specs.FirstBoot.{IsOutsidePei}
 
 -- by the kind of its status
 abbrev pub IsWantedOutsidePei : Kind → Board → Catalog → ℕ → Texts → Type 0

@@ -1,15 +1,15 @@
 // The text of an audit.
 ghost use Rattle.std.specs.Prelude.{◌≡◌, ◌≤◌, length};
 ghost use Rattle.boot_io.specs.Sink.{Puts, SinkFaultsAfter};
-ghost use Rattle.catalog_model.specs.declared.limits.TheConstants.{MOST_MODULES, MOST_VOLUMES};
+ghost use Rattle.mod_catalog.specs.declared.limits.TheConstants.{MOST_MODULES, MOST_VOLUMES};
 ghost use Rattle.boot_model.specs.Audit.{expression_word, part_word, part_rank};
 ghost use Rattle.boot_core.specs.AuditText.{audit_text, volume_text, module_text, text_in, members_text, entry_text, entries_text, done_line};
 
 use boot_io::{Sink, SinkFault};
 use boot_model::{ExpressionWord, Line, RunEnd};
 use boot_trace::put;
-use catalog_model::{Catalog, Module, Part, PartExpr, VolumeEntry};
 use depex_code::Depex;
+use mod_catalog::{Catalog, Module, Part, PartExpr, VolumeEntry};
 
 // How an expression is shown.
 fn expression_word(expression: &PartExpr) -> ExpressionWord

@@ -3,7 +3,7 @@ ghost use Rattle.std.specs.Prelude.{◌≡◌, ◌≢◌, ◌↔◌, ℕ, List, 
 ghost use Rattle.boot_core.specs.CommandLine.{AskFor, AskForGenerated, IsCount, NameNoPlan, verb_of};
 ghost use Rattle.boot_io.specs.Words.{words_of};
 
-use fv_build::MOST_MODULES;
+use fv_volume::build::MOST_MODULES;
 use pi_base::decimal;
 
 /// What is asked for.

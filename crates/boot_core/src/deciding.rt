@@ -2,12 +2,12 @@
 ghost use Rattle.std.specs.Prelude.{◌≡◌, IfOk};
 ghost use Rattle.boot_io.specs.Words.{words_of};
 ghost use Rattle.boot_core.specs.Deciding.{CanBeDone, IsAsked, IsRefused, IsSoundJob, Names, asked_of};
-ghost use Rattle.plan_files.specs.Reading.{Reads};
+ghost use Rattle.boot_core.specs.Reading.{Reads};
 
 use crate::command_line::{Command, asked_number, asked_plan};
+use crate::plan_files::{Job, NoJob, read_job};
 use boot_io::Files;
 use boot_model::Line;
-use plan_files::{Job, NoJob, read_job};
 use std::alloc::Global;
 
 /// What is asked for, with all that it takes.

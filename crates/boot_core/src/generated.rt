@@ -1,27 +1,35 @@
 // The boot of a generated volume.
-ghost use Rattle.std.specs.Prelude.{◌≡◌, ◌≤◌, None, IfOk};
+ghost use Rattle.std.specs.Prelude.{◌≡◌, ◌≤◌, ℕ, None, IfOk, length};
 ghost use Rattle.pi_base.specs.Field.{AreBytes};
 ghost use Rattle.boot_core.specs.Examining.{IsExamined, IsJob};
 ghost use Rattle.boot_core.specs.GeneratedOutcome.{GeneratedOutcome, generated_images, generated_plan};
 ghost use Rattle.boot_core.specs.Outcome.{Ends};
-ghost use Rattle.boot_core.specs.Summing.{IsSummary, SumsUp};
-ghost use Rattle.fv_build.specs.Generated.{generated};
+ghost use Rattle.boot_core.specs.FirstBoot.{IsRun};
+ghost use Rattle.boot_core.specs.Summing.{IsSummary, IsSummaryBy, SumsUp};
+ghost use Rattle.fv_volume.specs.Generated.{generated};
+ghost use Rattle.mod_catalog.specs.declared.catalogue.Catalog.{Catalog as Cat};
+ghost use Rattle.mod_catalog.specs.WellFormed.{IsWellFormed};
+ghost use Rattle.store_model.specs.Service.{Present};
+ghost use Rattle.store_model.specs.StoreCall.{Anything};
+ghost use Rattle.store_model.specs.StoreState.{Board, empty_store};
 
 use crate::answer::answer;
 use crate::images::examine;
 use crate::nowhere::Nowhere;
-use crate::plan_boot::boot_plan;
+use crate::plan_boot::store_of;
+use crate::plan_files::NoJob;
 use crate::refusal::refuse;
 use crate::status::{Status, status_of};
 use crate::summary::{SummaryLine, put_summary, summary_of};
+use crate::whole::{Ran, boot_store};
 use boot_io::{Halt, Sink};
 use boot_model::RunEnd;
 use boot_plan::{Plan, PlanVolume};
-use catalog_model::Catalog;
-use fv_build::{MOST_MODULES, generate};
+use fv_volume::build::{MOST_MODULES, generate};
+use mod_catalog::Catalog;
 use pi_base::{OutOfMemory, Seq, Span};
-use plan_files::NoJob;
 use std::alloc::Global;
+use store_model::PeiStore;
 
 /// Temporary RAM of a generated volume's boot.
 pub(crate) const TEMP_BASE: u64 = 0x8000_0000;
@@ -103,6 +111,37 @@ struct Summary {
     end: RunEnd,
 }
 
+// The summary of a boot of n modules that came to its end.
+fn summary_by<M: PeiStore + Drop>(n: u32, ran: &Ran<M>) -> Summary
+    requires state { Present (M.stands_for ran.now.pei.store) Anything }
+    ensures { (board : Board) (catalog : Cat) (fuel : ℕ) → IsRun M.stands_for board catalog fuel ran.now → IsSummaryBy n board catalog fuel result }
+{
+    Summary {
+        lines: summary_of(n, &ran.pei, ran.end),
+        end: ran.end,
+    }
+}
+
+// Boots n modules over a store that is as it was made, and sums that boot up.
+fn sum_up_on<M: PeiStore + Drop>(
+    alloc: Global,
+    n: u32,
+    store: M,
+    catalog: &Catalog,
+    fuel: u32,
+) -> Result<Summary, OutOfMemory>
+    requires catalog { IsWellFormed catalog.now }
+    requires some { 1 ≤ length catalog.now.volumes }
+    requires opening { (board : Board) × M.stands_for store (empty_store board) }
+    ensures { (board : Board) → M.stands_for store (empty_store board) → IfOk result (IsSummaryBy n board catalog.now fuel) }
+{
+    match boot_store(alloc, store, catalog, fuel, &mut Nowhere) {
+        Ok(ran) => Ok(summary_by(n, &ran)),
+        Err(Halt::Sink) => unreachable!(),
+        Err(Halt::Memory) => Err(OutOfMemory),
+    }
+}
+
 // Boots the generated volume of n modules, whose images have this catalogue, and sums that boot up.
 fn sum_up(
     alloc: Global,
@@ -115,14 +154,23 @@ fn sum_up(
     requires examined { IsExamined plan.now images catalog.now }
     ensures { IfOk result (IsSummary n catalog.now) }
 {
-    match boot_plan(alloc, plan, catalog, images, &mut Nowhere) {
-        Ok(ran) => Ok(Summary {
-            lines: summary_of(n, &ran.pei, ran.end),
-            end: ran.end,
-        }),
-        Err(Halt::Sink) => unreachable!(),
-        Err(Halt::Memory) => Err(OutOfMemory),
-    }
+    let store = store_of(alloc, plan, catalog, images)?;
+    sum_up_on(alloc, n, store, catalog, plan.fuel)
+}
+
+// Examines the images of the generated volume's plan, and then boots them and sums that boot up.
+fn sum_up_examined(
+    alloc: Global,
+    n: u32,
+    plan: &Plan,
+    images: Seq<Seq<u8>>,
+) -> Result<Summary, NoJob>
+    requires job { IsJob n plan.now images }
+    ensures { SumsUp n result }
+{
+    let catalog = examine(alloc, plan, images.as_slice())?;
+    let summary = sum_up(alloc, n, plan, &catalog, images)?;
+    Ok(summary)
 }
 
 // Examines the generated volume of n modules, and then boots it and sums that boot up.
@@ -132,9 +180,7 @@ fn summarize(alloc: Global, n: u32) -> Result<Summary, NoJob>
     ensures { SumsUp n result }
 {
     let (plan, images) = job(alloc, n)?;
-    let catalog = examine(alloc, &plan, images.as_slice())?;
-    let summary = sum_up(alloc, n, &plan, &catalog, images)?;
-    Ok(summary)
+    sum_up_examined(alloc, n, &plan, images)
 }
 
 /// Boots the generated volume of n modules, and puts the summary of the boot in place of its lines.

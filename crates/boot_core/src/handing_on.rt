@@ -4,27 +4,27 @@ ghost use Rattle.boot_model.specs.PeiMachine.{PeiMachine};
 ghost use Rattle.boot_model.specs.PeiRun.{pei_end};
 ghost use Rattle.boot_model.specs.PlanBoard.{board_of};
 ghost use Rattle.boot_plan.specs.Range.{IsPlanInRange};
-ghost use Rattle.catalog_model.specs.WellFormed.{IsWellFormed};
-ghost use Rattle.mem_store.specs.MemState.{StandsFor};
+ghost use Rattle.mod_catalog.specs.WellFormed.{IsWellFormed};
 ghost use Rattle.store_model.specs.Service.{Present};
 ghost use Rattle.store_model.specs.StateFacts.{IsBoard};
+ghost use Rattle.store_model.specs.StoreState.{Board, empty_store};
 ghost use Rattle.store_model.specs.StoreCall.{Anything};
 ghost use Rattle.boot_core.specs.Examining.{AreRefused};
 ghost use Rattle.boot_core.specs.HandOff.{result_of, HandsOn, IsHandOff};
 
 use crate::images::examine;
 use crate::nowhere::Nowhere;
+use crate::plan_boot::store_of;
+use crate::plan_files::NoJob;
 use boot_io::Halt;
 use boot_model::{PeiEnd, RunEnd};
 use boot_plan::Plan;
 use boot_trace::hob_list;
-use catalog_model::Catalog;
-use mem_store::MemStore;
+use mod_catalog::Catalog;
 use pei_dispatch::{Ended, boot_first_pei};
 use pi_base::{OutOfMemory, Seq};
-use plan_files::NoJob;
 use std::alloc::Global;
-use whole_boot::roms;
+use store_model::PeiStore;
 
 /// What PEI leaves at its end.
 #[derive(Drop)]
@@ -49,14 +49,33 @@ fn result_of(end: PeiEnd) -> Option<RunEnd>
 }
 
 // What a PEI that has ended hands on.
-fn handed_by(alloc: Global, pei: &Ended<MemStore>) -> Result<HandOff, OutOfMemory>
-    requires state { Present (StandsFor pei.now.store) Anything }
+fn handed_by<M: PeiStore + Drop>(alloc: Global, pei: &Ended<M>) -> Result<HandOff, OutOfMemory>
+    requires state { Present (M.stands_for pei.now.store) Anything }
     ensures { IfOk result
-        (λ handed. (m : PeiMachine) → StandsFor pei.now.store m.store → m.ended ≡ Some pei.now.end → HandsOn m handed) }
+        (λ handed. (m : PeiMachine) → M.stands_for pei.now.store m.store → m.ended ≡ Some pei.now.end → HandsOn m handed) }
 {
     match result_of(pei.end) {
         Some(end) => Ok(HandOff::Ended(end)),
         None => Ok(HandOff::Hobs(hob_list(alloc, &pei.store)?)),
+    }
+}
+
+// PEI over a store that is as it was made.
+fn run_pei_on<M: PeiStore + Drop>(
+    alloc: Global,
+    store: M,
+    catalog: &Catalog,
+    fuel: u32,
+) -> Result<HandOff, OutOfMemory>
+    requires catalog { IsWellFormed catalog.now }
+    requires some { 1 ≤ length catalog.now.volumes }
+    requires opening { (board : Board) × M.stands_for store (empty_store board) }
+    ensures { (board : Board) → M.stands_for store (empty_store board) → IfOk result (HandsOn (pei_end board catalog.now fuel)) }
+{
+    match boot_first_pei(alloc, store, catalog, fuel, &mut Nowhere) {
+        Ok(ended) => handed_by(alloc, &ended),
+        Err(Halt::Sink) => unreachable!(),
+        Err(Halt::Memory) => Err(OutOfMemory),
     }
 }
 
@@ -72,13 +91,8 @@ fn run_pei(
     requires some { 1 ≤ length catalog.now.volumes }
     ensures { IfOk result (HandsOn (pei_end (board_of plan.now catalog.now images) catalog.now plan.now.fuel)) }
 {
-    let roms = roms(alloc, catalog.volumes.as_slice(), images)?;
-    let store = MemStore::new(alloc, plan.temp, plan.pages, plan.ram, roms)?;
-    match boot_first_pei(alloc, store, catalog, plan.fuel, &mut Nowhere) {
-        Ok(ended) => handed_by(alloc, &ended),
-        Err(Halt::Sink) => unreachable!(),
-        Err(Halt::Memory) => Err(OutOfMemory),
-    }
+    let store = store_of(alloc, plan, catalog, images)?;
+    run_pei_on(alloc, store, catalog, plan.fuel)
 }
 
 /// What PEI hands to DXE in the boot of a plan and its images: the HOB list, or the result of a boot that ends in PEI. Nothing is put.

@@ -10,16 +10,17 @@ ghost use Rattle.boot_core.specs.Wanting.{IsWantedOutsidePeiOf};
 use crate::answer::answer;
 use crate::audit_print::put_audit;
 use crate::plan_boot::{Booted, boot_catalog};
+use crate::plan_files::NoJob;
 use crate::refusal::refuse;
 use crate::status::Status;
 use boot_io::Sink;
 use boot_laws::boards_are_sound;
 use boot_model::Line;
 use boot_plan::Plan;
-use catalog_model::{Catalog, ImageCause, ImageFault, catalogues_are_well_formed, one_catalogue};
-use mod_catalog::catalog;
+use mod_catalog::{
+    Catalog, ImageCause, ImageFault, catalog, catalogues_are_well_formed, one_catalogue,
+};
 use pi_base::Seq;
-use plan_files::NoJob;
 use std::alloc::Global;
 
 // The refusal of an image, or want of memory.

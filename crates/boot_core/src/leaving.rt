@@ -8,7 +8,7 @@ use crate::boot::boot_main;
 use crate::status::Status;
 use boot_io::{Files, RealSink};
 use boot_plan::one_reading;
-use catalog_model::one_catalogue;
+use mod_catalog::one_catalogue;
 use pi_base::OutOfMemory;
 use std::alloc::Global;
 use std::io::Write;

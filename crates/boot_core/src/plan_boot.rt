@@ -1,25 +1,25 @@
 // The boot of a plan whose images have a catalogue.
-ghost use Rattle.std.specs.Prelude.{◌≤◌, [], IfErr, None, false, length, ⊤};
+ghost use Rattle.std.specs.Prelude.{◌≤◌, IfErr, IfOk, None, false, length, ⊤};
 ghost use Rattle.store_model.specs.StateFacts.{IsBoard};
+ghost use Rattle.store_model.specs.StoreState.{empty_store};
 ghost use Rattle.mem_store.specs.MemState.{StandsFor};
 ghost use Rattle.boot_model.specs.PlanBoard.{board_of};
-ghost use Rattle.catalog_model.specs.WellFormed.{IsWellFormed};
+ghost use Rattle.mod_catalog.specs.WellFormed.{IsWellFormed};
 ghost use Rattle.boot_core.specs.Handing.{HandsBack, IsBooted};
 ghost use Rattle.boot_core.specs.Outcome.{Ends, BootOutcome, kind_of};
 ghost use Rattle.boot_core.specs.Wanting.{IsWantedOutsidePei};
-ghost use Rattle.whole_boot.specs.FirstBoot.{RunsTo, WantsOutsidePei};
+ghost use Rattle.boot_core.specs.FirstBoot.{RunsTo, WantsOutsidePei};
 ghost use Rattle.boot_io.specs.Halted.{HaltsAfter};
 
 use crate::status::{Status, status_of};
+use crate::whole::{Ran, boot_store, roms};
 use boot_io::{Halt, Sink};
 use boot_laws::{dxe_runs_end, pei_runs_end};
 use boot_plan::Plan;
-use catalog_model::Catalog;
 use mem_store::MemStore;
-use phys_mem::Rom;
-use pi_base::Seq;
+use mod_catalog::Catalog;
+use pi_base::{OutOfMemory, Seq};
 use std::alloc::Global;
-use whole_boot::{Ran, boot_store, roms};
 
 /// What a boot answers.
 #[derive(Drop)]
@@ -50,30 +50,22 @@ fn answer_run(ran: Result<Ran<MemStore>, Halt>) -> Booted
     }
 }
 
-// Boots a plan whose volumes are mapped so.
-fn boot_board<S: Sink>(
+/// The store of a plan as it is made, with the images mapped as the catalogue says.
+pub(crate) fn store_of(
     alloc: Global,
     plan: &Plan,
     catalog: &Catalog,
-    roms: Seq<Rom>,
-    sink: &mut S,
-) -> Result<Ran<MemStore>, Halt>
-    requires board { IsBoard (record (board_of plan.now catalog.now []) { roms = roms }) }
-    requires catalog { IsWellFormed catalog.now }
-    requires some { 1 ≤ length catalog.now.volumes }
-    ensures row { RunsTo StandsFor (record (board_of plan.now catalog.now []) { roms = roms }) catalog.now plan.now.fuel
-        (record { old = S.text sink.old; new = S.text sink.new }) result }
-    ensures memory { IfErr result
-        (WantsOutsidePei false (record (board_of plan.now catalog.now []) { roms = roms }) catalog.now plan.now.fuel
-        (record { old = S.text sink.old; new = S.text sink.new })) }
-    ensures faults { HaltsAfter result (S.faults sink.old) (S.faults sink.new) }
+    images: Seq<Seq<u8>>,
+) -> Result<MemStore, OutOfMemory>
+    requires { IsBoard (board_of plan.now catalog.now images) }
+    ensures { IfOk result (λ store. StandsFor store (empty_store (board_of plan.now catalog.now images))) }
 {
-    let store = MemStore::new(alloc, plan.temp, plan.pages, plan.ram, roms)?;
-    boot_store(alloc, store, catalog, plan.fuel, sink)
+    let roms = roms(alloc, catalog.volumes.as_slice(), images)?;
+    MemStore::new(alloc, plan.temp, plan.pages, plan.ram, roms)
 }
 
-/// Boots a plan whose images have this catalogue, from its first line to its last.
-pub(crate) fn boot_plan<S: Sink>(
+// Boots a plan whose images have this catalogue, from its first line to its last.
+fn boot_plan<S: Sink>(
     alloc: Global,
     plan: &Plan,
     catalog: &Catalog,
@@ -89,8 +81,8 @@ pub(crate) fn boot_plan<S: Sink>(
         (record { old = S.text sink.old; new = S.text sink.new })) }
     ensures faults { HaltsAfter result (S.faults sink.old) (S.faults sink.new) }
 {
-    let roms = roms(alloc, catalog.volumes.as_slice(), images)?;
-    boot_board(alloc, plan, catalog, roms, sink)
+    let store = store_of(alloc, plan, catalog, images)?;
+    boot_store(alloc, store, catalog, plan.fuel, sink)
 }
 
 /// Boots a plan whose images have this catalogue, and answers the status of its run, with the store.

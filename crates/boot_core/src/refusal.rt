@@ -3,11 +3,11 @@ ghost use Rattle.std.specs.Prelude.{◌≡◌};
 ghost use Rattle.boot_core.specs.Refusing.{IsTold, refusal_status};
 
 use crate::answer::answer;
+use crate::plan_files::NoJob;
 use crate::status::Status;
 use boot_io::Sink;
 use boot_model::Line;
 use boot_trace::put;
-use plan_files::NoJob;
 
 // The status of a refusal's line. That of the words is the last: no other line is one of a refusal.
 fn refusal_status(line: &Line) -> Status

@@ -2,7 +2,7 @@
 use Rattle.std.proofs.Common.{◌≡◌, ℕ, zero, suc, ◌+◌, ◌≤◌, ◌<◌, Bool, true, false, not, ◌||◌, List, [], ◌∷◌, refl, ap, arith, ◌==◌, inl, inr, ◌⊎◌, subst, lit≤}
 use Rattle.std.proofs.lemmas.Bool.Decides.{nat_tests}
 use Rattle.pi_base.specs.Lists.{numbers}
-use Rattle.catalog_model.specs.Parts.{has_number}
+use Rattle.mod_catalog.specs.Parts.{has_number}
 
 abbrev pub one_if : Bool → ℕ
 one_if true = 1

@@ -4,7 +4,7 @@ use Rattle.std.specs.Prelude.{◌≢◌, ⊤}
 use Rattle.pi_base.specs.declared.word.Word.{Word}
 use Rattle.pi_base.specs.declared.word.Word.TheVariants.{Success}
 use Rattle.act_code.specs.declared.action.Action.{Action}
-use Rattle.catalog_model.specs.declared.catalog.Catalog.{Catalog}
+use Rattle.mod_catalog.specs.declared.catalogue.Catalog.{Catalog}
 use Rattle.boot_model.specs.DxeMachine.{DxeMachine, DriverFrame}
 use Rattle.boot_model.specs.DxeAction.{DxeReply, DxeEffect, Wrote, Called, Logged, Skipped, Returned, Own, dxe_effect, dxe_refusal}
 use Rattle.boot_laws.specs.DriverSteps.{IsWithoutEffect, BeginsWith, ChangesNothingIfRefused, RefusedCallsChangeNothing}

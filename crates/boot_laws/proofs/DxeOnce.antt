@@ -1,16 +1,16 @@
 -- No driver starts twice: each machine of a run keeps its queue without one.
 use Rattle.std.proofs.Common.{◌≡◌, ℕ, zero, suc, Bool, true, false, cond, List, [], ◌∷◌, ◌++◌, Option, Some, None, refl, sym, subst, ap, ◌∙◌, inl, inr, nat_le, length}
 use Rattle.std.specs.Prelude.{flat_map}
-use Rattle.catalog_model.specs.declared.catalog.Catalog.{Catalog}
-use Rattle.catalog_model.specs.declared.catalog.Part.{Part}
+use Rattle.mod_catalog.specs.declared.catalogue.Catalog.{Catalog}
+use Rattle.mod_catalog.specs.declared.catalogue.Part.{Part}
 use Rattle.boot_model.specs.DxeMachine.{DriverFrame}
 use Rattle.boot_model.specs.declared.driver.Scheduled.{Scheduled}
 use Rattle.pi_base.specs.declared.phase.Phase.TheVariants.{Dxe}
 use Rattle.store_model.specs.StoreState.{StoreState}
 use Rattle.store_model.specs.Service.Reading.{fv_bases}
 use Rattle.pi_base.specs.Lists.{Each}
-use Rattle.catalog_model.specs.WellFormed.{AreNumbered}
-use Rattle.catalog_model.specs.Parts.{part_at}
+use Rattle.mod_catalog.specs.WellFormed.{AreNumbered}
+use Rattle.mod_catalog.specs.Parts.{part_at}
 use Rattle.boot_model.specs.Reporting.{newcomers}
 use Rattle.boot_model.specs.Discovery.{discoveries}
 use Rattle.boot_model.specs.DxeMachine.{DxeMachine}

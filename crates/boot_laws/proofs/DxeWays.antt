@@ -4,10 +4,10 @@ use Rattle.std.specs.Prelude.{flat_map, filter}
 use Rattle.pi_base.specs.declared.phase.Phase.TheVariants.{Dxe}
 use Rattle.pi_base.specs.Lists.{Each, numbers}
 use Rattle.act_code.specs.declared.action.Action.{Action}
-use Rattle.catalog_model.specs.declared.catalog.Catalog.{Catalog}
-use Rattle.catalog_model.specs.declared.catalog.Part.{Part}
-use Rattle.catalog_model.specs.Parts.{has_number, part_of, part_at, parts_in}
-use Rattle.catalog_model.specs.WellFormed.{AreNumbered}
+use Rattle.mod_catalog.specs.declared.catalogue.Catalog.{Catalog}
+use Rattle.mod_catalog.specs.declared.catalogue.Part.{Part}
+use Rattle.mod_catalog.specs.Parts.{has_number, part_of, part_at, parts_in}
+use Rattle.mod_catalog.specs.WellFormed.{AreNumbered}
 use Rattle.boot_model.specs.declared.driver.Scheduled.{Scheduled}
 use Rattle.boot_model.specs.declared.phase_end.DxeEnd.TheVariants as DxeEnds
 use Rattle.boot_model.specs.DxeMachine.{DxeMachine, DriverFrame}

@@ -1,8 +1,8 @@
 -- The discovered order has each driver of a discovered volume, and nothing else.
 use Rattle.std.proofs.Common.{◌≡◌, ℕ, true}
 use Rattle.pi_base.specs.declared.phase.Phase.TheVariants.{Dxe}
-use Rattle.catalog_model.specs.declared.catalog.Catalog.{Catalog}
-use Rattle.catalog_model.specs.Parts.{has_number, module_volume, parts_in}
+use Rattle.mod_catalog.specs.declared.catalogue.Catalog.{Catalog}
+use Rattle.mod_catalog.specs.Parts.{has_number, module_volume, parts_in}
 use Rattle.boot_model.specs.DxeMachine.{DxeMachine}
 use Rattle.boot_model.specs.DxeChoice.{discovered_order}
 use Rattle.boot_model.specs.DriverLicence.{IsDiscovered}

@@ -5,14 +5,14 @@ use Rattle.std.specs.Option.{option_and_then}
 use Rattle.pi_base.specs.declared.guid.Guid.{Guid}
 use Rattle.pi_base.specs.declared.phase.Phase.TheVariants.{Dxe}
 use Rattle.depex_code.specs.declared.depex.Depex.TheVariants as D
-use Rattle.catalog_model.specs.declared.catalog.Catalog.{Catalog}
-use Rattle.catalog_model.specs.declared.catalog.Part.{Part}
-use Rattle.catalog_model.specs.declared.catalog.PartExpr.{PartExpr}
-use Rattle.catalog_model.specs.declared.catalog.PartExpr.TheVariants as E
+use Rattle.mod_catalog.specs.declared.catalogue.Catalog.{Catalog}
+use Rattle.mod_catalog.specs.declared.catalogue.Part.{Part}
+use Rattle.mod_catalog.specs.declared.catalogue.PartExpr.{PartExpr}
+use Rattle.mod_catalog.specs.declared.catalogue.PartExpr.TheVariants as E
 use Rattle.pi_base.specs.Lists.{Each}
 use Rattle.store_model.specs.HandleState.{HandleState}
 use Rattle.boot_model.specs.DxeMachine.{DxeMachine}
-use Rattle.catalog_model.specs.Parts.{part_at}
+use Rattle.mod_catalog.specs.Parts.{part_at}
 use Rattle.boot_model.specs.DxeChoice.{waiting, driver_named, before_of, after_of, name_by, targets, befores, afters, group_within, lets_driver_start, driver_may_start, is_eligible_driver, is_unrequested}
 use Rattle.boot_model.specs.DriverLicence.{named_by, first_of, target_of, Leads}
 use Rattle.boot_model.proofs.ListFacts.{each_more, each_append, each_filter, each_flat, each_both, each_cross}

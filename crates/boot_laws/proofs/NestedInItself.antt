@@ -3,10 +3,10 @@ use Rattle.std.proofs.Common.{◌≡◌, ℕ, [], ◌∷◌, Some, None, refl}
 use Rattle.std.specs.Prelude.{replicate}
 use Rattle.pi_base.specs.declared.phase.Phase.TheVariants.{Dxe}
 use Rattle.hob_codec.specs.declared.kind.TheConstants.{VOLUME}
-use Rattle.catalog_model.specs.FileType.{DRIVER as FILE_DRIVER}
-use Rattle.catalog_model.specs.declared.catalog.Catalog.{Catalog}
-use Rattle.catalog_model.specs.declared.catalog.Module.{Module}
-use Rattle.catalog_model.specs.declared.catalog.PartExpr.TheVariants.{Absent}
+use Rattle.mod_catalog.specs.FileType.{DRIVER as FILE_DRIVER}
+use Rattle.mod_catalog.specs.declared.catalogue.Catalog.{Catalog}
+use Rattle.mod_catalog.specs.declared.catalogue.Module.{Module}
+use Rattle.mod_catalog.specs.declared.catalogue.PartExpr.TheVariants.{Absent}
 use Rattle.store_model.specs.declared.state.Body.TheVariants.{Bytes}
 use Rattle.store_model.specs.StoreState.{Board, StoreState, empty_store}
 use Rattle.boot_model.specs.DxeRun.{dxe_run, dxe_opening, dxe_end}

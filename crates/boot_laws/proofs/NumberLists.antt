@@ -2,7 +2,7 @@
 use Rattle.std.proofs.Common.{take-append-drop, ◌≡◌, ℕ, zero, suc, ◌+◌, ◌==◌, Bool, true, false, not, ◌||◌, cond, List, [], ◌∷◌, ◌++◌, Option, Some, None, refl, sym, ap, ◌∙◌, subst, drop, take}
 use Rattle.std.specs.Prelude.{find, slice_get}
 use Rattle.pi_base.specs.Lists.{Each}
-use Rattle.catalog_model.specs.Parts.{has_number}
+use Rattle.mod_catalog.specs.Parts.{has_number}
 use Rattle.boot_model.specs.PeiChoice.{rotated}
 use Rattle.boot_model.proofs.ListFacts.{each_append}
 use Rattle.boot_laws.proofs.Counting as C

@@ -5,11 +5,11 @@ use Rattle.std.specs.Option.{option_and_then}
 use Rattle.std.proofs.lemmas.Bool.Decides.{nat_tests}
 use Rattle.pi_base.specs.declared.phase.Phase.{Phase}
 use Rattle.pi_base.specs.declared.phase.Phase.TheVariants.{Dxe}
-use Rattle.catalog_model.specs.declared.catalog.Catalog.{Catalog}
-use Rattle.catalog_model.specs.declared.catalog.Module.{Module}
+use Rattle.mod_catalog.specs.declared.catalogue.Catalog.{Catalog}
+use Rattle.mod_catalog.specs.declared.catalogue.Module.{Module}
 use Rattle.pi_base.specs.Lists.{Each, numbers}
-use Rattle.catalog_model.specs.WellFormed.{part_of}
-use Rattle.catalog_model.specs.Parts.{has_number, part_at, rank_at, module_volume, is_part_in, parts_from, parts_in}
+use Rattle.mod_catalog.specs.WellFormed.{part_of}
+use Rattle.mod_catalog.specs.Parts.{has_number, part_at, rank_at, module_volume, is_part_in, parts_from, parts_in}
 use Rattle.boot_model.specs.PeiChoice.{is_rank, ranked}
 use Rattle.boot_model.proofs.ListFacts.{each_more, each_filter, each_flat, each_has}
 use Rattle.boot_model.proofs.Distinct.{Distinct, distinct_filter, distinct_flat, distinct_numbers}

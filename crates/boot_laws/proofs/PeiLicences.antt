@@ -1,7 +1,7 @@
 -- In every run of PEI, over a well-formed catalogue and a board with its facts, each step keeps its licences.
 use Rattle.std.proofs.Common.{ℕ, zero, suc, Some, None}
-use Rattle.catalog_model.specs.declared.catalog.Catalog.{Catalog}
-use Rattle.catalog_model.specs.WellFormed.{IsWellFormed}
+use Rattle.mod_catalog.specs.declared.catalogue.Catalog.{Catalog}
+use Rattle.mod_catalog.specs.WellFormed.{IsWellFormed}
 use Rattle.boot_model.specs.Licence.{AlongRun, IsLicensedStep, IsLicensedRun}
 use Rattle.boot_model.specs.PeiMachine.{PeiMachine}
 use Rattle.boot_model.specs.PeiStep.{pei_step}

@@ -6,11 +6,11 @@ use Rattle.std.proofs.lemmas.Bool.Decides.{nat_tests}
 use Rattle.pi_base.specs.declared.phase.Phase.{Phase}
 use Rattle.pi_base.specs.declared.phase.Phase.TheVariants.{Pei}
 use Rattle.pi_base.specs.Lists.{Each, numbers}
-use Rattle.catalog_model.specs.declared.catalog.Catalog.{Catalog}
-use Rattle.catalog_model.specs.declared.catalog.Module.{Module}
-use Rattle.catalog_model.specs.declared.catalog.Part.{Part}
-use Rattle.catalog_model.specs.Parts.{has_number, part_of, part_at, rank_at, module_volume, is_part_in, parts_from, parts_in}
-use Rattle.catalog_model.specs.WellFormed.{IsWellFormed, IsRankWithin}
+use Rattle.mod_catalog.specs.declared.catalogue.Catalog.{Catalog}
+use Rattle.mod_catalog.specs.declared.catalogue.Module.{Module}
+use Rattle.mod_catalog.specs.declared.catalogue.Part.{Part}
+use Rattle.mod_catalog.specs.Parts.{has_number, part_of, part_at, rank_at, module_volume, is_part_in, parts_from, parts_in}
+use Rattle.mod_catalog.specs.WellFormed.{IsWellFormed, IsRankWithin}
 use Rattle.boot_model.specs.PeiChoice.{is_rank, ranked, volume_order, pei_order}
 use Rattle.boot_model.specs.Licence.{IsPartAmong}
 use Rattle.boot_laws.specs.PeiOrder.{OrderIsOfModules, OrderHasEachPartOnce}

@@ -5,8 +5,8 @@ use Rattle.store_model.specs.Service.Queue.{queue_pop}
 use Rattle.std.specs.Option.{option_and_then}
 use Rattle.store_model.specs.Migration.{migration}
 use Rattle.store_model.specs.HandleState.{no_handles}
-use Rattle.catalog_model.specs.declared.catalog.Catalog.{Catalog}
-use Rattle.catalog_model.specs.WellFormed.{AreNumbered}
+use Rattle.mod_catalog.specs.declared.catalogue.Catalog.{Catalog}
+use Rattle.mod_catalog.specs.WellFormed.{AreNumbered}
 use Rattle.boot_model.specs.declared.line.Line.{Line}
 use Rattle.boot_model.specs.declared.line.Line.TheVariants as L
 use Rattle.boot_model.specs.declared.line.RunEnd.{RunEnd}

@@ -2,10 +2,10 @@
 use Rattle.std.proofs.Common.{take-append-drop, ◌≡◌, ℕ, Bool, true, false, not, ◌&&◌, ◌||◌, cond, List, [], ◌∷◌, ◌++◌, Option, Some, None, refl, sym, ap, subst, ◌∙◌, option_map, is_some, drop, take, ◌==◌, arith}
 use Rattle.std.specs.Prelude.{find}
 use Rattle.std.specs.List.{list_any}
-use Rattle.catalog_model.specs.declared.catalog.Catalog.{Catalog}
-use Rattle.catalog_model.specs.declared.catalog.Part.{Part}
-use Rattle.catalog_model.specs.declared.catalog.PartExpr.{PartExpr}
-use Rattle.catalog_model.specs.declared.catalog.PartExpr.TheVariants as E
+use Rattle.mod_catalog.specs.declared.catalogue.Catalog.{Catalog}
+use Rattle.mod_catalog.specs.declared.catalogue.Part.{Part}
+use Rattle.mod_catalog.specs.declared.catalogue.PartExpr.{PartExpr}
+use Rattle.mod_catalog.specs.declared.catalogue.PartExpr.TheVariants as E
 use Rattle.boot_model.specs.declared.licence.Licence.TheVariants as G
 use Rattle.store_model.specs.declared.store_handle.Firing.{Firing}
 use Rattle.store_model.specs.declared.store_handle.Sweep.{Sweep}
@@ -14,8 +14,8 @@ use Rattle.store_model.specs.StateFacts.{IsStoreState}
 use Rattle.store_model.specs.Migration.{migration}
 use Rattle.boot_model.specs.PeiMachine.{PeiMachine, Frame}
 use Rattle.std.proofs.lemmas.Bool.Decides.{nat_tests}
-use Rattle.catalog_model.specs.WellFormed.{IsWellFormed}
-use Rattle.catalog_model.specs.Parts.{has_number}
+use Rattle.mod_catalog.specs.WellFormed.{IsWellFormed}
+use Rattle.mod_catalog.specs.Parts.{has_number}
 use Rattle.boot_model.specs.Eligible.{is_eligible, may_start, may_start_again, lets_start, licence_by}
 use Rattle.boot_model.specs.PeiChoice.{pei_order, rotated, next_peim}
 use Rattle.boot_model.specs.PeiStep.{Fires, Moves, Pops, Starts, Stops, first_that_applies, acts}

@@ -5,8 +5,8 @@ use Rattle.std.specs.Option.{option_and_then}
 use Rattle.std.proofs.lemmas.Bool.Decides.{nat_tests}
 use Rattle.pi_base.specs.declared.phase.Phase.{Phase}
 use Rattle.pi_base.specs.declared.phase.Phase.TheVariants.{Pei}
-use Rattle.catalog_model.specs.declared.catalog.Catalog.{Catalog}
-use Rattle.catalog_model.specs.declared.catalog.Part.{Part}
+use Rattle.mod_catalog.specs.declared.catalogue.Catalog.{Catalog}
+use Rattle.mod_catalog.specs.declared.catalogue.Part.{Part}
 use Rattle.boot_model.specs.PeiMachine.{Frame}
 use Rattle.boot_model.specs.declared.line.Line.TheVariants as L
 use Rattle.store_model.specs.declared.store_handle.Sweep.{Sweep}
@@ -19,8 +19,8 @@ use Rattle.store_model.specs.Service.Install.{core_install}
 use Rattle.store_model.specs.Migration.{migration}
 use Rattle.boot_model.specs.PeiMachine.{PeiMachine, printed}
 use Rattle.boot_model.specs.declared.phase_end.PeiEnd.TheVariants.{Spent, Deep}
-use Rattle.catalog_model.specs.Parts.{has_number, part_at}
-use Rattle.catalog_model.specs.WellFormed.{part_of}
+use Rattle.mod_catalog.specs.Parts.{has_number, part_at}
+use Rattle.mod_catalog.specs.WellFormed.{part_of}
 use Rattle.boot_model.specs.Eligible.{is_eligible, may_start, may_start_again}
 use Rattle.boot_model.specs.PeiChoice.{pei_order, rotated, next_peim}
 use Rattle.boot_model.specs.PeiAction.{Effect, Wrote, Called, Own, Shadowed, Logged, Skipped, Returned, effect}

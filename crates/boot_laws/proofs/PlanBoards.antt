@@ -12,13 +12,13 @@ use Rattle.boot_plan.specs.declared.plan.Plan.{Plan}
 use Rattle.boot_plan.specs.declared.plan.PlanVolume.{PlanVolume}
 use Rattle.boot_plan.specs.declared.limits.TheConstants.{MOST_END}
 use Rattle.phys_mem.specs.declared.rom.Rom.{Rom}
-use Rattle.catalog_model.specs.declared.catalog.Catalog.{Catalog}
-use Rattle.catalog_model.specs.declared.catalog.VolumeEntry.{VolumeEntry}
-use Rattle.catalog_model.specs.declared.read_file.Stretch.{Stretch}
-use Rattle.catalog_model.specs.declared.holding.Holding.{Holding}
-use Rattle.catalog_model.specs.Holding.{joined, nothing}
-use Rattle.catalog_model.specs.VolumeTree.{Image, Holds, AreNested, nested_image, nested_stretches, entry_of}
-use Rattle.catalog_model.specs.Catalogue.{are_apart, has_place, plan_image, IsPlaced, PlanHolds}
+use Rattle.mod_catalog.specs.declared.catalogue.Catalog.{Catalog}
+use Rattle.mod_catalog.specs.declared.catalogue.VolumeEntry.{VolumeEntry}
+use Rattle.mod_catalog.specs.declared.read_file.Stretch.{Stretch}
+use Rattle.mod_catalog.specs.declared.holding.Holding.{Holding}
+use Rattle.mod_catalog.specs.Holding.{joined, nothing}
+use Rattle.mod_catalog.specs.VolumeTree.{Image, Holds, AreNested, nested_image, nested_stretches, entry_of}
+use Rattle.mod_catalog.specs.Catalogue.{are_apart, has_place, plan_image, IsPlaced, PlanHolds}
 use Rattle.store_model.specs.StateFacts.{AreApart, IsMapped, rom_range}
 use Rattle.boot_model.specs.PlanBoard.{mapped, left_by, roms_of, board_of}
 use Rattle.boot_laws.specs.Boards.{BoardsAreSound}

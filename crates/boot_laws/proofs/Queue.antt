@@ -2,10 +2,10 @@
 use Rattle.std.proofs.Common.{◌≡◌, ℕ, Bool, true, false, not, ◌||◌, List, [], ◌∷◌, ◌++◌, Option, Some, None, refl, sym, subst, ap, ◌∙◌, map, length}
 use Rattle.std.specs.Prelude.{◌≢◌, flat_map}
 use Rattle.pi_base.specs.declared.phase.Phase.TheVariants.{Dxe}
-use Rattle.catalog_model.specs.declared.catalog.Catalog.{Catalog}
+use Rattle.mod_catalog.specs.declared.catalogue.Catalog.{Catalog}
 use Rattle.boot_model.specs.declared.driver.Scheduled.{Scheduled}
 use Rattle.pi_base.specs.Lists.{Each}
-use Rattle.catalog_model.specs.Parts.{has_number, parts_in, module_volume}
+use Rattle.mod_catalog.specs.Parts.{has_number, parts_in, module_volume}
 use Rattle.boot_model.specs.DxeMachine.{DxeMachine}
 use Rattle.boot_model.specs.DxeChoice.{discovered_order, is_waiting, is_scheduled, waiting, is_eligible_driver, companion_group, queue_from, first_eligible, group_scheduled, driver_queue}
 use Rattle.boot_model.specs.DriverLicence.{numbers_of}

@@ -5,10 +5,10 @@ use Rattle.std.specs.Option.{option_and_then}
 use Rattle.pi_base.specs.declared.phase.Phase.TheVariants.{Pei}
 use Rattle.pi_base.specs.Lists.{Each}
 use Rattle.act_code.specs.declared.action.Action.{Action}
-use Rattle.catalog_model.specs.declared.catalog.Catalog.{Catalog}
-use Rattle.catalog_model.specs.declared.catalog.Part.{Part}
-use Rattle.catalog_model.specs.Parts.{has_number, part_at}
-use Rattle.catalog_model.specs.WellFormed.{IsWellFormed}
+use Rattle.mod_catalog.specs.declared.catalogue.Catalog.{Catalog}
+use Rattle.mod_catalog.specs.declared.catalogue.Part.{Part}
+use Rattle.mod_catalog.specs.Parts.{has_number, part_at}
+use Rattle.mod_catalog.specs.WellFormed.{IsWellFormed}
 use Rattle.store_model.specs.declared.store_handle.Firing.{Firing}
 use Rattle.store_model.specs.declared.store_handle.Sweep.{Sweep}
 use Rattle.store_model.specs.StoreState.{StoreState}

@@ -4,10 +4,10 @@ use Rattle.std.specs.Option.{option_and_then}
 use Rattle.std.proofs.lemmas.Bool.Decides.{nat_tests}
 use Rattle.pi_base.specs.declared.phase.Phase.TheVariants.{Pei}
 use Rattle.act_code.specs.declared.action.Action.{Action}
-use Rattle.catalog_model.specs.declared.catalog.Catalog.{Catalog}
-use Rattle.catalog_model.specs.declared.catalog.Part.{Part}
+use Rattle.mod_catalog.specs.declared.catalogue.Catalog.{Catalog}
+use Rattle.mod_catalog.specs.declared.catalogue.Part.{Part}
 use Rattle.boot_model.specs.PeiMachine.{Frame}
-use Rattle.catalog_model.specs.declared.limits.TheConstants.{MOST_MODULES}
+use Rattle.mod_catalog.specs.declared.limits.TheConstants.{MOST_MODULES}
 use Rattle.boot_model.specs.declared.line.Line.TheVariants as L
 use Rattle.store_model.specs.declared.store_handle.Firing.{Firing}
 use Rattle.store_model.specs.declared.store_handle.Sweep.{Sweep}
@@ -18,8 +18,8 @@ use Rattle.store_model.specs.Service.Sweep.{next_match}
 use Rattle.store_model.specs.Service.Queue.{queue_pop}
 use Rattle.store_model.specs.Service.Install.{core_install}
 use Rattle.store_model.specs.Migration.{migration}
-use Rattle.catalog_model.specs.WellFormed.{part_of}
-use Rattle.catalog_model.specs.Parts.{has_number, part_at}
+use Rattle.mod_catalog.specs.WellFormed.{part_of}
+use Rattle.mod_catalog.specs.Parts.{has_number, part_at}
 use Rattle.boot_model.specs.PeiMachine.{PeiMachine, printed}
 use Rattle.boot_model.specs.declared.phase_end.PeiEnd.TheVariants.{Spent, Deep}
 use Rattle.boot_model.specs.PeiChoice.{next_peim}

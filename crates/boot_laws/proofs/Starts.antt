@@ -2,8 +2,8 @@
 use Rattle.std.proofs.Common.{◌≡◌, true, List, [], ◌∷◌, ◌++◌, Option, Some, None, is_some, refl, ap, ◌∙◌}
 use Rattle.pi_base.specs.declared.phase.Phase.TheVariants.{Pei, Dxe}
 use Rattle.act_code.specs.declared.action.Action.{Action}
-use Rattle.catalog_model.specs.declared.catalog.Part.{Part}
-use Rattle.catalog_model.specs.Parts.{part_at}
+use Rattle.mod_catalog.specs.declared.catalogue.Part.{Part}
+use Rattle.mod_catalog.specs.Parts.{part_at}
 use Rattle.boot_model.specs.declared.line.Line.{Line}
 use Rattle.boot_model.specs.Eligible.{licence_at}
 use Rattle.boot_model.specs.PeiStep.{start_lines, start_line, started_part}

@@ -2,8 +2,8 @@
 use Rattle.std.proofs.Common.{◌≡◌, ℕ, ◌+◌, Bool, true, false, cond, List, [], ◌∷◌, ◌∙◌, sym, refl, subst, Option, Some, None, Ok, Err, nat_le, length}
 use Rattle.pi_base.specs.declared.guid.Guid.{Guid}
 use Rattle.act_code.specs.declared.action.Action.{Action}
-use Rattle.catalog_model.specs.declared.catalog.Catalog.{Catalog}
-use Rattle.catalog_model.specs.declared.catalog.Part.{Part}
+use Rattle.mod_catalog.specs.declared.catalogue.Catalog.{Catalog}
+use Rattle.mod_catalog.specs.declared.catalogue.Part.{Part}
 use Rattle.boot_model.specs.PeiMachine.{Frame}
 use Rattle.boot_model.specs.declared.frame.TheConstants.{MOST_FRAMES}
 use Rattle.boot_model.specs.declared.line.Line.TheVariants as L
@@ -14,7 +14,7 @@ use Rattle.store_model.specs.StoreState.{StoreState}
 use Rattle.store_model.specs.StateFacts.{IsStoreState}
 use Rattle.store_model.specs.Service.{Service}
 use Rattle.store_model.specs.Service.Install.{core_install, has_ppi}
-use Rattle.catalog_model.specs.Parts.{has_number}
+use Rattle.mod_catalog.specs.Parts.{has_number}
 use Rattle.boot_model.specs.PeiMachine.{PeiMachine, printed}
 use Rattle.boot_model.specs.declared.phase_end.PeiEnd.TheVariants.{Deep, Spent}
 use Rattle.boot_model.specs.PeiAction.{Effect, Wrote, Called, Own, Shadowed, Logged, Skipped, Returned, effect}

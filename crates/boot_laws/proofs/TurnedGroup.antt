@@ -7,11 +7,11 @@ use Rattle.pi_base.specs.Lists.{Each}
 use Rattle.hob_codec.specs.declared.kind.TheConstants.{VOLUME}
 use Rattle.depex_code.specs.Tree as T
 use Rattle.depex_code.specs.declared.depex.Depex.TheVariants as D
-use Rattle.catalog_model.specs.FileType.{DRIVER as FILE_DRIVER}
-use Rattle.catalog_model.specs.declared.catalog.Catalog.{Catalog}
-use Rattle.catalog_model.specs.declared.catalog.Module.{Module}
-use Rattle.catalog_model.specs.declared.catalog.PartExpr.{PartExpr}
-use Rattle.catalog_model.specs.declared.catalog.PartExpr.TheVariants.{Held}
+use Rattle.mod_catalog.specs.FileType.{DRIVER as FILE_DRIVER}
+use Rattle.mod_catalog.specs.declared.catalogue.Catalog.{Catalog}
+use Rattle.mod_catalog.specs.declared.catalogue.Module.{Module}
+use Rattle.mod_catalog.specs.declared.catalogue.PartExpr.{PartExpr}
+use Rattle.mod_catalog.specs.declared.catalogue.PartExpr.TheVariants.{Held}
 use Rattle.store_model.specs.declared.state.Body.TheVariants.{Bytes}
 use Rattle.store_model.specs.StoreState.{Board, StoreState, empty_store}
 use Rattle.boot_model.specs.declared.driver.Scheduled.{Scheduled}

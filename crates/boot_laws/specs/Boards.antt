@@ -4,8 +4,8 @@
 use Rattle.std.specs.Prelude.{ℕ, List}
 use Rattle.boot_plan.specs.declared.plan.Plan.{Plan}
 use Rattle.boot_plan.specs.Range.{IsPlanInRange}
-use Rattle.catalog_model.specs.declared.catalog.Catalog.{Catalog}
-use Rattle.catalog_model.specs.Catalogue.{IsCatalogue}
+use Rattle.mod_catalog.specs.declared.catalogue.Catalog.{Catalog}
+use Rattle.mod_catalog.specs.Catalogue.{IsCatalogue}
 use Rattle.store_model.specs.StateFacts.{IsBoard}
 use Rattle.boot_model.specs.Licence.{AlongRun, IsLicensedStep}
 use Rattle.boot_model.specs.PlanBoard.{board_of}

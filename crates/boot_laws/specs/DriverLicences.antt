@@ -3,13 +3,13 @@
 -- PI 1.8, volume 2, "DXE Dispatcher" and "A Priori File".
 use Rattle.std.specs.Prelude.{◌≡◌, ◌⊎◌, ℕ, zero, suc, true, List, [], ◌∷◌, Some, None, is_some, ⊤}
 use Rattle.pi_base.specs.declared.phase.Phase.TheVariants.{Dxe}
-use Rattle.catalog_model.specs.declared.catalog.Catalog.{Catalog}
-use Rattle.catalog_model.specs.declared.catalog.Part.{Part}
+use Rattle.mod_catalog.specs.declared.catalogue.Catalog.{Catalog}
+use Rattle.mod_catalog.specs.declared.catalogue.Part.{Part}
 use Rattle.boot_model.specs.declared.driver.Scheduled.{Scheduled}
 use Rattle.boot_model.specs.declared.licence.Licence.TheVariants as G
 use Rattle.pi_base.specs.Lists.{Each}
 use Rattle.store_model.specs.StoreState.{StoreState}
-use Rattle.catalog_model.specs.Parts.{has_number, part_at, module_volume}
+use Rattle.mod_catalog.specs.Parts.{has_number, part_at, module_volume}
 use Rattle.boot_model.specs.DxeMachine.{DxeMachine}
 use Rattle.boot_model.specs.DxeChoice.{driver_queue, group_scheduled, first_eligible}
 use Rattle.boot_model.specs.DxeStep.{dxe_case_of, dxe_step, DxeStarts}

@@ -2,9 +2,9 @@
 -- Each volume's parent must come before it, as it does in every well-formed catalogue: a volume that is nested in itself would be discovered twice.
 -- PI 1.8, volume 2, "DXE Dispatcher".
 use Rattle.std.specs.Prelude.{ℕ}
-use Rattle.catalog_model.specs.declared.catalog.Catalog.{Catalog}
+use Rattle.mod_catalog.specs.declared.catalogue.Catalog.{Catalog}
 use Rattle.store_model.specs.StoreState.{StoreState}
-use Rattle.catalog_model.specs.WellFormed.{AreNumbered}
+use Rattle.mod_catalog.specs.WellFormed.{AreNumbered}
 use Rattle.boot_model.specs.Licence.{AllDiffer}
 use Rattle.boot_model.specs.DxeRun.{dxe_run, dxe_opening}
 

@@ -1,8 +1,8 @@
 -- The lines of the free boots from a machine of PEI, a step at a time.
 -- Own; PI 1.8, volume 1, leaves the order to the dispatcher.
 use Rattle.std.specs.Prelude.{◌≡◌, ◌↔◌, ℕ, true, List, [], ◌∷◌, ◌++◌, None, is_some, ⊤}
-use Rattle.catalog_model.specs.declared.catalog.Catalog.{Catalog}
-use Rattle.catalog_model.specs.WellFormed.{AreNumbered}
+use Rattle.mod_catalog.specs.declared.catalogue.Catalog.{Catalog}
+use Rattle.mod_catalog.specs.WellFormed.{AreNumbered}
 use Rattle.store_model.specs.StoreState.{Board}
 use Rattle.boot_model.specs.declared.line.Line.{Line}
 use Rattle.boot_model.specs.Text.{text_of}

@@ -3,8 +3,8 @@
 -- Own.
 use Rattle.std.specs.Prelude.{ℕ, ◌<◌, ◌^◌, List, ⊤}
 use Rattle.pi_base.specs.Lists.{Each}
-use Rattle.catalog_model.specs.declared.catalog.Catalog.{Catalog}
-use Rattle.catalog_model.specs.WellFormed.{IsWellFormed}
+use Rattle.mod_catalog.specs.declared.catalogue.Catalog.{Catalog}
+use Rattle.mod_catalog.specs.WellFormed.{IsWellFormed}
 use Rattle.store_model.specs.StoreState.{Board}
 use Rattle.store_model.specs.StateFacts.{IsBoard, IsStoreState}
 use Rattle.boot_model.specs.declared.frame.Register.{Register}

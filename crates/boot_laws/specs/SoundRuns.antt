@@ -1,8 +1,8 @@
 -- The opening is sound, and each step keeps it so; and what the store answers to a step is there.
 -- Own.
 use Rattle.std.specs.Prelude.{◌≡◌, ℕ, ◌≤◌, length, Some, Ok}
-use Rattle.catalog_model.specs.declared.catalog.Catalog.{Catalog}
-use Rattle.catalog_model.specs.declared.limits.TheConstants.{MOST_MODULES}
+use Rattle.mod_catalog.specs.declared.catalogue.Catalog.{Catalog}
+use Rattle.mod_catalog.specs.declared.limits.TheConstants.{MOST_MODULES}
 use Rattle.store_model.specs.declared.store_handle.Firing.{Firing}
 use Rattle.store_model.specs.declared.store_handle.Sweep.{Sweep}
 use Rattle.store_model.specs.StoreState.{StoreState, Board}

@@ -1,7 +1,7 @@
 //! Laws of boots of plans and images, each on a function without a body of its own.
 ghost use Rattle.boot_laws.specs.Boards.{BoardsAreSound, BootsAreLicensed, BootsHaveFacts};
 
-use catalog_model::catalogues_are_well_formed;
+use mod_catalog::catalogues_are_well_formed;
 use store_laws::{services_keep_facts, states_fit, steps_keep_facts};
 
 /// On the board of a plan and its images temporary RAM, RAM and the volumes do not meet, and each ends where a plan lets it.

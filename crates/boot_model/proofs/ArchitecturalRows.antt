@@ -8,8 +8,8 @@ use Rattle.depex_code.specs.Tree as T
 use Rattle.pi_base.specs.declared.guid.Guid.{Guid}
 use Rattle.act_code.specs.declared.action.Action.TheVariants as A
 use Rattle.boot_model.specs.declared.known_guid.TheConstants.{ARCHITECTURAL}
-use Rattle.catalog_model.specs.declared.catalog.PartExpr.TheVariants.{Absent}
-use Rattle.catalog_model.specs.declared.catalog.Module.{Module}
+use Rattle.mod_catalog.specs.declared.catalogue.PartExpr.TheVariants.{Absent}
+use Rattle.mod_catalog.specs.declared.catalogue.Module.{Module}
 use Rattle.pi_base.specs.WordText.{word_text}
 use Rattle.boot_model.specs.Text.{keyword, licence_text, call_text, reason_text, end_text}
 use Rattle.boot_model.proofs.WorkedBoots.{installs_on_one, held, before, after, driver, script, printed, opener, opener_listing, dxe_text}

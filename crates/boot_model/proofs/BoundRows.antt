@@ -7,8 +7,8 @@ use Rattle.uuid.specs.Text.{by_index}
 use Rattle.pi_base.specs.declared.word.Word.TheVariants.{Success, OutOfResources}
 use Rattle.act_code.specs.declared.action.Action.TheVariants as A
 use Rattle.act_code.specs.declared.action.GuidArg.TheVariants as G
-use Rattle.catalog_model.specs.declared.catalog.Module.{Module}
-use Rattle.catalog_model.specs.declared.catalog.PartExpr.TheVariants.{Absent}
+use Rattle.mod_catalog.specs.declared.catalogue.Module.{Module}
+use Rattle.mod_catalog.specs.declared.catalogue.PartExpr.TheVariants.{Absent}
 use Rattle.boot_model.specs.declared.line.Line.{Line}
 use Rattle.boot_model.specs.declared.line.Line.TheVariants as L
 use Rattle.boot_model.specs.declared.line.CallName.TheVariants as C

@@ -9,9 +9,9 @@ use Rattle.pi_base.specs.Field.{little_bytes}
 use Rattle.act_code.specs.declared.action.Action.TheVariants as A
 use Rattle.boot_model.specs.declared.known_guid.TheConstants.{FILE_SYSTEM2, ARCHITECTURAL}
 use Rattle.pi_base.specs.declared.known_guid.TheConstants.{VOLUME_INFO_PPI, MEMORY_PPI, DXE_IPL_PPI}
-use Rattle.catalog_model.specs.declared.catalog.PartExpr.TheVariants.{Absent, Malformed}
-use Rattle.catalog_model.specs.declared.catalog.Catalog.{Catalog}
-use Rattle.catalog_model.specs.declared.catalog.Module.{Module}
+use Rattle.mod_catalog.specs.declared.catalogue.PartExpr.TheVariants.{Absent, Malformed}
+use Rattle.mod_catalog.specs.declared.catalogue.Catalog.{Catalog}
+use Rattle.mod_catalog.specs.declared.catalogue.Module.{Module}
 use Rattle.boot_model.specs.BootRun.{boot_lines}
 use Rattle.pi_base.specs.WordText.{word_text}
 use Rattle.boot_model.specs.Text.{text_of, keyword, licence_text, call_text, reason_text, end_text}

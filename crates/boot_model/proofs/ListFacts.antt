@@ -4,7 +4,7 @@ use Rattle.std.specs.Prelude.{slice_get, find, flat_map}
 use Rattle.std.specs.Option.{option_and_then}
 use Rattle.std.proofs.lemmas.Bool.Decides.{nat_tests}
 use Rattle.pi_base.specs.Lists.{Each}
-use Rattle.catalog_model.specs.Parts.{has_number}
+use Rattle.mod_catalog.specs.Parts.{has_number}
 pub use Rattle.pi_base.proofs.ListFacts.{each_more, each_append, each_both, each_cross, each_filter, ordered_filter, ordered_append}
 
 pub each_push : {A : Type 0} (P : A → Type 0) (xs : List A) (x : A) → Each P xs → P x → Each P (xs ++ x ∷ [])

@@ -5,7 +5,7 @@ use Rattle.hex.specs.Hex.{encode_with}
 use Rattle.uuid.specs.Text.{by_index}
 use Rattle.depex_code.specs.Tree as T
 use Rattle.act_code.specs.declared.action.Action.TheVariants as A
-use Rattle.catalog_model.specs.declared.catalog.Module.{Module}
+use Rattle.mod_catalog.specs.declared.catalogue.Module.{Module}
 use Rattle.pi_base.specs.WordText.{word_text}
 use Rattle.boot_model.specs.Text.{keyword, licence_text, call_text, reason_text, end_text}
 use Rattle.boot_model.proofs.WorkedBoots.{held, driver, script, printed, opener_with, dxe_text}

@@ -16,12 +16,12 @@ use Rattle.act_code.specs.Index.{is_indexed}
 use Rattle.act_code.specs.Script.{IsBlock, AreSound, IsSound, IsInGrammar}
 use Rattle.act_code.specs.Script as S
 use Rattle.act_code.specs.Table.{format_of, code_of_action, operands}
-use Rattle.catalog_model.specs.declared.catalog.Catalog.{Catalog}
-use Rattle.catalog_model.specs.declared.catalog.Module.{Module}
-use Rattle.catalog_model.specs.declared.catalog.Part.{Part}
+use Rattle.mod_catalog.specs.declared.catalogue.Catalog.{Catalog}
+use Rattle.mod_catalog.specs.declared.catalogue.Module.{Module}
+use Rattle.mod_catalog.specs.declared.catalogue.Part.{Part}
 use Rattle.pi_base.specs.Lists.{Each}
-use Rattle.catalog_model.specs.WellFormed.{IsPartOf, IsWellFormed, part_of}
-use Rattle.catalog_model.specs.Parts.{block_of, part_at}
+use Rattle.mod_catalog.specs.WellFormed.{IsPartOf, IsWellFormed, part_of}
+use Rattle.mod_catalog.specs.Parts.{block_of, part_at}
 
 more : (n m k : ℕ) → m ≤ k → nat_lt n m ≡ true → nat_lt n k ≡ true
 more n m k le e = grind (arith, nat_tests, le, e)

@@ -8,9 +8,9 @@ use Rattle.pi_base.specs.Field.{little_bytes}
 use Rattle.pi_base.specs.declared.known_guid.TheConstants.{VOLUME_INFO_PPI}
 use Rattle.phys_mem.specs.declared.rom.Rom.{Rom}
 use Rattle.act_code.specs.declared.action.Action.TheVariants as A
-use Rattle.catalog_model.specs.declared.catalog.Catalog.{Catalog}
-use Rattle.catalog_model.specs.declared.catalog.Module.{Module}
-use Rattle.catalog_model.specs.declared.catalog.PartExpr.TheVariants.{Absent}
+use Rattle.mod_catalog.specs.declared.catalogue.Catalog.{Catalog}
+use Rattle.mod_catalog.specs.declared.catalogue.Module.{Module}
+use Rattle.mod_catalog.specs.declared.catalogue.PartExpr.TheVariants.{Absent}
 use Rattle.boot_model.specs.declared.known_guid.TheConstants.{FILE_SYSTEM2}
 use Rattle.pi_base.specs.WordText.{word_text}
 use Rattle.store_model.specs.StoreState.{Board}

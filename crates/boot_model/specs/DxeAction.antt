@@ -6,7 +6,7 @@ use Rattle.pi_base.specs.declared.word.Word.{Word}
 use Rattle.pi_base.specs.declared.word.Word.TheVariants.{Success, InvalidParameter, NotFound, AlreadyStarted}
 use Rattle.act_code.specs.declared.action.Action.{Action}
 use Rattle.act_code.specs.declared.action.Action.TheVariants as A
-use Rattle.catalog_model.specs.declared.catalog.Catalog.{Catalog}
+use Rattle.mod_catalog.specs.declared.catalogue.Catalog.{Catalog}
 use Rattle.boot_model.specs.declared.line.CallName.{CallName}
 use Rattle.boot_model.specs.declared.line.CallName.TheVariants as C
 use Rattle.boot_model.specs.declared.line.Extra.{Extra}
@@ -19,7 +19,7 @@ pub use Rattle.boot_model.specs.Effect.{Wrote, Called, Logged, Skipped, Returned
 use Rattle.boot_model.specs.PeiMachine.{Register, Number, HandleIn}
 use Rattle.boot_model.specs.DxeMachine.{DxeMachine, DriverFrame, ProtocolSweep}
 use Rattle.boot_model.specs.DxeChoice.{waiting, is_unrequested, a_priori_drivers}
-use Rattle.catalog_model.specs.Parts.{has_number, module_name, volume_at}
+use Rattle.mod_catalog.specs.Parts.{has_number, module_name, volume_at}
 use Rattle.boot_model.specs.Reporting.{newcomers}
 use Rattle.boot_model.specs.Registers.{number_in, handle_in, both}
 

@@ -9,16 +9,16 @@ use Rattle.pi_base.specs.declared.phase.Phase.TheVariants.{Dxe}
 use Rattle.depex_code.specs.declared.depex.Depex.{Depex}
 use Rattle.depex_code.specs.declared.depex.Depex.TheVariants as D
 use Rattle.boot_model.specs.declared.known_guid.TheConstants.{ARCHITECTURAL}
-use Rattle.catalog_model.specs.declared.catalog.Catalog.{Catalog}
-use Rattle.catalog_model.specs.declared.catalog.Part.{Part}
-use Rattle.catalog_model.specs.declared.catalog.PartExpr.{PartExpr}
-use Rattle.catalog_model.specs.declared.catalog.PartExpr.TheVariants as E
+use Rattle.mod_catalog.specs.declared.catalogue.Catalog.{Catalog}
+use Rattle.mod_catalog.specs.declared.catalogue.Part.{Part}
+use Rattle.mod_catalog.specs.declared.catalogue.PartExpr.{PartExpr}
+use Rattle.mod_catalog.specs.declared.catalogue.PartExpr.TheVariants as E
 use Rattle.boot_model.specs.declared.licence.Licence.{Licence}
 use Rattle.boot_model.specs.declared.licence.Licence.TheVariants as G
 use Rattle.pi_base.specs.Guids.{same_guid}
 use Rattle.store_model.specs.HandleState.{HandleState, has_protocol}
 use Rattle.boot_model.specs.DxeMachine.{DxeMachine, Scheduled}
-use Rattle.catalog_model.specs.Parts.{has_number, part_at, rank_at, parts_in, module_name}
+use Rattle.mod_catalog.specs.Parts.{has_number, part_at, rank_at, parts_in, module_name}
 use Rattle.boot_model.specs.Eligible.{depex_holds}
 use Rattle.boot_model.specs.PeiChoice.{ranked}
 

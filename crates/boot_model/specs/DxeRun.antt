@@ -2,7 +2,7 @@
 -- At the opening the volumes of the FV HOBs have just been discovered, and the actions of PEI are counted.
 -- Own; PI 1.8, volume 2, leaves the run to the dispatcher.
 use Rattle.std.specs.Prelude.{◌≡◌, ℕ, zero, suc, ◌+◌, ◌*◌, true, List, [], ◌∷◌, length, Some, None, is_some}
-use Rattle.catalog_model.specs.declared.catalog.Catalog.{Catalog}
+use Rattle.mod_catalog.specs.declared.catalogue.Catalog.{Catalog}
 use Rattle.boot_model.specs.declared.frame.TheConstants.{MOST_FRAMES}
 use Rattle.store_model.specs.StoreState.{StoreState}
 use Rattle.store_model.specs.Service.Reading.{fv_bases}

@@ -6,16 +6,16 @@ use Rattle.pi_base.specs.declared.phase.Phase.TheVariants.{Pei}
 use Rattle.depex_code.specs.declared.depex.Depex.{Depex}
 use Rattle.depex_code.specs.declared.depex.Depex.TheVariants as D
 use Rattle.depex_code.specs.Tree.{truth}
-use Rattle.catalog_model.specs.declared.catalog.Catalog.{Catalog}
-use Rattle.catalog_model.specs.declared.catalog.Part.{Part}
-use Rattle.catalog_model.specs.declared.catalog.PartExpr.{PartExpr}
-use Rattle.catalog_model.specs.declared.catalog.PartExpr.TheVariants as E
+use Rattle.mod_catalog.specs.declared.catalogue.Catalog.{Catalog}
+use Rattle.mod_catalog.specs.declared.catalogue.Part.{Part}
+use Rattle.mod_catalog.specs.declared.catalogue.PartExpr.{PartExpr}
+use Rattle.mod_catalog.specs.declared.catalogue.PartExpr.TheVariants as E
 use Rattle.boot_model.specs.declared.licence.Licence.{Licence}
 use Rattle.boot_model.specs.declared.licence.Licence.TheVariants as G
 use Rattle.store_model.specs.StoreState.{StoreState}
 use Rattle.store_model.specs.Service.Install.{has_ppi}
 use Rattle.boot_model.specs.PeiMachine.{PeiMachine}
-use Rattle.catalog_model.specs.Parts.{has_number, part_at}
+use Rattle.mod_catalog.specs.Parts.{has_number, part_at}
 
 -- whether an expression holds over a set of GUIDs; BEFORE and AFTER never hold by themselves
 abbrev pub depex_holds : (Guid → Bool) → Depex → Bool

@@ -11,9 +11,9 @@ use Rattle.depex_code.specs.Tree.{DepexTree, True, False, Push, Not, And, Or}
 use Rattle.depex_code.specs.declared.depex.Depex.TheVariants as D
 use Rattle.act_code.specs.declared.action.Action.{Action}
 use Rattle.act_code.specs.declared.action.Action.TheVariants as A
-use Rattle.catalog_model.specs.declared.catalog.Catalog.{Catalog}
-use Rattle.catalog_model.specs.declared.catalog.PartExpr.{PartExpr}
-use Rattle.catalog_model.specs.declared.catalog.PartExpr.TheVariants as E
+use Rattle.mod_catalog.specs.declared.catalogue.Catalog.{Catalog}
+use Rattle.mod_catalog.specs.declared.catalogue.PartExpr.{PartExpr}
+use Rattle.mod_catalog.specs.declared.catalogue.PartExpr.TheVariants as E
 use Rattle.pi_base.specs.declared.known_guid.TheConstants.{MEMORY_PPI}
 use Rattle.store_model.specs.declared.store_handle.Sweep.{Sweep}
 use Rattle.pi_base.specs.Guids.{same_guid}
@@ -22,7 +22,7 @@ use Rattle.store_model.specs.StoreState.{StoreState}
 use Rattle.store_model.specs.Service.{Service}
 use Rattle.store_model.specs.Service.Descriptor.{guid_at, offsets}
 use Rattle.store_model.specs.Service.Install.{core_install}
-use Rattle.catalog_model.specs.Parts.{has_number, part_at}
+use Rattle.mod_catalog.specs.Parts.{has_number, part_at}
 use Rattle.boot_model.specs.Registers.{descriptor_in, descriptors_in, is_success}
 use Rattle.boot_model.specs.PeiMachine.{PeiMachine, Frame}
 use Rattle.boot_model.specs.PeiAction.{Effect, Wrote, Called, Own, Shadowed, Logged, Skipped, Returned, effect}

@@ -3,8 +3,8 @@
 -- PI 1.8, volumes 1 and 2, leave the order to the dispatchers.
 use Rattle.std.specs.Prelude.{◌≡◌, ℕ, true, List, [], ◌∷◌, Option, Some, None, is_some}
 use Rattle.pi_base.specs.declared.phase.Phase.TheVariants.{Dxe}
-use Rattle.catalog_model.specs.declared.catalog.Catalog.{Catalog}
-use Rattle.catalog_model.specs.Parts.{has_number, part_at}
+use Rattle.mod_catalog.specs.declared.catalogue.Catalog.{Catalog}
+use Rattle.mod_catalog.specs.Parts.{has_number, part_at}
 use Rattle.boot_model.specs.Eligible.{is_eligible}
 use Rattle.store_model.specs.StoreState.{Board}
 use Rattle.boot_model.specs.declared.line.Line.{Line}

@@ -5,17 +5,17 @@ use Rattle.std.specs.Prelude.{◌≡◌, ◌≢◌, ℕ, Bool, zero, suc, true, 
 use Rattle.pi_base.specs.declared.phase.Phase.{Phase}
 use Rattle.pi_base.specs.declared.phase.Phase.TheVariants.{Pei}
 use Rattle.depex_code.specs.declared.depex.Depex.{Depex}
-use Rattle.catalog_model.specs.declared.catalog.Catalog.{Catalog}
-use Rattle.catalog_model.specs.declared.catalog.Part.{Part}
-use Rattle.catalog_model.specs.declared.catalog.PartExpr.TheVariants as E
+use Rattle.mod_catalog.specs.declared.catalogue.Catalog.{Catalog}
+use Rattle.mod_catalog.specs.declared.catalogue.Part.{Part}
+use Rattle.mod_catalog.specs.declared.catalogue.PartExpr.TheVariants as E
 use Rattle.boot_model.specs.declared.licence.Licence.{Licence}
 use Rattle.boot_model.specs.declared.licence.Licence.TheVariants as G
 use Rattle.pi_base.specs.Lists.{Each}
 use Rattle.store_model.specs.StoreState.{StoreState, Board}
 use Rattle.store_model.specs.StateFacts.{IsBoard}
 use Rattle.store_model.specs.Service.Install.{has_ppi}
-use Rattle.catalog_model.specs.Parts.{has_number, part_at, module_volume}
-use Rattle.catalog_model.specs.WellFormed.{IsWellFormed}
+use Rattle.mod_catalog.specs.Parts.{has_number, part_at, module_volume}
+use Rattle.mod_catalog.specs.WellFormed.{IsWellFormed}
 use Rattle.boot_model.specs.Unchanged.{IsUnchanged}
 use Rattle.boot_model.specs.Eligible.{depex_holds, is_eligible, licence_at}
 use Rattle.boot_model.specs.PeiMachine.{PeiMachine}

@@ -6,7 +6,7 @@ use Rattle.boot_model.specs.declared.frame.Register.{Register}
 use Rattle.boot_model.specs.declared.frame.Register.TheVariants.{Empty, Number, PoolIn, DescriptorIn, HandleIn}
 use Rattle.store_model.specs.declared.store_handle.Firing.{Firing}
 use Rattle.pi_base.specs.Lists.{Each}
-use Rattle.catalog_model.specs.declared.limits.TheConstants.{MOST_MODULES}
+use Rattle.mod_catalog.specs.declared.limits.TheConstants.{MOST_MODULES}
 use Rattle.store_model.specs.StoreState.{StoreState}
 use Rattle.store_model.specs.declared.limits.TheConstants.{NOTE_NUMBERS}
 use Rattle.store_model.specs.StateFacts.{IsDesc, IsPool, IsSweepOf}

@@ -3,10 +3,10 @@
 -- PI 1.8, volume 1, "PEI Dispatcher" and "A Priori File"; the rotation is own.
 use Rattle.std.specs.Prelude.{ℕ, ◌+◌, Bool, false, ◌==◌, if◌then◌else◌, List, [], ◌∷◌, ◌++◌, Option, Some, None, is_none, filter, find, take, drop, length, flat_map}
 use Rattle.pi_base.specs.declared.phase.Phase.TheVariants.{Pei}
-use Rattle.catalog_model.specs.declared.catalog.Catalog.{Catalog}
+use Rattle.mod_catalog.specs.declared.catalogue.Catalog.{Catalog}
 use Rattle.pi_base.specs.Lists.{numbers}
 use Rattle.boot_model.specs.PeiMachine.{PeiMachine}
-use Rattle.catalog_model.specs.Parts.{parts_in, rank_at}
+use Rattle.mod_catalog.specs.Parts.{parts_in, rank_at}
 use Rattle.boot_model.specs.Eligible.{is_eligible}
 
 -- whether a place in an a priori list is this one

@@ -2,10 +2,10 @@
 -- At the opening volume 0 and the volumes nested in it have just been reported, and the heap holds the hand-off HOB alone.
 -- Own; PI 1.8, volume 1, leaves the run to the dispatcher.
 use Rattle.std.specs.Prelude.{◌≡◌, ℕ, zero, suc, ◌+◌, ◌*◌, true, List, [], ◌∷◌, length, Some, None, is_some}
-use Rattle.catalog_model.specs.declared.catalog.Catalog.{Catalog}
+use Rattle.mod_catalog.specs.declared.catalogue.Catalog.{Catalog}
 use Rattle.boot_model.specs.declared.frame.TheConstants.{MOST_FRAMES}
 use Rattle.store_model.specs.StoreState.{Board, empty_store}
-use Rattle.catalog_model.specs.Parts.{family}
+use Rattle.mod_catalog.specs.Parts.{family}
 use Rattle.boot_model.specs.PeiMachine.{PeiMachine}
 use Rattle.boot_model.specs.PeiStep.{pei_step, report_lines}
 

@@ -8,10 +8,10 @@ use Rattle.pi_base.specs.declared.phase.Phase.TheVariants.{Pei}
 use Rattle.pi_base.specs.declared.word.Word.TheVariants.{Success, AlreadyStarted}
 use Rattle.act_code.specs.declared.action.Action.{Action}
 use Rattle.act_code.specs.declared.action.Action.TheVariants.{Ret}
-use Rattle.catalog_model.specs.declared.catalog.Catalog.{Catalog}
-use Rattle.catalog_model.specs.declared.catalog.Part.{Part}
-use Rattle.catalog_model.specs.declared.catalog.PartExpr.{PartExpr}
-use Rattle.catalog_model.specs.declared.catalog.PartExpr.TheVariants as E
+use Rattle.mod_catalog.specs.declared.catalogue.Catalog.{Catalog}
+use Rattle.mod_catalog.specs.declared.catalogue.Part.{Part}
+use Rattle.mod_catalog.specs.declared.catalogue.PartExpr.{PartExpr}
+use Rattle.mod_catalog.specs.declared.catalogue.PartExpr.TheVariants as E
 use Rattle.boot_model.specs.declared.frame.TheConstants.{MOST_FRAMES, BLOCKS}
 use Rattle.pi_base.specs.declared.known_guid.TheConstants.{DXE_IPL_PPI}
 use Rattle.boot_model.specs.declared.licence.Licence.{Licence}
@@ -32,7 +32,7 @@ use Rattle.store_model.specs.Migration.{migration}
 use Rattle.boot_model.specs.PeiMachine.{PeiMachine, Frame, notified_frame, printed}
 use Rattle.boot_model.specs.declared.phase_end.PeiEnd.{PeiEnd}
 use Rattle.boot_model.specs.declared.phase_end.PeiEnd.TheVariants.{Handoff, NoMemory, NoIpl, Spent, Deep}
-use Rattle.catalog_model.specs.Parts.{has_number, part_at, module_name, module_volume, block_of}
+use Rattle.mod_catalog.specs.Parts.{has_number, part_at, module_name, module_volume, block_of}
 use Rattle.boot_model.specs.Eligible.{licence_at}
 use Rattle.boot_model.specs.PeiChoice.{pei_order, next_peim, cursor_behind}
 use Rattle.boot_model.specs.PeiAction.{Reply, Effect, Wrote, Called, Own, Shadowed, Logged, Skipped, Returned, effect, status_of}

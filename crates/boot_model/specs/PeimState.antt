@@ -2,7 +2,7 @@
 -- Only a module that has started registers, and only one that registered starts again: so the lists know four states.
 -- PI 1.8, volume 1, "PEI Dispatcher" and `RegisterForShadow()`; the states are those of EDK2's dispatcher.
 use Rattle.std.specs.Prelude.{◌≡◌, ℕ, Bool, true, false, if◌then◌else◌, List, slice_get, unwrap_or}
-use Rattle.catalog_model.specs.Parts.{has_number}
+use Rattle.mod_catalog.specs.Parts.{has_number}
 use Rattle.boot_model.specs.PeiMachine.{PeiMachine}
 use Rattle.boot_model.specs.declared.peim_state.PeimState.{PeimState}
 use Rattle.boot_model.specs.declared.peim_state.PeimState.TheVariants.{NotDispatched, Dispatched, RegisteredForShadow, Done}

@@ -5,7 +5,7 @@ use Rattle.std.specs.Option.{option_and_then}
 use Rattle.pi_base.specs.declared.guid.Guid.{Guid}
 use Rattle.pi_base.specs.Field.{little_number}
 use Rattle.std.specs.Prelude.{drop}
-use Rattle.catalog_model.specs.declared.catalog.Catalog.{Catalog}
+use Rattle.mod_catalog.specs.declared.catalogue.Catalog.{Catalog}
 use Rattle.boot_model.specs.declared.known_guid.TheConstants.{FILE_SYSTEM2, FILE_SYSTEM3}
 use Rattle.pi_base.specs.declared.known_guid.TheConstants.{VOLUME_INFO_PPI}
 use Rattle.pi_base.specs.Guids.{same_guid}
@@ -13,7 +13,7 @@ use Rattle.pi_base.specs.Guids as Guids
 use Rattle.store_model.specs.StoreState.{StoreState}
 use Rattle.store_model.specs.MemoryReading.{bytes_at}
 use Rattle.store_model.specs.Service.Descriptor.{guid_at, number_at}
-use Rattle.catalog_model.specs.Parts.{has_number, family, volume_at}
+use Rattle.mod_catalog.specs.Parts.{has_number, family, volume_at}
 
 -- the bytes of the PPI
 abbrev pub volume_info_len : ℕ

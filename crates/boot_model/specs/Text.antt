@@ -23,8 +23,8 @@ use Rattle.boot_model.specs.declared.line.ExpressionWord.{ExpressionWord}
 use Rattle.boot_model.specs.declared.line.ExpressionWord.TheVariants as V
 use Rattle.boot_model.specs.declared.licence.Licence.{Licence}
 use Rattle.boot_model.specs.declared.licence.Licence.TheVariants as G
-use Rattle.catalog_model.specs.declared.image_fault.ImageCause.{ImageCause}
-use Rattle.catalog_model.specs.declared.image_fault.ImageCause.TheVariants as I
+use Rattle.mod_catalog.specs.declared.image_fault.ImageCause.{ImageCause}
+use Rattle.mod_catalog.specs.declared.image_fault.ImageCause.TheVariants as I
 
 -- `-` in the place of what is not there
 abbrev pub dash : List ℕ

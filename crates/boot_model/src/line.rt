@@ -2,7 +2,7 @@
 use crate::licence::Licence;
 use arrayvec::ArrayVec;
 use boot_plan::PlanCause;
-use catalog_model::ImageCause;
+use mod_catalog::ImageCause;
 use pi_base::{Guid, Seq, Word};
 
 /// How many bytes a script logs or reads at once.

@@ -2,8 +2,8 @@
 use Rattle.std.proofs.Common.{◌≡◌, ℕ, Bool, true, false, cond, List, [], ◌∷◌, ◌++◌, Option, Some, None, option_map, refl, sym, ap, ◌∙◌, append_assoc, filter, flat_map}
 use Rattle.std.specs.Option.{option_to_list}
 use Rattle.pi_base.specs.declared.phase.Phase.TheVariants.{Dxe}
-use Rattle.catalog_model.specs.declared.catalog.Part.{Part}
-use Rattle.catalog_model.specs.Parts.{part_at}
+use Rattle.mod_catalog.specs.declared.catalogue.Part.{Part}
+use Rattle.mod_catalog.specs.Parts.{part_at}
 use Rattle.store_model.specs.HandleState.{has_protocol}
 use Rattle.boot_model.specs.declared.line.Reason.{Reason}
 use Rattle.boot_model.specs.DxeChoice.{is_waiting}
@@ -12,7 +12,7 @@ use Rattle.boot_reasons.specs.Would.{would}
 use Rattle.explain_text.specs.declared.reasons.Need.{Need}
 use Rattle.boot_reasons.specs.Needs.{needs_of}
 use Rattle.pi_base.specs.declared.guid.Guid.{Guid}
-use Rattle.catalog_model.specs.declared.catalog.Catalog.{Catalog}
+use Rattle.mod_catalog.specs.declared.catalogue.Catalog.{Catalog}
 use Rattle.store_model.specs.StoreState.{StoreState}
 use Rattle.boot_model.specs.declared.phase_end.DxeEnd.{DxeEnd}
 use Rattle.boot_model.specs.DxeMachine.{DxeMachine}

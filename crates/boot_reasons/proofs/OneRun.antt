@@ -4,9 +4,9 @@ use Rattle.std.specs.Prelude.{◌==◌, slice_get}
 use Rattle.std.proofs.lemmas.Bool.{cases_lt}
 use Rattle.std.proofs.lemmas.Bool.Decides.{eqb_tells}
 use Rattle.boot_laws.specs.PeiOrder.{OrderIsOfModules}
-use Rattle.catalog_model.specs.declared.catalog.Catalog.{Catalog}
-use Rattle.catalog_model.specs.Parts.{has_number}
-use Rattle.catalog_model.specs.WellFormed.{IsWellFormed}
+use Rattle.mod_catalog.specs.declared.catalogue.Catalog.{Catalog}
+use Rattle.mod_catalog.specs.Parts.{has_number}
+use Rattle.mod_catalog.specs.WellFormed.{IsWellFormed}
 use Rattle.store_model.specs.StoreState.{Board}
 use Rattle.boot_model.specs.declared.phase_end.DxeEnd.{DxeEnd}
 use Rattle.boot_model.specs.declared.phase_end.PeiEnd.{PeiEnd}
@@ -30,7 +30,7 @@ use Rattle.pei_dispatch.proofs.Chosen.{idle_starts, some_first}
 use Rattle.dxe_dispatch.specs.Choices as D
 use Rattle.dxe_dispatch.specs.Turns.{PassesStart}
 use Rattle.dxe_dispatch.proofs.Targets.{Doing, HasScheduled, MayChoose, RunsScript, doing, none_aimed, none_named}
-use Rattle.whole_boot.specs.Choices.{Choices}
+use Rattle.boot_core.specs.Choices.{Choices}
 use Rattle.boot_reasons.specs.declared.dxe.DxeExplained.{DxeExplained}
 use Rattle.boot_reasons.specs.declared.pei.PeiExplained.{PeiExplained}
 use Rattle.explain_text.specs.declared.reasons.Explained.{Explained}

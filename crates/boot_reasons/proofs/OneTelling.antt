@@ -1,6 +1,6 @@
 -- One explanation of a phase tells the lists of one run.
 use Rattle.std.proofs.Common.{◌≡◌, List, sym, ◌∙◌}
-use Rattle.catalog_model.specs.declared.catalog.Catalog.{Catalog}
+use Rattle.mod_catalog.specs.declared.catalogue.Catalog.{Catalog}
 use Rattle.boot_model.specs.DxeMachine.{DxeMachine}
 use Rattle.boot_model.specs.PeiMachine.{PeiMachine}
 use Rattle.std.proofs.lemmas.Option.{same_Some}

@@ -1,8 +1,8 @@
 -- Of which boot an explanation is.
 use Rattle.std.proofs.Common.{◌≡◌, ℕ, ◌++◌, Some, Option, option_map, refl, sym, ap, ◌∙◌, subst}
 use Rattle.boot_laws.specs.RunsEnd.{DxeRunsEnd, PeiRunsEnd}
-use Rattle.catalog_model.specs.declared.catalog.Catalog.{Catalog}
-use Rattle.catalog_model.specs.WellFormed.{IsWellFormed}
+use Rattle.mod_catalog.specs.declared.catalogue.Catalog.{Catalog}
+use Rattle.mod_catalog.specs.WellFormed.{IsWellFormed}
 use Rattle.store_model.specs.HandleState.{no_handles}
 use Rattle.store_model.specs.StoreState.{Board}
 use Rattle.boot_model.specs.BootRun.{dxe_result}
@@ -17,8 +17,8 @@ use Rattle.boot_model.specs.PeiRun.{pei_end}
 use Rattle.dxe_dispatch.specs.Choices.{came}
 use Rattle.dxe_dispatch.proofs.FirstRuns as D
 use Rattle.pei_dispatch.proofs.FirstRuns as P
-use Rattle.whole_boot.specs.BootEnd.{end_after, end_of}
-use Rattle.whole_boot.specs.Choices.{Choices}
+use Rattle.boot_core.specs.WholeEnd.{end_after, end_of}
+use Rattle.boot_core.specs.Choices.{Choices}
 use Rattle.boot_reasons.specs.declared.pei.PeiExplained.{PeiExplained}
 use Rattle.explain_text.specs.declared.reasons.Explained.{Explained}
 use Rattle.boot_reasons.specs.Boots.{AreDriversOf, ExplainsBoots, IsOfBoot, IsOfOwnBoot}

@@ -13,9 +13,9 @@ use Rattle.boot_model.specs.PeiMachine.{PeiMachine}
 use Rattle.boot_model.specs.PeiRun.{pei_opening}
 use Rattle.boot_model.specs.PeiStep.{Stops, case_of, pei_step, started, started_part, stopped, with_start}
 use Rattle.boot_trace.specs.Printing.{Texts}
-use Rattle.catalog_model.specs.declared.catalog.Catalog.{Catalog}
-use Rattle.catalog_model.specs.declared.catalog.Part.{Part}
-use Rattle.catalog_model.specs.Parts.{has_number, part_at}
+use Rattle.mod_catalog.specs.declared.catalogue.Catalog.{Catalog}
+use Rattle.mod_catalog.specs.declared.catalogue.Part.{Part}
+use Rattle.mod_catalog.specs.Parts.{has_number, part_at}
 use Rattle.boot_laws.specs.PeiAim.{CursorAims, with_cursor}
 use Rattle.boot_laws.specs.PeiFree.{IsOwnCase, OwnPeiStepsAreFree}
 use Rattle.boot_laws.specs.PeiUnderWay.{IsUnderWay, PeiStepsRunOut}

@@ -1,6 +1,6 @@
 -- What is told of both phases explains the boot.
 use Rattle.std.proofs.Common.{◌≡◌, ℕ, Bool, IfOk, Option, Some, None, Result, Ok, Err, true≢false, refl, sym, ap, ◌∙◌, subst}
-use Rattle.catalog_model.specs.declared.catalog.Catalog.{Catalog}
+use Rattle.mod_catalog.specs.declared.catalogue.Catalog.{Catalog}
 use Rattle.store_model.specs.Service.{OfEach}
 use Rattle.store_model.specs.StoreCall.{Anything}
 use Rattle.store_model.specs.StoreState.{Board, StoreState}

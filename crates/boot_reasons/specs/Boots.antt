@@ -1,8 +1,8 @@
 -- Of which boot an explanation is.
 -- Own; PI 1.8, volumes 1 and 2, leave the order of the modules that may start to the dispatchers.
 use Rattle.std.specs.Prelude.{◌≡◌, ℕ, Option, Some}
-use Rattle.catalog_model.specs.declared.catalog.Catalog.{Catalog}
-use Rattle.catalog_model.specs.WellFormed.{IsWellFormed}
+use Rattle.mod_catalog.specs.declared.catalogue.Catalog.{Catalog}
+use Rattle.mod_catalog.specs.WellFormed.{IsWellFormed}
 use Rattle.store_model.specs.StoreState.{Board}
 use Rattle.boot_model.specs.DxeMachine.{DxeMachine}
 use Rattle.boot_model.specs.PeiMachine.{PeiMachine}
@@ -10,9 +10,9 @@ use Rattle.boot_model.specs.PeiRun.{pei_end}
 use Rattle.boot_model.specs.declared.phase_end.PeiEnd.TheVariants.{Handoff}
 use Rattle.boot_model.specs.DxeRun.{dxe_end}
 use Rattle.boot_laws.specs.declared.choice.Reached.{Reached}
-use Rattle.whole_boot.specs.BootEnd.{end_of}
-use Rattle.whole_boot.specs.ByChoice.{BootBy}
-use Rattle.whole_boot.specs.Choices.{Choices}
+use Rattle.boot_core.specs.WholeEnd.{end_of}
+use Rattle.boot_core.specs.ByChoice.{BootBy}
+use Rattle.boot_core.specs.Choices.{Choices}
 use Rattle.explain_text.specs.declared.reasons.Explained.{Explained}
 use Rattle.boot_reasons.specs.Explained.{ExplainsTo, IsExplained, IsExplainedBy}
 

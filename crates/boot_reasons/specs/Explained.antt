@@ -1,7 +1,7 @@
 -- A boot by choices, explained: why modules started and why others never did, along the runs of PEI and of DXE to which the choices lead. Or it is left before the start of a module that they do not let.
 -- Own; PI 1.8, volumes 1 and 2, leave the order of the modules that may start to the dispatchers.
 use Rattle.std.specs.Prelude.{◌≡◌, ℕ, true, List, Some, None}
-use Rattle.catalog_model.specs.declared.catalog.Catalog.{Catalog}
+use Rattle.mod_catalog.specs.declared.catalogue.Catalog.{Catalog}
 use Rattle.store_model.specs.StoreState.{Board, StoreState}
 use Rattle.boot_model.specs.declared.line.RunEnd.TheVariants as E
 use Rattle.boot_model.specs.declared.phase_end.PeiEnd.{PeiEnd}
@@ -14,7 +14,7 @@ use Rattle.boot_laws.specs.declared.choice.Reached.{Reached}
 use Rattle.boot_laws.specs.declared.choice.Reached.TheVariants as R
 use Rattle.pei_core.specs.declared.pei.Pei.{Pei}
 use Rattle.pei_dispatch.specs.Choices.{IsRunBy}
-use Rattle.whole_boot.specs.Choices.{Choices}
+use Rattle.boot_core.specs.Choices.{Choices}
 use Rattle.boot_reasons.specs.declared.dxe.DxeExplained.{DxeExplained}
 use Rattle.boot_reasons.specs.declared.pei.PeiExplained.{PeiExplained}
 use Rattle.explain_text.specs.declared.reasons.Explained.{Explained}

@@ -6,7 +6,7 @@ use Rattle.boot_model.specs.PeiMachine.{PeiMachine}
 use Rattle.pei_dispatch.specs.Choices.{LetsPeims}
 use Rattle.pei_dispatch.specs.Ends.{pei_starts}
 use Rattle.dxe_dispatch.specs.Choices.{LetsDrivers}
-use Rattle.whole_boot.specs.Choices.{Choices, starts_of}
+use Rattle.boot_core.specs.Choices.{Choices, starts_of}
 use Rattle.boot_reasons.specs.declared.nowhere.Nowhere.{Nowhere}
 
 -- the one sink that tells nothing

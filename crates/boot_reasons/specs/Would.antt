@@ -8,8 +8,8 @@ use Rattle.pi_base.specs.Guids.{same_guid}
 use Rattle.pi_base.specs.Lists.{firsts}
 use Rattle.depex_code.specs.Tree.{DepexTree, True, False, Push, Not, And, Or, truth}
 use Rattle.depex_code.specs.declared.depex.Depex.TheVariants as D
-use Rattle.catalog_model.specs.declared.catalog.PartExpr.{PartExpr}
-use Rattle.catalog_model.specs.declared.catalog.PartExpr.TheVariants as E
+use Rattle.mod_catalog.specs.declared.catalogue.PartExpr.{PartExpr}
+use Rattle.mod_catalog.specs.declared.catalogue.PartExpr.TheVariants as E
 use Rattle.boot_reasons.specs.Asked.{asked_without, is_among}
 
 -- those of both sides

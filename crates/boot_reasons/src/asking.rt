@@ -4,8 +4,8 @@ ghost use Rattle.boot_reasons.specs.Asked.{asked, asked_without};
 
 use crate::noted::Noted;
 use boot_model::ARCHITECTURAL;
-use catalog_model::PartExpr;
 use depex_code::Depex;
+use mod_catalog::PartExpr;
 use pi_base::{Guid, OutOfMemory, Phase, Seq};
 use std::alloc::Global;
 

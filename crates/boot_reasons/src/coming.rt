@@ -7,8 +7,8 @@ ghost use Rattle.boot_reasons.specs.Would.{with_these, would, would_make};
 use crate::asking::asked_without;
 use crate::noted::Noted;
 use crate::sides::side_of;
-use catalog_model::PartExpr;
 use depex_code::{Depex, GuidSet, Tree};
+use mod_catalog::PartExpr;
 use pi_base::{Guid, OutOfMemory, Phase, Seq};
 use std::alloc::Global;
 
@@ -48,6 +48,23 @@ fn holds_with<G: GuidSet>(
     Ok(side.holds)
 }
 
+// These GUIDs, each noted once.
+fn noted_of(alloc: Global, guids: Seq<Guid>) -> Result<Noted, OutOfMemory>
+    ensures noted { IfOk result (λ noted. noted.guids ≡ noted_all [] guids) }
+    ensures seen { IfOk result (λ noted. AreSeen noted) }
+{
+    let mut noted = Noted::new(alloc);
+    let all = noted.note_all(guids.as_slice());
+    drop(guids);
+    match all {
+        Ok(()) => Ok(noted),
+        Err(OutOfMemory) => {
+            drop(noted);
+            Err(OutOfMemory)
+        }
+    }
+}
+
 // The GUIDs whose coming would make a tree hold.
 #[tactic(auto, using(crate::proofs::OnceEach::noted_once, crate::proofs::OnceEach::truth_once))]
 fn would_make<G: GuidSet>(
@@ -63,12 +80,19 @@ fn would_make<G: GuidSet>(
         Some(guids) => guids,
         None => return Ok(None),
     };
-    let mut noted = Noted::new(alloc);
-    noted.note_all(guids.as_slice())?;
-    if holds_with(alloc, set, &noted, tree)? {
-        Ok(Some(noted.guids))
-    } else {
-        Ok(None)
+    let Ok(noted) = noted_of(alloc, guids) else {
+        return Err(OutOfMemory);
+    };
+    match holds_with(alloc, set, &noted, tree) {
+        Ok(true) => Ok(Some(noted.guids)),
+        Ok(_) => {
+            drop(noted);
+            Ok(None)
+        }
+        Err(OutOfMemory) => {
+            drop(noted);
+            Err(OutOfMemory)
+        }
     }
 }
 

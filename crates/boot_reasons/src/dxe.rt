@@ -1,7 +1,7 @@
 // DXE by a choice from the hand-off to its end, explained.
 ghost use Rattle.std.specs.Prelude.{◌≡◌, ◌<◌, ℕ, IfOk};
 ghost use Rattle.boot_model.specs.DxeRun.{dxe_opening};
-ghost use Rattle.catalog_model.specs.WellFormed.{IsWellFormed};
+ghost use Rattle.mod_catalog.specs.WellFormed.{IsWellFormed};
 ghost use Rattle.dxe_dispatch.specs.Queue.{IsNewQueue, IsQueueFor};
 ghost use Rattle.dxe_core.specs.Standing.{IsFor, StandsFor};
 ghost use Rattle.store_model.specs.Service.{Present, OfEach};
@@ -20,11 +20,11 @@ use boot_laws::{
     groups_are_aimed, unrequested_drivers_wait,
 };
 use boot_model::DxeEnd;
-use catalog_model::Catalog;
 use depex_code::Steps;
 use dxe_core::Dxe;
 use dxe_dispatch::{DriverQueue, Turn, bound, dxe_at_opening, turn_by};
 use explain_text::{Begun, Held};
+use mod_catalog::Catalog;
 use pi_base::{OutOfMemory, Seq};
 use std::alloc::Global;
 use std::marker::Brand;
@@ -97,8 +97,15 @@ fn explain_end<M: PeiStore>(
 ) -> Result<DxeExplained, OutOfMemory>
     ensures { IfOk result (ExplainsEnd M.stands_for store.now catalog.now dxe.now queue.now told end) }
 {
-    let held = held_drivers(alloc, dxe, queue, catalog, &told.givers)?;
-    let discovered = copied(alloc, dxe.order().volumes())?;
+    let Ok(held) = held_drivers(alloc, dxe, queue, catalog, &told.givers) else {
+        drop(told);
+        return Err(OutOfMemory);
+    };
+    let Ok(discovered) = copied(alloc, dxe.order().volumes()) else {
+        drop(held);
+        drop(told);
+        return Err(OutOfMemory);
+    };
     Ok(DxeExplained {
         end,
         begun: told.begun,
@@ -130,14 +137,24 @@ fn explain_opened<M: PeiStore, C: Choice<Nowhere>, L: Ledger>(
     dxe_opens();
     unrequested_drivers_wait();
     discovered_order_has_each_once();
-    queue.discover(catalog, dxe.order(), dxe.order().volumes())?;
+    match queue.discover(catalog, dxe.order(), dxe.order().volumes()) {
+        Ok(()) => {}
+        Err(OutOfMemory) => return Err(OutOfMemory),
+    }
     let mut told = DxeTold::new(alloc);
-    match run_to_end(dxe, store, queue, choice, in_pei, catalog, &mut told, steps)? {
-        Reached::End(end) => {
-            let explained = explain_end(alloc, dxe, store, queue, catalog, told, end)?;
-            Ok(Reached::End(explained))
+    match run_to_end(dxe, store, queue, choice, in_pei, catalog, &mut told, steps) {
+        Ok(Reached::End(end)) => match explain_end(alloc, dxe, store, queue, catalog, told, end) {
+            Ok(explained) => Ok(Reached::End(explained)),
+            Err(OutOfMemory) => Err(OutOfMemory),
+        },
+        Ok(Reached::Barred(number)) => {
+            drop(told);
+            Ok(Reached::Barred(number))
         }
-        Reached::Barred(number) => Ok(Reached::Barred(number)),
+        Err(OutOfMemory) => {
+            drop(told);
+            Err(OutOfMemory)
+        }
     }
 }
 
@@ -185,7 +202,13 @@ pub(crate) fn explain_dxe<M: PeiStore, C: Choice<Nowhere>>(
         (λ s. IfOk result (λ reached. ExplainsBehind (C.drivers choice.now) (C.lets_in_dxe choice.now) in_pei
         catalog.now fuel taken reached s)) }
 {
-    let mut dxe = dxe_at_opening(alloc, store, catalog, fuel, taken)?;
+    let Ok(mut dxe) = dxe_at_opening(alloc, store, catalog, fuel, taken) else {
+        return Err(OutOfMemory);
+    };
     let blank = Blank::new(1);
-    explain_with_ledger::<M, C, Brand>(alloc, &mut dxe, store, choice, in_pei, catalog, blank)
+    let reached = explain_with_ledger::<M, C, Brand>(
+        alloc, &mut dxe, store, choice, in_pei, catalog, blank,
+    );
+    drop(dxe);
+    reached
 }

@@ -13,10 +13,10 @@ use crate::coming::would;
 use crate::givers::Givers;
 use crate::needs::needs_of;
 use crate::waiters::push_held;
-use catalog_model::Catalog;
 use dxe_core::{Dxe, is_requested};
 use dxe_dispatch::{DriverQueue, reason_of};
 use explain_text::Held;
+use mod_catalog::Catalog;
 use phase_parts::part_of;
 use pi_base::{OutOfMemory, Phase, Seq};
 use std::alloc::Global;
@@ -43,7 +43,10 @@ fn held_of(
     };
     let requested = is_requested(dxe.requested(), number);
     let needs = needs_of(alloc, givers, Phase::Dxe, part)?;
-    let guids = would(alloc, dxe.handles(), Phase::Dxe, &part.expr)?;
+    let Ok(guids) = would(alloc, dxe.handles(), Phase::Dxe, &part.expr) else {
+        drop(needs);
+        return Err(OutOfMemory);
+    };
     Ok(Some(Held {
         number,
         phase: Phase::Dxe,

@@ -13,10 +13,10 @@ use crate::givers::Givers;
 use crate::needs::needs_of;
 use crate::told::DxeTold;
 use boot_model::{Licence, Scheduled};
-use catalog_model::Catalog;
 use dxe_core::{DriverOrder, Dxe};
 use dxe_dispatch::{Step, target_of};
 use explain_text::{Begun, Giver};
+use mod_catalog::Catalog;
 use phase_parts::part_of;
 use pi_base::{Guid, OutOfMemory, Phase};
 

@@ -3,7 +3,7 @@ ghost use Rattle.std.specs.Prelude.{◌≡◌, ◌≤◌, ◌++◌, IfOk, length
 ghost use Rattle.boot_model.specs.BootRun.{dxe_result};
 ghost use Rattle.boot_model.specs.PeiMachine.{PeiMachine};
 ghost use Rattle.boot_model.specs.declared.phase_end.PeiEnd.TheVariants.{Handoff};
-ghost use Rattle.catalog_model.specs.WellFormed.{IsWellFormed};
+ghost use Rattle.mod_catalog.specs.WellFormed.{IsWellFormed};
 ghost use Rattle.boot_model.specs.PeiRun.{pei_opening};
 ghost use Rattle.pei_core.specs.Standing.{IsFor, StandsFor};
 ghost use Rattle.store_model.specs.StoreState.{Board, empty_store};
@@ -16,8 +16,8 @@ use crate::nowhere::Nowhere;
 use crate::pei::{PeiExplained, explain_pei};
 use boot_laws::{Choice, Reached};
 use boot_model::{DxeEnd, PeiEnd, RunEnd};
-use catalog_model::Catalog;
 use explain_text::Explained;
+use mod_catalog::Catalog;
 use pei_core::Pei;
 use pi_base::{OutOfMemory, Seq};
 use std::alloc::Global;
@@ -102,12 +102,19 @@ fn explain_drivers<M: PeiStore + Drop, C: Choice<Nowhere>>(
         pei.actions(),
         pei.starts(),
         choice,
-    )? {
-        Reached::End(drivers) => {
-            let all = together(explained, drivers)?;
-            Ok(Reached::End(all))
+    ) {
+        Ok(Reached::End(drivers)) => match together(explained, drivers) {
+            Ok(all) => Ok(Reached::End(all)),
+            Err(OutOfMemory) => Err(OutOfMemory),
+        },
+        Ok(Reached::Barred(number)) => {
+            drop(explained);
+            Ok(Reached::Barred(number))
         }
-        Reached::Barred(number) => Ok(Reached::Barred(number)),
+        Err(OutOfMemory) => {
+            drop(explained);
+            Err(OutOfMemory)
+        }
     }
 }
 

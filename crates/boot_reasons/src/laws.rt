@@ -1,7 +1,7 @@
 //! Laws of explained boots, each on a function that does nothing.
 ghost use Rattle.std.specs.Prelude.{ℕ};
-ghost use Rattle.catalog_model.specs.declared.catalog.Catalog.{Catalog};
-ghost use Rattle.catalog_model.specs.WellFormed.{IsWellFormed};
+ghost use Rattle.mod_catalog.specs.declared.catalogue.Catalog.{Catalog};
+ghost use Rattle.mod_catalog.specs.WellFormed.{IsWellFormed};
 ghost use Rattle.store_model.specs.StoreState.{Board};
 ghost use Rattle.explain_text.specs.declared.reasons.Explained.{Explained};
 ghost use Rattle.boot_reasons.specs.Boots.{ExplainsBoots, HasOneExplanation, IsOfOwnBoot};

@@ -5,8 +5,8 @@ ghost use Rattle.boot_reasons.specs.Noting.{giver_in};
 
 use crate::asking::asked;
 use crate::givers::Givers;
-use catalog_model::Part;
 use explain_text::Need;
+use mod_catalog::Part;
 use pi_base::{OutOfMemory, Phase, Seq};
 use std::alloc::Global;
 

@@ -1,7 +1,7 @@
 // PEI from its opening to its end, explained.
 ghost use Rattle.std.specs.Prelude.{◌≡◌, ◌<◌, IfOk};
 ghost use Rattle.boot_model.specs.PeiMachine.{PeiMachine};
-ghost use Rattle.catalog_model.specs.WellFormed.{IsWellFormed};
+ghost use Rattle.mod_catalog.specs.WellFormed.{IsWellFormed};
 ghost use Rattle.pei_core.specs.Standing.{StandsFor};
 ghost use Rattle.boot_reasons.specs.PeiEnding.{BeginsTold, Ends, Explains, ExplainsEnd, IsOpened, StandsAtOpening};
 
@@ -13,9 +13,9 @@ use crate::pei_turn::turn;
 use crate::told::PeiTold;
 use boot_laws::{Choice, Reached, cursor_aims, pei_opens, pei_starts_freely};
 use boot_model::PeiEnd;
-use catalog_model::Catalog;
 use depex_code::Steps;
 use explain_text::{Begun, Held, Moved};
+use mod_catalog::Catalog;
 use pei_core::Pei;
 use pei_dispatch::{PeiQueue, alike_views_are_shown, bound};
 use pi_base::{OutOfMemory, Seq};
@@ -88,8 +88,15 @@ fn explain_end<M: PeiStore + Drop>(
     requires state { (m : PeiMachine) × StandsFor M.stands_for pei.now m }
     ensures { IfOk result (ExplainsEnd M.stands_for catalog.now pei.now queue.now told end) }
 {
-    let held = held_parts(alloc, pei, catalog, &told.givers, queue.as_slice())?;
-    let reported = copied(alloc, pei.reported())?;
+    let Ok(held) = held_parts(alloc, pei, catalog, &told.givers, queue.as_slice()) else {
+        drop(told);
+        return Err(OutOfMemory);
+    };
+    let Ok(reported) = copied(alloc, pei.reported()) else {
+        drop(held);
+        drop(told);
+        return Err(OutOfMemory);
+    };
     Ok(PeiExplained {
         end,
         begun: told.begun,
@@ -116,12 +123,19 @@ fn explain_opened<M: PeiStore + Drop, C: Choice<Nowhere>, L: Ledger>(
 {
     pei_opens();
     let mut told = PeiTold::new(alloc);
-    match run_to_end(pei, queue, choice, catalog, &mut told, steps)? {
-        Reached::End(end) => {
-            let explained = explain_end(alloc, pei, queue, catalog, told, end)?;
-            Ok(Reached::End(explained))
+    match run_to_end(pei, queue, choice, catalog, &mut told, steps) {
+        Ok(Reached::End(end)) => match explain_end(alloc, pei, queue, catalog, told, end) {
+            Ok(explained) => Ok(Reached::End(explained)),
+            Err(OutOfMemory) => Err(OutOfMemory),
+        },
+        Ok(Reached::Barred(number)) => {
+            drop(told);
+            Ok(Reached::Barred(number))
         }
-        Reached::Barred(number) => Ok(Reached::Barred(number)),
+        Err(OutOfMemory) => {
+            drop(told);
+            Err(OutOfMemory)
+        }
     }
 }
 

@@ -13,8 +13,8 @@ use crate::givers::Givers;
 use crate::needs::needs_of;
 use crate::waiters::push_held;
 use boot_model::state_of;
-use catalog_model::Catalog;
 use explain_text::Held;
+use mod_catalog::Catalog;
 use pei_core::Pei;
 use pei_dispatch::reason_of;
 use phase_parts::part_of;
@@ -43,7 +43,10 @@ fn held_of<M: PeiStore + Drop>(
         None => return Ok(None),
     };
     let needs = needs_of(alloc, givers, Phase::Pei, part)?;
-    let guids = would(alloc, pei.store(), Phase::Pei, &part.expr)?;
+    let Ok(guids) = would(alloc, pei.store(), Phase::Pei, &part.expr) else {
+        drop(needs);
+        return Err(OutOfMemory);
+    };
     Ok(Some(Held {
         number,
         phase: Phase::Pei,

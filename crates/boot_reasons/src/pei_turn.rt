@@ -2,7 +2,7 @@
 ghost use Rattle.std.specs.Prelude.{◌≡◌, ◌++◌, ℕ, IfOk, OnOk};
 ghost use Rattle.std.specs.Option.{option_or, option_to_list};
 ghost use Rattle.boot_model.specs.PeiMachine.{PeiMachine};
-ghost use Rattle.catalog_model.specs.WellFormed.{IsWellFormed};
+ghost use Rattle.mod_catalog.specs.WellFormed.{IsWellFormed};
 ghost use Rattle.store_model.specs.Service.Install.{has_ppi};
 ghost use Rattle.pei_core.specs.Standing.{IsFor, StandsFor};
 ghost use Rattle.pei_core.specs.Steps.{IsIdle};
@@ -21,9 +21,9 @@ use boot_laws::{
     Choice, Reached, cursor_aims, guids_are_these, guids_change, pei_opens, pei_starts_freely,
 };
 use boot_model::{PeiEnd, state_of};
-use catalog_model::Catalog;
 use depex_code::Steps;
 use explain_text::{Begun, Giver};
+use mod_catalog::Catalog;
 use pei_core::{Event, Pei, Stepped};
 use pei_dispatch::{PeiQueue, aim, choose, go_on, licence_of, start, stop_pei};
 use phase_parts::part_of;
@@ -154,19 +154,21 @@ fn start_or_stop<M: PeiStore + Drop, C: Choice<Nowhere>, L: Ledger>(
 fn tell_step<M: PeiStore + Drop>(
     told: &mut PeiTold,
     pei: &Pei<M>,
-    event: &Event,
+    event: Event,
     actor: Giver,
     from: Option<u64>,
 ) -> Result<(), OutOfMemory>
     requires state { (m : PeiMachine) × StandsFor M.stands_for pei.now m }
     ensures givers { (m : PeiMachine) → StandsFor M.stands_for pei.now m
-        → OnOk result (IsEventNoted m.store event.now actor told.old.givers.map told.new.givers.map) }
+        → OnOk result (IsEventNoted m.store event actor told.old.givers.map told.new.givers.map) }
     ensures moved { (m : PeiMachine) → StandsFor M.stands_for pei.now m
         → OnOk result (told.new.moved ≡ option_or told.old.moved (moved_from from m.store)) }
     ensures begun { told.new.begun ≡ told.old.begun }
 {
     told.moved = first_move(told.moved, from, pei.store());
-    tell_event(&mut told.givers, pei, event, actor)
+    let noted = tell_event(&mut told.givers, pei, &event, actor);
+    drop(event);
+    noted
 }
 
 /// A step of the run of PEI by a choice, and what it tells: the core takes one, or where it has none left the next PEIM starts, if the choice lets it, or PEI stops.
@@ -194,10 +196,10 @@ pub(crate) fn turn<M: PeiStore + Drop, C: Choice<Nowhere>, L: Ledger>(
     let from = unmoved_base(pei.store());
     // What is put goes nowhere, which never fails.
     match go_on(pei, queue, catalog, &mut Nowhere) {
-        Ok(Stepped::Went(event)) => {
-            tell_step(told, pei, &event, actor, from)?;
-            Ok(None)
-        }
+        Ok(Stepped::Went(event)) => match tell_step(told, pei, event, actor, from) {
+            Ok(()) => Ok(None),
+            Err(OutOfMemory) => Err(OutOfMemory),
+        },
         Ok(Stepped::Idle) => start_or_stop(pei, queue, choice, catalog, told, steps),
         Ok(Stepped::Ended(end)) => Ok(Some(Reached::End(end))),
         Err(_) => Err(OutOfMemory),

@@ -1,22 +1,22 @@
 //! The boot of a plan, explained.
 ghost use Rattle.std.specs.Prelude.{◌≡◌, ◌≤◌, [], IfOk, length};
 ghost use Rattle.boot_model.specs.PlanBoard.{board_of};
-ghost use Rattle.catalog_model.specs.WellFormed.{IsWellFormed};
+ghost use Rattle.mod_catalog.specs.WellFormed.{IsWellFormed};
 ghost use Rattle.store_model.specs.StateFacts.{IsBoard};
 ghost use Rattle.boot_reasons.specs.Explained.{ExplainsTo, IsExplained};
 ghost use Rattle.boot_reasons.specs.Unseen.{choices_of};
 
 use crate::explain::explain_by;
 use crate::nowhere::Nowhere;
+use boot_core::whole::roms;
 use boot_laws::{Choice, FirstEligible, Reached};
 use boot_plan::Plan;
-use catalog_model::Catalog;
 use explain_text::Explained;
 use mem_store::MemStore;
+use mod_catalog::Catalog;
 use phys_mem::Rom;
 use pi_base::{OutOfMemory, Seq};
 use std::alloc::Global;
-use whole_boot::roms;
 
 // The boot of a plan by a choice, whose volumes are mapped so.
 fn explain_over<C: Choice<Nowhere>>(
@@ -33,8 +33,10 @@ fn explain_over<C: Choice<Nowhere>>(
         (C.drivers choice.now) (C.lets_in_dxe choice.now))
         (record (board_of plan.now catalog.now []) { roms = roms }) catalog.now plan.now.fuel) }
 {
-    let store = MemStore::new(alloc, plan.temp, plan.pages, plan.ram, roms)?;
-    explain_by(alloc, store, catalog, plan.fuel, choice)
+    match MemStore::new(alloc, plan.temp, plan.pages, plan.ram, roms) {
+        Ok(store) => explain_by(alloc, store, catalog, plan.fuel, choice),
+        Err(OutOfMemory) => Err(OutOfMemory),
+    }
 }
 
 /// Explains the boot of a plan by a choice, over the catalogue of its images, or tells before which start it is left. No image is copied.

@@ -17,8 +17,8 @@ use Rattle.boot_model.specs.declared.line.RunEnd.{RunEnd}
 use Rattle.boot_model.specs.declared.line.RunEnd.TheVariants as X
 use Rattle.boot_plan.specs.declared.fault.PlanCause.{PlanCause}
 use Rattle.boot_plan.specs.declared.fault.PlanCause.TheVariants as P
-use Rattle.catalog_model.specs.declared.image_fault.ImageCause.{ImageCause}
-use Rattle.catalog_model.specs.declared.image_fault.ImageCause.TheVariants as I
+use Rattle.mod_catalog.specs.declared.image_fault.ImageCause.{ImageCause}
+use Rattle.mod_catalog.specs.declared.image_fault.ImageCause.TheVariants as I
 
 some_one : {A : Type 0} (a b : A) → Some a ≡ Some b → a ≡ b
 some_one a b is = cc

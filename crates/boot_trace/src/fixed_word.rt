@@ -7,7 +7,7 @@ ghost use Rattle.boot_model.specs.Text.{licence_text, call_text, reason_text, en
 
 use boot_model::{CallName, Licence, Reason, RunEnd};
 use boot_plan::PlanCause;
-use catalog_model::ImageCause;
+use mod_catalog::ImageCause;
 use pi_base::Word;
 
 /// Why a module starts, as a line names it.

@@ -3,17 +3,17 @@ ghost use Rattle.std.specs.Prelude.{◌≤◌, [], length};
 ghost use Rattle.store_model.specs.StateFacts.{IsBoard};
 ghost use Rattle.store_plain.specs.PlainState.{stands_for};
 ghost use Rattle.boot_model.specs.PlanBoard.{board_of};
-ghost use Rattle.catalog_model.specs.WellFormed.{IsWellFormed};
-ghost use Rattle.whole_boot.specs.FirstBoot.{RunsTo};
+ghost use Rattle.mod_catalog.specs.WellFormed.{IsWellFormed};
+ghost use Rattle.boot_core.specs.FirstBoot.{RunsTo};
 
+use boot_core::whole::{Ran, boot_store, roms};
 use boot_io::{Halt, Sink};
 use boot_plan::Plan;
-use catalog_model::Catalog;
+use mod_catalog::Catalog;
 use phys_mem::Rom;
 use pi_base::Seq;
 use std::alloc::Global;
 use store_plain::PlainStore;
-use whole_boot::{Ran, boot_store, roms};
 
 // Boots a plan whose volumes are mapped so.
 fn boot_board<S: Sink>(

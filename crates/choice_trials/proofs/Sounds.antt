@@ -4,10 +4,10 @@ use Rattle.std.specs.Prelude.{IfSome}
 use Rattle.pi_base.specs.Lists.{Ordered}
 use Rattle.pi_base.specs.declared.phase.Phase.TheVariants.{Pei, Dxe}
 use Rattle.pi_base.proofs.ListFacts.{each_more}
-use Rattle.catalog_model.specs.declared.catalog.Catalog.{Catalog}
-use Rattle.catalog_model.specs.declared.catalog.Module.{Module}
-use Rattle.catalog_model.specs.declared.limits.TheConstants.{MOST_VOLUMES, MOST_MODULES}
-use Rattle.catalog_model.specs.WellFormed.{AreNumbered, IsPartOf, IsRankWithin, IsWellFormed, Precedes, RanksDiffer}
+use Rattle.mod_catalog.specs.declared.catalogue.Catalog.{Catalog}
+use Rattle.mod_catalog.specs.declared.catalogue.Module.{Module}
+use Rattle.mod_catalog.specs.declared.limits.TheConstants.{MOST_VOLUMES, MOST_MODULES}
+use Rattle.mod_catalog.specs.WellFormed.{AreNumbered, IsPartOf, IsRankWithin, IsWellFormed, Precedes, RanksDiffer}
 use Rattle.choice_trials.specs.Sound.{AreSound, ComesBefore, HaveOtherBases, IsSoundModule}
 
 ordered_more : {A : Type 0} (R S : A → A → Type 0) (xs : List A) → ((a b : A) → R a b → S a b) → Ordered R xs → Ordered S xs

@@ -3,7 +3,7 @@
 use Rattle.std.specs.Prelude.{◌≡◌, None}
 use Rattle.pi_base.specs.declared.phase.Phase.TheVariants.{Dxe}
 use Rattle.act_code.specs.declared.action.Action.{Action}
-use Rattle.catalog_model.specs.declared.catalog.Catalog.{Catalog}
+use Rattle.mod_catalog.specs.declared.catalogue.Catalog.{Catalog}
 use Rattle.boot_model.specs.DxeMachine.{DxeMachine, DriverFrame}
 use Rattle.phase_parts.specs.Deed.{deed}
 use Rattle.phase_parts.specs.Needs.{IsScriptAction}

@@ -4,13 +4,13 @@ use Rattle.std.specs.Prelude.{◌≢◌, ℕ, ◌<◌, length, Option, IfSome}
 use Rattle.pi_base.specs.declared.phase.Phase.{Phase}
 use Rattle.pi_base.specs.declared.phase.Phase.TheVariants.{Pei, Dxe}
 use Rattle.pi_base.specs.Lists.{Each, Ordered}
-use Rattle.catalog_model.specs.declared.catalog.Catalog.{Catalog}
-use Rattle.catalog_model.specs.declared.catalog.VolumeEntry.{VolumeEntry}
-use Rattle.catalog_model.specs.declared.catalog.Module.{Module}
-use Rattle.catalog_model.specs.declared.catalog.Part.{Part}
-use Rattle.catalog_model.specs.declared.catalog.PartExpr.{PartExpr}
-use Rattle.catalog_model.specs.Parts.{parts_in}
-use Rattle.catalog_model.specs.WellFormed.{IsExpressionOf, IsPartOf, IsShortExpression, Precedes, RanksDiffer}
+use Rattle.mod_catalog.specs.declared.catalogue.Catalog.{Catalog}
+use Rattle.mod_catalog.specs.declared.catalogue.VolumeEntry.{VolumeEntry}
+use Rattle.mod_catalog.specs.declared.catalogue.Module.{Module}
+use Rattle.mod_catalog.specs.declared.catalogue.Part.{Part}
+use Rattle.mod_catalog.specs.declared.catalogue.PartExpr.{PartExpr}
+use Rattle.mod_catalog.specs.Parts.{parts_in}
+use Rattle.mod_catalog.specs.WellFormed.{IsExpressionOf, IsPartOf, IsShortExpression, Precedes, RanksDiffer}
 
 abbrev pub HaveOtherBases : VolumeEntry → VolumeEntry → Type 0
 HaveOtherBases a b = a.base ≢ b.base

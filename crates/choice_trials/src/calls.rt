@@ -1,7 +1,7 @@
 // What the calls of a driver answer. What reads memory needs a whole store, and is tested over whole boots.
 ghost use Rattle.std.specs.Prelude.{◌≡◌, ℕ, None, IfSome, IsTrue};
 ghost use Rattle.pi_base.specs.declared.phase.Phase.TheVariants.{Dxe as InDxe};
-ghost use Rattle.catalog_model.specs.WellFormed.{IsWellFormed};
+ghost use Rattle.mod_catalog.specs.WellFormed.{IsWellFormed};
 ghost use Rattle.store_model.specs.Service.{Present};
 ghost use Rattle.store_model.specs.StoreCall.{Anything};
 ghost use Rattle.store_plain.specs.PlainState.{stands_for};
@@ -12,8 +12,8 @@ ghost use Rattle.choice_trials.specs.Served.{IsOwn, IsServed};
 use crate::catalogues::{NESTED, Needs, Row, catalogue, guid};
 use act_code::Action;
 use boot_model::{DriverFrame, Extra, REGISTERS, Register};
-use catalog_model::Catalog;
 use dxe_core::{DxeServices, Reply, take_own};
+use mod_catalog::Catalog;
 use phase_parts::{Write, Writes};
 use pi_base::{Guid, OutOfMemory, Seq, Span, Word};
 use std::alloc::Global;

@@ -1,10 +1,10 @@
 // The board of all tests: catalogues, each made of a table of its volumes and a table of its modules.
-ghost use Rattle.catalog_model.specs.WellFormed.{IsWellFormed};
+ghost use Rattle.mod_catalog.specs.WellFormed.{IsWellFormed};
 
 use crate::well_formed::is_well_formed;
 use act_code::Script;
-use catalog_model::{Catalog, Module, Part, PartExpr, VolumeEntry};
 use depex_code::{Depex, Opcode, Tree};
+use mod_catalog::{Catalog, Module, Part, PartExpr, VolumeEntry};
 use pi_base::{Guid, OutOfMemory, Phase, Seq};
 use std::alloc::Global;
 use std::process::Abort;

@@ -1,16 +1,16 @@
 // The drivers of a small volume: which start, in which order, and by which licences.
 ghost use Rattle.std.specs.Prelude.{◌≡◌, ◌<◌, ℕ, List, OnOk};
 ghost use Rattle.boot_model.specs.DxeMachine.{DxeMachine};
-ghost use Rattle.catalog_model.specs.WellFormed.{IsWellFormed};
+ghost use Rattle.mod_catalog.specs.WellFormed.{IsWellFormed};
 ghost use Rattle.dxe_core.specs.Order.{IsOrderOf};
 ghost use Rattle.dxe_dispatch.specs.Queue.{IsNewQueue, IsQueueFor, IsSeen};
 
 use crate::catalogues::{FIRST, FOURTH, Needs, ONE, Row, SECOND, THIRD, UNNAMED, catalogue};
 use boot_model::{ARCHITECTURAL, Licence, Scheduled};
-use catalog_model::Catalog;
 use depex_code::Steps;
 use dxe_core::DriverOrder;
 use dxe_dispatch::DriverQueue;
+use mod_catalog::Catalog;
 use pi_base::{Guid, OutOfMemory, Seq};
 use std::alloc::Global;
 use std::marker::Brand;

@@ -1,8 +1,8 @@
 // The volumes that become known one after the other. What PPIs report needs a whole store, and is tested over whole boots.
-ghost use Rattle.catalog_model.specs.WellFormed.{IsWellFormed};
+ghost use Rattle.mod_catalog.specs.WellFormed.{IsWellFormed};
 
 use crate::catalogues::{Volume, catalogue};
-use catalog_model::Catalog;
+use mod_catalog::Catalog;
 use phase_parts::VolumeList;
 use std::process::Abort;
 use std::test::*;

@@ -2,14 +2,14 @@
 ghost use Rattle.std.specs.Prelude.{◌≡◌, ◌≢◌, ◌≤◌, ◌<◌, IsTrue, IfSome, length};
 ghost use Rattle.pi_base.specs.Lists.{Each, Ordered};
 ghost use Rattle.depex_code.specs.Expression.{IsOfPhase};
-ghost use Rattle.catalog_model.specs.declared.limits.TheConstants.{MOST_VOLUMES};
-ghost use Rattle.catalog_model.specs.Parts as C;
-ghost use Rattle.catalog_model.specs.WellFormed as W;
-ghost use Rattle.catalog_model.specs.WellFormed.{AreNumbered, HaveOtherRanks, IsPartOf, IsWellFormed};
+ghost use Rattle.mod_catalog.specs.declared.limits.TheConstants.{MOST_VOLUMES};
+ghost use Rattle.mod_catalog.specs.Parts as C;
+ghost use Rattle.mod_catalog.specs.WellFormed as W;
+ghost use Rattle.mod_catalog.specs.WellFormed.{AreNumbered, HaveOtherRanks, IsPartOf, IsWellFormed};
 ghost use Rattle.choice_trials.specs.Sound.{AreSound, ComesBefore, HaveOtherBases, IsSoundExpression, IsSoundModule, IsRankBelow};
 
-use catalog_model::{Catalog, MOST_MODULES, MOST_VOLUMES, Module, Part, PartExpr, VolumeEntry};
 use depex_code::Depex;
+use mod_catalog::{Catalog, MOST_MODULES, MOST_VOLUMES, Module, Part, PartExpr, VolumeEntry};
 use pi_base::Phase;
 
 // The most opcodes of a tree that can be evaluated.

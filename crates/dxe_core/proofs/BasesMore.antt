@@ -1,8 +1,8 @@
 -- One base more of those whose volumes are discovered.
 use Rattle.std.proofs.Common.{◌≡◌, ℕ, zero, suc, ◌+◌, ◌<◌, List, [], ◌∷◌, ◌++◌, length, drop, get_or, Option, Some, None, refl, sym, subst, ap, ◌∙◌, arith, append_assoc}
 use Rattle.std.proofs.lemmas.List.{append-nil}
-use Rattle.catalog_model.specs.declared.catalog.Catalog.{Catalog}
-use Rattle.catalog_model.specs.Parts.{volume_at}
+use Rattle.mod_catalog.specs.declared.catalogue.Catalog.{Catalog}
+use Rattle.mod_catalog.specs.Parts.{volume_at}
 use Rattle.boot_model.specs.Discovery.{discoveries}
 use Rattle.boot_model.specs.Reporting.{newcomers}
 use Rattle.dxe_core.specs.Order.{Drivers, IsOrderOf}

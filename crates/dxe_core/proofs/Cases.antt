@@ -4,8 +4,8 @@ use Rattle.std.specs.Prelude.{◌↔◌, is_none, is_some, IfSome, IsTrue, not, 
 use Rattle.std.specs.Option.{option_to_list}
 use Rattle.std.proofs.lemmas.List.{append-nil}
 use Rattle.boot_io.specs.declared.halt.Halt.{Halt}
-use Rattle.catalog_model.specs.declared.catalog.Catalog.{Catalog}
-use Rattle.catalog_model.specs.Parts.{has_number}
+use Rattle.mod_catalog.specs.declared.catalogue.Catalog.{Catalog}
+use Rattle.mod_catalog.specs.Parts.{has_number}
 use Rattle.store_model.specs.StoreState.{StoreState}
 use Rattle.boot_model.specs.declared.driver.ProtocolNote.{ProtocolNote}
 use Rattle.boot_model.specs.declared.driver.ProtocolSweep.{ProtocolSweep}

@@ -7,9 +7,9 @@ use Rattle.pi_base.specs.declared.guid.Guid.{Guid}
 use Rattle.pi_base.specs.declared.word.Word.TheVariants as S
 use Rattle.store_model.specs.declared.interface.Interface.{Interface}
 use Rattle.store_model.specs.HandleState.{HandleState, HandleService, change_of, install_interface, is_live, is_on, is_on_with, placed, reinstall_interface, uninstall_interface, with_value, without}
-use Rattle.dxe_handles.specs.declared.fault.HandleFault.{HandleFault}
-use Rattle.dxe_handles.specs.declared.fault.HandleFault.TheVariants as F
-use Rattle.dxe_handles.specs.Rows.{IsRow}
+use Rattle.dxe_core.specs.declared.database.fault.HandleFault.{HandleFault}
+use Rattle.dxe_core.specs.declared.database.fault.HandleFault.TheVariants as F
+use Rattle.dxe_core.specs.Rows.{IsRow}
 use Rattle.dxe_core.specs.Answered.{GrowByOne}
 use Rattle.dxe_core.specs.Services.{Services}
 

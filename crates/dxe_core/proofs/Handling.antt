@@ -8,7 +8,7 @@ use Rattle.pi_base.specs.declared.word.Word.TheVariants as S
 use Rattle.pi_base.specs.declared.memory.OutOfMemory.{OutOfMemory}
 use Rattle.act_code.specs.declared.action.Action.{Action}
 use Rattle.act_code.specs.declared.action.Action.TheVariants as A
-use Rattle.catalog_model.specs.declared.catalog.Catalog.{Catalog}
+use Rattle.mod_catalog.specs.declared.catalogue.Catalog.{Catalog}
 use Rattle.boot_model.specs.declared.line.CallName.{CallName}
 use Rattle.boot_model.specs.declared.line.CallName.TheVariants as C
 use Rattle.boot_model.specs.declared.line.Extra.{Extra}
@@ -20,9 +20,9 @@ use Rattle.boot_model.specs.declared.driver.ProtocolNote.{ProtocolNote}
 use Rattle.boot_model.specs.DxeMachine.{DxeMachine, DriverFrame}
 use Rattle.boot_model.specs.EvaluationBound.{changed_protocols}
 use Rattle.boot_model.specs.DxeAction.{DxeReply, Called, own_dxe_effect, dxe_call_where, dxe_refusal, dxe_told, dxe_where, install_answer, install_reply, locate_reply, protocol_sweep, reinstall_answer, reinstall_reply, uninstall_answer, uninstall_reply, with_handles}
-use Rattle.dxe_handles.specs.declared.fault.HandleFault.{HandleFault}
-use Rattle.dxe_handles.specs.declared.fault.HandleFault.TheVariants as F
-use Rattle.dxe_handles.specs.Rows.{IsRow}
+use Rattle.dxe_core.specs.declared.database.fault.HandleFault.{HandleFault}
+use Rattle.dxe_core.specs.declared.database.fault.HandleFault.TheVariants as F
+use Rattle.dxe_core.specs.Rows.{IsRow}
 use Rattle.phase_parts.specs.declared.registers.Writes.{Writes}
 use Rattle.phase_parts.specs.declared.registers.Writes.TheVariants as W
 use Rattle.phase_parts.specs.Writes.{written}

@@ -19,3 +19,12 @@ mod Replying
 mod Requested
 mod Taking
 mod VolumeLines
+mod Done
+mod Firsts
+mod HandleRows
+mod HandlesWith
+mod Holding
+mod Indexes
+mod Reading
+mod Rising
+mod Stretches

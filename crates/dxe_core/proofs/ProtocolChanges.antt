@@ -10,9 +10,9 @@ use Rattle.pi_base.specs.declared.word.Word.{Word}
 use Rattle.pi_base.specs.declared.word.Word.TheVariants.{InvalidParameter, NotFound}
 use Rattle.pi_base.specs.Guids.{same_guid}
 use Rattle.act_code.specs.declared.action.Action.{Action}
-use Rattle.catalog_model.specs.declared.catalog.Catalog.{Catalog}
-use Rattle.catalog_model.specs.declared.catalog.Part.{Part}
-use Rattle.catalog_model.specs.Parts.{part_at}
+use Rattle.mod_catalog.specs.declared.catalogue.Catalog.{Catalog}
+use Rattle.mod_catalog.specs.declared.catalogue.Part.{Part}
+use Rattle.mod_catalog.specs.Parts.{part_at}
 use Rattle.store_model.specs.declared.interface.Interface.{Interface}
 use Rattle.store_model.specs.HandleState.{HandleState, HandleService, change_of, has_protocol, install_interface, is_live, is_on, is_on_with, placed, with_value, without}
 use Rattle.boot_model.specs.declared.driver.Scheduled.{Scheduled}

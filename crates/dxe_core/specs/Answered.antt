@@ -7,16 +7,16 @@ use Rattle.pi_base.specs.declared.word.Word.TheVariants as S
 use Rattle.pi_base.specs.declared.memory.OutOfMemory.{OutOfMemory}
 use Rattle.act_code.specs.declared.action.Action.{Action}
 use Rattle.act_code.specs.declared.action.Action.TheVariants as A
-use Rattle.catalog_model.specs.declared.catalog.Catalog.{Catalog}
-use Rattle.catalog_model.specs.Parts.{volume_at}
+use Rattle.mod_catalog.specs.declared.catalogue.Catalog.{Catalog}
+use Rattle.mod_catalog.specs.Parts.{volume_at}
 use Rattle.boot_model.specs.Registers.{number_in}
 use Rattle.boot_model.specs.declared.line.CallName.{CallName}
 use Rattle.boot_model.specs.declared.line.Extra.{Extra}
 use Rattle.boot_model.specs.declared.line.Extra.TheVariants.{Nothing}
 use Rattle.boot_model.specs.declared.driver.ProtocolSweep.{ProtocolSweep}
 use Rattle.boot_model.specs.DxeMachine.{DxeMachine, DriverFrame}
-use Rattle.dxe_handles.specs.declared.fault.HandleFault.{HandleFault}
-use Rattle.dxe_handles.specs.declared.fault.HandleFault.TheVariants as F
+use Rattle.dxe_core.specs.declared.database.fault.HandleFault.{HandleFault}
+use Rattle.dxe_core.specs.declared.database.fault.HandleFault.TheVariants as F
 use Rattle.phase_parts.specs.declared.registers.Writes.{Writes}
 use Rattle.phase_parts.specs.declared.registers.Writes.TheVariants as W
 use Rattle.dxe_core.specs.declared.event.Event.{Event}

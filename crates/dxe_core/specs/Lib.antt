@@ -10,3 +10,7 @@ pub mod Services
 pub mod Standing
 pub mod Steps
 pub mod Turn
+pub mod Holders
+pub mod Index
+pub mod Places
+pub mod Rows

@@ -4,8 +4,8 @@ use Rattle.std.specs.Prelude.{◌≡◌, ℕ, if◌then◌else◌, List, ◌++�
 use Rattle.pi_base.specs.GuidMap.{value_of}
 use Rattle.pi_base.specs.declared.guid.Guid.{Guid}
 use Rattle.pi_base.specs.Guids.{same_guid}
-use Rattle.catalog_model.specs.declared.catalog.Catalog.{Catalog}
-use Rattle.catalog_model.specs.Parts.{module_name}
+use Rattle.mod_catalog.specs.declared.catalogue.Catalog.{Catalog}
+use Rattle.mod_catalog.specs.Parts.{module_name}
 use Rattle.boot_model.specs.DxeChoice.{before_of, after_of}
 use Rattle.dxe_core.specs.declared.names.Names.{Names}
 use Rattle.dxe_core.specs.Lists.{lists_of, numbers_under}

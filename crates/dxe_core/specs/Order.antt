@@ -5,9 +5,9 @@ use Rattle.pi_base.specs.declared.phase.Phase.TheVariants.{Dxe}
 use Rattle.pi_base.specs.declared.guid.Guid.{Guid}
 use Rattle.pi_base.specs.Guids.{same_guid}
 use Rattle.pi_base.specs.GuidMap.{value_of}
-use Rattle.catalog_model.specs.declared.catalog.Catalog.{Catalog}
-use Rattle.catalog_model.specs.declared.catalog.PartExpr.{PartExpr}
-use Rattle.catalog_model.specs.Parts.{part_at, rank_at, module_name}
+use Rattle.mod_catalog.specs.declared.catalogue.Catalog.{Catalog}
+use Rattle.mod_catalog.specs.declared.catalogue.PartExpr.{PartExpr}
+use Rattle.mod_catalog.specs.Parts.{part_at, rank_at, module_name}
 use Rattle.boot_model.specs.DxeChoice.{drivers_of, name_by, before_of, after_of, asks_for_request}
 use Rattle.boot_model.specs.Reporting.{newcomers}
 use Rattle.phase_parts.specs.Known.{AreKnown}

@@ -5,7 +5,7 @@ use Rattle.std.specs.Option.{option_and_then, option_to_list}
 use Rattle.boot_io.specs.declared.halt.Halt.{Halt}
 use Rattle.pi_base.specs.declared.phase.Phase.TheVariants.{Dxe}
 use Rattle.act_code.specs.declared.action.Action.{Action}
-use Rattle.catalog_model.specs.declared.catalog.Catalog.{Catalog}
+use Rattle.mod_catalog.specs.declared.catalogue.Catalog.{Catalog}
 use Rattle.store_model.specs.StoreState.{StoreState}
 use Rattle.boot_model.specs.DxeAction.{dxe_effect}
 use Rattle.boot_model.specs.declared.driver.ProtocolNote.{ProtocolNote}

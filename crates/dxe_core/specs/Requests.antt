@@ -2,7 +2,7 @@
 -- PI 1.8, volume 2, `Schedule()`.
 use Rattle.std.specs.Prelude.{ℕ, Bool, ◌&&◌, not, List, Option, is_some, slice_get, find}
 use Rattle.act_code.specs.declared.action.Action.{Action}
-use Rattle.catalog_model.specs.declared.catalog.Catalog.{Catalog}
+use Rattle.mod_catalog.specs.declared.catalogue.Catalog.{Catalog}
 use Rattle.boot_model.specs.DxeMachine.{DxeMachine, DriverFrame}
 use Rattle.boot_laws.specs.UnrequestedDrivers.{WaitForRequest}
 use Rattle.dxe_core.specs.declared.reply.Reply.{Reply}

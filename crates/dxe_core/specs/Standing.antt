@@ -1,7 +1,7 @@
 -- The machine of DXE that the core stands for, whatever is scheduled and has started: what the core keeps is what the machine has.
 -- Own.
 use Rattle.std.specs.Prelude.{◌≡◌, ℕ, List, None}
-use Rattle.catalog_model.specs.declared.catalog.Catalog.{Catalog}
+use Rattle.mod_catalog.specs.declared.catalogue.Catalog.{Catalog}
 use Rattle.store_model.specs.StoreState.{StoreState}
 use Rattle.boot_model.specs.DxeMachine.{DxeMachine, DriverFrame}
 use Rattle.phase_parts.specs.declared.fuel.Fuel.{Fuel}

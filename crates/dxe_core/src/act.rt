@@ -2,7 +2,7 @@
 ghost use Rattle.std.specs.Prelude.{◌≡◌, ◌<◌, ◌+◌, ◌-◌, ◌^◌, ℕ, OnOk};
 ghost use Rattle.boot_io.specs.Halted.{HaltsAfter};
 ghost use Rattle.boot_model.specs.DxeMachine.{DxeMachine};
-ghost use Rattle.catalog_model.specs.WellFormed.{IsWellFormed};
+ghost use Rattle.mod_catalog.specs.WellFormed.{IsWellFormed};
 ghost use Rattle.dxe_core.specs.Services.{AreCounted, AreServicesFor};
 ghost use Rattle.dxe_core.specs.Parts.{ActsOwn, KeepsFor, RunsScript, StepsScript, TakesOwn};
 ghost use Rattle.dxe_core.specs.Standing.{IsFor, StandsFor};
@@ -16,7 +16,7 @@ use crate::stepped::Stepped;
 use act_code::Action;
 use boot_io::{Halt, Sink};
 use boot_model::{DxeEnd, Line};
-use catalog_model::Catalog;
+use mod_catalog::Catalog;
 use phase_parts::{Acted, act, effects_are_alike};
 use pi_base::Phase;
 use store_model::PeiStore;

@@ -1,7 +1,7 @@
 //! One action of DXE's own.
 ghost use Rattle.std.specs.Prelude.{◌≡◌, ◌<◌, ◌+◌, ◌-◌, ◌^◌, ℕ, None, OnOk};
 ghost use Rattle.pi_base.specs.declared.phase.Phase.TheVariants.{Dxe as InDxe};
-ghost use Rattle.catalog_model.specs.WellFormed.{IsWellFormed};
+ghost use Rattle.mod_catalog.specs.WellFormed.{IsWellFormed};
 ghost use Rattle.store_model.specs.Service.{Present};
 ghost use Rattle.store_model.specs.StoreCall.{Anything};
 ghost use Rattle.boot_model.specs.DxeMachine.{DxeMachine};
@@ -19,7 +19,7 @@ use crate::schedule::schedule;
 use crate::services::DxeServices;
 use act_code::Action;
 use boot_model::{CallName, DriverFrame};
-use catalog_model::Catalog;
+use mod_catalog::Catalog;
 use pi_base::{OutOfMemory, Word};
 use store_model::PeiStore;
 

@@ -3,8 +3,8 @@ ghost use Rattle.std.specs.Prelude.{◌≡◌, ◌↔◌, [], ℕ, IfOk, IsTrue,
 ghost use Rattle.boot_io.specs.Halted.{HaltsAfter};
 ghost use Rattle.boot_io.specs.Sink.{SinkFaultsAfter};
 ghost use Rattle.pi_base.specs.declared.phase.Phase.TheVariants.{Dxe as InDxe};
-ghost use Rattle.catalog_model.specs.Parts.{part_at};
-ghost use Rattle.catalog_model.specs.WellFormed.{IsWellFormed};
+ghost use Rattle.mod_catalog.specs.Parts.{part_at};
+ghost use Rattle.mod_catalog.specs.WellFormed.{IsWellFormed};
 ghost use Rattle.store_model.specs.StoreState.{StoreState};
 ghost use Rattle.boot_model.specs.Discovery.{discoveries};
 ghost use Rattle.boot_model.specs.DxeMachine.{DxeMachine};
@@ -13,6 +13,7 @@ ghost use Rattle.phase_parts.specs.Frames.{top_of};
 ghost use Rattle.dxe_core.specs.Standing.{IsCoreOf, IsFor, StandsFor};
 ghost use Rattle.dxe_core.specs.Steps.{Starts, Steps};
 
+use crate::database::Handles;
 use crate::lines::start_line;
 use crate::order::DriverOrder;
 use crate::services::DxeServices;
@@ -20,8 +21,7 @@ use crate::stepped::Stepped;
 use boot_io::{Halt, Sink, SinkFault};
 use boot_model::{ProtocolSweep, Scheduled};
 use boot_trace::put_start;
-use catalog_model::Catalog;
-use dxe_handles::Handles;
+use mod_catalog::Catalog;
 use phase_parts::{Frames, Fuel, begin_script};
 use pi_base::{OutOfMemory, Phase};
 use std::alloc::Global;

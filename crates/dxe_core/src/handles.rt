@@ -1,7 +1,7 @@
 // Actions on handles and their interfaces.
 ghost use Rattle.std.specs.Prelude.{◌≡◌, ◌<◌, ◌-◌, ◌^◌, ℕ, suc, Ok, OnOk};
 ghost use Rattle.act_code.specs.declared.action.Action.TheVariants as A;
-ghost use Rattle.catalog_model.specs.declared.catalog.Catalog.{Catalog};
+ghost use Rattle.mod_catalog.specs.declared.catalogue.Catalog.{Catalog};
 ghost use Rattle.boot_model.specs.DxeMachine.{DriverFrame};
 ghost use Rattle.boot_model.specs.Registers.{both};
 ghost use Rattle.boot_model.specs.Registers as R;

@@ -8,6 +8,7 @@
 
 mod act;
 mod action;
+pub mod database;
 mod dxe;
 mod event;
 mod handles;

@@ -8,7 +8,7 @@ ghost use Rattle.boot_model.specs.Text.{line_text, text_of};
 use boot_io::{Sink, SinkFault};
 use boot_model::{Line, ProtocolNote, ProtocolSweep, Scheduled};
 use boot_trace::put;
-use catalog_model::Catalog;
+use mod_catalog::Catalog;
 use phase_parts::{name_of, volume_of};
 
 /// The line of a notification.

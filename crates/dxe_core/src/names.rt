@@ -3,11 +3,11 @@ ghost use Rattle.std.specs.Prelude.{◌≡◌, ◌&&◌, ◌∷◌, [], OnOk, So
 ghost use Rattle.boot_model.specs.DxeChoice as C;
 ghost use Rattle.dxe_core.specs.Names.{AreDriverNames, IsFirstOfName, NamesGrow};
 ghost use Rattle.dxe_core.specs.Order.{name_asked};
-ghost use Rattle.catalog_model.specs.declared.catalog.Catalog.{Catalog};
+ghost use Rattle.mod_catalog.specs.declared.catalogue.Catalog.{Catalog};
 
 use crate::lists::NumberLists;
-use catalog_model::{Catalog, Part, PartExpr};
 use depex_code::Depex;
+use mod_catalog::{Catalog, Part, PartExpr};
 use phase_parts::{name_of, part_of};
 use pi_base::{Guid, GuidMap, OutOfMemory, Phase};
 use std::alloc::Global;

@@ -1,7 +1,7 @@
 // The action that registers a notification of a protocol.
 ghost use Rattle.std.specs.Prelude.{OnOk};
 ghost use Rattle.act_code.specs.declared.action.Action.TheVariants as A;
-ghost use Rattle.catalog_model.specs.declared.catalog.Catalog.{Catalog};
+ghost use Rattle.mod_catalog.specs.declared.catalogue.Catalog.{Catalog};
 ghost use Rattle.dxe_core.specs.Answered.{GrowByOne, Serves};
 
 use crate::reply::Reply;

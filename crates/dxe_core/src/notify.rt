@@ -13,7 +13,7 @@ use crate::services::DxeServices;
 use crate::stepped::Stepped;
 use boot_io::{Halt, Sink};
 use boot_model::{DriverFrame, DxeEnd, ProtocolNote, ProtocolSweep, Register};
-use catalog_model::Catalog;
+use mod_catalog::Catalog;
 use phase_parts::{begin_notification, notified};
 
 // The frame in which a notification runs: it is told the interface and the handle.

@@ -1,7 +1,7 @@
 // The action that discovers a volume.
 ghost use Rattle.std.specs.Prelude.{◌<◌, length, ℕ, List, OnOk};
 ghost use Rattle.act_code.specs.declared.action.Action.TheVariants as A;
-ghost use Rattle.catalog_model.specs.WellFormed.{IsWellFormed};
+ghost use Rattle.mod_catalog.specs.WellFormed.{IsWellFormed};
 ghost use Rattle.dxe_core.specs.Order.{IsOrderOf};
 ghost use Rattle.dxe_core.specs.Answered.{GrowByOne, ProcessesVolume, Serves};
 
@@ -9,7 +9,7 @@ use crate::event::Event;
 use crate::reply::Reply;
 use crate::services::DxeServices;
 use boot_model::{CallName, DriverFrame, Extra};
-use catalog_model::Catalog;
+use mod_catalog::Catalog;
 use phase_parts::{Writes, number_in, volume_at};
 use pi_base::{OutOfMemory, Word};
 

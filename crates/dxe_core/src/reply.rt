@@ -2,9 +2,9 @@
 ghost use Rattle.std.specs.Prelude.{◌≡◌};
 ghost use Rattle.dxe_core.specs.Answered as A;
 
+use crate::database::HandleFault;
 use crate::event::Event;
 use boot_model::{CallName, Extra, ProtocolSweep};
-use dxe_handles::HandleFault;
 use phase_parts::Writes;
 use pi_base::{OutOfMemory, Word};
 

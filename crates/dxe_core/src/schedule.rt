@@ -12,7 +12,7 @@ use crate::reply::Reply;
 use crate::requests::is_requested;
 use crate::services::DxeServices;
 use boot_model::{CallName, Extra};
-use catalog_model::Catalog;
+use mod_catalog::Catalog;
 use phase_parts::Writes;
 use pi_base::{Guid, Word};
 

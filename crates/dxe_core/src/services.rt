@@ -1,16 +1,16 @@
 //! What the services of DXE stand on.
 ghost use Rattle.std.specs.Prelude.{◌≡◌, ◌<◌, ◌^◌, [], ℕ, length, IfOk, slice_get, option_copied, replicate, false};
 ghost use Rattle.store_model.specs.StoreState.{StoreState};
-ghost use Rattle.catalog_model.specs.WellFormed.{IsWellFormed};
+ghost use Rattle.mod_catalog.specs.WellFormed.{IsWellFormed};
 ghost use Rattle.boot_model.specs.Discovery.{discoveries};
 ghost use Rattle.boot_model.specs.DxeRun.{dxe_opening_of};
 ghost use Rattle.dxe_core.specs.Answered.{sweep_of};
 ghost use Rattle.dxe_core.specs.Services.{AreCounted, AreServicesFor, AreServicesOf};
 
 use crate::DriverOrder;
+use crate::database::Handles;
 use boot_model::{ProtocolNote, ProtocolSweep};
-use catalog_model::Catalog;
-use dxe_handles::Handles;
+use mod_catalog::Catalog;
 use pi_base::{Guid, OutOfMemory, Seq};
 use std::alloc::Global;
 use std::marker::Model;

@@ -2,9 +2,9 @@
 use Rattle.std.proofs.Common.{◌≡◌, ◌≤◌, ◌<◌, ℕ, ◌+◌, arith, Bool, true, false, true≢false, List, [], length, Option, None, Err, Result, refl, sym, ap, ◌∙◌, subst}
 use Rattle.std.specs.Prelude.{◌↔◌, IsTrue, OnOk}
 use Rattle.boot_io.specs.declared.halt.Halt.{Halt}
-use Rattle.catalog_model.specs.declared.catalog.Catalog.{Catalog}
-use Rattle.catalog_model.specs.Parts.{part_of}
-use Rattle.catalog_model.specs.WellFormed.{IsWellFormed}
+use Rattle.mod_catalog.specs.declared.catalogue.Catalog.{Catalog}
+use Rattle.mod_catalog.specs.Parts.{part_of}
+use Rattle.mod_catalog.specs.WellFormed.{IsWellFormed}
 use Rattle.pi_base.specs.declared.phase.Phase.TheVariants.{Dxe}
 use Rattle.store_model.specs.StoreState.{StoreState}
 use Rattle.boot_model.specs.DxeMachine.{DxeMachine}

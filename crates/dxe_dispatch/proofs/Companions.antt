@@ -4,9 +4,9 @@ use Rattle.std.specs.Prelude.{filter, find}
 use Rattle.std.proofs.lemmas.Slice.Eq.{bytes_eq-Decides}
 use Rattle.pi_base.specs.declared.guid.Guid.{Guid}
 use Rattle.pi_base.specs.Guids.{same_guid}
-use Rattle.catalog_model.specs.declared.catalog.Catalog.{Catalog}
-use Rattle.catalog_model.specs.declared.catalog.PartExpr.{PartExpr}
-use Rattle.catalog_model.specs.Parts.{module_name}
+use Rattle.mod_catalog.specs.declared.catalogue.Catalog.{Catalog}
+use Rattle.mod_catalog.specs.declared.catalogue.PartExpr.{PartExpr}
+use Rattle.mod_catalog.specs.Parts.{module_name}
 use Rattle.boot_model.specs.DxeMachine.{DxeMachine}
 use Rattle.boot_model.specs.DxeChoice.{drivers_of, waiting, is_waiting, targets, name_by, before_of, after_of, befores, afters}
 use Rattle.boot_model.proofs.ListFacts.{found_passes}

@@ -1,9 +1,9 @@
 -- The machine from which a turn goes on: the choice is aimed at the driver to which the one leads that is named, or the machine chooses by itself where that one may not be scheduled.
 use Rattle.std.proofs.Common.{◌≡◌, ℕ, Bool, true, false, ◌&&◌, cond, List, [], ◌∷◌, Option, Some, None, refl, sym, ap, ◌∙◌, subst}
 use Rattle.pi_base.specs.declared.phase.Phase.TheVariants.{Dxe}
-use Rattle.catalog_model.specs.declared.catalog.Catalog.{Catalog}
-use Rattle.catalog_model.specs.declared.catalog.Part.{Part}
-use Rattle.catalog_model.specs.Parts.{has_number, part_at}
+use Rattle.mod_catalog.specs.declared.catalogue.Catalog.{Catalog}
+use Rattle.mod_catalog.specs.declared.catalogue.Part.{Part}
+use Rattle.mod_catalog.specs.Parts.{has_number, part_at}
 use Rattle.store_model.specs.StoreState.{StoreState}
 use Rattle.boot_model.specs.declared.driver.ProtocolNote.{ProtocolNote}
 use Rattle.boot_model.specs.declared.driver.ProtocolSweep.{ProtocolSweep}

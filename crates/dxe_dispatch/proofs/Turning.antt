@@ -9,8 +9,8 @@ use Rattle.boot_io.proofs.PutsLaws.{appends_none}
 use Rattle.boot_io.specs.Sink.{AppendsPart}
 use Rattle.boot_io.specs.declared.halt.Halt.{Halt}
 use Rattle.pi_base.specs.declared.phase.Phase.TheVariants.{Dxe}
-use Rattle.catalog_model.specs.declared.catalog.Catalog.{Catalog}
-use Rattle.catalog_model.specs.Parts.{part_at, parts_in}
+use Rattle.mod_catalog.specs.declared.catalogue.Catalog.{Catalog}
+use Rattle.mod_catalog.specs.Parts.{part_at, parts_in}
 use Rattle.store_model.specs.HandleState.{HandleState}
 use Rattle.store_model.specs.StoreState.{StoreState}
 use Rattle.boot_model.specs.declared.driver.Scheduled.{Scheduled}

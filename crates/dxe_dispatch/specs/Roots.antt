@@ -3,8 +3,8 @@
 use Rattle.std.specs.Prelude.{Option, Some, None}
 use Rattle.pi_base.specs.declared.guid.Guid.{Guid}
 use Rattle.depex_code.specs.declared.depex.Depex.TheVariants as D
-use Rattle.catalog_model.specs.declared.catalog.PartExpr.{PartExpr}
-use Rattle.catalog_model.specs.declared.catalog.PartExpr.TheVariants as E
+use Rattle.mod_catalog.specs.declared.catalogue.PartExpr.{PartExpr}
+use Rattle.mod_catalog.specs.declared.catalogue.PartExpr.TheVariants as E
 
 -- the name that an expression gives, in BEFORE or in AFTER
 abbrev pub given_by : PartExpr → Option Guid

@@ -6,7 +6,7 @@ use Rattle.boot_io.specs.Sink.{Puts}
 use Rattle.boot_io.specs.declared.halt.Halt.{Halt}
 use Rattle.boot_io.specs.declared.sink.SinkFault.{SinkFault}
 use Rattle.pi_base.specs.declared.memory.OutOfMemory.{OutOfMemory}
-use Rattle.catalog_model.specs.declared.catalog.Catalog.{Catalog}
+use Rattle.mod_catalog.specs.declared.catalogue.Catalog.{Catalog}
 use Rattle.store_model.specs.StoreState.{StoreState}
 use Rattle.boot_model.specs.declared.driver.Scheduled.{Scheduled}
 use Rattle.boot_model.specs.declared.line.Line.{Line}

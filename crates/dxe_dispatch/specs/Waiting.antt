@@ -3,8 +3,8 @@
 use Rattle.std.specs.Prelude.{◌≡◌, ℕ, Bool, if◌then◌else◌, List, [], ◌∷◌, Option, Result, flat_map}
 use Rattle.boot_io.specs.Sink.{Puts}
 use Rattle.boot_io.specs.declared.sink.SinkFault.{SinkFault}
-use Rattle.catalog_model.specs.declared.catalog.Catalog.{Catalog}
-use Rattle.catalog_model.specs.Parts.{has_number}
+use Rattle.mod_catalog.specs.declared.catalogue.Catalog.{Catalog}
+use Rattle.mod_catalog.specs.Parts.{has_number}
 use Rattle.boot_model.specs.declared.line.Line.{Line}
 use Rattle.boot_model.specs.DxeChoice.{is_waiting}
 use Rattle.boot_model.specs.DxeMachine.{DxeMachine}

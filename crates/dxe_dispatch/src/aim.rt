@@ -1,8 +1,8 @@
 // The driver that a choice names, and the machine that is aimed at it.
 ghost use Rattle.std.specs.Prelude.{◌≡◌, ◌↔◌, ◌≤◌, ◌+◌, [], IsTrue, OnOk};
 ghost use Rattle.boot_model.specs.DxeMachine.{DxeMachine};
-ghost use Rattle.catalog_model.specs.declared.catalog.Catalog.{Catalog as OfCatalog};
-ghost use Rattle.catalog_model.specs.WellFormed.{IsWellFormed};
+ghost use Rattle.mod_catalog.specs.declared.catalogue.Catalog.{Catalog as OfCatalog};
+ghost use Rattle.mod_catalog.specs.WellFormed.{IsWellFormed};
 ghost use Rattle.dxe_dispatch.specs.Queue.{IsQueueFor, owed};
 ghost use Rattle.dxe_dispatch.specs.Choices.{Aims, Asks};
 ghost use Rattle.dxe_dispatch.specs.Turns.{AreKeptFor};
@@ -10,9 +10,9 @@ ghost use Rattle.dxe_dispatch.specs.Turns.{AreKeptFor};
 use crate::DriverQueue;
 use crate::root::root_of;
 use boot_laws::Choice;
-use catalog_model::Catalog;
 use depex_code::Steps;
 use dxe_core::Dxe;
+use mod_catalog::Catalog;
 use pi_base::OutOfMemory;
 use std::sync::ledger::Ledger;
 

@@ -1,7 +1,7 @@
 //! DXE behind a hand-off.
 ghost use Rattle.std.specs.Prelude.{◌≡◌, ◌≤◌, ◌<◌, ◌^◌, ℕ, IfOk, OnOk, length};
 ghost use Rattle.boot_io.specs.Halted.{HaltsAfter};
-ghost use Rattle.catalog_model.specs.WellFormed.{IsWellFormed};
+ghost use Rattle.mod_catalog.specs.WellFormed.{IsWellFormed};
 ghost use Rattle.store_model.specs.Service.{Present, OfEach};
 ghost use Rattle.store_model.specs.StoreCall.{Anything};
 ghost use Rattle.dxe_core.specs.Standing.{IsFor};
@@ -14,10 +14,10 @@ use crate::run::run_dxe;
 use boot_io::{Halt, Sink};
 use boot_laws::{Choice, Reached};
 use boot_model::DxeEnd;
-use catalog_model::Catalog;
 use depex_code::Steps;
 use dxe_core::Dxe;
-use dxe_handles::Handles;
+use dxe_core::database::Handles;
+use mod_catalog::Catalog;
 use pi_base::OutOfMemory;
 use std::alloc::Global;
 use std::marker::Brand;

@@ -1,15 +1,15 @@
 // The next driver.
 ghost use Rattle.std.specs.Prelude.{◌≤◌, ◌+◌, IfOk, OnOk, IfSome};
 ghost use Rattle.boot_model.specs.DxeMachine.{DxeMachine};
-ghost use Rattle.catalog_model.specs.WellFormed.{IsWellFormed};
+ghost use Rattle.mod_catalog.specs.WellFormed.{IsWellFormed};
 ghost use Rattle.dxe_dispatch.specs.Queue.{IsDriver, IsQueueFor, owed};
 ghost use Rattle.dxe_dispatch.specs.Turns.{AreKeptFor, Chooses};
 
 use crate::DriverQueue;
 use boot_model::Scheduled;
-use catalog_model::Catalog;
 use depex_code::Steps;
 use dxe_core::Dxe;
+use mod_catalog::Catalog;
 use pi_base::OutOfMemory;
 use std::sync::ledger::Ledger;
 

@@ -1,6 +1,6 @@
 //! The group of an eligible driver: those BEFORE it with their groups, the driver, and those AFTER it with theirs.
 ghost use Rattle.std.specs.Prelude.{◌≡◌, ◌≤◌, ◌++◌, map, filter, reverse, OnOk, IfOk, length};
-ghost use Rattle.catalog_model.specs.declared.limits.TheConstants.{MOST_MODULES};
+ghost use Rattle.mod_catalog.specs.declared.limits.TheConstants.{MOST_MODULES};
 ghost use Rattle.boot_model.specs.DxeMachine.{DxeMachine};
 ghost use Rattle.boot_model.specs.DxeChoice.{companion_group};
 ghost use Rattle.boot_laws.specs.GroupUnfolds.{IsRoot};
@@ -9,8 +9,8 @@ ghost use Rattle.dxe_dispatch.specs.Queue.{waits_at};
 ghost use Rattle.dxe_dispatch.specs.declared.group.Item.TheVariants.{Group};
 
 use crate::waits::waits_at;
-use catalog_model::Catalog;
 use dxe_core::DriverOrder;
+use mod_catalog::Catalog;
 use phase_parts::name_of;
 use pi_base::{OutOfMemory, Seq};
 use std::alloc::Global;

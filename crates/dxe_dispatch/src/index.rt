@@ -1,6 +1,6 @@
 // What the index of the waiting drivers is told of one driver, and what it tells.
 ghost use Rattle.std.specs.Prelude.{◌≡◌, ◌≤◌, ◌+◌};
-ghost use Rattle.catalog_model.specs.WellFormed.{IsWellFormed};
+ghost use Rattle.mod_catalog.specs.WellFormed.{IsWellFormed};
 ghost use Rattle.pi_base.specs.declared.phase.Phase.TheVariants.{Dxe};
 ghost use Rattle.boot_model.specs.DxeChoice as C;
 ghost use Rattle.boot_model.specs.DxeMachine.{DxeMachine};
@@ -9,8 +9,8 @@ ghost use Rattle.wait_index.specs.Index.{IsIndex, IsSame, owed};
 ghost use Rattle.dxe_dispatch.specs.Aim.{may_be_next};
 ghost use Rattle.dxe_dispatch.specs.Index.{IsRequested, WaitsNoMore};
 
-use catalog_model::Catalog;
 use depex_code::Steps;
+use mod_catalog::Catalog;
 use std::sync::ledger::Ledger;
 use wait_index::{WaitIndex, next_is_the_first_eligible_driver};
 

@@ -1,12 +1,12 @@
 //! By which licence a driver starts that comes with a group.
 ghost use Rattle.std.specs.Prelude.{◌≡◌};
 ghost use Rattle.pi_base.specs.declared.phase.Phase.TheVariants.{Dxe};
-ghost use Rattle.catalog_model.specs.Parts.{part_at};
+ghost use Rattle.mod_catalog.specs.Parts.{part_at};
 ghost use Rattle.boot_model.specs.DxeChoice.{driver_licence, licence_in_group};
 
 use boot_model::Licence;
-use catalog_model::{Catalog, PartExpr};
 use depex_code::Depex;
+use mod_catalog::{Catalog, PartExpr};
 use phase_parts::part_of;
 use pi_base::Phase;
 

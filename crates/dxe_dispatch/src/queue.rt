@@ -1,8 +1,8 @@
 //! The scheduled queue, the drivers that wait, and the next driver.
 ghost use Rattle.std.specs.Prelude.{◌≡◌, ◌≤◌, ◌<◌, ◌+◌, ◌↔◌, IsTrue, [], ◌∷◌, ◌++◌, drop, IfOk, OnOk, IfSome, length, map, reverse};
 ghost use Rattle.pi_base.specs.Lists.{Each};
-ghost use Rattle.catalog_model.specs.WellFormed.{IsWellFormed};
-ghost use Rattle.catalog_model.specs.declared.catalog.Catalog.{Catalog as OfCatalog};
+ghost use Rattle.mod_catalog.specs.WellFormed.{IsWellFormed};
+ghost use Rattle.mod_catalog.specs.declared.catalogue.Catalog.{Catalog as OfCatalog};
 ghost use Rattle.boot_model.specs.DxeChoice.{a_priori_drivers, companion_group, drivers_of, schedule_of};
 ghost use Rattle.boot_model.specs.DxeChoice as C;
 ghost use Rattle.boot_model.specs.DxeMachine.{DxeMachine};
@@ -17,9 +17,9 @@ use crate::index::{admit, first_that_may_start, leave, may_start};
 use crate::licence::licence_of;
 use crate::waits::waits_at;
 use boot_model::{Licence, Scheduled};
-use catalog_model::Catalog;
 use depex_code::Steps;
 use dxe_core::DriverOrder;
+use mod_catalog::Catalog;
 use phase_parts::Parts;
 use pi_base::{Guid, OutOfMemory, Phase, Seq};
 use std::alloc::Global;

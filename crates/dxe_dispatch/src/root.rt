@@ -6,9 +6,9 @@ ghost use Rattle.dxe_core.specs.Order.{IsOrderOf};
 ghost use Rattle.dxe_dispatch.specs.Roots.{given_by};
 ghost use Rattle.boot_laws.specs.DxeAim.{follows};
 
-use catalog_model::{Catalog, PartExpr};
 use depex_code::Depex;
 use dxe_core::DriverOrder;
+use mod_catalog::{Catalog, PartExpr};
 use phase_parts::part_of;
 use pi_base::{Guid, Phase};
 

@@ -2,8 +2,8 @@
 ghost use Rattle.std.specs.Prelude.{◌≡◌, ◌≤◌, ◌<◌, ◌^◌, ℕ, OnOk, length};
 ghost use Rattle.boot_io.specs.Halted.{HaltsAfter};
 ghost use Rattle.boot_model.specs.DxeRun.{dxe_bound};
-ghost use Rattle.catalog_model.specs.WellFormed.{IsWellFormed};
-ghost use Rattle.catalog_model.specs.declared.limits.TheConstants.{MOST_MODULES};
+ghost use Rattle.mod_catalog.specs.WellFormed.{IsWellFormed};
+ghost use Rattle.mod_catalog.specs.declared.limits.TheConstants.{MOST_MODULES};
 ghost use Rattle.dxe_dispatch.specs.Queue.{IsNewQueue, IsQueueFor};
 ghost use Rattle.dxe_core.specs.Standing.{IsFor};
 ghost use Rattle.dxe_dispatch.specs.Choices.{EvaluatesFewByChoice, RunsByChoice};
@@ -18,9 +18,9 @@ use boot_laws::{
     dxe_goes_on, dxe_opens, dxe_runs_end, groups_are_aimed, unrequested_drivers_wait,
 };
 use boot_model::{DxeEnd, MOST_FRAMES};
-use catalog_model::Catalog;
 use depex_code::Steps;
 use dxe_core::{Dxe, put_volumes};
+use mod_catalog::Catalog;
 use std::sync::ledger::Ledger;
 use store_model::PeiStore;
 

@@ -7,8 +7,8 @@ use crate::waiting::put_all_waiting;
 use boot_io::{Sink, SinkFault};
 use boot_model::Line;
 use boot_trace::put;
-use catalog_model::Catalog;
 use dxe_core::Dxe;
+use mod_catalog::Catalog;
 
 /// The lines of the stop: a line for each driver that waits, in discovered order.
 pub(crate) fn put_stop<S: Sink>(

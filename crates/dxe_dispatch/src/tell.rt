@@ -1,5 +1,5 @@
 // What an event did is told to the queue.
-ghost use Rattle.catalog_model.specs.declared.catalog.Catalog.{Catalog as OfCatalog};
+ghost use Rattle.mod_catalog.specs.declared.catalogue.Catalog.{Catalog as OfCatalog};
 ghost use Rattle.dxe_dispatch.specs.Queue.{IsQueueFor};
 ghost use Rattle.dxe_dispatch.specs.Events.{OwesForChange, TellsQueue, TellsChange};
 

@@ -2,7 +2,7 @@
 ghost use Rattle.std.specs.Prelude.{◌≡◌, ◌≢◌, ◌≤◌, ◌<◌, ◌+◌, ◌^◌, ℕ, Bool, [], OnOk};
 ghost use Rattle.boot_io.specs.Halted.{HaltsAfter};
 ghost use Rattle.boot_model.specs.DxeMachine.{DxeMachine};
-ghost use Rattle.catalog_model.specs.WellFormed.{IsWellFormed};
+ghost use Rattle.mod_catalog.specs.WellFormed.{IsWellFormed};
 ghost use Rattle.dxe_dispatch.specs.Queue.{IsQueueFor, owed};
 ghost use Rattle.dxe_core.specs.Standing.{IsFor};
 ghost use Rattle.dxe_core.specs.Steps.{IsIdle};
@@ -18,9 +18,9 @@ use crate::tell::tell;
 use boot_io::{Halt, Sink};
 use boot_laws::{Choice, Reached, dxe_chooses_by_groups, dxe_goes_on, dxe_opens, groups_are_aimed};
 use boot_model::DxeEnd;
-use catalog_model::Catalog;
 use depex_code::Steps;
 use dxe_core::{Dxe, Stepped};
+use mod_catalog::Catalog;
 use std::sync::ledger::Ledger;
 use store_model::PeiStore;
 

@@ -1,20 +1,20 @@
 // The drivers that wait after the stop.
 ghost use Rattle.std.specs.Prelude.{◌≡◌, ◌&&◌, not, Some};
 ghost use Rattle.boot_io.specs.Sink.{SinkFaultsAfter};
-ghost use Rattle.catalog_model.specs.Parts.{has_number};
+ghost use Rattle.mod_catalog.specs.Parts.{has_number};
 ghost use Rattle.boot_model.specs.DxeChoice.{asks_for_request, is_sor};
 ghost use Rattle.boot_model.specs.DxeMachine.{DxeMachine};
 ghost use Rattle.boot_model.specs.DxeStep as D;
-ghost use Rattle.catalog_model.specs.declared.catalog.PartExpr.TheVariants.{Held};
+ghost use Rattle.mod_catalog.specs.declared.catalogue.PartExpr.TheVariants.{Held};
 ghost use Rattle.dxe_dispatch.specs.Waiting.{PutsWaiting, PutsAllWaiting};
 
 use crate::DriverQueue;
 use boot_io::{Sink, SinkFault};
 use boot_model::{Line, Reason};
 use boot_trace::put;
-use catalog_model::{Catalog, Part, PartExpr};
 use depex_code::Depex;
 use dxe_core::is_requested;
+use mod_catalog::{Catalog, Part, PartExpr};
 use phase_parts::{name_of, part_of, volume_of};
 use pi_base::Phase;
 

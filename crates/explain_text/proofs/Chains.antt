@@ -11,10 +11,10 @@ use Rattle.pi_base.specs.declared.guid.Guid.{Guid}
 use Rattle.pi_base.specs.declared.phase.Phase.{Phase}
 use Rattle.pi_base.specs.Guids.{same_guid}
 use Rattle.pi_base.specs.GuidMap.{IsPut, value_of}
-use Rattle.catalog_model.specs.declared.catalog.Module.{Module}
-use Rattle.catalog_model.specs.declared.catalog.Part.{Part}
-use Rattle.catalog_model.specs.Parts.{part_of}
-use Rattle.catalog_text.specs.Gives.{given_in}
+use Rattle.mod_catalog.specs.declared.catalogue.Module.{Module}
+use Rattle.mod_catalog.specs.declared.catalogue.Part.{Part}
+use Rattle.mod_catalog.specs.Parts.{part_of}
+use Rattle.explain_text.specs.Gives.{given_in}
 use Rattle.explain_text.specs.Givers.{AddsName, AddsNames, AreGivers, AreKept, Chain, givers_from, has_number, in_front, is_first, link_at, part_gives}
 use Rattle.explain_text.specs.declared.givers.Givers.{Givers}
 use Rattle.explain_text.specs.declared.givers.Link.{Link}

@@ -8,9 +8,9 @@ use Rattle.boot_io.specs.Line.{line_of, spaced}
 use Rattle.pi_base.specs.Lists.{Each}
 use Rattle.pi_base.specs.declared.guid.Guid.{Guid}
 use Rattle.pi_base.specs.declared.phase.Phase.{Phase}
-use Rattle.catalog_model.specs.declared.catalog.Module.{Module}
-use Rattle.catalog_model.specs.Parts.{part_of}
-use Rattle.catalog_text.specs.Fronts.{front_of}
+use Rattle.mod_catalog.specs.declared.catalogue.Module.{Module}
+use Rattle.mod_catalog.specs.Parts.{part_of}
+use Rattle.explain_text.specs.Fronts.{front_of}
 use Rattle.explain_text.specs.declared.reasons.Begun.{Begun}
 use Rattle.explain_text.specs.declared.givers.Link.{Link}
 use Rattle.explain_text.specs.declared.keyword.Keyword.TheVariants as K

@@ -1,7 +1,7 @@
 -- The lines of the parts that are left, by flags and by what they say.
 use Rattle.std.proofs.Common.{◌≡◌, ℕ, ◌+◌, ◌<◌, ◌≤◌, Bool, List, [], ◌∷◌, ◌++◌, length, refl, ap, ◌∙◌, arith}
 use Rattle.pi_base.specs.declared.phase.Phase.{Phase}
-use Rattle.catalog_model.specs.declared.catalog.Module.{Module}
+use Rattle.mod_catalog.specs.declared.catalogue.Module.{Module}
 use Rattle.explain_text.specs.LeftLines.{left_line, left_lines}
 
 pub same_left : (phase : Phase) (f g : ℕ → Bool) (known : List ℕ) (from count : ℕ) (modules : List Module) → ((n : ℕ) → n < count → f n ≡ g n) → from + length modules ≤ count

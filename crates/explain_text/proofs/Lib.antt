@@ -2,3 +2,11 @@ mod Chains
 mod Flagged
 mod HeldText
 mod LeftText
+mod Modules
+mod Named
+mod OneText
+mod Words
+mod FirstFound
+mod Images
+mod Names
+mod OneTitle

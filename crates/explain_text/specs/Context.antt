@@ -3,7 +3,7 @@
 use Rattle.std.specs.Prelude.{List, length}
 use Rattle.pi_base.specs.declared.phase.Phase.{Phase}
 use Rattle.pi_base.specs.declared.phase.Phase.TheVariants.{Pei, Dxe}
-use Rattle.catalog_model.specs.declared.catalog.Module.{Module}
+use Rattle.mod_catalog.specs.declared.catalogue.Module.{Module}
 use Rattle.explain_text.specs.declared.reasons.Begun.{Begun}
 use Rattle.explain_text.specs.declared.context.Context.{Context}
 use Rattle.explain_text.specs.Flags.{AreStarted}

@@ -7,10 +7,10 @@ use Rattle.pi_base.specs.declared.guid.Guid.{Guid}
 use Rattle.pi_base.specs.declared.phase.Phase.{Phase}
 use Rattle.pi_base.specs.Guids.{same_guid}
 use Rattle.pi_base.specs.GuidMap.{value_of}
-use Rattle.catalog_model.specs.declared.catalog.Module.{Module}
-use Rattle.catalog_model.specs.declared.catalog.Part.{Part}
-use Rattle.catalog_model.specs.Parts.{part_of}
-use Rattle.catalog_text.specs.Gives.{given_in}
+use Rattle.mod_catalog.specs.declared.catalogue.Module.{Module}
+use Rattle.mod_catalog.specs.declared.catalogue.Part.{Part}
+use Rattle.mod_catalog.specs.Parts.{part_of}
+use Rattle.explain_text.specs.Gives.{given_in}
 use Rattle.explain_text.specs.declared.givers.Givers.{Givers}
 use Rattle.explain_text.specs.declared.givers.Link.{Link}
 

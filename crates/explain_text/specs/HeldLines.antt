@@ -9,13 +9,13 @@ use Rattle.pi_base.specs.declared.phase.Phase.{Phase}
 use Rattle.pi_base.specs.declared.phase.Phase.TheVariants.{Pei, Dxe}
 use Rattle.pi_base.specs.Guids.{same_guid}
 use Rattle.pi_base.specs.WordText.{guid_text}
-use Rattle.catalog_model.specs.declared.catalog.Module.{Module as OfModule}
+use Rattle.mod_catalog.specs.declared.catalogue.Module.{Module as OfModule}
 use Rattle.explain_text.specs.declared.reasons.Begun.{Begun}
 use Rattle.explain_text.specs.declared.reasons.Held.{Held}
 use Rattle.explain_text.specs.declared.reasons.Need.{Need}
 use Rattle.explain_text.specs.declared.reasons.Giver.{Giver}
 use Rattle.explain_text.specs.declared.reasons.Giver.TheVariants.{Core, Module, Absent}
-use Rattle.catalog_text.specs.Lines.{phase_text}
+use Rattle.explain_text.specs.Lines.{phase_text}
 use Rattle.explain_text.specs.declared.held_lines.TheConstants.{MOST_TOLD}
 use Rattle.explain_text.specs.declared.keyword.Keyword.TheVariants as K
 use Rattle.explain_text.specs.Flags.{has_started}

@@ -4,9 +4,9 @@ use Rattle.std.specs.Prelude.{ℕ, ◌+◌, Bool, ◌&&◌, not, if◌then◌els
 use Rattle.boot_io.specs.Line.{line_of}
 use Rattle.pi_base.specs.declared.phase.Phase.{Phase}
 use Rattle.pi_base.specs.declared.phase.Phase.TheVariants.{Pei, Dxe}
-use Rattle.catalog_model.specs.declared.catalog.Module.{Module}
-use Rattle.catalog_model.specs.Parts.{has_number, part_of}
-use Rattle.catalog_text.specs.Lines.{phase_text}
+use Rattle.mod_catalog.specs.declared.catalogue.Module.{Module}
+use Rattle.mod_catalog.specs.Parts.{has_number, part_of}
+use Rattle.explain_text.specs.Lines.{phase_text}
 use Rattle.explain_text.specs.declared.keyword.Keyword.{Keyword}
 use Rattle.explain_text.specs.declared.keyword.Keyword.TheVariants as K
 use Rattle.explain_text.specs.Words.{word_of}

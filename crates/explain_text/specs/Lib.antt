@@ -8,3 +8,11 @@ pub mod LeftLines
 pub mod EndLines
 pub mod Text
 pub mod Told
+pub mod Fronts
+pub mod Gives
+pub mod Lines
+pub mod Putting
+pub mod File
+pub mod Mapped
+pub mod Name
+pub mod Title

@@ -8,7 +8,7 @@ use Rattle.explain_text.specs.declared.reasons.Begun.{Begun}
 use Rattle.explain_text.specs.declared.reasons.Need.{Need}
 use Rattle.explain_text.specs.declared.reasons.Giver.{Giver}
 use Rattle.explain_text.specs.declared.reasons.Giver.TheVariants.{Core, Module, Absent}
-use Rattle.catalog_text.specs.Lines.{phase_text}
+use Rattle.explain_text.specs.Lines.{phase_text}
 use Rattle.explain_text.specs.declared.keyword.Keyword.TheVariants as K
 use Rattle.explain_text.specs.Words.{word_of}
 

@@ -1,12 +1,12 @@
 // What the lines of modules that wait ask of a phase.
 ghost use Rattle.std.specs.Prelude.{◌≤◌, IfOk, length};
-ghost use Rattle.catalog_model.specs.declared.limits.TheConstants.{MOST_MODULES};
+ghost use Rattle.mod_catalog.specs.declared.limits.TheConstants.{MOST_MODULES};
 ghost use Rattle.explain_text.specs.Context.{IsContext};
 
 use crate::flags::started;
 use crate::givers::{Givers, givers_of};
 use crate::reasons::Begun;
-use catalog_model::Module;
+use mod_catalog::Module;
 use pi_base::{OutOfMemory, Phase, Seq};
 use std::alloc::Global;
 

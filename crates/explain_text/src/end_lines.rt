@@ -3,10 +3,10 @@ ghost use Rattle.std.specs.Prelude.{◌≡◌, ◌++◌, OnOk};
 ghost use Rattle.explain_text.specs.EndLines.{end_lines, heap_line, moved_lines};
 ghost use Rattle.explain_text.specs.Words.{word_of};
 
+use crate::catalog::put_line;
 use crate::keyword::{Keyword, word_of};
 use crate::reasons::{Explained, Moved};
 use boot_trace::{decimal_word, hexadecimal_word, run_end_word};
-use catalog_text::put_line;
 use pi_base::{OutOfMemory, Seq};
 
 // The line of how many bytes the HOB list takes at a moment.

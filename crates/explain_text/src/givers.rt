@@ -1,12 +1,12 @@
 // Which modules may install a GUID in a phase.
 ghost use Rattle.std.specs.Prelude.{◌≡◌, ◌≤◌, ◌+◌, ◌∷◌, List, length, IfOk, OnOk};
-ghost use Rattle.catalog_model.specs.declared.limits.TheConstants.{MOST_MODULES};
-ghost use Rattle.catalog_model.specs.declared.catalog.Module.{Module as OfModule};
-ghost use Rattle.catalog_model.specs.Parts.{part_of};
+ghost use Rattle.mod_catalog.specs.declared.limits.TheConstants.{MOST_MODULES};
+ghost use Rattle.mod_catalog.specs.declared.catalogue.Module.{Module as OfModule};
+ghost use Rattle.mod_catalog.specs.Parts.{part_of};
 ghost use Rattle.explain_text.specs.Givers.{AddsName, AddsNames, AreGivers, is_first, link_at};
 
-use catalog_model::{Module, Part};
-use catalog_text::given_in;
+use crate::catalog::given_in;
+use mod_catalog::{Module, Part};
 use pi_base::{Guid, GuidMap, OutOfMemory, Phase, Seq};
 use std::alloc::Global;
 

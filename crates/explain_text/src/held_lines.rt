@@ -2,9 +2,9 @@
 ghost use Rattle.std.specs.Prelude.{◌≡◌, ◌++◌, ◌∷◌, [], ℕ, List, decimal, flat_map, map, OnOk};
 ghost use Rattle.boot_io.specs.Line.{spaced};
 ghost use Rattle.pi_base.specs.WordText.{guid_text};
-ghost use Rattle.catalog_model.specs.declared.catalog.Module.{Module as OfModule};
+ghost use Rattle.mod_catalog.specs.declared.catalogue.Module.{Module as OfModule};
 ghost use Rattle.explain_text.specs.declared.reasons.Begun.{Begun as Start};
-ghost use Rattle.catalog_text.specs.Fronts.{front_of};
+ghost use Rattle.explain_text.specs.Fronts.{front_of};
 ghost use Rattle.explain_text.specs.declared.keyword.Keyword.TheVariants as K;
 ghost use Rattle.explain_text.specs.Words.{word_of};
 ghost use Rattle.explain_text.specs.Context.{AreContexts, IsContext};
@@ -12,6 +12,7 @@ ghost use Rattle.explain_text.specs.Flags.{flag};
 ghost use Rattle.explain_text.specs.Givers.{Chain};
 ghost use Rattle.explain_text.specs.HeldLines.{core_gives, has_line, held_lines, lacks_line, lacks_words, need_line, or_dash, pair_words, told_words, waits_line, with_core, would_lines};
 
+use crate::catalog::{end_line, phase_word, put_front, put_line, put_word};
 use crate::context::Context;
 use crate::flags::flag;
 use crate::givers::{Link, link_at};
@@ -19,7 +20,6 @@ use crate::keyword::{Keyword, word_of};
 use crate::reasons::{Giver, Held, Need};
 use crate::start_lines::giver_word;
 use boot_trace::{decimal_word, reason_word};
-use catalog_text::{end_line, phase_word, put_front, put_line, put_word};
 use pi_base::{Guid, MEMORY_PPI, OutOfMemory, Phase, Seq};
 
 /// How many modules a line tells that may install a GUID (own).

@@ -1,16 +1,16 @@
 // The lines of the parts that neither started nor wait.
 ghost use Rattle.std.specs.Prelude.{◌≡◌, ◌≤◌, ◌++◌, ℕ, length, OnOk};
-ghost use Rattle.catalog_model.specs.declared.limits.TheConstants.{MOST_MODULES};
-ghost use Rattle.catalog_model.specs.Parts.{has_number};
+ghost use Rattle.mod_catalog.specs.declared.limits.TheConstants.{MOST_MODULES};
+ghost use Rattle.mod_catalog.specs.Parts.{has_number};
 ghost use Rattle.explain_text.specs.Flags.{flag};
 ghost use Rattle.explain_text.specs.LeftLines.{left_line, left_lines, left_word};
 
+use crate::catalog::{phase_word, put_line};
 use crate::flags::flag;
 use crate::givers::part_of;
 use crate::keyword::{Keyword, word_of};
 use boot_trace::decimal_word;
-use catalog_model::Module;
-use catalog_text::{phase_word, put_line};
+use mod_catalog::Module;
 use pi_base::{OutOfMemory, Phase, Seq};
 
 // Whether a number is among some.

@@ -3,6 +3,7 @@
 //! Tried by `scripts/check-tools`.
 #![tactic(auto)]
 
+pub mod catalog;
 mod context;
 mod end_lines;
 mod flags;

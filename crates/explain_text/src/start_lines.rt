@@ -2,11 +2,11 @@
 ghost use Rattle.std.specs.Prelude.{◌≡◌, ◌++◌, flat_map, OnOk};
 ghost use Rattle.explain_text.specs.StartLines.{giver_text, needed_line, start_line, start_lines};
 
+use crate::catalog::{phase_word, put_line};
 use crate::keyword::{Keyword, word_of};
 use crate::reasons::{Begun, Giver, Need};
 use arrayvec::ArrayVec;
 use boot_trace::{decimal_word, licence_word};
-use catalog_text::{phase_word, put_line};
 use pi_base::{DECIMAL_LEN, OutOfMemory, Seq};
 
 /// The word of who has a GUID installed.

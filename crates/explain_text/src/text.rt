@@ -1,7 +1,7 @@
 // The text of an explained boot.
 ghost use Rattle.std.specs.Prelude.{◌≡◌, ◌≤◌, ◌++◌, List, flat_map, length, IfOk, OnOk};
 ghost use Rattle.pi_base.specs.declared.phase.Phase.TheVariants.{Pei};
-ghost use Rattle.catalog_model.specs.declared.limits.TheConstants.{MOST_MODULES};
+ghost use Rattle.mod_catalog.specs.declared.limits.TheConstants.{MOST_MODULES};
 ghost use Rattle.explain_text.specs.Context.{IsContext};
 ghost use Rattle.explain_text.specs.HeldLines.{held_lines};
 ghost use Rattle.explain_text.specs.LeftLines.{left_lines};
@@ -15,7 +15,7 @@ use crate::held_lines::put_all_held;
 use crate::left_lines::put_left;
 use crate::reasons::Explained;
 use crate::start_lines::put_starts;
-use catalog_model::{Catalog, Module};
+use mod_catalog::{Catalog, Module};
 use pi_base::{OutOfMemory, Phase, Seq};
 use std::alloc::Global;
 

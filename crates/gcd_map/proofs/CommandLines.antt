@@ -2,8 +2,8 @@
 use Rattle.std.proofs.Common.{◌≡◌, ◌⊎◌, inl, inr, ℕ, zero, suc, ◌+◌, ◌-◌, ◌<◌, ◌≤◌, Bool, true, false, not, cond, List, [], ◌∷◌, ◌++◌, length, length-drop, map, take, drop, get_or, Option, Some, None, refl, sym, ap, ◌∙◌, subst, true≢false, arith}
 use Rattle.std.specs.List.{filter}
 use Rattle.std.proofs.lemmas.Option.{same_Some, none-some}
-use Rattle.std.specs.Prelude.{Err}
-use Rattle.std.proofs.lemmas.List.{take_all, drop_more, take_more}
+use Rattle.std.specs.Prelude.{Ok, Err}
+use Rattle.std.proofs.lemmas.List.{append-nil, map-append, take_all, drop_more, take_more}
 use Rattle.line_words.specs.Line.{lines, is_passed_over}
 use Rattle.gcd_map.specs.declared.command.Command.{Command}
 use Rattle.gcd_map.specs.declared.commands.CommandFault.{CommandFault}
@@ -40,6 +40,18 @@ spelled-append [] ys = refl
 spelled-append (line ∷ xs) ys =
     let rest = spelled-append xs ys in
     spelled_first line (xs ++ ys) ∙ rw rest (front (is_passed_over line) (command_of line) (spelled xs) (spelled ys)) ∙ sym (ap (λ l. l ++ spelled ys) (spelled_first line xs))
+
+-- what taking one line leaves
+pub passed_line : (old : List Command) (number : ℕ) (line : List ℕ) → is_passed_over line ≡ true → TakesLine old number line (Ok tt) old
+passed_line old number line passed =
+    ((λ bad. true≢false (sym passed ∙ bad.0)), sym (ap (λ l. somes old ++ l) (spelled_passed line [] passed) ∙ append-nil (somes old)))
+
+pub taken_line : (old new : List Command) (number : ℕ) (line : List ℕ) (command : Command) → is_passed_over line ≡ false → command_of line ≡ Some command
+    → new ≡ old ++ command ∷ [] → TakesLine old number line (Ok tt) new
+taken_line old new number line command kept is pushed = (
+  (λ bad. none-some command (sym bad.1 ∙ is)),
+  ap somes pushed ∙ map-append (λ command. Some command) old (command ∷ []) ∙ sym (ap (λ l. somes old ++ l) (spelled_kept line [] (Some command) kept is)),
+)
 
 head_same : (o p : Option Command) (xs ys : List (Option Command)) → o ∷ xs ≡ p ∷ ys → o ≡ p
 head_same o p xs ys e = cc

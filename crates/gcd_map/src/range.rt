@@ -6,7 +6,7 @@ use crate::state::{GcdKind, SpaceState};
 
 /// The addresses from `base` on, `len` of them, which have one kind and are all allocated or all free. PI 1.8, volume 2,
 /// `EFI_GCD_MEMORY_SPACE_DESCRIPTOR`.
-#[derive(Clone, Copy, PartialEq, Eq)]
+#[derive(Clone, Copy)]
 pub struct GcdRange {
     /// The first address.
     pub base: u64,

@@ -11,13 +11,13 @@ use Rattle.store_model.specs.HeapImage.{header_bytes, descriptor_bytes, node_byt
 use Rattle.store_model.specs.StateFacts.{IsStoreState, IsHobEntry}
 use Rattle.store_model.specs.Migration.{migrated_to, moved_descriptor, moved_body, moved_hobs}
 use Rattle.store_laws.proofs.Moved.{moved_len}
-use Rattle.heap_laws.specs.Growing.{front_bytes}
-use Rattle.heap_laws.specs.Spelling.{spelled}
-use Rattle.heap_laws.specs.Moving.{Done, half, all_done}
-use Rattle.heap_laws.proofs.Growing.{spelled_len}
-use Rattle.heap_laws.proofs.Facts.{bodies_are_spelled}
-use Rattle.heap_laws.proofs.Moving.{heaps_are_moved}
-use Rattle.heap_laws.proofs.Items.{same_is}
+use Rattle.store_laws.specs.Growing.{front_bytes}
+use Rattle.store_laws.specs.Spelling.{spelled}
+use Rattle.store_laws.specs.Moving.{Done, half, all_done}
+use Rattle.store_laws.proofs.Growing.{spelled_len}
+use Rattle.store_laws.proofs.Facts.{bodies_are_spelled}
+use Rattle.store_laws.proofs.Moving.{heaps_are_moved}
+use Rattle.store_laws.proofs.HeapItems.{same_is}
 use Rattle.heap_store.specs.Half.{half_image, behind, lists_done}
 use Rattle.heap_store.specs.Pages.{with_pages, with_hobs}
 use Rattle.heap_store.proofs.Marks.{no_links, named_done}

@@ -9,7 +9,7 @@ use Rattle.pi_base.specs.Lists.{Each}
 use Rattle.store_model.specs.StoreState.{Board, Rom}
 use Rattle.store_model.specs.StateFacts.{IsMapped}
 use Rattle.heap_store.proofs.ListBytes.{zeros}
-use Rattle.heap_laws.proofs.Mapped.{write_region}
+use Rattle.store_laws.proofs.Mapped.{write_region}
 
 -- tests of ranges
 not_inside : (base len at n : ℕ) → (at < base) ⊎ (base + len < at + n) → is_inside base len at n ≡ false

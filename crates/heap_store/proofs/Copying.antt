@@ -10,15 +10,15 @@ use Rattle.phys_mem.specs.declared.memory.PhysMem.{PhysMem}
 use Rattle.store_model.specs.StoreState.{Range, Rom, StoreState, end_place}
 use Rattle.store_model.specs.HeapImage.{body_bytes, hob_list, heap_image}
 use Rattle.store_model.specs.Migration.{migrated_to}
-use Rattle.heap_laws.specs.Spelling.{AreSpelled}
-use Rattle.heap_laws.specs.Mapped.{layout_of, regions_by, IsPlacedBy}
-use Rattle.heap_laws.proofs.Words.{has_read}
+use Rattle.store_laws.specs.Spelling.{AreSpelled}
+use Rattle.store_laws.specs.Mapped.{layout_of, regions_by, IsPlacedBy}
+use Rattle.store_laws.proofs.Words.{has_read}
 use Rattle.heap_store.specs.Copied.{copied_image, IsCopied}
 use Rattle.heap_store.specs.Ready.{IsMoving}
 use Rattle.heap_store.proofs.Readiness.{heap_of, placed_in, is_ready}
 use Rattle.heap_store.proofs.ListBytes.{zeros, list_len, copied_is}
 use Rattle.heap_store.proofs.CopiedRegions.{is_in, away, turned, roms_apart, zeros_written, copied_regions}
-use Rattle.ppi_links.proofs.Volumes.{no_rom}
+use Rattle.pei_heap.proofs.Volumes.{no_rom}
 
 -- temporary RAM as it is left, and RAM with the copy
 abbrev pub old_temp : StoreState → Region

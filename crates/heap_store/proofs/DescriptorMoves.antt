@@ -6,9 +6,9 @@ use Rattle.store_model.specs.declared.state.DescriptorBody.{DescriptorBody}
 use Rattle.store_model.specs.StoreState.{Range, StoreState, body_at, body_len}
 use Rattle.store_model.specs.HeapImage.{kind_flags, guid_behind, guid_address, body_bytes}
 use Rattle.store_model.specs.Migration.{moved_descriptor, moved_value, moved_number}
-use Rattle.heap_laws.specs.Moving.{Done, half, with_descriptor}
-use Rattle.heap_laws.specs.Spelling.{spelled}
-use Rattle.heap_laws.proofs.Moving.{descriptors_are_moved}
+use Rattle.store_laws.specs.Moving.{Done, half, with_descriptor}
+use Rattle.store_laws.specs.Spelling.{spelled}
+use Rattle.store_laws.proofs.Moving.{descriptors_are_moved}
 use Rattle.heap_store.specs.declared.course.Course.{Course}
 use Rattle.heap_store.specs.declared.words.Words.{Words}
 use Rattle.heap_store.specs.WordBytes.{words_bytes, descriptor_words, shifted_descriptor}

@@ -7,9 +7,9 @@ use Rattle.hob_codec.specs.HobBytes.{fields_of, joined}
 use Rattle.store_model.specs.StoreState.{Range, StoreState, end_place, page_bytes}
 use Rattle.store_model.specs.HeapImage.{header_bytes}
 use Rattle.store_model.specs.Migration.{migrated_to}
-use Rattle.heap_laws.specs.Growing.{front_bytes}
-use Rattle.heap_laws.specs.Spelling.{spelled}
-use Rattle.heap_laws.specs.Moving.{half}
+use Rattle.store_laws.specs.Growing.{front_bytes}
+use Rattle.store_laws.specs.Spelling.{spelled}
+use Rattle.store_laws.specs.Moving.{half}
 use Rattle.heap_store.specs.declared.course.Course.{Course}
 use Rattle.heap_store.specs.declared.words.Words.{Words}
 use Rattle.heap_store.specs.WordBytes.{words_bytes}

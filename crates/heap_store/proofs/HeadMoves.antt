@@ -3,9 +3,9 @@ use Rattle.std.proofs.Common.{◌≡◌, ℕ, ap, sym, ◌∙◌}
 use Rattle.store_model.specs.declared.store_handle.EntryList.{EntryList}
 use Rattle.store_model.specs.StoreState.{Range, StoreState}
 use Rattle.store_model.specs.Migration.{migrated_to, moved_number}
-use Rattle.heap_laws.specs.Heads.{last_address}
-use Rattle.heap_laws.specs.Items.{first_address}
-use Rattle.ppi_links.specs.Linked.{AreEnds}
+use Rattle.store_laws.specs.Heads.{last_address}
+use Rattle.store_laws.specs.Items.{first_address}
+use Rattle.pei_heap.specs.Linked.{AreEnds}
 use Rattle.heap_store.specs.declared.course.Course.{Course}
 use Rattle.heap_store.specs.Linked.{links_of, address, first_of, last_of}
 use Rattle.heap_store.specs.Ready.{IsReady}

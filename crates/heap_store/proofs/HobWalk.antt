@@ -8,10 +8,10 @@ use Rattle.store_model.specs.declared.state.HobEntry.{HobEntry}
 use Rattle.store_model.specs.StoreState.{Range, StoreState, hob_len, body_len, body_from}
 use Rattle.store_model.specs.HeapImage.{header_bytes, body_bytes}
 use Rattle.store_model.specs.Migration.{migrated_to}
-use Rattle.heap_laws.specs.Growing.{front_bytes}
-use Rattle.heap_laws.specs.Spelling.{spelled, AreSpelled}
-use Rattle.heap_laws.specs.Moving.{Done, half}
-use Rattle.heap_laws.proofs.Pieces.{piece_later}
+use Rattle.store_laws.specs.Growing.{front_bytes}
+use Rattle.store_laws.specs.Spelling.{spelled, AreSpelled}
+use Rattle.store_laws.specs.Moving.{Done, half}
+use Rattle.store_laws.proofs.Pieces.{piece_later}
 use Rattle.heap_store.specs.Half.{half_image, behind}
 use Rattle.heap_store.proofs.Steps.{half_spelt}
 

@@ -15,10 +15,10 @@ use Rattle.store_model.specs.Service.{Service, in_room, unless_bad}
 use Rattle.store_model.specs.Service.Descriptor.{is_ppi, kind_at}
 use Rattle.store_model.specs.Service.Install.{install, install_pairs, install_sweep, installed, is_installed, node_need, reinstall, reinstall_pairs, reinstall_sweep, reinstalled, with_pending, with_ppi}
 use Rattle.store_model.specs.Service.Notify.{notified, notify, notify_pairs, notify_sweep, with_note}
-use Rattle.ppi_links.specs.declared.heads.Heads.{Heads}
-use Rattle.ppi_links.specs.Linked.{IsLinked}
-use Rattle.ppi_links.specs.Pairs.{CanQueueAll, CanQueueNew, queued}
-use Rattle.ppi_links.specs.Replaced.{with_renamed}
+use Rattle.pei_heap.specs.declared.links.heads.Heads.{Heads}
+use Rattle.pei_heap.specs.Linked.{IsLinked}
+use Rattle.pei_heap.specs.Pairs.{CanQueueAll, CanQueueNew, queued}
+use Rattle.pei_heap.specs.Replaced.{with_renamed}
 use Rattle.heap_store.specs.declared.store.HeapStore.{HeapStore}
 use Rattle.heap_store.specs.HeapState.{StandsFor}
 use Rattle.heap_store.specs.Made.{CanMakeNotes, CanMakePpis, IsMade, IsSame}

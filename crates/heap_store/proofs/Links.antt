@@ -15,12 +15,12 @@ use Rattle.store_model.specs.StoreState.{Range, StoreState}
 use Rattle.store_model.specs.StateFacts.{IsStoreState, IsNodeAt, IsEntry, IsPending}
 use Rattle.store_model.specs.HeapImage.{links_at}
 use Rattle.store_model.specs.Migration.{migrated_to}
-use Rattle.heap_laws.specs.Heads.{last_address}
-use Rattle.heap_laws.specs.Items.{items, first_address, links_before}
-use Rattle.heap_laws.proofs.Apart.{links_of_item}
-use Rattle.heap_laws.proofs.Facts.{places_are_inside, has_room}
-use Rattle.heap_laws.proofs.Lists.{each_to_map, each_behind, map_map}
-use Rattle.heap_laws.proofs.Short.{lists_are_short}
+use Rattle.store_laws.specs.Heads.{last_address}
+use Rattle.store_laws.specs.Items.{items, first_address, links_before}
+use Rattle.store_laws.proofs.Apart.{links_of_item}
+use Rattle.store_laws.proofs.Facts.{places_are_inside, has_room}
+use Rattle.store_laws.proofs.Lists.{each_to_map, each_behind, map_map}
+use Rattle.store_laws.proofs.Short.{lists_are_short}
 use Rattle.heap_store.specs.Linked.{Link, entry_link, pending_link, links_of, address, item_at, first_of, last_of, fields, HasDescriptor, IsLink}
 
 -- the items of a list

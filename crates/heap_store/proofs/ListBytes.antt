@@ -7,11 +7,11 @@ use Rattle.store_model.specs.declared.state.Body.TheVariants.{Bytes, Descriptor,
 use Rattle.store_model.specs.declared.state.HobEntry.{HobEntry}
 use Rattle.store_model.specs.StoreState.{Range, StoreState, hob_len, end_place}
 use Rattle.store_model.specs.HeapImage.{header_bytes, body_bytes, hobs_bytes, hob_list}
-use Rattle.heap_laws.specs.Growing.{front_bytes}
-use Rattle.heap_laws.specs.Spelling.{spelled, AreSpelled}
-use Rattle.heap_laws.specs.Moving.{half}
-use Rattle.heap_laws.proofs.Bodies.{is_spelled}
-use Rattle.heap_laws.proofs.Growing.{spelled_len}
+use Rattle.store_laws.specs.Growing.{front_bytes}
+use Rattle.store_laws.specs.Spelling.{spelled, AreSpelled}
+use Rattle.store_laws.specs.Moving.{half}
+use Rattle.store_laws.proofs.HeapBodies.{is_spelled}
+use Rattle.store_laws.proofs.Growing.{spelled_len}
 use Rattle.heap_store.specs.Half.{behind, none_done}
 use Rattle.heap_store.specs.Copied.{copied_image}
 

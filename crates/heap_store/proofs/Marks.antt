@@ -12,10 +12,10 @@ use Rattle.pi_base.specs.Lists.{Each}
 use Rattle.store_model.specs.StoreState.{StoreState}
 use Rattle.store_model.specs.HeapImage.{links_at}
 use Rattle.store_model.specs.Service.Descriptor.{is_named, descriptors}
-use Rattle.heap_laws.specs.Items.{Item, items, all_lists}
-use Rattle.heap_laws.specs.Moving.{Done}
-use Rattle.heap_laws.proofs.Items.{Lacks, links_are, lists_none}
-use Rattle.heap_laws.proofs.Lists.{each_to_map}
+use Rattle.store_laws.specs.Items.{Item, items, all_lists}
+use Rattle.store_laws.specs.Moving.{Done}
+use Rattle.store_laws.proofs.HeapItems.{Lacks, links_are, lists_none}
+use Rattle.store_laws.proofs.Lists.{each_to_map}
 use Rattle.heap_store.specs.Half.{with_other, with_link, with_links, none_done, lists_done}
 use Rattle.heap_store.specs.Linked.{Link, entry_link, pending_link, links_of, item_at}
 use Rattle.heap_store.proofs.Links.{items_old}

@@ -5,13 +5,13 @@ use Rattle.phys_mem.specs.declared.memory.PhysMem.{PhysMem}
 use Rattle.store_model.specs.declared.state.Body.{Body}
 use Rattle.store_model.specs.declared.state.Body.TheVariants.{Descriptor}
 use Rattle.store_model.specs.declared.state.HobEntry.{HobEntry}
-use Rattle.heap_laws.specs.Spelling.{AreSpelled}
+use Rattle.store_laws.specs.Spelling.{AreSpelled}
 use Rattle.store_model.specs.declared.state.DescriptorBody.{DescriptorBody}
 use Rattle.store_model.specs.StoreState.{Range, StoreState, body_at, body_from, body_len, hob_len, descriptor_len, end_place}
 use Rattle.store_model.specs.Migration.{migrated_to}
-use Rattle.heap_laws.specs.Mapped.{HasHeap, layout_of}
-use Rattle.heap_laws.specs.Moving.{Done}
-use Rattle.heap_laws.proofs.Bodies.{body_inside}
+use Rattle.store_laws.specs.Mapped.{HasHeap, layout_of}
+use Rattle.store_laws.specs.Moving.{Done}
+use Rattle.store_laws.proofs.HeapBodies.{body_inside}
 use Rattle.heap_store.specs.declared.course.Course.{Course}
 use Rattle.heap_store.specs.declared.words.Words.{Words}
 use Rattle.heap_store.specs.Half.{half_image, IsHalf}

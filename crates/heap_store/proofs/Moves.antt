@@ -7,8 +7,8 @@ use Rattle.store_model.specs.StoreState.{StoreState, range_of}
 use Rattle.store_model.specs.StoreCall.{IsDue, Migrates}
 use Rattle.store_model.specs.Migration.{migrated_to, migration}
 use Rattle.pei_heap.specs.declared.heap.Heap.{Heap}
-use Rattle.ppi_links.specs.declared.heads.Heads.{Heads}
-use Rattle.ppi_links.specs.Linked.{IsLinked}
+use Rattle.pei_heap.specs.declared.links.heads.Heads.{Heads}
+use Rattle.pei_heap.specs.Linked.{IsLinked}
 use Rattle.heap_store.specs.Due as D
 use Rattle.heap_store.specs.declared.store.HeapStore.{HeapStore}
 use Rattle.heap_store.specs.HeapState.{StandsFor}

@@ -7,9 +7,9 @@ use Rattle.store_model.specs.declared.state.Body.TheVariants.{Descriptor, Node}
 use Rattle.store_model.specs.StoreState.{Range, StoreState}
 use Rattle.store_model.specs.StateFacts.{IsNodeAt}
 use Rattle.store_model.specs.Migration.{moved_number}
-use Rattle.heap_laws.specs.Moving.{Done, half, with_node_done}
-use Rattle.heap_laws.specs.Spelling.{spelled}
-use Rattle.heap_laws.proofs.Moving.{nodes_are_moved}
+use Rattle.store_laws.specs.Moving.{Done, half, with_node_done}
+use Rattle.store_laws.specs.Spelling.{spelled}
+use Rattle.store_laws.proofs.Moving.{nodes_are_moved}
 use Rattle.heap_store.specs.declared.course.Course.{Course}
 use Rattle.heap_store.specs.declared.words.Words.{Words}
 use Rattle.heap_store.specs.WordBytes.{words_bytes, links_words, shifted_node}

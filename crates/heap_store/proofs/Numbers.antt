@@ -7,7 +7,7 @@ use Rattle.store_model.specs.declared.store_handle.DescKind.TheVariants.{Ppi, Ca
 use Rattle.store_model.specs.StoreState.{Range, StoreState, descriptor_len}
 use Rattle.store_model.specs.HeapImage.{guid_address, kind_flags}
 use Rattle.store_model.specs.Migration.{moved_number, moved_value}
-use Rattle.heap_laws.proofs.Shifts.{moved, once, outside, is_in_heap as in_heap}
+use Rattle.store_laws.proofs.Shifts.{moved, once, outside, is_in_heap as in_heap}
 use Rattle.heap_store.specs.declared.course.Course.{Course}
 use Rattle.heap_store.specs.Course.{IsCourse}
 use Rattle.heap_store.specs.Ready.{IsElsewhere}

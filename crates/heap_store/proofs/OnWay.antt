@@ -9,8 +9,8 @@ use Rattle.store_model.specs.StateFacts.{IsStoreState}
 use Rattle.store_model.specs.Service.Install.{node_need}
 use Rattle.store_laws.specs.Steps.{HasRoom, IsStep}
 use Rattle.pei_heap.specs.declared.heap.Heap.{Heap}
-use Rattle.ppi_links.specs.declared.heads.Heads.{Heads}
-use Rattle.ppi_links.specs.Linked.{IsLinked}
+use Rattle.pei_heap.specs.declared.links.heads.Heads.{Heads}
+use Rattle.pei_heap.specs.Linked.{IsLinked}
 use Rattle.heap_store.specs.Made.{IsMade, IsSame}
 
 -- so many of a list are made, and the others will be

@@ -7,7 +7,7 @@ use Rattle.store_model.specs.declared.state.Body.TheVariants.{Bytes, Descriptor,
 use Rattle.store_model.specs.declared.state.HobEntry.{HobEntry}
 use Rattle.store_model.specs.declared.store_handle.EntryList.TheVariants.{Ppis, Callbacks, Dispatches, Pendings}
 use Rattle.store_model.specs.StoreState.{StoreState, hob_len}
-use Rattle.heap_laws.specs.Moving.{Done}
+use Rattle.store_laws.specs.Moving.{Done}
 use Rattle.heap_store.specs.Half.{with_link, with_links, with_other, none_done, lists_done}
 use Rattle.heap_store.specs.Linked.{Link, links_of}
 use Rattle.heap_store.specs.Pages.{with_pages, with_hobs}

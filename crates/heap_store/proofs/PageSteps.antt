@@ -7,9 +7,9 @@ use Rattle.store_model.specs.declared.state.AllocationBody.{AllocationBody}
 use Rattle.store_model.specs.declared.state.Body.TheVariants.{Allocation}
 use Rattle.store_model.specs.StoreState.{Range, StoreState, body_at}
 use Rattle.store_model.specs.HeapImage.{allocation_bytes}
-use Rattle.heap_laws.specs.Spelling.{spelled}
-use Rattle.heap_laws.specs.Moving.{Done, half}
-use Rattle.heap_laws.proofs.Moving.{pages_are_moved}
+use Rattle.store_laws.specs.Spelling.{spelled}
+use Rattle.store_laws.specs.Moving.{Done, half}
+use Rattle.store_laws.proofs.Moving.{pages_are_moved}
 use Rattle.heap_store.specs.declared.course.Course.{Course}
 use Rattle.heap_store.specs.declared.words.Words.{Words}
 use Rattle.heap_store.specs.WordBytes.{words_bytes}

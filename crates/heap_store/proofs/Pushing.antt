@@ -14,10 +14,10 @@ use Rattle.store_model.specs.Service.Notify.{with_note, with_note_of}
 use Rattle.store_laws.specs.Keeping.{IsWord}
 use Rattle.store_laws.specs.Steps.{StepsKeepFacts}
 use Rattle.pei_heap.specs.declared.heap.Heap.{Heap}
-use Rattle.ppi_links.specs.declared.entry.NewEntry.{NewEntry}
-use Rattle.ppi_links.specs.declared.heads.Heads.{Heads}
-use Rattle.ppi_links.specs.Linked.{IsLinked}
-use Rattle.ppi_links.specs.NewEntry.{IsOf, IsReady, with_entry}
+use Rattle.pei_heap.specs.declared.links.entry.NewEntry.{NewEntry}
+use Rattle.pei_heap.specs.declared.links.heads.Heads.{Heads}
+use Rattle.pei_heap.specs.Linked.{IsLinked}
+use Rattle.pei_heap.specs.NewEntry.{IsOf, IsReady, with_entry}
 use Rattle.heap_store.specs.Made.{CanMakeNotes, CanMakePpis, IsSame, note_list}
 use Rattle.heap_store.proofs.HandedIn.{IsNote, each_note, kind_is, still_at}
 use Rattle.heap_store.proofs.OnWay.{IsOnWay, each_at, one_more, room_on}

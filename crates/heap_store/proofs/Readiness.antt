@@ -19,7 +19,7 @@ use Rattle.store_model.specs.MemoryReading.{rom_bytes}
 use Rattle.store_model.specs.Migration.{migrated_to}
 use Rattle.store_laws.proofs.Fits.{all_fit, body_is_of}
 use Rattle.store_laws.proofs.Services.{all_keep}
-use Rattle.heap_laws.proofs.Facts.{bodies_are_spelled, has_room}
+use Rattle.store_laws.proofs.Facts.{bodies_are_spelled, has_room}
 use Rattle.heap_store.specs.Course.{IsCourse}
 use Rattle.heap_store.specs.Ready.{IsElsewhere, IsMovable, IsOfKind, HasHeader, IsReady, course_of, IsMoving}
 

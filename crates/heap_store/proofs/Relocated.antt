@@ -13,14 +13,14 @@ use Rattle.store_model.specs.Migration.{migrated_to, moved_number, moved_value, 
 use Rattle.store_model.specs.Service.Descriptor.{is_named}
 use Rattle.store_laws.proofs.Fits.{all_fit, body_is_of}
 use Rattle.store_laws.proofs.Moved.{moved_at}
-use Rattle.heap_laws.specs.Growing.{front_bytes}
-use Rattle.heap_laws.specs.Items.{Item, items, links_before}
-use Rattle.heap_laws.specs.Word.{word_in}
-use Rattle.heap_laws.proofs.Descriptors.{address_is, numbers_are_read}
-use Rattle.heap_laws.proofs.Facts.{bodies_are_spelled}
-use Rattle.heap_laws.proofs.Front.{front_piece, number_is}
-use Rattle.heap_laws.proofs.Nodes.{piece_of, node_is, next_is_read, descriptor_is_read, second_is_read}
-use Rattle.heap_laws.proofs.Reading.{image_at}
+use Rattle.store_laws.specs.Growing.{front_bytes}
+use Rattle.store_laws.specs.Items.{Item, items, links_before}
+use Rattle.store_laws.specs.Word.{word_in}
+use Rattle.store_laws.proofs.Descriptors.{address_is, numbers_are_read}
+use Rattle.store_laws.proofs.Facts.{bodies_are_spelled}
+use Rattle.store_laws.proofs.Front.{front_piece, number_is}
+use Rattle.store_laws.proofs.Nodes.{piece_of, node_is, next_is_read, descriptor_is_read, second_is_read}
+use Rattle.store_laws.proofs.Reading.{image_at}
 use Rattle.heap_store.specs.declared.course.Course.{Course}
 use Rattle.heap_store.specs.Linked.{Link, links_of, item_at, first_of, fields}
 use Rattle.heap_store.specs.Ready.{IsReady}

@@ -11,8 +11,8 @@ use Rattle.store_model.specs.StateFacts.{IsNumberOf}
 use Rattle.store_model.specs.HeapImage.{heap_image}
 use Rattle.store_model.specs.MemoryReading.{rom_bytes}
 use Rattle.store_model.specs.Service.Descriptor.{guid_from}
-use Rattle.heap_laws.specs.Mapped.{layout_of}
-use Rattle.ppi_links.proofs.Volumes.{read_long, volumes_are}
+use Rattle.store_laws.specs.Mapped.{layout_of}
+use Rattle.pei_heap.proofs.Volumes.{read_long, volumes_are}
 use Rattle.heap_store.specs.declared.store.HeapStore.{HeapStore}
 use Rattle.heap_store.specs.HeapState.{StandsFor}
 use Rattle.heap_store.specs.NewDescriptor.{IsDescriptorOf}

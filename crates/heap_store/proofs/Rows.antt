@@ -19,10 +19,10 @@ use Rattle.store_model.specs.Service.Descriptor.{desc, desc_of}
 use Rattle.store_model.specs.Service.Queue.{popped, queue_pop, zeroed}
 use Rattle.store_model.specs.Service.Sweep.{firing_of}
 use Rattle.store_laws.specs.Keeping.{Keeps}
-use Rattle.heap_laws.specs.Changes.{PoolsAreWritten}
-use Rattle.heap_laws.specs.Mapped.{layout_of}
-use Rattle.ppi_links.specs.declared.heads.Heads.{Heads}
-use Rattle.ppi_links.specs.Popped.{IsPopped}
+use Rattle.store_laws.specs.Changes.{PoolsAreWritten}
+use Rattle.store_laws.specs.Mapped.{layout_of}
+use Rattle.pei_heap.specs.declared.links.heads.Heads.{Heads}
+use Rattle.pei_heap.specs.Popped.{IsPopped}
 use Rattle.heap_store.specs.Made.{IsSame}
 use Rattle.heap_store.specs.NewDescriptor.{IsDescriptorOf}
 use Rattle.phys_mem.specs.declared.memory.PhysMem.{PhysMem}

@@ -3,8 +3,8 @@ use Rattle.std.proofs.Common.{◌≡◌, ◌+◌, ◌-◌, ◌≤◌, ◌<◌, �
 use Rattle.pi_base.specs.Field.{little_number, little_bytes, ReadsWhatItSpells}
 use Rattle.phys_mem.specs.Regions.{regions, bytes_at}
 use Rattle.phys_mem.specs.declared.memory.PhysMem.{PhysMem}
-use Rattle.heap_laws.specs.Mapped.{Layout, HasHeap}
-use Rattle.heap_laws.proofs.Words.{has_read}
+use Rattle.store_laws.specs.Mapped.{Layout, HasHeap}
+use Rattle.store_laws.proofs.Words.{has_read}
 use Rattle.heap_store.specs.WordBytes.{words_bytes}
 use Rattle.heap_store.specs.declared.words.Words.{Words}
 

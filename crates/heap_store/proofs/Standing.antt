@@ -7,8 +7,8 @@ use Rattle.phys_mem.specs.declared.memory.PhysMem.{PhysMem}
 use Rattle.store_model.specs.declared.state.HobEntry.{HobEntry}
 use Rattle.store_model.specs.StoreState.{StoreState}
 use Rattle.pei_heap.specs.HeapMemory.{IsHeapOf}
-use Rattle.ppi_links.specs.declared.heads.Heads.{Heads}
-use Rattle.ppi_links.specs.Linked.{AreHeads, IsLinked}
+use Rattle.pei_heap.specs.declared.links.heads.Heads.{Heads}
+use Rattle.pei_heap.specs.Linked.{AreHeads, IsLinked}
 use Rattle.heap_store.specs.declared.store.HeapStore.{HeapStore}
 use Rattle.heap_store.specs.Made.{IsSame}
 use Rattle.heap_store.specs.HeapState.{StandsFor}

@@ -9,11 +9,11 @@ use Rattle.store_model.specs.declared.state.HobEntry.{HobEntry}
 use Rattle.store_model.specs.StoreState.{Range, StoreState, body_at, body_len, hob_len}
 use Rattle.store_model.specs.HeapImage.{Links, body_bytes, descriptor_bytes, node_bytes, guid_behind, links_bytes}
 use Rattle.store_model.specs.Migration.{migrated_to, moved_descriptor}
-use Rattle.heap_laws.specs.Growing.{front_bytes}
-use Rattle.heap_laws.specs.Spelling.{spelled, AreSpelled}
-use Rattle.heap_laws.specs.Moving.{Done, half}
-use Rattle.heap_laws.proofs.Bodies.{body_behind, body_inside}
-use Rattle.heap_laws.proofs.Growing.{spelled_len}
+use Rattle.store_laws.specs.Growing.{front_bytes}
+use Rattle.store_laws.specs.Spelling.{spelled, AreSpelled}
+use Rattle.store_laws.specs.Moving.{Done, half}
+use Rattle.store_laws.proofs.HeapBodies.{body_behind, body_inside}
+use Rattle.store_laws.proofs.Growing.{spelled_len}
 use Rattle.heap_store.specs.declared.words.Words.{Words}
 use Rattle.heap_store.specs.WordBytes.{words_bytes, descriptor_words, links_words}
 use Rattle.heap_store.specs.Half.{half_image, behind}

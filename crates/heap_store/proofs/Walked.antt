@@ -9,10 +9,10 @@ use Rattle.store_model.specs.StateFacts.{IsStoreState}
 use Rattle.store_model.specs.StoreCall.{IsHobPlace}
 use Rattle.store_model.specs.HeapImage.{heap_image}
 use Rattle.store_model.specs.Service.Reading.{fv_bases, hob_at}
-use Rattle.heap_laws.specs.Hobs.{HobsAreTold, span_told}
-use Rattle.heap_laws.specs.Volumes.{VolumesAreTold, volumes_told}
-use Rattle.heap_laws.specs.Word.{short_in, word_in}
-use Rattle.heap_laws.proofs.Front.{append_nil}
+use Rattle.store_laws.specs.Hobs.{HobsAreTold, span_told}
+use Rattle.store_laws.specs.Volumes.{VolumesAreTold, volumes_told}
+use Rattle.store_laws.specs.Word.{short_in, word_in}
+use Rattle.store_laws.proofs.Front.{append_nil}
 use Rattle.heap_store.specs.Volumes.{base_told}
 use Rattle.heap_store.proofs.NextHobs.{first_placed, next_placed}
 

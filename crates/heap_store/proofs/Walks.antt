@@ -3,8 +3,8 @@ use Rattle.std.proofs.Common.{◌≡◌, ◌≢◌, ◌⊎◌, ℕ, zero, suc, �
 use Rattle.store_model.specs.declared.store_handle.EntryList.{EntryList}
 use Rattle.store_model.specs.StoreState.{Range, StoreState}
 use Rattle.store_model.specs.declared.state.Body.TheVariants.{Node}
-use Rattle.heap_laws.specs.Moving.{Done}
-use Rattle.heap_laws.proofs.Bodies.{body_behind}
+use Rattle.store_laws.specs.Moving.{Done}
+use Rattle.store_laws.proofs.HeapBodies.{body_behind}
 use Rattle.heap_store.specs.Half.{with_link, with_links}
 use Rattle.heap_store.specs.declared.course.Course.{Course}
 use Rattle.heap_store.specs.Linked.{Link, links_of, address, first_of}

@@ -7,10 +7,10 @@ use Rattle.store_model.specs.declared.store_handle.EntryList.TheVariants.{Ppis, 
 use Rattle.store_model.specs.StoreState.{Range, StoreState, end_place, header_len, handoff_len}
 use Rattle.store_model.specs.HeapImage.{header_bytes}
 use Rattle.store_model.specs.Migration.{migrated_to}
-use Rattle.heap_laws.specs.Growing.{front_bytes}
-use Rattle.heap_laws.specs.Spelling.{spelled}
-use Rattle.heap_laws.specs.Mapped.{layout_of, HasHeap}
-use Rattle.heap_laws.specs.Moving.{Done, half, with_descriptor, with_node_done}
+use Rattle.store_laws.specs.Growing.{front_bytes}
+use Rattle.store_laws.specs.Spelling.{spelled}
+use Rattle.store_laws.specs.Mapped.{layout_of, HasHeap}
+use Rattle.store_laws.specs.Moving.{Done, half, with_descriptor, with_node_done}
 use Rattle.heap_store.specs.Linked.{Link, links_of}
 
 -- the end HOB and the zeros behind it

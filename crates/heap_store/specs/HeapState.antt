@@ -2,7 +2,7 @@
 -- Own.
 use Rattle.std.specs.Prelude.{◌≡◌, ◌+◌, false, option_map}
 use Rattle.store_model.specs.StoreState.{Board, StoreState, range_of}
-use Rattle.ppi_links.specs.Linked.{IsLinked}
+use Rattle.pei_heap.specs.Linked.{IsLinked}
 use Rattle.heap_store.specs.declared.store.HeapStore.{HeapStore}
 
 -- temporary RAM, the page region at its end, and RAM; the volumes are those of the memory

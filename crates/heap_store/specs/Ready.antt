@@ -12,8 +12,8 @@ use Rattle.store_model.specs.StoreState.{Range, StoreState, body_at, hob_len, en
 use Rattle.store_model.specs.StateFacts.{IsStoreState}
 use Rattle.store_model.specs.HeapImage.{body_bytes}
 use Rattle.store_model.specs.Migration.{migrated_to}
-use Rattle.heap_laws.specs.Mapped.{IsMemoryOf}
-use Rattle.heap_laws.specs.Spelling.{AreSpelled}
+use Rattle.store_laws.specs.Mapped.{IsMemoryOf}
+use Rattle.store_laws.specs.Spelling.{AreSpelled}
 use Rattle.heap_store.specs.declared.course.Course.{Course}
 use Rattle.heap_store.specs.Course.{IsCourse}
 

@@ -11,8 +11,8 @@ ghost use Rattle.store_model.specs.StoreCall.{Anything};
 use crate::install::NODE_NEED;
 use crate::store::HeapStore;
 use hob_codec::HEADER_LEN;
+use pei_heap::links::{entry_behind, same_guid};
 use pi_base::{Guid, MEMORY_PPI};
-use ppi_links::{entry_behind, same_guid};
 use store_laws::{bodies_stay, entries_are_told, steps_keep_facts};
 use store_model::{CORE, DescKind, EntryList, GuidFrom, INLINE_DESCRIPTOR_LEN, StoreFault, Sweep};
 

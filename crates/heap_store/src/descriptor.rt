@@ -8,8 +8,8 @@ ghost use Rattle.heap_store.specs.NewDescriptor.{IsToMake};
 ghost use Rattle.store_model.specs.StoreCall.{Anything};
 
 use crate::store::HeapStore;
+use pei_heap::links::read_descriptor;
 use pi_base::{GUID_LEN, Guid};
-use ppi_links::read_descriptor;
 use store_model::{Desc, DescKind, DescriptorBody, GuidFrom, StoreFault};
 
 impl HeapStore {

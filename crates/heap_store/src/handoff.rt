@@ -8,10 +8,10 @@ ghost use Rattle.heap_store.specs.Ready.{IsReady};
 
 use crate::course::Course;
 use crate::words::{Words, put_words};
-use heap_laws::handoff_read;
 use hob_codec::HEADER_LEN;
 use pei_heap::{END_AT, Heap, word_in};
 use phys_mem::PhysMem;
+use store_laws::heap::handoff_read;
 
 // The offset of EfiMemoryTop, behind which EfiMemoryBottom and EfiFreeMemoryTop stand.
 const MEMORY_TOP_AT: u64 = 16;

@@ -1,7 +1,7 @@
 // The header of a HOB in memory.
 ghost use Rattle.std.specs.Prelude.{◌≡◌, ◌≤◌, ◌<◌, ◌+◌, ◌-◌, ◌^◌, ℕ, List, take, drop};
 ghost use Rattle.store_model.specs.HeapImage.{header_bytes};
-ghost use Rattle.heap_laws.specs.Mapped.{Layout, HasHeap};
+ghost use Rattle.store_laws.specs.Mapped.{Layout, HasHeap};
 ghost use Rattle.heap_store.specs.declared.header.Header.{Header as OfHeader};
 
 use phys_mem::PhysMem;

@@ -10,11 +10,11 @@ ghost use Rattle.store_model.specs.StoreCall.{Anything, IsHobPlace, IsScriptHob}
 ghost use Rattle.heap_store.specs.Volumes.{base_told};
 
 use crate::store::HeapStore;
-use heap_laws::{hobs_told, image_facts};
 use hob_codec::kind::VOLUME;
 use hob_codec::{HANDOFF_LEN, Hob};
 use pei_heap::word_in;
 use pi_base::{OutOfMemory, Seq};
+use store_laws::heap::{hobs_told, image_facts};
 use store_laws::states_fit;
 use store_model::{HobSpan, StoreFault};
 

@@ -8,16 +8,16 @@ ghost use Rattle.store_model.specs.Service.Install.{install, install_sweep, node
 ghost use Rattle.store_model.specs.StateFacts.{IsDesc};
 ghost use Rattle.store_model.specs.StoreCall.{Anything, AreBothDescs, AreDescs, AreFew};
 ghost use Rattle.store_model.specs.declared.store_handle.Desc.{Desc as OfDesc};
-ghost use Rattle.ppi_links.specs.Linked.{IsLinked};
+ghost use Rattle.pei_heap.specs.Linked.{IsLinked};
 ghost use Rattle.heap_store.specs.Made.{CanMakePpis, HavePairs, IsMade};
 
 use crate::store::HeapStore;
 use hob_codec::HEADER_LEN;
 use pei_heap::Heap;
-use phys_mem::PhysMem;
-use ppi_links::{
+use pei_heap::links::{
     Heads, NewEntry, PpiFound, count_pairs, find_ppi, kind_of, pairs_stay, push, push_pairs, rename,
 };
+use phys_mem::PhysMem;
 use store_laws::{entries_are_told, steps_keep_facts};
 use store_model::{Desc, DescKind, EntryList, NODE_LEN, StoreFault, Sweep};
 

@@ -4,7 +4,7 @@ ghost use Rattle.store_model.specs.declared.store_handle.DescKind.{DescKind as O
 ghost use Rattle.store_model.specs.StoreState.{Range, StoreState};
 ghost use Rattle.store_model.specs.HeapImage.{kind_flags};
 ghost use Rattle.store_model.specs.Migration.{moved_value};
-ghost use Rattle.heap_laws.specs.Moving.{Done, with_descriptor};
+ghost use Rattle.store_laws.specs.Moving.{Done, with_descriptor};
 ghost use Rattle.heap_store.specs.Course.{IsCourse};
 ghost use Rattle.heap_store.specs.Half.{IsHalf, with_other};
 ghost use Rattle.heap_store.specs.Linked.{HasDescriptor, address};

@@ -4,7 +4,7 @@ ghost use Rattle.store_model.specs.declared.state.AllocationBody.{AllocationBody
 ghost use Rattle.store_model.specs.declared.state.Body.{Body};
 ghost use Rattle.store_model.specs.declared.state.Body.TheVariants.{Allocation};
 ghost use Rattle.store_model.specs.StoreState.{Range, StoreState, body_at, end_place, handoff_len};
-ghost use Rattle.heap_laws.specs.Moving.{Done};
+ghost use Rattle.store_laws.specs.Moving.{Done};
 ghost use Rattle.heap_store.specs.Half.{IsHalf};
 ghost use Rattle.heap_store.specs.Pages.{with_pages, with_hobs};
 ghost use Rattle.heap_store.specs.Ready.{IsReady, IsOfKind};

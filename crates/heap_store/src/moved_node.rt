@@ -1,7 +1,7 @@
 // A node in memory, moved.
 ghost use Rattle.std.specs.Prelude.{◌≡◌, ◌+◌, List};
 ghost use Rattle.store_model.specs.StoreState.{Range, StoreState};
-ghost use Rattle.heap_laws.specs.Moving.{Done, with_node_done};
+ghost use Rattle.store_laws.specs.Moving.{Done, with_node_done};
 ghost use Rattle.heap_store.specs.Course.{IsCourse};
 ghost use Rattle.heap_store.specs.Half.{IsHalf, with_link};
 ghost use Rattle.heap_store.specs.Linked.{Link, IsLink, fields, address, first_of};

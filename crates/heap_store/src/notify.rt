@@ -7,13 +7,15 @@ ghost use Rattle.store_model.specs.Service.Descriptor.{is_callback, is_ppi, kind
 ghost use Rattle.store_model.specs.Service.Notify.{new_callbacks, notify, notify_sweep, with_note};
 ghost use Rattle.store_model.specs.StateFacts.{IsDesc};
 ghost use Rattle.store_model.specs.StoreCall.{AreDescs, AreFew};
-ghost use Rattle.ppi_links.specs.Linked.{IsLinked};
+ghost use Rattle.pei_heap.specs.Linked.{IsLinked};
 ghost use Rattle.heap_store.specs.Made.{CanMakeNotes, HaveNewPairs, IsMade, note_list as list_of};
 
 use crate::store::HeapStore;
 use pei_heap::Heap;
+use pei_heap::links::{
+    Heads, NewEntry, count_new_pairs, kind_of, pairs_stay, push, push_new_pairs,
+};
 use phys_mem::PhysMem;
-use ppi_links::{Heads, NewEntry, count_new_pairs, kind_of, pairs_stay, push, push_new_pairs};
 use store_laws::{entries_are_told, named_are_there, steps_keep_facts};
 use store_model::{Desc, DescKind, EntryList, StoreFault, Sweep};
 

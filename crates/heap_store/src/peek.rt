@@ -5,7 +5,7 @@ ghost use Rattle.store_model.specs.Service.{OfEach, Present};
 ghost use Rattle.store_model.specs.StoreCall.{Anything, Peeks};
 
 use crate::store::HeapStore;
-use heap_laws::memory_read;
+use store_laws::heap::memory_read;
 
 impl HeapStore {
     ghost use Rattle.heap_store.specs.HeapState.{StandsFor};

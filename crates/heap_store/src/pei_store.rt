@@ -4,8 +4,8 @@ ghost use Rattle.std.specs.Prelude.{false};
 use crate::store::HeapStore;
 use depex_code::GuidSet;
 use hob_codec::Hob;
+use pei_heap::links::{has_ppi, links_told};
 use pi_base::{Guid, OutOfMemory, Seq};
-use ppi_links::{has_ppi, links_told};
 use store_model::{
     Desc, DescKind, EntryList, EntryTold, Firing, GuidFrom, HobSpan, PeiStore, Pool, StoreFault,
     Sweep,
@@ -13,7 +13,7 @@ use store_model::{
 
 impl GuidSet for HeapStore {
     ghost use Rattle.store_model.specs.StoreState.{StoreState};
-    ghost use Rattle.ppi_links.specs.Has.{links_have};
+    ghost use Rattle.pei_heap.specs.Has.{links_have};
     ghost use Rattle.heap_store.specs.HeapState.{StandsFor};
 
     ghost has_guid = { λ m guid. links_have m.heap m.memory m.heads guid };
@@ -29,9 +29,9 @@ impl GuidSet for HeapStore {
 impl PeiStore for HeapStore {
     ghost use Rattle.heap_store.specs.HeapState.{StandsFor};
     ghost use Rattle.pi_base.proofs.FieldLaws.{little_number-little_bytes};
-    ghost use Rattle.heap_laws.proofs.Accessors.{has_is_told};
-    ghost use Rattle.heap_laws.proofs.Words.{heaps_are_read};
-    ghost use Rattle.ppi_links.proofs.Knowing.{links_are_had};
+    ghost use Rattle.store_laws.proofs.Accessors.{has_is_told};
+    ghost use Rattle.store_laws.proofs.Words.{heaps_are_read};
+    ghost use Rattle.pei_heap.proofs.Knowing.{links_are_had};
 
     const TAKES_MEMORY: bool = false;
 

@@ -5,7 +5,7 @@ ghost use Rattle.store_model.specs.Service.Pool.{pool, store};
 ghost use Rattle.store_model.specs.StoreCall.{Anything, HasPool};
 
 use crate::store::HeapStore;
-use heap_laws::bodies_changed;
+use store_laws::heap::bodies_changed;
 use store_laws::{bodies_are_inside, services_keep_facts};
 use store_model::{Pool, StoreFault};
 

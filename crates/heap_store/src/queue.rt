@@ -4,7 +4,7 @@ ghost use Rattle.store_model.specs.Service.Queue.{queue_pop};
 ghost use Rattle.store_model.specs.StoreCall.{Anything};
 
 use crate::store::HeapStore;
-use ppi_links::pop;
+use pei_heap::links::pop;
 use store_model::Firing;
 
 impl HeapStore {

@@ -5,8 +5,8 @@ ghost use Rattle.store_model.specs.Service.Reading as R;
 ghost use Rattle.store_model.specs.StoreCall.{Anything, IsNodeIn};
 
 use crate::store::HeapStore;
+use pei_heap::links::{entry_behind, note_at, nth_ppi, pending_at, ppi_at};
 use pi_base::Guid;
-use ppi_links::{entry_behind, note_at, nth_ppi, pending_at, ppi_at};
 use store_model::{Desc, DescKind, EntryList, EntryTold};
 
 impl HeapStore {

@@ -3,8 +3,8 @@ ghost use Rattle.std.specs.Prelude.{◌≡◌};
 ghost use Rattle.store_model.specs.StoreState.{Range, StoreState, end_place, range_of};
 ghost use Rattle.store_model.specs.HeapImage.{heap_image};
 ghost use Rattle.store_model.specs.Migration.{migrated_to};
-ghost use Rattle.heap_laws.specs.Mapped.{IsMemoryOf};
-ghost use Rattle.ppi_links.specs.Linked.{AreHeads, IsLinked};
+ghost use Rattle.store_laws.specs.Mapped.{IsMemoryOf};
+ghost use Rattle.pei_heap.specs.Linked.{AreHeads, IsLinked};
 ghost use Rattle.heap_store.specs.Due.{IsDue};
 ghost use Rattle.heap_store.specs.Half.{IsHalf, lists_done, none_done};
 ghost use Rattle.heap_store.specs.Ready.{IsReady, IsMoving, course_of};
@@ -17,9 +17,9 @@ use crate::handoff::{end_place, write_handoff};
 use crate::moved_hobs::move_hobs;
 use hob_codec::HEADER_LEN;
 use pei_heap::Heap;
+use pei_heap::links::Heads;
 use phys_mem::PhysMem;
 use pi_base::{Span, little_endian};
-use ppi_links::Heads;
 
 // The ends of the lists after the move.
 fn moved_heads(course: &Course, heads: &Heads) -> Heads

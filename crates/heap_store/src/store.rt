@@ -4,9 +4,9 @@ ghost use Rattle.store_model.specs.StateFacts.{IsBoard};
 ghost use Rattle.store_model.specs.StoreState.{empty_store, range_of};
 
 use pei_heap::Heap;
+use pei_heap::links::Heads;
 use phys_mem::{PhysMem, Rom};
 use pi_base::{OutOfMemory, Seq, Span};
-use ppi_links::Heads;
 use std::alloc::Global;
 
 /// A store of PEI services in the bytes of physical memory. It keeps no list: PPIs, notifications, queued pairs and HOBs are read where they stand.

@@ -4,7 +4,7 @@ ghost use Rattle.store_model.specs.Service.Sweep as W;
 ghost use Rattle.store_model.specs.StoreCall.{IsAmong, IsMatch};
 
 use crate::store::HeapStore;
-use ppi_links::next_match;
+use pei_heap::links::next_match;
 use store_model::{Firing, Sweep};
 
 impl HeapStore {

@@ -1,7 +1,7 @@
 // Three numbers of eight bytes, one behind another, in the heap.
 ghost use Rattle.std.specs.Prelude.{◌≡◌, ◌≤◌, ◌<◌, ◌+◌, ◌-◌, ◌^◌, ℕ, List, take, drop};
 ghost use Rattle.phys_mem.specs.Region.{replaced};
-ghost use Rattle.heap_laws.specs.Mapped.{Layout, HasHeap};
+ghost use Rattle.store_laws.specs.Mapped.{Layout, HasHeap};
 ghost use Rattle.heap_store.specs.WordBytes.{words_bytes};
 ghost use Rattle.heap_store.specs.declared.words.Words.{Words as OfWords};
 

@@ -3,8 +3,8 @@ use Rattle.std.proofs.Common.{◌≡◌, ℕ, zero, suc, ◌+◌, ◌<◌, ◌�
 use Rattle.std.specs.Prelude.{filter, flat_map, map}
 use Rattle.std.specs.List.{list_any}
 use Rattle.pi_base.specs.declared.guid.Guid.{Guid}
-use Rattle.guid_index.specs.declared.guid_index.Indexed.{Indexed}
-use Rattle.guid_index.specs.Entries.{entries_of, has_guid}
+use Rattle.mem_store.specs.declared.guid_index.index.Indexed.{Indexed}
+use Rattle.mem_store.specs.Entries.{entries_of, has_guid}
 use Rattle.store_model.specs.declared.store_handle.Desc.{Desc}
 use Rattle.store_model.specs.StoreState.{StoreState}
 use Rattle.store_model.specs.Service.Descriptor.{descriptors, guid_at, is_callback, kind_at, offsets}

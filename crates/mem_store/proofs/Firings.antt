@@ -1,8 +1,8 @@
 -- What fires at a PPI and a callback that meet.
 use Rattle.std.proofs.Common.{◌≡◌, ℕ, zero, suc, ◌+◌, Bool, true, false, cond, List, [], ◌∷◌, ap, refl, sym, subst, ◌∙◌, Option, Some, None}
 use Rattle.std.specs.Prelude.{filter, is_some, option_map, slice_get, unwrap_or}
-use Rattle.guid_index.specs.declared.guid_index.Indexed.{Indexed}
-use Rattle.guid_index.specs.Entries.{entries_of, has_at, has_guid}
+use Rattle.mem_store.specs.declared.guid_index.index.Indexed.{Indexed}
+use Rattle.mem_store.specs.Entries.{entries_of, has_at, has_guid}
 use Rattle.pi_base.specs.declared.guid.Guid.{Guid}
 use Rattle.store_model.specs.declared.store_handle.DescKind.{DescKind}
 use Rattle.store_model.specs.declared.store_handle.DescKind.TheVariants.{Ppi}

@@ -2,7 +2,7 @@
 use Rattle.std.proofs.Common.{◌≡◌, ℕ, zero, suc, ◌+◌, ◌<◌, ◌≤◌, Bool, true, false, cond, List, [], ◌∷◌, ◌++◌, length, drop, get_or, arith, ap, refl, sym, ◌∙◌}
 use Rattle.std.specs.Prelude.{filter, map}
 use Rattle.pi_base.specs.Lists.{Each}
-use Rattle.guid_index.specs.declared.guid_index.Indexed.{Indexed}
+use Rattle.mem_store.specs.declared.guid_index.index.Indexed.{Indexed}
 use Rattle.store_model.specs.declared.store_handle.Desc.{Desc}
 use Rattle.store_model.specs.StoreState.{StoreState}
 use Rattle.store_model.specs.Service.Descriptor.{is_callback, kind_at, offsets}

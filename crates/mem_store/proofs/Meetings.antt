@@ -7,8 +7,8 @@ use Rattle.std.proofs.lemmas.Slice.Eq.{bytes_eq-Decides}
 use Rattle.pi_base.specs.declared.guid.Guid.{Guid}
 use Rattle.pi_base.specs.Guids.{same_guid}
 use Rattle.pi_base.specs.Lists.{numbers}
-use Rattle.guid_index.specs.declared.guid_index.Indexed.{Indexed}
-use Rattle.guid_index.specs.Entries.{has_at, has_guid}
+use Rattle.mem_store.specs.declared.guid_index.index.Indexed.{Indexed}
+use Rattle.mem_store.specs.Entries.{has_at, has_guid}
 use Rattle.store_model.specs.declared.state.Entry.{Entry}
 use Rattle.store_model.specs.declared.store_handle.Firing.{Firing}
 use Rattle.store_model.specs.declared.store_handle.Sweep.{Sweep}

@@ -5,8 +5,8 @@ use Rattle.std.proofs.lemmas.Slice.Eq.{bytes_eq-Decides}
 use Rattle.pi_base.specs.declared.guid.Guid.{Guid}
 use Rattle.pi_base.specs.declared.known_guid.TheConstants.{MEMORY_PPI}
 use Rattle.pi_base.specs.Guids.{same_guid}
-use Rattle.guid_index.specs.declared.guid_index.Indexed.{Indexed}
-use Rattle.guid_index.specs.Entries.{entries_of, has_guid}
+use Rattle.mem_store.specs.declared.guid_index.index.Indexed.{Indexed}
+use Rattle.mem_store.specs.Entries.{entries_of, has_guid}
 use Rattle.store_model.specs.declared.store_handle.Desc.{Desc}
 use Rattle.store_model.specs.declared.store_handle.StoreFault.{StoreFault}
 use Rattle.store_model.specs.declared.store_handle.StoreFault.TheVariants as F

@@ -1,6 +1,6 @@
 -- What an index says of one state and of another.
 use Rattle.std.proofs.Common.{◌≡◌, List, ap, ◌∙◌, sym}
-use Rattle.guid_index.specs.declared.guid_index.Indexed.{Indexed}
+use Rattle.mem_store.specs.declared.guid_index.index.Indexed.{Indexed}
 use Rattle.store_model.specs.StoreState.{StoreState}
 use Rattle.store_model.specs.StateFacts.{IsStoreState}
 use Rattle.mem_store.specs.Rows.{rows_of}

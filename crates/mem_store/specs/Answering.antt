@@ -3,7 +3,7 @@
 use Rattle.std.specs.Prelude.{◌≡◌, ℕ, map, option_map, slice_get}
 use Rattle.std.specs.List.{list_any}
 use Rattle.pi_base.specs.declared.guid.Guid.{Guid}
-use Rattle.guid_index.specs.Entries.{entries_of, has_guid}
+use Rattle.mem_store.specs.Entries.{entries_of, has_guid}
 use Rattle.store_model.specs.StoreState.{StoreState}
 use Rattle.store_model.specs.Service.Descriptor.{descriptors, guid_at}
 use Rattle.store_model.specs.Service.Install.{has_ppi, row_of}

@@ -6,7 +6,7 @@ use Rattle.store_model.specs.declared.store_handle.Sweep.{Sweep}
 use Rattle.store_model.specs.StoreState.{StoreState}
 use Rattle.store_model.specs.StateFacts.{IsSweepOf}
 use Rattle.store_model.specs.Service.Sweep.{firing_at, next_match}
-use Rattle.guid_index.specs.Entries.{has_at}
+use Rattle.mem_store.specs.Entries.{has_at}
 use Rattle.mem_store.specs.declared.index.Index.{Index}
 use Rattle.mem_store.specs.Indexed.{Rows, all_rows, held}
 

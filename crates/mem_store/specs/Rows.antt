@@ -1,7 +1,7 @@
 -- What an index says of a list of a state: of each entry the GUID of its descriptor, and where that stands.
 -- Own.
 use Rattle.std.specs.Prelude.{ℕ, List, map}
-use Rattle.guid_index.specs.declared.guid_index.Indexed.{Indexed}
+use Rattle.mem_store.specs.declared.guid_index.index.Indexed.{Indexed}
 use Rattle.store_model.specs.declared.state.Entry.{Entry}
 use Rattle.store_model.specs.declared.store_handle.Desc.{Desc}
 use Rattle.store_model.specs.StoreState.{StoreState}

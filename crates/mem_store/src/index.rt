@@ -1,6 +1,6 @@
 // What is installed and registered, by GUID.
 ghost use Rattle.std.specs.Prelude.{◌≡◌, ◌++◌, ◌∷◌, [], true, if◌then◌else◌, IfOk, map, slice_set};
-ghost use Rattle.guid_index.specs.declared.guid_index.Indexed.{Indexed as OfIndexed};
+ghost use Rattle.mem_store.specs.declared.guid_index.index.Indexed.{Indexed as OfIndexed};
 ghost use Rattle.store_model.specs.Service.{OfEach, Present};
 ghost use Rattle.store_model.specs.Service.Descriptor.{offsets};
 ghost use Rattle.store_model.specs.Service.Notify.{new_callbacks, new_dispatches};
@@ -11,7 +11,7 @@ ghost use Rattle.heap_store.specs.HeapState as H;
 ghost use Rattle.mem_store.specs.Indexed.{Becomes, BecomesCore, held};
 ghost use Rattle.mem_store.specs.Picked.{is_picked, picked_of};
 
-use guid_index::{GuidIndex, Indexed};
+use crate::guid_index::{GuidIndex, Indexed};
 use heap_store::HeapStore;
 use pi_base::{MEMORY_PPI, OutOfMemory};
 use std::alloc::Global;
@@ -92,9 +92,18 @@ impl Index {
     pub(crate) fn new(alloc: Global, most: usize, guids: usize) -> Result<Index, OutOfMemory>
         ensures { IfOk result (λ index. held index ≡ record { ppis = []; callbacks = []; dispatches = [] }) }
     {
-        let ppis = GuidIndex::new(alloc, most, guids)?;
-        let callbacks = GuidIndex::new(alloc, most, guids)?;
-        let dispatches = GuidIndex::new(alloc, most, guids)?;
+        let Ok(ppis) = GuidIndex::new(alloc, most, guids) else {
+            return Err(OutOfMemory);
+        };
+        let Ok(callbacks) = GuidIndex::new(alloc, most, guids) else {
+            drop(ppis);
+            return Err(OutOfMemory);
+        };
+        let Ok(dispatches) = GuidIndex::new(alloc, most, guids) else {
+            drop(ppis);
+            drop(callbacks);
+            return Err(OutOfMemory);
+        };
         Ok(Index {
             ppis,
             callbacks,

@@ -11,8 +11,8 @@ ghost use Rattle.mem_store.specs.Meeting.{AreMet, IsFiring};
 use crate::rows_answer;
 use crate::store::MemStore;
 use depex_code::GuidSet;
+use pei_heap::links::links_told;
 use pi_base::Guid;
-use ppi_links::links_told;
 use store_laws::named_are_there;
 use store_model::{Desc, Firing, PeiStore, Sweep};
 

@@ -8,9 +8,9 @@ use Rattle.pi_base.specs.declared.phase.Phase.{Phase}
 use Rattle.pi_base.specs.Guids.{same_guid}
 use Rattle.pi_base.specs.GuidMap.{value_of}
 use Rattle.fv_volume.specs.declared.file.FfsFile.{FfsFile}
-use Rattle.catalog_model.specs.FileType.{has_part}
-use Rattle.catalog_model.specs.ReadFile.{is_file}
-use Rattle.catalog_model.specs.APriori.{bearer, kept_names, rank_of}
+use Rattle.mod_catalog.specs.FileType.{has_part}
+use Rattle.mod_catalog.specs.ReadFile.{is_file}
+use Rattle.mod_catalog.specs.APrioriNames.{bearer, kept_names, rank_of}
 use Rattle.mod_catalog.specs.declared.ranks.Bearer.{Bearer}
 use Rattle.mod_catalog.specs.declared.ranks.Ranks.{Ranks}
 use Rattle.mod_catalog.specs.Ranks.{bearer_from, HoldRanks}

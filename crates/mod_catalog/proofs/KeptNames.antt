@@ -14,9 +14,9 @@ use Rattle.pi_base.specs.Lists.{firsts, numbers}
 use Rattle.pi_base.specs.GuidMap.{value_of}
 use Rattle.fv_volume.specs.declared.file.FfsFile.{FfsFile}
 use Rattle.pi_base.specs.declared.phase.Phase.{Phase}
-use Rattle.catalog_model.specs.FileType.{has_part}
-use Rattle.catalog_model.specs.APriori.{bearer, kept_names}
-use Rattle.catalog_model.proofs.BorneNames.{few_kept as few_kept_names}
+use Rattle.mod_catalog.specs.FileType.{has_part}
+use Rattle.mod_catalog.specs.APrioriNames.{bearer, kept_names}
+use Rattle.mod_catalog.proofs.BorneNames.{few_kept as few_kept_names}
 use Rattle.mod_catalog.specs.Ranks.{kept_of, known, AreKept, ArePlaces, AreBearers, AreOfSome}
 use Rattle.mod_catalog.specs.declared.ranks.Bearer.{Bearer}
 use Rattle.mod_catalog.specs.declared.ranks.Kept.{Kept}

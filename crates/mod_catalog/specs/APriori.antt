@@ -2,7 +2,7 @@
 use Rattle.std.specs.Prelude.{◌≡◌, List}
 use Rattle.pi_base.specs.declared.phase.Phase.TheVariants.{Pei, Dxe}
 use Rattle.fv_volume.specs.declared.file.FfsFile.{FfsFile}
-use Rattle.catalog_model.specs.ReadFile.{a_priori_file}
+use Rattle.mod_catalog.specs.ReadFile.{a_priori_file}
 use Rattle.mod_catalog.specs.declared.a_priori.APrioriFiles.{APrioriFiles}
 
 -- they are those of these files

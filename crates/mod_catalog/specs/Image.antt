@@ -1,7 +1,7 @@
 -- The image of a volume as the code has it: its bytes, and where they are.
 use Rattle.std.specs.Prelude.{ℕ, ◌+◌, ◌<◌, ◌^◌, List, length}
-use Rattle.catalog_model.specs.declared.location.Location.{Location}
-use Rattle.catalog_model.specs.VolumeTree.{Image}
+use Rattle.mod_catalog.specs.declared.location.Location.{Location}
+use Rattle.mod_catalog.specs.VolumeTree.{Image}
 
 abbrev pub image_of : List ℕ → Location → Image
 image_of bytes location = record { bytes = bytes; location = location }

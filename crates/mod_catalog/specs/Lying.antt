@@ -3,8 +3,8 @@ use Rattle.std.specs.Prelude.{ℕ, ◌+◌, ◌≤◌, List, length, All}
 use Rattle.pi_base.specs.Lists.{Each}
 use Rattle.fv_volume.specs.declared.file.FfsFile.{FfsFile}
 use Rattle.fv_volume.specs.declared.sections.section.Section.{Section}
-use Rattle.catalog_model.specs.declared.read_file.ReadFile.{ReadFile}
-use Rattle.catalog_model.specs.declared.read_file.Stretch.{Stretch}
+use Rattle.mod_catalog.specs.declared.read_file.ReadFile.{ReadFile}
+use Rattle.mod_catalog.specs.declared.read_file.Stretch.{Stretch}
 
 -- the body of a section lies in that of its file
 abbrev pub LiesIn : FfsFile → Section → Type 0

@@ -7,14 +7,14 @@ use Rattle.pi_base.specs.declared.phase.Phase.TheVariants.{Pei, Dxe}
 use Rattle.fv_volume.specs.declared.file.FfsFile.{FfsFile}
 use Rattle.fv_volume.specs.declared.sections.section.Section.{Section}
 use Rattle.act_code.specs.declared.script.Script.{Script}
-use Rattle.catalog_model.specs.declared.catalog.Module.{Module}
-use Rattle.catalog_model.specs.declared.catalog.Part.{Part}
-use Rattle.catalog_model.specs.FileType.{expression_section}
-use Rattle.catalog_model.specs.declared.read_file.ReadFile.{ReadFile}
-use Rattle.catalog_model.specs.ReadFile.{first_body}
-use Rattle.catalog_model.specs.APriori.{a_priori_list, rank_of}
-use Rattle.catalog_model.specs.ModuleEntry.{IsExpression, IsModule}
-use Rattle.catalog_model.specs.Totals.{module_files}
+use Rattle.mod_catalog.specs.declared.catalogue.Module.{Module}
+use Rattle.mod_catalog.specs.declared.catalogue.Part.{Part}
+use Rattle.mod_catalog.specs.FileType.{expression_section}
+use Rattle.mod_catalog.specs.declared.read_file.ReadFile.{ReadFile}
+use Rattle.mod_catalog.specs.ReadFile.{first_body}
+use Rattle.mod_catalog.specs.APrioriNames.{a_priori_list, rank_of}
+use Rattle.mod_catalog.specs.ModuleEntry.{IsExpression, IsModule}
+use Rattle.mod_catalog.specs.Totals.{module_files}
 use Rattle.mod_catalog.specs.declared.modules.VolumeRanks.{VolumeRanks}
 use Rattle.mod_catalog.specs.Ranks.{GiveRanks}
 

@@ -7,8 +7,8 @@ use Rattle.pi_base.specs.declared.phase.Phase.{Phase}
 use Rattle.fv_volume.specs.declared.file.FfsFile.{FfsFile}
 use Rattle.fv_volume.specs.declared.search.TheConstants.{MOST_FILES}
 use Rattle.pi_base.specs.GuidMap.{value_of}
-use Rattle.catalog_model.specs.APriori.{kept_names}
-use Rattle.catalog_model.specs.FileType.{has_part}
+use Rattle.mod_catalog.specs.APrioriNames.{kept_names}
+use Rattle.mod_catalog.specs.FileType.{has_part}
 use Rattle.mod_catalog.specs.declared.ranks.Bearer.{Bearer}
 use Rattle.mod_catalog.specs.declared.ranks.Ranks.{Ranks}
 use Rattle.mod_catalog.specs.declared.ranks.Kept.{Kept}

@@ -5,9 +5,9 @@ use Rattle.fv_volume.specs.declared.file.FfsFile.{FfsFile}
 use Rattle.fv_volume.specs.declared.sections.section.Section.{Section}
 use Rattle.act_code.specs.declared.script.Script.{Script}
 use Rattle.act_code.specs.Script.{IsScript}
-use Rattle.catalog_model.specs.declared.limits.TheConstants.{MOST_SCRIPT_BYTES}
-use Rattle.catalog_model.specs.ReadFile.{section_body, script_sections}
-use Rattle.catalog_model.specs.Totals.{bytes_of}
+use Rattle.mod_catalog.specs.declared.limits.TheConstants.{MOST_SCRIPT_BYTES}
+use Rattle.mod_catalog.specs.ReadFile.{section_body, script_sections}
+use Rattle.mod_catalog.specs.Totals.{bytes_of}
 use Rattle.mod_catalog.specs.declared.scripts.Scripts.{Scripts}
 
 -- a section's script

@@ -1,7 +1,7 @@
 // The scripts of a module's parts.
 ghost use Rattle.std.specs.Prelude.{◌≡◌, []};
 ghost use Rattle.pi_base.specs.declared.phase.Phase.TheVariants.{Pei, Dxe};
-ghost use Rattle.catalog_model.specs.ModuleEntry.{script_for};
+ghost use Rattle.mod_catalog.specs.ModuleEntry.{script_for};
 
 use act_code::Script;
 use pi_base::{Phase, Seq};

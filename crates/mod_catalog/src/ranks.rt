@@ -4,7 +4,7 @@ ghost use Rattle.pi_base.specs.declared.guid.Guid.{Guid as Name};
 ghost use Rattle.pi_base.specs.declared.phase.Phase.{Phase as OfPhase};
 ghost use Rattle.fv_volume.specs.declared.file.FfsFile.{FfsFile as File};
 ghost use Rattle.fv_volume.specs.declared.search.TheConstants.{MOST_FILES};
-ghost use Rattle.catalog_model.specs.APriori.{guids_in, rank_of};
+ghost use Rattle.mod_catalog.specs.APrioriNames.{guids_in, rank_of};
 ghost use Rattle.mod_catalog.specs.Ranks.{AreBearers, AreOfSome, AreKept, HoldRanks, GiveRanks};
 
 use crate::file_type::has_part;

@@ -1,9 +1,9 @@
 // The stretches of a volume in which others are nested.
 ghost use Rattle.std.specs.Prelude.{◌≡◌, ◌≤◌, ◌+◌, IfOk};
-ghost use Rattle.catalog_model.specs.ReadFile.{holds_volume, nested_in};
+ghost use Rattle.mod_catalog.specs.ReadFile.{holds_volume, nested_in};
 ghost use Rattle.mod_catalog.specs.Lying.{LieIn, AreStretchesBelow};
 
-use catalog_model::Stretch;
+use crate::Stretch;
 use fv_volume::sections::{Section, section_type};
 use fv_volume::{FfsFile, file_type};
 use pi_base::{OutOfMemory, Seq};

@@ -1,8 +1,10 @@
 // The events that lines spell.
 ghost use Rattle.std.specs.Prelude.{◌≡◌, ◌≢◌, ℕ, slice_index, IfSome, IfOk};
 ghost use Rattle.line_words.specs.Words.{words};
+ghost use Rattle.mp_core.specs.declared.event.MpEvent.TheVariants as E;
 ghost use Rattle.mp_core.specs.Calls.{IsEvent};
-ghost use Rattle.mp_core.specs.LineText.{enabled_of, all_of, this_of, enable_of, switch_of, who_of, turn_of, event_by, event_of};
+ghost use Rattle.mp_core.specs.LineText.{of_two, of_three, enabled_of, all_of, this_of, enable_of, switch_of, who_of, turn_of, event_by, event_of};
+ghost use Rattle.mp_core.specs.Words.{number_below, processor_of};
 
 use crate::event::MpEvent;
 use crate::job::read_job;
@@ -80,6 +82,16 @@ fn this_of(
     }
 }
 
+// The event of two operands.
+fn enable_by(by: &[u8], on: &[u8], processors: u32, enabled: bool) -> Option<MpEvent>
+    ensures event { result ≡ of_two (λ by on. E.Enable by on enabled) (number_below processors by.now) (processor_of on.now) }
+    ensures fits { (cells : ℕ) → IfSome result (IsEvent processors cells) }
+{
+    let by = number_below(by, u64::from(processors))?;
+    let on = processor_of(on)?;
+    Some(MpEvent::Enable { by, on, enabled })
+}
+
 fn enable_of(operands: &[u8], processors: u32, enabled: bool) -> Option<MpEvent>
     requires { slice_index operands.now 0 ≢ 32 }
     ensures event { result ≡ enable_of processors enabled (words operands.now) }
@@ -89,12 +101,20 @@ fn enable_of(operands: &[u8], processors: u32, enabled: bool) -> Option<MpEvent>
     let (on, rest) = next_word(rest)?;
     match next_word(rest) {
         Some(_) => None,
-        None => {
-            let by = number_below(by, u64::from(processors))?;
-            let on = processor_of(on)?;
-            Some(MpEvent::Enable { by, on, enabled })
-        }
+        None => enable_by(by, on, processors, enabled),
     }
+}
+
+// The event of three operands.
+fn switch_by(by: &[u8], on: &[u8], enabled: &[u8], processors: u32) -> Option<MpEvent>
+    ensures event { result ≡ of_three (λ by on enabled. E.Switch by on enabled)
+        (number_below processors by.now) (processor_of on.now) (enabled_of enabled.now) }
+    ensures fits { (cells : ℕ) → IfSome result (IsEvent processors cells) }
+{
+    let by = number_below(by, u64::from(processors))?;
+    let on = processor_of(on)?;
+    let enabled = enabled_of(enabled)?;
+    Some(MpEvent::Switch { by, on, enabled })
 }
 
 fn switch_of(operands: &[u8], processors: u32) -> Option<MpEvent>
@@ -107,12 +127,7 @@ fn switch_of(operands: &[u8], processors: u32) -> Option<MpEvent>
     let (enabled, rest) = next_word(rest)?;
     match next_word(rest) {
         Some(_) => None,
-        None => {
-            let by = number_below(by, u64::from(processors))?;
-            let on = processor_of(on)?;
-            let enabled = enabled_of(enabled)?;
-            Some(MpEvent::Switch { by, on, enabled })
-        }
+        None => switch_by(by, on, enabled, processors),
     }
 }
 

@@ -1,5 +1,8 @@
 // The first words of events' lines.
-ghost use Rattle.std.specs.Prelude.{◌≡◌};
+ghost use Rattle.std.specs.Prelude.{◌≡◌, ◌∷◌, []};
+ghost use Rattle.std.specs.List.{find};
+ghost use Rattle.std.specs.Str.{bytes_eq};
+ghost use Rattle.mp_core.specs.declared.keyword.Keyword.TheVariants.{Switch, Who, Turn};
 ghost use Rattle.mp_core.specs.LineText.{keyword_text, keyword_named};
 ghost use Rattle.mp_core.specs.OutcomeText.{keyword_of};
 
@@ -33,6 +36,21 @@ pub(crate) fn keyword_text(keyword: Keyword) -> &'static [u8]
     }
 }
 
+// The keyword that a word is, of the last three.
+fn later_keyword(word: &[u8]) -> Option<Keyword>
+    ensures { result ≡ find (λ keyword. bytes_eq word.now (keyword_text keyword)) (Switch ∷ Who ∷ Turn ∷ []) }
+{
+    if word == keyword_text(Keyword::Switch) {
+        Some(Keyword::Switch)
+    } else if word == keyword_text(Keyword::Who) {
+        Some(Keyword::Who)
+    } else if word == keyword_text(Keyword::Turn) {
+        Some(Keyword::Turn)
+    } else {
+        None
+    }
+}
+
 // The keyword that a word is.
 pub(crate) fn keyword_named(word: &[u8]) -> Option<Keyword>
     ensures { result ≡ keyword_named word.now }
@@ -45,14 +63,8 @@ pub(crate) fn keyword_named(word: &[u8]) -> Option<Keyword>
         Some(Keyword::Enable)
     } else if word == keyword_text(Keyword::Disable) {
         Some(Keyword::Disable)
-    } else if word == keyword_text(Keyword::Switch) {
-        Some(Keyword::Switch)
-    } else if word == keyword_text(Keyword::Who) {
-        Some(Keyword::Who)
-    } else if word == keyword_text(Keyword::Turn) {
-        Some(Keyword::Turn)
     } else {
-        None
+        later_keyword(word)
     }
 }
 

@@ -1,5 +1,5 @@
 // The lines of events.
-ghost use Rattle.std.specs.Prelude.{◌≡◌, ◌+◌, ◌<◌, ◌^◌, length, map, Some, IfOk, IfErr, OnOk};
+ghost use Rattle.std.specs.Prelude.{◌≡◌, ◌+◌, ◌<◌, ◌^◌, [], length, map, Some, IfOk, IfErr, OnOk};
 ghost use Rattle.line_words.specs.Line.{lines};
 ghost use Rattle.mp_core.specs.Calls.{AreEvents};
 ghost use Rattle.mp_core.specs.FileText.{numbered_from, spelled};
@@ -36,6 +36,35 @@ fn take_line(
     }
 }
 
+// Puts the events of lines into an empty list.
+fn take_lines(
+    events: &mut Seq<MpEvent>,
+    text: &[u8],
+    first: u32,
+    processors: u32,
+    cells: u32,
+) -> Result<(), MpFault>
+    requires none { events.old ≡ [] }
+    requires first { first + length text.now < 2 ^ 32 }
+    ensures events { OnOk result (
+        spelled processors cells (numbered_from first (lines text.now)) ≡ map (λ event. Some event) events.new) }
+    ensures fits { OnOk result (AreEvents processors cells events.new) }
+    ensures fault { IfErr result (IsEventFault processors cells (numbered_from first (lines text.now))) }
+{
+    let mut rest = text;
+    let mut number = first;
+    'lines: while !rest.is_empty() {
+        let (line, after) = first_line(rest);
+        match take_line(events, number, line, processors, cells) {
+            Ok(()) => {}
+            Err(fault) => return Err(fault),
+        }
+        number += 1;
+        rest = after;
+    }
+    Ok(())
+}
+
 // Reads the events of lines, of which the first has this number.
 pub(crate) fn read_events(
     alloc: Global,
@@ -51,13 +80,11 @@ pub(crate) fn read_events(
     ensures fault { IfErr result (IsEventFault processors cells (numbered_from first (lines text.now))) }
 {
     let mut events = Seq::new(alloc);
-    let mut rest = text;
-    let mut number = first;
-    'lines: while !rest.is_empty() {
-        let (line, after) = first_line(rest);
-        take_line(&mut events, number, line, processors, cells)?;
-        number += 1;
-        rest = after;
+    match take_lines(&mut events, text, first, processors, cells) {
+        Ok(()) => Ok(events),
+        Err(fault) => {
+            drop(events);
+            Err(fault)
+        }
     }
-    Ok(events)
 }

@@ -1,7 +1,7 @@
 // Printing outcomes and refusals.
-ghost use Rattle.std.specs.Prelude.{◌≡◌, map, decimal};
+ghost use Rattle.std.specs.Prelude.{◌≡◌, ◌∷◌, [], map, decimal};
 ghost use Rattle.std.specs.List.{flat_map};
-ghost use Rattle.boot_io.specs.Line.{spaced};
+ghost use Rattle.boot_io.specs.Line.{line_of, spaced};
 ghost use Rattle.boot_io.specs.Sink.{Puts, SinkFaultsAfter};
 ghost use Rattle.mp_core.specs.OutcomeText.{is_turn, reply_line, replies_text, cell_line, cells_text, record_line, records_text, outcome_text, bad_line};
 
@@ -13,6 +13,17 @@ use crate::status::{cell_keyword, no_numbers, record_keyword, refused_command, s
 use boot_io::{Sink, SinkFault, put_line};
 use pi_base::{DECIMAL_LEN, HEXADECIMAL_LEN, Seq, decimal, hexadecimal};
 
+// Puts the line of a keyword and a number.
+fn put_numbered<S: Sink>(sink: &mut S, keyword: &[u8], number: u64) -> Result<(), SinkFault>
+    ensures text { Puts result (S.text sink.old) (S.text sink.new) (line_of keyword.now (decimal number ∷ [])) }
+    ensures cause { SinkFaultsAfter result (S.faults sink.old) (S.faults sink.new) }
+{
+    let mut digits = [0u8; DECIMAL_LEN];
+    let len = decimal(number, &mut digits);
+    let (number, _) = digits.split_at(len);
+    put_line(sink, keyword, &[number])
+}
+
 // Puts the line of a call and its reply.
 fn put_reply<S: Sink>(sink: &mut S, event: &MpEvent, reply: MpReply) -> Result<(), SinkFault>
     ensures text { Puts result (S.text sink.old) (S.text sink.new) (reply_line (event.now, reply)) }
@@ -21,12 +32,7 @@ fn put_reply<S: Sink>(sink: &mut S, event: &MpEvent, reply: MpReply) -> Result<(
     let keyword = keyword_text(keyword_of(event));
     match reply {
         MpReply::Word(status) => put_line(sink, keyword, &[status_text(status)]),
-        MpReply::Number(number) => {
-            let mut digits = [0u8; DECIMAL_LEN];
-            let len = decimal(u64::from(number), &mut digits);
-            let (number, _) = digits.split_at(len);
-            put_line(sink, keyword, &[number])
-        }
+        MpReply::Number(number) => put_numbered(sink, keyword, u64::from(number)),
     }
 }
 
@@ -157,8 +163,5 @@ pub fn put_bad_line<S: Sink>(sink: &mut S, line: u32) -> Result<(), SinkFault>
     ensures text { Puts result (S.text sink.old) (S.text sink.new) (bad_line line) }
     ensures cause { SinkFaultsAfter result (S.faults sink.old) (S.faults sink.new) }
 {
-    let mut digits = [0u8; DECIMAL_LEN];
-    let len = decimal(u64::from(line), &mut digits);
-    let (number, _) = digits.split_at(len);
-    put_line(sink, refused_command(), &[number])
+    put_numbered(sink, refused_command(), u64::from(line))
 }

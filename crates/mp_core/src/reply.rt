@@ -3,7 +3,7 @@
 use pi_base::Seq;
 
 /// The statuses that the MP services answer (`EFI_SUCCESS`, `EFI_DEVICE_ERROR` and so on).
-#[derive(Clone, Copy, PartialEq, Eq)]
+#[derive(Clone, Copy)]
 pub enum MpWord {
     /// The call did what was asked.
     Success,
@@ -22,7 +22,7 @@ pub enum MpWord {
 }
 
 /// What a call answers.
-#[derive(Clone, Copy, PartialEq, Eq)]
+#[derive(Clone, Copy)]
 pub enum MpReply {
     /// A status.
     Word(MpWord),

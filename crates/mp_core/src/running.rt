@@ -36,10 +36,11 @@ pub fn run(
     let mut machine = Machine::new(alloc, processors, cells)?;
     let mut replies = Seq::new(alloc);
     for event in events {
-        match machine.event(event)? {
-            Some(reply) => replies.push(reply)?,
-            None => {}
-        }
+        let Ok(()) = machine.answer(event, &mut replies) else {
+            drop(replies);
+            drop(machine);
+            return Err(OutOfMemory);
+        };
     }
     machine.outcome(alloc, replies)
 }

@@ -1,5 +1,5 @@
 // What the events do.
-ghost use Rattle.std.specs.Prelude.{IfOk, OnOk, ⊤};
+ghost use Rattle.std.specs.Prelude.{◌++◌, IfOk, OnOk, option_to_list, ⊤};
 ghost use Rattle.mp_core.specs.declared.event.MpEvent.TheVariants as event;
 ghost use Rattle.mp_core.specs.Calls.{IsEvent, IsJob};
 ghost use Rattle.mp_core.specs.Past.{after, enable_disable_ap, reply, startup_all_aps, startup_this_ap, switch_bsp};
@@ -8,7 +8,7 @@ use crate::event::MpEvent;
 use crate::machine::Machine;
 use crate::op::Op;
 use crate::reply::{MpReply, MpWord};
-use pi_base::OutOfMemory;
+use pi_base::{OutOfMemory, Seq};
 
 impl<'a> Machine<'a> {
     ghost use Rattle.mp_core.specs.Machine.{Becomes, Stands, StartsAll, Tells};
@@ -103,8 +103,8 @@ impl<'a> Machine<'a> {
         }
     }
 
-    /// What an event does, and what it answers.
-    pub(crate) fn event(&mut self, event: &'a MpEvent) -> Result<Option<MpReply>, OutOfMemory>
+    // What an event does, and what it answers.
+    fn event(&mut self, event: &'a MpEvent) -> Result<Option<MpReply>, OutOfMemory>
         requires { Stands self.old (λ processors cells. IsEvent processors cells event.now) }
         ensures reply { IfOk result (Tells self.old (λ processors past. reply processors past event.now)) }
         ensures after { OnOk result (Becomes self.old (λ processors cells. IsEvent processors cells event.now)
@@ -122,5 +122,23 @@ impl<'a> Machine<'a> {
             }
         };
         Ok(Some(MpReply::Word(word)))
+    }
+
+    /// What an event does; what it answers is put behind the replies that there are.
+    pub(crate) fn answer(
+        &mut self,
+        event: &'a MpEvent,
+        replies: &mut Seq<MpReply>,
+    ) -> Result<(), OutOfMemory>
+        requires { Stands self.old (λ processors cells. IsEvent processors cells event.now) }
+        ensures replies { OnOk result (Tells self.old (λ processors past.
+            replies.old ++ option_to_list (reply processors past event.now)) replies.new) }
+        ensures after { OnOk result (Becomes self.old (λ processors cells. IsEvent processors cells event.now)
+            (λ processors past. after processors past event.now) self.new) }
+    {
+        match self.event(event)? {
+            Some(reply) => replies.push(reply),
+            None => Ok(()),
+        }
     }
 }

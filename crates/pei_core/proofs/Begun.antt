@@ -4,10 +4,10 @@ use Rattle.std.specs.Prelude.{is_some, min, option_map, unwrap_or, IsTrue}
 use Rattle.std.proofs.lemmas.List.{length-set}
 use Rattle.pi_base.specs.declared.phase.Phase.TheVariants.{Pei}
 use Rattle.act_code.specs.declared.action.Action.{Action}
-use Rattle.catalog_model.specs.declared.catalog.Catalog.{Catalog}
-use Rattle.catalog_model.specs.declared.catalog.Part.{Part}
-use Rattle.catalog_model.specs.Parts.{has_number, part_at}
-use Rattle.catalog_model.specs.WellFormed.{part_of}
+use Rattle.mod_catalog.specs.declared.catalogue.Catalog.{Catalog}
+use Rattle.mod_catalog.specs.declared.catalogue.Part.{Part}
+use Rattle.mod_catalog.specs.Parts.{has_number, part_at}
+use Rattle.mod_catalog.specs.WellFormed.{part_of}
 use Rattle.boot_model.proofs.ListFacts.{within}
 use Rattle.boot_model.specs.declared.licence.Licence.{Licence}
 use Rattle.boot_model.specs.declared.line.Line.{Line}

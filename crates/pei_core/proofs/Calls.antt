@@ -1,6 +1,6 @@
 -- The core after a call was answered.
 use Rattle.std.proofs.Common.{◌≡◌, ℕ, List, [], ◌∷◌, ◌++◌, length, drop, ◌+◌, ◌-◌, arith, refl, sym, ap, ◌∙◌}
-use Rattle.catalog_model.specs.declared.catalog.Catalog.{Catalog}
+use Rattle.mod_catalog.specs.declared.catalogue.Catalog.{Catalog}
 use Rattle.store_model.specs.StoreState.{StoreState}
 use Rattle.store_model.specs.Service.Descriptor.{offsets}
 use Rattle.boot_model.specs.declared.line.Line.{Line}

@@ -1,6 +1,6 @@
 -- The core after a callback or a dispatch notification has begun.
 use Rattle.std.proofs.Common.{◌≡◌, Bool, true, false, cond, ◌∷◌, Some, refl, ap, ◌∙◌, nat_le, not, length}
-use Rattle.catalog_model.specs.declared.catalog.Catalog.{Catalog}
+use Rattle.mod_catalog.specs.declared.catalogue.Catalog.{Catalog}
 use Rattle.store_model.specs.declared.store_handle.Firing.{Firing}
 use Rattle.store_model.specs.declared.store_handle.Sweep.{Sweep}
 use Rattle.store_model.specs.StoreState.{StoreState}

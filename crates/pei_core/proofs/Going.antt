@@ -9,7 +9,7 @@ use Rattle.boot_io.specs.declared.sink.SinkFault.{SinkFault}
 use Rattle.boot_io.specs.Sink.{AppendsPart}
 use Rattle.boot_io.specs.Sink as Sinks
 use Rattle.boot_io.proofs.PutsLaws.{appends_then, appends_none, part_of_more, part_then}
-use Rattle.catalog_model.specs.declared.catalog.Catalog.{Catalog}
+use Rattle.mod_catalog.specs.declared.catalogue.Catalog.{Catalog}
 use Rattle.boot_model.specs.declared.line.Line.{Line}
 use Rattle.boot_model.specs.PeiMachine.{PeiMachine}
 use Rattle.boot_model.specs.Text.{line_text, text_of}

@@ -1,6 +1,6 @@
 -- Which parts an event lets start again, by what it leaves of the machine's lists.
 use Rattle.std.proofs.Common.{◌≡◌, ℕ, Bool, true, false, ◌||◌, ◌&&◌, ◌==◌, not, ◌∷◌, [], ◌++◌, refl, sym, ap, ◌∙◌}
-use Rattle.catalog_model.specs.Parts.{has_number}
+use Rattle.mod_catalog.specs.Parts.{has_number}
 use Rattle.boot_model.specs.Eligible.{may_start_again}
 use Rattle.boot_model.specs.PeiMachine.{PeiMachine}
 use Rattle.boot_model.specs.declared.peim_state.PeimState.TheVariants.{Dispatched}

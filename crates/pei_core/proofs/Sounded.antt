@@ -8,8 +8,8 @@ use Rattle.boot_io.specs.declared.halt.Halt.TheVariants as H
 use Rattle.act_code.specs.declared.action.Action.{Action}
 use Rattle.act_code.specs.declared.action.Action.TheVariants.{Ret}
 use Rattle.act_code.specs.Index.{is_indexed}
-use Rattle.catalog_model.specs.declared.catalog.Catalog.{Catalog}
-use Rattle.catalog_model.specs.WellFormed.{IsWellFormed}
+use Rattle.mod_catalog.specs.declared.catalogue.Catalog.{Catalog}
+use Rattle.mod_catalog.specs.WellFormed.{IsWellFormed}
 use Rattle.store_model.specs.StoreState.{StoreState}
 use Rattle.boot_model.specs.MachineFacts.{IsSound}
 use Rattle.boot_model.specs.PeiMachine.{Frame, PeiMachine}

@@ -1,7 +1,7 @@
 -- The parts that await their second start, and those of them that an event of the machine lets start again.
 -- PI 1.8, volume 1, `RegisterForShadow()`; how an event is told is own.
 use Rattle.std.specs.Prelude.{◌≡◌, ℕ, Bool, true, false, ◌&&◌, ◌||◌, ◌==◌, not}
-use Rattle.catalog_model.specs.Parts.{has_number}
+use Rattle.mod_catalog.specs.Parts.{has_number}
 use Rattle.boot_model.specs.Eligible.{may_start_again}
 use Rattle.boot_model.specs.PeiMachine.{PeiMachine}
 use Rattle.boot_model.specs.declared.peim_state.PeimState.{PeimState}

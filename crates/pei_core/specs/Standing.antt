@@ -1,7 +1,7 @@
 -- The machine that the core stands for, with any lines: what the core keeps is what the machine has.
 -- Own.
 use Rattle.std.specs.Prelude.{◌≡◌, ℕ, length, Option, None, ◌+◌, ◌-◌, ◌^◌, min}
-use Rattle.catalog_model.specs.declared.catalog.Catalog.{Catalog}
+use Rattle.mod_catalog.specs.declared.catalogue.Catalog.{Catalog}
 use Rattle.store_model.specs.StoreState.{Board, StoreState, empty_store}
 use Rattle.boot_model.specs.MachineFacts.{IsSound}
 use Rattle.boot_model.specs.PeiMachine.{PeiMachine}

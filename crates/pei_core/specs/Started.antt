@@ -3,7 +3,7 @@
 -- Own; PI 1.8, volume 1, `RegisterForShadow()`.
 use Rattle.std.specs.Prelude.{◌≡◌, ℕ, ◌/◌, true, List, ⊤}
 use Rattle.pi_base.specs.Lists.{Each}
-use Rattle.catalog_model.specs.Parts.{has_number}
+use Rattle.mod_catalog.specs.Parts.{has_number}
 use Rattle.store_model.specs.declared.state.Body.{Body}
 use Rattle.store_model.specs.declared.state.Body.TheVariants.{Bytes, Descriptor, Node, Allocation}
 use Rattle.store_model.specs.declared.state.HobEntry.{HobEntry}

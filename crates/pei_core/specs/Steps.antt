@@ -7,9 +7,9 @@ use Rattle.boot_io.specs.declared.halt.Halt.{Halt}
 use Rattle.boot_io.specs.declared.halt.Halt.TheVariants as H
 use Rattle.boot_io.specs.declared.sink.SinkFault.{SinkFault}
 use Rattle.pi_base.specs.declared.phase.Phase.TheVariants as Phase
-use Rattle.catalog_model.specs.declared.catalog.Catalog.{Catalog}
-use Rattle.catalog_model.specs.declared.catalog.Part.{Part}
-use Rattle.catalog_model.specs.Parts.{part_at}
+use Rattle.mod_catalog.specs.declared.catalogue.Catalog.{Catalog}
+use Rattle.mod_catalog.specs.declared.catalogue.Part.{Part}
+use Rattle.mod_catalog.specs.Parts.{part_at}
 use Rattle.store_model.specs.StoreState.{StoreState}
 use Rattle.store_model.specs.Migration.{migration}
 use Rattle.store_model.specs.Service.Queue.{queue_pop}

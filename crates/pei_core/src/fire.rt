@@ -16,7 +16,7 @@ use crate::pei::Pei;
 use crate::reports::print;
 use boot_io::{Halt, Sink};
 use boot_model::{BLOCKS, PeiEnd, PeiFrame, Register};
-use catalog_model::Catalog;
+use mod_catalog::Catalog;
 use phase_parts::{begin_notification, notified};
 use store_model::{Firing, PeiStore, Sweep};
 

@@ -1,6 +1,6 @@
 // The move to permanent memory.
 ghost use Rattle.boot_io.specs.Halted.{HaltsAfter};
-ghost use Rattle.catalog_model.specs.declared.catalog.Catalog.{Catalog as OfCatalog};
+ghost use Rattle.mod_catalog.specs.declared.catalogue.Catalog.{Catalog as OfCatalog};
 ghost use Rattle.store_model.specs.Service.{Present};
 ghost use Rattle.store_model.specs.StoreCall.{Anything, IsDue};
 ghost use Rattle.pei_core.specs.Parts.{InstallsMemory, MovesMemory, StepsIn};

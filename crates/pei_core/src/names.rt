@@ -4,7 +4,7 @@ ghost use Rattle.boot_model.specs.PeiMachine.{PeiMachine};
 ghost use Rattle.boot_model.specs.PeiStep.{callback_line, dispatch_line, start_line};
 
 use boot_model::{BLOCKS, Licence, Line};
-use catalog_model::Catalog;
+use mod_catalog::Catalog;
 use phase_parts::{name_of, volume_of};
 use store_model::Firing;
 

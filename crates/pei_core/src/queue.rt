@@ -13,7 +13,7 @@ use crate::names::dispatch_line;
 use crate::pei::Pei;
 use crate::reports::print;
 use boot_io::{Halt, Sink};
-use catalog_model::Catalog;
+use mod_catalog::Catalog;
 use store_model::{Firing, PeiStore};
 
 impl Core {

@@ -1,6 +1,6 @@
 //! Lines that are put, the volumes that PPIs report, and their lines.
 ghost use Rattle.std.specs.Prelude.{◌≡◌, ◌≤◌, ◌+◌, length};
-ghost use Rattle.catalog_model.specs.WellFormed.{IsWellFormed};
+ghost use Rattle.mod_catalog.specs.WellFormed.{IsWellFormed};
 ghost use Rattle.store_model.specs.Service.{Present, OfEach};
 ghost use Rattle.phase_parts.specs.Known.{AreKnown};
 ghost use Rattle.phase_parts.specs.Reported.{AreDescs, IsWithReports};
@@ -12,7 +12,7 @@ ghost use Rattle.boot_io.specs.Sink.{Puts, SinkFaultsAfter};
 use boot_io::{Sink, SinkFault};
 use boot_model::Line;
 use boot_trace::put;
-use catalog_model::Catalog;
+use mod_catalog::Catalog;
 use phase_parts::VolumeList;
 use store_model::{Desc, PeiStore};
 

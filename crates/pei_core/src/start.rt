@@ -6,7 +6,7 @@ ghost use Rattle.phase_parts.specs.Found.{blocks_of, has_block};
 ghost use Rattle.pei_core.specs.Cores.{with_started};
 
 use crate::core_state::Core;
-use catalog_model::Catalog;
+use mod_catalog::Catalog;
 use phase_parts::begin_script;
 use pi_base::Phase;
 

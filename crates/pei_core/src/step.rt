@@ -2,14 +2,14 @@
 ghost use Rattle.std.specs.Prelude.{◌≡◌, ℕ, [], None};
 ghost use Rattle.boot_io.specs.Halted.{HaltsAfter};
 ghost use Rattle.boot_model.specs.PeiMachine.{PeiMachine};
-ghost use Rattle.catalog_model.specs.WellFormed.{IsWellFormed};
+ghost use Rattle.mod_catalog.specs.WellFormed.{IsWellFormed};
 ghost use Rattle.pei_core.specs.Parts.{Anywhere, FiresNext, RunsNone, StepsIn};
 ghost use Rattle.pei_core.specs.Standing.{IsFor, KeepsFor, StandsFor, last_start};
 
 use crate::event::Stepped;
 use crate::pei::Pei;
 use boot_io::{Halt, Sink};
-use catalog_model::Catalog;
+use mod_catalog::Catalog;
 use store_model::PeiStore;
 
 impl<M: PeiStore + Drop> Pei<M> {

@@ -10,8 +10,8 @@ use Rattle.pi_base.specs.declared.phase.Phase.{Phase}
 use Rattle.pi_base.specs.Guids.{same_guid}
 use Rattle.pi_base.specs.Lists.{Each}
 use Rattle.pi_base.specs.GuidMap.{value_of}
-use Rattle.catalog_model.specs.declared.catalog.Catalog.{Catalog}
-use Rattle.catalog_model.specs.Parts.{has_number}
+use Rattle.mod_catalog.specs.declared.catalogue.Catalog.{Catalog}
+use Rattle.mod_catalog.specs.Parts.{has_number}
 use Rattle.boot_model.specs.EvaluationBound.{each_once, part_pushes, pei_asked}
 use Rattle.boot_model.specs.PeiMachine.{PeiMachine}
 use Rattle.boot_laws.specs.ChangedGuids.{is_among}

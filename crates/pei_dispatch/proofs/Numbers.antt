@@ -4,7 +4,7 @@ use Rattle.std.specs.Prelude.{◌==◌}
 use Rattle.std.proofs.lemmas.Bool.Decides.{nat_tests}
 use Rattle.std.proofs.lemmas.List.Folds.{list_any-append}
 use Rattle.boot_model.specs.Licence.{AllDiffer}
-use Rattle.catalog_model.specs.Parts.{has_number}
+use Rattle.mod_catalog.specs.Parts.{has_number}
 
 pub or_right : (a b : Bool) → a ≡ false → (a || b) ≡ true → b ≡ true
 or_right true b e h = absurd (cc)

@@ -3,7 +3,7 @@ use Rattle.std.proofs.Common.{◌≡◌, ℕ, zero, suc, ◌+◌, ◌<◌, lengt
 use Rattle.std.specs.Prelude.{◌==◌, slice_get}
 use Rattle.std.proofs.lemmas.Bool.Decides.{eqb_tells}
 use Rattle.boot_model.specs.PeiChoice.{cursor_behind}
-use Rattle.catalog_model.specs.Parts.{has_number}
+use Rattle.mod_catalog.specs.Parts.{has_number}
 
 pub found_place : (xs : List ℕ) (n : ℕ) → has_number xs n ≡ true → (place : ℕ) × (slice_get xs place ≡ Some n)
 found_place [] n h = absurd (cc)

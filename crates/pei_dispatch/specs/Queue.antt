@@ -4,8 +4,8 @@ use Rattle.std.specs.Prelude.{◌≡◌, ℕ, ◌+◌, ◌≤◌, Bool, true, no
 use Rattle.pi_base.specs.declared.guid.Guid.{Guid}
 use Rattle.pi_base.specs.declared.phase.Phase.TheVariants.{Pei}
 use Rattle.pi_base.specs.GuidMap.{value_of}
-use Rattle.catalog_model.specs.declared.catalog.Catalog.{Catalog}
-use Rattle.catalog_model.specs.Parts.{has_number}
+use Rattle.mod_catalog.specs.declared.catalogue.Catalog.{Catalog}
+use Rattle.mod_catalog.specs.Parts.{has_number}
 use Rattle.boot_model.specs.EvaluationBound.{each_once, pei_asked}
 use Rattle.boot_model.specs.Licence.{AllDiffer}
 use Rattle.boot_model.specs.PeiChoice.{pei_order}

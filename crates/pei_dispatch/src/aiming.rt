@@ -1,6 +1,6 @@
 //! Where the search for the next PEIM begins.
 ghost use Rattle.std.specs.Prelude.{◌≡◌, ◌≤◌, length};
-ghost use Rattle.catalog_model.specs.declared.catalog.Catalog.{Catalog as OfCatalog};
+ghost use Rattle.mod_catalog.specs.declared.catalogue.Catalog.{Catalog as OfCatalog};
 ghost use Rattle.pei_dispatch.specs.Queue.{Shows, owed_by, parts_in};
 ghost use Rattle.pei_dispatch.specs.View.{View};
 ghost use Rattle.pei_dispatch.specs.Choices.{IsPlaceFor};

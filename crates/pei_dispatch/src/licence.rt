@@ -5,7 +5,7 @@ ghost use Rattle.boot_model.specs.PeimState.{has_started};
 ghost use Rattle.boot_model.specs.declared.licence.Licence.TheVariants.{Shadow};
 
 use boot_model::{Licence, PeimState};
-use catalog_model::{Part, PartExpr};
+use mod_catalog::{Part, PartExpr};
 
 /// The licence by which a part starts that may start, by how far its module has come: the second start has its registration, and the first one the place in an a priori file, or else the expression.
 pub fn licence_of(state: PeimState, part: &Part) -> Licence

@@ -1,8 +1,8 @@
 //! The parts of PEI that wait, and the next PEIM.
 ghost use Rattle.std.specs.Prelude.{◌≡◌, ◌≤◌, ◌+◌, ◌∷◌, [], true, false, Some, IfOk, length, slice_get};
-ghost use Rattle.catalog_model.specs.declared.catalog.Catalog.{Catalog as OfCatalog};
-ghost use Rattle.catalog_model.specs.Parts.{has_number};
-ghost use Rattle.catalog_model.specs.WellFormed.{IsWellFormed};
+ghost use Rattle.mod_catalog.specs.declared.catalogue.Catalog.{Catalog as OfCatalog};
+ghost use Rattle.mod_catalog.specs.Parts.{has_number};
+ghost use Rattle.mod_catalog.specs.WellFormed.{IsWellFormed};
 ghost use Rattle.boot_model.specs.PeiChoice.{cursor_behind, next_peim, pei_order, volume_order};
 ghost use Rattle.boot_model.specs.PeiMachine.{PeiMachine};
 ghost use Rattle.pei_dispatch.specs.Queue.{AreNew, HasStarted, HasStartedBy, HaveStarted, IsInOrder, IsNewQueue, IsQueueOf, Shows, ShowsBehind, owed_by, parts_in};
@@ -10,8 +10,8 @@ ghost use Rattle.pei_dispatch.specs.View.{View, awaits_again, awaits_at, is_numb
 
 use boot_laws::order_is_of_modules;
 use boot_model::{PeimState, state_of};
-use catalog_model::Catalog;
 use depex_code::Steps;
+use mod_catalog::Catalog;
 use phase_parts::Parts;
 use pi_base::{OutOfMemory, Phase};
 use std::alloc::Global;

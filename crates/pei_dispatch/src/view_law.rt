@@ -1,5 +1,5 @@
 // Laws that the dispatcher stands on.
-ghost use Rattle.catalog_model.specs.declared.catalog.Catalog.{Catalog};
+ghost use Rattle.mod_catalog.specs.declared.catalogue.Catalog.{Catalog};
 ghost use Rattle.pei_dispatch.specs.declared.queue.PeiQueue.{PeiQueue as Queue};
 ghost use Rattle.pei_dispatch.specs.Queue.{Shows};
 ghost use Rattle.pei_dispatch.specs.View.{AreAlike, View};

@@ -1,7 +1,7 @@
 // The heap's bytes in memory.
 ghost use Rattle.std.specs.Prelude.{◌≡◌, ◌≤◌, ◌+◌, ℕ, List, length};
 ghost use Rattle.phys_mem.specs.Region.{replaced};
-ghost use Rattle.heap_laws.specs.Mapped.{Layout};
+ghost use Rattle.store_laws.specs.Mapped.{Layout};
 
 use phys_mem::{PhysMem, Stretch};
 use pi_base::Span;

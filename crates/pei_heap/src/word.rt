@@ -1,7 +1,7 @@
 // Numbers in the heap's bytes.
 ghost use Rattle.std.specs.Prelude.{◌≡◌, ◌≤◌, ◌+◌, length};
 ghost use Rattle.pi_base.specs.Guids.{guid_at};
-ghost use Rattle.heap_laws.specs.Word as W;
+ghost use Rattle.store_laws.specs.Word as W;
 
 use phys_mem::Stretch;
 use pi_base::{GUID_LEN, Guid, u16_at, u32_at, u64_at};

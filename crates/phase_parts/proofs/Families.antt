@@ -1,12 +1,12 @@
 -- A volume and those nested in it: each once, and each of the catalogue.
 use Rattle.std.proofs.Common.{◌≡◌, ℕ, ◌+◌, ◌<◌, ◌⊎◌, inl, inr, Bool, true, false, cond, List, [], ◌∷◌, ◌++◌, length, Option, Some, None, refl, arith, subst}
 use Rattle.std.specs.Prelude.{◌≢◌, IfSome}
-use Rattle.catalog_model.specs.declared.catalog.Catalog.{Catalog}
-use Rattle.catalog_model.specs.declared.catalog.VolumeEntry.{VolumeEntry}
+use Rattle.mod_catalog.specs.declared.catalogue.Catalog.{Catalog}
+use Rattle.mod_catalog.specs.declared.catalogue.VolumeEntry.{VolumeEntry}
 use Rattle.pi_base.specs.Lists.{Each}
-use Rattle.catalog_model.specs.WellFormed.{AreNumbered, IsWellFormed}
+use Rattle.mod_catalog.specs.WellFormed.{AreNumbered, IsWellFormed}
 use Rattle.boot_model.specs.Licence.{AllDiffer}
-use Rattle.catalog_model.specs.Parts.{is_nested_in, family_from, family}
+use Rattle.mod_catalog.specs.Parts.{is_nested_in, family_from, family}
 use Rattle.phase_parts.specs.Known.{AreInCatalog}
 use Rattle.boot_model.proofs.ListFacts.{each_more, each_push, each_at}
 use Rattle.boot_model.proofs.Distinct.{differ_pushed}

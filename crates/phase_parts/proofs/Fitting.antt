@@ -3,8 +3,8 @@ use Rattle.std.proofs.Common.{◌≡◌, ◌<◌, ◌∙◌, List, [], ◌∷◌
 use Rattle.std.specs.Prelude.{IfSome, OnSome, option_copied}
 use Rattle.pi_base.specs.declared.phase.Phase.{Phase}
 use Rattle.act_code.specs.declared.action.Action.{Action}
-use Rattle.catalog_model.specs.declared.catalog.Catalog.{Catalog}
-use Rattle.catalog_model.specs.WellFormed.{IsWellFormed}
+use Rattle.mod_catalog.specs.declared.catalogue.Catalog.{Catalog}
+use Rattle.mod_catalog.specs.WellFormed.{IsWellFormed}
 use Rattle.phase_parts.specs.Found.{found_action}
 use Rattle.phase_parts.specs.Frames.{top_of}
 use Rattle.phase_parts.specs.Needs.{IsScriptAction, IsWithin}

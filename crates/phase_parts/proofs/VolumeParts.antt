@@ -4,10 +4,10 @@ use Rattle.std.specs.Prelude.{flat_map, filter, Option, Some, None, is_some, if�
 use Rattle.std.specs.Option.{option_and_then}
 use Rattle.pi_base.specs.declared.phase.Phase.{Phase}
 use Rattle.pi_base.specs.Lists.{numbers}
-use Rattle.catalog_model.specs.declared.catalog.Catalog.{Catalog}
-use Rattle.catalog_model.specs.declared.catalog.Module.{Module}
-use Rattle.catalog_model.specs.declared.catalog.Part.{Part}
-use Rattle.catalog_model.specs.Parts.{part_of, parts_from, parts_in, rank_at}
+use Rattle.mod_catalog.specs.declared.catalogue.Catalog.{Catalog}
+use Rattle.mod_catalog.specs.declared.catalogue.Module.{Module}
+use Rattle.mod_catalog.specs.declared.catalogue.Part.{Part}
+use Rattle.mod_catalog.specs.Parts.{part_of, parts_from, parts_in, rank_at}
 use Rattle.phase_parts.specs.Parts.{is_ranked_as, is_part_as, wanted_from, wanted_in, ranked_below, ranked_parts, unranked_parts}
 
 flat_map_same : (f g : ℕ → List ℕ) (xs : List ℕ) → ((x : ℕ) → f x ≡ g x) → flat_map f xs ≡ flat_map g xs

@@ -2,10 +2,10 @@
 use Rattle.std.proofs.Common.{◌≡◌, ℕ, ◌+◌, ◌<◌, ◌≤◌, Bool, true, false, not, List, [], ◌∷◌, ◌++◌, length, get_or, drop, refl, sym, ap, ◌∙◌, subst, arith}
 use Rattle.std.specs.Prelude.{if◌then◌else◌}
 use Rattle.std.proofs.lemmas.List.{length_push, at_drop_more}
-use Rattle.catalog_model.specs.declared.limits.TheConstants.{MOST_VOLUMES}
-use Rattle.catalog_model.specs.declared.catalog.Catalog.{Catalog}
-use Rattle.catalog_model.specs.Parts.{has_number}
-use Rattle.catalog_model.specs.WellFormed.{IsWellFormed}
+use Rattle.mod_catalog.specs.declared.limits.TheConstants.{MOST_VOLUMES}
+use Rattle.mod_catalog.specs.declared.catalogue.Catalog.{Catalog}
+use Rattle.mod_catalog.specs.Parts.{has_number}
+use Rattle.mod_catalog.specs.WellFormed.{IsWellFormed}
 use Rattle.phase_parts.specs.Known.{AreKnown, with_new}
 use Rattle.boot_model.proofs.ListFacts.{each_push}
 use Rattle.boot_model.proofs.Distinct.{differ_pushed, few_below}

@@ -6,8 +6,8 @@ use Rattle.pi_base.specs.declared.phase.Phase.{Phase}
 use Rattle.pi_base.specs.declared.word.Word.TheVariants.{Success}
 use Rattle.act_code.specs.declared.action.Action.{Action}
 use Rattle.act_code.specs.declared.action.Action.TheVariants.{Ret}
-use Rattle.catalog_model.specs.declared.catalog.Catalog.{Catalog}
-use Rattle.catalog_model.specs.Parts.{part_at}
+use Rattle.mod_catalog.specs.declared.catalogue.Catalog.{Catalog}
+use Rattle.mod_catalog.specs.Parts.{part_at}
 use Rattle.boot_model.specs.declared.frame.Frame.{Frame}
 
 -- its block, and the action there, where there is one

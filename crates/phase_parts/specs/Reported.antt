@@ -1,7 +1,7 @@
 -- What the PPIs of a store report (PI 1.8, volume 1, `EFI_PEI_FIRMWARE_VOLUME_INFO_PPI`), by their descriptors.
 use Rattle.std.specs.Prelude.{◌≡◌, ℕ, List, ◌++◌, Option}
 use Rattle.std.specs.Option.{option_and_then}
-use Rattle.catalog_model.specs.declared.catalog.Catalog.{Catalog}
+use Rattle.mod_catalog.specs.declared.catalogue.Catalog.{Catalog}
 use Rattle.pi_base.specs.Lists.{Each}
 use Rattle.store_model.specs.declared.store_handle.Desc.{Desc}
 use Rattle.store_model.specs.StoreState.{StoreState}

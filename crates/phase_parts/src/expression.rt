@@ -1,6 +1,6 @@
 //! Whether an expression holds.
 ghost use Rattle.std.specs.Prelude.{◌≡◌, ◌≤◌, ◌+◌};
-ghost use Rattle.catalog_model.specs.WellFormed.{IsShort};
+ghost use Rattle.mod_catalog.specs.WellFormed.{IsShort};
 ghost use Rattle.boot_model.specs.Eligible.{depex_holds};
 
 use depex_code::{Depex, GuidSet, Steps};

@@ -1,10 +1,10 @@
 //! A volume with those nested in it.
 ghost use Rattle.std.specs.Prelude.{◌≡◌};
-ghost use Rattle.catalog_model.specs.Parts.{family};
-ghost use Rattle.catalog_model.specs.WellFormed.{IsWellFormed};
+ghost use Rattle.mod_catalog.specs.Parts.{family};
+ghost use Rattle.mod_catalog.specs.WellFormed.{IsWellFormed};
 
 use crate::volume_list::VolumeList;
-use catalog_model::Catalog;
+use mod_catalog::Catalog;
 
 /// A volume, and each volume nested in it at any depth, by number. Parents stand before what is nested in them, so one pass finds all.
 pub(crate) fn family_of(catalog: &Catalog, volume: u32) -> VolumeList

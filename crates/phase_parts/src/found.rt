@@ -1,11 +1,11 @@
 // The action at which a frame stands.
 ghost use Rattle.std.specs.Prelude.{◌≡◌, option_copied};
-ghost use Rattle.catalog_model.specs.Parts.{part_at};
+ghost use Rattle.mod_catalog.specs.Parts.{part_at};
 ghost use Rattle.phase_parts.specs.Found.{found_action, found_block};
 
 use act_code::Action;
 use boot_model::Frame;
-use catalog_model::{Catalog, Part};
+use mod_catalog::{Catalog, Part};
 use pi_base::{Phase, Seq};
 
 /// The part that a module has for a phase. None where it has none, or there is no such module.

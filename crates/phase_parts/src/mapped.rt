@@ -1,9 +1,9 @@
 //! Which volume is mapped at an address.
 ghost use Rattle.std.specs.Prelude.{◌≡◌, ◌≤◌, ◌<◌, length, IfSome};
-ghost use Rattle.catalog_model.specs.declared.limits.TheConstants.{MOST_VOLUMES};
-ghost use Rattle.catalog_model.specs.Parts.{volume_at};
+ghost use Rattle.mod_catalog.specs.declared.limits.TheConstants.{MOST_VOLUMES};
+ghost use Rattle.mod_catalog.specs.Parts.{volume_at};
 
-use catalog_model::Catalog;
+use mod_catalog::Catalog;
 
 /// The number of the volume that is mapped at a physical address. None where no volume is.
 pub fn volume_at(catalog: &Catalog, base: u64) -> Option<u32>

@@ -1,8 +1,8 @@
 //! What lines say of modules.
 ghost use Rattle.std.specs.Prelude.{◌≡◌};
-ghost use Rattle.catalog_model.specs.Parts.{module_name, module_volume};
+ghost use Rattle.mod_catalog.specs.Parts.{module_name, module_volume};
 
-use catalog_model::Catalog;
+use mod_catalog::Catalog;
 use pi_base::Guid;
 
 /// The number of a module's volume; 0 where there is no such module.

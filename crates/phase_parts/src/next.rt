@@ -1,6 +1,6 @@
 //! The next action of the top frame.
 ghost use Rattle.std.specs.Prelude.{◌≡◌, ◌<◌, List, ◌∷◌, IfSome, OnSome, length, option_copied};
-ghost use Rattle.catalog_model.specs.WellFormed.{IsWellFormed};
+ghost use Rattle.mod_catalog.specs.WellFormed.{IsWellFormed};
 ghost use Rattle.phase_parts.specs.Acted.{HasActed};
 ghost use Rattle.phase_parts.specs.Found.{found_action};
 ghost use Rattle.phase_parts.specs.Needs.{IsScriptAction, IsWithin};
@@ -12,7 +12,7 @@ use crate::fuel::Fuel;
 use crate::stack::Frames;
 use act_code::Action;
 use boot_model::Line;
-use catalog_model::Catalog;
+use mod_catalog::Catalog;
 use pi_base::{Phase, Word};
 
 /// What came of the top frame's next action.

@@ -1,13 +1,13 @@
 //! The parts of volumes, in order.
 ghost use Rattle.std.specs.Prelude.{◌≡◌, ◌≤◌, ◌<◌, ◌++◌, ◌∷◌, [], IsTrue, if◌then◌else◌, length};
-ghost use Rattle.catalog_model.specs.declared.limits.TheConstants.{MOST_MODULES};
-ghost use Rattle.catalog_model.specs.Parts.{parts_in, rank_at};
+ghost use Rattle.mod_catalog.specs.declared.limits.TheConstants.{MOST_MODULES};
+ghost use Rattle.mod_catalog.specs.Parts.{parts_in, rank_at};
 ghost use Rattle.boot_model.specs.PeiChoice.{ranked};
 ghost use Rattle.phase_parts.specs.Parts.{wanted_in, ranked_below, unranked_parts};
 
 use crate::wanted::{count_parts, is_part_in, is_wanted, ranks_end};
 use arrayvec::ArrayVec;
-use catalog_model::{Catalog, MOST_MODULES};
+use mod_catalog::{Catalog, MOST_MODULES};
 use pi_base::Phase;
 use std::marker::Model;
 

@@ -1,19 +1,19 @@
 //! The volumes that PPIs report.
 ghost use Rattle.std.specs.Prelude.{◌≡◌, ◌≤◌, ◌<◌, length, IfSome};
-ghost use Rattle.catalog_model.specs.declared.limits.TheConstants.{MOST_VOLUMES};
+ghost use Rattle.mod_catalog.specs.declared.limits.TheConstants.{MOST_VOLUMES};
 ghost use Rattle.pi_base.specs.Guids.{guid_at};
 ghost use Rattle.boot_model.specs.Reporting as R;
 ghost use Rattle.store_model.specs.StateFacts.{IsDesc};
 ghost use Rattle.store_model.specs.Service.{Present, OfEach};
 ghost use Rattle.store_model.specs.StoreCall.{Anything};
-ghost use Rattle.catalog_model.specs.WellFormed.{IsWellFormed};
+ghost use Rattle.mod_catalog.specs.WellFormed.{IsWellFormed};
 ghost use Rattle.phase_parts.specs.Known.{AreKnown};
 ghost use Rattle.phase_parts.specs.Reported.{AreDescs, IsWithReports, volume_of_info};
 
 use crate::mapped::volume_at;
 use crate::volume_list::VolumeList;
 use boot_model::{FILE_SYSTEM2, FILE_SYSTEM3};
-use catalog_model::Catalog;
+use mod_catalog::Catalog;
 use pi_base::{Guid, VOLUME_INFO_PPI, u64_at};
 use store_model::{Desc, PeiStore};
 

@@ -7,7 +7,7 @@ use crate::found::part_of;
 use crate::frame::frame_at;
 use crate::stack::Frames;
 use boot_model::{Frame, MOST_FRAMES, REGISTERS, Register};
-use catalog_model::Catalog;
+use mod_catalog::Catalog;
 use pi_base::Phase;
 
 // Whether a module's script has a block.

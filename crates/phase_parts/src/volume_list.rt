@@ -1,16 +1,16 @@
 //! The volumes that are known, by their numbers.
 ghost use Rattle.std.specs.Prelude.{◌≡◌, ◌<◌, ◌++◌, ◌∷◌, [], length, if◌then◌else◌, IfSome, IsTrue};
-ghost use Rattle.catalog_model.specs.Parts.{has_number, is_nested_in};
+ghost use Rattle.mod_catalog.specs.Parts.{has_number, is_nested_in};
 ghost use Rattle.boot_model.specs.Reporting.{newcomers};
 ghost use Rattle.boot_model.specs.Discovery.{discoveries};
-ghost use Rattle.catalog_model.specs.WellFormed.{IsWellFormed};
-ghost use Rattle.catalog_model.specs.declared.catalog.Catalog.{Catalog};
+ghost use Rattle.mod_catalog.specs.WellFormed.{IsWellFormed};
+ghost use Rattle.mod_catalog.specs.declared.catalogue.Catalog.{Catalog};
 ghost use Rattle.phase_parts.specs.Known.{AreKnown, MayCome, with_new};
 
 use crate::family::family_of;
 use crate::mapped::volume_at;
 use arrayvec::ArrayVec;
-use catalog_model::{Catalog, MOST_VOLUMES};
+use mod_catalog::{Catalog, MOST_VOLUMES};
 use std::marker::Model;
 
 /// Numbers of volumes in the order in which they became known.

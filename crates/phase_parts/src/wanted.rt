@@ -1,10 +1,10 @@
 // Which modules have a part of a phase in a volume, and with which rank.
 ghost use Rattle.std.specs.Prelude.{◌≡◌, ◌≤◌, ◌+◌, [], ℕ, Some, false, length, option_copied};
-ghost use Rattle.catalog_model.specs.declared.limits.TheConstants.{MOST_MODULES};
-ghost use Rattle.catalog_model.specs.Parts as P;
+ghost use Rattle.mod_catalog.specs.declared.limits.TheConstants.{MOST_MODULES};
+ghost use Rattle.mod_catalog.specs.Parts as P;
 ghost use Rattle.phase_parts.specs.Parts as W;
 
-use catalog_model::{Catalog, Module, Part};
+use mod_catalog::{Catalog, Module, Part};
 use pi_base::Phase;
 
 // The part that a module has for a phase.

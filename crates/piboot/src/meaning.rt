@@ -1,9 +1,9 @@
 // What a person is told of a run: what is at fault, and what to do.
 use crate::forms::PROGRAM;
 use boot_core::Status;
+use boot_core::plan_files::{Job, read_job};
 use boot_io::MemFiles;
 use mod_catalog::catalog;
-use plan_files::{Job, read_job};
 use program_edge::{Heard, starts_in};
 
 // The words that have no form.

@@ -1,43 +1,19 @@
 //! The tools beside the boot: the check of a trace with free choice, a boot in an order of starts, why modules start, the memory space map, the MP services, expressions and scripts as text, volumes from their texts, and texts of volumes.
 #![tactic(auto)]
 
-mod by_starts;
 mod cause_meaning;
-mod check_tool;
-mod command_line;
-mod explain_tool;
-mod follow_print;
-mod follow_tool;
 mod forms;
-mod gcd_tool;
-mod held_text;
-mod hobs_tool;
-mod laws;
 mod meaning;
-mod mp_tool;
 mod order_meaning;
-mod plan_tool;
-mod print;
-mod reading;
-mod report;
 mod source_meaning;
-mod source_refusal;
-mod status;
-mod text_again;
-mod text_tool;
-mod told_tool;
-mod tools;
-mod trace_tool;
-mod volume_tool;
 
 use crate::forms::PROGRAM;
 use crate::meaning::{tell, tells_of_files};
-use crate::status::ToolStatus;
-use crate::tools::tools_and_print;
 use boot_io::{PatientWriter, RealFiles};
 use program_edge::{Call, Heard, Keeping, KeptFiles, KeptText, has_text};
 use std::io;
 use std::process::ExitCode;
+use tools_core::{ToolStatus, tools_and_print};
 
 // Does what the words ask for, over the machine's files and standard output, and tells on standard error what came of it.
 fn run(rt: &HostRuntime, call: &Call) -> ToolStatus {

@@ -3,11 +3,11 @@ use crate::cause_meaning::source_words;
 use crate::forms::PROGRAM;
 use crate::order_meaning::{LINE_FORMS, against_words, boot_words, last_lines};
 use crate::source_meaning::tell_readings;
-use crate::status::ToolStatus;
+use boot_core::plan_files::read_file;
 use boot_io::MemFiles;
-use plan_files::read_file;
 use program_edge::{Heard, line_at, text_of};
 use std::str;
+use tools_core::ToolStatus;
 
 // The most bytes of a file of which a line is shown.
 const SHOWN_LIMIT: usize = 0x400_0000;

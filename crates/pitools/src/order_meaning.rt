@@ -1,5 +1,5 @@
 // What a person is told of a boot in an order of starts.
-use crate::status::ToolStatus;
+use tools_core::ToolStatus;
 
 /// What a line of an order has to be.
 pub(crate) const LINE_FORMS: &str =

@@ -1,9 +1,9 @@
 // How the expressions of a volume's text are read, for a person.
 use asm_text::print_depex;
+use boot_core::plan_files::read_file;
 use boot_io::MemFiles;
-use depex_words::read_expression;
 use pi_base::{OutOfMemory, Phase, Seq};
-use plan_files::read_file;
+use source_words::depex::read_expression;
 use source_words::{is_keyword, next_word};
 use std::alloc::Global;
 use std::str;

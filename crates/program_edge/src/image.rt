@@ -1,5 +1,5 @@
 // The causes of an image, each with what it means.
-use catalog_model::ImageCause;
+use mod_catalog::ImageCause;
 
 /// What is wrong with an image for a cause, and what is allowed.
 pub(crate) fn image_words(cause: ImageCause) -> &'static str {

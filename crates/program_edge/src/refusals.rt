@@ -3,10 +3,10 @@ use crate::image::image_words;
 use crate::kept_files::AskedFile;
 use crate::plan_mistake::mistake_in;
 use crate::program::{Program, text_of};
+use boot_core::plan_files::{Job, PLAN_LIMIT, read_file, read_job};
 use boot_io::MemFiles;
 use boot_plan::read_plan;
 use mod_catalog::catalog;
-use plan_files::{Job, PLAN_LIMIT, read_file, read_job};
 
 impl Program {
     /// Tells of the file that was not read.

@@ -4,8 +4,8 @@ ghost use Rattle.std.specs.List.{list_any};
 ghost use Rattle.program_edge.specs.Starts.{has_no_script, is_module, is_scriptless, is_silent_driver, is_silent_peim};
 
 use boot_model::Line;
-use catalog_model::{Catalog, Module, Part};
 use line_words::first_line;
+use mod_catalog::{Catalog, Module, Part};
 use pi_base::Guid;
 use trace_reader::start_line;
 

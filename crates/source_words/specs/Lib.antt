@@ -1,2 +1,13 @@
 pub mod Words
 pub mod GuidWord
+pub mod Tokens
+pub mod Written
+pub mod Cause
+pub mod Emission
+pub mod Expression
+pub mod Reading
+pub mod Line
+pub mod Word
+pub mod Operands
+pub mod Action
+pub mod Script

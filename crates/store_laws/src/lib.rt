@@ -1,6 +1,7 @@
 //! Laws of the stores: what the services and the move keep, where bodies stand, and what fits. Each is a function without a body.
 #![tactic(auto)]
 
+pub mod heap;
 mod laws;
 
 pub use laws::{

@@ -2,7 +2,7 @@
 ghost use Rattle.std.specs.Prelude.{◌≡◌, ◌<◌, ◌-◌, ◌^◌, length};
 
 use boot_io::Sink;
-use free_check::Spelled;
+use recorded_boot::trace::Spelled;
 use std::test::*;
 
 const TEXT: &[u8] = b"ab\ncd\nef";

@@ -1,12 +1,20 @@
-//! The texts and codes that people and files write, and what is printed, tried row by row.
+//! What all other crates stand on, GUIDs, maps by GUID, real files and sinks; the texts and codes that people and files write; and what is printed: tried row by row.
 #![tactic(auto)]
 
 #[cfg(test)]
+mod base;
+#[cfg(test)]
 mod board;
+#[cfg(test)]
+mod devices;
 #[cfg(test)]
 mod expressions;
 #[cfg(test)]
 mod expressions_as_text;
+#[cfg(test)]
+mod guid_indexes;
+#[cfg(test)]
+mod guid_maps;
 #[cfg(test)]
 mod held_text;
 #[cfg(test)]

@@ -6,7 +6,7 @@ use Rattle.arrayvec.specs.declared.array_vec.ArrayVec.{ArrayVec}
 use Rattle.pi_base.specs.declared.guid.Guid.{Guid}
 use Rattle.pi_base.specs.declared.word.Word.{Word}
 use Rattle.boot_plan.specs.declared.fault.PlanCause.{PlanCause}
-use Rattle.catalog_model.specs.declared.image_fault.ImageCause.{ImageCause}
+use Rattle.mod_catalog.specs.declared.image_fault.ImageCause.{ImageCause}
 use Rattle.boot_io.specs.Line.{spaced}
 use Rattle.boot_model.specs.declared.licence.Licence.{Licence}
 use Rattle.boot_model.specs.declared.line.Line.{Line}

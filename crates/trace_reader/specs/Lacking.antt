@@ -3,7 +3,7 @@ use Rattle.std.specs.Prelude.{◌≢◌, ℕ, List, Option, codes}
 use Rattle.pi_base.specs.declared.guid.Guid.{Guid}
 use Rattle.pi_base.specs.declared.word.Word.{Word}
 use Rattle.boot_plan.specs.declared.fault.PlanCause.{PlanCause}
-use Rattle.catalog_model.specs.declared.image_fault.ImageCause.{ImageCause}
+use Rattle.mod_catalog.specs.declared.image_fault.ImageCause.{ImageCause}
 use Rattle.boot_model.specs.declared.licence.Licence.{Licence}
 use Rattle.boot_model.specs.declared.line.Line.TheVariants as L
 use Rattle.boot_model.specs.declared.line.CallName.{CallName}

@@ -3,14 +3,14 @@ use Rattle.std.proofs.Common.{◌≡◌, ◌<◌, ◌≤◌, ◌^◌, ℕ, Bool,
 use Rattle.std.proofs.lemmas.Bool.{and_parts}
 use Rattle.std.proofs.lemmas.Bool.Decides.{nat_tests}
 use Rattle.std.specs.Prelude.{nat_lt, nat_le, ◌&&◌}
-use Rattle.fv_build.specs.declared.fault.BuildFault.{BuildFault}
-use Rattle.fv_build.specs.declared.fault.BuildFault.TheVariants.{TooMany, Size, NoRoom, Memory}
-use Rattle.fv_build.specs.Files.{HasWholeName}
-use Rattle.fv_build.specs.Header.{is_header_length}
-use Rattle.fv_build.specs.Front.{is_placed}
-use Rattle.fv_build.specs.Building.{volume_bytes, volume_fault}
-use Rattle.fv_build.specs.Reading.{IsWhole, IsReadAs}
-use Rattle.fv_build.proofs.VolumesRead.{read_as}
+use Rattle.fv_volume.specs.declared.build.fault.BuildFault.{BuildFault}
+use Rattle.fv_volume.specs.declared.build.fault.BuildFault.TheVariants.{TooMany, Size, NoRoom, Memory}
+use Rattle.fv_volume.specs.Files.{HasWholeName}
+use Rattle.fv_volume.specs.Header.{is_header_length}
+use Rattle.fv_volume.specs.Front.{is_placed}
+use Rattle.fv_volume.specs.Building.{volume_bytes, volume_fault}
+use Rattle.fv_volume.specs.Reading.{IsWhole, IsReadAs}
+use Rattle.fv_volume.proofs.VolumesRead.{read_as}
 use Rattle.volume_text.specs.declared.fault.Cause.{Cause}
 use Rattle.volume_text.specs.declared.fault.Cause.TheVariants as cause
 use Rattle.volume_text.specs.declared.volume.OpenVolume.{OpenVolume}

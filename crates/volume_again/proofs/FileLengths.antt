@@ -1,15 +1,15 @@
 -- Files that are there again take as many bytes.
 use Rattle.std.proofs.Common.{◌≡◌, ℕ, ◌+◌, List, [], ◌∷◌, ◌++◌, length, map, replicate, refl, sym, ap, ◌∙◌, arith, length-append}
-use Rattle.fv_build.specs.declared.file_system.FileSystem.{FileSystem}
-use Rattle.fv_build.specs.declared.new_file.Body.{Body}
-use Rattle.fv_build.specs.declared.new_file.Body.TheVariants.{Sections, Bytes}
-use Rattle.fv_build.specs.declared.new_file.NewFile.{NewFile}
-use Rattle.fv_build.specs.declared.new_file.NewSection.{NewSection}
-use Rattle.fv_build.specs.Placing.{gap, laid}
-use Rattle.fv_build.specs.Sections.{section_bytes, section_size}
-use Rattle.fv_build.specs.Files.{bytes_in}
-use Rattle.fv_build.specs.Reading.{AreEach}
-use Rattle.fv_build.proofs.Sizes.{length-section}
+use Rattle.fv_volume.specs.declared.build.file_system.FileSystem.{FileSystem}
+use Rattle.fv_volume.specs.declared.build.new_file.Body.{Body}
+use Rattle.fv_volume.specs.declared.build.new_file.Body.TheVariants.{Sections, Bytes}
+use Rattle.fv_volume.specs.declared.build.new_file.NewFile.{NewFile}
+use Rattle.fv_volume.specs.declared.build.new_file.NewSection.{NewSection}
+use Rattle.fv_volume.specs.Placing.{gap, laid}
+use Rattle.fv_volume.specs.Sections.{section_bytes, section_size}
+use Rattle.fv_volume.specs.Files.{bytes_in}
+use Rattle.fv_volume.specs.Reading.{AreEach}
+use Rattle.fv_volume.proofs.Sizes.{length-section}
 use Rattle.volume_again.specs.Again.{IsSectionAgain, IsBodyAgain}
 
 -- texts that are as long are laid alike

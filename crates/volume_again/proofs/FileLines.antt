@@ -8,10 +8,10 @@ use Rattle.pi_base.specs.declared.phase.Phase.{Phase}
 use Rattle.act_code.specs.declared.action.Action.{Action}
 use Rattle.asm_text.specs.ActionText.{action_text}
 use Rattle.asm_text.specs.ScriptText.{line, block_text, action_line, block_lines}
-use Rattle.script_words.proofs.PrintedActions.{IsGoodAction, action_read}
-use Rattle.fv_build.specs.declared.new_file.NewFile.{NewFile}
-use Rattle.fv_build.specs.declared.new_file.NewSection.{NewSection}
-use Rattle.fv_build.specs.Reading.{AreEach}
+use Rattle.source_words.proofs.PrintedActions.{IsGoodAction, action_read}
+use Rattle.fv_volume.specs.declared.build.new_file.NewFile.{NewFile}
+use Rattle.fv_volume.specs.declared.build.new_file.NewSection.{NewSection}
+use Rattle.fv_volume.specs.Reading.{AreEach}
 use Rattle.volume_text.specs.Open.{is_script_of}
 use Rattle.volume_text.specs.Script.{action_at, said_by}
 use Rattle.volume_text.specs.Volume.{SayBlocks, no_block, block, action}

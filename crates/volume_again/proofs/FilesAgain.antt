@@ -10,18 +10,18 @@ use Rattle.hex.specs.Hex.{IsBytes, encode_lower}
 use Rattle.pi_base.specs.Guids.{guid_at}
 use Rattle.asm_text.specs.ExpressionText.{expression_text}
 use Rattle.asm_text.specs.ScriptText.{line, block_lines}
-use Rattle.catalog_model.specs.APriori.{guids_in}
+use Rattle.mod_catalog.specs.APrioriNames.{guids_in}
 use Rattle.depex_code.specs.Expression.{instructions, bytes_of}
-use Rattle.fv_build.specs.declared.new_file.NewFile.{NewFile}
-use Rattle.fv_build.specs.declared.new_file.NewSection.{NewSection}
-use Rattle.fv_build.specs.declared.new_file.Body.{Body}
-use Rattle.fv_build.specs.declared.new_file.Body.TheVariants.{Sections, Bytes}
-use Rattle.fv_build.specs.declared.attributes.FileAttributes.{FileAttributes}
-use Rattle.fv_build.specs.declared.volume_header.VolumeForm.{VolumeForm}
-use Rattle.fv_build.specs.declared.volume_name.VolumeName.{VolumeName}
-use Rattle.fv_build.specs.Attributes.{plain_attributes}
-use Rattle.fv_build.specs.Front.{is_placed}
-use Rattle.fv_build.specs.Reading.{AreEach}
+use Rattle.fv_volume.specs.declared.build.new_file.NewFile.{NewFile}
+use Rattle.fv_volume.specs.declared.build.new_file.NewSection.{NewSection}
+use Rattle.fv_volume.specs.declared.build.new_file.Body.{Body}
+use Rattle.fv_volume.specs.declared.build.new_file.Body.TheVariants.{Sections, Bytes}
+use Rattle.fv_volume.specs.declared.build.attributes.FileAttributes.{FileAttributes}
+use Rattle.fv_volume.specs.declared.build.volume_header.VolumeForm.{VolumeForm}
+use Rattle.fv_volume.specs.declared.build.volume_name.VolumeName.{VolumeName}
+use Rattle.fv_volume.specs.Attributes.{plain_attributes}
+use Rattle.fv_volume.specs.Front.{is_placed}
+use Rattle.fv_volume.specs.Reading.{AreEach}
 use Rattle.volume_text.specs.declared.volume.OpenVolume.{OpenVolume}
 use Rattle.volume_text.specs.Words.{is_header, is_length}
 use Rattle.volume_text.specs.Open.{new_file, depex_type, built_of}

@@ -9,18 +9,18 @@ use Rattle.std.specs.Int.{bit_at}
 use Rattle.std.proofs.lemmas.Nat.Bits.{bit_at_or, bit_at_xor, bit_at-lt, bit_at-pow_same, bit_at-pow_other, and_pow, same_from_bits}
 use Rattle.pi_base.specs.Field.{little_number, little_bytes}
 use Rattle.pi_base.proofs.FieldLaws.{little_number-little_bytes}
-use Rattle.fv_build.specs.declared.file_system.FileSystem.{FileSystem}
-use Rattle.fv_build.specs.declared.file_system.FileSystem.TheVariants.{Ffs2, Ffs3}
-use Rattle.fv_build.specs.declared.new_file.NewFile.{NewFile}
-use Rattle.fv_build.specs.declared.volume_header.VolumeForm.{VolumeForm}
-use Rattle.fv_build.specs.Checksum.{checksum16}
-use Rattle.fv_build.specs.Header.{plain, head_of, header_with, volume_header}
-use Rattle.fv_build.specs.declared.volume_name.VolumeName.{VolumeName}
-use Rattle.fv_build.specs.Front.{ext_at, extended_bytes, name_part, front_len, is_placed}
-use Rattle.fv_build.specs.Building.{filled_from, volume_bytes}
-use Rattle.fv_build.specs.Reading.{IsWhole, guid_of}
-use Rattle.fv_build.proofs.Parts.{drop_behind, drop_text}
-use Rattle.fv_build.proofs.VolumesRead.{length-header}
+use Rattle.fv_volume.specs.declared.build.file_system.FileSystem.{FileSystem}
+use Rattle.fv_volume.specs.declared.build.file_system.FileSystem.TheVariants.{Ffs2, Ffs3}
+use Rattle.fv_volume.specs.declared.build.new_file.NewFile.{NewFile}
+use Rattle.fv_volume.specs.declared.build.volume_header.VolumeForm.{VolumeForm}
+use Rattle.fv_volume.specs.Checksum.{checksum16}
+use Rattle.fv_volume.specs.Header.{plain, head_of, header_with, volume_header}
+use Rattle.fv_volume.specs.declared.build.volume_name.VolumeName.{VolumeName}
+use Rattle.fv_volume.specs.Front.{ext_at, extended_bytes, name_part, front_len, is_placed}
+use Rattle.fv_volume.specs.Building.{filled_from, volume_bytes}
+use Rattle.fv_volume.specs.Reading.{IsWhole, guid_of}
+use Rattle.fv_volume.proofs.Parts.{drop_behind, drop_text}
+use Rattle.fv_volume.proofs.VolumesRead.{length-header}
 use Rattle.volume_print.specs.Description.{file_system_in, told_attributes, form_in, name_in}
 use Rattle.volume_again.proofs.GoodHeaders.{there_by}
 

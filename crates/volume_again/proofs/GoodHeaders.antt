@@ -14,12 +14,12 @@ use Rattle.fv_volume.specs.VolumeHeader.{volume_header, header_fault}
 use Rattle.fv_volume.specs.ExtendedHeader.{misplaced, extended_header}
 use Rattle.fv_volume.specs.Frame.{frame_with, frame_or_fault}
 use Rattle.fv_volume.specs.Volume.{IsVolume}
-use Rattle.fv_build.specs.declared.file_system.FileSystem.TheVariants.{Ffs2}
-use Rattle.fv_build.specs.declared.volume_header.VolumeForm.{VolumeForm}
-use Rattle.fv_build.specs.declared.volume_name.VolumeName.{VolumeName}
-use Rattle.fv_build.specs.Header.{plain}
-use Rattle.fv_build.specs.Front.{is_placed}
-use Rattle.fv_build.specs.Reading.{guid_of}
+use Rattle.fv_volume.specs.declared.build.file_system.FileSystem.TheVariants.{Ffs2}
+use Rattle.fv_volume.specs.declared.build.volume_header.VolumeForm.{VolumeForm}
+use Rattle.fv_volume.specs.declared.build.volume_name.VolumeName.{VolumeName}
+use Rattle.fv_volume.specs.Header.{plain}
+use Rattle.fv_volume.specs.Front.{is_placed}
+use Rattle.fv_volume.specs.Reading.{guid_of}
 use Rattle.volume_text.specs.Words.{is_header}
 use Rattle.volume_print.specs.Description.{file_system_in, told_attributes, form_in, name_at, name_in}
 use Rattle.volume_again.specs.Again.{IsNameOfBytes}

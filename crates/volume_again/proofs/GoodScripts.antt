@@ -13,7 +13,7 @@ use Rattle.act_code.specs.Format.{registers_in, blocks_in}
 use Rattle.act_code.specs.Header.{header_bytes}
 use Rattle.act_code.specs.Script.{action_bytes, operand_bytes, block_bytes, IsSound, AreSound, IsBlock, IsScript, Each}
 use Rattle.act_code.specs.Table.{number_of, format_of, code_of_action, operands}
-use Rattle.script_words.proofs.PrintedActions.{IsGoodAction}
+use Rattle.source_words.proofs.PrintedActions.{IsGoodAction}
 use Rattle.volume_again.proofs.ByteRuns.{bytes_tail, bytes_back, each_bytes}
 
 is_most : (n m : ℕ) → nat_le n m ≡ true → n ≤ m

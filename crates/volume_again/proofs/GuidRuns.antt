@@ -5,7 +5,7 @@ use Rattle.std.proofs.lemmas.List.{length-take-le, length-drop, drop-drop}
 use Rattle.hex.specs.Hex.{IsBytes}
 use Rattle.pi_base.specs.Guids.{guid_at}
 use Rattle.pi_base.specs.Lists.{numbers}
-use Rattle.catalog_model.specs.APriori.{guids_in}
+use Rattle.mod_catalog.specs.APrioriNames.{guids_in}
 use Rattle.line_words.specs.PrintedWords.{IsGuid}
 use Rattle.volume_again.proofs.ByteRuns.{bytes_front, bytes_back}
 

@@ -8,16 +8,16 @@ use Rattle.hex.specs.Hex.{IsBytes}
 use Rattle.pi_base.specs.declared.guid.Guid.{Guid}
 use Rattle.fv_volume.specs.declared.file.FfsFile.{FfsFile}
 use Rattle.fv_volume.proofs.Standing.{volume_inside}
-use Rattle.fv_build.specs.declared.file_system.FileSystem.{FileSystem}
-use Rattle.fv_build.specs.declared.new_file.NewFile.{NewFile}
-use Rattle.fv_build.specs.declared.volume_header.VolumeForm.{VolumeForm}
-use Rattle.fv_build.specs.Files.{HasWholeName}
-use Rattle.fv_build.specs.Reading.{AreEach, IsFileRead, listed, IsWhole, guid_of, IsReadAs}
-use Rattle.fv_build.specs.declared.volume_name.VolumeName.{VolumeName}
-use Rattle.fv_build.specs.Header.{head_of, volume_header}
-use Rattle.fv_build.specs.Front.{ext_at, name_part, front_len, first_place, is_placed}
-use Rattle.fv_build.specs.Building.{need, filled_from, volume_bytes}
-use Rattle.fv_build.proofs.VolumesRead.{length-header, length-front, sound, fits_header}
+use Rattle.fv_volume.specs.declared.build.file_system.FileSystem.{FileSystem}
+use Rattle.fv_volume.specs.declared.build.new_file.NewFile.{NewFile}
+use Rattle.fv_volume.specs.declared.build.volume_header.VolumeForm.{VolumeForm}
+use Rattle.fv_volume.specs.Files.{HasWholeName}
+use Rattle.fv_volume.specs.Reading.{AreEach, IsFileRead, listed, IsWhole, guid_of, IsReadAs}
+use Rattle.fv_volume.specs.declared.build.volume_name.VolumeName.{VolumeName}
+use Rattle.fv_volume.specs.Header.{head_of, volume_header}
+use Rattle.fv_volume.specs.Front.{ext_at, name_part, front_len, first_place, is_placed}
+use Rattle.fv_volume.specs.Building.{need, filled_from, volume_bytes}
+use Rattle.fv_volume.proofs.VolumesRead.{length-header, length-front, sound, fits_header}
 use Rattle.volume_text.specs.declared.fault.Cause.{Cause}
 use Rattle.volume_text.specs.declared.fault.Fault.{Fault}
 use Rattle.volume_text.specs.declared.fault.TextFault.TheVariants.{Bad}

@@ -13,12 +13,12 @@ use Rattle.fv_volume.specs.declared.sections.fault.SecCause.TheVariants.{Size, C
 use Rattle.fv_volume.specs.SectionHeader.{header_at, section_of}
 use Rattle.fv_volume.specs.Stream.{place_after, Leads}
 use Rattle.fv_volume.specs.declared.file.FfsFile.{FfsFile}
-use Rattle.fv_build.specs.declared.file_system.FileSystem.{FileSystem}
-use Rattle.fv_build.specs.declared.new_file.Body.{Body}
-use Rattle.fv_build.specs.declared.new_file.Body.TheVariants.{Sections, Bytes}
-use Rattle.fv_build.specs.declared.new_file.NewFile.{NewFile}
-use Rattle.fv_build.specs.declared.volume_header.VolumeForm.{VolumeForm}
-use Rattle.fv_build.specs.Reading.{AreEach}
+use Rattle.fv_volume.specs.declared.build.file_system.FileSystem.{FileSystem}
+use Rattle.fv_volume.specs.declared.build.new_file.Body.{Body}
+use Rattle.fv_volume.specs.declared.build.new_file.Body.TheVariants.{Sections, Bytes}
+use Rattle.fv_volume.specs.declared.build.new_file.NewFile.{NewFile}
+use Rattle.fv_volume.specs.declared.build.volume_header.VolumeForm.{VolumeForm}
+use Rattle.fv_volume.specs.Reading.{AreEach}
 use Rattle.volume_print.specs.Description.{section_in, IsBodyIn, IsFileIn, form_in}
 use Rattle.volume_again.specs.Again.{IsOfBytes, IsBodyOfBytes, IsFileOfBytes}
 use Rattle.volume_again.proofs.ByteRuns.{taken_bytes, left_bytes}

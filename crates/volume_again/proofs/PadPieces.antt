@@ -6,13 +6,13 @@ use Rattle.std.proofs.lemmas.Bool.{and_parts, eqb-true}
 use Rattle.std.proofs.lemmas.Bool.Decides.{nat_tests}
 use Rattle.std.proofs.lemmas.List.{length-take-le, length-drop}
 use Rattle.hex.specs.Hex.{IsBytes}
-use Rattle.fv_build.specs.declared.file_system.FileSystem.{FileSystem}
-use Rattle.fv_build.specs.declared.file_system.FileSystem.TheVariants.{Ffs2, Ffs3}
-use Rattle.fv_build.specs.declared.new_file.NewFile.{NewFile}
-use Rattle.fv_build.specs.declared.new_file.Body.TheVariants.{Bytes}
-use Rattle.fv_build.specs.Attributes.{plain_attributes}
-use Rattle.fv_build.specs.Files.{file_size, file_bytes, HasWholeName}
-use Rattle.fv_build.proofs.Sizes.{length-file_with}
+use Rattle.fv_volume.specs.declared.build.file_system.FileSystem.{FileSystem}
+use Rattle.fv_volume.specs.declared.build.file_system.FileSystem.TheVariants.{Ffs2, Ffs3}
+use Rattle.fv_volume.specs.declared.build.new_file.NewFile.{NewFile}
+use Rattle.fv_volume.specs.declared.build.new_file.Body.TheVariants.{Bytes}
+use Rattle.fv_volume.specs.Attributes.{plain_attributes}
+use Rattle.fv_volume.specs.Files.{file_size, file_bytes, HasWholeName}
+use Rattle.fv_volume.proofs.Sizes.{length-file_with}
 use Rattle.volume_text.specs.Open.{pad_file}
 use Rattle.volume_print.specs.Places.{between, pad_of, pieces, pads_in}
 use Rattle.volume_print.specs.Spelling.{are_erased}

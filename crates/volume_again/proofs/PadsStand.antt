@@ -9,11 +9,11 @@ use Rattle.hex.specs.Hex.{IsBytes}
 use Rattle.fv_volume.specs.declared.file.FfsFile.{FfsFile}
 use Rattle.fv_volume.specs.Frame.{aligned}
 use Rattle.fv_volume.specs.Places.{AreInside}
-use Rattle.fv_build.specs.declared.file_system.FileSystem.{FileSystem}
-use Rattle.fv_build.specs.declared.new_file.NewFile.{NewFile}
-use Rattle.fv_build.specs.Placing.{gap, laid}
-use Rattle.fv_build.specs.Files.{file_bytes}
-use Rattle.fv_build.specs.Reading.{AreEach}
+use Rattle.fv_volume.specs.declared.build.file_system.FileSystem.{FileSystem}
+use Rattle.fv_volume.specs.declared.build.new_file.NewFile.{NewFile}
+use Rattle.fv_volume.specs.Placing.{gap, laid}
+use Rattle.fv_volume.specs.Files.{file_bytes}
+use Rattle.fv_volume.specs.Reading.{AreEach}
 use Rattle.volume_print.specs.Description.{IsFileIn}
 use Rattle.volume_print.specs.Places.{room_of, rooms, between, pad_of, pieces, pads_in, stands, behind, pads_before}
 use Rattle.volume_again.specs.Again.{IsFileAgain, among}

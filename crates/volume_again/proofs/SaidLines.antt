@@ -21,17 +21,17 @@ use Rattle.act_code.specs.Table.{name_of, code_of_action}
 use Rattle.asm_text.specs.ActionText.{spaced, action_text}
 use Rattle.asm_text.specs.ExpressionText.{expression_text}
 use Rattle.asm_text.specs.ReadTree.{IsExpression}
-use Rattle.script_words.proofs.PrintedActions.{IsGoodAction, action_shown}
-use Rattle.fv_build.specs.declared.attributes.Alignment.{Alignment}
-use Rattle.fv_build.specs.declared.attributes.Alignment.TheVariants.{Byte}
-use Rattle.fv_build.specs.declared.attributes.FileAttributes.{FileAttributes}
-use Rattle.fv_build.specs.declared.file_system.FileSystem.{FileSystem}
-use Rattle.fv_build.specs.declared.file_system.FileSystem.TheVariants.{Ffs2, Ffs3}
-use Rattle.fv_build.specs.declared.volume_header.VolumeForm.{VolumeForm}
-use Rattle.fv_build.specs.declared.volume_name.VolumeName.{VolumeName}
-use Rattle.fv_build.specs.Header.{is_header_length}
-use Rattle.fv_build.specs.Front.{is_placed}
-use Rattle.fv_build.specs.Attributes.{alignment_len}
+use Rattle.source_words.proofs.PrintedActions.{IsGoodAction, action_shown}
+use Rattle.fv_volume.specs.declared.build.attributes.Alignment.{Alignment}
+use Rattle.fv_volume.specs.declared.build.attributes.Alignment.TheVariants.{Byte}
+use Rattle.fv_volume.specs.declared.build.attributes.FileAttributes.{FileAttributes}
+use Rattle.fv_volume.specs.declared.build.file_system.FileSystem.{FileSystem}
+use Rattle.fv_volume.specs.declared.build.file_system.FileSystem.TheVariants.{Ffs2, Ffs3}
+use Rattle.fv_volume.specs.declared.build.volume_header.VolumeForm.{VolumeForm}
+use Rattle.fv_volume.specs.declared.build.volume_name.VolumeName.{VolumeName}
+use Rattle.fv_volume.specs.Header.{is_header_length}
+use Rattle.fv_volume.specs.Front.{is_placed}
+use Rattle.fv_volume.specs.Attributes.{alignment_len}
 use Rattle.source_words.specs.Words.{words}
 use Rattle.volume_text.specs.declared.fault.Cause.{Cause}
 use Rattle.volume_text.specs.declared.fault.Cause.TheVariants as cause
@@ -46,10 +46,10 @@ use Rattle.volume_text.specs.Volume.{SaysLine}
 use Rattle.volume_text.specs.Text.{is_passed_over}
 use Rattle.volume_print.specs.Spelling.{phase_word, system_word, type_word, fixed_words, alignment_words, attribute_words, number_words, guid_word as told_guid}
 use Rattle.fv_volume.specs.declared.sections.section_type.TheConstants.{RAW}
-use Rattle.words_again.proofs.LineWords.{IsWord, IsClear, clear_of, both_clear, spaced_clear, word_then, words_spaced, stands_spaced}
-use Rattle.words_again.proofs.Characters.{decimal_word, hexadecimal_word, encoded_inner, encoded_word, guid_word}
-use Rattle.words_again.proofs.ValueWords.{decimal_read, hexadecimal_read, guid_read}
-use Rattle.depex_words.proofs.PrintedWords.{expression_is, expression_clear}
+use Rattle.source_words.proofs.LineWords.{IsWord, IsClear, clear_of, both_clear, spaced_clear, word_then, words_spaced, stands_spaced}
+use Rattle.source_words.proofs.Characters.{decimal_word, hexadecimal_word, encoded_inner, encoded_word, guid_word}
+use Rattle.source_words.proofs.ValueWords.{decimal_read, hexadecimal_read, guid_read}
+use Rattle.source_words.proofs.PrintedWords.{expression_is, expression_clear}
 use Rattle.volume_again.proofs.TextLines.{IsLine}
 use Rattle.volume_again.proofs.TypeWords.{byte_read, type_read, alignment_read, alignment_fits}
 

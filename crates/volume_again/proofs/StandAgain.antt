@@ -10,12 +10,12 @@ use Rattle.line_words.specs.PrintedWords.{IsGuid}
 use Rattle.fv_volume.specs.declared.file.FfsFile.{FfsFile}
 use Rattle.fv_volume.specs.Frame.{aligned}
 use Rattle.fv_volume.specs.Places.{AreInside}
-use Rattle.fv_build.specs.declared.file_system.FileSystem.{FileSystem}
-use Rattle.fv_build.specs.declared.new_file.NewFile.{NewFile}
-use Rattle.fv_build.specs.Placing.{gap}
-use Rattle.fv_build.specs.Files.{bytes_in, file_size, file_bytes, HasWholeName}
-use Rattle.fv_build.specs.Reading.{AreEach, listed, listed_at}
-use Rattle.fv_build.proofs.Sizes.{length-file_with}
+use Rattle.fv_volume.specs.declared.build.file_system.FileSystem.{FileSystem}
+use Rattle.fv_volume.specs.declared.build.new_file.NewFile.{NewFile}
+use Rattle.fv_volume.specs.Placing.{gap}
+use Rattle.fv_volume.specs.Files.{bytes_in, file_size, file_bytes, HasWholeName}
+use Rattle.fv_volume.specs.Reading.{AreEach, listed, listed_at}
+use Rattle.fv_volume.proofs.Sizes.{length-file_with}
 use Rattle.volume_print.specs.Description.{IsFileIn}
 use Rattle.volume_print.specs.Places.{Room, room_of, rooms, between, pad_of, pieces, pads_in, stands, behind, pads_before, places, LeaveRoom}
 use Rattle.volume_again.specs.Again.{IsFileAgain, among}

@@ -10,7 +10,7 @@ use Rattle.std.proofs.lemmas.List.Sums.{AllPass-from_list_all}
 use Rattle.line_words.proofs.LineLemmas.{is_byte, some_part}
 use Rattle.asm_text.specs.ScriptText.{line}
 use Rattle.volume_text.specs.Text.{is_passed_over, counted, numbered}
-use Rattle.words_again.proofs.LineWords.{IsClear}
+use Rattle.source_words.proofs.LineWords.{IsClear}
 
 -- a line that counts: each byte is the space or above it
 pub record IsLine (l : List ℕ) : Type 0 where

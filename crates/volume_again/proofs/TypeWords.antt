@@ -8,9 +8,9 @@ use Rattle.hex.specs.Hex.{encode_with, encode_lower, lower_digits}
 use Rattle.hex.proofs.HexLemmas.{length-encode_with}
 use Rattle.line_words.proofs.Comparisons.{same}
 use Rattle.line_words.specs.Number.{value_in, number_of}
-use Rattle.fv_build.specs.declared.attributes.Alignment.{Alignment}
-use Rattle.fv_build.specs.declared.attributes.Alignment.TheVariants.{Byte}
-use Rattle.fv_build.specs.Attributes.{alignment_len, alignment_of}
+use Rattle.fv_volume.specs.declared.build.attributes.Alignment.{Alignment}
+use Rattle.fv_volume.specs.declared.build.attributes.Alignment.TheVariants.{Byte}
+use Rattle.fv_volume.specs.Attributes.{alignment_len, alignment_of}
 use Rattle.volume_text.specs.Keywords.{below_256, byte_of, file_type_of}
 use Rattle.volume_print.specs.Spelling.{type_word}
 use Rattle.std.proofs.Common.{inl, inr}

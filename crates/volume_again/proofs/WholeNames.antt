@@ -9,11 +9,11 @@ use Rattle.pi_base.specs.declared.guid.Guid.{Guid}
 use Rattle.pi_base.specs.declared.phase.Phase.{Phase}
 use Rattle.pi_base.specs.declared.known_guid.TheConstants.{VOLUME_INFO_PPI, MEMORY_PPI, DXE_IPL_PPI}
 use Rattle.fv_volume.specs.declared.volume_header.TheConstants.{FFS2, FFS3}
-use Rattle.fv_build.specs.declared.new_file.Body.{Body}
-use Rattle.fv_build.specs.declared.new_file.Body.TheVariants.{Sections, Bytes}
-use Rattle.fv_build.specs.declared.new_file.NewFile.{NewFile}
-use Rattle.fv_build.specs.declared.new_file.NewSection.{NewSection}
-use Rattle.fv_build.specs.Files.{HasWholeName}
+use Rattle.fv_volume.specs.declared.build.new_file.Body.{Body}
+use Rattle.fv_volume.specs.declared.build.new_file.Body.TheVariants.{Sections, Bytes}
+use Rattle.fv_volume.specs.declared.build.new_file.NewFile.{NewFile}
+use Rattle.fv_volume.specs.declared.build.new_file.NewSection.{NewSection}
+use Rattle.fv_volume.specs.Files.{HasWholeName}
 use Rattle.source_words.specs.GuidWord.{unbraced, guid_of}
 use Rattle.source_words.specs.Words.{words}
 use Rattle.volume_text.specs.declared.fault.Cause.{Cause}
@@ -27,8 +27,8 @@ use Rattle.volume_text.specs.Bytes.{bytes_of, guids_of}
 use Rattle.volume_text.specs.Line.{volume_at, name_at, pad_at, file_at, script_at, guids_at, raw_at, section_at, body_at, alone, ReadsBy, ReadsFirst, ReadsExpression}
 use Rattle.volume_text.specs.Open.{with_body, held_in, is_empty}
 use Rattle.volume_text.specs.Volume.{SaysLine, SayFiles, no_file, named, padded, file, bodied, section, depex, script, volume}
-use Rattle.fv_build.specs.Reading.{IsWhole}
-use Rattle.fv_build.specs.declared.volume_name.VolumeName.{VolumeName}
+use Rattle.fv_volume.specs.Reading.{IsWhole}
+use Rattle.fv_volume.specs.declared.build.volume_name.VolumeName.{VolumeName}
 
 -- a GUID that a word names or spells
 same_guid : (a b : Guid) → ◌≡◌ {A = Option Guid} (Some a) (Some b) → a ≡ b

@@ -3,12 +3,12 @@ use Rattle.std.specs.Prelude.{◌≡◌, ℕ, ◌+◌, ◌-◌, ⊤, List, [], �
 use Rattle.fv_volume.specs.declared.volume.Volume.{Volume}
 use Rattle.fv_volume.specs.Frame.{aligned}
 use Rattle.fv_volume.specs.Volume.{IsVolume}
-use Rattle.fv_build.specs.declared.file_system.FileSystem.{FileSystem}
-use Rattle.fv_build.specs.declared.new_file.NewFile.{NewFile}
-use Rattle.fv_build.specs.Reading.{AreEach, IsFileRead}
-use Rattle.fv_build.specs.Files.{file_bytes}
-use Rattle.fv_build.specs.Front.{first_place}
-use Rattle.catalog_model.specs.declared.limits.TheConstants.{MOST_DEPTH}
+use Rattle.fv_volume.specs.declared.build.file_system.FileSystem.{FileSystem}
+use Rattle.fv_volume.specs.declared.build.new_file.NewFile.{NewFile}
+use Rattle.fv_volume.specs.Reading.{AreEach, IsFileRead}
+use Rattle.fv_volume.specs.Files.{file_bytes}
+use Rattle.fv_volume.specs.Front.{first_place}
+use Rattle.mod_catalog.specs.declared.limits.TheConstants.{MOST_DEPTH}
 use Rattle.volume_text.specs.declared.fault.Cause.{Cause}
 use Rattle.volume_text.specs.Open.{built_of}
 use Rattle.volume_print.specs.Description.{form_in, name_in, pads_of, IsInner, IsTextOf}

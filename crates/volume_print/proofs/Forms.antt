@@ -6,7 +6,7 @@ use Rattle.std.specs.Prelude.{◌==◌, bytes_eq, if◌then◌else◌}
 use Rattle.std.specs.List.{list_any}
 use Rattle.pi_base.specs.declared.phase.Phase.{Phase}
 use Rattle.pi_base.specs.declared.phase.Phase.TheVariants.{Pei, Dxe}
-use Rattle.fv_build.specs.declared.new_file.NewSection.{NewSection}
+use Rattle.fv_volume.specs.declared.build.new_file.NewSection.{NewSection}
 use Rattle.depex_code.specs.declared.depex.Depex.{Depex}
 use Rattle.depex_code.specs.Expression.{Reads, IsMalformed, instructions, bytes_of}
 use Rattle.act_code.specs.declared.script.Script.{Script}

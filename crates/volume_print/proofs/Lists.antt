@@ -9,8 +9,8 @@ use Rattle.pi_base.specs.declared.guid.Guid.{Guid}
 use Rattle.pi_base.specs.Guids.{guid_at}
 use Rattle.pi_base.specs.Lists.{numbers}
 use Rattle.pi_base.specs.WordText.{guid_text}
-use Rattle.fv_build.specs.declared.new_file.NewSection.{NewSection}
-use Rattle.fv_build.specs.Reading.{AreEach}
+use Rattle.fv_volume.specs.declared.build.new_file.NewSection.{NewSection}
+use Rattle.fv_volume.specs.Reading.{AreEach}
 use Rattle.volume_print.specs.declared.form.Host.{Host}
 use Rattle.volume_print.specs.Spelling.{guid_word, IsSectionText, AreSectionTexts, whole}
 

@@ -11,19 +11,19 @@ use Rattle.act_code.specs.declared.script.Script.{Script}
 use Rattle.asm_text.specs.ScriptText.{line, phase_text, block_lines, script_text}
 use Rattle.fv_volume.specs.declared.file.FfsFile.{FfsFile}
 use Rattle.fv_volume.specs.declared.volume.Volume.{Volume}
-use Rattle.fv_build.specs.declared.attributes.FileAttributes.{FileAttributes}
-use Rattle.fv_build.specs.Attributes.{attributes_in}
-use Rattle.fv_build.specs.declared.file_system.FileSystem.{FileSystem}
-use Rattle.fv_build.specs.Files.{bytes_in, file_size}
-use Rattle.fv_build.specs.Sections.{body_bytes}
+use Rattle.fv_volume.specs.declared.build.attributes.FileAttributes.{FileAttributes}
+use Rattle.fv_volume.specs.Attributes.{attributes_in}
+use Rattle.fv_volume.specs.declared.build.file_system.FileSystem.{FileSystem}
+use Rattle.fv_volume.specs.Files.{bytes_in, file_size}
+use Rattle.fv_volume.specs.Sections.{body_bytes}
 use Rattle.fv_volume.specs.Frame.{aligned}
-use Rattle.fv_build.specs.Reading.{AreEach}
+use Rattle.fv_volume.specs.Reading.{AreEach}
 use Rattle.volume_print.proofs.Lists.{each_more, texts_more, whole_more, map_more}
 use Rattle.volume_print.proofs.Rooms.{each_long, rooms_more, length-rooms, length-pads, behind_more, pads_more, with_more, between_held, behind_held, next_held}
 use Rattle.fv_volume.specs.declared.sections.section.Section.{Section}
-use Rattle.fv_build.specs.declared.new_file.NewFile.{NewFile}
-use Rattle.fv_build.specs.declared.new_file.NewSection.{NewSection}
-use Rattle.fv_build.specs.declared.new_file.Body.TheVariants.{Sections, Bytes}
+use Rattle.fv_volume.specs.declared.build.new_file.NewFile.{NewFile}
+use Rattle.fv_volume.specs.declared.build.new_file.NewSection.{NewSection}
+use Rattle.fv_volume.specs.declared.build.new_file.Body.TheVariants.{Sections, Bytes}
 use Rattle.volume_print.specs.declared.form.Form.{Form}
 use Rattle.volume_print.specs.declared.form.Form.TheVariants as form
 use Rattle.volume_text.specs.Text.{Leads}
@@ -32,7 +32,7 @@ use Rattle.volume_print.specs.Spelling.{holds_volume, as_volume, as_expression, 
 use Rattle.volume_print.specs.Description.{section_in, form_in, name_in, pads_of, IsStream, IsBodyIn, IsFileIn, IsTextBy, IsInner}
 use Rattle.volume_print.specs.Finding.{form_text, FindsVolume, FindsText, TellsVolume, IsPlainForm, IsForm, AddsSection, AddsSections, AddsBody, AddsFile, AddsFiles, held}
 use Rattle.volume_print.specs.Places.{Room, room_of, rooms, between, pads_in, stands, behind_all, pads_before}
-use Rattle.fv_build.specs.Front.{first_place}
+use Rattle.fv_volume.specs.Front.{first_place}
 
 -- a section in a form has the form's text
 pub in_form : (Inner : List ℕ → List ℕ → Type 0) (host : Host) (before : List NewSection) (section : NewSection) (f : Form) → IsForm Inner host before section f

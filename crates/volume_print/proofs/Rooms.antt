@@ -5,13 +5,13 @@ use Rattle.std.proofs.lemmas.List.{append-nil, length-take-le, length-drop}
 use Rattle.std.specs.Prelude.{nat_lt}
 use Rattle.fv_volume.specs.declared.file.FfsFile.{FfsFile}
 use Rattle.fv_volume.specs.Frame.{aligned}
-use Rattle.fv_build.specs.declared.file_system.FileSystem.{FileSystem}
-use Rattle.fv_build.specs.declared.new_file.NewFile.{NewFile}
-use Rattle.fv_build.specs.Files.{file_size}
-use Rattle.fv_build.specs.Reading.{AreEach}
-use Rattle.fv_build.specs.Placing.{gap}
-use Rattle.fv_build.specs.Sections.{section_size, body_bytes}
-use Rattle.fv_build.proofs.Sizes.{saturated, size_of, length-body_more}
+use Rattle.fv_volume.specs.declared.build.file_system.FileSystem.{FileSystem}
+use Rattle.fv_volume.specs.declared.build.new_file.NewFile.{NewFile}
+use Rattle.fv_volume.specs.Files.{file_size}
+use Rattle.fv_volume.specs.Reading.{AreEach}
+use Rattle.fv_volume.specs.Placing.{gap}
+use Rattle.fv_volume.specs.Sections.{section_size, body_bytes}
+use Rattle.fv_volume.proofs.Sizes.{saturated, size_of, length-body_more}
 use Rattle.fv_volume.specs.declared.sections.section.Section.{Section}
 use Rattle.fv_volume.specs.Stream.{AreInside}
 use Rattle.volume_print.specs.Description.{section_in}

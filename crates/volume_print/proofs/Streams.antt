@@ -1,8 +1,8 @@
 -- By which sections a body is told.
 use Rattle.std.proofs.Common.{◌≡◌, inr, ℕ, ◌<◌, false, List, length, map, Some, None, arith}
 use Rattle.std.specs.Prelude.{◌==◌}
-use Rattle.fv_build.specs.declared.file_system.FileSystem.{FileSystem}
-use Rattle.fv_build.specs.Sections.{body_bytes}
+use Rattle.fv_volume.specs.declared.build.file_system.FileSystem.{FileSystem}
+use Rattle.fv_volume.specs.Sections.{body_bytes}
 use Rattle.fv_volume.specs.declared.sections.section.Section.{Section}
 use Rattle.volume_print.specs.Description.{section_in, IsStream}
 use Rattle.volume_print.specs.Finding.{held, ReadsSections}

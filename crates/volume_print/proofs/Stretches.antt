@@ -5,9 +5,9 @@ use Rattle.std.proofs.lemmas.List.{append-nil, length-drop}
 use Rattle.std.specs.Prelude.{nat_lt, ◌&&◌}
 use Rattle.pi_base.specs.declared.guid.Guid.{Guid}
 use Rattle.pi_base.specs.Guids.{guid_at}
-use Rattle.fv_build.specs.declared.attributes.FileAttributes.{FileAttributes}
-use Rattle.fv_build.specs.Attributes.{plain_attributes}
-use Rattle.fv_build.specs.declared.new_file.NewFile.{NewFile}
+use Rattle.fv_volume.specs.declared.build.attributes.FileAttributes.{FileAttributes}
+use Rattle.fv_volume.specs.Attributes.{plain_attributes}
+use Rattle.fv_volume.specs.declared.build.new_file.NewFile.{NewFile}
 use Rattle.volume_print.specs.Places.{pad_of, pieces, pads_in}
 use Rattle.volume_print.specs.Spelling.{are_erased, head_line, body_line, pad_line, pad_text}
 

@@ -11,22 +11,22 @@ use Rattle.fv_volume.specs.Volume.{IsVolume}
 use Rattle.fv_volume.specs.declared.sections.section.Section.{Section}
 use Rattle.fv_volume.specs.declared.sections.fault.SecFault.{SecFault}
 use Rattle.fv_volume.specs.Stream.{AreInside, AreSections, IsFirstFault}
-use Rattle.fv_build.specs.declared.file_system.FileSystem.{FileSystem}
-use Rattle.fv_build.specs.declared.file_system.FileSystem.TheVariants.{Ffs2, Ffs3}
-use Rattle.fv_build.specs.declared.volume_header.VolumeForm.{VolumeForm}
-use Rattle.fv_build.specs.declared.volume_name.VolumeName.{VolumeName}
-use Rattle.fv_build.specs.declared.volume_name.TheConstants.{EXT_HEADER_LEN}
-use Rattle.fv_build.specs.Front.{first_place}
-use Rattle.fv_build.specs.declared.new_file.NewFile.{NewFile}
-use Rattle.fv_build.specs.declared.new_file.NewSection.{NewSection}
-use Rattle.fv_build.specs.declared.new_file.Body.{Body}
-use Rattle.fv_build.specs.declared.new_file.Body.TheVariants.{Sections, Bytes}
-use Rattle.fv_build.specs.Attributes.{attributes_in}
-use Rattle.fv_build.specs.Sections.{body_bytes}
-use Rattle.fv_build.specs.Header.{plain}
+use Rattle.fv_volume.specs.declared.build.file_system.FileSystem.{FileSystem}
+use Rattle.fv_volume.specs.declared.build.file_system.FileSystem.TheVariants.{Ffs2, Ffs3}
+use Rattle.fv_volume.specs.declared.build.volume_header.VolumeForm.{VolumeForm}
+use Rattle.fv_volume.specs.declared.build.volume_name.VolumeName.{VolumeName}
+use Rattle.fv_volume.specs.declared.build.volume_name.TheConstants.{EXT_HEADER_LEN}
+use Rattle.fv_volume.specs.Front.{first_place}
+use Rattle.fv_volume.specs.declared.build.new_file.NewFile.{NewFile}
+use Rattle.fv_volume.specs.declared.build.new_file.NewSection.{NewSection}
+use Rattle.fv_volume.specs.declared.build.new_file.Body.{Body}
+use Rattle.fv_volume.specs.declared.build.new_file.Body.TheVariants.{Sections, Bytes}
+use Rattle.fv_volume.specs.Attributes.{attributes_in}
+use Rattle.fv_volume.specs.Sections.{body_bytes}
+use Rattle.fv_volume.specs.Header.{plain}
 use Rattle.pi_base.specs.declared.guid.TheConstants.{GUID_LEN}
-use Rattle.fv_build.specs.Reading.{AreEach}
-use Rattle.catalog_model.specs.declared.limits.TheConstants.{MOST_DEPTH}
+use Rattle.fv_volume.specs.Reading.{AreEach}
+use Rattle.mod_catalog.specs.declared.limits.TheConstants.{MOST_DEPTH}
 use Rattle.volume_text.specs.Text.{Leads}
 use Rattle.volume_print.specs.Places.{pads_before, rooms}
 use Rattle.volume_print.specs.Spelling.{IsVolumeText}

@@ -3,7 +3,7 @@ use Rattle.std.specs.Prelude.{◌≡◌, ℕ, ◌-◌, ◌^◌, ◌≤◌, false
 use Rattle.pi_base.specs.declared.phase.Phase.{Phase}
 use Rattle.pi_base.specs.declared.phase.Phase.TheVariants.{Pei, Dxe}
 use Rattle.fv_volume.specs.declared.sections.section_type.TheConstants.{PEI_DEPEX, DXE_DEPEX}
-use Rattle.fv_build.specs.declared.new_file.NewSection.{NewSection}
+use Rattle.fv_volume.specs.declared.build.new_file.NewSection.{NewSection}
 use Rattle.depex_code.specs.declared.depex.Depex.{Depex}
 use Rattle.act_code.specs.declared.script.Script.{Script}
 use Rattle.act_code.specs.Script.{IsScript}
@@ -17,11 +17,11 @@ use Rattle.fv_volume.specs.declared.file.FfsFile.{FfsFile}
 use Rattle.fv_volume.specs.declared.volume.Volume.{Volume}
 use Rattle.fv_volume.specs.Volume.{IsVolume}
 use Rattle.volume_text.specs.Text.{Leads}
-use Rattle.fv_build.specs.declared.new_file.NewFile.{NewFile}
-use Rattle.fv_build.specs.declared.new_file.Body.{Body}
-use Rattle.fv_build.specs.declared.file_system.FileSystem.{FileSystem}
-use Rattle.fv_build.specs.Files.{bytes_in}
-use Rattle.fv_build.specs.Reading.{AreEach}
+use Rattle.fv_volume.specs.declared.build.new_file.NewFile.{NewFile}
+use Rattle.fv_volume.specs.declared.build.new_file.Body.{Body}
+use Rattle.fv_volume.specs.declared.build.file_system.FileSystem.{FileSystem}
+use Rattle.fv_volume.specs.Files.{bytes_in}
+use Rattle.fv_volume.specs.Reading.{AreEach}
 use Rattle.volume_print.specs.Spelling.{IsExpressionOf, SaysExpression, is_guid_list, SaysScript, SaysVolume, IsSectionText, AreSectionTexts, IsBodyText, IsFileText, expression_line, guids_line, script_lines, section_line, whole, pad_text, with_pads}
 use Rattle.volume_print.specs.Description.{IsBodyIn, IsFileIn}
 use Rattle.volume_print.specs.Places.{room_of, rooms, between, pads_in, behind, behind_all, pads_before}

@@ -1,14 +1,14 @@
 // A file's own line, and what is found of its body.
 ghost use Rattle.std.specs.Prelude.{◌≡◌, ◌≤◌, ◌<◌, ◌+◌, ◌++◌, length, slice_index, take, drop, OnOk, IfOk};
-ghost use Rattle.fv_build.specs.Attributes.{attributes_in};
+ghost use Rattle.fv_volume.specs.Attributes.{attributes_in};
 ghost use Rattle.volume_print.specs.Spelling.{fixed_words, alignment_words, body_line, head_line};
 ghost use Rattle.volume_print.specs.Description.{IsStream};
 ghost use Rattle.volume_print.specs.Finding.{ReadsSections};
 
 use crate::place::sections_len;
 use crate::word::{put_bytes, put_decimal, put_guid, put_type};
-use fv_build::{Alignment, FileAttributes, FileSystem};
 use fv_volume::FfsFile;
+use fv_volume::build::{Alignment, FileAttributes, FileSystem};
 use fv_volume::file_header::ATTRIBUTES_AT;
 use fv_volume::file_type::RAW;
 use fv_volume::sections::{SecCause, Section, read_sections};

@@ -8,11 +8,11 @@ ghost use Rattle.volume_print.specs.Spelling.{is_a_priori, is_guid_list};
 ghost use Rattle.volume_print.specs.Finding.{depex_phase, FindsExpression, FindsScript, IsPlainForm, TellsExpression, TellsScript};
 
 use act_code::{ActCause, Script, one_outcome, read_script};
-use catalog_model::{DXE_APRIORI, PEI_APRIORI};
 use depex_code::{Depex, DepexFault, one_reading, read_depex, write_depex};
 use fv_volume::file_type::FREEFORM;
 use fv_volume::sections::Section;
 use fv_volume::sections::section_type::{DXE_DEPEX, PEI_DEPEX, RAW};
+use mod_catalog::{DXE_APRIORI, PEI_APRIORI};
 use pi_base::{GUID_LEN, Guid, OutOfMemory, Phase, Seq};
 use std::alloc::Global;
 use volume_text::{has_part, is_script};

@@ -1,6 +1,6 @@
 //! The text of a volume that a reader accepts (own format, that of `volume_text`): what each line says of it.
 //!
-//! Tried in `source_trials`: `printed_volumes`.
+//! Tried in `volume_trials`: `printed_volumes`.
 #![tactic(auto)]
 
 mod file;

@@ -5,7 +5,7 @@ ghost use Rattle.volume_print.specs.Spelling.{are_erased, pad_line, pad_text};
 
 use crate::file::{put_head, put_plain_body};
 use crate::word::put_decimal;
-use fv_build::FileAttributes;
+use fv_volume::build::FileAttributes;
 use fv_volume::file_header::HEADER_LEN as FILE_HEADER_LEN;
 use fv_volume::file_type::PAD;
 use pi_base::{Guid, OutOfMemory, Seq};

@@ -2,12 +2,12 @@
 ghost use Rattle.std.specs.Prelude.{◌≡◌, ◌-◌, ◌^◌, ◌+◌, length, map, min};
 ghost use Rattle.fv_volume.specs.Stream.{AreInside};
 ghost use Rattle.fv_volume.specs.Frame.{aligned};
-ghost use Rattle.fv_build.specs.Sections.{body_bytes};
+ghost use Rattle.fv_volume.specs.Sections.{body_bytes};
 ghost use Rattle.volume_print.specs.Description.{section_in};
 ghost use Rattle.volume_print.specs.Places.{stands};
 
-use fv_build::{FileSystem, gap, section_size};
 use fv_volume::ALIGNMENT;
+use fv_volume::build::{FileSystem, gap, section_size};
 use fv_volume::file_header::HEADER_LEN as FILE_HEADER_LEN;
 use fv_volume::sections::Section;
 

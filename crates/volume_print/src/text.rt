@@ -4,8 +4,8 @@ ghost use Rattle.fv_volume.specs.Volume.{IsFirstFault};
 ghost use Rattle.volume_print.specs.Description.{IsTextOf};
 
 use crate::tree::text_by;
-use catalog_model::MOST_DEPTH;
 use fv_volume::{VolCause, VolFault, read_volume};
+use mod_catalog::MOST_DEPTH;
 use pi_base::Seq;
 use std::alloc::Global;
 

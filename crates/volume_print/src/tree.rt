@@ -14,7 +14,7 @@ use crate::pad::{between, put_pads};
 use crate::place::{behind, sections_len, stands};
 use crate::section::put_form;
 use crate::volume::{form_in, name_in, put_head as put_volume_head, put_name};
-use fv_build::{FileSystem, file_size, first_place};
+use fv_volume::build::{FileSystem, file_size, first_place};
 use fv_volume::sections::Section;
 use fv_volume::{FfsFile, Volume, one_reading};
 use pi_base::{OutOfMemory, Seq};

@@ -4,7 +4,7 @@ ghost use Rattle.volume_print.specs.Spelling.{attribute_words, number_words, vol
 ghost use Rattle.volume_print.specs.Description.{told_attributes, form_in, name_at, name_in};
 
 use crate::word::{put_decimal, put_guid, put_hexadecimal, system_word};
-use fv_build::{EXT_AT, EXT_HEADER_LEN, FileSystem, HEADER_LEN, VolumeForm, VolumeName};
+use fv_volume::build::{EXT_AT, EXT_HEADER_LEN, FileSystem, HEADER_LEN, VolumeForm, VolumeName};
 use fv_volume::volume_header::{
     ATTRIBUTES_AT, ERASE_POLARITY, EXT_HEADER_OFFSET_AT, FFS3, FILE_SYSTEM_AT, HEADER_LENGTH_AT,
     LEAST_LEN,

@@ -4,7 +4,7 @@ ghost use Rattle.hex.specs.Hex.{encode_lower};
 ghost use Rattle.pi_base.specs.WordText.{guid_text, hexadecimal};
 ghost use Rattle.volume_print.specs.Spelling.{phase_word, system_word, type_word};
 
-use fv_build::FileSystem;
+use fv_volume::build::FileSystem;
 use fv_volume::file_type::{
     COMBINED_MM_DXE, COMBINED_PEIM_DRIVER, DRIVER, FREEFORM, PEIM, RAW, VOLUME_IMAGE,
 };

@@ -5,11 +5,11 @@ use Rattle.std.proofs.lemmas.Bool.Decides.{nat_tests}
 use Rattle.std.specs.Prelude.{nat_lt, nat_le, ◌&&◌, if◌then◌else◌}
 use Rattle.volume_text.specs.declared.fault.Cause.{Cause}
 use Rattle.volume_text.specs.declared.fault.Cause.TheVariants.{Range}
-use Rattle.fv_build.specs.declared.fault.BuildFault.{BuildFault}
-use Rattle.fv_build.specs.declared.fault.BuildFault.TheVariants.{TooMany, Size, NoRoom, Memory}
-use Rattle.fv_build.specs.Building.{volume_bytes, volume_fault, IsRefusal}
-use Rattle.fv_build.specs.Header.{is_header_length}
-use Rattle.fv_build.specs.Front.{is_placed}
+use Rattle.fv_volume.specs.declared.build.fault.BuildFault.{BuildFault}
+use Rattle.fv_volume.specs.declared.build.fault.BuildFault.TheVariants.{TooMany, Size, NoRoom, Memory}
+use Rattle.fv_volume.specs.Building.{volume_bytes, volume_fault, IsRefusal}
+use Rattle.fv_volume.specs.Header.{is_header_length}
+use Rattle.fv_volume.specs.Front.{is_placed}
 use Rattle.volume_text.specs.declared.volume.OpenVolume.{OpenVolume}
 use Rattle.volume_text.specs.Reading.{Stops}
 use Rattle.volume_text.specs.Words.{is_length, is_header}

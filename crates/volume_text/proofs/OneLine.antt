@@ -3,18 +3,18 @@ use Rattle.std.proofs.Common.{◌≡◌, ◌⊎◌, inl, inr, ℕ, ◌<◌, ◌�
 use Rattle.pi_base.specs.declared.phase.Phase.{Phase}
 use Rattle.depex_code.specs.declared.depex.Depex.{Depex}
 use Rattle.depex_code.specs.Expression.{instructions, bytes_of as opcode_bytes}
-use Rattle.depex_words.specs.declared.fault.ExpressionFault.{ExpressionFault}
-use Rattle.depex_words.specs.declared.fault.ExpressionFault.TheVariants as expression_fault
-use Rattle.depex_words.specs.Tokens.{token_of}
-use Rattle.depex_words.specs.Cause.{expression_cause}
-use Rattle.depex_words.proofs.Says.{are_pass, are_one}
+use Rattle.source_words.specs.declared.depex.fault.ExpressionFault.{ExpressionFault}
+use Rattle.source_words.specs.declared.depex.fault.ExpressionFault.TheVariants as expression_fault
+use Rattle.source_words.specs.Tokens.{token_of}
+use Rattle.source_words.specs.Cause.{expression_cause}
+use Rattle.source_words.proofs.Says.{are_pass, are_one}
 use Rattle.fv_volume.specs.declared.sections.section_type.TheConstants.{RAW}
 use Rattle.act_code.specs.declared.script.Script.{Script}
 use Rattle.act_code.specs.Script.{script_bytes}
-use Rattle.script_words.specs.declared.script.ScriptCause.{ScriptCause}
-use Rattle.script_words.specs.declared.script.ScriptFault.{ScriptFault}
-use Rattle.script_words.specs.declared.script.ScriptFault.TheVariants.{Bad, TooLong, Memory}
-use Rattle.script_words.specs.Script.{IsUnfit, IsWhole, first_fault, line_causes}
+use Rattle.source_words.specs.declared.script.script.ScriptCause.{ScriptCause}
+use Rattle.source_words.specs.declared.script.script.ScriptFault.{ScriptFault}
+use Rattle.source_words.specs.declared.script.script.ScriptFault.TheVariants.{Bad, TooLong, Memory}
+use Rattle.source_words.specs.Script.{IsUnfit, IsWhole, first_fault, line_causes}
 use Rattle.volume_text.specs.declared.fault.Cause.{Cause}
 use Rattle.volume_text.specs.declared.fault.Cause.TheVariants as cause
 use Rattle.volume_text.specs.declared.fault.Fault.{Fault}

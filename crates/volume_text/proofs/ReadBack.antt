@@ -1,12 +1,12 @@
 -- A volume that a text describes is read again as the name and the files that its lines say.
 use Rattle.std.proofs.Common.{◌≡◌, ℕ, Bool, true, false, cond, List, Option, Some, None, Result, Ok, Err, refl, sym, subst, arith, All}
-use Rattle.fv_build.specs.declared.fault.BuildFault.{BuildFault}
-use Rattle.fv_build.specs.declared.fault.BuildFault.TheVariants.{TooMany, Size, NoRoom, Memory}
-use Rattle.fv_build.specs.declared.volume_name.VolumeName.{VolumeName}
-use Rattle.fv_build.specs.Files.{HasWholeName}
-use Rattle.fv_build.specs.Building.{volume_bytes, volume_fault}
-use Rattle.fv_build.specs.Reading.{IsWhole, IsReadAs, IsReadBack}
-use Rattle.fv_build.proofs.VolumesRead.{read_as, read_back}
+use Rattle.fv_volume.specs.declared.build.fault.BuildFault.{BuildFault}
+use Rattle.fv_volume.specs.declared.build.fault.BuildFault.TheVariants.{TooMany, Size, NoRoom, Memory}
+use Rattle.fv_volume.specs.declared.build.volume_name.VolumeName.{VolumeName}
+use Rattle.fv_volume.specs.Files.{HasWholeName}
+use Rattle.fv_volume.specs.Building.{volume_bytes, volume_fault}
+use Rattle.fv_volume.specs.Reading.{IsWhole, IsReadAs, IsReadBack}
+use Rattle.fv_volume.proofs.VolumesRead.{read_as, read_back}
 use Rattle.volume_text.specs.declared.fault.Cause.{Cause}
 use Rattle.volume_text.specs.declared.fault.Cause.TheVariants as cause
 use Rattle.volume_text.specs.declared.volume.OpenVolume.{OpenVolume}

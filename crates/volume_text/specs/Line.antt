@@ -3,11 +3,11 @@ use Rattle.std.specs.Prelude.{◌≡◌, ◌⊎◌, ℕ, ◌<◌, ◌≤◌, Lis
 use Rattle.pi_base.specs.declared.phase.Phase.{Phase}
 use Rattle.depex_code.specs.declared.depex.Depex.{Depex}
 use Rattle.depex_code.specs.Expression.{IsOfPhase, instructions, bytes_of as opcode_bytes}
-use Rattle.depex_words.specs.declared.fault.ExpressionFault.{ExpressionFault}
-use Rattle.depex_words.specs.declared.fault.ExpressionFault.TheVariants as expression_fault
-use Rattle.depex_words.specs.Tokens.{token_of}
-use Rattle.depex_words.specs.Cause.{expression_cause}
-use Rattle.depex_words.specs.Expression.{AreOf}
+use Rattle.source_words.specs.declared.depex.fault.ExpressionFault.{ExpressionFault}
+use Rattle.source_words.specs.declared.depex.fault.ExpressionFault.TheVariants as expression_fault
+use Rattle.source_words.specs.Tokens.{token_of}
+use Rattle.source_words.specs.Cause.{expression_cause}
+use Rattle.source_words.specs.Expression.{AreOf}
 use Rattle.fv_volume.specs.declared.sections.section_type.TheConstants.{RAW}
 use Rattle.source_words.specs.Words.{words}
 use Rattle.volume_text.specs.declared.fault.Cause.{Cause}

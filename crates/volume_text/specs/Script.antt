@@ -3,12 +3,12 @@ use Rattle.std.specs.Prelude.{◌≡◌, ℕ, List, [], ◌∷◌, ◌++◌, sli
 use Rattle.pi_base.specs.declared.phase.Phase.{Phase}
 use Rattle.act_code.specs.declared.action.Action.{Action}
 use Rattle.act_code.specs.declared.script.Script.{Script}
-use Rattle.script_words.specs.declared.fault.LineFault.{LineFault}
-use Rattle.script_words.specs.declared.script.ScriptCause.TheVariants.{NoBlock}
-use Rattle.script_words.specs.declared.script.ScriptFault.{ScriptFault}
-use Rattle.script_words.specs.declared.script.ScriptFault.TheVariants.{Bad, TooLong, Memory}
-use Rattle.script_words.specs.Action.{action_of}
-use Rattle.script_words.specs.Script.{IsUnfit, IsWhole}
+use Rattle.source_words.specs.declared.script.fault.LineFault.{LineFault}
+use Rattle.source_words.specs.declared.script.script.ScriptCause.TheVariants.{NoBlock}
+use Rattle.source_words.specs.declared.script.script.ScriptFault.{ScriptFault}
+use Rattle.source_words.specs.declared.script.script.ScriptFault.TheVariants.{Bad, TooLong, Memory}
+use Rattle.source_words.specs.Action.{action_of}
+use Rattle.source_words.specs.Script.{IsUnfit, IsWhole}
 use Rattle.volume_text.specs.declared.fault.Cause.{Cause}
 use Rattle.volume_text.specs.declared.fault.Cause.TheVariants as cause
 use Rattle.volume_text.specs.declared.fault.Fault.{Fault}

@@ -1,12 +1,12 @@
 -- What lines say, as whole lists (own): the blocks of a script, the files of a volume, and a volume.
 use Rattle.std.specs.Prelude.{◌≡◌, ℕ, true, false, List, [], ◌∷◌, ◌++◌, Option, Some, None, Ok}
 use Rattle.pi_base.specs.declared.guid.Guid.{Guid}
-use Rattle.fv_build.specs.declared.volume_name.VolumeName.{VolumeName}
-use Rattle.fv_build.specs.Front.{is_placed}
+use Rattle.fv_volume.specs.declared.build.volume_name.VolumeName.{VolumeName}
+use Rattle.fv_volume.specs.Front.{is_placed}
 use Rattle.pi_base.specs.declared.phase.Phase.{Phase}
 use Rattle.fv_volume.specs.declared.sections.section_type.TheConstants.{RAW, VOLUME_IMAGE}
-use Rattle.fv_build.specs.declared.new_file.NewFile.{NewFile}
-use Rattle.fv_build.specs.declared.attributes.FileAttributes.{FileAttributes}
+use Rattle.fv_volume.specs.declared.build.new_file.NewFile.{NewFile}
+use Rattle.fv_volume.specs.declared.build.attributes.FileAttributes.{FileAttributes}
 use Rattle.act_code.specs.declared.action.Action.{Action}
 use Rattle.act_code.specs.Script.{IsScript}
 use Rattle.volume_text.specs.declared.statement.Statement.{Statement}

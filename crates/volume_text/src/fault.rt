@@ -3,9 +3,9 @@ ghost use Rattle.std.specs.Prelude.{◌≡◌};
 ghost use Rattle.volume_text.specs.declared.fault.Stop.TheVariants as stop;
 ghost use Rattle.volume_text.specs.declared.fault.TextFault.TheVariants as text_fault;
 
-use depex_words::ExpressionFault;
 use pi_base::OutOfMemory;
-use script_words::{LineFault, ScriptCause};
+use source_words::depex::ExpressionFault;
+use source_words::script::{LineFault, ScriptCause};
 use std::fmt::{self, Display, Formatter};
 use thiserror::Error;
 

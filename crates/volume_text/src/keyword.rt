@@ -2,7 +2,7 @@
 ghost use Rattle.std.specs.Prelude.{◌≡◌};
 ghost use Rattle.volume_text.specs.Keywords.{plain_keyword_of, keyword_of, phase_of, system_of, byte_of, file_type_of};
 
-use fv_build::FileSystem;
+use fv_volume::build::FileSystem;
 use fv_volume::file_type::{
     COMBINED_MM_DXE, COMBINED_PEIM_DRIVER, DRIVER, FREEFORM, PEIM, RAW, VOLUME_IMAGE,
 };

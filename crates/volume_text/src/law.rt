@@ -1,7 +1,7 @@
 // The laws of texts.
 ghost use Rattle.std.specs.Prelude.{◌≡◌, ℕ, List, None, Ok, Err, All};
-ghost use Rattle.fv_build.specs.Files.{HasWholeName};
-ghost use Rattle.fv_build.specs.Reading.{IsReadBack};
+ghost use Rattle.fv_volume.specs.Files.{HasWholeName};
+ghost use Rattle.fv_volume.specs.Reading.{IsReadBack};
 ghost use Rattle.volume_text.specs.declared.fault.Cause.{Cause};
 ghost use Rattle.volume_text.specs.declared.fault.Fault.{Fault};
 ghost use Rattle.volume_text.specs.declared.fault.TextFault.TheVariants.{Bad};

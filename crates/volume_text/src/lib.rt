@@ -1,6 +1,6 @@
 //! Firmware volumes from texts that people write (own format): what each line says, and the bytes of the volume that the lines describe, or the first line at fault.
 //!
-//! Tried in `source_trials`: `volume_texts`.
+//! Tried in `volume_trials`: `volume_texts`.
 #![tactic(auto)]
 
 mod bytes;

@@ -13,10 +13,10 @@ use crate::word::{
     section_type, size, system, word,
 };
 use depex_code::write_depex;
-use depex_words::{ExpressionFault, read_expression};
-use fv_build::{VolumeForm, VolumeName};
+use fv_volume::build::{VolumeForm, VolumeName};
 use fv_volume::sections::section_type::RAW;
 use pi_base::{OutOfMemory, Phase, Seq};
+use source_words::depex::{ExpressionFault, read_expression};
 use std::alloc::Global;
 
 // `volume LENGTH`, and behind it `ffs2` or `ffs3`, `header NUMBER` and `attributes NUMBER`, all behind the first word, as in all that follow.

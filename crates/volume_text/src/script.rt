@@ -1,13 +1,13 @@
 // A script whose lines are read one by one.
 ghost use Rattle.std.specs.Prelude.{◌≡◌, Ok, IfOk};
-ghost use Rattle.script_words.specs.Script.{AreSaid, IsSaid};
+ghost use Rattle.source_words.specs.Script.{AreSaid, IsSaid};
 ghost use Rattle.volume_text.specs.Reading.{Gives, Answers};
 ghost use Rattle.volume_text.specs.Script.{last_block, with_block, action_at, with_action, line_at, IsScriptBody};
 
 use crate::fault::{Cause, Fault, Stop, TextFault};
 use act_code::{Action, Script};
 use pi_base::{Phase, Seq};
-use script_words::{ScriptCause, ScriptFault, read_action, whole_script};
+use source_words::script::{ScriptCause, ScriptFault, read_action, whole_script};
 use std::alloc::Global;
 
 // All blocks but the last, and the last.
@@ -38,8 +38,8 @@ fn action(alloc: Global, phase: Phase, line: &[u8]) -> Result<Action, Stop>
 {
     match read_action(alloc, phase, line) {
         Ok(action) => Ok(action),
-        Err(script_words::Stop::Fault(fault)) => Err(Stop::Fault(Cause::Action(fault))),
-        Err(script_words::Stop::Memory) => Err(Stop::Memory),
+        Err(source_words::script::Stop::Fault(fault)) => Err(Stop::Fault(Cause::Action(fault))),
+        Err(source_words::script::Stop::Memory) => Err(Stop::Memory),
     }
 }
 

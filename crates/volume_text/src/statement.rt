@@ -1,5 +1,5 @@
 // What a line says.
-use fv_build::{FileAttributes, VolumeForm, VolumeName};
+use fv_volume::build::{FileAttributes, VolumeForm, VolumeName};
 use pi_base::{Guid, Phase, Seq};
 
 /// What a line says.

@@ -2,7 +2,7 @@
 ghost use Rattle.std.specs.Prelude.{◌≡◌, IfOk};
 ghost use Rattle.volume_text.specs.Reading.{Gives, Answers};
 ghost use Rattle.volume_text.specs.Step.{IsSaidState, begun, with_top, filling, nested, with_depex, with_script, last_volume, closed, filled, written, at_line, EndsScript, goes_on, TakesInScript, outside, Takes, Steps};
-ghost use Rattle.script_words.specs.Script.{AreSaid};
+ghost use Rattle.source_words.specs.Script.{AreSaid};
 
 use crate::fault::{Cause, Fault, Stop, TextFault};
 use crate::line::read_line;
@@ -13,7 +13,7 @@ use crate::volume::{
     with_name, with_pad, with_section,
 };
 use act_code::Script;
-use fv_build::{NewSection, VolumeForm};
+use fv_volume::build::{NewSection, VolumeForm};
 use fv_volume::sections::section_type::{RAW, VOLUME_IMAGE};
 use pi_base::{Phase, Seq};
 use std::alloc::Global;

@@ -6,7 +6,7 @@ ghost use Rattle.volume_text.specs.Open.{last_of, holding, is_empty, with_bytes,
 
 use crate::fault::{Cause, Stop};
 use crate::word::{is_header, is_length};
-use fv_build::{
+use fv_volume::build::{
     Body, BuildFault, FileAttributes, NewFile, NewSection, VolumeForm, VolumeName, build, is_placed,
 };
 use fv_volume::file_type::{COMBINED_MM_DXE, DRIVER, PAD, PEIM};

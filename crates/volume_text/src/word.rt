@@ -6,7 +6,7 @@ ghost use Rattle.volume_text.specs.Words.{word_at, none_left, guid_at, phase_at,
 
 use crate::fault::{Cause, Stop};
 use crate::keyword::{byte_of, file_type_of, phase_of, system_of};
-use fv_build::{
+use fv_volume::build::{
     Alignment, EXT_AT, EXT_HEADER_LEN, FileAttributes, FileSystem, HEADER_LEN, MOST_LEN,
     is_header_length,
 };

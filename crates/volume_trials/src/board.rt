@@ -1,5 +1,5 @@
 // One volume byte by byte, and what the tests put others together from.
-use catalog_model::{DXE_APRIORI, PEI_APRIORI};
+use mod_catalog::{DXE_APRIORI, PEI_APRIORI};
 use pi_base::{Guid, put_u16, put_u64, sum8, sum16};
 use std::alloc::Global;
 use std::process::Abort;

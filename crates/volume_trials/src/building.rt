@@ -1,10 +1,10 @@
 // Volumes that are built from lists of files, byte by byte, and each fault at its edge.
 ghost use Rattle.std.specs.Prelude.{◌≤◌};
-ghost use Rattle.fv_build.specs.declared.volume.TheConstants.{MOST_LEN};
+ghost use Rattle.fv_volume.specs.declared.build.volume.TheConstants.{MOST_LEN};
 
 use crate::board::{ONE_PEIM, add, guid};
 use crate::volumes::lists;
-use fv_build::{
+use fv_volume::build::{
     Body, BuildFault, FileAttributes, MOST_MODULES, NewFile, NewSection, build_volume,
     build_volume3, generate,
 };

@@ -1,8 +1,7 @@
 // The catalogue of a plan's images, or their fault.
 use crate::board::{File, volume_of};
 use boot_plan::read_plan;
-use catalog_model::{Catalog, ImageCause, ImageFault};
-use mod_catalog::catalog;
+use mod_catalog::{Catalog, ImageCause, ImageFault, catalog};
 use pi_base::Seq;
 use std::alloc::Global;
 use std::process::Abort;

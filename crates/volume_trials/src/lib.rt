@@ -1,6 +1,8 @@
-//! Firmware volumes, their files and sections, how they are built and what is found in them, tried byte by byte.
+//! Firmware volumes, their files and sections, how they are built and what is found in them, tried byte by byte; and what the text of a volume says, tried row by row: expressions as GenDepex of EDK2 spells them, the lines of actions, whole texts with their scripts, and the texts that are printed of volumes.
 #![tactic(auto)]
 
+#[cfg(test)]
+mod action_lines;
 #[cfg(test)]
 mod board;
 #[cfg(test)]
@@ -8,12 +10,20 @@ mod building;
 #[cfg(test)]
 mod catalogues;
 #[cfg(test)]
+mod expressions;
+#[cfg(test)]
+mod gendepex;
+#[cfg(test)]
 mod images;
 #[cfg(test)]
 mod parts;
 #[cfg(test)]
+mod printed_volumes;
+#[cfg(test)]
 mod sections;
 #[cfg(test)]
 mod titles;
+#[cfg(test)]
+mod volume_texts;
 #[cfg(test)]
 mod volumes;

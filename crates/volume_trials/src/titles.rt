@@ -1,7 +1,7 @@
 // The lines of a catalogue, with the names of modules.
 use crate::board::{File, SCRIPT, volume_of};
 use crate::catalogues::{ONE, catalog_of};
-use catalog_text::put_catalog;
+use explain_text::catalog::put_catalog;
 use fv_volume::file_type::{DRIVER, PEIM, VOLUME_IMAGE as VOLUME_FILE};
 use fv_volume::sections::section_type::{DXE_DEPEX, PEI_DEPEX, RAW, USER_INTERFACE, VOLUME_IMAGE};
 use pi_base::Seq;

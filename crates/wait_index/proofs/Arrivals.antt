@@ -8,7 +8,7 @@ use Rattle.std.proofs.lemmas.Option.{slice_get_within}
 use Rattle.std.proofs.lemmas.Map.Steps.{length-le_from_distinct_below}
 use Rattle.wait_index.specs.PlaceFlags.{flag}
 use Rattle.boot_model.specs.Licence.{AllDiffer}
-use Rattle.catalog_model.specs.Parts.{has_number}
+use Rattle.mod_catalog.specs.Parts.{has_number}
 use Rattle.wait_index.specs.declared.verdict.Verdict.{Verdict}
 use Rattle.wait_index.specs.declared.places.Places.{Places}
 use Rattle.wait_index.specs.Discovery.{new_standing}

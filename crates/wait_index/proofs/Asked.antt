@@ -5,11 +5,11 @@ use Rattle.std.proofs.lemmas.Bool.Decides.{Decides-eqb}
 use Rattle.pi_base.specs.declared.guid.Guid.{Guid}
 use Rattle.pi_base.specs.declared.phase.Phase.{Phase}
 use Rattle.pi_base.specs.declared.phase.Phase.TheVariants.{Pei, Dxe}
-use Rattle.catalog_model.specs.declared.catalog.Catalog.{Catalog}
+use Rattle.mod_catalog.specs.declared.catalogue.Catalog.{Catalog}
 use Rattle.boot_model.specs.DxeChoice.{is_waiting, discovered_order}
 use Rattle.boot_model.specs.DxeMachine.{DxeMachine}
 use Rattle.boot_model.specs.EvaluationBound.{part_pushes, pei_asked, dxe_asked}
-use Rattle.catalog_model.specs.Parts.{has_number}
+use Rattle.mod_catalog.specs.Parts.{has_number}
 use Rattle.boot_model.specs.PeiMachine.{PeiMachine}
 use Rattle.wait_index.specs.declared.index.WaitIndex.{WaitIndex}
 use Rattle.wait_index.specs.Dispatch.{StandsForPei, StandsForDxe}

@@ -9,16 +9,16 @@ use Rattle.pi_base.specs.declared.phase.Phase.{Phase}
 use Rattle.pi_base.specs.declared.phase.Phase.TheVariants.{Pei, Dxe}
 use Rattle.pi_base.specs.GuidMap.{value_of}
 use Rattle.boot_model.specs.declared.known_guid.TheConstants.{ARCHITECTURAL}
-use Rattle.catalog_model.specs.declared.catalog.Catalog.{Catalog}
-use Rattle.catalog_model.specs.declared.catalog.Part.{Part}
-use Rattle.catalog_model.specs.declared.catalog.PartExpr.{PartExpr}
-use Rattle.catalog_model.specs.declared.catalog.PartExpr.TheVariants as E
+use Rattle.mod_catalog.specs.declared.catalogue.Catalog.{Catalog}
+use Rattle.mod_catalog.specs.declared.catalogue.Part.{Part}
+use Rattle.mod_catalog.specs.declared.catalogue.PartExpr.{PartExpr}
+use Rattle.mod_catalog.specs.declared.catalogue.PartExpr.TheVariants as E
 use Rattle.boot_model.specs.DxeChoice.{is_waiting, is_unrequested, is_eligible_driver, first_eligible, driver_may_start, lets_driver_start}
 use Rattle.boot_model.specs.DxeMachine.{DxeMachine}
 use Rattle.boot_model.specs.Eligible.{depex_holds, lets_start, may_start, may_start_again, is_eligible}
 use Rattle.store_model.specs.HandleState.{HandleState, has_protocol}
 use Rattle.pi_base.specs.Lists.{EachPair}
-use Rattle.catalog_model.specs.Parts.{has_number, part_at}
+use Rattle.mod_catalog.specs.Parts.{has_number, part_at}
 use Rattle.boot_model.specs.PeiChoice.{rotated, next_peim}
 use Rattle.boot_model.specs.PeiMachine.{PeiMachine}
 use Rattle.store_model.specs.Service.Install.{has_ppi}

@@ -9,12 +9,12 @@ use Rattle.pi_base.specs.GuidMap.{value_of}
 use Rattle.wait_index.specs.PlaceFlags.{flag}
 use Rattle.wait_index.proofs.Flags.{none_set}
 use Rattle.boot_model.specs.declared.known_guid.TheConstants.{ARCHITECTURAL}
-use Rattle.catalog_model.specs.declared.catalog.Catalog.{Catalog}
-use Rattle.catalog_model.specs.declared.catalog.Module.{Module}
+use Rattle.mod_catalog.specs.declared.catalogue.Catalog.{Catalog}
+use Rattle.mod_catalog.specs.declared.catalogue.Module.{Module}
 use Rattle.boot_model.specs.EvaluationBound.{expression_pushes, part_pushes}
 use Rattle.pi_base.specs.Guids.{same_guid}
 use Rattle.pi_base.specs.Lists.{EachPair}
-use Rattle.catalog_model.specs.WellFormed.{part_of}
+use Rattle.mod_catalog.specs.WellFormed.{part_of}
 use Rattle.wait_index.specs.declared.installed.Installed.{Installed}
 use Rattle.wait_index.specs.declared.places.Places.{Places}
 use Rattle.wait_index.specs.declared.watch.Watch.{Watch}

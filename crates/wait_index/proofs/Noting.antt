@@ -11,16 +11,16 @@ use Rattle.depex_code.specs.declared.opcode.Opcode.TheVariants as O
 use Rattle.depex_code.specs.declared.depex.Depex.TheVariants as D
 use Rattle.depex_code.specs.Tree.{DepexTree, True, False, Push, Not, And, Or, postfix}
 use Rattle.pi_base.specs.GuidMap.{value_of}
-use Rattle.catalog_model.specs.declared.catalog.Catalog.{Catalog}
-use Rattle.catalog_model.specs.declared.catalog.Module.{Module}
-use Rattle.catalog_model.specs.declared.catalog.Part.{Part}
-use Rattle.catalog_model.specs.declared.catalog.PartExpr.{PartExpr}
-use Rattle.catalog_model.specs.declared.catalog.PartExpr.TheVariants as E
+use Rattle.mod_catalog.specs.declared.catalogue.Catalog.{Catalog}
+use Rattle.mod_catalog.specs.declared.catalogue.Module.{Module}
+use Rattle.mod_catalog.specs.declared.catalogue.Part.{Part}
+use Rattle.mod_catalog.specs.declared.catalogue.PartExpr.{PartExpr}
+use Rattle.mod_catalog.specs.declared.catalogue.PartExpr.TheVariants as E
 use Rattle.boot_model.specs.EvaluationBound.{tree_pushes, expression_pushes, part_pushes}
 use Rattle.pi_base.specs.Guids.{same_guid}
 use Rattle.pi_base.specs.Lists.{numbers}
-use Rattle.catalog_model.specs.Parts.{has_number}
-use Rattle.catalog_model.specs.WellFormed.{part_of}
+use Rattle.mod_catalog.specs.Parts.{has_number}
+use Rattle.mod_catalog.specs.WellFormed.{part_of}
 use Rattle.wait_index.specs.Index.{watchers_at, watchers_of}
 use Rattle.wait_index.specs.Watching.{opcode_pushes, code_pushes, code_in, part_code, module_code, is_one, ends_with, noted, noted_by, noted_from, AreApart, AreNoted}
 use Rattle.wait_index.proofs.Truth.{one_guid}

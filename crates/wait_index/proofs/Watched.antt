@@ -12,12 +12,12 @@ use Rattle.pi_base.specs.declared.phase.Phase.{Phase}
 use Rattle.pi_base.specs.GuidMap.{value_of}
 use Rattle.wait_index.specs.PlaceFlags.{flag}
 use Rattle.wait_index.proofs.Flags.{flag_here, flag_other}
-use Rattle.catalog_model.specs.declared.catalog.Catalog.{Catalog}
+use Rattle.mod_catalog.specs.declared.catalogue.Catalog.{Catalog}
 use Rattle.boot_model.specs.EvaluationBound.{part_pushes}
 use Rattle.pi_base.specs.Guids.{same_guid}
 use Rattle.boot_model.specs.declared.known_guid.TheConstants.{ARCHITECTURAL}
 use Rattle.pi_base.specs.Lists.{EachPair, numbers}
-use Rattle.catalog_model.specs.Parts.{has_number}
+use Rattle.mod_catalog.specs.Parts.{has_number}
 use Rattle.wait_index.specs.declared.installed.Installed.{Installed}
 use Rattle.wait_index.specs.declared.places.Places.{Places}
 use Rattle.wait_index.specs.declared.index.WaitIndex.{WaitIndex}

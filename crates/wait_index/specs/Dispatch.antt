@@ -3,12 +3,12 @@ use Rattle.std.specs.Prelude.{◌≡◌, ℕ, true, false, not, ◌&&◌, Some}
 use Rattle.pi_base.specs.declared.guid.Guid.{Guid}
 use Rattle.pi_base.specs.declared.phase.Phase.TheVariants.{Pei, Dxe}
 use Rattle.pi_base.specs.GuidMap.{value_of}
-use Rattle.catalog_model.specs.declared.catalog.Catalog.{Catalog}
+use Rattle.mod_catalog.specs.declared.catalogue.Catalog.{Catalog}
 use Rattle.boot_model.specs.DxeChoice.{discovered_order, is_waiting, is_unrequested}
 use Rattle.boot_model.specs.DxeMachine.{DxeMachine}
 use Rattle.boot_model.specs.Eligible.{may_start_again}
 use Rattle.store_model.specs.HandleState.{has_protocol}
-use Rattle.catalog_model.specs.Parts.{has_number}
+use Rattle.mod_catalog.specs.Parts.{has_number}
 use Rattle.boot_model.specs.PeiChoice.{pei_order}
 use Rattle.boot_model.specs.PeiMachine.{PeiMachine}
 use Rattle.store_model.specs.Service.Install.{has_ppi}

@@ -6,12 +6,12 @@ use Rattle.pi_base.specs.declared.phase.Phase.TheVariants.{Dxe}
 use Rattle.pi_base.specs.GuidMap.{value_of}
 use Rattle.wait_index.specs.PlaceFlags.{flag, count}
 use Rattle.boot_model.specs.declared.known_guid.TheConstants.{ARCHITECTURAL}
-use Rattle.catalog_model.specs.declared.catalog.Catalog.{Catalog}
-use Rattle.catalog_model.specs.declared.catalog.Part.{Part}
+use Rattle.mod_catalog.specs.declared.catalogue.Catalog.{Catalog}
+use Rattle.mod_catalog.specs.declared.catalogue.Part.{Part}
 use Rattle.boot_model.specs.EvaluationBound.{part_pushes}
 use Rattle.pi_base.specs.Guids.{same_guid}
 use Rattle.pi_base.specs.Lists.{EachPair, numbers}
-use Rattle.catalog_model.specs.Parts.{part_at}
+use Rattle.mod_catalog.specs.Parts.{part_at}
 use Rattle.wait_index.specs.declared.installed.Installed.{Installed}
 use Rattle.wait_index.specs.declared.standing.Standing.{Standing}
 use Rattle.wait_index.specs.declared.index.WaitIndex.{WaitIndex}

@@ -1,7 +1,7 @@
 -- The parts of the known volumes by place: how each stands, and the sets of places that follow from it.
 use Rattle.std.specs.Prelude.{◌≡◌, ℕ, ◌≤◌, Bool, true, false, ◌&&◌, ◌||◌, List, length, Some, None, unwrap_or, slice_get}
 use Rattle.wait_index.specs.PlaceFlags.{flag}
-use Rattle.catalog_model.specs.declared.limits.TheConstants.{MOST_MODULES}
+use Rattle.mod_catalog.specs.declared.limits.TheConstants.{MOST_MODULES}
 use Rattle.wait_index.specs.declared.verdict.Verdict.{Verdict}
 use Rattle.wait_index.specs.declared.verdict.Verdict.TheVariants.{No}
 use Rattle.wait_index.specs.declared.standing.Standing.{Standing}

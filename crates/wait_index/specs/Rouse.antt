@@ -1,7 +1,7 @@
 -- The expressions of modules become stale.
 use Rattle.std.specs.Prelude.{◌≡◌, ℕ, ◌+◌, ◌≤◌, Bool, true, false, ◌&&◌, List, length, filter, Some, is_some}
 use Rattle.wait_index.specs.PlaceFlags.{flag, count}
-use Rattle.catalog_model.specs.Parts.{has_number}
+use Rattle.mod_catalog.specs.Parts.{has_number}
 use Rattle.wait_index.specs.declared.places.Places.{Places}
 use Rattle.wait_index.specs.Places.{standing_of}
 

@@ -7,12 +7,12 @@ use Rattle.depex_code.specs.declared.opcode.Opcode.TheVariants as O
 use Rattle.depex_code.specs.declared.depex.Depex.TheVariants as D
 use Rattle.depex_code.specs.Tree.{postfix}
 use Rattle.pi_base.specs.GuidMap.{value_of}
-use Rattle.catalog_model.specs.declared.catalog.Module.{Module}
-use Rattle.catalog_model.specs.declared.catalog.Part.{Part}
-use Rattle.catalog_model.specs.declared.catalog.PartExpr.{PartExpr}
-use Rattle.catalog_model.specs.declared.catalog.PartExpr.TheVariants as E
+use Rattle.mod_catalog.specs.declared.catalogue.Module.{Module}
+use Rattle.mod_catalog.specs.declared.catalogue.Part.{Part}
+use Rattle.mod_catalog.specs.declared.catalogue.PartExpr.{PartExpr}
+use Rattle.mod_catalog.specs.declared.catalogue.PartExpr.TheVariants as E
 use Rattle.pi_base.specs.Guids.{same_guid}
-use Rattle.catalog_model.specs.WellFormed.{part_of}
+use Rattle.mod_catalog.specs.WellFormed.{part_of}
 use Rattle.wait_index.specs.declared.watch.Watch.{Watch}
 use Rattle.wait_index.specs.Index.{watchers_at}
 

@@ -2,8 +2,8 @@
 ghost use Rattle.std.specs.Prelude.{◌≡◌, ◌≤◌, [], false, length, replicate, IfOk, OnOk};
 ghost use Rattle.pi_base.specs.declared.guid.Guid.{Guid};
 ghost use Rattle.boot_model.specs.declared.known_guid.TheConstants.{ARCHITECTURAL};
-ghost use Rattle.catalog_model.specs.WellFormed.{IsWellFormed};
-ghost use Rattle.catalog_model.specs.declared.limits.TheConstants.{MOST_MODULES};
+ghost use Rattle.mod_catalog.specs.WellFormed.{IsWellFormed};
+ghost use Rattle.mod_catalog.specs.declared.limits.TheConstants.{MOST_MODULES};
 ghost use Rattle.pi_base.specs.Lists.{EachPair};
 ghost use Rattle.pi_base.specs.GuidMap.{value_of};
 ghost use Rattle.wait_index.specs.Index.{IsIndex, AreWatched, order_in, owed, has_in};
@@ -15,7 +15,7 @@ use crate::installed::Installed;
 use crate::places::Places;
 use crate::watch::{Watch, note_modules};
 use boot_model::ARCHITECTURAL;
-use catalog_model::Catalog;
+use mod_catalog::Catalog;
 use pi_base::{OutOfMemory, Phase, Seq};
 use std::alloc::Global;
 

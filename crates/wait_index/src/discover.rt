@@ -1,16 +1,16 @@
 // The parts of a volume come.
 ghost use Rattle.std.specs.Prelude.{◌≡◌, ◌≤◌, ◌<◌, ◌+◌, ◌++◌, Some, length};
-ghost use Rattle.catalog_model.specs.WellFormed.{IsWellFormed};
+ghost use Rattle.mod_catalog.specs.WellFormed.{IsWellFormed};
 ghost use Rattle.boot_model.specs.DxeChoice.{is_sor};
 ghost use Rattle.boot_model.specs.Licence.{AllDiffer};
 ghost use Rattle.pi_base.specs.Lists.{Each};
-ghost use Rattle.catalog_model.specs.Parts.{part_at};
+ghost use Rattle.mod_catalog.specs.Parts.{part_at};
 ghost use Rattle.wait_index.specs.Discovery.{HaveCome, opens};
 ghost use Rattle.wait_index.specs.Index.{IsIndex, order_in, owed};
 
 use crate::index::WaitIndex;
-use catalog_model::{Catalog, Part, PartExpr};
 use depex_code::Depex;
+use mod_catalog::{Catalog, Part, PartExpr};
 use phase_parts::part_of;
 use pi_base::Phase;
 

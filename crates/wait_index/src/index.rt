@@ -7,8 +7,8 @@ use crate::installed::Installed;
 use crate::next::next;
 use crate::places::Places;
 use crate::settle::settle;
-use catalog_model::{Catalog, well_formed_expressions_are_short};
 use depex_code::Steps;
+use mod_catalog::{Catalog, well_formed_expressions_are_short};
 use pi_base::{Guid, Phase, Seq};
 use std::sync::ledger::Ledger;
 
@@ -27,8 +27,8 @@ pub struct WaitIndex {
 impl WaitIndex {
     ghost use Rattle.std.specs.Prelude.{◌≡◌, ◌≤◌, ◌<◌, ◌+◌, ℕ, false, Some, length, find, slice_get, ◌↔◌};
     ghost use Rattle.std.specs.Option.{option_and_then};
-    ghost use Rattle.catalog_model.specs.declared.catalog.Catalog.{Catalog as OfCatalog};
-    ghost use Rattle.catalog_model.specs.WellFormed.{IsWellFormed};
+    ghost use Rattle.mod_catalog.specs.declared.catalogue.Catalog.{Catalog as OfCatalog};
+    ghost use Rattle.mod_catalog.specs.WellFormed.{IsWellFormed};
     ghost use Rattle.boot_model.specs.PeiChoice.{rotated};
     ghost use Rattle.wait_index.specs.Change.{started, again, gated};
     ghost use Rattle.wait_index.specs.Index.{IsIndex, IsSet, Changes, IsKnown, IsSame, Tells, order_in, owed, is_owed, asked, is_eligible_in, place_in};

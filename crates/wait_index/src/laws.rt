@@ -2,7 +2,7 @@
 ghost use Rattle.std.specs.Prelude.{◌≡◌, Bool, true, find};
 ghost use Rattle.pi_base.specs.declared.guid.Guid.{Guid};
 ghost use Rattle.depex_code.specs.Tree.{DepexTree, truth};
-ghost use Rattle.catalog_model.specs.declared.catalog.Catalog.{Catalog};
+ghost use Rattle.mod_catalog.specs.declared.catalogue.Catalog.{Catalog};
 ghost use Rattle.boot_model.specs.EvaluationBound.{tree_pushes, pei_asked, dxe_asked};
 ghost use Rattle.boot_model.specs.PeiMachine.{PeiMachine};
 ghost use Rattle.boot_model.specs.PeiChoice.{rotated, next_peim};

@@ -8,7 +8,7 @@ use crate::PlaceSet;
 use crate::standing::Standing;
 use crate::verdict::Verdict;
 use arrayvec::ArrayVec;
-use catalog_model::MOST_MODULES;
+use mod_catalog::MOST_MODULES;
 use pi_base::{OutOfMemory, Seq};
 use std::alloc::Global;
 

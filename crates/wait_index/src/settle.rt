@@ -3,14 +3,14 @@ ghost use Rattle.std.specs.Prelude.{◌≡◌, ◌≤◌, ◌+◌, length};
 ghost use Rattle.wait_index.specs.PlaceFlags.{count};
 ghost use Rattle.wait_index.specs.Installed.{is_there};
 ghost use Rattle.wait_index.specs.Places.{IsInOrder, IsKept, AreJudged};
-ghost use Rattle.catalog_model.specs.WellFormed.{AreShort};
+ghost use Rattle.mod_catalog.specs.WellFormed.{AreShort};
 ghost use Rattle.wait_index.specs.Verdict.{verdict_of};
 
 use crate::installed::Installed;
 use crate::places::Places;
 use crate::verdict::verdict_of;
-use catalog_model::Catalog;
 use depex_code::Steps;
+use mod_catalog::Catalog;
 use pi_base::Phase;
 use std::sync::ledger::Ledger;
 

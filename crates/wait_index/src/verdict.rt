@@ -1,15 +1,15 @@
 // What the expression of a part says over the GUIDs that are installed.
 ghost use Rattle.std.specs.Prelude.{◌≡◌, ◌≤◌, ◌+◌, if◌then◌else◌};
 ghost use Rattle.pi_base.specs.declared.phase.Phase.{Phase as OfPhase};
-ghost use Rattle.catalog_model.specs.declared.catalog.Part.{Part as OfPart};
+ghost use Rattle.mod_catalog.specs.declared.catalogue.Part.{Part as OfPart};
 ghost use Rattle.boot_model.specs.Eligible.{depex_holds};
 ghost use Rattle.wait_index.specs.Verdict.{verdict_by, absent_verdict, expression_verdict, part_verdict, verdict_of};
 ghost use Rattle.wait_index.specs.Installed.{is_there};
-ghost use Rattle.catalog_model.specs.WellFormed.{IsShortExpression, AreShort};
+ghost use Rattle.mod_catalog.specs.WellFormed.{IsShortExpression, AreShort};
 
 use crate::installed::Installed;
-use catalog_model::{Catalog, Part, PartExpr};
 use depex_code::Steps;
+use mod_catalog::{Catalog, Part, PartExpr};
 use phase_parts::{depex_holds, part_of};
 use pi_base::Phase;
 use std::sync::ledger::Ledger;

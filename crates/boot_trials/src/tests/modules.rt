@@ -2,7 +2,9 @@
 use act_code::write_script;
 use asm_text::{parse_depex, parse_script};
 use depex_code::write_depex;
-use fv_build::{Body, FileAttributes, HEADER_LEN, MOST_LEN, NewFile, NewSection, build_volume};
+use fv_volume::build::{
+    Body, FileAttributes, HEADER_LEN, MOST_LEN, NewFile, NewSection, build_volume,
+};
 use fv_volume::file_type;
 use fv_volume::sections::section_type::{DXE_DEPEX, PEI_DEPEX, RAW, VOLUME_IMAGE};
 use pi_base::{Guid, OutOfMemory, Seq};

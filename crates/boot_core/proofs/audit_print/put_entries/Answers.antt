@@ -2,7 +2,7 @@ use Rattle.std.proofs.Common.{◌+◌, drop, get_or, None, ap, ◌∙◌, arith}
 use Rattle.boot_core.specs.AuditText.{entries_text, entry_text}
 use Rattle.boot_core.proofs.Rest.{leaves_less, leaves_part}
 use Rattle.std.proofs.lemmas.List.{drop_more}
-use Rattle.catalog_model.specs.declared.catalog.VolumeEntry.{VolumeEntry}
+use Rattle.mod_catalog.specs.declared.catalogue.VolumeEntry.{VolumeEntry}
 use Rattle.boot_io.proofs.PutsLaws.{puts_err}
 use Rattle.boot_core.proofs.audit_print.put_entries.Goals as goal
 

@@ -1,5 +1,5 @@
 use Rattle.std.proofs.Common.{◌≢◌, refl, sym, true≢false}
-use Rattle.catalog_model.specs.declared.image_fault.ImageCause.TheVariants.{Memory}
+use Rattle.mod_catalog.specs.declared.image_fault.ImageCause.TheVariants.{Memory}
 use Rattle.boot_core.proofs.images.refusal_of.Goals as goal
 
 pub returns : goal.returns

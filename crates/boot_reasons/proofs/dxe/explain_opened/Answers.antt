@@ -19,7 +19,7 @@ pub run_to_end-requires-clause-opening : goal.run_to_end-requires-clause-opening
 run_to_end-requires-clause-opening g c =
     let catalog = c.args.catalog.now in
     let o = c.requires.opening in
-    let row = subst (λ volumes. Discovers catalog c.args.queue.now volumes c.discover.new.self) (c.volumes.ensures ∙ ap (λ (order : Drivers). order.volumes) c.order-2.ensures) c.in_ok-discover.ensures.row in (
+    let row = subst (λ volumes. Discovers catalog c.args.queue.now volumes c.discover.new.self) (c.volumes.ensures ∙ ap (λ (order : Drivers). order.volumes) c.order-2.ensures) c.in-Ok.ensures.row in (
       o.0,
       o.1,
       o.2,
@@ -27,28 +27,28 @@ run_to_end-requires-clause-opening g c =
           c.requires.catalog o.3 o.4 c.requires.new row c.new-told.ensures.begun c.new-told.ensures.givers,
     )
 
-pub returns-in_ok-explained-in-End : goal.returns-in_ok-explained-in-End
-returns-in_ok-explained-in-End g c = record {
+pub returns-in-Ok-explain_end : goal.returns-in-Ok-explain_end
+returns-in-Ok-explain_end g c = record {
   row = λ s actions fuel made is.
       let catalog = c.args.catalog.now in
-      let discovers = subst (λ volumes. Discovers catalog c.args.queue.now volumes c.discover.new.self) (c.volumes.ensures ∙ ap (λ (order : Drivers). order.volumes) c.order-2.ensures) c.in_ok-discover.ensures.row in
+      let discovers = subst (λ volumes. Discovers catalog c.args.queue.now volumes c.discover.new.self) (c.volumes.ensures ∙ ap (λ (order : Drivers). order.volumes) c.order-2.ensures) c.in-Ok.ensures.row in
       let at = at_opening c.dxe_opens.ensures.opens c.unrequested_drivers_wait.ensures g.M.PeiStore.stands_for c.args.store.now catalog fuel s actions c.args.dxe.now c.args.queue.now c.discover.new.self c.new-told.result
       c.requires.catalog made is c.requires.new discovers c.new-told.ensures.begun c.new-told.ensures.givers in
-      let row = rw c.in-End.is at (c.in_ok-end.ensures.row s actions fuel at) in
+      let row = rw c.in-Ok-End.field-0-is at (c.in-Ok-End.ensures.row s actions fuel at) in
       let run = row.1 in
       record {
         earlier = row.0;
         run = run.run;
-        explained = c.in_ok-explained-in-End.ensures row.0 (came catalog fuel (dxe_opening catalog s actions) row.0) run.ended run.stands_at_end run.is_told;
+        explained = c.in-Ok-explain_end.ensures row.0 (came catalog fuel (dxe_opening catalog s actions) row.0) run.ended run.stands_at_end run.is_told;
       };
 }
 
-pub returns-in-Barred : goal.returns-in-Barred
-returns-in-Barred g c = record {
+pub returns-in-Ok-Barred : goal.returns-in-Ok-Barred
+returns-in-Ok-Barred g c = record {
   row = λ s actions fuel made is.
       let catalog = c.args.catalog.now in
-      let discovers = subst (λ volumes. Discovers catalog c.args.queue.now volumes c.discover.new.self) (c.volumes.ensures ∙ ap (λ (order : Drivers). order.volumes) c.order-2.ensures) c.in_ok-discover.ensures.row in
+      let discovers = subst (λ volumes. Discovers catalog c.args.queue.now volumes c.discover.new.self) (c.volumes.ensures ∙ ap (λ (order : Drivers). order.volumes) c.order-2.ensures) c.in-Ok.ensures.row in
       let at = at_opening c.dxe_opens.ensures.opens c.unrequested_drivers_wait.ensures g.M.PeiStore.stands_for c.args.store.now catalog fuel s actions c.args.dxe.now c.args.queue.now c.discover.new.self c.new-told.result
       c.requires.catalog made is c.requires.new discovers c.new-told.ensures.begun c.new-told.ensures.givers in
-      rw c.in-Barred.is at (c.in_ok-end.ensures.row s actions fuel at);
+      rw c.in-Ok-Barred.field-0-is at (c.in-Ok-Barred.ensures.row s actions fuel at);
 }

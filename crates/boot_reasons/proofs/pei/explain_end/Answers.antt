@@ -4,6 +4,6 @@ use Rattle.boot_reasons.proofs.pei.explain_end.Goals as goal
 
 pub returns : goal.returns
 returns g c =
-    explained_so g.M.PeiStore.stands_for c.args.catalog.now c.args.pei.now c.args.queue.now c.args.told c.args.end c.in_ok-held.held c.in_ok-reported.reported c.heap_used.result
-    (λ m stand parts. c.in_ok-held.ensures m stand (c.as_slice.ensures ∙ parts)) (λ m stand. c.in_ok-reported.ensures ∙ c.reported.ensures m stand)
+    explained_so g.M.PeiStore.stands_for c.args.catalog.now c.args.pei.now c.args.queue.now c.args.told c.args.end c.in-Ok.held c.in-Ok-copied.reported c.heap_used.result
+    (λ m stand parts. c.in-Ok.ensures m stand (c.as_slice.ensures ∙ parts)) (λ m stand. c.in-Ok-copied.ensures ∙ c.reported.ensures m stand)
     (λ m stand. c.heap_used.ensures m.store (c.store.ensures m stand) tt)

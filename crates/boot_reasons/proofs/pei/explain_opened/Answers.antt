@@ -32,27 +32,27 @@ explain_end-requires g c =
     let stand = c.requires.opening.3 in
     let at = at_opening c.pei_opens.ensures.opens names lets g.M.PeiStore.stands_for board catalog fuel c.args.pei.now c.args.queue.now c.new-told.result (c.requires.queue board fuel made stand)
     c.new-told.ensures.begun c.new-told.ensures.givers c.new-told.ensures.moved in
-    let row = rw c.in-End.is at (c.in_ok-end.ensures.row board fuel (made, at)) in
-    record { state = stands_at_end names lets g.M.PeiStore.stands_for board catalog fuel c.run_to_end.new.pei c.run_to_end.new.queue c.run_to_end.new.told c.in-End.end row }
+    let row = rw c.in-Ok-End.field-0-is at (c.in-Ok-End.ensures.row board fuel (made, at)) in
+    record { state = stands_at_end names lets g.M.PeiStore.stands_for board catalog fuel c.run_to_end.new.pei c.run_to_end.new.queue c.run_to_end.new.told c.in-Ok-End.end row }
 
-pub returns-in_ok-explained-in-End : goal.returns-in_ok-explained-in-End
-returns-in_ok-explained-in-End g c = record {
+pub returns-in-Ok : goal.returns-in-Ok
+returns-in-Ok g c = record {
   row = λ board fuel made stand.
       let names = NamesUnseen (g.C.Choice.peims c.args.choice.now) in
       let lets = LetsPeims (g.C.Choice.lets_in_pei c.args.choice.now) in
       let catalog = c.args.catalog.now in
       let at = at_opening c.pei_opens.ensures.opens names lets g.M.PeiStore.stands_for board catalog fuel c.args.pei.now c.args.queue.now c.new-told.result (c.requires.queue board fuel made stand)
       c.new-told.ensures.begun c.new-told.ensures.givers c.new-told.ensures.moved in
-      let row = rw c.in-End.is at (c.in_ok-end.ensures.row board fuel (made, at)) in
-      explains_run names lets g.M.PeiStore.stands_for board catalog fuel c.run_to_end.new.pei c.run_to_end.new.queue c.run_to_end.new.told c.in-End.end c.in_ok-explained-in-End.explained row c.in_ok-explained-in-End.ensures;
+      let row = rw c.in-Ok-End.field-0-is at (c.in-Ok-End.ensures.row board fuel (made, at)) in
+      explains_run names lets g.M.PeiStore.stands_for board catalog fuel c.run_to_end.new.pei c.run_to_end.new.queue c.run_to_end.new.told c.in-Ok-End.end c.in-Ok.explained row c.in-Ok.ensures;
 }
 
-pub returns-in-Barred : goal.returns-in-Barred
-returns-in-Barred g c = record {
+pub returns-in-Ok-Barred : goal.returns-in-Ok-Barred
+returns-in-Ok-Barred g c = record {
   row = λ board fuel made stand.
       let names = NamesUnseen (g.C.Choice.peims c.args.choice.now) in
       let lets = LetsPeims (g.C.Choice.lets_in_pei c.args.choice.now) in
       let at = at_opening c.pei_opens.ensures.opens names lets g.M.PeiStore.stands_for board c.args.catalog.now fuel c.args.pei.now c.args.queue.now c.new-told.result (c.requires.queue board fuel made stand)
       c.new-told.ensures.begun c.new-told.ensures.givers c.new-told.ensures.moved in
-      rw c.in-Barred.is at (c.in_ok-end.ensures.row board fuel (made, at));
+      rw c.in-Ok-Barred.field-0-is at (c.in-Ok-Barred.ensures.row board fuel (made, at));
 }

@@ -22,8 +22,8 @@ start_or_stop-requires-clause-state g c =
     let rested = rw c.in-Ok-Idle.field-0-is at (c.in-Ok-Idle.ensures.row c.requires.state.0 c.requires.made.0 c.requires.made.1 c.requires.state.1) in
     (c.requires.state.0, rested.now, rested.idle)
 
-pub returns-in_ok-tell_step-in-Ok-Went-clause-row : goal.returns-in_ok-tell_step-in-Ok-Went-clause-row
-returns-in_ok-tell_step-in-Ok-Went-clause-row g c board fuel earlier m made at =
+pub returns-in-Ok-clause-row : goal.returns-in-Ok-clause-row
+returns-in-Ok-clause-row g c board fuel earlier m made at =
     let catalog = c.args.catalog.now in
     let names = g.C.Choice.peims c.args.choice.now in
     let lets = g.C.Choice.lets_in_pei c.args.choice.now in
@@ -32,7 +32,7 @@ returns-in_ok-tell_step-in-Ok-Went-clause-row g c board fuel earlier m made at =
     let machine = at.now.machine in
     let kept : IsKept m = record { facts = g.met.M.PeiStore.facts c.args.pei.now.store m.store machine.has.store; held = machine.sound.held } in
     let next = pei_step catalog fuel m in
-    let told = c.in_ok-tell_step-in-Ok-Went.ensures in (
+    let told = c.in-Ok.ensures in (
       next,
       went_on c.guids_change.ensures c.guids_are_these.ensures laws (NamesUnseen names) (LetsPeims lets) g.M.PeiStore.stands_for board catalog fuel earlier m c.args.pei.now c.go_on.new.pei c.args.queue.now c.go_on.new.queue
           c.args.told.now c.tell_step.new.told c.in-Ok-Went.event c.unmoved_base-from.result c.actor-actor.result _ at kept row.0 row.1 row.2

@@ -1,5 +1,5 @@
 use Rattle.std.proofs.Common.{◌≡◌, ◌+◌, length}
-use Rattle.catalog_model.specs.WellFormed.{AreNumbered}
+use Rattle.mod_catalog.specs.WellFormed.{AreNumbered}
 use Rattle.choice_trials.proofs.well_formed.are_behind_their_parents.Given as goal
 
 -- what is left to be shown, and how many volumes are left

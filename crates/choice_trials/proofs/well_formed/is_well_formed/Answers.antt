@@ -1,7 +1,7 @@
 use Rattle.std.proofs.Common.{arith, subst}
 use Rattle.std.proofs.lemmas.Bool.Decides.{nat_tests}
 use Rattle.pi_base.specs.Lists.{Ordered}
-use Rattle.catalog_model.specs.WellFormed.{AreNumbered}
+use Rattle.mod_catalog.specs.WellFormed.{AreNumbered}
 use Rattle.choice_trials.specs.Sound.{HaveOtherBases}
 use Rattle.choice_trials.proofs.Sounds.{well_formed}
 use Rattle.choice_trials.proofs.well_formed.is_well_formed.Goals as goal

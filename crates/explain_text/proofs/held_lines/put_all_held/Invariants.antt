@@ -1,5 +1,5 @@
 use Rattle.std.proofs.Common.{◌≡◌, ◌++◌, List, flat_map, take}
-use Rattle.catalog_model.specs.declared.catalog.Module.{Module}
+use Rattle.mod_catalog.specs.declared.catalogue.Module.{Module}
 use Rattle.explain_text.specs.declared.reasons.Begun.{Begun}
 use Rattle.explain_text.specs.Context.{AreContexts}
 use Rattle.explain_text.specs.HeldLines.{held_lines}

@@ -1,8 +1,8 @@
 use Rattle.std.proofs.Common.{◌≡◌, ◌≤◌, List, take, drop, length, arith, ap, sym, subst, ◌∙◌}
 use Rattle.store_model.specs.StoreState.{Range, StoreState}
 use Rattle.phys_mem.specs.declared.memory.PhysMem.{PhysMem}
-use Rattle.heap_laws.specs.Moving.{Done}
-use Rattle.heap_laws.proofs.Nodes.{drop_next}
+use Rattle.store_laws.specs.Moving.{Done}
+use Rattle.store_laws.proofs.Nodes.{drop_next}
 use Rattle.heap_store.specs.Half.{IsHalf, with_links}
 use Rattle.heap_store.specs.Linked.{Link, links_of, address, first_of}
 use Rattle.heap_store.proofs.Links.{is_link, few_links}

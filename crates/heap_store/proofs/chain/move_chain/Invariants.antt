@@ -1,7 +1,7 @@
 use Rattle.std.proofs.Common.{◌≡◌, take, drop}
 use Rattle.store_model.specs.declared.store_handle.EntryList.{EntryList}
 use Rattle.store_model.specs.StoreState.{Range, StoreState}
-use Rattle.heap_laws.specs.Moving.{Done}
+use Rattle.store_laws.specs.Moving.{Done}
 use Rattle.heap_store.specs.Half.{IsHalf, with_links}
 use Rattle.heap_store.specs.Linked.{links_of, address, first_of}
 use Rattle.heap_store.specs.Ready.{IsReady}

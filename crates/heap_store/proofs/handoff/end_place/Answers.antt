@@ -2,9 +2,9 @@ use Rattle.std.proofs.Common.{◌≡◌, ◌≤◌, ◌+◌, ℕ, List, length, 
 use Rattle.store_model.specs.StoreState.{StoreState, end_place}
 use Rattle.store_model.specs.StateFacts.{IsStoreState}
 use Rattle.store_model.specs.HeapImage.{heap_image}
-use Rattle.heap_laws.specs.Mapped.{layout_of}
-use Rattle.heap_laws.specs.Word.{word_in}
-use Rattle.heap_laws.proofs.Facts.{images_fill, has_room}
+use Rattle.store_laws.specs.Mapped.{layout_of}
+use Rattle.store_laws.specs.Word.{word_in}
+use Rattle.store_laws.proofs.Facts.{images_fill, has_room}
 use Rattle.heap_store.proofs.handoff.end_place.Goals as goal
 
 front_inside : (s : StoreState) (bytes : List ℕ) → IsStoreState s → bytes ≡ heap_image s → 48 + 8 ≤ length bytes

@@ -3,7 +3,7 @@ use Rattle.phys_mem.specs.Region.{replaced}
 use Rattle.phys_mem.specs.declared.memory.PhysMem.{PhysMem}
 use Rattle.store_model.specs.StoreState.{Range, StoreState}
 use Rattle.store_model.specs.Migration.{migrated_to}
-use Rattle.heap_laws.specs.Mapped.{layout_of, HasHeap}
+use Rattle.store_laws.specs.Mapped.{layout_of, HasHeap}
 use Rattle.heap_store.specs.declared.words.Words.{Words}
 use Rattle.heap_store.specs.WordBytes.{words_bytes}
 use Rattle.heap_store.specs.Copied.{copied_image}

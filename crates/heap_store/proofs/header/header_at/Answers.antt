@@ -4,8 +4,8 @@ use Rattle.pi_base.specs.Field.{little_number, little_bytes, ReadsWhatItSpells}
 use Rattle.phys_mem.specs.Regions.{regions, bytes_at}
 use Rattle.phys_mem.specs.declared.memory.PhysMem.{PhysMem}
 use Rattle.store_model.specs.HeapImage.{header_bytes}
-use Rattle.heap_laws.specs.Mapped.{Layout, HasHeap}
-use Rattle.heap_laws.proofs.Words.{has_read}
+use Rattle.store_laws.specs.Mapped.{Layout, HasHeap}
+use Rattle.store_laws.proofs.Words.{has_read}
 use Rattle.heap_store.specs.declared.header.Header.{Header}
 use Rattle.heap_store.proofs.header.header_at.Goals as goal
 

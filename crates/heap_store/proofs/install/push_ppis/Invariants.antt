@@ -1,6 +1,6 @@
 use Rattle.store_model.specs.StoreState.{StoreState}
 use Rattle.store_model.specs.Service.Install.{with_ppi}
-use Rattle.ppi_links.specs.Linked.{IsLinked}
+use Rattle.pei_heap.specs.Linked.{IsLinked}
 use Rattle.heap_store.specs.Made.{CanMakePpis}
 use Rattle.heap_store.proofs.OnWay.{IsOnWay}
 use Rattle.heap_store.proofs.install.push_ppis.Given as goal

@@ -3,8 +3,8 @@ use Rattle.std.specs.Prelude.{IfSome}
 use Rattle.store_model.specs.StoreState.{Range, StoreState}
 use Rattle.store_model.specs.declared.state.Body.TheVariants.{Descriptor}
 use Rattle.phys_mem.specs.declared.memory.PhysMem.{PhysMem}
-use Rattle.heap_laws.specs.Moving.{Done, with_descriptor}
-use Rattle.heap_laws.proofs.Bodies.{body_behind}
+use Rattle.store_laws.specs.Moving.{Done, with_descriptor}
+use Rattle.store_laws.proofs.HeapBodies.{body_behind}
 use Rattle.heap_store.specs.Half.{IsHalf, with_other}
 use Rattle.heap_store.specs.Linked.{HasDescriptor, address}
 use Rattle.heap_store.proofs.moved_descriptor.move_other.Goals as goal

@@ -5,7 +5,7 @@ use Rattle.store_model.specs.declared.state.AllocationBody.{AllocationBody}
 use Rattle.store_model.specs.declared.state.Body.{Body}
 use Rattle.store_model.specs.declared.state.Body.TheVariants.{Bytes, Descriptor, Node, Allocation}
 use Rattle.phys_mem.specs.declared.memory.PhysMem.{PhysMem}
-use Rattle.heap_laws.specs.Moving.{Done}
+use Rattle.store_laws.specs.Moving.{Done}
 use Rattle.heap_store.specs.Half.{IsHalf}
 use Rattle.heap_store.specs.Pages.{with_pages}
 use Rattle.heap_store.specs.Ready.{IsOfKind}

@@ -4,9 +4,9 @@ use Rattle.store_model.specs.StoreState.{Range, StoreState, end_place, hob_len}
 use Rattle.store_model.specs.HeapImage.{header_bytes}
 use Rattle.store_model.specs.Migration.{migrated_to}
 use Rattle.phys_mem.specs.declared.memory.PhysMem.{PhysMem}
-use Rattle.heap_laws.specs.Mapped.{layout_of}
-use Rattle.heap_laws.specs.Moving.{Done}
-use Rattle.heap_laws.proofs.Lists.{each_behind}
+use Rattle.store_laws.specs.Mapped.{layout_of}
+use Rattle.store_laws.specs.Moving.{Done}
+use Rattle.store_laws.proofs.Lists.{each_behind}
 use Rattle.heap_store.specs.declared.header.Header.{Header}
 use Rattle.heap_store.specs.declared.course.Course.{Course}
 use Rattle.heap_store.specs.Half.{half_image, IsHalf}

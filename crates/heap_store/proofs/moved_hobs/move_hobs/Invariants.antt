@@ -1,6 +1,6 @@
 use Rattle.std.proofs.Common.{◌≡◌, ◌+◌, ℕ, false, take}
 use Rattle.store_model.specs.StoreState.{Range, StoreState, end_place}
-use Rattle.heap_laws.specs.Moving.{Done}
+use Rattle.store_laws.specs.Moving.{Done}
 use Rattle.heap_store.specs.Half.{IsHalf}
 use Rattle.heap_store.specs.Pages.{with_hobs}
 use Rattle.heap_store.specs.Ready.{IsReady}

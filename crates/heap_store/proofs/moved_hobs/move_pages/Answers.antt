@@ -1,7 +1,7 @@
 use Rattle.std.proofs.Common.{◌≡◌, ◌+◌, ◌-◌, ◌≤◌, ◌<◌, ◌^◌, ℕ, List, take, drop, arith, ap, ◌∙◌}
 use Rattle.store_model.specs.declared.state.Body.TheVariants.{Allocation}
 use Rattle.store_model.specs.Migration.{migrated_to}
-use Rattle.heap_laws.specs.Mapped.{layout_of}
+use Rattle.store_laws.specs.Mapped.{layout_of}
 use Rattle.heap_store.specs.declared.words.Words.{Words}
 use Rattle.heap_store.specs.Half.{half_image}
 use Rattle.heap_store.specs.Pages.{with_pages}

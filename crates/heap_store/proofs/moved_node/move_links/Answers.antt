@@ -1,8 +1,8 @@
 use Rattle.std.proofs.Common.{◌≡◌, ◌-◌, ◌≤◌, ℕ, List, take, drop, arith, ap, ◌∙◌}
 use Rattle.store_model.specs.declared.state.Body.TheVariants.{Node}
 use Rattle.store_model.specs.Migration.{migrated_to}
-use Rattle.heap_laws.specs.Mapped.{layout_of}
-use Rattle.heap_laws.specs.Moving.{with_node_done}
+use Rattle.store_laws.specs.Mapped.{layout_of}
+use Rattle.store_laws.specs.Moving.{with_node_done}
 use Rattle.heap_store.specs.Half.{half_image}
 use Rattle.heap_store.specs.Linked.{fields}
 use Rattle.heap_store.specs.WordBytes.{words_bytes, links_words, shifted_node}

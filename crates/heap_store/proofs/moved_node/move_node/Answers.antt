@@ -1,5 +1,5 @@
 use Rattle.std.proofs.Common.{ap}
-use Rattle.heap_laws.specs.Moving.{with_descriptor, with_node_done}
+use Rattle.store_laws.specs.Moving.{with_descriptor, with_node_done}
 use Rattle.heap_store.specs.declared.words.Words.{Words}
 use Rattle.heap_store.proofs.moved_node.move_node.Goals as goal
 

@@ -2,7 +2,7 @@ use Rattle.std.proofs.Common.{◌≡◌, ◌+◌, ◌≤◌, ℕ, List, arith, a
 use Rattle.store_model.specs.StoreState.{Range, StoreState, end_place}
 use Rattle.store_model.specs.Migration.{migrated_to}
 use Rattle.phys_mem.specs.declared.memory.PhysMem.{PhysMem}
-use Rattle.heap_laws.specs.Mapped.{layout_of, HasHeap, IsMemoryOf}
+use Rattle.store_laws.specs.Mapped.{layout_of, HasHeap, IsMemoryOf}
 use Rattle.heap_store.specs.declared.course.Course.{Course}
 use Rattle.heap_store.specs.Half.{IsHalf, lists_done}
 use Rattle.heap_store.specs.Pages.{with_hobs}

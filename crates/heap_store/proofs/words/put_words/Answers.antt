@@ -1,7 +1,7 @@
 use Rattle.std.proofs.Common.{◌≡◌, ◌+◌, ◌-◌, ◌≤◌, ℕ, List, length, false, true, sym, ap, ◌∙◌, subst}
 use Rattle.phys_mem.specs.Region.{replaced}
-use Rattle.heap_laws.specs.Mapped.{HasHeap}
-use Rattle.heap_laws.proofs.Words.{has_written}
+use Rattle.store_laws.specs.Mapped.{HasHeap}
+use Rattle.store_laws.proofs.Words.{has_written}
 use Rattle.heap_store.specs.WordBytes.{words_bytes}
 use Rattle.heap_store.proofs.Spelt.{words_len}
 use Rattle.heap_store.proofs.words.put_words.Goals as goal

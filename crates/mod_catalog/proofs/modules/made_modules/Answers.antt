@@ -1,6 +1,6 @@
 use Rattle.std.proofs.Common.{List, [], ◌∷◌, ◌++◌, sym, ap, append_assoc, ◌∙◌}
 use Rattle.std.specs.Vec.Iter.{into_iter_items}
-use Rattle.catalog_model.specs.declared.read_file.ReadFile.{ReadFile}
+use Rattle.mod_catalog.specs.declared.read_file.ReadFile.{ReadFile}
 use Rattle.mod_catalog.proofs.modules.made_modules.Goals as goal
 
 pub reads-preserved : goal.reads-preserved

@@ -1,7 +1,7 @@
 use Rattle.std.proofs.Common.{◌≡◌, ◌++◌, List, length}
 use Rattle.pi_base.specs.declared.phase.Phase.TheVariants.{Pei, Dxe}
 use Rattle.act_code.specs.declared.script.Script.{Script}
-use Rattle.catalog_model.specs.ModuleEntry.{script_for}
+use Rattle.mod_catalog.specs.ModuleEntry.{script_for}
 use Rattle.mod_catalog.proofs.part_scripts.part_scripts.Given as goal
 
 -- those taken off the end have these as their first

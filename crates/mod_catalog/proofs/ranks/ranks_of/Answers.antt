@@ -1,4 +1,4 @@
-use Rattle.catalog_model.specs.APriori.{guids_in}
+use Rattle.mod_catalog.specs.APrioriNames.{guids_in}
 use Rattle.mod_catalog.proofs.KeptNames.{held}
 use Rattle.mod_catalog.proofs.ranks.ranks_of.Goals as goal
 

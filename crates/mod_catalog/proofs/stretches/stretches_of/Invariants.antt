@@ -1,5 +1,5 @@
 use Rattle.std.proofs.Common.{◌≡◌, ◌+◌, take}
-use Rattle.catalog_model.specs.ReadFile.{nested_in}
+use Rattle.mod_catalog.specs.ReadFile.{nested_in}
 use Rattle.mod_catalog.specs.Lying.{AreStretchesBelow}
 use Rattle.mod_catalog.proofs.stretches.stretches_of.Given as goal
 

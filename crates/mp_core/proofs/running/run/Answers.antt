@@ -1,5 +1,5 @@
-use Rattle.std.proofs.Common.{◌≡◌, ℕ, ◌<◌, ◌≤◌, ◌++◌, Bool, false, List, length, take, get_or, sym, ap, subst, ◌∙◌, arith, Result, Ok, Err}
-use Rattle.std.proofs.lemmas.List.{append-nil, take_all}
+use Rattle.std.proofs.Common.{◌≡◌, ℕ, ◌<◌, ◌≤◌, ◌++◌, Bool, false, List, length, take, sym, ap, subst, ◌∙◌, arith, Result, Ok, Err}
+use Rattle.std.proofs.lemmas.List.{take_all}
 use Rattle.std.specs.List.{list_any}
 use Rattle.std.specs.Option.{option_to_list}
 use Rattle.std.specs.Result.{IfOk}
@@ -7,11 +7,10 @@ use Rattle.mp_core.specs.declared.event.MpEvent.{MpEvent}
 use Rattle.mp_core.specs.declared.machine.Machine.{Machine}
 use Rattle.mp_core.specs.Calls.{IsEvent}
 use Rattle.mp_core.specs.Machine.{IsLeft, IsMachine}
-use Rattle.mp_core.specs.Past.{Past, after, opening, past_from, reply}
+use Rattle.mp_core.specs.Past.{Past, after, opening, past_from, replies_from, reply}
 use Rattle.mp_core.proofs.Orderly.{orderly}
 use Rattle.mp_core.proofs.Runs.{busy_left, cells_left, completes, each_at, idle_in_order, past_more, records_left, replies_more}
 use Rattle.mp_core.proofs.running.run.Goals as goal
-use Rattle.mp_core.proofs.running.run.Goals.{in-Some+in_ok-push-in-Some, in-None}
 
 if_ok : {T E : Type 0} (r : Result T E) (P Q : T → Type 0) → IfOk r P → ((x : T) → P x → Q x) → IfOk r Q
 if_ok (Ok x) P Q h f = f x h
@@ -23,18 +22,12 @@ loop-event-preserved c =
     let past : Past = past_from n opening (take i events) in
     let before = c.loop-event.invariant.replies_are in
     let lt : i < length events = omega arith in
-    let told = c.in_ok-reply.ensures.reply n k past (orderly n (take i events)) c.loop-event.invariant.stands in
-    let answer : c.in_ok-reply.field-0 ≡ reply n past (get_or events i e) = told ∙ ap (reply n past) c.event-item.is in
-    let grown : c.match-branch-3.replies ≡ c.loop-event.replies ++ option_to_list c.in_ok-reply.field-0 =
-    elim c.match-branch-3.branch [
-      | in-Some+in_ok-push-in-Some w ↦ w.replies-is ∙ w.in_ok-push-in-Some.ensures.ok ∙ ap (λ x. c.loop-event.replies ++ option_to_list x) (sym w.in-Some.is)
-      | in-None w ↦ w.replies-is ∙ sym (append-nil c.loop-event.replies) ∙ ap (λ x. c.loop-event.replies ++ option_to_list x) (sym w.in-None.is)
-    ] in
     record {
-      stands = subst (λ p. IsMachine n k p c.event.new.self) (sym (past_more n events i e lt ∙ ap (after n past) (sym c.event-item.is)))
-          (c.in_ok-reply.ensures.after n k past (orderly n (take i events)) c.loop-event.invariant.stands
+      stands = subst (λ p. IsMachine n k p c.answer.new.self) (sym (past_more n events i e lt ∙ ap (after n past) (sym c.event-item.is)))
+          ((rw c.in-Ok.is at c.answer.ensures.after) n k past (orderly n (take i events)) c.loop-event.invariant.stands
           (subst (IsEvent n k) (sym c.event-item.is) (each_at (IsEvent n k) events i e c.requires.events lt)));
-      replies_are = grown ∙ (λ j. before j ++ option_to_list (answer j)) ∙ sym (replies_more n events i e lt);
+      replies_are = (rw c.in-Ok.is at c.answer.ensures.replies) n k past (orderly n (take i events)) c.loop-event.invariant.stands
+          ∙ (λ j. before j ++ option_to_list (reply n past (c.event-item.is j))) ∙ sym (replies_more n events i e lt);
     }
 
 -- the machine when all events are over
@@ -77,3 +70,20 @@ returns-clause-in_time c =
     let past : Past = past_from n opening events in
     if_ok c.outcome.result (IsLeft m) _ c.outcome.ensures.left (λ outcome left.
     completes n k past.steps outcome (orderly n events) (cells_left n k past m outcome h left) (records_left n k past m outcome h left))
+
+pub answer-requires : goal.answer-requires
+answer-requires c =
+    let n = c.args.processors in let k = c.args.cells in let events = c.args.events.now in let i = c.loop-event.event-index in let e = c.event-item.result in
+    let lt : i < length events = omega arith in (
+      n,
+      k,
+      past_from n opening (take i events),
+      c.loop-event.invariant.stands,
+      subst (IsEvent n k) (sym c.event-item.is) (each_at (IsEvent n k) events i e c.requires.events lt),
+    )
+
+pub returns-clause-replies : goal.returns-clause-replies
+returns-clause-replies c =
+    let n = c.args.processors in let events = c.args.events.now in let le : length events ≤ c.loop-event.event-index = omega arith in
+    if_ok c.outcome.result _ _ c.outcome.ensures.replies (λ outcome is.
+    is ∙ c.loop-event.invariant.replies_are ∙ ap (replies_from n opening) (take_all c.loop-event.event-index events le))

@@ -1,7 +1,7 @@
 use Rattle.std.proofs.Common.{◌≡◌, Bool, true, List, take}
 use Rattle.pi_base.specs.Lists.{Each}
 use Rattle.pi_base.specs.declared.guid.Guid.{Guid}
-use Rattle.catalog_model.specs.declared.catalog.Catalog.{Catalog}
+use Rattle.mod_catalog.specs.declared.catalogue.Catalog.{Catalog}
 use Rattle.wait_index.specs.Index.{IsIndex}
 use Rattle.pei_dispatch.specs.Noted.{AreKnown, IsNoted}
 use Rattle.pei_dispatch.proofs.change.put_in.Given as goal

@@ -1,5 +1,5 @@
 use Rattle.std.proofs.Common.{◌≡◌, drop}
-use Rattle.catalog_model.specs.Parts.{volume_from}
+use Rattle.mod_catalog.specs.Parts.{volume_from}
 use Rattle.phase_parts.proofs.mapped.volume_at.Given as goal
 
 abbrev pub invariant-volumes : goal.invariant-volumes

@@ -1,5 +1,5 @@
 use Rattle.std.proofs.Common.{◌≡◌, ◌≤◌, ◌+◌, length, drop}
-use Rattle.catalog_model.specs.Parts.{parts_from}
+use Rattle.mod_catalog.specs.Parts.{parts_from}
 use Rattle.phase_parts.proofs.wanted.count_parts.Given as goal
 
 -- the parts so far, and those that are left, make the whole

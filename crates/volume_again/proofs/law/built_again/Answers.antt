@@ -1,5 +1,5 @@
 use Rattle.std.proofs.Common.{arith}
-use Rattle.fv_build.proofs.VolumesRead.{read_as}
+use Rattle.fv_volume.proofs.VolumesRead.{read_as}
 use Rattle.volume_again.proofs.law.built_again.Goals as goal
 
 pub returns : goal.returns

@@ -1,5 +1,5 @@
 use Rattle.std.proofs.Common.{sym, ◌∙◌}
-use Rattle.fv_build.proofs.Outcomes.{on_ok}
+use Rattle.fv_volume.proofs.Outcomes.{on_ok}
 use Rattle.volume_print.proofs.Stretches.{pad_put}
 use Rattle.volume_print.proofs.pad.put_pad.Goals as goal
 

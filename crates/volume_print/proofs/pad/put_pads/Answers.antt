@@ -1,5 +1,5 @@
 use Rattle.std.proofs.Common.{arith}
-use Rattle.fv_build.proofs.Outcomes.{on_ok}
+use Rattle.fv_volume.proofs.Outcomes.{on_ok}
 use Rattle.volume_print.proofs.Stretches.{pads_go, pads_end}
 use Rattle.volume_print.proofs.pad.put_pads.Goals as goal
 

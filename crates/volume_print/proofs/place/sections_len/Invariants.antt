@@ -1,5 +1,5 @@
 use Rattle.std.proofs.Common.{◌≡◌, ◌^◌, ◌-◌, length, take, map, min}
-use Rattle.fv_build.specs.Sections.{body_bytes}
+use Rattle.fv_volume.specs.Sections.{body_bytes}
 use Rattle.volume_print.specs.Description.{section_in}
 use Rattle.volume_print.proofs.place.sections_len.Given as goal
 

@@ -1,4 +1,4 @@
-use Rattle.fv_build.proofs.Outcomes.{on_ok}
+use Rattle.fv_volume.proofs.Outcomes.{on_ok}
 use Rattle.std.proofs.Common.{◌++◌, ap, ◌∙◌}
 use Rattle.volume_print.proofs.Putting.{script_long, script_rest, five}
 use Rattle.volume_print.proofs.section.put_script.Goals as goal

@@ -1,13 +1,13 @@
 use Rattle.std.proofs.lemmas.List.{take_all}
-use Rattle.fv_build.proofs.Outcomes.{on_ok}
+use Rattle.fv_volume.proofs.Outcomes.{on_ok}
 use Rattle.std.proofs.Common.{arith, ◌≡◌, ℕ, ◌+◌, List, ◌++◌, length, map, take, flat_map, refl, sym, ap, ◌∙◌, subst}
 use Rattle.fv_volume.specs.declared.sections.section.Section.{Section}
 use Rattle.fv_volume.specs.declared.file.FfsFile.{FfsFile}
-use Rattle.fv_build.specs.declared.new_file.NewSection.{NewSection}
+use Rattle.fv_volume.specs.declared.build.new_file.NewSection.{NewSection}
 use Rattle.fv_volume.specs.Frame.{aligned}
-use Rattle.fv_build.specs.Sections.{body_bytes}
-use Rattle.fv_build.specs.declared.volume_header.VolumeForm.{VolumeForm}
-use Rattle.fv_build.specs.Front.{first_place}
+use Rattle.fv_volume.specs.Sections.{body_bytes}
+use Rattle.fv_volume.specs.declared.build.volume_header.VolumeForm.{VolumeForm}
+use Rattle.fv_volume.specs.Front.{first_place}
 use Rattle.volume_print.specs.Places.{pads_in, stands}
 use Rattle.volume_print.specs.Spelling.{volume_line, name_line, pad_text}
 use Rattle.volume_print.specs.Description.{section_in, form_in, name_in, IsInner}

@@ -1,4 +1,4 @@
-use Rattle.fv_build.proofs.Outcomes.{on_ok}
+use Rattle.fv_volume.proofs.Outcomes.{on_ok}
 use Rattle.std.proofs.Common.{◌++◌, ap, ◌∙◌}
 use Rattle.pi_base.specs.WordText.{hexadecimal}
 use Rattle.volume_print.proofs.Putting.{attributes_put}

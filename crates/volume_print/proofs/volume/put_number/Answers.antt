@@ -1,4 +1,4 @@
-use Rattle.fv_build.proofs.Outcomes.{on_ok}
+use Rattle.fv_volume.proofs.Outcomes.{on_ok}
 use Rattle.volume_print.proofs.Putting.{number_put}
 use Rattle.volume_print.proofs.volume.put_number.Goals as goal
 

@@ -1,5 +1,5 @@
 use Rattle.std.proofs.Common.{List, subst}
-use Rattle.catalog_model.specs.declared.catalog.Module.{Module}
+use Rattle.mod_catalog.specs.declared.catalogue.Module.{Module}
 use Rattle.wait_index.specs.Watching.{Covers, modules_push}
 use Rattle.wait_index.proofs.Making.{covers_on}
 use Rattle.wait_index.proofs.build.numbered.Goals as goal

@@ -1,5 +1,5 @@
 use Rattle.std.proofs.Common.{[], ◌∷◌, subst}
-use Rattle.catalog_model.specs.Parts.{module_name}
+use Rattle.mod_catalog.specs.Parts.{module_name}
 use Rattle.dxe_core.specs.declared.names.Names.{Names}
 use Rattle.dxe_core.specs.Lists.{IsPushed}
 use Rattle.dxe_core.specs.Names.{IsFirstOfName, NamesGrow}

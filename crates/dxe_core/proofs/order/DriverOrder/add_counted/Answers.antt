@@ -1,5 +1,5 @@
 use Rattle.std.proofs.Common.{◌≡◌, ◌++◌, Some, length, sym, subst, ap, ◌∙◌}
-use Rattle.catalog_model.specs.declared.limits.TheConstants.{MOST_MODULES}
+use Rattle.mod_catalog.specs.declared.limits.TheConstants.{MOST_MODULES}
 use Rattle.boot_model.specs.DxeChoice.{drivers_of}
 use Rattle.boot_model.specs.Reporting.{newcomers}
 use Rattle.dxe_core.specs.Names.{order_by}

@@ -1,4 +1,4 @@
-use Rattle.catalog_model.specs.declared.limits.TheConstants.{MOST_MODULES}
+use Rattle.mod_catalog.specs.declared.limits.TheConstants.{MOST_MODULES}
 use Rattle.dxe_dispatch.proofs.Scheduling.{ranked_numbers, ranked_room}
 use Rattle.dxe_dispatch.proofs.queue.DriverQueue.schedule_volume.Goals as goal
 

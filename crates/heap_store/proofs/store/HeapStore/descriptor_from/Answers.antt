@@ -4,7 +4,7 @@ use Rattle.store_model.specs.declared.store_handle.GuidFrom.{GuidFrom}
 use Rattle.store_model.specs.Service.Descriptor.{guid_from}
 use Rattle.heap_store.specs.NewDescriptor.{IsDescriptorOf}
 use Rattle.phys_mem.specs.Regions.{bytes_at, rom_regions}
-use Rattle.ppi_links.proofs.Volumes.{read_long}
+use Rattle.pei_heap.proofs.Volumes.{read_long}
 use Rattle.heap_store.proofs.RomGuids.{at_address, none_at}
 use Rattle.heap_store.proofs.store.HeapStore.descriptor_from.Goals as goal
 

@@ -1,8 +1,8 @@
 use Rattle.std.proofs.Common.{◌≡◌, ◌+◌, ◌∙◌, length, arith, ap}
 use Rattle.store_model.specs.HeapImage.{heap_image}
 use Rattle.store_laws.specs.Fitting.{IsFittingHeap}
-use Rattle.heap_laws.specs.Mapped.{layout_of}
-use Rattle.heap_laws.specs.Word.{word_in}
+use Rattle.store_laws.specs.Mapped.{layout_of}
+use Rattle.store_laws.specs.Word.{word_in}
 use Rattle.heap_store.proofs.NextHobs.{next_placed}
 use Rattle.heap_store.proofs.Walked.{base_added}
 use Rattle.heap_store.proofs.store.HeapStore.push_base.Goals as goal

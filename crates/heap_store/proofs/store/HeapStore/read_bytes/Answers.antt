@@ -1,6 +1,6 @@
 use Rattle.std.proofs.Common.{◌≡◌, Some, length, sym}
 use Rattle.phys_mem.specs.Regions.{bytes_at, regions}
-use Rattle.ppi_links.proofs.Volumes.{read_long}
+use Rattle.pei_heap.proofs.Volumes.{read_long}
 use Rattle.heap_store.proofs.store.HeapStore.read_bytes.Goals as goal
 
 pub copy_to-requires : goal.copy_to-requires

@@ -2,10 +2,10 @@ use Rattle.std.proofs.Common.{◌≡◌, ◌∙◌, [], ◌∷◌, length, arith
 use Rattle.pi_base.specs.Lists.{Each}
 use Rattle.store_model.specs.StateFacts.{IsDesc}
 use Rattle.store_model.specs.Service.Install.{install_pairs}
-use Rattle.ppi_links.specs.Pairs.{CanQueueAll, queued}
-use Rattle.ppi_links.specs.Linked.{IsLinked}
-use Rattle.ppi_links.specs.Replaced.{with_renamed}
-use Rattle.ppi_links.proofs.Ends.{few_entries}
+use Rattle.pei_heap.specs.Pairs.{CanQueueAll, queued}
+use Rattle.pei_heap.specs.Linked.{IsLinked}
+use Rattle.pei_heap.specs.Replaced.{with_renamed}
+use Rattle.pei_heap.proofs.Ends.{few_entries}
 use Rattle.heap_store.proofs.HandedIn.{new_ppi}
 use Rattle.heap_store.proofs.Installs.{can_requeue, reinstall_row}
 use Rattle.heap_store.proofs.store.HeapStore.reinstall_ppi.Goals as goal

@@ -1,5 +1,5 @@
 use Rattle.std.proofs.Common.{arith}
-use Rattle.ppi_links.proofs.Ends.{few_entries}
+use Rattle.pei_heap.proofs.Ends.{few_entries}
 use Rattle.heap_store.proofs.store.HeapStore.sweep_behind.Goals as goal
 
 pub overflow_add-result : goal.overflow_add-result

@@ -1,6 +1,6 @@
 use Rattle.std.proofs.Common.{ap, sym, ◌∙◌, Some}
 use Rattle.std.specs.Prelude.{option_map, slice_get}
-use Rattle.guid_index.specs.Entries.{entries_of}
+use Rattle.mem_store.specs.Entries.{entries_of}
 use Rattle.mem_store.specs.Rows.{told_row}
 use Rattle.mem_store.proofs.Firings.{ppi_desc}
 use Rattle.mem_store.proofs.Saying.{facts_of}

@@ -1,5 +1,5 @@
 use Rattle.std.proofs.Common.{◌≡◌, ◌<◌, ◌+◌, ◌&&◌, ℕ, List, get_or, take, length, sym, ap, subst, ◌∙◌}
-use Rattle.catalog_model.specs.Parts.{has_number}
+use Rattle.mod_catalog.specs.Parts.{has_number}
 use Rattle.pei_dispatch.specs.Queue.{parts_in}
 use Rattle.pei_dispatch.specs.View.{awaits_again, awaits_at, is_number_by, with_again}
 use Rattle.pei_dispatch.proofs.Awaiting.{one_more}

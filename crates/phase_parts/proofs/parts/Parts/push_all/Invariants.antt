@@ -1,5 +1,5 @@
 use Rattle.std.proofs.Common.{◌≡◌, ◌++◌, drop}
-use Rattle.catalog_model.specs.Parts.{parts_from}
+use Rattle.mod_catalog.specs.Parts.{parts_from}
 use Rattle.phase_parts.proofs.parts.Parts.push_all.Given as goal
 
 -- the parts so far, and those that are left, make the whole

@@ -1,6 +1,6 @@
 use Rattle.std.proofs.Common.{ℕ, List}
 use Rattle.std.specs.Prelude.{Some}
-use Rattle.catalog_model.specs.declared.limits.TheConstants.{MOST_MODULES}
+use Rattle.mod_catalog.specs.declared.limits.TheConstants.{MOST_MODULES}
 use Rattle.phase_parts.specs.Parts.{wanted_from}
 use Rattle.phase_parts.proofs.VolumeParts.{ranks_more, rank_fits}
 use Rattle.phase_parts.proofs.parts.Parts.push_below.Goals as goal

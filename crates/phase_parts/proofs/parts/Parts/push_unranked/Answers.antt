@@ -1,5 +1,5 @@
 use Rattle.std.proofs.Common.{◌++◌, ◌≤◌, ◌∙◌, List, ℕ, ap, length, subst, sym}
-use Rattle.catalog_model.specs.declared.limits.TheConstants.{MOST_MODULES}
+use Rattle.mod_catalog.specs.declared.limits.TheConstants.{MOST_MODULES}
 use Rattle.phase_parts.proofs.VolumeParts.{unranked_are}
 use Rattle.phase_parts.proofs.parts.Parts.push_unranked.Goals as goal
 

@@ -1,5 +1,5 @@
 use Rattle.std.proofs.Common.{ℕ, List, ◌<◌, length, get_or, ap, not}
-use Rattle.catalog_model.specs.declared.catalog.Catalog.{Catalog}
+use Rattle.mod_catalog.specs.declared.catalogue.Catalog.{Catalog}
 use Rattle.phase_parts.specs.Known.{AreInCatalog}
 use Rattle.phase_parts.proofs.ListFacts.{each_get}
 use Rattle.phase_parts.proofs.VolumeRoom.{known_more, room, added_more}

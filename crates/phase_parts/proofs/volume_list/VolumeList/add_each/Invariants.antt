@@ -1,5 +1,5 @@
 use Rattle.std.proofs.Common.{◌≡◌, drop}
-use Rattle.catalog_model.specs.declared.catalog.Catalog.{Catalog}
+use Rattle.mod_catalog.specs.declared.catalogue.Catalog.{Catalog}
 use Rattle.phase_parts.specs.Known.{AreKnown, MayCome, with_new}
 use Rattle.phase_parts.proofs.volume_list.VolumeList.add_each.Given as goal
 

@@ -1,7 +1,7 @@
 use Rattle.std.proofs.Common.{◌≡◌, ◌<◌, ℕ, List, length, sym, ◌∙◌, subst, ap}
-use Rattle.catalog_model.specs.declared.catalog.Catalog.{Catalog}
-use Rattle.catalog_model.specs.Parts.{family}
-use Rattle.catalog_model.specs.WellFormed.{IsWellFormed}
+use Rattle.mod_catalog.specs.declared.catalogue.Catalog.{Catalog}
+use Rattle.mod_catalog.specs.Parts.{family}
+use Rattle.mod_catalog.specs.WellFormed.{IsWellFormed}
 use Rattle.phase_parts.specs.Known.{AreInCatalog, AreKnown, MayCome, with_new}
 use Rattle.phase_parts.proofs.Families.{family_differs, family_in_catalog}
 use Rattle.phase_parts.proofs.Newcomers.{new_family}

@@ -1,5 +1,5 @@
 use Rattle.std.proofs.Common.{◌<◌, ◌∙◌, ℕ, ap, subst, arith, length, get_or, List}
-use Rattle.catalog_model.specs.Parts.{part_at}
+use Rattle.mod_catalog.specs.Parts.{part_at}
 use Rattle.pi_base.specs.declared.phase.Phase.{Phase}
 use Rattle.wait_index.specs.Discovery.{opens, HaveCome}
 use Rattle.wait_index.specs.Index.{order_in}

@@ -1,5 +1,5 @@
 use Rattle.std.proofs.Common.{◌∙◌, ◌&&◌, ◌||◌, ap}
-use Rattle.catalog_model.specs.Parts.{part_at}
+use Rattle.mod_catalog.specs.Parts.{part_at}
 use Rattle.boot_model.specs.PeiChoice.{rotated}
 use Rattle.wait_index.specs.Index.{is_eligible_in, order_in, again_in, waits_in, is_open_in}
 use Rattle.wait_index.specs.Installed.{is_there}

@@ -1,0 +1,125 @@
+-- What follows PEI in a boot by choices, from what its parts leave.
+use Rattle.std.proofs.Common.{◌≡◌, ℕ, Bool, List, [], ◌∷◌, ◌++◌, Option, Result, Ok, Err, refl, sym, ◌∙◌, subst}
+use Rattle.std.specs.Io.KnownBytes.{Appends}
+use Rattle.boot_io.proofs.PutsLaws.{appends_then}
+use Rattle.boot_io.specs.declared.halt.Halt.{Halt}
+use Rattle.boot_io.specs.Sink.{AppendsPart}
+use Rattle.mod_catalog.specs.declared.catalogue.Catalog.{Catalog}
+use Rattle.store_model.specs.HandleState.{HandleState}
+use Rattle.boot_model.specs.declared.line.Line.{Line}
+use Rattle.boot_model.specs.declared.line.RunEnd.{RunEnd}
+use Rattle.boot_model.specs.declared.phase_end.PeiEnd.{PeiEnd}
+use Rattle.boot_model.specs.declared.phase_end.PeiEnd.TheVariants.{Handoff}
+use Rattle.boot_model.specs.BootRun.{dxe_result}
+use Rattle.boot_model.specs.DxeMachine.{DxeMachine}
+use Rattle.boot_model.specs.DxeRun.{dxe_opening}
+use Rattle.boot_model.specs.PeiMachine.{PeiMachine}
+use Rattle.boot_model.specs.Text.{text_of}
+use Rattle.boot_model.proofs.Texts.{text_of-append}
+use Rattle.boot_laws.specs.Naming.{HasPut}
+use Rattle.dxe_dispatch.specs.Choices as D
+use Rattle.pei_dispatch.specs.Ends.{pei_starts}
+use Rattle.dxe_dispatch.specs.declared.boot.Barred.{Barred}
+use Rattle.dxe_dispatch.specs.declared.boot.Ended.{Ended}
+use Rattle.boot_core.specs.declared.whole.behind.Behind.{Behind}
+use Rattle.boot_core.specs.declared.whole.behind.Behind.TheVariants.{Closed}
+use Rattle.boot_core.specs.Behind.{ComesBehind, HasClosed, HasComeBehind}
+use Rattle.boot_core.specs.ByChoice.{BarsInDxe, ComesInDxe, EndsAfter, StopsBehind, stops_at_last, stops_in_dxe}
+use Rattle.boot_core.specs.Choices.{Choices, NamesBehind}
+use Rattle.boot_core.specs.Closing.{closing, closing_text}
+use Rattle.boot_core.specs.FirstBoot.{Tells}
+use Rattle.boot_core.proofs.ClosingTexts.{closing_is}
+
+-- lines that were put without a failure, and then others
+pub has_then : {S : Type 0} (text : S → Option (List ℕ)) (faults : S → ℕ) (first mid shown : S) (a b : List Line) → HasPut text faults first a mid → HasPut text faults mid b shown → HasPut text faults first (a ++ b) shown
+has_then text faults first mid shown a b f g =
+    let P : List ℕ → Type 0 = λ t. Appends (text first) (text shown) t in
+    record { put = subst P (sym (text_of-append a b)) (appends_then (text first) (text mid) (text shown) (text_of a) (text_of b) f.put g.put); right = g.right ∙ f.right }
+
+-- the same run of DXE, where the choices may name more
+abbrev pub MayNameMore : (DxeMachine → Option ℕ → Type 0) → (DxeMachine → Option ℕ → Type 0) → Type 0
+MayNameMore Names Others = (m : DxeMachine) (named : Option ℕ) → Names m named → Others m named
+
+renamed_aim : (Names Others : DxeMachine → Option ℕ → Type 0) (catalog : Catalog) (m target : DxeMachine) → MayNameMore Names Others → D.IsAimedBy Names catalog m target → D.IsAimedBy Others catalog m target
+renamed_aim Names Others catalog m target more by = record { named = by.named; allowed = λ choosing. more m by.named (by.allowed choosing); busy = by.busy; is = by.is }
+
+renamed : (Names Others : DxeMachine → Option ℕ → Type 0) (Lets : DxeMachine → ℕ → Bool) (catalog : Catalog) (fuel : ℕ) (opening : DxeMachine) (earlier : List DxeMachine) → MayNameMore Names Others
+    → D.IsRunBy Names Lets catalog fuel opening earlier → D.IsRunBy Others Lets catalog fuel opening earlier
+renamed Names Others Lets catalog fuel opening [] more run = tt
+renamed Names Others Lets catalog fuel opening (target ∷ earlier) more run =
+    (renamed_aim Names Others catalog (D.came catalog fuel opening earlier) target more run.0, run.1, run.2, renamed Names Others Lets catalog fuel opening earlier more run.3)
+
+comes_in_dxe : (choices : Choices) (Names : DxeMachine → Option ℕ → Type 0) (catalog : Catalog) (fuel : ℕ) (pei : PeiMachine) (earlier : List DxeMachine) → MayNameMore Names (choices.drivers pei)
+    → D.IsRunBy Names (choices.lets_driver pei) catalog fuel (dxe_opening catalog pei.store pei.actions) earlier → ComesInDxe choices catalog fuel pei (D.came catalog fuel (dxe_opening catalog pei.store pei.actions) earlier)
+comes_in_dxe choices Names catalog fuel pei earlier more run =
+    record { earlier = earlier; run = renamed Names (choices.drivers pei) (choices.lets_driver pei) catalog fuel (dxe_opening catalog pei.store pei.actions) earlier more run; is = refl }
+
+-- what holds with the counts of what PEI left holds with those of its last machine
+pub by_counts : (P : ℕ → ℕ → Type 0) (starts actions : ℕ) (pei : PeiMachine) → starts ≡ pei_starts pei → actions ≡ pei.actions → P starts actions → P (pei_starts pei) pei.actions
+by_counts P starts actions pei a b holds = subst (P (pei_starts pei)) b (subst (λ n. P n actions) a holds)
+
+-- behind a sink into which the lines of PEI were put a choice may name what it may in the whole boot
+pub names_behind : {S : Type 0} (drivers : S → ℕ → Option ℕ → Type 0) (text : S → Option (List ℕ)) (faults : S → ℕ) (pei : PeiMachine) (first sink : S) → HasPut text faults first pei.lines sink
+    → MayNameMore (D.NamesDrivers drivers text faults (pei_starts pei) sink) (NamesBehind drivers text faults first pei)
+names_behind drivers text faults pei first sink has m named may =
+    record { sink = may.sink; has = has_then text faults first sink may.sink pei.lines m.lines has may.has; is = may.is }
+
+-- the last lines behind all others
+pub closes : {S : Type 0} (choices : Choices) (text : S → Option (List ℕ)) (faults : S → ℕ) (catalog : Catalog) (fuel : ℕ) (pei : PeiMachine) (how : PeiEnd) (first mid shown : S) (lines : List Line) (handles : HandleState) (so : RunEnd)
+    (result : Result Behind Halt) → EndsAfter choices catalog fuel pei how lines handles so → HasPut text faults first lines mid
+    → Tells (λ behind. behind ≡ Closed so) (closing_text pei.store handles so) (record { old = text mid; new = text shown }) result → ComesBehind choices text faults catalog fuel pei how first shown result
+closes choices text faults catalog fuel pei how first mid shown lines handles so (Ok answer) ends has told =
+    let last = closing pei.store handles so in
+    let P : List ℕ → Type 0 = λ t. Appends (text mid) (text shown) t in
+    let Q : List ℕ → Type 0 = λ t. Appends (text first) (text shown) t in
+    let put : P (text_of last) = subst P (sym (closing_is pei.store handles so)) told.1 in
+    let all : HasClosed choices catalog fuel pei how so (text first) (text shown) = record {
+      lines = lines;
+      handles = handles;
+      ends = ends;
+      text = subst Q (sym (text_of-append lines last)) (appends_then (text first) (text mid) (text shown) (text_of lines) (text_of last) has.put put);
+    } in
+    let R : Behind → Type 0 = λ behind. HasComeBehind choices catalog fuel pei how (text first) (text shown) behind in
+    subst R (sym told.0) all
+closes choices text faults catalog fuel pei how first mid shown lines handles so (Err halt) ends has told =
+    let P : List ℕ → Type 0 = λ t. AppendsPart (text mid) (text shown) t in
+    stops_at_last lines handles so ends (record { sink = mid; has = has; part = subst P (sym (closing_is pei.store handles so)) told })
+
+-- behind a DXE that has come to its end
+pub drivers_close : {S : Type 0} (choices : Choices) (Names : DxeMachine → Option ℕ → Type 0) (text : S → Option (List ℕ)) (faults : S → ℕ) (catalog : Catalog) (fuel : ℕ) (pei : PeiMachine) (first sink mid shown : S)
+    (left : Ended) (so : RunEnd) (result : Result Behind Halt) → MayNameMore Names (choices.drivers pei) → HasPut text faults first pei.lines sink
+    → D.HasBooted Names (choices.lets_driver pei) catalog fuel (dxe_opening catalog pei.store pei.actions) left (text sink) (text mid) → faults mid ≡ faults sink → so ≡ dxe_result left.«end»
+    → Tells (λ behind. behind ≡ Closed so) (closing_text pei.store left.handles so) (record { old = text mid; new = text shown }) result → ComesBehind choices text faults catalog fuel pei Handoff first shown result
+drivers_close choices Names text faults catalog fuel pei first sink mid shown left so result more has by same is told =
+    let dxe = D.came catalog fuel (dxe_opening catalog pei.store pei.actions) by.earlier in
+    closes choices text faults catalog fuel pei Handoff first mid shown (pei.lines ++ dxe.lines) left.handles so result
+    (record { dxe = dxe; comes = comes_in_dxe choices Names catalog fuel pei by.earlier more by.run; how = left.«end»; ended = by.ended.ended; lines_are = refl; handles_are = sym by.has; end_is = is })
+    (has_then text faults first sink mid pei.lines dxe.lines has (record { put = by.ended.text; right = same })) told
+
+-- a DXE that was left before the start of a driver
+pub drivers_bar : {S : Type 0} (choices : Choices) (Names : DxeMachine → Option ℕ → Type 0) (text : S → Option (List ℕ)) (faults : S → ℕ) (catalog : Catalog) (fuel : ℕ) (pei : PeiMachine) (first sink shown : S)
+    (barred : Barred) → MayNameMore Names (choices.drivers pei) → HasPut text faults first pei.lines sink
+    → D.HasStayed Names (choices.lets_driver pei) catalog fuel (dxe_opening catalog pei.store pei.actions) (pei_starts pei) barred (text sink) (text shown)
+    → BarsInDxe choices catalog fuel pei barred (text first) (text shown)
+drivers_bar choices Names text faults catalog fuel pei first sink shown barred more has by =
+    let dxe = D.came catalog fuel (dxe_opening catalog pei.store pei.actions) by.earlier in
+    let due = by.bars.due in
+    let P : List ℕ → Type 0 = λ t. Appends (text first) (text shown) t in
+    record {
+      dxe = dxe;
+      comes = comes_in_dxe choices Names catalog fuel pei by.earlier more by.run;
+      running = by.bars.running;
+      due = record { target = due.target; aimed = renamed_aim Names (choices.drivers pei) catalog dxe due.target more due.aimed; starting = due.starting };
+      bars = by.bars.barred;
+      text = subst P (sym (text_of-append pei.lines dxe.lines)) (appends_then (text first) (text sink) (text shown) (text_of pei.lines) (text_of dxe.lines) has.put by.bars.text);
+      handles_are = sym by.has;
+      starts_are = by.starts_are;
+    }
+
+-- a DXE that was given up
+pub drivers_stop : {S : Type 0} (choices : Choices) (Names : DxeMachine → Option ℕ → Type 0) (text : S → Option (List ℕ)) (faults : S → ℕ) (catalog : Catalog) (fuel : ℕ) (pei : PeiMachine) (first sink shown : S)
+    → MayNameMore Names (choices.drivers pei) → HasPut text faults first pei.lines sink
+    → D.StopsShort Names (choices.lets_driver pei) catalog fuel (dxe_opening catalog pei.store pei.actions) (text sink) (text shown)
+    → StopsBehind choices text faults catalog fuel pei Handoff first shown
+drivers_stop choices Names text faults catalog fuel pei first sink shown more has by =
+    stops_in_dxe (D.came catalog fuel (dxe_opening catalog pei.store pei.actions) by.earlier) refl (comes_in_dxe choices Names catalog fuel pei by.earlier more by.run) (record { sink = sink; has = has; part = by.part })

@@ -1,0 +1,67 @@
+-- A boot by choices, from what its two parts leave.
+use Rattle.std.proofs.Common.{◌≡◌, ◌∙◌, ℕ, Bool, IfOk, List, Option, Some, Result, Ok, Err, ap, refl, inl, inr}
+use Rattle.boot_io.specs.declared.halt.Halt.{Halt}
+use Rattle.boot_io.specs.declared.halt.Halt.TheVariants as H
+use Rattle.mod_catalog.specs.declared.catalogue.Catalog.{Catalog}
+use Rattle.store_model.specs.StoreState.{Board, StoreState}
+use Rattle.boot_model.specs.declared.line.RunEnd.{RunEnd}
+use Rattle.boot_model.specs.declared.phase_end.PeiEnd.TheVariants.{Handoff}
+use Rattle.boot_model.specs.PeiRun.{pei_opening}
+use Rattle.pei_dispatch.specs.declared.boot.Ended.{Ended}
+use Rattle.pei_dispatch.specs.declared.boot.Left.{Left}
+use Rattle.pei_dispatch.specs.Choices.{BootsBy, HasBooted}
+use Rattle.pei_dispatch.specs.Ends.{IsWantedBefore}
+use Rattle.boot_core.specs.declared.whole.behind.Behind.{Behind}
+use Rattle.boot_core.specs.declared.whole.behind.Behind.TheVariants.{Closed, Barred}
+use Rattle.boot_core.specs.declared.whole.boot.Booted.{Booted}
+use Rattle.boot_core.specs.Behind.{HasClosed, HasComeBehind, left_by}
+use Rattle.boot_core.specs.FreeWay.{AreFree, GoesFreely}
+use Rattle.boot_core.proofs.FreeBoots.{goes_freely}
+use Rattle.dxe_dispatch.specs.declared.boot.Barred.{Barred as BarredDriver}
+use Rattle.boot_core.specs.ByChoice.{BarsInDxe, BootsTo, HasCome, HasRun, IsBarredInDxe, StopsBehindPei}
+use Rattle.boot_core.specs.Choices.{Choices}
+
+-- it has come to its end
+pub has_run : {M : Type 0} (choices : Choices) (stands : M → StoreState → Type 0) (board : Board) (catalog : Catalog) (fuel : ℕ) (left : Ended M) (end : RunEnd) (old mid new : Option (List ℕ))
+    → (pei : HasBooted choices.peims choices.lets_peim stands catalog fuel (pei_opening board catalog) left old mid) → HasClosed choices catalog fuel pei.«end» left.«end» end old new → HasRun choices stands board catalog fuel (record { «end» = end; pei = left }) old new
+has_run choices stands board catalog fuel left end old mid new pei told = record {
+  boot = record { pei = pei.«end»; comes = pei.comes; how = left.«end»; ended = pei.ended.ended; lines = told.lines; handles = told.handles; result = end; ends = told.ends };
+  how_is = refl;
+  end_is = refl;
+  left = pei.is_left;
+  text = told.text;
+}
+
+-- or to the start of a driver that is not let
+pub is_barred : {M : Type 0} (choices : Choices) (stands : M → StoreState → Type 0) (board : Board) (catalog : Catalog) (fuel : ℕ) (left : Ended M) (barred : BarredDriver) (old mid new : Option (List ℕ))
+    → (pei : HasBooted choices.peims choices.lets_peim stands catalog fuel (pei_opening board catalog) left old mid) → left.«end» ≡ Handoff → BarsInDxe choices catalog fuel pei.«end» barred old new
+    → IsBarredInDxe choices stands board catalog fuel left barred old new
+is_barred choices stands board catalog fuel left barred old mid new pei handed bars =
+    record { pei = pei.«end»; comes = pei.comes; ended = pei.ended.ended ∙ ap Some handed; how_is = handed; left_is = pei.is_left; bars = bars }
+
+-- what it came to behind the end of PEI
+pub has_come : {M : Type 0} (choices : Choices) (stands : M → StoreState → Type 0) (board : Board) (catalog : Catalog) (fuel : ℕ) (left : Ended M) (behind : Behind) (old mid new : Option (List ℕ))
+    → (pei : HasBooted choices.peims choices.lets_peim stands catalog fuel (pei_opening board catalog) left old mid) → HasComeBehind choices catalog fuel pei.«end» left.«end» old new behind
+    → HasCome choices stands board catalog fuel old new (left_by left behind)
+has_come choices stands board catalog fuel left (Closed result) old mid new pei told = has_run choices stands board catalog fuel left result old mid new pei told
+has_come choices stands board catalog fuel left (Barred barred) old mid new pei told = is_barred choices stands board catalog fuel left barred old mid new pei told.0 told.1
+
+-- and whatever it came to, it is a free boot
+pub freely : {M S : Type 0} (choices : Choices) (text : S → Option (List ℕ)) (faults : S → ℕ) (stands : M → StoreState → Type 0) (takes : Bool) (board : Board) (catalog : Catalog) (fuel : ℕ)
+    (sink shown : S) (result : Result (Booted M) Halt) → AreFree choices → BootsTo choices text faults stands takes board catalog fuel sink shown result
+    → IfOk result (GoesFreely board catalog fuel (record { old = text sink; new = text shown }))
+freely choices text faults stands takes board catalog fuel sink shown (Ok booted) free by = goes_freely choices stands board catalog fuel (text sink) (text shown) booted free by
+freely choices text faults stands takes board catalog fuel sink shown (Err halt) free by = tt
+
+-- it was given up behind the end of PEI
+pub given_up_behind : {M S : Type 0} (choices : Choices) (text : S → Option (List ℕ)) (faults : S → ℕ) (stands : M → StoreState → Type 0) (takes : Bool) (board : Board) (catalog : Catalog) (fuel : ℕ)
+    (sink shown : S) (halt : Halt) → StopsBehindPei choices text faults board catalog fuel sink shown → BootsTo choices text faults stands takes board catalog fuel sink shown (Err halt)
+given_up_behind choices text faults stands takes board catalog fuel sink shown H.Sink stops = inr stops
+given_up_behind choices text faults stands takes board catalog fuel sink shown H.Memory stops = inr stops
+
+-- or in PEI
+pub given_up_in_pei : {M S : Type 0} (choices : Choices) (text : S → Option (List ℕ)) (faults : S → ℕ) (stands : M → StoreState → Type 0) (takes : Bool) (board : Board) (catalog : Catalog) (fuel : ℕ)
+    (sink shown : S) (halt : Halt) → BootsBy choices.peims choices.lets_peim stands catalog fuel (pei_opening board catalog) (text sink) (text shown) (Err halt) → IsWantedBefore {A = Left M} takes (text sink) (text shown) (Err halt)
+    → BootsTo choices text faults stands takes board catalog fuel sink shown (Err halt)
+given_up_in_pei choices text faults stands takes board catalog fuel sink shown H.Sink stops before = inl stops
+given_up_in_pei choices text faults stands takes board catalog fuel sink shown H.Memory stops before = inl (record { stops = stops; before = before })

@@ -1,0 +1,18 @@
+use Rattle.std.proofs.Common.{arith, ℕ, List, length}
+use Rattle.std.proofs.lemmas.Str.{IsUtf8-from_ascii}
+use Rattle.std.proofs.lemmas.Bool.{cases_lt}
+use Rattle.std.proofs.lemmas.List.{get_or_past}
+use Rattle.std.specs.Str.{IsAscii}
+use Rattle.boot_plan.specs.Range.{IsName}
+use Rattle.boot_core.proofs.plan_files.job.text_of.Goals as goal
+use mathlib.Core.Logic.{inl, inr}
+
+ascii : (name : List ℕ) → IsName name → IsAscii name
+ascii name is i =
+    elim (cases_lt i (length name)) [
+      | inl under ↦ omega (arith, is.visible i 0 under)
+      | inr over ↦ omega (arith, get_or_past name i 0 over)
+    ]
+
+pub unreachable-requires : goal.unreachable-requires
+unreachable-requires c = c.in-Err.ensures.cases.0 (IsUtf8-from_ascii c.args.name.now (ascii c.args.name.now c.requires))

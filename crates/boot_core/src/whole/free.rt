@@ -1,0 +1,20 @@
+//! Boots by choices are free ones.
+ghost use Rattle.boot_core.specs.Choices.{choices_of};
+ghost use Rattle.boot_core.specs.FreeWay.{AreFree};
+
+use boot_io::Sink;
+use boot_laws::{
+    Choice, cursor_aims, dxe_chooses_by_groups, dxe_goes_on, groups_are_aimed, pei_starts_freely,
+};
+
+/// Whatever the choice, free steps alone lead to each machine to which its boots come, and where one comes to its end its lines are those of a free boot.
+pub fn choices_are_free<S: Sink, C: Choice<S>>(choice: &C)
+    ensures { (first : S) → AreFree (choices_of (C.peims choice.now) (C.lets_in_pei choice.now)
+        (C.drivers choice.now) (C.lets_in_dxe choice.now) S.text S.faults first) }
+{
+    cursor_aims();
+    pei_starts_freely();
+    dxe_goes_on();
+    dxe_chooses_by_groups();
+    groups_are_aimed();
+}

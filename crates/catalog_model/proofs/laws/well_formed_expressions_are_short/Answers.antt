@@ -1,5 +1,0 @@
-use Rattle.catalog_model.proofs.ShortExpressions.{are_short}
-use Rattle.catalog_model.proofs.laws.well_formed_expressions_are_short.Goals as goal
-
-pub returns : goal.returns
-returns c = are_short

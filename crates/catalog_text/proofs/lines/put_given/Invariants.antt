@@ -1,7 +1,0 @@
-use Rattle.std.proofs.Common.{◌≡◌, ◌++◌, flat_map, take}
-use Rattle.pi_base.specs.WordText.{guid_text}
-use Rattle.catalog_text.specs.Lines.{gives_line}
-use Rattle.catalog_text.proofs.lines.put_given.Given as goal
-
-abbrev pub invariant-guids : goal.invariant-guids
-invariant-guids l = l.out ≡ l.fn.out ++ flat_map (λ guid. gives_line l.fn.number l.fn.phase (guid_text guid)) (take l.guid-index l.guids)

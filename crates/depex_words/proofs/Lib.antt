@@ -1,8 +1,0 @@
-mod Depths
-mod Codes
-mod Passing
-mod Writing
-mod Parts
-mod Trees
-pub mod Says
-pub mod PrintedWords

@@ -1,0 +1,36 @@
+use Rattle.std.proofs.Common.{◌≡◌, Ok, sym, ap, ◌∙◌, subst}
+use Rattle.store_model.specs.HandleState.{HandleState, is_on_with, without, uninstall_interface}
+use Rattle.store_model.specs.HandleFacts.{IsHandleState}
+use Rattle.dxe_core.specs.Holders.{without_handle}
+use Rattle.dxe_core.specs.Index.{handles_with}
+use Rattle.dxe_core.proofs.Firsts.{removed}
+use Rattle.dxe_core.proofs.HandlesWith.{held_without}
+use Rattle.dxe_core.proofs.Indexes.{holders_rise, index_changes}
+use Rattle.dxe_core.proofs.Done.{Found, uninstalled, uninstall_kept}
+use Rattle.dxe_core.proofs.database.handles.Handles.uninstall.Goals as goal
+
+pub remove-requires-2 : goal.remove-requires-2
+remove-requires-2 c = let inside = c.self.inside in let facts = c.self.invariant.0 in holders_rise inside.holders inside.interfaces.items c.args.guid c.self.invariant.1 facts.in_order facts.once
+
+found : (c : goal.After-remove-2) → Found (record { interfaces = c.self.inside.interfaces.items; made = c.self.inside.made }) c.args.on c.args.guid c.args.value c.in_ok-place.place
+found c = let place = rw c.deref.ensures.value at c.in_ok-place.ensures.place in record { lives = place.0; first = place.1 }
+
+taken : (c : goal.After-remove-2) → c.remove.new.self.items ≡ without (is_on_with c.args.on c.args.guid c.args.value) c.self.inside.interfaces.items
+taken c = c.remove.ensures.items ∙ sym (removed (is_on_with c.args.on c.args.guid c.args.value) c.self.inside.interfaces.items c.in_ok-place.place (found c).first)
+
+pub invariant_of-self : goal.invariant_of-self
+invariant_of-self c =
+    let inside = c.self.inside in
+    let h : HandleState = record { interfaces = inside.interfaces.items; made = inside.made } in
+    let facts : IsHandleState h = c.self.invariant.0 in (
+      subst (λ list. IsHandleState (record { interfaces = list; made = inside.made })) (sym (taken c)) (uninstall_kept h c.args.on c.args.guid c.args.value c.in_ok-place.place (found c) facts),
+      index_changes inside.holders c.remove-2.new.self h.interfaces c.remove.new.self.items (without_handle c.args.on) c.args.guid c.self.invariant.1 c.remove-2.ensures
+          (λ other. ap (handles_with other) (taken c) ∙ held_without c.args.on c.args.guid c.args.value other h.interfaces c.in_ok-place.place facts.once (found c).first),
+    )
+
+pub returns-clause-row : goal.returns-clause-row
+returns-clause-row c =
+    let inside = c.self.inside in
+    let h : HandleState = record { interfaces = inside.interfaces.items; made = inside.made } in
+    subst (λ old. uninstall_interface old c.args.on c.args.guid c.args.value ≡ Ok (tt {0}, record { interfaces = c.remove.new.self.items; made = inside.made })) c.self.view_is
+    (uninstalled h c.args.on c.args.guid c.args.value c.in_ok-place.place (found c) ∙ ap (λ list. Ok (tt {0}, record { interfaces = list; made = inside.made })) (sym (taken c)))

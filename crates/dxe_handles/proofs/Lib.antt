@@ -1,9 +1,0 @@
-mod Done
-mod Firsts
-mod HandleRows
-mod HandlesWith
-mod Holding
-mod Indexes
-mod Reading
-mod Rising
-mod Stretches

@@ -1,4 +1,0 @@
-pub mod Holders
-pub mod Index
-pub mod Places
-pub mod Rows

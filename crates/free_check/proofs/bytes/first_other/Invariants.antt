@@ -1,8 +1,0 @@
-use Rattle.std.proofs.Common.{◌≡◌, ◌≤◌, length, take}
-use Rattle.free_check.proofs.bytes.first_other.Given as goal
-
-abbrev pub invariant-piece : goal.invariant-piece
-invariant-piece l = record {
-  there : l.place ≤ length l.bytes;
-  same : take l.place l.bytes ≡ take l.place l.piece;
-}

@@ -1,6 +1,0 @@
-use Rattle.std.proofs.Common.{All, take}
-use Rattle.fv_build.specs.Files.{HasWholeName}
-use Rattle.fv_build.proofs.size.have_whole_names.Given as goal
-
-abbrev pub invariant-loop-file : goal.invariant-loop-file
-invariant-loop-file l = All HasWholeName (take l.file-index l.files)

@@ -1,6 +1,0 @@
-use Rattle.std.proofs.Common.{◌≡◌, ◌^◌, ◌-◌, length, take, min}
-use Rattle.fv_build.specs.Sections.{body_bytes}
-use Rattle.fv_build.proofs.size.sections_len.Given as goal
-
-abbrev pub invariant-loop-section : goal.invariant-loop-section
-invariant-loop-section l = l.end ≡ min (length (body_bytes l.file_system (take l.section-index l.sections))) (2 ^ 64 - 1)

@@ -1,0 +1,12 @@
+use Rattle.std.proofs.Common.{◌≡◌, None, ap, ◌∙◌}
+use Rattle.fv_volume.specs.FileSystems.{Ffs2}
+use Rattle.fv_volume.specs.Building.{volume_fault}
+use Rattle.fv_volume.specs.Header.{plain}
+use Rattle.fv_volume.proofs.Modules.{none_against, only_memory}
+use Rattle.fv_volume.proofs.build.generated.generate.Goals as goal
+
+pub returns-clause-memory : goal.returns-clause-memory
+returns-clause-memory c =
+    let files = c.as_slice.ensures ∙ c.in_ok-files.ensures in
+    let none : volume_fault (plain Ffs2) None c.as_slice.result.now 0x200000 ≡ None = ap (λ fs. volume_fault (plain Ffs2) None fs 0x200000) files ∙ none_against c.args.n c.requires.most in
+    only_memory c.build_volume.result c.as_slice.result.now 0x200000 none c.build_volume.ensures.refused

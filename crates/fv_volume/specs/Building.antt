@@ -1,0 +1,59 @@
+-- A built volume, and what stands against one. (PI 1.8, volume 3, firmware volumes.)
+use Rattle.std.specs.Prelude.{◌≡◌, ℕ, ◌+◌, ◌-◌, ◌^◌, List, ◌++◌, length, map, replicate, min, Option, Some, None, if◌then◌else◌, nat_lt}
+use Rattle.std.specs.List.{list_any}
+use Rattle.fv_volume.specs.declared.frame.TheConstants.{ALIGNMENT}
+use Rattle.fv_volume.specs.declared.search.TheConstants.{MOST_FILES}
+use Rattle.fv_volume.specs.declared.build.volume_header.TheConstants.{ERASED}
+use Rattle.fv_volume.specs.declared.build.fault.BuildFault.{BuildFault}
+use Rattle.fv_volume.specs.declared.build.fault.BuildFault.TheVariants.{TooMany, Size, NoRoom, Memory}
+use Rattle.fv_volume.specs.declared.build.new_file.NewFile.{NewFile}
+use Rattle.fv_volume.specs.declared.build.volume_name.VolumeName.{VolumeName}
+use Rattle.fv_volume.specs.FileSystems.{FileSystem}
+use Rattle.fv_volume.specs.Placing.{laid}
+use Rattle.fv_volume.specs.Files.{file_bytes, is_file_too_long}
+use Rattle.fv_volume.specs.declared.build.volume_header.VolumeForm.{VolumeForm}
+use Rattle.fv_volume.specs.Header.{head_of, plain, volume_header}
+use Rattle.fv_volume.specs.Front.{ext_at, name_part, front_len}
+
+-- the files behind so many bytes, each at the next multiple of 8, with erased bytes between
+abbrev pub files_bytes : FileSystem → ℕ → List NewFile → List ℕ
+files_bytes file_system from files = laid ALIGNMENT ERASED from (map (file_bytes file_system) files)
+
+-- the bytes up to the end of the last file
+abbrev pub need : FileSystem → ℕ → List NewFile → ℕ
+need file_system from files = from + length (files_bytes file_system from files)
+
+-- the files behind so many bytes of a volume of this length, and erased bytes behind them
+abbrev pub filled_from : FileSystem → ℕ → List NewFile → ℕ → List ℕ
+filled_from file_system from files len = files_bytes file_system from files ++ replicate (len - need file_system from files) ERASED
+
+-- a volume of this form and length, with this name or with none: its header, its name, its files and erased bytes
+abbrev pub volume_bytes : VolumeForm → Option VolumeName → List NewFile → ℕ → List ℕ
+volume_bytes form name files len =
+    volume_header (head_of form (ext_at name) len)
+    ++ (name_part form.header_len name ++ filled_from form.file_system (front_len form name) files len)
+
+-- a volume without a name
+abbrev pub built_as : VolumeForm → List NewFile → ℕ → List ℕ
+built_as form files len = volume_bytes form None files len
+
+-- one with the usual header that tells of no attributes but its erase polarity
+abbrev pub built : FileSystem → List NewFile → ℕ → List ℕ
+built file_system files len = built_as (plain file_system) files len
+
+-- what stands first against files behind so many bytes of a volume of this length, in this order; nothing where they have room
+abbrev pub fault_from : FileSystem → ℕ → List NewFile → ℕ → Option BuildFault
+fault_from file_system from files len =
+    if nat_lt MOST_FILES (length files) then Some TooMany
+    else if list_any (is_file_too_long file_system) files then Some Size
+    else if nat_lt len (need file_system from files) then Some (NoRoom (min (need file_system from files) (2 ^ 64 - 1)) len)
+    else None
+
+-- what stands first against a volume; nothing where it can be built
+abbrev pub volume_fault : VolumeForm → Option VolumeName → List NewFile → ℕ → Option BuildFault
+volume_fault form name files len = fault_from form.file_system (front_len form name) files len
+
+-- a refusal tells what stands against the volume; memory can be wanting only where nothing does
+abbrev pub IsRefusal : VolumeForm → Option VolumeName → List NewFile → ℕ → BuildFault → Type 0
+IsRefusal form name files len Memory = volume_fault form name files len ≡ None
+IsRefusal form name files len fault = volume_fault form name files len ≡ Some fault

@@ -1,3 +1,0 @@
-pub mod Belows
-pub mod Having
-pub mod Linking

@@ -1,7 +1,0 @@
-use Rattle.heap_laws.proofs.Outside.{roms_are_apart}
-use Rattle.heap_laws.proofs.Peeking.{memory_is_read}
-use Rattle.heap_laws.proofs.Words.{first_memories, heaps_are_read}
-use Rattle.heap_laws.proofs.memory_laws.memory_read.Goals as goal
-
-pub returns : goal.returns
-returns c = record { first = first_memories; heap = heaps_are_read; peek = memory_is_read; apart = roms_are_apart }

@@ -1,5 +1,0 @@
-use Rattle.boot_io.proofs.PutsLaws.{appends_none}
-use Rattle.order_check.proofs.following.put_last.Goals as goal
-
-pub returns-in-None-clause-text : goal.returns-in-None-clause-text
-returns-in-None-clause-text g c s stands any = rw c.in-None.is (appends_none (g.S.Sink.text c.args.sink.now))

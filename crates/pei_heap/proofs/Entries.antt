@@ -1,0 +1,55 @@
+-- What an entry that is made names lies in the heap, and the state with it keeps the facts.
+use Rattle.std.proofs.Common.{◌≡◌, ◌≢◌, ◌≤◌, ◌<◌, ◌+◌, ◌^◌, ℕ, Option, ap, arith, subst, ◌∙◌}
+use Rattle.std.specs.Prelude.{option_map, unwrap_or}
+use Rattle.store_model.specs.declared.state.Body.{Body}
+use Rattle.store_model.specs.declared.state.Body.TheVariants.{Descriptor}
+use Rattle.store_model.specs.declared.state.DescriptorBody.{DescriptorBody}
+use Rattle.store_model.specs.declared.store_handle.DescKind.{DescKind}
+use Rattle.store_model.specs.declared.store_handle.DescKind.TheVariants.{Ppi, Callback, Dispatch}
+use Rattle.store_model.specs.declared.store_handle.EntryList.{EntryList}
+use Rattle.store_model.specs.declared.store_handle.EntryList.TheVariants.{Ppis, Callbacks, Dispatches, Pendings}
+use Rattle.store_model.specs.StoreState.{StoreState}
+use Rattle.store_model.specs.StateFacts.{IsDescriptorAt, IsStoreState}
+use Rattle.store_model.specs.Service.Descriptor.{descriptor_in, kind_at}
+use Rattle.store_model.specs.Service.Notify.{with_note_of}
+use Rattle.store_laws.specs.Bodies.{BodiesAreInside}
+use Rattle.store_laws.specs.Keeping.{IsWord}
+use Rattle.store_laws.specs.Steps.{StepsKeepFacts}
+use Rattle.store_laws.proofs.Facts.{has_room, heaps_are_low}
+use Rattle.pei_heap.specs.declared.links.entry.NewEntry.{NewEntry}
+use Rattle.pei_heap.specs.NewEntry.{IsOf, IsReady, second_of, with_entry}
+
+low : (s : StoreState) (kind : DescKind) (place : ℕ) → BodiesAreInside → IsStoreState s → IsDescriptorAt s kind place → s.base + place < 2 ^ 64
+low s kind place law h d =
+    let inside = (law s place (Descriptor d.0) h d.1).before in
+    let room = has_room s h in
+    let end : s.base + s.len ≤ 0x10000000000 = heaps_are_low s h in
+    omega (arith, inside, room, end)
+
+pub descriptor_low : (list : EntryList) (entry : NewEntry) (s : StoreState) → BodiesAreInside → IsStoreState s → IsOf list entry s → s.base + entry.descriptor < 2 ^ 64
+descriptor_low Ppis entry s law h names = low s Ppi entry.descriptor law h names
+descriptor_low Callbacks entry s law h names = low s Callback entry.descriptor law h names
+descriptor_low Dispatches entry s law h names = low s Dispatch entry.descriptor law h names
+descriptor_low Pendings entry s law h names = low s Dispatch entry.descriptor law h names.1
+
+pub second_low : (list : EntryList) (entry : NewEntry) (s : StoreState) → BodiesAreInside → IsStoreState s → IsOf list entry s → second_of list s.base entry < 2 ^ 64
+second_low Ppis entry s law h names = omega arith
+second_low Callbacks entry s law h names = omega arith
+second_low Dispatches entry s law h names = omega arith
+second_low Pendings entry s law h names = low s Ppi entry.ppi law h names.0
+
+kind_is : (s : StoreState) (kind : DescKind) (place : ℕ) → IsDescriptorAt s kind place → kind_at s place ≡ kind
+kind_is s kind place d = ap (λ (body : Option Body). unwrap_or (option_map (λ (x : DescriptorBody). x.kind) (descriptor_in body)) Dispatch) d.1 ∙ d.2
+
+pub still_state : (list : EntryList) (entry : NewEntry) (s : StoreState) → StepsKeepFacts → IsStoreState s → IsReady list entry s → IsWord entry.by → IsStoreState (with_entry list entry s)
+still_state Ppis entry s law h ready by = (law.ppi s entry.by (record { offset = entry.descriptor }) (record { state = h; room = ready.room }) ready.names by).state
+still_state Callbacks entry s law h ready by =
+    let other : Callback ≢ Ppi = λ e. absurd cc in
+    let step = law.note s Callback entry.by (record { offset = entry.descriptor }) (record { state = h; room = ready.room }) other ready.names by in
+    subst (λ (kind : DescKind). IsStoreState (with_note_of kind entry.by s (record { offset = entry.descriptor }))) (kind_is s Callback entry.descriptor ready.names) step.state
+still_state Dispatches entry s law h ready by =
+    let other : Dispatch ≢ Ppi = λ e. absurd cc in
+    let step = law.note s Dispatch entry.by (record { offset = entry.descriptor }) (record { state = h; room = ready.room }) other ready.names by in
+    subst (λ (kind : DescKind). IsStoreState (with_note_of kind entry.by s (record { offset = entry.descriptor }))) (kind_is s Dispatch entry.descriptor ready.names) step.state
+still_state Pendings entry s law h ready by =
+    (law.pending s entry.by (entry.ppi, entry.descriptor) (record { state = h; room = ready.room }) (record { ppi = ready.names.0; note = ready.names.1 }) by).state

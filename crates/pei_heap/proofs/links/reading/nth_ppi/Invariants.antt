@@ -1,0 +1,17 @@
+use Rattle.std.proofs.Common.{◌≡◌, drop}
+use Rattle.std.specs.Prelude.{filter, slice_get}
+use Rattle.pi_base.specs.Guids.{same_guid}
+use Rattle.store_model.specs.declared.store_handle.EntryList.TheVariants.{Ppis}
+use Rattle.store_model.specs.StoreState.{StoreState}
+use Rattle.store_model.specs.Service.Descriptor.{guid_at}
+use Rattle.store_model.specs.Service.Reading.{ppis_of}
+use Rattle.pei_heap.specs.Linked.{IsLinked}
+use Rattle.pei_heap.specs.Walk.{StandsAt}
+use Rattle.pei_heap.proofs.links.reading.nth_ppi.Given as goal
+
+abbrev pub invariant-ppis : goal.invariant-ppis
+invariant-ppis l = record {
+  at : (s : StoreState) → IsLinked l.heap l.memory l.heads s → StandsAt s Ppis l._place l.at;
+  left : (s : StoreState) → IsLinked l.heap l.memory l.heads s
+      → slice_get (filter (λ entry. same_guid (guid_at s entry.descriptor) l.guid) (drop l._place s.ppis)) l.left ≡ slice_get (ppis_of s l.guid) l.n;
+}

@@ -1,5 +1,0 @@
-use Rattle.pitools.proofs.TextsAgain.{again}
-use Rattle.pitools.proofs.text_again.texts_make_volumes_again.Goals as goal
-
-pub returns : goal.returns
-returns c = again (record { made = c.made_of_its_text.ensures; refused = c.refused_for_room.ensures })

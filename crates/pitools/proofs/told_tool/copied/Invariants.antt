@@ -1,5 +1,0 @@
-use Rattle.std.proofs.Common.{◌≡◌, take}
-use Rattle.pitools.proofs.told_tool.copied.Given as goal
-
-abbrev pub invariant-images : goal.invariant-images
-invariant-images l = l.copies ≡ take l.image-index l.images

@@ -1,0 +1,16 @@
+use Rattle.std.proofs.Common.{subst}
+use Rattle.mod_catalog.specs.Catalogue.{IsCatalogue}
+use Rattle.mod_catalog.specs.ImageFault.{IsImageFault}
+use Rattle.boot_core.proofs.SomeVolume.{some_volume}
+use Rattle.recorded_boot.proofs.Faults.{told_fault}
+use Rattle.recorded_boot.proofs.follow.images.follow.Goals as goal
+
+pub returns-in-Err-clause-row : goal.returns-in-Err-clause-row
+returns-in-Err-clause-row g c =
+    told_fault c.args.plan.now c.args.images c.args.order.now (g.S.Sink.text c.args.sink.now) c.in-Err.fault c.fault_of.result c.fault_of.ensures
+    (λ real. subst (λ images. IsImageFault c.args.plan.now images c.in-Err.fault) c.as_slice.ensures (c.in-Err.ensures.refused real))
+
+pub follow_catalog-followed-requires-clause-some : goal.follow_catalog-followed-requires-clause-some
+follow_catalog-followed-requires-clause-some g c =
+    let found = subst (λ images. IsCatalogue c.args.plan.now images c.in-Ok.catalog) c.as_slice.ensures c.in-Ok.ensures.found in
+    some_volume c.args.plan.now c.args.images c.in-Ok.catalog found c.requires.in_range.some_volume

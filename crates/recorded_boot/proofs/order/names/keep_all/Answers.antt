@@ -1,0 +1,42 @@
+use Rattle.std.proofs.Common.{◌≡◌, ◌<◌, ◌+◌, ℕ, List, Some, Err, length, get_or, refl, sym, ap, subst, arith, slice_get}
+use Rattle.std.proofs.lemmas.Result.{err_from_is_err_and}
+use Rattle.std.proofs.lemmas.Option.{slice_get_read}
+use Rattle.mod_catalog.specs.declared.catalogue.Catalog.{Catalog}
+use Rattle.mod_catalog.specs.declared.catalogue.Module.{Module}
+use Rattle.recorded_boot.specs.declared.order.names.NamesFault.{NamesFault}
+use Rattle.recorded_boot.specs.Named.{AreNames, IsFirstWithTwins}
+use Rattle.recorded_boot.specs.Taking.{Fails, IsKept}
+use Rattle.recorded_boot.proofs.Building.{no_twins, refused, one_more_named}
+use Rattle.recorded_boot.proofs.order.names.keep_all.Goals as goal
+
+-- the module at hand
+at_hand : (catalog : Catalog) (items : List Module) (k : ℕ) (m : Module) → items ≡ catalog.modules → k < length items → m ≡ get_or items k m → (slice_get catalog.modules k ≡ Some m) × (k < length catalog.modules)
+at_hand catalog items k m same below is = (subst (λ xs. slice_get xs k ≡ Some m) same (slice_get_read items (length items) k m refl below is), subst (λ xs. k < length xs) same below)
+
+pub modules-preserved : goal.modules-preserved
+modules-preserved c =
+    let catalog = c.args.catalog.now in
+    let at = at_hand catalog c.as_slice-member-items.result.now c.modules.member-index c.member-item.result c.as_slice-member-items.ensures c.modules-test.true c.member-item.is in
+    let kept = c.in_ok-keep.ensures in
+    record {
+      names = one_more_named catalog c.modules.member-index c.member-item.result c.modules.maps.items c.keep.new.maps.items c.modules.invariant.names at.0 at.1
+          (subst (λ n. IsKept c.member-item.result.volume c.member-item.result.name n c.modules.maps.items c.keep.new.maps.items) c.modules.invariant.number kept);
+      number = ap (λ n. n + 1) c.modules.invariant.number;
+    }
+
+pub returns-in_err-keep-clause-twins : goal.returns-in_err-keep-clause-twins
+returns-in_err-keep-clause-twins c =
+    let catalog = c.args.catalog.now in
+    let at = at_hand catalog c.as_slice-member-items.result.now c.modules.member-index c.member-item.result c.as_slice-member-items.ensures c.modules-test.true c.member-item.is in
+    let p = err_from_is_err_and c.from_residual.result c.from_residual.ensures.1 in
+    rw p.1 (subst (λ (fault : NamesFault). Fails {A = Unit {0}} (IsFirstWithTwins catalog) (Err fault)) (sym p.2)
+    (refused (Unit {0}) catalog c.modules.member-index c.modules.number c.member-item.result c.modules.maps.items c.keep.new.maps.items c.in_err-keep.field-0.0 c.requires.catalog c.modules.invariant.names at.0 at.1
+    c.in_err-keep.ensures))
+
+pub returns-clause-names : goal.returns-clause-names
+returns-clause-names c =
+    let same : c.modules.member-index ≡ length c.args.catalog.now.modules = omega (arith, c.modules-test.false, c.modules.auto.member-index-end, ap length c.as_slice-member-items.ensures) in
+    subst (λ n. AreNames c.args.catalog.now n c.modules.maps.items) same c.modules.invariant.names
+
+pub returns-clause-apart : goal.returns-clause-apart
+returns-clause-apart c = no_twins c.args.catalog.now c.modules.maps.items (returns-clause-names c)

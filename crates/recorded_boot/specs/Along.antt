@@ -1,0 +1,15 @@
+-- The starts that a boot has made beside those that an order asks for.
+-- Own.
+use Rattle.std.specs.Prelude.{◌≡◌, ◌⊎◌, ◌≤◌, ℕ, List, None, length}
+use Rattle.recorded_boot.specs.declared.order.line.Start.{Start}
+use Rattle.recorded_boot.specs.declared.order.lines.StartOrder.{StartOrder}
+use Rattle.recorded_boot.specs.Starts.{ComeFirst}
+use Rattle.recorded_boot.specs.ByOrder.{starts_of}
+
+-- starts are made as an order asks: they are the first of its starts, or they come behind all of them, where it does not stop
+abbrev pub IsAlong : StartOrder → List Start → Type 0
+IsAlong order made = ComeFirst made (starts_of order.starts) ⊎ ((order.stop ≡ None) × ComeFirst (starts_of order.starts) made)
+
+-- this is how many starts there were, or both are no fewer than those of the order: the core of PEI counts to the last u32
+abbrev pub IsIndex : StartOrder → List Start → ℕ → Type 0
+IsIndex order made index = (index ≡ length made) ⊎ ((length order.starts ≤ index) × (length order.starts ≤ length made))

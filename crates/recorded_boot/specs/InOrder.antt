@@ -1,0 +1,107 @@
+-- The boot in an order of starts: the machines to which the order's choices lead. It comes to its end, or is left before the start of a module that the order does not let.
+-- Own; PI 1.8, volumes 1 and 2, leave the order of the modules that may start to the dispatchers.
+use Rattle.std.specs.Prelude.{◌≡◌, ℕ, false, List, [], ◌++◌, Option, Some, None}
+use Rattle.std.specs.Io.KnownBytes.{Appends}
+use Rattle.pi_base.specs.declared.phase.Phase.TheVariants.{Pei, Dxe}
+use Rattle.mod_catalog.specs.declared.catalogue.Catalog.{Catalog}
+use Rattle.store_model.specs.HandleState.{HandleState, no_handles}
+use Rattle.store_model.specs.StoreState.{Board, StoreState}
+use Rattle.boot_model.specs.declared.line.Line.{Line}
+use Rattle.boot_model.specs.declared.line.RunEnd.{RunEnd}
+use Rattle.boot_model.specs.declared.line.RunEnd.TheVariants as E
+use Rattle.boot_model.specs.declared.phase_end.DxeEnd.{DxeEnd}
+use Rattle.boot_model.specs.declared.phase_end.PeiEnd.{PeiEnd}
+use Rattle.boot_model.specs.declared.phase_end.PeiEnd.TheVariants.{Handoff, NoMemory, NoIpl, Spent, Deep}
+use Rattle.boot_model.specs.BootRun.{dxe_result}
+use Rattle.boot_model.specs.DxeMachine.{DxeMachine}
+use Rattle.boot_model.specs.PeiMachine.{PeiMachine}
+use Rattle.boot_model.specs.PeiRun.{pei_opening}
+use Rattle.boot_model.specs.Text.{text_of}
+use Rattle.boot_trace.specs.Printing.{Texts}
+use Rattle.recorded_boot.specs.declared.order.lines.StartOrder.{StartOrder}
+use Rattle.pei_dispatch.specs.Choices as P
+use Rattle.pei_dispatch.specs.Ends.{pei_starts}
+use Rattle.dxe_dispatch.specs.Choices as D
+use Rattle.boot_core.specs.ByChoice.{ComesInDxe}
+use Rattle.boot_core.specs.Choices as W
+use Rattle.boot_core.specs.Closing.{closing}
+use Rattle.recorded_boot.specs.declared.follow.following.Followed.{Followed}
+use Rattle.recorded_boot.specs.ByOrder.{NamesAsked, lets_by}
+use Rattle.recorded_boot.specs.Leaving.{ComesTo}
+
+-- the choices of an order
+abbrev pub order_choices : Catalog → StartOrder → W.Choices
+order_choices catalog order = record {
+  peims = λ m named. NamesAsked catalog Pei order (pei_starts m) named;
+  lets_peim = λ m number. lets_by catalog order Pei (pei_starts m) number;
+  drivers = λ pei m named. NamesAsked catalog Dxe order (W.starts_of pei m) named;
+  lets_driver = λ pei m number. lets_by catalog order Dxe (W.starts_of pei m) number;
+}
+
+-- PEI by them comes from its opening to this machine, over these, the last of them first
+abbrev pub RunsInPei : Board → Catalog → ℕ → StartOrder → List PeiMachine → PeiMachine → Type 0
+RunsInPei board catalog fuel order earlier m =
+    P.IsRunBy (order_choices catalog order).peims (order_choices catalog order).lets_peim catalog fuel (pei_opening board catalog) earlier m
+
+-- what a boot has come to: its lines, but the last ones, its store and handles, how many starts there were, and its result where it has ended
+pub record Place : Type 0 where
+  pub lines : List Line
+  pub store : StoreState
+  pub handles : HandleState
+  pub starts : ℕ
+  pub «end» : Option RunEnd
+
+abbrev pub pei_place : PeiMachine → Option RunEnd → Place
+pei_place m end = record { lines = m.lines; store = m.store; handles = no_handles; starts = pei_starts m; «end» = end }
+
+abbrev pub dxe_place : PeiMachine → DxeMachine → Option RunEnd → Place
+dxe_place pei m end = record { lines = pei.lines ++ m.lines; store = pei.store; handles = m.handles; starts = W.starts_of pei m; «end» = end }
+
+-- in this machine of PEI, or of DXE, a module is due that is not let
+pub record BarsInPei (by : W.Choices) (catalog : Catalog) (m : PeiMachine) : Type 0 where
+  pub number : ℕ
+  pub due : P.IsDue by.peims catalog m number
+  pub barred : by.lets_peim m number ≡ false
+
+pub record BarsInDxe (by : W.Choices) (catalog : Catalog) (pei : PeiMachine) (m : DxeMachine) : Type 0 where
+  pub number : ℕ
+  pub due : D.IsDue (by.drivers pei) catalog m number
+  pub barred : by.lets_driver pei due.target number ≡ false
+
+-- behind this PEI the boot stands there in DXE, which has ended so or is left
+abbrev pub IsDxePlace : W.Choices → Catalog → PeiMachine → DxeMachine → Option DxeEnd → Place → Type 0
+IsDxePlace by catalog pei m None place = BarsInDxe by catalog pei m × (place ≡ dxe_place pei m None)
+IsDxePlace by catalog pei m (Some how) place = place ≡ dxe_place pei m (Some (dxe_result how))
+
+pub record StandsInDxe (by : W.Choices) (catalog : Catalog) (fuel : ℕ) (pei : PeiMachine) (place : Place) : Type 0 where
+  pub m : DxeMachine
+  pub comes : ComesInDxe by catalog fuel pei m
+  pub stands : IsDxePlace by catalog pei m m.ended place
+
+-- the boot stands there with PEI, which has ended so or is left; behind a hand-off it stands in DXE
+abbrev pub IsPeiPlace : W.Choices → Catalog → ℕ → PeiMachine → Option PeiEnd → Place → Type 0
+IsPeiPlace by catalog fuel m None place = BarsInPei by catalog m × (place ≡ pei_place m None)
+IsPeiPlace by catalog fuel m (Some Handoff) place = StandsInDxe by catalog fuel m place
+IsPeiPlace by catalog fuel m (Some NoMemory) place = place ≡ pei_place m (Some E.NoMemory)
+IsPeiPlace by catalog fuel m (Some NoIpl) place = place ≡ pei_place m (Some E.NoIpl)
+IsPeiPlace by catalog fuel m (Some Spent) place = place ≡ pei_place m (Some E.Spent)
+IsPeiPlace by catalog fuel m (Some Deep) place = place ≡ pei_place m (Some E.Deep)
+
+-- the place to which the order leads
+pub record LeadsTo (board : Board) (catalog : Catalog) (fuel : ℕ) (order : StartOrder) (place : Place) : Type 0 where
+  pub earlier : List PeiMachine
+  pub m : PeiMachine
+  pub runs : RunsInPei board catalog fuel order earlier m
+  pub stands : IsPeiPlace (order_choices catalog order) catalog fuel m m.ended place
+
+-- the last lines of a boot that has ended so, and none of one that is left before a start
+abbrev pub last_lines : StoreState → HandleState → Option RunEnd → List Line
+last_lines s h None = []
+last_lines s h (Some end) = closing s h end
+
+-- the boot in the order was put whole, and this is what the order makes of the place to which it leads
+pub record BootsInOrder (board : Board) (catalog : Catalog) (fuel : ℕ) (order : StartOrder) (t : Texts) (followed : Followed) : Type 0 where
+  pub place : Place
+  pub leads : LeadsTo board catalog fuel order place
+  pub text : Appends t.old t.new (text_of (place.lines ++ last_lines place.store place.handles place.«end»))
+  pub comes : ComesTo catalog order place.starts place.store place.handles place.«end» followed

@@ -1,0 +1,33 @@
+-- What a boot along an order comes to where it is left before a start, or has ended, by what the order asks for behind so many starts.
+-- Own.
+use Rattle.std.specs.Prelude.{◌≡◌, ℕ, Option, Some, None, slice_get, take}
+use Rattle.mod_catalog.specs.declared.catalogue.Catalog.{Catalog}
+use Rattle.store_model.specs.HandleState.{HandleState}
+use Rattle.store_model.specs.StoreState.{StoreState}
+use Rattle.boot_model.specs.declared.line.RunEnd.{RunEnd}
+use Rattle.recorded_boot.specs.declared.order.line.AskedStart.{AskedStart}
+use Rattle.recorded_boot.specs.declared.order.lines.StartOrder.{StartOrder}
+use Rattle.recorded_boot.specs.declared.follow.against.Against.{Against}
+use Rattle.recorded_boot.specs.declared.follow.following.Followed.{Followed}
+use Rattle.recorded_boot.specs.declared.follow.following.Followed.TheVariants.{Ended, Stopped, No}
+use Rattle.recorded_boot.specs.Against.{StandsAgainst}
+use Rattle.recorded_boot.specs.ByOrder.{starts_of}
+
+-- the order asks for a start there, against which something stands
+pub record IsRefused (catalog : Catalog) (order : StartOrder) (index : ℕ) (s : StoreState) (h : HandleState) (line : ℕ) (against : Against) : Type 0 where
+  pub asked : AskedStart
+  pub asks : slice_get order.starts index ≡ Some asked
+  pub line_is : line ≡ asked.line
+  pub stood : StandsAgainst catalog (starts_of (take index order.starts)) s h asked.start against
+
+-- where the order asks for no start more
+abbrev pub IsReached : Option RunEnd → Followed → Type 0
+IsReached end (Ended so) = end ≡ Some so
+IsReached end Stopped = end ≡ None
+IsReached end (No line against) = ⊥
+
+-- behind so many starts, where the boot has ended so, or is left before the next one
+abbrev pub ComesTo : Catalog → StartOrder → ℕ → StoreState → HandleState → Option RunEnd → Followed → Type 0
+ComesTo catalog order index s h end (Ended so) = (end ≡ Some so) × (slice_get order.starts index ≡ None)
+ComesTo catalog order index s h end Stopped = (end ≡ None) × (slice_get order.starts index ≡ None)
+ComesTo catalog order index s h end (No line against) = IsRefused catalog order index s h line against

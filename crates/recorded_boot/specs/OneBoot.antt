@@ -1,0 +1,41 @@
+-- An order leads to one answer, and one text.
+-- Own.
+use Rattle.std.specs.Prelude.{◌≡◌, ◌≤◌, ◌-◌, ◌^◌, ℕ, List, [], Some, Result, Ok, Err, length, ⊤}
+use Rattle.pi_base.specs.Field.{AreBytes}
+use Rattle.pi_base.specs.Lists.{Each}
+use Rattle.boot_plan.specs.declared.plan.Plan.{Plan}
+use Rattle.mod_catalog.specs.declared.catalogue.Catalog.{Catalog}
+use Rattle.mod_catalog.specs.WellFormed.{IsWellFormed}
+use Rattle.store_model.specs.StoreState.{Board}
+use Rattle.boot_trace.specs.Printing.{Texts}
+use Rattle.recorded_boot.specs.Named.{HasNoTwins}
+use Rattle.recorded_boot.specs.declared.order.lines.StartOrder.{StartOrder}
+use Rattle.recorded_boot.specs.declared.follow.following.Followed.{Followed}
+use Rattle.recorded_boot.specs.declared.follow.images.FollowFault.{FollowFault}
+use Rattle.recorded_boot.specs.declared.follow.images.FollowFault.TheVariants.{Image, Twins, Sink, Memory}
+use Rattle.recorded_boot.specs.Answer.{FollowsTo}
+use Rattle.recorded_boot.specs.Follow.{Follows}
+
+-- this text was put, and nothing before it
+abbrev pub put : List ℕ → Texts
+put text = record { old = Some []; new = Some text }
+
+-- a boot that comes to its end, or is left, in the same order comes to the same, with the same text
+abbrev pub OneBoot : Type 0
+OneBoot = (board : Board) (catalog : Catalog) (fuel : ℕ) (order : StartOrder) → IsWellFormed catalog → HasNoTwins catalog → length order.starts ≤ 2 ^ 32 - 1
+    → (one other : Followed) (text told : List ℕ) → FollowsTo board catalog fuel order (put text) (Ok one) → FollowsTo board catalog fuel order (put told) (Ok other)
+    → (one ≡ other) × (text ≡ told)
+
+-- the answer is none of a sink that failed or of want of memory
+abbrev pub IsAnswer : Result Followed FollowFault → Type 0
+IsAnswer (Ok followed) = ⊤
+IsAnswer (Err (Image fault)) = ⊤
+IsAnswer (Err (Twins volume)) = ⊤
+IsAnswer (Err Sink) = ⊥
+IsAnswer (Err Memory) = ⊥
+
+-- a plan, its images and an order have one answer
+abbrev pub OneAnswer : Type 0
+OneAnswer = (plan : Plan) (images : List (List ℕ)) (order : StartOrder) → Each AreBytes images → length order.starts ≤ 2 ^ 32 - 1
+    → (one other : Result Followed FollowFault) (text told : List ℕ) → IsAnswer one → IsAnswer other
+    → Follows plan images order (put text) one → Follows plan images order (put told) other → (one ≡ other) × (text ≡ told)

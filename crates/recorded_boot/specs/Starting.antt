@@ -1,0 +1,39 @@
+-- The start of a module as the next line of a text has it.
+-- Own.
+use Rattle.std.specs.Prelude.{◌≡◌, ℕ, true, List, Option, Some, slice_get, length}
+use Rattle.boot_io.specs.Faults.{IsPrefix}
+use Rattle.pi_base.specs.declared.guid.Guid.{Guid}
+use Rattle.pi_base.specs.declared.phase.Phase.{Phase}
+use Rattle.pi_base.specs.declared.phase.Phase.TheVariants.{Pei}
+use Rattle.mod_catalog.specs.declared.catalogue.Catalog.{Catalog}
+use Rattle.mod_catalog.specs.Parts.{has_number, module_name, module_volume}
+use Rattle.boot_model.specs.declared.licence.Licence.{Licence}
+use Rattle.boot_model.specs.declared.line.Line.{Line}
+use Rattle.boot_model.specs.Text.{line_text}
+use Rattle.recorded_boot.specs.declared.trace.spelled.Spelled.{Spelled}
+use Rattle.recorded_boot.specs.Spelled.{IsRight, left}
+use Rattle.recorded_boot.specs.Named.{AreNames, IsNamed}
+use Rattle.trace_reader.specs.Readable.{IsReadable}
+use Rattle.recorded_boot.specs.StartLine.{phase_start}
+
+-- the line of a module's start in a phase by a licence
+abbrev pub start_of : Phase → Catalog → ℕ → Licence → Line
+start_of phase catalog number licence = phase_start phase (module_volume catalog number) (module_name catalog number) licence
+
+-- the text goes on with the start of this module by a licence
+pub record StartsNext (phase : Phase) (catalog : Catalog) (rest : List ℕ) (number : ℕ) : Type 0 where
+  pub licence : Licence
+  pub named : IsNamed catalog (module_volume catalog number) (module_name catalog number) number
+  pub readable : IsReadable (start_of phase catalog number licence)
+  pub next : IsPrefix (line_text (start_of phase catalog number licence)) rest
+
+-- where the text goes on with the start of a module, that is the one
+abbrev pub NamesNext : Phase → List (List (Guid × ℕ)) → Spelled → Option ℕ → Type 0
+NamesNext phase names text named =
+    IsRight text → (catalog : Catalog) → AreNames catalog (length catalog.modules) names
+    → (number : ℕ) → StartsNext phase catalog (left text) number → named ≡ Some number
+
+-- a cursor stands before the PEIM that the text starts next, where that is in the order
+abbrev pub IsAimedAt : Catalog → List ℕ → List ℕ → ℕ → Type 0
+IsAimedAt catalog rest order cursor =
+    (number : ℕ) → StartsNext Pei catalog rest number → has_number order number ≡ true → slice_get order cursor ≡ Some number

@@ -1,0 +1,23 @@
+// Why a text is no order.
+
+use pi_base::OutOfMemory;
+
+/// Why a text is no order of starts.
+#[derive(Clone, Copy, Debug)]
+pub enum OrderFault {
+    /// The number, from 1, of the first line that is of no form or stands behind `stop`.
+    Bad { line: u32 },
+    /// Want of memory.
+    Memory,
+}
+
+impl From<OutOfMemory> for OrderFault {
+    ghost use Rattle.std.specs.Prelude.{◌≡◌};
+    ghost use Rattle.recorded_boot.specs.declared.order.fault.OrderFault.TheVariants.{Memory};
+
+    ghost from_gives = { λ _ fault. fault ≡ Memory };
+
+    fn from(_want: OutOfMemory) -> OrderFault {
+        OrderFault::Memory
+    }
+}

@@ -1,5 +1,0 @@
-use Rattle.script_words.proofs.Said.{said_result}
-use Rattle.script_words.proofs.action.read_action.Goals as goal
-
-pub returns-clause-said : goal.returns-clause-said
-returns-clause-said c = said_result c.args.phase c.args.line.now c.action_of.result c.action_of.ensures

@@ -1,5 +1,0 @@
-use Rattle.script_words.proofs.PrintedActions.{action_read}
-use Rattle.script_words.proofs.law.printed_actions.Goals as goal
-
-pub returns : goal.returns
-returns c = λ phase action is indexed bytes. action_read phase action (record { is = is; indexed = indexed; bytes = bytes })

@@ -1,9 +1,0 @@
-use Rattle.std.proofs.Common.{◌≡◌, length}
-use Rattle.script_words.specs.Line.{unindented}
-use Rattle.script_words.proofs.line.unindented.Given as goal
-
-abbrev pub invariant-blanks : goal.invariant-blanks
-invariant-blanks l = unindented l.rest ≡ unindented l.line
-
-abbrev pub decreases-blanks : goal.decreases-blanks
-decreases-blanks l = length l.rest

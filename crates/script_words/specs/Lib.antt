@@ -1,6 +1,0 @@
-pub mod Reading
-pub mod Line
-pub mod Word
-pub mod Operands
-pub mod Action
-pub mod Script

@@ -1,7 +1,0 @@
-use Rattle.std.proofs.Common.{take}
-use Rattle.pi_base.specs.Lists.{Each}
-use Rattle.line_words.specs.PrintedWords.{IsGuid}
-use Rattle.start_order.proofs.guids.names_are_guids.Given as goal
-
-abbrev pub invariant-modules : goal.invariant-modules
-invariant-modules l = Each (λ m. IsGuid m.name) (take l.member-index l.catalog.modules)

@@ -1,5 +1,0 @@
-use Rattle.start_order.proofs.OrderStarts as Law
-use Rattle.start_order.proofs.start_laws.order_is_of_starts.Goals as goal
-
-pub returns : goal.returns
-returns c = λ lines. Law.same_starts 1 lines

@@ -1,0 +1,12 @@
+//! The heap in memory.
+ghost use Rattle.store_laws.specs.Descriptors.{VolumesAreApart};
+ghost use Rattle.store_laws.specs.Mapped.{FirstMemories, HeapsAreRead};
+ghost use Rattle.store_laws.specs.Peeking.{MemoryIsRead};
+
+/// What memory reads where its heap is known.
+pub fn memory_read()
+    ensures first { FirstMemories }
+    ensures heap { HeapsAreRead }
+    ensures peek { MemoryIsRead }
+    ensures apart { VolumesAreApart }
+{}

@@ -1,0 +1,11 @@
+//! The move.
+ghost use Rattle.store_laws.specs.Moving.{DescriptorsAreMoved, HeapsAreMoved, NodesAreMoved, PagesAreMoved, ShiftsAreOnce};
+
+/// The heap while it is moved, and where all of it is.
+pub fn heap_shifted()
+    ensures node { NodesAreMoved }
+    ensures descriptor { DescriptorsAreMoved }
+    ensures pages { PagesAreMoved }
+    ensures moved { HeapsAreMoved }
+    ensures once { ShiftsAreOnce }
+{}

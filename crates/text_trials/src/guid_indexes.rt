@@ -1,0 +1,39 @@
+// Entries by GUID: the next one from a place on, and the n-th.
+use mem_store::guid_index::{GuidIndex, Indexed};
+use pi_base::Guid;
+use std::process::Abort;
+use std::test::*;
+
+fn guid(last: u8) -> Guid {
+    let mut bytes = [0u8; 16];
+    bytes[15] = last;
+    Guid(bytes)
+}
+
+fn at_nth(index: &GuidIndex, last: u8, n: usize) -> Option<u64> {
+    match index.nth(&guid(last), n) {
+        Some(entry) => Some(entry.at),
+        None => None,
+    }
+}
+
+// Two GUIDs in turn, each entry at its place.
+fn push_many(rt: &impl Abort, index: &mut GuidIndex) {
+    for place in 0..4096u64 {
+        let guid = guid((place % 2) as u8);
+        assert!(rt; index.push(Indexed { guid, at: place }));
+    }
+}
+
+fn try_many(rt: &impl Abort, index: &GuidIndex) {
+    let found = (index.next(&guid(1), 4000), at_nth(index, 0, 2047));
+    assert!(rt; found == (Some(4001), Some(4094)));
+}
+
+#[test]
+fn two_guids_in_turn_are_found(rt: HostRuntime) {
+    let mut index = GuidIndex::new(rt.alloc(), 4096, 2).expect(&rt, "ample memory");
+    push_many(&rt, &mut index);
+    try_many(&rt, &index);
+    drop(index);
+}

@@ -1,0 +1,8 @@
+use Rattle.boot_io.proofs.PutsLaws.{puts_then}
+use Rattle.tools_core.specs.FollowText.{last_text}
+use Rattle.tools_core.proofs.follow_print.put_followed.Goals as goal
+
+pub returns-clause-text : goal.returns-clause-text
+returns-clause-text g c =
+    let T = g.S.Sink.text in
+    puts_then c.put_last.result (T c.args.sink.now) (T c.put.new.self) (T c.put_last.new.sink) c.args.lines.now (last_text c.args.followed.now) c.in_ok-put.ensures.text c.put_last.ensures.text

@@ -1,0 +1,28 @@
+-- What a plan leads to where nothing else is given: the HOB list that its PEI hands on, or its boot, explained.
+-- Own.
+use Rattle.std.specs.Prelude.{◌≡◌, ℕ, List, Option}
+use Rattle.boot_plan.specs.declared.plan.Plan.{Plan}
+use Rattle.boot_core.specs.Job.{IsNamedIn}
+use Rattle.boot_core.specs.Reading.{plan_limit}
+use Rattle.tools_core.specs.declared.command_line.PlanTool.{PlanTool}
+use Rattle.tools_core.specs.declared.command_line.PlanTool.TheVariants.{Hobs, Reasons}
+use Rattle.tools_core.specs.declared.status.ToolStatus.{ToolStatus}
+use Rattle.tools_core.specs.ExplainReport.{ExplainReport}
+use Rattle.tools_core.specs.FileReading.{IsRead, LongOutcome}
+use Rattle.tools_core.specs.HobsReport.{HobsReport}
+use Rattle.tools_core.specs.JobOutcome.{JobOutcome}
+
+-- what a plan and the images of its volumes lead to
+abbrev pub PlanReport : PlanTool → Plan → List (List ℕ) → ToolStatus → List ℕ → Type 0
+PlanReport Hobs = HobsReport
+PlanReport Reasons = ExplainReport
+
+-- what the file of a plan leads to
+pub data PlanOutcome (tool : PlanTool) (told : List ℕ → Option (List ℕ)) (plan : List ℕ) (status : ToolStatus) (out : List ℕ) : Type 0 where
+  over_long : LongOutcome (told plan) plan_limit plan status out → PlanOutcome tool told plan status out
+  text_read : (content : List ℕ) → IsRead (told plan) plan_limit content → JobOutcome (PlanReport tool) told content status out → PlanOutcome tool told plan status out
+
+-- a name of a file to which the reading comes: the plan's, and then those of the volumes
+pub data PlanNames (told : List ℕ → Option (List ℕ)) (plan name : List ℕ) : Type 0 where
+  names_the_plan : name ≡ plan → PlanNames told plan name
+  names_a_volume : (content : List ℕ) → IsRead (told plan) plan_limit content → IsNamedIn told content name → PlanNames told plan name

@@ -1,0 +1,68 @@
+// A plan alone: the HOB list of its boot, or its boot, explained.
+ghost use Rattle.std.specs.Prelude.{◌≡◌, ◌≤◌, IfOk, OnErr, length};
+ghost use Rattle.boot_plan.specs.Range.{IsPlanInRange};
+ghost use Rattle.boot_core.specs.Job.{IsNamedIn};
+ghost use Rattle.tools_core.specs.Ends.{Reports, Tells};
+ghost use Rattle.tools_core.specs.JobOutcome.{JobOutcome};
+ghost use Rattle.tools_core.specs.PlanReport.{PlanNames, PlanOutcome, PlanReport};
+
+use crate::command_line::PlanTool;
+use crate::explain_tool::explain_report;
+use crate::hobs_tool::hobs_report;
+use crate::reading::{Reading, read_file, report_of};
+use crate::report::Report;
+use boot_core::plan_files::{Job, NoJob, PLAN_LIMIT, job_of};
+use boot_io::Files;
+use pi_base::OutOfMemory;
+use std::alloc::Global;
+
+// What a plan and the images of its volumes lead to.
+fn plan_report(alloc: Global, tool: PlanTool, job: Job) -> Result<Report, OutOfMemory>
+    requires in_range { IsPlanInRange job.plan }
+    requires as_many { length job.images ≡ length job.plan.volumes }
+    ensures { IfOk result (Tells (PlanReport tool job.plan job.images)) }
+{
+    match tool {
+        PlanTool::Hobs => hobs_report(alloc, job),
+        PlanTool::Reasons => explain_report(alloc, job),
+    }
+}
+
+// What the text of a plan leads to, by the files of its volumes.
+fn with_text<F: Files>(
+    alloc: Global,
+    tool: PlanTool,
+    content: &[u8],
+    files: &mut F,
+) -> Result<Report, OutOfMemory>
+    requires content { length content.now ≤ 0x10000 }
+    ensures report { IfOk result (λ report. Reports (JobOutcome (PlanReport tool) (F.told files.old) content.now)
+        (IsNamedIn (F.told files.old) content.now) report
+        (record { before = F.faults files.old; now = F.faults files.new; missed = F.missed files.new })) }
+    ensures memory { OnErr result (F.faults files.new ≡ F.faults files.old) }
+{
+    match job_of(alloc, content, files) {
+        Ok(job) => plan_report(alloc, tool, job),
+        Err(NoJob::Refused(line)) => Ok(report_of(line)),
+        Err(NoJob::Memory) => Err(OutOfMemory),
+    }
+}
+
+/// What the files of a plan and of its volumes lead to, which are read in this order; the plan is examined before its volumes are read.
+pub(crate) fn with_plan<F: Files>(
+    alloc: Global,
+    tool: PlanTool,
+    plan: &str,
+    files: &mut F,
+) -> Result<Report, OutOfMemory>
+    ensures report { IfOk result (λ report. Reports (PlanOutcome tool (F.told files.old) plan.now)
+        (PlanNames (F.told files.old) plan.now) report
+        (record { before = F.faults files.old; now = F.faults files.new; missed = F.missed files.new })) }
+    ensures memory { OnErr result (F.faults files.new ≡ F.faults files.old) }
+{
+    let content = match read_file(alloc, plan, PLAN_LIMIT, files)? {
+        Reading::Content(content) => content,
+        Reading::Refused(report) => return Ok(report),
+    };
+    with_text(alloc, tool, content.as_slice(), files)
+}

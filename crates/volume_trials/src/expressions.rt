@@ -1,0 +1,179 @@
+// Expressions in the words of an INF file: what they are read as, and each refusal.
+use crate::gendepex::{FIFTH, FIRST, FOURTH, SECOND, THIRD};
+use depex_code::{Depex, Opcode};
+use pi_base::{Guid, OutOfMemory, Phase, Seq};
+use source_words::depex::{ExpressionFault, read_expression};
+use std::alloc::Global;
+use std::test::*;
+
+// The words, each digit as the GUID that it stands for.
+fn spelled_out(alloc: Global, words: &[u8]) -> Result<Seq<u8>, OutOfMemory> {
+    let mut text = Seq::new(alloc);
+    for byte in words {
+        if byte.is_ascii_digit() {
+            text.append(b"{0000000")?;
+            text.push(*byte)?;
+            text.append(b"-0000-4000-8000-00000000ABCD}")?;
+        } else {
+            text.push(*byte)?;
+        }
+    }
+    Ok(text)
+}
+
+// The digit that stands for a GUID.
+fn digit(guid: &Guid) -> u8 {
+    if guid.0[0] < 10 {
+        b'0' + guid.0[0]
+    } else {
+        b'?'
+    }
+}
+
+// The sign of an opcode.
+fn sign(opcode: &Opcode) -> u8 {
+    match opcode {
+        Opcode::Push(guid) => digit(guid),
+        Opcode::And => b'&',
+        Opcode::Or => b'|',
+        Opcode::Not => b'!',
+        Opcode::True => b'T',
+        Opcode::False => b'F',
+    }
+}
+
+// The signs of an expression's opcodes.
+fn signs(alloc: Global, depex: &Depex) -> Result<Seq<u8>, OutOfMemory> {
+    let mut out = Seq::new(alloc);
+    match depex {
+        Depex::Before(guid) => out.append(&[b'<', digit(guid)])?,
+        Depex::After(guid) => out.append(&[b'>', digit(guid)])?,
+        Depex::Expr { sor, tree } => {
+            if *sor {
+                out.push(b'S')?;
+            }
+            for opcode in tree.code() {
+                out.push(sign(opcode))?;
+            }
+        }
+    }
+    out.push(b'.')?;
+    Ok(out)
+}
+
+// Whether words are read as these opcodes.
+fn is_read_as(alloc: Global, phase: Phase, words: &str, opcodes: &str) -> bool {
+    let Ok(text) = spelled_out(alloc, words.as_bytes()) else {
+        return false;
+    };
+    let Ok(depex) = read_expression(alloc, phase, text.as_slice()) else {
+        return false;
+    };
+    match signs(alloc, &depex) {
+        Ok(signs) => signs.as_slice() == opcodes.as_bytes(),
+        Err(OutOfMemory) => false,
+    }
+}
+
+// Whether the expressions of all rows are read as their opcodes.
+fn are_read_as(alloc: Global, rows: &[(bool, &str, &str)]) -> bool {
+    for (of_driver, words, opcodes) in rows {
+        let phase = if *of_driver { Phase::Dxe } else { Phase::Pei };
+        if !is_read_as(alloc, phase, words, opcodes) {
+            return false;
+        }
+    }
+    true
+}
+
+#[test]
+fn two_hundred_are_read_as_gendepex_reads_them(rt: HostRuntime) {
+    let alloc = rt.alloc();
+    assert!(rt; are_read_as(alloc, &FIRST) && are_read_as(alloc, &SECOND));
+    assert!(rt; are_read_as(alloc, &THIRD) && are_read_as(alloc, &FOURTH));
+    assert!(rt; are_read_as(alloc, &FIFTH));
+}
+
+/// Expressions in other spellings of their words.
+static SPELLINGS: [(&str, &str); 4] = [
+    ("\t 1   and\t2 ", "12&."),
+    ("((1)AND(2))OR(3)end", "12&3|."),
+    ("not(not(TRUE))", "T!!."),
+    ("1 AND 2 OR 3", "123|&."),
+];
+
+#[test]
+fn blanks_and_brackets_may_stand_anywhere(rt: HostRuntime) {
+    for (words, opcodes) in &SPELLINGS {
+        assert!(rt; is_read_as(rt.alloc(), Phase::Pei, words, opcodes));
+    }
+}
+
+/// Words that are no expression, and why.
+static REFUSED: [(bool, &str, ExpressionFault); 21] = [
+    (false, "", ExpressionFault::NoOperand),
+    (false, "END", ExpressionFault::NoOperand),
+    (false, "1 AND", ExpressionFault::NoOperand),
+    (false, "1 AND END", ExpressionFault::NoOperand),
+    (false, "AND 1", ExpressionFault::NoOperand),
+    (false, "NOT", ExpressionFault::NoOperand),
+    (false, "()", ExpressionFault::NoOperand),
+    (false, "1 AND gEfiPeiCpuPpiGuid", ExpressionFault::NoGuid),
+    (false, "TRUE TRUE", ExpressionFault::Extra),
+    (false, "1 NOT 2", ExpressionFault::Extra),
+    (false, "1 (2)", ExpressionFault::Extra),
+    (false, "1 END 2", ExpressionFault::Extra),
+    (false, "1 AND SOR", ExpressionFault::Extra),
+    (false, "(1 AND 2", ExpressionFault::Bracket),
+    (false, "(1 AND 2 END", ExpressionFault::Bracket),
+    (false, "1)", ExpressionFault::Bracket),
+    (false, "SOR TRUE", ExpressionFault::OtherPhase),
+    (false, "BEFORE 1", ExpressionFault::OtherPhase),
+    (true, "BEFORE", ExpressionFault::NoOperand),
+    (true, "BEFORE TRUE", ExpressionFault::NoGuid),
+    (true, "AFTER 1 AND 2", ExpressionFault::Extra),
+];
+
+// Why words are no expression. None where they are one.
+fn fault_of(alloc: Global, phase: Phase, words: &str) -> Option<ExpressionFault> {
+    match spelled_out(alloc, words.as_bytes()) {
+        Ok(text) => read_expression(alloc, phase, text.as_slice()).err(),
+        Err(OutOfMemory) => None,
+    }
+}
+
+#[test]
+fn the_first_word_with_which_no_expression_goes_on_is_told(rt: HostRuntime) {
+    for (of_driver, words, fault) in &REFUSED {
+        let phase = if *of_driver { Phase::Dxe } else { Phase::Pei };
+        assert!(rt; fault_of(rt.alloc(), phase, words) == Some(*fault));
+    }
+}
+
+// A text, so many times one behind the other, and an end.
+fn repeated(alloc: Global, text: &[u8], count: usize, end: &[u8]) -> Result<Seq<u8>, OutOfMemory> {
+    let mut whole = Seq::new(alloc);
+    for _ in 0..count {
+        whole.append(text)?;
+    }
+    whole.append(end)?;
+    Ok(whole)
+}
+
+// Why TRUE behind so many words of one kind is no expression.
+fn fault_behind(alloc: Global, words: &[u8], count: usize, end: &[u8]) -> Option<ExpressionFault> {
+    match repeated(alloc, words, count, end) {
+        Ok(text) => read_expression(alloc, Phase::Pei, text.as_slice()).err(),
+        Err(OutOfMemory) => None,
+    }
+}
+
+#[test]
+fn depth_costs_no_stack_and_length_has_a_limit(rt: HostRuntime) {
+    assert!(rt; fault_behind(rt.alloc(), b"(", 100_000, b"TRUE") == Some(ExpressionFault::Bracket));
+    assert!(rt;
+        fault_behind(rt.alloc(), b"not ", 100_000, b"TRUE") == Some(ExpressionFault::TooLong)
+    );
+    assert!(rt; fault_behind(rt.alloc(), b"NOT ", 1022, b"TRUE").is_none());
+    assert!(rt; fault_behind(rt.alloc(), b"NOT ", 1023, b"TRUE") == Some(ExpressionFault::TooLong));
+}
