@@ -114,7 +114,8 @@ struct Summary {
 // The summary of a boot of n modules that came to its end.
 fn summary_by<M: PeiStore + Drop>(n: u32, ran: &Ran<M>) -> Summary
     requires state { Present (M.stands_for ran.now.pei.store) Anything }
-    ensures { (board : Board) (catalog : Cat) (fuel : ℕ) → IsRun M.stands_for board catalog fuel ran.now → IsSummaryBy n board catalog fuel result }
+    ensures { (board : Board) (catalog : Cat) (fuel : ℕ) → IsRun M.stands_for board catalog fuel ran.now
+        → IsSummaryBy n board catalog fuel result }
 {
     Summary {
         lines: summary_of(n, &ran.pei, ran.end),
